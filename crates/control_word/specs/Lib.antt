@@ -1,0 +1,12 @@
+pub mod Layout
+pub mod Packing
+pub mod Refusal
+pub mod Handles
+pub mod State
+pub mod Events
+pub mod Histories
+pub mod Words
+pub mod Views
+pub mod Steps
+pub mod Laws
+pub mod Worked

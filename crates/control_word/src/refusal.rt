@@ -1,6 +1,11 @@
 //! Why a call was refused, and what comes back with it.
+ghost use Rattle.std.specs.Prelude.{◌≡◌};
 
-/// A refusal, by its number in scripts and messages.
+use std::alloc::{AllocError, AllocFailed};
+use std::error::Error;
+use std::fmt;
+
+/// A refusal, by its number in scripts and messages (own).
 #[derive(Clone, Copy, PartialEq, Eq, Debug, Drop)]
 pub enum Refusal {
     /// A growth was really refused.
@@ -31,7 +36,67 @@ pub enum Refusal {
     Input = 13,
 }
 
-/// A refusal, with all that was handed in.
+impl Refusal {
+    ghost use Rattle.control_word.specs.Refusal.{refusal_number};
+
+    /// The number that scripts and messages show (own), 1 to 13.
+    #[inline]
+    pub fn number(self) -> u8
+        ensures { result ≡ refusal_number self }
+    {
+        self as u8
+    }
+}
+
+impl fmt::Display for Refusal {
+    ghost use Rattle.std.specs.Prelude.{Some};
+    ghost use Rattle.control_word.specs.Refusal.{refusal_text};
+
+    ghost output = { λ why. Some (refusal_text why) };
+
+    fn fmt<W: fmt::Write>(&self, f: &mut fmt::Formatter<W>) -> fmt::Result {
+        f.write_str(match self {
+            Refusal::Memory => "memory",
+            Refusal::Shape => "shape",
+            Refusal::Full => "full",
+            Refusal::Limit => "limit",
+            Refusal::BadWeak => "bad weak",
+            Refusal::Null => "null",
+            Refusal::Outside => "outside",
+            Refusal::NotEnabled => "not enabled",
+            Refusal::NotSole => "not sole",
+            Refusal::Syntax => "syntax",
+            Refusal::BadTurn => "bad turn",
+            Refusal::Output => "output",
+            Refusal::Input => "input",
+        })
+    }
+}
+
+impl Error for Refusal {}
+
+impl From<AllocError> for Refusal {
+    ghost use Rattle.control_word.specs.declared.refusal.Refusal.TheVariants.{Memory};
+
+    ghost from_gives = { λ _ why. why ≡ Memory };
+
+    fn from(_error: AllocError) -> Self {
+        Self::Memory
+    }
+}
+
+impl<T: Drop> From<AllocFailed<T>> for Refusal {
+    ghost use Rattle.control_word.specs.declared.refusal.Refusal.TheVariants.{Memory};
+
+    ghost from_gives = { λ _ why. why ≡ Memory };
+
+    fn from(_failed: AllocFailed<T>) -> Self {
+        Self::from(AllocError)
+    }
+}
+
+/// A refusal, with all that was handed in (own). Where that must be spent, so must this.
+#[derive(PartialEq, Eq, Debug, Drop)]
 pub struct Refused<T> {
     pub why: Refusal,
     pub back: T,

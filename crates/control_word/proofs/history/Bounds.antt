@@ -1,0 +1,194 @@
+-- How many handles are in cells: at most one object a block is there, with two owner members and a weak one.
+use Rattle.std.proofs.Common.{◌≡◌, ◌≢◌, ℕ, zero, suc, ◌+◌, ◌*◌, ◌<◌, ◌≤◌, ◌⊎◌, List, [], ◌∷◌, length}
+use Rattle.std.proofs.Common.{refl, sym, ap, ◌∙◌, inl, inr, ⊎_elim, arith}
+use Rattle.std.proofs.lemmas.Bool.{cases_eq, cases_lt}
+use Rattle.control_word.proofs.history.Making.{empty_counts}
+use Rattle.control_word.proofs.history.Soundness.{Formed, IsBusy, Sound}
+use Rattle.control_word.proofs.lists.Sums.{num_length, sum_zero}
+use Rattle.control_word.proofs.lists.Tallies.{tally_append, tally_cons}
+use Rattle.control_word.specs.Handles.{empty, handle, is_on}
+use Rattle.control_word.specs.State.{Object, Opening, Phase, State, common, ending, gone, in_cells, kind_of_member, live, members, sum_below, tally}
+use Rattle.control_word.specs.State.{unmade, upto}
+use Rattle.control_word.specs.Views.{more}
+use Rattle.control_word.specs.declared.handle.Handle.{Handle}
+use Rattle.control_word.specs.declared.handle.Kind.{Kind}
+use Rattle.control_word.specs.declared.handle.Kind.TheVariants.{Owner, Weak}
+
+-- where g is f, and at most one more at a single place
+sum_one_more : (n p : ℕ) (f g : ℕ → ℕ) → ((i : ℕ) → i ≢ p → g i ≤ f i) → ((i : ℕ) → g i ≤ f i + 1)
+    → (sum_below n g ≤ sum_below n f + 1) × (n ≤ p → sum_below n g ≤ sum_below n f)
+sum_one_more zero p f g low one = (omega arith, λ le. omega arith)
+sum_one_more (suc n) p f g low one =
+    let ih = sum_one_more n p f g low one in (
+      ⊎_elim (λ (e : n ≡ p). let a = ih.1 (omega arith) in let b = one n in omega arith)
+          (λ (ne : n ≢ p). let a = low n ne in let b = ih.0 in omega arith) (cases_eq n p),
+      λ le. let a = low n (λ e. omega arith) in let b = ih.1 (omega arith) in omega arith,
+    )
+
+pub common_one : (p : Phase) → common p ≤ 1
+common_one unmade = omega arith
+common_one live = omega arith
+common_one gone = omega arith
+common_one (ending d) = omega arith
+
+pub tally_length : (k : Kind) (q : ℕ) (l : List Handle) → tally k q l ≤ length l
+tally_length k q l = num_length (is_on k q) l
+
+one_few : (k : Kind) (q : ℕ) (x : Handle) → tally k q (x ∷ []) ≤ 1
+one_few k q x = tally_length k q (x ∷ [])
+
+-- a handle of the other kind isn't counted
+weak_uncounted : (q : ℕ) (x : Handle) → x.kind ≡ Weak → tally Owner q (x ∷ []) ≡ 0
+weak_uncounted q x e = ap (λ k. tally Owner q (handle k x.object x.place ∷ [])) e
+
+owner_uncounted : (q : ℕ) (x : Handle) → x.kind ≡ Owner → tally Weak q (x ∷ []) ≡ 0
+owner_uncounted q x e = ap (λ k. tally Weak q (handle k x.object x.place ∷ [])) e
+
+free_few : (k : Kind) (q : ℕ) (f : ℕ → Handle) (n : ℕ) → tally k q (upto n (λ c. f c ∷ [])) ≤ n
+free_few k q f zero = omega arith
+free_few k q f (suc n) =
+    omega (arith, tally_append k q (f n ∷ []) (upto n (λ c. f c ∷ [])), one_few k q (f n), free_few k q f n)
+
+-- two owner members and a weak one
+three_few : (q : ℕ) (x : Object) → ((m : ℕ) → m < 3 → (x.member m).kind ≡ kind_of_member m)
+    → (tally Owner q (members x) ≤ 2) × (tally Weak q (members x) ≤ 1)
+three_few q x kinds =
+    let a = x.member 0 in
+    let b = x.member 1 in
+    let c = x.member 2 in (
+      (let t = weak_uncounted q c (kinds 2 (omega arith)) in
+          let u = one_few Owner q a in
+          let v = one_few Owner q b in
+          omega (arith, tally_cons Owner q a (b ∷ c ∷ []), tally_cons Owner q b (c ∷ []))),
+      (let t = owner_uncounted q a (kinds 0 (omega arith)) in
+          let u = owner_uncounted q b (kinds 1 (omega arith)) in
+          let v = one_few Weak q c in
+          omega (arith, tally_cons Weak q a (b ∷ c ∷ []), tally_cons Weak q b (c ∷ []))),
+    )
+
+none_few : (k : Kind) (q : ℕ) (x : Object) → ((m : ℕ) → m < 3 → x.member m ≡ empty (kind_of_member m))
+    → tally k q (members x) ≡ 0
+none_few k q x cleared =
+    let a = cleared 0 (omega arith) in
+    let b = cleared 1 (omega arith) in
+    let c = cleared 2 (omega arith) in
+    let p : members x ≡ empty Owner ∷ empty Owner ∷ empty Weak ∷ [] = λ i. a i ∷ b i ∷ c i ∷ [] in
+    let t = ap (tally k q) p in
+    let u = empty_counts k Owner q (empty Owner ∷ empty Weak ∷ []) in
+    let v = empty_counts k Owner q (empty Weak ∷ []) in
+    let w = empty_counts k Weak q [] in omega arith
+
+module _ (z : Opening) (s : State) (sound : Sound z s) where
+  -- 1 where the object is there or is ending, in one of the first b blocks
+  pub there : ℕ → ℕ → ℕ
+  there b o = go (cases_lt b (s.object o).block)
+    where
+      go : (b < (s.object o).block) ⊎ ((s.object o).block ≤ b) → ℕ
+      go (inl x) = 0
+      go (inr x) = common (s.object o).phase
+
+  there_in : (b o : ℕ) → (s.object o).block ≤ b → there b o ≡ common (s.object o).phase
+  unfolding there
+  there_in b o le = go (cases_lt b (s.object o).block) refl
+    where
+      go : (t : (b < (s.object o).block) ⊎ ((s.object o).block ≤ b)) → cases_lt b (s.object o).block ≡ t
+          → there b o ≡ common (s.object o).phase
+      go (inl x) e = absurd (omega arith)
+      go (inr x) e = rw e refl
+
+  there_out : (b o : ℕ) → b < (s.object o).block → there b o ≡ 0
+  unfolding there
+  there_out b o lt = go (cases_lt b (s.object o).block) refl
+    where
+      go : (t : (b < (s.object o).block) ⊎ ((s.object o).block ≤ b)) → cases_lt b (s.object o).block ≡ t
+          → there b o ≡ 0
+      go (inl x) e = rw e refl
+      go (inr x) e = absurd (omega arith)
+
+  there_low : (b o : ℕ) → there b o ≤ common (s.object o).phase
+  there_low b o =
+      ⊎_elim (λ lt. let t = there_out b o lt in omega arith) (λ le. let t = there_in b o le in omega arith)
+      (cases_lt b (s.object o).block)
+
+  placed_there : (o : ℕ) → 0 < common (s.object o).phase
+      → (s.latest (s.object o).block ≡ o) × (0 < (s.object o).block) × ((s.object o).block ≤ z.blocks)
+  placed_there o more = let b : IsBusy s o = omega arith in let p = sound.placed o b in (p.0, p.1.0, p.1.1)
+
+  -- of one block more, only its latest object may be more
+  there_step : (b o : ℕ) → o ≢ s.latest (suc b) → there (suc b) o ≤ there b o
+  there_step b o ne =
+      let x = s.object o in
+      let low = there_low (suc b) o in
+      ⊎_elim
+      (λ (lt : b < x.block).
+      ⊎_elim (λ (more : suc b < x.block). let t = there_out (suc b) o more in omega arith)
+      (λ (le : x.block ≤ suc b).
+      let e : x.block ≡ suc b = omega arith in
+      ⊎_elim (λ (none : common x.phase ≡ 0). omega arith)
+      (λ n. absurd (ne (sym (placed_there o (omega arith)).0 ∙ ap s.latest e))) (cases_eq (common x.phase) 0))
+      (cases_lt (suc b) x.block))
+      (λ (le : x.block ≤ b). let t = there_in b o le in omega arith)
+      (cases_lt b x.block)
+
+  -- no object is in the first 0 blocks
+  there_none : (o : ℕ) → there 0 o ≡ 0
+  there_none o =
+      let x = s.object o in
+      ⊎_elim (λ lt. there_out 0 o lt)
+      (λ le.
+      let u = there_low 0 o in
+      ⊎_elim (λ (e : common x.phase ≡ 0). omega arith)
+      (λ ne. let p = (placed_there o (omega arith)).1 in absurd (omega arith))
+      (cases_eq (common x.phase) 0))
+      (cases_lt 0 x.block)
+
+  -- at most one object is there for each block
+  there_sum : (b n : ℕ) → sum_below n (there b) ≤ b
+  there_sum zero n = let t = sum_zero n (there 0) (λ o lt. there_none o) in omega arith
+  there_sum (suc b) n =
+      let t = there_sum b n in
+      let u = sum_one_more n (s.latest (suc b)) (there b) (there (suc b)) (there_step b)
+      (λ o. let a = there_low (suc b) o in let c = common_one (s.object o).phase in omega arith) in
+      let w = u.0 in omega arith
+
+  module _ (formed : Formed s) where
+    members_few : (q o : ℕ)
+        → (tally Owner q (members (s.object o)) ≤ 2 * there z.blocks o)
+        × (tally Weak q (members (s.object o)) ≤ there z.blocks o)
+    members_few q o =
+        let x = s.object o in
+        ⊎_elim
+        (λ (e : common x.phase ≡ 0).
+        let t = λ (k : Kind). none_few k q x (λ m lt. sound.cleared o m lt e) in
+        let a = t Owner in let b = t Weak in (omega arith, omega arith))
+        (λ ne.
+        let p = placed_there o (omega arith) in
+        let t = there_in z.blocks o p.2 in
+        let u = three_few q x (λ m lt. (formed.members o m lt).1) in
+        let a = u.0 in let b = u.1 in (omega arith, omega arith))
+        (cases_eq (common x.phase) 0)
+
+    all_members : (q n : ℕ)
+        → (tally Owner q (upto n (λ o. members (s.object o))) ≤ 2 * sum_below n (there z.blocks))
+        × (tally Weak q (upto n (λ o. members (s.object o))) ≤ sum_below n (there z.blocks))
+    all_members q zero = (omega arith, omega arith)
+    all_members q (suc n) =
+        let rest = upto n (λ o. members (s.object o)) in
+        let a = members_few q n in let ih = all_members q n in
+        let a0 = a.0 in let a1 = a.1 in let b0 = ih.0 in let b1 = ih.1 in (
+          omega (arith, tally_append Owner q (members (s.object n)) rest),
+          omega (arith, tally_append Weak q (members (s.object n)) rest),
+        )
+
+    pub in_cells_few : (q : ℕ)
+        → (tally Owner q (in_cells s) ≤ s.cells + 2 * z.blocks)
+        × (tally Weak q (in_cells s) ≤ s.cells + z.blocks)
+    in_cells_few q =
+        let cells = upto s.cells (λ c. s.cell c ∷ []) in
+        let rest = upto (suc s.made) (λ o. members (s.object o)) in
+        let t = all_members q (suc s.made) in
+        let u = there_sum z.blocks (suc s.made) in
+        let a = t.0 in let b = t.1 in (
+          omega (arith, tally_append Owner q cells rest, free_few Owner q s.cell s.cells),
+          omega (arith, tally_append Weak q cells rest, free_few Weak q s.cell s.cells),
+        )

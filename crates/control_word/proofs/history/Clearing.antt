@@ -1,0 +1,133 @@
+-- A member goes out of an ending object.
+use Rattle.std.proofs.Common.{◌≡◌, ◌≢◌, ℕ, zero, suc, ◌+◌, ◌<◌, false, cond, List, [], ◌∷◌, ◌++◌, map, Option, Some, None, refl, sym, ap, subst, ◌∙◌}
+use Rattle.std.proofs.Common.{⊎_elim, arith}
+use Rattle.std.proofs.lemmas.Bool.{cases_eq, cases_lt, cond_both}
+use Rattle.control_word.proofs.history.Making.{empty_counts}
+use Rattle.control_word.proofs.history.Moving.{fits_same, sound_moves}
+use Rattle.control_word.proofs.history.Soundness.{OwnersFit, Sound}
+use Rattle.control_word.proofs.lists.Tallies.{put_cases, put_other, put_same, tally_append, tally_cons, upto_same}
+use Rattle.control_word.specs.Events.{changes, clears, gets}
+use Rattle.control_word.specs.Handles.{empty, handle, has_object}
+use Rattle.control_word.specs.State.{Held, Object, Opening, State, common, count, ending, handles, held, kind_of_member, members, put, tally, unmade}
+use Rattle.control_word.specs.State.{upto, weak}
+use Rattle.control_word.specs.declared.handle.Handle.{Handle}
+use Rattle.control_word.specs.declared.handle.Kind.{Kind}
+use Rattle.control_word.specs.declared.handle.Kind.TheVariants.{Owner, Weak}
+use Rattle.control_word.specs.declared.place.Place.{Place}
+
+-- counting over all objects after one of them changed
+tally_put : (k : Kind) (q n o : ℕ) (f : ℕ → Object) (x : Object) → o < n
+    → tally k q (upto n (λ j. members (put f o x j))) + tally k q (members (f o)) ≡ tally k q (upto n (λ j. members (f j))) + tally k q (members x)
+tally_put k q zero o f x lt = absurd (omega arith)
+tally_put k q (suc n) o f x lt =
+    ⊎_elim
+    (λ (e : n ≡ o).
+    let here : members (put f o x n) ≡ members x = ap members (put_same f o x n e) in
+    let old = upto_same n (λ j. members (put f o x j)) (λ j. members (f j)) (λ i h. ap members (put_other f o x i (λ e2. omega arith))) in
+    let a = ap (tally k q) here in let b = ap (tally k q) old in
+    let c : tally k q (members (f n)) ≡ tally k q (members (f o)) = ap (λ i. tally k q (members (f i))) e in
+    omega (
+      arith,
+      tally_append k q (members (put f o x n)) (upto n (λ j. members (put f o x j))),
+      tally_append k q (members (f n)) (upto n
+          (λ j. members (f j))),
+    ))
+    (λ ne.
+    let here : members (put f o x n) ≡ members (f n) = ap members (put_other f o x n ne) in
+    let a = ap (tally k q) here in
+    let ih = tally_put k q n o f x (omega arith) in
+    omega (
+      arith,
+      tally_append k q (members (put f o x n)) (upto n (λ j. members (put f o x j))),
+      tally_append k q (members (f n)) (upto n
+          (λ j. members (f j))),
+    ))
+    (cases_eq n o)
+
+-- an object of which one member was emptied
+abbrev pub emptied : Object → ℕ → Object
+emptied x m = record x { member = put x.member m (empty (kind_of_member m)) }
+
+emptied_tally : (x : Object) (m : ℕ) → m < 3 → (k : Kind) (q : ℕ) → tally k q (members (emptied x m)) + tally k q (x.member m ∷ []) ≡ tally k q (members x)
+emptied_tally x zero lt k q =
+    let a = x.member 0 in let b = x.member 1 in let c = x.member 2 in
+    omega (arith, empty_counts k Owner q (b ∷ c ∷ []), tally_cons k q a (b ∷ c ∷ []))
+emptied_tally x (suc zero) lt k q =
+    let a = x.member 0 in let b = x.member 1 in let c = x.member 2 in
+    omega (arith, tally_cons k q a (empty Owner ∷ c ∷ []), empty_counts k Owner q (c ∷ []), tally_cons k q a (b ∷ c ∷ []), tally_cons k q b (c ∷ []))
+emptied_tally x (suc (suc zero)) lt k q =
+    let a = x.member 0 in let b = x.member 1 in let c = x.member 2 in
+    omega (
+      arith,
+      tally_cons k q a (b ∷ empty Weak ∷ []),
+      tally_cons k q b (empty Weak ∷ []),
+      empty_counts k Weak q [],
+      tally_cons k q a (b ∷ c ∷ []),
+      tally_cons k q b (c ∷ []),
+    )
+emptied_tally x (suc (suc (suc m))) lt k q = absurd (omega arith)
+
+pub no_object : (k m : Kind) (q : ℕ) (n : Option ℕ) (p : Option Place) → has_object (handle m n p) ≡ false → tally k q (handle m n p ∷ []) ≡ 0
+no_object Owner Owner q None p e = refl
+no_object Owner Weak q None p e = refl
+no_object Weak Owner q None p e = refl
+no_object Weak Weak q None p e = refl
+no_object k m q (Some n) p e = cc
+
+pub gets_tally : (k : Kind) (q d : ℕ) (h : Handle) (l : List Held) (r : List Handle)
+    → tally k q (map (λ x. x.handle) (cond (has_object h) (held d h ∷ l) l) ++ r) ≡ tally k q (h ∷ []) + tally k q (map (λ x. x.handle) l ++ r)
+gets_tally k q d h l r =
+    cond_both (has_object h) (held d h ∷ l) l (λ u. tally k q (map (λ x. x.handle) u ++ r) ≡ tally k q (h ∷ []) + tally k q (map (λ x. x.handle) l ++ r))
+    (λ e. tally_cons k q h (map (λ x. x.handle) l ++ r)) (λ e. let t = no_object k h.kind q h.object h.place e in omega arith)
+
+-- a member goes from its object to a bag, and the counts stay
+clear_tally : (s : State) (d o m : ℕ) → m < 3 → o < suc s.made → (k : Kind) (q : ℕ)
+    → tally k q (handles (gets d ((s.object o).member m) (changes o (emptied (s.object o) m) s))) ≡ tally k q (handles s)
+clear_tally s d o m lt made k q =
+    let x = s.object o in
+    let f = put s.object o (emptied x m) in
+    let cells = upto s.cells (λ c. s.cell c ∷ []) in
+    let hands = map (λ y. y.handle) s.hands in
+    let a = tally_put k q (suc s.made) o s.object (emptied x m) made in
+    let b = emptied_tally x m lt k q in
+    omega (
+      arith,
+      gets_tally k q d (x.member m) s.hands (cells ++ upto (suc s.made) (λ j. members (f j))),
+      a,
+      b,
+      tally_append k q hands (cells ++ upto (suc s.made) (λ j. members (f j))),
+      tally_append k q hands (cells ++ upto (suc s.made) (λ j. members (s.object j))),
+      tally_append k q cells (upto (suc s.made) (λ j. members (f j))),
+      tally_append k q cells (upto (suc s.made) (λ j. members (s.object j))),
+    )
+
+clear_count : (s : State) (d o m : ℕ) → m < 3 → o < suc s.made → (q : ℕ)
+    → count (gets d ((s.object o).member m) (changes o (emptied (s.object o) m) s)) q ≡ count s q
+unfolding count
+clear_count s d o m lt made q = clear_tally s d o m lt made Owner q
+
+clear_weak : (s : State) (d o m : ℕ) → m < 3 → o < suc s.made → (q : ℕ)
+    → weak (gets d ((s.object o).member m) (changes o (emptied (s.object o) m) s)) q ≡ weak s q
+unfolding weak
+clear_weak s d o m lt made q = clear_tally s d o m lt made Weak q
+
+pub was_made : (z : Opening) (s : State) (o : ℕ) → Sound z s → (s.object o).phase ≢ unmade → o < suc s.made
+was_made z s o sound n = ⊎_elim (λ lt. absurd (n (sound.fresh o lt))) (λ le. omega arith) (cases_lt s.made o)
+
+pub sound_clear : (z : Opening) (s : State) (d o m : ℕ) → Sound z s → (s.object o).phase ≡ ending d → m < 3 → Sound z (clears d o m ((s.object o).member m) s)
+sound_clear z s d o m sound end lt =
+    let x = emptied (s.object o) m in
+    let f = put s.object o x in
+    let hs = cond (has_object ((s.object o).member m)) (held d ((s.object o).member m) ∷ s.hands) s.hands in
+    let made : o < suc s.made = was_made z s o sound (λ u. cc) in
+    let phase : (q : ℕ) → (f q).phase ≡ (s.object q).phase = λ q. put_cases (λ j y. y.phase ≡ (s.object j).phase) s.object o x q (λ e. ap
+    (λ n. (s.object n).phase) (sym e)) (λ n. refl) in
+    sound_moves z s hs f s.cell sound (record {
+      owners = λ q. subst (λ ph. OwnersFit ph (count (record s { hands = hs; object = f }) q)) (sym (phase q)) (fits_same _ _ _ (sound.owners q)
+          (clear_count s d o m lt made q));
+      weaks = λ q busy. let t = clear_weak s d o m lt made q in let u = ap common (phase q) in omega arith;
+      block = λ q. put_cases (λ j y. y.block ≡ (s.object j).block) s.object o x q (λ e. ap (λ n. (s.object n).block) (sym e)) (λ n. refl);
+      made = λ q. ((λ u. phase q ∙ u), λ u. sym (phase q) ∙ u);
+      cleared = λ q i le. put_cases (λ j y. common y.phase ≡ 0 → y.member i ≡ empty (kind_of_member i)) s.object o x q
+          (λ e u. let c : common (s.object o).phase ≡ 1 = ap common end in absurd (omega arith)) (λ n. sound.cleared q i le);
+    })

@@ -1,0 +1,235 @@
+-- What an event leaves to the desks that it isn't of and doesn't name.
+use Rattle.std.proofs.Common.{◌≡◌, ◌≢◌, ℕ, suc, ◌+◌, ◌-◌, ◌≤◌, true, false, cond, List, [], ◌∷◌, ◌++◌, Some, refl, sym, ap, subst, ◌∙◌, arith}
+use Rattle.std.proofs.lemmas.Bool.{cond_both}
+use Rattle.control_word.proofs.history.Bags.{bag_gets, bag_loses, bag_renamed, desk_of, keeper, stock_renamed, stock_vacates}
+use Rattle.control_word.proofs.history.Clearing.{emptied}
+use Rattle.control_word.proofs.lists.Parts.{has_part, part, part_has, part_other, part_passed, part_without}
+use Rattle.control_word.proofs.lists.Tallies.{held_true, put_cases, put_other, stored_true}
+use Rattle.control_word.specs.Events.{after, fills, joins_up, loses, moved_to, new_object, origin, splits_off, swaps}
+use Rattle.control_word.specs.Handles.{handle, object_of}
+use Rattle.control_word.specs.Histories.{leads}
+use Rattle.control_word.specs.State.{Has, Held, IsActing, Object, Opening, State, bag, ending, gone, held, put, same_held, same_stored, stock, stored}
+use Rattle.control_word.specs.Views.{Names, NoneBy}
+use Rattle.control_word.specs.declared.event.Cell.{Cell}
+use Rattle.control_word.specs.declared.event.Cell.TheVariants.{Free, Member}
+use Rattle.control_word.specs.declared.event.Entry.{Entry}
+use Rattle.control_word.specs.declared.event.Event.{Event}
+use Rattle.control_word.specs.declared.event.Event.TheVariants.{ClearMember, Compare, Count, Expired, Finish, Join, Leave, Load, Lock, Make, Read}
+use Rattle.control_word.specs.declared.event.Event.TheVariants.{Share, Split, Swap, Visit, WeakLeave, WeakShare}
+use Rattle.control_word.specs.declared.handle.Handle.{Handle}
+use Rattle.control_word.specs.declared.handle.Kind.TheVariants.{Owner, Weak}
+use Rattle.control_word.specs.declared.place.Block.{Block}
+
+-- the desk has the same in both states
+pub record Same (s t : State) (d : ℕ) : Type 0 where
+  pub in_bag : bag t d ≡ bag s d
+  pub in_stock : stock t d ≡ stock s d
+  pub may_hold : t.allowance d ≡ s.allowance d
+  pub is_joined : t.joined d ≡ s.joined d
+  pub known : s.names ≤ t.names
+
+pub still : (s : State) (d : ℕ) → Same s s d
+still s d = record { in_bag = refl; in_stock = refl; may_hold = refl; is_joined = refl; known = omega arith }
+
+-- only the hands change, or only the stores
+hands_only : (s : State) (hs : List Held) (d : ℕ) → part desk_of d hs ≡ bag s d → Same s (record s { hands = hs }) d
+hands_only s hs d e = record { in_bag = e; in_stock = refl; may_hold = refl; is_joined = refl; known = omega arith }
+
+fills_same : (s : State) (c : Cell) (x : Handle) (d : ℕ) → Same s (fills c x s) d
+fills_same s (Free c) x d = record { in_bag = refl; in_stock = refl; may_hold = refl; is_joined = refl; known = omega arith }
+fills_same s (Member o m) x d = record { in_bag = refl; in_stock = refl; may_hold = refl; is_joined = refl; known = omega arith }
+
+pub same_both : (s t u : State) (d : ℕ) → Same s t d → Same t u d → Same s u d
+same_both s t u d a b =
+    let x = a.known in let y = b.known in
+    record {
+      in_bag = b.in_bag ∙ a.in_bag;
+      in_stock = b.in_stock ∙ a.in_stock;
+      may_hold = b.may_hold ∙ a.may_hold;
+      is_joined = b.is_joined ∙ a.is_joined;
+      known = omega arith;
+    }
+
+swap_same : (s : State) (e d : ℕ) (c : Cell) (new old : Handle) → e ≢ d → Same s (swaps e c new old s) d
+swap_same s e d (Free c) new old n = record {
+  in_bag = bag_gets (loses e new s) e d old n
+      ∙ bag_loses s e d new n;
+  in_stock = refl;
+  may_hold = refl;
+  is_joined = refl;
+  known = omega arith;
+}
+swap_same s e d (Member o m) new old n = record {
+  in_bag = bag_gets (loses e new s) e d old n
+      ∙ bag_loses s e d new n;
+  in_stock = refl;
+  may_hold = refl;
+  is_joined = refl;
+  known = omega arith;
+}
+
+split_same : (s : State) (e to amount d : ℕ) (hs : List Handle) (bs : List Block) → e ≢ d → to ≢ d → Same s (splits_off e to amount hs bs s) d
+split_same s e to amount d hs bs n m = record {
+  in_bag = part_passed desk_of d same_held held_true (λ (h : Handle). held e h) (λ h. held to h) hs s.hands (λ t. n) (λ t. m);
+  in_stock = part_passed keeper d same_stored stored_true (λ (b : Block). stored e b.0) (λ b. stored to b.0) bs s.stores (λ t. n) (λ t. m);
+  may_hold = put_other (put s.allowance e (s.allowance e - amount)) to amount d (λ q. m (sym q))
+      ∙ put_other s.allowance e (s.allowance e - amount) d (λ q. n (sym q));
+  is_joined = refl;
+  known = omega arith;
+}
+
+join_same : (s : State) (e other d : ℕ) → e ≢ d → other ≢ d → Same s (joins_up e other s) d
+join_same s e other d n m = record {
+  in_bag = bag_renamed s.hands d e other n (λ q. m (sym q));
+  in_stock = stock_renamed s.stores d e other n (λ q. m (sym q));
+  may_hold = put_other (put s.allowance e (s.allowance e + s.allowance other)) other 0 d (λ q. m (sym q))
+      ∙ put_other s.allowance e (s.allowance e + s.allowance other) d (λ q. n (sym q));
+  is_joined = put_other s.joined other true d (λ q. m (sym q));
+  known = omega arith;
+}
+
+module _ {V : Type 0} where
+  pub same_after : (s : State) (d e : ℕ) (a : Event V) → e ≢ d → (Names a d → ⊥) → Same s (after s e a) d
+  same_after s d e (Make b enabled null fields val) n j = record {
+    in_bag = part_other desk_of d (held e (handle Owner (Some (suc s.made)) (origin b.0 null))) s.hands n;
+    in_stock = part_without keeper d same_stored stored_true (stored e b.0) s.stores n;
+    may_hold = refl;
+    is_joined = refl;
+    known = omega arith;
+  }
+  same_after s d e (Share y p) n j = hands_only s _ d (part_other desk_of d (held e (handle Owner y.object p)) s.hands n)
+  same_after s d e (Leave y last) n j = record {
+    in_bag = part_without desk_of d same_held held_true
+        (held e y) s.hands n;
+    in_stock = refl;
+    may_hold = refl;
+    is_joined = refl;
+    known = omega arith;
+  }
+  same_after s d e (Count y c) n j = still s d
+  same_after s d e (Expired y c) n j = still s d
+  same_after s d e (Read y c) n j = still s d
+  same_after s d e (WeakShare o p) n j = hands_only s _ d (part_other desk_of d (held e (handle Weak (Some o) p)) s.hands n)
+  same_after s d e (WeakLeave y v) n j = record {
+    in_bag = bag_loses s e d y n;
+    in_stock = stock_vacates (loses e y s) v e d (s.object
+        (object_of y)).block n;
+    may_hold = refl;
+    is_joined = refl;
+    known = omega arith;
+  }
+  same_after s d e (Lock y true) n j = hands_only s _ d (part_other desk_of d (held e (handle Owner y.object y.place)) s.hands n)
+  same_after s d e (Lock y false) n j = still s d
+  same_after s d e (Load c y) n j = hands_only s _ d (bag_gets s e d y n)
+  same_after s d e (Swap c y w) n j = swap_same s e d c y w n
+  same_after s d e (Compare c u y w true k) n j = swap_same s e d c y w n
+  same_after s d e (Compare c u y w false k) n j = hands_only s _ d (bag_gets s e d w n)
+  same_after s d e (ClearMember o m y) n j = record { in_bag = bag_gets s e d y n; in_stock = refl; may_hold = refl; is_joined = refl; known = omega arith }
+  same_after s d e (Finish o v val) n j = record {
+    in_bag = refl;
+    in_stock = stock_vacates s v e d
+        (s.object o).block n;
+    may_hold = refl;
+    is_joined = refl;
+    known = omega arith;
+  }
+  same_after s d e (Visit y c w) n j = still s d
+  same_after s d e (Split to amount hs bs) n j = split_same s e to amount d hs bs n j
+  same_after s d e (Join other) n j = join_same s e other d n j
+
+  -- what a desk has by what it has seen, it has
+  pub same_kept : (z : Opening) (later seen : List (Entry V)) (d : ℕ) → NoneBy d later → Same (leads z seen) (leads z (later ++ seen)) d
+  same_kept z [] seen d n = still (leads z seen) d
+  same_kept z (e ∷ later) seen d n =
+      same_both (leads z seen) (leads z (later ++ seen)) (leads z (e ∷ (later ++ seen))) d (same_kept z later seen d n.2)
+      (same_after (leads z (later ++ seen)) d e.desk e.event n.0 n.1)
+
+pub has_same : (s t : State) (d : ℕ) (x : Handle) → Same s t d → Has (held d x) s.hands → Has (held d x) t.hands
+has_same s t d x same h =
+    (part_has desk_of d (held d x) t.hands (subst (λ l. Has (held d x) l) (sym same.in_bag) (has_part desk_of d (held d x) s.hands refl h))).0
+
+pub stored_same : (s t : State) (d b : ℕ) → Same s t d → Has (stored d b) s.stores → Has (stored d b) t.stores
+stored_same s t d b same h =
+    (part_has keeper d (stored d b) t.stores (subst (λ l. Has (stored d b) l) (sym same.in_stock) (has_part keeper d (stored d b) s.stores refl h))).0
+
+pub acting_same : (s t : State) (d : ℕ) → Same s t d → IsActing s d → IsActing t d
+acting_same s t d same acts = let k = same.known in let a = same.may_hold in let n = acts.0 in
+    let m = acts.2 in (omega arith, same.is_joined ∙ acts.1, omega arith)
+
+block_member : (s : State) (q m : ℕ) (x : Handle) (o : ℕ)
+    → (put s.object q (record (s.object q) { member = put (s.object q).member m x }) o).block ≡ (s.object o).block
+block_member s q m x o = put_cases (λ j u. u.block ≡ (s.object j).block) s.object q (record (s.object q) { member = put (s.object q).member m x }) o
+    (λ e. ap (λ n. (s.object n).block) (sym e)) (λ n. refl)
+
+module _ {V : Type 0} where
+  -- an object that was made stays in its block
+  pub block_after : (s : State) (d o : ℕ) (a : Event V) → o ≤ s.made → (((after s d a).object o).block ≡ (s.object o).block) × (o ≤ (after s d a).made)
+  block_after s d o (Make b enabled null fields val) le = (
+    ap
+        (λ (x : Object). x.block) (put_other s.object (suc s.made) (new_object b.0 enabled null fields) o (λ e. omega arith)),
+    omega arith,
+  )
+  block_after s d o (Share y p) le = (refl, le)
+  block_after s d o (Leave y last) le = let x = s.object (object_of y) in (
+    put_cases (λ j u. u.block ≡ (s.object j).block) s.object (object_of y) (cond last (moved_to (ending d) x) x) o
+        (λ e. cond_both last (moved_to (ending d) x) x (λ u. u.block ≡ (s.object o).block) (λ t. ap (λ n. (s.object n).block) (sym e)) (λ t. ap
+        (λ n. (s.object n).block) (sym e))) (λ n. refl),
+    le,
+  )
+  block_after s d o (Count y c) le = (refl, le)
+  block_after s d o (Expired y c) le = (refl, le)
+  block_after s d o (Read y c) le = (refl, le)
+  block_after s d o (WeakShare q p) le = (refl, le)
+  block_after s d o (WeakLeave y c) le = (refl, le)
+  block_after s d o (Lock y got) le = (refl, le)
+  block_after s d o (ClearMember q m y) le = (
+    put_cases (λ j u. u.block ≡ (s.object j).block) s.object q (emptied (s.object q) m) o (λ e. ap
+        (λ n. (s.object n).block) (sym e)) (λ n. refl),
+    le,
+  )
+  block_after s d o (Finish q c val) le = (
+    put_cases (λ j u. u.block ≡ (s.object j).block) s.object q (moved_to gone (s.object q)) o (λ e. ap
+        (λ n. (s.object n).block) (sym e)) (λ n. refl),
+    le,
+  )
+  block_after s d o (Load c x) le = (refl, le)
+  block_after s d o (Swap (Free c) x y) le = (refl, le)
+  block_after s d o (Swap (Member q m) x y) le = (block_member s q m x o, le)
+  block_after s d o (Compare (Free c) e x y true w) le = (refl, le)
+  block_after s d o (Compare (Member q m) e x y true w) le = (block_member s q m x o, le)
+  block_after s d o (Compare c e x y false w) le = (refl, le)
+  block_after s d o (Visit y c w) le = (refl, le)
+  block_after s d o (Split e amount x y) le = (refl, le)
+  block_after s d o (Join e) le = (refl, le)
+
+  pub block_kept : (z : Opening) (later seen : List (Entry V)) (o : ℕ) → o ≤ (leads z seen).made
+      → (((leads z (later ++ seen)).object o).block ≡ ((leads z seen).object o).block) × (o ≤ (leads z (later ++ seen)).made)
+  block_kept z [] seen o le = (refl, le)
+  block_kept z (e ∷ later) seen o le =
+      let t = block_kept z later seen o le in let u = block_after (leads z (later ++ seen)) e.desk o e.event t.1 in (u.0 ∙ t.0, u.1)
+
+  pub cells_after : (s : State) (d : ℕ) (a : Event V) → (after s d a).cells ≡ s.cells
+  cells_after s d (Make b enabled null fields val) = refl
+  cells_after s d (Share h p) = refl
+  cells_after s d (Leave h last) = refl
+  cells_after s d (Count h n) = refl
+  cells_after s d (Expired h x) = refl
+  cells_after s d (Read h n) = refl
+  cells_after s d (WeakShare o p) = refl
+  cells_after s d (WeakLeave h x) = refl
+  cells_after s d (Lock h x) = refl
+  cells_after s d (ClearMember o m h) = refl
+  cells_after s d (Finish o x val) = refl
+  cells_after s d (Load c x) = refl
+  cells_after s d (Swap (Free c) x y) = refl
+  cells_after s d (Swap (Member o m) x y) = refl
+  cells_after s d (Compare (Free c) e x y true w) = refl
+  cells_after s d (Compare (Member o m) e x y true w) = refl
+  cells_after s d (Compare c e x y false w) = refl
+  cells_after s d (Visit h x y) = refl
+  cells_after s d (Split e amount x y) = refl
+  cells_after s d (Join e) = refl
+
+  pub cells_led : (z : Opening) (h : List (Entry V)) → (leads z h).cells ≡ z.cells
+  cells_led z [] = refl
+  cells_led z (e ∷ h) = cells_after (leads z h) e.desk e.event ∙ cells_led z h

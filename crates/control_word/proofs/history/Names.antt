@@ -1,0 +1,65 @@
+-- Which names desks have.
+use Rattle.std.proofs.Common.{◌≡◌, ℕ, ◌<◌, ◌≤◌, true, false, List, [], ◌∷◌, refl, ◌∙◌, arith}
+use Rattle.control_word.proofs.history.Kept.{same_after}
+use Rattle.control_word.specs.Events.{Asks, after}
+use Rattle.control_word.specs.Histories.{IsLegal, leads}
+use Rattle.control_word.specs.State.{Opening, State}
+use Rattle.control_word.specs.Views.{Names}
+use Rattle.control_word.specs.declared.event.Cell.TheVariants.{Free, Member}
+use Rattle.control_word.specs.declared.event.Entry.{Entry}
+use Rattle.control_word.specs.declared.event.Event.{Event}
+use Rattle.control_word.specs.declared.event.Event.TheVariants.{ClearMember, Compare, Count, Expired, Finish, Join, Leave, Load, Lock, Make, Read}
+use Rattle.control_word.specs.declared.event.Event.TheVariants.{Share, Split, Swap, Visit, WeakLeave, WeakShare}
+
+module _ {V : Type 0} where
+  -- a desk that an event names is one of those that there are then
+  named_low : (s : State) (e d : ℕ) (a : Event V) → Asks s e a → Names a d → d < (after s e a).names
+  named_low s e d (Make b enabled null fields val) asks n = absurd n
+  named_low s e d (Share y p) asks n = absurd n
+  named_low s e d (Leave y last) asks n = absurd n
+  named_low s e d (Count y c) asks n = absurd n
+  named_low s e d (Expired y c) asks n = absurd n
+  named_low s e d (Read y c) asks n = absurd n
+  named_low s e d (WeakShare o p) asks n = absurd n
+  named_low s e d (WeakLeave y v) asks n = absurd n
+  named_low s e d (Lock y g) asks n = absurd n
+  named_low s e d (Load c y) asks n = absurd n
+  named_low s e d (Swap c y w) asks n = absurd n
+  named_low s e d (Compare c u y w b k) asks n = absurd n
+  named_low s e d (ClearMember o m y) asks n = absurd n
+  named_low s e d (Finish o v val) asks n = absurd n
+  named_low s e d (Visit y c w) asks n = absurd n
+  named_low s e d (Split to amount hs bs) asks n = let t = asks.0 in let u : to ≡ d = n in omega arith
+  named_low s e d (Join other) asks n = let t = asks.1.0 in let u : other ≡ d = n in omega arith
+
+  names_grow : (s : State) (e : ℕ) (a : Event V) → s.names ≤ (after s e a).names
+  names_grow s e (Make b enabled null fields val) = omega arith
+  names_grow s e (Share y p) = omega arith
+  names_grow s e (Leave y last) = omega arith
+  names_grow s e (Count y c) = omega arith
+  names_grow s e (Expired y c) = omega arith
+  names_grow s e (Read y c) = omega arith
+  names_grow s e (WeakShare o p) = omega arith
+  names_grow s e (WeakLeave y v) = omega arith
+  names_grow s e (Lock y g) = omega arith
+  names_grow s e (Load c y) = omega arith
+  names_grow s e (Swap (Free c) y w) = omega arith
+  names_grow s e (Swap (Member o m) y w) = omega arith
+  names_grow s e (Compare (Free c) u y w true k) = omega arith
+  names_grow s e (Compare (Member o m) u y w true k) = omega arith
+  names_grow s e (Compare c u y w false k) = omega arith
+  names_grow s e (ClearMember o m y) = omega arith
+  names_grow s e (Finish o v val) = omega arith
+  names_grow s e (Visit y c w) = omega arith
+  names_grow s e (Split to amount hs bs) = omega arith
+  names_grow s e (Join other) = omega arith
+
+  -- no desk is joined that is not there yet
+  pub unknown_free : (z : Opening) (h : List (Entry V)) → IsLegal z h → (d : ℕ) → (leads z h).names ≤ d → (leads z h).joined d ≡ false
+  unknown_free z [] legal d le = refl
+  unknown_free z (e ∷ h) legal d le =
+      let s = leads z h in
+      let grow = names_grow s e.desk e.event in
+      let low = legal.1.acting.0 in
+      let same = same_after s d e.desk e.event (λ q. omega arith) (λ n. let t = named_low s e.desk d e.event legal.1.asks n in omega arith) in
+      same.is_joined ∙ unknown_free z h legal.0 d (omega arith)

@@ -1,0 +1,43 @@
+-- What holds of every state that a legal history leads to.
+use Rattle.std.proofs.Common.{◌≡◌, ◌≢◌, ℕ, ◌<◌, ◌≤◌, true, false}
+use Rattle.control_word.specs.Handles.{IsFormed, empty, has_object}
+use Rattle.control_word.specs.Laws.{how_often}
+use Rattle.control_word.specs.State.{Has, Held, InShape, IsVacant, Opening, Phase, State, bag_size, common, count, ending, gone, kind_of_free}
+use Rattle.control_word.specs.State.{kind_of_member, live, stored, sum_below, unmade, weak_number}
+
+-- a live object has an owner, and no other has one
+abbrev pub OwnersFit : Phase → ℕ → Type 0
+OwnersFit unmade n = n ≡ 0
+OwnersFit live n = 0 < n
+OwnersFit gone n = n ≡ 0
+OwnersFit (ending d) n = n ≡ 0
+
+-- the object is there, is ending or has weak handles
+abbrev pub IsBusy : State → ℕ → Type 0
+IsBusy s o = 0 < weak_number s o
+
+pub record Sound (z : Opening) (s : State) : Type 0 where
+  pub owners : (o : ℕ) → OwnersFit (s.object o).phase (count s o)
+  pub unmade_free : (o : ℕ) → (s.object o).phase ≡ unmade → weak_number s o ≡ 0
+  pub fresh : (o : ℕ) → s.made < o → (s.object o).phase ≡ unmade
+  pub none : (s.object 0).phase ≡ unmade
+  pub placed : (o : ℕ) → IsBusy s o → (s.latest (s.object o).block ≡ o) × InShape z (s.object o).block
+  pub latest_made : (b : ℕ) → s.latest b ≤ s.made
+  pub latest_in : (b : ℕ) → s.latest b ≢ 0 → (s.object (s.latest b)).block ≡ b
+  pub stores : (d b : ℕ) → Has (stored d b) s.stores → IsVacant s b × InShape z b
+  pub once : (b : ℕ) → how_often b s.stores ≤ 1
+  pub cleared : (o m : ℕ) → m < 3 → common (s.object o).phase ≡ 0 → (s.object o).member m ≡ empty (kind_of_member m)
+
+-- what the desks' allowances are, and what they hold of them
+pub record Allowed (z : Opening) (s : State) : Type 0 where
+  pub rooms : (d : ℕ) → bag_size s d ≤ s.allowance d
+  pub shares : sum_below s.names s.allowance ≡ z.allowance
+  pub beyond : (d : ℕ) → s.names ≤ d → s.allowance d ≡ 0
+  pub spent : (d : ℕ) → s.joined d ≡ true → s.allowance d ≡ 0
+  pub acts : (d : ℕ) → d < s.names → s.joined d ≡ false → 0 < s.allowance d
+
+-- what handles in bags and in cells are like
+pub record Formed (s : State) : Type 0 where
+  pub bags : (x : Held) → Has x s.hands → IsFormed x.handle × (has_object x.handle ≡ true)
+  pub frees : (c : ℕ) → c < s.cells → IsFormed (s.cell c) × ((s.cell c).kind ≡ kind_of_free s.shared c)
+  pub members : (o m : ℕ) → m < 3 → IsFormed ((s.object o).member m) × (((s.object o).member m).kind ≡ kind_of_member m)

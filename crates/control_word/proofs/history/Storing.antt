@@ -1,0 +1,92 @@
+-- A vacant block is in just one store, and no other block is in any.
+use Rattle.std.proofs.Common.{◌≡◌, ◌≢◌, ℕ, zero, suc, ◌<◌, ◌≤◌, true, false, List, [], ◌∷◌}
+use Rattle.std.proofs.Common.{sym, ap, subst, ⊎_elim, arith}
+use Rattle.std.proofs.lemmas.Bool.{cases_eq, cond_both}
+use Rattle.control_word.proofs.history.Cells.{open_in}
+use Rattle.control_word.proofs.history.Clearing.{was_made}
+use Rattle.control_word.proofs.history.Keeping.{Kept, kept_clear, kept_finish, kept_hands, kept_join, kept_leave, kept_load, kept_make, kept_split}
+use Rattle.control_word.proofs.history.Keeping.{kept_swap, kept_weak_leave, stored_else, stored_here, written_out}
+use Rattle.control_word.proofs.history.Legal.{sound, written}
+use Rattle.control_word.proofs.history.Moving.{more_weaks, owner_no_weak}
+use Rattle.control_word.proofs.history.Soundness.{Sound}
+use Rattle.control_word.proofs.lists.Tallies.{store_found}
+use Rattle.control_word.specs.Events.{Asks, after, clears, leaves, swaps, weak_leaves}
+use Rattle.control_word.specs.Handles.{handle, object_of}
+use Rattle.control_word.specs.Histories.{IsLegal, leads}
+use Rattle.control_word.specs.Laws.{StoredOnce, how_often}
+use Rattle.control_word.specs.State.{Opening, State, all_stored, held}
+use Rattle.control_word.specs.declared.event.Entry.{Entry}
+use Rattle.control_word.specs.declared.event.Event.{Event}
+use Rattle.control_word.specs.declared.event.Event.TheVariants.{ClearMember, Compare, Count, Expired, Finish, Join, Leave, Load, Lock, Make, Read}
+use Rattle.control_word.specs.declared.event.Event.TheVariants.{Share, Split, Swap, Visit, WeakLeave, WeakShare}
+use Rattle.control_word.specs.declared.handle.Kind.TheVariants.{Owner, Weak}
+
+all_kept : (f : ℕ → ℕ) (n b : ℕ) → 1 ≤ b → b ≤ n → 0 < how_often b (all_stored f n)
+all_kept f zero b low high = absurd (omega arith)
+all_kept f (suc n) b low high =
+    ⊎_elim
+    (λ (e : b ≡ suc n).
+    let t = stored_here (f (suc n)) (suc n) (all_stored f n) in
+    let u = ap (λ m. how_often m (all_stored f (suc n))) e in omega arith)
+    (λ (ne : b ≢ suc n).
+    let t = stored_else (f (suc n)) (suc n) b (all_stored f n) ne in
+    let u = all_kept f n b low (omega arith) in omega arith)
+    (cases_eq b (suc n))
+
+module _ {V : Type 0} where
+  kept_after : (z : Opening) (s : State) (d : ℕ) (a : Event V) → Sound z s → Kept z s → Asks s d a
+      → Kept z (after s d a)
+  kept_after z s d (Make b enabled null fields val) fine kept asks =
+      kept_make z s d b.0 enabled null fields fine kept asks.0
+  kept_after z s d (Share h p) fine kept asks =
+      kept_hands z s _ kept (λ q. let t = owner_no_weak s d h.object p q in omega arith)
+  kept_after z s d (Leave h last) fine kept asks =
+      let hold = asks.0 in
+      subst (λ u. Kept z (leaves d u last s)) (sym (written_out h Owner hold.1 hold.2))
+      (kept_leave z s d (object_of h) h.place last fine kept (written s.hands d Owner h hold.0 hold.1 hold.2))
+  kept_after z s d (Count h n) fine kept asks = kept
+  kept_after z s d (Expired h x) fine kept asks = kept
+  kept_after z s d (Read h n) fine kept asks = kept
+  kept_after z s d (WeakShare o p) fine kept asks =
+      kept_hands z s _ kept
+      (λ q. ⊎_elim (λ e. let t = (more_weaks s d o p q).0 e in omega arith)
+      (λ ne. let t = (more_weaks s d o p q).1 ne in omega arith) (cases_eq q o))
+  kept_after z s d (WeakLeave h vacant) fine kept asks =
+      let hold = asks.0 in
+      subst (λ u. Kept z (weak_leaves d u vacant s)) (sym (written_out h Weak hold.1 hold.2))
+      (kept_weak_leave z s d (object_of h) h.place vacant fine kept
+      (written s.hands d Weak h hold.0 hold.1 hold.2) asks.1)
+  kept_after z s d (Lock h x) fine kept asks =
+      cond_both x (held d (handle Owner h.object h.place) ∷ s.hands) s.hands
+      (λ l. Kept z (record s { hands = l }))
+      (λ e. kept_hands z s _ kept (λ q. let t = owner_no_weak s d h.object h.place q in omega arith))
+      (λ e. kept)
+  kept_after z s d (ClearMember o m h) fine kept asks =
+      let made = was_made z s o fine (λ u. cc) in
+      subst (λ u. Kept z (clears d o m u s)) (sym asks.2) (kept_clear z s d o m kept asks.1 made)
+  kept_after z s d (Finish o vacant val) fine kept asks = kept_finish z s d o vacant kept asks.2
+  kept_after z s d (Load c x) fine kept asks = kept_load z s d x kept
+  kept_after z s d (Swap c x y) fine kept asks =
+      subst (λ u. Kept z (swaps d c x u s)) (sym asks.2)
+      (kept_swap z s d c x kept (open_in z s d c fine asks.0) asks.1)
+  kept_after z s d (Compare c e x y true w) fine kept asks =
+      subst (λ u. Kept z (swaps d c x u s)) (sym asks.3)
+      (kept_swap z s d c x kept (open_in z s d c fine asks.0) asks.2)
+  kept_after z s d (Compare c e x y false w) fine kept asks = kept_load z s d y kept
+  kept_after z s d (Visit h x y) fine kept asks = kept
+  kept_after z s d (Split to n hs bs) fine kept asks = kept_split z s d to n hs bs kept asks.4 asks.5
+  kept_after z s d (Join other) fine kept asks = kept_join z s d other kept
+
+  pub kept : (z : Opening) (h : List (Entry V)) → IsLegal z h → Kept z (leads z h)
+  kept z [] legal = λ b shape vacant. all_kept z.holder z.blocks b shape.0 shape.1
+  kept z (e ∷ h) legal =
+      kept_after z (leads z h) e.desk e.event (sound z h legal.0) (kept z h legal.0) legal.1.asks
+
+  pub stored_once : StoredOnce V
+  stored_once z h legal b shape =
+      let s = leads z h in
+      let fine = sound z h legal in
+      let once = fine.once b in
+      let there = λ (e : how_often b s.stores ≡ 1).
+      let f = store_found b s.stores (omega arith) in (fine.stores f.0 b f.1).0 in
+      ((there, λ vacant. let t = kept z h legal b shape vacant in omega arith), once)

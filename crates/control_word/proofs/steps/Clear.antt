@@ -1,0 +1,55 @@
+-- A member of an ending object is cleared.
+use Rattle.std.proofs.Common.{◌≡◌, ℕ, ◌+◌, ◌-◌, ◌<◌, false, List, ◌∷◌, set, refl, ap, subst, inl, arith}
+use mathlib.Core.Option.{some}
+use lib.ListN.{get_elem?}
+use Rattle.control_word.proofs.steps.Swap.{exchange_step}
+use Rattle.control_word.proofs.words.CellWords.{cell_read}
+use Rattle.control_word.proofs.words.Purses.{formed_empty}
+use Rattle.control_word.specs.Events.{after}
+use Rattle.control_word.specs.Handles.{empty}
+use Rattle.control_word.specs.Histories.{entry, leads}
+use Rattle.control_word.specs.Layout.{spot}
+use Rattle.control_word.specs.State.{HasRoom, Opening, common, ending, kind_of_member}
+use Rattle.control_word.specs.Steps.{Adds, Clears, cell_word, purse, state}
+use Rattle.control_word.specs.Views.{Stands}
+use Rattle.control_word.specs.Words.{blocks_of, packed}
+use Rattle.control_word.specs.declared.event.Cell.TheVariants.{Member}
+use Rattle.control_word.specs.declared.event.Entry.{Entry}
+use Rattle.control_word.specs.declared.event.Event.TheVariants.{ClearMember}
+use Rattle.control_word.specs.declared.view.Pending.TheVariants.{Idle}
+use Rattle.control_word.specs.declared.view.View.{View}
+
+module _ {V : Type 0} where
+  -- the desk that ends the object takes a member's value out
+  pub clear_step : (z : Opening) (words : List ℕ) (views : List (View V)) (h : List (Entry V)) (stands : Stands z words views h)
+      (i : ℕ) (v : View V) (at : get_elem? views i ≡ some v) (awake : v.spent ≡ false) (o m : ℕ) → ((leads z h).object o).phase ≡ ending v.name → m < 3
+      → v.pending ≡ Idle
+      → let s = leads z h in let k = spot (s.object o).block (7 + m) in let old = (s.object o).member m in
+      HasRoom (after {V = V} s v.name (ClearMember o m old)) v.name
+      → let e = entry v.name (ClearMember o m old) in
+      Stands z (set words k 0) (set views i (record v { pending = purse (blocks_of s) old (256 - stands.taken k); seen = e ∷ h })) (e ∷ h)
+  unfolding packed
+  clear_step z words views h stands i v at awake o m end lt idle room =
+      let s = leads z h in
+      let one : common (s.object o).phase ≡ 1 = ap common end in
+      exchange_step z words views h stands i v at awake (Member o m) (
+        lt,
+        omega arith,
+      ) (ClearMember o m ((s.object o).member m)) (empty (kind_of_member m)) tt (end, lt, refl) tt refl idle (
+        refl,
+        inl (
+          refl,
+          formed_empty (kind_of_member m),
+        ),
+      ) room
+
+module _ {V : Type 0} where
+  pub clears' : Clears V
+  clears' at o m ready end lt room taken found =
+      let s = state at in
+      let one : common (s.object o).phase ≡ 1 = ap common end in
+      let r = cell_read at.opening at.words at.views at.history ready.stands at.seat at.view ready.seated ready.awake (Member o m) (lt, omega arith) in
+      let old = (s.object o).member m in
+      let e : ready.stands.taken (cell_word at (Member o m)) ≡ taken = omega arith in
+      subst (λ t. Adds at (cell_word at (Member o m)) 0 (ClearMember o m old) (purse (blocks_of s) old (256 - t))) e
+      (clear_step at.opening at.words at.views at.history ready.stands at.seat at.view ready.seated ready.awake o m end lt ready.pending room)

@@ -1,0 +1,41 @@
+-- What stands at the start, what cells show, and that no count carries or wraps.
+use Rattle.std.proofs.Common.{◌≡◌, None, ap, ◌∙◌, arith}
+use Rattle.control_word.proofs.history.Kept.{cells_led}
+use Rattle.control_word.proofs.history.Legal.{sound}
+use Rattle.control_word.proofs.history.Storing.{kept}
+use Rattle.control_word.proofs.words.Banks.{IsKept, open_kept}
+use Rattle.control_word.proofs.words.Decoding.{cell_decodes}
+use Rattle.control_word.proofs.words.Opening.{opens}
+use Rattle.control_word.proofs.words.Rooms.{funds_room, halves}
+use Rattle.control_word.specs.Events.{cell_of}
+use Rattle.control_word.specs.Steps.{Begins, CellsShow, HasHeadroom, Point, Ready, cell_word, me, state}
+use Rattle.control_word.specs.declared.event.Cell.{Cell}
+use Rattle.control_word.specs.declared.event.Cell.TheVariants.{Free, Member}
+use Rattle.control_word.specs.declared.view.Pending.{Pending}
+
+module _ {V : Type 0} where
+  pub begins : Begins V
+  begins z proper = opens z proper
+
+  nothing_taken : (at : Point V) (p : Pending V) (ready : Ready at p) (c : Cell) → IsKept (state at) c → (cell_of (state at) c).object ≡ None
+      → ready.stands.taken (cell_word at c) ≡ 0
+  nothing_taken at p ready (Free c) kept e = ready.stands.bare.frees c (let t = cells_led at.opening at.history in omega arith) e
+  nothing_taken at p ready (Member o m) kept e =
+      let place = (sound at.opening at.history ready.stands.legal).placed o kept.1 in
+      ready.stands.bare.members ((state at).object o).block m place.1 kept.0 (ap (λ n. (((state at).object n).member m).object) place.0 ∙ e)
+
+  pub cells_show : CellsShow V
+  cells_show at p c ready open' =
+      let kept = open_kept at.opening (state at) (me at) c (sound at.opening at.history ready.stands.legal) open' in (
+        ready.stands.taken (cell_word at c),
+        cell_decodes at.opening at.words at.views at.history ready.stands at.seat at.view ready.seated ready.awake c kept,
+        nothing_taken at p ready c kept,
+      )
+
+  pub has_headroom : HasHeadroom V
+  has_headroom at p ready k o busy =
+      let t = funds_room at.opening at.words at.views at.history ready.stands k o busy in (
+        t.2,
+        λ low high is small. let h = halves at.opening at.words at.views at.history ready.stands k o busy low high is small in let a = h.0 in let b = h.1 in
+            let t0 = t.0 in let t1 = t.1 in (omega arith, omega arith),
+      )

@@ -1,0 +1,38 @@
+-- The fund of a load under way becomes a handle.
+use Rattle.std.proofs.Common.{◌≡◌, ℕ, ◌-◌, ◌≤◌, false, List, get_or, set, Option, refl, ap, subst, ◌∙◌, arith}
+use mathlib.Core.Option.{some}
+use lib.ListN.{get_elem?}
+use Rattle.control_word.proofs.history.Legal.{held_busy, sound}
+use Rattle.control_word.proofs.words.Payments.{cond_one, own_funds, pay_step}
+use Rattle.control_word.specs.Histories.{leads, value}
+use Rattle.control_word.specs.State.{Opening}
+use Rattle.control_word.specs.Steps.{Turns}
+use Rattle.control_word.specs.Views.{Fits, Stands, adds, owes, pays}
+use Rattle.control_word.specs.Words.{blocks_of, counts_at}
+use Rattle.control_word.specs.declared.event.Entry.{Entry}
+use Rattle.control_word.specs.declared.handle.Kind.{Kind}
+use Rattle.control_word.specs.declared.place.Place.{Place}
+use Rattle.control_word.specs.declared.view.Pending.TheVariants.{Idle, Paying}
+use Rattle.control_word.specs.declared.view.View.{View}
+
+module _ {V : Type 0} where
+  module _ (z : Opening) (words : List ℕ) (views : List (View V)) (h : List (Entry V)) (stands : Stands z words views h)
+      (i : ℕ) (v : View V) (at : get_elem? views i ≡ some v) (awake : v.spent ≡ false) where
+    -- the fund of a load under way becomes a handle in the number
+    pub turn_step : (k : Kind) (o : ℕ) (p : Option Place) → let w = counts_at (blocks_of (leads z h)) k o in v.pending ≡ Paying k o p w 1 1
+        → (4294967295 ≤ get_or words w 0) × Stands z (set words w (get_or words w 0 - 4294967295)) (set views i (record v { pending = Idle; seen = h })) h
+    turn_step k o p mine =
+        let s = leads z h in
+        let w = counts_at (blocks_of s) k o in
+        let fits : Fits words s (value z h) v.name (Paying k o p w 1 1) = subst (Fits words s (value z h) v.name) mine (stands.team.seated i v at awake).fits in
+        let busy = held_busy z s v.name o k p (sound z h stands.legal) fits.0 in
+        let enough = own_funds z words views h stands i v at awake k o 1 1 p mine busy in (
+          omega arith,
+          pay_step z words views h stands i v at awake k o Idle 1 1 0 0 (get_or words w 0 - 4294967295) tt busy
+              (λ m. ap (λ q. adds q m) mine) (λ m. ap (λ q. pays q m) mine ∙ cond_one w m 1) (λ m. ap (λ q. owes q m) mine ∙ cond_one w m 1)
+              (λ m. refl) (λ m. omega arith) (λ m. omega arith) tt (omega arith),
+        )
+
+module _ {V : Type 0} where
+  pub turns : Turns V
+  turns at k o p ready = turn_step at.opening at.words at.views at.history ready.stands at.seat at.view ready.seated ready.awake k o p ready.pending

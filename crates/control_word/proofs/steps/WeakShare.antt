@@ -1,0 +1,43 @@
+-- One more weak handle.
+use Rattle.std.proofs.Common.{◌≡◌, ℕ, suc, ◌+◌, ◌<◌, false, List, ◌∷◌, get_or, set, Option, Some, refl, ap, ⊎_elim, arith}
+use mathlib.Core.Option.{some}
+use lib.ListN.{get_elem?}
+use Rattle.control_word.proofs.history.Moving.{more_weaks, weak_no_owner}
+use Rattle.control_word.proofs.history.Soundness.{IsBusy}
+use Rattle.control_word.proofs.words.Changes.{number_step}
+use Rattle.control_word.proofs.words.Counting.{bag_one}
+use Rattle.control_word.specs.Events.{Asks}
+use Rattle.control_word.specs.Handles.{weak_of}
+use Rattle.control_word.specs.Histories.{entry, leads}
+use Rattle.control_word.specs.Layout.{spot}
+use Rattle.control_word.specs.State.{Opening, bag_size, common, held}
+use Rattle.control_word.specs.Steps.{WeakShares}
+use Rattle.control_word.specs.Views.{Stands, more, sees}
+use Rattle.control_word.specs.declared.event.Entry.{Entry}
+use Rattle.control_word.specs.declared.event.Event.TheVariants.{WeakShare}
+use Rattle.control_word.specs.declared.handle.Kind.TheVariants.{Weak}
+use Rattle.control_word.specs.declared.place.Place.{Place}
+use Rattle.control_word.specs.declared.view.Pending.TheVariants.{Idle}
+use Rattle.control_word.specs.declared.view.View.{View}
+
+module _ {V : Type 0} where
+  module _ (z : Opening) (words : List ℕ) (views : List (View V)) (h : List (Entry V)) (stands : Stands z words views h)
+      (i : ℕ) (v : View V) (at : get_elem? views i ≡ some v) (awake : v.spent ≡ false) (idle : v.pending ≡ Idle) (o : ℕ) (p : Option Place) where
+    -- one more weak handle of a busy object
+    pub weak_share_step : bag_size (leads z h) v.name < (leads z h).allowance v.name → IsBusy (leads z h) o → Asks {V = V} (leads z h) v.name (WeakShare o p)
+        → let k = spot ((leads z h).object o).block 1 in let e = entry v.name (WeakShare o p) in
+        Stands z (set words k (suc (get_or words k 0))) (set views i (sees v (e ∷ h))) (e ∷ h)
+    weak_share_step more busy asks =
+        let s = leads z h in
+        let hs = held v.name (weak_of o p) ∷ s.hands in
+        number_step z words views h stands i v at awake idle (WeakShare o p) hs s.object Weak o (suc (get_or words (spot
+        (s.object o).block 1) 0)) tt asks tt busy refl
+        (λ r t. weak_no_owner s v.name (Some o) p r)
+        (λ r t. ap (λ m. m + common (s.object r).phase) ((more_weaks s v.name o p r).1 (⊎_elim (λ n. absurd (n refl)) (λ n. n) t))) (λ r. refl)
+        (let u = (more_weaks s v.name o p o).0 refl in omega arith)
+        (let t = bag_one v.name (weak_of o p) s.hands in omega arith)
+
+module _ {V : Type 0} where
+  pub weak_shares : WeakShares V
+  weak_shares at o p ready busy asks more = weak_share_step at.opening at.words at.views at.history ready.stands at.seat at.view ready.seated
+      ready.awake ready.pending o p more busy asks

@@ -1,0 +1,141 @@
+-- A sole desk has seen all, and the counts of a block at rest are exactly the handles on it.
+use Rattle.std.proofs.Common.{◌≡◌, ◌≢◌, ℕ, zero, suc, ◌+◌, ◌*◌, ◌<◌, ◌≤◌, Bool, true, false, List, get_or, refl, sym, ap, subst, ◌∙◌, inl, ⊎_elim}
+use Rattle.std.proofs.Common.{ne_eqb, arith}
+use Rattle.std.proofs.lemmas.Bool.{cases_eq, cond-false}
+use mathlib.Core.Option.{some, some-injective}
+use lib.ListN.{get_elem?}
+use Rattle.control_word.proofs.history.Allowances.{allowed, opened}
+use Rattle.control_word.proofs.history.Kept.{Same, same_kept}
+use Rattle.control_word.proofs.history.Legal.{held_busy, sound}
+use Rattle.control_word.proofs.words.Frames.{spot_apart, total_none}
+use Rattle.control_word.proofs.words.Funds.{slot_low}
+use Rattle.control_word.proofs.words.Rooms.{number_room}
+use Rattle.control_word.specs.Histories.{leads, value}
+use Rattle.control_word.specs.Laws.{RestsExactly, SoleHasSeenAll}
+use Rattle.control_word.specs.Layout.{spot}
+use Rattle.control_word.specs.Packing.{number_of}
+use Rattle.control_word.specs.State.{InShape, Opening, count, sum_below, weak_number}
+use Rattle.control_word.specs.Views.{Fits, IsAtRest, NamesBlock, Stands, added, adds, owed, owes, paid, pays}
+use Rattle.control_word.specs.Words.{bank, block_words, slot}
+use Rattle.control_word.specs.declared.event.Entry.{Entry}
+use Rattle.control_word.specs.declared.handle.Kind.TheVariants.{Owner, Weak}
+use Rattle.control_word.specs.declared.view.Pending.{Pending}
+use Rattle.control_word.specs.declared.view.Pending.TheVariants.{Idle, Making, Merging, Parting, Paying, Visiting}
+use Rattle.control_word.specs.declared.view.View.{View}
+
+pub sum_at : (n p : ℕ) (f : ℕ → ℕ) → p < n → f p ≤ sum_below n f
+sum_at zero p f lt = absurd (omega arith)
+sum_at (suc n) p f lt =
+    ⊎_elim (λ (e : p ≡ n). let t = ap f e in omega arith) (λ (ne : p ≢ n). let t = sum_at n p f (omega arith) in omega arith) (cases_eq p n)
+
+-- two terms of a sum
+sum_two : (n p q : ℕ) (f : ℕ → ℕ) → p < n → q < n → p ≢ q → f p + f q ≤ sum_below n f
+sum_two zero p q f lp lq ne = absurd (omega arith)
+sum_two (suc n) p q f lp lq ne =
+    ⊎_elim (λ (e : p ≡ n). let t = ap f e in let u = sum_at n q f (omega arith) in omega arith)
+    (λ (np : p ≢ n). ⊎_elim (λ (e : q ≡ n). let t = ap f e in let u = sum_at n p f (omega arith) in omega arith)
+    (λ (nq : q ≢ n). let t = sum_two n p q f (omega arith) (omega arith) ne in omega arith) (cases_eq q n)) (cases_eq p n)
+
+module _ {V : Type 0} where
+  -- what a desk has by what it has seen, it has
+  pub as_seen : (z : Opening) (words : List ℕ) (views : List (View V)) (h : List (Entry V)) → Stands z words views h → (i : ℕ) (v : View V)
+      → get_elem? views i ≡ some v → v.spent ≡ false
+      → Same (leads z v.seen) (leads z h) v.name
+  as_seen z words views h stands i v at awake =
+      let t = (stands.team.seated i v at awake).knows v.name (inl refl) in
+      subst (λ l. Same (leads z v.seen) (leads z l) v.name) (sym t.1) (same_kept z t.0 v.seen v.name t.2)
+
+  pub sole_has_seen_all : SoleHasSeenAll V
+  sole_has_seen_all z words views h stands i v at awake whole =
+      let s = leads z h in
+      let w = stands.team.whole in
+      let fine = allowed z h stands.legal in
+      let same = as_seen z words views h stands i v at awake in
+      let acts = (stands.team.seated i v at awake).acts v.name (inl refl) in
+      ⊎_elim
+      (λ (e : w.0 ≡ i). let q = some-injective w.1 v (sym w.2 ∙ (ap (get_elem? views) e ∙ at)) in ap (λ (y : View V). y.seen) (sym q) ∙ w.4)
+      (λ (n : w.0 ≢ i).
+      let other = (stands.team.seated w.0 w.1 w.2 w.3).acts w.1.name (inl refl) in
+      let apart : w.1.name ≢ v.name = λ e. n (stands.team.names w.0 i w.1 v w.2 at w.3 awake v.name (inl e) (inl refl)) in
+      let t = sum_two s.names w.1.name v.name s.allowance other.0 acts.0 apart in
+      let a = same.may_hold in let b = fine.shares in let c = other.2 in absurd (omega arith)) (cases_eq w.0 i)
+
+  module _ (z : Opening) (words : List ℕ) (views : List (View V)) (h : List (Entry V)) (stands : Stands z words views h) (b : ℕ) (inside : InShape z b)
+      (rest : IsAtRest (leads z h) views b) where
+    -- who has loads under way on the word, or has prepared it, names the block
+    rest_owes : (k : ℕ) → k < 2 → (i : ℕ) (v : View V) → get_elem? views i ≡ some v
+        → (owes v.pending (spot b k) ≡ 0) × (adds v.pending (spot b k) ≡ 0) × (pays v.pending (spot b k) ≡ 0)
+    rest_owes k low i v at = go v.pending v.spent refl refl
+      where
+        go : (p : Pending V) (t : Bool) → v.pending ≡ p → v.spent ≡ t
+            → (owes v.pending (spot b k) ≡ 0) × (adds v.pending (spot b k) ≡ 0) × (pays v.pending (spot b k) ≡ 0)
+        go p true e t = let r = stands.team.rests i v at t in (ap (λ q. owes q (spot b k)) r, ap (λ q. adds q (spot b k)) r, ap (λ q. pays q (spot b k)) r)
+        go Idle false e t = (ap (λ q. owes q (spot b k)) e, ap (λ q. adds q (spot b k)) e, ap (λ q. pays q (spot b k)) e)
+        go (Parting to) false e t = (ap (λ q. owes q (spot b k)) e, ap (λ q. adds q (spot b k)) e, ap (λ q. pays q (spot b k)) e)
+        go (Merging other x y) false e t = (ap (λ q. owes q (spot b k)) e, ap (λ q. adds q (spot b k)) e, ap (λ q. pays q (spot b k)) e)
+        go (Making c known) false e t =
+            let f : Fits words (leads z h) (value z h) v.name (Making c known) = subst (Fits words (leads z h) (value z h) v.name) e
+            (stands.team.seated i v at t).fits in
+            let place = ((sound z h stands.legal).stores v.name c.0 f.0).1 in
+            let n : NamesBlock {V = V} (leads z h) (Making c known) b → ⊥ = subst (λ q. NamesBlock (leads z h) q b → ⊥) e (rest.unnamed i v at) in (
+              ap (λ q. owes q (spot b k)) e,
+              ap (λ q. adds q (spot b k)) e
+                  ∙ cond-false _ 1 0 (ne_eqb (spot b k) (spot c.0 1)
+                  (λ q. n (let u = spot_apart b k c.0 1 inside.0 place.0 (omega arith) (omega arith) q in sym u.0))),
+              ap (λ q. pays q (spot b k)) e,
+            )
+        go (Visiting o p w x) false e t =
+            let f : Fits words (leads z h) (value z h) v.name (Visiting o p w x) = subst (Fits words (leads z h) (value z h) v.name) e
+            (stands.team.seated i v at t).fits in (
+              ap (λ q. owes q (spot b k)) e,
+              ap (λ q. adds q (spot b k)) e ∙ cond-false _ 4 0 (ne_eqb (spot b k) w (λ q. let u = q
+                  ∙ f.1 in omega arith)),
+              ap (λ q. pays q (spot b k)) e,
+            )
+        go (Paying m o p w x y) false e t =
+            let s = leads z h in
+            let fine = sound z h stands.legal in
+            let f : Fits words s (value z h) v.name (Paying m o p w x y) = subst (Fits words s (value z h) v.name) e (stands.team.seated i v at t).fits in
+            let place = (fine.placed o (held_busy z s v.name o m p fine f.0)).1 in
+            let n : NamesBlock {V = V} s (Paying m o p w x y) b → ⊥ = subst (λ q. NamesBlock s q b → ⊥) e (rest.unnamed i v at) in
+            let l = slot_low m in
+            let apart : spot b k ≢ w = λ q. n (let u = spot_apart b k (s.object o).block (slot m) inside.0 place.0 (omega arith) (omega arith) (q
+            ∙ f.1) in sym u.0) in (
+              ap (λ q. owes q (spot b k)) e ∙ cond-false _ y 0 (ne_eqb (spot b k) w apart),
+              ap (λ q. adds q (spot b k)) e,
+              ap (λ q. pays q (spot b k)) e
+                  ∙ cond-false _ x 0 (ne_eqb (spot b k) w apart),
+            )
+
+    rest_sums : (k : ℕ) → k < 2 → (owed views (spot b k) ≡ 0) × (added views (spot b k) ≡ 0) × (paid views (spot b k) ≡ 0)
+    rest_sums k low = (
+      total_none (λ (v : View V). owes v.pending (spot b k)) views (λ i v e. (rest_owes k low i v e).0),
+      total_none (λ (v : View V). adds v.pending (spot b k)) views (λ i v e. (rest_owes k low i v e).1),
+      total_none (λ (v : View V). pays v.pending (spot b k)) views (λ i v e. (rest_owes k low i v e).2),
+    )
+
+    -- the funds on a word of a block, of whatever object, are a whole number of funds; its number is the state's
+    rest_word : (k : ℕ) → k < 2 → get_or words (spot b k) 0 ≡ get_or (block_words (leads z h) b) k 0 + 4294967296 * bank z (leads z h) stands.taken (spot b k)
+    rest_word k low =
+        let t = rest_sums k low in
+        let t0 = t.0 in let t1 = t.1 in let t2 = t.2 in
+        let u = stands.blank b k inside (omega arith) in
+        ⊎_elim (λ l. absurd (let l0 = l.0 in omega arith)) (λ e. omega arith) (stands.shows.blocks b k inside (omega arith))
+
+    number_read_of : (n f : ℕ) → n < 4294967296 → number_of (n + 4294967296 * f) ≡ n
+    number_read_of n f lt = omega arith
+
+  pub rests_exactly : RestsExactly V
+  rests_exactly z words views h stands b inside rest =
+      let s = leads z h in
+      let o = s.latest b in
+      let low = opened z h stands.legal in
+      let limits = low.limits in
+      let l0 = limits.0 in let l1 = limits.1 in let l2 = limits.2 in
+      let few = number_room z h stands.legal Owner o in
+      let weak-few = number_room z h stands.legal Weak o in
+      let a = rest_word z words views h stands b inside rest 0 (omega arith) in
+      let c = rest_word z words views h stands b inside rest 1 (omega arith) in (
+        ap number_of a ∙ number_read_of z words views h stands b inside rest (count s o) (bank z s stands.taken (spot b 0)) (omega arith),
+        ap number_of c ∙ number_read_of z words views h stands b inside rest (weak_number s o) (bank z s stands.taken (spot b 1)) (omega arith),
+      )

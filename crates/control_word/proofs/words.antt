@@ -1,0 +1,15 @@
+pub mod Frames
+pub mod Funds
+pub mod Banks
+pub mod Counting
+pub mod Changes
+pub mod Rooms
+pub mod Body
+pub mod Payments
+pub mod Members
+pub mod CellWords
+pub mod Decoding
+pub mod Purses
+pub mod Flags
+pub mod Passed
+pub mod Opening

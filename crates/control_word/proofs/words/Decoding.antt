@@ -1,0 +1,86 @@
+-- What the word of a cell unpacks to.
+use Rattle.std.proofs.Common.{◌≡◌, ℕ, ◌+◌, ◌*◌, ◌≤◌, Option, Some, None, refl, ◌∙◌, arith}
+use Rattle.std.specs.Prelude.{IfSome}
+use Rattle.std.proofs.Common.{false, List, get_or}
+use mathlib.Core.Option.{some}
+use lib.ListN.{get_elem?}
+use Rattle.control_word.proofs.history.Allowances.{opened}
+use Rattle.control_word.proofs.history.Clearing.{was_made}
+use Rattle.control_word.proofs.history.Formation.{formed}
+use Rattle.control_word.proofs.history.Legal.{sound}
+use Rattle.control_word.proofs.history.Soundness.{IsBusy, Sound}
+use Rattle.control_word.proofs.words.Banks.{IsKept}
+use Rattle.control_word.proofs.words.CellWords.{cell_read}
+use Rattle.control_word.proofs.words.Funds.{cell_busy, member_busy}
+use Rattle.control_word.specs.Events.{cell_of}
+use Rattle.control_word.specs.Handles.{IsFormed, IsPointer, handle}
+use Rattle.control_word.specs.Histories.{leads}
+use Rattle.control_word.specs.Packing.{IsBlock, IsCellWord, IsPlace, cell_bits}
+use Rattle.control_word.specs.State.{Opening, State}
+use Rattle.control_word.specs.Views.{Stands}
+use Rattle.control_word.specs.Words.{block_of, blocks_of, cell_at, packed, shown}
+use Rattle.control_word.specs.declared.event.Cell.{Cell}
+use Rattle.control_word.specs.declared.event.Cell.TheVariants.{Free, Member}
+use Rattle.control_word.specs.declared.event.Entry.{Entry}
+use Rattle.control_word.specs.declared.handle.Handle.{Handle}
+use Rattle.control_word.specs.declared.handle.Kind.{Kind}
+use Rattle.control_word.specs.declared.place.Place.{Place}
+use Rattle.control_word.specs.declared.view.View.{View}
+
+shown_parts : (block : ℕ → ℕ) (k : Kind) (o : Option ℕ) (p : Option Place) (t : ℕ)
+    → packed block (handle k o p) + 17179869184 * t ≡ cell_bits (shown block (handle k o p) t)
+unfolding packed
+shown_parts block k None None t = omega arith
+shown_parts block k None (Some p) t = omega arith
+shown_parts block k (Some o) None t = omega arith
+shown_parts block k (Some o) (Some p) t = omega arith
+
+-- a cell's word is that of what it shows
+pub cell_shown : (block : ℕ → ℕ) (h : Handle) (t : ℕ) → packed block h + 17179869184 * t ≡ cell_bits (shown block h t)
+cell_shown block h t = shown_parts block h.kind h.object h.place t
+
+owned_fits : (block : ℕ → ℕ) (o : Option ℕ) → ((r : ℕ) → o ≡ Some r → (1 ≤ block r) × (block r ≤ 65535)) → IfSome (block_of block o) IsBlock
+owned_fits block None f = tt
+owned_fits block (Some o) f = let t = f o refl in (omega arith, t.1)
+
+place_fits : (p : Option Place) → IsPointer p → IfSome p IsPlace
+place_fits None f = tt
+place_fits (Some p) f = let a = f.0 in let b = f.2 in ((omega arith, f.1), omega arith)
+
+pub shown_fits : (block : ℕ → ℕ) (h : Handle) (t : ℕ) → IsFormed h → ((r : ℕ) → h.object ≡ Some r → (1 ≤ block r) × (block r ≤ 65535)) → t ≤ 256
+    → IsCellWord (shown block h t)
+shown_fits block h t formed blocks few = record { owned = owned_fits block h.object blocks; place = place_fits h.place formed.0; taken = few }
+
+module _ {V : Type 0} where
+  module _ (z : Opening) (words : List ℕ) (views : List (View V)) (h : List (Entry V)) (stands : Stands z words views h)
+      (i : ℕ) (v : View V) (at : get_elem? views i ≡ some v) (awake : v.spent ≡ false) (c : Cell) (kept : IsKept (leads z h) c) where
+    -- the word of a cell is the packing of the cell's handle, and of how many funds were taken
+    pub cell_decodes : let s = leads z h in let k = cell_at z s c in let x = shown (blocks_of s) (cell_of s c) (stands.taken k) in
+        (get_or words k 0 ≡ cell_bits x) × IsCellWord x
+    cell_decodes = (
+      cell_read z words views h stands i v at awake c kept
+          ∙ cell_shown (blocks_of s) (cell_of s c) (stands.taken k),
+      shown_fits (blocks_of s) (cell_of s c) (stands.taken k) (well c kept) (there c kept) (stands.most k),
+    )
+      where
+        s : State
+        s = leads z h
+
+        k : ℕ
+        k = cell_at z (leads z h) c
+
+        fine : Sound z (leads z h)
+        fine = sound z h stands.legal
+
+        inside : (r : ℕ) → IsBusy (leads z h) r → (1 ≤ blocks_of (leads z h) r) × (blocks_of (leads z h) r ≤ 65535)
+        inside r busy = let p = (fine.placed r busy).1 in let l = (opened z h stands.legal).limits.0 in (p.0, omega arith)
+
+        well : (d : Cell) → IsKept (leads z h) d → IsFormed (cell_of (leads z h) d)
+        well (Free d) op = ((formed z h stands.legal).frees d op).0
+        well (Member o m) op = ((formed z h stands.legal).members o m op.0).0
+
+        there : (d : Cell) → IsKept (leads z h) d → (r : ℕ) → (cell_of (leads z h) d).object ≡ Some r
+            → (1 ≤ blocks_of (leads z h) r) × (blocks_of (leads z h) r ≤ 65535)
+        there (Free d) op r e = inside r (cell_busy z (leads z h) fine d r op e)
+        there (Member o m) op r e = inside r (member_busy z (leads z h) fine o m r (was_made z (leads z h) o fine (λ u. let t = fine.unmade_free o u in
+            let b = op.1 in omega arith)) op.0 e)

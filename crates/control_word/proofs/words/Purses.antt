@@ -1,0 +1,55 @@
+-- The funds of a handle that goes into a cell or came out of it.
+use Rattle.std.proofs.Common.{ne_eqb, eq-eqb, ◌≡◌, ℕ, ◌-◌, ◌==◌, Option, Some, None, ◌≤◌, List, refl, sym, ap, inl, ⊎_elim, arith}
+use Rattle.std.proofs.lemmas.Bool.{cond-false, cond-true, cases_eq}
+use Rattle.control_word.proofs.history.Others.{IsLone}
+use Rattle.control_word.proofs.words.Members.{swap_blocks}
+use Rattle.control_word.specs.Events.{swaps}
+use Rattle.control_word.specs.Handles.{IsFormed, empty, handle}
+use Rattle.control_word.specs.State.{State}
+use Rattle.control_word.specs.Steps.{purse}
+use Rattle.control_word.specs.Views.{Fits, adds, owes, pays}
+use Rattle.control_word.specs.Words.{blocks_of, counts_at, worth}
+use Rattle.control_word.specs.declared.event.Cell.{Cell}
+use Rattle.control_word.specs.declared.handle.Handle.{Handle}
+use Rattle.control_word.specs.declared.handle.Kind.{Kind}
+use Rattle.control_word.specs.declared.handle.Kind.TheVariants.{Owner, Weak}
+use Rattle.control_word.specs.declared.place.Place.{Place}
+
+pub formed_empty : (k : Kind) → IsFormed (empty k)
+formed_empty Owner = (tt, tt)
+formed_empty Weak = (tt, refl)
+
+module _ (V : Type 0) where
+  pub purse_pays : (block : ℕ → ℕ) (k : Kind) (n : Option ℕ) (p : Option Place) (t m : ℕ)
+      → pays {V = V} (purse block (handle k n p) (256 - t)) m ≡ worth block (handle k n p) t m
+  purse_pays block k None p t m = refl
+  purse_pays block k (Some o) p t m = refl
+
+  pub purse_owes : (block : ℕ → ℕ) (k : Kind) (n : Option ℕ) (p : Option Place) (f m : ℕ) → owes {V = V} (purse block (handle k n p) f) m ≡ 0
+  purse_owes block k None p f m = refl
+  purse_owes block k (Some o) p f m = ⊎_elim (λ e. cond-true (m == counts_at block k o) 0 0 (eq-eqb _ _ e))
+      (λ n. cond-false _ 0 0 (ne_eqb _ _ n)) (cases_eq m (counts_at block k o))
+
+  pub purse_adds : (block : ℕ → ℕ) (k : Kind) (n : Option ℕ) (p : Option Place) (f m : ℕ) → adds {V = V} (purse block (handle k n p) f) m ≡ 0
+  purse_adds block k None p f m = refl
+  purse_adds block k (Some o) p f m = refl
+
+  -- what it is, in what a half-done call may be
+  pub purse_lone : (block : ℕ → ℕ) (k : Kind) (n : Option ℕ) (p : Option Place) (f : ℕ) → IsLone {V = V} (purse block (handle k n p) f)
+  purse_lone block k None p f = tt
+  purse_lone block k (Some o) p f = tt
+
+module _ {V : Type 0} where
+  -- the funds of what came out are under a handle in the bag
+  pub purse_fits : (words : List ℕ) (s : State) (values : ℕ
+      → Option V) (d : ℕ) (c : Cell) (new : Handle) (k : Kind) (n : Option ℕ) (p : Option Place) (f : ℕ) → f ≤ 256
+      → Fits words (swaps d c new (handle k n p) s) values d (purse (blocks_of s) (handle k n p) f)
+  purse_fits words s values d c new k None p f few = tt
+  purse_fits words s values d c new k (Some o) p f few = (
+    inl refl,
+    ap (λ (b : ℕ
+        → ℕ). counts_at b k o) (sym (swap_blocks s d c new (handle k (Some o) p))),
+    omega arith,
+    omega arith,
+    few,
+  )

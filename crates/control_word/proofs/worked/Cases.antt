@@ -1,0 +1,242 @@
+-- The worked histories, by computation.
+use Rattle.std.proofs.Common.{◌≡◌, ℕ, suc, ◌≤◌, Bool, true, false, cond, ◌&&◌, not, ◌==◌, nat_lt, List, [], ◌∷◌, slice_index, Option, Some, None}
+use Rattle.std.proofs.Common.{refl, sym, ap, ◌∙◌, inl, inr, ⊎_elim, eq-eqb, ne_eqb, arith}
+use Rattle.std.proofs.lemmas.Bool.{and_parts, ltb-true, cond-true, cond-false}
+use Rattle.control_word.proofs.history.Storing.{stored_once}
+use Rattle.control_word.specs.Events.{Asks, after}
+use Rattle.control_word.specs.Handles.{empty, equivalent}
+use Rattle.control_word.specs.Histories.{IsLegal, MayCome, Values, leads, value}
+use Rattle.control_word.specs.Laws.{how_often}
+use Rattle.control_word.specs.State.{IsOpening, IsVacant, bag_size, count, weak}
+use Rattle.control_word.specs.Worked.{BlockUsedAgain, CountAfterCopy, CycleStays, FailedCompareHandsOutHeld, LockKeepsAlive, compare_ended}
+use Rattle.control_word.specs.Worked.{compare_held, compares, copy_ended, cycle_ended, four_blocks, leftover, lock_ended, lock_expired, owner_at}
+use Rattle.control_word.specs.Worked.{reached, reuse_copied, reuse_ended}
+use Rattle.control_word.specs.declared.event.Entry.{Entry}
+use Rattle.control_word.specs.declared.event.Event.{Event}
+use Rattle.control_word.specs.declared.handle.Handle.{Handle}
+use Rattle.control_word.specs.declared.handle.Kind.TheVariants.{Owner}
+use Rattle.control_word.specs.declared.place.Place.{Place}
+
+opening_fits : IsOpening four_blocks
+opening_fits = record {
+  limits = (omega arith, omega arith, omega arith);
+  holders = λ b. omega arith;
+  shares = refl;
+  positive = λ d lt.
+      let e : ◌≡◌ {A = ℕ} (cond (d == 0) 100 0) 100 = cond-true (d == 0) 100 0 (eq-eqb d 0 (omega arith)) in
+      omega arith;
+  beyond = λ d le. cond-false (d == 0) 100 0 (ne_eqb d 0 (λ e. omega arith));
+}
+
+-- the desk is acting, and keeps within its allowance: a test that computes
+abbrev ready : List (Entry ℕ) → Event ℕ → Bool
+ready h e =
+    let s = leads four_blocks h in
+    let t = after s 0 e in
+    let fits = nat_lt (bag_size t 0) (suc (t.allowance 0)) in
+    nat_lt 0 s.names && (not (s.joined 0) && (nat_lt 0 (s.allowance 0) && fits))
+
+not_false : (b : Bool) → not b ≡ true → b ≡ false
+not_false true e = cc
+not_false false e = refl
+
+comes : {h : List (Entry ℕ)} {e : Event ℕ} → ready h e ≡ true → Asks (leads four_blocks h) 0 e
+    → Values (value four_blocks h) e → MayCome four_blocks h 0 e
+comes {h} {e} r asks values =
+    let s = leads four_blocks h in
+    let t = after s 0 e in
+    let a = and_parts (nat_lt 0 s.names) _ r in
+    let b = and_parts (not (s.joined 0)) _ a.1 in
+    let c = and_parts (nat_lt 0 (s.allowance 0)) (nat_lt (bag_size t 0) (suc (t.allowance 0))) b.1 in
+    let room = ltb-true (bag_size t 0) (suc (t.allowance 0)) c.1 in
+    record {
+      acting = (ltb-true 0 s.names a.0, not_false (s.joined 0) b.0, ltb-true 0 (s.allowance 0) c.0);
+      asks = asks;
+      values = values;
+      room = omega arith;
+    }
+
+-- one event more
+infixl 4 ◌▸◌
+abbrev ◌▸◌ : {A B : Type 0} → A → B → A × B
+a ▸ b = (a, b)
+
+vacant : (h : List (Entry ℕ)) (b : ℕ) → IsLegal four_blocks h → 1 ≤ b → b ≤ 4
+    → how_often b (leads four_blocks h).stores ≡ 1 → IsVacant (leads four_blocks h) b
+vacant h b legal low high once = (stored_once four_blocks h legal b (low, high)).0.0 once
+
+copy_legal : IsLegal four_blocks copy_ended
+unfolding count weak
+copy_legal =
+    opening_fits
+    ▸ comes refl (inr (inr (inr (inl refl))), refl) tt
+    ▸ comes refl ((inl refl, refl, refl), (omega arith, omega arith, omega arith)) tt
+    ▸ comes refl ((inl refl, refl, refl), refl, omega arith) tt
+    ▸ comes refl ((inl refl, refl, refl), refl) tt
+    ▸ comes refl ((inl refl, refl, refl), refl) tt
+    ▸ comes refl (refl, (λ m lt. refl), refl) refl
+
+pub count_after_copy : CountAfterCopy
+unfolding count weak
+count_after_copy = (
+  copy_legal,
+  (refl, refl),
+  refl,
+  refl,
+  refl,
+  vacant copy_ended 1 copy_legal (omega arith) (omega arith) refl,
+)
+
+lock_expired_legal : IsLegal four_blocks lock_expired
+unfolding count weak
+lock_expired_legal =
+    opening_fits
+    ▸ comes refl (inr (inr (inr (inl refl))), refl) tt
+    ▸ comes refl (inl (owner_at 1 1, (inl refl, refl, refl), refl, inl refl)) tt
+    ▸ comes refl ((inl refl, refl, refl), refl, omega arith) tt
+    ▸ comes refl ((inl refl, refl, refl), refl) tt
+    ▸ comes refl ((inr (inl refl), refl, refl), refl, omega arith) tt
+    ▸ comes refl ((inl refl, refl, refl), refl) tt
+    ▸ comes refl ((inl refl, refl, refl), refl) tt
+    ▸ comes refl ((inr (inl refl), refl, refl), refl) tt
+    ▸ comes refl (refl, (λ m lt. refl), refl) refl
+    ▸ comes refl ((inl refl, refl, refl), refl) tt
+
+lock_legal : IsLegal four_blocks lock_ended
+unfolding count weak
+lock_legal = lock_expired_legal ▸ comes refl ((inl refl, refl, refl), refl) tt
+
+pub lock_keeps_alive : LockKeepsAlive
+unfolding count weak
+lock_keeps_alive = (
+  lock_legal,
+  (refl, refl),
+  (λ other next. next.asks.1),
+  (refl, refl),
+  (refl, refl),
+  (λ other next. next.asks.1),
+  refl,
+  (refl, refl),
+  (λ other next. next.asks.1),
+  refl,
+  (λ v. let t = v 1 refl in omega arith),
+  refl,
+  refl,
+  vacant lock_ended 1 lock_legal (omega arith) (omega arith) refl,
+)
+
+-- what a strong compare replies
+compare_reply : (h : List (Entry ℕ)) (expected new : Handle) (reply : Handle × Bool)
+    → MayCome four_blocks h 0 (compares expected new reply)
+    → let x = (reached h).cell 0 in reply ≡ (x, equivalent x expected)
+compare_reply h expected new reply next =
+    let held' = next.asks.3 in
+    let same = ap (λ x. equivalent x expected) held' in
+    let swapped = ⊎_elim (λ e. e ∙ same) (λ u. absurd (let e = u.0 in cc)) next.asks.4 in
+    λ i. (held' i, swapped i)
+
+compare_legal : IsLegal four_blocks compare_ended
+unfolding count weak
+compare_legal =
+    opening_fits
+    ▸ comes refl (inr (inr (inr (inl refl))), refl) tt
+    ▸ comes refl ((inl refl, refl, refl), (omega arith, omega arith, omega arith)) tt
+    ▸ comes refl (omega arith, (refl, inr (inl refl, refl, refl)), refl) tt
+    ▸ comes refl (inr (inr (inl refl)), refl) tt
+    ▸ comes refl (
+      omega arith,
+      (refl, inr (inl refl, refl, refl)),
+      (refl, inl (refl, (tt, tt))),
+      refl,
+      inl refl,
+    ) tt
+    ▸ comes refl ((inr (inl refl), refl, refl), refl) tt
+    ▸ comes refl (refl, (λ m lt. refl), refl) refl
+    ▸ comes refl ((inl refl, refl, refl), (record { block = record { 0 = 1 }; field = 0 }, refl, refl, refl)) tt
+    ▸ comes refl ((inl refl, refl, refl), refl) tt
+    ▸ comes refl ((inl refl, refl, refl), refl) tt
+
+-- the field of the first object at a place
+abbrev field_read : Option Place → ℕ
+field_read None = 0
+field_read (Some p) = slice_index (1 ∷ 0 ∷ 0 ∷ 0 ∷ []) p.field
+
+pub failed_compare_hands_out_held : FailedCompareHandsOutHeld
+unfolding count weak
+failed_compare_hands_out_held = (
+  compare_legal,
+  (refl, refl),
+  compare_reply compare_held (owner_at 2 2) (empty Owner),
+  (refl, refl),
+  (λ other next. next.asks.1.3 ∙ ap field_read (sym next.asks.1.1)),
+  refl,
+  refl,
+  vacant compare_ended 2 compare_legal (omega arith) (omega arith) refl,
+  refl,
+  refl,
+  (refl, refl),
+)
+
+reuse_legal : IsLegal four_blocks reuse_ended
+unfolding count weak
+reuse_legal =
+    opening_fits
+    ▸ comes refl (inr (inr (inr (inl refl))), refl) tt
+    ▸ comes refl ((inl refl, refl, refl), refl) tt
+    ▸ comes refl (refl, (λ m lt. refl), refl) refl
+    ▸ comes refl (inl refl, refl) tt
+    ▸ comes refl ((inl refl, refl, refl), (omega arith, omega arith, omega arith)) tt
+    ▸ comes refl (omega arith, (refl, inr (inl refl, refl, refl)), refl) tt
+    ▸ comes refl ((inl refl, refl, refl), (omega arith, omega arith, omega arith)) tt
+    ▸ comes refl (
+      omega arith,
+      (refl, inl (refl, ((omega arith, omega arith, omega arith), tt))),
+      (refl, inr (inl refl, refl, refl)),
+      refl,
+      inl refl,
+    ) tt
+    ▸ comes refl ((inl refl, refl, refl), refl) tt
+    ▸ comes refl ((inl refl, refl, refl), refl, omega arith) tt
+    ▸ comes refl ((inl refl, refl, refl), refl) tt
+    ▸ comes refl ((inl refl, refl, refl), refl) tt
+
+pub block_used_again : BlockUsedAgain
+unfolding count weak
+block_used_again = (
+  reuse_legal,
+  (refl, refl),
+  refl,
+  compare_reply reuse_copied leftover (owner_at 2 1),
+  (refl, refl),
+  refl,
+  refl,
+  refl,
+  refl,
+  refl,
+  (refl, refl),
+)
+
+cycle_legal : IsLegal four_blocks cycle_ended
+unfolding count weak
+cycle_legal =
+    opening_fits
+    ▸ comes refl (inr (inr (inr (inl refl))), refl) tt
+    ▸ comes refl (inr (inr (inl refl)), refl) tt
+    ▸ comes refl ((inl refl, refl, refl), (omega arith, omega arith, omega arith)) tt
+    ▸ comes refl (
+      (omega arith, (owner_at 1 1, (inr (inr (inl refl)), refl, refl), refl)),
+      (refl, inr (inl refl, refl, refl)),
+      refl,
+    ) tt
+    ▸ comes refl ((inr (inl refl), refl, refl), (omega arith, omega arith, omega arith)) tt
+    ▸ comes refl (
+      (omega arith, (owner_at 2 2, (inr (inl refl), refl, refl), refl)),
+      (refl, inr (inl refl, refl, refl)),
+      refl,
+    ) tt
+    ▸ comes refl ((inl refl, refl, refl), refl) tt
+    ▸ comes refl ((inl refl, refl, refl), refl) tt
+
+pub cycle_stays : CycleStays
+unfolding count weak
+cycle_stays = (cycle_legal, (refl, refl), (refl, refl), refl, refl, refl, refl, (refl, refl), (refl, refl))

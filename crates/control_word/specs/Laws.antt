@@ -1,0 +1,119 @@
+-- What holds of every legal history, each said by itself.
+use Rattle.std.specs.Prelude.{◌≡◌, ◌≢◌, ℕ, ◌+◌, ◌<◌, ◌≤◌, ◌↔◌, ◌⊎◌, ◌++◌, true, false, List, length, ◌==◌}
+use Rattle.std.specs.List.{filter}
+use mathlib.Core.Option.{some}
+use lib.ListN.{get_elem?}
+use Rattle.std.specs.Prelude.{slice_index}
+use Rattle.control_word.specs.declared.event.Entry.{Entry}
+use Rattle.control_word.specs.declared.event.Cell.{Cell}
+use Rattle.control_word.specs.declared.event.Cell.TheVariants.{Free, Member}
+use Rattle.control_word.specs.declared.handle.Handle.{Handle}
+use Rattle.control_word.specs.declared.handle.Kind.{Kind}
+use Rattle.control_word.specs.declared.handle.Kind.TheVariants.{Weak}
+use Rattle.control_word.specs.declared.view.View.{View}
+use Rattle.control_word.specs.Handles.{object_of, equivalent, owner_before, IsFormed}
+use Rattle.control_word.specs.Layout.{spot}
+use Rattle.control_word.specs.State.{sum_below, Opening, State, Stored, live, count, weak, weak_number, common, Has, held, bag_size, IsVacant, InShape}
+use Rattle.control_word.specs.Events.{Holds, InHand, cell_of, kind_of}
+use Rattle.control_word.specs.Histories.{leads, IsLegal, given}
+use Rattle.control_word.specs.Packing.{number_of}
+use Rattle.control_word.specs.Words.{blocks_of}
+use Rattle.control_word.specs.Views.{Stands, IsAtRest}
+
+-- how often a block is in stores
+abbrev pub how_often : ℕ → List Stored → ℕ
+how_often b l = length (filter (λ x. x.block == b) l)
+
+-- the cell is one of those that are counted
+abbrev pub IsCell : State → Cell → Type 0
+IsCell s (Free c) = c < s.cells
+IsCell s (Member o m) = m < 3
+
+module _ (V : Type 0) where
+  -- the value of an object comes out at most once, and has come out exactly when the object is no longer live
+  abbrev pub GivesOnce : Type 0
+  GivesOnce =
+      (z : Opening) (h : List (Entry V)) → IsLegal z h → (o : ℕ) → 1 ≤ o → o ≤ (leads z h).made
+      → (given o h ≤ 1) × (given o h ≡ 1 ↔ ((leads z h).object o).phase ≢ live)
+
+  -- an object is live exactly while it has an owner
+  abbrev pub LiveWhileOwned : Type 0
+  LiveWhileOwned = (z : Opening) (h : List (Entry V)) → IsLegal z h → (o : ℕ) → ((leads z h).object o).phase ≡ live ↔ (0 < count (leads z h) o)
+
+  -- a handle that a desk holds names an object that was made, is the latest in its block, and keeps the block from being vacant
+  abbrev pub NamesAnObject : Type 0
+  NamesAnObject =
+      (z : Opening) (h : List (Entry V)) → IsLegal z h → (d : ℕ) (k : Kind) (x : Handle) → Holds (leads z h) d k x
+      → let s = leads z h in let o = object_of x in
+      (1 ≤ o) × (o ≤ s.made) × (s.latest (s.object o).block ≡ o) × InShape z (s.object o).block × (IsVacant s (s.object o).block → ⊥)
+
+  -- a vacant block is in just one store, and no other block is in any
+  abbrev pub StoredOnce : Type 0
+  StoredOnce =
+      (z : Opening) (h : List (Entry V)) → IsLegal z h → (b : ℕ) → InShape z b
+      → let s = leads z h in (how_often b s.stores ≡ 1 ↔ IsVacant s b) × (how_often b s.stores ≤ 1)
+
+  -- handles in bags and in cells are well formed, and those in cells are of the cells' kinds
+  abbrev pub AreFormed : Type 0
+  AreFormed =
+      (z : Opening) (h : List (Entry V)) → IsLegal z h
+      → let s = leads z h in
+      ((d : ℕ) (x : Handle) → Has (held d x) s.hands → IsFormed x)
+      × ((c : Cell) → IsCell s c → IsFormed (cell_of s c) × ((cell_of s c).kind ≡ kind_of s c))
+
+  -- the allowances of desks are the whole together, each desk that isn't joined has one, and holds no more than that
+  abbrev pub AllowancesAddUp : Type 0
+  AllowancesAddUp =
+      (z : Opening) (h : List (Entry V)) → IsLegal z h
+      → let s = leads z h in
+      (sum_below s.names s.allowance ≡ z.allowance)
+      × ((d : ℕ) → d < s.names → s.joined d ≡ false → 0 < s.allowance d)
+      × ((d : ℕ) → bag_size s d ≤ s.allowance d)
+
+  -- the numbers of owners and of weak handles, with the owners' common one, have bounds
+  abbrev pub NumbersFit : Type 0
+  NumbersFit =
+      (z : Opening) (h : List (Entry V)) → IsLegal z h → (o : ℕ)
+      → let s = leads z h in (count s o ≤ 4325630) × (weak_number s o ≤ 4260096)
+
+  -- an object that was once seen without an owner, by a desk with a weak handle of it, never has one again
+  abbrev pub StaysExpired : Type 0
+  StaysExpired =
+      (z : Opening) (later seen : List (Entry V)) → IsLegal z (later ++ seen) → (d : ℕ) (x : Handle) → Holds (leads z seen) d Weak x
+      → count (leads z seen) (object_of x) ≡ 0 → count (leads z (later ++ seen)) (object_of x) ≡ 0
+
+  -- two handles that desks have are equivalent in owner order exactly where they share ownership or are both empty
+  abbrev pub OrdersByOwner : Type 0
+  OrdersByOwner =
+      (z : Opening) (h : List (Entry V)) → IsLegal z h → (d e : ℕ) (k l : Kind) (x y : Handle) → InHand (leads z h) d k x → InHand (leads z h) e l y
+      → let block = blocks_of (leads z h) in
+      ((owner_before block x y ≡ false) × (owner_before block y x ≡ false)) ↔ (x.object ≡ y.object)
+
+  -- a desk that has the whole allowance has seen all
+  abbrev pub SoleHasSeenAll : Type 0
+  SoleHasSeenAll =
+      (z : Opening) (words : List ℕ) (views : List (View V)) (h : List (Entry V)) → Stands z words views h
+      → (i : ℕ) (v : View V) → get_elem? views i ≡ some v → v.spent ≡ false → (leads z v.seen).allowance v.name ≡ z.allowance → v.seen ≡ h
+
+  -- whenever a block is at rest, its owner and weak counts are exactly the handles on it, in desks and cells together
+  abbrev pub RestsExactly : Type 0
+  RestsExactly =
+      (z : Opening) (words : List ℕ) (views : List (View V)) (h : List (Entry V)) → Stands z words views h
+      → (b : ℕ) → InShape z b → IsAtRest (leads z h) views b
+      → let s = leads z h in let o = s.latest b in
+      (number_of (slice_index words (spot b 0)) ≡ count s o) × (number_of (slice_index words (spot b 1)) ≡ weak s o + common (s.object o).phase)
+
+-- owner order is a strict weak order, wherever the objects lie
+abbrev pub IsStrictWeakOrder : Type 0
+IsStrictWeakOrder =
+    (block : ℕ → ℕ)
+    → ((x : Handle) → owner_before block x x ≡ false)
+    × ((x y w : Handle) → owner_before block x y ≡ true → owner_before block y w ≡ true → owner_before block x w ≡ true)
+    × ((x y w : Handle) → owner_before block x w ≡ true → (owner_before block x y ≡ true) ⊎ (owner_before block y w ≡ true))
+
+-- equivalence of handles is an equivalence relation
+abbrev pub IsEquivalence : Type 0
+IsEquivalence =
+    ((x : Handle) → equivalent x x ≡ true)
+    × ((x y : Handle) → equivalent x y ≡ true → equivalent y x ≡ true)
+    × ((x y w : Handle) → equivalent x y ≡ true → equivalent y w ≡ true → equivalent x w ≡ true)

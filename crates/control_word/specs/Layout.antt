@@ -1,0 +1,33 @@
+-- Where words lie in a table, and how large it may be (own).
+use Rattle.std.specs.Prelude.{◌≡◌, ℕ, ◌+◌, ◌-◌, ◌*◌, ◌<◌, ◌≤◌}
+use Rattle.control_word.specs.declared.shape.Shape.{Shape}
+
+-- word k of block b
+abbrev pub spot : ℕ → ℕ → ℕ
+spot b k = 16 * (b - 1) + k
+
+-- free cell c of a table with so many blocks
+abbrev pub cell_place : ℕ → ℕ → ℕ
+cell_place blocks c = 16 * blocks + 8 * c
+
+-- the words of a table
+abbrev pub table_size : Shape → ℕ
+table_size z = 16 * z.blocks + 8 * (z.shared_cells + z.weak_cells)
+
+-- No two words lie at one place: blocks first, then cells, all within the table
+pub record WordsLieApart : Type 0 where
+  pub blocks : (b d j k : ℕ)
+      → 0 < b → 0 < d → j < 16 → k < 16 → spot b j ≡ spot d k → (b ≡ d) × (j ≡ k)
+  pub cells : (n c d : ℕ) → cell_place n c ≡ cell_place n d → c ≡ d
+  pub behind : (n b k c : ℕ) → 0 < b → b ≤ n → k < 16 → spot b k < cell_place n c
+  pub block_within : (z : Shape) (b k : ℕ) → 0 < b → b ≤ z.blocks → k < 16 → spot b k < table_size z
+  pub cell_within : (z : Shape) (c : ℕ)
+      → c < z.shared_cells + z.weak_cells → cell_place z.blocks c < table_size z
+
+-- A domain of this shape can be opened
+pub record IsWithinLimits (z : Shape) : Type 0 where
+  pub some_block : 0 < z.blocks
+  pub blocks : z.blocks ≤ 65535
+  pub cells : z.shared_cells + z.weak_cells ≤ 256
+  pub some_handle : 0 < z.allowance
+  pub allowance : z.allowance ≤ 4194304

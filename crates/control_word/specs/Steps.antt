@@ -1,0 +1,294 @@
+-- The law of each kind of step: where the words stand for a history, and one desk changes one word as the kind says,
+-- they stand for a longer history, or for the same one with a further step of the desk's call. All of it is own.
+use Rattle.std.specs.Prelude.{◌≡◌, ◌≢◌, ℕ, suc, ◌+◌, ◌-◌, ◌*◌, ◌<◌, ◌≤◌, ◌==◌, Bool, true, false, cond, List, [], ◌∷◌, ◌++◌, length, slice_index}
+use Rattle.std.specs.Prelude.{slice_set, replicate, Option, Some, None}
+use mathlib.Core.Option.{some}
+use lib.ListN.{get_elem?}
+use Rattle.control_word.specs.declared.event.Cell.{Cell}
+use Rattle.control_word.specs.declared.event.Cell.TheVariants.{Member}
+use Rattle.control_word.specs.declared.event.Event.{Event}
+use Rattle.control_word.specs.declared.event.Event.TheVariants.{Make, Share, Leave, Count, Expired, Read, WeakShare, WeakLeave, Lock, Load, Swap}
+use Rattle.control_word.specs.declared.event.Event.TheVariants.{Compare, ClearMember, Finish, Visit, Split, Join}
+use Rattle.control_word.specs.declared.event.Entry.{Entry}
+use Rattle.control_word.specs.declared.handle.Handle.{Handle}
+use Rattle.control_word.specs.declared.handle.Kind.{Kind}
+use Rattle.control_word.specs.declared.handle.Kind.TheVariants.{Owner, Weak}
+use Rattle.control_word.specs.declared.place.Place.{Place}
+use Rattle.control_word.specs.declared.place.Block.{Block}
+use Rattle.control_word.specs.declared.view.View.{View}
+use Rattle.control_word.specs.declared.view.Pending.{Pending}
+use Rattle.control_word.specs.declared.view.Pending.TheVariants.{Idle, Making, Paying, Visiting, Parting, Merging}
+use Rattle.control_word.specs.Handles.{handle, owner, weak_of, empty, equivalent, IsPointer}
+use Rattle.control_word.specs.Layout.{spot}
+use Rattle.control_word.specs.Packing.{cell_bits, IsCellWord}
+use Rattle.control_word.specs.State.{Opening, IsOpening, State, Has, held, stored, ending, kind_of_member, count, bag_size, weak_number, HasRoom}
+use Rattle.control_word.specs.Events.{Asks, after, IsOpen, cell_of}
+use Rattle.control_word.specs.Histories.{entry, leads, value}
+use Rattle.control_word.specs.Words.{cell_at, blocks_of, counts_at, flags_of, packed, shown}
+use Rattle.control_word.specs.Views.{Stands, sees_as, stays, comes, together, used_up, fresh, owed}
+
+-- the flags and fields of a block, as its words are
+abbrev pub known_of : List ℕ → ℕ → List ℕ
+known_of words b =
+    slice_index words (spot b 2) ∷ slice_index words (spot b 3) ∷ slice_index words (spot b 4) ∷ slice_index words (spot b 5)
+    ∷ slice_index words (spot b 6) ∷ []
+
+-- a point between two steps, and the desk that makes the next one
+pub record Point (V : Type 0) : Type 0 where
+  pub opening : Opening
+  pub words : List ℕ
+  pub views : List (View V)
+  pub history : List (Entry V)
+  pub seat : ℕ
+  pub view : View V
+
+module _ {V : Type 0} where
+  -- the words stand for the history, and the desk's half-done call is this
+  pub record Ready (at : Point V) (p : Pending V) : Type 0 where
+    pub stands : Stands at.opening at.words at.views at.history
+    pub seated : get_elem? at.views at.seat ≡ some at.view
+    pub awake : at.view.spent ≡ false
+    pub pending : at.view.pending ≡ p
+
+  abbrev pub state : Point V → State
+  state at = leads at.opening at.history
+
+  abbrev pub me : Point V → ℕ
+  me at = at.view.name
+
+  abbrev pub word : Point V → ℕ → ℕ
+  word at k = slice_index at.words k
+
+  -- where handles of this kind of object o are counted
+  abbrev pub counts : Point V → Kind → ℕ → ℕ
+  counts at k o = counts_at (blocks_of (state at)) k o
+
+  -- the desk has this handle, and room for one more
+  abbrev pub Holding : Point V → Kind → ℕ → Option Place → Type 0
+  Holding at k o p = Has (held (me at) (handle k (Some o) p)) (state at).hands
+
+  abbrev pub HasOneMore : Point V → Type 0
+  HasOneMore at = bag_size (state at) (me at) < (state at).allowance (me at)
+
+  -- the event is the desk's next; word k becomes n, and the desk's half-done call p
+  abbrev pub Adds : Point V → ℕ → ℕ → Event V → Pending V → Type 0
+  Adds at k n e p =
+      let h = entry (me at) e ∷ at.history in
+      Stands at.opening (slice_set at.words k n) (slice_set at.views at.seat (sees_as at.view p h)) h
+
+  -- the same by a look, which changes no word
+  abbrev pub Tells : Point V → Event V → Pending V → Type 0
+  Tells at e p = let h = entry (me at) e ∷ at.history in Stands at.opening at.words (slice_set at.views at.seat (sees_as at.view p h)) h
+
+  -- no event: word k becomes n, and the desk's half-done call p
+  abbrev pub Moves : Point V → ℕ → ℕ → Pending V → Type 0
+  Moves at k n p =
+      Stands at.opening (slice_set at.words k n) (slice_set at.views at.seat (sees_as at.view p at.history)) at.history
+
+  -- the handle that goes in or came out has so many funds out on its count
+  abbrev pub purse : (ℕ → ℕ) → Handle → ℕ → Pending V
+  purse block h f = elim (h.object) [ None ↦ Idle | Some o ↦ Paying h.kind o h.place (counts_at block h.kind o) f 0 ]
+
+  -- the cell is open to the desk, or a member of an object that ends in its hands
+  abbrev pub cell_word : Point V → Cell → ℕ
+  cell_word at c = cell_at at.opening (state at) c
+
+module _ (V : Type 0) where
+  -- write an own vacant block's word: the weak word first, then flags and fields, which the desk then knows
+  abbrev pub WritesWeakWord : Type 0
+  WritesWeakWord =
+      (at : Point V) → Ready at Idle → (b : Block) → Has (stored (me at) b.0) (state at).stores
+      → Moves at (spot b.0 1) 1 (Making b (known_of at.words b.0))
+
+  abbrev pub WritesWord : Type 0
+  WritesWord =
+      (at : Point V) (b : Block) (known : List ℕ) → Ready at (Making b known) → length known ≡ 5 → (j n : ℕ) → j < 5
+      → (word at (spot b.0 (2 + j)) ≡ slice_index known j) × Moves at (spot b.0 (2 + j)) n (Making b (slice_set known j n))
+
+  -- claim: the owner word of a prepared block becomes 1, which is the Make
+  abbrev pub Claims : Type 0
+  Claims =
+      (at : Point V) (b : Block) (enabled null : Bool) (fields : List ℕ) (v : V)
+      → Ready at (Making b (flags_of enabled null ∷ fields)) → length fields ≡ 4 → HasOneMore at
+      → Adds at (spot b.0 0) 1 (Make b enabled null fields v) Idle
+
+  -- share: an owner or weak word gets one more
+  abbrev pub Shares : Type 0
+  Shares =
+      (at : Point V) (o : ℕ) (p q : Option Place) → Ready at Idle → Holding at Owner o p → IsPointer q → HasOneMore at
+      → let k = counts at Owner o in Adds at k (suc (word at k)) (Share (owner o p) q) Idle
+
+  abbrev pub WeakShares : Type 0
+  WeakShares =
+      (at : Point V) (o : ℕ) (p : Option Place) → Ready at Idle → 0 < weak_number (state at) o → Asks {V = V} (state at) (me at) (WeakShare o p) → HasOneMore at
+      → let k = counts at Weak o in Adds at k (suc (word at k)) (WeakShare o p) Idle
+
+  -- leave: one less; the last, or vacant, just where the whole word was 1
+  abbrev pub Leaves : Type 0
+  Leaves =
+      (at : Point V) (o : ℕ) (p : Option Place) → Ready at Idle → Holding at Owner o p
+      → let k = counts at Owner o in (0 < word at k) × Adds at k (word at k - 1) (Leave (owner o p) (word at k == 1)) Idle
+
+  abbrev pub WeakLeaves : Type 0
+  WeakLeaves =
+      (at : Point V) (o : ℕ) (p : Option Place) → Ready at Idle → Holding at Weak o p
+      → let k = counts at Weak o in (0 < word at k) × Adds at k (word at k - 1) (WeakLeave (weak_of o p) (word at k == 1)) Idle
+
+  abbrev pub Finishes : Type 0
+  Finishes =
+      (at : Point V) (o : ℕ) (v : V) → Ready at Idle → value at.opening at.history o ≡ Some v → ((state at).object o).phase ≡ ending (me at)
+      → ((m : ℕ) → m < 3 → ((state at).object o).member m ≡ empty (kind_of_member m))
+      → let k = counts at Weak o in (0 < word at k) × Adds at k (word at k - 1) (Finish o (word at k == 1) v) Idle
+
+  -- lock: an owner word that isn't 0 gets one more; one that is 0 is told
+  abbrev pub Locks : Type 0
+  Locks =
+      (at : Point V) (o : ℕ) (p : Option Place) → Ready at Idle → Holding at Weak o p
+      → let k = counts at Owner o in
+      (word at k ≡ 0 → Tells at (Lock (weak_of o p) false) Idle)
+      × (0 < word at k → HasOneMore at → Adds at k (suc (word at k)) (Lock (weak_of o p) true) Idle)
+
+  -- look: use_count tells the number, or 1 where it is 0 and funds are there; exactly the count where no load is under way
+  abbrev pub TellsCount : Type 0
+  TellsCount =
+      (at : Point V) (k : Kind) (o : ℕ) (p : Option Place) (low high : ℕ) → Ready at Idle → Holding at k o p
+      → word at (counts at Owner o) ≡ low + 4294967296 * high → low < 4294967296
+      → let n = cond (low == 0) (cond (high == 0) 0 1) low in
+      Tells at (Count (handle k (Some o) p) n) Idle × (owed at.views (counts at Owner o) ≡ 0 → n ≡ count (state at) o)
+
+  abbrev pub TellsExpired : Type 0
+  TellsExpired =
+      (at : Point V) (o : ℕ) (p : Option Place) → Ready at Idle → Holding at Weak o p
+      → Tells at (Expired (weak_of o p) (word at (counts at Owner o) == 0)) Idle
+
+  abbrev pub Reads : Type 0
+  Reads =
+      (at : Point V) (o : ℕ) (p : Place) → Ready at Idle → Holding at Owner o (Some p) → p.block.0 ≡ ((state at).object o).block → p.field < 4
+      → Tells at (Read (owner o (Some p)) (word at (spot p.block.0 (3 + p.field)))) Idle
+
+  abbrev pub LooksOn : Type 0
+  LooksOn = (at : Point V) → Ready at Idle → Stands at.opening at.words (slice_set at.views at.seat (sees_as at.view Idle at.history)) at.history
+
+  -- a cell's word is the packing of what the cell holds and of how many funds were taken, none of a cell without an object
+  abbrev pub CellsShow : Type 0
+  CellsShow =
+      (at : Point V) (p : Pending V) (c : Cell) → Ready at p → IsOpen (state at) (me at) c
+      → (taken : ℕ) × (let x = shown (blocks_of (state at)) (cell_of (state at) c) taken in (word at (cell_word at c) ≡ cell_bits x) × IsCellWord x)
+      × ((cell_of (state at) c).object ≡ None → taken ≡ 0)
+
+  -- a load, or a compare that differs, of a cell without an object is a look
+  abbrev pub LoadsEmpty : Type 0
+  LoadsEmpty =
+      (at : Point V) (c : Cell) (k : Kind) (p : Option Place) → Ready at Idle → IsOpen (state at) (me at) c → handle k None p ≡ cell_of (state at) c
+      → Tells at (Load c (handle k None p)) Idle
+
+  abbrev pub DiffersEmpty : Type 0
+  DiffersEmpty =
+      (at : Point V) (c : Cell) (k : Kind) (p : Option Place) (expected new : Handle) (weak : Bool) → Ready at Idle
+      → handle k None p ≡ cell_of (state at) c → Asks {V = V} (state at) (me at) (Compare c expected new (handle k None p) false weak)
+      → Tells at (Compare c expected new (handle k None p) false weak) Idle
+
+  -- bring funds: up to 256, under a handle in hand
+  abbrev pub Brings : Type 0
+  Brings =
+      (at : Point V) (k : Kind) (o f : ℕ) (p : Option Place) → Ready at Idle → Holding at k o p → f ≤ 256
+      → let i = counts at k o in Moves at i (word at i + 4294967296 * f) (Paying k o p i f 0)
+
+  -- give funds back
+  abbrev pub GivesBack : Type 0
+  GivesBack =
+      (at : Point V) (k : Kind) (o f : ℕ) (p : Option Place) → let i = counts at k o in Ready at (Paying k o p i f 0)
+      → (4294967296 * f ≤ word at i) × Moves at i (word at i - 4294967296 * f) Idle
+
+  -- take a fund: a load, or a compare that differs, of a cell with an object of which not all funds are taken
+  abbrev pub Takes : Type 0
+  Takes =
+      (at : Point V) (c : Cell) (k : Kind) (o : ℕ) (p : Option Place) → Ready at Idle → handle k (Some o) p ≡ cell_of (state at) c → HasOneMore at
+      → let i = cell_word at c in let load = Paying k o p (counts at k o) 1 1 in word at i < 4398046511104
+      → (IsOpen (state at) (me at) c → Adds at i (word at i + 17179869184) (Load c (handle k (Some o) p)) load)
+      × ((expected new : Handle) (weak : Bool) → Asks {V = V} (state at) (me at) (Compare c expected new (handle k (Some o) p) false weak)
+      → Adds at i (word at i + 17179869184) (Compare c expected new (handle k (Some o) p) false weak) load)
+
+  -- turn a fund: the load that was under way becomes a handle in the number
+  abbrev pub Turns : Type 0
+  Turns =
+      (at : Point V) (k : Kind) (o : ℕ) (p : Option Place) → let i = counts at k o in Ready at (Paying k o p i 1 1)
+      → (4294967295 ≤ word at i) × Moves at i (word at i - 4294967295) Idle
+
+  -- refill: the funds that were brought go into the cell in place of those taken
+  abbrev pub Refills : Type 0
+  Refills =
+      (at : Point V) (c : Cell) (k : Kind) (o t : ℕ) (p q : Option Place) → Ready at (Paying k o p (counts at k o) t 0)
+      → IsOpen (state at) (me at) c → handle k (Some o) q ≡ cell_of (state at) c
+      → let i = cell_word at c in word at i ≡ packed (blocks_of (state at)) (handle k (Some o) q) + 17179869184 * t
+      → Moves at i (word at i - 17179869184 * t) Idle
+
+  -- swap a cell: the new value with 256 funds goes in, the old one comes out with those that were not taken
+  abbrev pub Swaps : Type 0
+  Swaps =
+      (at : Point V) (c : Cell) (new : Handle) → let s = state at in let old = cell_of s c in
+      Ready at (purse (blocks_of s) new 256) → Asks {V = V} s (me at) (Swap c new old) → HasRoom (after {V = V} s (me at) (Swap c new old)) (me at)
+      → (taken : ℕ) → let i = cell_word at c in word at i ≡ packed (blocks_of s) old + 17179869184 * taken
+      → Adds at i (packed (blocks_of s) new) (Swap c new old) (purse (blocks_of s) old (256 - taken))
+
+  -- compare and swap a cell
+  abbrev pub CompareSwaps : Type 0
+  CompareSwaps =
+      (at : Point V) (c : Cell) (expected new : Handle) (weak : Bool) → let s = state at in let old = cell_of s c in
+      Ready at (purse (blocks_of s) new 256) → equivalent old expected ≡ true → Asks {V = V} s (me at) (Compare c expected new old true weak)
+      → HasRoom (after {V = V} s (me at) (Compare c expected new old true weak)) (me at)
+      → (taken : ℕ) → let i = cell_word at c in word at i ≡ packed (blocks_of s) old + 17179869184 * taken
+      → Adds at i (packed (blocks_of s) new) (Compare c expected new old true weak) (purse (blocks_of s) old (256 - taken))
+
+  -- a member of an ending object is swapped for nothing
+  abbrev pub Clears : Type 0
+  Clears =
+      (at : Point V) (o m : ℕ) → let s = state at in let old = (s.object o).member m in
+      Ready at Idle → (s.object o).phase ≡ ending (me at) → m < 3 → HasRoom (after {V = V} s (me at) (ClearMember o m old)) (me at)
+      → (taken : ℕ) → let i = cell_word at (Member o m) in word at i ≡ packed (blocks_of s) old + 17179869184 * taken
+      → Adds at i 0 (ClearMember o m old) (purse (blocks_of s) old (256 - taken))
+
+  -- shut a door that is found open, and open it: the visit
+  abbrev pub Shuts : Type 0
+  Shuts =
+      (at : Point V) (o : ℕ) (p : Option Place) (v : V) → Ready at Idle → Holding at Owner o p → value at.opening at.history o ≡ Some v
+      → let k = spot (blocks_of (state at) o) 2 in
+      (word at k < 8) × (word at k < 4 → Moves at k (word at k + 4) (Visiting o p k v))
+
+  abbrev pub Opens : Type 0
+  Opens =
+      (at : Point V) (o : ℕ) (p : Option Place) (was becomes : V) → let k = spot (blocks_of (state at) o) 2 in Ready at (Visiting o p k was)
+      → (4 ≤ word at k) × Adds at k (word at k - 4) (Visit (owner o p) was becomes) Idle
+
+  -- the look of a split, and the cut of the view that follows it
+  abbrev pub Splits : Type 0
+  Splits =
+      (at : Point V) (to n : ℕ) (hs : List Handle) (bs : List Block) → Ready at Idle → Asks {V = V} (state at) (me at) (Split to n hs bs)
+      → HasRoom (after {V = V} (state at) (me at) (Split to n hs bs)) (me at) → Tells at (Split to n hs bs) (Parting to)
+
+  abbrev pub CutsView : Type 0
+  CutsView =
+      (at : Point V) (to : ℕ) → Ready at (Parting to)
+      → Stands at.opening at.words (slice_set at.views at.seat (stays at.view) ++ comes at.view to ∷ []) at.history
+
+  -- two views become one, and the look of a join that follows
+  abbrev pub MergesViews : Type 0
+  MergesViews =
+      (at : Point V) (j : ℕ) (w : View V) → Ready at Idle → get_elem? at.views j ≡ some w → at.seat ≢ j → w.spent ≡ false → w.pending ≡ Idle
+      → Stands at.opening at.words (slice_set (slice_set at.views at.seat (together at.view w)) j used_up) at.history
+
+  abbrev pub Joins : Type 0
+  Joins =
+      (at : Point V) (other : ℕ) (mine others : List (Entry V)) → Ready at (Merging other mine others) → Tells at (Join other) Idle
+
+  -- at the start all words are 0
+  abbrev pub Begins : Type 0
+  Begins = (z : Opening) → IsOpening z → Stands z (replicate (16 * z.blocks + 8 * z.cells) 0) (fresh {V = V} 0 z.desks) []
+
+  -- No carry and no wrap: on the counts of an object that is there, is ending or has weak handles, the number may grow by one
+  -- and the funds by 256, within their halves and the word
+  abbrev pub HasHeadroom : Type 0
+  HasHeadroom =
+      (at : Point V) (p : Pending V) → Ready at p → (k : Kind) (o : ℕ) → 0 < weak_number (state at) o
+      → let i = counts at k o in (word at i + 1099511627776 < 18446744073709551616)
+      × ((low high : ℕ) → word at i ≡ low + 4294967296 * high → low < 4294967296 → (low + 1 < 4294967296) × (high + 256 < 4294967296))

@@ -1,0 +1,94 @@
+-- How the words show a state. All of it is own.
+use Rattle.std.specs.Prelude.{◌≡◌, ℕ, suc, ◌+◌, ◌-◌, ◌*◌, ◌<◌, ◌≤◌, ◌==◌, Bool, cond, ◌⊎◌, List, [], ◌∷◌, length, slice_index, Option, Some, None}
+use Rattle.control_word.specs.declared.handle.Kind.{Kind}
+use Rattle.control_word.specs.declared.handle.Kind.TheVariants.{Owner, Weak}
+use Rattle.control_word.specs.declared.handle.Handle.{Handle}
+use Rattle.control_word.specs.declared.place.Place.{Place}
+use Rattle.control_word.specs.declared.place.Block.{Block}
+use Rattle.control_word.specs.declared.cell.CellWord.{CellWord}
+use Rattle.control_word.specs.declared.event.Cell.{Cell}
+use Rattle.control_word.specs.declared.event.Cell.TheVariants.{Free, Member}
+use Rattle.control_word.specs.Layout.{spot, cell_place}
+use Rattle.control_word.specs.State.{sum_below, Opening, Object, State, count, weak_number, IsVacant, InShape}
+
+-- the word of free cell c
+abbrev pub cell_spot : Opening → ℕ → ℕ
+cell_spot z c = cell_place z.blocks c
+
+-- where a cell's word lies
+abbrev pub cell_at : Opening → State → Cell → ℕ
+cell_at z s (Free c) = cell_spot z c
+cell_at z s (Member o m) = spot (s.object o).block (7 + m)
+
+abbrev pub place_bits : Option Place → ℕ
+place_bits None = 0
+place_bits (Some p) = 65536 * p.block.0 + 4294967296 * p.field
+
+abbrev pub owned_bits : (ℕ → ℕ) → Option ℕ → ℕ
+owned_bits block None = 0
+owned_bits block (Some o) = block o
+
+-- a cell's word with no fund taken; `block` tells where an object is
+unfoldable pub packed : (ℕ → ℕ) → Handle → ℕ
+packed block h = owned_bits block h.object + place_bits h.place
+
+-- what a cell with this handle and so many funds taken shows
+abbrev pub block_of : (ℕ → ℕ) → Option ℕ → Option Block
+block_of block None = None
+block_of block (Some o) = Some record { 0 = block o }
+
+abbrev pub shown : (ℕ → ℕ) → Handle → ℕ → CellWord
+shown block h t = record { owned = block_of block h.object; place = h.place; taken = t }
+
+abbrev pub blocks_of : State → ℕ → ℕ
+blocks_of s o = (s.object o).block
+
+abbrev pub flags_of : Bool → Bool → ℕ
+flags_of enabled null = cond enabled 1 0 + cond null 2 0
+
+-- flags, four fields and three members of an object
+unfoldable pub object_words : (ℕ → ℕ) → Object → List ℕ
+object_words block x =
+    flags_of x.enabled x.null
+    ∷ slice_index x.fields 0 ∷ slice_index x.fields 1 ∷ slice_index x.fields 2 ∷ slice_index x.fields 3
+    ∷ packed block (x.member 0) ∷ packed block (x.member 1) ∷ packed block (x.member 2) ∷ []
+
+-- the ten words of a block
+abbrev pub block_words : State → ℕ → List ℕ
+block_words s b = let o = s.latest b in count s o ∷ weak_number s o ∷ object_words (blocks_of s) (s.object o)
+
+-- the flags and fields of a vacant block may be anything
+abbrev pub IsLoose : State → ℕ → ℕ → Type 0
+IsLoose s b k = (2 ≤ k) × (k ≤ 6) × IsVacant s b
+
+-- the word that counts handles of this kind of the object
+abbrev pub slot : Kind → ℕ
+slot Owner = 0
+slot Weak = 1
+
+abbrev pub counts_at : (ℕ → ℕ) → Kind → ℕ → ℕ
+counts_at block k o = spot (block o) (slot k)
+
+-- the funds that a cell with this handle keeps on word i, with t of them taken
+abbrev pub worth : (ℕ → ℕ) → Handle → ℕ → ℕ → ℕ
+worth block h t i = elim (h.object) [ None ↦ 0 | Some o ↦ cond (i == counts_at block h.kind o) (256 - t) 0 ]
+
+abbrev pub member_funds : (ℕ → ℕ) → (ℕ → ℕ) → Object → ℕ → ℕ
+member_funds block taken x i =
+    worth block (x.member 0) (taken (spot x.block 7)) i + worth block (x.member 1) (taken (spot x.block 8)) i + worth block (x.member 2) (taken (spot x.block 9)) i
+
+-- the funds that all cells keep on word i; taken j is how many were taken of the cell whose word is j
+unfoldable pub bank : Opening → State → (ℕ → ℕ) → ℕ → ℕ
+bank z s taken i =
+    sum_below s.cells (λ c. worth (blocks_of s) (s.cell c) (taken (cell_spot z c)) i)
+    + sum_below (suc s.made) (λ o. member_funds (blocks_of s) taken (s.object o) i)
+
+-- what the state says of word k of block b, less what is owed to it, with what was brought to it
+abbrev pub Says : State → (ℕ → ℕ) → (ℕ → ℕ) → ℕ → ℕ → ℕ → Type 0
+Says s owed more b k n = IsLoose s b k ⊎ (n + owed (spot b k) ≡ slice_index (block_words s b) k + more (spot b k))
+
+-- each word is what the state says, but for what is owed to it and what is on it besides
+pub record Shows (z : Opening) (words : List ℕ) (owed more : ℕ → ℕ) (s : State) : Type 0 where
+  pub sized : length words ≡ 16 * z.blocks + 8 * z.cells
+  pub blocks : (b k : ℕ) → InShape z b → k < 10 → Says s owed more b k (slice_index words (spot b k))
+  pub free : (c : ℕ) → c < z.cells → slice_index words (cell_spot z c) ≡ packed (blocks_of s) (s.cell c) + more (cell_spot z c)

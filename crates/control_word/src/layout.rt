@@ -1,0 +1,80 @@
+//! Where words lie in a table: block after block, then the free cells.
+//!
+//! | word of a block | holds |
+//! |---|---|
+//! | 0 | `OWNERS`: number and funds of the owners |
+//! | 1 | `WEAKS`: the same of the weak handles, with 1 more while the object is live or ending |
+//! | 2 | `FLAGS` |
+//! | 3 to 6 | `FIELDS`: fields 0 to 3 |
+//! | 7, 8, 9 | `MEMBERS`: the cells `first`, `next` and `up` |
+//!
+//! A vacant block has 0 in its counts and members; its flags and fields may be anything.
+ghost use Rattle.std.specs.Prelude.{◌≡◌, ◌<◌};
+ghost use Rattle.control_word.specs.Layout.{WordsLieApart, cell_place, spot, table_size};
+
+use crate::place::Block;
+use crate::shape::Shape;
+
+/// Words from a block to the next: ten used and six that stay 0, so that a count never shares a
+/// cache line with another block.
+pub const BLOCK_STRIDE: usize = 16;
+/// Words from a free cell to the next: one used and seven that stay 0, for the same reason.
+pub const CELL_STRIDE: usize = 8;
+/// Words of a block that are used.
+pub const BLOCK_WORDS: usize = 10;
+
+/// Word of a block: the owners, as a `Count`.
+pub const OWNERS: usize = 0;
+/// Word of a block: the weak handles, as a `Count`.
+pub const WEAKS: usize = 1;
+/// Word of a block: the flags.
+///
+/// | bit | flag | is set |
+/// |---|---|---|
+/// | 0 | `ENABLED` | where the object gives pointers to itself ([util.smartptr.enab]) |
+/// | 1 | `NULL` | where the owned pointer is null, and all fields are 0 |
+/// | 2 | `DOOR` | while a visit of the object's value is under way, and others wait |
+/// | 3 to 63 | | never |
+pub const FLAGS: usize = 2;
+/// First of four words of a block: the object's fields.
+pub const FIELDS: usize = 3;
+/// First of three words of a block: the object's member cells, each as a `CellWord`.
+pub const MEMBERS: usize = 7;
+
+/// Flag: the object has the from-this flag.
+pub const ENABLED: u64 = 1;
+/// Flag: the owned pointer is null.
+pub const NULL: u64 = 2;
+/// Flag: the door of `visit` is shut.
+pub const DOOR: u64 = 4;
+
+/// Where a word of a block lies (own). Conditions: blocks are from 1 on, words below the stride.
+#[inline]
+pub fn block_word(block: Block, word: usize) -> usize
+    requires block { 0 < block.0 }
+    requires word { word < 16 }
+    ensures { result ≡ spot block.0 word }
+{
+    BLOCK_STRIDE * (usize::from(block.0) - 1) + word
+}
+
+/// Where a free cell lies (own), by its number from 0, in a table of so many blocks.
+#[inline]
+pub fn cell_word(blocks: u32, cell: u32) -> usize
+    ensures { result ≡ cell_place blocks cell }
+{
+    BLOCK_STRIDE * blocks as usize + CELL_STRIDE * cell as usize
+}
+
+/// How many words a table of this shape has (own).
+pub fn table_words(shape: &Shape) -> usize
+    ensures { result ≡ table_size shape.now }
+{
+    let cells = shape.shared_cells as usize + shape.weak_cells as usize;
+    BLOCK_STRIDE * shape.blocks as usize + CELL_STRIDE * cells
+}
+
+/// Of the layout (own): no two words lie at one place, and each lies within its table.
+pub fn words_lie_apart()
+    ensures { WordsLieApart }
+{}

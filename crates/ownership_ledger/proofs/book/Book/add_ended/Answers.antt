@@ -1,0 +1,12 @@
+use Rattle.std.proofs.Common.{arith, ◌<◌, sym, ap, ◌∙◌, subst}
+use Rattle.ownership_ledger.proofs.Add.{adds_ended}
+use Rattle.ownership_ledger.proofs.book.Book.add_ended.Goals as goal
+
+pub fetch_add-requires : goal.fetch_add-requires
+fetch_add-requires c =
+    let seat = c.share.inside.seat in
+    let room = subst (λ s. s.own.ended < 4294967295) (sym c.share.view_is) c.requires.room in (
+      ap (λ s. s.book) c.share.view_is ∙ (c.requires.book ∙ sym (ap (λ b. b.id) c.self.view_is)),
+      omega (arith, c.self.invariant.words),
+      adds_ended c.self.inside.table.shared.key _ _ seat.me c.share.invariant.one_part room,
+    )
