@@ -1,0 +1,71 @@
+-- Writes one after the other.
+use Rattle.std.proofs.Common.{◌≡◌, ℕ, ◌-◌, List, [], ◌++◌, length, take, drop, Option, Some, None, Result, Ok, Err, sym, ap, ◌∙◌, append_assoc}
+use Rattle.std.specs.Io.KnownBytes.{Appends, Keeps}
+use Rattle.std.specs.Prelude.{OnErr}
+use Rattle.std.proofs.lemmas.List.{append-nil, take-append-drop, take_rest}
+use Rattle.script_stepper.specs.Sinks.{AppendsBeginning}
+
+-- what was taken so far, and what is left
+pub record Progress (old new : Option (List ℕ)) (bs rest : List ℕ) : Type 0 where
+  pub front : List ℕ
+  pub text : bs ≡ front ++ rest
+  pub took : Appends old new front
+
+pub Appends-then : (a b c : Option (List ℕ)) (xs ys : List ℕ) → Appends a b xs → Appends b c ys → Appends a c (xs ++ ys)
+Appends-then None b c xs ys h k = tt
+Appends-then (Some xa) None c xs ys h k = absurd h
+Appends-then (Some xa) (Some bs) None xs ys h k = absurd k
+Appends-then (Some xa) (Some bs) (Some cs) xs ys h k = k ∙ ap (λ (l : List ℕ). l ++ ys) h ∙ append_assoc xa xs ys
+
+pub Appends-none : (a : Option (List ℕ)) → Appends a a []
+Appends-none None = tt
+Appends-none (Some xa) = sym (append-nil xa)
+
+pub Appends-kept : (a b : Option (List ℕ)) → Keeps a b → Appends a b []
+Appends-kept None b h = tt
+Appends-kept (Some xa) None h = absurd h
+Appends-kept (Some xa) (Some bs) h = h ∙ sym (append-nil xa)
+
+-- a piece of what is left
+pub more : (a b c : Option (List ℕ)) (bs rest : List ℕ) (n : ℕ) → Progress a b bs rest → Appends b c (take n rest) → Progress a c bs (drop n rest)
+more a b c bs rest n p h = record {
+  front = p.front ++ take n rest;
+  text = p.text ∙ ap (λ (l : List ℕ). p.front ++ l) (sym (take-append-drop n rest)) ∙ sym (append_assoc p.front (take n rest) (drop n rest));
+  took = Appends-then a b c p.front (take n rest) p.took h;
+}
+
+pub cut_off : (a b c : Option (List ℕ)) (bs rest : List ℕ) → Progress a b bs rest → Keeps b c → AppendsBeginning a c bs
+cut_off a b c bs rest p h = record {
+  front = p.front;
+  rest = rest;
+  text = p.text;
+  took = by_kept (Appends-then a b c p.front [] p.took (Appends-kept b c h));
+}
+  where
+    by_kept : Appends a c (p.front ++ []) → Appends a c p.front
+    by_kept k = rw append-nil at k
+
+-- a part that was written in full, and then one of which a beginning was
+pub beginning_then : (a b c : Option (List ℕ)) (xs ys : List ℕ) → Appends a b xs → AppendsBeginning b c ys → AppendsBeginning a c (xs ++ ys)
+beginning_then a b c xs ys h k = record {
+  front = xs ++ k.front;
+  rest = k.rest;
+  text = ap (λ (l : List ℕ). xs ++ l) k.text ∙ sym (append_assoc xs k.front k.rest);
+  took = Appends-then a b c xs k.front h k.took;
+}
+
+-- a beginning of the first part is one of the whole
+pub beginning_of_more : (a b : Option (List ℕ)) (xs ys : List ℕ) → AppendsBeginning a b xs → AppendsBeginning a b (xs ++ ys)
+beginning_of_more a b xs ys k = record {
+  front = k.front;
+  rest = k.rest ++ ys;
+  text = ap (λ (l : List ℕ). l ++ ys) k.text ∙ append_assoc k.front k.rest ys;
+  took = k.took;
+}
+
+pub more_rest : (a b c : Option (List ℕ)) (bs rest : List ℕ) (n : ℕ) → Progress a b bs rest → Appends b c (take n rest) → Progress a c bs (take (length rest - n) (drop n rest))
+more_rest a b c bs rest n p h = rw (take_rest rest n) (more a b c bs rest n p h)
+
+pub on_err_from : {T E P : Type 0} (r : Result T E) → P → OnErr r P
+on_err_from (Ok x) p = tt
+on_err_from (Err e) p = p

@@ -1,0 +1,14 @@
+use Rattle.std.proofs.Common.{◌≡◌, ◌+◌, ◌≤◌, length}
+use Rattle.std.specs.List.{slice_split}
+use Rattle.script_stepper.specs.TurnLists.{is_comma, turns_from, list_at}
+use Rattle.script_stepper.proofs.TurnLemmas.{with_front}
+use Rattle.script_stepper.proofs.turns.turns_of.Given as goal
+
+abbrev pub invariant-loop-word : goal.invariant-loop-word
+invariant-loop-word l = record {
+  read : with_front l.turns.items (turns_from l.threads l.place (slice_split is_comma l.rest)) ≡ list_at l.threads l.text;
+  number : l.place + length l.rest ≤ 1 + length l.text;
+}
+
+abbrev pub decreases-loop-word : goal.decreases-loop-word
+decreases-loop-word l = length l.rest

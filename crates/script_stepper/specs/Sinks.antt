@@ -1,0 +1,15 @@
+-- What a sink takes.
+use Rattle.std.specs.Prelude.{◌≡◌, ℕ, ◌++◌, ◌==◌, ◌&&◌, Bool, true, List, length, Option, Result, Ok, Err, nat_lt}
+use Rattle.std.specs.Io.KnownBytes.{Appends}
+
+-- an error, or 0 bytes taken of some
+abbrev pub write_fails : {E : Type 0} → Result ℕ E → List ℕ → Bool
+write_fails (Ok n) bytes = n == 0 && nat_lt 0 (length bytes)
+write_fails (Err e) bytes = true
+
+-- known bytes grow by a beginning of bs
+pub record AppendsBeginning (old new : Option (List ℕ)) (bs : List ℕ) : Type 0 where
+  pub front : List ℕ
+  pub rest : List ℕ
+  pub text : bs ≡ front ++ rest
+  pub took : Appends old new front

@@ -1,0 +1,155 @@
+-- A script that was read is within the limits, and its calls are well named.
+use Rattle.std.proofs.Common.{◌≡◌, ℕ, ◌+◌, ◌<◌, ◌≤◌, List, [], ◌∷◌, ◌++◌, length, refl, ap, subst, ◌∙◌, arith, length-append}
+use Rattle.std.specs.Prelude.{sum_by}
+use Rattle.std.specs.List.{AllByRecursion}
+use Rattle.std.proofs.lemmas.List.{map-append, length-map}
+use Rattle.std.proofs.lemmas.List.Elements.{All-from_recursion}
+use Rattle.std.proofs.lemmas.List.Sums.{sum_by-append, sum_by-cons}
+use Rattle.step_core.specs.declared.call.Call.{Call}
+use Rattle.step_core.specs.declared.call.Kind.{Kind}
+use Rattle.step_core.specs.declared.call.Name.{Name}
+use Rattle.step_core.specs.Programs.{Part, names_of, IsDeclared, IsWellNamed, IsPart}
+use Rattle.script_text.specs.Names.{NameList}
+use Rattle.script_text.specs.Drafts.{Section, Draft, new_draft, sections, no_section, with_call}
+use Rattle.script_text.specs.Grammar.{Leads, Begins}
+use Rattle.script_text.specs.Scripts.{kinds_in, part_in, program_in, statement_count, IsScript}
+use Rattle.script_text.proofs.ReadNames.{slice_get-more, Grows}
+use Rattle.script_text.proofs.Changes.{with_thread, IsAdded, Change, skipped, began, added, line_change}
+use Rattle.script_text.proofs.RoundTrip.{round_trip}
+
+-- each name of the call is declared, by recursion
+abbrev AreDeclared : List Kind → Call → Type 0
+AreDeclared kinds c = AllByRecursion (IsDeclared kinds) (names_of c)
+
+-- ---- parts
+
+each_named : (kinds : List Kind) (calls : List Call) → AllByRecursion (AreDeclared kinds) calls
+    → AllByRecursion (IsWellNamed kinds) calls
+each_named kinds [] h = tt
+each_named kinds (c ∷ calls) h =
+    (All-from_recursion (IsDeclared kinds) (names_of c) h.0, each_named kinds calls h.1)
+
+part_is : (s : Section) → length s.names ≤ 32 → AllByRecursion (AreDeclared (kinds_in s.names)) s.calls
+    → IsPart (part_in s)
+part_is s few named = record {
+  few = omega (arith, few, length-map s.names (λ (name : List ℕ × Kind). name.1));
+  named =
+      All-from_recursion (IsWellNamed (kinds_in s.names)) s.calls
+      (each_named (kinds_in s.names) s.calls named);
+}
+
+parts-last : (ss : List Section) (s : Section) → AllByRecursion IsPart (program_in ss) → IsPart (part_in s)
+    → AllByRecursion IsPart (program_in (ss ++ s ∷ []))
+parts-last [] s h k = (k, tt)
+parts-last (x ∷ ss) s h k = (h.0, parts-last ss s h.1 k)
+
+count-last : (ss : List Section) (s : Section)
+    → statement_count (ss ++ s ∷ []) ≡ statement_count ss + length s.calls
+count-last ss s =
+    let size : Part → ℕ = λ part. length part.calls in
+    let one : sum_by size (part_in s ∷ []) ≡ length s.calls =
+    omega (arith, sum_by-cons size (part_in s) []) in
+    ap (sum_by size) (map-append part_in ss (s ∷ [])) ∙ sum_by-append size (program_in ss) (part_in s ∷ [])
+    ∙ ap (λ n. statement_count ss + n) one
+
+-- ---- more names
+
+declared_more : (kinds more : List Kind) (asked : List (Name × Kind))
+    → AllByRecursion (IsDeclared kinds) asked → AllByRecursion (IsDeclared (kinds ++ more)) asked
+declared_more kinds more [] h = tt
+declared_more kinds more (a ∷ asked) h =
+    (slice_get-more kinds more a.0.0 a.1 h.0, declared_more kinds more asked h.1)
+
+named_more : (kinds more : List Kind) (calls : List Call) → AllByRecursion (AreDeclared kinds) calls
+    → AllByRecursion (AreDeclared (kinds ++ more)) calls
+named_more kinds more [] h = tt
+named_more kinds more (c ∷ calls) h =
+    (declared_more kinds more (names_of c) h.0, named_more kinds more calls h.1)
+
+named_grown : (names new : NameList) (calls : List Call) → Grows names new
+    → AllByRecursion (AreDeclared (kinds_in names)) calls
+    → AllByRecursion (AreDeclared (kinds_in new)) calls
+named_grown names new calls g h =
+    let kinds : kinds_in new ≡ kinds_in names ++ kinds_in g.more =
+    ap kinds_in g.grown ∙ map-append (λ (name : List ℕ × Kind). name.1) names g.more in
+    rw kinds (named_more (kinds_in names) (kinds_in g.more) calls h)
+
+named-last : (kinds : List Kind) (calls : List Call) (c : Call) → AllByRecursion (AreDeclared kinds) calls
+    → AreDeclared kinds c → AllByRecursion (AreDeclared kinds) (calls ++ c ∷ [])
+named-last kinds [] c h k = (k, tt)
+named-last kinds (x ∷ calls) c h k = (h.0, named-last kinds calls c h.1 k)
+
+-- ---- what stays true from line to line
+
+-- the script so far is within the limits, and its calls are well named
+record IsBounded (d : Draft) : Type 0 where
+  count : d.count ≡ statement_count (sections d)
+  calls : d.count ≤ 65536
+  threads : length d.done ≤ 15
+  parts : AllByRecursion IsPart (program_in d.done)
+  few : length d.current.names ≤ 32
+  named : AllByRecursion (AreDeclared (kinds_in d.current.names)) d.current.calls
+
+begun_bounded : (d : Draft) → length d.done < 15 → IsBounded d → IsBounded (with_thread d)
+begun_bounded d room b = record {
+  count = omega (arith, b.count, count-last (d.done ++ d.current ∷ []) no_section);
+  calls = b.calls;
+  threads = omega (arith, room, length-append d.done (d.current ∷ []));
+  parts = parts-last d.done d.current b.parts (part_is d.current b.few b.named);
+  few = omega arith;
+  named = tt;
+}
+
+added_bounded : (d e : Draft) (a : IsAdded d e) → IsBounded d → IsBounded (with_call d (a.call, a.names))
+added_bounded d e a b = record {
+  count =
+      omega (
+        arith,
+        b.count,
+        count-last d.done d.current,
+        count-last d.done (with_call d (a.call, a.names)).current,
+        length-append d.current.calls (a.call ∷ []),
+      );
+  calls = omega (arith, a.room);
+  threads = b.threads;
+  parts = b.parts;
+  few = a.rewrites.grows.few b.few;
+  named =
+      named-last (kinds_in a.names) d.current.calls a.call
+      (named_grown d.current.names a.names d.current.calls a.rewrites.grows b.named) a.rewrites.named;
+}
+
+change_bounded : (d e : Draft) → Change d e → IsBounded d → IsBounded e
+change_bounded d e (skipped same) b = subst IsBounded same b
+change_bounded d e (began room same) b = subst IsBounded same (begun_bounded d room b)
+change_bounded d e (added a) b = subst IsBounded a.now (added_bounded d e a b)
+
+lines_bounded : (lines : List (List ℕ)) (d e : Draft) → Leads d lines e → IsBounded d → IsBounded e
+lines_bounded [] d e h b = subst IsBounded h b
+lines_bounded (line ∷ lines) d e h b =
+    lines_bounded lines h.0 e h.2 (change_bounded d h.0 (line_change d h.0 line h.1) b)
+
+start : IsBounded new_draft
+start =
+    record
+    { count = refl; calls = omega arith; threads = omega arith; parts = tt; few = omega arith; named = tt }
+
+pub script_is : (bytes : List ℕ) (d : Draft) (number : ℕ) → Begins bytes d number []
+    → IsScript (sections d) d.count
+script_is bytes d number h =
+    let b = lines_bounded h.lines new_draft d h.leads start in
+    let threads : length (sections d) ≡ length d.done + 1 = length-append d.done (d.current ∷ []) in
+    let parts : length (program_in (sections d)) ≡ length (sections d) = length-map (sections d) part_in in
+    record {
+      reads = round_trip bytes d number h;
+      counted = b.count;
+      threads = omega (arith, threads, b.threads);
+      program = record {
+        some = omega (arith, threads, parts);
+        actors = omega (arith, threads, parts, b.threads);
+        calls = omega (arith, b.count, b.calls);
+        each =
+            All-from_recursion IsPart (program_in (sections d))
+            (parts-last d.done d.current b.parts (part_is d.current b.few b.named));
+      };
+    }

@@ -1,0 +1,15 @@
+pub mod WordLemmas
+pub mod NameLemmas
+pub mod ShapeLemmas
+pub mod LineLemmas
+pub mod GrammarLemmas
+pub mod OneReading
+pub mod TidyWords
+pub mod ReadNames
+pub mod ReadNumbers
+pub mod Reversible
+pub mod Rewrites
+pub mod Changes
+pub mod RoundTrip
+pub mod Bounds
+pub mod PrintLemmas

@@ -1,0 +1,89 @@
+-- Lines with their line feeds, one after the other.
+use Rattle.std.proofs.Common.{◌≡◌, ℕ, ◌-◌, ◌≤◌, List, [], ◌∷◌, ◌++◌, length, map, take, drop, get_or, refl, sym, ap, ◌∙◌, arith, append_assoc}
+use Rattle.std.specs.Prelude.{decimal}
+use Rattle.std.specs.List.{flat_map}
+use Rattle.std.proofs.lemmas.List.{append-nil, take_all, take_rest}
+use Rattle.std.proofs.lemmas.List.Concat.{flat_map-cons}
+use Rattle.script_text.specs.declared.thread.Thread.{Thread}
+use Rattle.script_text.specs.Drafts.{section_of}
+use Rattle.script_text.specs.Grammar.{ended}
+use Rattle.script_text.specs.Canonical.{number_after, spaced, section_lines, begun_lines, canonical}
+
+-- a line with its line feed
+abbrev pub with_feed : List ℕ → List ℕ
+with_feed line = line ++ 10 ∷ []
+
+pub ended-append : (xs ys : List (List ℕ)) → ended (xs ++ ys) ≡ ended xs ++ ended ys
+ended-append [] ys = refl
+ended-append (x ∷ xs) ys =
+    ap (λ (t : List ℕ). x ++ 10 ∷ t) (ended-append xs ys) ∙ sym (append_assoc x (10 ∷ ended xs) (ended ys))
+
+pub ended-map : {A : Type 0} (f : A → List ℕ) (xs : List A)
+    → ended (map f xs) ≡ flat_map (λ x. with_feed (f x)) xs
+ended-map f [] = refl
+ended-map f (x ∷ xs) =
+    sym (append_assoc (f x) (10 ∷ []) (ended (map f xs)))
+    ∙ ap (λ (t : List ℕ). with_feed (f x) ++ t) (ended-map f xs)
+    ∙ sym (flat_map-cons (λ y. with_feed (f y)) x xs)
+
+pub ended-flat_map : {A : Type 0} (f : A → List (List ℕ)) (xs : List A)
+    → ended (flat_map f xs) ≡ flat_map (λ x. ended (f x)) xs
+ended-flat_map f [] = refl
+ended-flat_map f (x ∷ xs) =
+    ap ended (flat_map-cons f x xs) ∙ ended-append (f x) (flat_map f xs)
+    ∙ ap (λ (t : List ℕ). ended (f x) ++ t) (ended-flat_map f xs)
+    ∙ sym (flat_map-cons (λ y. ended (f y)) x xs)
+
+pub spaced-numbers : (word : List ℕ) (numbers : List ℕ)
+    → spaced (word ∷ map decimal numbers) ≡ word ++ flat_map number_after numbers
+spaced-numbers word [] = sym (append-nil word)
+spaced-numbers word (n ∷ numbers) =
+    ap (λ (t : List ℕ). word ++ 32 ∷ t) (spaced-numbers (decimal n) numbers)
+    ∙ ap (λ (t : List ℕ). word ++ t) (sym (flat_map-cons number_after n numbers))
+
+-- two words, numbers and a line feed, one after the other, are the line of all these words
+pub fields_line : (text first second : List ℕ) (numbers : List ℕ)
+    → ((text ++ (first ++ 32 ∷ second)) ++ flat_map number_after numbers) ++ 10 ∷ [] ≡ text ++ ended
+    (spaced (first ∷ second ∷ map decimal numbers) ∷ [])
+fields_line text first second numbers =
+    let more : List ℕ = flat_map number_after numbers in
+    append_assoc (text ++ (first ++ 32 ∷ second)) more (10 ∷ [])
+    ∙ append_assoc text (first ++ 32 ∷ second) (more ++ 10 ∷ [])
+    ∙ ap (λ (t : List ℕ). text ++ t) (sym (append_assoc (first ++ 32 ∷ second) more (10 ∷ [])))
+    ∙ ap (λ (t : List ℕ). text ++ (t ++ 10 ∷ [])) (append_assoc first (32 ∷ second) more)
+    ∙ ap (λ (t : List ℕ). text ++ ((first ++ 32 ∷ t) ++ 10 ∷ [])) (sym (spaced-numbers second numbers))
+
+-- ---- at the end of a loop
+
+-- lines that were put one by one
+pub lines_done : {A : Type 0} (f : A → List ℕ) (xs : List A) (i : ℕ) (text out : List ℕ) → length xs ≤ i
+    → out ≡ text ++ flat_map (λ x. with_feed (f x)) (take i xs) → out ≡ text ++ ended (map f xs)
+lines_done {A} f xs i text out all h =
+    h ∙ ap (λ (ys : List A). text ++ flat_map (λ x. with_feed (f x)) ys) (take_all i xs all)
+    ∙ ap (λ (t : List ℕ). text ++ t) (sym (ended-map f xs))
+
+-- lists of lines that were put one by one
+pub parts_done : {A B : Type 0} (f : B → List (List ℕ)) (view : A → B) (xs : List A) (i : ℕ)
+    (text out : List ℕ)
+    → length xs ≤ i
+    → out ≡ text ++ flat_map (λ y. ended (f y)) (map view (take i xs)) → out ≡ text ++ ended
+    (flat_map f (map view xs))
+parts_done {A} f view xs i text out all h =
+    h ∙ ap (λ (ys : List A). text ++ flat_map (λ y. ended (f y)) (map view ys)) (take_all i xs all)
+    ∙ ap (λ (t : List ℕ). text ++ t) (sym (ended-flat_map f (map view xs)))
+
+-- the first thread and the others, one after the other
+pub canonical_done : (threads : List Thread) (first : Thread) (mid out : List ℕ) → 1 ≤ length threads
+    → first ≡ get_or threads 0 first
+    → mid ≡ ended (section_lines (section_of first))
+    → out ≡ mid ++ ended (flat_map begun_lines (map section_of (take (length threads - 1) (drop 1 threads))))
+    → out ≡ canonical (map section_of threads)
+canonical_done [] first mid out some is one all = absurd (omega arith)
+canonical_done (t ∷ threads) first mid out some is one all =
+    let others : List (List ℕ) = flat_map begun_lines (map section_of threads) in
+    all
+    ∙ ap (λ (ts : List Thread). mid ++ ended (flat_map begun_lines (map section_of ts)))
+    (take_rest (t ∷ threads) 1)
+    ∙ ap (λ (u : List ℕ). u ++ ended others)
+    (one ∙ ap (λ (u : Thread). ended (section_lines (section_of u))) is)
+    ∙ sym (ended-append (section_lines (section_of t)) others)

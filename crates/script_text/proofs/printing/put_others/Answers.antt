@@ -1,0 +1,11 @@
+use Rattle.std.specs.Prelude.{string_bytes}
+use Rattle.script_text.specs.Drafts.{section_of}
+use Rattle.script_text.specs.Canonical.{begun_lines}
+use Rattle.script_text.proofs.PrintLemmas.{parts_done}
+use Rattle.script_text.proofs.printing.put_others.Goals as goal
+
+pub returns : goal.returns
+returns c =
+    parts_done begun_lines section_of c.args.threads.now c.loop-thread.thread-index
+    (string_bytes c.args.text.now) (string_bytes c.loop-thread.text) c.loop-thread-test.false
+    c.loop-thread.invariant

@@ -1,0 +1,11 @@
+use Rattle.std.proofs.Common.{◌≡◌, ◌++◌, take}
+use Rattle.std.specs.Prelude.{string_bytes}
+use Rattle.std.specs.List.{flat_map}
+use Rattle.script_text.specs.Canonical.{call_line}
+use Rattle.script_text.proofs.PrintLemmas.{with_feed}
+use Rattle.script_text.proofs.printing.put_thread.Given as goal
+
+abbrev pub invariant-loop-call : goal.invariant-loop-call
+invariant-loop-call l =
+    string_bytes l.text ≡ string_bytes l.fn.text ++ flat_map
+    (λ call. with_feed (call_line l.thread.names call)) (take l.call-index l.thread.calls.items)

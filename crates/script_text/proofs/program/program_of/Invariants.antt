@@ -1,0 +1,9 @@
+use Rattle.std.proofs.Common.{◌≡◌, map, take}
+use Rattle.step_core.specs.Programs.{part_of}
+use Rattle.script_text.specs.Drafts.{section_of}
+use Rattle.script_text.specs.Scripts.{program_in}
+use Rattle.script_text.proofs.program.program_of.Given as goal
+
+abbrev pub invariant-loop-thread : goal.invariant-loop-thread
+invariant-loop-thread l =
+    map part_of l.actors.items ≡ program_in (map section_of (take l.thread-index l.threads))

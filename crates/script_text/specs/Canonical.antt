@@ -1,0 +1,49 @@
+-- Canonical text: single spaces, numbers without leading zeros, and no line that is skipped.
+use Rattle.std.specs.Prelude.{◌≡◌, ℕ, ◌++◌, String, List, [], ◌∷◌, map, codes, decimal, string_bytes}
+use Rattle.std.specs.List.{flat_map, join_with_byte}
+use Rattle.step_core.specs.declared.call.Call.{Call}
+use Rattle.step_core.specs.declared.call.Call.TheVariants.{Make, Empty, Reset, Copy, Count}
+use Rattle.script_text.specs.Names.{NameList, name_text}
+use Rattle.script_text.specs.Drafts.{Section}
+use Rattle.script_text.specs.Grammar.{ended}
+
+-- the words of a statement
+abbrev pub call_words : NameList → Call → List (List ℕ)
+call_words names (Make target fields) = codes "make" ∷ name_text names target ∷ map decimal fields
+call_words names (Empty target) = codes "empty" ∷ name_text names target ∷ []
+call_words names (Reset name) = codes "reset" ∷ name_text names name ∷ []
+call_words names (Copy target source) = codes "copy" ∷ name_text names target ∷ name_text names source ∷ []
+call_words names (Count name) = codes "count" ∷ name_text names name ∷ []
+
+-- a number after a space
+abbrev pub number_after : ℕ → List ℕ
+number_after number = codes " " ++ decimal number
+
+-- words with single spaces between them
+abbrev pub spaced : List (List ℕ) → List ℕ
+spaced words = join_with_byte 32 words
+
+-- the line of a statement
+abbrev pub call_line : NameList → Call → List ℕ
+call_line names call = spaced (call_words names call)
+
+-- the lines of a thread's statements
+abbrev pub section_lines : Section → List (List ℕ)
+section_lines section = map (call_line section.names) section.calls
+
+-- the same after the line that begins the thread
+abbrev pub begun_lines : Section → List (List ℕ)
+begun_lines section = codes "thread" ∷ section_lines section
+
+-- a line `thread` stands before each thread but the first
+abbrev pub script_lines : List Section → List (List ℕ)
+script_lines [] = []
+script_lines (first ∷ others) = section_lines first ++ flat_map begun_lines others
+
+-- each line with its line feed
+abbrev pub canonical : List Section → List ℕ
+canonical script = ended (script_lines script)
+
+-- the text goes on with these lines
+abbrev pub AddsLines : {A : Type 0} → String A → String A → List (List ℕ) → Type 0
+AddsLines old new lines = string_bytes new ≡ string_bytes old ++ ended lines

@@ -1,0 +1,91 @@
+-- A script so far, and what each line adds to it.
+use Rattle.std.specs.Prelude.{ℕ, ◌+◌, ◌++◌, ◌==◌, List, [], ◌∷◌, length, map, Result, Ok, Err, nat_eq, nat_lt, if◌then◌else◌, codes}
+use Rattle.std.specs.List.{list_all, starts_with}
+use Rattle.std.specs.Str.{bytes_eq}
+use Rattle.step_core.specs.declared.call.Call.{Call}
+use Rattle.script_text.specs.declared.draft.Draft as rust
+use Rattle.script_text.specs.declared.fault.Cause.{Cause}
+use Rattle.script_text.specs.declared.fault.Cause.TheVariants.{BadByte, WrongNumberOfWords, TooManyThreads, TooManyStatements}
+use Rattle.script_text.specs.declared.keyword.Keyword.{Keyword}
+use Rattle.script_text.specs.declared.thread.Thread.{Thread}
+use Rattle.script_text.specs.Reading.{◌>>=◌}
+use Rattle.script_text.specs.Words.{is_clean_byte, line_content, words_of}
+use Rattle.script_text.specs.Names.{NameList}
+use Rattle.script_text.specs.Keywords.{keyword_at, takes_words}
+use Rattle.script_text.specs.Calls.{call_at}
+
+-- a thread, without where it lies in memory
+pub record Section : Type 0 where
+  pub names : NameList
+  pub calls : List Call
+
+-- what a clause sees of a thread
+abbrev pub section_of : Thread → Section
+section_of thread = record { names = thread.names; calls = thread.calls.items }
+
+-- a thread without names and statements
+abbrev pub no_section : Section
+no_section = record { names = []; calls = [] }
+
+-- a script so far: the threads before the current one, that one, and how many statements all have
+pub record Draft : Type 0 where
+  pub done : List Section
+  pub current : Section
+  pub count : ℕ
+
+-- what a clause sees of a draft
+abbrev pub draft_of : rust.Draft → Draft
+draft_of d = record { done = map section_of d.done.items; current = section_of d.current; count = d.count }
+
+-- the draft before the first line
+abbrev pub new_draft : Draft
+new_draft = record { done = []; current = no_section; count = 0 }
+
+-- the threads of a draft
+abbrev pub sections : Draft → List Section
+sections d = d.done ++ d.current ∷ []
+
+-- the next thread begins, as one of at most 16
+abbrev pub next_thread : Draft → Result Draft Cause
+next_thread d =
+    if nat_lt (length d.done) 15
+    then Ok (record { done = d.done ++ d.current ∷ []; current = no_section; count = d.count })
+    else Err TooManyThreads
+
+-- a call goes last in the current thread
+abbrev pub with_call : Draft → Call × NameList → Draft
+with_call d r = record {
+  done = d.done;
+  current = record { names = r.1; calls = d.current.calls ++ r.0 ∷ [] };
+  count = d.count + 1;
+}
+
+-- the next statement, as one of at most 65,536
+abbrev pub next_call : Draft → Keyword → List (List ℕ) → Result Draft Cause
+next_call d keyword words =
+    if nat_lt d.count 65536
+    then (call_at d.current.names keyword words >>= λ r. Ok (with_call d r))
+    else Err TooManyStatements
+
+-- a line `thread`, whose word stands alone
+abbrev pub thread_line : Draft → List (List ℕ) → Result Draft Cause
+thread_line d words = if length words == 0 then next_thread d else Err WrongNumberOfWords
+
+-- a line of a statement
+abbrev pub statement_line : Draft → List ℕ → List (List ℕ) → Result Draft Cause
+statement_line d first words = do
+  keyword ← keyword_at first
+  if takes_words keyword (length words) then next_call d keyword words else Err WrongNumberOfWords
+
+-- a line without words, or whose first word begins with `#`, is skipped
+abbrev pub after_words : Draft → List (List ℕ) → Result Draft Cause
+after_words d [] = Ok d
+after_words d (first ∷ words) =
+    if starts_with nat_eq first (codes "#") then Ok d
+    else (if bytes_eq first (codes "thread") then thread_line d words else statement_line d first words)
+
+-- the draft after a line, given without its line feed, or the first cause why the line is faulty
+abbrev pub after_line : Draft → List ℕ → Result Draft Cause
+after_line d line =
+    if list_all is_clean_byte (line_content line) then after_words d (words_of (line_content line))
+    else Err BadByte

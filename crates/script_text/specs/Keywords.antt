@@ -1,0 +1,47 @@
+-- The first words of statements, and how many words may follow each.
+use Rattle.std.specs.Prelude.{ℕ, ◌&&◌, Bool, List, [], ◌∷◌, Option, Some, None, Result, Ok, Err, find, codes, nat_le}
+use Rattle.std.specs.Str.{bytes_eq}
+use Rattle.script_text.specs.declared.fault.Cause.{Cause}
+use Rattle.script_text.specs.declared.fault.Cause.TheVariants.{UnknownStatement}
+use Rattle.script_text.specs.declared.keyword.Keyword.{Keyword}
+use Rattle.script_text.specs.declared.keyword.Keyword.TheVariants.{Make, Empty, Reset, Copy, Count}
+
+-- a first word, and the least and the greatest number of words that may follow it
+pub record Spelling : Type 0 where
+  pub word : List ℕ
+  pub least : ℕ
+  pub most : ℕ
+
+-- a row of the table
+abbrev pub spelled : List ℕ → ℕ → ℕ → Spelling
+spelled word least most = record { word = word; least = least; most = most }
+
+-- the table of the statements
+abbrev pub spelling_of : Keyword → Spelling
+spelling_of Make = spelled (codes "make") 1 5
+spelling_of Empty = spelled (codes "empty") 1 1
+spelling_of Reset = spelled (codes "reset") 1 1
+spelling_of Copy = spelled (codes "copy") 2 2
+spelling_of Count = spelled (codes "count") 1 1
+
+-- all statements
+abbrev pub keywords : List Keyword
+keywords = Make ∷ Empty ∷ Reset ∷ Copy ∷ Count ∷ []
+
+-- the keyword that a word is, if any
+abbrev pub find_keyword : List ℕ → Option Keyword
+find_keyword word = find (λ keyword. bytes_eq word (spelling_of keyword).word) keywords
+
+-- another first word begins no statement
+abbrev pub known : Option Keyword → Result Keyword Cause
+known None = Err UnknownStatement
+known (Some keyword) = Ok keyword
+
+-- the statement that a first word begins
+unfoldable pub keyword_at : List ℕ → Result Keyword Cause
+keyword_at word = known (find_keyword word)
+
+-- whether so many words may follow
+abbrev pub takes_words : Keyword → ℕ → Bool
+takes_words keyword count =
+    nat_le (spelling_of keyword).least count && nat_le count (spelling_of keyword).most

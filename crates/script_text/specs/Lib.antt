@@ -1,0 +1,11 @@
+pub mod Reading
+pub mod Words
+pub mod Names
+pub mod Keywords
+pub mod Shapes
+pub mod Calls
+pub mod Drafts
+pub mod Grammar
+pub mod Reach
+pub mod Canonical
+pub mod Scripts

@@ -1,0 +1,68 @@
+-- The words after the first one: a definition for each shape of statement.
+-- `T` is a target, `O` a source, `n` a number. Words are looked at from left to right, and a target is declared
+-- after all other checks.
+use Rattle.std.specs.Prelude.{ℕ, List, [], ◌∷◌, map, Option, Some, None, Result, Ok, Err, slice_get}
+use Rattle.std.specs.Borrow.{Bor}
+use Rattle.step_core.specs.declared.call.Kind.{Kind}
+use Rattle.step_core.specs.declared.call.Kind.TheVariants.{Owner}
+use Rattle.step_core.specs.declared.call.Name.{Name}
+use Rattle.script_text.specs.declared.fault.Cause.{Cause}
+use Rattle.script_text.specs.declared.fault.Cause.TheVariants.{WrongNumberOfWords}
+use Rattle.script_text.specs.Reading.{◌>>=◌}
+use Rattle.script_text.specs.Words.{number_at}
+use Rattle.script_text.specs.Names.{NameList, source_at, target_at, declared}
+
+-- the words, without where they lie in memory
+abbrev pub texts : List (Bor (List ℕ)) → List (List ℕ)
+texts words = map (λ w. w.now) words
+
+-- `T`
+unfoldable pub one_target : NameList → Kind → List (List ℕ) → Result (Name × NameList) Cause
+one_target names kind (word ∷ []) = do
+  name ← target_at names kind word
+  declared names kind name
+one_target names kind _ = Err WrongNumberOfWords
+
+-- `O`, which declares nothing
+unfoldable pub one_source : NameList → Kind → List (List ℕ) → Result (Name × NameList) Cause
+one_source names kind (word ∷ []) = do
+  source ← source_at names kind word
+  Ok (source, names)
+one_source names kind _ = Err WrongNumberOfWords
+
+-- `T O`
+unfoldable pub target_and_source : NameList → Kind → Kind → List (List ℕ)
+    → Result ((Name × Name) × NameList) Cause
+target_and_source names to from (target ∷ other ∷ []) = do
+  name ← target_at names to target
+  source ← source_at names from other
+  new ← declared names to name
+  Ok ((new.0, source), new.1)
+target_and_source names to from _ = Err WrongNumberOfWords
+
+-- a number that may be left out, and is 0 then
+abbrev pub number_if : Option (List ℕ) → Result ℕ Cause
+number_if None = Ok 0
+number_if (Some word) = number_at word
+
+-- the number with this place
+abbrev pub number_or_zero : List (List ℕ) → ℕ → Result ℕ Cause
+number_or_zero words place = number_if (slice_get words place)
+
+-- `[n [n [n [n]]]]`
+unfoldable pub fields_at : List (List ℕ) → Result (List ℕ) Cause
+fields_at words = do
+  first ← number_or_zero words 0
+  second ← number_or_zero words 1
+  third ← number_or_zero words 2
+  fourth ← number_or_zero words 3
+  Ok (first ∷ second ∷ third ∷ fourth ∷ [])
+
+-- `T [n [n [n [n]]]]`
+unfoldable pub target_and_fields : NameList → List (List ℕ) → Result ((Name × List ℕ) × NameList) Cause
+target_and_fields names [] = Err WrongNumberOfWords
+target_and_fields names (target ∷ numbers) = do
+  name ← target_at names Owner target
+  fields ← fields_at numbers
+  new ← declared names Owner name
+  Ok ((new.0, fields), new.1)

@@ -1,0 +1,53 @@
+-- The bytes and words of a line, names and numbers.
+use Rattle.std.specs.Prelude.{ℕ, ◌-◌, ◌^◌, ◌==◌, ◌&&◌, ◌||◌, Bool, false, List, [], ◌∷◌, length, take, filter, Result, Ok, Err, nat_lt, nat_le, if◌then◌else◌, slice_index}
+use Rattle.std.specs.List.{slice_split, list_all}
+use Rattle.std.specs.Str.Parse.{digits_value}
+use Rattle.script_text.specs.declared.fault.Cause.{Cause}
+use Rattle.script_text.specs.declared.fault.Cause.TheVariants.{BadName, BadNumber}
+
+-- a space or a tab
+abbrev pub is_space : ℕ → Bool
+is_space b = b == 32 || b == 9
+
+-- a byte that may stand in a line: a space, a tab, or a character that can be seen
+abbrev pub is_clean_byte : ℕ → Bool
+is_clean_byte b = (nat_le 32 b && nat_le b 126) || b == 9
+
+-- a line without the carriage return at its end
+abbrev pub line_content : List ℕ → List ℕ
+line_content line =
+    if nat_lt 0 (length line) && slice_index line (length line - 1) == 13 then take (length line - 1) line
+    else line
+
+-- the words, parted by one or more spaces
+abbrev pub words_of : List ℕ → List (List ℕ)
+words_of line = filter (λ w. nat_lt 0 (length w)) (slice_split is_space line)
+
+-- a letter from `a` to `z`
+abbrev pub is_lower : ℕ → Bool
+is_lower b = nat_le 97 b && nat_le b 122
+
+-- a decimal digit
+abbrev pub is_digit : ℕ → Bool
+is_digit b = nat_le 48 b && nat_le b 57
+
+-- a letter, a digit or `_`
+abbrev pub is_name_byte : ℕ → Bool
+is_name_byte b = (is_lower b || is_digit b) || b == 95
+
+-- a letter, then letters, digits and `_`, of 1 to 16 bytes in all
+abbrev pub is_name : List ℕ → Bool
+is_name [] = false
+is_name (b ∷ bs) = is_lower b && nat_lt (length bs) 16 && list_all is_name_byte bs
+
+-- the name that a word is
+abbrev pub name_at : List ℕ → Result (List ℕ) Cause
+name_at word = if is_name word then Ok word else Err BadName
+
+-- one or more digits, of a number below 2 ^ 64
+abbrev pub is_number : List ℕ → Bool
+is_number word = list_all is_digit word && nat_lt 0 (length word) && nat_lt (digits_value 10 word) (2 ^ 64)
+
+-- the number that a word is
+abbrev pub number_at : List ℕ → Result ℕ Cause
+number_at word = if is_number word then Ok (digits_value 10 word) else Err BadNumber

@@ -1,0 +1,118 @@
+//! A script while its lines come in.
+
+ghost use Rattle.std.specs.Prelude.{◌≡◌};
+ghost use Rattle.script_text.specs.Reading.{Gives};
+ghost use Rattle.script_text.specs.Shapes.{texts};
+ghost use Rattle.script_text.specs.Drafts.{draft_of, new_draft, next_thread, next_call, thread_line, statement_line, after_words, after_line};
+
+use crate::fault::{Cause, Stop};
+use crate::keyword::{Keyword, keyword_of, takes};
+use crate::statement::call_of;
+use crate::thread::{Thread, empty_thread};
+use crate::word::{content, is_clean, words_in};
+use std::alloc::Global;
+use std::mem;
+
+/// How many threads a script has at most.
+pub(crate) const THREADS: usize = 16;
+
+/// How many statements a script has at most, all threads together.
+pub(crate) const STATEMENTS: u32 = 65_536;
+
+/// The threads before the current one, that one, and how many statements all have.
+#[derive(Drop)]
+pub(crate) struct Draft {
+    pub done: Vec<Thread>,
+    pub current: Thread,
+    pub count: u32,
+}
+
+pub(crate) fn empty_draft(alloc: Global) -> Draft
+    ensures { draft_of result ≡ new_draft }
+{
+    Draft {
+        done: Vec::new(alloc),
+        current: empty_thread(alloc),
+        count: 0,
+    }
+}
+
+fn begin_thread(alloc: Global, draft: &mut Draft) -> Result<(), Stop>
+    ensures { Gives (λ _. draft_of draft.new) result (next_thread (draft_of draft.old)) }
+{
+    if draft.done.len() >= THREADS - 1 {
+        return Err(Stop::Cause(Cause::TooManyThreads));
+    }
+    let full = mem::replace(&mut draft.current, empty_thread(alloc));
+    draft.done.push(full)?;
+    Ok(())
+}
+
+fn add_call(alloc: Global, draft: &mut Draft, keyword: Keyword, words: &[&[u8]]) -> Result<(), Stop>
+    ensures { Gives (λ _. draft_of draft.new) result
+        (next_call (draft_of draft.old) keyword (texts words.now)) }
+{
+    if draft.count >= STATEMENTS {
+        return Err(Stop::Cause(Cause::TooManyStatements));
+    }
+    let call = call_of(alloc, &mut draft.current.names, keyword, words)?;
+    draft.current.calls.push(call)?;
+    draft.count += 1;
+    Ok(())
+}
+
+fn add_thread_line(alloc: Global, draft: &mut Draft, words: &[&[u8]]) -> Result<(), Stop>
+    ensures { Gives (λ _. draft_of draft.new) result
+        (thread_line (draft_of draft.old) (texts words.now)) }
+{
+    if !words.is_empty() {
+        return Err(Stop::Cause(Cause::WrongNumberOfWords));
+    }
+    begin_thread(alloc, draft)
+}
+
+fn add_statement_line(
+    alloc: Global,
+    draft: &mut Draft,
+    first: &[u8],
+    words: &[&[u8]],
+) -> Result<(), Stop>
+    ensures { Gives (λ _. draft_of draft.new) result
+        (statement_line (draft_of draft.old) first.now (texts words.now)) }
+{
+    let keyword = keyword_of(first)?;
+    if !takes(keyword, words.len()) {
+        return Err(Stop::Cause(Cause::WrongNumberOfWords));
+    }
+    add_call(alloc, draft, keyword, words)
+}
+
+fn add_words(alloc: Global, draft: &mut Draft, words: &[&[u8]]) -> Result<(), Stop>
+    ensures { Gives (λ _. draft_of draft.new) result
+        (after_words (draft_of draft.old) (texts words.now)) }
+{
+    let [first, rest @ ..] = words else {
+        return Ok(());
+    };
+    if first.starts_with(b"#".as_slice()) {
+        return Ok(());
+    }
+    if *first == b"thread".as_slice() {
+        add_thread_line(alloc, draft, rest)
+    } else {
+        add_statement_line(alloc, draft, first, rest)
+    }
+}
+
+/// Adds a line, given without its line feed.
+pub(crate) fn add_line(alloc: Global, draft: &mut Draft, line: &[u8]) -> Result<(), Stop>
+    ensures { Gives (λ _. draft_of draft.new) result
+        (after_line (draft_of draft.old) line.now) }
+{
+    let line = content(line);
+    if !is_clean(line) {
+        return Err(Stop::Cause(Cause::BadByte));
+    }
+    let words = words_in(alloc, line)?;
+    add_words(alloc, draft, words.as_slice())
+}

@@ -1,0 +1,84 @@
+//! The first words of statements.
+
+ghost use Rattle.std.specs.Prelude.{◌≡◌};
+ghost use Rattle.std.specs.Str.{bytes_eq};
+ghost use Rattle.script_text.specs.Reading.{Gives};
+ghost use Rattle.script_text.specs.Keywords.{spelling_of, find_keyword, keyword_at, takes_words};
+
+use crate::fault::{Cause, Stop};
+
+/// A statement by its first word.
+#[derive(Clone, Copy, Debug, PartialEq, Eq)]
+pub(crate) enum Keyword {
+    Make,
+    Empty,
+    Reset,
+    Copy,
+    Count,
+}
+
+/// Each statement once.
+const KEYWORDS: [Keyword; 5] = [
+    Keyword::Make,
+    Keyword::Empty,
+    Keyword::Reset,
+    Keyword::Copy,
+    Keyword::Count,
+];
+
+/// A first word, and the least and the greatest number of words that may follow it.
+#[derive(Clone, Copy)]
+struct Spelling {
+    word: &'static str,
+    least: usize,
+    most: usize,
+}
+
+/// The table of the statements.
+fn spelling_of(keyword: Keyword) -> Spelling
+    ensures word { result.word.now ≡ (spelling_of keyword).word }
+    ensures least { result.least ≡ (spelling_of keyword).least }
+    ensures most { result.most ≡ (spelling_of keyword).most }
+{
+    let (word, least, most) = match keyword {
+        Keyword::Make => ("make", 1, 5),
+        Keyword::Empty => ("empty", 1, 1),
+        Keyword::Reset => ("reset", 1, 1),
+        Keyword::Copy => ("copy", 2, 2),
+        Keyword::Count => ("count", 1, 1),
+    };
+    Spelling { word, least, most }
+}
+
+fn is_spelled(keyword: Keyword, word: &[u8]) -> bool
+    ensures { result ≡ bytes_eq word.now (spelling_of keyword).word }
+{
+    word == spelling_of(keyword).word.as_bytes()
+}
+
+fn find_keyword(word: &[u8]) -> Option<Keyword>
+    ensures { result ≡ find_keyword word.now }
+{
+    KEYWORDS
+        .into_iter()
+        .find(|keyword| is_spelled(*keyword, word))
+}
+
+/// The statement that a first word begins.
+#[tactic(auto, unfolding(crate::specs::Keywords::keyword_at))]
+pub(crate) fn keyword_of(word: &[u8]) -> Result<Keyword, Stop>
+    ensures { Gives (λ keyword. keyword) result (keyword_at word.now) }
+{
+    match find_keyword(word) {
+        Some(keyword) => Ok(keyword),
+        None => Err(Stop::Cause(Cause::UnknownStatement)),
+    }
+}
+
+/// Whether so many words may follow the first.
+pub(crate) fn takes(keyword: Keyword, count: usize) -> bool
+    ensures { result ≡ takes_words keyword count }
+{
+    let Spelling { least, most, .. } = spelling_of(keyword);
+    least <= count && count <= most
+}

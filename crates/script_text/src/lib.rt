@@ -1,0 +1,47 @@
+//! The script language of version 1: its text, read and written.
+//!
+//! A script is a list of lines, each with a line feed; a carriage return just before it is ignored.
+//! Words are parted by spaces and tabs. A line without words, or whose first word begins with `#`, is
+//! skipped. A line `thread` begins the next of at most 16 threads; thread 1 begins with the text. Every
+//! other line is a statement, of which a script has at most 65,536. A name is a letter `a` to `z`, then
+//! letters, digits or `_`, 1 to 16 bytes; names are each thread's own, at most 32, and a name is declared
+//! by the first statement that has it as its target (`T`).
+//!
+//! | statement | call |
+//! |---|---|
+//! | `make T [n [n [n [n]]]]` | `Make`; fields left out are 0 |
+//! | `empty T` | `Empty` |
+//! | `reset O` | `Reset` |
+//! | `copy T O` | `Copy` |
+//! | `count O` | `Count` |
+//!
+//! On one line causes are looked for in the order in which [`Cause`] lists them, except that the words
+//! after the first are looked at from left to right: each by its form, then whether a source is
+//! declared, then its kind.
+//!
+//! A further statement is a variant of `step_core::Call` with its names in `names_of`, a row in
+//! `keyword.rt`, an arm in `statement.rt` and one in `printing.rt`, the same three in `specs/Keywords`,
+//! `specs/Calls` and `specs/Canonical`, and a line in `proofs/Rewrites`. A new shape of words is a
+//! function in `shape.rt`, a definition in `specs/Shapes` and a lemma in `proofs/Reversible`.
+#![tactic(auto)]
+
+mod draft;
+mod fault;
+mod keyword;
+mod names;
+mod printing;
+mod program;
+mod script;
+mod shape;
+mod statement;
+mod text;
+mod thread;
+mod word;
+
+pub use fault::{Cause, Fault};
+pub use printing::print;
+pub use script::Script;
+pub use text::parse;
+
+#[cfg(test)]
+mod tests;

@@ -1,0 +1,66 @@
+//! Scripts.
+
+use crate::program::program_of;
+use crate::thread::Thread;
+use control_word::Refusal;
+use std::alloc::Global;
+use std::marker::Model;
+use step_core::Program;
+
+/// A script that some text spells. A clause sees its threads in order, each with its names and its calls.
+#[derive(Drop)]
+pub struct Script {
+    pub(crate) threads: Vec<Thread>,
+    pub(crate) statements: u32,
+}
+
+impl Model for Script {
+    ghost use Rattle.std.specs.Prelude.{List, map};
+    ghost use Rattle.script_text.specs.Drafts.{Section, section_of};
+    ghost use Rattle.script_text.specs.Scripts.{IsScript};
+
+    ghost Value = { List Section };
+
+    ghost view = { λ s. map section_of s.threads.items };
+
+    ghost invariant = { λ s. IsScript (map section_of s.threads.items) s.statements };
+}
+
+impl Script {
+    ghost use Rattle.std.specs.Prelude.{◌≡◌, ◌≤◌, IfOk, IsOkUnless, length};
+    ghost use Rattle.control_word.specs.declared.refusal.Refusal.TheVariants.{Memory};
+    ghost use Rattle.step_core.specs.Programs.{parts_of, IsProgram};
+    ghost use Rattle.script_text.specs.Scripts.{program_in, statement_count};
+
+    /// How many threads the script has, from 1 to 16 (own).
+    pub fn threads(&self) -> u32
+        ensures number { result ≡ length self.now }
+        ensures some { 1 ≤ result }
+        ensures few { result ≤ 16 }
+    {
+        self.threads.len() as u32
+    }
+
+    /// How many statements all threads have together (own).
+    pub fn statements(&self) -> u32
+        ensures number { result ≡ statement_count self.now }
+        ensures few { result ≤ 65536 }
+    {
+        self.statements
+    }
+
+    /// The program of the script (own): for each thread, in order, an actor with the kinds of its names
+    /// and its calls in order. It is within the limits of a program, and its calls are well named.
+    ///
+    /// Refused by 1 alone, where a growth is refused; the script is as it was.
+    pub fn program(&self, alloc: Global) -> Result<Program, Refusal>
+        ensures calls { IfOk result (λ p. parts_of p ≡ program_in self.now) }
+        ensures sound { IfOk result (λ p. IsProgram (parts_of p)) }
+        ensures memory { IsOkUnless result Memory }
+    {
+        match program_of(alloc, self.threads.as_slice()) {
+            Ok(program) => Ok(program),
+            Err(_) => Err(Refusal::Memory),
+        }
+    }
+}

@@ -1,0 +1,36 @@
+//! `sptr`: scripts of shared and weak pointers, from standard input to standard output.
+#![tactic(auto)]
+
+mod command;
+mod serve;
+#[cfg(test)]
+mod tests;
+
+use serve::serve;
+use std::env;
+use std::io::Write;
+use std::process::ExitCode;
+
+fn main(rt: HostRuntime) -> ExitCode {
+    let alloc = rt.alloc();
+    let mut words = Vec::new(alloc);
+    let mut faults = rt.stderr();
+    let Ok(given) = env::args(&rt) else {
+        let _ = writeln!(faults, "refused 1: memory");
+        return ExitCode::from(1);
+    };
+    for word in given {
+        if words.push(word).is_err() {
+            let _ = writeln!(faults, "refused 1: memory");
+            return ExitCode::from(1);
+        }
+    }
+    let status = serve(
+        alloc,
+        words.as_slice(),
+        &mut rt.stdin(),
+        &mut rt.stdout(),
+        &mut faults,
+    );
+    ExitCode::from(status)
+}

@@ -1,0 +1,156 @@
+use crate::serve::serve;
+use std::alloc::Global;
+use std::io;
+use std::test::Fail;
+
+/// What a command line answers: the status, standard output and standard error.
+#[derive(Drop)]
+struct Answer {
+    status: u8,
+    output: Vec<u8>,
+    faults: Vec<u8>,
+}
+
+fn served(alloc: Global, words: &[&str], input: &[u8]) -> Answer {
+    let mut output = Vec::new(alloc);
+    let mut faults = Vec::new(alloc);
+    let mut reader = input;
+    let status = serve(alloc, words, &mut reader, &mut output, &mut faults);
+    Answer {
+        status,
+        output,
+        faults,
+    }
+}
+
+#[test]
+fn counts_threads_and_statements(rt: HostRuntime) -> Result<(), Fail> {
+    let got = served(
+        rt.alloc(),
+        &["sptr", "check"],
+        b"make a 1\ncount a\nthread\nempty b\n",
+    );
+    assert_eq!(rt; got.status, 0);
+    assert_eq!(rt;
+        got.output.as_slice(),
+        b"ok threads 2 statements 3\n".as_slice()
+    );
+    assert!(rt; got.faults.is_empty());
+    Ok(())
+}
+
+#[test]
+fn refuses_an_unfinished_line(rt: HostRuntime) -> Result<(), Fail> {
+    let got = served(rt.alloc(), &["sptr", "check"], b"make a 1");
+    assert_eq!(rt; got.status, 1);
+    assert!(rt; got.output.is_empty());
+    assert_eq!(rt;
+        got.faults.as_slice(),
+        b"refused 10: line 1: unfinished line\n".as_slice()
+    );
+    Ok(())
+}
+
+#[test]
+fn refuses_an_unknown_name(rt: HostRuntime) -> Result<(), Fail> {
+    let got = served(rt.alloc(), &["sptr", "check"], b"copy b a\n");
+    assert_eq!(rt; got.status, 1);
+    assert_eq!(rt;
+        got.faults.as_slice(),
+        b"refused 10: line 1: unknown name\n".as_slice()
+    );
+    Ok(())
+}
+
+#[test]
+fn refuses_a_number_that_is_too_large(rt: HostRuntime) -> Result<(), Fail> {
+    let got = served(
+        rt.alloc(),
+        &["sptr", "check"],
+        b"make a 18446744073709551616\n",
+    );
+    assert_eq!(rt;
+        got.faults.as_slice(),
+        b"refused 10: line 1: bad number\n".as_slice()
+    );
+    let last = served(
+        rt.alloc(),
+        &["sptr", "check"],
+        b"make a 18446744073709551615\n",
+    );
+    assert_eq!(rt; last.status, 0);
+    assert_eq!(rt;
+        last.output.as_slice(),
+        b"ok threads 1 statements 1\n".as_slice()
+    );
+    Ok(())
+}
+
+#[test]
+fn shows_help_and_wants_a_command(rt: HostRuntime) -> Result<(), Fail> {
+    let help = served(rt.alloc(), &["sptr", "--help"], b"");
+    assert_eq!(rt; help.status, 0);
+    assert!(rt; !help.output.is_empty() && help.faults.is_empty());
+    let none = served(rt.alloc(), &["sptr"], b"");
+    assert_eq!(rt; none.status, 2);
+    assert!(rt; none.output.is_empty() && !none.faults.is_empty());
+    let other = served(rt.alloc(), &["sptr", "other"], b"");
+    assert_eq!(rt; other.status, 2);
+    Ok(())
+}
+
+/// Ends that fail at once.
+#[derive(Drop)]
+struct Broken;
+
+impl io::Read for Broken {
+    fn read(&mut self, _buf: &mut [u8]) -> io::Result<usize> {
+        Err(io::ErrorKind::BrokenPipe.into())
+    }
+}
+
+impl io::Write for Broken {
+    fn write(&mut self, _bytes: &[u8]) -> io::Result<usize> {
+        Err(io::ErrorKind::BrokenPipe.into())
+    }
+
+    fn flush(&mut self) -> io::Result<()> {
+        Ok(())
+    }
+}
+
+#[test]
+fn failing_ends(rt: HostRuntime) -> Result<(), Fail> {
+    let mut output = Vec::new(rt.alloc());
+    let mut faults = Vec::new(rt.alloc());
+    let status = serve(
+        rt.alloc(),
+        &["sptr", "check"],
+        &mut Broken,
+        &mut output,
+        &mut faults,
+    );
+    assert_eq!(rt; status, 1);
+    assert!(rt; output.is_empty());
+    assert_eq!(rt; faults.as_slice(), b"refused 13: input\n".as_slice());
+    let mut others = Vec::new(rt.alloc());
+    let mut input: &[u8] = b"empty a\n";
+    let status = serve(
+        rt.alloc(),
+        &["sptr", "check"],
+        &mut input,
+        &mut Broken,
+        &mut others,
+    );
+    assert_eq!(rt; status, 1);
+    assert_eq!(rt; others.as_slice(), b"refused 12: output\n".as_slice());
+    let status = serve(
+        rt.alloc(),
+        &["sptr", "check"],
+        &mut Broken,
+        &mut output,
+        &mut Broken,
+    );
+    assert_eq!(rt; status, 1);
+    Ok(())
+}
