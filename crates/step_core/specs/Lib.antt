@@ -1,1 +1,10 @@
+pub mod Actors
+pub mod Acts
+pub mod Courses
+pub mod Holdings
+pub mod Openings
 pub mod Programs
+pub mod Stocks
+pub mod Stories
+pub mod Threads
+pub mod Worlds

@@ -13,11 +13,9 @@ pub record Part : Type 0 where
   pub kinds : List Kind
   pub calls : List Call
 
--- what a clause sees of an actor
 abbrev pub part_of : Actor → Part
 part_of actor = record { kinds = actor.kinds.items; calls = actor.calls.items }
 
--- what a clause sees of a program
 abbrev pub parts_of : Program → List Part
 parts_of program = map part_of program.actors.items
 

@@ -1,0 +1,11 @@
+pub mod Lists
+pub mod Stores
+pub mod Opening
+pub mod Closing
+pub mod Endings
+pub mod Passage
+pub mod Slots
+pub mod Chairs
+pub mod Parts
+pub mod DeskSteps
+pub mod kept

@@ -1,0 +1,186 @@
+-- Where slots are, and what becomes of them at the steps that change an object.
+use Rattle.std.proofs.Common.{◌≡◌, ◌≢◌, ◌⊎◌, ℕ, suc, ◌-◌, ◌≤◌, true, false, List, [], ◌∷◌, Option, Some, None}
+use Rattle.std.proofs.Common.{refl, sym, ap, subst, ◌∙◌, inl, inr, ⊎_elim, arith, eq-eqb, ◌==◌}
+use Rattle.std.proofs.lemmas.Bool.{cases_eq}
+use mathlib.Core.Option.{some, some-injective}
+use lib.ListN.{get_elem?}
+use Rattle.atomic_table.specs.Table as Table
+use Rattle.atomic_table.proofs.Lists.{at_map}
+use Rattle.control_word.proofs.history.Legal.{sound}
+use Rattle.control_word.proofs.history.Moving.{live_busy}
+use Rattle.control_word.proofs.lists.Tallies.{has_without, num_has, num_without, put_other, put_same, stored_self, stored_true}
+use Rattle.control_word.specs.Events.{Asks, after}
+use Rattle.control_word.specs.Histories.{IsLegal, entry, leads, value, valued}
+use Rattle.control_word.specs.State.{Has, InShape, Object, Opening, Phase, State, Stored, ending, gone, live, put, same_stored, stored, unmade, without}
+use Rattle.control_word.specs.Laws.{how_often}
+use Rattle.control_word.specs.Views.{Fits, Names}
+use Rattle.control_word.specs.Handles.{object_of}
+use Rattle.control_word.specs.declared.event.Cell.TheVariants.{Free, Member}
+use Rattle.control_word.specs.declared.event.Entry.{Entry}
+use Rattle.control_word.specs.declared.event.Event.{Event}
+use Rattle.control_word.specs.declared.event.Event.TheVariants.{ClearMember, Compare, Count, Expired, Finish, Join, Leave, Load, Lock, Make, Read}
+use Rattle.control_word.specs.declared.event.Event.TheVariants.{Share, Split, Swap, Visit, WeakLeave, WeakShare}
+use Rattle.control_word.specs.declared.place.Block.{Block}
+use Rattle.control_word.specs.declared.shape.Shape.{Shape}
+use Rattle.control_word.specs.declared.view.Pending.{Pending}
+use Rattle.control_word.specs.declared.view.Pending.TheVariants.{Idle, Making, Merging, Parting, Paying, Visiting}
+use Rattle.control_block.specs.Rule.{opening_of, view_of, kept, while_live, IsMaking, IsSlotOf, IsBacked, IsOut, Ruled}
+use Rattle.control_block.specs.declared.board.Sight.{Sight}
+use Rattle.control_block.proofs.Endings.{ends_busy, ends_here, stays_after}
+use Rattle.control_block.proofs.Passage.{backed_still}
+
+pub live_ends : (d : ℕ) → live ≡ ending d → ⊥
+live_ends d e = cc
+
+pub live_unmade : live ≡ unmade → ⊥
+live_unmade e = cc
+
+-- a slot's place in the table tells its block
+pub slots_apart : (b c : ℕ) → 1 ≤ b → 1 ≤ c → c ≢ b → c - 1 ≢ b - 1
+slots_apart b c lb lc n e = n (omega arith)
+
+-- a block is in one desk's store
+pub one_store : (d e b : ℕ) (l : List Stored) → how_often b l ≤ 1 → Has (stored d b) l → Has (stored e b) l → d ≡ e
+one_store d e b l once hd he = ⊎_elim (λ (q : d ≡ e). q)
+    (λ (n : d ≢ e).
+    let t = num_without same_stored stored_true stored_self (λ x. x.block == b) (stored d b) l hd in
+    let one : (b == b) ≡ true = eq-eqb b b refl in
+    let u = num_has (λ (x : Stored). x.block == b) (stored d b) (stored d b ∷ []) (inl refl) one in
+    let w = has_without same_stored stored_true stored_self (stored e b) (stored d b) l he (λ s. n (sym (ap (λ (x : Stored). x.desk) s))) in
+    let v = num_has (λ (x : Stored). x.block == b) (stored e b) (without same_stored (stored d b) l) w one in
+    absurd (omega arith)) (cases_eq d e)
+
+pub keeps_none : {V : Type 0} (p : Phase) (x : Option V) → (p ≡ live → ⊥) → while_live p x ≡ None
+keeps_none unmade x n = refl
+keeps_none live x n = absurd (n refl)
+keeps_none gone x n = refl
+keeps_none (ending d) x n = refl
+
+module _ {V : Type 0} where
+  -- who makes an object in a block has the block in its store
+  making_stored : (words : List ℕ) (s : State) (f : ℕ → Option V) (d b : ℕ) (p : Pending V) → Fits words s f d p → IsMaking p b
+      → Has (stored d b) s.stores
+  making_stored words s f d b Idle fits m = absurd m
+  making_stored words s f d b (Making c l) fits m = subst (λ x. Has (stored d x) s.stores) m fits.0
+  making_stored words s f d b (Paying k o p w x y) fits m = absurd m
+  making_stored words s f d b (Visiting o p w x) fits m = absurd m
+  making_stored words s f d b (Parting to) fits m = absurd m
+  making_stored words s f d b (Merging other x y) fits m = absurd m
+
+  module _ (k : Shape) (s : Table.State (Option V) (Sight V)) (r : Ruled k s) where
+    -- a slot that is out is that of a vacant block in its holder's store, or of an ending of its
+    out_means : (b : ℕ) (j : ℕ) (u : Sight V) → get_elem? s.views j ≡ some u → u.view.spent ≡ false → IsSlotOf u.hand b
+        → let t = leads (opening_of k) r.history in
+        Has (stored u.view.name b) t.stores ⊎ ((t.object (t.latest b)).phase ≡ ending u.view.name)
+    out_means b j u there un has = go u.hand refl has
+      where
+        go : (c : Option Block) → u.hand ≡ c → IsSlotOf c b
+            → let t = leads (opening_of k) r.history in
+            Has (stored u.view.name b) t.stores ⊎ ((t.object (t.latest b)).phase ≡ ending u.view.name)
+        go None e h = absurd h
+        go (Some c) e h =
+            let t = leads (opening_of k) r.history in
+            let fits = (r.stands.team.seated j u.view (at_map view_of s.views j u there) un).fits in
+            let back : IsBacked t u.view.name u.view.pending (Some c) = subst (IsBacked t u.view.name u.view.pending) e (r.backed j u there un) in
+            ⊎_elim
+            (λ (m : IsMaking u.view.pending c.0). inl (making_stored s.words t (value
+                (opening_of k) r.history) u.view.name b u.view.pending fits (subst (IsMaking u.view.pending) h m)))
+            (λ (m : (t.object (t.latest c.0)).phase ≡ ending u.view.name). inr (ap (λ x. (t.object (t.latest x)).phase) (sym h) ∙ m)) back
+
+    -- the slot of a live object is at home, with its value
+    pub live_home : (b o : ℕ) → InShape (opening_of k) b → (leads (opening_of k) r.history).latest b ≡ o
+        → ((leads (opening_of k) r.history).object o).block ≡ b
+        → ((leads (opening_of k) r.history).object o).phase ≡ live → get_elem? s.homes (b - 1) ≡ some (some (value (opening_of k) r.history o))
+    live_home b o inside is there alive =
+        let t = leads (opening_of k) r.history in let fine = sound (opening_of k) r.history r.stands.legal in
+        ⊎_elim
+        (λ (e : get_elem? s.homes (b - 1) ≡ some (some (kept (opening_of k) r.history b))).
+        e ∙ ap (λ x. some (some x)) (ap (λ x. while_live (t.object x).phase (value (opening_of k) r.history x)) is
+            ∙ ap (λ x. while_live x (value (opening_of k) r.history o)) alive))
+        (λ (q : IsOut s.views b). absurd (⊎_elim
+        (λ (m : Has (stored q.1.view.name b) t.stores). let v = (fine.stores q.1.view.name b m).0 o there in
+        let w = live_busy t o alive in omega arith)
+        (λ (m : (t.object (t.latest b)).phase ≡ ending q.1.view.name). live_ends q.1.view.name (sym alive
+            ∙ (ap (λ x. (t.object x).phase) (sym is) ∙ m)))
+        (out_means b q.0 q.1 q.2 q.3 q.4))) (r.homes b inside)
+
+    -- a desk that has nothing in hand finds the empty slot of an own vacant block at home
+    pub vacant_home : (id : ℕ) (v : Sight V) → get_elem? s.views id ≡ some v → v.view.spent ≡ false → v.hand ≡ None → (b : ℕ)
+        → Has (stored v.view.name b) (leads (opening_of k) r.history).stores → get_elem? s.homes (b - 1) ≡ some (some None)
+    vacant_home id v at awake free b mine =
+        let z = opening_of k in let t = leads z r.history in let fine = sound z r.history r.stands.legal in let o = t.latest b in
+        let vacant = fine.stores v.view.name b mine in
+        let here : o ≢ 0 → (t.object o).block ≡ b = fine.latest_in b in
+        let dead : (t.object o).phase ≡ live → ⊥ = λ q. let w = live_busy t o q in
+        let u = vacant.0 o (here (λ y. live_unmade (sym q ∙ (ap (λ x. (t.object x).phase) y ∙ fine.none)))) in omega arith in
+        ⊎_elim (λ (e : get_elem? s.homes (b - 1) ≡ some (some (kept z r.history b))). e
+            ∙ ap (λ x. some (some x)) (keeps_none (t.object o).phase (value z r.history o) dead))
+        (λ (q : IsOut s.views b). absurd (⊎_elim
+        (λ (m : Has (stored q.1.view.name b) t.stores).
+        let same = one_store v.view.name q.1.view.name b t.stores (fine.once b) mine m in
+        ⊎_elim (λ (i : q.0 ≡ id). subst (λ c. IsSlotOf c b) free (subst (λ (u : Sight V). IsSlotOf u.hand b) (some-injective q.1 v (sym q.2
+            ∙ (ap (get_elem? s.views) i ∙ at))) q.4))
+        (λ (n : q.0 ≢ id). n (r.stands.team.names q.0 id q.1.view v.view (at_map view_of s.views q.0 q.1 q.2)
+            (at_map view_of s.views id v at) q.3 awake
+        q.1.view.name (inl refl) (inl same))) (cases_eq q.0 id))
+        (λ (m : (t.object o).phase ≡ ending q.1.view.name). let w = ends_busy z t b q.1.view.name fine m in
+        let u = vacant.0 o (ends_here z t b q.1.view.name fine m) in omega arith)
+        (out_means b q.0 q.1 q.2 q.3 q.4))) (r.homes b vacant.1)
+
+    -- what others have in hand is backed still after an event of the seat's
+    pub others_still : (id : ℕ) (v : Sight V) → get_elem? s.views id ≡ some v → v.view.spent ≡ false → (e : Event V)
+        → Asks (leads (opening_of k) r.history) v.view.name e
+        → ((j : ℕ) (u : Sight V) → j ≢ id → get_elem? s.views j ≡ some u → u.view.spent ≡ false → Names e u.view.name → ⊥)
+        → (j : ℕ) (u : Sight V) → j ≢ id → get_elem? s.views j ≡ some u → u.view.spent ≡ false
+        → IsBacked (leads (opening_of k) r.history) u.view.name u.view.pending u.hand
+        → IsBacked (leads (opening_of k) (entry v.view.name e ∷ r.history)) u.view.name u.view.pending u.hand
+    others_still id v at awake e asks none j u ne there un back =
+        let t = leads (opening_of k) r.history in let fine = sound (opening_of k) r.history r.stands.legal in
+        let apart : v.view.name ≢ u.view.name = λ q. ne (sym (r.stands.team.names id j v.view u.view (at_map view_of s.views id v at)
+        (at_map view_of s.views j u there) awake un u.view.name (inl q) (inl refl))) in
+        backed_still t (leads (opening_of k) (entry v.view.name e ∷ r.history)) u.view.name u.view.pending u.hand
+        (λ b ends. let a = stays_after (opening_of k) t b u.view.name v.view.name fine ends e asks apart (none j u ne there un) in
+        ap (λ x. ((after t v.view.name e).object x).phase) a.latest ∙ (a.object.phase ∙ ends)) back
+
+  -- an event that changes one object alone leaves what other blocks keep
+  pub kept_else : (k : Shape) (h : List (Entry V)) (d : ℕ) (e : Event V) (o : ℕ) (x : Object) (c : ℕ)
+      → (after (leads (opening_of k) h) d e).object ≡ put (leads (opening_of k) h).object o x
+          → (after (leads (opening_of k) h) d e).latest ≡ (leads (opening_of k) h).latest
+      → valued (leads (opening_of k) h) e (value (opening_of k) h) ≡ value (opening_of k) h → (leads (opening_of k) h).latest c ≢ o
+      → kept (opening_of k) (entry d e ∷ h) c ≡ kept (opening_of k) h c
+  kept_else k h d e o x c objects latest values n =
+      let s = leads (opening_of k) h in
+      (λ i. while_live ((objects i) ((latest i) c)).phase ((values i) ((latest i) c)))
+      ∙ ap (λ y. while_live y.phase (value (opening_of k) h (s.latest c))) (put_other s.object o x (s.latest c) n)
+
+  -- what has a value has one after an event, and a new object has one
+  has_value_after : (s : State) (d : ℕ) (a : Event V) (f : ℕ → Option V) (o : ℕ) → (o ≤ s.made → (x : V) × (f o ≡ Some x)) → o ≤ (after s d a).made
+      → (x : V) × (valued s a f o ≡ Some x)
+  has_value_after s d (Make b enabled null fields val) f o before le = ⊎_elim
+      (λ (q : o ≡ suc s.made). (val, put_same f (suc s.made) (Some val) o q))
+      (λ (q : o ≢ suc s.made). let t = before (omega arith) in (t.0, put_other f (suc s.made) (Some val) o q ∙ t.1)) (cases_eq o (suc s.made))
+  has_value_after s d (Share y p) f o before le = before le
+  has_value_after s d (Leave y last) f o before le = before le
+  has_value_after s d (Count y c) f o before le = before le
+  has_value_after s d (Expired y c) f o before le = before le
+  has_value_after s d (Read y c) f o before le = before le
+  has_value_after s d (WeakShare q p) f o before le = before le
+  has_value_after s d (WeakLeave y c) f o before le = before le
+  has_value_after s d (Lock y c) f o before le = before le
+  has_value_after s d (Load c x) f o before le = before le
+  has_value_after s d (Swap (Free c) x y) f o before le = before le
+  has_value_after s d (Swap (Member q c) x y) f o before le = before le
+  has_value_after s d (Compare (Free c) g x y true w) f o before le = before le
+  has_value_after s d (Compare (Member q c) g x y true w) f o before le = before le
+  has_value_after s d (Compare c g x y false w) f o before le = before le
+  has_value_after s d (ClearMember q m y) f o before le = before le
+  has_value_after s d (Finish q c val) f o before le = before le
+  has_value_after s d (Visit y c val) f o before le = ⊎_elim (λ (q : o ≡ object_of y). (val, put_same f (object_of y) (Some val) o q))
+      (λ (q : o ≢ object_of y). let t = before le in (t.0, put_other f (object_of y) (Some val) o q ∙ t.1)) (cases_eq o (object_of y))
+  has_value_after s d (Split to amount hs bs) f o before le = before le
+  has_value_after s d (Join other) f o before le = before le
+
+  -- an object that was made has a value
+  pub has_value : (z : Opening) (h : List (Entry V)) → IsLegal z h → (o : ℕ) → 1 ≤ o → o ≤ (leads z h).made → (x : V) × (value z h o ≡ Some x)
+  has_value z [] legal o lo hi = absurd (omega arith)
+  has_value z (e ∷ h) legal o lo hi = has_value_after (leads z h) e.desk e.event (value z h) o (has_value z h legal.0 o lo) hi

@@ -1,0 +1,32 @@
+use Rattle.std.proofs.Common.{◌≡◌, ◌-◌, ℕ, sym, ap, ◌∙◌}
+use Rattle.std.specs.Prelude.{slice_index}
+use Rattle.std.specs.Slots.{slots_items}
+use Rattle.control_word.specs.Layout.{spot}
+use Rattle.control_word.specs.Packing.{number_of}
+use Rattle.control_block.specs.Census.{CensusNow, owners_in}
+use Rattle.control_block.proofs.Closing.{index_at, none_less, one_less}
+use Rattle.control_block.proofs.census.Census.counts.Goals as goal
+
+pub returns-then-owners-eq0 : goal.returns-then-owners-eq0
+returns-then-owners-eq0 g c =
+    let l = slots_items c.self.inside.closed.words in let b = c.args.block.0 in
+    let o : c.unpack_count-owners.result.number ≡ owners_in c.args.self.now b =
+    c.unpack_count-owners.ensures.number
+    ∙ (ap number_of (index_at l _ c.word.result c.word.ensures ∙ ap (slice_index l) c.block_word.ensures) ∙ ap (λ (z : CensusNow). owners_in z b) c.self.view_is) in
+    let n : c.unpack_count-number.result.number ≡ number_of (slice_index c.args.self.now.words (spot b 1)) =
+    c.unpack_count-number.ensures.number
+    ∙ (ap number_of (index_at l _ c.word-2.result c.word-2.ensures ∙ ap (slice_index l) c.block_word-2.ensures)
+    ∙ ap (λ (z : CensusNow). number_of (slice_index z.words (spot b 1))) c.self.view_is) in
+    (o, n ∙ none_less (owners_in c.args.self.now b) _ (sym o ∙ c.if-owners-eq0.true))
+
+pub returns-else-owners-eq0 : goal.returns-else-owners-eq0
+returns-else-owners-eq0 g c =
+    let l = slots_items c.self.inside.closed.words in let b = c.args.block.0 in
+    let o : c.unpack_count-owners.result.number ≡ owners_in c.args.self.now b =
+    c.unpack_count-owners.ensures.number
+    ∙ (ap number_of (index_at l _ c.word.result c.word.ensures ∙ ap (slice_index l) c.block_word.ensures) ∙ ap (λ (z : CensusNow). owners_in z b) c.self.view_is) in
+    let n : c.unpack_count-number.result.number ≡ number_of (slice_index c.args.self.now.words (spot b 1)) =
+    c.unpack_count-number.ensures.number
+    ∙ (ap number_of (index_at l _ c.word-2.result c.word-2.ensures ∙ ap (slice_index l) c.block_word-2.ensures)
+    ∙ ap (λ (z : CensusNow). number_of (slice_index z.words (spot b 1))) c.self.view_is) in
+    (o, c.saturating_sub-weaks.ensures ∙ (ap (λ (x : ℕ). x - 1) n ∙ one_less (owners_in c.args.self.now b) _ (λ e. c.if-owners-eq0.false (o ∙ e))))

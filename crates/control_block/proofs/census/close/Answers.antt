@@ -1,0 +1,32 @@
+use Rattle.std.proofs.Common.{◌≡◌, ◌≤◌, refl, sym, ap, subst, ◌∙◌}
+use Rattle.std.specs.Prelude.{slice_index}
+use Rattle.control_word.proofs.history.Legal.{sound}
+use Rattle.control_word.specs.Layout.{spot}
+use Rattle.control_word.specs.Packing.{number_of}
+use Rattle.control_word.specs.State.{InShape}
+use Rattle.control_block.specs.Census.{CensusNow, EndsNot, Tells}
+use Rattle.control_block.specs.Desks.{DeskNow, allowance_of, state_of}
+use Rattle.control_block.specs.Plays.{known}
+use Rattle.control_block.specs.Rule.{opening_of}
+use Rattle.control_block.proofs.Closing.{exact_counts, tells_of}
+use Rattle.control_block.proofs.census.close.Goals as goal
+
+pub returns-clause-census : goal.returns-clause-census
+returns-clause-census g c =
+    let d = c.desk.inside in let v = d.seat.me.0 in let k = c.domain.inside.table.shared.key in let f = c.close_with.ensures.values.2 in let s = f.0 in
+    let r = f.1.0 in let h = c.desk.invariant in
+    let told = c.domain.invariant.told ∙ ap (λ z. z.shape) c.domain.view_is in
+    let shape = r.shapes d.seat.id v f.1.1 h.rests.awake in
+    let whole : (known v).allowance v.view.name ≡ v.shape.allowance =
+    ap (allowance_of {V = g.row.V.Denot}) c.desk.view_is ∙ (c.if-not-is_sole.ensures.0 refl ∙ ap (λ y. y.allowance) (sym (shape ∙ told))) in
+    let n : CensusNow = record { blocks = c.domain.inside.shape.blocks; words = Rattle.std.specs.Slots.slots_items c.close_with.result.words } in
+    record {
+      sized = ap (λ z. z.shape.blocks) c.domain.view_is;
+      tells = λ b lo hi still.
+          let inside : InShape (opening_of k) b = (lo, subst (λ y. b ≤ y.blocks) (sym told) hi) in
+          let still' : EndsNot (known v) b = subst (λ (y : DeskNow g.row.V.Denot). EndsNot (state_of y) b) (sym c.desk.view_is) still in
+          let e = exact_counts k s r d.seat.id v f.1.1 h.rests.awake h.rests.idle whole b inside still' in
+          subst (λ (y : DeskNow g.row.V.Denot). Tells (state_of y) b n) c.desk.view_is
+          (tells_of (opening_of v.shape) (known v) b n (sound (opening_of v.shape) v.view.seen h.legal) still'
+          (ap (λ l. number_of (slice_index l (spot b 0))) (sym f.2) ∙ e.0) (ap (λ l. number_of (slice_index l (spot b 1))) (sym f.2) ∙ e.1));
+    }

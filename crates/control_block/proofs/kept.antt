@@ -1,0 +1,9 @@
+pub mod Share
+pub mod WeakShare
+pub mod WeakLeave
+pub mod Look
+pub mod Leave
+pub mod Make
+pub mod Finish
+pub mod Split
+pub mod Join

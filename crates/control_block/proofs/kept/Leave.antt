@@ -1,0 +1,166 @@
+-- Leave: one owner less is allowed; the last one's leave takes the slot with the value.
+use Rattle.std.proofs.Common.{◌≡◌, ◌≢◌, ℕ, ◌+◌, ◌-◌, ◌%◌, ◌^◌, ◌<◌, ◌≤◌, ◌==◌, Bool, true, false, List, [], ◌∷◌, get_or, set, map, length-set, Option}
+use Rattle.std.proofs.Common.{Some, None, refl, sym, ap, subst, ◌∙◌, inl, inr, ⊎_elim, arith, eq-eqb, ne_eqb}
+use Rattle.std.proofs.lemmas.Bool.{cases_eq}
+use Rattle.atomic_table.specs.Table as Table
+use Rattle.atomic_table.specs.Table.{Act, Allows, Valid, carried_after, gives, keeps, put_back, rest, step, stepped, takes}
+use Rattle.atomic_table.proofs.Lists.{at_map, set_again, set_else, set_here}
+use mathlib.Core.Option.{none, some}
+use lib.ListN.{get_elem?}
+use Rattle.control_word.proofs.history.Given.{names_an_object}
+use Rattle.control_word.proofs.history.Legal.{sound}
+use Rattle.control_word.proofs.history.Moving.{counted_live, owner_counted}
+use Rattle.control_word.proofs.lists.Tallies.{put_again, put_cases, put_same}
+use Rattle.control_word.proofs.steps.Leave as law
+use Rattle.control_word.specs.Events.{moved_to}
+use Rattle.control_word.specs.Handles.{owner, empty}
+use Rattle.control_word.specs.State.{InShape, ending, kind_of_member, live, unmade}
+use Rattle.control_word.specs.declared.event.Entry.{Entry}
+use Rattle.control_word.specs.declared.event.Event.{Event}
+use Rattle.control_word.specs.declared.event.Event.TheVariants.{Leave}
+use Rattle.control_word.specs.declared.handle.Kind.TheVariants.{Owner}
+use Rattle.control_word.specs.declared.place.Block.{Block}
+use Rattle.control_word.specs.Histories.{entry, leads, value}
+use Rattle.control_word.specs.Layout.{spot}
+use Rattle.control_word.specs.Views.{Stands, sees_as}
+use Rattle.control_word.specs.declared.place.Place.{Place}
+use Rattle.control_word.specs.declared.shape.Shape.{Shape}
+use Rattle.control_word.specs.declared.view.Pending.{Pending}
+use Rattle.control_word.specs.declared.view.Pending.TheVariants.{Idle}
+use Rattle.control_block.specs.Rule.{IsBacked, IsSlotOf, Ruled, kept, opening_of, seeing, view_of, while_live}
+use Rattle.control_block.specs.Plays.{At, Holding, Rests, gave_back, left}
+use Rattle.control_block.specs.declared.board.Sight.{Sight}
+use Rattle.control_block.proofs.Passage.{adds, held_there, next, point, quiet_next, ready}
+use Rattle.control_block.proofs.Slots.{has_value, kept_else, live_home, live_unmade, others_still, slots_apart}
+use Rattle.control_block.proofs.kept.Look.{looked}
+use Rattle.control_block.proofs.kept.WeakLeave.{falls}
+
+module _ {V : Type 0} where
+  module _ (k : Shape) (s : Table.State (Option V) (Sight V)) (r : Ruled k s) (id : ℕ) (v : Sight V) (at : get_elem? s.views id ≡ some v)
+      (awake : v.view.spent ≡ false) (free : v.hand ≡ None) (o : ℕ) (p : Option Place) (b : Block) (holds : Holding v Owner o p b.0) where
+    alive : ((leads (opening_of k) r.history).object o).phase ≡ live
+    alive =
+        let z = opening_of k in let t = leads z r.history in
+        counted_live z t o (sound z r.history r.stands.legal) (owner_counted t v.view.name o p (held_there k s r id v at awake Owner o p b.0 holds).0)
+
+    named : (1 ≤ o) × (o ≤ (leads (opening_of k) r.history).made) × ((leads (opening_of k) r.history).latest b.0 ≡ o) × InShape (opening_of k) b.0
+    named =
+        let z = opening_of k in let t = leads z r.history in let mine = held_there k s r id v at awake Owner o p b.0 holds in
+        let n = names_an_object z r.history r.stands.legal v.view.name Owner (owner o p) (mine.0, refl, refl) in
+        (n.0, n.1, ap t.latest (sym mine.1) ∙ n.2, subst (InShape z) mine.1 n.3)
+
+    -- the last owner's leave, with the words after it
+    leaves_last : (words : List ℕ) → let h = entry v.view.name (Leave (owner o p) true) ∷ r.history in
+        Stands (opening_of k) words (set (map view_of s.views) id (sees_as v.view Idle h)) h
+        → Ruled k record { words = words; homes = set s.homes (b.0 - 1) none; views = set s.views id (seeing v Idle (Some b) h) }
+    leaves_last words stands =
+        let z = opening_of k in let t = leads z r.history in let d = v.view.name in let e : Event V = Leave (owner o p) true in
+        let h = entry d e ∷ r.history in
+        let x = moved_to (ending d) (t.object o) in let n = named in let fine = sound z r.history r.stands.legal in
+        let there = (held_there k s r id v at awake Owner o p b.0 holds).1 in
+        next k s r id v (seeing v Idle (Some b) h) words (set s.homes (b.0 - 1) none) h at awake (r.shapes id v at awake) stands
+        (length-set s.homes (b.0 - 1) none)
+        (λ q m. put_cases (λ j y. y.member m ≡ empty (kind_of_member m)) t.object o x q (λ i. r.bare o m) (λ i. r.bare q m))
+        (inr (ap (λ q. (Rattle.control_word.specs.State.put t.object o x q).phase) n.2 ∙ ap (λ y. y.phase) (put_same t.object o x o refl)))
+        (others_still k s r id v at awake e (stands.legal.1.asks) (λ _ _ _ _ _ i. i))
+        (λ c inside. ⊎_elim (λ (q : c ≡ b.0). inr (inl (sym q)))
+        (λ (q : c ≢ b.0). inr (inr (
+          set_else s.homes (b.0 - 1) (c - 1) none (slots_apart b.0 c n.3.0 inside.0 q),
+          kept_else k r.history d e o x c refl refl refl
+              (λ i. q (sym (fine.latest_in c (λ y. live_unmade (sym alive ∙ (ap (λ w. (t.object w).phase) (sym i ∙ y) ∙ fine.none))))
+                  ∙ (ap (λ w. (t.object w).block) i ∙ there))),
+          λ y. subst (λ w. IsSlotOf w c) free y,
+        ))) (cases_eq c b.0))
+
+  pub allows_leave : (k : Shape) (slots id o i : ℕ) (b : Block) (p : Option Place) (me : At V) → Rests me → Holding me.0 Owner o p b.0
+      → i ≡ spot b.0 0
+      → Allows (Ruled k) slots id me i (λ n. (n + (2 ^ 64 - 1)) % 2 ^ 64) (left b o p (step slots i 1 0 none) me)
+  allows_leave k slots id o i b p me rests holds e s r sized at small = ⊎_elim last others (cases_eq (get_or s.words i 0) 1)
+    where
+      stands : (c : Bool) → (get_or s.words i 0 == 1) ≡ c → let h = entry me.0.view.name (Leave (owner o p) c) ∷ r.history in
+          Stands (opening_of k) (set s.words i ((get_or s.words i 0 + (2 ^ 64 - 1)) % 2 ^ 64)) (set (map view_of s.views) id
+              (sees_as me.0.view Idle h)) h
+      stands c is =
+          let v = me.0 in let z = opening_of k in let views = map view_of s.views in
+          let mine = held_there k s r id v at rests.awake Owner o p b.0 holds in
+          let t = law.leaves' (point k s r id v) o p (ready k s r id v at rests.awake Idle rests.idle) mine.0 in
+          let same = ap (λ x. spot x 0) mine.1 ∙ sym e in
+          let h : Bool → List (Entry V) = λ y. entry v.view.name (Leave (owner o p) y) ∷ r.history in
+          let some' : 0 < get_or s.words i 0 = subst (λ x. 0 < get_or s.words x 0) same t.0 in
+          subst (λ m. Stands z (set s.words i m) (set views id (sees_as v.view Idle (h c))) (h c)) (sym (falls _ some' small))
+          (subst (λ y. Stands z (set s.words i (get_or s.words i 0 - 1)) (set views id (sees_as v.view Idle (h y))) (h y)) is
+          (subst (λ x. Stands z (set s.words x (get_or s.words x 0 - 1)) (set views id (sees_as v.view Idle (h (get_or s.words x 0 == 1)))) (h
+              (get_or s.words x 0 == 1))) same t.1))
+
+      others : get_or s.words i 0 ≢ 1
+          → (w : Sight V) × (a : Act (Option V)) × Valid s.homes me.1 a
+          × Ruled k (stepped s i ((get_or s.words i 0 + (2 ^ 64 - 1)) % 2 ^ 64) id me.1 w a)
+          × left b o p (step slots i 1 0 none) me (get_or s.words i 0) (w, carried_after me.1 a)
+      others n =
+          let v = me.0 in let ev : Event V = Leave (owner o p) false in let h = entry v.view.name ev ∷ r.history in
+          let now = stands false (ne_eqb (get_or s.words i 0) 1 n) in (
+            seeing v Idle None h,
+            keeps,
+            tt,
+            quiet_next k s r id v _ ev Idle at rests.awake rests.empty
+                record { objects = λ t d. put_again t.object o; latest = λ t d. refl; values = λ t f. refl } now,
+            (λ _. (adds k s r id v at rests.awake Idle None ev now.legal, refl), λ q. absurd (n q)),
+          )
+
+      last : get_or s.words i 0 ≡ 1
+          → (w : Sight V) × (a : Act (Option V)) × Valid s.homes me.1 a
+          × Ruled k (stepped s i ((get_or s.words i 0 + (2 ^ 64 - 1)) % 2 ^ 64) id me.1 w a)
+          × left b o p (step slots i 1 0 none) me (get_or s.words i 0) (w, carried_after me.1 a)
+      last q =
+          let v = me.0 in let z = opening_of k in let ev : Event V = Leave (owner o p) true in let h = entry v.view.name ev ∷ r.history in
+          let now = stands true (eq-eqb (get_or s.words i 0) 1 q) in let n = named k s r id v at rests.awake rests.empty o p b holds in
+          let x = has_value z r.history r.stands.legal o n.0 n.1 in (
+            seeing v Idle (Some b) h,
+            takes (b.0 - 1) (Some x.0),
+            live_home k s r b.0 o n.3 n.2 (held_there k s r id v at rests.awake Owner o p b.0 holds).1
+                (alive k s r id v at rests.awake rests.empty o p b holds) ∙ ap (λ y. some (some y)) x.1,
+            leaves_last k s r id v at rests.awake rests.empty o p b holds _ now,
+            (λ m. absurd (m q), λ _. (adds k s r id v at rests.awake Idle (Some b) ev now.legal, (x.0, ap
+                (λ y. value (opening_of y) h o) (r.shapes id v at rests.awake) ∙ x.1, refl))),
+          )
+
+  -- the empty slot of an ending goes home at the next look
+  pub allows_give_back : (k : Shape) (slots id i : ℕ) (b : Block) (me : At V) → me.0.view.spent ≡ false → me.0.view.pending ≡ Idle
+      → me.0.hand ≡ Some b
+      → me.1 ≡ (b.0 - 1, None) ∷ [] → (1 ≤ b.0) × (b.0 ≤ k.blocks)
+      → Allows (Ruled k) slots id me i (λ n. n) (gave_back (step slots i 0 0 none) me)
+  allows_give_back k slots id i b me awake idle hand carried inside s r sized at small =
+      let v = me.0 in let z = opening_of k in let w = seeing v Idle None v.view.seen in (
+        w,
+        gives,
+        tt,
+        subst (λ c. Ruled k record { words = set s.words i (get_or s.words i 0); homes = put_back s.homes c; views = set s.views id w }) (sym carried)
+            (next k s r id v w _ (set s.homes (b.0 - 1) (some None)) r.history at awake (r.shapes id v at awake)
+            (looked z s.words i _ r.history (subst (λ l. Stands z s.words l r.history) (sym (same_views s at)) r.stands))
+            (length-set s.homes (b.0 - 1) (some None)) r.bare tt (λ j u ne there un back. back)
+            (λ c within. ⊎_elim
+            (λ (q : c ≡ b.0). inl (subst (λ y. get_elem? (set s.homes (b.0 - 1) (some None)) (y - 1) ≡ some (some (kept z r.history y))) (sym q)
+            (set_here s.homes (b.0 - 1) (some None) (let l = r.sized in let l0 = inside.0 in
+            let l1 = inside.1 in omega arith) ∙ ap (λ y. some (some y)) (sym empty_there))))
+            (λ (q : c ≢ b.0). inr (inr (set_else s.homes (b.0 - 1) (c - 1) (some None) (slots_apart b.0 c inside.0 within.0 q), refl,
+                λ y. q (sym (subst (λ g. IsSlotOf g c) hand y)))))
+            (cases_eq c b.0))),
+        (refl, ap rest carried),
+      )
+    where
+      same_views : (s : Table.State (Option V) (Sight V)) → get_elem? s.views id ≡ some me.0
+          → set (map view_of s.views) id (sees_as me.0.view Idle me.0.view.seen) ≡ map view_of s.views
+      same_views s at =
+          ap (λ (y : Pending V). set (map view_of s.views) id (sees_as me.0.view y me.0.view.seen)) (sym idle)
+          ∙ set_again (map view_of s.views) id me.0.view (at_map view_of s.views id me.0 at)
+
+      -- nobody is making: so the object there is ending
+      ends : ((leads (opening_of k) r.history).object ((leads (opening_of k) r.history).latest b.0)).phase ≡ ending me.0.view.name
+      ends =
+          let t = leads (opening_of k) r.history in
+          let back : IsBacked {V = V} t me.0.view.name Idle (Some b) =
+          subst (λ (y : Pending V × Option Block). IsBacked {V = V} t me.0.view.name y.0 y.1) (λ j. (idle j, hand j)) (r.backed id me.0 at awake) in
+          ⊎_elim (λ (m : ⊥). absurd m) (λ (m : (t.object (t.latest b.0)).phase ≡ ending me.0.view.name). m) back
+
+      empty_there : kept (opening_of k) r.history b.0 ≡ None
+      empty_there = ap (λ x. while_live x (value (opening_of k) r.history ((leads (opening_of k) r.history).latest b.0))) ends

@@ -1,0 +1,125 @@
+-- Looks, which change no word: use_count, expired, and a field.
+use Rattle.std.proofs.Common.{◌≡◌, ◌≢◌, ℕ, zero, suc, ◌+◌, ◌*◌, ◌%◌, ◌/◌, ◌<◌, ◌≤◌, ◌==◌, Bool, true, false, List, ◌∷◌, get_or, set, map, Option, Some}
+use Rattle.std.proofs.Common.{refl, sym, ap, subst, ◌∙◌, inl, ⊎_elim, arith}
+use Rattle.std.proofs.lemmas.Bool.{cases_eq}
+use Rattle.atomic_table.specs.Table.{Allows, step}
+use mathlib.Core.Option.{none, some, some-injective}
+use lib.ListN.{get_elem?}
+use Rattle.control_word.proofs.history.Allowances.{allowed}
+use Rattle.control_word.proofs.steps.Look as law
+use Rattle.control_word.proofs.steps.Look.{load_is_write}
+use Rattle.control_word.proofs.views.Resting.{sum_at}
+use Rattle.control_word.proofs.words.Frames.{total_none}
+use Rattle.control_word.specs.Handles.{handle, owner, weak_of}
+use Rattle.control_word.specs.State.{Opening, sum_below, count}
+use Rattle.control_word.specs.Views.{owed, owes}
+use Rattle.control_word.specs.declared.event.Entry.{Entry}
+use Rattle.control_word.specs.declared.event.Event.TheVariants.{Count, Expired, Read}
+use Rattle.control_word.specs.declared.handle.Kind.{Kind}
+use Rattle.control_word.specs.declared.handle.Kind.TheVariants.{Owner, Weak}
+use Rattle.control_word.specs.declared.view.View.{View}
+use Rattle.control_word.specs.Histories.{entry, leads}
+use Rattle.control_word.specs.Layout.{spot}
+use Rattle.control_word.specs.Views.{Stands, sees_as}
+use Rattle.control_word.specs.declared.place.Place.{Place}
+use Rattle.control_word.specs.declared.shape.Shape.{Shape}
+use Rattle.control_word.specs.declared.view.Pending.TheVariants.{Idle}
+use Rattle.control_block.specs.Rule.{Ruled, opening_of, view_of}
+use Rattle.control_block.specs.Plays.{At, Holding, Rests, counted, found_expired, read, told}
+use Rattle.control_block.proofs.Passage.{allows_event, allows_telling, held_there, point, ready}
+
+-- two terms of a sum
+sum_two : (n p q : ℕ) (f : ℕ → ℕ) → p < n → q < n → p ≢ q → f p + f q ≤ sum_below n f
+sum_two zero p q f lp lq ne = absurd (omega arith)
+sum_two (suc n) p q f lp lq ne =
+    ⊎_elim (λ (e : p ≡ n). let t = ap f e in let u = sum_at n q f (omega arith) in omega arith)
+    (λ (np : p ≢ n). ⊎_elim (λ (e : q ≡ n). let t = ap f e in let u = sum_at n p f (omega arith) in omega arith)
+    (λ (nq : q ≢ n). let t = sum_two n p q f (omega arith) (omega arith) ne in omega arith) (cases_eq q n)) (cases_eq p n)
+
+halved : (n : ℕ) → n ≡ n % 4294967296 + 4294967296 * (n / 4294967296)
+halved n = omega arith
+
+low_half : (n : ℕ) → n % 4294967296 < 4294967296
+low_half n = omega arith
+
+module _ {V : Type 0} where
+  -- where a desk has the whole allowance, no other is left
+  pub alone : (z : Opening) (words : List ℕ) (views : List (View V)) (h : List (Entry V)) → Stands z words views h → (i : ℕ) (v : View V)
+      → get_elem? views i ≡ some v → v.spent ≡ false → (leads z h).allowance v.name ≡ z.allowance → (j : ℕ) (u : View V) → get_elem? views j ≡ some u
+      → u.spent ≡ false → j ≡ i
+  alone z words views h stands i v at awake whole j u there un =
+      let s = leads z h in let fine = allowed z h stands.legal in
+      let mine = (stands.team.seated i v at awake).acts v.name (inl refl) in
+      let other = (stands.team.seated j u there un).acts u.name (inl refl) in
+      ⊎_elim (λ (e : u.name ≡ v.name). stands.team.names j i u v there at un awake v.name (inl e) (inl refl))
+      (λ (n : u.name ≢ v.name).
+      let t = sum_two s.names u.name v.name s.allowance other.0 mine.0 n in let b = fine.shares in let c = other.2 in absurd (omega arith))
+      (cases_eq u.name v.name)
+
+  -- then no load is under way
+  pub nothing_owed : (z : Opening) (words : List ℕ) (views : List (View V)) (h : List (Entry V)) → Stands z words views h → (i : ℕ) (v : View V)
+      → get_elem? views i ≡ some v → v.spent ≡ false → v.pending ≡ Idle → (leads z h).allowance v.name ≡ z.allowance → (w : ℕ) → owed views w ≡ 0
+  nothing_owed z words views h stands i v at awake idle whole w =
+      total_none (λ (u : View V). owes u.pending w) views (λ j u e. go j u e u.spent refl)
+    where
+      go : (j : ℕ) (u : View V) → get_elem? views j ≡ some u → (t : Bool) → u.spent ≡ t → owes u.pending w ≡ 0
+      go j u e true t = ap (λ p. owes p w) (stands.team.rests j u e t)
+      go j u e false t =
+          let q : some u ≡ some v = sym e ∙ (ap (get_elem? views) (alone z words views h stands i v at awake whole j u e t) ∙ at) in
+          ap (λ (y : View V). owes y.pending w) (some-injective u v q) ∙ ap (λ p. owes p w) idle
+
+  -- a load is a write of what is there
+  pub looked : (z : Opening) (words : List ℕ) (i : ℕ) (views : List (View V)) (h : List (Entry V)) → Stands z words views h
+      → Stands z (set words i (get_or words i 0)) views h
+  looked z words i views h stands = subst (λ l. Stands z l views h) (sym (load_is_write words i)) stands
+
+  pub allows_count : (k : Shape) (slots id b o i : ℕ) (m : Kind) (p : Option Place) (me : At V) → Rests me → Holding me.0 m o p b → i ≡ spot b 0
+      → Allows (Ruled k) slots id me i (λ n. n) (counted m o p (step slots i 0 0 none) me)
+  allows_count k slots id b o i m p me rests holds e =
+      allows_telling k slots id i me (λ n. n)
+          (λ n. Count (handle m (Some o) p) (told n)) Idle (counted m o p (step slots i 0 0 none) me) rests.awake rests.empty
+      (λ n. record { objects = λ s d. refl; latest = λ s d. refl; values = λ s f. refl })
+      (λ s r at small.
+      let v = me.0 in let z = opening_of k in let views = map view_of s.views in
+      let mine = held_there k s r id v at rests.awake m o p b holds in
+      let j = spot ((leads z r.history).object o).block 0 in let same : j ≡ i = ap (λ x. spot x 0) mine.1 ∙ sym e in
+      let n = get_or s.words i 0 in
+      let now = ready k s r id v at rests.awake Idle rests.idle in
+      let t = law.tells_count (point k s r id v) m o p (n % 4294967296) (n / 4294967296) now mine.0 (ap (λ x. get_or s.words x 0) same
+          ∙ halved n) (low_half n) in (
+        looked z s.words i _ _ t.0,
+        λ a. (
+          a,
+          refl,
+          λ whole. t.1 (nothing_owed z s.words views r.history r.stands id v.view now.seated rests.awake rests.idle
+              (subst (λ y. (leads (opening_of y) r.history).allowance v.view.name ≡ y.allowance) (r.shapes id v at rests.awake) whole) j)
+              ∙ ap (λ y. count (leads (opening_of y) r.history) o) (sym (r.shapes id v at rests.awake)),
+        ),
+      ))
+
+  pub allows_expired : (k : Shape) (slots id b o i : ℕ) (p : Option Place) (me : At V) → Rests me → Holding me.0 Weak o p b → i ≡ spot b 0
+      → Allows (Ruled k) slots id me i (λ n. n) (found_expired o p (step slots i 0 0 none) me)
+  allows_expired k slots id b o i p me rests holds e =
+      allows_event k slots id i me (λ n. n) (λ n. Expired (weak_of o p) (n == 0)) Idle rests.awake rests.empty
+      (λ n. record { objects = λ s d. refl; latest = λ s d. refl; values = λ s f. refl })
+      (λ s r at small.
+      let v = me.0 in let z = opening_of k in let views = map view_of s.views in
+      let mine = held_there k s r id v at rests.awake Weak o p b holds in
+      let same = ap (λ x. spot x 0) mine.1 ∙ sym e in
+      let h : ℕ → List (Entry V) = λ x. entry v.view.name (Expired (weak_of o p) (get_or s.words x 0 == 0)) ∷ r.history in
+      looked z s.words i _ _ (subst (λ x. Stands z s.words (set views id (sees_as v.view Idle (h x))) (h x)) same
+      (law.tells_expired (point k s r id v) o p (ready k s r id v at rests.awake Idle rests.idle) mine.0)))
+
+  pub allows_read : (k : Shape) (slots id i o : ℕ) (place : Place) (p : Option Place) (me : At V) → Rests me → p ≡ Some place
+      → Holding me.0 Owner o p place.block.0 → place.field < 4 → i ≡ spot place.block.0 (3 + place.field)
+      → Allows (Ruled k) slots id me i (λ n. n) (read o p (step slots i 0 0 none) me)
+  allows_read k slots id i o place p me rests is holds low e =
+      allows_event k slots id i me (λ n. n) (λ n. Read (owner o p) n) Idle rests.awake rests.empty
+      (λ n. record { objects = λ s d. refl; latest = λ s d. refl; values = λ s f. refl })
+      (λ s r at small.
+      let v = me.0 in let z = opening_of k in let views = map view_of s.views in
+      let mine = held_there k s r id v at rests.awake Owner o (Some place) place.block.0 (subst (λ x. Holding v Owner o x place.block.0) is holds) in
+      let h : ℕ → Option Place → List (Entry V) = λ x y. entry v.view.name (Read (owner o y) (get_or s.words x 0)) ∷ r.history in
+      looked z s.words i _ _ (subst (λ (y : ℕ
+          × Option Place). Stands z s.words (set views id (sees_as v.view Idle (h y.0 y.1))) (h y.0 y.1)) (λ j. (sym e j, sym is j))
+      (law.reads (point k s r id v) o place (ready k s r id v at rests.awake Idle rests.idle) mine.0 (sym mine.1) low)))

@@ -1,0 +1,39 @@
+-- Share: one owner more is allowed.
+use Rattle.std.proofs.Common.{◌≡◌, ℕ, suc, ◌+◌, ◌%◌, ◌^◌, ◌<◌, ◌∷◌, get_or, set, map, Option, refl, sym, ap, subst, ◌∙◌, arith}
+use Rattle.atomic_table.specs.Table.{Allows, step}
+use mathlib.Core.Option.{none}
+use Rattle.control_word.proofs.history.Legal.{held_busy, sound}
+use Rattle.control_word.proofs.steps.Share as law
+use Rattle.control_word.proofs.steps.Standing.{has_headroom}
+use Rattle.control_word.specs.Handles.{IsPointer, owner}
+use Rattle.control_word.specs.Histories.{entry, leads}
+use Rattle.control_word.specs.Layout.{spot}
+use Rattle.control_word.specs.Views.{Stands, sees_as}
+use Rattle.control_word.specs.declared.event.Event.TheVariants.{Share}
+use Rattle.control_word.specs.declared.handle.Kind.TheVariants.{Owner}
+use Rattle.control_word.specs.declared.place.Place.{Place}
+use Rattle.control_word.specs.declared.shape.Shape.{Shape}
+use Rattle.control_word.specs.declared.view.Pending.TheVariants.{Idle}
+use Rattle.control_block.specs.Plays.{At, HasRoomFor, Holding, Rests, shared}
+use Rattle.control_block.specs.Rule.{Ruled, opening_of, view_of}
+use Rattle.control_block.proofs.Passage.{allows_event, held_there, point, ready, still_room}
+
+pub wraps : (n : ℕ) → n + 1099511627776 < 18446744073709551616 → (n + 1) % 2 ^ 64 ≡ suc n
+wraps n lt = omega arith
+
+module _ {V : Type 0} where
+  pub allows_share : (k : Shape) (slots id b o i : ℕ) (p q : Option Place) (me : At V) → Rests me → Holding me.0 Owner o p b → IsPointer q → HasRoomFor me.0 → i ≡ spot b 0
+      → Allows (Ruled k) slots id me i (λ n. (n + 1) % 2 ^ 64) (shared o p q (step slots i 1 0 none) me)
+  allows_share k slots id b o i p q me rests holds fine more e =
+      allows_event k slots id i me (λ n. (n + 1) % 2 ^ 64) (λ n. Share (owner o p) q) Idle rests.awake rests.empty
+      (λ n. record { objects = λ s d. refl; latest = λ s d. refl; values = λ s f. refl })
+      (λ s r at small.
+      let v = me.0 in let z = opening_of k in let views = map view_of s.views in
+      let now = ready k s r id v at rests.awake Idle rests.idle in
+      let mine = held_there k s r id v at rests.awake Owner o p b holds in
+      let h = entry v.view.name (Share (owner o p) q) ∷ r.history in
+      let busy = held_busy z (leads z r.history) v.view.name o Owner p (sound z r.history r.stands.legal) mine.0 in
+      let room = (has_headroom (point k s r id v) Idle now Owner o busy).0 in
+      subst (λ x. Stands z (set s.words x ((get_or s.words x 0 + 1) % 2 ^ 64)) (set views id (sees_as v.view Idle h)) h) (ap (λ x. spot x 0) mine.1 ∙ sym e)
+      (subst (λ m. Stands z (set s.words (spot ((leads z r.history).object o).block 0) m) (set views id (sees_as v.view Idle h)) h) (sym (wraps _ room))
+      (law.shares (point k s r id v) o p q now mine.0 fine (still_room k s r id v at rests.awake more))))

@@ -1,0 +1,35 @@
+-- What is left of a domain.
+use Rattle.std.specs.Prelude.{◌≡◌, ℕ, ◌-◌, ◌<◌, ◌≤◌, ◌↔◌, ◌==◌, cond, List, slice_index}
+use Rattle.control_word.specs.Layout.{spot}
+use Rattle.control_word.specs.Packing.{number_of}
+use Rattle.control_word.specs.State.{State, IsVacant, count, ending, weak}
+
+-- the words, and how many blocks there were
+pub record CensusNow : Type 0 where
+  pub blocks : ℕ
+  pub words : List ℕ
+
+-- owner and weak handles of a block, without the one that owners have in common
+abbrev pub owners_in : CensusNow → ℕ → ℕ
+owners_in c b = number_of (slice_index c.words (spot b 0))
+
+abbrev pub weaks_in : CensusNow → ℕ → ℕ
+weaks_in c b = number_of (slice_index c.words (spot b 1)) - cond (owners_in c b == 0) 0 1
+
+abbrev pub IsFree : CensusNow → ℕ → Type 0
+IsFree c b = number_of (slice_index c.words (spot b 1)) ≡ 0
+
+-- no object in the block is ending
+abbrev pub EndsNot : State → ℕ → Type 0
+EndsNot s b = (o d : ℕ) → (s.object o).block ≡ b → (s.object o).phase ≡ ending d → ⊥
+
+-- the handles of a block, as the state has them, and whether it is vacant
+pub record Tells (s : State) (b : ℕ) (c : CensusNow) : Type 0 where
+  pub owners : owners_in c b ≡ count s (s.latest b)
+  pub weaks : weaks_in c b ≡ weak s (s.latest b)
+  pub vacant : IsFree c b ↔ IsVacant s b
+
+-- the census tells of each block in which no object is ending
+pub record IsCensus (s : State) (n : ℕ) (c : CensusNow) : Type 0 where
+  pub sized : c.blocks ≡ n
+  pub tells : (b : ℕ) → 0 < b → b ≤ n → EndsNot s b → Tells s b c

@@ -1,0 +1,5 @@
+pub mod Rule
+pub mod Plays
+pub mod Desks
+pub mod Inside
+pub mod Census

@@ -1,0 +1,87 @@
+-- The rule of the table: what holds between any two steps.
+use Rattle.std.specs.Prelude.{◌≡◌, ◌⊎◌, ℕ, ◌+◌, ◌-◌, ◌==◌, false, cond, List, [], map, length, Option, Some, None}
+use mathlib.Core.Option.{some}
+use lib.ListN.{get_elem?}
+use Rattle.atomic_table.specs.Table as Table
+use Rattle.control_word.specs.declared.event.Entry.{Entry}
+use Rattle.control_word.specs.declared.place.Block.{Block}
+use Rattle.control_word.specs.declared.shape.Shape.{Shape}
+use Rattle.control_word.specs.declared.view.Pending.{Pending}
+use Rattle.control_word.specs.declared.view.Pending.TheVariants.{Idle, Making}
+use Rattle.control_word.specs.declared.view.View.{View}
+use Rattle.control_word.specs.Handles.{empty}
+use Rattle.control_word.specs.Histories.{leads, value}
+use Rattle.control_word.specs.Layout.{IsWithinLimits}
+use Rattle.control_word.specs.State.{Opening, State, Phase, unmade, live, gone, ending, InShape, kind_of_member}
+use Rattle.control_word.specs.Views.{Stands, sees_as}
+use Rattle.control_block.specs.declared.board.Sight.{Sight}
+
+-- a domain begins with one desk, which has all blocks and the whole allowance
+abbrev pub opening_of : Shape → Opening
+opening_of k =
+    record {
+      blocks = k.blocks;
+      shared_cells = k.shared_cells;
+      cells = k.shared_cells + k.weak_cells;
+      allowance = k.allowance;
+      desks = 1;
+      holder = λ b. 0;
+      share = λ d. cond (d == 0) k.allowance 0;
+    }
+
+-- the slot in hand is that of block b
+abbrev pub IsSlotOf : Option Block → ℕ → Type 0
+IsSlotOf None b = ⊥
+IsSlotOf (Some c) b = c.0 ≡ b
+
+-- no member cell holds anything: nothing can reach one yet
+abbrev pub HasBareMembers : State → Type 0
+HasBareMembers s = (o m : ℕ) → (s.object o).member m ≡ empty (kind_of_member m)
+
+module _ {V : Type 0} where
+  abbrev pub view_of : Sight V → View V
+  view_of u = u.view
+
+  abbrev pub while_live : Phase → Option V → Option V
+  while_live unmade v = None
+  while_live live v = v
+  while_live gone v = None
+  while_live (ending d) v = None
+
+  -- what the slot of block b keeps: the value of the object last made in it, while that is live
+  abbrev pub kept : Opening → List (Entry V) → ℕ → Option V
+  kept z h b = let o = (leads z h).latest b in while_live ((leads z h).object o).phase (value z h o)
+
+  abbrev pub IsMaking : Pending V → ℕ → Type 0
+  IsMaking (Making b known) c = b.0 ≡ c
+  IsMaking _ c = ⊥
+
+  -- who has a slot in hand is making an object in its block, or has the ending of the object there
+  abbrev pub IsBacked : State → ℕ → Pending V → Option Block → Type 0
+  IsBacked s d p None = Unit {0}
+  IsBacked s d p (Some c) = IsMaking p c.0 ⊎ ((s.object (s.latest c.0)).phase ≡ ending d)
+
+  -- one unspent seat has the slot of block b
+  abbrev pub IsOut : List (Sight V) → ℕ → Type 0
+  IsOut sights b = (j : ℕ) × (u : Sight V) × (get_elem? sights j ≡ some u) × (u.view.spent ≡ false) × IsSlotOf u.hand b
+
+  pub record Ruled (k : Shape) (s : Table.State (Option V) (Sight V)) : Type 0 where
+    pub history : List (Entry V)
+    -- the words and what the desks know stand for the history
+    pub stands : Stands (opening_of k) s.words (map view_of s.views) history
+    pub limits : IsWithinLimits k
+    pub shapes : (j : ℕ) (u : Sight V) → get_elem? s.views j ≡ some u → u.view.spent ≡ false → u.shape ≡ k
+    pub sized : length s.homes ≡ k.blocks
+    -- each slot is at home with what it keeps, or out with a desk
+    pub homes : (b : ℕ) → InShape (opening_of k) b
+        → (get_elem? s.homes (b - 1) ≡ some (some (kept (opening_of k) history b))) ⊎ IsOut s.views b
+    pub backed : (j : ℕ) (u : Sight V) → get_elem? s.views j ≡ some u → u.view.spent ≡ false
+        → IsBacked (leads (opening_of k) history) u.view.name u.view.pending u.hand
+    pub bare : HasBareMembers (leads (opening_of k) history)
+
+  -- a seat with this half-done call, this slot in hand, and this history seen
+  abbrev pub seeing : Sight V → Pending V → Option Block → List (Entry V) → Sight V
+  seeing v p c h = record { shape = v.shape; view = sees_as v.view p h; hand = c }
+
+  abbrev pub opens_with : Shape → Sight V
+  opens_with k = record { shape = k; view = record { name = 0; spent = false; pending = Idle; seen = [] }; hand = None }

@@ -1,0 +1,100 @@
+//! What is left of a domain once its sole desk closes it.
+ghost use Rattle.std.specs.Prelude.{◌≡◌, ℕ, ◌<◌, ◌≤◌, ◌↔◌, length, slice_index, IfOk, IfErr, IsOk, IsTrue};
+ghost use Rattle.control_block.specs.Census.{owners_in, weaks_in, IsFree, IsCensus};
+ghost use Rattle.control_block.specs.Desks.{allowance_of, state_of};
+
+use crate::desk::Desk;
+use crate::domain::Domain;
+use atomic_table::Closed;
+use control_word::counts::unpack_count;
+use control_word::layout::{OWNERS, WEAKS, block_word};
+use control_word::{Block, Counts, Refusal, Refused};
+use std::alloc::Global;
+use std::marker::Model;
+
+/// The counts of each block. The values that are left are dropped with it.
+pub struct Census<V: Drop + Send> {
+    closed: Closed<Option<V>, Global>,
+    blocks: u32,
+}
+
+impl<V: Drop + Send> Model for Census<V> {
+    ghost use Rattle.control_block.specs.Census.{CensusNow};
+    ghost use Rattle.std.specs.Prelude.{◌*◌, ◌≤◌};
+    ghost use Rattle.std.specs.Slots.{slots_items, slots_len, IsFull};
+
+    ghost Value = { CensusNow };
+
+    ghost view = { λ c. record { blocks = c.blocks; words = slots_items c.closed.words } };
+
+    ghost invariant = { λ c. IsFull c.closed.words × IsFull c.closed.slots × (16 * c.blocks ≤ slots_len c.closed.words) };
+}
+
+/// A sole desk closes its domain (own). Else it is refused `NotSole`, and both come back.
+pub fn close<V: Drop + Send>(
+    domain: Domain<V>,
+    desk: Desk<V>,
+) -> Result<Census<V>, Refused<(Domain<V>, Desk<V>)>>
+    requires domain { desk.domain ≡ domain.id }
+    ensures sole { IsOk result ↔ (allowance_of desk ≡ domain.shape.allowance) }
+    ensures census { IfOk result (λ c. IsCensus (state_of desk) domain.shape.blocks c) }
+    ensures refused { IfErr result (λ r. (r.why ≡ Refusal.NotSole) × (r.back ≡ (domain, desk))) }
+{
+    if !desk.is_sole(&domain) {
+        return Err(Refused {
+            why: Refusal::NotSole,
+            back: (domain, desk),
+        });
+    }
+    let Desk {
+        seat,
+        allowance: _,
+        held: _,
+        store: _,
+    } = desk;
+    let Domain { table, shape } = domain;
+    Ok(Census {
+        closed: table.close_with(seat),
+        blocks: shape.blocks,
+    })
+}
+
+impl<V: Drop + Send> Census<V> {
+    /// How many owners and weak handles the block's object has (own). Condition: the block is one of the domain's.
+    pub fn counts(&self, block: Block) -> Counts
+        requires { (0 < block.0) × (block.0 ≤ self.now.blocks) }
+        ensures { (result.owners ≡ owners_in self.now block.0) × (result.weaks ≡ weaks_in self.now block.0) }
+    {
+        let owners = unpack_count(self.closed.word(block_word(block, OWNERS))).number;
+        let number = unpack_count(self.closed.word(block_word(block, WEAKS))).number;
+        let weaks = if owners == 0 {
+            number
+        } else {
+            number.saturating_sub(1)
+        };
+        Counts { owners, weaks }
+    }
+
+    /// Whether the block is vacant (own). Condition: the block is one of the domain's.
+    pub fn is_vacant(&self, block: Block) -> bool
+        requires { (0 < block.0) × (block.0 ≤ self.now.blocks) }
+        ensures { IsTrue result ↔ IsFree self.now block.0 }
+    {
+        unpack_count(self.closed.word(block_word(block, WEAKS))).number == 0
+    }
+}
+
+impl<V: Drop + Send> Drop for Census<V> {
+    fn drop(self) {
+        let Self {
+            mut closed,
+            blocks: _,
+        } = self;
+        let mut i = 0;
+        while i < closed.slot_count() {
+            drop(closed.take(i));
+            i += 1;
+        }
+        closed.free();
+    }
+}

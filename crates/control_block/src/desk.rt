@@ -1,0 +1,61 @@
+//! A desk: one thread's part of a domain.
+ghost use Rattle.std.specs.Prelude.{◌≡◌, ◌↔◌, ℕ, length, IsTrue};
+ghost use Rattle.control_block.specs.Desks.{allowance_of, stock_of};
+
+use crate::board::Chair;
+use crate::domain::Domain;
+use control_word::Block;
+use std::alloc::Global;
+use std::marker::Model;
+
+/// One thread's part of a domain: a store of vacant blocks, and an allowance of handles. It must be joined or closed.
+pub struct Desk<V: Drop + Send> {
+    pub(crate) seat: Chair<V>,
+    pub(crate) allowance: u32,
+    /// Handles that were handed out, empty ones too.
+    pub(crate) held: u32,
+    /// It has room for all blocks.
+    pub(crate) store: Vec<Block, Global>,
+}
+
+impl<V: Drop + Send> Model for Desk<V> {
+    ghost use Rattle.control_block.specs.Desks.{DeskNow};
+    ghost use Rattle.control_block.specs.Inside.{desk_now, IsDesk};
+
+    ghost Value = { DeskNow V };
+
+    ghost view = { desk_now };
+
+    ghost invariant = { IsDesk };
+}
+
+impl<V: Drop + Send> Desk<V> {
+    /// How many vacant blocks it has (own).
+    pub fn stock(&self) -> u32
+        ensures { result ≡ length (stock_of self.now) }
+    {
+        self.store.len() as u32
+    }
+
+    /// How many handles it may hold (own).
+    pub fn allowance(&self) -> u32
+        ensures { result ≡ allowance_of self.now }
+    {
+        self.allowance
+    }
+
+    /// How many handles it holds, empty ones too (own).
+    pub fn held(&self) -> u32
+        ensures { result ≡ self.now.held }
+    {
+        self.held
+    }
+
+    /// Whether it has the whole allowance: then every other desk is joined, and it has seen all (own).
+    pub fn is_sole(&self, domain: &Domain<V>) -> bool
+        requires { self.now.domain ≡ domain.now.id }
+        ensures { IsTrue result ↔ (allowance_of self.now ≡ domain.now.shape.allowance) }
+    {
+        domain.shape.allowance == self.allowance
+    }
+}

@@ -1,0 +1,74 @@
+//! A domain: blocks and cells that desks share.
+ghost use Rattle.std.specs.Prelude.{◌≡◌, ◌⊎◌, ◌↔◌, ℕ, ◌+◌, ◌<◌, ◌≤◌, [], length, vec_capacity, IfOk, IfErr, IsTrue};
+ghost use Rattle.control_word.specs.Layout.{IsWithinLimits};
+ghost use Rattle.control_block.specs.Desks.{Begins, all_blocks};
+
+use crate::board::{Ruling, Sight};
+use crate::desk::Desk;
+use atomic_table::Table;
+use control_word::layout::table_words;
+use control_word::{Block, Refusal, Shape};
+use std::alloc::{AllocError, Global};
+use std::marker::Model;
+
+/// Blocks and cells that desks share between threads, without a lock.
+#[derive(Drop)]
+pub struct Domain<V: Drop + Send> {
+    pub(crate) table: Table<Option<V>, Sight<V>, Shape, Ruling, Global>,
+    pub(crate) shape: Shape,
+}
+
+impl<V: Drop + Send> Model for Domain<V> {
+    ghost use Rattle.control_block.specs.Desks.{DomainNow};
+    ghost use Rattle.control_block.specs.Inside.{IsDomain};
+
+    ghost Value = { DomainNow };
+
+    ghost view = { λ d. record { id = d.table.shared.table_id; shape = d.shape } };
+
+    ghost invariant = { λ d. IsDomain d.table.shared.key d.table.shared.table_id d.shape };
+}
+
+impl<V: Drop + Send> Domain<V> {
+    /// How many blocks there are (own).
+    pub fn blocks(&self) -> u32
+        ensures { result ≡ self.now.shape.blocks }
+    {
+        self.shape.blocks
+    }
+}
+
+/// All blocks, least first, with room for each.
+fn all_stored(alloc: Global, blocks: u32) -> Result<Vec<Block, Global>, AllocError>
+    requires { blocks ≤ 65535 }
+    ensures { IfOk result (λ v. (v.items ≡ all_blocks blocks) × (vec_capacity v ≡ blocks)) }
+{
+    let mut store = Vec::with_capacity(alloc, blocks as usize)?;
+    for number in 0..blocks {
+        store.push_reserved(Block((number + 1) as u16));
+    }
+    Ok(store)
+}
+
+/// A new domain, and its first desk, which has all blocks and the whole allowance (own). It is refused `Memory` where a
+/// growth was really refused, and `Shape` just where the shape is outside the limits.
+pub fn open<V: Drop + Send>(alloc: Global, shape: Shape) -> Result<(Domain<V>, Desk<V>), Refusal>
+    ensures begins { IfOk result (λ r. (r.0.shape ≡ shape) × Begins r.0 r.1) }
+    ensures refused { IfErr result (λ why. (why ≡ Refusal.Memory) ⊎ (why ≡ Refusal.Shape)) }
+    ensures shape { IfErr result (λ why. why ≡ Refusal.Shape ↔ (IsWithinLimits shape → ⊥)) }
+    ensures within { IfOk result (λ _. IsWithinLimits shape) }
+{
+    if !shape.is_within_limits() {
+        return Err(Refusal::Shape);
+    }
+    let words = Vec::from_elem(alloc, 0u64, table_words(&shape))?;
+    let store = all_stored(alloc, shape.blocks)?;
+    let (table, seat) = Table::vacant(alloc, words.as_slice(), shape.blocks as usize, &shape)?;
+    let desk = Desk {
+        seat,
+        allowance: shape.allowance,
+        held: 0,
+        store,
+    };
+    Ok((Domain { table, shape }, desk))
+}

@@ -1,0 +1,262 @@
+//! Each kind of step, as a function. Objects go by their numbers, which the proof of a call picks; words are those
+//! of the object's block.
+ghost use Rattle.std.specs.Prelude.{◌≡◌, ℕ, ◌+◌, ◌<◌, ◌≤◌, ◌==◌, false, List, [], ◌∷◌, length, slice_set, Option, None, Some, is_some, IfSome};
+ghost use Rattle.control_word.specs.Histories.{value};
+ghost use Rattle.control_block.specs.Rule.{opening_of};
+ghost use Rattle.control_word.specs.Handles.{IsPointer, handle, owner, weak_of};
+ghost use Rattle.control_word.specs.Layout.{spot};
+ghost use Rattle.control_word.specs.State.{Has, count, stored};
+ghost use Rattle.control_word.specs.Words.{flags_of};
+ghost use Rattle.control_word.specs.declared.event.Event.TheVariants.{Count, Expired, Finish, Leave, Make, Read, Share, Split, WeakLeave, WeakShare};
+ghost use Rattle.control_word.specs.declared.view.Pending.TheVariants.{Parting};
+ghost use Rattle.control_word.specs.declared.handle.Kind.TheVariants.{Owner, Weak};
+ghost use Rattle.control_block.specs.Plays.{tells, goes_on, comes_off, known, Added, JoinsUp, MaySplit, Ends, Rests, Holding, HasRoomFor, IsPrepared, MayShareWeakly};
+ghost use Rattle.control_block.specs.declared.board.Sight.{Sight};
+
+use crate::board::{Board, Chair};
+use crate::plays::{
+    Begins, Claims, Counts, Cut, FindsExpired, Finishes, Given, GivesBack, Glue, Joins, Leaves,
+    Meant, Planned, Reads, Shares, Splits, WeakLeaves, WeakShares, Writes,
+};
+use control_word::counts::told_count;
+use control_word::layout::{ENABLED, FIELDS, FLAGS, NULL, OWNERS, WEAKS, block_word};
+use control_word::{Block, Place};
+use std::marker::Brand;
+
+/// Share: one owner more, under an owner that the desk holds ([util.smartptr.shared.const]).
+pub fn share<V, M: Meant>(board: &Board<V>, chair: &mut Chair<V>, block: Block)
+    requires board { chair.old.table_id ≡ board.now.table_id }
+    requires rests { Rests chair.old.me }
+    requires word { (0 < block.0) × (spot block.0 0 < board.now.table_id.words) }
+    requires holds { Holding chair.old.me.0 Owner M.object M.place block.0 }
+    requires wanted { IsPointer M.wanted }
+    requires room { HasRoomFor chair.old.me.0 }
+    ensures chair { (chair.new.table_id ≡ chair.old.table_id) × (chair.new.id ≡ chair.old.id) × (chair.new.me.1 ≡ chair.old.me.1) }
+    ensures event { tells (Share (owner M.object M.place) M.wanted) chair.old.me.0 chair.new.me.0 }
+{
+    board.fetch_add::<Shares<M>>(chair, block_word(block, OWNERS), 1);
+}
+
+/// Weak share: one weak handle more, under a handle that the desk holds or an ending of its
+/// ([util.smartptr.weak.const], [util.smartptr.enab]).
+pub fn share_weak<V, M: Meant>(board: &Board<V>, chair: &mut Chair<V>, block: Block)
+    requires board { chair.old.table_id ≡ board.now.table_id }
+    requires rests { Rests chair.old.me }
+    requires word { (0 < block.0) × (spot block.0 1 < board.now.table_id.words) }
+    requires may { MayShareWeakly chair.old.me.0 M.object block.0 M.wanted }
+    requires room { HasRoomFor chair.old.me.0 }
+    ensures chair { (chair.new.table_id ≡ chair.old.table_id) × (chair.new.id ≡ chair.old.id) × (chair.new.me.1 ≡ chair.old.me.1) }
+    ensures event { tells (WeakShare M.object M.wanted) chair.old.me.0 chair.new.me.0 }
+{
+    board.fetch_add::<WeakShares<M>>(chair, block_word(block, WEAKS), 1);
+}
+
+/// Weak leave: one weak handle less ([util.smartptr.weak.dest]). True where the block is vacant now.
+pub fn leave_weak<V, M: Meant>(board: &Board<V>, chair: &mut Chair<V>, block: Block) -> bool
+    requires board { chair.old.table_id ≡ board.now.table_id }
+    requires rests { Rests chair.old.me }
+    requires word { (0 < block.0) × (spot block.0 1 < board.now.table_id.words) }
+    requires holds { Holding chair.old.me.0 Weak M.object M.place block.0 }
+    ensures chair { (chair.new.table_id ≡ chair.old.table_id) × (chair.new.id ≡ chair.old.id) × (chair.new.me.1 ≡ chair.old.me.1) }
+    ensures event { tells (WeakLeave (weak_of M.object M.place) result) chair.old.me.0 chair.new.me.0 }
+{
+    board.fetch_sub::<WeakLeaves<M>>(chair, block_word(block, WEAKS), 1) == 1
+}
+
+/// Look: `use_count` ([util.smartptr.shared.obs]). A desk that has the whole allowance is told the count itself; else
+/// it is 0 just where there is no owner, and at most the count.
+pub fn count<V, M: Meant>(board: &Board<V>, chair: &mut Chair<V>, block: Block) -> u32
+    requires board { chair.old.table_id ≡ board.now.table_id }
+    requires rests { Rests chair.old.me }
+    requires word { (0 < block.0) × (spot block.0 0 < board.now.table_id.words) }
+    requires holds { Holding chair.old.me.0 M.kind M.object M.place block.0 }
+    ensures chair { (chair.new.table_id ≡ chair.old.table_id) × (chair.new.id ≡ chair.old.id) × (chair.new.me.1 ≡ chair.old.me.1) }
+    ensures event { tells (Count (handle M.kind (Some M.object) M.place) result) chair.old.me.0 chair.new.me.0 }
+    ensures sole { (known chair.new.me.0).allowance chair.old.me.0.view.name ≡ chair.old.me.0.shape.allowance → result ≡ count (known chair.new.me.0) M.object }
+{
+    told_count(board.load::<Counts<M>>(chair, block_word(block, OWNERS)))
+}
+
+/// Look: whether no owner is left ([util.smartptr.weak.obs]).
+pub fn is_expired<V, M: Meant>(board: &Board<V>, chair: &mut Chair<V>, block: Block) -> bool
+    requires board { chair.old.table_id ≡ board.now.table_id }
+    requires rests { Rests chair.old.me }
+    requires word { (0 < block.0) × (spot block.0 0 < board.now.table_id.words) }
+    requires holds { Holding chair.old.me.0 Weak M.object M.place block.0 }
+    ensures chair { (chair.new.table_id ≡ chair.old.table_id) × (chair.new.id ≡ chair.old.id) × (chair.new.me.1 ≡ chair.old.me.1) }
+    ensures event { tells (Expired (weak_of M.object M.place) result) chair.old.me.0 chair.new.me.0 }
+{
+    board.load::<FindsExpired<M>>(chair, block_word(block, OWNERS)) == 0
+}
+
+/// Look: the field at a place in the object that an owner owns (own).
+pub fn read<V, M: Meant>(board: &Board<V>, chair: &mut Chair<V>, place: Place) -> u64
+    requires board { chair.old.table_id ≡ board.now.table_id }
+    requires rests { Rests chair.old.me }
+    requires word { (0 < place.block.0) × (place.field < 4) × (spot place.block.0 (3 + place.field) < board.now.table_id.words) }
+    requires place { M.place ≡ Some place }
+    requires holds { Holding chair.old.me.0 Owner M.object M.place place.block.0 }
+    ensures chair { (chair.new.table_id ≡ chair.old.table_id) × (chair.new.id ≡ chair.old.id) × (chair.new.me.1 ≡ chair.old.me.1) }
+    ensures event { tells (Read (owner M.object M.place) result) chair.old.me.0 chair.new.me.0 }
+{
+    let word = FIELDS + usize::from(place.field);
+    board.load::<Reads<M>>(chair, block_word(place.block, word))
+}
+
+/// Leave: one owner less. Of the last one ([util.smartptr.shared.dest]) the value comes out, and its object ends in the
+/// hands of the desk: the slot is taken at the leave, emptied, and given back by a look.
+pub fn leave<V: Drop + Send, M: Meant>(
+    board: &Board<V>,
+    chair: &mut Chair<V>,
+    block: Block,
+) -> Option<V>
+    requires board { chair.old.table_id ≡ board.now.table_id }
+    requires rests { Rests chair.old.me }
+    requires word { (0 < block.0) × (block.0 ≤ board.now.key.blocks) × (spot block.0 0 < board.now.table_id.words) }
+    requires holds { (M.block ≡ block) × Holding chair.old.me.0 Owner M.object M.place block.0 }
+    ensures chair { (chair.new.table_id ≡ chair.old.table_id) × (chair.new.id ≡ chair.old.id) × (chair.new.me.1 ≡ []) }
+    ensures event { tells (Leave (owner M.object M.place) (is_some result)) chair.old.me.0 chair.new.me.0 }
+    ensures value { IfSome result (λ x. value (opening_of chair.old.me.0.shape) chair.new.me.0.view.seen M.object ≡ Some x) }
+{
+    let word = block_word(block, OWNERS);
+    if board.fetch_sub::<Leaves<M>>(chair, word, 1) != 1 {
+        return None;
+    }
+    let Some(value) = board.exchange(chair, usize::from(block.0) - 1, None) else {
+        unreachable!()
+    };
+    board.load::<GivesBack>(chair, word);
+    Some(value)
+}
+
+/// The first write of a make: the weak word of an own vacant block becomes 1, and its empty slot is in hand.
+fn begin<V, M: Meant>(board: &Board<V>, chair: &mut Chair<V>, block: Block)
+    requires board { chair.old.table_id ≡ board.now.table_id }
+    requires rests { Rests chair.old.me }
+    requires word { (0 < block.0) × (spot block.0 1 < board.now.table_id.words) }
+    requires stored { (M.block ≡ block) × Has (stored chair.old.me.0.view.name block.0) (known chair.old.me.0).stores }
+    ensures chair { (chair.new.table_id ≡ chair.old.table_id) × (chair.new.id ≡ chair.old.id) }
+    ensures prepared { (l : List ℕ) × IsPrepared chair.old.me.0 block chair.new.me l None }
+{
+    board.store::<Begins<M>>(chair, block_word(block, WEAKS), 1);
+}
+
+/// A further write of a make: flags are word 0, fields words 1 to 4. A word that has its value is only looked at.
+fn write<V, M: Meant>(board: &Board<V>, chair: &mut Chair<V>, block: Block, word: usize, value: u64)
+    requires board { chair.old.table_id ≡ board.now.table_id }
+    requires word { (0 < block.0) × (spot block.0 9 < board.now.table_id.words) × (word < 5) }
+    requires meant { (M.block ≡ block) × (M.word ≡ word) }
+    requires prepared { (v : Sight V) × (l : List ℕ) × (x : Option V) × (v.view.spent ≡ false) × IsPrepared v block chair.old.me l x }
+    ensures chair { (chair.new.table_id ≡ chair.old.table_id) × (chair.new.id ≡ chair.old.id) }
+    ensures wrote { (v : Sight V) (l : List ℕ) (x : Option V) → v.view.spent ≡ false → IsPrepared v block chair.old.me l x → IsPrepared v block chair.new.me (slice_set l word value) x }
+{
+    let place = block_word(block, FLAGS + word);
+    if board.load::<Writes<M>>(chair, place) != value {
+        board.store::<Writes<M>>(chair, place, value);
+    }
+}
+
+/// All writes of a make before its claim.
+fn prepare<V>(board: &Board<V>, chair: &mut Chair<V>, block: Block, flags: u64, fields: [u64; 4])
+    requires sized { length fields ≡ 4 }
+    requires board { chair.old.table_id ≡ board.now.table_id }
+    requires rests { Rests chair.old.me }
+    requires word { (0 < block.0) × (spot block.0 9 < board.now.table_id.words) }
+    requires stored { Has (stored chair.old.me.0.view.name block.0) (known chair.old.me.0).stores }
+    ensures chair { (chair.new.table_id ≡ chair.old.table_id) × (chair.new.id ≡ chair.old.id) }
+    ensures prepared { IsPrepared chair.old.me.0 block chair.new.me (flags ∷ fields) None }
+{
+    begin::<V, Brand>(board, chair, block);
+    write::<V, Brand>(board, chair, block, 0, flags);
+    write::<V, Brand>(board, chair, block, 1, fields[0]);
+    write::<V, Brand>(board, chair, block, 2, fields[1]);
+    write::<V, Brand>(board, chair, block, 3, fields[2]);
+    write::<V, Brand>(board, chair, block, 4, fields[3]);
+}
+
+/// The claim: a prepared block with a value in its slot becomes an object with one owner.
+fn claim<V, M: Planned>(board: &Board<V>, chair: &mut Chair<V>, block: Block)
+    requires board { chair.old.table_id ≡ board.now.table_id }
+    requires word { (0 < block.0) × (spot block.0 0 < board.now.table_id.words) }
+    requires planned { (M.block ≡ block) × (length M.fields ≡ 4) }
+    requires prepared { (v : Sight V) × (x : V) × (v.view.spent ≡ false) × HasRoomFor v × IsPrepared v block chair.old.me (flags_of M.enabled M.null ∷ M.fields) (Some x) }
+    ensures chair { (chair.new.table_id ≡ chair.old.table_id) × (chair.new.id ≡ chair.old.id) × (chair.new.me.1 ≡ []) }
+    ensures event { (v : Sight V) (x : V) → IsPrepared v block chair.old.me (flags_of M.enabled M.null ∷ M.fields) (Some x) → tells (Make block M.enabled M.null M.fields x) v chair.new.me.0 }
+{
+    board.swap::<Claims<M>>(chair, block_word(block, OWNERS), 1);
+}
+
+/// Make: an object in an own vacant block, with one owner ([util.smartptr.shared.create]; for an owned null pointer
+/// [util.smartptr.shared.const]).
+pub fn make<V: Drop + Send, M: Planned>(
+    board: &Board<V>,
+    chair: &mut Chair<V>,
+    block: Block,
+    enabled: bool,
+    null: bool,
+    fields: [u64; 4],
+    value: V,
+)
+    requires planned { (M.block ≡ block) × (M.enabled ≡ enabled) × (M.null ≡ null) × (M.fields ≡ fields) }
+    requires board { chair.old.table_id ≡ board.now.table_id }
+    requires rests { Rests chair.old.me }
+    requires word { (0 < block.0) × (spot block.0 9 < board.now.table_id.words) }
+    requires stored { Has (stored chair.old.me.0.view.name block.0) (known chair.old.me.0).stores }
+    requires room { HasRoomFor chair.old.me.0 }
+    ensures chair { (chair.new.table_id ≡ chair.old.table_id) × (chair.new.id ≡ chair.old.id) × (chair.new.me.1 ≡ []) }
+    ensures event { tells (Make block enabled null fields value) chair.old.me.0 chair.new.me.0 }
+{
+    let flags = u64::from(enabled) * ENABLED + u64::from(null) * NULL;
+    prepare(board, chair, block, flags, fields);
+    board.exchange(chair, usize::from(block.0) - 1, Some(value));
+    claim::<V, M>(board, chair, block);
+}
+
+/// Finish: an ending gives up the owners' common weak count (own). True where the block is vacant now.
+pub fn finish<V, M: Meant>(board: &Board<V>, chair: &mut Chair<V>, block: Block) -> bool
+    requires board { chair.old.table_id ≡ board.now.table_id }
+    requires rests { Rests chair.old.me }
+    requires word { (0 < block.0) × (spot block.0 1 < board.now.table_id.words) }
+    requires ends { Ends chair.old.me.0 M.object block.0 }
+    requires value { (x : V) × (value (opening_of chair.old.me.0.shape) chair.old.me.0.view.seen M.object ≡ Some x) }
+    ensures chair { (chair.new.table_id ≡ chair.old.table_id) × (chair.new.id ≡ chair.old.id) × (chair.new.me.1 ≡ chair.old.me.1) }
+    ensures event { (x : V) → value (opening_of chair.old.me.0.shape) chair.old.me.0.view.seen M.object ≡ Some x → tells (Finish M.object result x) chair.old.me.0 chair.new.me.0 }
+{
+    board.fetch_sub::<Finishes<M>>(chair, block_word(block, WEAKS), 1) == 1
+}
+
+/// Split: the look at which a new desk gets its name and what it is given (own).
+pub fn note_split<V, G: Given>(board: &Board<V>, chair: &mut Chair<V>)
+    requires board { chair.old.table_id ≡ board.now.table_id }
+    requires rests { Rests chair.old.me }
+    requires word { 0 < board.now.table_id.words }
+    requires may { MaySplit chair.old.me.0 G.allowance G.handles G.blocks }
+    ensures chair { (chair.new.table_id ≡ chair.old.table_id) × (chair.new.id ≡ chair.old.id) × (chair.new.me.1 ≡ []) }
+    ensures event { (to : ℕ) × Added chair.old.me.0 (Parting to) None (Split to G.allowance G.handles G.blocks) chair.new.me.0 }
+{
+    board.load::<Splits<G>>(chair, 0);
+}
+
+/// The cut that follows: the new desk's chair. Both have seen the same.
+pub fn cut<V>(board: &Board<V>, chair: &mut Chair<V>) -> Chair<V>
+    requires board { chair.old.table_id ≡ board.now.table_id }
+    requires word { 0 < board.now.table_id.words }
+    requires parts { (chair.old.me.0.view.spent ≡ false) × (chair.old.me.0.hand ≡ None) × (chair.old.me.1 ≡ []) }
+    requires named { (to : ℕ) × (chair.old.me.0.view.pending ≡ Parting to) }
+    ensures chair { (chair.new.table_id ≡ chair.old.table_id) × (chair.new.id ≡ chair.old.id) × (chair.new.me ≡ (goes_on chair.old.me.0, [])) }
+    ensures other { (result.table_id ≡ chair.old.table_id) × (result.me ≡ (comes_off chair.old.me.0, [])) }
+{
+    board.split_seat::<Cut>(chair)
+}
+
+/// Join: two chairs at rest become one, and a look makes the event (own). The chair has then seen all that either had.
+pub fn join<V>(board: &Board<V>, chair: &mut Chair<V>, other: Chair<V>)
+    requires board { (chair.old.table_id ≡ board.now.table_id) × (other.table_id ≡ board.now.table_id) }
+    requires rests { Rests chair.old.me × Rests other.me }
+    requires word { 0 < board.now.table_id.words }
+    ensures chair { (chair.new.table_id ≡ chair.old.table_id) × (chair.new.id ≡ chair.old.id) × (chair.new.me.1 ≡ []) }
+    ensures event { JoinsUp chair.old.me.0 other.me.0 chair.new.me.0 }
+{
+    board.join_seat::<Glue>(chair, other);
+    board.load::<Joins>(chair, 0);
+}

@@ -1,0 +1,89 @@
+-- Going past idle tasks changes nothing that a thread means.
+use Rattle.std.proofs.Common.{◌≡◌, ℕ, ◌+◌, ◌-◌, ◌<◌, ◌≤◌, Bool, true, false, cond, List, ◌∷◌, length, set, drop, sym, ap, subst, ◌∙◌, arith, length-set}
+use Rattle.std.proofs.Common.{get_or-set_same}
+use Rattle.std.specs.Prelude.{None}
+use Rattle.std.proofs.lemmas.Bool.{cond-true, cond-false, false≢true}
+use Rattle.std.proofs.lemmas.List.{drop_more}
+use Rattle.step_core.specs.declared.act.Act.{Act}
+use Rattle.step_core.specs.declared.act.Act.TheVariants.{Make, Share, Put, Leave, Clear, Count}
+use Rattle.step_core.specs.declared.act.Task.{Task}
+use Rattle.step_core.specs.declared.course.Course.{Course}
+use Rattle.step_core.specs.Courses.{Begins, CourseReady, IsPassed, IsReady, Ready, hand, idle, no_task, placed, settled, slots_idle, taken_after}
+use Rattle.step_core.specs.Courses.{taken_idle, task_at, todo}
+use Rattle.step_core.specs.Holdings.{Slots, slot}
+
+pub todo_at : (c : Course) → c.at < length c.tasks.items → todo c ≡ task_at c ∷ drop (c.at + 1) c.tasks.items
+todo_at c lt = drop_more c.tasks.items c.at no_task lt
+
+settled_idle : (slots : Slots) (taken : Bool) (t : Task) (ts : List Task) → idle t.act slots taken ≡ true
+    → settled slots taken (t ∷ ts) ≡ settled (slots_idle t.act slots taken) (taken_idle t.act taken) ts
+settled_idle slots taken t ts e = cond-true (idle t.act slots taken) _ _ e
+
+settled_still : (slots : Slots) (taken : Bool) (t : Task) (ts : List Task) → idle t.act slots taken ≡ false
+    → settled slots taken (t ∷ ts) ≡ record { slots = slots; taken = taken; todo = t ∷ ts }
+settled_still slots taken t ts e = cond-false (idle t.act slots taken) _ _ e
+
+pub passed_todo : (a b : Course) → IsPassed a b → todo b ≡ drop (a.at + 1) a.tasks.items
+passed_todo a b p = let x = p.at in let y = p.tasks in cc
+
+pub passed_same : (a b : Course) → a.at < length a.tasks.items → idle (task_at a).act a.holdings.slots.items a.taken ≡ true → IsPassed a b
+    → settled b.holdings.slots.items b.taken (todo b) ≡ settled a.holdings.slots.items a.taken (todo a)
+passed_same a b lt e p =
+    let h = todo_at a lt in
+    let i = settled_idle a.holdings.slots.items a.taken (task_at a) (drop (a.at + 1) a.tasks.items) e in
+    let n = p.slots in let m = p.taken in let t = passed_todo a b p in
+    cc
+
+placed_length : (k : ℕ) (slots : Slots) → length (placed k slots) ≡ length slots
+placed_length k slots = length-set (set slots k (slot slots (hand slots))) (hand slots) None ∙ length-set slots k (slot slots (hand slots))
+
+placed_hand : (k : ℕ) (slots : Slots) → 0 < length slots → slot (placed k slots) (hand slots) ≡ None
+placed_hand k slots lt =
+    get_or-set_same (set slots k (slot slots (hand slots))) (hand slots) None None (let e = length-set slots k (slot slots
+        (hand slots)) in omega (arith, e))
+
+placed_ready : (k : ℕ) (slots : Slots) (ts : List Task) → 0 < length slots → Ready (hand slots) false ts → IsReady (placed k slots) false ts
+placed_ready k slots ts lt r =
+    let e = placed_length k slots in
+    let h : hand (placed k slots) ≡ hand slots = ap (λ (n : ℕ). n - 1) e in
+    record {
+      some = omega (arith, e);
+      free = λ t. ap (λ (n : ℕ). slot (placed k slots) n) h ∙ placed_hand k slots lt;
+      ready = subst (λ (n : ℕ). Ready n false ts) (sym h) r;
+    }
+
+put_ready : (k : ℕ) (slots : Slots) (taken : Bool) (ts : List Task) → 0 < length slots → (taken ≡ false → slot slots (hand slots) ≡ None)
+    → Ready (hand slots) false ts
+    → IsReady (cond taken (placed k slots) slots) false ts
+put_ready k slots true ts lt free r = placed_ready k slots ts lt r
+put_ready k slots false ts lt free r = record { some = lt; free = free; ready = r }
+
+ready_past : (act : Act) (slots : Slots) (taken : Bool) (ts : List Task) → idle act slots taken ≡ true → 0 < length slots → (taken ≡ false
+    → slot slots (hand slots) ≡ None)
+    → Ready (hand slots) (taken_after act taken) ts → IsReady (slots_idle act slots taken) (taken_idle act taken) ts
+ready_past (Make fields) slots taken ts i lt free r = absurd (false≢true i)
+ready_past (Share k) slots taken ts i lt free r = absurd (false≢true i)
+ready_past (Put k) slots taken ts i lt free r = put_ready k slots taken ts lt free r
+ready_past (Leave k) slots taken ts i lt free r = absurd (false≢true i)
+ready_past (Clear k) slots taken ts i lt free r = record { some = lt; free = free; ready = r }
+ready_past (Count k) slots taken ts i lt free r = absurd (false≢true i)
+
+-- what the next act may rely on, and what is left to do after it
+pub ready_head : (c : Course) → c.at < length c.tasks.items → CourseReady c
+    → Begins (hand c.holdings.slots.items) c.taken (task_at c).act
+    × Ready (hand c.holdings.slots.items) (taken_after (task_at c).act c.taken) (drop (c.at + 1) c.tasks.items)
+ready_head c lt r = subst (λ (ts : List Task). Ready (hand c.holdings.slots.items) c.taken ts) (todo_at c lt) r.ready
+
+pub passed_ready : (a b : Course) → a.at < length a.tasks.items → idle (task_at a).act a.holdings.slots.items a.taken ≡ true → IsPassed a b
+    → CourseReady a → CourseReady b
+passed_ready a b lt e p r =
+    let k = ready_past (task_at a).act a.holdings.slots.items a.taken _ e r.some r.free (ready_head a lt r).1 in
+    subst (λ (z : Slots). IsReady z b.taken (todo b)) (sym p.slots)
+    (subst (λ (z : Bool). IsReady (slots_idle (task_at a).act a.holdings.slots.items a.taken) z (todo b)) (sym p.taken)
+    (subst (λ (z : List Task). IsReady (slots_idle (task_at a).act a.holdings.slots.items a.taken) (taken_idle (task_at a).act a.taken) z)
+        (sym (passed_todo a b p)) k))
+
+pub passed_within : (a b : Course) → a.at < length a.tasks.items → IsPassed a b → b.at ≤ length b.tasks.items
+passed_within a b lt p = subst
+    (λ (z : ℕ). z ≤ length b.tasks.items) (sym p.at) (let e : length b.tasks.items ≡ length a.tasks.items = (let k = p.tasks in cc) in omega
+    (arith, e, lt))

@@ -1,0 +1,181 @@
+-- The end of an object keeps a thread fitting the table.
+use Rattle.std.proofs.Common.{◌≡◌, ◌≢◌, ℕ, zero, suc, ◌+◌, ◌<◌, ◌≤◌, ◌==◌, true, false, cond, not, List, [], ◌∷◌, length, refl, sym, ap, subst, ◌∙◌}
+use Rattle.std.proofs.Common.{⊎_elim, arith, eq-eqb, ne_eqb}
+use Rattle.std.proofs.lemmas.Bool.{cases_eq, cond_both, cond-true, cond-false, eqb-true, and_parts}
+use Rattle.std.proofs.lemmas.List.Sorted.{sum_by_pushed}
+use Rattle.std.proofs.lemmas.List.Sums.{sum_by-cons}
+use Rattle.std.specs.List.{filter}
+use Rattle.std.specs.List.Sorted.{IsPermutation}
+use Rattle.control_word.proofs.history.Legal.{sound}
+use Rattle.control_word.proofs.lists.Sums.{num_le}
+use Rattle.control_word.proofs.lists.Tallies.{num_cons, put_cases}
+use Rattle.control_word.specs.declared.place.Block.{Block}
+use Rattle.control_word.specs.Laws.{how_often}
+use Rattle.control_word.specs.State.{State, Object, Stored as Kept_in, ending, same_stored, stored}
+use Rattle.step_core.specs.declared.half.Half.{Half}
+use Rattle.step_core.specs.declared.half.Half.TheVariants.{Rest, Ending}
+use Rattle.step_core.specs.declared.past.Deed.TheVariants.{Clear, Finish}
+use Rattle.step_core.specs.declared.thread.Thread.{Thread}
+use Rattle.step_core.specs.Actors.{HalfFits, IsEnding, Stocks, in_list, in_store}
+use Rattle.step_core.specs.Openings.{opening}
+use Rattle.step_core.specs.Stocks.{Stored}
+use Rattle.step_core.specs.Stories.{Kept, Story, after, object_in, state}
+use Rattle.step_core.specs.Threads.{Fits, fields_at}
+use Rattle.step_core.proofs.Threads.{own_pending}
+use Rattle.step_core.proofs.holding.Storing.{counted_stored, one_stored}
+use Rattle.step_core.proofs.tables.Places.{ending_busy, there}
+
+pub ends_here : (d : ℕ) (t : Thread) (v : Story) (b : Block) (i : ℕ) → Fits d t v → t.half ≡ Ending b i → IsEnding d b i v
+ends_here d t v b i fits e = subst (λ (h : Half). HalfFits d h (fields_at t.course) v) e fits.half
+
+-- numbers from 1 to n, each once at most, are n or fewer
+without_number : (b c : ℕ) (l : List ℕ) → in_list c (filter (λ x. not (x == b)) l) ≤ in_list c l
+without_number b c [] = omega arith
+without_number b c (x ∷ xs) =
+    let i = without_number b c xs in
+    let a = sum_by-cons (λ (y : ℕ). cond (y == c) 1 0) x xs in
+    cond_both (not (x == b)) (x ∷ filter (λ y. not (y == b)) xs) (filter (λ y. not (y == b)) xs) (λ r. in_list c r ≤ in_list c (x ∷ xs))
+    (λ t. let k = sum_by-cons (λ (y : ℕ). cond (y == c) 1 0) x (filter (λ y. not (y == b)) xs) in omega (arith, i, a, k))
+    (λ t. omega (arith, i, a))
+
+none_left : (b : ℕ) (l : List ℕ) → in_list b (filter (λ x. not (x == b)) l) ≡ 0
+none_left b [] = refl
+none_left b (x ∷ xs) =
+    let i = none_left b xs in
+    ⊎_elim
+    (λ (e : x ≡ b). let n : not (x == b) ≡ false = ap not (eq-eqb x b e) in ap (in_list b) (cond-false (not (x == b)) (x ∷ filter
+        (λ y. not (y == b)) xs) (filter (λ y. not (y == b)) xs) n) ∙ i)
+    (λ (e : x ≢ b). let n : not (x == b) ≡ true = ap not (ne_eqb x b e) in
+    let a = sum_by-cons (λ (y : ℕ). cond (y == b) 1 0) x (filter (λ y. not (y == b)) xs) in
+    let z = cond-false {A = ℕ} (x == b) 1 0 (ne_eqb x b e) in
+    ap (in_list b) (cond-true (not (x == b)) (x ∷ filter (λ y. not (y == b)) xs) (filter (λ y. not (y == b)) xs) n)
+        ∙ omega (arith, i, a, z)) (cases_eq x b)
+
+parted : (b : ℕ) (l : List ℕ) → length l ≡ in_list b l + length (filter (λ x. not (x == b)) l)
+parted b [] = refl
+parted b (x ∷ xs) =
+    let i = parted b xs in
+    let a = sum_by-cons (λ (y : ℕ). cond (y == b) 1 0) x xs in
+    ⊎_elim
+    (λ (e : x ≡ b). let n : not (x == b) ≡ false = ap not (eq-eqb x b e) in
+    let f = ap (length {A = ℕ}) (cond-false (not (x == b)) (x ∷ filter (λ y. not (y == b)) xs) (filter (λ y. not (y == b)) xs) n) in
+    let z = cond-true {A = ℕ} (x == b) 1 0 (eq-eqb x b e) in omega (arith, i, a, f, z))
+    (λ (e : x ≢ b). let n : not (x == b) ≡ true = ap not (ne_eqb x b e) in
+    let f = ap (length {A = ℕ}) (cond-true (not (x == b)) (x ∷ filter (λ y. not (y == b)) xs) (filter (λ y. not (y == b)) xs) n) in
+    let z = cond-false {A = ℕ} (x == b) 1 0 (ne_eqb x b e) in omega (arith, i, a, f, z)) (cases_eq x b)
+
+few : (n : ℕ) (l : List ℕ) → ((b : ℕ) → in_list b l ≤ 1) → ((b : ℕ) → 0 < in_list b l → (1 ≤ b) × (b ≤ n)) → length l ≤ n
+few zero [] once low = omega arith
+few zero (x ∷ xs) once low =
+    let a = sum_by-cons (λ (y : ℕ). cond (y == x) 1 0) x xs in
+    let z = cond-true {A = ℕ} (x == x) 1 0 (eq-eqb x x refl) in
+    let t = low x (omega (arith, a, z)) in absurd (let p = t.0 in let q = t.1 in omega (arith, p, q))
+few (suc n) l once low =
+    let r = filter (λ x. not (x == suc n)) l in
+    let i = few n r (λ b. let w = without_number (suc n) b l in let o = once b in omega (arith, w, o))
+    (λ b lt.
+    let w = without_number (suc n) b l in
+    let t = low b (omega (arith, w, lt)) in
+    let p = t.0 in let q = t.1 in
+    ⊎_elim (λ (e : b ≡ suc n). absurd (let z : in_list b r ≡ 0 = ap (λ (k : ℕ). in_list k r) e ∙ none_left (suc n) l in omega (arith, z, lt)))
+    (λ (e : b ≢ suc n). (p, omega (arith, q, e))) (cases_eq b (suc n))) in
+    let p = parted (suc n) l in let o = once (suc n) in omega (arith, i, p, o)
+
+most_once : (d b : ℕ) (s : State) → in_store s d b ≤ how_often b s.stores
+most_once d b s =
+    num_le (same_stored (stored d b)) (λ (x : Kept_in). x.block == b) s.stores
+    (λ x t. eq-eqb x.block b (sym (eqb-true _ _ (and_parts _ _ t).1)))
+
+-- the store of a desk has each block of the shape once at most
+store_few : (d : ℕ) (v : Story) (l : List ℕ) → Kept v → ((b : ℕ) → in_store (state v) d b ≡ in_list b l) → length l ≤ v.extent.shape.blocks
+store_few d v l kept same =
+    let fine = sound (opening v.extent) v.history kept.stands.legal in
+    few v.extent.shape.blocks l
+    (λ b. let m = most_once d b (state v) in let o = fine.once b in let s = same b in omega (arith, m, o, s))
+    (λ b lt. (fine.stores d b (counted_stored (stored d b) (state v).stores (let s = same b in omega (arith, s, lt)))).1)
+
+finished_store : (d : ℕ) (v : Story) (b : Block) (c : ℕ) → ((state v).object (object_in v b)).block ≡ b.0
+    → in_store (state (after v d (Finish b true))) d c ≡ cond (b.0 == c) 1 0 + in_store (state v) d c
+finished_store d v b c at =
+    let y = ((state v).object (object_in v b)).block in
+    let a = num_cons (same_stored (stored d c)) (stored d y) (state v).stores in
+    let o = one_stored d y c in
+    let e : ◌≡◌ {A = ℕ} (cond (y == c) 1 0) (cond (b.0 == c) 1 0) = ap (λ (k : ℕ). cond (k == c) 1 0) at in
+    omega (arith, a, o, e)
+
+ended_stock : (d : ℕ) (t : Thread) (v : Story) (b : Block) → Fits d t v → t.half ≡ Ending b 3 → Stocks d t.stock.blocks t.stock.room (Ending b 3) v
+ended_stock d t v b fits e = subst (λ (h : Half). Stocks d t.stock.blocks t.stock.room h v) e fits.stocks
+
+-- a block that is vacant again has room in the store
+pub room_left : (d : ℕ) (t : Thread) (v : Story) (b : Block) → Kept v → Kept (after v d (Finish b true)) → Fits d t v → t.half ≡ Ending b 3
+    → length t.stock.blocks < t.stock.room
+room_left d t v b kept kept' fits e =
+    let i = ends_here d t v b 3 fits e in
+    let at = (there v b kept (ending_busy v d b i.ending)).0 in
+    let s = ended_stock d t v b fits e in
+    let f = store_few d (after v d (Finish b true)) (b.0 ∷ t.stock.blocks) kept'
+    (λ c. let g = finished_store d v b c at in let a = sum_by-cons (λ (y : ℕ). cond (y == c) 1 0) b.0 t.stock.blocks in
+    let o = s.stocked c in omega (arith, g, a, o)) in
+    let r = s.roomy in omega (arith, f, r)
+
+pub fits_finish : (d : ℕ) (t : Thread) (v : Story) (b : Block) (s : Stored) → Kept v → Fits d t v → t.half ≡ Ending b 3
+    → IsPermutation (b.0 ∷ t.stock.blocks) s.blocks → t.stock.room ≤ s.room
+        → Fits d (record { course = t.course; stock = s; half = Rest }) (after v d (Finish b true))
+fits_finish d t v b s kept fits e p room =
+    let i = ends_here d t v b 3 fits e in
+    let at = (there v b kept (ending_busy v d b i.ending)).0 in
+    let x = ended_stock d t v b fits e in
+    record {
+      seat = fits.seat;
+      holds = record { owned = fits.holds.owned; size = fits.holds.size; formed = fits.holds.formed };
+      within = fits.within;
+      ready = fits.ready;
+      still = fits.still;
+      half = own_pending v d (Finish b true) kept fits.seat;
+      next = tt;
+      stocks =
+          record {
+            stocked = λ c.
+                let g = finished_store d v b c at in
+                let a = sum_by_pushed (λ (y : ℕ). cond (y == c) 1 0) b.0 t.stock.blocks s.blocks p in
+                let o = x.stocked c in omega (arith, g, a, o);
+            roomy = (let r = x.roomy in omega (arith, r, room));
+          };
+    }
+
+pub fits_finish_not : (d : ℕ) (t : Thread) (v : Story) (b : Block) → Kept v → Fits d t v → t.half ≡ Ending b 3
+    → Fits d (record { course = t.course; stock = t.stock; half = Rest }) (after v d (Finish b false))
+fits_finish_not d t v b kept fits e =
+    let x = ended_stock d t v b fits e in
+    record {
+      seat = fits.seat;
+      holds = record { owned = fits.holds.owned; size = fits.holds.size; formed = fits.holds.formed };
+      within = fits.within;
+      ready = fits.ready;
+      still = fits.still;
+      half = own_pending v d (Finish b false) kept fits.seat;
+      next = tt;
+      stocks = record { stocked = x.stocked; roomy = x.roomy };
+    }
+
+pub fits_clear : (d : ℕ) (t : Thread) (v : Story) (b : Block) (i : ℕ) → Kept v → Fits d t v → t.half ≡ Ending b i → i < 3
+    → Fits d (record { course = t.course; stock = t.stock; half = Ending b (i + 1) }) (after v d (Clear b i))
+fits_clear d t v b i kept fits e lt =
+    let o = object_in v b in
+    let n = ends_here d t v b i fits e in
+    let x : Stocks d t.stock.blocks t.stock.room (Ending b i) v = subst (λ (h : Half). Stocks d t.stock.blocks t.stock.room h v) e fits.stocks in
+    record {
+      seat = fits.seat;
+      holds = record { owned = fits.holds.owned; size = fits.holds.size; formed = fits.holds.formed };
+      within = fits.within;
+      ready = fits.ready;
+      still = fits.still;
+      half =
+          record {
+            idle = own_pending v d (Clear b i) kept fits.seat;
+            ending = put_cases (λ j (y : Object). y.phase ≡ ending d) (state v).object o _ o (λ q. n.ending) (λ q. n.ending);
+            within = omega arith;
+          };
+      next = tt;
+      stocks = record { stocked = x.stocked; roomy = x.roomy };
+    }

@@ -1,0 +1,9 @@
+pub mod tables
+pub mod Walks
+pub mod Stocks
+pub mod holding
+pub mod Courses
+pub mod Threads
+pub mod Endings
+pub mod Moves
+pub mod Worlds

@@ -1,0 +1,181 @@
+-- A thread's own deeds keep it fitting the table.
+use Rattle.std.proofs.Common.{◌≡◌, ◌≢◌, ℕ, ◌+◌, ◌<◌, ◌≤◌, Bool, true, false, cond, not, List, [], ◌∷◌, length, set, get_or, refl, sym, ap, subst, ◌∙◌}
+use Rattle.std.proofs.Common.{⊎_elim, arith, get_or-set_same, get_or-set_other, length-set}
+use Rattle.std.proofs.lemmas.Bool.{cases_eq, cond_both}
+use Rattle.std.specs.List.Sorted.{IsPermutation}
+use Rattle.control_word.specs.declared.place.Block.{Block}
+use Rattle.control_word.specs.declared.view.Pending.{Pending}
+use Rattle.control_word.specs.declared.view.View.{View}
+use Rattle.control_word.specs.State.{Has, stored}
+use Rattle.control_word.specs.Steps.{known_of}
+use Rattle.control_word.specs.Views.{used_up}
+use Rattle.step_core.specs.declared.act.Act.{Act}
+use Rattle.step_core.specs.declared.act.Act.TheVariants.{Make, Share, Put, Leave, Clear, Count}
+use Rattle.step_core.specs.declared.act.Task.{Task}
+use Rattle.step_core.specs.declared.course.Course.{Course}
+use Rattle.step_core.specs.declared.half.Half.{Half}
+use Rattle.step_core.specs.declared.half.Half.TheVariants.{Rest, Making}
+use Rattle.step_core.specs.declared.past.Deed.{Deed}
+use Rattle.step_core.specs.declared.past.Deed.TheVariants as deed
+use Rattle.step_core.specs.declared.thread.Thread.{Thread}
+use Rattle.step_core.specs.Actors.{HalfFits, IsPrepared, Stocks, wanted}
+use Rattle.step_core.specs.Courses.{Begins, CourseReady, HasGoneOn, IsReady, Ready, hand, rest, taken_after, task_at}
+use Rattle.step_core.specs.Stocks.{Stored}
+use Rattle.step_core.specs.Stories.{Kept, Nothing, Story, after, known, pending, pending_after, state}
+use Rattle.step_core.specs.Threads.{Fits, IsNext, fields_at, fields_of}
+use Rattle.step_core.proofs.Courses.{ready_head}
+use Rattle.step_core.proofs.holding.Storing.{stocks_claim, stocks_take}
+use Rattle.step_core.proofs.tables.Places.{making_stored, named}
+
+-- the desk's own half-done call after its deed
+pub own_pending : (v : Story) (d : ℕ) (x : Deed) → Kept v → d < v.extent.actors → pending (after v d x) d ≡ pending_after v d x
+own_pending v d x kept lt =
+    ap (λ (w : View Nothing). w.pending) (get_or-set_same v.views d _ used_up (let s = kept.seats.size in omega (arith, s)))
+
+weaker : (n : ℕ) (act : Act) → Begins n true act → Begins n false act
+weaker n (Make fields) b = (refl, b.1)
+weaker n (Share k) b = (b.0, refl)
+weaker n (Put k) b = b
+weaker n (Leave k) b = b
+weaker n (Clear k) b = b
+weaker n (Count k) b = b
+
+ready_more : (n : ℕ) (act : Act) (ts : List Task) → (Ready n true ts → Ready n false ts) → Ready n (taken_after act true) ts
+    → Ready n (taken_after act false) ts
+ready_more n (Make fields) ts f r = r
+ready_more n (Share k) ts f r = r
+ready_more n (Put k) ts f r = r
+ready_more n (Leave k) ts f r = f r
+ready_more n (Clear k) ts f r = f r
+ready_more n (Count k) ts f r = f r
+
+-- what is ready for a value in hand is ready for none
+ready_any : (n : ℕ) (ts : List Task) → Ready n true ts → Ready n false ts
+ready_any n [] r = r
+ready_any n (t ∷ ts) r = (weaker n t.act r.0, ready_more n t.act ts (ready_any n ts) r.1)
+
+-- a make that is refused takes nothing
+pub refused_ready : (c : Course) (fields : List ℕ) → c.at < length c.tasks.items → CourseReady c → (task_at c).act ≡ Make fields
+    → IsReady c.holdings.slots.items c.taken (rest c)
+refused_ready c fields lt ready act =
+    let h = ready_head c lt ready in
+    let n = hand c.holdings.slots.items in
+    let b : Begins n c.taken (Make fields) = subst (Begins n c.taken) act h.0 in
+    let r : Ready n true (rest c) = subst (λ (a : Act). Ready n (taken_after a c.taken) (rest c)) act h.1 in
+    record { some = ready.some; free = ready.free; ready = subst (λ (t : Bool). Ready n t (rest c)) (sym b.0) (ready_any n (rest c) r) }
+
+pub fields_here : (c : Course) (fields : List ℕ) → (task_at c).act ≡ Make fields → fields_at c ≡ fields
+fields_here c fields e = ap fields_of e
+
+next_here : (c : Course) (fields : List ℕ) → (task_at c).act ≡ Make fields → (task_at c).act ≡ Make (fields_at c)
+next_here c fields e = e ∙ ap Make (sym (fields_here c fields e))
+
+pub resting : (d : ℕ) (t : Thread) (v : Story) → Fits d t v → t.half ≡ Rest → Stocks d t.stock.blocks t.stock.room Rest v
+resting d t v fits e = subst (λ (h : Half). Stocks d t.stock.blocks t.stock.room h v) e fits.stocks
+
+pub prepared : (d : ℕ) (t : Thread) (v : Story) (b : Block) (i : ℕ) (f : Bool) → Fits d t v → t.half ≡ Making b i f
+    → IsPrepared d b i (fields_at t.course) v
+prepared d t v b i f fits e = subst (λ (h : Half). HalfFits d h (fields_at t.course) v) e fits.half
+
+pub fits_prepare : (d : ℕ) (t : Thread) (v : Story) (b : Block) (s : Stored) (fields : List ℕ) → Kept v → Fits d t v → t.half ≡ Rest
+    → t.course.at < length t.course.tasks.items → (task_at t.course).act ≡ Make fields → IsPermutation t.stock.blocks (b.0 ∷ s.blocks)
+        → s.room ≡ t.stock.room
+    → Fits d (record { course = t.course; stock = s; half = Making b 0 false }) (after v d (deed.Prepare b))
+fits_prepare d t v b s fields kept fits e lt act p room =
+    let o = own_pending v d (deed.Prepare b) kept fits.seat in
+    let x = stocks_take d t.stock.blocks s.blocks t.stock.room 0 false v b (resting d t v fits e) p in
+    record {
+      seat = fits.seat;
+      holds = record { owned = fits.holds.owned; size = fits.holds.size; formed = fits.holds.formed };
+      within = fits.within;
+      ready = fits.ready;
+      still = fits.still;
+      half =
+          record {
+            making = record { words = known_of v.words b.0; size = refl; making = o };
+            within = omega arith;
+            done = λ j l. absurd (omega arith);
+          };
+      next = (lt, next_here t.course fields act);
+      stocks = record { stocked = x.stocked; roomy = (let q = x.roomy in omega (arith, q, room)) };
+    }
+
+pub fits_look : (d : ℕ) (t : Thread) (v : Story) (b : Block) (i n : ℕ) (same : Bool) → Fits d t v → t.half ≡ Making b i false → i < 5
+    → n ≡ cond same (i + 1) i → (same ≡ true → get_or (known (pending v d)) i 0 ≡ get_or (wanted (fields_at t.course)) i 0)
+    → Fits d (record { course = t.course; stock = t.stock; half = Making b n (not same) }) v
+fits_look d t v b i n same fits e lt is here =
+    let p = prepared d t v b i false fits e in
+    let x : Stocks d t.stock.blocks t.stock.room (Making b i false) v = subst
+        (λ (h : Half). Stocks d t.stock.blocks t.stock.room h v) e fits.stocks in
+    let y : IsNext (Making b i false) t.course = subst (λ (h : Half). IsNext h t.course) e fits.next in
+    record {
+      seat = fits.seat;
+      holds = fits.holds;
+      within = fits.within;
+      ready = fits.ready;
+      still = fits.still;
+      half =
+          record {
+            making = p.making;
+            within = subst (λ (k : ℕ). k ≤ 5) (sym is) (cond_both same (i + 1) i (λ (k : ℕ). k ≤ 5) (λ q. omega arith) (λ q. omega arith));
+            done = λ j l.
+                cond_both same (i + 1) i (λ (k : ℕ). n ≡ k → get_or (known (pending v d)) j 0 ≡ get_or (wanted (fields_at t.course)) j 0)
+                (λ q r. ⊎_elim (λ (u : j ≡ i). subst
+                    (λ (k : ℕ). get_or (known (pending v d)) k 0 ≡ get_or (wanted (fields_at t.course)) k 0) (sym u) (here q))
+                (λ (u : j ≢ i). p.done j (omega (arith, l, r, u))) (cases_eq j i))
+                (λ q r. p.done j (omega (arith, l, r))) is;
+          };
+      next = y;
+      stocks = record { stocked = x.stocked; roomy = x.roomy };
+    }
+
+pub fits_write : (d : ℕ) (t : Thread) (v : Story) (b : Block) (i : ℕ) → Kept v → Fits d t v → t.half ≡ Making b i true → i < 5
+    → Fits d (record { course = t.course; stock = t.stock; half = Making b (i + 1) false }) (after v d (deed.Write b i (get_or (wanted
+        (fields_at t.course)) i 0)))
+fits_write d t v b i kept fits e lt =
+    let n = get_or (wanted (fields_at t.course)) i 0 in
+    let p = prepared d t v b i true fits e in
+    let o = own_pending v d (deed.Write b i n) kept fits.seat in
+    let x : Stocks d t.stock.blocks t.stock.room (Making b i true) v = subst (λ (h : Half). Stocks d t.stock.blocks t.stock.room h v) e fits.stocks in
+    let y : IsNext (Making b i true) t.course = subst (λ (h : Half). IsNext h t.course) e fits.next in
+    let k = known (pending v d) in
+    let five : length k ≡ 5 = ap (λ (q : Pending Nothing). length (known q)) p.making.making ∙ p.making.size in
+    record {
+      seat = fits.seat;
+      holds = record { owned = fits.holds.owned; size = fits.holds.size; formed = fits.holds.formed };
+      within = fits.within;
+      ready = fits.ready;
+      still = fits.still;
+      half =
+          record {
+            making = record { words = set k i n; size = length-set k i n ∙ five; making = o };
+            within = omega arith;
+            done = λ j l.
+                ap (λ (q : Pending Nothing). get_or (known q) j 0) o
+                ∙ ⊎_elim (λ (u : j ≡ i). subst
+                    (λ (m : ℕ). get_or (set k i n) m 0 ≡ get_or (wanted (fields_at t.course)) m 0) (sym u) (get_or-set_same k i n 0 (omega
+                    (arith, five))))
+                (λ (u : j ≢ i). get_or-set_other k i j n 0 u ∙ p.done j (omega (arith, l, u))) (cases_eq j i);
+          };
+      next = y;
+      stocks = record { stocked = x.stocked; roomy = x.roomy };
+    }
+
+pub fits_claim : (d : ℕ) (t : Thread) (v : Story) (b : Block) (f : Bool) (fields : List ℕ) (c : Course) → Kept v → Fits d t v → t.half ≡ Making b 5 f
+    → HasGoneOn d t.course c (after v d (deed.Claim b false false fields))
+    → Fits d (record { course = c; stock = t.stock; half = Rest }) (after v d (deed.Claim b false false fields))
+fits_claim d t v b f fields c kept fits e on =
+    let p = prepared d t v b 5 f fits e in
+    let x : Stocks d t.stock.blocks t.stock.room (Making b 5 f) v = subst (λ (h : Half). Stocks d t.stock.blocks t.stock.room h v) e fits.stocks in
+    let has = subst (λ (n : ℕ). Has (stored n b.0) (state v).stores) (named v d kept fits.seat)
+        (making_stored v d b p.making.words kept fits.seat p.making.making) in
+    record {
+      seat = fits.seat;
+      holds = on.holds;
+      within = on.within;
+      ready = on.ready;
+      still = on.still;
+      half = own_pending v d (deed.Claim b false false fields) kept fits.seat;
+      next = tt;
+      stocks = stocks_claim d t.stock.blocks t.stock.room 5 f v b fields x has;
+    }

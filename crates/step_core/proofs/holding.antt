@@ -1,0 +1,4 @@
+pub mod Others
+pub mod Owning
+pub mod Slots
+pub mod Storing

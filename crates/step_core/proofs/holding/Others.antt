@@ -1,0 +1,188 @@
+-- What other desks do changes nothing of what a desk has.
+use Rattle.std.proofs.Common.{◌≡◌, ◌≢◌, ℕ, suc, ◌<◌, ◌≤◌, ◌==◌, Bool, true, cond, List, [], ◌∷◌, length, get_or, Option, Some, None, refl, sym, ap}
+use Rattle.std.proofs.Common.{subst, ◌∙◌, arith, eq-eqb, get_or-set_other}
+use Rattle.std.proofs.lemmas.Bool.{cond_both, eqb-true, and_parts}
+use Rattle.control_word.proofs.history.Kept.{Same, block_after, has_same, same_after, still}
+use Rattle.control_word.proofs.history.Legal.{held_busy, sound}
+use Rattle.control_word.proofs.lists.Parts.{part}
+use Rattle.control_word.proofs.lists.Tallies.{num, num_cons, put_cases}
+use Rattle.control_word.specs.declared.event.Event.TheVariants as event
+use Rattle.control_word.specs.declared.handle.Handle.{Handle}
+use Rattle.control_word.specs.declared.handle.Kind.TheVariants.{Owner}
+use Rattle.control_word.specs.declared.place.Block.{Block}
+use Rattle.control_word.proofs.history.Moving.{counted_live, owner_counted}
+use Rattle.control_word.specs.declared.view.Pending.{Pending}
+use Rattle.control_word.specs.declared.view.View.{View}
+use Rattle.control_word.specs.Handles.{empty, owner, same_handle}
+use Rattle.control_word.specs.State.{Has, Held, Object, Phase, State, Stored, bag, common, ending, held, kind_of_member, live, same_held, same_stored}
+use Rattle.control_word.specs.State.{stock, stored, unmade, weak_number}
+use Rattle.control_word.specs.Views.{used_up}
+use Rattle.step_core.specs.declared.half.Half.{Half}
+use Rattle.step_core.specs.declared.half.Half.TheVariants.{Rest, Making, Ending}
+use Rattle.step_core.specs.declared.holdings.Pointer.{Pointer}
+use Rattle.step_core.specs.declared.past.Deed.{Deed}
+use Rattle.step_core.specs.declared.past.Deed.TheVariants.{Prepare, Write, Claim, Share, Leave, Count, Clear, Finish}
+use Rattle.step_core.specs.Actors.{HalfFits, Stocks, in_store}
+use Rattle.step_core.specs.Holdings.{Holds, Slots, is_it, owns, slot, times}
+use Rattle.step_core.specs.Openings.{opening}
+use Rattle.step_core.specs.Stories.{Kept, known, Nothing, Story, after, object_in, owner_in, pending, state}
+use Rattle.step_core.proofs.holding.Owning.{slot_held}
+use Rattle.step_core.proofs.holding.Slots.{one_slot}
+use Rattle.step_core.proofs.tables.Places.{ending_busy, owner_busy, there}
+
+-- what is counted of a desk's part
+num_part : {A : Type 0} (who : A → ℕ) (d : ℕ) (p : A → Bool) (l : List A) → ((x : A) → p x ≡ true → who x ≡ d) → num p l ≡ num p (part who d l)
+num_part who d p [] mine = refl
+num_part who d p (x ∷ xs) mine =
+    let i = num_part who d p xs mine in
+    let a = num_cons p x xs in
+    cond_both (who x == d) (x ∷ part who d xs) (part who d xs) (λ r. num p (x ∷ xs) ≡ num p r)
+    (λ t. let b = num_cons p x (part who d xs) in omega (arith, i, a, b))
+    (λ t. let n : num p (x ∷ []) ≡ 0 = cond_both (p x) (x ∷ []) [] (λ r. length r ≡ 0)
+    (λ u. let e = eq-eqb (who x) d (mine x u) in cc) (λ u. refl) in omega (arith, i, a, n))
+
+times_bag : (s : State) (d : ℕ) (h : Handle) → times s d h ≡ num (same_held (held d h)) (bag s d)
+times_bag s d h = num_part (λ (x : Held). x.desk) d (same_held (held d h)) s.hands (λ x t. sym (eqb-true _ _ (and_parts _ _ t).0))
+
+stores_stock : (s : State) (d b : ℕ) → in_store s d b ≡ num (same_stored (stored d b)) (stock s d)
+stores_stock s d b = num_part (λ (x : Stored). x.desk) d (same_stored (stored d b)) s.stores (λ x t. sym (eqb-true _ _ (and_parts _ _ t).0))
+
+pub same_deed : (v : Story) (e d : ℕ) (x : Deed) → e ≢ d → Same (state v) (state (after v e x)) d
+same_deed v e d (Prepare b) n = still (state v) d
+same_deed v e d (Write b j m) n = still (state v) d
+same_deed v e d (Claim b enabled null fields) n = same_after {V = Nothing} (state v) d e (event.Make b enabled null fields tt) n (λ z. z)
+same_deed v e d (Share b p q) n = same_after {V = Nothing} (state v) d e (event.Share (owner_in v b p) q) n (λ z. z)
+same_deed v e d (Leave b p last) n = same_after {V = Nothing} (state v) d e (event.Leave (owner_in v b p) last) n (λ z. z)
+same_deed v e d (Count b p m) n = still (state v) d
+same_deed v e d (Clear b m) n = same_after {V = Nothing} (state v) d e (event.ClearMember (object_in v b) m (empty (kind_of_member m))) n (λ z. z)
+same_deed v e d (Finish b vacant) n = same_after {V = Nothing} (state v) d e (event.Finish (object_in v b) vacant tt) n (λ z. z)
+
+-- the block of an object that was made stays, whatever a deed does
+block_stays : (v : Story) (e o : ℕ) (x : Deed) → o ≤ (state v).made → ((state (after v e x)).object o).block ≡ ((state v).object o).block
+block_stays v e o (Prepare b) le = refl
+block_stays v e o (Write b j m) le = refl
+block_stays v e o (Claim b enabled null fields) le = (block_after {V = Nothing} (state v) e o (event.Make b enabled null fields tt) le).0
+block_stays v e o (Share b p q) le = refl
+block_stays v e o (Leave b p last) le = (block_after {V = Nothing} (state v) e o (event.Leave (owner_in v b p) last) le).0
+block_stays v e o (Count b p m) le = refl
+block_stays v e o (Clear b m) le = (block_after {V = Nothing} (state v) e o (event.ClearMember (object_in v b) m (empty (kind_of_member m))) le).0
+block_stays v e o (Finish b vacant) le = (block_after {V = Nothing} (state v) e o (event.Finish (object_in v b) vacant tt) le).0
+
+-- the object in a block that a desk keeps is the same
+kept_object : (v : Story) (e : ℕ) (b : Block) (x : Deed) → Kept v → Kept (after v e x) → 0 < weak_number (state v) (object_in v b)
+    → 0 < weak_number (state (after v e x)) (object_in v b) → object_in (after v e x) b ≡ object_in v b
+kept_object v e b x kept kept' busy busy' =
+    let o = object_in v b in
+    let fine = sound (opening v.extent) v.history kept.stands.legal in
+    let fine' = sound (opening v.extent) (after v e x).history kept'.stands.legal in
+    let p = (fine'.placed o busy').0 in
+    let c = block_stays v e o x (fine.latest_made b.0) ∙ (there v b kept busy).0 in
+    subst (λ (k : ℕ). (state (after v e x)).latest k ≡ o) c p
+
+still_held : (d : ℕ) (slots : Slots) (v : Story) (e : ℕ) (x : Deed) (i : ℕ) (y : Pointer) → e ≢ d → Holds d slots v → slot slots i ≡ Some y
+    → Has (held d (owner_in v y.block y.place)) (state (after v e x)).hands
+still_held d slots v e x i y n holds at = has_same (state v) (state (after v e x)) d _ (same_deed v e d x n) (slot_held d slots v i y holds at)
+
+slot_object : (d : ℕ) (slots : Slots) (v : Story) (e : ℕ) (x : Deed) (i : ℕ) (y : Pointer) → e ≢ d → Kept v → Kept (after v e x) → Holds d slots v
+    → slot slots i ≡ Some y → object_in (after v e x) y.block ≡ object_in v y.block
+slot_object d slots v e x i y n kept kept' holds at =
+    kept_object v e y.block x kept kept' (owner_busy v d y.block y.place kept (slot_held d slots v i y holds at))
+    (held_busy (opening v.extent) (state (after v e x)) d (object_in v y.block) Owner y.place
+    (sound (opening v.extent) (after v e x).history kept'.stands.legal) (still_held d slots v e x i y n holds at))
+
+same_is : (v w : Story) (h : Handle) (y : Option Pointer) → ((p : Pointer) → y ≡ Some p → object_in w p.block ≡ object_in v p.block)
+    → is_it w h y ≡ is_it v h y
+same_is v w h None f = refl
+same_is v w h (Some p) f = ap (λ (o : ℕ). same_handle h (owner o p.place)) (f p refl)
+
+same_owns : (v w : Story) (h : Handle) (slots : Slots) → ((i : ℕ) (p : Pointer) → slot slots i ≡ Some p → object_in w p.block ≡ object_in v p.block)
+    → owns w slots h ≡ owns v slots h
+same_owns v w h [] f = refl
+same_owns v w h (y ∷ ys) f =
+    let i = same_owns v w h ys (λ j p e. f (suc j) p e) in
+    let a = num_cons (is_it w h) y ys in
+    let b = num_cons (is_it v h) y ys in
+    let c : num (is_it w h) (y ∷ []) ≡ num (is_it v h) (y ∷ []) = one_slot (is_it w h) y
+        ∙ ap (λ (t : Bool). cond t 1 0) (same_is v w h y (λ p e. f 0 p e)) ∙ sym (one_slot (is_it v h) y) in
+    omega (arith, i, a, b, c)
+
+-- another desk's deed leaves what a desk holds
+pub holds_others : (d : ℕ) (slots : Slots) (v : Story) (e : ℕ) (x : Deed) → e ≢ d → Kept v → Kept (after v e x) → Holds d slots v
+    → Holds d slots (after v e x)
+holds_others d slots v e x n kept kept' holds =
+    let same = same_deed v e d x n in
+    let w = after v e x in
+    record {
+      owned = λ h.
+          times_bag (state w) d h ∙ ap (λ (l : List Held). num (same_held (held d h)) l) same.in_bag ∙ sym (times_bag (state v) d h) ∙ holds.owned h
+          ∙ sym (same_owns v w h slots (λ i p at. slot_object d slots v e x i p n kept kept' holds at));
+      size = ap (λ (l : List Held). length l) same.in_bag ∙ holds.size;
+      formed = holds.formed;
+    }
+
+same_pending : (v : Story) (e d : ℕ) (x : Deed) → e ≢ d → pending (after v e x) d ≡ pending v d
+same_pending v e d x n = ap (λ (w : View Nothing). w.pending) (get_or-set_other v.views e d _ used_up (λ (q : d ≡ e). n (sym q)))
+
+-- another desk's deed leaves a store
+pub stocks_others : (d : ℕ) (blocks : List ℕ) (room : ℕ) (half : Half) (v : Story) (e : ℕ) (x : Deed) → e ≢ d → Stocks d blocks room half v
+    → Stocks d blocks room half (after v e x)
+stocks_others d blocks room half v e x n stocks =
+    let same = same_deed v e d x n in
+    record {
+      stocked = λ b.
+          stores_stock (state (after v e x)) d b ∙ ap (λ (l : List Stored). num (same_stored (stored d b)) l) same.in_stock
+              ∙ sym (stores_stock (state v) d b)
+          ∙ stocks.stocked b;
+      roomy = stocks.roomy;
+    }
+
+phase_differs : (d e : ℕ) (p : Phase) → p ≡ ending d → p ≡ ending e → e ≡ d
+phase_differs d e p a b = let k : ending e ≡ ending d = sym b ∙ a in cc
+
+-- an object that ends in a desk's hands goes on to end there
+ends_on : (v : Story) (e d o : ℕ) (x : Deed) → e ≢ d → Kept v → Kept (after v e x) → ((state v).object o).phase ≡ ending d
+    → ((state (after v e x)).object o).phase ≡ ending d
+ends_on v e d o (Prepare b) n kept kept' end = end
+ends_on v e d o (Write b j m) n kept kept' end = end
+ends_on v e d o (Claim b enabled null fields) n kept kept' end =
+    let fine = sound (opening v.extent) v.history kept.stands.legal in
+    put_cases (λ i (y : Object). i ≡ o → y.phase ≡ ending d) (state v).object (suc (state v).made) _ o
+    (λ q t. absurd (let f = fine.fresh o (omega arith) in let k : ending d ≡ unmade = sym end ∙ f in cc)) (λ q t. end) refl
+ends_on v e d o (Share b p q) n kept kept' end = end
+ends_on v e d o (Leave b p last) n kept kept' end =
+    let fine = sound (opening v.extent) v.history kept.stands.legal in
+    let has = kept'.stands.legal.1.asks.0.0 in
+    let alive = counted_live (opening v.extent) (state v) (object_in v b) fine (owner_counted (state v) e (object_in v b) p has) in
+    put_cases (λ i (y : Object). i ≡ o → y.phase ≡ ending d) (state v).object (object_in v b) _ o
+    (λ q t. absurd (let k : ending d ≡ live = sym end ∙ ap (λ (j : ℕ). ((state v).object j).phase) q ∙ alive in cc)) (λ q t. end) refl
+ends_on v e d o (Count b p m) n kept kept' end = end
+ends_on v e d o (Clear b m) n kept kept' end =
+    put_cases (λ i (y : Object). i ≡ o → y.phase ≡ ending d) (state v).object (object_in v b) _ o
+    (λ q t. ap (λ (j : ℕ). ((state v).object j).phase) (sym q) ∙ end) (λ q t. end) refl
+ends_on v e d o (Finish b vacant) n kept kept' end =
+    let his = kept'.stands.legal.1.asks.0 in
+    put_cases (λ i (y : Object). i ≡ o → y.phase ≡ ending d) (state v).object (object_in v b) _ o
+    (λ q t. absurd (n (phase_differs d e ((state v).object o).phase end (ap (λ (j : ℕ). ((state v).object j).phase) q ∙ his)))) (λ q t. end) refl
+
+-- another desk's deed leaves a half-done act
+pub half_others : (d : ℕ) (half : Half) (fields : List ℕ) (v : Story) (e : ℕ) (x : Deed) → e ≢ d → Kept v → Kept (after v e x)
+    → HalfFits d half fields v
+    → HalfFits d half fields (after v e x)
+half_others d Rest fields v e x n kept kept' fits = same_pending v e d x n ∙ fits
+half_others d (Making b at f) fields v e x n kept kept' fits =
+    let same = same_pending v e d x n in
+    record {
+      making = record { words = fits.making.words; size = fits.making.size; making = same ∙ fits.making.making };
+      within = fits.within;
+      done = λ j le. ap (λ (p : Pending Nothing). get_or (known p) j 0) same ∙ fits.done j le;
+    }
+half_others d (Ending b at) fields v e x n kept kept' fits =
+    let end = ends_on v e d (object_in v b) x n kept kept' fits.ending in
+    let busy : 0 < weak_number (state (after v e x)) (object_in v b) = let c : common ((state (after v e x)).object
+        (object_in v b)).phase ≡ 1 = ap common end in omega arith in
+    let o = kept_object v e b x kept kept' (ending_busy v d b fits.ending) busy in
+    record {
+      idle = same_pending v e d x n ∙ fits.idle;
+      ending = subst (λ (k : ℕ). ((state (after v e x)).object k).phase ≡ ending d) (sym o) end;
+      within = fits.within;
+    }

@@ -1,0 +1,173 @@
+-- What a share and a leave do to a desk's bag and to its slots.
+use Rattle.std.proofs.Common.{◌≡◌, ◌≢◌, ℕ, suc, ◌<◌, ◌≤◌, ◌==◌, Bool, false, cond, List, [], ◌∷◌, length, set, Option, Some, None, refl, sym, ap, subst}
+use Rattle.std.proofs.Common.{◌∙◌, ⊎_elim, arith, get_or-set_same, get_or-set_other, length-set}
+use Rattle.std.proofs.lemmas.Bool.{cases_eq}
+use Rattle.control_word.proofs.lists.Tallies.{handle_self, held_self, held_true, num, num_cons, num_has, num_without}
+use Rattle.control_word.proofs.words.Counting.{bag_one}
+use Rattle.control_word.specs.declared.handle.Handle.{Handle}
+use Rattle.control_word.specs.declared.place.Block.{Block}
+use Rattle.control_word.proofs.history.Legal.{sound}
+use Rattle.control_word.proofs.lists.Tallies.{put_other, put_same}
+use Rattle.control_word.specs.Events.{place_at}
+use Rattle.control_word.specs.Handles.{IsPointer, owner, same_handle}
+use Rattle.control_word.specs.State.{Has, Held, InShape, bag_size, held, same_held, stored}
+use Rattle.step_core.specs.declared.holdings.Pointer.{Pointer}
+use Rattle.step_core.specs.declared.past.Deed.TheVariants.{Claim, Share, Leave, Count}
+use Rattle.step_core.specs.Holdings.{Holds, IsSlot, Slots, is_full, is_it, owns, slot}
+use Rattle.step_core.specs.Openings.{opening}
+use Rattle.step_core.specs.Stories.{Story, Kept, after, object_in, owner_in, state}
+use Rattle.step_core.proofs.tables.Places.{owner_busy, there}
+use Rattle.step_core.proofs.holding.Slots.{counted_has, full_less, has_slot, num_set, one_held, one_slot, slot_inside}
+use Rattle.step_core.proofs.tables.Start.{forty}
+
+-- a pointer in a slot is a handle in the bag
+pub slot_held : (d : ℕ) (slots : Slots) (v : Story) (i : ℕ) (x : Pointer) → Holds d slots v → slot slots i ≡ Some x
+    → Has (held d (owner_in v x.block x.place)) (state v).hands
+slot_held d slots v i x holds e =
+    let h = owner_in v x.block x.place in
+    let n = num_has (is_it v h) (Some x) slots (has_slot slots i x e) (handle_self h) in
+    counted_has (held d h) (state v).hands (let o = holds.owned h in omega (arith, n, o))
+
+pub slot_formed : (d : ℕ) (slots : Slots) (v : Story) (i : ℕ) (x : Pointer) → Holds d slots v → slot slots i ≡ Some x → IsPointer x.place
+slot_formed d slots v i x holds e = subst IsSlot e (holds.formed i)
+
+-- where a slot is empty the desk may have one more handle
+pub has_room : (d : ℕ) (slots : Slots) (v : Story) (i : ℕ) → Kept v → d < v.extent.actors → Holds d slots v → length slots < 34
+    → i < length slots → slot slots i ≡ None
+    → bag_size (state v) d < (state v).allowance d
+has_room d slots v i kept lt holds few inside e =
+    let a = full_less slots i inside e in
+    let b = forty v.extent kept.proper d lt in
+    let c = ap (λ (f : ℕ → ℕ). f d) kept.allowed in
+    let s = holds.size in omega (arith, a, b, c, s)
+
+formed_set : (slots : Slots) (i : ℕ) (x : Option Pointer) → ((j : ℕ) → IsSlot (slot slots j)) → i < length slots → IsSlot x → (j : ℕ)
+    → IsSlot (slot (set slots i x) j)
+formed_set slots i x all lt fine j =
+    ⊎_elim (λ (e : j ≡ i). subst (λ (k : ℕ). IsSlot (slot (set slots i x) k)) (sym e) (subst IsSlot (sym (get_or-set_same slots i x None lt)) fine))
+    (λ (n : j ≢ i). subst IsSlot (sym (get_or-set_other slots i j x None n)) (all j)) (cases_eq j i)
+
+pub holds_share : (d : ℕ) (slots : Slots) (v : Story) (i : ℕ) (x : Pointer) → Holds d slots v → IsPointer x.place → i < length slots
+    → slot slots i ≡ None
+    → Holds d (set slots i (Some x)) (after v d (Share x.block x.place x.place))
+holds_share d slots v i x holds fine lt e =
+    let y = owner_in v x.block x.place in
+    record {
+      owned = λ h.
+          let a = num_cons (same_held (held d h)) (held d y) (state v).hands in
+          let b = one_held d h y in
+          let s = num_set (is_it v h) slots i (Some x) lt in
+          let z : num (is_it v h) (slot slots i ∷ []) ≡ 0 = ap (λ (w : Option Pointer). num (is_it v h) (w ∷ [])) e in
+          let t = one_slot (is_it v h) (Some x) in
+          let o = holds.owned h in omega (arith, a, b, s, z, t, o);
+      size =
+          (let a = bag_one d y (state v).hands in
+          let s = num_set is_full slots i (Some x) lt in
+          let z : num is_full (slot slots i ∷ []) ≡ 0 = ap (λ (w : Option Pointer). num is_full (w ∷ [])) e in
+          let o = holds.size in omega (arith, a, s, z, o));
+      formed = formed_set slots i (Some x) holds.formed lt fine;
+    }
+
+pub holds_leave : (d : ℕ) (slots : Slots) (v : Story) (i : ℕ) (x : Pointer) (last : Bool) → Holds d slots v → slot slots i ≡ Some x
+    → Holds d (set slots i None) (after v d (Leave x.block x.place last))
+holds_leave d slots v i x last holds e =
+    let y = owner_in v x.block x.place in
+    let has = slot_held d slots v i x holds e in
+    let lt = slot_inside slots i x e in
+    record {
+      owned = λ h.
+          let a = num_without same_held held_true held_self (same_held (held d h)) (held d y) (state v).hands has in
+          let b = one_held d h y in
+          let s = num_set (is_it v h) slots i None lt in
+          let z = ap (λ (w : Option Pointer). num (is_it v h) (w ∷ [])) e in
+          let t = one_slot (is_it v h) (Some x) in
+          let o = holds.owned h in omega (arith, a, b, s, z, t, o);
+      size =
+          (let a = num_without same_held held_true held_self (λ (w : Held). w.desk == d) (held d y) (state v).hands has in
+          let b = bag_one d y [] in
+          let s = num_set is_full slots i None lt in
+          let z = ap (λ (w : Option Pointer). num is_full (w ∷ [])) e in
+          let o = holds.size in omega (arith, a, b, s, z, o));
+      formed = formed_set slots i None holds.formed lt tt;
+    }
+
+pub holds_count : (d : ℕ) (slots : Slots) (v : Story) (x : Pointer) (n : ℕ) → Holds d slots v → Holds d slots (after v d (Count x.block x.place n))
+holds_count d slots v x n holds = record { owned = holds.owned; size = holds.size; formed = holds.formed }
+
+-- a value goes from one slot to another
+pub holds_move : (d : ℕ) (slots : Slots) (v : Story) (i j : ℕ) → Holds d slots v → i < length slots → j < length slots → i ≢ j → slot slots j ≡ None
+    → Holds d (set (set slots j (slot slots i)) i None) v
+holds_move d slots v i j holds li lj n e =
+    let mid = set slots j (slot slots i) in
+    let lm : i < length mid = let t = length-set slots j (slot slots i) in omega (arith, t) in
+    let at : slot mid i ≡ slot slots i = get_or-set_other slots j i (slot slots i) None n in
+    let moved : (p : Option Pointer → Bool) → p None ≡ false → num p (set mid i None) ≡ num p slots =
+    λ p none.
+    let a = num_set p mid i None lm in
+    let b = num_set p slots j (slot slots i) lj in
+    let c = ap (λ (w : Option Pointer). num p (w ∷ [])) at in
+    let z = ap (λ (w : Option Pointer). num p (w ∷ [])) e in
+    omega (arith, a, b, c, z) in
+    record {
+      owned = λ h. holds.owned h ∙ sym (moved (is_it v h) refl);
+      size = holds.size ∙ sym (moved is_full refl);
+      formed = formed_set mid i None (formed_set slots j (slot slots i) holds.formed lj (holds.formed i)) lm tt;
+    }
+
+-- a block in a store is no block of a pointer
+apart : (d : ℕ) (slots : Slots) (v : Story) (b : Block) (i : ℕ) (x : Pointer) → Kept v → Holds d slots v → Has (stored d b.0) (state v).stores
+    → slot slots i ≡ Some x
+    → x.block.0 ≢ b.0
+apart d slots v b i x kept holds has e same =
+    let busy = owner_busy v d x.block x.place kept (slot_held d slots v i x holds e) in
+    let t = there v x.block kept busy in
+    let vacant = ((sound (opening v.extent) v.history kept.stands.legal).stores d b.0 has).0 in
+    let z = vacant (object_in v x.block) (t.0 ∙ same) in omega (arith, busy, z)
+
+claimed_is : (v : Story) (d : ℕ) (b : Block) (enabled null : Bool) (fields : List ℕ) (h : Handle) (y : Option Pointer) → ((p : Pointer)
+    → y ≡ Some p → p.block.0 ≢ b.0)
+    → is_it (after v d (Claim b enabled null fields)) h y ≡ is_it v h y
+claimed_is v d b enabled null fields h None f = refl
+claimed_is v d b enabled null fields h (Some p) f =
+    ap (λ (o : ℕ). same_handle h (owner o p.place)) (put_other (state v).latest b.0 (suc (state v).made) p.block.0 (f p refl))
+
+claimed_owns : (v : Story) (d : ℕ) (b : Block) (enabled null : Bool) (fields : List ℕ) (h : Handle) (slots : Slots)
+    → ((i : ℕ) (p : Pointer) → slot slots i ≡ Some p → p.block.0 ≢ b.0) → owns (after v d (Claim b enabled null fields)) slots h ≡ owns v slots h
+claimed_owns v d b enabled null fields h [] f = refl
+claimed_owns v d b enabled null fields h (y ∷ ys) f =
+    let w = after v d (Claim b enabled null fields) in
+    let i = claimed_owns v d b enabled null fields h ys (λ j p e. f (suc j) p e) in
+    let m = num_cons (is_it w h) y ys in
+    let n = num_cons (is_it v h) y ys in
+    let c : num (is_it w h) (y ∷ []) ≡ num (is_it v h) (y ∷ []) =
+    one_slot (is_it w h) y ∙ ap (λ (t : Bool). cond t 1 0) (claimed_is v d b enabled null fields h y (λ p e. f 0 p e))
+        ∙ sym (one_slot (is_it v h) y) in
+    omega (arith, i, m, n, c)
+
+pub holds_claim : (d : ℕ) (slots : Slots) (v : Story) (i : ℕ) (b : Block) (fields : List ℕ) → Kept v → Holds d slots v
+    → Has (stored d b.0) (state v).stores
+    → InShape (opening v.extent) b.0 → v.extent.shape.blocks ≤ 65535 → i < length slots → slot slots i ≡ None
+    → Holds d (set slots i (Some (record { block = b; place = place_at b.0 }))) (after v d (Claim b false false fields))
+holds_claim d slots v i b fields kept holds has shape few lt e =
+    let x : Pointer = record { block = b; place = place_at b.0 } in
+    let w = after v d (Claim b false false fields) in
+    let y = owner (suc (state v).made) (place_at b.0) in
+    record {
+      owned = λ h.
+          let a = num_cons (same_held (held d h)) (held d y) (state v).hands in
+          let m = one_held d h y in
+          let s = num_set (is_it w h) slots i (Some x) lt in
+          let z : num (is_it w h) (slot slots i ∷ []) ≡ 0 = ap (λ (q : Option Pointer). num (is_it w h) (q ∷ [])) e in
+          let t = one_slot (is_it w h) (Some x) in
+          let u : is_it w h (Some x) ≡ same_handle h y = ap
+              (λ (o : ℕ). same_handle h (owner o (place_at b.0))) (put_same (state v).latest b.0 (suc (state v).made) b.0 refl) in
+          let k : ◌≡◌ {A = ℕ} (cond (is_it w h (Some x)) 1 0) (cond (same_handle h y) 1 0) = ap (λ (q : Bool). cond q 1 0) u in
+          let c = claimed_owns v d b false false fields h slots (λ j p q. apart d slots v b j p kept holds has q) in
+          let o = holds.owned h in omega (arith, a, m, s, z, t, k, c, o);
+      size =
+          (let a = bag_one d y (state v).hands in
+          let s = num_set is_full slots i (Some x) lt in
+          let z : num is_full (slot slots i ∷ []) ≡ 0 = ap (λ (q : Option Pointer). num is_full (q ∷ [])) e in
+          let o = holds.size in omega (arith, a, s, z, o));
+      formed = formed_set slots i (Some x) holds.formed lt (let s = shape in (omega arith, omega arith, omega arith));
+    }

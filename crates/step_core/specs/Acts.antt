@@ -1,0 +1,29 @@
+-- What statements do, act by act. All of it is own.
+use Rattle.std.specs.Prelude.{ℕ, zero, suc, ◌+◌, List, [], ◌∷◌, ◌++◌}
+use Rattle.step_core.specs.declared.act.Act.{Act}
+use Rattle.step_core.specs.declared.act.Act.TheVariants as act
+use Rattle.step_core.specs.declared.act.Task.{Task}
+use Rattle.step_core.specs.declared.call.Call.{Call}
+use Rattle.step_core.specs.declared.call.Call.TheVariants.{Make, Empty, Reset, Copy, Count}
+
+-- the acts of a statement, in order
+abbrev pub acts : Call → List Act
+acts (Make target fields) = act.Make fields ∷ act.Put target.0 ∷ []
+acts (Empty target) = act.Leave target.0 ∷ []
+acts (Reset name) = act.Leave name.0 ∷ []
+acts (Copy target source) = act.Share source.0 ∷ act.Put target.0 ∷ []
+acts (Count name) = act.Count name.0 ∷ []
+
+abbrev pub numbered : ℕ → List Act → List Task
+numbered k [] = []
+numbered k (a ∷ rest) = record { statement = k; act = a } ∷ numbered k rest
+
+-- at its end a thread leaves its n names, the last declared first
+abbrev pub clearing : ℕ → List Task
+clearing zero = []
+clearing (suc n) = record { statement = 0; act = act.Clear n } ∷ clearing n
+
+-- all tasks of a thread with n names, whose next statement is k
+abbrev pub tasks_from : ℕ → List Call → ℕ → List Task
+tasks_from k [] n = clearing n
+tasks_from k (c ∷ cs) n = numbered k (acts c) ++ tasks_from (k + 1) cs n

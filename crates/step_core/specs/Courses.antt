@@ -1,0 +1,136 @@
+-- How a thread goes on from act to act. All of it is own.
+use Rattle.std.specs.Prelude.{◌≡◌, ℕ, ◌+◌, ◌-◌, ◌<◌, ◌≤◌, Bool, true, false, cond, not, ◌&&◌, List, [], ◌∷◌, length, drop, get_or, slice_set, Option, Some, None}
+use Rattle.step_core.specs.declared.act.Act.{Act}
+use Rattle.step_core.specs.declared.act.Act.TheVariants.{Make, Share, Put, Leave, Clear, Count}
+use Rattle.step_core.specs.declared.act.Task.{Task}
+use Rattle.step_core.specs.declared.course.Course.{Course}
+use Rattle.step_core.specs.Holdings.{Holds, Slots, is_full, slot}
+use Rattle.control_word.specs.declared.view.Pending.TheVariants.{Idle}
+use Rattle.step_core.specs.declared.holdings.Pointer.{Pointer}
+use Rattle.step_core.specs.declared.past.Deed.{Deed}
+use Rattle.step_core.specs.Stories.{Story, after, pending}
+
+-- the slot behind those of the names
+abbrev pub hand : Slots → ℕ
+hand slots = length slots - 1
+
+-- a task that is no act where it comes
+abbrev pub idle : Act → Slots → Bool → Bool
+idle (Put k) slots taken = not (taken && is_full (slot slots k))
+idle (Clear k) slots taken = not (is_full (slot slots k))
+idle (Make fields) slots taken = false
+idle (Share k) slots taken = false
+idle (Leave k) slots taken = false
+idle (Count k) slots taken = false
+
+-- the value in hand is in slot k
+abbrev pub placed : ℕ → Slots → Slots
+placed k slots = slice_set (slice_set slots k (slot slots (hand slots))) (hand slots) None
+
+-- what a task leaves that is idle
+abbrev pub slots_idle : Act → Slots → Bool → Slots
+slots_idle (Put k) slots taken = cond taken (placed k slots) slots
+slots_idle (Clear k) slots taken = slots
+slots_idle (Make fields) slots taken = slots
+slots_idle (Share k) slots taken = slots
+slots_idle (Leave k) slots taken = slots
+slots_idle (Count k) slots taken = slots
+
+abbrev pub taken_idle : Act → Bool → Bool
+taken_idle (Put k) taken = false
+taken_idle (Clear k) taken = taken
+taken_idle (Make fields) taken = taken
+taken_idle (Share k) taken = taken
+taken_idle (Leave k) taken = taken
+taken_idle (Count k) taken = taken
+
+pub record Walk : Type 0 where
+  pub slots : Slots
+  pub taken : Bool
+  pub todo : List Task
+
+-- the thread at its next act
+abbrev pub settled : Slots → Bool → List Task → Walk
+settled slots taken [] = record { slots = slots; taken = taken; todo = [] }
+settled slots taken (t ∷ ts) =
+    cond (idle t.act slots taken) (settled (slots_idle t.act slots taken) (taken_idle t.act taken) ts) (record { slots = slots; taken = taken; todo = t ∷ ts })
+
+-- an act that may come with n names, where something was taken or not
+abbrev pub Begins : ℕ → Bool → Act → Type 0
+Begins n taken (Make fields) = (taken ≡ false) × (length fields ≡ 4)
+Begins n taken (Share k) = (k < n) × (taken ≡ false)
+Begins n taken (Put k) = k < n
+Begins n taken (Leave k) = k < n
+Begins n taken (Clear k) = k < n
+Begins n taken (Count k) = k < n
+
+abbrev pub taken_after : Act → Bool → Bool
+taken_after (Make fields) taken = true
+taken_after (Share k) taken = true
+taken_after (Put k) taken = false
+taken_after (Leave k) taken = taken
+taken_after (Clear k) taken = taken
+taken_after (Count k) taken = taken
+
+abbrev pub Ready : ℕ → Bool → List Task → Type 0
+Ready n taken [] = Unit {0}
+Ready n taken (t ∷ ts) = Begins n taken t.act × Ready n (taken_after t.act taken) ts
+
+-- what a thread relies on
+pub record IsReady (slots : Slots) (taken : Bool) (todo : List Task) : Type 0 where
+  pub some : 0 < length slots
+  pub free : taken ≡ false → slot slots (hand slots) ≡ None
+  pub ready : Ready (hand slots) taken todo
+
+abbrev pub no_task : Task
+no_task = record { statement = 0; act = Count 0 }
+
+abbrev pub todo : Course → List Task
+todo c = drop c.at c.tasks.items
+
+abbrev pub task_at : Course → Task
+task_at c = get_or c.tasks.items c.at no_task
+
+abbrev pub walk : Course → Walk
+walk c = record { slots = c.holdings.slots.items; taken = c.taken; todo = todo c }
+
+abbrev pub CourseReady : Course → Type 0
+CourseReady c = IsReady c.holdings.slots.items c.taken (todo c)
+
+-- past an idle task
+pub record IsPassed (a b : Course) : Type 0 where
+  pub slots : b.holdings.slots.items ≡ slots_idle (task_at a).act a.holdings.slots.items a.taken
+  pub taken : b.taken ≡ taken_idle (task_at a).act a.taken
+  pub at : b.at ≡ a.at + 1
+  pub tasks : b.tasks ≡ a.tasks
+  pub holds : (d : ℕ) (v : Story) → Holds d a.holdings.slots.items v → Holds d b.holdings.slots.items v
+
+abbrev pub CourseStill : Course → Type 0
+CourseStill c = c.at < length c.tasks.items → idle (task_at c).act c.holdings.slots.items c.taken ≡ false
+
+-- the thread is at an act, and no call of its desk is half done
+pub record CanAct (d : ℕ) (c : Course) (v : Story) : Type 0 where
+  pub seat : d < v.extent.actors
+  pub idle : pending v d ≡ Idle
+  pub holds : Holds d c.holdings.slots.items v
+  pub within : c.at < length c.tasks.items
+  pub ready : CourseReady c
+  pub still : CourseStill c
+
+-- the thread is at a later act, or at its end
+pub record HasGoneOn (d : ℕ) (c c' : Course) (v : Story) : Type 0 where
+  pub holds : Holds d c'.holdings.slots.items v
+  pub tasks : c'.tasks ≡ c.tasks
+  pub within : c'.at ≤ length c'.tasks.items
+  pub onward : c.at < c'.at
+  pub ready : CourseReady c'
+  pub still : CourseStill c'
+
+-- the tasks after the next one
+abbrev pub rest : Course → List Task
+rest c = drop (c.at + 1) c.tasks.items
+
+-- the deed is done where the slot holds something
+abbrev pub done_on : (Pointer → Deed) → Story → ℕ → Option Pointer → Story
+done_on f v d None = v
+done_on f v d (Some x) = after v d (f x)

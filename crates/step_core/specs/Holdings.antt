@@ -1,0 +1,44 @@
+-- What an actor's slots hold is its desk's bag. All of it is own.
+use Rattle.std.specs.Prelude.{◌≡◌, ℕ, Bool, true, false, List, length, get_or, Option, Some, None}
+use Rattle.std.specs.List.{filter}
+use Rattle.control_word.specs.declared.handle.Handle.{Handle}
+use Rattle.control_word.specs.Handles.{same_handle, IsPointer}
+use Rattle.control_word.specs.State.{State, bag_size, held, same_held}
+use Rattle.step_core.specs.declared.holdings.Pointer.{Pointer}
+use Rattle.step_core.specs.Stories.{Story, owner_in, state}
+
+abbrev pub Slots : Type 0
+Slots = List (Option Pointer)
+
+abbrev pub slot : Slots → ℕ → Option Pointer
+slot slots i = get_or slots i None
+
+-- how often the desk has the handle
+abbrev pub times : State → ℕ → Handle → ℕ
+times s d h = length (filter (same_held (held d h)) s.hands)
+
+abbrev pub is_it : Story → Handle → Option Pointer → Bool
+is_it v h None = false
+is_it v h (Some x) = same_handle h (owner_in v x.block x.place)
+
+abbrev pub is_full : Option Pointer → Bool
+is_full None = false
+is_full (Some x) = true
+
+-- how often the handle is in the slots, and how many slots are full
+abbrev pub owns : Story → Slots → Handle → ℕ
+owns v slots h = length (filter (is_it v h) slots)
+
+abbrev pub full : Slots → ℕ
+full slots = length (filter is_full slots)
+
+-- places in slots are well formed
+abbrev pub IsSlot : Option Pointer → Type 0
+IsSlot None = Unit {0}
+IsSlot (Some x) = IsPointer x.place
+
+-- the slots have just the handles of the desk's bag
+pub record Holds (d : ℕ) (slots : Slots) (v : Story) : Type 0 where
+  pub owned : (h : Handle) → times (state v) d h ≡ owns v slots h
+  pub size : bag_size (state v) d ≡ full slots
+  pub formed : (i : ℕ) → IsSlot (slot slots i)

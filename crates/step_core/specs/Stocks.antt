@@ -1,0 +1,22 @@
+-- Stores of vacant blocks, by the blocks' numbers. All of it is own.
+use Rattle.std.specs.Prelude.{ℕ, zero, suc, List, [], ◌∷◌, map}
+use Rattle.std.specs.BinaryHeap.{IsHeap}
+use Rattle.std.specs.Ordering.{nat_cmp}
+use Rattle.std.specs.declared.cmp.Reverse.{Reverse}
+
+-- the blocks in a store, in some order, and how many it may have
+pub record Stored : Type 0 where
+  pub blocks : List ℕ
+  pub room : ℕ
+
+abbrev pub numbers : List (Reverse ℕ) → List ℕ
+numbers items = map (λ (r : Reverse ℕ). r.0) items
+
+-- the least number comes first
+abbrev pub IsOrdered : List (Reverse ℕ) → Type 0
+IsOrdered items = IsHeap (λ (x y : Reverse ℕ). nat_cmp y.0 x.0) items
+
+-- n numbers from b on
+abbrev pub from : ℕ → ℕ → List ℕ
+from b zero = []
+from b (suc n) = b ∷ from (suc b) n

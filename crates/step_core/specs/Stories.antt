@@ -1,0 +1,123 @@
+-- What clauses see of a table: its words, what has happened, and what each desk knows of it. All of it is own.
+use Rattle.std.specs.Prelude.{◌≡◌, ℕ, suc, ◌+◌, ◌-◌, ◌<◌, false, List, [], ◌∷◌, length, get_or, slice_index, slice_set, Option, Some, None}
+use Rattle.control_word.specs.declared.event.Entry.{Entry}
+use Rattle.control_word.specs.declared.event.Event.{Event}
+use Rattle.control_word.specs.declared.event.Event.TheVariants as event
+use Rattle.control_word.specs.declared.handle.Handle.{Handle}
+use Rattle.control_word.specs.declared.place.Block.{Block}
+use Rattle.control_word.specs.declared.place.Place.{Place}
+use Rattle.control_word.specs.declared.view.Pending.{Pending}
+use Rattle.control_word.specs.declared.view.Pending.TheVariants.{Idle, Making}
+use Rattle.control_word.specs.declared.view.View.{View}
+use Rattle.control_word.specs.Handles.{empty, owner}
+use Rattle.control_word.specs.Histories.{entry, leads}
+use Rattle.control_word.specs.Layout.{spot}
+use Rattle.control_word.specs.State.{State, kind_of_member}
+use Rattle.control_word.specs.Steps.{known_of}
+use Rattle.control_word.specs.Views.{Stands, sees_as, used_up}
+use Rattle.step_core.specs.declared.extent.Extent.{Extent}
+use Rattle.step_core.specs.declared.past.Deed.{Deed}
+use Rattle.step_core.specs.declared.past.Deed.TheVariants.{Prepare, Write, Claim, Share, Leave, Count, Clear, Finish}
+use Rattle.step_core.specs.Openings.{IsExtent, opening, share_of}
+
+-- objects of the machine have no value of their own
+abbrev pub Nothing : Type 0
+Nothing = Unit {0}
+
+pub record Story : Type 0 where
+  pub extent : Extent
+  pub words : List ℕ
+  pub views : List (View Nothing)
+  pub history : List (Entry Nothing)
+
+abbrev pub state : Story → State
+state v = leads (opening v.extent) v.history
+
+abbrev pub view_in : List (View Nothing) → ℕ → View Nothing
+view_in views d = get_or views d used_up
+
+-- the desk's half-done call
+abbrev pub pending : Story → ℕ → Pending Nothing
+pending v d = (view_in v.views d).pending
+
+-- the object that a handle on this block owns: no other keeps the block
+abbrev pub object_in : Story → Block → ℕ
+object_in v b = (state v).latest b.0
+
+abbrev pub owner_in : Story → Block → Option Place → Handle
+owner_in v b p = owner (object_in v b) p
+
+-- the event of a deed; a write of a vacant block is none
+abbrev pub event_of : Story → Deed → Option (Event Nothing)
+event_of v (Prepare b) = None
+event_of v (Write b j n) = None
+event_of v (Claim b enabled null fields) = Some (event.Make b enabled null fields tt)
+event_of v (Share b p q) = Some (event.Share (owner_in v b p) q)
+event_of v (Leave b p last) = Some (event.Leave (owner_in v b p) last)
+event_of v (Count b p n) = Some (event.Count (owner_in v b p) n)
+event_of v (Clear b m) = Some (event.ClearMember (object_in v b) m (empty (kind_of_member m)))
+event_of v (Finish b vacant) = Some (event.Finish (object_in v b) vacant tt)
+
+-- the words after it: one of them is written, or none
+abbrev pub words_after : Story → Deed → List ℕ
+words_after v (Prepare b) = slice_set v.words (spot b.0 1) 1
+words_after v (Write b j n) = slice_set v.words (spot b.0 (2 + j)) n
+words_after v (Claim b enabled null fields) = slice_set v.words (spot b.0 0) 1
+words_after v (Share b p q) = slice_set v.words (spot b.0 0) (suc (slice_index v.words (spot b.0 0)))
+words_after v (Leave b p last) = slice_set v.words (spot b.0 0) (slice_index v.words (spot b.0 0) - 1)
+words_after v (Count b p n) = v.words
+words_after v (Clear b m) = v.words
+words_after v (Finish b vacant) = slice_set v.words (spot b.0 1) (slice_index v.words (spot b.0 1) - 1)
+
+abbrev pub known : Pending Nothing → List ℕ
+known (Making b l) = l
+known _ = []
+
+-- the desk's half-done call after it: only a make takes several steps
+abbrev pub pending_after : Story → ℕ → Deed → Pending Nothing
+pending_after v d (Prepare b) = Making b (known_of v.words b.0)
+pending_after v d (Write b j n) = Making b (slice_set (known (pending v d)) j n)
+pending_after v d (Claim b enabled null fields) = Idle
+pending_after v d (Share b p q) = Idle
+pending_after v d (Leave b p last) = Idle
+pending_after v d (Count b p n) = Idle
+pending_after v d (Clear b m) = Idle
+pending_after v d (Finish b vacant) = Idle
+
+-- the desk is making an object in this block, and knows its five loose words
+pub record IsMaking (v : Story) (d : ℕ) (b : Block) : Type 0 where
+  pub words : List ℕ
+  pub size : length words ≡ 5
+  pub making : pending v d ≡ Making b words
+
+abbrev pub added : ℕ → Option (Event Nothing) → List (Entry Nothing) → List (Entry Nothing)
+added d None h = h
+added d (Some e) h = entry d e ∷ h
+
+abbrev pub history_after : Story → ℕ → Deed → List (Entry Nothing)
+history_after v d x = added d (event_of v x) v.history
+
+abbrev pub views_after : Story → ℕ → Deed → List (View Nothing)
+views_after v d x = slice_set v.views d (sees_as (view_in v.views d) (pending_after v d x) (history_after v d x))
+
+-- the story after a deed of desk d
+abbrev pub after : Story → ℕ → Deed → Story
+after v d x = record { extent = v.extent; words = words_after v x; views = views_after v d x; history = history_after v d x }
+
+-- each actor has a view of its own
+pub record Seats (views : List (View Nothing)) (actors : ℕ) : Type 0 where
+  pub size : length views ≡ actors
+  pub names : (d : ℕ) → d < actors → (view_in views d).name ≡ d
+  pub awake : (d : ℕ) → d < actors → (view_in views d).spent ≡ false
+
+-- no member of an object holds a handle
+abbrev pub AllBare : State → Type 0
+AllBare s = (o m : ℕ) → (s.object o).member m ≡ empty (kind_of_member m)
+
+-- the words stand for the history; nobody's allowance has changed, and no member was filled
+pub record Kept (v : Story) : Type 0 where
+  pub stands : Stands (opening v.extent) v.words v.views v.history
+  pub seats : Seats v.views v.extent.actors
+  pub bare : AllBare (state v)
+  pub proper : IsExtent v.extent
+  pub allowed : (state v).allowance ≡ share_of v.extent

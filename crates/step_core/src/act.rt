@@ -1,0 +1,74 @@
+//! The primitive acts that statements are made of.
+ghost use Rattle.std.specs.Prelude.{◌≡◌, ◌<◌, ◌^◌, ◌++◌, length, IfOk, OnOk};
+ghost use Rattle.step_core.specs.Acts.{acts, numbered, tasks_from};
+
+use crate::call::{Call, Name};
+use std::alloc::{AllocError, Global};
+
+/// A primitive act. What is taken comes into the hand, and `Put` moves it into a name and leaves what the name held.
+#[derive(Clone, Copy, Debug, PartialEq, Eq)]
+pub enum Act {
+    /// Makes an object with these fields.
+    Make { fields: [u64; 4] },
+    /// Takes a copy of what a name holds.
+    Share { name: u8 },
+    /// Leaves what a name holds, and puts there what was taken. It is no act where nothing was taken, or the name is empty.
+    Put { name: u8 },
+    /// Leaves what a name holds.
+    Leave { name: u8 },
+    /// Leaves what a name holds. It is no act where the name is empty.
+    Clear { name: u8 },
+    /// Tells how many owners there are.
+    Count { name: u8 },
+}
+
+/// An act, with the number of its statement from 1, or 0 at the end of its thread.
+#[derive(Clone, Copy, Debug, PartialEq, Eq)]
+pub struct Task {
+    pub statement: u32,
+    pub act: Act,
+}
+
+/// The tasks of a thread: the acts of its calls, and then it leaves each name, the last declared first.
+pub(crate) fn tasks(alloc: Global, calls: &[Call], names: u8) -> Result<Vec<Task>, AllocError>
+    requires { length calls.now < 2 ^ 31 }
+    ensures { IfOk result (λ v. v.items ≡ tasks_from 1 calls.now names) }
+{
+    let mut tasks = Vec::new(alloc);
+    for (i, call) in calls.iter().enumerate() {
+        add(&mut tasks, i as u32 + 1, *call)?;
+    }
+    let mut left = names;
+    while left > 0 {
+        left -= 1;
+        tasks.push(Task {
+            statement: 0,
+            act: Act::Clear { name: left },
+        })?;
+    }
+    Ok(tasks)
+}
+
+/// The tasks of a call.
+fn add(tasks: &mut Vec<Task>, statement: u32, call: Call) -> Result<(), AllocError>
+    ensures { OnOk result (tasks.new.items ≡ tasks.old.items ++ numbered statement (acts call)) }
+{
+    let (first, second) = match call {
+        Call::Make { target, fields } => (Act::Make { fields }, Some(target)),
+        Call::Empty { target } => (Act::Leave { name: target.0 }, None),
+        Call::Reset { name } => (Act::Leave { name: name.0 }, None),
+        Call::Copy { target, source } => (Act::Share { name: source.0 }, Some(target)),
+        Call::Count { name } => (Act::Count { name: name.0 }, None),
+    };
+    tasks.push(Task {
+        statement,
+        act: first,
+    })?;
+    if let Some(Name(name)) = second {
+        tasks.push(Task {
+            statement,
+            act: Act::Put { name },
+        })?;
+    }
+    Ok(())
+}

@@ -1,0 +1,204 @@
+//! How a thread goes on from act to act.
+ghost use Rattle.std.specs.Prelude.{◌≡◌, ◌⊎◌, ◌+◌, ◌<◌, ◌≤◌, ◌==◌, ◌∷◌, ℕ, length, drop, true, false, slice_set, Option, Some, None, option_map};
+ghost use Rattle.control_word.specs.State.{count};
+ghost use Rattle.step_core.specs.Holdings.{Holds, is_full, slot};
+ghost use Rattle.step_core.specs.Stories.{IsMaking, Story, after, known, object_in, pending, state};
+ghost use Rattle.step_core.specs.declared.holdings.Pointer.{Pointer};
+ghost use Rattle.control_word.specs.Events.{place_at};
+ghost use Rattle.control_word.specs.Layout.{spot};
+ghost use Rattle.control_word.specs.Views.{owed};
+
+use crate::act::{Act, Task};
+use crate::holdings::Holdings;
+use crate::past::Deed;
+use crate::table::Table;
+use control_word::place::Block;
+
+/// The tasks of a thread, of which those before `at` are done, and what it holds. Where `taken`, an act has taken a value
+/// into the hand, an empty one perhaps.
+#[derive(Drop)]
+pub struct Course {
+    pub(crate) tasks: Vec<Task>,
+    pub(crate) at: usize,
+    pub(crate) holdings: Holdings,
+    pub(crate) taken: bool,
+}
+
+impl Course {
+    ghost use Rattle.step_core.specs.Courses.{CanAct, CourseReady, HasGoneOn, IsPassed, IsReady, done_on, hand, idle, placed, rest, settled, task_at, todo, walk};
+
+    /// Whether the next task is no act where it comes.
+    fn is_idle(&self) -> bool
+        requires within { self.now.at < length self.now.tasks.items }
+        requires ready { CourseReady self.now }
+        ensures { result ≡ idle (task_at self.now).act self.now.holdings.slots.items self.now.taken }
+    {
+        match self.tasks[self.at].act {
+            Act::Put { name } => !(self.taken && self.holdings.is_full(usize::from(name))),
+            Act::Clear { name } => !self.holdings.is_full(usize::from(name)),
+            _ => false,
+        }
+    }
+
+    /// Goes past an idle task. A value that is in hand goes to its name, which is empty.
+    fn pass(&mut self)
+        requires within { self.old.at < length self.old.tasks.items }
+        requires ready { CourseReady self.old }
+        requires idle { idle (task_at self.old).act self.old.holdings.slots.items self.old.taken ≡ true }
+        ensures { IsPassed self.old self.new }
+    {
+        let act = self.tasks[self.at].act;
+        self.at += 1;
+        if let Act::Put { name } = act {
+            if self.taken {
+                let hand = self.holdings.hand();
+                self.holdings.pass_on(hand, usize::from(name));
+                self.taken = false;
+            }
+        }
+    }
+
+    /// Goes on to the next task that is an act.
+    pub(crate) fn settle(&mut self)
+        requires within { self.old.at ≤ length self.old.tasks.items }
+        requires ready { CourseReady self.old }
+        ensures walk { walk self.new ≡ settled self.old.holdings.slots.items self.old.taken (todo self.old) }
+        ensures tasks { self.new.tasks ≡ self.old.tasks }
+        ensures within { self.new.at ≤ length self.new.tasks.items }
+        ensures onward { self.old.at ≤ self.new.at }
+        ensures ready { CourseReady self.new }
+        ensures still { self.new.at < length self.new.tasks.items → idle (task_at self.new).act self.new.holdings.slots.items self.new.taken ≡ false }
+        ensures holds { (d : ℕ) (v : Story) → Holds d self.old.holdings.slots.items v → Holds d self.new.holdings.slots.items v }
+    {
+        while self.at < self.tasks.len() && self.is_idle() {
+            self.pass();
+        }
+    }
+
+    /// Goes on after the next task.
+    pub(crate) fn go_on(&mut self)
+        requires within { self.old.at < length self.old.tasks.items }
+        requires ready { IsReady self.old.holdings.slots.items self.old.taken (rest self.old) }
+        ensures walk { walk self.new ≡ settled self.old.holdings.slots.items self.old.taken (rest self.old) }
+        ensures on { (d : ℕ) (v : Story) → Holds d self.old.holdings.slots.items v → HasGoneOn d self.old self.new v }
+    {
+        self.at += 1;
+        self.settle();
+    }
+
+    /// Takes a copy of what a name holds. Answers whether that touched a block.
+    pub(crate) fn share(&mut self, desk: usize, table: &mut Table, name: u8) -> bool
+        requires can { CanAct desk self.old table.old }
+        requires act { (task_at self.old).act ≡ Act.Share name }
+        ensures event { result ≡ is_full (slot self.old.holdings.slots.items name) }
+        ensures table { table.new ≡ done_on (λ x. Deed.Share x.block x.place x.place) table.old desk (slot self.old.holdings.slots.items name) }
+        ensures walk { walk self.new ≡ settled (slice_set self.old.holdings.slots.items (hand self.old.holdings.slots.items) (slot self.old.holdings.slots.items name)) true (rest self.old) }
+        ensures on { HasGoneOn desk self.old self.new table.new }
+    {
+        let from = usize::from(name);
+        let hand = self.holdings.hand();
+        self.taken = true;
+        match self.holdings.get(from) {
+            None => {
+                self.go_on();
+                false
+            }
+            Some(pointer) => {
+                self.holdings.share(desk, table, from, hand, pointer);
+                self.go_on();
+                true
+            }
+        }
+    }
+
+    /// Leaves what a name holds, if anything. Answers whether that was the last owner.
+    pub(crate) fn leave(&mut self, desk: usize, table: &mut Table, name: u8) -> Option<bool>
+        requires can { CanAct desk self.old table.old }
+        requires act { ((task_at self.old).act ≡ Act.Leave name) ⊎ ((task_at self.old).act ≡ Act.Clear name) }
+        ensures last { result ≡ option_map (λ x. count (state table.old) (object_in table.old x.block) == 1) (slot self.old.holdings.slots.items name) }
+        ensures table { table.new ≡ done_on (λ x. Deed.Leave x.block x.place (count (state table.old) (object_in table.old x.block) == 1)) table.old desk (slot self.old.holdings.slots.items name) }
+        ensures walk { walk self.new ≡ settled (slice_set self.old.holdings.slots.items name None) self.old.taken (rest self.old) }
+        ensures on { HasGoneOn desk self.old self.new table.new }
+    {
+        let from = usize::from(name);
+        match self.holdings.get(from) {
+            None => {
+                self.go_on();
+                None
+            }
+            Some(pointer) => {
+                let last = self.holdings.leave(desk, table, from, pointer);
+                self.go_on();
+                Some(last)
+            }
+        }
+    }
+
+    /// Leaves what a name holds, and puts there what is in hand. Answers whether that was the last owner.
+    pub(crate) fn put(&mut self, desk: usize, table: &mut Table, name: u8) -> bool
+        requires can { CanAct desk self.old table.old }
+        requires act { (task_at self.old).act ≡ Act.Put name }
+        ensures last { Some result ≡ option_map (λ x. count (state table.old) (object_in table.old x.block) == 1) (slot self.old.holdings.slots.items name) }
+        ensures table { table.new ≡ done_on (λ x. Deed.Leave x.block x.place result) table.old desk (slot self.old.holdings.slots.items name) }
+        ensures walk { walk self.new ≡ settled (placed name (slice_set self.old.holdings.slots.items name None)) false (rest self.old) }
+        ensures on { HasGoneOn desk self.old self.new table.new }
+    {
+        let to = usize::from(name);
+        let hand = self.holdings.hand();
+        match self.holdings.get(to) {
+            None => unreachable!(),
+            Some(pointer) => {
+                let last = self.holdings.leave(desk, table, to, pointer);
+                self.holdings.pass_on(hand, to);
+                self.taken = false;
+                self.go_on();
+                last
+            }
+        }
+    }
+
+    /// How many owners the object has that a name holds; 0 where it is empty.
+    pub(crate) fn count(&mut self, desk: usize, table: &mut Table, name: u8) -> u32
+        requires can { CanAct desk self.old table.old }
+        requires act { (task_at self.old).act ≡ Act.Count name }
+        ensures empty { slot self.old.holdings.slots.items name ≡ None → result ≡ 0 }
+        ensures exact { (x : Pointer) → slot self.old.holdings.slots.items name ≡ Some x → owed table.old.views (spot x.block.0 0) ≡ 0
+            → result ≡ count (state table.old) (object_in table.old x.block) }
+        ensures table { table.new ≡ done_on (λ x. Deed.Count x.block x.place result) table.old desk (slot self.old.holdings.slots.items name) }
+        ensures walk { walk self.new ≡ settled self.old.holdings.slots.items self.old.taken (rest self.old) }
+        ensures on { HasGoneOn desk self.old self.new table.new }
+    {
+        let from = usize::from(name);
+        match self.holdings.get(from) {
+            None => {
+                self.go_on();
+                0
+            }
+            Some(pointer) => {
+                let owners = self.holdings.count(desk, table, from, pointer);
+                self.go_on();
+                owners
+            }
+        }
+    }
+
+    /// The prepared object is made; its owner comes into the hand.
+    pub(crate) fn claim(&mut self, desk: usize, table: &mut Table, block: Block, fields: [u64; 4])
+        requires seat { desk < table.old.extent.actors }
+        requires making { IsMaking table.old desk block }
+        requires known { known (pending table.old desk) ≡ 0 ∷ fields }
+        requires holds { Holds desk self.old.holdings.slots.items table.old }
+        requires within { self.old.at < length self.old.tasks.items }
+        requires ready { CourseReady self.old }
+        requires act { (task_at self.old).act ≡ Act.Make fields }
+        ensures table { table.new ≡ after table.old desk (Deed.Claim block false false fields) }
+        ensures walk { walk self.new
+            ≡ settled (slice_set self.old.holdings.slots.items (hand self.old.holdings.slots.items) (Some (record { block = block; place = place_at block.0 }))) true (rest self.old) }
+        ensures on { HasGoneOn desk self.old self.new table.new }
+    {
+        let hand = self.holdings.hand();
+        self.holdings.claim(desk, table, hand, block, fields);
+        self.taken = true;
+        self.go_on();
+    }
+}

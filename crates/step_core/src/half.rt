@@ -1,0 +1,34 @@
+//! Where a thread is within an act.
+ghost use Rattle.std.specs.Prelude.{◌≢◌, ℕ, List};
+ghost use Rattle.step_core.specs.Actors.{HalfFits, Stocks};
+ghost use Rattle.step_core.specs.Holdings.{Holds, Slots};
+ghost use Rattle.step_core.specs.Stories.{Kept, Story, after};
+ghost use Rattle.step_core.specs.declared.past.Deed.{Deed};
+
+use control_word::place::Block;
+
+/// What a thread has begun and not ended.
+#[derive(Clone, Copy, Debug, PartialEq, Eq)]
+pub enum Half {
+    /// Nothing.
+    Rest,
+    /// A make: of its block's flags and fields those before `index` are as they shall be. The next is looked at, or
+    /// written where it was found to differ; behind the last the block is claimed.
+    Making {
+        block: Block,
+        index: u8,
+        differs: bool,
+    },
+    /// The end of an object: its members are cleared (stages 0 to 2), and then it is finished.
+    Ending {
+        block: Block,
+        stage: u8,
+    },
+}
+
+/// What other desks do changes nothing of what a desk has.
+pub(crate) fn others_keep()
+    ensures { (d e : ℕ) (slots : Slots) (blocks fields : List ℕ) (room : ℕ) (half : Half) (v : Story) (x : Deed) → e ≢ d → Kept v → Kept (after v e x)
+        → Holds d slots v × Stocks d blocks room half v × HalfFits d half fields v
+        → Holds d slots (after v e x) × Stocks d blocks room half (after v e x) × HalfFits d half fields (after v e x) }
+{}

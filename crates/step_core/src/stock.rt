@@ -1,0 +1,66 @@
+//! An actor's vacant blocks.
+ghost use Rattle.std.specs.Prelude.{◌≡◌, ◌<◌, ◌≤◌, ℕ, [], ◌∷◌, ◌-◌, length, All, IfOk, MatchOption};
+ghost use Rattle.std.specs.List.Sorted.{IsPermutation};
+ghost use Rattle.step_core.specs.Stocks.{from};
+
+use control_word::place::Block;
+use std::alloc::{AllocError, Global};
+use std::cmp::Reverse;
+use std::collections::BinaryHeap;
+use std::marker::Model;
+
+/// A store of vacant blocks that gives the least one, in logarithmic time. It takes its memory at the start.
+#[derive(Drop)]
+pub struct Stock {
+    heap: BinaryHeap<Reverse<u16>>,
+}
+
+impl Model for Stock {
+    ghost use Rattle.step_core.specs.Stocks.{Stored, IsOrdered, numbers};
+    ghost use Rattle.std.specs.BinaryHeap.{heap_items, heap_capacity};
+
+    ghost Value = { Stored };
+
+    ghost view = { λ s. record { blocks = numbers (heap_items s.heap); room = heap_capacity s.heap } };
+
+    ghost invariant = { λ s. IsOrdered (heap_items s.heap) };
+}
+
+impl Stock {
+    /// The blocks from `first` to the one before `end`, with room for so many.
+    pub(crate) fn new(alloc: Global, first: u16, end: u16, room: usize) -> Result<Stock, AllocError>
+        requires { first ≤ end }
+        ensures blocks { IfOk result (λ s. IsPermutation (from first (end - first)) s.blocks) }
+        ensures room { IfOk result (λ s. room ≤ s.room) }
+    {
+        let mut heap = BinaryHeap::with_capacity(alloc, room)?;
+        for block in first..end {
+            heap.push(Reverse(block))?;
+        }
+        Ok(Stock { heap })
+    }
+
+    /// A block comes in.
+    pub(crate) fn put(&mut self, block: Block)
+        requires { length self.old.blocks < self.old.room }
+        ensures blocks { IsPermutation (block.0 ∷ self.old.blocks) self.new.blocks }
+        ensures room { self.old.room ≤ self.new.room }
+    {
+        if self.heap.push(Reverse(block.0)).is_err() {
+            unreachable!()
+        }
+    }
+
+    /// The least block goes out, if there is one.
+    pub(crate) fn take_least(&mut self) -> Option<Block>
+        ensures least { MatchOption result (self.old.blocks ≡ [])
+            (λ b. IsPermutation self.old.blocks (b.0 ∷ self.new.blocks) × All (λ c. b.0 ≤ c) self.old.blocks) }
+        ensures none { MatchOption result (self.new.blocks ≡ self.old.blocks) (λ _. Unit {0}) }
+        ensures room { self.new.room ≡ self.old.room }
+    {
+        match self.heap.pop() {
+            None => None,
+            Some(Reverse(block)) => Some(Block(block)),
+        }
+    }
+}
