@@ -111,7 +111,7 @@ module _ {V : Type 0} where
     told_written st me' c i j n eb ej w =
         prepares me' j n
         (subst (λ (y : Block × ℕ). Moved me.0 (Making y.0 (slice_set (prepared me.0.view.pending) y.1 n)) (Some y.0) me'.0)
-            (λ k. (eb k, ej k)) w.0) w.1
+        (λ k. (eb k, ej k)) w.0) w.1
 
     pub fills : (me' : At V) (y : Option V) → me' ≡ (me.0, (b.0 - 1, y) ∷ []) → IsPrepared v b me' l y
     fills me' y e =

@@ -49,7 +49,7 @@ module _ {V : Type 0} where
     all_seen =
         let w = subst (λ y. (leads (opening_of y) v.view.seen).allowance v.view.name ≡ y.allowance) same_shape whole in
         let e = sole_has_seen_all (opening_of k) s.words (map view_of s.views) r.history r.stands id v.view
-            (at_map view_of s.views id v at) awake w in
+        (at_map view_of s.views id v at) awake w in
         λ i. leads (opening_of (same_shape i)) (e i)
 
     nobody_names : (b j : ℕ) (u : View V) → get_elem? (map view_of s.views) j ≡ some u → NamesBlock (leads (opening_of k) r.history) u.pending b → ⊥
@@ -60,9 +60,9 @@ module _ {V : Type 0} where
         go false t =
             let w = subst (λ y. (leads (opening_of y) v.view.seen).allowance v.view.name ≡ y.allowance) same_shape whole in
             let whole' : (leads (opening_of k) r.history).allowance v.view.name ≡ k.allowance = ap
-                (λ (y : State). y.allowance v.view.name) (sym all_seen) ∙ (whole ∙ ap (λ y. y.allowance) same_shape) in
+            (λ (y : State). y.allowance v.view.name) (sym all_seen) ∙ (whole ∙ ap (λ y. y.allowance) same_shape) in
             let same = alone (opening_of k) s.words (map view_of s.views) r.history r.stands id v.view
-                (at_map view_of s.views id v at) awake whole' j u there t in
+            (at_map view_of s.views id v at) awake whole' j u there t in
             let e = some-injective u v.view (sym there ∙ (ap (get_elem? (map view_of s.views)) same ∙ at_map view_of s.views id v at)) in
             subst (λ p. NamesBlock (leads (opening_of k) r.history) p b) (ap (λ (y : View V). y.pending) e ∙ idle) names
 
@@ -72,7 +72,7 @@ module _ {V : Type 0} where
         × (number_of (slice_index s.words (spot b 1)) ≡ weak (known v) ((known v).latest b) + common ((known v).object ((known v).latest b)).phase)
     exact_counts b inside still =
         subst (λ (y : State). (number_of (slice_index s.words (spot b 0)) ≡ count y (y.latest b))
-            × (number_of (slice_index s.words (spot b 1)) ≡ weak y (y.latest b) + common (y.object (y.latest b)).phase)) (sym all_seen)
+        × (number_of (slice_index s.words (spot b 1)) ≡ weak y (y.latest b) + common (y.object (y.latest b)).phase)) (sym all_seen)
         (rests_exactly (opening_of k) s.words (map view_of s.views) r.history r.stands b inside record {
           still = subst (λ (y : State). (o d : ℕ) → (y.object o).block ≡ b → (y.object o).phase ≡ ending d → ⊥) all_seen still;
           unnamed = nobody_names b;

@@ -53,7 +53,7 @@ in_part d b (x ∷ l) =
     go : (c : Bool) → same_stored (stored d b) x ≡ c → (b == x.block) ≡ c
         → length (filter (same_stored (stored d b)) l) ≡ length (filter (λ (y : Stored). b == y.block) (filter (λ (y : Stored). y.desk == d) l))
         → length (filter (same_stored (stored d b)) (x ∷ l)) ≡ length (filter (λ (y : Stored). b == y.block) (x ∷ filter
-            (λ (y : Stored). y.desk == d) l))
+        (λ (y : Stored). y.desk == d) l))
     go true s e i =
         let r = filter (λ (y : Stored). b == y.block) (filter (λ (y : Stored). y.desk == d) l) in let q = filter (same_stored (stored d b)) l in
         ap length (cond-true (same_stored (stored d b) x) (x ∷ q) q s) ∙ (ap suc i ∙ sym (ap length (cond-true (b == x.block) (x ∷ r) r e)))
@@ -99,7 +99,7 @@ module _ {V : Type 0} where
       → d'.seat.table_id ≡ d.seat.table_id → d'.seat.me.1 ≡ []
       → ((s : State) (x : ℕ) → (after s x e).stores ≡ s.stores) → ((s : State) (x : ℕ) → (after s x e).allowance ≡ s.allowance)
       → d'.store ≡ d.store → d'.allowance ≡ d.allowance → bag_size (known d'.seat.me.0) d'.seat.me.0.view.name ≤ d'.held
-          → d'.held ≤ d'.allowance → IsDesk d'
+      → d'.held ≤ d'.allowance → IsDesk d'
   quiet_desk d d' e h a table none stores allowances store allowance held within =
       let v = d.seat.me.0 in let w = d'.seat.me.0 in let c = came v w Idle None e a in let n = v.view.name in
       let stores' : (known w).stores ≡ c.state.stores = ap (λ (s : State). s.stores) c.now ∙ stores c.state n in
@@ -138,7 +138,7 @@ module _ {V : Type 0} where
     pub stock_left : ((s : State) (x : ℕ) → (after s x e).stores ≡ s.stores) → stock (known w) w.view.name ≡ stock (known v) v.view.name
     stock_left stores =
         (λ i. stock (c.now i) (c.name i))
-            ∙ (ap (λ (l : List Stored). filter (λ (x : Stored). x.desk == v.view.name) l) (stores c.state v.view.name) ∙ c.same.in_stock)
+        ∙ (ap (λ (l : List Stored). filter (λ (x : Stored). x.desk == v.view.name) l) (stores c.state v.view.name) ∙ c.same.in_stock)
 
   -- the handles after a call that gives one
   pub one_more : (v w : Sight V) (e : Event V) (c : Came v e w) (x : Handle)
@@ -147,7 +147,7 @@ module _ {V : Type 0} where
   one_more v w e c x hands =
       (λ i. bag_size (c.now i) (c.name i))
       ∙ (ap (λ (l : List Held). length (filter (λ (y : Held). y.desk == v.view.name) l)) hands ∙ (bag_one v.view.name x c.state.hands
-          ∙ ap suc (ap length c.same.in_bag)))
+      ∙ ap suc (ap length c.same.in_bag)))
 
   -- and after one that takes one
   pub one_fewer : (v w : Sight V) (e : Event V) (c : Came v e w) (x : Handle) → Has (held v.view.name x) c.state.hands
@@ -155,7 +155,7 @@ module _ {V : Type 0} where
       → suc (bag_size (known w) w.view.name) ≡ bag_size (known v) v.view.name
   one_fewer v w e c x has hands =
       let a : bag_size (known w) w.view.name ≡ length (filter
-          (λ (y : Held). y.desk == v.view.name) (without same_held (held v.view.name x) c.state.hands)) =
+      (λ (y : Held). y.desk == v.view.name) (without same_held (held v.view.name x) c.state.hands)) =
       (λ i. bag_size (c.now i) (c.name i)) ∙ ap (λ (l : List Held). length (filter (λ (y : Held). y.desk == v.view.name) l)) hands in
       let b = num_without same_held held_true held_self (λ (y : Held). y.desk == v.view.name) (held v.view.name x) c.state.hands has in
       let one = bag_one v.view.name x [] in let s = ap length c.same.in_bag in omega arith
@@ -191,7 +191,7 @@ module _ {V : Type 0} where
   holds_some d k o p b h holds =
       let v = d.seat.me.0 in
       let t = num_has (λ (y : Held). y.desk == v.view.name) (held v.view.name (handle k (Some o) p)) (known v).hands holds.has
-          (eq-eqb v.view.name v.view.name refl) in
+      (eq-eqb v.view.name v.view.name refl) in
       let u = h.holding in omega arith
 
   -- a call that leaves the allowance alone, with a store that lists the stock after it
@@ -236,7 +236,7 @@ module _ {V : Type 0} where
         λ q.
             let p : Block → Bool = λ x. x.0 == q in
             let a = ap length (ap (filter p) is ∙ filter-append p d.store.items (b ∷ []))
-                ∙ length-append (filter p d.store.items) (filter p (b ∷ [])) in
+            ∙ length-append (filter p d.store.items) (filter p (b ∷ [])) in
             let t = same_tally n q (known d.seat.me.0) s same.in_stock in let u = h.stored q in
             let e = ap (λ y. length (filter (same_stored (stored n q)) y)) ls in
             let rest = filter (same_stored (stored n q)) s.stores in
@@ -244,11 +244,11 @@ module _ {V : Type 0} where
             (λ (m : b.0 ≡ q).
             let x = ap length (cond-true (b.0 == q) (b ∷ []) [] (eq-eqb b.0 q m)) in
             let y = ap length (cond-true (same_stored (stored n q) (stored n b.0)) (stored n b.0 ∷ rest) rest
-                ((λ i. eq-eqb n n refl i && eq-eqb q b.0 (sym m) i))) in omega arith)
+            ((λ i. eq-eqb n n refl i && eq-eqb q b.0 (sym m) i))) in omega arith)
             (λ (m : b.0 ≢ q).
             let x = ap length (cond-false (b.0 == q) (b ∷ []) [] (ne_eqb b.0 q m)) in
             let y = ap length (cond-false (same_stored (stored n q) (stored n b.0)) (stored n b.0 ∷ rest) rest
-                ((λ i. eq-eqb n n refl i && ne_eqb q b.0 (λ z. m (sym z)) i))) in omega arith)
+            ((λ i. eq-eqb n n refl i && ne_eqb q b.0 (λ z. m (sym z)) i))) in omega arith)
             (cases_eq b.0 q),
         let a = ap length is ∙ length-append d.store.items (b ∷ []) in let u = h.many in let t = ap length same.in_stock in
             let rest = filter (λ (x : Stored). x.desk == n) s.stores in

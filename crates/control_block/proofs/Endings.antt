@@ -34,8 +34,14 @@ alike x = record { phase = refl; enabled = refl; null = refl; fields = refl; blo
 
 alike_both : (x y w : Object) → Alike x y → Alike y w → Alike x w
 alike_both x y w a b =
-    record { phase = b.phase ∙ a.phase; enabled = b.enabled ∙ a.enabled; null = b.null ∙ a.null; fields = b.fields ∙ a.fields; block = b.block
-        ∙ a.block }
+    record {
+      phase = b.phase ∙ a.phase;
+      enabled = b.enabled ∙ a.enabled;
+      null = b.null ∙ a.null;
+      fields = b.fields ∙ a.fields;
+      block = b.block
+          ∙ a.block;
+    }
 
 alike_is : (x y : Object) → y ≡ x → Alike x y
 alike_is x y e = subst (λ w. Alike x w) (sym e) (alike x)
@@ -43,7 +49,7 @@ alike_is x y e = subst (λ w. Alike x w) (sym e) (alike x)
 alike_put : (f : ℕ → Object) (q : ℕ) (x : Object) (o : ℕ) → Alike (f q) x → Alike (f o) (put f q x o)
 alike_put f q x o a =
     ⊎_elim (λ (e : o ≡ q). subst (λ y. Alike (f o) y) (sym (Rattle.control_word.proofs.lists.Tallies.put_same f q x o e)) (subst
-        (λ n. Alike (f n) x) (sym e) a))
+    (λ n. Alike (f n) x) (sym e) a))
     (λ (n : o ≢ q). alike_is (f o) (put f q x o) (put_other f q x o n)) (cases_eq o q)
 
 alike_fills : (s : State) (c : Cell) (h : Handle) (o : ℕ) → Alike (s.object o) ((fills c h s).object o)
@@ -130,8 +136,14 @@ module _ {V : Type 0} where
     stays_after (Join other) asks n m =
         record {
           latest = refl;
-          object = record { phase = handed_other other e d (s.object
-              (s.latest b)).phase ends m; enabled = refl; null = refl; fields = refl; block = refl };
+          object = record {
+            phase = handed_other other e d (s.object
+                (s.latest b)).phase ends m;
+            enabled = refl;
+            null = refl;
+            fields = refl;
+            block = refl;
+          };
         }
 
     not_visited : (a : Event V) → Asks s e a → Rattle.control_word.proofs.history.Others.Visits a (s.latest b) → ⊥

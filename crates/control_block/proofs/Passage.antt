@@ -57,7 +57,7 @@ module _ {V : Type 0} where
       → IsBacked (leads (opening_of k) h) w.view.name w.view.pending w.hand
       → ((j : ℕ) (u : Sight V) → j ≢ id → get_elem? s.views j ≡ some u → u.view.spent ≡ false
       → IsBacked (leads (opening_of k) r.history) u.view.name u.view.pending u.hand
-          → IsBacked (leads (opening_of k) h) u.view.name u.view.pending u.hand)
+      → IsBacked (leads (opening_of k) h) u.view.name u.view.pending u.hand)
       → ((b : ℕ) → InShape (opening_of k) b → IsPlaced k s r v w homes h b)
       → Ruled k record { words = words; homes = homes; views = set s.views id w }
   next k s r id v w words homes h at awake shape stands sized bare mine others placed =
@@ -77,7 +77,7 @@ module _ {V : Type 0} where
       still_out : (b : ℕ) → (IsSlotOf v.hand b → ⊥) → IsOut s.views b → IsOut (set s.views id w) b
       still_out b free o = dite (ℕ_discrete o.0 id)
           (λ (q : o.0 ≡ id). absurd (free (subst (λ (u : Sight V). IsSlotOf u.hand b) (some-injective o.1 v (sym o.2
-              ∙ (ap (get_elem? s.views) q ∙ at))) o.4)))
+          ∙ (ap (get_elem? s.views) q ∙ at))) o.4)))
           (λ (n : o.0 ≢ id). (o.0, o.1, set_else s.views id o.0 w n ∙ o.2, o.3, o.4))
 
       place : (b : ℕ) → InShape (opening_of k) b → IsPlaced k s r v w homes h b
@@ -86,7 +86,7 @@ module _ {V : Type 0} where
       place b inside (inr (inl e)) = inr (id, w, set_there s.views id v w at, awake, e)
       place b inside (inr (inr t)) =
           ⊎_elim (λ (e : get_elem? s.homes (b - 1) ≡ some (some (kept (opening_of k) r.history b))). inl (t.0 ∙ (e
-              ∙ ap (λ x. some (some x)) (sym t.1))))
+          ∙ ap (λ x. some (some x)) (sym t.1))))
           (λ o. inr (still_out b t.2 o)) (r.homes b inside)
 
   -- the point at which the seat makes its step
@@ -138,7 +138,7 @@ module _ {V : Type 0} where
 
     pub held_there : (m : Kind) (o : ℕ) (p : Option Place) (b : ℕ) → Holding v m o p b
         → Has (held v.view.name (handle m (Some o) p)) (leads (opening_of k) r.history).hands
-            × (((leads (opening_of k) r.history).object o).block ≡ b)
+        × (((leads (opening_of k) r.history).object o).block ≡ b)
     held_there m o p b mine =
         let has = subst (λ (z : State). Has (held v.view.name (handle m (Some o) p)) z.hands) known_as mine.has in (
           still_held (held v.view.name (handle m (Some o) p)) refl mine.has,
@@ -154,7 +154,7 @@ module _ {V : Type 0} where
     still_ending o b ends =
         let z = opening_of k in let shape = r.shapes id v at awake in
         let e = subst (λ (y : Opening). ((leads y v.view.seen).latest b ≡ o)
-            × (((leads y v.view.seen).object o).phase ≡ ending v.view.name)) (ap opening_of shape) ends in
+        × (((leads y v.view.seen).object o).phase ≡ ending v.view.name)) (ap opening_of shape) ends in
         let t = still_ends z knows.0 v.view.seen b v.view.name (subst (IsLegal z) knows.1 r.stands.legal) knows.2
         (ap (λ x. ((leads z v.view.seen).object x).phase) e.0 ∙ e.1) in
         let back : r.history ≡ knows.0 ++ v.view.seen = knows.1 in (

@@ -84,7 +84,7 @@ module _ {V : Type 0} where
             let back : IsBacked t u.view.name u.view.pending (Some c) = subst (IsBacked t u.view.name u.view.pending) e (r.backed j u there un) in
             ⊎_elim
             (λ (m : IsMaking u.view.pending c.0). inl (making_stored s.words t (value
-                (opening_of k) r.history) u.view.name b u.view.pending fits (subst (IsMaking u.view.pending) h m)))
+            (opening_of k) r.history) u.view.name b u.view.pending fits (subst (IsMaking u.view.pending) h m)))
             (λ (m : (t.object (t.latest c.0)).phase ≡ ending u.view.name). inr (ap (λ x. (t.object (t.latest x)).phase) (sym h) ∙ m)) back
 
     -- the slot of a live object is at home, with its value
@@ -96,12 +96,12 @@ module _ {V : Type 0} where
         ⊎_elim
         (λ (e : get_elem? s.homes (b - 1) ≡ some (some (kept (opening_of k) r.history b))).
         e ∙ ap (λ x. some (some x)) (ap (λ x. while_live (t.object x).phase (value (opening_of k) r.history x)) is
-            ∙ ap (λ x. while_live x (value (opening_of k) r.history o)) alive))
+        ∙ ap (λ x. while_live x (value (opening_of k) r.history o)) alive))
         (λ (q : IsOut s.views b). absurd (⊎_elim
         (λ (m : Has (stored q.1.view.name b) t.stores). let v = (fine.stores q.1.view.name b m).0 o there in
         let w = live_busy t o alive in omega arith)
         (λ (m : (t.object (t.latest b)).phase ≡ ending q.1.view.name). live_ends q.1.view.name (sym alive
-            ∙ (ap (λ x. (t.object x).phase) (sym is) ∙ m)))
+        ∙ (ap (λ x. (t.object x).phase) (sym is) ∙ m)))
         (out_means b q.0 q.1 q.2 q.3 q.4))) (r.homes b inside)
 
     -- a desk that has nothing in hand finds the empty slot of an own vacant block at home
@@ -114,14 +114,14 @@ module _ {V : Type 0} where
         let dead : (t.object o).phase ≡ live → ⊥ = λ q. let w = live_busy t o q in
         let u = vacant.0 o (here (λ y. live_unmade (sym q ∙ (ap (λ x. (t.object x).phase) y ∙ fine.none)))) in omega arith in
         ⊎_elim (λ (e : get_elem? s.homes (b - 1) ≡ some (some (kept z r.history b))). e
-            ∙ ap (λ x. some (some x)) (keeps_none (t.object o).phase (value z r.history o) dead))
+        ∙ ap (λ x. some (some x)) (keeps_none (t.object o).phase (value z r.history o) dead))
         (λ (q : IsOut s.views b). absurd (⊎_elim
         (λ (m : Has (stored q.1.view.name b) t.stores).
         let same = one_store v.view.name q.1.view.name b t.stores (fine.once b) mine m in
         ⊎_elim (λ (i : q.0 ≡ id). subst (λ c. IsSlotOf c b) free (subst (λ (u : Sight V). IsSlotOf u.hand b) (some-injective q.1 v (sym q.2
-            ∙ (ap (get_elem? s.views) i ∙ at))) q.4))
+        ∙ (ap (get_elem? s.views) i ∙ at))) q.4))
         (λ (n : q.0 ≢ id). n (r.stands.team.names q.0 id q.1.view v.view (at_map view_of s.views q.0 q.1 q.2)
-            (at_map view_of s.views id v at) q.3 awake
+        (at_map view_of s.views id v at) q.3 awake
         q.1.view.name (inl refl) (inl same))) (cases_eq q.0 id))
         (λ (m : (t.object o).phase ≡ ending q.1.view.name). let w = ends_busy z t b q.1.view.name fine m in
         let u = vacant.0 o (ends_here z t b q.1.view.name fine m) in omega arith)
@@ -145,7 +145,7 @@ module _ {V : Type 0} where
   -- an event that changes one object alone leaves what other blocks keep
   pub kept_else : (k : Shape) (h : List (Entry V)) (d : ℕ) (e : Event V) (o : ℕ) (x : Object) (c : ℕ)
       → (after (leads (opening_of k) h) d e).object ≡ put (leads (opening_of k) h).object o x
-          → (after (leads (opening_of k) h) d e).latest ≡ (leads (opening_of k) h).latest
+      → (after (leads (opening_of k) h) d e).latest ≡ (leads (opening_of k) h).latest
       → valued (leads (opening_of k) h) e (value (opening_of k) h) ≡ value (opening_of k) h → (leads (opening_of k) h).latest c ≢ o
       → kept (opening_of k) (entry d e ∷ h) c ≡ kept (opening_of k) h c
   kept_else k h d e o x c objects latest values n =

@@ -173,7 +173,7 @@ module _ {V : Type 0} where
   joined st m n m' =
       (other : ℕ) × (mine : List (Entry V)) × (others : List (Entry V)) × (m.0.view.pending ≡ Merging other mine others)
       × (a : Added m.0 Idle None (Join other) m'.0) × NoneBy other a.between × Knows m.0.view.name m.0.view.seen mine
-          × Knows other m.0.view.seen others
+      × Knows other m.0.view.seen others
       × (m'.1 ≡ m.1)
 
   -- the desk has seen all that either of the two had, in one history with no event of either between, and then its join

@@ -40,7 +40,7 @@ placed_length k slots = length-set (set slots k (slot slots (hand slots))) (hand
 placed_hand : (k : ℕ) (slots : Slots) → 0 < length slots → slot (placed k slots) (hand slots) ≡ None
 placed_hand k slots lt =
     get_or-set_same (set slots k (slot slots (hand slots))) (hand slots) None None (let e = length-set slots k (slot slots
-        (hand slots)) in omega (arith, e))
+    (hand slots)) in omega (arith, e))
 
 placed_ready : (k : ℕ) (slots : Slots) (ts : List Task) → 0 < length slots → Ready (hand slots) false ts → IsReady (placed k slots) false ts
 placed_ready k slots ts lt r =
@@ -81,7 +81,7 @@ passed_ready a b lt e p r =
     subst (λ (z : Slots). IsReady z b.taken (todo b)) (sym p.slots)
     (subst (λ (z : Bool). IsReady (slots_idle (task_at a).act a.holdings.slots.items a.taken) z (todo b)) (sym p.taken)
     (subst (λ (z : List Task). IsReady (slots_idle (task_at a).act a.holdings.slots.items a.taken) (taken_idle (task_at a).act a.taken) z)
-        (sym (passed_todo a b p)) k))
+    (sym (passed_todo a b p)) k))
 
 pub passed_within : (a b : Course) → a.at < length a.tasks.items → IsPassed a b → b.at ≤ length b.tasks.items
 passed_within a b lt p = subst

@@ -44,12 +44,12 @@ none_left b (x ∷ xs) =
     let i = none_left b xs in
     ⊎_elim
     (λ (e : x ≡ b). let n : not (x == b) ≡ false = ap not (eq-eqb x b e) in ap (in_list b) (cond-false (not (x == b)) (x ∷ filter
-        (λ y. not (y == b)) xs) (filter (λ y. not (y == b)) xs) n) ∙ i)
+    (λ y. not (y == b)) xs) (filter (λ y. not (y == b)) xs) n) ∙ i)
     (λ (e : x ≢ b). let n : not (x == b) ≡ true = ap not (ne_eqb x b e) in
     let a = sum_by-cons (λ (y : ℕ). cond (y == b) 1 0) x (filter (λ y. not (y == b)) xs) in
     let z = cond-false {A = ℕ} (x == b) 1 0 (ne_eqb x b e) in
     ap (in_list b) (cond-true (not (x == b)) (x ∷ filter (λ y. not (y == b)) xs) (filter (λ y. not (y == b)) xs) n)
-        ∙ omega (arith, i, a, z)) (cases_eq x b)
+    ∙ omega (arith, i, a, z)) (cases_eq x b)
 
 parted : (b : ℕ) (l : List ℕ) → length l ≡ in_list b l + length (filter (λ x. not (x == b)) l)
 parted b [] = refl
@@ -120,7 +120,7 @@ room_left d t v b kept kept' fits e =
 
 pub fits_finish : (d : ℕ) (t : Thread) (v : Story) (b : Block) (s : Stored) → Kept v → Fits d t v → t.half ≡ Ending b 3
     → IsPermutation (b.0 ∷ t.stock.blocks) s.blocks → t.stock.room ≤ s.room
-        → Fits d (record { course = t.course; stock = s; half = Rest }) (after v d (Finish b true))
+    → Fits d (record { course = t.course; stock = s; half = Rest }) (after v d (Finish b true))
 fits_finish d t v b s kept fits e p room =
     let i = ends_here d t v b 3 fits e in
     let at = (there v b kept (ending_busy v d b i.ending)).0 in

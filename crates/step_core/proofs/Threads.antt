@@ -79,7 +79,7 @@ prepared d t v b i f fits e = subst (λ (h : Half). HalfFits d h (fields_at t.co
 
 pub fits_prepare : (d : ℕ) (t : Thread) (v : Story) (b : Block) (s : Stored) (fields : List ℕ) → Kept v → Fits d t v → t.half ≡ Rest
     → t.course.at < length t.course.tasks.items → (task_at t.course).act ≡ Make fields → IsPermutation t.stock.blocks (b.0 ∷ s.blocks)
-        → s.room ≡ t.stock.room
+    → s.room ≡ t.stock.room
     → Fits d (record { course = t.course; stock = s; half = Making b 0 false }) (after v d (deed.Prepare b))
 fits_prepare d t v b s fields kept fits e lt act p room =
     let o = own_pending v d (deed.Prepare b) kept fits.seat in
@@ -106,7 +106,7 @@ pub fits_look : (d : ℕ) (t : Thread) (v : Story) (b : Block) (i n : ℕ) (same
 fits_look d t v b i n same fits e lt is here =
     let p = prepared d t v b i false fits e in
     let x : Stocks d t.stock.blocks t.stock.room (Making b i false) v = subst
-        (λ (h : Half). Stocks d t.stock.blocks t.stock.room h v) e fits.stocks in
+    (λ (h : Half). Stocks d t.stock.blocks t.stock.room h v) e fits.stocks in
     let y : IsNext (Making b i false) t.course = subst (λ (h : Half). IsNext h t.course) e fits.next in
     record {
       seat = fits.seat;
@@ -121,7 +121,7 @@ fits_look d t v b i n same fits e lt is here =
             done = λ j l.
                 cond_both same (i + 1) i (λ (k : ℕ). n ≡ k → get_or (known (pending v d)) j 0 ≡ get_or (wanted (fields_at t.course)) j 0)
                 (λ q r. ⊎_elim (λ (u : j ≡ i). subst
-                    (λ (k : ℕ). get_or (known (pending v d)) k 0 ≡ get_or (wanted (fields_at t.course)) k 0) (sym u) (here q))
+                (λ (k : ℕ). get_or (known (pending v d)) k 0 ≡ get_or (wanted (fields_at t.course)) k 0) (sym u) (here q))
                 (λ (u : j ≢ i). p.done j (omega (arith, l, r, u))) (cases_eq j i))
                 (λ q r. p.done j (omega (arith, l, r))) is;
           };
@@ -131,7 +131,7 @@ fits_look d t v b i n same fits e lt is here =
 
 pub fits_write : (d : ℕ) (t : Thread) (v : Story) (b : Block) (i : ℕ) → Kept v → Fits d t v → t.half ≡ Making b i true → i < 5
     → Fits d (record { course = t.course; stock = t.stock; half = Making b (i + 1) false }) (after v d (deed.Write b i (get_or (wanted
-        (fields_at t.course)) i 0)))
+    (fields_at t.course)) i 0)))
 fits_write d t v b i kept fits e lt =
     let n = get_or (wanted (fields_at t.course)) i 0 in
     let p = prepared d t v b i true fits e in
@@ -153,8 +153,8 @@ fits_write d t v b i kept fits e lt =
             done = λ j l.
                 ap (λ (q : Pending Nothing). get_or (known q) j 0) o
                 ∙ ⊎_elim (λ (u : j ≡ i). subst
-                    (λ (m : ℕ). get_or (set k i n) m 0 ≡ get_or (wanted (fields_at t.course)) m 0) (sym u) (get_or-set_same k i n 0 (omega
-                    (arith, five))))
+                (λ (m : ℕ). get_or (set k i n) m 0 ≡ get_or (wanted (fields_at t.course)) m 0) (sym u) (get_or-set_same k i n 0 (omega
+                (arith, five))))
                 (λ (u : j ≢ i). get_or-set_other k i j n 0 u ∙ p.done j (omega (arith, l, u))) (cases_eq j i);
           };
       next = y;
@@ -168,7 +168,7 @@ fits_claim d t v b f fields c kept fits e on =
     let p = prepared d t v b 5 f fits e in
     let x : Stocks d t.stock.blocks t.stock.room (Making b 5 f) v = subst (λ (h : Half). Stocks d t.stock.blocks t.stock.room h v) e fits.stocks in
     let has = subst (λ (n : ℕ). Has (stored n b.0) (state v).stores) (named v d kept fits.seat)
-        (making_stored v d b p.making.words kept fits.seat p.making.making) in
+    (making_stored v d b p.making.words kept fits.seat p.making.making) in
     record {
       seat = fits.seat;
       holds = on.holds;

@@ -58,7 +58,7 @@ module _ {V : Type 0} where
                   ap (λ y. while_live (put t.object o gone_now y).phase (value z r.history y)) q
                   ∙ (ap (λ y. while_live y.phase (value z r.history o)) (put_same t.object o gone_now o refl)
                   ∙ (ends_kept (t.object o).phase d (value z r.history o) phase
-                      ∙ ap (λ y. while_live (t.object y).phase (value z r.history y)) (sym q))))
+                  ∙ ap (λ y. while_live (t.object y).phase (value z r.history y)) (sym q))))
                   (λ (q : t.latest c ≢ o). kept_else k r.history d ev o gone_now c refl refl refl q) (cases_eq (t.latest c) o),
               λ y. subst (λ g. IsSlotOf g c) rests.empty y,
             ))),

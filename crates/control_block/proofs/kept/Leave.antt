@@ -68,7 +68,7 @@ module _ {V : Type 0} where
           set_else s.homes (b.0 - 1) (c - 1) none (slots_apart b.0 c n.3.0 inside.0 q),
           kept_else k r.history d e o x c refl refl refl
               (λ i. q (sym (fine.latest_in c (λ y. live_unmade (sym alive ∙ (ap (λ w. (t.object w).phase) (sym i ∙ y) ∙ fine.none))))
-                  ∙ (ap (λ w. (t.object w).block) i ∙ there))),
+              ∙ (ap (λ w. (t.object w).block) i ∙ there))),
           λ y. subst (λ w. IsSlotOf w c) free y,
         ))) (cases_eq c b.0))
 
@@ -79,7 +79,7 @@ module _ {V : Type 0} where
     where
       stands : (c : Bool) → (get_or s.words i 0 == 1) ≡ c → let h = entry me.0.view.name (Leave (owner o p) c) ∷ r.history in
           Stands (opening_of k) (set s.words i ((get_or s.words i 0 + (2 ^ 64 - 1)) % 2 ^ 64)) (set (map view_of s.views) id
-              (sees_as me.0.view Idle h)) h
+          (sees_as me.0.view Idle h)) h
       stands c is =
           let v = me.0 in let z = opening_of k in let views = map view_of s.views in
           let mine = held_there k s r id v at rests.awake Owner o p b.0 holds in
@@ -90,7 +90,7 @@ module _ {V : Type 0} where
           subst (λ m. Stands z (set s.words i m) (set views id (sees_as v.view Idle (h c))) (h c)) (sym (falls _ some' small))
           (subst (λ y. Stands z (set s.words i (get_or s.words i 0 - 1)) (set views id (sees_as v.view Idle (h y))) (h y)) is
           (subst (λ x. Stands z (set s.words x (get_or s.words x 0 - 1)) (set views id (sees_as v.view Idle (h (get_or s.words x 0 == 1)))) (h
-              (get_or s.words x 0 == 1))) same t.1))
+          (get_or s.words x 0 == 1))) same t.1))
 
       others : get_or s.words i 0 ≢ 1
           → (w : Sight V) × (a : Act (Option V)) × Valid s.homes me.1 a
@@ -120,8 +120,18 @@ module _ {V : Type 0} where
             live_home k s r b.0 o n.3 n.2 (held_there k s r id v at rests.awake Owner o p b.0 holds).1
                 (alive k s r id v at rests.awake rests.empty o p b holds) ∙ ap (λ y. some (some y)) x.1,
             leaves_last k s r id v at rests.awake rests.empty o p b holds _ now,
-            (λ m. absurd (m q), λ _. (adds k s r id v at rests.awake Idle (Some b) ev now.legal, (x.0, ap
-                (λ y. value (opening_of y) h o) (r.shapes id v at rests.awake) ∙ x.1, refl))),
+            (
+              λ m. absurd (m q),
+              λ _. (
+                adds k s r id v at rests.awake Idle (Some b) ev now.legal,
+                (
+                  x.0,
+                  ap
+                      (λ y. value (opening_of y) h o) (r.shapes id v at rests.awake) ∙ x.1,
+                  refl,
+                ),
+              ),
+            ),
           )
 
   -- the empty slot of an ending goes home at the next look
@@ -142,8 +152,11 @@ module _ {V : Type 0} where
             (λ (q : c ≡ b.0). inl (subst (λ y. get_elem? (set s.homes (b.0 - 1) (some None)) (y - 1) ≡ some (some (kept z r.history y))) (sym q)
             (set_here s.homes (b.0 - 1) (some None) (let l = r.sized in let l0 = inside.0 in
             let l1 = inside.1 in omega arith) ∙ ap (λ y. some (some y)) (sym empty_there))))
-            (λ (q : c ≢ b.0). inr (inr (set_else s.homes (b.0 - 1) (c - 1) (some None) (slots_apart b.0 c inside.0 within.0 q), refl,
-                λ y. q (sym (subst (λ g. IsSlotOf g c) hand y)))))
+            (λ (q : c ≢ b.0). inr (inr (
+              set_else s.homes (b.0 - 1) (c - 1) (some None) (slots_apart b.0 c inside.0 within.0 q),
+              refl,
+              λ y. q (sym (subst (λ g. IsSlotOf g c) hand y)),
+            )))
             (cases_eq c b.0))),
         (refl, ap rest carried),
       )

@@ -77,7 +77,7 @@ module _ {V : Type 0} where
       → Allows (Ruled k) slots id me i (λ n. n) (counted m o p (step slots i 0 0 none) me)
   allows_count k slots id b o i m p me rests holds e =
       allows_telling k slots id i me (λ n. n)
-          (λ n. Count (handle m (Some o) p) (told n)) Idle (counted m o p (step slots i 0 0 none) me) rests.awake rests.empty
+      (λ n. Count (handle m (Some o) p) (told n)) Idle (counted m o p (step slots i 0 0 none) me) rests.awake rests.empty
       (λ n. record { objects = λ s d. refl; latest = λ s d. refl; values = λ s f. refl })
       (λ s r at small.
       let v = me.0 in let z = opening_of k in let views = map view_of s.views in
@@ -86,7 +86,7 @@ module _ {V : Type 0} where
       let n = get_or s.words i 0 in
       let now = ready k s r id v at rests.awake Idle rests.idle in
       let t = law.tells_count (point k s r id v) m o p (n % 4294967296) (n / 4294967296) now mine.0 (ap (λ x. get_or s.words x 0) same
-          ∙ halved n) (low_half n) in (
+      ∙ halved n) (low_half n) in (
         looked z s.words i _ _ t.0,
         λ a. (
           a,
@@ -121,5 +121,5 @@ module _ {V : Type 0} where
       let mine = held_there k s r id v at rests.awake Owner o (Some place) place.block.0 (subst (λ x. Holding v Owner o x place.block.0) is holds) in
       let h : ℕ → Option Place → List (Entry V) = λ x y. entry v.view.name (Read (owner o y) (get_or s.words x 0)) ∷ r.history in
       looked z s.words i _ _ (subst (λ (y : ℕ
-          × Option Place). Stands z s.words (set views id (sees_as v.view Idle (h y.0 y.1))) (h y.0 y.1)) (λ j. (sym e j, sym is j))
+      × Option Place). Stands z s.words (set views id (sees_as v.view Idle (h y.0 y.1))) (h y.0 y.1)) (λ j. (sym e j, sym is j))
       (law.reads (point k s r id v) o place (ready k s r id v at rests.awake Idle rests.idle) mine.0 (sym mine.1) low)))

@@ -49,8 +49,12 @@ module _ {V : Type 0} where
             (subst (λ x. Stands z (set s.words x 1) (set (map view_of s.views) id w.view) r.history) (sym e) now)
             (length-set s.homes (b.0 - 1) none) r.bare (inl refl) (λ j u ne there un back. back)
             (λ c within. ⊎_elim (λ (q : c ≡ b.0). inr (inl (sym q)))
-            (λ (q : c ≢ b.0). inr (inr (set_else s.homes (b.0 - 1) (c - 1) none (slots_apart b.0 c inside.0 within.0 q), refl, λ y. subst
-                (λ h. IsSlotOf h c) rests.empty y)))
+            (λ (q : c ≢ b.0). inr (inr (
+              set_else s.homes (b.0 - 1) (c - 1) none (slots_apart b.0 c inside.0 within.0 q),
+              refl,
+              λ y. subst
+                  (λ h. IsSlotOf h c) rests.empty y,
+            )))
             (cases_eq c b.0)),
         (l, refl, moves k s r id v at rests.awake (Making b l) (Some b), refl),
       )
@@ -85,14 +89,14 @@ module _ {V : Type 0} where
 
   pub allows_claim : (k : Shape) (slots id i : ℕ) (b : Block) (enabled null : Bool) (fields : List ℕ) (me : At V) (x : V) → me.0.view.spent ≡ false
       → me.0.view.pending ≡ Making b (flags_of enabled null ∷ fields) → me.0.hand ≡ Some b → me.1 ≡ (b.0 - 1, Some x) ∷ [] → length fields ≡ 4
-          → HasRoomFor me.0
+      → HasRoomFor me.0
       → i ≡ spot b.0 0
       → Allows (Ruled k) slots id me i (λ _. 1) (made b enabled null fields (step slots i 1 0 none) me)
   allows_claim k slots id i b enabled null fields me x awake pending hand carried four more e s r sized at small =
       let v = me.0 in let z = opening_of k in let t = leads z r.history in let d = v.view.name in let ev : Event V = Make b enabled null fields x in
       let h = entry d ev ∷ r.history in let w = seeing v Idle None h in let fine = sound z r.history r.stands.legal in
       let now = claim.claims (point k s r id v) b enabled null fields x (ready k s r id v at awake (Making b
-          (flags_of enabled null ∷ fields)) pending) four
+      (flags_of enabled null ∷ fields)) pending) four
       (still_room k s r id v at awake more) in
       let asks = now.legal.1.asks in let inside = (fine.stores d b.0 asks.0).1 in let new = new_object b.0 enabled null fields in
       let m = suc t.made in
@@ -124,9 +128,9 @@ module _ {V : Type 0} where
       fresh_kept z h d b enabled null fields x =
           let s = leads z h in let m = suc s.made in
           ap (λ o. while_live (put s.object m (new_object b.0 enabled null fields) o).phase (valued s (Make b enabled null fields x)
-              (value z h) o)) (put_same s.latest b.0 m b.0 refl)
+          (value z h) o)) (put_same s.latest b.0 m b.0 refl)
           ∙ (ap (λ y. while_live y.phase (valued s (Make b enabled null fields x) (value z h) m)) (put_same s.object m
-              (new_object b.0 enabled null fields) m refl)
+          (new_object b.0 enabled null fields) m refl)
           ∙ put_same (value z h) m (Some x) m refl)
 
       other_kept : (z : Rattle.control_word.specs.State.Opening) (h : List (Entry V)) (d : ℕ) (b : Block) (enabled null : Bool)
@@ -135,7 +139,7 @@ module _ {V : Type 0} where
       other_kept z h d b enabled null fields x c n le =
           let s = leads z h in let m = suc s.made in let ne : s.latest c ≢ m = λ q. omega arith in
           ap (λ o. while_live (put s.object m (new_object b.0 enabled null fields) o).phase (valued s (Make b enabled null fields x)
-              (value z h) o)) (put_other s.latest b.0 m c n)
+          (value z h) o)) (put_other s.latest b.0 m c n)
           ∙ (ap (λ y. while_live y.phase (valued s (Make b enabled null fields x) (value z h) (s.latest c))) (put_other s.object m
-              (new_object b.0 enabled null fields) (s.latest c) ne)
+          (new_object b.0 enabled null fields) (s.latest c) ne)
           ∙ ap (while_live (s.object (s.latest c)).phase) (put_other (value z h) m (Some x) (s.latest c) ne))

@@ -53,13 +53,13 @@ module _ {V : Type 0} where
       let now = ready k s r id v at rests.awake Idle rests.idle in
       let acts = (r.stands.team.seated id v.view now.seated rests.awake).acts d (inl refl) in
       let all : HasAll same_held (λ (h : Handle). held d h) hs t.hands = all_from (λ (x : Held). x.desk) d same_held held_true
-          (λ (h : Handle). held d h) hs t.hands (λ h. refl)
+      (λ (h : Handle). held d h) hs t.hands (λ h. refl)
       (subst (HasAll same_held (λ (h : Handle). held d h) hs) (ap (λ (y : State). filter (λ (x : Held). x.desk == d) y.hands) was ∙ sym mine.in_bag)
       (all_to (λ (x : Held). x.desk) d same_held held_true (λ (h : Handle). held d h) hs (known v).hands (λ h. refl) may.handles)) in
       let some' : HasAll same_stored (λ (b : Block). stored d b.0) bs t.stores = all_from (λ (x : Stored). x.desk) d same_stored stored_true
-          (λ (b : Block). stored d b.0) bs t.stores (λ h. refl)
+      (λ (b : Block). stored d b.0) bs t.stores (λ h. refl)
       (subst (HasAll same_stored (λ (b : Block). stored d b.0) bs) (ap (λ (y : State). filter (λ (x : Stored). x.desk == d) y.stores) was
-          ∙ sym mine.in_stock)
+      ∙ sym mine.in_stock)
       (all_to (λ (x : Stored). x.desk) d same_stored stored_true (λ (b : Block). stored d b.0) bs (known v).stores (λ h. refl) may.blocks)) in
       let allow : t.allowance d ≡ (known v).allowance d = mine.may_hold ∙ ap (λ (y : State). y.allowance d) (sym was) in
       let bags : bag_size t d ≡ bag_size (known v) d = ap length mine.in_bag ∙ ap (λ (y : State). bag_size y d) (sym was) in
@@ -67,7 +67,7 @@ module _ {V : Type 0} where
       let apart : d ≢ to = λ e. let a = acts.0 in omega arith in
       let room : HasRoom (splits_off d to n hs bs t) d =
       let a : put (put t.allowance d (t.allowance d - n)) to n d ≡ t.allowance d - n = put_other (put t.allowance d
-          (t.allowance d - n)) to n d apart ∙ put_same t.allowance d (t.allowance d - n) d refl in
+      (t.allowance d - n)) to n d apart ∙ put_same t.allowance d (t.allowance d - n) d refl in
       let b = bag_given d to hs t.hands apart all in let c = may.fits in omega arith in
       let e : Event V = Split to n hs bs in let h = entry d e ∷ r.history in
       let told = law.splits (point k s r id v) to n hs bs now (refl, may.some_given, less, may.few, all, some') room in (
@@ -95,22 +95,22 @@ module _ {V : Type 0} where
         limits = r.limits;
         shapes = λ j u e. ⊎_elim
             (λ (q : get_elem? (set s.views id w) j ≡ some u). each_set (λ x y. y.view.spent ≡ false
-                → y.shape ≡ k) s.views id w (λ _. r.shapes id v at awake) (λ x y n there un. r.shapes x y there un) j u q)
+            → y.shape ≡ k) s.views id w (λ _. r.shapes id v at awake) (λ x y n there un. r.shapes x y there un) j u q)
             (λ (q : c ≡ u). λ _. subst (λ (y : Sight V). y.shape ≡ k) q (r.shapes id v at awake)) (at_snoc (set s.views id w) c u j e);
         sized = r.sized;
         homes = λ b inside. ⊎_elim inl (λ (o : IsOut s.views b). inr (out b o)) (r.homes b inside);
         backed = λ j u e. ⊎_elim
             (λ (q : get_elem? (set s.views id w) j ≡ some u).
             each_set (λ x y. y.view.spent ≡ false
-                → IsBacked (leads z r.history) y.view.name y.view.pending y.hand) s.views id w (λ _. tt)
-                (λ x y n there un. r.backed x y there un) j u q)
+            → IsBacked (leads z r.history) y.view.name y.view.pending y.hand) s.views id w (λ _. tt)
+            (λ x y n there un. r.backed x y there un) j u q)
             (λ (q : c ≡ u). λ _. subst
-                (λ (y : Sight V). IsBacked (leads z r.history) y.view.name y.view.pending y.hand) q tt) (at_snoc (set s.views id w) c u j e);
+            (λ (y : Sight V). IsBacked (leads z r.history) y.view.name y.view.pending y.hand) q tt) (at_snoc (set s.views id w) c u j e);
         bare = r.bare;
       }
     where
       out : (b : ℕ) → IsOut s.views b → IsOut (set s.views id (goes_on v) ++ comes_off v ∷ []) b
       out b o =
           let apart : o.0 ≢ id = λ q. subst (λ h. IsSlotOf h b) free (subst
-              (λ (u : Sight V). IsSlotOf u.hand b) (some-injective o.1 v (sym o.2 ∙ (ap (get_elem? s.views) q ∙ at))) o.4) in
+          (λ (u : Sight V). IsSlotOf u.hand b) (some-injective o.1 v (sym o.2 ∙ (ap (get_elem? s.views) q ∙ at))) o.4) in
           (o.0, o.1, at_longer (set s.views id (goes_on v)) (comes_off v ∷ []) o.0 o.1 (set_else s.views id o.0 (goes_on v) apart ∙ o.2), o.3, o.4)

@@ -31,7 +31,7 @@ module _ {V : Type 0} where
       let t = law.weak_leaves' (point k s r id v) o p (ready k s r id v at rests.awake Idle rests.idle) mine.0 in
       let j = spot ((leads z r.history).object o).block 1 in let same : j ≡ i = ap (λ x. spot x 1) mine.1 ∙ sym e in
       let h : ℕ → Rattle.std.proofs.Common.List (Rattle.control_word.specs.declared.event.Entry.Entry V) = λ x. entry v.view.name (WeakLeave
-          (weak_of o p) (get_or s.words x 0 == 1)) ∷ r.history in
+      (weak_of o p) (get_or s.words x 0 == 1)) ∷ r.history in
       let some' : 0 < get_or s.words i 0 = subst (λ x. 0 < get_or s.words x 0) same t.0 in
       subst (λ m. Stands z (set s.words i m) (set views id (sees_as v.view Idle (h i))) (h i)) (sym (falls _ some' small))
       (subst (λ x. Stands z (set s.words x (get_or s.words x 0 - 1)) (set views id (sees_as v.view Idle (h x))) (h x)) same t.1))

@@ -103,7 +103,7 @@ same_owns v w h (y ∷ ys) f =
     let a = num_cons (is_it w h) y ys in
     let b = num_cons (is_it v h) y ys in
     let c : num (is_it w h) (y ∷ []) ≡ num (is_it v h) (y ∷ []) = one_slot (is_it w h) y
-        ∙ ap (λ (t : Bool). cond t 1 0) (same_is v w h y (λ p e. f 0 p e)) ∙ sym (one_slot (is_it v h) y) in
+    ∙ ap (λ (t : Bool). cond t 1 0) (same_is v w h y (λ p e. f 0 p e)) ∙ sym (one_slot (is_it v h) y) in
     omega (arith, i, a, b, c)
 
 -- another desk's deed leaves what a desk holds
@@ -131,7 +131,7 @@ stocks_others d blocks room half v e x n stocks =
     record {
       stocked = λ b.
           stores_stock (state (after v e x)) d b ∙ ap (λ (l : List Stored). num (same_stored (stored d b)) l) same.in_stock
-              ∙ sym (stores_stock (state v) d b)
+          ∙ sym (stores_stock (state v) d b)
           ∙ stocks.stocked b;
       roomy = stocks.roomy;
     }
@@ -179,7 +179,7 @@ half_others d (Making b at f) fields v e x n kept kept' fits =
 half_others d (Ending b at) fields v e x n kept kept' fits =
     let end = ends_on v e d (object_in v b) x n kept kept' fits.ending in
     let busy : 0 < weak_number (state (after v e x)) (object_in v b) = let c : common ((state (after v e x)).object
-        (object_in v b)).phase ≡ 1 = ap common end in omega arith in
+    (object_in v b)).phase ≡ 1 = ap common end in omega arith in
     let o = kept_object v e b x kept kept' (ending_busy v d b fits.ending) busy in
     record {
       idle = same_pending v e d x n ∙ fits.idle;

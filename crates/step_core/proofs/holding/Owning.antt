@@ -141,7 +141,7 @@ claimed_owns v d b enabled null fields h (y ∷ ys) f =
     let n = num_cons (is_it v h) y ys in
     let c : num (is_it w h) (y ∷ []) ≡ num (is_it v h) (y ∷ []) =
     one_slot (is_it w h) y ∙ ap (λ (t : Bool). cond t 1 0) (claimed_is v d b enabled null fields h y (λ p e. f 0 p e))
-        ∙ sym (one_slot (is_it v h) y) in
+    ∙ sym (one_slot (is_it v h) y) in
     omega (arith, i, m, n, c)
 
 pub holds_claim : (d : ℕ) (slots : Slots) (v : Story) (i : ℕ) (b : Block) (fields : List ℕ) → Kept v → Holds d slots v
@@ -160,7 +160,7 @@ holds_claim d slots v i b fields kept holds has shape few lt e =
           let z : num (is_it w h) (slot slots i ∷ []) ≡ 0 = ap (λ (q : Option Pointer). num (is_it w h) (q ∷ [])) e in
           let t = one_slot (is_it w h) (Some x) in
           let u : is_it w h (Some x) ≡ same_handle h y = ap
-              (λ (o : ℕ). same_handle h (owner o (place_at b.0))) (put_same (state v).latest b.0 (suc (state v).made) b.0 refl) in
+          (λ (o : ℕ). same_handle h (owner o (place_at b.0))) (put_same (state v).latest b.0 (suc (state v).made) b.0 refl) in
           let k : ◌≡◌ {A = ℕ} (cond (is_it w h (Some x)) 1 0) (cond (same_handle h y) 1 0) = ap (λ (q : Bool). cond q 1 0) u in
           let c = claimed_owns v d b false false fields h slots (λ j p q. apart d slots v b j p kept holds has q) in
           let o = holds.owned h in omega (arith, a, m, s, z, t, k, c, o);

@@ -43,9 +43,11 @@ one_held d h x =
     let e = eq-eqb d d refl in
     cond_both (same_handle h x) 1 0 (λ (n : ℕ). num (same_held (held d h)) (held d x ∷ []) ≡ n)
     (λ t. let k : same_held (held d h) (held d x) ≡ true = and_from _ _ e t in ap length (cond-true (same_held (held d h) (held d x))
-        (held d x ∷ []) [] k))
-    (λ t. let k : same_held (held d h) (held d x) ≡ false = rw (e,
-        t) refl in ap length (cond-false (same_held (held d h) (held d x)) (held d x ∷ []) [] k))
+    (held d x ∷ []) [] k))
+    (λ t. let k : same_held (held d h) (held d x) ≡ false = rw (
+      e,
+      t,
+    ) refl in ap length (cond-false (same_held (held d h) (held d x)) (held d x ∷ []) [] k))
 
 pub one_slot : (p : Option Pointer → Bool) (x : Option Pointer) → num p (x ∷ []) ≡ cond (p x) 1 0
 one_slot p x = cond_both (p x) (x ∷ []) [] (λ (l : Slots). length l ≡ cond (p x) 1 0) (λ t. sym (cond-true (p x) 1 0 t))
@@ -65,4 +67,4 @@ full_less (y ∷ ys) zero lt e =
 full_less (y ∷ ys) (suc i) lt e =
     let r = full_less ys i (omega arith) e in
     cond_both (is_full y) (y ∷ filter is_full ys) (filter is_full ys) (λ (q : Slots). length q < suc (length ys)) (λ t. omega (arith, r))
-        (λ t. omega (arith, r))
+    (λ t. omega (arith, r))

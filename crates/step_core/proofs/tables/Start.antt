@@ -45,7 +45,7 @@ low_part b (suc q) a one le =
       | inr ne ↦
           let m = mul-suc (suc q) (a - 1) in let s : suc (a - 1) ≡ a = omega arith in
           (div-lt_iff_lt-mul {x = b - 1} {y = a} (omega arith)).1 (let n : a * suc q ≡ suc q * (a - 1) + suc q = ap (λ k. k * suc q) (sym s)
-              ∙ mul_comm _ _ ∙ m in omega (arith, n))
+          ∙ mul_comm _ _ ∙ m in omega (arith, n))
     ]
 
 holder_low : (x : Extent) (b : ℕ) → IsExtent x → holder_of x b < x.actors

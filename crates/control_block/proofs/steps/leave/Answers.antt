@@ -21,7 +21,7 @@ fetch_sub-requires g c =
       subst (λ (b : Block). Allows (Ruled board.key) board.table_id.slots chair.id chair.me i
           (λ n. (n + (2 ^ 64 - 1)) % 2 ^ 64) (left b g.M.Meant.object g.M.Meant.place (step board.table_id.slots i 1 0 none) chair.me))
           (sym r.holds.0) (allows_leave board.key board.table_id.slots chair.id g.M.Meant.object i c.args.block g.M.Meant.place chair.me
-              r.rests r.holds.1 e),
+          r.rests r.holds.1 e),
     )
 
 pub exchange-requires : goal.exchange-requires
@@ -53,7 +53,7 @@ pub returns-clause-event : goal.returns-clause-event
 returns-clause-event g c =
     let v = c.args.chair.now.me.0 in let l = c.fetch_sub.ensures.2.1 c.if-fetch_sub-ne1.false in let x = c.exchange.ensures in
     added_as v c.fetch_sub.new.seat.me.0 c.load.new.seat.me.0 Idle Idle (Some g.M.Meant.block) None (Leave
-        (owner g.M.Meant.object g.M.Meant.place) true) l.0
+    (owner g.M.Meant.object g.M.Meant.place) true) l.0
     (c.load.ensures.2.0 ∙ ap (λ m. seeing m.0 Idle None m.0.view.seen) x.3)
 
 pub returns-clause-value : goal.returns-clause-value
@@ -63,4 +63,4 @@ returns-clause-value g c =
     let b : g.M.Meant.block.0 - 1 ≡ c.from.result - 1 = ap (λ (b : ℕ). b - 1) (ap (λ (b : Block). b.0) c.requires.holds.0 ∙ sym c.from.ensures) in
     ap (λ h. value (opening_of v.shape) h g.M.Meant.object) seen
     ∙ (l.1.1 ∙ ap Some (same_value c.fetch_sub.new.seat.me _ l.1.0 c.in-Some.value c.exchange.result _ (l.1.2
-        ∙ ap (λ (y : ℕ). (y, Some l.1.0) ∷ c.args.chair.now.me.1) b) x.2 c.in-Some.is))
+    ∙ ap (λ (y : ℕ). (y, Some l.1.0) ∷ c.args.chair.now.me.1) b) x.2 c.in-Some.is))

@@ -25,5 +25,5 @@ returns-clause-least c =
           subst (IsLeast c.args.self.now.blocks new) (sym w.result-is)
           (subst (λ (s : Stored). IsPermutation s.blocks (w.in-Some.field-0.0 ∷ new) × All (λ c. w.in-Some.field-0.0 ≤ c) s.blocks) c.self.view_is
           (let o = went_out w.in-Some.field-0.0 (heap_items c.self.inside.heap)
-              (heap_items c.pop.new.self) c.self.invariant w.in-Some.ensures.permutation w.in-Some.ensures.heap_order in (o.rest, o.least)))
+          (heap_items c.pop.new.self) c.self.invariant w.in-Some.ensures.permutation w.in-Some.ensures.heap_order in (o.rest, o.least)))
     ]

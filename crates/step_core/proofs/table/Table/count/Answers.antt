@@ -16,7 +16,7 @@ pub index-requires : goal.index-requires
 index-requires c =
     let k : Kept c.args.self.now = kept_now _ _ _ _ c.args.self.now c.self.invariant c.self.view_is in
     let i = inside c.args.self.now c.args.block 0 k (there c.args.self.now c.args.block k
-        (owner_busy c.args.self.now c.args.desk c.args.block _ k c.requires.held)).1 (let q = c.requires in omega arith) in
+    (owner_busy c.args.self.now c.args.desk c.args.block _ k c.requires.held)).1 (let q = c.requires in omega arith) in
     let w : c.self.inside.words.items ≡ c.args.self.now.words = ap (λ (s : Story). s.words) c.self.view_is in
     let b = c.block_word.ensures in
     omega (arith, i, b, ap (length {A = ℕ}) w, c.self.inside.words.ok.0)
@@ -26,13 +26,13 @@ invariant_of-self c =
     let k : Kept c.args.self.now = kept_now _ _ _ _ c.args.self.now c.self.invariant c.self.view_is in
     let w : c.self.inside.words.items ≡ c.args.self.now.words = ap (λ (s : Story). s.words) c.self.view_is in
     let i = inside c.args.self.now c.args.block 0 k (there c.args.self.now c.args.block k
-        (owner_busy c.args.self.now c.args.desk c.args.block _ k c.requires.held)).1 (let q = c.requires in omega arith) in
+    (owner_busy c.args.self.now c.args.desk c.args.block _ k c.requires.held)).1 (let q = c.requires in omega arith) in
     let f = found c.self.inside.words.items c.args.self.now.words c.block_word.result _ _ w c.block_word.ensures i c.index.ensures in
     kept_as c.args.self.now c.args.desk (Count c.args.block c.args.place c.told_count-owners.result) _ _ _ _
-        (kept_count c.args.self.now c.args.desk c.args.block c.args.place c.told_count-owners.result k c.requires.seat c.requires.idle
-        c.requires.held (subst
-        (λ (x : ℕ). c.told_count-owners.result ≡ cond (number_of x == 0) (cond (funds_of x == 0) 0 1) (number_of x)) f
-        (told _ _ c.told_count-owners.ensures.counted c.told_count-owners.ensures.under_way c.told_count-owners.ensures.none)))
+    (kept_count c.args.self.now c.args.desk c.args.block c.args.place c.told_count-owners.result k c.requires.seat c.requires.idle
+    c.requires.held (subst
+    (λ (x : ℕ). c.told_count-owners.result ≡ cond (number_of x == 0) (cond (funds_of x == 0) 0 1) (number_of x)) f
+    (told _ _ c.told_count-owners.ensures.counted c.told_count-owners.ensures.under_way c.told_count-owners.ensures.none)))
     (ap (λ (s : Story). s.extent) c.self.view_is)
     (w)
     c.then-self-inside.ensures
@@ -42,9 +42,9 @@ returns-clause-exact c =
     let k : Kept c.args.self.now = kept_now _ _ _ _ c.args.self.now c.self.invariant c.self.view_is in
     let w : c.self.inside.words.items ≡ c.args.self.now.words = ap (λ (s : Story). s.words) c.self.view_is in
     let i = inside c.args.self.now c.args.block 0 k (there c.args.self.now c.args.block k
-        (owner_busy c.args.self.now c.args.desk c.args.block _ k c.requires.held)).1 (let q = c.requires in omega arith) in
+    (owner_busy c.args.self.now c.args.desk c.args.block _ k c.requires.held)).1 (let q = c.requires in omega arith) in
     let f = found c.self.inside.words.items c.args.self.now.words c.block_word.result _ _ w c.block_word.ensures i c.index.ensures in
     exact_count c.args.self.now c.args.desk c.args.block c.args.place c.told_count-owners.result k c.requires.seat c.requires.idle
-        c.requires.held (subst
-        (λ (x : ℕ). c.told_count-owners.result ≡ cond (number_of x == 0) (cond (funds_of x == 0) 0 1) (number_of x)) f
-        (told _ _ c.told_count-owners.ensures.counted c.told_count-owners.ensures.under_way c.told_count-owners.ensures.none))
+    c.requires.held (subst
+    (λ (x : ℕ). c.told_count-owners.result ≡ cond (number_of x == 0) (cond (funds_of x == 0) 0 1) (number_of x)) f
+    (told _ _ c.told_count-owners.ensures.counted c.told_count-owners.ensures.under_way c.told_count-owners.ensures.none))
