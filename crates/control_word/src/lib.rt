@@ -6,6 +6,8 @@ pub mod counts;
 pub mod event;
 pub mod handle;
 pub mod history_laws;
+#[cfg(test)]
+mod law_tests;
 pub mod layout;
 pub mod limits;
 pub mod place;
