@@ -4,7 +4,7 @@ use Rattle.std.proofs.Common.{subst, ◌∙◌, ⊎_elim, arith, eq-eqb, ne_eqb}
 use Rattle.std.proofs.lemmas.Bool.{cases_eq, cond-true, cond-false}
 use Rattle.std.specs.List.{filter}
 use Rattle.std.proofs.lemmas.List.Elements.{filter-append}
-use Rattle.std.proofs.Common.{◌++◌, ◌&&◌, cond, length-append, ne_eqb, ◌≢◌, ⊎_elim}
+use Rattle.std.proofs.Common.{◌++◌, ◌&&◌, length-append, ne_eqb, ◌≢◌, ⊎_elim}
 use Rattle.std.proofs.lemmas.Bool.{cases_eq, cond-false, cond-true}
 use Rattle.std.specs.Prelude.{vec_capacity}
 use Rattle.atomic_table.specs.Seated.{TableId}
@@ -16,7 +16,7 @@ use Rattle.control_word.specs.Layout.{spot}
 use Rattle.control_word.specs.declared.handle.Handle.{Handle}
 use Rattle.control_word.specs.declared.handle.Kind.{Kind}
 use Rattle.control_word.specs.declared.place.Place.{Place}
-use Rattle.control_word.proofs.history.Kept.{Same, same_kept}
+use Rattle.control_word.proofs.history.Kept.{Same, block_kept, same_kept}
 use Rattle.control_word.proofs.history.Legal.{sound}
 use Rattle.control_word.proofs.history.Soundness.{Sound}
 use Rattle.control_word.specs.Events.{Asks, after}
@@ -61,7 +61,7 @@ in_part d b (x ∷ l) =
         let r = filter (λ (y : Stored). b == y.block) (filter (λ (y : Stored). y.desk == d) l) in let q = filter (same_stored (stored d b)) l in
         ap length (cond-false (same_stored (stored d b) x) (x ∷ q) q s) ∙ (i ∙ sym (ap length (cond-false (b == x.block) (x ∷ r) r e)))
 
-same_tally : (d b : ℕ) (s t : State) → stock t d ≡ stock s d
+pub same_tally : (d b : ℕ) (s t : State) → stock t d ≡ stock s d
     → length (filter (same_stored (stored d b)) t.stores) ≡ length (filter (same_stored (stored d b)) s.stores)
 same_tally d b s t e = in_part d b t.stores ∙ (ap (λ r. length (filter (λ (y : Stored). b == y.block) r)) e ∙ sym (in_part d b s.stores))
 
@@ -71,6 +71,7 @@ module _ {V : Type 0} where
     pub state : State
     pub fine : Sound (opening_of v.shape) state
     pub same : Same (known v) state v.view.name
+    pub blocks : (o : ℕ) → o ≤ (known v).made → (state.object o).block ≡ ((known v).object o).block
     pub asks : Asks state v.view.name e
     pub now : known w ≡ after state v.view.name e
     pub name : w.view.name ≡ v.view.name
@@ -87,6 +88,7 @@ module _ {V : Type 0} where
         state = leads z h;
         fine = sound z h l.0;
         same = same_kept z a.between v.view.seen d a.quiet;
+        blocks = λ o made. (block_kept z a.between v.view.seen o made).0;
         asks = l.1.asks;
         now = λ i. leads (opening_of (shape i)) (seen i);
         name = ap (λ (u : Sight V). u.view.name) a.now;

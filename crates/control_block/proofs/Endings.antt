@@ -75,7 +75,7 @@ handed_other : (other e d : ℕ) (p : Phase) → p ≡ ending d → other ≢ d 
 handed_other other e d p is n =
     subst (λ q. handed other e q ≡ q) (sym is) (ap ending (cond-false _ e d (Rattle.std.proofs.Common.ne_eqb d other (λ q. n (sym q)))))
 
-owner_lives : (z : Opening) (s : State) (d : ℕ) (h : Handle) → Sound z s → Holds s d Owner h → (s.object (object_of h)).phase ≡ live
+pub owner_lives : (z : Opening) (s : State) (d : ℕ) (h : Handle) → Sound z s → Holds s d Owner h → (s.object (object_of h)).phase ≡ live
 owner_lives z s d h fine holds =
     counted_live z s (object_of h) fine (owner_counted s d (object_of h) h.place (written s.hands d Owner h holds.0 holds.1 holds.2))
 
@@ -85,7 +85,7 @@ pub record Stays (s t : State) (b : ℕ) : Type 0 where
   pub object : Alike (s.object (s.latest b)) (t.object (s.latest b))
 
 module _ (z : Opening) (s : State) (b d : ℕ) (fine : Sound z s) (ends : (s.object (s.latest b)).phase ≡ ending d) where
-  not_live : (h : Handle) (c : ℕ) → Holds s c Owner h → s.latest b ≢ object_of h
+  pub not_live : (h : Handle) (c : ℕ) → Holds s c Owner h → s.latest b ≢ object_of h
   not_live h c holds q = ends_live d (sym ends ∙ (ap (λ o. (s.object o).phase) q ∙ owner_lives z s c h fine holds))
 
   pub ends_busy : 0 < weak_number s (s.latest b)

@@ -1,4 +1,14 @@
 pub mod Share
+pub mod Lock
+pub mod Bring
+pub mod GiveBack
+pub mod Turn
+pub mod CellLook
+pub mod CellDiffer
+pub mod Take
+pub mod Refill
+pub mod Swap
+pub mod CompareSwap
 pub mod WeakShare
 pub mod WeakLeave
 pub mod Look
@@ -7,3 +17,4 @@ pub mod Make
 pub mod Finish
 pub mod Split
 pub mod Join
+pub mod Peek

@@ -1,5 +1,5 @@
 -- What contracts see of a domain and of a desk.
-use Rattle.std.specs.Prelude.{◌≡◌, ℕ, zero, suc, List, [], ◌∷◌, ◌++◌, map, Option, Some, None}
+use Rattle.std.specs.Prelude.{◌≡◌, ◌≢◌, ◌⊎◌, ℕ, zero, suc, true, List, [], ◌∷◌, ◌++◌, map, length, Option, Some, None}
 use Rattle.atomic_table.specs.Seated.{TableId}
 use Rattle.control_word.specs.declared.event.Entry.{Entry}
 use Rattle.control_word.specs.declared.event.Event.{Event}
@@ -7,10 +7,11 @@ use Rattle.control_word.specs.declared.handle.Handle.{Handle}
 use Rattle.control_word.specs.declared.handle.Kind.{Kind}
 use Rattle.control_word.specs.declared.place.Block.{Block}
 use Rattle.control_word.specs.declared.place.Place.{Place}
-use Rattle.control_word.specs.Handles.{handle}
+use Rattle.control_word.specs.Handles.{IsPointer, handle}
 use Rattle.control_word.specs.declared.shape.Shape.{Shape}
-use Rattle.control_word.specs.Histories.{entry, leads, IsLegal}
-use Rattle.control_word.specs.State.{Has, State, Held, Stored, bag, held, stock}
+use Rattle.control_word.specs.Events.{place_at}
+use Rattle.control_word.specs.Histories.{entry, leads, value, IsLegal}
+use Rattle.control_word.specs.State.{Has, Object, State, Held, Stored, bag, ending, stock}
 use Rattle.control_word.specs.Views.{NoneBy}
 use Rattle.control_word.specs.Words.{blocks_of}
 use Rattle.control_block.specs.Rule.{opening_of}
@@ -39,6 +40,11 @@ in_block block (Some o) = Some (block o)
 
 abbrev pub by_block : (ℕ → ℕ) → Handle → Handle
 by_block block h = record { kind = h.kind; object = in_block block h.object; place = h.place }
+
+-- an owner of the object in block b with place p may give one with place q: p itself, the object's own, or any proper one
+-- ([util.smartptr.shared.const], [util.smartptr.enab])
+abbrev pub MayPoint : Option Place → ℕ → Option Place → Type 0
+MayPoint p b q = (q ≡ p) ⊎ ((q ≡ place_at b) ⊎ IsPointer q)
 
 module _ {V : Type 0} where
   -- the state as the desk has seen it
@@ -71,7 +77,59 @@ module _ {V : Type 0} where
     pub quiet : NoneBy d.name between
     pub legal : IsLegal (opening_of d.shape) e.seen
 
-  -- the desk holds this handle, of object o in block b
-  pub record HasHandle (d : DeskNow V) (k : Kind) (o : ℕ) (p : Option Place) (b : ℕ) : Type 0 where
-    pub has : Has (held d.name (handle k (Some o) p)) (state_of d).hands
-    pub there : ((state_of d).object o).block ≡ b
+  -- the object last made in a block, as far as the desk has seen
+  abbrev pub latest_of : DeskNow V → ℕ → ℕ
+  latest_of d b = (state_of d).latest b
+
+  -- The desk has a handle of this kind and place in this block. It is on the object last made there, since no block is
+  -- used again while a handle is left
+  abbrev pub HasHandle : DeskNow V → Kind → Option Place → ℕ → Type 0
+  HasHandle d k p b = Has (handle k (Some b) p) (bag_of d)
+
+  -- the handle on the object last made in the block
+  abbrev pub on_latest : DeskNow V → Kind → Option Place → ℕ → Handle
+  on_latest d k p b = handle k (Some (latest_of d b)) p
+
+  -- the object last made in the block ends in the desk's hands, and has this value
+  pub record IsEnding (d : DeskNow V) (b : ℕ) (x : V) : Type 0 where
+    pub phase : ((state_of d).object (latest_of d b)).phase ≡ ending d.name
+    pub kept : value (opening_of d.shape) d.seen (latest_of d b) ≡ Some x
+
+  -- what ends in the desk's hands ends there still
+  abbrev pub KeepsEndings : DeskNow V → DeskNow V → Type 0
+  KeepsEndings d e = (b : ℕ) (x : V) → IsEnding d b x → IsEnding e b x
+
+  -- the same, but for a block
+  abbrev pub KeepsOtherEndings : DeskNow V → ℕ → DeskNow V → Type 0
+  KeepsOtherEndings d c e = (b : ℕ) (x : V) → b ≢ c → IsEnding d b x → IsEnding e b x
+
+  -- the same desk, with the allowance that it had
+  pub record IsSameDesk (d e : DeskNow V) : Type 0 where
+    pub domain : e.domain ≡ d.domain
+    pub shape : e.shape ≡ d.shape
+    pub name : e.name ≡ d.name
+    pub allowance : allowance_of e ≡ allowance_of d
+
+  -- and the number of vacant blocks and the endings are as they were too
+  pub record Keeps (d e : DeskNow V) : Type 0 where
+    pub domain : e.domain ≡ d.domain
+    pub shape : e.shape ≡ d.shape
+    pub name : e.name ≡ d.name
+    pub allowance : allowance_of e ≡ allowance_of d
+    pub stock : length (stock_of e) ≡ length (stock_of d)
+    pub endings : KeepsEndings d e
+
+  -- the desk has a handle of the object in the block, or it ends in its hands
+  abbrev pub IsNear : DeskNow V → ℕ → Type 0
+  IsNear d b = ((k : Kind) × (p : Option Place) × HasHandle d k p b) ⊎ ((x : V) × IsEnding d b x)
+
+  -- the object last made in the block
+  abbrev pub object_in : DeskNow V → ℕ → Object
+  object_in d b = (state_of d).object (latest_of d b)
+
+  -- a weak handle with place q may come from a handle that the desk has in the block, or by from-this from an object
+  -- that ends in its hands ([util.smartptr.weak.const], [util.smartptr.enab])
+  abbrev pub MayGiveWeak : DeskNow V → ℕ → Option Place → Type 0
+  MayGiveWeak d b q =
+      ((k : Kind) × (p : Option Place) × HasHandle d k p b × ((q ≡ p) ⊎ (q ≡ place_at b)))
+      ⊎ ((x : V) × IsEnding d b x × ((object_in d b).enabled ≡ true) × (q ≡ place_at b))

@@ -1,5 +1,10 @@
 pub mod Rule
 pub mod Plays
+pub mod LockPlays
+pub mod FundPlays
+pub mod CellPlays
 pub mod Desks
+pub mod Refusals
 pub mod Inside
 pub mod Census
+pub mod Parting

@@ -1,5 +1,5 @@
 -- What each kind of step tells.
-use Rattle.std.specs.Prelude.{◌≡◌, ◌≢◌, ◌⊎◌, ◌-◌, Bool, length, slice_set, ℕ, ◌+◌, ◌<◌, ◌≤◌, ◌==◌, cond, true, false, List, [], ◌∷◌, ◌++◌, Option, Some, None}
+use Rattle.std.specs.Prelude.{◌≡◌, ◌≢◌, ◌⊎◌, ◌-◌, ◌%◌, Bool, length, slice_index, slice_set, ℕ, zero, suc, ◌+◌, ◌<◌, ◌≤◌, ◌==◌, cond, true, false, List, [], ◌∷◌, ◌++◌, Option, Some, None}
 use Rattle.atomic_table.specs.Table.{Me, Step}
 use Rattle.control_word.specs.declared.event.Entry.{Entry}
 use Rattle.control_word.specs.declared.event.Event.{Event}
@@ -14,7 +14,8 @@ use Rattle.control_word.specs.Events.{place_at}
 use Rattle.control_word.specs.Handles.{handle, owner, weak_of}
 use Rattle.control_word.specs.Histories.{entry, leads, value, IsLegal}
 use Rattle.control_word.specs.Packing.{number_of, funds_of}
-use Rattle.control_word.specs.State.{State, Has, HasAll, ending, same_held, same_stored, stored, held, bag_size, count}
+use Rattle.control_word.specs.Words.{flags_of}
+use Rattle.control_word.specs.State.{Object, State, Has, HasAll, ending, same_held, same_stored, stored, held, bag_size, count}
 use Rattle.control_word.specs.Views.{NoneBy, Knows, comes, together, used_up}
 use Rattle.control_block.specs.Rule.{opening_of, seeing}
 use Rattle.control_block.specs.declared.board.Sight.{Sight}
@@ -22,6 +23,11 @@ use Rattle.control_block.specs.declared.board.Sight.{Sight}
 -- the number that an owner word tells
 abbrev pub told : ℕ → ℕ
 told n = cond (number_of n == 0) (cond (funds_of n == 0) 0 1) (number_of n)
+
+-- what word j of an object's flags and fields tells: word 0 the flags, which may have a shut door beside them
+abbrev pub IsTold : ℕ → Object → ℕ → Type 0
+IsTold zero x n = n % 4 ≡ flags_of x.enabled x.null
+IsTold (suc k) x n = n ≡ slice_index x.fields k
 
 -- a seat: its view and the slots that it has
 abbrev pub At : Type 0 → Type 0
@@ -68,6 +74,10 @@ module _ {V : Type 0} where
       ((m : Kind) × (p : Option Place) × Holding v m o p b × ((q ≡ p) ⊎ (q ≡ place_at b)))
       ⊎ (Ends v o b × (((known v).object o).enabled ≡ true) × (q ≡ place_at b))
 
+  -- the desk has a handle of the object in this block, or it ends in its hands
+  abbrev pub IsNear : Sight V → ℕ → ℕ → Type 0
+  IsNear v o b = ((m : Kind) × (p : Option Place) × Holding v m o p b) ⊎ Ends v o b
+
   abbrev pub HasRoomFor : Sight V → Type 0
   HasRoomFor v = bag_size (known v) v.view.name < (known v).allowance v.view.name
 
@@ -96,6 +106,10 @@ module _ {V : Type 0} where
 
   abbrev pub read : ℕ → Option Place → Step (Option V) → At V → ℕ → At V → Type 0
   read o p st m n m' = tells (Read (owner o p) n) m.0 m'.0 × (m'.1 ≡ m.1)
+
+  -- a flag or a field was told, and the seat is as it was
+  abbrev pub peeked : ℕ → ℕ → Step (Option V) → At V → ℕ → At V → Type 0
+  peeked o j st m n m' = (m' ≡ m) × IsTold j ((known m.0).object o) n
 
   -- the owner left; where it was the last, its object ends here, and the slot with the value is in hand
   abbrev pub left : Block → ℕ → Option Place → Step (Option V) → At V → ℕ → At V → Type 0

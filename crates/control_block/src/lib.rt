@@ -2,11 +2,27 @@
 #![tactic(auto)]
 
 pub mod board;
+#[cfg(test)]
+mod call_tests;
 pub mod calls;
+pub mod cell_plays;
+pub mod cells;
 pub mod census;
 pub mod desk;
 pub mod domain;
+pub mod fund_plays;
+pub mod funds;
+pub mod handles;
+pub mod join;
+pub mod lock_plays;
+pub mod locks;
+mod pause;
 pub mod plays;
+mod shared_parts;
+pub mod split;
+#[cfg(test)]
+mod split_tests;
 pub mod steps;
 #[cfg(test)]
 mod tests;
+mod weak_parts;

@@ -5,7 +5,7 @@ ghost use Rattle.control_word.specs.declared.handle.Kind.{Kind};
 ghost use Rattle.control_word.specs.declared.handle.Kind.TheVariants.{Owner};
 ghost use Rattle.control_word.specs.declared.place.Block.{Block};
 ghost use Rattle.control_word.specs.declared.place.Place.{Place};
-ghost use Rattle.control_block.specs.Plays.{shared, weakly_shared, weakly_left, counted, found_expired, read, left, gave_back, began, wrote, made, finished, parted, goes_on, comes_off, grown, over, joined};
+ghost use Rattle.control_block.specs.Plays.{shared, weakly_shared, weakly_left, counted, found_expired, peeked, read, left, gave_back, began, wrote, made, finished, parted, goes_on, comes_off, grown, over, joined};
 
 use crate::board::Sight;
 use atomic_table::{Join, Play, Split};
@@ -103,6 +103,13 @@ pub struct Reads<M>(PhantomData<M>);
 
 impl<V, M: Meant> Play<Option<V>, Sight<V>> for Reads<M> {
     ghost then = { read M.object M.place };
+}
+
+/// A look at what is fixed of an object, which is no event.
+pub struct Peeks<M>(PhantomData<M>);
+
+impl<V, M: Meant> Play<Option<V>, Sight<V>> for Peeks<M> {
+    ghost then = { peeked M.object M.word };
 }
 
 /// One owner less.

@@ -10,13 +10,13 @@ ghost use Rattle.control_word.specs.Words.{flags_of};
 ghost use Rattle.control_word.specs.declared.event.Event.TheVariants.{Count, Expired, Finish, Leave, Make, Read, Share, Split, WeakLeave, WeakShare};
 ghost use Rattle.control_word.specs.declared.view.Pending.TheVariants.{Parting};
 ghost use Rattle.control_word.specs.declared.handle.Kind.TheVariants.{Owner, Weak};
-ghost use Rattle.control_block.specs.Plays.{tells, goes_on, comes_off, known, Added, JoinsUp, MaySplit, Ends, Rests, Holding, HasRoomFor, IsPrepared, MayShareWeakly};
+ghost use Rattle.control_block.specs.Plays.{tells, goes_on, comes_off, known, Added, JoinsUp, MaySplit, Ends, Rests, Holding, HasRoomFor, IsNear, IsPrepared, IsTold, MayShareWeakly};
 ghost use Rattle.control_block.specs.declared.board.Sight.{Sight};
 
 use crate::board::{Board, Chair};
 use crate::plays::{
     Begins, Claims, Counts, Cut, FindsExpired, Finishes, Given, GivesBack, Glue, Joins, Leaves,
-    Meant, Planned, Reads, Shares, Splits, WeakLeaves, WeakShares, Writes,
+    Meant, Peeks, Planned, Reads, Shares, Splits, WeakLeaves, WeakShares, Writes,
 };
 use control_word::counts::told_count;
 use control_word::layout::{ENABLED, FIELDS, FLAGS, NULL, OWNERS, WEAKS, block_word};
@@ -101,6 +101,19 @@ pub fn read<V, M: Meant>(board: &Board<V>, chair: &mut Chair<V>, place: Place) -
 {
     let word = FIELDS + usize::from(place.field);
     board.load::<Reads<M>>(chair, block_word(place.block, word))
+}
+
+/// Look, which is no event (own): the flags, as word 0, or a field, as words 1 to 4, of an object that the desk has a
+/// handle of, or that ends in its hands. They never change, so the desk learns nothing else.
+pub fn peek<V, M: Meant>(board: &Board<V>, chair: &mut Chair<V>, block: Block, word: usize) -> u64
+    requires board { chair.old.table_id ≡ board.now.table_id }
+    requires rests { Rests chair.old.me }
+    requires word { (0 < block.0) × (word < 5) × (M.word ≡ word) × (spot block.0 (2 + word) < board.now.table_id.words) }
+    requires near { IsNear chair.old.me.0 M.object block.0 }
+    ensures chair { (chair.new.table_id ≡ chair.old.table_id) × (chair.new.id ≡ chair.old.id) × (chair.new.me ≡ chair.old.me) }
+    ensures told { IsTold word ((known chair.old.me.0).object M.object) result }
+{
+    board.load::<Peeks<M>>(chair, block_word(block, FLAGS + word))
 }
 
 /// Leave: one owner less. Of the last one ([util.smartptr.shared.dest]) the value comes out, and its object ends in the

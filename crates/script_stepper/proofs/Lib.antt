@@ -1,2 +1,11 @@
-pub mod Writing
+pub mod Answering
+pub mod ClosingLemmas
+pub mod EndLemmas
+pub mod LineLemmas
+pub mod Overs
+pub mod RunLemmas
+pub mod StepLemmas
+pub mod TraceLemmas
+pub mod TurnBounds
 pub mod TurnLemmas
+pub mod Writing

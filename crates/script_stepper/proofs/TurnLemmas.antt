@@ -35,10 +35,12 @@ chosen_at false m i h = absurd cc
 pub no_comma : (xs : List ℕ) → position is_comma xs ≡ None → slice_split is_comma xs ≡ xs ∷ []
 no_comma xs h = one_part xs (ltb-false _ _ (chosen (ltb (position_or_len is_comma xs) (length xs)) (position_or_len is_comma xs) h))
 
-pub first_comma : (xs : List ℕ) (i : ℕ) → position is_comma xs ≡ Some i → slice_split is_comma xs ≡ take i xs ∷ slice_split is_comma (take (length xs - (i + 1)) (drop (i + 1) xs))
+pub first_comma : (xs : List ℕ) (i : ℕ) → position is_comma xs ≡ Some i
+    → slice_split is_comma xs ≡ take i xs ∷ slice_split is_comma (take (length xs - (i + 1)) (drop (i + 1) xs))
 first_comma xs i h =
     let at = chosen_at (ltb (position_or_len is_comma xs) (length xs)) (position_or_len is_comma xs) i h in
-    let cut : slice_split is_comma xs ≡ take (position_or_len is_comma xs) xs ∷ slice_split is_comma (drop (position_or_len is_comma xs + 1) xs) = slice_split_first is_comma xs 0 (ltb-true _ _ at.0) in
+    let cut : slice_split is_comma xs ≡ take (position_or_len is_comma xs) xs ∷ slice_split is_comma (drop (position_or_len is_comma xs + 1) xs) =
+    slice_split_first is_comma xs 0 (ltb-true _ _ at.0) in
     cut ∙ rw (at.1, take_rest xs (i + 1)) refl
 
 and_both : (a b : Bool) → (a && b) ≡ true → (a ≡ true) × (b ≡ true)
@@ -64,24 +66,30 @@ abbrev pub with_front : List ℕ → Result (List ℕ) ℕ → Result (List ℕ)
 with_front front (Ok turns) = Ok (front ++ turns)
 with_front front (Err place) = Err place
 
-regroup : (front : List ℕ) (t place : ℕ) (others : Result (List ℕ) ℕ) → with_front front (with_first (Some t) place others) ≡ with_front (front ++ t ∷ []) others
+regroup : (front : List ℕ) (t place : ℕ) (others : Result (List ℕ) ℕ)
+    → with_front front (with_first (Some t) place others) ≡ with_front (front ++ t ∷ []) others
 regroup front t place (Ok ts) = ap (λ (us : List ℕ). Ok us) (sym (append_assoc front (t ∷ []) ts))
 regroup front t place (Err k) = refl
 
-pub goes_on : (threads place t : ℕ) (front bytes word rest : List ℕ) (read : Result (List ℕ) ℕ) → slice_split is_comma bytes ≡ word ∷ slice_split is_comma rest → turn_at threads word ≡ Some t
-    → with_front front (turns_from threads place (slice_split is_comma bytes)) ≡ read → with_front (front ++ t ∷ []) (turns_from threads (place + 1) (slice_split is_comma rest)) ≡ read
+pub goes_on : (threads place t : ℕ) (front bytes word rest : List ℕ) (read : Result (List ℕ) ℕ)
+    → slice_split is_comma bytes ≡ word ∷ slice_split is_comma rest → turn_at threads word ≡ Some t
+    → with_front front (turns_from threads place (slice_split is_comma bytes)) ≡ read → with_front (front ++ t ∷ [])
+    (turns_from threads (place + 1) (slice_split is_comma rest)) ≡ read
 goes_on threads place t front bytes word rest read cut good so_far =
-    let one : with_front front (turns_from threads place (slice_split is_comma bytes)) ≡ with_front (front ++ t ∷ []) (turns_from threads (place + 1) (slice_split is_comma rest)) =
+    let one : with_front front (turns_from threads place (slice_split is_comma bytes)) ≡ with_front (front ++ t ∷ [])
+    (turns_from threads (place + 1) (slice_split is_comma rest)) =
     rw (cut, good) (regroup front t place (turns_from threads (place + 1) (slice_split is_comma rest))) in
     sym one ∙ so_far
 
-pub stops : (threads place : ℕ) (front bytes word : List ℕ) (words : List (List ℕ)) (read : Result (List ℕ) ℕ) → slice_split is_comma bytes ≡ word ∷ words → turn_at threads word ≡ None
+pub stops : (threads place : ℕ) (front bytes word : List ℕ) (words : List (List ℕ)) (read : Result (List ℕ) ℕ)
+    → slice_split is_comma bytes ≡ word ∷ words → turn_at threads word ≡ None
     → with_front front (turns_from threads place (slice_split is_comma bytes)) ≡ read → read ≡ Err place
 stops threads place front bytes word words read cut bad so_far =
     let one : with_front front (turns_from threads place (slice_split is_comma bytes)) ≡ Err place = rw (cut, bad) refl in
     sym so_far ∙ one
 
-pub ends : (threads place t : ℕ) (front bytes : List ℕ) (read : Result (List ℕ) ℕ) → slice_split is_comma bytes ≡ bytes ∷ [] → turn_at threads bytes ≡ Some t
+pub ends : (threads place t : ℕ) (front bytes : List ℕ) (read : Result (List ℕ) ℕ) → slice_split is_comma bytes ≡ bytes ∷ []
+    → turn_at threads bytes ≡ Some t
     → with_front front (turns_from threads place (slice_split is_comma bytes)) ≡ read → read ≡ Ok (front ++ t ∷ [])
 ends threads place t front bytes read cut good so_far =
     let one : with_front front (turns_from threads place (slice_split is_comma bytes)) ≡ Ok (front ++ t ∷ []) = rw (cut, good) refl in
@@ -91,7 +99,8 @@ pub front_none : (r : Result (List ℕ) ℕ) → with_front [] r ≡ r
 front_none (Ok ts) = refl
 front_none (Err k) = refl
 
-pub list_some : (threads : ℕ) (text : List ℕ) → 0 < length text → with_front [] (turns_from threads 1 (slice_split is_comma text)) ≡ list_at threads text
+pub list_some : (threads : ℕ) (text : List ℕ) → 0 < length text
+    → with_front [] (turns_from threads 1 (slice_split is_comma text)) ≡ list_at threads text
 unfolding list_at
 list_some threads [] h = absurd (omega arith)
 list_some threads (b ∷ bs) h = front_none (turns_from threads 1 (slice_split is_comma (b ∷ bs)))

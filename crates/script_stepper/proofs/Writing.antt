@@ -63,7 +63,8 @@ beginning_of_more a b xs ys k = record {
   took = k.took;
 }
 
-pub more_rest : (a b c : Option (List ℕ)) (bs rest : List ℕ) (n : ℕ) → Progress a b bs rest → Appends b c (take n rest) → Progress a c bs (take (length rest - n) (drop n rest))
+pub more_rest : (a b c : Option (List ℕ)) (bs rest : List ℕ) (n : ℕ) → Progress a b bs rest → Appends b c (take n rest)
+    → Progress a c bs (take (length rest - n) (drop n rest))
 more_rest a b c bs rest n p h = rw (take_rest rest n) (more a b c bs rest n p h)
 
 pub on_err_from : {T E P : Type 0} (r : Result T E) → P → OnErr r P

@@ -1,2 +1,7 @@
+pub mod Beginnings
+pub mod Lines
+pub mod Running
+pub mod Runs
 pub mod Sinks
+pub mod Traces
 pub mod TurnLists

@@ -1,10 +1,11 @@
 -- Lists of turns.
-use Rattle.std.specs.Prelude.{◌≡◌, ℕ, ◌+◌, ◌==◌, ◌&&◌, Bool, not, List, [], ◌∷◌, length, Option, Some, None, Result, Ok, Err, nat_lt, nat_le, if◌then◌else◌, slice_index}
+use Rattle.std.specs.Prelude.{◌≡◌, ℕ, ◌+◌, ◌==◌, ◌&&◌, Bool, not, List, [], ◌∷◌, length, Option, Some, None, Result, Ok, Err, nat_lt, nat_le}
+use Rattle.std.specs.Prelude.{if◌then◌else◌, slice_index}
 use Rattle.std.specs.List.{list_all, slice_split}
 use Rattle.std.specs.Global.{Vec}
 use Rattle.std.specs.Str.Parse.{digits_value}
-use Rattle.script_stepper.specs.declared.turns.TurnFault.{TurnFault}
-use Rattle.script_stepper.specs.declared.turns.TurnFault.TheVariants as fault
+use Rattle.script_text.specs.declared.fault.Fault.{Fault}
+use Rattle.script_text.specs.declared.fault.Fault.TheVariants as fault
 
 abbrev pub is_digit : ℕ → Bool
 is_digit b = nat_le 48 b && nat_le b 57
@@ -34,10 +35,14 @@ unfoldable pub list_at : ℕ → List ℕ → Result (List ℕ) ℕ
 list_at threads [] = Ok []
 list_at threads (b ∷ bs) = turns_from threads 1 (slice_split is_comma (b ∷ bs))
 
-abbrev pub FaultIs : TurnFault → Result (List ℕ) ℕ → Type 0
+-- want of memory, or the position of the first faulty number
+abbrev pub FaultIs : Fault → Result (List ℕ) ℕ → Type 0
 FaultIs fault.Memory read = Unit {0}
-FaultIs (fault.Turn place) read = read ≡ Err place
+FaultIs (fault.Syntax line cause) read = ⊥
+FaultIs (fault.BadTurn position) read = read ≡ Err position
+FaultIs fault.Output read = ⊥
+FaultIs fault.Input read = ⊥
 
-abbrev pub AnswersTurns : Result (Vec ℕ) TurnFault → Result (List ℕ) ℕ → Type 0
+abbrev pub AnswersTurns : Result (Vec ℕ) Fault → Result (List ℕ) ℕ → Type 0
 AnswersTurns (Ok turns) read = read ≡ Ok turns.items
 AnswersTurns (Err f) read = FaultIs f read

@@ -1,9 +1,16 @@
-//! Scripts from bytes to bytes: where output goes, and lists of turns.
+//! Scripts from bytes to bytes: what a run is given, and what it writes.
 #![tactic(auto)]
 
+mod closing;
+mod lines;
+pub mod listing;
+mod running;
 pub mod sink;
+pub mod stepping;
 #[cfg(test)]
 mod tests;
 pub mod turns;
 
+pub use listing::{write_lines, write_text};
 pub use sink::{Output, Sink, WriteFailed, write_all};
+pub use stepping::step_text;

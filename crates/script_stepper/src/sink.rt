@@ -1,7 +1,7 @@
 //! Where output goes.
 
 ghost use Rattle.std.specs.Prelude.{◌≡◌, ◌≤◌, ◌||◌, ℕ, List, Bool, Option, true, false, length, IfOk, OnOk, OnErr, is_err};
-ghost use Rattle.std.specs.Io.KnownBytes.{Appends, WriteAppends};
+ghost use Rattle.std.specs.Io.KnownBytes.{Appends, Keeps, WriteAppends};
 ghost use Rattle.script_stepper.specs.Sinks.{write_fails, AppendsBeginning};
 
 use std::io;
@@ -49,6 +49,28 @@ impl<W: io::Write> Output<W> {
             writer,
             has_failed: false,
         }
+    }
+
+    /// Makes sure that all that was written has gone out, as far as the writer says so; where it doesn't, the sink has
+    /// failed. Nothing more is taken.
+    pub fn flush(&mut self) -> Result<(), WriteFailed>
+        ensures taken { Keeps (W.contents self.old.writer) (W.contents self.new.writer) }
+        ensures failed { self.new.has_failed ≡ (self.old.has_failed || is_err result) }
+    {
+        match self.writer.flush() {
+            Ok(()) => Ok(()),
+            Err(_) => {
+                self.has_failed = true;
+                Err(WriteFailed)
+            }
+        }
+    }
+
+    /// The writer, with what it took.
+    pub fn into_inner(self) -> W
+        ensures { result ≡ self.writer }
+    {
+        self.writer
     }
 }
 

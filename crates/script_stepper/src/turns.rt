@@ -3,18 +3,9 @@ ghost use Rattle.std.specs.Prelude.{◌≡◌, ◌∷◌, ◌++◌, ◌<◌, ◌
 ghost use Rattle.std.specs.List.{slice_split, list_all};
 ghost use Rattle.script_stepper.specs.TurnLists.{is_digit, is_comma, turn_at, list_at, AnswersTurns};
 
+use script_text::Fault;
 use std::alloc::{AllocError, Global};
 use std::str;
-use thiserror::Error;
-
-/// Why a text is no list of turns: the position of the first faulty number, from 1.
-#[derive(Debug, Drop, Error)]
-pub enum TurnFault {
-    #[error("refused 1: memory")]
-    Memory,
-    #[error("refused 11: turn {0}")]
-    Turn(usize),
-}
 
 fn is_all_digits(word: &[u8]) -> bool
     ensures { result ≡ list_all is_digit word.now }
@@ -57,7 +48,7 @@ fn split_comma(text: &[u8]) -> Option<(&[u8], &[u8])>
 
 /// The turns that a list names, each from 1 to the number of threads, in decimal without leading zeros; no bytes are no
 /// turns. Refused with the position, from 1, of the first number that is none, or where a growth was refused.
-pub fn turns_of(alloc: Global, text: &[u8], threads: u8) -> Result<Vec<u8>, TurnFault>
+pub fn turns_of(alloc: Global, text: &[u8], threads: u8) -> Result<Vec<u8>, Fault>
     ensures { AnswersTurns result (list_at threads text.now) }
 {
     let mut turns = Vec::new(alloc);
@@ -65,28 +56,28 @@ pub fn turns_of(alloc: Global, text: &[u8], threads: u8) -> Result<Vec<u8>, Turn
         return Ok(turns);
     }
     let mut rest = text;
-    let mut place = 1;
+    let mut position = 1;
     while let Some((word, after)) = split_comma(rest) {
         match turn_of(word, threads) {
             Some(turn) => put(&mut turns, turn)?,
-            None => return Err(TurnFault::Turn(place)),
+            None => return Err(Fault::BadTurn { position }),
         }
         rest = after;
-        place += 1;
+        position += 1;
     }
     match turn_of(rest, threads) {
         Some(turn) => put(&mut turns, turn)?,
-        None => return Err(TurnFault::Turn(place)),
+        None => return Err(Fault::BadTurn { position }),
     }
     Ok(turns)
 }
 
-fn put(turns: &mut Vec<u8>, turn: u8) -> Result<(), TurnFault>
+fn put(turns: &mut Vec<u8>, turn: u8) -> Result<(), Fault>
     ensures ok { OnOk result (turns.new.items ≡ turns.old.items ++ turn ∷ []) }
-    ensures err { IfErr result (λ e. e ≡ TurnFault.Memory) }
+    ensures err { IfErr result (λ e. e ≡ Fault.Memory) }
 {
     match turns.push(turn) {
         Ok(()) => Ok(()),
-        Err(_) => Err(TurnFault::Memory),
+        Err(_) => Err(Fault::Memory),
     }
 }

@@ -1,11 +1,13 @@
 //! `sptr`: scripts of shared and weak pointers, from standard input to standard output.
 #![tactic(auto)]
 
+mod answers;
 mod command;
 mod serve;
 #[cfg(test)]
 mod tests;
 
+use script_stepper::Output;
 use serve::serve;
 use std::env;
 use std::io::Write;
@@ -29,7 +31,7 @@ fn main(rt: HostRuntime) -> ExitCode {
         alloc,
         words.as_slice(),
         &mut rt.stdin(),
-        &mut rt.stdout(),
+        &mut Output::new(rt.stdout()),
         &mut faults,
     );
     ExitCode::from(status)

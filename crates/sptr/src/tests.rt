@@ -1,4 +1,5 @@
 use crate::serve::serve;
+use script_stepper::Output;
 use std::alloc::Global;
 use std::io;
 use std::test::Fail;
@@ -12,13 +13,13 @@ struct Answer {
 }
 
 fn served(alloc: Global, words: &[&str], input: &[u8]) -> Answer {
-    let mut output = Vec::new(alloc);
+    let mut output = Output::new(Vec::new(alloc));
     let mut faults = Vec::new(alloc);
     let mut reader = input;
     let status = serve(alloc, words, &mut reader, &mut output, &mut faults);
     Answer {
         status,
-        output,
+        output: output.into_inner(),
         faults,
     }
 }
@@ -86,6 +87,122 @@ fn refuses_a_number_that_is_too_large(rt: HostRuntime) -> Result<(), Fail> {
     Ok(())
 }
 
+/// A run of `sptr step`: the list of turns, if there is one, the script, and what comes of it.
+struct Row {
+    turns: Option<&'static str>,
+    script: &'static [u8],
+    output: &'static [u8],
+    faults: &'static [u8],
+}
+
+fn stepped(alloc: Global, row: &Row) -> Answer {
+    match row.turns {
+        Some(turns) => served(alloc, &["sptr", "step", "--turns", turns], row.script),
+        None => served(alloc, &["sptr", "step"], row.script),
+    }
+}
+
+const RUNS: [Row; 6] = [
+    Row {
+        turns: None,
+        script: b"make a 1 2\ncopy b a\ncount a\n",
+        output: b"1.3 count 2\n1.end end 1 2 0 0\nmade 1 ended 1 left 0\n",
+        faults: b"",
+    },
+    Row {
+        turns: None,
+        script: b"",
+        output: b"made 0 ended 0 left 0\n",
+        faults: b"",
+    },
+    Row {
+        turns: Some(""),
+        script: b"",
+        output: b"made 0 ended 0 left 0\n",
+        faults: b"",
+    },
+    Row {
+        turns: None,
+        script: b"make a 1\ncopy a a\ncount a\nreset a\nempty b\ncopy a b\ncount a\n",
+        output: b"1.3 count 1\n1.4 end 1 0 0 0\n1.7 count 0\nmade 1 ended 1 left 0\n",
+        faults: b"",
+    },
+    Row {
+        turns: None,
+        script: b"\tmake\ta  1\t \r\n\r\n \t\n # x\r\ncount a\r\n",
+        output: b"1.2 count 1\n1.end end 1 0 0 0\nmade 1 ended 1 left 0\n",
+        faults: b"",
+    },
+    Row {
+        turns: Some("2,2,1"),
+        script: b"make a 1\ncount a\nthread\nmake b 2\ncount b\n",
+        output: b"2.2 count 1\n1.2 count 1\n1.end end 1 0 0 0\n2.end end 2 0 0 0\nmade 2 ended 2 left 0\n",
+        faults: b"",
+    },
+];
+
+const SIXTEEN_THREADS: &[u8] = b"thread\nthread\nthread\nthread\nthread\nthread\nthread\nthread\n\
+thread\nthread\nthread\nthread\nthread\nthread\nthread\n";
+
+const REFUSED_RUNS: [Row; 6] = [
+    Row {
+        turns: Some("0"),
+        script: b"copy b a\n",
+        output: b"",
+        faults: b"refused 10: line 1: unknown name\n",
+    },
+    Row {
+        turns: Some("1,17"),
+        script: SIXTEEN_THREADS,
+        output: b"",
+        faults: b"refused 11: turn 2\n",
+    },
+    Row {
+        turns: Some("1,,1"),
+        script: b"",
+        output: b"",
+        faults: b"refused 11: turn 2\n",
+    },
+    Row {
+        turns: Some("1,"),
+        script: b"",
+        output: b"",
+        faults: b"refused 11: turn 2\n",
+    },
+    Row {
+        turns: Some("01"),
+        script: b"",
+        output: b"",
+        faults: b"refused 11: turn 1\n",
+    },
+    Row {
+        turns: Some("0"),
+        script: b"",
+        output: b"",
+        faults: b"refused 11: turn 1\n",
+    },
+];
+
+#[test]
+fn steps_a_script(rt: HostRuntime) {
+    for row in &RUNS {
+        let got = stepped(rt.alloc(), row);
+        assert_eq!(rt; got.status, 0);
+        assert_eq!(rt; got.output.as_slice(), row.output);
+        assert_eq!(rt; got.faults.as_slice(), row.faults);
+    }
+}
+
+#[test]
+fn refuses_to_step(rt: HostRuntime) {
+    for row in &REFUSED_RUNS {
+        let got = stepped(rt.alloc(), row);
+        assert_eq!(rt; got.status, 1);
+        assert_eq!(rt; got.output.as_slice(), row.output);
+        assert_eq!(rt; got.faults.as_slice(), row.faults);
+    }
+}
+
 #[test]
 fn shows_help_and_wants_a_command(rt: HostRuntime) -> Result<(), Fail> {
     let help = served(rt.alloc(), &["sptr", "--help"], b"");
@@ -121,7 +238,7 @@ impl io::Write for Broken {
 
 #[test]
 fn failing_ends(rt: HostRuntime) -> Result<(), Fail> {
-    let mut output = Vec::new(rt.alloc());
+    let mut output = Output::new(Vec::new(rt.alloc()));
     let mut faults = Vec::new(rt.alloc());
     let status = serve(
         rt.alloc(),
@@ -131,7 +248,7 @@ fn failing_ends(rt: HostRuntime) -> Result<(), Fail> {
         &mut faults,
     );
     assert_eq!(rt; status, 1);
-    assert!(rt; output.is_empty());
+    assert!(rt; output.into_inner().is_empty());
     assert_eq!(rt; faults.as_slice(), b"refused 13: input\n".as_slice());
     let mut others = Vec::new(rt.alloc());
     let mut input: &[u8] = b"empty a\n";
@@ -139,7 +256,7 @@ fn failing_ends(rt: HostRuntime) -> Result<(), Fail> {
         rt.alloc(),
         &["sptr", "check"],
         &mut input,
-        &mut Broken,
+        &mut Output::new(Broken),
         &mut others,
     );
     assert_eq!(rt; status, 1);
@@ -148,7 +265,7 @@ fn failing_ends(rt: HostRuntime) -> Result<(), Fail> {
         rt.alloc(),
         &["sptr", "check"],
         &mut Broken,
-        &mut output,
+        &mut Output::new(Broken),
         &mut Broken,
     );
     assert_eq!(rt; status, 1);

@@ -1,5 +1,6 @@
 -- The end of an object keeps a thread fitting the table.
-use Rattle.std.proofs.Common.{◌≡◌, ◌≢◌, ℕ, zero, suc, ◌+◌, ◌<◌, ◌≤◌, ◌==◌, true, false, cond, not, List, [], ◌∷◌, length, refl, sym, ap, subst, ◌∙◌}
+use Rattle.std.proofs.Common.{◌≡◌, ◌≢◌, ℕ, zero, suc, ◌+◌, ◌<◌, ◌≤◌, ◌==◌, Bool, true, false, cond, not, List, [], ◌∷◌, length, refl, sym, ap}
+use Rattle.std.proofs.Common.{subst, ◌∙◌}
 use Rattle.std.proofs.Common.{⊎_elim, arith, eq-eqb, ne_eqb}
 use Rattle.std.proofs.lemmas.Bool.{cases_eq, cond_both, cond-true, cond-false, eqb-true, and_parts}
 use Rattle.std.proofs.lemmas.List.Sorted.{sum_by_pushed}
@@ -9,24 +10,28 @@ use Rattle.std.specs.List.Sorted.{IsPermutation}
 use Rattle.control_word.proofs.history.Legal.{sound}
 use Rattle.control_word.proofs.lists.Sums.{num_le}
 use Rattle.control_word.proofs.lists.Tallies.{num_cons, put_cases}
+use Rattle.control_word.specs.Events.{moved_to}
 use Rattle.control_word.specs.declared.place.Block.{Block}
 use Rattle.control_word.specs.Laws.{how_often}
 use Rattle.control_word.specs.State.{State, Object, Stored as Kept_in, ending, same_stored, stored}
+use Rattle.step_core.specs.declared.course.Course.{Course}
 use Rattle.step_core.specs.declared.half.Half.{Half}
 use Rattle.step_core.specs.declared.half.Half.TheVariants.{Rest, Ending}
-use Rattle.step_core.specs.declared.past.Deed.TheVariants.{Clear, Finish}
+use Rattle.step_core.specs.declared.holdings.Pointer.{Pointer}
+use Rattle.step_core.specs.declared.past.Deed.TheVariants.{Clear, Finish, Leave}
 use Rattle.step_core.specs.declared.thread.Thread.{Thread}
 use Rattle.step_core.specs.Actors.{HalfFits, IsEnding, Stocks, in_list, in_store}
+use Rattle.step_core.specs.Courses.{HasGoneOn}
 use Rattle.step_core.specs.Openings.{opening}
 use Rattle.step_core.specs.Stocks.{Stored}
 use Rattle.step_core.specs.Stories.{Kept, Story, after, object_in, state}
-use Rattle.step_core.specs.Threads.{Fits, fields_at}
-use Rattle.step_core.proofs.Threads.{own_pending}
+use Rattle.step_core.specs.Threads.{Fits, IsNext, fields_at}
+use Rattle.step_core.proofs.Threads.{own_pending, resting}
 use Rattle.step_core.proofs.holding.Storing.{counted_stored, one_stored}
 use Rattle.step_core.proofs.tables.Places.{ending_busy, there}
 
-pub ends_here : (d : ℕ) (t : Thread) (v : Story) (b : Block) (i : ℕ) → Fits d t v → t.half ≡ Ending b i → IsEnding d b i v
-ends_here d t v b i fits e = subst (λ (h : Half). HalfFits d h (fields_at t.course) v) e fits.half
+pub ends_here : (d : ℕ) (t : Thread) (v : Story) (b : Block) (i k : ℕ) → Fits d t v → t.half ≡ Ending b i k → IsEnding d b i v
+ends_here d t v b i k fits e = subst (λ (h : Half). HalfFits d h (fields_at t.course) v) e fits.half
 
 -- numbers from 1 to n, each once at most, are n or fewer
 without_number : (b c : ℕ) (l : List ℕ) → in_list c (filter (λ x. not (x == b)) l) ≤ in_list c l
@@ -103,28 +108,29 @@ finished_store d v b c at =
     let e : ◌≡◌ {A = ℕ} (cond (y == c) 1 0) (cond (b.0 == c) 1 0) = ap (λ (k : ℕ). cond (k == c) 1 0) at in
     omega (arith, a, o, e)
 
-ended_stock : (d : ℕ) (t : Thread) (v : Story) (b : Block) → Fits d t v → t.half ≡ Ending b 3 → Stocks d t.stock.blocks t.stock.room (Ending b 3) v
-ended_stock d t v b fits e = subst (λ (h : Half). Stocks d t.stock.blocks t.stock.room h v) e fits.stocks
+ended_stock : (d : ℕ) (t : Thread) (v : Story) (b : Block) (k : ℕ) → Fits d t v → t.half ≡ Ending b 3 k
+    → Stocks d t.stock.blocks t.stock.room (Ending b 3 k) v
+ended_stock d t v b k fits e = subst (λ (h : Half). Stocks d t.stock.blocks t.stock.room h v) e fits.stocks
 
 -- a block that is vacant again has room in the store
-pub room_left : (d : ℕ) (t : Thread) (v : Story) (b : Block) → Kept v → Kept (after v d (Finish b true)) → Fits d t v → t.half ≡ Ending b 3
+pub room_left : (d : ℕ) (t : Thread) (v : Story) (b : Block) (k : ℕ) → Kept v → Kept (after v d (Finish b true)) → Fits d t v → t.half ≡ Ending b 3 k
     → length t.stock.blocks < t.stock.room
-room_left d t v b kept kept' fits e =
-    let i = ends_here d t v b 3 fits e in
+room_left d t v b k kept kept' fits e =
+    let i = ends_here d t v b 3 k fits e in
     let at = (there v b kept (ending_busy v d b i.ending)).0 in
-    let s = ended_stock d t v b fits e in
+    let s = ended_stock d t v b k fits e in
     let f = store_few d (after v d (Finish b true)) (b.0 ∷ t.stock.blocks) kept'
     (λ c. let g = finished_store d v b c at in let a = sum_by-cons (λ (y : ℕ). cond (y == c) 1 0) b.0 t.stock.blocks in
     let o = s.stocked c in omega (arith, g, a, o)) in
     let r = s.roomy in omega (arith, f, r)
 
-pub fits_finish : (d : ℕ) (t : Thread) (v : Story) (b : Block) (s : Stored) → Kept v → Fits d t v → t.half ≡ Ending b 3
+pub fits_finish : (d : ℕ) (t : Thread) (v : Story) (b : Block) (k : ℕ) (s : Stored) → Kept v → Fits d t v → t.half ≡ Ending b 3 k
     → IsPermutation (b.0 ∷ t.stock.blocks) s.blocks → t.stock.room ≤ s.room
     → Fits d (record { course = t.course; stock = s; half = Rest }) (after v d (Finish b true))
-fits_finish d t v b s kept fits e p room =
-    let i = ends_here d t v b 3 fits e in
+fits_finish d t v b k s kept fits e p room =
+    let i = ends_here d t v b 3 k fits e in
     let at = (there v b kept (ending_busy v d b i.ending)).0 in
-    let x = ended_stock d t v b fits e in
+    let x = ended_stock d t v b k fits e in
     record {
       seat = fits.seat;
       holds = record { owned = fits.holds.owned; size = fits.holds.size; formed = fits.holds.formed };
@@ -143,10 +149,10 @@ fits_finish d t v b s kept fits e p room =
           };
     }
 
-pub fits_finish_not : (d : ℕ) (t : Thread) (v : Story) (b : Block) → Kept v → Fits d t v → t.half ≡ Ending b 3
+pub fits_finish_not : (d : ℕ) (t : Thread) (v : Story) (b : Block) (k : ℕ) → Kept v → Fits d t v → t.half ≡ Ending b 3 k
     → Fits d (record { course = t.course; stock = t.stock; half = Rest }) (after v d (Finish b false))
-fits_finish_not d t v b kept fits e =
-    let x = ended_stock d t v b fits e in
+fits_finish_not d t v b k kept fits e =
+    let x = ended_stock d t v b k fits e in
     record {
       seat = fits.seat;
       holds = record { owned = fits.holds.owned; size = fits.holds.size; formed = fits.holds.formed };
@@ -158,12 +164,12 @@ fits_finish_not d t v b kept fits e =
       stocks = record { stocked = x.stocked; roomy = x.roomy };
     }
 
-pub fits_clear : (d : ℕ) (t : Thread) (v : Story) (b : Block) (i : ℕ) → Kept v → Fits d t v → t.half ≡ Ending b i → i < 3
-    → Fits d (record { course = t.course; stock = t.stock; half = Ending b (i + 1) }) (after v d (Clear b i))
-fits_clear d t v b i kept fits e lt =
+pub fits_clear : (d : ℕ) (t : Thread) (v : Story) (b : Block) (i k : ℕ) → Kept v → Fits d t v → t.half ≡ Ending b i k → i < 3
+    → Fits d (record { course = t.course; stock = t.stock; half = Ending b (i + 1) k }) (after v d (Clear b i))
+fits_clear d t v b i k kept fits e lt =
     let o = object_in v b in
-    let n = ends_here d t v b i fits e in
-    let x : Stocks d t.stock.blocks t.stock.room (Ending b i) v = subst (λ (h : Half). Stocks d t.stock.blocks t.stock.room h v) e fits.stocks in
+    let n = ends_here d t v b i k fits e in
+    let x : Stocks d t.stock.blocks t.stock.room (Ending b i k) v = subst (λ (h : Half). Stocks d t.stock.blocks t.stock.room h v) e fits.stocks in
     record {
       seat = fits.seat;
       holds = record { owned = fits.holds.owned; size = fits.holds.size; formed = fits.holds.formed };
@@ -178,4 +184,38 @@ fits_clear d t v b i kept fits e lt =
           };
       next = tt;
       stocks = record { stocked = x.stocked; roomy = x.roomy };
+    }
+
+-- the object whose last owner leaves is ending in the desk's hands
+pub left_ending : (v : Story) (d : ℕ) (x : Pointer) (last : Bool) → last ≡ true
+    → let w = after v d (Leave x.block x.place last) in ((state w).object (object_in w x.block)).phase ≡ ending d
+left_ending v d x last is =
+    let o = object_in v x.block in
+    let y = (state v).object o in
+    put_cases (λ j (z : Object). z.phase ≡ ending d) (state v).object o (cond last (moved_to (ending d) y) y) o
+    (λ e. ap (λ (z : Object). z.phase) (cond-true last (moved_to (ending d) y) y is)) (λ n. absurd (n refl))
+
+pub fits_leave : (d : ℕ) (t : Thread) (v : Story) (c : Course) (h : Half) (k : ℕ) (x : Pointer) (last : Bool) → Kept v → Fits d t v → t.half ≡ Rest
+    → HasGoneOn d t.course c (after v d (Leave x.block x.place last)) → h ≡ cond last (Ending x.block 0 k) Rest
+    → Fits d (record { course = c; stock = t.stock; half = h }) (after v d (Leave x.block x.place last))
+fits_leave d t v c h k x last kept fits e on is =
+    let w = after v d (Leave x.block x.place last) in
+    let s = resting d t v fits e in
+    let idle = own_pending v d (Leave x.block x.place last) kept fits.seat in
+    record {
+      seat = fits.seat;
+      holds = on.holds;
+      within = on.within;
+      ready = on.ready;
+      still = on.still;
+      half =
+          subst (λ (g : Half). HalfFits d g (fields_at c) w) (sym is)
+          (cond_both last (Ending x.block 0 k) Rest (λ (g : Half). HalfFits d g (fields_at c) w)
+          (λ q. record { idle = idle; ending = left_ending v d x last q; within = omega arith }) (λ q. idle));
+      next =
+          subst (λ (g : Half). IsNext g c) (sym is) (cond_both last (Ending x.block 0 k) Rest (λ (g : Half). IsNext g c) (λ q. tt) (λ q. tt));
+      stocks =
+          subst (λ (g : Half). Stocks d t.stock.blocks t.stock.room g w) (sym is)
+          (cond_both last (Ending x.block 0 k) Rest (λ (g : Half). Stocks d t.stock.blocks t.stock.room g w)
+          (λ q. record { stocked = s.stocked; roomy = s.roomy }) (λ q. record { stocked = s.stocked; roomy = s.roomy }));
     }

@@ -5,5 +5,11 @@ pub mod holding
 pub mod Courses
 pub mod Threads
 pub mod Endings
-pub mod Moves
+pub mod Steps
 pub mod Worlds
+pub mod Openings
+pub mod Programs
+pub mod Starts
+pub mod StartStores
+pub mod telling
+pub mod turning

@@ -1,5 +1,5 @@
 -- Stores as lists of numbers.
-use Rattle.std.proofs.Common.{◌≡◌, ℕ, zero, suc, ◌+◌, ◌-◌, ◌≤◌, false, List, [], ◌∷◌, ◌++◌, length, refl, sym, ap, subst, ◌∙◌, arith}
+use Rattle.std.proofs.Common.{◌≡◌, ℕ, zero, suc, ◌+◌, ◌≤◌, false, List, [], ◌∷◌, ◌++◌, length, refl, sym, ap, subst, ◌∙◌, arith}
 use Rattle.std.specs.List.{AllByRecursion, All}
 use Rattle.std.specs.List.Sorted.{IsPermutation}
 use Rattle.std.specs.BinaryHeap.{IsUpperBound, PopsGreatest}
@@ -20,15 +20,13 @@ from_push b (suc n) = let i = from_push (suc b) n in let e : suc b + n ≡ b + s
 pub pushed : (b : ℕ) (old new : List (Reverse ℕ)) → IsPermutation (record { 0 = b } ∷ old) new → IsPermutation (b ∷ numbers old) (numbers new)
 pushed b old new p = IsPermutation-map (λ (r : Reverse ℕ). r.0) _ _ p
 
-pub from_more : (first k : ℕ) (old new : List (Reverse ℕ)) → first ≤ k → IsPermutation (from first (k - first)) (numbers old)
-    → IsPermutation (record { 0 = k } ∷ old) new → IsPermutation (from first (k + 1 - first)) (numbers new)
-from_more first k old new le p q =
-    let n : k + 1 - first ≡ suc (k - first) = omega arith in
-    let m : first + (k - first) ≡ k = omega arith in
+pub from_more : (first k : ℕ) (old new : List (Reverse ℕ)) → IsPermutation (from first k) (numbers old)
+    → IsPermutation (record { 0 = first + k } ∷ old) new → IsPermutation (from first (k + 1)) (numbers new)
+from_more first k old new p q =
+    let n : k + 1 ≡ suc k = omega arith in
     subst (λ (j : ℕ). IsPermutation (from first j) (numbers new)) (sym n)
-    (subst (λ (l : List ℕ). IsPermutation l (numbers new)) (sym (from_push first (k - first)))
-    (subst (λ (j : ℕ). IsPermutation (from first (k - first) ++ j ∷ []) (numbers new)) (sym m)
-    (IsPermutation-push_more _ _ _ k p (pushed k old new q))))
+    (subst (λ (l : List ℕ). IsPermutation l (numbers new)) (sym (from_push first k))
+    (IsPermutation-push_more _ _ _ (first + k) p (pushed (first + k) old new q)))
 
 pub on_ok : {T E P : Type 0} (r : Result T E) → is_err r ≡ false → OnOk r P → P
 on_ok (Ok x) e p = p

@@ -1,7 +1,11 @@
 -- A thread's own deeds keep it fitting the table.
-use Rattle.std.proofs.Common.{◌≡◌, ◌≢◌, ℕ, ◌+◌, ◌<◌, ◌≤◌, Bool, true, false, cond, not, List, [], ◌∷◌, length, set, get_or, refl, sym, ap, subst, ◌∙◌}
-use Rattle.std.proofs.Common.{⊎_elim, arith, get_or-set_same, get_or-set_other, length-set}
-use Rattle.std.proofs.lemmas.Bool.{cases_eq, cond_both}
+use Rattle.std.proofs.Common.{◌≡◌, ◌≢◌, ℕ, ◌+◌, ◌<◌, ◌≤◌, ◌==◌, Bool, true, false, cond, not, List, [], ◌∷◌, length, set, get_or, refl, sym}
+use Rattle.std.proofs.Common.{ap, subst, ◌∙◌}
+use Rattle.std.proofs.Common.{⊎_elim, arith, eq-eqb, get_or-set_same, get_or-set_other, length-set}
+use Rattle.std.specs.List.{All}
+use Rattle.std.specs.Prelude.{Some, None}
+use Rattle.std.proofs.lemmas.List.Sorted.{sum_by_popped}
+use Rattle.std.proofs.lemmas.Bool.{cases_eq, cond_both, cond-true}
 use Rattle.std.specs.List.Sorted.{IsPermutation}
 use Rattle.control_word.specs.declared.place.Block.{Block}
 use Rattle.control_word.specs.declared.view.Pending.{Pending}
@@ -18,12 +22,14 @@ use Rattle.step_core.specs.declared.half.Half.TheVariants.{Rest, Making}
 use Rattle.step_core.specs.declared.past.Deed.{Deed}
 use Rattle.step_core.specs.declared.past.Deed.TheVariants as deed
 use Rattle.step_core.specs.declared.thread.Thread.{Thread}
-use Rattle.step_core.specs.Actors.{HalfFits, IsPrepared, Stocks, wanted}
-use Rattle.step_core.specs.Courses.{Begins, CourseReady, HasGoneOn, IsReady, Ready, hand, rest, taken_after, task_at}
+use Rattle.step_core.specs.Actors.{HalfFits, IsPrepared, Stocks, in_list, wanted}
+use Rattle.step_core.specs.Courses.{Begins, CourseReady, HasGoneOn, IsReady, Ready, fields_of, hand, rest, taken_after, task_at}
+use Rattle.step_core.specs.Scenes.{least}
 use Rattle.step_core.specs.Stocks.{Stored}
 use Rattle.step_core.specs.Stories.{Kept, Nothing, Story, after, known, pending, pending_after, state}
-use Rattle.step_core.specs.Threads.{Fits, IsNext, fields_at, fields_of}
+use Rattle.step_core.specs.Threads.{Fits, IsNext, fields_at}
 use Rattle.step_core.proofs.Courses.{ready_head}
+use Rattle.step_core.proofs.holding.Least.{least_stored, none_stored}
 use Rattle.step_core.proofs.holding.Storing.{stocks_claim, stocks_take}
 use Rattle.step_core.proofs.tables.Places.{making_stored, named}
 
@@ -54,6 +60,12 @@ ready_any : (n : ℕ) (ts : List Task) → Ready n true ts → Ready n false ts
 ready_any n [] r = r
 ready_any n (t ∷ ts) r = (weaker n t.act r.0, ready_more n t.act ts (ready_any n ts) r.1)
 
+-- a make comes with nothing in hand
+pub make_empty : (c : Course) (fields : List ℕ) → c.at < length c.tasks.items → CourseReady c → (task_at c).act ≡ Make fields → c.taken ≡ false
+make_empty c fields lt ready act =
+    let b : Begins (hand c.holdings.slots.items) c.taken (Make fields) = subst (Begins (hand c.holdings.slots.items) c.taken) act
+    (ready_head c lt ready).0 in b.0
+
 -- a make that is refused takes nothing
 pub refused_ready : (c : Course) (fields : List ℕ) → c.at < length c.tasks.items → CourseReady c → (task_at c).act ≡ Make fields
     → IsReady c.holdings.slots.items c.taken (rest c)
@@ -77,11 +89,26 @@ pub prepared : (d : ℕ) (t : Thread) (v : Story) (b : Block) (i : ℕ) (f : Boo
     → IsPrepared d b i (fields_at t.course) v
 prepared d t v b i f fits e = subst (λ (h : Half). HalfFits d h (fields_at t.course) v) e fits.half
 
+-- the block that the stock gave is the least of the store, which has none where the stock is empty
+pub least_here : (d : ℕ) (t : Thread) (v : Story) (b : Block) (s : Stored) → Fits d t v → t.half ≡ Rest
+    → IsPermutation t.stock.blocks (b.0 ∷ s.blocks)
+    → All (λ c. b.0 ≤ c) t.stock.blocks → least d (state v).stores ≡ Some b.0
+least_here d t v b s fits e p all =
+    let x = resting d t v fits e in
+    least_stored d b.0 (state v).stores t.stock.blocks (λ c. let q = x.stocked c in omega (arith, q))
+    (let a = sum_by_popped (λ (c : ℕ). cond (c == b.0) 1 0) b.0 t.stock.blocks s.blocks p in
+    let o = cond-true {A = ℕ} (b.0 == b.0) 1 0 (eq-eqb b.0 b.0 refl) in omega (arith, a, o)) all
+
+pub least_nowhere : (d : ℕ) (t : Thread) (v : Story) → Fits d t v → t.half ≡ Rest → t.stock.blocks ≡ [] → least d (state v).stores ≡ None
+least_nowhere d t v fits e none =
+    let x = resting d t v fits e in
+    none_stored d (state v).stores (λ c. let q = x.stocked c in let z : in_list c t.stock.blocks ≡ 0 = ap (in_list c) none in omega (arith, q, z))
+
 pub fits_prepare : (d : ℕ) (t : Thread) (v : Story) (b : Block) (s : Stored) (fields : List ℕ) → Kept v → Fits d t v → t.half ≡ Rest
     → t.course.at < length t.course.tasks.items → (task_at t.course).act ≡ Make fields → IsPermutation t.stock.blocks (b.0 ∷ s.blocks)
-    → s.room ≡ t.stock.room
+    → All (λ c. b.0 ≤ c) t.stock.blocks → s.room ≡ t.stock.room
     → Fits d (record { course = t.course; stock = s; half = Making b 0 false }) (after v d (deed.Prepare b))
-fits_prepare d t v b s fields kept fits e lt act p room =
+fits_prepare d t v b s fields kept fits e lt act p all room =
     let o = own_pending v d (deed.Prepare b) kept fits.seat in
     let x = stocks_take d t.stock.blocks s.blocks t.stock.room 0 false v b (resting d t v fits e) p in
     record {
@@ -94,6 +121,7 @@ fits_prepare d t v b s fields kept fits e lt act p room =
           record {
             making = record { words = known_of v.words b.0; size = refl; making = o };
             within = omega arith;
+            least = least_here d t v b s fits e p all;
             done = λ j l. absurd (omega arith);
           };
       next = (lt, next_here t.course fields act);
@@ -117,6 +145,7 @@ fits_look d t v b i n same fits e lt is here =
       half =
           record {
             making = p.making;
+            least = p.least;
             within = subst (λ (k : ℕ). k ≤ 5) (sym is) (cond_both same (i + 1) i (λ (k : ℕ). k ≤ 5) (λ q. omega arith) (λ q. omega arith));
             done = λ j l.
                 cond_both same (i + 1) i (λ (k : ℕ). n ≡ k → get_or (known (pending v d)) j 0 ≡ get_or (wanted (fields_at t.course)) j 0)
@@ -150,6 +179,7 @@ fits_write d t v b i kept fits e lt =
           record {
             making = record { words = set k i n; size = length-set k i n ∙ five; making = o };
             within = omega arith;
+            least = p.least;
             done = λ j l.
                 ap (λ (q : Pending Nothing). get_or (known q) j 0) o
                 ∙ ⊎_elim (λ (u : j ≡ i). subst

@@ -1,15 +1,25 @@
 -- A step of one thread keeps all of them fitting the table.
-use Rattle.std.proofs.Common.{◌≡◌, ◌≢◌, ℕ, zero, suc, ◌<◌, List, [], ◌∷◌, length, set, get_or, refl, sym, ap, subst, ◌∙◌, ⊎_elim, arith, length-set}
-use Rattle.std.specs.Prelude.{Some, slice_get}
+use Rattle.std.proofs.Common.{◌≡◌, ◌≢◌, ℕ, zero, suc, ◌<◌, List, [], ◌∷◌, length, set, get_or, refl, sym, ap, subst, ◌∙◌, ⊎_elim, arith}
+use Rattle.std.specs.Prelude.{Option, None, Some, slice_get, map}
+use Rattle.std.proofs.lemmas.List.{get_or-map, length-map, map-set}
 use Rattle.std.proofs.lemmas.Bool.{cases_eq}
 use Rattle.std.proofs.lemmas.Option.{same_Some, slice_get-get_or}
+use Rattle.step_core.specs.declared.act.Task.{Task}
+use Rattle.step_core.specs.declared.course.Course.{Course}
 use Rattle.step_core.specs.declared.past.Deed.{Deed}
-use Rattle.step_core.specs.declared.thread.Moved.{Moved}
-use Rattle.step_core.specs.declared.thread.Moved.TheVariants.{Event, Quiet, Done}
+use Rattle.step_core.specs.declared.said.Stepped.{Stepped}
+use Rattle.step_core.specs.declared.half.Half.{Half}
+use Rattle.step_core.specs.declared.half.Half.TheVariants.{Rest, Making, Ending}
 use Rattle.step_core.specs.declared.thread.Thread.{Thread}
+use Rattle.step_core.specs.Actors.{HalfFits}
+use Rattle.step_core.specs.Courses.{Walk, todo, walk}
+use Rattle.step_core.specs.Scenes.{nowhere, walk_of}
+use Rattle.step_core.specs.Steps.{Step, half_by, step_at, stepped, story_after, story_by, walk_by}
 use Rattle.step_core.specs.Stories.{Kept, Story, after}
-use Rattle.step_core.specs.Threads.{Fits, IsMoved, fields_at}
-use Rattle.step_core.specs.Worlds.{Advances, AllFit, Sight}
+use Rattle.step_core.specs.Threads.{Fits, HasStepped, IsNext, fields_at}
+use Rattle.step_core.specs.Turning.{HasBegun, IsUnderWay}
+use Rattle.step_core.specs.Worlds.{AllFit, Sight, Steps, half_of, scene, step_of, thread_half, thread_walk}
+use Rattle.step_core.proofs.Courses.{todo_at}
 use Rattle.step_core.proofs.holding.Others.{half_others, holds_others, stocks_others}
 
 module _ {X : Type 0} where
@@ -42,33 +52,72 @@ fits_deed : (d : ℕ) (u : Thread) (v v' : Story) (n : ℕ) (x : Deed) → n ≢
 fits_deed d u v v' n x ne kept kept' is fits =
     subst (λ (w : Story). Fits d u w) (sym is) (fits_others d u v n x ne kept (subst (λ (w : Story). Kept w) is kept') fits)
 
-fits_moved : (d : ℕ) (u : Thread) (v v' : Story) (n : ℕ) (t : Thread) (r : Moved) → n ≢ d → Kept v → Kept v' → IsMoved n t v r v' → Fits d u v → Fits d u v'
-fits_moved d u v v' n t Event ne kept kept' moved fits = fits_deed d u v v' n moved.0 ne kept kept' moved.1 fits
-fits_moved d u v v' n t Quiet ne kept kept' moved fits =
-    ⊎_elim (λ (e : v' ≡ v). subst (λ (w : Story). Fits d u w) (sym e) fits) (λ m. fits_deed d u v v' n m.0 ne kept kept' m.1 fits) moved
-fits_moved d u v v' n t Done ne kept kept' moved fits = subst (λ (w : Story). Fits d u w) (sym moved.0) fits
+fits_by : (d : ℕ) (u : Thread) (v v' : Story) (n : ℕ) (x : Option Step) → n ≢ d → Kept v → Kept v' → v' ≡ story_by v n x → Fits d u v → Fits d u v'
+fits_by d u v v' n None ne kept kept' is fits = subst (λ (w : Story). Fits d u w) (sym is) fits
+fits_by d u v v' n (Some x) ne kept kept' is fits = done x.deed is
+  where
+    done : (y : Option Deed) → v' ≡ story_after v n y → Fits d u v'
+    done None e = subst (λ (w : Story). Fits d u w) (sym e) fits
+    done (Some z) e = fits_deed d u v v' n z ne kept kept' e fits
 
-pub all_fit : (v v' : Story) (threads : List Thread) (n : ℕ) (t t' : Thread) (r : Moved) → Kept v → Kept v' → AllFit v threads → n < length threads
-    → IsMoved n t v r v' → Fits n t' v' → AllFit v' (set threads n t')
+pub all_fit : (v v' : Story) (threads : List Thread) (n : ℕ) (t t' : Thread) (r : Stepped) → Kept v → Kept v' → AllFit v threads → n < length threads
+    → HasStepped n t v r t' v' → Fits n t' v' → AllFit v' (set threads n t')
 all_fit v v' threads n t t' r kept kept' all lt moved fits =
     record {
       each = λ d u at.
           ⊎_elim
-          (λ (e : d ≡ n). let k : t' ≡ u = same_Some _ _ (sym (get_same threads n t' lt) ∙ subst (λ (j : ℕ). slice_get (set threads n t') j ≡ Some u) e at) in
+          (λ (e : d ≡ n). let k : t' ≡ u = same_Some _ _ (sym (get_same threads n t' lt)
+          ∙ subst (λ (j : ℕ). slice_get (set threads n t') j ≡ Some u) e at) in
           subst (λ (j : ℕ). Fits j u v') (sym e) (subst (λ (w : Thread). Fits n w v') k fits))
-          (λ (ne : d ≢ n). fits_moved d u v v' n t r (λ e. ne (sym e)) kept kept' moved (all.each d u (sym (get_other threads n d t' ne) ∙ at))) (cases_eq d n);
+          (λ (ne : d ≢ n). fits_by d u v v' n (step_at v n t.half (walk t.course)) (λ e. ne (sym e)) kept kept' moved.story
+          (all.each d u (sym (get_other threads n d t' ne) ∙ at))) (cases_eq d n);
     }
 
 -- the thread that is read is the one at its number
 pub thread_at : (threads : List Thread) (n : ℕ) (t : Thread) → n < length threads → t ≡ get_or threads n t → slice_get threads n ≡ Some t
 thread_at threads n t lt read = slice_get-get_or threads n t lt ∙ ap (λ (x : Thread). Some x) (sym read)
 
-pub advances : (u : Sight) (v' : Story) (n : ℕ) (t t' : Thread) (r : Moved) → Kept u.story → Kept v' → AllFit u.story u.threads → n < length u.threads
-    → slice_get u.threads n ≡ Some t → IsMoved n t u.story r v' → Fits n t' v' → Advances n u r (record { story = v'; threads = set u.threads n t' })
-advances u v' n t t' r kept kept' all lt at moved fits =
+-- what clauses see of a table and threads
+abbrev pub sight : Story → List Thread → Sight
+sight v threads = record { story = v; walks = map thread_walk threads; halves = map thread_half threads }
+
+seen : {v v' : Story} {a a' : List Walk} {b b' : List Half} → v ≡ v' → a ≡ a' → b ≡ b'
+    → ◌≡◌ {A = Sight} (record { story = v; walks = a; halves = b }) (record { story = v'; walks = a'; halves = b' })
+seen e f g = cc
+
+pub steps : (v v' : Story) (threads : List Thread) (n : ℕ) (t t' : Thread) (r : Stepped) → n < length threads → t ≡ get_or threads n t
+    → HasStepped n t v r t' v' → Steps n (sight v threads) r (sight v' (set threads n t'))
+steps v v' threads n t t' r lt read moved =
+    let u = sight v threads in
+    let s = step_at v n t.half (walk t.course) in
+    let h : half_of u n ≡ t.half = get_or-map thread_half threads n t Rest lt ∙ ap thread_half (sym read) in
+    let w : walk_of (scene u) n ≡ walk t.course = get_or-map thread_walk threads n t nowhere lt ∙ ap thread_walk (sym read) in
+    let e : step_of n u ≡ s = ap (λ (k : Half). step_at v n k (walk_of (scene u) n)) h ∙ ap (λ (k : Walk). step_at v n t.half k) w in (
+      moved.answer ∙ ap (stepped v) (sym e),
+      seen (moved.story ∙ ap (story_by v n) (sym e))
+          (map-set thread_walk threads n t' ∙ ap (λ (k : Walk). set (map thread_walk threads) n k) (moved.place
+          ∙ ap (λ (k : Walk). walk_by k s) (sym w)
+          ∙ ap (walk_by (walk_of (scene u) n)) (sym e)))
+          (map-set thread_half threads n t' ∙ ap (λ (k : Half). set (map thread_half threads) n k) (moved.half
+          ∙ ap (λ (k : Half). half_by k s) (sym h)
+          ∙ ap (half_by (half_of u n)) (sym e))),
+    )
+
+-- what a thread has begun
+begun_of : (d : ℕ) (h : Half) (c : Course) (v : Story) → HalfFits d h (fields_at c) v → IsNext h c → IsUnderWay d v h (todo c)
+begun_of d Rest c v fits next = tt
+begun_of d (Making b i differs) c v fits next =
+    subst (λ (ts : List Task). IsUnderWay d v (Making b i differs) ts) (sym (todo_at c next.0)) (fits.within, fits.least, next.1)
+begun_of d (Ending b stage k) c v fits next = fits.within
+
+pub has_begun : (v : Story) (threads : List Thread) (n : ℕ) (t : Thread) → n < length threads → t ≡ get_or threads n t → Fits n t v
+    → HasBegun n (sight v threads)
+has_begun v threads n t lt read fits =
+    let h : get_or (map thread_half threads) n Rest ≡ t.half = get_or-map thread_half threads n t Rest lt ∙ ap thread_half (sym read) in
+    let w : get_or (map thread_walk threads) n nowhere ≡ walk t.course = get_or-map thread_walk threads n t nowhere lt ∙ ap thread_walk (sym read) in
     record {
-      threads = length-set u.threads n t';
-      step = λ w e. subst (λ (x : Thread). IsMoved n x u.story r v') (same_Some _ _ (sym at ∙ e)) moved;
-      others = λ e ne. get_other u.threads n e t' ne;
-      fits = (all_fit u.story v' u.threads n t t' r kept kept' all lt moved fits).each;
+      within = (let m = length-map threads thread_half in omega (arith, m, lt));
+      half =
+          subst (λ (k : Walk). IsUnderWay n v (get_or (map thread_half threads) n Rest) k.todo) (sym w)
+          (subst (λ (k : Half). IsUnderWay n v k (todo t.course)) (sym h) (begun_of n t.half t.course v fits.half fits.next));
     }

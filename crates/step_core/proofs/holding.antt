@@ -1,3 +1,4 @@
+pub mod Least
 pub mod Others
 pub mod Owning
 pub mod Slots

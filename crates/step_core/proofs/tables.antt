@@ -1,7 +1,9 @@
+pub mod Calm
 pub mod Endings
 pub mod Making
 pub mod Owners
 pub mod Places
+pub mod Reading
 pub mod Standing
 pub mod Start
 pub mod Values

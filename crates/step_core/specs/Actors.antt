@@ -1,11 +1,12 @@
 -- What a thread of the machine has, and how it fits the table. All of it is own.
-use Rattle.std.specs.Prelude.{◌≡◌, ℕ, ◌+◌, ◌<◌, ◌≤◌, ◌==◌, cond, List, ◌∷◌, length, get_or, sum_by}
+use Rattle.std.specs.Prelude.{◌≡◌, ℕ, ◌+◌, ◌<◌, ◌≤◌, ◌==◌, cond, List, ◌∷◌, length, get_or, sum_by, Some}
 use Rattle.std.specs.List.{filter}
 use Rattle.control_word.specs.declared.place.Block.{Block}
 use Rattle.control_word.specs.declared.view.Pending.TheVariants.{Idle}
 use Rattle.control_word.specs.State.{State, ending, same_stored, stored}
 use Rattle.step_core.specs.declared.half.Half.{Half}
 use Rattle.step_core.specs.declared.half.Half.TheVariants.{Rest, Making, Ending}
+use Rattle.step_core.specs.Scenes.{least}
 use Rattle.step_core.specs.Stories.{IsMaking, Story, known, object_in, pending, state}
 
 -- how often the desk has the block in its store, and how often a list has it
@@ -19,7 +20,7 @@ in_list b l = sum_by (λ c. cond (c == b) 1 0) l
 abbrev pub claimed : Half → ℕ → ℕ
 claimed Rest b = 0
 claimed (Making c i differs) b = cond (c.0 == b) 1 0
-claimed (Ending c at) b = 0
+claimed (Ending c at k) b = 0
 
 -- The stock has just the desk's vacant blocks, but for the one that a making took
 pub record Stocks (d : ℕ) (blocks : List ℕ) (room : ℕ) (half : Half) (v : Story) : Type 0 where
@@ -30,10 +31,11 @@ pub record Stocks (d : ℕ) (blocks : List ℕ) (room : ℕ) (half : Half) (v : 
 abbrev pub wanted : List ℕ → List ℕ
 wanted fields = 0 ∷ fields
 
--- the words before are as they are wanted
+-- the block is the least of the store, and the words before are as they are wanted
 pub record IsPrepared (d : ℕ) (b : Block) (at : ℕ) (fields : List ℕ) (v : Story) : Type 0 where
   pub making : IsMaking v d b
   pub within : at ≤ 5
+  pub least : least d (state v).stores ≡ Some b.0
   pub done : (j : ℕ) → j < at → get_or (known (pending v d)) j 0 ≡ get_or (wanted fields) j 0
 
 -- the object ends in the desk's hands
@@ -45,4 +47,4 @@ pub record IsEnding (d : ℕ) (b : Block) (at : ℕ) (v : Story) : Type 0 where
 abbrev pub HalfFits : ℕ → Half → List ℕ → Story → Type 0
 HalfFits d Rest fields v = pending v d ≡ Idle
 HalfFits d (Making b i differs) fields v = IsPrepared d b i fields v
-HalfFits d (Ending b at) fields v = IsEnding d b at v
+HalfFits d (Ending b at k) fields v = IsEnding d b at v

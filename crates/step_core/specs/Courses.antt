@@ -14,6 +14,15 @@ use Rattle.step_core.specs.Stories.{Story, after, pending}
 abbrev pub hand : Slots → ℕ
 hand slots = length slots - 1
 
+-- the fields that an act wants, where it makes an object
+abbrev pub fields_of : Act → List ℕ
+fields_of (Make fields) = fields
+fields_of (Share k) = []
+fields_of (Put k) = []
+fields_of (Leave k) = []
+fields_of (Clear k) = []
+fields_of (Count k) = []
+
 -- a task that is no act where it comes
 abbrev pub idle : Act → Slots → Bool → Bool
 idle (Put k) slots taken = not (taken && is_full (slot slots k))

@@ -4,7 +4,13 @@ pub mod Courses
 pub mod Holdings
 pub mod Openings
 pub mod Programs
+pub mod Scenes
+pub mod Steps
 pub mod Stocks
 pub mod Stories
 pub mod Threads
+pub mod Totals
+pub mod Turning
 pub mod Worlds
+pub mod Starts
+pub mod Told

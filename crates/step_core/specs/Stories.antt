@@ -1,5 +1,5 @@
 -- What clauses see of a table: its words, what has happened, and what each desk knows of it. All of it is own.
-use Rattle.std.specs.Prelude.{◌≡◌, ℕ, suc, ◌+◌, ◌-◌, ◌<◌, false, List, [], ◌∷◌, length, get_or, slice_index, slice_set, Option, Some, None}
+use Rattle.std.specs.Prelude.{◌≡◌, ℕ, suc, ◌+◌, ◌-◌, ◌<◌, ◌≤◌, false, List, [], ◌∷◌, length, get_or, slice_index, slice_set, Option, Some, None}
 use Rattle.control_word.specs.declared.event.Entry.{Entry}
 use Rattle.control_word.specs.declared.event.Event.{Event}
 use Rattle.control_word.specs.declared.event.Event.TheVariants as event
@@ -114,10 +114,22 @@ pub record Seats (views : List (View Nothing)) (actors : ℕ) : Type 0 where
 abbrev pub AllBare : State → Type 0
 AllBare s = (o m : ℕ) → (s.object o).member m ≡ empty (kind_of_member m)
 
--- the words stand for the history; nobody's allowance has changed, and no member was filled
+-- what a desk has half done takes nothing from any count
+abbrev pub IsCalm : Pending Nothing → Type 0
+IsCalm Idle = Unit {0}
+IsCalm (Making b l) = Unit {0}
+IsCalm _ = ⊥
+
+-- each object that was made has four fields
+abbrev pub AllWhole : State → Type 0
+AllWhole s = (o : ℕ) → 0 < o → o ≤ s.made → length (s.object o).fields ≡ 4
+
+-- the words stand for the history; nobody's allowance has changed, no member was filled, and no count lags behind
 pub record Kept (v : Story) : Type 0 where
   pub stands : Stands (opening v.extent) v.words v.views v.history
   pub seats : Seats v.views v.extent.actors
   pub bare : AllBare (state v)
+  pub calm : (d : ℕ) → IsCalm (pending v d)
+  pub whole : AllWhole (state v)
   pub proper : IsExtent v.extent
   pub allowed : (state v).allowance ≡ share_of v.extent

@@ -1,31 +1,18 @@
 -- A thread of the machine, and how it fits the table. All of it is own.
-use Rattle.std.specs.Prelude.{◌≡◌, ℕ, ◌<◌, ◌≤◌, ◌⊎◌, List, [], length, true, false, is_some}
-use Rattle.step_core.specs.declared.act.Act.{Act}
-use Rattle.step_core.specs.declared.act.Act.TheVariants.{Make, Share, Put, Leave, Clear, Count}
+use Rattle.std.specs.Prelude.{◌≡◌, ℕ, ◌<◌, ◌≤◌, List, length}
+use Rattle.step_core.specs.declared.act.Act.TheVariants.{Make}
 use Rattle.step_core.specs.declared.course.Course.{Course}
 use Rattle.step_core.specs.declared.half.Half.{Half}
 use Rattle.step_core.specs.declared.half.Half.TheVariants.{Rest, Making, Ending}
-use Rattle.std.specs.List.{All}
-use Rattle.control_word.specs.declared.place.Block.{Block}
-use Rattle.step_core.specs.declared.past.Deed.TheVariants.{Prepare}
-use Rattle.step_core.specs.declared.past.Deed.{Deed}
-use Rattle.step_core.specs.declared.thread.Moved.{Moved}
-use Rattle.step_core.specs.declared.thread.Moved.TheVariants.{Event, Quiet, Done}
+use Rattle.step_core.specs.declared.said.Stepped.{Stepped}
 use Rattle.step_core.specs.declared.thread.Thread.{Thread}
 use Rattle.step_core.specs.Actors.{HalfFits, Stocks}
-use Rattle.step_core.specs.Courses.{CourseReady, CourseStill, task_at}
+use Rattle.step_core.specs.Courses.{CourseReady, CourseStill, fields_of, task_at, walk}
 use Rattle.step_core.specs.Holdings.{Holds}
-use Rattle.step_core.specs.Stories.{Story, after, event_of}
+use Rattle.step_core.specs.Steps.{half_by, step_at, stepped, story_by, walk_by}
+use Rattle.step_core.specs.Stories.{Story}
 
 -- the fields that the next act wants, where it makes an object
-abbrev pub fields_of : Act → List ℕ
-fields_of (Make fields) = fields
-fields_of (Share k) = []
-fields_of (Put k) = []
-fields_of (Leave k) = []
-fields_of (Clear k) = []
-fields_of (Count k) = []
-
 abbrev pub fields_at : Course → List ℕ
 fields_at c = fields_of (task_at c).act
 
@@ -33,7 +20,7 @@ fields_at c = fields_of (task_at c).act
 abbrev pub IsNext : Half → Course → Type 0
 IsNext Rest c = Unit {0}
 IsNext (Making b i differs) c = (c.at < length c.tasks.items) × ((task_at c).act ≡ Make (fields_at c))
-IsNext (Ending b stage) c = Unit {0}
+IsNext (Ending b stage k) c = Unit {0}
 
 -- between two steps the thread has what its desk has, and its half-done act is as its desk's view says
 pub record Fits (d : ℕ) (t : Thread) (v : Story) : Type 0 where
@@ -46,14 +33,9 @@ pub record Fits (d : ℕ) (t : Thread) (v : Story) : Type 0 where
   pub next : IsNext t.half t.course
   pub stocks : Stocks d t.stock.blocks t.stock.room t.half v
 
--- the least block of the stock is prepared
-pub record IsBegun (d : ℕ) (t : Thread) (v v' : Story) : Type 0 where
-  pub block : Block
-  pub least : All (λ c. block.0 ≤ c) t.stock.blocks
-  pub prepared : v' ≡ after v d (Prepare block)
-
--- a step is one event of the desk, or changes the state in nothing, or comes where nothing is left to do
-abbrev pub IsMoved : ℕ → Thread → Story → Moved → Story → Type 0
-IsMoved d t v Event v' = (x : Deed) × (v' ≡ after v d x) × (is_some (event_of v x) ≡ true)
-IsMoved d t v Quiet v' = (v' ≡ v) ⊎ ((x : Deed) × (v' ≡ after v d x) × (is_some (event_of v x) ≡ false))
-IsMoved d t v Done v' = (v' ≡ v) × (t.half ≡ Rest) × (t.course.at ≡ length t.course.tasks.items)
+-- the thread made its step, and the table is as that left it
+pub record HasStepped (d : ℕ) (t : Thread) (v : Story) (r : Stepped) (t' : Thread) (v' : Story) : Type 0 where
+  pub answer : r ≡ stepped v (step_at v d t.half (walk t.course))
+  pub story : v' ≡ story_by v d (step_at v d t.half (walk t.course))
+  pub place : walk t'.course ≡ walk_by (walk t.course) (step_at v d t.half (walk t.course))
+  pub half : t'.half ≡ half_by t.half (step_at v d t.half (walk t.course))

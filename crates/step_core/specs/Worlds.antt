@@ -1,21 +1,81 @@
--- What clauses see of a world, and what a step of a thread does to it. All of it is own.
-use Rattle.std.specs.Prelude.{◌≡◌, ◌≢◌, ℕ, List, length, slice_get, Some}
-use Rattle.step_core.specs.declared.thread.Moved.{Moved}
+-- What clauses see of a world, and what steps and turns of a thread do to it. All of it is own.
+use Rattle.std.specs.Prelude.{◌≡◌, ℕ, ◌-◌, List, [], ◌∷◌, get_or, slice_get, slice_set, Option, Some}
+use Rattle.step_core.specs.declared.half.Half.{Half}
+use Rattle.step_core.specs.declared.half.Half.TheVariants.{Rest, Making, Ending}
+use Rattle.step_core.specs.declared.said.Stepped.{Stepped}
+use Rattle.step_core.specs.declared.said.Turned.{Turned}
+use Rattle.step_core.specs.declared.said.Turned.TheVariants.{Acted, Waited, Done}
 use Rattle.step_core.specs.declared.thread.Thread.{Thread}
-use Rattle.step_core.specs.Stories.{Story}
-use Rattle.step_core.specs.Threads.{Fits, IsMoved}
+use Rattle.step_core.specs.Courses.{Walk, walk}
+use Rattle.step_core.specs.Openings.{opening}
+use Rattle.step_core.specs.Scenes.{Scene, ends, play, said, walk_of}
+use Rattle.step_core.specs.Steps.{Step, half_by, step_at, stepped, story_by, walk_by}
+use Rattle.step_core.specs.Stories.{Kept, Story, object_in}
+use Rattle.step_core.specs.Threads.{Fits}
 
+-- the table, where each thread is, and what it has begun
 pub record Sight : Type 0 where
   pub story : Story
-  pub threads : List Thread
+  pub walks : List Walk
+  pub halves : List Half
+
+abbrev pub thread_walk : Thread → Walk
+thread_walk t = walk t.course
+
+abbrev pub thread_half : Thread → Half
+thread_half t = t.half
 
 -- each thread has what its desk has
 pub record AllFit (v : Story) (threads : List Thread) : Type 0 where
   pub each : (d : ℕ) (t : Thread) → slice_get threads d ≡ Some t → Fits d t v
 
--- thread d moved, and the others are where they were
-pub record Advances (d : ℕ) (u : Sight) (moved : Moved) (u' : Sight) : Type 0 where
-  pub threads : length u'.threads ≡ length u.threads
-  pub step : (t : Thread) → slice_get u.threads d ≡ Some t → IsMoved d t u.story moved u'.story
-  pub others : (e : ℕ) → e ≢ d → slice_get u'.threads e ≡ slice_get u.threads e
-  pub fits : (e : ℕ) (t : Thread) → slice_get u'.threads e ≡ Some t → Fits e t u'.story
+abbrev pub scene : Sight → Scene
+scene u = record { extent = u.story.extent; history = u.story.history; walks = u.walks }
+
+abbrev pub half_of : Sight → ℕ → Half
+half_of u d = get_or u.halves d Rest
+
+-- the next step of thread d, if it isn't at its end
+abbrev pub step_of : ℕ → Sight → Option Step
+step_of d u = step_at u.story d (half_of u d) (walk_of (scene u) d)
+
+abbrev pub sight_by : ℕ → Sight → Option Step → Sight
+sight_by d u x =
+    record {
+      story = story_by u.story d x;
+      walks = slice_set u.walks d (walk_by (walk_of (scene u) d) x);
+      halves = slice_set u.halves d (half_by (half_of u d) x);
+    }
+
+-- thread d made its next step, and the others are where they were
+abbrev pub Steps : ℕ → Sight → Stepped → Sight → Type 0
+Steps d u r u' = (r ≡ stepped u.story (step_of d u)) × (u' ≡ sight_by d u (step_of d u))
+
+-- thread d made these steps, one after another, and after each the words stood for the history
+abbrev pub StepsBy : ℕ → Sight → List Stepped → Sight → Type 0
+StepsBy d u [] u' = u' ≡ u
+StepsBy d u (r ∷ rs) u' = (m : Sight) × Steps d u r m × Kept m.story × StepsBy d m rs u'
+
+-- thread d made some steps
+abbrev pub GoesTo : ℕ → Sight → Sight → Type 0
+GoesTo d u u' = (rs : List Stepped) × StepsBy d u rs u'
+
+-- the scene once the thread has finished the object that ends in its hands
+abbrev pub rested_from : Sight → ℕ → Half → Scene
+rested_from u d Rest = scene u
+rested_from u d (Making b i differs) = scene u
+rested_from u d (Ending b stage k) =
+    record {
+      extent = u.story.extent;
+      history = ends (opening u.story.extent) d (object_in u.story b) (3 - stage) u.story.history;
+      walks = u.walks;
+    }
+
+abbrev pub rested : Sight → ℕ → Scene
+rested u d = rested_from u d (half_of u d)
+
+-- a whole turn of thread d: its next act if it has one, and what that says; others are where they were
+abbrev pub Turns : ℕ → Sight → Turned → Sight → Type 0
+Turns d u (Acted x) u' = (Some x ≡ said d (rested u d)) × (scene u' ≡ play d (rested u d)) × (u'.halves ≡ slice_set u.halves d Rest)
+Turns d u Waited u' = ⊥
+Turns d u Done u' = ((walk_of (rested u d) d).todo ≡ []) × (scene u' ≡ rested u d) × (u'.halves ≡ slice_set u.halves d Rest)

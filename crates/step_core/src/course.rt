@@ -1,5 +1,5 @@
 //! How a thread goes on from act to act.
-ghost use Rattle.std.specs.Prelude.{◌≡◌, ◌⊎◌, ◌+◌, ◌<◌, ◌≤◌, ◌==◌, ◌∷◌, ℕ, length, drop, true, false, slice_set, Option, Some, None, option_map};
+ghost use Rattle.std.specs.Prelude.{◌≡◌, ◌⊎◌, ◌+◌, ◌<◌, ◌≤◌, ◌==◌, ◌∷◌, ℕ, length, drop, true, false, slice_set, Option, Some, None};
 ghost use Rattle.control_word.specs.State.{count};
 ghost use Rattle.step_core.specs.Holdings.{Holds, is_full, slot};
 ghost use Rattle.step_core.specs.Stories.{IsMaking, Story, after, known, object_in, pending, state};
@@ -25,6 +25,7 @@ pub struct Course {
 }
 
 impl Course {
+    ghost use Rattle.step_core.specs.Scenes.{on};
     ghost use Rattle.step_core.specs.Courses.{CanAct, CourseReady, HasGoneOn, IsPassed, IsReady, done_on, hand, idle, placed, rest, settled, task_at, todo, walk};
 
     /// Whether the next task is no act where it comes.
@@ -75,6 +76,14 @@ impl Course {
         }
     }
 
+    /// The number of the next task's statement.
+    pub(crate) fn statement(&self) -> u32
+        requires { self.now.at < length self.now.tasks.items }
+        ensures { result ≡ (task_at self.now).statement }
+    {
+        self.tasks[self.at].statement
+    }
+
     /// Goes on after the next task.
     pub(crate) fn go_on(&mut self)
         requires within { self.old.at < length self.old.tasks.items }
@@ -112,10 +121,10 @@ impl Course {
     }
 
     /// Leaves what a name holds, if anything. Answers whether that was the last owner.
-    pub(crate) fn leave(&mut self, desk: usize, table: &mut Table, name: u8) -> Option<bool>
+    pub(crate) fn leave(&mut self, desk: usize, table: &mut Table, name: u8) -> bool
         requires can { CanAct desk self.old table.old }
         requires act { ((task_at self.old).act ≡ Act.Leave name) ⊎ ((task_at self.old).act ≡ Act.Clear name) }
-        ensures last { result ≡ option_map (λ x. count (state table.old) (object_in table.old x.block) == 1) (slot self.old.holdings.slots.items name) }
+        ensures last { result ≡ on (λ x. count (state table.old) (object_in table.old x.block) == 1) false (slot self.old.holdings.slots.items name) }
         ensures table { table.new ≡ done_on (λ x. Deed.Leave x.block x.place (count (state table.old) (object_in table.old x.block) == 1)) table.old desk (slot self.old.holdings.slots.items name) }
         ensures walk { walk self.new ≡ settled (slice_set self.old.holdings.slots.items name None) self.old.taken (rest self.old) }
         ensures on { HasGoneOn desk self.old self.new table.new }
@@ -124,12 +133,12 @@ impl Course {
         match self.holdings.get(from) {
             None => {
                 self.go_on();
-                None
+                false
             }
             Some(pointer) => {
                 let last = self.holdings.leave(desk, table, from, pointer);
                 self.go_on();
-                Some(last)
+                last
             }
         }
     }
@@ -138,8 +147,9 @@ impl Course {
     pub(crate) fn put(&mut self, desk: usize, table: &mut Table, name: u8) -> bool
         requires can { CanAct desk self.old table.old }
         requires act { (task_at self.old).act ≡ Act.Put name }
-        ensures last { Some result ≡ option_map (λ x. count (state table.old) (object_in table.old x.block) == 1) (slot self.old.holdings.slots.items name) }
-        ensures table { table.new ≡ done_on (λ x. Deed.Leave x.block x.place result) table.old desk (slot self.old.holdings.slots.items name) }
+        ensures full { is_full (slot self.old.holdings.slots.items name) ≡ true }
+        ensures last { result ≡ on (λ x. count (state table.old) (object_in table.old x.block) == 1) false (slot self.old.holdings.slots.items name) }
+        ensures table { table.new ≡ done_on (λ x. Deed.Leave x.block x.place (count (state table.old) (object_in table.old x.block) == 1)) table.old desk (slot self.old.holdings.slots.items name) }
         ensures walk { walk self.new ≡ settled (placed name (slice_set self.old.holdings.slots.items name None)) false (rest self.old) }
         ensures on { HasGoneOn desk self.old self.new table.new }
     {
@@ -161,9 +171,7 @@ impl Course {
     pub(crate) fn count(&mut self, desk: usize, table: &mut Table, name: u8) -> u32
         requires can { CanAct desk self.old table.old }
         requires act { (task_at self.old).act ≡ Act.Count name }
-        ensures empty { slot self.old.holdings.slots.items name ≡ None → result ≡ 0 }
-        ensures exact { (x : Pointer) → slot self.old.holdings.slots.items name ≡ Some x → owed table.old.views (spot x.block.0 0) ≡ 0
-            → result ≡ count (state table.old) (object_in table.old x.block) }
+        ensures exact { result ≡ on (λ x. count (state table.old) (object_in table.old x.block)) 0 (slot self.old.holdings.slots.items name) }
         ensures table { table.new ≡ done_on (λ x. Deed.Count x.block x.place result) table.old desk (slot self.old.holdings.slots.items name) }
         ensures walk { walk self.new ≡ settled self.old.holdings.slots.items self.old.taken (rest self.old) }
         ensures on { HasGoneOn desk self.old self.new table.new }

@@ -19,10 +19,12 @@ pub enum Half {
         index: u8,
         differs: bool,
     },
-    /// The end of an object: its members are cleared (stages 0 to 2), and then it is finished.
+    /// The end of an object, by the last leave of a statement: its members are cleared (stages 0 to 2), and then it is
+    /// finished.
     Ending {
         block: Block,
         stage: u8,
+        statement: u32,
     },
 }
 

@@ -1,5 +1,5 @@
 //! What an actor holds.
-ghost use Rattle.std.specs.Prelude.{◌≡◌, ◌≢◌, ◌<◌, ◌-◌, ◌==◌, ℕ, false, ◌∷◌, length, get_or, slice_set, Some, None};
+ghost use Rattle.std.specs.Prelude.{◌≡◌, ◌≢◌, ◌+◌, ◌<◌, ◌≤◌, IfOk, replicate, ◌-◌, ◌==◌, ℕ, false, ◌∷◌, length, get_or, slice_set, Some, None};
 ghost use Rattle.control_word.specs.Events.{place_at};
 ghost use Rattle.control_word.specs.State.{count};
 ghost use Rattle.control_word.specs.Views.{owed};
@@ -11,6 +11,7 @@ ghost use Rattle.step_core.specs.Stories.{IsMaking, Story, after, known, object_
 use crate::past::Deed;
 use crate::table::Table;
 use control_word::place::{Block, Place};
+use std::alloc::{AllocError, Global};
 
 /// An owner that has an object, which its block tells: no other object is in the block while it is owned.
 #[derive(Clone, Copy, Debug, PartialEq, Eq, Drop)]
@@ -27,6 +28,15 @@ pub struct Holdings {
 }
 
 impl Holdings {
+    /// So many names, of which none holds anything, and an empty hand.
+    pub(crate) fn new(alloc: Global, names: u8) -> Result<Holdings, AllocError>
+        requires { names ≤ 32 }
+        ensures { IfOk result (λ h. h.slots.items ≡ replicate (names + 1) None) }
+    {
+        let slots = vec![in alloc; None; usize::from(names) + 1]?;
+        Ok(Holdings { slots })
+    }
+
     /// What a slot holds.
     pub(crate) fn get(&self, at: usize) -> Option<Pointer>
         requires { at < length self.now.slots.items }
@@ -105,7 +115,7 @@ impl Holdings {
         requires idle { pending table.old desk ≡ Idle }
         requires holds { Holds desk self.now.slots.items table.old }
         requires from { slot self.now.slots.items from ≡ Some pointer }
-        ensures exact { owed table.old.views (spot pointer.block.0 0) ≡ 0 → result ≡ count (state table.old) (object_in table.old pointer.block) }
+        ensures exact { result ≡ count (state table.old) (object_in table.old pointer.block) }
         ensures table { table.new ≡ after table.old desk (Deed.Count pointer.block pointer.place result) }
         ensures holds { Holds desk self.now.slots.items table.new }
     {

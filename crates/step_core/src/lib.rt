@@ -3,16 +3,30 @@
 
 pub mod act;
 pub mod call;
+mod census;
 pub mod course;
+mod ending;
 pub mod extent;
 pub mod half;
 pub mod holdings;
+mod limits;
+mod making;
+mod opening;
+#[cfg(test)]
+mod opening_tests;
 pub mod past;
+pub mod said;
+#[cfg(test)]
+mod step_tests;
 pub mod stock;
 pub mod table;
 #[cfg(test)]
 mod tests;
 mod thread;
+mod told;
 pub mod world;
+#[cfg(test)]
+mod world_tests;
 
 pub use call::{Actor, Call, Kind, Name, Program};
+pub use said::{Answer, Ended, Said, Stepped, Turned};

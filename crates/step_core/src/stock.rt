@@ -1,5 +1,5 @@
 //! An actor's vacant blocks.
-ghost use Rattle.std.specs.Prelude.{◌≡◌, ◌<◌, ◌≤◌, ℕ, [], ◌∷◌, ◌-◌, length, All, IfOk, MatchOption};
+ghost use Rattle.std.specs.Prelude.{◌≡◌, ◌<◌, ◌≤◌, ℕ, [], ◌∷◌, ◌+◌, length, All, IfOk, MatchOption};
 ghost use Rattle.std.specs.List.Sorted.{IsPermutation};
 ghost use Rattle.step_core.specs.Stocks.{from};
 
@@ -27,15 +27,20 @@ impl Model for Stock {
 }
 
 impl Stock {
-    /// The blocks from `first` to the one before `end`, with room for so many.
-    pub(crate) fn new(alloc: Global, first: u16, end: u16, room: usize) -> Result<Stock, AllocError>
-        requires { first ≤ end }
-        ensures blocks { IfOk result (λ s. IsPermutation (from first (end - first)) s.blocks) }
+    /// So many blocks, from `first` on, and room for `room`.
+    pub(crate) fn new(
+        alloc: Global,
+        first: u16,
+        count: u16,
+        room: usize,
+    ) -> Result<Stock, AllocError>
+        requires { first + count ≤ 65536 }
+        ensures blocks { IfOk result (λ s. IsPermutation (from first count) s.blocks) }
         ensures room { IfOk result (λ s. room ≤ s.room) }
     {
         let mut heap = BinaryHeap::with_capacity(alloc, room)?;
-        for block in first..end {
-            heap.push(Reverse(block))?;
+        for index in 0..count {
+            heap.push(Reverse(first + index))?;
         }
         Ok(Stock { heap })
     }

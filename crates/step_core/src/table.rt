@@ -1,18 +1,20 @@
 //! The words of all blocks, and what has happened to them. Each function is one atomic step on one word.
-ghost use Rattle.std.specs.Prelude.{◌≡◌, ◌<◌, ◌==◌, [], ◌∷◌, IfOk, replicate, slice_index};
+ghost use Rattle.std.specs.Prelude.{◌≡◌, ◌<◌, ◌≤◌, ◌==◌, Bool, [], ◌∷◌, IfOk, replicate, slice_index};
 ghost use Rattle.control_word.specs.declared.view.Pending.TheVariants.{Idle};
 ghost use Rattle.control_word.specs.Handles.{IsPointer};
 ghost use Rattle.control_word.specs.Layout.{spot, table_size};
 ghost use Rattle.control_word.specs.State.{Has, held, stored, ending, bag_size, count, weak};
-ghost use Rattle.control_word.specs.Views.{fresh, owed};
+ghost use Rattle.control_word.specs.Views.{fresh};
+ghost use Rattle.step_core.specs.Scenes.{remains};
 ghost use Rattle.control_word.specs.Words.{flags_of};
 ghost use Rattle.step_core.specs.Openings.{IsExtent};
 ghost use Rattle.step_core.specs.Stories.{IsMaking, Kept, after, history_after, known, object_in, owner_in, pending, state, views_after};
 
 use crate::extent::Extent;
 use crate::past::{Deed, Done, Past};
+use crate::said::Ended;
 use control_word::counts::{is_last, told_count};
-use control_word::layout::{FLAGS, MEMBERS, OWNERS, WEAKS, block_word, table_words};
+use control_word::layout::{FIELDS, FLAGS, MEMBERS, NULL, OWNERS, WEAKS, block_word, table_words};
 use control_word::place::{Block, Place};
 use std::alloc::{AllocError, Global};
 use std::marker::Model;
@@ -55,6 +57,24 @@ impl Table {
         ensures { Kept self.now }
     {
         let _ = &self.words;
+    }
+
+    /// How many blocks there are.
+    #[cfg(test)]
+    pub(crate) fn blocks(&self) -> u32
+        ensures { result ≡ self.now.extent.shape.blocks }
+    {
+        self.extent.shape.blocks
+    }
+
+    /// A word of a block.
+    pub(crate) fn word(&self, block: Block, word: usize) -> u64
+        requires some { 0 < block.0 }
+        requires block { block.0 ≤ self.now.extent.shape.blocks }
+        requires inside { word < 10 }
+        ensures { result ≡ slice_index self.now.words (spot block.0 word) }
+    {
+        self.words[block_word(block, word)]
     }
 
     /// What the table knows after a deed.
@@ -170,12 +190,12 @@ impl Table {
         last
     }
 
-    /// How many owners there are, by an owner; exact where no load of the object is under way.
+    /// How many owners there are, by an owner.
     pub(crate) fn count(&mut self, desk: usize, block: Block, place: Option<Place>) -> u32
         requires seat { desk < self.old.extent.actors }
         requires idle { pending self.old desk ≡ Idle }
         requires held { Has (held desk (owner_in self.old block place)) (state self.old).hands }
-        ensures exact { owed self.old.views (spot block.0 0) ≡ 0 → result ≡ count (state self.old) (object_in self.old block) }
+        ensures exact { result ≡ count (state self.old) (object_in self.old block) }
         ensures after { self.new ≡ after self.old desk (Deed.Count block place result) }
     {
         let owners = told_count(self.words[block_word(block, OWNERS)]);
@@ -219,4 +239,37 @@ impl Table {
         self.past = past;
         vacant
     }
+
+    /// A word of the flags (2) or fields (3 to 6) of an ending object: none of them changes any more.
+    fn body_word(&self, desk: usize, block: Block, word: usize) -> u64
+        requires ending { ((state self.now).object (object_in self.now block)).phase ≡ ending desk }
+        requires inside { word < 7 }
+        ensures { result ≡ slice_index self.now.words (spot block.0 word) }
+    {
+        self.words[block_word(block, word)]
+    }
+
+    /// What an ending object leaves: its fields, or that it was null.
+    pub(crate) fn remains(&self, desk: usize, block: Block) -> Ended
+        requires ending { ((state self.now).object (object_in self.now block)).phase ≡ ending desk }
+        ensures { result ≡ remains ((state self.now).object (object_in self.now block)) }
+    {
+        self.known();
+        if is_null(self.body_word(desk, block, FLAGS)) {
+            return Ended::Null;
+        }
+        Ended::Fields([
+            self.body_word(desk, block, FIELDS),
+            self.body_word(desk, block, FIELDS + 1),
+            self.body_word(desk, block, FIELDS + 2),
+            self.body_word(desk, block, FIELDS + 3),
+        ])
+    }
+}
+
+/// Whether flags say that an owned pointer is null.
+fn is_null(flags: u64) -> bool
+    ensures { (enabled null : Bool) → flags ≡ flags_of enabled null → result ≡ null }
+{
+    flags & NULL != 0
 }

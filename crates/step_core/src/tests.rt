@@ -3,6 +3,7 @@ use crate::act::{Act, tasks};
 use crate::call::{Call, Name};
 use crate::extent::Extent;
 use crate::half::others_keep;
+use crate::said::Ended;
 use crate::stock::Stock;
 use crate::table::Table;
 use control_word::{Block, Place, Shape};
@@ -38,18 +39,20 @@ fn two_owners_leave(rt: HostRuntime) -> Result<(), Fail> {
     let second = table.leave(0, BLOCK, ORIGIN);
     assert!(rt; !first);
     assert!(rt; second);
+    let remains = table.remains(0, BLOCK);
     table.clear(0, BLOCK, 0);
     table.clear(0, BLOCK, 1);
     table.clear(0, BLOCK, 2);
     let vacant = table.finish(0, BLOCK);
     assert_eq!(rt; (before, after, owners), (0, 7, 2));
     assert!(rt; vacant);
+    assert_eq!(rt; remains, Ended::Fields([7, 0, 0, 0]));
     Ok(())
 }
 
 #[test]
 fn the_least_block_comes_first(rt: HostRuntime) -> Result<(), Fail> {
-    let mut stock = Stock::new(rt.alloc(), 3, 6, 3)?;
+    let mut stock = Stock::new(rt.alloc(), 3, 3, 3)?;
     let least = stock.take_least();
     assert_eq!(rt; least, Some(Block(3)));
     let next = stock.take_least();

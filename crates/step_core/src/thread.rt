@@ -1,25 +1,18 @@
 //! A thread of the machine: its course, its store, and the act that it has begun.
-ghost use Rattle.std.specs.Prelude.{◌≡◌, ◌<◌, ◌≤◌, ◌+◌, length, get_or, true, false, Some, cond, [], ◌⊎◌, ◌==◌, option_map};
-ghost use Rattle.control_word.specs.State.{count};
-ghost use Rattle.step_core.specs.Actors.{wanted};
-ghost use Rattle.step_core.specs.Holdings.{is_full, slot};
-ghost use Rattle.step_core.specs.Stories.{after, object_in, state};
+ghost use Rattle.std.specs.Prelude.{◌≡◌, ◌<◌, ◌⊎◌, ◌==◌, length, true, Some, None, cond};
+ghost use Rattle.control_word.specs.State.{ending};
+ghost use Rattle.step_core.specs.Scenes.{on, remains};
+ghost use Rattle.step_core.specs.Steps.{silent};
+ghost use Rattle.step_core.specs.Stories.{object_in, state};
+ghost use Rattle.step_core.specs.declared.holdings.Pointer.{Pointer};
 
 use crate::act::Act;
 use crate::course::Course;
 use crate::half::Half;
-use crate::past::Deed;
+use crate::holdings::Pointer;
+use crate::said::{Answer, Ended, Said, Stepped};
 use crate::stock::Stock;
 use crate::table::Table;
-use control_word::place::Block;
-
-/// What a step was: an event, a step on the way to one or an act without one, or none.
-#[derive(Clone, Copy, Debug, PartialEq, Eq)]
-pub(crate) enum Moved {
-    Event,
-    Quiet,
-    Done,
-}
 
 /// A thread. What it holds is its desk's bag, and its store has its desk's vacant blocks.
 #[derive(Drop)]
@@ -30,196 +23,13 @@ pub struct Thread {
 }
 
 impl Thread {
-    ghost use Rattle.step_core.specs.Courses.{done_on, task_at};
-    ghost use Rattle.step_core.specs.Threads.{Fits, IsBegun, IsMoved};
-
-    /// Begins a make in the least block, if there is one: else the statement is refused. Answers whether there is one.
-    fn begin(&mut self, desk: usize, table: &mut Table, fields: [u64; 4]) -> bool
-        requires fits { Fits desk self.old table.old }
-        requires rest { self.old.half ≡ Half.Rest }
-        requires within { self.old.course.at < length self.old.course.tasks.items }
-        requires act { (task_at self.old.course).act ≡ Act.Make fields }
-        ensures full { result ≡ false → (self.old.stock.blocks ≡ []) × (table.new ≡ table.old) }
-        ensures least { result ≡ true → IsBegun desk self.old table.old table.new }
-        ensures fits { Fits desk self.new table.new }
-    {
-        match self.stock.take_least() {
-            None => {
-                self.course.go_on();
-                false
-            }
-            Some(block) => {
-                table.known();
-                table.prepare(desk, block);
-                self.half = Half::Making {
-                    block,
-                    index: 0,
-                    differs: false,
-                };
-                true
-            }
-        }
-    }
-
-    /// Looks at the next of the block's loose words.
-    fn look(&mut self, desk: usize, table: &Table, block: Block, index: u8, fields: [u64; 4])
-        requires fits { Fits desk self.old table.now }
-        requires half { self.old.half ≡ Half.Making block index false }
-        requires inside { index < 5 }
-        requires act { (task_at self.old.course).act ≡ Act.Make fields }
-        ensures fits { Fits desk self.new table.now }
-    {
-        let so = table.look(desk, block, index) == wanted_word(index, &fields);
-        let index = if so { index + 1 } else { index };
-        self.half = Half::Making {
-            block,
-            index,
-            differs: !so,
-        };
-    }
-
-    /// Writes the next of the block's loose words.
-    fn write(&mut self, desk: usize, table: &mut Table, block: Block, index: u8, fields: [u64; 4])
-        requires fits { Fits desk self.old table.old }
-        requires half { self.old.half ≡ Half.Making block index true }
-        requires inside { index < 5 }
-        requires act { (task_at self.old.course).act ≡ Act.Make fields }
-        ensures table { table.new ≡ after table.old desk (Deed.Write block index (get_or (wanted fields) index 0)) }
-        ensures fits { Fits desk self.new table.new }
-    {
-        table.known();
-        table.write(desk, block, index, wanted_word(index, &fields));
-        self.half = Half::Making {
-            block,
-            index: index + 1,
-            differs: false,
-        };
-    }
-
-    /// Claims the block: the object is made.
-    fn claim(
-        &mut self,
-        desk: usize,
-        table: &mut Table,
-        block: Block,
-        differs: bool,
-        fields: [u64; 4],
-    )
-        requires fits { Fits desk self.old table.old }
-        requires half { self.old.half ≡ Half.Making block 5 differs }
-        requires act { (task_at self.old.course).act ≡ Act.Make fields }
-        ensures table { table.new ≡ after table.old desk (Deed.Claim block false false fields) }
-        ensures fits { Fits desk self.new table.new }
-    {
-        table.known();
-        self.course.claim(desk, table, block, fields);
-        self.half = Half::Rest;
-    }
-
-    /// Clears a member of the object that ends.
-    fn clear(&mut self, desk: usize, table: &mut Table, block: Block, stage: u8)
-        requires fits { Fits desk self.old table.old }
-        requires half { self.old.half ≡ Half.Ending block stage }
-        requires inside { stage < 3 }
-        ensures table { table.new ≡ after table.old desk (Deed.Clear block stage) }
-        ensures fits { Fits desk self.new table.new }
-    {
-        table.known();
-        table.clear(desk, block, stage);
-        self.half = Half::Ending {
-            block,
-            stage: stage + 1,
-        };
-    }
-
-    /// Finishes the object that ends. Its block comes into the store, if it is vacant. Answers whether it is.
-    fn finish(&mut self, desk: usize, table: &mut Table, block: Block) -> bool
-        requires fits { Fits desk self.old table.old }
-        requires half { self.old.half ≡ Half.Ending block 3 }
-        ensures table { table.new ≡ after table.old desk (Deed.Finish block result) }
-        ensures fits { Fits desk self.new table.new }
-    {
-        table.known();
-        let vacant = table.finish(desk, block);
-        table.known();
-        self.half = Half::Rest;
-        if vacant {
-            self.stock.put(block);
-        }
-        vacant
-    }
-
-    /// Takes a copy of what a name holds. Answers whether that touched a block.
-    fn share(&mut self, desk: usize, table: &mut Table, name: u8) -> bool
-        requires fits { Fits desk self.old table.old }
-        requires rest { self.old.half ≡ Half.Rest }
-        requires within { self.old.course.at < length self.old.course.tasks.items }
-        requires act { (task_at self.old.course).act ≡ Act.Share name }
-        ensures event { result ≡ is_full (slot self.old.course.holdings.slots.items name) }
-        ensures table { table.new ≡ done_on (λ x. Deed.Share x.block x.place x.place) table.old desk (slot self.old.course.holdings.slots.items name) }
-        ensures fits { Fits desk self.new table.new }
-    {
-        table.known();
-        self.course.share(desk, table, name)
-    }
-
-    /// How many owners the object has that a name holds; 0 where it is empty.
-    fn count(&mut self, desk: usize, table: &mut Table, name: u8) -> u32
-        requires fits { Fits desk self.old table.old }
-        requires rest { self.old.half ≡ Half.Rest }
-        requires within { self.old.course.at < length self.old.course.tasks.items }
-        requires act { (task_at self.old.course).act ≡ Act.Count name }
-        ensures table { table.new ≡ done_on (λ x. Deed.Count x.block x.place result) table.old desk (slot self.old.course.holdings.slots.items name) }
-        ensures fits { Fits desk self.new table.new }
-    {
-        table.known();
-        self.course.count(desk, table, name)
-    }
-
-    /// Leaves what a name holds, if anything. Answers whether that was the last owner; its object is ending then.
-    fn leave(&mut self, desk: usize, table: &mut Table, name: u8) -> Option<bool>
-        requires fits { Fits desk self.old table.old }
-        requires rest { self.old.half ≡ Half.Rest }
-        requires within { self.old.course.at < length self.old.course.tasks.items }
-        requires act { ((task_at self.old.course).act ≡ Act.Leave name) ⊎ ((task_at self.old.course).act ≡ Act.Clear name) }
-        ensures last { result ≡ option_map (λ x. count (state table.old) (object_in table.old x.block) == 1) (slot self.old.course.holdings.slots.items name) }
-        ensures table { table.new ≡ done_on (λ x. Deed.Leave x.block x.place (count (state table.old) (object_in table.old x.block) == 1)) table.old desk (slot self.old.course.holdings.slots.items name) }
-        ensures fits { Fits desk self.new table.new }
-    {
-        table.known();
-        let held = self.course.holdings.get(usize::from(name));
-        let last = self.course.leave(desk, table, name);
-        if let Some(pointer) = held {
-            self.half = ending_if(last == Some(true), pointer.block);
-        }
-        last
-    }
-
-    /// Leaves what a name holds, and puts there what is in hand. Answers whether that was the last owner; its object is
-    /// ending then.
-    fn put(&mut self, desk: usize, table: &mut Table, name: u8) -> bool
-        requires fits { Fits desk self.old table.old }
-        requires rest { self.old.half ≡ Half.Rest }
-        requires within { self.old.course.at < length self.old.course.tasks.items }
-        requires act { (task_at self.old.course).act ≡ Act.Put name }
-        ensures event { is_full (slot self.old.course.holdings.slots.items name) ≡ true }
-        ensures last { Some result ≡ option_map (λ x. count (state table.old) (object_in table.old x.block) == 1) (slot self.old.course.holdings.slots.items name) }
-        ensures table { table.new ≡ done_on (λ x. Deed.Leave x.block x.place result) table.old desk (slot self.old.course.holdings.slots.items name) }
-        ensures fits { Fits desk self.new table.new }
-    {
-        table.known();
-        let held = self.course.holdings.get(usize::from(name));
-        let last = self.course.put(desk, table, name);
-        if let Some(pointer) = held {
-            self.half = ending_if(last, pointer.block);
-        }
-        last
-    }
+    ghost use Rattle.step_core.specs.Courses.{task_at};
+    ghost use Rattle.step_core.specs.Threads.{Fits, HasStepped};
 
     /// The next atomic step, or the next act that touches no word.
-    pub(crate) fn step(&mut self, desk: usize, table: &mut Table) -> Moved
+    pub(crate) fn step(&mut self, desk: usize, table: &mut Table) -> Stepped
         requires { Fits desk self.old table.old }
-        ensures moved { IsMoved desk self.old table.old result table.new }
+        ensures stepped { HasStepped desk self.old table.old result self.new table.new }
         ensures fits { Fits desk self.new table.new }
     {
         match self.half {
@@ -229,104 +39,172 @@ impl Thread {
                 index,
                 differs,
             } => self.make_on(desk, table, block, index, differs),
-            Half::Ending { block, stage } => {
-                if stage < 3 {
-                    self.clear(desk, table, block, stage);
-                } else {
-                    self.finish(desk, table, block);
-                }
-                Moved::Event
-            }
+            Half::Ending {
+                block,
+                stage,
+                statement,
+            } => self.end_on(desk, table, block, stage, statement),
         }
-    }
-
-    /// The next step of a make that is under way.
-    fn make_on(
-        &mut self,
-        desk: usize,
-        table: &mut Table,
-        block: Block,
-        index: u8,
-        differs: bool,
-    ) -> Moved
-        requires fits { Fits desk self.old table.old }
-        requires half { self.old.half ≡ Half.Making block index differs }
-        ensures moved { IsMoved desk self.old table.old result table.new }
-        ensures fits { Fits desk self.new table.new }
-    {
-        let Act::Make { fields } = self.course.tasks[self.course.at].act else {
-            unreachable!()
-        };
-        if index == 5 {
-            self.claim(desk, table, block, differs, fields);
-            return Moved::Event;
-        }
-        if differs {
-            self.write(desk, table, block, index, fields);
-        } else {
-            self.look(desk, table, block, index, fields);
-        }
-        Moved::Quiet
     }
 
     /// The next act, or the first step of it.
-    fn act(&mut self, desk: usize, table: &mut Table) -> Moved
+    fn act(&mut self, desk: usize, table: &mut Table) -> Stepped
         requires fits { Fits desk self.old table.old }
         requires rest { self.old.half ≡ Half.Rest }
-        ensures moved { IsMoved desk self.old table.old result table.new }
+        ensures stepped { HasStepped desk self.old table.old result self.new table.new }
         ensures fits { Fits desk self.new table.new }
     {
         if self.course.at == self.course.tasks.len() {
-            return Moved::Done;
+            return Stepped::Done;
         }
         match self.course.tasks[self.course.at].act {
-            Act::Make { fields } => {
-                self.begin(desk, table, fields);
-                Moved::Quiet
-            }
-            Act::Share { name } => event_if(self.share(desk, table, name)),
-            Act::Put { name } => {
-                self.put(desk, table, name);
-                Moved::Event
-            }
-            Act::Leave { name } | Act::Clear { name } => {
-                event_if(self.leave(desk, table, name).is_some())
-            }
-            Act::Count { name } => {
-                let held = self.course.holdings.is_full(usize::from(name));
-                self.count(desk, table, name);
-                event_if(held)
+            Act::Make { fields } => self.begin(desk, table, fields),
+            Act::Share { name } => self.share(desk, table, name),
+            Act::Put { name } => self.put(desk, table, name),
+            Act::Leave { name } | Act::Clear { name } => self.leave(desk, table, name),
+            Act::Count { name } => self.count(desk, table, name),
+        }
+    }
+
+    /// Takes a copy of what a name holds.
+    fn share(&mut self, desk: usize, table: &mut Table, name: u8) -> Stepped
+        requires fits { Fits desk self.old table.old }
+        requires rest { self.old.half ≡ Half.Rest }
+        requires within { self.old.course.at < length self.old.course.tasks.items }
+        requires act { (task_at self.old.course).act ≡ Act.Share name }
+        ensures stepped { HasStepped desk self.old table.old result self.new table.new }
+        ensures fits { Fits desk self.new table.new }
+    {
+        table.known();
+        let statement = self.course.statement();
+        let event = self.course.share(desk, table, name);
+        says(event, silent(statement))
+    }
+
+    /// Tells how many owners the object has that a name holds; 0 where it is empty.
+    fn count(&mut self, desk: usize, table: &mut Table, name: u8) -> Stepped
+        requires fits { Fits desk self.old table.old }
+        requires rest { self.old.half ≡ Half.Rest }
+        requires within { self.old.course.at < length self.old.course.tasks.items }
+        requires act { (task_at self.old.course).act ≡ Act.Count name }
+        ensures stepped { HasStepped desk self.old table.old result self.new table.new }
+        ensures fits { Fits desk self.new table.new }
+    {
+        table.known();
+        let statement = self.course.statement();
+        let event = self.course.holdings.is_full(usize::from(name));
+        let owners = self.course.count(desk, table, name);
+        let answer = Some(Answer::Count(owners));
+        says(
+            event,
+            Said {
+                statement,
+                answer,
+                ended: None,
+            },
+        )
+    }
+
+    /// Leaves what a name holds, if anything. Where that was the last owner, the end of its object begins.
+    fn leave(&mut self, desk: usize, table: &mut Table, name: u8) -> Stepped
+        requires fits { Fits desk self.old table.old }
+        requires rest { self.old.half ≡ Half.Rest }
+        requires within { self.old.course.at < length self.old.course.tasks.items }
+        requires act { ((task_at self.old.course).act ≡ Act.Leave name) ⊎ ((task_at self.old.course).act ≡ Act.Clear name) }
+        ensures stepped { HasStepped desk self.old table.old result self.new table.new }
+        ensures fits { Fits desk self.new table.new }
+    {
+        table.known();
+        let statement = self.course.statement();
+        let held = self.course.holdings.get(usize::from(name));
+        let last = self.course.leave(desk, table, name);
+        let ended = self.left(desk, table, held, last, statement);
+        says(
+            held.is_some(),
+            Said {
+                statement,
+                answer: None,
+                ended,
+            },
+        )
+    }
+
+    /// Leaves what a name holds, and puts there what is in hand. Where that was the last owner, the end of its object
+    /// begins.
+    fn put(&mut self, desk: usize, table: &mut Table, name: u8) -> Stepped
+        requires fits { Fits desk self.old table.old }
+        requires rest { self.old.half ≡ Half.Rest }
+        requires within { self.old.course.at < length self.old.course.tasks.items }
+        requires act { (task_at self.old.course).act ≡ Act.Put name }
+        ensures stepped { HasStepped desk self.old table.old result self.new table.new }
+        ensures fits { Fits desk self.new table.new }
+    {
+        table.known();
+        let statement = self.course.statement();
+        let held = self.course.holdings.get(usize::from(name));
+        let last = self.course.put(desk, table, name);
+        let ended = self.left(desk, table, held, last, statement);
+        says(
+            held.is_some(),
+            Said {
+                statement,
+                answer: None,
+                ended,
+            },
+        )
+    }
+
+    /// After a leave: where it was the last owner's, the end of the object begins. Answers what the object leaves.
+    fn left(
+        &mut self,
+        desk: usize,
+        table: &Table,
+        held: Option<Pointer>,
+        last: bool,
+        statement: u32,
+    ) -> Option<Ended>
+        requires rest { self.old.half ≡ Half.Rest }
+        requires ending { (x : Pointer) → held ≡ Some x → last ≡ true → ((state table.now).object (object_in table.now x.block)).phase ≡ ending desk }
+        ensures course { self.new.course ≡ self.old.course }
+        ensures stock { self.new.stock ≡ self.old.stock }
+        ensures half { self.new.half ≡ on (λ x. cond last (Half.Ending x.block 0 statement) Half.Rest) Half.Rest held }
+        ensures ended { result ≡ on (λ x. cond last (Some (remains ((state table.now).object (object_in table.now x.block)))) None) None held }
+    {
+        match held {
+            None => None,
+            Some(pointer) => {
+                if !last {
+                    return None;
+                }
+                self.half = Half::Ending {
+                    block: pointer.block,
+                    stage: 0,
+                    statement,
+                };
+                Some(table.remains(desk, pointer.block))
             }
         }
     }
 }
 
-/// What a make wants the flags (0) or a field (1 to 4) of its block to be.
-fn wanted_word(index: u8, fields: &[u64; 4]) -> u64
-    requires { index < 5 }
-    ensures { result ≡ get_or (wanted fields.now) index 0 }
+/// What a step says that says nothing but its statement.
+pub(crate) fn silent(statement: u32) -> Said
+    ensures { result ≡ silent statement }
 {
-    if index == 0 {
-        0
-    } else {
-        fields[usize::from(index) - 1]
+    Said {
+        statement,
+        answer: None,
+        ended: None,
     }
 }
 
-/// The end of an object begins, where its last owner left.
-fn ending_if(last: bool, block: Block) -> Half
-    ensures { result ≡ cond last (Half.Ending block 0) Half.Rest }
+/// A step that is an event, or none.
+fn says(event: bool, said: Said) -> Stepped
+    ensures { result ≡ cond event (Stepped.Event said) (Stepped.Quiet said) }
 {
-    if last {
-        Half::Ending { block, stage: 0 }
+    if event {
+        Stepped::Event(said)
     } else {
-        Half::Rest
+        Stepped::Quiet(said)
     }
-}
-
-/// A step that touched a word, or none.
-fn event_if(event: bool) -> Moved
-    ensures { result ≡ cond event Moved.Event Moved.Quiet }
-{
-    if event { Moved::Event } else { Moved::Quiet }
 }

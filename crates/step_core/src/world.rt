@@ -1,40 +1,180 @@
 //! The machine: a table and the threads over it.
-ghost use Rattle.std.specs.Prelude.{◌≡◌, ◌<◌, length, slice_get, Some, None};
+ghost use Rattle.std.specs.Prelude.{◌≡◌, ◌<◌, ◌≤◌, ◌-◌, length, true, false};
 ghost use Rattle.step_core.specs.Stories.{Kept};
-ghost use Rattle.step_core.specs.Worlds.{Advances};
+ghost use Rattle.step_core.specs.Turning.{HasBegun, Plays, Prepares, Rests, is_ending, is_making, is_preparing, turned_by};
+ghost use Rattle.step_core.specs.Worlds.{GoesTo, Steps, Turns, half_of};
 
+use crate::half::Half;
+use crate::said::{Stepped, Turned};
 use crate::table::Table;
-use crate::thread::{Moved, Thread};
+use crate::thread::Thread;
+use crate::told::{ends, makes};
 use std::marker::Model;
 
 /// Threads over one table. Thread d has what desk d has.
 #[derive(Drop)]
 pub struct World {
-    table: Table,
-    threads: Vec<Thread>,
+    pub(crate) table: Table,
+    pub(crate) threads: Vec<Thread>,
+    /// Objects that were made.
+    pub(crate) made: u32,
+    /// Objects whose last owner left.
+    pub(crate) ended: u32,
 }
 
 impl Model for World {
-    ghost use Rattle.step_core.specs.Worlds.{Sight, AllFit};
+    ghost use Rattle.std.specs.Prelude.{map};
+    ghost use Rattle.step_core.specs.Told.{IsTold, sight};
+    ghost use Rattle.step_core.specs.Worlds.{Sight, AllFit, thread_half, thread_walk};
 
     ghost Value = { Sight };
 
-    ghost view = { λ w. record { story = w.table; threads = w.threads.items } };
+    ghost view = { λ w. record { story = w.table; walks = map thread_walk w.threads.items; halves = map thread_half w.threads.items } };
 
-    ghost invariant = { λ w. AllFit w.table w.threads.items };
+    ghost invariant = { λ w. AllFit w.table w.threads.items × IsTold (sight w.table w.threads.items) w.made w.ended };
 }
 
 impl World {
-    /// The next atomic step of a thread, or its next act that touches no word.
-    pub(crate) fn advance(&mut self, number: usize) -> Moved
-        requires { number < length self.old.threads }
-        ensures moved { Advances number self.old result self.new }
+    /// One step of an actor: one atomic step on one word, or one act that touches none. It answers `Event` just where the
+    /// step is an event, with what that says, and `Done` just at the actor's end; it never answers `Waited` yet. Condition:
+    /// the actor is one of the world's, from 1 (own).
+    pub fn step(&mut self, actor: u8) -> Stepped
+        requires some { 0 < actor }
+        requires within { actor ≤ length self.old.walks }
+        ensures steps { Steps (actor - 1) self.old result self.new }
         ensures kept { Kept self.new.story }
+        ensures actors { length self.new.walks ≡ length self.old.walks }
+    {
+        self.advance(usize::from(actor) - 1)
+    }
+
+    /// One act of an actor, with all of its steps: first the rest of what its last step began, and at the end what its last
+    /// owner's leave began, so that no end of an object is left under way. It answers what the act says, and `Done` just at
+    /// the actor's end; it never answers `Waited` yet. Condition: the actor is one of the world's, from 1 (own).
+    pub fn turn(&mut self, actor: u8) -> Turned
+        requires some { 0 < actor }
+        requires within { actor ≤ length self.old.walks }
+        ensures turns { Turns (actor - 1) self.old result self.new }
+        ensures steps { GoesTo (actor - 1) self.old self.new }
+        ensures kept { Kept self.new.story }
+        ensures actors { length self.new.walks ≡ length self.old.walks }
+    {
+        let number = usize::from(actor) - 1;
+        self.rest(number);
+        let turned = self.act(number);
+        self.rest(number);
+        self.table.known();
+        turned
+    }
+
+    /// The rest of the end of an object, where one is under way.
+    fn rest(&mut self, number: usize)
+        requires { number < length self.old.walks }
+        ensures rests { Rests number self.old self.new }
+        ensures goes { GoesTo number self.old self.new }
+        ensures actors { length self.new.walks ≡ length self.old.walks }
+    {
+        while self.is_ending(number) {
+            self.advance(number);
+        }
+    }
+
+    /// The steps through the next act.
+    fn act(&mut self, number: usize) -> Turned
+        requires within { number < length self.old.walks }
+        requires rested { is_ending (half_of self.old number) ≡ false }
+        ensures plays { Plays number self.old result self.new }
+        ensures goes { GoesTo number self.old self.new }
+        ensures actors { length self.new.walks ≡ length self.old.walks }
+    {
+        if self.is_making(number) {
+            return self.make(number);
+        }
+        let stepped = self.advance(number);
+        if self.is_making(number) {
+            return self.make(number);
+        }
+        turned(stepped)
+    }
+
+    /// The rest of a make that is under way.
+    fn make(&mut self, number: usize) -> Turned
+        requires within { number < length self.old.walks }
+        requires making { is_making (half_of self.old number) ≡ true }
+        ensures plays { Plays number self.old result self.new }
+        ensures goes { GoesTo number self.old self.new }
+        ensures actors { length self.new.walks ≡ length self.old.walks }
+    {
+        self.prepare(number);
+        turned(self.advance(number))
+    }
+
+    /// The steps of a make through its last word.
+    fn prepare(&mut self, number: usize)
+        requires within { number < length self.old.walks }
+        requires making { is_making (half_of self.old number) ≡ true }
+        ensures prepares { Prepares number self.old self.new }
+        ensures goes { GoesTo number self.old self.new }
+        ensures actors { length self.new.walks ≡ length self.old.walks }
+    {
+        while self.is_preparing(number) {
+            self.advance(number);
+        }
+    }
+
+    /// Whether a thread ends an object.
+    fn is_ending(&self, number: usize) -> bool
+        requires { number < length self.now.walks }
+        ensures { result ≡ is_ending (half_of self.now number) }
+    {
+        matches!(self.threads[number].half, Half::Ending { .. })
+    }
+
+    /// Whether a thread makes an object.
+    fn is_making(&self, number: usize) -> bool
+        requires { number < length self.now.walks }
+        ensures { result ≡ is_making (half_of self.now number) }
+    {
+        matches!(self.threads[number].half, Half::Making { .. })
+    }
+
+    /// Whether a thread makes an object, and has words of its block left to look at or to write.
+    fn is_preparing(&self, number: usize) -> bool
+        requires { number < length self.now.walks }
+        ensures { result ≡ is_preparing (half_of self.now number) }
+    {
+        match self.threads[number].half {
+            Half::Making { index, .. } => index != 5,
+            _ => false,
+        }
+    }
+
+    /// The next step of a thread.
+    fn advance(&mut self, number: usize) -> Stepped
+        requires { number < length self.old.walks }
+        ensures was { HasBegun number self.old }
+        ensures steps { Steps number self.old result self.new }
+        ensures kept { Kept self.new.story }
+        ensures actors { length self.new.walks ≡ length self.old.walks }
     {
         let thread = &mut self.threads[number];
+        let half = thread.half;
         self.table.known();
-        let moved = thread.step(number, &mut self.table);
+        let stepped = thread.step(number, &mut self.table);
         self.table.known();
-        moved
+        self.made += makes(half, stepped);
+        self.ended += ends(stepped);
+        stepped
+    }
+}
+
+/// The turn whose act the step was, or ended.
+fn turned(stepped: Stepped) -> Turned
+    ensures { result ≡ turned_by stepped }
+{
+    match stepped {
+        Stepped::Event(said) | Stepped::Quiet(said) => Turned::Acted(said),
+        Stepped::Waited => Turned::Waited,
+        Stepped::Done => Turned::Done,
     }
 }

@@ -25,7 +25,9 @@ use Rattle.step_core.specs.declared.past.Deed.TheVariants.{Prepare, Write, Claim
 use Rattle.step_core.specs.Actors.{HalfFits, Stocks, in_store}
 use Rattle.step_core.specs.Holdings.{Holds, Slots, is_it, owns, slot, times}
 use Rattle.step_core.specs.Openings.{opening}
+use Rattle.step_core.specs.Scenes.{least}
 use Rattle.step_core.specs.Stories.{Kept, known, Nothing, Story, after, object_in, owner_in, pending, state}
+use Rattle.step_core.proofs.holding.Least.{least_part}
 use Rattle.step_core.proofs.holding.Owning.{slot_held}
 use Rattle.step_core.proofs.holding.Slots.{one_slot}
 use Rattle.step_core.proofs.tables.Places.{ending_busy, owner_busy, there}
@@ -164,6 +166,10 @@ ends_on v e d o (Finish b vacant) n kept kept' end =
     put_cases (λ i (y : Object). i ≡ o → y.phase ≡ ending d) (state v).object (object_in v b) _ o
     (λ q t. absurd (n (phase_differs d e ((state v).object o).phase end (ap (λ (j : ℕ). ((state v).object j).phase) q ∙ his)))) (λ q t. end) refl
 
+-- the same store has the same least block
+least_others : (d : ℕ) (s t : State) → Same s t d → least d t.stores ≡ least d s.stores
+least_others d s t same = least_part d t.stores ∙ ap (least d) same.in_stock ∙ sym (least_part d s.stores)
+
 -- another desk's deed leaves a half-done act
 pub half_others : (d : ℕ) (half : Half) (fields : List ℕ) (v : Story) (e : ℕ) (x : Deed) → e ≢ d → Kept v → Kept (after v e x)
     → HalfFits d half fields v
@@ -174,9 +180,10 @@ half_others d (Making b at f) fields v e x n kept kept' fits =
     record {
       making = record { words = fits.making.words; size = fits.making.size; making = same ∙ fits.making.making };
       within = fits.within;
+      least = least_others d (state v) (state (after v e x)) (same_deed v e d x n) ∙ fits.least;
       done = λ j le. ap (λ (p : Pending Nothing). get_or (known p) j 0) same ∙ fits.done j le;
     }
-half_others d (Ending b at) fields v e x n kept kept' fits =
+half_others d (Ending b at k) fields v e x n kept kept' fits =
     let end = ends_on v e d (object_in v b) x n kept kept' fits.ending in
     let busy : 0 < weak_number (state (after v e x)) (object_in v b) = let c : common ((state (after v e x)).object
     (object_in v b)).phase ≡ 1 = ap common end in omega arith in

@@ -16,6 +16,7 @@ use Rattle.step_core.specs.declared.past.Deed.TheVariants.{Prepare, Write, Claim
 use Rattle.step_core.specs.Openings.{opening}
 use Rattle.step_core.specs.Stories.{Nothing, Story, Seats, AllBare, Kept, after, history_after, pending, pending_after, state, view_in, views_after}
 use Rattle.step_core.specs.Stories.{words_after}
+use Rattle.step_core.proofs.tables.Calm.{calm_after, whole_after}
 
 at_get : {A : Type 0} (l : List A) (i : ℕ) (d : A) → i < length l → get_elem? l i ≡ some (get_or l i d)
 at_get [] i d lt = absurd (omega arith)
@@ -73,6 +74,8 @@ kept_after v d x kept lt stands bare =
           (kept.seats.names d lt)
           (kept.seats.awake d lt);
       bare = bare;
+      calm = calm_after v d x (let s = kept.seats.size in omega arith) kept.calm;
+      whole = whole_after v d x kept.whole stands.legal;
       proper = kept.proper;
       allowed = same_allowance v d x ∙ kept.allowed;
     }

@@ -12,7 +12,7 @@ use Rattle.control_word.specs.State.{IsOpening, sum_below}
 use Rattle.control_word.specs.Views.{Stands, fresh, used_up}
 use Rattle.step_core.specs.declared.extent.Extent.{Extent}
 use Rattle.step_core.specs.Openings.{IsExtent, each_stock, holder_of, opening, share_of}
-use Rattle.step_core.specs.Stories.{Nothing, Kept}
+use Rattle.step_core.specs.Stories.{IsCalm, Kept, Nothing}
 
 -- of so many actors each has its share, and the first has the rest too
 sums : (q r a n : ℕ) → 1 ≤ n → n ≤ a → sum_below n (λ d. cond (nat_lt d a) (q + cond (d == 0) r 0) 0) ≡ n * q + r
@@ -68,12 +68,17 @@ fresh_size : (d n : ℕ) → length (fresh {V = Nothing} d n) ≡ n
 fresh_size d zero = refl
 fresh_size d (suc n) = let i = fresh_size (suc d) n in omega (arith, i)
 
-fresh_at : (d n i : ℕ) → i < n → get_or (fresh {V = Nothing} d n) i used_up ≡ record { name = d + i; spent = false; pending = Idle; seen = [] }
+pub fresh_at : (d n i : ℕ) → i < n → get_or (fresh {V = Nothing} d n) i used_up ≡ record { name = d + i; spent = false; pending = Idle; seen = [] }
 fresh_at d zero i lt = absurd (omega arith)
 fresh_at d (suc n) zero lt = let e : d ≡ d + 0 = omega arith in ap (λ (k : ℕ). record { name = k; spent = false; pending = Idle; seen = [] }) e
 fresh_at d (suc n) (suc i) lt =
     let e : suc d + i ≡ d + suc i = omega arith in
     fresh_at (suc d) n i (omega arith) ∙ ap (λ (k : ℕ). record { name = k; spent = false; pending = Idle; seen = [] }) e
+
+calm_start : (d n e : ℕ) → IsCalm (get_or (fresh {V = Nothing} d n) e used_up).pending
+calm_start d zero e = tt
+calm_start d (suc n) zero = tt
+calm_start d (suc n) (suc e) = calm_start (suc d) n e
 
 -- a new table stands for the empty history
 pub kept_start : (x : Extent) (words : List ℕ) → IsExtent x
@@ -89,6 +94,8 @@ kept_start x words fine is =
             awake = λ d lt. ap (λ (v : View Nothing). v.spent) (fresh_at 0 x.actors d lt);
           };
       bare = λ o m. refl;
+      calm = calm_start 0 x.actors;
+      whole = λ o some le. absurd (omega arith);
       proper = fine;
       allowed = refl;
     }

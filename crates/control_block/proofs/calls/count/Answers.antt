@@ -1,32 +1,47 @@
-use Rattle.std.proofs.Common.{None, Some, refl, sym, ap, ◌∙◌, arith, length, rules}
-use Rattle.control_word.specs.Handles.{handle}
+use Rattle.std.proofs.Common.{refl, sym, ap, ◌∙◌, arith, None}
 use Rattle.control_word.specs.declared.event.Event.TheVariants.{Count}
 use Rattle.control_word.specs.declared.view.Pending.TheVariants.{Idle}
-use Rattle.control_block.specs.Desks.{allowance_of, stock_of}
-use Rattle.control_block.specs.Plays.{Holding}
-use Rattle.control_block.proofs.DeskSteps.{allowance_left, as_many, came, quiet_desk, stock_left, word_inside}
+use Rattle.control_block.specs.Desks.{bag_of, on_latest}
+use Rattle.control_block.specs.Inside.{desk_now}
+use Rattle.control_block.proofs.DeskBags.{adds_of, bag_stays, holding_in, keeps_quietly}
+use Rattle.control_block.proofs.DeskSteps.{as_many, came, quiet_desk, word_inside}
 use Rattle.control_block.proofs.calls.count.Goals as goal
+
+pub count-requires-clause-holds : goal.count-requires-clause-holds
+count-requires-clause-holds g c =
+    holding_in c.desk.inside c.args.desk.now g.A.About.kind g.A.About.place c.args.of.block.0 c.desk.invariant c.desk.view_is c.requires.holds
 
 pub count-requires-clause-word : goal.count-requires-clause-word
 count-requires-clause-word g c =
-    let d = c.desk.inside in let h = c.requires.holds in
-    let holds : Holding d.seat.me.0 g.M.Meant.kind g.M.Meant.object g.M.Meant.place c.args.block.0 = search rules in
-    word_inside d c.domain.inside.table.shared.table_id g.M.Meant.kind g.M.Meant.object g.M.Meant.place c.args.block.0 0 c.desk.invariant
-    (ap (λ z. z.domain) c.desk.view_is ∙ (c.requires.domain ∙ sym (ap (λ z. z.id) c.domain.view_is))) holds (omega arith)
+    word_inside c.desk.inside c.domain.inside.table.shared.table_id g.A.About.kind _ g.A.About.place c.args.of.block.0 0 c.desk.invariant
+    (ap (λ z. z.domain) c.desk.view_is ∙ (c.requires.domain ∙ sym (ap (λ z. z.id) c.domain.view_is)))
+    (holding_in c.desk.inside c.args.desk.now g.A.About.kind g.A.About.place c.args.of.block.0 c.desk.invariant c.desk.view_is c.requires.holds)
+    (omega arith)
 
 pub invariant_of-desk : goal.invariant_of-desk
 invariant_of-desk g c =
     let d = c.desk.inside in let h = c.desk.invariant in let v = d.seat.me.0 in let w = c.count.new.chair.me.0 in let s = c.count.ensures in
-    let e = Count (handle g.M.Meant.kind (Some g.M.Meant.object) g.M.Meant.place) c.count.result in let t = came v w Idle None e s.event in
+    let e = Count (on_latest (desk_now d) g.A.About.kind g.A.About.place c.args.of.block.0) c.count.result in let t = came v w Idle None e s.event in
     let size = as_many v w e t refl in
     quiet_desk d _ e h s.event s.chair.0 (s.chair.2 ∙ h.rests.none) (λ y x. refl) (λ y x. refl) refl refl (omega (arith, size, h.holding)) h.within
 
-pub returns-clause-allowance : goal.returns-clause-allowance
-returns-clause-allowance g c =
-    let v = c.desk.inside.seat.me.0 in let w = c.count.new.chair.me.0 in let e = Count (handle g.M.Meant.kind (Some g.M.Meant.object) g.M.Meant.place) c.count.result in
-    allowance_left v w e (came v w Idle None e c.count.ensures.event) (λ y x. refl) ∙ ap allowance_of c.desk.view_is
+pub returns-clause-event : goal.returns-clause-event
+returns-clause-event g c =
+    adds_of c.desk.inside c.args.desk.now c.count.new.chair.me.0 _ _
+    (λ z. Count (on_latest z g.A.About.kind g.A.About.place c.args.of.block.0) c.count.result)
+    c.desk.view_is c.count.ensures.chair.0 c.count.ensures.event
 
-pub returns-clause-stock : goal.returns-clause-stock
-returns-clause-stock g c =
-    let v = c.desk.inside.seat.me.0 in let w = c.count.new.chair.me.0 in let e = Count (handle g.M.Meant.kind (Some g.M.Meant.object) g.M.Meant.place) c.count.result in
-    ap length (stock_left v w e (came v w Idle None e c.count.ensures.event) (λ y x. refl) ∙ ap stock_of c.desk.view_is)
+pub returns-clause-bag : goal.returns-clause-bag
+returns-clause-bag g c =
+    let d = c.desk.inside in
+    bag_stays d c.count.new.chair.me.0 (Count (on_latest (desk_now d) g.A.About.kind g.A.About.place c.args.of.block.0) c.count.result)
+    c.desk.invariant
+    c.count.ensures.event refl ∙ ap bag_of c.desk.view_is
+
+pub returns-clause-keeps : goal.returns-clause-keeps
+returns-clause-keeps g c =
+    let d = c.desk.inside in
+    keeps_quietly d c.count.new.chair.me.0 (Count (on_latest (desk_now d) g.A.About.kind g.A.About.place c.args.of.block.0) c.count.result)
+    c.desk.invariant
+    c.count.ensures.event _ _ c.args.desk.now c.desk.view_is c.count.ensures.chair.0
+    record { objects = λ s n. refl; latest = λ s n. refl; values = λ s f. refl } (λ s n. refl) (λ s n. refl)

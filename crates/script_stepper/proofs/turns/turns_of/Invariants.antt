@@ -6,8 +6,8 @@ use Rattle.script_stepper.proofs.turns.turns_of.Given as goal
 
 abbrev pub invariant-loop-word : goal.invariant-loop-word
 invariant-loop-word l = record {
-  read : with_front l.turns.items (turns_from l.threads l.place (slice_split is_comma l.rest)) ≡ list_at l.threads l.text;
-  number : l.place + length l.rest ≤ 1 + length l.text;
+  read : with_front l.turns.items (turns_from l.threads l.position (slice_split is_comma l.rest)) ≡ list_at l.threads l.text;
+  number : l.position + length l.rest ≤ 1 + length l.text;
 }
 
 abbrev pub decreases-loop-word : goal.decreases-loop-word

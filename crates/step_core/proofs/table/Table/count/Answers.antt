@@ -1,7 +1,9 @@
 use Rattle.std.proofs.Common.{◌≡◌, ◌==◌, ℕ, cond, subst, ap, length, arith}
+use Rattle.control_word.specs.Layout.{spot}
 use Rattle.control_word.specs.Packing.{funds_of, number_of}
 use Rattle.step_core.specs.declared.past.Deed.TheVariants.{Count}
 use Rattle.step_core.specs.Stories.{Story, Kept}
+use Rattle.step_core.proofs.tables.Calm.{nothing_owed}
 use Rattle.step_core.proofs.tables.Owners.{exact_count, kept_count, told}
 use Rattle.step_core.proofs.tables.Places.{inside, owner_busy, there}
 use Rattle.step_core.proofs.tables.Standing.{found, kept_as, kept_now}
@@ -48,3 +50,4 @@ returns-clause-exact c =
     c.requires.held (subst
     (λ (x : ℕ). c.told_count-owners.result ≡ cond (number_of x == 0) (cond (funds_of x == 0) 0 1) (number_of x)) f
     (told _ _ c.told_count-owners.ensures.counted c.told_count-owners.ensures.under_way c.told_count-owners.ensures.none))
+    (nothing_owed c.args.self.now (spot c.args.block.0 0) k)

@@ -6,12 +6,19 @@ use Rattle.step_core.proofs.Endings.{ends_here, fits_clear}
 use Rattle.step_core.proofs.thread.Thread.clear.Goals as goal
 
 pub clear-requires-clause-idle : goal.clear-requires-clause-idle
-clear-requires-clause-idle c = (ends_here _ c.args.self.now c.args.table.now c.args.block c.args.stage c.requires.fits c.requires.half).idle
+clear-requires-clause-idle c =
+    (ends_here _ c.args.self.now c.args.table.now c.args.block c.args.stage c.args.statement c.requires.fits c.requires.half).idle
 
 pub clear-requires-clause-ending : goal.clear-requires-clause-ending
-clear-requires-clause-ending c = (ends_here _ c.args.self.now c.args.table.now c.args.block c.args.stage c.requires.fits c.requires.half).ending
+clear-requires-clause-ending c =
+    (ends_here _ c.args.self.now c.args.table.now c.args.block c.args.stage c.args.statement c.requires.fits c.requires.half).ending
 
 pub returns-clause-fits : goal.returns-clause-fits
 returns-clause-fits c =
-    subst (λ (v : Story). Fits c.args.desk (record { course = c.args.self.now.course; stock = c.args.self.now.stock; half = Ending c.args.block (c.args.stage + 1) }) v) (sym c.clear.ensures)
-    (fits_clear c.args.desk c.args.self.now c.args.table.now c.args.block c.args.stage c.known.ensures c.requires.fits c.requires.half c.requires.inside)
+    subst (λ (v : Story). Fits c.args.desk (record {
+      course = c.args.self.now.course;
+      stock = c.args.self.now.stock;
+      half = Ending c.args.block
+          (c.args.stage + 1) c.args.statement;
+    }) v) (sym c.clear.ensures)
+    (fits_clear c.args.desk c.args.self.now c.args.table.now c.args.block c.args.stage c.args.statement c.known.ensures c.requires.fits c.requires.half c.requires.inside)

@@ -13,7 +13,8 @@ pub returns-clause-fits : goal.returns-clause-fits
 returns-clause-fits c =
     let t : Thread = record { course = c.args.self.now.course; stock = c.args.self.now.stock; half = Making c.args.block (c.args.index + 1) false } in
     let e = fields_here c.args.self.now.course c.args.fields c.requires.act in
-    let w = subst (λ (f : List ℕ). Fits c.args.desk t (after c.args.table.now c.args.desk (deed.Write c.args.block c.args.index (get_or (wanted f) c.args.index 0)))) e
+    let w = subst (λ (f : List ℕ). Fits c.args.desk t (after c.args.table.now c.args.desk (deed.Write c.args.block c.args.index (get_or
+    (wanted f) c.args.index 0)))) e
     (fits_write c.args.desk c.args.self.now c.args.table.now c.args.block c.args.index c.known.ensures c.requires.fits c.requires.half c.requires.inside) in
     subst (λ (v : Story). Fits c.args.desk t v)
     (ap (λ (n : ℕ). after c.args.table.now c.args.desk (deed.Write c.args.block c.args.index n)) (sym c.wanted_word.ensures) ∙ sym c.write.ensures) w

@@ -1,27 +1,56 @@
 use Rattle.std.proofs.Common.{◌<◌, length, set, ap, subst, arith}
-use Rattle.step_core.specs.Worlds.{Advances, Sight}
-use Rattle.step_core.proofs.Worlds.{advances, all_fit, thread_at}
+use Rattle.std.proofs.lemmas.List.{length-map, length-set}
+use Rattle.step_core.specs.Turning.{HasBegun}
+use Rattle.step_core.specs.Worlds.{Sight, Steps, thread_walk}
+use Rattle.step_core.proofs.Worlds.{all_fit, has_begun, sight, steps, thread_at}
+use Rattle.step_core.proofs.telling.Worlds.{told_now}
 use Rattle.step_core.proofs.world.World.advance.Goals as goal
 
-pub step-moved-requires : goal.step-moved-requires
-step-moved-requires c =
-    let l = ap (λ (u : Sight). length u.threads) c.self.view_is in
-    let lt : c.args.number < length c.self.inside.threads.items = omega (arith, l, c.requires) in
-    c.self.invariant.each c.args.number c.index_mut-thread.result.now (thread_at c.self.inside.threads.items c.args.number c.index_mut-thread.result.now lt c.index_mut-thread.ensures.value)
+pub step-stepped-requires : goal.step-stepped-requires
+step-stepped-requires c =
+    let l = ap (λ (u : Sight). length u.walks) c.self.view_is in
+    let m = length-map c.self.inside.threads.items thread_walk in
+    let lt : c.args.number < length c.self.inside.threads.items = omega (arith, l, m, c.requires) in
+    c.self.invariant.0.each c.args.number c.index_mut-thread.result.now
+    (thread_at c.self.inside.threads.items c.args.number c.index_mut-thread.result.now lt c.index_mut-thread.ensures.value)
 
 pub invariant_of-self : goal.invariant_of-self
 invariant_of-self c =
-    let l = ap (λ (u : Sight). length u.threads) c.self.view_is in
-    let lt : c.args.number < length c.self.inside.threads.items = omega (arith, l, c.requires) in
-    all_fit c.self.inside.table c.step-moved.new.table c.self.inside.threads.items c.args.number c.index_mut-thread.result.now c.step-moved.new.self c.step-moved.result
-    c.known.ensures c.known-2.ensures c.self.invariant lt c.step-moved.ensures.moved c.step-moved.ensures.fits
+    let l = ap (λ (u : Sight). length u.walks) c.self.view_is in
+    let m = length-map c.self.inside.threads.items thread_walk in
+    let lt : c.args.number < length c.self.inside.threads.items = omega (arith, l, m, c.requires) in (
+      all_fit c.self.inside.table c.step-stepped.new.table c.self.inside.threads.items c.args.number c.index_mut-thread.result.now c.step-stepped.new.self
+          c.step-stepped.result c.known.ensures c.known-2.ensures c.self.invariant.0 lt c.step-stepped.ensures.stepped c.step-stepped.ensures.fits,
+      told_now c.self.inside.table c.step-stepped.new.table c.self.inside.threads.items c.args.number c.index_mut-thread.result.now c.step-stepped.new.self
+          c.step-stepped.result c.self.inside.made c.self.inside.ended c.makes.result c.ends.result c.known.ensures c.known-2.ensures lt
+          c.index_mut-thread.ensures.value c.step-stepped.ensures.stepped c.self.invariant.1 c.makes.ensures c.ends.ensures,
+    )
 
-pub returns-clause-moved : goal.returns-clause-moved
-returns-clause-moved c =
-    let l = ap (λ (u : Sight). length u.threads) c.self.view_is in
-    let lt : c.args.number < length c.self.inside.threads.items = omega (arith, l, c.requires) in
-    let u : Sight = record { story = c.self.inside.table; threads = c.self.inside.threads.items } in
-    subst (λ (s : Sight). Advances c.args.number s c.step-moved.result (record { story = c.step-moved.new.table; threads = set c.self.inside.threads.items c.args.number c.step-moved.new.self }))
+pub returns-clause-was : goal.returns-clause-was
+returns-clause-was c =
+    let l = ap (λ (u : Sight). length u.walks) c.self.view_is in
+    let m = length-map c.self.inside.threads.items thread_walk in
+    let lt : c.args.number < length c.self.inside.threads.items = omega (arith, l, m, c.requires) in
+    subst (λ (u : Sight). HasBegun c.args.number u) c.self.view_is
+    (has_begun c.self.inside.table c.self.inside.threads.items c.args.number c.index_mut-thread.result.now lt c.index_mut-thread.ensures.value
+    (c.self.invariant.0.each c.args.number c.index_mut-thread.result.now
+    (thread_at c.self.inside.threads.items c.args.number c.index_mut-thread.result.now lt c.index_mut-thread.ensures.value)))
+
+pub returns-clause-steps : goal.returns-clause-steps
+returns-clause-steps c =
+    let l = ap (λ (u : Sight). length u.walks) c.self.view_is in
+    let m = length-map c.self.inside.threads.items thread_walk in
+    let lt : c.args.number < length c.self.inside.threads.items = omega (arith, l, m, c.requires) in
+    subst (λ (u : Sight). Steps c.args.number u c.step-stepped.result (sight c.step-stepped.new.table
+    (set c.self.inside.threads.items c.args.number c.step-stepped.new.self)))
     c.self.view_is
-    (advances u c.step-moved.new.table c.args.number c.index_mut-thread.result.now c.step-moved.new.self c.step-moved.result c.known.ensures c.known-2.ensures c.self.invariant lt
-    (thread_at c.self.inside.threads.items c.args.number c.index_mut-thread.result.now lt c.index_mut-thread.ensures.value) c.step-moved.ensures.moved c.step-moved.ensures.fits)
+    (steps c.self.inside.table c.step-stepped.new.table c.self.inside.threads.items c.args.number c.index_mut-thread.result.now c.step-stepped.new.self
+    c.step-stepped.result lt c.index_mut-thread.ensures.value c.step-stepped.ensures.stepped)
+
+pub returns-clause-actors : goal.returns-clause-actors
+returns-clause-actors c =
+    let l = ap (λ (u : Sight). length u.walks) c.self.view_is in
+    let m = length-map c.self.inside.threads.items thread_walk in
+    let n = length-map (set c.self.inside.threads.items c.args.number c.step-stepped.new.self) thread_walk in
+    let k = length-set c.self.inside.threads.items c.args.number c.step-stepped.new.self in
+    omega (arith, l, m, n, k)

@@ -1,0 +1,141 @@
+// What a caller waits for shared_ptr and weak_ptr of libstdc++ and of Boost, by thread count.
+// Prints lines "test|peer|threads|nanoseconds|share", as the program `measure` of crates/ and arc.rs do.
+#include <algorithm>
+#include <atomic>
+#include <chrono>
+#include <cstdint>
+#include <cstdio>
+#include <ctime>
+#include <memory>
+#include <thread>
+#include <vector>
+
+#include <pthread.h>
+#include <sched.h>
+
+#if __has_include(<boost/smart_ptr/make_shared.hpp>)
+#include <boost/smart_ptr/make_shared.hpp>
+#include <boost/smart_ptr/weak_ptr.hpp>
+#define WITH_BOOST
+#endif
+
+using Clock = std::chrono::steady_clock;
+
+constexpr auto span = std::chrono::milliseconds(3);
+constexpr int rounds = 60;
+constexpr std::uint64_t chunk = 2000;
+constexpr int most_threads = 4;
+
+template <class T> void keep(T const &value) { asm volatile("" : : "r,m"(value) : "memory"); }
+
+struct Object {
+    std::uint64_t fields[4] = {1, 2, 3, 4};
+};
+
+template <class T> struct alignas(128) Apart {
+    T value;
+};
+
+struct Spent {
+    double wall, processor, operations;
+};
+
+double processor_time() {
+    timespec t;
+    clock_gettime(CLOCK_THREAD_CPUTIME_ID, &t);
+    return t.tv_sec * 1e9 + t.tv_nsec;
+}
+
+void pin(int processor) {
+    cpu_set_t set;
+    CPU_ZERO(&set);
+    CPU_SET(processor, &set);
+    pthread_setaffinity_np(pthread_self(), sizeof set, &set);
+}
+
+// The threads meet, and work in chunks until a common moment. A row is the time of all by the operations of all.
+template <class Work> void time_row(char const *test, char const *peer, int threads, Work work) {
+    std::atomic<int> ready{0};
+    std::atomic<std::int64_t> end{0};
+    std::vector<Spent> spent(threads);
+    std::vector<std::thread> workers;
+    for (int thread = 0; thread < threads; thread++) {
+        workers.emplace_back([&, thread] {
+            pin(thread);
+            if (++ready == threads) end = (Clock::now() + span).time_since_epoch().count();
+            while (end == 0) __builtin_ia32_pause();
+            auto start = Clock::now();
+            double before = processor_time(), operations = 0;
+            do {
+                work(thread, chunk);
+                operations += chunk;
+            } while (Clock::now().time_since_epoch().count() < end);
+            double wall = std::chrono::duration<double, std::nano>(Clock::now() - start).count();
+            spent[thread] = {wall, processor_time() - before, operations};
+        });
+    }
+    for (auto &worker : workers) worker.join();
+    double wall = 0, operations = 0, share = 1, least = 1e18, most = 0;
+    for (auto const &s : spent) {
+        wall += s.wall, operations += s.operations;
+        share = std::min(share, s.processor / s.wall);
+        least = std::min(least, s.wall), most = std::max(most, s.wall);
+    }
+    std::printf("%s|%s|%d|%.2f|%.0f\n", test, peer, threads, wall / operations, 100 * std::min(share, least / most));
+}
+
+template <class Shared, class Weak, Shared (*make)()> struct Peer {
+    Apart<Shared> own[most_threads];
+    Apart<Weak> weak[most_threads];
+
+    Peer() {
+        for (int i = 0; i < most_threads; i++) own[i].value = make(), weak[i].value = own[i].value;
+    }
+
+    void rows(char const *peer, int threads) {
+        time_row("make + end", peer, threads, [](int, std::uint64_t n) {
+            while (n--) keep(make().get());
+        });
+        time_row("share + release, own object", peer, threads, [this](int t, std::uint64_t n) {
+            while (n--) {
+                Shared copy = own[t].value;
+                keep(copy.get());
+            }
+        });
+        time_row("share + release, one object", peer, threads, [this](int, std::uint64_t n) {
+            while (n--) {
+                Shared copy = own[0].value;
+                keep(copy.get());
+            }
+        });
+        time_row("downgrade + release_weak, own object", peer, threads, [this](int t, std::uint64_t n) {
+            while (n--) {
+                Weak copy = own[t].value;
+                keep(copy);
+            }
+        });
+        time_row("use_count, own object", peer, threads, [this](int t, std::uint64_t n) {
+            while (n--) keep(own[t].value.use_count());
+        });
+    }
+};
+
+std::shared_ptr<Object> make_std() { return std::make_shared<Object>(); }
+#ifdef WITH_BOOST
+boost::shared_ptr<Object> make_boost() { return boost::make_shared<Object>(); }
+#endif
+
+int main() {
+    Peer<std::shared_ptr<Object>, std::weak_ptr<Object>, make_std> standard;
+#ifdef WITH_BOOST
+    Peer<boost::shared_ptr<Object>, boost::weak_ptr<Object>, make_boost> boosted;
+#endif
+    for (int round = 0; round < rounds; round++) {
+        for (int threads : {1, 2, 4}) {
+            standard.rows("libstdc++ shared_ptr", threads);
+#ifdef WITH_BOOST
+            boosted.rows("Boost shared_ptr", threads);
+#endif
+        }
+    }
+}

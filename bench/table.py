@@ -1,0 +1,39 @@
+"""Reads lines "test|peer|threads|nanoseconds|share" and prints, for each test, a row a peer: nanoseconds by thread count,
+and the ratio to libstdc++. A sample is clean where each thread had a processor for 95 % of its time and all started
+together; a number is the median of the clean samples, with ~ where there is none and all were taken."""
+import collections
+import statistics
+import sys
+
+BASE = "libstdc++ shared_ptr"
+THREADS = (1, 2, 4)
+
+samples = collections.defaultdict(list)
+for name in sys.argv[1:]:
+    with open(name) as lines:
+        for line in lines:
+            test, peer, threads, nanoseconds, share = line.rstrip("\n").split("|")
+            samples[test, peer, int(threads)].append((float(nanoseconds), float(share)))
+
+
+def median(key):
+    every = samples[key]
+    clean = [ns for ns, share in every if share >= 95]
+    return statistics.median(clean or [ns for ns, _ in every]), "" if clean else "~"
+
+
+tests = list(dict.fromkeys(test for test, _, _ in samples))
+peers = list(dict.fromkeys(peer for _, peer, _ in samples))
+print("| test | peer | " + " | ".join(f"{n} threads, ns (ratio)" for n in THREADS) + " |")
+print("|---|---|" + "---|" * len(THREADS))
+for test in tests:
+    for peer in peers:
+        cells = []
+        for threads in THREADS:
+            if (test, peer, threads) not in samples:
+                cells.append("")
+                continue
+            ns, mark = median((test, peer, threads))
+            base, _ = median((test, BASE, threads))
+            cells.append(f"{ns:.1f}{mark} ({ns / base:.2f})")
+        print(f"| {test} | {peer} | " + " | ".join(cells) + " |")

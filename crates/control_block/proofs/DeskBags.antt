@@ -1,0 +1,199 @@
+-- What contracts see of a desk after a call: its bag, and what it keeps.
+use Rattle.std.proofs.Common.{◌≡◌, ◌≢◌, arith, ℕ, ◌==◌, ◌<◌, ◌⊎◌, ⊎_elim, List, ◌∷◌, ◌++◌, map, length, Option, Some, None, refl, sym, ap, subst, ◌∙◌}
+use Rattle.std.specs.List.{filter}
+use Rattle.atomic_table.specs.Seated.{TableId}
+use Rattle.control_word.proofs.history.Given.{names_an_object}
+use Rattle.control_word.proofs.history.Formation.{are_formed}
+use Rattle.control_word.proofs.history.Kept.{block_kept, same_kept}
+use Rattle.control_word.proofs.history.Legal.{sound}
+use Rattle.control_word.proofs.history.Others.{held_made}
+use Rattle.control_word.proofs.lists.Parts.{part_mine}
+use Rattle.control_word.proofs.lists.Tallies.{has_before, held_self, held_true}
+use Rattle.control_word.specs.Events.{after, place_at}
+use Rattle.control_word.specs.Handles.{IsPointer, handle, same_handle}
+use Rattle.control_word.specs.Histories.{IsLegal, entry, leads, value, valued}
+use Rattle.control_word.specs.State.{Held, InShape, Object, State, bag, ending, held, same_held, without}
+use Rattle.control_word.specs.Words.{blocks_of}
+use Rattle.control_word.specs.declared.event.Entry.{Entry}
+use Rattle.control_word.specs.declared.event.Event.{Event}
+use Rattle.control_word.specs.declared.handle.Handle.{Handle}
+use Rattle.control_word.specs.declared.handle.Kind.{Kind}
+use Rattle.control_word.specs.declared.handle.Kind.TheVariants.{Owner}
+use Rattle.control_word.specs.declared.place.Place.{Place}
+use Rattle.control_word.specs.declared.view.Pending.TheVariants.{Idle}
+use Rattle.control_block.specs.Desks.{Adds, DeskNow, HasHandle, IsEnding, IsSameDesk, Keeps, MayPoint, bag_of, by_block}
+use Rattle.control_block.specs.Inside.{IsDesk, desk_now}
+use Rattle.control_block.specs.Plays.{Added, HasRoomFor, Holding, known}
+use Rattle.control_block.specs.Rule.{opening_of}
+use Rattle.control_block.specs.declared.board.Sight.{Sight}
+use Rattle.control_block.specs.declared.desk.Desk.TheInside.{Inside}
+use Rattle.control_block.proofs.Bags.{alone_there, map_without, seen_as, shown, shown_held, shown_later}
+use Rattle.control_block.proofs.DeskSteps.{allowance_left, came, stock_left}
+use Rattle.control_block.proofs.Endings.{still_ends}
+use Rattle.control_block.proofs.Parts.{part_without_mine}
+use Rattle.control_block.proofs.Passage.{IsQuiet}
+
+module _ {V : Type 0} where
+  -- a desk at rest, by its seat
+  abbrev pub now_of : TableId → Sight V → ℕ → DeskNow V
+  now_of id w m = record { domain = id; shape = w.shape; name = w.view.name; seen = w.view.seen; held = m }
+
+  -- what a desk has in a block, by what its seat knows
+  pub holding_in : (d : Inside V) (e : DeskNow V) (k : Kind) (p : Option Place) (b : ℕ) → IsDesk d → desk_now d ≡ e → HasHandle e k p b
+      → Holding d.seat.me.0 k ((known d.seat.me.0).latest b) p b
+  holding_in d e k p b h is has =
+      let v = d.seat.me.0 in
+      let t = shown_held (opening_of v.shape) v.view.seen v.view.name k p b h.legal (subst (λ (z : DeskNow V). HasHandle z k p b) (sym is) has) in
+      record { has = t.0; there = t.1 }
+
+  pub adds_of : (d : Inside V) (e : DeskNow V) (w : Sight V) (id : TableId) (m : ℕ) (x : DeskNow V → Event V) → desk_now d ≡ e → id ≡ d.seat.table_id
+      → Added d.seat.me.0 Idle None (x (desk_now d)) w → Adds e (x e) (now_of id w m)
+  adds_of d e w id m x is table a =
+      subst (λ (z : DeskNow V). Adds z (x z) (now_of id w m)) is
+      record {
+        same = (table, ap (λ (u : Sight V). u.shape) a.now, ap (λ (u : Sight V). u.view.name) a.now);
+        between = a.between;
+        seen = ap (λ (u : Sight V). u.view.seen) a.now;
+        quiet = a.quiet;
+        legal = a.legal;
+      }
+
+  -- what one's own event does to an object that ends in one's hands
+  pub record Spares (t : State) (f : ℕ → Option V) (n : ℕ) (e : Event V) (b : ℕ) : Type 0 where
+    pub latest : (after t n e).latest b ≡ t.latest b
+    pub phase : ((after t n e).object (t.latest b)).phase ≡ ending n
+    pub value : valued t e f (t.latest b) ≡ f (t.latest b)
+
+  pub quiet_spares : (t : State) (f : ℕ → Option V) (n : ℕ) (e : Event V) (b : ℕ) → IsQuiet e → (t.object (t.latest b)).phase ≡ ending n → Spares t
+      f n e b
+  quiet_spares t f n e b q ends =
+      record {
+        latest = ap (λ (g : ℕ → ℕ). g b) (q.latest t n);
+        phase = ap (λ (g : ℕ → Object). (g (t.latest b)).phase) (q.objects t n) ∙ ends;
+        value = ap (λ (g : ℕ → Option V). g (t.latest b)) (q.values t f);
+      }
+
+  module _ (d : Inside V) (w : Sight V) (e : Event V) (h : IsDesk d) (a : Added d.seat.me.0 Idle None e w) where
+    -- the history before the event
+    abbrev pub before : List (Entry V)
+    before = a.between ++ d.seat.me.0.view.seen
+
+    pub legal_now : IsLegal (opening_of d.seat.me.0.shape) (entry d.seat.me.0.view.name e ∷ before)
+    legal_now = subst (IsLegal (opening_of d.seat.me.0.shape)) (ap (λ (u : Sight V). u.view.seen) a.now) a.legal
+
+    -- an object in a block of the desk's is there still
+    pub block_still : (k : Kind) (o : ℕ) (p : Option Place) (b : ℕ) → Holding d.seat.me.0 k o p b
+        → blocks_of (leads (opening_of d.seat.me.0.shape) (entry d.seat.me.0.view.name e ∷ before)) o ≡ b
+    block_still k o p b holds =
+        let v = d.seat.me.0 in let z = opening_of v.shape in
+        (block_kept z (entry v.view.name e ∷ a.between) v.view.seen o
+        (held_made z (known v) v.view.name o k p (sound z v.view.seen h.legal) holds.has)).0 ∙ holds.there
+
+    pub bag_stays : let t = leads (opening_of d.seat.me.0.shape) before in
+        (after t d.seat.me.0.view.name e).hands ≡ t.hands → shown (known w) w.view.name ≡ bag_of (desk_now d)
+    bag_stays hands =
+        let v = d.seat.me.0 in let z = opening_of v.shape in let n = v.view.name in
+        let s = same_kept z a.between v.view.seen n a.quiet in
+        subst (λ (u : Sight V). shown (known u) u.view.name ≡ shown (known v) n) (sym a.now)
+        (ap (λ (l : List Held). map (seen_as (leads z (entry n e ∷ before))) (filter (λ (x : Held). x.desk == n) l)) hands
+        ∙ (ap (map (seen_as (leads z (entry n e ∷ before)))) s.in_bag
+        ∙ shown_later z (entry n e ∷ a.between) v.view.seen n h.legal (bag (known v) n) (λ x y. y)))
+
+    pub bag_gets : (x y : Handle) → let t = leads (opening_of d.seat.me.0.shape) before in
+        (after t d.seat.me.0.view.name e).hands ≡ held d.seat.me.0.view.name x ∷ t.hands
+        → by_block (blocks_of (after t d.seat.me.0.view.name e)) x ≡ y → shown (known w) w.view.name ≡ y ∷ bag_of (desk_now d)
+    bag_gets x y hands is =
+        let v = d.seat.me.0 in let z = opening_of v.shape in let n = v.view.name in let f = seen_as (leads z (entry n e ∷ before)) in
+        let s = same_kept z a.between v.view.seen n a.quiet in
+        subst (λ (u : Sight V). shown (known u) u.view.name ≡ y ∷ shown (known v) n) (sym a.now)
+        (ap (λ (l : List Held). map f (filter (λ (q : Held). q.desk == n) l)) hands
+        ∙ (ap (map f) (part_mine (λ (q : Held). q.desk) n (held n x) (leads z before).hands refl)
+        ∙ (λ i. is i ∷ (ap (map f) s.in_bag
+        ∙ shown_later z (entry n e ∷ a.between) v.view.seen n h.legal (bag (known v) n) (λ q r. r)) i)))
+
+    pub bag_loses : (k : Kind) (o : ℕ) (p : Option Place) (b : ℕ) → Holding d.seat.me.0 k o p b
+        → let t = leads (opening_of d.seat.me.0.shape) before in
+        (after t d.seat.me.0.view.name e).hands ≡ without same_held (held d.seat.me.0.view.name (handle k (Some o) p)) t.hands
+        → shown (known w) w.view.name ≡ without same_handle (handle k (Some b) p) (bag_of (desk_now d))
+    bag_loses k o p b holds hands =
+        let v = d.seat.me.0 in let z = opening_of v.shape in let n = v.view.name in let f = seen_as (leads z (entry n e ∷ before)) in
+        let x = held n (handle k (Some o) p) in
+        let s = same_kept z a.between v.view.seen n a.quiet in
+        subst (λ (u : Sight V). shown (known u) u.view.name ≡ without same_handle (handle k (Some b) p) (shown (known v) n)) (sym a.now)
+        (ap (λ (l : List Held). map f (filter (λ (q : Held). q.desk == n) l)) hands
+        ∙ (ap (map f) (part_without_mine (λ (q : Held). q.desk) n same_held held_true x (leads z before).hands refl
+        ∙ ap (without same_held x) s.in_bag)
+        ∙ (shown_later z (entry n e ∷ a.between) v.view.seen n h.legal (without same_held x (bag (known v) n))
+        (λ q r. has_before same_held held_true held_self q x (bag (known v) n) r)
+        ∙ (map_without (seen_as (known v)) same_held same_handle x (bag (known v) n) (alone_there z v.view.seen n k o p h.legal holds.has)
+        ∙ ap (λ (c : ℕ). without same_handle (handle k (Some c) p) (shown (known v) n)) holds.there))))
+
+    module _ (id : TableId) (m : ℕ) where
+      -- an object that ends in the desk's hands, which the event spares
+      pub ends_still : (b : ℕ) (x : V) (y : DeskNow V) → desk_now d ≡ y
+          → ((((leads (opening_of d.seat.me.0.shape) before).object ((leads (opening_of d.seat.me.0.shape) before).latest b)).phase
+          ≡ ending d.seat.me.0.view.name)
+          → Spares (leads (opening_of d.seat.me.0.shape) before) (value (opening_of d.seat.me.0.shape) before) d.seat.me.0.view.name e b)
+          → IsEnding y b x → IsEnding (now_of id w m) b x
+      ends_still b x y is own ends =
+          let v = d.seat.me.0 in let z = opening_of v.shape in let n = v.view.name in
+          let was = subst (λ (q : DeskNow V). IsEnding q b x) (sym is) ends in
+          let t = still_ends z a.between v.view.seen b n legal_now.0 a.quiet was.phase in
+          let p : ((leads z before).object ((leads z before).latest b)).phase ≡ ending n =
+          ap (λ (o : ℕ). ((leads z before).object o).phase) t.latest ∙ (t.object.phase ∙ was.phase) in
+          let r = own p in
+          subst (λ (u : Sight V). IsEnding (now_of id u m) b x) (sym a.now)
+          record {
+            phase = ap (λ (o : ℕ). ((leads z (entry n e ∷ before)).object o).phase) r.latest ∙ r.phase;
+            kept = ap (value z (entry n e ∷ before)) r.latest ∙ (r.value ∙ (ap (value z before) t.latest ∙ (t.value ∙ was.kept)));
+          }
+
+      pub same_desk : (y : DeskNow V) → desk_now d ≡ y → id ≡ d.seat.table_id → ((s : State) (x : ℕ) → (after s x e).allowance ≡ s.allowance)
+          → IsSameDesk y (now_of id w m)
+      same_desk y is table allowances =
+          let same : IsSameDesk (desk_now d) (now_of id w m) = record {
+            domain = table;
+            shape = ap (λ (u : Sight V). u.shape) a.now;
+            name = ap (λ (u : Sight V). u.view.name) a.now;
+            allowance = allowance_left d.seat.me.0 w e (came d.seat.me.0 w Idle None e a) allowances;
+          } in
+          subst (λ (q : DeskNow V). IsSameDesk q (now_of id w m)) is same
+
+      -- what an event that changes no object and no store leaves
+      pub keeps_quietly : (y : DeskNow V) → desk_now d ≡ y → id ≡ d.seat.table_id → IsQuiet e →
+          ((s : State) (x : ℕ) → (after s x e).stores ≡ s.stores)
+          → ((s : State) (x : ℕ) → (after s x e).allowance ≡ s.allowance) → Keeps y (now_of id w m)
+      keeps_quietly y is table quiet stores allowances =
+          let v = d.seat.me.0 in let z = opening_of v.shape in let n = v.view.name in let c = came v w Idle None e a in
+          let same = same_desk (desk_now d) refl table allowances in
+          let keeps : Keeps (desk_now d) (now_of id w m) = record {
+            domain = same.domain;
+            shape = same.shape;
+            name = same.name;
+            allowance = same.allowance;
+            stock = ap length (stock_left v w e c stores);
+            endings = λ b x ends. ends_still b x (desk_now d) refl (λ p. quiet_spares (leads z before) (value z before) n e b quiet p) ends;
+          } in
+          subst (λ (q : DeskNow V). Keeps q (now_of id w m)) is keeps
+
+  -- a desk that isn't at its allowance has room for a handle more
+  pub room_left : (d : Inside V) → IsDesk d → d.held ≢ d.allowance → HasRoomFor d.seat.me.0
+  room_left d h ne = omega (arith, h.holding, h.within, h.allowed, ne)
+
+  -- the place of an owner that a desk has is one of four fields
+  pub field_low : (d : Inside V) (e : DeskNow V) (p : Place) → IsDesk d → desk_now d ≡ e → HasHandle e Owner (Some p) p.block.0 → p.field < 4
+  field_low d e p h is has =
+      let v = d.seat.me.0 in let t = holding_in d e Owner (Some p) p.block.0 h is has in
+      ((are_formed (opening_of v.shape) v.view.seen h.legal).0 v.view.name (handle Owner (Some ((known v).latest p.block.0)) (Some p)) t.has).0.2
+
+  -- the place that a new owner gets is a proper one
+  pub points_well : (d : Inside V) (e : DeskNow V) (p q : Option Place) (b : ℕ) → IsDesk d → desk_now d ≡ e → HasHandle e Owner p b → MayPoint p b
+      q → IsPointer q
+  points_well d e p q b h is has may =
+      let v = d.seat.me.0 in let z = opening_of v.shape in let o = (known v).latest b in let t = holding_in d e Owner p b h is has in
+      ⊎_elim
+      (λ (s : q ≡ p). subst IsPointer (sym s) ((are_formed z v.view.seen h.legal).0 v.view.name (handle Owner (Some o) p) t.has).0)
+      (λ (s : (q ≡ place_at b) ⊎ IsPointer q). ⊎_elim (λ (u : q ≡ place_at b). subst IsPointer (sym u)
+      (let inside = subst (InShape z) t.there (names_an_object z v.view.seen h.legal v.view.name Owner (handle Owner (Some o) p)
+      (t.has, refl, refl)).3 in
+      let most = h.limits.blocks in let low = inside.0 in let high = inside.1 in (omega arith, omega arith, omega arith))) (λ u. u) s) may

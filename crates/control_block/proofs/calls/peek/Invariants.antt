@@ -1,0 +1,8 @@
+use Rattle.std.proofs.Common.{None}
+use Rattle.control_word.specs.declared.handle.Kind.TheVariants.{Owner}
+use Rattle.control_block.specs.Plays.{known}
+use Rattle.control_block.proofs.calls.peek.Given as goal
+
+abbrev pub ghosts-peek : goal.ghosts-peek
+ghosts-peek g a =
+    record { kind = Owner; object = (known a.chair.now.me.0).latest a.block.0; place = None; wanted = None; block = a.block; word = a.word }

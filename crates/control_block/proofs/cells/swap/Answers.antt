@@ -1,0 +1,32 @@
+use Rattle.std.proofs.Common.{◌∙◌, sym, subst, ap}
+use Rattle.atomic_table.specs.Table.{Allows, step}
+use mathlib.Core.Option.{none}
+use Rattle.control_word.specs.Events.{InHand}
+use Rattle.control_word.specs.declared.event.Cell.{Cell}
+use Rattle.control_word.specs.declared.event.Event.TheVariants.{Swap}
+use Rattle.control_block.specs.CellPlays.{IsCellAt, kind_in, swapped}
+use Rattle.control_block.specs.Plays.{known}
+use Rattle.control_block.specs.Rule.{Ruled}
+use Rattle.control_block.proofs.kept.Swap.{allows_swap}
+use Rattle.control_block.proofs.cells.swap.Goals as goal
+
+pub swap-requires : goal.swap-requires
+swap-requires g c =
+    let r = c.requires in let board = c.args.board.now in let chair = c.args.chair.now in let a = g.A.Aimed in let slots = board.table_id.slots in
+    let i = c.args.word in let n = c.pack.result in let me = chair.me in (
+      r.board,
+      r.word,
+      subst (λ (y : Cell). Allows (Ruled board.key) slots chair.id me i (λ _. n) (swapped y (λ h. Swap y a.new h) (step slots i n 0 none) me)) (sym r.free.1)
+          (allows_swap board.key slots chair.id i n r.free.0 a.new c.args.new me r.owes (subst (λ y. IsCellAt me.0 y i) r.free.1 r.cell) r.new.2 r.new.1
+          (subst (λ y. InHand (known me.0) me.0.view.name (kind_in me.0.shape y) a.new) r.free.1 r.hand) r.room c.pack.ensures),
+    )
+
+pub unpack-requires : goal.unpack-requires
+unpack-requires g c = c.swap.ensures.2.0
+
+pub returns-clause-chair : goal.returns-clause-chair
+returns-clause-chair g c =
+    let t = c.swap.ensures in let u = c.unpack.ensures in (t.0, t.1, (t.2.1 c.unpack.result u.valid (sym u.bits)).1 ∙ c.requires.owes.none)
+
+pub returns-clause-gave : goal.returns-clause-gave
+returns-clause-gave g c = let t = c.swap.ensures in let u = c.unpack.ensures in (t.2.1 c.unpack.result u.valid (sym u.bits)).0

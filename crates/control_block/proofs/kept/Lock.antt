@@ -1,0 +1,96 @@
+-- Lock: the look for an owner and the compare-exchange are allowed.
+use Rattle.std.proofs.Common.{◌≡◌, ◌≢◌, ◌==◌, ℕ, suc, ◌+◌, ◌*◌, ◌/◌, ◌++◌, ◌%◌, ◌<◌, not, true, false, Bool, ◌∷◌, get_or, set, map, Option, None, refl, sym, ap, subst}
+use Rattle.std.proofs.Common.{◌∙◌, ⊎_elim, arith}
+use Rattle.std.proofs.lemmas.Bool.{cases_eq}
+use Rattle.atomic_table.specs.Table.{Allows, keeps, step}
+use mathlib.Core.Option.{none}
+use prog.Atomic.{either}
+use Rattle.control_word.proofs.history.Legal.{held_busy, sound}
+use Rattle.control_word.proofs.steps.Lock as law
+use Rattle.control_word.proofs.steps.Standing.{has_headroom}
+use Rattle.control_word.specs.Handles.{weak_of}
+use Rattle.control_word.specs.Histories.{IsLegal, entry, leads}
+use Rattle.control_word.specs.Layout.{spot}
+use Rattle.control_word.specs.Packing.{number_of}
+use Rattle.control_word.specs.Views.{Stands, sees_as}
+use Rattle.control_word.specs.declared.event.Event.{Event}
+use Rattle.control_word.specs.declared.event.Event.TheVariants.{Lock}
+use Rattle.control_word.specs.declared.handle.Kind.TheVariants.{Owner, Weak}
+use Rattle.control_word.specs.declared.place.Place.{Place}
+use Rattle.control_word.specs.declared.shape.Shape.{Shape}
+use Rattle.control_word.specs.declared.view.Pending.TheVariants.{Idle}
+use Rattle.control_block.specs.Rule.{Ruled, opening_of, seeing, view_of}
+use Rattle.control_block.specs.Plays.{At, HasRoomFor, Holding, Rests, tells}
+use Rattle.control_block.specs.LockPlays.{GotOwner, before, earlier, locked, sought_owner}
+use Rattle.control_block.specs.declared.board.Sight.{Sight}
+use Rattle.control_block.proofs.Passage.{adds, held_there, point, quiet_next, ready, still_room}
+use Rattle.control_block.proofs.Still.{allows_exchange, unmoved}
+use Rattle.control_block.proofs.kept.Look.{looked}
+
+-- the lower half of a word
+low_part : (n : ℕ) → n ≡ n % 4294967296 + 4294967296 * (n / 4294967296)
+low_part n = omega arith
+
+module _ {V : Type 0} where
+  -- what a lock told is what its step found
+  pub got_owner : (v w : Sight V) (o : ℕ) (p : Option Place) (got : Bool) → tells (Lock (weak_of o p) got) v w → GotOwner o got w
+  got_owner v w o p got a =
+      let seen = ap (λ (u : Sight V). u.view.seen) a.now in let shape = ap (λ (u : Sight V). u.shape) a.now in
+      subst (λ h. got ≡ not (Rattle.control_word.specs.State.count (leads (opening_of w.shape) (earlier h)) o == 0)) (sym seen)
+      (subst (λ k. got ≡ not (Rattle.control_word.specs.State.count (leads (opening_of k) (a.between ++ v.view.seen)) o == 0)) (sym shape)
+      (subst (IsLegal (opening_of v.shape)) seen a.legal).1.asks.1)
+
+  pub allows_seek : (k : Shape) (slots id b o i : ℕ) (p : Option Place) (me : At V) → Rests me → Holding me.0 Weak o p b → i ≡ spot b 0
+      → Allows (Ruled k) slots id me i (λ n. n) (sought_owner o p (step slots i 0 0 none) me)
+  allows_seek k slots id b o i p me rests holds e s r sized at small =
+      let v = me.0 in let z = opening_of k in let n = get_or s.words i 0 in
+      let now = ready k s r id v at rests.awake Idle rests.idle in
+      let mine = held_there k s r id v at rests.awake Weak o p b holds in
+      let same : spot ((leads z r.history).object o).block 0 ≡ i = ap (λ x. spot x 0) mine.1 ∙ sym e in
+      let busy = held_busy z (leads z r.history) v.view.name o Weak p (sound z r.history r.stands.legal) mine.0 in
+      let head = has_headroom (point k s r id v) Idle now Owner o busy in
+      let ev : Event V = Lock (weak_of o p) false in let h = entry v.view.name ev ∷ r.history in
+      ⊎_elim
+      (λ (q : n ≡ 0).
+      let told = (law.locks (point k s r id v) o p now mine.0).0 (ap (λ x. get_or s.words x 0) same ∙ q) in (
+        seeing v Idle None h,
+        keeps,
+        tt,
+        quiet_next k s r id v (set s.words i n) ev Idle at rests.awake rests.empty
+            record { objects = λ t d. refl; latest = λ t d. refl; values = λ t f. refl } (looked z s.words i _ h told),
+        (λ _. (adds k s r id v at rests.awake Idle None ev told.legal, refl), λ m. absurd (m q)),
+      ))
+      (λ (q : n ≢ 0). (
+        v,
+        keeps,
+        tt,
+        unmoved k s id i v r at,
+        (
+          λ m. absurd (q m),
+          λ _. (
+            refl,
+            let room = (head.1 (n % 4294967296) (n / 4294967296) (ap (λ x. get_or s.words x 0) same ∙ low_part n) (omega arith)).0 in omega arith,
+          ),
+        ),
+      )) (cases_eq n 0)
+
+  pub allows_lock : (k : Shape) (slots id b o i found : ℕ) (p : Option Place) (me : At V) → Rests me → Holding me.0 Weak o p b → HasRoomFor me.0
+      → found ≢ 0 → i ≡ spot b 0
+      → Allows (Ruled k) slots id me i (λ n. either (n == found) (suc found) n) (locked o p (step slots i found (suc found) none) me)
+  allows_lock k slots id b o i found p me rests holds more some' e =
+      allows_exchange k slots id i found (suc found) me (locked o p (step slots i found (suc found) none) me) (λ n q. (λ m. absurd (q m), λ _. refl))
+      (λ s r at q.
+      let v = me.0 in let z = opening_of k in let views = map view_of s.views in
+      let now = ready k s r id v at rests.awake Idle rests.idle in
+      let mine = held_there k s r id v at rests.awake Weak o p b holds in
+      let same : spot ((leads z r.history).object o).block 0 ≡ i = ap (λ x. spot x 0) mine.1 ∙ sym e in
+      let ev : Event V = Lock (weak_of o p) true in let h = entry v.view.name ev ∷ r.history in
+      let there : get_or s.words (spot ((leads z r.history).object o).block 0) 0 ≡ found = ap (λ x. get_or s.words x 0) same ∙ q in
+      let told = (law.locks (point k s r id v) o p now mine.0).1 (omega arith) (still_room k s r id v at rests.awake more) in
+      let stands = subst (λ m. Stands z (set s.words i (suc m)) (set views id (sees_as v.view Idle h)) h) q
+      (subst (λ x. Stands z (set s.words x (suc (get_or s.words x 0))) (set views id (sees_as v.view Idle h)) h) same told) in (
+        seeing v Idle None h,
+        quiet_next k s r id v (set s.words i (suc found)) ev Idle at rests.awake rests.empty
+            record { objects = λ t d. refl; latest = λ t d. refl; values = λ t f. refl } stands,
+        (λ _. (adds k s r id v at rests.awake Idle None ev told.legal, refl), λ m. absurd (m refl)),
+      ))

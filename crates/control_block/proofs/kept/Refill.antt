@@ -1,0 +1,76 @@
+-- Refill: the funds that were brought go into the cell, in place of those taken.
+use Rattle.std.proofs.Common.{◌≡◌, ◌≢◌, ℕ, ◌+◌, ◌-◌, ◌*◌, ◌<◌, ◌==◌, false, get_or, set, map, Option, Some, None, refl, sym, ap, subst, ◌∙◌, arith}
+use Rattle.atomic_table.specs.Table as Table
+use Rattle.atomic_table.specs.Table.{Allows, step}
+use mathlib.Core.Option.{none, some}
+use lib.ListN.{get_elem?}
+use prog.Atomic.{either}
+use Rattle.control_word.proofs.history.Legal.{held_busy, sound}
+use Rattle.control_word.proofs.steps.Refill as law
+use Rattle.control_word.proofs.words.Decoding.{cell_shown}
+use Rattle.control_word.proofs.words.Funds.{same_counts}
+use Rattle.control_word.specs.Events.{cell_of}
+use Rattle.control_word.specs.Handles.{handle}
+use Rattle.control_word.specs.Histories.{leads}
+use Rattle.control_word.specs.Layout.{spot}
+use Rattle.control_word.specs.Packing.{IsCellWord, cell_bits}
+use Rattle.control_word.specs.Views.{Stands, sees_as}
+use Rattle.control_word.specs.Words.{block_of, blocks_of, packed, slot}
+use Rattle.control_word.specs.declared.cell.CellWord.{CellWord}
+use Rattle.control_word.specs.declared.event.Cell.{Cell}
+use Rattle.control_word.specs.declared.place.Block.{Block}
+use Rattle.control_word.specs.declared.place.Place.{Place}
+use Rattle.control_word.specs.declared.shape.Shape.{Shape}
+use Rattle.control_word.specs.declared.view.Pending.TheVariants.{Idle}
+use Rattle.control_block.specs.Rule.{Ruled, opening_of, seeing, view_of}
+use Rattle.control_block.specs.Plays.{At}
+use Rattle.control_block.specs.FundPlays.{Owes, owing}
+use Rattle.control_block.specs.CellPlays.{IsCellAt, kind_in, refilled}
+use Rattle.control_block.specs.declared.board.Sight.{Sight}
+use Rattle.control_block.proofs.CellWords.{Decoded, Opened, cell_keeps, decoded, found_is, opened}
+use Rattle.control_block.proofs.Hands.{same_number}
+use Rattle.control_block.proofs.Passage.{moves, point}
+use Rattle.control_block.proofs.Still.{allows_exchange, moved_on}
+use Rattle.control_block.proofs.kept.GiveBack.{owed_there}
+
+module _ {V : Type 0} where
+  module _ (k : Shape) (slots id i found new : ℕ) (c : Cell) (x : CellWord) (o : ℕ) (p : Option Place) (b : Block) (me : At V)
+      (owes : Owes (owing (kind_in me.0.shape c) o p b.0 x.taken 0) me) (cell : IsCellAt me.0 c i) (valid : IsCellWord x)
+      (is_found : found ≡ cell_bits x) (owned : x.owned ≡ Some b) (less : new + 17179869184 * x.taken ≡ found) where
+    refilling : (s : Table.State (Option V) (Sight V)) (r : Ruled k s) (at : get_elem? s.views id ≡ some me.0)
+        (is : Opened k s r id me.0 at owes.awake c i) → Decoded k s r id me.0 at owes.awake c i is → get_or s.words i 0 ≡ found
+        → (q : Option ℕ) → (cell_of (leads (opening_of k) r.history) c).object ≡ q
+        → Ruled k record { words = set s.words i new; homes = s.homes; views = set s.views id (seeing me.0 Idle None r.history) }
+    refilling s r at is d hit None bare =
+        let t = leads (opening_of k) r.history in let same = found_is k s r id me.0 at owes.awake c i is d x valid (hit ∙ is_found) in
+        absurd (none_some (sym (ap (block_of (blocks_of t)) bare) ∙ (sym (ap (λ y. y.owned) same) ∙ owned)))
+      where
+        none_some : None ≡ Some b → ⊥
+        none_some e = cc
+    refilling s r at is d hit (Some q) has =
+        let v = me.0 in let z = opening_of k in let t = leads z r.history in let old = cell_of t c in let kk = kind_in v.shape c in
+        let same = found_is k s r id v at owes.awake c i is d x valid (hit ∙ is_found) in
+        let mine = owed_there k s r id v at owes.awake kk o p (spot b.0 (slot kk)) x.taken 0 owes.pending in
+        let there : b.0 ≡ blocks_of t q = same_number b.0 (blocks_of t q) (sym owned ∙ (ap (λ y. y.owned) same ∙ ap (block_of (blocks_of t)) has)) in
+        let fine = sound z r.history r.stands.legal in
+        let one = (same_counts z t fine kk kk o q (held_busy z t v.view.name o kk p fine mine.0) (cell_keeps k s r id v at owes.awake c i is q has)
+        (sym mine.1 ∙ ap (λ n. spot n (slot kk)) there)).1 in
+        let it : handle kk (Some o) x.place ≡ old = λ j. record { kind = sym d.kind j; object = (ap Some one ∙ sym has) j; place = (same j).place } in
+        let bits : get_or s.words i 0 ≡ packed (blocks_of t) (handle kk (Some o) x.place) + 17179869184 * x.taken =
+        d.bits ∙ (sym (cell_shown (blocks_of t) old d.taken)
+        ∙ (λ j. packed (blocks_of t) (sym it j) + 17179869184 * sym (ap (λ y. y.taken) same) j)) in
+        let told = law.refills (point k s r id v) c kk o x.taken p x.place mine.3 is.open' it (ap (λ y. get_or s.words y 0) is.there ∙ bits) in
+        let stands = subst (λ y. Stands z (set s.words y (get_or s.words y 0 - 17179869184 * x.taken)) (set (map view_of s.views) id (sees_as v.view Idle r.history)) r.history) is.there told in
+        let value : get_or s.words i 0 - 17179869184 * x.taken ≡ new = omega arith in
+        moved_on k s r id v (set s.words i new) Idle at owes.awake owes.empty
+        (subst (λ n. Stands z (set s.words i n) (set (map view_of s.views) id (sees_as v.view Idle r.history)) r.history) value stands)
+
+    pub allows_refill : Allows (Ruled k) slots id me i (λ n. either (n == found) new n) (refilled (step slots i found new none) me)
+    allows_refill =
+        allows_exchange k slots id i found new me (refilled (step slots i found new none) me) (λ n q. (λ m. absurd (q m), λ _. refl))
+        (λ s r at q.
+        let v = me.0 in let is = opened k s r id v at owes.awake c i cell in let d = decoded k s r id v at owes.awake c i is in (
+          seeing v Idle None r.history,
+          refilling s r at is d q _ refl,
+          (λ _. (moves k s r id v at owes.awake Idle None, refl), λ m. absurd (m refl)),
+        ))

@@ -1,0 +1,145 @@
+-- Take: one more fund of a cell's is taken, by a load or by a compare that differs.
+use Rattle.std.proofs.Common.{◌≡◌, ◌≢◌, ◌⊎◌, ℕ, ◌+◌, ◌*◌, ◌<◌, ◌==◌, true, false, Bool, ◌∷◌, get_or, set, map, Option, Some, None, refl, sym, ap, subst, ◌∙◌, inl, inr}
+use Rattle.std.proofs.Common.{⊎_elim, arith}
+use Rattle.std.proofs.lemmas.Bool.{and_parts}
+use Rattle.atomic_table.specs.Table as Table
+use Rattle.atomic_table.specs.Table.{Allows, step}
+use mathlib.Core.Option.{none, some}
+use lib.ListN.{get_elem?}
+use prog.Atomic.{either}
+use Rattle.control_word.proofs.packing.Cells.{block_fits, field_fits, owned_fits}
+use Rattle.control_word.proofs.lists.Tallies.{same_number_true, same_place_true}
+use Rattle.control_word.proofs.steps.Take as law
+use Rattle.control_word.specs.Events.{InHand, cell_of}
+use Rattle.control_word.specs.Handles.{equivalent, handle, same_number, same_place}
+use Rattle.control_word.specs.Histories.{entry, leads}
+use Rattle.control_word.specs.Packing.{IsCellWord, cell_bits}
+use Rattle.control_word.specs.Steps.{Adds, cell_word}
+use Rattle.control_word.specs.Views.{Stands, sees_as}
+use Rattle.control_word.specs.Words.{block_of, blocks_of, counts_at, shown}
+use Rattle.control_word.specs.declared.cell.CellWord.{CellWord}
+use Rattle.control_word.specs.declared.event.Cell.{Cell}
+use Rattle.control_word.specs.declared.event.Event.{Event}
+use Rattle.control_word.specs.declared.event.Event.TheVariants.{Compare, Load}
+use Rattle.control_word.specs.declared.handle.Handle.{Handle}
+use Rattle.control_word.specs.declared.place.Place.{Place}
+use Rattle.control_word.specs.declared.shape.Shape.{Shape}
+use Rattle.control_word.specs.declared.view.Pending.{Pending}
+use Rattle.control_word.specs.declared.view.Pending.TheVariants.{Idle, Paying}
+use Rattle.control_block.specs.Rule.{Ruled, opening_of, seeing, view_of}
+use Rattle.control_block.specs.Plays.{At, HasRoomFor, Rests, known}
+use Rattle.control_block.specs.CellPlays.{IsCellAt, IsWordOf, Took, kind_in, took}
+use Rattle.control_block.specs.declared.board.Sight.{Sight}
+use Rattle.control_block.proofs.CellWords.{Decoded, Opened, decoded, found_is, one_cell, opened}
+use Rattle.control_block.proofs.Hands.{hand_block, hand_there}
+use Rattle.control_block.proofs.Passage.{IsQuiet, adds, point, quiet_next, ready, still_room}
+use Rattle.control_block.proofs.Still.{allows_exchange}
+
+-- of a word that shows less than 256 taken a fund is left
+left_over : (x : CellWord) → IsCellWord x → x.taken < 256 → cell_bits x < 4398046511104
+left_over x h lt =
+    let o = owned_fits x.owned h.owned in let b = block_fits x.place h.place in let f = field_fits x.place h.place in omega arith
+
+-- handles that are not of one object and one place are not equivalent
+pub not_equivalent : (x y : Handle) → (x.object ≡ y.object → x.place ≡ y.place → ⊥) → false ≡ equivalent x y
+not_equivalent x y apart = go (equivalent x y) refl
+  where
+    go : (b : Bool) → equivalent x y ≡ b → false ≡ b
+    go false e = refl
+    go true e =
+        let t = and_parts (same_number x.object y.object) (same_place x.place y.place) e in
+        absurd (apart (same_number_true x.object y.object t.0) (same_place_true x.place y.place t.1))
+
+module _ {V : Type 0} where
+  module _ (k : Shape) (slots id i found : ℕ) (c : Cell) (x : CellWord) (e : Handle → Event V) (me : At V) (rests : Rests me)
+      (cell : IsCellAt me.0 c i) (valid : IsCellWord x) (is_found : found ≡ cell_bits x) (holds : x.owned ≢ None)
+      (quiet : (h : Handle) → IsQuiet (e h))
+      (law : (s : Table.State (Option V) (Sight V)) (r : Ruled k s) (at : get_elem? s.views id ≡ some me.0)
+      (is : Opened k s r id me.0 at rests.awake c i) (o : ℕ) → let t = leads (opening_of k) r.history in let h = handle (kind_in me.0.shape c) (Some o) x.place in
+      h ≡ cell_of t c → get_or s.words i 0 ≡ cell_bits x
+      → Adds (point k s r id me.0) (cell_word (point k s r id me.0) c) (get_or s.words (cell_word (point k s r id me.0) c) 0 + 17179869184) (e h)
+      (Paying (kind_in me.0.shape c) o x.place (counts_at (blocks_of t) (kind_in me.0.shape c) o) 1 1)) where
+    taking : (s : Table.State (Option V) (Sight V)) (r : Ruled k s) (at : get_elem? s.views id ≡ some me.0)
+        (is : Opened k s r id me.0 at rests.awake c i) → Decoded k s r id me.0 at rests.awake c i is → get_or s.words i 0 ≡ found
+        → (q : Option ℕ) → (cell_of (leads (opening_of k) r.history) c).object ≡ q
+        → (w : Sight V) × Ruled k record { words = set s.words i (found + 17179869184); homes = s.homes; views = set s.views id w }
+        × Took e (kind_in me.0.shape c) me.0 x w
+    taking s r at is d q None bare =
+        let t = leads (opening_of k) r.history in let same = found_is k s r id me.0 at rests.awake c i is d x valid (q ∙ is_found) in
+        absurd (holds (ap (λ y. y.owned) same ∙ ap (block_of (blocks_of t)) bare))
+    taking s r at is d q (Some o) has =
+        let v = me.0 in let z = opening_of k in let t = leads z r.history in let old = cell_of t c in let kk = kind_in v.shape c in
+        let same = found_is k s r id v at rests.awake c i is d x valid (q ∙ is_found) in
+        let h = handle kk (Some o) x.place in
+        let it : h ≡ old = λ j. record { kind = sym d.kind j; object = sym has j; place = (same j).place } in
+        let p : Pending V = Paying kk o x.place (counts_at (blocks_of t) kk o) 1 1 in let hist = entry v.view.name (e h) ∷ r.history in
+        let told = law s r at is o it (q ∙ is_found) in
+        let stands = subst (λ n. Stands z (set s.words i (n + 17179869184)) (set (map view_of s.views) id (sees_as v.view p hist)) hist) q
+        (subst (λ y. Stands z (set s.words y (get_or s.words y 0 + 17179869184)) (set (map view_of s.views) id (sees_as v.view p hist)) hist) is.there told) in (
+          seeing v p None hist,
+          quiet_next k s r id v (set s.words i (found + 17179869184)) (e h) p at rests.awake rests.empty (quiet h) stands,
+          record {
+            object = o;
+            block = record { 0 = blocks_of t o };
+            owned = ap (λ y. y.owned) same ∙ ap (block_of (blocks_of t)) has;
+            there = ap (λ y. ((leads (opening_of y) hist).object o).block) (r.shapes id v at rests.awake)
+                ∙ ap (λ f. (f o).block) ((quiet h).objects t v.view.name);
+            event = adds k s r id v at rests.awake p None (e h) told.legal;
+          },
+        )
+
+    pub allows_take : Allows (Ruled k) slots id me i (λ n. either (n == found) (found + 17179869184) n) (took c e (step slots i found (found + 17179869184) none) me)
+    allows_take =
+        allows_exchange k slots id i found (found + 17179869184) me (took c e (step slots i found (found + 17179869184) none) me)
+        (λ n q. (λ m. absurd (q m), λ _. refl))
+        (λ s r at q.
+        let is = opened k s r id me.0 at rests.awake c i cell in let d = decoded k s r id me.0 at rests.awake c i is in
+        let t = taking s r at is d q _ refl in (
+          t.0,
+          t.1,
+          (
+            λ _ y well bits. (subst (λ y. Took e (kind_in me.0.shape c) me.0 y t.0) (one_cell x y valid well (sym is_found ∙ bits)) t.2, refl),
+            λ m. absurd (m refl),
+          ),
+        ))
+
+  pub allows_load : (k : Shape) (slots id i found : ℕ) (c : Cell) (x : CellWord) (me : At V) → Rests me → IsCellAt me.0 c i → IsCellWord x → found ≡ cell_bits x
+      → x.owned ≢ None → x.taken < 256 → HasRoomFor me.0
+      → Allows (Ruled k) slots id me i (λ n. either (n == found) (found + 17179869184) n)
+      (took c (λ h. Load c h) (step slots i found (found + 17179869184) none) me)
+  allows_load k slots id i found c x me rests cell valid is_found holds left more =
+      allows_take k slots id i found c x (λ h. Load c h) me rests cell valid is_found holds
+      (λ h. record { objects = λ s d. refl; latest = λ s d. refl; values = λ s f. refl })
+      (λ s r at is o same bits.
+      let low = subst (λ y. get_or s.words y 0 < 4398046511104) (sym is.there) (subst (λ n. n < 4398046511104) (sym bits) (left_over x valid left)) in
+      (law.takes (point k s r id me.0) c (kind_in me.0.shape c) o x.place (ready k s r id me.0 at rests.awake Idle rests.idle) same
+      (still_room k s r id me.0 at rests.awake more) low).0 is.open')
+
+  pub allows_differ : (k : Shape) (slots id i found : ℕ) (c : Cell) (expected new : Handle) (weak' : Bool) (x : CellWord) (me : At V) → Rests me
+      → IsCellAt me.0 c i → IsCellWord x → found ≡ cell_bits x → x.owned ≢ None → x.taken < 256 → HasRoomFor me.0
+      → InHand (known me.0) me.0.view.name (kind_in me.0.shape c) expected → InHand (known me.0) me.0.view.name (kind_in me.0.shape c) new
+      → (IsWordOf me.0 expected x → ⊥) ⊎ (weak' ≡ true)
+      → Allows (Ruled k) slots id me i (λ n. either (n == found) (found + 17179869184) n)
+      (took c (λ h. Compare c expected new h false weak') (step slots i found (found + 17179869184) none) me)
+  allows_differ k slots id i found c expected new weak' x me rests cell valid is_found holds left more he hn why =
+      allows_take k slots id i found c x (λ h. Compare c expected new h false weak') me rests cell valid is_found holds
+      (λ h. record { objects = λ s d. refl; latest = λ s d. refl; values = λ s f. refl })
+      (λ s r at is o same bits.
+      let v = me.0 in let t = leads (opening_of k) r.history in let kk = kind_in v.shape c in let h = handle kk (Some o) x.place in
+      let low = subst (λ y. get_or s.words y 0 < 4398046511104) (sym is.there) (subst (λ n. n < 4398046511104) (sym bits) (left_over x valid left)) in
+      let shows = found_is k s r id v at rests.awake c i is (decoded k s r id v at rests.awake c i is) x valid bits in
+      let other : (false ≡ equivalent h expected) ⊎ (weak' ≡ true) =
+      ⊎_elim (λ n. inl (not_equivalent h expected (λ e p. n (λ j. record {
+        owned = (ap (λ y. y.owned) shows ∙ (ap (λ (y : Handle). block_of (blocks_of t) y.object) (sym same) ∙ (ap (block_of (blocks_of t)) e
+            ∙ sym (hand_block k s r id v at rests.awake kk expected he)))) j;
+        place = p j;
+        taken = x.taken;
+      })))) inr why in
+      (law.takes (point k s r id v) c kk o x.place (ready k s r id v at rests.awake Idle rests.idle) same
+      (still_room k s r id v at rests.awake more) low).1 expected new weak' (
+        is.open',
+        hand_there k s r id v at rests.awake kk expected he _ is.kind,
+        hand_there k s r id v at rests.awake kk new hn _ is.kind,
+        same,
+        ⊎_elim inl (λ w. inr (w, refl)) other,
+      ))

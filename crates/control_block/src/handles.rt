@@ -1,0 +1,31 @@
+//! Handles as values. Where they lie a desk's history knows them by their blocks: in a desk's bag what is held in a
+//! block is on the object last made in it.
+use control_word::handle::Kind;
+use control_word::{Block, Place};
+
+/// A shared pointer: what it owns, by its block, and its place ([util.smartptr.shared]). It must be spent by a call on
+/// its desk.
+pub struct Shared {
+    pub(crate) block: Option<Block>,
+    pub(crate) place: Option<Place>,
+}
+
+/// A weak pointer ([util.smartptr.weak]). It must be spent by a call on its desk.
+pub struct Weak {
+    pub(crate) block: Option<Block>,
+    pub(crate) place: Option<Place>,
+}
+
+/// An owner or a weak handle.
+pub enum Held {
+    Owner(Shared),
+    Weak(Weak),
+}
+
+/// A handle that isn't empty, as its desk's bag shows it: what the calls of control blocks go by.
+#[derive(Clone, Copy, Drop)]
+pub struct Pointer {
+    pub kind: Kind,
+    pub block: Block,
+    pub place: Option<Place>,
+}

@@ -1,0 +1,36 @@
+//! Shared pointers put together and taken apart, for the crates of calls.
+ghost use Rattle.std.specs.Prelude.{◌≡◌};
+
+use crate::handles::Shared;
+use control_word::{Block, Place};
+
+impl Shared {
+    /// The owner with these parts (own). For the crates of calls: only a call that got it on a desk makes one.
+    pub fn of_parts(block: Option<Block>, place: Option<Place>) -> Self
+        ensures { (result.block ≡ block) × (result.place ≡ place) }
+    {
+        Self { block, place }
+    }
+
+    /// Its parts (own). For the crates of calls: only a call that spends it takes it apart.
+    pub fn into_parts(self) -> (Option<Block>, Option<Place>)
+        ensures { result ≡ (self.block, self.place) }
+    {
+        let Self { block, place } = self;
+        (block, place)
+    }
+
+    /// The block of what it owns (own).
+    pub fn block(&self) -> Option<Block>
+        ensures { result ≡ self.now.block }
+    {
+        self.block
+    }
+
+    /// What it points at ([util.smartptr.shared.obs]).
+    pub fn place(&self) -> Option<Place>
+        ensures { result ≡ self.now.place }
+    {
+        self.place
+    }
+}

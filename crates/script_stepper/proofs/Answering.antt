@@ -1,0 +1,83 @@
+-- One script and one list have one answer.
+use Rattle.std.proofs.Common.{◌≡◌, ℕ, List, inl, inr, length, Option, Result, Ok, Err, refl, sym, subst, ap, ◌∙◌}
+use Rattle.std.specs.Prelude.{IfErr, IfOk, String, string_bytes}
+use Rattle.std.specs.Io.KnownBytes.{Appends}
+use Rattle.script_text.specs.declared.fault.Cause.{Cause}
+use Rattle.script_text.specs.declared.fault.Fault.{Fault}
+use Rattle.script_text.specs.declared.fault.Fault.TheVariants.{Memory, Syntax, BadTurn, Output, Input}
+use Rattle.script_text.specs.Drafts.{Section}
+use Rattle.script_text.specs.Grammar.{Faulty, IsUnlessMemory, Reads}
+use Rattle.script_text.proofs.OneReading.{faulty_answer, reads_answer}
+use Rattle.script_stepper.specs.Runs.{Delivers, IsRun, Tells, Writes, run_text, text_in}
+use Rattle.script_stepper.specs.Sinks.{AppendsBeginning}
+use Rattle.script_stepper.specs.TurnLists.{list_at}
+
+same_script : (bytes : List ℕ) (s t : List Section) → Reads bytes s → Reads bytes t → s ≡ t
+same_script bytes s t h k = elim (reads_answer (Ok s) bytes t h k) [ inl e ↦ cc | inr e ↦ absurd cc ]
+
+not_both : (bytes : List ℕ) (s : List Section) (line : ℕ) (cause : Cause) → Reads bytes s → Faulty bytes line cause → ⊥
+not_both bytes s line cause h f = elim (faulty_answer (Ok s) bytes line cause h f) [ inl e ↦ cc | inr e ↦ cc ]
+
+same_fault : (bytes : List ℕ) (l line : ℕ) (c cause : Cause) → Faulty bytes l c → Faulty bytes line cause → Syntax l c ≡ Syntax line cause
+same_fault bytes l line c cause h f = elim (faulty_answer (Err (Syntax l c)) bytes line cause h f) [ inl e ↦ cc | inr e ↦ absurd cc ]
+
+pub steps_syntax : {A : Type 0} (bytes list : List ℕ) (r : Result A Fault) (old new : Option (List ℕ)) (line : ℕ) (cause : Cause)
+    → Delivers (Tells bytes list) r old new
+    → Faulty bytes line cause → IsUnlessMemory r (Err (Syntax line cause))
+steps_syntax bytes list (Ok x) old new line cause h f = absurd (not_both bytes h.1.script line cause h.1.reads f)
+steps_syntax bytes list (Err Memory) old new line cause h f = inr refl
+steps_syntax {A} bytes list (Err (Syntax l c)) old new line cause h f =
+    let wrap : Fault → Result A Fault = λ e. Err e in inl (ap wrap (same_fault bytes l line c cause h.0 f))
+steps_syntax bytes list (Err (BadTurn p)) old new line cause h f = absurd (not_both bytes h.0.script line cause h.0.reads f)
+steps_syntax bytes list (Err Output) old new line cause h f = absurd (not_both bytes h.1.script line cause h.1.reads f)
+steps_syntax bytes list (Err Input) old new line cause h f = absurd h.0
+
+read_list : (bytes list : List ℕ) (s t : List Section) (x y : Result (List ℕ) ℕ) → Reads bytes s → Reads bytes t → list_at (length s) list ≡ x
+    → list_at (length t) list ≡ y → x ≡ y
+read_list bytes list s t x y h k p q = sym p ∙ ap (λ (u : List Section). list_at (length u) list) (same_script bytes s t h k) ∙ q
+
+run_or_fault : (bytes list text : List ℕ) (t : List Section) (position : ℕ) → IsRun bytes list text → Reads bytes t
+    → list_at (length t) list ≡ Err position → ⊥
+run_or_fault bytes list text t position run k e =
+    let both = read_list bytes list run.script t (Ok run.turns) (Err position) run.reads k run.listed e in cc
+
+pub steps_turns : {A : Type 0} (bytes list : List ℕ) (r : Result A Fault) (old new : Option (List ℕ)) (t : List Section) (position : ℕ)
+    → Delivers (Tells bytes list) r old new
+    → Reads bytes t → list_at (length t) list ≡ Err position → IsUnlessMemory r (Err (BadTurn position))
+steps_turns bytes list (Ok x) old new t position h k e = absurd (run_or_fault bytes list h.0 t position h.1 k e)
+steps_turns bytes list (Err Memory) old new t position h k e = inr refl
+steps_turns bytes list (Err (Syntax l c)) old new t position h k e = absurd (not_both bytes t l c k h.0)
+steps_turns {A} bytes list (Err (BadTurn p)) old new t position h k e =
+    let both = read_list bytes list h.0.script t (Err p) (Err position) h.0.reads k h.0.faulty e in
+    let same : p ≡ position = cc in
+    let wrap : ℕ → Result A Fault = λ n. Err (BadTurn n) in
+    inl (ap wrap same)
+steps_turns bytes list (Err Output) old new t position h k e = absurd (run_or_fault bytes list h.0 t position h.1 k e)
+steps_turns bytes list (Err Input) old new t position h k e = absurd h.0
+
+same_text : (bytes list text : List ℕ) (t : List Section) (turns : List ℕ) → IsRun bytes list text → Reads bytes t
+    → list_at (length t) list ≡ Ok turns → text ≡ run_text t turns
+same_text bytes list text t turns run k e =
+    let both = read_list bytes list run.script t (Ok run.turns) (Ok turns) run.reads k run.listed e in
+    let same : run.turns ≡ turns = cc in
+    run.says ∙ ap (λ (s : List Section). run_text s run.turns) (same_script bytes run.script t run.reads k) ∙ ap (run_text t) same
+
+pub steps_runs : {A : Type 0} (bytes list : List ℕ) (r : Result A Fault) (old new : Option (List ℕ)) (t : List Section) (turns : List ℕ)
+    → Delivers (Tells bytes list) r old new
+    → Reads bytes t → list_at (length t) list ≡ Ok turns → Writes (run_text t turns) r old new
+steps_runs bytes list (Ok x) old new t turns h k e = subst (Appends old new) (same_text bytes list h.0 t turns h.1 k e) h.2
+steps_runs bytes list (Err Memory) old new t turns h k e = h
+steps_runs bytes list (Err (Syntax l c)) old new t turns h k e = not_both bytes t l c k h.0
+steps_runs bytes list (Err (BadTurn p)) old new t turns h k e =
+    let both = read_list bytes list h.0.script t (Err p) (Ok turns) h.0.reads k h.0.faulty e in cc
+steps_runs bytes list (Err Output) old new t turns h k e = subst (AppendsBeginning old new) (same_text bytes list h.0 t turns h.1 k e) h.2
+steps_runs bytes list (Err Input) old new t turns h k e = h.0
+
+-- the text of a run, as far as there is memory
+pub tells_run : {A : Type 0} (bytes list : List ℕ) (s : List Section) (turns given : List ℕ) (threads : ℕ) (r : Result (String A) Fault)
+    → Reads bytes s → threads ≡ length s
+    → given ≡ turns → list_at threads list ≡ Ok turns → IfOk r (λ text. string_bytes text ≡ run_text s given) → IfErr r
+    (λ fault. fault ≡ Memory) → Tells bytes list (text_in r)
+tells_run bytes list s turns given threads (Ok text) h n g e ok err =
+    record { script = s; turns = turns; reads = h; listed = ap (λ (k : ℕ). list_at k list) (sym n) ∙ e; says = ok ∙ ap (run_text s) g }
+tells_run bytes list s turns given threads (Err f) h n g e ok err = subst (λ (x : Fault). Tells bytes list (Err x)) (sym err) tt

@@ -1,0 +1,25 @@
+-- Lines that are put one after the other.
+use Rattle.std.proofs.Common.{◌≡◌, ℕ, ◌+◌, ◌<◌, List, [], ◌∷◌, ◌++◌, length, take, get_or, ap, sym, append_assoc, ◌∙◌}
+use Rattle.std.specs.List.{flat_map}
+use Rattle.std.proofs.lemmas.Grind.{flat_map-append}
+use Rattle.std.proofs.lemmas.List.{append-nil, take_more}
+use Rattle.std.proofs.lemmas.List.Concat.{flat_map-cons}
+use Rattle.script_text.specs.Grammar.{ended}
+use Rattle.script_text.proofs.PrintLemmas.{ended-append}
+
+pub flat_map-one : {A B : Type 0} (f : A → List B) (x : A) → flat_map f (x ∷ []) ≡ f x
+flat_map-one f x = flat_map-cons f x [] ∙ append-nil (f x)
+
+-- one element more
+pub lines_more : {A : Type 0} (f : A → List (List ℕ)) (xs : List A) (i : ℕ) (x : A) → i < length xs
+    → ended (flat_map f (take (i + 1) xs)) ≡ ended (flat_map f (take i xs)) ++ ended (f (get_or xs i x))
+lines_more {A} f xs i x lt =
+    ap (λ (ys : List A). ended (flat_map f ys)) (take_more xs i x lt)
+    ∙ ap ended (flat_map-append f (take i xs) (get_or xs i x ∷ []))
+    ∙ ended-append (flat_map f (take i xs)) (flat_map f (get_or xs i x ∷ []))
+    ∙ ap (λ (t : List (List ℕ)). ended (flat_map f (take i xs)) ++ ended t) (flat_map-one f (get_or xs i x))
+
+-- lines after lines
+pub lines_then : (xs ys : List (List ℕ)) (a b c : List ℕ) → b ≡ a ++ ended xs → c ≡ b ++ ended ys → c ≡ a ++ ended (xs ++ ys)
+lines_then xs ys a b c p q =
+    q ∙ ap (λ (t : List ℕ). t ++ ended ys) p ∙ append_assoc a (ended xs) (ended ys) ∙ ap (λ (t : List ℕ). a ++ t) (sym (ended-append xs ys))

@@ -1,0 +1,17 @@
+-- All threads at their ends.
+use Rattle.std.proofs.Common.{◌≡◌, []}
+use Rattle.std.proofs.lemmas.List.Elements.{All-from_get_or}
+use Rattle.step_core.specs.declared.half.Half.{Half}
+use Rattle.step_core.specs.declared.half.Half.TheVariants.{Rest}
+use Rattle.step_core.specs.Courses.{Walk}
+use Rattle.step_core.specs.Scenes.{nowhere}
+use Rattle.step_core.specs.Totals.{IsAtEnd}
+use Rattle.step_core.specs.Worlds.{Sight}
+use Rattle.script_stepper.specs.Running.{AllOver, AllRest}
+
+pub at_end : (u : Sight) → AllRest u → AllOver u → IsAtEnd u
+at_end u rests over =
+    record {
+      walks = All-from_get_or (λ (w : Walk). w.todo ≡ []) u.walks nowhere (λ i lt. over i);
+      halves = All-from_get_or (λ (h : Half). h ≡ Rest) u.halves Rest (λ i lt. rests i);
+    }

@@ -1,0 +1,52 @@
+-- The text of a whole run.
+use Rattle.std.proofs.Common.{◌≡◌, ℕ, zero, suc, List, [], ◌∷◌, ◌++◌, get_or, length, map, refl, subst, sym, ap, ◌∙◌}
+use Rattle.std.specs.List.{flat_map}
+use Rattle.script_text.specs.Grammar.{ended}
+use Rattle.script_text.proofs.PrintLemmas.{ended-append}
+use Rattle.control_word.specs.declared.shape.Shape.{Shape}
+use Rattle.script_text.specs.Drafts.{Section}
+use Rattle.script_text.specs.Scripts.{program_in}
+use Rattle.step_core.specs.declared.half.Half.{Half}
+use Rattle.step_core.specs.declared.half.Half.TheVariants.{Rest}
+use Rattle.step_core.specs.Programs.{Part}
+use Rattle.step_core.specs.Starts.{first_sight}
+use Rattle.step_core.specs.declared.extent.Extent.{Extent}
+use Rattle.step_core.specs.Scenes.{Scene}
+use Rattle.step_core.specs.Worlds.{Sight, scene}
+use Rattle.script_stepper.specs.Beginnings.{script_shape}
+use Rattle.script_stepper.specs.Runs.{run_text}
+use Rattle.script_stepper.specs.Lines.{closing_lines, item_lines, shown}
+use Rattle.script_stepper.specs.Running.{AllRest, HasRun}
+use Rattle.script_stepper.specs.Traces.{outcome, schedule, trace}
+use Rattle.script_stepper.proofs.TraceLemmas.{plays_extent}
+
+-- a run leaves the table as large as it was
+pub same_blocks : (turns : List ℕ) (u v : Sight) (a b : List ℕ) → HasRun turns u v a b → v.story.extent.shape.blocks ≡ u.story.extent.shape.blocks
+same_blocks turns u v a b h =
+    ap (λ (c : Scene). c.extent.shape.blocks) h.scene_is ∙ ap (λ (x : Extent). x.shape.blocks) (plays_extent turns (scene u))
+
+pub shown_text : (turns : List ℕ) (u v : Sight) (a b c : List ℕ) → a ≡ [] → HasRun (schedule turns (scene u)) u v a b
+    → c ≡ b ++ ended (closing_lines (scene v)) → c ≡ ended (shown turns (scene u))
+shown_text turns u v a b c none h close =
+    let told_text = ended (flat_map item_lines (trace turns (scene u))) in
+    close
+    ∙ ap (λ (t : List ℕ). t ++ ended (closing_lines (scene v))) (h.text_is ∙ ap (λ (t : List ℕ). t ++ told_text) none)
+    ∙ ap (λ (d : Scene). told_text ++ ended (closing_lines d)) h.scene_is
+    ∙ sym (ended-append (flat_map item_lines (trace turns (scene u))) (closing_lines (outcome turns (scene u))))
+
+all_rest : (parts : List Part) (d : ℕ) → get_or (map {B = Half} (λ (part : Part). Rest) parts) d Rest ≡ Rest
+all_rest [] d = refl
+all_rest (part ∷ parts) zero = refl
+all_rest (part ∷ parts) (suc d) = all_rest parts d
+
+-- a world begins at rest
+pub first_rests : (shape : Shape) (parts : List Part) (u : Sight) → u ≡ first_sight shape parts → AllRest u
+first_rests shape parts u e = subst AllRest (sym e) (all_rest parts)
+
+pub run_is : (script : List Section) (turns text : List ℕ) (threads : ℕ) (shape : Shape) (u : Sight) → threads ≡ length script
+    → shape ≡ script_shape threads
+    → u ≡ first_sight shape (program_in script) → text ≡ ended (shown turns (scene u)) → text ≡ run_text script turns
+run_is script turns text threads shape u n s e h =
+    h
+    ∙ ap (λ (v : Sight). ended (shown turns (scene v))) e
+    ∙ ap (λ (x : Shape). ended (shown turns (scene (first_sight x (program_in script))))) (s ∙ ap script_shape n)

@@ -1,0 +1,70 @@
+-- What a run of a script writes. All of it is own.
+use Rattle.std.specs.Prelude.{◌≡◌, ℕ, Bool, true, false, List, length, Option, Result, Ok, Err, String, string_bytes}
+use Rattle.std.specs.Io.KnownBytes.{Appends}
+use Rattle.script_text.specs.declared.fault.Fault.{Fault}
+use Rattle.script_text.specs.declared.fault.Fault.TheVariants.{Memory, Syntax, BadTurn, Output, Input}
+use Rattle.script_text.specs.Drafts.{Section}
+use Rattle.script_text.specs.Grammar.{Faulty, Reads, ended}
+use Rattle.script_stepper.specs.Beginnings.{script_scene}
+use Rattle.script_stepper.specs.Lines.{shown}
+use Rattle.script_stepper.specs.Sinks.{AppendsBeginning}
+use Rattle.script_stepper.specs.TurnLists.{list_at}
+
+-- whether the output is what failed
+abbrev pub is_output : {A : Type 0} → Result A Fault → Bool
+is_output (Ok x) = false
+is_output (Err Memory) = false
+is_output (Err (Syntax line cause)) = false
+is_output (Err (BadTurn position)) = false
+is_output (Err Output) = true
+is_output (Err Input) = false
+
+-- the text was taken; or nothing, for want of memory; or a beginning of it, where the output failed
+abbrev pub Writes : {A : Type 0} → List ℕ → Result A Fault → Option (List ℕ) → Option (List ℕ) → Type 0
+Writes text (Ok x) old new = Appends old new text
+Writes text (Err Memory) old new = new ≡ old
+Writes text (Err (Syntax line cause)) old new = ⊥
+Writes text (Err (BadTurn position)) old new = ⊥
+Writes text (Err Output) old new = AppendsBeginning old new text
+Writes text (Err Input) old new = ⊥
+
+-- what a script's run with these turns writes
+abbrev pub run_text : List Section → List ℕ → List ℕ
+run_text script turns = ended (shown turns (script_scene script))
+
+-- the bytes read as a script, the list names turns of it, and this is the text of their run
+pub record IsRun (bytes list text : List ℕ) : Type 0 where
+  pub script : List Section
+  pub turns : List ℕ
+  pub reads : Reads bytes script
+  pub listed : list_at (length script) list ≡ Ok turns
+  pub says : text ≡ run_text script turns
+
+-- the bytes read as a script, and the list's number at this position, from 1, is the first that names no thread of it
+pub record IsBadTurn (bytes list : List ℕ) (position : ℕ) : Type 0 where
+  pub script : List Section
+  pub reads : Reads bytes script
+  pub faulty : list_at (length script) list ≡ Err position
+
+-- a text, without where it lies in memory
+abbrev pub text_in : {A : Type 0} → Result (String A) Fault → Result (List ℕ) Fault
+text_in (Ok text) = Ok (string_bytes text)
+text_in (Err fault) = Err fault
+
+-- the text of the run, or the refusal that script and list have; a fault of the script comes first
+abbrev pub Tells : List ℕ → List ℕ → Result (List ℕ) Fault → Type 0
+Tells bytes list (Ok text) = IsRun bytes list text
+Tells bytes list (Err Memory) = Unit {0}
+Tells bytes list (Err (Syntax line cause)) = Faulty bytes line cause
+Tells bytes list (Err (BadTurn position)) = IsBadTurn bytes list position
+Tells bytes list (Err Output) = ⊥
+Tells bytes list (Err Input) = ⊥
+
+-- the text that is to be told was taken, or a beginning of it where the output failed; at any other refusal nothing was
+abbrev pub Delivers : {A : Type 0} → (Result (List ℕ) Fault → Type 0) → Result A Fault → Option (List ℕ) → Option (List ℕ) → Type 0
+Delivers told (Ok x) old new = (text : List ℕ) × told (Ok text) × Appends old new text
+Delivers told (Err Memory) old new = new ≡ old
+Delivers told (Err (Syntax line cause)) old new = told (Err (Syntax line cause)) × (new ≡ old)
+Delivers told (Err (BadTurn position)) old new = told (Err (BadTurn position)) × (new ≡ old)
+Delivers told (Err Output) old new = (text : List ℕ) × told (Ok text) × AppendsBeginning old new text
+Delivers told (Err Input) old new = told (Err Input) × (new ≡ old)

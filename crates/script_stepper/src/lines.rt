@@ -1,0 +1,110 @@
+//! The lines that a run writes, as text (own).
+ghost use Rattle.std.specs.Prelude.{◌≡◌, ◌∷◌, ◌++◌, [], OnOk, string_bytes};
+ghost use Rattle.std.specs.List.{flat_map};
+ghost use Rattle.script_text.specs.Canonical.{AddsLines, number_after};
+ghost use Rattle.script_stepper.specs.Lines.{answer_text, block_text, ended_text, line_start, said_lines};
+ghost use Rattle.script_stepper.specs.Lines.{statement_text, totals_text};
+
+use control_word::Counts;
+use std::alloc::AllocError;
+use std::fmt::Write;
+use step_core::{Answer, Ended, Said};
+
+/// Adds the number of a statement, or `end` at a thread's end.
+fn put_statement(text: &mut String, statement: u32) -> Result<(), AllocError>
+    ensures { OnOk result (string_bytes text.new ≡ string_bytes text.old ++ statement_text statement) }
+{
+    if statement == 0 {
+        text.push_str("end")?;
+    } else {
+        write!(text, "{statement}")?;
+    }
+    Ok(())
+}
+
+/// Adds how each line of a thread begins.
+fn put_start(text: &mut String, thread: u8, statement: u32) -> Result<(), AllocError>
+    ensures { OnOk result (string_bytes text.new ≡ string_bytes text.old ++ line_start thread statement) }
+{
+    write!(text, "{thread}.")?;
+    put_statement(text, statement)?;
+    text.push_str(" ")?;
+    Ok(())
+}
+
+/// Adds an answer, which ends a line.
+fn put_answer(text: &mut String, answer: Answer) -> Result<(), AllocError>
+    ensures { OnOk result (string_bytes text.new ≡ string_bytes text.old ++ answer_text answer ++ 10 ∷ []) }
+{
+    match answer {
+        Answer::Count(owners) => writeln!(text, "count {owners}")?,
+        Answer::Refused(why) => {
+            let number = why.number();
+            writeln!(text, "refused {number}")?;
+        }
+    }
+    Ok(())
+}
+
+/// Adds numbers, each after a space.
+fn put_numbers(text: &mut String, numbers: &[u64; 4]) -> Result<(), AllocError>
+    ensures { OnOk result
+        (string_bytes text.new ≡ string_bytes text.old ++ flat_map number_after numbers.now) }
+{
+    for number in numbers {
+        write!(text, " {number}")?;
+    }
+    Ok(())
+}
+
+/// Adds an object that ended, which ends a line.
+fn put_ended(text: &mut String, ended: Ended) -> Result<(), AllocError>
+    ensures { OnOk result (string_bytes text.new ≡ string_bytes text.old ++ ended_text ended ++ 10 ∷ []) }
+{
+    match ended {
+        Ended::Fields(fields) => {
+            text.push_str("end")?;
+            put_numbers(text, &fields)?;
+            text.push_str("\n")?;
+        }
+        Ended::Null => text.push_str("end null\n")?,
+    }
+    Ok(())
+}
+
+/// Adds the lines of an act of a thread.
+pub(crate) fn put_said(text: &mut String, thread: u8, said: &Said) -> Result<(), AllocError>
+    ensures { OnOk result (AddsLines text.old text.new (said_lines thread said.now)) }
+{
+    if let Some(answer) = said.answer {
+        put_start(text, thread, said.statement)?;
+        put_answer(text, answer)?;
+    }
+    if let Some(ended) = said.ended {
+        put_start(text, thread, said.statement)?;
+        put_ended(text, ended)?;
+    }
+    Ok(())
+}
+
+/// Adds the line of a block that isn't vacant.
+pub(crate) fn put_block(text: &mut String, block: u16, counts: Counts) -> Result<(), AllocError>
+    ensures { OnOk result (AddsLines text.old text.new (block_text block counts ∷ [])) }
+{
+    let Counts { owners, weaks } = counts;
+    write!(text, "block {block}")?;
+    write!(text, " owners {owners}")?;
+    writeln!(text, " weaks {weaks}")?;
+    Ok(())
+}
+
+/// Adds the last line: objects made, ended, and left.
+pub(crate) fn put_totals(text: &mut String, made: u32, ended: u32) -> Result<(), AllocError>
+    ensures { OnOk result (AddsLines text.old text.new (totals_text made ended ∷ [])) }
+{
+    let left = made.saturating_sub(ended);
+    write!(text, "made {made}")?;
+    write!(text, " ended {ended}")?;
+    writeln!(text, " left {left}")?;
+    Ok(())
+}

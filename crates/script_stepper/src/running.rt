@@ -1,0 +1,76 @@
+//! Turns of a world, and the text that tells of them (own).
+ghost use Rattle.std.specs.Prelude.{◌≡◌, ℕ, ◌-◌, ◌≤◌, ◌∷◌, [], All, IfOk, OnOk};
+ghost use Rattle.std.specs.Prelude.{is_some, length, replicate, string_bytes};
+ghost use Rattle.step_core.specs.Scenes.{said, walk_of};
+ghost use Rattle.step_core.specs.Worlds.{scene};
+ghost use Rattle.script_stepper.specs.Running.{AllOver, AllRest, HasRun, IsThread};
+ghost use Rattle.script_stepper.specs.Traces.{schedule};
+
+use crate::lines::put_said;
+use std::alloc::AllocError;
+use step_core::Turned;
+use step_core::world::World;
+
+/// One turn of a thread. Answers whether it had an act; the lines of what that says are added.
+fn take_turn(world: &mut World, thread: u8, text: &mut String) -> Result<bool, AllocError>
+    requires rests { AllRest world.old }
+    requires thread { IsThread world.old thread }
+    ensures run { OnOk result
+        (HasRun (thread ∷ []) world.old world.new (string_bytes text.old) (string_bytes text.new)) }
+    ensures acted { IfOk result (λ acted. acted ≡ is_some (said (thread - 1) (scene world.old))) }
+{
+    match world.turn(thread) {
+        Turned::Acted(said) => {
+            put_said(text, thread, &said)?;
+            Ok(true)
+        }
+        Turned::Waited | Turned::Done => Ok(false),
+    }
+}
+
+/// One turn for each number.
+fn take_turns(world: &mut World, turns: &[u8], text: &mut String) -> Result<(), AllocError>
+    requires rests { AllRest world.old }
+    requires threads { All (IsThread world.old) turns.now }
+    ensures { OnOk result
+        (HasRun turns.now world.old world.new (string_bytes text.old) (string_bytes text.new)) }
+{
+    for thread in turns {
+        take_turn(world, *thread, text)?;
+    }
+    Ok(())
+}
+
+/// Runs a thread alone to its end, for which as many turns are enough as it has tasks.
+fn finish(world: &mut World, thread: u8, text: &mut String) -> Result<(), AllocError>
+    requires rests { AllRest world.old }
+    requires thread { IsThread world.old thread }
+    ensures run { OnOk result ((n : ℕ) → length (walk_of (scene world.old) (thread - 1)).todo ≤ n
+        → HasRun (replicate n thread) world.old world.new (string_bytes text.old) (string_bytes text.new)) }
+    ensures over { OnOk result ((walk_of (scene world.new) (thread - 1)).todo ≡ []) }
+{
+    while take_turn(world, thread, text)? {}
+    Ok(())
+}
+
+/// One turn for each number; then each of the threads runs alone to its end, in number order.
+pub(crate) fn run_turns(
+    world: &mut World,
+    threads: u8,
+    turns: &[u8],
+    text: &mut String,
+) -> Result<(), AllocError>
+    requires rests { AllRest world.old }
+    requires all { threads ≡ length world.old.walks }
+    requires threads { All (IsThread world.old) turns.now }
+    ensures run { OnOk result
+        (HasRun (schedule turns.now (scene world.old)) world.old world.new
+        (string_bytes text.old) (string_bytes text.new)) }
+    ensures over { OnOk result (AllOver world.new) }
+{
+    take_turns(world, turns, text)?;
+    for index in 0..threads {
+        finish(world, index + 1, text)?;
+    }
+    Ok(())
+}

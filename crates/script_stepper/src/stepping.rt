@@ -1,0 +1,139 @@
+//! Scripts from bytes to the text of their run (own).
+ghost use Rattle.std.specs.Prelude.{◌≡◌, ℕ, ◌≤◌, false, List, All, IfOk, IfErr, length, string_bytes};
+ghost use Rattle.script_text.specs.declared.fault.Fault.TheVariants.{BadTurn, Memory, Syntax};
+ghost use Rattle.script_text.specs.declared.fault.Cause.{Cause};
+ghost use Rattle.script_text.specs.Drafts.{Section};
+ghost use Rattle.script_text.specs.Grammar.{Faulty, IsUnlessMemory, Reads, ended};
+ghost use Rattle.script_text.specs.Scripts.{program_in};
+ghost use Rattle.step_core.specs.Worlds.{scene};
+ghost use Rattle.step_core.specs.Starts.{first_sight};
+ghost use Rattle.script_stepper.specs.Beginnings.{script_shape};
+ghost use Rattle.script_stepper.specs.Lines.{shown};
+ghost use Rattle.script_stepper.specs.Running.{AllRest, IsThread};
+ghost use Rattle.script_stepper.specs.Runs.{Delivers, Tells, Writes, is_output, run_text, text_in};
+ghost use Rattle.script_stepper.specs.TurnLists.{list_at};
+
+use crate::closing::put_closing;
+use crate::listing::write_text;
+use crate::running::run_turns;
+use crate::sink::Sink;
+use crate::turns::turns_of;
+use control_word::{Refusal, Shape};
+use script_text::{Fault, Script, parse};
+use std::alloc::{AllocError, Global};
+use step_core::world::World;
+
+/// How many blocks all threads have at most.
+const BLOCKS: u32 = 4_095;
+
+/// The shape of a script's world: each thread has the same number of blocks.
+fn shape_of(threads: u32) -> Shape
+    requires some { 1 ≤ threads }
+    requires few { threads ≤ 16 }
+    ensures { result ≡ script_shape threads }
+{
+    Shape {
+        blocks: BLOCKS / threads * threads,
+        shared_cells: 128,
+        weak_cells: 128,
+        allowance: 1_048_576,
+    }
+}
+
+/// The world in which a script's run begins. It is within the limits, so that only memory may be wanting.
+fn world_of(alloc: Global, script: &Script, shape: Shape) -> Result<World, Fault>
+    requires { shape ≡ script_shape (length script.now) }
+    ensures ok { IfOk result (λ w. w ≡ first_sight shape (program_in script.now)) }
+    ensures memory { IfErr result (λ fault. fault ≡ Memory) }
+{
+    let Ok(program) = script.program(alloc) else {
+        return Err(Fault::Memory);
+    };
+    match World::new(alloc, shape, program) {
+        Ok(world) => Ok(world),
+        Err(refused) => match refused.why {
+            Refusal::Memory => Err(Fault::Memory),
+            _ => unreachable!(),
+        },
+    }
+}
+
+/// Runs a world, and tells of it.
+fn text_of(
+    alloc: Global,
+    world: &mut World,
+    threads: u8,
+    blocks: u16,
+    turns: &[u8],
+) -> Result<String, AllocError>
+    requires rests { AllRest world.old }
+    requires all { threads ≡ length world.old.walks }
+    requires blocks { blocks ≡ world.old.story.extent.shape.blocks }
+    requires threads { All (IsThread world.old) turns.now }
+    ensures { IfOk result (λ text. string_bytes text ≡ ended (shown turns.now (scene world.old))) }
+{
+    let mut text = String::new(alloc);
+    run_turns(world, threads, turns, &mut text)?;
+    put_closing(world, blocks, &mut text)?;
+    Ok(text)
+}
+
+/// The text of a script's run with these turns, each of which names a thread.
+fn run(alloc: Global, script: &Script, turns: &[u8]) -> Result<String, Fault>
+    requires { All (λ thread. (1 ≤ thread) × (thread ≤ length script.now)) turns.now }
+    ensures ok { IfOk result (λ text. string_bytes text ≡ run_text script.now turns.now) }
+    ensures memory { IfErr result (λ fault. fault ≡ Memory) }
+{
+    let threads = script.threads();
+    let shape = shape_of(threads);
+    let mut world = world_of(alloc, script, shape)?;
+    match text_of(alloc, &mut world, threads as u8, shape.blocks as u16, turns) {
+        Ok(text) => Ok(text),
+        Err(_) => Err(Fault::Memory),
+    }
+}
+
+/// The text of the run of a script with a list of turns, or why there is none.
+fn answer(alloc: Global, script: &[u8], turns: &[u8]) -> Result<String, Fault>
+    ensures { Tells script.now turns.now (text_in result) }
+{
+    let script = parse(alloc, script)?;
+    let turns = turns_of(alloc, turns, script.threads() as u8)?;
+    run(alloc, &script, turns.as_slice())
+}
+
+/// Runs a script, and writes the lines of the run (own): one turn for each number of the list `turns`, then each thread
+/// to its end in number order; then the census and the totals.
+///
+/// An answer is `T.S count N` or `T.S refused N`, of thread T at its statement S, or at its end, where S is `end`. An
+/// object that ends by the act is `T.S end F F F F`, or `T.S end null`. Of each block B that isn't vacant the census
+/// tells `block B owners N weaks K`. The last line is `made M ended E left L`.
+///
+/// Refused, in this order: by 1 where a growth was refused, by 10 just where a line of the script is faulty, by 11 just
+/// where a number of the list is, with nothing written; by 12 just where the writer has failed, which then took a
+/// beginning of the text. The writer hasn't failed before.
+pub fn step_text<S: Sink>(
+    alloc: Global,
+    script: &[u8],
+    turns: &[u8],
+    writer: &mut S,
+) -> Result<(), Fault>
+    requires { S.has_failed writer.old ≡ false }
+
+    // What is answered is true of the script and the list, and the text that was taken is that of the run.
+    ensures holds { Delivers (Tells script.now turns.now) result (S.taken writer.old) (S.taken writer.new) }
+    ensures failed { S.has_failed writer.new ≡ is_output result }
+
+    // Want of memory aside, a fault of the script is answered, then one of the list, and else the run is told.
+    ensures syntax { (line : ℕ) (cause : Cause) → Faulty script.now line cause
+        → IsUnlessMemory result (Err (Syntax line cause)) }
+    ensures turns { (threads : List Section) (position : ℕ) → Reads script.now threads
+        → list_at (length threads) turns.now ≡ Err position
+        → IsUnlessMemory result (Err (BadTurn position)) }
+    ensures runs { (threads : List Section) (listed : List ℕ) → Reads script.now threads
+        → list_at (length threads) turns.now ≡ Ok listed
+        → Writes (run_text threads listed) result (S.taken writer.old) (S.taken writer.new) }
+{
+    let text = answer(alloc, script, turns)?;
+    write_text(text.as_bytes(), writer)
+}

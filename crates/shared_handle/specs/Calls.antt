@@ -1,0 +1,80 @@
+-- What the calls on handles say. An empty handle has no object: it touches no word and makes no event, and is only counted.
+use Rattle.std.specs.Prelude.{◌≡◌, ℕ, ◌+◌, ◌-◌, ◌<◌, Bool, true, false, List, ◌∷◌, length, Option, None, Some}
+use Rattle.control_word.specs.Events.{origin, place_at}
+use Rattle.control_word.specs.Handles.{handle, owner_before, same_handle}
+use Rattle.control_word.specs.State.{count, without}
+use Rattle.control_word.specs.declared.event.Event.TheVariants.{Count, Expired, Make, Share, WeakLeave, WeakShare}
+use Rattle.control_word.specs.declared.handle.Handle.{Handle}
+use Rattle.control_word.specs.declared.handle.Kind.{Kind}
+use Rattle.control_word.specs.declared.handle.Kind.TheVariants.{Owner, Weak}
+use Rattle.control_word.specs.declared.place.Block.{Block}
+use Rattle.control_word.specs.declared.place.Place.{Place}
+use Rattle.control_block.specs.Desks.{Adds, DeskNow, HasHandle, allowance_of, bag_of, latest_of, on_latest, state_of}
+
+-- a bag with a handle more, and with one less
+abbrev pub with_handle : Kind → Option Block → Option Place → List Handle → List Handle
+with_handle k None p l = l
+with_handle k (Some b) p l = handle k (Some b.0) p ∷ l
+
+abbrev pub without_handle : Kind → Option Block → Option Place → List Handle → List Handle
+without_handle k None p l = l
+without_handle k (Some b) p l = without same_handle (handle k (Some b.0) p) l
+
+-- where a weak handle of this points: an empty one has a null place ([util.smartptr.weak.const]; the null place: own)
+abbrev pub weak_place : Option Block → Option Place → Option Place
+weak_place None p = None
+weak_place (Some b) p = p
+
+-- the place q is the first field of the object in the block
+abbrev pub IsOfThis : Option Block → Option Place → Type 0
+IsOfThis None q = ⊥
+IsOfThis (Some b) q = q ≡ place_at b.0
+
+-- owner order goes by blocks, empty first ([util.smartptr.shared.obs], [util.smartptr.weak.obs]; by block: own)
+abbrev pub by_number : Option Block → Handle
+by_number None = handle Owner None None
+by_number (Some b) = handle Owner (Some b.0) None
+
+abbrev pub comes_before : Option Block → Option Block → Bool
+comes_before a b = owner_before (λ (n : ℕ). n) (by_number a) (by_number b)
+
+module _ {V : Type 0} where
+  -- the desk has the handle: its bag shows it, or it is empty and among those that are counted beyond the bag
+  abbrev pub Holds : DeskNow V → Kind → Option Block → Option Place → Type 0
+  Holds d k None p = length (bag_of d) < d.held
+  Holds d k (Some b) p = HasHandle d k p b.0
+
+  -- the desk with another number of handles, and nothing else changed
+  abbrev pub counting : ℕ → DeskNow V → DeskNow V
+  counting n d = record d { held = n }
+
+  -- an owner with place q came from one with place p ([util.smartptr.shared.const])
+  abbrev pub Shares : DeskNow V → Option Block → Option Place → Option Place → DeskNow V → Type 0
+  Shares d None p q e = e ≡ counting (d.held + 1) d
+  Shares d (Some b) p q e = Adds d (Share (on_latest d Owner p b.0) q) e
+
+  -- a weak handle with place q came ([util.smartptr.weak.const])
+  abbrev pub SharesWeakly : DeskNow V → Option Block → Option Place → DeskNow V → Type 0
+  SharesWeakly d None q e = e ≡ counting (d.held + 1) d
+  SharesWeakly d (Some b) q e = Adds d (WeakShare (latest_of d b.0) q) e
+
+  -- a weak handle left ([util.smartptr.weak.dest]); whether its block is vacant now
+  abbrev pub LeavesWeakly : DeskNow V → Option Block → Option Place → Bool → DeskNow V → Type 0
+  LeavesWeakly d None p vacant e = (e ≡ counting (d.held - 1) d) × (vacant ≡ false)
+  LeavesWeakly d (Some b) p vacant e = Adds d (WeakLeave (on_latest d Weak p b.0) vacant) e
+
+  -- use_count ([util.smartptr.shared.obs], [util.smartptr.weak.obs]): for a desk that has the whole allowance the count itself
+  abbrev pub IsCount : DeskNow V → Kind → Option Block → Option Place → ℕ → DeskNow V → Type 0
+  IsCount d k None p n e = (n ≡ 0) × (e ≡ d)
+  IsCount d k (Some b) p n e =
+      Adds d (Count (on_latest d k p b.0) n) e × (allowance_of e ≡ d.shape.allowance → n ≡ count (state_of e) (latest_of d b.0))
+
+  -- expired ([util.smartptr.weak.obs])
+  abbrev pub IsExpiry : DeskNow V → Option Block → Option Place → Bool → DeskNow V → Type 0
+  IsExpiry d None p expired e = (expired ≡ true) × (e ≡ d)
+  IsExpiry d (Some b) p expired e = Adds d (Expired (on_latest d Weak p b.0) expired) e
+
+  -- a new object, and its owner ([util.smartptr.shared.create], [util.smartptr.shared.const])
+  abbrev pub Makes : DeskNow V → Bool → Bool → List ℕ → V → Option Block → Option Place → DeskNow V → Type 0
+  Makes d enabled null fields x None p e = ⊥
+  Makes d enabled null fields x (Some b) p e = (p ≡ origin b.0 null) × Adds d (Make b enabled null fields x) e

@@ -1,0 +1,37 @@
+//! Weak pointers from shared ones ([util.smartptr.weak.const]).
+ghost use Rattle.std.specs.Prelude.{◌≡◌, ◌↔◌, ◌+◌, IfErr, IfOk, IsErr, OnOk};
+ghost use Rattle.control_word.specs.declared.handle.Kind.TheVariants.{Owner, Weak};
+ghost use Rattle.control_block.specs.Desks.{Keeps, allowance_of, bag_of};
+ghost use Rattle.shared_handle.specs.Calls.{Holds, SharesWeakly, weak_place, with_handle};
+
+use control_block::desk::Desk;
+use control_block::domain::Domain;
+use control_block::handles::Shared;
+use control_block::{calls, handles};
+use control_word::Refusal;
+use std::marker::Brand;
+
+/// A weak pointer from a shared one ([util.smartptr.weak.const]): it shares ownership and points at the same place. Of an
+/// empty one it is empty with a null place, and touches no word. It is refused `Limit` just where the desk is at its
+/// allowance, and then nothing changes.
+pub fn downgrade<V: Drop + Send>(
+    domain: &Domain<V>,
+    desk: &mut Desk<V>,
+    handle: &Shared,
+) -> Result<handles::Weak, Refusal>
+    requires domain { desk.old.domain ≡ domain.now.id }
+    requires holds { Holds desk.old Owner handle.now.block handle.now.place }
+    ensures limit { IsErr result ↔ (desk.old.held ≡ allowance_of desk.old) }
+    ensures refused { IfErr result (λ why. (why ≡ Refusal.Limit) × (desk.new ≡ desk.old)) }
+    ensures handle { IfOk result (λ h. (h.block ≡ handle.now.block) × (h.place ≡ weak_place handle.now.block handle.now.place)) }
+    ensures event { OnOk result (SharesWeakly desk.old handle.now.block handle.now.place desk.new) }
+    ensures bag { OnOk result (bag_of desk.new ≡ with_handle Weak handle.now.block handle.now.place (bag_of desk.old)) }
+    ensures held { OnOk result (desk.new.held ≡ desk.old.held + 1) }
+    ensures keeps { OnOk result (Keeps desk.old desk.new) }
+{
+    let Some(block) = handle.block() else {
+        calls::count_empty(desk)?;
+        return Ok(handles::Weak::of_parts(None, None));
+    };
+    calls::share_weak::<V, Brand>(domain, desk, block, handle.place())
+}

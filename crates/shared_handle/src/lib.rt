@@ -1,0 +1,37 @@
+//! `shared_ptr`, `weak_ptr` and `enable_shared_from_this` of C++20 over the desks of a domain. Handles and endings are
+//! values that must be spent.
+#![tactic(auto)]
+
+mod downgrading;
+#[cfg(test)]
+mod drop_tests;
+mod endings;
+mod finishing;
+mod looks;
+mod making;
+#[cfg(test)]
+mod order_tests;
+mod ordering;
+#[cfg(test)]
+mod parting_tests;
+#[cfg(test)]
+mod race_tests;
+#[cfg(test)]
+mod row_tests;
+mod sharing;
+#[cfg(test)]
+mod tests;
+mod this;
+mod weak_looks;
+mod weaks;
+
+pub use control_block::handles::{Held, Shared, Weak};
+pub use downgrading::downgrade;
+pub use endings::{Ending, Left};
+pub use looks::{place, read, same_place, use_count};
+pub use making::{empty, empty_weak, make, make_null};
+pub use ordering::{HasOwner, owner_before};
+pub use sharing::{alias, release, share};
+pub use this::{shared_from_this, weak_from_this};
+pub use weak_looks::{expired, use_count_weak};
+pub use weaks::{release_weak, share_weak};

@@ -1,0 +1,85 @@
+//! What a handle tells: counts, fields and places.
+ghost use Rattle.std.specs.Prelude.{◌≡◌};
+ghost use Rattle.control_word.specs.Handles as Handles;
+ghost use Rattle.control_word.specs.declared.handle.Kind.TheVariants.{Owner};
+ghost use Rattle.control_block.specs.Desks.{Keeps, bag_of};
+ghost use Rattle.shared_handle.specs.Calls.{Holds, IsCount};
+ghost use Rattle.shared_handle.specs.Endings.{IsRead};
+
+use control_block::calls;
+use control_block::desk::Desk;
+use control_block::domain::Domain;
+use control_block::handles::{Pointer, Shared};
+use control_word::handle::Kind;
+use control_word::{Place, Refusal};
+use std::marker::Brand;
+
+/// How many owners share the handle's object, this one included, or 0 where it is empty
+/// ([util.smartptr.shared.obs]). For a desk that has the whole allowance it is the count itself; else it is 0 just where
+/// there is no owner, and at most the count. An empty handle touches no word.
+pub fn use_count<V: Drop + Send>(domain: &Domain<V>, desk: &mut Desk<V>, handle: &Shared) -> u32
+    requires domain { desk.old.domain ≡ domain.now.id }
+    requires holds { Holds desk.old Owner handle.now.block handle.now.place }
+    ensures count { IsCount desk.old Owner handle.now.block handle.now.place result desk.new }
+    ensures bag { bag_of desk.new ≡ bag_of desk.old }
+    ensures held { desk.new.held ≡ desk.old.held }
+    ensures keeps { Keeps desk.old desk.new }
+{
+    let Some(block) = handle.block() else {
+        return 0;
+    };
+    let of = Pointer {
+        kind: Kind::Owner,
+        block,
+        place: handle.place(),
+    };
+    calls::count::<V, Brand>(domain, desk, of)
+}
+
+/// The field that the handle points at (own). It is refused `Null` just where its place is null, and `Outside` just where
+/// that isn't in the object that it owns; then nothing changes.
+pub fn read<V: Drop + Send>(
+    domain: &Domain<V>,
+    desk: &mut Desk<V>,
+    handle: &Shared,
+) -> Result<u64, Refusal>
+    requires domain { desk.old.domain ≡ domain.now.id }
+    requires holds { Holds desk.old Owner handle.now.block handle.now.place }
+    ensures read { IsRead desk.old handle.now.block handle.now.place result desk.new }
+    ensures bag { bag_of desk.new ≡ bag_of desk.old }
+    ensures held { desk.new.held ≡ desk.old.held }
+    ensures keeps { Keeps desk.old desk.new }
+{
+    let Some(place) = handle.place() else {
+        return Err(Refusal::Null);
+    };
+    if handle.block() != Some(place.block) {
+        return Err(Refusal::Outside);
+    }
+    Ok(calls::read(domain, desk, place))
+}
+
+/// Where the handle points: the stored pointer ([util.smartptr.shared.obs]). It touches no word.
+pub fn place<V: Drop + Send>(
+    _domain: &Domain<V>,
+    _desk: &mut Desk<V>,
+    handle: &Shared,
+) -> Option<Place>
+    ensures place { result ≡ handle.now.place }
+    ensures same { _desk.new ≡ _desk.old }
+{
+    handle.place()
+}
+
+/// Whether two handles point at one place, whatever they own ([util.smartptr.shared.cmp]). It touches no word.
+pub fn same_place<V: Drop + Send>(
+    _domain: &Domain<V>,
+    _desk: &mut Desk<V>,
+    a: &Shared,
+    b: &Shared,
+) -> bool
+    ensures equal { result ≡ Handles.same_place a.now.place b.now.place }
+    ensures same { _desk.new ≡ _desk.old }
+{
+    a.place() == b.place()
+}

@@ -1,0 +1,107 @@
+//! Empty handles, and owners of new objects.
+ghost use Rattle.std.specs.Prelude.{◌≡◌, ◌↔◌, ◌+◌, [], ◌∷◌, false, length, true, IfErr, IfOk, IsErr, OnOk, None};
+ghost use Rattle.control_word.specs.declared.handle.Kind.TheVariants.{Owner};
+ghost use Rattle.control_block.specs.Desks.{IsSameDesk, KeepsEndings, allowance_of, bag_of, stock_of};
+ghost use Rattle.control_block.specs.Refusals.{IsFullOrLimit};
+ghost use Rattle.shared_handle.specs.Calls.{Makes, counting, with_handle};
+
+use control_block::calls;
+use control_block::desk::Desk;
+use control_block::domain::Domain;
+use control_block::handles::{Shared, Weak};
+use control_word::{Refusal, Refused};
+
+/// An empty shared pointer with a null place ([util.smartptr.shared.const]). It touches no word. It is refused `Limit`
+/// just where the desk is at its allowance, and then nothing changes.
+pub fn empty<V: Drop + Send>(_domain: &Domain<V>, desk: &mut Desk<V>) -> Result<Shared, Refusal>
+    requires domain { desk.old.domain ≡ _domain.now.id }
+    ensures limit { IsErr result ↔ (desk.old.held ≡ allowance_of desk.old) }
+    ensures refused { IfErr result (λ why. (why ≡ Refusal.Limit) × (desk.new ≡ desk.old)) }
+    ensures handle { IfOk result (λ h. (h.block ≡ None) × (h.place ≡ None)) }
+    ensures counted { OnOk result (desk.new ≡ counting (desk.old.held + 1) desk.old) }
+{
+    calls::count_empty(desk)?;
+    Ok(Shared::of_parts(None, None))
+}
+
+/// An empty weak pointer ([util.smartptr.weak.const]). It touches no word. It is refused `Limit` just where the desk is
+/// at its allowance, and then nothing changes.
+pub fn empty_weak<V: Drop + Send>(_domain: &Domain<V>, desk: &mut Desk<V>) -> Result<Weak, Refusal>
+    requires domain { desk.old.domain ≡ _domain.now.id }
+    ensures limit { IsErr result ↔ (desk.old.held ≡ allowance_of desk.old) }
+    ensures refused { IfErr result (λ why. (why ≡ Refusal.Limit) × (desk.new ≡ desk.old)) }
+    ensures handle { IfOk result (λ h. (h.block ≡ None) × (h.place ≡ None)) }
+    ensures counted { OnOk result (desk.new ≡ counting (desk.old.held + 1) desk.old) }
+{
+    calls::count_empty(desk)?;
+    Ok(Weak::of_parts(None, None))
+}
+
+/// A new object with these fields and this value, and its owner, which points at it.
+fn make_as<V: Drop + Send>(
+    domain: &Domain<V>,
+    desk: &mut Desk<V>,
+    null: bool,
+    fields: [u64; 4],
+    enabled: bool,
+    value: V,
+) -> Result<Shared, Refused<V>>
+    requires domain { desk.old.domain ≡ domain.now.id }
+    ensures refusals { IsFullOrLimit (desk.old.held ≡ allowance_of desk.old) (stock_of desk.old ≡ []) result }
+    ensures refused { IfErr result (λ r. (r.back ≡ value) × (desk.new ≡ desk.old)) }
+    ensures event { IfOk result (λ h. Makes desk.old enabled null fields value h.block h.place desk.new) }
+    ensures bag { IfOk result (λ h. bag_of desk.new ≡ with_handle Owner h.block h.place (bag_of desk.old)) }
+    ensures held { OnOk result (desk.new.held ≡ desk.old.held + 1) }
+    ensures desk { OnOk result (IsSameDesk desk.old desk.new) }
+    ensures stock { OnOk result (length (stock_of desk.new) + 1 ≡ length (stock_of desk.old)) }
+    ensures endings { OnOk result (KeepsEndings desk.old desk.new) }
+{
+    match calls::make(domain, desk, enabled, null, fields, value) {
+        Ok(made) => Ok(Shared::of_parts(Some(made.block), made.place)),
+        Err(refused) => Err(refused),
+    }
+}
+
+/// A new object with four fields and an owned value, and its owner, which points at its field 0
+/// ([util.smartptr.shared.create]). Where `enabled`, it gives pointers to itself ([util.smartptr.enab]). It is refused
+/// `Limit` just where the desk is at its allowance, and else `Full` just where its store is empty: then the value comes
+/// back, and nothing changes.
+pub fn make<V: Drop + Send>(
+    domain: &Domain<V>,
+    desk: &mut Desk<V>,
+    fields: [u64; 4],
+    enabled: bool,
+    value: V,
+) -> Result<Shared, Refused<V>>
+    requires domain { desk.old.domain ≡ domain.now.id }
+    ensures refusals { IsFullOrLimit (desk.old.held ≡ allowance_of desk.old) (stock_of desk.old ≡ []) result }
+    ensures refused { IfErr result (λ r. (r.back ≡ value) × (desk.new ≡ desk.old)) }
+    ensures event { IfOk result (λ h. Makes desk.old enabled false fields value h.block h.place desk.new) }
+    ensures bag { IfOk result (λ h. bag_of desk.new ≡ with_handle Owner h.block h.place (bag_of desk.old)) }
+    ensures held { OnOk result (desk.new.held ≡ desk.old.held + 1) }
+    ensures desk { OnOk result (IsSameDesk desk.old desk.new) }
+    ensures stock { OnOk result (length (stock_of desk.new) + 1 ≡ length (stock_of desk.old)) }
+    ensures endings { OnOk result (KeepsEndings desk.old desk.new) }
+{
+    make_as(domain, desk, false, fields, enabled, value)
+}
+
+/// An owner of the null pointer ([util.smartptr.shared.const]): its place is null, its fields are 0, and its value is the
+/// deleter's. Refusals are those of `make`.
+pub fn make_null<V: Drop + Send>(
+    domain: &Domain<V>,
+    desk: &mut Desk<V>,
+    value: V,
+) -> Result<Shared, Refused<V>>
+    requires domain { desk.old.domain ≡ domain.now.id }
+    ensures refusals { IsFullOrLimit (desk.old.held ≡ allowance_of desk.old) (stock_of desk.old ≡ []) result }
+    ensures refused { IfErr result (λ r. (r.back ≡ value) × (desk.new ≡ desk.old)) }
+    ensures event { IfOk result (λ h. Makes desk.old false true (0 ∷ 0 ∷ 0 ∷ 0 ∷ []) value h.block h.place desk.new) }
+    ensures bag { IfOk result (λ h. bag_of desk.new ≡ with_handle Owner h.block h.place (bag_of desk.old)) }
+    ensures held { OnOk result (desk.new.held ≡ desk.old.held + 1) }
+    ensures desk { OnOk result (IsSameDesk desk.old desk.new) }
+    ensures stock { OnOk result (length (stock_of desk.new) + 1 ≡ length (stock_of desk.old)) }
+    ensures endings { OnOk result (KeepsEndings desk.old desk.new) }
+{
+    make_as(domain, desk, true, [0; 4], false, value)
+}

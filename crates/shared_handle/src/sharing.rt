@@ -1,0 +1,116 @@
+//! Further owners, and owners that leave.
+ghost use Rattle.std.specs.Prelude.{◌≡◌, ◌⊎◌, ◌↔◌, ◌+◌, IfErr, IfOk, IsErr, OnOk};
+ghost use Rattle.control_word.specs.Handles.{IsPointer};
+ghost use Rattle.control_word.specs.declared.handle.Kind.TheVariants.{Owner};
+ghost use Rattle.control_block.specs.Desks.{Keeps, allowance_of, bag_of};
+ghost use Rattle.shared_handle.specs.Calls.{Holds, IsOfThis, Shares, with_handle, without_handle};
+ghost use Rattle.shared_handle.specs.Endings.{IsLeft};
+
+use crate::endings::{Ending, Left};
+use control_block::calls;
+use control_block::desk::Desk;
+use control_block::domain::Domain;
+use control_block::handles::{Pointer, Shared};
+use control_word::handle::Kind;
+use control_word::{Place, Refusal};
+use std::marker::Brand;
+
+/// One owner more, which points at a place: the handle's own, the object's or any proper one.
+pub(crate) fn share_to<V: Drop + Send>(
+    domain: &Domain<V>,
+    desk: &mut Desk<V>,
+    handle: &Shared,
+    place: Option<Place>,
+) -> Result<Shared, Refusal>
+    requires domain { desk.old.domain ≡ domain.now.id }
+    requires holds { Holds desk.old Owner handle.now.block handle.now.place }
+    requires place { (place ≡ handle.now.place) ⊎ (IsOfThis handle.now.block place ⊎ IsPointer place) }
+    ensures limit { IsErr result ↔ (desk.old.held ≡ allowance_of desk.old) }
+    ensures refused { IfErr result (λ why. (why ≡ Refusal.Limit) × (desk.new ≡ desk.old)) }
+    ensures handle { IfOk result (λ h. (h.block ≡ handle.now.block) × (h.place ≡ place)) }
+    ensures event { OnOk result (Shares desk.old handle.now.block handle.now.place place desk.new) }
+    ensures bag { OnOk result (bag_of desk.new ≡ with_handle Owner handle.now.block place (bag_of desk.old)) }
+    ensures held { OnOk result (desk.new.held ≡ desk.old.held + 1) }
+    ensures keeps { OnOk result (Keeps desk.old desk.new) }
+{
+    let Some(block) = handle.block() else {
+        calls::count_empty(desk)?;
+        return Ok(Shared::of_parts(None, place));
+    };
+    let of = Pointer {
+        kind: Kind::Owner,
+        block,
+        place: handle.place(),
+    };
+    calls::share::<V, Brand>(domain, desk, of, place)
+}
+
+/// A copy: one owner more, which points where the handle does ([util.smartptr.shared.const]). A copy of an empty pointer
+/// is empty, points there too, and touches no word. It is refused `Limit` just where the desk is at its allowance, and
+/// then nothing changes.
+pub fn share<V: Drop + Send>(
+    domain: &Domain<V>,
+    desk: &mut Desk<V>,
+    handle: &Shared,
+) -> Result<Shared, Refusal>
+    requires domain { desk.old.domain ≡ domain.now.id }
+    requires holds { Holds desk.old Owner handle.now.block handle.now.place }
+    ensures limit { IsErr result ↔ (desk.old.held ≡ allowance_of desk.old) }
+    ensures refused { IfErr result (λ why. (why ≡ Refusal.Limit) × (desk.new ≡ desk.old)) }
+    ensures handle { IfOk result (λ h. (h.block ≡ handle.now.block) × (h.place ≡ handle.now.place)) }
+    ensures event { OnOk result (Shares desk.old handle.now.block handle.now.place handle.now.place desk.new) }
+    ensures bag { OnOk result (bag_of desk.new ≡ with_handle Owner handle.now.block handle.now.place (bag_of desk.old)) }
+    ensures held { OnOk result (desk.new.held ≡ desk.old.held + 1) }
+    ensures keeps { OnOk result (Keeps desk.old desk.new) }
+{
+    share_to(domain, desk, handle, handle.place())
+}
+
+/// The aliasing constructor ([util.smartptr.shared.const]): one owner more of what the handle owns, which points at a
+/// place. Of an empty handle it is empty, and points there all the same. Condition: a place is in a block from 1 on, at
+/// one of its fields. It is refused `Limit` just where the desk is at its allowance, and then nothing changes.
+pub fn alias<V: Drop + Send>(
+    domain: &Domain<V>,
+    desk: &mut Desk<V>,
+    handle: &Shared,
+    place: Option<Place>,
+) -> Result<Shared, Refusal>
+    requires domain { desk.old.domain ≡ domain.now.id }
+    requires holds { Holds desk.old Owner handle.now.block handle.now.place }
+    requires place { IsPointer place }
+    ensures limit { IsErr result ↔ (desk.old.held ≡ allowance_of desk.old) }
+    ensures refused { IfErr result (λ why. (why ≡ Refusal.Limit) × (desk.new ≡ desk.old)) }
+    ensures handle { IfOk result (λ h. (h.block ≡ handle.now.block) × (h.place ≡ place)) }
+    ensures event { OnOk result (Shares desk.old handle.now.block handle.now.place place desk.new) }
+    ensures bag { OnOk result (bag_of desk.new ≡ with_handle Owner handle.now.block place (bag_of desk.old)) }
+    ensures held { OnOk result (desk.new.held ≡ desk.old.held + 1) }
+    ensures keeps { OnOk result (Keeps desk.old desk.new) }
+{
+    share_to(domain, desk, handle, place)
+}
+
+/// An owner leaves ([util.smartptr.shared.dest]): it was `Empty`, `Others` own the object still, or it was the `Last`, and
+/// the object ends in the desk's hands.
+pub fn release<V: Drop + Send>(domain: &Domain<V>, desk: &mut Desk<V>, handle: Shared) -> Left<V>
+    requires domain { desk.old.domain ≡ domain.now.id }
+    requires holds { Holds desk.old Owner handle.block handle.place }
+    ensures left { IsLeft desk.old handle.block handle.place result desk.new }
+    ensures bag { bag_of desk.new ≡ without_handle Owner handle.block handle.place (bag_of desk.old) }
+    ensures held { desk.new.held + 1 ≡ desk.old.held }
+    ensures keeps { Keeps desk.old desk.new }
+{
+    let (block, place) = handle.into_parts();
+    let Some(block) = block else {
+        calls::spend_empty(desk);
+        return Left::Empty;
+    };
+    let of = Pointer {
+        kind: Kind::Owner,
+        block,
+        place,
+    };
+    match calls::leave::<V, Brand>(domain, desk, of) {
+        None => Left::Others,
+        Some(value) => Left::Last(Ending { block, value }),
+    }
+}

@@ -1,0 +1,219 @@
+ghost use Rattle.std.specs.Prelude.{◌≡◌, ◌+◌, [], IfSome};
+ghost use Rattle.control_word.specs.declared.handle.Kind.TheVariants.{Owner, Weak};
+ghost use Rattle.control_block.specs.Desks.{IsEnding, IsSameDesk, allowance_of, bag_of};
+ghost use Rattle.shared_handle.specs.Calls.{Holds, with_handle, without_handle};
+
+use crate::{Ending, Left, Shared, expired, make, release, release_weak, share, use_count};
+use control_block::census::close;
+use control_block::desk::Desk;
+use control_block::domain::{Domain, open};
+use control_word::{Refusal, Shape};
+use std::test::Fail;
+
+pub(crate) fn shape(blocks: u32, allowance: u32) -> Shape
+    ensures { result ≡ record { blocks = blocks; shared_cells = 0; weak_cells = 0; allowance = allowance } }
+{
+    Shape {
+        blocks,
+        shared_cells: 0,
+        weak_cells: 0,
+        allowance,
+    }
+}
+
+// A sole desk closes its domain.
+pub(crate) fn shut<V: Drop + Send>(domain: Domain<V>, desk: Desk<V>)
+    requires domain { desk.domain ≡ domain.id }
+    requires sole { allowance_of desk ≡ domain.shape.allowance }
+{
+    match close(domain, desk) {
+        Ok(census) => drop(census),
+        Err(_) => unreachable!(),
+    }
+}
+
+// The value of the object that the handle was the last owner of.
+pub(crate) fn end<V: Drop + Send>(
+    domain: &Domain<V>,
+    desk: &mut Desk<V>,
+    handle: Shared,
+) -> Option<V>
+    requires domain { desk.old.domain ≡ domain.now.id }
+    requires holds { Holds desk.old Owner handle.block handle.place }
+    ensures desk { IsSameDesk desk.old desk.new }
+    ensures bag { bag_of desk.new ≡ without_handle Owner handle.block handle.place (bag_of desk.old) }
+    ensures held { desk.new.held + 1 ≡ desk.old.held }
+{
+    match release(domain, desk, handle) {
+        Left::Empty | Left::Others => None,
+        Left::Last(ending) => Some(ending.finish(domain, desk)),
+    }
+}
+
+// At the allowance: why there is no further owner, how many there are, and why nothing is made.
+#[tactic(auto, using(crate::proofs::Taken::first_out))]
+fn at_the_allowance(
+    domain: &Domain<u64>,
+    desk: &mut Desk<u64>,
+    owner: &Shared,
+) -> (Option<Refusal>, u32, Option<(Refusal, u64)>)
+    requires domain { desk.old.domain ≡ domain.now.id }
+    requires holds { Holds desk.old Owner owner.now.block owner.now.place }
+    ensures desk { IsSameDesk desk.old desk.new }
+    ensures bag { bag_of desk.new ≡ bag_of desk.old }
+    ensures held { desk.new.held ≡ desk.old.held }
+{
+    let why = match share(domain, desk, owner) {
+        Ok(other) => {
+            end(domain, desk, other);
+            None
+        }
+        Err(why) => Some(why),
+    };
+    let count = use_count(domain, desk, owner);
+    let unmade = match make(domain, desk, [0; 4], false, 8) {
+        Ok(other) => {
+            end(domain, desk, other);
+            None
+        }
+        Err(refused) => Some((refused.why, refused.back)),
+    };
+    (why, count, unmade)
+}
+
+// After one of two owners left at the allowance: whether others are left, why nothing is made, and whether a share
+// succeeds again.
+#[tactic(auto, using(crate::proofs::Taken::first_out))]
+fn below_the_allowance(
+    domain: &Domain<u64>,
+    desk: &mut Desk<u64>,
+    owner: &Shared,
+    other: Shared,
+) -> (bool, Option<(Refusal, u64)>, bool)
+    requires domain { desk.old.domain ≡ domain.now.id }
+    requires holds { bag_of desk.old ≡ with_handle Owner other.block other.place (with_handle Owner owner.now.block owner.now.place []) }
+    requires held { desk.old.held ≡ 2 }
+    ensures desk { IsSameDesk desk.old desk.new }
+    ensures bag { bag_of desk.new ≡ with_handle Owner owner.now.block owner.now.place [] }
+    ensures held { desk.new.held ≡ 1 }
+{
+    let others = match release(domain, desk, other) {
+        Left::Others => true,
+        Left::Empty => false,
+        Left::Last(ending) => {
+            ending.finish(domain, desk);
+            false
+        }
+    };
+    let unmade = match make(domain, desk, [0; 4], false, 8) {
+        Ok(made) => {
+            end(domain, desk, made);
+            None
+        }
+        Err(refused) => Some((refused.why, refused.back)),
+    };
+    let again = match share(domain, desk, owner) {
+        Ok(other) => {
+            end(domain, desk, other);
+            true
+        }
+        Err(_) => false,
+    };
+    (others, unmade, again)
+}
+
+type AtAllowance = (Option<Refusal>, u32, Option<(Refusal, u64)>);
+
+type BelowAllowance = (bool, Option<(Refusal, u64)>, bool);
+
+// One block and an allowance of 2, both used up.
+#[tactic(auto, using(crate::proofs::Taken::first_out))]
+fn use_all(domain: &Domain<u64>, desk: &mut Desk<u64>) -> Option<(AtAllowance, BelowAllowance)>
+    requires domain { desk.old.domain ≡ domain.now.id }
+    requires fresh { (bag_of desk.old ≡ []) × (desk.old.held ≡ 0) }
+    ensures desk { IsSameDesk desk.old desk.new }
+{
+    let Ok(owner) = make(domain, desk, [0; 4], false, 7) else {
+        return None;
+    };
+    let Ok(other) = share(domain, desk, &owner) else {
+        end(domain, desk, owner);
+        return None;
+    };
+    let full = at_the_allowance(domain, desk, &owner);
+    let free = below_the_allowance(domain, desk, &owner, other);
+    end(domain, desk, owner);
+    Some((full, free))
+}
+
+#[test]
+fn one_block_and_two_handles(rt: HostRuntime) -> Result<(), Fail> {
+    let (domain, mut desk) = open::<u64>(rt.alloc(), shape(1, 2)).ok().ok_or("memory")?;
+    let seen = use_all(&domain, &mut desk);
+    let stock = desk.stock();
+    shut(domain, desk);
+    let full = (Some(Refusal::Limit), 2, Some((Refusal::Limit, 8)));
+    let free = (true, Some((Refusal::Full, 8)), true);
+    assert_eq!(rt; seen, Some((full, free)));
+    assert_eq!(rt; stock, 1);
+    Ok(())
+}
+
+// What an object that ends says of itself: its fields, whether it is null and clear, and why it gives no owner.
+fn last_words(
+    domain: &Domain<u64>,
+    desk: &mut Desk<u64>,
+    ending: &Ending<u64>,
+) -> ([u64; 4], bool, bool, Option<Refusal>)
+    requires domain { desk.old.domain ≡ domain.now.id }
+    requires ends { IsEnding desk.old ending.now.block.0 ending.now.value }
+    ensures same { desk.new ≡ desk.old }
+{
+    let fields = ending.fields(domain, desk);
+    let null = ending.is_null(domain, desk);
+    let why = match ending.shared_from_this(domain, desk) {
+        Ok(_) => unreachable!(),
+        Err(why) => why,
+    };
+    (fields, null, ending.is_clear(), Some(why))
+}
+
+// An object with one owner ends: its last words, whether a weak handle that it gave is expired, its value, and the stock
+// after its end and after the weak handle's.
+fn end_with_a_weak_handle(
+    domain: &Domain<u64>,
+    desk: &mut Desk<u64>,
+    owner: Shared,
+) -> Option<([u64; 4], bool, Option<Refusal>, bool, u64, u32, u32)>
+    requires domain { desk.old.domain ≡ domain.now.id }
+    requires holds { Holds desk.old Owner owner.block owner.place }
+    ensures desk { IsSameDesk desk.old desk.new }
+{
+    let ending = match release(domain, desk, owner) {
+        Left::Empty | Left::Others => return None,
+        Left::Last(ending) => ending,
+    };
+    let (fields, _, clear, why) = last_words(domain, desk, &ending);
+    let Ok(weak) = ending.weak_from_this(domain, desk) else {
+        ending.finish(domain, desk);
+        return None;
+    };
+    let expired = expired(domain, desk, &weak);
+    let value = ending.finish(domain, desk);
+    let before = desk.stock();
+    release_weak(domain, desk, weak);
+    Some((fields, clear, why, expired, value, before, desk.stock()))
+}
+
+#[test]
+fn an_enabled_object_ends(rt: HostRuntime) -> Result<(), Fail> {
+    let (domain, mut desk) = open::<u64>(rt.alloc(), shape(2, 8)).ok().ok_or("memory")?;
+    let seen = match make(&domain, &mut desk, [1, 2, 3, 4], true, 9) {
+        Ok(owner) => end_with_a_weak_handle(&domain, &mut desk, owner),
+        Err(_) => None,
+    };
+    shut(domain, desk);
+    let why = Some(Refusal::BadWeak);
+    assert_eq!(rt; seen, Some(([1, 2, 3, 4], true, why, true, 9, 1, 2)));
+    Ok(())
+}

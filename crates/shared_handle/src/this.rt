@@ -1,0 +1,86 @@
+//! Pointers that an object gives to itself ([util.smartptr.enab]).
+ghost use Rattle.std.specs.Prelude.{◌≡◌, ◌+◌, IfErr, IfOk, OnOk};
+ghost use Rattle.control_word.specs.declared.handle.Kind.TheVariants.{Owner, Weak};
+ghost use Rattle.control_block.specs.Desks.{Keeps, bag_of};
+ghost use Rattle.shared_handle.specs.Calls.{Holds, IsOfThis, Shares, SharesWeakly, with_handle};
+ghost use Rattle.shared_handle.specs.Endings.{IsThis, MayGiveThis, WhyNotThis};
+
+use crate::sharing::share_to;
+use control_block::desk::Desk;
+use control_block::domain::Domain;
+use control_block::handles::Shared;
+use control_block::{calls, handles};
+use control_word::{Block, Place, Refusal};
+use std::marker::Brand;
+
+/// The block of the object, if the handle points into it and the object gives pointers to itself, and the desk has room
+/// for one.
+fn this_block<V: Drop + Send>(
+    domain: &Domain<V>,
+    desk: &mut Desk<V>,
+    handle: &Shared,
+) -> Result<Block, Refusal>
+    requires domain { desk.old.domain ≡ domain.now.id }
+    requires holds { Holds desk.old Owner handle.now.block handle.now.place }
+    ensures this { IsThis desk.old handle.now.block handle.now.place result }
+    ensures same { desk.new ≡ desk.old }
+{
+    if desk.held() == desk.allowance() {
+        return Err(Refusal::Limit);
+    }
+    let Some(place) = handle.place() else {
+        return Err(Refusal::Null);
+    };
+    let block = place.block;
+    if handle.block() != Some(block) {
+        return Err(Refusal::Outside);
+    }
+    if !calls::is_enabled(domain, desk, block) {
+        return Err(Refusal::NotEnabled);
+    }
+    Ok(block)
+}
+
+/// `shared_from_this` ([util.smartptr.enab]): one owner more of the handle's object, which points at its field 0. It is
+/// refused `Limit` just where the desk is at its allowance, and else `Null` where the handle's place is null, `Outside`
+/// where that isn't in the object that it owns, and `NotEnabled` where the object has no from-this flag; then nothing
+/// changes.
+pub fn shared_from_this<V: Drop + Send>(
+    domain: &Domain<V>,
+    desk: &mut Desk<V>,
+    handle: &Shared,
+) -> Result<Shared, Refusal>
+    requires domain { desk.old.domain ≡ domain.now.id }
+    requires holds { Holds desk.old Owner handle.now.block handle.now.place }
+    ensures refused { IfErr result (λ why. WhyNotThis desk.old handle.now.block handle.now.place why × (desk.new ≡ desk.old)) }
+    ensures may { OnOk result (MayGiveThis desk.old handle.now.block handle.now.place) }
+    ensures handle { IfOk result (λ h. (h.block ≡ handle.now.block) × IsOfThis h.block h.place) }
+    ensures event { IfOk result (λ h. Shares desk.old handle.now.block handle.now.place h.place desk.new) }
+    ensures bag { IfOk result (λ h. bag_of desk.new ≡ with_handle Owner h.block h.place (bag_of desk.old)) }
+    ensures held { OnOk result (desk.new.held ≡ desk.old.held + 1) }
+    ensures keeps { OnOk result (Keeps desk.old desk.new) }
+{
+    let block = this_block(domain, desk, handle)?;
+    share_to(domain, desk, handle, Some(Place { block, field: 0 }))
+}
+
+/// `weak_from_this` ([util.smartptr.enab]): a weak handle of the handle's object, which points at its field 0. Refusals
+/// are those of `shared_from_this`.
+pub fn weak_from_this<V: Drop + Send>(
+    domain: &Domain<V>,
+    desk: &mut Desk<V>,
+    handle: &Shared,
+) -> Result<handles::Weak, Refusal>
+    requires domain { desk.old.domain ≡ domain.now.id }
+    requires holds { Holds desk.old Owner handle.now.block handle.now.place }
+    ensures refused { IfErr result (λ why. WhyNotThis desk.old handle.now.block handle.now.place why × (desk.new ≡ desk.old)) }
+    ensures may { OnOk result (MayGiveThis desk.old handle.now.block handle.now.place) }
+    ensures handle { IfOk result (λ h. (h.block ≡ handle.now.block) × IsOfThis h.block h.place) }
+    ensures event { IfOk result (λ h. SharesWeakly desk.old h.block h.place desk.new) }
+    ensures bag { IfOk result (λ h. bag_of desk.new ≡ with_handle Weak h.block h.place (bag_of desk.old)) }
+    ensures held { OnOk result (desk.new.held ≡ desk.old.held + 1) }
+    ensures keeps { OnOk result (Keeps desk.old desk.new) }
+{
+    let block = this_block(domain, desk, handle)?;
+    calls::share_weak::<V, Brand>(domain, desk, block, Some(Place { block, field: 0 }))
+}

@@ -1,0 +1,71 @@
+//! What a weak handle tells.
+ghost use Rattle.std.specs.Prelude.{◌≡◌};
+ghost use Rattle.control_word.specs.declared.handle.Kind.TheVariants.{Weak};
+ghost use Rattle.control_block.specs.Desks.{Keeps, bag_of};
+ghost use Rattle.shared_handle.specs.Calls.{Holds, IsCount, IsExpiry};
+
+use crate::ordering::HasOwner;
+use control_block::desk::Desk;
+use control_block::domain::Domain;
+use control_block::handles::Pointer;
+use control_block::{calls, handles};
+use control_word::Block;
+use control_word::handle::Kind;
+use std::marker::Brand;
+
+impl HasOwner for handles::Weak {
+    ghost owned = { λ h. h.block };
+
+    fn owned_block(&self) -> Option<Block> {
+        self.block()
+    }
+}
+
+/// How many owners the weak handle's object has, or 0 where it is empty ([util.smartptr.weak.obs]), as `use_count`.
+pub fn use_count_weak<V: Drop + Send>(
+    domain: &Domain<V>,
+    desk: &mut Desk<V>,
+    handle: &handles::Weak,
+) -> u32
+    requires domain { desk.old.domain ≡ domain.now.id }
+    requires holds { Holds desk.old Weak handle.now.block handle.now.place }
+    ensures count { IsCount desk.old Weak handle.now.block handle.now.place result desk.new }
+    ensures bag { bag_of desk.new ≡ bag_of desk.old }
+    ensures held { desk.new.held ≡ desk.old.held }
+    ensures keeps { Keeps desk.old desk.new }
+{
+    let Some(block) = handle.block() else {
+        return 0;
+    };
+    let of = Pointer {
+        kind: Kind::Weak,
+        block,
+        place: handle.place(),
+    };
+    calls::count::<V, Brand>(domain, desk, of)
+}
+
+/// Whether the weak handle's object has no owner left, or the handle is empty ([util.smartptr.weak.obs]). An empty handle
+/// touches no word.
+pub fn expired<V: Drop + Send>(
+    domain: &Domain<V>,
+    desk: &mut Desk<V>,
+    handle: &handles::Weak,
+) -> bool
+    requires domain { desk.old.domain ≡ domain.now.id }
+    requires holds { Holds desk.old Weak handle.now.block handle.now.place }
+    ensures expired { IsExpiry desk.old handle.now.block handle.now.place result desk.new }
+    ensures bag { bag_of desk.new ≡ bag_of desk.old }
+    ensures held { desk.new.held ≡ desk.old.held }
+    ensures keeps { Keeps desk.old desk.new }
+{
+    let Some(block) = handle.block() else {
+        return true;
+    };
+    let of = Pointer {
+        kind: Kind::Weak,
+        block,
+        place: handle.place(),
+    };
+    calls::is_expired::<V, Brand>(domain, desk, of)
+}

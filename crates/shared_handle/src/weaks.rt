@@ -1,0 +1,62 @@
+//! Weak pointers ([util.smartptr.weak]).
+ghost use Rattle.std.specs.Prelude.{◌≡◌, ◌↔◌, ◌+◌, Bool, cond, length, IfErr, IfOk, IsErr, OnOk};
+ghost use Rattle.control_word.specs.declared.handle.Kind.TheVariants.{Weak};
+ghost use Rattle.control_block.specs.Desks.{IsSameDesk, Keeps, KeepsEndings, allowance_of, bag_of, stock_of};
+ghost use Rattle.shared_handle.specs.Calls.{Holds, LeavesWeakly, SharesWeakly, weak_place, with_handle, without_handle};
+
+use control_block::desk::Desk;
+use control_block::domain::Domain;
+use control_block::handles::Pointer;
+use control_block::{calls, handles};
+use control_word::Refusal;
+use control_word::handle::Kind;
+use std::marker::Brand;
+
+/// A copy of a weak pointer ([util.smartptr.weak.const]): one weak handle more, which points where the handle does. Of an
+/// empty one it is empty with a null place, and touches no word. It is refused `Limit` just where the desk is at its
+/// allowance, and then nothing changes.
+pub fn share_weak<V: Drop + Send>(
+    domain: &Domain<V>,
+    desk: &mut Desk<V>,
+    handle: &handles::Weak,
+) -> Result<handles::Weak, Refusal>
+    requires domain { desk.old.domain ≡ domain.now.id }
+    requires holds { Holds desk.old Weak handle.now.block handle.now.place }
+    ensures limit { IsErr result ↔ (desk.old.held ≡ allowance_of desk.old) }
+    ensures refused { IfErr result (λ why. (why ≡ Refusal.Limit) × (desk.new ≡ desk.old)) }
+    ensures handle { IfOk result (λ h. (h.block ≡ handle.now.block) × (h.place ≡ weak_place handle.now.block handle.now.place)) }
+    ensures event { OnOk result (SharesWeakly desk.old handle.now.block handle.now.place desk.new) }
+    ensures bag { OnOk result (bag_of desk.new ≡ with_handle Weak handle.now.block handle.now.place (bag_of desk.old)) }
+    ensures held { OnOk result (desk.new.held ≡ desk.old.held + 1) }
+    ensures keeps { OnOk result (Keeps desk.old desk.new) }
+{
+    let Some(block) = handle.block() else {
+        calls::count_empty(desk)?;
+        return Ok(handles::Weak::of_parts(None, None));
+    };
+    calls::share_weak::<V, Brand>(domain, desk, block, handle.place())
+}
+
+/// A weak pointer leaves ([util.smartptr.weak.dest]). Where it was the last handle of an object that is gone, its block
+/// is vacant, and in the desk's store.
+pub fn release_weak<V: Drop + Send>(domain: &Domain<V>, desk: &mut Desk<V>, handle: handles::Weak)
+    requires domain { desk.old.domain ≡ domain.now.id }
+    requires holds { Holds desk.old Weak handle.block handle.place }
+    ensures event { (vacant : Bool) × LeavesWeakly desk.old handle.block handle.place vacant desk.new × (length (stock_of desk.new) ≡ length (stock_of desk.old) + cond vacant 1 0) }
+    ensures bag { bag_of desk.new ≡ without_handle Weak handle.block handle.place (bag_of desk.old) }
+    ensures held { desk.new.held + 1 ≡ desk.old.held }
+    ensures desk { IsSameDesk desk.old desk.new }
+    ensures endings { KeepsEndings desk.old desk.new }
+{
+    let (block, place) = handle.into_parts();
+    let Some(block) = block else {
+        calls::spend_empty(desk);
+        return;
+    };
+    let of = Pointer {
+        kind: Kind::Weak,
+        block,
+        place,
+    };
+    calls::leave_weak::<V, Brand>(domain, desk, of);
+}

@@ -1,0 +1,22 @@
+-- A text that was taken, and then a flush.
+use Rattle.std.proofs.Common.{◌≡◌, ℕ, List, [], ◌++◌, Option, Result, Ok, Err, sym, subst, append_assoc}
+use Rattle.std.specs.Prelude.{IfErr}
+use Rattle.std.specs.Io.KnownBytes.{Appends, Keeps}
+use Rattle.std.proofs.lemmas.List.{append-nil}
+use Rattle.script_text.specs.declared.fault.Fault.{Fault}
+use Rattle.script_text.specs.declared.fault.Fault.TheVariants.{Output}
+use Rattle.script_stepper.specs.Runs.{Delivers}
+use Rattle.script_stepper.specs.Sinks.{AppendsBeginning}
+use Rattle.script_stepper.proofs.Writing.{Appends-kept, Appends-then}
+
+kept_after : (a b c : Option (List ℕ)) (text : List ℕ) → Appends a b text → Keeps b c → Appends a c text
+kept_after a b c text h k = subst (Appends a c) (append-nil text) (Appends-then a b c text [] h (Appends-kept b c k))
+
+all_of : (a c : Option (List ℕ)) (text : List ℕ) → Appends a c text → AppendsBeginning a c text
+all_of a c text h = record { front = text; rest = []; text = sym (append-nil text); took = h }
+
+pub delivers_flushed : {A : Type 0} (told : Result (List ℕ) Fault → Type 0) (r : Result A Fault) (a b c : Option (List ℕ)) → (text : List ℕ) × told (Ok text) × Appends a b text
+    → Keeps b c → IfErr r (λ fault. fault ≡ Output) → Delivers told r a c
+delivers_flushed told (Ok x) a b c h k e = (h.0, h.1, kept_after a b c h.0 h.2 k)
+delivers_flushed {A} told (Err f) a b c h k e =
+    subst (λ (g : Fault). Delivers {A = A} told (Err g) a c) (sym e) (h.0, h.1, all_of a c h.0 (kept_after a b c h.0 h.2 k))

@@ -1,0 +1,119 @@
+//! What the commands answer to the script on the input.
+
+ghost use Rattle.std.specs.Prelude.{◌≡◌, ◌⊎◌, ◌||◌, false, List, IfOk, IfErr, IfSome, OnOk, string_bytes};
+ghost use Rattle.script_text.specs.declared.fault.Fault.TheVariants.{Input, Memory};
+ghost use Rattle.script_stepper.specs.Runs.{Delivers, Tells, Writes, is_output, text_in};
+ghost use Rattle.std.specs.Io.KnownBytes.{Keeps};
+ghost use Rattle.sptr.specs.Lines.{ok_line};
+ghost use Rattle.sptr.specs.Serving.{Counts, UnlessInput};
+
+use script_stepper::{Output, step_text, write_text};
+use script_text::{Fault, parse};
+use std::alloc::{AllocError, Global};
+use std::fmt::Write as _;
+use std::io::{ErrorKind, Read, Write};
+
+/// All that is on the input.
+fn bytes_of<I: Read>(alloc: Global, input: &mut I) -> Result<Vec<u8>, Fault>
+    ensures ok { IfOk result (λ v. IfSome (I.remaining input.old) (λ bytes. v.items ≡ bytes)) }
+    ensures err { IfErr result (λ fault. (fault ≡ Input) ⊎ (fault ≡ Memory)) }
+{
+    let mut bytes = Vec::new(alloc);
+    match input.read_to_end(&mut bytes) {
+        Ok(_) => Ok(bytes),
+        Err(error) => match error.kind() {
+            ErrorKind::OutOfMemory => Err(Fault::Memory),
+            _ => Err(Fault::Input),
+        },
+    }
+}
+
+fn ok_text(alloc: Global, threads: u32, statements: u32) -> Result<String, AllocError>
+    ensures { IfOk result (λ line. string_bytes line ≡ ok_line threads statements) }
+{
+    let mut line = String::new(alloc);
+    write!(line, "ok threads {threads}")?;
+    write!(line, " statements {statements}")?;
+    line.push('\n')?;
+    Ok(line)
+}
+
+/// The answer of `check` on a script's text.
+fn counted(alloc: Global, text: &[u8]) -> Result<String, Fault>
+    ensures { Counts text.now (text_in result) }
+{
+    let script = parse(alloc, text)?;
+    match ok_text(alloc, script.threads(), script.statements()) {
+        Ok(line) => Ok(line),
+        Err(_) => Err(Fault::Memory),
+    }
+}
+
+/// Makes sure that all that was written has gone out.
+fn flushed<O: Write>(output: &mut Output<O>) -> Result<(), Fault>
+    ensures kept { Keeps (O.contents output.old.writer) (O.contents output.new.writer) }
+    ensures err { IfErr result (λ fault. fault ≡ Fault.Output) }
+    ensures failed { output.new.has_failed ≡ (output.old.has_failed || is_output result) }
+{
+    match output.flush() {
+        Ok(()) => Ok(()),
+        Err(_) => Err(Fault::Output),
+    }
+}
+
+/// Writes a text, and makes sure that it has gone out.
+pub(crate) fn written<O: Write>(text: &[u8], output: &mut Output<O>) -> Result<(), Fault>
+    requires { output.old.has_failed ≡ false }
+    ensures writes { Writes text.now result (O.contents output.old.writer) (O.contents output.new.writer) }
+    ensures failed { output.new.has_failed ≡ is_output result }
+{
+    write_text(text, output)?;
+    flushed(output)
+}
+
+/// Writes the lines of a run, and makes sure that they have gone out.
+fn stepped<O: Write>(
+    alloc: Global,
+    script: &[u8],
+    turns: &[u8],
+    output: &mut Output<O>,
+) -> Result<(), Fault>
+    requires { output.old.has_failed ≡ false }
+    ensures told { Delivers (Tells script.now turns.now) result (O.contents output.old.writer) (O.contents output.new.writer) }
+    ensures failed { output.new.has_failed ≡ is_output result }
+{
+    step_text(alloc, script, turns, output)?;
+    flushed(output)
+}
+
+/// Answers `check`: how many threads and statements the script on the input has.
+pub(crate) fn check<I: Read, O: Write>(
+    alloc: Global,
+    input: &mut I,
+    output: &mut Output<O>,
+) -> Result<(), Fault>
+    requires { output.old.has_failed ≡ false }
+    ensures counts { IfSome (I.remaining input.old) (λ bytes.
+        Delivers (UnlessInput (Counts bytes)) result (O.contents output.old.writer) (O.contents output.new.writer)) }
+    ensures failed { output.new.has_failed ≡ is_output result }
+{
+    let bytes = bytes_of(alloc, input)?;
+    let text = counted(alloc, bytes.as_slice())?;
+    written(text.as_bytes(), output)
+}
+
+/// Answers `step`: the lines of the run of the script on the input, with a list of turns.
+pub(crate) fn step<I: Read, O: Write>(
+    alloc: Global,
+    turns: &str,
+    input: &mut I,
+    output: &mut Output<O>,
+) -> Result<(), Fault>
+    requires { output.old.has_failed ≡ false }
+    ensures tells { IfSome (I.remaining input.old) (λ bytes.
+        Delivers (UnlessInput (Tells bytes turns.now)) result (O.contents output.old.writer) (O.contents output.new.writer)) }
+    ensures failed { output.new.has_failed ≡ is_output result }
+{
+    let bytes = bytes_of(alloc, input)?;
+    stepped(alloc, bytes.as_slice(), turns.as_bytes(), output)
+}

@@ -1,0 +1,95 @@
+-- A thread at its start fits the table.
+use Rattle.std.proofs.Common.{◌≡◌, ℕ, zero, suc, ◌+◌, ◌<◌, ◌≤◌, Bool, false, List, [], ◌∷◌, ◌++◌, length}
+use Rattle.std.proofs.Common.{get_or, replicate, refl, sym, ap, subst, ◌∙◌, arith}
+use Rattle.std.specs.Prelude.{All, Option, None, Some, slice_get}
+use Rattle.std.proofs.lemmas.List.{length-replicate}
+use Rattle.std.proofs.lemmas.List.Elements.{All-head, All-tail}
+use Rattle.control_word.specs.declared.handle.Handle.{Handle}
+use Rattle.control_word.specs.declared.view.Pending.TheVariants.{Idle}
+use Rattle.control_word.specs.declared.view.View.{View}
+use Rattle.step_core.specs.declared.act.Task.{Task}
+use Rattle.step_core.specs.declared.call.Call.{Call}
+use Rattle.step_core.specs.declared.call.Call.TheVariants as call
+use Rattle.step_core.specs.declared.call.Kind.{Kind}
+use Rattle.step_core.specs.declared.call.Kind.TheVariants.{Owner}
+use Rattle.step_core.specs.declared.call.Name.{Name}
+use Rattle.step_core.specs.declared.extent.Extent.{Extent}
+use Rattle.step_core.specs.declared.holdings.Pointer.{Pointer}
+use Rattle.step_core.specs.Acts.{acts, clearing, numbered, tasks_from}
+use Rattle.step_core.specs.Courses.{IsReady, Ready, hand}
+use Rattle.step_core.specs.Holdings.{Holds, IsSlot, Slots, full, owns, slot}
+use Rattle.step_core.specs.Programs.{IsDeclared, IsPart, IsWellNamed, Part, names_of}
+use Rattle.step_core.specs.Starts.{HasFields, first_story}
+use Rattle.step_core.specs.Stories.{Nothing, Story, pending}
+use Rattle.step_core.proofs.tables.Start.{fresh_at}
+
+-- empty slots
+slot_none : (n i : ℕ) → slot (replicate n None) i ≡ None
+slot_none zero i = refl
+slot_none (suc n) zero = refl
+slot_none (suc n) (suc i) = slot_none n i
+
+none_owned : (v : Story) (h : Handle) (n : ℕ) → owns v (replicate n None) h ≡ 0
+none_owned v h zero = refl
+none_owned v h (suc n) = none_owned v h n
+
+none_full : (n : ℕ) → full (replicate n None) ≡ 0
+none_full zero = refl
+none_full (suc n) = none_full n
+
+pub holds_start : (d n : ℕ) (x : Extent) → Holds d (replicate n None) (first_story x)
+holds_start d n x =
+    record {
+      owned = λ h. sym (none_owned (first_story x) h n);
+      size = sym (none_full n);
+      formed = λ i. subst IsSlot (sym (slot_none n i)) tt;
+    }
+
+pub idle_start : (d : ℕ) (x : Extent) → d < x.actors → pending (first_story x) d ≡ Idle
+idle_start d x lt = ap (λ (v : View Nothing). v.pending) (fresh_at 0 x.actors d lt)
+
+-- a call's names are below the number of names
+within : (kinds : List Kind) (i : ℕ) (k : Kind) → slice_get kinds i ≡ Some k → i < length kinds
+within [] i k e = cc
+within (x ∷ xs) zero k e = omega arith
+within (x ∷ xs) (suc i) k e = let r = within xs i k e in omega (arith, r)
+
+clearing_ready : (n k : ℕ) (taken : Bool) → k ≤ n → Ready n taken (clearing k)
+clearing_ready n zero taken le = tt
+clearing_ready n (suc k) taken le = (omega arith, clearing_ready n k taken (omega arith))
+
+-- the i-th name of a call
+name_within : (kinds : List Kind) (c : Call) (i : ℕ) (x : Name × Kind) → i < length (names_of c) → x ≡ get_or (names_of c) i x → IsWellNamed kinds c
+    → x.0.0 < length kinds
+name_within kinds c i x lt e named = within kinds x.0.0 x.1 (subst (IsDeclared kinds) (sym e) (named i x lt))
+
+call_ready : (kinds : List Kind) (k : ℕ) (c : Call) (ts : List Task) → IsWellNamed kinds c → HasFields c → Ready (length kinds) false ts
+    → Ready (length kinds) false (numbered k (acts c) ++ ts)
+call_ready kinds k (call.Make t f) ts named four r = ((refl, four), (name_within kinds (call.Make t f) 0 (t, Owner) (omega arith) refl named, r))
+call_ready kinds k (call.Empty t) ts named four r = (name_within kinds (call.Empty t) 0 (t, Owner) (omega arith) refl named, r)
+call_ready kinds k (call.Reset t) ts named four r = (name_within kinds (call.Reset t) 0 (t, Owner) (omega arith) refl named, r)
+call_ready kinds k (call.Copy t s) ts named four r = (
+  (name_within kinds (call.Copy t s) 1 (s, Owner) (omega arith) refl named, refl),
+  (name_within kinds (call.Copy t s) 0 (t, Owner) (omega arith) refl named, r),
+)
+call_ready kinds k (call.Count t) ts named four r = (name_within kinds (call.Count t) 0 (t, Owner) (omega arith) refl named, r)
+
+tasks_ready : (kinds : List Kind) (k : ℕ) (calls : List Call) → All (IsWellNamed kinds) calls → All HasFields calls
+    → Ready (length kinds) false (tasks_from k calls (length kinds))
+tasks_ready kinds k [] named four = clearing_ready (length kinds) (length kinds) false (omega arith)
+tasks_ready kinds k (c ∷ cs) named four =
+    call_ready kinds k c (tasks_from (k + 1) cs (length kinds)) (All-head (IsWellNamed kinds) c cs named) (All-head HasFields c cs four)
+    (tasks_ready kinds (k + 1) cs (All-tail (IsWellNamed kinds) c cs named) (All-tail HasFields c cs four))
+
+pub ready_start : (part : Part) (tasks : List Task) (slots : Slots) → IsPart part → All HasFields part.calls
+    → tasks ≡ tasks_from 1 part.calls (length part.kinds) → slots ≡ replicate (length part.kinds + 1) None → IsReady slots false tasks
+ready_start part tasks slots fine four is empty =
+    let l = length-replicate {A = Option Pointer} (length part.kinds + 1) None in
+    let s : length slots ≡ length part.kinds + 1 = ap (λ (z : Slots). length z) empty ∙ l in
+    let h : hand slots ≡ length part.kinds = omega (arith, s) in
+    record {
+      some = omega (arith, s);
+      free = λ t. ap (λ (z : Slots). slot z (hand slots)) empty ∙ slot_none (length part.kinds + 1) (hand slots);
+      ready = subst (λ (n : ℕ). Ready n false tasks) (sym h) (subst (λ (z : List Task). Ready (length part.kinds) false z) (sym is)
+          (tasks_ready part.kinds 1 part.calls fine.named four));
+    }

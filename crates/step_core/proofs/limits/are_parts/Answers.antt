@@ -1,0 +1,27 @@
+use Rattle.std.proofs.Common.{◌≡◌, true, false, refl, sym, subst, arith}
+use Rattle.std.specs.Prelude.{All}
+use Rattle.std.proofs.lemmas.List.Elements.{All-map}
+use Rattle.step_core.specs.declared.call.Actor.{Actor}
+use Rattle.step_core.specs.Programs.{IsPart, Part, part_of}
+use Rattle.step_core.specs.Starts.{HasFields}
+use Rattle.step_core.proofs.Programs.{all_mapped}
+use Rattle.step_core.proofs.limits.are_parts.Goals as goal
+
+pub returns-then-not-is_part-clause-parts : goal.returns-then-not-is_part-clause-parts
+returns-then-not-is_part-clause-parts c = (
+  λ t. absurd (let k : ◌≡◌ false true = t in cc),
+  λ all. c.if-not-is_part.ensures.part.1 (subst (λ (a : Actor). IsPart (part_of a)) (sym c.actor-item.is)
+      (all_mapped IsPart part_of c.args.actors.now all c.loop-actor.actor-index c.actor-item.result c.loop-actor-test.true)),
+)
+
+pub returns-clause-parts : goal.returns-clause-parts
+returns-clause-parts c = (
+  λ t. All-map IsPart part_of c.args.actors.now
+      (λ k d lt. c.loop-actor.invariant.parts k d (let n = c.loop-actor-test.false in omega arith)),
+  λ a. refl,
+)
+
+pub returns-clause-fields : goal.returns-clause-fields
+returns-clause-fields c = λ t.
+    All-map (λ (part : Part). All HasFields part.calls) part_of c.args.actors.now
+    (λ k d lt. c.loop-actor.invariant.fields k d (let n = c.loop-actor-test.false in omega arith))

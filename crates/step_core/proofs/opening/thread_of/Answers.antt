@@ -1,0 +1,31 @@
+use Rattle.std.proofs.Common.{◌≡◌, ◌+◌, ◌∙◌, ℕ, List, length, sym, ap, subst, arith}
+use Rattle.step_core.specs.declared.call.Call.{Call}
+use Rattle.step_core.specs.Acts.{tasks_from}
+use Rattle.step_core.specs.Holdings.{Holds, Slots}
+use Rattle.step_core.specs.Programs.{part_of}
+use Rattle.step_core.specs.Starts.{first_story, no_slots}
+use Rattle.step_core.proofs.Starts.{holds_start, idle_start, ready_start}
+use Rattle.step_core.proofs.opening.thread_of.Goals as goal
+
+pub settle-requires-clause-ready : goal.settle-requires-clause-ready
+settle-requires-clause-ready c =
+    let n : c.len-names.result ≡ length c.args.actor.now.kinds.items = omega arith in
+    ready_start (part_of c.args.actor.now) c.in_ok-tasks.tasks.items c.in_ok-holdings.holdings.slots.items c.requires.part c.requires.fields
+    (c.in_ok-tasks.ensures ∙ ap (λ (l : List Call). tasks_from 1 l c.len-names.result) c.as_slice.ensures.value
+    ∙ ap (λ (m : ℕ). tasks_from 1 c.args.actor.now.calls.items m) n)
+    (c.in_ok-holdings.ensures ∙ ap no_slots n)
+
+pub returns-clause-fits : goal.returns-clause-fits
+returns-clause-fits c =
+    record {
+      seat = c.requires.desk;
+      holds = c.settle.ensures.holds c.args.desk (first_story c.args.extent.now)
+          (subst (λ (s : Slots). Holds c.args.desk s (first_story c.args.extent.now)) (sym c.in_ok-holdings.ensures)
+          (holds_start c.args.desk (c.len-names.result + 1) c.args.extent.now));
+      within = c.settle.ensures.within;
+      ready = c.settle.ensures.ready;
+      still = c.settle.ensures.still;
+      half = idle_start c.args.desk c.args.extent.now c.requires.desk;
+      next = tt;
+      stocks = c.in_ok-stock.ensures;
+    }

@@ -1,0 +1,91 @@
+-- No half-done call takes anything from a count, and objects have four fields.
+use Rattle.std.proofs.Common.{◌≡◌, ◌≢◌, ℕ, suc, ◌<◌, ◌≤◌, cond, List, [], ◌∷◌, length, refl, sym, ap}
+use Rattle.std.proofs.Common.{subst, ⊎_elim, arith}
+use Rattle.std.proofs.Common.{get_or-set_same, get_or-set_other, ne_eqb}
+use Rattle.std.proofs.lemmas.Bool.{cases_eq, cond_both, cond-false}
+use Rattle.control_word.proofs.lists.Tallies.{put_cases}
+use Rattle.control_word.specs.declared.view.Pending.{Pending}
+use Rattle.control_word.specs.declared.view.Pending.TheVariants.{Idle, Making, Merging, Parting, Paying, Visiting}
+use Rattle.control_word.specs.declared.view.View.{View}
+use Rattle.control_word.specs.Events.{moved_to}
+use Rattle.control_word.specs.Histories.{IsLegal}
+use Rattle.control_word.specs.Layout.{spot}
+use Rattle.control_word.specs.State.{Object, ending}
+use Rattle.control_word.specs.Views.{added, adds, owed, owes, total, used_up}
+use Rattle.step_core.specs.declared.past.Deed.{Deed}
+use Rattle.step_core.specs.declared.past.Deed.TheVariants.{Prepare, Write, Claim, Share, Leave, Count, Clear, Finish}
+use Rattle.step_core.specs.Openings.{opening}
+use Rattle.step_core.specs.Stories.{AllWhole, IsCalm, Kept, Nothing, Story, after, history_after, object_in, pending, pending_after, state, view_in}
+
+calm_deed : (v : Story) (d : ℕ) (x : Deed) → IsCalm (pending_after v d x)
+calm_deed v d (Prepare b) = tt
+calm_deed v d (Write b j n) = tt
+calm_deed v d (Claim b enabled null fields) = tt
+calm_deed v d (Share b p q) = tt
+calm_deed v d (Leave b p last) = tt
+calm_deed v d (Count b p n) = tt
+calm_deed v d (Clear b m) = tt
+calm_deed v d (Finish b vacant) = tt
+
+pub calm_after : (v : Story) (d : ℕ) (x : Deed) → d < length v.views → ((e : ℕ) → IsCalm (pending v e)) → (e : ℕ) → IsCalm (pending (after v d x) e)
+calm_after v d x lt calm e =
+    ⊎_elim (λ (is : e ≡ d). subst (λ (q : ℕ). IsCalm (pending (after v d x) q)) (sym is)
+    (subst IsCalm (ap (λ (w : View Nothing). w.pending) (sym (get_or-set_same v.views d _ used_up lt))) (calm_deed v d x)))
+    (λ (ne : e ≢ d). subst IsCalm (ap (λ (w : View Nothing). w.pending) (sym (get_or-set_other v.views d e _ used_up ne))) (calm e)) (cases_eq e d)
+
+-- an object goes to another phase
+moved_whole : (v : Story) (i : ℕ) (y : Object) (o : ℕ) → AllWhole (state v) → y.fields ≡ ((state v).object i).fields → 0 < o → o ≤ (state v).made
+    → (o ≡ i) → length y.fields ≡ 4
+moved_whole v i y o whole same some le is =
+    subst (λ (l : List ℕ). length l ≡ 4) (sym same) (subst (λ (j : ℕ). length ((state v).object j).fields ≡ 4) is (whole o some le))
+
+pub whole_after : (v : Story) (d : ℕ) (x : Deed) → AllWhole (state v) → IsLegal (opening v.extent) (history_after v d x)
+    → AllWhole (state (after v d x))
+whole_after v d (Prepare b) whole legal = whole
+whole_after v d (Write b j n) whole legal = whole
+whole_after v d (Claim b enabled null fields) whole legal = λ o some le.
+    put_cases (λ j (y : Object). o ≡ j → length y.fields ≡ 4) (state v).object (suc (state v).made) _ o (λ e t. legal.1.asks.1)
+    (λ ne t. whole o some (omega arith)) refl
+whole_after v d (Share b p q) whole legal = whole
+whole_after v d (Leave b p last) whole legal = λ o some le.
+    let i = object_in v b in
+    let y = (state v).object i in
+    put_cases (λ j (z : Object). o ≡ j → length z.fields ≡ 4) (state v).object i _ o
+    (λ e t. moved_whole v i (cond last (moved_to (ending d) y) y) o whole
+    (cond_both last (moved_to (ending d) y) y (λ (z : Object). z.fields ≡ y.fields) (λ s. refl) (λ s. refl)) some le e) (λ ne t. whole o some le) refl
+whole_after v d (Count b p n) whole legal = whole
+whole_after v d (Clear b m) whole legal = λ o some le.
+    put_cases (λ j (z : Object). o ≡ j → length z.fields ≡ 4) (state v).object (object_in v b) _ o
+    (λ e t. moved_whole v (object_in v b) ((state v).object (object_in v b)) o whole refl some le e) (λ ne t. whole o some le) refl
+whole_after v d (Finish b vacant) whole legal = λ o some le.
+    put_cases (λ j (z : Object). o ≡ j → length z.fields ≡ 4) (state v).object (object_in v b) _ o
+    (λ e t. moved_whole v (object_in v b) ((state v).object (object_in v b)) o whole refl some le e) (λ ne t. whole o some le) refl
+
+none_in : (f : Pending Nothing → ℕ) (views : List (View Nothing)) → ((d : ℕ) → f (view_in views d).pending ≡ 0)
+    → total (λ (w : View Nothing). f w.pending) views ≡ 0
+none_in f [] none = refl
+none_in f (w ∷ ws) none = let a : f w.pending ≡ 0 = none 0 in let i = none_in f ws (λ d. none (suc d)) in omega (arith, a, i)
+
+owes_none : (p : Pending Nothing) (i : ℕ) → IsCalm p → owes p i ≡ 0
+owes_none Idle i calm = refl
+owes_none (Making b l) i calm = refl
+owes_none (Paying k o p word funds loads) i calm = absurd calm
+owes_none (Visiting o p word x) i calm = absurd calm
+owes_none (Parting to) i calm = absurd calm
+owes_none (Merging other x y) i calm = absurd calm
+
+-- no load is under way
+pub nothing_owed : (v : Story) (i : ℕ) → Kept v → owed v.views i ≡ 0
+nothing_owed v i kept = none_in (λ p. owes p i) v.views (λ d. owes_none (pending v d) i (kept.calm d))
+
+adds_none : (p : Pending Nothing) (b : ℕ) → IsCalm p → adds p (spot b 2) ≡ 0
+adds_none Idle b calm = refl
+adds_none (Making c l) b calm = cond-false _ 1 0 (ne_eqb (spot b 2) (spot c.0 1) (λ e. omega arith))
+adds_none (Paying k o p word funds loads) b calm = absurd calm
+adds_none (Visiting o p word x) b calm = absurd calm
+adds_none (Parting to) b calm = absurd calm
+adds_none (Merging other x y) b calm = absurd calm
+
+-- no door is shut
+pub no_door : (v : Story) (b : ℕ) → Kept v → added v.views (spot b 2) ≡ 0
+no_door v b kept = none_in (λ p. adds p (spot b 2)) v.views (λ d. adds_none (pending v d) b (kept.calm d))

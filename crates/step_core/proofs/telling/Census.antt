@@ -1,0 +1,163 @@
+-- Where nothing is half done, the counts of a block are exactly the handles on what is in it.
+use Rattle.std.proofs.Common.{◌≡◌, ◌≢◌, ℕ, zero, suc, ◌+◌, ◌-◌, ◌<◌, ◌≤◌, ◌==◌, cond, List, [], ◌∷◌, length, map, get_or, refl, sym, ap, subst, ◌∙◌}
+use Rattle.std.proofs.Common.{⊎_elim, arith, eq-eqb, ne_eqb}
+use Rattle.std.specs.Prelude.{All, Option, Some, None, slice_get, slice_index}
+use Rattle.std.proofs.lemmas.Bool.{cases_eq, cond-true, cond-false}
+use Rattle.std.proofs.lemmas.List.{length-map}
+use Rattle.std.proofs.lemmas.List.Elements.{All-tail}
+use Rattle.std.proofs.lemmas.Option.{same_Some}
+use mathlib.Core.Option.{some, some-injective, some-ne-none}
+use lib.ListN.{get_elem?}
+use Rattle.control_word.proofs.history.Legal.{sound}
+use Rattle.control_word.proofs.history.Soundness.{OwnersFit, Sound}
+use Rattle.control_word.proofs.views.Resting.{rests_exactly}
+use Rattle.control_word.specs.declared.counts.Counts.{Counts}
+use Rattle.control_word.specs.declared.view.Pending.{Pending}
+use Rattle.control_word.specs.declared.view.Pending.TheVariants.{Idle}
+use Rattle.control_word.specs.declared.view.View.{View}
+use Rattle.control_word.specs.Layout.{spot}
+use Rattle.control_word.specs.Packing.{number_of}
+use Rattle.control_word.specs.State.{InShape, IsVacant, Opening, Phase, State, common, count, ending, gone, live, unmade, weak, weak_number}
+use Rattle.control_word.specs.Views.{NamesBlock, used_up}
+use Rattle.step_core.specs.declared.half.Half.{Half}
+use Rattle.step_core.specs.declared.half.Half.TheVariants.{Rest}
+use Rattle.step_core.specs.declared.thread.Thread.{Thread}
+use Rattle.step_core.specs.Actors.{HalfFits}
+use Rattle.step_core.specs.Openings.{opening}
+use Rattle.step_core.specs.Stories.{Kept, Nothing, Story, pending, state}
+use Rattle.step_core.specs.Threads.{fields_at}
+use Rattle.step_core.specs.Told.{EndsIn, IsTold, sight}
+use Rattle.step_core.specs.Totals.{IsAtEnd, census_of, counts_in}
+use Rattle.step_core.specs.Worlds.{AllFit, Sight, thread_half, thread_walk}
+
+at_view : (l : List (View Nothing)) (i : ℕ) (w : View Nothing) → get_elem? l i ≡ some w → (i < length l) × (get_or l i used_up ≡ w)
+at_view [] i w e = absurd (some-ne-none w (sym e))
+at_view (x ∷ xs) zero w e = (omega arith, some-injective x w e)
+at_view (x ∷ xs) (suc i) w e = let r = at_view xs i w e in (let l = r.0 in omega arith, r.1)
+
+-- nobody has begun anything, and no object is ending
+pub record IsStill (v : Story) : Type 0 where
+  pub idle : (d : ℕ) → d < v.extent.actors → pending v d ≡ Idle
+  pub none : (o e : ℕ) → ((state v).object o).phase ≡ ending e → ⊥
+
+pub exact : (v : Story) (b : ℕ) → Kept v → IsStill v → InShape (opening v.extent) b
+    → (number_of (slice_index v.words (spot b 0)) ≡ count (state v) ((state v).latest b))
+    × (number_of (slice_index v.words (spot b 1)) ≡ weak_number (state v) ((state v).latest b))
+exact v b kept still inside =
+    rests_exactly (opening v.extent) v.words v.views v.history kept.stands b inside
+    (record {
+      still = λ o e here p. still.none o e p;
+      unnamed = λ i w at names.
+          let r = at_view v.views i w at in
+          let size = kept.seats.size in
+          let lt : i < v.extent.actors = (let l = r.0 in omega (arith, l, size)) in
+          let p : w.pending ≡ Idle = ap (λ (z : View Nothing). z.pending) (sym r.1) ∙ still.idle i lt in
+          subst (λ (q : Pending Nothing). NamesBlock (state v) q b) p names;
+    })
+
+-- a block is vacant just where its latest object has no weak number
+vacant_by : (z : Opening) (s : State) (b : ℕ) → Sound z s → weak_number s (s.latest b) ≡ 0 → IsVacant s b
+vacant_by z s b fine none o here = go (weak_number s o) refl
+  where
+    go : (n : ℕ) → weak_number s o ≡ n → weak_number s o ≡ 0
+    go zero e = e
+    go (suc n) e =
+        let p = (fine.placed o (omega arith)).0 in
+        let q : s.latest b ≡ o = ap s.latest (sym here) ∙ p in ap (weak_number s) (sym q) ∙ none
+
+vacant_from : (z : Opening) (s : State) (b : ℕ) → Sound z s → IsVacant s b → weak_number s (s.latest b) ≡ 0
+vacant_from z s b fine vacant =
+    ⊎_elim (λ (e : s.latest b ≡ 0). ap (weak_number s) e ∙ fine.unmade_free 0 fine.none)
+    (λ (n : s.latest b ≢ 0). vacant (s.latest b) (fine.latest_in b n)) (cases_eq (s.latest b) 0)
+
+one_live : (p : Phase) (n : ℕ) → OwnersFit p n → ((e : ℕ) → p ≡ ending e → ⊥) → ◌≡◌ {A = ℕ} (cond (n == 0) 0 1) (common p)
+one_live unmade n fit still = cond-true (n == 0) 0 1 (eq-eqb n 0 fit)
+one_live live n fit still = cond-false (n == 0) 0 1 (ne_eqb n 0 (λ e. omega arith))
+one_live gone n fit still = cond-true (n == 0) 0 1 (eq-eqb n 0 fit)
+one_live (ending d) n fit still = absurd (still d refl)
+
+abbrev counted : ℕ → ℕ → Option Counts
+counted owners weaks = Some (record { owners = owners; weaks = weaks })
+
+-- the numbers that were read say what the state says
+pub census_is : (v : Story) (b owners number : ℕ) → Kept v → IsStill v → InShape (opening v.extent) b
+    → owners ≡ number_of (slice_index v.words (spot b 0)) → number ≡ number_of (slice_index v.words (spot b 1))
+    → counts_in owners number ≡ census_of (state v) b
+census_is v b owners number kept still inside read read' =
+    let s = state v in
+    let o = s.latest b in
+    let e = exact v b kept still inside in
+    let fine = sound (opening v.extent) v.history kept.stands.legal in
+    let p : owners ≡ count s o = read ∙ e.0 in
+    let q : number ≡ weak s o + common (s.object o).phase = read' ∙ e.1 in
+    let t : ◌≡◌ {A = ℕ} (cond (owners == 0) 0 1) (common (s.object o).phase) = ap (λ (n : ℕ). cond (n == 0) 0 1) p
+    ∙ one_live (s.object o).phase (count s o) (fine.owners o) (still.none o) in
+    let w : number - cond (owners == 0) 0 1 ≡ weak s o = omega (arith, q, t) in
+    ap (λ (n : ℕ). cond (n == 0) None (counted owners (number - cond (owners == 0) 0 1))) q
+    ∙ ap (λ (n : ℕ). cond (weak_number s o == 0) None (counted owners n)) w ∙ ap (λ (n : ℕ). cond (weak_number s o == 0) None (counted n
+    (weak s o))) p
+
+not_none : (c : Counts) → ◌≡◌ {A = Option Counts} (Some c) None → ⊥
+not_none c e = cc
+
+-- none is told just where the block is vacant
+pub none_vacant : (v : Story) (b : ℕ) → Kept v → (census_of (state v) b ≡ None → IsVacant (state v) b) × (IsVacant (state v) b → census_of
+    (state v) b ≡ None)
+none_vacant v b kept =
+    let s = state v in
+    let n = weak_number s (s.latest b) in
+    let fine = sound (opening v.extent) v.history kept.stands.legal in (
+      λ e. ⊎_elim (λ (z : n ≡ 0). vacant_by (opening v.extent) s b fine z)
+          (λ (z : n ≢ 0). absurd (not_none _ (sym (cond-false (n == 0) None (counted (count s (s.latest b)) (weak s (s.latest b)))
+          (ne_eqb n 0 z)) ∙ e)))
+          (cases_eq n 0),
+      λ a. cond-true (n == 0) None (counted (count s (s.latest b)) (weak s (s.latest b))) (eq-eqb n 0 (vacant_from (opening v.extent) s b fine a)),
+    )
+
+at_thread : (threads : List Thread) (d : ℕ) → d < length threads → (t : Thread) × (slice_get threads d ≡ Some t)
+at_thread [] d lt = absurd (omega arith)
+at_thread (t ∷ ts) zero lt = (t, refl)
+at_thread (t ∷ ts) (suc d) lt = at_thread ts d (omega arith)
+
+half_at : (threads : List Thread) (d : ℕ) (t : Thread) → slice_get threads d ≡ Some t → get_or (map thread_half threads) d Rest ≡ t.half
+half_at [] d t e = cc
+half_at (x ∷ xs) zero t e = ap thread_half (same_Some x t e)
+half_at (x ∷ xs) (suc d) t e = half_at xs d t e
+
+all_rest : (hs : List Half) (j : ℕ) → All (λ (h : Half). h ≡ Rest) hs → get_or hs j Rest ≡ Rest
+all_rest [] j all = refl
+all_rest (h ∷ hs) zero all = all 0 Rest (omega arith)
+all_rest (h ∷ hs) (suc j) all = all_rest hs j (All-tail (λ (x : Half). x ≡ Rest) h hs all)
+
+idle_end : (v : Story) (threads : List Thread) → AllFit v threads → All (λ (h : Half). h ≡ Rest) (map thread_half threads) → (d : ℕ)
+    → d < length threads → pending v d ≡ Idle
+idle_end v threads fit all d lt =
+    let t = at_thread threads d lt in
+    let h : t.0.half ≡ Rest = sym (half_at threads d t.0 t.1) ∙ all_rest (map thread_half threads) d all in
+    subst (λ (x : Half). HalfFits d x (fields_at t.0.course) v) h (fit.each d t.0 t.1).half
+
+-- a world whose threads are at their end
+still_end : (v : Story) (threads : List Thread) (m e : ℕ) → AllFit v threads → IsTold (sight v threads) m e → IsAtEnd (sight v threads) → IsStill v
+still_end v threads m e fit told end =
+    let l = length-map threads thread_walk in
+    let n = told.threads in
+    record {
+      idle = λ d lt. idle_end v threads fit end.halves d (omega (arith, l, n, lt));
+      none = λ o i p.
+          subst (λ (h : Half). EndsIn ((state v).object o).block h → ⊥) (sym (all_rest (map thread_half threads) i end.halves)) (λ t. t)
+          (told.endings o i p);
+    }
+
+pub still_now : (u : Sight) (v : Story) (threads : List Thread) (m e : ℕ) → sight v threads ≡ u → AllFit v threads → IsTold (sight v threads) m e
+    → IsAtEnd u → IsStill u.story
+still_now u v threads m e is fit told = subst (λ (x : Sight). IsAtEnd x → IsStill x.story) is (still_end v threads m e fit told)
+
+pub census_now : (u : Sight) (v : Story) (threads : List Thread) (m e b x y : ℕ) (r : Option Counts) → sight v threads ≡ u → AllFit v threads
+    → IsTold (sight v threads) m e → Kept v → IsAtEnd u → 0 < b → b ≤ u.story.extent.shape.blocks → x ≡ slice_index v.words (spot b 0)
+    → y ≡ slice_index v.words (spot b 1) → r ≡ counts_in (number_of x) (number_of y) → r ≡ census_of (state u.story) b
+census_now u v threads m e b x y r is fit told kept end from within read read' answer =
+    answer
+    ∙ census_is u.story b (number_of x) (number_of y) (subst (λ (z : Sight). Kept z.story) is kept)
+    (still_now u v threads m e is fit told end) (from, within)
+    (ap number_of read ∙ ap (λ (z : Sight). number_of (slice_index z.story.words (spot b 0))) is)
+    (ap number_of read' ∙ ap (λ (z : Sight). number_of (slice_index z.story.words (spot b 1))) is)

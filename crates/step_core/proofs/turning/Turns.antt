@@ -1,0 +1,101 @@
+-- Whole turns.
+use Rattle.std.proofs.Common.{◌≡◌, ℕ, ◌<◌, ◌==◌, false, Bool, List, [], ◌∷◌, length, set, get_or, refl, sym, ap, subst, ◌∙◌, eq-eqb}
+use Rattle.std.specs.Prelude.{Option, Some, None}
+use Rattle.std.proofs.lemmas.Bool.{cond-true, false≢true}
+use Rattle.std.proofs.lemmas.List.{set-set}
+use Rattle.control_word.specs.declared.place.Block.{Block}
+use Rattle.step_core.specs.declared.act.Act.{Act}
+use Rattle.step_core.specs.declared.act.Act.TheVariants.{Make}
+use Rattle.step_core.specs.declared.act.Task.{Task}
+use Rattle.step_core.specs.declared.half.Half.{Half}
+use Rattle.step_core.specs.declared.half.Half.TheVariants.{Rest, Making, Ending}
+use Rattle.step_core.specs.declared.said.Said.{Said}
+use Rattle.step_core.specs.declared.said.Stepped.{Stepped}
+use Rattle.step_core.specs.declared.said.Turned.{Turned}
+use Rattle.step_core.specs.Actors.{wanted}
+use Rattle.step_core.specs.Courses.{fields_of}
+use Rattle.step_core.specs.Scenes.{Scene, full_answer, holding, least, made, play, play_from, said, said_from, walk_of}
+use Rattle.step_core.specs.Steps.{Step, claims, prepares, stepped}
+use Rattle.step_core.specs.Stories.{known, pending, state}
+use Rattle.step_core.specs.Turning.{HasBegun, IsReady, IsUnderWay, Plays, Prepares, Rests, is_making, rested_half, turned, turned_by}
+use Rattle.step_core.specs.Worlds.{Sight, Steps, Turns, half_of, rested, scene, sight_by, step_of}
+use Rattle.step_core.proofs.turning.Making.{made_step}
+use Rattle.step_core.proofs.turning.Playing.{Acts, acted_said, acted_scene, plays_as}
+
+-- a claim is what the make says and makes
+claims_so : (d : ℕ) (u : Sight) (k : ℕ) (ts : List Task) (b : Block) (a : Act) → a ≡ Make (fields_of a) → least d (state u.story).stores ≡ Some b.0
+    → Acts d u k ts a (claims (walk_of (scene u) d) k ts b (fields_of a))
+claims_so d u k ts b a is low =
+    let w = walk_of (scene u) d in
+    let f = fields_of a in (
+      ap (λ (q : Option ℕ). record { statement = k; answer = full_answer q; ended = None }) (sym low) ∙ ap (acted_said d u k) (sym is),
+      ap (λ (q : Option ℕ). record { extent = u.story.extent; history = made d f u.story.history q; walks = set u.walks d (holding w.slots ts q) })
+          (sym low)
+          ∙ ap (acted_scene d u ts) (sym is),
+    )
+
+claimed_by : (d : ℕ) (u : Sight) (r : Stepped) (b : Block) (i : ℕ) (g : Bool) (ts : List Task) → half_of u d ≡ Making b i g → i ≡ 5
+    → (walk_of (scene u) d).todo ≡ ts → IsUnderWay d u.story (Making b i g) ts → d < length u.halves → r ≡ stepped u.story (step_of d u)
+    → Plays d u (turned_by r) (sight_by d u (step_of d u))
+claimed_by d u r b i g [] e five todo way lt answer = absurd way
+claimed_by d u r b i g (t ∷ ts) e five todo way lt answer =
+    let w = walk_of (scene u) d in
+    let f = fields_of t.act in
+    let x = claims w t.statement ts b f in
+    let is : step_of d u ≡ Some x = made_step d u b i g t ts e todo
+    ∙ ap (λ (y : Step). Some y) (cond-true (i == 5) x (prepares (get_or (known (pending u.story d)) i 0) (get_or
+    (wanted f) i 0) w t.statement b i g) (eq-eqb i 5 five)) in
+    plays_as d u t ts x r todo is answer (claims_so d u t.statement ts b t.act way.2 way.1) refl lt
+
+claimed : (d : ℕ) (u : Sight) (r : Stepped) (g h : Half) → half_of u d ≡ h → IsReady g h → HasBegun d u → r ≡ stepped u.story (step_of d u)
+    → Plays d u (turned_by r) (sight_by d u (step_of d u))
+claimed d u r (Making c j f) (Making b i g) e ready begun answer =
+    claimed_by d u r b i g (walk_of (scene u) d).todo e ready.1 refl
+    (subst (λ (h : Half). IsUnderWay d u.story h (walk_of (scene u) d).todo) e begun.half) begun.within answer
+claimed d u r (Making c j f) Rest e ready begun answer = absurd ready
+claimed d u r (Making c j f) (Ending b s k) e ready begun answer = absurd ready
+claimed d u r Rest h e ready begun answer = absurd ready
+claimed d u r (Ending b s k) h e ready begun answer = absurd ready
+
+-- what is done from the same scene
+pub plays_on : (d : ℕ) (u v w : Sight) (r : Turned) → scene v ≡ scene u → v.halves ≡ set u.halves d (half_of v d) → Plays d v r w → Plays d u r w
+plays_on d u v w r same halves plays =
+    record {
+      answer = plays.answer ∙ ap (λ (c : Scene). turned (said d c)) same;
+      scene = plays.scene ∙ ap (play d) same;
+      made = plays.made;
+      halves = plays.halves ∙ ap (λ (l : List Half). set l d (half_of w d)) halves ∙ set-set u.halves d (half_of v d) _;
+    }
+
+-- the claim after the words are prepared
+pub makes : (d : ℕ) (u v w : Sight) (r : Stepped) → Prepares d u v → HasBegun d v → Steps d v r w → Plays d u (turned_by r) w
+makes d u v w r prepares begun steps =
+    plays_on d u v w (turned_by r) prepares.scene prepares.halves
+    (subst (λ (x : Sight). Plays d v (turned_by r) x) (sym steps.1) (claimed d v r (half_of u d) (half_of v d) refl prepares.ready begun steps.0))
+
+no_todo : (c : Scene) (d : ℕ) (ts : List Task) → said_from c d (walk_of c d).slots ts ≡ None → ts ≡ []
+no_todo c d [] e = refl
+no_todo c d (t ∷ ts) e = cc
+
+over_rest : (h : Half) → is_making h ≡ false → rested_half h ≡ Rest
+over_rest Rest m = refl
+over_rest (Making b i f) m = absurd (false≢true (sym m))
+over_rest (Ending b s k) m = refl
+
+turns_by : (d : ℕ) (u u' : Sight) (r : Turned) (o : Option Said) → said d (rested u d) ≡ o → r ≡ turned o → scene u' ≡ play d (rested u d)
+    → u'.halves ≡ set u.halves d Rest → Turns d u r u'
+turns_by d u u' r (Some x) is answer played halves = subst (λ (t : Turned). Turns d u t u') (sym answer) (sym is, played, halves)
+turns_by d u u' r None is answer played halves =
+    let c = rested u d in
+    let t = no_todo c d (walk_of c d).todo is in
+    subst (λ (t : Turned). Turns d u t u') (sym answer) (t, played ∙ ap (play_from c d (walk_of c d)) t, halves)
+
+-- the end that is under way, the act, and the end that it began
+pub turns : (d : ℕ) (u v w u' : Sight) (r : Turned) → Rests d u v → Plays d v r w → Rests d w u' → Turns d u r u'
+turns d u v w u' r before plays behind =
+    turns_by d u u' r (said d (rested u d)) refl (plays.answer ∙ ap (λ (c : Scene). turned (said d c)) before.scene)
+    (behind.scene ∙ plays.scene ∙ ap (play d) before.scene)
+    (behind.halves ∙ ap (λ (l : List Half). set l d (rested_half (half_of w d))) (plays.halves
+    ∙ ap (λ (l : List Half). set l d (half_of w d)) before.halves)
+    ∙ ap (λ (l : List Half). set l d (rested_half (half_of w d))) (set-set u.halves d _ _) ∙ set-set u.halves d _ _
+    ∙ ap (set u.halves d) (over_rest (half_of w d) plays.made))

@@ -1,0 +1,9 @@
+use Rattle.step_core.specs.Worlds.{half_of}
+use Rattle.step_core.proofs.turning.Ending.{IsOn, left}
+use Rattle.step_core.proofs.world.World.rest.Given as goal
+
+abbrev pub invariant-loop-self : goal.invariant-loop-self
+invariant-loop-self l = IsOn l.number l.initial.self l.self
+
+abbrev pub decreases-loop-self : goal.decreases-loop-self
+decreases-loop-self l = left (half_of l.self l.number)

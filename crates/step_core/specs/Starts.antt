@@ -1,0 +1,53 @@
+-- How a world begins. All of it is own.
+use Rattle.std.specs.Prelude.{◌≡◌, ℕ, ◌+◌, ◌*◌, ◌≤◌, false, List, [], All, length, map, replicate, None}
+use Rattle.control_word.specs.declared.shape.Shape.{Shape}
+use Rattle.control_word.specs.Layout.{IsWithinLimits, table_size}
+use Rattle.control_word.specs.Views.{fresh}
+use Rattle.step_core.specs.declared.call.Call.{Call}
+use Rattle.step_core.specs.declared.call.Call.TheVariants.{Make, Empty, Reset, Copy, Count}
+use Rattle.step_core.specs.declared.extent.Extent.{Extent}
+use Rattle.step_core.specs.declared.half.Half.{Half}
+use Rattle.step_core.specs.declared.half.Half.TheVariants.{Rest}
+use Rattle.step_core.specs.Acts.{tasks_from}
+use Rattle.step_core.specs.Courses.{Walk, settled}
+use Rattle.step_core.specs.Holdings.{Slots}
+use Rattle.step_core.specs.Programs.{IsProgram, Part}
+use Rattle.step_core.specs.Worlds.{Sight}
+use Rattle.step_core.specs.Stories.{Story}
+
+-- a world of this shape may run the program: both are within the limits, with 40 handles or more for each actor
+pub record CanBegin (shape : Shape) (parts : List Part) : Type 0 where
+  pub limits : IsWithinLimits shape
+  pub program : IsProgram parts
+  pub enough : 40 * length parts ≤ shape.allowance
+
+abbrev pub extent_of : Shape → List Part → Extent
+extent_of shape parts = record { shape = shape; actors = length parts }
+
+-- n names and the hand, all empty
+abbrev pub no_slots : ℕ → Slots
+no_slots n = replicate (n + 1) None
+
+-- a thread that holds nothing, at the first act of its calls
+abbrev pub first_walk : Part → Walk
+first_walk part = settled (no_slots (length part.kinds)) false (tasks_from 1 part.calls (length part.kinds))
+
+-- all words are 0, and nothing has happened
+abbrev pub first_story : Extent → Story
+first_story x = record { extent = x; words = replicate (table_size x.shape) 0; views = fresh 0 x.actors; history = [] }
+
+-- nothing has happened and nothing has begun
+abbrev pub first_sight : Shape → List Part → Sight
+first_sight shape parts =
+    record { story = first_story (extent_of shape parts); walks = map first_walk parts; halves = map {B = Half} (λ (part : Part). Rest) parts }
+
+-- an object has four fields
+abbrev pub HasFields : Call → Type 0
+HasFields (Make target fields) = length fields ≡ 4
+HasFields (Empty target) = Unit {0}
+HasFields (Reset name) = Unit {0}
+HasFields (Copy target source) = Unit {0}
+HasFields (Count name) = Unit {0}
+
+abbrev pub AllHaveFields : List Part → Type 0
+AllHaveFields parts = All (λ (part : Part). All HasFields part.calls) parts

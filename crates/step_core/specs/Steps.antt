@@ -1,0 +1,127 @@
+-- What one step of a thread does, by what it has begun and by its next act. All of it is own.
+use Rattle.std.specs.Prelude.{ℕ, ◌+◌, ◌==◌, Bool, true, false, cond, List, [], ◌∷◌, get_or, is_some, Option, Some, None, option_map}
+use Rattle.control_word.specs.declared.place.Block.{Block}
+use Rattle.control_word.specs.State.{State, count, weak}
+use Rattle.step_core.specs.declared.act.Act.{Act}
+use Rattle.step_core.specs.declared.act.Act.TheVariants.{Make, Share, Put, Leave, Clear, Count}
+use Rattle.step_core.specs.declared.act.Task.{Task}
+use Rattle.step_core.specs.declared.half.Half.{Half}
+use Rattle.step_core.specs.declared.half.Half.TheVariants.{Rest, Making, Ending}
+use Rattle.step_core.specs.declared.holdings.Pointer.{Pointer}
+use Rattle.step_core.specs.declared.past.Deed.{Deed}
+use Rattle.step_core.specs.declared.past.Deed.TheVariants as deed
+use Rattle.step_core.specs.declared.said.Said.{Said}
+use Rattle.step_core.specs.declared.said.Stepped.{Stepped}
+use Rattle.step_core.specs.declared.said.Stepped.TheVariants.{Event, Quiet, Done}
+use Rattle.step_core.specs.Actors.{wanted}
+use Rattle.step_core.specs.Courses.{Walk, fields_of}
+use Rattle.step_core.specs.Holdings.{slot}
+use Rattle.step_core.specs.Scenes.{answer_of, ended_of, full_answer, holding, is_last, least, on, owned, went}
+use Rattle.step_core.specs.Stories.{Story, after, event_of, known, object_in, pending, state}
+
+-- what a step does to the table, if anything; what the thread has begun and not ended after it; where it is then; what it says
+pub record Step : Type 0 where
+  pub deed : Option Deed
+  pub half : Half
+  pub walk : Walk
+  pub said : Said
+
+abbrev pub silent : ℕ → Said
+silent k = record { statement = k; answer = None; ended = None }
+
+abbrev pub share : Pointer → Deed
+share x = deed.Share x.block x.place x.place
+
+abbrev pub leave : State → Pointer → Deed
+leave s x = deed.Leave x.block x.place (is_last s x)
+
+abbrev pub tell : State → Pointer → Deed
+tell s x = deed.Count x.block x.place (count s (owned s x))
+
+-- where the last owner leaves, the end of the object begins; its steps are of statement k
+abbrev pub end_of : State → ℕ → Pointer → Half
+end_of s k x = cond (is_last s x) (Ending x.block 0 k) Rest
+
+-- an act of statement k on what a slot holds
+abbrev pub acts : State → ℕ → Walk → ℕ → List Task → Act → Option Deed → Half → Step
+acts s d w k ts a x h =
+    record {
+      deed = x;
+      half = h;
+      walk = went s d w.slots w.taken ts a;
+      said = record { statement = k; answer = answer_of s d w.slots a; ended = ended_of s w.slots a };
+    }
+
+-- a make begins in the least block of the store; it is refused where there is none
+abbrev pub begins : Walk → ℕ → List Task → Option ℕ → Step
+begins w k ts None =
+    record { deed = None; half = Rest; walk = holding w.slots ts None; said = record { statement = k; answer = full_answer None; ended = None } }
+begins w k ts (Some b) =
+    let block : Block = record { 0 = b } in record { deed = Some (deed.Prepare block); half = Making block 0 false; walk = w; said = silent k }
+
+-- the first step of the next act, or the whole of it
+abbrev pub first : State → ℕ → Walk → ℕ → List Task → Act → Step
+first s d w k ts (Make fields) = begins w k ts (least d s.stores)
+first s d w k ts (Share i) = acts s d w k ts (Share i) (option_map share (slot w.slots i)) Rest
+first s d w k ts (Put i) = acts s d w k ts (Put i) (option_map (leave s) (slot w.slots i)) (on (end_of s k) Rest (slot w.slots i))
+first s d w k ts (Leave i) = acts s d w k ts (Leave i) (option_map (leave s) (slot w.slots i)) (on (end_of s k) Rest (slot w.slots i))
+first s d w k ts (Clear i) = acts s d w k ts (Clear i) (option_map (leave s) (slot w.slots i)) (on (end_of s k) Rest (slot w.slots i))
+first s d w k ts (Count i) = acts s d w k ts (Count i) (option_map (tell s) (slot w.slots i)) Rest
+
+abbrev pub begun : State → ℕ → Walk → List Task → Option Step
+begun s d w [] = None
+begun s d w (t ∷ ts) = Some (first s d w t.statement ts t.act)
+
+-- a make looks at a word of its block, and passes on where it is as wanted; a word that differs is written
+abbrev pub prepares : ℕ → ℕ → Walk → ℕ → Block → ℕ → Bool → Step
+prepares found want w k b i true = record { deed = Some (deed.Write b i want); half = Making b (i + 1) false; walk = w; said = silent k }
+prepares found want w k b i false =
+    record { deed = None; half = cond (found == want) (Making b (i + 1) false) (Making b i true); walk = w; said = silent k }
+
+-- the object is made: its owner comes into the hand
+abbrev pub claims : Walk → ℕ → List Task → Block → List ℕ → Step
+claims w k ts b fields = record { deed = Some (deed.Claim b false false fields); half = Rest; walk = holding w.slots ts (Some b.0); said = silent k }
+
+abbrev pub made_on : Story → ℕ → Walk → Block → ℕ → Bool → List Task → Option Step
+made_on v d w b i differs [] = None
+made_on v d w b i differs (t ∷ ts) =
+    Some (cond (i == 5) (claims w t.statement ts b (fields_of t.act))
+    (prepares (get_or (known (pending v d)) i 0) (get_or (wanted (fields_of t.act)) i 0) w t.statement b i differs))
+
+-- an object ends: its members are cleared in order, and then it is finished
+abbrev pub ends_on : Story → Walk → Block → ℕ → ℕ → Step
+ends_on v w b stage k =
+    cond (stage == 3) (record { deed = Some (deed.Finish b (weak (state v) (object_in v b) == 0)); half = Rest; walk = w; said = silent k })
+    (record { deed = Some (deed.Clear b stage); half = Ending b (stage + 1) k; walk = w; said = silent k })
+
+-- the step of desk d's thread that has begun this and is here; none at its end
+abbrev pub step_at : Story → ℕ → Half → Walk → Option Step
+step_at v d Rest w = begun (state v) d w w.todo
+step_at v d (Making b i differs) w = made_on v d w b i differs w.todo
+step_at v d (Ending b stage k) w = Some (ends_on v w b stage k)
+
+-- what it makes of the table
+abbrev pub story_after : Story → ℕ → Option Deed → Story
+story_after v d None = v
+story_after v d (Some x) = after v d x
+
+abbrev pub story_by : Story → ℕ → Option Step → Story
+story_by v d None = v
+story_by v d (Some x) = story_after v d x.deed
+
+abbrev pub walk_by : Walk → Option Step → Walk
+walk_by w None = w
+walk_by w (Some x) = x.walk
+
+abbrev pub half_by : Half → Option Step → Half
+half_by h None = h
+half_by h (Some x) = x.half
+
+abbrev pub is_event : Story → Option Deed → Bool
+is_event v None = false
+is_event v (Some x) = is_some (event_of v x)
+
+-- what the step answers: an event says so, and nothing waits
+abbrev pub stepped : Story → Option Step → Stepped
+stepped v None = Done
+stepped v (Some x) = cond (is_event v x.deed) (Event x.said) (Quiet x.said)

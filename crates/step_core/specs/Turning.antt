@@ -1,0 +1,80 @@
+-- The parts of a turn. All of it is own.
+use Rattle.std.specs.Prelude.{◌≡◌, ℕ, ◌<◌, ◌≤◌, Bool, true, false, not, ◌==◌, List, [], ◌∷◌, length, slice_set, Option, Some, None}
+use Rattle.step_core.specs.declared.act.Act.TheVariants.{Make}
+use Rattle.step_core.specs.declared.act.Task.{Task}
+use Rattle.step_core.specs.declared.half.Half.{Half}
+use Rattle.step_core.specs.declared.half.Half.TheVariants.{Rest, Making, Ending}
+use Rattle.step_core.specs.declared.said.Said.{Said}
+use Rattle.step_core.specs.declared.said.Stepped.{Stepped}
+use Rattle.step_core.specs.declared.said.Stepped.TheVariants as stepped
+use Rattle.step_core.specs.declared.said.Turned.{Turned}
+use Rattle.step_core.specs.declared.said.Turned.TheVariants.{Acted, Waited, Done}
+use Rattle.step_core.specs.Courses.{fields_of}
+use Rattle.step_core.specs.Scenes.{least, play, said, walk_of}
+use Rattle.step_core.specs.Stories.{Story, state}
+use Rattle.step_core.specs.Worlds.{Sight, half_of, rested, scene}
+
+-- a make that is under way is the next act, in the least block of the store
+abbrev pub IsUnderWay : ℕ → Story → Half → List Task → Type 0
+IsUnderWay d v Rest ts = Unit {0}
+IsUnderWay d v (Making b i differs) [] = ⊥
+IsUnderWay d v (Making b i differs) (t ∷ ts) = (i ≤ 5) × (least d (state v).stores ≡ Some b.0) × (t.act ≡ Make (fields_of t.act))
+IsUnderWay d v (Ending b stage k) ts = stage ≤ 3
+
+pub record HasBegun (d : ℕ) (u : Sight) : Type 0 where
+  pub within : d < length u.halves
+  pub half : IsUnderWay d u.story (half_of u d) (walk_of (scene u) d).todo
+
+abbrev pub is_ending : Half → Bool
+is_ending Rest = false
+is_ending (Making b i differs) = false
+is_ending (Ending b stage k) = true
+
+abbrev pub is_making : Half → Bool
+is_making Rest = false
+is_making (Making b i differs) = true
+is_making (Ending b stage k) = false
+
+-- a make that has words left to look at or to write
+abbrev pub is_preparing : Half → Bool
+is_preparing Rest = false
+is_preparing (Making b i differs) = not (i == 5)
+is_preparing (Ending b stage k) = false
+
+abbrev pub rested_half : Half → Half
+rested_half Rest = Rest
+rested_half (Making b i differs) = Making b i differs
+rested_half (Ending b stage k) = Rest
+
+-- thread d has finished the object that ended in its hands
+pub record Rests (d : ℕ) (u u' : Sight) : Type 0 where
+  pub scene : scene u' ≡ rested u d
+  pub over : is_ending (half_of u' d) ≡ false
+  pub halves : u'.halves ≡ slice_set u.halves d (rested_half (half_of u d))
+
+-- the same make, with its words prepared
+abbrev pub IsReady : Half → Half → Type 0
+IsReady (Making b i differs) (Making c j found) = (c ≡ b) × (j ≡ 5)
+IsReady _ _ = ⊥
+
+pub record Prepares (d : ℕ) (u u' : Sight) : Type 0 where
+  pub scene : scene u' ≡ scene u
+  pub ready : IsReady (half_of u d) (half_of u' d)
+  pub halves : u'.halves ≡ slice_set u.halves d (half_of u' d)
+
+abbrev pub turned_by : Stepped → Turned
+turned_by (stepped.Event x) = Acted x
+turned_by (stepped.Quiet x) = Acted x
+turned_by stepped.Waited = Waited
+turned_by stepped.Done = Done
+
+abbrev pub turned : Option Said → Turned
+turned None = Done
+turned (Some x) = Acted x
+
+-- thread d made its next act, but for the end of the object whose last owner left by it
+pub record Plays (d : ℕ) (u : Sight) (r : Turned) (u' : Sight) : Type 0 where
+  pub answer : r ≡ turned (said d (scene u))
+  pub scene : rested u' d ≡ play d (scene u)
+  pub made : is_making (half_of u' d) ≡ false
+  pub halves : u'.halves ≡ slice_set u.halves d (half_of u' d)

@@ -1,0 +1,60 @@
+//! What a world tells of its state.
+ghost use Rattle.std.specs.Prelude.{◌≡◌, ◌↔◌, ◌<◌, ◌≤◌, None};
+ghost use Rattle.control_word.specs.Packing.{number_of};
+ghost use Rattle.control_word.specs.State.{IsVacant};
+ghost use Rattle.step_core.specs.Stories.{state};
+ghost use Rattle.step_core.specs.Totals.{IsAtEnd, census_of, counts_in, ended_in, made_in};
+
+use crate::world::World;
+use control_word::counts::unpack_count;
+use control_word::layout::{OWNERS, WEAKS};
+use control_word::{Block, Counts};
+
+impl World {
+    /// How many owners and weak handles the object in a block has ([util.smartptr.shared.obs], and own); none where the block
+    /// is vacant. The weak handle that its owners have in common is not counted. Conditions: each actor is at its end, and
+    /// the block is one of the shape's, from 1.
+    pub fn census(&self, block: Block) -> Option<Counts>
+        requires end { IsAtEnd self.now }
+        requires some { 0 < block.0 }
+        requires within { block.0 ≤ self.now.story.extent.shape.blocks }
+        ensures counts { result ≡ census_of (state self.now.story) block.0 }
+        ensures vacant { result ≡ None ↔ IsVacant (state self.now.story) block.0 }
+    {
+        self.table.known();
+        counted(
+            self.table.word(block, OWNERS),
+            self.table.word(block, WEAKS),
+        )
+    }
+
+    /// How many objects were made (own).
+    pub fn made(&self) -> u32
+        ensures { result ≡ made_in self.now.story.history }
+    {
+        self.made
+    }
+
+    /// Of how many objects the last owner left (own).
+    pub fn ended(&self) -> u32
+        ensures { result ≡ ended_in self.now.story.history }
+    {
+        self.ended
+    }
+}
+
+/// What the words of a block's two counts say: none where it is vacant.
+fn counted(owners: u64, weaks: u64) -> Option<Counts>
+    ensures { result ≡ counts_in (number_of owners) (number_of weaks) }
+{
+    let owners = unpack_count(owners).number;
+    let number = unpack_count(weaks).number;
+    if number == 0 {
+        return None;
+    }
+    let common = u32::from(owners > 0);
+    Some(Counts {
+        owners,
+        weaks: number - common,
+    })
+}

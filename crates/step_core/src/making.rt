@@ -1,0 +1,161 @@
+//! How a thread makes an object, step by step.
+ghost use Rattle.std.specs.Prelude.{◌≡◌, ◌<◌, length, get_or, false, true};
+ghost use Rattle.step_core.specs.Actors.{wanted};
+
+use crate::act::Act;
+use crate::half::Half;
+use crate::said::{Answer, Said, Stepped};
+use crate::table::Table;
+use crate::thread::{Thread, silent};
+use control_word::Refusal;
+use control_word::place::Block;
+
+impl Thread {
+    ghost use Rattle.step_core.specs.Courses.{task_at};
+    ghost use Rattle.step_core.specs.Threads.{Fits, HasStepped};
+
+    /// Begins a make in the least block. Where there is none the statement is refused.
+    pub(crate) fn begin(&mut self, desk: usize, table: &mut Table, fields: [u64; 4]) -> Stepped
+        requires fits { Fits desk self.old table.old }
+        requires rest { self.old.half ≡ Half.Rest }
+        requires within { self.old.course.at < length self.old.course.tasks.items }
+        requires act { (task_at self.old.course).act ≡ Act.Make fields }
+        ensures stepped { HasStepped desk self.old table.old result self.new table.new }
+        ensures fits { Fits desk self.new table.new }
+    {
+        let statement = self.course.statement();
+        match self.stock.take_least() {
+            None => {
+                self.course.go_on();
+                let answer = Some(Answer::Refused(Refusal::Full));
+                Stepped::Quiet(Said {
+                    statement,
+                    answer,
+                    ended: None,
+                })
+            }
+            Some(block) => {
+                table.known();
+                table.prepare(desk, block);
+                self.half = Half::Making {
+                    block,
+                    index: 0,
+                    differs: false,
+                };
+                Stepped::Quiet(silent(statement))
+            }
+        }
+    }
+
+    /// The next step of a make that is under way.
+    pub(crate) fn make_on(
+        &mut self,
+        desk: usize,
+        table: &mut Table,
+        block: Block,
+        index: u8,
+        differs: bool,
+    ) -> Stepped
+        requires fits { Fits desk self.old table.old }
+        requires half { self.old.half ≡ Half.Making block index differs }
+        ensures stepped { HasStepped desk self.old table.old result self.new table.new }
+        ensures fits { Fits desk self.new table.new }
+    {
+        let Act::Make { fields } = self.course.tasks[self.course.at].act else {
+            unreachable!()
+        };
+        if index == 5 {
+            self.claim(desk, table, block, differs, fields)
+        } else if differs {
+            self.write(desk, table, block, index, fields)
+        } else {
+            self.look(desk, table, block, index, fields)
+        }
+    }
+
+    /// Looks at the next of the block's loose words.
+    fn look(
+        &mut self,
+        desk: usize,
+        table: &mut Table,
+        block: Block,
+        index: u8,
+        fields: [u64; 4],
+    ) -> Stepped
+        requires fits { Fits desk self.old table.old }
+        requires half { self.old.half ≡ Half.Making block index false }
+        requires inside { index < 5 }
+        requires act { (task_at self.old.course).act ≡ Act.Make fields }
+        ensures stepped { HasStepped desk self.old table.old result self.new table.new }
+        ensures fits { Fits desk self.new table.new }
+    {
+        let so = table.look(desk, block, index) == wanted_word(index, &fields);
+        let index = if so { index + 1 } else { index };
+        self.half = Half::Making {
+            block,
+            index,
+            differs: !so,
+        };
+        Stepped::Quiet(silent(self.course.statement()))
+    }
+
+    /// Writes the next of the block's loose words.
+    fn write(
+        &mut self,
+        desk: usize,
+        table: &mut Table,
+        block: Block,
+        index: u8,
+        fields: [u64; 4],
+    ) -> Stepped
+        requires fits { Fits desk self.old table.old }
+        requires half { self.old.half ≡ Half.Making block index true }
+        requires inside { index < 5 }
+        requires act { (task_at self.old.course).act ≡ Act.Make fields }
+        ensures stepped { HasStepped desk self.old table.old result self.new table.new }
+        ensures fits { Fits desk self.new table.new }
+    {
+        table.known();
+        table.write(desk, block, index, wanted_word(index, &fields));
+        self.half = Half::Making {
+            block,
+            index: index + 1,
+            differs: false,
+        };
+        Stepped::Quiet(silent(self.course.statement()))
+    }
+
+    /// Claims the block: the object is made.
+    fn claim(
+        &mut self,
+        desk: usize,
+        table: &mut Table,
+        block: Block,
+        differs: bool,
+        fields: [u64; 4],
+    ) -> Stepped
+        requires fits { Fits desk self.old table.old }
+        requires half { self.old.half ≡ Half.Making block 5 differs }
+        requires act { (task_at self.old.course).act ≡ Act.Make fields }
+        ensures stepped { HasStepped desk self.old table.old result self.new table.new }
+        ensures fits { Fits desk self.new table.new }
+    {
+        table.known();
+        let statement = self.course.statement();
+        self.course.claim(desk, table, block, fields);
+        self.half = Half::Rest;
+        Stepped::Event(silent(statement))
+    }
+}
+
+/// What a make wants the flags (0) or a field (1 to 4) of its block to be.
+fn wanted_word(index: u8, fields: &[u64; 4]) -> u64
+    requires { index < 5 }
+    ensures { result ≡ get_or (wanted fields.now) index 0 }
+{
+    if index == 0 {
+        0
+    } else {
+        fields[usize::from(index) - 1]
+    }
+}

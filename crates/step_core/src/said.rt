@@ -1,0 +1,55 @@
+//! What steps and turns answer.
+
+use control_word::Refusal;
+
+/// What an act answers, where it answers something.
+#[derive(Clone, Copy, Debug, PartialEq, Eq)]
+pub enum Answer {
+    /// How many owners there are.
+    Count(u32),
+    /// The statement is refused, and does nothing.
+    Refused(Refusal),
+}
+
+/// An object that ended.
+#[derive(Clone, Copy, Debug, PartialEq, Eq)]
+pub enum Ended {
+    /// Its fields 0 to 3.
+    Fields([u64; 4]),
+    /// It was an owned null pointer.
+    Null,
+}
+
+/// What an act or a step of it says.
+#[derive(Clone, Copy, Debug, PartialEq, Eq)]
+pub struct Said {
+    /// The number of its statement, from 1; 0 at the end of its actor.
+    pub statement: u32,
+    pub answer: Option<Answer>,
+    /// The object whose last owner left here.
+    pub ended: Option<Ended>,
+}
+
+/// What a step was.
+#[derive(Clone, Copy, Debug, PartialEq, Eq)]
+pub enum Stepped {
+    /// One event.
+    Event(Said),
+    /// An act that touches no word, or a step on the way to an event.
+    Quiet(Said),
+    /// What it wanted is another's for now; nothing changed.
+    Waited,
+    /// The actor is at its end; nothing changed.
+    Done,
+}
+
+/// What a turn was.
+#[derive(Clone, Copy, Debug, PartialEq, Eq)]
+pub enum Turned {
+    /// One act, with the end of the object whose last owner left by it.
+    Acted(Said),
+    /// What it wanted is another's for now.
+    Waited,
+    /// The actor is at its end.
+    Done,
+}

@@ -1,0 +1,26 @@
+//! What a step adds to a world's totals.
+ghost use Rattle.std.specs.Prelude.{◌≡◌};
+ghost use Rattle.step_core.specs.Told.{ends_by, makes};
+
+use crate::half::Half;
+use crate::said::Stepped;
+
+/// How many objects a step made, of a thread that had begun this.
+pub(crate) fn makes(half: Half, stepped: Stepped) -> u32
+    ensures { result ≡ makes half stepped }
+{
+    match (stepped, half) {
+        (Stepped::Event(_), Half::Making { index: 5, .. }) => 1,
+        _ => 0,
+    }
+}
+
+/// Of how many objects the last owner left by a step.
+pub(crate) fn ends(stepped: Stepped) -> u32
+    ensures { result ≡ ends_by stepped }
+{
+    match stepped {
+        Stepped::Event(said) => u32::from(said.ended.is_some()),
+        _ => 0,
+    }
+}
