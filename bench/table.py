@@ -24,7 +24,7 @@ def median(key):
 
 tests = list(dict.fromkeys(test for test, _, _ in samples))
 peers = list(dict.fromkeys(peer for _, peer, _ in samples))
-print("| test | peer | " + " | ".join(f"{n} threads, ns (ratio)" for n in THREADS) + " |")
+print("| test | peer | " + " | ".join(f"{n} thread{'s' if n > 1 else ''}, ns (ratio)" for n in THREADS) + " |")
 print("|---|---|" + "---|" * len(THREADS))
 for test in tests:
     for peer in peers:
