@@ -1,5 +1,5 @@
 #!/usr/bin/env bash
-# Builds the peers and prints the table of README.md. It takes half a minute a pass; the first argument says how many (2).
+# Builds the peers and prints the table of README.md. It takes a quarter of a minute a pass; the first argument says how many (2).
 set -euo pipefail
 cd "$(dirname "${BASH_SOURCE[0]}")"
 build=$(mktemp -d)
