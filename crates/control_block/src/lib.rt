@@ -22,7 +22,7 @@ mod shared_parts;
 pub mod split;
 #[cfg(test)]
 mod split_tests;
-pub mod steps;
+mod steps;
 #[cfg(test)]
 mod tests;
 mod weak_parts;
