@@ -20,6 +20,8 @@ mod race_tests;
 mod row_tests;
 mod sharing;
 #[cfg(test)]
+mod test_parts;
+#[cfg(test)]
 mod tests;
 mod this;
 mod weak_looks;
