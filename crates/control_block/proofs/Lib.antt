@@ -4,6 +4,7 @@ pub mod Opening
 pub mod Closing
 pub mod Endings
 pub mod Passage
+pub mod Unseen
 pub mod Still
 pub mod CellWords
 pub mod Hands
