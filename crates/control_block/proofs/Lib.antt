@@ -24,6 +24,7 @@ pub mod PartingJoin
 pub mod PartingCounts
 pub mod DeskSteps
 pub mod DeskBags
+pub mod DeskLocks
 pub mod OwnEndings
 pub mod StoreBlocks
 pub mod WeakGifts

@@ -14,6 +14,7 @@ pub mod fund_plays;
 pub mod funds;
 pub mod handles;
 pub mod join;
+pub mod lock_calls;
 pub mod lock_plays;
 pub mod locks;
 mod pause;
