@@ -1,8 +1,8 @@
 """Reads lines "test|peer|threads|nanoseconds|share" and prints, for each test, a row a peer: nanoseconds by thread count,
 and the ratio to libstdc++. A sample is clean where each thread had a processor for 95 % of its time and all started
-together; a number is the median of the clean samples, with ~ where there is none and all were taken."""
+together; a number is the lowest tenth of the clean samples, with ~ where there is none and all were taken. Other work on
+the machine only ever adds to a sample, so a low one is nearest to what the calls cost."""
 import collections
-import statistics
 import sys
 
 BASE = "libstdc++ shared_ptr"
@@ -16,10 +16,11 @@ for name in sys.argv[1:]:
             samples[test, peer, int(threads)].append((float(nanoseconds), float(share)))
 
 
-def median(key):
+def number(key):
     every = samples[key]
     clean = [ns for ns, share in every if share >= 95]
-    return statistics.median(clean or [ns for ns, _ in every]), "" if clean else "~"
+    taken = sorted(clean or [ns for ns, _ in every])
+    return taken[len(taken) // 10], "" if clean else "~"
 
 
 tests = list(dict.fromkeys(test for test, _, _ in samples))
@@ -33,7 +34,7 @@ for test in tests:
             if (test, peer, threads) not in samples:
                 cells.append("")
                 continue
-            ns, mark = median((test, peer, threads))
-            base, _ = median((test, BASE, threads))
+            ns, mark = number((test, peer, threads))
+            base, _ = number((test, BASE, threads))
             cells.append(f"{ns:.1f}{mark} ({ns / base:.2f})")
         print(f"| {test} | {peer} | " + " | ".join(cells) + " |")

@@ -6,6 +6,8 @@ mod downgrading;
 #[cfg(test)]
 mod drop_tests;
 mod endings;
+#[cfg(test)]
+mod example_tests;
 mod finishing;
 #[cfg(test)]
 mod lock_tests;
