@@ -15,6 +15,9 @@ mod opening;
 #[cfg(test)]
 mod opening_tests;
 pub mod past;
+#[cfg(test)]
+mod run_tests;
+mod running;
 pub mod said;
 #[cfg(test)]
 mod step_tests;
@@ -24,9 +27,11 @@ pub mod table;
 mod tests;
 mod thread;
 mod told;
+pub mod trace;
 pub mod world;
 #[cfg(test)]
 mod world_tests;
 
 pub use call::{Actor, Call, Kind, Name, Program};
 pub use said::{Answer, Ended, Said, Stepped, Turned};
+pub use trace::{RunRefusal, Trace, TraceStep};
