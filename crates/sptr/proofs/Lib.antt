@@ -1,1 +1,3 @@
 pub mod Flushing
+pub mod Programs
+pub mod Walks
