@@ -5,12 +5,11 @@ ghost use Rattle.control_word.specs.declared.place.Block.{Block};
 ghost use Rattle.control_block.specs.Desks.{IsSameDesk, allowance_of, bag_of, stock_of};
 ghost use Rattle.shared_handle.specs.Calls.{Holds, with_handle, without_handle};
 
-use crate::race_tests::{drop_owner, hand_over, shut, spent};
+use crate::test_parts::{end, hand_over, shape, shut, spent};
 use crate::{Shared, downgrade, expired, make, release_weak, share, use_count};
 use control_block::desk::Desk;
 use control_block::domain::{Domain, open};
 use control_block::handles;
-use control_word::Shape;
 use std::alloc::Global;
 use std::test::Fail;
 use std::thread::{Threads, join_mut};
@@ -24,7 +23,7 @@ fn reset(domain: &Domain<u64>, desk: &mut Desk<u64>, handle: &mut Option<Shared>
     ensures spent { handle.new ≡ None }
 {
     if let Some(owner) = handle.take() {
-        drop_owner(domain, desk, owner);
+        end(domain, desk, owner);
     }
 }
 
@@ -43,8 +42,8 @@ fn give_up(
     ensures desk { (desk.new.domain ≡ desk.old.domain) × (allowance_of desk.new ≡ allowance_of desk.old) }
     ensures none { result ≡ None }
 {
-    drop_owner(domain, desk, b);
-    drop_owner(domain, desk, a);
+    end(domain, desk, b);
+    end(domain, desk, a);
     release_weak(domain, desk, w);
     None
 }
@@ -92,13 +91,7 @@ fn two_threads<R: Threads>(
 
 #[test]
 fn an_object_of_two_threads(rt: HostRuntime) -> Result<(), Fail> {
-    let shape = Shape {
-        blocks: 4,
-        shared_cells: 0,
-        weak_cells: 0,
-        allowance: 8,
-    };
-    let (domain, mut desk) = open::<u64>(rt.alloc(), shape).ok().ok_or("memory")?;
+    let (domain, mut desk) = open::<u64>(rt.alloc(), shape(4, 8)).ok().ok_or("memory")?;
     let seen = two_threads(&rt, rt.alloc(), &domain, &mut desk);
     let stock = desk.stock();
     shut(domain, desk);
