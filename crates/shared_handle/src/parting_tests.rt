@@ -1,8 +1,8 @@
 //! A desk is cut in two, works in a thread of its own, and is joined again.
-ghost use Rattle.std.specs.Prelude.{◌≡◌, ℕ, ◌+◌, ◌<◌, ◌≤◌, ◌∷◌, [], IfOk, IfErr, IfSome, MatchOption, is_some, None, Some, length};
+ghost use Rattle.std.specs.Prelude.{◌≡◌, ℕ, ◌+◌, ◌<◌, ◌≤◌, [], IfSome, MatchOption, is_some, Some, length};
 ghost use Rattle.control_word.specs.declared.handle.Kind.TheVariants.{Owner};
 ghost use Rattle.control_word.specs.declared.place.Block.{Block};
-ghost use Rattle.control_block.specs.Desks.{DeskNow, IsSameDesk, Keeps, allowance_of, bag_of, stock_of};
+ghost use Rattle.control_block.specs.Desks.{DeskNow, IsSameDesk, allowance_of, bag_of, stock_of};
 ghost use Rattle.control_block.specs.Parting.{IsTooMuch};
 ghost use Rattle.shared_handle.specs.Calls.{Holds, with_handle, without_handle};
 

@@ -1,37 +1,16 @@
 //! Desks in threads of their own.
-ghost use Rattle.std.specs.Prelude.{◌≡◌, ◌+◌, ◌≤◌, ◌∷◌, [], All, IfErr, IfOk, IfSome, MatchOption, None, Some, length};
-ghost use Rattle.control_word.specs.declared.place.Block.{Block};
+ghost use Rattle.std.specs.Prelude.{◌≡◌, ◌+◌, IfSome, MatchOption};
 ghost use Rattle.control_word.specs.declared.handle.Kind.TheVariants.{Owner};
-ghost use Rattle.control_block.specs.Desks.{IsSameDesk, allowance_of, bag_of, stock_of};
-ghost use Rattle.control_block.specs.Parting.{HoldsAll};
-ghost use Rattle.shared_handle.specs.Calls.{Holds, with_handle, without_handle};
+ghost use Rattle.control_block.specs.Desks.{IsSameDesk, allowance_of};
+ghost use Rattle.shared_handle.specs.Calls.{Holds};
 
-use crate::test_parts::{end, hand_over, shape, shut, spent, two_owners};
-use crate::{Left, Shared, release};
+use crate::Shared;
+use crate::test_parts::{end, hand_over, leave, shape, shut, spent, two_owners};
 use control_block::desk::Desk;
 use control_block::domain::{Domain, open};
 use std::alloc::Global;
 use std::test::Fail;
 use std::thread::{Threads, join_mut};
-
-// An owner leaves, and its object ends where it was the last. 1 where it was.
-pub(crate) fn leave(domain: &Domain<u64>, desk: &mut Desk<u64>, handle: &mut Option<Shared>) -> u64
-    requires domain { desk.old.domain ≡ domain.now.id }
-    requires held { IfSome handle.old (λ h. Holds desk.old Owner h.block h.place) }
-    ensures desk { IsSameDesk desk.old desk.new }
-    ensures spent { handle.new ≡ None }
-{
-    let Some(owner) = handle.take() else {
-        return 0;
-    };
-    match release(domain, desk, owner) {
-        Left::Empty | Left::Others => 0,
-        Left::Last(ending) => {
-            ending.finish(domain, desk);
-            1
-        }
-    }
-}
 
 // A desk and what is left of its owner lie with the caller, and each thread is lent them.
 fn both_leave<R: Threads>(

@@ -74,6 +74,25 @@ pub(crate) fn leave_others<V: Drop + Send>(
     }
 }
 
+// An owner leaves, and its object ends where it was the last. 1 where it was.
+pub(crate) fn leave(domain: &Domain<u64>, desk: &mut Desk<u64>, handle: &mut Option<Shared>) -> u64
+    requires domain { desk.old.domain ≡ domain.now.id }
+    requires held { IfSome handle.old (λ h. Holds desk.old Owner h.block h.place) }
+    ensures desk { IsSameDesk desk.old desk.new }
+    ensures spent { handle.new ≡ None }
+{
+    let Some(owner) = handle.take() else {
+        return 0;
+    };
+    match release(domain, desk, owner) {
+        Left::Empty | Left::Others => 0,
+        Left::Last(ending) => {
+            ending.finish(domain, desk);
+            1
+        }
+    }
+}
+
 // A new object with two owners, or none.
 #[tactic(auto, using(crate::proofs::Taken::first_out))]
 pub(crate) fn two_owners(domain: &Domain<u64>, desk: &mut Desk<u64>) -> Option<(Shared, Shared)>

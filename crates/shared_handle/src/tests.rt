@@ -1,7 +1,7 @@
-ghost use Rattle.std.specs.Prelude.{◌≡◌, ◌+◌, [], IfSome};
-ghost use Rattle.control_word.specs.declared.handle.Kind.TheVariants.{Owner, Weak};
-ghost use Rattle.control_block.specs.Desks.{IsEnding, IsSameDesk, allowance_of, bag_of};
-ghost use Rattle.shared_handle.specs.Calls.{Holds, with_handle, without_handle};
+ghost use Rattle.std.specs.Prelude.{◌≡◌, []};
+ghost use Rattle.control_word.specs.declared.handle.Kind.TheVariants.{Owner};
+ghost use Rattle.control_block.specs.Desks.{IsEnding, IsSameDesk, bag_of};
+ghost use Rattle.shared_handle.specs.Calls.{Holds, with_handle};
 
 use crate::test_parts::{end, leave_others, shape, shut};
 use crate::{Ending, Left, Shared, expired, make, release, release_weak, share, use_count};
