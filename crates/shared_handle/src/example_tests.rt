@@ -1,14 +1,15 @@
 //! The example of the README: an object that two threads own, watched by a weak pointer.
 ghost use Rattle.std.specs.Prelude.{◌≡◌, ◌<◌, [], IfSome, None, Some, length};
-ghost use Rattle.control_word.specs.declared.handle.Kind.TheVariants.{Owner};
+ghost use Rattle.control_word.specs.declared.handle.Kind.TheVariants.{Owner, Weak};
 ghost use Rattle.control_word.specs.declared.place.Block.{Block};
 ghost use Rattle.control_block.specs.Desks.{IsSameDesk, allowance_of, bag_of, stock_of};
-ghost use Rattle.shared_handle.specs.Calls.{Holds, without_handle};
+ghost use Rattle.shared_handle.specs.Calls.{Holds, with_handle, without_handle};
 
 use crate::race_tests::{drop_owner, hand_over, shut, spent};
 use crate::{Shared, downgrade, expired, make, release_weak, share, use_count};
 use control_block::desk::Desk;
 use control_block::domain::{Domain, open};
+use control_block::handles;
 use control_word::Shape;
 use std::alloc::Global;
 use std::test::Fail;
@@ -25,6 +26,27 @@ fn reset(domain: &Domain<u64>, desk: &mut Desk<u64>, handle: &mut Option<Shared>
     if let Some(owner) = handle.take() {
         drop_owner(domain, desk, owner);
     }
+}
+
+// No memory for a thread's part.
+#[tactic(auto, using(crate::proofs::Taken::first_out, crate::proofs::Taken::second_out))]
+fn give_up(
+    domain: &Domain<u64>,
+    desk: &mut Desk<u64>,
+    a: Shared,
+    b: Shared,
+    w: handles::Weak,
+) -> Option<(u32, bool)>
+    requires domain { desk.old.domain ≡ domain.now.id }
+    requires same { (b.block ≡ a.block) × (b.place ≡ a.place) × (w.block ≡ a.block) × (x : Block) × (a.block ≡ Some x) }
+    requires bag { bag_of desk.old ≡ with_handle Owner b.block b.place (with_handle Weak w.block w.place (with_handle Owner a.block a.place [])) }
+    ensures desk { (desk.new.domain ≡ desk.old.domain) × (allowance_of desk.new ≡ allowance_of desk.old) }
+    ensures none { result ≡ None }
+{
+    drop_owner(domain, desk, b);
+    drop_owner(domain, desk, a);
+    release_weak(domain, desk, w);
+    None
 }
 
 // How many owners there were, and whether the weak pointer saw them all leave.
@@ -49,12 +71,7 @@ fn two_threads<R: Threads>(
     let owners = use_count(domain, desk, &a);
     let (mut other, b) = match hand_over(domain, desk, alloc, 1, 0, b) {
         Ok(parted) => parted,
-        Err(b) => {
-            drop_owner(domain, desk, b);
-            drop_owner(domain, desk, a);
-            release_weak(domain, desk, w);
-            return None;
-        }
+        Err(b) => return give_up(domain, desk, a, b, w),
     };
     let (mut a, mut b) = (Some(a), Some(b));
     // std::thread t([b = std::move(b)]() mutable { b.reset(); }); a.reset(); t.join();
