@@ -1,4 +1,5 @@
 pub mod Chains
 pub mod Ends
+pub mod Headline
 pub mod Measures
 pub mod Tasks

@@ -1,12 +1,36 @@
-use Rattle.std.proofs.Common.{length, ap, arith}
+use Rattle.std.proofs.Common.{length, ap, subst, arith}
 use Rattle.step_core.specs.Worlds.{Sight}
 use Rattle.step_core.proofs.runs.Chains.{whole}
 use Rattle.step_core.proofs.runs.Ends.{at_end}
+use Rattle.step_core.specs.Headline.{CountsAtRest, LocksWhereOwned, ValuesAtLastLeave, ValuesOnce}
+use Rattle.step_core.specs.Runs.{IsRun}
+use Rattle.step_core.specs.Stories.{Kept}
+use Rattle.step_core.proofs.runs.Headline.{after_each, counts, last_leaves, locks, of_each, values}
 use Rattle.step_core.proofs.world.World.run.Goals as goal
 
+module _ (c : goal.After-known-2) where
+  all : IsRun c.args.self.now c.finish.new.steps.items c.finish.new.self
+  all =
+      whole _ c.args.self.now c.follow.new.self c.finish.new.self c.follow.new.steps.items c.finish.new.steps.items c.follow.ensures.run
+      c.finish.ensures.adds
+
+  start : Kept c.args.self.now.story
+  start = subst (λ (u : Sight). Kept u.story) c.self.view_is c.known.ensures
+
 pub returns-clause-run : goal.returns-clause-run
-returns-clause-run c =
-    whole _ c.args.self.now c.follow.new.self c.finish.new.self c.follow.new.steps.items c.finish.new.steps.items c.follow.ensures.run c.finish.ensures.adds
+returns-clause-run c = all c
+
+pub returns-clause-counts : goal.returns-clause-counts
+returns-clause-counts c = after_each CountsAtRest c.args.self.now c.finish.new.self c.finish.new.steps.items (all c) (start c) counts
+
+pub returns-clause-locks : goal.returns-clause-locks
+returns-clause-locks c = of_each LocksWhereOwned c.args.self.now c.finish.new.self c.finish.new.steps.items (all c) (start c) locks
+
+pub returns-clause-once : goal.returns-clause-once
+returns-clause-once c = after_each ValuesOnce c.args.self.now c.finish.new.self c.finish.new.steps.items (all c) (start c) values
+
+pub returns-clause-values : goal.returns-clause-values
+returns-clause-values c = of_each ValuesAtLastLeave c.args.self.now c.finish.new.self c.finish.new.steps.items (all c) (start c) last_leaves
 
 pub returns-clause-end : goal.returns-clause-end
 returns-clause-end c =
