@@ -2,4 +2,5 @@ pub mod Chains
 pub mod Ends
 pub mod Headline
 pub mod Measures
+pub mod Says
 pub mod Tasks

@@ -1,5 +1,5 @@
 -- What holds after each step of a run, and of each of its steps.
-use Rattle.std.specs.Prelude.{◌≡◌, ◌≢◌, ◌↔◌, ◌⊎◌, ℕ, ◌+◌, ◌-◌, ◌<◌, ◌≤◌, Bool, true, List, [], ◌∷◌, ◌++◌, slice_index}
+use Rattle.std.specs.Prelude.{◌≡◌, ◌≢◌, ◌↔◌, ◌⊎◌, ℕ, ◌+◌, ◌-◌, ◌<◌, ◌≤◌, Bool, true, List, [], ◌∷◌, ◌++◌, slice_index, Option, None, MatchOption}
 use Rattle.control_word.specs.declared.event.Event.{Event}
 use Rattle.control_word.specs.declared.event.Event.TheVariants.{Leave, Lock}
 use Rattle.control_word.specs.declared.handle.Handle.{Handle}
@@ -9,9 +9,13 @@ use Rattle.control_word.specs.Layout.{spot}
 use Rattle.control_word.specs.Packing.{number_of}
 use Rattle.control_word.specs.State.{InShape, State, common, count, live, weak}
 use Rattle.control_word.specs.Views.{IsAtRest}
+use Rattle.step_core.specs.declared.said.Ended.{Ended}
+use Rattle.step_core.specs.declared.said.Stepped.{Stepped}
+use Rattle.step_core.specs.declared.said.Stepped.TheVariants.{Event as Step, Quiet, Waited, Done}
 use Rattle.step_core.specs.declared.trace.TraceStep.{TraceStep}
 use Rattle.step_core.specs.Openings.{opening}
 use Rattle.step_core.specs.Runs.{reached}
+use Rattle.step_core.specs.Scenes.{remains}
 use Rattle.step_core.specs.Stories.{Nothing, state}
 use Rattle.step_core.specs.Worlds.{Sight}
 
@@ -59,3 +63,20 @@ pub record LastLeft (o : ℕ) (u : Sight) (x : TraceStep) (u' : Sight) : Type 0 
 abbrev pub ValuesAtLastLeave : Sight → TraceStep → Sight → Type 0
 ValuesAtLastLeave u x u' =
     (o : ℕ) → (LastLeft o u x u' × (given o u.story.history ≡ 0) × (given o u'.story.history ≡ 1)) ⊎ ((LastLeft o u x u' → ⊥) × (given o u'.story.history ≡ given o u.story.history))
+
+-- what a step tells of an object whose last owner left
+abbrev pub ended_by : Stepped → Option Ended
+ended_by (Step x) = x.ended
+ended_by (Quiet x) = x.ended
+ended_by Waited = None
+ended_by Done = None
+
+-- a step tells what an object leaves just where its last owner left: the object's fields, or that it was null
+abbrev pub TellsWhatIsLeft : Sight → TraceStep → Sight → Type 0
+TellsWhatIsLeft u x u' =
+    MatchOption (ended_by x.stepped) ((o : ℕ) → LastLeft o u x u' → ⊥)
+    (λ e. (o : ℕ) × LastLeft o u x u' × (e ≡ remains ((state u.story).object o)))
+
+-- no block is in the midst of anything
+abbrev pub AllAtRest : Sight → Type 0
+AllAtRest u = (b : ℕ) → InShape (opening u.story.extent) b → IsAtRest (state u.story) u.story.views b

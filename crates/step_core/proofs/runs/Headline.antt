@@ -70,7 +70,7 @@ same_extent v d (Some x) = go x.deed
     go (Some y) = refl
 
 -- the event of a step could come there
-asked : (u : Sight) (x : TraceStep) (u' : Sight) (e : Event Nothing) → IsStep u x u' → Was e u x u' → Asks (state u.story) (x.actor - 1) e
+pub asked : (u : Sight) (x : TraceStep) (u' : Sight) (e : Event Nothing) → IsStep u x u' → Was e u x u' → Asks (state u.story) (x.actor - 1) e
 asked u x u' e step was =
     let d = x.actor - 1 in
     let same : u'.story.extent ≡ u.story.extent = ap (λ (m : Sight). m.story.extent) step.steps.1 ∙ same_extent u.story d (step_of d u) in
@@ -105,7 +105,7 @@ told v d (Some x) = go x.deed
     go (Some y) = one (event_of v y)
 
 -- what the newest event is
-abbrev newest_is_last : List (Entry Nothing) → Bool
+abbrev pub newest_is_last : List (Entry Nothing) → Bool
 newest_is_last [] = false
 newest_is_last (e ∷ h) = is_last e.event
 
