@@ -7,11 +7,14 @@ use Rattle.std.proofs.lemmas.Slice.Eq.{bytes_eq-Decides}
 use Rattle.clap.specs.Words.{App, Kinds, Row, Rule, Shape, Text}
 use Rattle.clap.specs.Lexer.{long_of, short_of}
 use Rattle.clap.specs.Kinds.{check_kinds, or_else}
-use Rattle.clap.specs.Walk.{Held, Names, Outcome, Step, Waiting, Walk, after_flag, after_step, answers_to, arg_by_index, done, idle, long_or_other, next, nothing_held, option, plain, plain_word, positional, refused, short_or_plain, stop_after, subcommand, subcommand_met, subcommand_or_other, to_positional, trailing, value, waits, walk, walk_from, finished, settled, walked, walked_from, word_met}
+use Rattle.clap.specs.Walk.{Held, Names, Outcome, Step, Waiting, Walk, after_flag, after_step, answers_to, arg_by_index, done, finished, idle}
+use Rattle.clap.specs.Walk.{long_or_other, next, nothing_held, option, plain, plain_word, positional, refused, settled, short_or_plain}
+use Rattle.clap.specs.Walk.{stop_after, subcommand, subcommand_met, subcommand_or_other, to_positional, trailing, value, waits, walk}
+use Rattle.clap.specs.Walk.{walk_from, walked, walked_from, word_met}
 use Rattle.clap.specs.Simple.{entered, label_of, names_of, rows_at}
 use Rattle.clap.specs.Facts.{explicit_source}
 use Rattle.clap.specs.Takes.{is_given}
-use Rattle.clap.specs.Faults.{built_fault, check_fault, defaults_fault, entered_fault, other_fault, settle_fault, step_fault, turn_fault, walk_fault, word_fault}
+use Rattle.clap.specs.Faults.{built_fault, check_fault, defaults_fault, entered_fault, other_fault, settle_fault, turn_fault, walk_fault, word_fault}
 use Rattle.clap.specs.declared.error.kind.ErrorKind.{ErrorKind}
 
 abbrev IsOwn : Option (Text × List Text) → Type 0
@@ -138,7 +141,8 @@ help_missed h name is none own = rw (is, none) (go (bytes_eq (codes "help") name
 
 found_named : (shapes : List Shape) (h : Shape) (name : Text) (words : List Text) → h.name ≡ codes "help" → h.aliases ≡ [] → name ≢ codes "help"
     → is_some (rows_found (shapes ++ h ∷ []) name words) ≡ true → Enters (rows_found (shapes ++ h ∷ []) name words) shapes
-found_named [] h name words is none own e = absurd (true≢false (sym e ∙ ap (λ b. is_some (option_map (λ (s : Shape). rows_at s words) (if b then Some h else None))) (help_missed h name is none own)))
+found_named [] h name words is none own e = absurd (true≢false (sym e
+    ∙ ap (λ b. is_some (option_map (λ (s : Shape). rows_at s words) (if b then Some h else None))) (help_missed h name is none own)))
 found_named (s ∷ ss) h name words is none own e = go (answers_to name (label_of s)) (λ k. found_named ss h name words is none own k) e
   where
     go : (b : Bool) → (is_some (rows_found (ss ++ h ∷ []) name words) ≡ true → Enters (rows_found (ss ++ h ∷ []) name words) ss)

@@ -1,5 +1,5 @@
 -- The command line that the program takes, and what its words ask for, by what `clap` makes of such a line. All of it is own.
-use Rattle.std.specs.Prelude.{◌≡◌, ℕ, true, false, List, [], ◌∷◌, Option, Some, option_map, option_and_then, unwrap_or, codes}
+use Rattle.std.specs.Prelude.{◌≡◌, ◌≢◌, ◌⊎◌, true, false, List, [], ◌∷◌, ◌++◌, slice_get, Option, Some, option_map, option_and_then, unwrap_or, codes}
 use Rattle.clap.specs.Words.{App, Rule, Shape, Text, first_of, new_rule, subcommand_of}
 use Rattle.clap.specs.Simple.{new_shape}
 use Rattle.sptr.specs.declared.command.Asked.{Asked}
@@ -36,3 +36,15 @@ turns_given words = unwrap_or (option_and_then (λ found. first_of (codes "turns
 abbrev pub Asks : List Text → Asked → Type 0
 Asks words Check = command_named words ≡ Some (codes "check")
 Asks words (Step turns) = (command_named words ≡ Some (codes "step")) × (turns.now ≡ turns_given words)
+
+-- the words are the program's name and this command, and then no list, `--turns=LIST`, or `--turns LIST` with a list that begins with no
+-- `-` (45)
+abbrev pub IsLine : Text → Text → Text → List Text → Type 0
+IsLine command name list words = ((words ≡ name ∷ command ∷ []) × (list ≡ []))
+    ⊎ ((words ≡ name ∷ command ∷ (codes "--turns=" ++ list) ∷ [])
+    ⊎ ((words ≡ name ∷ command ∷ codes "--turns" ∷ list ∷ []) × (slice_get list 0 ≢ Some 45)))
+
+-- the words ask for this in the manner of the program's page
+abbrev pub AsksPlainly : List Text → Asked → Type 0
+AsksPlainly words Check = (name : Text) × (words ≡ name ∷ codes "check" ∷ [])
+AsksPlainly words (Step turns) = (name : Text) × IsLine (codes "step") name turns.now words

@@ -38,13 +38,10 @@ abbrev pub status_of : {A : Type 0} → Result A Fault → ℕ
 status_of (Ok done) = 0
 status_of (Err fault) = 1
 
--- the words ask for a command, and its answer to the bytes on the input went to the output
-pub record IsServed (words : List Text) (bytes : Option (List ℕ)) (status : ℕ) (old new : Option (List ℕ)) (has_failed : Bool) : Type 0 where
-  pub asked : Asked
-  pub asks : Asks words asked
-  pub faultless : fault_of program words ≡ []
+-- a command's answer to the bytes on the input went to the output, where the input tells its bytes
+pub record IsAnswered (asked : Asked) (input : Option (List ℕ)) (status : ℕ) (old new : Option (List ℕ)) (has_failed : Bool) : Type 0 where
   pub answer : Result Unit Fault
-  pub delivers : IfSome bytes (λ script. Delivers (Answers asked script) answer old new)
+  pub delivers : IfSome input (λ bytes. Delivers (Answers asked bytes) answer old new)
   pub says : status ≡ status_of answer
   pub fails : has_failed ≡ is_output answer
 
@@ -70,7 +67,8 @@ pub record IsTurnedAway (reason : ErrorKind) (status : ℕ) (old new : Option (L
 abbrev pub IsReason : List Text → ErrorKind → Type 0
 IsReason words reason = (reason ≡ kind.OutOfMemory) ⊎ IsAmong reason (fault_of program words)
 
--- the words are served, or turned away for a reason that they give
+-- the words have no fault, and what they ask for is answered; or they are turned away for a reason that they give
 abbrev pub Serves : List Text → Option (List ℕ) → ℕ → Option (List ℕ) → Option (List ℕ) → Bool → Type 0
-Serves words bytes status old new has_failed = IsServed words bytes status old new has_failed
+Serves words input status old new has_failed =
+    ((asked : Asked) × Asks words asked × (fault_of program words ≡ []) × IsAnswered asked input status old new has_failed)
     ⊎ ((reason : ErrorKind) × IsReason words reason × IsTurnedAway reason status old new has_failed)

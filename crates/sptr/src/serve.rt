@@ -3,7 +3,8 @@
 ghost use Rattle.std.specs.Prelude.{◌≡◌, ◌≤◌, IfSome, false, map};
 ghost use Rattle.clap.specs.Words.{kind_of};
 ghost use Rattle.script_stepper.specs.Runs.{Delivers, is_output};
-ghost use Rattle.sptr.specs.Serving.{Answers, IsShown, IsTurnedAway, Serves, status_of};
+ghost use Rattle.sptr.specs.CommandLine.{AsksPlainly};
+ghost use Rattle.sptr.specs.Serving.{Answers, IsAnswered, IsShown, IsTurnedAway, Serves};
 
 use crate::answers::{check, step, written};
 use crate::command::{Asked, asked_of};
@@ -60,7 +61,7 @@ fn refuse_words<O: Write, F: Write>(
     }
 }
 
-/// Answers what a command line asks for.
+/// The answer to what a command line asks for.
 fn answer<I: Read, O: Write>(
     alloc: Global,
     asked: Asked<'_>,
@@ -75,6 +76,26 @@ fn answer<I: Read, O: Write>(
     match asked {
         Asked::Check => check(alloc, input, output),
         Asked::Step { turns } => step(alloc, turns, input, output),
+    }
+}
+
+/// Does what a command line asks for, and answers the exit status.
+fn carry_out<I: Read, O: Write, F: Write>(
+    alloc: Global,
+    asked: Asked<'_>,
+    input: &mut I,
+    output: &mut Output<O>,
+    faults: &mut F,
+) -> u8
+    requires { output.old.has_failed ≡ false }
+    ensures answered { IsAnswered asked.entry (I.remaining input.old) result (O.contents output.old.writer)
+        (O.contents output.new.writer) output.new.has_failed }
+    ensures quiet { result ≡ 0 → F.contents faults.new ≡ F.contents faults.old }
+    ensures status { result ≤ 2 }
+{
+    match answer(alloc, asked, input, output) {
+        Ok(()) => 0,
+        Err(fault) => refuse(fault, faults),
     }
 }
 
@@ -93,15 +114,13 @@ pub fn serve<S: AsStr, I: Read, O: Write, F: Write>(
     requires { output.old.has_failed ≡ false }
     ensures serves { Serves (map S.text words.now) (I.remaining input.old) result (O.contents output.old.writer)
         (O.contents output.new.writer) output.new.has_failed }
+    ensures answers { (asked : Asked) → AsksPlainly (map S.text words.now) asked → IsAnswered asked (I.remaining input.old)
+        result (O.contents output.old.writer) (O.contents output.new.writer) output.new.has_failed }
     ensures quiet { result ≡ 0 → F.contents faults.new ≡ F.contents faults.old }
     ensures status { result ≤ 2 }
 {
-    let asked = match asked_of(alloc, words) {
-        Ok(asked) => asked,
-        Err(error) => return refuse_words(alloc, &error, output, faults),
-    };
-    match answer(alloc, asked, input, output) {
-        Ok(()) => 0,
-        Err(fault) => refuse(fault, faults),
+    match asked_of(alloc, words) {
+        Ok(asked) => carry_out(alloc, asked, input, output, faults),
+        Err(error) => refuse_words(alloc, &error, output, faults),
     }
 }

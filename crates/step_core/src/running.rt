@@ -1,6 +1,7 @@
 //! Runs: one step for each number of a list, and then each actor alone to its end.
 ghost use Rattle.std.specs.Prelude.{◌≡◌, ◌+◌, ◌-◌, ◌<◌, ◌≤◌, ◌∷◌, ◌++◌, ℕ, [], All, IfErr, IfOk, MatchOption, length, map, slice_get, sum_by, vec_capacity, vec_len};
 ghost use Rattle.step_core.specs.Bounds.{most_steps, tasks_of};
+ghost use Rattle.step_core.specs.Headline.{AfterEach, AllAtRest, CountsAtRest, LocksWhereOwned, OfEach, TellsWhatIsLeft, ValuesAtLastLeave, ValuesOnce};
 ghost use Rattle.step_core.specs.Runs.{Adds, IsFirstBad, IsRefusedFor, IsRun, IsScheduled, Names, RunInOrder, RunsToEnd};
 ghost use Rattle.step_core.specs.Stories.{Kept};
 ghost use Rattle.step_core.specs.Totals.{IsAtEnd};
@@ -24,7 +25,13 @@ impl World {
         ensures unchanged { IfErr result (λ why. self.new ≡ self.old) }
         ensures run { IfOk result (λ t. IsRun self.old t.steps.items self.new) }
         ensures scheduled { IfOk result (λ t. IsScheduled turns.now self.old t.steps.items self.new) }
+        ensures counts { IfOk result (λ t. AfterEach CountsAtRest self.old t.steps.items) }
+        ensures locks { IfOk result (λ t. OfEach LocksWhereOwned self.old t.steps.items) }
+        ensures once { IfOk result (λ t. AfterEach ValuesOnce self.old t.steps.items) }
+        ensures values { IfOk result (λ t. OfEach ValuesAtLastLeave self.old t.steps.items) }
+        ensures told { IfOk result (λ t. OfEach TellsWhatIsLeft self.old t.steps.items) }
         ensures end { IfOk result (λ t. IsAtEnd self.new) }
+        ensures rest { IfOk result (λ t. AllAtRest self.new) }
         ensures kept { Kept self.new.story }
         ensures actors { length self.new.walks ≡ length self.old.walks }
     {

@@ -1,4 +1,4 @@
-use Rattle.std.proofs.Common.{◌≡◌, ◌∙◌, ap}
+use Rattle.std.proofs.Common.{◌∙◌, ap}
 use Rattle.clap.specs.Words.{App}
 use Rattle.clap.specs.Simple.{shape_of_fields}
 use Rattle.sptr.specs.CommandLine.{check_line}

@@ -1,4 +1,4 @@
-use Rattle.std.proofs.Common.{rules, ◌≡◌}
+use Rattle.std.proofs.Common.{rules}
 use Rattle.sptr.specs.CommandLine.{turns_option}
 use Rattle.sptr.proofs.command.turns_argument.Goals as goal
 

@@ -1,4 +1,4 @@
-use Rattle.std.proofs.Common.{◌≡◌, List, ap, codes, option_map, Option, Some, None, [], refl, ◌∙◌}
+use Rattle.std.proofs.Common.{◌≡◌, ap, codes, option_map, Option, Some, None, [], refl, ◌∙◌}
 use Rattle.std.specs.Prelude.{unwrap_or}
 use Rattle.std.specs.Borrow.{Bor}
 use Rattle.clap.specs.Words.{Text, found_of}
