@@ -4,6 +4,7 @@ use Rattle.std.specs.Prelude.{slice_get}
 use Rattle.std.specs.Str.{bytes_eq}
 use Rattle.clap.specs.Words.{Text, fault_of}
 use Rattle.clap.specs.Lexer.{long_of, short_of}
+use Rattle.clap.specs.declared.error.kind.ErrorKind.TheVariants as kind
 use Rattle.clap.proofs.OnLiterals.{clap_on_literals}
 use Rattle.sptr.specs.CommandLine.{Asks, AsksPlainly, IsLine, check_line, command_named, program, step_line, turns_given, turns_option}
 use Rattle.sptr.specs.declared.command.Asked.{Asked}
@@ -28,6 +29,14 @@ step_apart : (name list : Text) → bytes_eq list (45 ∷ 45 ∷ []) ≡ false �
     → IsFor (codes "step") list (name ∷ codes "step" ∷ codes "--turns" ∷ list ∷ [])
 unfolding program check_line step_line turns_option clap_on_literals
 step_apart name list dashes long short = (rw (dashes, long, short) refl, refl, rw (dashes, long, short) refl)
+
+pub help_asked : (name : Text) → fault_of program (name ∷ codes "--help" ∷ []) ≡ kind.DisplayHelp ∷ []
+unfolding program check_line step_line turns_option clap_on_literals
+help_asked name = refl
+
+pub no_command : (name : Text) → fault_of program (name ∷ []) ≡ kind.MissingSubcommand ∷ []
+unfolding program check_line step_line turns_option clap_on_literals
+no_command name = refl
 
 no_dashes : (list : Text) → slice_get list 0 ≢ Some 45 → (bytes_eq list (45 ∷ 45 ∷ []) ≡ false) × (long_of list ≡ None) × (short_of list ≡ None)
 no_dashes [] h = (refl, refl, refl)

@@ -1,5 +1,5 @@
 -- What is asked for plainly is answered.
-use Rattle.std.proofs.Common.{◌≡◌, ◌⊎◌, ◌∙◌, ℕ, Bool, refl, sym, ap, subst, List, [], Option, Some, None, Err, Result, codes, inl, inr}
+use Rattle.std.proofs.Common.{◌≡◌, ◌⊎◌, ◌∙◌, ℕ, Bool, refl, sym, ap, subst, List, [], ◌∷◌, Option, Some, None, Err, Result, codes, inl, inr}
 use Rattle.std.specs.Prelude.{IfSome}
 use Rattle.clap.specs.Words.{IsAmong, Kinds, Text, fault_of}
 use Rattle.clap.specs.declared.error.kind.ErrorKind.{ErrorKind}
@@ -7,15 +7,24 @@ use Rattle.clap.specs.declared.error.kind.ErrorKind.TheVariants as kind
 use Rattle.script_text.specs.declared.fault.Fault.{Fault}
 use Rattle.script_text.specs.declared.fault.Fault.TheVariants.{Memory}
 use Rattle.script_stepper.specs.Runs.{Delivers, Tells}
-use Rattle.sptr.specs.CommandLine.{Asks, AsksPlainly, program}
-use Rattle.sptr.specs.Serving.{Answers, IsAnswered, IsReason, IsTurnedAway, UnlessInput}
+use Rattle.sptr.specs.CommandLine.{Asks, AsksHelp, AsksPlainly, NamesNoCommand, program}
+use Rattle.sptr.specs.Serving.{Answers, IsAnswered, IsMistaken, IsReason, IsShown, IsTurnedAway, UnlessInput}
 use Rattle.sptr.specs.declared.command.Asked.{Asked}
 use Rattle.sptr.specs.declared.command.Asked.TheVariants.{Check, Step}
 use Rattle.std.proofs.lemmas.Option.{same_Some}
-use Rattle.sptr.proofs.PlainLines.{plainly_asks}
+use Rattle.sptr.proofs.PlainLines.{help_asked, no_command, plainly_asks}
 
 other_names : codes "check" ≡ codes "step" → ⊥
 other_names e = cc
+
+none_one : (one : ErrorKind) → one ∷ [] ≡ [] → ⊥
+none_one one e = cc
+
+missing_help : kind.MissingSubcommand ≡ kind.DisplayHelp → ⊥
+missing_help e = cc
+
+missing_memory : kind.MissingSubcommand ≡ kind.OutOfMemory → ⊥
+missing_memory e = cc
 
 -- words ask for one thing
 same_answers : (words : List Text) (a b : Asked) (bytes : List ℕ) → Asks words a → Asks words b → Answers a bytes ≡ Answers b bytes
@@ -60,3 +69,44 @@ module _ (words : List Text) (input : Option (List ℕ)) (status : ℕ) (old new
         says = m.0;
         fails = m.1.1;
       }
+
+module _ (words : List Text) where
+  only_kind : (reason one : ErrorKind) → fault_of program words ≡ one ∷ [] → IsReason words reason → (reason ≡ kind.OutOfMemory) ⊎ (reason ≡ one)
+  only_kind reason one e (inl is) = inl is
+  only_kind reason one e (inr among) = elim (subst (IsAmong reason) e among) [
+    | inl is ↦ inr is
+    | inr none ↦ absurd none
+  ]
+
+  help_fault : AsksHelp words → fault_of program words ≡ kind.DisplayHelp ∷ []
+  help_fault h = ap (fault_of program) h.1 ∙ help_asked h.0
+
+  command_fault : NamesNoCommand words → fault_of program words ≡ kind.MissingSubcommand ∷ []
+  command_fault h = ap (fault_of program) h.1 ∙ no_command h.0
+
+  pub not_helped : {A : Type 0} → AsksHelp words → fault_of program words ≡ [] → A
+  not_helped h e = absurd (none_one kind.DisplayHelp (sym (help_fault h) ∙ e))
+
+  pub not_mistaken : {A : Type 0} → NamesNoCommand words → fault_of program words ≡ [] → A
+  not_mistaken h e = absurd (none_one kind.MissingSubcommand (sym (command_fault h) ∙ e))
+
+module _ (words : List Text) (status : ℕ) (old new : Option (List ℕ)) (has_failed : Bool) where
+  pub helped_plainly : (reason : ErrorKind) → IsReason words reason → AsksHelp words → IsTurnedAway reason status old new has_failed
+      → IsShown status old new has_failed
+  helped_plainly reason r y h = elim (only_kind words reason kind.DisplayHelp (help_fault words y) r) [
+    | inl is ↦
+        let m = h.memory is in
+        record { text = []; answer = Err Memory; writes = m.1.0; says = m.0; fails = m.1.1 }
+    | inr is ↦ h.help is
+  ]
+
+  pub mistaken_plainly : (reason : ErrorKind) → IsReason words reason → NamesNoCommand words → IsTurnedAway reason status old new has_failed
+      → IsMistaken status old new has_failed
+  mistaken_plainly reason r y h = elim (only_kind words reason kind.MissingSubcommand (command_fault words y) r) [
+    | inl is ↦
+        let m = h.memory is in
+        (inr m.0, m.1)
+    | inr is ↦
+        let m = h.mistake (λ e. missing_help (sym is ∙ e)) (λ e. missing_memory (sym is ∙ e)) in
+        (inl m.0, m.1)
+  ]

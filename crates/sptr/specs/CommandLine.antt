@@ -48,3 +48,11 @@ IsLine command name list words = ((words ≡ name ∷ command ∷ []) × (list �
 abbrev pub AsksPlainly : List Text → Asked → Type 0
 AsksPlainly words Check = (name : Text) × (words ≡ name ∷ codes "check" ∷ [])
 AsksPlainly words (Step turns) = (name : Text) × IsLine (codes "step") name turns.now words
+
+-- the words are the program's name and `--help`
+abbrev pub AsksHelp : List Text → Type 0
+AsksHelp words = (name : Text) × (words ≡ name ∷ codes "--help" ∷ [])
+
+-- the words are the program's name alone
+abbrev pub NamesNoCommand : List Text → Type 0
+NamesNoCommand words = (name : Text) × (words ≡ name ∷ [])

@@ -57,6 +57,10 @@ pub record IsShown (status : ℕ) (old new : Option (List ℕ)) (has_failed : Bo
 abbrev pub IsSilent : Option (List ℕ) → Option (List ℕ) → Bool → Type 0
 IsSilent old new has_failed = (new ≡ old) × (has_failed ≡ false)
 
+-- nothing went to the output, and the status is that of a fault of the words, or of want of memory
+abbrev pub IsMistaken : ℕ → Option (List ℕ) → Option (List ℕ) → Bool → Type 0
+IsMistaken status old new has_failed = ((status ≡ 2) ⊎ (status ≡ 1)) × IsSilent old new has_failed
+
 -- `clap` gives no command for a reason of this kind: help goes to the output; want of memory and faults of the words do not
 pub record IsTurnedAway (reason : ErrorKind) (status : ℕ) (old new : Option (List ℕ)) (has_failed : Bool) : Type 0 where
   pub help : reason ≡ kind.DisplayHelp → IsShown status old new has_failed

@@ -3,8 +3,8 @@
 ghost use Rattle.std.specs.Prelude.{◌≡◌, ◌≤◌, IfSome, false, map};
 ghost use Rattle.clap.specs.Words.{kind_of};
 ghost use Rattle.script_stepper.specs.Runs.{Delivers, is_output};
-ghost use Rattle.sptr.specs.CommandLine.{AsksPlainly};
-ghost use Rattle.sptr.specs.Serving.{Answers, IsAnswered, IsShown, IsTurnedAway, Serves};
+ghost use Rattle.sptr.specs.CommandLine.{AsksHelp, AsksPlainly, NamesNoCommand};
+ghost use Rattle.sptr.specs.Serving.{Answers, IsAnswered, IsMistaken, IsShown, IsTurnedAway, Serves};
 
 use crate::answers::{check, step, written};
 use crate::command::{Asked, asked_of};
@@ -116,6 +116,10 @@ pub fn serve<S: AsStr, I: Read, O: Write, F: Write>(
         (O.contents output.new.writer) output.new.has_failed }
     ensures answers { (asked : Asked) → AsksPlainly (map S.text words.now) asked → IsAnswered asked (I.remaining input.old)
         result (O.contents output.old.writer) (O.contents output.new.writer) output.new.has_failed }
+    ensures help { AsksHelp (map S.text words.now) → IsShown result (O.contents output.old.writer) (O.contents output.new.writer)
+        output.new.has_failed }
+    ensures missing { NamesNoCommand (map S.text words.now) → IsMistaken result (O.contents output.old.writer)
+        (O.contents output.new.writer) output.new.has_failed }
     ensures quiet { result ≡ 0 → F.contents faults.new ≡ F.contents faults.old }
     ensures status { result ≤ 2 }
 {
