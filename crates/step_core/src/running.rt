@@ -49,11 +49,11 @@ impl World {
 
     /// More steps than the world has left.
     fn most_steps(&self) -> usize
-        ensures enough { most_steps self.now ≤ result }
+        ensures enough { most_steps self.now + length self.now.walks ≤ result }
         ensures few { result ≤ 2000000 }
     {
         self.table.known();
-        13 * tasks_left(self.threads.as_slice()) + 17 * self.threads.len()
+        13 * tasks_left(self.threads.as_slice()) + 18 * self.threads.len()
     }
 
     /// One step for each number.
@@ -61,10 +61,10 @@ impl World {
         requires named { All (Names (length self.old.walks)) turns.now }
         requires empty { steps.old.items ≡ [] }
         requires none { vec_len steps.old ≡ 0 }
-        requires room { length turns.now + most_steps self.old ≤ vec_capacity steps.old }
+        requires room { length turns.now + most_steps self.old + length self.old.walks ≤ vec_capacity steps.old }
         ensures run { IsRun self.old steps.new.items self.new }
         ensures numbers { map (λ x. x.actor) steps.new.items ≡ turns.now }
-        ensures room { vec_len steps.new + most_steps self.new ≤ vec_capacity steps.new }
+        ensures room { vec_len steps.new + most_steps self.new + length self.new.walks ≤ vec_capacity steps.new }
         ensures actors { length self.new.walks ≡ length self.old.walks }
     {
         for turn in turns {
@@ -76,7 +76,7 @@ impl World {
     /// Each actor runs alone to its end, in number order.
     fn finish(&mut self, steps: &mut Vec<TraceStep>)
         requires few { length self.old.walks ≤ 64 }
-        requires room { vec_len steps.old + most_steps self.old ≤ vec_capacity steps.old }
+        requires room { vec_len steps.old + most_steps self.old + length self.old.walks ≤ vec_capacity steps.old }
         ensures adds { Adds (RunInOrder (length self.old.walks)) self.old steps.old.items self.new steps.new.items }
         ensures actors { length self.new.walks ≡ length self.old.walks }
     {
@@ -89,9 +89,10 @@ impl World {
     fn finish_one(&mut self, number: usize, steps: &mut Vec<TraceStep>)
         requires within { number < length self.old.walks }
         requires few { length self.old.walks ≤ 64 }
-        requires room { vec_len steps.old + most_steps self.old ≤ vec_capacity steps.old }
+        requires room { vec_len steps.old + most_steps self.old + 1 ≤ vec_capacity steps.old }
         ensures adds { Adds (RunsToEnd number) self.old steps.old.items self.new steps.new.items }
-        ensures room { vec_len steps.new + most_steps self.new ≤ vec_capacity steps.new }
+        ensures room { vec_len steps.new + most_steps self.new ≤ vec_len steps.old + most_steps self.old + 1 }
+        ensures capacity { vec_capacity steps.old ≤ vec_capacity steps.new }
         ensures actors { length self.new.walks ≡ length self.old.walks }
     {
         loop {
