@@ -1,6 +1,7 @@
 pub mod Actors
 pub mod Acts
 pub mod Courses
+pub mod Deeds
 pub mod Holdings
 pub mod Openings
 pub mod Programs

@@ -10,11 +10,13 @@ pub mod extent;
 pub mod half;
 pub mod holdings;
 mod limits;
+mod locking;
 mod making;
 mod opening;
 #[cfg(test)]
 mod opening_tests;
 pub mod past;
+mod pointer;
 pub mod said;
 #[cfg(test)]
 mod step_tests;
@@ -24,6 +26,7 @@ pub mod table;
 mod tests;
 mod thread;
 mod told;
+mod weak;
 pub mod world;
 #[cfg(test)]
 mod world_tests;
