@@ -113,7 +113,7 @@ acted z d slots h (Expired k) = on (expires z d h) h (slot slots k)
 -- a new object's owner is in hand, or the rest of the statement is passed over
 abbrev pub holding : Slots → List Task → Option ℕ → Walk
 holding slots rest None = settled slots false rest
-holding slots rest (Some b) = settled (slice_set slots (hand slots) (Some (record { block = record { 0 = b }; place = place_at b }))) true rest
+holding slots rest (Some b) = settled (slice_set slots (hand slots) (Some (record { kind = Owner; block = record { 0 = b }; place = place_at b }))) true rest
 
 -- what a lock finds: an owner, where there is a weak pointer and an owner is left
 abbrev pub found : State → Option Pointer → Option Pointer
