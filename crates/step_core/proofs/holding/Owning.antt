@@ -2,6 +2,7 @@
 use Rattle.std.proofs.Common.{◌≡◌, ◌≢◌, ℕ, suc, ◌<◌, ◌≤◌, ◌==◌, Bool, false, cond, List, [], ◌∷◌, length, set, Option, Some, None, refl, sym, ap, subst}
 use Rattle.std.proofs.Common.{◌∙◌, ⊎_elim, arith, get_or-set_same, get_or-set_other, length-set}
 use Rattle.std.proofs.lemmas.Bool.{cases_eq}
+use Rattle.std.proofs.lemmas.Option.{same_Some}
 use Rattle.control_word.proofs.lists.Tallies.{handle_self, held_self, held_true, num, num_cons, num_has, num_without}
 use Rattle.control_word.proofs.words.Counting.{bag_one}
 use Rattle.control_word.specs.declared.handle.Handle.{Handle}
@@ -17,9 +18,9 @@ use Rattle.step_core.specs.declared.holdings.Pointer.{Pointer}
 use Rattle.step_core.specs.declared.past.Deed.{Deed}
 use Rattle.step_core.specs.declared.past.Deed.TheVariants.{Claim}
 use Rattle.step_core.specs.Deeds.{leave_as, share, share_as}
-use Rattle.step_core.specs.Holdings.{Holds, IsSlot, Slots, is_full, is_it, owns, slot, times}
+use Rattle.step_core.specs.Holdings.{Holds, IsSlot, Slots, is_full, is_it, owns, slot, times, weak_as, weak_slot}
 use Rattle.step_core.specs.Openings.{opening}
-use Rattle.step_core.specs.Stories.{Story, Kept, after, handle_in, object_in, state}
+use Rattle.step_core.specs.Stories.{Story, Kept, after, handle_in, object_in, state, weak_in}
 use Rattle.step_core.proofs.tables.Places.{handle_busy, there}
 use Rattle.step_core.proofs.holding.Slots.{counted_has, full_less, has_slot, num_set, one_held, one_slot, slot_inside}
 use Rattle.step_core.proofs.tables.Start.{forty}
@@ -122,14 +123,44 @@ holds_less d slots v w i x holds e hands latest =
       formed = formed_set slots i None holds.formed lt tt;
     }
 
--- a look changes nothing
-pub holds_look : (d : ℕ) (slots : Slots) (v : Story) (x : Deed) → state (after v d x) ≡ state v → Holds d slots v → Holds d slots (after v d x)
-holds_look d slots v x same holds =
+-- no handle comes or goes
+pub holds_look : (d : ℕ) (slots : Slots) (v w : Story) → (state w).hands ≡ (state v).hands → (state w).latest ≡ (state v).latest → Holds d slots v
+    → Holds d slots w
+holds_look d slots v w hands latest holds =
     record {
-      owned = λ h. ap (λ (s : State). times s d h) same ∙ holds.owned h ∙ sym (same_owns v (after v d x) h slots (λ j p q. ap (λ (s : State). s.latest p.block.0) same));
-      size = ap (λ (s : State). bag_size s d) same ∙ holds.size;
+      owned = λ h.
+          ap (λ (l : List Held). num (same_held (held d h)) l) hands ∙ holds.owned h
+          ∙ sym (same_owns v w h slots (λ j p q. ap (λ (f : ℕ → ℕ). f p.block.0) latest));
+      size = ap (λ (l : List Held). num (λ (q : Held). q.desk == d) l) hands ∙ holds.size;
       formed = holds.formed;
     }
+
+-- a weak pointer in a slot
+pub weak_held : (d : ℕ) (slots : Slots) (v : Story) (i : ℕ) (x : Pointer) → Holds d slots v → weak_slot (slot slots i) ≡ Some x
+    → Has (held d (weak_in v x.block x.place)) (state v).hands
+weak_held d slots v i x holds e =
+    let w = weak_is (slot slots i) x e in
+    subst (λ (k : Kind). Has (held d (handle_in v k x.block x.place)) (state v).hands) w.1 (slot_held d slots v i x holds w.0)
+  where
+    weak_is : (o : Option Pointer) (x : Pointer) → weak_slot o ≡ Some x → (o ≡ Some x) × (x.kind ≡ Weak)
+    weak_is None x e = cc
+    weak_is (Some y) x e = go y.kind refl e
+      where
+        go : (k : Kind) → y.kind ≡ k → weak_as k y ≡ Some x → (Some y ≡ Some x) × (x.kind ≡ Weak)
+        go Owner is e = cc
+        go Weak is e = (e, ap (λ (p : Pointer). p.kind) (sym (same_Some y x e)) ∙ is)
+
+-- the place of a weak pointer in a slot is well formed
+pub weak_formed : (d : ℕ) (slots : Slots) (v : Story) (i : ℕ) (x : Pointer) → Holds d slots v → weak_slot (slot slots i) ≡ Some x → IsPointer x.place
+weak_formed d slots v i x holds e = go (slot slots i) (holds.formed i) e
+  where
+    go : (o : Option Pointer) → IsSlot o → weak_slot o ≡ Some x → IsPointer x.place
+    go None f e = cc
+    go (Some y) f e = kinds y.kind e
+      where
+        kinds : (k : Kind) → weak_as k y ≡ Some x → IsPointer x.place
+        kinds Owner e = cc
+        kinds Weak e = subst (λ (p : Pointer). IsPointer p.place) (same_Some y x e) f
 
 -- a copy of a pointer
 pub holds_share : (d : ℕ) (slots : Slots) (v : Story) (i : ℕ) (x : Pointer) → Holds d slots v → IsPointer x.place → i < length slots
