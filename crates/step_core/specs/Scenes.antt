@@ -8,7 +8,7 @@ use Rattle.control_word.specs.declared.handle.Kind.{Kind}
 use Rattle.control_word.specs.declared.handle.Kind.TheVariants.{Owner, Weak}
 use Rattle.control_word.specs.declared.refusal.Refusal.TheVariants.{BadWeak, Full}
 use Rattle.control_word.specs.Events.{place_at}
-use Rattle.control_word.specs.Handles.{empty, handle, weak_of}
+use Rattle.control_word.specs.Handles.{empty, handle, owner, weak_of}
 use Rattle.control_word.specs.Histories.{entry, leads}
 use Rattle.control_word.specs.State.{Object, Opening, State, Stored, count, kind_of_member, weak}
 use Rattle.step_core.specs.declared.act.Act.{Act}
@@ -66,9 +66,9 @@ ends z d o zero h = entry d (event.Finish o (weak (leads z h) o == 0) tt) ∷ h
 ends z d o (suc k) h = ends z d o k (clears d o (2 - k) h)
 
 -- a pointer leaves, and the last owner's object ends
-abbrev pub left_as : Kind → State → Pointer → Event Nothing
-left_as Owner s x = event.Leave (handle_of s x) (is_last s x)
-left_as Weak s x = event.WeakLeave (handle_of s x) (is_last s x)
+abbrev pub left_as : Kind → State → Pointer → Bool → Event Nothing
+left_as Owner s x last = event.Leave (owner (owned s x) x.place) last
+left_as Weak s x last = event.WeakLeave (weak_of (owned s x) x.place) last
 
 abbrev pub ends_as : Kind → Opening → ℕ → ℕ → History → History
 ends_as Owner z d o h = ends z d o 3 h
@@ -77,10 +77,10 @@ ends_as Weak z d o h = h
 abbrev pub leaves : Opening → ℕ → History → Pointer → History
 leaves z d h x =
     let s = leads z h in
-    let left = entry d (left_as x.kind s x) ∷ h in cond (is_last s x) (ends_as x.kind z d (owned s x) left) left
+    let left = entry d (left_as x.kind s x (is_last s x)) ∷ h in cond (is_last s x) (ends_as x.kind z d (owned s x) left) left
 
 abbrev pub shared_as : Kind → State → Pointer → Event Nothing
-shared_as Owner s x = event.Share (handle_of s x) x.place
+shared_as Owner s x = event.Share (owner (owned s x) x.place) x.place
 shared_as Weak s x = event.WeakShare (owned s x) x.place
 
 abbrev pub shares : Opening → ℕ → History → Pointer → History

@@ -1,7 +1,7 @@
 //! The machine: a table and the threads over it.
 ghost use Rattle.std.specs.Prelude.{◌≡◌, ◌<◌, ◌≤◌, ◌-◌, length, true, false};
 ghost use Rattle.step_core.specs.Stories.{Kept};
-ghost use Rattle.step_core.specs.Turning.{HasBegun, Plays, Prepares, Rests, is_ending, is_locking, is_making, is_preparing, turned_by};
+ghost use Rattle.step_core.specs.Turning.{HasBegun, Plays, Prepares, Rests, is_ending, is_event, is_locking, is_making, is_preparing, turned_by};
 ghost use Rattle.step_core.specs.Worlds.{GoesTo, Steps, Turns, half_of};
 
 use crate::half::Half;
@@ -111,10 +111,11 @@ impl World {
         ensures goes { GoesTo number self.old self.new }
         ensures actors { length self.new.walks ≡ length self.old.walks }
     {
-        match self.advance(number) {
-            Stepped::Event(said) => Turned::Acted(said),
-            _ => turned(self.advance(number)),
+        let stepped = self.advance(number);
+        if is_event(stepped) {
+            return turned(stepped);
         }
+        turned(self.advance(number))
     }
 
     /// The rest of a make that is under way.
@@ -194,6 +195,13 @@ impl World {
         self.ended += ends(stepped);
         stepped
     }
+}
+
+/// Whether a step was an event.
+fn is_event(stepped: Stepped) -> bool
+    ensures { result ≡ is_event stepped }
+{
+    matches!(stepped, Stepped::Event(_))
 }
 
 /// The turn whose act the step was, or ended.
