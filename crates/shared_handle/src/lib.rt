@@ -6,7 +6,12 @@ mod downgrading;
 #[cfg(test)]
 mod drop_tests;
 mod endings;
+#[cfg(test)]
+mod example_tests;
 mod finishing;
+#[cfg(test)]
+mod lock_tests;
+mod locking;
 mod looks;
 mod making;
 #[cfg(test)]
@@ -20,6 +25,8 @@ mod race_tests;
 mod row_tests;
 mod sharing;
 #[cfg(test)]
+mod test_parts;
+#[cfg(test)]
 mod tests;
 mod this;
 mod weak_looks;
@@ -28,6 +35,7 @@ mod weaks;
 pub use control_block::handles::{Held, Shared, Weak};
 pub use downgrading::downgrade;
 pub use endings::{Ending, Left};
+pub use locking::{lock, upgrade};
 pub use looks::{place, read, same_place, use_count};
 pub use making::{empty, empty_weak, make, make_null};
 pub use ordering::{HasOwner, owner_before};

@@ -10,6 +10,7 @@ pub mod Steps
 pub mod Worlds
 pub mod Openings
 pub mod Programs
+pub mod runs
 pub mod Starts
 pub mod StartStores
 pub mod telling

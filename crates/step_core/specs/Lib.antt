@@ -1,10 +1,13 @@
 pub mod Actors
+pub mod Bounds
 pub mod Acts
 pub mod Courses
 pub mod Deeds
+pub mod Headline
 pub mod Holdings
 pub mod Openings
 pub mod Programs
+pub mod Runs
 pub mod Scenes
 pub mod Steps
 pub mod Stocks

@@ -1,35 +1,41 @@
 //! The pure machine: programs of calls on shared and weak pointers.
 #![tactic(auto)]
 
-pub mod act;
-pub mod call;
+mod act;
+mod call;
 mod census;
-pub mod course;
+mod course;
 mod ending;
-pub mod extent;
-pub mod half;
-pub mod holdings;
+mod extent;
+mod half;
+mod holdings;
 mod limits;
 mod locking;
 mod making;
 mod opening;
 #[cfg(test)]
 mod opening_tests;
-pub mod past;
+mod past;
 mod pointer;
-pub mod said;
+#[cfg(test)]
+mod run_tests;
+mod running;
+mod said;
 #[cfg(test)]
 mod step_tests;
-pub mod stock;
-pub mod table;
+mod stock;
+mod table;
 #[cfg(test)]
 mod tests;
 mod thread;
 mod told;
+mod trace;
 mod weak;
-pub mod world;
+mod world;
 #[cfg(test)]
 mod world_tests;
 
 pub use call::{Actor, Call, Kind, Name, Program};
 pub use said::{Answer, Ended, Said, Stepped, Turned};
+pub use trace::{RunRefusal, Trace, TraceStep};
+pub use world::World;
