@@ -212,10 +212,10 @@ lock_less v d word w [] is full = absurd full
 lock_less v d word w (t ∷ ts) is full = tried_less v d word w t ts t.act (locked w.slots t.act) is refl refl full
 
 less : (v : Story) (d : ℕ) (h : Half) (w : Walk) → IsUnderWay d v h w.todo → IsTried h w → IsLess v d h w (length w.todo) (step_at v d h w)
-less v d Rest w way tried = rest_less v d w w.todo refl
-less v d (Making b i f) w way tried = make_less v d i w b f w.todo refl way
-less v d (Ending b stage k) w way tried = end_less v d stage k w b way
-less v d (Locking word) w way tried = lock_less v d word w w.todo refl tried
+less v d Rest w way held = rest_less v d w w.todo refl
+less v d (Making b i f) w way held = make_less v d i w b f w.todo refl way
+less v d (Ending b stage k) w way held = end_less v d stage k w b way
+less v d (Locking word) w way held = lock_less v d word w w.todo refl held
 
 -- what thread d has to spare
 abbrev pub spare_of : ℕ → Sight → ℕ
