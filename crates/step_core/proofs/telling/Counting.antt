@@ -156,7 +156,7 @@ made_one : (v : Story) (d i k : ℕ) (w : Walk) (t : Task) (ts : List Task) (b :
 made_one v d i k w t ts b f fields e =
     let c : ◌≡◌ {A = ℕ} (cond (i == 5) 1 0) 1 = ap (λ (z : Bool). cond z 1 0) e in
     let m : suc (made_in v.history) ≡ made_in v.history + cond (i == 5) 1 0 = omega (arith, c) in
-    let l = settled_less (slice_set w.slots (hand w.slots) (Some (record { block = b; place = place_at b.0 }))) true ts in
+    let l = settled_less (slice_set w.slots (hand w.slots) (Some (record { kind = Owner; block = b; place = place_at b.0 }))) true ts in
     record { made = m; ended = plus_none _; few = omega (arith, c, l) }
 
 prepared_one : (v : Story) (d k found want i n : ℕ) (w : Walk) (b : Block) (f : Bool) → length w.todo ≤ n

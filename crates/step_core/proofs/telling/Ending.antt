@@ -81,8 +81,8 @@ expired v d x a f at all (Some y) = same v d Rest f _ refl (λ b t. t) at all
 tried_or : (v : Story) (d k word : ℕ) (w : Walk) (ts : List Task) (a : Act) (h : Half) (f : ℕ → Half) → f d ≡ h → AllEnd (state v) f
     → ((b : ℕ) → EndsIn b h → ⊥) → (y : Pointer) (c : Bool)
     → Right v d h f (Some (cond c (acts (state v) d w k ts a (Some (lock (state v) y)) Rest) (trying w k word)))
-tried_or v d k word w ts a h f at all no y true = same v d h f _ refl (λ b t. absurd (no b t)) at all
-tried_or v d k word w ts a h f at all no y false = same v d h f _ refl (λ b t. absurd (no b t)) at all
+tried_or v d k word w ts a h f at all ends y true = same v d h f _ refl (λ b t. absurd (ends b t)) at all
+tried_or v d k word w ts a h f at all ends y false = same v d h f _ refl (λ b t. absurd (ends b t)) at all
 
 looked : (v : Story) (d k : ℕ) (w : Walk) (ts : List Task) (a : Act) (f : ℕ → Half) → f d ≡ Rest → AllEnd (state v) f → (o : Option Pointer)
     → Right v d Rest f (Some (on (looks v d w k ts a) (acts (state v) d w k ts a None Rest) o))

@@ -88,12 +88,9 @@ shared : (d : ℕ) (v : Story) (o : Option Pointer) → Told d v share (shares (
 shared d v None w = refl
 shared d v (Some x) w = go x.kind
   where
-    go : (k : Kind) → ◌≡◌ {A = Scene} (record {
-      extent = (after v d (share_as k x)).extent;
-      history = (after v d (share_as k x)).history;
-      walks = w;
-    })
-    (record { extent = v.extent; history = entry d (shared_as k (state v) x) ∷ v.history; walks = w })
+    go : (k : Kind)
+        → ◌≡◌ {A = Scene} (record { extent = (after v d (share_as k x)).extent; history = (after v d (share_as k x)).history; walks = w })
+        (record { extent = v.extent; history = entry d (shared_as k (state v) x) ∷ v.history; walks = w })
     go Owner = refl
     go Weak = refl
 
@@ -130,7 +127,7 @@ left d v k w h None = refl
 left d v k w h (Some x) = ended d v k w h x x.kind (is_last (state v) x)
 
 -- a lock that is done
-lock_so : (d : ℕ) (u : Sight) (k : ℕ) (ts : List Task) (a : Act) (x : Pointer) → locked (walk_of (scene u) d).slots a ≡ Some x
+pub lock_so : (d : ℕ) (u : Sight) (k : ℕ) (ts : List Task) (a : Act) (x : Pointer) → locked (walk_of (scene u) d).slots a ≡ Some x
     → Acts d u k ts a (acts (state u.story) d (walk_of (scene u) d) k ts a (Some (lock (state u.story) x)) Rest)
 lock_so d u k ts (Lock i must) x e =
     let w = walk_of (scene u) d in (
