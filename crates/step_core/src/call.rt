@@ -26,6 +26,23 @@ pub enum Call {
     Copy { target: Name, source: Name },
     /// How many shared pointers share ownership ([util.smartptr.shared.obs], `use_count`).
     Count { name: Name },
+    /// The target shares ownership with the owner, as a weak pointer ([util.smartptr.weak.const]).
+    Weak { target: Name, source: Name },
+    /// The target shares what the weak source shares ([util.smartptr.weak.assign]).
+    WeakCopy { target: Name, source: Name },
+    /// The weak target becomes empty.
+    WeakEmpty { target: Name },
+    /// The weak name becomes empty ([util.smartptr.weak.mod], `reset`).
+    WeakReset { name: Name },
+    /// The target becomes an owner of the weak source's object if an owner remains, and else empty
+    /// ([util.smartptr.weak.obs], `lock`).
+    Lock { target: Name, source: Name },
+    /// The same, but refused where no owner remains ([util.smartptr.shared.const], `bad_weak_ptr`).
+    Upgrade { target: Name, source: Name },
+    /// How many shared pointers share ownership, by a weak pointer ([util.smartptr.weak.obs], `use_count`).
+    WeakCount { name: Name },
+    /// Whether no shared pointer shares ownership ([util.smartptr.weak.obs], `expired`).
+    Expired { name: Name },
 }
 
 /// An actor: the kinds of its names, by their numbers, and its calls in order.

@@ -7,6 +7,12 @@ use control_word::Refusal;
 pub enum Answer {
     /// How many owners there are.
     Count(u32),
+    /// Whether no owner is left.
+    Expired(bool),
+    /// Whether a lock gave an owner; else it is empty.
+    Locked(bool),
+    /// An upgrade gave an owner.
+    Upgraded,
     /// The statement is refused, and does nothing.
     Refused(Refusal),
 }

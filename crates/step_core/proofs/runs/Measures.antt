@@ -1,132 +1,24 @@
 -- Each step that isn't `Done` takes one from the steps that are left.
-use Rattle.std.proofs.Common.{◌≡◌, ◌≢◌, ℕ, suc, ◌+◌, ◌*◌, ◌<◌, ◌≤◌, ◌==◌, Bool, true, false, cond, List, [], ◌∷◌, length, get_or, refl, sym, ap, subst, ◌∙◌, arith}
+use Rattle.std.proofs.Common.{◌≡◌, ◌≢◌, ℕ, ◌+◌, ◌*◌, ◌<◌, ◌≤◌, List, length, sym, ap, subst, ◌∙◌, arith}
 use Rattle.std.proofs.Common.{get_or-set_same, length-set}
 use Rattle.std.specs.Prelude.{Option, Some, None, slice_set}
-use Rattle.std.proofs.lemmas.Bool.{cond_both, eqb-false}
+use Rattle.std.proofs.lemmas.Bool.{cond_both}
 use Rattle.std.proofs.lemmas.List.{set-get_or}
 use Rattle.std.proofs.lemmas.List.Sums.{get_or-le-sum_by, sum_by-set}
-use Rattle.control_word.specs.declared.place.Block.{Block}
-use Rattle.control_word.specs.Events.{place_at}
-use Rattle.control_word.specs.State.{weak}
-use Rattle.step_core.specs.declared.act.Act.{Act}
-use Rattle.step_core.specs.declared.act.Act.TheVariants.{Make, Share, Put, Leave, Clear, Count}
-use Rattle.step_core.specs.declared.act.Task.{Task}
 use Rattle.step_core.specs.declared.half.Half.{Half}
-use Rattle.step_core.specs.declared.half.Half.TheVariants.{Rest, Making, Ending}
-use Rattle.step_core.specs.declared.holdings.Pointer.{Pointer}
-use Rattle.step_core.specs.declared.past.Deed.TheVariants as deed
+use Rattle.step_core.specs.declared.half.Half.TheVariants.{Rest}
 use Rattle.step_core.specs.declared.said.Stepped.{Stepped}
 use Rattle.step_core.specs.declared.said.Stepped.TheVariants.{Event, Quiet, Done}
-use Rattle.step_core.specs.Actors.{wanted}
 use Rattle.step_core.specs.Bounds.{most_steps, spare}
-use Rattle.step_core.specs.Courses.{Walk, fields_of, hand, placed}
-use Rattle.step_core.specs.Holdings.{slot}
+use Rattle.step_core.specs.Courses.{Walk}
 use Rattle.step_core.specs.Runs.{IsOver}
-use Rattle.step_core.specs.Scenes.{is_last, least, nowhere, on, walk_of}
-use Rattle.step_core.specs.Steps.{Step, begins, begun, claims, end_of, ends_on, first, is_event, made_on, prepares, silent, step_at, story_after, stepped}
-use Rattle.step_core.specs.Stories.{Story, known, object_in, pending, state}
-use Rattle.step_core.specs.Turning.{HasBegun, IsUnderWay}
+use Rattle.step_core.specs.Scenes.{nowhere, walk_of}
+use Rattle.step_core.specs.Steps.{Step, begun, is_event}
+use Rattle.step_core.specs.Steps.{story_after, stepped}
+use Rattle.step_core.specs.Stories.{Story}
+use Rattle.step_core.specs.Turning.{HasBegun}
 use Rattle.step_core.specs.Worlds.{Sight, Steps, half_of, scene, sight_by, step_of}
-use Rattle.step_core.proofs.telling.Counting.{settled_less}
-
--- how many steps a half-done act has to spare where its thread runs alone
-abbrev pub alone : Story → Walk → Half → ℕ
-alone v w Rest = spare Rest
-alone v w (Making b i differs) = spare (Making b i differs)
-alone v w (Ending b stage k) = spare (Ending b stage k)
-
-pub alone_most : (v : Story) (w : Walk) (h : Half) → alone v w h ≤ spare h + 1
-alone_most v w Rest = omega arith
-alone_most v w (Making b i differs) = omega arith
-alone_most v w (Ending b stage k) = omega arith
-
--- a step leaves the thread with fewer steps, where it runs alone, and never with more
-pub record Lessens (v v' : Story) (h h' : Half) (w w' : Walk) (n : ℕ) : Type 0 where
-  pub own : 13 * length w'.todo + alone v' w' h' < 13 * n + alone v w h
-  pub most : 13 * length w'.todo + spare h' ≤ 13 * n + spare h
-
--- no step, just at the end; or the thread has fewer steps left than it had, with n tasks and h begun
-abbrev pub IsLess : Story → ℕ → Half → Walk → ℕ → Option Step → Type 0
-IsLess v d h w n None = (w.todo ≡ []) × (h ≡ Rest)
-IsLess v d h w n (Some x) = Lessens v (story_after v d x.deed) h x.half w x.walk n
-
-ending_few : (v v' : Story) (w : Walk) (k : ℕ) (x : Pointer) (b : Bool)
-    → let h = cond b (Ending x.block 0 k) Rest in (alone v' w h ≤ 17) × (spare h ≤ 17)
-ending_few v v' w k x true = (omega arith, omega arith)
-ending_few v v' w k x false = (omega arith, omega arith)
-
-left_few : (v v' : Story) (w : Walk) (k : ℕ) (o : Option Pointer)
-    → let h = on (end_of (state v) k) Rest o in (alone v' w h ≤ 17) × (spare h ≤ 17)
-left_few v v' w k None = (omega arith, omega arith)
-left_few v v' w k (Some x) = ending_few v v' w k x (is_last (state v) x)
-
--- the act is done: at most an end of an object begins
-over_less : (v v' : Story) (h : Half) (w w' : Walk) (m : ℕ) → length w'.todo ≤ m → (alone v' w' h ≤ 17) × (spare h ≤ 17)
-    → Lessens v v' Rest h w w' (suc m)
-over_less v v' h w w' m le few =
-    let a = few.0 in let b = few.1 in record { own = omega (arith, le, a); most = omega (arith, le, b) }
-
-begun_less : (v : Story) (d k : ℕ) (w : Walk) (t : Task) (ts : List Task) (o : Option ℕ) → w.todo ≡ t ∷ ts
-    → IsLess v d Rest w (length (t ∷ ts)) (Some (begins w k ts o))
-begun_less v d k w t ts None is = over_less v v Rest w _ (length ts) (settled_less w.slots false ts) (omega arith, omega arith)
-begun_less v d k w t ts (Some b) is =
-    let e = ap (λ (z : List Task). length z) is in record { own = omega (arith, e); most = omega (arith, e) }
-
-first_less : (v : Story) (d : ℕ) (w : Walk) (t : Task) (ts : List Task) (a : Act) → w.todo ≡ t ∷ ts
-    → IsLess v d Rest w (length (t ∷ ts)) (Some (first (state v) d w t.statement ts a))
-first_less v d w t ts (Make fields) is = begun_less v d t.statement w t ts (least d (state v).stores) is
-first_less v d w t ts (Share i) is =
-    over_less v _ Rest w _ (length ts) (settled_less (slice_set w.slots (hand w.slots) (slot w.slots i)) true ts) (omega arith, omega arith)
-first_less v d w t ts (Put i) is =
-    over_less v _ _ w _ (length ts) (settled_less (placed i (slice_set w.slots i None)) false ts) (left_few v v w t.statement (slot w.slots i))
-first_less v d w t ts (Leave i) is =
-    over_less v _ _ w _ (length ts) (settled_less (slice_set w.slots i None) w.taken ts) (left_few v v w t.statement (slot w.slots i))
-first_less v d w t ts (Clear i) is =
-    over_less v _ _ w _ (length ts) (settled_less (slice_set w.slots i None) w.taken ts) (left_few v v w t.statement (slot w.slots i))
-first_less v d w t ts (Count i) is = over_less v _ Rest w _ (length ts) (settled_less w.slots w.taken ts) (omega arith, omega arith)
-
-rest_less : (v : Story) (d : ℕ) (w : Walk) (ts : List Task) → w.todo ≡ ts → IsLess v d Rest w (length ts) (begun (state v) d w ts)
-rest_less v d w [] is = (is, refl)
-rest_less v d w (t ∷ ts) is = first_less v d w t ts t.act is
-
-prepared_less : (v : Story) (d found want k i n : ℕ) (w : Walk) (b : Block) (f : Bool) → i ≤ 5 → (i ≡ 5 → ⊥) → length w.todo ≡ n
-    → IsLess v d (Making b i f) w n (Some (prepares found want w k b i f))
-prepared_less v d found want k i n w b true le ne is = record { own = omega (arith, le, ne, is); most = omega (arith, le, ne, is) }
-prepared_less v d found want k i n w b false le ne is =
-    cond_both (found == want) (Making b (i + 1) false) (Making b i true) (λ (h : Half). Lessens v v (Making b i false) h w w n)
-    (λ e. record { own = omega (arith, le, ne, is); most = omega (arith, le, ne, is) })
-    (λ e. record { own = omega (arith, le, ne, is); most = omega (arith, le, ne, is) })
-
-flag_one : (f : Bool) → 1 ≤ cond f 1 2
-flag_one true = omega arith
-flag_one false = omega arith
-
-make_less : (v : Story) (d i : ℕ) (w : Walk) (b : Block) (f : Bool) (ts : List Task) → w.todo ≡ ts → IsUnderWay d v (Making b i f) ts
-    → IsLess v d (Making b i f) w (length ts) (made_on v d w b i f ts)
-make_less v d i w b f [] is way = absurd way
-make_less v d i w b f (t ∷ ts) is way =
-    let found = get_or (known (pending v d)) i 0 in
-    let want = get_or (wanted (fields_of t.act)) i 0 in
-    let n = ap (λ (z : List Task). length z) is in
-    cond_both (i == 5) (claims w t.statement ts b (fields_of t.act)) (prepares found want w t.statement b i f)
-    (λ (x : Step). IsLess v d (Making b i f) w (length (t ∷ ts)) (Some x))
-    (λ e. let l = settled_less (slice_set w.slots (hand w.slots) (Some (record { block = record { 0 = b.0 }; place = place_at b.0 }))) true ts in
-    let g = flag_one f in record { own = omega (arith, l, g); most = omega (arith, l, g) })
-    (λ e. prepared_less v d found want t.statement i (length (t ∷ ts)) w b f way.0 (eqb-false i 5 e) n)
-
-end_less : (v : Story) (d stage k : ℕ) (w : Walk) (b : Block) → stage ≤ 3
-    → IsLess v d (Ending b stage k) w (length w.todo) (Some (ends_on v w b stage k))
-end_less v d stage k w b le =
-    cond_both (stage == 3)
-    (record { deed = Some (deed.Finish b (weak (state v) (object_in v b) == 0)); half = Rest; walk = w; said = silent k })
-    (record { deed = Some (deed.Clear b stage); half = Ending b (stage + 1) k; walk = w; said = silent k })
-    (λ (x : Step). IsLess v d (Ending b stage k) w (length w.todo) (Some x)) (λ e. record { own = omega (arith, le); most = omega (arith, le) })
-    (λ e. let ne = eqb-false stage 3 e in record { own = omega (arith, le, ne); most = omega (arith, le, ne) })
-
-less : (v : Story) (d : ℕ) (h : Half) (w : Walk) → IsUnderWay d v h w.todo → IsLess v d h w (length w.todo) (step_at v d h w)
-less v d Rest w way = rest_less v d w w.todo refl
-less v d (Making b i f) w way = make_less v d i w b f w.todo refl way
-less v d (Ending b stage k) w way = end_less v d stage k w b way
+use Rattle.step_core.proofs.runs.Lessening.{IsLess, alone, less}
 
 -- what thread d has to spare
 abbrev pub spare_of : ℕ → Sight → ℕ
@@ -186,7 +78,7 @@ same_sight u ws hs e f = ap (λ (w : List Walk). sight_of u.story w hs) e ∙ ap
 
 -- a step at the end changes nothing
 pub at_end : (d : ℕ) (u u' : Sight) → HasBegun d u → Steps d u Done u' → (u' ≡ u) × IsOver d u
-at_end d u u' begun steps = go (step_of d u) steps.0 steps.1 (less u.story d (half_of u d) (walk_of (scene u) d) begun.half)
+at_end d u u' begun steps = go (step_of d u) steps.0 steps.1 (less u.story d (half_of u d) (walk_of (scene u) d) begun.half begun.tried)
   where
     go : (o : Option Step) → Done ≡ stepped u.story o → u' ≡ sight_by d u o
         → IsLess u.story d (half_of u d) (walk_of (scene u) d) (length (walk_of (scene u) d).todo) o → (u' ≡ u) × IsOver d u
@@ -196,7 +88,7 @@ at_end d u u' begun steps = go (step_of d u) steps.0 steps.1 (less u.story d (ha
 
 -- any other step is one less
 pub before_end : (d : ℕ) (u u' : Sight) (r : Stepped) → HasBegun d u → d < length u.walks → Steps d u r u' → r ≢ Done → Falls d u u'
-before_end d u u' r begun lt steps ne = go (step_of d u) steps.0 steps.1 (less u.story d (half_of u d) (walk_of (scene u) d) begun.half)
+before_end d u u' r begun lt steps ne = go (step_of d u) steps.0 steps.1 (less u.story d (half_of u d) (walk_of (scene u) d) begun.half begun.tried)
   where
     go : (o : Option Step) → r ≡ stepped u.story o → u' ≡ sight_by d u o
         → IsLess u.story d (half_of u d) (walk_of (scene u) d) (length (walk_of (scene u) d).todo) o → Falls d u u'
@@ -205,7 +97,7 @@ before_end d u u' r begun lt steps ne = go (step_of d u) steps.0 steps.1 (less u
 
 -- no step is one more
 pub never_more : (d : ℕ) (u u' : Sight) (r : Stepped) → HasBegun d u → d < length u.walks → Steps d u r u' → most_steps u' ≤ most_steps u
-never_more d u u' r begun lt steps = go (step_of d u) steps.1 (less u.story d (half_of u d) (walk_of (scene u) d) begun.half)
+never_more d u u' r begun lt steps = go (step_of d u) steps.1 (less u.story d (half_of u d) (walk_of (scene u) d) begun.half begun.tried)
   where
     go : (o : Option Step) → u' ≡ sight_by d u o
         → IsLess u.story d (half_of u d) (walk_of (scene u) d) (length (walk_of (scene u) d).todo) o → most_steps u' ≤ most_steps u
