@@ -27,6 +27,8 @@ mod tests;
 mod thread;
 mod told;
 mod weak;
+#[cfg(test)]
+mod weak_tests;
 pub mod world;
 #[cfg(test)]
 mod world_tests;
