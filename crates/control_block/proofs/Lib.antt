@@ -4,6 +4,7 @@ pub mod Opening
 pub mod Closing
 pub mod Endings
 pub mod Passage
+pub mod Unseen
 pub mod Still
 pub mod CellWords
 pub mod Hands
@@ -23,6 +24,7 @@ pub mod PartingJoin
 pub mod PartingCounts
 pub mod DeskSteps
 pub mod DeskBags
+pub mod DeskLocks
 pub mod OwnEndings
 pub mod StoreBlocks
 pub mod WeakGifts

@@ -5,7 +5,7 @@ use Rattle.std.proofs.lemmas.Bool.{cases_eq, cond_both, cond-true, cond-false, e
 use Rattle.std.specs.List.{filter}
 use mathlib.Core.Path.{fun_ext}
 use Rattle.control_word.proofs.lists.Sums.{num_none, num_passes}
-use Rattle.control_word.proofs.lists.Tallies.{has_before, num, num_cons, num_has, num_map, num_without, put_other, put_same, stored_self, stored_true}
+use Rattle.control_word.proofs.lists.Tallies.{has_before, num, num_cons, num_map, num_without, stored_self, stored_true}
 use Rattle.control_word.specs.Events.{Asks, after, renamed}
 use Rattle.control_word.specs.Histories.{IsLegal, leads}
 use Rattle.control_word.specs.State.{Has, HasAll, IsActing, Opening, State, Stored, all_stored, passed, same_stored, stored, without}

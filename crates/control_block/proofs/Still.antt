@@ -1,20 +1,21 @@
 -- Steps that make no event: nothing changes, or the desk's call goes on; and a compare-exchange, by its two outcomes.
-use Rattle.std.proofs.Common.{◌≡◌, ◌≢◌, ◌==◌, ℕ, ◌<◌, false, List, get_or, set, map, Option, None, refl, sym, ap, subst, ◌∙◌, inr, ⊎_elim, eq-eqb, ne_eqb}
+use Rattle.std.proofs.Common.{◌≡◌, ◌≢◌, ◌==◌, ℕ, ◌<◌, false, List, get_or, set, map, Option, None, refl, sym, subst, inr, ⊎_elim, eq-eqb, ne_eqb}
 use Rattle.std.proofs.lemmas.Bool.{cases_eq}
 use mathlib.Core.Option.{some}
 use lib.ListN.{get_elem?}
 use prog.Atomic.{either}
 use Rattle.atomic_table.specs.Table as Table
 use Rattle.atomic_table.specs.Table.{Allows, keeps}
-use Rattle.atomic_table.proofs.Lists.{set_again}
+use Rattle.atomic_table.proofs.Lists.{at_map, set_again}
 use Rattle.control_word.proofs.steps.Look.{load_is_write}
 use Rattle.control_word.specs.Views.{Stands, sees_as}
 use Rattle.control_word.specs.declared.shape.Shape.{Shape}
 use Rattle.control_word.specs.declared.view.Pending.{Pending}
-use Rattle.control_block.specs.Rule.{IsSlotOf, Ruled, opening_of, seeing, view_of}
-use Rattle.control_block.specs.Plays.{At, Moved}
+use Rattle.control_block.specs.Rule.{IsSlotOf, Ruled, opening_of, view_of}
+use Rattle.control_block.specs.Plays.{At, in_call}
 use Rattle.control_block.specs.declared.board.Sight.{Sight}
-use Rattle.control_block.proofs.Passage.{moves, next}
+use Rattle.control_block.proofs.Passage.{next}
+use Rattle.control_block.proofs.Unseen.{IsOwn, unseen}
 
 module _ {V : Type 0} where
   -- the rule where a step changed nothing
@@ -24,27 +25,28 @@ module _ {V : Type 0} where
       subst (λ (t : List ℕ × List (Sight V)). Ruled k record { words = t.0; homes = s.homes; views = t.1 })
       (λ j. (sym (load_is_write s.words i) j, sym (set_again s.views id v at) j)) r
 
-  -- the rule where the desk's call went on, and all else is as it was
+  -- the rule where the desk's call went on, and all else is as it was, what it has seen too
   pub moved_on : (k : Shape) (s : Table.State (Option V) (Sight V)) (r : Ruled k s) (id : ℕ) (v : Sight V) (words : List ℕ) (p : Pending V)
-      → get_elem? s.views id ≡ some v → v.view.spent ≡ false → v.hand ≡ None
+      → get_elem? s.views id ≡ some v → v.view.spent ≡ false → v.hand ≡ None → IsOwn p
       → Stands (opening_of k) words (set (map view_of s.views) id (sees_as v.view p r.history)) r.history
-      → Ruled k record { words = words; homes = s.homes; views = set s.views id (seeing v p None r.history) }
-  moved_on k s r id v words p at awake free stands =
-      next k s r id v (seeing v p None r.history) words s.homes r.history at awake (r.shapes id v at awake) stands refl r.bare tt
+      → Ruled k record { words = words; homes = s.homes; views = set s.views id (in_call v p) }
+  moved_on k s r id v words p at awake free own stands =
+      next k s r id v (in_call v p) words s.homes r.history at awake (r.shapes id v at awake)
+      (unseen (opening_of k) s.words words (map view_of s.views) r.history id v.view p (at_map view_of s.views id v at) awake r.stands own stands) refl r.bare tt
       (λ j u ne there un back. back) (λ b inside. inr (inr (refl, refl, λ y. subst (λ c. IsSlotOf c b) free y)))
 
   -- a step by which the desk's call goes on
-  pub allows_move : (k : Shape) (slots id i : ℕ) (me : At V) (f : ℕ → ℕ) (p : Pending V) → me.0.view.spent ≡ false → me.0.hand ≡ None
+  pub allows_move : (k : Shape) (slots id i : ℕ) (me : At V) (f : ℕ → ℕ) (p : Pending V) → me.0.view.spent ≡ false → me.0.hand ≡ None → IsOwn p
       → ((s : Table.State (Option V) (Sight V)) (r : Ruled k s) → get_elem? s.views id ≡ some me.0 → get_or s.words i 0 < 18446744073709551616
       → Stands (opening_of k) (set s.words i (f (get_or s.words i 0))) (set (map view_of s.views) id (sees_as me.0.view p r.history)) r.history)
-      → Allows (Ruled k) slots id me i f (λ n after. Moved me.0 p None after.0 × (after.1 ≡ me.1))
-  allows_move k slots id i me f p awake free law s r sized at small =
+      → Allows (Ruled k) slots id me i f (λ n after. (after.0 ≡ in_call me.0 p) × (after.1 ≡ me.1))
+  allows_move k slots id i me f p awake free own law s r sized at small =
       let v = me.0 in (
-        seeing v p None r.history,
+        in_call v p,
         keeps,
         tt,
-        moved_on k s r id v _ p at awake free (law s r at small),
-        (moves k s r id v at awake p None, refl),
+        moved_on k s r id v _ p at awake free own (law s r at small),
+        (refl, refl),
       )
 
   -- a compare-exchange, which changes nothing where the word isn't the expected one

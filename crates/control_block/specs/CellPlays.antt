@@ -1,11 +1,12 @@
 -- What the steps on a cell tell.
-use Rattle.std.specs.Prelude.{◌≡◌, ◌≢◌, ℕ, ◌+◌, ◌-◌, ◌*◌, ◌<◌, ◌==◌, Bool, true, false, List, Option, Some, None}
+use Rattle.std.specs.Prelude.{◌≡◌, ◌≢◌, ℕ, ◌+◌, ◌-◌, ◌<◌, ◌++◌, Bool, true, false, List, Option, Some, None}
 use Rattle.atomic_table.specs.Table.{Step}
 use Rattle.control_word.specs.declared.cell.CellWord.{CellWord}
 use Rattle.control_word.specs.declared.event.Cell.{Cell}
 use Rattle.control_word.specs.declared.event.Cell.TheVariants.{Free, Member}
+use Rattle.control_word.specs.declared.event.Entry.{Entry}
 use Rattle.control_word.specs.declared.event.Event.{Event}
-use Rattle.control_word.specs.declared.event.Event.TheVariants.{Load, Swap, Compare}
+use Rattle.control_word.specs.declared.event.Event.TheVariants.{Load, Compare}
 use Rattle.control_word.specs.declared.handle.Handle.{Handle}
 use Rattle.control_word.specs.declared.handle.Kind.{Kind}
 use Rattle.control_word.specs.declared.handle.Kind.TheVariants.{Owner}
@@ -14,13 +15,17 @@ use Rattle.control_word.specs.declared.place.Place.{Place}
 use Rattle.control_word.specs.declared.shape.Shape.{Shape}
 use Rattle.control_word.specs.declared.view.Pending.{Pending}
 use Rattle.control_word.specs.declared.view.Pending.TheVariants.{Idle}
+use Rattle.control_word.specs.Events.{cell_of}
 use Rattle.control_word.specs.Handles.{handle, equivalent, object_of}
+use Rattle.control_word.specs.Histories.{leads, IsLegal}
 use Rattle.control_word.specs.Layout.{cell_place, spot}
 use Rattle.control_word.specs.Packing.{IsCellWord, IsPackedCell, cell_bits}
 use Rattle.control_word.specs.State.{kind_of_free, kind_of_member}
-use Rattle.control_word.specs.Words.{blocks_of, shown, slot}
-use Rattle.control_block.specs.Plays.{At, Added, Holding, Moved, known, tells}
+use Rattle.control_word.specs.Views.{NoneBy}
+use Rattle.control_word.specs.Words.{blocks_of, shown}
+use Rattle.control_block.specs.Plays.{At, Added, Holding, goes_on, known, tells}
 use Rattle.control_block.specs.FundPlays.{owing}
+use Rattle.control_block.specs.Rule.{opening_of}
 use Rattle.control_block.specs.declared.board.Sight.{Sight}
 
 -- the kind of the handles in a cell
@@ -42,6 +47,13 @@ module _ {V : Type 0} where
   abbrev pub IsWordOf : Sight V → Handle → CellWord → Type 0
   IsWordOf v h x = x ≡ shown (blocks_of (known v)) h x.taken
 
+  -- the word shows what the cell holds, in the state that all of the history so far leads to
+  pub record IsHeld (c : Cell) (v : Sight V) (x : CellWord) : Type 0 where
+    pub between : List (Entry V)
+    pub quiet : NoneBy v.view.name between
+    pub legal : IsLegal (opening_of v.shape) (between ++ v.view.seen)
+    pub shows : let s = leads (opening_of v.shape) (between ++ v.view.seen) in x ≡ shown (blocks_of s) (cell_of s c) x.taken
+
   -- so many funds are out for a handle of which the word of a cell tells the block
   abbrev pub debt : Handle → Option Block → ℕ → Pending V
   debt h None f = Idle
@@ -62,23 +74,26 @@ module _ {V : Type 0} where
     pub shows : IsWordOf w old x
     pub event : Added v (debt old x.owned (256 - x.taken)) None (e old) w
 
-  -- the word of a cell, and nothing else
-  abbrev pub peeked : Step (Option V) → At V → ℕ → At V → Type 0
-  peeked st m n m' = IsPackedCell n × (m' ≡ m)
+  -- what the cell holds, and nothing changes
+  abbrev pub as_peeked : Cell → At V → CellWord → At V → Type 0
+  as_peeked c m x m' = IsHeld c m.0 x × (m' ≡ m)
 
-  -- the load of a cell that shows no object; of one that shows an object nothing
+  abbrev pub peeked : Cell → Step (Option V) → At V → ℕ → At V → Type 0
+  peeked c st m n m' = of_cell (λ x. as_peeked c m x m') n
+
+  -- what the cell holds: the load of one that shows no object; of one that shows an object nothing
   abbrev pub as_loaded : Cell → At V → CellWord → At V → Type 0
   as_loaded c m x m' =
-      (x.owned ≡ None → tells (Load c (handle (kind_in m.0.shape c) None x.place)) m.0 m'.0 × (m'.1 ≡ m.1)) × (x.owned ≢ None → m' ≡ m)
+      IsHeld c m.0 x × (x.owned ≡ None → tells (Load c (handle (kind_in m.0.shape c) None x.place)) m.0 m'.0 × (m'.1 ≡ m.1)) × (x.owned ≢ None → m' ≡ m)
 
   abbrev pub loaded_empty : Cell → Step (Option V) → At V → ℕ → At V → Type 0
   loaded_empty c st m n m' = of_cell (λ x. as_loaded c m x m') n
 
-  -- a compare of a cell that shows no object, where it differs; else nothing
+  -- what the cell holds: a compare of one that shows no object, where it differs; else nothing
   abbrev pub as_differed : Cell → Handle → Handle → Bool → At V → CellWord → At V → Type 0
   as_differed c expected new weak m x m' =
       let h = handle (kind_in m.0.shape c) None x.place in
-      (x.owned ≡ None → equivalent h expected ≡ false → tells (Compare c expected new h false weak) m.0 m'.0 × (m'.1 ≡ m.1))
+      IsHeld c m.0 x × (x.owned ≡ None → equivalent h expected ≡ false → tells (Compare c expected new h false weak) m.0 m'.0 × (m'.1 ≡ m.1))
       × (x.owned ≡ None → equivalent h expected ≡ true → m' ≡ m) × (x.owned ≢ None → m' ≡ m)
 
   abbrev pub differed_empty : Cell → Handle → Handle → Bool → Step (Option V) → At V → ℕ → At V → Type 0
@@ -100,6 +115,6 @@ module _ {V : Type 0} where
       (n ≡ st.first → (x : CellWord) → IsCellWord x → n ≡ cell_bits x → Gave e (kind_in m.0.shape c) m.0 x m'.0 × (m'.1 ≡ m.1))
       × (n ≢ st.first → m' ≡ m)
 
-  -- what was owed is in the cell, where its word was the one that was found; else nothing changes
+  -- what was owed is in the cell, where its word was the one that was found, and the desk has seen no more; else nothing changes
   abbrev pub refilled : Step (Option V) → At V → ℕ → At V → Type 0
-  refilled st m n m' = (n ≡ st.first → Moved m.0 Idle None m'.0 × (m'.1 ≡ m.1)) × (n ≢ st.first → m' ≡ m)
+  refilled st m n m' = (n ≡ st.first → (m'.0 ≡ goes_on m.0) × (m'.1 ≡ m.1)) × (n ≢ st.first → m' ≡ m)

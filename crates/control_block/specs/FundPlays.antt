@@ -1,14 +1,13 @@
 -- What the steps on funds tell, and what a half-done cell call owes.
-use Rattle.std.specs.Prelude.{◌≡◌, ℕ, ◌/◌, false, List, [], Option, None}
-use Rattle.atomic_table.specs.Table.{Me, Step}
+use Rattle.std.specs.Prelude.{◌≡◌, ℕ, ◌/◌, false, [], Option, None}
+use Rattle.atomic_table.specs.Table.{Step}
 use Rattle.control_word.specs.declared.handle.Kind.{Kind}
 use Rattle.control_word.specs.declared.place.Place.{Place}
 use Rattle.control_word.specs.declared.view.Pending.{Pending}
-use Rattle.control_word.specs.declared.view.Pending.TheVariants.{Idle, Paying}
+use Rattle.control_word.specs.declared.view.Pending.TheVariants.{Paying}
 use Rattle.control_word.specs.Layout.{spot}
 use Rattle.control_word.specs.Words.{slot}
-use Rattle.control_block.specs.Plays.{At, Moved}
-use Rattle.control_block.specs.declared.board.Sight.{Sight}
+use Rattle.control_block.specs.Plays.{At, goes_on, in_call}
 
 module _ {V : Type 0} where
   -- this call is half done, and no slot in hand
@@ -22,10 +21,10 @@ module _ {V : Type 0} where
   abbrev pub owing : Kind → ℕ → Option Place → ℕ → ℕ → ℕ → Pending V
   owing k o p b funds loads = Paying k o p (spot b (slot k)) funds loads
 
-  -- the funds that were added are out on the word
+  -- the funds that were added are out on the word, and the desk has seen no more
   abbrev pub brought : Kind → ℕ → Option Place → Step (Option V) → At V → ℕ → At V → Type 0
-  brought k o p st m n m' = Moved m.0 (Paying k o p st.word (st.first / 4294967296) 0) None m'.0 × (m'.1 ≡ m.1)
+  brought k o p st m n m' = (m'.0 ≡ in_call m.0 (Paying k o p st.word (st.first / 4294967296) 0)) × (m'.1 ≡ m.1)
 
-  -- nothing is owed any more
+  -- nothing is owed any more, and the desk has seen no more
   abbrev pub settled : Step (Option V) → At V → ℕ → At V → Type 0
-  settled st m n m' = Moved m.0 Idle None m'.0 × (m'.1 ≡ m.1)
+  settled st m n m' = (m'.0 ≡ goes_on m.0) × (m'.1 ≡ m.1)

@@ -1,6 +1,7 @@
 pub mod Rule
 pub mod Plays
 pub mod LockPlays
+pub mod LockCalls
 pub mod FundPlays
 pub mod CellPlays
 pub mod Desks

@@ -165,9 +165,13 @@ module _ {V : Type 0} where
   abbrev pub parted : ℕ → List Handle → List Block → Step (Option V) → At V → ℕ → At V → Type 0
   parted n hs bs st m found m' = (to : ℕ) × Added m.0 (Parting to) None (Split to n hs bs) m'.0 × (m'.1 ≡ m.1)
 
+  -- the desk with this half-done call, no slot in hand, and no more seen than before
+  abbrev pub in_call : Sight V → Pending V → Sight V
+  in_call v p = seeing v p None v.view.seen
+
   -- the seat of the desk that goes on, and the new one's
   abbrev pub goes_on : Sight V → Sight V
-  goes_on v = seeing v Idle None v.view.seen
+  goes_on v = in_call v Idle
 
   abbrev pub second_name : Pending V → ℕ
   second_name (Parting to) = to

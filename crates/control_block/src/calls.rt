@@ -327,6 +327,7 @@ pub fn count_empty<V: Drop + Send>(desk: &mut Desk<V>) -> Result<(), Refusal>
     ensures limit { IsErr result ↔ (desk.old.held ≡ allowance_of desk.old) }
     ensures refused { IfErr result (λ why. (why ≡ Refusal.Limit) × (desk.new ≡ desk.old)) }
     ensures counted { OnOk result (desk.new ≡ record desk.old { held = desk.old.held + 1 }) }
+    ensures holds { OnOk result (length (bag_of desk.new) < desk.new.held) }
 {
     if desk.held == desk.allowance {
         return Err(Refusal::Limit);

@@ -35,10 +35,10 @@ impl Aimed for Brand {
 }
 
 /// A look without an event.
-pub struct Peeks;
+pub struct Peeks<A>(PhantomData<A>);
 
-impl<V> Play<Option<V>, Sight<V>> for Peeks {
-    ghost then = { peeked };
+impl<V, A: Aimed> Play<Option<V>, Sight<V>> for Peeks<A> {
+    ghost then = { peeked A.cell };
 }
 
 /// A look, which is the load of a cell without an object.

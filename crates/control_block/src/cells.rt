@@ -6,12 +6,11 @@ ghost use Rattle.control_word.specs.Handles.{equivalent, handle};
 ghost use Rattle.control_word.specs.Packing.{IsCellWord};
 ghost use Rattle.control_word.specs.declared.event.Cell.TheVariants.{Free};
 ghost use Rattle.control_word.specs.declared.event.Event.TheVariants.{Compare, Load, Swap};
-ghost use Rattle.control_block.specs.Plays.{HasRoomFor, Moved, Rests, known, tells};
+ghost use Rattle.control_block.specs.Plays.{HasRoomFor, Rests, goes_on, known, tells};
 ghost use Rattle.control_word.specs.declared.place.Block.{Block};
 ghost use Rattle.control_word.specs.declared.place.Place.{Place};
-ghost use Rattle.control_word.specs.declared.view.Pending.TheVariants.{Idle};
 ghost use Rattle.control_block.specs.FundPlays.{Owes, owing};
-ghost use Rattle.control_block.specs.CellPlays.{Gave, IsCellAt, IsWordOf, Took, debt, kind_in};
+ghost use Rattle.control_block.specs.CellPlays.{Gave, IsCellAt, IsHeld, IsWordOf, Took, debt, kind_in};
 
 use crate::board::{Board, Chair};
 use crate::cell_plays::{
@@ -21,7 +20,7 @@ use crate::cell_plays::{
 use control_word::CellWord;
 use control_word::cell::{ONE_TAKEN, pack, unpack};
 
-/// Look: what a cell shows, and no event (own).
+/// Look: what a cell holds at this step, and no event (own).
 pub fn peek<V, A: Aimed>(board: &Board<V>, chair: &mut Chair<V>, word: usize) -> CellWord
     requires board { chair.old.table_id ≡ board.now.table_id }
     requires awake { chair.old.me.0.view.spent ≡ false }
@@ -29,11 +28,12 @@ pub fn peek<V, A: Aimed>(board: &Board<V>, chair: &mut Chair<V>, word: usize) ->
     requires cell { IsCellAt chair.old.me.0 A.cell word }
     ensures chair { (chair.new.table_id ≡ chair.old.table_id) × (chair.new.id ≡ chair.old.id) × (chair.new.me ≡ chair.old.me) }
     ensures cell { IsCellWord result }
+    ensures held { IsHeld A.cell chair.old.me.0 result }
 {
-    unpack(board.load::<Peeks>(chair, word))
+    unpack(board.load::<Peeks<A>>(chair, word))
 }
 
-/// Look: what a cell shows. Where it shows no object, this is its load ([util.smartptr.atomic.shared],
+/// Look: what a cell holds at this step. Where it shows no object, this is its load ([util.smartptr.atomic.shared],
 /// [util.smartptr.atomic.weak]); else nothing changes.
 pub fn look<V, A: Aimed>(board: &Board<V>, chair: &mut Chair<V>, word: usize) -> CellWord
     requires board { chair.old.table_id ≡ board.now.table_id }
@@ -42,13 +42,14 @@ pub fn look<V, A: Aimed>(board: &Board<V>, chair: &mut Chair<V>, word: usize) ->
     requires cell { IsCellAt chair.old.me.0 A.cell word }
     ensures chair { (chair.new.table_id ≡ chair.old.table_id) × (chair.new.id ≡ chair.old.id) × (chair.new.me.1 ≡ []) }
     ensures cell { IsCellWord result }
+    ensures held { IsHeld A.cell chair.old.me.0 result }
     ensures event { result.owned ≡ None → tells (Load A.cell (handle (kind_in chair.old.me.0.shape A.cell) None result.place)) chair.old.me.0 chair.new.me.0 }
-    ensures held { result.owned ≢ None → chair.new.me ≡ chair.old.me }
+    ensures same { result.owned ≢ None → chair.new.me ≡ chair.old.me }
 {
     unpack(board.load::<LoadsEmpty<A>>(chair, word))
 }
 
-/// Look: what a cell shows. Where it shows no object and isn't equivalent to what is expected, this is a compare that
+/// Look: what a cell holds at this step. Where it shows no object and isn't equivalent to what is expected, this is a compare that
 /// differs ([util.smartptr.atomic.shared], [util.smartptr.atomic.weak]); else nothing changes.
 pub fn look_differing<V, A: Aimed>(board: &Board<V>, chair: &mut Chair<V>, word: usize) -> CellWord
     requires board { chair.old.table_id ≡ board.now.table_id }
@@ -59,10 +60,11 @@ pub fn look_differing<V, A: Aimed>(board: &Board<V>, chair: &mut Chair<V>, word:
     requires hand { InHand (known chair.old.me.0) chair.old.me.0.view.name (kind_in chair.old.me.0.shape A.cell) A.new }
     ensures chair { (chair.new.table_id ≡ chair.old.table_id) × (chair.new.id ≡ chair.old.id) × (chair.new.me.1 ≡ []) }
     ensures cell { IsCellWord result }
+    ensures held { IsHeld A.cell chair.old.me.0 result }
     ensures event { let h = handle (kind_in chair.old.me.0.shape A.cell) None result.place in
         result.owned ≡ None → equivalent h A.expected ≡ false → tells (Compare A.cell A.expected A.new h false A.weak) chair.old.me.0 chair.new.me.0 }
     ensures alike { result.owned ≡ None → equivalent (handle (kind_in chair.old.me.0.shape A.cell) None result.place) A.expected ≡ true → chair.new.me ≡ chair.old.me }
-    ensures held { result.owned ≢ None → chair.new.me ≡ chair.old.me }
+    ensures same { result.owned ≢ None → chair.new.me ≡ chair.old.me }
 {
     unpack(board.load::<DiffersEmpty<A>>(chair, word))
 }
@@ -117,7 +119,7 @@ pub fn take_differing<V, A: Aimed>(
 }
 
 /// Refill: where the cell still shows what was seen, the funds that were brought, as many as were taken, go into it
-/// (own). The call is over. Else nothing changes.
+/// (own). The call is over, and the desk has seen no more. Else nothing changes.
 pub fn refill<V, A: Aimed>(
     board: &Board<V>,
     chair: &mut Chair<V>,
@@ -130,7 +132,7 @@ pub fn refill<V, A: Aimed>(
     requires seen { IsCellWord seen }
     requires owes { (o : ℕ) × (p : Option Place) × (b : Block) × (seen.owned ≡ Some b) × Owes (owing (kind_in chair.old.me.0.shape A.cell) o p b.0 seen.taken 0) chair.old.me }
     ensures chair { (chair.new.table_id ≡ chair.old.table_id) × (chair.new.id ≡ chair.old.id) × (chair.new.me.1 ≡ []) }
-    ensures refilled { result ≡ true → Moved chair.old.me.0 Idle None chair.new.me.0 }
+    ensures refilled { result ≡ true → chair.new.me.0 ≡ goes_on chair.old.me.0 }
     ensures missed { result ≡ false → chair.new.me ≡ chair.old.me }
 {
     let found = pack(seen);

@@ -14,6 +14,7 @@ pub mod fund_plays;
 pub mod funds;
 pub mod handles;
 pub mod join;
+pub mod lock_calls;
 pub mod lock_plays;
 pub mod locks;
 mod pause;
@@ -22,7 +23,7 @@ mod shared_parts;
 pub mod split;
 #[cfg(test)]
 mod split_tests;
-pub mod steps;
+mod steps;
 #[cfg(test)]
 mod tests;
 mod weak_parts;

@@ -2,6 +2,10 @@
 #![tactic(auto)]
 
 pub mod cell;
+#[cfg(test)]
+mod cell_tests;
+#[cfg(test)]
+mod count_tests;
 pub mod counts;
 pub mod event;
 pub mod handle;
@@ -9,13 +13,15 @@ pub mod history_laws;
 #[cfg(test)]
 mod law_tests;
 pub mod layout;
+#[cfg(test)]
+mod layout_tests;
 pub mod limits;
 pub mod place;
 pub mod refusal;
+#[cfg(test)]
+mod refusal_tests;
 pub mod shape;
 pub mod step_laws;
-#[cfg(test)]
-mod tests;
 pub mod view;
 
 pub use cell::CellWord;

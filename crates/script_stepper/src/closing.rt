@@ -9,7 +9,7 @@ ghost use Rattle.script_stepper.specs.Running.{AllOver, AllRest};
 use crate::lines::{put_block, put_totals};
 use control_word::place::Block;
 use std::alloc::AllocError;
-use step_core::world::World;
+use step_core::World;
 
 /// Adds the line of a block, where it isn't vacant.
 fn put_counts(world: &World, number: u16, text: &mut String) -> Result<(), AllocError>

@@ -21,7 +21,7 @@ use crate::turns::turns_of;
 use control_word::{Refusal, Shape};
 use script_text::{Fault, Script, parse};
 use std::alloc::{AllocError, Global};
-use step_core::world::World;
+use step_core::World;
 
 /// How many blocks all threads have at most.
 const BLOCKS: u32 = 4_095;

@@ -7,6 +7,9 @@ mod downgrading;
 mod drop_tests;
 mod endings;
 mod finishing;
+#[cfg(test)]
+mod lock_tests;
+mod locking;
 mod looks;
 mod making;
 #[cfg(test)]
@@ -28,6 +31,7 @@ mod weaks;
 pub use control_block::handles::{Held, Shared, Weak};
 pub use downgrading::downgrade;
 pub use endings::{Ending, Left};
+pub use locking::{lock, upgrade};
 pub use looks::{place, read, same_place, use_count};
 pub use making::{empty, empty_weak, make, make_null};
 pub use ordering::{HasOwner, owner_before};

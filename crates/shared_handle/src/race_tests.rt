@@ -16,7 +16,7 @@ use std::test::Fail;
 use std::thread::{Threads, join_mut};
 
 // An owner leaves, and its object ends where it was the last. 1 where it was.
-fn leave(domain: &Domain<u64>, desk: &mut Desk<u64>, handle: &mut Option<Shared>) -> u64
+pub(crate) fn leave(domain: &Domain<u64>, desk: &mut Desk<u64>, handle: &mut Option<Shared>) -> u64
     requires domain { desk.old.domain ≡ domain.now.id }
     requires held { IfSome handle.old (λ h. Holds desk.old Owner h.block h.place) }
     ensures desk { IsSameDesk desk.old desk.new }

@@ -1,32 +1,33 @@
 //! The pure machine: programs of calls on shared and weak pointers.
 #![tactic(auto)]
 
-pub mod act;
-pub mod call;
+mod act;
+mod call;
 mod census;
-pub mod course;
+mod course;
 mod ending;
-pub mod extent;
-pub mod half;
-pub mod holdings;
+mod extent;
+mod half;
+mod holdings;
 mod limits;
 mod making;
 mod opening;
 #[cfg(test)]
 mod opening_tests;
-pub mod past;
-pub mod said;
+mod past;
+mod said;
 #[cfg(test)]
 mod step_tests;
-pub mod stock;
-pub mod table;
+mod stock;
+mod table;
 #[cfg(test)]
 mod tests;
 mod thread;
 mod told;
-pub mod world;
+mod world;
 #[cfg(test)]
 mod world_tests;
 
 pub use call::{Actor, Call, Kind, Name, Program};
 pub use said::{Answer, Ended, Said, Stepped, Turned};
+pub use world::World;

@@ -1,5 +1,5 @@
 -- A look at a cell that is a compare which differs, of a cell without an object.
-use Rattle.std.proofs.Common.{◌≡◌, ◌≢◌, ℕ, ◌<◌, true, false, Bool, ◌∷◌, get_or, set, map, Option, Some, None, refl, sym, ap, subst, ◌∙◌, inl}
+use Rattle.std.proofs.Common.{◌≡◌, ◌≢◌, ℕ, true, false, Bool, ◌∷◌, get_or, set, Option, Some, None, refl, sym, ap, ◌∙◌, inl}
 use Rattle.atomic_table.specs.Table as Table
 use Rattle.atomic_table.specs.Table.{Allows, step}
 use mathlib.Core.Option.{none, some}
@@ -25,7 +25,7 @@ use Rattle.control_block.proofs.CellWords.{Decoded, Opened}
 use Rattle.control_block.proofs.Hands.{hand_there}
 use Rattle.control_block.proofs.Passage.{adds, point, quiet_next, ready}
 use Rattle.control_block.proofs.Still.{unmoved}
-use Rattle.control_block.proofs.kept.CellLook.{allows_cell_look, shows_one}
+use Rattle.control_block.proofs.kept.CellLook.{allows_cell_look, is_held, shows_one}
 use Rattle.control_block.proofs.kept.Look.{looked}
 
 not_both : (b : Bool) → b ≡ true → b ≡ false → ⊥
@@ -49,10 +49,10 @@ module _ {V : Type 0} where
           × as_differed c expected new weak' me (shown (blocks_of t) (cell_of t c) d.taken) (w, me.1)
       go s r at is d (Some o) e b same =
           let t = leads (opening_of k) r.history in let no = shows_one (blocks_of t) (cell_of t c) o d.taken e in
-          (me.0, unmoved k s id i me.0 r at, (λ n f. absurd (no n), λ n f. absurd (no n), λ _. refl))
+          (me.0, unmoved k s id i me.0 r at, (is_held k s r id me.0 at rests.awake c d.taken, λ n f. absurd (no n), λ n f. absurd (no n), λ _. refl))
       go s r at is d None e true same =
           let t = leads (opening_of k) r.history in
-          (me.0, unmoved k s id i me.0 r at, (λ n f. absurd (not_both _ same f), λ n f. refl, λ n. absurd (n (ap (block_of (blocks_of t)) e))))
+          (me.0, unmoved k s id i me.0 r at, (is_held k s r id me.0 at rests.awake c d.taken, λ n f. absurd (not_both _ same f), λ n f. refl, λ n. absurd (n (ap (block_of (blocks_of t)) e))))
       go s r at is d None e false same =
           let v = me.0 in let z = opening_of k in let t = leads z r.history in let old = cell_of t c in let kk = kind_in v.shape c in
           let h = handle kk None old.place in
@@ -64,6 +64,7 @@ module _ {V : Type 0} where
             quiet_next k s r id v (set s.words i (get_or s.words i 0)) ev Idle at rests.awake rests.empty
                 record { objects = λ u q. refl; latest = λ u q. refl; values = λ u f. refl } (looked z s.words i _ hist told),
             (
+              is_held k s r id v at rests.awake c d.taken,
               λ _ _. (adds k s r id v at rests.awake Idle None ev told.legal, refl),
               λ n f. absurd (not_both _ f same),
               λ n. absurd (n (ap (block_of (blocks_of t)) e)),

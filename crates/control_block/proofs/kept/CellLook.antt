@@ -1,30 +1,28 @@
 -- Looks at a cell: without an event, or as the load or the compare of a cell without an object.
-use Rattle.std.proofs.Common.{◌≡◌, ◌≢◌, ℕ, ◌<◌, true, false, Bool, ◌∷◌, get_or, set, map, Option, Some, None, refl, sym, ap, subst, ◌∙◌, inl, ⊎_elim, arith}
-use Rattle.std.proofs.lemmas.Bool.{cases_eq}
+use Rattle.std.proofs.Common.{◌≡◌, ◌≢◌, ℕ, false, ◌∷◌, ◌++◌, get_or, set, Option, Some, None, refl, sym, ap, subst, ◌∙◌}
 use Rattle.atomic_table.specs.Table as Table
 use Rattle.atomic_table.specs.Table.{Allows, keeps, step}
 use mathlib.Core.Option.{none, some}
 use lib.ListN.{get_elem?}
 use Rattle.control_word.proofs.steps.Look as law
 use Rattle.control_word.specs.Events.{cell_of}
-use Rattle.control_word.specs.Handles.{equivalent, handle}
-use Rattle.control_word.specs.Histories.{entry, leads}
-use Rattle.control_word.specs.Packing.{IsCellWord, IsPackedCell, cell_bits}
+use Rattle.control_word.specs.Handles.{handle}
+use Rattle.control_word.specs.Histories.{IsLegal, entry, leads}
 use Rattle.control_word.specs.Words.{block_of, blocks_of, shown}
 use Rattle.control_word.specs.declared.cell.CellWord.{CellWord}
 use Rattle.control_word.specs.declared.event.Cell.{Cell}
 use Rattle.control_word.specs.declared.event.Event.{Event}
-use Rattle.control_word.specs.declared.event.Event.TheVariants.{Compare, Load}
+use Rattle.control_word.specs.declared.event.Event.TheVariants.{Load}
 use Rattle.control_word.specs.declared.handle.Handle.{Handle}
 use Rattle.control_word.specs.declared.place.Block.{Block}
 use Rattle.control_word.specs.declared.shape.Shape.{Shape}
 use Rattle.control_word.specs.declared.view.Pending.TheVariants.{Idle}
 use Rattle.control_block.specs.Rule.{Ruled, opening_of, seeing}
-use Rattle.control_block.specs.Plays.{At, Rests, tells}
-use Rattle.control_block.specs.CellPlays.{IsCellAt, kind_in, as_loaded, loaded_empty, of_cell, peeked}
+use Rattle.control_block.specs.Plays.{At, Rests}
+use Rattle.control_block.specs.CellPlays.{IsCellAt, IsHeld, kind_in, as_loaded, as_peeked, loaded_empty, of_cell, peeked}
 use Rattle.control_block.specs.declared.board.Sight.{Sight}
 use Rattle.control_block.proofs.CellWords.{Decoded, Opened, decoded, found_is, opened}
-use Rattle.control_block.proofs.Passage.{adds, point, quiet_next, ready}
+use Rattle.control_block.proofs.Passage.{adds, knows, point, quiet_next, ready}
 use Rattle.control_block.proofs.Still.{unmoved}
 use Rattle.control_block.proofs.kept.Look.{looked}
 
@@ -36,6 +34,20 @@ shows_one block h o t e n = some_none (ap (block_of block) (sym e) ∙ n)
     some_none e = cc
 
 module _ {V : Type 0} where
+  -- what a cell shows is what it holds, in the state that the history leads to
+  pub is_held : (k : Shape) (s : Table.State (Option V) (Sight V)) (r : Ruled k s) (id : ℕ) (v : Sight V) (at : get_elem? s.views id ≡ some v)
+      (awake : v.view.spent ≡ false) (c : Cell) (taken : ℕ) → let t = leads (opening_of k) r.history in IsHeld c v (shown (blocks_of t) (cell_of t c) taken)
+  is_held k s r id v at awake c taken =
+      let m = knows k s r id v at awake in let shape = sym (r.shapes id v at awake) in
+      let same : leads (opening_of k) r.history ≡ leads (opening_of v.shape) (m.0 ++ v.view.seen) =
+      λ j. leads (opening_of (shape j)) (m.1 j) in
+      record {
+        between = m.0;
+        quiet = m.2;
+        legal = subst (λ l. IsLegal (opening_of v.shape) l) m.1 (subst (λ y. IsLegal (opening_of y) r.history) shape r.stands.legal);
+        shows = ap (λ t. shown (blocks_of t) (cell_of t c) taken) same;
+      }
+
   -- a look at a cell, by what the cell shows
   pub allows_cell_look : (k : Shape) (slots id i : ℕ) (c : Cell) (me : At V) (told : CellWord → At V → Type 0) (awake : me.0.view.spent ≡ false)
       → IsCellAt me.0 c i
@@ -57,10 +69,10 @@ module _ {V : Type 0} where
       )
 
   pub allows_peek : (k : Shape) (slots id i : ℕ) (c : Cell) (me : At V) → me.0.view.spent ≡ false → IsCellAt me.0 c i
-      → Allows (Ruled k) slots id me i (λ n. n) (peeked (step slots i 0 0 none) me)
-  allows_peek k slots id i c me awake cell s r sized at small =
-      let v = me.0 in let is = opened k s r id v at awake c i cell in let d = decoded k s r id v at awake c i is in
-      (v, keeps, tt, unmoved k s id i v r at, (record { cell = _; valid = d.valid; bits = d.bits }, refl))
+      → Allows (Ruled k) slots id me i (λ n. n) (peeked c (step slots i 0 0 none) me)
+  allows_peek k slots id i c me awake cell =
+      allows_cell_look k slots id i c me (as_peeked c me) awake cell
+      (λ s r at is d. (me.0, unmoved k s id i me.0 r at, (is_held k s r id me.0 at awake c d.taken, refl)))
 
   pub allows_load_empty : (k : Shape) (slots id i : ℕ) (c : Cell) (me : At V) → Rests me → IsCellAt me.0 c i
       → Allows (Ruled k) slots id me i (λ n. n) (loaded_empty c (step slots i 0 0 none) me)
@@ -74,7 +86,7 @@ module _ {V : Type 0} where
           × as_loaded c me (shown (blocks_of t) (cell_of t c) d.taken) (w, me.1)
       go s r at is d (Some o) e =
           let t = leads (opening_of k) r.history in
-          (me.0, unmoved k s id i me.0 r at, (λ n. absurd (shows_one (blocks_of t) (cell_of t c) o d.taken e n), λ _. refl))
+          (me.0, unmoved k s id i me.0 r at, (is_held k s r id me.0 at rests.awake c d.taken, λ n. absurd (shows_one (blocks_of t) (cell_of t c) o d.taken e n), λ _. refl))
       go s r at is d None e =
           let v = me.0 in let z = opening_of k in let t = leads z r.history in let h = cell_of t c in let kk = kind_in v.shape c in
           let same : handle kk None h.place ≡ h = λ j. record { kind = sym d.kind j; object = sym e j; place = h.place } in
@@ -83,7 +95,7 @@ module _ {V : Type 0} where
             seeing v Idle None hist,
             quiet_next k s r id v (set s.words i (get_or s.words i 0)) ev Idle at rests.awake rests.empty
                 record { objects = λ u q. refl; latest = λ u q. refl; values = λ u f. refl } (looked z s.words i _ hist told),
-            (λ _. (adds k s r id v at rests.awake Idle None ev told.legal, refl), λ n. absurd (n (ap (block_of (blocks_of t)) e))),
+            (is_held k s r id v at rests.awake c d.taken, λ _. (adds k s r id v at rests.awake Idle None ev told.legal, refl), λ n. absurd (n (ap (block_of (blocks_of t)) e))),
           )
 
   -- the slots in hand stay as they are

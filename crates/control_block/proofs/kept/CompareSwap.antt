@@ -1,5 +1,5 @@
 -- Compare and swap: where the cell holds what is expected, the new handle goes in.
-use Rattle.std.proofs.Common.{◌≡◌, ◌≢◌, ℕ, ◌+◌, ◌-◌, ◌*◌, ◌<◌, ◌==◌, true, false, Bool, get_or, set, Option, Some, None, refl, sym, ap, subst, ◌∙◌, inl, arith}
+use Rattle.std.proofs.Common.{◌≡◌, ℕ, ◌-◌, ◌==◌, true, false, Bool, get_or, Option, None, refl, sym, ap, subst, ◌∙◌, inl}
 use Rattle.atomic_table.specs.Table as Table
 use Rattle.atomic_table.specs.Table.{Allows, step}
 use mathlib.Core.Option.{none, some}
@@ -24,7 +24,7 @@ use Rattle.control_block.specs.Plays.{At, HasRoomFor, known}
 use Rattle.control_block.specs.FundPlays.{Owes}
 use Rattle.control_block.specs.CellPlays.{Gave, IsCellAt, IsWordOf, compare_swapped, debt, kind_in}
 use Rattle.control_block.specs.declared.board.Sight.{Sight}
-use Rattle.control_block.proofs.CellWords.{Decoded, Opened, cell_keeps, decoded, found_is, one_cell, opened}
+use Rattle.control_block.proofs.CellWords.{Opened, cell_keeps, decoded, found_is, one_cell, opened}
 use Rattle.control_block.proofs.Hands.{hand_block, hand_there, room_swapped, same_object}
 use Rattle.control_block.proofs.Passage.{point}
 use Rattle.control_block.proofs.Still.{allows_exchange}

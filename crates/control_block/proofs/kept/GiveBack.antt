@@ -1,5 +1,5 @@
 -- Give back: the funds that a half-done call owes leave their count.
-use Rattle.std.proofs.Common.{◌≡◌, ℕ, ◌+◌, ◌-◌, ◌*◌, ◌%◌, ◌^◌, ◌<◌, ◌≤◌, false, get_or, set, map, Option, Some, refl, sym, ap, subst, ◌∙◌, arith}
+use Rattle.std.proofs.Common.{◌≡◌, ℕ, ◌+◌, ◌-◌, ◌*◌, ◌%◌, ◌^◌, ◌<◌, ◌≤◌, false, get_or, set, map, Option, Some, sym, ap, subst, ◌∙◌, arith}
 use Rattle.atomic_table.specs.Table as Table
 use Rattle.atomic_table.specs.Table.{Allows, step}
 use Rattle.atomic_table.proofs.Lists.{at_map}
@@ -16,7 +16,6 @@ use Rattle.control_word.specs.Words.{blocks_of, counts_at, slot}
 use Rattle.control_word.specs.declared.handle.Kind.{Kind}
 use Rattle.control_word.specs.declared.place.Place.{Place}
 use Rattle.control_word.specs.declared.shape.Shape.{Shape}
-use Rattle.control_word.specs.declared.view.Pending.{Pending}
 use Rattle.control_word.specs.declared.view.Pending.TheVariants.{Idle, Paying}
 use Rattle.control_block.specs.Rule.{Ruled, opening_of, view_of}
 use Rattle.control_block.specs.Plays.{At}
@@ -44,7 +43,7 @@ module _ {V : Type 0} where
   pub allows_give : (k : Shape) (slots id b o i f : ℕ) (m : Kind) (p : Option Place) (me : At V) → Owes (owing m o p b f 0) me → i ≡ spot b (slot m)
       → Allows (Ruled k) slots id me i (λ n. (n + (2 ^ 64 - f * 4294967296)) % 2 ^ 64) (settled (step slots i (f * 4294967296) 0 none) me)
   allows_give k slots id b o i f m p me owes e =
-      allows_move k slots id i me (λ n. (n + (2 ^ 64 - f * 4294967296)) % 2 ^ 64) Idle owes.awake owes.empty
+      allows_move k slots id i me (λ n. (n + (2 ^ 64 - f * 4294967296)) % 2 ^ 64) Idle owes.awake owes.empty record { single = λ d q. q; both = λ d seen. tt }
       (λ s r at small.
       let v = me.0 in let z = opening_of k in let views = map view_of s.views in let h = r.history in
       let mine = owed_there k s r id v at owes.awake m o p (spot b (slot m)) f 0 owes.pending in

@@ -1,5 +1,5 @@
 -- Lock: the look for an owner and the compare-exchange are allowed.
-use Rattle.std.proofs.Common.{◌≡◌, ◌≢◌, ◌==◌, ℕ, suc, ◌+◌, ◌*◌, ◌/◌, ◌++◌, ◌%◌, ◌<◌, not, true, false, Bool, ◌∷◌, get_or, set, map, Option, None, refl, sym, ap, subst}
+use Rattle.std.proofs.Common.{◌≡◌, ◌≢◌, ◌==◌, ℕ, suc, ◌+◌, ◌*◌, ◌/◌, ◌++◌, ◌%◌, not, true, false, Bool, ◌∷◌, get_or, set, map, Option, None, refl, sym, ap, subst}
 use Rattle.std.proofs.Common.{◌∙◌, ⊎_elim, arith}
 use Rattle.std.proofs.lemmas.Bool.{cases_eq}
 use Rattle.atomic_table.specs.Table.{Allows, keeps, step}
@@ -11,7 +11,6 @@ use Rattle.control_word.proofs.steps.Standing.{has_headroom}
 use Rattle.control_word.specs.Handles.{weak_of}
 use Rattle.control_word.specs.Histories.{IsLegal, entry, leads}
 use Rattle.control_word.specs.Layout.{spot}
-use Rattle.control_word.specs.Packing.{number_of}
 use Rattle.control_word.specs.Views.{Stands, sees_as}
 use Rattle.control_word.specs.declared.event.Event.{Event}
 use Rattle.control_word.specs.declared.event.Event.TheVariants.{Lock}
@@ -21,7 +20,7 @@ use Rattle.control_word.specs.declared.shape.Shape.{Shape}
 use Rattle.control_word.specs.declared.view.Pending.TheVariants.{Idle}
 use Rattle.control_block.specs.Rule.{Ruled, opening_of, seeing, view_of}
 use Rattle.control_block.specs.Plays.{At, HasRoomFor, Holding, Rests, tells}
-use Rattle.control_block.specs.LockPlays.{GotOwner, before, earlier, locked, sought_owner}
+use Rattle.control_block.specs.LockPlays.{GotOwner, earlier, locked, sought_owner}
 use Rattle.control_block.specs.declared.board.Sight.{Sight}
 use Rattle.control_block.proofs.Passage.{adds, held_there, point, quiet_next, ready, still_room}
 use Rattle.control_block.proofs.Still.{allows_exchange, unmoved}

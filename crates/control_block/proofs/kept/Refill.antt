@@ -1,5 +1,5 @@
 -- Refill: the funds that were brought go into the cell, in place of those taken.
-use Rattle.std.proofs.Common.{◌≡◌, ◌≢◌, ℕ, ◌+◌, ◌-◌, ◌*◌, ◌<◌, ◌==◌, false, get_or, set, map, Option, Some, None, refl, sym, ap, subst, ◌∙◌, arith}
+use Rattle.std.proofs.Common.{◌≡◌, ℕ, ◌+◌, ◌-◌, ◌*◌, ◌==◌, get_or, set, map, Option, Some, None, refl, sym, ap, subst, ◌∙◌, arith}
 use Rattle.atomic_table.specs.Table as Table
 use Rattle.atomic_table.specs.Table.{Allows, step}
 use mathlib.Core.Option.{none, some}
@@ -22,14 +22,14 @@ use Rattle.control_word.specs.declared.place.Block.{Block}
 use Rattle.control_word.specs.declared.place.Place.{Place}
 use Rattle.control_word.specs.declared.shape.Shape.{Shape}
 use Rattle.control_word.specs.declared.view.Pending.TheVariants.{Idle}
-use Rattle.control_block.specs.Rule.{Ruled, opening_of, seeing, view_of}
-use Rattle.control_block.specs.Plays.{At}
+use Rattle.control_block.specs.Rule.{Ruled, opening_of, view_of}
+use Rattle.control_block.specs.Plays.{At, goes_on}
 use Rattle.control_block.specs.FundPlays.{Owes, owing}
 use Rattle.control_block.specs.CellPlays.{IsCellAt, kind_in, refilled}
 use Rattle.control_block.specs.declared.board.Sight.{Sight}
 use Rattle.control_block.proofs.CellWords.{Decoded, Opened, cell_keeps, decoded, found_is, opened}
 use Rattle.control_block.proofs.Hands.{same_number}
-use Rattle.control_block.proofs.Passage.{moves, point}
+use Rattle.control_block.proofs.Passage.{point}
 use Rattle.control_block.proofs.Still.{allows_exchange, moved_on}
 use Rattle.control_block.proofs.kept.GiveBack.{owed_there}
 
@@ -40,7 +40,7 @@ module _ {V : Type 0} where
     refilling : (s : Table.State (Option V) (Sight V)) (r : Ruled k s) (at : get_elem? s.views id ≡ some me.0)
         (is : Opened k s r id me.0 at owes.awake c i) → Decoded k s r id me.0 at owes.awake c i is → get_or s.words i 0 ≡ found
         → (q : Option ℕ) → (cell_of (leads (opening_of k) r.history) c).object ≡ q
-        → Ruled k record { words = set s.words i new; homes = s.homes; views = set s.views id (seeing me.0 Idle None r.history) }
+        → Ruled k record { words = set s.words i new; homes = s.homes; views = set s.views id (goes_on me.0) }
     refilling s r at is d hit None bare =
         let t = leads (opening_of k) r.history in let same = found_is k s r id me.0 at owes.awake c i is d x valid (hit ∙ is_found) in
         absurd (none_some (sym (ap (block_of (blocks_of t)) bare) ∙ (sym (ap (λ y. y.owned) same) ∙ owned)))
@@ -62,7 +62,7 @@ module _ {V : Type 0} where
         let told = law.refills (point k s r id v) c kk o x.taken p x.place mine.3 is.open' it (ap (λ y. get_or s.words y 0) is.there ∙ bits) in
         let stands = subst (λ y. Stands z (set s.words y (get_or s.words y 0 - 17179869184 * x.taken)) (set (map view_of s.views) id (sees_as v.view Idle r.history)) r.history) is.there told in
         let value : get_or s.words i 0 - 17179869184 * x.taken ≡ new = omega arith in
-        moved_on k s r id v (set s.words i new) Idle at owes.awake owes.empty
+        moved_on k s r id v (set s.words i new) Idle at owes.awake owes.empty record { single = λ d q. q; both = λ d seen. tt }
         (subst (λ n. Stands z (set s.words i n) (set (map view_of s.views) id (sees_as v.view Idle r.history)) r.history) value stands)
 
     pub allows_refill : Allows (Ruled k) slots id me i (λ n. either (n == found) new n) (refilled (step slots i found new none) me)
@@ -70,7 +70,7 @@ module _ {V : Type 0} where
         allows_exchange k slots id i found new me (refilled (step slots i found new none) me) (λ n q. (λ m. absurd (q m), λ _. refl))
         (λ s r at q.
         let v = me.0 in let is = opened k s r id v at owes.awake c i cell in let d = decoded k s r id v at owes.awake c i is in (
-          seeing v Idle None r.history,
+          goes_on v,
           refilling s r at is d q _ refl,
-          (λ _. (moves k s r id v at owes.awake Idle None, refl), λ m. absurd (m refl)),
+          (λ _. (refl, refl), λ m. absurd (m refl)),
         ))

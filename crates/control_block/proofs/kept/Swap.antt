@@ -1,5 +1,5 @@
 -- Swap: the new handle with its funds goes into a cell, and what the cell held comes out.
-use Rattle.std.proofs.Common.{◌≡◌, ◌≢◌, ℕ, ◌+◌, ◌-◌, ◌*◌, ◌<◌, ◌==◌, true, false, Bool, ◌∷◌, get_or, set, map, Option, Some, None, refl, sym, ap, subst, ◌∙◌}
+use Rattle.std.proofs.Common.{◌≡◌, ℕ, ◌-◌, false, ◌∷◌, get_or, set, map, Option, None, refl, sym, ap, subst, ◌∙◌}
 use Rattle.std.proofs.Common.{arith}
 use Rattle.atomic_table.specs.Table as Table
 use Rattle.atomic_table.specs.Table.{Allows, keeps, step}
@@ -9,7 +9,7 @@ use Rattle.control_word.proofs.steps.Swap as law
 use Rattle.control_word.proofs.words.Decoding.{cell_shown}
 use Rattle.control_word.specs.Events.{InHand, cell_of}
 use Rattle.control_word.specs.Histories.{entry, leads}
-use Rattle.control_word.specs.Packing.{IsCellWord, cell_bits}
+use Rattle.control_word.specs.Packing.{cell_bits}
 use Rattle.control_word.specs.Steps.{Adds, Ready, cell_word, purse}
 use Rattle.control_word.specs.Views.{Stands, sees_as}
 use Rattle.control_word.specs.Words.{blocks_of, packed, shown}
@@ -20,7 +20,6 @@ use Rattle.control_word.specs.declared.event.Event.{Event}
 use Rattle.control_word.specs.declared.event.Event.TheVariants.{Swap}
 use Rattle.control_word.specs.declared.handle.Handle.{Handle}
 use Rattle.control_word.specs.declared.shape.Shape.{Shape}
-use Rattle.control_word.specs.declared.view.Pending.{Pending}
 use Rattle.control_block.specs.Rule.{Ruled, opening_of, seeing, view_of}
 use Rattle.control_block.specs.Plays.{At, HasRoomFor, known}
 use Rattle.control_block.specs.FundPlays.{Owes}

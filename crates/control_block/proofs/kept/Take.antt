@@ -1,5 +1,5 @@
 -- Take: one more fund of a cell's is taken, by a load or by a compare that differs.
-use Rattle.std.proofs.Common.{◌≡◌, ◌≢◌, ◌⊎◌, ℕ, ◌+◌, ◌*◌, ◌<◌, ◌==◌, true, false, Bool, ◌∷◌, get_or, set, map, Option, Some, None, refl, sym, ap, subst, ◌∙◌, inl, inr}
+use Rattle.std.proofs.Common.{◌≡◌, ◌≢◌, ◌⊎◌, ℕ, ◌+◌, ◌<◌, ◌==◌, true, false, Bool, ◌∷◌, get_or, set, map, Option, Some, None, refl, sym, ap, subst, ◌∙◌, inl, inr}
 use Rattle.std.proofs.Common.{⊎_elim, arith}
 use Rattle.std.proofs.lemmas.Bool.{and_parts}
 use Rattle.atomic_table.specs.Table as Table
@@ -16,13 +16,12 @@ use Rattle.control_word.specs.Histories.{entry, leads}
 use Rattle.control_word.specs.Packing.{IsCellWord, cell_bits}
 use Rattle.control_word.specs.Steps.{Adds, cell_word}
 use Rattle.control_word.specs.Views.{Stands, sees_as}
-use Rattle.control_word.specs.Words.{block_of, blocks_of, counts_at, shown}
+use Rattle.control_word.specs.Words.{block_of, blocks_of, counts_at}
 use Rattle.control_word.specs.declared.cell.CellWord.{CellWord}
 use Rattle.control_word.specs.declared.event.Cell.{Cell}
 use Rattle.control_word.specs.declared.event.Event.{Event}
 use Rattle.control_word.specs.declared.event.Event.TheVariants.{Compare, Load}
 use Rattle.control_word.specs.declared.handle.Handle.{Handle}
-use Rattle.control_word.specs.declared.place.Place.{Place}
 use Rattle.control_word.specs.declared.shape.Shape.{Shape}
 use Rattle.control_word.specs.declared.view.Pending.{Pending}
 use Rattle.control_word.specs.declared.view.Pending.TheVariants.{Idle, Paying}

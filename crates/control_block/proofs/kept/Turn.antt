@@ -24,7 +24,7 @@ module _ {V : Type 0} where
   pub allows_turn : (k : Shape) (slots id b o i : ℕ) (m : Kind) (p : Option Place) (me : At V) → Owes (owing m o p b 1 1) me → i ≡ spot b (slot m)
       → Allows (Ruled k) slots id me i (λ n. (n + (2 ^ 64 - 4294967295)) % 2 ^ 64) (settled (step slots i 4294967295 0 none) me)
   allows_turn k slots id b o i m p me owes e =
-      allows_move k slots id i me (λ n. (n + (2 ^ 64 - 4294967295)) % 2 ^ 64) Idle owes.awake owes.empty
+      allows_move k slots id i me (λ n. (n + (2 ^ 64 - 4294967295)) % 2 ^ 64) Idle owes.awake owes.empty record { single = λ d q. q; both = λ d seen. tt }
       (λ s r at small.
       let v = me.0 in let z = opening_of k in let views = map view_of s.views in let h = r.history in
       let mine = owed_there k s r id v at owes.awake m o p (spot b (slot m)) 1 1 owes.pending in

@@ -1,4 +1,4 @@
-use Rattle.std.proofs.Common.{◌==◌, ◌∙◌, true, sym, subst, ap}
+use Rattle.std.proofs.Common.{◌==◌, true, sym, subst}
 use Rattle.atomic_table.specs.Table.{Allows, step}
 use mathlib.Core.Option.{none}
 use prog.Atomic.{either}

@@ -13,12 +13,15 @@ unpack-requires g c = c.load.ensures.2.0
 pub returns-clause-chair : goal.returns-clause-chair
 returns-clause-chair g c =
     let t = c.load.ensures in let u = c.unpack.ensures in let q = t.2.1 c.unpack.result u.valid (sym u.bits) in
-    (t.0, t.1, slots_kept g.A.Aimed.cell c.unpack.result c.args.chair.now.me c.load.new.seat.me _ q.0 q.1 ∙ c.requires.rests.none)
+    (t.0, t.1, slots_kept g.A.Aimed.cell c.unpack.result c.args.chair.now.me c.load.new.seat.me _ q.1 q.2 ∙ c.requires.rests.none)
 
 pub returns-clause-event : goal.returns-clause-event
 returns-clause-event g c =
-    λ none. let u = c.unpack.ensures in ((c.load.ensures.2.1 c.unpack.result u.valid (sym u.bits)).0 none).0
+    λ none. let u = c.unpack.ensures in ((c.load.ensures.2.1 c.unpack.result u.valid (sym u.bits)).1 none).0
 
 pub returns-clause-held : goal.returns-clause-held
-returns-clause-held g c =
-    λ some'. let u = c.unpack.ensures in (c.load.ensures.2.1 c.unpack.result u.valid (sym u.bits)).1 some'
+returns-clause-held g c = let u = c.unpack.ensures in (c.load.ensures.2.1 c.unpack.result u.valid (sym u.bits)).0
+
+pub returns-clause-same : goal.returns-clause-same
+returns-clause-same g c =
+    λ some'. let u = c.unpack.ensures in (c.load.ensures.2.1 c.unpack.result u.valid (sym u.bits)).2 some'

@@ -1,4 +1,3 @@
-use Rattle.std.proofs.Common.{◌∙◌, sym}
 use Rattle.control_block.proofs.kept.Take.{allows_load}
 use Rattle.control_block.proofs.cells.take.Goals as goal
 

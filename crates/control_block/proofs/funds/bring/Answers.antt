@@ -1,8 +1,8 @@
-use Rattle.std.proofs.Common.{◌<◌, ◌≤◌, ◌*◌, ◌/◌, ◌∙◌, ℕ, None, sym, ap, subst}
+use Rattle.std.proofs.Common.{◌≡◌, ◌<◌, ◌≤◌, ◌∙◌, ℕ, sym, ap, subst}
 use Rattle.control_word.specs.Layout.{spot}
 use Rattle.control_word.specs.Words.{slot}
 use Rattle.control_word.specs.declared.view.Pending.TheVariants.{Paying}
-use Rattle.control_block.specs.Plays.{Moved}
+use Rattle.control_block.specs.Plays.{in_call}
 use Rattle.control_block.proofs.kept.Bring.{allows_bring, whole_funds}
 use Rattle.control_block.proofs.funds.bring.Goals as goal
 
@@ -19,5 +19,5 @@ pub returns-clause-brought : goal.returns-clause-brought
 returns-clause-brought g c =
     let m = g.M.Meant in let b = c.args.block.0 in
     let i = c.count_word.ensures ∙ ap (λ y. spot b (slot y)) (sym c.requires.holds.0) in let f = whole_funds c.from.result ∙ c.from.ensures in
-    subst (λ (x : ℕ × ℕ). Moved c.args.chair.now.me.0 (Paying m.kind m.object m.place x.0 x.1 0) None c.fetch_add.new.seat.me.0) (λ j. (i j, f j))
+    subst (λ (x : ℕ × ℕ). c.fetch_add.new.seat.me.0 ≡ in_call c.args.chair.now.me.0 (Paying m.kind m.object m.place x.0 x.1 0)) (λ j. (i j, f j))
     c.fetch_add.ensures.2.0

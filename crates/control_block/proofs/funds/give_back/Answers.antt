@@ -1,4 +1,4 @@
-use Rattle.std.proofs.Common.{◌<◌, ◌+◌, ◌-◌, ◌*◌, ◌%◌, ◌^◌, ◌∙◌, ℕ, sym, subst}
+use Rattle.std.proofs.Common.{◌<◌, sym, subst}
 use Rattle.control_block.specs.FundPlays.{Owes, owing}
 use Rattle.control_block.proofs.kept.GiveBack.{allows_give}
 use Rattle.control_block.proofs.funds.give_back.Goals as goal

@@ -1,13 +1,11 @@
-use Rattle.std.proofs.Common.{◌≡◌, ◌≢◌, ◌==◌, ◌+◌, ◌<◌, ◌∙◌, ℕ, suc, sym, ap, subst, arith, true, false}
+use Rattle.std.proofs.Common.{◌≡◌, ◌==◌, ◌<◌, ◌∙◌, ℕ, suc, sym, subst, arith}
 use Rattle.atomic_table.specs.Table.{Allows, step}
 use mathlib.Core.Option.{none}
 use prog.Atomic.{either}
-use Rattle.control_word.specs.Handles.{weak_of}
-use Rattle.control_word.specs.declared.event.Event.TheVariants.{Lock}
 use Rattle.control_block.specs.LockPlays.{locked, sought_owner}
-use Rattle.control_block.specs.Plays.{At, tells}
+use Rattle.control_block.specs.Plays.{At}
 use Rattle.control_block.specs.Rule.{Ruled}
-use Rattle.control_block.proofs.kept.Lock.{allows_lock, allows_seek, got_owner}
+use Rattle.control_block.proofs.kept.Lock.{allows_lock, allows_seek}
 use Rattle.control_block.proofs.locks.lock.Goals as goal
 
 pub load-found-requires : goal.load-found-requires

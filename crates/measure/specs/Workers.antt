@@ -1,0 +1,35 @@
+-- What the threads of a row are lent, between two rows.
+use Rattle.std.specs.Prelude.{◌≡◌, [], Some}
+use Rattle.control_word.specs.declared.handle.Kind.TheVariants.{Owner}
+use Rattle.control_word.specs.declared.place.Block.{Block}
+use Rattle.control_block.specs.Desks.{DeskNow, DomainNow, allowance_of, bag_of}
+use Rattle.control_block.specs.declared.handles.Shared.{Shared}
+use Rattle.shared_handle.specs.Calls.{Holds, with_handle}
+use Rattle.measure.specs.declared.workers.Pair.{Pair}
+use Rattle.measure.specs.declared.workers.Team.{Team}
+use Rattle.measure.specs.declared.workers.Worker.{Worker}
+
+-- the handle owns something
+abbrev pub IsReal : Shared → Type 0
+IsReal h = (b : Block) × (h.block ≡ Some b)
+
+-- the desk is the domain's, and has an owner of the common object
+abbrev pub IsManaged : DomainNow → DeskNow (Unit {0}) → Shared → Type 0
+IsManaged d e h = (e.domain ≡ d.id) × (e.shape ≡ d.shape) × IsReal h × Holds e Owner h.block h.place
+
+-- a worker's desk is the domain's, may hold 8 handles, and holds an owner of its own object and one of the common one
+pub record IsReady (d : DomainNow) (w : Worker) : Type 0 where
+  pub domain : w.desk.domain ≡ d.id
+  pub shape : w.desk.shape ≡ d.shape
+  pub allowance : allowance_of w.desk ≡ 8
+  pub own : IsReal w.own
+  pub common : IsReal w.common
+  pub bag : bag_of w.desk ≡ with_handle Owner w.own.block w.own.place (with_handle Owner w.common.block w.common.place [])
+
+pub record IsPairReady (d : DomainNow) (p : Pair) : Type 0 where
+  pub left : IsReady d p.left
+  pub right : IsReady d p.right
+
+pub record IsTeamReady (d : DomainNow) (t : Team) : Type 0 where
+  pub front : IsPairReady d t.front
+  pub back : IsPairReady d t.back

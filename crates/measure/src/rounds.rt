@@ -1,0 +1,97 @@
+//! The work of each row, on one desk: a user's own calls, `count` times.
+ghost use Rattle.std.specs.Prelude.{◌≡◌, ◌+◌};
+ghost use Rattle.control_word.specs.declared.handle.Kind.TheVariants.{Owner};
+ghost use Rattle.control_block.specs.Desks.{IsSameDesk, bag_of};
+ghost use Rattle.shared_handle.specs.Calls.{Holds, without_handle};
+
+use control_block::desk::Desk;
+use control_block::domain::Domain;
+use shared_handle::{Left, Shared, downgrade, make, release, release_weak, share, use_count};
+use std::hint::black_box;
+
+/// The fields of each object, as the peers have them.
+pub(crate) const FIELDS: [u64; 4] = [1, 2, 3, 4];
+
+/// An owner leaves, and its object ends where it was the last.
+pub(crate) fn end(domain: &Domain<()>, desk: &mut Desk<()>, owner: Shared)
+    requires domain { desk.old.domain ≡ domain.now.id }
+    requires holds { Holds desk.old Owner owner.block owner.place }
+    ensures desk { IsSameDesk desk.old desk.new }
+    ensures bag { bag_of desk.new ≡ without_handle Owner owner.block owner.place (bag_of desk.old) }
+    ensures held { desk.new.held + 1 ≡ desk.old.held }
+{
+    match release(domain, desk, owner) {
+        Left::Empty | Left::Others => {}
+        Left::Last(ending) => ending.finish(domain, desk),
+    }
+}
+
+/// Objects that are made and end.
+#[tactic(auto, using(crate::proofs::Taken::first_out))]
+pub(crate) fn make_and_end(domain: &Domain<()>, desk: &mut Desk<()>, count: u32)
+    requires domain { desk.old.domain ≡ domain.now.id }
+    ensures desk { IsSameDesk desk.old desk.new }
+    ensures bag { bag_of desk.new ≡ bag_of desk.old }
+    ensures held { desk.new.held ≡ desk.old.held }
+{
+    for _ in 0..count {
+        if let Ok(owner) = make(domain, desk, FIELDS, false, ()) {
+            end(domain, desk, owner);
+        }
+    }
+}
+
+/// Copies of an owner that come and leave.
+#[tactic(auto, using(crate::proofs::Taken::first_out))]
+pub(crate) fn share_and_release(
+    domain: &Domain<()>,
+    desk: &mut Desk<()>,
+    owner: &Shared,
+    count: u32,
+)
+    requires domain { desk.old.domain ≡ domain.now.id }
+    requires holds { Holds desk.old Owner owner.now.block owner.now.place }
+    ensures desk { IsSameDesk desk.old desk.new }
+    ensures bag { bag_of desk.new ≡ bag_of desk.old }
+    ensures held { desk.new.held ≡ desk.old.held }
+{
+    for _ in 0..count {
+        if let Ok(copy) = share(domain, desk, owner) {
+            end(domain, desk, copy);
+        }
+    }
+}
+
+/// Weak handles of an owner that come and leave.
+#[tactic(auto, using(crate::proofs::Taken::first_out))]
+pub(crate) fn downgrade_and_release(
+    domain: &Domain<()>,
+    desk: &mut Desk<()>,
+    owner: &Shared,
+    count: u32,
+)
+    requires domain { desk.old.domain ≡ domain.now.id }
+    requires holds { Holds desk.old Owner owner.now.block owner.now.place }
+    ensures desk { IsSameDesk desk.old desk.new }
+    ensures bag { bag_of desk.new ≡ bag_of desk.old }
+    ensures held { desk.new.held ≡ desk.old.held }
+{
+    for _ in 0..count {
+        if let Ok(weak) = downgrade(domain, desk, owner) {
+            release_weak(domain, desk, weak);
+        }
+    }
+}
+
+/// An owner that counts.
+pub(crate) fn count_owners(domain: &Domain<()>, desk: &mut Desk<()>, owner: &Shared, count: u32)
+    requires domain { desk.old.domain ≡ domain.now.id }
+    requires holds { Holds desk.old Owner owner.now.block owner.now.place }
+    ensures desk { IsSameDesk desk.old desk.new }
+    ensures bag { bag_of desk.new ≡ bag_of desk.old }
+    ensures held { desk.new.held ≡ desk.old.held }
+{
+    for _ in 0..count {
+        black_box(use_count(domain, desk, owner));
+    }
+}

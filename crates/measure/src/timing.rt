@@ -1,0 +1,207 @@
+//! How long the rounds of a row take.
+ghost use denote.Param.Send.{IsSync};
+ghost use Rattle.measure.specs.Workers.{IsPairReady, IsReady, IsTeamReady};
+
+use crate::rounds;
+use crate::rows::Row;
+use crate::workers::{Pair, Team, Worker};
+use control_block::domain::Domain;
+use std::rt::Clock;
+use std::sync::atomic::{AtomicU64, Ordering};
+use std::thread::{Threads, join_mut};
+use std::time::{CpuClock, Duration, Instant};
+use std::{hint, io};
+
+/// How many rounds lie between two looks at the clock.
+pub(crate) const CHUNK: u32 = 2_000;
+
+/// How many chunks a thread does at most.
+const CHUNKS: u32 = 1_000_000;
+
+/// How long a row runs, in nanoseconds.
+const SPAN: u64 = 3_000_000;
+
+/// How often a thread looks whether the others have come.
+const PATIENCE: u32 = 100_000_000;
+
+/// One thread's nanoseconds, by the wall's clock and by the processor's, and its chunks.
+#[derive(Clone, Copy, Drop)]
+pub(crate) struct Spent {
+    pub(crate) wall: u64,
+    pub(crate) processor: u64,
+    pub(crate) chunks: u32,
+}
+
+/// Where the threads of a row meet.
+#[derive(Drop)]
+struct Start {
+    base: Instant,
+    threads: u64,
+    come: AtomicU64,
+    /// When they stop, in nanoseconds after `base`; 0 until all have come.
+    end: AtomicU64,
+}
+
+impl Start {
+    fn of<R: Clock>(rt: &R, threads: u64) -> io::Result<Start> {
+        Ok(Start {
+            base: Instant::now(rt)?,
+            threads,
+            come: AtomicU64::new(0),
+            end: AtomicU64::new(0),
+        })
+    }
+
+    /// Nanoseconds after `base`.
+    fn now<R: Clock>(&self, rt: &R) -> io::Result<u64> {
+        Ok(nanos(self.base.elapsed(rt)?))
+    }
+
+    /// Answers when to stop, once all have come; where they don't, the thread works alone.
+    fn meet<R: Clock>(&self, rt: &R) -> io::Result<u64> {
+        let before = self.come.fetch_add(1, Ordering::SeqCst);
+        if before.wrapping_add(1) < self.threads {
+            for _ in 0..PATIENCE {
+                let end = self.end.load(Ordering::SeqCst);
+                if end > 0 {
+                    return Ok(end);
+                }
+                hint::spin_loop();
+            }
+        }
+        let end = self.now(rt)?.wrapping_add(SPAN);
+        self.end.store(end, Ordering::SeqCst);
+        Ok(end)
+    }
+}
+
+fn nanos(time: Duration) -> u64 {
+    u64::try_from(time.as_nanos()).unwrap_or(0)
+}
+
+/// A chunk of rounds.
+fn work(domain: &Domain<()>, worker: &mut Worker, row: Row)
+    requires { IsReady domain.now worker.old }
+    ensures { IsReady domain.now worker.new }
+{
+    match row {
+        Row::MakeEnd => rounds::make_and_end(domain, &mut worker.desk, CHUNK),
+        Row::ShareOwn => {
+            rounds::share_and_release(domain, &mut worker.desk, &worker.own, CHUNK);
+        }
+        Row::ShareCommon => {
+            rounds::share_and_release(domain, &mut worker.desk, &worker.common, CHUNK);
+        }
+        Row::WeakOwn => {
+            rounds::downgrade_and_release(domain, &mut worker.desk, &worker.own, CHUNK);
+        }
+        Row::CountOwn => rounds::count_owners(domain, &mut worker.desk, &worker.own, CHUNK),
+    }
+}
+
+/// Chunks of rounds, from when all have come up to a common moment.
+fn time<R: Clock + CpuClock>(
+    rt: &R,
+    domain: &Domain<()>,
+    worker: &mut Worker,
+    row: Row,
+    start: &Start,
+) -> io::Result<Spent>
+    requires { IsReady domain.now worker.old }
+    ensures { IsReady domain.now worker.new }
+{
+    let end = start.meet(rt)?;
+    let begin = start.now(rt)?;
+    let before = rt.thread_cpu_time()?;
+    let mut chunks = 0;
+    for chunk in 1..=CHUNKS {
+        work(domain, worker, row);
+        chunks = chunk;
+        if start.now(rt)? >= end {
+            break;
+        }
+    }
+    let after = rt.thread_cpu_time()?;
+    Ok(Spent {
+        wall: start.now(rt)?.saturating_sub(begin),
+        processor: nanos(after.saturating_sub(before)),
+        chunks,
+    })
+}
+
+fn time_two<R: Clock + CpuClock + Threads + Sync>(
+    rt: &R,
+    domain: &Domain<()>,
+    pair: &mut Pair,
+    row: Row,
+    start: &Start,
+) -> io::Result<(Spent, Spent)>
+    requires { IsPairReady domain.now pair.old }
+    ensures { IsPairReady domain.now pair.new }
+{
+    let Pair { left, right } = pair;
+    let (left, right) = join_mut(
+        rt,
+        &mut || time(rt, domain, left, row, start),
+        &mut || time(rt, domain, right, row, start),
+    );
+    Ok((left?, right?))
+}
+
+/// One thread's row.
+pub(crate) fn one<R: Clock + CpuClock + Print>(
+    rt: &R,
+    domain: &Domain<()>,
+    worker: &mut Worker,
+    row: Row,
+) -> io::Result<()>
+    requires { IsReady domain.now worker.old }
+    ensures { IsReady domain.now worker.new }
+{
+    let start = Start::of(rt, 1)?;
+    let spent = time(rt, domain, worker, row, &start)?;
+    row.tell(rt, &[spent])
+}
+
+/// Two threads' row.
+pub(crate) fn two<R: Clock + CpuClock + Threads + Sync + Print>(
+    rt: &R,
+    domain: &Domain<()>,
+    pair: &mut Pair,
+    row: Row,
+) -> io::Result<()>
+    requires { IsPairReady domain.now pair.old }
+    ensures { IsPairReady domain.now pair.new }
+{
+    let start = Start::of(rt, 2)?;
+    let (left, right) = time_two(rt, domain, pair, row, &start)?;
+    row.tell(rt, &[left, right])
+}
+
+/// Four threads' row.
+pub(crate) fn four<R: Clock + CpuClock + Threads + Sync + Print>(
+    rt: &R,
+    domain: &Domain<()>,
+    team: &mut Team,
+    row: Row,
+) -> io::Result<()>
+    requires { IsTeamReady domain.now team.old }
+    ensures { IsTeamReady domain.now team.new }
+{
+    let start = Start::of(rt, 4)?;
+    let Team { front, back } = team;
+    let (front, back) = join_mut(
+        rt,
+        &mut || -> io::Result<(Spent, Spent)>
+            requires { IsSync R.row × IsPairReady domain.now front.now }
+            ensures { IsPairReady domain.entry.now front.exit.now }
+        { time_two(rt, domain, front, row, &start) },
+        &mut || -> io::Result<(Spent, Spent)>
+            requires { IsSync R.row × IsPairReady domain.now back.now }
+            ensures { IsPairReady domain.entry.now back.exit.now }
+        { time_two(rt, domain, back, row, &start) },
+    );
+    let (first, second) = front?;
+    let (third, fourth) = back?;
+    row.tell(rt, &[first, second, third, fourth])
+}
