@@ -7,10 +7,11 @@ pub mod listing;
 mod running;
 pub mod sink;
 pub mod stepping;
+mod steps;
 #[cfg(test)]
 mod tests;
 pub mod turns;
 
 pub use listing::{write_lines, write_text};
 pub use sink::{Output, Sink, WriteFailed, write_all};
-pub use stepping::step_text;
+pub use stepping::{fine_text, step_text};

@@ -3,6 +3,8 @@
 
 mod answers;
 mod command;
+#[cfg(test)]
+mod fine_tests;
 mod serve;
 #[cfg(test)]
 mod tests;

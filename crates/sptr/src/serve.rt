@@ -2,7 +2,7 @@
 
 ghost use Rattle.std.specs.Prelude.{◌≡◌, ◌≤◌, false};
 
-use crate::answers::{check, step, written};
+use crate::answers::{check, fine, step, written};
 use crate::command::{Asked, asked_of};
 use clap::error::ErrorKind;
 use script_stepper::Output;
@@ -67,6 +67,7 @@ pub fn serve<S: AsStr, I: Read, O: Write, F: Write>(
     let answered = match asked {
         Asked::Check => check(alloc, input, output),
         Asked::Step { turns } => step(alloc, turns, input, output),
+        Asked::Fine { turns } => fine(alloc, turns, input, output),
     };
     match answered {
         Ok(()) => 0,

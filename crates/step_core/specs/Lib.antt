@@ -1,9 +1,11 @@
 pub mod Actors
+pub mod Bounds
 pub mod Acts
 pub mod Courses
 pub mod Holdings
 pub mod Openings
 pub mod Programs
+pub mod Runs
 pub mod Scenes
 pub mod Steps
 pub mod Stocks

@@ -15,6 +15,9 @@ mod opening;
 #[cfg(test)]
 mod opening_tests;
 mod past;
+#[cfg(test)]
+mod run_tests;
+mod running;
 mod said;
 #[cfg(test)]
 mod step_tests;
@@ -24,10 +27,12 @@ mod table;
 mod tests;
 mod thread;
 mod told;
+mod trace;
 mod world;
 #[cfg(test)]
 mod world_tests;
 
 pub use call::{Actor, Call, Kind, Name, Program};
 pub use said::{Answer, Ended, Said, Stepped, Turned};
+pub use trace::{RunRefusal, Trace, TraceStep};
 pub use world::World;

@@ -150,7 +150,7 @@ impl World {
     }
 
     /// The next step of a thread.
-    fn advance(&mut self, number: usize) -> Stepped
+    pub(crate) fn advance(&mut self, number: usize) -> Stepped
         requires { number < length self.old.walks }
         ensures was { HasBegun number self.old }
         ensures steps { Steps number self.old result self.new }

@@ -1,0 +1,79 @@
+-- Runs, one step or one part longer.
+use Rattle.std.proofs.Common.{◌≡◌, ◌≢◌, ℕ, zero, suc, ◌+◌, ◌-◌, ◌<◌, List, [], ◌∷◌, ◌++◌, length, map, take, get_or, refl, sym, ap, subst, ◌∙◌, append_assoc, arith}
+use Rattle.std.specs.Prelude.{All}
+use Rattle.std.proofs.lemmas.List.{append-nil, map_push, take_more}
+use Rattle.std.proofs.lemmas.List.Elements.{All-append, All-cons, All-nil}
+use Rattle.step_core.specs.declared.said.Stepped.{Stepped}
+use Rattle.step_core.specs.declared.said.Stepped.TheVariants.{Done}
+use Rattle.step_core.specs.declared.trace.TraceStep.{TraceStep}
+use Rattle.step_core.specs.Runs.{Adds, IsOver, IsRun, IsStepOf, RunInOrder, RunsToEnd}
+use Rattle.step_core.specs.Stories.{Kept}
+use Rattle.step_core.specs.Worlds.{Sight, Steps}
+
+pub run_joined : (u m w : Sight) (xs ys : List TraceStep) → IsRun u xs m → IsRun m ys w → IsRun u (xs ++ ys) w
+run_joined u m w [] ys run on = subst (λ (z : Sight). IsRun z ys w) run on
+run_joined u m w (x ∷ xs) ys run on = (run.0, run.1, run.2, run_joined run.0 m w xs ys run.3 on)
+
+pub run_more : (u m w : Sight) (xs : List TraceStep) (x : TraceStep) → IsRun u xs m → Steps (x.actor - 1) m x.stepped w → Kept w.story
+    → IsRun u (xs ++ x ∷ []) w
+run_more u m w xs x run steps kept = run_joined u m w xs (x ∷ []) run (w, steps, kept, refl)
+
+-- the number of a thread's actor
+pub number_of : (n : ℕ) → (n + 1) - 1 ≡ n
+number_of n = omega arith
+
+-- how far thread d has run alone
+pub record IsOn (d : ℕ) (u : Sight) (xs : List TraceStep) (m : Sight) (ys : List TraceStep) : Type 0 where
+  pub added : List TraceStep
+  pub items : ys ≡ xs ++ added
+  pub run : IsRun u added m
+  pub alone : All (IsStepOf d) added
+  pub actors : length m.walks ≡ length u.walks
+
+pub on_start : (d : ℕ) (u : Sight) (xs : List TraceStep) → IsOn d u xs u xs
+on_start d u xs =
+    record { added = []; items = sym (append-nil xs); run = refl; alone = All-nil (IsStepOf d); actors = refl }
+
+pub on_more : (d : ℕ) (u m w : Sight) (xs ys zs : List TraceStep) (r : Stepped) → IsOn d u xs m ys → Steps d m r w → Kept w.story
+    → length w.walks ≡ length m.walks → r ≢ Done → zs ≡ ys ++ record { actor = d + 1; stepped = r } ∷ [] → IsOn d u xs w zs
+on_more d u m w xs ys zs r on steps kept actors ne is =
+    let x : TraceStep = record { actor = d + 1; stepped = r } in
+    record {
+      added = on.added ++ x ∷ [];
+      items = is ∙ ap (λ (l : List TraceStep). l ++ x ∷ []) on.items ∙ append_assoc xs on.added (x ∷ []);
+      run = run_more u m w on.added x on.run (subst (λ (n : ℕ). Steps n m r w) (sym (number_of d)) steps) kept;
+      alone = All-append (IsStepOf d) on.added (x ∷ []) on.alone (All-cons (IsStepOf d) x [] (refl, ne) (All-nil (IsStepOf d)));
+      actors = actors ∙ on.actors;
+    }
+
+pub on_end : (d : ℕ) (u m w : Sight) (xs ys : List TraceStep) → IsOn d u xs m ys → w ≡ m → IsOver d m → Adds (RunsToEnd d) u xs w ys
+on_end d u m w xs ys on same over =
+    record {
+      added = on.added;
+      items = on.items;
+      run = record {
+        run = subst (λ (z : Sight). IsRun u on.added z) (sym same) on.run;
+        alone = on.alone;
+        over = subst (λ (z : Sight). IsOver d z) (sym same) over;
+      };
+    }
+
+-- the runs of threads in order are one run
+pub in_order : (n : ℕ) (u u' : Sight) (xs : List TraceStep) → RunInOrder n u xs u' → IsRun u xs u'
+in_order zero u u' xs runs = subst (λ (l : List TraceStep). IsRun u l u') (sym runs.0) runs.1
+in_order (suc n) u u' xs runs =
+    subst (λ (l : List TraceStep). IsRun u l u') (sym runs.3)
+    (run_joined u runs.2 u' runs.0 runs.1 (in_order n u runs.2 runs.0 runs.4) runs.5.run)
+
+pub whole : (n : ℕ) (u m u' : Sight) (xs ys : List TraceStep) → IsRun u xs m → Adds (RunInOrder n) m xs u' ys → IsRun u ys u'
+whole n u m u' xs ys run adds =
+    subst (λ (l : List TraceStep). IsRun u l u') (sym adds.items) (run_joined u m u' xs adds.added run (in_order n m u' adds.added adds.run))
+
+-- one more number, and its step
+pub number_more : (xs ys : List TraceStep) (turns : List ℕ) (i : ℕ) (r : Stepped) → i < length turns
+    → map (λ (x : TraceStep). x.actor) xs ≡ take i turns → ys ≡ xs ++ record { actor = get_or turns i 0; stepped = r } ∷ []
+    → map (λ (x : TraceStep). x.actor) ys ≡ take (i + 1) turns
+number_more xs ys turns i r lt e is =
+    let x : TraceStep = record { actor = get_or turns i 0; stepped = r } in
+    ap (map (λ (y : TraceStep). y.actor)) is ∙ map_push (λ (y : TraceStep). y.actor) xs x ∙ ap (λ (l : List ℕ). l ++ get_or turns i 0 ∷ []) e
+    ∙ sym (take_more turns i 0 lt)

@@ -1,0 +1,14 @@
+use Rattle.std.proofs.Common.{◌∙◌}
+use Rattle.step_core.proofs.runs.Ends.{adds_more}
+use Rattle.step_core.proofs.world.World.finish.Goals as goal
+
+pub loop-number-preserved : goal.loop-number-preserved
+loop-number-preserved c =
+    let i = c.loop-number.invariant in
+    let f = c.finish_one.ensures in
+    record {
+      adds = adds_more c.loop-number.number c.args.self.now c.loop-number.self c.finish_one.new.self c.args.steps.now.items c.loop-number.steps.items
+          c.finish_one.new.steps.items i.adds f.adds;
+      room = f.room;
+      actors = f.actors ∙ i.actors;
+    }

@@ -1,0 +1,32 @@
+use Rattle.std.proofs.Common.{◌<◌, length, arith}
+use Rattle.step_core.proofs.runs.Chains.{on_more}
+use Rattle.step_core.proofs.runs.Measures.{Falls, before_end}
+use Rattle.step_core.proofs.world.World.finish_one.Goals as goal
+
+module _ (c : goal.After-add) where
+  -- the thread is one of the world's all along
+  inside : c.args.number < length c.loop-stepped.self.walks
+  inside = let a = c.loop-stepped.invariant.on.actors in let w = c.requires.within in omega (arith, a, w)
+
+  one_less : Falls c.args.number c.loop-stepped.self c.advance.new.self
+  one_less =
+      let s = c.advance.ensures in
+      before_end c.args.number c.loop-stepped.self c.advance.new.self c.advance.result s.was inside s.steps c.in_default.not-Done
+
+pub loop-stepped-smaller : goal.loop-stepped-smaller
+loop-stepped-smaller c = (one_less c).own
+
+pub loop-stepped-preserved : goal.loop-stepped-preserved
+loop-stepped-preserved c =
+    let s = c.advance.ensures in
+    let e = c.add.ensures in
+    let l = e.len in
+    let room = e.room in
+    let less = (one_less c).all in
+    let before = c.loop-stepped.invariant.room in
+    record {
+      on = on_more c.args.number c.args.self.now c.loop-stepped.self c.advance.new.self c.args.steps.now.items c.loop-stepped.steps.items
+          c.add.new.steps.items c.advance.result c.loop-stepped.invariant.on s.steps s.kept s.actors c.in_default.not-Done
+          e.items;
+      room = omega (arith, l, room, less, before);
+    }

@@ -1,0 +1,153 @@
+//! Runs by given numbers, step by step.
+use crate::call::{Actor, Call, Kind, Name, Program};
+use crate::said::{Answer, Ended, Said, Stepped};
+use crate::trace::{RunRefusal, Trace};
+use crate::world::World;
+use control_word::{Refusal, Shape};
+use std::alloc::{AllocError, Global};
+use std::process::Abort;
+use std::test::Fail;
+
+const A: Name = Name(0);
+
+/// What a step answers, and the object that ended by it, after the number of its actor and statement.
+type Line = (u8, u32, Option<Answer>, Option<Ended>);
+
+fn make(field: u64) -> Call {
+    Call::Make {
+        target: A,
+        fields: [field, 0, 0, 0],
+    }
+}
+
+/// An actor with the owner `A`, which makes an object and counts its owners.
+fn actor(alloc: Global, field: u64) -> Result<Actor, AllocError> {
+    Ok(Actor {
+        kinds: vec![in alloc; Kind::Owner; 1]?,
+        calls: [make(field), Call::Count { name: A }].to_vec(alloc)?,
+    })
+}
+
+fn world(rt: &impl Abort, alloc: Global) -> Result<World, AllocError> {
+    let shape = Shape {
+        blocks: 2,
+        shared_cells: 0,
+        weak_cells: 0,
+        allowance: 80,
+    };
+    let actors = vec![in alloc; actor(alloc, 1)?, actor(alloc, 2)?]?;
+    Ok(
+        World::new(alloc, shape, Program { actors })
+            .ok()
+            .expect(rt, "a world within the limits"),
+    )
+}
+
+fn run(rt: &impl Abort, alloc: Global, world: &mut World, turns: &[u8]) -> Trace {
+    world.run(alloc, turns).ok().expect(rt, "a run")
+}
+
+/// The lines of a trace: what its steps answer and end.
+fn lines(alloc: Global, trace: &Trace) -> Result<Vec<Line>, AllocError> {
+    let mut lines = Vec::new(alloc);
+    for step in &trace.steps {
+        if let Stepped::Event(said) | Stepped::Quiet(said) = step.stepped {
+            if said.answer.is_some() || said.ended.is_some() {
+                lines.push((step.actor, said.statement, said.answer, said.ended))?;
+            }
+        }
+    }
+    Ok(lines)
+}
+
+/// The numbers of a trace's actors.
+fn actors(alloc: Global, trace: &Trace) -> Result<Vec<u8>, AllocError> {
+    let mut actors = Vec::new(alloc);
+    for step in &trace.steps {
+        actors.push(step.actor)?;
+    }
+    Ok(actors)
+}
+
+/// One actor counts and ends, and then the other.
+fn in_turn(first: u8, second: u8) -> [Line; 4] {
+    let count = Some(Answer::Count(1));
+    [
+        (first, 2, count, None),
+        (first, 0, None, Some(ended(first))),
+        (second, 2, count, None),
+        (second, 0, None, Some(ended(second))),
+    ]
+}
+
+fn ended(actor: u8) -> Ended {
+    Ended::Fields([u64::from(actor), 0, 0, 0])
+}
+
+#[test]
+fn a_run_follows_its_numbers(rt: HostRuntime) -> Result<(), Fail> {
+    let alloc = rt.alloc();
+    let mut world = world(&rt, alloc)?;
+    let trace = run(&rt, alloc, &mut world, [2; 100].as_slice());
+    assert_eq!(rt; lines(alloc, &trace)?.as_slice(), in_turn(2, 1).as_slice());
+    assert_eq!(rt; (world.made(), world.ended()), (2, 2));
+    Ok(())
+}
+
+#[test]
+fn a_run_without_numbers_takes_actors_in_order(rt: HostRuntime) -> Result<(), Fail> {
+    let alloc = rt.alloc();
+    let mut world = world(&rt, alloc)?;
+    let trace = run(&rt, alloc, &mut world, [].as_slice());
+    assert_eq!(rt; lines(alloc, &trace)?.as_slice(), in_turn(1, 2).as_slice());
+    Ok(())
+}
+
+#[test]
+fn a_number_of_an_actor_at_its_end_is_done(rt: HostRuntime) -> Result<(), Fail> {
+    let alloc = rt.alloc();
+    let mut world = world(&rt, alloc)?;
+    let trace = run(&rt, alloc, &mut world, [2; 20].as_slice());
+    let fifteenth = trace.steps.get(14).copied().expect(&rt, "a step");
+    assert_eq!(rt; (fifteenth.actor, fifteenth.stepped), (2, Stepped::Done));
+    Ok(())
+}
+
+#[test]
+fn a_make_is_left_in_the_middle(rt: HostRuntime) -> Result<(), Fail> {
+    let alloc = rt.alloc();
+    let mut world = world(&rt, alloc)?;
+    let trace = run(&rt, alloc, &mut world, [1, 1, 1, 2].as_slice());
+    let quiet = Stepped::Quiet(Said {
+        statement: 1,
+        answer: None,
+        ended: None,
+    });
+    let fourth = trace.steps.get(3).copied().expect(&rt, "a step");
+    assert_eq!(rt; (fourth.actor, fourth.stepped), (2, quiet));
+    assert_eq!(rt; lines(alloc, &trace)?.as_slice(), in_turn(1, 2).as_slice());
+    let numbers = actors(alloc, &trace)?;
+    assert_eq!(rt; numbers.get(..6), Some([1, 1, 1, 2, 1, 1].as_slice()));
+    Ok(())
+}
+
+#[test]
+fn a_number_that_names_no_actor_is_refused(rt: HostRuntime) -> Result<(), Fail> {
+    let alloc = rt.alloc();
+    let mut world = world(&rt, alloc)?;
+    let third = world
+        .run(alloc, [1, 2, 3, 0].as_slice())
+        .err()
+        .expect(&rt, "a refusal");
+    assert_eq!(rt; third, RunRefusal::BadTurn { position: 3 });
+    assert_eq!(rt; third.refusal(), Refusal::BadTurn);
+    let first = world
+        .run(alloc, [0].as_slice())
+        .err()
+        .expect(&rt, "a refusal");
+    assert_eq!(rt; first, RunRefusal::BadTurn { position: 1 });
+    assert_eq!(rt; (world.made(), world.ended()), (0, 0));
+    let trace = run(&rt, alloc, &mut world, [].as_slice());
+    assert_eq!(rt; lines(alloc, &trace)?.as_slice(), in_turn(1, 2).as_slice());
+    Ok(())
+}

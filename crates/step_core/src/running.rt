@@ -1,0 +1,134 @@
+//! Runs: one step for each number of a list, and then each actor alone to its end.
+ghost use Rattle.std.specs.Prelude.{◌≡◌, ◌+◌, ◌-◌, ◌<◌, ◌≤◌, ◌∷◌, ◌++◌, ℕ, [], All, IfErr, IfOk, MatchOption, length, map, slice_get, sum_by, vec_capacity, vec_len};
+ghost use Rattle.step_core.specs.Bounds.{most_steps, tasks_of};
+ghost use Rattle.step_core.specs.Runs.{Adds, IsFirstBad, IsRefusedFor, IsRun, IsScheduled, Names, RunInOrder, RunsToEnd};
+ghost use Rattle.step_core.specs.Stories.{Kept};
+ghost use Rattle.step_core.specs.Totals.{IsAtEnd};
+
+use crate::said::Stepped;
+use crate::thread::Thread;
+use crate::trace::{RunRefusal, Trace, TraceStep};
+use crate::world::World;
+use std::alloc::Global;
+
+impl World {
+    /// Runs the world to its end: one step for each number, and then each actor alone to its end, in number order. The trace
+    /// has all these steps in order; a number for an actor at its end is a step, `Done`, and no other step of the trace is.
+    /// All memory is asked for before the first step.
+    ///
+    /// Refused `BadTurn` just where some number names no actor, with the position of the first one, from 1. Refused `Memory`
+    /// where a growth was really refused. The world is then as it was (own).
+    pub fn run(&mut self, alloc: Global, turns: &[u8]) -> Result<Trace, RunRefusal>
+        ensures named { IfOk result (λ t. All (Names (length self.old.walks)) turns.now) }
+        ensures refused { IfErr result (λ why. IsRefusedFor (length self.old.walks) turns.now why) }
+        ensures unchanged { IfErr result (λ why. self.new ≡ self.old) }
+        ensures run { IfOk result (λ t. IsRun self.old t.steps.items self.new) }
+        ensures scheduled { IfOk result (λ t. IsScheduled turns.now self.old t.steps.items self.new) }
+        ensures end { IfOk result (λ t. IsAtEnd self.new) }
+        ensures kept { Kept self.new.story }
+        ensures actors { length self.new.walks ≡ length self.old.walks }
+    {
+        self.table.known();
+        if let Some(position) = bad_turn(turns, self.threads.len()) {
+            return Err(RunRefusal::BadTurn { position });
+        }
+        let room = turns.len() + self.most_steps();
+        let mut steps = Vec::with_capacity(alloc, room)?;
+        self.follow(turns, &mut steps);
+        self.finish(&mut steps);
+        self.table.known();
+        Ok(Trace { steps })
+    }
+
+    /// More steps than the world has left.
+    fn most_steps(&self) -> usize
+        ensures enough { most_steps self.now ≤ result }
+        ensures few { result ≤ 2000000 }
+    {
+        self.table.known();
+        13 * tasks_left(self.threads.as_slice()) + 17 * self.threads.len()
+    }
+
+    /// One step for each number.
+    fn follow(&mut self, turns: &[u8], steps: &mut Vec<TraceStep>)
+        requires named { All (Names (length self.old.walks)) turns.now }
+        requires empty { steps.old.items ≡ [] }
+        requires none { vec_len steps.old ≡ 0 }
+        requires room { length turns.now + most_steps self.old ≤ vec_capacity steps.old }
+        ensures run { IsRun self.old steps.new.items self.new }
+        ensures numbers { map (λ x. x.actor) steps.new.items ≡ turns.now }
+        ensures room { vec_len steps.new + most_steps self.new ≤ vec_capacity steps.new }
+        ensures actors { length self.new.walks ≡ length self.old.walks }
+    {
+        for turn in turns {
+            let stepped = self.advance(usize::from(*turn) - 1);
+            add(steps, *turn, stepped);
+        }
+    }
+
+    /// Each actor runs alone to its end, in number order.
+    fn finish(&mut self, steps: &mut Vec<TraceStep>)
+        requires few { length self.old.walks ≤ 64 }
+        requires room { vec_len steps.old + most_steps self.old ≤ vec_capacity steps.old }
+        ensures adds { Adds (RunInOrder (length self.old.walks)) self.old steps.old.items self.new steps.new.items }
+        ensures actors { length self.new.walks ≡ length self.old.walks }
+    {
+        for number in 0..self.threads.len() {
+            self.finish_one(number, steps);
+        }
+    }
+
+    /// An actor runs alone to its end.
+    fn finish_one(&mut self, number: usize, steps: &mut Vec<TraceStep>)
+        requires within { number < length self.old.walks }
+        requires few { length self.old.walks ≤ 64 }
+        requires room { vec_len steps.old + most_steps self.old ≤ vec_capacity steps.old }
+        ensures adds { Adds (RunsToEnd number) self.old steps.old.items self.new steps.new.items }
+        ensures room { vec_len steps.new + most_steps self.new ≤ vec_capacity steps.new }
+        ensures actors { length self.new.walks ≡ length self.old.walks }
+    {
+        loop {
+            match self.advance(number) {
+                Stepped::Done => return,
+                stepped => add(steps, number as u8 + 1, stepped),
+            }
+        }
+    }
+}
+
+/// How many tasks threads have left.
+fn tasks_left(threads: &[Thread]) -> usize
+    requires within { (d : ℕ) (t : Thread) → slice_get threads.now d ≡ Some t → t.course.at ≤ length t.course.tasks.items }
+    requires few { sum_by tasks_of threads.now ≤ 133120 }
+    ensures { result ≡ sum_by tasks_of threads.now }
+{
+    let mut left = 0;
+    for thread in threads {
+        left += thread.course.tasks.len() - thread.course.at;
+    }
+    left
+}
+
+/// The position, from 1, of the first number that names none of so many actors.
+fn bad_turn(turns: &[u8], actors: usize) -> Option<usize>
+    ensures { MatchOption result (All (Names actors) turns.now) (λ position. IsFirstBad actors turns.now position) }
+{
+    for (index, turn) in turns.iter().enumerate() {
+        if *turn == 0 || usize::from(*turn) > actors {
+            return Some(index + 1);
+        }
+    }
+    None
+}
+
+/// Adds a step, for which there is room.
+fn add(steps: &mut Vec<TraceStep>, actor: u8, stepped: Stepped)
+    requires { vec_len steps.old < vec_capacity steps.old }
+    ensures items { steps.new.items ≡ steps.old.items ++ record { actor = actor; stepped = stepped } ∷ [] }
+    ensures len { vec_len steps.new ≡ vec_len steps.old + 1 }
+    ensures room { vec_capacity steps.old ≤ vec_capacity steps.new }
+{
+    if steps.push(TraceStep { actor, stepped }).is_err() {
+        unreachable!()
+    }
+}
