@@ -1,12 +1,11 @@
 //! What a caller waits for `Arc` and `Weak` of Rust's library, by thread count.
-//! Prints lines "test|peer|threads|nanoseconds|share", as peers.cpp does.
+//! Prints lines "test|peer|threads|nanoseconds|share", so many of each as the argument says, as peers.cpp does.
 use std::hint::{black_box, spin_loop};
 use std::sync::atomic::{AtomicI64, AtomicUsize, Ordering::SeqCst};
 use std::sync::{Arc, Weak};
 use std::time::{Duration, Instant};
 
 const SPAN: Duration = Duration::from_millis(3);
-const ROUNDS: usize = 60;
 const CHUNK: u64 = 2_000;
 const MOST_THREADS: usize = 4;
 
@@ -25,7 +24,6 @@ const THREAD_CPUTIME: i32 = 3;
 
 unsafe extern "C" {
     fn clock_gettime(clock: i32, time: *mut TimeSpec) -> i32;
-    fn sched_setaffinity(pid: i32, size: usize, set: *const u64) -> i32;
 }
 
 fn processor_time() -> f64 {
@@ -34,18 +32,11 @@ fn processor_time() -> f64 {
     time.seconds as f64 * 1e9 + time.nanoseconds as f64
 }
 
-fn pin(processor: usize) {
-    let mut set = [0u64; 16];
-    set[0] = 1 << processor;
-    unsafe { sched_setaffinity(0, size_of_val(&set), set.as_ptr()) };
-}
-
 /// The threads meet, and work in chunks until a common moment. A row is the time of all by the operations of all.
 fn time_row(test: &str, threads: usize, work: impl Fn(usize) + Sync) {
     let (ready, end, base) = (AtomicUsize::new(0), AtomicI64::new(0), Instant::now());
     let now = || base.elapsed().as_nanos() as i64;
     let run = |thread: usize| {
-        pin(thread);
         if ready.fetch_add(1, SeqCst) + 1 == threads {
             end.store(now() + SPAN.as_nanos() as i64, SeqCst);
         }
@@ -76,7 +67,8 @@ fn time_row(test: &str, threads: usize, work: impl Fn(usize) + Sync) {
 fn main() {
     let make = || Arc::<Object>::new([1, 2, 3, 4]);
     let own: Vec<_> = (0..MOST_THREADS).map(|_| Apart(make())).collect();
-    for _ in 0..ROUNDS {
+    let rounds = std::env::args().nth(1).and_then(|word| word.parse().ok()).unwrap_or(1);
+    for _ in 0..rounds {
         for threads in [1, 2, 4] {
             time_row("make + end", threads, |_| drop(black_box(make())));
             time_row("share + release, own object", threads, |t| drop(black_box(own[t].0.clone())));

@@ -1,17 +1,16 @@
 // What a caller waits for shared_ptr and weak_ptr of libstdc++ and of Boost, by thread count.
-// Prints lines "test|peer|threads|nanoseconds|share", as the program `measure` of crates/ and arc.rs do.
+// Prints lines "test|peer|threads|nanoseconds|share", so many of each as the argument says, as the program `measure` of crates/
+// and arc.rs do.
 #include <algorithm>
 #include <atomic>
 #include <chrono>
 #include <cstdint>
 #include <cstdio>
+#include <cstdlib>
 #include <ctime>
 #include <memory>
 #include <thread>
 #include <vector>
-
-#include <pthread.h>
-#include <sched.h>
 
 #if __has_include(<boost/smart_ptr/make_shared.hpp>)
 #include <boost/smart_ptr/make_shared.hpp>
@@ -22,7 +21,6 @@
 using Clock = std::chrono::steady_clock;
 
 constexpr auto span = std::chrono::milliseconds(3);
-constexpr int rounds = 60;
 constexpr std::uint64_t chunk = 2000;
 constexpr int most_threads = 4;
 
@@ -46,13 +44,6 @@ double processor_time() {
     return t.tv_sec * 1e9 + t.tv_nsec;
 }
 
-void pin(int processor) {
-    cpu_set_t set;
-    CPU_ZERO(&set);
-    CPU_SET(processor, &set);
-    pthread_setaffinity_np(pthread_self(), sizeof set, &set);
-}
-
 // The threads meet, and work in chunks until a common moment. A row is the time of all by the operations of all.
 template <class Work> void time_row(char const *test, char const *peer, int threads, Work work) {
     std::atomic<int> ready{0};
@@ -61,7 +52,6 @@ template <class Work> void time_row(char const *test, char const *peer, int thre
     std::vector<std::thread> workers;
     for (int thread = 0; thread < threads; thread++) {
         workers.emplace_back([&, thread] {
-            pin(thread);
             if (++ready == threads) end = (Clock::now() + span).time_since_epoch().count();
             while (end == 0) __builtin_ia32_pause();
             auto start = Clock::now();
@@ -125,7 +115,8 @@ std::shared_ptr<Object> make_std() { return std::make_shared<Object>(); }
 boost::shared_ptr<Object> make_boost() { return boost::make_shared<Object>(); }
 #endif
 
-int main() {
+int main(int count, char **words) {
+    int rounds = count > 1 ? std::atoi(words[1]) : 1;
     Peer<std::shared_ptr<Object>, std::weak_ptr<Object>, make_std> standard;
 #ifdef WITH_BOOST
     Peer<boost::shared_ptr<Object>, boost::weak_ptr<Object>, make_boost> boosted;

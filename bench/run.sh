@@ -1,14 +1,18 @@
 #!/usr/bin/env bash
-# Builds the peers and prints the table of README.md. It takes a quarter of a minute a pass; the first argument says how many (2).
+# Builds the program `measure` (proved first, where it isn't) and the peers, and prints the table of README.md. The programs
+# run in turn, so that what else the machine does falls on all; a turn takes 4 seconds, and the first argument says how many (20).
 set -euo pipefail
 cd "$(dirname "${BASH_SOURCE[0]}")"
 build=$(mktemp -d)
 trap 'rm -rf "$build"' EXIT
+(cd ../crates/measure && rt run -- 0) > "$build/proof" 2>&1 || { cat "$build/proof"; exit 1; }
+cp ../crates/measure/out/measure "$build/measure"
 g++ -std=c++20 -O2 -Wall -Wextra -o "$build/peers" peers.cpp -lpthread
 rustc --edition 2024 -O -o "$build/arc" arc.rs
-for pass in $(seq "${1:-2}"); do
-  "$build/peers" > "$build/peers.$pass"
-  "$build/arc" > "$build/arc.$pass"
+for turn in $(seq "${1:-20}"); do
+  "$build/measure" 5 > "$build/measure.$turn"
+  "$build/peers" 5 > "$build/peers.$turn"
+  "$build/arc" 5 > "$build/arc.$turn"
 done
-echo "$(grep -m1 'model name' /proc/cpuinfo | cut -d: -f2), $(nproc) processors, $(date -u +%F), load$(uptime | sed 's/.*average//')"
-python3 table.py "$build"/peers.* "$build"/arc.*
+echo "$(uname -n), $(grep -m1 'model name' /proc/cpuinfo | cut -d: -f2 | xargs), $(nproc) processors, $(date -u +%F), load$(uptime | sed 's/.*average//')"
+python3 table.py "$build"/measure.* "$build"/peers.* "$build"/arc.*

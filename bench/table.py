@@ -1,8 +1,8 @@
 """Reads lines "test|peer|threads|nanoseconds|share" and prints, for each test, a row a peer: nanoseconds by thread count,
 and the ratio to libstdc++. A sample is clean where each thread had a processor for 95 % of its time and all started
-together; a number is the median of the clean samples, with ~ where there is none and all were taken."""
+together; a number is the lowest tenth of the clean samples, since other work on the machine adds to a sample, and - where
+there is none."""
 import collections
-import statistics
 import sys
 
 BASE = "libstdc++ shared_ptr"
@@ -16,10 +16,16 @@ for name in sys.argv[1:]:
             samples[test, peer, int(threads)].append((float(nanoseconds), float(share)))
 
 
-def median(key):
-    every = samples[key]
-    clean = [ns for ns, share in every if share >= 95]
-    return statistics.median(clean or [ns for ns, _ in every]), "" if clean else "~"
+def number(key):
+    clean = sorted(ns for ns, share in samples[key] if share >= 95)
+    return clean[len(clean) // 10] if clean else None
+
+
+def cell(test, peer, threads):
+    ns, base = number((test, peer, threads)), number((test, BASE, threads))
+    if ns is None:
+        return "-"
+    return f"{ns:.1f} ({ns / base:.2f})" if base else f"{ns:.1f}"
 
 
 tests = list(dict.fromkeys(test for test, _, _ in samples))
@@ -28,12 +34,5 @@ print("| test | peer | " + " | ".join(f"{n} thread{'s' if n > 1 else ''}, ns (ra
 print("|---|---|" + "---|" * len(THREADS))
 for test in tests:
     for peer in peers:
-        cells = []
-        for threads in THREADS:
-            if (test, peer, threads) not in samples:
-                cells.append("")
-                continue
-            ns, mark = median((test, peer, threads))
-            base, _ = median((test, BASE, threads))
-            cells.append(f"{ns:.1f}{mark} ({ns / base:.2f})")
+        cells = (cell(test, peer, threads) for threads in THREADS)
         print(f"| {test} | {peer} | " + " | ".join(cells) + " |")

@@ -20,3 +20,4 @@ pub mod Numbers
 pub mod Orders
 pub mod Others
 pub mod Names
+pub mod Values

@@ -1,5 +1,5 @@
 //! Text on its way to a sink: the lines of one thread.
-ghost use Rattle.std.specs.Prelude.{◌≡◌, false, IfOk, OnOk, OnErr, is_err, string_bytes};
+ghost use Rattle.std.specs.Prelude.{◌≡◌, false, IfErr, IfOk, OnOk, OnErr, is_err, string_bytes};
 ghost use Rattle.std.specs.List.{flat_map};
 ghost use Rattle.std.specs.Io.KnownBytes.{Appends};
 ghost use Rattle.script_text.specs.Grammar.{ended};
@@ -13,13 +13,14 @@ use script_text::Fault;
 use std::alloc::{AllocError, Global};
 use step_core::Said;
 
-/// Writes a text that is whole in memory (own).
+/// Writes a text that is whole in memory (own). It takes no memory.
 ///
-/// Refused by 12 just where the writer has failed, which then took a beginning of the text. The writer hasn't failed
-/// before.
+/// Refused by 12 alone, just where the writer has failed, which then took a beginning of the text. The writer hasn't
+/// failed before.
 pub fn write_text<S: Sink>(text: &[u8], writer: &mut S) -> Result<(), Fault>
     requires { S.has_failed writer.old ≡ false }
     ensures writes { Writes text.now result (S.taken writer.old) (S.taken writer.new) }
+    ensures refused { IfErr result (λ fault. fault ≡ Fault.Output) }
     ensures failed { S.has_failed writer.new ≡ is_output result }
 {
     match write_all(writer, text) {

@@ -1,7 +1,7 @@
 -- The handles of two desks that became one.
 use Rattle.std.proofs.Common.{◌≡◌, ◌∷◌, ◌++◌, [], List, Option, None, Some, refl, sym, subst, inl}
 use Rattle.control_word.specs.Handles.{handle, same_handle}
-use Rattle.control_word.specs.State.{Has, HasAll, without}
+use Rattle.control_word.specs.State.{Has, HasAll}
 use Rattle.control_word.specs.declared.handle.Handle.{Handle}
 use Rattle.control_word.specs.declared.handle.Kind.TheVariants.{Owner}
 use Rattle.control_word.specs.declared.place.Block.{Block}

@@ -2,7 +2,7 @@ ghost use Rattle.std.specs.Prelude.{◌≡◌};
 ghost use Rattle.control_block.specs.Desks.{IsSameDesk};
 
 use crate::make;
-use crate::tests::{end, shape, shut};
+use crate::test_parts::{end, shape, shut};
 use control_block::desk::Desk;
 use control_block::domain::{Domain, open};
 use std::sync::atomic::{AtomicU64, Ordering};

@@ -6,6 +6,8 @@ mod downgrading;
 #[cfg(test)]
 mod drop_tests;
 mod endings;
+#[cfg(test)]
+mod example_tests;
 mod finishing;
 #[cfg(test)]
 mod lock_tests;
@@ -22,6 +24,8 @@ mod race_tests;
 #[cfg(test)]
 mod row_tests;
 mod sharing;
+#[cfg(test)]
+mod test_parts;
 #[cfg(test)]
 mod tests;
 mod this;

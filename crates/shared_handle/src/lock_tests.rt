@@ -1,12 +1,11 @@
 //! Owners from weak pointers, on a sole desk and beside the last owner's leave.
-ghost use Rattle.std.specs.Prelude.{◌≡◌, ◌+◌, IfSome, MatchOption, None, Some, [], is_some};
+ghost use Rattle.std.specs.Prelude.{◌≡◌, ◌+◌, IfSome, MatchOption, None, Some, []};
 ghost use Rattle.control_word.specs.declared.place.Block.{Block};
 ghost use Rattle.control_word.specs.declared.handle.Kind.TheVariants.{Owner, Weak};
 ghost use Rattle.control_block.specs.Desks.{IsSameDesk, allowance_of, bag_of};
-ghost use Rattle.shared_handle.specs.Calls.{Holds, with_handle, without_handle};
+ghost use Rattle.shared_handle.specs.Calls.{Holds, with_handle};
 
-use crate::race_tests::{drop_owner, hand_over, leave, shut, spent};
-use crate::tests::{end, shape};
+use crate::test_parts::{end, hand_over, leave, shape, shut, spent};
 use crate::{
     Left, Shared, downgrade, empty, expired, lock, make, release, release_weak, upgrade, use_count,
     use_count_weak,
@@ -37,7 +36,7 @@ fn owners_after_lock<R: Wait>(
     match lock(rt, domain, desk, weak) {
         Ok(owner) => {
             let owners = use_count(domain, desk, &owner);
-            drop_owner(domain, desk, owner);
+            end(domain, desk, owner);
             Some(owners)
         }
         Err(_) => None,
@@ -59,7 +58,7 @@ fn why_not<R: Wait>(
 {
     match upgrade(rt, domain, desk, weak) {
         Ok(owner) => {
-            drop_owner(domain, desk, owner);
+            end(domain, desk, owner);
             None
         }
         Err(why) => Some(why),
@@ -80,14 +79,14 @@ fn of_nothing<R: Wait>(
         return None;
     };
     let Ok(weak) = downgrade(domain, desk, &none) else {
-        drop_owner(domain, desk, none);
+        end(domain, desk, none);
         return None;
     };
     let gone = expired(domain, desk, &weak);
     let count = use_count_weak(domain, desk, &weak);
     let owners = owners_after_lock(rt, domain, desk, &weak);
     release_weak(domain, desk, weak);
-    drop_owner(domain, desk, none);
+    end(domain, desk, none);
     Some((gone, count, owners))
 }
 
@@ -123,7 +122,7 @@ fn before_and_after_the_end<R: Wait>(
         return None;
     };
     let Ok(weak) = downgrade(domain, desk, &owner) else {
-        drop_owner(domain, desk, owner);
+        end(domain, desk, owner);
         return None;
     };
     let owners = owners_after_lock(rt, domain, desk, &weak);
@@ -196,7 +195,7 @@ fn seek_beside_leave<R: Threads + Wait + Sync>(
     spent(owner);
     match found {
         Some(owner) => {
-            drop_owner(domain, one, owner);
+            end(domain, one, owner);
             release_weak(domain, one, weak);
         }
         None => release_weak(domain, one, weak),
@@ -221,13 +220,13 @@ fn owner_apart(
         return None;
     };
     let Ok(weak) = downgrade(domain, one, &owner) else {
-        drop_owner(domain, one, owner);
+        end(domain, one, owner);
         return None;
     };
     match hand_over(domain, one, alloc, 1, 0, owner) {
         Ok((two, owner)) => Some((two, weak, owner)),
         Err(owner) => {
-            drop_owner(domain, one, owner);
+            end(domain, one, owner);
             release_weak(domain, one, weak);
             None
         }

@@ -1,9 +1,9 @@
-ghost use Rattle.std.specs.Prelude.{◌≡◌, ◌+◌, []};
+ghost use Rattle.std.specs.Prelude.{◌≡◌, []};
 ghost use Rattle.control_word.specs.declared.handle.Kind.TheVariants.{Owner};
 ghost use Rattle.control_block.specs.Desks.{IsSameDesk, bag_of};
 ghost use Rattle.shared_handle.specs.Calls.{Holds, with_handle};
 
-use crate::tests::{end, shape, shut};
+use crate::test_parts::{end, shape, shut};
 use crate::{Shared, downgrade, empty, make, owner_before, release_weak};
 use control_block::desk::Desk;
 use control_block::domain::{Domain, open};

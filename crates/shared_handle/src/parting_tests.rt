@@ -1,17 +1,17 @@
 //! A desk is cut in two, works in a thread of its own, and is joined again.
-ghost use Rattle.std.specs.Prelude.{◌≡◌, ℕ, ◌+◌, ◌<◌, ◌≤◌, ◌∷◌, [], IfOk, IfErr, IfSome, MatchOption, is_some, None, Some, length};
+ghost use Rattle.std.specs.Prelude.{◌≡◌, ℕ, ◌+◌, ◌<◌, ◌≤◌, [], IfSome, MatchOption, is_some, Some, length};
 ghost use Rattle.control_word.specs.declared.handle.Kind.TheVariants.{Owner};
 ghost use Rattle.control_word.specs.declared.place.Block.{Block};
-ghost use Rattle.control_block.specs.Desks.{DeskNow, IsSameDesk, Keeps, allowance_of, bag_of, stock_of};
+ghost use Rattle.control_block.specs.Desks.{DeskNow, IsSameDesk, allowance_of, bag_of, stock_of};
 ghost use Rattle.control_block.specs.Parting.{IsTooMuch};
 ghost use Rattle.shared_handle.specs.Calls.{Holds, with_handle, without_handle};
 
-use crate::race_tests::{drop_owner, hand_over, shut, spent, two_owners};
-use crate::{Left, Shared, release, share, use_count};
+use crate::test_parts::{end, hand_over, leave_others, shape, spent, two_owners};
+use crate::{Shared, share, use_count};
 use control_block::census::close;
 use control_block::desk::Desk;
 use control_block::domain::{Domain, open};
-use control_word::{Block, Refusal, Refused, Shape};
+use control_word::{Block, Refusal, Refused};
 use std::alloc::Global;
 use std::mem;
 use std::test::Fail;
@@ -92,14 +92,7 @@ fn change_owner(
         spent(mem::replace(handle, Some(first)));
         return (false, 0);
     };
-    let others = match release(domain, desk, first) {
-        Left::Others => true,
-        Left::Empty => false,
-        Left::Last(ending) => {
-            ending.finish(domain, desk);
-            false
-        }
-    };
+    let others = leave_others(domain, desk, first);
     let count = use_count(domain, desk, &second);
     spent(mem::replace(handle, Some(second)));
     (others, count)
@@ -133,8 +126,8 @@ fn part(
             Some((two, x, y, seen))
         }
         Err(y) => {
-            drop_owner(domain, one, y);
-            drop_owner(domain, one, x);
+            end(domain, one, y);
+            end(domain, one, x);
             None
         }
     }
@@ -158,7 +151,7 @@ fn reunite(domain: &Domain<u64>, one: &mut Desk<u64>, two: Desk<u64>, _x: &Share
 type After = (Numbers, bool, bool, Option<u64>, Numbers);
 
 // Both owners leave.
-fn end(domain: &Domain<u64>, desk: &mut Desk<u64>, x: Shared, z: Shared) -> After
+fn leave_both(domain: &Domain<u64>, desk: &mut Desk<u64>, x: Shared, z: Shared) -> After
     requires domain { desk.old.domain ≡ domain.now.id }
     requires both { Holds desk.old Owner x.block x.place
         × ((e : DeskNow ℕ) → bag_of e ≡ without_handle Owner x.block x.place (bag_of desk.old) → Holds e Owner z.block z.place) }
@@ -166,18 +159,8 @@ fn end(domain: &Domain<u64>, desk: &mut Desk<u64>, x: Shared, z: Shared) -> Afte
 {
     let joined = numbers(desk);
     let sole = desk.is_sole(domain);
-    let others = match release(domain, desk, x) {
-        Left::Others => true,
-        Left::Empty => false,
-        Left::Last(ending) => {
-            ending.finish(domain, desk);
-            false
-        }
-    };
-    let value = match release(domain, desk, z) {
-        Left::Last(ending) => Some(ending.finish(domain, desk)),
-        Left::Others | Left::Empty => None,
-    };
+    let others = leave_others(domain, desk, x);
+    let value = end(domain, desk, z);
     (joined, sole, others, value, numbers(desk))
 }
 
@@ -211,19 +194,13 @@ fn whole_story<R: Threads>(
     );
     let Some(z) = handle else { unreachable!() };
     reunite(&domain, &mut one, two, &x, &z);
-    let after = end(&domain, &mut one, x, z);
+    let after = leave_both(&domain, &mut one, x, z);
     (domain, one, Some((before, why, changed, after)))
 }
 
 #[test]
 fn two_desks_part_and_meet_again(rt: HostRuntime) -> Result<(), Fail> {
-    let shape = Shape {
-        blocks: 4,
-        shared_cells: 0,
-        weak_cells: 0,
-        allowance: 8,
-    };
-    let (domain, desk) = open::<u64>(rt.alloc(), shape).ok().ok_or("memory")?;
+    let (domain, desk) = open::<u64>(rt.alloc(), shape(4, 8)).ok().ok_or("memory")?;
     let (domain, desk, seen) = whole_story(&rt, rt.alloc(), domain, desk);
     let census = match close(domain, desk) {
         Ok(census) => census,

@@ -1,9 +1,9 @@
-ghost use Rattle.std.specs.Prelude.{◌≡◌, ◌+◌, [], IfSome};
+ghost use Rattle.std.specs.Prelude.{◌≡◌, ◌+◌, []};
 ghost use Rattle.control_word.specs.declared.handle.Kind.TheVariants.{Owner, Weak};
-ghost use Rattle.control_block.specs.Desks.{IsSameDesk, allowance_of, bag_of};
+ghost use Rattle.control_block.specs.Desks.{IsSameDesk, bag_of};
 ghost use Rattle.shared_handle.specs.Calls.{Holds, with_handle, without_handle};
 
-use crate::tests::{end, shape, shut};
+use crate::test_parts::{end, shape, shut};
 use crate::{
     Shared, alias, downgrade, empty, empty_weak, expired, make, make_null, owner_before, place,
     read, release_weak, same_place, share_weak, shared_from_this, use_count, use_count_weak,

@@ -1,54 +1,14 @@
-ghost use Rattle.std.specs.Prelude.{◌≡◌, ◌+◌, [], IfSome};
-ghost use Rattle.control_word.specs.declared.handle.Kind.TheVariants.{Owner, Weak};
-ghost use Rattle.control_block.specs.Desks.{IsEnding, IsSameDesk, allowance_of, bag_of};
-ghost use Rattle.shared_handle.specs.Calls.{Holds, with_handle, without_handle};
+ghost use Rattle.std.specs.Prelude.{◌≡◌, []};
+ghost use Rattle.control_word.specs.declared.handle.Kind.TheVariants.{Owner};
+ghost use Rattle.control_block.specs.Desks.{IsEnding, IsSameDesk, bag_of};
+ghost use Rattle.shared_handle.specs.Calls.{Holds, with_handle};
 
+use crate::test_parts::{end, leave_others, shape, shut};
 use crate::{Ending, Left, Shared, expired, make, release, release_weak, share, use_count};
-use control_block::census::close;
 use control_block::desk::Desk;
 use control_block::domain::{Domain, open};
-use control_word::{Refusal, Shape};
+use control_word::Refusal;
 use std::test::Fail;
-
-pub(crate) fn shape(blocks: u32, allowance: u32) -> Shape
-    ensures { result ≡ record { blocks = blocks; shared_cells = 0; weak_cells = 0; allowance = allowance } }
-{
-    Shape {
-        blocks,
-        shared_cells: 0,
-        weak_cells: 0,
-        allowance,
-    }
-}
-
-// A sole desk closes its domain.
-pub(crate) fn shut<V: Drop + Send>(domain: Domain<V>, desk: Desk<V>)
-    requires domain { desk.domain ≡ domain.id }
-    requires sole { allowance_of desk ≡ domain.shape.allowance }
-{
-    match close(domain, desk) {
-        Ok(census) => drop(census),
-        Err(_) => unreachable!(),
-    }
-}
-
-// The value of the object that the handle was the last owner of.
-pub(crate) fn end<V: Drop + Send>(
-    domain: &Domain<V>,
-    desk: &mut Desk<V>,
-    handle: Shared,
-) -> Option<V>
-    requires domain { desk.old.domain ≡ domain.now.id }
-    requires holds { Holds desk.old Owner handle.block handle.place }
-    ensures desk { IsSameDesk desk.old desk.new }
-    ensures bag { bag_of desk.new ≡ without_handle Owner handle.block handle.place (bag_of desk.old) }
-    ensures held { desk.new.held + 1 ≡ desk.old.held }
-{
-    match release(domain, desk, handle) {
-        Left::Empty | Left::Others => None,
-        Left::Last(ending) => Some(ending.finish(domain, desk)),
-    }
-}
 
 // At the allowance: why there is no further owner, how many there are, and why nothing is made.
 #[tactic(auto, using(crate::proofs::Taken::first_out))]
@@ -97,14 +57,7 @@ fn below_the_allowance(
     ensures bag { bag_of desk.new ≡ with_handle Owner owner.now.block owner.now.place [] }
     ensures held { desk.new.held ≡ 1 }
 {
-    let others = match release(domain, desk, other) {
-        Left::Others => true,
-        Left::Empty => false,
-        Left::Last(ending) => {
-            ending.finish(domain, desk);
-            false
-        }
-    };
+    let others = leave_others(domain, desk, other);
     let unmade = match make(domain, desk, [0; 4], false, 8) {
         Ok(made) => {
             end(domain, desk, made);

@@ -1,11 +1,18 @@
 -- What commands write, of what is on the input (own).
-use Rattle.std.specs.Prelude.{◌≡◌, ℕ, List, length, Result, Ok, Err}
+use Rattle.std.specs.Prelude.{◌≡◌, ◌≢◌, ◌⊎◌, ℕ, Bool, false, List, [], length, Option, Result, Ok, Err, IfSome}
+use Rattle.clap.specs.Words.{IsAmong, Text, fault_of}
+use Rattle.clap.specs.declared.error.kind.ErrorKind.{ErrorKind}
+use Rattle.clap.specs.declared.error.kind.ErrorKind.TheVariants as kind
+use Rattle.script_stepper.specs.Runs.{Delivers, IsFineText, IsRunText, Tells, Writes, is_output}
 use Rattle.script_text.specs.declared.fault.Fault.{Fault}
 use Rattle.script_text.specs.declared.fault.Fault.TheVariants.{Memory, Syntax, BadTurn, Output, Input}
 use Rattle.script_text.specs.Drafts.{Section}
 use Rattle.script_text.specs.Grammar.{Reads, Refuses}
 use Rattle.script_text.specs.Scripts.{statement_count}
+use Rattle.sptr.specs.CommandLine.{Asks, program}
 use Rattle.sptr.specs.Lines.{ok_line}
+use Rattle.sptr.specs.declared.command.Asked.{Asked}
+use Rattle.sptr.specs.declared.command.Asked.TheVariants.{Check, Fine, Step}
 
 -- the line that counts the script which the text reads as, or the refusal that the text has
 abbrev pub Counts : List ℕ → Result (List ℕ) Fault → Type 0
@@ -20,3 +27,53 @@ UnlessInput told (Err (Syntax line cause)) = told (Err (Syntax line cause))
 UnlessInput told (Err (BadTurn position)) = told (Err (BadTurn position))
 UnlessInput told (Err Output) = told (Err Output)
 UnlessInput told (Err Input) = Unit {0}
+
+-- what a command answers to the bytes on the input
+abbrev pub Answers : Asked → List ℕ → Result (List ℕ) Fault → Type 0
+Answers Check bytes = UnlessInput (Counts bytes)
+Answers (Step turns) bytes = UnlessInput (Tells IsRunText bytes turns.now)
+Answers (Fine turns) bytes = UnlessInput (Tells IsFineText bytes turns.now)
+
+-- the exit status
+abbrev pub status_of : {A : Type 0} → Result A Fault → ℕ
+status_of (Ok done) = 0
+status_of (Err fault) = 1
+
+-- a command's answer to the bytes on the input went to the output, where the input tells its bytes
+pub record IsAnswered (asked : Asked) (input : Option (List ℕ)) (status : ℕ) (old new : Option (List ℕ)) (has_failed : Bool) : Type 0 where
+  pub answer : Result Unit Fault
+  pub delivers : IfSome input (λ bytes. Delivers (Answers asked bytes) answer old new)
+  pub says : status ≡ status_of answer
+  pub fails : has_failed ≡ is_output answer
+
+-- a text of `clap` went to the output, but for want of memory and a failed output
+pub record IsShown (status : ℕ) (old new : Option (List ℕ)) (has_failed : Bool) : Type 0 where
+  pub text : List ℕ
+  pub answer : Result Unit Fault
+  pub writes : Writes text answer old new
+  pub says : status ≡ status_of answer
+  pub fails : has_failed ≡ is_output answer
+
+-- nothing went to the output
+abbrev pub IsSilent : Option (List ℕ) → Option (List ℕ) → Bool → Type 0
+IsSilent old new has_failed = (new ≡ old) × (has_failed ≡ false)
+
+-- nothing went to the output, and the status is that of a fault of the words, or of want of memory
+abbrev pub IsMistaken : ℕ → Option (List ℕ) → Option (List ℕ) → Bool → Type 0
+IsMistaken status old new has_failed = ((status ≡ 2) ⊎ (status ≡ 1)) × IsSilent old new has_failed
+
+-- `clap` gives no command for a reason of this kind: help goes to the output; want of memory and faults of the words do not
+pub record IsTurnedAway (reason : ErrorKind) (status : ℕ) (old new : Option (List ℕ)) (has_failed : Bool) : Type 0 where
+  pub help : reason ≡ kind.DisplayHelp → IsShown status old new has_failed
+  pub memory : reason ≡ kind.OutOfMemory → (status ≡ 1) × IsSilent old new has_failed
+  pub mistake : reason ≢ kind.DisplayHelp → reason ≢ kind.OutOfMemory → (status ≡ 2) × IsSilent old new has_failed
+
+-- the kind is one that `clap` has for the words, or want of memory
+abbrev pub IsReason : List Text → ErrorKind → Type 0
+IsReason words reason = (reason ≡ kind.OutOfMemory) ⊎ IsAmong reason (fault_of program words)
+
+-- the words have no fault, and what they ask for is answered; or they are turned away for a reason that they give
+abbrev pub Serves : List Text → Option (List ℕ) → ℕ → Option (List ℕ) → Option (List ℕ) → Bool → Type 0
+Serves words input status old new has_failed =
+    ((asked : Asked) × Asks words asked × (fault_of program words ≡ []) × IsAnswered asked input status old new has_failed)
+    ⊎ ((reason : ErrorKind) × IsReason words reason × IsTurnedAway reason status old new has_failed)

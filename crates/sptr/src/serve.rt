@@ -1,6 +1,10 @@
 //! One command line, served.
 
-ghost use Rattle.std.specs.Prelude.{◌≡◌, ◌≤◌, false};
+ghost use Rattle.std.specs.Prelude.{◌≡◌, ◌≤◌, IfSome, false, map};
+ghost use Rattle.clap.specs.Words.{kind_of};
+ghost use Rattle.script_stepper.specs.Runs.{Delivers, is_output};
+ghost use Rattle.sptr.specs.CommandLine.{AsksHelp, AsksPlainly, NamesNoCommand};
+ghost use Rattle.sptr.specs.Serving.{Answers, IsAnswered, IsMistaken, IsShown, IsTurnedAway, Serves};
 
 use crate::answers::{check, fine, step, written};
 use crate::command::{Asked, asked_of};
@@ -19,6 +23,18 @@ fn refuse<F: Write>(fault: Fault, faults: &mut F) -> u8
     1
 }
 
+/// Writes help, and answers the exit status.
+fn show<O: Write, F: Write>(text: &[u8], output: &mut Output<O>, faults: &mut F) -> u8
+    requires { output.old.has_failed ≡ false }
+    ensures shows { IsShown result (O.contents output.old.writer) (O.contents output.new.writer) output.new.has_failed }
+    ensures quiet { result ≡ 0 → F.contents faults.new ≡ F.contents faults.old }
+{
+    match written(text, output) {
+        Ok(()) => 0,
+        Err(fault) => refuse(fault, faults),
+    }
+}
+
 /// What `clap` has to say: help on the output, and a mistake among the faults.
 fn refuse_words<O: Write, F: Write>(
     alloc: Global,
@@ -27,21 +43,60 @@ fn refuse_words<O: Write, F: Write>(
     faults: &mut F,
 ) -> u8
     requires { output.old.has_failed ≡ false }
-    ensures { result ≤ 2 }
+    ensures away { IsTurnedAway (kind_of error.now) result (O.contents output.old.writer) (O.contents output.new.writer)
+        output.new.has_failed }
+    ensures quiet { result ≡ 0 → F.contents faults.new ≡ F.contents faults.old }
+    ensures status { result ≤ 2 }
 {
     match error.kind() {
         ErrorKind::OutOfMemory => refuse(Fault::Memory, faults),
         ErrorKind::DisplayHelp => match format!(in alloc; "{error}") {
-            Ok(text) => match written(text.as_bytes(), output) {
-                Ok(()) => 0,
-                Err(fault) => refuse(fault, faults),
-            },
+            Ok(text) => show(text.as_bytes(), output, faults),
             Err(_) => refuse(Fault::Memory, faults),
         },
         _ => {
             let _ = write!(faults, "{error}");
             2
         }
+    }
+}
+
+/// The answer to what a command line asks for.
+fn answer<I: Read, O: Write>(
+    alloc: Global,
+    asked: Asked<'_>,
+    input: &mut I,
+    output: &mut Output<O>,
+) -> Result<(), Fault>
+    requires { output.old.has_failed ≡ false }
+    ensures delivers { IfSome (I.remaining input.old) (λ bytes.
+        Delivers (Answers asked.entry bytes) result (O.contents output.old.writer) (O.contents output.new.writer)) }
+    ensures failed { output.new.has_failed ≡ is_output result }
+{
+    match asked {
+        Asked::Check => check(alloc, input, output),
+        Asked::Step { turns } => step(alloc, turns, input, output),
+        Asked::Fine { turns } => fine(alloc, turns, input, output),
+    }
+}
+
+/// Does what a command line asks for, and answers the exit status.
+fn carry_out<I: Read, O: Write, F: Write>(
+    alloc: Global,
+    asked: Asked<'_>,
+    input: &mut I,
+    output: &mut Output<O>,
+    faults: &mut F,
+) -> u8
+    requires { output.old.has_failed ≡ false }
+    ensures answered { IsAnswered asked.entry (I.remaining input.old) result (O.contents output.old.writer)
+        (O.contents output.new.writer) output.new.has_failed }
+    ensures quiet { result ≡ 0 → F.contents faults.new ≡ F.contents faults.old }
+    ensures status { result ≤ 2 }
+{
+    match answer(alloc, asked, input, output) {
+        Ok(()) => 0,
+        Err(fault) => refuse(fault, faults),
     }
 }
 
@@ -58,19 +113,19 @@ pub fn serve<S: AsStr, I: Read, O: Write, F: Write>(
     faults: &mut F,
 ) -> u8
     requires { output.old.has_failed ≡ false }
-    ensures { result ≤ 2 }
+    ensures serves { Serves (map S.text words.now) (I.remaining input.old) result (O.contents output.old.writer)
+        (O.contents output.new.writer) output.new.has_failed }
+    ensures answers { (asked : Asked) → AsksPlainly (map S.text words.now) asked → IsAnswered asked (I.remaining input.old)
+        result (O.contents output.old.writer) (O.contents output.new.writer) output.new.has_failed }
+    ensures help { AsksHelp (map S.text words.now) → IsShown result (O.contents output.old.writer) (O.contents output.new.writer)
+        output.new.has_failed }
+    ensures missing { NamesNoCommand (map S.text words.now) → IsMistaken result (O.contents output.old.writer)
+        (O.contents output.new.writer) output.new.has_failed }
+    ensures quiet { result ≡ 0 → F.contents faults.new ≡ F.contents faults.old }
+    ensures status { result ≤ 2 }
 {
-    let asked = match asked_of(alloc, words) {
-        Ok(asked) => asked,
-        Err(error) => return refuse_words(alloc, &error, output, faults),
-    };
-    let answered = match asked {
-        Asked::Check => check(alloc, input, output),
-        Asked::Step { turns } => step(alloc, turns, input, output),
-        Asked::Fine { turns } => fine(alloc, turns, input, output),
-    };
-    match answered {
-        Ok(()) => 0,
-        Err(fault) => refuse(fault, faults),
+    match asked_of(alloc, words) {
+        Ok(asked) => carry_out(alloc, asked, input, output, faults),
+        Err(error) => refuse_words(alloc, &error, output, faults),
     }
 }

@@ -194,6 +194,15 @@ fn steps_a_script(rt: HostRuntime) {
 }
 
 #[test]
+fn takes_a_list_behind_an_equals_sign(rt: HostRuntime) -> Result<(), Fail> {
+    let row = &RUNS[5];
+    let got = served(rt.alloc(), &["sptr", "step", "--turns=2,2,1"], row.script);
+    assert_eq!(rt; got.status, 0);
+    assert_eq!(rt; got.output.as_slice(), row.output);
+    Ok(())
+}
+
+#[test]
 fn refuses_to_step(rt: HostRuntime) {
     for row in &REFUSED_RUNS {
         let got = stepped(rt.alloc(), row);

@@ -1,4 +1,6 @@
 pub mod Chains
 pub mod Ends
+pub mod Headline
 pub mod Measures
+pub mod Says
 pub mod Tasks

@@ -1,6 +1,7 @@
 //! Runs: one step for each number of a list, and then each actor alone to its end.
 ghost use Rattle.std.specs.Prelude.{◌≡◌, ◌+◌, ◌-◌, ◌<◌, ◌≤◌, ◌∷◌, ◌++◌, ℕ, [], All, IfErr, IfOk, MatchOption, length, map, slice_get, sum_by, vec_capacity, vec_len};
 ghost use Rattle.step_core.specs.Bounds.{most_steps, tasks_of};
+ghost use Rattle.step_core.specs.Headline.{AfterEach, AllAtRest, CountsAtRest, LocksWhereOwned, OfEach, TellsWhatIsLeft, ValuesAtLastLeave, ValuesOnce};
 ghost use Rattle.step_core.specs.Runs.{Adds, IsFirstBad, IsRefusedFor, IsRun, IsScheduled, Names, RunInOrder, RunsToEnd};
 ghost use Rattle.step_core.specs.Stories.{Kept};
 ghost use Rattle.step_core.specs.Totals.{IsAtEnd};
@@ -24,7 +25,13 @@ impl World {
         ensures unchanged { IfErr result (λ why. self.new ≡ self.old) }
         ensures run { IfOk result (λ t. IsRun self.old t.steps.items self.new) }
         ensures scheduled { IfOk result (λ t. IsScheduled turns.now self.old t.steps.items self.new) }
+        ensures counts { IfOk result (λ t. AfterEach CountsAtRest self.old t.steps.items) }
+        ensures locks { IfOk result (λ t. OfEach LocksWhereOwned self.old t.steps.items) }
+        ensures once { IfOk result (λ t. AfterEach ValuesOnce self.old t.steps.items) }
+        ensures values { IfOk result (λ t. OfEach ValuesAtLastLeave self.old t.steps.items) }
+        ensures told { IfOk result (λ t. OfEach TellsWhatIsLeft self.old t.steps.items) }
         ensures end { IfOk result (λ t. IsAtEnd self.new) }
+        ensures rest { IfOk result (λ t. AllAtRest self.new) }
         ensures kept { Kept self.new.story }
         ensures actors { length self.new.walks ≡ length self.old.walks }
     {
@@ -42,11 +49,11 @@ impl World {
 
     /// More steps than the world has left.
     fn most_steps(&self) -> usize
-        ensures enough { most_steps self.now ≤ result }
+        ensures enough { most_steps self.now + length self.now.walks ≤ result }
         ensures few { result ≤ 2000000 }
     {
         self.table.known();
-        13 * tasks_left(self.threads.as_slice()) + 17 * self.threads.len()
+        13 * tasks_left(self.threads.as_slice()) + 18 * self.threads.len()
     }
 
     /// One step for each number.
@@ -54,10 +61,10 @@ impl World {
         requires named { All (Names (length self.old.walks)) turns.now }
         requires empty { steps.old.items ≡ [] }
         requires none { vec_len steps.old ≡ 0 }
-        requires room { length turns.now + most_steps self.old ≤ vec_capacity steps.old }
+        requires room { length turns.now + most_steps self.old + length self.old.walks ≤ vec_capacity steps.old }
         ensures run { IsRun self.old steps.new.items self.new }
         ensures numbers { map (λ x. x.actor) steps.new.items ≡ turns.now }
-        ensures room { vec_len steps.new + most_steps self.new ≤ vec_capacity steps.new }
+        ensures room { vec_len steps.new + most_steps self.new + length self.new.walks ≤ vec_capacity steps.new }
         ensures actors { length self.new.walks ≡ length self.old.walks }
     {
         for turn in turns {
@@ -69,7 +76,7 @@ impl World {
     /// Each actor runs alone to its end, in number order.
     fn finish(&mut self, steps: &mut Vec<TraceStep>)
         requires few { length self.old.walks ≤ 64 }
-        requires room { vec_len steps.old + most_steps self.old ≤ vec_capacity steps.old }
+        requires room { vec_len steps.old + most_steps self.old + length self.old.walks ≤ vec_capacity steps.old }
         ensures adds { Adds (RunInOrder (length self.old.walks)) self.old steps.old.items self.new steps.new.items }
         ensures actors { length self.new.walks ≡ length self.old.walks }
     {
@@ -82,9 +89,10 @@ impl World {
     fn finish_one(&mut self, number: usize, steps: &mut Vec<TraceStep>)
         requires within { number < length self.old.walks }
         requires few { length self.old.walks ≤ 64 }
-        requires room { vec_len steps.old + most_steps self.old ≤ vec_capacity steps.old }
+        requires room { vec_len steps.old + most_steps self.old + 1 ≤ vec_capacity steps.old }
         ensures adds { Adds (RunsToEnd number) self.old steps.old.items self.new steps.new.items }
-        ensures room { vec_len steps.new + most_steps self.new ≤ vec_capacity steps.new }
+        ensures room { vec_len steps.new + most_steps self.new ≤ vec_len steps.old + most_steps self.old + 1 }
+        ensures capacity { vec_capacity steps.old ≤ vec_capacity steps.new }
         ensures actors { length self.new.walks ≡ length self.old.walks }
     {
         loop {

@@ -10,6 +10,7 @@ use lib.ListN.{get_elem?}
 use Rattle.control_word.proofs.history.Given.{names_an_object}
 use Rattle.control_word.proofs.history.Legal.{sound}
 use Rattle.control_word.proofs.history.Moving.{counted_live, owner_counted}
+use Rattle.control_word.proofs.history.Values.{has_value}
 use Rattle.control_word.proofs.lists.Tallies.{put_again, put_cases, put_same}
 use Rattle.control_word.proofs.steps.Leave as law
 use Rattle.control_word.specs.Events.{moved_to}
@@ -31,7 +32,7 @@ use Rattle.control_block.specs.Rule.{IsBacked, IsSlotOf, Ruled, kept, opening_of
 use Rattle.control_block.specs.Plays.{At, Holding, Rests, gave_back, left}
 use Rattle.control_block.specs.declared.board.Sight.{Sight}
 use Rattle.control_block.proofs.Passage.{adds, held_there, next, point, quiet_next, ready}
-use Rattle.control_block.proofs.Slots.{has_value, kept_else, live_home, live_unmade, others_still, slots_apart}
+use Rattle.control_block.proofs.Slots.{kept_else, live_home, live_unmade, others_still, slots_apart}
 use Rattle.control_block.proofs.kept.Look.{looked}
 use Rattle.control_block.proofs.kept.WeakLeave.{falls}
 
@@ -114,7 +115,7 @@ module _ {V : Type 0} where
       last q =
           let v = me.0 in let z = opening_of k in let ev : Event V = Leave (owner o p) true in let h = entry v.view.name ev ∷ r.history in
           let now = stands true (eq-eqb (get_or s.words i 0) 1 q) in let n = named k s r id v at rests.awake rests.empty o p b holds in
-          let x = has_value z r.history r.stands.legal o n.0 n.1 in (
+          let x = has_value z r.history o n.0 n.1 in (
             seeing v Idle (Some b) h,
             takes (b.0 - 1) (Some x.0),
             live_home k s r b.0 o n.3 n.2 (held_there k s r id v at rests.awake Owner o p b.0 holds).1

@@ -34,12 +34,13 @@ spares : (halves : List Half) → sum_by spare halves ≤ 17 * length halves
 spares [] = omega arith
 spares (h ∷ hs) = let a = sum_by-cons spare h hs in let m = spare_most h in let i = spares hs in omega (arith, a, m, i)
 
-pub enough : (v : Story) (threads : List Thread) → most_steps (sight v threads) ≤ 13 * sum_by tasks_of threads + 17 * length threads
+pub enough : (v : Story) (threads : List Thread) → most_steps (sight v threads) + length (map thread_walk threads) ≤ 13 * sum_by tasks_of threads + 18 * length threads
 enough v threads =
     let a = same_tasks threads in
     let b = spares (map thread_half threads) in
     let l = length-map threads thread_half in
-    omega (arith, a, b, l)
+    let m = length-map threads thread_walk in
+    omega (arith, a, b, l, m)
 
 pub few_tasks : (v : Story) (threads : List Thread) (m e : ℕ) → IsTold (sight v threads) m e → sum_by tasks_of threads ≤ 133120
 few_tasks v threads m e told = let a = same_tasks threads in let f = told.few in omega (arith, a, f)

@@ -18,7 +18,7 @@ use Rattle.control_word.specs.declared.view.View.{View}
 use Rattle.control_word.specs.Layout.{spot}
 use Rattle.control_word.specs.Packing.{number_of}
 use Rattle.control_word.specs.State.{InShape, IsVacant, Opening, Phase, State, common, count, ending, gone, live, unmade, weak, weak_number}
-use Rattle.control_word.specs.Views.{NamesBlock, used_up}
+use Rattle.control_word.specs.Views.{IsAtRest, NamesBlock, used_up}
 use Rattle.step_core.specs.declared.half.Half.{Half}
 use Rattle.step_core.specs.declared.half.Half.TheVariants.{Rest}
 use Rattle.step_core.specs.declared.thread.Thread.{Thread}
@@ -40,20 +40,21 @@ pub record IsStill (v : Story) : Type 0 where
   pub idle : (d : ℕ) → d < v.extent.actors → pending v d ≡ Idle
   pub none : (o e : ℕ) → ((state v).object o).phase ≡ ending e → ⊥
 
+pub at_rest : (v : Story) (b : ℕ) → Kept v → IsStill v → IsAtRest (state v) v.views b
+at_rest v b kept still = record {
+  still = λ o e here p. still.none o e p;
+  unnamed = λ i w at names.
+      let r = at_view v.views i w at in
+      let size = kept.seats.size in
+      let lt : i < v.extent.actors = (let l = r.0 in omega (arith, l, size)) in
+      let p : w.pending ≡ Idle = ap (λ (z : View Nothing). z.pending) (sym r.1) ∙ still.idle i lt in
+      subst (λ (q : Pending Nothing). NamesBlock (state v) q b) p names;
+}
+
 pub exact : (v : Story) (b : ℕ) → Kept v → IsStill v → InShape (opening v.extent) b
     → (number_of (slice_index v.words (spot b 0)) ≡ count (state v) ((state v).latest b))
     × (number_of (slice_index v.words (spot b 1)) ≡ weak_number (state v) ((state v).latest b))
-exact v b kept still inside =
-    rests_exactly (opening v.extent) v.words v.views v.history kept.stands b inside
-    (record {
-      still = λ o e here p. still.none o e p;
-      unnamed = λ i w at names.
-          let r = at_view v.views i w at in
-          let size = kept.seats.size in
-          let lt : i < v.extent.actors = (let l = r.0 in omega (arith, l, size)) in
-          let p : w.pending ≡ Idle = ap (λ (z : View Nothing). z.pending) (sym r.1) ∙ still.idle i lt in
-          subst (λ (q : Pending Nothing). NamesBlock (state v) q b) p names;
-    })
+exact v b kept still inside = rests_exactly (opening v.extent) v.words v.views v.history kept.stands b inside (at_rest v b kept still)
 
 -- a block is vacant just where its latest object has no weak number
 vacant_by : (z : Opening) (s : State) (b : ℕ) → Sound z s → weak_number s (s.latest b) ≡ 0 → IsVacant s b

@@ -1,4 +1,4 @@
-use Rattle.std.proofs.Common.{◌∙◌}
+use Rattle.std.proofs.Common.{◌∙◌, arith}
 use Rattle.step_core.proofs.runs.Ends.{adds_more}
 use Rattle.step_core.proofs.world.World.finish.Goals as goal
 
@@ -9,6 +9,6 @@ loop-number-preserved c =
     record {
       adds = adds_more c.loop-number.number c.args.self.now c.loop-number.self c.finish_one.new.self c.args.steps.now.items c.loop-number.steps.items
           c.finish_one.new.steps.items i.adds f.adds;
-      room = f.room;
+      room = (let before = i.room in let more = f.room in let capacity = f.capacity in omega (arith, before, more, capacity));
       actors = f.actors ∙ i.actors;
     }

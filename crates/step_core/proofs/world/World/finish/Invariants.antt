@@ -6,6 +6,6 @@ use Rattle.step_core.proofs.world.World.finish.Given as goal
 abbrev pub invariant-loop-number : goal.invariant-loop-number
 invariant-loop-number l = record {
   adds : Adds (RunInOrder l.number) l.initial.self l.initial.steps.items l.self l.steps.items;
-  room : vec_len l.steps + most_steps l.self ≤ vec_capacity l.steps;
+  room : vec_len l.steps + most_steps l.self + length l.initial.self.walks ≤ vec_capacity l.steps + l.number;
   actors : length l.self.walks ≡ length l.initial.self.walks;
 }

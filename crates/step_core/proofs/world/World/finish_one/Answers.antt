@@ -13,6 +13,20 @@ module _ (c : goal.After-add) where
       let s = c.advance.ensures in
       before_end c.args.number c.loop-stepped.self c.advance.new.self c.advance.result s.was inside s.steps c.in_default.not-Done
 
+pub add-requires : goal.add-requires
+add-requires c =
+    let s = c.advance.ensures in
+    let i = c.loop-stepped.invariant in
+    let a = i.on.actors in
+    let w = c.requires.within in
+    let f = before_end c.args.number c.loop-stepped.self c.advance.new.self c.advance.result s.was (omega (arith, a, w)) s.steps c.in_default.not-Done in
+    let first = c.requires.room in
+    let before = i.room in
+    let capacity = i.capacity in
+    let less = f.all in
+    let held = f.within in
+    omega (arith, first, before, capacity, less, held)
+
 pub loop-stepped-smaller : goal.loop-stepped-smaller
 loop-stepped-smaller c = (one_less c).own
 
@@ -28,5 +42,6 @@ loop-stepped-preserved c =
       on = on_more c.args.number c.args.self.now c.loop-stepped.self c.advance.new.self c.args.steps.now.items c.loop-stepped.steps.items
           c.add.new.steps.items c.advance.result c.loop-stepped.invariant.on s.steps s.kept s.actors c.in_default.not-Done
           e.items;
-      room = omega (arith, l, room, less, before);
+      room = omega (arith, l, less, before);
+      capacity = (let first = c.loop-stepped.invariant.capacity in omega (arith, room, first));
     }

@@ -32,6 +32,6 @@ loop-turn-preserved c =
           (run_more c.args.self.now c.loop-turn.self c.advance-stepped.new.self c.loop-turn.steps.items x i.run steps s.kept);
       numbers = number_more c.loop-turn.steps.items c.add.new.steps.items c.args.turns.now c.loop-turn.turn-index c.advance-stepped.result lt i.numbers e.items;
       len = omega (arith, len, was);
-      room = omega (arith, most, before, room);
+      room = (let still = s.actors in omega (arith, most, before, room, still));
       actors = s.actors ∙ i.actors;
     }

@@ -1,7 +1,8 @@
-use Rattle.std.proofs.Common.{◌≡◌, List, length, subst, ap, arith}
+use Rattle.std.proofs.Common.{◌+◌, ◌≡◌, List, length, subst, ap, arith}
 use Rattle.std.specs.Prelude.{Some, slice_get, sum_by}
 use Rattle.step_core.specs.declared.thread.Thread.{Thread}
 use Rattle.step_core.specs.Bounds.{most_steps, tasks_of}
+use Rattle.step_core.specs.Worlds.{Sight}
 use Rattle.step_core.proofs.runs.Tasks.{enough, few_tasks, few_threads, within}
 use Rattle.step_core.proofs.world.World.most_steps.Goals as goal
 
@@ -13,7 +14,7 @@ tasks_left-requires-clause-within c = λ d t at.
 pub returns-clause-enough : goal.returns-clause-enough
 returns-clause-enough c =
     let e = enough c.self.inside.table c.self.inside.threads.items in
-    let v = ap most_steps c.self.view_is in
+    let v = ap (λ (u : Sight). most_steps u + length u.walks) c.self.view_is in
     let t = c.tasks_left.ensures in
     let l = c.len.ensures in
     let s = ap (sum_by tasks_of) c.as_slice.ensures.value in

@@ -1,18 +1,58 @@
-use Rattle.std.proofs.Common.{length, ap, arith}
+use Rattle.std.proofs.Common.{length, ap, subst, arith}
 use Rattle.step_core.specs.Worlds.{Sight}
 use Rattle.step_core.proofs.runs.Chains.{whole}
 use Rattle.step_core.proofs.runs.Ends.{at_end}
+use Rattle.step_core.specs.Headline.{CountsAtRest, LocksWhereOwned, TellsWhatIsLeft, ValuesAtLastLeave, ValuesOnce}
+use Rattle.step_core.specs.Runs.{IsRun}
+use Rattle.step_core.specs.Stories.{Kept}
+use Rattle.step_core.specs.Totals.{IsAtEnd}
+use Rattle.step_core.proofs.runs.Says.{tells}
+use Rattle.step_core.proofs.telling.Census.{at_rest, still_now}
+use Rattle.step_core.proofs.runs.Headline.{after_each, counts, last_leaves, locks, of_each, values}
 use Rattle.step_core.proofs.world.World.run.Goals as goal
 
+module _ (c : goal.After-known-2) where
+  all : IsRun c.args.self.now c.finish.new.steps.items c.finish.new.self
+  all =
+      whole _ c.args.self.now c.follow.new.self c.finish.new.self c.follow.new.steps.items c.finish.new.steps.items c.follow.ensures.run
+      c.finish.ensures.adds
+
+  start : Kept c.args.self.now.story
+  start = subst (λ (u : Sight). Kept u.story) c.self.view_is c.known.ensures
+
+  -- each thread is at its end
+  ends : IsAtEnd c.finish.new.self
+  ends =
+      let actors = c.finish.ensures.actors in
+      let told = c.self-2.invariant.1.halves in
+      let walks = ap (λ (u : Sight). length u.walks) c.self-2.view_is in
+      let halves = ap (λ (u : Sight). length u.halves) c.self-2.view_is in
+      at_end (length c.follow.new.self.walks) c.follow.new.self c.finish.new.self c.finish.ensures.adds.added c.finish.ensures.adds.run actors
+      (omega (arith, actors, told, walks, halves))
+
 pub returns-clause-run : goal.returns-clause-run
-returns-clause-run c =
-    whole _ c.args.self.now c.follow.new.self c.finish.new.self c.follow.new.steps.items c.finish.new.steps.items c.follow.ensures.run c.finish.ensures.adds
+returns-clause-run c = all c
+
+pub returns-clause-counts : goal.returns-clause-counts
+returns-clause-counts c = after_each CountsAtRest c.args.self.now c.finish.new.self c.finish.new.steps.items (all c) (start c) counts
+
+pub returns-clause-locks : goal.returns-clause-locks
+returns-clause-locks c = of_each LocksWhereOwned c.args.self.now c.finish.new.self c.finish.new.steps.items (all c) (start c) locks
+
+pub returns-clause-once : goal.returns-clause-once
+returns-clause-once c = after_each ValuesOnce c.args.self.now c.finish.new.self c.finish.new.steps.items (all c) (start c) values
+
+pub returns-clause-values : goal.returns-clause-values
+returns-clause-values c = of_each ValuesAtLastLeave c.args.self.now c.finish.new.self c.finish.new.steps.items (all c) (start c) last_leaves
+
+pub returns-clause-told : goal.returns-clause-told
+returns-clause-told c = of_each TellsWhatIsLeft c.args.self.now c.finish.new.self c.finish.new.steps.items (all c) (start c) tells
+
+pub returns-clause-rest : goal.returns-clause-rest
+returns-clause-rest c = λ b inside.
+    at_rest c.finish.new.self.story b (subst (λ (u : Sight). Kept u.story) c.self-2.view_is c.known-2.ensures)
+    (still_now c.finish.new.self c.self-2.inside.table c.self-2.inside.threads.items c.self-2.inside.made c.self-2.inside.ended c.self-2.view_is
+    c.self-2.invariant.0 c.self-2.invariant.1 (ends c))
 
 pub returns-clause-end : goal.returns-clause-end
-returns-clause-end c =
-    let actors = c.finish.ensures.actors in
-    let told = c.self-2.invariant.1.halves in
-    let walks = ap (λ (u : Sight). length u.walks) c.self-2.view_is in
-    let halves = ap (λ (u : Sight). length u.halves) c.self-2.view_is in
-    at_end (length c.follow.new.self.walks) c.follow.new.self c.finish.new.self c.finish.ensures.adds.added c.finish.ensures.adds.run actors
-    (omega (arith, actors, told, walks, halves))
+returns-clause-end c = ends c

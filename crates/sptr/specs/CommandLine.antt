@@ -1,0 +1,64 @@
+-- The command line that the program takes, and what its words ask for, by what `clap` makes of such a line. All of it is own.
+use Rattle.std.specs.Prelude.{◌≡◌, ◌≢◌, ◌⊎◌, true, false, List, [], ◌∷◌, ◌++◌, slice_get, Option, Some, option_map, option_and_then, unwrap_or, codes}
+use Rattle.clap.specs.Words.{App, Rule, Shape, Text, first_of, new_rule, subcommand_of}
+use Rattle.clap.specs.Simple.{new_shape}
+use Rattle.sptr.specs.declared.command.Asked.{Asked}
+use Rattle.sptr.specs.declared.command.Asked.TheVariants.{Check, Fine, Step}
+
+-- `--turns LIST`
+unfoldable pub turns_option : Rule
+turns_option = record (new_rule (codes "turns")) { long = Some (codes "turns"); value_names = 1 }
+
+-- `check`, which takes no words
+unfoldable pub check_line : Shape
+check_line = new_shape (codes "check")
+
+-- `step`, which takes a list of turns
+unfoldable pub step_line : Shape
+step_line = record (new_shape (codes "step")) { rules = turns_option ∷ [] }
+
+-- `fine`, which takes a list of turns
+unfoldable pub fine_line : Shape
+fine_line = record (new_shape (codes "fine")) { rules = turns_option ∷ [] }
+
+-- the program's name, and then one of the three
+unfoldable pub program : App
+program = record {
+  top = record (new_shape (codes "sptr")) { is_leaf = false; subcommand_required = true };
+  subs = check_line ∷ step_line ∷ fine_line ∷ [];
+}
+
+-- the command that the words name
+abbrev pub command_named : List Text → Option Text
+command_named words = option_map (λ found. found.0) (subcommand_of program words)
+
+-- the list that `--turns` gives, or none
+abbrev pub turns_given : List Text → Text
+turns_given words = unwrap_or (option_and_then (λ found. first_of (codes "turns") found.1) (subcommand_of program words)) []
+
+-- the words ask for this
+abbrev pub Asks : List Text → Asked → Type 0
+Asks words Check = command_named words ≡ Some (codes "check")
+Asks words (Step turns) = (command_named words ≡ Some (codes "step")) × (turns.now ≡ turns_given words)
+Asks words (Fine turns) = (command_named words ≡ Some (codes "fine")) × (turns.now ≡ turns_given words)
+
+-- the words are the program's name and this command, and then no list, `--turns=LIST`, or `--turns LIST` with a list that begins with no
+-- `-` (45)
+abbrev pub IsLine : Text → Text → Text → List Text → Type 0
+IsLine command name list words = ((words ≡ name ∷ command ∷ []) × (list ≡ []))
+    ⊎ ((words ≡ name ∷ command ∷ (codes "--turns=" ++ list) ∷ [])
+    ⊎ ((words ≡ name ∷ command ∷ codes "--turns" ∷ list ∷ []) × (slice_get list 0 ≢ Some 45)))
+
+-- the words ask for this in the manner of the program's page
+abbrev pub AsksPlainly : List Text → Asked → Type 0
+AsksPlainly words Check = (name : Text) × (words ≡ name ∷ codes "check" ∷ [])
+AsksPlainly words (Step turns) = (name : Text) × IsLine (codes "step") name turns.now words
+AsksPlainly words (Fine turns) = (name : Text) × IsLine (codes "fine") name turns.now words
+
+-- the words are the program's name and `--help`
+abbrev pub AsksHelp : List Text → Type 0
+AsksHelp words = (name : Text) × (words ≡ name ∷ codes "--help" ∷ [])
+
+-- the words are the program's name alone
+abbrev pub NamesNoCommand : List Text → Type 0
+NamesNoCommand words = (name : Text) × (words ≡ name ∷ [])

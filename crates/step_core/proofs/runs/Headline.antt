@@ -1,0 +1,173 @@
+-- What holds after each step of a run, and of each of its steps.
+use Rattle.std.proofs.Common.{◌≡◌, ℕ, ◌-◌, ◌<◌, ◌==◌, Bool, true, false, cond, List, [], ◌∷◌, ◌++◌, length, refl, sym, ap, subst, ◌∙◌, inl, inr, arith}
+use Rattle.std.specs.Prelude.{Option, Some, None, not, ◌&&◌, ◌⊎◌, ◌↔◌}
+use Rattle.std.proofs.lemmas.Bool.{eqb-true, eqb-false, false≢true}
+use Rattle.control_word.specs.declared.event.Entry.{Entry}
+use Rattle.control_word.specs.declared.event.Event.{Event}
+use Rattle.control_word.specs.declared.event.Event.TheVariants.{Leave, Lock}
+use Rattle.control_word.specs.declared.handle.Handle.{Handle}
+use Rattle.control_word.specs.Events.{Asks}
+use Rattle.control_word.specs.Handles.{object_of}
+use Rattle.control_word.specs.Histories.{IsLegal, ends_by, entry, given}
+use Rattle.control_word.specs.State.{count}
+use Rattle.control_word.proofs.history.Given.{given_over, live_while_owned, over}
+use Rattle.control_word.proofs.history.Made.{gives_once}
+use Rattle.control_word.proofs.views.Resting.{rests_exactly}
+use Rattle.step_core.specs.declared.extent.Extent.{Extent}
+use Rattle.step_core.specs.declared.past.Deed.{Deed}
+use Rattle.step_core.specs.declared.trace.TraceStep.{TraceStep}
+use Rattle.step_core.specs.Headline.{AfterEach, CountsAtRest, LastLeft, LocksWhereOwned, OfEach, ValuesAtLastLeave, ValuesOnce, Was}
+use Rattle.step_core.specs.Openings.{opening}
+use Rattle.step_core.specs.Runs.{IsRun, reached}
+use Rattle.step_core.specs.Steps.{Step, story_after, story_by}
+use Rattle.step_core.specs.Stories.{Kept, Nothing, Story, added, event_of, state}
+use Rattle.step_core.specs.Totals.{is_last}
+use Rattle.step_core.specs.Worlds.{Sight, Steps, step_of}
+
+-- a step of the run, with what was before it and what is after it
+pub record IsStep (u : Sight) (x : TraceStep) (u' : Sight) : Type 0 where
+  pub steps : Steps (x.actor - 1) u x.stepped u'
+  pub before : Kept u.story
+  pub after : Kept u'.story
+
+-- what each beginning leads to stands
+stands_after : (xs ys : List TraceStep) (u u' : Sight) → IsRun u (xs ++ ys) u' → Kept u.story → Kept (reached u xs).story
+stands_after [] ys u u' run kept = kept
+stands_after (x ∷ xs) ys u u' run kept =
+    subst (λ (m : Sight). Kept (reached m xs).story) run.1.1 (stands_after xs ys run.0 u' run.3 run.2)
+
+is_step : (xs : List TraceStep) (x : TraceStep) (ys : List TraceStep) (u u' : Sight) → IsRun u (xs ++ x ∷ ys) u' → Kept u.story
+    → IsStep (reached u xs) x (reached u (xs ++ x ∷ []))
+is_step [] x ys u u' run kept =
+    record { steps = (run.1.0, refl); before = kept; after = subst (λ (m : Sight). Kept m.story) run.1.1 run.2 }
+is_step (y ∷ xs) x ys u u' run kept =
+    subst (λ (m : Sight). IsStep (reached m xs) x (reached m (xs ++ x ∷ []))) run.1.1 (is_step xs x ys run.0 u' run.3 run.2)
+
+pub after_each : (P : Sight → Type 0) (u u' : Sight) (steps : List TraceStep) → IsRun u steps u' → Kept u.story
+    → ((m : Sight) → Kept m.story → P m) → AfterEach P u steps
+after_each P u u' steps run kept law = λ before rest e.
+    law (reached u before) (stands_after before rest u u' (subst (λ (l : List TraceStep). IsRun u l u') e run) kept)
+
+pub of_each : (R : Sight → TraceStep → Sight → Type 0) (u u' : Sight) (steps : List TraceStep) → IsRun u steps u' → Kept u.story
+    → ((m : Sight) (x : TraceStep) (m' : Sight) → IsStep m x m' → R m x m') → OfEach R u steps
+of_each R u u' steps run kept law = λ before x rest e.
+    law (reached u before) x (reached u (before ++ x ∷ [])) (is_step before x rest u u' (subst (λ (l : List TraceStep). IsRun u l u') e run) kept)
+
+pub counts : (u : Sight) → Kept u.story → CountsAtRest u
+counts u kept = λ b inside rest.
+    let r = rests_exactly (opening u.story.extent) u.story.words u.story.views u.story.history kept.stands b inside rest in
+    record { owners = r.0; weaks = r.1 }
+
+pub values : (u : Sight) → Kept u.story → ValuesOnce u
+values u kept = gives_once (opening u.story.extent) u.story.history kept.stands.legal
+
+same_extent : (v : Story) (d : ℕ) (x : Option Step) → (story_by v d x).extent ≡ v.extent
+same_extent v d None = refl
+same_extent v d (Some x) = go x.deed
+  where
+    go : (y : Option Deed) → (story_after v d y).extent ≡ v.extent
+    go None = refl
+    go (Some y) = refl
+
+-- the event of a step could come there
+pub asked : (u : Sight) (x : TraceStep) (u' : Sight) (e : Event Nothing) → IsStep u x u' → Was e u x u' → Asks (state u.story) (x.actor - 1) e
+asked u x u' e step was =
+    let d = x.actor - 1 in
+    let same : u'.story.extent ≡ u.story.extent = ap (λ (m : Sight). m.story.extent) step.steps.1 ∙ same_extent u.story d (step_of d u) in
+    let legal = subst (λ (h : List (Entry Nothing)). IsLegal (opening u'.story.extent) h) was step.after.stands.legal in
+    let here : IsLegal (opening u.story.extent) (entry d e ∷ u.story.history) = subst
+    (λ (z : Extent). IsLegal (opening z) (entry d e ∷ u.story.history)) same legal in
+    here.1.asks
+
+gave_where : (gave : Bool) (n : ℕ) → gave ≡ not (n == 0) → (gave ≡ true) ↔ (0 < n)
+gave_where gave n e = go (n == 0) refl e
+  where
+    go : (b : Bool) → (n == 0) ≡ b → gave ≡ not b → (gave ≡ true) ↔ (0 < n)
+    go true none is = (λ t. absurd (false≢true (sym is ∙ t)), λ more. absurd (let z = eqb-true n 0 none in omega (arith, z, more)))
+    go false some is = (λ t. let ne = eqb-false n 0 some in omega (arith, ne), λ more. is)
+
+pub locks : (u : Sight) (x : TraceStep) (u' : Sight) → IsStep u x u' → LocksWhereOwned u x u'
+locks u x u' step = λ w gave was.
+    let a = asked u x u' (Lock w gave) step was in gave_where gave (count (state u.story) (object_of w)) a.1
+
+-- a step is one event, or none
+told : (v : Story) (d : ℕ) (x : Option Step)
+    → ((story_by v d x).history ≡ v.history) ⊎ ((e : Event Nothing) × ((story_by v d x).history ≡ entry d e ∷ v.history))
+told v d None = inl refl
+told v d (Some x) = go x.deed
+  where
+    one : (e : Option (Event Nothing)) → (added d e v.history ≡ v.history) ⊎ ((y : Event Nothing) × (added d e v.history ≡ entry d y ∷ v.history))
+    one None = inl refl
+    one (Some e) = inr (e, refl)
+
+    go : (y : Option Deed) → ((story_after v d y).history ≡ v.history) ⊎ ((e : Event Nothing) × ((story_after v d y).history ≡ entry d e ∷ v.history))
+    go None = inl refl
+    go (Some y) = one (event_of v y)
+
+-- what the newest event is
+abbrev pub newest_is_last : List (Entry Nothing) → Bool
+newest_is_last [] = false
+newest_is_last (e ∷ h) = is_last e.event
+
+abbrev left_object : Event Nothing → ℕ
+left_object (Leave h last) = object_of h
+left_object _ = 0
+
+abbrev newest_object : List (Entry Nothing) → ℕ
+newest_object [] = 0
+newest_object (e ∷ h) = left_object e.event
+
+ends_none : (o : ℕ) (e : Event Nothing) → is_last e ≡ false → ends_by o e ≡ 0
+ends_none o (Leave h true) none = absurd (false≢true (sym none))
+ends_none o (Leave h false) none = refl
+ends_none o _ none = refl
+
+-- the value comes out at the step, or nothing of it changes
+abbrev pub AtLastLeave : ℕ → Sight → TraceStep → Sight → Type 0
+AtLastLeave o u x u' =
+    (LastLeft o u x u' × (given o u.story.history ≡ 0) × (given o u'.story.history ≡ 1)) ⊎ ((LastLeft o u x u' → ⊥) × (given o u'.story.history ≡ given o u.story.history))
+
+no_event : (o : ℕ) (u : Sight) (x : TraceStep) (u' : Sight) → u'.story.history ≡ u.story.history → AtLastLeave o u x u'
+no_event o u x u' same =
+    inr (λ l. let n = ap (λ (h : List (Entry Nothing)). length h) (sym same ∙ l.left) in omega (arith, n), ap (given o) same)
+
+other_event : (o : ℕ) (u : Sight) (x : TraceStep) (u' : Sight) (e : Event Nothing) → Was e u x u' → is_last e ≡ false → AtLastLeave o u x u'
+other_event o u x u' e was none =
+    let g = ap (given o) was in
+    let z = ends_none o e none in
+    inr (λ l. false≢true (sym none ∙ ap newest_is_last (sym was ∙ l.left)), omega (arith, g, z))
+
+last_event : (o : ℕ) (u : Sight) (x : TraceStep) (u' : Sight) (h : Handle) → IsStep u x u' → Was (Leave h true) u x u' → AtLastLeave o u x u'
+last_event o u x u' h step was = go (object_of h == o) refl
+  where
+    go : (b : Bool) → (object_of h == o) ≡ b → AtLastLeave o u x u'
+    go true e =
+        let same = eqb-true (object_of h) o e in
+        let asks = asked u x u' (Leave h true) step was in
+        let one : count (state u.story) o ≡ 1 = ap (count (state u.story)) (sym same) ∙ eqb-true _ 1 (sym asks.1) in
+        let lives = (live_while_owned (opening u.story.extent) u.story.history step.before.stands.legal o).1 (omega (arith, one)) in
+        let none : given o u.story.history ≡ 0 = given_over (opening u.story.extent) u.story.history step.before.stands.legal o ∙ ap over lives in
+        let g = ap (given o) was in
+        let c = ap {B = ℕ} (λ (b : Bool). cond (true && b) 1 0) e in
+        inl (record { owner = h; left = was; object = same; last = one }, none, omega (arith, g, none, c))
+    go false e =
+        let g = ap (given o) was in
+        let c = ap {B = ℕ} (λ (b : Bool). cond (true && b) 1 0) e in
+        inr (λ l. eqb-false (object_of h) o e (ap newest_object (sym was ∙ l.left) ∙ l.object), omega (arith, g, c))
+
+any_event : (o : ℕ) (u : Sight) (x : TraceStep) (u' : Sight) (e : Event Nothing) → IsStep u x u' → Was e u x u' → AtLastLeave o u x u'
+any_event o u x u' (Leave h true) step was = last_event o u x u' h step was
+any_event o u x u' (Leave h false) step was = other_event o u x u' (Leave h false) was refl
+any_event o u x u' _ step was = other_event o u x u' _ was refl
+
+pub last_leaves : (u : Sight) (x : TraceStep) (u' : Sight) → IsStep u x u' → ValuesAtLastLeave u x u'
+last_leaves u x u' step = λ o.
+    let d = x.actor - 1 in
+    let now = ap (λ (m : Sight). m.story.history) step.steps.1 in
+    go o (told u.story d (step_of d u)) now
+  where
+    go : (o : ℕ) → ((story_by u.story (x.actor - 1) (step_of (x.actor - 1) u)).history ≡ u.story.history)
+        ⊎ ((e : Event Nothing) × ((story_by u.story (x.actor - 1) (step_of (x.actor - 1) u)).history ≡ entry (x.actor - 1) e ∷ u.story.history))
+        → u'.story.history ≡ (story_by u.story (x.actor - 1) (step_of (x.actor - 1) u)).history → AtLastLeave o u x u'
+    go o (inl same) now = no_event o u x u' (now ∙ same)
+    go o (inr e) now = any_event o u x u' e.0 step (now ∙ e.1)

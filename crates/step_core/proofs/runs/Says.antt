@@ -1,0 +1,148 @@
+-- What steps tell of objects that end.
+use Rattle.std.proofs.Common.{◌≡◌, ℕ, ◌+◌, ◌-◌, ◌==◌, Bool, true, false, cond, List, [], ◌∷◌, length, get_or, refl, sym, ap, subst, ◌∙◌, arith}
+use Rattle.std.specs.Prelude.{Option, Some, None, MatchOption, option_map}
+use Rattle.std.proofs.lemmas.Bool.{cond_both, eqb-true, false≢true}
+use Rattle.control_word.specs.declared.event.Entry.{Entry}
+use Rattle.control_word.specs.declared.event.Event.{Event}
+use Rattle.control_word.specs.declared.event.Event.TheVariants as event
+use Rattle.control_word.specs.declared.place.Block.{Block}
+use Rattle.control_word.specs.declared.place.Place.{Place}
+use Rattle.control_word.specs.State.{weak}
+use Rattle.step_core.specs.declared.act.Act.{Act}
+use Rattle.step_core.specs.declared.act.Act.TheVariants.{Make, Share, Put, Leave, Clear, Count}
+use Rattle.step_core.specs.declared.act.Task.{Task}
+use Rattle.step_core.specs.declared.half.Half.{Half}
+use Rattle.step_core.specs.declared.half.Half.TheVariants.{Rest, Making, Ending}
+use Rattle.step_core.specs.declared.holdings.Pointer.{Pointer}
+use Rattle.step_core.specs.declared.past.Deed.{Deed}
+use Rattle.step_core.specs.declared.past.Deed.TheVariants as deed
+use Rattle.step_core.specs.declared.said.Ended.{Ended}
+use Rattle.step_core.specs.declared.said.Stepped.{Stepped}
+use Rattle.step_core.specs.declared.said.Stepped.TheVariants as stepped
+use Rattle.step_core.specs.declared.trace.TraceStep.{TraceStep}
+use Rattle.step_core.specs.Actors.{wanted}
+use Rattle.step_core.specs.Courses.{Walk, fields_of}
+use Rattle.step_core.specs.Headline.{LastLeft, TellsWhatIsLeft, ended_by}
+use Rattle.step_core.specs.Holdings.{slot}
+use Rattle.step_core.specs.Scenes.{ended_by as ended_of, least, remains}
+use Rattle.step_core.specs.Steps.{Step, begins, begun, claims, ends_on, first, is_event, leave, made_on, prepares, share, silent, step_at, stepped as stepped_by, story_after, story_by, tell}
+use Rattle.step_core.specs.Stories.{Nothing, Story, added, event_of, known, object_in, owner_in, pending, state}
+use Rattle.step_core.specs.Totals.{is_last}
+use Rattle.step_core.specs.Worlds.{Sight, half_of, scene, step_of}
+use Rattle.step_core.specs.Scenes.{walk_of}
+use Rattle.step_core.proofs.runs.Headline.{IsStep, asked, newest_is_last}
+
+-- what is left by a deed: it is the last owner's leave, or nothing
+abbrev left_by : Story → Option Deed → Option Ended
+left_by v None = None
+left_by v (Some (deed.Leave b p last)) = cond last (Some (remains ((state v).object (object_in v b)))) None
+left_by v (Some _) = None
+
+abbrev Tells : Story → Option Step → Type 0
+Tells v None = Unit {0}
+Tells v (Some x) = x.said.ended ≡ left_by v x.deed
+
+leave_tells : (v : Story) (o : Option Pointer) → ended_of (state v) o ≡ left_by v (option_map (leave (state v)) o)
+leave_tells v None = refl
+leave_tells v (Some x) = refl
+
+share_tells : (v : Story) (o : Option Pointer) → None ≡ left_by v (option_map share o)
+share_tells v None = refl
+share_tells v (Some x) = refl
+
+count_tells : (v : Story) (o : Option Pointer) → None ≡ left_by v (option_map (tell (state v)) o)
+count_tells v None = refl
+count_tells v (Some x) = refl
+
+begin_tells : (v : Story) (w : Walk) (k : ℕ) (ts : List Task) (o : Option ℕ) → Tells v (Some (begins w k ts o))
+begin_tells v w k ts None = refl
+begin_tells v w k ts (Some b) = refl
+
+first_tells : (v : Story) (d k : ℕ) (w : Walk) (ts : List Task) (a : Act) → Tells v (Some (first (state v) d w k ts a))
+first_tells v d k w ts (Make fields) = begin_tells v w k ts (least d (state v).stores)
+first_tells v d k w ts (Share i) = share_tells v (slot w.slots i)
+first_tells v d k w ts (Put i) = leave_tells v (slot w.slots i)
+first_tells v d k w ts (Leave i) = leave_tells v (slot w.slots i)
+first_tells v d k w ts (Clear i) = leave_tells v (slot w.slots i)
+first_tells v d k w ts (Count i) = count_tells v (slot w.slots i)
+
+rest_tells : (v : Story) (d : ℕ) (w : Walk) (ts : List Task) → Tells v (begun (state v) d w ts)
+rest_tells v d w [] = tt
+rest_tells v d w (t ∷ ts) = first_tells v d t.statement w ts t.act
+
+prepared_tells : (v : Story) (found want k i : ℕ) (w : Walk) (b : Block) (f : Bool) → Tells v (Some (prepares found want w k b i f))
+prepared_tells v found want k i w b true = refl
+prepared_tells v found want k i w b false = refl
+
+make_tells : (v : Story) (d i : ℕ) (w : Walk) (b : Block) (f : Bool) (ts : List Task) → Tells v (made_on v d w b i f ts)
+make_tells v d i w b f [] = tt
+make_tells v d i w b f (t ∷ ts) =
+    let found = get_or (known (pending v d)) i 0 in
+    let want = get_or (wanted (fields_of t.act)) i 0 in
+    cond_both (i == 5) (claims w t.statement ts b (fields_of t.act)) (prepares found want w t.statement b i f) (λ (x : Step). Tells v (Some x))
+    (λ e. refl) (λ e. prepared_tells v found want t.statement i w b f)
+
+end_tells : (v : Story) (stage k : ℕ) (w : Walk) (b : Block) → Tells v (Some (ends_on v w b stage k))
+end_tells v stage k w b =
+    cond_both (stage == 3)
+    (record { deed = Some (deed.Finish b (weak (state v) (object_in v b) == 0)); half = Rest; walk = w; said = silent k })
+    (record { deed = Some (deed.Clear b stage); half = Ending b (stage + 1) k; walk = w; said = silent k })
+    (λ (x : Step). Tells v (Some x)) (λ e. refl) (λ e. refl)
+
+step_tells : (v : Story) (d : ℕ) (h : Half) (w : Walk) → Tells v (step_at v d h w)
+step_tells v d Rest w = rest_tells v d w w.todo
+step_tells v d (Making b i f) w = make_tells v d i w b f w.todo
+step_tells v d (Ending b stage k) w = end_tells v stage k w b
+
+-- both answers of a step say what is said
+as_said : (v : Story) (x : Step) → ended_by (stepped_by v (Some x)) ≡ x.said.ended
+as_said v x =
+    cond_both (is_event v x.deed) (stepped.Event x.said) (stepped.Quiet x.said) (λ (r : Stepped). ended_by r ≡ x.said.ended) (λ e. refl) (λ e. refl)
+
+-- the event is a last owner's leave
+abbrev is_last_in : Option (Event Nothing) → Bool
+is_last_in None = false
+is_last_in (Some e) = is_last e
+
+module _ (u : Sight) (x : TraceStep) (u' : Sight) (step : IsStep u x u') where
+  abbrev history : List (Entry Nothing)
+  history = u.story.history
+
+  -- nobody's last owner left
+  none_left : (e : Option (Event Nothing)) → is_last_in e ≡ false → u'.story.history ≡ added (x.actor - 1) e history
+      → ended_by x.stepped ≡ None → TellsWhatIsLeft u x u'
+  none_left e none now says =
+      subst (λ (r : Option Ended). MatchOption r ((o : ℕ) → LastLeft o u x u' → ⊥)
+      (λ y. (o : ℕ) × LastLeft o u x u' × (y ≡ remains ((state u.story).object o)))) (sym says) (λ o l. never e none now o l)
+    where
+      never : (y : Option (Event Nothing)) → is_last_in y ≡ false → u'.story.history ≡ added (x.actor - 1) y u.story.history → (o : ℕ)
+          → LastLeft o u x u' → ⊥
+      never None not_last is o l = let n = ap (λ (h : List (Entry Nothing)). length h) (sym is ∙ l.left) in omega (arith, n)
+      never (Some y) not_last is o l = false≢true (sym not_last ∙ ap newest_is_last (sym is ∙ l.left))
+
+  one_left : (b : Block) (p : Option Place) → u'.story.history ≡ added (x.actor - 1) (event_of u.story (deed.Leave b p true)) history
+      → ended_by x.stepped ≡ Some (remains ((state u.story).object (object_in u.story b))) → TellsWhatIsLeft u x u'
+  one_left b p now says =
+      let o = object_in u.story b in
+      let asks = asked u x u' (event.Leave (owner_in u.story b p) true) step now in
+      let l : LastLeft o u x u' = record { owner = owner_in u.story b p; left = now; object = refl; last = eqb-true _ 1 (sym asks.1) } in
+      subst (λ (r : Option Ended). MatchOption r ((i : ℕ) → LastLeft i u x u' → ⊥)
+      (λ y. (i : ℕ) × LastLeft i u x u' × (y ≡ remains ((state u.story).object i)))) (sym says) (o, l, refl)
+
+  by_deed : (y : Option Deed) → u'.story.history ≡ (story_after u.story (x.actor - 1) y).history → ended_by x.stepped ≡ left_by u.story y
+      → TellsWhatIsLeft u x u'
+  by_deed None now says = none_left None refl now says
+  by_deed (Some (deed.Leave b p true)) now says = one_left b p now says
+  by_deed (Some (deed.Leave b p false)) now says = none_left (event_of u.story (deed.Leave b p false)) refl now says
+  by_deed (Some y) now says = none_left (event_of u.story y) refl now says
+
+  by_step : (y : Option Step) → u'.story.history ≡ (story_by u.story (x.actor - 1) y).history → x.stepped ≡ stepped_by u.story y → Tells u.story y
+      → TellsWhatIsLeft u x u'
+  by_step None now is says = none_left None refl now (ap ended_by is)
+  by_step (Some y) now is says = by_deed y.deed now (ap ended_by is ∙ as_said u.story y ∙ says)
+
+pub tells : (u : Sight) (x : TraceStep) (u' : Sight) → IsStep u x u' → TellsWhatIsLeft u x u'
+tells u x u' step =
+    let d = x.actor - 1 in
+    by_step u x u' step (step_of d u) (ap (λ (m : Sight). m.story.history) step.steps.1) step.steps.0
+    (step_tells u.story d (half_of u d) (walk_of (scene u) d))

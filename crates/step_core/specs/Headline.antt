@@ -1,0 +1,82 @@
+-- What holds after each step of a run, and of each of its steps.
+use Rattle.std.specs.Prelude.{◌≡◌, ◌≢◌, ◌↔◌, ◌⊎◌, ℕ, ◌+◌, ◌-◌, ◌<◌, ◌≤◌, Bool, true, List, [], ◌∷◌, ◌++◌, slice_index, Option, None, MatchOption}
+use Rattle.control_word.specs.declared.event.Event.{Event}
+use Rattle.control_word.specs.declared.event.Event.TheVariants.{Leave, Lock}
+use Rattle.control_word.specs.declared.handle.Handle.{Handle}
+use Rattle.control_word.specs.Handles.{object_of}
+use Rattle.control_word.specs.Histories.{entry, given}
+use Rattle.control_word.specs.Layout.{spot}
+use Rattle.control_word.specs.Packing.{number_of}
+use Rattle.control_word.specs.State.{InShape, State, common, count, live, weak}
+use Rattle.control_word.specs.Views.{IsAtRest}
+use Rattle.step_core.specs.declared.said.Ended.{Ended}
+use Rattle.step_core.specs.declared.said.Stepped.{Stepped}
+use Rattle.step_core.specs.declared.said.Stepped.TheVariants.{Event as Step, Quiet, Waited, Done}
+use Rattle.step_core.specs.declared.trace.TraceStep.{TraceStep}
+use Rattle.step_core.specs.Openings.{opening}
+use Rattle.step_core.specs.Runs.{reached}
+use Rattle.step_core.specs.Scenes.{remains}
+use Rattle.step_core.specs.Stories.{Nothing, state}
+use Rattle.step_core.specs.Worlds.{Sight}
+
+-- P holds before the first step, and after each: of what each beginning of the steps leads to (own)
+abbrev pub AfterEach : (Sight → Type 0) → Sight → List TraceStep → Type 0
+AfterEach P u steps = (before after : List TraceStep) → steps ≡ before ++ after → P (reached u before)
+
+-- R holds of each step: of what was before it, and of what is after it (own)
+abbrev pub OfEach : (Sight → TraceStep → Sight → Type 0) → Sight → List TraceStep → Type 0
+OfEach R u steps =
+    (before : List TraceStep) (x : TraceStep) (after : List TraceStep) → steps ≡ before ++ x ∷ after → R (reached u before) x (reached u (before ++ x ∷ []))
+
+-- the numbers in a block's words are those of the handles on it, in bags and cells together; the weak word has one more while
+-- there are owners ([util.smartptr.shared.obs], and own)
+pub record TellsHandles (words : List ℕ) (s : State) (b : ℕ) : Type 0 where
+  pub owners : number_of (slice_index words (spot b 0)) ≡ count s (s.latest b)
+  pub weaks : number_of (slice_index words (spot b 1)) ≡ weak s (s.latest b) + common (s.object (s.latest b)).phase
+
+-- at each block at rest the counts are exactly the handles
+abbrev pub CountsAtRest : Sight → Type 0
+CountsAtRest u = (b : ℕ) → InShape (opening u.story.extent) b → IsAtRest (state u.story) u.story.views b → TellsHandles u.story.words (state u.story) b
+
+-- the step was this event
+abbrev pub Was : Event Nothing → Sight → TraceStep → Sight → Type 0
+Was e u x u' = u'.story.history ≡ entry (x.actor - 1) e ∷ u.story.history
+
+-- a lock gave an owner exactly where one remained at its step ([util.smartptr.weak.obs])
+abbrev pub LocksWhereOwned : Sight → TraceStep → Sight → Type 0
+LocksWhereOwned u x u' = (w : Handle) (gave : Bool) → Was (Lock w gave) u x u' → (gave ≡ true) ↔ (0 < count (state u.story) (object_of w))
+
+-- each object's value came out at most once, and exactly when the object is no longer live ([util.smartptr.shared.dest])
+abbrev pub ValuesOnce : Sight → Type 0
+ValuesOnce u =
+    (o : ℕ) → 1 ≤ o → o ≤ (state u.story).made
+    → (given o u.story.history ≤ 1) × (given o u.story.history ≡ 1 ↔ ((state u.story).object o).phase ≢ live)
+
+-- the step was the leave of the last owner of o
+pub record LastLeft (o : ℕ) (u : Sight) (x : TraceStep) (u' : Sight) : Type 0 where
+  pub owner : Handle
+  pub left : Was (Leave owner true) u x u'
+  pub object : object_of owner ≡ o
+  pub last : count (state u.story) o ≡ 1
+
+-- the value came out at the step, where the last owner left, and else no step gives it
+abbrev pub ValuesAtLastLeave : Sight → TraceStep → Sight → Type 0
+ValuesAtLastLeave u x u' =
+    (o : ℕ) → (LastLeft o u x u' × (given o u.story.history ≡ 0) × (given o u'.story.history ≡ 1)) ⊎ ((LastLeft o u x u' → ⊥) × (given o u'.story.history ≡ given o u.story.history))
+
+-- what a step tells of an object whose last owner left
+abbrev pub ended_by : Stepped → Option Ended
+ended_by (Step x) = x.ended
+ended_by (Quiet x) = x.ended
+ended_by Waited = None
+ended_by Done = None
+
+-- a step tells what an object leaves just where its last owner left: the object's fields, or that it was null
+abbrev pub TellsWhatIsLeft : Sight → TraceStep → Sight → Type 0
+TellsWhatIsLeft u x u' =
+    MatchOption (ended_by x.stepped) ((o : ℕ) → LastLeft o u x u' → ⊥)
+    (λ e. (o : ℕ) × LastLeft o u x u' × (e ≡ remains ((state u.story).object o)))
+
+-- no block is in the midst of anything
+abbrev pub AllAtRest : Sight → Type 0
+AllAtRest u = (b : ℕ) → InShape (opening u.story.extent) b → IsAtRest (state u.story) u.story.views b
