@@ -18,17 +18,25 @@ use Rattle.step_core.specs.declared.course.Course.{Course}
 use Rattle.step_core.specs.declared.half.Half.{Half}
 use Rattle.step_core.specs.declared.half.Half.TheVariants.{Rest, Ending}
 use Rattle.step_core.specs.declared.holdings.Pointer.{Pointer}
-use Rattle.step_core.specs.declared.past.Deed.TheVariants.{Clear, Finish, Leave}
+use Rattle.std.specs.Prelude.{Option, Some, None}
+use Rattle.control_word.specs.declared.handle.Kind.{Kind}
+use Rattle.control_word.specs.declared.handle.Kind.TheVariants.{Owner, Weak}
+use Rattle.control_word.specs.declared.place.Place.{Place}
+use Rattle.step_core.specs.declared.past.Deed.TheVariants.{Clear, Finish, Leave, WeakLeave}
+use Rattle.step_core.specs.Deeds.{is_last, leave, leave_as}
+use Rattle.step_core.specs.Scenes.{on}
+use Rattle.step_core.specs.Steps.{end_as}
 use Rattle.step_core.specs.declared.thread.Thread.{Thread}
 use Rattle.step_core.specs.Actors.{HalfFits, IsEnding, Stocks, in_list, in_store}
-use Rattle.step_core.specs.Courses.{HasGoneOn}
+use Rattle.step_core.specs.Courses.{HasGoneOn, done_on}
+use Rattle.step_core.specs.Holdings.{Holds}
 use Rattle.step_core.specs.Openings.{opening}
 use Rattle.step_core.specs.Stocks.{Stored}
 use Rattle.step_core.specs.Stories.{Kept, Story, after, object_in, state}
-use Rattle.step_core.specs.Threads.{Fits, IsNext, fields_at}
+use Rattle.step_core.specs.Threads.{Fits, IsNext, IsStocked, IsStockedBy, fields_at}
 use Rattle.step_core.proofs.Threads.{own_pending, resting}
 use Rattle.step_core.proofs.holding.Storing.{counted_stored, one_stored}
-use Rattle.step_core.proofs.tables.Places.{ending_busy, there}
+use Rattle.step_core.proofs.tables.Places.{ending_busy, handle_busy, there}
 
 pub ends_here : (d : ℕ) (t : Thread) (v : Story) (b : Block) (i k : ℕ) → Fits d t v → t.half ≡ Ending b i k → IsEnding d b i v
 ends_here d t v b i k fits e = subst (λ (h : Half). HalfFits d h (fields_at t.course) v) e fits.half
@@ -195,27 +203,125 @@ left_ending v d x last is =
     put_cases (λ j (z : Object). z.phase ≡ ending d) (state v).object o (cond last (moved_to (ending d) y) y) o
     (λ e. ap (λ (z : Object). z.phase) (cond-true last (moved_to (ending d) y) y is)) (λ n. absurd (n refl))
 
-pub fits_leave : (d : ℕ) (t : Thread) (v : Story) (c : Course) (h : Half) (k : ℕ) (x : Pointer) (last : Bool) → Kept v → Fits d t v → t.half ≡ Rest
-    → HasGoneOn d t.course c (after v d (Leave x.block x.place last)) → h ≡ cond last (Ending x.block 0 k) Rest
-    → Fits d (record { course = c; stock = t.stock; half = h }) (after v d (Leave x.block x.place last))
-fits_leave d t v c h k x last kept fits e on is =
-    let w = after v d (Leave x.block x.place last) in
-    let s = resting d t v fits e in
-    let idle = own_pending v d (Leave x.block x.place last) kept fits.seat in
+-- where a pointer leaves that was the last owner, its object is ending in the desk's hands
+pub ending_left : (v w : Story) (d : ℕ) (o : Option Pointer) (last : Bool) (x : Pointer) → w ≡ done_on (leave (state v)) v d o
+    → last ≡ on (is_last (state v)) false o → o ≡ Some x → x.kind ≡ Owner → last ≡ true → ((state w).object (object_in w x.block)).phase ≡ ending d
+ending_left v w d o last x is said at kind t =
+    subst (λ (u : Story). ((state u).object (object_in u x.block)).phase ≡ ending d) (sym (is ∙ ap (done_on (leave (state v)) v d) at))
+    (go x.kind kind (is_last (state v) x) (sym (said ∙ ap (on (is_last (state v)) false) at) ∙ t))
+  where
+    go : (k : Kind) → k ≡ Owner → (b : Bool) → b ≡ true → let u = after v d (leave_as k x b) in ((state u).object (object_in u x.block)).phase ≡ ending d
+    go Owner e b t = left_ending v d x b t
+    go Weak e b t = cc
+
+-- a block that is vacant by a weak pointer's leave comes into the store
+left_store : (d : ℕ) (v : Story) (b : Block) (p : Option Place) (c : ℕ) → ((state v).object (object_in v b)).block ≡ b.0
+    → in_store (state (after v d (WeakLeave b p true))) d c ≡ cond (b.0 == c) 1 0 + in_store (state v) d c
+left_store d v b p c at =
+    let y = ((state v).object (object_in v b)).block in
+    let a = num_cons (same_stored (stored d c)) (stored d y) (state v).stores in
+    let o = one_stored d y c in
+    let e : ◌≡◌ {A = ℕ} (cond (y == c) 1 0) (cond (b.0 == c) 1 0) = ap (λ (k : ℕ). cond (k == c) 1 0) at in
+    omega (arith, a, o, e)
+
+left_place : (d : ℕ) (v : Story) (b : Block) (p : Option Place) (vacant : Bool) → Kept v → Kept (after v d (WeakLeave b p vacant))
+    → ((state v).object (object_in v b)).block ≡ b.0
+left_place d v b p vacant kept kept' = (there v b kept (handle_busy v d Weak b p kept kept'.stands.legal.1.asks.0.0)).0
+
+-- it has room there
+pub room_weak : (v w : Story) (d : ℕ) (t : Thread) (o : Option Pointer) (last : Bool) (x : Pointer) → Kept v → Kept w → Fits d t v → t.half ≡ Rest
+    → w ≡ done_on (leave (state v)) v d o → last ≡ on (is_last (state v)) false o → o ≡ Some x → x.kind ≡ Weak → last ≡ true
+    → length t.stock.blocks < t.stock.room
+room_weak v w d t o last x kept kept' fits e is said at kind ended =
+    go x.kind kind (is_last (state v) x) (sym (said ∙ ap (on (is_last (state v)) false) at) ∙ ended)
+    (subst (λ (u : Story). Kept u) (is ∙ ap (done_on (leave (state v)) v d) at) kept')
+  where
+    go : (k : Kind) → k ≡ Weak → (b : Bool) → b ≡ true → Kept (after v d (leave_as k x b)) → length t.stock.blocks < t.stock.room
+    go Owner e b q kept' = cc
+    go Weak k b q kept' =
+        let later : Kept (after v d (WeakLeave x.block x.place true)) = subst (λ (z : Bool). Kept (after v d (WeakLeave x.block x.place z))) q kept' in
+        let s = resting d t v fits e in
+        let f = store_few d (after v d (WeakLeave x.block x.place true)) (x.block.0 ∷ t.stock.blocks) later
+        (λ c. let g = left_store d v x.block x.place c (left_place d v x.block x.place true kept later) in
+        let a = sum_by-cons (λ (y : ℕ). cond (y == c) 1 0) x.block.0 t.stock.blocks in
+        let o = s.stocked c in omega (arith, g, a, o)) in
+        let r = s.roomy in omega (arith, f, r)
+
+-- the stock after a pointer left
+stocks_left : (d : ℕ) (t : Thread) (v : Story) (x : Pointer) (s : Stored) (k : Kind) (b : Bool) (n : ℕ) → Kept v → Fits d t v → t.half ≡ Rest
+    → Kept (after v d (leave_as k x b)) → IsStocked k x.block.0 b t.stock s
+    → Stocks d s.blocks s.room (cond b (end_as k n x.block) Rest) (after v d (leave_as k x b))
+stocks_left d t v x s Owner true n kept fits e kept' is =
+    let y = resting d t v fits e in subst (λ (z : Stored). Stocks d z.blocks z.room (Ending x.block 0 n) (after v d (leave_as Owner x true))) (sym is)
+    (record { stocked = y.stocked; roomy = y.roomy })
+stocks_left d t v x s Owner false n kept fits e kept' is =
+    let y = resting d t v fits e in subst (λ (z : Stored). Stocks d z.blocks z.room Rest (after v d (leave_as Owner x false))) (sym is)
+    (record { stocked = y.stocked; roomy = y.roomy })
+stocks_left d t v x s Weak true n kept fits e kept' is =
+    let y = resting d t v fits e in
     record {
-      seat = fits.seat;
+      stocked = λ c.
+          let g = left_store d v x.block x.place c (left_place d v x.block x.place true kept kept') in
+          let a = sum_by_pushed (λ (y : ℕ). cond (y == c) 1 0) x.block.0 t.stock.blocks s.blocks is.0 in
+          let o = y.stocked c in omega (arith, g, a, o);
+      roomy = (let r = y.roomy in let q = is.1 in omega (arith, r, q));
+    }
+stocks_left d t v x s Weak false n kept fits e kept' is =
+    let y = resting d t v fits e in subst (λ (z : Stored). Stocks d z.blocks z.room Rest (after v d (leave_as Weak x false))) (sym is)
+    (record { stocked = y.stocked; roomy = y.roomy })
+
+half_left : (d : ℕ) (t : Thread) (v : Story) (c : Course) (x : Pointer) (k : Kind) (b : Bool) (n : ℕ) → Kept v → Fits d t v
+    → HalfFits d (cond b (end_as k n x.block) Rest) (fields_at c) (after v d (leave_as k x b)) × IsNext (cond b (end_as k n x.block) Rest) c
+half_left d t v c x Owner true n kept fits = (
+  record { idle = own_pending v d (Leave x.block x.place true) kept fits.seat; ending = left_ending v d x true refl; within = omega arith },
+  tt,
+)
+half_left d t v c x Owner false n kept fits = (own_pending v d (Leave x.block x.place false) kept fits.seat, tt)
+half_left d t v c x Weak true n kept fits = (own_pending v d (WeakLeave x.block x.place true) kept fits.seat, tt)
+half_left d t v c x Weak false n kept fits = (own_pending v d (WeakLeave x.block x.place false) kept fits.seat, tt)
+
+fits_leaving : (d : ℕ) (t : Thread) (v : Story) (c : Course) (s : Stored) (n : ℕ) (x : Pointer) (k : Kind) (b : Bool) → Kept v → Fits d t v → t.half ≡ Rest
+    → Kept (after v d (leave_as k x b)) → HasGoneOn d t.course c (after v d (leave_as k x b)) → IsStocked k x.block.0 b t.stock s
+    → Fits d (record { course = c; stock = s; half = cond b (end_as k n x.block) Rest }) (after v d (leave_as k x b))
+fits_leaving d t v c s n x k b kept fits e kept' on is =
+    let h = half_left d t v c x k b n kept fits in
+    record {
+      seat = seat k b;
       holds = on.holds;
       within = on.within;
       ready = on.ready;
       still = on.still;
-      half =
-          subst (λ (g : Half). HalfFits d g (fields_at c) w) (sym is)
-          (cond_both last (Ending x.block 0 k) Rest (λ (g : Half). HalfFits d g (fields_at c) w)
-          (λ q. record { idle = idle; ending = left_ending v d x last q; within = omega arith }) (λ q. idle));
-      next =
-          subst (λ (g : Half). IsNext g c) (sym is) (cond_both last (Ending x.block 0 k) Rest (λ (g : Half). IsNext g c) (λ q. tt) (λ q. tt));
-      stocks =
-          subst (λ (g : Half). Stocks d t.stock.blocks t.stock.room g w) (sym is)
-          (cond_both last (Ending x.block 0 k) Rest (λ (g : Half). Stocks d t.stock.blocks t.stock.room g w)
-          (λ q. record { stocked = s.stocked; roomy = s.roomy }) (λ q. record { stocked = s.stocked; roomy = s.roomy }));
+      half = h.0;
+      next = h.1;
+      stocks = stocks_left d t v x s k b n kept fits e kept' is;
     }
+  where
+    seat : (k : Kind) (b : Bool) → d < (after v d (leave_as k x b)).extent.actors
+    seat k b = fits.seat
+
+-- a thread after it left what a slot held
+pub fits_left : (d : ℕ) (t t' : Thread) (v w : Story) (n : ℕ) (o : Option Pointer) (last : Bool) → Kept v → Kept w → Fits d t v → t.half ≡ Rest
+    → w ≡ done_on (leave (state v)) v d o → last ≡ on (is_last (state v)) false o → HasGoneOn d t.course t'.course w
+    → t'.half ≡ on (λ x. cond last (end_as x.kind n x.block) Rest) Rest o → IsStockedBy o last t.stock t'.stock → Fits d t' w
+fits_left d t t' v w n None last kept kept' fits e is said on half stock =
+    let idle : HalfFits d Rest (fields_at t.course) v = subst (λ (h : Half). HalfFits d h (fields_at t.course) v) e fits.half in
+    subst (λ (h : Half). Fits d (record { course = t'.course; stock = t'.stock; half = h }) w) (sym half)
+    (subst (λ (u : Story). Fits d (record { course = t'.course; stock = t'.stock; half = Rest }) u) (sym is)
+    (subst (λ (s : Stored). Fits d (record { course = t'.course; stock = s; half = Rest }) v) (sym stock)
+    (record {
+      seat = fits.seat;
+      holds = subst (λ (u : Story). Holds d t'.course.holdings.slots.items u) is on.holds;
+      within = on.within;
+      ready = on.ready;
+      still = on.still;
+      half = idle;
+      next = tt;
+      stocks = resting d t v fits e;
+    })))
+fits_left d t t' v w n (Some x) last kept kept' fits e is said on half stock =
+    let b = is_last (state v) x in
+    let h : t'.half ≡ cond b (end_as x.kind n x.block) Rest = half ∙ ap (λ (q : Bool). cond q (end_as x.kind n x.block) Rest) said in
+    subst (λ (h : Half). Fits d (record { course = t'.course; stock = t'.stock; half = h }) w) (sym h)
+    (subst (λ (u : Story). Fits d (record { course = t'.course; stock = t'.stock; half = cond b (end_as x.kind n x.block) Rest }) u) (sym is)
+    (fits_leaving d t v t'.course t'.stock n x x.kind b kept fits e (subst (λ (u : Story). Kept u) is kept')
+    (subst (λ (u : Story). HasGoneOn d t.course t'.course u) is on) (subst (λ (q : Bool). IsStocked x.kind x.block.0 q t.stock t'.stock) said stock)))

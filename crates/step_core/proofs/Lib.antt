@@ -5,6 +5,7 @@ pub mod holding
 pub mod Courses
 pub mod Threads
 pub mod Endings
+pub mod Leaving
 pub mod Steps
 pub mod Worlds
 pub mod Openings

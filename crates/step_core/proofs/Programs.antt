@@ -1,5 +1,6 @@
 -- What the tests of a program find.
-use Rattle.std.proofs.Common.{◌≡◌, ℕ, ◌+◌, ◌<◌, ◌≤◌, Bool, true, false, List, [], ◌∷◌, ◌++◌, length, map, take, get_or, sym, ap, subst, ◌∙◌, arith}
+use Rattle.std.proofs.Common.{◌≡◌, ◌≢◌, ℕ, zero, suc, ◌+◌, ◌<◌, ◌≤◌, Bool, true, false, List, [], ◌∷◌, ◌++◌, length, map, take, get_or, refl, sym, ap, subst, ◌∙◌, ⊎_elim, arith}
+use Rattle.std.proofs.lemmas.Bool.{cases_eq}
 use Rattle.std.specs.Prelude.{All, IsTrue, sum_by}
 use Rattle.std.proofs.lemmas.List.{get_or-map, length-map, map_push, take-map, take_more}
 use Rattle.std.proofs.lemmas.List.Sums.{sum_by-take-le, sum_by_push}
@@ -52,3 +53,15 @@ more_calls actors i n a lt is sum =
     let v = ap (λ (l : List Part). sum_by g l) w in
     let u : length a.calls.items ≡ length (get_or actors i a).calls.items = ap (λ (x : Actor). length x.calls.items) is in
     omega (arith, s, whole, v, u, sum)
+
+-- what holds of the elements before one, and of that one
+pub held_by_more : {X : Type 0} (P : X → Type 0) (xs : List X) (i : ℕ) (x : X) → ((k : ℕ) (d : X) → k < i → P (get_or xs k d)) → i < length xs
+    → P (get_or xs i x) → (k : ℕ) (d : X) → k < i + 1 → P (get_or xs k d)
+held_by_more P xs i x before inside here k d lt =
+    ⊎_elim (λ (e : k ≡ i). subst (λ (j : ℕ). P (get_or xs j d)) (sym e) (subst P (any xs i x d inside) here))
+    (λ (n : k ≢ i). before k d (omega (arith, lt, n))) (cases_eq k i)
+  where
+    any : {X : Type 0} (xs : List X) (i : ℕ) (x d : X) → i < length xs → get_or xs i x ≡ get_or xs i d
+    any [] i x d lt = absurd (omega arith)
+    any (y ∷ ys) zero x d lt = refl
+    any (y ∷ ys) (suc i) x d lt = any ys i x d (omega arith)

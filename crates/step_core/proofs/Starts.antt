@@ -12,6 +12,7 @@ use Rattle.step_core.specs.declared.call.Call.{Call}
 use Rattle.step_core.specs.declared.call.Call.TheVariants as call
 use Rattle.step_core.specs.declared.call.Kind.{Kind}
 use Rattle.step_core.specs.declared.call.Kind.TheVariants.{Owner}
+use Rattle.step_core.specs.declared.call.Kind.TheVariants as kind
 use Rattle.step_core.specs.declared.call.Name.{Name}
 use Rattle.step_core.specs.declared.extent.Extent.{Extent}
 use Rattle.step_core.specs.declared.holdings.Pointer.{Pointer}
@@ -73,6 +74,26 @@ call_ready kinds k (call.Copy t s) ts named four r = (
   (name_within kinds (call.Copy t s) 0 (t, Owner) (omega arith) refl named, r),
 )
 call_ready kinds k (call.Count t) ts named four r = (name_within kinds (call.Count t) 0 (t, Owner) (omega arith) refl named, r)
+call_ready kinds k (call.WeakEmpty t) ts named four r = (name_within kinds (call.WeakEmpty t) 0 (t, kind.Weak) (omega arith) refl named, r)
+call_ready kinds k (call.WeakReset t) ts named four r = (name_within kinds (call.WeakReset t) 0 (t, kind.Weak) (omega arith) refl named, r)
+call_ready kinds k (call.WeakCount t) ts named four r = (name_within kinds (call.WeakCount t) 0 (t, kind.Weak) (omega arith) refl named, r)
+call_ready kinds k (call.Expired t) ts named four r = (name_within kinds (call.Expired t) 0 (t, kind.Weak) (omega arith) refl named, r)
+call_ready kinds k (call.Weak t s) ts named four r = (
+  (name_within kinds (call.Weak t s) 1 (s, Owner) (omega arith) refl named, refl),
+  (name_within kinds (call.Weak t s) 0 (t, kind.Weak) (omega arith) refl named, r),
+)
+call_ready kinds k (call.WeakCopy t s) ts named four r = (
+  (name_within kinds (call.WeakCopy t s) 1 (s, kind.Weak) (omega arith) refl named, refl),
+  (name_within kinds (call.WeakCopy t s) 0 (t, kind.Weak) (omega arith) refl named, r),
+)
+call_ready kinds k (call.Lock t s) ts named four r = (
+  (name_within kinds (call.Lock t s) 1 (s, kind.Weak) (omega arith) refl named, refl),
+  (name_within kinds (call.Lock t s) 0 (t, Owner) (omega arith) refl named, r),
+)
+call_ready kinds k (call.Upgrade t s) ts named four r = (
+  (name_within kinds (call.Upgrade t s) 1 (s, kind.Weak) (omega arith) refl named, refl),
+  (name_within kinds (call.Upgrade t s) 0 (t, Owner) (omega arith) refl named, r),
+)
 
 tasks_ready : (kinds : List Kind) (k : ℕ) (calls : List Call) → All (IsWellNamed kinds) calls → All HasFields calls
     → Ready (length kinds) false (tasks_from k calls (length kinds))

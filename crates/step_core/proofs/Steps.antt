@@ -4,7 +4,7 @@ use Rattle.std.specs.Prelude.{Option, Some, None, is_some, option_map}
 use Rattle.step_core.specs.declared.act.Act.{Act}
 use Rattle.step_core.specs.declared.act.Task.{Task}
 use Rattle.step_core.specs.declared.half.Half.{Half}
-use Rattle.step_core.specs.declared.half.Half.TheVariants.{Rest, Making, Ending}
+use Rattle.step_core.specs.declared.half.Half.TheVariants.{Rest, Making, Ending, Locking}
 use Rattle.step_core.specs.declared.holdings.Pointer.{Pointer}
 use Rattle.step_core.specs.declared.past.Deed.{Deed}
 use Rattle.step_core.specs.declared.said.Said.{Said}
@@ -13,8 +13,8 @@ use Rattle.step_core.specs.declared.said.Stepped.TheVariants.{Event, Quiet}
 use Rattle.step_core.specs.declared.thread.Thread.{Thread}
 use Rattle.step_core.specs.Courses.{done_on, rest, task_at, walk}
 use Rattle.step_core.specs.Holdings.{is_full}
-use Rattle.step_core.specs.Steps.{Step, begun, ends_on, first, half_by, is_event, made_on, step_at, stepped, story_after, story_by, walk_by}
-use Rattle.step_core.specs.Stories.{Story, event_of, state}
+use Rattle.step_core.specs.Steps.{Step, begun, ends_on, first, half_by, is_event, made_on, step_at, stepped, story_after, story_by, tried, walk_by}
+use Rattle.step_core.specs.Stories.{Story, event_of}
 use Rattle.step_core.specs.Threads.{HasStepped}
 use Rattle.step_core.proofs.Courses.{todo_at}
 use Rattle.control_word.specs.declared.place.Block.{Block}
@@ -32,17 +32,23 @@ stepped_as d t v x r t' v' is answer story walked half =
 
 -- at rest the next act comes
 pub at_rest : (d : ℕ) (t : Thread) (v : Story) (a : Act) → t.half ≡ Rest → t.course.at < length t.course.tasks.items → (task_at t.course).act ≡ a
-    → step_at v d t.half (walk t.course) ≡ Some (first (state v) d (walk t.course) (task_at t.course).statement (rest t.course) a)
+    → step_at v d t.half (walk t.course) ≡ Some (first v d (walk t.course) (task_at t.course).statement (rest t.course) a)
 at_rest d t v a e lt act =
     let w = walk t.course in
-    ap (λ (h : Half). step_at v d h w) e ∙ ap (λ (ts : List Task). begun (state v) d w ts) (todo_at t.course lt)
-    ∙ ap (λ (b : Act). Some (first (state v) d w (task_at t.course).statement (rest t.course) b)) act
+    ap (λ (h : Half). step_at v d h w) e ∙ ap (λ (ts : List Task). begun v d w ts) (todo_at t.course lt)
+    ∙ ap (λ (b : Act). Some (first v d w (task_at t.course).statement (rest t.course) b)) act
 
 pub at_make : (d : ℕ) (t : Thread) (v : Story) (b : Block) (i : ℕ) (f : Bool) → t.half ≡ Making b i f → t.course.at < length t.course.tasks.items
     → step_at v d t.half (walk t.course) ≡ made_on v d (walk t.course) b i f (task_at t.course ∷ rest t.course)
 at_make d t v b i f e lt =
     let w = walk t.course in
     ap (λ (h : Half). step_at v d h w) e ∙ ap (λ (ts : List Task). made_on v d w b i f ts) (todo_at t.course lt)
+
+pub at_lock : (d : ℕ) (t : Thread) (v : Story) (word : ℕ) → t.half ≡ Locking word → t.course.at < length t.course.tasks.items
+    → step_at v d t.half (walk t.course) ≡ tried v d (walk t.course) word (task_at t.course ∷ rest t.course)
+at_lock d t v word e lt =
+    let w = walk t.course in
+    ap (λ (h : Half). step_at v d h w) e ∙ ap (λ (ts : List Task). tried v d w word ts) (todo_at t.course lt)
 
 pub at_end : (d : ℕ) (t : Thread) (v : Story) (b : Block) (i k : ℕ) → t.half ≡ Ending b i k
     → step_at v d t.half (walk t.course) ≡ Some (ends_on v (walk t.course) b i k)

@@ -14,7 +14,7 @@ use Rattle.control_word.specs.State.{Has, stored}
 use Rattle.control_word.specs.Steps.{known_of}
 use Rattle.control_word.specs.Views.{used_up}
 use Rattle.step_core.specs.declared.act.Act.{Act}
-use Rattle.step_core.specs.declared.act.Act.TheVariants.{Make, Share, Put, Leave, Clear, Count}
+use Rattle.step_core.specs.declared.act.Act.TheVariants.{Make, Share, Downgrade, Lock, Put, Leave, Clear, Count, Expired}
 use Rattle.step_core.specs.declared.act.Task.{Task}
 use Rattle.step_core.specs.declared.course.Course.{Course}
 use Rattle.step_core.specs.declared.half.Half.{Half}
@@ -45,6 +45,9 @@ weaker n (Put k) b = b
 weaker n (Leave k) b = b
 weaker n (Clear k) b = b
 weaker n (Count k) b = b
+weaker n (Downgrade k) b = (b.0, refl)
+weaker n (Lock k must) b = (b.0, refl)
+weaker n (Expired k) b = b
 
 ready_more : (n : ℕ) (act : Act) (ts : List Task) → (Ready n true ts → Ready n false ts) → Ready n (taken_after act true) ts
     → Ready n (taken_after act false) ts
@@ -54,6 +57,9 @@ ready_more n (Put k) ts f r = r
 ready_more n (Leave k) ts f r = f r
 ready_more n (Clear k) ts f r = f r
 ready_more n (Count k) ts f r = f r
+ready_more n (Downgrade k) ts f r = r
+ready_more n (Lock k must) ts f r = r
+ready_more n (Expired k) ts f r = f r
 
 -- what is ready for a value in hand is ready for none
 ready_any : (n : ℕ) (ts : List Task) → Ready n true ts → Ready n false ts
@@ -65,6 +71,26 @@ pub make_empty : (c : Course) (fields : List ℕ) → c.at < length c.tasks.item
 make_empty c fields lt ready act =
     let b : Begins (hand c.holdings.slots.items) c.taken (Make fields) = subst (Begins (hand c.holdings.slots.items) c.taken) act
     (ready_head c lt ready).0 in b.0
+
+-- a lock that gives no owner takes an empty value, or nothing where it is refused
+pub lost_ready : (c : Course) (k : ℕ) (must : Bool) → c.at < length c.tasks.items → CourseReady c → (task_at c).act ≡ Lock k must
+    → IsReady c.holdings.slots.items (not must) (rest c)
+lost_ready c k must lt ready act =
+    let h = ready_head c lt ready in
+    let n = hand c.holdings.slots.items in
+    let b : Begins n c.taken (Lock k must) = subst (Begins n c.taken) act h.0 in
+    let r : Ready n true (rest c) = subst (λ (a : Act). Ready n (taken_after a c.taken) (rest c)) act h.1 in
+    record { some = ready.some; free = λ e. ready.free b.1; ready = go must r }
+  where
+    go : (m : Bool) → Ready (hand c.holdings.slots.items) true (rest c) → Ready (hand c.holdings.slots.items) (not m) (rest c)
+    go true r = ready_any (hand c.holdings.slots.items) (rest c) r
+    go false r = r
+
+-- a lock that gives an owner takes it
+pub won_ready : (c : Course) (k : ℕ) (must : Bool) → c.at < length c.tasks.items → CourseReady c → (task_at c).act ≡ Lock k must
+    → Ready (hand c.holdings.slots.items) true (rest c)
+won_ready c k must lt ready act =
+    let h = ready_head c lt ready in subst (λ (a : Act). Ready (hand c.holdings.slots.items) (taken_after a c.taken) (rest c)) act h.1
 
 -- a make that is refused takes nothing
 pub refused_ready : (c : Course) (fields : List ℕ) → c.at < length c.tasks.items → CourseReady c → (task_at c).act ≡ Make fields

@@ -9,7 +9,7 @@ use Rattle.step_core.specs.declared.course.Course.{Course}
 use Rattle.step_core.specs.declared.past.Deed.{Deed}
 use Rattle.step_core.specs.declared.said.Stepped.{Stepped}
 use Rattle.step_core.specs.declared.half.Half.{Half}
-use Rattle.step_core.specs.declared.half.Half.TheVariants.{Rest, Making, Ending}
+use Rattle.step_core.specs.declared.half.Half.TheVariants.{Rest, Making, Ending, Locking}
 use Rattle.step_core.specs.declared.thread.Thread.{Thread}
 use Rattle.step_core.specs.Actors.{HalfFits}
 use Rattle.step_core.specs.Courses.{Walk, todo, walk}
@@ -17,7 +17,7 @@ use Rattle.step_core.specs.Scenes.{nowhere, walk_of}
 use Rattle.step_core.specs.Steps.{Step, half_by, step_at, stepped, story_after, story_by, walk_by}
 use Rattle.step_core.specs.Stories.{Kept, Story, after}
 use Rattle.step_core.specs.Threads.{Fits, HasStepped, IsNext, fields_at}
-use Rattle.step_core.specs.Turning.{HasBegun, IsUnderWay}
+use Rattle.step_core.specs.Turning.{HasBegun, IsLock, IsTried, IsUnderWay}
 use Rattle.step_core.specs.Worlds.{AllFit, Sight, Steps, half_of, scene, step_of, thread_half, thread_walk}
 use Rattle.step_core.proofs.Courses.{todo_at}
 use Rattle.step_core.proofs.holding.Others.{half_others, holds_others, stocks_others}
@@ -109,6 +109,13 @@ begun_of d Rest c v fits next = tt
 begun_of d (Making b i differs) c v fits next =
     subst (λ (ts : List Task). IsUnderWay d v (Making b i differs) ts) (sym (todo_at c next.0)) (fits.within, fits.least, next.1)
 begun_of d (Ending b stage k) c v fits next = fits.within
+begun_of d (Locking word) c v fits next = tt
+
+tried_of : (h : Half) (c : Course) → IsNext h c → IsTried h (walk c)
+tried_of Rest c next = tt
+tried_of (Making b i differs) c next = tt
+tried_of (Ending b stage k) c next = tt
+tried_of (Locking word) c next = subst (λ (ts : List Task). IsLock c.holdings.slots.items ts) (sym (todo_at c next.0)) next.1
 
 pub has_begun : (v : Story) (threads : List Thread) (n : ℕ) (t : Thread) → n < length threads → t ≡ get_or threads n t → Fits n t v
     → HasBegun n (sight v threads)
@@ -117,6 +124,9 @@ has_begun v threads n t lt read fits =
     let w : get_or (map thread_walk threads) n nowhere ≡ walk t.course = get_or-map thread_walk threads n t nowhere lt ∙ ap thread_walk (sym read) in
     record {
       within = (let m = length-map threads thread_half in omega (arith, m, lt));
+      tried =
+          subst (λ (k : Walk). IsTried (get_or (map thread_half threads) n Rest) k) (sym w)
+          (subst (λ (k : Half). IsTried k (walk t.course)) (sym h) (tried_of t.half t.course fits.next));
       half =
           subst (λ (k : Walk). IsUnderWay n v (get_or (map thread_half threads) n Rest) k.todo) (sym w)
           (subst (λ (k : Half). IsUnderWay n v k (todo t.course)) (sym h) (begun_of n t.half t.course v fits.half fits.next));

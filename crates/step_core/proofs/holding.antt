@@ -1,4 +1,5 @@
 pub mod Least
+pub mod Locking
 pub mod Others
 pub mod Owning
 pub mod Slots

@@ -1,5 +1,6 @@
 pub mod Calm
 pub mod Endings
+pub mod Locks
 pub mod Making
 pub mod Owners
 pub mod Places
@@ -7,3 +8,4 @@ pub mod Reading
 pub mod Standing
 pub mod Start
 pub mod Values
+pub mod Weaks

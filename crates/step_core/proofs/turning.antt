@@ -1,5 +1,6 @@
 pub mod Chains
 pub mod Ending
+pub mod Locking
 pub mod Making
 pub mod Playing
 pub mod Turns

@@ -5,7 +5,7 @@ use Rattle.control_word.specs.declared.place.Block.{Block}
 use Rattle.control_word.specs.declared.view.Pending.TheVariants.{Idle}
 use Rattle.control_word.specs.State.{State, ending, same_stored, stored}
 use Rattle.step_core.specs.declared.half.Half.{Half}
-use Rattle.step_core.specs.declared.half.Half.TheVariants.{Rest, Making, Ending}
+use Rattle.step_core.specs.declared.half.Half.TheVariants.{Rest, Making, Ending, Locking}
 use Rattle.step_core.specs.Scenes.{least}
 use Rattle.step_core.specs.Stories.{IsMaking, Story, known, object_in, pending, state}
 
@@ -21,6 +21,7 @@ abbrev pub claimed : Half → ℕ → ℕ
 claimed Rest b = 0
 claimed (Making c i differs) b = cond (c.0 == b) 1 0
 claimed (Ending c at k) b = 0
+claimed (Locking found) b = 0
 
 -- The stock has just the desk's vacant blocks, but for the one that a making took
 pub record Stocks (d : ℕ) (blocks : List ℕ) (room : ℕ) (half : Half) (v : Story) : Type 0 where
@@ -48,3 +49,4 @@ abbrev pub HalfFits : ℕ → Half → List ℕ → Story → Type 0
 HalfFits d Rest fields v = pending v d ≡ Idle
 HalfFits d (Making b i differs) fields v = IsPrepared d b i fields v
 HalfFits d (Ending b at k) fields v = IsEnding d b at v
+HalfFits d (Locking found) fields v = (pending v d ≡ Idle) × (0 < found)

@@ -1,10 +1,12 @@
 -- What statements do, act by act. All of it is own.
-use Rattle.std.specs.Prelude.{ℕ, zero, suc, ◌+◌, List, [], ◌∷◌, ◌++◌}
+use Rattle.std.specs.Prelude.{ℕ, zero, suc, ◌+◌, true, false, List, [], ◌∷◌, ◌++◌, Option, Some, None}
 use Rattle.step_core.specs.declared.act.Act.{Act}
 use Rattle.step_core.specs.declared.act.Act.TheVariants as act
 use Rattle.step_core.specs.declared.act.Task.{Task}
 use Rattle.step_core.specs.declared.call.Call.{Call}
+use Rattle.step_core.specs.declared.call.Name.{Name}
 use Rattle.step_core.specs.declared.call.Call.TheVariants.{Make, Empty, Reset, Copy, Count}
+use Rattle.step_core.specs.declared.call.Call.TheVariants.{Weak, WeakCopy, WeakEmpty, WeakReset, Lock, Upgrade, WeakCount, Expired}
 
 -- the acts of a statement, in order
 abbrev pub acts : Call → List Act
@@ -13,6 +15,19 @@ acts (Empty target) = act.Leave target.0 ∷ []
 acts (Reset name) = act.Leave name.0 ∷ []
 acts (Copy target source) = act.Share source.0 ∷ act.Put target.0 ∷ []
 acts (Count name) = act.Count name.0 ∷ []
+acts (Weak target source) = act.Downgrade source.0 ∷ act.Put target.0 ∷ []
+acts (WeakCopy target source) = act.Share source.0 ∷ act.Put target.0 ∷ []
+acts (WeakEmpty target) = act.Leave target.0 ∷ []
+acts (WeakReset name) = act.Leave name.0 ∷ []
+acts (Lock target source) = act.Lock source.0 false ∷ act.Put target.0 ∷ []
+acts (Upgrade target source) = act.Lock source.0 true ∷ act.Put target.0 ∷ []
+acts (WeakCount name) = act.Count name.0 ∷ []
+acts (Expired name) = act.Expired name.0 ∷ []
+
+-- what was taken goes to its name
+abbrev pub puts : Option Name → List Act
+puts None = []
+puts (Some name) = act.Put name.0 ∷ []
 
 abbrev pub numbered : ℕ → List Act → List Task
 numbered k [] = []

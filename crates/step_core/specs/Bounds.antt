@@ -1,17 +1,19 @@
 -- How many steps a world has left at most. All of it is own.
 use Rattle.std.specs.Prelude.{ℕ, ◌+◌, ◌-◌, ◌*◌, cond, length, sum_by}
 use Rattle.step_core.specs.declared.half.Half.{Half}
-use Rattle.step_core.specs.declared.half.Half.TheVariants.{Rest, Making, Ending}
+use Rattle.step_core.specs.declared.half.Half.TheVariants.{Rest, Making, Ending, Locking}
 use Rattle.step_core.specs.declared.thread.Thread.{Thread}
 use Rattle.step_core.specs.Told.{left_to_do}
 use Rattle.step_core.specs.Worlds.{Sight}
 
 -- A task takes 13 steps at most: a make prepares its block, looks at five words and writes them, and claims. A thread at rest
--- has 13 more to spare, which what it begins uses up
+-- has 13 more to spare, which what it begins uses up. A lock that is tried keeps them all: where others changed its word it may
+-- have to begin again
 abbrev pub spare : Half → ℕ
 spare Rest = 13
 spare (Making b i differs) = 2 * (5 - i) + cond differs 1 2
 spare (Ending b stage k) = 13 + (4 - stage)
+spare (Locking word) = 13
 
 abbrev pub most_steps : Sight → ℕ
 most_steps u = 13 * left_to_do u.walks + sum_by spare u.halves

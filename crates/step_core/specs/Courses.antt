@@ -1,10 +1,10 @@
 -- How a thread goes on from act to act. All of it is own.
 use Rattle.std.specs.Prelude.{◌≡◌, ℕ, ◌+◌, ◌-◌, ◌<◌, ◌≤◌, Bool, true, false, cond, not, ◌&&◌, List, [], ◌∷◌, length, drop, get_or, slice_set, Option, Some, None}
 use Rattle.step_core.specs.declared.act.Act.{Act}
-use Rattle.step_core.specs.declared.act.Act.TheVariants.{Make, Share, Put, Leave, Clear, Count}
+use Rattle.step_core.specs.declared.act.Act.TheVariants.{Make, Share, Downgrade, Lock, Put, Leave, Clear, Count, Expired}
 use Rattle.step_core.specs.declared.act.Task.{Task}
 use Rattle.step_core.specs.declared.course.Course.{Course}
-use Rattle.step_core.specs.Holdings.{Holds, Slots, is_full, slot}
+use Rattle.step_core.specs.Holdings.{Holds, Slots, is_full, slot, weak_slot}
 use Rattle.control_word.specs.declared.view.Pending.TheVariants.{Idle}
 use Rattle.step_core.specs.declared.holdings.Pointer.{Pointer}
 use Rattle.step_core.specs.declared.past.Deed.{Deed}
@@ -17,20 +17,18 @@ hand slots = length slots - 1
 -- the fields that an act wants, where it makes an object
 abbrev pub fields_of : Act → List ℕ
 fields_of (Make fields) = fields
-fields_of (Share k) = []
-fields_of (Put k) = []
-fields_of (Leave k) = []
-fields_of (Clear k) = []
-fields_of (Count k) = []
+fields_of _ = []
+
+-- the weak handle that an act locks
+abbrev pub locked : Slots → Act → Option Pointer
+locked slots (Lock k must) = weak_slot (slot slots k)
+locked slots _ = None
 
 -- a task that is no act where it comes
 abbrev pub idle : Act → Slots → Bool → Bool
 idle (Put k) slots taken = not (taken && is_full (slot slots k))
 idle (Clear k) slots taken = not (is_full (slot slots k))
-idle (Make fields) slots taken = false
-idle (Share k) slots taken = false
-idle (Leave k) slots taken = false
-idle (Count k) slots taken = false
+idle _ slots taken = false
 
 -- the value in hand is in slot k
 abbrev pub placed : ℕ → Slots → Slots
@@ -39,19 +37,11 @@ placed k slots = slice_set (slice_set slots k (slot slots (hand slots))) (hand s
 -- what a task leaves that is idle
 abbrev pub slots_idle : Act → Slots → Bool → Slots
 slots_idle (Put k) slots taken = cond taken (placed k slots) slots
-slots_idle (Clear k) slots taken = slots
-slots_idle (Make fields) slots taken = slots
-slots_idle (Share k) slots taken = slots
-slots_idle (Leave k) slots taken = slots
-slots_idle (Count k) slots taken = slots
+slots_idle _ slots taken = slots
 
 abbrev pub taken_idle : Act → Bool → Bool
 taken_idle (Put k) taken = false
-taken_idle (Clear k) taken = taken
-taken_idle (Make fields) taken = taken
-taken_idle (Share k) taken = taken
-taken_idle (Leave k) taken = taken
-taken_idle (Count k) taken = taken
+taken_idle _ taken = taken
 
 pub record Walk : Type 0 where
   pub slots : Slots
@@ -72,14 +62,17 @@ Begins n taken (Put k) = k < n
 Begins n taken (Leave k) = k < n
 Begins n taken (Clear k) = k < n
 Begins n taken (Count k) = k < n
+Begins n taken (Downgrade k) = (k < n) × (taken ≡ false)
+Begins n taken (Lock k must) = (k < n) × (taken ≡ false)
+Begins n taken (Expired k) = k < n
 
 abbrev pub taken_after : Act → Bool → Bool
 taken_after (Make fields) taken = true
 taken_after (Share k) taken = true
+taken_after (Downgrade k) taken = true
+taken_after (Lock k must) taken = true
 taken_after (Put k) taken = false
-taken_after (Leave k) taken = taken
-taken_after (Clear k) taken = taken
-taken_after (Count k) taken = taken
+taken_after _ taken = taken
 
 abbrev pub Ready : ℕ → Bool → List Task → Type 0
 Ready n taken [] = Unit {0}

@@ -2,10 +2,12 @@
 use Rattle.std.specs.Prelude.{◌≡◌, ℕ, Bool, true, false, List, length, get_or, Option, Some, None}
 use Rattle.std.specs.List.{filter}
 use Rattle.control_word.specs.declared.handle.Handle.{Handle}
+use Rattle.control_word.specs.declared.handle.Kind.{Kind}
+use Rattle.control_word.specs.declared.handle.Kind.TheVariants.{Owner, Weak}
 use Rattle.control_word.specs.Handles.{same_handle, IsPointer}
 use Rattle.control_word.specs.State.{State, bag_size, held, same_held}
 use Rattle.step_core.specs.declared.holdings.Pointer.{Pointer}
-use Rattle.step_core.specs.Stories.{Story, owner_in, state}
+use Rattle.step_core.specs.Stories.{Story, handle_in, state}
 
 abbrev pub Slots : Type 0
 Slots = List (Option Pointer)
@@ -19,11 +21,20 @@ times s d h = length (filter (same_held (held d h)) s.hands)
 
 abbrev pub is_it : Story → Handle → Option Pointer → Bool
 is_it v h None = false
-is_it v h (Some x) = same_handle h (owner_in v x.block x.place)
+is_it v h (Some x) = same_handle h (handle_in v x.kind x.block x.place)
 
 abbrev pub is_full : Option Pointer → Bool
 is_full None = false
 is_full (Some x) = true
+
+-- the weak handle in a slot, if there is one
+abbrev pub weak_as : Kind → Pointer → Option Pointer
+weak_as Owner x = None
+weak_as Weak x = Some x
+
+abbrev pub weak_slot : Option Pointer → Option Pointer
+weak_slot None = None
+weak_slot (Some x) = weak_as x.kind x
 
 -- how often the handle is in the slots, and how many slots are full
 abbrev pub owns : Story → Slots → Handle → ℕ

@@ -2,6 +2,7 @@ pub mod Actors
 pub mod Bounds
 pub mod Acts
 pub mod Courses
+pub mod Deeds
 pub mod Headline
 pub mod Holdings
 pub mod Openings

@@ -1,10 +1,13 @@
 -- Programs, without where they lie in memory.
-use Rattle.std.specs.Prelude.{◌≡◌, ℕ, ◌≤◌, List, [], ◌∷◌, Some, All, length, map, sum_by, slice_get}
+use Rattle.std.specs.Prelude.{◌≡◌, ℕ, ◌≤◌, List, [], ◌∷◌, Option, Some, None, All, length, map, sum_by, slice_get}
 use Rattle.step_core.specs.declared.call.Actor.{Actor}
 use Rattle.step_core.specs.declared.call.Call.{Call}
 use Rattle.step_core.specs.declared.call.Call.TheVariants.{Make, Empty, Reset, Copy, Count}
+use Rattle.step_core.specs.declared.call.Call.TheVariants.{WeakCopy, WeakEmpty, WeakReset, Lock, Upgrade, WeakCount, Expired}
+use Rattle.step_core.specs.declared.call.Call.TheVariants as call
 use Rattle.step_core.specs.declared.call.Kind.{Kind}
 use Rattle.step_core.specs.declared.call.Kind.TheVariants.{Owner}
+use Rattle.step_core.specs.declared.call.Kind.TheVariants as kind
 use Rattle.step_core.specs.declared.call.Name.{Name}
 use Rattle.step_core.specs.declared.call.Program.{Program}
 
@@ -26,6 +29,18 @@ names_of (Empty target) = (target, Owner) ∷ []
 names_of (Reset name) = (name, Owner) ∷ []
 names_of (Copy target source) = (target, Owner) ∷ (source, Owner) ∷ []
 names_of (Count name) = (name, Owner) ∷ []
+names_of (call.Weak target source) = (target, kind.Weak) ∷ (source, Owner) ∷ []
+names_of (WeakCopy target source) = (target, kind.Weak) ∷ (source, kind.Weak) ∷ []
+names_of (WeakEmpty target) = (target, kind.Weak) ∷ []
+names_of (WeakReset name) = (name, kind.Weak) ∷ []
+names_of (Lock target source) = (target, Owner) ∷ (source, kind.Weak) ∷ []
+names_of (Upgrade target source) = (target, Owner) ∷ (source, kind.Weak) ∷ []
+names_of (WeakCount name) = (name, kind.Weak) ∷ []
+names_of (Expired name) = (name, kind.Weak) ∷ []
+
+abbrev pub listed : Option (Name × Kind) → List (Name × Kind)
+listed None = []
+listed (Some x) = x ∷ []
 
 -- among names of these kinds the name is one, and of the kind that is asked for
 abbrev pub IsDeclared : List Kind → Name × Kind → Type 0

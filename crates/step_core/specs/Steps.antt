@@ -1,12 +1,14 @@
 -- What one step of a thread does, by what it has begun and by its next act. All of it is own.
 use Rattle.std.specs.Prelude.{ℕ, ◌+◌, ◌==◌, Bool, true, false, cond, List, [], ◌∷◌, get_or, is_some, Option, Some, None, option_map}
 use Rattle.control_word.specs.declared.place.Block.{Block}
-use Rattle.control_word.specs.State.{State, count, weak}
+use Rattle.control_word.specs.State.{State, weak}
+use Rattle.control_word.specs.declared.handle.Kind.{Kind}
+use Rattle.control_word.specs.declared.handle.Kind.TheVariants.{Owner, Weak}
 use Rattle.step_core.specs.declared.act.Act.{Act}
-use Rattle.step_core.specs.declared.act.Act.TheVariants.{Make, Share, Put, Leave, Clear, Count}
+use Rattle.step_core.specs.declared.act.Act.TheVariants.{Make, Share, Downgrade, Lock, Put, Leave, Clear, Count, Expired}
 use Rattle.step_core.specs.declared.act.Task.{Task}
 use Rattle.step_core.specs.declared.half.Half.{Half}
-use Rattle.step_core.specs.declared.half.Half.TheVariants.{Rest, Making, Ending}
+use Rattle.step_core.specs.declared.half.Half.TheVariants.{Rest, Making, Ending, Locking}
 use Rattle.step_core.specs.declared.holdings.Pointer.{Pointer}
 use Rattle.step_core.specs.declared.past.Deed.{Deed}
 use Rattle.step_core.specs.declared.past.Deed.TheVariants as deed
@@ -14,9 +16,10 @@ use Rattle.step_core.specs.declared.said.Said.{Said}
 use Rattle.step_core.specs.declared.said.Stepped.{Stepped}
 use Rattle.step_core.specs.declared.said.Stepped.TheVariants.{Event, Quiet, Done}
 use Rattle.step_core.specs.Actors.{wanted}
-use Rattle.step_core.specs.Courses.{Walk, fields_of}
+use Rattle.step_core.specs.Courses.{Walk, fields_of, locked}
+use Rattle.step_core.specs.Deeds.{downgrade, is_last, leave, lock, owner_word, share, tell, tell_expired}
 use Rattle.step_core.specs.Holdings.{slot}
-use Rattle.step_core.specs.Scenes.{answer_of, ended_of, full_answer, holding, is_last, least, on, owned, went}
+use Rattle.step_core.specs.Scenes.{answer_of, ended_of, full_answer, holding, least, on, went}
 use Rattle.step_core.specs.Stories.{Story, after, event_of, known, object_in, pending, state}
 
 -- what a step does to the table, if anything; what the thread has begun and not ended after it; where it is then; what it says
@@ -29,18 +32,13 @@ pub record Step : Type 0 where
 abbrev pub silent : ℕ → Said
 silent k = record { statement = k; answer = None; ended = None }
 
-abbrev pub share : Pointer → Deed
-share x = deed.Share x.block x.place x.place
-
-abbrev pub leave : State → Pointer → Deed
-leave s x = deed.Leave x.block x.place (is_last s x)
-
-abbrev pub tell : State → Pointer → Deed
-tell s x = deed.Count x.block x.place (count s (owned s x))
-
 -- where the last owner leaves, the end of the object begins; its steps are of statement k
+abbrev pub end_as : Kind → ℕ → Block → Half
+end_as Owner k b = Ending b 0 k
+end_as Weak k b = Rest
+
 abbrev pub end_of : State → ℕ → Pointer → Half
-end_of s k x = cond (is_last s x) (Ending x.block 0 k) Rest
+end_of s k x = cond (is_last s x) (end_as x.kind k x.block) Rest
 
 -- an act of statement k on what a slot holds
 abbrev pub acts : State → ℕ → Walk → ℕ → List Task → Act → Option Deed → Half → Step
@@ -59,18 +57,37 @@ begins w k ts None =
 begins w k ts (Some b) =
     let block : Block = record { 0 = b } in record { deed = Some (deed.Prepare block); half = Making block 0 false; walk = w; said = silent k }
 
--- the first step of the next act, or the whole of it
-abbrev pub first : State → ℕ → Walk → ℕ → List Task → Act → Step
-first s d w k ts (Make fields) = begins w k ts (least d s.stores)
-first s d w k ts (Share i) = acts s d w k ts (Share i) (option_map share (slot w.slots i)) Rest
-first s d w k ts (Put i) = acts s d w k ts (Put i) (option_map (leave s) (slot w.slots i)) (on (end_of s k) Rest (slot w.slots i))
-first s d w k ts (Leave i) = acts s d w k ts (Leave i) (option_map (leave s) (slot w.slots i)) (on (end_of s k) Rest (slot w.slots i))
-first s d w k ts (Clear i) = acts s d w k ts (Clear i) (option_map (leave s) (slot w.slots i)) (on (end_of s k) Rest (slot w.slots i))
-first s d w k ts (Count i) = acts s d w k ts (Count i) (option_map (tell s) (slot w.slots i)) Rest
+-- a lock is tried, where the word that it found isn't 0: nothing is done yet
+abbrev pub trying : Walk → ℕ → ℕ → Step
+trying w k word = record { deed = None; half = cond (word == 0) Rest (Locking word); walk = w; said = silent k }
 
-abbrev pub begun : State → ℕ → Walk → List Task → Option Step
-begun s d w [] = None
-begun s d w (t ∷ ts) = Some (first s d w t.statement ts t.act)
+-- a lock looks first. Where it finds 0 no owner is left, and that is the whole of it
+abbrev pub looks : Story → ℕ → Walk → ℕ → List Task → Act → Pointer → Step
+looks v d w k ts a x = cond (owner_word v x == 0) (acts (state v) d w k ts a (Some (lock (state v) x)) Rest) (trying w k (owner_word v x))
+
+-- then it is tried with the word that it found, and goes on with the word that it finds where that is another
+abbrev pub tries : Story → ℕ → Walk → ℕ → List Task → Act → ℕ → Pointer → Step
+tries v d w k ts a word x = cond (owner_word v x == word) (acts (state v) d w k ts a (Some (lock (state v) x)) Rest) (trying w k (owner_word v x))
+
+-- the first step of the next act, or the whole of it
+abbrev pub first : Story → ℕ → Walk → ℕ → List Task → Act → Step
+first v d w k ts (Make fields) = begins w k ts (least d (state v).stores)
+first v d w k ts (Share i) = acts (state v) d w k ts (Share i) (option_map share (slot w.slots i)) Rest
+first v d w k ts (Put i) = acts (state v) d w k ts (Put i) (option_map (leave (state v)) (slot w.slots i)) (on (end_of (state v) k) Rest (slot w.slots i))
+first v d w k ts (Leave i) = acts (state v) d w k ts (Leave i) (option_map (leave (state v)) (slot w.slots i)) (on (end_of (state v) k) Rest (slot w.slots i))
+first v d w k ts (Clear i) = acts (state v) d w k ts (Clear i) (option_map (leave (state v)) (slot w.slots i)) (on (end_of (state v) k) Rest (slot w.slots i))
+first v d w k ts (Count i) = acts (state v) d w k ts (Count i) (option_map (tell (state v)) (slot w.slots i)) Rest
+first v d w k ts (Downgrade i) = acts (state v) d w k ts (Downgrade i) (option_map downgrade (slot w.slots i)) Rest
+first v d w k ts (Lock i must) = let a = Lock i must in on (looks v d w k ts a) (acts (state v) d w k ts a None Rest) (locked w.slots a)
+first v d w k ts (Expired i) = acts (state v) d w k ts (Expired i) (option_map (tell_expired (state v)) (slot w.slots i)) Rest
+
+abbrev pub begun : Story → ℕ → Walk → List Task → Option Step
+begun v d w [] = None
+begun v d w (t ∷ ts) = Some (first v d w t.statement ts t.act)
+
+abbrev pub tried : Story → ℕ → Walk → ℕ → List Task → Option Step
+tried v d w word [] = None
+tried v d w word (t ∷ ts) = option_map (tries v d w t.statement ts t.act word) (locked w.slots t.act)
 
 -- a make looks at a word of its block, and passes on where it is as wanted; a word that differs is written
 abbrev pub prepares : ℕ → ℕ → Walk → ℕ → Block → ℕ → Bool → Step
@@ -96,9 +113,10 @@ ends_on v w b stage k =
 
 -- the step of desk d's thread that has begun this and is here; none at its end
 abbrev pub step_at : Story → ℕ → Half → Walk → Option Step
-step_at v d Rest w = begun (state v) d w w.todo
+step_at v d Rest w = begun v d w w.todo
 step_at v d (Making b i differs) w = made_on v d w b i differs w.todo
 step_at v d (Ending b stage k) w = Some (ends_on v w b stage k)
+step_at v d (Locking word) w = tried v d w word w.todo
 
 -- what it makes of the table
 abbrev pub story_after : Story → ℕ → Option Deed → Story

@@ -1,15 +1,16 @@
 -- What clauses see of a table: its words, what has happened, and what each desk knows of it. All of it is own.
-use Rattle.std.specs.Prelude.{◌≡◌, ℕ, suc, ◌+◌, ◌-◌, ◌<◌, ◌≤◌, false, List, [], ◌∷◌, length, get_or, slice_index, slice_set, Option, Some, None}
+use Rattle.std.specs.Prelude.{◌≡◌, ℕ, suc, ◌+◌, ◌-◌, ◌<◌, ◌≤◌, false, cond, List, [], ◌∷◌, length, get_or, slice_index, slice_set, Option, Some, None}
 use Rattle.control_word.specs.declared.event.Entry.{Entry}
 use Rattle.control_word.specs.declared.event.Event.{Event}
 use Rattle.control_word.specs.declared.event.Event.TheVariants as event
 use Rattle.control_word.specs.declared.handle.Handle.{Handle}
+use Rattle.control_word.specs.declared.handle.Kind.{Kind}
 use Rattle.control_word.specs.declared.place.Block.{Block}
 use Rattle.control_word.specs.declared.place.Place.{Place}
 use Rattle.control_word.specs.declared.view.Pending.{Pending}
 use Rattle.control_word.specs.declared.view.Pending.TheVariants.{Idle, Making}
 use Rattle.control_word.specs.declared.view.View.{View}
-use Rattle.control_word.specs.Handles.{empty, owner}
+use Rattle.control_word.specs.Handles.{empty, handle, owner, weak_of}
 use Rattle.control_word.specs.Histories.{entry, leads}
 use Rattle.control_word.specs.Layout.{spot}
 use Rattle.control_word.specs.State.{State, kind_of_member}
@@ -17,7 +18,7 @@ use Rattle.control_word.specs.Steps.{known_of}
 use Rattle.control_word.specs.Views.{Stands, sees_as, used_up}
 use Rattle.step_core.specs.declared.extent.Extent.{Extent}
 use Rattle.step_core.specs.declared.past.Deed.{Deed}
-use Rattle.step_core.specs.declared.past.Deed.TheVariants.{Prepare, Write, Claim, Share, Leave, Count, Clear, Finish}
+use Rattle.step_core.specs.declared.past.Deed.TheVariants.{Prepare, Write, Claim, Share, WeakShare, Leave, WeakLeave, Lock, Count, Expired, Clear, Finish}
 use Rattle.step_core.specs.Openings.{IsExtent, opening, share_of}
 
 -- objects of the machine have no value of their own
@@ -47,14 +48,25 @@ object_in v b = (state v).latest b.0
 abbrev pub owner_in : Story → Block → Option Place → Handle
 owner_in v b p = owner (object_in v b) p
 
+abbrev pub weak_in : Story → Block → Option Place → Handle
+weak_in v b p = weak_of (object_in v b) p
+
+-- the handle of either kind
+abbrev pub handle_in : Story → Kind → Block → Option Place → Handle
+handle_in v k b p = handle k (Some (object_in v b)) p
+
 -- the event of a deed; a write of a vacant block is none
 abbrev pub event_of : Story → Deed → Option (Event Nothing)
 event_of v (Prepare b) = None
 event_of v (Write b j n) = None
 event_of v (Claim b enabled null fields) = Some (event.Make b enabled null fields tt)
 event_of v (Share b p q) = Some (event.Share (owner_in v b p) q)
+event_of v (WeakShare b p) = Some (event.WeakShare (object_in v b) p)
 event_of v (Leave b p last) = Some (event.Leave (owner_in v b p) last)
-event_of v (Count b p n) = Some (event.Count (owner_in v b p) n)
+event_of v (WeakLeave b p vacant) = Some (event.WeakLeave (weak_in v b p) vacant)
+event_of v (Lock b p got) = Some (event.Lock (weak_in v b p) got)
+event_of v (Count k b p n) = Some (event.Count (handle_in v k b p) n)
+event_of v (Expired k b p expired) = Some (event.Expired (handle_in v k b p) expired)
 event_of v (Clear b m) = Some (event.ClearMember (object_in v b) m (empty (kind_of_member m)))
 event_of v (Finish b vacant) = Some (event.Finish (object_in v b) vacant tt)
 
@@ -64,8 +76,12 @@ words_after v (Prepare b) = slice_set v.words (spot b.0 1) 1
 words_after v (Write b j n) = slice_set v.words (spot b.0 (2 + j)) n
 words_after v (Claim b enabled null fields) = slice_set v.words (spot b.0 0) 1
 words_after v (Share b p q) = slice_set v.words (spot b.0 0) (suc (slice_index v.words (spot b.0 0)))
+words_after v (WeakShare b p) = slice_set v.words (spot b.0 1) (suc (slice_index v.words (spot b.0 1)))
 words_after v (Leave b p last) = slice_set v.words (spot b.0 0) (slice_index v.words (spot b.0 0) - 1)
-words_after v (Count b p n) = v.words
+words_after v (WeakLeave b p vacant) = slice_set v.words (spot b.0 1) (slice_index v.words (spot b.0 1) - 1)
+words_after v (Lock b p got) = cond got (slice_set v.words (spot b.0 0) (suc (slice_index v.words (spot b.0 0)))) v.words
+words_after v (Count k b p n) = v.words
+words_after v (Expired k b p expired) = v.words
 words_after v (Clear b m) = v.words
 words_after v (Finish b vacant) = slice_set v.words (spot b.0 1) (slice_index v.words (spot b.0 1) - 1)
 
@@ -77,12 +93,7 @@ known _ = []
 abbrev pub pending_after : Story → ℕ → Deed → Pending Nothing
 pending_after v d (Prepare b) = Making b (known_of v.words b.0)
 pending_after v d (Write b j n) = Making b (slice_set (known (pending v d)) j n)
-pending_after v d (Claim b enabled null fields) = Idle
-pending_after v d (Share b p q) = Idle
-pending_after v d (Leave b p last) = Idle
-pending_after v d (Count b p n) = Idle
-pending_after v d (Clear b m) = Idle
-pending_after v d (Finish b vacant) = Idle
+pending_after v d _ = Idle
 
 -- the desk is making an object in this block, and knows its five loose words
 pub record IsMaking (v : Story) (d : ℕ) (b : Block) : Type 0 where

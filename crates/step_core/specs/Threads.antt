@@ -1,14 +1,19 @@
 -- A thread of the machine, and how it fits the table. All of it is own.
-use Rattle.std.specs.Prelude.{◌≡◌, ℕ, ◌<◌, ◌≤◌, List, length}
+use Rattle.std.specs.Prelude.{◌≡◌, ℕ, ◌<◌, ◌≤◌, ◌∷◌, Bool, true, false, List, length, Option, Some, None}
+use Rattle.std.specs.List.Sorted.{IsPermutation}
+use Rattle.control_word.specs.declared.handle.Kind.{Kind}
+use Rattle.control_word.specs.declared.handle.Kind.TheVariants.{Owner, Weak}
 use Rattle.step_core.specs.declared.act.Act.TheVariants.{Make}
 use Rattle.step_core.specs.declared.course.Course.{Course}
 use Rattle.step_core.specs.declared.half.Half.{Half}
-use Rattle.step_core.specs.declared.half.Half.TheVariants.{Rest, Making, Ending}
+use Rattle.step_core.specs.declared.half.Half.TheVariants.{Rest, Making, Ending, Locking}
 use Rattle.step_core.specs.declared.said.Stepped.{Stepped}
 use Rattle.step_core.specs.declared.thread.Thread.{Thread}
 use Rattle.step_core.specs.Actors.{HalfFits, Stocks}
-use Rattle.step_core.specs.Courses.{CourseReady, CourseStill, fields_of, task_at, walk}
-use Rattle.step_core.specs.Holdings.{Holds}
+use Rattle.step_core.specs.Courses.{CourseReady, CourseStill, fields_of, locked, task_at, walk}
+use Rattle.step_core.specs.declared.holdings.Pointer.{Pointer}
+use Rattle.step_core.specs.Holdings.{Holds, is_full}
+use Rattle.step_core.specs.Stocks.{Stored}
 use Rattle.step_core.specs.Steps.{half_by, step_at, stepped, story_by, walk_by}
 use Rattle.step_core.specs.Stories.{Story}
 
@@ -16,11 +21,12 @@ use Rattle.step_core.specs.Stories.{Story}
 abbrev pub fields_at : Course → List ℕ
 fields_at c = fields_of (task_at c).act
 
--- a make that is under way is the next act
+-- a make or a lock that is under way is the next act
 abbrev pub IsNext : Half → Course → Type 0
 IsNext Rest c = Unit {0}
 IsNext (Making b i differs) c = (c.at < length c.tasks.items) × ((task_at c).act ≡ Make (fields_at c))
 IsNext (Ending b stage k) c = Unit {0}
+IsNext (Locking word) c = (c.at < length c.tasks.items) × (is_full (locked c.holdings.slots.items (task_at c).act) ≡ true)
 
 -- between two steps the thread has what its desk has, and its half-done act is as its desk's view says
 pub record Fits (d : ℕ) (t : Thread) (v : Story) : Type 0 where
@@ -39,3 +45,12 @@ pub record HasStepped (d : ℕ) (t : Thread) (v : Story) (r : Stepped) (t' : Thr
   pub story : v' ≡ story_by v d (step_at v d t.half (walk t.course))
   pub place : walk t'.course ≡ walk_by (walk t.course) (step_at v d t.half (walk t.course))
   pub half : t'.half ≡ half_by t.half (step_at v d t.half (walk t.course))
+
+-- the stock after a pointer left: a block that is vacant by it comes in
+abbrev pub IsStocked : Kind → ℕ → Bool → Stored → Stored → Type 0
+IsStocked Weak b true s s' = IsPermutation (b ∷ s.blocks) s'.blocks × (s.room ≤ s'.room)
+IsStocked _ b last s s' = s' ≡ s
+
+abbrev pub IsStockedBy : Option Pointer → Bool → Stored → Stored → Type 0
+IsStockedBy None last s s' = s' ≡ s
+IsStockedBy (Some x) last s s' = IsStocked x.kind x.block.0 last s s'

@@ -2,7 +2,7 @@
 use Rattle.std.specs.Prelude.{◌≡◌, ℕ, ◌+◌, ◌≤◌, ◌==◌, Bool, false, cond, List, length, map, sum_by, is_some}
 use Rattle.control_word.specs.State.{State, ending}
 use Rattle.step_core.specs.declared.half.Half.{Half}
-use Rattle.step_core.specs.declared.half.Half.TheVariants.{Rest, Making, Ending}
+use Rattle.step_core.specs.declared.half.Half.TheVariants.{Rest, Making, Ending, Locking}
 use Rattle.step_core.specs.declared.said.Stepped.{Stepped}
 use Rattle.step_core.specs.declared.said.Stepped.TheVariants.{Event, Quiet, Waited, Done}
 use Rattle.step_core.specs.declared.thread.Thread.{Thread}
@@ -19,6 +19,7 @@ abbrev pub EndsIn : ℕ → Half → Type 0
 EndsIn b Rest = ⊥
 EndsIn b (Making c i differs) = ⊥
 EndsIn b (Ending c stage k) = c.0 ≡ b
+EndsIn b (Locking word) = ⊥
 
 -- each ending object ends by what the thread has begun in whose hands it is
 abbrev pub AllEnd : State → (ℕ → Half) → Type 0
@@ -42,6 +43,7 @@ abbrev pub is_prepared : Half → Bool
 is_prepared Rest = false
 is_prepared (Making b i differs) = i == 5
 is_prepared (Ending b stage k) = false
+is_prepared (Locking word) = false
 
 -- how many objects a step made, of a thread that had begun this, and of how many the last owner left by it
 abbrev pub makes : Half → Stepped → ℕ

@@ -3,13 +3,14 @@ use Rattle.std.specs.Prelude.{◌≡◌, ℕ, ◌<◌, ◌≤◌, Bool, true, fa
 use Rattle.step_core.specs.declared.act.Act.TheVariants.{Make}
 use Rattle.step_core.specs.declared.act.Task.{Task}
 use Rattle.step_core.specs.declared.half.Half.{Half}
-use Rattle.step_core.specs.declared.half.Half.TheVariants.{Rest, Making, Ending}
+use Rattle.step_core.specs.declared.half.Half.TheVariants.{Rest, Making, Ending, Locking}
 use Rattle.step_core.specs.declared.said.Said.{Said}
 use Rattle.step_core.specs.declared.said.Stepped.{Stepped}
 use Rattle.step_core.specs.declared.said.Stepped.TheVariants as stepped
 use Rattle.step_core.specs.declared.said.Turned.{Turned}
 use Rattle.step_core.specs.declared.said.Turned.TheVariants.{Acted, Waited, Done}
-use Rattle.step_core.specs.Courses.{fields_of}
+use Rattle.step_core.specs.Courses.{Walk, fields_of, locked}
+use Rattle.step_core.specs.Holdings.{Slots, is_full}
 use Rattle.step_core.specs.Scenes.{least, play, said, walk_of}
 use Rattle.step_core.specs.Stories.{Story, state}
 use Rattle.step_core.specs.Worlds.{Sight, half_of, rested, scene}
@@ -20,31 +21,49 @@ IsUnderWay d v Rest ts = Unit {0}
 IsUnderWay d v (Making b i differs) [] = ⊥
 IsUnderWay d v (Making b i differs) (t ∷ ts) = (i ≤ 5) × (least d (state v).stores ≡ Some b.0) × (t.act ≡ Make (fields_of t.act))
 IsUnderWay d v (Ending b stage k) ts = stage ≤ 3
+IsUnderWay d v (Locking word) ts = Unit {0}
+
+-- the next act locks a weak pointer
+abbrev pub IsLock : Slots → List Task → Type 0
+IsLock slots [] = ⊥
+IsLock slots (t ∷ ts) = is_full (locked slots t.act) ≡ true
+
+-- a lock that is under way is the next act
+abbrev pub IsTried : Half → Walk → Type 0
+IsTried (Locking word) w = IsLock w.slots w.todo
+IsTried _ w = Unit {0}
 
 pub record HasBegun (d : ℕ) (u : Sight) : Type 0 where
   pub within : d < length u.halves
   pub half : IsUnderWay d u.story (half_of u d) (walk_of (scene u) d).todo
+  pub tried : IsTried (half_of u d) (walk_of (scene u) d)
 
 abbrev pub is_ending : Half → Bool
-is_ending Rest = false
-is_ending (Making b i differs) = false
 is_ending (Ending b stage k) = true
+is_ending _ = false
 
 abbrev pub is_making : Half → Bool
-is_making Rest = false
 is_making (Making b i differs) = true
-is_making (Ending b stage k) = false
+is_making _ = false
+
+abbrev pub is_locking : Half → Bool
+is_locking (Locking word) = true
+is_locking _ = false
+
+-- an act that is under way
+abbrev pub is_acting : Half → Bool
+is_acting (Making b i differs) = true
+is_acting (Locking word) = true
+is_acting _ = false
 
 -- a make that has words left to look at or to write
 abbrev pub is_preparing : Half → Bool
-is_preparing Rest = false
 is_preparing (Making b i differs) = not (i == 5)
-is_preparing (Ending b stage k) = false
+is_preparing _ = false
 
 abbrev pub rested_half : Half → Half
-rested_half Rest = Rest
-rested_half (Making b i differs) = Making b i differs
 rested_half (Ending b stage k) = Rest
+rested_half h = h
 
 -- thread d has finished the object that ended in its hands
 pub record Rests (d : ℕ) (u u' : Sight) : Type 0 where
@@ -68,6 +87,10 @@ turned_by (stepped.Quiet x) = Acted x
 turned_by stepped.Waited = Waited
 turned_by stepped.Done = Done
 
+abbrev pub is_event : Stepped → Bool
+is_event (stepped.Event x) = true
+is_event _ = false
+
 abbrev pub turned : Option Said → Turned
 turned None = Done
 turned (Some x) = Acted x
@@ -76,5 +99,5 @@ turned (Some x) = Acted x
 pub record Plays (d : ℕ) (u : Sight) (r : Turned) (u' : Sight) : Type 0 where
   pub answer : r ≡ turned (said d (scene u))
   pub scene : rested u' d ≡ play d (scene u)
-  pub made : is_making (half_of u' d) ≡ false
+  pub done : is_acting (half_of u' d) ≡ false
   pub halves : u'.halves ≡ slice_set u.halves d (half_of u' d)

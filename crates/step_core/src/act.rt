@@ -1,6 +1,6 @@
 //! The primitive acts that statements are made of.
-ghost use Rattle.std.specs.Prelude.{◌≡◌, ◌<◌, ◌^◌, ◌++◌, length, IfOk, OnOk};
-ghost use Rattle.step_core.specs.Acts.{acts, numbered, tasks_from};
+ghost use Rattle.std.specs.Prelude.{◌≡◌, ◌<◌, ◌^◌, ◌++◌, ◌∷◌, length, IfOk, OnOk};
+ghost use Rattle.step_core.specs.Acts.{acts, numbered, puts, tasks_from};
 
 use crate::call::{Call, Name};
 use std::alloc::{AllocError, Global};
@@ -12,6 +12,10 @@ pub enum Act {
     Make { fields: [u64; 4] },
     /// Takes a copy of what a name holds.
     Share { name: u8 },
+    /// Takes a weak pointer to the object of what a name holds.
+    Downgrade { name: u8 },
+    /// Takes an owner of the object of a weak name, if an owner is left. Where it `must`, it is refused without one.
+    Lock { name: u8, must: bool },
     /// Leaves what a name holds, and puts there what was taken. It is no act where nothing was taken, or the name is empty.
     Put { name: u8 },
     /// Leaves what a name holds.
@@ -20,6 +24,8 @@ pub enum Act {
     Clear { name: u8 },
     /// Tells how many owners there are.
     Count { name: u8 },
+    /// Tells whether no owner is left.
+    Expired { name: u8 },
 }
 
 /// An act, with the number of its statement from 1, or 0 at the end of its thread.
@@ -53,22 +59,44 @@ pub(crate) fn tasks(alloc: Global, calls: &[Call], names: u8) -> Result<Vec<Task
 fn add(tasks: &mut Vec<Task>, statement: u32, call: Call) -> Result<(), AllocError>
     ensures { OnOk result (tasks.new.items ≡ tasks.old.items ++ numbered statement (acts call)) }
 {
-    let (first, second) = match call {
-        Call::Make { target, fields } => (Act::Make { fields }, Some(target)),
-        Call::Empty { target } => (Act::Leave { name: target.0 }, None),
-        Call::Reset { name } => (Act::Leave { name: name.0 }, None),
-        Call::Copy { target, source } => (Act::Share { name: source.0 }, Some(target)),
-        Call::Count { name } => (Act::Count { name: name.0 }, None),
-    };
-    tasks.push(Task {
-        statement,
-        act: first,
-    })?;
-    if let Some(Name(name)) = second {
+    let (act, target) = parts(call);
+    tasks.push(Task { statement, act })?;
+    if let Some(Name(name)) = target {
         tasks.push(Task {
             statement,
             act: Act::Put { name },
         })?;
     }
     Ok(())
+}
+
+/// The first act of a call, and the name that gets what it takes.
+fn parts(call: Call) -> (Act, Option<Name>)
+    ensures { acts call ≡ result.0 ∷ puts result.1 }
+{
+    match call {
+        Call::Make { target, fields } => (Act::Make { fields }, Some(target)),
+        Call::Copy { target, source } | Call::WeakCopy { target, source } => {
+            (Act::Share { name: source.0 }, Some(target))
+        }
+        Call::Weak { target, source } => (Act::Downgrade { name: source.0 }, Some(target)),
+        Call::Lock { target, source } => (lock(source, false), Some(target)),
+        Call::Upgrade { target, source } => (lock(source, true), Some(target)),
+        Call::Empty { target: name }
+        | Call::Reset { name }
+        | Call::WeakEmpty { target: name }
+        | Call::WeakReset { name } => (Act::Leave { name: name.0 }, None),
+        Call::Count { name } | Call::WeakCount { name } => (Act::Count { name: name.0 }, None),
+        Call::Expired { name } => (Act::Expired { name: name.0 }, None),
+    }
+}
+
+/// A lock of a name.
+fn lock(source: Name, must: bool) -> Act
+    ensures { result ≡ Act.Lock source.0 must }
+{
+    Act::Lock {
+        name: source.0,
+        must,
+    }
 }

@@ -1,6 +1,8 @@
 //! How a thread goes on from act to act.
-ghost use Rattle.std.specs.Prelude.{◌≡◌, ◌⊎◌, ◌+◌, ◌<◌, ◌≤◌, ◌==◌, ◌∷◌, ℕ, length, drop, true, false, slice_set, Option, Some, None};
+ghost use Rattle.std.specs.Prelude.{◌≡◌, ◌⊎◌, ◌+◌, ◌<◌, ◌≤◌, ◌==◌, ◌∷◌, ℕ, length, drop, true, false, slice_set, Option, Some, None, option_map};
 ghost use Rattle.control_word.specs.State.{count};
+ghost use Rattle.control_word.specs.declared.handle.Kind.TheVariants.{Owner};
+ghost use Rattle.step_core.specs.Deeds.{as_weak, downgrade, is_expired, is_last, leave, owned, share, tell, tell_expired};
 ghost use Rattle.step_core.specs.Holdings.{Holds, is_full, slot};
 ghost use Rattle.step_core.specs.Stories.{IsMaking, Story, after, known, object_in, pending, state};
 ghost use Rattle.step_core.specs.declared.holdings.Pointer.{Pointer};
@@ -95,12 +97,23 @@ impl Course {
         self.settle();
     }
 
+    /// Goes on after the next task, which took what is in hand or took nothing.
+    pub(crate) fn take(&mut self, taken: bool)
+        requires within { self.old.at < length self.old.tasks.items }
+        requires ready { IsReady self.old.holdings.slots.items taken (rest self.old) }
+        ensures walk { walk self.new ≡ settled self.old.holdings.slots.items taken (rest self.old) }
+        ensures on { (d : ℕ) (v : Story) → Holds d self.old.holdings.slots.items v → HasGoneOn d self.old self.new v }
+    {
+        self.taken = taken;
+        self.go_on();
+    }
+
     /// Takes a copy of what a name holds. Answers whether that touched a block.
     pub(crate) fn share(&mut self, desk: usize, table: &mut Table, name: u8) -> bool
         requires can { CanAct desk self.old table.old }
         requires act { (task_at self.old).act ≡ Act.Share name }
         ensures event { result ≡ is_full (slot self.old.holdings.slots.items name) }
-        ensures table { table.new ≡ done_on (λ x. Deed.Share x.block x.place x.place) table.old desk (slot self.old.holdings.slots.items name) }
+        ensures table { table.new ≡ done_on share table.old desk (slot self.old.holdings.slots.items name) }
         ensures walk { walk self.new ≡ settled (slice_set self.old.holdings.slots.items (hand self.old.holdings.slots.items) (slot self.old.holdings.slots.items name)) true (rest self.old) }
         ensures on { HasGoneOn desk self.old self.new table.new }
     {
@@ -120,12 +133,38 @@ impl Course {
         }
     }
 
-    /// Leaves what a name holds, if anything. Answers whether that was the last owner.
+    /// Takes a weak pointer to the object of what a name holds. Answers whether that touched a block.
+    pub(crate) fn downgrade(&mut self, desk: usize, table: &mut Table, name: u8) -> bool
+        requires can { CanAct desk self.old table.old }
+        requires act { (task_at self.old).act ≡ Act.Downgrade name }
+        ensures event { result ≡ is_full (slot self.old.holdings.slots.items name) }
+        ensures table { table.new ≡ done_on downgrade table.old desk (slot self.old.holdings.slots.items name) }
+        ensures walk { walk self.new
+            ≡ settled (slice_set self.old.holdings.slots.items (hand self.old.holdings.slots.items) (option_map as_weak (slot self.old.holdings.slots.items name))) true (rest self.old) }
+        ensures on { HasGoneOn desk self.old self.new table.new }
+    {
+        let from = usize::from(name);
+        let hand = self.holdings.hand();
+        self.taken = true;
+        match self.holdings.get(from) {
+            None => {
+                self.go_on();
+                false
+            }
+            Some(pointer) => {
+                self.holdings.downgrade(desk, table, from, hand, pointer);
+                self.go_on();
+                true
+            }
+        }
+    }
+
+    /// Leaves what a name holds, if anything. Answers whether that was the last.
     pub(crate) fn leave(&mut self, desk: usize, table: &mut Table, name: u8) -> bool
         requires can { CanAct desk self.old table.old }
         requires act { ((task_at self.old).act ≡ Act.Leave name) ⊎ ((task_at self.old).act ≡ Act.Clear name) }
-        ensures last { result ≡ on (λ x. count (state table.old) (object_in table.old x.block) == 1) false (slot self.old.holdings.slots.items name) }
-        ensures table { table.new ≡ done_on (λ x. Deed.Leave x.block x.place (count (state table.old) (object_in table.old x.block) == 1)) table.old desk (slot self.old.holdings.slots.items name) }
+        ensures last { result ≡ on (is_last (state table.old)) false (slot self.old.holdings.slots.items name) }
+        ensures table { table.new ≡ done_on (leave (state table.old)) table.old desk (slot self.old.holdings.slots.items name) }
         ensures walk { walk self.new ≡ settled (slice_set self.old.holdings.slots.items name None) self.old.taken (rest self.old) }
         ensures on { HasGoneOn desk self.old self.new table.new }
     {
@@ -143,13 +182,13 @@ impl Course {
         }
     }
 
-    /// Leaves what a name holds, and puts there what is in hand. Answers whether that was the last owner.
+    /// Leaves what a name holds, and puts there what is in hand. Answers whether that was the last.
     pub(crate) fn put(&mut self, desk: usize, table: &mut Table, name: u8) -> bool
         requires can { CanAct desk self.old table.old }
         requires act { (task_at self.old).act ≡ Act.Put name }
         ensures full { is_full (slot self.old.holdings.slots.items name) ≡ true }
-        ensures last { result ≡ on (λ x. count (state table.old) (object_in table.old x.block) == 1) false (slot self.old.holdings.slots.items name) }
-        ensures table { table.new ≡ done_on (λ x. Deed.Leave x.block x.place (count (state table.old) (object_in table.old x.block) == 1)) table.old desk (slot self.old.holdings.slots.items name) }
+        ensures last { result ≡ on (is_last (state table.old)) false (slot self.old.holdings.slots.items name) }
+        ensures table { table.new ≡ done_on (leave (state table.old)) table.old desk (slot self.old.holdings.slots.items name) }
         ensures walk { walk self.new ≡ settled (placed name (slice_set self.old.holdings.slots.items name None)) false (rest self.old) }
         ensures on { HasGoneOn desk self.old self.new table.new }
     {
@@ -171,8 +210,8 @@ impl Course {
     pub(crate) fn count(&mut self, desk: usize, table: &mut Table, name: u8) -> u32
         requires can { CanAct desk self.old table.old }
         requires act { (task_at self.old).act ≡ Act.Count name }
-        ensures exact { result ≡ on (λ x. count (state table.old) (object_in table.old x.block)) 0 (slot self.old.holdings.slots.items name) }
-        ensures table { table.new ≡ done_on (λ x. Deed.Count x.block x.place result) table.old desk (slot self.old.holdings.slots.items name) }
+        ensures exact { result ≡ on (λ x. count (state table.old) (owned (state table.old) x)) 0 (slot self.old.holdings.slots.items name) }
+        ensures table { table.new ≡ done_on (tell (state table.old)) table.old desk (slot self.old.holdings.slots.items name) }
         ensures walk { walk self.new ≡ settled self.old.holdings.slots.items self.old.taken (rest self.old) }
         ensures on { HasGoneOn desk self.old self.new table.new }
     {
@@ -190,6 +229,29 @@ impl Course {
         }
     }
 
+    /// Whether no owner is left of the object of what a name holds; also where it is empty.
+    pub(crate) fn is_expired(&mut self, desk: usize, table: &mut Table, name: u8) -> bool
+        requires can { CanAct desk self.old table.old }
+        requires act { (task_at self.old).act ≡ Act.Expired name }
+        ensures exact { result ≡ on (is_expired (state table.old)) true (slot self.old.holdings.slots.items name) }
+        ensures table { table.new ≡ done_on (tell_expired (state table.old)) table.old desk (slot self.old.holdings.slots.items name) }
+        ensures walk { walk self.new ≡ settled self.old.holdings.slots.items self.old.taken (rest self.old) }
+        ensures on { HasGoneOn desk self.old self.new table.new }
+    {
+        let from = usize::from(name);
+        match self.holdings.get(from) {
+            None => {
+                self.go_on();
+                true
+            }
+            Some(pointer) => {
+                let expired = self.holdings.is_expired(desk, table, from, pointer);
+                self.go_on();
+                expired
+            }
+        }
+    }
+
     /// The prepared object is made; its owner comes into the hand.
     pub(crate) fn claim(&mut self, desk: usize, table: &mut Table, block: Block, fields: [u64; 4])
         requires seat { desk < table.old.extent.actors }
@@ -201,7 +263,7 @@ impl Course {
         requires act { (task_at self.old).act ≡ Act.Make fields }
         ensures table { table.new ≡ after table.old desk (Deed.Claim block false false fields) }
         ensures walk { walk self.new
-            ≡ settled (slice_set self.old.holdings.slots.items (hand self.old.holdings.slots.items) (Some (record { block = block; place = place_at block.0 }))) true (rest self.old) }
+            ≡ settled (slice_set self.old.holdings.slots.items (hand self.old.holdings.slots.items) (Some (record { kind = Owner; block = block; place = place_at block.0 }))) true (rest self.old) }
         ensures on { HasGoneOn desk self.old self.new table.new }
     {
         let hand = self.holdings.hand();

@@ -1,21 +1,25 @@
 //! What an actor holds.
-ghost use Rattle.std.specs.Prelude.{◌≡◌, ◌≢◌, ◌+◌, ◌<◌, ◌≤◌, IfOk, replicate, ◌-◌, ◌==◌, ℕ, false, ◌∷◌, length, get_or, slice_set, Some, None};
+ghost use Rattle.std.specs.Prelude.{◌≡◌, ◌≢◌, ◌+◌, ◌<◌, ◌≤◌, IfOk, replicate, ◌-◌, ◌==◌, ℕ, false, cond, ◌∷◌, length, get_or, slice_set, Some, None};
+ghost use Rattle.control_word.specs.declared.handle.Kind.TheVariants.{Owner};
 ghost use Rattle.control_word.specs.Events.{place_at};
 ghost use Rattle.control_word.specs.State.{count};
 ghost use Rattle.control_word.specs.Views.{owed};
 ghost use Rattle.control_word.specs.Layout.{spot};
 ghost use Rattle.control_word.specs.declared.view.Pending.TheVariants.{Idle};
-ghost use Rattle.step_core.specs.Holdings.{Holds, is_full, slot};
+ghost use Rattle.step_core.specs.Deeds.{as_owner, as_weak, downgrade, is_expired, is_last, leave, lock, owned, owner_word, share, tell, tell_expired};
+ghost use Rattle.step_core.specs.Holdings.{Holds, is_full, slot, weak_as, weak_slot};
 ghost use Rattle.step_core.specs.Stories.{IsMaking, Story, after, known, object_in, pending, state};
 
 use crate::past::Deed;
 use crate::table::Table;
+use control_word::handle::Kind;
 use control_word::place::{Block, Place};
 use std::alloc::{AllocError, Global};
 
-/// An owner that has an object, which its block tells: no other object is in the block while it is owned.
+/// A shared or weak pointer that has an object, which its block tells: no other object is in the block while it is there.
 #[derive(Clone, Copy, Debug, PartialEq, Eq, Drop)]
 pub struct Pointer {
+    pub kind: Kind,
     pub block: Block,
     pub place: Option<Place>,
 }
@@ -61,7 +65,18 @@ impl Holdings {
         self.slots.len() - 1
     }
 
-    /// Shares what one slot owns into another, which is empty.
+    /// The weak pointer that a slot holds, if it holds one.
+    pub(crate) fn weak(&self, at: usize) -> Option<Pointer>
+        requires { at < length self.now.slots.items }
+        ensures { result ≡ weak_slot (slot self.now.slots.items at) }
+    {
+        match self.slots[at] {
+            Some(pointer) => weak(pointer),
+            None => None,
+        }
+    }
+
+    /// Copies the pointer of one slot into another, which is empty.
     pub(crate) fn share(
         &mut self,
         desk: usize,
@@ -77,15 +92,43 @@ impl Holdings {
         requires inside { to < length self.old.slots.items }
         requires empty { slot self.old.slots.items to ≡ None }
         ensures slots { self.new.slots.items ≡ slice_set self.old.slots.items to (Some pointer) }
-        ensures table { table.new ≡ after table.old desk (Deed.Share pointer.block pointer.place pointer.place) }
+        ensures table { table.new ≡ after table.old desk (share pointer) }
         ensures holds { Holds desk self.new.slots.items table.new }
     {
         table.known();
-        table.share(desk, pointer.block, pointer.place, pointer.place);
+        table.copy_pointer(desk, pointer);
         self.slots[to] = Some(pointer);
     }
 
-    /// Leaves what a slot owns. Answers whether that was the last owner.
+    /// Puts a weak pointer to the object of one slot into another, which is empty.
+    pub(crate) fn downgrade(
+        &mut self,
+        desk: usize,
+        table: &mut Table,
+        from: usize,
+        to: usize,
+        pointer: Pointer,
+    )
+        requires seat { desk < table.old.extent.actors }
+        requires idle { pending table.old desk ≡ Idle }
+        requires holds { Holds desk self.old.slots.items table.old }
+        requires from { slot self.old.slots.items from ≡ Some pointer }
+        requires inside { to < length self.old.slots.items }
+        requires empty { slot self.old.slots.items to ≡ None }
+        ensures slots { self.new.slots.items ≡ slice_set self.old.slots.items to (Some (as_weak pointer)) }
+        ensures table { table.new ≡ after table.old desk (downgrade pointer) }
+        ensures holds { Holds desk self.new.slots.items table.new }
+    {
+        table.known();
+        table.weak_share(desk, pointer);
+        self.slots[to] = Some(Pointer {
+            kind: Kind::Weak,
+            block: pointer.block,
+            place: pointer.place,
+        });
+    }
+
+    /// Leaves what a slot holds. Answers whether that was the last, as `Table::leave_pointer` says.
     pub(crate) fn leave(
         &mut self,
         desk: usize,
@@ -99,28 +142,106 @@ impl Holdings {
         requires inside { from < length self.old.slots.items }
         requires from { slot self.old.slots.items from ≡ Some pointer }
         ensures slots { self.new.slots.items ≡ slice_set self.old.slots.items from None }
-        ensures last { result ≡ (count (state table.old) (object_in table.old pointer.block) == 1) }
-        ensures table { table.new ≡ after table.old desk (Deed.Leave pointer.block pointer.place result) }
+        ensures last { result ≡ is_last (state table.old) pointer }
+        ensures table { table.new ≡ after table.old desk (leave (state table.old) pointer) }
         ensures holds { Holds desk self.new.slots.items table.new }
     {
         table.known();
-        let last = table.leave(desk, pointer.block, pointer.place);
+        let last = table.leave_pointer(desk, pointer);
         self.slots[from] = None;
         last
     }
 
-    /// How many owners the object has that a slot owns.
+    /// How many owners the object of a slot has.
     pub(crate) fn count(&self, desk: usize, table: &mut Table, from: usize, pointer: Pointer) -> u32
         requires seat { desk < table.old.extent.actors }
         requires idle { pending table.old desk ≡ Idle }
         requires holds { Holds desk self.now.slots.items table.old }
         requires from { slot self.now.slots.items from ≡ Some pointer }
-        ensures exact { result ≡ count (state table.old) (object_in table.old pointer.block) }
-        ensures table { table.new ≡ after table.old desk (Deed.Count pointer.block pointer.place result) }
+        ensures exact { result ≡ count (state table.old) (owned (state table.old) pointer) }
+        ensures table { table.new ≡ after table.old desk (tell (state table.old) pointer) }
         ensures holds { Holds desk self.now.slots.items table.new }
     {
         table.known();
-        table.count(desk, pointer.block, pointer.place)
+        table.count(desk, pointer)
+    }
+
+    /// Whether no owner is left of the object of a slot.
+    pub(crate) fn is_expired(
+        &self,
+        desk: usize,
+        table: &mut Table,
+        from: usize,
+        pointer: Pointer,
+    ) -> bool
+        requires seat { desk < table.old.extent.actors }
+        requires idle { pending table.old desk ≡ Idle }
+        requires holds { Holds desk self.now.slots.items table.old }
+        requires from { slot self.now.slots.items from ≡ Some pointer }
+        ensures exact { result ≡ is_expired (state table.old) pointer }
+        ensures table { table.new ≡ after table.old desk (tell_expired (state table.old) pointer) }
+        ensures holds { Holds desk self.now.slots.items table.new }
+    {
+        table.known();
+        table.is_expired(desk, pointer)
+    }
+
+    /// The first look of a lock of a weak pointer in a slot, as `Table::look_lock` says.
+    pub(crate) fn look_lock(
+        &self,
+        desk: usize,
+        table: &mut Table,
+        from: usize,
+        pointer: Pointer,
+    ) -> u64
+        requires seat { desk < table.old.extent.actors }
+        requires idle { pending table.old desk ≡ Idle }
+        requires holds { Holds desk self.now.slots.items table.old }
+        requires from { weak_slot (slot self.now.slots.items from) ≡ Some pointer }
+        ensures word { result ≡ owner_word table.old pointer }
+        ensures left { (result == 0) ≡ is_expired (state table.old) pointer }
+        ensures table { table.new ≡ cond (result == 0) (after table.old desk (lock (state table.old) pointer)) table.old }
+        ensures holds { Holds desk self.now.slots.items table.new }
+    {
+        table.known();
+        table.look_lock(desk, pointer.block, pointer.place)
+    }
+
+    /// Tries a lock of a weak pointer in one slot, as `Table::try_lock` says: the owner comes into another slot, which is
+    /// empty.
+    pub(crate) fn try_lock(
+        &mut self,
+        desk: usize,
+        table: &mut Table,
+        from: usize,
+        to: usize,
+        pointer: Pointer,
+        found: u64,
+    ) -> u64
+        requires seat { desk < table.old.extent.actors }
+        requires idle { pending table.old desk ≡ Idle }
+        requires holds { Holds desk self.old.slots.items table.old }
+        requires from { weak_slot (slot self.old.slots.items from) ≡ Some pointer }
+        requires inside { to < length self.old.slots.items }
+        requires empty { slot self.old.slots.items to ≡ None }
+        requires some { 0 < found }
+        ensures word { result ≡ owner_word table.old pointer }
+        ensures left { (result == 0) ≡ is_expired (state table.old) pointer }
+        ensures slots { self.new.slots.items ≡ cond (result == found) (slice_set self.old.slots.items to (Some (as_owner pointer))) self.old.slots.items }
+        ensures table { table.new ≡ cond (result == found) (after table.old desk (lock (state table.old) pointer)) table.old }
+        ensures holds { Holds desk self.new.slots.items table.new }
+    {
+        table.known();
+        let now = table.try_lock(desk, pointer.block, pointer.place, found);
+        if now != found {
+            return now;
+        }
+        self.slots[to] = Some(Pointer {
+            kind: Kind::Owner,
+            block: pointer.block,
+            place: pointer.place,
+        });
+        now
     }
 
     /// The object is made: its first owner comes into an empty slot.
@@ -138,14 +259,18 @@ impl Holdings {
         requires holds { Holds desk self.old.slots.items table.old }
         requires inside { to < length self.old.slots.items }
         requires empty { slot self.old.slots.items to ≡ None }
-        ensures slots { self.new.slots.items ≡ slice_set self.old.slots.items to (Some (record { block = block; place = place_at block.0 })) }
+        ensures slots { self.new.slots.items ≡ slice_set self.old.slots.items to (Some (record { kind = Owner; block = block; place = place_at block.0 })) }
         ensures table { table.new ≡ after table.old desk (Deed.Claim block false false fields) }
         ensures holds { Holds desk self.new.slots.items table.new }
     {
         table.known();
         table.claim(desk, block, false, false, fields);
         let place = Some(Place { block, field: 0 });
-        self.slots[to] = Some(Pointer { block, place });
+        self.slots[to] = Some(Pointer {
+            kind: Kind::Owner,
+            block,
+            place,
+        });
     }
 
     /// The value in one slot goes to another, which is empty.
@@ -159,5 +284,15 @@ impl Holdings {
     {
         self.slots[to] = self.slots[from];
         self.slots[from] = None;
+    }
+}
+
+/// The pointer, if it is weak.
+fn weak(pointer: Pointer) -> Option<Pointer>
+    ensures { result ≡ weak_as pointer.kind pointer }
+{
+    match pointer.kind {
+        Kind::Owner => None,
+        Kind::Weak => Some(pointer),
     }
 }

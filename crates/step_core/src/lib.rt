@@ -10,11 +10,13 @@ mod extent;
 mod half;
 mod holdings;
 mod limits;
+mod locking;
 mod making;
 mod opening;
 #[cfg(test)]
 mod opening_tests;
 mod past;
+mod pointer;
 #[cfg(test)]
 mod run_tests;
 mod running;
@@ -28,6 +30,7 @@ mod tests;
 mod thread;
 mod told;
 mod trace;
+mod weak;
 mod world;
 #[cfg(test)]
 mod world_tests;

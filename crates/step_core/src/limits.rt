@@ -1,6 +1,6 @@
 //! Which programs a world may run.
-ghost use Rattle.std.specs.Prelude.{◌↔◌, ◌≤◌, All, IsTrue, map};
-ghost use Rattle.step_core.specs.Programs.{IsDeclared, IsPart, IsProgram, IsWellNamed, call_count, part_of};
+ghost use Rattle.std.specs.Prelude.{◌≡◌, ◌↔◌, ◌≤◌, ◌∷◌, All, IsTrue, map};
+ghost use Rattle.step_core.specs.Programs.{IsDeclared, IsPart, IsProgram, IsWellNamed, call_count, listed, names_of, part_of};
 ghost use Rattle.step_core.specs.Starts.{AllHaveFields, CanBegin, HasFields};
 
 use crate::call::{Actor, Call, Kind, Name};
@@ -22,19 +22,38 @@ fn is_declared(kinds: &[Kind], name: Name, kind: Kind) -> bool
     kinds.get(usize::from(name.0)) == Some(&kind)
 }
 
+/// The names of a call, each with the kind that the call asks for.
+fn names_of(call: Call) -> ((Name, Kind), Option<(Name, Kind)>)
+    ensures names { names_of call ≡ result.0 ∷ listed result.1 }
+    ensures fields { HasFields call }
+{
+    match call {
+        Call::Make { target, fields: _ } => ((target, Kind::Owner), None),
+        Call::Empty { target: name } | Call::Reset { name } | Call::Count { name } => {
+            ((name, Kind::Owner), None)
+        }
+        Call::Copy { target, source } => ((target, Kind::Owner), Some((source, Kind::Owner))),
+        Call::Weak { target, source } => ((target, Kind::Weak), Some((source, Kind::Owner))),
+        Call::WeakCopy { target, source } => ((target, Kind::Weak), Some((source, Kind::Weak))),
+        Call::Lock { target, source } | Call::Upgrade { target, source } => {
+            ((target, Kind::Owner), Some((source, Kind::Weak)))
+        }
+        Call::WeakEmpty { target: name }
+        | Call::WeakReset { name }
+        | Call::WeakCount { name }
+        | Call::Expired { name } => ((name, Kind::Weak), None),
+    }
+}
+
 /// Whether each name of a call is there, and of the kind that the call asks for.
 fn is_well_named(kinds: &[Kind], call: Call) -> bool
     ensures named { IsTrue result ↔ IsWellNamed kinds.now call }
     ensures fields { HasFields call }
 {
-    match call {
-        Call::Make { target, fields: _ } => is_declared(kinds, target, Kind::Owner),
-        Call::Empty { target } => is_declared(kinds, target, Kind::Owner),
-        Call::Reset { name } => is_declared(kinds, name, Kind::Owner),
-        Call::Copy { target, source } => {
-            is_declared(kinds, target, Kind::Owner) && is_declared(kinds, source, Kind::Owner)
-        }
-        Call::Count { name } => is_declared(kinds, name, Kind::Owner),
+    let (first, second) = names_of(call);
+    match second {
+        None => is_declared(kinds, first.0, first.1),
+        Some(name) => is_declared(kinds, first.0, first.1) && is_declared(kinds, name.0, name.1),
     }
 }
 

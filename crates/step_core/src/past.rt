@@ -8,6 +8,7 @@ ghost use Rattle.step_core.specs.Stories.{Nothing, history_after, views_after};
 
 use crate::extent::Extent;
 use crate::table::Table;
+use control_word::handle::Kind;
 use control_word::place::{Block, Place};
 use std::marker::Model;
 
@@ -37,17 +38,42 @@ pub enum Deed {
         of: Option<Place>,
         place: Option<Place>,
     },
+    /// A weak handle more.
+    WeakShare {
+        block: Block,
+        place: Option<Place>,
+    },
     /// An owner less.
     Leave {
         block: Block,
         place: Option<Place>,
         last: bool,
     },
-    /// The number of owners was looked at, by an owner.
+    /// A weak handle less.
+    WeakLeave {
+        block: Block,
+        place: Option<Place>,
+        vacant: bool,
+    },
+    /// An owner more, from a weak handle; or the word was 0, and there is none.
+    Lock {
+        block: Block,
+        place: Option<Place>,
+        got: bool,
+    },
+    /// The number of owners was looked at, by a handle.
     Count {
+        kind: Kind,
         block: Block,
         place: Option<Place>,
         owners: u32,
+    },
+    /// Whether no owner is left was looked at, by a handle.
+    Expired {
+        kind: Kind,
+        block: Block,
+        place: Option<Place>,
+        expired: bool,
     },
     /// A member of an ending object was found empty.
     Clear {

@@ -8,9 +8,10 @@ ghost use Rattle.control_word.specs.Views.{fresh};
 ghost use Rattle.step_core.specs.Scenes.{remains};
 ghost use Rattle.control_word.specs.Words.{flags_of};
 ghost use Rattle.step_core.specs.Openings.{IsExtent};
-ghost use Rattle.step_core.specs.Stories.{IsMaking, Kept, after, history_after, known, object_in, owner_in, pending, state, views_after};
+ghost use Rattle.step_core.specs.Stories.{IsMaking, Kept, after, handle_in, history_after, known, object_in, owner_in, pending, state, views_after};
 
 use crate::extent::Extent;
+use crate::holdings::Pointer;
 use crate::past::{Deed, Done, Past};
 use crate::said::Ended;
 use control_word::counts::{is_last, told_count};
@@ -22,9 +23,9 @@ use std::marker::Model;
 /// The words of a world. They show the state that its history leads to.
 #[derive(Drop)]
 pub struct Table {
-    words: Vec<u64>,
+    pub(crate) words: Vec<u64>,
     extent: Extent,
-    past: Past,
+    pub(crate) past: Past,
 }
 
 impl Model for Table {
@@ -78,7 +79,7 @@ impl Table {
     }
 
     /// What the table knows after a deed.
-    fn then(&self, desk: usize, deed: Deed) -> Past
+    pub(crate) fn then(&self, desk: usize, deed: Deed) -> Past
         ensures { (result.history ≡ history_after self.now desk deed) × (result.views ≡ views_after self.now desk deed) }
     {
         Past::next(self, &Done { desk, deed })
@@ -190,20 +191,21 @@ impl Table {
         last
     }
 
-    /// How many owners there are, by an owner.
-    pub(crate) fn count(&mut self, desk: usize, block: Block, place: Option<Place>) -> u32
+    /// How many owners there are, by a handle.
+    pub(crate) fn count(&mut self, desk: usize, pointer: Pointer) -> u32
         requires seat { desk < self.old.extent.actors }
         requires idle { pending self.old desk ≡ Idle }
-        requires held { Has (held desk (owner_in self.old block place)) (state self.old).hands }
-        ensures exact { result ≡ count (state self.old) (object_in self.old block) }
-        ensures after { self.new ≡ after self.old desk (Deed.Count block place result) }
+        requires held { Has (held desk (handle_in self.old pointer.kind pointer.block pointer.place)) (state self.old).hands }
+        ensures exact { result ≡ count (state self.old) (object_in self.old pointer.block) }
+        ensures after { self.new ≡ after self.old desk (Deed.Count pointer.kind pointer.block pointer.place result) }
     {
-        let owners = told_count(self.words[block_word(block, OWNERS)]);
+        let owners = told_count(self.words[block_word(pointer.block, OWNERS)]);
         self.past = self.then(
             desk,
             Deed::Count {
-                block,
-                place,
+                kind: pointer.kind,
+                block: pointer.block,
+                place: pointer.place,
                 owners,
             },
         );

@@ -1,8 +1,9 @@
 //! A thread of the machine: its course, its store, and the act that it has begun.
 ghost use Rattle.std.specs.Prelude.{◌≡◌, ◌<◌, ◌⊎◌, ◌==◌, length, true, Some, None, cond};
 ghost use Rattle.control_word.specs.State.{ending};
-ghost use Rattle.step_core.specs.Scenes.{on, remains};
-ghost use Rattle.step_core.specs.Steps.{silent};
+ghost use Rattle.control_word.specs.declared.handle.Kind.TheVariants.{Owner, Weak};
+ghost use Rattle.step_core.specs.Scenes.{on, remains_as};
+ghost use Rattle.step_core.specs.Steps.{end_as, silent};
 ghost use Rattle.step_core.specs.Stories.{object_in, state};
 ghost use Rattle.step_core.specs.declared.holdings.Pointer.{Pointer};
 
@@ -13,6 +14,7 @@ use crate::holdings::Pointer;
 use crate::said::{Answer, Ended, Said, Stepped};
 use crate::stock::Stock;
 use crate::table::Table;
+use control_word::handle::Kind;
 
 /// A thread. What it holds is its desk's bag, and its store has its desk's vacant blocks.
 #[derive(Drop)]
@@ -24,7 +26,7 @@ pub struct Thread {
 
 impl Thread {
     ghost use Rattle.step_core.specs.Courses.{task_at};
-    ghost use Rattle.step_core.specs.Threads.{Fits, HasStepped};
+    ghost use Rattle.step_core.specs.Threads.{Fits, HasStepped, IsStocked, IsStockedBy};
 
     /// The next atomic step, or the next act that touches no word.
     pub(crate) fn step(&mut self, desk: usize, table: &mut Table) -> Stepped
@@ -44,6 +46,7 @@ impl Thread {
                 stage,
                 statement,
             } => self.end_on(desk, table, block, stage, statement),
+            Half::Locking { word } => self.lock_on(desk, table, word),
         }
     }
 
@@ -63,6 +66,9 @@ impl Thread {
             Act::Put { name } => self.put(desk, table, name),
             Act::Leave { name } | Act::Clear { name } => self.leave(desk, table, name),
             Act::Count { name } => self.count(desk, table, name),
+            Act::Downgrade { name } => self.downgrade(desk, table, name),
+            Act::Lock { name, must } => self.lock(desk, table, name, must),
+            Act::Expired { name } => self.expired(desk, table, name),
         }
     }
 
@@ -79,6 +85,45 @@ impl Thread {
         let statement = self.course.statement();
         let event = self.course.share(desk, table, name);
         says(event, silent(statement))
+    }
+
+    /// Takes a weak pointer to the object of what a name holds.
+    fn downgrade(&mut self, desk: usize, table: &mut Table, name: u8) -> Stepped
+        requires fits { Fits desk self.old table.old }
+        requires rest { self.old.half ≡ Half.Rest }
+        requires within { self.old.course.at < length self.old.course.tasks.items }
+        requires act { (task_at self.old.course).act ≡ Act.Downgrade name }
+        ensures stepped { HasStepped desk self.old table.old result self.new table.new }
+        ensures fits { Fits desk self.new table.new }
+    {
+        table.known();
+        let statement = self.course.statement();
+        let event = self.course.downgrade(desk, table, name);
+        says(event, silent(statement))
+    }
+
+    /// Tells whether no owner is left of the object of what a name holds; also where it is empty.
+    fn expired(&mut self, desk: usize, table: &mut Table, name: u8) -> Stepped
+        requires fits { Fits desk self.old table.old }
+        requires rest { self.old.half ≡ Half.Rest }
+        requires within { self.old.course.at < length self.old.course.tasks.items }
+        requires act { (task_at self.old.course).act ≡ Act.Expired name }
+        ensures stepped { HasStepped desk self.old table.old result self.new table.new }
+        ensures fits { Fits desk self.new table.new }
+    {
+        table.known();
+        let statement = self.course.statement();
+        let event = self.course.holdings.is_full(usize::from(name));
+        let expired = self.course.is_expired(desk, table, name);
+        let answer = Some(Answer::Expired(expired));
+        says(
+            event,
+            Said {
+                statement,
+                answer,
+                ended: None,
+            },
+        )
     }
 
     /// Tells how many owners the object has that a name holds; 0 where it is empty.
@@ -118,6 +163,7 @@ impl Thread {
         let statement = self.course.statement();
         let held = self.course.holdings.get(usize::from(name));
         let last = self.course.leave(desk, table, name);
+        table.known();
         let ended = self.left(desk, table, held, last, statement);
         says(
             held.is_some(),
@@ -143,6 +189,7 @@ impl Thread {
         let statement = self.course.statement();
         let held = self.course.holdings.get(usize::from(name));
         let last = self.course.put(desk, table, name);
+        table.known();
         let ended = self.left(desk, table, held, last, statement);
         says(
             held.is_some(),
@@ -154,7 +201,8 @@ impl Thread {
         )
     }
 
-    /// After a leave: where it was the last owner's, the end of the object begins. Answers what the object leaves.
+    /// After a leave that was the last: of an owner, the end of its object begins; of a weak pointer, its block comes into the
+    /// store. Answers what an object leaves that ends.
     fn left(
         &mut self,
         desk: usize,
@@ -164,24 +212,47 @@ impl Thread {
         statement: u32,
     ) -> Option<Ended>
         requires rest { self.old.half ≡ Half.Rest }
-        requires ending { (x : Pointer) → held ≡ Some x → last ≡ true → ((state table.now).object (object_in table.now x.block)).phase ≡ ending desk }
+        requires ending { (x : Pointer) → held ≡ Some x → x.kind ≡ Owner → last ≡ true → ((state table.now).object (object_in table.now x.block)).phase ≡ ending desk }
+        requires room { (x : Pointer) → held ≡ Some x → x.kind ≡ Weak → last ≡ true → length self.old.stock.blocks < self.old.stock.room }
         ensures course { self.new.course ≡ self.old.course }
-        ensures stock { self.new.stock ≡ self.old.stock }
-        ensures half { self.new.half ≡ on (λ x. cond last (Half.Ending x.block 0 statement) Half.Rest) Half.Rest held }
-        ensures ended { result ≡ on (λ x. cond last (Some (remains ((state table.now).object (object_in table.now x.block)))) None) None held }
+        ensures stock { IsStockedBy held last self.old.stock self.new.stock }
+        ensures half { self.new.half ≡ on (λ x. cond last (end_as x.kind statement x.block) Half.Rest) Half.Rest held }
+        ensures ended { result ≡ on (λ x. cond last (remains_as x.kind ((state table.now).object (object_in table.now x.block))) None) None held }
     {
         match held {
-            None => None,
-            Some(pointer) => {
-                if !last {
-                    return None;
-                }
+            Some(pointer) if last => self.close(desk, table, pointer, statement),
+            _ => None,
+        }
+    }
+
+    /// After the last leave of a kind, as `left` says.
+    fn close(
+        &mut self,
+        desk: usize,
+        table: &Table,
+        pointer: Pointer,
+        statement: u32,
+    ) -> Option<Ended>
+        requires rest { self.old.half ≡ Half.Rest }
+        requires ending { pointer.kind ≡ Owner → ((state table.now).object (object_in table.now pointer.block)).phase ≡ ending desk }
+        requires room { pointer.kind ≡ Weak → length self.old.stock.blocks < self.old.stock.room }
+        ensures course { self.new.course ≡ self.old.course }
+        ensures stock { IsStocked pointer.kind pointer.block.0 true self.old.stock self.new.stock }
+        ensures half { self.new.half ≡ end_as pointer.kind statement pointer.block }
+        ensures ended { result ≡ remains_as pointer.kind ((state table.now).object (object_in table.now pointer.block)) }
+    {
+        match pointer.kind {
+            Kind::Owner => {
                 self.half = Half::Ending {
                     block: pointer.block,
                     stage: 0,
                     statement,
                 };
                 Some(table.remains(desk, pointer.block))
+            }
+            Kind::Weak => {
+                self.stock.put(pointer.block);
+                None
             }
         }
     }

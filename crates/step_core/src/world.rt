@@ -1,7 +1,7 @@
 //! The machine: a table and the threads over it.
 ghost use Rattle.std.specs.Prelude.{◌≡◌, ◌<◌, ◌≤◌, ◌-◌, length, true, false};
 ghost use Rattle.step_core.specs.Stories.{Kept};
-ghost use Rattle.step_core.specs.Turning.{HasBegun, Plays, Prepares, Rests, is_ending, is_making, is_preparing, turned_by};
+ghost use Rattle.step_core.specs.Turning.{HasBegun, Plays, Prepares, Rests, is_ending, is_event, is_locking, is_making, is_preparing, turned_by};
 ghost use Rattle.step_core.specs.Worlds.{GoesTo, Steps, Turns, half_of};
 
 use crate::half::Half;
@@ -90,11 +90,32 @@ impl World {
         if self.is_making(number) {
             return self.make(number);
         }
+        if self.is_locking(number) {
+            return self.lock(number);
+        }
         let stepped = self.advance(number);
         if self.is_making(number) {
             return self.make(number);
         }
+        if self.is_locking(number) {
+            return self.lock(number);
+        }
         turned(stepped)
+    }
+
+    /// The rest of a lock that is under way. Nobody steps between, so a second step finds the word that the first left.
+    fn lock(&mut self, number: usize) -> Turned
+        requires within { number < length self.old.walks }
+        requires locking { is_locking (half_of self.old number) ≡ true }
+        ensures plays { Plays number self.old result self.new }
+        ensures goes { GoesTo number self.old self.new }
+        ensures actors { length self.new.walks ≡ length self.old.walks }
+    {
+        let stepped = self.advance(number);
+        if is_event(stepped) {
+            return turned(stepped);
+        }
+        turned(self.advance(number))
     }
 
     /// The rest of a make that is under way.
@@ -138,6 +159,14 @@ impl World {
         matches!(self.threads[number].half, Half::Making { .. })
     }
 
+    /// Whether a thread locks a weak pointer.
+    fn is_locking(&self, number: usize) -> bool
+        requires { number < length self.now.walks }
+        ensures { result ≡ is_locking (half_of self.now number) }
+    {
+        matches!(self.threads[number].half, Half::Locking { .. })
+    }
+
     /// Whether a thread makes an object, and has words of its block left to look at or to write.
     fn is_preparing(&self, number: usize) -> bool
         requires { number < length self.now.walks }
@@ -166,6 +195,13 @@ impl World {
         self.ended += ends(stepped);
         stepped
     }
+}
+
+/// Whether a step was an event.
+fn is_event(stepped: Stepped) -> bool
+    ensures { result ≡ is_event stepped }
+{
+    matches!(stepped, Stepped::Event(_))
 }
 
 /// The turn whose act the step was, or ended.

@@ -18,19 +18,19 @@ use Rattle.control_word.specs.State.{Has, Held, Object, Phase, State, Stored, ba
 use Rattle.control_word.specs.State.{stock, stored, unmade, weak_number}
 use Rattle.control_word.specs.Views.{used_up}
 use Rattle.step_core.specs.declared.half.Half.{Half}
-use Rattle.step_core.specs.declared.half.Half.TheVariants.{Rest, Making, Ending}
+use Rattle.step_core.specs.declared.half.Half.TheVariants.{Rest, Making, Ending, Locking}
 use Rattle.step_core.specs.declared.holdings.Pointer.{Pointer}
 use Rattle.step_core.specs.declared.past.Deed.{Deed}
-use Rattle.step_core.specs.declared.past.Deed.TheVariants.{Prepare, Write, Claim, Share, Leave, Count, Clear, Finish}
+use Rattle.step_core.specs.declared.past.Deed.TheVariants.{Prepare, Write, Claim, Share, WeakShare, Leave, WeakLeave, Lock, Count, Expired, Clear, Finish}
 use Rattle.step_core.specs.Actors.{HalfFits, Stocks, in_store}
 use Rattle.step_core.specs.Holdings.{Holds, Slots, is_it, owns, slot, times}
 use Rattle.step_core.specs.Openings.{opening}
 use Rattle.step_core.specs.Scenes.{least}
-use Rattle.step_core.specs.Stories.{Kept, known, Nothing, Story, after, object_in, owner_in, pending, state}
+use Rattle.step_core.specs.Stories.{Kept, known, Nothing, Story, after, handle_in, object_in, owner_in, pending, state, weak_in}
 use Rattle.step_core.proofs.holding.Least.{least_part}
-use Rattle.step_core.proofs.holding.Owning.{slot_held}
+use Rattle.step_core.proofs.holding.Owning.{same_owns, slot_held}
 use Rattle.step_core.proofs.holding.Slots.{one_slot}
-use Rattle.step_core.proofs.tables.Places.{ending_busy, owner_busy, there}
+use Rattle.step_core.proofs.tables.Places.{ending_busy, handle_busy, there}
 
 -- what is counted of a desk's part
 num_part : {A : Type 0} (who : A → ℕ) (d : ℕ) (p : A → Bool) (l : List A) → ((x : A) → p x ≡ true → who x ≡ d) → num p l ≡ num p (part who d l)
@@ -55,7 +55,11 @@ same_deed v e d (Write b j m) n = still (state v) d
 same_deed v e d (Claim b enabled null fields) n = same_after {V = Nothing} (state v) d e (event.Make b enabled null fields tt) n (λ z. z)
 same_deed v e d (Share b p q) n = same_after {V = Nothing} (state v) d e (event.Share (owner_in v b p) q) n (λ z. z)
 same_deed v e d (Leave b p last) n = same_after {V = Nothing} (state v) d e (event.Leave (owner_in v b p) last) n (λ z. z)
-same_deed v e d (Count b p m) n = still (state v) d
+same_deed v e d (WeakShare b p) n = same_after {V = Nothing} (state v) d e (event.WeakShare (object_in v b) p) n (λ z. z)
+same_deed v e d (WeakLeave b p vacant) n = same_after {V = Nothing} (state v) d e (event.WeakLeave (weak_in v b p) vacant) n (λ z. z)
+same_deed v e d (Lock b p got) n = same_after {V = Nothing} (state v) d e (event.Lock (weak_in v b p) got) n (λ z. z)
+same_deed v e d (Count k b p m) n = still (state v) d
+same_deed v e d (Expired k b p x) n = still (state v) d
 same_deed v e d (Clear b m) n = same_after {V = Nothing} (state v) d e (event.ClearMember (object_in v b) m (empty (kind_of_member m))) n (λ z. z)
 same_deed v e d (Finish b vacant) n = same_after {V = Nothing} (state v) d e (event.Finish (object_in v b) vacant tt) n (λ z. z)
 
@@ -66,7 +70,11 @@ block_stays v e o (Write b j m) le = refl
 block_stays v e o (Claim b enabled null fields) le = (block_after {V = Nothing} (state v) e o (event.Make b enabled null fields tt) le).0
 block_stays v e o (Share b p q) le = refl
 block_stays v e o (Leave b p last) le = (block_after {V = Nothing} (state v) e o (event.Leave (owner_in v b p) last) le).0
-block_stays v e o (Count b p m) le = refl
+block_stays v e o (WeakShare b p) le = refl
+block_stays v e o (WeakLeave b p vacant) le = refl
+block_stays v e o (Lock b p got) le = refl
+block_stays v e o (Count k b p m) le = refl
+block_stays v e o (Expired k b p x) le = refl
 block_stays v e o (Clear b m) le = (block_after {V = Nothing} (state v) e o (event.ClearMember (object_in v b) m (empty (kind_of_member m))) le).0
 block_stays v e o (Finish b vacant) le = (block_after {V = Nothing} (state v) e o (event.Finish (object_in v b) vacant tt) le).0
 
@@ -82,31 +90,15 @@ kept_object v e b x kept kept' busy busy' =
     subst (λ (k : ℕ). (state (after v e x)).latest k ≡ o) c p
 
 still_held : (d : ℕ) (slots : Slots) (v : Story) (e : ℕ) (x : Deed) (i : ℕ) (y : Pointer) → e ≢ d → Holds d slots v → slot slots i ≡ Some y
-    → Has (held d (owner_in v y.block y.place)) (state (after v e x)).hands
+    → Has (held d (handle_in v y.kind y.block y.place)) (state (after v e x)).hands
 still_held d slots v e x i y n holds at = has_same (state v) (state (after v e x)) d _ (same_deed v e d x n) (slot_held d slots v i y holds at)
 
 slot_object : (d : ℕ) (slots : Slots) (v : Story) (e : ℕ) (x : Deed) (i : ℕ) (y : Pointer) → e ≢ d → Kept v → Kept (after v e x) → Holds d slots v
     → slot slots i ≡ Some y → object_in (after v e x) y.block ≡ object_in v y.block
 slot_object d slots v e x i y n kept kept' holds at =
-    kept_object v e y.block x kept kept' (owner_busy v d y.block y.place kept (slot_held d slots v i y holds at))
-    (held_busy (opening v.extent) (state (after v e x)) d (object_in v y.block) Owner y.place
+    kept_object v e y.block x kept kept' (handle_busy v d y.kind y.block y.place kept (slot_held d slots v i y holds at))
+    (held_busy (opening v.extent) (state (after v e x)) d (object_in v y.block) y.kind y.place
     (sound (opening v.extent) (after v e x).history kept'.stands.legal) (still_held d slots v e x i y n holds at))
-
-same_is : (v w : Story) (h : Handle) (y : Option Pointer) → ((p : Pointer) → y ≡ Some p → object_in w p.block ≡ object_in v p.block)
-    → is_it w h y ≡ is_it v h y
-same_is v w h None f = refl
-same_is v w h (Some p) f = ap (λ (o : ℕ). same_handle h (owner o p.place)) (f p refl)
-
-same_owns : (v w : Story) (h : Handle) (slots : Slots) → ((i : ℕ) (p : Pointer) → slot slots i ≡ Some p → object_in w p.block ≡ object_in v p.block)
-    → owns w slots h ≡ owns v slots h
-same_owns v w h [] f = refl
-same_owns v w h (y ∷ ys) f =
-    let i = same_owns v w h ys (λ j p e. f (suc j) p e) in
-    let a = num_cons (is_it w h) y ys in
-    let b = num_cons (is_it v h) y ys in
-    let c : num (is_it w h) (y ∷ []) ≡ num (is_it v h) (y ∷ []) = one_slot (is_it w h) y
-    ∙ ap (λ (t : Bool). cond t 1 0) (same_is v w h y (λ p e. f 0 p e)) ∙ sym (one_slot (is_it v h) y) in
-    omega (arith, i, a, b, c)
 
 -- another desk's deed leaves what a desk holds
 pub holds_others : (d : ℕ) (slots : Slots) (v : Story) (e : ℕ) (x : Deed) → e ≢ d → Kept v → Kept (after v e x) → Holds d slots v
@@ -157,7 +149,11 @@ ends_on v e d o (Leave b p last) n kept kept' end =
     let alive = counted_live (opening v.extent) (state v) (object_in v b) fine (owner_counted (state v) e (object_in v b) p has) in
     put_cases (λ i (y : Object). i ≡ o → y.phase ≡ ending d) (state v).object (object_in v b) _ o
     (λ q t. absurd (let k : ending d ≡ live = sym end ∙ ap (λ (j : ℕ). ((state v).object j).phase) q ∙ alive in cc)) (λ q t. end) refl
-ends_on v e d o (Count b p m) n kept kept' end = end
+ends_on v e d o (WeakShare b p) n kept kept' end = end
+ends_on v e d o (WeakLeave b p vacant) n kept kept' end = end
+ends_on v e d o (Lock b p got) n kept kept' end = end
+ends_on v e d o (Count k b p m) n kept kept' end = end
+ends_on v e d o (Expired k b p x) n kept kept' end = end
 ends_on v e d o (Clear b m) n kept kept' end =
     put_cases (λ i (y : Object). i ≡ o → y.phase ≡ ending d) (state v).object (object_in v b) _ o
     (λ q t. ap (λ (j : ℕ). ((state v).object j).phase) (sym q) ∙ end) (λ q t. end) refl
@@ -183,6 +179,7 @@ half_others d (Making b at f) fields v e x n kept kept' fits =
       least = least_others d (state v) (state (after v e x)) (same_deed v e d x n) ∙ fits.least;
       done = λ j le. ap (λ (p : Pending Nothing). get_or (known p) j 0) same ∙ fits.done j le;
     }
+half_others d (Locking word) fields v e x n kept kept' fits = (same_pending v e d x n ∙ fits.0, fits.1)
 half_others d (Ending b at k) fields v e x n kept kept' fits =
     let end = ends_on v e d (object_in v b) x n kept kept' fits.ending in
     let busy : 0 < weak_number (state (after v e x)) (object_in v b) = let c : common ((state (after v e x)).object

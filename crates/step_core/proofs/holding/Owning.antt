@@ -2,6 +2,7 @@
 use Rattle.std.proofs.Common.{◌≡◌, ◌≢◌, ℕ, suc, ◌<◌, ◌≤◌, ◌==◌, Bool, false, cond, List, [], ◌∷◌, length, set, Option, Some, None, refl, sym, ap, subst}
 use Rattle.std.proofs.Common.{◌∙◌, ⊎_elim, arith, get_or-set_same, get_or-set_other, length-set}
 use Rattle.std.proofs.lemmas.Bool.{cases_eq}
+use Rattle.std.proofs.lemmas.Option.{same_Some}
 use Rattle.control_word.proofs.lists.Tallies.{handle_self, held_self, held_true, num, num_cons, num_has, num_without}
 use Rattle.control_word.proofs.words.Counting.{bag_one}
 use Rattle.control_word.specs.declared.handle.Handle.{Handle}
@@ -9,22 +10,26 @@ use Rattle.control_word.specs.declared.place.Block.{Block}
 use Rattle.control_word.proofs.history.Legal.{sound}
 use Rattle.control_word.proofs.lists.Tallies.{put_other, put_same}
 use Rattle.control_word.specs.Events.{place_at}
-use Rattle.control_word.specs.Handles.{IsPointer, owner, same_handle}
-use Rattle.control_word.specs.State.{Has, Held, InShape, bag_size, held, same_held, stored}
+use Rattle.control_word.specs.declared.handle.Kind.{Kind}
+use Rattle.control_word.specs.declared.handle.Kind.TheVariants.{Owner, Weak}
+use Rattle.control_word.specs.Handles.{IsPointer, handle, owner, same_handle}
+use Rattle.control_word.specs.State.{Has, Held, InShape, State, bag_size, held, same_held, stored, without}
 use Rattle.step_core.specs.declared.holdings.Pointer.{Pointer}
-use Rattle.step_core.specs.declared.past.Deed.TheVariants.{Claim, Share, Leave, Count}
-use Rattle.step_core.specs.Holdings.{Holds, IsSlot, Slots, is_full, is_it, owns, slot}
+use Rattle.step_core.specs.declared.past.Deed.{Deed}
+use Rattle.step_core.specs.declared.past.Deed.TheVariants.{Claim}
+use Rattle.step_core.specs.Deeds.{leave_as, share, share_as}
+use Rattle.step_core.specs.Holdings.{Holds, IsSlot, Slots, is_full, is_it, owns, slot, times, weak_as, weak_slot}
 use Rattle.step_core.specs.Openings.{opening}
-use Rattle.step_core.specs.Stories.{Story, Kept, after, object_in, owner_in, state}
-use Rattle.step_core.proofs.tables.Places.{owner_busy, there}
+use Rattle.step_core.specs.Stories.{Story, Kept, after, handle_in, object_in, state, weak_in}
+use Rattle.step_core.proofs.tables.Places.{handle_busy, there}
 use Rattle.step_core.proofs.holding.Slots.{counted_has, full_less, has_slot, num_set, one_held, one_slot, slot_inside}
 use Rattle.step_core.proofs.tables.Start.{forty}
 
 -- a pointer in a slot is a handle in the bag
 pub slot_held : (d : ℕ) (slots : Slots) (v : Story) (i : ℕ) (x : Pointer) → Holds d slots v → slot slots i ≡ Some x
-    → Has (held d (owner_in v x.block x.place)) (state v).hands
+    → Has (held d (handle_in v x.kind x.block x.place)) (state v).hands
 slot_held d slots v i x holds e =
-    let h = owner_in v x.block x.place in
+    let h = handle_in v x.kind x.block x.place in
     let n = num_has (is_it v h) (Some x) slots (has_slot slots i x e) (handle_self h) in
     counted_has (held d h) (state v).hands (let o = holds.owned h in omega (arith, n, o))
 
@@ -47,11 +52,29 @@ formed_set slots i x all lt fine j =
     ⊎_elim (λ (e : j ≡ i). subst (λ (k : ℕ). IsSlot (slot (set slots i x) k)) (sym e) (subst IsSlot (sym (get_or-set_same slots i x None lt)) fine))
     (λ (n : j ≢ i). subst IsSlot (sym (get_or-set_other slots i j x None n)) (all j)) (cases_eq j i)
 
-pub holds_share : (d : ℕ) (slots : Slots) (v : Story) (i : ℕ) (x : Pointer) → Holds d slots v → IsPointer x.place → i < length slots
-    → slot slots i ≡ None
-    → Holds d (set slots i (Some x)) (after v d (Share x.block x.place x.place))
-holds_share d slots v i x holds fine lt e =
-    let y = owner_in v x.block x.place in
+same_is : (v w : Story) (h : Handle) (y : Option Pointer) → ((p : Pointer) → y ≡ Some p → object_in w p.block ≡ object_in v p.block)
+    → is_it w h y ≡ is_it v h y
+same_is v w h None f = refl
+same_is v w h (Some p) f = ap (λ (o : ℕ). same_handle h (handle p.kind (Some o) p.place)) (f p refl)
+
+pub same_owns : (v w : Story) (h : Handle) (slots : Slots) → ((i : ℕ) (p : Pointer) → slot slots i ≡ Some p → object_in w p.block ≡ object_in v p.block)
+    → owns w slots h ≡ owns v slots h
+same_owns v w h [] f = refl
+same_owns v w h (y ∷ ys) f =
+    let i = same_owns v w h ys (λ j p e. f (suc j) p e) in
+    let a = num_cons (is_it w h) y ys in
+    let b = num_cons (is_it v h) y ys in
+    let c : num (is_it w h) (y ∷ []) ≡ num (is_it v h) (y ∷ []) = one_slot (is_it w h) y
+    ∙ ap (λ (t : Bool). cond t 1 0) (same_is v w h y (λ p e. f 0 p e)) ∙ sym (one_slot (is_it v h) y) in
+    omega (arith, i, a, b, c)
+
+-- a handle more, in a slot that was empty
+pub holds_more : (d : ℕ) (slots : Slots) (v w : Story) (i : ℕ) (x : Pointer) → Holds d slots v
+    → (state w).hands ≡ held d (handle_in v x.kind x.block x.place) ∷ (state v).hands → (state w).latest ≡ (state v).latest → IsPointer x.place
+    → i < length slots → slot slots i ≡ None → Holds d (set slots i (Some x)) w
+holds_more d slots v w i x holds hands latest fine lt e =
+    let y = handle_in v x.kind x.block x.place in
+    let new = set slots i (Some x) in
     record {
       owned = λ h.
           let a = num_cons (same_held (held d h)) (held d y) (state v).hands in
@@ -59,21 +82,27 @@ holds_share d slots v i x holds fine lt e =
           let s = num_set (is_it v h) slots i (Some x) lt in
           let z : num (is_it v h) (slot slots i ∷ []) ≡ 0 = ap (λ (w : Option Pointer). num (is_it v h) (w ∷ [])) e in
           let t = one_slot (is_it v h) (Some x) in
-          let o = holds.owned h in omega (arith, a, b, s, z, t, o);
+          let o = holds.owned h in
+          let m : times (state w) d h ≡ num (same_held (held d h)) (held d y ∷ (state v).hands) = ap (λ (l : List Held). num (same_held (held d h)) l) hands in
+          let k = same_owns v w h new (λ j p q. ap (λ (f : ℕ → ℕ). f p.block.0) latest) in omega (arith, a, b, s, z, t, o, m, k);
       size =
           (let a = bag_one d y (state v).hands in
           let s = num_set is_full slots i (Some x) lt in
           let z : num is_full (slot slots i ∷ []) ≡ 0 = ap (λ (w : Option Pointer). num is_full (w ∷ [])) e in
-          let o = holds.size in omega (arith, a, s, z, o));
+          let m : bag_size (state w) d ≡ num (λ (q : Held). q.desk == d) (held d y ∷ (state v).hands) = ap (λ (l : List Held). num (λ (q : Held). q.desk == d) l) hands in
+          let o = holds.size in omega (arith, a, s, z, o, m));
       formed = formed_set slots i (Some x) holds.formed lt fine;
     }
 
-pub holds_leave : (d : ℕ) (slots : Slots) (v : Story) (i : ℕ) (x : Pointer) (last : Bool) → Holds d slots v → slot slots i ≡ Some x
-    → Holds d (set slots i None) (after v d (Leave x.block x.place last))
-holds_leave d slots v i x last holds e =
-    let y = owner_in v x.block x.place in
+-- a handle less, of a slot
+pub holds_less : (d : ℕ) (slots : Slots) (v w : Story) (i : ℕ) (x : Pointer) → Holds d slots v → slot slots i ≡ Some x
+    → (state w).hands ≡ without same_held (held d (handle_in v x.kind x.block x.place)) (state v).hands → (state w).latest ≡ (state v).latest
+    → Holds d (set slots i None) w
+holds_less d slots v w i x holds e hands latest =
+    let y = handle_in v x.kind x.block x.place in
     let has = slot_held d slots v i x holds e in
     let lt = slot_inside slots i x e in
+    let less = without same_held (held d y) (state v).hands in
     record {
       owned = λ h.
           let a = num_without same_held held_true held_self (same_held (held d h)) (held d y) (state v).hands has in
@@ -81,18 +110,77 @@ holds_leave d slots v i x last holds e =
           let s = num_set (is_it v h) slots i None lt in
           let z = ap (λ (w : Option Pointer). num (is_it v h) (w ∷ [])) e in
           let t = one_slot (is_it v h) (Some x) in
-          let o = holds.owned h in omega (arith, a, b, s, z, t, o);
+          let o = holds.owned h in
+          let m : times (state w) d h ≡ num (same_held (held d h)) less = ap (λ (l : List Held). num (same_held (held d h)) l) hands in
+          let k = same_owns v w h (set slots i None) (λ j p q. ap (λ (f : ℕ → ℕ). f p.block.0) latest) in omega (arith, a, b, s, z, t, o, m, k);
       size =
           (let a = num_without same_held held_true held_self (λ (w : Held). w.desk == d) (held d y) (state v).hands has in
           let b = bag_one d y [] in
           let s = num_set is_full slots i None lt in
           let z = ap (λ (w : Option Pointer). num is_full (w ∷ [])) e in
-          let o = holds.size in omega (arith, a, b, s, z, o));
+          let m : bag_size (state w) d ≡ num (λ (q : Held). q.desk == d) less = ap (λ (l : List Held). num (λ (q : Held). q.desk == d) l) hands in
+          let o = holds.size in omega (arith, a, b, s, z, o, m));
       formed = formed_set slots i None holds.formed lt tt;
     }
 
-pub holds_count : (d : ℕ) (slots : Slots) (v : Story) (x : Pointer) (n : ℕ) → Holds d slots v → Holds d slots (after v d (Count x.block x.place n))
-holds_count d slots v x n holds = record { owned = holds.owned; size = holds.size; formed = holds.formed }
+-- no handle comes or goes
+pub holds_look : (d : ℕ) (slots : Slots) (v w : Story) → (state w).hands ≡ (state v).hands → (state w).latest ≡ (state v).latest → Holds d slots v
+    → Holds d slots w
+holds_look d slots v w hands latest holds =
+    record {
+      owned = λ h.
+          ap (λ (l : List Held). num (same_held (held d h)) l) hands ∙ holds.owned h
+          ∙ sym (same_owns v w h slots (λ j p q. ap (λ (f : ℕ → ℕ). f p.block.0) latest));
+      size = ap (λ (l : List Held). num (λ (q : Held). q.desk == d) l) hands ∙ holds.size;
+      formed = holds.formed;
+    }
+
+-- a weak pointer in a slot
+pub weak_held : (d : ℕ) (slots : Slots) (v : Story) (i : ℕ) (x : Pointer) → Holds d slots v → weak_slot (slot slots i) ≡ Some x
+    → Has (held d (weak_in v x.block x.place)) (state v).hands
+weak_held d slots v i x holds e =
+    let w = weak_is (slot slots i) x e in
+    subst (λ (k : Kind). Has (held d (handle_in v k x.block x.place)) (state v).hands) w.1 (slot_held d slots v i x holds w.0)
+  where
+    weak_is : (o : Option Pointer) (x : Pointer) → weak_slot o ≡ Some x → (o ≡ Some x) × (x.kind ≡ Weak)
+    weak_is None x e = cc
+    weak_is (Some y) x e = go y.kind refl e
+      where
+        go : (k : Kind) → y.kind ≡ k → weak_as k y ≡ Some x → (Some y ≡ Some x) × (x.kind ≡ Weak)
+        go Owner is e = cc
+        go Weak is e = (e, ap (λ (p : Pointer). p.kind) (sym (same_Some y x e)) ∙ is)
+
+-- the place of a weak pointer in a slot is well formed
+pub weak_formed : (d : ℕ) (slots : Slots) (v : Story) (i : ℕ) (x : Pointer) → Holds d slots v → weak_slot (slot slots i) ≡ Some x → IsPointer x.place
+weak_formed d slots v i x holds e = go (slot slots i) (holds.formed i) e
+  where
+    go : (o : Option Pointer) → IsSlot o → weak_slot o ≡ Some x → IsPointer x.place
+    go None f e = cc
+    go (Some y) f e = kinds y.kind e
+      where
+        kinds : (k : Kind) → weak_as k y ≡ Some x → IsPointer x.place
+        kinds Owner e = cc
+        kinds Weak e = subst (λ (p : Pointer). IsPointer p.place) (same_Some y x e) f
+
+-- a copy of a pointer
+pub holds_share : (d : ℕ) (slots : Slots) (v : Story) (i : ℕ) (x : Pointer) → Holds d slots v → IsPointer x.place → i < length slots
+    → slot slots i ≡ None → Holds d (set slots i (Some x)) (after v d (share x))
+holds_share d slots v i x holds fine lt e = go x.kind refl
+  where
+    go : (k : Kind) → x.kind ≡ k → Holds d (set slots i (Some x)) (after v d (share_as k x))
+    go Owner is = holds_more d slots v (after v d (share_as Owner x)) i x holds (ap (λ (k : Kind). held d (handle_in v k x.block x.place) ∷ (state v).hands) (sym is)) refl fine lt e
+    go Weak is = holds_more d slots v (after v d (share_as Weak x)) i x holds (ap (λ (k : Kind). held d (handle_in v k x.block x.place) ∷ (state v).hands) (sym is)) refl fine lt e
+
+-- a pointer leaves
+pub holds_leave : (d : ℕ) (slots : Slots) (v : Story) (i : ℕ) (x : Pointer) (last : Bool) → Holds d slots v → slot slots i ≡ Some x
+    → Holds d (set slots i None) (after v d (leave_as x.kind x last))
+holds_leave d slots v i x last holds e = go x.kind refl
+  where
+    go : (k : Kind) → x.kind ≡ k → Holds d (set slots i None) (after v d (leave_as k x last))
+    go Owner is = holds_less d slots v (after v d (leave_as Owner x last)) i x holds e
+        (ap (λ (k : Kind). without same_held (held d (handle_in v k x.block x.place)) (state v).hands) (sym is)) refl
+    go Weak is = holds_less d slots v (after v d (leave_as Weak x last)) i x holds e
+        (ap (λ (k : Kind). without same_held (held d (handle_in v k x.block x.place)) (state v).hands) (sym is)) refl
 
 -- a value goes from one slot to another
 pub holds_move : (d : ℕ) (slots : Slots) (v : Story) (i j : ℕ) → Holds d slots v → i < length slots → j < length slots → i ≢ j → slot slots j ≡ None
@@ -119,7 +207,7 @@ apart : (d : ℕ) (slots : Slots) (v : Story) (b : Block) (i : ℕ) (x : Pointer
     → slot slots i ≡ Some x
     → x.block.0 ≢ b.0
 apart d slots v b i x kept holds has e same =
-    let busy = owner_busy v d x.block x.place kept (slot_held d slots v i x holds e) in
+    let busy = handle_busy v d x.kind x.block x.place kept (slot_held d slots v i x holds e) in
     let t = there v x.block kept busy in
     let vacant = ((sound (opening v.extent) v.history kept.stands.legal).stores d b.0 has).0 in
     let z = vacant (object_in v x.block) (t.0 ∙ same) in omega (arith, busy, z)
@@ -129,7 +217,7 @@ claimed_is : (v : Story) (d : ℕ) (b : Block) (enabled null : Bool) (fields : L
     → is_it (after v d (Claim b enabled null fields)) h y ≡ is_it v h y
 claimed_is v d b enabled null fields h None f = refl
 claimed_is v d b enabled null fields h (Some p) f =
-    ap (λ (o : ℕ). same_handle h (owner o p.place)) (put_other (state v).latest b.0 (suc (state v).made) p.block.0 (f p refl))
+    ap (λ (o : ℕ). same_handle h (handle p.kind (Some o) p.place)) (put_other (state v).latest b.0 (suc (state v).made) p.block.0 (f p refl))
 
 claimed_owns : (v : Story) (d : ℕ) (b : Block) (enabled null : Bool) (fields : List ℕ) (h : Handle) (slots : Slots)
     → ((i : ℕ) (p : Pointer) → slot slots i ≡ Some p → p.block.0 ≢ b.0) → owns (after v d (Claim b enabled null fields)) slots h ≡ owns v slots h
@@ -147,9 +235,9 @@ claimed_owns v d b enabled null fields h (y ∷ ys) f =
 pub holds_claim : (d : ℕ) (slots : Slots) (v : Story) (i : ℕ) (b : Block) (fields : List ℕ) → Kept v → Holds d slots v
     → Has (stored d b.0) (state v).stores
     → InShape (opening v.extent) b.0 → v.extent.shape.blocks ≤ 65535 → i < length slots → slot slots i ≡ None
-    → Holds d (set slots i (Some (record { block = b; place = place_at b.0 }))) (after v d (Claim b false false fields))
+    → Holds d (set slots i (Some (record { kind = Owner; block = b; place = place_at b.0 }))) (after v d (Claim b false false fields))
 holds_claim d slots v i b fields kept holds has shape few lt e =
-    let x : Pointer = record { block = b; place = place_at b.0 } in
+    let x : Pointer = record { kind = Owner; block = b; place = place_at b.0 } in
     let w = after v d (Claim b false false fields) in
     let y = owner (suc (state v).made) (place_at b.0) in
     record {

@@ -8,7 +8,9 @@ use Rattle.control_word.proofs.steps.Look.{tells_count}
 use Rattle.control_word.proofs.steps.Share.{shares}
 use Rattle.control_word.proofs.steps.Standing.{has_headroom}
 use Rattle.control_word.specs.declared.event.Event.TheVariants as event
+use Rattle.control_word.specs.declared.handle.Kind.{Kind}
 use Rattle.control_word.specs.declared.handle.Kind.TheVariants.{Owner}
+use Rattle.control_word.specs.Words.{slot}
 use Rattle.control_word.specs.declared.place.Block.{Block}
 use Rattle.control_word.specs.declared.place.Place.{Place}
 use Rattle.control_word.specs.declared.view.Pending.TheVariants.{Idle}
@@ -22,9 +24,9 @@ use Rattle.control_word.specs.Steps.{me}
 use Rattle.control_word.specs.Views.{Stands, owed, sees_as}
 use Rattle.step_core.specs.declared.past.Deed.TheVariants.{Share, Leave, Count}
 use Rattle.step_core.specs.Openings.{opening}
-use Rattle.step_core.specs.Stories.{Story, Kept, after, object_in, owner_in, pending, state, view_in}
+use Rattle.step_core.specs.Stories.{Story, Kept, after, handle_in, object_in, owner_in, pending, state, view_in}
 use Rattle.step_core.proofs.tables.Standing.{point, ready, kept_after}
-use Rattle.step_core.proofs.tables.Places.{event_by, named, owner_busy, there}
+use Rattle.step_core.proofs.tables.Places.{event_by, handle_busy, named, owner_busy, there}
 
 -- the owner word has room
 pub headroom : (v : Story) (d : ℕ) (b : Block) (p : Option Place) → Kept v → d < v.extent.actors → pending v d ≡ Idle
@@ -37,6 +39,18 @@ headroom v d b p kept lt idle has =
 pub mine : (v : Story) (d : ℕ) (b : Block) (p : Option Place) → Kept v → d < v.extent.actors → Has (held d (owner_in v b p)) (state v).hands
     → Has (held (me (point v d)) (owner_in v b p)) (state v).hands
 mine v d b p kept lt has = subst (λ (n : ℕ). Has (held n (owner_in v b p)) (state v).hands) (sym (named v d kept lt)) has
+
+pub mine_as : (v : Story) (d : ℕ) (k : Kind) (b : Block) (p : Option Place) → Kept v → d < v.extent.actors → Has (held d (handle_in v k b p)) (state v).hands
+    → Has (held (me (point v d)) (handle_in v k b p)) (state v).hands
+mine_as v d k b p kept lt has = subst (λ (n : ℕ). Has (held n (handle_in v k b p)) (state v).hands) (sym (named v d kept lt)) has
+
+-- either word has room
+pub room_above : (v : Story) (d : ℕ) (i k : Kind) (b : Block) (p : Option Place) → Kept v → d < v.extent.actors → pending v d ≡ Idle
+    → Has (held d (handle_in v k b p)) (state v).hands → get_or v.words (spot b.0 (slot i)) 0 + 1099511627776 < 18446744073709551616
+room_above v d i k b p kept lt idle has =
+    let busy = handle_busy v d k b p kept has in
+    subst (λ (c : ℕ). get_or v.words (spot c (slot i)) 0 + 1099511627776 < 18446744073709551616) (there v b kept busy).0
+    (has_headroom (point v d) Idle (ready v d Idle kept lt idle) i (object_in v b) busy).0
 
 pub kept_share : (v : Story) (d : ℕ) (b : Block) (p q : Option Place) → Kept v → d < v.extent.actors → pending v d ≡ Idle
     → Has (held d (owner_in v b p)) (state v).hands → IsPointer q → bag_size (state v) d < (state v).allowance d → Kept (after v d (Share b p q))
@@ -100,35 +114,35 @@ told w n some way none =
     (λ u. let ne = eqb-false _ _ u in way (eqb-true _ _ t) (omega arith)))
     (λ t. let ne = eqb-false _ _ t in some (omega arith))
 
-telling : (v : Story) (d : ℕ) (b : Block) (p : Option Place) (n : ℕ) → Kept v → d < v.extent.actors → pending v d ≡ Idle
-    → Has (held d (owner_in v b p)) (state v).hands
+telling : (v : Story) (d : ℕ) (k : Kind) (b : Block) (p : Option Place) (n : ℕ) → Kept v → d < v.extent.actors → pending v d ≡ Idle
+    → Has (held d (handle_in v k b p)) (state v).hands
     → let w = get_or v.words (spot b.0 0) 0 in n ≡ cond (number_of w == 0) (cond (funds_of w == 0) 0 1) (number_of w)
-    → (let e = event.Count (owner_in v b p) n in
+    → (let e = event.Count (handle_in v k b p) n in
     Stands (opening v.extent) v.words (set v.views d (sees_as (view_in v.views d) Idle (entry (me (point v d)) e ∷ v.history))) (entry (me (point v d)) e ∷ v.history))
     × (owed v.views (spot b.0 0) ≡ 0 → n ≡ count (state v) (object_in v b))
-telling v d b p n kept lt idle has is =
-    let h = there v b kept (owner_busy v d b p kept has) in
+telling v d k b p n kept lt idle has is =
+    let h = there v b kept (handle_busy v d k b p kept has) in
     let w = get_or v.words (spot b.0 0) 0 in
     let low = number_of w in
     let high = funds_of w in
-    subst (λ (m : ℕ). (let e = event.Count (owner_in v b p) m in
+    subst (λ (m : ℕ). (let e = event.Count (handle_in v k b p) m in
     Stands (opening v.extent) v.words (set v.views d (sees_as (view_in v.views d) Idle (entry (me (point v d)) e ∷ v.history))) (entry (me (point v d)) e ∷ v.history))
     × (owed v.views (spot b.0 0) ≡ 0 → m ≡ count (state v) (object_in v b))) (sym is)
     (subst (λ (c : ℕ). get_or v.words (spot c 0) 0 ≡ low + 4294967296 * high → low < 4294967296
-    → (let e = event.Count (owner_in v b p) (cond (low == 0) (cond (high == 0) 0 1) low) in
+    → (let e = event.Count (handle_in v k b p) (cond (low == 0) (cond (high == 0) 0 1) low) in
     Stands (opening v.extent) v.words (set v.views d (sees_as (view_in v.views d) Idle (entry (me (point v d)) e ∷ v.history))) (entry (me (point v d)) e ∷ v.history))
     × (owed v.views (spot c 0) ≡ 0 → cond (low == 0) (cond (high == 0) 0 1) low ≡ count (state v) (object_in v b))) h.0
-    (tells_count (point v d) Owner (object_in v b) p low high (ready v d Idle kept lt idle) (mine v d b p kept lt has)) (omega arith) (omega arith))
+    (tells_count (point v d) k (object_in v b) p low high (ready v d Idle kept lt idle) (mine_as v d k b p kept lt has)) (omega arith) (omega arith))
 
-pub kept_count : (v : Story) (d : ℕ) (b : Block) (p : Option Place) (n : ℕ) → Kept v → d < v.extent.actors → pending v d ≡ Idle
-    → Has (held d (owner_in v b p)) (state v).hands
-    → (let w = get_or v.words (spot b.0 0) 0 in n ≡ cond (number_of w == 0) (cond (funds_of w == 0) 0 1) (number_of w)) → Kept (after v d (Count b p n))
-kept_count v d b p n kept lt idle has is =
-    kept_after v d (Count b p n) kept lt
-    (event_by v d v.words Idle (event.Count (owner_in v b p) n) kept lt (telling v d b p n kept lt idle has is).0) kept.bare
+pub kept_count : (v : Story) (d : ℕ) (k : Kind) (b : Block) (p : Option Place) (n : ℕ) → Kept v → d < v.extent.actors → pending v d ≡ Idle
+    → Has (held d (handle_in v k b p)) (state v).hands
+    → (let w = get_or v.words (spot b.0 0) 0 in n ≡ cond (number_of w == 0) (cond (funds_of w == 0) 0 1) (number_of w)) → Kept (after v d (Count k b p n))
+kept_count v d k b p n kept lt idle has is =
+    kept_after v d (Count k b p n) kept lt
+    (event_by v d v.words Idle (event.Count (handle_in v k b p) n) kept lt (telling v d k b p n kept lt idle has is).0) kept.bare
 
-pub exact_count : (v : Story) (d : ℕ) (b : Block) (p : Option Place) (n : ℕ) → Kept v → d < v.extent.actors → pending v d ≡ Idle
-    → Has (held d (owner_in v b p)) (state v).hands
+pub exact_count : (v : Story) (d : ℕ) (k : Kind) (b : Block) (p : Option Place) (n : ℕ) → Kept v → d < v.extent.actors → pending v d ≡ Idle
+    → Has (held d (handle_in v k b p)) (state v).hands
     → (let w = get_or v.words (spot b.0 0) 0 in n ≡ cond (number_of w == 0) (cond (funds_of w == 0) 0 1) (number_of w))
     → owed v.views (spot b.0 0) ≡ 0 → n ≡ count (state v) (object_in v b)
-exact_count v d b p n kept lt idle has is calm = (telling v d b p n kept lt idle has is).1 calm
+exact_count v d k b p n kept lt idle has is calm = (telling v d k b p n kept lt idle has is).1 calm

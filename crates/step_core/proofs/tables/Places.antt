@@ -4,6 +4,7 @@ use Rattle.control_word.proofs.history.Legal.{held_busy, sound}
 use Rattle.control_word.proofs.history.Soundness.{IsBusy}
 use Rattle.control_word.proofs.words.Frames.{spot_fits}
 use Rattle.control_word.specs.declared.event.Event.{Event}
+use Rattle.control_word.specs.declared.handle.Kind.{Kind}
 use Rattle.control_word.specs.declared.handle.Kind.TheVariants.{Owner}
 use Rattle.control_word.specs.declared.place.Block.{Block}
 use Rattle.control_word.specs.declared.place.Place.{Place}
@@ -15,7 +16,7 @@ use Rattle.control_word.specs.State.{Has, InShape, common, ending, held, stored}
 use Rattle.control_word.specs.Steps.{me}
 use Rattle.control_word.specs.Views.{Fits, Stands, sees_as}
 use Rattle.step_core.specs.Openings.{opening}
-use Rattle.step_core.specs.Stories.{Nothing, Story, Kept, object_in, owner_in, pending, state, view_in}
+use Rattle.step_core.specs.Stories.{Nothing, Story, Kept, handle_in, object_in, owner_in, pending, state, view_in}
 use Rattle.step_core.proofs.tables.Standing.{point, ready}
 
 -- a word of a block of the shape
@@ -50,6 +51,10 @@ there v b kept busy =
 
 pub owner_busy : (v : Story) (d : ℕ) (b : Block) (p : Option Place) → Kept v → Has (held d (owner_in v b p)) (state v).hands → IsBusy (state v) (object_in v b)
 owner_busy v d b p kept has = held_busy (opening v.extent) (state v) d (object_in v b) Owner p (sound (opening v.extent) v.history kept.stands.legal) has
+
+pub handle_busy : (v : Story) (d : ℕ) (k : Kind) (b : Block) (p : Option Place) → Kept v → Has (held d (handle_in v k b p)) (state v).hands
+    → IsBusy (state v) (object_in v b)
+handle_busy v d k b p kept has = held_busy (opening v.extent) (state v) d (object_in v b) k p (sound (opening v.extent) v.history kept.stands.legal) has
 
 pub ending_busy : (v : Story) (d : ℕ) (b : Block) → ((state v).object (object_in v b)).phase ≡ ending d → IsBusy (state v) (object_in v b)
 ending_busy v d b e = let c : common ((state v).object (object_in v b)).phase ≡ 1 = ap common e in omega arith

@@ -1,6 +1,6 @@
 -- What a step adds to the totals, and what it takes from the tasks that are left.
 use Rattle.std.proofs.Common.{◌≡◌, ℕ, suc, ◌+◌, ◌<◌, ◌≤◌, ◌==◌, Bool, true, false, cond, List, [], ◌∷◌, length, get_or, refl, sym, ap, ◌∙◌, arith}
-use Rattle.std.specs.Prelude.{Option, Some, None, is_some, option_map, slice_set}
+use Rattle.std.specs.Prelude.{Option, Some, None, is_some, not, option_map, slice_set}
 use Rattle.std.proofs.lemmas.Bool.{cond_both, cond-true, cond-false}
 use Rattle.std.specs.List.{filter}
 use Rattle.control_word.specs.declared.event.Entry.{Entry}
@@ -10,21 +10,24 @@ use Rattle.control_word.specs.Histories.{entry}
 use Rattle.control_word.specs.Events.{place_at}
 use Rattle.control_word.specs.State.{weak}
 use Rattle.step_core.specs.declared.act.Act.{Act}
-use Rattle.step_core.specs.declared.act.Act.TheVariants.{Make, Share, Put, Leave, Clear, Count}
+use Rattle.step_core.specs.declared.act.Act.TheVariants.{Make, Share, Downgrade, Lock, Put, Leave, Clear, Count, Expired}
 use Rattle.step_core.specs.declared.act.Task.{Task}
 use Rattle.step_core.specs.declared.half.Half.{Half}
-use Rattle.step_core.specs.declared.half.Half.TheVariants.{Rest, Making, Ending}
+use Rattle.step_core.specs.declared.half.Half.TheVariants.{Rest, Making, Ending, Locking}
 use Rattle.step_core.specs.declared.holdings.Pointer.{Pointer}
 use Rattle.step_core.specs.declared.past.Deed.TheVariants as deed
 use Rattle.step_core.specs.declared.said.Answer.{Answer}
 use Rattle.step_core.specs.Actors.{wanted}
-use Rattle.step_core.specs.Courses.{Walk, fields_of, hand, idle, placed, settled, slots_idle, taken_idle}
+use Rattle.step_core.specs.Courses.{Walk, fields_of, hand, idle, locked, placed, settled, slots_idle, taken_idle}
 use Rattle.step_core.specs.Holdings.{Slots, slot}
-use Rattle.step_core.specs.Scenes.{answer_of, ended_by, is_last as is_last_of, least, on, owned, remains, went}
-use Rattle.step_core.specs.Steps.{Step, begins, begun, claims, end_of, ends_on, first, leave, made_on, prepares, share}
-use Rattle.step_core.specs.Steps.{silent, step_at, stepped, story_by, tell, walk_by}
+use Rattle.step_core.specs.Scenes.{answer_of, ended_by, found, least, on, remains, remains_as, taking, went}
+use Rattle.step_core.specs.Steps.{Step, acts, begins, begun, claims, end_as, end_of, ends_on, first, looks, made_on, prepares, tried, tries, trying}
+use Rattle.step_core.specs.Steps.{silent, step_at, stepped, story_by, walk_by}
+use Rattle.step_core.specs.Deeds.{as_weak, downgrade, is_last as is_last_of, leave, leave_as, lock, owned, owner_word, share, share_as, tell, tell_expired}
+use Rattle.control_word.specs.declared.handle.Kind.{Kind}
+use Rattle.control_word.specs.declared.handle.Kind.TheVariants.{Owner, Weak}
 use Rattle.step_core.specs.Stories.{Nothing, Story, known, object_in, owner_in, pending, state}
-use Rattle.step_core.specs.Told.{ends_by, makes}
+use Rattle.step_core.specs.Told.{ends_by, is_prepared, makes}
 use Rattle.step_core.specs.Totals.{ended_in, is_last, made_in}
 
 -- what settling passes over is no longer to be done
@@ -72,7 +75,38 @@ quiet v d k h h' w x n a le = record { made = plus_none _; ended = plus_none _; 
 shared : (v : Story) (d k : ℕ) (w x : Walk) (n : ℕ) → length x.todo ≤ n → (y : Option Pointer)
     → IsCounted v d Rest w n (Some (record { deed = option_map share y; half = Rest; walk = x; said = silent k }))
 shared v d k w x n le None = record { made = plus_none _; ended = plus_none _; few = omega (arith, le) }
-shared v d k w x n le (Some y) = record { made = plus_none _; ended = plus_none _; few = omega (arith, le) }
+shared v d k w x n le (Some y) = go y.kind
+  where
+    go : (q : Kind) → IsCounted v d Rest w n (Some (record { deed = Some (share_as q y); half = Rest; walk = x; said = silent k }))
+    go Owner = record { made = plus_none _; ended = plus_none _; few = omega (arith, le) }
+    go Weak = record { made = plus_none _; ended = plus_none _; few = omega (arith, le) }
+
+downgraded : (v : Story) (d k : ℕ) (w x : Walk) (n : ℕ) → length x.todo ≤ n → (y : Option Pointer)
+    → IsCounted v d Rest w n (Some (record { deed = option_map downgrade y; half = Rest; walk = x; said = silent k }))
+downgraded v d k w x n le None = record { made = plus_none _; ended = plus_none _; few = omega (arith, le) }
+downgraded v d k w x n le (Some y) = record { made = plus_none _; ended = plus_none _; few = omega (arith, le) }
+
+expired : (v : Story) (d k : ℕ) (w x : Walk) (n : ℕ) (a : Option Answer) → length x.todo ≤ n → (y : Option Pointer)
+    → IsCounted v d Rest w n (Some (record {
+      deed = option_map (tell_expired (state v)) y;
+      half = Rest;
+      walk = x;
+      said = record { statement = k; answer = a; ended = None };
+    }))
+expired v d k w x n a le None = record { made = plus_none _; ended = plus_none _; few = omega (arith, le) }
+expired v d k w x n a le (Some y) = record { made = plus_none _; ended = plus_none _; few = omega (arith, le) }
+
+-- a lock that is done
+locked_by : (v : Story) (d k : ℕ) (h : Half) (w x : Walk) (n : ℕ) (a : Option Answer) (y : Pointer) → is_prepared h ≡ false → length x.todo ≤ n
+    → IsCounted v d h w n (Some (record {
+      deed = Some (lock (state v) y);
+      half = Rest;
+      walk = x;
+      said = record { statement = k; answer = a; ended = None };
+    }))
+locked_by v d k h w x n a y e le =
+    let z : ◌≡◌ {A = ℕ} (cond (is_prepared h) 1 0) 0 = ap (λ (b : Bool). cond b 1 0) e in
+    record { made = omega (arith, z); ended = plus_none _; few = omega (arith, le, z) }
 
 told : (v : Story) (d k : ℕ) (w x : Walk) (n : ℕ) (a : Option Answer) → length x.todo ≤ n → (y : Option Pointer)
     → IsCounted v d Rest w n (Some (record {
@@ -84,17 +118,15 @@ told : (v : Story) (d k : ℕ) (w x : Walk) (n : ℕ) (a : Option Answer) → le
 told v d k w x n a le None = record { made = plus_none _; ended = plus_none _; few = omega (arith, le) }
 told v d k w x n a le (Some y) = record { made = plus_none _; ended = plus_none _; few = omega (arith, le) }
 
-left : (v : Story) (d k : ℕ) (w x : Walk) (n : ℕ) → length x.todo < n → (y : Option Pointer)
+left_by : (v : Story) (d k : ℕ) (w x : Walk) (n : ℕ) → length x.todo < n → (y : Pointer) (q : Kind) (b : Bool)
     → IsCounted v d Rest w n (Some (record {
-      deed = option_map (leave (state v)) y;
-      half = on (end_of (state v) k) Rest y;
+      deed = Some (leave_as q y b);
+      half = cond b (end_as q k y.block) Rest;
       walk = x;
-      said = record { statement = k; answer = None; ended = ended_by (state v) y };
+      said = record { statement = k; answer = None; ended = cond b (remains_as q ((state v).object (owned (state v) y))) None };
     }))
-left v d k w x n lt None = record { made = plus_none _; ended = plus_none _; few = omega arith }
-left v d k w x n lt (Some y) =
+left_by v d k w x n lt y Owner b =
     let s = state v in
-    let b = is_last_of s y in
     let r = remains (s.object (owned s y)) in
     let t = some_if b r in
     let m = one_most b in
@@ -106,13 +138,25 @@ left v d k w x n lt (Some y) =
           ∙ ap (λ (z : ℕ). ended_in v.history + z) (sym u);
       few = omega (arith, m, u);
     }
+left_by v d k w x n lt y Weak true = record { made = plus_none _; ended = plus_none _; few = omega (arith, lt) }
+left_by v d k w x n lt y Weak false = record { made = plus_none _; ended = plus_none _; few = omega (arith, lt) }
+
+left : (v : Story) (d k : ℕ) (w x : Walk) (n : ℕ) → length x.todo < n → (y : Option Pointer)
+    → IsCounted v d Rest w n (Some (record {
+      deed = option_map (leave (state v)) y;
+      half = on (end_of (state v) k) Rest y;
+      walk = x;
+      said = record { statement = k; answer = None; ended = ended_by (state v) y };
+    }))
+left v d k w x n lt None = record { made = plus_none _; ended = plus_none _; few = omega arith }
+left v d k w x n lt (Some y) = left_by v d k w x n lt y y.kind (is_last_of (state v) y)
 
 made_one : (v : Story) (d i k : ℕ) (w : Walk) (t : Task) (ts : List Task) (b : Block) (f : Bool) (fields : List ℕ) → (i == 5) ≡ true
     → IsCounted v d (Making b i f) w (length (t ∷ ts)) (Some (claims w k ts b fields))
 made_one v d i k w t ts b f fields e =
     let c : ◌≡◌ {A = ℕ} (cond (i == 5) 1 0) 1 = ap (λ (z : Bool). cond z 1 0) e in
     let m : suc (made_in v.history) ≡ made_in v.history + cond (i == 5) 1 0 = omega (arith, c) in
-    let l = settled_less (slice_set w.slots (hand w.slots) (Some (record { block = b; place = place_at b.0 }))) true ts in
+    let l = settled_less (slice_set w.slots (hand w.slots) (Some (record { kind = Owner; block = b; place = place_at b.0 }))) true ts in
     record { made = m; ended = plus_none _; few = omega (arith, c, l) }
 
 prepared_one : (v : Story) (d k found want i n : ℕ) (w : Walk) (b : Block) (f : Bool) → length w.todo ≤ n
@@ -144,8 +188,30 @@ begun_in v d k w t ts None is =
 begun_in v d k w t ts (Some b) is =
     record { made = plus_none _; ended = plus_none _; few = let e = ap (λ (z : List Task). length z) is in omega (arith, e) }
 
+taken_less : (slots : Slots) (must : Bool) (ts : List Task) (o : Option Pointer) → length (taking slots must ts o).todo ≤ length ts
+taken_less slots must ts None = settled_less slots (not must) ts
+taken_less slots must ts (Some x) = settled_less (slice_set slots (hand slots) (Some x)) true ts
+
+-- a lock is tried, or done
+tried_or : (v : Story) (d k : ℕ) (h : Half) (w : Walk) (ts : List Task) (n word : ℕ) (i : ℕ) (must : Bool) (y : Pointer) (b : Bool) → is_prepared h ≡ false
+    → length ts ≤ n → length w.todo ≤ n
+    → IsCounted v d h w n (Some (cond b (acts (state v) d w k ts (Lock i must) (Some (lock (state v) y)) Rest) (trying w k word)))
+tried_or v d k h w ts n word i must y true e le all =
+    let l = taken_less w.slots must ts (found (state v) (locked w.slots (Lock i must))) in
+    locked_by v d k h w (went (state v) d w.slots w.taken ts (Lock i must)) n (answer_of (state v) d w.slots (Lock i must)) y e (omega (arith, l, le))
+tried_or v d k h w ts n word i must y false e le all = quiet v d k h (cond (word == 0) Rest (Locking word)) w w n None all
+
+looked : (v : Story) (d k : ℕ) (w : Walk) (t : Task) (ts : List Task) (i : ℕ) (must : Bool) (o : Option Pointer) → w.todo ≡ t ∷ ts
+    → IsCounted v d Rest w (length (t ∷ ts)) (Some (on (looks v d w k ts (Lock i must)) (acts (state v) d w k ts (Lock i must) None Rest) o))
+looked v d k w t ts i must None is =
+    let l = taken_less w.slots must ts (found (state v) (locked w.slots (Lock i must))) in
+    quiet v d k Rest Rest w (went (state v) d w.slots w.taken ts (Lock i must)) (length (t ∷ ts)) (answer_of (state v) d w.slots (Lock i must)) (omega (arith, l))
+looked v d k w t ts i must (Some y) is =
+    tried_or v d k Rest w ts (length (t ∷ ts)) (owner_word v y) i must y (owner_word v y == 0) refl (omega arith)
+    (let e = ap (λ (z : List Task). length z) is in omega (arith, e))
+
 counted_act : (v : Story) (d : ℕ) (w : Walk) (t : Task) (ts : List Task) (a : Act) → w.todo ≡ t ∷ ts
-    → IsCounted v d Rest w (length (t ∷ ts)) (Some (first (state v) d w t.statement ts a))
+    → IsCounted v d Rest w (length (t ∷ ts)) (Some (first v d w t.statement ts a))
 counted_act v d w t ts (Make fields) is = begun_in v d t.statement w t ts (least d (state v).stores) is
 counted_act v d w t ts (Share i) is =
     let x = went (state v) d w.slots w.taken ts (Share i) in
@@ -168,7 +234,17 @@ counted_act v d w t ts (Count i) is =
     let l = settled_less w.slots w.taken ts in
     told v d t.statement w x (length (t ∷ ts)) (answer_of (state v) d w.slots (Count i)) (omega (arith, l)) (slot w.slots i)
 
-counted_rest : (v : Story) (d : ℕ) (w : Walk) (ts : List Task) → w.todo ≡ ts → IsCounted v d Rest w (length ts) (begun (state v) d w ts)
+counted_act v d w t ts (Downgrade i) is =
+    let x = went (state v) d w.slots w.taken ts (Downgrade i) in
+    let l = settled_less (slice_set w.slots (hand w.slots) (option_map as_weak (slot w.slots i))) true ts in
+    downgraded v d t.statement w x (length (t ∷ ts)) (omega (arith, l)) (slot w.slots i)
+counted_act v d w t ts (Lock i must) is = looked v d t.statement w t ts i must (locked w.slots (Lock i must)) is
+counted_act v d w t ts (Expired i) is =
+    let x = went (state v) d w.slots w.taken ts (Expired i) in
+    let l = settled_less w.slots w.taken ts in
+    expired v d t.statement w x (length (t ∷ ts)) (answer_of (state v) d w.slots (Expired i)) (omega (arith, l)) (slot w.slots i)
+
+counted_rest : (v : Story) (d : ℕ) (w : Walk) (ts : List Task) → w.todo ≡ ts → IsCounted v d Rest w (length ts) (begun v d w ts)
 counted_rest v d w [] is = record { made = plus_none _; ended = plus_none _; few = let e = ap (λ (z : List Task). length z) is in omega (arith, e) }
 counted_rest v d w (t ∷ ts) is = counted_act v d w t ts t.act is
 
@@ -181,8 +257,28 @@ counted_end v d stage k w b =
     (λ e. record { made = plus_none _; ended = plus_none _; few = omega arith })
     (λ e. record { made = plus_none _; ended = plus_none _; few = omega arith })
 
+counted_try : (v : Story) (d word : ℕ) (w : Walk) (t : Task) (ts : List Task) (a : Act) (o : Option Pointer) → w.todo ≡ t ∷ ts → locked w.slots a ≡ o
+    → IsCounted v d (Locking word) w (length (t ∷ ts)) (option_map (tries v d w t.statement ts a word) o)
+counted_try v d word w t ts a None is e = record { made = plus_none _; ended = plus_none _; few = let e = ap (λ (z : List Task). length z) is in omega (arith, e) }
+counted_try v d word w t ts (Lock i must) (Some y) is e =
+    tried_or v d t.statement (Locking word) w ts (length (t ∷ ts)) (owner_word v y) i must y (owner_word v y == word) refl (omega arith)
+    (let e = ap (λ (z : List Task). length z) is in omega (arith, e))
+counted_try v d word w t ts (Make fields) (Some y) is e = cc
+counted_try v d word w t ts (Share i) (Some y) is e = cc
+counted_try v d word w t ts (Downgrade i) (Some y) is e = cc
+counted_try v d word w t ts (Put i) (Some y) is e = cc
+counted_try v d word w t ts (Leave i) (Some y) is e = cc
+counted_try v d word w t ts (Clear i) (Some y) is e = cc
+counted_try v d word w t ts (Count i) (Some y) is e = cc
+counted_try v d word w t ts (Expired i) (Some y) is e = cc
+
+counted_lock : (v : Story) (d word : ℕ) (w : Walk) (ts : List Task) → w.todo ≡ ts → IsCounted v d (Locking word) w (length ts) (tried v d w word ts)
+counted_lock v d word w [] is = record { made = plus_none _; ended = plus_none _; few = let e = ap (λ (z : List Task). length z) is in omega (arith, e) }
+counted_lock v d word w (t ∷ ts) is = counted_try v d word w t ts t.act (locked w.slots t.act) is refl
+
 -- each step is counted
 pub counted : (v : Story) (d : ℕ) (h : Half) (w : Walk) → IsCounted v d h w (length w.todo) (step_at v d h w)
 counted v d Rest w = counted_rest v d w w.todo refl
 counted v d (Making b i f) w = counted_make v d i w b f w.todo refl
 counted v d (Ending b stage k) w = counted_end v d stage k w b
+counted v d (Locking word) w = counted_lock v d word w w.todo refl

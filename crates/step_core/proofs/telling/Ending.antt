@@ -7,20 +7,23 @@ use Rattle.control_word.proofs.lists.Tallies.{put_cases}
 use Rattle.control_word.specs.declared.place.Block.{Block}
 use Rattle.control_word.specs.State.{Object, State, common, ending, gone, live, put, weak}
 use Rattle.step_core.specs.declared.act.Act.{Act}
-use Rattle.step_core.specs.declared.act.Act.TheVariants.{Make, Share, Put, Leave, Clear, Count}
+use Rattle.step_core.specs.declared.act.Act.TheVariants.{Make, Share, Downgrade, Lock, Put, Leave, Clear, Count, Expired}
 use Rattle.step_core.specs.declared.act.Task.{Task}
 use Rattle.step_core.specs.declared.half.Half.{Half}
-use Rattle.step_core.specs.declared.half.Half.TheVariants.{Rest, Making, Ending}
+use Rattle.step_core.specs.declared.half.Half.TheVariants.{Rest, Making, Ending, Locking}
 use Rattle.step_core.specs.declared.holdings.Pointer.{Pointer}
 use Rattle.step_core.specs.declared.past.Deed.TheVariants as deed
 use Rattle.step_core.specs.declared.said.Said.{Said}
 use Rattle.step_core.specs.Actors.{wanted}
-use Rattle.step_core.specs.Courses.{Walk, fields_of}
+use Rattle.step_core.specs.Courses.{Walk, fields_of, locked}
 use Rattle.step_core.specs.Holdings.{slot}
 use Rattle.step_core.specs.Openings.{opening}
-use Rattle.step_core.specs.Scenes.{is_last, least, on}
-use Rattle.step_core.specs.Steps.{Step, begins, begun, claims, end_of, ends_on, first, half_by, leave, made_on}
-use Rattle.step_core.specs.Steps.{prepares, share, silent, step_at, story_by, tell}
+use Rattle.step_core.specs.Scenes.{least, on}
+use Rattle.step_core.specs.Steps.{Step, acts, begins, begun, claims, end_as, end_of, ends_on, first, half_by, looks, made_on}
+use Rattle.step_core.specs.Steps.{prepares, silent, step_at, story_by, tried, tries, trying}
+use Rattle.step_core.specs.Deeds.{downgrade, is_last, leave, leave_as, lock, owner_word, share, share_as, tell, tell_expired}
+use Rattle.control_word.specs.declared.handle.Kind.{Kind}
+use Rattle.control_word.specs.declared.handle.Kind.TheVariants.{Owner, Weak}
 use Rattle.step_core.specs.Stories.{Kept, Story, known, object_in, pending, state}
 use Rattle.step_core.specs.Told.{AllEnd, EndsIn}
 use Rattle.step_core.proofs.tables.Places.{owner_busy, there}
@@ -58,7 +61,42 @@ same v d h f x is own at all = record {
 shared : (v : Story) (d k : ℕ) (x : Walk) (f : ℕ → Half) → f d ≡ Rest → AllEnd (state v) f → (y : Option Pointer)
     → Right v d Rest f (Some (record { deed = option_map share y; half = Rest; walk = x; said = silent k }))
 shared v d k x f at all None = same v d Rest f _ refl (λ b t. t) at all
-shared v d k x f at all (Some y) = same v d Rest f _ refl (λ b t. t) at all
+shared v d k x f at all (Some y) = go y.kind
+  where
+    go : (q : Kind) → Right v d Rest f (Some (record { deed = Some (share_as q y); half = Rest; walk = x; said = silent k }))
+    go Owner = same v d Rest f _ refl (λ b t. t) at all
+    go Weak = same v d Rest f _ refl (λ b t. t) at all
+
+downgraded : (v : Story) (d k : ℕ) (x : Walk) (f : ℕ → Half) → f d ≡ Rest → AllEnd (state v) f → (y : Option Pointer)
+    → Right v d Rest f (Some (record { deed = option_map downgrade y; half = Rest; walk = x; said = silent k }))
+downgraded v d k x f at all None = same v d Rest f _ refl (λ b t. t) at all
+downgraded v d k x f at all (Some y) = same v d Rest f _ refl (λ b t. t) at all
+
+expired : (v : Story) (d : ℕ) (x : Walk) (a : Said) (f : ℕ → Half) → f d ≡ Rest → AllEnd (state v) f → (y : Option Pointer)
+    → Right v d Rest f (Some (record { deed = option_map (tell_expired (state v)) y; half = Rest; walk = x; said = a }))
+expired v d x a f at all None = same v d Rest f _ refl (λ b t. t) at all
+expired v d x a f at all (Some y) = same v d Rest f _ refl (λ b t. t) at all
+
+-- a lock is tried, or done
+tried_or : (v : Story) (d k word : ℕ) (w : Walk) (ts : List Task) (a : Act) (h : Half) (f : ℕ → Half) → f d ≡ h → AllEnd (state v) f
+    → ((b : ℕ) → EndsIn b h → ⊥) → (y : Pointer) (c : Bool)
+    → Right v d h f (Some (cond c (acts (state v) d w k ts a (Some (lock (state v) y)) Rest) (trying w k word)))
+tried_or v d k word w ts a h f at all ends y true = same v d h f _ refl (λ b t. absurd (ends b t)) at all
+tried_or v d k word w ts a h f at all ends y false = same v d h f _ refl (λ b t. absurd (ends b t)) at all
+
+looked : (v : Story) (d k : ℕ) (w : Walk) (ts : List Task) (a : Act) (f : ℕ → Half) → f d ≡ Rest → AllEnd (state v) f → (o : Option Pointer)
+    → Right v d Rest f (Some (on (looks v d w k ts a) (acts (state v) d w k ts a None Rest) o))
+looked v d k w ts a f at all None = same v d Rest f _ refl (λ b t. t) at all
+looked v d k w ts a f at all (Some y) = tried_or v d k (owner_word v y) w ts a Rest f at all (λ b t. t) y (owner_word v y == 0)
+
+tried_on : (v : Story) (d word : ℕ) (w : Walk) (f : ℕ → Half) → f d ≡ Locking word → AllEnd (state v) f → (ts : List Task)
+    → Right v d (Locking word) f (tried v d w word ts)
+tried_on v d word w f at all [] = same v d (Locking word) f None refl (λ b t. t) at all
+tried_on v d word w f at all (t ∷ ts) = go (locked w.slots t.act)
+  where
+    go : (o : Option Pointer) → Right v d (Locking word) f (option_map (tries v d w t.statement ts t.act word) o)
+    go None = same v d (Locking word) f None refl (λ b t. t) at all
+    go (Some y) = tried_or v d t.statement (owner_word v y) w ts t.act (Locking word) f at all (λ b t. t) y (owner_word v y == word)
 
 told : (v : Story) (d : ℕ) (x : Walk) (a : Said) (f : ℕ → Half) → f d ≡ Rest → AllEnd (state v) f → (y : Option Pointer)
     → Right v d Rest f (Some (record { deed = option_map (tell (state v)) y; half = Rest; walk = x; said = a }))
@@ -104,10 +142,16 @@ left_by v d k x a f at all kept y false = record {
       (s.object r).block e (all r e p));
 }
 
+left_as : (v : Story) (d k : ℕ) (x : Walk) (a : Said) (f : ℕ → Half) → f d ≡ Rest → AllEnd (state v) f → Kept v → (y : Pointer) (q : Kind) (last : Bool)
+    → Right v d Rest f (Some (record { deed = Some (leave_as q y last); half = cond last (end_as q k y.block) Rest; walk = x; said = a }))
+left_as v d k x a f at all kept y Owner last = left_by v d k x a f at all kept y last
+left_as v d k x a f at all kept y Weak true = same v d Rest f _ refl (λ b t. t) at all
+left_as v d k x a f at all kept y Weak false = same v d Rest f _ refl (λ b t. t) at all
+
 left : (v : Story) (d k : ℕ) (x : Walk) (a : Said) (f : ℕ → Half) → f d ≡ Rest → AllEnd (state v) f → Kept v → (y : Option Pointer)
     → Right v d Rest f (Some (record { deed = option_map (leave (state v)) y; half = on (end_of (state v) k) Rest y; walk = x; said = a }))
 left v d k x a f at all kept None = same v d Rest f _ refl (λ b t. t) at all
-left v d k x a f at all kept (Some y) = left_by v d k x a f at all kept y (is_last (state v) y)
+left v d k x a f at all kept (Some y) = left_as v d k x a f at all kept y y.kind (is_last (state v) y)
 
 begun_in : (v : Story) (d k : ℕ) (w : Walk) (ts : List Task) (f : ℕ → Half) → f d ≡ Rest → AllEnd (state v) f → (o : Option ℕ)
     → Right v d Rest f (Some (begins w k ts o))
@@ -115,16 +159,19 @@ begun_in v d k w ts f at all None = same v d Rest f _ refl (λ b t. t) at all
 begun_in v d k w ts f at all (Some b) = same v d Rest f _ refl (λ c t. absurd t) at all
 
 acted : (v : Story) (d k : ℕ) (w : Walk) (ts : List Task) (f : ℕ → Half) → f d ≡ Rest → AllEnd (state v) f → Kept v → (a : Act)
-    → Right v d Rest f (Some (first (state v) d w k ts a))
+    → Right v d Rest f (Some (first v d w k ts a))
 acted v d k w ts f at all kept (Make fields) = begun_in v d k w ts f at all (least d (state v).stores)
 acted v d k w ts f at all kept (Share i) = shared v d k _ f at all (slot w.slots i)
 acted v d k w ts f at all kept (Put i) = left v d k _ _ f at all kept (slot w.slots i)
 acted v d k w ts f at all kept (Leave i) = left v d k _ _ f at all kept (slot w.slots i)
 acted v d k w ts f at all kept (Clear i) = left v d k _ _ f at all kept (slot w.slots i)
 acted v d k w ts f at all kept (Count i) = told v d _ _ f at all (slot w.slots i)
+acted v d k w ts f at all kept (Downgrade i) = downgraded v d k _ f at all (slot w.slots i)
+acted v d k w ts f at all kept (Lock i must) = looked v d k w ts (Lock i must) f at all (locked w.slots (Lock i must))
+acted v d k w ts f at all kept (Expired i) = expired v d _ _ f at all (slot w.slots i)
 
 rested : (v : Story) (d : ℕ) (w : Walk) (f : ℕ → Half) → f d ≡ Rest → AllEnd (state v) f → Kept v → (ts : List Task)
-    → Right v d Rest f (begun (state v) d w ts)
+    → Right v d Rest f (begun v d w ts)
 rested v d w f at all kept [] = same v d Rest f None refl (λ b t. t) at all
 rested v d w f at all kept (t ∷ ts) = acted v d t.statement w ts f at all kept t.act
 
@@ -212,3 +259,4 @@ pub ends_right : (v : Story) (d : ℕ) (h : Half) (w : Walk) (f : ℕ → Half) 
 ends_right v d Rest w f at all kept = rested v d w f at all kept w.todo
 ends_right v d (Making b i c) w f at all kept = making v d i w b c f at all w.todo
 ends_right v d (Ending b stage k) w f at all kept = ended v d stage k w b f at all kept
+ends_right v d (Locking word) w f at all kept = tried_on v d word w f at all w.todo

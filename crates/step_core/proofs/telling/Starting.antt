@@ -28,6 +28,14 @@ tasks_size k ((call.Empty t) ∷ cs) n = let i = tasks_size (k + 1) cs n in omeg
 tasks_size k ((call.Reset t) ∷ cs) n = let i = tasks_size (k + 1) cs n in omega (arith, i)
 tasks_size k ((call.Copy t s) ∷ cs) n = let i = tasks_size (k + 1) cs n in omega (arith, i)
 tasks_size k ((call.Count t) ∷ cs) n = let i = tasks_size (k + 1) cs n in omega (arith, i)
+tasks_size k ((call.Weak t s) ∷ cs) n = let i = tasks_size (k + 1) cs n in omega (arith, i)
+tasks_size k ((call.WeakCopy t s) ∷ cs) n = let i = tasks_size (k + 1) cs n in omega (arith, i)
+tasks_size k ((call.WeakEmpty t) ∷ cs) n = let i = tasks_size (k + 1) cs n in omega (arith, i)
+tasks_size k ((call.WeakReset t) ∷ cs) n = let i = tasks_size (k + 1) cs n in omega (arith, i)
+tasks_size k ((call.Lock t s) ∷ cs) n = let i = tasks_size (k + 1) cs n in omega (arith, i)
+tasks_size k ((call.Upgrade t s) ∷ cs) n = let i = tasks_size (k + 1) cs n in omega (arith, i)
+tasks_size k ((call.WeakCount t) ∷ cs) n = let i = tasks_size (k + 1) cs n in omega (arith, i)
+tasks_size k ((call.Expired t) ∷ cs) n = let i = tasks_size (k + 1) cs n in omega (arith, i)
 
 first_left : (part : Part) → IsPart part → length (first_walk part).todo ≤ 2 * length part.calls + 32
 first_left part fine =

@@ -6,7 +6,7 @@ use Rattle.std.proofs.lemmas.Bool.{false≢true}
 use Rattle.std.proofs.lemmas.List.{set-get_or, set-set}
 use Rattle.control_word.specs.declared.place.Block.{Block}
 use Rattle.step_core.specs.declared.half.Half.{Half}
-use Rattle.step_core.specs.declared.half.Half.TheVariants.{Rest, Making, Ending}
+use Rattle.step_core.specs.declared.half.Half.TheVariants.{Rest, Making, Ending, Locking}
 use Rattle.step_core.specs.declared.said.Stepped.{Stepped}
 use Rattle.step_core.specs.Courses.{Walk}
 use Rattle.step_core.specs.Scenes.{History, Scene, nowhere, walk_of}
@@ -21,6 +21,7 @@ abbrev pub left : Half → ℕ
 left Rest = 0
 left (Making b i differs) = 0
 left (Ending b stage k) = 4 - stage
+left (Locking word) = 0
 
 -- what the thread has begun after its step
 pub half_after : (d : ℕ) (u : Sight) (x : Option Step) → d < length u.halves → half_of (sight_by d u x) d ≡ half_by (half_of u d) x
@@ -77,6 +78,7 @@ stepped_end : (d : ℕ) (u : Sight) (h : Half) → half_of u d ≡ h → HasBegu
     (rested v d ≡ rested u d) × (rested_half (half_of v d) ≡ rested_half (half_of u d)) × (left (half_of v d) < left (half_of u d))
 stepped_end d u Rest e begun is = absurd (false≢true is)
 stepped_end d u (Making b i differs) e begun is = absurd (false≢true is)
+stepped_end d u (Locking word) e begun is = absurd (false≢true is)
 stepped_end d u (Ending b s k) e begun is =
     let w = walk_of (scene u) d in
     let le : s ≤ 3 = subst (λ (h : Half). IsUnderWay d u.story h w.todo) e begun.half in
@@ -116,11 +118,13 @@ on_less d v v' r begun is steps =
 same_scene : (d : ℕ) (v : Sight) (h : Half) → is_ending h ≡ false → rested_from v d h ≡ scene v
 same_scene d v Rest is = refl
 same_scene d v (Making b i differs) is = refl
+same_scene d v (Locking word) is = refl
 same_scene d v (Ending b s k) is = absurd (false≢true (sym is))
 
 same_half : (h : Half) → is_ending h ≡ false → rested_half h ≡ h
 same_half Rest is = refl
 same_half (Making b i differs) is = refl
+same_half (Locking word) is = refl
 same_half (Ending b s k) is = absurd (false≢true (sym is))
 
 -- where no object ends the scene is as it is

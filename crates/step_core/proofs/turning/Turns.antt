@@ -8,7 +8,7 @@ use Rattle.step_core.specs.declared.act.Act.{Act}
 use Rattle.step_core.specs.declared.act.Act.TheVariants.{Make}
 use Rattle.step_core.specs.declared.act.Task.{Task}
 use Rattle.step_core.specs.declared.half.Half.{Half}
-use Rattle.step_core.specs.declared.half.Half.TheVariants.{Rest, Making, Ending}
+use Rattle.step_core.specs.declared.half.Half.TheVariants.{Rest, Making, Ending, Locking}
 use Rattle.step_core.specs.declared.said.Said.{Said}
 use Rattle.step_core.specs.declared.said.Stepped.{Stepped}
 use Rattle.step_core.specs.declared.said.Turned.{Turned}
@@ -17,7 +17,7 @@ use Rattle.step_core.specs.Courses.{fields_of}
 use Rattle.step_core.specs.Scenes.{Scene, full_answer, holding, least, made, play, play_from, said, said_from, walk_of}
 use Rattle.step_core.specs.Steps.{Step, claims, prepares, stepped}
 use Rattle.step_core.specs.Stories.{known, pending, state}
-use Rattle.step_core.specs.Turning.{HasBegun, IsReady, IsUnderWay, Plays, Prepares, Rests, is_making, rested_half, turned, turned_by}
+use Rattle.step_core.specs.Turning.{HasBegun, IsReady, IsUnderWay, Plays, Prepares, Rests, is_acting, rested_half, turned, turned_by}
 use Rattle.step_core.specs.Worlds.{Sight, Steps, Turns, half_of, rested, scene, sight_by, step_of}
 use Rattle.step_core.proofs.turning.Making.{made_step}
 use Rattle.step_core.proofs.turning.Playing.{Acts, acted_said, acted_scene, plays_as}
@@ -54,6 +54,8 @@ claimed d u r (Making c j f) (Making b i g) e ready begun answer =
     (subst (λ (h : Half). IsUnderWay d u.story h (walk_of (scene u) d).todo) e begun.half) begun.within answer
 claimed d u r (Making c j f) Rest e ready begun answer = absurd ready
 claimed d u r (Making c j f) (Ending b s k) e ready begun answer = absurd ready
+claimed d u r (Making c j f) (Locking word) e ready begun answer = absurd ready
+claimed d u r (Locking word) h e ready begun answer = absurd ready
 claimed d u r Rest h e ready begun answer = absurd ready
 claimed d u r (Ending b s k) h e ready begun answer = absurd ready
 
@@ -63,7 +65,7 @@ plays_on d u v w r same halves plays =
     record {
       answer = plays.answer ∙ ap (λ (c : Scene). turned (said d c)) same;
       scene = plays.scene ∙ ap (play d) same;
-      made = plays.made;
+      done = plays.done;
       halves = plays.halves ∙ ap (λ (l : List Half). set l d (half_of w d)) halves ∙ set-set u.halves d (half_of v d) _;
     }
 
@@ -77,10 +79,11 @@ no_todo : (c : Scene) (d : ℕ) (ts : List Task) → said_from c d (walk_of c d)
 no_todo c d [] e = refl
 no_todo c d (t ∷ ts) e = cc
 
-over_rest : (h : Half) → is_making h ≡ false → rested_half h ≡ Rest
+over_rest : (h : Half) → is_acting h ≡ false → rested_half h ≡ Rest
 over_rest Rest m = refl
 over_rest (Making b i f) m = absurd (false≢true (sym m))
 over_rest (Ending b s k) m = refl
+over_rest (Locking word) m = absurd (false≢true (sym m))
 
 turns_by : (d : ℕ) (u u' : Sight) (r : Turned) (o : Option Said) → said d (rested u d) ≡ o → r ≡ turned o → scene u' ≡ play d (rested u d)
     → u'.halves ≡ set u.halves d Rest → Turns d u r u'
@@ -98,4 +101,4 @@ turns d u v w u' r before plays behind =
     (behind.halves ∙ ap (λ (l : List Half). set l d (rested_half (half_of w d))) (plays.halves
     ∙ ap (λ (l : List Half). set l d (half_of w d)) before.halves)
     ∙ ap (λ (l : List Half). set l d (rested_half (half_of w d))) (set-set u.halves d _ _) ∙ set-set u.halves d _ _
-    ∙ ap (set u.halves d) (over_rest (half_of w d) plays.made))
+    ∙ ap (set u.halves d) (over_rest (half_of w d) plays.done))

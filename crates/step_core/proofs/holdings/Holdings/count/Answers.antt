@@ -1,7 +1,8 @@
-use Rattle.std.proofs.Common.{sym, subst}
+use Rattle.std.proofs.Common.{refl, sym, subst}
 use Rattle.step_core.specs.Holdings.{Holds}
-use Rattle.step_core.specs.Stories.{Story}
-use Rattle.step_core.proofs.holding.Owning.{holds_count, slot_held}
+use Rattle.step_core.specs.Stories.{Story, after}
+use Rattle.step_core.specs.declared.past.Deed.TheVariants as deed
+use Rattle.step_core.proofs.holding.Owning.{holds_look, slot_held}
 use Rattle.step_core.proofs.holdings.Holdings.count.Goals as goal
 
 pub count-requires-clause-held : goal.count-requires-clause-held
@@ -10,4 +11,4 @@ count-requires-clause-held c = slot_held c.args.desk c.args.self.now.slots.items
 pub returns-clause-holds : goal.returns-clause-holds
 returns-clause-holds c =
     subst (λ (v : Story). Holds c.args.desk c.args.self.now.slots.items v) (sym c.count.ensures.after)
-    (holds_count c.args.desk c.args.self.now.slots.items c.args.table.now c.args.pointer c.count.result c.requires.holds)
+    (holds_look c.args.desk c.args.self.now.slots.items c.args.table.now (after c.args.table.now c.args.desk (deed.Count c.args.pointer.kind c.args.pointer.block c.args.pointer.place c.count.result)) refl refl c.requires.holds)

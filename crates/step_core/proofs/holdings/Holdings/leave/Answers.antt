@@ -1,15 +1,15 @@
-use Rattle.std.proofs.Common.{sym, subst}
-use Rattle.step_core.specs.Holdings.{Holds}
-use Rattle.step_core.specs.Stories.{Story}
-use Rattle.std.proofs.Common.{set}
+use Rattle.std.proofs.Common.{◌∙◌, set, ap, sym, subst, Bool}
 use Rattle.std.specs.Prelude.{None}
+use Rattle.step_core.specs.Deeds.{is_last, leave_as}
+use Rattle.step_core.specs.Holdings.{Holds}
+use Rattle.step_core.specs.Stories.{Story, after, state}
 use Rattle.step_core.proofs.holding.Owning.{holds_leave, slot_held}
 use Rattle.step_core.proofs.holdings.Holdings.leave.Goals as goal
 
-pub leave-last-requires-clause-held : goal.leave-last-requires-clause-held
-leave-last-requires-clause-held c = slot_held c.args.desk c.args.self.now.slots.items c.args.table.now c.args.from c.args.pointer c.requires.holds c.requires.from
+pub leave_pointer-last-requires-clause-held : goal.leave_pointer-last-requires-clause-held
+leave_pointer-last-requires-clause-held c = slot_held c.args.desk c.args.self.now.slots.items c.args.table.now c.args.from c.args.pointer c.requires.holds c.requires.from
 
 pub returns-clause-holds : goal.returns-clause-holds
 returns-clause-holds c =
-    subst (λ (v : Story). Holds c.args.desk (set c.args.self.now.slots.items c.args.from None) v) (sym c.leave-last.ensures.after)
-    (holds_leave c.args.desk c.args.self.now.slots.items c.args.table.now c.args.from c.args.pointer c.leave-last.result c.requires.holds c.requires.from)
+    subst (λ (v : Story). Holds c.args.desk (set c.args.self.now.slots.items c.args.from None) v) (sym c.leave_pointer-last.ensures.after)
+    (holds_leave c.args.desk c.args.self.now.slots.items c.args.table.now c.args.from c.args.pointer (is_last (state c.args.table.now) c.args.pointer) c.requires.holds c.requires.from)

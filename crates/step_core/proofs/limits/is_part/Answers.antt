@@ -1,0 +1,27 @@
+use Rattle.std.proofs.Common.{◌≡◌, ◌≢◌, ℕ, ◌+◌, ◌<◌, List, [], length, get_or, refl, sym, subst, ⊎_elim, arith}
+use Rattle.std.proofs.lemmas.Bool.{cases_eq}
+use Rattle.step_core.specs.declared.call.Call.{Call}
+use Rattle.step_core.specs.declared.call.Call.TheVariants.{Make}
+use Rattle.step_core.specs.declared.call.Kind.{Kind}
+use Rattle.step_core.specs.Programs.{IsWellNamed}
+use Rattle.step_core.specs.Starts.{HasFields}
+use Rattle.step_core.proofs.Programs.{held_by_more}
+use Rattle.step_core.proofs.limits.is_part.Goals as goal
+
+pub loop-call-preserved : goal.loop-call-preserved
+loop-call-preserved c =
+    let none = Make (record { 0 = 0 }) [] in
+    let kinds = c.args.actor.now.kinds.items in
+    let calls = c.args.actor.now.calls.items in
+    let i = c.loop-call.call-index in
+    let e = c.deref-call-items.ensures.value in
+    let n : IsWellNamed c.as_slice.result.now (get_or c.deref-call-items.result.now i none) = c.if-not-is_well_named.ensures.named.0 refl in
+    let f : HasFields (get_or c.deref-call-items.result.now i none) = c.if-not-is_well_named.ensures.fields in
+    let lt : i < length calls = subst (λ (l : List Call). i < length l) e c.loop-call-test.true in
+    record {
+      named =
+          held_by_more (IsWellNamed kinds) calls i none c.loop-call.invariant.named lt
+          (subst (λ (l : List Kind). IsWellNamed l (get_or calls i none)) c.as_slice.ensures.value
+          (subst (λ (l : List Call). IsWellNamed c.as_slice.result.now (get_or l i none)) e n));
+      fields = held_by_more HasFields calls i none c.loop-call.invariant.fields lt (subst (λ (l : List Call). HasFields (get_or l i none)) e f);
+    }

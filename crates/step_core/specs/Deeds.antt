@@ -1,0 +1,70 @@
+-- What acts do to the object of a pointer. All of it is own but the events, which name their sections.
+use Rattle.std.specs.Prelude.{ℕ, ◌==◌, Bool, true, false, cond, ◌&&◌, not, Option, Some, None, slice_index}
+use Rattle.control_word.specs.declared.handle.Kind.{Kind}
+use Rattle.control_word.specs.declared.handle.Kind.TheVariants.{Owner, Weak}
+use Rattle.control_word.specs.Events.{is_gone}
+use Rattle.control_word.specs.Layout.{spot}
+use Rattle.control_word.specs.State.{State, count, weak}
+use Rattle.step_core.specs.declared.holdings.Pointer.{Pointer}
+use Rattle.step_core.specs.declared.past.Deed.{Deed}
+use Rattle.step_core.specs.declared.past.Deed.TheVariants as deed
+use Rattle.step_core.specs.Stories.{Story}
+
+-- the object that a pointer owns or shares: no other keeps the block
+abbrev pub owned : State → Pointer → ℕ
+owned s x = s.latest x.block.0
+
+-- the same pointer, of the other kind
+abbrev pub as_owner : Pointer → Pointer
+as_owner x = record { kind = Owner; block = x.block; place = x.place }
+
+abbrev pub as_weak : Pointer → Pointer
+as_weak x = record { kind = Weak; block = x.block; place = x.place }
+
+-- an owner's leave is the last where no other owner is left; a weak handle's, where it leaves the block vacant
+abbrev pub last_as : Kind → State → ℕ → Bool
+last_as Owner s o = count s o == 1
+last_as Weak s o = weak s o == 1 && is_gone (s.object o).phase
+
+abbrev pub is_last : State → Pointer → Bool
+is_last s x = last_as x.kind s (owned s x)
+
+-- no owner is left
+abbrev pub is_expired : State → Pointer → Bool
+is_expired s x = count s (owned s x) == 0
+
+-- a copy of a pointer
+abbrev pub share_as : Kind → Pointer → Deed
+share_as Owner x = deed.Share x.block x.place x.place
+share_as Weak x = deed.WeakShare x.block x.place
+
+abbrev pub share : Pointer → Deed
+share x = share_as x.kind x
+
+-- a weak pointer to the same object
+abbrev pub downgrade : Pointer → Deed
+downgrade x = deed.WeakShare x.block x.place
+
+abbrev pub leave_as : Kind → Pointer → Bool → Deed
+leave_as Owner x last = deed.Leave x.block x.place last
+leave_as Weak x last = deed.WeakLeave x.block x.place last
+
+abbrev pub leave : State → Pointer → Deed
+leave s x = leave_as x.kind x (is_last s x)
+
+abbrev pub tell : State → Pointer → Deed
+tell s x = deed.Count x.kind x.block x.place (count s (owned s x))
+
+abbrev pub tell_expired : State → Pointer → Deed
+tell_expired s x = deed.Expired x.kind x.block x.place (is_expired s x)
+
+abbrev pub lock : State → Pointer → Deed
+lock s x = deed.Lock x.block x.place (not (is_expired s x))
+
+-- what a lock gives: an owner with the weak pointer's place, if one is left
+abbrev pub owner_left : State → Pointer → Option Pointer
+owner_left s x = cond (is_expired s x) None (Some (as_owner x))
+
+-- the word that counts the owners of a pointer's object
+abbrev pub owner_word : Story → Pointer → ℕ
+owner_word v x = slice_index v.words (spot x.block.0 0)
