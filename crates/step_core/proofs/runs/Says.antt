@@ -5,14 +5,16 @@ use Rattle.std.proofs.lemmas.Bool.{cond_both, eqb-true, false≢true}
 use Rattle.control_word.specs.declared.event.Entry.{Entry}
 use Rattle.control_word.specs.declared.event.Event.{Event}
 use Rattle.control_word.specs.declared.event.Event.TheVariants as event
+use Rattle.control_word.specs.declared.handle.Kind.{Kind}
+use Rattle.control_word.specs.declared.handle.Kind.TheVariants.{Owner, Weak}
 use Rattle.control_word.specs.declared.place.Block.{Block}
 use Rattle.control_word.specs.declared.place.Place.{Place}
 use Rattle.control_word.specs.State.{weak}
 use Rattle.step_core.specs.declared.act.Act.{Act}
-use Rattle.step_core.specs.declared.act.Act.TheVariants.{Make, Share, Put, Leave, Clear, Count}
+use Rattle.step_core.specs.declared.act.Act.TheVariants.{Make, Share, Downgrade, Lock, Put, Leave, Clear, Count, Expired}
 use Rattle.step_core.specs.declared.act.Task.{Task}
 use Rattle.step_core.specs.declared.half.Half.{Half}
-use Rattle.step_core.specs.declared.half.Half.TheVariants.{Rest, Making, Ending}
+use Rattle.step_core.specs.declared.half.Half.TheVariants.{Rest, Making, Ending, Locking}
 use Rattle.step_core.specs.declared.holdings.Pointer.{Pointer}
 use Rattle.step_core.specs.declared.past.Deed.{Deed}
 use Rattle.step_core.specs.declared.past.Deed.TheVariants as deed
@@ -21,11 +23,13 @@ use Rattle.step_core.specs.declared.said.Stepped.{Stepped}
 use Rattle.step_core.specs.declared.said.Stepped.TheVariants as stepped
 use Rattle.step_core.specs.declared.trace.TraceStep.{TraceStep}
 use Rattle.step_core.specs.Actors.{wanted}
-use Rattle.step_core.specs.Courses.{Walk, fields_of}
+use Rattle.step_core.specs.Courses.{Walk, fields_of, locked}
+use Rattle.step_core.specs.Deeds.{downgrade, is_last as is_last_of, leave, leave_as, lock, owned, owner_word, share, share_as, tell, tell_expired}
 use Rattle.step_core.specs.Headline.{LastLeft, TellsWhatIsLeft, ended_by}
 use Rattle.step_core.specs.Holdings.{slot}
-use Rattle.step_core.specs.Scenes.{ended_by as ended_of, least, remains}
-use Rattle.step_core.specs.Steps.{Step, begins, begun, claims, ends_on, first, is_event, leave, made_on, prepares, share, silent, step_at, stepped as stepped_by, story_after, story_by, tell}
+use Rattle.step_core.specs.Scenes.{ended_by as ended_of, least, on, remains, remains_as}
+use Rattle.step_core.specs.Steps.{Step, acts, begins, begun, claims, ends_on, first, is_event, looks, made_on, prepares, silent, step_at}
+use Rattle.step_core.specs.Steps.{stepped as stepped_by, story_after, story_by, tried, tries, trying}
 use Rattle.step_core.specs.Stories.{Nothing, Story, added, event_of, known, object_in, owner_in, pending, state}
 use Rattle.step_core.specs.Totals.{is_last}
 use Rattle.step_core.specs.Worlds.{Sight, half_of, scene, step_of}
@@ -44,29 +48,77 @@ Tells v (Some x) = x.said.ended ≡ left_by v x.deed
 
 leave_tells : (v : Story) (o : Option Pointer) → ended_of (state v) o ≡ left_by v (option_map (leave (state v)) o)
 leave_tells v None = refl
-leave_tells v (Some x) = refl
+leave_tells v (Some x) = go x.kind (is_last_of (state v) x)
+  where
+    go : (q : Kind) (b : Bool) → cond b (remains_as q ((state v).object (owned (state v) x))) None ≡ left_by v (Some (leave_as q x b))
+    go Owner b = refl
+    go Weak true = refl
+    go Weak false = refl
 
 share_tells : (v : Story) (o : Option Pointer) → None ≡ left_by v (option_map share o)
 share_tells v None = refl
-share_tells v (Some x) = refl
+share_tells v (Some x) = go x.kind
+  where
+    go : (q : Kind) → None ≡ left_by v (Some (share_as q x))
+    go Owner = refl
+    go Weak = refl
+
+downgrade_tells : (v : Story) (o : Option Pointer) → None ≡ left_by v (option_map downgrade o)
+downgrade_tells v None = refl
+downgrade_tells v (Some x) = refl
 
 count_tells : (v : Story) (o : Option Pointer) → None ≡ left_by v (option_map (tell (state v)) o)
 count_tells v None = refl
 count_tells v (Some x) = refl
 
+expired_tells : (v : Story) (o : Option Pointer) → None ≡ left_by v (option_map (tell_expired (state v)) o)
+expired_tells v None = refl
+expired_tells v (Some x) = refl
+
+-- a lock ends nothing, whether it is tried or done
+lock_tells : (v : Story) (d k i word : ℕ) (must : Bool) (w : Walk) (ts : List Task) (x : Pointer) (b : Bool)
+    → Tells v (Some (cond b (acts (state v) d w k ts (Lock i must) (Some (lock (state v) x)) Rest) (trying w k word)))
+lock_tells v d k i word must w ts x true = refl
+lock_tells v d k i word must w ts x false = refl
+
+look_tells : (v : Story) (d k i : ℕ) (must : Bool) (w : Walk) (ts : List Task) (o : Option Pointer)
+    → Tells v (Some (on (looks v d w k ts (Lock i must)) (acts (state v) d w k ts (Lock i must) None Rest) o))
+look_tells v d k i must w ts None = refl
+look_tells v d k i must w ts (Some x) = lock_tells v d k i (owner_word v x) must w ts x (owner_word v x == 0)
+
+try_tells : (v : Story) (d k word : ℕ) (w : Walk) (ts : List Task) (a : Act) (o : Option Pointer) → locked w.slots a ≡ o
+    → Tells v (option_map (tries v d w k ts a word) o)
+try_tells v d k word w ts a None e = tt
+try_tells v d k word w ts (Lock i must) (Some x) e = lock_tells v d k i (owner_word v x) must w ts x (owner_word v x == word)
+try_tells v d k word w ts (Make fields) (Some x) e = cc
+try_tells v d k word w ts (Share i) (Some x) e = cc
+try_tells v d k word w ts (Downgrade i) (Some x) e = cc
+try_tells v d k word w ts (Put i) (Some x) e = cc
+try_tells v d k word w ts (Leave i) (Some x) e = cc
+try_tells v d k word w ts (Clear i) (Some x) e = cc
+try_tells v d k word w ts (Count i) (Some x) e = cc
+try_tells v d k word w ts (Expired i) (Some x) e = cc
+
+tried_tells : (v : Story) (d word : ℕ) (w : Walk) (ts : List Task) → Tells v (tried v d w word ts)
+tried_tells v d word w [] = tt
+tried_tells v d word w (t ∷ ts) = try_tells v d t.statement word w ts t.act (locked w.slots t.act) refl
+
 begin_tells : (v : Story) (w : Walk) (k : ℕ) (ts : List Task) (o : Option ℕ) → Tells v (Some (begins w k ts o))
 begin_tells v w k ts None = refl
 begin_tells v w k ts (Some b) = refl
 
-first_tells : (v : Story) (d k : ℕ) (w : Walk) (ts : List Task) (a : Act) → Tells v (Some (first (state v) d w k ts a))
+first_tells : (v : Story) (d k : ℕ) (w : Walk) (ts : List Task) (a : Act) → Tells v (Some (first v d w k ts a))
 first_tells v d k w ts (Make fields) = begin_tells v w k ts (least d (state v).stores)
 first_tells v d k w ts (Share i) = share_tells v (slot w.slots i)
 first_tells v d k w ts (Put i) = leave_tells v (slot w.slots i)
 first_tells v d k w ts (Leave i) = leave_tells v (slot w.slots i)
 first_tells v d k w ts (Clear i) = leave_tells v (slot w.slots i)
 first_tells v d k w ts (Count i) = count_tells v (slot w.slots i)
+first_tells v d k w ts (Downgrade i) = downgrade_tells v (slot w.slots i)
+first_tells v d k w ts (Lock i must) = look_tells v d k i must w ts (locked w.slots (Lock i must))
+first_tells v d k w ts (Expired i) = expired_tells v (slot w.slots i)
 
-rest_tells : (v : Story) (d : ℕ) (w : Walk) (ts : List Task) → Tells v (begun (state v) d w ts)
+rest_tells : (v : Story) (d : ℕ) (w : Walk) (ts : List Task) → Tells v (begun v d w ts)
 rest_tells v d w [] = tt
 rest_tells v d w (t ∷ ts) = first_tells v d t.statement w ts t.act
 
@@ -93,6 +145,7 @@ step_tells : (v : Story) (d : ℕ) (h : Half) (w : Walk) → Tells v (step_at v 
 step_tells v d Rest w = rest_tells v d w w.todo
 step_tells v d (Making b i f) w = make_tells v d i w b f w.todo
 step_tells v d (Ending b stage k) w = end_tells v stage k w b
+step_tells v d (Locking word) w = tried_tells v d word w w.todo
 
 -- both answers of a step say what is said
 as_said : (v : Story) (x : Step) → ended_by (stepped_by v (Some x)) ≡ x.said.ended
