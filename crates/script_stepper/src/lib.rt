@@ -6,6 +6,8 @@ mod lines;
 pub mod listing;
 mod running;
 pub mod sink;
+#[cfg(test)]
+mod sink_tests;
 pub mod stepping;
 mod steps;
 #[cfg(test)]
