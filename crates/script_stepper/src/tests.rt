@@ -119,6 +119,30 @@ fn lines_of_a_thread(rt: HostRuntime) -> Result<(), Fail> {
 }
 
 #[test]
+fn lines_of_answers_on_weak_names(rt: HostRuntime) -> Result<(), Fail> {
+    let cases: [(Answer, &[u8]); 6] = [
+        (Answer::Expired(true), b"2.7 expired yes\n"),
+        (Answer::Expired(false), b"2.7 expired no\n"),
+        (Answer::Locked(true), b"2.7 lock owner\n"),
+        (Answer::Locked(false), b"2.7 lock empty\n"),
+        (Answer::Upgraded, b"2.7 upgrade owner\n"),
+        (Answer::Refused(Refusal::BadWeak), b"2.7 refused 5\n"),
+    ];
+    for (answer, line) in cases {
+        let mut taken = Vec::new(rt.alloc());
+        let said = Said {
+            statement: 7,
+            answer: Some(answer),
+            ended: None,
+        };
+        let written = write_lines(rt.alloc(), 2, &[said], &mut Output::new(&mut taken));
+        assert_eq!(rt; written, Ok(()));
+        assert_eq!(rt; taken.as_slice(), line);
+    }
+    Ok(())
+}
+
+#[test]
 fn lines_that_a_writer_does_not_take(rt: HostRuntime) -> Result<(), Fail> {
     let mut short = Short {
         taken: Vec::new(rt.alloc()),

@@ -8,6 +8,8 @@ mod fine_tests;
 mod serve;
 #[cfg(test)]
 mod tests;
+#[cfg(test)]
+mod weak_tests;
 
 use script_stepper::Output;
 use serve::serve;
