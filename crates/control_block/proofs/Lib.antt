@@ -5,6 +5,7 @@ pub mod Closing
 pub mod Endings
 pub mod Passage
 pub mod Unseen
+pub mod CellRounds
 pub mod Still
 pub mod CellWords
 pub mod Hands

@@ -4,6 +4,7 @@ pub mod LockPlays
 pub mod LockCalls
 pub mod FundPlays
 pub mod CellPlays
+pub mod CellRounds
 pub mod Desks
 pub mod Refusals
 pub mod Inside
