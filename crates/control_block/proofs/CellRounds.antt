@@ -46,6 +46,11 @@ pub place_self : (p : Option Place) → (same_number None None && same_place p p
 place_self None = refl
 place_self (Some q) = λ i. eq-eqb q.block.0 q.block.0 refl i && eq-eqb q.field q.field refl i
 
+-- and where it shows none there is none
+pub no_block : (f : ℕ → ℕ) (q : Option ℕ) → block_of f q ≡ None → q ≡ None
+no_block f None e = refl
+no_block f (Some o) e = absurd (cc e)
+
 pub slot_low : (k : Kind) → slot k < 16
 slot_low Owner = omega arith
 slot_low Weak = omega arith
@@ -238,28 +243,35 @@ module _ {V : Type 0} where
       differs (ap (λ z. z.owned) other ∙ sym (ap (λ z. z.owned) is)) (ap (λ z. z.place) other ∙ sym (ap (λ z. z.place) is))
 
   -- what came out is held, on the object last made in its block
+  pub came_object : (e : Handle → Event V) (k : Kind) (v w : Sight V) (x : CellWord) (lost : Handle) (b : Block) → Trades e lost
+      → (c : CameOut e k v x w) → x.owned ≡ Some b
+      → (c.handle.object ≡ Some ((known w).latest b.0)) × Holding w k ((known w).latest b.0) x.place b.0
+  came_object e k v w x lost b trades c is =
+      let o = object_shown (blocks_of (known w)) c.handle.object b (sym (ap (λ y. y.owned) c.shows) ∙ is) in
+      let a = c.event in let has = in_bag v w Idle e lost c.handle o.0 trades a o.1 in
+      let name : w.view.name ≡ v.view.name = ap (λ (u : Sight V). u.view.name) a.now in
+      let shape : w.shape ≡ v.shape = ap (λ (u : Sight V). u.shape) a.now in
+      let legal = subst (λ y. IsLegal (opening_of y) w.view.seen) (sym shape) a.legal in
+      let place : c.handle.place ≡ x.place = sym (ap (λ y. y.place) c.shows) in
+      let it : Has (held w.view.name (handle k (Some o.0) x.place)) (known w).hands =
+      subst (λ (y : Held). Has y (known w).hands)
+      (λ i. held (sym name i) record { kind = c.kind i; object = o.1 i; place = place i }) has in
+      let n = names_an_object (opening_of w.shape) w.view.seen legal w.view.name k (handle k (Some o.0) x.place) (it, refl, refl) in
+      let last : (known w).latest b.0 ≡ o.0 = ap (known w).latest (sym o.2) ∙ n.2 in (
+        o.1 ∙ ap Some (sym last),
+        record {
+          has = subst (λ y. Has (held w.view.name (handle k (Some y) x.place)) (known w).hands) (sym last) it;
+          there = ap (λ y. ((known w).object y).block) last ∙ o.2;
+        },
+      )
+
   pub came_holding : (e : Handle → Event V) (k : Kind) (v w : Sight V) (x : CellWord) (lost : Handle) → Trades e lost → CameOut e k v x w
       → IfSome x.owned (λ b. Holding w k ((known w).latest b.0) x.place b.0)
   came_holding e k v w x lost trades c = go x.owned refl
     where
       go : (q : Option Block) → x.owned ≡ q → IfSome q (λ b. Holding w k ((known w).latest b.0) x.place b.0)
       go None is = tt
-      go (Some b) is =
-          let o = object_shown (blocks_of (known w)) c.handle.object b (sym (ap (λ y. y.owned) c.shows) ∙ is) in
-          let a = c.event in let has = in_bag v w Idle e lost c.handle o.0 trades a o.1 in
-          let name : w.view.name ≡ v.view.name = ap (λ (u : Sight V). u.view.name) a.now in
-          let shape : w.shape ≡ v.shape = ap (λ (u : Sight V). u.shape) a.now in
-          let legal = subst (λ y. IsLegal (opening_of y) w.view.seen) (sym shape) a.legal in
-          let place : c.handle.place ≡ x.place = sym (ap (λ y. y.place) c.shows) in
-          let it : Has (held w.view.name (handle k (Some o.0) x.place)) (known w).hands =
-          subst (λ (y : Held). Has y (known w).hands)
-          (λ i. held (sym name i) record { kind = c.kind i; object = o.1 i; place = place i }) has in
-          let n = names_an_object (opening_of w.shape) w.view.seen legal w.view.name k (handle k (Some o.0) x.place) (it, refl, refl) in
-          let last : (known w).latest b.0 ≡ o.0 = ap (known w).latest (sym o.2) ∙ n.2 in
-          record {
-            has = subst (λ y. Has (held w.view.name (handle k (Some y) x.place)) (known w).hands) (sym last) it;
-            there = ap (λ y. ((known w).object y).block) last ∙ o.2;
-          }
+      go (Some b) is = (came_object e k v w x lost b trades c is).1
 
   pub came_counted : (e : Handle → Event V) (k : Kind) (v w : Sight V) (x : CellWord) (lost : Handle) (id : TableId) → Trades e lost
       → CameOut e k v x w → IsSized id v.shape → IfSome x.owned (λ b. IsCounted k b id)
@@ -295,18 +307,11 @@ module _ {V : Type 0} where
       → (x.owned ≡ None → equivalent (handle k None x.place) h ≡ true → me' ≡ me) → (x.owned ≢ None → me' ≡ me) → me' ≡ me
   unmoved_alike me me' k h x y is owned place none some' = go x.owned refl
     where
-      none_some : {b : Block} → None ≡ Some b → ⊥
-      none_some e = cc
-
-      nothing : (q : Option ℕ) → block_of (blocks_of (known me.0)) q ≡ None → q ≡ None
-      nothing None e = refl
-      nothing (Some o) e = absurd (none_some (sym e))
-
       go : (q : Option Block) → x.owned ≡ q → me' ≡ me
-      go (Some b) e = some' (λ n. none_some (sym n ∙ e))
+      go (Some b) e = some' (not_none x.owned (ap is_some e))
       go None e =
           let shows = word_alike me.0 h x y is owned place in
-          let obj : h.object ≡ None = nothing h.object (sym (ap (λ z. z.owned) shows) ∙ e) in
+          let obj : h.object ≡ None = no_block _ h.object (sym (ap (λ z. z.owned) shows) ∙ e) in
           let same : x.place ≡ h.place = ap (λ z. z.place) shows in
           none e ((λ i. same_number None (obj i) && same_place (same i) h.place) ∙ place_self h.place)
 

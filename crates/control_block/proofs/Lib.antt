@@ -26,6 +26,7 @@ pub mod PartingCounts
 pub mod DeskSteps
 pub mod DeskBags
 pub mod DeskLocks
+pub mod CellDesks
 pub mod OwnEndings
 pub mod StoreBlocks
 pub mod WeakGifts

@@ -6,6 +6,7 @@ pub mod FundPlays
 pub mod CellPlays
 pub mod CellRounds
 pub mod Desks
+pub mod CellCalls
 pub mod Refusals
 pub mod Inside
 pub mod Census
