@@ -224,9 +224,14 @@ module _ {V : Type 0} where
       → (o' : ℕ) × (p' : Option Place) × (b' : Block) × (x.owned ≡ Some b') × Owes (owing (kind_in me'.0.shape c) o' p' b'.0 x.taken 0) me'
   refill_owes me me' m k o p b x f c rests is kind owned taken brought none =
       let shape = ap (λ (u : Sight V). u.shape) brought in
-      let kind' : m ≡ kind_in me'.0.shape c = is ∙ (kind ∙ ap (λ y. kind_in y c) (sym shape)) in
-      (o, p, b, owned, subst (λ (y : Kind × ℕ). Owes (owing y.0 o p b.0 y.1 0) me') (λ i. (kind' i, taken i))
-      (brought_owes me me' (owing m o p b.0 f 0) rests brought none))
+      let kind' : m ≡ kind_in me'.0.shape c = is ∙ (kind ∙ ap (λ y. kind_in y c) (sym shape)) in (
+        o,
+        p,
+        b,
+        owned,
+        subst (λ (y : Kind × ℕ). Owes (owing y.0 o p b.0 y.1 0) me') (λ i. (kind' i, taken i))
+            (brought_owes me me' (owing m o p b.0 f 0) rests brought none),
+      )
 
   -- all funds were given back, and nothing has changed
   pub back_again : (me me₁ me₂ : At V) (p : Pending V) → Rests me → me₁.0 ≡ in_call me.0 p → me₂.0 ≡ goes_on me₁.0 → me₂.1 ≡ [] → me₂ ≡ me

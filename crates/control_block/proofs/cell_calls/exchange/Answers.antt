@@ -34,8 +34,7 @@ pub swap-old-requires-clause-new : goal.swap-old-requires-clause-new
 swap-old-requires-clause-new g c =
     let r = c.requires in let d = c.desk.inside in let h = c.desk.invariant in let v = d.seat.me.0 in let k = c.args.cell.kind in
     let b = c.args.new.block in let p = c.args.new.place in let y = c.args.desk.now in let lost = g.A.Aimed.new in
-    let new_is : lost ≡ in_seat v k b p = r.new ∙ ap (λ (z : DeskNow g.row.V.Denot). handle_in z k b p) (sym c.desk.view_is) in
-    (
+    let new_is : lost ≡ in_seat v k b p = r.new ∙ ap (λ (z : DeskNow g.row.V.Denot). handle_in z k b p) (sym c.desk.view_is) in (
       lost_word d y k p h c.desk.view_is b r.holds r.proper,
       refl,
       subst (λ (z : Handle). IsWordOf v z record { owned = b; place = p; taken = 0 }) (sym new_is) (lost_shows d y k p h c.desk.view_is b r.holds),
