@@ -27,7 +27,9 @@ pub enum Half {
         statement: u32,
     },
     /// A lock that found this word, which isn't 0: it is tried with it next.
-    Locking { word: u64 },
+    Locking {
+        word: u64,
+    },
 }
 
 /// What other desks do changes nothing of what a desk has.

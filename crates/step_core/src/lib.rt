@@ -31,6 +31,8 @@ mod thread;
 mod told;
 mod trace;
 mod weak;
+#[cfg(test)]
+mod weak_tests;
 mod world;
 #[cfg(test)]
 mod world_tests;

@@ -14,13 +14,7 @@ impl Thread {
     ghost use Rattle.step_core.specs.Threads.{Fits, HasStepped};
 
     /// The first step of a lock: it looks at the word of the owners. Without a weak pointer it touches no word.
-    pub(crate) fn lock(
-        &mut self,
-        desk: usize,
-        table: &mut Table,
-        name: u8,
-        must: bool,
-    ) -> Stepped
+    pub(crate) fn lock(&mut self, desk: usize, table: &mut Table, name: u8, must: bool) -> Stepped
         requires fits { Fits desk self.old table.old }
         requires rest { self.old.half ≡ Half.Rest }
         requires within { self.old.course.at < length self.old.course.tasks.items }

@@ -39,17 +39,17 @@ fn actors(world: &World) -> usize
     world.threads.len()
 }
 
-fn step(rt: &impl Abort, world: &mut World, actor: u8) -> Stepped {
+pub(crate) fn step(rt: &impl Abort, world: &mut World, actor: u8) -> Stepped {
     assert!(rt; actor > 0 && usize::from(actor) <= actors(world));
     world.step(actor)
 }
 
-fn turn(rt: &impl Abort, world: &mut World, actor: u8) -> Turned {
+pub(crate) fn turn(rt: &impl Abort, world: &mut World, actor: u8) -> Turned {
     assert!(rt; actor > 0 && usize::from(actor) <= actors(world));
     world.turn(actor)
 }
 
-fn said(statement: u32, answer: Option<Answer>, ended: Option<Ended>) -> Said {
+pub(crate) fn said(statement: u32, answer: Option<Answer>, ended: Option<Ended>) -> Said {
     Said {
         statement,
         answer,
@@ -58,7 +58,7 @@ fn said(statement: u32, answer: Option<Answer>, ended: Option<Ended>) -> Said {
 }
 
 /// The weak word, the flags, field 0 twice since it differs, and fields 1 to 3; then the claim is the Make.
-fn makes(rt: &impl Abort, world: &mut World, actor: u8) {
+pub(crate) fn makes(rt: &impl Abort, world: &mut World, actor: u8) {
     for _ in 0..7 {
         assert_eq!(rt; step(rt, world, actor), Stepped::Quiet(said(1, None, None)));
     }

@@ -3,9 +3,11 @@ use crate::act::{Act, tasks};
 use crate::call::{Call, Name};
 use crate::extent::Extent;
 use crate::half::others_keep;
+use crate::holdings::Pointer;
 use crate::said::Ended;
 use crate::stock::Stock;
 use crate::table::Table;
+use control_word::handle::Kind;
 use control_word::{Block, Place, Shape};
 use std::test::Fail;
 
@@ -34,7 +36,12 @@ fn two_owners_leave(rt: HostRuntime) -> Result<(), Fail> {
     let after = table.look(0, BLOCK, 1);
     table.claim(0, BLOCK, false, false, [7, 0, 0, 0]);
     table.share(0, BLOCK, ORIGIN, ORIGIN);
-    let owners = table.count(0, BLOCK, ORIGIN);
+    let owner = Pointer {
+        kind: Kind::Owner,
+        block: BLOCK,
+        place: ORIGIN,
+    };
+    let owners = table.count(0, owner);
     let first = table.leave(0, BLOCK, ORIGIN);
     let second = table.leave(0, BLOCK, ORIGIN);
     assert!(rt; !first);

@@ -18,7 +18,7 @@ const A: Name = Name(0);
 const B: Name = Name(1);
 
 /// What an act answers, and the object that ended by it, after the number of its actor and statement.
-type Line = (u8, u32, Option<Answer>, Option<Ended>);
+pub(crate) type Line = (u8, u32, Option<Answer>, Option<Ended>);
 
 fn make(target: Name, field: u64) -> Call {
     Call::Make {
@@ -35,7 +35,7 @@ fn actor(alloc: Global, calls: &[Call]) -> Result<Actor, AllocError> {
     })
 }
 
-fn world(rt: &impl Abort, alloc: Global, blocks: u32, actors: Vec<Actor>) -> World {
+pub(crate) fn world(rt: &impl Abort, alloc: Global, blocks: u32, actors: Vec<Actor>) -> World {
     let shape = Shape {
         blocks,
         shared_cells: 0,
@@ -83,7 +83,7 @@ fn is_at_end(world: &World) -> bool
 }
 
 /// So many turns of an actor, and their lines. Turns of an actor that is at its end say nothing.
-fn turns(
+pub(crate) fn turns(
     rt: &impl Abort,
     world: &mut World,
     actor: u8,
@@ -102,7 +102,7 @@ fn turns(
 }
 
 /// Nothing is left: so many objects were made and ended, and no block has one.
-fn nothing_is_left(rt: &impl Abort, world: &World, made: u32) {
+pub(crate) fn nothing_is_left(rt: &impl Abort, world: &World, made: u32) {
     assert!(rt; is_at_end(world));
     assert_eq!(rt; (world.made(), world.ended()), (made, made));
     for block in 1..10 {

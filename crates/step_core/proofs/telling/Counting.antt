@@ -233,7 +233,6 @@ counted_act v d w t ts (Count i) is =
     let x = went (state v) d w.slots w.taken ts (Count i) in
     let l = settled_less w.slots w.taken ts in
     told v d t.statement w x (length (t ∷ ts)) (answer_of (state v) d w.slots (Count i)) (omega (arith, l)) (slot w.slots i)
-
 counted_act v d w t ts (Downgrade i) is =
     let x = went (state v) d w.slots w.taken ts (Downgrade i) in
     let l = settled_less (slice_set w.slots (hand w.slots) (option_map as_weak (slot w.slots i))) true ts in
