@@ -5,6 +5,7 @@ pub mod Closing
 pub mod Endings
 pub mod Passage
 pub mod Unseen
+pub mod CellRounds
 pub mod Still
 pub mod CellWords
 pub mod Hands
@@ -25,6 +26,7 @@ pub mod PartingCounts
 pub mod DeskSteps
 pub mod DeskBags
 pub mod DeskLocks
+pub mod CellDesks
 pub mod OwnEndings
 pub mod StoreBlocks
 pub mod WeakGifts

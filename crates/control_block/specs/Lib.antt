@@ -4,7 +4,9 @@ pub mod LockPlays
 pub mod LockCalls
 pub mod FundPlays
 pub mod CellPlays
+pub mod CellRounds
 pub mod Desks
+pub mod CellCalls
 pub mod Refusals
 pub mod Inside
 pub mod Census

@@ -36,6 +36,13 @@ impl<V: Drop + Send> Domain<V> {
     {
         self.shape.blocks
     }
+
+    /// How many free shared cells there are (own). The free weak cells stand behind them.
+    pub fn shared_cells(&self) -> u32
+        ensures { (result ≡ self.now.shape.shared_cells) × (result + self.now.shape.weak_cells ≤ 256) }
+    {
+        self.shape.shared_cells
+    }
 }
 
 /// All blocks, least first, with room for each.

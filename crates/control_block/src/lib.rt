@@ -5,7 +5,10 @@ pub mod board;
 #[cfg(test)]
 mod call_tests;
 pub mod calls;
+pub mod cell_calls;
+pub mod cell_compares;
 pub mod cell_plays;
+pub mod cell_rounds;
 pub mod cells;
 pub mod census;
 pub mod desk;

@@ -5,6 +5,7 @@ pub mod LineLemmas
 pub mod Overs
 pub mod RunLemmas
 pub mod StepLemmas
+pub mod StepRunLemmas
 pub mod TraceLemmas
 pub mod TurnBounds
 pub mod TurnLemmas

@@ -23,3 +23,13 @@ lines_more {A} f xs i x lt =
 pub lines_then : (xs ys : List (List ℕ)) (a b c : List ℕ) → b ≡ a ++ ended xs → c ≡ b ++ ended ys → c ≡ a ++ ended (xs ++ ys)
 lines_then xs ys a b c p q =
     q ∙ ap (λ (t : List ℕ). t ++ ended ys) p ∙ append_assoc a (ended xs) (ended ys) ∙ ap (λ (t : List ℕ). a ++ t) (sym (ended-append xs ys))
+
+-- a text that has the lines of the first elements, and then those of one element more
+pub lines_on : {A : Type 0} (f : A → List (List ℕ)) (xs : List A) (i : ℕ) (x : A) (a b c : List ℕ) → i < length xs
+    → b ≡ a ++ ended (flat_map f (take i xs)) → c ≡ b ++ ended (f (get_or xs i x))
+    → c ≡ a ++ ended (flat_map f (take (i + 1) xs))
+lines_on {A} f xs i x a b c lt p q =
+    q
+    ∙ ap (λ (t : List ℕ). t ++ ended (f (get_or xs i x))) p
+    ∙ append_assoc a (ended (flat_map f (take i xs))) (ended (f (get_or xs i x)))
+    ∙ ap (λ (t : List ℕ). a ++ t) (sym (lines_more f xs i x lt))

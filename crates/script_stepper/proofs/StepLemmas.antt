@@ -14,7 +14,8 @@ use Rattle.step_core.specs.declared.extent.Extent.{Extent}
 use Rattle.step_core.specs.Scenes.{Scene}
 use Rattle.step_core.specs.Worlds.{Sight, scene}
 use Rattle.script_stepper.specs.Beginnings.{script_shape}
-use Rattle.script_stepper.specs.Runs.{run_text}
+use Rattle.script_stepper.specs.declared.stepping.Pace.{Pace}
+use Rattle.script_stepper.specs.Runs.{IsShown, IsTextBy}
 use Rattle.script_stepper.specs.Lines.{closing_lines, item_lines, shown}
 use Rattle.script_stepper.specs.Running.{AllRest, HasRun}
 use Rattle.script_stepper.specs.Traces.{outcome, schedule, trace}
@@ -43,10 +44,8 @@ all_rest (part ∷ parts) (suc d) = all_rest parts d
 pub first_rests : (shape : Shape) (parts : List Part) (u : Sight) → u ≡ first_sight shape parts → AllRest u
 first_rests shape parts u e = subst AllRest (sym e) (all_rest parts)
 
-pub run_is : (script : List Section) (turns text : List ℕ) (threads : ℕ) (shape : Shape) (u : Sight) → threads ≡ length script
+pub run_is : (pace : Pace) (script : List Section) (turns text : List ℕ) (threads : ℕ) (shape : Shape) (u : Sight) → threads ≡ length script
     → shape ≡ script_shape threads
-    → u ≡ first_sight shape (program_in script) → text ≡ ended (shown turns (scene u)) → text ≡ run_text script turns
-run_is script turns text threads shape u n s e h =
-    h
-    ∙ ap (λ (v : Sight). ended (shown turns (scene v))) e
-    ∙ ap (λ (x : Shape). ended (shown turns (scene (first_sight x (program_in script))))) (s ∙ ap script_shape n)
+    → u ≡ first_sight shape (program_in script) → IsShown pace turns u text → IsTextBy pace script turns text
+run_is pace script turns text threads shape u n s e h =
+    subst (λ (v : Sight). IsShown pace turns v text) (e ∙ ap (λ (x : Shape). first_sight x (program_in script)) (s ∙ ap script_shape n)) h

@@ -3,5 +3,6 @@ pub mod Lines
 pub mod Running
 pub mod Runs
 pub mod Sinks
+pub mod StepRuns
 pub mod Traces
 pub mod TurnLists

@@ -1,11 +1,11 @@
 -- The lines that a run writes, each without its line feed. All of it is own.
-use Rattle.std.specs.Prelude.{ℕ, ◌-◌, ◌==◌, ◌++◌, cond, List, [], ◌∷◌, codes, decimal, Option, Some, None}
+use Rattle.std.specs.Prelude.{ℕ, ◌-◌, ◌==◌, ◌++◌, Bool, true, cond, List, [], ◌∷◌, codes, decimal, Option, Some, None}
 use Rattle.std.specs.List.{flat_map}
 use Rattle.control_word.specs.declared.counts.Counts.{Counts}
 use Rattle.control_word.specs.Refusal.{refusal_number}
 use Rattle.control_word.specs.State.{State}
 use Rattle.step_core.specs.declared.said.Answer.{Answer}
-use Rattle.step_core.specs.declared.said.Answer.TheVariants.{Count, Refused}
+use Rattle.step_core.specs.declared.said.Answer.TheVariants.{Count, Expired, Locked, Upgraded, Refused}
 use Rattle.step_core.specs.declared.said.Ended.{Ended}
 use Rattle.step_core.specs.declared.said.Ended.TheVariants.{Fields, Null}
 use Rattle.step_core.specs.declared.said.Said.{Said}
@@ -23,8 +23,19 @@ statement_text statement = cond (statement == 0) (codes "end") (decimal statemen
 abbrev pub line_start : ℕ → ℕ → List ℕ
 line_start thread statement = decimal thread ++ codes "." ++ statement_text statement ++ codes " "
 
+-- whether a weak name is expired
+abbrev pub expired_word : Bool → List ℕ
+expired_word is_expired = cond is_expired (codes "yes") (codes "no")
+
+-- what came of a lock
+abbrev pub locked_word : Bool → List ℕ
+locked_word is_owner = cond is_owner (codes "owner") (codes "empty")
+
 abbrev pub answer_text : Answer → List ℕ
 answer_text (Count n) = codes "count " ++ decimal n
+answer_text (Expired is_expired) = codes "expired " ++ expired_word is_expired
+answer_text (Locked is_owner) = codes "lock " ++ locked_word is_owner
+answer_text Upgraded = codes "upgrade " ++ locked_word true
 answer_text (Refused why) = codes "refused " ++ decimal (refusal_number why)
 
 abbrev pub ended_text : Ended → List ℕ

@@ -5,9 +5,13 @@ use Rattle.script_text.specs.declared.fault.Fault.{Fault}
 use Rattle.script_text.specs.declared.fault.Fault.TheVariants.{Memory, Syntax, BadTurn, Output, Input}
 use Rattle.script_text.specs.Drafts.{Section}
 use Rattle.script_text.specs.Grammar.{Faulty, Reads, ended}
-use Rattle.script_stepper.specs.Beginnings.{script_scene}
+use Rattle.script_stepper.specs.declared.stepping.Pace.{Pace}
+use Rattle.script_stepper.specs.declared.stepping.Pace.TheVariants as pace
+use Rattle.step_core.specs.Worlds.{Sight, scene}
+use Rattle.script_stepper.specs.Beginnings.{script_scene, script_sight}
 use Rattle.script_stepper.specs.Lines.{shown}
 use Rattle.script_stepper.specs.Sinks.{AppendsBeginning}
+use Rattle.script_stepper.specs.StepRuns.{IsStepText}
 use Rattle.script_stepper.specs.TurnLists.{list_at}
 
 -- whether the output is what failed
@@ -28,17 +32,42 @@ Writes text (Err (BadTurn position)) old new = ⊥
 Writes text (Err Output) old new = AppendsBeginning old new text
 Writes text (Err Input) old new = ⊥
 
+-- the same of one of the texts that P holds of
+abbrev pub WritesOne : {A : Type 0} → (List ℕ → Type 0) → Result A Fault → Option (List ℕ) → Option (List ℕ) → Type 0
+WritesOne P (Ok x) old new = (text : List ℕ) × P text × Appends old new text
+WritesOne P (Err Memory) old new = new ≡ old
+WritesOne P (Err (Syntax line cause)) old new = ⊥
+WritesOne P (Err (BadTurn position)) old new = ⊥
+WritesOne P (Err Output) old new = (text : List ℕ) × P text × AppendsBeginning old new text
+WritesOne P (Err Input) old new = ⊥
+
 -- what a script's run with these turns writes
 abbrev pub run_text : List Section → List ℕ → List ℕ
 run_text script turns = ended (shown turns (script_scene script))
 
--- the bytes read as a script, the list names turns of it, and this is the text of their run
-pub record IsRun (bytes list text : List ℕ) : Type 0 where
+abbrev pub IsRunText : List Section → List ℕ → List ℕ → Type 0
+IsRunText script turns text = text ≡ run_text script turns
+
+-- what its run by single steps writes
+abbrev pub IsFineText : List Section → List ℕ → List ℕ → Type 0
+IsFineText script turns text = IsStepText turns (script_sight script) text
+
+-- the text of a run from u, by turns or by single steps
+abbrev pub IsShown : Pace → List ℕ → Sight → List ℕ → Type 0
+IsShown pace.Turns turns u text = text ≡ ended (shown turns (scene u))
+IsShown pace.Steps turns u text = IsStepText turns u text
+
+-- the same of a script's run
+abbrev pub IsTextBy : Pace → List Section → List ℕ → List ℕ → Type 0
+IsTextBy pace script turns text = IsShown pace turns (script_sight script) text
+
+-- the bytes read as a script, the list names turns of it, and this is a text that they have
+pub record IsRun (IsText : List Section → List ℕ → List ℕ → Type 0) (bytes list text : List ℕ) : Type 0 where
   pub script : List Section
   pub turns : List ℕ
   pub reads : Reads bytes script
   pub listed : list_at (length script) list ≡ Ok turns
-  pub says : text ≡ run_text script turns
+  pub says : IsText script turns text
 
 -- the bytes read as a script, and the list's number at this position, from 1, is the first that names no thread of it
 pub record IsBadTurn (bytes list : List ℕ) (position : ℕ) : Type 0 where
@@ -52,13 +81,13 @@ text_in (Ok text) = Ok (string_bytes text)
 text_in (Err fault) = Err fault
 
 -- the text of the run, or the refusal that script and list have; a fault of the script comes first
-abbrev pub Tells : List ℕ → List ℕ → Result (List ℕ) Fault → Type 0
-Tells bytes list (Ok text) = IsRun bytes list text
-Tells bytes list (Err Memory) = Unit {0}
-Tells bytes list (Err (Syntax line cause)) = Faulty bytes line cause
-Tells bytes list (Err (BadTurn position)) = IsBadTurn bytes list position
-Tells bytes list (Err Output) = ⊥
-Tells bytes list (Err Input) = ⊥
+abbrev pub Tells : (List Section → List ℕ → List ℕ → Type 0) → List ℕ → List ℕ → Result (List ℕ) Fault → Type 0
+Tells IsText bytes list (Ok text) = IsRun IsText bytes list text
+Tells IsText bytes list (Err Memory) = Unit {0}
+Tells IsText bytes list (Err (Syntax line cause)) = Faulty bytes line cause
+Tells IsText bytes list (Err (BadTurn position)) = IsBadTurn bytes list position
+Tells IsText bytes list (Err Output) = ⊥
+Tells IsText bytes list (Err Input) = ⊥
 
 -- the text that is to be told was taken, or a beginning of it where the output failed; at any other refusal nothing was
 abbrev pub Delivers : {A : Type 0} → (Result (List ℕ) Fault → Type 0) → Result A Fault → Option (List ℕ) → Option (List ℕ) → Type 0

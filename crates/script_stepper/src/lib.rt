@@ -6,11 +6,14 @@ mod lines;
 pub mod listing;
 mod running;
 pub mod sink;
+#[cfg(test)]
+mod sink_tests;
 pub mod stepping;
+mod steps;
 #[cfg(test)]
 mod tests;
 pub mod turns;
 
 pub use listing::{write_lines, write_text};
 pub use sink::{Output, Sink, WriteFailed, write_all};
-pub use stepping::step_text;
+pub use stepping::{fine_text, step_text};

@@ -2,8 +2,8 @@
 ghost use Rattle.std.specs.Prelude.{◌≡◌, ◌∷◌, ◌++◌, [], OnOk, string_bytes};
 ghost use Rattle.std.specs.List.{flat_map};
 ghost use Rattle.script_text.specs.Canonical.{AddsLines, number_after};
-ghost use Rattle.script_stepper.specs.Lines.{answer_text, block_text, ended_text, line_start, said_lines};
-ghost use Rattle.script_stepper.specs.Lines.{statement_text, totals_text};
+ghost use Rattle.script_stepper.specs.Lines.{answer_text, block_text, ended_text, expired_word, line_start};
+ghost use Rattle.script_stepper.specs.Lines.{locked_word, said_lines, statement_text, totals_text};
 
 use control_word::Counts;
 use std::alloc::AllocError;
@@ -32,12 +32,38 @@ fn put_start(text: &mut String, thread: u8, statement: u32) -> Result<(), AllocE
     Ok(())
 }
 
+/// Whether a weak name is expired.
+fn expired_word(is_expired: bool) -> &'static str
+    ensures { result.now ≡ expired_word is_expired }
+{
+    if is_expired { "yes" } else { "no" }
+}
+
+/// What came of a lock.
+fn locked_word(is_owner: bool) -> &'static str
+    ensures { result.now ≡ locked_word is_owner }
+{
+    if is_owner { "owner" } else { "empty" }
+}
+
 /// Adds an answer, which ends a line.
 fn put_answer(text: &mut String, answer: Answer) -> Result<(), AllocError>
     ensures { OnOk result (string_bytes text.new ≡ string_bytes text.old ++ answer_text answer ++ 10 ∷ []) }
 {
     match answer {
         Answer::Count(owners) => writeln!(text, "count {owners}")?,
+        Answer::Expired(is_expired) => {
+            let word = expired_word(is_expired);
+            writeln!(text, "expired {word}")?;
+        }
+        Answer::Locked(is_owner) => {
+            let word = locked_word(is_owner);
+            writeln!(text, "lock {word}")?;
+        }
+        Answer::Upgraded => {
+            let word = locked_word(true);
+            writeln!(text, "upgrade {word}")?;
+        }
         Answer::Refused(why) => {
             let number = why.number();
             writeln!(text, "refused {number}")?;

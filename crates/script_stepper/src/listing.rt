@@ -39,9 +39,11 @@ fn thread_text(alloc: Global, thread: u8, said: &[Said]) -> Result<String, Alloc
     Ok(text)
 }
 
-/// Writes what a thread said, line by line (own): of each act `T.S count N` or `T.S refused N`, and then
-/// `T.S end F F F F` or `T.S end null` for the object that ended by it. `T` is the thread, `S` the number of the
-/// statement, or `end` at the thread's end.
+/// Writes what a thread said, line by line (own): of each act its answer, and then `T.S end F F F F` or `T.S end null`
+/// for the object that ended by it. `T` is the thread, `S` the number of the statement, or `end` at the thread's end.
+///
+/// An answer is `T.S count N`, `T.S lock owner`, `T.S lock empty`, `T.S upgrade owner`, `T.S expired yes`,
+/// `T.S expired no` or `T.S refused N`, N being the number of the refusal.
 ///
 /// Refused by 1 where a growth was refused, before the first byte; by 12 just where the writer has failed, which then
 /// took a beginning of the lines. The writer hasn't failed before.

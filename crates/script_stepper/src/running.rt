@@ -8,8 +8,7 @@ ghost use Rattle.script_stepper.specs.Traces.{schedule};
 
 use crate::lines::put_said;
 use std::alloc::AllocError;
-use step_core::Turned;
-use step_core::World;
+use step_core::{Turned, World};
 
 /// One turn of a thread. Answers whether it had an act; the lines of what that says are added.
 fn take_turn(world: &mut World, thread: u8, text: &mut String) -> Result<bool, AllocError>

@@ -10,18 +10,29 @@ ghost use Rattle.step_core.specs.Starts.{first_sight};
 ghost use Rattle.script_stepper.specs.Beginnings.{script_shape};
 ghost use Rattle.script_stepper.specs.Lines.{shown};
 ghost use Rattle.script_stepper.specs.Running.{AllRest, IsThread};
-ghost use Rattle.script_stepper.specs.Runs.{Delivers, Tells, Writes, is_output, run_text, text_in};
+ghost use Rattle.script_stepper.specs.Runs.{Delivers, IsFineText, IsRunText, IsShown, IsTextBy, Tells};
+ghost use Rattle.script_stepper.specs.Runs.{Writes, WritesOne, is_output, run_text, text_in};
 ghost use Rattle.script_stepper.specs.TurnLists.{list_at};
 
 use crate::closing::put_closing;
 use crate::listing::write_text;
 use crate::running::run_turns;
 use crate::sink::Sink;
+use crate::steps::steps_text;
 use crate::turns::turns_of;
 use control_word::{Refusal, Shape};
 use script_text::{Fault, Script, parse};
 use std::alloc::{AllocError, Global};
 use step_core::World;
+
+/// How a run takes the numbers of its list.
+#[derive(Clone, Copy)]
+pub(crate) enum Pace {
+    /// A turn for each.
+    Turns,
+    /// An atomic step for each.
+    Steps,
+}
 
 /// How many blocks all threads have at most.
 const BLOCKS: u32 = 4_095;
@@ -58,8 +69,8 @@ fn world_of(alloc: Global, script: &Script, shape: Shape) -> Result<World, Fault
     }
 }
 
-/// Runs a world, and tells of it.
-fn text_of(
+/// Runs a world turn by turn, and tells of it.
+fn turns_text(
     alloc: Global,
     world: &mut World,
     threads: u8,
@@ -78,36 +89,75 @@ fn text_of(
     Ok(text)
 }
 
+/// Runs a world at this pace, and tells of it.
+fn text_of(
+    alloc: Global,
+    world: &mut World,
+    threads: u8,
+    blocks: u16,
+    turns: &[u8],
+    pace: Pace,
+) -> Result<String, AllocError>
+    requires rests { AllRest world.old }
+    requires all { threads ≡ length world.old.walks }
+    requires blocks { blocks ≡ world.old.story.extent.shape.blocks }
+    requires threads { All (IsThread world.old) turns.now }
+    ensures { IfOk result (λ text. IsShown pace turns.now world.old (string_bytes text)) }
+{
+    match pace {
+        Pace::Turns => turns_text(alloc, world, threads, blocks, turns),
+        Pace::Steps => steps_text(alloc, world, blocks, turns),
+    }
+}
+
 /// The text of a script's run with these turns, each of which names a thread.
-fn run(alloc: Global, script: &Script, turns: &[u8]) -> Result<String, Fault>
+fn run(alloc: Global, script: &Script, turns: &[u8], pace: Pace) -> Result<String, Fault>
     requires { All (λ thread. (1 ≤ thread) × (thread ≤ length script.now)) turns.now }
-    ensures ok { IfOk result (λ text. string_bytes text ≡ run_text script.now turns.now) }
+    ensures ok { IfOk result (λ text. IsTextBy pace script.now turns.now (string_bytes text)) }
     ensures memory { IfErr result (λ fault. fault ≡ Memory) }
 {
     let threads = script.threads();
     let shape = shape_of(threads);
+    let blocks = shape.blocks as u16;
     let mut world = world_of(alloc, script, shape)?;
-    match text_of(alloc, &mut world, threads as u8, shape.blocks as u16, turns) {
+    match text_of(alloc, &mut world, threads as u8, blocks, turns, pace) {
         Ok(text) => Ok(text),
         Err(_) => Err(Fault::Memory),
     }
 }
 
 /// The text of the run of a script with a list of turns, or why there is none.
-fn answer(alloc: Global, script: &[u8], turns: &[u8]) -> Result<String, Fault>
-    ensures { Tells script.now turns.now (text_in result) }
+fn answer(alloc: Global, script: &[u8], turns: &[u8], pace: Pace) -> Result<String, Fault>
+    ensures { Tells (IsTextBy pace) script.now turns.now (text_in result) }
 {
     let script = parse(alloc, script)?;
     let turns = turns_of(alloc, turns, script.threads() as u8)?;
-    run(alloc, &script, turns.as_slice())
+    run(alloc, &script, turns.as_slice(), pace)
+}
+
+/// Writes the text of the run of a script with a list of turns.
+fn deliver<S: Sink>(
+    alloc: Global,
+    script: &[u8],
+    turns: &[u8],
+    pace: Pace,
+    writer: &mut S,
+) -> Result<(), Fault>
+    requires { S.has_failed writer.old ≡ false }
+    ensures holds { Delivers (Tells (IsTextBy pace) script.now turns.now) result
+        (S.taken writer.old) (S.taken writer.new) }
+    ensures failed { S.has_failed writer.new ≡ is_output result }
+{
+    let text = answer(alloc, script, turns, pace)?;
+    write_text(text.as_bytes(), writer)
 }
 
 /// Runs a script, and writes the lines of the run (own): one turn for each number of the list `turns`, then each thread
 /// to its end in number order; then the census and the totals.
 ///
-/// An answer is `T.S count N` or `T.S refused N`, of thread T at its statement S, or at its end, where S is `end`. An
-/// object that ends by the act is `T.S end F F F F`, or `T.S end null`. Of each block B that isn't vacant the census
-/// tells `block B owners N weaks K`. The last line is `made M ended E left L`.
+/// Of each act come the lines that [`crate::write_lines`] writes, of thread T at its statement S, or at its end, where S
+/// is `end`. Of each block B that isn't vacant the census tells `block B owners N weaks K`. The last line is
+/// `made M ended E left L`.
 ///
 /// Refused, in this order: by 1 where a growth was refused, by 10 just where a line of the script is faulty, by 11 just
 /// where a number of the list is, with nothing written; by 12 just where the writer has failed, which then took a
@@ -121,7 +171,8 @@ pub fn step_text<S: Sink>(
     requires { S.has_failed writer.old ≡ false }
 
     // What is answered is true of the script and the list, and the text that was taken is that of the run.
-    ensures holds { Delivers (Tells script.now turns.now) result (S.taken writer.old) (S.taken writer.new) }
+    ensures holds { Delivers (Tells IsRunText script.now turns.now) result
+        (S.taken writer.old) (S.taken writer.new) }
     ensures failed { S.has_failed writer.new ≡ is_output result }
 
     // Want of memory aside, a fault of the script is answered, then one of the list, and else the run is told.
@@ -134,6 +185,36 @@ pub fn step_text<S: Sink>(
         → list_at (length threads) turns.now ≡ Ok listed
         → Writes (run_text threads listed) result (S.taken writer.old) (S.taken writer.new) }
 {
-    let text = answer(alloc, script, turns)?;
-    write_text(text.as_bytes(), writer)
+    deliver(alloc, script, turns, Pace::Turns, writer)
+}
+
+/// The same, but each number of the list is one atomic step of its thread, as [`World::run`] takes it; then each thread
+/// runs alone to its end in number order. Which act a step reaches depends on how the words are laid out; the text is
+/// that of the steps in their order, and then the census and the totals (own).
+///
+/// Refused as [`step_text`] is.
+pub fn fine_text<S: Sink>(
+    alloc: Global,
+    script: &[u8],
+    turns: &[u8],
+    writer: &mut S,
+) -> Result<(), Fault>
+    requires { S.has_failed writer.old ≡ false }
+
+    // What is answered is true of the script and the list, and the text that was taken is that of such a run.
+    ensures holds { Delivers (Tells IsFineText script.now turns.now) result
+        (S.taken writer.old) (S.taken writer.new) }
+    ensures failed { S.has_failed writer.new ≡ is_output result }
+
+    // Want of memory aside, a fault of the script is answered, then one of the list, and else the run is told.
+    ensures syntax { (line : ℕ) (cause : Cause) → Faulty script.now line cause
+        → IsUnlessMemory result (Err (Syntax line cause)) }
+    ensures turns { (threads : List Section) (position : ℕ) → Reads script.now threads
+        → list_at (length threads) turns.now ≡ Err position
+        → IsUnlessMemory result (Err (BadTurn position)) }
+    ensures runs { (threads : List Section) (listed : List ℕ) → Reads script.now threads
+        → list_at (length threads) turns.now ≡ Ok listed
+        → WritesOne (IsFineText threads listed) result (S.taken writer.old) (S.taken writer.new) }
+{
+    deliver(alloc, script, turns, Pace::Steps, writer)
 }

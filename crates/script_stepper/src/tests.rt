@@ -1,6 +1,6 @@
 use crate::listing::write_lines;
 use crate::sink::{Output, Sink, write_all};
-use crate::stepping::step_text;
+use crate::stepping::{fine_text, step_text};
 use crate::turns::turns_of;
 use control_word::Refusal;
 use script_text::{Cause, Fault};
@@ -119,6 +119,30 @@ fn lines_of_a_thread(rt: HostRuntime) -> Result<(), Fail> {
 }
 
 #[test]
+fn lines_of_answers_on_weak_names(rt: HostRuntime) -> Result<(), Fail> {
+    let cases: [(Answer, &[u8]); 6] = [
+        (Answer::Expired(true), b"2.7 expired yes\n"),
+        (Answer::Expired(false), b"2.7 expired no\n"),
+        (Answer::Locked(true), b"2.7 lock owner\n"),
+        (Answer::Locked(false), b"2.7 lock empty\n"),
+        (Answer::Upgraded, b"2.7 upgrade owner\n"),
+        (Answer::Refused(Refusal::BadWeak), b"2.7 refused 5\n"),
+    ];
+    for (answer, line) in cases {
+        let mut taken = Vec::new(rt.alloc());
+        let said = Said {
+            statement: 7,
+            answer: Some(answer),
+            ended: None,
+        };
+        let written = write_lines(rt.alloc(), 2, &[said], &mut Output::new(&mut taken));
+        assert_eq!(rt; written, Ok(()));
+        assert_eq!(rt; taken.as_slice(), line);
+    }
+    Ok(())
+}
+
+#[test]
 fn lines_that_a_writer_does_not_take(rt: HostRuntime) -> Result<(), Fail> {
     let mut short = Short {
         taken: Vec::new(rt.alloc()),
@@ -202,5 +226,21 @@ fn refused_runs(rt: HostRuntime) -> Result<(), Fail> {
     );
     assert_eq!(rt; refused, Err(Fault::Output));
     assert!(rt; short.taken.is_empty());
+    Ok(())
+}
+
+#[test]
+fn single_steps_of_two_threads(rt: HostRuntime) -> Result<(), Fail> {
+    let script: &[u8] = b"make a 1\ncount a\nthread\nmake b 2\ncount b\n";
+    let mut taken = Vec::new(rt.alloc());
+    let written = fine_text(rt.alloc(), script, b"", &mut Output::new(&mut taken));
+    assert_eq!(rt; written, Ok(()));
+    let lines: &[u8] =
+        b"1.2 count 1\n1.end end 1 0 0 0\n2.2 count 1\n2.end end 2 0 0 0\nmade 2 ended 2 left 0\n";
+    assert_eq!(rt; taken.as_slice(), lines);
+    let mut none = Vec::new(rt.alloc());
+    let refused = fine_text(rt.alloc(), script, b"1,3", &mut Output::new(&mut none));
+    assert_eq!(rt; refused, Err(Fault::BadTurn { position: 2 }));
+    assert!(rt; none.is_empty());
     Ok(())
 }

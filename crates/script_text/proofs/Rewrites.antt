@@ -3,14 +3,16 @@ use Rattle.std.proofs.Common.{◌≡◌, ℕ, true, List, ◌∷◌, ◌++◌, l
 use Rattle.std.specs.List.{AllByRecursion}
 use Rattle.step_core.specs.declared.call.Call.{Call}
 use Rattle.step_core.specs.declared.call.Call.TheVariants as call
-use Rattle.step_core.specs.declared.call.Kind.TheVariants.{Owner}
+use Rattle.step_core.specs.declared.call.Kind.TheVariants.{Owner, Weak}
 use Rattle.step_core.specs.Programs.{IsDeclared, names_of}
 use Rattle.script_text.specs.declared.keyword.Keyword.{Keyword}
 use Rattle.script_text.specs.declared.keyword.Keyword.TheVariants as key
+use Rattle.script_text.specs.declared.keyword.WeakKeyword.{WeakKeyword}
+use Rattle.script_text.specs.declared.keyword.WeakKeyword.TheVariants as weak
 use Rattle.script_text.specs.Names.{NameList}
 use Rattle.script_text.specs.Keywords.{spelling_of, takes_words}
 use Rattle.script_text.specs.Shapes.{one_target, one_source, target_and_source, target_and_fields}
-use Rattle.script_text.specs.Calls.{as_call, call_at}
+use Rattle.script_text.specs.Calls.{as_call, call_at, weak_call_at}
 use Rattle.script_text.specs.Canonical.{call_words}
 use Rattle.script_text.specs.Scripts.{kinds_in}
 use Rattle.script_text.proofs.TidyWords.{IsTidy}
@@ -69,6 +71,39 @@ module _ {A : Type 0} (k : Keyword) (make : A → Call) (read : Reader A) (write
       subst (λ (p : Call × NameList). Rewrites names k p.0 p.1) e
       (rewrites_from names b.value.1 words b.value.0 b.first)
 
+-- each keyword on weak names by its shape
+weak_rewrites : (k : WeakKeyword) (names new : NameList) (words : List (List ℕ)) (c : Call)
+    → call_at names (key.Weak k) words ≡ Ok (with_names c new) → Rewrites names (key.Weak k) c new
+unfolding call_at weak_call_at
+weak_rewrites weak.Weak =
+    rewrites_by (key.Weak weak.Weak) (λ p. call.Weak p.0 p.1) (λ ns ws. target_and_source ns Weak Owner ws) write_two
+    (asks_two Weak Owner) 2
+    (λ ns ws. refl) (λ ns x. refl) (λ x. refl) refl (target_and_source_reversible Weak Owner)
+weak_rewrites weak.Copy =
+    rewrites_by (key.Weak weak.Copy) (λ p. call.WeakCopy p.0 p.1) (λ ns ws. target_and_source ns Weak Weak ws) write_two
+    (asks_two Weak Weak) 2
+    (λ ns ws. refl) (λ ns x. refl) (λ x. refl) refl (target_and_source_reversible Weak Weak)
+weak_rewrites weak.Empty =
+    rewrites_by (key.Weak weak.Empty) call.WeakEmpty (λ ns ws. one_target ns Weak ws) write_one (asks_one Weak) 1
+    (λ ns ws. refl) (λ ns x. refl) (λ x. refl) refl (target_reversible Weak)
+weak_rewrites weak.Reset =
+    rewrites_by (key.Weak weak.Reset) call.WeakReset (λ ns ws. one_source ns Weak ws) write_one (asks_one Weak) 1
+    (λ ns ws. refl) (λ ns x. refl) (λ x. refl) refl (source_reversible Weak)
+weak_rewrites weak.Lock =
+    rewrites_by (key.Weak weak.Lock) (λ p. call.Lock p.0 p.1) (λ ns ws. target_and_source ns Owner Weak ws) write_two
+    (asks_two Owner Weak) 2
+    (λ ns ws. refl) (λ ns x. refl) (λ x. refl) refl (target_and_source_reversible Owner Weak)
+weak_rewrites weak.Upgrade =
+    rewrites_by (key.Weak weak.Upgrade) (λ p. call.Upgrade p.0 p.1) (λ ns ws. target_and_source ns Owner Weak ws) write_two
+    (asks_two Owner Weak) 2
+    (λ ns ws. refl) (λ ns x. refl) (λ x. refl) refl (target_and_source_reversible Owner Weak)
+weak_rewrites weak.Count =
+    rewrites_by (key.Weak weak.Count) call.WeakCount (λ ns ws. one_source ns Weak ws) write_one (asks_one Weak) 1
+    (λ ns ws. refl) (λ ns x. refl) (λ x. refl) refl (source_reversible Weak)
+weak_rewrites weak.Expired =
+    rewrites_by (key.Weak weak.Expired) call.Expired (λ ns ws. one_source ns Weak ws) write_one (asks_one Weak) 1
+    (λ ns ws. refl) (λ ns x. refl) (λ x. refl) refl (source_reversible Weak)
+
 -- each keyword by its shape
 pub rewrites : (k : Keyword) (names new : NameList) (words : List (List ℕ)) (c : Call)
     → call_at names k words ≡ Ok (with_names c new) → Rewrites names k c new
@@ -89,3 +124,4 @@ rewrites key.Copy =
 rewrites key.Count =
     rewrites_by key.Count call.Count (λ ns ws. one_source ns Owner ws) write_one (asks_one Owner) 1
     (λ ns ws. refl) (λ ns x. refl) (λ x. refl) refl (source_reversible Owner)
+rewrites (key.Weak k) = weak_rewrites k

@@ -2,10 +2,12 @@
 use Rattle.std.specs.Prelude.{ℕ, List, Result, Ok}
 use Rattle.step_core.specs.declared.call.Call.{Call}
 use Rattle.step_core.specs.declared.call.Call.TheVariants as call
-use Rattle.step_core.specs.declared.call.Kind.TheVariants.{Owner}
+use Rattle.step_core.specs.declared.call.Kind.TheVariants.{Owner, Weak}
 use Rattle.script_text.specs.declared.fault.Cause.{Cause}
 use Rattle.script_text.specs.declared.keyword.Keyword.{Keyword}
 use Rattle.script_text.specs.declared.keyword.Keyword.TheVariants as key
+use Rattle.script_text.specs.declared.keyword.WeakKeyword.{WeakKeyword}
+use Rattle.script_text.specs.declared.keyword.WeakKeyword.TheVariants as weak
 use Rattle.script_text.specs.Reading.{◌>>=◌}
 use Rattle.script_text.specs.Names.{NameList}
 use Rattle.script_text.specs.Shapes.{one_target, one_source, target_and_source, target_and_fields}
@@ -14,6 +16,17 @@ use Rattle.script_text.specs.Shapes.{one_target, one_source, target_and_source, 
 abbrev pub as_call : {A : Type 0} → (A → Call) → Result (A × NameList) Cause → Result (Call × NameList) Cause
 as_call make read = read >>= λ r. Ok (make r.0, r.1)
 
+-- the call of a statement on weak names, and the names with its target
+unfoldable pub weak_call_at : NameList → WeakKeyword → List (List ℕ) → Result (Call × NameList) Cause
+weak_call_at names weak.Weak words = as_call (λ p. call.Weak p.0 p.1) (target_and_source names Weak Owner words)
+weak_call_at names weak.Copy words = as_call (λ p. call.WeakCopy p.0 p.1) (target_and_source names Weak Weak words)
+weak_call_at names weak.Empty words = as_call call.WeakEmpty (one_target names Weak words)
+weak_call_at names weak.Reset words = as_call call.WeakReset (one_source names Weak words)
+weak_call_at names weak.Lock words = as_call (λ p. call.Lock p.0 p.1) (target_and_source names Owner Weak words)
+weak_call_at names weak.Upgrade words = as_call (λ p. call.Upgrade p.0 p.1) (target_and_source names Owner Weak words)
+weak_call_at names weak.Count words = as_call call.WeakCount (one_source names Weak words)
+weak_call_at names weak.Expired words = as_call call.Expired (one_source names Weak words)
+
 -- the call, and the names with its target
 unfoldable pub call_at : NameList → Keyword → List (List ℕ) → Result (Call × NameList) Cause
 call_at names key.Make words = as_call (λ p. call.Make p.0 p.1) (target_and_fields names words)
@@ -21,3 +34,4 @@ call_at names key.Empty words = as_call call.Empty (one_target names Owner words
 call_at names key.Reset words = as_call call.Reset (one_source names Owner words)
 call_at names key.Copy words = as_call (λ p. call.Copy p.0 p.1) (target_and_source names Owner Owner words)
 call_at names key.Count words = as_call call.Count (one_source names Owner words)
+call_at names (key.Weak keyword) words = weak_call_at names keyword words

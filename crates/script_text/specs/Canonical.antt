@@ -2,18 +2,26 @@
 use Rattle.std.specs.Prelude.{◌≡◌, ℕ, ◌++◌, String, List, [], ◌∷◌, map, codes, decimal, string_bytes}
 use Rattle.std.specs.List.{flat_map, join_with_byte}
 use Rattle.step_core.specs.declared.call.Call.{Call}
-use Rattle.step_core.specs.declared.call.Call.TheVariants.{Make, Empty, Reset, Copy, Count}
+use Rattle.step_core.specs.declared.call.Call.TheVariants as call
 use Rattle.script_text.specs.Names.{NameList, name_text}
 use Rattle.script_text.specs.Drafts.{Section}
 use Rattle.script_text.specs.Grammar.{ended}
 
 -- the words of a statement
 abbrev pub call_words : NameList → Call → List (List ℕ)
-call_words names (Make target fields) = codes "make" ∷ name_text names target ∷ map decimal fields
-call_words names (Empty target) = codes "empty" ∷ name_text names target ∷ []
-call_words names (Reset name) = codes "reset" ∷ name_text names name ∷ []
-call_words names (Copy target source) = codes "copy" ∷ name_text names target ∷ name_text names source ∷ []
-call_words names (Count name) = codes "count" ∷ name_text names name ∷ []
+call_words names (call.Make target fields) = codes "make" ∷ name_text names target ∷ map decimal fields
+call_words names (call.Empty target) = codes "empty" ∷ name_text names target ∷ []
+call_words names (call.Reset name) = codes "reset" ∷ name_text names name ∷ []
+call_words names (call.Copy target source) = codes "copy" ∷ name_text names target ∷ name_text names source ∷ []
+call_words names (call.Count name) = codes "count" ∷ name_text names name ∷ []
+call_words names (call.Weak target source) = codes "weak" ∷ name_text names target ∷ name_text names source ∷ []
+call_words names (call.WeakCopy target source) = codes "wcopy" ∷ name_text names target ∷ name_text names source ∷ []
+call_words names (call.WeakEmpty target) = codes "wempty" ∷ name_text names target ∷ []
+call_words names (call.WeakReset name) = codes "wreset" ∷ name_text names name ∷ []
+call_words names (call.Lock target source) = codes "lock" ∷ name_text names target ∷ name_text names source ∷ []
+call_words names (call.Upgrade target source) = codes "upgrade" ∷ name_text names target ∷ name_text names source ∷ []
+call_words names (call.WeakCount name) = codes "wcount" ∷ name_text names name ∷ []
+call_words names (call.Expired name) = codes "expired" ∷ name_text names name ∷ []
 
 -- a number after a space
 abbrev pub number_after : ℕ → List ℕ

@@ -4,7 +4,8 @@ use Rattle.std.specs.Str.{bytes_eq}
 use Rattle.script_text.specs.declared.fault.Cause.{Cause}
 use Rattle.script_text.specs.declared.fault.Cause.TheVariants.{UnknownStatement}
 use Rattle.script_text.specs.declared.keyword.Keyword.{Keyword}
-use Rattle.script_text.specs.declared.keyword.Keyword.TheVariants.{Make, Empty, Reset, Copy, Count}
+use Rattle.script_text.specs.declared.keyword.Keyword.TheVariants.{Make, Empty, Reset, Copy, Count, Weak}
+use Rattle.script_text.specs.declared.keyword.WeakKeyword.TheVariants as weak
 
 -- a first word, and the least and the greatest number of words that may follow it
 pub record Spelling : Type 0 where
@@ -23,10 +24,20 @@ spelling_of Empty = spelled (codes "empty") 1 1
 spelling_of Reset = spelled (codes "reset") 1 1
 spelling_of Copy = spelled (codes "copy") 2 2
 spelling_of Count = spelled (codes "count") 1 1
+spelling_of (Weak weak.Weak) = spelled (codes "weak") 2 2
+spelling_of (Weak weak.Copy) = spelled (codes "wcopy") 2 2
+spelling_of (Weak weak.Empty) = spelled (codes "wempty") 1 1
+spelling_of (Weak weak.Reset) = spelled (codes "wreset") 1 1
+spelling_of (Weak weak.Lock) = spelled (codes "lock") 2 2
+spelling_of (Weak weak.Upgrade) = spelled (codes "upgrade") 2 2
+spelling_of (Weak weak.Count) = spelled (codes "wcount") 1 1
+spelling_of (Weak weak.Expired) = spelled (codes "expired") 1 1
 
 -- all statements
 abbrev pub keywords : List Keyword
-keywords = Make ∷ Empty ∷ Reset ∷ Copy ∷ Count ∷ []
+keywords =
+    Make ∷ Empty ∷ Reset ∷ Copy ∷ Count ∷ Weak weak.Weak ∷ Weak weak.Copy ∷ Weak weak.Empty ∷ Weak weak.Reset
+    ∷ Weak weak.Lock ∷ Weak weak.Upgrade ∷ Weak weak.Count ∷ Weak weak.Expired ∷ []
 
 -- the keyword that a word is, if any
 abbrev pub find_keyword : List ℕ → Option Keyword

@@ -1,9 +1,9 @@
 //! The first words of statements.
 
-ghost use Rattle.std.specs.Prelude.{◌≡◌};
+ghost use Rattle.std.specs.Prelude.{◌≡◌, find};
 ghost use Rattle.std.specs.Str.{bytes_eq};
 ghost use Rattle.script_text.specs.Reading.{Gives};
-ghost use Rattle.script_text.specs.Keywords.{spelling_of, find_keyword, keyword_at, takes_words};
+ghost use Rattle.script_text.specs.Keywords.{spelling_of, keyword_at, takes_words};
 
 use crate::fault::{Cause, Stop};
 
@@ -15,15 +15,38 @@ pub(crate) enum Keyword {
     Reset,
     Copy,
     Count,
+    /// A statement on weak names.
+    Weak(WeakKeyword),
+}
+
+/// A statement on weak names by its first word.
+#[derive(Clone, Copy, Debug, PartialEq, Eq)]
+pub(crate) enum WeakKeyword {
+    Weak,
+    Copy,
+    Empty,
+    Reset,
+    Lock,
+    Upgrade,
+    Count,
+    Expired,
 }
 
 /// Each statement once.
-const KEYWORDS: [Keyword; 5] = [
+const KEYWORDS: [Keyword; 13] = [
     Keyword::Make,
     Keyword::Empty,
     Keyword::Reset,
     Keyword::Copy,
     Keyword::Count,
+    Keyword::Weak(WeakKeyword::Weak),
+    Keyword::Weak(WeakKeyword::Copy),
+    Keyword::Weak(WeakKeyword::Empty),
+    Keyword::Weak(WeakKeyword::Reset),
+    Keyword::Weak(WeakKeyword::Lock),
+    Keyword::Weak(WeakKeyword::Upgrade),
+    Keyword::Weak(WeakKeyword::Count),
+    Keyword::Weak(WeakKeyword::Expired),
 ];
 
 /// A first word, and the least and the greatest number of words that may follow it.
@@ -46,6 +69,14 @@ fn spelling_of(keyword: Keyword) -> Spelling
         Keyword::Reset => ("reset", 1, 1),
         Keyword::Copy => ("copy", 2, 2),
         Keyword::Count => ("count", 1, 1),
+        Keyword::Weak(WeakKeyword::Weak) => ("weak", 2, 2),
+        Keyword::Weak(WeakKeyword::Copy) => ("wcopy", 2, 2),
+        Keyword::Weak(WeakKeyword::Empty) => ("wempty", 1, 1),
+        Keyword::Weak(WeakKeyword::Reset) => ("wreset", 1, 1),
+        Keyword::Weak(WeakKeyword::Lock) => ("lock", 2, 2),
+        Keyword::Weak(WeakKeyword::Upgrade) => ("upgrade", 2, 2),
+        Keyword::Weak(WeakKeyword::Count) => ("wcount", 1, 1),
+        Keyword::Weak(WeakKeyword::Expired) => ("expired", 1, 1),
     };
     Spelling { word, least, most }
 }
@@ -56,11 +87,13 @@ fn is_spelled(keyword: Keyword, word: &[u8]) -> bool
     word == spelling_of(keyword).word.as_bytes()
 }
 
-fn find_keyword(word: &[u8]) -> Option<Keyword>
-    ensures { result ≡ find_keyword word.now }
+/// The first of the keywords that a word spells.
+fn find_keyword(keywords: &[Keyword], word: &[u8]) -> Option<Keyword>
+    ensures { result ≡ find (λ keyword. bytes_eq word.now (spelling_of keyword).word) keywords.now }
 {
-    KEYWORDS
-        .into_iter()
+    keywords
+        .iter()
+        .copied()
         .find(|keyword| is_spelled(*keyword, word))
 }
 
@@ -69,7 +102,7 @@ fn find_keyword(word: &[u8]) -> Option<Keyword>
 pub(crate) fn keyword_of(word: &[u8]) -> Result<Keyword, Stop>
     ensures { Gives (λ keyword. keyword) result (keyword_at word.now) }
 {
-    match find_keyword(word) {
+    match find_keyword(&KEYWORDS, word) {
         Some(keyword) => Ok(keyword),
         None => Err(Stop::Cause(Cause::UnknownStatement)),
     }

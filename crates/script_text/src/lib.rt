@@ -4,20 +4,29 @@
 //! Words are parted by spaces and tabs. A line without words, or whose first word begins with `#`, is
 //! skipped. A line `thread` begins the next of at most 16 threads; thread 1 begins with the text. Every
 //! other line is a statement, of which a script has at most 65,536. A name is a letter `a` to `z`, then
-//! letters, digits or `_`, 1 to 16 bytes; names are each thread's own, at most 32, and a name is declared
-//! by the first statement that has it as its target (`T`).
+//! letters, digits or `_`, 1 to 16 bytes; names are each thread's own, at most 32. A name is declared by
+//! the first statement that has it as its target (`T`), and for good: an owner name (`O`) is a
+//! `shared_ptr` ([util.smartptr.shared]), a weak name (`W`) a `weak_ptr` ([util.smartptr.weak]).
 //!
-//! | statement | call |
-//! |---|---|
-//! | `make T [n [n [n [n]]]]` | `Make`; fields left out are 0 |
-//! | `empty T` | `Empty` |
-//! | `reset O` | `Reset` |
-//! | `copy T O` | `Copy` |
-//! | `count O` | `Count` |
+//! | statement | call | target |
+//! |---|---|---|
+//! | `make T [n [n [n [n]]]]` | `Make`; fields left out are 0 | owner |
+//! | `empty T` | `Empty` | owner |
+//! | `reset O` | `Reset` | |
+//! | `copy T O` | `Copy` | owner |
+//! | `count O` | `Count` | |
+//! | `weak T O` | `Weak` | weak |
+//! | `wcopy T W` | `WeakCopy` | weak |
+//! | `wempty T` | `WeakEmpty` | weak |
+//! | `wreset W` | `WeakReset` | |
+//! | `lock T W` | `Lock` | owner |
+//! | `upgrade T W` | `Upgrade` | owner |
+//! | `wcount W` | `WeakCount` | |
+//! | `expired W` | `Expired` | |
 //!
 //! On one line causes are looked for in the order in which [`Cause`] lists them, except that the words
 //! after the first are looked at from left to right: each by its form, then whether a source is
-//! declared, then its kind.
+//! declared, then whether it is declared with the other kind, be it a source or a target.
 //!
 //! A further statement is a variant of `step_core::Call` with its names in `names_of`, a row in
 //! `keyword.rt`, an arm in `statement.rt` and one in `printing.rt`, the same three in `specs/Keywords`,
@@ -45,3 +54,5 @@ pub use text::parse;
 
 #[cfg(test)]
 mod tests;
+#[cfg(test)]
+mod weak_tests;

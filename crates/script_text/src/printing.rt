@@ -71,6 +71,22 @@ fn put_call(text: &mut String, names: &Names, call: &Call) -> Result<(), AllocEr
             put_three(text, "copy", names.text(*target), names.text(*source))
         }
         Call::Count { name } => put_two(text, "count", names.text(*name)),
+        Call::Weak { target, source } => {
+            put_three(text, "weak", names.text(*target), names.text(*source))
+        }
+        Call::WeakCopy { target, source } => {
+            put_three(text, "wcopy", names.text(*target), names.text(*source))
+        }
+        Call::WeakEmpty { target } => put_two(text, "wempty", names.text(*target)),
+        Call::WeakReset { name } => put_two(text, "wreset", names.text(*name)),
+        Call::Lock { target, source } => {
+            put_three(text, "lock", names.text(*target), names.text(*source))
+        }
+        Call::Upgrade { target, source } => {
+            put_three(text, "upgrade", names.text(*target), names.text(*source))
+        }
+        Call::WeakCount { name } => put_two(text, "wcount", names.text(*name)),
+        Call::Expired { name } => put_two(text, "expired", names.text(*name)),
     }
 }
 

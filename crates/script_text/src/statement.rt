@@ -2,14 +2,15 @@
 
 ghost use Rattle.script_text.specs.Reading.{Gives};
 ghost use Rattle.script_text.specs.Shapes.{texts};
-ghost use Rattle.script_text.specs.Calls.{call_at};
+ghost use Rattle.script_text.specs.Calls.{call_at, weak_call_at};
 
 use crate::fault::Stop;
-use crate::keyword::Keyword;
+use crate::keyword::{Keyword, WeakKeyword};
 use crate::names::Names;
 use crate::shape::{source, target, target_and_fields, target_and_source};
 use std::alloc::Global;
-use step_core::{Call, Kind};
+use step_core::Call;
+use step_core::Kind::{Owner, Weak};
 
 /// The call that a keyword and the words after it spell.
 #[tactic(auto, unfolding(crate::specs::Calls::call_at))]
@@ -28,26 +29,65 @@ pub(crate) fn call_of(
             Ok(Call::Make { target, fields })
         }
         Keyword::Empty => {
-            let target = target(alloc, names, Kind::Owner, words)?;
+            let target = target(alloc, names, Owner, words)?;
             Ok(Call::Empty { target })
         }
         Keyword::Reset => {
-            let name = source(names, Kind::Owner, words)?;
+            let name = source(names, Owner, words)?;
             Ok(Call::Reset { name })
         }
         Keyword::Copy => {
-            let (target, source) = target_and_source(
-                alloc,
-                names,
-                Kind::Owner,
-                Kind::Owner,
-                words,
-            )?;
+            let (target, source) = target_and_source(alloc, names, Owner, Owner, words)?;
             Ok(Call::Copy { target, source })
         }
         Keyword::Count => {
-            let name = source(names, Kind::Owner, words)?;
+            let name = source(names, Owner, words)?;
             Ok(Call::Count { name })
         }
+        Keyword::Weak(keyword) => weak_call_of(alloc, names, keyword, words),
+    }
+}
+
+/// The same for a statement on weak names.
+#[tactic(auto, unfolding(crate::specs::Calls::weak_call_at))]
+fn weak_call_of(
+    alloc: Global,
+    names: &mut Names,
+    keyword: WeakKeyword,
+    words: &[&[u8]],
+) -> Result<Call, Stop>
+    ensures { Gives (λ call. (call, names.new)) result
+        (weak_call_at names.old keyword (texts words.now)) }
+{
+    match keyword {
+        WeakKeyword::Weak => {
+            let (target, source) = target_and_source(alloc, names, Weak, Owner, words)?;
+            Ok(Call::Weak { target, source })
+        }
+        WeakKeyword::Copy => {
+            let (target, source) = target_and_source(alloc, names, Weak, Weak, words)?;
+            Ok(Call::WeakCopy { target, source })
+        }
+        WeakKeyword::Empty => {
+            let target = target(alloc, names, Weak, words)?;
+            Ok(Call::WeakEmpty { target })
+        }
+        WeakKeyword::Lock => {
+            let (target, source) = target_and_source(alloc, names, Owner, Weak, words)?;
+            Ok(Call::Lock { target, source })
+        }
+        WeakKeyword::Upgrade => {
+            let (target, source) = target_and_source(alloc, names, Owner, Weak, words)?;
+            Ok(Call::Upgrade { target, source })
+        }
+        WeakKeyword::Reset => Ok(Call::WeakReset {
+            name: source(names, Weak, words)?,
+        }),
+        WeakKeyword::Count => Ok(Call::WeakCount {
+            name: source(names, Weak, words)?,
+        }),
+        WeakKeyword::Expired => Ok(Call::Expired {
+            name: source(names, Weak, words)?,
+        }),
     }
 }

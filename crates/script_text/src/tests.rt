@@ -4,7 +4,7 @@ use std::test::*;
 use step_core::{Call, Kind, Name};
 
 /// What a program says of a text: its threads and statements, or its fault.
-fn said(alloc: Global, text: &[u8]) -> Result<String, Fail> {
+pub(crate) fn said(alloc: Global, text: &[u8]) -> Result<String, Fail> {
     match parse(alloc, text) {
         Ok(script) => {
             let (threads, statements) = (script.threads(), script.statements());

@@ -1,24 +1,23 @@
 -- What the calls on handles say. An empty handle has no object: it touches no word and makes no event, and is only counted.
-use Rattle.std.specs.Prelude.{◌≡◌, ℕ, ◌+◌, ◌-◌, ◌<◌, Bool, true, false, List, ◌∷◌, length, Option, None, Some}
+use Rattle.std.specs.Prelude.{◌≡◌, ℕ, ◌+◌, ◌-◌, Bool, true, false, List, Option, None, Some}
 use Rattle.control_word.specs.Events.{origin, place_at}
-use Rattle.control_word.specs.Handles.{handle, owner_before, same_handle}
-use Rattle.control_word.specs.State.{count, without}
+use Rattle.control_word.specs.Handles.{handle, owner_before}
+use Rattle.control_word.specs.State.{count}
 use Rattle.control_word.specs.declared.event.Event.TheVariants.{Count, Expired, Make, Share, WeakLeave, WeakShare}
 use Rattle.control_word.specs.declared.handle.Handle.{Handle}
 use Rattle.control_word.specs.declared.handle.Kind.{Kind}
 use Rattle.control_word.specs.declared.handle.Kind.TheVariants.{Owner, Weak}
 use Rattle.control_word.specs.declared.place.Block.{Block}
 use Rattle.control_word.specs.declared.place.Place.{Place}
-use Rattle.control_block.specs.Desks.{Adds, DeskNow, HasHandle, allowance_of, bag_of, latest_of, on_latest, state_of}
+use Rattle.control_block.specs.CellCalls as inner
+use Rattle.control_block.specs.Desks.{Adds, DeskNow, allowance_of, latest_of, on_latest, state_of}
 
 -- a bag with a handle more, and with one less
 abbrev pub with_handle : Kind → Option Block → Option Place → List Handle → List Handle
-with_handle k None p l = l
-with_handle k (Some b) p l = handle k (Some b.0) p ∷ l
+with_handle = inner.with_handle
 
 abbrev pub without_handle : Kind → Option Block → Option Place → List Handle → List Handle
-without_handle k None p l = l
-without_handle k (Some b) p l = without same_handle (handle k (Some b.0) p) l
+without_handle = inner.without_handle
 
 -- where a weak handle of this points: an empty one has a null place ([util.smartptr.weak.const]; the null place: own)
 abbrev pub weak_place : Option Block → Option Place → Option Place
@@ -41,8 +40,7 @@ comes_before a b = owner_before (λ (n : ℕ). n) (by_number a) (by_number b)
 module _ {V : Type 0} where
   -- the desk has the handle: its bag shows it, or it is empty and among those that are counted beyond the bag
   abbrev pub Holds : DeskNow V → Kind → Option Block → Option Place → Type 0
-  Holds d k None p = length (bag_of d) < d.held
-  Holds d k (Some b) p = HasHandle d k p b.0
+  Holds d k b p = inner.Holds d k b p
 
   -- the desk with another number of handles, and nothing else changed
   abbrev pub counting : ℕ → DeskNow V → DeskNow V

@@ -1,21 +1,28 @@
 -- What is asked for plainly is answered.
-use Rattle.std.proofs.Common.{◌≡◌, ◌⊎◌, ◌∙◌, ℕ, Bool, refl, sym, ap, subst, List, [], ◌∷◌, Option, Some, None, Err, Result, codes, inl, inr}
+use Rattle.std.proofs.Common.{◌≡◌, ◌⊎◌, ◌∙◌, ℕ, Bool, true≢false, refl, sym, ap, subst, List, [], ◌∷◌, Option, Some, None, Err, Result, codes, inl, inr}
 use Rattle.std.specs.Prelude.{IfSome}
+use Rattle.std.proofs.lemmas.Slice.Eq.{bytes_eq-Decides}
 use Rattle.clap.specs.Words.{IsAmong, Kinds, Text, fault_of}
 use Rattle.clap.specs.declared.error.kind.ErrorKind.{ErrorKind}
 use Rattle.clap.specs.declared.error.kind.ErrorKind.TheVariants as kind
 use Rattle.script_text.specs.declared.fault.Fault.{Fault}
 use Rattle.script_text.specs.declared.fault.Fault.TheVariants.{Memory}
-use Rattle.script_stepper.specs.Runs.{Delivers, Tells}
+use Rattle.script_stepper.specs.Runs.{Delivers, IsFineText, IsRunText, Tells}
 use Rattle.sptr.specs.CommandLine.{Asks, AsksHelp, AsksPlainly, NamesNoCommand, program}
 use Rattle.sptr.specs.Serving.{Answers, IsAnswered, IsMistaken, IsReason, IsShown, IsTurnedAway, UnlessInput}
 use Rattle.sptr.specs.declared.command.Asked.{Asked}
-use Rattle.sptr.specs.declared.command.Asked.TheVariants.{Check, Step}
+use Rattle.sptr.specs.declared.command.Asked.TheVariants.{Check, Fine, Step}
 use Rattle.std.proofs.lemmas.Option.{same_Some}
 use Rattle.sptr.proofs.PlainLines.{help_asked, no_command, plainly_asks}
 
-other_names : codes "check" ≡ codes "step" → ⊥
-other_names e = cc
+check_step : codes "check" ≡ codes "step" → ⊥
+check_step e = cc
+
+check_fine : codes "check" ≡ codes "fine" → ⊥
+check_fine e = cc
+
+step_fine : codes "step" ≡ codes "fine" → ⊥
+step_fine e = true≢false (sym ((bytes_eq-Decides (codes "step") (codes "fine")).1 e))
 
 none_one : (one : ErrorKind) → one ∷ [] ≡ [] → ⊥
 none_one one e = cc
@@ -29,9 +36,14 @@ missing_memory e = cc
 -- words ask for one thing
 same_answers : (words : List Text) (a b : Asked) (bytes : List ℕ) → Asks words a → Asks words b → Answers a bytes ≡ Answers b bytes
 same_answers words Check Check bytes x y = refl
-same_answers words Check (Step turns) bytes x y = absurd (other_names (same_Some _ _ (sym x ∙ y.0)))
-same_answers words (Step turns) Check bytes x y = absurd (other_names (same_Some _ _ (sym y ∙ x.0)))
-same_answers words (Step turns) (Step others) bytes x y = ap (λ list. UnlessInput (Tells bytes list)) (x.1 ∙ sym y.1)
+same_answers words Check (Step turns) bytes x y = absurd (check_step (same_Some _ _ (sym x ∙ y.0)))
+same_answers words Check (Fine turns) bytes x y = absurd (check_fine (same_Some _ _ (sym x ∙ y.0)))
+same_answers words (Step turns) Check bytes x y = absurd (check_step (same_Some _ _ (sym y ∙ x.0)))
+same_answers words (Step turns) (Step others) bytes x y = ap (λ list. UnlessInput (Tells IsRunText bytes list)) (x.1 ∙ sym y.1)
+same_answers words (Step turns) (Fine others) bytes x y = absurd (step_fine (same_Some _ _ (sym x.0 ∙ y.0)))
+same_answers words (Fine turns) Check bytes x y = absurd (check_fine (same_Some _ _ (sym y ∙ x.0)))
+same_answers words (Fine turns) (Step others) bytes x y = absurd (step_fine (same_Some _ _ (sym y.0 ∙ x.0)))
+same_answers words (Fine turns) (Fine others) bytes x y = ap (λ list. UnlessInput (Tells IsFineText bytes list)) (x.1 ∙ sym y.1)
 
 delivers_same : {A : Type 0} (words : List Text) (a b : Asked) (input : Option (List ℕ)) (answer : Result A Fault) (old new : Option (List ℕ))
     → Asks words a → Asks words b → IfSome input (λ bytes. Delivers (Answers a bytes) answer old new)

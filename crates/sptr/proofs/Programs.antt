@@ -10,39 +10,45 @@ use Rattle.clap.specs.declared.parser.matches.ArgMatches.TheViews.{out-ArgMatche
 use Rattle.clap.specs.declared.parser.matches.SubCommand.{SubCommand}
 use Rattle.clap.proofs.OnLiterals.{clap_on_literals}
 use Rattle.sptr.proofs.Walks.{enters_own}
-use Rattle.sptr.specs.CommandLine.{check_line, command_named, program, step_line, turns_given, turns_option}
+use Rattle.sptr.specs.CommandLine.{check_line, command_named, fine_line, program, step_line, turns_given, turns_option}
 
 pub program_is_simple : is_simple program ≡ true
-unfolding program check_line step_line turns_option clap_on_literals
+unfolding program check_line step_line fine_line turns_option clap_on_literals
 program_is_simple = refl
 
 pub program_is_free : is_simple_and_free program ≡ true
-unfolding program check_line step_line turns_option clap_on_literals
+unfolding program check_line step_line fine_line turns_option clap_on_literals
 program_is_free = refl
 
 abbrev built_line : Shape → Shape
 built_line line = built_leaf (inherited (with_leaf_noted (marked_built program.top)) line)
 
--- words with no fault name one of the two commands
-one_of_both : (words : List Text) → fault_of program words ≡ []
-    → (command_named words ≡ Some (codes "check")) ⊎ (command_named words ≡ Some (codes "step"))
-unfolding program check_line step_line
-one_of_both words e =
-    let found = enters_own (built program) (argument_words program words) (built_line check_line ∷ built_line step_line ∷ [])
+-- words with no fault name one of the three commands
+one_of_all : (words : List Text) → fault_of program words ≡ []
+    → (command_named words ≡ Some (codes "check")) ⊎ ((command_named words ≡ Some (codes "step")) ⊎ (command_named words ≡ Some (codes "fine")))
+unfolding program check_line step_line fine_line
+one_of_all words e =
+    let found = enters_own (built program) (argument_words program words) (built_line check_line ∷ built_line step_line ∷ built_line fine_line ∷ [])
     (built_leaf help_shape) refl refl refl refl refl e in
     elim found.2 [
       | inl is ↦ inl (found.1 ∙ ap Some is)
       | inr rest ↦ elim rest [
-        | inl is ↦ inr (found.1 ∙ ap Some is)
-        | inr none ↦ absurd none
+        | inl is ↦ inr (inl (found.1 ∙ ap Some is))
+        | inr last ↦ elim last [
+          | inl is ↦ inr (inr (found.1 ∙ ap Some is))
+          | inr none ↦ absurd none
+        ]
       ]
     ]
 
 pub only_check : (words : List Text) → fault_of program words ≡ [] → command_named words ≢ Some (codes "step")
-    → command_named words ≡ Some (codes "check")
-only_check words e not_step = elim (one_of_both words e) [
+    → command_named words ≢ Some (codes "fine") → command_named words ≡ Some (codes "check")
+only_check words e not_step not_fine = elim (one_of_all words e) [
   | inl is ↦ is
-  | inr is ↦ absurd (not_step is)
+  | inr rest ↦ elim rest [
+    | inl is ↦ absurd (not_step is)
+    | inr is ↦ absurd (not_fine is)
+  ]
 ]
 
 module _ {Z : Type 0} where

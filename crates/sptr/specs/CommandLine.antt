@@ -3,7 +3,7 @@ use Rattle.std.specs.Prelude.{◌≡◌, ◌≢◌, ◌⊎◌, true, false, List
 use Rattle.clap.specs.Words.{App, Rule, Shape, Text, first_of, new_rule, subcommand_of}
 use Rattle.clap.specs.Simple.{new_shape}
 use Rattle.sptr.specs.declared.command.Asked.{Asked}
-use Rattle.sptr.specs.declared.command.Asked.TheVariants.{Check, Step}
+use Rattle.sptr.specs.declared.command.Asked.TheVariants.{Check, Fine, Step}
 
 -- `--turns LIST`
 unfoldable pub turns_option : Rule
@@ -17,11 +17,15 @@ check_line = new_shape (codes "check")
 unfoldable pub step_line : Shape
 step_line = record (new_shape (codes "step")) { rules = turns_option ∷ [] }
 
--- the program's name, and then one of the two
+-- `fine`, which takes a list of turns
+unfoldable pub fine_line : Shape
+fine_line = record (new_shape (codes "fine")) { rules = turns_option ∷ [] }
+
+-- the program's name, and then one of the three
 unfoldable pub program : App
 program = record {
   top = record (new_shape (codes "sptr")) { is_leaf = false; subcommand_required = true };
-  subs = check_line ∷ step_line ∷ [];
+  subs = check_line ∷ step_line ∷ fine_line ∷ [];
 }
 
 -- the command that the words name
@@ -36,6 +40,7 @@ turns_given words = unwrap_or (option_and_then (λ found. first_of (codes "turns
 abbrev pub Asks : List Text → Asked → Type 0
 Asks words Check = command_named words ≡ Some (codes "check")
 Asks words (Step turns) = (command_named words ≡ Some (codes "step")) × (turns.now ≡ turns_given words)
+Asks words (Fine turns) = (command_named words ≡ Some (codes "fine")) × (turns.now ≡ turns_given words)
 
 -- the words are the program's name and this command, and then no list, `--turns=LIST`, or `--turns LIST` with a list that begins with no
 -- `-` (45)
@@ -48,6 +53,7 @@ IsLine command name list words = ((words ≡ name ∷ command ∷ []) × (list �
 abbrev pub AsksPlainly : List Text → Asked → Type 0
 AsksPlainly words Check = (name : Text) × (words ≡ name ∷ codes "check" ∷ [])
 AsksPlainly words (Step turns) = (name : Text) × IsLine (codes "step") name turns.now words
+AsksPlainly words (Fine turns) = (name : Text) × IsLine (codes "fine") name turns.now words
 
 -- the words are the program's name and `--help`
 abbrev pub AsksHelp : List Text → Type 0

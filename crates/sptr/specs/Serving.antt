@@ -3,7 +3,7 @@ use Rattle.std.specs.Prelude.{◌≡◌, ◌≢◌, ◌⊎◌, ℕ, Bool, false,
 use Rattle.clap.specs.Words.{IsAmong, Text, fault_of}
 use Rattle.clap.specs.declared.error.kind.ErrorKind.{ErrorKind}
 use Rattle.clap.specs.declared.error.kind.ErrorKind.TheVariants as kind
-use Rattle.script_stepper.specs.Runs.{Delivers, Tells, Writes, is_output}
+use Rattle.script_stepper.specs.Runs.{Delivers, IsFineText, IsRunText, Tells, Writes, is_output}
 use Rattle.script_text.specs.declared.fault.Fault.{Fault}
 use Rattle.script_text.specs.declared.fault.Fault.TheVariants.{Memory, Syntax, BadTurn, Output, Input}
 use Rattle.script_text.specs.Drafts.{Section}
@@ -12,7 +12,7 @@ use Rattle.script_text.specs.Scripts.{statement_count}
 use Rattle.sptr.specs.CommandLine.{Asks, program}
 use Rattle.sptr.specs.Lines.{ok_line}
 use Rattle.sptr.specs.declared.command.Asked.{Asked}
-use Rattle.sptr.specs.declared.command.Asked.TheVariants.{Check, Step}
+use Rattle.sptr.specs.declared.command.Asked.TheVariants.{Check, Fine, Step}
 
 -- the line that counts the script which the text reads as, or the refusal that the text has
 abbrev pub Counts : List ℕ → Result (List ℕ) Fault → Type 0
@@ -31,7 +31,8 @@ UnlessInput told (Err Input) = Unit {0}
 -- what a command answers to the bytes on the input
 abbrev pub Answers : Asked → List ℕ → Result (List ℕ) Fault → Type 0
 Answers Check bytes = UnlessInput (Counts bytes)
-Answers (Step turns) bytes = UnlessInput (Tells bytes turns.now)
+Answers (Step turns) bytes = UnlessInput (Tells IsRunText bytes turns.now)
+Answers (Fine turns) bytes = UnlessInput (Tells IsFineText bytes turns.now)
 
 -- the exit status
 abbrev pub status_of : {A : Type 0} → Result A Fault → ℕ

@@ -2,12 +2,12 @@
 
 ghost use Rattle.std.specs.Prelude.{◌≡◌, ◌⊎◌, ◌||◌, false, List, IfOk, IfErr, IfSome, OnOk, string_bytes};
 ghost use Rattle.script_text.specs.declared.fault.Fault.TheVariants.{Input, Memory};
-ghost use Rattle.script_stepper.specs.Runs.{Delivers, Tells, Writes, is_output, text_in};
+ghost use Rattle.script_stepper.specs.Runs.{Delivers, IsFineText, IsRunText, Tells, Writes, is_output, text_in};
 ghost use Rattle.std.specs.Io.KnownBytes.{Keeps};
 ghost use Rattle.sptr.specs.Lines.{ok_line};
 ghost use Rattle.sptr.specs.Serving.{Counts, UnlessInput};
 
-use script_stepper::{Output, step_text, write_text};
+use script_stepper::{Output, fine_text, step_text, write_text};
 use script_text::{Fault, parse};
 use std::alloc::{AllocError, Global};
 use std::fmt::Write as _;
@@ -79,10 +79,27 @@ fn stepped<O: Write>(
     output: &mut Output<O>,
 ) -> Result<(), Fault>
     requires { output.old.has_failed ≡ false }
-    ensures told { Delivers (Tells script.now turns.now) result (O.contents output.old.writer) (O.contents output.new.writer) }
+    ensures told { Delivers (Tells IsRunText script.now turns.now) result
+        (O.contents output.old.writer) (O.contents output.new.writer) }
     ensures failed { output.new.has_failed ≡ is_output result }
 {
     step_text(alloc, script, turns, output)?;
+    flushed(output)
+}
+
+/// The same of a run by single steps.
+fn finely_stepped<O: Write>(
+    alloc: Global,
+    script: &[u8],
+    turns: &[u8],
+    output: &mut Output<O>,
+) -> Result<(), Fault>
+    requires { output.old.has_failed ≡ false }
+    ensures told { Delivers (Tells IsFineText script.now turns.now) result
+        (O.contents output.old.writer) (O.contents output.new.writer) }
+    ensures failed { output.new.has_failed ≡ is_output result }
+{
+    fine_text(alloc, script, turns, output)?;
     flushed(output)
 }
 
@@ -111,9 +128,27 @@ pub(crate) fn step<I: Read, O: Write>(
 ) -> Result<(), Fault>
     requires { output.old.has_failed ≡ false }
     ensures tells { IfSome (I.remaining input.old) (λ bytes.
-        Delivers (UnlessInput (Tells bytes turns.now)) result (O.contents output.old.writer) (O.contents output.new.writer)) }
+        Delivers (UnlessInput (Tells IsRunText bytes turns.now)) result
+        (O.contents output.old.writer) (O.contents output.new.writer)) }
     ensures failed { output.new.has_failed ≡ is_output result }
 {
     let bytes = bytes_of(alloc, input)?;
     stepped(alloc, bytes.as_slice(), turns.as_bytes(), output)
+}
+
+/// Answers `fine`: the same of the run by single steps, one for each number of the list.
+pub(crate) fn fine<I: Read, O: Write>(
+    alloc: Global,
+    turns: &str,
+    input: &mut I,
+    output: &mut Output<O>,
+) -> Result<(), Fault>
+    requires { output.old.has_failed ≡ false }
+    ensures tells { IfSome (I.remaining input.old) (λ bytes.
+        Delivers (UnlessInput (Tells IsFineText bytes turns.now)) result
+        (O.contents output.old.writer) (O.contents output.new.writer)) }
+    ensures failed { output.new.has_failed ≡ is_output result }
+{
+    let bytes = bytes_of(alloc, input)?;
+    finely_stepped(alloc, bytes.as_slice(), turns.as_bytes(), output)
 }

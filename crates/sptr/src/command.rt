@@ -3,7 +3,7 @@
 ghost use Rattle.std.specs.Prelude.{◌≡◌, IfOk, [], codes, false, map, unwrap_or};
 ghost use Rattle.clap.specs.Words.{FailsBy, app_of, fault_of, first_of, found_of, rows_of, rule_of, shape_of, subcommand_rows_of, subcommand_of};
 ghost use Rattle.clap.specs.declared.builder.command.Command.TheViews.{out-Command};
-ghost use Rattle.sptr.specs.CommandLine.{Asks, check_line, program, step_line, turns_option};
+ghost use Rattle.sptr.specs.CommandLine.{Asks, check_line, fine_line, program, step_line, turns_option};
 
 use clap::{Arg, ArgMatches, Command, Error};
 use std::alloc::{AllocError, Global};
@@ -15,6 +15,8 @@ pub(crate) enum Asked<'a> {
     Check,
     /// The lines of a script's run, with this list of turns.
     Step { turns: &'a str },
+    /// The same by single atomic steps.
+    Fine { turns: &'a str },
 }
 
 fn check_command<'a>(alloc: Global) -> Command<'a>
@@ -45,15 +47,26 @@ fn step_command<'a>(alloc: Global) -> Result<Command<'a>, AllocError>
         .arg(turns_argument(alloc))
 }
 
+fn fine_command<'a>(alloc: Global) -> Result<Command<'a>, AllocError>
+    ensures shape { IfOk result (λ c. shape_of c ≡ fine_line) }
+    ensures local { IfOk result (λ c. (out-Command c).has_globals ≡ false) }
+{
+    Command::new(alloc, "fine")
+        .about("Runs a script by single atomic steps")
+        .arg(turns_argument(alloc))
+}
+
 fn command<'a>(alloc: Global) -> Result<Command<'a>, AllocError>
     ensures { IfOk result (λ c. app_of c ≡ program) }
 {
     let step = step_command(alloc)?;
+    let fine = fine_command(alloc)?;
     Command::new(alloc, "sptr")
         .about("Runs scripts of shared and weak pointers, from standard input")
         .subcommand_required(true)
         .subcommand(check_command(alloc))?
-        .subcommand(step)
+        .subcommand(step)?
+        .subcommand(fine)
 }
 
 fn matches_of<'a, S: AsStr>(alloc: Global, words: &'a [S]) -> Result<ArgMatches<'a>, Error>
@@ -64,11 +77,11 @@ fn matches_of<'a, S: AsStr>(alloc: Global, words: &'a [S]) -> Result<ArgMatches<
     command.try_get_matches_from(words)
 }
 
-/// The list that `step` was given, empty where none was.
-fn turns_of<'a>(step: &ArgMatches<'a>) -> &'a str
-    ensures { result.now ≡ unwrap_or (first_of (codes "turns") (rows_of (found_of step.now))) [] }
+/// The list that `step` or `fine` was given, empty where none was.
+fn turns_of<'a>(given: &ArgMatches<'a>) -> &'a str
+    ensures { result.now ≡ unwrap_or (first_of (codes "turns") (rows_of (found_of given.now))) [] }
 {
-    step.get_str("turns").unwrap_or("")
+    given.get_str("turns").unwrap_or("")
 }
 
 /// What the words of a command line ask for.
@@ -79,6 +92,9 @@ pub(crate) fn asked_of<'a, S: AsStr>(alloc: Global, words: &'a [S]) -> Result<As
     let matches = matches_of(alloc, words)?;
     match matches.subcommand() {
         Some(("step", inner)) => Ok(Asked::Step {
+            turns: turns_of(inner),
+        }),
+        Some(("fine", inner)) => Ok(Asked::Fine {
             turns: turns_of(inner),
         }),
         _ => Ok(Asked::Check),

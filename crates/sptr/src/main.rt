@@ -3,9 +3,13 @@
 
 mod answers;
 mod command;
+#[cfg(test)]
+mod fine_tests;
 mod serve;
 #[cfg(test)]
 mod tests;
+#[cfg(test)]
+mod weak_tests;
 
 use script_stepper::Output;
 use serve::serve;

@@ -6,13 +6,13 @@ use std::test::Fail;
 
 /// What a command line answers: the status, standard output and standard error.
 #[derive(Drop)]
-struct Answer {
-    status: u8,
-    output: Vec<u8>,
-    faults: Vec<u8>,
+pub(crate) struct Answer {
+    pub status: u8,
+    pub output: Vec<u8>,
+    pub faults: Vec<u8>,
 }
 
-fn served(alloc: Global, words: &[&str], input: &[u8]) -> Answer {
+pub(crate) fn served(alloc: Global, words: &[&str], input: &[u8]) -> Answer {
     let mut output = Output::new(Vec::new(alloc));
     let mut faults = Vec::new(alloc);
     let mut reader = input;

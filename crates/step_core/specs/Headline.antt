@@ -26,7 +26,8 @@ AfterEach P u steps = (before after : List TraceStep) → steps ≡ before ++ af
 -- R holds of each step: of what was before it, and of what is after it (own)
 abbrev pub OfEach : (Sight → TraceStep → Sight → Type 0) → Sight → List TraceStep → Type 0
 OfEach R u steps =
-    (before : List TraceStep) (x : TraceStep) (after : List TraceStep) → steps ≡ before ++ x ∷ after → R (reached u before) x (reached u (before ++ x ∷ []))
+    (before : List TraceStep) (x : TraceStep) (after : List TraceStep) → steps ≡ before ++ x ∷ after
+    → R (reached u before) x (reached u (before ++ x ∷ []))
 
 -- the numbers in a block's words are those of the handles on it, in bags and cells together; the weak word has one more while
 -- there are owners ([util.smartptr.shared.obs], and own)
@@ -36,7 +37,9 @@ pub record TellsHandles (words : List ℕ) (s : State) (b : ℕ) : Type 0 where
 
 -- at each block at rest the counts are exactly the handles
 abbrev pub CountsAtRest : Sight → Type 0
-CountsAtRest u = (b : ℕ) → InShape (opening u.story.extent) b → IsAtRest (state u.story) u.story.views b → TellsHandles u.story.words (state u.story) b
+CountsAtRest u =
+    (b : ℕ) → InShape (opening u.story.extent) b → IsAtRest (state u.story) u.story.views b
+    → TellsHandles u.story.words (state u.story) b
 
 -- the step was this event
 abbrev pub Was : Event Nothing → Sight → TraceStep → Sight → Type 0
@@ -44,7 +47,8 @@ Was e u x u' = u'.story.history ≡ entry (x.actor - 1) e ∷ u.story.history
 
 -- a lock gave an owner exactly where one remained at its step ([util.smartptr.weak.obs])
 abbrev pub LocksWhereOwned : Sight → TraceStep → Sight → Type 0
-LocksWhereOwned u x u' = (w : Handle) (gave : Bool) → Was (Lock w gave) u x u' → (gave ≡ true) ↔ (0 < count (state u.story) (object_of w))
+LocksWhereOwned u x u' =
+    (w : Handle) (gave : Bool) → Was (Lock w gave) u x u' → (gave ≡ true) ↔ (0 < count (state u.story) (object_of w))
 
 -- each object's value came out at most once, and exactly when the object is no longer live ([util.smartptr.shared.dest])
 abbrev pub ValuesOnce : Sight → Type 0
@@ -59,10 +63,16 @@ pub record LastLeft (o : ℕ) (u : Sight) (x : TraceStep) (u' : Sight) : Type 0 
   pub object : object_of owner ≡ o
   pub last : count (state u.story) o ≡ 1
 
--- the value came out at the step, where the last owner left, and else no step gives it
+-- the value of o had not come out before the step, and has after it
+pub record CameOut (o : ℕ) (u u' : Sight) : Type 0 where
+  pub before : given o u.story.history ≡ 0
+  pub after : given o u'.story.history ≡ 1
+
+-- a value comes out just at the leave of the object's last owner
 abbrev pub ValuesAtLastLeave : Sight → TraceStep → Sight → Type 0
 ValuesAtLastLeave u x u' =
-    (o : ℕ) → (LastLeft o u x u' × (given o u.story.history ≡ 0) × (given o u'.story.history ≡ 1)) ⊎ ((LastLeft o u x u' → ⊥) × (given o u'.story.history ≡ given o u.story.history))
+    (o : ℕ) → (LastLeft o u x u' × CameOut o u u')
+    ⊎ ((LastLeft o u x u' → ⊥) × (given o u'.story.history ≡ given o u.story.history))
 
 -- what a step tells of an object whose last owner left
 abbrev pub ended_by : Stepped → Option Ended

@@ -40,7 +40,8 @@ pub record RunsToEnd (d : ℕ) (u : Sight) (xs : List TraceStep) (u' : Sight) : 
 abbrev pub RunInOrder : ℕ → Sight → List TraceStep → Sight → Type 0
 RunInOrder zero u xs u' = (xs ≡ []) × (u' ≡ u)
 RunInOrder (suc n) u xs u' =
-    (before : List TraceStep) × (mine : List TraceStep) × (m : Sight) × (xs ≡ before ++ mine) × RunInOrder n u before m × RunsToEnd n m mine u'
+    (before : List TraceStep) × (mine : List TraceStep) × (m : Sight)
+    × (xs ≡ before ++ mine) × RunInOrder n u before m × RunsToEnd n m mine u'
 
 -- one step for each number, and then each thread alone to its end, in number order
 pub record IsScheduled (turns : List ℕ) (u : Sight) (xs : List TraceStep) (u' : Sight) : Type 0 where
@@ -73,7 +74,8 @@ refusal_of Memory = refusal.Memory
 refusal_of (BadTurn position) = refusal.BadTurn
 
 -- a list got longer by steps that are such a run
-pub record Adds (R : Sight → List TraceStep → Sight → Type 0) (u : Sight) (xs : List TraceStep) (u' : Sight) (xs' : List TraceStep) : Type 0 where
+pub record Adds (R : Sight → List TraceStep → Sight → Type 0) (u : Sight) (xs : List TraceStep) (u' : Sight) (xs' : List TraceStep)
+    : Type 0 where
   pub added : List TraceStep
   pub items : xs' ≡ xs ++ added
   pub run : R u added u'

@@ -16,7 +16,7 @@ use Rattle.control_word.proofs.views.Resting.{rests_exactly}
 use Rattle.step_core.specs.declared.extent.Extent.{Extent}
 use Rattle.step_core.specs.declared.past.Deed.{Deed}
 use Rattle.step_core.specs.declared.trace.TraceStep.{TraceStep}
-use Rattle.step_core.specs.Headline.{AfterEach, CountsAtRest, LastLeft, LocksWhereOwned, OfEach, ValuesAtLastLeave, ValuesOnce, Was}
+use Rattle.step_core.specs.Headline.{AfterEach, CameOut, CountsAtRest, LastLeft, LocksWhereOwned, OfEach, ValuesAtLastLeave, ValuesOnce, Was}
 use Rattle.step_core.specs.Openings.{opening}
 use Rattle.step_core.specs.Runs.{IsRun, reached}
 use Rattle.step_core.specs.Steps.{Step, story_after, story_by}
@@ -125,7 +125,7 @@ ends_none o _ none = refl
 -- the value comes out at the step, or nothing of it changes
 abbrev pub AtLastLeave : ℕ → Sight → TraceStep → Sight → Type 0
 AtLastLeave o u x u' =
-    (LastLeft o u x u' × (given o u.story.history ≡ 0) × (given o u'.story.history ≡ 1)) ⊎ ((LastLeft o u x u' → ⊥) × (given o u'.story.history ≡ given o u.story.history))
+    (LastLeft o u x u' × CameOut o u u') ⊎ ((LastLeft o u x u' → ⊥) × (given o u'.story.history ≡ given o u.story.history))
 
 no_event : (o : ℕ) (u : Sight) (x : TraceStep) (u' : Sight) → u'.story.history ≡ u.story.history → AtLastLeave o u x u'
 no_event o u x u' same =
@@ -149,7 +149,7 @@ last_event o u x u' h step was = go (object_of h == o) refl
         let none : given o u.story.history ≡ 0 = given_over (opening u.story.extent) u.story.history step.before.stands.legal o ∙ ap over lives in
         let g = ap (given o) was in
         let c = ap {B = ℕ} (λ (b : Bool). cond (true && b) 1 0) e in
-        inl (record { owner = h; left = was; object = same; last = one }, none, omega (arith, g, none, c))
+        inl (record { owner = h; left = was; object = same; last = one }, record { before = none; after = omega (arith, g, none, c) })
     go false e =
         let g = ap (given o) was in
         let c = ap {B = ℕ} (λ (b : Bool). cond (true && b) 1 0) e in

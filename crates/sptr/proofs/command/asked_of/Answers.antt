@@ -8,5 +8,11 @@ returns-in-Some-step-default-clause-asks g c =
     asks_with_turns _ c.in_ok-matches.matches _ c.turns_of.result.now met.field-0-0.now _ c.in_ok-matches.ensures.matches
     met.ensures.name met.ensures.rows met.is-step c.turns_of.ensures
 
+pub returns-in-Some-fine-default-clause-asks : goal.returns-in-Some-fine-default-clause-asks
+returns-in-Some-fine-default-clause-asks g c =
+    let met = c.in-Some-fine-default in
+    asks_with_turns _ c.in_ok-matches.matches _ c.turns_of-in-Some-fine-default.result.now met.field-0-0.now _ c.in_ok-matches.ensures.matches
+    met.ensures.name met.ensures.rows met.is-fine c.turns_of-in-Some-fine-default.ensures
+
 pub returns-clause-asks : goal.returns-clause-asks
-returns-clause-asks g c = only_check _ c.in_ok-matches.ensures.kinds (search rules)
+returns-clause-asks g c = only_check _ c.in_ok-matches.ensures.kinds (search rules) (search rules)

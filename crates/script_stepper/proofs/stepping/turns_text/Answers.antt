@@ -3,7 +3,7 @@ use Rattle.std.specs.Prelude.{string_bytes}
 use Rattle.step_core.specs.Worlds.{scene}
 use Rattle.script_stepper.specs.Traces.{schedule}
 use Rattle.script_stepper.proofs.StepLemmas.{same_blocks, shown_text}
-use Rattle.script_stepper.proofs.stepping.text_of.Goals as goal
+use Rattle.script_stepper.proofs.stepping.turns_text.Goals as goal
 
 pub put_closing-requires-clause-all : goal.put_closing-requires-clause-all
 put_closing-requires-clause-all c =

@@ -1,0 +1,14 @@
+use Rattle.std.proofs.Common.{false}
+use Rattle.control_word.specs.Handles.{empty}
+use Rattle.control_word.specs.declared.event.Cell.TheVariants.{Free}
+use Rattle.control_block.specs.CellCalls.{handle_in}
+use Rattle.atomic_cells.proofs.shared_at.SharedAt.exchange.Given as goal
+
+abbrev pub ghosts-exchange : goal.ghosts-exchange
+ghosts-exchange g a =
+    record {
+      cell = Free a.cell.number;
+      new = handle_in a.desk.now a.cell.kind a.new.block a.new.place;
+      expected = empty a.cell.kind;
+      weak = false;
+    }

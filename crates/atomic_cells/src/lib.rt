@@ -1,0 +1,11 @@
+//! `atomic<shared_ptr>` and `atomic<weak_ptr>` of C++20 over the desks of a domain: cells that hold a pointer, and that
+//! any thread loads, stores and exchanges. Stores and exchanges wait for nobody.
+#![tactic(auto)]
+
+mod shared_at;
+#[cfg(test)]
+mod tests;
+mod weak_at;
+
+pub use shared_at::SharedAt;
+pub use weak_at::WeakAt;

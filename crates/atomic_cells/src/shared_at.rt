@@ -1,0 +1,112 @@
+//! Cells of shared pointers ([util.smartptr.atomic.shared]).
+ghost use Rattle.std.specs.Prelude.{◌≡◌, ◌↔◌, ◌+◌, ◌<◌, IfErr, IfOk, IsErr, OnOk};
+ghost use Rattle.control_word.specs.declared.handle.Kind.TheVariants.{Owner};
+ghost use Rattle.control_block.specs.CellCalls.{Belongs, IsProper};
+ghost use Rattle.control_block.specs.Desks.{Keeps, allowance_of, bag_of};
+ghost use Rattle.shared_handle.specs.Calls.{Holds, with_handle, without_handle};
+ghost use Rattle.atomic_cells.specs.Cells.{Exchanges, Loads, Stores};
+
+use control_block::cell_calls::{self, Content, FreeCell};
+use control_block::desk::Desk;
+use control_block::domain::Domain;
+use control_word::Refusal;
+use control_word::handle::Kind;
+use shared_handle::{Left, Shared, release};
+use std::marker::Brand;
+use std::sync::Wait;
+
+/// A cell that holds a shared pointer. It begins with an empty one.
+#[derive(Clone, Copy, Drop)]
+pub struct SharedAt {
+    index: u32,
+}
+
+impl SharedAt {
+    /// A free cell, by its number from 0 among the free shared cells (own). Condition of its calls: the domain's shape has
+    /// that cell.
+    pub fn free(index: u32) -> SharedAt
+        ensures { result.index ≡ index }
+    {
+        SharedAt { index }
+    }
+
+    fn cell(&self) -> FreeCell
+        ensures { (result.number ≡ self.now.index) × (result.kind ≡ Owner) }
+    {
+        FreeCell {
+            number: self.index,
+            kind: Kind::Owner,
+        }
+    }
+
+    /// A copy of what the cell holds ([util.smartptr.atomic.shared]), from its one step on the cell. It tries again while
+    /// others change the cell. It is refused `Limit` just where the desk is at its allowance, and then nothing changes.
+    pub fn load<V: Drop + Send, R: Wait>(
+        &self,
+        rt: &R,
+        domain: &Domain<V>,
+        desk: &mut Desk<V>,
+    ) -> Result<Shared, Refusal>
+        requires domain { Belongs desk.old domain.now }
+        requires cell { self.now.index < desk.old.shape.shared_cells }
+        ensures limit { IsErr result ↔ (desk.old.held ≡ allowance_of desk.old) }
+        ensures refused { IfErr result (λ why. (why ≡ Refusal.Limit) × (desk.new ≡ desk.old)) }
+        ensures event { IfOk result (λ h. Loads desk.old self.now.index Owner h.block h.place desk.new) }
+        ensures bag { IfOk result (λ h. bag_of desk.new ≡ with_handle Owner h.block h.place (bag_of desk.old)) }
+        ensures held { OnOk result (desk.new.held ≡ desk.old.held + 1) }
+        ensures holds { IfOk result (λ h. Holds desk.new Owner h.block h.place) }
+        ensures proper { IfOk result (λ h. IsProper Owner h.block h.place) }
+        ensures keeps { OnOk result (Keeps desk.old desk.new) }
+    {
+        let found = cell_calls::load::<V, Brand, R>(rt, domain, desk, self.cell())?;
+        Ok(Shared::of_parts(found.block, found.place))
+    }
+
+    /// The pointer goes into the cell, and what the cell held comes out ([util.smartptr.atomic.shared]), in one step on the
+    /// cell. It waits for nobody. Condition: an empty pointer's place is one that `alias` takes.
+    pub fn exchange<V: Drop + Send>(
+        &self,
+        domain: &Domain<V>,
+        desk: &mut Desk<V>,
+        handle: Shared,
+    ) -> Shared
+        requires domain { Belongs desk.old domain.now }
+        requires cell { self.now.index < desk.old.shape.shared_cells }
+        requires holds { Holds desk.old Owner handle.block handle.place }
+        requires proper { IsProper Owner handle.block handle.place }
+        ensures event { Exchanges desk.old self.now.index Owner handle.block handle.place result.block result.place desk.new }
+        ensures bag { bag_of desk.new ≡ with_handle Owner result.block result.place (without_handle Owner handle.block handle.place (bag_of desk.old)) }
+        ensures held { desk.new.held ≡ desk.old.held }
+        ensures holds { Holds desk.new Owner result.block result.place }
+        ensures proper { IsProper Owner result.block result.place }
+        ensures keeps { Keeps desk.old desk.new }
+    {
+        let (block, place) = handle.into_parts();
+        let new = Content { block, place };
+        let old = cell_calls::exchange::<V, Brand>(domain, desk, self.cell(), new);
+        Shared::of_parts(old.block, old.place)
+    }
+
+    /// The pointer goes into the cell, and what the cell held leaves ([util.smartptr.atomic.shared]); where that was an
+    /// object's last owner, the object ends in the desk's hands. It waits for nobody. Condition: an empty pointer's place is
+    /// one that `alias` takes.
+    #[tactic(auto, using(shared_handle::proofs::Taken::first_out))]
+    pub fn store<V: Drop + Send>(
+        &self,
+        domain: &Domain<V>,
+        desk: &mut Desk<V>,
+        handle: Shared,
+    ) -> Left<V>
+        requires domain { Belongs desk.old domain.now }
+        requires cell { self.now.index < desk.old.shape.shared_cells }
+        requires holds { Holds desk.old Owner handle.block handle.place }
+        requires proper { IsProper Owner handle.block handle.place }
+        ensures stored { Stores desk.old self.now.index handle.block handle.place result desk.new }
+        ensures bag { bag_of desk.new ≡ without_handle Owner handle.block handle.place (bag_of desk.old) }
+        ensures held { desk.new.held + 1 ≡ desk.old.held }
+        ensures keeps { Keeps desk.old desk.new }
+    {
+        let old = self.exchange(domain, desk, handle);
+        release(domain, desk, old)
+    }
+}

@@ -1,0 +1,155 @@
+use Rattle.std.proofs.Common.{◌≡◌, ◌+◌, refl, sym, ap, ◌∙◌, arith, None, Some, Option, inl, subst}
+use Rattle.std.proofs.lemmas.List.{length-map}
+use Rattle.std.specs.Prelude.{IfSome}
+use Rattle.control_word.specs.Events.{InHand}
+use Rattle.control_word.specs.Handles.{handle, object_of}
+use Rattle.control_word.specs.State.{bag}
+use Rattle.control_word.specs.declared.event.Cell.{Cell}
+use Rattle.control_word.specs.declared.event.Cell.TheVariants.{Free}
+use Rattle.control_word.specs.declared.event.Event.{Event}
+use Rattle.control_word.specs.declared.event.Event.TheVariants.{Swap}
+use Rattle.control_word.specs.declared.handle.Handle.{Handle}
+use Rattle.control_word.specs.declared.shape.Shape.{Shape}
+use Rattle.control_block.specs.CellCalls.{Holds, IsFreeCell, handle_in, with_handle, without_handle}
+use Rattle.control_block.specs.CellPlays.{IsWordOf}
+use Rattle.control_block.specs.CellRounds.{CameOut}
+use Rattle.control_block.specs.Desks.{Adds, DeskNow, bag_of}
+use Rattle.control_block.specs.Inside.{desk_now}
+use Rattle.control_block.specs.Plays.{Holding, known}
+use Rattle.control_block.proofs.Bags.{seen_as}
+use Rattle.control_block.proofs.CellDesks.{bag_is, cell_there, event_is, fits, formed_out, holds_after, in_seat, lost_counted, lost_hand, lost_holding}
+use Rattle.control_block.proofs.CellDesks.{lost_mine, lost_room, lost_shows, lost_word, one, one_few, size_is}
+use Rattle.control_block.proofs.CellRounds.{Trades, swap_trades}
+use Rattle.control_block.proofs.DeskBags.{adds_of, keeps_quietly, now_of}
+use Rattle.control_block.proofs.DeskSteps.{quiet_desk}
+use Rattle.control_block.proofs.cell_calls.exchange.Goals as goal
+
+pub swap-old-requires-clause-cell : goal.swap-old-requires-clause-cell
+swap-old-requires-clause-cell g c =
+    let r = c.requires in let cell = c.args.cell in let there = r.domain.shape ∙ sym (ap (λ z. z.shape) c.domain.view_is) in
+    cell_there c.desk.inside.seat.me.0 c.domain.inside.shape g.A.Aimed.cell cell.number c.cell_word-word.result cell.kind r.cell.1
+    (ap (λ z. z.shape) c.desk.view_is ∙ there) (subst (λ (y : Shape). IsFreeCell y cell.number cell.kind) there r.cell.0) c.cell_word-word.ensures
+
+pub swap-old-requires-clause-new : goal.swap-old-requires-clause-new
+swap-old-requires-clause-new g c =
+    let r = c.requires in let d = c.desk.inside in let h = c.desk.invariant in let v = d.seat.me.0 in let k = c.args.cell.kind in
+    let b = c.args.new.block in let p = c.args.new.place in let y = c.args.desk.now in let lost = g.A.Aimed.new in
+    let new_is : lost ≡ in_seat v k b p = r.new ∙ ap (λ (z : DeskNow g.row.V.Denot). handle_in z k b p) (sym c.desk.view_is) in (
+      lost_word d y k p h c.desk.view_is b r.holds r.proper,
+      refl,
+      subst (λ (z : Handle). IsWordOf v z record { owned = b; place = p; taken = 0 }) (sym new_is) (lost_shows d y k p h c.desk.view_is b r.holds),
+    )
+
+pub swap-old-requires-clause-hand : goal.swap-old-requires-clause-hand
+swap-old-requires-clause-hand g c =
+    let r = c.requires in let d = c.desk.inside in let h = c.desk.invariant in let v = d.seat.me.0 in let k = c.args.cell.kind in
+    let b = c.args.new.block in let p = c.args.new.place in let y = c.args.desk.now in let lost = g.A.Aimed.new in
+    let new_is : lost ≡ in_seat v k b p = r.new ∙ ap (λ (z : DeskNow g.row.V.Denot). handle_in z k b p) (sym c.desk.view_is) in
+    subst (λ (z : Handle). InHand (known v) v.view.name k z) (sym new_is) (lost_hand d y k p h c.desk.view_is b r.holds r.proper)
+
+pub swap-old-requires-clause-holds : goal.swap-old-requires-clause-holds
+swap-old-requires-clause-holds g c =
+    let r = c.requires in let d = c.desk.inside in let h = c.desk.invariant in let v = d.seat.me.0 in let k = c.args.cell.kind in
+    let b = c.args.new.block in let p = c.args.new.place in let y = c.args.desk.now in let lost = g.A.Aimed.new in
+    let new_is : lost ≡ in_seat v k b p = r.new ∙ ap (λ (z : DeskNow g.row.V.Denot). handle_in z k b p) (sym c.desk.view_is) in
+    subst (λ (z : Handle). IfSome b (λ a. Holding v z.kind (object_of z) z.place a.0)) (sym new_is)
+    (lost_holding d y k p h c.desk.view_is b r.holds)
+
+pub swap-old-requires-clause-count : goal.swap-old-requires-clause-count
+swap-old-requires-clause-count g c =
+    let r = c.requires in
+    lost_counted c.desk.inside c.args.desk.now c.args.cell.kind c.args.new.place c.desk.invariant c.desk.view_is c.args.new.block
+    c.domain.inside.table.shared.table_id (ap (λ z. z.domain) c.desk.view_is ∙ (r.domain.table ∙ sym (ap (λ z. z.id) c.domain.view_is))) r.holds
+
+pub swap-old-requires-clause-room : goal.swap-old-requires-clause-room
+swap-old-requires-clause-room g c = λ none.
+    let r = c.requires in let d = c.desk.inside in let h = c.desk.invariant in let v = d.seat.me.0 in let k = c.args.cell.kind in
+    let b = c.args.new.block in let p = c.args.new.place in let y = c.args.desk.now in let lost = g.A.Aimed.new in
+    let new_is : lost ≡ in_seat v k b p = r.new ∙ ap (λ (z : DeskNow g.row.V.Denot). handle_in z k b p) (sym c.desk.view_is) in
+    lost_room d y k p h c.desk.view_is b r.holds (ap (λ z. z.object) (sym new_is) ∙ none)
+
+pub invariant_of-desk : goal.invariant_of-desk
+invariant_of-desk g c =
+    let r = c.requires in let d = c.desk.inside in let h = c.desk.invariant in let v = d.seat.me.0 in let w = c.swap-old.new.chair.me.0 in
+    let x = c.swap-old.result in let k = c.args.cell.kind in let b = c.args.new.block in let p = c.args.new.place in let y = c.args.desk.now in
+    let n = c.args.cell.number in let lost = g.A.Aimed.new in
+    let e : Handle → Event g.row.V.Denot = λ z. Swap (Free n) lost z in
+    let new_is : lost ≡ in_seat v k b p = r.new ∙ ap (λ (z : DeskNow g.row.V.Denot). handle_in z k b p) (sym c.desk.view_is) in
+    let trades = subst (λ z. Trades e z) new_is (swap_trades g.row.V.Denot (Free n) lost) in
+    let mine = lost_mine v k p b (lost_holding d y k p h c.desk.view_is b r.holds) in
+    let came = subst (λ (z : Cell). CameOut (λ q. Swap z lost q) k v x w) r.cell.1 c.swap-old.ensures.swapped in
+    let has = subst (λ (z : DeskNow g.row.V.Denot). Holds z k b p) (sym c.desk.view_is) r.holds in
+    let t = c.swap-old.ensures in let size = size_is d h w e k x b p trades came mine (inl has) in let few = one_few x.owned in
+    let fit = fits d k p b h has in
+    quiet_desk d _ (e (in_seat w k x.owned x.place)) h (event_is d h w e k x b p trades came mine) t.chair.0 t.chair.2.none (λ q m. refl)
+    (λ q m. refl) refl refl (omega (arith, size, few, fit)) h.within
+
+pub returns-clause-event : goal.returns-clause-event
+returns-clause-event g c =
+    let r = c.requires in let d = c.desk.inside in let h = c.desk.invariant in let v = d.seat.me.0 in let w = c.swap-old.new.chair.me.0 in
+    let x = c.swap-old.result in let k = c.args.cell.kind in let b = c.args.new.block in let p = c.args.new.place in let y = c.args.desk.now in
+    let n = c.args.cell.number in let lost = g.A.Aimed.new in
+    let e : Handle → Event g.row.V.Denot = λ z. Swap (Free n) lost z in
+    let new_is : lost ≡ in_seat v k b p = r.new ∙ ap (λ (z : DeskNow g.row.V.Denot). handle_in z k b p) (sym c.desk.view_is) in
+    let trades = subst (λ z. Trades e z) new_is (swap_trades g.row.V.Denot (Free n) lost) in
+    let mine = lost_mine v k p b (lost_holding d y k p h c.desk.view_is b r.holds) in
+    let came = subst (λ (z : Cell). CameOut (λ q. Swap z lost q) k v x w) r.cell.1 c.swap-old.ensures.swapped in
+    let now = now_of c.swap-old.new.chair.table_id w d.held in
+    subst (λ (z : Cell). Adds y (Swap z lost (in_seat w k x.owned x.place)) now) (sym r.cell.1)
+    (adds_of d y w _ _ (λ z. e (in_seat w k x.owned x.place)) c.desk.view_is c.swap-old.ensures.chair.0
+    (event_is d h w e k x b p trades came mine))
+
+pub returns-clause-bag : goal.returns-clause-bag
+returns-clause-bag g c =
+    let r = c.requires in let d = c.desk.inside in let h = c.desk.invariant in let v = d.seat.me.0 in let w = c.swap-old.new.chair.me.0 in
+    let x = c.swap-old.result in let k = c.args.cell.kind in let b = c.args.new.block in let p = c.args.new.place in let y = c.args.desk.now in
+    let n = c.args.cell.number in let lost = g.A.Aimed.new in
+    let e : Handle → Event g.row.V.Denot = λ z. Swap (Free n) lost z in
+    let new_is : lost ≡ in_seat v k b p = r.new ∙ ap (λ (z : DeskNow g.row.V.Denot). handle_in z k b p) (sym c.desk.view_is) in
+    let trades = subst (λ z. Trades e z) new_is (swap_trades g.row.V.Denot (Free n) lost) in
+    let mine = lost_mine v k p b (lost_holding d y k p h c.desk.view_is b r.holds) in
+    let came = subst (λ (z : Cell). CameOut (λ q. Swap z lost q) k v x w) r.cell.1 c.swap-old.ensures.swapped in
+    bag_is d h w e k x b p trades came mine
+    ∙ ap (λ (z : DeskNow g.row.V.Denot). with_handle k x.owned x.place (without_handle k b p (bag_of z))) c.desk.view_is
+
+pub returns-clause-holds : goal.returns-clause-holds
+returns-clause-holds g c =
+    let r = c.requires in let d = c.desk.inside in let h = c.desk.invariant in let v = d.seat.me.0 in let w = c.swap-old.new.chair.me.0 in
+    let x = c.swap-old.result in let k = c.args.cell.kind in let b = c.args.new.block in let p = c.args.new.place in let y = c.args.desk.now in
+    let n = c.args.cell.number in let lost = g.A.Aimed.new in
+    let e : Handle → Event g.row.V.Denot = λ z. Swap (Free n) lost z in
+    let new_is : lost ≡ in_seat v k b p = r.new ∙ ap (λ (z : DeskNow g.row.V.Denot). handle_in z k b p) (sym c.desk.view_is) in
+    let trades = subst (λ z. Trades e z) new_is (swap_trades g.row.V.Denot (Free n) lost) in
+    let mine = lost_mine v k p b (lost_holding d y k p h c.desk.view_is b r.holds) in
+    let came = subst (λ (z : Cell). CameOut (λ q. Swap z lost q) k v x w) r.cell.1 c.swap-old.ensures.swapped in
+    let has = subst (λ (z : DeskNow g.row.V.Denot). Holds z k b p) (sym c.desk.view_is) r.holds in
+    let size = size_is d h w e k x b p trades came mine (inl has) in let fit = fits d k p b h has in
+    let m = length-map (bag (known w) w.view.name) (seen_as (known w)) in
+    holds_after (now_of c.swap-old.new.chair.table_id w d.held) k x.owned x.place (without_handle k b p (bag_of (desk_now d)))
+    (bag_is d h w e k x b p trades came mine) (λ none. let q = ap one none in omega (arith, size, fit, m, q))
+
+pub returns-clause-proper : goal.returns-clause-proper
+returns-clause-proper g c =
+    let r = c.requires in let d = c.desk.inside in let h = c.desk.invariant in let v = d.seat.me.0 in let w = c.swap-old.new.chair.me.0 in
+    let x = c.swap-old.result in let k = c.args.cell.kind in let b = c.args.new.block in let p = c.args.new.place in let y = c.args.desk.now in
+    let n = c.args.cell.number in let lost = g.A.Aimed.new in
+    let e : Handle → Event g.row.V.Denot = λ z. Swap (Free n) lost z in
+    let new_is : lost ≡ in_seat v k b p = r.new ∙ ap (λ (z : DeskNow g.row.V.Denot). handle_in z k b p) (sym c.desk.view_is) in
+    let trades = subst (λ z. Trades e z) new_is (swap_trades g.row.V.Denot (Free n) lost) in
+    let mine = lost_mine v k p b (lost_holding d y k p h c.desk.view_is b r.holds) in
+    let came = subst (λ (z : Cell). CameOut (λ q. Swap z lost q) k v x w) r.cell.1 c.swap-old.ensures.swapped in
+    formed_out d w (Free n) (e (in_seat w k x.owned x.place)) k x.owned x.place (event_is d h w e k x b p trades came mine)
+    (λ asks. (asks.0, asks.2))
+
+pub returns-clause-keeps : goal.returns-clause-keeps
+returns-clause-keeps g c =
+    let r = c.requires in let d = c.desk.inside in let h = c.desk.invariant in let v = d.seat.me.0 in let w = c.swap-old.new.chair.me.0 in
+    let x = c.swap-old.result in let k = c.args.cell.kind in let b = c.args.new.block in let p = c.args.new.place in let y = c.args.desk.now in
+    let n = c.args.cell.number in let lost = g.A.Aimed.new in
+    let e : Handle → Event g.row.V.Denot = λ z. Swap (Free n) lost z in
+    let new_is : lost ≡ in_seat v k b p = r.new ∙ ap (λ (z : DeskNow g.row.V.Denot). handle_in z k b p) (sym c.desk.view_is) in
+    let trades = subst (λ z. Trades e z) new_is (swap_trades g.row.V.Denot (Free n) lost) in
+    let mine = lost_mine v k p b (lost_holding d y k p h c.desk.view_is b r.holds) in
+    let came = subst (λ (z : Cell). CameOut (λ q. Swap z lost q) k v x w) r.cell.1 c.swap-old.ensures.swapped in
+    keeps_quietly d w (e (in_seat w k x.owned x.place)) h (event_is d h w e k x b p trades came mine) _ _ y c.desk.view_is
+    c.swap-old.ensures.chair.0 record { objects = λ q m. refl; latest = λ q m. refl; values = λ q f. refl } (λ q m. refl) (λ q m. refl)

@@ -1,0 +1,14 @@
+use Rattle.std.proofs.Common.{None}
+use Rattle.control_block.specs.Plays.{known}
+use Rattle.control_block.proofs.cell_rounds.top_up.Given as goal
+
+abbrev pub ghosts-refill : goal.ghosts-refill
+ghosts-refill g a =
+    record {
+      kind = a.of.kind;
+      object = (known a.chair.now.me.0).latest a.of.block.0;
+      place = a.of.place;
+      wanted = None;
+      block = a.of.block;
+      word = 0;
+    }

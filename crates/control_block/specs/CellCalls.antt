@@ -1,0 +1,48 @@
+-- What the calls on cells say of a desk. A handle goes by its kind, its block, if it has one, and its place.
+use Rattle.std.specs.Prelude.{◌≡◌, ℕ, ◌+◌, ◌<◌, List, ◌∷◌, length, Option, None, Some}
+use Rattle.control_word.specs.Handles.{IsFormed, handle, same_handle}
+use Rattle.control_word.specs.State.{kind_of_free, without}
+use Rattle.control_word.specs.declared.handle.Handle.{Handle}
+use Rattle.control_word.specs.declared.handle.Kind.{Kind}
+use Rattle.control_word.specs.declared.place.Block.{Block}
+use Rattle.control_word.specs.declared.place.Place.{Place}
+use Rattle.control_word.specs.declared.shape.Shape.{Shape}
+use Rattle.control_block.specs.Desks.{DeskNow, DomainNow, HasHandle, bag_of, latest_of}
+
+-- a bag with a handle more, and with one less; an empty handle stands in no bag
+abbrev pub with_handle : Kind → Option Block → Option Place → List Handle → List Handle
+with_handle k None p l = l
+with_handle k (Some b) p l = handle k (Some b.0) p ∷ l
+
+abbrev pub without_handle : Kind → Option Block → Option Place → List Handle → List Handle
+without_handle k None p l = l
+without_handle k (Some b) p l = without same_handle (handle k (Some b.0) p) l
+
+-- the object that a function tells of a block, none without a block
+abbrev pub object_by : (ℕ → ℕ) → Option Block → Option ℕ
+object_by latest None = None
+object_by latest (Some b) = Some (latest b.0)
+
+-- free cell n of the shape has handles of this kind (own)
+abbrev pub IsFreeCell : Shape → ℕ → Kind → Type 0
+IsFreeCell z n k = (n < z.shared_cells + z.weak_cells) × (k ≡ kind_of_free z.shared_cells n)
+
+-- an empty handle points at one of a block's fields or nowhere, and a weak one nowhere (own)
+abbrev pub IsProper : Kind → Option Block → Option Place → Type 0
+IsProper k None p = IsFormed (handle k None p)
+IsProper k (Some b) p = Unit {0}
+
+module _ {V : Type 0} where
+  -- the desk is one of the domain's
+  pub record Belongs (d : DeskNow V) (domain : DomainNow) : Type 0 where
+    pub table : d.domain ≡ domain.id
+    pub shape : d.shape ≡ domain.shape
+
+  -- the handle in a block is on the object last made there
+  abbrev pub handle_in : DeskNow V → Kind → Option Block → Option Place → Handle
+  handle_in d k b p = handle k (object_by (latest_of d) b) p
+
+  -- the desk has the handle: its bag shows it, or it is empty and among those that are counted beyond the bag
+  abbrev pub Holds : DeskNow V → Kind → Option Block → Option Place → Type 0
+  Holds d k None p = length (bag_of d) < d.held
+  Holds d k (Some b) p = HasHandle d k p b.0

@@ -1,0 +1,96 @@
+//! Calls of a desk on free cells, for the crate above. Each makes its events, and when it returns nothing is under way: no
+//! fund is out, and no load.
+ghost use Rattle.std.specs.Prelude.{◌≡◌, ◌↔◌, ◌+◌, IfErr, IfOk, IsErr, OnOk};
+ghost use Rattle.control_word.specs.declared.event.Cell.TheVariants.{Free};
+ghost use Rattle.control_word.specs.declared.event.Event.TheVariants.{Load, Swap};
+ghost use Rattle.control_block.specs.CellCalls.{Belongs, Holds, IsFreeCell, IsProper, handle_in, with_handle, without_handle};
+ghost use Rattle.control_block.specs.Desks.{Adds, Keeps, allowance_of, bag_of};
+
+use crate::cell_plays::Aimed;
+use crate::cell_rounds;
+use crate::desk::Desk;
+use crate::domain::Domain;
+use control_word::handle::Kind;
+use control_word::layout::cell_word;
+use control_word::{Block, CellWord, Place, Refusal};
+use std::sync::Wait;
+
+/// A free cell: its number among all free cells, the shared ones first, and the kind of its handles.
+#[derive(Clone, Copy, Drop)]
+pub struct FreeCell {
+    pub number: u32,
+    pub kind: Kind,
+}
+
+/// What goes into a cell or comes out of it: a handle of the cell's kind, by its block, if it has one, and its place.
+#[derive(Clone, Copy, Drop)]
+pub struct Content {
+    pub block: Option<Block>,
+    pub place: Option<Place>,
+}
+
+/// A copy of what a cell holds ([util.smartptr.atomic.shared], [util.smartptr.atomic.weak]). It is refused `Limit` just
+/// where the desk is at its allowance, and then nothing changes.
+pub fn load<V: Drop + Send, A: Aimed, R: Wait>(
+    rt: &R,
+    domain: &Domain<V>,
+    desk: &mut Desk<V>,
+    cell: FreeCell,
+) -> Result<Content, Refusal>
+    requires domain { Belongs desk.old domain.now }
+    requires cell { IsFreeCell desk.old.shape cell.number cell.kind × (A.cell ≡ Free cell.number) }
+    ensures limit { IsErr result ↔ (desk.old.held ≡ allowance_of desk.old) }
+    ensures refused { IfErr result (λ why. (why ≡ Refusal.Limit) × (desk.new ≡ desk.old)) }
+    ensures event { IfOk result (λ h. Adds desk.old (Load A.cell (handle_in desk.new cell.kind h.block h.place)) desk.new) }
+    ensures bag { IfOk result (λ h. bag_of desk.new ≡ with_handle cell.kind h.block h.place (bag_of desk.old)) }
+    ensures held { OnOk result (desk.new.held ≡ desk.old.held + 1) }
+    ensures holds { IfOk result (λ h. Holds desk.new cell.kind h.block h.place) }
+    ensures proper { IfOk result (λ h. IsProper cell.kind h.block h.place) }
+    ensures keeps { OnOk result (Keeps desk.old desk.new) }
+{
+    if desk.held == desk.allowance {
+        return Err(Refusal::Limit);
+    }
+    let board = &domain.table.shared;
+    let word = cell_word(domain.shape.blocks, cell.number);
+    let seen = cell_rounds::load::<V, A, R>(rt, board, &mut desk.seat, word, cell.kind);
+    desk.held += 1;
+    Ok(Content {
+        block: seen.owned,
+        place: seen.place,
+    })
+}
+
+/// A handle that the desk has goes into a cell, and what the cell held comes out ([util.smartptr.atomic.shared],
+/// [util.smartptr.atomic.weak]). It waits for nobody.
+pub fn exchange<V: Drop + Send, A: Aimed>(
+    domain: &Domain<V>,
+    desk: &mut Desk<V>,
+    cell: FreeCell,
+    new: Content,
+) -> Content
+    requires domain { Belongs desk.old domain.now }
+    requires cell { IsFreeCell desk.old.shape cell.number cell.kind × (A.cell ≡ Free cell.number) }
+    requires new { A.new ≡ handle_in desk.old cell.kind new.block new.place }
+    requires holds { Holds desk.old cell.kind new.block new.place }
+    requires proper { IsProper cell.kind new.block new.place }
+    ensures event { Adds desk.old (Swap A.cell A.new (handle_in desk.new cell.kind result.block result.place)) desk.new }
+    ensures bag { bag_of desk.new ≡ with_handle cell.kind result.block result.place (without_handle cell.kind new.block new.place (bag_of desk.old)) }
+    ensures held { desk.new.held ≡ desk.old.held }
+    ensures holds { Holds desk.new cell.kind result.block result.place }
+    ensures proper { IsProper cell.kind result.block result.place }
+    ensures keeps { Keeps desk.old desk.new }
+{
+    let board = &domain.table.shared;
+    let word = cell_word(domain.shape.blocks, cell.number);
+    let full = CellWord {
+        owned: new.block,
+        place: new.place,
+        taken: 0,
+    };
+    let old = cell_rounds::swap::<V, A>(board, &mut desk.seat, word, cell.kind, full);
+    Content {
+        block: old.owned,
+        place: old.place,
+    }
+}

@@ -1,0 +1,15 @@
+use Rattle.script_stepper.specs.Runs.{IsFineText}
+use Rattle.script_stepper.proofs.Answering.{steps_syntax, steps_turns, steps_runs}
+use Rattle.script_stepper.proofs.stepping.fine_text.Goals as goal
+
+pub returns-clause-syntax : goal.returns-clause-syntax
+returns-clause-syntax g c =
+    λ line cause f. steps_syntax IsFineText c.args.script.now c.args.turns.now c.deliver.result _ _ line cause c.deliver.ensures.holds f
+
+pub returns-clause-turns : goal.returns-clause-turns
+returns-clause-turns g c =
+    λ threads position h f. steps_turns IsFineText c.args.script.now c.args.turns.now c.deliver.result _ _ threads position c.deliver.ensures.holds h f
+
+pub returns-clause-runs : goal.returns-clause-runs
+returns-clause-runs g c =
+    λ threads listed h l. steps_runs IsFineText c.args.script.now c.args.turns.now c.deliver.result _ _ threads listed c.deliver.ensures.holds h l
