@@ -10,6 +10,10 @@ use std::test::Fail;
 
 const A: Name = Name(0);
 
+const B: Name = Name(1);
+
+const W: Name = Name(2);
+
 /// What a step answers, and the object that ended by it, after the number of its actor and statement.
 type Line = (u8, u32, Option<Answer>, Option<Ended>);
 
@@ -28,19 +32,52 @@ fn actor(alloc: Global, field: u64) -> Result<Actor, AllocError> {
     })
 }
 
+/// An actor with the owners `A` and `B` and the weak pointer `W`: a lock gives an owner, and after the last leave an
+/// upgrade is refused.
+fn locker(alloc: Global, field: u64) -> Result<Actor, AllocError> {
+    let weak = Call::Weak {
+        target: W,
+        source: A,
+    };
+    let lock = Call::Lock {
+        target: B,
+        source: W,
+    };
+    let upgrade = Call::Upgrade {
+        target: A,
+        source: W,
+    };
+    let calls = [
+        make(field),
+        weak,
+        lock,
+        Call::Count { name: A },
+        Call::Reset { name: A },
+        Call::Reset { name: B },
+        upgrade,
+        Call::WeakCount { name: W },
+    ];
+    Ok(Actor {
+        kinds: vec![in alloc; Kind::Owner, Kind::Owner, Kind::Weak]?,
+        calls: calls.to_vec(alloc)?,
+    })
+}
+
 fn world(rt: &impl Abort, alloc: Global) -> Result<World, AllocError> {
+    let actors = vec![in alloc; actor(alloc, 1)?, actor(alloc, 2)?]?;
+    Ok(world_of(rt, alloc, actors))
+}
+
+fn world_of(rt: &impl Abort, alloc: Global, actors: Vec<Actor>) -> World {
     let shape = Shape {
         blocks: 2,
         shared_cells: 0,
         weak_cells: 0,
         allowance: 80,
     };
-    let actors = vec![in alloc; actor(alloc, 1)?, actor(alloc, 2)?]?;
-    Ok(
-        World::new(alloc, shape, Program { actors })
-            .ok()
-            .expect(rt, "a world within the limits"),
-    )
+    World::new(alloc, shape, Program { actors })
+        .ok()
+        .expect(rt, "a world within the limits")
 }
 
 fn run(rt: &impl Abort, alloc: Global, world: &mut World, turns: &[u8]) -> Trace {
@@ -149,5 +186,36 @@ fn a_number_that_names_no_actor_is_refused(rt: HostRuntime) -> Result<(), Fail> 
     assert_eq!(rt; (world.made(), world.ended()), (0, 0));
     let trace = run(&rt, alloc, &mut world, [].as_slice());
     assert_eq!(rt; lines(alloc, &trace)?.as_slice(), in_turn(1, 2).as_slice());
+    Ok(())
+}
+
+#[test]
+fn a_lock_is_left_in_the_middle(rt: HostRuntime) -> Result<(), Fail> {
+    let alloc = rt.alloc();
+    let actors = vec![in alloc; locker(alloc, 1)?, actor(alloc, 2)?]?;
+    let mut world = world_of(&rt, alloc, actors);
+    let mut turns = vec![in alloc; 1; 10]?;
+    for _ in 0..100 {
+        turns.push(2)?;
+    }
+    let trace = run(&rt, alloc, &mut world, turns.as_slice());
+    let quiet = Stepped::Quiet(Said {
+        statement: 3,
+        answer: None,
+        ended: None,
+    });
+    let tenth = trace.steps.get(9).copied().expect(&rt, "a step");
+    assert_eq!(rt; (tenth.actor, tenth.stepped), (1, quiet));
+    let wanted = [
+        (2, 2, Some(Answer::Count(1)), None),
+        (2, 0, None, Some(ended(2))),
+        (1, 3, Some(Answer::Locked(true)), None),
+        (1, 4, Some(Answer::Count(2)), None),
+        (1, 6, None, Some(ended(1))),
+        (1, 7, Some(Answer::Refused(Refusal::BadWeak)), None),
+        (1, 8, Some(Answer::Count(0)), None),
+    ];
+    assert_eq!(rt; lines(alloc, &trace)?.as_slice(), wanted.as_slice());
+    assert_eq!(rt; (world.made(), world.ended()), (2, 2));
     Ok(())
 }
