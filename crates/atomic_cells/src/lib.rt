@@ -2,6 +2,8 @@
 //! any thread loads, stores and exchanges. Stores and exchanges wait for nobody.
 #![tactic(auto)]
 
+#[cfg(test)]
+mod compare_tests;
 mod compared;
 #[cfg(test)]
 mod race_tests;
