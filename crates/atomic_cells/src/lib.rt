@@ -2,10 +2,18 @@
 //! any thread loads, stores and exchanges. Stores and exchanges wait for nobody.
 #![tactic(auto)]
 
+#[cfg(test)]
+mod compare_tests;
+mod compared;
+#[cfg(test)]
+mod race_tests;
 mod shared_at;
+mod shared_compares;
 #[cfg(test)]
 mod tests;
 mod weak_at;
+mod weak_compares;
 
+pub use compared::Compared;
 pub use shared_at::SharedAt;
 pub use weak_at::WeakAt;

@@ -30,7 +30,7 @@ impl SharedAt {
         SharedAt { index }
     }
 
-    fn cell(&self) -> FreeCell
+    pub(crate) fn cell(&self) -> FreeCell
         ensures { (result.number ≡ self.now.index) × (result.kind ≡ Owner) }
     {
         FreeCell {

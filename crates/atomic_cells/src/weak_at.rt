@@ -32,7 +32,7 @@ impl WeakAt {
     }
 
     // The weak cells stand behind the shared ones.
-    fn cell<V: Drop + Send>(&self, domain: &Domain<V>) -> FreeCell
+    pub(crate) fn cell<V: Drop + Send>(&self, domain: &Domain<V>) -> FreeCell
         requires low { self.now.index < domain.now.shape.weak_cells }
         ensures { (result.number ≡ domain.now.shape.shared_cells + self.now.index) × (result.kind ≡ Weak) }
     {

@@ -27,6 +27,7 @@ pub mod DeskSteps
 pub mod DeskBags
 pub mod DeskLocks
 pub mod CellDesks
+pub mod CellChoices
 pub mod OwnEndings
 pub mod StoreBlocks
 pub mod WeakGifts

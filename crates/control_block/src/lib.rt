@@ -6,6 +6,7 @@ pub mod board;
 mod call_tests;
 pub mod calls;
 pub mod cell_calls;
+pub mod cell_compare_calls;
 pub mod cell_compares;
 pub mod cell_plays;
 pub mod cell_rounds;

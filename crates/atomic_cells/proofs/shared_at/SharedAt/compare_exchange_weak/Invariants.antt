@@ -1,0 +1,14 @@
+use Rattle.std.proofs.Common.{◌+◌, true}
+use Rattle.control_word.specs.declared.event.Cell.TheVariants.{Free}
+use Rattle.control_word.specs.declared.handle.Kind.TheVariants.{Owner}
+use Rattle.control_block.specs.CellCalls.{handle_in}
+use Rattle.atomic_cells.proofs.shared_at.SharedAt.compare_exchange_weak.Given as goal
+
+abbrev pub ghosts-compare_as : goal.ghosts-compare_as
+ghosts-compare_as g a =
+    record {
+      cell = Free a.self.now.index;
+      new = handle_in a.desk.now Owner a.desired.block a.desired.place;
+      expected = handle_in a.desk.now Owner a.expected.now.block a.expected.now.place;
+      weak = true;
+    }

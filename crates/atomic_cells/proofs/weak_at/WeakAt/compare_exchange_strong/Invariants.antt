@@ -1,0 +1,14 @@
+use Rattle.std.proofs.Common.{◌+◌, false}
+use Rattle.control_word.specs.declared.event.Cell.TheVariants.{Free}
+use Rattle.control_word.specs.declared.handle.Kind.TheVariants.{Weak}
+use Rattle.control_block.specs.CellCalls.{handle_in}
+use Rattle.atomic_cells.proofs.weak_at.WeakAt.compare_exchange_strong.Given as goal
+
+abbrev pub ghosts-compare_as : goal.ghosts-compare_as
+ghosts-compare_as g a =
+    record {
+      cell = Free (a.desk.now.shape.shared_cells + a.self.now.index);
+      new = handle_in a.desk.now Weak a.desired.block a.desired.place;
+      expected = handle_in a.desk.now Weak a.expected.now.block a.expected.now.place;
+      weak = false;
+    }

@@ -1,0 +1,32 @@
+-- What a compare-and-swap says ([util.smartptr.atomic.shared], [util.smartptr.atomic.weak]).
+use Rattle.std.specs.Prelude.{◌≡◌, ℕ, Bool, true, false, Option}
+use Rattle.control_word.specs.declared.event.Cell.TheVariants.{Free}
+use Rattle.control_word.specs.declared.event.Event.TheVariants.{Compare}
+use Rattle.control_word.specs.declared.handle.Kind.{Kind}
+use Rattle.control_word.specs.declared.place.Block.{Block}
+use Rattle.control_word.specs.declared.place.Place.{Place}
+use Rattle.control_block.specs.CellCalls.{handle_in}
+use Rattle.control_block.specs.Desks.{Adds, DeskNow}
+use Rattle.atomic_cells.specs.declared.compared.Compared.{Compared}
+use Rattle.atomic_cells.specs.declared.compared.Compared.TheVariants.{Differs, Swapped}
+
+-- what was in the cell at the compare's step: the pointer itself or a copy
+abbrev pub came_out : {H : Type 0} → Compared H → H
+came_out (Swapped old) = old
+came_out (Differs held desired) = held
+
+abbrev pub has_swapped : {H : Type 0} → Compared H → Bool
+has_swapped (Swapped old) = true
+has_swapped (Differs held desired) = false
+
+-- what didn't go in comes back (own)
+abbrev pub GivesBack : {H : Type 0} → H → Compared H → Type 0
+GivesBack d (Swapped old) = Unit {0}
+GivesBack d (Differs held desired) = desired ≡ d
+
+module _ {V : Type 0} where
+  -- cell n was compared with (eb, ep): where it held an equivalent pointer, (b, p) went in, and (c, q) is what it held. The
+  -- weak form may differ on an equivalent one
+  abbrev pub Compares : DeskNow V → ℕ → Kind → Option Block → Option Place → Option Block → Option Place → Bool → Option Block → Option Place → Bool
+      → DeskNow V → Type 0
+  Compares d n k eb ep b p swapped c q weak e = Adds d (Compare (Free n) (handle_in d k eb ep) (handle_in d k b p) (handle_in e k c q) swapped weak) e

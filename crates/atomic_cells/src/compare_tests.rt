@@ -1,0 +1,120 @@
+//! Compare-and-swap on a sole desk.
+ghost use Rattle.std.specs.Prelude.{◌≡◌, ◌<◌, Some};
+ghost use Rattle.control_word.specs.declared.place.Block.{Block};
+ghost use Rattle.control_word.specs.declared.handle.Kind.TheVariants.{Owner};
+ghost use Rattle.control_block.specs.CellCalls.{Belongs, IsProper};
+ghost use Rattle.control_block.specs.Desks.{IsSameDesk, bag_of};
+ghost use Rattle.shared_handle.specs.Calls.{Holds, without_handle};
+
+use crate::tests::{drop_owner, object, put_copy, shape, shut, tell};
+use crate::{Compared, SharedAt};
+use control_block::desk::Desk;
+use control_block::domain::{Domain, open};
+use control_word::{Block, Place};
+use shared_handle::{Shared, alias, use_count};
+use std::sync::Wait;
+use std::test::Fail;
+
+// What a compare found: whether it swapped, the place of what the cell held, whether what was desired came back, and how
+// many owners the expected pointer's object has then.
+type Found = (bool, Option<Place>, bool, u32);
+
+// A compare-and-swap of the cell, after which what comes out of it leaves.
+#[tactic(auto, using(shared_handle::proofs::Taken::first_out))]
+fn compare<R: Wait>(
+    rt: &R,
+    domain: &Domain<u64>,
+    desk: &mut Desk<u64>,
+    at: SharedAt,
+    weak: bool,
+    expected: &Shared,
+    desired: Shared,
+) -> Option<Found>
+    requires domain { Belongs desk.old domain.now }
+    requires cell { at.index < desk.old.shape.shared_cells }
+    requires holds { Holds desk.old Owner desired.block desired.place }
+    requires room { Holds desk.old Owner expected.now.block expected.now.place }
+    requires real { (b : Block) × (desired.block ≡ Some b) }
+    requires proper { IsProper Owner expected.now.block expected.now.place × IsProper Owner desired.block desired.place }
+    ensures desk { IsSameDesk desk.old desk.new }
+    ensures bag { bag_of desk.new ≡ without_handle Owner desired.block desired.place (bag_of desk.old) }
+{
+    let block = desired.block();
+    let compared = if weak {
+        at.compare_exchange_weak(rt, domain, desk, expected, desired)
+    } else {
+        at.compare_exchange_strong(rt, domain, desk, expected, desired)
+    };
+    match compared {
+        Ok(Compared::Swapped(old)) => {
+            let place = old.place();
+            drop_owner(domain, desk, old);
+            Some((true, place, false, 0))
+        }
+        Ok(Compared::Differs { held, desired }) => {
+            let place = held.place();
+            let owners = use_count(domain, desk, &held);
+            drop_owner(domain, desk, held);
+            let back = desired.block() == block;
+            drop_owner(domain, desk, desired);
+            Some((false, place, back, owners))
+        }
+        Err(refused) => {
+            drop_owner(domain, desk, refused.back);
+            None
+        }
+    }
+}
+
+// The cell has an object's owner. Compares with an alias of it and with the owner itself, each with a new object: what they
+// found, and the field and owners of what the cell holds then.
+#[tactic(auto, using(shared_handle::proofs::Taken::first_out))]
+fn compare_twice<R: Wait>(
+    rt: &R,
+    domain: &Domain<u64>,
+    desk: &mut Desk<u64>,
+    at: SharedAt,
+    weak: bool,
+) -> Option<(Option<Place>, Option<Found>, Option<Found>, Option<(Option<u64>, u32)>)>
+    requires domain { Belongs desk.old domain.now }
+    requires cell { at.index < desk.old.shape.shared_cells }
+    ensures desk { IsSameDesk desk.old desk.new }
+{
+    let x = object(domain, desk, 5)?;
+    put_copy(domain, desk, at, &x);
+    let aside = Place {
+        block: Block(1),
+        field: 1,
+    };
+    let Ok(other) = alias(domain, desk, &x, Some(aside)) else {
+        drop_owner(domain, desk, x);
+        return None;
+    };
+    let first = match object(domain, desk, 6) {
+        Some(d) => compare(rt, domain, desk, at, weak, &other, d),
+        None => None,
+    };
+    drop_owner(domain, desk, other);
+    let second = match object(domain, desk, 6) {
+        Some(d) => compare(rt, domain, desk, at, weak, &x, d),
+        None => None,
+    };
+    let place = x.place();
+    drop_owner(domain, desk, x);
+    Some((place, first, second, tell(rt, domain, desk, at)))
+}
+
+#[test]
+fn a_compare_goes_by_place_and_object(rt: HostRuntime) -> Result<(), Fail> {
+    let (domain, mut desk) = open::<u64>(rt.alloc(), shape(2, 1, 1, 8)).ok().ok_or("memory")?;
+    let at = SharedAt::free(0);
+    let strong = compare_twice(&rt, &domain, &mut desk, at, false);
+    let weak = compare_twice(&rt, &domain, &mut desk, at, true);
+    shut(domain, desk);
+    let (place, first, second, told) = strong.ok_or("memory")?;
+    assert_eq!(rt; first, Some((false, place, true, 4)));
+    assert_eq!(rt; second, Some((true, place, false, 0)));
+    assert_eq!(rt; told, Some((Some(6), 2)));
+    assert_eq!(rt; weak.is_some(), true);
+    Ok(())
+}

@@ -1,0 +1,133 @@
+//! Compare-and-swap of cells of shared pointers ([util.smartptr.atomic.shared]).
+ghost use Rattle.std.specs.Prelude.{◌≡◌, ◌↔◌, ◌+◌, ◌<◌, cond, true, false, IfErr, IfOk, IsErr, OnOk};
+ghost use Rattle.control_word.specs.declared.event.Cell.TheVariants.{Free};
+ghost use Rattle.control_word.specs.declared.handle.Kind.TheVariants.{Owner};
+ghost use Rattle.control_block.specs.CellCalls.{Belongs, IsProper, handle_in};
+ghost use Rattle.control_block.specs.Desks.{Keeps, allowance_of, bag_of};
+ghost use Rattle.shared_handle.specs.Calls.{Holds, with_handle, without_handle};
+ghost use Rattle.atomic_cells.specs.Compares.{Compares, GivesBack, came_out, has_swapped};
+
+use crate::compared::Compared;
+use crate::shared_at::SharedAt;
+use control_block::cell_calls::Content;
+use control_block::cell_compare_calls;
+use control_block::cell_plays::Aimed;
+use control_block::desk::Desk;
+use control_block::domain::Domain;
+
+use control_word::{Refusal, Refused};
+use shared_handle::Shared;
+use std::marker::Brand;
+use std::sync::Wait;
+
+impl SharedAt {
+    fn compare_as<V: Drop + Send, A: Aimed, R: Wait>(
+        &self,
+        rt: &R,
+        domain: &Domain<V>,
+        desk: &mut Desk<V>,
+        expected: &Shared,
+        desired: Shared,
+    ) -> Result<Compared<Shared>, Refused<Shared>>
+        requires domain { Belongs desk.old domain.now }
+        requires cell { self.now.index < desk.old.shape.shared_cells }
+        requires holds { Holds desk.old Owner expected.now.block expected.now.place × Holds desk.old Owner desired.block desired.place }
+        requires proper { IsProper Owner expected.now.block expected.now.place × IsProper Owner desired.block desired.place }
+        requires meant { (A.cell ≡ Free self.now.index) × (A.expected ≡ handle_in desk.old Owner expected.now.block expected.now.place)
+            × (A.new ≡ handle_in desk.old Owner desired.block desired.place) }
+        ensures limit { IsErr result ↔ (desk.old.held ≡ allowance_of desk.old) }
+        ensures refused { IfErr result (λ r. (r.why ≡ Refusal.Limit) × (r.back ≡ desired) × (desk.new ≡ desk.old)) }
+        ensures compared { IfOk result (λ c. let h = came_out c in
+            Compares desk.old self.now.index Owner expected.now.block expected.now.place desired.block desired.place (has_swapped c) h.block h.place A.weak desk.new) }
+        ensures back { IfOk result (λ c. GivesBack desired c) }
+        ensures bag { IfOk result (λ c. bag_of desk.new ≡ with_handle Owner (came_out c).block (came_out c).place
+            (cond (has_swapped c) (without_handle Owner desired.block desired.place (bag_of desk.old)) (bag_of desk.old))) }
+        ensures held { IfOk result (λ c. desk.new.held ≡ desk.old.held + cond (has_swapped c) 0 1) }
+        ensures holds { IfOk result (λ c. Holds desk.new Owner (came_out c).block (came_out c).place) }
+        ensures proper { IfOk result (λ c. IsProper Owner (came_out c).block (came_out c).place) }
+        ensures keeps { OnOk result (Keeps desk.old desk.new) }
+    {
+        let (block, place) = desired.into_parts();
+        let new = Content { block, place };
+        let there = Content {
+            block: expected.block(),
+            place: expected.place(),
+        };
+        let cell = self.cell();
+        match cell_compare_calls::compare::<V, A, R>(rt, domain, desk, cell, there, new) {
+            Err(why) => Err(Refused {
+                why,
+                back: Shared::of_parts(block, place),
+            }),
+            Ok((swapped, found)) => {
+                let found = Shared::of_parts(found.block, found.place);
+                if swapped {
+                    return Ok(Compared::Swapped(found));
+                }
+                Ok(Compared::Differs {
+                    held: found,
+                    desired: Shared::of_parts(block, place),
+                })
+            }
+        }
+    }
+
+    /// Where the cell holds a pointer equivalent to the expected one (the same place, and the same object or none), the
+    /// desired one goes in, and the cell's comes out; else a copy of what it holds ([util.smartptr.atomic.shared]). It tries
+    /// again while others change the cell. It is refused `Limit` just where the desk is at its allowance, before any step;
+    /// then nothing changes, and the desired pointer comes back.
+    pub fn compare_exchange_strong<V: Drop + Send, R: Wait>(
+        &self,
+        rt: &R,
+        domain: &Domain<V>,
+        desk: &mut Desk<V>,
+        expected: &Shared,
+        desired: Shared,
+    ) -> Result<Compared<Shared>, Refused<Shared>>
+        requires domain { Belongs desk.old domain.now }
+        requires cell { self.now.index < desk.old.shape.shared_cells }
+        requires holds { Holds desk.old Owner expected.now.block expected.now.place × Holds desk.old Owner desired.block desired.place }
+        requires proper { IsProper Owner expected.now.block expected.now.place × IsProper Owner desired.block desired.place }
+        ensures limit { IsErr result ↔ (desk.old.held ≡ allowance_of desk.old) }
+        ensures refused { IfErr result (λ r. (r.why ≡ Refusal.Limit) × (r.back ≡ desired) × (desk.new ≡ desk.old)) }
+        ensures compared { IfOk result (λ c. let h = came_out c in
+            Compares desk.old self.now.index Owner expected.now.block expected.now.place desired.block desired.place (has_swapped c) h.block h.place false desk.new) }
+        ensures back { IfOk result (λ c. GivesBack desired c) }
+        ensures bag { IfOk result (λ c. bag_of desk.new ≡ with_handle Owner (came_out c).block (came_out c).place
+            (cond (has_swapped c) (without_handle Owner desired.block desired.place (bag_of desk.old)) (bag_of desk.old))) }
+        ensures held { IfOk result (λ c. desk.new.held ≡ desk.old.held + cond (has_swapped c) 0 1) }
+        ensures holds { IfOk result (λ c. Holds desk.new Owner (came_out c).block (came_out c).place) }
+        ensures proper { IfOk result (λ c. IsProper Owner (came_out c).block (came_out c).place) }
+        ensures keeps { OnOk result (Keeps desk.old desk.new) }
+    {
+        self.compare_as::<V, Brand, R>(rt, domain, desk, expected, desired)
+    }
+
+    /// The same, and it may differ on an equivalent pointer ([util.smartptr.atomic.shared]).
+    pub fn compare_exchange_weak<V: Drop + Send, R: Wait>(
+        &self,
+        rt: &R,
+        domain: &Domain<V>,
+        desk: &mut Desk<V>,
+        expected: &Shared,
+        desired: Shared,
+    ) -> Result<Compared<Shared>, Refused<Shared>>
+        requires domain { Belongs desk.old domain.now }
+        requires cell { self.now.index < desk.old.shape.shared_cells }
+        requires holds { Holds desk.old Owner expected.now.block expected.now.place × Holds desk.old Owner desired.block desired.place }
+        requires proper { IsProper Owner expected.now.block expected.now.place × IsProper Owner desired.block desired.place }
+        ensures limit { IsErr result ↔ (desk.old.held ≡ allowance_of desk.old) }
+        ensures refused { IfErr result (λ r. (r.why ≡ Refusal.Limit) × (r.back ≡ desired) × (desk.new ≡ desk.old)) }
+        ensures compared { IfOk result (λ c. let h = came_out c in
+            Compares desk.old self.now.index Owner expected.now.block expected.now.place desired.block desired.place (has_swapped c) h.block h.place true desk.new) }
+        ensures back { IfOk result (λ c. GivesBack desired c) }
+        ensures bag { IfOk result (λ c. bag_of desk.new ≡ with_handle Owner (came_out c).block (came_out c).place
+            (cond (has_swapped c) (without_handle Owner desired.block desired.place (bag_of desk.old)) (bag_of desk.old))) }
+        ensures held { IfOk result (λ c. desk.new.held ≡ desk.old.held + cond (has_swapped c) 0 1) }
+        ensures holds { IfOk result (λ c. Holds desk.new Owner (came_out c).block (came_out c).place) }
+        ensures proper { IfOk result (λ c. IsProper Owner (came_out c).block (came_out c).place) }
+        ensures keeps { OnOk result (Keeps desk.old desk.new) }
+    {
+        self.compare_as::<V, Brand, R>(rt, domain, desk, expected, desired)
+    }
+}

@@ -1,0 +1,76 @@
+-- What a compare leaves, where it swapped and where it differed.
+use Rattle.std.proofs.Common.{◌≡◌, ◌≢◌, ◌⊎◌, ℕ, ◌+◌, ◌<◌, ◌≤◌, Bool, true, false, not, cond, List, Option, Some, None, refl, subst, inl, inr, arith}
+use Rattle.std.specs.Prelude.{IfSome}
+use mir.Val.{bool_byte}
+use Rattle.control_word.specs.Events.{after}
+use Rattle.control_word.specs.State.{State}
+use Rattle.control_word.specs.declared.event.Cell.{Cell}
+use Rattle.control_word.specs.declared.event.Cell.TheVariants.{Free}
+use Rattle.control_word.specs.declared.event.Event.{Event}
+use Rattle.control_word.specs.declared.event.Event.TheVariants.{Compare}
+use Rattle.control_word.specs.declared.handle.Handle.{Handle}
+use Rattle.control_word.specs.declared.handle.Kind.{Kind}
+use Rattle.control_word.specs.declared.place.Block.{Block}
+use Rattle.control_word.specs.declared.place.Place.{Place}
+use Rattle.control_block.specs.CellCalls.{Holds, without_handle}
+use Rattle.control_block.specs.Desks.{DeskNow}
+use Rattle.control_block.specs.Plays.{Holding, known}
+use Rattle.control_block.specs.declared.board.Sight.{Sight}
+use Rattle.control_block.proofs.CellDesks.{in_seat, one}
+use Rattle.control_block.proofs.CellRounds.{Trades, compare_trades, differ_trades}
+use Rattle.control_block.proofs.Passage.{IsQuiet}
+
+-- one handle more is counted where it differed
+pub counted_of : (s : Bool) (n : ℕ) → n ≡ bool_byte (not s) → n ≡ cond s 0 1
+counted_of true n e = e
+counted_of false n e = e
+
+pub fits_of : (s : Bool) (b c : Option Block) (n m held : ℕ) → n + one (cond s b None) ≡ m + one c → m + 1 ≤ held + one b → m ≤ held → one c ≤ 1
+    → n ≤ held + cond s 0 1
+fits_of true b c n m held size fit most few = omega arith
+fits_of false b c n m held size fit most few = omega arith
+
+pub few_of : (s : Bool) (b c : Option Block) (n m held : ℕ) → n + one (cond s b None) ≡ m + one c → m + 1 ≤ held + one b → m ≤ held → one c ≡ 0
+    → n < held + cond s 0 1
+few_of true b c n m held size fit most few = omega arith
+few_of false b c n m held size fit most few = omega arith
+
+pub within_of : (s : Bool) (held most : ℕ) → held ≤ most → held ≢ most → held + cond s 0 1 ≤ most
+within_of true held most le ne = omega arith
+within_of false held most le ne = omega arith
+
+pub bag_of_choice : (s : Bool) (k : Kind) (b : Option Block) (p : Option Place) (l : List Handle)
+    → without_handle k (cond s b None) (cond s p None) l ≡ cond s (without_handle k b p l) l
+bag_of_choice true k b p l = refl
+bag_of_choice false k b p l = refl
+
+module _ {V : Type 0} where
+  pub trades_of : (v : Sight V) (k : Kind) (b : Option Block) (p : Option Place) (c : Cell) (expected new : Handle) (weak : Bool) → new ≡ in_seat v k b p
+      → (s : Bool) → Trades {V = V} (λ h. Compare c expected new h s weak) (in_seat v k (cond s b None) (cond s p None))
+  trades_of v k b p c expected new weak is true =
+      subst (λ (z : Handle). Trades {V = V} (λ h. Compare c expected new h true weak) z) is (compare_trades V c expected new weak)
+  trades_of v k b p c expected new weak is false = differ_trades V c k expected new weak
+
+  pub mine_of : (v : Sight V) (k : Kind) (b : Option Block) (p : Option Place) (s : Bool) → IfSome b (λ a. Holding v k ((known v).latest a.0) p a.0)
+      → IfSome (cond s b None) (λ a. Holding v k ((known v).latest a.0) (cond s p None) a.0)
+  mine_of v k b p true t = t
+  mine_of v k b p false t = tt
+
+  pub has_of : (y : DeskNow V) (k : Kind) (b : Option Block) (p : Option Place) (s : Bool) → Holds y k b p
+      → Holds y k (cond s b None) (cond s p None) ⊎ (cond s b None ≡ None)
+  has_of y k b p true t = inl t
+  has_of y k b p false t = inr refl
+
+pub quiet_of : (V : Type 0) (n : ℕ) (expected new h : Handle) (weak s : Bool) → IsQuiet {V = V} (Compare (Free n) expected new h s weak)
+quiet_of V n expected new h weak true = record { objects = λ y d. refl; latest = λ y d. refl; values = λ y f. refl }
+quiet_of V n expected new h weak false = record { objects = λ y d. refl; latest = λ y d. refl; values = λ y f. refl }
+
+pub stores_of : (V : Type 0) (n : ℕ) (expected new h : Handle) (weak s : Bool) (y : State) (d : ℕ)
+    → (after {V = V} y d (Compare (Free n) expected new h s weak)).stores ≡ y.stores
+stores_of V n expected new h weak true y d = refl
+stores_of V n expected new h weak false y d = refl
+
+pub allowances_of : (V : Type 0) (n : ℕ) (expected new h : Handle) (weak s : Bool) (y : State) (d : ℕ)
+    → (after {V = V} y d (Compare (Free n) expected new h s weak)).allowance ≡ y.allowance
+allowances_of V n expected new h weak true y d = refl
+allowances_of V n expected new h weak false y d = refl
