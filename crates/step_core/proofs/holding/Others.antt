@@ -1,5 +1,5 @@
 -- What other desks do changes nothing of what a desk has.
-use Rattle.std.proofs.Common.{◌≡◌, ◌≢◌, ℕ, suc, ◌<◌, ◌≤◌, ◌==◌, Bool, true, cond, List, [], ◌∷◌, length, get_or, Option, Some, None, refl, sym, ap}
+use Rattle.std.proofs.Common.{◌≡◌, ◌≢◌, ℕ, suc, ◌<◌, ◌≤◌, ◌==◌, Bool, true, List, [], ◌∷◌, length, get_or, Some, refl, sym, ap}
 use Rattle.std.proofs.Common.{subst, ◌∙◌, arith, eq-eqb, get_or-set_other}
 use Rattle.std.proofs.lemmas.Bool.{cond_both, eqb-true, and_parts}
 use Rattle.control_word.proofs.history.Kept.{Same, block_after, has_same, same_after, still}
@@ -8,12 +8,11 @@ use Rattle.control_word.proofs.lists.Parts.{part}
 use Rattle.control_word.proofs.lists.Tallies.{num, num_cons, put_cases}
 use Rattle.control_word.specs.declared.event.Event.TheVariants as event
 use Rattle.control_word.specs.declared.handle.Handle.{Handle}
-use Rattle.control_word.specs.declared.handle.Kind.TheVariants.{Owner}
 use Rattle.control_word.specs.declared.place.Block.{Block}
 use Rattle.control_word.proofs.history.Moving.{counted_live, owner_counted}
 use Rattle.control_word.specs.declared.view.Pending.{Pending}
 use Rattle.control_word.specs.declared.view.View.{View}
-use Rattle.control_word.specs.Handles.{empty, owner, same_handle}
+use Rattle.control_word.specs.Handles.{empty}
 use Rattle.control_word.specs.State.{Has, Held, Object, Phase, State, Stored, bag, common, ending, held, kind_of_member, live, same_held, same_stored}
 use Rattle.control_word.specs.State.{stock, stored, unmade, weak_number}
 use Rattle.control_word.specs.Views.{used_up}
@@ -23,13 +22,12 @@ use Rattle.step_core.specs.declared.holdings.Pointer.{Pointer}
 use Rattle.step_core.specs.declared.past.Deed.{Deed}
 use Rattle.step_core.specs.declared.past.Deed.TheVariants.{Prepare, Write, Claim, Share, WeakShare, Leave, WeakLeave, Lock, Count, Expired, Clear, Finish}
 use Rattle.step_core.specs.Actors.{HalfFits, Stocks, in_store}
-use Rattle.step_core.specs.Holdings.{Holds, Slots, is_it, owns, slot, times}
+use Rattle.step_core.specs.Holdings.{Holds, Slots, slot, times}
 use Rattle.step_core.specs.Openings.{opening}
 use Rattle.step_core.specs.Scenes.{least}
 use Rattle.step_core.specs.Stories.{Kept, known, Nothing, Story, after, handle_in, object_in, owner_in, pending, state, weak_in}
 use Rattle.step_core.proofs.holding.Least.{least_part}
 use Rattle.step_core.proofs.holding.Owning.{same_owns, slot_held}
-use Rattle.step_core.proofs.holding.Slots.{one_slot}
 use Rattle.step_core.proofs.tables.Places.{ending_busy, handle_busy, there}
 
 -- what is counted of a desk's part

@@ -13,9 +13,8 @@ use Rattle.control_word.specs.Events.{place_at}
 use Rattle.control_word.specs.declared.handle.Kind.{Kind}
 use Rattle.control_word.specs.declared.handle.Kind.TheVariants.{Owner, Weak}
 use Rattle.control_word.specs.Handles.{IsPointer, handle, owner, same_handle}
-use Rattle.control_word.specs.State.{Has, Held, InShape, State, bag_size, held, same_held, stored, without}
+use Rattle.control_word.specs.State.{Has, Held, InShape, bag_size, held, same_held, stored, without}
 use Rattle.step_core.specs.declared.holdings.Pointer.{Pointer}
-use Rattle.step_core.specs.declared.past.Deed.{Deed}
 use Rattle.step_core.specs.declared.past.Deed.TheVariants.{Claim}
 use Rattle.step_core.specs.Deeds.{leave_as, share, share_as}
 use Rattle.step_core.specs.Holdings.{Holds, IsSlot, Slots, is_full, is_it, owns, slot, times, weak_as, weak_slot}

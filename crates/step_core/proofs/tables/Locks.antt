@@ -1,5 +1,5 @@
 -- Locks of weak handles.
-use Rattle.std.proofs.Common.{◌≡◌, ℕ, suc, ◌<◌, ◌==◌, true, false, ◌∷◌, set, get_or, Option, sym, subst}
+use Rattle.std.proofs.Common.{◌≡◌, ℕ, suc, ◌<◌, true, false, ◌∷◌, set, get_or, Option, sym, subst}
 use Rattle.control_word.proofs.steps.Lock.{locks}
 use Rattle.control_word.specs.declared.event.Event.TheVariants as event
 use Rattle.control_word.specs.declared.handle.Kind.TheVariants.{Weak}

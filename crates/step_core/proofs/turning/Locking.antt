@@ -1,7 +1,7 @@
 -- A lock, step by step.
-use Rattle.std.proofs.Common.{◌≡◌, ℕ, ◌<◌, ◌==◌, Bool, true, false, cond, List, [], ◌∷◌, length, set, refl, sym, ap, subst, ◌∙◌, eq-eqb}
+use Rattle.std.proofs.Common.{◌≡◌, ℕ, ◌<◌, ◌==◌, Bool, true, false, cond, List, [], ◌∷◌, length, refl, sym, ap, subst, ◌∙◌, eq-eqb}
 use Rattle.std.specs.Prelude.{Option, Some, None, option_map}
-use Rattle.std.proofs.lemmas.Bool.{cond-true, cond-false, cond_both, false≢true}
+use Rattle.std.proofs.lemmas.Bool.{cond-true, cond_both, false≢true}
 use Rattle.step_core.specs.declared.act.Act.{Act}
 use Rattle.step_core.specs.declared.act.Act.TheVariants.{Make, Share, Downgrade, Lock, Put, Leave, Clear, Count, Expired}
 use Rattle.step_core.specs.declared.act.Task.{Task}
@@ -14,8 +14,8 @@ use Rattle.step_core.specs.Deeds.{lock, owner_word}
 use Rattle.step_core.specs.Holdings.{is_full}
 use Rattle.step_core.specs.Scenes.{on, walk_of}
 use Rattle.step_core.specs.Steps.{Step, acts, begun, first, looks, step_at, stepped, tried, tries, trying}
-use Rattle.step_core.specs.Stories.{Story, state}
-use Rattle.step_core.specs.Turning.{HasBegun, IsLock, IsTried, Plays, is_acting, is_event, is_locking, turned_by}
+use Rattle.step_core.specs.Stories.{state}
+use Rattle.step_core.specs.Turning.{HasBegun, IsLock, IsTried, Plays, is_event, is_locking, turned_by}
 use Rattle.step_core.specs.Worlds.{Sight, Steps, half_of, scene, sight_by, step_of}
 use Rattle.step_core.proofs.turning.Ending.{half_after, halves_after, same_walks, scene_as}
 use Rattle.step_core.proofs.turning.Playing.{lock_so, plays_as}

@@ -1,8 +1,8 @@
-use Rattle.std.proofs.Common.{◌∙◌, set, ap, sym, subst, Bool}
+use Rattle.std.proofs.Common.{set, sym, subst}
 use Rattle.std.specs.Prelude.{None}
-use Rattle.step_core.specs.Deeds.{is_last, leave_as}
+use Rattle.step_core.specs.Deeds.{is_last}
 use Rattle.step_core.specs.Holdings.{Holds}
-use Rattle.step_core.specs.Stories.{Story, after, state}
+use Rattle.step_core.specs.Stories.{Story, state}
 use Rattle.step_core.proofs.holding.Owning.{holds_leave, slot_held}
 use Rattle.step_core.proofs.holdings.Holdings.leave.Goals as goal
 

@@ -1,4 +1,4 @@
-use Rattle.std.proofs.Common.{◌≡◌, ◌==◌, ◌∙◌, ℕ, suc, ◌+◌, cond, get_or, sym, ap, length, arith}
+use Rattle.std.proofs.Common.{◌≡◌, ◌==◌, ◌∙◌, ℕ, suc, ◌+◌, get_or, ap, length, arith}
 use Rattle.control_word.specs.declared.handle.Kind.TheVariants.{Owner, Weak}
 use Rattle.step_core.specs.declared.past.Deed.TheVariants.{Lock}
 use Rattle.std.specs.Prelude.{true}
@@ -14,12 +14,14 @@ use Rattle.step_core.proofs.table.Table.try_lock.Goals as goal
 pub block_word-requires-clause-block : goal.block_word-requires-clause-block
 block_word-requires-clause-block c =
     let k : Kept c.args.self.now = kept_now _ _ _ _ c.args.self.now c.self.invariant c.self.view_is in
-    (there c.args.self.now c.args.block k (handle_busy c.args.self.now c.args.desk Weak c.args.block c.args.place k c.requires.held)).1.0
+    (there c.args.self.now c.args.block k
+    (handle_busy c.args.self.now c.args.desk Weak c.args.block c.args.place k c.requires.held)).1.0
 
 pub index-now-requires : goal.index-now-requires
 index-now-requires c =
     let k : Kept c.args.self.now = kept_now _ _ _ _ c.args.self.now c.self.invariant c.self.view_is in
-    let i = inside c.args.self.now c.args.block 0 k (there c.args.self.now c.args.block k (handle_busy c.args.self.now c.args.desk Weak c.args.block c.args.place k c.requires.held)).1 (let q = c.requires in omega arith) in
+    let i = inside c.args.self.now c.args.block 0 k (there c.args.self.now c.args.block k
+    (handle_busy c.args.self.now c.args.desk Weak c.args.block c.args.place k c.requires.held)).1 (let q = c.requires in omega arith) in
     let w : c.self.inside.words.items ≡ c.args.self.now.words = ap (λ (s : Story). s.words) c.self.view_is in
     let b = c.block_word.ensures in
     omega (arith, i, b, ap (length {A = ℕ}) w, c.self.inside.words.ok.0)
@@ -28,7 +30,8 @@ pub returns-then-now-found-clause-word : goal.returns-then-now-found-clause-word
 returns-then-now-found-clause-word c =
     let k : Kept c.args.self.now = kept_now _ _ _ _ c.args.self.now c.self.invariant c.self.view_is in
     let w : c.self.inside.words.items ≡ c.args.self.now.words = ap (λ (s : Story). s.words) c.self.view_is in
-    let i = inside c.args.self.now c.args.block 0 k (there c.args.self.now c.args.block k (handle_busy c.args.self.now c.args.desk Weak c.args.block c.args.place k c.requires.held)).1 (let q = c.requires in omega arith) in
+    let i = inside c.args.self.now c.args.block 0 k (there c.args.self.now c.args.block k
+    (handle_busy c.args.self.now c.args.desk Weak c.args.block c.args.place k c.requires.held)).1 (let q = c.requires in omega arith) in
     let f = found c.self.inside.words.items c.args.self.now.words c.block_word.result _ _ w c.block_word.ensures i c.index-now.ensures in
     f
 
@@ -36,7 +39,8 @@ pub returns-clause-word : goal.returns-clause-word
 returns-clause-word c =
     let k : Kept c.args.self.now = kept_now _ _ _ _ c.args.self.now c.self.invariant c.self.view_is in
     let w : c.self.inside.words.items ≡ c.args.self.now.words = ap (λ (s : Story). s.words) c.self.view_is in
-    let i = inside c.args.self.now c.args.block 0 k (there c.args.self.now c.args.block k (handle_busy c.args.self.now c.args.desk Weak c.args.block c.args.place k c.requires.held)).1 (let q = c.requires in omega arith) in
+    let i = inside c.args.self.now c.args.block 0 k (there c.args.self.now c.args.block k
+    (handle_busy c.args.self.now c.args.desk Weak c.args.block c.args.place k c.requires.held)).1 (let q = c.requires in omega arith) in
     let f = found c.self.inside.words.items c.args.self.now.words c.block_word.result _ _ w c.block_word.ensures i c.index-now.ensures in
     f
 
@@ -44,7 +48,8 @@ pub returns-then-now-found-clause-left : goal.returns-then-now-found-clause-left
 returns-then-now-found-clause-left c =
     let k : Kept c.args.self.now = kept_now _ _ _ _ c.args.self.now c.self.invariant c.self.view_is in
     let w : c.self.inside.words.items ≡ c.args.self.now.words = ap (λ (s : Story). s.words) c.self.view_is in
-    let i = inside c.args.self.now c.args.block 0 k (there c.args.self.now c.args.block k (handle_busy c.args.self.now c.args.desk Weak c.args.block c.args.place k c.requires.held)).1 (let q = c.requires in omega arith) in
+    let i = inside c.args.self.now c.args.block 0 k (there c.args.self.now c.args.block k
+    (handle_busy c.args.self.now c.args.desk Weak c.args.block c.args.place k c.requires.held)).1 (let q = c.requires in omega arith) in
     let f = found c.self.inside.words.items c.args.self.now.words c.block_word.result _ _ w c.block_word.ensures i c.index-now.ensures in
     ap (λ (n : ℕ). n == 0) f ∙ none_left c.args.self.now c.args.desk Weak c.args.block c.args.place k c.requires.seat c.requires.idle c.requires.held
 
@@ -52,7 +57,8 @@ pub returns-clause-left : goal.returns-clause-left
 returns-clause-left c =
     let k : Kept c.args.self.now = kept_now _ _ _ _ c.args.self.now c.self.invariant c.self.view_is in
     let w : c.self.inside.words.items ≡ c.args.self.now.words = ap (λ (s : Story). s.words) c.self.view_is in
-    let i = inside c.args.self.now c.args.block 0 k (there c.args.self.now c.args.block k (handle_busy c.args.self.now c.args.desk Weak c.args.block c.args.place k c.requires.held)).1 (let q = c.requires in omega arith) in
+    let i = inside c.args.self.now c.args.block 0 k (there c.args.self.now c.args.block k
+    (handle_busy c.args.self.now c.args.desk Weak c.args.block c.args.place k c.requires.held)).1 (let q = c.requires in omega arith) in
     let f = found c.self.inside.words.items c.args.self.now.words c.block_word.result _ _ w c.block_word.ensures i c.index-now.ensures in
     ap (λ (n : ℕ). n == 0) f ∙ none_left c.args.self.now c.args.desk Weak c.args.block c.args.place k c.requires.seat c.requires.idle c.requires.held
 
@@ -60,7 +66,8 @@ pub overflow_add-now : goal.overflow_add-now
 overflow_add-now c =
     let k : Kept c.args.self.now = kept_now _ _ _ _ c.args.self.now c.self.invariant c.self.view_is in
     let w : c.self.inside.words.items ≡ c.args.self.now.words = ap (λ (s : Story). s.words) c.self.view_is in
-    let i = inside c.args.self.now c.args.block 0 k (there c.args.self.now c.args.block k (handle_busy c.args.self.now c.args.desk Weak c.args.block c.args.place k c.requires.held)).1 (let q = c.requires in omega arith) in
+    let i = inside c.args.self.now c.args.block 0 k (there c.args.self.now c.args.block k
+    (handle_busy c.args.self.now c.args.desk Weak c.args.block c.args.place k c.requires.held)).1 (let q = c.requires in omega arith) in
     let f = found c.self.inside.words.items c.args.self.now.words c.block_word.result _ _ w c.block_word.ensures i c.index-now.ensures in
     let h = room_above c.args.self.now c.args.desk Owner Weak c.args.block c.args.place k c.requires.seat c.requires.idle c.requires.held in
     omega arith
@@ -68,12 +75,14 @@ overflow_add-now c =
 pub block_word-requires-2-clause-block : goal.block_word-requires-2-clause-block
 block_word-requires-2-clause-block c =
     let k : Kept c.args.self.now = kept_now _ _ _ _ c.args.self.now c.self.invariant c.self.view_is in
-    (there c.args.self.now c.args.block k (handle_busy c.args.self.now c.args.desk Weak c.args.block c.args.place k c.requires.held)).1.0
+    (there c.args.self.now c.args.block k
+    (handle_busy c.args.self.now c.args.desk Weak c.args.block c.args.place k c.requires.held)).1.0
 
 pub index_mut-requires : goal.index_mut-requires
 index_mut-requires c =
     let k : Kept c.args.self.now = kept_now _ _ _ _ c.args.self.now c.self.invariant c.self.view_is in
-    let i = inside c.args.self.now c.args.block 0 k (there c.args.self.now c.args.block k (handle_busy c.args.self.now c.args.desk Weak c.args.block c.args.place k c.requires.held)).1 (let q = c.requires in omega arith) in
+    let i = inside c.args.self.now c.args.block 0 k (there c.args.self.now c.args.block k
+    (handle_busy c.args.self.now c.args.desk Weak c.args.block c.args.place k c.requires.held)).1 (let q = c.requires in omega arith) in
     let w : c.self.inside.words.items ≡ c.args.self.now.words = ap (λ (s : Story). s.words) c.self.view_is in
     let b = c.block_word-2.ensures in
     omega (arith, i, b, ap (length {A = ℕ}) w, c.self.inside.words.ok.0)
@@ -82,7 +91,8 @@ pub invariant_of-self : goal.invariant_of-self
 invariant_of-self c =
     let k : Kept c.args.self.now = kept_now _ _ _ _ c.args.self.now c.self.invariant c.self.view_is in
     let w : c.self.inside.words.items ≡ c.args.self.now.words = ap (λ (s : Story). s.words) c.self.view_is in
-    let i = inside c.args.self.now c.args.block 0 k (there c.args.self.now c.args.block k (handle_busy c.args.self.now c.args.desk Weak c.args.block c.args.place k c.requires.held)).1 (let q = c.requires in omega arith) in
+    let i = inside c.args.self.now c.args.block 0 k (there c.args.self.now c.args.block k
+    (handle_busy c.args.self.now c.args.desk Weak c.args.block c.args.place k c.requires.held)).1 (let q = c.requires in omega arith) in
     let f = found c.self.inside.words.items c.args.self.now.words c.block_word.result _ _ w c.block_word.ensures i c.index-now.ensures in
     let z = c.if-now-found.false in
     kept_as c.args.self.now c.args.desk (Lock c.args.block c.args.place true) _ _ _ _

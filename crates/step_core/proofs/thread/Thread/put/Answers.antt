@@ -1,4 +1,4 @@
-use Rattle.std.proofs.Common.{◌≡◌, ◌∙◌, Bool, false, cond, subst, refl, sym, ap, ⊎_elim}
+use Rattle.std.proofs.Common.{◌≡◌, ◌∙◌, Bool, false, cond, subst, refl, sym, ap}
 use Rattle.std.specs.Prelude.{Option, None, is_some}
 use Rattle.step_core.specs.declared.act.Act.TheVariants as act
 use Rattle.step_core.specs.declared.holdings.Pointer.{Pointer}

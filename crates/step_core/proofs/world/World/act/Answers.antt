@@ -1,4 +1,4 @@
-use Rattle.std.proofs.Common.{◌≡◌, ◌∙◌, true, sym, subst}
+use Rattle.std.proofs.Common.{◌∙◌, sym, subst}
 use Rattle.step_core.specs.declared.said.Turned.{Turned}
 use Rattle.step_core.specs.Turning.{Plays}
 use Rattle.step_core.specs.Worlds.{half_of}
