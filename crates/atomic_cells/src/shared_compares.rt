@@ -14,7 +14,6 @@ use control_block::cell_compare_calls;
 use control_block::cell_plays::Aimed;
 use control_block::desk::Desk;
 use control_block::domain::Domain;
-
 use control_word::{Refusal, Refused};
 use shared_handle::Shared;
 use std::marker::Brand;

@@ -76,7 +76,12 @@ pub(crate) fn put(domain: &Domain<u64>, desk: &mut Desk<u64>, at: SharedAt, owne
 }
 
 // A weak pointer goes into a cell.
-fn put_weak(domain: &Domain<u64>, desk: &mut Desk<u64>, at: WeakAt, weak: handles::Weak) -> Was
+pub(crate) fn put_weak(
+    domain: &Domain<u64>,
+    desk: &mut Desk<u64>,
+    at: WeakAt,
+    weak: handles::Weak,
+) -> Was
     requires domain { Belongs desk.old domain.now }
     requires cell { at.index < desk.old.shape.weak_cells }
     requires held { Holds desk.old Weak weak.block weak.place }

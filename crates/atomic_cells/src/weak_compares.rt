@@ -10,13 +10,11 @@ ghost use Rattle.atomic_cells.specs.Compares.{Compares, GivesBack, came_out, has
 use crate::compared::Compared;
 use crate::weak_at::WeakAt;
 use control_block::cell_calls::Content;
-use control_block::cell_compare_calls;
 use control_block::cell_plays::Aimed;
 use control_block::desk::Desk;
 use control_block::domain::Domain;
-use control_block::handles;
+use control_block::{cell_compare_calls, handles};
 use control_word::{Refusal, Refused};
-
 use std::marker::Brand;
 use std::sync::Wait;
 

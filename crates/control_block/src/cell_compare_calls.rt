@@ -56,8 +56,9 @@ pub fn compare<V: Drop + Send, A: Aimed, R: Wait>(
         taken: 0,
     };
     let seat = &mut desk.seat;
-    let (swapped, seen) =
-        cell_compares::compare::<V, A, R>(rt, board, seat, word, cell.kind, there, full);
+    let (swapped, seen) = cell_compares::compare::<V, A, R>(
+        rt, board, seat, word, cell.kind, there, full,
+    );
     desk.held += u32::from(!swapped);
     Ok((
         swapped,

@@ -43,8 +43,7 @@ pub compare-swapped-requires-clause-new : goal.compare-swapped-requires-clause-n
 compare-swapped-requires-clause-new g c =
     let r = c.requires in let d = c.desk.inside in let h = c.desk.invariant in let v = d.seat.me.0 in let k = c.args.cell.kind in
     let b = c.args.new.block in let p = c.args.new.place in let y = c.args.desk.now in let lost = g.A.Aimed.new in
-    let new_is : lost ≡ in_seat v k b p = r.new ∙ ap (λ (z : DeskNow g.row.V.Denot). handle_in z k b p) (sym c.desk.view_is) in
-    (
+    let new_is : lost ≡ in_seat v k b p = r.new ∙ ap (λ (z : DeskNow g.row.V.Denot). handle_in z k b p) (sym c.desk.view_is) in (
       lost_word d y k p h c.desk.view_is b r.holds.1 r.proper.1,
       refl,
       subst (λ (z : Handle). IsWordOf v z record { owned = b; place = p; taken = 0 }) (sym new_is) (lost_shows d y k p h c.desk.view_is b r.holds.1),
@@ -56,8 +55,7 @@ compare-swapped-requires-clause-hands g c =
     let b = c.args.new.block in let p = c.args.new.place in let y = c.args.desk.now in let lost = g.A.Aimed.new in
     let new_is : lost ≡ in_seat v k b p = r.new ∙ ap (λ (z : DeskNow g.row.V.Denot). handle_in z k b p) (sym c.desk.view_is) in
     let there = g.A.Aimed.expected in let q = c.args.expected.block in let o = c.args.expected.place in
-    let there_is : there ≡ in_seat v k q o = r.expected ∙ ap (λ (z : DeskNow g.row.V.Denot). handle_in z k q o) (sym c.desk.view_is) in
-    (
+    let there_is : there ≡ in_seat v k q o = r.expected ∙ ap (λ (z : DeskNow g.row.V.Denot). handle_in z k q o) (sym c.desk.view_is) in (
       subst (λ (z : Handle). InHand (known v) v.view.name k z) (sym there_is) (lost_hand d y k o h c.desk.view_is q r.holds.0 r.proper.0),
       subst (λ (z : Handle). InHand (known v) v.view.name k z) (sym new_is) (lost_hand d y k p h c.desk.view_is b r.holds.1 r.proper.1),
     )
