@@ -1,5 +1,5 @@
 -- What holds after each step of a run, and of each of its steps.
-use Rattle.std.specs.Prelude.{◌≡◌, ◌≢◌, ◌↔◌, ◌⊎◌, ℕ, ◌+◌, ◌-◌, ◌<◌, ◌≤◌, Bool, true, List, [], ◌∷◌, ◌++◌, slice_index, Option, None, MatchOption}
+use Rattle.std.specs.Prelude.{◌≡◌, ◌≢◌, ◌↔◌, ◌⊎◌, ℕ, ◌+◌, ◌-◌, ◌<◌, ◌≤◌, Bool, true, List, [], ◌∷◌, ◌++◌, slice_index, Option, Some, None, MatchOption}
 use Rattle.control_word.specs.declared.event.Event.{Event}
 use Rattle.control_word.specs.declared.event.Event.TheVariants.{Leave, Lock}
 use Rattle.control_word.specs.declared.handle.Handle.{Handle}
@@ -9,13 +9,14 @@ use Rattle.control_word.specs.Layout.{spot}
 use Rattle.control_word.specs.Packing.{number_of}
 use Rattle.control_word.specs.State.{InShape, State, common, count, live, weak}
 use Rattle.control_word.specs.Views.{IsAtRest}
+use Rattle.step_core.specs.declared.said.Answer.{Answer}
 use Rattle.step_core.specs.declared.said.Ended.{Ended}
 use Rattle.step_core.specs.declared.said.Stepped.{Stepped}
 use Rattle.step_core.specs.declared.said.Stepped.TheVariants.{Event as Step, Quiet, Waited, Done}
 use Rattle.step_core.specs.declared.trace.TraceStep.{TraceStep}
 use Rattle.step_core.specs.Openings.{opening}
 use Rattle.step_core.specs.Runs.{reached}
-use Rattle.step_core.specs.Scenes.{remains}
+use Rattle.step_core.specs.Scenes.{lock_answer, remains}
 use Rattle.step_core.specs.Stories.{Nothing, state}
 use Rattle.step_core.specs.Worlds.{Sight}
 
@@ -86,6 +87,19 @@ abbrev pub TellsWhatIsLeft : Sight → TraceStep → Sight → Type 0
 TellsWhatIsLeft u x u' =
     MatchOption (ended_by x.stepped) ((o : ℕ) → LastLeft o u x u' → ⊥)
     (λ e. (o : ℕ) × LastLeft o u x u' × (e ≡ remains ((state u.story).object o)))
+
+-- what a step answers
+abbrev pub answer_by : Stepped → Option Answer
+answer_by (Step x) = x.answer
+answer_by (Quiet x) = x.answer
+answer_by Waited = None
+answer_by Done = None
+
+-- a lock says whether it gave an owner; one that must give an owner is refused where it did not ([util.smartptr.weak.obs],
+-- [util.smartptr.shared.const])
+abbrev pub TellsLocks : Sight → TraceStep → Sight → Type 0
+TellsLocks u x u' =
+    (w : Handle) (gave : Bool) → Was (Lock w gave) u x u' → (must : Bool) × (answer_by x.stepped ≡ Some (lock_answer must gave))
 
 -- no block is in the midst of anything
 abbrev pub AllAtRest : Sight → Type 0

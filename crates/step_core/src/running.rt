@@ -1,7 +1,7 @@
 //! Runs: one step for each number of a list, and then each actor alone to its end.
 ghost use Rattle.std.specs.Prelude.{◌≡◌, ◌+◌, ◌-◌, ◌<◌, ◌≤◌, ◌∷◌, ◌++◌, ℕ, [], All, IfErr, IfOk, MatchOption, length, map, slice_get, sum_by, vec_capacity, vec_len};
 ghost use Rattle.step_core.specs.Bounds.{most_steps, tasks_of};
-ghost use Rattle.step_core.specs.Headline.{AfterEach, AllAtRest, CountsAtRest, LocksWhereOwned, OfEach, TellsWhatIsLeft, ValuesAtLastLeave, ValuesOnce};
+ghost use Rattle.step_core.specs.Headline.{AfterEach, AllAtRest, CountsAtRest, LocksWhereOwned, OfEach, TellsLocks, TellsWhatIsLeft, ValuesAtLastLeave, ValuesOnce};
 ghost use Rattle.step_core.specs.Runs.{Adds, IsFirstBad, IsRefusedFor, IsRun, IsScheduled, Names, RunInOrder, RunsToEnd};
 ghost use Rattle.step_core.specs.Stories.{Kept};
 ghost use Rattle.step_core.specs.Totals.{IsAtEnd};
@@ -27,6 +27,7 @@ impl World {
         ensures scheduled { IfOk result (λ t. IsScheduled turns.now self.old t.steps.items self.new) }
         ensures counts { IfOk result (λ t. AfterEach CountsAtRest self.old t.steps.items) }
         ensures locks { IfOk result (λ t. OfEach LocksWhereOwned self.old t.steps.items) }
+        ensures answers { IfOk result (λ t. OfEach TellsLocks self.old t.steps.items) }
         ensures once { IfOk result (λ t. AfterEach ValuesOnce self.old t.steps.items) }
         ensures values { IfOk result (λ t. OfEach ValuesAtLastLeave self.old t.steps.items) }
         ensures told { IfOk result (λ t. OfEach TellsWhatIsLeft self.old t.steps.items) }

@@ -2,10 +2,11 @@ use Rattle.std.proofs.Common.{length, ap, subst, arith}
 use Rattle.step_core.specs.Worlds.{Sight}
 use Rattle.step_core.proofs.runs.Chains.{whole}
 use Rattle.step_core.proofs.runs.Ends.{at_end}
-use Rattle.step_core.specs.Headline.{CountsAtRest, LocksWhereOwned, TellsWhatIsLeft, ValuesAtLastLeave, ValuesOnce}
+use Rattle.step_core.specs.Headline.{CountsAtRest, LocksWhereOwned, TellsLocks, TellsWhatIsLeft, ValuesAtLastLeave, ValuesOnce}
 use Rattle.step_core.specs.Runs.{IsRun}
 use Rattle.step_core.specs.Stories.{Kept}
 use Rattle.step_core.specs.Totals.{IsAtEnd}
+use Rattle.step_core.proofs.runs.Answers.{tells_locks}
 use Rattle.step_core.proofs.runs.Says.{tells}
 use Rattle.step_core.proofs.telling.Census.{at_rest, still_now}
 use Rattle.step_core.proofs.runs.Headline.{after_each, counts, last_leaves, locks, of_each, values}
@@ -38,6 +39,9 @@ returns-clause-counts c = after_each CountsAtRest c.args.self.now c.finish.new.s
 
 pub returns-clause-locks : goal.returns-clause-locks
 returns-clause-locks c = of_each LocksWhereOwned c.args.self.now c.finish.new.self c.finish.new.steps.items (all c) (start c) locks
+
+pub returns-clause-answers : goal.returns-clause-answers
+returns-clause-answers c = of_each TellsLocks c.args.self.now c.finish.new.self c.finish.new.steps.items (all c) (start c) tells_locks
 
 pub returns-clause-once : goal.returns-clause-once
 returns-clause-once c = after_each ValuesOnce c.args.self.now c.finish.new.self c.finish.new.steps.items (all c) (start c) values

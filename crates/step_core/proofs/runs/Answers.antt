@@ -1,0 +1,183 @@
+-- What locks answer.
+use Rattle.std.proofs.Common.{◌≡◌, ℕ, ◌+◌, ◌-◌, ◌==◌, Bool, true, false, cond, List, [], ◌∷◌, length, get_or, refl, sym, ap, subst, ◌∙◌, arith}
+use Rattle.std.specs.Prelude.{Option, Some, None, not, option_map}
+use Rattle.std.proofs.lemmas.Bool.{cond_both}
+use Rattle.control_word.specs.declared.event.Entry.{Entry}
+use Rattle.control_word.specs.declared.event.Event.{Event}
+use Rattle.control_word.specs.declared.event.Event.TheVariants as event
+use Rattle.control_word.specs.declared.handle.Handle.{Handle}
+use Rattle.control_word.specs.declared.handle.Kind.{Kind}
+use Rattle.control_word.specs.declared.handle.Kind.TheVariants.{Owner, Weak}
+use Rattle.control_word.specs.declared.place.Block.{Block}
+use Rattle.control_word.specs.Histories.{entry}
+use Rattle.control_word.specs.State.{State, weak}
+use Rattle.step_core.specs.declared.act.Act.{Act}
+use Rattle.step_core.specs.declared.act.Act.TheVariants.{Make, Share, Downgrade, Lock, Put, Leave, Clear, Count, Expired}
+use Rattle.step_core.specs.declared.act.Task.{Task}
+use Rattle.step_core.specs.declared.half.Half.{Half}
+use Rattle.step_core.specs.declared.half.Half.TheVariants.{Rest, Making, Ending, Locking}
+use Rattle.step_core.specs.declared.holdings.Pointer.{Pointer}
+use Rattle.step_core.specs.declared.past.Deed.{Deed}
+use Rattle.step_core.specs.declared.past.Deed.TheVariants as deed
+use Rattle.step_core.specs.declared.said.Answer.{Answer}
+use Rattle.step_core.specs.declared.said.Stepped.{Stepped}
+use Rattle.step_core.specs.declared.said.Stepped.TheVariants as stepped
+use Rattle.step_core.specs.declared.trace.TraceStep.{TraceStep}
+use Rattle.step_core.specs.Actors.{wanted}
+use Rattle.step_core.specs.Courses.{Walk, fields_of, locked}
+use Rattle.step_core.specs.Deeds.{as_owner, downgrade, is_expired, is_last, leave, leave_as, lock, owner_word, share, share_as, tell, tell_expired}
+use Rattle.step_core.specs.Headline.{TellsLocks, Was, answer_by}
+use Rattle.step_core.specs.Holdings.{is_full, slot}
+use Rattle.step_core.specs.Scenes.{found, least, lock_answer, on, walk_of}
+use Rattle.step_core.specs.Steps.{Step, acts, begins, begun, claims, ends_on, first, is_event, looks, made_on, prepares, silent, step_at, stepped as stepped_by, story_after, story_by, tried, tries, trying}
+use Rattle.step_core.specs.Stories.{Nothing, Story, added, event_of, known, object_in, pending, state}
+use Rattle.step_core.specs.Worlds.{Sight, half_of, scene, step_of}
+use Rattle.step_core.proofs.runs.Headline.{IsStep}
+
+-- what a deed gave that is a lock
+abbrev lock_of : Option Deed → Option Bool
+lock_of None = None
+lock_of (Some (deed.Lock b p got)) = Some got
+lock_of (Some _) = None
+
+abbrev Says : Option Bool → Option Answer → Type 0
+Says None answer = Unit {0}
+Says (Some got) answer = (must : Bool) × (answer ≡ Some (lock_answer must got))
+
+abbrev Tells : Option Step → Type 0
+Tells None = Unit {0}
+Tells (Some x) = Says (lock_of x.deed) x.said.answer
+
+plain : (f : Pointer → Deed) (answer : Option Answer) → ((x : Pointer) → lock_of (Some (f x)) ≡ None) → (o : Option Pointer)
+    → Says (lock_of (option_map f o)) answer
+plain f answer none None = tt
+plain f answer none (Some x) = subst (λ (l : Option Bool). Says l answer) (sym (none x)) tt
+
+share_plain : (k : Kind) (x : Pointer) → lock_of (Some (share_as k x)) ≡ None
+share_plain Owner x = refl
+share_plain Weak x = refl
+
+leave_plain : (k : Kind) (x : Pointer) (last : Bool) → lock_of (Some (leave_as k x last)) ≡ None
+leave_plain Owner x last = refl
+leave_plain Weak x last = refl
+
+begin_tells : (w : Walk) (k : ℕ) (ts : List Task) (o : Option ℕ) → Tells (Some (begins w k ts o))
+begin_tells w k ts None = tt
+begin_tells w k ts (Some b) = tt
+
+-- an owner is given where one is left
+given : (s : State) (x : Pointer) → is_full (found s (Some x)) ≡ not (is_expired s x)
+given s x = go (is_expired s x)
+  where
+    go : (b : Bool) → is_full (cond b None (Some (as_owner x))) ≡ not b
+    go true = refl
+    go false = refl
+
+lock_done : (v : Story) (d k i : ℕ) (w : Walk) (ts : List Task) (must : Bool) (x : Pointer) → locked w.slots (Lock i must) ≡ Some x
+    → Tells (Some (acts (state v) d w k ts (Lock i must) (Some (lock (state v) x)) Rest))
+lock_done v d k i w ts must x at =
+    (must, ap (λ (o : Option Pointer). Some (lock_answer must (is_full (found (state v) o)))) at ∙ ap (λ (b : Bool). Some (lock_answer must b)) (given (state v) x))
+
+lock_tells : (v : Story) (d k i : ℕ) (w : Walk) (ts : List Task) (must : Bool) (o : Option Pointer) → locked w.slots (Lock i must) ≡ o
+    → Tells (Some (on (looks v d w k ts (Lock i must)) (acts (state v) d w k ts (Lock i must) None Rest) o))
+lock_tells v d k i w ts must None at = tt
+lock_tells v d k i w ts must (Some x) at =
+    cond_both (owner_word v x == 0) (acts (state v) d w k ts (Lock i must) (Some (lock (state v) x)) Rest) (trying w k (owner_word v x))
+    (λ (s : Step). Tells (Some s)) (λ e. lock_done v d k i w ts must x at) (λ e. tt)
+
+first_tells : (v : Story) (d k : ℕ) (w : Walk) (ts : List Task) (a : Act) → Tells (Some (first v d w k ts a))
+first_tells v d k w ts (Make fields) = begin_tells w k ts (least d (state v).stores)
+first_tells v d k w ts (Share i) = plain share _ (λ x. share_plain x.kind x) (slot w.slots i)
+first_tells v d k w ts (Put i) = plain (leave (state v)) _ (λ x. leave_plain x.kind x (is_last (state v) x)) (slot w.slots i)
+first_tells v d k w ts (Leave i) = plain (leave (state v)) _ (λ x. leave_plain x.kind x (is_last (state v) x)) (slot w.slots i)
+first_tells v d k w ts (Clear i) = plain (leave (state v)) _ (λ x. leave_plain x.kind x (is_last (state v) x)) (slot w.slots i)
+first_tells v d k w ts (Count i) = plain (tell (state v)) _ (λ x. refl) (slot w.slots i)
+first_tells v d k w ts (Downgrade i) = plain downgrade _ (λ x. refl) (slot w.slots i)
+first_tells v d k w ts (Expired i) = plain (tell_expired (state v)) _ (λ x. refl) (slot w.slots i)
+first_tells v d k w ts (Lock i must) = lock_tells v d k i w ts must (locked w.slots (Lock i must)) refl
+
+rest_tells : (v : Story) (d : ℕ) (w : Walk) (ts : List Task) → Tells (begun v d w ts)
+rest_tells v d w [] = tt
+rest_tells v d w (t ∷ ts) = first_tells v d t.statement w ts t.act
+
+prepared_tells : (found want k i : ℕ) (w : Walk) (b : Block) (f : Bool) → Tells (Some (prepares found want w k b i f))
+prepared_tells found want k i w b true = tt
+prepared_tells found want k i w b false = tt
+
+make_tells : (v : Story) (d i : ℕ) (w : Walk) (b : Block) (f : Bool) (ts : List Task) → Tells (made_on v d w b i f ts)
+make_tells v d i w b f [] = tt
+make_tells v d i w b f (t ∷ ts) =
+    let found = get_or (known (pending v d)) i 0 in
+    let want = get_or (wanted (fields_of t.act)) i 0 in
+    cond_both (i == 5) (claims w t.statement ts b (fields_of t.act)) (prepares found want w t.statement b i f) (λ (x : Step). Tells (Some x))
+    (λ e. tt) (λ e. prepared_tells found want t.statement i w b f)
+
+end_tells : (v : Story) (stage k : ℕ) (w : Walk) (b : Block) → Tells (Some (ends_on v w b stage k))
+end_tells v stage k w b =
+    cond_both (stage == 3)
+    (record { deed = Some (deed.Finish b (weak (state v) (object_in v b) == 0)); half = Rest; walk = w; said = silent k })
+    (record { deed = Some (deed.Clear b stage); half = Ending b (stage + 1) k; walk = w; said = silent k })
+    (λ (x : Step). Tells (Some x)) (λ e. tt) (λ e. tt)
+
+tried_tells : (v : Story) (d word : ℕ) (w : Walk) (ts : List Task) → Tells (tried v d w word ts)
+tried_tells v d word w [] = tt
+tried_tells v d word w (t ∷ ts) = go t.act
+  where
+    one : (i : ℕ) (must : Bool) (o : Option Pointer) → locked w.slots (Lock i must) ≡ o → Tells (option_map (tries v d w t.statement ts (Lock i must) word) o)
+    one i must None at = tt
+    one i must (Some x) at =
+        cond_both (owner_word v x == word) (acts (state v) d w t.statement ts (Lock i must) (Some (lock (state v) x)) Rest)
+        (trying w t.statement (owner_word v x)) (λ (s : Step). Tells (Some s)) (λ e. lock_done v d t.statement i w ts must x at) (λ e. tt)
+
+    go : (a : Act) → Tells (option_map (tries v d w t.statement ts a word) (locked w.slots a))
+    go (Lock i must) = one i must (locked w.slots (Lock i must)) refl
+    go _ = tt
+
+step_tells : (v : Story) (d : ℕ) (h : Half) (w : Walk) → Tells (step_at v d h w)
+step_tells v d Rest w = rest_tells v d w w.todo
+step_tells v d (Making b i f) w = make_tells v d i w b f w.todo
+step_tells v d (Ending b stage k) w = end_tells v stage k w b
+step_tells v d (Locking word) w = tried_tells v d word w w.todo
+
+as_answered : (v : Story) (x : Step) → answer_by (stepped_by v (Some x)) ≡ x.said.answer
+as_answered v x =
+    cond_both (is_event v x.deed) (stepped.Event x.said) (stepped.Quiet x.said) (λ (r : Stepped). answer_by r ≡ x.said.answer) (λ e. refl)
+    (λ e. refl)
+
+-- what the newest event gave, if it is a lock
+abbrev gave_by : Event Nothing → Option Bool
+gave_by (event.Lock w got) = Some got
+gave_by _ = None
+
+abbrev newest_gave : List (Entry Nothing) → Option Bool
+newest_gave [] = None
+newest_gave (e ∷ h) = gave_by e.event
+
+-- an event that is a lock comes by a deed that is one
+by_deed : (v : Story) (d : ℕ) (y : Deed) (w : Handle) (gave : Bool) → added d (event_of v y) v.history ≡ entry d (event.Lock w gave) ∷ v.history
+    → lock_of (Some y) ≡ Some gave
+by_deed v d (deed.Lock b p got) w gave e = ap newest_gave e
+by_deed v d (deed.Prepare b) w gave e = absurd (let n = ap (λ (h : List (Entry Nothing)). length h) e in omega (arith, n))
+by_deed v d (deed.Write b j n) w gave e = absurd (let m = ap (λ (h : List (Entry Nothing)). length h) e in omega (arith, m))
+by_deed v d _ w gave e = ap newest_gave e
+
+pub tells_locks : (u : Sight) (x : TraceStep) (u' : Sight) → IsStep u x u' → TellsLocks u x u'
+tells_locks u x u' step = λ w gave was.
+    go w gave was (step_of (x.actor - 1) u) (ap (λ (m : Sight). m.story.history) step.steps.1) step.steps.0
+    (step_tells u.story (x.actor - 1) (half_of u (x.actor - 1)) (walk_of (scene u) (x.actor - 1)))
+  where
+    no_event : (w : Handle) (gave : Bool) → Was (event.Lock w gave) u x u' → u'.story.history ≡ u.story.history → ⊥
+    no_event w gave was same = let n = ap (λ (h : List (Entry Nothing)). length h) (sym same ∙ was) in omega (arith, n)
+
+    go : (w : Handle) (gave : Bool) → Was (event.Lock w gave) u x u' → (y : Option Step)
+        → u'.story.history ≡ (story_by u.story (x.actor - 1) y).history → x.stepped ≡ stepped_by u.story y → Tells y
+        → (must : Bool) × (answer_by x.stepped ≡ Some (lock_answer must gave))
+    go w gave was None now is says = absurd (no_event w gave was now)
+    go w gave was (Some y) now is says = at y.deed now says
+      where
+        at : (z : Option Deed) → u'.story.history ≡ (story_after u.story (x.actor - 1) z).history → Says (lock_of z) y.said.answer
+            → (must : Bool) × (answer_by x.stepped ≡ Some (lock_answer must gave))
+        at None here answers = absurd (no_event w gave was here)
+        at (Some z) here answers =
+            let s = subst (λ (l : Option Bool). Says l y.said.answer) (by_deed u.story (x.actor - 1) z w gave (sym here ∙ was)) answers in
+            (s.0, ap answer_by is ∙ as_answered u.story y ∙ s.1)
