@@ -1,5 +1,6 @@
 -- What the steps of one call on a cell come to.
-use Rattle.std.proofs.Common.{◌≡◌, ◌≢◌, ℕ, ◌+◌, ◌-◌, ◌<◌, ◌∷◌, ◌++◌, ◌&&◌, ◌==◌, eq-eqb, [], Bool, true, false, true≢false, List, Option, Some, None, cond, refl, sym, ap, subst, ◌∙◌, inl, arith}
+use Rattle.std.proofs.Common.{◌≡◌, ◌≢◌, ℕ, ◌+◌, ◌-◌, ◌<◌, ◌∷◌, ◌++◌, ◌&&◌, ◌==◌, eq-eqb, [], Bool, true}
+use Rattle.std.proofs.Common.{false, true≢false, List, Option, Some, None, cond, refl, sym, ap, subst, ◌∙◌, inl, arith}
 use Rattle.std.specs.Prelude.{IfSome, is_some}
 use Rattle.atomic_table.specs.Seated.{TableId}
 use Rattle.control_word.proofs.history.Given.{names_an_object}
