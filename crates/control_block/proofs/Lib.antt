@@ -10,6 +10,8 @@ pub mod Still
 pub mod CellWords
 pub mod Hands
 pub mod Slots
+pub mod LastOwners
+pub mod Visiting
 pub mod Fixed
 pub mod Chairs
 pub mod Parts

@@ -15,7 +15,7 @@ use Rattle.control_word.specs.Histories.{entry, leads, value}
 use Rattle.control_word.specs.State.{InShape, Object, Opening, State, ending, gone, put}
 use Rattle.control_word.specs.Words.{blocks_of}
 use Rattle.control_word.specs.declared.event.Event.{Event}
-use Rattle.control_word.specs.declared.event.Event.TheVariants.{Finish, Leave, Make}
+use Rattle.control_word.specs.declared.event.Event.TheVariants.{Finish, Leave, Make, Visit}
 use Rattle.control_word.specs.declared.handle.Handle.{Handle}
 use Rattle.control_word.specs.declared.handle.Kind.{Kind}
 use Rattle.control_word.specs.declared.handle.Kind.TheVariants.{Owner}
@@ -41,6 +41,14 @@ module _ {V : Type 0} where
               (cond last (moved_to (ending n) (t.object (object_of h))) (t.object (object_of h)))
               (t.latest b) (not_live z t b n fine ends h n asks.0)) ∙ ends;
           value = refl;
+        }
+
+    pub visit_spares : (h : Handle) (was becomes : V) → Asks t n (Visit h was becomes) → Spares t f n (Visit h was becomes) b
+    visit_spares h was becomes asks =
+        record {
+          latest = refl;
+          phase = ends;
+          value = put_other f (object_of h) (Some becomes) (t.latest b) (not_live z t b n fine ends h n asks);
         }
 
     pub make_spares : (c : Block) (enabled null : Bool) (fields : List ℕ) (x : V) → Asks t n (Make c enabled null fields x)

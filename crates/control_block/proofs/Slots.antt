@@ -1,26 +1,31 @@
 -- Where slots are, and what becomes of them at the steps that change an object.
 use Rattle.std.proofs.Common.{◌≡◌, ◌≢◌, ◌⊎◌, ℕ, ◌-◌, ◌≤◌, true, false, List, [], ◌∷◌, Option, Some, None}
 use Rattle.std.proofs.Common.{refl, sym, ap, subst, ◌∙◌, inl, inr, ⊎_elim, arith, eq-eqb, ◌==◌}
-use Rattle.std.proofs.lemmas.Bool.{cases_eq}
+use Rattle.std.proofs.lemmas.Bool.{cases_eq, cond-true}
 use mathlib.Core.Option.{some, some-injective}
 use lib.ListN.{get_elem?}
 use Rattle.atomic_table.specs.Table as Table
 use Rattle.atomic_table.proofs.Lists.{at_map}
-use Rattle.control_word.proofs.history.Legal.{sound}
+use Rattle.control_word.proofs.history.Given.{names_an_object}
+use Rattle.control_word.proofs.history.Legal.{held_busy, sound}
 use Rattle.control_word.proofs.history.Moving.{live_busy}
 use Rattle.control_word.proofs.lists.Tallies.{has_without, num_has, num_without, put_other, stored_self, stored_true}
 use Rattle.control_word.specs.Events.{Asks, after}
 use Rattle.control_word.specs.Histories.{entry, leads, value, valued}
-use Rattle.control_word.specs.State.{Has, InShape, Object, Phase, State, Stored, ending, gone, live, put, same_stored, stored, unmade, without}
+use Rattle.control_word.specs.State.{Has, held, InShape, Object, Phase, State, Stored, ending, gone, live, put, same_stored, stored, unmade, without}
 use Rattle.control_word.specs.Laws.{how_often}
-use Rattle.control_word.specs.Views.{Fits, Names}
+use Rattle.control_word.specs.Views.{Fits, Names, adds}
+use Rattle.control_word.specs.Handles.{handle}
+use Rattle.control_word.specs.Layout.{spot}
+use Rattle.control_word.specs.declared.handle.Kind.TheVariants.{Owner}
+use Rattle.control_word.specs.declared.place.Place.{Place}
 use Rattle.control_word.specs.declared.event.Entry.{Entry}
 use Rattle.control_word.specs.declared.event.Event.{Event}
 use Rattle.control_word.specs.declared.place.Block.{Block}
 use Rattle.control_word.specs.declared.shape.Shape.{Shape}
 use Rattle.control_word.specs.declared.view.Pending.{Pending}
 use Rattle.control_word.specs.declared.view.Pending.TheVariants.{Idle, Making, Merging, Parting, Paying, Visiting}
-use Rattle.control_block.specs.Rule.{opening_of, view_of, kept, while_live, IsMaking, IsSlotOf, IsBacked, IsOut, Ruled}
+use Rattle.control_block.specs.Rule.{opening_of, view_of, kept, while_live, IsUsing, IsSlotOf, IsBacked, IsOut, Ruled}
 use Rattle.control_block.specs.declared.board.Sight.{Sight}
 use Rattle.control_block.proofs.Endings.{ends_busy, ends_here, stays_after}
 use Rattle.control_block.proofs.Passage.{backed_still}
@@ -53,52 +58,76 @@ keeps_none gone x n = refl
 keeps_none (ending d) x n = refl
 
 module _ {V : Type 0} where
-  -- who makes an object in a block has the block in its store
-  making_stored : (words : List ℕ) (s : State) (f : ℕ → Option V) (d b : ℕ) (p : Pending V) → Fits words s f d p → IsMaking p b
-      → Has (stored d b) s.stores
-  making_stored words s f d b Idle fits m = absurd m
-  making_stored words s f d b (Making c l) fits m = subst (λ x. Has (stored d x) s.stores) m fits.0
-  making_stored words s f d b (Paying k o p w x y) fits m = absurd m
-  making_stored words s f d b (Visiting o p w x) fits m = absurd m
-  making_stored words s f d b (Parting to) fits m = absurd m
-  making_stored words s f d b (Merging other x y) fits m = absurd m
+  -- a desk visits the object in the block: it has an owner of it, and shut its door
+  pub record Visits (s : State) (d b : ℕ) (p : Pending V) : Type 0 where
+    pub object : ℕ
+    pub place : Option Place
+    pub has : Has (held d (handle Owner (Some object) place)) s.hands
+    pub there : (s.object object).block ≡ b
+    pub door : adds p (spot b 2) ≡ 4
+
+  -- who makes an object in a block has the block in its store, and who visits one an owner of it
+  used_by : (words : List ℕ) (s : State) (f : ℕ → Option V) (d b : ℕ) (p : Pending V) → 1 ≤ b → ((o : ℕ) (q : Option Place)
+      → Has (held d (handle Owner (Some o) q)) s.hands → 1 ≤ (s.object o).block) → Fits words s f d p → IsUsing p b
+      → Has (stored d b) s.stores ⊎ Visits s d b p
+  used_by words s f d b Idle low blocks fits m = absurd m
+  used_by words s f d b (Making c l) low blocks fits m = inl (subst (λ x. Has (stored d x) s.stores) m fits.0)
+  used_by words s f d b (Paying k o p w x y) low blocks fits m = absurd m
+  used_by words s f d b (Visiting o p w x) low blocks fits m =
+      let here = blocks o p fits.0 in let e : spot (s.object o).block 2 ≡ spot b 2 = sym fits.1 ∙ m in
+      inr record {
+        object = o;
+        place = p;
+        has = fits.0;
+        there = omega arith;
+        door = cond-true (spot b 2 == w) 4 0 (eq-eqb (spot b 2) w (sym m));
+      }
+  used_by words s f d b (Parting to) low blocks fits m = absurd m
+  used_by words s f d b (Merging other x y) low blocks fits m = absurd m
 
   module _ (k : Shape) (s : Table.State (Option V) (Sight V)) (r : Ruled k s) where
-    -- a slot that is out is that of a vacant block in its holder's store, or of an ending of its
-    out_means : (b : ℕ) (j : ℕ) (u : Sight V) → get_elem? s.views j ≡ some u → u.view.spent ≡ false → IsSlotOf u.hand b
+    -- a slot that is out is that of a vacant block in its holder's store, of an object that it visits, or of an ending of its
+    out_means : (b : ℕ) (j : ℕ) (u : Sight V) → 1 ≤ b → get_elem? s.views j ≡ some u → u.view.spent ≡ false → IsSlotOf u.hand b
         → let t = leads (opening_of k) r.history in
-        Has (stored u.view.name b) t.stores ⊎ ((t.object (t.latest b)).phase ≡ ending u.view.name)
-    out_means b j u there un has = go u.hand refl has
+        (Has (stored u.view.name b) t.stores ⊎ Visits t u.view.name b u.view.pending) ⊎ ((t.object (t.latest b)).phase ≡ ending u.view.name)
+    out_means b j u low there un has = go u.hand refl has
       where
+        blocks : (o : ℕ) (q : Option Place) → Has (held u.view.name (handle Owner (Some o) q)) (leads (opening_of k) r.history).hands
+            → 1 ≤ ((leads (opening_of k) r.history).object o).block
+        blocks o q h = (names_an_object (opening_of k) r.history r.stands.legal u.view.name Owner (handle Owner (Some o) q) (h, refl, refl)).3.0
+
         go : (c : Option Block) → u.hand ≡ c → IsSlotOf c b
             → let t = leads (opening_of k) r.history in
-            Has (stored u.view.name b) t.stores ⊎ ((t.object (t.latest b)).phase ≡ ending u.view.name)
+            (Has (stored u.view.name b) t.stores ⊎ Visits t u.view.name b u.view.pending) ⊎ ((t.object (t.latest b)).phase ≡ ending u.view.name)
         go None e h = absurd h
         go (Some c) e h =
             let t = leads (opening_of k) r.history in
             let fits = (r.stands.team.seated j u.view (at_map view_of s.views j u there) un).fits in
             let back : IsBacked t u.view.name u.view.pending (Some c) = subst (IsBacked t u.view.name u.view.pending) e (r.backed j u there un) in
             ⊎_elim
-            (λ (m : IsMaking u.view.pending c.0). inl (making_stored s.words t (value
-            (opening_of k) r.history) u.view.name b u.view.pending fits (subst (IsMaking u.view.pending) h m)))
+            (λ (m : IsUsing u.view.pending c.0). inl (used_by s.words t (value
+            (opening_of k) r.history) u.view.name b u.view.pending low blocks fits (subst (IsUsing u.view.pending) h m)))
             (λ (m : (t.object (t.latest c.0)).phase ≡ ending u.view.name). inr (ap (λ x. (t.object (t.latest x)).phase) (sym h) ∙ m)) back
 
     -- the slot of a live object is at home, with its value
     pub live_home : (b o : ℕ) → InShape (opening_of k) b → (leads (opening_of k) r.history).latest b ≡ o
         → ((leads (opening_of k) r.history).object o).block ≡ b
-        → ((leads (opening_of k) r.history).object o).phase ≡ live → get_elem? s.homes (b - 1) ≡ some (some (value (opening_of k) r.history o))
-    live_home b o inside is there alive =
+        → ((leads (opening_of k) r.history).object o).phase ≡ live
+        → ((j : ℕ) (u : Sight V) → get_elem? s.views j ≡ some u → u.view.spent ≡ false → IsSlotOf u.hand b
+        → Visits (leads (opening_of k) r.history) u.view.name b u.view.pending → ⊥)
+        → get_elem? s.homes (b - 1) ≡ some (some (value (opening_of k) r.history o))
+    live_home b o inside is there alive unvisited =
         let t = leads (opening_of k) r.history in let fine = sound (opening_of k) r.history r.stands.legal in
         ⊎_elim
         (λ (e : get_elem? s.homes (b - 1) ≡ some (some (kept (opening_of k) r.history b))).
         e ∙ ap (λ x. some (some x)) (ap (λ x. while_live (t.object x).phase (value (opening_of k) r.history x)) is
         ∙ ap (λ x. while_live x (value (opening_of k) r.history o)) alive))
         (λ (q : IsOut s.views b). absurd (⊎_elim
-        (λ (m : Has (stored q.1.view.name b) t.stores). let v = (fine.stores q.1.view.name b m).0 o there in
-        let w = live_busy t o alive in omega arith)
+        (⊎_elim (λ (m : Has (stored q.1.view.name b) t.stores). let v = (fine.stores q.1.view.name b m).0 o there in
+        let w = live_busy t o alive in omega arith) (λ m. unvisited q.0 q.1 q.2 q.3 q.4 m))
         (λ (m : (t.object (t.latest b)).phase ≡ ending q.1.view.name). live_ends q.1.view.name (sym alive
         ∙ (ap (λ x. (t.object x).phase) (sym is) ∙ m)))
-        (out_means b q.0 q.1 q.2 q.3 q.4))) (r.homes b inside)
+        (out_means b q.0 q.1 inside.0 q.2 q.3 q.4))) (r.homes b inside)
 
     -- a desk that has nothing in hand finds the empty slot of an own vacant block at home
     pub vacant_home : (id : ℕ) (v : Sight V) → get_elem? s.views id ≡ some v → v.view.spent ≡ false → v.hand ≡ None → (b : ℕ)
@@ -112,16 +141,18 @@ module _ {V : Type 0} where
         ⊎_elim (λ (e : get_elem? s.homes (b - 1) ≡ some (some (kept z r.history b))). e
         ∙ ap (λ x. some (some x)) (keeps_none (t.object o).phase (value z r.history o) dead))
         (λ (q : IsOut s.views b). absurd (⊎_elim
-        (λ (m : Has (stored q.1.view.name b) t.stores).
+        (⊎_elim (λ (m : Has (stored q.1.view.name b) t.stores).
         let same = one_store v.view.name q.1.view.name b t.stores (fine.once b) mine m in
         ⊎_elim (λ (i : q.0 ≡ id). subst (λ c. IsSlotOf c b) free (subst (λ (u : Sight V). IsSlotOf u.hand b) (some-injective q.1 v (sym q.2
         ∙ (ap (get_elem? s.views) i ∙ at))) q.4))
         (λ (n : q.0 ≢ id). n (r.stands.team.names q.0 id q.1.view v.view (at_map view_of s.views q.0 q.1 q.2)
         (at_map view_of s.views id v at) q.3 awake
         q.1.view.name (inl refl) (inl same))) (cases_eq q.0 id))
+        (λ (m : Visits t q.1.view.name b q.1.view.pending).
+        let w = held_busy z t q.1.view.name m.object Owner m.place fine m.has in let u = vacant.0 m.object m.there in omega arith))
         (λ (m : (t.object o).phase ≡ ending q.1.view.name). let w = ends_busy z t b q.1.view.name fine m in
         let u = vacant.0 o (ends_here z t b q.1.view.name fine m) in omega arith)
-        (out_means b q.0 q.1 q.2 q.3 q.4))) (r.homes b vacant.1)
+        (out_means b q.0 q.1 vacant.1.0 q.2 q.3 q.4))) (r.homes b vacant.1)
 
     -- what others have in hand is backed still after an event of the seat's
     pub others_still : (id : ℕ) (v : Sight V) → get_elem? s.views id ≡ some v → v.view.spent ≡ false → (e : Event V)

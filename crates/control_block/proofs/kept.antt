@@ -7,6 +7,7 @@ pub mod CellLook
 pub mod CellDiffer
 pub mod Take
 pub mod Refill
+pub mod Door
 pub mod Swap
 pub mod CompareSwap
 pub mod WeakShare

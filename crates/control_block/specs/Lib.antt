@@ -2,6 +2,7 @@ pub mod Rule
 pub mod Plays
 pub mod LockPlays
 pub mod LockCalls
+pub mod DoorPlays
 pub mod FundPlays
 pub mod CellPlays
 pub mod CellRounds

@@ -7,11 +7,11 @@ use Rattle.control_word.specs.declared.event.Entry.{Entry}
 use Rattle.control_word.specs.declared.place.Block.{Block}
 use Rattle.control_word.specs.declared.shape.Shape.{Shape}
 use Rattle.control_word.specs.declared.view.Pending.{Pending}
-use Rattle.control_word.specs.declared.view.Pending.TheVariants.{Idle, Making}
+use Rattle.control_word.specs.declared.view.Pending.TheVariants.{Idle, Making, Visiting}
 use Rattle.control_word.specs.declared.view.View.{View}
 use Rattle.control_word.specs.Handles.{empty}
 use Rattle.control_word.specs.Histories.{leads, value}
-use Rattle.control_word.specs.Layout.{IsWithinLimits}
+use Rattle.control_word.specs.Layout.{IsWithinLimits, spot}
 use Rattle.control_word.specs.State.{Opening, State, Phase, unmade, live, gone, ending, InShape, kind_of_member}
 use Rattle.control_word.specs.Views.{Stands, sees_as}
 use Rattle.control_block.specs.declared.board.Sight.{Sight}
@@ -52,14 +52,16 @@ module _ {V : Type 0} where
   abbrev pub kept : Opening → List (Entry V) → ℕ → Option V
   kept z h b = let o = (leads z h).latest b in while_live ((leads z h).object o).phase (value z h o)
 
-  abbrev pub IsMaking : Pending V → ℕ → Type 0
-  IsMaking (Making b known) c = b.0 ≡ c
-  IsMaking _ c = ⊥
+  -- the half-done call has the slot of block c: a make in it, or a visit of its object
+  abbrev pub IsUsing : Pending V → ℕ → Type 0
+  IsUsing (Making b known) c = b.0 ≡ c
+  IsUsing (Visiting o p word v) c = word ≡ spot c 2
+  IsUsing _ c = ⊥
 
-  -- who has a slot in hand is making an object in its block, or has the ending of the object there
+  -- who has a slot in hand is making an object in its block or visiting the one there, or has its ending
   abbrev pub IsBacked : State → ℕ → Pending V → Option Block → Type 0
   IsBacked s d p None = Unit {0}
-  IsBacked s d p (Some c) = IsMaking p c.0 ⊎ ((s.object (s.latest c.0)).phase ≡ ending d)
+  IsBacked s d p (Some c) = IsUsing p c.0 ⊎ ((s.object (s.latest c.0)).phase ≡ ending d)
 
   -- one unspent seat has the slot of block b
   abbrev pub IsOut : List (Sight V) → ℕ → Type 0

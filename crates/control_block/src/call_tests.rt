@@ -115,7 +115,7 @@ fn count_one_empty(desk: &mut Desk<u64>) -> Option<(bool, u32, u32)>
 }
 
 // A sole desk closes its domain.
-fn shut(domain: Domain<u64>, desk: Desk<u64>)
+pub(crate) fn shut(domain: Domain<u64>, desk: Desk<u64>)
     requires domain { desk.domain ≡ domain.id }
     requires sole { allowance_of desk ≡ domain.shape.allowance }
 {
@@ -125,7 +125,7 @@ fn shut(domain: Domain<u64>, desk: Desk<u64>)
     }
 }
 
-fn shape(allowance: u32) -> Shape
+pub(crate) fn shape(allowance: u32) -> Shape
     ensures { result ≡ record { blocks = 1; shared_cells = 0; weak_cells = 0; allowance = allowance } }
 {
     Shape {

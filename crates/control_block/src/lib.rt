@@ -14,6 +14,8 @@ pub mod cells;
 pub mod census;
 pub mod desk;
 pub mod domain;
+pub mod door_plays;
+pub mod doors;
 pub mod fund_plays;
 pub mod funds;
 pub mod handles;
@@ -30,4 +32,7 @@ mod split_tests;
 mod steps;
 #[cfg(test)]
 mod tests;
+#[cfg(test)]
+mod visit_tests;
+pub mod visits;
 mod weak_parts;

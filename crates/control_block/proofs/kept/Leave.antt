@@ -33,6 +33,7 @@ use Rattle.control_block.specs.Plays.{At, Holding, Rests, gave_back, left}
 use Rattle.control_block.specs.declared.board.Sight.{Sight}
 use Rattle.control_block.proofs.Passage.{adds, held_there, next, point, quiet_next, ready}
 use Rattle.control_block.proofs.Slots.{kept_else, live_home, live_unmade, others_still, slots_apart}
+use Rattle.control_block.proofs.LastOwners.{unvisited}
 use Rattle.control_block.proofs.kept.Look.{looked}
 use Rattle.control_block.proofs.kept.WeakLeave.{falls}
 
@@ -119,7 +120,9 @@ module _ {V : Type 0} where
             seeing v Idle (Some b) h,
             takes (b.0 - 1) (Some x.0),
             live_home k s r b.0 o n.3 n.2 (held_there k s r id v at rests.awake Owner o p b.0 holds).1
-                (alive k s r id v at rests.awake rests.empty o p b holds) ∙ ap (λ y. some (some y)) x.1,
+                (alive k s r id v at rests.awake rests.empty o p b holds)
+                (unvisited k s r id v at rests.awake rests.empty o b.0 p (held_there k s r id v at rests.awake Owner o p b.0 holds).0 n.2 now.legal.1.asks.1)
+                ∙ ap (λ y. some (some y)) x.1,
             leaves_last k s r id v at rests.awake rests.empty o p b holds _ now,
             (
               λ m. absurd (m q),

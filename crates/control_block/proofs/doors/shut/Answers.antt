@@ -1,0 +1,60 @@
+use Rattle.std.proofs.Common.{◌==◌, ◌+◌, ◌-◌, ◌<◌, ◌∙◌, ◌∷◌, ℕ, Some, None, sym, ap, subst, inl, arith}
+use Rattle.atomic_table.specs.Table.{Allows, rest, step}
+use mathlib.Core.Option.{none}
+use prog.Atomic.{either}
+use Rattle.control_word.specs.declared.handle.Kind.TheVariants.{Owner}
+use Rattle.control_word.specs.declared.place.Block.{Block}
+use Rattle.control_block.specs.DoorPlays.{shut}
+use Rattle.control_block.specs.Plays.{At, peeked}
+use Rattle.control_block.specs.Rule.{Ruled}
+use Rattle.control_block.proofs.Chairs.{in_hand, same_value}
+use Rattle.control_block.proofs.Visiting.{visits_now}
+use Rattle.control_block.proofs.kept.Door.{allows_shut}
+use Rattle.control_block.proofs.kept.Peek.{allows_peek}
+use Rattle.control_block.proofs.doors.shut.Goals as goal
+
+pub load-found-requires : goal.load-found-requires
+load-found-requires g c =
+    let r = c.requires in let e = c.block_word-word.ensures in let i = c.block_word-word.result in let board = c.args.board.now in
+    let l = c.loop.invariant in let slots = board.table_id.slots in let o = g.M.Meant.object in (
+      l.2 ∙ r.board,
+      subst (λ x. x < board.table_id.words) (sym e) r.word.1,
+      subst (λ (m : At g.row.V.Denot × ℕ). Allows (Ruled board.key) slots c.loop.chair.id m.0 i (λ n. n) (peeked o m.1 (step slots i 0 0 none) m.0))
+          (λ j. (sym l.4 j, sym r.holds.1 j))
+          (allows_peek board.key slots c.loop.chair.id c.args.block.0 o i 0 c.args.chair.now.me r.rests.awake (inl (Owner, g.M.Meant.place, r.holds.2)) (omega arith) e),
+    )
+
+pub compare_exchange-requires : goal.compare_exchange-requires
+compare_exchange-requires g c =
+    let r = c.requires in let e = c.block_word-word.ensures in let i = c.block_word-word.result in let board = c.args.board.now in
+    let l = c.loop.invariant in let slots = board.table_id.slots in let o = g.M.Meant.object in let p = g.M.Meant.place in
+    let t = c.load-found.ensures in let found : ℕ = c.load-found.result in let id = c.load-found.new.seat.id in (
+      t.0 ∙ (l.2 ∙ r.board),
+      subst (λ x. x < board.table_id.words) (sym e) r.word.1,
+      subst (λ (m : At g.row.V.Denot × Block). Allows (Ruled board.key) slots id m.0 i (λ n. either (n == found) (found + 4) n) (shut m.1 o p (step slots i found (found + 4) none) m.0))
+          (λ j. (sym (t.2.0 ∙ l.4) j, sym r.holds.0 j))
+          (allows_shut board.key slots id o i found c.args.block p c.args.chair.now.me r.rests r.holds.2 e c.if-found-lt-DOOR.true),
+    )
+
+pub exchange-requires : goal.exchange-requires
+exchange-requires g c =
+    let r = c.requires in let l = c.loop.invariant in let t = c.load-found.ensures in let q = c.compare_exchange.ensures in
+    let h = q.2.0 c.if-compare_exchange-found.true in (
+      q.0 ∙ (t.0 ∙ (l.2 ∙ r.board)),
+      (
+        Some h.0,
+        in_hand c.compare_exchange.new.seat.me.1 _ (Some h.0) _ (h.3
+            ∙ ap (λ (b : ℕ). (b - 1, Some h.0) ∷ c.load-found.new.seat.me.1) (ap (λ (b : Block). b.0) r.holds.0 ∙ sym c.from.ensures)),
+      ),
+    )
+
+pub returns-then-compare_exchange-found-clause-visiting : goal.returns-then-compare_exchange-found-clause-visiting
+returns-then-compare_exchange-found-clause-visiting g c =
+    let r = c.requires in let l = c.loop.invariant in let t = c.load-found.ensures in let q = c.compare_exchange.ensures in
+    let h = q.2.0 c.if-compare_exchange-found.true in let x = c.exchange.ensures in let o = g.M.Meant.object in let p = g.M.Meant.place in
+    let me = t.2.0 ∙ l.4 in let b = ap (λ (b : Block). b.0) r.holds.0 ∙ sym c.from.ensures in
+    let same = same_value c.compare_exchange.new.seat.me (c.from.result - 1) h.0 c.in-Some-exchange.value c.exchange.result _
+    (h.3 ∙ ap (λ (y : ℕ). (y - 1, Some h.0) ∷ c.load-found.new.seat.me.1) b) x.2 c.in-Some-exchange.is in
+    visits_now c.args.chair.now.me.0 c.load-found.new.seat.me c.compare_exchange.new.seat.me c.exchange.new.seat.me g.M.Meant.block c.args.block o p
+    c.block_word-word.result h.0 c.in-Some-exchange.value (ap (λ m. m.0) me) r.holds.0 c.block_word-word.ensures same h.1 h.2
+    (x.3 ∙ (λ j. (c.compare_exchange.new.seat.me.0, (c.from.ensures j - 1, None) ∷ (ap rest h.3 ∙ (ap (λ m. m.1) me ∙ r.rests.none)) j)))
