@@ -29,6 +29,9 @@ mod test_parts;
 #[cfg(test)]
 mod tests;
 mod this;
+#[cfg(test)]
+mod visit_tests;
+mod visiting;
 mod weak_looks;
 mod weaks;
 
@@ -41,5 +44,6 @@ pub use making::{empty, empty_weak, make, make_null};
 pub use ordering::{HasOwner, owner_before};
 pub use sharing::{alias, release, share};
 pub use this::{shared_from_this, weak_from_this};
+pub use visiting::visit;
 pub use weak_looks::{expired, use_count_weak};
 pub use weaks::{release_weak, share_weak};

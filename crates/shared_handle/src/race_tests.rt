@@ -40,7 +40,7 @@ fn both_leave<R: Threads>(
 
 // An object with two owners, each on a desk of its own.
 #[tactic(auto, using(crate::proofs::Taken::first_out))]
-fn two_desks(
+pub(crate) fn two_desks(
     domain: &Domain<u64>,
     one: &mut Desk<u64>,
     alloc: Global,
