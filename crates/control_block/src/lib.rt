@@ -1,32 +1,32 @@
 //! Control blocks that desks share between threads: the table, its rule, and each kind of atomic step.
 #![tactic(auto)]
 
-pub mod board;
+mod board;
 #[cfg(test)]
 mod call_tests;
 pub mod calls;
 pub mod cell_calls;
 pub mod cell_compare_calls;
-pub mod cell_compares;
+mod cell_compares;
 pub mod cell_plays;
-pub mod cell_rounds;
-pub mod cells;
+mod cell_rounds;
+mod cells;
 pub mod census;
 pub mod desk;
 pub mod domain;
-pub mod door_plays;
-pub mod doors;
-pub mod fund_plays;
-pub mod funds;
+mod door_plays;
+mod doors;
+mod fund_plays;
+mod funds;
 pub mod handles;
-pub mod join;
+mod join;
 pub mod lock_calls;
-pub mod lock_plays;
-pub mod locks;
+mod lock_plays;
+mod locks;
 mod pause;
-pub mod plays;
+mod plays;
 mod shared_parts;
-pub mod split;
+mod split;
 #[cfg(test)]
 mod split_tests;
 mod steps;
