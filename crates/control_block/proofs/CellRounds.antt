@@ -1,15 +1,15 @@
 -- What the steps of one call on a cell come to.
-use Rattle.std.proofs.Common.{◌≡◌, ◌≢◌, ℕ, ◌+◌, ◌-◌, ◌<◌, ◌∷◌, ◌++◌, ◌&&◌, ◌==◌, eq-eqb, [], Bool, true}
+use Rattle.std.proofs.Common.{◌≡◌, ◌≢◌, ℕ, ◌+◌, ◌-◌, ◌<◌, ◌∷◌, ◌++◌, ◌&&◌, eq-eqb, [], Bool, true}
 use Rattle.std.proofs.Common.{false, true≢false, List, Option, Some, None, cond, refl, sym, ap, subst, ◌∙◌, inl, arith}
 use Rattle.std.specs.Prelude.{IfSome, is_some}
 use Rattle.atomic_table.specs.Seated.{TableId}
 use Rattle.control_word.proofs.history.Given.{names_an_object}
 use Rattle.control_word.specs.Events.{InHand, after, fills, gets, loses}
-use Rattle.control_word.specs.Handles.{empty, equivalent, handle, has_object, object_of, same_number, same_place}
-use Rattle.control_word.specs.Histories.{IsLegal, entry, leads}
+use Rattle.control_word.specs.Handles.{empty, equivalent, handle, has_object, same_number, same_place}
+use Rattle.control_word.specs.Histories.{IsLegal, leads}
 use Rattle.control_word.specs.Layout.{cell_place, spot}
 use Rattle.control_word.specs.State.{Has, Held, InShape, State, held}
-use Rattle.control_word.specs.Words.{block_of, blocks_of, shown, slot}
+use Rattle.control_word.specs.Words.{block_of, blocks_of, slot}
 use Rattle.control_word.specs.declared.cell.CellWord.{CellWord}
 use Rattle.control_word.specs.declared.event.Cell.{Cell}
 use Rattle.control_word.specs.declared.event.Cell.TheVariants.{Free, Member}
@@ -27,7 +27,7 @@ use Rattle.control_block.specs.CellRounds.{CameOut, IsCounted}
 use Rattle.control_block.specs.FundPlays.{Owes, owing}
 use Rattle.control_block.specs.Inside.{IsSized}
 use Rattle.control_block.specs.Plays.{Added, At, Holding, Rests, goes_on, in_call, known, tells}
-use Rattle.control_block.specs.Rule.{opening_of, seeing}
+use Rattle.control_block.specs.Rule.{opening_of}
 use Rattle.control_block.specs.declared.board.Sight.{Sight}
 use Rattle.control_block.proofs.Chairs.{added_as}
 

@@ -1,5 +1,5 @@
 -- What a desk saw without owner stays so, and its locks of it give none.
-use Rattle.std.proofs.Common.{◌≡◌, ◌==◌, ◌∷◌, ◌++◌, ℕ, Bool, false, not, Option, Some, None, refl, sym, ap, subst, ◌∙◌, eq-eqb}
+use Rattle.std.proofs.Common.{◌≡◌, ◌++◌, ℕ, Bool, false, not, Option, Some, None, refl, sym, ap, subst, ◌∙◌, eq-eqb}
 use Rattle.control_word.proofs.history.Given.{stays_expired}
 use Rattle.control_word.specs.Handles.{handle}
 use Rattle.control_word.specs.Histories.{IsLegal, leads}

@@ -1,4 +1,4 @@
-use Rattle.std.proofs.Common.{◌≡◌, None, not, true, refl, sym, ap, subst, ◌∙◌}
+use Rattle.std.proofs.Common.{not, refl, sym, ap, subst, ◌∙◌}
 use Rattle.control_block.specs.CellPlays.{IsWordOf}
 use Rattle.control_block.specs.Plays.{At}
 use Rattle.control_block.proofs.CellRounds.{hand_at, hand_of_cell, not_none, unmoved_alike}

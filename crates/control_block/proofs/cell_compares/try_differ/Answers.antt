@@ -1,4 +1,4 @@
-use Rattle.std.proofs.Common.{false, refl, sym, ap, subst, ◌∙◌}
+use Rattle.std.proofs.Common.{false, refl, sym, ap, subst}
 use Rattle.atomic_table.specs.Seated.{TableId}
 use Rattle.control_word.specs.Handles.{empty}
 use Rattle.control_word.specs.declared.event.Event.{Event}

@@ -3,8 +3,7 @@ use Rattle.control_word.specs.declared.event.Event.TheVariants.{Compare}
 use Rattle.control_word.specs.declared.handle.Kind.{Kind}
 use Rattle.control_word.specs.declared.shape.Shape.{Shape}
 use Rattle.atomic_table.specs.Seated.{TableId}
-use Rattle.control_block.specs.CellPlays.{Gave, debt, kind_in}
-use Rattle.control_block.specs.CellRounds.{IsCounted}
+use Rattle.control_block.specs.CellPlays.{Gave, kind_in}
 use Rattle.control_block.specs.Inside.{IsSized}
 use Rattle.control_block.proofs.CellRounds.{gave_counted, compare_trades}
 use Rattle.control_block.proofs.cell_compares.try_swap.Goals as goal

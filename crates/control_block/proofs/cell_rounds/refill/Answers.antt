@@ -1,5 +1,4 @@
-use Rattle.std.proofs.Common.{◌≡◌, refl, sym, subst, ◌∙◌}
-use Rattle.control_word.specs.declared.handle.Kind.{Kind}
+use Rattle.std.proofs.Common.{◌≡◌, sym, subst, ◌∙◌}
 use Rattle.control_block.specs.CellPlays.{kind_in}
 use Rattle.control_block.specs.Plays.{At, Rests}
 use Rattle.control_block.proofs.CellRounds.{refill_owes}

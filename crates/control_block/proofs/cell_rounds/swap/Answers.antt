@@ -1,10 +1,9 @@
-use Rattle.std.proofs.Common.{Option, sym, ap, subst, ◌∙◌}
+use Rattle.std.proofs.Common.{sym, ap, subst, ◌∙◌}
 use Rattle.control_word.specs.declared.event.Event.TheVariants.{Swap}
 use Rattle.control_word.specs.declared.handle.Kind.{Kind}
 use Rattle.control_word.specs.declared.shape.Shape.{Shape}
 use Rattle.atomic_table.specs.Seated.{TableId}
 use Rattle.control_block.specs.CellPlays.{Gave, debt, kind_in}
-use Rattle.control_block.specs.CellRounds.{IsCounted}
 use Rattle.control_block.specs.Inside.{IsSized}
 use Rattle.control_block.proofs.CellRounds.{gave_counted, hand_in_call, swap_trades}
 use Rattle.control_block.proofs.cell_rounds.swap.Goals as goal

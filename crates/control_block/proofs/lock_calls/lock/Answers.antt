@@ -1,11 +1,11 @@
-use Rattle.std.proofs.Common.{refl, sym, ap, ◌∙◌, arith, ◌∷◌, ◌==◌, not, Some, None, true, false, subst}
+use Rattle.std.proofs.Common.{refl, sym, ap, ◌∙◌, arith, ◌∷◌, Some, None, true, false}
 use Rattle.control_word.specs.Handles.{handle}
 use Rattle.control_word.specs.declared.event.Event.TheVariants.{Lock}
 use Rattle.control_word.specs.declared.handle.Kind.TheVariants.{Owner, Weak}
 use Rattle.control_word.specs.declared.view.Pending.TheVariants.{Idle}
 use Rattle.control_block.specs.Desks.{bag_of, on_latest}
 use Rattle.control_block.specs.Inside.{desk_now}
-use Rattle.control_block.proofs.DeskBags.{adds_of, bag_gets, bag_stays, block_still, holding_in, keeps_quietly, room_left}
+use Rattle.control_block.proofs.DeskBags.{bag_gets, bag_stays, block_still, holding_in, keeps_quietly}
 use Rattle.control_block.proofs.DeskSteps.{as_many, came, one_more, quiet_desk, word_inside}
 use Rattle.control_block.proofs.DeskLocks.{none_after}
 use Rattle.control_block.proofs.lock_calls.lock.Goals as goal
