@@ -29,7 +29,7 @@ use workers::Team;
 
 const SHAPE: Shape = Shape {
     blocks: 1_024,
-    shared_cells: 5,
+    shared_cells: 9,
     weak_cells: 0,
     allowance: 64,
 };
@@ -63,7 +63,7 @@ fn with_team<R: Clock + CpuClock + Threads + Wait + Sync + Print>(
     passes: u32,
 ) -> io::Result<()>
     requires domain { (desk.old.domain ≡ domain.now.id) × (desk.old.shape ≡ domain.now.shape) }
-    requires cells { 4 < domain.now.shape.shared_cells }
+    requires cells { 8 < domain.now.shape.shared_cells }
     ensures domain { desk.new.domain ≡ domain.now.id }
     ensures sum { allowance_of desk.new ≡ allowance_of desk.old }
 {

@@ -19,7 +19,8 @@ pub(crate) const ALLOWANCE: u32 = 8;
 /// How many blocks it has: so many that what lies a byte apart for neighbouring blocks shares no cache line between desks.
 pub(crate) const BLOCKS: u32 = 128;
 
-/// The cell that all workers have in common; each has one more of its own.
+/// The cell that all workers have in common. Each has one more of its own, with an unused one between any two: 128 bytes
+/// apart, as the peers' are.
 pub(crate) const COMMON_CELL: u32 = 0;
 
 /// What a thread is lent.
@@ -220,14 +221,14 @@ pub(crate) fn hire_team(
     alloc: Global,
     common: &Shared,
 ) -> Option<Team>
-    requires cells { 4 < domain.now.shape.shared_cells }
+    requires cells { 8 < domain.now.shape.shared_cells }
     requires desk { IsManaged domain.now desk.old common.now }
     ensures desk { IsManaged domain.now desk.new common.now }
     ensures sum { MatchOption result (allowance_of desk.new ≡ allowance_of desk.old) (λ _. allowance_of desk.new + 32 ≡ allowance_of desk.old) }
     ensures ready { IfSome result (λ t. IsTeamReady domain.now t) }
 {
-    let front = hire_pair(domain, desk, alloc, common, 1, 2)?;
-    match hire_pair(domain, desk, alloc, common, 3, 4) {
+    let front = hire_pair(domain, desk, alloc, common, 2, 4)?;
+    match hire_pair(domain, desk, alloc, common, 6, 8) {
         Some(back) => Some(Team { front, back }),
         None => {
             dismiss_pair(domain, desk, front, common);
