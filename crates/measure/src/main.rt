@@ -1,4 +1,4 @@
-//! `measure PASSES`: what a caller waits for each call on handles, with 1, 2 and 4 threads. It prints lines
+//! `measure PASSES`: what a caller waits for each call on handles and cells, with 1, 2 and 4 threads. It prints lines
 //! "test|peer|threads|nanoseconds|share", as the peers' programs do, and nothing without an argument.
 #![tactic(auto)]
 
