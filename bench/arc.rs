@@ -1,13 +1,16 @@
-//! What a caller waits for `Arc` and `Weak` of Rust's library, by thread count.
+//! What a caller waits for `Arc` and `Weak` of Rust's library, for an `Arc` in a `Mutex`, and with
+//! `--cfg arc_swap` for one in an `ArcSwap`, by thread count.
 //! Prints lines "test|peer|threads|nanoseconds|share", so many of each as the argument says, as peers.cpp does.
 use std::hint::{black_box, spin_loop};
+use std::mem;
 use std::sync::atomic::{AtomicI64, AtomicUsize, Ordering::SeqCst};
-use std::sync::{Arc, Weak};
+use std::sync::{Arc, Mutex, Weak};
 use std::time::{Duration, Instant};
 
 const SPAN: Duration = Duration::from_millis(3);
 const CHUNK: u64 = 2_000;
 const MOST_THREADS: usize = 4;
+const PEER: &str = "Rust Arc";
 
 type Object = [u64; 4];
 
@@ -32,8 +35,13 @@ fn processor_time() -> f64 {
     time.seconds as f64 * 1e9 + time.nanoseconds as f64
 }
 
+/// A row of an operation.
+fn time_row(test: &str, peer: &str, threads: usize, work: impl Fn(usize) + Sync) {
+    time_chunks(test, peer, threads, |thread| (0..CHUNK).for_each(|_| work(thread)));
+}
+
 /// The threads meet, and work in chunks until a common moment. A row is the time of all by the operations of all.
-fn time_row(test: &str, threads: usize, work: impl Fn(usize) + Sync) {
+fn time_chunks(test: &str, peer: &str, threads: usize, work: impl Fn(usize) + Sync) {
     let (ready, end, base) = (AtomicUsize::new(0), AtomicI64::new(0), Instant::now());
     let now = || base.elapsed().as_nanos() as i64;
     let run = |thread: usize| {
@@ -45,7 +53,7 @@ fn time_row(test: &str, threads: usize, work: impl Fn(usize) + Sync) {
         }
         let (start, before, mut operations) = (Instant::now(), processor_time(), 0);
         while {
-            (0..CHUNK).for_each(|_| work(thread));
+            work(thread);
             operations += CHUNK;
             now() < end.load(SeqCst)
         } {}
@@ -61,25 +69,105 @@ fn time_row(test: &str, threads: usize, work: impl Fn(usize) + Sync) {
     let least = spent.iter().map(|s| s.0).fold(f64::MAX, f64::min);
     let most = spent.iter().map(|s| s.0).fold(0.0, f64::max);
     let share = spent.iter().map(|s| s.1 / s.0).fold(least / most, f64::min);
-    println!("{test}|Rust Arc|{threads}|{:.2}|{:.0}", wall / operations, 100.0 * share);
+    println!("{test}|{peer}|{threads}|{:.2}|{:.0}", wall / operations, 100.0 * share);
+}
+
+/// What holds an `Arc`, and any thread loads and changes.
+trait Cell: Sync {
+    const PEER: &str;
+    fn holding(handle: Arc<Object>) -> Self;
+    fn load(&self) -> Arc<Object>;
+    fn exchange(&self, handle: Arc<Object>) -> Arc<Object>;
+    fn compare_exchange(&self, expected: &Arc<Object>, desired: Arc<Object>) -> bool;
+}
+
+impl Cell for Mutex<Arc<Object>> {
+    const PEER: &str = PEER;
+
+    fn holding(handle: Arc<Object>) -> Self {
+        Mutex::new(handle)
+    }
+
+    fn load(&self) -> Arc<Object> {
+        self.lock().unwrap().clone()
+    }
+
+    fn exchange(&self, handle: Arc<Object>) -> Arc<Object> {
+        mem::replace(&mut *self.lock().unwrap(), handle)
+    }
+
+    fn compare_exchange(&self, expected: &Arc<Object>, desired: Arc<Object>) -> bool {
+        let mut held = self.lock().unwrap();
+        let equal = Arc::ptr_eq(&held, expected);
+        let old = if equal { mem::replace(&mut *held, desired) } else { desired };
+        drop(held);
+        drop(old);
+        equal
+    }
+}
+
+#[cfg(arc_swap)]
+impl Cell for arc_swap::ArcSwap<Object> {
+    const PEER: &str = "Rust arc-swap";
+
+    fn holding(handle: Arc<Object>) -> Self {
+        arc_swap::ArcSwap::new(handle)
+    }
+
+    fn load(&self) -> Arc<Object> {
+        self.load_full()
+    }
+
+    fn exchange(&self, handle: Arc<Object>) -> Arc<Object> {
+        self.swap(handle)
+    }
+
+    fn compare_exchange(&self, expected: &Arc<Object>, desired: Arc<Object>) -> bool {
+        Arc::ptr_eq(&self.compare_and_swap(expected, desired), expected)
+    }
+}
+
+/// The rows of cells: each thread's holds the thread's object, and the common one the first thread's.
+fn time_cells<C: Cell>(threads: usize, own: &[Apart<Arc<Object>>]) {
+    let peer = C::PEER;
+    let cells: Vec<_> = own.iter().map(|owner| Apart(C::holding(owner.0.clone()))).collect();
+    let common = Apart(C::holding(own[0].0.clone()));
+    time_row("cell load + release, own cell", peer, threads, |t| drop(black_box(cells[t].0.load())));
+    time_row("cell load + release, one cell", peer, threads, |_| drop(black_box(common.0.load())));
+    time_row("cell store of a copy, own cell", peer, threads, |t| drop(cells[t].0.exchange(own[t].0.clone())));
+    time_chunks("cell exchange, own cell", peer, threads, |t| {
+        let mut handle = own[t].0.clone();
+        for _ in 0..CHUNK {
+            handle = cells[t].0.exchange(handle);
+        }
+        drop(black_box(handle));
+    });
+    time_row("cell compare_exchange of a copy, own cell", peer, threads, |t| {
+        black_box(cells[t].0.compare_exchange(&own[t].0, own[t].0.clone()));
+    });
 }
 
 fn main() {
     let make = || Arc::<Object>::new([1, 2, 3, 4]);
     let own: Vec<_> = (0..MOST_THREADS).map(|_| Apart(make())).collect();
+    let weak: Vec<_> = own.iter().map(|owner| Apart(Arc::downgrade(&owner.0))).collect();
     let rounds = std::env::args().nth(1).and_then(|word| word.parse().ok()).unwrap_or(1);
     for _ in 0..rounds {
         for threads in [1, 2, 4] {
-            time_row("make + end", threads, |_| drop(black_box(make())));
-            time_row("share + release, own object", threads, |t| drop(black_box(own[t].0.clone())));
-            time_row("share + release, one object", threads, |_| drop(black_box(own[0].0.clone())));
-            time_row("downgrade + release_weak, own object", threads, |t| {
+            time_row("make + end", PEER, threads, |_| drop(black_box(make())));
+            time_row("share + release, own object", PEER, threads, |t| drop(black_box(own[t].0.clone())));
+            time_row("share + release, one object", PEER, threads, |_| drop(black_box(own[0].0.clone())));
+            time_row("downgrade + release_weak, own object", PEER, threads, |t| {
                 let weak: Weak<Object> = Arc::downgrade(&own[t].0);
                 drop(black_box(weak));
             });
-            time_row("use_count, own object", threads, |t| {
+            time_row("use_count, own object", PEER, threads, |t| {
                 black_box(Arc::strong_count(black_box(&own[t].0)));
             });
+            time_row("lock + release, own object", PEER, threads, |t| drop(black_box(weak[t].0.upgrade())));
+            time_cells::<Mutex<Arc<Object>>>(threads, &own);
+            #[cfg(arc_swap)]
+            time_cells::<arc_swap::ArcSwap<Object>>(threads, &own);
         }
     }
 }

@@ -1,4 +1,4 @@
-// What a caller waits for shared_ptr and weak_ptr of libstdc++ and of Boost, by thread count.
+// What a caller waits for shared_ptr, weak_ptr and atomic shared_ptr of libstdc++ and of Boost, by thread count.
 // Prints lines "test|peer|threads|nanoseconds|share", so many of each as the argument says, as the program `measure` of crates/
 // and arc.rs do.
 #include <algorithm>
@@ -10,9 +10,11 @@
 #include <ctime>
 #include <memory>
 #include <thread>
+#include <utility>
 #include <vector>
 
 #if __has_include(<boost/smart_ptr/make_shared.hpp>)
+#include <boost/smart_ptr/atomic_shared_ptr.hpp>
 #include <boost/smart_ptr/make_shared.hpp>
 #include <boost/smart_ptr/weak_ptr.hpp>
 #define WITH_BOOST
@@ -74,12 +76,20 @@ template <class Work> void time_row(char const *test, char const *peer, int thre
     std::printf("%s|%s|%d|%.2f|%.0f\n", test, peer, threads, wall / operations, 100 * std::min(share, least / most));
 }
 
-template <class Shared, class Weak, Shared (*make)()> struct Peer {
+template <class Shared, class Weak, class Cell, Shared (*make)()> struct Peer {
     Apart<Shared> own[most_threads];
     Apart<Weak> weak[most_threads];
+    Apart<Cell> cell[most_threads];
+    Apart<Cell> common;
 
     Peer() {
         for (int i = 0; i < most_threads; i++) own[i].value = make(), weak[i].value = own[i].value;
+    }
+
+    // Before each row of cells: what they hold.
+    void fill() {
+        for (int i = 0; i < most_threads; i++) cell[i].value.store(own[i].value);
+        common.value.store(own[0].value);
     }
 
     void rows(char const *peer, int threads) {
@@ -107,6 +117,32 @@ template <class Shared, class Weak, Shared (*make)()> struct Peer {
         time_row("use_count, own object", peer, threads, [this](int t, std::uint64_t n) {
             while (n--) keep(own[t].value.use_count());
         });
+        time_row("lock + release, own object", peer, threads, [this](int t, std::uint64_t n) {
+            while (n--) keep(weak[t].value.lock().get());
+        });
+        cell_rows(peer, threads);
+    }
+
+    void cell_rows(char const *peer, int threads) {
+        fill();
+        time_row("cell load + release, own cell", peer, threads, [this](int t, std::uint64_t n) {
+            while (n--) keep(cell[t].value.load().get());
+        });
+        time_row("cell load + release, one cell", peer, threads, [this](int, std::uint64_t n) {
+            while (n--) keep(common.value.load().get());
+        });
+        time_row("cell store of a copy, own cell", peer, threads, [this](int t, std::uint64_t n) {
+            while (n--) cell[t].value.store(own[t].value);
+        });
+        time_row("cell exchange, own cell", peer, threads, [this](int t, std::uint64_t n) {
+            Shared handle = own[t].value;
+            while (n--) handle = cell[t].value.exchange(std::move(handle));
+            keep(handle.get());
+        });
+        time_row("cell compare_exchange of a copy, own cell", peer, threads, [this](int t, std::uint64_t n) {
+            Shared expected = own[t].value;
+            while (n--) keep(cell[t].value.compare_exchange_strong(expected, own[t].value));
+        });
     }
 };
 
@@ -117,9 +153,9 @@ boost::shared_ptr<Object> make_boost() { return boost::make_shared<Object>(); }
 
 int main(int count, char **words) {
     int rounds = count > 1 ? std::atoi(words[1]) : 1;
-    Peer<std::shared_ptr<Object>, std::weak_ptr<Object>, make_std> standard;
+    Peer<std::shared_ptr<Object>, std::weak_ptr<Object>, std::atomic<std::shared_ptr<Object>>, make_std> standard;
 #ifdef WITH_BOOST
-    Peer<boost::shared_ptr<Object>, boost::weak_ptr<Object>, make_boost> boosted;
+    Peer<boost::shared_ptr<Object>, boost::weak_ptr<Object>, boost::atomic_shared_ptr<Object>, make_boost> boosted;
 #endif
     for (int round = 0; round < rounds; round++) {
         for (int threads : {1, 2, 4}) {

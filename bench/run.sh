@@ -1,6 +1,6 @@
 #!/usr/bin/env bash
 # Builds the program `measure` (proved first, where it isn't) and the peers, and prints the table of README.md. The programs
-# run in turn, so that what else the machine does falls on all; a turn takes 4 seconds, and the first argument says how many (20).
+# run in turn, so that what else the machine does falls on all; a turn takes 7 seconds, and the first argument says how many (20).
 set -euo pipefail
 cd "$(dirname "${BASH_SOURCE[0]}")"
 build=$(mktemp -d)
@@ -8,7 +8,13 @@ trap 'rm -rf "$build"' EXIT
 (cd ../crates/measure && rt run -- 0) > "$build/proof" 2>&1 || { cat "$build/proof"; exit 1; }
 cp ../crates/measure/out/measure "$build/measure"
 g++ -std=c++20 -O2 -Wall -Wextra -o "$build/peers" peers.cpp -lpthread
-rustc --edition 2024 -O -o "$build/arc" arc.rs
+arc_swap=()
+for source in /usr/share/cargo/registry/arc-swap-*/src/lib.rs; do
+  [ -f "$source" ] || continue
+  rustc --edition 2018 -O --cap-lints allow --crate-type rlib --crate-name arc_swap -o "$build/libarc_swap.rlib" "$source"
+  arc_swap=(--cfg arc_swap --extern "arc_swap=$build/libarc_swap.rlib")
+done
+rustc --edition 2024 -O --check-cfg 'cfg(arc_swap)' "${arc_swap[@]}" -o "$build/arc" arc.rs
 for turn in $(seq "${1:-20}"); do
   "$build/measure" 5 > "$build/measure.$turn"
   "$build/peers" 5 > "$build/peers.$turn"

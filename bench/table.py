@@ -1,7 +1,7 @@
-"""Reads lines "test|peer|threads|nanoseconds|share" and prints, for each test, a row a peer: nanoseconds by thread count,
-and the ratio to libstdc++. A sample is clean where each thread had a processor for 95 % of its time and all started
-together; a number is the lowest tenth of the clean samples, since other work on the machine adds to a sample, and - where
-there is none."""
+"""Reads lines "test|peer|threads|nanoseconds|share" and prints, for each test, a row a peer that has it: nanoseconds by
+thread count, and the ratio to libstdc++. A sample is clean where each thread had a processor for 95 % of its time and
+all started together; a number is the lowest tenth of the clean samples, since other work on the machine adds to a
+sample, and - where there is none."""
 import collections
 import sys
 
@@ -34,5 +34,7 @@ print("| test | peer | " + " | ".join(f"{n} thread{'s' if n > 1 else ''}, ns (ra
 print("|---|---|" + "---|" * len(THREADS))
 for test in tests:
     for peer in peers:
+        if not any(samples[test, peer, n] for n in THREADS):
+            continue
         cells = (cell(test, peer, threads) for threads in THREADS)
         print(f"| {test} | {peer} | " + " | ".join(cells) + " |")

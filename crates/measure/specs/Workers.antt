@@ -1,5 +1,5 @@
 -- What the threads of a row are lent, between two rows.
-use Rattle.std.specs.Prelude.{◌≡◌, [], Some}
+use Rattle.std.specs.Prelude.{◌≡◌, ◌<◌, [], Some}
 use Rattle.control_word.specs.declared.handle.Kind.TheVariants.{Owner}
 use Rattle.control_word.specs.declared.place.Block.{Block}
 use Rattle.control_block.specs.Desks.{DeskNow, DomainNow, allowance_of, bag_of}
@@ -17,11 +17,13 @@ IsReal h = (b : Block) × (h.block ≡ Some b)
 abbrev pub IsManaged : DomainNow → DeskNow (Unit {0}) → Shared → Type 0
 IsManaged d e h = (e.domain ≡ d.id) × (e.shape ≡ d.shape) × IsReal h × Holds e Owner h.block h.place
 
--- a worker's desk is the domain's, may hold 8 handles, and holds an owner of its own object and one of the common one
+-- a worker's desk is the domain's, may hold 8 handles, and holds an owner of its own object and one of the common one; it
+-- has a cell of the domain's
 pub record IsReady (d : DomainNow) (w : Worker) : Type 0 where
   pub domain : w.desk.domain ≡ d.id
   pub shape : w.desk.shape ≡ d.shape
   pub allowance : allowance_of w.desk ≡ 8
+  pub cell : w.cell < d.shape.shared_cells
   pub own : IsReal w.own
   pub common : IsReal w.common
   pub bag : bag_of w.desk ≡ with_handle Owner w.own.block w.own.place (with_handle Owner w.common.block w.common.place [])

@@ -1,11 +1,12 @@
-//! `measure PASSES`: what a caller waits for each call on handles, with 1, 2 and 4 threads. It prints lines
+//! `measure PASSES`: what a caller waits for each call on handles and cells, with 1, 2 and 4 threads. It prints lines
 //! "test|peer|threads|nanoseconds|share", as the peers' programs do, and nothing without an argument.
 #![tactic(auto)]
 
-ghost use Rattle.std.specs.Prelude.{◌≡◌, ◌+◌};
+ghost use Rattle.std.specs.Prelude.{◌≡◌, ◌+◌, ◌<◌};
 ghost use Rattle.control_block.specs.Desks.{allowance_of};
 ghost use Rattle.measure.specs.Workers.{IsManaged, IsTeamReady};
 
+mod cell_rounds;
 mod rounds;
 mod rows;
 mod timing;
@@ -20,6 +21,7 @@ use rows::Row;
 use shared_handle::make;
 use std::alloc::Global;
 use std::rt::Clock;
+use std::sync::Wait;
 use std::thread::Threads;
 use std::time::CpuClock;
 use std::{env, io};
@@ -27,13 +29,13 @@ use workers::Team;
 
 const SHAPE: Shape = Shape {
     blocks: 1_024,
-    shared_cells: 0,
+    shared_cells: 9,
     weak_cells: 0,
     allowance: 64,
 };
 
 /// All rows, so many times.
-fn measure<R: Clock + CpuClock + Threads + Sync + Print>(
+fn measure<R: Clock + CpuClock + Threads + Wait + Sync + Print>(
     rt: &R,
     domain: &Domain<()>,
     team: &mut Team,
@@ -53,7 +55,7 @@ fn measure<R: Clock + CpuClock + Threads + Sync + Print>(
 }
 
 /// Four workers with one object in common, and all rows.
-fn with_team<R: Clock + CpuClock + Threads + Sync + Print>(
+fn with_team<R: Clock + CpuClock + Threads + Wait + Sync + Print>(
     rt: &R,
     alloc: Global,
     domain: &Domain<()>,
@@ -61,6 +63,7 @@ fn with_team<R: Clock + CpuClock + Threads + Sync + Print>(
     passes: u32,
 ) -> io::Result<()>
     requires domain { (desk.old.domain ≡ domain.now.id) × (desk.old.shape ≡ domain.now.shape) }
+    requires cells { 8 < domain.now.shape.shared_cells }
     ensures domain { desk.new.domain ≡ domain.now.id }
     ensures sum { allowance_of desk.new ≡ allowance_of desk.old }
 {

@@ -1,13 +1,15 @@
 //! The work of each row, on one desk: a user's own calls, `count` times.
 ghost use Rattle.std.specs.Prelude.{◌≡◌, ◌+◌};
-ghost use Rattle.control_word.specs.declared.handle.Kind.TheVariants.{Owner};
+ghost use Rattle.control_word.specs.declared.handle.Kind.TheVariants.{Owner, Weak};
 ghost use Rattle.control_block.specs.Desks.{IsSameDesk, bag_of};
 ghost use Rattle.shared_handle.specs.Calls.{Holds, without_handle};
 
 use control_block::desk::Desk;
 use control_block::domain::Domain;
-use shared_handle::{Left, Shared, downgrade, make, release, release_weak, share, use_count};
+use control_block::handles;
+use shared_handle::{Left, Shared, downgrade, lock, make, release, release_weak, share, use_count};
 use std::hint::black_box;
+use std::sync::Wait;
 
 /// The fields of each object, as the peers have them.
 pub(crate) const FIELDS: [u64; 4] = [1, 2, 3, 4];
@@ -93,5 +95,48 @@ pub(crate) fn count_owners(domain: &Domain<()>, desk: &mut Desk<()>, owner: &Sha
 {
     for _ in 0..count {
         black_box(use_count(domain, desk, owner));
+    }
+}
+
+/// Owners that come of a weak handle, and leave.
+#[tactic(auto, using(crate::proofs::Taken::first_out))]
+fn lock_weak<R: Wait>(
+    rt: &R,
+    domain: &Domain<()>,
+    desk: &mut Desk<()>,
+    weak: &handles::Weak,
+    count: u32,
+)
+    requires domain { desk.old.domain ≡ domain.now.id }
+    requires holds { Holds desk.old Weak weak.now.block weak.now.place }
+    ensures desk { IsSameDesk desk.old desk.new }
+    ensures bag { bag_of desk.new ≡ bag_of desk.old }
+    ensures held { desk.new.held ≡ desk.old.held }
+{
+    for _ in 0..count {
+        if let Ok(owner) = lock(rt, domain, desk, weak) {
+            end(domain, desk, owner);
+        }
+    }
+}
+
+/// The same, with a weak handle of an owner.
+#[tactic(auto, using(crate::proofs::Taken::first_out))]
+pub(crate) fn lock_and_release<R: Wait>(
+    rt: &R,
+    domain: &Domain<()>,
+    desk: &mut Desk<()>,
+    owner: &Shared,
+    count: u32,
+)
+    requires domain { desk.old.domain ≡ domain.now.id }
+    requires holds { Holds desk.old Owner owner.now.block owner.now.place }
+    ensures desk { IsSameDesk desk.old desk.new }
+    ensures bag { bag_of desk.new ≡ bag_of desk.old }
+    ensures held { desk.new.held ≡ desk.old.held }
+{
+    if let Ok(weak) = downgrade(domain, desk, owner) {
+        lock_weak(rt, domain, desk, &weak, count);
+        release_weak(domain, desk, weak);
     }
 }

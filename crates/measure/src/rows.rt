@@ -10,15 +10,27 @@ pub(crate) enum Row {
     ShareCommon,
     WeakOwn,
     CountOwn,
+    LockOwn,
+    LoadOwn,
+    LoadCommon,
+    StoreOwn,
+    ExchangeOwn,
+    CompareOwn,
 }
 
 impl Row {
-    pub(crate) const ALL: [Row; 5] = [
+    pub(crate) const ALL: [Row; 11] = [
         Row::MakeEnd,
         Row::ShareOwn,
         Row::ShareCommon,
         Row::WeakOwn,
         Row::CountOwn,
+        Row::LockOwn,
+        Row::LoadOwn,
+        Row::LoadCommon,
+        Row::StoreOwn,
+        Row::ExchangeOwn,
+        Row::CompareOwn,
     ];
 
     /// Its name, as the peers' programs call it.
@@ -29,6 +41,12 @@ impl Row {
             Row::ShareCommon => "share + release, one object",
             Row::WeakOwn => "downgrade + release_weak, own object",
             Row::CountOwn => "use_count, own object",
+            Row::LockOwn => "lock + release, own object",
+            Row::LoadOwn => "cell load + release, own cell",
+            Row::LoadCommon => "cell load + release, one cell",
+            Row::StoreOwn => "cell store of a copy, own cell",
+            Row::ExchangeOwn => "cell exchange, own cell",
+            Row::CompareOwn => "cell compare_exchange of a copy, own cell",
         }
     }
 

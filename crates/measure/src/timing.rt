@@ -2,11 +2,12 @@
 ghost use denote.Param.Send.{IsSync};
 ghost use Rattle.measure.specs.Workers.{IsPairReady, IsReady, IsTeamReady};
 
-use crate::rounds;
 use crate::rows::Row;
-use crate::workers::{Pair, Team, Worker};
+use crate::workers::{COMMON_CELL, Pair, Team, Worker};
+use crate::{cell_rounds, rounds};
 use control_block::domain::Domain;
 use std::rt::Clock;
+use std::sync::Wait;
 use std::sync::atomic::{AtomicU64, Ordering};
 use std::thread::{Threads, join_mut};
 use std::time::{CpuClock, Duration, Instant};
@@ -79,28 +80,46 @@ fn nanos(time: Duration) -> u64 {
     u64::try_from(time.as_nanos()).unwrap_or(0)
 }
 
-/// A chunk of rounds.
-fn work(domain: &Domain<()>, worker: &mut Worker, row: Row)
+/// The worker's cell holds the worker's object, and the common cell the common one.
+fn fill(domain: &Domain<()>, worker: &mut Worker)
     requires { IsReady domain.now worker.old }
     ensures { IsReady domain.now worker.new }
 {
+    cell_rounds::store_copies(domain, &mut worker.desk, &worker.own, worker.cell, 1);
+    cell_rounds::store_copies(domain, &mut worker.desk, &worker.common, COMMON_CELL, 1);
+}
+
+/// A chunk of rounds.
+fn work<R: Wait>(rt: &R, domain: &Domain<()>, worker: &mut Worker, row: Row)
+    requires { IsReady domain.now worker.old }
+    ensures { IsReady domain.now worker.new }
+{
+    let Worker {
+        desk,
+        own,
+        common,
+        cell,
+        apart: _,
+    } = worker;
     match row {
-        Row::MakeEnd => rounds::make_and_end(domain, &mut worker.desk, CHUNK),
-        Row::ShareOwn => {
-            rounds::share_and_release(domain, &mut worker.desk, &worker.own, CHUNK);
+        Row::MakeEnd => rounds::make_and_end(domain, desk, CHUNK),
+        Row::ShareOwn => rounds::share_and_release(domain, desk, own, CHUNK),
+        Row::ShareCommon => rounds::share_and_release(domain, desk, common, CHUNK),
+        Row::WeakOwn => rounds::downgrade_and_release(domain, desk, own, CHUNK),
+        Row::CountOwn => rounds::count_owners(domain, desk, own, CHUNK),
+        Row::LockOwn => rounds::lock_and_release(rt, domain, desk, own, CHUNK),
+        Row::LoadOwn => cell_rounds::load_and_release(rt, domain, desk, *cell, CHUNK),
+        Row::LoadCommon => cell_rounds::load_and_release(rt, domain, desk, COMMON_CELL, CHUNK),
+        Row::StoreOwn => cell_rounds::store_copies(domain, desk, own, *cell, CHUNK),
+        Row::ExchangeOwn => cell_rounds::exchange(domain, desk, own, *cell, CHUNK),
+        Row::CompareOwn => {
+            cell_rounds::compare_and_exchange(rt, domain, desk, own, *cell, CHUNK);
         }
-        Row::ShareCommon => {
-            rounds::share_and_release(domain, &mut worker.desk, &worker.common, CHUNK);
-        }
-        Row::WeakOwn => {
-            rounds::downgrade_and_release(domain, &mut worker.desk, &worker.own, CHUNK);
-        }
-        Row::CountOwn => rounds::count_owners(domain, &mut worker.desk, &worker.own, CHUNK),
     }
 }
 
 /// Chunks of rounds, from when all have come up to a common moment.
-fn time<R: Clock + CpuClock>(
+fn time<R: Clock + CpuClock + Wait>(
     rt: &R,
     domain: &Domain<()>,
     worker: &mut Worker,
@@ -110,12 +129,13 @@ fn time<R: Clock + CpuClock>(
     requires { IsReady domain.now worker.old }
     ensures { IsReady domain.now worker.new }
 {
+    fill(domain, worker);
     let end = start.meet(rt)?;
     let begin = start.now(rt)?;
     let before = rt.thread_cpu_time()?;
     let mut chunks = 0;
     for chunk in 1..=CHUNKS {
-        work(domain, worker, row);
+        work(rt, domain, worker, row);
         chunks = chunk;
         if start.now(rt)? >= end {
             break;
@@ -129,7 +149,7 @@ fn time<R: Clock + CpuClock>(
     })
 }
 
-fn time_two<R: Clock + CpuClock + Threads + Sync>(
+fn time_two<R: Clock + CpuClock + Threads + Wait + Sync>(
     rt: &R,
     domain: &Domain<()>,
     pair: &mut Pair,
@@ -149,7 +169,7 @@ fn time_two<R: Clock + CpuClock + Threads + Sync>(
 }
 
 /// One thread's row.
-pub(crate) fn one<R: Clock + CpuClock + Print>(
+pub(crate) fn one<R: Clock + CpuClock + Wait + Print>(
     rt: &R,
     domain: &Domain<()>,
     worker: &mut Worker,
@@ -164,7 +184,7 @@ pub(crate) fn one<R: Clock + CpuClock + Print>(
 }
 
 /// Two threads' row.
-pub(crate) fn two<R: Clock + CpuClock + Threads + Sync + Print>(
+pub(crate) fn two<R: Clock + CpuClock + Threads + Wait + Sync + Print>(
     rt: &R,
     domain: &Domain<()>,
     pair: &mut Pair,
@@ -179,7 +199,7 @@ pub(crate) fn two<R: Clock + CpuClock + Threads + Sync + Print>(
 }
 
 /// Four threads' row.
-pub(crate) fn four<R: Clock + CpuClock + Threads + Sync + Print>(
+pub(crate) fn four<R: Clock + CpuClock + Threads + Wait + Sync + Print>(
     rt: &R,
     domain: &Domain<()>,
     team: &mut Team,

@@ -1,5 +1,5 @@
 //! Workers: desks that are cut from one desk, each with an object of its own and an owner of a common one.
-ghost use Rattle.std.specs.Prelude.{◌≡◌, ◌+◌, ◌∷◌, ◌≤◌, [], IfErr, IfOk, IfSome, MatchOption, Some, length};
+ghost use Rattle.std.specs.Prelude.{◌≡◌, ◌+◌, ◌∷◌, ◌≤◌, ◌<◌, [], IfErr, IfOk, IfSome, MatchOption, Some, length};
 ghost use Rattle.control_word.specs.declared.handle.Kind.TheVariants.{Owner};
 ghost use Rattle.control_word.specs.declared.place.Block.{Block};
 ghost use Rattle.control_block.specs.Desks.{allowance_of, bag_of, stock_of};
@@ -19,11 +19,16 @@ pub(crate) const ALLOWANCE: u32 = 8;
 /// How many blocks it has: so many that what lies a byte apart for neighbouring blocks shares no cache line between desks.
 pub(crate) const BLOCKS: u32 = 128;
 
+/// The cell that all workers have in common. Each has one more of its own, with an unused one between any two: 128 bytes
+/// apart, as the peers' are.
+pub(crate) const COMMON_CELL: u32 = 0;
+
 /// What a thread is lent.
 pub(crate) struct Worker {
     pub(crate) desk: Desk<()>,
     pub(crate) own: Shared,
     pub(crate) common: Shared,
+    pub(crate) cell: u32,
     /// Keeps the numbers of two workers' desks from sharing a cache line.
     pub(crate) apart: [u64; 16],
 }
@@ -110,7 +115,9 @@ pub(crate) fn hire(
     desk: &mut Desk<()>,
     alloc: Global,
     common: &Shared,
+    cell: u32,
 ) -> Option<Worker>
+    requires cell { cell < domain.now.shape.shared_cells }
     requires desk { IsManaged domain.now desk.old common.now }
     ensures desk { IsManaged domain.now desk.new common.now }
     ensures sum { MatchOption result (allowance_of desk.new ≡ allowance_of desk.old) (λ _. allowance_of desk.new + 8 ≡ allowance_of desk.old) }
@@ -123,7 +130,7 @@ pub(crate) fn hire(
         return None;
     };
     match hand_over(domain, desk, alloc, copy) {
-        Ok((desk, common)) => Some(equip(domain, desk, common)),
+        Ok((desk, common)) => Some(equip(domain, desk, common, cell)),
         Err(copy) => {
             end(domain, desk, copy);
             None
@@ -132,7 +139,8 @@ pub(crate) fn hire(
 }
 
 /// A worker of a new desk, which makes an object of its own.
-fn equip(domain: &Domain<()>, desk: Desk<()>, common: Shared) -> Worker
+fn equip(domain: &Domain<()>, desk: Desk<()>, common: Shared, cell: u32) -> Worker
+    requires cell { cell < domain.now.shape.shared_cells }
     requires desk { (desk.domain ≡ domain.now.id) × (desk.shape ≡ domain.now.shape) }
     requires free { (allowance_of desk ≡ 8) × (desk.held ≡ 1) × (length (stock_of desk) ≡ BLOCKS) }
     requires common { (b : Block) × (common.block ≡ Some b) }
@@ -147,6 +155,7 @@ fn equip(domain: &Domain<()>, desk: Desk<()>, common: Shared) -> Worker
         desk,
         own,
         common,
+        cell,
         apart: [0; 16],
     }
 }
@@ -163,6 +172,7 @@ pub(crate) fn dismiss(domain: &Domain<()>, desk: &mut Desk<()>, worker: Worker, 
         desk: mut other,
         own,
         common,
+        cell: _,
         apart: _,
     } = worker;
     end(domain, &mut other, own);
@@ -175,14 +185,17 @@ pub(crate) fn hire_pair(
     desk: &mut Desk<()>,
     alloc: Global,
     common: &Shared,
+    left_cell: u32,
+    right_cell: u32,
 ) -> Option<Pair>
+    requires cells { (left_cell < domain.now.shape.shared_cells) × (right_cell < domain.now.shape.shared_cells) }
     requires desk { IsManaged domain.now desk.old common.now }
     ensures desk { IsManaged domain.now desk.new common.now }
     ensures sum { MatchOption result (allowance_of desk.new ≡ allowance_of desk.old) (λ _. allowance_of desk.new + 16 ≡ allowance_of desk.old) }
     ensures ready { IfSome result (λ p. IsPairReady domain.now p) }
 {
-    let left = hire(domain, desk, alloc, common)?;
-    match hire(domain, desk, alloc, common) {
+    let left = hire(domain, desk, alloc, common, left_cell)?;
+    match hire(domain, desk, alloc, common, right_cell) {
         Some(right) => Some(Pair { left, right }),
         None => {
             dismiss(domain, desk, left, common);
@@ -208,13 +221,14 @@ pub(crate) fn hire_team(
     alloc: Global,
     common: &Shared,
 ) -> Option<Team>
+    requires cells { 8 < domain.now.shape.shared_cells }
     requires desk { IsManaged domain.now desk.old common.now }
     ensures desk { IsManaged domain.now desk.new common.now }
     ensures sum { MatchOption result (allowance_of desk.new ≡ allowance_of desk.old) (λ _. allowance_of desk.new + 32 ≡ allowance_of desk.old) }
     ensures ready { IfSome result (λ t. IsTeamReady domain.now t) }
 {
-    let front = hire_pair(domain, desk, alloc, common)?;
-    match hire_pair(domain, desk, alloc, common) {
+    let front = hire_pair(domain, desk, alloc, common, 2, 4)?;
+    match hire_pair(domain, desk, alloc, common, 6, 8) {
         Some(back) => Some(Team { front, back }),
         None => {
             dismiss_pair(domain, desk, front, common);

@@ -1,0 +1,127 @@
+//! The work of the rows of cells, on one desk: a user's own calls, `count` times.
+ghost use Rattle.std.specs.Prelude.{◌≡◌, ◌+◌, ◌<◌};
+ghost use Rattle.control_word.specs.declared.handle.Kind.TheVariants.{Owner};
+ghost use Rattle.control_block.specs.CellCalls.{Belongs, IsProper};
+ghost use Rattle.control_block.specs.Desks.{IsSameDesk, bag_of};
+ghost use Rattle.shared_handle.specs.Calls.{Holds};
+
+use crate::rounds::end;
+use atomic_cells::{Compared, SharedAt};
+use control_block::desk::Desk;
+use control_block::domain::Domain;
+use control_word::Refused;
+use shared_handle::{Left, Shared, share};
+use std::sync::Wait;
+
+/// Copies of an owner go into a cell, and what it held leaves.
+#[tactic(auto, using(crate::proofs::Taken::first_out))]
+pub(crate) fn store_copies(
+    domain: &Domain<()>,
+    desk: &mut Desk<()>,
+    owner: &Shared,
+    cell: u32,
+    count: u32,
+)
+    requires domain { Belongs desk.old domain.now }
+    requires cell { cell < desk.old.shape.shared_cells }
+    requires holds { Holds desk.old Owner owner.now.block owner.now.place }
+    requires proper { IsProper Owner owner.now.block owner.now.place }
+    ensures desk { IsSameDesk desk.old desk.new }
+    ensures bag { bag_of desk.new ≡ bag_of desk.old }
+    ensures held { desk.new.held ≡ desk.old.held }
+{
+    for _ in 0..count {
+        let Ok(copy) = share(domain, desk, owner) else {
+            return;
+        };
+        match SharedAt::free(cell).store(domain, desk, copy) {
+            Left::Empty | Left::Others => {}
+            Left::Last(ending) => ending.finish(domain, desk),
+        }
+    }
+}
+
+/// Copies of what a cell holds come and leave.
+#[tactic(auto, using(crate::proofs::Taken::first_out))]
+pub(crate) fn load_and_release<R: Wait>(
+    rt: &R,
+    domain: &Domain<()>,
+    desk: &mut Desk<()>,
+    cell: u32,
+    count: u32,
+)
+    requires domain { Belongs desk.old domain.now }
+    requires cell { cell < desk.old.shape.shared_cells }
+    ensures desk { IsSameDesk desk.old desk.new }
+    ensures bag { bag_of desk.new ≡ bag_of desk.old }
+    ensures held { desk.new.held ≡ desk.old.held }
+{
+    for _ in 0..count {
+        if let Ok(found) = SharedAt::free(cell).load(rt, domain, desk) {
+            end(domain, desk, found);
+        }
+    }
+}
+
+/// An owner goes into a cell, and what comes out goes in again.
+#[tactic(auto, using(crate::proofs::Taken::first_out))]
+pub(crate) fn exchange(
+    domain: &Domain<()>,
+    desk: &mut Desk<()>,
+    owner: &Shared,
+    cell: u32,
+    count: u32,
+)
+    requires domain { Belongs desk.old domain.now }
+    requires cell { cell < desk.old.shape.shared_cells }
+    requires holds { Holds desk.old Owner owner.now.block owner.now.place }
+    requires proper { IsProper Owner owner.now.block owner.now.place }
+    ensures desk { IsSameDesk desk.old desk.new }
+    ensures bag { bag_of desk.new ≡ bag_of desk.old }
+    ensures held { desk.new.held ≡ desk.old.held }
+{
+    let Ok(copy) = share(domain, desk, owner) else {
+        return;
+    };
+    let mut handle = copy;
+    for _ in 0..count {
+        handle = SharedAt::free(cell).exchange(domain, desk, handle);
+    }
+    end(domain, desk, handle);
+}
+
+/// Copies of an owner are for a cell that holds an equivalent one, and what came out leaves.
+#[tactic(auto, using(crate::proofs::Taken::first_out))]
+pub(crate) fn compare_and_exchange<R: Wait>(
+    rt: &R,
+    domain: &Domain<()>,
+    desk: &mut Desk<()>,
+    owner: &Shared,
+    cell: u32,
+    count: u32,
+)
+    requires domain { Belongs desk.old domain.now }
+    requires cell { cell < desk.old.shape.shared_cells }
+    requires holds { Holds desk.old Owner owner.now.block owner.now.place }
+    requires proper { IsProper Owner owner.now.block owner.now.place }
+    ensures desk { IsSameDesk desk.old desk.new }
+    ensures bag { bag_of desk.new ≡ bag_of desk.old }
+    ensures held { desk.new.held ≡ desk.old.held }
+{
+    for _ in 0..count {
+        let Ok(copy) = share(domain, desk, owner) else {
+            return;
+        };
+        match SharedAt::free(cell).compare_exchange_strong(rt, domain, desk, owner, copy) {
+            Ok(Compared::Swapped(old)) => end(domain, desk, old),
+            Ok(Compared::Differs { held, desired }) => {
+                end(domain, desk, held);
+                end(domain, desk, desired);
+            }
+            Err(refused) => {
+                let Refused { why: _, back } = refused;
+                end(domain, desk, back);
+            }
+        }
+    }
+}
