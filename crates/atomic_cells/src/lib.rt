@@ -7,6 +7,10 @@ mod compare_tests;
 mod compared;
 #[cfg(test)]
 mod race_tests;
+#[cfg(test)]
+mod reuse_tests;
+#[cfg(test)]
+mod row_tests;
 mod shared_at;
 mod shared_compares;
 #[cfg(test)]

@@ -125,6 +125,7 @@ pub(crate) fn part(
     ensures one { (desk.new.domain ≡ desk.old.domain) × (desk.new.shape ≡ desk.old.shape) × (desk.new.name ≡ desk.old.name) }
     ensures two { IfSome result (λ r. (r.domain ≡ desk.old.domain) × (r.shape ≡ desk.old.shape)) }
     ensures sum { MatchOption result (allowance_of desk.new ≡ allowance_of desk.old) (λ r. allowance_of desk.new + allowance_of r ≡ allowance_of desk.old) }
+    ensures bag { bag_of desk.new ≡ bag_of desk.old }
     ensures stock { IfSome result (λ r. (length (stock_of r) ≡ blocks) × (length (stock_of desk.new) + blocks ≡ length (stock_of desk.old))) }
 {
     match desk.split(alloc, domain, allowance, blocks, Vec::new(alloc)) {

@@ -190,6 +190,7 @@ pub(crate) fn object(domain: &Domain<u64>, desk: &mut Desk<u64>, field: u64) -> 
     ensures desk { IsSameDesk desk.old desk.new }
     ensures real { IfSome result (λ h. (b : Block) × (h.block ≡ Some b)) }
     ensures bag { MatchOption result (bag_of desk.new ≡ bag_of desk.old) (λ h. bag_of desk.new ≡ with_handle Owner h.block h.place (bag_of desk.old)) }
+    ensures held { MatchOption result (desk.new.held ≡ desk.old.held) (λ _. desk.new.held ≡ desk.old.held + 1) }
     ensures holds { IfSome result (λ h. Holds desk.new Owner h.block h.place) }
 {
     match make(domain, desk, [field, 0, 0, 0], false, field) {
