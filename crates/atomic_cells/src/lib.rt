@@ -6,6 +6,8 @@
 mod compare_tests;
 mod compared;
 #[cfg(test)]
+mod crowd_tests;
+#[cfg(test)]
 mod race_tests;
 #[cfg(test)]
 mod reuse_tests;

@@ -142,7 +142,7 @@ pub(crate) fn part(
 }
 
 // A desk and a part of it, in a thread each.
-fn pair<R: Threads + Wait + Sync>(
+pub(crate) fn pair<R: Threads + Wait + Sync>(
     rt: &R,
     alloc: Global,
     domain: &Domain<u64>,
