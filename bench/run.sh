@@ -1,6 +1,6 @@
 #!/usr/bin/env bash
 # Builds the program `measure` (proved first, where it isn't) and the peers, and prints the table of README.md. The programs
-# run in turn, so that what else the machine does falls on all; a turn takes 7 seconds, and the first argument says how many (20).
+# run in turn, so that what else the machine does falls on all; a turn takes 10 seconds, and the first argument says how many (20).
 set -euo pipefail
 cd "$(dirname "${BASH_SOURCE[0]}")"
 build=$(mktemp -d)
@@ -16,7 +16,7 @@ for source in /usr/share/cargo/registry/arc-swap-*/src/lib.rs; do
 done
 rustc --edition 2024 -O --check-cfg 'cfg(arc_swap)' "${arc_swap[@]}" -o "$build/arc" arc.rs
 for turn in $(seq "${1:-20}"); do
-  "$build/measure" 5 > "$build/measure.$turn"
+  "$build/measure" 3 > "$build/measure.$turn"
   "$build/peers" 5 > "$build/peers.$turn"
   "$build/arc" 5 > "$build/arc.$turn"
 done

@@ -22,6 +22,9 @@ const CHUNKS: u32 = 1_000_000;
 /// How long a row runs, in nanoseconds.
 const SPAN: u64 = 3_000_000;
 
+/// How long the threads work before it, so that each has got a processor of its own.
+const SETTLING: u64 = 60_000_000;
+
 /// How often a thread looks whether the others have come.
 const PATIENCE: u32 = 100_000_000;
 
@@ -70,7 +73,7 @@ impl Start {
                 hint::spin_loop();
             }
         }
-        let end = self.now(rt)?.wrapping_add(SPAN);
+        let end = self.now(rt)?.wrapping_add(SETTLING + SPAN);
         self.end.store(end, Ordering::SeqCst);
         Ok(end)
     }
@@ -118,7 +121,30 @@ fn work<R: Wait>(rt: &R, domain: &Domain<()>, worker: &mut Worker, row: Row)
     }
 }
 
-/// Chunks of rounds, from when all have come up to a common moment.
+/// Chunks of rounds up to a moment, one at least: how many.
+fn work_until<R: Clock + Wait>(
+    rt: &R,
+    domain: &Domain<()>,
+    worker: &mut Worker,
+    row: Row,
+    start: &Start,
+    end: u64,
+) -> io::Result<u32>
+    requires { IsReady domain.now worker.old }
+    ensures { IsReady domain.now worker.new }
+{
+    let mut chunks = 0;
+    for chunk in 1..=CHUNKS {
+        work(rt, domain, worker, row);
+        chunks = chunk;
+        if start.now(rt)? >= end {
+            break;
+        }
+    }
+    Ok(chunks)
+}
+
+/// Chunks of rounds, from when all have come and settled up to a common moment.
 fn time<R: Clock + CpuClock + Wait>(
     rt: &R,
     domain: &Domain<()>,
@@ -131,16 +157,10 @@ fn time<R: Clock + CpuClock + Wait>(
 {
     fill(domain, worker);
     let end = start.meet(rt)?;
+    work_until(rt, domain, worker, row, start, end.saturating_sub(SPAN))?;
     let begin = start.now(rt)?;
     let before = rt.thread_cpu_time()?;
-    let mut chunks = 0;
-    for chunk in 1..=CHUNKS {
-        work(rt, domain, worker, row);
-        chunks = chunk;
-        if start.now(rt)? >= end {
-            break;
-        }
-    }
+    let chunks = work_until(rt, domain, worker, row, start, end)?;
     let after = rt.thread_cpu_time()?;
     Ok(Spent {
         wall: start.now(rt)?.saturating_sub(begin),

@@ -1,5 +1,5 @@
 use Rattle.measure.specs.Workers.{IsReady}
-use Rattle.measure.proofs.timing.time.Given as goal
+use Rattle.measure.proofs.timing.work_until.Given as goal
 
 abbrev pub invariant-loop-chunk : goal.invariant-loop-chunk
 invariant-loop-chunk g l = IsReady l.domain l.worker
