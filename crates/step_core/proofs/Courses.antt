@@ -61,7 +61,7 @@ put_ready k slots false ts lt free r = record { some = lt; free = free; ready = 
 ready_past : (act : Act) (slots : Slots) (taken : Bool) (ts : List Task) → idle act slots taken ≡ true → 0 < length slots → (taken ≡ false
     → slot slots (hand slots) ≡ None)
     → Ready (hand slots) (taken_after act taken) ts → IsReady (slots_idle act slots taken) (taken_idle act taken) ts
-ready_past (Make fields) slots taken ts i lt free r = absurd (false≢true i)
+ready_past (Make form) slots taken ts i lt free r = absurd (false≢true i)
 ready_past (Share k) slots taken ts i lt free r = absurd (false≢true i)
 ready_past (Put k) slots taken ts i lt free r = put_ready k slots taken ts lt free r
 ready_past (Leave k) slots taken ts i lt free r = absurd (false≢true i)

@@ -2,15 +2,16 @@
 ghost use Rattle.std.specs.Prelude.{◌≡◌, ◌⊎◌, ◌+◌, ◌<◌, ◌≤◌, ◌==◌, ◌∷◌, ℕ, length, drop, true, false, slice_set, Option, Some, None, option_map};
 ghost use Rattle.control_word.specs.State.{count};
 ghost use Rattle.control_word.specs.declared.handle.Kind.TheVariants.{Owner};
+ghost use Rattle.control_word.specs.Words.{flags_of};
 ghost use Rattle.step_core.specs.Deeds.{as_weak, downgrade, is_expired, is_last, leave, owned, share, tell, tell_expired};
 ghost use Rattle.step_core.specs.Holdings.{Holds, is_full, slot};
 ghost use Rattle.step_core.specs.Stories.{IsMaking, Story, after, known, object_in, pending, state};
 ghost use Rattle.step_core.specs.declared.holdings.Pointer.{Pointer};
-ghost use Rattle.control_word.specs.Events.{place_at};
+ghost use Rattle.control_word.specs.Events.{origin};
 ghost use Rattle.control_word.specs.Layout.{spot};
 ghost use Rattle.control_word.specs.Views.{owed};
 
-use crate::act::{Act, Task};
+use crate::act::{Act, Form, Task};
 use crate::holdings::Holdings;
 use crate::past::Deed;
 use crate::table::Table;
@@ -253,21 +254,21 @@ impl Course {
     }
 
     /// The prepared object is made; its owner comes into the hand.
-    pub(crate) fn claim(&mut self, desk: usize, table: &mut Table, block: Block, fields: [u64; 4])
+    pub(crate) fn claim(&mut self, desk: usize, table: &mut Table, block: Block, form: Form)
         requires seat { desk < table.old.extent.actors }
         requires making { IsMaking table.old desk block }
-        requires known { known (pending table.old desk) ≡ 0 ∷ fields }
+        requires known { known (pending table.old desk) ≡ flags_of form.enabled form.null ∷ form.fields }
         requires holds { Holds desk self.old.holdings.slots.items table.old }
         requires within { self.old.at < length self.old.tasks.items }
         requires ready { CourseReady self.old }
-        requires act { (task_at self.old).act ≡ Act.Make fields }
-        ensures table { table.new ≡ after table.old desk (Deed.Claim block false false fields) }
+        requires act { (task_at self.old).act ≡ Act.Make form }
+        ensures table { table.new ≡ after table.old desk (Deed.Claim block form.enabled form.null form.fields) }
         ensures walk { walk self.new
-            ≡ settled (slice_set self.old.holdings.slots.items (hand self.old.holdings.slots.items) (Some (record { kind = Owner; block = block; place = place_at block.0 }))) true (rest self.old) }
+            ≡ settled (slice_set self.old.holdings.slots.items (hand self.old.holdings.slots.items) (Some (record { kind = Owner; block = block; place = origin block.0 form.null }))) true (rest self.old) }
         ensures on { HasGoneOn desk self.old self.new table.new }
     {
         let hand = self.holdings.hand();
-        self.holdings.claim(desk, table, hand, block, fields);
+        self.holdings.claim(desk, table, hand, block, form);
         self.taken = true;
         self.go_on();
     }

@@ -1,15 +1,17 @@
 //! What an actor holds.
 ghost use Rattle.std.specs.Prelude.{◌≡◌, ◌≢◌, ◌+◌, ◌<◌, ◌≤◌, IfOk, replicate, ◌-◌, ◌==◌, ℕ, false, cond, ◌∷◌, length, get_or, slice_set, Some, None};
 ghost use Rattle.control_word.specs.declared.handle.Kind.TheVariants.{Owner};
-ghost use Rattle.control_word.specs.Events.{place_at};
+ghost use Rattle.control_word.specs.Events.{origin};
 ghost use Rattle.control_word.specs.State.{count};
 ghost use Rattle.control_word.specs.Views.{owed};
 ghost use Rattle.control_word.specs.Layout.{spot};
 ghost use Rattle.control_word.specs.declared.view.Pending.TheVariants.{Idle};
+ghost use Rattle.control_word.specs.Words.{flags_of};
 ghost use Rattle.step_core.specs.Deeds.{as_owner, as_weak, downgrade, is_expired, is_last, leave, lock, owned, owner_word, share, tell, tell_expired};
 ghost use Rattle.step_core.specs.Holdings.{Holds, is_full, slot, weak_as, weak_slot};
 ghost use Rattle.step_core.specs.Stories.{IsMaking, Story, after, known, object_in, pending, state};
 
+use crate::act::Form;
 use crate::past::Deed;
 use crate::table::Table;
 use control_word::handle::Kind;
@@ -251,21 +253,21 @@ impl Holdings {
         table: &mut Table,
         to: usize,
         block: Block,
-        fields: [u64; 4],
+        form: Form,
     )
         requires seat { desk < table.old.extent.actors }
         requires making { IsMaking table.old desk block }
-        requires known { known (pending table.old desk) ≡ 0 ∷ fields }
+        requires known { known (pending table.old desk) ≡ flags_of form.enabled form.null ∷ form.fields }
         requires holds { Holds desk self.old.slots.items table.old }
         requires inside { to < length self.old.slots.items }
         requires empty { slot self.old.slots.items to ≡ None }
-        ensures slots { self.new.slots.items ≡ slice_set self.old.slots.items to (Some (record { kind = Owner; block = block; place = place_at block.0 })) }
-        ensures table { table.new ≡ after table.old desk (Deed.Claim block false false fields) }
+        ensures slots { self.new.slots.items ≡ slice_set self.old.slots.items to (Some (record { kind = Owner; block = block; place = origin block.0 form.null })) }
+        ensures table { table.new ≡ after table.old desk (Deed.Claim block form.enabled form.null form.fields) }
         ensures holds { Holds desk self.new.slots.items table.new }
     {
         table.known();
-        table.claim(desk, block, false, false, fields);
-        let place = Some(Place { block, field: 0 });
+        table.claim(desk, block, form.enabled, form.null, form.fields);
+        let place = origin(block, form.null);
         self.slots[to] = Some(Pointer {
             kind: Kind::Owner,
             block,
@@ -294,5 +296,16 @@ fn weak(pointer: Pointer) -> Option<Pointer>
     match pointer.kind {
         Kind::Owner => None,
         Kind::Weak => Some(pointer),
+    }
+}
+
+/// Where a new object's owner points: at the object, or nowhere where the owned pointer is null.
+fn origin(block: Block, null: bool) -> Option<Place>
+    ensures { result ≡ origin block.0 null }
+{
+    if null {
+        None
+    } else {
+        Some(Place { block, field: 0 })
     }
 }

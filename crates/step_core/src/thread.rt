@@ -61,7 +61,7 @@ impl Thread {
             return Stepped::Done;
         }
         match self.course.tasks[self.course.at].act {
-            Act::Make { fields } => self.begin(desk, table, fields),
+            Act::Make { form } => self.begin(desk, table, form),
             Act::Share { name } => self.share(desk, table, name),
             Act::Put { name } => self.put(desk, table, name),
             Act::Leave { name } | Act::Clear { name } => self.leave(desk, table, name),

@@ -1,5 +1,5 @@
 -- What a share and a leave do to a desk's bag and to its slots.
-use Rattle.std.proofs.Common.{◌≡◌, ◌≢◌, ℕ, suc, ◌<◌, ◌≤◌, ◌==◌, Bool, false, cond, List, [], ◌∷◌, length, set, Option, Some, None, refl, sym, ap, subst}
+use Rattle.std.proofs.Common.{◌≡◌, ◌≢◌, ℕ, suc, ◌<◌, ◌≤◌, ◌==◌, Bool, true, false, cond, List, [], ◌∷◌, length, set, Option, Some, None, refl, sym, ap, subst}
 use Rattle.std.proofs.Common.{◌∙◌, ⊎_elim, arith, get_or-set_same, get_or-set_other, length-set}
 use Rattle.std.proofs.lemmas.Bool.{cases_eq}
 use Rattle.std.proofs.lemmas.Option.{same_Some}
@@ -9,11 +9,12 @@ use Rattle.control_word.specs.declared.handle.Handle.{Handle}
 use Rattle.control_word.specs.declared.place.Block.{Block}
 use Rattle.control_word.proofs.history.Legal.{sound}
 use Rattle.control_word.proofs.lists.Tallies.{put_other, put_same}
-use Rattle.control_word.specs.Events.{place_at}
+use Rattle.control_word.specs.Events.{origin}
 use Rattle.control_word.specs.declared.handle.Kind.{Kind}
 use Rattle.control_word.specs.declared.handle.Kind.TheVariants.{Owner, Weak}
 use Rattle.control_word.specs.Handles.{IsPointer, handle, owner, same_handle}
-use Rattle.control_word.specs.State.{Has, Held, InShape, bag_size, held, same_held, stored, without}
+use Rattle.control_word.specs.State.{Has, Held, InShape, Opening, bag_size, held, same_held, stored, without}
+use Rattle.step_core.specs.declared.act.Form.{Form}
 use Rattle.step_core.specs.declared.holdings.Pointer.{Pointer}
 use Rattle.step_core.specs.declared.past.Deed.TheVariants.{Claim}
 use Rattle.step_core.specs.Deeds.{leave_as, share, share_as}
@@ -231,14 +232,18 @@ claimed_owns v d b enabled null fields h (y ∷ ys) f =
     ∙ sym (one_slot (is_it v h) y) in
     omega (arith, i, m, n, c)
 
-pub holds_claim : (d : ℕ) (slots : Slots) (v : Story) (i : ℕ) (b : Block) (fields : List ℕ) → Kept v → Holds d slots v
+origin_formed : (z : Opening) (b : ℕ) (null : Bool) → InShape z b → z.blocks ≤ 65535 → IsPointer (origin b null)
+origin_formed z b true shape few = tt
+origin_formed z b false shape few = let low = shape.0 in let high = shape.1 in (low, omega (arith, high, few), omega arith)
+
+pub holds_claim : (d : ℕ) (slots : Slots) (v : Story) (i : ℕ) (b : Block) (form : Form) → Kept v → Holds d slots v
     → Has (stored d b.0) (state v).stores
     → InShape (opening v.extent) b.0 → v.extent.shape.blocks ≤ 65535 → i < length slots → slot slots i ≡ None
-    → Holds d (set slots i (Some (record { kind = Owner; block = b; place = place_at b.0 }))) (after v d (Claim b false false fields))
-holds_claim d slots v i b fields kept holds has shape few lt e =
-    let x : Pointer = record { kind = Owner; block = b; place = place_at b.0 } in
-    let w = after v d (Claim b false false fields) in
-    let y = owner (suc (state v).made) (place_at b.0) in
+    → Holds d (set slots i (Some (record { kind = Owner; block = b; place = origin b.0 form.null }))) (after v d (Claim b form.enabled form.null form.fields))
+holds_claim d slots v i b form kept holds has shape few lt e =
+    let x : Pointer = record { kind = Owner; block = b; place = origin b.0 form.null } in
+    let w = after v d (Claim b form.enabled form.null form.fields) in
+    let y = owner (suc (state v).made) (origin b.0 form.null) in
     record {
       owned = λ h.
           let a = num_cons (same_held (held d h)) (held d y) (state v).hands in
@@ -247,14 +252,14 @@ holds_claim d slots v i b fields kept holds has shape few lt e =
           let z : num (is_it w h) (slot slots i ∷ []) ≡ 0 = ap (λ (q : Option Pointer). num (is_it w h) (q ∷ [])) e in
           let t = one_slot (is_it w h) (Some x) in
           let u : is_it w h (Some x) ≡ same_handle h y = ap
-          (λ (o : ℕ). same_handle h (owner o (place_at b.0))) (put_same (state v).latest b.0 (suc (state v).made) b.0 refl) in
+          (λ (o : ℕ). same_handle h (owner o (origin b.0 form.null))) (put_same (state v).latest b.0 (suc (state v).made) b.0 refl) in
           let k : ◌≡◌ {A = ℕ} (cond (is_it w h (Some x)) 1 0) (cond (same_handle h y) 1 0) = ap (λ (q : Bool). cond q 1 0) u in
-          let c = claimed_owns v d b false false fields h slots (λ j p q. apart d slots v b j p kept holds has q) in
+          let c = claimed_owns v d b form.enabled form.null form.fields h slots (λ j p q. apart d slots v b j p kept holds has q) in
           let o = holds.owned h in omega (arith, a, m, s, z, t, k, c, o);
       size =
           (let a = bag_one d y (state v).hands in
           let s = num_set is_full slots i (Some x) lt in
           let z : num is_full (slot slots i ∷ []) ≡ 0 = ap (λ (q : Option Pointer). num is_full (q ∷ [])) e in
           let o = holds.size in omega (arith, a, s, z, o));
-      formed = formed_set slots i (Some x) holds.formed lt (let s = shape in (omega arith, omega arith, omega arith));
+      formed = formed_set slots i (Some x) holds.formed lt (origin_formed (opening v.extent) b.0 form.null shape few);
     }

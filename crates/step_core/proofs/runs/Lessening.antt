@@ -5,7 +5,7 @@ use Rattle.std.proofs.lemmas.Bool.{cond_both, eq-eqb, eqb-false, false≢true}
 use Rattle.control_word.specs.declared.handle.Kind.{Kind}
 use Rattle.control_word.specs.declared.handle.Kind.TheVariants.{Owner, Weak}
 use Rattle.control_word.specs.declared.place.Block.{Block}
-use Rattle.control_word.specs.Events.{place_at}
+use Rattle.control_word.specs.Events.{origin}
 use Rattle.control_word.specs.State.{weak}
 use Rattle.step_core.specs.declared.act.Act.{Act}
 use Rattle.step_core.specs.declared.act.Act.TheVariants.{Make, Share, Downgrade, Lock, Put, Leave, Clear, Count, Expired}
@@ -16,7 +16,7 @@ use Rattle.step_core.specs.declared.holdings.Pointer.{Pointer}
 use Rattle.step_core.specs.declared.past.Deed.TheVariants as deed
 use Rattle.step_core.specs.Actors.{wanted}
 use Rattle.step_core.specs.Bounds.{spare}
-use Rattle.step_core.specs.Courses.{Walk, fields_of, hand, locked, placed}
+use Rattle.step_core.specs.Courses.{Walk, form_of, hand, locked, placed}
 use Rattle.step_core.specs.Deeds.{as_weak, is_last, lock, owner_word}
 use Rattle.step_core.specs.Holdings.{Slots, is_full, slot}
 use Rattle.step_core.specs.Scenes.{found, least, on, taking}
@@ -130,7 +130,7 @@ looked_less v d k w t ts i must (Some x) is a e =
 
 first_less : (v : Story) (d : ℕ) (w : Walk) (t : Task) (ts : List Task) (a : Act) → w.todo ≡ t ∷ ts → t.act ≡ a
     → IsLess v d Rest w (length (t ∷ ts)) (Some (first v d w t.statement ts a))
-first_less v d w t ts (Make fields) is same = begun_less v d t.statement w t ts (least d (state v).stores) is
+first_less v d w t ts (Make form) is same = begun_less v d t.statement w t ts (least d (state v).stores) is
 first_less v d w t ts (Share i) is same =
     over_less v _ Rest w _ (length ts) (settled_less (slice_set w.slots (hand w.slots) (slot w.slots i)) true ts) (omega arith, omega arith)
 first_less v d w t ts (Put i) is same =
@@ -166,11 +166,11 @@ make_less : (v : Story) (d i : ℕ) (w : Walk) (b : Block) (f : Bool) (ts : List
 make_less v d i w b f [] is way = absurd way
 make_less v d i w b f (t ∷ ts) is way =
     let found = get_or (known (pending v d)) i 0 in
-    let want = get_or (wanted (fields_of t.act)) i 0 in
+    let want = get_or (wanted (form_of t.act)) i 0 in
     let n = ap (λ (z : List Task). length z) is in
-    cond_both (i == 5) (claims w t.statement ts b (fields_of t.act)) (prepares found want w t.statement b i f)
+    cond_both (i == 5) (claims w t.statement ts b (form_of t.act)) (prepares found want w t.statement b i f)
     (λ (x : Step). IsLess v d (Making b i f) w (length (t ∷ ts)) (Some x))
-    (λ e. let l = settled_less (slice_set w.slots (hand w.slots) (Some (record { kind = Owner; block = record { 0 = b.0 }; place = place_at b.0 }))) true ts in
+    (λ e. let l = settled_less (slice_set w.slots (hand w.slots) (Some (record { kind = Owner; block = record { 0 = b.0 }; place = origin b.0 (form_of t.act).null }))) true ts in
     let g = flag_one f in record { own = omega (arith, l, g); most = omega (arith, l, g) })
     (λ e. prepared_less v d found want t.statement i (length (t ∷ ts)) w b f way.0 (eqb-false i 5 e) n)
 
@@ -197,7 +197,7 @@ tried_less v d word w t ts (Lock i must) (Some x) is same e full =
     (λ ne. let other = alone_other v w word (ap (λ (z : ℕ). z == word) found_word ∙ ne) in
     trying_less v d k (Locking word) w (length (t ∷ ts)) (owner_word v x) found_word n (omega arith) (λ _. omega (arith, other))
     (omega (arith, other)))
-tried_less v d word w t ts (Make fields) (Some x) is same e full = cc
+tried_less v d word w t ts (Make form) (Some x) is same e full = cc
 tried_less v d word w t ts (Share i) (Some x) is same e full = cc
 tried_less v d word w t ts (Downgrade i) (Some x) is same e full = cc
 tried_less v d word w t ts (Put i) (Some x) is same e full = cc
