@@ -9,6 +9,8 @@ use std::time::{Duration, Instant};
 
 const SPAN: Duration = Duration::from_millis(3);
 const CHUNK: u64 = 2_000;
+/// Fewer where threads wait for each other, so that they end together.
+const SHORT_CHUNK: u64 = 100;
 const MOST_THREADS: usize = 4;
 const PEER: &str = "Rust Arc";
 
@@ -35,13 +37,44 @@ fn processor_time() -> f64 {
     time.seconds as f64 * 1e9 + time.nanoseconds as f64
 }
 
+/// One thread's nanoseconds, by the wall's clock and by the processor's, and its operations.
+struct Spent {
+    wall: f64,
+    processor: f64,
+    operations: f64,
+}
+
 /// A row of an operation.
 fn time_row(test: &str, peer: &str, threads: usize, work: impl Fn(usize) + Sync) {
     time_chunks(test, peer, threads, |thread| (0..CHUNK).for_each(|_| work(thread)));
 }
 
-/// The threads meet, and work in chunks until a common moment. A row is the time of all by the operations of all.
+/// A row of an operation on what the threads have in common.
+fn time_common(test: &str, peer: &str, threads: usize, work: impl Fn() + Sync) {
+    let spent = run(threads, SHORT_CHUNK, |_| (0..SHORT_CHUNK).for_each(|_| work()));
+    tell(test, peer, &spent, &spent);
+}
+
+/// A row of chunks.
 fn time_chunks(test: &str, peer: &str, threads: usize, work: impl Fn(usize) + Sync) {
+    let spent = run(threads, CHUNK, work);
+    tell(test, peer, &spent, &spent);
+}
+
+/// A row in which the first thread does something else than the others, and a line for each.
+fn time_beside(tests: [&str; 2], peer: &str, threads: usize, first: impl Fn() + Sync, others: impl Fn() + Sync) {
+    let spent = run(threads, SHORT_CHUNK, |thread| match thread {
+        0 => (0..SHORT_CHUNK).for_each(|_| first()),
+        _ => (0..SHORT_CHUNK).for_each(|_| others()),
+    });
+    tell(tests[0], peer, &spent, &spent[..1]);
+    if threads > 1 {
+        tell(tests[1], peer, &spent, &spent[1..]);
+    }
+}
+
+/// The threads meet, and work in chunks of so many operations until a common moment.
+fn run(threads: usize, chunk: u64, work: impl Fn(usize) + Sync) -> Vec<Spent> {
     let (ready, end, base) = (AtomicUsize::new(0), AtomicI64::new(0), Instant::now());
     let now = || base.elapsed().as_nanos() as i64;
     let run = |thread: usize| {
@@ -54,22 +87,27 @@ fn time_chunks(test: &str, peer: &str, threads: usize, work: impl Fn(usize) + Sy
         let (start, before, mut operations) = (Instant::now(), processor_time(), 0);
         while {
             work(thread);
-            operations += CHUNK;
+            operations += chunk;
             now() < end.load(SeqCst)
         } {}
         let wall = start.elapsed().as_nanos() as f64;
-        (wall, processor_time() - before, operations as f64)
+        Spent { wall, processor: processor_time() - before, operations: operations as f64 }
     };
-    let spent: Vec<(f64, f64, f64)> = std::thread::scope(|scope| {
+    std::thread::scope(|scope| {
         let workers: Vec<_> = (0..threads).map(|t| scope.spawn({ let run = &run; move || run(t) })).collect();
         workers.into_iter().map(|worker| worker.join().unwrap()).collect()
-    });
-    let wall: f64 = spent.iter().map(|s| s.0).sum();
-    let operations: f64 = spent.iter().map(|s| s.2).sum();
-    let least = spent.iter().map(|s| s.0).fold(f64::MAX, f64::min);
-    let most = spent.iter().map(|s| s.0).fold(0.0, f64::max);
-    let share = spent.iter().map(|s| s.1 / s.0).fold(least / most, f64::min);
-    println!("{test}|{peer}|{threads}|{:.2}|{:.0}", wall / operations, 100.0 * share);
+    })
+}
+
+/// A line: the time of some of the threads by their operations, and the least part of its time, of 100, that a thread had
+/// a processor, or that it shared with the others.
+fn tell(test: &str, peer: &str, spent: &[Spent], told: &[Spent]) {
+    let wall: f64 = told.iter().map(|s| s.wall).sum();
+    let operations: f64 = told.iter().map(|s| s.operations).sum();
+    let least = spent.iter().map(|s| s.wall).fold(f64::MAX, f64::min);
+    let most = spent.iter().map(|s| s.wall).fold(0.0, f64::max);
+    let share = spent.iter().map(|s| s.processor / s.wall).fold(least / most, f64::min);
+    println!("{test}|{peer}|{}|{:.2}|{:.0}", spent.len(), wall / operations, 100.0 * share);
 }
 
 /// What holds an `Arc`, and any thread loads and changes.
@@ -133,7 +171,7 @@ fn time_cells<C: Cell>(threads: usize, own: &[Apart<Arc<Object>>]) {
     let cells: Vec<_> = own.iter().map(|owner| Apart(C::holding(owner.0.clone()))).collect();
     let common = Apart(C::holding(own[0].0.clone()));
     time_row("cell load + release, own cell", peer, threads, |t| drop(black_box(cells[t].0.load())));
-    time_row("cell load + release, one cell", peer, threads, |_| drop(black_box(common.0.load())));
+    time_common("cell load + release, one cell", peer, threads, || drop(black_box(common.0.load())));
     time_row("cell store of a copy, own cell", peer, threads, |t| drop(cells[t].0.exchange(own[t].0.clone())));
     time_chunks("cell exchange, own cell", peer, threads, |t| {
         let mut handle = own[t].0.clone();
@@ -145,6 +183,13 @@ fn time_cells<C: Cell>(threads: usize, own: &[Apart<Arc<Object>>]) {
     time_row("cell compare_exchange of a copy, own cell", peer, threads, |t| {
         black_box(cells[t].0.compare_exchange(&own[t].0, own[t].0.clone()));
     });
+    time_beside(
+        ["cell store of a copy, others load", "cell load + release, the first stores"],
+        peer,
+        threads,
+        || drop(common.0.exchange(own[0].0.clone())),
+        || drop(black_box(common.0.load())),
+    );
 }
 
 fn main() {
@@ -156,7 +201,7 @@ fn main() {
         for threads in [1, 2, 4] {
             time_row("make + end", PEER, threads, |_| drop(black_box(make())));
             time_row("share + release, own object", PEER, threads, |t| drop(black_box(own[t].0.clone())));
-            time_row("share + release, one object", PEER, threads, |_| drop(black_box(own[0].0.clone())));
+            time_common("share + release, one object", PEER, threads, || drop(black_box(own[0].0.clone())));
             time_row("downgrade + release_weak, own object", PEER, threads, |t| {
                 let weak: Weak<Object> = Arc::downgrade(&own[t].0);
                 drop(black_box(weak));

@@ -24,6 +24,8 @@ using Clock = std::chrono::steady_clock;
 
 constexpr auto span = std::chrono::milliseconds(3);
 constexpr std::uint64_t chunk = 2000;
+// Fewer where threads wait for each other, so that they end together.
+constexpr std::uint64_t short_chunk = 100;
 constexpr int most_threads = 4;
 
 template <class T> void keep(T const &value) { asm volatile("" : : "r,m"(value) : "memory"); }
@@ -46,8 +48,8 @@ double processor_time() {
     return t.tv_sec * 1e9 + t.tv_nsec;
 }
 
-// The threads meet, and work in chunks until a common moment. A row is the time of all by the operations of all.
-template <class Work> void time_row(char const *test, char const *peer, int threads, Work work) {
+// The threads meet, and work in chunks until a common moment.
+template <class Work> std::vector<Spent> run(int threads, std::uint64_t count, Work work) {
     std::atomic<int> ready{0};
     std::atomic<std::int64_t> end{0};
     std::vector<Spent> spent(threads);
@@ -59,21 +61,44 @@ template <class Work> void time_row(char const *test, char const *peer, int thre
             auto start = Clock::now();
             double before = processor_time(), operations = 0;
             do {
-                work(thread, chunk);
-                operations += chunk;
+                work(thread, count);
+                operations += count;
             } while (Clock::now().time_since_epoch().count() < end);
             double wall = std::chrono::duration<double, std::nano>(Clock::now() - start).count();
             spent[thread] = {wall, processor_time() - before, operations};
         });
     }
     for (auto &worker : workers) worker.join();
-    double wall = 0, operations = 0, share = 1, least = 1e18, most = 0;
+    return spent;
+}
+
+// The least part of its time, of 100, that a thread had a processor, or that it shared with the others.
+double share_of(std::vector<Spent> const &spent) {
+    double share = 1, least = 1e18, most = 0;
     for (auto const &s : spent) {
-        wall += s.wall, operations += s.operations;
         share = std::min(share, s.processor / s.wall);
         least = std::min(least, s.wall), most = std::max(most, s.wall);
     }
-    std::printf("%s|%s|%d|%.2f|%.0f\n", test, peer, threads, wall / operations, 100 * std::min(share, least / most));
+    return 100 * std::min(share, least / most);
+}
+
+// A line: the time of some of the threads by their operations.
+void tell(char const *test, char const *peer, std::vector<Spent> const &spent, int from, int to) {
+    double wall = 0, operations = 0;
+    for (int t = from; t < to; t++) wall += spent[t].wall, operations += spent[t].operations;
+    std::printf("%s|%s|%d|%.2f|%.0f\n", test, peer, int(spent.size()), wall / operations, share_of(spent));
+}
+
+template <class Work> void time_row(char const *test, char const *peer, int threads, Work work, std::uint64_t count = chunk) {
+    tell(test, peer, run(threads, count, work), 0, threads);
+}
+
+// A row in which the first thread does something else than the others, and a line for each.
+template <class First, class Others>
+void time_beside(char const *test, char const *others_test, char const *peer, int threads, First first, Others others) {
+    auto spent = run(threads, short_chunk, [&](int t, std::uint64_t n) { t == 0 ? first(t, n) : others(t, n); });
+    tell(test, peer, spent, 0, 1);
+    if (threads > 1) tell(others_test, peer, spent, 1, threads);
 }
 
 template <class Shared, class Weak, class Cell, Shared (*make)()> struct Peer {
@@ -107,7 +132,7 @@ template <class Shared, class Weak, class Cell, Shared (*make)()> struct Peer {
                 Shared copy = own[0].value;
                 keep(copy.get());
             }
-        });
+        }, short_chunk);
         time_row("downgrade + release_weak, own object", peer, threads, [this](int t, std::uint64_t n) {
             while (n--) {
                 Weak copy = own[t].value;
@@ -130,7 +155,7 @@ template <class Shared, class Weak, class Cell, Shared (*make)()> struct Peer {
         });
         time_row("cell load + release, one cell", peer, threads, [this](int, std::uint64_t n) {
             while (n--) keep(common.value.load().get());
-        });
+        }, short_chunk);
         time_row("cell store of a copy, own cell", peer, threads, [this](int t, std::uint64_t n) {
             while (n--) cell[t].value.store(own[t].value);
         });
@@ -143,6 +168,14 @@ template <class Shared, class Weak, class Cell, Shared (*make)()> struct Peer {
             Shared expected = own[t].value;
             while (n--) keep(cell[t].value.compare_exchange_strong(expected, own[t].value));
         });
+        time_beside(
+            "cell store of a copy, others load", "cell load + release, the first stores", peer, threads,
+            [this](int t, std::uint64_t n) {
+                while (n--) common.value.store(own[t].value);
+            },
+            [this](int, std::uint64_t n) {
+                while (n--) keep(common.value.load().get());
+            });
     }
 };
 
