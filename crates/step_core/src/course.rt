@@ -5,7 +5,7 @@ ghost use Rattle.control_word.specs.declared.handle.Kind.TheVariants.{Owner};
 ghost use Rattle.control_word.specs.Words.{flags_of};
 ghost use Rattle.step_core.specs.Deeds.{as_weak, downgrade, is_expired, is_last, leave, owned, share, tell, tell_expired};
 ghost use Rattle.step_core.specs.Holdings.{Holds, is_full, slot};
-ghost use Rattle.step_core.specs.Stories.{IsMaking, Story, after, known, object_in, pending, state};
+ghost use Rattle.step_core.specs.Stories.{IsMaking, Plain, Story, after, known, object_in, pending, state};
 ghost use Rattle.step_core.specs.declared.holdings.Pointer.{Pointer};
 ghost use Rattle.control_word.specs.Events.{origin};
 ghost use Rattle.control_word.specs.Layout.{spot};
@@ -210,6 +210,7 @@ impl Course {
     /// How many owners the object has that a name holds; 0 where it is empty.
     pub(crate) fn count(&mut self, desk: usize, table: &mut Table, name: u8) -> u32
         requires can { CanAct desk self.old table.old }
+        requires plain { Plain table.old }
         requires act { (task_at self.old).act ≡ Act.Count name }
         ensures exact { result ≡ on (λ x. count (state table.old) (owned (state table.old) x)) 0 (slot self.old.holdings.slots.items name) }
         ensures table { table.new ≡ done_on (tell (state table.old)) table.old desk (slot self.old.holdings.slots.items name) }

@@ -9,7 +9,7 @@ ghost use Rattle.control_word.specs.declared.view.Pending.TheVariants.{Idle};
 ghost use Rattle.control_word.specs.Words.{flags_of};
 ghost use Rattle.step_core.specs.Deeds.{as_owner, as_weak, downgrade, is_expired, is_last, leave, lock, owned, owner_word, share, tell, tell_expired};
 ghost use Rattle.step_core.specs.Holdings.{Holds, is_full, slot, weak_as, weak_slot};
-ghost use Rattle.step_core.specs.Stories.{IsMaking, Story, after, known, object_in, pending, state};
+ghost use Rattle.step_core.specs.Stories.{IsMaking, Plain, Story, after, known, object_in, pending, state};
 
 use crate::act::Form;
 use crate::past::Deed;
@@ -154,9 +154,10 @@ impl Holdings {
         last
     }
 
-    /// How many owners the object of a slot has.
+    /// How many owners the object of a slot has: exactly, as nothing was done to a cell.
     pub(crate) fn count(&self, desk: usize, table: &mut Table, from: usize, pointer: Pointer) -> u32
         requires seat { desk < table.old.extent.actors }
+        requires plain { Plain table.old }
         requires idle { pending table.old desk ≡ Idle }
         requires holds { Holds desk self.now.slots.items table.old }
         requires from { slot self.now.slots.items from ≡ Some pointer }

@@ -4,6 +4,7 @@
 mod act;
 mod call;
 mod census;
+mod clearing;
 mod course;
 mod ending;
 mod extent;
