@@ -12,6 +12,7 @@ const CHUNK: u64 = 2_000;
 /// Fewer where threads wait for each other, so that they end together.
 const SHORT_CHUNK: u64 = 100;
 const MOST_THREADS: usize = 4;
+const OBSERVERS: u64 = 1_000;
 const PEER: &str = "Rust Arc";
 
 type Object = [u64; 4];
@@ -192,6 +193,25 @@ fn time_cells<C: Cell>(threads: usize, own: &[Apart<Arc<Object>>]) {
     );
 }
 
+/// The row of a subject's observers, of which each fourth has ended.
+fn time_observers() {
+    let mut living = Vec::new();
+    let observers: Vec<Weak<Object>> = (0..OBSERVERS)
+        .map(|i| {
+            let observer = Arc::new([1, 2, 3, 4]);
+            let weak = Arc::downgrade(&observer);
+            if i % 4 > 0 {
+                living.push(observer);
+            }
+            weak
+        })
+        .collect();
+    let spent = run(1, OBSERVERS, |_| {
+        black_box(observers.iter().filter(|observer| observer.upgrade().is_some()).count());
+    });
+    tell("lock + release, each of 1,000 observers", PEER, &spent, &spent);
+}
+
 fn main() {
     let make = || Arc::<Object>::new([1, 2, 3, 4]);
     let own: Vec<_> = (0..MOST_THREADS).map(|_| Apart(make())).collect();
@@ -214,5 +234,6 @@ fn main() {
             #[cfg(arc_swap)]
             time_cells::<arc_swap::ArcSwap<Object>>(threads, &own);
         }
+        time_observers();
     }
 }

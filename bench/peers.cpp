@@ -27,6 +27,7 @@ constexpr std::uint64_t chunk = 2000;
 // Fewer where threads wait for each other, so that they end together.
 constexpr std::uint64_t short_chunk = 100;
 constexpr int most_threads = 4;
+constexpr int most_observers = 1000;
 
 template <class T> void keep(T const &value) { asm volatile("" : : "r,m"(value) : "memory"); }
 
@@ -106,9 +107,17 @@ template <class Shared, class Weak, class Cell, Shared (*make)()> struct Peer {
     Apart<Weak> weak[most_threads];
     Apart<Cell> cell[most_threads];
     Apart<Cell> common;
+    // Of the observers each fourth has ended.
+    std::vector<Weak> observers;
+    std::vector<Shared> living;
 
     Peer() {
         for (int i = 0; i < most_threads; i++) own[i].value = make(), weak[i].value = own[i].value;
+        for (int i = 0; i < most_observers; i++) {
+            Shared observer = make();
+            observers.push_back(observer);
+            if (i % 4 > 0) living.push_back(observer);
+        }
     }
 
     // Before each row of cells: what they hold.
@@ -146,6 +155,17 @@ template <class Shared, class Weak, class Cell, Shared (*make)()> struct Peer {
             while (n--) keep(weak[t].value.lock().get());
         });
         cell_rows(peer, threads);
+        if (threads == 1) alone_rows(peer);
+    }
+
+    void alone_rows(char const *peer) {
+        time_row("lock + release, each of 1,000 observers", peer, 1, [this](int, std::uint64_t) {
+            std::uint64_t count = 0;
+            for (Weak const &observer : observers) {
+                if (Shared owner = observer.lock()) count++;
+            }
+            keep(count);
+        }, most_observers);
     }
 
     void cell_rows(char const *peer, int threads) {
