@@ -27,6 +27,8 @@ constexpr std::uint64_t chunk = 2000;
 // Fewer where threads wait for each other, so that they end together.
 constexpr std::uint64_t short_chunk = 100;
 constexpr int most_threads = 4;
+constexpr int most_observers = 1000;
+constexpr int chain_length = 4095;
 
 template <class T> void keep(T const &value) { asm volatile("" : : "r,m"(value) : "memory"); }
 
@@ -106,9 +108,17 @@ template <class Shared, class Weak, class Cell, Shared (*make)()> struct Peer {
     Apart<Weak> weak[most_threads];
     Apart<Cell> cell[most_threads];
     Apart<Cell> common;
+    // Of the observers each fourth has ended.
+    std::vector<Weak> observers;
+    std::vector<Shared> living;
 
     Peer() {
         for (int i = 0; i < most_threads; i++) own[i].value = make(), weak[i].value = own[i].value;
+        for (int i = 0; i < most_observers; i++) {
+            Shared observer = make();
+            observers.push_back(observer);
+            if (i % 4 > 0) living.push_back(observer);
+        }
     }
 
     // Before each row of cells: what they hold.
@@ -146,6 +156,17 @@ template <class Shared, class Weak, class Cell, Shared (*make)()> struct Peer {
             while (n--) keep(weak[t].value.lock().get());
         });
         cell_rows(peer, threads);
+        if (threads == 1) alone_rows(peer);
+    }
+
+    void alone_rows(char const *peer) {
+        time_row("lock + release, each of 1,000 observers", peer, 1, [this](int, std::uint64_t) {
+            std::uint64_t count = 0;
+            for (Weak const &observer : observers) {
+                if (Shared owner = observer.lock()) count++;
+            }
+            keep(count);
+        }, most_observers);
     }
 
     void cell_rows(char const *peer, int threads) {
@@ -179,22 +200,83 @@ template <class Shared, class Weak, class Cell, Shared (*make)()> struct Peer {
     }
 };
 
+template <template <class> class Pointer> struct Node {
+    std::uint64_t fields[4] = {1, 2, 3, 4};
+    Pointer<Node> next;
+};
+
+// Nodes that own the next one: a stack whose head is a cell, and chains that end with their head.
+template <template <class> class Pointer, class Cell, Pointer<Node<Pointer>> (*make)()> struct Nodes {
+    using Owner = Pointer<Node<Pointer>>;
+    Apart<Cell> head;
+
+    void push() {
+        Owner node = make();
+        node->next = head.value.load();
+        while (!head.value.compare_exchange_weak(node->next, node)) {}
+    }
+
+    void pop() {
+        Owner top = head.value.load();
+        while (top && !head.value.compare_exchange_weak(top, top->next)) {}
+        keep(top.get());
+    }
+
+    static Owner chain() {
+        Owner first;
+        for (int i = 0; i < chain_length; i++) {
+            Owner node = make();
+            node->next = std::move(first);
+            first = std::move(node);
+        }
+        return first;
+    }
+
+    // Only the end of a chain is timed.
+    static std::vector<Spent> end_chains() {
+        Spent spent{0, 0, 0};
+        while (spent.wall < std::chrono::duration<double, std::nano>(span).count()) {
+            Owner first = chain();
+            double before = processor_time();
+            auto start = Clock::now();
+            first.reset();
+            spent.wall += std::chrono::duration<double, std::nano>(Clock::now() - start).count();
+            spent.processor += processor_time() - before;
+            spent.operations += chain_length;
+        }
+        return {spent};
+    }
+
+    void rows(char const *peer, int threads) {
+        time_row("stack push + pop", peer, threads, [this](int, std::uint64_t n) {
+            while (n--) push(), pop();
+        }, short_chunk);
+        if (threads == 1) tell("end of a chain of 4,095, each", peer, end_chains(), 0, 1);
+    }
+};
+
 std::shared_ptr<Object> make_std() { return std::make_shared<Object>(); }
+std::shared_ptr<Node<std::shared_ptr>> make_std_node() { return std::make_shared<Node<std::shared_ptr>>(); }
 #ifdef WITH_BOOST
 boost::shared_ptr<Object> make_boost() { return boost::make_shared<Object>(); }
+boost::shared_ptr<Node<boost::shared_ptr>> make_boost_node() { return boost::make_shared<Node<boost::shared_ptr>>(); }
 #endif
 
 int main(int count, char **words) {
     int rounds = count > 1 ? std::atoi(words[1]) : 1;
     Peer<std::shared_ptr<Object>, std::weak_ptr<Object>, std::atomic<std::shared_ptr<Object>>, make_std> standard;
+    Nodes<std::shared_ptr, std::atomic<std::shared_ptr<Node<std::shared_ptr>>>, make_std_node> standard_nodes;
 #ifdef WITH_BOOST
     Peer<boost::shared_ptr<Object>, boost::weak_ptr<Object>, boost::atomic_shared_ptr<Object>, make_boost> boosted;
+    Nodes<boost::shared_ptr, boost::atomic_shared_ptr<Node<boost::shared_ptr>>, make_boost_node> boosted_nodes;
 #endif
     for (int round = 0; round < rounds; round++) {
         for (int threads : {1, 2, 4}) {
             standard.rows("libstdc++ shared_ptr", threads);
+            standard_nodes.rows("libstdc++ shared_ptr", threads);
 #ifdef WITH_BOOST
             boosted.rows("Boost shared_ptr", threads);
+            boosted_nodes.rows("Boost shared_ptr", threads);
 #endif
         }
     }

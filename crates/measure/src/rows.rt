@@ -23,7 +23,7 @@ pub(crate) enum Row {
 }
 
 impl Row {
-    /// Those that a first thread takes part in.
+    /// Those of one, two and four threads, of which the first does this.
     pub(crate) const ALL: [Row; 12] = [
         Row::MakeEnd,
         Row::ShareOwn,
@@ -77,42 +77,42 @@ impl Row {
 
     /// The lines: one for all threads, or where the others do something else one for the first, and one for them.
     pub(crate) fn tell<R: Print>(self, rt: &R, spent: &[Spent]) -> io::Result<()> {
-        let threads = spent.len();
-        let share = share_of(spent);
-        let Row::StoreCommon = self else {
-            return self.line(rt, threads, spent, share);
-        };
-        if threads == 0 {
+        if !matches!(self, Row::StoreCommon) || spent.is_empty() {
+            return line(rt, self.name(), self.chunk(), spent, spent);
+        }
+        line(rt, self.name(), self.chunk(), spent, &spent[..1])?;
+        if spent.len() == 1 {
             return Ok(());
         }
-        self.line(rt, threads, &spent[..1], share)?;
-        if threads == 1 {
-            return Ok(());
-        }
-        self.beside().line(rt, threads, &spent[1..], share)
-    }
-
-    /// A line: these threads' nanoseconds by their rounds.
-    fn line<R: Print>(self, rt: &R, threads: usize, spent: &[Spent], share: u64) -> io::Result<()> {
-        let mut wall = 0u64;
-        let mut rounds = 0u64;
-        for thread in spent {
-            wall = wall.wrapping_add(thread.wall);
-            rounds = rounds.wrapping_add(u64::from(self.chunk()).wrapping_mul(u64::from(
-                thread.chunks,
-            )));
-        }
-        let hundredths = wall.saturating_mul(100) / rounds.max(1);
-        println!(rt;
-            "{}|this runtime|{threads}|{}.{:02}|{share}",
-            self.name(),
-            hundredths / 100,
-            hundredths % 100
-        )
+        line(rt, self.beside().name(), self.chunk(), spent, &spent[1..])
     }
 }
 
-/// The least part of its time, of 100, that a thread had a processor, or that it shared with the others.
+/// A line: nanoseconds of some of the threads by their rounds, and the least part of its time, of 100, that a thread had a
+/// processor, or that it shared with the others.
+pub(crate) fn line<R: Print>(
+    rt: &R,
+    name: &str,
+    chunk: u32,
+    spent: &[Spent],
+    told: &[Spent],
+) -> io::Result<()> {
+    let mut wall = 0u64;
+    let mut rounds = 0u64;
+    for thread in told {
+        wall = wall.wrapping_add(thread.wall);
+        rounds = rounds.wrapping_add(u64::from(chunk).wrapping_mul(u64::from(thread.chunks)));
+    }
+    let hundredths = wall.saturating_mul(100) / rounds.max(1);
+    println!(rt;
+        "{name}|this runtime|{}|{}.{:02}|{}",
+        spent.len(),
+        hundredths / 100,
+        hundredths % 100,
+        share_of(spent)
+    )
+}
+
 fn share_of(spent: &[Spent]) -> u64 {
     let mut share = 100u64;
     let mut least = u64::MAX;

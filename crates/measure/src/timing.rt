@@ -14,10 +14,10 @@ use std::time::{CpuClock, Duration, Instant};
 use std::{hint, io};
 
 /// How many chunks a thread does at most.
-const CHUNKS: u32 = 1_000_000;
+pub(crate) const CHUNKS: u32 = 1_000_000;
 
 /// How long a row runs, in nanoseconds.
-const SPAN: u64 = 3_000_000;
+pub(crate) const SPAN: u64 = 3_000_000;
 
 /// How long the threads work before it, so that each has got a processor of its own.
 const SETTLING: u64 = 60_000_000;
@@ -76,7 +76,7 @@ impl Start {
     }
 }
 
-fn nanos(time: Duration) -> u64 {
+pub(crate) fn nanos(time: Duration) -> u64 {
     u64::try_from(time.as_nanos()).unwrap_or(0)
 }
 
