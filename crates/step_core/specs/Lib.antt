@@ -18,3 +18,5 @@ pub mod Turning
 pub mod Worlds
 pub mod Starts
 pub mod Told
+pub mod CellDeeds
+pub mod Cells

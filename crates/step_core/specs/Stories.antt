@@ -18,7 +18,8 @@ use Rattle.control_word.specs.Steps.{known_of}
 use Rattle.control_word.specs.Views.{Stands, sees_as, used_up}
 use Rattle.step_core.specs.declared.extent.Extent.{Extent}
 use Rattle.step_core.specs.declared.past.Deed.{Deed}
-use Rattle.step_core.specs.declared.past.Deed.TheVariants.{Prepare, Write, Claim, Share, WeakShare, Leave, WeakLeave, Lock, Count, Expired, Clear, Finish}
+use Rattle.step_core.specs.declared.past.Deed.TheVariants.{Prepare, Write, Claim, Share, WeakShare, Leave, WeakLeave, Lock, Count, Expired, Clear, Finish, OnCell}
+use Rattle.step_core.specs.CellDeeds.{cell_event, cell_pending, cell_words}
 use Rattle.step_core.specs.Openings.{IsExtent, opening, share_of}
 
 -- objects of the machine have no value of their own
@@ -69,6 +70,7 @@ event_of v (Count k b p n) = Some (event.Count (handle_in v k b p) n)
 event_of v (Expired k b p expired) = Some (event.Expired (handle_in v k b p) expired)
 event_of v (Clear b m) = Some (event.ClearMember (object_in v b) m (empty (kind_of_member m)))
 event_of v (Finish b vacant) = Some (event.Finish (object_in v b) vacant tt)
+event_of v (OnCell x) = cell_event (state v) x
 
 -- the words after it: one of them is written, or none
 abbrev pub words_after : Story → Deed → List ℕ
@@ -84,15 +86,17 @@ words_after v (Count k b p n) = v.words
 words_after v (Expired k b p expired) = v.words
 words_after v (Clear b m) = v.words
 words_after v (Finish b vacant) = slice_set v.words (spot b.0 1) (slice_index v.words (spot b.0 1) - 1)
+words_after v (OnCell x) = cell_words v.extent.shape.blocks v.words x
 
 abbrev pub known : Pending Nothing → List ℕ
 known (Making b l) = l
 known _ = []
 
--- the desk's half-done call after it: only a make takes several steps
+-- the desk's half-done call after it: a make and a call on a cell take several steps
 abbrev pub pending_after : Story → ℕ → Deed → Pending Nothing
 pending_after v d (Prepare b) = Making b (known_of v.words b.0)
 pending_after v d (Write b j n) = Making b (slice_set (known (pending v d)) j n)
+pending_after v d (OnCell x) = cell_pending (state v) x
 pending_after v d _ = Idle
 
 -- the desk is making an object in this block, and knows its five loose words
@@ -158,4 +162,5 @@ pub record Plain (v : Story) : Type 0 where
 
 -- a deed that does nothing to a cell
 abbrev pub IsPlain : Deed → Type 0
-IsPlain x = Unit {0}
+IsPlain (OnCell x) = ⊥
+IsPlain _ = Unit {0}

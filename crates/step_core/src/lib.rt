@@ -3,11 +3,14 @@
 
 mod act;
 mod call;
+mod cell_deed;
+mod cells;
 mod census;
 mod clearing;
 mod course;
 mod ending;
 mod extent;
+mod funds;
 mod half;
 mod holdings;
 mod limits;

@@ -6,6 +6,7 @@ ghost use Rattle.control_word.specs.declared.view.View.{View};
 ghost use Rattle.control_word.specs.Views.{fresh};
 ghost use Rattle.step_core.specs.Stories.{Nothing, history_after, views_after};
 
+use crate::cell_deed::CellDeed;
 use crate::extent::Extent;
 use crate::table::Table;
 use control_word::handle::Kind;
@@ -84,6 +85,10 @@ pub enum Deed {
     Finish {
         block: Block,
         vacant: bool,
+    },
+    /// A step on a cell, or on the funds of a count.
+    OnCell {
+        deed: CellDeed,
     },
 }
 

@@ -24,7 +24,7 @@ use std::marker::Model;
 #[derive(Drop)]
 pub struct Table {
     pub(crate) words: Vec<u64>,
-    extent: Extent,
+    pub(crate) extent: Extent,
     pub(crate) past: Past,
 }
 

@@ -21,7 +21,7 @@ use Rattle.step_core.specs.declared.half.Half.{Half}
 use Rattle.step_core.specs.declared.half.Half.TheVariants.{Rest, Making, Ending, Locking}
 use Rattle.step_core.specs.declared.holdings.Pointer.{Pointer}
 use Rattle.step_core.specs.declared.past.Deed.{Deed}
-use Rattle.step_core.specs.declared.past.Deed.TheVariants.{Prepare, Write, Claim, Share, WeakShare, Leave, WeakLeave, Lock, Count, Expired, Clear, Finish}
+use Rattle.step_core.specs.declared.past.Deed.TheVariants.{Prepare, Write, Claim, Share, WeakShare, Leave, WeakLeave, Lock, Count, Expired, Clear, Finish, OnCell}
 use Rattle.step_core.specs.Actors.{HalfFits, Stocks, in_store}
 use Rattle.step_core.specs.Holdings.{Holds, Slots, slot, times}
 use Rattle.step_core.specs.Openings.{opening}
@@ -29,6 +29,7 @@ use Rattle.step_core.specs.Scenes.{least}
 use Rattle.step_core.specs.Stories.{Kept, known, Nothing, Story, after, handle_in, object_in, owner_in, pending, state, weak_in}
 use Rattle.step_core.proofs.holding.Least.{least_part}
 use Rattle.step_core.proofs.holding.Owning.{same_owns, slot_held}
+use Rattle.step_core.proofs.tables.CellDeeds.{framed, same_cell}
 use Rattle.step_core.proofs.tables.Places.{ending_busy, handle_busy, there}
 
 -- what is counted of a desk's part
@@ -61,6 +62,7 @@ same_deed v e d (Count k b p m) n = still (state v) d
 same_deed v e d (Expired k b p x) n = still (state v) d
 same_deed v e d (Clear b m) n = same_after {V = Nothing} (state v) d e (event.ClearMember (object_in v b) m (empty (kind_of_member m))) n (λ z. z)
 same_deed v e d (Finish b vacant) n = same_after {V = Nothing} (state v) d e (event.Finish (object_in v b) vacant tt) n (λ z. z)
+same_deed v e d (OnCell x) n = same_cell v e d x n
 
 -- the block of an object that was made stays, whatever a deed does
 block_stays : (v : Story) (e o : ℕ) (x : Deed) → o ≤ (state v).made → ((state (after v e x)).object o).block ≡ ((state v).object o).block
@@ -76,6 +78,7 @@ block_stays v e o (Count k b p m) le = refl
 block_stays v e o (Expired k b p x) le = refl
 block_stays v e o (Clear b m) le = (block_after {V = Nothing} (state v) e o (event.ClearMember (object_in v b) m (empty (kind_of_member m))) le).0
 block_stays v e o (Finish b vacant) le = (block_after {V = Nothing} (state v) e o (event.Finish (object_in v b) vacant tt) le).0
+block_stays v e o (OnCell x) le = (framed v e x).block o
 
 -- the object in a block that a desk keeps is the same
 kept_object : (v : Story) (e : ℕ) (b : Block) (x : Deed) → Kept v → Kept (after v e x) → 0 < weak_number (state v) (object_in v b)
@@ -160,6 +163,7 @@ ends_on v e d o (Finish b vacant) n kept kept' end =
     let his = kept'.stands.legal.1.asks.0 in
     put_cases (λ i (y : Object). i ≡ o → y.phase ≡ ending d) (state v).object (object_in v b) _ o
     (λ q t. absurd (n (phase_differs d e ((state v).object o).phase end (ap (λ (j : ℕ). ((state v).object j).phase) q ∙ his)))) (λ q t. end) refl
+ends_on v e d o (OnCell x) n kept kept' end = (framed v e x).phase o ∙ end
 
 -- the same store has the same least block
 least_others : (d : ℕ) (s t : State) → Same s t d → least d t.stores ≡ least d s.stores

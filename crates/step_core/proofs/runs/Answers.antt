@@ -32,6 +32,7 @@ use Rattle.step_core.specs.Scenes.{found, least, lock_answer, on, walk_of}
 use Rattle.step_core.specs.Steps.{Step, acts, begins, begun, claims, ends_on, first, is_event, looks, made_on, prepares, silent, step_at, stepped as stepped_by, story_after, story_by, tried, tries, trying}
 use Rattle.step_core.specs.Stories.{Nothing, Story, added, event_of, known, object_in, pending, state}
 use Rattle.step_core.specs.Worlds.{Sight, half_of, scene, step_of}
+use Rattle.step_core.proofs.tables.CellDeeds.{by_event}
 use Rattle.step_core.proofs.runs.Headline.{IsStep}
 
 -- what a deed gave that is a lock
@@ -159,6 +160,10 @@ by_deed : (v : Story) (d : ℕ) (y : Deed) (w : Handle) (gave : Bool) → added 
 by_deed v d (deed.Lock b p got) w gave e = ap newest_gave e
 by_deed v d (deed.Prepare b) w gave e = absurd (let n = ap (λ (h : List (Entry Nothing)). length h) e in omega (arith, n))
 by_deed v d (deed.Write b j n) w gave e = absurd (let m = ap (λ (h : List (Entry Nothing)). length h) e in omega (arith, m))
+by_deed v d (deed.OnCell x) w gave e =
+    by_event (λ (a : Option (Event Nothing)). added d a v.history ≡ entry d (event.Lock w gave) ∷ v.history → None ≡ Some gave)
+    (λ q. absurd (let n = ap (λ (h : List (Entry Nothing)). length h) q in omega (arith, n))) (λ c h q. ap newest_gave q) (λ c x n h b f q. ap newest_gave q)
+    (λ c n h q. ap newest_gave q) (λ o m h q. ap newest_gave q) (state v) x e
 by_deed v d _ w gave e = ap newest_gave e
 
 pub tells_locks : (u : Sight) (x : TraceStep) (u' : Sight) → IsStep u x u' → TellsLocks u x u'

@@ -34,6 +34,8 @@ use Rattle.step_core.specs.Stories.{Nothing, Story, added, event_of, known, obje
 use Rattle.step_core.specs.Totals.{is_last}
 use Rattle.step_core.specs.Worlds.{Sight, half_of, scene, step_of}
 use Rattle.step_core.specs.Scenes.{walk_of}
+use Rattle.step_core.specs.CellDeeds.{cell_event}
+use Rattle.step_core.proofs.tables.CellDeeds.{by_event}
 use Rattle.step_core.proofs.runs.Headline.{IsStep, asked, newest_is_last}
 
 -- what is left by a deed: it is the last owner's leave, or nothing
@@ -187,6 +189,10 @@ module _ (u : Sight) (x : TraceStep) (u' : Sight) (step : IsStep u x u') where
   by_deed None now says = none_left None refl now says
   by_deed (Some (deed.Leave b p true)) now says = one_left b p now says
   by_deed (Some (deed.Leave b p false)) now says = none_left (event_of u.story (deed.Leave b p false)) refl now says
+  by_deed (Some (deed.OnCell z)) now says =
+      none_left (cell_event (state u.story) z)
+      (by_event (λ (a : Option (Event Nothing)). is_last_in a ≡ false) refl (λ c h. refl) (λ c e n h b f. refl) (λ c n h. refl) (λ o m h. refl) (state u.story) z)
+      now says
   by_deed (Some y) now says = none_left (event_of u.story y) refl now says
 
   by_step : (y : Option Step) → u'.story.history ≡ (story_by u.story (x.actor - 1) y).history → x.stepped ≡ stepped_by u.story y → Tells u.story y

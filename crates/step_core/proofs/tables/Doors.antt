@@ -11,9 +11,10 @@ use Rattle.control_word.specs.Events.{moved_to}
 use Rattle.control_word.specs.Histories.{IsLegal}
 use Rattle.control_word.specs.Layout.{spot}
 use Rattle.control_word.specs.State.{Object, ending}
-use Rattle.control_word.specs.Views.{added, adds, owed, owes, total, used_up}
+use Rattle.control_word.specs.Views.{added, adds, total, used_up}
 use Rattle.step_core.specs.declared.past.Deed.{Deed}
-use Rattle.step_core.specs.declared.past.Deed.TheVariants.{Prepare, Write, Claim, Share, WeakShare, Leave, WeakLeave, Lock, Count, Expired, Clear, Finish}
+use Rattle.step_core.specs.declared.past.Deed.TheVariants.{Prepare, Write, Claim, Share, WeakShare, Leave, WeakLeave, Lock, Count, Expired, Clear, Finish, OnCell}
+use Rattle.step_core.proofs.tables.CellDeeds.{shuts_cell, whole_framed}
 use Rattle.step_core.specs.Openings.{opening}
 use Rattle.step_core.specs.Stories.{AllWhole, ShutsNoDoor, Kept, Nothing, Story, after, history_after, object_in, pending, pending_after, state, view_in}
 
@@ -30,6 +31,7 @@ shuts_none v d (Count k b p n) = tt
 shuts_none v d (Expired k b p e) = tt
 shuts_none v d (Clear b m) = tt
 shuts_none v d (Finish b vacant) = tt
+shuts_none v d (OnCell x) = shuts_cell (state v) x
 
 -- what is so of each half-done call, and of the desk's after its deed
 pub pending_all : (P : Pending Nothing → Type 0) (v : Story) (d : ℕ) (x : Deed) → d < length v.views → P (pending_after v d x)
@@ -74,6 +76,7 @@ whole_after v d (Clear b m) whole legal = λ o some le.
 whole_after v d (Finish b vacant) whole legal = λ o some le.
     put_cases (λ j (z : Object). o ≡ j → length z.fields ≡ 4) (state v).object (object_in v b) _ o
     (λ e t. moved_whole v (object_in v b) ((state v).object (object_in v b)) o whole refl some le e) (λ ne t. whole o some le) refl
+whole_after v d (OnCell x) whole legal = whole_framed v d x whole
 
 pub none_in : (f : Pending Nothing → ℕ) (views : List (View Nothing)) → ((d : ℕ) → f (view_in views d).pending ≡ 0)
     → total (λ (w : View Nothing). f w.pending) views ≡ 0

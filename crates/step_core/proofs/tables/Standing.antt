@@ -12,10 +12,11 @@ use Rattle.control_word.specs.Steps.{Point, Ready}
 use Rattle.control_word.specs.Views.{Stands, sees_as, used_up}
 use Rattle.step_core.specs.declared.extent.Extent.{Extent}
 use Rattle.step_core.specs.declared.past.Deed.{Deed}
-use Rattle.step_core.specs.declared.past.Deed.TheVariants.{Prepare, Write, Claim, Share, WeakShare, Leave, WeakLeave, Lock, Count, Expired, Clear, Finish}
+use Rattle.step_core.specs.declared.past.Deed.TheVariants.{Prepare, Write, Claim, Share, WeakShare, Leave, WeakLeave, Lock, Count, Expired, Clear, Finish, OnCell}
 use Rattle.step_core.specs.Openings.{opening}
 use Rattle.step_core.specs.Stories.{Nothing, Story, Seats, Kept, after, history_after, pending, pending_after, state, view_in, views_after}
 use Rattle.step_core.specs.Stories.{words_after}
+use Rattle.step_core.proofs.tables.CellDeeds.{framed}
 use Rattle.step_core.proofs.tables.Doors.{doors_after, whole_after}
 
 at_get : {A : Type 0} (l : List A) (i : ℕ) (d : A) → i < length l → get_elem? l i ≡ some (get_or l i d)
@@ -67,6 +68,7 @@ same_allowance v d (Count k b p n) = refl
 same_allowance v d (Expired k b p e) = refl
 same_allowance v d (Clear b m) = refl
 same_allowance v d (Finish b vacant) = refl
+same_allowance v d (OnCell x) = (framed v d x).allowance
 
 -- what a deed leaves
 pub kept_after : (v : Story) (d : ℕ) (x : Deed) → Kept v → d < v.extent.actors

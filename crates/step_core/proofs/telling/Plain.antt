@@ -1,0 +1,105 @@
+-- No act of a thread does anything to a cell.
+use Rattle.std.proofs.Common.{ℕ, ◌+◌, ◌<◌, ◌==◌, Bool, true, false, List, [], ◌∷◌, length, get_or}
+use Rattle.std.specs.Prelude.{Option, Some, None, option_map}
+use Rattle.std.proofs.lemmas.Bool.{cond_both}
+use Rattle.control_word.specs.declared.handle.Kind.{Kind}
+use Rattle.control_word.specs.declared.handle.Kind.TheVariants.{Owner, Weak}
+use Rattle.control_word.specs.declared.place.Block.{Block}
+use Rattle.step_core.specs.declared.act.Act.{Act}
+use Rattle.step_core.specs.declared.act.Act.TheVariants.{Make, Share, Downgrade, Lock, Put, Leave, Clear, Count, Expired}
+use Rattle.step_core.specs.declared.act.Task.{Task}
+use Rattle.step_core.specs.declared.half.Half.{Half}
+use Rattle.step_core.specs.declared.half.Half.TheVariants.{Rest, Making, Ending, Locking}
+use Rattle.step_core.specs.declared.holdings.Pointer.{Pointer}
+use Rattle.step_core.specs.declared.past.Deed.{Deed}
+use Rattle.step_core.specs.declared.past.Deed.TheVariants as deed
+use Rattle.control_word.specs.State.{weak}
+use Rattle.step_core.specs.Actors.{wanted}
+use Rattle.step_core.specs.Courses.{Walk, form_of, locked}
+use Rattle.step_core.specs.Deeds.{downgrade, is_last, leave, leave_as, lock, owner_word, share, share_as, tell, tell_expired}
+use Rattle.step_core.specs.Holdings.{slot}
+use Rattle.step_core.specs.Scenes.{least, on}
+use Rattle.step_core.specs.Steps.{Step, acts, begins, begun, claims, first, looks, made_on, prepares, silent, step_at, story_after, story_by, tried, tries, trying}
+use Rattle.step_core.specs.Stories.{IsPlain, Plain, Story, known, object_in, pending, state}
+use Rattle.step_core.proofs.tables.Plain.{plain_after}
+
+abbrev AllPlain : Option Deed → Type 0
+AllPlain None = Unit {0}
+AllPlain (Some x) = IsPlain x
+
+abbrev IsPlainStep : Option Step → Type 0
+IsPlainStep None = Unit {0}
+IsPlainStep (Some x) = AllPlain x.deed
+
+on_slot : (f : Pointer → Deed) (o : Option Pointer) → ((x : Pointer) → IsPlain (f x)) → AllPlain (option_map f o)
+on_slot f None plain = tt
+on_slot f (Some x) plain = plain x
+
+plain_share : (k : Kind) (x : Pointer) → IsPlain (share_as k x)
+plain_share Owner x = tt
+plain_share Weak x = tt
+
+plain_leave : (k : Kind) (x : Pointer) (last : Bool) → IsPlain (leave_as k x last)
+plain_leave Owner x last = tt
+plain_leave Weak x last = tt
+
+plain_begins : (w : Walk) (k : ℕ) (ts : List Task) (o : Option ℕ) → AllPlain (begins w k ts o).deed
+plain_begins w k ts None = tt
+plain_begins w k ts (Some b) = tt
+
+plain_lock : (v : Story) (d : ℕ) (w : Walk) (k : ℕ) (ts : List Task) (a : Act) (o : Option Pointer)
+    → AllPlain (on (looks v d w k ts a) (acts (state v) d w k ts a None Rest) o).deed
+plain_lock v d w k ts a None = tt
+plain_lock v d w k ts a (Some x) =
+    cond_both (owner_word v x == 0) (acts (state v) d w k ts a (Some (lock (state v) x)) Rest) (trying w k (owner_word v x))
+    (λ (s : Step). AllPlain s.deed) (λ t. tt) (λ t. tt)
+
+plain_first : (v : Story) (d : ℕ) (w : Walk) (k : ℕ) (ts : List Task) (a : Act) → AllPlain (first v d w k ts a).deed
+plain_first v d w k ts (Make fields) = plain_begins w k ts (least d (state v).stores)
+plain_first v d w k ts (Share i) = on_slot share (slot w.slots i) (λ x. plain_share x.kind x)
+plain_first v d w k ts (Put i) = on_slot (leave (state v)) (slot w.slots i) (λ x. plain_leave x.kind x (is_last (state v) x))
+plain_first v d w k ts (Leave i) = on_slot (leave (state v)) (slot w.slots i) (λ x. plain_leave x.kind x (is_last (state v) x))
+plain_first v d w k ts (Clear i) = on_slot (leave (state v)) (slot w.slots i) (λ x. plain_leave x.kind x (is_last (state v) x))
+plain_first v d w k ts (Count i) = on_slot (tell (state v)) (slot w.slots i) (λ x. tt)
+plain_first v d w k ts (Downgrade i) = on_slot downgrade (slot w.slots i) (λ x. tt)
+plain_first v d w k ts (Lock i must) = plain_lock v d w k ts (Lock i must) (locked w.slots (Lock i must))
+plain_first v d w k ts (Expired i) = on_slot (tell_expired (state v)) (slot w.slots i) (λ x. tt)
+
+plain_tried : (v : Story) (d : ℕ) (w : Walk) (word k : ℕ) (ts : List Task) (a : Act) (o : Option Pointer) → IsPlainStep (option_map (tries v d w k ts a word) o)
+plain_tried v d w word k ts a None = tt
+plain_tried v d w word k ts a (Some x) =
+    cond_both (owner_word v x == word) (acts (state v) d w k ts a (Some (lock (state v) x)) Rest) (trying w k (owner_word v x))
+    (λ (s : Step). AllPlain s.deed) (λ t. tt) (λ t. tt)
+
+plain_made : (v : Story) (d : ℕ) (w : Walk) (b : Block) (i : ℕ) (differs : Bool) (ts : List Task) → IsPlainStep (made_on v d w b i differs ts)
+plain_made v d w b i differs [] = tt
+plain_made v d w b i true (t ∷ ts) =
+    cond_both (i == 5) (claims w t.statement ts b (form_of t.act))
+    (prepares (get_or (known (pending v d)) i 0) (get_or (wanted (form_of t.act)) i 0) w t.statement b i true) (λ (s : Step). AllPlain s.deed) (λ t. tt) (λ t. tt)
+plain_made v d w b i false (t ∷ ts) =
+    cond_both (i == 5) (claims w t.statement ts b (form_of t.act))
+    (prepares (get_or (known (pending v d)) i 0) (get_or (wanted (form_of t.act)) i 0) w t.statement b i false) (λ (s : Step). AllPlain s.deed) (λ t. tt) (λ t. tt)
+
+pub plain_step : (v : Story) (d : ℕ) (h : Half) (w : Walk) → IsPlainStep (step_at v d h w)
+plain_step v d Rest w = go w.todo
+  where
+    go : (ts : List Task) → IsPlainStep (begun v d w ts)
+    go [] = tt
+    go (t ∷ ts) = plain_first v d w t.statement ts t.act
+plain_step v d (Making b i differs) w = plain_made v d w b i differs w.todo
+plain_step v d (Ending b stage k) w =
+    cond_both (stage == 3) (record { deed = Some (deed.Finish b (weak (state v) (object_in v b) == 0)); half = Rest; walk = w; said = silent k })
+    (record { deed = Some (deed.Clear b stage); half = Ending b (stage + 1) k; walk = w; said = silent k }) (λ (s : Step). AllPlain s.deed) (λ t. tt) (λ t. tt)
+plain_step v d (Locking word) w = go w.todo
+  where
+    go : (ts : List Task) → IsPlainStep (tried v d w word ts)
+    go [] = tt
+    go (t ∷ ts) = plain_tried v d w word t.statement ts t.act (locked w.slots t.act)
+
+pub plain_by : (v : Story) (d : ℕ) (x : Option Step) → IsPlainStep x → d < length v.views → Plain v → Plain (story_by v d x)
+plain_by v d None is lt plain = plain
+plain_by v d (Some x) is lt plain = go x.deed is
+  where
+    go : (y : Option Deed) → AllPlain y → Plain (story_after v d y)
+    go None p = plain
+    go (Some y) p = plain_after v d y lt p plain
