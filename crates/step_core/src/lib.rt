@@ -12,6 +12,8 @@ mod holdings;
 mod limits;
 mod locking;
 mod making;
+#[cfg(test)]
+mod naming_tests;
 mod opening;
 #[cfg(test)]
 mod opening_tests;
