@@ -24,7 +24,11 @@ using Clock = std::chrono::steady_clock;
 
 constexpr auto span = std::chrono::milliseconds(3);
 constexpr std::uint64_t chunk = 2000;
+// Fewer where threads wait for each other, so that they end together.
+constexpr std::uint64_t short_chunk = 100;
 constexpr int most_threads = 4;
+constexpr int most_observers = 1000;
+constexpr int chain_length = 4095;
 
 template <class T> void keep(T const &value) { asm volatile("" : : "r,m"(value) : "memory"); }
 
@@ -46,8 +50,8 @@ double processor_time() {
     return t.tv_sec * 1e9 + t.tv_nsec;
 }
 
-// The threads meet, and work in chunks until a common moment. A row is the time of all by the operations of all.
-template <class Work> void time_row(char const *test, char const *peer, int threads, Work work) {
+// The threads meet, and work in chunks until a common moment.
+template <class Work> std::vector<Spent> run(int threads, std::uint64_t count, Work work) {
     std::atomic<int> ready{0};
     std::atomic<std::int64_t> end{0};
     std::vector<Spent> spent(threads);
@@ -59,21 +63,44 @@ template <class Work> void time_row(char const *test, char const *peer, int thre
             auto start = Clock::now();
             double before = processor_time(), operations = 0;
             do {
-                work(thread, chunk);
-                operations += chunk;
+                work(thread, count);
+                operations += count;
             } while (Clock::now().time_since_epoch().count() < end);
             double wall = std::chrono::duration<double, std::nano>(Clock::now() - start).count();
             spent[thread] = {wall, processor_time() - before, operations};
         });
     }
     for (auto &worker : workers) worker.join();
-    double wall = 0, operations = 0, share = 1, least = 1e18, most = 0;
+    return spent;
+}
+
+// The least part of its time, of 100, that a thread had a processor, or that it shared with the others.
+double share_of(std::vector<Spent> const &spent) {
+    double share = 1, least = 1e18, most = 0;
     for (auto const &s : spent) {
-        wall += s.wall, operations += s.operations;
         share = std::min(share, s.processor / s.wall);
         least = std::min(least, s.wall), most = std::max(most, s.wall);
     }
-    std::printf("%s|%s|%d|%.2f|%.0f\n", test, peer, threads, wall / operations, 100 * std::min(share, least / most));
+    return 100 * std::min(share, least / most);
+}
+
+// A line: the time of some of the threads by their operations.
+void tell(char const *test, char const *peer, std::vector<Spent> const &spent, int from, int to) {
+    double wall = 0, operations = 0;
+    for (int t = from; t < to; t++) wall += spent[t].wall, operations += spent[t].operations;
+    std::printf("%s|%s|%d|%.2f|%.0f\n", test, peer, int(spent.size()), wall / operations, share_of(spent));
+}
+
+template <class Work> void time_row(char const *test, char const *peer, int threads, Work work, std::uint64_t count = chunk) {
+    tell(test, peer, run(threads, count, work), 0, threads);
+}
+
+// A row in which the first thread does something else than the others, and a line for each.
+template <class First, class Others>
+void time_beside(char const *test, char const *others_test, char const *peer, int threads, First first, Others others) {
+    auto spent = run(threads, short_chunk, [&](int t, std::uint64_t n) { t == 0 ? first(t, n) : others(t, n); });
+    tell(test, peer, spent, 0, 1);
+    if (threads > 1) tell(others_test, peer, spent, 1, threads);
 }
 
 template <class Shared, class Weak, class Cell, Shared (*make)()> struct Peer {
@@ -81,9 +108,17 @@ template <class Shared, class Weak, class Cell, Shared (*make)()> struct Peer {
     Apart<Weak> weak[most_threads];
     Apart<Cell> cell[most_threads];
     Apart<Cell> common;
+    // Of the observers each fourth has ended.
+    std::vector<Weak> observers;
+    std::vector<Shared> living;
 
     Peer() {
         for (int i = 0; i < most_threads; i++) own[i].value = make(), weak[i].value = own[i].value;
+        for (int i = 0; i < most_observers; i++) {
+            Shared observer = make();
+            observers.push_back(observer);
+            if (i % 4 > 0) living.push_back(observer);
+        }
     }
 
     // Before each row of cells: what they hold.
@@ -107,7 +142,7 @@ template <class Shared, class Weak, class Cell, Shared (*make)()> struct Peer {
                 Shared copy = own[0].value;
                 keep(copy.get());
             }
-        });
+        }, short_chunk);
         time_row("downgrade + release_weak, own object", peer, threads, [this](int t, std::uint64_t n) {
             while (n--) {
                 Weak copy = own[t].value;
@@ -121,6 +156,17 @@ template <class Shared, class Weak, class Cell, Shared (*make)()> struct Peer {
             while (n--) keep(weak[t].value.lock().get());
         });
         cell_rows(peer, threads);
+        if (threads == 1) alone_rows(peer);
+    }
+
+    void alone_rows(char const *peer) {
+        time_row("lock + release, each of 1,000 observers", peer, 1, [this](int, std::uint64_t) {
+            std::uint64_t count = 0;
+            for (Weak const &observer : observers) {
+                if (Shared owner = observer.lock()) count++;
+            }
+            keep(count);
+        }, most_observers);
     }
 
     void cell_rows(char const *peer, int threads) {
@@ -130,7 +176,7 @@ template <class Shared, class Weak, class Cell, Shared (*make)()> struct Peer {
         });
         time_row("cell load + release, one cell", peer, threads, [this](int, std::uint64_t n) {
             while (n--) keep(common.value.load().get());
-        });
+        }, short_chunk);
         time_row("cell store of a copy, own cell", peer, threads, [this](int t, std::uint64_t n) {
             while (n--) cell[t].value.store(own[t].value);
         });
@@ -143,25 +189,94 @@ template <class Shared, class Weak, class Cell, Shared (*make)()> struct Peer {
             Shared expected = own[t].value;
             while (n--) keep(cell[t].value.compare_exchange_strong(expected, own[t].value));
         });
+        time_beside(
+            "cell store of a copy, others load", "cell load + release, the first stores", peer, threads,
+            [this](int t, std::uint64_t n) {
+                while (n--) common.value.store(own[t].value);
+            },
+            [this](int, std::uint64_t n) {
+                while (n--) keep(common.value.load().get());
+            });
+    }
+};
+
+template <template <class> class Pointer> struct Node {
+    std::uint64_t fields[4] = {1, 2, 3, 4};
+    Pointer<Node> next;
+};
+
+// Nodes that own the next one: a stack whose head is a cell, and chains that end with their head.
+template <template <class> class Pointer, class Cell, Pointer<Node<Pointer>> (*make)()> struct Nodes {
+    using Owner = Pointer<Node<Pointer>>;
+    Apart<Cell> head;
+
+    void push() {
+        Owner node = make();
+        node->next = head.value.load();
+        while (!head.value.compare_exchange_weak(node->next, node)) {}
+    }
+
+    void pop() {
+        Owner top = head.value.load();
+        while (top && !head.value.compare_exchange_weak(top, top->next)) {}
+        keep(top.get());
+    }
+
+    static Owner chain() {
+        Owner first;
+        for (int i = 0; i < chain_length; i++) {
+            Owner node = make();
+            node->next = std::move(first);
+            first = std::move(node);
+        }
+        return first;
+    }
+
+    // Only the end of a chain is timed.
+    static std::vector<Spent> end_chains() {
+        Spent spent{0, 0, 0};
+        while (spent.wall < std::chrono::duration<double, std::nano>(span).count()) {
+            Owner first = chain();
+            double before = processor_time();
+            auto start = Clock::now();
+            first.reset();
+            spent.wall += std::chrono::duration<double, std::nano>(Clock::now() - start).count();
+            spent.processor += processor_time() - before;
+            spent.operations += chain_length;
+        }
+        return {spent};
+    }
+
+    void rows(char const *peer, int threads) {
+        time_row("stack push + pop", peer, threads, [this](int, std::uint64_t n) {
+            while (n--) push(), pop();
+        }, short_chunk);
+        if (threads == 1) tell("end of a chain of 4,095, each", peer, end_chains(), 0, 1);
     }
 };
 
 std::shared_ptr<Object> make_std() { return std::make_shared<Object>(); }
+std::shared_ptr<Node<std::shared_ptr>> make_std_node() { return std::make_shared<Node<std::shared_ptr>>(); }
 #ifdef WITH_BOOST
 boost::shared_ptr<Object> make_boost() { return boost::make_shared<Object>(); }
+boost::shared_ptr<Node<boost::shared_ptr>> make_boost_node() { return boost::make_shared<Node<boost::shared_ptr>>(); }
 #endif
 
 int main(int count, char **words) {
     int rounds = count > 1 ? std::atoi(words[1]) : 1;
     Peer<std::shared_ptr<Object>, std::weak_ptr<Object>, std::atomic<std::shared_ptr<Object>>, make_std> standard;
+    Nodes<std::shared_ptr, std::atomic<std::shared_ptr<Node<std::shared_ptr>>>, make_std_node> standard_nodes;
 #ifdef WITH_BOOST
     Peer<boost::shared_ptr<Object>, boost::weak_ptr<Object>, boost::atomic_shared_ptr<Object>, make_boost> boosted;
+    Nodes<boost::shared_ptr, boost::atomic_shared_ptr<Node<boost::shared_ptr>>, make_boost_node> boosted_nodes;
 #endif
     for (int round = 0; round < rounds; round++) {
         for (int threads : {1, 2, 4}) {
             standard.rows("libstdc++ shared_ptr", threads);
+            standard_nodes.rows("libstdc++ shared_ptr", threads);
 #ifdef WITH_BOOST
             boosted.rows("Boost shared_ptr", threads);
+            boosted_nodes.rows("Boost shared_ptr", threads);
 #endif
         }
     }

@@ -2,7 +2,7 @@
 ghost use Rattle.std.specs.Prelude.{◌≡◌, ◌<◌, Some};
 ghost use Rattle.control_word.specs.declared.place.Block.{Block};
 ghost use Rattle.control_word.specs.declared.handle.Kind.TheVariants.{Owner, Weak};
-ghost use Rattle.control_block.specs.CellCalls.{Belongs, IsProper};
+ghost use Rattle.control_block.specs.CellCalls.{Belongs};
 ghost use Rattle.control_block.specs.Desks.{IsSameDesk, bag_of};
 ghost use Rattle.shared_handle.specs.Calls.{Holds, without_handle};
 
@@ -33,10 +33,9 @@ fn compare<R: Wait>(
 ) -> Option<Found>
     requires domain { Belongs desk.old domain.now }
     requires cell { at.index < desk.old.shape.shared_cells }
-    requires holds { Holds desk.old Owner desired.block desired.place }
-    requires room { Holds desk.old Owner expected.now.block expected.now.place }
+    requires desired { Holds desk.old Owner desired.block desired.place }
+    requires expected { Holds desk.old Owner expected.now.block expected.now.place }
     requires real { (b : Block) × (desired.block ≡ Some b) }
-    requires proper { IsProper Owner expected.now.block expected.now.place × IsProper Owner desired.block desired.place }
     ensures desk { IsSameDesk desk.old desk.new }
     ensures bag { bag_of desk.new ≡ without_handle Owner desired.block desired.place (bag_of desk.old) }
 {
@@ -125,10 +124,9 @@ fn compare_weakly<R: Wait>(
 ) -> Option<bool>
     requires domain { Belongs desk.old domain.now }
     requires cell { at.index < desk.old.shape.weak_cells }
-    requires holds { Holds desk.old Weak desired.block desired.place }
-    requires room { Holds desk.old Weak expected.now.block expected.now.place }
+    requires desired { Holds desk.old Weak desired.block desired.place }
+    requires expected { Holds desk.old Weak expected.now.block expected.now.place }
     requires real { (b : Block) × (desired.block ≡ Some b) }
-    requires proper { IsProper Weak expected.now.block expected.now.place × IsProper Weak desired.block desired.place }
     ensures desk { IsSameDesk desk.old desk.new }
     ensures bag { bag_of desk.new ≡ without_handle Weak desired.block desired.place (bag_of desk.old) }
 {

@@ -2,7 +2,7 @@
 ghost use Rattle.std.specs.Prelude.{◌≡◌, ◌+◌, ◌<◌, ◌≤◌, [], IfSome, MatchOption, None, Some, length};
 ghost use Rattle.control_word.specs.declared.place.Block.{Block};
 ghost use Rattle.control_word.specs.declared.handle.Kind.TheVariants.{Owner};
-ghost use Rattle.control_block.specs.CellCalls.{Belongs, IsProper};
+ghost use Rattle.control_block.specs.CellCalls.{Belongs};
 ghost use Rattle.control_block.specs.Desks.{IsSameDesk, bag_of};
 ghost use Rattle.shared_handle.specs.Calls.{with_handle};
 
@@ -27,7 +27,7 @@ fn point_at_first(domain: &Domain<u64>, desk: &mut Desk<u64>) -> Option<Shared>
     requires domain { desk.old.domain ≡ domain.now.id }
     requires few { length (bag_of desk.old) ≤ desk.old.held }
     ensures desk { IsSameDesk desk.old desk.new }
-    ensures handle { IfSome result (λ e. (e.block ≡ None) × IsProper Owner e.block e.place) }
+    ensures handle { IfSome result (λ e. e.block ≡ None) }
     ensures bag { bag_of desk.new ≡ bag_of desk.old }
     ensures held { MatchOption result (desk.new.held ≡ desk.old.held) (λ _. desk.new.held ≡ desk.old.held + 1) }
 {
@@ -45,7 +45,7 @@ fn dangle(domain: &Domain<u64>, desk: &mut Desk<u64>) -> Option<(Shared, bool, W
     requires domain { desk.old.domain ≡ domain.now.id }
     requires fresh { (bag_of desk.old ≡ []) × (desk.old.held ≡ 0) }
     ensures desk { IsSameDesk desk.old desk.new }
-    ensures handle { IfSome result (λ r. (r.0.block ≡ None) × IsProper Owner r.0.block r.0.place) }
+    ensures handle { IfSome result (λ r. r.0.block ≡ None) }
     ensures counted { IfSome result (λ _. (bag_of desk.new ≡ []) × (desk.new.held ≡ 1)) }
 {
     let a = object(domain, desk, 1)?;
@@ -99,7 +99,7 @@ fn compare_with_empty<R: Wait>(
 ) -> Option<(bool, bool, u32)>
     requires domain { Belongs desk.old domain.now }
     requires cell { at.index < desk.old.shape.shared_cells }
-    requires empty { (e.now.block ≡ None) × IsProper Owner e.now.block e.now.place }
+    requires empty { e.now.block ≡ None }
     requires real { (x : Block) × (b.now.block ≡ Some x) }
     requires bag { bag_of desk.old ≡ with_handle Owner b.now.block b.now.place [] }
     requires held { desk.old.held ≡ 2 }
@@ -139,7 +139,7 @@ fn use_again<R: Wait>(
 ) -> Option<Again>
     requires domain { Belongs desk.old domain.now }
     requires cell { at.index < desk.old.shape.shared_cells }
-    requires empty { (e.block ≡ None) × IsProper Owner e.block e.place }
+    requires empty { e.block ≡ None }
     requires counted { (bag_of desk.old ≡ []) × (desk.old.held ≡ 1) }
     ensures desk { IsSameDesk desk.old desk.new }
 {

@@ -1,7 +1,7 @@
 //! Cells of shared pointers ([util.smartptr.atomic.shared]).
 ghost use Rattle.std.specs.Prelude.{◌≡◌, ◌↔◌, ◌+◌, ◌<◌, IfErr, IfOk, IsErr, OnOk};
 ghost use Rattle.control_word.specs.declared.handle.Kind.TheVariants.{Owner};
-ghost use Rattle.control_block.specs.CellCalls.{Belongs, IsProper};
+ghost use Rattle.control_block.specs.CellCalls.{Belongs};
 ghost use Rattle.control_block.specs.Desks.{Keeps, allowance_of, bag_of};
 ghost use Rattle.shared_handle.specs.Calls.{Holds, with_handle, without_handle};
 ghost use Rattle.atomic_cells.specs.Cells.{Exchanges, Loads, Stores};
@@ -55,7 +55,6 @@ impl SharedAt {
         ensures bag { IfOk result (λ h. bag_of desk.new ≡ with_handle Owner h.block h.place (bag_of desk.old)) }
         ensures held { OnOk result (desk.new.held ≡ desk.old.held + 1) }
         ensures holds { IfOk result (λ h. Holds desk.new Owner h.block h.place) }
-        ensures proper { IfOk result (λ h. IsProper Owner h.block h.place) }
         ensures keeps { OnOk result (Keeps desk.old desk.new) }
     {
         let found = cell_calls::load::<V, Brand, R>(rt, domain, desk, self.cell())?;
@@ -63,7 +62,7 @@ impl SharedAt {
     }
 
     /// The pointer goes into the cell, and what the cell held comes out ([util.smartptr.atomic.shared]), in one step on the
-    /// cell. It waits for nobody. Condition: an empty pointer's place is one that `alias` takes.
+    /// cell. It waits for nobody.
     pub fn exchange<V: Drop + Send>(
         &self,
         domain: &Domain<V>,
@@ -73,12 +72,10 @@ impl SharedAt {
         requires domain { Belongs desk.old domain.now }
         requires cell { self.now.index < desk.old.shape.shared_cells }
         requires holds { Holds desk.old Owner handle.block handle.place }
-        requires proper { IsProper Owner handle.block handle.place }
         ensures event { Exchanges desk.old self.now.index Owner handle.block handle.place result.block result.place desk.new }
         ensures bag { bag_of desk.new ≡ with_handle Owner result.block result.place (without_handle Owner handle.block handle.place (bag_of desk.old)) }
         ensures held { desk.new.held ≡ desk.old.held }
         ensures holds { Holds desk.new Owner result.block result.place }
-        ensures proper { IsProper Owner result.block result.place }
         ensures keeps { Keeps desk.old desk.new }
     {
         let (block, place) = handle.into_parts();
@@ -88,8 +85,7 @@ impl SharedAt {
     }
 
     /// The pointer goes into the cell, and what the cell held leaves ([util.smartptr.atomic.shared]); where that was an
-    /// object's last owner, the object ends in the desk's hands. It waits for nobody. Condition: an empty pointer's place is
-    /// one that `alias` takes.
+    /// object's last owner, the object ends in the desk's hands. It waits for nobody.
     #[tactic(auto, using(shared_handle::proofs::Taken::first_out))]
     pub fn store<V: Drop + Send>(
         &self,
@@ -100,7 +96,6 @@ impl SharedAt {
         requires domain { Belongs desk.old domain.now }
         requires cell { self.now.index < desk.old.shape.shared_cells }
         requires holds { Holds desk.old Owner handle.block handle.place }
-        requires proper { IsProper Owner handle.block handle.place }
         ensures stored { Stores desk.old self.now.index handle.block handle.place result desk.new }
         ensures bag { bag_of desk.new ≡ without_handle Owner handle.block handle.place (bag_of desk.old) }
         ensures held { desk.new.held + 1 ≡ desk.old.held }

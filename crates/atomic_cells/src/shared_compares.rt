@@ -2,7 +2,7 @@
 ghost use Rattle.std.specs.Prelude.{◌≡◌, ◌↔◌, ◌+◌, ◌<◌, cond, true, false, IfErr, IfOk, IsErr, OnOk};
 ghost use Rattle.control_word.specs.declared.event.Cell.TheVariants.{Free};
 ghost use Rattle.control_word.specs.declared.handle.Kind.TheVariants.{Owner};
-ghost use Rattle.control_block.specs.CellCalls.{Belongs, IsProper, handle_in};
+ghost use Rattle.control_block.specs.CellCalls.{Belongs, handle_in};
 ghost use Rattle.control_block.specs.Desks.{Keeps, allowance_of, bag_of};
 ghost use Rattle.shared_handle.specs.Calls.{Holds, with_handle, without_handle};
 ghost use Rattle.atomic_cells.specs.Compares.{Compares, GivesBack, came_out, has_swapped};
@@ -31,7 +31,6 @@ impl SharedAt {
         requires domain { Belongs desk.old domain.now }
         requires cell { self.now.index < desk.old.shape.shared_cells }
         requires holds { Holds desk.old Owner expected.now.block expected.now.place × Holds desk.old Owner desired.block desired.place }
-        requires proper { IsProper Owner expected.now.block expected.now.place × IsProper Owner desired.block desired.place }
         requires meant { (A.cell ≡ Free self.now.index) × (A.expected ≡ handle_in desk.old Owner expected.now.block expected.now.place)
             × (A.new ≡ handle_in desk.old Owner desired.block desired.place) }
         ensures limit { IsErr result ↔ (desk.old.held ≡ allowance_of desk.old) }
@@ -43,7 +42,6 @@ impl SharedAt {
             (cond (has_swapped c) (without_handle Owner desired.block desired.place (bag_of desk.old)) (bag_of desk.old))) }
         ensures held { IfOk result (λ c. desk.new.held ≡ desk.old.held + cond (has_swapped c) 0 1) }
         ensures holds { IfOk result (λ c. Holds desk.new Owner (came_out c).block (came_out c).place) }
-        ensures proper { IfOk result (λ c. IsProper Owner (came_out c).block (came_out c).place) }
         ensures keeps { OnOk result (Keeps desk.old desk.new) }
     {
         let (block, place) = desired.into_parts();
@@ -86,7 +84,6 @@ impl SharedAt {
         requires domain { Belongs desk.old domain.now }
         requires cell { self.now.index < desk.old.shape.shared_cells }
         requires holds { Holds desk.old Owner expected.now.block expected.now.place × Holds desk.old Owner desired.block desired.place }
-        requires proper { IsProper Owner expected.now.block expected.now.place × IsProper Owner desired.block desired.place }
         ensures limit { IsErr result ↔ (desk.old.held ≡ allowance_of desk.old) }
         ensures refused { IfErr result (λ r. (r.why ≡ Refusal.Limit) × (r.back ≡ desired) × (desk.new ≡ desk.old)) }
         ensures compared { IfOk result (λ c. let h = came_out c in
@@ -96,7 +93,6 @@ impl SharedAt {
             (cond (has_swapped c) (without_handle Owner desired.block desired.place (bag_of desk.old)) (bag_of desk.old))) }
         ensures held { IfOk result (λ c. desk.new.held ≡ desk.old.held + cond (has_swapped c) 0 1) }
         ensures holds { IfOk result (λ c. Holds desk.new Owner (came_out c).block (came_out c).place) }
-        ensures proper { IfOk result (λ c. IsProper Owner (came_out c).block (came_out c).place) }
         ensures keeps { OnOk result (Keeps desk.old desk.new) }
     {
         self.compare_as::<V, Brand, R>(rt, domain, desk, expected, desired)
@@ -114,7 +110,6 @@ impl SharedAt {
         requires domain { Belongs desk.old domain.now }
         requires cell { self.now.index < desk.old.shape.shared_cells }
         requires holds { Holds desk.old Owner expected.now.block expected.now.place × Holds desk.old Owner desired.block desired.place }
-        requires proper { IsProper Owner expected.now.block expected.now.place × IsProper Owner desired.block desired.place }
         ensures limit { IsErr result ↔ (desk.old.held ≡ allowance_of desk.old) }
         ensures refused { IfErr result (λ r. (r.why ≡ Refusal.Limit) × (r.back ≡ desired) × (desk.new ≡ desk.old)) }
         ensures compared { IfOk result (λ c. let h = came_out c in
@@ -124,7 +119,6 @@ impl SharedAt {
             (cond (has_swapped c) (without_handle Owner desired.block desired.place (bag_of desk.old)) (bag_of desk.old))) }
         ensures held { IfOk result (λ c. desk.new.held ≡ desk.old.held + cond (has_swapped c) 0 1) }
         ensures holds { IfOk result (λ c. Holds desk.new Owner (came_out c).block (came_out c).place) }
-        ensures proper { IfOk result (λ c. IsProper Owner (came_out c).block (came_out c).place) }
         ensures keeps { OnOk result (Keeps desk.old desk.new) }
     {
         self.compare_as::<V, Brand, R>(rt, domain, desk, expected, desired)

@@ -2,7 +2,7 @@
 ghost use Rattle.std.specs.Prelude.{◌≡◌, ◌+◌, ◌<◌, [], IfSome, IfOk, MatchOption, Option, Some};
 ghost use Rattle.control_word.specs.declared.place.Block.{Block};
 ghost use Rattle.control_word.specs.declared.handle.Kind.TheVariants.{Owner, Weak};
-ghost use Rattle.control_block.specs.CellCalls.{Belongs, IsProper};
+ghost use Rattle.control_block.specs.CellCalls.{Belongs};
 ghost use Rattle.control_block.specs.Desks.{IsSameDesk, allowance_of, bag_of};
 ghost use Rattle.shared_handle.specs.Calls.{Holds, with_handle, without_handle};
 
@@ -60,7 +60,6 @@ pub(crate) fn put(domain: &Domain<u64>, desk: &mut Desk<u64>, at: SharedAt, owne
     requires domain { Belongs desk.old domain.now }
     requires cell { at.index < desk.old.shape.shared_cells }
     requires held { Holds desk.old Owner owner.block owner.place }
-    requires proper { IsProper Owner owner.block owner.place }
     ensures desk { IsSameDesk desk.old desk.new }
     ensures bag { bag_of desk.new ≡ without_handle Owner owner.block owner.place (bag_of desk.old) }
     ensures held { desk.new.held + 1 ≡ desk.old.held }
@@ -85,7 +84,6 @@ pub(crate) fn put_weak(
     requires domain { Belongs desk.old domain.now }
     requires cell { at.index < desk.old.shape.weak_cells }
     requires held { Holds desk.old Weak weak.block weak.place }
-    requires proper { IsProper Weak weak.block weak.place }
     ensures desk { IsSameDesk desk.old desk.new }
     ensures bag { bag_of desk.new ≡ without_handle Weak weak.block weak.place (bag_of desk.old) }
     ensures held { desk.new.held + 1 ≡ desk.old.held }

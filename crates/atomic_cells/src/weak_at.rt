@@ -1,7 +1,7 @@
 //! Cells of weak pointers ([util.smartptr.atomic.weak]).
 ghost use Rattle.std.specs.Prelude.{◌≡◌, ◌↔◌, ◌+◌, ◌<◌, IfErr, IfOk, IsErr, OnOk};
 ghost use Rattle.control_word.specs.declared.handle.Kind.TheVariants.{Weak};
-ghost use Rattle.control_block.specs.CellCalls.{Belongs, IsProper};
+ghost use Rattle.control_block.specs.CellCalls.{Belongs};
 ghost use Rattle.control_block.specs.Desks.{IsSameDesk, Keeps, KeepsEndings, allowance_of, bag_of};
 ghost use Rattle.shared_handle.specs.Calls.{Holds, with_handle, without_handle};
 ghost use Rattle.atomic_cells.specs.Cells.{Exchanges, Loads, StoresWeakly};
@@ -58,7 +58,6 @@ impl WeakAt {
         ensures bag { IfOk result (λ h. bag_of desk.new ≡ with_handle Weak h.block h.place (bag_of desk.old)) }
         ensures held { OnOk result (desk.new.held ≡ desk.old.held + 1) }
         ensures holds { IfOk result (λ h. Holds desk.new Weak h.block h.place) }
-        ensures proper { IfOk result (λ h. IsProper Weak h.block h.place) }
         ensures keeps { OnOk result (Keeps desk.old desk.new) }
     {
         let found = cell_calls::load::<V, Brand, R>(rt, domain, desk, self.cell(domain))?;
@@ -66,7 +65,7 @@ impl WeakAt {
     }
 
     /// The pointer goes into the cell, and what the cell held comes out ([util.smartptr.atomic.weak]), in one step on the
-    /// cell. It waits for nobody. Condition: an empty pointer's place is null.
+    /// cell. It waits for nobody.
     pub fn exchange<V: Drop + Send>(
         &self,
         domain: &Domain<V>,
@@ -76,12 +75,10 @@ impl WeakAt {
         requires domain { Belongs desk.old domain.now }
         requires cell { self.now.index < desk.old.shape.weak_cells }
         requires holds { Holds desk.old Weak handle.block handle.place }
-        requires proper { IsProper Weak handle.block handle.place }
         ensures event { Exchanges desk.old (desk.old.shape.shared_cells + self.now.index) Weak handle.block handle.place result.block result.place desk.new }
         ensures bag { bag_of desk.new ≡ with_handle Weak result.block result.place (without_handle Weak handle.block handle.place (bag_of desk.old)) }
         ensures held { desk.new.held ≡ desk.old.held }
         ensures holds { Holds desk.new Weak result.block result.place }
-        ensures proper { IsProper Weak result.block result.place }
         ensures keeps { Keeps desk.old desk.new }
     {
         let (block, place) = handle.into_parts();
@@ -91,7 +88,7 @@ impl WeakAt {
     }
 
     /// The pointer goes into the cell, and what the cell held leaves ([util.smartptr.atomic.weak]): it answers `Empty` where
-    /// that was an empty one, and else `Others`. It waits for nobody. Condition: an empty pointer's place is null.
+    /// that was an empty one, and else `Others`. It waits for nobody.
     #[tactic(auto, using(shared_handle::proofs::Taken::first_out))]
     pub fn store<V: Drop + Send>(
         &self,
@@ -102,7 +99,6 @@ impl WeakAt {
         requires domain { Belongs desk.old domain.now }
         requires cell { self.now.index < desk.old.shape.weak_cells }
         requires holds { Holds desk.old Weak handle.block handle.place }
-        requires proper { IsProper Weak handle.block handle.place }
         ensures stored { StoresWeakly desk.old (desk.old.shape.shared_cells + self.now.index) handle.block handle.place result desk.new }
         ensures bag { bag_of desk.new ≡ without_handle Weak handle.block handle.place (bag_of desk.old) }
         ensures held { desk.new.held + 1 ≡ desk.old.held }

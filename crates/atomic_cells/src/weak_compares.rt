@@ -2,7 +2,7 @@
 ghost use Rattle.std.specs.Prelude.{◌≡◌, ◌↔◌, ◌+◌, ◌<◌, cond, true, false, IfErr, IfOk, IsErr, OnOk};
 ghost use Rattle.control_word.specs.declared.event.Cell.TheVariants.{Free};
 ghost use Rattle.control_word.specs.declared.handle.Kind.TheVariants.{Weak};
-ghost use Rattle.control_block.specs.CellCalls.{Belongs, IsProper, handle_in};
+ghost use Rattle.control_block.specs.CellCalls.{Belongs, handle_in};
 ghost use Rattle.control_block.specs.Desks.{Keeps, allowance_of, bag_of};
 ghost use Rattle.shared_handle.specs.Calls.{Holds, with_handle, without_handle};
 ghost use Rattle.atomic_cells.specs.Compares.{Compares, GivesBack, came_out, has_swapped};
@@ -30,7 +30,6 @@ impl WeakAt {
         requires domain { Belongs desk.old domain.now }
         requires cell { self.now.index < desk.old.shape.weak_cells }
         requires holds { Holds desk.old Weak expected.now.block expected.now.place × Holds desk.old Weak desired.block desired.place }
-        requires proper { IsProper Weak expected.now.block expected.now.place × IsProper Weak desired.block desired.place }
         requires meant { (A.cell ≡ Free (desk.old.shape.shared_cells + self.now.index)) × (A.expected ≡ handle_in desk.old Weak expected.now.block expected.now.place)
             × (A.new ≡ handle_in desk.old Weak desired.block desired.place) }
         ensures limit { IsErr result ↔ (desk.old.held ≡ allowance_of desk.old) }
@@ -42,7 +41,6 @@ impl WeakAt {
             (cond (has_swapped c) (without_handle Weak desired.block desired.place (bag_of desk.old)) (bag_of desk.old))) }
         ensures held { IfOk result (λ c. desk.new.held ≡ desk.old.held + cond (has_swapped c) 0 1) }
         ensures holds { IfOk result (λ c. Holds desk.new Weak (came_out c).block (came_out c).place) }
-        ensures proper { IfOk result (λ c. IsProper Weak (came_out c).block (came_out c).place) }
         ensures keeps { OnOk result (Keeps desk.old desk.new) }
     {
         let (block, place) = desired.into_parts();
@@ -85,7 +83,6 @@ impl WeakAt {
         requires domain { Belongs desk.old domain.now }
         requires cell { self.now.index < desk.old.shape.weak_cells }
         requires holds { Holds desk.old Weak expected.now.block expected.now.place × Holds desk.old Weak desired.block desired.place }
-        requires proper { IsProper Weak expected.now.block expected.now.place × IsProper Weak desired.block desired.place }
         ensures limit { IsErr result ↔ (desk.old.held ≡ allowance_of desk.old) }
         ensures refused { IfErr result (λ r. (r.why ≡ Refusal.Limit) × (r.back ≡ desired) × (desk.new ≡ desk.old)) }
         ensures compared { IfOk result (λ c. let h = came_out c in
@@ -95,7 +92,6 @@ impl WeakAt {
             (cond (has_swapped c) (without_handle Weak desired.block desired.place (bag_of desk.old)) (bag_of desk.old))) }
         ensures held { IfOk result (λ c. desk.new.held ≡ desk.old.held + cond (has_swapped c) 0 1) }
         ensures holds { IfOk result (λ c. Holds desk.new Weak (came_out c).block (came_out c).place) }
-        ensures proper { IfOk result (λ c. IsProper Weak (came_out c).block (came_out c).place) }
         ensures keeps { OnOk result (Keeps desk.old desk.new) }
     {
         self.compare_as::<V, Brand, R>(rt, domain, desk, expected, desired)
@@ -113,7 +109,6 @@ impl WeakAt {
         requires domain { Belongs desk.old domain.now }
         requires cell { self.now.index < desk.old.shape.weak_cells }
         requires holds { Holds desk.old Weak expected.now.block expected.now.place × Holds desk.old Weak desired.block desired.place }
-        requires proper { IsProper Weak expected.now.block expected.now.place × IsProper Weak desired.block desired.place }
         ensures limit { IsErr result ↔ (desk.old.held ≡ allowance_of desk.old) }
         ensures refused { IfErr result (λ r. (r.why ≡ Refusal.Limit) × (r.back ≡ desired) × (desk.new ≡ desk.old)) }
         ensures compared { IfOk result (λ c. let h = came_out c in
@@ -123,7 +118,6 @@ impl WeakAt {
             (cond (has_swapped c) (without_handle Weak desired.block desired.place (bag_of desk.old)) (bag_of desk.old))) }
         ensures held { IfOk result (λ c. desk.new.held ≡ desk.old.held + cond (has_swapped c) 0 1) }
         ensures holds { IfOk result (λ c. Holds desk.new Weak (came_out c).block (came_out c).place) }
-        ensures proper { IfOk result (λ c. IsProper Weak (came_out c).block (came_out c).place) }
         ensures keeps { OnOk result (Keeps desk.old desk.new) }
     {
         self.compare_as::<V, Brand, R>(rt, domain, desk, expected, desired)

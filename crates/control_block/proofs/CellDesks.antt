@@ -29,10 +29,11 @@ use Rattle.control_word.specs.Layout.{cell_place}
 use Rattle.control_word.specs.declared.event.Cell.{Cell}
 use Rattle.control_word.specs.declared.event.Cell.TheVariants.{Free, Member}
 use Rattle.control_word.specs.declared.shape.Shape.{Shape}
-use Rattle.control_block.specs.CellCalls.{Holds, IsFreeCell, IsProper, object_by, with_handle, without_handle}
+use Rattle.control_block.specs.CellCalls.{Holds, IsFreeCell, object_by, with_handle, without_handle}
 use Rattle.control_block.specs.CellPlays.{IsCellAt, IsWordOf, kind_in}
 use Rattle.control_block.specs.CellRounds.{CameOut, IsCounted}
 use Rattle.control_block.specs.Desks.{DeskNow, bag_of}
+use Rattle.control_block.specs.Handles.{IsProper}
 use Rattle.control_block.specs.Inside.{IsDesk, desk_now}
 use Rattle.control_block.specs.Plays.{Added, HasRoomFor, Holding, known}
 use Rattle.control_block.specs.Rule.{opening_of, seeing}

@@ -1,6 +1,6 @@
 -- What the calls on cells say of a desk. A handle goes by its kind, its block, if it has one, and its place.
 use Rattle.std.specs.Prelude.{◌≡◌, ℕ, ◌+◌, ◌<◌, List, ◌∷◌, length, Option, None, Some}
-use Rattle.control_word.specs.Handles.{IsFormed, handle, same_handle}
+use Rattle.control_word.specs.Handles.{handle, same_handle}
 use Rattle.control_word.specs.State.{kind_of_free, without}
 use Rattle.control_word.specs.declared.handle.Handle.{Handle}
 use Rattle.control_word.specs.declared.handle.Kind.{Kind}
@@ -26,11 +26,6 @@ object_by latest (Some b) = Some (latest b.0)
 -- free cell n of the shape has handles of this kind (own)
 abbrev pub IsFreeCell : Shape → ℕ → Kind → Type 0
 IsFreeCell z n k = (n < z.shared_cells + z.weak_cells) × (k ≡ kind_of_free z.shared_cells n)
-
--- an empty handle points at one of a block's fields or nowhere, and a weak one nowhere (own)
-abbrev pub IsProper : Kind → Option Block → Option Place → Type 0
-IsProper k None p = IsFormed (handle k None p)
-IsProper k (Some b) p = Unit {0}
 
 module _ {V : Type 0} where
   -- the desk is one of the domain's

@@ -9,6 +9,7 @@ pub mod CellRounds
 pub mod Desks
 pub mod CellCalls
 pub mod Refusals
+pub mod Handles
 pub mod Inside
 pub mod Census
 pub mod Parting

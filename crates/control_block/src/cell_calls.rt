@@ -3,8 +3,9 @@
 ghost use Rattle.std.specs.Prelude.{◌≡◌, ◌↔◌, ◌+◌, IfErr, IfOk, IsErr, OnOk};
 ghost use Rattle.control_word.specs.declared.event.Cell.TheVariants.{Free};
 ghost use Rattle.control_word.specs.declared.event.Event.TheVariants.{Load, Swap};
-ghost use Rattle.control_block.specs.CellCalls.{Belongs, Holds, IsFreeCell, IsProper, handle_in, with_handle, without_handle};
+ghost use Rattle.control_block.specs.CellCalls.{Belongs, Holds, IsFreeCell, handle_in, with_handle, without_handle};
 ghost use Rattle.control_block.specs.Desks.{Adds, Keeps, allowance_of, bag_of};
+ghost use Rattle.control_block.specs.Handles.{IsProper};
 
 use crate::cell_plays::Aimed;
 use crate::cell_rounds;

@@ -175,6 +175,7 @@ fn count_two(desk: &mut Desk<u64>) -> bool
 
 // An empty owner that stores a pointer to this field.
 fn empty_at(field: u8) -> Held
+    requires { field < 4 }
     ensures { result ≡ Owner record { block = None; place = Some record { block = record { 0 = 1 }; field = field } } }
 {
     Held::Owner(Shared {

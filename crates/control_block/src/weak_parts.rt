@@ -1,12 +1,16 @@
 //! Weak pointers put together and taken apart, for the crates of calls.
 ghost use Rattle.std.specs.Prelude.{◌≡◌};
+ghost use Rattle.control_word.specs.declared.handle.Kind.TheVariants as kind;
+ghost use Rattle.control_block.specs.Handles.{IsProper};
 
 use crate::handles::Weak;
 use control_word::{Block, Place};
 
 impl Weak {
-    /// The weak handle with these parts (own). For the crates of calls: only a call that got it on a desk makes one.
+    /// The weak handle with these parts (own). For the crates of calls: only a call that got it on a desk makes one. An empty
+    /// one points nowhere.
     pub fn of_parts(block: Option<Block>, place: Option<Place>) -> Self
+        requires { IsProper kind.Weak block place }
         ensures { (result.block ≡ block) × (result.place ≡ place) }
     {
         Self { block, place }

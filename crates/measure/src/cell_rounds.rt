@@ -1,7 +1,7 @@
 //! The work of the rows of cells, on one desk: a user's own calls, `count` times.
 ghost use Rattle.std.specs.Prelude.{◌≡◌, ◌+◌, ◌<◌};
 ghost use Rattle.control_word.specs.declared.handle.Kind.TheVariants.{Owner};
-ghost use Rattle.control_block.specs.CellCalls.{Belongs, IsProper};
+ghost use Rattle.control_block.specs.CellCalls.{Belongs};
 ghost use Rattle.control_block.specs.Desks.{IsSameDesk, bag_of};
 ghost use Rattle.shared_handle.specs.Calls.{Holds};
 
@@ -25,7 +25,6 @@ pub(crate) fn store_copies(
     requires domain { Belongs desk.old domain.now }
     requires cell { cell < desk.old.shape.shared_cells }
     requires holds { Holds desk.old Owner owner.now.block owner.now.place }
-    requires proper { IsProper Owner owner.now.block owner.now.place }
     ensures desk { IsSameDesk desk.old desk.new }
     ensures bag { bag_of desk.new ≡ bag_of desk.old }
     ensures held { desk.new.held ≡ desk.old.held }
@@ -75,7 +74,6 @@ pub(crate) fn exchange(
     requires domain { Belongs desk.old domain.now }
     requires cell { cell < desk.old.shape.shared_cells }
     requires holds { Holds desk.old Owner owner.now.block owner.now.place }
-    requires proper { IsProper Owner owner.now.block owner.now.place }
     ensures desk { IsSameDesk desk.old desk.new }
     ensures bag { bag_of desk.new ≡ bag_of desk.old }
     ensures held { desk.new.held ≡ desk.old.held }
@@ -90,8 +88,39 @@ pub(crate) fn exchange(
     end(domain, desk, handle);
 }
 
-/// Copies of an owner are for a cell that holds an equivalent one, and what came out leaves.
+/// A copy of an owner is for a cell that holds an equivalent one, and what came out leaves.
 #[tactic(auto, using(crate::proofs::Taken::first_out))]
+fn compare_once<R: Wait>(
+    rt: &R,
+    domain: &Domain<()>,
+    desk: &mut Desk<()>,
+    owner: &Shared,
+    cell: u32,
+)
+    requires domain { Belongs desk.old domain.now }
+    requires cell { cell < desk.old.shape.shared_cells }
+    requires holds { Holds desk.old Owner owner.now.block owner.now.place }
+    ensures desk { IsSameDesk desk.old desk.new }
+    ensures bag { bag_of desk.new ≡ bag_of desk.old }
+    ensures held { desk.new.held ≡ desk.old.held }
+{
+    let Ok(copy) = share(domain, desk, owner) else {
+        return;
+    };
+    match SharedAt::free(cell).compare_exchange_strong(rt, domain, desk, owner, copy) {
+        Ok(Compared::Swapped(old)) => end(domain, desk, old),
+        Ok(Compared::Differs { held, desired }) => {
+            end(domain, desk, held);
+            end(domain, desk, desired);
+        }
+        Err(refused) => {
+            let Refused { why: _, back } = refused;
+            end(domain, desk, back);
+        }
+    }
+}
+
+/// Copies of an owner are for a cell that holds an equivalent one, and what came out leaves.
 pub(crate) fn compare_and_exchange<R: Wait>(
     rt: &R,
     domain: &Domain<()>,
@@ -103,25 +132,11 @@ pub(crate) fn compare_and_exchange<R: Wait>(
     requires domain { Belongs desk.old domain.now }
     requires cell { cell < desk.old.shape.shared_cells }
     requires holds { Holds desk.old Owner owner.now.block owner.now.place }
-    requires proper { IsProper Owner owner.now.block owner.now.place }
     ensures desk { IsSameDesk desk.old desk.new }
     ensures bag { bag_of desk.new ≡ bag_of desk.old }
     ensures held { desk.new.held ≡ desk.old.held }
 {
     for _ in 0..count {
-        let Ok(copy) = share(domain, desk, owner) else {
-            return;
-        };
-        match SharedAt::free(cell).compare_exchange_strong(rt, domain, desk, owner, copy) {
-            Ok(Compared::Swapped(old)) => end(domain, desk, old),
-            Ok(Compared::Differs { held, desired }) => {
-                end(domain, desk, held);
-                end(domain, desk, desired);
-            }
-            Err(refused) => {
-                let Refused { why: _, back } = refused;
-                end(domain, desk, back);
-            }
-        }
+        compare_once(rt, domain, desk, owner, cell);
     }
 }

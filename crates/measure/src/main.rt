@@ -6,7 +6,9 @@ ghost use Rattle.std.specs.Prelude.{◌≡◌, ◌+◌, ◌<◌};
 ghost use Rattle.control_block.specs.Desks.{allowance_of};
 ghost use Rattle.measure.specs.Workers.{IsManaged, IsTeamReady};
 
+mod alone;
 mod cell_rounds;
+mod observers;
 mod rounds;
 mod rows;
 mod timing;
@@ -28,10 +30,10 @@ use std::{env, io};
 use workers::Team;
 
 const SHAPE: Shape = Shape {
-    blocks: 1_024,
+    blocks: 2_048,
     shared_cells: 9,
     weak_cells: 0,
-    allowance: 64,
+    allowance: 4_096,
 };
 
 /// All rows, so many times.
@@ -93,9 +95,11 @@ fn main(rt: HostRuntime) -> io::Result<()> {
         return Err(io::Error::from(io::ErrorKind::OutOfMemory));
     };
     let told = with_team(&rt, rt.alloc(), &domain, &mut desk, passes);
+    let alone = alone::measure(&rt, rt.alloc(), &domain, &mut desk, passes);
     match close(domain, desk) {
         Ok(census) => drop(census),
         Err(_) => unreachable!(),
     }
-    told
+    told?;
+    alone
 }

@@ -1,5 +1,5 @@
 //! The rows of the table.
-use crate::timing::{CHUNK, Spent};
+use crate::timing::Spent;
 use std::io;
 
 /// What is measured.
@@ -16,10 +16,15 @@ pub(crate) enum Row {
     StoreOwn,
     ExchangeOwn,
     CompareOwn,
+    /// The first thread's part of a row that has one writer.
+    StoreCommon,
+    /// The other threads' part of it.
+    LoadBeside,
 }
 
 impl Row {
-    pub(crate) const ALL: [Row; 11] = [
+    /// Those of one, two and four threads, of which the first does this.
+    pub(crate) const ALL: [Row; 12] = [
         Row::MakeEnd,
         Row::ShareOwn,
         Row::ShareCommon,
@@ -31,7 +36,25 @@ impl Row {
         Row::StoreOwn,
         Row::ExchangeOwn,
         Row::CompareOwn,
+        Row::StoreCommon,
     ];
+
+    /// What the threads after the first do.
+    pub(crate) fn beside(self) -> Row {
+        match self {
+            Row::StoreCommon => Row::LoadBeside,
+            row => row,
+        }
+    }
+
+    /// How many rounds lie between two looks at the clock: fewer where threads wait for each other, so that they end
+    /// together.
+    pub(crate) fn chunk(self) -> u32 {
+        match self {
+            Row::ShareCommon | Row::LoadCommon | Row::StoreCommon | Row::LoadBeside => 100,
+            _ => 2_000,
+        }
+    }
 
     /// Its name, as the peers' programs call it.
     fn name(self) -> &'static str {
@@ -47,32 +70,57 @@ impl Row {
             Row::StoreOwn => "cell store of a copy, own cell",
             Row::ExchangeOwn => "cell exchange, own cell",
             Row::CompareOwn => "cell compare_exchange of a copy, own cell",
+            Row::StoreCommon => "cell store of a copy, others load",
+            Row::LoadBeside => "cell load + release, the first stores",
         }
     }
 
-    /// A line: nanoseconds of all threads by the rounds of all, and the least part of its time that a thread had a
-    /// processor, or that it shared with the others.
+    /// The lines: one for all threads, or where the others do something else one for the first, and one for them.
     pub(crate) fn tell<R: Print>(self, rt: &R, spent: &[Spent]) -> io::Result<()> {
-        let mut wall = 0u64;
-        let mut rounds = 0u64;
-        let mut share = 100u64;
-        let mut least = u64::MAX;
-        let mut most = 1u64;
-        for thread in spent {
-            wall = wall.wrapping_add(thread.wall);
-            rounds = rounds.wrapping_add(u64::from(CHUNK).wrapping_mul(u64::from(thread.chunks)));
-            share = share.min(thread.processor.saturating_mul(100) / thread.wall.max(1));
-            least = least.min(thread.wall);
-            most = most.max(thread.wall);
+        if !matches!(self, Row::StoreCommon) || spent.is_empty() {
+            return line(rt, self.name(), self.chunk(), spent, spent);
         }
-        share = share.min(least.saturating_mul(100) / most.max(1));
-        let hundredths = wall.saturating_mul(100) / rounds.max(1);
-        println!(rt;
-            "{}|this runtime|{}|{}.{:02}|{share}",
-            self.name(),
-            spent.len(),
-            hundredths / 100,
-            hundredths % 100
-        )
+        line(rt, self.name(), self.chunk(), spent, &spent[..1])?;
+        if spent.len() == 1 {
+            return Ok(());
+        }
+        line(rt, self.beside().name(), self.chunk(), spent, &spent[1..])
     }
+}
+
+/// A line: nanoseconds of some of the threads by their rounds, and the least part of its time, of 100, that a thread had a
+/// processor, or that it shared with the others.
+pub(crate) fn line<R: Print>(
+    rt: &R,
+    name: &str,
+    chunk: u32,
+    spent: &[Spent],
+    told: &[Spent],
+) -> io::Result<()> {
+    let mut wall = 0u64;
+    let mut rounds = 0u64;
+    for thread in told {
+        wall = wall.wrapping_add(thread.wall);
+        rounds = rounds.wrapping_add(u64::from(chunk).wrapping_mul(u64::from(thread.chunks)));
+    }
+    let hundredths = wall.saturating_mul(100) / rounds.max(1);
+    println!(rt;
+        "{name}|this runtime|{}|{}.{:02}|{}",
+        spent.len(),
+        hundredths / 100,
+        hundredths % 100,
+        share_of(spent)
+    )
+}
+
+fn share_of(spent: &[Spent]) -> u64 {
+    let mut share = 100u64;
+    let mut least = u64::MAX;
+    let mut most = 1u64;
+    for thread in spent {
+        share = share.min(thread.processor.saturating_mul(100) / thread.wall.max(1));
+        least = least.min(thread.wall);
+        most = most.max(thread.wall);
+    }
+    share.min(least.saturating_mul(100) / most.max(1))
 }

@@ -13,14 +13,11 @@ use std::thread::{Threads, join_mut};
 use std::time::{CpuClock, Duration, Instant};
 use std::{hint, io};
 
-/// How many rounds lie between two looks at the clock.
-pub(crate) const CHUNK: u32 = 2_000;
-
 /// How many chunks a thread does at most.
-const CHUNKS: u32 = 1_000_000;
+pub(crate) const CHUNKS: u32 = 1_000_000;
 
 /// How long a row runs, in nanoseconds.
-const SPAN: u64 = 3_000_000;
+pub(crate) const SPAN: u64 = 3_000_000;
 
 /// How long the threads work before it, so that each has got a processor of its own.
 const SETTLING: u64 = 60_000_000;
@@ -79,7 +76,7 @@ impl Start {
     }
 }
 
-fn nanos(time: Duration) -> u64 {
+pub(crate) fn nanos(time: Duration) -> u64 {
     u64::try_from(time.as_nanos()).unwrap_or(0)
 }
 
@@ -104,19 +101,27 @@ fn work<R: Wait>(rt: &R, domain: &Domain<()>, worker: &mut Worker, row: Row)
         cell,
         apart: _,
     } = worker;
+    let count = row.chunk();
     match row {
-        Row::MakeEnd => rounds::make_and_end(domain, desk, CHUNK),
-        Row::ShareOwn => rounds::share_and_release(domain, desk, own, CHUNK),
-        Row::ShareCommon => rounds::share_and_release(domain, desk, common, CHUNK),
-        Row::WeakOwn => rounds::downgrade_and_release(domain, desk, own, CHUNK),
-        Row::CountOwn => rounds::count_owners(domain, desk, own, CHUNK),
-        Row::LockOwn => rounds::lock_and_release(rt, domain, desk, own, CHUNK),
-        Row::LoadOwn => cell_rounds::load_and_release(rt, domain, desk, *cell, CHUNK),
-        Row::LoadCommon => cell_rounds::load_and_release(rt, domain, desk, COMMON_CELL, CHUNK),
-        Row::StoreOwn => cell_rounds::store_copies(domain, desk, own, *cell, CHUNK),
-        Row::ExchangeOwn => cell_rounds::exchange(domain, desk, own, *cell, CHUNK),
+        Row::MakeEnd => rounds::make_and_end(domain, desk, count),
+        Row::ShareOwn => rounds::share_and_release(domain, desk, own, count),
+        Row::ShareCommon => rounds::share_and_release(domain, desk, common, count),
+        Row::WeakOwn => rounds::downgrade_and_release(domain, desk, own, count),
+        Row::CountOwn => rounds::count_owners(domain, desk, own, count),
+        Row::LockOwn => rounds::lock_and_release(rt, domain, desk, own, count),
+        Row::LoadOwn => cell_rounds::load_and_release(rt, domain, desk, *cell, count),
+        Row::LoadCommon | Row::LoadBeside => cell_rounds::load_and_release(
+            rt,
+            domain,
+            desk,
+            COMMON_CELL,
+            count,
+        ),
+        Row::StoreOwn => cell_rounds::store_copies(domain, desk, own, *cell, count),
+        Row::StoreCommon => cell_rounds::store_copies(domain, desk, own, COMMON_CELL, count),
+        Row::ExchangeOwn => cell_rounds::exchange(domain, desk, own, *cell, count),
         Row::CompareOwn => {
-            cell_rounds::compare_and_exchange(rt, domain, desk, own, *cell, CHUNK);
+            cell_rounds::compare_and_exchange(rt, domain, desk, own, *cell, count);
         }
     }
 }
@@ -169,6 +174,7 @@ fn time<R: Clock + CpuClock + Wait>(
     })
 }
 
+/// Two threads, of which the first does this row.
 fn time_two<R: Clock + CpuClock + Threads + Wait + Sync>(
     rt: &R,
     domain: &Domain<()>,
@@ -180,10 +186,11 @@ fn time_two<R: Clock + CpuClock + Threads + Wait + Sync>(
     ensures { IsPairReady domain.now pair.new }
 {
     let Pair { left, right } = pair;
+    let beside = row.beside();
     let (left, right) = join_mut(
         rt,
         &mut || time(rt, domain, left, row, start),
-        &mut || time(rt, domain, right, row, start),
+        &mut || time(rt, domain, right, beside, start),
     );
     Ok((left?, right?))
 }
@@ -230,6 +237,7 @@ pub(crate) fn four<R: Clock + CpuClock + Threads + Wait + Sync + Print>(
 {
     let start = Start::of(rt, 4)?;
     let Team { front, back } = team;
+    let beside = row.beside();
     let (front, back) = join_mut(
         rt,
         &mut || -> io::Result<(Spent, Spent)>
@@ -239,7 +247,7 @@ pub(crate) fn four<R: Clock + CpuClock + Threads + Wait + Sync + Print>(
         &mut || -> io::Result<(Spent, Spent)>
             requires { IsSync R.row × IsPairReady domain.now back.now }
             ensures { IsPairReady domain.entry.now back.exit.now }
-        { time_two(rt, domain, back, row, &start) },
+        { time_two(rt, domain, back, beside, &start) },
     );
     let (first, second) = front?;
     let (third, fourth) = back?;

@@ -1,5 +1,5 @@
 -- A handle that a desk got and gave back.
-use Rattle.std.proofs.Common.{◌≡◌, ◌∷◌, List, Option, None, Some, refl, ap}
+use Rattle.std.proofs.Common.{◌≡◌, ◌∷◌, ◌++◌, [], List, Option, None, Some, refl, ap}
 use Rattle.std.proofs.lemmas.Bool.{cond-true}
 use Rattle.control_word.proofs.lists.Tallies.{handle_self}
 use Rattle.control_word.specs.Handles.{handle, same_handle}
@@ -19,3 +19,9 @@ first_out k (Some b) p l = let h = handle k (Some b.0) p in cond-true (same_hand
 pub second_out : (b : Option Block) (p q : Option Place) (l : List Handle) → without_handle Owner b p (with_handle Weak b q (with_handle Owner b p l)) ≡ with_handle Weak b q l
 second_out None p q l = refl
 second_out (Some b) p q l = ap (λ m. handle Weak (Some b.0) q ∷ m) (first_out Owner (Some b) p l)
+
+-- what came last of a list of one is that one
+pub last_of_one : {A : Type 0} (l : List A) (x y : A) → y ∷ [] ≡ l ++ x ∷ [] → x ≡ y
+last_of_one [] x y e = cc e
+last_of_one (a ∷ []) x y e = absurd (cc e)
+last_of_one (a ∷ (b ∷ l)) x y e = absurd (cc e)

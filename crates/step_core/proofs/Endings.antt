@@ -33,13 +33,13 @@ use Rattle.step_core.specs.Holdings.{Holds}
 use Rattle.step_core.specs.Openings.{opening}
 use Rattle.step_core.specs.Stocks.{Stored}
 use Rattle.step_core.specs.Stories.{Kept, Story, after, object_in, state}
-use Rattle.step_core.specs.Threads.{Fits, IsNext, IsStocked, IsStockedBy, fields_at}
+use Rattle.step_core.specs.Threads.{Fits, IsNext, IsStocked, IsStockedBy, form_at}
 use Rattle.step_core.proofs.Threads.{own_pending, resting}
 use Rattle.step_core.proofs.holding.Storing.{counted_stored, one_stored}
 use Rattle.step_core.proofs.tables.Places.{ending_busy, handle_busy, there}
 
 pub ends_here : (d : ℕ) (t : Thread) (v : Story) (b : Block) (i k : ℕ) → Fits d t v → t.half ≡ Ending b i k → IsEnding d b i v
-ends_here d t v b i k fits e = subst (λ (h : Half). HalfFits d h (fields_at t.course) v) e fits.half
+ends_here d t v b i k fits e = subst (λ (h : Half). HalfFits d h (form_at t.course) v) e fits.half
 
 -- numbers from 1 to n, each once at most, are n or fewer
 without_number : (b c : ℕ) (l : List ℕ) → in_list c (filter (λ x. not (x == b)) l) ≤ in_list c l
@@ -271,7 +271,7 @@ stocks_left d t v x s Weak false n kept fits e kept' is =
     (record { stocked = y.stocked; roomy = y.roomy })
 
 half_left : (d : ℕ) (t : Thread) (v : Story) (c : Course) (x : Pointer) (k : Kind) (b : Bool) (n : ℕ) → Kept v → Fits d t v
-    → HalfFits d (cond b (end_as k n x.block) Rest) (fields_at c) (after v d (leave_as k x b)) × IsNext (cond b (end_as k n x.block) Rest) c
+    → HalfFits d (cond b (end_as k n x.block) Rest) (form_at c) (after v d (leave_as k x b)) × IsNext (cond b (end_as k n x.block) Rest) c
 half_left d t v c x Owner true n kept fits = (
   record { idle = own_pending v d (Leave x.block x.place true) kept fits.seat; ending = left_ending v d x true refl; within = omega arith },
   tt,
@@ -304,7 +304,7 @@ pub fits_left : (d : ℕ) (t t' : Thread) (v w : Story) (n : ℕ) (o : Option Po
     → w ≡ done_on (leave (state v)) v d o → last ≡ on (is_last (state v)) false o → HasGoneOn d t.course t'.course w
     → t'.half ≡ on (λ x. cond last (end_as x.kind n x.block) Rest) Rest o → IsStockedBy o last t.stock t'.stock → Fits d t' w
 fits_left d t t' v w n None last kept kept' fits e is said on half stock =
-    let idle : HalfFits d Rest (fields_at t.course) v = subst (λ (h : Half). HalfFits d h (fields_at t.course) v) e fits.half in
+    let idle : HalfFits d Rest (form_at t.course) v = subst (λ (h : Half). HalfFits d h (form_at t.course) v) e fits.half in
     subst (λ (h : Half). Fits d (record { course = t'.course; stock = t'.stock; half = h }) w) (sym half)
     (subst (λ (u : Story). Fits d (record { course = t'.course; stock = t'.stock; half = Rest }) u) (sym is)
     (subst (λ (s : Stored). Fits d (record { course = t'.course; stock = s; half = Rest }) v) (sym stock)

@@ -14,6 +14,7 @@ use Rattle.control_word.specs.State.{Has, stored}
 use Rattle.control_word.specs.Steps.{known_of}
 use Rattle.control_word.specs.Views.{used_up}
 use Rattle.step_core.specs.declared.act.Act.{Act}
+use Rattle.step_core.specs.declared.act.Form.{Form}
 use Rattle.step_core.specs.declared.act.Act.TheVariants.{Make, Share, Downgrade, Lock, Put, Leave, Clear, Count, Expired}
 use Rattle.step_core.specs.declared.act.Task.{Task}
 use Rattle.step_core.specs.declared.course.Course.{Course}
@@ -23,11 +24,11 @@ use Rattle.step_core.specs.declared.past.Deed.{Deed}
 use Rattle.step_core.specs.declared.past.Deed.TheVariants as deed
 use Rattle.step_core.specs.declared.thread.Thread.{Thread}
 use Rattle.step_core.specs.Actors.{HalfFits, IsPrepared, Stocks, in_list, wanted}
-use Rattle.step_core.specs.Courses.{Begins, CourseReady, HasGoneOn, IsReady, Ready, fields_of, hand, rest, taken_after, task_at}
+use Rattle.step_core.specs.Courses.{Begins, CourseReady, HasGoneOn, IsReady, Ready, form_of, hand, rest, taken_after, task_at}
 use Rattle.step_core.specs.Scenes.{least}
 use Rattle.step_core.specs.Stocks.{Stored}
 use Rattle.step_core.specs.Stories.{Kept, Nothing, Story, after, known, pending, pending_after, state}
-use Rattle.step_core.specs.Threads.{Fits, IsNext, fields_at}
+use Rattle.step_core.specs.Threads.{Fits, IsNext, form_at}
 use Rattle.step_core.proofs.Courses.{ready_head}
 use Rattle.step_core.proofs.holding.Least.{least_stored, none_stored}
 use Rattle.step_core.proofs.holding.Storing.{stocks_claim, stocks_take}
@@ -39,7 +40,7 @@ own_pending v d x kept lt =
     ap (λ (w : View Nothing). w.pending) (get_or-set_same v.views d _ used_up (let s = kept.seats.size in omega (arith, s)))
 
 weaker : (n : ℕ) (act : Act) → Begins n true act → Begins n false act
-weaker n (Make fields) b = (refl, b.1)
+weaker n (Make form) b = (refl, b.1)
 weaker n (Share k) b = (b.0, refl)
 weaker n (Put k) b = b
 weaker n (Leave k) b = b
@@ -51,7 +52,7 @@ weaker n (Expired k) b = b
 
 ready_more : (n : ℕ) (act : Act) (ts : List Task) → (Ready n true ts → Ready n false ts) → Ready n (taken_after act true) ts
     → Ready n (taken_after act false) ts
-ready_more n (Make fields) ts f r = r
+ready_more n (Make form) ts f r = r
 ready_more n (Share k) ts f r = r
 ready_more n (Put k) ts f r = r
 ready_more n (Leave k) ts f r = f r
@@ -67,9 +68,9 @@ ready_any n [] r = r
 ready_any n (t ∷ ts) r = (weaker n t.act r.0, ready_more n t.act ts (ready_any n ts) r.1)
 
 -- a make comes with nothing in hand
-pub make_empty : (c : Course) (fields : List ℕ) → c.at < length c.tasks.items → CourseReady c → (task_at c).act ≡ Make fields → c.taken ≡ false
-make_empty c fields lt ready act =
-    let b : Begins (hand c.holdings.slots.items) c.taken (Make fields) = subst (Begins (hand c.holdings.slots.items) c.taken) act
+pub make_empty : (c : Course) (form : Form) → c.at < length c.tasks.items → CourseReady c → (task_at c).act ≡ Make form → c.taken ≡ false
+make_empty c form lt ready act =
+    let b : Begins (hand c.holdings.slots.items) c.taken (Make form) = subst (Begins (hand c.holdings.slots.items) c.taken) act
     (ready_head c lt ready).0 in b.0
 
 -- a lock that gives no owner takes an empty value, or nothing where it is refused
@@ -93,27 +94,27 @@ won_ready c k must lt ready act =
     let h = ready_head c lt ready in subst (λ (a : Act). Ready (hand c.holdings.slots.items) (taken_after a c.taken) (rest c)) act h.1
 
 -- a make that is refused takes nothing
-pub refused_ready : (c : Course) (fields : List ℕ) → c.at < length c.tasks.items → CourseReady c → (task_at c).act ≡ Make fields
+pub refused_ready : (c : Course) (form : Form) → c.at < length c.tasks.items → CourseReady c → (task_at c).act ≡ Make form
     → IsReady c.holdings.slots.items c.taken (rest c)
-refused_ready c fields lt ready act =
+refused_ready c form lt ready act =
     let h = ready_head c lt ready in
     let n = hand c.holdings.slots.items in
-    let b : Begins n c.taken (Make fields) = subst (Begins n c.taken) act h.0 in
+    let b : Begins n c.taken (Make form) = subst (Begins n c.taken) act h.0 in
     let r : Ready n true (rest c) = subst (λ (a : Act). Ready n (taken_after a c.taken) (rest c)) act h.1 in
     record { some = ready.some; free = ready.free; ready = subst (λ (t : Bool). Ready n t (rest c)) (sym b.0) (ready_any n (rest c) r) }
 
-pub fields_here : (c : Course) (fields : List ℕ) → (task_at c).act ≡ Make fields → fields_at c ≡ fields
-fields_here c fields e = ap fields_of e
+pub form_here : (c : Course) (form : Form) → (task_at c).act ≡ Make form → form_at c ≡ form
+form_here c form e = ap form_of e
 
-next_here : (c : Course) (fields : List ℕ) → (task_at c).act ≡ Make fields → (task_at c).act ≡ Make (fields_at c)
-next_here c fields e = e ∙ ap Make (sym (fields_here c fields e))
+next_here : (c : Course) (form : Form) → (task_at c).act ≡ Make form → (task_at c).act ≡ Make (form_at c)
+next_here c form e = e ∙ ap Make (sym (form_here c form e))
 
 pub resting : (d : ℕ) (t : Thread) (v : Story) → Fits d t v → t.half ≡ Rest → Stocks d t.stock.blocks t.stock.room Rest v
 resting d t v fits e = subst (λ (h : Half). Stocks d t.stock.blocks t.stock.room h v) e fits.stocks
 
 pub prepared : (d : ℕ) (t : Thread) (v : Story) (b : Block) (i : ℕ) (f : Bool) → Fits d t v → t.half ≡ Making b i f
-    → IsPrepared d b i (fields_at t.course) v
-prepared d t v b i f fits e = subst (λ (h : Half). HalfFits d h (fields_at t.course) v) e fits.half
+    → IsPrepared d b i (form_at t.course) v
+prepared d t v b i f fits e = subst (λ (h : Half). HalfFits d h (form_at t.course) v) e fits.half
 
 -- the block that the stock gave is the least of the store, which has none where the stock is empty
 pub least_here : (d : ℕ) (t : Thread) (v : Story) (b : Block) (s : Stored) → Fits d t v → t.half ≡ Rest
@@ -130,11 +131,11 @@ least_nowhere d t v fits e none =
     let x = resting d t v fits e in
     none_stored d (state v).stores (λ c. let q = x.stocked c in let z : in_list c t.stock.blocks ≡ 0 = ap (in_list c) none in omega (arith, q, z))
 
-pub fits_prepare : (d : ℕ) (t : Thread) (v : Story) (b : Block) (s : Stored) (fields : List ℕ) → Kept v → Fits d t v → t.half ≡ Rest
-    → t.course.at < length t.course.tasks.items → (task_at t.course).act ≡ Make fields → IsPermutation t.stock.blocks (b.0 ∷ s.blocks)
+pub fits_prepare : (d : ℕ) (t : Thread) (v : Story) (b : Block) (s : Stored) (form : Form) → Kept v → Fits d t v → t.half ≡ Rest
+    → t.course.at < length t.course.tasks.items → (task_at t.course).act ≡ Make form → IsPermutation t.stock.blocks (b.0 ∷ s.blocks)
     → All (λ c. b.0 ≤ c) t.stock.blocks → s.room ≡ t.stock.room
     → Fits d (record { course = t.course; stock = s; half = Making b 0 false }) (after v d (deed.Prepare b))
-fits_prepare d t v b s fields kept fits e lt act p all room =
+fits_prepare d t v b s form kept fits e lt act p all room =
     let o = own_pending v d (deed.Prepare b) kept fits.seat in
     let x = stocks_take d t.stock.blocks s.blocks t.stock.room 0 false v b (resting d t v fits e) p in
     record {
@@ -150,12 +151,12 @@ fits_prepare d t v b s fields kept fits e lt act p all room =
             least = least_here d t v b s fits e p all;
             done = λ j l. absurd (omega arith);
           };
-      next = (lt, next_here t.course fields act);
+      next = (lt, next_here t.course form act);
       stocks = record { stocked = x.stocked; roomy = (let q = x.roomy in omega (arith, q, room)) };
     }
 
 pub fits_look : (d : ℕ) (t : Thread) (v : Story) (b : Block) (i n : ℕ) (same : Bool) → Fits d t v → t.half ≡ Making b i false → i < 5
-    → n ≡ cond same (i + 1) i → (same ≡ true → get_or (known (pending v d)) i 0 ≡ get_or (wanted (fields_at t.course)) i 0)
+    → n ≡ cond same (i + 1) i → (same ≡ true → get_or (known (pending v d)) i 0 ≡ get_or (wanted (form_at t.course)) i 0)
     → Fits d (record { course = t.course; stock = t.stock; half = Making b n (not same) }) v
 fits_look d t v b i n same fits e lt is here =
     let p = prepared d t v b i false fits e in
@@ -174,9 +175,9 @@ fits_look d t v b i n same fits e lt is here =
             least = p.least;
             within = subst (λ (k : ℕ). k ≤ 5) (sym is) (cond_both same (i + 1) i (λ (k : ℕ). k ≤ 5) (λ q. omega arith) (λ q. omega arith));
             done = λ j l.
-                cond_both same (i + 1) i (λ (k : ℕ). n ≡ k → get_or (known (pending v d)) j 0 ≡ get_or (wanted (fields_at t.course)) j 0)
+                cond_both same (i + 1) i (λ (k : ℕ). n ≡ k → get_or (known (pending v d)) j 0 ≡ get_or (wanted (form_at t.course)) j 0)
                 (λ q r. ⊎_elim (λ (u : j ≡ i). subst
-                (λ (k : ℕ). get_or (known (pending v d)) k 0 ≡ get_or (wanted (fields_at t.course)) k 0) (sym u) (here q))
+                (λ (k : ℕ). get_or (known (pending v d)) k 0 ≡ get_or (wanted (form_at t.course)) k 0) (sym u) (here q))
                 (λ (u : j ≢ i). p.done j (omega (arith, l, r, u))) (cases_eq j i))
                 (λ q r. p.done j (omega (arith, l, r))) is;
           };
@@ -186,9 +187,9 @@ fits_look d t v b i n same fits e lt is here =
 
 pub fits_write : (d : ℕ) (t : Thread) (v : Story) (b : Block) (i : ℕ) → Kept v → Fits d t v → t.half ≡ Making b i true → i < 5
     → Fits d (record { course = t.course; stock = t.stock; half = Making b (i + 1) false }) (after v d (deed.Write b i (get_or (wanted
-    (fields_at t.course)) i 0)))
+    (form_at t.course)) i 0)))
 fits_write d t v b i kept fits e lt =
-    let n = get_or (wanted (fields_at t.course)) i 0 in
+    let n = get_or (wanted (form_at t.course)) i 0 in
     let p = prepared d t v b i true fits e in
     let o = own_pending v d (deed.Write b i n) kept fits.seat in
     let x : Stocks d t.stock.blocks t.stock.room (Making b i true) v = subst (λ (h : Half). Stocks d t.stock.blocks t.stock.room h v) e fits.stocks in
@@ -209,7 +210,7 @@ fits_write d t v b i kept fits e lt =
             done = λ j l.
                 ap (λ (q : Pending Nothing). get_or (known q) j 0) o
                 ∙ ⊎_elim (λ (u : j ≡ i). subst
-                (λ (m : ℕ). get_or (set k i n) m 0 ≡ get_or (wanted (fields_at t.course)) m 0) (sym u) (get_or-set_same k i n 0 (omega
+                (λ (m : ℕ). get_or (set k i n) m 0 ≡ get_or (wanted (form_at t.course)) m 0) (sym u) (get_or-set_same k i n 0 (omega
                 (arith, five))))
                 (λ (u : j ≢ i). get_or-set_other k i j n 0 u ∙ p.done j (omega (arith, l, u))) (cases_eq j i);
           };
@@ -217,10 +218,10 @@ fits_write d t v b i kept fits e lt =
       stocks = record { stocked = x.stocked; roomy = x.roomy };
     }
 
-pub fits_claim : (d : ℕ) (t : Thread) (v : Story) (b : Block) (f : Bool) (fields : List ℕ) (c : Course) → Kept v → Fits d t v → t.half ≡ Making b 5 f
-    → HasGoneOn d t.course c (after v d (deed.Claim b false false fields))
-    → Fits d (record { course = c; stock = t.stock; half = Rest }) (after v d (deed.Claim b false false fields))
-fits_claim d t v b f fields c kept fits e on =
+pub fits_claim : (d : ℕ) (t : Thread) (v : Story) (b : Block) (f : Bool) (form : Form) (c : Course) → Kept v → Fits d t v → t.half ≡ Making b 5 f
+    → HasGoneOn d t.course c (after v d (deed.Claim b form.enabled form.null form.fields))
+    → Fits d (record { course = c; stock = t.stock; half = Rest }) (after v d (deed.Claim b form.enabled form.null form.fields))
+fits_claim d t v b f form c kept fits e on =
     let p = prepared d t v b 5 f fits e in
     let x : Stocks d t.stock.blocks t.stock.room (Making b 5 f) v = subst (λ (h : Half). Stocks d t.stock.blocks t.stock.room h v) e fits.stocks in
     let has = subst (λ (n : ℕ). Has (stored n b.0) (state v).stores) (named v d kept fits.seat)
@@ -231,7 +232,7 @@ fits_claim d t v b f fields c kept fits e on =
       within = on.within;
       ready = on.ready;
       still = on.still;
-      half = own_pending v d (deed.Claim b false false fields) kept fits.seat;
+      half = own_pending v d (deed.Claim b form.enabled form.null form.fields) kept fits.seat;
       next = tt;
-      stocks = stocks_claim d t.stock.blocks t.stock.room 5 f v b fields x has;
+      stocks = stocks_claim d t.stock.blocks t.stock.room 5 f v b form x has;
     }

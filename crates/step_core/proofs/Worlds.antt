@@ -16,7 +16,7 @@ use Rattle.step_core.specs.Courses.{Walk, todo, walk}
 use Rattle.step_core.specs.Scenes.{nowhere, walk_of}
 use Rattle.step_core.specs.Steps.{Step, half_by, step_at, stepped, story_after, story_by, walk_by}
 use Rattle.step_core.specs.Stories.{Kept, Story, after}
-use Rattle.step_core.specs.Threads.{Fits, HasStepped, IsNext, fields_at}
+use Rattle.step_core.specs.Threads.{Fits, HasStepped, IsNext, form_at}
 use Rattle.step_core.specs.Turning.{HasBegun, IsLock, IsTried, IsUnderWay}
 use Rattle.step_core.specs.Worlds.{AllFit, Sight, Steps, half_of, scene, step_of, thread_half, thread_walk}
 use Rattle.step_core.proofs.Courses.{todo_at}
@@ -43,7 +43,7 @@ fits_others d u v n x ne kept kept' fits =
       within = fits.within;
       ready = fits.ready;
       still = fits.still;
-      half = half_others d u.half (fields_at u.course) v n x ne kept kept' fits.half;
+      half = half_others d u.half (form_at u.course) v n x ne kept kept' fits.half;
       next = fits.next;
       stocks = stocks_others d u.stock.blocks u.stock.room u.half v n x ne fits.stocks;
     }
@@ -104,7 +104,7 @@ steps v v' threads n t t' r lt read moved =
     )
 
 -- what a thread has begun
-begun_of : (d : ℕ) (h : Half) (c : Course) (v : Story) → HalfFits d h (fields_at c) v → IsNext h c → IsUnderWay d v h (todo c)
+begun_of : (d : ℕ) (h : Half) (c : Course) (v : Story) → HalfFits d h (form_at c) v → IsNext h c → IsUnderWay d v h (todo c)
 begun_of d Rest c v fits next = tt
 begun_of d (Making b i differs) c v fits next =
     subst (λ (ts : List Task). IsUnderWay d v (Making b i differs) ts) (sym (todo_at c next.0)) (fits.within, fits.least, next.1)

@@ -1,9 +1,11 @@
-pub mod Calm
+pub mod Cells
+pub mod Doors
 pub mod Endings
 pub mod Locks
 pub mod Making
 pub mod Owners
 pub mod Places
+pub mod Plain
 pub mod Reading
 pub mod Standing
 pub mod Start

@@ -4,6 +4,8 @@ use Rattle.std.specs.List.{filter}
 use Rattle.control_word.specs.declared.place.Block.{Block}
 use Rattle.control_word.specs.declared.view.Pending.TheVariants.{Idle}
 use Rattle.control_word.specs.State.{State, ending, same_stored, stored}
+use Rattle.step_core.specs.declared.act.Form.{Form}
+use Rattle.control_word.specs.Words.{flags_of}
 use Rattle.step_core.specs.declared.half.Half.{Half}
 use Rattle.step_core.specs.declared.half.Half.TheVariants.{Rest, Making, Ending, Locking}
 use Rattle.step_core.specs.Scenes.{least}
@@ -28,16 +30,16 @@ pub record Stocks (d : ℕ) (blocks : List ℕ) (room : ℕ) (half : Half) (v : 
   pub stocked : (b : ℕ) → in_store (state v) d b ≡ in_list b blocks + claimed half b
   pub roomy : v.extent.shape.blocks ≤ room
 
--- what a make wants its block's loose words to be
-abbrev pub wanted : List ℕ → List ℕ
-wanted fields = 0 ∷ fields
+-- what a make wants its block's loose words to be: the flags and the fields
+abbrev pub wanted : Form → List ℕ
+wanted form = flags_of form.enabled form.null ∷ form.fields
 
 -- the block is the least of the store, and the words before are as they are wanted
-pub record IsPrepared (d : ℕ) (b : Block) (at : ℕ) (fields : List ℕ) (v : Story) : Type 0 where
+pub record IsPrepared (d : ℕ) (b : Block) (at : ℕ) (form : Form) (v : Story) : Type 0 where
   pub making : IsMaking v d b
   pub within : at ≤ 5
   pub least : least d (state v).stores ≡ Some b.0
-  pub done : (j : ℕ) → j < at → get_or (known (pending v d)) j 0 ≡ get_or (wanted fields) j 0
+  pub done : (j : ℕ) → j < at → get_or (known (pending v d)) j 0 ≡ get_or (wanted form) j 0
 
 -- the object ends in the desk's hands
 pub record IsEnding (d : ℕ) (b : Block) (at : ℕ) (v : Story) : Type 0 where
@@ -45,8 +47,8 @@ pub record IsEnding (d : ℕ) (b : Block) (at : ℕ) (v : Story) : Type 0 where
   pub ending : ((state v).object (object_in v b)).phase ≡ ending d
   pub within : at ≤ 3
 
-abbrev pub HalfFits : ℕ → Half → List ℕ → Story → Type 0
-HalfFits d Rest fields v = pending v d ≡ Idle
-HalfFits d (Making b i differs) fields v = IsPrepared d b i fields v
-HalfFits d (Ending b at k) fields v = IsEnding d b at v
-HalfFits d (Locking found) fields v = (pending v d ≡ Idle) × (0 < found)
+abbrev pub HalfFits : ℕ → Half → Form → Story → Type 0
+HalfFits d Rest form v = pending v d ≡ Idle
+HalfFits d (Making b i differs) form v = IsPrepared d b i form v
+HalfFits d (Ending b at k) form v = IsEnding d b at v
+HalfFits d (Locking found) form v = (pending v d ≡ Idle) × (0 < found)

@@ -11,7 +11,7 @@ use Rattle.step_core.specs.declared.call.Call.TheVariants.{Weak, WeakCopy, WeakE
 
 -- the acts of a statement, in order
 abbrev pub acts : Call → List Act
-acts (Make target fields) = act.Make fields ∷ act.Put target.0 ∷ []
+acts (Make target fields) = act.Make (record { fields = fields; enabled = false; null = false }) ∷ act.Put target.0 ∷ []
 acts (Empty target) = act.Leave target.0 ∷ []
 acts (Reset name) = act.Leave name.0 ∷ []
 acts (Copy target source) = act.Share source.0 ∷ act.Put target.0 ∷ []

@@ -1,10 +1,11 @@
 -- How a thread goes on from act to act. All of it is own.
 use Rattle.std.specs.Prelude.{◌≡◌, ℕ, ◌+◌, ◌-◌, ◌<◌, ◌≤◌, Bool, true, false, cond, not, ◌&&◌, List, [], ◌∷◌, length, drop, get_or, slice_set, Option, Some, None}
 use Rattle.step_core.specs.declared.act.Act.{Act}
+use Rattle.step_core.specs.declared.act.Form.{Form}
 use Rattle.step_core.specs.declared.act.Act.TheVariants.{Make, Share, Downgrade, Lock, Put, Leave, Clear, Count, Expired}
 use Rattle.step_core.specs.declared.act.Task.{Task}
 use Rattle.step_core.specs.declared.course.Course.{Course}
-use Rattle.step_core.specs.Holdings.{Holds, Slots, is_full, slot, weak_slot}
+use Rattle.step_core.specs.Holdings.{Holds, Slots, is_full, plain, slot, value, weak_slot}
 use Rattle.control_word.specs.declared.view.Pending.TheVariants.{Idle}
 use Rattle.step_core.specs.declared.holdings.Pointer.{Pointer}
 use Rattle.step_core.specs.declared.past.Deed.{Deed}
@@ -14,10 +15,13 @@ use Rattle.step_core.specs.Stories.{Story, after, pending}
 abbrev pub hand : Slots → ℕ
 hand slots = length slots - 1
 
--- the fields that an act wants, where it makes an object
-abbrev pub fields_of : Act → List ℕ
-fields_of (Make fields) = fields
-fields_of _ = []
+abbrev pub no_form : Form
+no_form = record { fields = []; enabled = false; null = false }
+
+-- what an act makes, where it makes an object
+abbrev pub form_of : Act → Form
+form_of (Make form) = form
+form_of _ = no_form
 
 -- the weak handle that an act locks
 abbrev pub locked : Slots → Act → Option Pointer
@@ -32,7 +36,7 @@ idle _ slots taken = false
 
 -- the value in hand is in slot k
 abbrev pub placed : ℕ → Slots → Slots
-placed k slots = slice_set (slice_set slots k (slot slots (hand slots))) (hand slots) None
+placed k slots = slice_set (slice_set slots k (value slots (hand slots))) (hand slots) plain
 
 -- what a task leaves that is idle
 abbrev pub slots_idle : Act → Slots → Bool → Slots
@@ -56,7 +60,7 @@ settled slots taken (t ∷ ts) =
 
 -- an act that may come with n names, where something was taken or not
 abbrev pub Begins : ℕ → Bool → Act → Type 0
-Begins n taken (Make fields) = (taken ≡ false) × (length fields ≡ 4)
+Begins n taken (Make form) = (taken ≡ false) × (length form.fields ≡ 4)
 Begins n taken (Share k) = (k < n) × (taken ≡ false)
 Begins n taken (Put k) = k < n
 Begins n taken (Leave k) = k < n
@@ -67,7 +71,7 @@ Begins n taken (Lock k must) = (k < n) × (taken ≡ false)
 Begins n taken (Expired k) = k < n
 
 abbrev pub taken_after : Act → Bool → Bool
-taken_after (Make fields) taken = true
+taken_after (Make form) taken = true
 taken_after (Share k) taken = true
 taken_after (Downgrade k) taken = true
 taken_after (Lock k must) taken = true
@@ -81,7 +85,7 @@ Ready n taken (t ∷ ts) = Begins n taken t.act × Ready n (taken_after t.act ta
 -- what a thread relies on
 pub record IsReady (slots : Slots) (taken : Bool) (todo : List Task) : Type 0 where
   pub some : 0 < length slots
-  pub free : taken ≡ false → slot slots (hand slots) ≡ None
+  pub free : taken ≡ false → value slots (hand slots) ≡ plain
   pub ready : Ready (hand slots) taken todo
 
 abbrev pub no_task : Task

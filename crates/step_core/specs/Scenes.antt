@@ -7,11 +7,12 @@ use Rattle.control_word.specs.declared.handle.Handle.{Handle}
 use Rattle.control_word.specs.declared.handle.Kind.{Kind}
 use Rattle.control_word.specs.declared.handle.Kind.TheVariants.{Owner, Weak}
 use Rattle.control_word.specs.declared.refusal.Refusal.TheVariants.{BadWeak, Full}
-use Rattle.control_word.specs.Events.{place_at}
+use Rattle.control_word.specs.Events.{origin}
 use Rattle.control_word.specs.Handles.{empty, handle, owner, weak_of}
 use Rattle.control_word.specs.Histories.{entry, leads}
 use Rattle.control_word.specs.State.{Object, Opening, State, Stored, count, kind_of_member, weak}
 use Rattle.step_core.specs.declared.act.Act.{Act}
+use Rattle.step_core.specs.declared.act.Form.{Form}
 use Rattle.step_core.specs.declared.act.Act.TheVariants.{Make, Share, Downgrade, Lock, Put, Leave, Clear, Count, Expired}
 use Rattle.step_core.specs.declared.act.Task.{Task}
 use Rattle.step_core.specs.declared.extent.Extent.{Extent}
@@ -21,9 +22,10 @@ use Rattle.step_core.specs.declared.said.Answer.TheVariants as answer
 use Rattle.step_core.specs.declared.said.Ended.{Ended}
 use Rattle.step_core.specs.declared.said.Ended.TheVariants as ended
 use Rattle.step_core.specs.declared.said.Said.{Said}
+use Rattle.step_core.specs.declared.slot.Slot.TheVariants.{Full}
 use Rattle.step_core.specs.Courses.{Walk, hand, locked, placed, settled}
 use Rattle.step_core.specs.Deeds.{as_weak, is_expired, is_last, owned, owner_left}
-use Rattle.step_core.specs.Holdings.{Slots, is_full, slot}
+use Rattle.step_core.specs.Holdings.{Slots, filled, is_full, plain, slot, value}
 use Rattle.step_core.specs.Openings.{opening}
 use Rattle.step_core.specs.Stories.{Nothing}
 
@@ -53,9 +55,9 @@ abbrev pub on : {A : Type 0} → (Pointer → A) → A → Option Pointer → A
 on f none None = none
 on f none (Some x) = f x
 
-abbrev pub made : ℕ → List ℕ → History → Option ℕ → History
-made d fields h None = h
-made d fields h (Some b) = entry d (event.Make (record { 0 = b }) false false fields tt) ∷ h
+abbrev pub made : ℕ → Form → History → Option ℕ → History
+made d form h None = h
+made d form h (Some b) = entry d (event.Make (record { 0 = b }) form.enabled form.null form.fields tt) ∷ h
 
 abbrev pub clears : ℕ → ℕ → ℕ → History → History
 clears d o m h = entry d (event.ClearMember o m (empty (kind_of_member m))) ∷ h
@@ -100,7 +102,7 @@ expires z d h x = let s = leads z h in entry d (event.Expired (handle_of s x) (i
 
 -- the history after an act of a desk whose thread has this in its slots
 abbrev pub acted : Opening → ℕ → Slots → History → Act → History
-acted z d slots h (Make fields) = made d fields h (least d (leads z h).stores)
+acted z d slots h (Make form) = made d form h (least d (leads z h).stores)
 acted z d slots h (Share k) = on (shares z d h) h (slot slots k)
 acted z d slots h (Put k) = on (leaves z d h) h (slot slots k)
 acted z d slots h (Leave k) = on (leaves z d h) h (slot slots k)
@@ -111,9 +113,9 @@ acted z d slots h (Lock k must) = on (locks z d h) h (locked slots (Lock k must)
 acted z d slots h (Expired k) = on (expires z d h) h (slot slots k)
 
 -- a new object's owner is in hand, or the rest of the statement is passed over
-abbrev pub holding : Slots → List Task → Option ℕ → Walk
-holding slots rest None = settled slots false rest
-holding slots rest (Some b) = settled (slice_set slots (hand slots) (Some (record { kind = Owner; block = record { 0 = b }; place = place_at b }))) true rest
+abbrev pub holding : Slots → List Task → Bool → Option ℕ → Walk
+holding slots rest null None = settled slots false rest
+holding slots rest null (Some b) = settled (slice_set slots (hand slots) (Full (record { kind = Owner; block = record { 0 = b }; place = origin b null }))) true rest
 
 -- what a lock finds: an owner, where there is a weak pointer and an owner is left
 abbrev pub found : State → Option Pointer → Option Pointer
@@ -122,17 +124,17 @@ found s x = on (owner_left s) None x
 -- what was found is in hand; where nothing was and it must be, the rest of the statement is passed over
 abbrev pub taking : Slots → Bool → List Task → Option Pointer → Walk
 taking slots must rest None = settled slots (not must) rest
-taking slots must rest (Some x) = settled (slice_set slots (hand slots) (Some x)) true rest
+taking slots must rest (Some x) = settled (slice_set slots (hand slots) (Full x)) true rest
 
 -- where the thread is after it
 abbrev pub went : State → ℕ → Slots → Bool → List Task → Act → Walk
-went s d slots taken rest (Make fields) = holding slots rest (least d s.stores)
-went s d slots taken rest (Share k) = settled (slice_set slots (hand slots) (slot slots k)) true rest
-went s d slots taken rest (Put k) = settled (placed k (slice_set slots k None)) false rest
-went s d slots taken rest (Leave k) = settled (slice_set slots k None) taken rest
-went s d slots taken rest (Clear k) = settled (slice_set slots k None) taken rest
+went s d slots taken rest (Make form) = holding slots rest form.null (least d s.stores)
+went s d slots taken rest (Share k) = settled (slice_set slots (hand slots) (value slots k)) true rest
+went s d slots taken rest (Put k) = settled (placed k (slice_set slots k plain)) false rest
+went s d slots taken rest (Leave k) = settled (slice_set slots k plain) taken rest
+went s d slots taken rest (Clear k) = settled (slice_set slots k plain) taken rest
 went s d slots taken rest (Count k) = settled slots taken rest
-went s d slots taken rest (Downgrade k) = settled (slice_set slots (hand slots) (option_map as_weak (slot slots k))) true rest
+went s d slots taken rest (Downgrade k) = settled (slice_set slots (hand slots) (filled (option_map as_weak (slot slots k)))) true rest
 went s d slots taken rest (Lock k must) = taking slots must rest (found s (locked slots (Lock k must)))
 went s d slots taken rest (Expired k) = settled slots taken rest
 
@@ -148,7 +150,7 @@ lock_answer true false = answer.Refused BadWeak
 
 -- what an act answers: a make is refused where the store is empty, and a count is the number of owners
 abbrev pub answer_of : State → ℕ → Slots → Act → Option Answer
-answer_of s d slots (Make fields) = full_answer (least d s.stores)
+answer_of s d slots (Make form) = full_answer (least d s.stores)
 answer_of s d slots (Count k) = Some (answer.Count (on (λ x. count s (owned s x)) 0 (slot slots k)))
 answer_of s d slots (Lock k must) = Some (lock_answer must (is_full (found s (locked slots (Lock k must)))))
 answer_of s d slots (Expired k) = Some (answer.Expired (on (is_expired s) true (slot slots k)))

@@ -5,6 +5,7 @@ use Rattle.control_word.specs.State.{State, weak}
 use Rattle.control_word.specs.declared.handle.Kind.{Kind}
 use Rattle.control_word.specs.declared.handle.Kind.TheVariants.{Owner, Weak}
 use Rattle.step_core.specs.declared.act.Act.{Act}
+use Rattle.step_core.specs.declared.act.Form.{Form}
 use Rattle.step_core.specs.declared.act.Act.TheVariants.{Make, Share, Downgrade, Lock, Put, Leave, Clear, Count, Expired}
 use Rattle.step_core.specs.declared.act.Task.{Task}
 use Rattle.step_core.specs.declared.half.Half.{Half}
@@ -16,7 +17,7 @@ use Rattle.step_core.specs.declared.said.Said.{Said}
 use Rattle.step_core.specs.declared.said.Stepped.{Stepped}
 use Rattle.step_core.specs.declared.said.Stepped.TheVariants.{Event, Quiet, Done}
 use Rattle.step_core.specs.Actors.{wanted}
-use Rattle.step_core.specs.Courses.{Walk, fields_of, locked}
+use Rattle.step_core.specs.Courses.{Walk, form_of, locked, settled}
 use Rattle.step_core.specs.Deeds.{downgrade, is_last, leave, lock, owner_word, share, tell, tell_expired}
 use Rattle.step_core.specs.Holdings.{slot}
 use Rattle.step_core.specs.Scenes.{answer_of, ended_of, full_answer, holding, least, on, went}
@@ -53,7 +54,7 @@ acts s d w k ts a x h =
 -- a make begins in the least block of the store; it is refused where there is none
 abbrev pub begins : Walk → ℕ → List Task → Option ℕ → Step
 begins w k ts None =
-    record { deed = None; half = Rest; walk = holding w.slots ts None; said = record { statement = k; answer = full_answer None; ended = None } }
+    record { deed = None; half = Rest; walk = settled w.slots false ts; said = record { statement = k; answer = full_answer None; ended = None } }
 begins w k ts (Some b) =
     let block : Block = record { 0 = b } in record { deed = Some (deed.Prepare block); half = Making block 0 false; walk = w; said = silent k }
 
@@ -71,7 +72,7 @@ tries v d w k ts a word x = cond (owner_word v x == word) (acts (state v) d w k 
 
 -- the first step of the next act, or the whole of it
 abbrev pub first : Story → ℕ → Walk → ℕ → List Task → Act → Step
-first v d w k ts (Make fields) = begins w k ts (least d (state v).stores)
+first v d w k ts (Make form) = begins w k ts (least d (state v).stores)
 first v d w k ts (Share i) = acts (state v) d w k ts (Share i) (option_map share (slot w.slots i)) Rest
 first v d w k ts (Put i) = acts (state v) d w k ts (Put i) (option_map (leave (state v)) (slot w.slots i)) (on (end_of (state v) k) Rest (slot w.slots i))
 first v d w k ts (Leave i) = acts (state v) d w k ts (Leave i) (option_map (leave (state v)) (slot w.slots i)) (on (end_of (state v) k) Rest (slot w.slots i))
@@ -96,14 +97,15 @@ prepares found want w k b i false =
     record { deed = None; half = cond (found == want) (Making b (i + 1) false) (Making b i true); walk = w; said = silent k }
 
 -- the object is made: its owner comes into the hand
-abbrev pub claims : Walk → ℕ → List Task → Block → List ℕ → Step
-claims w k ts b fields = record { deed = Some (deed.Claim b false false fields); half = Rest; walk = holding w.slots ts (Some b.0); said = silent k }
+abbrev pub claims : Walk → ℕ → List Task → Block → Form → Step
+claims w k ts b form =
+    record { deed = Some (deed.Claim b form.enabled form.null form.fields); half = Rest; walk = holding w.slots ts form.null (Some b.0); said = silent k }
 
 abbrev pub made_on : Story → ℕ → Walk → Block → ℕ → Bool → List Task → Option Step
 made_on v d w b i differs [] = None
 made_on v d w b i differs (t ∷ ts) =
-    Some (cond (i == 5) (claims w t.statement ts b (fields_of t.act))
-    (prepares (get_or (known (pending v d)) i 0) (get_or (wanted (fields_of t.act)) i 0) w t.statement b i differs))
+    Some (cond (i == 5) (claims w t.statement ts b (form_of t.act))
+    (prepares (get_or (known (pending v d)) i 0) (get_or (wanted (form_of t.act)) i 0) w t.statement b i differs))
 
 -- an object ends: its members are cleared in order, and then it is finished
 abbrev pub ends_on : Story → Walk → Block → ℕ → ℕ → Step

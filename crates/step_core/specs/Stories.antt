@@ -8,7 +8,7 @@ use Rattle.control_word.specs.declared.handle.Kind.{Kind}
 use Rattle.control_word.specs.declared.place.Block.{Block}
 use Rattle.control_word.specs.declared.place.Place.{Place}
 use Rattle.control_word.specs.declared.view.Pending.{Pending}
-use Rattle.control_word.specs.declared.view.Pending.TheVariants.{Idle, Making}
+use Rattle.control_word.specs.declared.view.Pending.TheVariants.{Idle, Making, Paying}
 use Rattle.control_word.specs.declared.view.View.{View}
 use Rattle.control_word.specs.Handles.{empty, handle, owner, weak_of}
 use Rattle.control_word.specs.Histories.{entry, leads}
@@ -121,6 +121,26 @@ pub record Seats (views : List (View Nothing)) (actors : ℕ) : Type 0 where
   pub names : (d : ℕ) → d < actors → (view_in views d).name ≡ d
   pub awake : (d : ℕ) → d < actors → (view_in views d).spent ≡ false
 
+-- what a desk has half done shuts no door, and is no split or join
+abbrev pub ShutsNoDoor : Pending Nothing → Type 0
+ShutsNoDoor Idle = Unit {0}
+ShutsNoDoor (Making b l) = Unit {0}
+ShutsNoDoor (Paying k o p word funds loads) = Unit {0}
+ShutsNoDoor _ = ⊥
+
+-- each object that was made has four fields
+abbrev pub AllWhole : State → Type 0
+AllWhole s = (o : ℕ) → 0 < o → o ≤ s.made → length (s.object o).fields ≡ 4
+
+-- the words stand for the history; nobody's allowance has changed, and no door is shut
+pub record Kept (v : Story) : Type 0 where
+  pub stands : Stands (opening v.extent) v.words v.views v.history
+  pub seats : Seats v.views v.extent.actors
+  pub doors : (d : ℕ) → ShutsNoDoor (pending v d)
+  pub whole : AllWhole (state v)
+  pub proper : IsExtent v.extent
+  pub allowed : (state v).allowance ≡ share_of v.extent
+
 -- no member of an object holds a handle
 abbrev pub AllBare : State → Type 0
 AllBare s = (o m : ℕ) → (s.object o).member m ≡ empty (kind_of_member m)
@@ -131,16 +151,11 @@ IsCalm Idle = Unit {0}
 IsCalm (Making b l) = Unit {0}
 IsCalm _ = ⊥
 
--- each object that was made has four fields
-abbrev pub AllWhole : State → Type 0
-AllWhole s = (o : ℕ) → 0 < o → o ≤ s.made → length (s.object o).fields ≡ 4
-
--- the words stand for the history; nobody's allowance has changed, no member was filled, and no count lags behind
-pub record Kept (v : Story) : Type 0 where
-  pub stands : Stands (opening v.extent) v.words v.views v.history
-  pub seats : Seats v.views v.extent.actors
+-- nothing was done to a cell: no member was filled, and no count lags behind
+pub record Plain (v : Story) : Type 0 where
   pub bare : AllBare (state v)
   pub calm : (d : ℕ) → IsCalm (pending v d)
-  pub whole : AllWhole (state v)
-  pub proper : IsExtent v.extent
-  pub allowed : (state v).allowance ≡ share_of v.extent
+
+-- a deed that does nothing to a cell
+abbrev pub IsPlain : Deed → Type 0
+IsPlain x = Unit {0}

@@ -3,6 +3,7 @@ use Rattle.std.specs.Prelude.{◌≡◌, ℕ, ◌<◌, ◌≤◌, ◌∷◌, Boo
 use Rattle.std.specs.List.Sorted.{IsPermutation}
 use Rattle.control_word.specs.declared.handle.Kind.{Kind}
 use Rattle.control_word.specs.declared.handle.Kind.TheVariants.{Weak}
+use Rattle.step_core.specs.declared.act.Form.{Form}
 use Rattle.step_core.specs.declared.act.Act.TheVariants.{Make}
 use Rattle.step_core.specs.declared.course.Course.{Course}
 use Rattle.step_core.specs.declared.half.Half.{Half}
@@ -10,21 +11,21 @@ use Rattle.step_core.specs.declared.half.Half.TheVariants.{Rest, Making, Ending,
 use Rattle.step_core.specs.declared.said.Stepped.{Stepped}
 use Rattle.step_core.specs.declared.thread.Thread.{Thread}
 use Rattle.step_core.specs.Actors.{HalfFits, Stocks}
-use Rattle.step_core.specs.Courses.{CourseReady, CourseStill, fields_of, locked, task_at, walk}
+use Rattle.step_core.specs.Courses.{CourseReady, CourseStill, form_of, locked, task_at, walk}
 use Rattle.step_core.specs.declared.holdings.Pointer.{Pointer}
 use Rattle.step_core.specs.Holdings.{Holds, is_full}
 use Rattle.step_core.specs.Stocks.{Stored}
 use Rattle.step_core.specs.Steps.{half_by, step_at, stepped, story_by, walk_by}
 use Rattle.step_core.specs.Stories.{Story}
 
--- the fields that the next act wants, where it makes an object
-abbrev pub fields_at : Course → List ℕ
-fields_at c = fields_of (task_at c).act
+-- what the next act makes, where it makes an object
+abbrev pub form_at : Course → Form
+form_at c = form_of (task_at c).act
 
 -- a make or a lock that is under way is the next act
 abbrev pub IsNext : Half → Course → Type 0
 IsNext Rest c = Unit {0}
-IsNext (Making b i differs) c = (c.at < length c.tasks.items) × ((task_at c).act ≡ Make (fields_at c))
+IsNext (Making b i differs) c = (c.at < length c.tasks.items) × ((task_at c).act ≡ Make (form_at c))
 IsNext (Ending b stage k) c = Unit {0}
 IsNext (Locking word) c = (c.at < length c.tasks.items) × (is_full (locked c.holdings.slots.items (task_at c).act) ≡ true)
 
@@ -35,7 +36,7 @@ pub record Fits (d : ℕ) (t : Thread) (v : Story) : Type 0 where
   pub within : t.course.at ≤ length t.course.tasks.items
   pub ready : CourseReady t.course
   pub still : CourseStill t.course
-  pub half : HalfFits d t.half (fields_at t.course) v
+  pub half : HalfFits d t.half (form_at t.course) v
   pub next : IsNext t.half t.course
   pub stocks : Stocks d t.stock.blocks t.stock.room t.half v
 

@@ -7,7 +7,7 @@ use Rattle.step_core.specs.declared.said.Stepped.{Stepped}
 use Rattle.step_core.specs.declared.said.Stepped.TheVariants.{Event, Quiet, Waited, Done}
 use Rattle.step_core.specs.declared.thread.Thread.{Thread}
 use Rattle.step_core.specs.Courses.{Walk}
-use Rattle.step_core.specs.Stories.{Story, state}
+use Rattle.step_core.specs.Stories.{Plain, Story, state}
 use Rattle.step_core.specs.Totals.{ended_in, made_in}
 use Rattle.step_core.specs.Worlds.{Sight, half_of, thread_half, thread_walk}
 
@@ -29,7 +29,7 @@ AllEnd s f = (o e : ℕ) → (s.object o).phase ≡ ending e → EndsIn (s.objec
 abbrev pub left_to_do : List Walk → ℕ
 left_to_do walks = sum_by (λ (w : Walk). length w.todo) walks
 
--- the totals are those of the history, and small: an object is made or ended by a task of its own
+-- the totals are those of the history, and small: an object is made or ended by a task of its own. Nothing was done to a cell
 pub record IsTold (u : Sight) (m e : ℕ) : Type 0 where
   pub threads : length u.walks ≡ u.story.extent.actors
   pub halves : length u.halves ≡ length u.walks
@@ -37,6 +37,7 @@ pub record IsTold (u : Sight) (m e : ℕ) : Type 0 where
   pub ended : e ≡ ended_in u.story.history
   pub few : m + e + left_to_do u.walks ≤ 133120
   pub endings : AllEnd (state u.story) (half_of u)
+  pub plain : Plain u.story
 
 -- the next step of a make is the one that makes the object
 abbrev pub is_prepared : Half → Bool

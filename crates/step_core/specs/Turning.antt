@@ -9,7 +9,7 @@ use Rattle.step_core.specs.declared.said.Stepped.{Stepped}
 use Rattle.step_core.specs.declared.said.Stepped.TheVariants as stepped
 use Rattle.step_core.specs.declared.said.Turned.{Turned}
 use Rattle.step_core.specs.declared.said.Turned.TheVariants.{Acted, Waited, Done}
-use Rattle.step_core.specs.Courses.{Walk, fields_of, locked}
+use Rattle.step_core.specs.Courses.{Walk, form_of, locked}
 use Rattle.step_core.specs.Holdings.{Slots, is_full}
 use Rattle.step_core.specs.Scenes.{least, play, said, walk_of}
 use Rattle.step_core.specs.Stories.{Story, state}
@@ -19,7 +19,7 @@ use Rattle.step_core.specs.Worlds.{Sight, half_of, rested, scene}
 abbrev pub IsUnderWay : ℕ → Story → Half → List Task → Type 0
 IsUnderWay d v Rest ts = Unit {0}
 IsUnderWay d v (Making b i differs) [] = ⊥
-IsUnderWay d v (Making b i differs) (t ∷ ts) = (i ≤ 5) × (least d (state v).stores ≡ Some b.0) × (t.act ≡ Make (fields_of t.act))
+IsUnderWay d v (Making b i differs) (t ∷ ts) = (i ≤ 5) × (least d (state v).stores ≡ Some b.0) × (t.act ≡ Make (form_of t.act))
 IsUnderWay d v (Ending b stage k) ts = stage ≤ 3
 IsUnderWay d v (Locking word) ts = Unit {0}
 

@@ -8,8 +8,8 @@ use std::alloc::{AllocError, Global};
 /// A primitive act. What is taken comes into the hand, and `Put` moves it into a name and leaves what the name held.
 #[derive(Clone, Copy, Debug, PartialEq, Eq)]
 pub enum Act {
-    /// Makes an object with these fields.
-    Make { fields: [u64; 4] },
+    /// Makes an object of this form.
+    Make { form: Form },
     /// Takes a copy of what a name holds.
     Share { name: u8 },
     /// Takes a weak pointer to the object of what a name holds.
@@ -26,6 +26,17 @@ pub enum Act {
     Count { name: u8 },
     /// Tells whether no owner is left.
     Expired { name: u8 },
+}
+
+/// What a make wants its object to be.
+#[derive(Clone, Copy, Debug, PartialEq, Eq)]
+pub struct Form {
+    /// Fields 0 to 3.
+    pub fields: [u64; 4],
+    /// The object gives pointers to itself ([util.smartptr.enab]).
+    pub enabled: bool,
+    /// The owned pointer is null ([util.smartptr.shared.const], from a null pointer and a deleter).
+    pub null: bool,
 }
 
 /// An act, with the number of its statement from 1, or 0 at the end of its thread.
@@ -75,7 +86,7 @@ fn parts(call: Call) -> (Act, Option<Name>)
     ensures { acts call ≡ result.0 ∷ puts result.1 }
 {
     match call {
-        Call::Make { target, fields } => (Act::Make { fields }, Some(target)),
+        Call::Make { target, fields } => (make(fields, false, false), Some(target)),
         Call::Copy { target, source } | Call::WeakCopy { target, source } => {
             (Act::Share { name: source.0 }, Some(target))
         }
@@ -99,6 +110,19 @@ fn parts(call: Call) -> (Act, Option<Name>)
         | Call::Place { name }
         | Call::Same { first: name, .. }
         | Call::Before { first: name, .. } => (Act::Count { name: name.0 }, None),
+    }
+}
+
+/// A make of an object with these fields and flags.
+fn make(fields: [u64; 4], enabled: bool, null: bool) -> Act
+    ensures { result ≡ Act.Make (record { fields = fields; enabled = enabled; null = null }) }
+{
+    Act::Make {
+        form: Form {
+            fields,
+            enabled,
+            null,
+        },
     }
 }
 

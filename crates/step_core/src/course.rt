@@ -2,15 +2,17 @@
 ghost use Rattle.std.specs.Prelude.{◌≡◌, ◌⊎◌, ◌+◌, ◌<◌, ◌≤◌, ◌==◌, ◌∷◌, ℕ, length, drop, true, false, slice_set, Option, Some, None, option_map};
 ghost use Rattle.control_word.specs.State.{count};
 ghost use Rattle.control_word.specs.declared.handle.Kind.TheVariants.{Owner};
+ghost use Rattle.control_word.specs.Words.{flags_of};
 ghost use Rattle.step_core.specs.Deeds.{as_weak, downgrade, is_expired, is_last, leave, owned, share, tell, tell_expired};
-ghost use Rattle.step_core.specs.Holdings.{Holds, is_full, slot};
-ghost use Rattle.step_core.specs.Stories.{IsMaking, Story, after, known, object_in, pending, state};
+ghost use Rattle.step_core.specs.Holdings.{Holds, filled, is_full, plain, slot, value};
+ghost use Rattle.step_core.specs.Stories.{IsMaking, Plain, Story, after, known, object_in, pending, state};
 ghost use Rattle.step_core.specs.declared.holdings.Pointer.{Pointer};
-ghost use Rattle.control_word.specs.Events.{place_at};
+ghost use Rattle.step_core.specs.declared.slot.Slot.TheVariants.{Full};
+ghost use Rattle.control_word.specs.Events.{origin};
 ghost use Rattle.control_word.specs.Layout.{spot};
 ghost use Rattle.control_word.specs.Views.{owed};
 
-use crate::act::{Act, Task};
+use crate::act::{Act, Form, Task};
 use crate::holdings::Holdings;
 use crate::past::Deed;
 use crate::table::Table;
@@ -114,7 +116,7 @@ impl Course {
         requires act { (task_at self.old).act ≡ Act.Share name }
         ensures event { result ≡ is_full (slot self.old.holdings.slots.items name) }
         ensures table { table.new ≡ done_on share table.old desk (slot self.old.holdings.slots.items name) }
-        ensures walk { walk self.new ≡ settled (slice_set self.old.holdings.slots.items (hand self.old.holdings.slots.items) (slot self.old.holdings.slots.items name)) true (rest self.old) }
+        ensures walk { walk self.new ≡ settled (slice_set self.old.holdings.slots.items (hand self.old.holdings.slots.items) (value self.old.holdings.slots.items name)) true (rest self.old) }
         ensures on { HasGoneOn desk self.old self.new table.new }
     {
         let from = usize::from(name);
@@ -122,6 +124,8 @@ impl Course {
         self.taken = true;
         match self.holdings.get(from) {
             None => {
+                let place = self.holdings.place(from);
+                self.holdings.set_empty(hand, place);
                 self.go_on();
                 false
             }
@@ -140,7 +144,7 @@ impl Course {
         ensures event { result ≡ is_full (slot self.old.holdings.slots.items name) }
         ensures table { table.new ≡ done_on downgrade table.old desk (slot self.old.holdings.slots.items name) }
         ensures walk { walk self.new
-            ≡ settled (slice_set self.old.holdings.slots.items (hand self.old.holdings.slots.items) (option_map as_weak (slot self.old.holdings.slots.items name))) true (rest self.old) }
+            ≡ settled (slice_set self.old.holdings.slots.items (hand self.old.holdings.slots.items) (filled (option_map as_weak (slot self.old.holdings.slots.items name)))) true (rest self.old) }
         ensures on { HasGoneOn desk self.old self.new table.new }
     {
         let from = usize::from(name);
@@ -165,12 +169,13 @@ impl Course {
         requires act { ((task_at self.old).act ≡ Act.Leave name) ⊎ ((task_at self.old).act ≡ Act.Clear name) }
         ensures last { result ≡ on (is_last (state table.old)) false (slot self.old.holdings.slots.items name) }
         ensures table { table.new ≡ done_on (leave (state table.old)) table.old desk (slot self.old.holdings.slots.items name) }
-        ensures walk { walk self.new ≡ settled (slice_set self.old.holdings.slots.items name None) self.old.taken (rest self.old) }
+        ensures walk { walk self.new ≡ settled (slice_set self.old.holdings.slots.items name plain) self.old.taken (rest self.old) }
         ensures on { HasGoneOn desk self.old self.new table.new }
     {
         let from = usize::from(name);
         match self.holdings.get(from) {
             None => {
+                self.holdings.set_empty(from, None);
                 self.go_on();
                 false
             }
@@ -189,7 +194,7 @@ impl Course {
         ensures full { is_full (slot self.old.holdings.slots.items name) ≡ true }
         ensures last { result ≡ on (is_last (state table.old)) false (slot self.old.holdings.slots.items name) }
         ensures table { table.new ≡ done_on (leave (state table.old)) table.old desk (slot self.old.holdings.slots.items name) }
-        ensures walk { walk self.new ≡ settled (placed name (slice_set self.old.holdings.slots.items name None)) false (rest self.old) }
+        ensures walk { walk self.new ≡ settled (placed name (slice_set self.old.holdings.slots.items name plain)) false (rest self.old) }
         ensures on { HasGoneOn desk self.old self.new table.new }
     {
         let to = usize::from(name);
@@ -209,6 +214,7 @@ impl Course {
     /// How many owners the object has that a name holds; 0 where it is empty.
     pub(crate) fn count(&mut self, desk: usize, table: &mut Table, name: u8) -> u32
         requires can { CanAct desk self.old table.old }
+        requires plain { Plain table.old }
         requires act { (task_at self.old).act ≡ Act.Count name }
         ensures exact { result ≡ on (λ x. count (state table.old) (owned (state table.old) x)) 0 (slot self.old.holdings.slots.items name) }
         ensures table { table.new ≡ done_on (tell (state table.old)) table.old desk (slot self.old.holdings.slots.items name) }
@@ -253,21 +259,21 @@ impl Course {
     }
 
     /// The prepared object is made; its owner comes into the hand.
-    pub(crate) fn claim(&mut self, desk: usize, table: &mut Table, block: Block, fields: [u64; 4])
+    pub(crate) fn claim(&mut self, desk: usize, table: &mut Table, block: Block, form: Form)
         requires seat { desk < table.old.extent.actors }
         requires making { IsMaking table.old desk block }
-        requires known { known (pending table.old desk) ≡ 0 ∷ fields }
+        requires known { known (pending table.old desk) ≡ flags_of form.enabled form.null ∷ form.fields }
         requires holds { Holds desk self.old.holdings.slots.items table.old }
         requires within { self.old.at < length self.old.tasks.items }
         requires ready { CourseReady self.old }
-        requires act { (task_at self.old).act ≡ Act.Make fields }
-        ensures table { table.new ≡ after table.old desk (Deed.Claim block false false fields) }
+        requires act { (task_at self.old).act ≡ Act.Make form }
+        ensures table { table.new ≡ after table.old desk (Deed.Claim block form.enabled form.null form.fields) }
         ensures walk { walk self.new
-            ≡ settled (slice_set self.old.holdings.slots.items (hand self.old.holdings.slots.items) (Some (record { kind = Owner; block = block; place = place_at block.0 }))) true (rest self.old) }
+            ≡ settled (slice_set self.old.holdings.slots.items (hand self.old.holdings.slots.items) (Full (record { kind = Owner; block = block; place = origin block.0 form.null }))) true (rest self.old) }
         ensures on { HasGoneOn desk self.old self.new table.new }
     {
         let hand = self.holdings.hand();
-        self.holdings.claim(desk, table, hand, block, fields);
+        self.holdings.claim(desk, table, hand, block, form);
         self.taken = true;
         self.go_on();
     }

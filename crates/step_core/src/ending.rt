@@ -1,5 +1,6 @@
 //! How a thread ends an object, step by step.
 ghost use Rattle.std.specs.Prelude.{◌≡◌, ◌<◌};
+ghost use Rattle.step_core.specs.Stories.{Plain};
 
 use crate::half::Half;
 use crate::said::Stepped;
@@ -20,6 +21,7 @@ impl Thread {
         statement: u32,
     ) -> Stepped
         requires fits { Fits desk self.old table.old }
+        requires plain { Plain table.old }
         requires half { self.old.half ≡ Half.Ending block stage statement }
         ensures stepped { HasStepped desk self.old table.old result self.new table.new }
         ensures fits { Fits desk self.new table.new }
@@ -41,13 +43,14 @@ impl Thread {
         statement: u32,
     ) -> Stepped
         requires fits { Fits desk self.old table.old }
+        requires plain { Plain table.old }
         requires half { self.old.half ≡ Half.Ending block stage statement }
         requires inside { stage < 3 }
         ensures stepped { HasStepped desk self.old table.old result self.new table.new }
         ensures fits { Fits desk self.new table.new }
     {
         table.known();
-        table.clear(desk, block, stage);
+        table.clear_empty(desk, block, stage);
         self.half = Half::Ending {
             block,
             stage: stage + 1,
@@ -59,6 +62,7 @@ impl Thread {
     /// Finishes the object that ends. Its block comes into the store, if it is vacant.
     fn finish(&mut self, desk: usize, table: &mut Table, block: Block, statement: u32) -> Stepped
         requires fits { Fits desk self.old table.old }
+        requires plain { Plain table.old }
         requires half { self.old.half ≡ Half.Ending block 3 statement }
         ensures stepped { HasStepped desk self.old table.old result self.new table.new }
         ensures fits { Fits desk self.new table.new }

@@ -3,6 +3,7 @@ ghost use Rattle.std.specs.Prelude.{◌≢◌, ℕ, List};
 ghost use Rattle.step_core.specs.Actors.{HalfFits, Stocks};
 ghost use Rattle.step_core.specs.Holdings.{Holds, Slots};
 ghost use Rattle.step_core.specs.Stories.{Kept, Story, after};
+ghost use Rattle.step_core.specs.declared.act.Form.{Form};
 ghost use Rattle.step_core.specs.declared.past.Deed.{Deed};
 
 use control_word::place::Block;
@@ -34,7 +35,7 @@ pub enum Half {
 
 /// What other desks do changes nothing of what a desk has.
 pub(crate) fn others_keep()
-    ensures { (d e : ℕ) (slots : Slots) (blocks fields : List ℕ) (room : ℕ) (half : Half) (v : Story) (x : Deed) → e ≢ d → Kept v → Kept (after v e x)
-        → Holds d slots v × Stocks d blocks room half v × HalfFits d half fields v
-        → Holds d slots (after v e x) × Stocks d blocks room half (after v e x) × HalfFits d half fields (after v e x) }
+    ensures { (d e : ℕ) (slots : Slots) (blocks : List ℕ) (form : Form) (room : ℕ) (half : Half) (v : Story) (x : Deed) → e ≢ d → Kept v → Kept (after v e x)
+        → Holds d slots v × Stocks d blocks room half v × HalfFits d half form v
+        → Holds d slots (after v e x) × Stocks d blocks room half (after v e x) × HalfFits d half form (after v e x) }
 {}

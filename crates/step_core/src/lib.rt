@@ -4,6 +4,7 @@
 mod act;
 mod call;
 mod census;
+mod clearing;
 mod course;
 mod ending;
 mod extent;
@@ -23,10 +24,12 @@ mod pointer;
 mod run_tests;
 mod running;
 mod said;
+mod slot;
 #[cfg(test)]
 mod step_tests;
 mod stock;
 mod table;
+mod taking;
 #[cfg(test)]
 mod tests;
 mod thread;

@@ -1,10 +1,10 @@
 //! The words of all blocks, and what has happened to them. Each function is one atomic step on one word.
-ghost use Rattle.std.specs.Prelude.{◌≡◌, ◌<◌, ◌≤◌, ◌==◌, Bool, [], ◌∷◌, IfOk, replicate, slice_index};
+ghost use Rattle.std.specs.Prelude.{◌≡◌, ℕ, ◌<◌, ◌≤◌, ◌==◌, Bool, [], ◌∷◌, IfOk, replicate, slice_index};
 ghost use Rattle.control_word.specs.declared.view.Pending.TheVariants.{Idle};
-ghost use Rattle.control_word.specs.Handles.{IsPointer};
+ghost use Rattle.control_word.specs.Handles.{IsPointer, empty};
 ghost use Rattle.control_word.specs.Layout.{spot, table_size};
-ghost use Rattle.control_word.specs.State.{Has, held, stored, ending, bag_size, count, weak};
-ghost use Rattle.control_word.specs.Views.{fresh};
+ghost use Rattle.control_word.specs.State.{Has, held, stored, ending, bag_size, count, kind_of_member, weak};
+ghost use Rattle.control_word.specs.Views.{fresh, owed};
 ghost use Rattle.step_core.specs.Scenes.{remains};
 ghost use Rattle.control_word.specs.Words.{flags_of};
 ghost use Rattle.step_core.specs.Openings.{IsExtent};
@@ -15,7 +15,7 @@ use crate::holdings::Pointer;
 use crate::past::{Deed, Done, Past};
 use crate::said::Ended;
 use control_word::counts::{is_last, told_count};
-use control_word::layout::{FIELDS, FLAGS, MEMBERS, NULL, OWNERS, WEAKS, block_word, table_words};
+use control_word::layout::{FIELDS, FLAGS, NULL, OWNERS, WEAKS, block_word, table_words};
 use control_word::place::{Block, Place};
 use std::alloc::{AllocError, Global};
 use std::marker::Model;
@@ -191,12 +191,15 @@ impl Table {
         last
     }
 
-    /// How many owners there are, by a handle.
+    /// How many owners there are, by a handle: those that the word numbers, and where it numbers none 1 if it has funds, as
+    /// then a load is under way. A load that is under way may be left out.
     pub(crate) fn count(&mut self, desk: usize, pointer: Pointer) -> u32
         requires seat { desk < self.old.extent.actors }
         requires idle { pending self.old desk ≡ Idle }
         requires held { Has (held desk (handle_in self.old pointer.kind pointer.block pointer.place)) (state self.old).hands }
-        ensures exact { result ≡ count (state self.old) (object_in self.old pointer.block) }
+        ensures none { (result == 0) ≡ (count (state self.old) (object_in self.old pointer.block) == 0) }
+        ensures most { result ≤ count (state self.old) (object_in self.old pointer.block) }
+        ensures exact { owed self.old.views (spot pointer.block.0 0) ≡ 0 → result ≡ count (state self.old) (object_in self.old pointer.block) }
         ensures after { self.new ≡ after self.old desk (Deed.Count pointer.kind pointer.block pointer.place result) }
     {
         let owners = told_count(self.words[block_word(pointer.block, OWNERS)]);
@@ -212,25 +215,13 @@ impl Table {
         owners
     }
 
-    /// Clears a member of an ending object. It is found empty, so that the look is the clearing.
-    pub(crate) fn clear(&mut self, desk: usize, block: Block, member: u8)
-        requires seat { desk < self.old.extent.actors }
-        requires idle { pending self.old desk ≡ Idle }
-        requires ending { ((state self.old).object (object_in self.old block)).phase ≡ ending desk }
-        requires inside { member < 3 }
-        ensures { self.new ≡ after self.old desk (Deed.Clear block member) }
-    {
-        let found = self.words[block_word(block, MEMBERS + usize::from(member))];
-        prove_eq!(found, 0);
-        self.past = self.then(desk, Deed::Clear { block, member });
-    }
-
-    /// Ends the owners' common count of an ending object. Answers whether the block is vacant: just where the whole word
+    /// Ends the owners' common count of an ending object whose members are empty. Answers whether the block is vacant: just where the whole word
     /// was 1.
     pub(crate) fn finish(&mut self, desk: usize, block: Block) -> bool
         requires seat { desk < self.old.extent.actors }
         requires idle { pending self.old desk ≡ Idle }
         requires ending { ((state self.old).object (object_in self.old block)).phase ≡ ending desk }
+        requires cleared { (m : ℕ) → m < 3 → ((state self.old).object (object_in self.old block)).member m ≡ empty (kind_of_member m) }
         ensures vacant { result ≡ (weak (state self.old) (object_in self.old block) == 0) }
         ensures after { self.new ≡ after self.old desk (Deed.Finish block result) }
     {

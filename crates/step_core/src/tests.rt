@@ -47,9 +47,9 @@ fn two_owners_leave(rt: HostRuntime) -> Result<(), Fail> {
     assert!(rt; !first);
     assert!(rt; second);
     let remains = table.remains(0, BLOCK);
-    table.clear(0, BLOCK, 0);
-    table.clear(0, BLOCK, 1);
-    table.clear(0, BLOCK, 2);
+    table.clear_empty(0, BLOCK, 0);
+    table.clear_empty(0, BLOCK, 1);
+    table.clear_empty(0, BLOCK, 2);
     let vacant = table.finish(0, BLOCK);
     assert_eq!(rt; (before, after, owners), (0, 7, 2));
     assert!(rt; vacant);

@@ -4,7 +4,7 @@ ghost use Rattle.control_word.specs.State.{ending};
 ghost use Rattle.control_word.specs.declared.handle.Kind.TheVariants.{Owner, Weak};
 ghost use Rattle.step_core.specs.Scenes.{on, remains_as};
 ghost use Rattle.step_core.specs.Steps.{end_as, silent};
-ghost use Rattle.step_core.specs.Stories.{object_in, state};
+ghost use Rattle.step_core.specs.Stories.{Plain, object_in, state};
 ghost use Rattle.step_core.specs.declared.holdings.Pointer.{Pointer};
 
 use crate::act::Act;
@@ -30,7 +30,8 @@ impl Thread {
 
     /// The next atomic step, or the next act that touches no word.
     pub(crate) fn step(&mut self, desk: usize, table: &mut Table) -> Stepped
-        requires { Fits desk self.old table.old }
+        requires fits { Fits desk self.old table.old }
+        requires plain { Plain table.old }
         ensures stepped { HasStepped desk self.old table.old result self.new table.new }
         ensures fits { Fits desk self.new table.new }
     {
@@ -53,6 +54,7 @@ impl Thread {
     /// The next act, or the first step of it.
     fn act(&mut self, desk: usize, table: &mut Table) -> Stepped
         requires fits { Fits desk self.old table.old }
+        requires plain { Plain table.old }
         requires rest { self.old.half ≡ Half.Rest }
         ensures stepped { HasStepped desk self.old table.old result self.new table.new }
         ensures fits { Fits desk self.new table.new }
@@ -61,7 +63,7 @@ impl Thread {
             return Stepped::Done;
         }
         match self.course.tasks[self.course.at].act {
-            Act::Make { fields } => self.begin(desk, table, fields),
+            Act::Make { form } => self.begin(desk, table, form),
             Act::Share { name } => self.share(desk, table, name),
             Act::Put { name } => self.put(desk, table, name),
             Act::Leave { name } | Act::Clear { name } => self.leave(desk, table, name),
@@ -129,6 +131,7 @@ impl Thread {
     /// Tells how many owners the object has that a name holds; 0 where it is empty.
     fn count(&mut self, desk: usize, table: &mut Table, name: u8) -> Stepped
         requires fits { Fits desk self.old table.old }
+        requires plain { Plain table.old }
         requires rest { self.old.half ≡ Half.Rest }
         requires within { self.old.course.at < length self.old.course.tasks.items }
         requires act { (task_at self.old.course).act ≡ Act.Count name }

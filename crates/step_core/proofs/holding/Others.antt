@@ -16,6 +16,7 @@ use Rattle.control_word.specs.Handles.{empty}
 use Rattle.control_word.specs.State.{Has, Held, Object, Phase, State, Stored, bag, common, ending, held, kind_of_member, live, same_held, same_stored}
 use Rattle.control_word.specs.State.{stock, stored, unmade, weak_number}
 use Rattle.control_word.specs.Views.{used_up}
+use Rattle.step_core.specs.declared.act.Form.{Form}
 use Rattle.step_core.specs.declared.half.Half.{Half}
 use Rattle.step_core.specs.declared.half.Half.TheVariants.{Rest, Making, Ending, Locking}
 use Rattle.step_core.specs.declared.holdings.Pointer.{Pointer}
@@ -165,11 +166,11 @@ least_others : (d : ℕ) (s t : State) → Same s t d → least d t.stores ≡ l
 least_others d s t same = least_part d t.stores ∙ ap (least d) same.in_stock ∙ sym (least_part d s.stores)
 
 -- another desk's deed leaves a half-done act
-pub half_others : (d : ℕ) (half : Half) (fields : List ℕ) (v : Story) (e : ℕ) (x : Deed) → e ≢ d → Kept v → Kept (after v e x)
-    → HalfFits d half fields v
-    → HalfFits d half fields (after v e x)
-half_others d Rest fields v e x n kept kept' fits = same_pending v e d x n ∙ fits
-half_others d (Making b at f) fields v e x n kept kept' fits =
+pub half_others : (d : ℕ) (half : Half) (form : Form) (v : Story) (e : ℕ) (x : Deed) → e ≢ d → Kept v → Kept (after v e x)
+    → HalfFits d half form v
+    → HalfFits d half form (after v e x)
+half_others d Rest form v e x n kept kept' fits = same_pending v e d x n ∙ fits
+half_others d (Making b at f) form v e x n kept kept' fits =
     let same = same_pending v e d x n in
     record {
       making = record { words = fits.making.words; size = fits.making.size; making = same ∙ fits.making.making };
@@ -177,8 +178,8 @@ half_others d (Making b at f) fields v e x n kept kept' fits =
       least = least_others d (state v) (state (after v e x)) (same_deed v e d x n) ∙ fits.least;
       done = λ j le. ap (λ (p : Pending Nothing). get_or (known p) j 0) same ∙ fits.done j le;
     }
-half_others d (Locking word) fields v e x n kept kept' fits = (same_pending v e d x n ∙ fits.0, fits.1)
-half_others d (Ending b at k) fields v e x n kept kept' fits =
+half_others d (Locking word) form v e x n kept kept' fits = (same_pending v e d x n ∙ fits.0, fits.1)
+half_others d (Ending b at k) form v e x n kept kept' fits =
     let end = ends_on v e d (object_in v b) x n kept kept' fits.ending in
     let busy : 0 < weak_number (state (after v e x)) (object_in v b) = let c : common ((state (after v e x)).object
     (object_in v b)).phase ≡ 1 = ap common end in omega arith in

@@ -7,6 +7,7 @@ use Rattle.std.specs.List.Sorted.{IsPermutation}
 use Rattle.control_word.proofs.lists.Tallies.{num, num_without, stored_self, stored_true}
 use Rattle.control_word.specs.declared.place.Block.{Block}
 use Rattle.control_word.specs.State.{Has, Stored, same_stored, stored}
+use Rattle.step_core.specs.declared.act.Form.{Form}
 use Rattle.step_core.specs.declared.half.Half.{Half}
 use Rattle.step_core.specs.declared.half.Half.TheVariants.{Rest, Making}
 use Rattle.step_core.specs.declared.past.Deed.{Deed}
@@ -57,9 +58,9 @@ pub stocks_stage : (d : ℕ) (blocks : List ℕ) (room i j : ℕ) (f g : Bool) (
 stocks_stage d blocks room i j f g v b stocks = record { stocked = stocks.stocked; roomy = stocks.roomy }
 
 -- the block is made
-pub stocks_claim : (d : ℕ) (blocks : List ℕ) (room i : ℕ) (f : Bool) (v : Story) (b : Block) (fields : List ℕ) → Stocks d blocks room (Making b i f) v
-    → Has (stored d b.0) (state v).stores → Stocks d blocks room Rest (after v d (Claim b false false fields))
-stocks_claim d blocks room i f v b fields stocks has =
+pub stocks_claim : (d : ℕ) (blocks : List ℕ) (room i : ℕ) (f : Bool) (v : Story) (b : Block) (form : Form) → Stocks d blocks room (Making b i f) v
+    → Has (stored d b.0) (state v).stores → Stocks d blocks room Rest (after v d (Claim b form.enabled form.null form.fields))
+stocks_claim d blocks room i f v b form stocks has =
     record {
       stocked = λ c.
           let a = num_without same_stored stored_true stored_self (same_stored (stored d c)) (stored d b.0) (state v).stores has in

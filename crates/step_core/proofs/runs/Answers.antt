@@ -24,7 +24,7 @@ use Rattle.step_core.specs.declared.said.Stepped.{Stepped}
 use Rattle.step_core.specs.declared.said.Stepped.TheVariants as stepped
 use Rattle.step_core.specs.declared.trace.TraceStep.{TraceStep}
 use Rattle.step_core.specs.Actors.{wanted}
-use Rattle.step_core.specs.Courses.{Walk, fields_of, locked}
+use Rattle.step_core.specs.Courses.{Walk, form_of, locked}
 use Rattle.step_core.specs.Deeds.{as_owner, downgrade, is_expired, is_last, leave, leave_as, lock, owner_word, share, share_as, tell, tell_expired}
 use Rattle.step_core.specs.Headline.{TellsLocks, Was, answer_by}
 use Rattle.step_core.specs.Holdings.{is_full, slot}
@@ -86,7 +86,7 @@ lock_tells v d k i w ts must (Some x) at =
     (λ (s : Step). Tells (Some s)) (λ e. lock_done v d k i w ts must x at) (λ e. tt)
 
 first_tells : (v : Story) (d k : ℕ) (w : Walk) (ts : List Task) (a : Act) → Tells (Some (first v d w k ts a))
-first_tells v d k w ts (Make fields) = begin_tells w k ts (least d (state v).stores)
+first_tells v d k w ts (Make form) = begin_tells w k ts (least d (state v).stores)
 first_tells v d k w ts (Share i) = plain share _ (λ x. share_plain x.kind x) (slot w.slots i)
 first_tells v d k w ts (Put i) = plain (leave (state v)) _ (λ x. leave_plain x.kind x (is_last (state v) x)) (slot w.slots i)
 first_tells v d k w ts (Leave i) = plain (leave (state v)) _ (λ x. leave_plain x.kind x (is_last (state v) x)) (slot w.slots i)
@@ -108,8 +108,8 @@ make_tells : (v : Story) (d i : ℕ) (w : Walk) (b : Block) (f : Bool) (ts : Lis
 make_tells v d i w b f [] = tt
 make_tells v d i w b f (t ∷ ts) =
     let found = get_or (known (pending v d)) i 0 in
-    let want = get_or (wanted (fields_of t.act)) i 0 in
-    cond_both (i == 5) (claims w t.statement ts b (fields_of t.act)) (prepares found want w t.statement b i f) (λ (x : Step). Tells (Some x))
+    let want = get_or (wanted (form_of t.act)) i 0 in
+    cond_both (i == 5) (claims w t.statement ts b (form_of t.act)) (prepares found want w t.statement b i f) (λ (x : Step). Tells (Some x))
     (λ e. tt) (λ e. prepared_tells found want t.statement i w b f)
 
 end_tells : (v : Story) (stage k : ℕ) (w : Walk) (b : Block) → Tells (Some (ends_on v w b stage k))

@@ -23,7 +23,7 @@ use Rattle.step_core.specs.declared.said.Stepped.{Stepped}
 use Rattle.step_core.specs.declared.said.Stepped.TheVariants as stepped
 use Rattle.step_core.specs.declared.trace.TraceStep.{TraceStep}
 use Rattle.step_core.specs.Actors.{wanted}
-use Rattle.step_core.specs.Courses.{Walk, fields_of, locked}
+use Rattle.step_core.specs.Courses.{Walk, form_of, locked}
 use Rattle.step_core.specs.Deeds.{downgrade, is_last as is_last_of, leave, leave_as, lock, owned, owner_word, share, share_as, tell, tell_expired}
 use Rattle.step_core.specs.Headline.{LastLeft, TellsWhatIsLeft, ended_by}
 use Rattle.step_core.specs.Holdings.{slot}
@@ -90,7 +90,7 @@ try_tells : (v : Story) (d k word : ℕ) (w : Walk) (ts : List Task) (a : Act) (
     → Tells v (option_map (tries v d w k ts a word) o)
 try_tells v d k word w ts a None e = tt
 try_tells v d k word w ts (Lock i must) (Some x) e = lock_tells v d k i (owner_word v x) must w ts x (owner_word v x == word)
-try_tells v d k word w ts (Make fields) (Some x) e = cc
+try_tells v d k word w ts (Make form) (Some x) e = cc
 try_tells v d k word w ts (Share i) (Some x) e = cc
 try_tells v d k word w ts (Downgrade i) (Some x) e = cc
 try_tells v d k word w ts (Put i) (Some x) e = cc
@@ -108,7 +108,7 @@ begin_tells v w k ts None = refl
 begin_tells v w k ts (Some b) = refl
 
 first_tells : (v : Story) (d k : ℕ) (w : Walk) (ts : List Task) (a : Act) → Tells v (Some (first v d w k ts a))
-first_tells v d k w ts (Make fields) = begin_tells v w k ts (least d (state v).stores)
+first_tells v d k w ts (Make form) = begin_tells v w k ts (least d (state v).stores)
 first_tells v d k w ts (Share i) = share_tells v (slot w.slots i)
 first_tells v d k w ts (Put i) = leave_tells v (slot w.slots i)
 first_tells v d k w ts (Leave i) = leave_tells v (slot w.slots i)
@@ -130,8 +130,8 @@ make_tells : (v : Story) (d i : ℕ) (w : Walk) (b : Block) (f : Bool) (ts : Lis
 make_tells v d i w b f [] = tt
 make_tells v d i w b f (t ∷ ts) =
     let found = get_or (known (pending v d)) i 0 in
-    let want = get_or (wanted (fields_of t.act)) i 0 in
-    cond_both (i == 5) (claims w t.statement ts b (fields_of t.act)) (prepares found want w t.statement b i f) (λ (x : Step). Tells v (Some x))
+    let want = get_or (wanted (form_of t.act)) i 0 in
+    cond_both (i == 5) (claims w t.statement ts b (form_of t.act)) (prepares found want w t.statement b i f) (λ (x : Step). Tells v (Some x))
     (λ e. refl) (λ e. prepared_tells v found want t.statement i w b f)
 
 end_tells : (v : Story) (stage k : ℕ) (w : Walk) (b : Block) → Tells v (Some (ends_on v w b stage k))

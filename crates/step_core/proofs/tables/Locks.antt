@@ -38,7 +38,7 @@ pub kept_lock_empty : (v : Story) (d : ℕ) (b : Block) (p : Option Place) → K
     → Has (held d (weak_in v b p)) (state v).hands → get_or v.words (spot b.0 0) 0 ≡ 0 → Kept (after v d (Lock b p false))
 kept_lock_empty v d b p kept lt idle has none =
     kept_after v d (Lock b p false) kept lt
-    (event_by v d v.words Idle (event.Lock (weak_in v b p) false) kept lt ((locking v d b p kept lt idle has).0 none)) kept.bare
+    (event_by v d v.words Idle (event.Lock (weak_in v b p) false) kept lt ((locking v d b p kept lt idle has).0 none))
 
 -- a lock that finds another word and puts one more there gives an owner
 pub kept_lock : (v : Story) (d : ℕ) (b : Block) (p : Option Place) → Kept v → d < v.extent.actors → pending v d ≡ Idle
@@ -47,4 +47,4 @@ pub kept_lock : (v : Story) (d : ℕ) (b : Block) (p : Option Place) → Kept v 
 kept_lock v d b p kept lt idle has some room =
     kept_after v d (Lock b p true) kept lt
     (event_by v d (set v.words (spot b.0 0) (suc (get_or v.words (spot b.0 0) 0))) Idle (event.Lock (weak_in v b p) true) kept lt
-    ((locking v d b p kept lt idle has).1 some (subst (λ (n : ℕ). bag_size (state v) n < (state v).allowance n) (sym (named v d kept lt)) room))) kept.bare
+    ((locking v d b p kept lt idle has).1 some (subst (λ (n : ℕ). bag_size (state v) n < (state v).allowance n) (sym (named v d kept lt)) room)))

@@ -22,7 +22,7 @@ pub kept_prepare : (v : Story) (d : ℕ) (b : Block) → Kept v → d < v.extent
     → Kept (after v d (Prepare b))
 kept_prepare v d b kept lt idle has =
     kept_after v d (Prepare b) kept lt
-    (writes_weak_word (point v d) (ready v d Idle kept lt idle) b (subst (λ (n : ℕ). Has (stored n b.0) (state v).stores) (sym (named v d kept lt)) has)) kept.bare
+    (writes_weak_word (point v d) (ready v d Idle kept lt idle) b (subst (λ (n : ℕ). Has (stored n b.0) (state v).stores) (sym (named v d kept lt)) has))
 
 -- what a make knows of a word is so
 pub known_word : (v : Story) (d : ℕ) (b : Block) (j : ℕ) → Kept v → d < v.extent.actors → IsMaking v d b → j < 5
@@ -36,7 +36,7 @@ kept_write v d b j n kept lt making few =
     kept_after v d (Write b j n) kept lt
     (subst (λ (p : Pending Nothing). Stands (opening v.extent) (set v.words (spot b.0 (2 + j)) n)
     (set v.views d (sees_as (view_in v.views d) (Making b (set (known p) j n)) v.history)) v.history) (sym making.making)
-    (writes_word (point v d) b making.words (ready v d _ kept lt making.making) making.size j n few).1) kept.bare
+    (writes_word (point v d) b making.words (ready v d _ kept lt making.making) making.size j n few).1)
 
 -- what the desk knows of the block that it prepared
 known_now : (v : Story) (d : ℕ) (b : Block) (flags : ℕ) (fields : List ℕ) (making : IsMaking v d b) → known (pending v d) ≡ flags ∷ fields → making.words ≡ flags ∷ fields
@@ -50,4 +50,3 @@ kept_claim v d b enabled null fields kept lt making is room =
     (event_by v d (set v.words (spot b.0 0) 1) Idle (event.Make b enabled null fields tt) kept lt
     (claims (point v d) b enabled null fields tt (ready v d _ kept lt (making.making ∙ ap (Making b) words)) (let e = sym (ap (length {A = ℕ}) words) ∙ making.size in omega arith)
     (subst (λ (n : ℕ). bag_size (state v) n < (state v).allowance n) (sym (named v d kept lt)) room)))
-    (λ o m. put_cases (λ j (x : Object). x.member m ≡ empty (kind_of_member m)) (state v).object (suc (state v).made) _ o (λ e. refl) (λ ne. kept.bare o m))

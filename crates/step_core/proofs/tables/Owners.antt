@@ -1,5 +1,5 @@
 -- Steps on the word of the owners.
-use Rattle.std.proofs.Common.{◌≡◌, ℕ, suc, ◌+◌, ◌-◌, ◌*◌, ◌<◌, ◌==◌, Bool, true, false, cond, ◌∷◌, set, get_or, Option, refl, sym, subst, arith, eq-eqb, ne_eqb}
+use Rattle.std.proofs.Common.{◌≡◌, ℕ, suc, ◌+◌, ◌-◌, ◌*◌, ◌<◌, ◌≤◌, ◌==◌, Bool, true, false, cond, ◌∷◌, set, get_or, Option, refl, sym, subst, arith, eq-eqb, ne_eqb}
 use Rattle.std.proofs.lemmas.Bool.{cond_both, eqb-true, eqb-false, false≢true}
 use Rattle.std.specs.Prelude.{◌↔◌, IsTrue}
 use Rattle.control_word.proofs.lists.Tallies.{put_cases}
@@ -62,7 +62,7 @@ kept_share v d b p q kept lt idle has fine room =
     (set v.views d (sees_as (view_in v.views d) Idle (entry (me (point v d)) e ∷ v.history))) (entry (me (point v d)) e ∷ v.history))
     (there v b kept (owner_busy v d b p kept has)).0
     (shares (point v d) (object_in v b) p q (ready v d Idle kept lt idle) (mine v d b p kept lt has) fine
-    (subst (λ (n : ℕ). bag_size (state v) n < (state v).allowance n) (sym (named v d kept lt)) room)))) kept.bare
+    (subst (λ (n : ℕ). bag_size (state v) n < (state v).allowance n) (sym (named v d kept lt)) room))))
 
 leaving : (v : Story) (d : ℕ) (b : Block) (p : Option Place) → Kept v → d < v.extent.actors → pending v d ≡ Idle → Has (held d (owner_in v b p)) (state v).hands
     → (0 < get_or v.words (spot b.0 0) 0)
@@ -84,17 +84,12 @@ some_owner v d b p kept lt idle has = (leaving v d b p kept lt idle has).0
 pub kept_leave : (v : Story) (d : ℕ) (b : Block) (p : Option Place) (last : Bool) → Kept v → d < v.extent.actors → pending v d ≡ Idle
     → Has (held d (owner_in v b p)) (state v).hands → last ≡ (get_or v.words (spot b.0 0) 0 == 1) → Kept (after v d (Leave b p last))
 kept_leave v d b p last kept lt idle has is =
-    let o = object_in v b in
-    let x = (state v).object o in
     kept_after v d (Leave b p last) kept lt
     (event_by v d (set v.words (spot b.0 0) (get_or v.words (spot b.0 0) 0 - 1)) Idle (event.Leave (owner_in v b p) last) kept lt
     (subst (λ (l : Bool). let e = event.Leave (owner_in v b p) l in
     Stands (opening v.extent) (set v.words (spot b.0 0) (get_or v.words (spot b.0 0) 0 - 1))
     (set v.views d (sees_as (view_in v.views d) Idle (entry (me (point v d)) e ∷ v.history))) (entry (me (point v d)) e ∷ v.history)) (sym is)
     (leaving v d b p kept lt idle has).1))
-    (λ i m. put_cases (λ j (y : Object). y.member m ≡ empty (kind_of_member m)) (state v).object o (cond last (moved_to (ending d) x) x) i
-    (λ e. cond_both last (moved_to (ending d) x) x (λ (y : Object). y.member m ≡ empty (kind_of_member m)) (λ t. kept.bare o m) (λ t. kept.bare o m))
-    (λ ne. kept.bare i m))
 
 -- the event of a leave says whether it was the last
 pub left_last : (v : Story) (d : ℕ) (b : Block) (p : Option Place) (last : Bool) → Kept (after v d (Leave b p last)) → last ≡ (count (state v) (object_in v b) == 1)
@@ -139,7 +134,19 @@ pub kept_count : (v : Story) (d : ℕ) (k : Kind) (b : Block) (p : Option Place)
     → (let w = get_or v.words (spot b.0 0) 0 in n ≡ cond (number_of w == 0) (cond (funds_of w == 0) 0 1) (number_of w)) → Kept (after v d (Count k b p n))
 kept_count v d k b p n kept lt idle has is =
     kept_after v d (Count k b p n) kept lt
-    (event_by v d v.words Idle (event.Count (handle_in v k b p) n) kept lt (telling v d k b p n kept lt idle has is).0) kept.bare
+    (event_by v d v.words Idle (event.Count (handle_in v k b p) n) kept lt (telling v d k b p n kept lt idle has is).0)
+
+pub told_none : (v : Story) (d : ℕ) (k : Kind) (b : Block) (p : Option Place) (n : ℕ) → Kept v → d < v.extent.actors → pending v d ≡ Idle
+    → Has (held d (handle_in v k b p)) (state v).hands
+    → (let w = get_or v.words (spot b.0 0) 0 in n ≡ cond (number_of w == 0) (cond (funds_of w == 0) 0 1) (number_of w))
+    → (n == 0) ≡ (count (state v) (object_in v b) == 0)
+told_none v d k b p n kept lt idle has is = (kept_count v d k b p n kept lt idle has is).stands.legal.1.asks.1
+
+pub told_most : (v : Story) (d : ℕ) (k : Kind) (b : Block) (p : Option Place) (n : ℕ) → Kept v → d < v.extent.actors → pending v d ≡ Idle
+    → Has (held d (handle_in v k b p)) (state v).hands
+    → (let w = get_or v.words (spot b.0 0) 0 in n ≡ cond (number_of w == 0) (cond (funds_of w == 0) 0 1) (number_of w))
+    → n ≤ count (state v) (object_in v b)
+told_most v d k b p n kept lt idle has is = (kept_count v d k b p n kept lt idle has is).stands.legal.1.asks.2
 
 pub exact_count : (v : Story) (d : ℕ) (k : Kind) (b : Block) (p : Option Place) (n : ℕ) → Kept v → d < v.extent.actors → pending v d ≡ Idle
     → Has (held d (handle_in v k b p)) (state v).hands

@@ -13,7 +13,7 @@ use Rattle.step_core.specs.declared.said.Ended.TheVariants.{Fields, Null}
 use Rattle.step_core.specs.Openings.{opening}
 use Rattle.step_core.specs.Scenes.{remains}
 use Rattle.step_core.specs.Stories.{Kept, Story, object_in, state}
-use Rattle.step_core.proofs.tables.Calm.{no_door}
+use Rattle.step_core.proofs.tables.Doors.{no_door}
 use Rattle.step_core.proofs.tables.Places.{there}
 
 pub flags_read : (v : Story) (b : Block) → Kept v → IsBusy (state v) (object_in v b)

@@ -14,9 +14,9 @@ use Rattle.step_core.specs.declared.extent.Extent.{Extent}
 use Rattle.step_core.specs.declared.past.Deed.{Deed}
 use Rattle.step_core.specs.declared.past.Deed.TheVariants.{Prepare, Write, Claim, Share, WeakShare, Leave, WeakLeave, Lock, Count, Expired, Clear, Finish}
 use Rattle.step_core.specs.Openings.{opening}
-use Rattle.step_core.specs.Stories.{Nothing, Story, Seats, AllBare, Kept, after, history_after, pending, pending_after, state, view_in, views_after}
+use Rattle.step_core.specs.Stories.{Nothing, Story, Seats, Kept, after, history_after, pending, pending_after, state, view_in, views_after}
 use Rattle.step_core.specs.Stories.{words_after}
-use Rattle.step_core.proofs.tables.Calm.{calm_after, whole_after}
+use Rattle.step_core.proofs.tables.Doors.{doors_after, whole_after}
 
 at_get : {A : Type 0} (l : List A) (i : ℕ) (d : A) → i < length l → get_elem? l i ≡ some (get_or l i d)
 at_get [] i d lt = absurd (omega arith)
@@ -70,15 +70,14 @@ same_allowance v d (Finish b vacant) = refl
 
 -- what a deed leaves
 pub kept_after : (v : Story) (d : ℕ) (x : Deed) → Kept v → d < v.extent.actors
-    → Stands (opening v.extent) (words_after v x) (views_after v d x) (history_after v d x) → AllBare (state (after v d x)) → Kept (after v d x)
-kept_after v d x kept lt stands bare =
+    → Stands (opening v.extent) (words_after v x) (views_after v d x) (history_after v d x) → Kept (after v d x)
+kept_after v d x kept lt stands =
     record {
       stands = stands;
       seats = seats_set v.views v.extent.actors d (sees_as (view_in v.views d) (pending_after v d x) (history_after v d x)) kept.seats lt
           (kept.seats.names d lt)
           (kept.seats.awake d lt);
-      bare = bare;
-      calm = calm_after v d x (let s = kept.seats.size in omega arith) kept.calm;
+      doors = doors_after v d x (let s = kept.seats.size in omega arith) kept.doors;
       whole = whole_after v d x kept.whole stands.legal;
       proper = kept.proper;
       allowed = same_allowance v d x ∙ kept.allowed;

@@ -12,7 +12,7 @@ use Rattle.control_word.specs.State.{IsOpening, sum_below}
 use Rattle.control_word.specs.Views.{Stands, fresh, used_up}
 use Rattle.step_core.specs.declared.extent.Extent.{Extent}
 use Rattle.step_core.specs.Openings.{IsExtent, each_stock, holder_of, opening, share_of}
-use Rattle.step_core.specs.Stories.{IsCalm, Kept, Nothing}
+use Rattle.step_core.specs.Stories.{IsCalm, Kept, Nothing, Plain, ShutsNoDoor}
 
 -- of so many actors each has its share, and the first has the rest too
 sums : (q r a n : ℕ) → 1 ≤ n → n ≤ a → sum_below n (λ d. cond (nat_lt d a) (q + cond (d == 0) r 0) 0) ≡ n * q + r
@@ -75,6 +75,12 @@ fresh_at d (suc n) (suc i) lt =
     let e : suc d + i ≡ d + suc i = omega arith in
     fresh_at (suc d) n i (omega arith) ∙ ap (λ (k : ℕ). record { name = k; spent = false; pending = Idle; seen = [] }) e
 
+-- nothing is half done
+idle_start : (d n e : ℕ) → ShutsNoDoor (get_or (fresh {V = Nothing} d n) e used_up).pending
+idle_start d zero e = tt
+idle_start d (suc n) zero = tt
+idle_start d (suc n) (suc e) = idle_start (suc d) n e
+
 calm_start : (d n e : ℕ) → IsCalm (get_or (fresh {V = Nothing} d n) e used_up).pending
 calm_start d zero e = tt
 calm_start d (suc n) zero = tt
@@ -93,9 +99,11 @@ kept_start x words fine is =
             names = λ d lt. ap (λ (v : View Nothing). v.name) (fresh_at 0 x.actors d lt) ∙ (let e : 0 + d ≡ d = omega arith in e);
             awake = λ d lt. ap (λ (v : View Nothing). v.spent) (fresh_at 0 x.actors d lt);
           };
-      bare = λ o m. refl;
-      calm = calm_start 0 x.actors;
+      doors = idle_start 0 x.actors;
       whole = λ o some le. absurd (omega arith);
       proper = fine;
       allowed = refl;
     }
+
+pub plain_start : (x : Extent) (words : List ℕ) → Plain (record { extent = x; words = words; views = fresh 0 x.actors; history = [] })
+plain_start x words = record { bare = λ o m. refl; calm = calm_start 0 x.actors }

@@ -35,7 +35,7 @@ kept_weak_share v d k b p kept lt idle has room =
     (there v b kept busy).0
     (weak_shares (point v d) (object_in v b) p (ready v d Idle kept lt idle) busy
     (inl (handle_in v k b p, (mine_as v d k b p kept lt has, refl, refl), refl, inl refl))
-    (subst (λ (n : ℕ). bag_size (state v) n < (state v).allowance n) (sym (named v d kept lt)) room)))) kept.bare
+    (subst (λ (n : ℕ). bag_size (state v) n < (state v).allowance n) (sym (named v d kept lt)) room))))
 
 leaving : (v : Story) (d : ℕ) (b : Block) (p : Option Place) → Kept v → d < v.extent.actors → pending v d ≡ Idle → Has (held d (weak_in v b p)) (state v).hands
     → (0 < get_or v.words (spot b.0 1) 0)
@@ -62,7 +62,7 @@ kept_weak_leave v d b p vacant kept lt idle has is =
     (subst (λ (l : Bool). let e = event.WeakLeave (weak_in v b p) l in
     Stands (opening v.extent) (set v.words (spot b.0 1) (get_or v.words (spot b.0 1) 0 - 1))
     (set v.views d (sees_as (view_in v.views d) Idle (entry (me (point v d)) e ∷ v.history))) (entry (me (point v d)) e ∷ v.history)) (sym is)
-    (leaving v d b p kept lt idle has).1)) kept.bare
+    (leaving v d b p kept lt idle has).1))
 
 -- the event of a weak leave says whether the block is vacant
 pub left_vacant : (v : Story) (d : ℕ) (b : Block) (p : Option Place) (vacant : Bool) → Kept (after v d (WeakLeave b p vacant))
@@ -88,4 +88,4 @@ kept_expired v d k b p expired kept lt idle has is =
     kept_after v d (Expired k b p expired) kept lt
     (event_by v d v.words Idle (event.Expired (handle_in v k b p) expired) kept lt
     (look_event (opening v.extent) v.words v.views v.history kept.stands d (view_in v.views d) r.seated r.awake r.pending (object_in v b) p
-    (event.Expired (handle_in v k b p) expired) tt ((mine_as v d k b p kept lt has, refl, refl), is) tt refl refl)) kept.bare
+    (event.Expired (handle_in v k b p) expired) tt ((mine_as v d k b p kept lt has, refl, refl), is) tt refl refl))

@@ -7,9 +7,10 @@ use Rattle.control_word.specs.declared.event.Entry.{Entry}
 use Rattle.control_word.specs.declared.event.Event.TheVariants as event
 use Rattle.control_word.specs.declared.place.Block.{Block}
 use Rattle.control_word.specs.Histories.{entry}
-use Rattle.control_word.specs.Events.{place_at}
+use Rattle.control_word.specs.Events.{origin}
 use Rattle.control_word.specs.State.{weak}
 use Rattle.step_core.specs.declared.act.Act.{Act}
+use Rattle.step_core.specs.declared.act.Form.{Form}
 use Rattle.step_core.specs.declared.act.Act.TheVariants.{Make, Share, Downgrade, Lock, Put, Leave, Clear, Count, Expired}
 use Rattle.step_core.specs.declared.act.Task.{Task}
 use Rattle.step_core.specs.declared.half.Half.{Half}
@@ -18,8 +19,9 @@ use Rattle.step_core.specs.declared.holdings.Pointer.{Pointer}
 use Rattle.step_core.specs.declared.past.Deed.TheVariants as deed
 use Rattle.step_core.specs.declared.said.Answer.{Answer}
 use Rattle.step_core.specs.Actors.{wanted}
-use Rattle.step_core.specs.Courses.{Walk, fields_of, hand, idle, locked, placed, settled, slots_idle, taken_idle}
-use Rattle.step_core.specs.Holdings.{Slots, slot}
+use Rattle.step_core.specs.Courses.{Walk, form_of, hand, idle, locked, placed, settled, slots_idle, taken_idle}
+use Rattle.step_core.specs.declared.slot.Slot.TheVariants.{Full}
+use Rattle.step_core.specs.Holdings.{Slots, filled, plain, slot, value}
 use Rattle.step_core.specs.Scenes.{answer_of, ended_by, found, least, on, remains, remains_as, taking, went}
 use Rattle.step_core.specs.Steps.{Step, acts, begins, begun, claims, end_as, end_of, ends_on, first, looks, made_on, prepares, tried, tries, trying}
 use Rattle.step_core.specs.Steps.{silent, step_at, stepped, story_by, walk_by}
@@ -151,12 +153,12 @@ left : (v : Story) (d k : ℕ) (w x : Walk) (n : ℕ) → length x.todo < n → 
 left v d k w x n lt None = record { made = plus_none _; ended = plus_none _; few = omega arith }
 left v d k w x n lt (Some y) = left_by v d k w x n lt y y.kind (is_last_of (state v) y)
 
-made_one : (v : Story) (d i k : ℕ) (w : Walk) (t : Task) (ts : List Task) (b : Block) (f : Bool) (fields : List ℕ) → (i == 5) ≡ true
-    → IsCounted v d (Making b i f) w (length (t ∷ ts)) (Some (claims w k ts b fields))
-made_one v d i k w t ts b f fields e =
+made_one : (v : Story) (d i k : ℕ) (w : Walk) (t : Task) (ts : List Task) (b : Block) (f : Bool) (form : Form) → (i == 5) ≡ true
+    → IsCounted v d (Making b i f) w (length (t ∷ ts)) (Some (claims w k ts b form))
+made_one v d i k w t ts b f form e =
     let c : ◌≡◌ {A = ℕ} (cond (i == 5) 1 0) 1 = ap (λ (z : Bool). cond z 1 0) e in
     let m : suc (made_in v.history) ≡ made_in v.history + cond (i == 5) 1 0 = omega (arith, c) in
-    let l = settled_less (slice_set w.slots (hand w.slots) (Some (record { kind = Owner; block = b; place = place_at b.0 }))) true ts in
+    let l = settled_less (slice_set w.slots (hand w.slots) (Full (record { kind = Owner; block = b; place = origin b.0 form.null }))) true ts in
     record { made = m; ended = plus_none _; few = omega (arith, c, l) }
 
 prepared_one : (v : Story) (d k found want i n : ℕ) (w : Walk) (b : Block) (f : Bool) → length w.todo ≤ n
@@ -174,10 +176,10 @@ counted_make v d i w b f [] is = record {
 }
 counted_make v d i w b f (t ∷ ts) is =
     let found = get_or (known (pending v d)) i 0 in
-    let want = get_or (wanted (fields_of t.act)) i 0 in
-    cond_both (i == 5) (claims w t.statement ts b (fields_of t.act)) (prepares found want w t.statement b i f)
+    let want = get_or (wanted (form_of t.act)) i 0 in
+    cond_both (i == 5) (claims w t.statement ts b (form_of t.act)) (prepares found want w t.statement b i f)
     (λ (x : Step). IsCounted v d (Making b i f) w (length (t ∷ ts)) (Some x))
-    (λ e. made_one v d i t.statement w t ts b f (fields_of t.act) e)
+    (λ e. made_one v d i t.statement w t ts b f (form_of t.act) e)
     (λ e. prepared_one v d t.statement found want i (length (t ∷ ts)) w b f (let e' = ap (λ (z : List Task). length z) is in omega (arith, e')))
 
 begun_in : (v : Story) (d k : ℕ) (w : Walk) (t : Task) (ts : List Task) (o : Option ℕ) → w.todo ≡ t ∷ ts
@@ -190,7 +192,7 @@ begun_in v d k w t ts (Some b) is =
 
 taken_less : (slots : Slots) (must : Bool) (ts : List Task) (o : Option Pointer) → length (taking slots must ts o).todo ≤ length ts
 taken_less slots must ts None = settled_less slots (not must) ts
-taken_less slots must ts (Some x) = settled_less (slice_set slots (hand slots) (Some x)) true ts
+taken_less slots must ts (Some x) = settled_less (slice_set slots (hand slots) (Full x)) true ts
 
 -- a lock is tried, or done
 tried_or : (v : Story) (d k : ℕ) (h : Half) (w : Walk) (ts : List Task) (n word : ℕ) (i : ℕ) (must : Bool) (y : Pointer) (b : Bool) → is_prepared h ≡ false
@@ -212,22 +214,22 @@ looked v d k w t ts i must (Some y) is =
 
 counted_act : (v : Story) (d : ℕ) (w : Walk) (t : Task) (ts : List Task) (a : Act) → w.todo ≡ t ∷ ts
     → IsCounted v d Rest w (length (t ∷ ts)) (Some (first v d w t.statement ts a))
-counted_act v d w t ts (Make fields) is = begun_in v d t.statement w t ts (least d (state v).stores) is
+counted_act v d w t ts (Make form) is = begun_in v d t.statement w t ts (least d (state v).stores) is
 counted_act v d w t ts (Share i) is =
     let x = went (state v) d w.slots w.taken ts (Share i) in
-    let l = settled_less (slice_set w.slots (hand w.slots) (slot w.slots i)) true ts in
+    let l = settled_less (slice_set w.slots (hand w.slots) (value w.slots i)) true ts in
     shared v d t.statement w x (length (t ∷ ts)) (omega (arith, l)) (slot w.slots i)
 counted_act v d w t ts (Put i) is =
     let x = went (state v) d w.slots w.taken ts (Put i) in
-    let l = settled_less (placed i (slice_set w.slots i None)) false ts in
+    let l = settled_less (placed i (slice_set w.slots i plain)) false ts in
     left v d t.statement w x (length (t ∷ ts)) (omega (arith, l)) (slot w.slots i)
 counted_act v d w t ts (Leave i) is =
     let x = went (state v) d w.slots w.taken ts (Leave i) in
-    let l = settled_less (slice_set w.slots i None) w.taken ts in
+    let l = settled_less (slice_set w.slots i plain) w.taken ts in
     left v d t.statement w x (length (t ∷ ts)) (omega (arith, l)) (slot w.slots i)
 counted_act v d w t ts (Clear i) is =
     let x = went (state v) d w.slots w.taken ts (Clear i) in
-    let l = settled_less (slice_set w.slots i None) w.taken ts in
+    let l = settled_less (slice_set w.slots i plain) w.taken ts in
     left v d t.statement w x (length (t ∷ ts)) (omega (arith, l)) (slot w.slots i)
 counted_act v d w t ts (Count i) is =
     let x = went (state v) d w.slots w.taken ts (Count i) in
@@ -235,7 +237,7 @@ counted_act v d w t ts (Count i) is =
     told v d t.statement w x (length (t ∷ ts)) (answer_of (state v) d w.slots (Count i)) (omega (arith, l)) (slot w.slots i)
 counted_act v d w t ts (Downgrade i) is =
     let x = went (state v) d w.slots w.taken ts (Downgrade i) in
-    let l = settled_less (slice_set w.slots (hand w.slots) (option_map as_weak (slot w.slots i))) true ts in
+    let l = settled_less (slice_set w.slots (hand w.slots) (filled (option_map as_weak (slot w.slots i)))) true ts in
     downgraded v d t.statement w x (length (t ∷ ts)) (omega (arith, l)) (slot w.slots i)
 counted_act v d w t ts (Lock i must) is = looked v d t.statement w t ts i must (locked w.slots (Lock i must)) is
 counted_act v d w t ts (Expired i) is =
@@ -262,7 +264,7 @@ counted_try v d word w t ts a None is e = record { made = plus_none _; ended = p
 counted_try v d word w t ts (Lock i must) (Some y) is e =
     tried_or v d t.statement (Locking word) w ts (length (t ∷ ts)) (owner_word v y) i must y (owner_word v y == word) refl (omega arith)
     (let e = ap (λ (z : List Task). length z) is in omega (arith, e))
-counted_try v d word w t ts (Make fields) (Some y) is e = cc
+counted_try v d word w t ts (Make form) (Some y) is e = cc
 counted_try v d word w t ts (Share i) (Some y) is e = cc
 counted_try v d word w t ts (Downgrade i) (Some y) is e = cc
 counted_try v d word w t ts (Put i) (Some y) is e = cc

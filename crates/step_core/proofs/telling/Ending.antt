@@ -7,6 +7,7 @@ use Rattle.control_word.proofs.lists.Tallies.{put_cases}
 use Rattle.control_word.specs.declared.place.Block.{Block}
 use Rattle.control_word.specs.State.{Object, State, common, ending, gone, live, put, weak}
 use Rattle.step_core.specs.declared.act.Act.{Act}
+use Rattle.step_core.specs.declared.act.Form.{Form}
 use Rattle.step_core.specs.declared.act.Act.TheVariants.{Make, Share, Downgrade, Lock, Put, Leave, Clear, Count, Expired}
 use Rattle.step_core.specs.declared.act.Task.{Task}
 use Rattle.step_core.specs.declared.half.Half.{Half}
@@ -15,7 +16,7 @@ use Rattle.step_core.specs.declared.holdings.Pointer.{Pointer}
 use Rattle.step_core.specs.declared.past.Deed.TheVariants as deed
 use Rattle.step_core.specs.declared.said.Said.{Said}
 use Rattle.step_core.specs.Actors.{wanted}
-use Rattle.step_core.specs.Courses.{Walk, fields_of, locked}
+use Rattle.step_core.specs.Courses.{Walk, form_of, locked}
 use Rattle.step_core.specs.Holdings.{slot}
 use Rattle.step_core.specs.Openings.{opening}
 use Rattle.step_core.specs.Scenes.{least, on}
@@ -160,7 +161,7 @@ begun_in v d k w ts f at all (Some b) = same v d Rest f _ refl (λ c t. absurd t
 
 acted : (v : Story) (d k : ℕ) (w : Walk) (ts : List Task) (f : ℕ → Half) → f d ≡ Rest → AllEnd (state v) f → Kept v → (a : Act)
     → Right v d Rest f (Some (first v d w k ts a))
-acted v d k w ts f at all kept (Make fields) = begun_in v d k w ts f at all (least d (state v).stores)
+acted v d k w ts f at all kept (Make form) = begun_in v d k w ts f at all (least d (state v).stores)
 acted v d k w ts f at all kept (Share i) = shared v d k _ f at all (slot w.slots i)
 acted v d k w ts f at all kept (Put i) = left v d k _ _ f at all kept (slot w.slots i)
 acted v d k w ts f at all kept (Leave i) = left v d k _ _ f at all kept (slot w.slots i)
@@ -176,13 +177,13 @@ rested v d w f at all kept [] = same v d Rest f None refl (λ b t. t) at all
 rested v d w f at all kept (t ∷ ts) = acted v d t.statement w ts f at all kept t.act
 
 -- an object is made
-claimed : (v : Story) (d k i : ℕ) (w : Walk) (ts : List Task) (b : Block) (c : Bool) (fields : List ℕ) (f : ℕ → Half) → f d ≡ Making b i c
-    → AllEnd (state v) f → Right v d (Making b i c) f (Some (claims w k ts b fields))
-claimed v d k i w ts b c fields f at all = record {
+claimed : (v : Story) (d k i : ℕ) (w : Walk) (ts : List Task) (b : Block) (c : Bool) (form : Form) (f : ℕ → Half) → f d ≡ Making b i c
+    → AllEnd (state v) f → Right v d (Making b i c) f (Some (claims w k ts b form))
+claimed v d k i w ts b c form f at all = record {
   right = λ g after now else.
       let s = state v in
       let own : (j : ℕ) → EndsIn j (f d) → EndsIn j (g d) = λ j t. absurd (let u : EndsIn j (Making b i c) = subst (EndsIn j) at t in u) in
-      end_put s (state (story_by v d (Some (claims w k ts b fields)))) g (suc s.made) _ refl (λ e p. absurd (live_ends e p))
+      end_put s (state (story_by v d (Some (claims w k ts b form)))) g (suc s.made) _ refl (λ e p. absurd (live_ends e p))
       (λ r e n p. passes d f g else own (s.object r).block e (all r e p));
 }
   where
@@ -199,10 +200,10 @@ making : (v : Story) (d i : ℕ) (w : Walk) (b : Block) (c : Bool) (f : ℕ → 
 making v d i w b c f at all [] = same v d (Making b i c) f None refl (λ j t. t) at all
 making v d i w b c f at all (t ∷ ts) =
     let found = get_or (known (pending v d)) i 0 in
-    let want = get_or (wanted (fields_of t.act)) i 0 in
-    cond_both (i == 5) (claims w t.statement ts b (fields_of t.act)) (prepares found want w t.statement b i c)
+    let want = get_or (wanted (form_of t.act)) i 0 in
+    cond_both (i == 5) (claims w t.statement ts b (form_of t.act)) (prepares found want w t.statement b i c)
     (λ (x : Step). Right v d (Making b i c) f (Some x))
-    (λ e. claimed v d t.statement i w ts b c (fields_of t.act) f at all) (λ e. prepared v d t.statement found want i w b c f at all)
+    (λ e. claimed v d t.statement i w ts b c (form_of t.act) f at all) (λ e. prepared v d t.statement found want i w b c f at all)
 
 -- a member is cleared
 cleared : (v : Story) (d stage k : ℕ) (w : Walk) (b : Block) (f : ℕ → Half) → f d ≡ Ending b stage k → AllEnd (state v) f

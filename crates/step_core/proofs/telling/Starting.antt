@@ -15,6 +15,7 @@ use Rattle.step_core.specs.Programs.{IsPart, IsProgram, Part, call_count}
 use Rattle.step_core.specs.Starts.{first_story, first_walk, no_slots}
 use Rattle.step_core.specs.Told.{IsTold, left_to_do, sight}
 use Rattle.step_core.specs.Worlds.{thread_half, thread_walk}
+use Rattle.step_core.proofs.tables.Start.{plain_start}
 use Rattle.step_core.proofs.telling.Counting.{settled_less}
 
 clearing_size : (n : ℕ) → length (clearing n) ≡ n
@@ -82,4 +83,5 @@ told_start x parts threads size fine walks =
       ended = refl;
       few = omega (arith, same, a, calls, actors);
       endings = λ o e p. absurd (not_ending e p);
+      plain = plain_start x (first_story x).words;
     }

@@ -9,9 +9,10 @@ use Rattle.step_core.specs.declared.said.Stepped.{Stepped}
 use Rattle.step_core.specs.Courses.{Walk}
 use Rattle.step_core.specs.Scenes.{nowhere, walk_of}
 use Rattle.step_core.specs.Steps.{Step, half_by, story_after, story_by, stepped, walk_by}
-use Rattle.step_core.specs.Stories.{Kept, Story}
+use Rattle.step_core.specs.Stories.{Kept, Plain, Story}
 use Rattle.step_core.specs.Told.{IsTold, ends_by, makes}
 use Rattle.step_core.specs.Worlds.{Sight, Steps, half_of, scene, sight_by, step_of}
+use Rattle.step_core.proofs.tables.Plain.{plain_after}
 use Rattle.step_core.proofs.telling.Counting.{counted}
 use Rattle.step_core.proofs.telling.Ending.{ends_right}
 
@@ -22,6 +23,14 @@ same_extent v d (Some x) = go x.deed
     go : (y : Option Deed) → (story_after v d y).extent ≡ v.extent
     go None = refl
     go (Some y) = refl
+
+plain_by : (v : Story) (d : ℕ) (x : Option Step) → d < length v.views → Plain v → Plain (story_by v d x)
+plain_by v d None lt plain = plain
+plain_by v d (Some x) lt plain = go x.deed
+  where
+    go : (y : Option Deed) → Plain (story_after v d y)
+    go None = plain
+    go (Some y) = plain_after v d y lt tt plain
 
 told_step : (d : ℕ) (u : Sight) (m e : ℕ) → Kept u.story → Kept (story_by u.story d (step_of d u)) → d < length u.walks → IsTold u m e
     → IsTold (sight_by d u (step_of d u)) (m + makes (half_of u d) (stepped u.story (step_of d u))) (e + ends_by (stepped u.story (step_of d u)))
@@ -44,6 +53,7 @@ told_step d u m e kept after lt told =
       endings = (ends_right u.story d h w (half_of u) refl told.endings kept).right (half_of (sight_by d u x)) after
           (get_or-set_same u.halves d (half_by h x) Rest inside)
           (λ i n. get_or-set_other u.halves d i (half_by h x) Rest n);
+      plain = plain_by u.story d x (let t = told.threads in let s = kept.seats.size in omega (arith, t, s, lt)) told.plain;
     }
 
 pub told_by : (d : ℕ) (u v : Sight) (r : Stepped) (m e : ℕ) → Kept u.story → Kept v.story → d < length u.walks → IsTold u m e

@@ -69,7 +69,7 @@ looks_done d u t ts y (Lock i must) e zero =
     let a = Lock i must in
     ap (λ (o : Option Pointer). on (looks u.story d w t.statement ts a) (acts (state u.story) d w t.statement ts a None Rest) o) e
     ∙ cond-true (owner_word u.story y == 0) _ _ zero
-looks_done d u t ts y (Make fields) e zero = cc
+looks_done d u t ts y (Make form) e zero = cc
 looks_done d u t ts y (Share i) e zero = cc
 looks_done d u t ts y (Downgrade i) e zero = cc
 looks_done d u t ts y (Put i) e zero = cc

@@ -10,7 +10,7 @@ use Rattle.step_core.specs.declared.half.Half.{Half}
 use Rattle.step_core.specs.declared.half.Half.TheVariants.{Rest, Making, Ending, Locking}
 use Rattle.step_core.specs.declared.said.Stepped.{Stepped}
 use Rattle.step_core.specs.Actors.{wanted}
-use Rattle.step_core.specs.Courses.{Walk, fields_of}
+use Rattle.step_core.specs.Courses.{Walk, form_of}
 use Rattle.step_core.specs.Scenes.{walk_of}
 use Rattle.step_core.specs.Steps.{Step, claims, made_on, prepares, step_at}
 use Rattle.step_core.specs.Stories.{Kept, known, pending}
@@ -84,12 +84,12 @@ prepared_by d u b i g [] e f way lt is = absurd way
 prepared_by d u b i g (t ∷ ts) e f way lt is =
     let w = walk_of (scene u) d in
     let ne : (i == 5) ≡ false = other (i == 5) is in
-    let x : Step = prepares (get_or (known (pending u.story d)) i 0) (get_or (wanted (fields_of t.act)) i 0) w t.statement b i g in
+    let x : Step = prepares (get_or (known (pending u.story d)) i 0) (get_or (wanted (form_of t.act)) i 0) w t.statement b i g in
     let s : step_of d u ≡ Some x = made_step d u b i g t ts e f
-    ∙ ap (λ (y : Step). Some y) (cond-false (i == 5) (claims w t.statement ts b (fields_of t.act)) x ne) in
+    ∙ ap (λ (y : Step). Some y) (cond-false (i == 5) (claims w t.statement ts b (form_of t.act)) x ne) in
     let h = half_after d u (Some x) lt in
     let le = way.0 in
-    let p = prepared_half w (get_or (known (pending u.story d)) i 0) (get_or (wanted (fields_of t.act)) i 0) t.statement b i g
+    let p = prepared_half w (get_or (known (pending u.story d)) i 0) (get_or (wanted (form_of t.act)) i 0) t.statement b i g
     (let q = eqb-false i 5 ne in omega (arith, le, q)) in
     subst (λ (y : Option Step). Onward d u (sight_by d u y)) (sym s) (
       prepared_scene d u _ _ t.statement b i g,

@@ -5,6 +5,7 @@ use Rattle.std.proofs.lemmas.Bool.{cond_both, false≢true}
 use Rattle.control_word.specs.declared.place.Block.{Block}
 use Rattle.control_word.specs.State.{State}
 use Rattle.step_core.specs.declared.act.Act.{Act}
+use Rattle.step_core.specs.declared.act.Form.{Form}
 use Rattle.step_core.specs.declared.act.Act.TheVariants.{Make, Share, Downgrade, Lock, Put, Leave, Clear, Count, Expired}
 use Rattle.step_core.specs.declared.act.Task.{Task}
 use Rattle.step_core.specs.declared.half.Half.{Half}
@@ -59,19 +60,19 @@ acted_said d u k a =
 abbrev pub Acts : ℕ → Sight → ℕ → List Task → Act → Step → Type 0
 Acts d u k ts a x = (x.said ≡ acted_said d u k a) × (rested_from (sight_by d u (Some x)) d x.half ≡ acted_scene d u ts a)
 
-begins_so : (d : ℕ) (u : Sight) (k : ℕ) (ts : List Task) (fields : List ℕ) (o : Option ℕ) → least d (state u.story).stores ≡ o
-    → is_acting (begins (walk_of (scene u) d) k ts o).half ≡ false → Acts d u k ts (Make fields) (begins (walk_of (scene u) d) k ts o)
-begins_so d u k ts fields None e is =
+begins_so : (d : ℕ) (u : Sight) (k : ℕ) (ts : List Task) (form : Form) (o : Option ℕ) → least d (state u.story).stores ≡ o
+    → is_acting (begins (walk_of (scene u) d) k ts o).half ≡ false → Acts d u k ts (Make form) (begins (walk_of (scene u) d) k ts o)
+begins_so d u k ts form None e is =
     let w = walk_of (scene u) d in (
       ap (λ (q : Option ℕ). record { statement = k; answer = full_answer q; ended = None }) (sym e),
       ap (λ (q : Option ℕ). record {
         extent = u.story.extent;
-        history = made d fields u.story.history q;
+        history = made d form u.story.history q;
         walks = set u.walks d
-            (holding w.slots ts q);
+            (holding w.slots ts form.null q);
       }) (sym e),
     )
-begins_so d u k ts fields (Some b) e is = absurd (false≢true (sym is))
+begins_so d u k ts form (Some b) e is = absurd (false≢true (sym is))
 
 -- what is done on a full slot
 abbrev Told : ℕ → Story → (Pointer → Deed) → (Pointer → History) → Option Pointer → Type 0
@@ -138,7 +139,7 @@ lock_so d u k ts (Lock i must) x e =
         walks = set u.walks d (went (state u.story) d w.slots w.taken ts (Lock i must));
       }) (sym e),
     )
-lock_so d u k ts (Make fields) x e = cc
+lock_so d u k ts (Make form) x e = cc
 lock_so d u k ts (Share i) x e = cc
 lock_so d u k ts (Downgrade i) x e = cc
 lock_so d u k ts (Put i) x e = cc
@@ -176,7 +177,7 @@ looks_so d u k ts i must (Some y) e is =
 -- each act
 acts_so : (d : ℕ) (u : Sight) (k : ℕ) (ts : List Task) (a : Act)
     → let x = first u.story d (walk_of (scene u) d) k ts a in is_acting x.half ≡ false → Acts d u k ts a x
-acts_so d u k ts (Make fields) is = begins_so d u k ts fields (least d (state u.story).stores) refl is
+acts_so d u k ts (Make form) is = begins_so d u k ts form (least d (state u.story).stores) refl is
 acts_so d u k ts (Share i) is = (refl, shared d u.story (slot (walk_of (scene u) d).slots i) _)
 acts_so d u k ts (Put i) is =
     let w = walk_of (scene u) d in
@@ -270,7 +271,7 @@ looks_same d u k ts a (Some y) is =
 
 first_same : (d : ℕ) (u : Sight) (k : ℕ) (ts : List Task) (a : Act)
     → let x = first u.story d (walk_of (scene u) d) k ts a in is_acting x.half ≡ true → scene (sight_by d u (Some x)) ≡ scene u
-first_same d u k ts (Make fields) is = begins_same d u k ts (least d (state u.story).stores) is
+first_same d u k ts (Make form) is = begins_same d u k ts (least d (state u.story).stores) is
 first_same d u k ts (Share i) is = absurd (false≢true is)
 first_same d u k ts (Put i) is = absurd (no_make (state u.story) k (slot (walk_of (scene u) d).slots i) is)
 first_same d u k ts (Leave i) is = absurd (no_make (state u.story) k (slot (walk_of (scene u) d).slots i) is)

@@ -13,7 +13,7 @@ use Rattle.step_core.specs.declared.said.Said.{Said}
 use Rattle.step_core.specs.declared.said.Stepped.{Stepped}
 use Rattle.step_core.specs.declared.said.Turned.{Turned}
 use Rattle.step_core.specs.Actors.{wanted}
-use Rattle.step_core.specs.Courses.{fields_of}
+use Rattle.step_core.specs.Courses.{form_of}
 use Rattle.step_core.specs.Scenes.{Scene, full_answer, holding, least, made, play, play_from, said, said_from, walk_of}
 use Rattle.step_core.specs.Steps.{Step, claims, prepares, stepped}
 use Rattle.step_core.specs.Stories.{known, pending, state}
@@ -23,13 +23,13 @@ use Rattle.step_core.proofs.turning.Making.{made_step}
 use Rattle.step_core.proofs.turning.Playing.{Acts, acted_said, acted_scene, plays_as}
 
 -- a claim is what the make says and makes
-claims_so : (d : ℕ) (u : Sight) (k : ℕ) (ts : List Task) (b : Block) (a : Act) → a ≡ Make (fields_of a) → least d (state u.story).stores ≡ Some b.0
-    → Acts d u k ts a (claims (walk_of (scene u) d) k ts b (fields_of a))
+claims_so : (d : ℕ) (u : Sight) (k : ℕ) (ts : List Task) (b : Block) (a : Act) → a ≡ Make (form_of a) → least d (state u.story).stores ≡ Some b.0
+    → Acts d u k ts a (claims (walk_of (scene u) d) k ts b (form_of a))
 claims_so d u k ts b a is low =
     let w = walk_of (scene u) d in
-    let f = fields_of a in (
+    let f = form_of a in (
       ap (λ (q : Option ℕ). record { statement = k; answer = full_answer q; ended = None }) (sym low) ∙ ap (acted_said d u k) (sym is),
-      ap (λ (q : Option ℕ). record { extent = u.story.extent; history = made d f u.story.history q; walks = set u.walks d (holding w.slots ts q) })
+      ap (λ (q : Option ℕ). record { extent = u.story.extent; history = made d f u.story.history q; walks = set u.walks d (holding w.slots ts f.null q) })
           (sym low)
           ∙ ap (acted_scene d u ts) (sym is),
     )
@@ -40,7 +40,7 @@ claimed_by : (d : ℕ) (u : Sight) (r : Stepped) (b : Block) (i : ℕ) (g : Bool
 claimed_by d u r b i g [] e five todo way lt answer = absurd way
 claimed_by d u r b i g (t ∷ ts) e five todo way lt answer =
     let w = walk_of (scene u) d in
-    let f = fields_of t.act in
+    let f = form_of t.act in
     let x = claims w t.statement ts b f in
     let is : step_of d u ≡ Some x = made_step d u b i g t ts e todo
     ∙ ap (λ (y : Step). Some y) (cond-true (i == 5) x (prepares (get_or (known (pending u.story d)) i 0) (get_or

@@ -2,8 +2,8 @@ use Rattle.step_core.proofs.holding.Others.{half_others, holds_others, stocks_ot
 use Rattle.step_core.proofs.half.others_keep.Goals as goal
 
 pub returns : goal.returns
-returns c = λ d e slots blocks fields room half v x n kept kept' has. (
+returns c = λ d e slots blocks form room half v x n kept kept' has. (
   holds_others d slots v e x n kept kept' has.0,
   stocks_others d blocks room half v e x n has.1,
-  half_others d half fields v e x n kept kept' has.2,
+  half_others d half form v e x n kept kept' has.2,
 )

@@ -42,7 +42,7 @@ overflow_sub-found c =
     let i = inside c.args.self.now c.args.block 1 k (there c.args.self.now c.args.block k
     (ending_busy c.args.self.now c.args.desk c.args.block c.requires.ending)).1 (let q = c.requires in omega arith) in
     let f = found c.self.inside.words.items c.args.self.now.words c.block_word.result _ _ w c.block_word.ensures i c.index-found.ensures in
-    let s = some_weak c.args.self.now c.args.desk c.args.block k c.requires.seat c.requires.idle c.requires.ending in
+    let s = some_weak c.args.self.now c.args.desk c.args.block k c.requires.seat c.requires.idle c.requires.ending c.requires.cleared in
     omega arith
 
 pub invariant_of-self : goal.invariant_of-self
@@ -53,7 +53,7 @@ invariant_of-self c =
     (ending_busy c.args.self.now c.args.desk c.args.block c.requires.ending)).1 (let q = c.requires in omega arith) in
     let f = found c.self.inside.words.items c.args.self.now.words c.block_word.result _ _ w c.block_word.ensures i c.index-found.ensures in
     kept_as c.args.self.now c.args.desk (Finish c.args.block c.is_last-vacant.result) _ _ _ _
-    (kept_finish c.args.self.now c.args.desk c.args.block c.is_last-vacant.result k c.requires.seat c.requires.idle c.requires.ending
+    (kept_finish c.args.self.now c.args.desk c.args.block c.is_last-vacant.result k c.requires.seat c.requires.idle c.requires.ending c.requires.cleared
     (whole_one c.is_last-vacant.result c.index-found.result.now c.is_last-vacant.ensures ∙ ap (λ (n : ℕ). n == 1) f))
     (ap (λ (s : Story). s.extent) c.self.view_is)
     (let e = c.block_word-2.ensures in cc)
@@ -67,5 +67,5 @@ returns-clause-vacant c =
     (ending_busy c.args.self.now c.args.desk c.args.block c.requires.ending)).1 (let q = c.requires in omega arith) in
     let f = found c.self.inside.words.items c.args.self.now.words c.block_word.result _ _ w c.block_word.ensures i c.index-found.ensures in
     finished_vacant c.args.self.now c.args.desk c.args.block _
-    (kept_finish c.args.self.now c.args.desk c.args.block c.is_last-vacant.result k c.requires.seat c.requires.idle c.requires.ending
+    (kept_finish c.args.self.now c.args.desk c.args.block c.is_last-vacant.result k c.requires.seat c.requires.idle c.requires.ending c.requires.cleared
     (whole_one c.is_last-vacant.result c.index-found.result.now c.is_last-vacant.ensures ∙ ap (λ (n : ℕ). n == 1) f))

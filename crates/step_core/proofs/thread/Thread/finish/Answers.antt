@@ -33,3 +33,6 @@ returns-then-not-vacant-clause-fits c =
     let e = c.finish-vacant.ensures.after ∙ ap (λ (r : Bool). after c.args.table.now c.args.desk (deed.Finish c.args.block r)) c.if-not-vacant.true in
     subst (λ (v : Story). Fits c.args.desk (record { course = c.args.self.now.course; stock = c.args.self.now.stock; half = Rest }) v) (sym e)
     (fits_finish_not c.args.desk c.args.self.now c.args.table.now c.args.block c.args.statement c.known.ensures c.requires.fits c.requires.half)
+
+pub finish-vacant-requires-clause-cleared : goal.finish-vacant-requires-clause-cleared
+finish-vacant-requires-clause-cleared c = λ m few. c.requires.plain.bare _ m

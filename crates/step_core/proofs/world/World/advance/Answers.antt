@@ -6,8 +6,11 @@ use Rattle.step_core.proofs.Worlds.{all_fit, has_begun, sight, steps, thread_at}
 use Rattle.step_core.proofs.telling.Worlds.{told_now}
 use Rattle.step_core.proofs.world.World.advance.Goals as goal
 
-pub step-stepped-requires : goal.step-stepped-requires
-step-stepped-requires c =
+pub step-stepped-requires-clause-plain : goal.step-stepped-requires-clause-plain
+step-stepped-requires-clause-plain c = c.self.invariant.1.plain
+
+pub step-stepped-requires-clause-fits : goal.step-stepped-requires-clause-fits
+step-stepped-requires-clause-fits c =
     let l = ap (λ (u : Sight). length u.walks) c.self.view_is in
     let m = length-map c.self.inside.threads.items thread_walk in
     let lt : c.args.number < length c.self.inside.threads.items = omega (arith, l, m, c.requires) in

@@ -1,4 +1,4 @@
--- No half-done call takes anything from a count, and objects have four fields.
+-- No half-done call shuts a door, and objects have four fields.
 use Rattle.std.proofs.Common.{◌≡◌, ◌≢◌, ℕ, suc, ◌<◌, ◌≤◌, cond, List, [], ◌∷◌, length, refl, sym, ap}
 use Rattle.std.proofs.Common.{subst, ⊎_elim, arith}
 use Rattle.std.proofs.Common.{get_or-set_same, get_or-set_other, ne_eqb}
@@ -15,27 +15,33 @@ use Rattle.control_word.specs.Views.{added, adds, owed, owes, total, used_up}
 use Rattle.step_core.specs.declared.past.Deed.{Deed}
 use Rattle.step_core.specs.declared.past.Deed.TheVariants.{Prepare, Write, Claim, Share, WeakShare, Leave, WeakLeave, Lock, Count, Expired, Clear, Finish}
 use Rattle.step_core.specs.Openings.{opening}
-use Rattle.step_core.specs.Stories.{AllWhole, IsCalm, Kept, Nothing, Story, after, history_after, object_in, pending, pending_after, state, view_in}
+use Rattle.step_core.specs.Stories.{AllWhole, ShutsNoDoor, Kept, Nothing, Story, after, history_after, object_in, pending, pending_after, state, view_in}
 
-calm_deed : (v : Story) (d : ℕ) (x : Deed) → IsCalm (pending_after v d x)
-calm_deed v d (Prepare b) = tt
-calm_deed v d (Write b j n) = tt
-calm_deed v d (Claim b enabled null fields) = tt
-calm_deed v d (Share b p q) = tt
-calm_deed v d (Leave b p last) = tt
-calm_deed v d (WeakShare b p) = tt
-calm_deed v d (WeakLeave b p vacant) = tt
-calm_deed v d (Lock b p got) = tt
-calm_deed v d (Count k b p n) = tt
-calm_deed v d (Expired k b p e) = tt
-calm_deed v d (Clear b m) = tt
-calm_deed v d (Finish b vacant) = tt
+shuts_none : (v : Story) (d : ℕ) (x : Deed) → ShutsNoDoor (pending_after v d x)
+shuts_none v d (Prepare b) = tt
+shuts_none v d (Write b j n) = tt
+shuts_none v d (Claim b enabled null fields) = tt
+shuts_none v d (Share b p q) = tt
+shuts_none v d (Leave b p last) = tt
+shuts_none v d (WeakShare b p) = tt
+shuts_none v d (WeakLeave b p vacant) = tt
+shuts_none v d (Lock b p got) = tt
+shuts_none v d (Count k b p n) = tt
+shuts_none v d (Expired k b p e) = tt
+shuts_none v d (Clear b m) = tt
+shuts_none v d (Finish b vacant) = tt
 
-pub calm_after : (v : Story) (d : ℕ) (x : Deed) → d < length v.views → ((e : ℕ) → IsCalm (pending v e)) → (e : ℕ) → IsCalm (pending (after v d x) e)
-calm_after v d x lt calm e =
-    ⊎_elim (λ (is : e ≡ d). subst (λ (q : ℕ). IsCalm (pending (after v d x) q)) (sym is)
-    (subst IsCalm (ap (λ (w : View Nothing). w.pending) (sym (get_or-set_same v.views d _ used_up lt))) (calm_deed v d x)))
-    (λ (ne : e ≢ d). subst IsCalm (ap (λ (w : View Nothing). w.pending) (sym (get_or-set_other v.views d e _ used_up ne))) (calm e)) (cases_eq e d)
+-- what is so of each half-done call, and of the desk's after its deed
+pub pending_all : (P : Pending Nothing → Type 0) (v : Story) (d : ℕ) (x : Deed) → d < length v.views → P (pending_after v d x)
+    → ((e : ℕ) → P (pending v e)) → (e : ℕ) → P (pending (after v d x) e)
+pending_all P v d x lt new all e =
+    ⊎_elim (λ (is : e ≡ d). subst (λ (q : ℕ). P (pending (after v d x) q)) (sym is)
+    (subst P (ap (λ (w : View Nothing). w.pending) (sym (get_or-set_same v.views d _ used_up lt))) new))
+    (λ (ne : e ≢ d). subst P (ap (λ (w : View Nothing). w.pending) (sym (get_or-set_other v.views d e _ used_up ne))) (all e)) (cases_eq e d)
+
+pub doors_after : (v : Story) (d : ℕ) (x : Deed) → d < length v.views → ((e : ℕ) → ShutsNoDoor (pending v e))
+    → (e : ℕ) → ShutsNoDoor (pending (after v d x) e)
+doors_after v d x lt none e = pending_all (λ p. ShutsNoDoor p) v d x lt (shuts_none v d x) none e
 
 -- an object goes to another phase
 moved_whole : (v : Story) (i : ℕ) (y : Object) (o : ℕ) → AllWhole (state v) → y.fields ≡ ((state v).object i).fields → 0 < o → o ≤ (state v).made
@@ -69,31 +75,19 @@ whole_after v d (Finish b vacant) whole legal = λ o some le.
     put_cases (λ j (z : Object). o ≡ j → length z.fields ≡ 4) (state v).object (object_in v b) _ o
     (λ e t. moved_whole v (object_in v b) ((state v).object (object_in v b)) o whole refl some le e) (λ ne t. whole o some le) refl
 
-none_in : (f : Pending Nothing → ℕ) (views : List (View Nothing)) → ((d : ℕ) → f (view_in views d).pending ≡ 0)
+pub none_in : (f : Pending Nothing → ℕ) (views : List (View Nothing)) → ((d : ℕ) → f (view_in views d).pending ≡ 0)
     → total (λ (w : View Nothing). f w.pending) views ≡ 0
 none_in f [] none = refl
 none_in f (w ∷ ws) none = let a : f w.pending ≡ 0 = none 0 in let i = none_in f ws (λ d. none (suc d)) in omega (arith, a, i)
 
-owes_none : (p : Pending Nothing) (i : ℕ) → IsCalm p → owes p i ≡ 0
-owes_none Idle i calm = refl
-owes_none (Making b l) i calm = refl
-owes_none (Paying k o p word funds loads) i calm = absurd calm
-owes_none (Visiting o p word x) i calm = absurd calm
-owes_none (Parting to) i calm = absurd calm
-owes_none (Merging other x y) i calm = absurd calm
-
--- no load is under way
-pub nothing_owed : (v : Story) (i : ℕ) → Kept v → owed v.views i ≡ 0
-nothing_owed v i kept = none_in (λ p. owes p i) v.views (λ d. owes_none (pending v d) i (kept.calm d))
-
-adds_none : (p : Pending Nothing) (b : ℕ) → IsCalm p → adds p (spot b 2) ≡ 0
-adds_none Idle b calm = refl
-adds_none (Making c l) b calm = cond-false _ 1 0 (ne_eqb (spot b 2) (spot c.0 1) (λ e. omega arith))
-adds_none (Paying k o p word funds loads) b calm = absurd calm
-adds_none (Visiting o p word x) b calm = absurd calm
-adds_none (Parting to) b calm = absurd calm
-adds_none (Merging other x y) b calm = absurd calm
+adds_none : (p : Pending Nothing) (b : ℕ) → ShutsNoDoor p → adds p (spot b 2) ≡ 0
+adds_none Idle b none = refl
+adds_none (Making c l) b none = cond-false _ 1 0 (ne_eqb (spot b 2) (spot c.0 1) (λ e. omega arith))
+adds_none (Paying k o p word funds loads) b none = refl
+adds_none (Visiting o p word x) b none = absurd none
+adds_none (Parting to) b none = absurd none
+adds_none (Merging other x y) b none = absurd none
 
 -- no door is shut
 pub no_door : (v : Story) (b : ℕ) → Kept v → added v.views (spot b 2) ≡ 0
-no_door v b kept = none_in (λ p. adds p (spot b 2)) v.views (λ d. adds_none (pending v d) b (kept.calm d))
+no_door v b kept = none_in (λ p. adds p (spot b 2)) v.views (λ d. adds_none (pending v d) b (kept.doors d))

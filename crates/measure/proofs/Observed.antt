@@ -1,0 +1,76 @@
+-- What a bag lists of a subject's observers.
+use Rattle.std.proofs.Common.{◌≡◌, ◌∷◌, ◌++◌, [], List, Option, None, Some, All, inl, inr, ap, refl, subst, sym, ◌∙◌}
+use Rattle.std.proofs.lemmas.List.Elements.{All-cons, All-head, All-nil, All-tail}
+use Rattle.std.proofs.lemmas.List.Sums.{fold-append}
+use Rattle.control_word.specs.Handles.{handle}
+use Rattle.control_word.specs.State.{Has}
+use Rattle.control_word.specs.declared.handle.Handle.{Handle}
+use Rattle.control_word.specs.declared.handle.Kind.{Kind}
+use Rattle.control_word.specs.declared.handle.Kind.TheVariants.{Owner, Weak}
+use Rattle.control_word.specs.declared.place.Block.{Block}
+use Rattle.control_word.specs.declared.place.Place.{Place}
+use Rattle.control_block.specs.Desks.{DeskNow, bag_of}
+use Rattle.control_block.specs.declared.handles.Shared.{Shared}
+use Rattle.shared_handle.specs.Calls.{Holds, with_handle}
+use Rattle.measure.specs.Observers.{IsOfObject, IsWatched, with_observer, with_observers, with_owner}
+use Rattle.measure.specs.declared.observers.Observer.{Observer}
+
+module _ {V : Type 0} where
+  -- the handle that a bag lists is the desk's
+  pub held_by : (d : DeskNow V) (k : Kind) (b : Option Block) (p : Option Place) (l : List Handle) → bag_of d ≡ l
+      → (x : Block) × (b ≡ Some x) × Has (handle k (Some x.0) p) l → Holds d k b p
+  held_by d k (Some y) p l same (x, is, has) =
+      let e : y ≡ x = cc is in
+      subst (λ (m : List Handle). Has (handle k (Some y.0) p) m) (sym same) (subst (λ (z : Block). Has (handle k (Some z.0) p) l) (sym e) has)
+  held_by d k None p l same (x, is, has) = absurd (cc is)
+
+  pub first_held : (d : DeskNow V) (k : Kind) (b : Option Block) (p : Option Place) (l : List Handle) → bag_of d ≡ with_handle k b p l
+      → (x : Block) × (b ≡ Some x) → Holds d k b p
+  first_held d k (Some y) p l same real = subst (λ (m : List Handle). Has (handle k (Some y.0) p) m) (sym same) (inl refl)
+  first_held d k None p l same (x, is) = absurd (cc is)
+
+-- the last observer's handles are the first in the bag
+pub last_first : (xs : List Observer) (o : Observer) (l : List Handle) → with_observers (xs ++ o ∷ []) l ≡ with_observer (with_observers xs l) o
+last_first xs o l = fold-append with_observer l xs (o ∷ [])
+
+-- further handles leave those listed that were
+more_listed : (h : Handle) (k : Kind) (b : Option Block) (p : Option Place) (l : List Handle) → Has h l → Has h (with_handle k b p l)
+more_listed h k (Some x) p l has = inr has
+more_listed h k None p l has = has
+
+with_owner_listed : (h : Handle) (o : Option Shared) (l : List Handle) → Has h l → Has h (with_owner o l)
+with_owner_listed h (Some s) l has = more_listed h Owner s.block s.place l has
+with_owner_listed h None l has = has
+
+listed_still : (h : Handle) (os : List Observer) (l : List Handle) → Has h l → Has h (with_observers os l)
+listed_still h [] l has = has
+listed_still h (o ∷ os) l has =
+    listed_still h os (with_observer l o) (more_listed h Weak o.weak.block o.weak.place (with_owner o.owner l) (with_owner_listed h o.owner l has))
+
+newest : (o : Observer) (l : List Handle) (b : Block) → o.weak.block ≡ Some b → Has (handle Weak (Some b.0) o.weak.place) (with_observer l o)
+newest o l b is = subst (λ (x : Option Block). Has (handle Weak (Some b.0) o.weak.place) (with_handle Weak x o.weak.place (with_owner o.owner l))) (sym is) (inl refl)
+
+-- the bag lists the weak handles of all
+watched : (os : List Observer) (l : List Handle) → All IsOfObject os → All (IsWatched (with_observers os l)) os
+watched [] l real = All-nil (IsWatched (with_observers [] l))
+watched (o ∷ os) l real =
+    let first = All-head IsOfObject o os real in
+    let still = listed_still (handle Weak (Some first.0.0.0) o.weak.place) os (with_observer l o) (newest o l first.0.0 first.0.1) in
+    All-cons (IsWatched (with_observers (o ∷ os) l)) o os (first.0.0, first.0.1, still) (watched os (with_observer l o) (All-tail IsOfObject o os real))
+
+-- a list with one more, and its handles
+pub listed_more : (before after base : List Handle) (xs ys : List Observer) (o : Observer) → ys ≡ xs ++ o ∷ [] → before ≡ with_observers xs base
+    → after ≡ with_observer before o → after ≡ with_observers ys base
+listed_more before after base xs ys o longer was is =
+    is ∙ ap (λ (l : List Handle). with_observer l o) was ∙ sym (last_first xs o base) ∙ sym (ap (λ (os : List Observer). with_observers os base) longer)
+
+-- the last one's handles stand before the others'
+pub listed_last : (bag base : List Handle) (xs ys : List Observer) (o : Observer) → ys ≡ xs ++ o ∷ [] → bag ≡ with_observers ys base
+    → bag ≡ with_observer (with_observers xs base) o
+listed_last bag base xs ys o longer was = was ∙ ap (λ (os : List Observer). with_observers os base) longer ∙ last_first xs o base
+
+pub watched_still : (before after : List Handle) (os : List Observer) → after ≡ before → All (IsWatched before) os → All (IsWatched after) os
+watched_still before after os same all = subst (λ (l : List Handle). All (IsWatched l) os) (sym same) all
+
+pub watched_in : (bag base : List Handle) (os : List Observer) → bag ≡ with_observers os base → All IsOfObject os → All (IsWatched bag) os
+watched_in bag base os is real = watched_still (with_observers os base) bag os is (watched os base real)

@@ -1,0 +1,72 @@
+-- Deeds that do nothing to a cell.
+use Rattle.std.proofs.Common.{◌≡◌, ◌≢◌, ℕ, suc, ◌<◌, List, [], ◌∷◌, length, refl, sym, ap, ◌∙◌, subst}
+use Rattle.std.proofs.lemmas.Bool.{cond_both, cond-false}
+use Rattle.control_word.proofs.lists.Tallies.{put_cases}
+use Rattle.control_word.specs.declared.handle.Handle.{Handle}
+use Rattle.control_word.specs.declared.view.Pending.{Pending}
+use Rattle.control_word.specs.declared.view.Pending.TheVariants.{Idle, Making, Merging, Parting, Paying, Visiting}
+use Rattle.control_word.specs.Events.{moved_to}
+use Rattle.control_word.specs.Handles.{empty}
+use Rattle.control_word.specs.State.{Object, ending, gone, kind_of_member, put}
+use Rattle.control_word.specs.Views.{owed, owes}
+use Rattle.step_core.specs.declared.past.Deed.{Deed}
+use Rattle.step_core.specs.declared.past.Deed.TheVariants.{Prepare, Write, Claim, Share, WeakShare, Leave, WeakLeave, Lock, Count, Expired, Clear, Finish}
+use Rattle.step_core.specs.Stories.{AllBare, IsCalm, IsPlain, Kept, Nothing, Plain, Story, after, object_in, pending, pending_after, state}
+use Rattle.step_core.proofs.tables.Doors.{none_in, pending_all}
+
+calm_deed : (v : Story) (d : ℕ) (x : Deed) → IsPlain x → IsCalm (pending_after v d x)
+calm_deed v d (Prepare b) plain = tt
+calm_deed v d (Write b j n) plain = tt
+calm_deed v d (Claim b enabled null fields) plain = tt
+calm_deed v d (Share b p q) plain = tt
+calm_deed v d (Leave b p last) plain = tt
+calm_deed v d (WeakShare b p) plain = tt
+calm_deed v d (WeakLeave b p vacant) plain = tt
+calm_deed v d (Lock b p got) plain = tt
+calm_deed v d (Count k b p n) plain = tt
+calm_deed v d (Expired k b p e) plain = tt
+calm_deed v d (Clear b m) plain = tt
+calm_deed v d (Finish b vacant) plain = tt
+
+abbrev IsBare : Object → Type 0
+IsBare x = (m : ℕ) → x.member m ≡ empty (kind_of_member m)
+
+-- an object is another, with as little in its members
+bare_put : (v : Story) (i : ℕ) (y : Object) → AllBare (state v) → IsBare y → (o m : ℕ) → (put (state v).object i y o).member m ≡ empty (kind_of_member m)
+bare_put v i y bare new o m =
+    put_cases (λ j (x : Object). x.member m ≡ empty (kind_of_member m)) (state v).object i y o (λ e. new m) (λ ne. bare o m)
+
+bare_after : (v : Story) (d : ℕ) (x : Deed) → IsPlain x → AllBare (state v) → AllBare (state (after v d x))
+bare_after v d (Prepare b) plain bare = bare
+bare_after v d (Write b j n) plain bare = bare
+bare_after v d (Claim b enabled null fields) plain bare = bare_put v (suc (state v).made) _ bare (λ m. refl)
+bare_after v d (Share b p q) plain bare = bare
+bare_after v d (Leave b p last) plain bare =
+    let x = (state v).object (object_in v b) in
+    bare_put v (object_in v b) _ bare
+    (cond_both last (moved_to (ending d) x) x (λ (y : Object). IsBare y) (λ t. bare (object_in v b)) (λ t. bare (object_in v b)))
+bare_after v d (WeakShare b p) plain bare = bare
+bare_after v d (WeakLeave b p vacant) plain bare = bare
+bare_after v d (Lock b p got) plain bare = bare
+bare_after v d (Count k b p n) plain bare = bare
+bare_after v d (Expired k b p e) plain bare = bare
+bare_after v d (Clear b m) plain bare =
+    bare_put v (object_in v b) _ bare (λ n. put_cases (λ j (k : Handle). k ≡ empty (kind_of_member j)) ((state v).object (object_in v b)).member m
+    (empty (kind_of_member m)) n (λ f. ap (λ (q : ℕ). empty (kind_of_member q)) (sym f)) (λ ne. bare (object_in v b) n))
+bare_after v d (Finish b vacant) plain bare = bare_put v (object_in v b) _ bare (bare (object_in v b))
+
+pub plain_after : (v : Story) (d : ℕ) (x : Deed) → d < length v.views → IsPlain x → Plain v → Plain (after v d x)
+plain_after v d x lt is plain =
+    record { bare = bare_after v d x is plain.bare; calm = pending_all (λ p. IsCalm p) v d x lt (calm_deed v d x is) plain.calm }
+
+owes_none : (p : Pending Nothing) (i : ℕ) → IsCalm p → owes p i ≡ 0
+owes_none Idle i calm = refl
+owes_none (Making b l) i calm = refl
+owes_none (Paying k o p word funds loads) i calm = absurd calm
+owes_none (Visiting o p word x) i calm = absurd calm
+owes_none (Parting to) i calm = absurd calm
+owes_none (Merging other x y) i calm = absurd calm
+
+-- no load is under way
+pub nothing_owed : (v : Story) (i : ℕ) → Plain v → owed v.views i ≡ 0
+nothing_owed v i plain = none_in (λ p. owes p i) v.views (λ d. owes_none (pending v d) i (plain.calm d))
