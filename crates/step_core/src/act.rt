@@ -3,6 +3,7 @@ ghost use Rattle.std.specs.Prelude.{◌≡◌, ◌<◌, ◌^◌, ◌++◌, ◌�
 ghost use Rattle.step_core.specs.Acts.{acts, numbered, puts, tasks_from};
 
 use crate::call::{Call, Name};
+use control_word::handle::Kind;
 use std::alloc::{AllocError, Global};
 
 /// A primitive act. What is taken comes into the hand, and `Put` moves it into a name and leaves what the name held.
@@ -26,6 +27,11 @@ pub enum Act {
     Count { name: u8 },
     /// Tells whether no owner is left.
     Expired { name: u8 },
+    /// Tells the field that a name points at. It is refused where that isn't in the object that the name owns.
+    Read { name: u8 },
+    /// Takes a pointer of this kind from the object that a name owns and points into. It is refused where the name points
+    /// elsewhere, or the object gives none.
+    FromThis { name: u8, kind: Kind },
 }
 
 /// What a make wants its object to be.

@@ -19,6 +19,9 @@ mod past;
 mod pointer;
 #[cfg(test)]
 mod run_tests;
+mod reading;
+#[cfg(test)]
+mod reading_tests;
 mod running;
 mod said;
 #[cfg(test)]
@@ -27,6 +30,9 @@ mod stock;
 mod table;
 #[cfg(test)]
 mod tests;
+mod this;
+#[cfg(test)]
+mod this_tests;
 mod thread;
 mod told;
 mod trace;
