@@ -67,7 +67,7 @@ ready_more n (Read k) ts f r = f r
 ready_more n (FromThis k kind) ts f r = r
 
 -- what is ready for a value in hand is ready for none
-ready_any : (n : ℕ) (ts : List Task) → Ready n true ts → Ready n false ts
+pub ready_any : (n : ℕ) (ts : List Task) → Ready n true ts → Ready n false ts
 ready_any n [] r = r
 ready_any n (t ∷ ts) r = (weaker n t.act r.0, ready_more n t.act ts (ready_any n ts) r.1)
 

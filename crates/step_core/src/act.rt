@@ -105,17 +105,16 @@ fn parts(call: Call) -> (Act, Option<Name>)
         | Call::WeakReset { name } => (Act::Leave { name: name.0 }, None),
         Call::Count { name } | Call::WeakCount { name } => (Act::Count { name: name.0 }, None),
         Call::Expired { name } => (Act::Expired { name: name.0 }, None),
-        Call::MakeThis { target: name, .. }
-        | Call::Null { target: name }
-        | Call::Move { target: name, .. }
+        Call::MakeThis { target, fields } => (make(fields, true, false), Some(target)),
+        Call::Null { target } => (make([0; 4], false, true), Some(target)),
+        Call::This { target, source } => (from_this(source, Kind::Owner), Some(target)),
+        Call::WeakThis { target, source } => (from_this(source, Kind::Weak), Some(target)),
+        Call::Read { name } => (Act::Read { name: name.0 }, None),
+        Call::Move { target: name, .. }
         | Call::Alias { target: name, .. }
-        | Call::AliasNull { target: name, .. }
-        | Call::This { target: name, .. }
-        | Call::WeakThis { target: name, .. } => (Act::Leave { name: name.0 }, None),
-        Call::Read { name }
-        | Call::Place { name }
-        | Call::Same { first: name, .. }
-        | Call::Before { first: name, .. } => (Act::Count { name: name.0 }, None),
+        | Call::AliasNull { target: name, .. } => (Act::Leave { name: name.0 }, None),
+        Call::Place { name } | Call::Same { first: name, .. } | Call::Before { first: name, .. } =>
+            (Act::Count { name: name.0 }, None),
     }
 }
 
@@ -129,6 +128,16 @@ fn make(fields: [u64; 4], enabled: bool, null: bool) -> Act
             enabled,
             null,
         },
+    }
+}
+
+/// A pointer of this kind from the object of a name.
+fn from_this(source: Name, kind: Kind) -> Act
+    ensures { result ≡ Act.FromThis source.0 kind }
+{
+    Act::FromThis {
+        name: source.0,
+        kind,
     }
 }
 

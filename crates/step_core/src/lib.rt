@@ -17,11 +17,11 @@ mod opening;
 mod opening_tests;
 mod past;
 mod pointer;
-#[cfg(test)]
-mod run_tests;
 mod reading;
 #[cfg(test)]
 mod reading_tests;
+#[cfg(test)]
+mod run_tests;
 mod running;
 mod said;
 #[cfg(test)]

@@ -4,6 +4,7 @@ ghost use Rattle.control_word.specs.declared.view.Pending.TheVariants.{Idle};
 ghost use Rattle.control_word.specs.State.{Has, held};
 ghost use Rattle.step_core.specs.Holdings.{inside_as, into};
 ghost use Rattle.step_core.specs.Scenes.{outside};
+ghost use Rattle.step_core.specs.declared.act.Act.{Act};
 ghost use Rattle.step_core.specs.Stories.{after, object_in, owner_in, pending, state};
 
 use crate::half::Half;
@@ -57,13 +58,7 @@ impl Holdings {
     }
 
     /// The field that the owner in a slot points at.
-    pub(crate) fn read(
-        &self,
-        desk: usize,
-        table: &mut Table,
-        from: usize,
-        pointer: Pointer,
-    ) -> u64
+    pub(crate) fn read(&self, desk: usize, table: &mut Table, from: usize, pointer: Pointer) -> u64
         requires seat { desk < table.old.extent.actors }
         requires idle { pending table.old desk ≡ Idle }
         requires holds { Holds desk self.now.slots.items table.old }

@@ -6,6 +6,7 @@ ghost use Rattle.control_word.specs.Events.{place_at};
 ghost use Rattle.control_word.specs.State.{Has, bag_size, held};
 ghost use Rattle.control_word.specs.Words.{flags_of};
 ghost use Rattle.step_core.specs.Deeds.{give, is_enabled, this_as};
+ghost use Rattle.step_core.specs.declared.act.Act.{Act};
 ghost use Rattle.step_core.specs.Stories.{after, handle_in, pending, state};
 
 use crate::half::Half;
@@ -97,13 +98,7 @@ impl Thread {
 
     /// The first step of a pointer from this: it looks whether the object gives any. It touches no word where the name
     /// doesn't point into the object that it owns.
-    pub(crate) fn from_this(
-        &mut self,
-        desk: usize,
-        table: &Table,
-        name: u8,
-        kind: Kind,
-    ) -> Stepped
+    pub(crate) fn from_this(&mut self, desk: usize, table: &Table, name: u8, kind: Kind) -> Stepped
         requires fits { Fits desk self.old table.now }
         requires rest { self.old.half ≡ Half.Rest }
         requires within { self.old.course.at < length self.old.course.tasks.items }
