@@ -24,10 +24,12 @@ mod reading_tests;
 mod run_tests;
 mod running;
 mod said;
+mod slot;
 #[cfg(test)]
 mod step_tests;
 mod stock;
 mod table;
+mod taking;
 #[cfg(test)]
 mod tests;
 mod this;

@@ -7,6 +7,7 @@ ghost use Rattle.control_word.specs.State.{Has, bag_size, held};
 ghost use Rattle.control_word.specs.Words.{flags_of};
 ghost use Rattle.step_core.specs.Deeds.{give, is_enabled, this_as};
 ghost use Rattle.step_core.specs.declared.act.Act.{Act};
+ghost use Rattle.step_core.specs.declared.slot.Slot.TheVariants.{Full};
 ghost use Rattle.step_core.specs.Stories.{after, handle_in, pending, state};
 
 use crate::half::Half;
@@ -82,7 +83,7 @@ impl Holdings {
         requires from { inside (slot self.old.slots.items from) ≡ Some pointer }
         requires inside { to < length self.old.slots.items }
         requires empty { slot self.old.slots.items to ≡ None }
-        ensures slots { self.new.slots.items ≡ slice_set self.old.slots.items to (Some (this_as kind pointer)) }
+        ensures slots { self.new.slots.items ≡ slice_set self.old.slots.items to (Full (this_as kind pointer)) }
         ensures table { table.new ≡ after table.old desk (give kind pointer) }
         ensures holds { Holds desk self.new.slots.items table.new }
     {

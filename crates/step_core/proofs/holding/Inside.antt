@@ -8,6 +8,7 @@ use Rattle.control_word.specs.declared.place.Place.{Place}
 use Rattle.control_word.specs.Handles.{IsPointer}
 use Rattle.control_word.specs.State.{Has, held}
 use Rattle.step_core.specs.declared.holdings.Pointer.{Pointer}
+use Rattle.step_core.specs.declared.slot.Slot.TheVariants.{Full}
 use Rattle.step_core.specs.Deeds.{give, this_as}
 use Rattle.step_core.specs.Holdings.{Holds, Slots, inside, inside_as, into, slot}
 use Rattle.step_core.specs.Stories.{Kept, Story, after, handle_in, owner_in, state}
@@ -50,7 +51,7 @@ module _ (d : ℕ) (slots : Slots) (v : Story) (i : ℕ) (x : Pointer) (holds : 
 -- a pointer that an object gives
 pub holds_give : (d : ℕ) (slots : Slots) (v : Story) (i : ℕ) (k : Kind) (x : Pointer) → Kept v → Holds d slots v
     → Has (held d (handle_in v x.kind x.block x.place)) (state v).hands → i < length slots → slot slots i ≡ None
-    → Holds d (set slots i (Some (this_as k x))) (after v d (give k x))
+    → Holds d (set slots i (Full (this_as k x))) (after v d (give k x))
 holds_give d slots v i k x kept holds has lt e = go k
   where
     fine : IsPointer (this_as k x).place
@@ -58,6 +59,6 @@ holds_give d slots v i k x kept holds has lt e = go k
         let t = (there v x.block kept (handle_busy v d x.kind x.block x.place kept has)).1 in
         let few = kept.proper.blocks in let low = t.0 in let high = t.1 in (low, omega (arith, high, few), omega arith)
 
-    go : (q : Kind) → Holds d (set slots i (Some (this_as q x))) (after v d (give q x))
+    go : (q : Kind) → Holds d (set slots i (Full (this_as q x))) (after v d (give q x))
     go Owner = holds_more d slots v (after v d (give Owner x)) i (this_as Owner x) holds refl refl fine lt e
     go Weak = holds_more d slots v (after v d (give Weak x)) i (this_as Weak x) holds refl refl fine lt e
