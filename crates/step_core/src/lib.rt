@@ -20,6 +20,9 @@ mod opening;
 mod opening_tests;
 mod past;
 mod pointer;
+mod reading;
+#[cfg(test)]
+mod reading_tests;
 #[cfg(test)]
 mod run_tests;
 mod running;
@@ -32,6 +35,9 @@ mod table;
 mod taking;
 #[cfg(test)]
 mod tests;
+mod this;
+#[cfg(test)]
+mod this_tests;
 mod thread;
 mod told;
 mod trace;

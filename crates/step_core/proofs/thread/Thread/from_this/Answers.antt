@@ -1,0 +1,15 @@
+use Rattle.std.proofs.Common.{sym, ◌∙◌}
+use Rattle.step_core.proofs.Giving.{fits_asked, refused_this}
+use Rattle.step_core.proofs.thread.Thread.from_this.Goals as goal
+
+pub take-requires-clause-ready : goal.take-requires-clause-ready
+take-requires-clause-ready c = refused_this c.args.self.now.course c.args.name c.args.kind c.requires.within c.requires.fits.ready c.requires.act
+
+pub take-requires-then-not-is_enabled-clause-ready : goal.take-requires-then-not-is_enabled-clause-ready
+take-requires-then-not-is_enabled-clause-ready c =
+    refused_this c.args.self.now.course c.args.name c.args.kind c.requires.within c.requires.fits.ready c.requires.act
+
+pub returns-clause-fits : goal.returns-clause-fits
+returns-clause-fits c =
+    fits_asked c.args.desk c.args.self.now c.args.table.now c.args.name c.args.kind c.in-Some.pointer c.requires.fits c.requires.rest c.requires.within
+    c.requires.act (sym c.inside.ensures ∙ c.in-Some.is) (sym c.is_enabled.ensures ∙ c.if-not-is_enabled.false)
