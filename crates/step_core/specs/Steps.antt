@@ -5,7 +5,7 @@ use Rattle.control_word.specs.State.{State, weak}
 use Rattle.control_word.specs.declared.handle.Kind.{Kind}
 use Rattle.control_word.specs.declared.handle.Kind.TheVariants.{Owner, Weak}
 use Rattle.step_core.specs.declared.act.Act.{Act}
-use Rattle.step_core.specs.declared.act.Act.TheVariants.{Make, Share, Downgrade, Lock, Put, Leave, Clear, Count, Expired}
+use Rattle.step_core.specs.declared.act.Act.TheVariants.{Make, Share, Alias, Move, Downgrade, Lock, Put, Leave, Clear, Count, Expired, Ask}
 use Rattle.step_core.specs.declared.act.Task.{Task}
 use Rattle.step_core.specs.declared.half.Half.{Half}
 use Rattle.step_core.specs.declared.half.Half.TheVariants.{Rest, Making, Ending, Locking}
@@ -17,8 +17,8 @@ use Rattle.step_core.specs.declared.said.Stepped.{Stepped}
 use Rattle.step_core.specs.declared.said.Stepped.TheVariants.{Event, Quiet, Done}
 use Rattle.step_core.specs.Actors.{wanted}
 use Rattle.step_core.specs.Courses.{Walk, fields_of, locked}
-use Rattle.step_core.specs.Deeds.{downgrade, is_last, leave, lock, owner_word, share, tell, tell_expired}
-use Rattle.step_core.specs.Holdings.{slot}
+use Rattle.step_core.specs.Deeds.{alias, aliased, downgrade, is_last, leave, lock, owner_word, share, tell, tell_expired}
+use Rattle.step_core.specs.Holdings.{owner_slot, place_in, slot}
 use Rattle.step_core.specs.Scenes.{answer_of, ended_of, full_answer, holding, least, on, went}
 use Rattle.step_core.specs.Stories.{Story, after, event_of, known, object_in, pending, state}
 
@@ -80,6 +80,10 @@ first v d w k ts (Count i) = acts (state v) d w k ts (Count i) (option_map (tell
 first v d w k ts (Downgrade i) = acts (state v) d w k ts (Downgrade i) (option_map downgrade (slot w.slots i)) Rest
 first v d w k ts (Lock i must) = let a = Lock i must in on (looks v d w k ts a) (acts (state v) d w k ts a None Rest) (locked w.slots a)
 first v d w k ts (Expired i) = acts (state v) d w k ts (Expired i) (option_map (tell_expired (state v)) (slot w.slots i)) Rest
+first v d w k ts (Alias i j field) =
+    acts (state v) d w k ts (Alias i j field) (option_map (alias (aliased field (place_in w.slots j))) (owner_slot (slot w.slots i))) Rest
+first v d w k ts (Move i) = acts (state v) d w k ts (Move i) None Rest
+first v d w k ts (Ask q) = acts (state v) d w k ts (Ask q) None Rest
 
 abbrev pub begun : Story → ℕ → Walk → List Task → Option Step
 begun v d w [] = None

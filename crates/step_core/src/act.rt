@@ -2,30 +2,75 @@
 ghost use Rattle.std.specs.Prelude.{◌≡◌, ◌<◌, ◌^◌, ◌++◌, ◌∷◌, length, IfOk, OnOk};
 ghost use Rattle.step_core.specs.Acts.{acts, numbered, puts, tasks_from};
 
-use crate::call::{Call, Name};
+use crate::call::{Call, Field, Name};
 use std::alloc::{AllocError, Global};
 
 /// A primitive act. What is taken comes into the hand, and `Put` moves it into a name and leaves what the name held.
 #[derive(Clone, Copy, Debug, PartialEq, Eq)]
 pub enum Act {
     /// Makes an object with these fields.
-    Make { fields: [u64; 4] },
+    Make {
+        fields: [u64; 4],
+    },
     /// Takes a copy of what a name holds.
-    Share { name: u8 },
+    Share {
+        name: u8,
+    },
+    /// Takes a shared pointer that shares ownership with what a name holds. It points at this field of what `of` points into,
+    /// and at null where `of` does or no field is named.
+    Alias {
+        name: u8,
+        of: u8,
+        field: Option<Field>,
+    },
+    /// Takes what a name holds, which becomes empty.
+    Move {
+        name: u8,
+    },
     /// Takes a weak pointer to the object of what a name holds.
-    Downgrade { name: u8 },
+    Downgrade {
+        name: u8,
+    },
     /// Takes an owner of the object of a weak name, if an owner is left. Where it `must`, it is refused without one.
-    Lock { name: u8, must: bool },
+    Lock {
+        name: u8,
+        must: bool,
+    },
     /// Leaves what a name holds, and puts there what was taken. It is no act where nothing was taken, or the name is empty.
-    Put { name: u8 },
+    Put {
+        name: u8,
+    },
     /// Leaves what a name holds.
-    Leave { name: u8 },
+    Leave {
+        name: u8,
+    },
     /// Leaves what a name holds. It is no act where the name is empty.
-    Clear { name: u8 },
+    Clear {
+        name: u8,
+    },
     /// Tells how many owners there are.
-    Count { name: u8 },
+    Count {
+        name: u8,
+    },
     /// Tells whether no owner is left.
-    Expired { name: u8 },
+    Expired {
+        name: u8,
+    },
+    /// Tells something of pointers that touches no word.
+    Ask {
+        question: Question,
+    },
+}
+
+/// What is told of the pointers of names, by their values alone.
+#[derive(Clone, Copy, Debug, PartialEq, Eq)]
+pub enum Question {
+    /// Where a name points.
+    Place { name: u8 },
+    /// Whether two names point at one place.
+    Same { first: u8, second: u8 },
+    /// Whether the first name comes before the second by what they own.
+    Before { first: u8, second: u8 },
 }
 
 /// An act, with the number of its statement from 1, or 0 at the end of its thread.
@@ -88,17 +133,63 @@ fn parts(call: Call) -> (Act, Option<Name>)
         | Call::WeakReset { name } => (Act::Leave { name: name.0 }, None),
         Call::Count { name } | Call::WeakCount { name } => (Act::Count { name: name.0 }, None),
         Call::Expired { name } => (Act::Expired { name: name.0 }, None),
+        Call::Move { target, source } => (Act::Move { name: source.0 }, Some(target)),
+        Call::Alias {
+            target,
+            source,
+            of,
+            field,
+        } => (alias(source, of, Some(field)), Some(target)),
+        Call::AliasNull { target, source } => (alias(source, source, None), Some(target)),
+        Call::Place { name } => (place(name), None),
+        Call::Same { first, second } => (same(first, second), None),
+        Call::Before { first, second } => (before(first, second), None),
         Call::MakeThis { target: name, .. }
         | Call::Null { target: name }
-        | Call::Move { target: name, .. }
-        | Call::Alias { target: name, .. }
-        | Call::AliasNull { target: name, .. }
         | Call::This { target: name, .. }
         | Call::WeakThis { target: name, .. } => (Act::Leave { name: name.0 }, None),
-        Call::Read { name }
-        | Call::Place { name }
-        | Call::Same { first: name, .. }
-        | Call::Before { first: name, .. } => (Act::Count { name: name.0 }, None),
+        Call::Read { name } => (Act::Count { name: name.0 }, None),
+    }
+}
+
+/// The question whether two names point at one place.
+fn same(first: Name, second: Name) -> Act
+    ensures { result ≡ Act.Ask (Question.Same first.0 second.0) }
+{
+    let question = Question::Same {
+        first: first.0,
+        second: second.0,
+    };
+    Act::Ask { question }
+}
+
+/// The question whether a name comes before another.
+fn before(first: Name, second: Name) -> Act
+    ensures { result ≡ Act.Ask (Question.Before first.0 second.0) }
+{
+    let question = Question::Before {
+        first: first.0,
+        second: second.0,
+    };
+    Act::Ask { question }
+}
+
+/// The question where a name points.
+fn place(name: Name) -> Act
+    ensures { result ≡ Act.Ask (Question.Place name.0) }
+{
+    let question = Question::Place { name: name.0 };
+    Act::Ask { question }
+}
+
+/// An alias of a name, with a field of what another points into.
+fn alias(source: Name, of: Name, field: Option<Field>) -> Act
+    ensures { result ≡ Act.Alias source.0 of.0 field }
+{
+    Act::Alias {
+        name: source.0,
+        of: of.0,
+        field,
     }
 }
 

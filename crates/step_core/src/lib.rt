@@ -32,6 +32,9 @@ mod tests;
 mod thread;
 mod told;
 mod trace;
+#[cfg(test)]
+mod value_tests;
+mod values;
 mod weak;
 #[cfg(test)]
 mod weak_tests;

@@ -69,6 +69,9 @@ impl Thread {
             Act::Downgrade { name } => self.downgrade(desk, table, name),
             Act::Lock { name, must } => self.lock(desk, table, name, must),
             Act::Expired { name } => self.expired(desk, table, name),
+            Act::Alias { name, of, field } => self.alias(desk, table, name, of, field),
+            Act::Move { name } => self.pull(desk, table, name),
+            Act::Ask { question } => self.reply(desk, table, question),
         }
     }
 
@@ -270,7 +273,7 @@ pub(crate) fn silent(statement: u32) -> Said
 }
 
 /// A step that is an event, or none.
-fn says(event: bool, said: Said) -> Stepped
+pub(crate) fn says(event: bool, said: Said) -> Stepped
     ensures { result ≡ cond event (Stepped.Event said) (Stepped.Quiet said) }
 {
     if event {

@@ -8,7 +8,7 @@ use Rattle.control_word.specs.declared.place.Block.{Block}
 use Rattle.control_word.specs.Events.{place_at}
 use Rattle.control_word.specs.State.{weak}
 use Rattle.step_core.specs.declared.act.Act.{Act}
-use Rattle.step_core.specs.declared.act.Act.TheVariants.{Make, Share, Downgrade, Lock, Put, Leave, Clear, Count, Expired}
+use Rattle.step_core.specs.declared.act.Act.TheVariants.{Make, Share, Alias, Move, Downgrade, Lock, Put, Leave, Clear, Count, Expired, Ask}
 use Rattle.step_core.specs.declared.act.Task.{Task}
 use Rattle.step_core.specs.declared.half.Half.{Half}
 use Rattle.step_core.specs.declared.half.Half.TheVariants.{Rest, Making, Ending, Locking}
@@ -16,11 +16,11 @@ use Rattle.step_core.specs.declared.holdings.Pointer.{Pointer}
 use Rattle.step_core.specs.declared.past.Deed.TheVariants as deed
 use Rattle.step_core.specs.Actors.{wanted}
 use Rattle.step_core.specs.Bounds.{spare}
-use Rattle.step_core.specs.Courses.{Walk, fields_of, hand, locked, placed}
-use Rattle.step_core.specs.Deeds.{as_weak, is_last, lock, owner_word}
+use Rattle.step_core.specs.Courses.{Walk, fields_of, hand, locked, passed, placed}
+use Rattle.step_core.specs.Deeds.{aliased, as_weak, is_last, lock, owner_word}
 use Rattle.step_core.specs.declared.slot.Slot.TheVariants.{Full}
-use Rattle.step_core.specs.Holdings.{Slots, filled, is_full, plain, slot, value}
-use Rattle.step_core.specs.Scenes.{found, least, on, taking}
+use Rattle.step_core.specs.Holdings.{Slots, filled, is_full, owner_slot, place_in, plain, slot, value}
+use Rattle.step_core.specs.Scenes.{alias_of, found, least, on, taking}
 use Rattle.step_core.specs.Steps.{Step, acts, begins, begun, claims, end_as, end_of, ends_on, first, looks, made_on, prepares}
 use Rattle.step_core.specs.Steps.{silent, step_at, story_after, tried, tries, trying}
 use Rattle.step_core.specs.Stories.{Story, known, object_in, pending, state}
@@ -144,6 +144,12 @@ first_less v d w t ts (Count i) is same = over_less v _ Rest w _ (length ts) (se
 first_less v d w t ts (Downgrade i) is same =
     over_less v _ Rest w _ (length ts) (settled_less (slice_set w.slots (hand w.slots) (filled (option_map as_weak (slot w.slots i)))) true ts) (omega arith, omega arith)
 first_less v d w t ts (Lock i must) is same = looked_less v d t.statement w t ts i must (locked w.slots (Lock i must)) is same refl
+first_less v d w t ts (Alias i j field) is same =
+    let p = alias_of (aliased field (place_in w.slots j)) (owner_slot (slot w.slots i)) in
+    over_less v _ Rest w _ (length ts) (settled_less (slice_set w.slots (hand w.slots) p) true ts) (omega arith, omega arith)
+first_less v d w t ts (Move i) is same =
+    over_less v _ Rest w _ (length ts) (settled_less (passed i (hand w.slots) w.slots) true ts) (omega arith, omega arith)
+first_less v d w t ts (Ask q) is same = over_less v _ Rest w _ (length ts) (settled_less w.slots w.taken ts) (omega arith, omega arith)
 first_less v d w t ts (Expired i) is same = over_less v _ Rest w _ (length ts) (settled_less w.slots w.taken ts) (omega arith, omega arith)
 
 rest_less : (v : Story) (d : ℕ) (w : Walk) (ts : List Task) → w.todo ≡ ts → IsLess v d Rest w (length ts) (begun v d w ts)
@@ -206,6 +212,9 @@ tried_less v d word w t ts (Leave i) (Some x) is same e full = cc
 tried_less v d word w t ts (Clear i) (Some x) is same e full = cc
 tried_less v d word w t ts (Count i) (Some x) is same e full = cc
 tried_less v d word w t ts (Expired i) (Some x) is same e full = cc
+tried_less v d word w t ts (Alias i j field) (Some x) is same e full = cc
+tried_less v d word w t ts (Move i) (Some x) is same e full = cc
+tried_less v d word w t ts (Ask q) (Some x) is same e full = cc
 
 lock_less : (v : Story) (d word : ℕ) (w : Walk) (ts : List Task) → w.todo ≡ ts → IsLock w.slots ts
     → IsLess v d (Locking word) w (length ts) (tried v d w word ts)

@@ -11,7 +11,7 @@ use Rattle.control_word.specs.declared.place.Block.{Block}
 use Rattle.control_word.specs.declared.place.Place.{Place}
 use Rattle.control_word.specs.State.{weak}
 use Rattle.step_core.specs.declared.act.Act.{Act}
-use Rattle.step_core.specs.declared.act.Act.TheVariants.{Make, Share, Downgrade, Lock, Put, Leave, Clear, Count, Expired}
+use Rattle.step_core.specs.declared.act.Act.TheVariants.{Make, Share, Alias, Move, Downgrade, Lock, Put, Leave, Clear, Count, Expired, Ask}
 use Rattle.step_core.specs.declared.act.Task.{Task}
 use Rattle.step_core.specs.declared.half.Half.{Half}
 use Rattle.step_core.specs.declared.half.Half.TheVariants.{Rest, Making, Ending, Locking}
@@ -24,9 +24,9 @@ use Rattle.step_core.specs.declared.said.Stepped.TheVariants as stepped
 use Rattle.step_core.specs.declared.trace.TraceStep.{TraceStep}
 use Rattle.step_core.specs.Actors.{wanted}
 use Rattle.step_core.specs.Courses.{Walk, fields_of, locked}
-use Rattle.step_core.specs.Deeds.{downgrade, is_last as is_last_of, leave, leave_as, lock, owned, owner_word, share, share_as, tell, tell_expired}
+use Rattle.step_core.specs.Deeds.{alias, aliased, downgrade, is_last as is_last_of, leave, leave_as, lock, owned, owner_word, share, share_as, tell, tell_expired}
 use Rattle.step_core.specs.Headline.{LastLeft, TellsWhatIsLeft, ended_by}
-use Rattle.step_core.specs.Holdings.{slot}
+use Rattle.step_core.specs.Holdings.{owner_slot, place_in, slot}
 use Rattle.step_core.specs.Scenes.{ended_by as ended_of, least, on, remains, remains_as}
 use Rattle.step_core.specs.Steps.{Step, acts, begins, begun, claims, ends_on, first, is_event, looks, made_on, prepares, silent, step_at}
 use Rattle.step_core.specs.Steps.{stepped as stepped_by, story_after, story_by, tried, tries, trying}
@@ -67,6 +67,10 @@ downgrade_tells : (v : Story) (o : Option Pointer) → None ≡ left_by v (optio
 downgrade_tells v None = refl
 downgrade_tells v (Some x) = refl
 
+alias_tells : (v : Story) (p : Option Place) (o : Option Pointer) → None ≡ left_by v (option_map (alias p) o)
+alias_tells v p None = refl
+alias_tells v p (Some x) = refl
+
 count_tells : (v : Story) (o : Option Pointer) → None ≡ left_by v (option_map (tell (state v)) o)
 count_tells v None = refl
 count_tells v (Some x) = refl
@@ -98,6 +102,9 @@ try_tells v d k word w ts (Leave i) (Some x) e = cc
 try_tells v d k word w ts (Clear i) (Some x) e = cc
 try_tells v d k word w ts (Count i) (Some x) e = cc
 try_tells v d k word w ts (Expired i) (Some x) e = cc
+try_tells v d k word w ts (Alias i j field) (Some x) e = cc
+try_tells v d k word w ts (Move i) (Some x) e = cc
+try_tells v d k word w ts (Ask q) (Some x) e = cc
 
 tried_tells : (v : Story) (d word : ℕ) (w : Walk) (ts : List Task) → Tells v (tried v d w word ts)
 tried_tells v d word w [] = tt
@@ -117,6 +124,9 @@ first_tells v d k w ts (Count i) = count_tells v (slot w.slots i)
 first_tells v d k w ts (Downgrade i) = downgrade_tells v (slot w.slots i)
 first_tells v d k w ts (Lock i must) = look_tells v d k i must w ts (locked w.slots (Lock i must))
 first_tells v d k w ts (Expired i) = expired_tells v (slot w.slots i)
+first_tells v d k w ts (Alias i j field) = alias_tells v (aliased field (place_in w.slots j)) (owner_slot (slot w.slots i))
+first_tells v d k w ts (Move i) = refl
+first_tells v d k w ts (Ask q) = refl
 
 rest_tells : (v : Story) (d : ℕ) (w : Walk) (ts : List Task) → Tells v (begun v d w ts)
 rest_tells v d w [] = tt

@@ -3,9 +3,10 @@ use Rattle.std.proofs.Common.{◌≡◌, ℕ, ◌<◌, ◌==◌, Bool, true, fal
 use Rattle.std.specs.Prelude.{Option, Some, None, option_map}
 use Rattle.std.proofs.lemmas.Bool.{cond_both, false≢true}
 use Rattle.control_word.specs.declared.place.Block.{Block}
+use Rattle.control_word.specs.declared.place.Place.{Place}
 use Rattle.control_word.specs.State.{State}
 use Rattle.step_core.specs.declared.act.Act.{Act}
-use Rattle.step_core.specs.declared.act.Act.TheVariants.{Make, Share, Downgrade, Lock, Put, Leave, Clear, Count, Expired}
+use Rattle.step_core.specs.declared.act.Act.TheVariants.{Make, Share, Alias, Move, Downgrade, Lock, Put, Leave, Clear, Count, Expired, Ask}
 use Rattle.step_core.specs.declared.act.Task.{Task}
 use Rattle.step_core.specs.declared.half.Half.{Half}
 use Rattle.step_core.specs.declared.half.Half.TheVariants.{Rest, Making, Ending, Locking}
@@ -19,12 +20,12 @@ use Rattle.control_word.specs.declared.handle.Kind.{Kind}
 use Rattle.control_word.specs.declared.handle.Kind.TheVariants.{Owner, Weak}
 use Rattle.control_word.specs.Histories.{entry}
 use Rattle.step_core.specs.Courses.{Walk, locked}
-use Rattle.step_core.specs.Deeds.{downgrade, is_last, leave, leave_as, lock, owned, owner_word, share, share_as, tell, tell_expired}
-use Rattle.step_core.specs.Holdings.{slot}
+use Rattle.step_core.specs.Deeds.{alias, aliased, downgrade, is_last, leave, leave_as, lock, owned, owner_word, share, share_as, tell, tell_expired}
+use Rattle.step_core.specs.Holdings.{owner_slot, place_in, slot}
 use Rattle.step_core.specs.Openings.{opening}
 use Rattle.step_core.specs.Scenes.{History, Scene, acted, answer_of, ended_of, ends_as, full_answer, holding, least, leaves, left_as, made, on, shared_as}
 use Rattle.step_core.specs.Scenes.{play_from, said_from}
-use Rattle.step_core.specs.Scenes.{counts, downgrades, expires, locks, shares, walk_of, went}
+use Rattle.step_core.specs.Scenes.{aliases, counts, downgrades, expires, locks, shares, walk_of, went}
 use Rattle.step_core.specs.Steps.{Step, acts, begins, begun, end_as, end_of, first, is_event, looks, step_at, stepped, story_after, trying}
 use Rattle.step_core.specs.Stories.{Story, after, state}
 use Rattle.step_core.specs.Turning.{HasBegun, Plays, is_acting, is_ending, is_locking, is_making, turned, turned_by}
@@ -94,6 +95,10 @@ shared d v (Some x) w = go x.kind
     go Owner = refl
     go Weak = refl
 
+shared_at : (d : ℕ) (v : Story) (p : Option Place) (o : Option Pointer) → Told d v (alias p) (aliases p (opening v.extent) d v.history) o
+shared_at d v p None w = refl
+shared_at d v p (Some x) w = refl
+
 downgraded : (d : ℕ) (v : Story) (o : Option Pointer) → Told d v downgrade (downgrades (opening v.extent) d v.history) o
 downgraded d v None w = refl
 downgraded d v (Some x) w = refl
@@ -146,6 +151,9 @@ lock_so d u k ts (Leave i) x e = cc
 lock_so d u k ts (Clear i) x e = cc
 lock_so d u k ts (Count i) x e = cc
 lock_so d u k ts (Expired i) x e = cc
+lock_so d u k ts (Alias i j field) x e = cc
+lock_so d u k ts (Move i) x e = cc
+lock_so d u k ts (Ask q) x e = cc
 
 -- a lock of nothing
 lose_so : (d : ℕ) (u : Sight) (k : ℕ) (ts : List Task) (i : ℕ) (must : Bool) → locked (walk_of (scene u) d).slots (Lock i must) ≡ None
@@ -191,6 +199,10 @@ acts_so d u k ts (Count i) is = (refl, counted d u.story (slot (walk_of (scene u
 acts_so d u k ts (Downgrade i) is = (refl, downgraded d u.story (slot (walk_of (scene u) d).slots i) _)
 acts_so d u k ts (Lock i must) is = looks_so d u k ts i must (locked (walk_of (scene u) d).slots (Lock i must)) refl is
 acts_so d u k ts (Expired i) is = (refl, expired d u.story (slot (walk_of (scene u) d).slots i) _)
+acts_so d u k ts (Alias i j field) is =
+    let w = walk_of (scene u) d in (refl, shared_at d u.story (aliased field (place_in w.slots j)) (owner_slot (slot w.slots i)) _)
+acts_so d u k ts (Move i) is = (refl, refl)
+acts_so d u k ts (Ask q) is = (refl, refl)
 
 -- what a thread does whose next act is this
 pub plays_as : (d : ℕ) (u : Sight) (t : Task) (ts : List Task) (x : Step) (r : Stepped) → (walk_of (scene u) d).todo ≡ t ∷ ts → step_of d u ≡ Some x
@@ -279,6 +291,9 @@ first_same d u k ts (Count i) is = absurd (false≢true is)
 first_same d u k ts (Downgrade i) is = absurd (false≢true is)
 first_same d u k ts (Lock i must) is = looks_same d u k ts (Lock i must) (locked (walk_of (scene u) d).slots (Lock i must)) is
 first_same d u k ts (Expired i) is = absurd (false≢true is)
+first_same d u k ts (Alias i j field) is = absurd (false≢true is)
+first_same d u k ts (Move i) is = absurd (false≢true is)
+first_same d u k ts (Ask q) is = absurd (false≢true is)
 
 -- a make that has just begun
 begun_same : (d : ℕ) (u : Sight) (ts : List Task) → half_of u d ≡ Rest → (walk_of (scene u) d).todo ≡ ts → d < length u.halves
