@@ -1,7 +1,7 @@
 -- A thread at its start fits the table.
-use Rattle.std.proofs.Common.{◌≡◌, ℕ, zero, suc, ◌+◌, ◌<◌, ◌≤◌, Bool, false, List, [], ◌∷◌, ◌++◌, length}
+use Rattle.std.proofs.Common.{◌≡◌, ℕ, zero, suc, ◌+◌, ◌<◌, ◌≤◌, Bool, false, List, [], ◌∷◌, ◌++◌, length, Option}
 use Rattle.std.proofs.Common.{get_or, replicate, refl, sym, ap, subst, ◌∙◌, arith}
-use Rattle.std.specs.Prelude.{All, Some, slice_get}
+use Rattle.std.specs.Prelude.{All, Some, None, slice_get}
 use Rattle.std.proofs.lemmas.List.{length-replicate}
 use Rattle.std.proofs.lemmas.List.Elements.{All-head, All-tail}
 use Rattle.control_word.specs.declared.handle.Handle.{Handle}
@@ -74,9 +74,18 @@ call_ready kinds k (call.WeakCount t) ts named four r = (name_within kinds (call
 call_ready kinds k (call.Expired t) ts named four r = (name_within kinds (call.Expired t) 0 (weak t) (omega arith) refl named, r)
 call_ready kinds k (call.MakeThis t f) ts named four r = ((refl, four), (name_within kinds (call.MakeThis t f) 0 (owner t) (omega arith) refl named, r))
 call_ready kinds k (call.Null t) ts named four r = ((refl, refl), (name_within kinds (call.Null t) 0 (owner t) (omega arith) refl named, r))
-call_ready kinds k (call.Move t s) ts named four r = (name_within kinds (call.Move t s) 0 (owner t) (omega arith) refl named, r)
-call_ready kinds k (call.Alias t s o f) ts named four r = (name_within kinds (call.Alias t s o f) 0 (owner t) (omega arith) refl named, r)
-call_ready kinds k (call.AliasNull t s) ts named four r = (name_within kinds (call.AliasNull t s) 0 (owner t) (omega arith) refl named, r)
+call_ready kinds k (call.Move t s) ts named four r = (
+  (name_within kinds (call.Move t s) 1 (owner s) (omega arith) refl named, refl),
+  (name_within kinds (call.Move t s) 0 (owner t) (omega arith) refl named, r),
+)
+call_ready kinds k (call.Alias t s o f) ts named four r = (
+  (name_within kinds (call.Alias t s o f) 1 (owner s) (omega arith) refl named, name_within kinds (call.Alias t s o f) 2 (owner o) (omega arith) refl named, refl),
+  (name_within kinds (call.Alias t s o f) 0 (owner t) (omega arith) refl named, r),
+)
+call_ready kinds k (call.AliasNull t s) ts named four r = (
+  (name_within kinds (call.AliasNull t s) 1 (owner s) (omega arith) refl named, name_within kinds (call.AliasNull t s) 1 (owner s) (omega arith) refl named, refl),
+  (name_within kinds (call.AliasNull t s) 0 (owner t) (omega arith) refl named, r),
+)
 call_ready kinds k (call.This t s) ts named four r = (
   (name_within kinds (call.This t s) 1 (owner s) (omega arith) refl named, refl),
   (name_within kinds (call.This t s) 0 (owner t) (omega arith) refl named, r),
@@ -87,8 +96,8 @@ call_ready kinds k (call.WeakThis t s) ts named four r = (
 )
 call_ready kinds k (call.Read t) ts named four r = (name_within kinds (call.Read t) 0 (owner t) (omega arith) refl named, r)
 call_ready kinds k (call.Place t) ts named four r = (name_within kinds (call.Place t) 0 (owner t) (omega arith) refl named, r)
-call_ready kinds k (call.Same t s) ts named four r = (name_within kinds (call.Same t s) 0 (owner t) (omega arith) refl named, r)
-call_ready kinds k (call.Before t s) ts named four r = (name_within kinds (call.Before t s) 0 (either t) (omega arith) refl named, r)
+call_ready kinds k (call.Same t s) ts named four r = ((name_within kinds (call.Same t s) 0 (owner t) (omega arith) refl named, name_within kinds (call.Same t s) 1 (owner s) (omega arith) refl named), r)
+call_ready kinds k (call.Before t s) ts named four r = ((name_within kinds (call.Before t s) 0 (either t) (omega arith) refl named, name_within kinds (call.Before t s) 1 (either s) (omega arith) refl named), r)
 call_ready kinds k (call.Copy t s) ts named four r = (
   (name_within kinds (call.Copy t s) 1 (owner s) (omega arith) refl named, refl),
   (name_within kinds (call.Copy t s) 0 (owner t) (omega arith) refl named, r),

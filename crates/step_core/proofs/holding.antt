@@ -5,3 +5,4 @@ pub mod Others
 pub mod Owning
 pub mod Slots
 pub mod Storing
+pub mod Values

@@ -6,9 +6,11 @@ use Rattle.control_word.specs.declared.place.Place.{Place}
 use Rattle.control_word.specs.Events.{is_gone, place_at}
 use Rattle.control_word.specs.Layout.{spot}
 use Rattle.control_word.specs.State.{Object, State, count, weak}
+use Rattle.step_core.specs.declared.call.Field.{Field}
 use Rattle.step_core.specs.declared.holdings.Pointer.{Pointer}
 use Rattle.step_core.specs.declared.past.Deed.{Deed}
 use Rattle.step_core.specs.declared.past.Deed.TheVariants as deed
+use Rattle.step_core.specs.Programs.{field_number}
 use Rattle.step_core.specs.Stories.{Story}
 
 -- the object that a pointer owns or shares: no other keeps the block
@@ -41,6 +43,19 @@ share_as Weak x = deed.WeakShare x.block x.place
 
 abbrev pub share : Pointer → Deed
 share x = share_as x.kind x
+
+-- a field of what a place points into; null has none
+abbrev pub aliased : Option Field → Option Place → Option Place
+aliased None p = None
+aliased (Some field) None = None
+aliased (Some field) (Some p) = Some (record { block = p.block; field = field_number field })
+
+-- an owner of the same object with another place ([util.smartptr.shared.const], the aliasing constructor)
+abbrev pub at_place : Option Place → Pointer → Pointer
+at_place p x = record { kind = Owner; block = x.block; place = p }
+
+abbrev pub alias : Option Place → Pointer → Deed
+alias p x = deed.Share x.block x.place p
 
 -- a weak pointer to the same object
 abbrev pub downgrade : Pointer → Deed

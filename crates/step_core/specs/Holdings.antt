@@ -81,6 +81,15 @@ abbrev pub inside : Option Pointer → Option Pointer
 inside None = None
 inside (Some x) = inside_as x.kind x
 
+-- the owner in a slot, if there is one
+abbrev pub owner_as : Kind → Pointer → Option Pointer
+owner_as Owner x = Some x
+owner_as Weak x = None
+
+abbrev pub owner_slot : Option Pointer → Option Pointer
+owner_slot None = None
+owner_slot (Some x) = owner_as x.kind x
+
 -- how often the handle is in the slots, and how many slots are full
 abbrev pub owns : Story → Slots → Handle → ℕ
 owns v slots h = length (filter (is_it v h) slots)

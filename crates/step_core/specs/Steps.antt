@@ -6,7 +6,7 @@ use Rattle.control_word.specs.declared.handle.Kind.{Kind}
 use Rattle.control_word.specs.declared.handle.Kind.TheVariants.{Owner, Weak}
 use Rattle.step_core.specs.declared.act.Act.{Act}
 use Rattle.step_core.specs.declared.act.Form.{Form}
-use Rattle.step_core.specs.declared.act.Act.TheVariants.{Make, Share, Downgrade, Lock, Put, Leave, Clear, Count, Expired, Read, FromThis}
+use Rattle.step_core.specs.declared.act.Act.TheVariants.{Make, Share, Downgrade, Lock, Put, Leave, Clear, Count, Expired, Read, FromThis, Alias, Move, Ask}
 use Rattle.step_core.specs.declared.act.Task.{Task}
 use Rattle.step_core.specs.declared.half.Half.{Half}
 use Rattle.step_core.specs.declared.half.Half.TheVariants.{Rest, Making, Ending, Locking, Giving}
@@ -18,8 +18,8 @@ use Rattle.step_core.specs.declared.said.Stepped.{Stepped}
 use Rattle.step_core.specs.declared.said.Stepped.TheVariants.{Event, Quiet, Done}
 use Rattle.step_core.specs.Actors.{wanted}
 use Rattle.step_core.specs.Courses.{Walk, form_of, locked, settled}
-use Rattle.step_core.specs.Deeds.{downgrade, give, is_enabled, is_last, leave, lock, owner_word, read, share, tell, tell_expired}
-use Rattle.step_core.specs.Holdings.{inside, slot}
+use Rattle.step_core.specs.Deeds.{downgrade, give, is_enabled, is_last, leave, lock, owner_word, read, share, tell, tell_expired, alias, aliased}
+use Rattle.step_core.specs.Holdings.{inside, slot, owner_slot, place_in}
 use Rattle.step_core.specs.Scenes.{answer_of, ended_of, full_answer, holding, least, on, went}
 use Rattle.step_core.specs.Stories.{Story, after, event_of, known, object_in, pending, state}
 
@@ -89,6 +89,10 @@ first v d w k ts (Lock i must) = let a = Lock i must in on (looks v d w k ts a) 
 first v d w k ts (Expired i) = acts (state v) d w k ts (Expired i) (option_map (tell_expired (state v)) (slot w.slots i)) Rest
 first v d w k ts (Read i) = acts (state v) d w k ts (Read i) (option_map (read (state v)) (inside (slot w.slots i))) Rest
 first v d w k ts (FromThis i kind) = on (asks v d w k ts i kind) (acts (state v) d w k ts (FromThis i kind) None Rest) (inside (slot w.slots i))
+first v d w k ts (Alias i j field) =
+    acts (state v) d w k ts (Alias i j field) (option_map (alias (aliased field (place_in w.slots j))) (owner_slot (slot w.slots i))) Rest
+first v d w k ts (Move i) = acts (state v) d w k ts (Move i) None Rest
+first v d w k ts (Ask q) = acts (state v) d w k ts (Ask q) None Rest
 
 abbrev pub begun : Story → ℕ → Walk → List Task → Option Step
 begun v d w [] = None

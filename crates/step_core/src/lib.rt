@@ -41,6 +41,9 @@ mod this_tests;
 mod thread;
 mod told;
 mod trace;
+#[cfg(test)]
+mod value_tests;
+mod values;
 mod weak;
 #[cfg(test)]
 mod weak_tests;

@@ -12,7 +12,7 @@ use Rattle.control_word.specs.declared.place.Block.{Block}
 use Rattle.control_word.specs.Histories.{entry}
 use Rattle.control_word.specs.State.{State, weak}
 use Rattle.step_core.specs.declared.act.Act.{Act}
-use Rattle.step_core.specs.declared.act.Act.TheVariants.{Make, Share, Downgrade, Lock, Put, Leave, Clear, Count, Expired, Read, FromThis}
+use Rattle.step_core.specs.declared.act.Act.TheVariants.{Make, Share, Downgrade, Lock, Put, Leave, Clear, Count, Expired, Read, FromThis, Alias, Move, Ask}
 use Rattle.step_core.specs.declared.act.Task.{Task}
 use Rattle.step_core.specs.declared.half.Half.{Half}
 use Rattle.step_core.specs.declared.half.Half.TheVariants.{Rest, Making, Ending, Locking, Giving}
@@ -25,9 +25,9 @@ use Rattle.step_core.specs.declared.said.Stepped.TheVariants as stepped
 use Rattle.step_core.specs.declared.trace.TraceStep.{TraceStep}
 use Rattle.step_core.specs.Actors.{wanted}
 use Rattle.step_core.specs.Courses.{Walk, form_of, locked}
-use Rattle.step_core.specs.Deeds.{give, is_enabled, read, as_owner, downgrade, is_expired, is_last, leave, leave_as, lock, owner_word, share, share_as, tell, tell_expired}
+use Rattle.step_core.specs.Deeds.{give, is_enabled, read, as_owner, downgrade, is_expired, is_last, leave, leave_as, lock, owner_word, share, share_as, tell, tell_expired, alias, aliased}
 use Rattle.step_core.specs.Headline.{TellsLocks, Was, answer_by}
-use Rattle.step_core.specs.Holdings.{inside, is_full, slot}
+use Rattle.step_core.specs.Holdings.{inside, is_full, slot, owner_slot, place_in}
 use Rattle.step_core.specs.Scenes.{found, least, lock_answer, on, walk_of}
 use Rattle.step_core.specs.Steps.{asks, given as given_by, Step, acts, begins, begun, claims, ends_on, first, is_event, looks, made_on, prepares, silent, step_at, stepped as stepped_by, story_after, story_by, tried, tries, trying}
 use Rattle.step_core.specs.Stories.{Nothing, Story, added, event_of, known, object_in, pending, state}
@@ -108,6 +108,9 @@ first_tells v d k w ts (Downgrade i) = plain downgrade _ (λ x. refl) (slot w.sl
 first_tells v d k w ts (Expired i) = plain (tell_expired (state v)) _ (λ x. refl) (slot w.slots i)
 first_tells v d k w ts (Read i) = plain (read (state v)) _ (λ x. refl) (inside (slot w.slots i))
 first_tells v d k w ts (FromThis i kind) = ask_tells v d k i kind w ts (inside (slot w.slots i))
+first_tells v d k w ts (Alias i j field) = plain (alias (aliased field (place_in w.slots j))) _ (λ x. refl) (owner_slot (slot w.slots i))
+first_tells v d k w ts (Move i) = tt
+first_tells v d k w ts (Ask q) = tt
 first_tells v d k w ts (Lock i must) = lock_tells v d k i w ts must (locked w.slots (Lock i must)) refl
 
 rest_tells : (v : Story) (d : ℕ) (w : Walk) (ts : List Task) → Tells (begun v d w ts)

@@ -8,7 +8,7 @@ use Rattle.control_word.specs.declared.place.Block.{Block}
 use Rattle.control_word.specs.Events.{origin}
 use Rattle.control_word.specs.State.{weak}
 use Rattle.step_core.specs.declared.act.Act.{Act}
-use Rattle.step_core.specs.declared.act.Act.TheVariants.{Make, Share, Downgrade, Lock, Put, Leave, Clear, Count, Expired, Read, FromThis}
+use Rattle.step_core.specs.declared.act.Act.TheVariants.{Make, Share, Downgrade, Lock, Put, Leave, Clear, Count, Expired, Read, FromThis, Alias, Move, Ask}
 use Rattle.step_core.specs.declared.act.Task.{Task}
 use Rattle.step_core.specs.declared.half.Half.{Half}
 use Rattle.step_core.specs.declared.half.Half.TheVariants.{Rest, Making, Ending, Locking, Giving}
@@ -16,11 +16,11 @@ use Rattle.step_core.specs.declared.holdings.Pointer.{Pointer}
 use Rattle.step_core.specs.declared.past.Deed.TheVariants as deed
 use Rattle.step_core.specs.Actors.{wanted}
 use Rattle.step_core.specs.Bounds.{spare}
-use Rattle.step_core.specs.Courses.{Walk, form_of, hand, locked, placed}
-use Rattle.step_core.specs.Deeds.{is_enabled, this_as, as_weak, is_last, lock, owner_word}
+use Rattle.step_core.specs.Courses.{Walk, form_of, hand, locked, placed, passed}
+use Rattle.step_core.specs.Deeds.{is_enabled, this_as, as_weak, is_last, lock, owner_word, aliased}
 use Rattle.step_core.specs.declared.slot.Slot.TheVariants.{Full}
-use Rattle.step_core.specs.Holdings.{inside, Slots, filled, is_full, plain, slot, value}
-use Rattle.step_core.specs.Scenes.{giving, went, found, least, on, taking}
+use Rattle.step_core.specs.Holdings.{inside, Slots, filled, is_full, plain, slot, value, owner_slot, place_in}
+use Rattle.step_core.specs.Scenes.{giving, went, found, least, on, taking, alias_of}
 use Rattle.step_core.specs.Steps.{asks, given, Step, acts, begins, begun, claims, end_as, end_of, ends_on, first, looks, made_on, prepares}
 use Rattle.step_core.specs.Steps.{silent, step_at, story_after, tried, tries, trying}
 use Rattle.step_core.specs.Stories.{Story, known, object_in, pending, state}
@@ -165,6 +165,12 @@ first_less v d w t ts (Count i) is same = over_less v _ Rest w _ (length ts) (se
 first_less v d w t ts (Downgrade i) is same =
     over_less v _ Rest w _ (length ts) (settled_less (slice_set w.slots (hand w.slots) (filled (option_map as_weak (slot w.slots i)))) true ts) (omega arith, omega arith)
 first_less v d w t ts (Lock i must) is same = looked_less v d t.statement w t ts i must (locked w.slots (Lock i must)) is same refl
+first_less v d w t ts (Alias i j field) is same =
+    let p = alias_of (aliased field (place_in w.slots j)) (owner_slot (slot w.slots i)) in
+    over_less v _ Rest w _ (length ts) (settled_less (slice_set w.slots (hand w.slots) p) true ts) (omega arith, omega arith)
+first_less v d w t ts (Move i) is same =
+    over_less v _ Rest w _ (length ts) (settled_less (passed i (hand w.slots) w.slots) true ts) (omega arith, omega arith)
+first_less v d w t ts (Ask q) is same = over_less v _ Rest w _ (length ts) (settled_less w.slots w.taken ts) (omega arith, omega arith)
 first_less v d w t ts (Expired i) is same = over_less v _ Rest w _ (length ts) (settled_less w.slots w.taken ts) (omega arith, omega arith)
 first_less v d w t ts (Read i) is same = over_less v _ Rest w _ (length ts) (settled_less w.slots w.taken ts) (omega arith, omega arith)
 first_less v d w t ts (FromThis i kind) is same = asked_less v d t.statement w t ts i kind (inside (slot w.slots i)) is
@@ -231,6 +237,9 @@ tried_less v d word w t ts (Count i) (Some x) is same e full = cc
 tried_less v d word w t ts (Expired i) (Some x) is same e full = cc
 tried_less v d word w t ts (Read i) (Some x) is same e full = cc
 tried_less v d word w t ts (FromThis i kind) (Some x) is same e full = cc
+tried_less v d word w t ts (Alias i j field) (Some x) is same e full = cc
+tried_less v d word w t ts (Move i) (Some x) is same e full = cc
+tried_less v d word w t ts (Ask q) (Some x) is same e full = cc
 
 lock_less : (v : Story) (d word : ℕ) (w : Walk) (ts : List Task) → w.todo ≡ ts → IsLock w.slots ts
     → IsLess v d (Locking word) w (length ts) (tried v d w word ts)

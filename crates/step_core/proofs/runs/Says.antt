@@ -11,7 +11,7 @@ use Rattle.control_word.specs.declared.place.Block.{Block}
 use Rattle.control_word.specs.declared.place.Place.{Place}
 use Rattle.control_word.specs.State.{weak}
 use Rattle.step_core.specs.declared.act.Act.{Act}
-use Rattle.step_core.specs.declared.act.Act.TheVariants.{Make, Share, Downgrade, Lock, Put, Leave, Clear, Count, Expired, Read, FromThis}
+use Rattle.step_core.specs.declared.act.Act.TheVariants.{Make, Share, Downgrade, Lock, Put, Leave, Clear, Count, Expired, Read, FromThis, Alias, Move, Ask}
 use Rattle.step_core.specs.declared.act.Task.{Task}
 use Rattle.step_core.specs.declared.half.Half.{Half}
 use Rattle.step_core.specs.declared.half.Half.TheVariants.{Rest, Making, Ending, Locking, Giving}
@@ -24,9 +24,9 @@ use Rattle.step_core.specs.declared.said.Stepped.TheVariants as stepped
 use Rattle.step_core.specs.declared.trace.TraceStep.{TraceStep}
 use Rattle.step_core.specs.Actors.{wanted}
 use Rattle.step_core.specs.Courses.{Walk, form_of, locked}
-use Rattle.step_core.specs.Deeds.{give, is_enabled, read, downgrade, is_last as is_last_of, leave, leave_as, lock, owned, owner_word, share, share_as, tell, tell_expired}
+use Rattle.step_core.specs.Deeds.{give, is_enabled, read, downgrade, is_last as is_last_of, leave, leave_as, lock, owned, owner_word, share, share_as, tell, tell_expired, alias, aliased}
 use Rattle.step_core.specs.Headline.{LastLeft, TellsWhatIsLeft, ended_by}
-use Rattle.step_core.specs.Holdings.{inside, slot}
+use Rattle.step_core.specs.Holdings.{inside, slot, owner_slot, place_in}
 use Rattle.step_core.specs.Scenes.{ended_by as ended_of, least, on, remains, remains_as}
 use Rattle.step_core.specs.Steps.{asks, given, Step, acts, begins, begun, claims, ends_on, first, is_event, looks, made_on, prepares, silent, step_at}
 use Rattle.step_core.specs.Steps.{stepped as stepped_by, story_after, story_by, tried, tries, trying}
@@ -66,6 +66,10 @@ share_tells v (Some x) = go x.kind
 downgrade_tells : (v : Story) (o : Option Pointer) → None ≡ left_by v (option_map downgrade o)
 downgrade_tells v None = refl
 downgrade_tells v (Some x) = refl
+
+alias_tells : (v : Story) (p : Option Place) (o : Option Pointer) → None ≡ left_by v (option_map (alias p) o)
+alias_tells v p None = refl
+alias_tells v p (Some x) = refl
 
 count_tells : (v : Story) (o : Option Pointer) → None ≡ left_by v (option_map (tell (state v)) o)
 count_tells v None = refl
@@ -117,6 +121,9 @@ try_tells v d k word w ts (Count i) (Some x) e = cc
 try_tells v d k word w ts (Expired i) (Some x) e = cc
 try_tells v d k word w ts (Read i) (Some x) e = cc
 try_tells v d k word w ts (FromThis i kind) (Some x) e = cc
+try_tells v d k word w ts (Alias i j field) (Some x) e = cc
+try_tells v d k word w ts (Move i) (Some x) e = cc
+try_tells v d k word w ts (Ask q) (Some x) e = cc
 
 tried_tells : (v : Story) (d word : ℕ) (w : Walk) (ts : List Task) → Tells v (tried v d w word ts)
 tried_tells v d word w [] = tt
@@ -138,6 +145,9 @@ first_tells v d k w ts (Lock i must) = look_tells v d k i must w ts (locked w.sl
 first_tells v d k w ts (Expired i) = expired_tells v (slot w.slots i)
 first_tells v d k w ts (Read i) = read_tells v (inside (slot w.slots i))
 first_tells v d k w ts (FromThis i kind) = ask_tells v d k i kind w ts (inside (slot w.slots i))
+first_tells v d k w ts (Alias i j field) = alias_tells v (aliased field (place_in w.slots j)) (owner_slot (slot w.slots i))
+first_tells v d k w ts (Move i) = refl
+first_tells v d k w ts (Ask q) = refl
 
 rest_tells : (v : Story) (d : ℕ) (w : Walk) (ts : List Task) → Tells v (begun v d w ts)
 rest_tells v d w [] = tt

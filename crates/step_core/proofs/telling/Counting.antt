@@ -6,12 +6,13 @@ use Rattle.std.specs.List.{filter}
 use Rattle.control_word.specs.declared.event.Entry.{Entry}
 use Rattle.control_word.specs.declared.event.Event.TheVariants as event
 use Rattle.control_word.specs.declared.place.Block.{Block}
+use Rattle.control_word.specs.declared.place.Place.{Place}
 use Rattle.control_word.specs.Histories.{entry}
 use Rattle.control_word.specs.Events.{origin}
 use Rattle.control_word.specs.State.{weak}
 use Rattle.step_core.specs.declared.act.Act.{Act}
 use Rattle.step_core.specs.declared.act.Form.{Form}
-use Rattle.step_core.specs.declared.act.Act.TheVariants.{Make, Share, Downgrade, Lock, Put, Leave, Clear, Count, Expired, Read, FromThis}
+use Rattle.step_core.specs.declared.act.Act.TheVariants.{Make, Share, Downgrade, Lock, Put, Leave, Clear, Count, Expired, Read, FromThis, Alias, Move, Ask}
 use Rattle.step_core.specs.declared.act.Task.{Task}
 use Rattle.step_core.specs.declared.half.Half.{Half}
 use Rattle.step_core.specs.declared.half.Half.TheVariants.{Rest, Making, Ending, Locking, Giving}
@@ -19,13 +20,13 @@ use Rattle.step_core.specs.declared.holdings.Pointer.{Pointer}
 use Rattle.step_core.specs.declared.past.Deed.TheVariants as deed
 use Rattle.step_core.specs.declared.said.Answer.{Answer}
 use Rattle.step_core.specs.Actors.{wanted}
-use Rattle.step_core.specs.Courses.{Walk, form_of, hand, idle, locked, placed, settled, slots_idle, taken_idle}
+use Rattle.step_core.specs.Courses.{Walk, form_of, hand, idle, locked, placed, settled, slots_idle, taken_idle, passed}
 use Rattle.step_core.specs.declared.slot.Slot.TheVariants.{Full}
-use Rattle.step_core.specs.Holdings.{inside, Slots, filled, plain, slot, value}
-use Rattle.step_core.specs.Scenes.{giving, answer_of, ended_by, found, least, on, remains, remains_as, taking, went}
+use Rattle.step_core.specs.Holdings.{inside, Slots, filled, plain, slot, value, owner_slot, place_in}
+use Rattle.step_core.specs.Scenes.{giving, answer_of, ended_by, found, least, on, remains, remains_as, taking, went, alias_of}
 use Rattle.step_core.specs.Steps.{asks, given, Step, acts, begins, begun, claims, end_as, end_of, ends_on, first, looks, made_on, prepares, tried, tries, trying}
 use Rattle.step_core.specs.Steps.{silent, step_at, stepped, story_by, walk_by}
-use Rattle.step_core.specs.Deeds.{give, is_enabled, read, this_as, as_weak, downgrade, is_last as is_last_of, leave, leave_as, lock, owned, owner_word, share, share_as, tell, tell_expired}
+use Rattle.step_core.specs.Deeds.{give, is_enabled, read, this_as, as_weak, downgrade, is_last as is_last_of, leave, leave_as, lock, owned, owner_word, share, share_as, tell, tell_expired, alias, aliased}
 use Rattle.control_word.specs.declared.handle.Kind.{Kind}
 use Rattle.control_word.specs.declared.handle.Kind.TheVariants.{Owner, Weak}
 use Rattle.step_core.specs.Stories.{Nothing, Story, known, object_in, owner_in, pending, state}
@@ -87,6 +88,11 @@ downgraded : (v : Story) (d k : ℕ) (w x : Walk) (n : ℕ) → length x.todo �
     → IsCounted v d Rest w n (Some (record { deed = option_map downgrade y; half = Rest; walk = x; said = silent k }))
 downgraded v d k w x n le None = record { made = plus_none _; ended = plus_none _; few = omega (arith, le) }
 downgraded v d k w x n le (Some y) = record { made = plus_none _; ended = plus_none _; few = omega (arith, le) }
+
+aliased_by : (v : Story) (d k : ℕ) (w x : Walk) (n : ℕ) (p : Option Place) → length x.todo ≤ n → (y : Option Pointer)
+    → IsCounted v d Rest w n (Some (record { deed = option_map (alias p) y; half = Rest; walk = x; said = silent k }))
+aliased_by v d k w x n p le None = record { made = plus_none _; ended = plus_none _; few = omega (arith, le) }
+aliased_by v d k w x n p le (Some y) = record { made = plus_none _; ended = plus_none _; few = omega (arith, le) }
 
 expired : (v : Story) (d k : ℕ) (w x : Walk) (n : ℕ) (a : Option Answer) → length x.todo ≤ n → (y : Option Pointer)
     → IsCounted v d Rest w n (Some (record {
@@ -278,6 +284,17 @@ counted_act v d w t ts (Downgrade i) is =
     let l = settled_less (slice_set w.slots (hand w.slots) (filled (option_map as_weak (slot w.slots i)))) true ts in
     downgraded v d t.statement w x (length (t ∷ ts)) (omega (arith, l)) (slot w.slots i)
 counted_act v d w t ts (Lock i must) is = looked v d t.statement w t ts i must (locked w.slots (Lock i must)) is
+counted_act v d w t ts (Alias i j field) is =
+    let x = went (state v) d w.slots w.taken ts (Alias i j field) in
+    let p = aliased field (place_in w.slots j) in
+    let l = settled_less (slice_set w.slots (hand w.slots) (alias_of p (owner_slot (slot w.slots i)))) true ts in
+    aliased_by v d t.statement w x (length (t ∷ ts)) p (omega (arith, l)) (owner_slot (slot w.slots i))
+counted_act v d w t ts (Move i) is =
+    let l = settled_less (passed i (hand w.slots) w.slots) true ts in
+    quiet v d t.statement Rest Rest w (went (state v) d w.slots w.taken ts (Move i)) (length (t ∷ ts)) None (omega (arith, l))
+counted_act v d w t ts (Ask q) is =
+    let l = settled_less w.slots w.taken ts in
+    quiet v d t.statement Rest Rest w (went (state v) d w.slots w.taken ts (Ask q)) (length (t ∷ ts)) (answer_of (state v) d w.slots (Ask q)) (omega (arith, l))
 counted_act v d w t ts (Expired i) is =
     let x = went (state v) d w.slots w.taken ts (Expired i) in
     let l = settled_less w.slots w.taken ts in
@@ -317,6 +334,9 @@ counted_try v d word w t ts (Count i) (Some y) is e = cc
 counted_try v d word w t ts (Expired i) (Some y) is e = cc
 counted_try v d word w t ts (Read i) (Some y) is e = cc
 counted_try v d word w t ts (FromThis i kind) (Some y) is e = cc
+counted_try v d word w t ts (Alias i j field) (Some y) is e = cc
+counted_try v d word w t ts (Move i) (Some y) is e = cc
+counted_try v d word w t ts (Ask q) (Some y) is e = cc
 
 counted_lock : (v : Story) (d word : ℕ) (w : Walk) (ts : List Task) → w.todo ≡ ts → IsCounted v d (Locking word) w (length ts) (tried v d w word ts)
 counted_lock v d word w [] is = record { made = plus_none _; ended = plus_none _; few = let e = ap (λ (z : List Task). length z) is in omega (arith, e) }

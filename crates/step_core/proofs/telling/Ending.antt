@@ -5,10 +5,11 @@ use Rattle.std.proofs.lemmas.Bool.{cases_eq, cond_both}
 use Rattle.control_word.proofs.history.Legal.{sound}
 use Rattle.control_word.proofs.lists.Tallies.{put_cases}
 use Rattle.control_word.specs.declared.place.Block.{Block}
+use Rattle.control_word.specs.declared.place.Place.{Place}
 use Rattle.control_word.specs.State.{Object, State, common, ending, gone, live, put, weak}
 use Rattle.step_core.specs.declared.act.Act.{Act}
 use Rattle.step_core.specs.declared.act.Form.{Form}
-use Rattle.step_core.specs.declared.act.Act.TheVariants.{Make, Share, Downgrade, Lock, Put, Leave, Clear, Count, Expired, Read, FromThis}
+use Rattle.step_core.specs.declared.act.Act.TheVariants.{Make, Share, Downgrade, Lock, Put, Leave, Clear, Count, Expired, Read, FromThis, Alias, Move, Ask}
 use Rattle.step_core.specs.declared.act.Task.{Task}
 use Rattle.step_core.specs.declared.half.Half.{Half}
 use Rattle.step_core.specs.declared.half.Half.TheVariants.{Rest, Making, Ending, Locking, Giving}
@@ -17,12 +18,12 @@ use Rattle.step_core.specs.declared.past.Deed.TheVariants as deed
 use Rattle.step_core.specs.declared.said.Said.{Said}
 use Rattle.step_core.specs.Actors.{wanted}
 use Rattle.step_core.specs.Courses.{Walk, form_of, locked}
-use Rattle.step_core.specs.Holdings.{inside, slot}
+use Rattle.step_core.specs.Holdings.{inside, slot, owner_slot, place_in}
 use Rattle.step_core.specs.Openings.{opening}
 use Rattle.step_core.specs.Scenes.{least, on}
 use Rattle.step_core.specs.Steps.{asks, given, Step, acts, begins, begun, claims, end_as, end_of, ends_on, first, half_by, looks, made_on}
 use Rattle.step_core.specs.Steps.{prepares, silent, step_at, story_by, tried, tries, trying}
-use Rattle.step_core.specs.Deeds.{give, is_enabled, read, downgrade, is_last, leave, leave_as, lock, owner_word, share, share_as, tell, tell_expired}
+use Rattle.step_core.specs.Deeds.{give, is_enabled, read, downgrade, is_last, leave, leave_as, lock, owner_word, share, share_as, tell, tell_expired, alias, aliased}
 use Rattle.control_word.specs.declared.handle.Kind.{Kind}
 use Rattle.control_word.specs.declared.handle.Kind.TheVariants.{Owner, Weak}
 use Rattle.step_core.specs.Stories.{Kept, Story, known, object_in, pending, state}
@@ -72,6 +73,11 @@ downgraded : (v : Story) (d k : ℕ) (x : Walk) (f : ℕ → Half) → f d ≡ R
     → Right v d Rest f (Some (record { deed = option_map downgrade y; half = Rest; walk = x; said = silent k }))
 downgraded v d k x f at all None = same v d Rest f _ refl (λ b t. t) at all
 downgraded v d k x f at all (Some y) = same v d Rest f _ refl (λ b t. t) at all
+
+aliased_by : (v : Story) (d k : ℕ) (x : Walk) (f : ℕ → Half) (p : Option Place) → f d ≡ Rest → AllEnd (state v) f → (y : Option Pointer)
+    → Right v d Rest f (Some (record { deed = option_map (alias p) y; half = Rest; walk = x; said = silent k }))
+aliased_by v d k x f p at all None = same v d Rest f _ refl (λ b t. t) at all
+aliased_by v d k x f p at all (Some y) = same v d Rest f _ refl (λ b t. t) at all
 
 expired : (v : Story) (d : ℕ) (x : Walk) (a : Said) (f : ℕ → Half) → f d ≡ Rest → AllEnd (state v) f → (y : Option Pointer)
     → Right v d Rest f (Some (record { deed = option_map (tell_expired (state v)) y; half = Rest; walk = x; said = a }))
@@ -192,6 +198,9 @@ acted v d k w ts f at all kept (Lock i must) = looked v d k w ts (Lock i must) f
 acted v d k w ts f at all kept (Expired i) = expired v d _ _ f at all (slot w.slots i)
 acted v d k w ts f at all kept (Read i) = read_on v d _ _ f at all (inside (slot w.slots i))
 acted v d k w ts f at all kept (FromThis i kind) = asked v d k w ts i kind f at all (inside (slot w.slots i))
+acted v d k w ts f at all kept (Alias i j field) = aliased_by v d k _ f (aliased field (place_in w.slots j)) at all (owner_slot (slot w.slots i))
+acted v d k w ts f at all kept (Move i) = same v d Rest f _ refl (λ b t. t) at all
+acted v d k w ts f at all kept (Ask q) = same v d Rest f _ refl (λ b t. t) at all
 
 rested : (v : Story) (d : ℕ) (w : Walk) (f : ℕ → Half) → f d ≡ Rest → AllEnd (state v) f → Kept v → (ts : List Task)
     → Right v d Rest f (begun v d w ts)

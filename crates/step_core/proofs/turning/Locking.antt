@@ -3,7 +3,7 @@ use Rattle.std.proofs.Common.{◌≡◌, ℕ, ◌<◌, ◌==◌, Bool, true, fal
 use Rattle.std.specs.Prelude.{Option, Some, None, option_map}
 use Rattle.std.proofs.lemmas.Bool.{cond-true, cond_both, false≢true}
 use Rattle.step_core.specs.declared.act.Act.{Act}
-use Rattle.step_core.specs.declared.act.Act.TheVariants.{Make, Share, Downgrade, Lock, Put, Leave, Clear, Count, Expired, Read, FromThis}
+use Rattle.step_core.specs.declared.act.Act.TheVariants.{Make, Share, Downgrade, Lock, Put, Leave, Clear, Count, Expired, Read, FromThis, Alias, Move, Ask}
 use Rattle.step_core.specs.declared.act.Task.{Task}
 use Rattle.step_core.specs.declared.half.Half.{Half}
 use Rattle.step_core.specs.declared.half.Half.TheVariants.{Rest, Making, Ending, Locking, Giving}
@@ -79,6 +79,9 @@ looks_done d u t ts y (Count i) e zero = cc
 looks_done d u t ts y (Expired i) e zero = cc
 looks_done d u t ts y (Read i) e zero = cc
 looks_done d u t ts y (FromThis i kind) e zero = cc
+looks_done d u t ts y (Alias i j field) e zero = cc
+looks_done d u t ts y (Move i) e zero = cc
+looks_done d u t ts y (Ask q) e zero = cc
 
 -- the second try finds the word that the first found
 second : (d : ℕ) (v : Sight) (t : Task) (ts : List Task) (y : Pointer) → (walk_of (scene v) d).todo ≡ t ∷ ts → locked (walk_of (scene v) d).slots t.act ≡ Some y

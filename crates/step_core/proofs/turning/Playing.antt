@@ -3,10 +3,11 @@ use Rattle.std.proofs.Common.{◌≡◌, ℕ, ◌<◌, ◌==◌, Bool, true, fal
 use Rattle.std.specs.Prelude.{Option, Some, None, option_map}
 use Rattle.std.proofs.lemmas.Bool.{cond_both, cond-false, false≢true}
 use Rattle.control_word.specs.declared.place.Block.{Block}
+use Rattle.control_word.specs.declared.place.Place.{Place}
 use Rattle.control_word.specs.State.{State}
 use Rattle.step_core.specs.declared.act.Act.{Act}
 use Rattle.step_core.specs.declared.act.Form.{Form}
-use Rattle.step_core.specs.declared.act.Act.TheVariants.{Make, Share, Downgrade, Lock, Put, Leave, Clear, Count, Expired, Read, FromThis}
+use Rattle.step_core.specs.declared.act.Act.TheVariants.{Make, Share, Downgrade, Lock, Put, Leave, Clear, Count, Expired, Read, FromThis, Alias, Move, Ask}
 use Rattle.step_core.specs.declared.act.Task.{Task}
 use Rattle.step_core.specs.declared.half.Half.{Half}
 use Rattle.step_core.specs.declared.half.Half.TheVariants.{Rest, Making, Ending, Locking, Giving}
@@ -20,12 +21,12 @@ use Rattle.control_word.specs.declared.handle.Kind.{Kind}
 use Rattle.control_word.specs.declared.handle.Kind.TheVariants.{Owner, Weak}
 use Rattle.control_word.specs.Histories.{entry}
 use Rattle.step_core.specs.Courses.{Walk, locked}
-use Rattle.step_core.specs.Deeds.{downgrade, field_of, give, is_enabled, is_last, leave, leave_as, lock, owned, owner_word, read, share, share_as, this_as, tell, tell_expired}
-use Rattle.step_core.specs.Holdings.{inside, slot}
+use Rattle.step_core.specs.Deeds.{downgrade, field_of, give, is_enabled, is_last, leave, leave_as, lock, owned, owner_word, read, share, share_as, this_as, tell, tell_expired, alias, aliased}
+use Rattle.step_core.specs.Holdings.{inside, slot, owner_slot, place_in}
 use Rattle.step_core.specs.Openings.{opening}
 use Rattle.step_core.specs.Scenes.{History, Scene, acted, answer_of, ended_of, ends_as, full_answer, holding, least, leaves, left_as, made, on, shared_as}
 use Rattle.step_core.specs.Scenes.{play_from, said_from}
-use Rattle.step_core.specs.Scenes.{counts, downgrades, expires, given_as, gives, giving, locks, reads, shares, taking, this_answer, walk_of, went}
+use Rattle.step_core.specs.Scenes.{counts, downgrades, expires, given_as, gives, giving, locks, reads, shares, taking, this_answer, walk_of, went, aliases}
 use Rattle.step_core.specs.Steps.{Step, acts, asks, begins, begun, end_as, end_of, first, is_event, looks, silent, step_at, stepped, story_after, trying}
 use Rattle.step_core.specs.Stories.{Story, after, state}
 use Rattle.step_core.specs.Turning.{HasBegun, Plays, is_acting, is_ending, is_giving, is_locking, is_making, turned, turned_by}
@@ -95,6 +96,10 @@ shared d v (Some x) w = go x.kind
     go Owner = refl
     go Weak = refl
 
+shared_at : (d : ℕ) (v : Story) (p : Option Place) (o : Option Pointer) → Told d v (alias p) (aliases p (opening v.extent) d v.history) o
+shared_at d v p None w = refl
+shared_at d v p (Some x) w = refl
+
 downgraded : (d : ℕ) (v : Story) (o : Option Pointer) → Told d v downgrade (downgrades (opening v.extent) d v.history) o
 downgraded d v None w = refl
 downgraded d v (Some x) w = refl
@@ -153,6 +158,9 @@ lock_so d u k ts (Count i) x e = cc
 lock_so d u k ts (Expired i) x e = cc
 lock_so d u k ts (Read i) x e = cc
 lock_so d u k ts (FromThis i kind) x e = cc
+lock_so d u k ts (Alias i j field) x e = cc
+lock_so d u k ts (Move i) x e = cc
+lock_so d u k ts (Ask q) x e = cc
 
 -- a lock of nothing
 lose_so : (d : ℕ) (u : Sight) (k : ℕ) (ts : List Task) (i : ℕ) (must : Bool) → locked (walk_of (scene u) d).slots (Lock i must) ≡ None
@@ -225,6 +233,10 @@ acts_so d u k ts (Lock i must) is = looks_so d u k ts i must (locked (walk_of (s
 acts_so d u k ts (Expired i) is = (refl, expired d u.story (slot (walk_of (scene u) d).slots i) _)
 acts_so d u k ts (Read i) is = (refl, read_so d u.story (inside (slot (walk_of (scene u) d).slots i)) _)
 acts_so d u k ts (FromThis i kind) is = asks_so d u k ts i kind (inside (slot (walk_of (scene u) d).slots i)) refl is
+acts_so d u k ts (Alias i j field) is =
+    let w = walk_of (scene u) d in (refl, shared_at d u.story (aliased field (place_in w.slots j)) (owner_slot (slot w.slots i)) _)
+acts_so d u k ts (Move i) is = (refl, refl)
+acts_so d u k ts (Ask q) is = (refl, refl)
 
 -- what a thread does whose next act is this
 pub plays_as : (d : ℕ) (u : Sight) (t : Task) (ts : List Task) (x : Step) (r : Stepped) → (walk_of (scene u) d).todo ≡ t ∷ ts → step_of d u ≡ Some x
@@ -327,6 +339,9 @@ first_same d u k ts (Lock i must) is = looks_same d u k ts (Lock i must) (locked
 first_same d u k ts (Expired i) is = absurd (false≢true is)
 first_same d u k ts (Read i) is = absurd (false≢true is)
 first_same d u k ts (FromThis i kind) is = asks_same d u k ts i kind (inside (slot (walk_of (scene u) d).slots i)) is
+first_same d u k ts (Alias i j field) is = absurd (false≢true is)
+first_same d u k ts (Move i) is = absurd (false≢true is)
+first_same d u k ts (Ask q) is = absurd (false≢true is)
 
 -- a make that has just begun
 begun_same : (d : ℕ) (u : Sight) (ts : List Task) → half_of u d ≡ Rest → (walk_of (scene u) d).todo ≡ ts → d < length u.halves
