@@ -8,7 +8,7 @@ use Rattle.control_word.specs.declared.handle.Kind.{Kind}
 use Rattle.control_word.specs.declared.handle.Kind.TheVariants.{Owner, Weak}
 use Rattle.control_word.specs.declared.place.Place.{Place}
 use Rattle.control_word.specs.declared.refusal.Refusal.TheVariants.{BadWeak, Full, NotEnabled, Null, Outside}
-use Rattle.control_word.specs.Events.{origin}
+use Rattle.control_word.specs.Events.{origin, place_at}
 use Rattle.control_word.specs.Handles.{empty, handle, owner, weak_of, owner_before, same_place}
 use Rattle.control_word.specs.Histories.{entry, leads}
 use Rattle.control_word.specs.State.{Object, Opening, State, Stored, count, kind_of_member, weak}
