@@ -18,6 +18,7 @@ use Rattle.step_core.specs.declared.act.Act.TheVariants.{Make, Share, Alias, Mov
 use Rattle.step_core.specs.declared.act.Question.{Question}
 use Rattle.step_core.specs.declared.act.Question.TheVariants as question
 use Rattle.step_core.specs.declared.act.Task.{Task}
+use Rattle.step_core.specs.declared.call.Field.{Field}
 use Rattle.step_core.specs.declared.extent.Extent.{Extent}
 use Rattle.step_core.specs.declared.holdings.Pointer.{Pointer}
 use Rattle.step_core.specs.declared.said.Answer.{Answer}
@@ -141,6 +142,9 @@ abbrev pub alias_of : Option Place → Option Pointer → Slot
 alias_of p None = Empty p
 alias_of p (Some x) = Full (at_place p x)
 
+abbrev pub alias_in : Slots → ℕ → ℕ → Option Field → Slot
+alias_in slots k j field = alias_of (aliased field (place_in slots j)) (owner_slot (slot slots k))
+
 -- where the thread is after it
 abbrev pub went : State → ℕ → Slots → Bool → List Task → Act → Walk
 went s d slots taken rest (Make fields) = holding slots rest (least d s.stores)
@@ -152,8 +156,7 @@ went s d slots taken rest (Count k) = settled slots taken rest
 went s d slots taken rest (Downgrade k) = settled (slice_set slots (hand slots) (filled (option_map as_weak (slot slots k)))) true rest
 went s d slots taken rest (Lock k must) = taking slots must rest (found s (locked slots (Lock k must)))
 went s d slots taken rest (Expired k) = settled slots taken rest
-went s d slots taken rest (Alias k j field) =
-    settled (slice_set slots (hand slots) (alias_of (aliased field (place_in slots j)) (owner_slot (slot slots k)))) true rest
+went s d slots taken rest (Alias k j field) = settled (slice_set slots (hand slots) (alias_in slots k j field)) true rest
 went s d slots taken rest (Move k) = settled (passed k (hand slots) slots) true rest
 went s d slots taken rest (Ask q) = settled slots taken rest
 
