@@ -19,6 +19,7 @@ use Rattle.step_core.specs.declared.act.Act.TheVariants.{Make, Share, Downgrade,
 use Rattle.step_core.specs.declared.act.Question.{Question}
 use Rattle.step_core.specs.declared.act.Question.TheVariants as question
 use Rattle.step_core.specs.declared.act.Task.{Task}
+use Rattle.step_core.specs.declared.call.Field.{Field}
 use Rattle.step_core.specs.declared.extent.Extent.{Extent}
 use Rattle.step_core.specs.declared.holdings.Pointer.{Pointer}
 use Rattle.step_core.specs.declared.said.Answer.{Answer}
@@ -160,6 +161,9 @@ abbrev pub alias_of : Option Place → Option Pointer → Slot
 alias_of p None = Empty p
 alias_of p (Some x) = Full (at_place p x)
 
+abbrev pub alias_in : Slots → ℕ → ℕ → Option Field → Slot
+alias_in slots k j field = alias_of (aliased field (place_in slots j)) (owner_slot (slot slots k))
+
 -- where the thread is after it
 abbrev pub went : State → ℕ → Slots → Bool → List Task → Act → Walk
 went s d slots taken rest (Make form) = holding slots rest form.null (least d s.stores)
@@ -173,8 +177,7 @@ went s d slots taken rest (Lock k must) = taking slots must rest (found s (locke
 went s d slots taken rest (Expired k) = settled slots taken rest
 went s d slots taken rest (Read k) = settled slots taken rest
 went s d slots taken rest (FromThis k kind) = taking slots true rest (option_map (this_as kind) (giving s (inside (slot slots k))))
-went s d slots taken rest (Alias k j field) =
-    settled (slice_set slots (hand slots) (alias_of (aliased field (place_in slots j)) (owner_slot (slot slots k)))) true rest
+went s d slots taken rest (Alias k j field) = settled (slice_set slots (hand slots) (alias_in slots k j field)) true rest
 went s d slots taken rest (Move k) = settled (passed k (hand slots) slots) true rest
 went s d slots taken rest (Ask q) = settled slots taken rest
 

@@ -4,7 +4,7 @@ ghost use Rattle.control_word.specs.Handles.{IsPointer, same_place};
 ghost use Rattle.control_word.specs.declared.view.Pending.TheVariants.{Idle};
 ghost use Rattle.step_core.specs.Deeds.{alias, aliased, at_place};
 ghost use Rattle.step_core.specs.Holdings.{Holds, is_full, owner_as, owner_slot, place_in, slot};
-ghost use Rattle.step_core.specs.Scenes.{alias_of, before, on, reply};
+ghost use Rattle.step_core.specs.Scenes.{alias_in, before, on, reply};
 ghost use Rattle.step_core.specs.Stories.{Story, after, pending, state};
 ghost use Rattle.step_core.specs.declared.act.Act.{Act};
 ghost use Rattle.step_core.specs.declared.half.Half.{Half};
@@ -112,7 +112,7 @@ impl Course {
         ensures table { table.new
             ≡ done_on (alias (aliased field (place_in self.old.holdings.slots.items of))) table.old desk (owner_slot (slot self.old.holdings.slots.items name)) }
         ensures walk { walk self.new
-            ≡ settled (slice_set self.old.holdings.slots.items (hand self.old.holdings.slots.items) (alias_of (aliased field (place_in self.old.holdings.slots.items of)) (owner_slot (slot self.old.holdings.slots.items name)))) true (rest self.old) }
+            ≡ settled (slice_set self.old.holdings.slots.items (hand self.old.holdings.slots.items) (alias_in self.old.holdings.slots.items name of field)) true (rest self.old) }
         ensures on { HasGoneOn desk self.old self.new table.new }
     {
         let from = usize::from(name);
