@@ -1,5 +1,5 @@
 -- A thread that asks an object for a pointer fits the table.
-use Rattle.std.proofs.Common.{◌≡◌, ℕ, ◌<◌, Bool, true, false, List, length, Some, refl, sym, subst, ap}
+use Rattle.std.proofs.Common.{◌≡◌, ℕ, ◌<◌, true, false, length, Some, subst}
 use Rattle.control_word.specs.declared.handle.Kind.{Kind}
 use Rattle.control_word.specs.declared.view.Pending.TheVariants.{Idle}
 use Rattle.step_core.specs.declared.act.Act.{Act}
@@ -9,7 +9,7 @@ use Rattle.step_core.specs.declared.half.Half.{Half}
 use Rattle.step_core.specs.declared.half.Half.TheVariants.{Rest, Giving}
 use Rattle.step_core.specs.declared.holdings.Pointer.{Pointer}
 use Rattle.step_core.specs.declared.thread.Thread.{Thread}
-use Rattle.step_core.specs.Actors.{HalfFits, Stocks}
+use Rattle.step_core.specs.Actors.{HalfFits}
 use Rattle.step_core.specs.Courses.{Begins, CourseReady, IsReady, Ready, hand, rest, taken_after, task_at}
 use Rattle.step_core.specs.Deeds.{is_enabled}
 use Rattle.step_core.specs.Holdings.{inside, slot}

@@ -1,6 +1,6 @@
 -- Owners that point into the object that they own.
-use Rattle.std.proofs.Common.{◌≡◌, ℕ, ◌<◌, ◌==◌, Bool, true, false, cond, length, set, Option, Some, None, refl, sym, ap, subst, ◌∙◌, arith}
-use Rattle.std.proofs.lemmas.Bool.{cond_both, eqb-true}
+use Rattle.std.proofs.Common.{◌≡◌, ℕ, ◌<◌, ◌==◌, Bool, true, false, cond, length, set, Option, Some, None, refl, ap, subst, arith}
+use Rattle.std.proofs.lemmas.Bool.{eqb-true}
 use Rattle.std.proofs.lemmas.Option.{same_Some}
 use Rattle.control_word.specs.declared.handle.Kind.{Kind}
 use Rattle.control_word.specs.declared.handle.Kind.TheVariants.{Owner, Weak}

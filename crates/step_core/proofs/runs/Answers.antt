@@ -25,7 +25,7 @@ use Rattle.step_core.specs.declared.said.Stepped.TheVariants as stepped
 use Rattle.step_core.specs.declared.trace.TraceStep.{TraceStep}
 use Rattle.step_core.specs.Actors.{wanted}
 use Rattle.step_core.specs.Courses.{Walk, form_of, locked}
-use Rattle.step_core.specs.Deeds.{give, is_enabled, read, as_owner, downgrade, is_expired, is_last, leave, leave_as, lock, owner_word, share, share_as, tell, tell_expired, alias, aliased}
+use Rattle.step_core.specs.Deeds.{is_enabled, read, as_owner, downgrade, is_expired, is_last, leave, leave_as, lock, owner_word, share, share_as, tell, tell_expired, alias, aliased}
 use Rattle.step_core.specs.Headline.{TellsLocks, Was, answer_by}
 use Rattle.step_core.specs.Holdings.{inside, is_full, slot, owner_slot, place_in}
 use Rattle.step_core.specs.Scenes.{found, least, lock_answer, on, walk_of}

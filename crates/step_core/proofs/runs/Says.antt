@@ -24,7 +24,7 @@ use Rattle.step_core.specs.declared.said.Stepped.TheVariants as stepped
 use Rattle.step_core.specs.declared.trace.TraceStep.{TraceStep}
 use Rattle.step_core.specs.Actors.{wanted}
 use Rattle.step_core.specs.Courses.{Walk, form_of, locked}
-use Rattle.step_core.specs.Deeds.{give, is_enabled, read, downgrade, is_last as is_last_of, leave, leave_as, lock, owned, owner_word, share, share_as, tell, tell_expired, alias, aliased}
+use Rattle.step_core.specs.Deeds.{is_enabled, read, downgrade, is_last as is_last_of, leave, leave_as, lock, owned, owner_word, share, share_as, tell, tell_expired, alias, aliased}
 use Rattle.step_core.specs.Headline.{LastLeft, TellsWhatIsLeft, ended_by}
 use Rattle.step_core.specs.Holdings.{inside, slot, owner_slot, place_in}
 use Rattle.step_core.specs.Scenes.{ended_by as ended_of, least, on, remains, remains_as}

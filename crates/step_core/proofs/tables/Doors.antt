@@ -11,7 +11,7 @@ use Rattle.control_word.specs.Events.{moved_to}
 use Rattle.control_word.specs.Histories.{IsLegal}
 use Rattle.control_word.specs.Layout.{spot}
 use Rattle.control_word.specs.State.{Object, ending}
-use Rattle.control_word.specs.Views.{added, adds, owed, owes, total, used_up}
+use Rattle.control_word.specs.Views.{added, adds, total, used_up}
 use Rattle.step_core.specs.declared.past.Deed.{Deed}
 use Rattle.step_core.specs.declared.past.Deed.TheVariants.{Prepare, Write, Claim, Share, WeakShare, Leave, WeakLeave, Lock, Count, Expired, Read, Clear, Finish}
 use Rattle.step_core.specs.Openings.{opening}

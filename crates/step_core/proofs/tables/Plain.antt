@@ -1,17 +1,17 @@
 -- Deeds that do nothing to a cell.
-use Rattle.std.proofs.Common.{◌≡◌, ◌≢◌, ℕ, suc, ◌<◌, List, [], ◌∷◌, length, refl, sym, ap, ◌∙◌, subst}
-use Rattle.std.proofs.lemmas.Bool.{cond_both, cond-false}
+use Rattle.std.proofs.Common.{◌≡◌, ℕ, suc, ◌<◌, length, refl, sym, ap}
+use Rattle.std.proofs.lemmas.Bool.{cond_both}
 use Rattle.control_word.proofs.lists.Tallies.{put_cases}
 use Rattle.control_word.specs.declared.handle.Handle.{Handle}
 use Rattle.control_word.specs.declared.view.Pending.{Pending}
 use Rattle.control_word.specs.declared.view.Pending.TheVariants.{Idle, Making, Merging, Parting, Paying, Visiting}
 use Rattle.control_word.specs.Events.{moved_to}
 use Rattle.control_word.specs.Handles.{empty}
-use Rattle.control_word.specs.State.{Object, ending, gone, kind_of_member, put}
+use Rattle.control_word.specs.State.{Object, ending, kind_of_member, put}
 use Rattle.control_word.specs.Views.{owed, owes}
 use Rattle.step_core.specs.declared.past.Deed.{Deed}
 use Rattle.step_core.specs.declared.past.Deed.TheVariants.{Prepare, Write, Claim, Share, WeakShare, Leave, WeakLeave, Lock, Count, Expired, Read, Clear, Finish}
-use Rattle.step_core.specs.Stories.{AllBare, IsCalm, IsPlain, Kept, Nothing, Plain, Story, after, object_in, pending, pending_after, state}
+use Rattle.step_core.specs.Stories.{AllBare, IsCalm, IsPlain, Nothing, Plain, Story, after, object_in, pending, pending_after, state}
 use Rattle.step_core.proofs.tables.Doors.{none_in, pending_all}
 
 calm_deed : (v : Story) (d : ℕ) (x : Deed) → IsPlain x → IsCalm (pending_after v d x)

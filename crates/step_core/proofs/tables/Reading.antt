@@ -21,7 +21,7 @@ use Rattle.step_core.specs.Stories.{Kept, Story, after, object_in, owner_in, pen
 use Rattle.step_core.proofs.tables.Doors.{no_door}
 use Rattle.step_core.proofs.tables.Owners.{mine}
 use Rattle.step_core.proofs.tables.Places.{event_by, owner_busy, there}
-use Rattle.step_core.proofs.tables.Standing.{point, ready, kept_after}
+use Rattle.step_core.proofs.tables.Standing.{ready, kept_after}
 
 pub flags_read : (v : Story) (b : Block) → Kept v → IsBusy (state v) (object_in v b)
     → get_or v.words (spot b.0 2) 0 ≡ flags_of ((state v).object (object_in v b)).enabled ((state v).object (object_in v b)).null

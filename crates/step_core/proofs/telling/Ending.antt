@@ -23,7 +23,7 @@ use Rattle.step_core.specs.Openings.{opening}
 use Rattle.step_core.specs.Scenes.{least, on}
 use Rattle.step_core.specs.Steps.{asks, given, Step, acts, begins, begun, claims, end_as, end_of, ends_on, first, half_by, looks, made_on}
 use Rattle.step_core.specs.Steps.{prepares, silent, step_at, story_by, tried, tries, trying}
-use Rattle.step_core.specs.Deeds.{give, is_enabled, read, downgrade, is_last, leave, leave_as, lock, owner_word, share, share_as, tell, tell_expired, alias, aliased}
+use Rattle.step_core.specs.Deeds.{is_enabled, read, downgrade, is_last, leave, leave_as, lock, owner_word, share, share_as, tell, tell_expired, alias, aliased}
 use Rattle.control_word.specs.declared.handle.Kind.{Kind}
 use Rattle.control_word.specs.declared.handle.Kind.TheVariants.{Owner, Weak}
 use Rattle.step_core.specs.Stories.{Kept, Story, known, object_in, pending, state}

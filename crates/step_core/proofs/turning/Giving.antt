@@ -1,5 +1,5 @@
 -- The step by which an object gives a pointer to itself.
-use Rattle.std.proofs.Common.{◌≡◌, ℕ, ◌<◌, Bool, true, false, cond, List, [], ◌∷◌, length, set, refl, sym, ap, subst, ◌∙◌}
+use Rattle.std.proofs.Common.{◌≡◌, ℕ, ◌<◌, true, List, [], ◌∷◌, length, set, refl, sym, ap, subst, ◌∙◌}
 use Rattle.std.specs.Prelude.{Option, Some, None}
 use Rattle.std.proofs.lemmas.Bool.{cond-true, false≢true}
 use Rattle.control_word.specs.declared.handle.Kind.{Kind}
@@ -17,7 +17,7 @@ use Rattle.step_core.specs.Holdings.{inside, slot}
 use Rattle.step_core.specs.Openings.{opening}
 use Rattle.step_core.specs.Scenes.{Scene, giving, walk_of, went}
 use Rattle.step_core.specs.Scenes.{gives as gives_in, on}
-use Rattle.step_core.specs.Steps.{Step, acts, given, step_at, stepped}
+use Rattle.step_core.specs.Steps.{acts, given, step_at, stepped}
 use Rattle.step_core.specs.Stories.{Story, after, state}
 use Rattle.step_core.specs.Turning.{HasBegun, IsTried, IsUnderWay, Plays, is_giving, turned_by}
 use Rattle.step_core.specs.Worlds.{Sight, Steps, half_of, scene, sight_by, step_of}

@@ -21,12 +21,12 @@ use Rattle.control_word.specs.declared.handle.Kind.{Kind}
 use Rattle.control_word.specs.declared.handle.Kind.TheVariants.{Owner, Weak}
 use Rattle.control_word.specs.Histories.{entry}
 use Rattle.step_core.specs.Courses.{Walk, locked}
-use Rattle.step_core.specs.Deeds.{downgrade, field_of, give, is_enabled, is_last, leave, leave_as, lock, owned, owner_word, read, share, share_as, this_as, tell, tell_expired, alias, aliased}
+use Rattle.step_core.specs.Deeds.{downgrade, is_enabled, is_last, leave, leave_as, lock, owned, owner_word, read, share, share_as, tell, tell_expired, alias, aliased}
 use Rattle.step_core.specs.Holdings.{inside, slot, owner_slot, place_in}
 use Rattle.step_core.specs.Openings.{opening}
 use Rattle.step_core.specs.Scenes.{History, Scene, acted, answer_of, ended_of, ends_as, full_answer, holding, least, leaves, left_as, made, on, shared_as}
 use Rattle.step_core.specs.Scenes.{play_from, said_from}
-use Rattle.step_core.specs.Scenes.{counts, downgrades, expires, given_as, gives, giving, locks, reads, shares, taking, this_answer, walk_of, went, aliases}
+use Rattle.step_core.specs.Scenes.{counts, downgrades, expires, gives, giving, locks, reads, shares, walk_of, went, aliases}
 use Rattle.step_core.specs.Steps.{Step, acts, asks, begins, begun, end_as, end_of, first, is_event, looks, silent, step_at, stepped, story_after, trying}
 use Rattle.step_core.specs.Stories.{Story, after, state}
 use Rattle.step_core.specs.Turning.{HasBegun, Plays, is_acting, is_ending, is_giving, is_locking, is_making, turned, turned_by}

@@ -1,4 +1,4 @@
-use Rattle.std.proofs.Common.{set, Some, ap, sym, subst, ◌∙◌}
+use Rattle.std.proofs.Common.{set, ap, sym, subst, ◌∙◌}
 use Rattle.step_core.specs.declared.holdings.Pointer.{Pointer}
 use Rattle.step_core.specs.declared.slot.Slot.TheVariants.{Full}
 use Rattle.step_core.specs.Deeds.{this_as}

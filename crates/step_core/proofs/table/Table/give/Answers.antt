@@ -1,4 +1,4 @@
-use Rattle.std.proofs.Common.{◌≤◌, arith, sym, subst}
+use Rattle.std.proofs.Common.{arith, sym, subst}
 use Rattle.control_word.specs.Handles.{IsPointer}
 use Rattle.step_core.proofs.tables.Places.{handle_busy, there}
 use Rattle.step_core.proofs.table.Table.give.Goals as goal
