@@ -40,9 +40,10 @@ pub record IsFramed (s t : State) : Type 0 where
   pub block : (o : ℕ) → (t.object o).block ≡ (s.object o).block
   pub phase : (o : ℕ) → (t.object o).phase ≡ (s.object o).phase
   pub fields : (o : ℕ) → (t.object o).fields ≡ (s.object o).fields
+  pub enabled : (o : ℕ) → (t.object o).enabled ≡ (s.object o).enabled
 
 gets_framed : (d : ℕ) (h : Handle) (s : State) → IsFramed s (gets d h s)
-gets_framed d h s = record { made = refl; allowance = refl; block = λ o. refl; phase = λ o. refl; fields = λ o. refl }
+gets_framed d h s = record { made = refl; allowance = refl; block = λ o. refl; phase = λ o. refl; fields = λ o. refl; enabled = λ o. refl }
 
 -- an object with another member
 member_put : {A : Type 0} (f : Object → A) (s : State) (i m : ℕ) (h : Handle) → ((x : Object) → f (record x { member = put x.member m h }) ≡ f x)
@@ -58,10 +59,11 @@ clears_framed d o m h s =
       block = member_put (λ (x : Object). x.block) s o m _ (λ x. refl);
       phase = member_put (λ (x : Object). x.phase) s o m _ (λ x. refl);
       fields = member_put (λ (x : Object). x.fields) s o m _ (λ x. refl);
+      enabled = member_put (λ (x : Object). x.enabled) s o m _ (λ x. refl);
     }
 
 swaps_framed : (d : ℕ) (c : Named) (new old : Handle) (s : State) → IsFramed s (swaps d c new old s)
-swaps_framed d (Free n) new old s = record { made = refl; allowance = refl; block = λ o. refl; phase = λ o. refl; fields = λ o. refl }
+swaps_framed d (Free n) new old s = record { made = refl; allowance = refl; block = λ o. refl; phase = λ o. refl; fields = λ o. refl; enabled = λ o. refl }
 swaps_framed d (Member o m) new old s =
     record {
       made = refl;
@@ -69,10 +71,11 @@ swaps_framed d (Member o m) new old s =
       block = member_put (λ (x : Object). x.block) s o m new (λ x. refl);
       phase = member_put (λ (x : Object). x.phase) s o m new (λ x. refl);
       fields = member_put (λ (x : Object). x.fields) s o m new (λ x. refl);
+      enabled = member_put (λ (x : Object). x.enabled) s o m new (λ x. refl);
     }
 
 same_framed : (s : State) → IsFramed s s
-same_framed s = record { made = refl; allowance = refl; block = λ o. refl; phase = λ o. refl; fields = λ o. refl }
+same_framed s = record { made = refl; allowance = refl; block = λ o. refl; phase = λ o. refl; fields = λ o. refl; enabled = λ o. refl }
 
 pub framed : (v : Story) (d : ℕ) (x : CellDeed) → IsFramed (state v) (state (after v d (OnCell x)))
 framed v d (Look c x None) = gets_framed d (handle_told (state v) c x) (state v)

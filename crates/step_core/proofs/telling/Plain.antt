@@ -6,20 +6,20 @@ use Rattle.control_word.specs.declared.handle.Kind.{Kind}
 use Rattle.control_word.specs.declared.handle.Kind.TheVariants.{Owner, Weak}
 use Rattle.control_word.specs.declared.place.Block.{Block}
 use Rattle.step_core.specs.declared.act.Act.{Act}
-use Rattle.step_core.specs.declared.act.Act.TheVariants.{Make, Share, Downgrade, Lock, Put, Leave, Clear, Count, Expired}
+use Rattle.step_core.specs.declared.act.Act.TheVariants.{Make, Share, Downgrade, Lock, Put, Leave, Clear, Count, Expired, Read, FromThis, Alias, Move, Ask}
 use Rattle.step_core.specs.declared.act.Task.{Task}
 use Rattle.step_core.specs.declared.half.Half.{Half}
-use Rattle.step_core.specs.declared.half.Half.TheVariants.{Rest, Making, Ending, Locking}
+use Rattle.step_core.specs.declared.half.Half.TheVariants.{Rest, Making, Ending, Locking, Giving}
 use Rattle.step_core.specs.declared.holdings.Pointer.{Pointer}
 use Rattle.step_core.specs.declared.past.Deed.{Deed}
 use Rattle.step_core.specs.declared.past.Deed.TheVariants as deed
 use Rattle.control_word.specs.State.{weak}
 use Rattle.step_core.specs.Actors.{wanted}
 use Rattle.step_core.specs.Courses.{Walk, form_of, locked}
-use Rattle.step_core.specs.Deeds.{downgrade, is_last, leave, leave_as, lock, owner_word, share, share_as, tell, tell_expired}
-use Rattle.step_core.specs.Holdings.{slot}
+use Rattle.step_core.specs.Deeds.{alias, aliased, downgrade, give, inside, is_enabled, is_last, leave, leave_as, lock, owner_word, read, share, share_as, tell, tell_expired}
+use Rattle.step_core.specs.Holdings.{owner_slot, place_in, slot}
 use Rattle.step_core.specs.Scenes.{least, on}
-use Rattle.step_core.specs.Steps.{Step, acts, begins, begun, claims, first, looks, made_on, prepares, silent, step_at, story_after, story_by, tried, tries, trying}
+use Rattle.step_core.specs.Steps.{Step, acts, asks, begins, begun, claims, first, given, looks, made_on, prepares, silent, step_at, story_after, story_by, tried, tries, trying}
 use Rattle.step_core.specs.Stories.{IsPlain, Plain, Story, known, object_in, pending, state}
 use Rattle.step_core.proofs.tables.Plain.{plain_after}
 
@@ -54,6 +54,21 @@ plain_lock v d w k ts a (Some x) =
     cond_both (owner_word v x == 0) (acts (state v) d w k ts a (Some (lock (state v) x)) Rest) (trying w k (owner_word v x))
     (λ (s : Step). AllPlain s.deed) (λ t. tt) (λ t. tt)
 
+plain_asks : (v : Story) (d : ℕ) (w : Walk) (k : ℕ) (ts : List Task) (i : ℕ) (kind : Kind) (o : Option Pointer)
+    → AllPlain (on (asks v d w k ts i kind) (acts (state v) d w k ts (FromThis i kind) None Rest) o).deed
+plain_asks v d w k ts i kind None = tt
+plain_asks v d w k ts i kind (Some x) =
+    cond_both (is_enabled (state v) x) (record { deed = None; half = Giving i kind x; walk = w; said = silent k })
+    (acts (state v) d w k ts (FromThis i kind) None Rest) (λ (s : Step). AllPlain s.deed) (λ t. tt) (λ t. tt)
+
+plain_give : (k : Kind) (x : Pointer) → IsPlain (give k x)
+plain_give Owner x = tt
+plain_give Weak x = tt
+
+plain_given : (v : Story) (d : ℕ) (w : Walk) (i : ℕ) (kind : Kind) (x : Pointer) (ts : List Task) → IsPlainStep (given v d w i kind x ts)
+plain_given v d w i kind x [] = tt
+plain_given v d w i kind x (t ∷ ts) = plain_give kind x
+
 plain_first : (v : Story) (d : ℕ) (w : Walk) (k : ℕ) (ts : List Task) (a : Act) → AllPlain (first v d w k ts a).deed
 plain_first v d w k ts (Make fields) = plain_begins w k ts (least d (state v).stores)
 plain_first v d w k ts (Share i) = on_slot share (slot w.slots i) (λ x. plain_share x.kind x)
@@ -64,6 +79,11 @@ plain_first v d w k ts (Count i) = on_slot (tell (state v)) (slot w.slots i) (λ
 plain_first v d w k ts (Downgrade i) = on_slot downgrade (slot w.slots i) (λ x. tt)
 plain_first v d w k ts (Lock i must) = plain_lock v d w k ts (Lock i must) (locked w.slots (Lock i must))
 plain_first v d w k ts (Expired i) = on_slot (tell_expired (state v)) (slot w.slots i) (λ x. tt)
+plain_first v d w k ts (Read i) = on_slot (read (state v)) (inside (slot w.slots i)) (λ x. tt)
+plain_first v d w k ts (FromThis i kind) = plain_asks v d w k ts i kind (inside (slot w.slots i))
+plain_first v d w k ts (Alias i j field) = on_slot (alias (aliased field (place_in w.slots j))) (owner_slot (slot w.slots i)) (λ x. tt)
+plain_first v d w k ts (Move i) = tt
+plain_first v d w k ts (Ask q) = tt
 
 plain_tried : (v : Story) (d : ℕ) (w : Walk) (word k : ℕ) (ts : List Task) (a : Act) (o : Option Pointer) → IsPlainStep (option_map (tries v d w k ts a word) o)
 plain_tried v d w word k ts a None = tt
@@ -95,6 +115,8 @@ plain_step v d (Locking word) w = go w.todo
     go : (ts : List Task) → IsPlainStep (tried v d w word ts)
     go [] = tt
     go (t ∷ ts) = plain_tried v d w word t.statement ts t.act (locked w.slots t.act)
+
+plain_step v d (Giving i kind x) w = plain_given v d w i kind x w.todo
 
 pub plain_by : (v : Story) (d : ℕ) (x : Option Step) → IsPlainStep x → d < length v.views → Plain v → Plain (story_by v d x)
 plain_by v d None is lt plain = plain
