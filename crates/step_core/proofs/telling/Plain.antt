@@ -16,8 +16,8 @@ use Rattle.step_core.specs.declared.past.Deed.TheVariants as deed
 use Rattle.control_word.specs.State.{weak}
 use Rattle.step_core.specs.Actors.{wanted}
 use Rattle.step_core.specs.Courses.{Walk, form_of, locked}
-use Rattle.step_core.specs.Deeds.{alias, aliased, downgrade, give, inside, is_enabled, is_last, leave, leave_as, lock, owner_word, read, share, share_as, tell, tell_expired}
-use Rattle.step_core.specs.Holdings.{owner_slot, place_in, slot}
+use Rattle.step_core.specs.Deeds.{alias, aliased, downgrade, give, is_enabled, is_last, leave, leave_as, lock, owner_word, read, share, share_as, tell, tell_expired}
+use Rattle.step_core.specs.Holdings.{inside, owner_slot, place_in, slot}
 use Rattle.step_core.specs.Scenes.{least, on}
 use Rattle.step_core.specs.Steps.{Step, acts, asks, begins, begun, claims, first, given, looks, made_on, prepares, silent, step_at, story_after, story_by, tried, tries, trying}
 use Rattle.step_core.specs.Stories.{IsPlain, Plain, Story, known, object_in, pending, state}
