@@ -208,10 +208,10 @@ fn same(left: &Option<Arc<Node>>, right: &Option<Arc<Node>>) -> bool {
     left.as_ref().map(Arc::as_ptr) == right.as_ref().map(Arc::as_ptr)
 }
 
-/// What holds the first of a stack's nodes.
+/// What holds the top of a stack, whose first node stays.
 trait Head: Sync {
     const PEER: &str;
-    fn empty() -> Self;
+    fn holding(first: Arc<Node>) -> Self;
     fn load(&self) -> Option<Arc<Node>>;
     /// Answers what it held.
     fn compare_exchange(&self, expected: &Option<Arc<Node>>, desired: Option<Arc<Node>>) -> Option<Arc<Node>>;
@@ -243,8 +243,8 @@ trait Head: Sync {
 impl Head for Mutex<Option<Arc<Node>>> {
     const PEER: &str = PEER;
 
-    fn empty() -> Self {
-        Mutex::new(None)
+    fn holding(first: Arc<Node>) -> Self {
+        Mutex::new(Some(first))
     }
 
     fn load(&self) -> Option<Arc<Node>> {
@@ -261,8 +261,8 @@ impl Head for Mutex<Option<Arc<Node>>> {
 impl Head for arc_swap::ArcSwapOption<Node> {
     const PEER: &str = "Rust arc-swap";
 
-    fn empty() -> Self {
-        arc_swap::ArcSwapOption::empty()
+    fn holding(first: Arc<Node>) -> Self {
+        arc_swap::ArcSwapOption::new(Some(first))
     }
 
     fn load(&self) -> Option<Arc<Node>> {
@@ -275,7 +275,7 @@ impl Head for arc_swap::ArcSwapOption<Node> {
 }
 
 fn time_stack<H: Head>(threads: usize) {
-    let head = Apart(H::empty());
+    let head = Apart(H::holding(node(None)));
     time_common("stack push + pop", H::PEER, threads, || {
         head.0.push();
         drop(black_box(head.0.pop()));

@@ -210,6 +210,9 @@ template <template <class> class Pointer, class Cell, Pointer<Node<Pointer>> (*m
     using Owner = Pointer<Node<Pointer>>;
     Apart<Cell> head;
 
+    // The first node stays.
+    Nodes() { head.value.store(make()); }
+
     void push() {
         Owner node = make();
         node->next = head.value.load();
