@@ -1,7 +1,7 @@
 //! Worlds whose objects give pointers to themselves.
 
 use crate::call::{Call, Name};
-use crate::reading_tests::world;
+use crate::reading_tests::{says, world};
 use crate::said::{Answer, Ended, Stepped, Turned};
 use crate::step_tests::{said, step, turn};
 use control_word::Refusal;
@@ -12,6 +12,10 @@ const A: Name = Name(0);
 const B: Name = Name(1);
 
 const W: Name = Name(2);
+
+const C: Name = Name(3);
+
+const D: Name = Name(4);
 
 const THIS: Call = Call::This {
     target: B,
@@ -81,5 +85,39 @@ fn an_object_without_the_flag_gives_none(rt: HostRuntime) -> Result<(), Fail> {
     let ends = said(0, None, Some(Ended::Fields([5, 0, 0, 0])));
     assert_eq!(rt; turn(&rt, &mut world, 1), Turned::Acted(ends));
     assert_eq!(rt; turn(&rt, &mut world, 1), Turned::Done);
+    Ok(())
+}
+
+#[test]
+fn the_flag_is_of_each_object(rt: HostRuntime) -> Result<(), Fail> {
+    let alloc = rt.alloc();
+    let calls = [
+        Call::Make {
+            target: A,
+            fields: [1, 0, 0, 0],
+        },
+        THIS,
+        Call::MakeThis {
+            target: C,
+            fields: [2, 0, 0, 0],
+        },
+        Call::This {
+            target: D,
+            source: C,
+        },
+        Call::Count { name: C },
+    ];
+    let mut world = world(&rt, alloc, calls.as_slice())?;
+    let all = [
+        said(1, None, None),
+        said(2, Some(Answer::Refused(Refusal::NotEnabled)), None),
+        said(3, None, None),
+        said(4, None, None),
+        said(5, Some(Answer::Count(2)), None),
+        said(0, None, None),
+        said(0, None, Some(Ended::Fields([2, 0, 0, 0]))),
+        said(0, None, Some(Ended::Fields([1, 0, 0, 0]))),
+    ];
+    says(&rt, &mut world, all.as_slice());
     Ok(())
 }
