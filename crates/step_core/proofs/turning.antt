@@ -3,5 +3,6 @@ pub mod Ending
 pub mod Giving
 pub mod Locking
 pub mod Making
+pub mod Saying
 pub mod Playing
 pub mod Turns

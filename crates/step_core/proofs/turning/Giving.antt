@@ -21,7 +21,7 @@ use Rattle.step_core.specs.Steps.{acts, given, step_at, stepped}
 use Rattle.step_core.specs.Stories.{Story, after, state}
 use Rattle.step_core.specs.Turning.{HasBegun, IsTried, IsUnderWay, Plays, is_giving, turned_by}
 use Rattle.step_core.specs.Worlds.{Sight, Steps, half_of, scene, sight_by, step_of}
-use Rattle.step_core.proofs.turning.Playing.{Acts, plays_as}
+use Rattle.step_core.proofs.turning.Saying.{Acts, plays_as}
 
 -- what is given is the event of the act
 given_as : (d : ℕ) (v : Story) (q : Kind) (x : Pointer) (w : List Walk)

@@ -18,7 +18,7 @@ use Rattle.step_core.specs.Stories.{state}
 use Rattle.step_core.specs.Turning.{HasBegun, IsLock, IsTried, Plays, is_event, is_locking, turned_by}
 use Rattle.step_core.specs.Worlds.{Sight, Steps, half_of, scene, sight_by, step_of}
 use Rattle.step_core.proofs.turning.Ending.{half_after, halves_after, same_walks, scene_as}
-use Rattle.step_core.proofs.turning.Playing.{lock_so, plays_as}
+use Rattle.step_core.proofs.turning.Saying.{lock_so, plays_as}
 use Rattle.step_core.proofs.turning.Turns.{plays_on}
 
 -- the lock that is done

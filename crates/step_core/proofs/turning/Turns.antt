@@ -20,7 +20,7 @@ use Rattle.step_core.specs.Stories.{known, pending, state}
 use Rattle.step_core.specs.Turning.{HasBegun, IsReady, IsUnderWay, Plays, Prepares, Rests, is_acting, rested_half, turned, turned_by}
 use Rattle.step_core.specs.Worlds.{Sight, Steps, Turns, half_of, rested, scene, sight_by, step_of}
 use Rattle.step_core.proofs.turning.Making.{made_step}
-use Rattle.step_core.proofs.turning.Playing.{Acts, acted_said, acted_scene, plays_as}
+use Rattle.step_core.proofs.turning.Saying.{Acts, acted_said, acted_scene, plays_as}
 
 -- a claim is what the make says and makes
 claims_so : (d : ℕ) (u : Sight) (k : ℕ) (ts : List Task) (b : Block) (a : Act) → a ≡ Make (form_of a) → least d (state u.story).stores ≡ Some b.0
