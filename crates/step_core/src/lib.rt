@@ -10,6 +10,8 @@ mod clearing;
 mod course;
 mod ending;
 mod extent;
+#[cfg(test)]
+mod fund_tests;
 mod funds;
 mod half;
 mod holdings;
