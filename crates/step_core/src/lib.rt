@@ -4,6 +4,8 @@
 mod act;
 mod call;
 mod cell_deed;
+#[cfg(test)]
+mod cell_tests;
 mod cells;
 mod census;
 mod clearing;
