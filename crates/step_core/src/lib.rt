@@ -4,12 +4,16 @@
 mod act;
 mod call;
 mod cell_deed;
+#[cfg(test)]
+mod cell_tests;
 mod cells;
 mod census;
 mod clearing;
 mod course;
 mod ending;
 mod extent;
+#[cfg(test)]
+mod fund_tests;
 mod funds;
 mod half;
 mod holdings;
