@@ -6,6 +6,7 @@ use Rattle.step_core.specs.declared.act.Task.{Task}
 use Rattle.step_core.specs.declared.call.Call.{Call}
 use Rattle.step_core.specs.declared.call.Name.{Name}
 use Rattle.step_core.specs.declared.call.Call.TheVariants.{Make, Empty, Reset, Copy, Count}
+use Rattle.step_core.specs.declared.call.Call.TheVariants.{MakeThis, Null, Move, Alias, AliasNull, This, WeakThis, Read, Place, Same, Before}
 use Rattle.step_core.specs.declared.call.Call.TheVariants.{Weak, WeakCopy, WeakEmpty, WeakReset, Lock, Upgrade, WeakCount, Expired}
 
 -- the acts of a statement, in order
@@ -23,6 +24,17 @@ acts (Lock target source) = act.Lock source.0 false ∷ act.Put target.0 ∷ []
 acts (Upgrade target source) = act.Lock source.0 true ∷ act.Put target.0 ∷ []
 acts (WeakCount name) = act.Count name.0 ∷ []
 acts (Expired name) = act.Expired name.0 ∷ []
+acts (MakeThis target fields) = act.Leave target.0 ∷ []
+acts (Null target) = act.Leave target.0 ∷ []
+acts (Move target source) = act.Leave target.0 ∷ []
+acts (Alias target source of field) = act.Leave target.0 ∷ []
+acts (AliasNull target source) = act.Leave target.0 ∷ []
+acts (This target source) = act.Leave target.0 ∷ []
+acts (WeakThis target source) = act.Leave target.0 ∷ []
+acts (Read name) = act.Count name.0 ∷ []
+acts (Place name) = act.Count name.0 ∷ []
+acts (Same first second) = act.Count first.0 ∷ []
+acts (Before first second) = act.Count first.0 ∷ []
 
 -- what was taken goes to its name
 abbrev pub puts : Option Name → List Act

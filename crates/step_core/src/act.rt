@@ -99,6 +99,17 @@ fn parts(call: Call) -> (Act, Option<Name>)
         | Call::WeakReset { name } => (Act::Leave { name: name.0 }, None),
         Call::Count { name } | Call::WeakCount { name } => (Act::Count { name: name.0 }, None),
         Call::Expired { name } => (Act::Expired { name: name.0 }, None),
+        Call::MakeThis { target: name, .. }
+        | Call::Null { target: name }
+        | Call::Move { target: name, .. }
+        | Call::Alias { target: name, .. }
+        | Call::AliasNull { target: name, .. }
+        | Call::This { target: name, .. }
+        | Call::WeakThis { target: name, .. } => (Act::Leave { name: name.0 }, None),
+        Call::Read { name }
+        | Call::Place { name }
+        | Call::Same { first: name, .. }
+        | Call::Before { first: name, .. } => (Act::Count { name: name.0 }, None),
     }
 }
 

@@ -37,7 +37,7 @@ mod world;
 #[cfg(test)]
 mod world_tests;
 
-pub use call::{Actor, Call, Kind, Name, Program};
+pub use call::{Actor, Call, Field, Kind, Name, Program};
 pub use said::{Answer, Ended, Said, Stepped, Turned};
 pub use trace::{RunRefusal, Trace, TraceStep};
 pub use world::World;
