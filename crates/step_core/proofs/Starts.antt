@@ -72,13 +72,19 @@ call_ready kinds k (call.WeakEmpty t) ts named four r = (name_within kinds (call
 call_ready kinds k (call.WeakReset t) ts named four r = (name_within kinds (call.WeakReset t) 0 (weak t) (omega arith) refl named, r)
 call_ready kinds k (call.WeakCount t) ts named four r = (name_within kinds (call.WeakCount t) 0 (weak t) (omega arith) refl named, r)
 call_ready kinds k (call.Expired t) ts named four r = (name_within kinds (call.Expired t) 0 (weak t) (omega arith) refl named, r)
-call_ready kinds k (call.MakeThis t f) ts named four r = (name_within kinds (call.MakeThis t f) 0 (owner t) (omega arith) refl named, r)
-call_ready kinds k (call.Null t) ts named four r = (name_within kinds (call.Null t) 0 (owner t) (omega arith) refl named, r)
+call_ready kinds k (call.MakeThis t f) ts named four r = ((refl, four), (name_within kinds (call.MakeThis t f) 0 (owner t) (omega arith) refl named, r))
+call_ready kinds k (call.Null t) ts named four r = ((refl, refl), (name_within kinds (call.Null t) 0 (owner t) (omega arith) refl named, r))
 call_ready kinds k (call.Move t s) ts named four r = (name_within kinds (call.Move t s) 0 (owner t) (omega arith) refl named, r)
 call_ready kinds k (call.Alias t s o f) ts named four r = (name_within kinds (call.Alias t s o f) 0 (owner t) (omega arith) refl named, r)
 call_ready kinds k (call.AliasNull t s) ts named four r = (name_within kinds (call.AliasNull t s) 0 (owner t) (omega arith) refl named, r)
-call_ready kinds k (call.This t s) ts named four r = (name_within kinds (call.This t s) 0 (owner t) (omega arith) refl named, r)
-call_ready kinds k (call.WeakThis t s) ts named four r = (name_within kinds (call.WeakThis t s) 0 (weak t) (omega arith) refl named, r)
+call_ready kinds k (call.This t s) ts named four r = (
+  (name_within kinds (call.This t s) 1 (owner s) (omega arith) refl named, refl),
+  (name_within kinds (call.This t s) 0 (owner t) (omega arith) refl named, r),
+)
+call_ready kinds k (call.WeakThis t s) ts named four r = (
+  (name_within kinds (call.WeakThis t s) 1 (owner s) (omega arith) refl named, refl),
+  (name_within kinds (call.WeakThis t s) 0 (weak t) (omega arith) refl named, r),
+)
 call_ready kinds k (call.Read t) ts named four r = (name_within kinds (call.Read t) 0 (owner t) (omega arith) refl named, r)
 call_ready kinds k (call.Place t) ts named four r = (name_within kinds (call.Place t) 0 (owner t) (omega arith) refl named, r)
 call_ready kinds k (call.Same t s) ts named four r = (name_within kinds (call.Same t s) 0 (owner t) (omega arith) refl named, r)

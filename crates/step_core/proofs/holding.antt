@@ -1,3 +1,4 @@
+pub mod Inside
 pub mod Least
 pub mod Locking
 pub mod Others

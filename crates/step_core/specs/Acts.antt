@@ -1,5 +1,6 @@
 -- What statements do, act by act. All of it is own.
 use Rattle.std.specs.Prelude.{ℕ, zero, suc, ◌+◌, true, false, List, [], ◌∷◌, ◌++◌, Option, Some, None}
+use Rattle.control_word.specs.declared.handle.Kind.TheVariants as handle
 use Rattle.step_core.specs.declared.act.Act.{Act}
 use Rattle.step_core.specs.declared.act.Act.TheVariants as act
 use Rattle.step_core.specs.declared.act.Task.{Task}
@@ -24,14 +25,14 @@ acts (Lock target source) = act.Lock source.0 false ∷ act.Put target.0 ∷ []
 acts (Upgrade target source) = act.Lock source.0 true ∷ act.Put target.0 ∷ []
 acts (WeakCount name) = act.Count name.0 ∷ []
 acts (Expired name) = act.Expired name.0 ∷ []
-acts (MakeThis target fields) = act.Leave target.0 ∷ []
-acts (Null target) = act.Leave target.0 ∷ []
+acts (MakeThis target fields) = act.Make (record { fields = fields; enabled = true; null = false }) ∷ act.Put target.0 ∷ []
+acts (Null target) = act.Make (record { fields = 0 ∷ 0 ∷ 0 ∷ 0 ∷ []; enabled = false; null = true }) ∷ act.Put target.0 ∷ []
 acts (Move target source) = act.Leave target.0 ∷ []
 acts (Alias target source of field) = act.Leave target.0 ∷ []
 acts (AliasNull target source) = act.Leave target.0 ∷ []
-acts (This target source) = act.Leave target.0 ∷ []
-acts (WeakThis target source) = act.Leave target.0 ∷ []
-acts (Read name) = act.Count name.0 ∷ []
+acts (This target source) = act.FromThis source.0 handle.Owner ∷ act.Put target.0 ∷ []
+acts (WeakThis target source) = act.FromThis source.0 handle.Weak ∷ act.Put target.0 ∷ []
+acts (Read name) = act.Read name.0 ∷ []
 acts (Place name) = act.Count name.0 ∷ []
 acts (Same first second) = act.Count first.0 ∷ []
 acts (Before first second) = act.Count first.0 ∷ []

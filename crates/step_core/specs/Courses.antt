@@ -2,7 +2,7 @@
 use Rattle.std.specs.Prelude.{◌≡◌, ℕ, ◌+◌, ◌-◌, ◌<◌, ◌≤◌, Bool, true, false, cond, not, ◌&&◌, List, [], ◌∷◌, length, drop, get_or, slice_set, Option, Some, None}
 use Rattle.step_core.specs.declared.act.Act.{Act}
 use Rattle.step_core.specs.declared.act.Form.{Form}
-use Rattle.step_core.specs.declared.act.Act.TheVariants.{Make, Share, Downgrade, Lock, Put, Leave, Clear, Count, Expired}
+use Rattle.step_core.specs.declared.act.Act.TheVariants.{Make, Share, Downgrade, Lock, Put, Leave, Clear, Count, Expired, Read, FromThis}
 use Rattle.step_core.specs.declared.act.Task.{Task}
 use Rattle.step_core.specs.declared.course.Course.{Course}
 use Rattle.step_core.specs.Holdings.{Holds, Slots, is_full, slot, weak_slot}
@@ -69,12 +69,15 @@ Begins n taken (Count k) = k < n
 Begins n taken (Downgrade k) = (k < n) × (taken ≡ false)
 Begins n taken (Lock k must) = (k < n) × (taken ≡ false)
 Begins n taken (Expired k) = k < n
+Begins n taken (Read k) = k < n
+Begins n taken (FromThis k kind) = (k < n) × (taken ≡ false)
 
 abbrev pub taken_after : Act → Bool → Bool
 taken_after (Make form) taken = true
 taken_after (Share k) taken = true
 taken_after (Downgrade k) taken = true
 taken_after (Lock k must) taken = true
+taken_after (FromThis k kind) taken = true
 taken_after (Put k) taken = false
 taken_after _ taken = taken
 

@@ -2,9 +2,10 @@
 use Rattle.std.specs.Prelude.{ℕ, ◌==◌, Bool, cond, ◌&&◌, not, Option, Some, None, slice_index}
 use Rattle.control_word.specs.declared.handle.Kind.{Kind}
 use Rattle.control_word.specs.declared.handle.Kind.TheVariants.{Owner, Weak}
-use Rattle.control_word.specs.Events.{is_gone}
+use Rattle.control_word.specs.declared.place.Place.{Place}
+use Rattle.control_word.specs.Events.{is_gone, place_at}
 use Rattle.control_word.specs.Layout.{spot}
-use Rattle.control_word.specs.State.{State, count, weak}
+use Rattle.control_word.specs.State.{Object, State, count, weak}
 use Rattle.step_core.specs.declared.holdings.Pointer.{Pointer}
 use Rattle.step_core.specs.declared.past.Deed.{Deed}
 use Rattle.step_core.specs.declared.past.Deed.TheVariants as deed
@@ -64,6 +65,29 @@ lock s x = deed.Lock x.block x.place (not (is_expired s x))
 -- what a lock gives: an owner with the weak pointer's place, if one is left
 abbrev pub owner_left : State → Pointer → Option Pointer
 owner_left s x = cond (is_expired s x) None (Some (as_owner x))
+
+-- the field that a pointer points at
+abbrev pub field_at : Object → Option Place → ℕ
+field_at o None = 0
+field_at o (Some p) = slice_index o.fields p.field
+
+abbrev pub field_of : State → Pointer → ℕ
+field_of s x = field_at (s.object (owned s x)) x.place
+
+abbrev pub read : State → Pointer → Deed
+read s x = deed.Read x.block x.place (field_of s x)
+
+-- the object gives pointers to itself ([util.smartptr.enab])
+abbrev pub is_enabled : State → Pointer → Bool
+is_enabled s x = (s.object (owned s x)).enabled
+
+-- what it gives: a pointer of this kind to the object itself
+abbrev pub this_as : Kind → Pointer → Pointer
+this_as k x = record { kind = k; block = x.block; place = place_at x.block.0 }
+
+abbrev pub give : Kind → Pointer → Deed
+give Owner x = deed.Share x.block x.place (place_at x.block.0)
+give Weak x = deed.WeakShare x.block (place_at x.block.0)
 
 -- the word that counts the owners of a pointer's object
 abbrev pub owner_word : Story → Pointer → ℕ

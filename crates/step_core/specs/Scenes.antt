@@ -6,14 +6,15 @@ use Rattle.control_word.specs.declared.event.Event.{Event}
 use Rattle.control_word.specs.declared.handle.Handle.{Handle}
 use Rattle.control_word.specs.declared.handle.Kind.{Kind}
 use Rattle.control_word.specs.declared.handle.Kind.TheVariants.{Owner, Weak}
-use Rattle.control_word.specs.declared.refusal.Refusal.TheVariants.{BadWeak, Full}
-use Rattle.control_word.specs.Events.{origin}
+use Rattle.control_word.specs.declared.place.Place.{Place}
+use Rattle.control_word.specs.declared.refusal.Refusal.TheVariants.{BadWeak, Full, NotEnabled, Null, Outside}
+use Rattle.control_word.specs.Events.{origin, place_at}
 use Rattle.control_word.specs.Handles.{empty, handle, owner, weak_of}
 use Rattle.control_word.specs.Histories.{entry, leads}
 use Rattle.control_word.specs.State.{Object, Opening, State, Stored, count, kind_of_member, weak}
 use Rattle.step_core.specs.declared.act.Act.{Act}
 use Rattle.step_core.specs.declared.act.Form.{Form}
-use Rattle.step_core.specs.declared.act.Act.TheVariants.{Make, Share, Downgrade, Lock, Put, Leave, Clear, Count, Expired}
+use Rattle.step_core.specs.declared.act.Act.TheVariants.{Make, Share, Downgrade, Lock, Put, Leave, Clear, Count, Expired, Read, FromThis}
 use Rattle.step_core.specs.declared.act.Task.{Task}
 use Rattle.step_core.specs.declared.extent.Extent.{Extent}
 use Rattle.step_core.specs.declared.holdings.Pointer.{Pointer}
@@ -23,8 +24,8 @@ use Rattle.step_core.specs.declared.said.Ended.{Ended}
 use Rattle.step_core.specs.declared.said.Ended.TheVariants as ended
 use Rattle.step_core.specs.declared.said.Said.{Said}
 use Rattle.step_core.specs.Courses.{Walk, hand, locked, placed, settled}
-use Rattle.step_core.specs.Deeds.{as_weak, is_expired, is_last, owned, owner_left}
-use Rattle.step_core.specs.Holdings.{Slots, is_full, slot}
+use Rattle.step_core.specs.Deeds.{as_weak, field_of, is_enabled, is_expired, is_last, owned, owner_left, this_as}
+use Rattle.step_core.specs.Holdings.{Slots, inside, is_full, place_in, slot}
 use Rattle.step_core.specs.Openings.{opening}
 use Rattle.step_core.specs.Stories.{Nothing}
 
@@ -99,6 +100,22 @@ counts z d h x = let s = leads z h in entry d (event.Count (handle_of s x) (coun
 abbrev pub expires : Opening → ℕ → History → Pointer → History
 expires z d h x = let s = leads z h in entry d (event.Expired (handle_of s x) (is_expired s x)) ∷ h
 
+abbrev pub reads : Opening → ℕ → History → Pointer → History
+reads z d h x = let s = leads z h in entry d (event.Read (owner (owned s x) x.place) (field_of s x)) ∷ h
+
+-- an owner's object gives a pointer to itself
+abbrev pub given_as : Kind → State → Pointer → Event Nothing
+given_as Owner s x = event.Share (owner (owned s x) x.place) (place_at x.block.0)
+given_as Weak s x = event.WeakShare (owned s x) (place_at x.block.0)
+
+abbrev pub gives : Kind → Opening → ℕ → History → Pointer → History
+gives k z d h x = let s = leads z h in entry d (given_as k s x) ∷ h
+
+-- the pointer whose object gives pointers to itself
+abbrev pub giving : State → Option Pointer → Option Pointer
+giving s None = None
+giving s (Some x) = cond (is_enabled s x) (Some x) None
+
 -- the history after an act of a desk whose thread has this in its slots
 abbrev pub acted : Opening → ℕ → Slots → History → Act → History
 acted z d slots h (Make form) = made d form h (least d (leads z h).stores)
@@ -110,6 +127,8 @@ acted z d slots h (Count k) = on (counts z d h) h (slot slots k)
 acted z d slots h (Downgrade k) = on (downgrades z d h) h (slot slots k)
 acted z d slots h (Lock k must) = on (locks z d h) h (locked slots (Lock k must))
 acted z d slots h (Expired k) = on (expires z d h) h (slot slots k)
+acted z d slots h (Read k) = on (reads z d h) h (inside (slot slots k))
+acted z d slots h (FromThis k kind) = on (gives kind z d h) h (giving (leads z h) (inside (slot slots k)))
 
 -- a new object's owner is in hand, or the rest of the statement is passed over
 abbrev pub holding : Slots → List Task → Bool → Option ℕ → Walk
@@ -136,6 +155,8 @@ went s d slots taken rest (Count k) = settled slots taken rest
 went s d slots taken rest (Downgrade k) = settled (slice_set slots (hand slots) (option_map as_weak (slot slots k))) true rest
 went s d slots taken rest (Lock k must) = taking slots must rest (found s (locked slots (Lock k must)))
 went s d slots taken rest (Expired k) = settled slots taken rest
+went s d slots taken rest (Read k) = settled slots taken rest
+went s d slots taken rest (FromThis k kind) = taking slots true rest (option_map (this_as kind) (giving s (inside (slot slots k))))
 
 abbrev pub full_answer : Option ℕ → Option Answer
 full_answer None = Some (answer.Refused Full)
@@ -147,12 +168,27 @@ lock_answer false got = answer.Locked got
 lock_answer true true = answer.Upgraded
 lock_answer true false = answer.Refused BadWeak
 
+-- why there is no field and no object to ask: the place is null, or isn't in the object (own)
+abbrev pub outside : Option Place → Answer
+outside None = answer.Refused Null
+outside (Some p) = answer.Refused Outside
+
+abbrev pub read_answer : State → Option Place → Option Pointer → Answer
+read_answer s p None = outside p
+read_answer s p (Some x) = answer.Read (field_of s x)
+
+abbrev pub this_answer : State → Option Place → Option Pointer → Option Answer
+this_answer s p None = Some (outside p)
+this_answer s p (Some x) = cond (is_enabled s x) None (Some (answer.Refused NotEnabled))
+
 -- what an act answers: a make is refused where the store is empty, and a count is the number of owners
 abbrev pub answer_of : State → ℕ → Slots → Act → Option Answer
 answer_of s d slots (Make form) = full_answer (least d s.stores)
 answer_of s d slots (Count k) = Some (answer.Count (on (λ x. count s (owned s x)) 0 (slot slots k)))
 answer_of s d slots (Lock k must) = Some (lock_answer must (is_full (found s (locked slots (Lock k must)))))
 answer_of s d slots (Expired k) = Some (answer.Expired (on (is_expired s) true (slot slots k)))
+answer_of s d slots (Read k) = Some (read_answer s (place_in slots k) (inside (slot slots k)))
+answer_of s d slots (FromThis k kind) = this_answer s (place_in slots k) (inside (slot slots k))
 answer_of s d slots _ = None
 
 abbrev pub remains : Object → Ended

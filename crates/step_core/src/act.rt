@@ -3,6 +3,7 @@ ghost use Rattle.std.specs.Prelude.{◌≡◌, ◌<◌, ◌^◌, ◌++◌, ◌�
 ghost use Rattle.step_core.specs.Acts.{acts, numbered, puts, tasks_from};
 
 use crate::call::{Call, Name};
+use control_word::handle::Kind;
 use std::alloc::{AllocError, Global};
 
 /// A primitive act. What is taken comes into the hand, and `Put` moves it into a name and leaves what the name held.
@@ -26,6 +27,11 @@ pub enum Act {
     Count { name: u8 },
     /// Tells whether no owner is left.
     Expired { name: u8 },
+    /// Tells the field that a name points at. It is refused where that isn't in the object that the name owns.
+    Read { name: u8 },
+    /// Takes a pointer of this kind from the object that a name owns and points into. It is refused where the name points
+    /// elsewhere, or the object gives none.
+    FromThis { name: u8, kind: Kind },
 }
 
 /// What a make wants its object to be.
@@ -99,17 +105,16 @@ fn parts(call: Call) -> (Act, Option<Name>)
         | Call::WeakReset { name } => (Act::Leave { name: name.0 }, None),
         Call::Count { name } | Call::WeakCount { name } => (Act::Count { name: name.0 }, None),
         Call::Expired { name } => (Act::Expired { name: name.0 }, None),
-        Call::MakeThis { target: name, .. }
-        | Call::Null { target: name }
-        | Call::Move { target: name, .. }
+        Call::MakeThis { target, fields } => (make(fields, true, false), Some(target)),
+        Call::Null { target } => (make([0; 4], false, true), Some(target)),
+        Call::This { target, source } => (from_this(source, Kind::Owner), Some(target)),
+        Call::WeakThis { target, source } => (from_this(source, Kind::Weak), Some(target)),
+        Call::Read { name } => (Act::Read { name: name.0 }, None),
+        Call::Move { target: name, .. }
         | Call::Alias { target: name, .. }
-        | Call::AliasNull { target: name, .. }
-        | Call::This { target: name, .. }
-        | Call::WeakThis { target: name, .. } => (Act::Leave { name: name.0 }, None),
-        Call::Read { name }
-        | Call::Place { name }
-        | Call::Same { first: name, .. }
-        | Call::Before { first: name, .. } => (Act::Count { name: name.0 }, None),
+        | Call::AliasNull { target: name, .. } => (Act::Leave { name: name.0 }, None),
+        Call::Place { name } | Call::Same { first: name, .. } | Call::Before { first: name, .. } =>
+            (Act::Count { name: name.0 }, None),
     }
 }
 
@@ -123,6 +128,16 @@ fn make(fields: [u64; 4], enabled: bool, null: bool) -> Act
             enabled,
             null,
         },
+    }
+}
+
+/// A pointer of this kind from the object of a name.
+fn from_this(source: Name, kind: Kind) -> Act
+    ensures { result ≡ Act.FromThis source.0 kind }
+{
+    Act::FromThis {
+        name: source.0,
+        kind,
     }
 }
 

@@ -8,7 +8,7 @@ ghost use Rattle.control_word.specs.Layout.{spot};
 ghost use Rattle.control_word.specs.declared.view.Pending.TheVariants.{Idle};
 ghost use Rattle.control_word.specs.Words.{flags_of};
 ghost use Rattle.step_core.specs.Deeds.{as_owner, as_weak, downgrade, is_expired, is_last, leave, lock, owned, owner_word, share, tell, tell_expired};
-ghost use Rattle.step_core.specs.Holdings.{Holds, is_full, slot, weak_as, weak_slot};
+ghost use Rattle.step_core.specs.Holdings.{Holds, is_full, place_in, slot, weak_as, weak_slot};
 ghost use Rattle.step_core.specs.Stories.{IsMaking, Story, after, known, object_in, pending, state};
 
 use crate::act::Form;
@@ -49,6 +49,25 @@ impl Holdings {
         ensures { result ≡ slot self.now.slots.items at }
     {
         self.slots[at]
+    }
+
+    /// The place that a slot stores.
+    pub(crate) fn place(&self, at: usize) -> Option<Place>
+        requires { at < length self.now.slots.items }
+        ensures { result ≡ place_in self.now.slots.items at }
+    {
+        match self.get(at) {
+            Some(pointer) => pointer.place,
+            None => None,
+        }
+    }
+
+    /// Puts a pointer into a slot.
+    pub(crate) fn fill(&mut self, at: usize, pointer: Pointer)
+        requires { at < length self.old.slots.items }
+        ensures { self.new.slots.items ≡ slice_set self.old.slots.items at (Some pointer) }
+    {
+        self.slots[at] = Some(pointer);
     }
 
     /// Whether a slot holds something.
@@ -122,7 +141,7 @@ impl Holdings {
         ensures holds { Holds desk self.new.slots.items table.new }
     {
         table.known();
-        table.weak_share(desk, pointer);
+        table.weak_share(desk, pointer, pointer.place);
         self.slots[to] = Some(Pointer {
             kind: Kind::Weak,
             block: pointer.block,

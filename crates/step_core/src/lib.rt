@@ -17,6 +17,9 @@ mod opening;
 mod opening_tests;
 mod past;
 mod pointer;
+mod reading;
+#[cfg(test)]
+mod reading_tests;
 #[cfg(test)]
 mod run_tests;
 mod running;
@@ -27,6 +30,9 @@ mod stock;
 mod table;
 #[cfg(test)]
 mod tests;
+mod this;
+#[cfg(test)]
+mod this_tests;
 mod thread;
 mod told;
 mod trace;

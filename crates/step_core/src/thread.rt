@@ -47,6 +47,11 @@ impl Thread {
                 statement,
             } => self.end_on(desk, table, block, stage, statement),
             Half::Locking { word } => self.lock_on(desk, table, word),
+            Half::Giving {
+                name,
+                kind,
+                pointer,
+            } => self.give(desk, table, name, kind, pointer),
         }
     }
 
@@ -69,6 +74,8 @@ impl Thread {
             Act::Downgrade { name } => self.downgrade(desk, table, name),
             Act::Lock { name, must } => self.lock(desk, table, name, must),
             Act::Expired { name } => self.expired(desk, table, name),
+            Act::Read { name } => self.read(desk, table, name),
+            Act::FromThis { name, kind } => self.from_this(desk, table, name, kind),
         }
     }
 

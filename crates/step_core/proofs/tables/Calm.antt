@@ -13,7 +13,7 @@ use Rattle.control_word.specs.Layout.{spot}
 use Rattle.control_word.specs.State.{Object, ending}
 use Rattle.control_word.specs.Views.{added, adds, owed, owes, total, used_up}
 use Rattle.step_core.specs.declared.past.Deed.{Deed}
-use Rattle.step_core.specs.declared.past.Deed.TheVariants.{Prepare, Write, Claim, Share, WeakShare, Leave, WeakLeave, Lock, Count, Expired, Clear, Finish}
+use Rattle.step_core.specs.declared.past.Deed.TheVariants.{Prepare, Write, Claim, Share, WeakShare, Leave, WeakLeave, Lock, Count, Expired, Read, Clear, Finish}
 use Rattle.step_core.specs.Openings.{opening}
 use Rattle.step_core.specs.Stories.{AllWhole, IsCalm, Kept, Nothing, Story, after, history_after, object_in, pending, pending_after, state, view_in}
 
@@ -28,6 +28,7 @@ calm_deed v d (WeakLeave b p vacant) = tt
 calm_deed v d (Lock b p got) = tt
 calm_deed v d (Count k b p n) = tt
 calm_deed v d (Expired k b p e) = tt
+calm_deed v d (Read b p n) = tt
 calm_deed v d (Clear b m) = tt
 calm_deed v d (Finish b vacant) = tt
 
@@ -62,6 +63,7 @@ whole_after v d (WeakLeave b p vacant) whole legal = whole
 whole_after v d (Lock b p got) whole legal = whole
 whole_after v d (Count k b p n) whole legal = whole
 whole_after v d (Expired k b p e) whole legal = whole
+whole_after v d (Read b p n) whole legal = whole
 whole_after v d (Clear b m) whole legal = λ o some le.
     put_cases (λ j (z : Object). o ≡ j → length z.fields ≡ 4) (state v).object (object_in v b) _ o
     (λ e t. moved_whole v (object_in v b) ((state v).object (object_in v b)) o whole refl some le e) (λ ne t. whole o some le) refl

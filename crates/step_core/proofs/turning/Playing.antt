@@ -1,15 +1,15 @@
 -- An act, and what it says.
 use Rattle.std.proofs.Common.{◌≡◌, ℕ, ◌<◌, ◌==◌, Bool, true, false, cond, List, [], ◌∷◌, length, set, refl, sym, ap, subst, ◌∙◌}
 use Rattle.std.specs.Prelude.{Option, Some, None, option_map}
-use Rattle.std.proofs.lemmas.Bool.{cond_both, false≢true}
+use Rattle.std.proofs.lemmas.Bool.{cond_both, cond-false, false≢true}
 use Rattle.control_word.specs.declared.place.Block.{Block}
 use Rattle.control_word.specs.State.{State}
 use Rattle.step_core.specs.declared.act.Act.{Act}
 use Rattle.step_core.specs.declared.act.Form.{Form}
-use Rattle.step_core.specs.declared.act.Act.TheVariants.{Make, Share, Downgrade, Lock, Put, Leave, Clear, Count, Expired}
+use Rattle.step_core.specs.declared.act.Act.TheVariants.{Make, Share, Downgrade, Lock, Put, Leave, Clear, Count, Expired, Read, FromThis}
 use Rattle.step_core.specs.declared.act.Task.{Task}
 use Rattle.step_core.specs.declared.half.Half.{Half}
-use Rattle.step_core.specs.declared.half.Half.TheVariants.{Rest, Making, Ending, Locking}
+use Rattle.step_core.specs.declared.half.Half.TheVariants.{Rest, Making, Ending, Locking, Giving}
 use Rattle.step_core.specs.declared.holdings.Pointer.{Pointer}
 use Rattle.step_core.specs.declared.past.Deed.{Deed}
 use Rattle.step_core.specs.declared.said.Said.{Said}
@@ -20,15 +20,15 @@ use Rattle.control_word.specs.declared.handle.Kind.{Kind}
 use Rattle.control_word.specs.declared.handle.Kind.TheVariants.{Owner, Weak}
 use Rattle.control_word.specs.Histories.{entry}
 use Rattle.step_core.specs.Courses.{Walk, locked}
-use Rattle.step_core.specs.Deeds.{downgrade, is_last, leave, leave_as, lock, owned, owner_word, share, share_as, tell, tell_expired}
-use Rattle.step_core.specs.Holdings.{slot}
+use Rattle.step_core.specs.Deeds.{downgrade, field_of, give, is_enabled, is_last, leave, leave_as, lock, owned, owner_word, read, share, share_as, this_as, tell, tell_expired}
+use Rattle.step_core.specs.Holdings.{inside, slot}
 use Rattle.step_core.specs.Openings.{opening}
 use Rattle.step_core.specs.Scenes.{History, Scene, acted, answer_of, ended_of, ends_as, full_answer, holding, least, leaves, left_as, made, on, shared_as}
 use Rattle.step_core.specs.Scenes.{play_from, said_from}
-use Rattle.step_core.specs.Scenes.{counts, downgrades, expires, locks, shares, walk_of, went}
-use Rattle.step_core.specs.Steps.{Step, acts, begins, begun, end_as, end_of, first, is_event, looks, step_at, stepped, story_after, trying}
+use Rattle.step_core.specs.Scenes.{counts, downgrades, expires, given_as, gives, giving, locks, reads, shares, taking, this_answer, walk_of, went}
+use Rattle.step_core.specs.Steps.{Step, acts, asks, begins, begun, end_as, end_of, first, is_event, looks, silent, step_at, stepped, story_after, trying}
 use Rattle.step_core.specs.Stories.{Story, after, state}
-use Rattle.step_core.specs.Turning.{HasBegun, Plays, is_acting, is_ending, is_locking, is_making, turned, turned_by}
+use Rattle.step_core.specs.Turning.{HasBegun, Plays, is_acting, is_ending, is_giving, is_locking, is_making, turned, turned_by}
 use Rattle.step_core.specs.Worlds.{Sight, Steps, half_of, rested_from, scene, sight_by, step_of}
 use Rattle.step_core.proofs.turning.Ending.{half_after, halves_after, same_walks, scene_as}
 
@@ -107,6 +107,10 @@ expired : (d : ℕ) (v : Story) (o : Option Pointer) → Told d v (tell_expired 
 expired d v None w = refl
 expired d v (Some x) w = refl
 
+read_so : (d : ℕ) (v : Story) (o : Option Pointer) → Told d v (read (state v)) (reads (opening v.extent) d v.history) o
+read_so d v None w = refl
+read_so d v (Some x) w = refl
+
 -- a leave, and the end that it begins
 ended : (d : ℕ) (v : Story) (k : ℕ) (w : List Walk) (h : List Half) (x : Pointer) (q : Kind) (last : Bool)
     → rested_from (record { story = after v d (leave_as q x last); walks = w; halves = h }) d (cond last (end_as q k x.block) Rest)
@@ -147,6 +151,8 @@ lock_so d u k ts (Leave i) x e = cc
 lock_so d u k ts (Clear i) x e = cc
 lock_so d u k ts (Count i) x e = cc
 lock_so d u k ts (Expired i) x e = cc
+lock_so d u k ts (Read i) x e = cc
+lock_so d u k ts (FromThis i kind) x e = cc
 
 -- a lock of nothing
 lose_so : (d : ℕ) (u : Sight) (k : ℕ) (ts : List Task) (i : ℕ) (must : Bool) → locked (walk_of (scene u) d).slots (Lock i must) ≡ None
@@ -174,6 +180,31 @@ looks_so d u k ts i must (Some y) e is =
     (λ (x : Step). is_acting x.half ≡ false → Acts d u k ts a x) (λ t q. lock_so d u k ts a y e)
     (λ t q. absurd (false≢true (sym q ∙ ap (λ (b : Bool). is_acting (cond b Rest (Locking n))) t))) is
 
+-- an object that gives no pointers to itself, or none to ask
+unasked_so : (d : ℕ) (u : Sight) (k : ℕ) (ts : List Task) (i : ℕ) (q : Kind) → giving (state u.story) (inside (slot (walk_of (scene u) d).slots i)) ≡ None
+    → Acts d u k ts (FromThis i q) (acts (state u.story) d (walk_of (scene u) d) k ts (FromThis i q) None Rest)
+unasked_so d u k ts i q e =
+    let w = walk_of (scene u) d in (
+      refl,
+      ap (λ (o : Option Pointer). record {
+        extent = u.story.extent;
+        history = on (gives q (opening u.story.extent) d u.story.history) u.story.history o;
+        walks = set u.walks d (went (state u.story) d w.slots w.taken ts (FromThis i q));
+      }) (sym e),
+    )
+
+asks_so : (d : ℕ) (u : Sight) (k : ℕ) (ts : List Task) (i : ℕ) (q : Kind) (o : Option Pointer) → inside (slot (walk_of (scene u) d).slots i) ≡ o
+    → let w = walk_of (scene u) d in
+    let a = FromThis i q in
+    let x = on (asks u.story d w k ts i q) (acts (state u.story) d w k ts a None Rest) o in is_acting x.half ≡ false → Acts d u k ts a x
+asks_so d u k ts i q None e is = unasked_so d u k ts i q (ap (giving (state u.story)) e)
+asks_so d u k ts i q (Some y) e is =
+    let w = walk_of (scene u) d in
+    let a = FromThis i q in
+    cond_both (is_enabled (state u.story) y) (record { deed = None; half = Giving i q y; walk = w; said = silent k })
+    (acts (state u.story) d w k ts a None Rest) (λ (x : Step). is_acting x.half ≡ false → Acts d u k ts a x) (λ t z. absurd (false≢true (sym z)))
+    (λ t z. unasked_so d u k ts i q (ap (giving (state u.story)) e ∙ cond-false (is_enabled (state u.story) y) (Some y) None t)) is
+
 -- each act
 acts_so : (d : ℕ) (u : Sight) (k : ℕ) (ts : List Task) (a : Act)
     → let x = first u.story d (walk_of (scene u) d) k ts a in is_acting x.half ≡ false → Acts d u k ts a x
@@ -192,6 +223,8 @@ acts_so d u k ts (Count i) is = (refl, counted d u.story (slot (walk_of (scene u
 acts_so d u k ts (Downgrade i) is = (refl, downgraded d u.story (slot (walk_of (scene u) d).slots i) _)
 acts_so d u k ts (Lock i must) is = looks_so d u k ts i must (locked (walk_of (scene u) d).slots (Lock i must)) refl is
 acts_so d u k ts (Expired i) is = (refl, expired d u.story (slot (walk_of (scene u) d).slots i) _)
+acts_so d u k ts (Read i) is = (refl, read_so d u.story (inside (slot (walk_of (scene u) d).slots i)) _)
+acts_so d u k ts (FromThis i kind) is = asks_so d u k ts i kind (inside (slot (walk_of (scene u) d).slots i)) refl is
 
 -- what a thread does whose next act is this
 pub plays_as : (d : ℕ) (u : Sight) (t : Task) (ts : List Task) (x : Step) (r : Stepped) → (walk_of (scene u) d).todo ≡ t ∷ ts → step_of d u ≡ Some x
@@ -269,6 +302,18 @@ looks_same d u k ts a (Some y) is =
     (λ (x : Step). is_acting x.half ≡ true → scene (sight_by d u (Some x)) ≡ scene u) (λ t q. absurd (false≢true q))
     (λ t q. scene_as u _ _ _ _ refl (same_walks d u)) is
 
+-- an object that was just asked
+asks_same : (d : ℕ) (u : Sight) (k : ℕ) (ts : List Task) (i : ℕ) (q : Kind) (o : Option Pointer)
+    → let w = walk_of (scene u) d in
+    let x = on (asks u.story d w k ts i q) (acts (state u.story) d w k ts (FromThis i q) None Rest) o in
+    is_acting x.half ≡ true → scene (sight_by d u (Some x)) ≡ scene u
+asks_same d u k ts i q None is = absurd (false≢true is)
+asks_same d u k ts i q (Some y) is =
+    let w = walk_of (scene u) d in
+    cond_both (is_enabled (state u.story) y) (record { deed = None; half = Giving i q y; walk = w; said = silent k })
+    (acts (state u.story) d w k ts (FromThis i q) None Rest) (λ (x : Step). is_acting x.half ≡ true → scene (sight_by d u (Some x)) ≡ scene u)
+    (λ t z. scene_as u _ _ _ _ refl (same_walks d u)) (λ t z. absurd (false≢true z)) is
+
 first_same : (d : ℕ) (u : Sight) (k : ℕ) (ts : List Task) (a : Act)
     → let x = first u.story d (walk_of (scene u) d) k ts a in is_acting x.half ≡ true → scene (sight_by d u (Some x)) ≡ scene u
 first_same d u k ts (Make form) is = begins_same d u k ts (least d (state u.story).stores) is
@@ -280,6 +325,8 @@ first_same d u k ts (Count i) is = absurd (false≢true is)
 first_same d u k ts (Downgrade i) is = absurd (false≢true is)
 first_same d u k ts (Lock i must) is = looks_same d u k ts (Lock i must) (locked (walk_of (scene u) d).slots (Lock i must)) is
 first_same d u k ts (Expired i) is = absurd (false≢true is)
+first_same d u k ts (Read i) is = absurd (false≢true is)
+first_same d u k ts (FromThis i kind) is = asks_same d u k ts i kind (inside (slot (walk_of (scene u) d).slots i)) is
 
 -- a make that has just begun
 begun_same : (d : ℕ) (u : Sight) (ts : List Task) → half_of u d ≡ Rest → (walk_of (scene u) d).todo ≡ ts → d < length u.halves
@@ -299,6 +346,7 @@ resting Rest m e = refl
 resting (Making b i f) m e = absurd (false≢true (sym m))
 resting (Ending b s k) m e = absurd (false≢true (sym e))
 resting (Locking word) m e = absurd (false≢true (sym m))
+resting (Giving i kind x) m e = absurd (false≢true (sym m))
 
 pub plays : (d : ℕ) (u v : Sight) (r : Stepped) → is_acting (half_of u d) ≡ false → is_ending (half_of u d) ≡ false → HasBegun d u → Steps d u r v
     → is_acting (half_of v d) ≡ false → Plays d u (turned_by r) v
@@ -322,15 +370,25 @@ making_acts Rest m = m
 making_acts (Making b i f) m = refl
 making_acts (Ending b s k) m = m
 making_acts (Locking word) m = refl
+making_acts (Giving i kind x) m = refl
 
 pub locking_acts : (h : Half) → is_locking h ≡ true → is_acting h ≡ true
 locking_acts Rest m = m
 locking_acts (Making b i f) m = refl
 locking_acts (Ending b s k) m = m
 locking_acts (Locking word) m = refl
+locking_acts (Giving i kind x) m = refl
 
-pub none_acts : (h : Half) → is_making h ≡ false → is_locking h ≡ false → is_acting h ≡ false
-none_acts Rest m l = refl
-none_acts (Making b i f) m l = m
-none_acts (Ending b s k) m l = refl
-none_acts (Locking word) m l = l
+pub giving_acts : (h : Half) → is_giving h ≡ true → is_acting h ≡ true
+giving_acts Rest m = m
+giving_acts (Making b i f) m = refl
+giving_acts (Ending b s k) m = m
+giving_acts (Locking word) m = refl
+giving_acts (Giving i kind x) m = refl
+
+pub none_acts : (h : Half) → is_making h ≡ false → is_locking h ≡ false → is_giving h ≡ false → is_acting h ≡ false
+none_acts Rest m l g = refl
+none_acts (Making b i f) m l g = m
+none_acts (Ending b s k) m l g = refl
+none_acts (Locking word) m l g = l
+none_acts (Giving i kind x) m l g = g
