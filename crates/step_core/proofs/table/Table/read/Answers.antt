@@ -28,7 +28,9 @@ invariant_of-self c =
     let i = inside c.args.self.now c.args.block (3 + c.from.result) k (there c.args.self.now c.args.block k
     (owner_busy c.args.self.now c.args.desk c.args.block _ k c.requires.held)).1 (let q = c.requires.field in let r = c.from.ensures in omega (arith, q, r)) in
     let f = found c.self.inside.words.items c.args.self.now.words c.block_word.result _ _ w c.block_word.ensures i c.index-value.ensures in
-    let n = f ∙ ap (λ (j : ℕ). get_or c.args.self.now.words (spot c.args.block.0 (3 + j)) 0) c.from.ensures ∙ field_read c.args.self.now c.args.block c.args.place.field k (owner_busy c.args.self.now c.args.desk c.args.block _ k c.requires.held) c.requires.field in
+    let n = f
+    ∙ ap (λ (j : ℕ). get_or c.args.self.now.words (spot c.args.block.0 (3 + j)) 0) c.from.ensures
+    ∙ field_read c.args.self.now c.args.block c.args.place.field k (owner_busy c.args.self.now c.args.desk c.args.block _ k c.requires.held) c.requires.field in
     kept_as c.args.self.now c.args.desk (Read c.args.block (Some c.args.place) c.index-value.result.now) _ _ _ _
     (kept_read c.args.self.now c.args.desk c.args.block c.args.place c.index-value.result.now k c.requires.seat c.requires.idle c.requires.held c.requires.inside n)
     (ap (λ (s : Story). s.extent) c.self.view_is) w c.then-self-inside.ensures
@@ -40,4 +42,6 @@ returns-clause-value c =
     let i = inside c.args.self.now c.args.block (3 + c.from.result) k (there c.args.self.now c.args.block k
     (owner_busy c.args.self.now c.args.desk c.args.block _ k c.requires.held)).1 (let q = c.requires.field in let r = c.from.ensures in omega (arith, q, r)) in
     let f = found c.self.inside.words.items c.args.self.now.words c.block_word.result _ _ w c.block_word.ensures i c.index-value.ensures in
-    f ∙ ap (λ (j : ℕ). get_or c.args.self.now.words (spot c.args.block.0 (3 + j)) 0) c.from.ensures ∙ field_read c.args.self.now c.args.block c.args.place.field k (owner_busy c.args.self.now c.args.desk c.args.block _ k c.requires.held) c.requires.field
+    f
+    ∙ ap (λ (j : ℕ). get_or c.args.self.now.words (spot c.args.block.0 (3 + j)) 0) c.from.ensures
+    ∙ field_read c.args.self.now c.args.block c.args.place.field k (owner_busy c.args.self.now c.args.desk c.args.block _ k c.requires.held) c.requires.field
