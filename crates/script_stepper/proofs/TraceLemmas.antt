@@ -1,18 +1,19 @@
 -- Laws of turns.
 use Rattle.std.proofs.Common.{◌≡◌, ◌≢◌, ℕ, zero, suc, ◌-◌, ◌<◌, ◌≤◌, Bool, true, false, not, List, [], ◌∷◌, ◌++◌, replicate, inl, inr}
 use Rattle.std.proofs.Common.{length, refl, sym, ◌∙◌, ap, subst, arith, get_or-set_same, get_or-set_other, append_assoc}
-use Rattle.std.specs.Prelude.{Option, Some, None}
+use Rattle.std.specs.Prelude.{Option, Some, None, option_map}
 use Rattle.std.proofs.lemmas.Bool.{cases_eq, cases_lt, cond_both}
 use Rattle.std.proofs.lemmas.List.{get_or_past, length-set}
 use Rattle.control_word.specs.State.{State}
 use Rattle.step_core.specs.declared.act.Act.{Act}
-use Rattle.step_core.specs.declared.act.Act.TheVariants.{Make, Share, Downgrade, Lock, Put, Leave, Clear, Count, Expired}
+use Rattle.step_core.specs.declared.act.Act.TheVariants.{Make, Share, Downgrade, Alias, Move, FromThis, Lock, Put, Leave, Clear, Count, Expired, Read, Ask}
 use Rattle.step_core.specs.declared.act.Task.{Task}
 use Rattle.step_core.specs.declared.said.Said.{Said}
 use Rattle.step_core.specs.declared.holdings.Pointer.{Pointer}
 use Rattle.step_core.specs.Courses.{Walk, idle, locked, settled, slots_idle, taken_idle}
-use Rattle.step_core.specs.Holdings.{Slots}
-use Rattle.step_core.specs.Scenes.{Scene, found, holding, least, nowhere, play, play_from, said, said_from, state_in, taking, walk_of, went}
+use Rattle.step_core.specs.Holdings.{Slots, inside, slot}
+use Rattle.step_core.specs.Deeds.{this_as}
+use Rattle.step_core.specs.Scenes.{Scene, found, giving, holding, least, nowhere, play, play_from, said, said_from, state_in, taking, walk_of, went}
 use Rattle.script_stepper.specs.Traces.{Item, heard, plays, told}
 
 pub plays-append : (xs ys : List ℕ) (c : Scene) → plays (xs ++ ys) c ≡ plays ys (plays xs c)
@@ -60,16 +61,16 @@ settled_less (t ∷ ts) slots taken =
     (λ (w : Walk). length w.todo ≤ suc (length ts))
     (λ _. let k = settled_less ts (slots_idle t.act slots taken) (taken_idle t.act taken) in omega (arith, k)) (λ _. omega arith)
 
-holding_less : (slots : Slots) (rest : List Task) (b : Option ℕ) → length (holding slots rest b).todo ≤ length rest
-holding_less slots rest None = settled_less rest slots false
-holding_less slots rest (Some b) = settled_less rest _ true
+holding_less : (slots : Slots) (rest : List Task) (null : Bool) (b : Option ℕ) → length (holding slots rest null b).todo ≤ length rest
+holding_less slots rest null None = settled_less rest slots false
+holding_less slots rest null (Some b) = settled_less rest _ true
 
 taking_less : (slots : Slots) (must : Bool) (rest : List Task) (x : Option Pointer) → length (taking slots must rest x).todo ≤ length rest
 taking_less slots must rest None = settled_less rest slots (not must)
 taking_less slots must rest (Some x) = settled_less rest _ true
 
 went_less : (s : State) (d : ℕ) (slots : Slots) (taken : Bool) (rest : List Task) (a : Act) → length (went s d slots taken rest a).todo ≤ length rest
-went_less s d slots taken rest (Make fields) = holding_less slots rest (least d s.stores)
+went_less s d slots taken rest (Make form) = holding_less slots rest form.null (least d s.stores)
 went_less s d slots taken rest (Share k) = settled_less rest _ true
 went_less s d slots taken rest (Put k) = settled_less rest _ false
 went_less s d slots taken rest (Leave k) = settled_less rest _ taken
@@ -78,6 +79,11 @@ went_less s d slots taken rest (Count k) = settled_less rest slots taken
 went_less s d slots taken rest (Downgrade k) = settled_less rest _ true
 went_less s d slots taken rest (Lock k must) = taking_less slots must rest (found s (locked slots (Lock k must)))
 went_less s d slots taken rest (Expired k) = settled_less rest slots taken
+went_less s d slots taken rest (Read k) = settled_less rest slots taken
+went_less s d slots taken rest (FromThis k kind) = taking_less slots true rest (option_map (this_as kind) (giving s (inside (slot slots k))))
+went_less s d slots taken rest (Alias k j field) = settled_less rest _ true
+went_less s d slots taken rest (Move k) = settled_less rest _ true
+went_less s d slots taken rest (Ask q) = settled_less rest slots taken
 
 next_less : (c : Scene) (d : ℕ) (w : Walk) (t : Task) (ts : List Task) → d < length c.walks
     → length (walk_of (play_from c d w (t ∷ ts)) d).todo ≤ length ts

@@ -2,10 +2,12 @@
 use Rattle.std.specs.Prelude.{ℕ, ◌-◌, ◌==◌, ◌++◌, Bool, true, cond, List, [], ◌∷◌, codes, decimal, Option, Some, None}
 use Rattle.std.specs.List.{flat_map}
 use Rattle.control_word.specs.declared.counts.Counts.{Counts}
+use Rattle.control_word.specs.declared.place.Place.{Place}
 use Rattle.control_word.specs.Refusal.{refusal_number}
 use Rattle.control_word.specs.State.{State}
 use Rattle.step_core.specs.declared.said.Answer.{Answer}
-use Rattle.step_core.specs.declared.said.Answer.TheVariants.{Count, Expired, Locked, Upgraded, Refused}
+use Rattle.step_core.specs.declared.said.Answer.TheVariants.{Count, Expired, Locked, Upgraded, Read, Same, Before, Refused}
+use Rattle.step_core.specs.declared.said.Answer.TheVariants as answer
 use Rattle.step_core.specs.declared.said.Ended.{Ended}
 use Rattle.step_core.specs.declared.said.Ended.TheVariants.{Fields, Null}
 use Rattle.step_core.specs.declared.said.Said.{Said}
@@ -23,19 +25,28 @@ statement_text statement = cond (statement == 0) (codes "end") (decimal statemen
 abbrev pub line_start : ℕ → ℕ → List ℕ
 line_start thread statement = decimal thread ++ codes "." ++ statement_text statement ++ codes " "
 
--- whether a weak name is expired
-abbrev pub expired_word : Bool → List ℕ
-expired_word is_expired = cond is_expired (codes "yes") (codes "no")
+-- whether something is so
+abbrev pub yes_or_no : Bool → List ℕ
+yes_or_no is_so = cond is_so (codes "yes") (codes "no")
 
 -- what came of a lock
 abbrev pub locked_word : Bool → List ℕ
 locked_word is_owner = cond is_owner (codes "owner") (codes "empty")
 
+-- a block and a field of its object, or null
+abbrev pub place_text : Option Place → List ℕ
+place_text None = codes "null"
+place_text (Some place) = decimal place.block.0 ++ codes "." ++ decimal place.field
+
 abbrev pub answer_text : Answer → List ℕ
 answer_text (Count n) = codes "count " ++ decimal n
-answer_text (Expired is_expired) = codes "expired " ++ expired_word is_expired
+answer_text (Expired is_expired) = codes "expired " ++ yes_or_no is_expired
 answer_text (Locked is_owner) = codes "lock " ++ locked_word is_owner
 answer_text Upgraded = codes "upgrade " ++ locked_word true
+answer_text (Read value) = codes "read " ++ decimal value
+answer_text (answer.Place place) = codes "place " ++ place_text place
+answer_text (Same is_same) = codes "same " ++ yes_or_no is_same
+answer_text (Before is_before) = codes "before " ++ yes_or_no is_before
 answer_text (Refused why) = codes "refused " ++ decimal (refusal_number why)
 
 abbrev pub ended_text : Ended → List ℕ

@@ -4,6 +4,8 @@
 mod closing;
 mod lines;
 pub mod listing;
+#[cfg(test)]
+mod row_tests;
 mod running;
 pub mod sink;
 #[cfg(test)]

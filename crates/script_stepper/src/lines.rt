@@ -2,10 +2,10 @@
 ghost use Rattle.std.specs.Prelude.{◌≡◌, ◌∷◌, ◌++◌, [], OnOk, string_bytes};
 ghost use Rattle.std.specs.List.{flat_map};
 ghost use Rattle.script_text.specs.Canonical.{AddsLines, number_after};
-ghost use Rattle.script_stepper.specs.Lines.{answer_text, block_text, ended_text, expired_word, line_start};
-ghost use Rattle.script_stepper.specs.Lines.{locked_word, said_lines, statement_text, totals_text};
+ghost use Rattle.script_stepper.specs.Lines.{answer_text, block_text, ended_text, line_start, locked_word};
+ghost use Rattle.script_stepper.specs.Lines.{place_text, said_lines, statement_text, totals_text, yes_or_no};
 
-use control_word::Counts;
+use control_word::{Counts, Place};
 use std::alloc::AllocError;
 use std::fmt::Write;
 use step_core::{Answer, Ended, Said};
@@ -32,11 +32,11 @@ fn put_start(text: &mut String, thread: u8, statement: u32) -> Result<(), AllocE
     Ok(())
 }
 
-/// Whether a weak name is expired.
-fn expired_word(is_expired: bool) -> &'static str
-    ensures { result.now ≡ expired_word is_expired }
+/// Whether something is so.
+fn yes_or_no(is_so: bool) -> &'static str
+    ensures { result.now ≡ yes_or_no is_so }
 {
-    if is_expired { "yes" } else { "no" }
+    if is_so { "yes" } else { "no" }
 }
 
 /// What came of a lock.
@@ -46,16 +46,37 @@ fn locked_word(is_owner: bool) -> &'static str
     if is_owner { "owner" } else { "empty" }
 }
 
+/// Adds a block and a field of its object, or `null`.
+fn put_place(text: &mut String, place: Option<Place>) -> Result<(), AllocError>
+    ensures { OnOk result (string_bytes text.new ≡ string_bytes text.old ++ place_text place) }
+{
+    match place {
+        None => text.push_str("null")?,
+        Some(Place { block, field }) => {
+            let number = block.0;
+            write!(text, "{number}.{field}")?;
+        }
+    }
+    Ok(())
+}
+
+/// Adds a word and whether it is so, which ends a line.
+fn put_test(text: &mut String, word: &str, is_so: bool) -> Result<(), AllocError>
+    ensures { OnOk result
+        (string_bytes text.new ≡ string_bytes text.old ++ word.now ++ 32 ∷ yes_or_no is_so ++ 10 ∷ []) }
+{
+    let so = yes_or_no(is_so);
+    writeln!(text, "{word} {so}")?;
+    Ok(())
+}
+
 /// Adds an answer, which ends a line.
 fn put_answer(text: &mut String, answer: Answer) -> Result<(), AllocError>
     ensures { OnOk result (string_bytes text.new ≡ string_bytes text.old ++ answer_text answer ++ 10 ∷ []) }
 {
     match answer {
         Answer::Count(owners) => writeln!(text, "count {owners}")?,
-        Answer::Expired(is_expired) => {
-            let word = expired_word(is_expired);
-            writeln!(text, "expired {word}")?;
-        }
+        Answer::Expired(is_expired) => put_test(text, "expired", is_expired)?,
         Answer::Locked(is_owner) => {
             let word = locked_word(is_owner);
             writeln!(text, "lock {word}")?;
@@ -64,6 +85,14 @@ fn put_answer(text: &mut String, answer: Answer) -> Result<(), AllocError>
             let word = locked_word(true);
             writeln!(text, "upgrade {word}")?;
         }
+        Answer::Read(value) => writeln!(text, "read {value}")?,
+        Answer::Place(place) => {
+            text.push_str("place ")?;
+            put_place(text, place)?;
+            text.push_str("\n")?;
+        }
+        Answer::Same(is_same) => put_test(text, "same", is_same)?,
+        Answer::Before(is_before) => put_test(text, "before", is_before)?,
         Answer::Refused(why) => {
             let number = why.number();
             writeln!(text, "refused {number}")?;

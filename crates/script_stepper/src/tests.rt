@@ -157,7 +157,7 @@ fn lines_that_a_writer_does_not_take(rt: HostRuntime) -> Result<(), Fail> {
 }
 
 /// What a script's run writes, or why nothing.
-fn stepped(alloc: Global, script: &[u8], turns: &[u8]) -> Result<Vec<u8>, Fault> {
+pub(crate) fn stepped(alloc: Global, script: &[u8], turns: &[u8]) -> Result<Vec<u8>, Fault> {
     let mut taken = Vec::new(alloc);
     let mut sink = Output::new(&mut taken);
     match step_text(alloc, script, turns, &mut sink) {

@@ -1,14 +1,13 @@
 -- A script that was read is within the limits, and its calls are well named.
-use Rattle.std.proofs.Common.{◌≡◌, ℕ, ◌+◌, ◌<◌, ◌≤◌, List, [], ◌∷◌, ◌++◌, length, refl, ap, subst, ◌∙◌, arith, length-append}
-use Rattle.std.specs.Prelude.{sum_by}
+use Rattle.std.proofs.Common.{◌≡◌, ℕ, zero, suc, Option, None, Some, ◌+◌, ◌<◌, ◌≤◌, List, [], ◌∷◌, ◌++◌, length, refl, ap, subst, ◌∙◌, arith, length-append}
+use Rattle.std.specs.Prelude.{slice_get, sum_by}
 use Rattle.std.specs.List.{AllByRecursion}
 use Rattle.std.proofs.lemmas.List.{map-append, length-map}
 use Rattle.std.proofs.lemmas.List.Elements.{All-from_recursion}
 use Rattle.std.proofs.lemmas.List.Sums.{sum_by-append, sum_by-cons}
 use Rattle.step_core.specs.declared.call.Call.{Call}
 use Rattle.step_core.specs.declared.call.Kind.{Kind}
-use Rattle.step_core.specs.declared.call.Name.{Name}
-use Rattle.step_core.specs.Programs.{Part, names_of, IsDeclared, IsWellNamed, IsPart}
+use Rattle.step_core.specs.Programs.{Asked, IsFound, Part, names_of, IsDeclared, IsWellNamed, IsPart}
 use Rattle.script_text.specs.Names.{NameList}
 use Rattle.script_text.specs.Drafts.{Section, Draft, new_draft, sections, no_section, with_call}
 use Rattle.script_text.specs.Grammar.{Leads, Begins}
@@ -54,11 +53,18 @@ count-last ss s =
 
 -- ---- more names
 
-declared_more : (kinds more : List Kind) (asked : List (Name × Kind))
+found_more : (kinds more : List Kind) (n : ℕ) (kind : Option Kind) → IsFound kind (slice_get kinds n)
+    → IsFound kind (slice_get (kinds ++ more) n)
+found_more [] more n None h = absurd cc
+found_more (k ∷ kinds) more zero None h = h
+found_more (k ∷ kinds) more (suc n) None h = found_more kinds more n None h
+found_more kinds more n (Some kind) h = slice_get-more kinds more n kind h
+
+declared_more : (kinds more : List Kind) (asked : List Asked)
     → AllByRecursion (IsDeclared kinds) asked → AllByRecursion (IsDeclared (kinds ++ more)) asked
 declared_more kinds more [] h = tt
 declared_more kinds more (a ∷ asked) h =
-    (slice_get-more kinds more a.0.0 a.1 h.0, declared_more kinds more asked h.1)
+    (found_more kinds more a.0.0 a.1 h.0, declared_more kinds more asked h.1)
 
 named_more : (kinds more : List Kind) (calls : List Call) → AllByRecursion (AreDeclared kinds) calls
     → AllByRecursion (AreDeclared (kinds ++ more)) calls

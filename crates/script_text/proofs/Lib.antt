@@ -8,6 +8,7 @@ pub mod TidyWords
 pub mod ReadNames
 pub mod ReadNumbers
 pub mod Reversible
+pub mod Aliases
 pub mod Rewrites
 pub mod Changes
 pub mod RoundTrip

@@ -11,12 +11,12 @@ use Rattle.std.proofs.lemmas.List.{append-nil}
 use Rattle.step_core.specs.declared.call.Kind.{Kind}
 use Rattle.step_core.specs.declared.call.Kind.TheVariants.{Owner, Weak}
 use Rattle.step_core.specs.declared.call.Name.{Name}
-use Rattle.step_core.specs.Programs.{IsDeclared}
+use Rattle.step_core.specs.Programs.{IsDeclared, IsFound}
 use Rattle.script_text.specs.declared.fault.Cause.{Cause}
 use Rattle.script_text.specs.declared.fault.Cause.TheVariants.{BadName, TooManyNames, WrongKindOfName}
 use Rattle.script_text.specs.Reading.{◌>>=◌}
 use Rattle.script_text.specs.Words.{is_name, name_at}
-use Rattle.script_text.specs.Names.{NameList, numbered, find_name, same_kind, found_source, found_target, source_at}
+use Rattle.script_text.specs.Names.{NameList, numbered, find_name, same_kind, found_source, found_target, found_any, source_at, any_source_at, asked_source_at}
 use Rattle.script_text.specs.Names.{target_at, declared_at, declared, name_text, text_of_entry}
 use Rattle.script_text.specs.Scripts.{kinds_in}
 
@@ -77,9 +77,14 @@ slice_get-map f (y ∷ xs) zero x h = let same : y ≡ x = cc in ap (λ z. Some 
 slice_get-map f (y ∷ xs) (suc n) x h = slice_get-map f xs n x h
 
 pub IsDeclared-Entry : (names : NameList) (name : Name) (word : List ℕ) (kind : Kind)
-    → Entry names name word kind → IsDeclared (kinds_in names) (name, kind)
+    → Entry names name word kind → IsDeclared (kinds_in names) (name, Some kind)
 IsDeclared-Entry names name word kind e =
     slice_get-map (λ (entry : List ℕ × Kind). entry.1) names name.0 (word, kind) e.at
+
+pub IsDeclared-any : (names : NameList) (name : Name) (word : List ℕ) (kind : Kind)
+    → Entry names name word kind → IsDeclared (kinds_in names) (name, None)
+IsDeclared-any names name word kind e =
+    subst (λ (k : Option Kind). IsFound None k) (sym (IsDeclared-Entry names name word kind e)) refl
 
 -- ---- what is found
 
@@ -138,6 +143,48 @@ source_is names kind word name h =
     record {
       entry = source_found kind names word (find_name word names) name (find_found names word) found;
       name_ok = n.0;
+    }
+
+-- a source of the kind that was asked for, or of either where none was
+pub record IsAsked (names : NameList) (name : Name) (word : List ℕ) (asked : Option Kind) : Type 0 where
+  pub kind : Kind
+  pub entry : Entry names name word kind
+  pub name_ok : is_name word ≡ true
+  pub named : IsDeclared (kinds_in names) (name, asked)
+
+any_found : (names : NameList) (word : List ℕ) (r : Option (ℕ × Kind)) (name : Name)
+    → Found names word r → found_any r ≡ Ok name → (k : Kind) × Entry names name word k
+any_found names word None name f h = absurd cc
+any_found names word (Some p) name f h =
+    let g = same_given (numbered p.0) name h in
+    (p.1, record { at = rw (← g) f })
+
+any_is : (names : NameList) (word : List ℕ) (name : Name)
+    → any_source_at names word ≡ Ok name → IsAsked names name word None
+unfolding any_source_at
+any_is names word name h =
+    let b = both_give (name_at word) (λ n. found_any (find_name n names)) name h in
+    let n = name_is word b.value b.first in
+    let found : found_any (find_name word names) ≡ Ok name =
+    subst (λ (u : List ℕ). found_any (find_name u names) ≡ Ok name) (sym n.1) b.second in
+    let e = any_found names word (find_name word names) name (find_found names word) found in
+    record {
+      kind = e.0;
+      entry = e.1;
+      name_ok = n.0;
+      named = IsDeclared-any names name word e.0 e.1;
+    }
+
+pub asked_is : (names : NameList) (asked : Option Kind) (word : List ℕ) (name : Name)
+    → asked_source_at names asked word ≡ Ok name → IsAsked names name word asked
+asked_is names None word name h = any_is names word name h
+asked_is names (Some kind) word name h =
+    let s = source_is names kind word name h in
+    record {
+      kind = kind;
+      entry = s.entry;
+      name_ok = s.name_ok;
+      named = IsDeclared-Entry names name word kind s.entry;
     }
 
 -- ---- targets

@@ -27,7 +27,7 @@ if_bound : (o : Option (List ℕ)) (n : ℕ) → number_if o ≡ Ok n → n < 2 
 if_bound None n h = let e : 0 ≡ n = same_given 0 n h in rw (← e) (lit< tt)
 if_bound (Some word) n h = number_bound word n h
 
-decimal_reads : (n : ℕ) → n < 2 ^ 64 → number_at (decimal n) ≡ Ok n
+pub decimal_reads : (n : ℕ) → n < 2 ^ 64 → number_at (decimal n) ≡ Ok n
 decimal_reads n fits =
     let digits : list_all is_digit (decimal n) ≡ true = digits_decimal numerals n fits in
     let some : ltb 0 (length (decimal n)) ≡ true = lt-ltb 0 (length (decimal n)) (decimal_nonempty n fits) in
@@ -39,7 +39,7 @@ decimal_reads n fits =
     (both_true (list_all is_digit (decimal n)) (ltb 0 (length (decimal n))) digits some) (rw value below) in
     rw (number, value) refl
 
-decimal_tidy : (n : ℕ) → n < 2 ^ 64 → IsTidy (decimal n)
+pub decimal_tidy : (n : ℕ) → n < 2 ^ 64 → IsTidy (decimal n)
 decimal_tidy n fits =
     let digits : list_all is_digit (decimal n) ≡ true = digits_decimal numerals n fits in
     (decimal_nonempty n fits, list_weaker is_digit is_tidy_byte digit_tidy (decimal n) digits)

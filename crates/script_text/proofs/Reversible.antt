@@ -1,19 +1,19 @@
 -- What was read of the words after the first is read again from its canonical words:
 -- a lemma for each shape of statement.
-use Rattle.std.proofs.Common.{◌≡◌, ℕ, List, [], ◌∷◌, ◌++◌, length, map, Result, Ok, refl, sym, ap, subst, ◌∙◌}
+use Rattle.std.proofs.Common.{◌≡◌, ℕ, List, [], ◌∷◌, ◌++◌, length, map, Option, Some, Result, Ok, refl, sym, ap, subst, ◌∙◌}
 use Rattle.std.specs.Prelude.{decimal}
 use Rattle.std.specs.List.{AllByRecursion}
 use Rattle.step_core.specs.declared.call.Kind.{Kind}
 use Rattle.step_core.specs.declared.call.Kind.TheVariants.{Owner}
 use Rattle.step_core.specs.declared.call.Name.{Name}
-use Rattle.step_core.specs.Programs.{IsDeclared}
+use Rattle.step_core.specs.Programs.{Asked, IsDeclared}
 use Rattle.script_text.specs.declared.fault.Cause.{Cause}
 use Rattle.script_text.specs.Reading.{◌>>=◌}
-use Rattle.script_text.specs.Names.{NameList, source_at, target_at, declared, name_text}
-use Rattle.script_text.specs.Shapes.{one_target, one_source, target_and_source, fields_at, target_and_fields}
+use Rattle.script_text.specs.Names.{NameList, asked_source_at, source_at, target_at, declared, name_text}
+use Rattle.script_text.specs.Shapes.{one_target, one_source, target_and_source, two_sources, fields_at, target_and_fields}
 use Rattle.script_text.specs.Scripts.{kinds_in}
 use Rattle.script_text.proofs.TidyWords.{IsTidy, name_is_tidy}
-use Rattle.script_text.proofs.ReadNames.{both_give, given, same_given, with_names, Entry, name_text-Entry, Entry-more, IsDeclared-Entry, source_is, Grows, grows_by_none, target_is}
+use Rattle.script_text.proofs.ReadNames.{both_give, given, same_given, with_names, Entry, name_text-Entry, Entry-more, IsDeclared-Entry, source_is, asked_is, Grows, grows_by_none, target_is}
 use Rattle.script_text.proofs.ReadNumbers.{are_fields, fields_again, fields_tidy, fields_size}
 
 -- how the words of a shape are read
@@ -26,20 +26,24 @@ Writer A = NameList → A → List (List ℕ)
 
 -- which names it asks for, and of which kind
 abbrev pub Asker : Type 0 → Type 0
-Asker A = A → List (Name × Kind)
+Asker A = A → List Asked
+
+-- how many words it has
+abbrev pub Sizer : Type 0 → Type 0
+Sizer A = A → ℕ
 
 -- a value that was read, against how it is written
-pub record IsReversible {A : Type 0} (read : Reader A) (write : Writer A) (asks : Asker A) (size : ℕ)
+pub record IsReversible {A : Type 0} (read : Reader A) (write : Writer A) (asks : Asker A) (size : Sizer A)
     (names new : NameList) (value : A) : Type 0 where
   pub tidy : AllByRecursion IsTidy (write new value)
-  pub size_is : length (write new value) ≡ size
+  pub size_is : length (write new value) ≡ size value
   pub again : read names (write new value) ≡ Ok (value, new)
   pub grows : Grows names new
   pub settled : (more : NameList) → write (new ++ more) value ≡ write new value
   pub named : AllByRecursion (IsDeclared (kinds_in new)) (asks value)
 
 -- the same of the value and the names that came out of it
-moved : {A : Type 0} (read : Reader A) (write : Writer A) (asks : Asker A) (size : ℕ)
+pub moved : {A : Type 0} (read : Reader A) (write : Writer A) (asks : Asker A) (size : Sizer A)
     (names made new : NameList) (x y : A)
     → given (with_names x made) ≡ given (with_names y new) → IsReversible read write asks size names made x
     → IsReversible read write asks size names new y
@@ -48,11 +52,15 @@ moved {A} read write asks size names made new x y e r =
     (same_given (with_names x made) (with_names y new) e) r
 
 -- later names change no name's text
-still : (names more : NameList) (name : Name) (word : List ℕ) (kind : Kind) → Entry names name word kind
+pub still : (names more : NameList) (name : Name) (word : List ℕ) (kind : Kind) → Entry names name word kind
     → name_text (names ++ more) name ≡ name_text names name
 still names more name word kind e =
     name_text-Entry (names ++ more) name word kind (Entry-more names more name word kind e)
     ∙ sym (name_text-Entry names name word kind e)
+
+-- so many words, whatever the value
+abbrev pub always : {A : Type 0} → ℕ → Sizer A
+always n = λ _. n
 
 -- ---- one name
 
@@ -60,11 +68,11 @@ abbrev pub write_one : Writer Name
 write_one names name = name_text names name ∷ []
 
 abbrev pub asks_one : Kind → Asker Name
-asks_one kind name = (name, kind) ∷ []
+asks_one kind name = (name, Some kind) ∷ []
 
 pub target_reversible : (kind : Kind) (names new : NameList) (words : List (List ℕ)) (name : Name)
     → one_target names kind words ≡ Ok (with_names name new)
-    → IsReversible (λ ns ws. one_target ns kind ws) write_one (asks_one kind) 1 names new name
+    → IsReversible (λ ns ws. one_target ns kind ws) write_one (asks_one kind) (always 1) names new name
 unfolding one_target
 target_reversible kind names new [] name h = absurd cc
 target_reversible kind names new (word ∷ other ∷ words) name h = absurd cc
@@ -85,7 +93,7 @@ target_reversible kind names new (word ∷ []) name h =
 
 source_from : (kind : Kind) (names : NameList) (word : List ℕ) (name : Name)
     → source_at names kind word ≡ Ok name
-    → IsReversible (λ ns ws. one_source ns kind ws) write_one (asks_one kind) 1 names names name
+    → IsReversible (λ ns ws. one_source ns kind ws) write_one (asks_one kind) (always 1) names names name
 unfolding one_source
 source_from kind names word name h =
     let s = source_is names kind word name h in
@@ -101,7 +109,7 @@ source_from kind names word name h =
 
 pub source_reversible : (kind : Kind) (names new : NameList) (words : List (List ℕ)) (name : Name)
     → one_source names kind words ≡ Ok (with_names name new)
-    → IsReversible (λ ns ws. one_source ns kind ws) write_one (asks_one kind) 1 names new name
+    → IsReversible (λ ns ws. one_source ns kind ws) write_one (asks_one kind) (always 1) names new name
 unfolding one_source
 source_reversible kind names new [] name h = absurd cc
 source_reversible kind names new (word ∷ other ∷ words) name h = absurd cc
@@ -109,7 +117,7 @@ source_reversible kind names new (word ∷ []) name h =
     let b =
     both_give (source_at names kind word) (λ source. given (with_names source names)) (with_names name new)
     h in
-    moved (λ ns ws. one_source ns kind ws) write_one (asks_one kind) 1 names names new b.value name b.second
+    moved (λ ns ws. one_source ns kind ws) write_one (asks_one kind) (always 1) names names new b.value name b.second
     (source_from kind names word b.value b.first)
 
 -- ---- two names
@@ -118,13 +126,13 @@ abbrev pub write_two : Writer (Name × Name)
 write_two names p = name_text names p.0 ∷ name_text names p.1 ∷ []
 
 abbrev pub asks_two : Kind → Kind → Asker (Name × Name)
-asks_two first second p = (p.0, first) ∷ (p.1, second) ∷ []
+asks_two first second p = (p.0, Some first) ∷ (p.1, Some second) ∷ []
 
-abbrev pair : Name → Name → Name × Name
+abbrev pub pair : Name → Name → Name × Name
 pair first second = (first, second)
 
 -- an entry of the names that have grown
-grown_entry : (names new : NameList) (name : Name) (word : List ℕ) (kind : Kind) → Grows names new
+pub grown_entry : (names new : NameList) (name : Name) (word : List ℕ) (kind : Kind) → Grows names new
     → Entry names name word kind → Entry new name word kind
 grown_entry names new name word kind g e = rw g.grown (Entry-more names g.more name word kind e)
 
@@ -132,7 +140,7 @@ target_and_source_from : (to from : Kind) (names new : NameList) (word other wri
     (target source : Name)
     → target_at names to word ≡ Ok written → source_at names from other ≡ Ok source → declared names to
     written ≡ Ok (with_names target new)
-    → IsReversible (λ ns ws. target_and_source ns to from ws) write_two (asks_two to from) 2 names new
+    → IsReversible (λ ns ws. target_and_source ns to from ws) write_two (asks_two to from) (always 2) names new
     (pair target source)
 unfolding target_and_source
 target_and_source_from to from names new word other written target source first second third =
@@ -155,7 +163,7 @@ target_and_source_from to from names new word other written target source first 
 pub target_and_source_reversible : (to from : Kind) (names new : NameList) (words : List (List ℕ))
     (p : Name × Name)
     → target_and_source names to from words ≡ Ok (with_names p new)
-    → IsReversible (λ ns ws. target_and_source ns to from ws) write_two (asks_two to from) 2 names new p
+    → IsReversible (λ ns ws. target_and_source ns to from ws) write_two (asks_two to from) (always 2) names new p
 unfolding target_and_source
 target_and_source_reversible to from names new [] p h = absurd cc
 target_and_source_reversible to from names new (word ∷ []) p h = absurd cc
@@ -173,10 +181,54 @@ target_and_source_reversible to from names new (word ∷ other ∷ []) p h =
     let c =
     both_give (declared names to a.value) (λ d. given (with_names (pair d.0 b.value) d.1))
     (with_names p new) b.second in
-    moved (λ ns ws. target_and_source ns to from ws) write_two (asks_two to from) 2 names c.value.1 new
+    moved (λ ns ws. target_and_source ns to from ws) write_two (asks_two to from) (always 2) names c.value.1 new
     (pair c.value.0 b.value) p c.second
     (target_and_source_from to from names c.value.1 word other a.value c.value.0 b.value a.first b.first
     c.first)
+
+-- two sources, each of the kind that was asked for, if one was
+abbrev pub asks_both : Option Kind → Asker (Name × Name)
+asks_both asked p = (p.0, asked) ∷ (p.1, asked) ∷ []
+
+two_sources_from : (asked : Option Kind) (names : NameList) (word other : List ℕ) (first second : Name)
+    → asked_source_at names asked word ≡ Ok first → asked_source_at names asked other ≡ Ok second
+    → IsReversible (λ ns ws. two_sources ns asked ws) write_two (asks_both asked) (always 2) names names
+    (pair first second)
+unfolding two_sources
+two_sources_from asked names word other first second one two =
+    let s = asked_is names asked word first one in
+    let t = asked_is names asked other second two in
+    let text : name_text names first ≡ word = name_text-Entry names first word s.kind s.entry in
+    let also : name_text names second ≡ other = name_text-Entry names second other t.kind t.entry in
+    record {
+      tidy = rw (text, also) (name_is_tidy word s.name_ok, (name_is_tidy other t.name_ok, tt));
+      size_is = refl;
+      again = rw (text, also, one, two) refl;
+      grows = grows_by_none names;
+      settled =
+          λ more. rw (still names more first word s.kind s.entry, still names more second other t.kind t.entry) refl;
+      named = (s.named, (t.named, tt));
+    }
+
+pub two_sources_reversible : (asked : Option Kind) (names new : NameList) (words : List (List ℕ))
+    (p : Name × Name)
+    → two_sources names asked words ≡ Ok (with_names p new)
+    → IsReversible (λ ns ws. two_sources ns asked ws) write_two (asks_both asked) (always 2) names new p
+unfolding two_sources
+two_sources_reversible asked names new [] p h = absurd cc
+two_sources_reversible asked names new (word ∷ []) p h = absurd cc
+two_sources_reversible asked names new (word ∷ other ∷ third ∷ words) p h = absurd cc
+two_sources_reversible asked names new (word ∷ other ∷ []) p h =
+    let a =
+    both_give (asked_source_at names asked word)
+    (λ first. asked_source_at names asked other >>= λ second. given (with_names (pair first second) names))
+    (with_names p new) h in
+    let b =
+    both_give (asked_source_at names asked other) (λ second. given (with_names (pair a.value second) names))
+    (with_names p new) a.second in
+    moved (λ ns ws. two_sources ns asked ws) write_two (asks_both asked) (always 2) names names new
+    (pair a.value b.value) p b.second
+    (two_sources_from asked names word other a.value b.value a.first b.first)
 
 -- ---- a name and four fields
 
@@ -184,7 +236,7 @@ abbrev pub write_fields : Writer (Name × List ℕ)
 write_fields names p = name_text names p.0 ∷ map decimal p.1
 
 abbrev pub asks_first : Kind → Asker (Name × List ℕ)
-asks_first kind p = (p.0, kind) ∷ []
+asks_first kind p = (p.0, Some kind) ∷ []
 
 abbrev with_fields : Name → List ℕ → Name × List ℕ
 with_fields name fields = (name, fields)
@@ -193,7 +245,7 @@ target_and_fields_from : (names new : NameList) (word written : List ℕ) (words
     (target : Name) (fields : List ℕ)
     → target_at names Owner word ≡ Ok written → fields_at words ≡ Ok fields → declared names Owner written
     ≡ Ok (with_names target new)
-    → IsReversible target_and_fields write_fields (asks_first Owner) 5 names new (with_fields target fields)
+    → IsReversible target_and_fields write_fields (asks_first Owner) (always 5) names new (with_fields target fields)
 unfolding target_and_fields
 target_and_fields_from names new word written words target fields first second third =
     let t = target_is names new Owner word written target first third in
@@ -211,7 +263,7 @@ target_and_fields_from names new word written words target fields first second t
 
 pub target_and_fields_reversible : (names new : NameList) (words : List (List ℕ)) (p : Name × List ℕ)
     → target_and_fields names words ≡ Ok (with_names p new)
-    → IsReversible target_and_fields write_fields (asks_first Owner) 5 names new p
+    → IsReversible target_and_fields write_fields (asks_first Owner) (always 5) names new p
 unfolding target_and_fields
 target_and_fields_reversible names new [] p h = absurd cc
 target_and_fields_reversible names new (word ∷ words) p h =
@@ -227,6 +279,6 @@ target_and_fields_reversible names new (word ∷ words) p h =
     let c =
     both_give (declared names Owner a.value) (λ d. given (with_names (with_fields d.0 b.value) d.1))
     (with_names p new) b.second in
-    moved target_and_fields write_fields (asks_first Owner) 5 names c.value.1 new
+    moved target_and_fields write_fields (asks_first Owner) (always 5) names c.value.1 new
     (with_fields c.value.0 b.value) p c.second
     (target_and_fields_from names c.value.1 word a.value words c.value.0 b.value a.first b.first c.first)

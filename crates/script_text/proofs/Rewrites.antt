@@ -1,5 +1,6 @@
 -- A statement that was read is read again from its canonical words.
-use Rattle.std.proofs.Common.{◌≡◌, ℕ, true, List, ◌∷◌, ◌++◌, length, Ok, refl, sym, ap, subst, ◌∙◌}
+use Rattle.std.proofs.Common.{◌≡◌, ℕ, true, List, ◌∷◌, ◌++◌, length, Some, None, Ok, refl, sym, ap, subst, ◌∙◌}
+use Rattle.std.specs.Prelude.{codes}
 use Rattle.std.specs.List.{AllByRecursion}
 use Rattle.step_core.specs.declared.call.Call.{Call}
 use Rattle.step_core.specs.declared.call.Call.TheVariants as call
@@ -7,18 +8,21 @@ use Rattle.step_core.specs.declared.call.Kind.TheVariants.{Owner, Weak}
 use Rattle.step_core.specs.Programs.{IsDeclared, names_of}
 use Rattle.script_text.specs.declared.keyword.Keyword.{Keyword}
 use Rattle.script_text.specs.declared.keyword.Keyword.TheVariants as key
+use Rattle.script_text.specs.declared.keyword.PlaceKeyword.{PlaceKeyword}
+use Rattle.script_text.specs.declared.keyword.PlaceKeyword.TheVariants as place
 use Rattle.script_text.specs.declared.keyword.WeakKeyword.{WeakKeyword}
 use Rattle.script_text.specs.declared.keyword.WeakKeyword.TheVariants as weak
 use Rattle.script_text.specs.Names.{NameList}
 use Rattle.script_text.specs.Keywords.{spelling_of, takes_words}
-use Rattle.script_text.specs.Shapes.{one_target, one_source, target_and_source, target_and_fields}
-use Rattle.script_text.specs.Calls.{as_call, call_at, weak_call_at}
+use Rattle.script_text.specs.Shapes.{alias_at, one_target, one_source, target_and_source, two_sources, target_and_fields}
+use Rattle.script_text.specs.Calls.{alias_call, as_call, call_at, place_call_at, weak_call_at}
 use Rattle.script_text.specs.Canonical.{call_words}
 use Rattle.script_text.specs.Scripts.{kinds_in}
 use Rattle.script_text.proofs.TidyWords.{IsTidy}
 use Rattle.script_text.proofs.ReadNames.{both_give, given, same_given, with_names, Grows}
-use Rattle.script_text.proofs.Reversible.{Reader, Writer, Asker, IsReversible, write_one, asks_one, target_reversible}
-use Rattle.script_text.proofs.Reversible.{source_reversible, write_two, asks_two, target_and_source_reversible}
+use Rattle.script_text.proofs.Reversible.{Reader, Writer, Asker, Sizer, IsReversible, always, write_one, asks_one, target_reversible}
+use Rattle.script_text.proofs.Reversible.{source_reversible, write_two, asks_two, target_and_source_reversible, asks_both, two_sources_reversible}
+use Rattle.script_text.proofs.Aliases.{Parts, write_alias, asks_alias, alias_size, alias_reversible}
 use Rattle.script_text.proofs.Reversible.{write_fields, asks_first, target_and_fields_reversible}
 
 -- later names change no word of the statement
@@ -36,13 +40,27 @@ pub record Rewrites (names : NameList) (k : Keyword) (c : Call) (new : NameList)
   pub settled : IsSettled new c
   pub named : AllByRecursion (IsDeclared (kinds_in new)) (names_of c)
 
+-- the words of an alias, the names that it asks for and how many words it has, by where it points
+alias_written : (names : NameList) (p : Parts)
+    → call_words names (alias_call p) ≡ codes "alias" ∷ write_alias names p
+alias_written names (p, None) = refl
+alias_written names (p, Some aim) = refl
+
+alias_asked : (p : Parts) → names_of (alias_call p) ≡ asks_alias p
+alias_asked (p, None) = refl
+alias_asked (p, Some aim) = refl
+
+alias_takes : (p : Parts) → takes_words (key.Place place.Alias) (alias_size p) ≡ true
+alias_takes (p, None) = refl
+alias_takes (p, Some aim) = refl
+
 -- a keyword whose words are read, written and asked for as a shape says
 module _ {A : Type 0} (k : Keyword) (make : A → Call) (read : Reader A) (write : Writer A) (asks : Asker A)
-    (size : ℕ)
+    (size : Sizer A)
     (reads : (names : NameList) (words : List (List ℕ))
     → call_at names k words ≡ as_call make (read names words))
     (writes : (names : NameList) (x : A) → call_words names (make x) ≡ (spelling_of k).word ∷ write names x)
-    (asked : (x : A) → names_of (make x) ≡ asks x) (takes : takes_words k size ≡ true)
+    (asked : (x : A) → names_of (make x) ≡ asks x) (takes : (x : A) → takes_words k (size x) ≡ true)
     (reversible : (names new : NameList) (words : List (List ℕ)) (x : A)
     → read names words ≡ Ok (with_names x new) → IsReversible read write asks size names new x) where
   rewrites_from : (names new : NameList) (words : List (List ℕ)) (x : A)
@@ -53,7 +71,7 @@ module _ {A : Type 0} (k : Keyword) (make : A → Call) (read : Reader A) (write
         words = write new x;
         first = writes new x;
         tidy = r.tidy;
-        takes = rw r.size_is takes;
+        takes = rw r.size_is (takes x);
         again = reads names (write new x) ∙ ap (as_call make) r.again;
         grows = r.grows;
         settled = λ more.
@@ -71,57 +89,98 @@ module _ {A : Type 0} (k : Keyword) (make : A → Call) (read : Reader A) (write
       subst (λ (p : Call × NameList). Rewrites names k p.0 p.1) e
       (rewrites_from names b.value.1 words b.value.0 b.first)
 
+-- each keyword on where owners point, or on what they own, by its shape
+place_rewrites : (k : PlaceKeyword) (names new : NameList) (words : List (List ℕ)) (c : Call)
+    → call_at names (key.Place k) words ≡ Ok (with_names c new) → Rewrites names (key.Place k) c new
+unfolding call_at place_call_at
+place_rewrites place.Move =
+    rewrites_by (key.Place place.Move) (λ p. call.Move p.0 p.1) (λ ns ws. target_and_source ns Owner Owner ws) write_two
+    (asks_two Owner Owner) (always 2)
+    (λ ns ws. refl) (λ ns x. refl) (λ x. refl) (λ x. refl) (target_and_source_reversible Owner Owner)
+place_rewrites place.Alias =
+    rewrites_by (key.Place place.Alias) alias_call alias_at write_alias asks_alias alias_size
+    (λ ns ws. refl) alias_written alias_asked alias_takes alias_reversible
+place_rewrites place.This =
+    rewrites_by (key.Place place.This) (λ p. call.This p.0 p.1) (λ ns ws. target_and_source ns Owner Owner ws) write_two
+    (asks_two Owner Owner) (always 2)
+    (λ ns ws. refl) (λ ns x. refl) (λ x. refl) (λ x. refl) (target_and_source_reversible Owner Owner)
+place_rewrites place.WeakThis =
+    rewrites_by (key.Place place.WeakThis) (λ p. call.WeakThis p.0 p.1) (λ ns ws. target_and_source ns Weak Owner ws) write_two
+    (asks_two Weak Owner) (always 2)
+    (λ ns ws. refl) (λ ns x. refl) (λ x. refl) (λ x. refl) (target_and_source_reversible Weak Owner)
+place_rewrites place.Read =
+    rewrites_by (key.Place place.Read) call.Read (λ ns ws. one_source ns Owner ws) write_one (asks_one Owner) (always 1)
+    (λ ns ws. refl) (λ ns x. refl) (λ x. refl) (λ x. refl) (source_reversible Owner)
+place_rewrites place.Place =
+    rewrites_by (key.Place place.Place) call.Place (λ ns ws. one_source ns Owner ws) write_one (asks_one Owner) (always 1)
+    (λ ns ws. refl) (λ ns x. refl) (λ x. refl) (λ x. refl) (source_reversible Owner)
+place_rewrites place.Same =
+    rewrites_by (key.Place place.Same) (λ p. call.Same p.0 p.1) (λ ns ws. two_sources ns (Some Owner) ws) write_two
+    (asks_both (Some Owner)) (always 2)
+    (λ ns ws. refl) (λ ns x. refl) (λ x. refl) (λ x. refl) (two_sources_reversible (Some Owner))
+place_rewrites place.Before =
+    rewrites_by (key.Place place.Before) (λ p. call.Before p.0 p.1) (λ ns ws. two_sources ns None ws) write_two
+    (asks_both None) (always 2)
+    (λ ns ws. refl) (λ ns x. refl) (λ x. refl) (λ x. refl) (two_sources_reversible None)
+
 -- each keyword on weak names by its shape
 weak_rewrites : (k : WeakKeyword) (names new : NameList) (words : List (List ℕ)) (c : Call)
     → call_at names (key.Weak k) words ≡ Ok (with_names c new) → Rewrites names (key.Weak k) c new
 unfolding call_at weak_call_at
 weak_rewrites weak.Weak =
     rewrites_by (key.Weak weak.Weak) (λ p. call.Weak p.0 p.1) (λ ns ws. target_and_source ns Weak Owner ws) write_two
-    (asks_two Weak Owner) 2
-    (λ ns ws. refl) (λ ns x. refl) (λ x. refl) refl (target_and_source_reversible Weak Owner)
+    (asks_two Weak Owner) (always 2)
+    (λ ns ws. refl) (λ ns x. refl) (λ x. refl) (λ x. refl) (target_and_source_reversible Weak Owner)
 weak_rewrites weak.Copy =
     rewrites_by (key.Weak weak.Copy) (λ p. call.WeakCopy p.0 p.1) (λ ns ws. target_and_source ns Weak Weak ws) write_two
-    (asks_two Weak Weak) 2
-    (λ ns ws. refl) (λ ns x. refl) (λ x. refl) refl (target_and_source_reversible Weak Weak)
+    (asks_two Weak Weak) (always 2)
+    (λ ns ws. refl) (λ ns x. refl) (λ x. refl) (λ x. refl) (target_and_source_reversible Weak Weak)
 weak_rewrites weak.Empty =
-    rewrites_by (key.Weak weak.Empty) call.WeakEmpty (λ ns ws. one_target ns Weak ws) write_one (asks_one Weak) 1
-    (λ ns ws. refl) (λ ns x. refl) (λ x. refl) refl (target_reversible Weak)
+    rewrites_by (key.Weak weak.Empty) call.WeakEmpty (λ ns ws. one_target ns Weak ws) write_one (asks_one Weak) (always 1)
+    (λ ns ws. refl) (λ ns x. refl) (λ x. refl) (λ x. refl) (target_reversible Weak)
 weak_rewrites weak.Reset =
-    rewrites_by (key.Weak weak.Reset) call.WeakReset (λ ns ws. one_source ns Weak ws) write_one (asks_one Weak) 1
-    (λ ns ws. refl) (λ ns x. refl) (λ x. refl) refl (source_reversible Weak)
+    rewrites_by (key.Weak weak.Reset) call.WeakReset (λ ns ws. one_source ns Weak ws) write_one (asks_one Weak) (always 1)
+    (λ ns ws. refl) (λ ns x. refl) (λ x. refl) (λ x. refl) (source_reversible Weak)
 weak_rewrites weak.Lock =
     rewrites_by (key.Weak weak.Lock) (λ p. call.Lock p.0 p.1) (λ ns ws. target_and_source ns Owner Weak ws) write_two
-    (asks_two Owner Weak) 2
-    (λ ns ws. refl) (λ ns x. refl) (λ x. refl) refl (target_and_source_reversible Owner Weak)
+    (asks_two Owner Weak) (always 2)
+    (λ ns ws. refl) (λ ns x. refl) (λ x. refl) (λ x. refl) (target_and_source_reversible Owner Weak)
 weak_rewrites weak.Upgrade =
     rewrites_by (key.Weak weak.Upgrade) (λ p. call.Upgrade p.0 p.1) (λ ns ws. target_and_source ns Owner Weak ws) write_two
-    (asks_two Owner Weak) 2
-    (λ ns ws. refl) (λ ns x. refl) (λ x. refl) refl (target_and_source_reversible Owner Weak)
+    (asks_two Owner Weak) (always 2)
+    (λ ns ws. refl) (λ ns x. refl) (λ x. refl) (λ x. refl) (target_and_source_reversible Owner Weak)
 weak_rewrites weak.Count =
-    rewrites_by (key.Weak weak.Count) call.WeakCount (λ ns ws. one_source ns Weak ws) write_one (asks_one Weak) 1
-    (λ ns ws. refl) (λ ns x. refl) (λ x. refl) refl (source_reversible Weak)
+    rewrites_by (key.Weak weak.Count) call.WeakCount (λ ns ws. one_source ns Weak ws) write_one (asks_one Weak) (always 1)
+    (λ ns ws. refl) (λ ns x. refl) (λ x. refl) (λ x. refl) (source_reversible Weak)
 weak_rewrites weak.Expired =
-    rewrites_by (key.Weak weak.Expired) call.Expired (λ ns ws. one_source ns Weak ws) write_one (asks_one Weak) 1
-    (λ ns ws. refl) (λ ns x. refl) (λ x. refl) refl (source_reversible Weak)
+    rewrites_by (key.Weak weak.Expired) call.Expired (λ ns ws. one_source ns Weak ws) write_one (asks_one Weak) (always 1)
+    (λ ns ws. refl) (λ ns x. refl) (λ x. refl) (λ x. refl) (source_reversible Weak)
 
 -- each keyword by its shape
 pub rewrites : (k : Keyword) (names new : NameList) (words : List (List ℕ)) (c : Call)
     → call_at names k words ≡ Ok (with_names c new) → Rewrites names k c new
 unfolding call_at
 rewrites key.Make =
-    rewrites_by key.Make (λ p. call.Make p.0 p.1) target_and_fields write_fields (asks_first Owner) 5
-    (λ ns ws. refl) (λ ns x. refl) (λ x. refl) refl target_and_fields_reversible
+    rewrites_by key.Make (λ p. call.Make p.0 p.1) target_and_fields write_fields (asks_first Owner) (always 5)
+    (λ ns ws. refl) (λ ns x. refl) (λ x. refl) (λ x. refl) target_and_fields_reversible
+rewrites key.MakeThis =
+    rewrites_by key.MakeThis (λ p. call.MakeThis p.0 p.1) target_and_fields write_fields (asks_first Owner) (always 5)
+    (λ ns ws. refl) (λ ns x. refl) (λ x. refl) (λ x. refl) target_and_fields_reversible
+rewrites key.Null =
+    rewrites_by key.Null call.Null (λ ns ws. one_target ns Owner ws) write_one (asks_one Owner) (always 1)
+    (λ ns ws. refl) (λ ns x. refl) (λ x. refl) (λ x. refl) (target_reversible Owner)
 rewrites key.Empty =
-    rewrites_by key.Empty call.Empty (λ ns ws. one_target ns Owner ws) write_one (asks_one Owner) 1
-    (λ ns ws. refl) (λ ns x. refl) (λ x. refl) refl (target_reversible Owner)
+    rewrites_by key.Empty call.Empty (λ ns ws. one_target ns Owner ws) write_one (asks_one Owner) (always 1)
+    (λ ns ws. refl) (λ ns x. refl) (λ x. refl) (λ x. refl) (target_reversible Owner)
 rewrites key.Reset =
-    rewrites_by key.Reset call.Reset (λ ns ws. one_source ns Owner ws) write_one (asks_one Owner) 1
-    (λ ns ws. refl) (λ ns x. refl) (λ x. refl) refl (source_reversible Owner)
+    rewrites_by key.Reset call.Reset (λ ns ws. one_source ns Owner ws) write_one (asks_one Owner) (always 1)
+    (λ ns ws. refl) (λ ns x. refl) (λ x. refl) (λ x. refl) (source_reversible Owner)
 rewrites key.Copy =
     rewrites_by key.Copy (λ p. call.Copy p.0 p.1) (λ ns ws. target_and_source ns Owner Owner ws) write_two
-    (asks_two Owner Owner) 2
-    (λ ns ws. refl) (λ ns x. refl) (λ x. refl) refl (target_and_source_reversible Owner Owner)
+    (asks_two Owner Owner) (always 2)
+    (λ ns ws. refl) (λ ns x. refl) (λ x. refl) (λ x. refl) (target_and_source_reversible Owner Owner)
 rewrites key.Count =
-    rewrites_by key.Count call.Count (λ ns ws. one_source ns Owner ws) write_one (asks_one Owner) 1
-    (λ ns ws. refl) (λ ns x. refl) (λ x. refl) refl (source_reversible Owner)
+    rewrites_by key.Count call.Count (λ ns ws. one_source ns Owner ws) write_one (asks_one Owner) (always 1)
+    (λ ns ws. refl) (λ ns x. refl) (λ x. refl) (λ x. refl) (source_reversible Owner)
+rewrites (key.Place k) = place_rewrites k
 rewrites (key.Weak k) = weak_rewrites k

@@ -1,20 +1,39 @@
 -- The call that a statement spells.
-use Rattle.std.specs.Prelude.{ℕ, List, Result, Ok}
+use Rattle.std.specs.Prelude.{ℕ, List, Some, None, Result, Ok}
 use Rattle.step_core.specs.declared.call.Call.{Call}
 use Rattle.step_core.specs.declared.call.Call.TheVariants as call
 use Rattle.step_core.specs.declared.call.Kind.TheVariants.{Owner, Weak}
+use Rattle.step_core.specs.declared.call.Name.{Name}
 use Rattle.script_text.specs.declared.fault.Cause.{Cause}
 use Rattle.script_text.specs.declared.keyword.Keyword.{Keyword}
 use Rattle.script_text.specs.declared.keyword.Keyword.TheVariants as key
+use Rattle.script_text.specs.declared.keyword.PlaceKeyword.{PlaceKeyword}
+use Rattle.script_text.specs.declared.keyword.PlaceKeyword.TheVariants as place
 use Rattle.script_text.specs.declared.keyword.WeakKeyword.{WeakKeyword}
 use Rattle.script_text.specs.declared.keyword.WeakKeyword.TheVariants as weak
 use Rattle.script_text.specs.Reading.{◌>>=◌}
 use Rattle.script_text.specs.Names.{NameList}
-use Rattle.script_text.specs.Shapes.{one_target, one_source, target_and_source, target_and_fields}
+use Rattle.script_text.specs.Shapes.{Aim, alias_at, one_target, one_source, target_and_source, two_sources, target_and_fields}
 
 -- what was read, as a call
 abbrev pub as_call : {A : Type 0} → (A → Call) → Result (A × NameList) Cause → Result (Call × NameList) Cause
 as_call make read = read >>= λ r. Ok (make r.0, r.1)
+
+-- the call of an alias, with its target and source, by where it points
+abbrev pub alias_call : (Name × Name) × Aim → Call
+alias_call (p, None) = call.AliasNull p.0 p.1
+alias_call (p, Some aim) = call.Alias p.0 p.1 aim.0 aim.1
+
+-- the call of a statement on where owners point, or on what they own, and the names with its target
+unfoldable pub place_call_at : NameList → PlaceKeyword → List (List ℕ) → Result (Call × NameList) Cause
+place_call_at names place.Move words = as_call (λ p. call.Move p.0 p.1) (target_and_source names Owner Owner words)
+place_call_at names place.Alias words = as_call alias_call (alias_at names words)
+place_call_at names place.This words = as_call (λ p. call.This p.0 p.1) (target_and_source names Owner Owner words)
+place_call_at names place.WeakThis words = as_call (λ p. call.WeakThis p.0 p.1) (target_and_source names Weak Owner words)
+place_call_at names place.Read words = as_call call.Read (one_source names Owner words)
+place_call_at names place.Place words = as_call call.Place (one_source names Owner words)
+place_call_at names place.Same words = as_call (λ p. call.Same p.0 p.1) (two_sources names (Some Owner) words)
+place_call_at names place.Before words = as_call (λ p. call.Before p.0 p.1) (two_sources names None words)
 
 -- the call of a statement on weak names, and the names with its target
 unfoldable pub weak_call_at : NameList → WeakKeyword → List (List ℕ) → Result (Call × NameList) Cause
@@ -30,8 +49,11 @@ weak_call_at names weak.Expired words = as_call call.Expired (one_source names W
 -- the call, and the names with its target
 unfoldable pub call_at : NameList → Keyword → List (List ℕ) → Result (Call × NameList) Cause
 call_at names key.Make words = as_call (λ p. call.Make p.0 p.1) (target_and_fields names words)
+call_at names key.MakeThis words = as_call (λ p. call.MakeThis p.0 p.1) (target_and_fields names words)
+call_at names key.Null words = as_call call.Null (one_target names Owner words)
 call_at names key.Empty words = as_call call.Empty (one_target names Owner words)
 call_at names key.Reset words = as_call call.Reset (one_source names Owner words)
 call_at names key.Copy words = as_call (λ p. call.Copy p.0 p.1) (target_and_source names Owner Owner words)
 call_at names key.Count words = as_call call.Count (one_source names Owner words)
+call_at names (key.Place keyword) words = place_call_at names keyword words
 call_at names (key.Weak keyword) words = weak_call_at names keyword words

@@ -3,6 +3,9 @@ use Rattle.std.specs.Prelude.{◌≡◌, ℕ, ◌++◌, String, List, [], ◌∷
 use Rattle.std.specs.List.{flat_map, join_with_byte}
 use Rattle.step_core.specs.declared.call.Call.{Call}
 use Rattle.step_core.specs.declared.call.Call.TheVariants as call
+use Rattle.step_core.specs.Programs.{field_number}
+use Rattle.script_text.specs.declared.line.Line.{Line}
+use Rattle.script_text.specs.declared.line.Line.TheVariants as line
 use Rattle.script_text.specs.Names.{NameList, name_text}
 use Rattle.script_text.specs.Drafts.{Section}
 use Rattle.script_text.specs.Grammar.{ended}
@@ -10,9 +13,22 @@ use Rattle.script_text.specs.Grammar.{ended}
 -- the words of a statement
 abbrev pub call_words : NameList → Call → List (List ℕ)
 call_words names (call.Make target fields) = codes "make" ∷ name_text names target ∷ map decimal fields
+call_words names (call.MakeThis target fields) = codes "makethis" ∷ name_text names target ∷ map decimal fields
+call_words names (call.Null target) = codes "null" ∷ name_text names target ∷ []
 call_words names (call.Empty target) = codes "empty" ∷ name_text names target ∷ []
 call_words names (call.Reset name) = codes "reset" ∷ name_text names name ∷ []
 call_words names (call.Copy target source) = codes "copy" ∷ name_text names target ∷ name_text names source ∷ []
+call_words names (call.Move target source) = codes "move" ∷ name_text names target ∷ name_text names source ∷ []
+call_words names (call.Alias target source of field) =
+    codes "alias" ∷ name_text names target ∷ name_text names source ∷ name_text names of ∷ decimal (field_number field) ∷ []
+call_words names (call.AliasNull target source) =
+    codes "alias" ∷ name_text names target ∷ name_text names source ∷ codes "null" ∷ []
+call_words names (call.This target source) = codes "this" ∷ name_text names target ∷ name_text names source ∷ []
+call_words names (call.WeakThis target source) = codes "wthis" ∷ name_text names target ∷ name_text names source ∷ []
+call_words names (call.Read name) = codes "read" ∷ name_text names name ∷ []
+call_words names (call.Place name) = codes "place" ∷ name_text names name ∷ []
+call_words names (call.Same first second) = codes "same" ∷ name_text names first ∷ name_text names second ∷ []
+call_words names (call.Before first second) = codes "before" ∷ name_text names first ∷ name_text names second ∷ []
 call_words names (call.Count name) = codes "count" ∷ name_text names name ∷ []
 call_words names (call.Weak target source) = codes "weak" ∷ name_text names target ∷ name_text names source ∷ []
 call_words names (call.WeakCopy target source) = codes "wcopy" ∷ name_text names target ∷ name_text names source ∷ []
@@ -22,6 +38,16 @@ call_words names (call.Lock target source) = codes "lock" ∷ name_text names ta
 call_words names (call.Upgrade target source) = codes "upgrade" ∷ name_text names target ∷ name_text names source ∷ []
 call_words names (call.WeakCount name) = codes "wcount" ∷ name_text names name ∷ []
 call_words names (call.Expired name) = codes "expired" ∷ name_text names name ∷ []
+
+-- the same by the shape of the line
+abbrev pub line_words : NameList → Line → List (List ℕ)
+line_words names (line.One word name) = word.now ∷ name_text names name ∷ []
+line_words names (line.Two word first second) = word.now ∷ name_text names first ∷ name_text names second ∷ []
+line_words names (line.Fields word name fields) = word.now ∷ name_text names name ∷ map decimal fields
+line_words names (line.Alias target source of field) =
+    codes "alias" ∷ name_text names target ∷ name_text names source ∷ name_text names of ∷ decimal (field_number field) ∷ []
+line_words names (line.AliasNull target source) =
+    codes "alias" ∷ name_text names target ∷ name_text names source ∷ codes "null" ∷ []
 
 -- a number after a space
 abbrev pub number_after : ℕ → List ℕ

@@ -4,7 +4,8 @@ use Rattle.std.specs.Str.{bytes_eq}
 use Rattle.script_text.specs.declared.fault.Cause.{Cause}
 use Rattle.script_text.specs.declared.fault.Cause.TheVariants.{UnknownStatement}
 use Rattle.script_text.specs.declared.keyword.Keyword.{Keyword}
-use Rattle.script_text.specs.declared.keyword.Keyword.TheVariants.{Make, Empty, Reset, Copy, Count, Weak}
+use Rattle.script_text.specs.declared.keyword.Keyword.TheVariants.{Make, MakeThis, Null, Empty, Reset, Copy, Count, Place, Weak}
+use Rattle.script_text.specs.declared.keyword.PlaceKeyword.TheVariants as place
 use Rattle.script_text.specs.declared.keyword.WeakKeyword.TheVariants as weak
 
 -- a first word, and the least and the greatest number of words that may follow it
@@ -20,10 +21,20 @@ spelled word least most = record { word = word; least = least; most = most }
 -- the table of the statements
 abbrev pub spelling_of : Keyword → Spelling
 spelling_of Make = spelled (codes "make") 1 5
+spelling_of MakeThis = spelled (codes "makethis") 1 5
+spelling_of Null = spelled (codes "null") 1 1
 spelling_of Empty = spelled (codes "empty") 1 1
 spelling_of Reset = spelled (codes "reset") 1 1
 spelling_of Copy = spelled (codes "copy") 2 2
 spelling_of Count = spelled (codes "count") 1 1
+spelling_of (Place place.Move) = spelled (codes "move") 2 2
+spelling_of (Place place.Alias) = spelled (codes "alias") 3 4
+spelling_of (Place place.This) = spelled (codes "this") 2 2
+spelling_of (Place place.WeakThis) = spelled (codes "wthis") 2 2
+spelling_of (Place place.Read) = spelled (codes "read") 1 1
+spelling_of (Place place.Place) = spelled (codes "place") 1 1
+spelling_of (Place place.Same) = spelled (codes "same") 2 2
+spelling_of (Place place.Before) = spelled (codes "before") 2 2
 spelling_of (Weak weak.Weak) = spelled (codes "weak") 2 2
 spelling_of (Weak weak.Copy) = spelled (codes "wcopy") 2 2
 spelling_of (Weak weak.Empty) = spelled (codes "wempty") 1 1
@@ -36,7 +47,10 @@ spelling_of (Weak weak.Expired) = spelled (codes "expired") 1 1
 -- all statements
 abbrev pub keywords : List Keyword
 keywords =
-    Make ∷ Empty ∷ Reset ∷ Copy ∷ Count ∷ Weak weak.Weak ∷ Weak weak.Copy ∷ Weak weak.Empty ∷ Weak weak.Reset
+    Make ∷ MakeThis ∷ Null ∷ Empty ∷ Reset ∷ Copy ∷ Count
+    ∷ Place place.Move ∷ Place place.Alias ∷ Place place.This ∷ Place place.WeakThis
+    ∷ Place place.Read ∷ Place place.Place ∷ Place place.Same ∷ Place place.Before
+    ∷ Weak weak.Weak ∷ Weak weak.Copy ∷ Weak weak.Empty ∷ Weak weak.Reset
     ∷ Weak weak.Lock ∷ Weak weak.Upgrade ∷ Weak weak.Count ∷ Weak weak.Expired ∷ []
 
 -- the keyword that a word is, if any

@@ -47,6 +47,22 @@ source_at names kind word = do
   name ← name_at word
   found_source kind (find_name name names)
 
+-- a source is declared, with whatever kind
+abbrev pub found_any : Option (ℕ × Kind) → Result Name Cause
+found_any None = Err UnknownName
+found_any (Some found) = Ok (numbered found.0)
+
+-- the source of either kind that a word names
+unfoldable pub any_source_at : NameList → List ℕ → Result Name Cause
+any_source_at names word = do
+  name ← name_at word
+  found_any (find_name name names)
+
+-- the source that a word names, of the kind that is asked for, if one is
+abbrev pub asked_source_at : NameList → Option Kind → List ℕ → Result Name Cause
+asked_source_at names None word = any_source_at names word
+asked_source_at names (Some kind) word = source_at names kind word
+
 -- a target is a new name, or one of this kind
 abbrev pub found_target : Kind → List ℕ → Option (ℕ × Kind) → Result (List ℕ) Cause
 found_target kind name None = Ok name

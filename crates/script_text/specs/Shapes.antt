@@ -1,16 +1,18 @@
 -- The words after the first one: a definition for each shape of statement.
--- `T` is a target, `O` a source, `n` a number. Words are looked at from left to right, and a target is declared
+-- `T` is a target, `O` a source, `Y` a source of either kind, `n` a number, `F` a field. Words are looked at from left to right, and a target is declared
 -- after all other checks.
-use Rattle.std.specs.Prelude.{ℕ, List, [], ◌∷◌, map, Option, Some, None, Result, Ok, Err, slice_get}
+use Rattle.std.specs.Prelude.{ℕ, List, [], ◌∷◌, map, Option, Some, None, Result, Ok, Err, codes, if◌then◌else◌, slice_get}
+use Rattle.std.specs.Str.{bytes_eq}
 use Rattle.std.specs.Borrow.{Bor}
+use Rattle.step_core.specs.declared.call.Field.{Field}
 use Rattle.step_core.specs.declared.call.Kind.{Kind}
 use Rattle.step_core.specs.declared.call.Kind.TheVariants.{Owner}
 use Rattle.step_core.specs.declared.call.Name.{Name}
 use Rattle.script_text.specs.declared.fault.Cause.{Cause}
 use Rattle.script_text.specs.declared.fault.Cause.TheVariants.{WrongNumberOfWords}
 use Rattle.script_text.specs.Reading.{◌>>=◌}
-use Rattle.script_text.specs.Words.{number_at}
-use Rattle.script_text.specs.Names.{NameList, source_at, target_at, declared}
+use Rattle.script_text.specs.Words.{number_at, field_at}
+use Rattle.script_text.specs.Names.{NameList, asked_source_at, source_at, target_at, declared}
 
 -- the words, without where they lie in memory
 abbrev pub texts : List (Bor (List ℕ)) → List (List ℕ)
@@ -39,6 +41,42 @@ target_and_source names to from (target ∷ other ∷ []) = do
   new ← declared names to name
   Ok ((new.0, source), new.1)
 target_and_source names to from _ = Err WrongNumberOfWords
+
+-- `Y Y`, each of the kind that is asked for, if one is
+unfoldable pub two_sources : NameList → Option Kind → List (List ℕ) → Result ((Name × Name) × NameList) Cause
+two_sources names asked (one ∷ other ∷ []) = do
+  first ← asked_source_at names asked one
+  second ← asked_source_at names asked other
+  Ok ((first, second), names)
+two_sources names asked _ = Err WrongNumberOfWords
+
+-- where an alias points: at a field of what a name points into, or at null
+abbrev pub Aim : Type 0
+Aim = Option (Name × Field)
+
+-- the field of what the source points into
+abbrev pub aim_of : Name → List ℕ → Result Aim Cause
+aim_of name word = do
+  field ← field_at word
+  Ok (Some (name, field))
+
+-- `null`, `F` of the source, or `O F`
+unfoldable pub aim_at : NameList → Name → List (List ℕ) → Result Aim Cause
+aim_at names source (last ∷ []) = if bytes_eq last (codes "null") then Ok None else aim_of source last
+aim_at names source (other ∷ last ∷ []) = do
+  of ← source_at names Owner other
+  aim_of of last
+aim_at names source _ = Err WrongNumberOfWords
+
+-- `T O null`, `T O F` or `T O O F`
+unfoldable pub alias_at : NameList → List (List ℕ) → Result (((Name × Name) × Aim) × NameList) Cause
+alias_at names (target ∷ other ∷ aims) = do
+  name ← target_at names Owner target
+  source ← source_at names Owner other
+  aim ← aim_at names source aims
+  new ← declared names Owner name
+  Ok (((new.0, source), aim), new.1)
+alias_at names _ = Err WrongNumberOfWords
 
 -- a number that may be left out, and is 0 then
 abbrev pub number_if : Option (List ℕ) → Result ℕ Cause

@@ -3,7 +3,9 @@ use Rattle.std.specs.Prelude.{ℕ, ◌-◌, ◌^◌, ◌==◌, ◌&&◌, ◌||�
 use Rattle.std.specs.List.{slice_split, list_all}
 use Rattle.std.specs.Str.Parse.{digits_value}
 use Rattle.script_text.specs.declared.fault.Cause.{Cause}
-use Rattle.script_text.specs.declared.fault.Cause.TheVariants.{BadName, BadNumber}
+use Rattle.script_text.specs.declared.fault.Cause.TheVariants.{BadField, BadName, BadNumber}
+use Rattle.step_core.specs.declared.call.Field.{Field}
+use Rattle.step_core.specs.declared.call.Field.TheVariants.{Zero, One, Two, Three}
 
 -- a space or a tab
 abbrev pub is_space : ℕ → Bool
@@ -51,3 +53,18 @@ is_number word = list_all is_digit word && nat_lt 0 (length word) && nat_lt (dig
 -- the number that a word is
 abbrev pub number_at : List ℕ → Result ℕ Cause
 number_at word = if is_number word then Ok (digits_value 10 word) else Err BadNumber
+
+-- the field with this number
+abbrev pub field_numbered : ℕ → Result Field Cause
+field_numbered n =
+    if n == 0 then Ok Zero
+    else (if n == 1 then Ok One else (if n == 2 then Ok Two else (if n == 3 then Ok Three else Err BadField)))
+
+-- a field's number, and no other word
+abbrev pub numbered_field : Result ℕ Cause → Result Field Cause
+numbered_field (Ok n) = field_numbered n
+numbered_field (Err c) = Err BadField
+
+-- the field that a word is
+unfoldable pub field_at : List ℕ → Result Field Cause
+field_at word = numbered_field (number_at word)

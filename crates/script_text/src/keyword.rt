@@ -11,12 +11,29 @@ use crate::fault::{Cause, Stop};
 #[derive(Clone, Copy, Debug, PartialEq, Eq)]
 pub(crate) enum Keyword {
     Make,
+    MakeThis,
+    Null,
     Empty,
     Reset,
     Copy,
     Count,
+    /// A statement on where owners point, or on what they own.
+    Place(PlaceKeyword),
     /// A statement on weak names.
     Weak(WeakKeyword),
+}
+
+/// A statement on where owners point, or on what they own, by its first word.
+#[derive(Clone, Copy, Debug, PartialEq, Eq)]
+pub(crate) enum PlaceKeyword {
+    Move,
+    Alias,
+    This,
+    WeakThis,
+    Read,
+    Place,
+    Same,
+    Before,
 }
 
 /// A statement on weak names by its first word.
@@ -33,12 +50,22 @@ pub(crate) enum WeakKeyword {
 }
 
 /// Each statement once.
-const KEYWORDS: [Keyword; 13] = [
+const KEYWORDS: [Keyword; 23] = [
     Keyword::Make,
+    Keyword::MakeThis,
+    Keyword::Null,
     Keyword::Empty,
     Keyword::Reset,
     Keyword::Copy,
     Keyword::Count,
+    Keyword::Place(PlaceKeyword::Move),
+    Keyword::Place(PlaceKeyword::Alias),
+    Keyword::Place(PlaceKeyword::This),
+    Keyword::Place(PlaceKeyword::WeakThis),
+    Keyword::Place(PlaceKeyword::Read),
+    Keyword::Place(PlaceKeyword::Place),
+    Keyword::Place(PlaceKeyword::Same),
+    Keyword::Place(PlaceKeyword::Before),
     Keyword::Weak(WeakKeyword::Weak),
     Keyword::Weak(WeakKeyword::Copy),
     Keyword::Weak(WeakKeyword::Empty),
@@ -65,10 +92,20 @@ fn spelling_of(keyword: Keyword) -> Spelling
 {
     let (word, least, most) = match keyword {
         Keyword::Make => ("make", 1, 5),
+        Keyword::MakeThis => ("makethis", 1, 5),
+        Keyword::Null => ("null", 1, 1),
         Keyword::Empty => ("empty", 1, 1),
         Keyword::Reset => ("reset", 1, 1),
         Keyword::Copy => ("copy", 2, 2),
         Keyword::Count => ("count", 1, 1),
+        Keyword::Place(PlaceKeyword::Move) => ("move", 2, 2),
+        Keyword::Place(PlaceKeyword::Alias) => ("alias", 3, 4),
+        Keyword::Place(PlaceKeyword::This) => ("this", 2, 2),
+        Keyword::Place(PlaceKeyword::WeakThis) => ("wthis", 2, 2),
+        Keyword::Place(PlaceKeyword::Read) => ("read", 1, 1),
+        Keyword::Place(PlaceKeyword::Place) => ("place", 1, 1),
+        Keyword::Place(PlaceKeyword::Same) => ("same", 2, 2),
+        Keyword::Place(PlaceKeyword::Before) => ("before", 2, 2),
         Keyword::Weak(WeakKeyword::Weak) => ("weak", 2, 2),
         Keyword::Weak(WeakKeyword::Copy) => ("wcopy", 2, 2),
         Keyword::Weak(WeakKeyword::Empty) => ("wempty", 1, 1),

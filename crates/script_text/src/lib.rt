@@ -11,9 +11,14 @@
 //! | statement | call | target |
 //! |---|---|---|
 //! | `make T [n [n [n [n]]]]` | `Make`; fields left out are 0 | owner |
+//! | `makethis T [n [n [n [n]]]]` | `MakeThis` | owner |
+//! | `null T` | `Null` | owner |
 //! | `empty T` | `Empty` | owner |
 //! | `reset O` | `Reset` | |
 //! | `copy T O` | `Copy` | owner |
+//! | `move T O` | `Move` | owner |
+//! | `alias T O O F` | `Alias`; `alias T O F` is `alias T O O F` | owner |
+//! | `alias T O null` | `AliasNull` | owner |
 //! | `count O` | `Count` | |
 //! | `weak T O` | `Weak` | weak |
 //! | `wcopy T W` | `WeakCopy` | weak |
@@ -23,20 +28,30 @@
 //! | `upgrade T W` | `Upgrade` | owner |
 //! | `wcount W` | `WeakCount` | |
 //! | `expired W` | `Expired` | |
+//! | `this T O` | `This` | owner |
+//! | `wthis T O` | `WeakThis` | weak |
+//! | `read O` | `Read` | |
+//! | `place O` | `Place` | |
+//! | `same O O` | `Same` | |
+//! | `before Y Y` | `Before`; each name of either kind | |
+//!
+//! A number is at most 18446744073709551615, a field (`F`) a number from 0 to 3; leading zeros are read, and not written.
 //!
 //! On one line causes are looked for in the order in which [`Cause`] lists them, except that the words
 //! after the first are looked at from left to right: each by its form, then whether a source is
 //! declared, then whether it is declared with the other kind, be it a source or a target.
 //!
 //! A further statement is a variant of `step_core::Call` with its names in `names_of`, a row in
-//! `keyword.rt`, an arm in `statement.rt` and one in `printing.rt`, the same three in `specs/Keywords`,
+//! `keyword.rt`, an arm in `statement.rt` and one in `line.rt`, the same three in `specs/Keywords`,
 //! `specs/Calls` and `specs/Canonical`, and a line in `proofs/Rewrites`. A new shape of words is a
-//! function in `shape.rt`, a definition in `specs/Shapes` and a lemma in `proofs/Reversible`.
+//! function in `shape.rt` (`alias.rt` has the widest), a definition in `specs/Shapes` and a lemma in `proofs/Reversible`.
 #![tactic(auto)]
 
+mod alias;
 mod draft;
 mod fault;
 mod keyword;
+mod line;
 mod names;
 mod printing;
 mod program;
@@ -52,6 +67,8 @@ pub use printing::print;
 pub use script::Script;
 pub use text::parse;
 
+#[cfg(test)]
+mod place_tests;
 #[cfg(test)]
 mod tests;
 #[cfg(test)]

@@ -31,7 +31,8 @@ impl Model for Names {
 impl Names {
     ghost use Rattle.std.specs.Prelude.{◌≡◌, [], IfOk, map};
     ghost use Rattle.script_text.specs.Reading.{Gives};
-    ghost use Rattle.script_text.specs.Names.{find_name, source_at, target_at, declared, name_text};
+    ghost use Rattle.script_text.specs.Names.{find_name, source_at, any_source_at, asked_source_at};
+    ghost use Rattle.script_text.specs.Names.{target_at, declared, name_text};
 
     pub(crate) fn new(alloc: Global) -> Names
         ensures { result ≡ [] }
@@ -60,6 +61,28 @@ impl Names {
             (Some((number, Kind::Owner)), Kind::Owner) => Ok(Name(number)),
             (Some((number, Kind::Weak)), Kind::Weak) => Ok(Name(number)),
             (Some(_), _) => Err(Stop::Cause(Cause::WrongKindOfName)),
+        }
+    }
+
+    /// The same, where a name of either kind will do.
+    #[tactic(auto, unfolding(crate::specs::Names::any_source_at))]
+    fn any_source(&self, word: &[u8]) -> Result<Name, Stop>
+        ensures { Gives (λ n. n) result (any_source_at self.now word.now) }
+    {
+        let name = name_of(word)?;
+        match self.find(name) {
+            None => Err(Stop::Cause(Cause::UnknownName)),
+            Some((number, _)) => Ok(Name(number)),
+        }
+    }
+
+    /// The name that a statement reads, of the kind that is asked for, if one is.
+    pub(crate) fn asked_source(&self, asked: Option<Kind>, word: &[u8]) -> Result<Name, Stop>
+        ensures { Gives (λ n. n) result (asked_source_at self.now asked word.now) }
+    {
+        match asked {
+            None => self.any_source(word),
+            Some(kind) => self.source(kind, word),
         }
     }
 

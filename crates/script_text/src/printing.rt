@@ -1,94 +1,17 @@
 //! A script as canonical text.
 
-ghost use Rattle.std.specs.Prelude.{◌≡◌, ◌∷◌, [], ◌++◌, map, OnOk, IfOk, IsOkUnless, string_bytes, decimal};
+ghost use Rattle.std.specs.Prelude.{◌≡◌, map, OnOk, IfOk, IsOkUnless, string_bytes};
 ghost use Rattle.std.specs.List.{flat_map};
 ghost use Rattle.control_word.specs.declared.refusal.Refusal.TheVariants.{Memory};
 ghost use Rattle.script_text.specs.Drafts.{section_of};
 ghost use Rattle.script_text.specs.Grammar.{Reads};
-ghost use Rattle.script_text.specs.Canonical.{AddsLines, spaced, number_after, call_line, section_lines, begun_lines, canonical};
+ghost use Rattle.script_text.specs.Canonical.{AddsLines, section_lines, begun_lines, canonical};
 
-use crate::names::Names;
+use crate::line::put_call;
 use crate::script::Script;
 use crate::thread::Thread;
 use control_word::Refusal;
 use std::alloc::{AllocError, Global};
-use std::fmt::Write;
-use step_core::Call;
-
-/// Adds a line of two words.
-fn put_two(text: &mut String, first: &str, second: &str) -> Result<(), AllocError>
-    ensures { OnOk result (AddsLines text.old text.new (spaced (first.now ∷ second.now ∷ []) ∷ [])) }
-{
-    writeln!(text, "{first} {second}")?;
-    Ok(())
-}
-
-/// Adds a line of three words.
-fn put_three(text: &mut String, first: &str, second: &str, third: &str) -> Result<(), AllocError>
-    ensures { OnOk result
-        (AddsLines text.old text.new (spaced (first.now ∷ second.now ∷ third.now ∷ []) ∷ [])) }
-{
-    writeln!(text, "{first} {second} {third}")?;
-    Ok(())
-}
-
-/// Adds numbers, each after a space.
-fn put_numbers(text: &mut String, numbers: &[u64; 4]) -> Result<(), AllocError>
-    ensures { OnOk result
-        (string_bytes text.new ≡ string_bytes text.old ++ flat_map number_after numbers.now) }
-{
-    for number in numbers {
-        write!(text, " {number}")?;
-    }
-    Ok(())
-}
-
-/// Adds a line of two words and numbers.
-fn put_fields(
-    text: &mut String,
-    first: &str,
-    second: &str,
-    numbers: &[u64; 4],
-) -> Result<(), AllocError>
-    ensures { OnOk result
-        (AddsLines text.old text.new (spaced (first.now ∷ second.now ∷ map decimal numbers.now) ∷ [])) }
-{
-    write!(text, "{first} {second}")?;
-    put_numbers(text, numbers)?;
-    text.push_str("\n")?;
-    Ok(())
-}
-
-/// Adds the line of a call.
-fn put_call(text: &mut String, names: &Names, call: &Call) -> Result<(), AllocError>
-    ensures { OnOk result (AddsLines text.old text.new (call_line names.now call.now ∷ [])) }
-{
-    match call {
-        Call::Make { target, fields } => put_fields(text, "make", names.text(*target), fields),
-        Call::Empty { target } => put_two(text, "empty", names.text(*target)),
-        Call::Reset { name } => put_two(text, "reset", names.text(*name)),
-        Call::Copy { target, source } => {
-            put_three(text, "copy", names.text(*target), names.text(*source))
-        }
-        Call::Count { name } => put_two(text, "count", names.text(*name)),
-        Call::Weak { target, source } => {
-            put_three(text, "weak", names.text(*target), names.text(*source))
-        }
-        Call::WeakCopy { target, source } => {
-            put_three(text, "wcopy", names.text(*target), names.text(*source))
-        }
-        Call::WeakEmpty { target } => put_two(text, "wempty", names.text(*target)),
-        Call::WeakReset { name } => put_two(text, "wreset", names.text(*name)),
-        Call::Lock { target, source } => {
-            put_three(text, "lock", names.text(*target), names.text(*source))
-        }
-        Call::Upgrade { target, source } => {
-            put_three(text, "upgrade", names.text(*target), names.text(*source))
-        }
-        Call::WeakCount { name } => put_two(text, "wcount", names.text(*name)),
-        Call::Expired { name } => put_two(text, "expired", names.text(*name)),
-    }
-}
 
 /// Adds the lines of a thread.
 fn put_thread(text: &mut String, thread: &Thread) -> Result<(), AllocError>

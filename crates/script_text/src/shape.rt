@@ -2,7 +2,7 @@
 
 ghost use Rattle.std.specs.Prelude.{◌≡◌};
 ghost use Rattle.script_text.specs.Reading.{Gives};
-ghost use Rattle.script_text.specs.Shapes.{texts, number_or_zero, fields_at, one_target, one_source, target_and_source, target_and_fields};
+ghost use Rattle.script_text.specs.Shapes.{texts, number_or_zero, fields_at, one_target, one_source, target_and_source, two_sources, target_and_fields};
 
 use crate::fault::{Cause, Stop};
 use crate::names::Names;
@@ -57,6 +57,23 @@ pub(crate) fn target_and_source(
     let source = names.source(from, read)?;
     let target = names.declare(alloc, to, name)?;
     Ok((target, source))
+}
+
+/// Two sources, each of the kind that is asked for, if one is.
+#[tactic(auto, unfolding(crate::specs::Shapes::two_sources))]
+pub(crate) fn two_sources(
+    names: &Names,
+    asked: Option<Kind>,
+    words: &[&[u8]],
+) -> Result<(Name, Name), Stop>
+    ensures { Gives (λ n. (n, names.now)) result (two_sources names.now asked (texts words.now)) }
+{
+    let [one, other] = words else {
+        return Err(Stop::Cause(Cause::WrongNumberOfWords));
+    };
+    let first = names.asked_source(asked, one)?;
+    let second = names.asked_source(asked, other)?;
+    Ok((first, second))
 }
 
 fn number_or_zero(words: &[&[u8]], place: usize) -> Result<u64, Stop>

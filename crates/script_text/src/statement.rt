@@ -2,12 +2,13 @@
 
 ghost use Rattle.script_text.specs.Reading.{Gives};
 ghost use Rattle.script_text.specs.Shapes.{texts};
-ghost use Rattle.script_text.specs.Calls.{call_at, weak_call_at};
+ghost use Rattle.script_text.specs.Calls.{call_at, place_call_at, weak_call_at};
 
+use crate::alias::alias;
 use crate::fault::Stop;
-use crate::keyword::{Keyword, WeakKeyword};
+use crate::keyword::{Keyword, PlaceKeyword, WeakKeyword};
 use crate::names::Names;
-use crate::shape::{source, target, target_and_fields, target_and_source};
+use crate::shape::{source, target, target_and_fields, target_and_source, two_sources};
 use std::alloc::Global;
 use step_core::Call;
 use step_core::Kind::{Owner, Weak};
@@ -28,6 +29,14 @@ pub(crate) fn call_of(
             let (target, fields) = target_and_fields(alloc, names, words)?;
             Ok(Call::Make { target, fields })
         }
+        Keyword::MakeThis => {
+            let (target, fields) = target_and_fields(alloc, names, words)?;
+            Ok(Call::MakeThis { target, fields })
+        }
+        Keyword::Null => {
+            let target = target(alloc, names, Owner, words)?;
+            Ok(Call::Null { target })
+        }
         Keyword::Empty => {
             let target = target(alloc, names, Owner, words)?;
             Ok(Call::Empty { target })
@@ -44,7 +53,52 @@ pub(crate) fn call_of(
             let name = source(names, Owner, words)?;
             Ok(Call::Count { name })
         }
+        Keyword::Place(keyword) => place_call_of(alloc, names, keyword, words),
         Keyword::Weak(keyword) => weak_call_of(alloc, names, keyword, words),
+    }
+}
+
+/// The same for a statement on where owners point, or on what they own.
+#[tactic(auto, unfolding(crate::specs::Calls::place_call_at))]
+fn place_call_of(
+    alloc: Global,
+    names: &mut Names,
+    keyword: PlaceKeyword,
+    words: &[&[u8]],
+) -> Result<Call, Stop>
+    ensures { Gives (λ call. (call, names.new)) result
+        (place_call_at names.old keyword (texts words.now)) }
+{
+    match keyword {
+        PlaceKeyword::Move => {
+            let (target, source) = target_and_source(alloc, names, Owner, Owner, words)?;
+            Ok(Call::Move { target, source })
+        }
+        PlaceKeyword::Alias => alias(alloc, names, words),
+        PlaceKeyword::This => {
+            let (target, source) = target_and_source(alloc, names, Owner, Owner, words)?;
+            Ok(Call::This { target, source })
+        }
+        PlaceKeyword::WeakThis => {
+            let (target, source) = target_and_source(alloc, names, Weak, Owner, words)?;
+            Ok(Call::WeakThis { target, source })
+        }
+        PlaceKeyword::Read => {
+            let name = source(names, Owner, words)?;
+            Ok(Call::Read { name })
+        }
+        PlaceKeyword::Place => {
+            let name = source(names, Owner, words)?;
+            Ok(Call::Place { name })
+        }
+        PlaceKeyword::Same => {
+            let (first, second) = two_sources(names, Some(Owner), words)?;
+            Ok(Call::Same { first, second })
+        }
+        PlaceKeyword::Before => {
+            let (first, second) = two_sources(names, None, words)?;
+            Ok(Call::Before { first, second })
+        }
     }
 }
 

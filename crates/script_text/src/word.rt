@@ -3,11 +3,12 @@
 ghost use Rattle.std.specs.Prelude.{◌≡◌, ◌||◌, map, IfOk};
 ghost use Rattle.std.specs.List.{list_all};
 ghost use Rattle.script_text.specs.Reading.{Gives};
-ghost use Rattle.script_text.specs.Words.{is_space, is_clean_byte, is_name_byte, is_digit, words_of, line_content, is_name, name_at, number_at};
+ghost use Rattle.script_text.specs.Words.{is_space, is_clean_byte, is_name_byte, is_digit, words_of, line_content, is_name, name_at, number_at, field_at};
 
 use crate::fault::{Cause, Stop};
 use std::alloc::{AllocError, Global};
 use std::str;
+use step_core::Field;
 
 /// How many bytes a name has at most.
 pub(crate) const NAME_BYTES: usize = 16;
@@ -105,5 +106,20 @@ pub(crate) fn number_of(word: &[u8]) -> Result<u64, Stop>
     match text.parse::<u64>() {
         Ok(n) => Ok(n),
         Err(_) => Err(Stop::Cause(Cause::BadNumber)),
+    }
+}
+
+/// The field that a word is.
+#[tactic(auto, unfolding(crate::specs::Words::field_at))]
+pub(crate) fn field_of(word: &[u8]) -> Result<Field, Stop>
+    ensures { Gives (λ f. f) result (field_at word.now) }
+{
+    match number_of(word) {
+        Ok(0) => Ok(Field::Zero),
+        Ok(1) => Ok(Field::One),
+        Ok(2) => Ok(Field::Two),
+        Ok(3) => Ok(Field::Three),
+        Ok(_) | Err(Stop::Cause(_)) => Err(Stop::Cause(Cause::BadField)),
+        Err(Stop::Memory) => Err(Stop::Memory),
     }
 }

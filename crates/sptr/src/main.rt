@@ -5,6 +5,8 @@ mod answers;
 mod command;
 #[cfg(test)]
 mod fine_tests;
+#[cfg(test)]
+mod place_tests;
 mod serve;
 #[cfg(test)]
 mod tests;

@@ -4,7 +4,7 @@ use Rattle.std.proofs.Common.{get_or-set_same}
 use Rattle.std.proofs.lemmas.Bool.{cond-true, cond-false, false≢true}
 use Rattle.std.proofs.lemmas.List.{drop_more}
 use Rattle.step_core.specs.declared.act.Act.{Act}
-use Rattle.step_core.specs.declared.act.Act.TheVariants.{Make, Share, Downgrade, Lock, Put, Leave, Clear, Count, Expired}
+use Rattle.step_core.specs.declared.act.Act.TheVariants.{Make, Share, Downgrade, Lock, Put, Leave, Clear, Count, Expired, Read, FromThis, Alias, Move, Ask}
 use Rattle.step_core.specs.declared.act.Task.{Task}
 use Rattle.step_core.specs.declared.course.Course.{Course}
 use Rattle.step_core.specs.Courses.{Begins, CourseReady, IsPassed, IsReady, Ready, hand, idle, no_task, placed, settled, slots_idle, taken_after}
@@ -69,6 +69,11 @@ ready_past (Count k) slots taken ts i lt free r = absurd (false≢true i)
 ready_past (Downgrade k) slots taken ts i lt free r = absurd (false≢true i)
 ready_past (Lock k must) slots taken ts i lt free r = absurd (false≢true i)
 ready_past (Expired k) slots taken ts i lt free r = absurd (false≢true i)
+ready_past (Read k) slots taken ts i lt free r = absurd (false≢true i)
+ready_past (FromThis k kind) slots taken ts i lt free r = absurd (false≢true i)
+ready_past (Alias k j field) slots taken ts i lt free r = absurd (false≢true i)
+ready_past (Move k) slots taken ts i lt free r = absurd (false≢true i)
+ready_past (Ask q) slots taken ts i lt free r = absurd (false≢true i)
 
 -- what the next act may rely on, and what is left to do after it
 pub ready_head : (c : Course) → c.at < length c.tasks.items → CourseReady c

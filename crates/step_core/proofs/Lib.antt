@@ -6,6 +6,7 @@ pub mod Courses
 pub mod Threads
 pub mod Endings
 pub mod Leaving
+pub mod Giving
 pub mod Steps
 pub mod Worlds
 pub mod Openings

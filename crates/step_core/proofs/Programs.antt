@@ -1,36 +1,59 @@
 -- What the tests of a program find.
-use Rattle.std.proofs.Common.{◌≡◌, ◌≢◌, ℕ, zero, suc, ◌+◌, ◌<◌, ◌≤◌, Bool, true, false, List, [], ◌∷◌, ◌++◌, length, map, take, get_or, refl, sym, ap, subst, ◌∙◌, ⊎_elim, arith}
+use Rattle.std.proofs.Common.{◌≡◌, ◌≢◌, ℕ, zero, suc, ◌+◌, ◌<◌, ◌≤◌, ◌&&◌, Bool, true, false, List, [], ◌∷◌, ◌++◌, length, map, take, get_or, refl, sym, ap, subst, ◌∙◌, ⊎_elim, arith}
 use Rattle.std.proofs.lemmas.Bool.{cases_eq}
-use Rattle.std.specs.Prelude.{All, IsTrue, sum_by}
+use Rattle.std.specs.Prelude.{All, IsTrue, Option, Some, sum_by}
 use Rattle.std.proofs.lemmas.List.{get_or-map, length-map, map_push, take-map, take_more}
 use Rattle.std.proofs.lemmas.List.Sums.{sum_by-take-le, sum_by_push}
-use Rattle.std.proofs.lemmas.List.Elements.{All-cons, All-head, All-nil, All-tail}
+use Rattle.std.proofs.lemmas.List.Elements.{All-append, All-cons, All-head, All-nil, All-tail}
 use Rattle.step_core.specs.declared.call.Actor.{Actor}
 use Rattle.step_core.specs.declared.call.Call.{Call}
 use Rattle.step_core.specs.declared.call.Kind.{Kind}
-use Rattle.step_core.specs.declared.call.Name.{Name}
-use Rattle.step_core.specs.Programs.{IsDeclared, IsWellNamed, Part, call_count, names_of, part_of}
+use Rattle.step_core.specs.Programs.{Asked, IsDeclared, IsWellNamed, Part, call_count, listed, names_of, part_of}
 
-pub one_named : (kinds : List Kind) (call : Call) (x : Name × Kind) (b : Bool) → names_of call ≡ x ∷ []
-    → (IsTrue b → IsDeclared kinds x) × (IsDeclared kinds x → IsTrue b) → (IsTrue b → IsWellNamed kinds call) × (IsWellNamed kinds call → IsTrue b)
-one_named kinds call x b e h =
-    subst (λ (l : List (Name × Kind)). (IsTrue b → All (IsDeclared kinds) l) × (All (IsDeclared kinds) l → IsTrue b)) (sym e)
-    (λ t. All-cons (IsDeclared kinds) x [] (h.0 t) (All-nil (IsDeclared kinds)), λ a. h.1 (All-head (IsDeclared kinds) x [] a))
+not_true : IsTrue false → ⊥
+not_true t = cc
 
-pub two_named : (kinds : List Kind) (call : Call) (x y : Name × Kind) (b : Bool) → names_of call ≡ x ∷ y ∷ [] → IsDeclared kinds x
-    → (IsTrue b → IsDeclared kinds y) × (IsDeclared kinds y → IsTrue b) → (IsTrue b → IsWellNamed kinds call) × (IsWellNamed kinds call → IsTrue b)
-two_named kinds call x y b e d h =
-    subst (λ (l : List (Name × Kind)). (IsTrue b → All (IsDeclared kinds) l) × (All (IsDeclared kinds) l → IsTrue b)) (sym e) (
-      λ t. All-cons (IsDeclared kinds) x (y ∷ []) d (All-cons (IsDeclared kinds) y [] (h.0 t) (All-nil (IsDeclared kinds))),
-      λ a. h.1 (All-head (IsDeclared kinds) y [] (All-tail (IsDeclared kinds) x (y ∷ []) a)),
+-- a test that tells just whether a type has a value
+abbrev pub Tells : Bool → Type 0 → Type 0
+Tells b P = (IsTrue b → P) × (P → IsTrue b)
+
+-- what holds of each element of two lists in a row
+all_left : {X : Type 0} (P : X → Type 0) (xs ys : List X) → All P (xs ++ ys) → All P xs
+all_left P [] ys a = All-nil P
+all_left P (x ∷ xs) ys a = All-cons P x xs (All-head P x (xs ++ ys) a) (all_left P xs ys (All-tail P x (xs ++ ys) a))
+
+all_right : {X : Type 0} (P : X → Type 0) (xs ys : List X) → All P (xs ++ ys) → All P ys
+all_right P [] ys a = a
+all_right P (x ∷ xs) ys a = all_right P xs ys (All-tail P x (xs ++ ys) a)
+
+-- a test of a name that is there, as one of the list that it is
+pub one_named : (kinds : List Kind) (asked : Option Asked) (x : Asked) (b : Bool) → asked ≡ Some x → Tells b (IsDeclared kinds x)
+    → Tells b (All (IsDeclared kinds) (listed asked))
+one_named kinds asked x b e h =
+    subst (λ (o : Option Asked). Tells b (All (IsDeclared kinds) (listed o))) (sym e) (
+      λ t. All-cons (IsDeclared kinds) x [] (h.0 t) (All-nil (IsDeclared kinds)),
+      λ a. h.1 (All-head (IsDeclared kinds) x [] a),
     )
 
-pub first_not_named : (kinds : List Kind) (call : Call) (x y : Name × Kind) (b : Bool) → names_of call ≡ x ∷ y ∷ [] → b ≡ false
-    → (IsDeclared kinds x → IsTrue false) → (IsTrue b → IsWellNamed kinds call) × (IsWellNamed kinds call → IsTrue b)
-first_not_named kinds call x y b e is h = (
-  λ t. absurd (let k : true ≡ false = sym t ∙ is in cc),
-  λ a. is ∙ h (All-head (IsDeclared kinds) x (y ∷ []) (subst (λ (l : List (Name × Kind)). All (IsDeclared kinds) l) e a)),
+-- three tests in a row, of one name and of two lists of names
+three_tests : (kinds : List Kind) (x : Asked) (ys zs : List Asked) (p q r : Bool) → Tells p (IsDeclared kinds x)
+    → Tells q (All (IsDeclared kinds) ys) → Tells r (All (IsDeclared kinds) zs) → Tells (p && q && r) (All (IsDeclared kinds) (x ∷ ys ++ zs))
+three_tests kinds x ys zs false q r h k l = (λ t. absurd (not_true t), λ a. h.1 (All-head (IsDeclared kinds) x (ys ++ zs) a))
+three_tests kinds x ys zs true false r h k l = (
+  λ t. absurd (not_true t),
+  λ a. k.1 (all_left (IsDeclared kinds) ys zs (All-tail (IsDeclared kinds) x (ys ++ zs) a)),
 )
+three_tests kinds x ys zs true true r h k l = (
+  λ t. All-cons (IsDeclared kinds) x (ys ++ zs) (h.0 refl) (All-append (IsDeclared kinds) ys zs (k.0 refl) (l.0 t)),
+  λ a. l.1 (all_right (IsDeclared kinds) ys zs (All-tail (IsDeclared kinds) x (ys ++ zs) a)),
+)
+
+pub three_named : (kinds : List Kind) (call : Call) (x : Asked) (ys zs : List Asked) (p q r b : Bool) → names_of call ≡ x ∷ ys ++ zs
+    → b ≡ (p && q && r) → Tells p (IsDeclared kinds x) → Tells q (All (IsDeclared kinds) ys) → Tells r (All (IsDeclared kinds) zs)
+    → Tells b (IsWellNamed kinds call)
+three_named kinds call x ys zs p q r b e is h k l =
+    subst (λ (l : List Asked). Tells b (All (IsDeclared kinds) l)) (sym e)
+    (subst (λ (t : Bool). Tells t (All (IsDeclared kinds) (x ∷ ys ++ zs))) (sym is) (three_tests kinds x ys zs p q r h k l))
 
 -- what holds of each element's image
 pub all_mapped : {X Y : Type 0} (P : Y → Type 0) (f : X → Y) (xs : List X) → All P (map f xs) → (k : ℕ) (d : X) → k < length xs → P (f

@@ -1,7 +1,7 @@
 -- A thread at its start fits the table.
-use Rattle.std.proofs.Common.{◌≡◌, ℕ, zero, suc, ◌+◌, ◌<◌, ◌≤◌, Bool, false, List, [], ◌∷◌, ◌++◌, length}
+use Rattle.std.proofs.Common.{◌≡◌, ℕ, zero, suc, ◌+◌, ◌<◌, ◌≤◌, Bool, false, List, [], ◌∷◌, ◌++◌, length, Option}
 use Rattle.std.proofs.Common.{get_or, replicate, refl, sym, ap, subst, ◌∙◌, arith}
-use Rattle.std.specs.Prelude.{All, Some, slice_get}
+use Rattle.std.specs.Prelude.{All, Some, None, slice_get}
 use Rattle.std.proofs.lemmas.List.{length-replicate}
 use Rattle.std.proofs.lemmas.List.Elements.{All-head, All-tail}
 use Rattle.control_word.specs.declared.handle.Handle.{Handle}
@@ -11,15 +11,12 @@ use Rattle.step_core.specs.declared.act.Task.{Task}
 use Rattle.step_core.specs.declared.call.Call.{Call}
 use Rattle.step_core.specs.declared.call.Call.TheVariants as call
 use Rattle.step_core.specs.declared.call.Kind.{Kind}
-use Rattle.step_core.specs.declared.call.Kind.TheVariants.{Owner}
-use Rattle.step_core.specs.declared.call.Kind.TheVariants as kind
-use Rattle.step_core.specs.declared.call.Name.{Name}
 use Rattle.step_core.specs.declared.extent.Extent.{Extent}
 use Rattle.step_core.specs.declared.slot.Slot.{Slot}
 use Rattle.step_core.specs.Acts.{acts, clearing, numbered, tasks_from}
 use Rattle.step_core.specs.Courses.{IsReady, Ready, hand}
 use Rattle.step_core.specs.Holdings.{Holds, IsSlot, Slots, full, owns, plain, value}
-use Rattle.step_core.specs.Programs.{IsDeclared, IsPart, IsWellNamed, Part, names_of}
+use Rattle.step_core.specs.Programs.{Asked, IsDeclared, IsFound, IsPart, IsWellNamed, Part, either, names_of, owner, weak}
 use Rattle.step_core.specs.Starts.{HasFields, first_story}
 use Rattle.step_core.specs.Stories.{Nothing, Story, pending}
 use Rattle.step_core.proofs.tables.Start.{fresh_at}
@@ -50,8 +47,9 @@ pub idle_start : (d : ℕ) (x : Extent) → d < x.actors → pending (first_stor
 idle_start d x lt = ap (λ (v : View Nothing). v.pending) (fresh_at 0 x.actors d lt)
 
 -- a call's names are below the number of names
-within : (kinds : List Kind) (i : ℕ) (k : Kind) → slice_get kinds i ≡ Some k → i < length kinds
-within [] i k e = cc
+within : (kinds : List Kind) (i : ℕ) (k : Option Kind) → IsFound k (slice_get kinds i) → i < length kinds
+within [] i None e = absurd cc
+within [] i (Some k) e = absurd cc
 within (x ∷ xs) zero k e = omega arith
 within (x ∷ xs) (suc i) k e = let r = within xs i k e in omega (arith, r)
 
@@ -60,39 +58,65 @@ clearing_ready n zero taken le = tt
 clearing_ready n (suc k) taken le = (omega arith, clearing_ready n k taken (omega arith))
 
 -- the i-th name of a call
-name_within : (kinds : List Kind) (c : Call) (i : ℕ) (x : Name × Kind) → i < length (names_of c) → x ≡ get_or (names_of c) i x → IsWellNamed kinds c
+name_within : (kinds : List Kind) (c : Call) (i : ℕ) (x : Asked) → i < length (names_of c) → x ≡ get_or (names_of c) i x → IsWellNamed kinds c
     → x.0.0 < length kinds
 name_within kinds c i x lt e named = within kinds x.0.0 x.1 (subst (IsDeclared kinds) (sym e) (named i x lt))
 
 call_ready : (kinds : List Kind) (k : ℕ) (c : Call) (ts : List Task) → IsWellNamed kinds c → HasFields c → Ready (length kinds) false ts
     → Ready (length kinds) false (numbered k (acts c) ++ ts)
-call_ready kinds k (call.Make t f) ts named four r = ((refl, four), (name_within kinds (call.Make t f) 0 (t, Owner) (omega arith) refl named, r))
-call_ready kinds k (call.Empty t) ts named four r = (name_within kinds (call.Empty t) 0 (t, Owner) (omega arith) refl named, r)
-call_ready kinds k (call.Reset t) ts named four r = (name_within kinds (call.Reset t) 0 (t, Owner) (omega arith) refl named, r)
-call_ready kinds k (call.Copy t s) ts named four r = (
-  (name_within kinds (call.Copy t s) 1 (s, Owner) (omega arith) refl named, refl),
-  (name_within kinds (call.Copy t s) 0 (t, Owner) (omega arith) refl named, r),
+call_ready kinds k (call.Make t f) ts named four r = ((refl, four), (name_within kinds (call.Make t f) 0 (owner t) (omega arith) refl named, r))
+call_ready kinds k (call.Empty t) ts named four r = (name_within kinds (call.Empty t) 0 (owner t) (omega arith) refl named, r)
+call_ready kinds k (call.Reset t) ts named four r = (name_within kinds (call.Reset t) 0 (owner t) (omega arith) refl named, r)
+call_ready kinds k (call.Count t) ts named four r = (name_within kinds (call.Count t) 0 (owner t) (omega arith) refl named, r)
+call_ready kinds k (call.WeakEmpty t) ts named four r = (name_within kinds (call.WeakEmpty t) 0 (weak t) (omega arith) refl named, r)
+call_ready kinds k (call.WeakReset t) ts named four r = (name_within kinds (call.WeakReset t) 0 (weak t) (omega arith) refl named, r)
+call_ready kinds k (call.WeakCount t) ts named four r = (name_within kinds (call.WeakCount t) 0 (weak t) (omega arith) refl named, r)
+call_ready kinds k (call.Expired t) ts named four r = (name_within kinds (call.Expired t) 0 (weak t) (omega arith) refl named, r)
+call_ready kinds k (call.MakeThis t f) ts named four r = ((refl, four), (name_within kinds (call.MakeThis t f) 0 (owner t) (omega arith) refl named, r))
+call_ready kinds k (call.Null t) ts named four r = ((refl, refl), (name_within kinds (call.Null t) 0 (owner t) (omega arith) refl named, r))
+call_ready kinds k (call.Move t s) ts named four r = (
+  (name_within kinds (call.Move t s) 1 (owner s) (omega arith) refl named, refl),
+  (name_within kinds (call.Move t s) 0 (owner t) (omega arith) refl named, r),
 )
-call_ready kinds k (call.Count t) ts named four r = (name_within kinds (call.Count t) 0 (t, Owner) (omega arith) refl named, r)
-call_ready kinds k (call.WeakEmpty t) ts named four r = (name_within kinds (call.WeakEmpty t) 0 (t, kind.Weak) (omega arith) refl named, r)
-call_ready kinds k (call.WeakReset t) ts named four r = (name_within kinds (call.WeakReset t) 0 (t, kind.Weak) (omega arith) refl named, r)
-call_ready kinds k (call.WeakCount t) ts named four r = (name_within kinds (call.WeakCount t) 0 (t, kind.Weak) (omega arith) refl named, r)
-call_ready kinds k (call.Expired t) ts named four r = (name_within kinds (call.Expired t) 0 (t, kind.Weak) (omega arith) refl named, r)
+call_ready kinds k (call.Alias t s o f) ts named four r = (
+  (name_within kinds (call.Alias t s o f) 1 (owner s) (omega arith) refl named, name_within kinds (call.Alias t s o f) 2 (owner o) (omega arith) refl named, refl),
+  (name_within kinds (call.Alias t s o f) 0 (owner t) (omega arith) refl named, r),
+)
+call_ready kinds k (call.AliasNull t s) ts named four r = (
+  (name_within kinds (call.AliasNull t s) 1 (owner s) (omega arith) refl named, name_within kinds (call.AliasNull t s) 1 (owner s) (omega arith) refl named, refl),
+  (name_within kinds (call.AliasNull t s) 0 (owner t) (omega arith) refl named, r),
+)
+call_ready kinds k (call.This t s) ts named four r = (
+  (name_within kinds (call.This t s) 1 (owner s) (omega arith) refl named, refl),
+  (name_within kinds (call.This t s) 0 (owner t) (omega arith) refl named, r),
+)
+call_ready kinds k (call.WeakThis t s) ts named four r = (
+  (name_within kinds (call.WeakThis t s) 1 (owner s) (omega arith) refl named, refl),
+  (name_within kinds (call.WeakThis t s) 0 (weak t) (omega arith) refl named, r),
+)
+call_ready kinds k (call.Read t) ts named four r = (name_within kinds (call.Read t) 0 (owner t) (omega arith) refl named, r)
+call_ready kinds k (call.Place t) ts named four r = (name_within kinds (call.Place t) 0 (owner t) (omega arith) refl named, r)
+call_ready kinds k (call.Same t s) ts named four r = ((name_within kinds (call.Same t s) 0 (owner t) (omega arith) refl named, name_within kinds (call.Same t s) 1 (owner s) (omega arith) refl named), r)
+call_ready kinds k (call.Before t s) ts named four r = ((name_within kinds (call.Before t s) 0 (either t) (omega arith) refl named, name_within kinds (call.Before t s) 1 (either s) (omega arith) refl named), r)
+call_ready kinds k (call.Copy t s) ts named four r = (
+  (name_within kinds (call.Copy t s) 1 (owner s) (omega arith) refl named, refl),
+  (name_within kinds (call.Copy t s) 0 (owner t) (omega arith) refl named, r),
+)
 call_ready kinds k (call.Weak t s) ts named four r = (
-  (name_within kinds (call.Weak t s) 1 (s, Owner) (omega arith) refl named, refl),
-  (name_within kinds (call.Weak t s) 0 (t, kind.Weak) (omega arith) refl named, r),
+  (name_within kinds (call.Weak t s) 1 (owner s) (omega arith) refl named, refl),
+  (name_within kinds (call.Weak t s) 0 (weak t) (omega arith) refl named, r),
 )
 call_ready kinds k (call.WeakCopy t s) ts named four r = (
-  (name_within kinds (call.WeakCopy t s) 1 (s, kind.Weak) (omega arith) refl named, refl),
-  (name_within kinds (call.WeakCopy t s) 0 (t, kind.Weak) (omega arith) refl named, r),
+  (name_within kinds (call.WeakCopy t s) 1 (weak s) (omega arith) refl named, refl),
+  (name_within kinds (call.WeakCopy t s) 0 (weak t) (omega arith) refl named, r),
 )
 call_ready kinds k (call.Lock t s) ts named four r = (
-  (name_within kinds (call.Lock t s) 1 (s, kind.Weak) (omega arith) refl named, refl),
-  (name_within kinds (call.Lock t s) 0 (t, Owner) (omega arith) refl named, r),
+  (name_within kinds (call.Lock t s) 1 (weak s) (omega arith) refl named, refl),
+  (name_within kinds (call.Lock t s) 0 (owner t) (omega arith) refl named, r),
 )
 call_ready kinds k (call.Upgrade t s) ts named four r = (
-  (name_within kinds (call.Upgrade t s) 1 (s, kind.Weak) (omega arith) refl named, refl),
-  (name_within kinds (call.Upgrade t s) 0 (t, Owner) (omega arith) refl named, r),
+  (name_within kinds (call.Upgrade t s) 1 (weak s) (omega arith) refl named, refl),
+  (name_within kinds (call.Upgrade t s) 0 (owner t) (omega arith) refl named, r),
 )
 
 tasks_ready : (kinds : List Kind) (k : ℕ) (calls : List Call) → All (IsWellNamed kinds) calls → All HasFields calls

@@ -15,7 +15,7 @@ use Rattle.control_word.specs.Steps.{known_of}
 use Rattle.control_word.specs.Views.{used_up}
 use Rattle.step_core.specs.declared.act.Act.{Act}
 use Rattle.step_core.specs.declared.act.Form.{Form}
-use Rattle.step_core.specs.declared.act.Act.TheVariants.{Make, Share, Downgrade, Lock, Put, Leave, Clear, Count, Expired}
+use Rattle.step_core.specs.declared.act.Act.TheVariants.{Make, Share, Downgrade, Lock, Put, Leave, Clear, Count, Expired, Read, FromThis, Alias, Move, Ask}
 use Rattle.step_core.specs.declared.act.Task.{Task}
 use Rattle.step_core.specs.declared.course.Course.{Course}
 use Rattle.step_core.specs.declared.half.Half.{Half}
@@ -49,6 +49,11 @@ weaker n (Count k) b = b
 weaker n (Downgrade k) b = (b.0, refl)
 weaker n (Lock k must) b = (b.0, refl)
 weaker n (Expired k) b = b
+weaker n (Read k) b = b
+weaker n (FromThis k kind) b = (b.0, refl)
+weaker n (Alias k j field) b = (b.0, b.1, refl)
+weaker n (Move k) b = (b.0, refl)
+weaker n (Ask q) b = b
 
 ready_more : (n : ℕ) (act : Act) (ts : List Task) → (Ready n true ts → Ready n false ts) → Ready n (taken_after act true) ts
     → Ready n (taken_after act false) ts
@@ -61,9 +66,14 @@ ready_more n (Count k) ts f r = f r
 ready_more n (Downgrade k) ts f r = r
 ready_more n (Lock k must) ts f r = r
 ready_more n (Expired k) ts f r = f r
+ready_more n (Read k) ts f r = f r
+ready_more n (FromThis k kind) ts f r = r
+ready_more n (Alias k j field) ts f r = r
+ready_more n (Move k) ts f r = r
+ready_more n (Ask q) ts f r = f r
 
 -- what is ready for a value in hand is ready for none
-ready_any : (n : ℕ) (ts : List Task) → Ready n true ts → Ready n false ts
+pub ready_any : (n : ℕ) (ts : List Task) → Ready n true ts → Ready n false ts
 ready_any n [] r = r
 ready_any n (t ∷ ts) r = (weaker n t.act r.0, ready_more n t.act ts (ready_any n ts) r.1)
 

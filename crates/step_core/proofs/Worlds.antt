@@ -9,7 +9,7 @@ use Rattle.step_core.specs.declared.course.Course.{Course}
 use Rattle.step_core.specs.declared.past.Deed.{Deed}
 use Rattle.step_core.specs.declared.said.Stepped.{Stepped}
 use Rattle.step_core.specs.declared.half.Half.{Half}
-use Rattle.step_core.specs.declared.half.Half.TheVariants.{Rest, Making, Ending, Locking}
+use Rattle.step_core.specs.declared.half.Half.TheVariants.{Rest, Making, Ending, Locking, Giving}
 use Rattle.step_core.specs.declared.thread.Thread.{Thread}
 use Rattle.step_core.specs.Actors.{HalfFits}
 use Rattle.step_core.specs.Courses.{Walk, todo, walk}
@@ -110,12 +110,15 @@ begun_of d (Making b i differs) c v fits next =
     subst (λ (ts : List Task). IsUnderWay d v (Making b i differs) ts) (sym (todo_at c next.0)) (fits.within, fits.least, next.1)
 begun_of d (Ending b stage k) c v fits next = fits.within
 begun_of d (Locking word) c v fits next = tt
+begun_of d (Giving i kind x) c v fits next =
+    subst (λ (ts : List Task). IsUnderWay d v (Giving i kind x) ts) (sym (todo_at c next.0)) (next.1, fits.enabled)
 
 tried_of : (h : Half) (c : Course) → IsNext h c → IsTried h (walk c)
 tried_of Rest c next = tt
 tried_of (Making b i differs) c next = tt
 tried_of (Ending b stage k) c next = tt
 tried_of (Locking word) c next = subst (λ (ts : List Task). IsLock c.holdings.slots.items ts) (sym (todo_at c next.0)) next.1
+tried_of (Giving i kind x) c next = next.2
 
 pub has_begun : (v : Story) (threads : List Thread) (n : ℕ) (t : Thread) → n < length threads → t ≡ get_or threads n t → Fits n t v
     → HasBegun n (sight v threads)

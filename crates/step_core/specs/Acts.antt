@@ -1,11 +1,14 @@
 -- What statements do, act by act. All of it is own.
 use Rattle.std.specs.Prelude.{ℕ, zero, suc, ◌+◌, true, false, List, [], ◌∷◌, ◌++◌, Option, Some, None}
+use Rattle.control_word.specs.declared.handle.Kind.TheVariants as handle
 use Rattle.step_core.specs.declared.act.Act.{Act}
 use Rattle.step_core.specs.declared.act.Act.TheVariants as act
+use Rattle.step_core.specs.declared.act.Question.TheVariants as question
 use Rattle.step_core.specs.declared.act.Task.{Task}
 use Rattle.step_core.specs.declared.call.Call.{Call}
 use Rattle.step_core.specs.declared.call.Name.{Name}
 use Rattle.step_core.specs.declared.call.Call.TheVariants.{Make, Empty, Reset, Copy, Count}
+use Rattle.step_core.specs.declared.call.Call.TheVariants.{MakeThis, Null, Move, Alias, AliasNull, This, WeakThis, Read, Place, Same, Before}
 use Rattle.step_core.specs.declared.call.Call.TheVariants.{Weak, WeakCopy, WeakEmpty, WeakReset, Lock, Upgrade, WeakCount, Expired}
 
 -- the acts of a statement, in order
@@ -23,6 +26,17 @@ acts (Lock target source) = act.Lock source.0 false ∷ act.Put target.0 ∷ []
 acts (Upgrade target source) = act.Lock source.0 true ∷ act.Put target.0 ∷ []
 acts (WeakCount name) = act.Count name.0 ∷ []
 acts (Expired name) = act.Expired name.0 ∷ []
+acts (MakeThis target fields) = act.Make (record { fields = fields; enabled = true; null = false }) ∷ act.Put target.0 ∷ []
+acts (Null target) = act.Make (record { fields = 0 ∷ 0 ∷ 0 ∷ 0 ∷ []; enabled = false; null = true }) ∷ act.Put target.0 ∷ []
+acts (Move target source) = act.Move source.0 ∷ act.Put target.0 ∷ []
+acts (Alias target source of field) = act.Alias source.0 of.0 (Some field) ∷ act.Put target.0 ∷ []
+acts (AliasNull target source) = act.Alias source.0 source.0 None ∷ act.Put target.0 ∷ []
+acts (This target source) = act.FromThis source.0 handle.Owner ∷ act.Put target.0 ∷ []
+acts (WeakThis target source) = act.FromThis source.0 handle.Weak ∷ act.Put target.0 ∷ []
+acts (Read name) = act.Read name.0 ∷ []
+acts (Place name) = act.Ask (question.Place name.0) ∷ []
+acts (Same first second) = act.Ask (question.Same first.0 second.0) ∷ []
+acts (Before first second) = act.Ask (question.Before first.0 second.0) ∷ []
 
 -- what was taken goes to its name
 abbrev pub puts : Option Name → List Act

@@ -2,7 +2,9 @@
 use Rattle.std.specs.Prelude.{◌≡◌, ℕ, ◌+◌, ◌-◌, ◌<◌, ◌≤◌, Bool, true, false, cond, not, ◌&&◌, List, [], ◌∷◌, length, drop, get_or, slice_set, Option, Some, None}
 use Rattle.step_core.specs.declared.act.Act.{Act}
 use Rattle.step_core.specs.declared.act.Form.{Form}
-use Rattle.step_core.specs.declared.act.Act.TheVariants.{Make, Share, Downgrade, Lock, Put, Leave, Clear, Count, Expired}
+use Rattle.step_core.specs.declared.act.Act.TheVariants.{Make, Share, Downgrade, Lock, Put, Leave, Clear, Count, Expired, Read, FromThis, Alias, Move, Ask}
+use Rattle.step_core.specs.declared.act.Question.{Question}
+use Rattle.step_core.specs.declared.act.Question.TheVariants as question
 use Rattle.step_core.specs.declared.act.Task.{Task}
 use Rattle.step_core.specs.declared.course.Course.{Course}
 use Rattle.step_core.specs.Holdings.{Holds, Slots, is_full, plain, slot, value, weak_slot}
@@ -34,9 +36,13 @@ idle (Put k) slots taken = not (taken && is_full (slot slots k))
 idle (Clear k) slots taken = not (is_full (slot slots k))
 idle _ slots taken = false
 
+-- the value of slot i goes to slot k
+abbrev pub passed : ℕ → ℕ → Slots → Slots
+passed i k slots = slice_set (slice_set slots k (value slots i)) i plain
+
 -- the value in hand is in slot k
 abbrev pub placed : ℕ → Slots → Slots
-placed k slots = slice_set (slice_set slots k (value slots (hand slots))) (hand slots) plain
+placed k slots = passed (hand slots) k slots
 
 -- what a task leaves that is idle
 abbrev pub slots_idle : Act → Slots → Bool → Slots
@@ -58,6 +64,12 @@ settled slots taken [] = record { slots = slots; taken = taken; todo = [] }
 settled slots taken (t ∷ ts) =
     cond (idle t.act slots taken) (settled (slots_idle t.act slots taken) (taken_idle t.act taken) ts) (record { slots = slots; taken = taken; todo = t ∷ ts })
 
+-- a question about some of n names
+abbrev pub IsAbout : ℕ → Question → Type 0
+IsAbout n (question.Place k) = k < n
+IsAbout n (question.Same i j) = (i < n) × (j < n)
+IsAbout n (question.Before i j) = (i < n) × (j < n)
+
 -- an act that may come with n names, where something was taken or not
 abbrev pub Begins : ℕ → Bool → Act → Type 0
 Begins n taken (Make form) = (taken ≡ false) × (length form.fields ≡ 4)
@@ -69,12 +81,20 @@ Begins n taken (Count k) = k < n
 Begins n taken (Downgrade k) = (k < n) × (taken ≡ false)
 Begins n taken (Lock k must) = (k < n) × (taken ≡ false)
 Begins n taken (Expired k) = k < n
+Begins n taken (Read k) = k < n
+Begins n taken (FromThis k kind) = (k < n) × (taken ≡ false)
+Begins n taken (Alias k j field) = (k < n) × (j < n) × (taken ≡ false)
+Begins n taken (Move k) = (k < n) × (taken ≡ false)
+Begins n taken (Ask q) = IsAbout n q
 
 abbrev pub taken_after : Act → Bool → Bool
 taken_after (Make form) taken = true
 taken_after (Share k) taken = true
 taken_after (Downgrade k) taken = true
 taken_after (Lock k must) taken = true
+taken_after (FromThis k kind) taken = true
+taken_after (Alias k j field) taken = true
+taken_after (Move k) taken = true
 taken_after (Put k) taken = false
 taken_after _ taken = taken
 

@@ -2,12 +2,15 @@
 use Rattle.std.specs.Prelude.{ℕ, ◌==◌, Bool, cond, ◌&&◌, not, Option, Some, None, slice_index}
 use Rattle.control_word.specs.declared.handle.Kind.{Kind}
 use Rattle.control_word.specs.declared.handle.Kind.TheVariants.{Owner, Weak}
-use Rattle.control_word.specs.Events.{is_gone}
+use Rattle.control_word.specs.declared.place.Place.{Place}
+use Rattle.control_word.specs.Events.{is_gone, place_at}
 use Rattle.control_word.specs.Layout.{spot}
-use Rattle.control_word.specs.State.{State, count, weak}
+use Rattle.control_word.specs.State.{Object, State, count, weak}
+use Rattle.step_core.specs.declared.call.Field.{Field}
 use Rattle.step_core.specs.declared.holdings.Pointer.{Pointer}
 use Rattle.step_core.specs.declared.past.Deed.{Deed}
 use Rattle.step_core.specs.declared.past.Deed.TheVariants as deed
+use Rattle.step_core.specs.Programs.{field_number}
 use Rattle.step_core.specs.Stories.{Story}
 
 -- the object that a pointer owns or shares: no other keeps the block
@@ -41,6 +44,19 @@ share_as Weak x = deed.WeakShare x.block x.place
 abbrev pub share : Pointer → Deed
 share x = share_as x.kind x
 
+-- a field of what a place points into; null has none
+abbrev pub aliased : Option Field → Option Place → Option Place
+aliased None p = None
+aliased (Some field) None = None
+aliased (Some field) (Some p) = Some (record { block = p.block; field = field_number field })
+
+-- an owner of the same object with another place ([util.smartptr.shared.const], the aliasing constructor)
+abbrev pub at_place : Option Place → Pointer → Pointer
+at_place p x = record { kind = Owner; block = x.block; place = p }
+
+abbrev pub alias : Option Place → Pointer → Deed
+alias p x = deed.Share x.block x.place p
+
 -- a weak pointer to the same object
 abbrev pub downgrade : Pointer → Deed
 downgrade x = deed.WeakShare x.block x.place
@@ -64,6 +80,29 @@ lock s x = deed.Lock x.block x.place (not (is_expired s x))
 -- what a lock gives: an owner with the weak pointer's place, if one is left
 abbrev pub owner_left : State → Pointer → Option Pointer
 owner_left s x = cond (is_expired s x) None (Some (as_owner x))
+
+-- the field that a pointer points at
+abbrev pub field_at : Object → Option Place → ℕ
+field_at o None = 0
+field_at o (Some p) = slice_index o.fields p.field
+
+abbrev pub field_of : State → Pointer → ℕ
+field_of s x = field_at (s.object (owned s x)) x.place
+
+abbrev pub read : State → Pointer → Deed
+read s x = deed.Read x.block x.place (field_of s x)
+
+-- the object gives pointers to itself ([util.smartptr.enab])
+abbrev pub is_enabled : State → Pointer → Bool
+is_enabled s x = (s.object (owned s x)).enabled
+
+-- what it gives: a pointer of this kind to the object itself
+abbrev pub this_as : Kind → Pointer → Pointer
+this_as k x = record { kind = k; block = x.block; place = place_at x.block.0 }
+
+abbrev pub give : Kind → Pointer → Deed
+give Owner x = deed.Share x.block x.place (place_at x.block.0)
+give Weak x = deed.WeakShare x.block (place_at x.block.0)
 
 -- the word that counts the owners of a pointer's object
 abbrev pub owner_word : Story → Pointer → ℕ

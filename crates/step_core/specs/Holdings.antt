@@ -1,9 +1,10 @@
 -- What an actor's slots hold is its desk's bag. All of it is own.
-use Rattle.std.specs.Prelude.{◌≡◌, ℕ, Bool, true, false, List, length, get_or, Option, Some, None}
+use Rattle.std.specs.Prelude.{◌≡◌, ℕ, ◌==◌, Bool, true, false, cond, List, length, get_or, Option, Some, None}
 use Rattle.std.specs.List.{filter}
 use Rattle.control_word.specs.declared.handle.Handle.{Handle}
 use Rattle.control_word.specs.declared.handle.Kind.{Kind}
 use Rattle.control_word.specs.declared.handle.Kind.TheVariants.{Owner, Weak}
+use Rattle.control_word.specs.declared.place.Place.{Place}
 use Rattle.control_word.specs.Handles.{same_handle, IsPointer}
 use Rattle.control_word.specs.declared.place.Place.{Place}
 use Rattle.control_word.specs.State.{State, bag_size, held, same_held}
@@ -66,6 +67,28 @@ weak_as Weak x = Some x
 abbrev pub weak_slot : Option Pointer → Option Pointer
 weak_slot None = None
 weak_slot (Some x) = weak_as x.kind x
+
+-- the owner in a slot, where it points into the object that it owns
+abbrev pub into : Pointer → Option Place → Option Pointer
+into x None = None
+into x (Some p) = cond (p.block.0 == x.block.0) (Some x) None
+
+abbrev pub inside_as : Kind → Pointer → Option Pointer
+inside_as Owner x = into x x.place
+inside_as Weak x = None
+
+abbrev pub inside : Option Pointer → Option Pointer
+inside None = None
+inside (Some x) = inside_as x.kind x
+
+-- the owner in a slot, if there is one
+abbrev pub owner_as : Kind → Pointer → Option Pointer
+owner_as Owner x = Some x
+owner_as Weak x = None
+
+abbrev pub owner_slot : Option Pointer → Option Pointer
+owner_slot None = None
+owner_slot (Some x) = owner_as x.kind x
 
 -- how often the handle is in the slots, and how many slots are full
 abbrev pub owns : Story → Slots → Handle → ℕ

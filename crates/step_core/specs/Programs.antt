@@ -1,10 +1,13 @@
 -- Programs, without where they lie in memory.
-use Rattle.std.specs.Prelude.{◌≡◌, ℕ, ◌≤◌, List, [], ◌∷◌, Option, Some, None, All, length, map, sum_by, slice_get}
+use Rattle.std.specs.Prelude.{◌≡◌, ℕ, ◌≤◌, List, [], ◌∷◌, Option, Some, None, All, IsTrue, is_some, length, map, sum_by, slice_get}
 use Rattle.step_core.specs.declared.call.Actor.{Actor}
 use Rattle.step_core.specs.declared.call.Call.{Call}
 use Rattle.step_core.specs.declared.call.Call.TheVariants.{Make, Empty, Reset, Copy, Count}
+use Rattle.step_core.specs.declared.call.Call.TheVariants.{MakeThis, Null, Move, Alias, AliasNull, This, WeakThis, Read, Place, Same, Before}
 use Rattle.step_core.specs.declared.call.Call.TheVariants.{WeakCopy, WeakEmpty, WeakReset, Lock, Upgrade, WeakCount, Expired}
 use Rattle.step_core.specs.declared.call.Call.TheVariants as call
+use Rattle.step_core.specs.declared.call.Field.{Field}
+use Rattle.step_core.specs.declared.call.Field.TheVariants.{Zero, One, Two, Three}
 use Rattle.step_core.specs.declared.call.Kind.{Kind}
 use Rattle.step_core.specs.declared.call.Kind.TheVariants.{Owner}
 use Rattle.step_core.specs.declared.call.Kind.TheVariants as kind
@@ -22,29 +25,65 @@ part_of actor = record { kinds = actor.kinds.items; calls = actor.calls.items }
 abbrev pub parts_of : Program → List Part
 parts_of program = map part_of program.actors.items
 
--- the names of a call, each with the kind that the call asks for
-abbrev pub names_of : Call → List (Name × Kind)
-names_of (Make target fields) = (target, Owner) ∷ []
-names_of (Empty target) = (target, Owner) ∷ []
-names_of (Reset name) = (name, Owner) ∷ []
-names_of (Copy target source) = (target, Owner) ∷ (source, Owner) ∷ []
-names_of (Count name) = (name, Owner) ∷ []
-names_of (call.Weak target source) = (target, kind.Weak) ∷ (source, Owner) ∷ []
-names_of (WeakCopy target source) = (target, kind.Weak) ∷ (source, kind.Weak) ∷ []
-names_of (WeakEmpty target) = (target, kind.Weak) ∷ []
-names_of (WeakReset name) = (name, kind.Weak) ∷ []
-names_of (Lock target source) = (target, Owner) ∷ (source, kind.Weak) ∷ []
-names_of (Upgrade target source) = (target, Owner) ∷ (source, kind.Weak) ∷ []
-names_of (WeakCount name) = (name, kind.Weak) ∷ []
-names_of (Expired name) = (name, kind.Weak) ∷ []
+-- the number of a field
+abbrev pub field_number : Field → ℕ
+field_number Zero = 0
+field_number One = 1
+field_number Two = 2
+field_number Three = 3
 
-abbrev pub listed : Option (Name × Kind) → List (Name × Kind)
+-- a name that a call has, and the kind that the call asks for, if it asks for one
+abbrev pub Asked : Type 0
+Asked = Name × Option Kind
+
+abbrev pub owner : Name → Asked
+owner name = (name, Some Owner)
+
+abbrev pub weak : Name → Asked
+weak name = (name, Some kind.Weak)
+
+abbrev pub either : Name → Asked
+either name = (name, None)
+
+-- the names of a call
+abbrev pub names_of : Call → List Asked
+names_of (Make target fields) = owner target ∷ []
+names_of (MakeThis target fields) = owner target ∷ []
+names_of (Null target) = owner target ∷ []
+names_of (Empty target) = owner target ∷ []
+names_of (Reset name) = owner name ∷ []
+names_of (Copy target source) = owner target ∷ owner source ∷ []
+names_of (Move target source) = owner target ∷ owner source ∷ []
+names_of (Alias target source of field) = owner target ∷ owner source ∷ owner of ∷ []
+names_of (AliasNull target source) = owner target ∷ owner source ∷ []
+names_of (Count name) = owner name ∷ []
+names_of (call.Weak target source) = weak target ∷ owner source ∷ []
+names_of (WeakCopy target source) = weak target ∷ weak source ∷ []
+names_of (WeakEmpty target) = weak target ∷ []
+names_of (WeakReset name) = weak name ∷ []
+names_of (Lock target source) = owner target ∷ weak source ∷ []
+names_of (Upgrade target source) = owner target ∷ weak source ∷ []
+names_of (WeakCount name) = weak name ∷ []
+names_of (Expired name) = weak name ∷ []
+names_of (This target source) = owner target ∷ owner source ∷ []
+names_of (WeakThis target source) = weak target ∷ owner source ∷ []
+names_of (Read name) = owner name ∷ []
+names_of (Place name) = owner name ∷ []
+names_of (Same first second) = owner first ∷ owner second ∷ []
+names_of (Before first second) = either first ∷ either second ∷ []
+
+abbrev pub listed : Option Asked → List Asked
 listed None = []
 listed (Some x) = x ∷ []
 
+-- a name with this kind is there, or with any where none is asked for
+abbrev pub IsFound : Option Kind → Option Kind → Type 0
+IsFound None found = IsTrue (is_some found)
+IsFound (Some kind) found = found ≡ Some kind
+
 -- among names of these kinds the name is one, and of the kind that is asked for
-abbrev pub IsDeclared : List Kind → Name × Kind → Type 0
-IsDeclared kinds asked = slice_get kinds asked.0.0 ≡ Some asked.1
+abbrev pub IsDeclared : List Kind → Asked → Type 0
+IsDeclared kinds asked = IsFound asked.1 (slice_get kinds asked.0.0)
 
 -- each name of the call is declared, with the kind that the call asks for
 abbrev pub IsWellNamed : List Kind → Call → Type 0

@@ -6,15 +6,20 @@ use Rattle.control_word.specs.declared.event.Event.{Event}
 use Rattle.control_word.specs.declared.handle.Handle.{Handle}
 use Rattle.control_word.specs.declared.handle.Kind.{Kind}
 use Rattle.control_word.specs.declared.handle.Kind.TheVariants.{Owner, Weak}
-use Rattle.control_word.specs.declared.refusal.Refusal.TheVariants.{BadWeak, Full}
-use Rattle.control_word.specs.Events.{origin}
-use Rattle.control_word.specs.Handles.{empty, handle, owner, weak_of}
+use Rattle.control_word.specs.declared.place.Place.{Place}
+use Rattle.control_word.specs.declared.refusal.Refusal.TheVariants.{BadWeak, Full, NotEnabled, Null, Outside}
+use Rattle.control_word.specs.Events.{origin, place_at}
+use Rattle.control_word.specs.Handles.{empty, handle, owner, weak_of, owner_before, same_place}
 use Rattle.control_word.specs.Histories.{entry, leads}
 use Rattle.control_word.specs.State.{Object, Opening, State, Stored, count, kind_of_member, weak}
+use Rattle.control_word.specs.Words.{blocks_of}
 use Rattle.step_core.specs.declared.act.Act.{Act}
 use Rattle.step_core.specs.declared.act.Form.{Form}
-use Rattle.step_core.specs.declared.act.Act.TheVariants.{Make, Share, Downgrade, Lock, Put, Leave, Clear, Count, Expired}
+use Rattle.step_core.specs.declared.act.Act.TheVariants.{Make, Share, Downgrade, Lock, Put, Leave, Clear, Count, Expired, Read, FromThis, Alias, Move, Ask}
+use Rattle.step_core.specs.declared.act.Question.{Question}
+use Rattle.step_core.specs.declared.act.Question.TheVariants as question
 use Rattle.step_core.specs.declared.act.Task.{Task}
+use Rattle.step_core.specs.declared.call.Field.{Field}
 use Rattle.step_core.specs.declared.extent.Extent.{Extent}
 use Rattle.step_core.specs.declared.holdings.Pointer.{Pointer}
 use Rattle.step_core.specs.declared.said.Answer.{Answer}
@@ -22,10 +27,11 @@ use Rattle.step_core.specs.declared.said.Answer.TheVariants as answer
 use Rattle.step_core.specs.declared.said.Ended.{Ended}
 use Rattle.step_core.specs.declared.said.Ended.TheVariants as ended
 use Rattle.step_core.specs.declared.said.Said.{Said}
-use Rattle.step_core.specs.declared.slot.Slot.TheVariants.{Full}
-use Rattle.step_core.specs.Courses.{Walk, hand, locked, placed, settled}
-use Rattle.step_core.specs.Deeds.{as_weak, is_expired, is_last, owned, owner_left}
-use Rattle.step_core.specs.Holdings.{Slots, filled, is_full, plain, slot, value}
+use Rattle.step_core.specs.declared.slot.Slot.TheVariants.{Full, Empty}
+use Rattle.step_core.specs.Courses.{Walk, hand, locked, placed, settled, passed}
+use Rattle.step_core.specs.Deeds.{as_weak, field_of, is_enabled, is_expired, is_last, owned, owner_left, this_as, aliased, at_place}
+use Rattle.step_core.specs.Holdings.{Slots, filled, inside, is_full, place_in, plain, slot, value, owner_slot}
+use Rattle.step_core.specs.declared.slot.Slot.{Slot}
 use Rattle.step_core.specs.Openings.{opening}
 use Rattle.step_core.specs.Stories.{Nothing}
 
@@ -88,6 +94,9 @@ shared_as Weak s x = event.WeakShare (owned s x) x.place
 abbrev pub shares : Opening → ℕ → History → Pointer → History
 shares z d h x = let s = leads z h in entry d (shared_as x.kind s x) ∷ h
 
+abbrev pub aliases : Option Place → Opening → ℕ → History → Pointer → History
+aliases p z d h x = entry d (event.Share (owner (owned (leads z h) x) x.place) p) ∷ h
+
 abbrev pub downgrades : Opening → ℕ → History → Pointer → History
 downgrades z d h x = entry d (event.WeakShare (owned (leads z h) x) x.place) ∷ h
 
@@ -100,6 +109,22 @@ counts z d h x = let s = leads z h in entry d (event.Count (handle_of s x) (coun
 abbrev pub expires : Opening → ℕ → History → Pointer → History
 expires z d h x = let s = leads z h in entry d (event.Expired (handle_of s x) (is_expired s x)) ∷ h
 
+abbrev pub reads : Opening → ℕ → History → Pointer → History
+reads z d h x = let s = leads z h in entry d (event.Read (owner (owned s x) x.place) (field_of s x)) ∷ h
+
+-- an owner's object gives a pointer to itself
+abbrev pub given_as : Kind → State → Pointer → Event Nothing
+given_as Owner s x = event.Share (owner (owned s x) x.place) (place_at x.block.0)
+given_as Weak s x = event.WeakShare (owned s x) (place_at x.block.0)
+
+abbrev pub gives : Kind → Opening → ℕ → History → Pointer → History
+gives k z d h x = let s = leads z h in entry d (given_as k s x) ∷ h
+
+-- the pointer whose object gives pointers to itself
+abbrev pub giving : State → Option Pointer → Option Pointer
+giving s None = None
+giving s (Some x) = cond (is_enabled s x) (Some x) None
+
 -- the history after an act of a desk whose thread has this in its slots
 abbrev pub acted : Opening → ℕ → Slots → History → Act → History
 acted z d slots h (Make form) = made d form h (least d (leads z h).stores)
@@ -111,6 +136,11 @@ acted z d slots h (Count k) = on (counts z d h) h (slot slots k)
 acted z d slots h (Downgrade k) = on (downgrades z d h) h (slot slots k)
 acted z d slots h (Lock k must) = on (locks z d h) h (locked slots (Lock k must))
 acted z d slots h (Expired k) = on (expires z d h) h (slot slots k)
+acted z d slots h (Read k) = on (reads z d h) h (inside (slot slots k))
+acted z d slots h (FromThis k kind) = on (gives kind z d h) h (giving (leads z h) (inside (slot slots k)))
+acted z d slots h (Alias k j field) = on (aliases (aliased field (place_in slots j)) z d h) h (owner_slot (slot slots k))
+acted z d slots h (Move k) = h
+acted z d slots h (Ask q) = h
 
 -- a new object's owner is in hand, or the rest of the statement is passed over
 abbrev pub holding : Slots → List Task → Bool → Option ℕ → Walk
@@ -126,6 +156,14 @@ abbrev pub taking : Slots → Bool → List Task → Option Pointer → Walk
 taking slots must rest None = settled slots (not must) rest
 taking slots must rest (Some x) = settled (slice_set slots (hand slots) (Full x)) true rest
 
+-- an alias with this place: an owner, or an empty pointer, has it
+abbrev pub alias_of : Option Place → Option Pointer → Slot
+alias_of p None = Empty p
+alias_of p (Some x) = Full (at_place p x)
+
+abbrev pub alias_in : Slots → ℕ → ℕ → Option Field → Slot
+alias_in slots k j field = alias_of (aliased field (place_in slots j)) (owner_slot (slot slots k))
+
 -- where the thread is after it
 abbrev pub went : State → ℕ → Slots → Bool → List Task → Act → Walk
 went s d slots taken rest (Make form) = holding slots rest form.null (least d s.stores)
@@ -137,6 +175,11 @@ went s d slots taken rest (Count k) = settled slots taken rest
 went s d slots taken rest (Downgrade k) = settled (slice_set slots (hand slots) (filled (option_map as_weak (slot slots k)))) true rest
 went s d slots taken rest (Lock k must) = taking slots must rest (found s (locked slots (Lock k must)))
 went s d slots taken rest (Expired k) = settled slots taken rest
+went s d slots taken rest (Read k) = settled slots taken rest
+went s d slots taken rest (FromThis k kind) = taking slots true rest (option_map (this_as kind) (giving s (inside (slot slots k))))
+went s d slots taken rest (Alias k j field) = settled (slice_set slots (hand slots) (alias_in slots k j field)) true rest
+went s d slots taken rest (Move k) = settled (passed k (hand slots) slots) true rest
+went s d slots taken rest (Ask q) = settled slots taken rest
 
 abbrev pub full_answer : Option ℕ → Option Answer
 full_answer None = Some (answer.Refused Full)
@@ -148,12 +191,39 @@ lock_answer false got = answer.Locked got
 lock_answer true true = answer.Upgraded
 lock_answer true false = answer.Refused BadWeak
 
+-- why there is no field and no object to ask: the place is null, or isn't in the object (own)
+abbrev pub outside : Option Place → Answer
+outside None = answer.Refused Null
+outside (Some p) = answer.Refused Outside
+
+abbrev pub read_answer : State → Option Place → Option Pointer → Answer
+read_answer s p None = outside p
+read_answer s p (Some x) = answer.Read (field_of s x)
+
+abbrev pub this_answer : State → Option Place → Option Pointer → Option Answer
+this_answer s p None = Some (outside p)
+this_answer s p (Some x) = cond (is_enabled s x) None (Some (answer.Refused NotEnabled))
+
+-- what owns nothing comes before all that owns something, and else the lesser block first ([util.smartptr.shared.obs]; by
+-- block: own)
+abbrev pub before : State → Option Pointer → Option Pointer → Bool
+before s x y = owner_before (blocks_of s) (on (handle_of s) (empty Owner) x) (on (handle_of s) (empty Owner) y)
+
+-- what pointers tell by their values: equal are those that store the same place ([util.smartptr.shared.cmp])
+abbrev pub reply : State → Slots → Question → Answer
+reply s slots (question.Place k) = answer.Place (place_in slots k)
+reply s slots (question.Same i j) = answer.Same (same_place (place_in slots i) (place_in slots j))
+reply s slots (question.Before i j) = answer.Before (before s (slot slots i) (slot slots j))
+
 -- what an act answers: a make is refused where the store is empty, and a count is the number of owners
 abbrev pub answer_of : State → ℕ → Slots → Act → Option Answer
 answer_of s d slots (Make form) = full_answer (least d s.stores)
 answer_of s d slots (Count k) = Some (answer.Count (on (λ x. count s (owned s x)) 0 (slot slots k)))
 answer_of s d slots (Lock k must) = Some (lock_answer must (is_full (found s (locked slots (Lock k must)))))
 answer_of s d slots (Expired k) = Some (answer.Expired (on (is_expired s) true (slot slots k)))
+answer_of s d slots (Read k) = Some (read_answer s (place_in slots k) (inside (slot slots k)))
+answer_of s d slots (FromThis k kind) = this_answer s (place_in slots k) (inside (slot slots k))
+answer_of s d slots (Ask q) = Some (reply s slots q)
 answer_of s d slots _ = None
 
 abbrev pub remains : Object → Ended

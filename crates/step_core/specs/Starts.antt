@@ -4,7 +4,7 @@ use Rattle.control_word.specs.declared.shape.Shape.{Shape}
 use Rattle.control_word.specs.Layout.{IsWithinLimits, table_size}
 use Rattle.control_word.specs.Views.{fresh}
 use Rattle.step_core.specs.declared.call.Call.{Call}
-use Rattle.step_core.specs.declared.call.Call.TheVariants.{Make}
+use Rattle.step_core.specs.declared.call.Call.TheVariants.{Make, MakeThis}
 use Rattle.step_core.specs.declared.extent.Extent.{Extent}
 use Rattle.step_core.specs.declared.half.Half.{Half}
 use Rattle.step_core.specs.declared.half.Half.TheVariants.{Rest}
@@ -44,6 +44,7 @@ first_sight shape parts =
 -- an object has four fields
 abbrev pub HasFields : Call → Type 0
 HasFields (Make target fields) = length fields ≡ 4
+HasFields (MakeThis target fields) = length fields ≡ 4
 HasFields _ = Unit {0}
 
 abbrev pub AllHaveFields : List Part → Type 0

@@ -6,10 +6,10 @@ use Rattle.control_word.specs.declared.handle.Kind.{Kind}
 use Rattle.control_word.specs.declared.handle.Kind.TheVariants.{Owner, Weak}
 use Rattle.step_core.specs.declared.act.Act.{Act}
 use Rattle.step_core.specs.declared.act.Form.{Form}
-use Rattle.step_core.specs.declared.act.Act.TheVariants.{Make, Share, Downgrade, Lock, Put, Leave, Clear, Count, Expired}
+use Rattle.step_core.specs.declared.act.Act.TheVariants.{Make, Share, Downgrade, Lock, Put, Leave, Clear, Count, Expired, Read, FromThis, Alias, Move, Ask}
 use Rattle.step_core.specs.declared.act.Task.{Task}
 use Rattle.step_core.specs.declared.half.Half.{Half}
-use Rattle.step_core.specs.declared.half.Half.TheVariants.{Rest, Making, Ending, Locking}
+use Rattle.step_core.specs.declared.half.Half.TheVariants.{Rest, Making, Ending, Locking, Giving}
 use Rattle.step_core.specs.declared.holdings.Pointer.{Pointer}
 use Rattle.step_core.specs.declared.past.Deed.{Deed}
 use Rattle.step_core.specs.declared.past.Deed.TheVariants as deed
@@ -18,8 +18,8 @@ use Rattle.step_core.specs.declared.said.Stepped.{Stepped}
 use Rattle.step_core.specs.declared.said.Stepped.TheVariants.{Event, Quiet, Done}
 use Rattle.step_core.specs.Actors.{wanted}
 use Rattle.step_core.specs.Courses.{Walk, form_of, locked, settled}
-use Rattle.step_core.specs.Deeds.{downgrade, is_last, leave, lock, owner_word, share, tell, tell_expired}
-use Rattle.step_core.specs.Holdings.{slot}
+use Rattle.step_core.specs.Deeds.{downgrade, give, is_enabled, is_last, leave, lock, owner_word, read, share, tell, tell_expired, alias, aliased}
+use Rattle.step_core.specs.Holdings.{inside, slot, owner_slot, place_in}
 use Rattle.step_core.specs.Scenes.{answer_of, ended_of, full_answer, holding, least, on, went}
 use Rattle.step_core.specs.Stories.{Story, after, event_of, known, object_in, pending, state}
 
@@ -70,6 +70,12 @@ looks v d w k ts a x = cond (owner_word v x == 0) (acts (state v) d w k ts a (So
 abbrev pub tries : Story → ℕ → Walk → ℕ → List Task → Act → ℕ → Pointer → Step
 tries v d w k ts a word x = cond (owner_word v x == word) (acts (state v) d w k ts a (Some (lock (state v) x)) Rest) (trying w k (owner_word v x))
 
+-- an owner's object is asked for a pointer: a look tells whether it gives any, and then the pointer is taken
+abbrev pub asks : Story → ℕ → Walk → ℕ → List Task → ℕ → Kind → Pointer → Step
+asks v d w k ts i kind x =
+    cond (is_enabled (state v) x) (record { deed = None; half = Giving i kind x; walk = w; said = silent k })
+    (acts (state v) d w k ts (FromThis i kind) None Rest)
+
 -- the first step of the next act, or the whole of it
 abbrev pub first : Story → ℕ → Walk → ℕ → List Task → Act → Step
 first v d w k ts (Make form) = begins w k ts (least d (state v).stores)
@@ -81,6 +87,12 @@ first v d w k ts (Count i) = acts (state v) d w k ts (Count i) (option_map (tell
 first v d w k ts (Downgrade i) = acts (state v) d w k ts (Downgrade i) (option_map downgrade (slot w.slots i)) Rest
 first v d w k ts (Lock i must) = let a = Lock i must in on (looks v d w k ts a) (acts (state v) d w k ts a None Rest) (locked w.slots a)
 first v d w k ts (Expired i) = acts (state v) d w k ts (Expired i) (option_map (tell_expired (state v)) (slot w.slots i)) Rest
+first v d w k ts (Read i) = acts (state v) d w k ts (Read i) (option_map (read (state v)) (inside (slot w.slots i))) Rest
+first v d w k ts (FromThis i kind) = on (asks v d w k ts i kind) (acts (state v) d w k ts (FromThis i kind) None Rest) (inside (slot w.slots i))
+first v d w k ts (Alias i j field) =
+    acts (state v) d w k ts (Alias i j field) (option_map (alias (aliased field (place_in w.slots j))) (owner_slot (slot w.slots i))) Rest
+first v d w k ts (Move i) = acts (state v) d w k ts (Move i) None Rest
+first v d w k ts (Ask q) = acts (state v) d w k ts (Ask q) None Rest
 
 abbrev pub begun : Story → ℕ → Walk → List Task → Option Step
 begun v d w [] = None
@@ -89,6 +101,11 @@ begun v d w (t ∷ ts) = Some (first v d w t.statement ts t.act)
 abbrev pub tried : Story → ℕ → Walk → ℕ → List Task → Option Step
 tried v d w word [] = None
 tried v d w word (t ∷ ts) = option_map (tries v d w t.statement ts t.act word) (locked w.slots t.act)
+
+-- the object gives pointers to itself: one is taken
+abbrev pub given : Story → ℕ → Walk → ℕ → Kind → Pointer → List Task → Option Step
+given v d w i kind x [] = None
+given v d w i kind x (t ∷ ts) = Some (acts (state v) d w t.statement ts (FromThis i kind) (Some (give kind x)) Rest)
 
 -- a make looks at a word of its block, and passes on where it is as wanted; a word that differs is written
 abbrev pub prepares : ℕ → ℕ → Walk → ℕ → Block → ℕ → Bool → Step
@@ -119,6 +136,7 @@ step_at v d Rest w = begun v d w w.todo
 step_at v d (Making b i differs) w = made_on v d w b i differs w.todo
 step_at v d (Ending b stage k) w = Some (ends_on v w b stage k)
 step_at v d (Locking word) w = tried v d w word w.todo
+step_at v d (Giving i kind x) w = given v d w i kind x w.todo
 
 -- what it makes of the table
 abbrev pub story_after : Story → ℕ → Option Deed → Story

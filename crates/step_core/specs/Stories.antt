@@ -18,7 +18,7 @@ use Rattle.control_word.specs.Steps.{known_of}
 use Rattle.control_word.specs.Views.{Stands, sees_as, used_up}
 use Rattle.step_core.specs.declared.extent.Extent.{Extent}
 use Rattle.step_core.specs.declared.past.Deed.{Deed}
-use Rattle.step_core.specs.declared.past.Deed.TheVariants.{Prepare, Write, Claim, Share, WeakShare, Leave, WeakLeave, Lock, Count, Expired, Clear, Finish}
+use Rattle.step_core.specs.declared.past.Deed.TheVariants.{Prepare, Write, Claim, Share, WeakShare, Leave, WeakLeave, Lock, Count, Expired, Read, Clear, Finish}
 use Rattle.step_core.specs.Openings.{IsExtent, opening, share_of}
 
 -- objects of the machine have no value of their own
@@ -67,6 +67,7 @@ event_of v (WeakLeave b p vacant) = Some (event.WeakLeave (weak_in v b p) vacant
 event_of v (Lock b p got) = Some (event.Lock (weak_in v b p) got)
 event_of v (Count k b p n) = Some (event.Count (handle_in v k b p) n)
 event_of v (Expired k b p expired) = Some (event.Expired (handle_in v k b p) expired)
+event_of v (Read b p n) = Some (event.Read (owner_in v b p) n)
 event_of v (Clear b m) = Some (event.ClearMember (object_in v b) m (empty (kind_of_member m)))
 event_of v (Finish b vacant) = Some (event.Finish (object_in v b) vacant tt)
 
@@ -82,6 +83,7 @@ words_after v (WeakLeave b p vacant) = slice_set v.words (spot b.0 1) (slice_ind
 words_after v (Lock b p got) = cond got (slice_set v.words (spot b.0 0) (suc (slice_index v.words (spot b.0 0)))) v.words
 words_after v (Count k b p n) = v.words
 words_after v (Expired k b p expired) = v.words
+words_after v (Read b p n) = v.words
 words_after v (Clear b m) = v.words
 words_after v (Finish b vacant) = slice_set v.words (spot b.0 1) (slice_index v.words (spot b.0 1) - 1)
 

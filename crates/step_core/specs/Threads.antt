@@ -1,19 +1,19 @@
 -- A thread of the machine, and how it fits the table. All of it is own.
-use Rattle.std.specs.Prelude.{◌≡◌, ℕ, ◌<◌, ◌≤◌, ◌∷◌, Bool, true, List, length, Option, Some, None}
+use Rattle.std.specs.Prelude.{◌≡◌, ℕ, ◌<◌, ◌≤◌, ◌∷◌, Bool, true, length, Option, Some, None}
 use Rattle.std.specs.List.Sorted.{IsPermutation}
 use Rattle.control_word.specs.declared.handle.Kind.{Kind}
 use Rattle.control_word.specs.declared.handle.Kind.TheVariants.{Weak}
 use Rattle.step_core.specs.declared.act.Form.{Form}
-use Rattle.step_core.specs.declared.act.Act.TheVariants.{Make}
+use Rattle.step_core.specs.declared.act.Act.TheVariants.{Make, FromThis}
 use Rattle.step_core.specs.declared.course.Course.{Course}
 use Rattle.step_core.specs.declared.half.Half.{Half}
-use Rattle.step_core.specs.declared.half.Half.TheVariants.{Rest, Making, Ending, Locking}
+use Rattle.step_core.specs.declared.half.Half.TheVariants.{Rest, Making, Ending, Locking, Giving}
 use Rattle.step_core.specs.declared.said.Stepped.{Stepped}
 use Rattle.step_core.specs.declared.thread.Thread.{Thread}
 use Rattle.step_core.specs.Actors.{HalfFits, Stocks}
 use Rattle.step_core.specs.Courses.{CourseReady, CourseStill, form_of, locked, task_at, walk}
 use Rattle.step_core.specs.declared.holdings.Pointer.{Pointer}
-use Rattle.step_core.specs.Holdings.{Holds, is_full}
+use Rattle.step_core.specs.Holdings.{Holds, inside, is_full, slot}
 use Rattle.step_core.specs.Stocks.{Stored}
 use Rattle.step_core.specs.Steps.{half_by, step_at, stepped, story_by, walk_by}
 use Rattle.step_core.specs.Stories.{Story}
@@ -22,12 +22,13 @@ use Rattle.step_core.specs.Stories.{Story}
 abbrev pub form_at : Course → Form
 form_at c = form_of (task_at c).act
 
--- a make or a lock that is under way is the next act
+-- a make, a lock or a pointer from this that is under way is the next act
 abbrev pub IsNext : Half → Course → Type 0
 IsNext Rest c = Unit {0}
 IsNext (Making b i differs) c = (c.at < length c.tasks.items) × ((task_at c).act ≡ Make (form_at c))
 IsNext (Ending b stage k) c = Unit {0}
 IsNext (Locking word) c = (c.at < length c.tasks.items) × (is_full (locked c.holdings.slots.items (task_at c).act) ≡ true)
+IsNext (Giving i kind x) c = (c.at < length c.tasks.items) × ((task_at c).act ≡ FromThis i kind) × (inside (slot c.holdings.slots.items i) ≡ Some x)
 
 -- between two steps the thread has what its desk has, and its half-done act is as its desk's view says
 pub record Fits (d : ℕ) (t : Thread) (v : Story) : Type 0 where

@@ -2,7 +2,7 @@
 use Rattle.std.specs.Prelude.{◌≡◌, ℕ, ◌+◌, ◌≤◌, ◌==◌, Bool, false, cond, List, length, map, sum_by, is_some}
 use Rattle.control_word.specs.State.{State, ending}
 use Rattle.step_core.specs.declared.half.Half.{Half}
-use Rattle.step_core.specs.declared.half.Half.TheVariants.{Rest, Making, Ending, Locking}
+use Rattle.step_core.specs.declared.half.Half.TheVariants.{Rest, Making, Ending, Locking, Giving}
 use Rattle.step_core.specs.declared.said.Stepped.{Stepped}
 use Rattle.step_core.specs.declared.said.Stepped.TheVariants.{Event, Quiet, Waited, Done}
 use Rattle.step_core.specs.declared.thread.Thread.{Thread}
@@ -20,6 +20,7 @@ EndsIn b Rest = ⊥
 EndsIn b (Making c i differs) = ⊥
 EndsIn b (Ending c stage k) = c.0 ≡ b
 EndsIn b (Locking word) = ⊥
+EndsIn b (Giving i kind x) = ⊥
 
 -- each ending object ends by what the thread has begun in whose hands it is
 abbrev pub AllEnd : State → (ℕ → Half) → Type 0
@@ -45,6 +46,7 @@ is_prepared Rest = false
 is_prepared (Making b i differs) = i == 5
 is_prepared (Ending b stage k) = false
 is_prepared (Locking word) = false
+is_prepared (Giving i kind x) = false
 
 -- how many objects a step made, of a thread that had begun this, and of how many the last owner left by it
 abbrev pub makes : Half → Stepped → ℕ

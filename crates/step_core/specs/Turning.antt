@@ -1,16 +1,17 @@
 -- The parts of a turn. All of it is own.
 use Rattle.std.specs.Prelude.{◌≡◌, ℕ, ◌<◌, ◌≤◌, Bool, true, false, not, ◌==◌, List, [], ◌∷◌, length, slice_set, Option, Some, None}
-use Rattle.step_core.specs.declared.act.Act.TheVariants.{Make}
+use Rattle.step_core.specs.declared.act.Act.TheVariants.{Make, FromThis}
 use Rattle.step_core.specs.declared.act.Task.{Task}
 use Rattle.step_core.specs.declared.half.Half.{Half}
-use Rattle.step_core.specs.declared.half.Half.TheVariants.{Rest, Making, Ending, Locking}
+use Rattle.step_core.specs.declared.half.Half.TheVariants.{Rest, Making, Ending, Locking, Giving}
 use Rattle.step_core.specs.declared.said.Said.{Said}
 use Rattle.step_core.specs.declared.said.Stepped.{Stepped}
 use Rattle.step_core.specs.declared.said.Stepped.TheVariants as stepped
 use Rattle.step_core.specs.declared.said.Turned.{Turned}
 use Rattle.step_core.specs.declared.said.Turned.TheVariants.{Acted, Waited, Done}
 use Rattle.step_core.specs.Courses.{Walk, form_of, locked}
-use Rattle.step_core.specs.Holdings.{Slots, is_full}
+use Rattle.step_core.specs.Deeds.{is_enabled}
+use Rattle.step_core.specs.Holdings.{Slots, inside, is_full, slot}
 use Rattle.step_core.specs.Scenes.{least, play, said, walk_of}
 use Rattle.step_core.specs.Stories.{Story, state}
 use Rattle.step_core.specs.Worlds.{Sight, half_of, rested, scene}
@@ -22,6 +23,8 @@ IsUnderWay d v (Making b i differs) [] = ⊥
 IsUnderWay d v (Making b i differs) (t ∷ ts) = (i ≤ 5) × (least d (state v).stores ≡ Some b.0) × (t.act ≡ Make (form_of t.act))
 IsUnderWay d v (Ending b stage k) ts = stage ≤ 3
 IsUnderWay d v (Locking word) ts = Unit {0}
+IsUnderWay d v (Giving i kind x) [] = ⊥
+IsUnderWay d v (Giving i kind x) (t ∷ ts) = (t.act ≡ FromThis i kind) × (is_enabled (state v) x ≡ true)
 
 -- the next act locks a weak pointer
 abbrev pub IsLock : Slots → List Task → Type 0
@@ -31,6 +34,7 @@ IsLock slots (t ∷ ts) = is_full (locked slots t.act) ≡ true
 -- a lock that is under way is the next act
 abbrev pub IsTried : Half → Walk → Type 0
 IsTried (Locking word) w = IsLock w.slots w.todo
+IsTried (Giving i kind x) w = inside (slot w.slots i) ≡ Some x
 IsTried _ w = Unit {0}
 
 pub record HasBegun (d : ℕ) (u : Sight) : Type 0 where
@@ -50,10 +54,15 @@ abbrev pub is_locking : Half → Bool
 is_locking (Locking word) = true
 is_locking _ = false
 
+abbrev pub is_giving : Half → Bool
+is_giving (Giving i kind x) = true
+is_giving _ = false
+
 -- an act that is under way
 abbrev pub is_acting : Half → Bool
 is_acting (Making b i differs) = true
 is_acting (Locking word) = true
+is_acting (Giving i kind x) = true
 is_acting _ = false
 
 -- a make that has words left to look at or to write

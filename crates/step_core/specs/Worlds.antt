@@ -1,7 +1,7 @@
 -- What clauses see of a world, and what steps and turns of a thread do to it. All of it is own.
 use Rattle.std.specs.Prelude.{◌≡◌, ℕ, ◌-◌, List, [], ◌∷◌, get_or, slice_get, slice_set, Option, Some}
 use Rattle.step_core.specs.declared.half.Half.{Half}
-use Rattle.step_core.specs.declared.half.Half.TheVariants.{Rest, Making, Ending, Locking}
+use Rattle.step_core.specs.declared.half.Half.TheVariants.{Rest, Making, Ending, Locking, Giving}
 use Rattle.step_core.specs.declared.said.Stepped.{Stepped}
 use Rattle.step_core.specs.declared.said.Turned.{Turned}
 use Rattle.step_core.specs.declared.said.Turned.TheVariants.{Acted, Waited, Done}
@@ -65,6 +65,7 @@ abbrev pub rested_from : Sight → ℕ → Half → Scene
 rested_from u d Rest = scene u
 rested_from u d (Making b i differs) = scene u
 rested_from u d (Locking word) = scene u
+rested_from u d (Giving i kind x) = scene u
 rested_from u d (Ending b stage k) =
     record {
       extent = u.story.extent;

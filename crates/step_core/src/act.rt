@@ -2,30 +2,75 @@
 ghost use Rattle.std.specs.Prelude.{◌≡◌, ◌<◌, ◌^◌, ◌++◌, ◌∷◌, length, IfOk, OnOk};
 ghost use Rattle.step_core.specs.Acts.{acts, numbered, puts, tasks_from};
 
-use crate::call::{Call, Name};
+use crate::call::{Call, Field, Name};
+use control_word::handle::Kind;
 use std::alloc::{AllocError, Global};
 
 /// A primitive act. What is taken comes into the hand, and `Put` moves it into a name and leaves what the name held.
 #[derive(Clone, Copy, Debug, PartialEq, Eq)]
 pub enum Act {
     /// Makes an object of this form.
-    Make { form: Form },
+    Make {
+        form: Form,
+    },
     /// Takes a copy of what a name holds.
-    Share { name: u8 },
+    Share {
+        name: u8,
+    },
+    /// Takes a shared pointer that shares ownership with what a name holds. It points at this field of what `of` points into,
+    /// and at null where `of` does or no field is named.
+    Alias {
+        name: u8,
+        of: u8,
+        field: Option<Field>,
+    },
+    /// Takes what a name holds, which becomes empty.
+    Move {
+        name: u8,
+    },
     /// Takes a weak pointer to the object of what a name holds.
-    Downgrade { name: u8 },
+    Downgrade {
+        name: u8,
+    },
     /// Takes an owner of the object of a weak name, if an owner is left. Where it `must`, it is refused without one.
-    Lock { name: u8, must: bool },
+    Lock {
+        name: u8,
+        must: bool,
+    },
     /// Leaves what a name holds, and puts there what was taken. It is no act where nothing was taken, or the name is empty.
-    Put { name: u8 },
+    Put {
+        name: u8,
+    },
     /// Leaves what a name holds.
-    Leave { name: u8 },
+    Leave {
+        name: u8,
+    },
     /// Leaves what a name holds. It is no act where the name is empty.
-    Clear { name: u8 },
+    Clear {
+        name: u8,
+    },
     /// Tells how many owners there are.
-    Count { name: u8 },
+    Count {
+        name: u8,
+    },
     /// Tells whether no owner is left.
-    Expired { name: u8 },
+    Expired {
+        name: u8,
+    },
+    /// Tells the field that a name points at. It is refused where that isn't in the object that the name owns.
+    Read {
+        name: u8,
+    },
+    /// Takes a pointer of this kind from the object that a name owns and points into. It is refused where the name points
+    /// elsewhere, or the object gives none.
+    FromThis {
+        name: u8,
+        kind: Kind,
+    },
+    /// Tells something of pointers that touches no word.
+    Ask {
+        question: Question,
+    },
 }
 
 /// What a make wants its object to be.
@@ -37,6 +82,17 @@ pub struct Form {
     pub enabled: bool,
     /// The owned pointer is null ([util.smartptr.shared.const], from a null pointer and a deleter).
     pub null: bool,
+}
+
+/// What is told of the pointers of names, by their values alone.
+#[derive(Clone, Copy, Debug, PartialEq, Eq)]
+pub enum Question {
+    /// Where a name points.
+    Place { name: u8 },
+    /// Whether two names point at one place.
+    Same { first: u8, second: u8 },
+    /// Whether the first name comes before the second by what they own.
+    Before { first: u8, second: u8 },
 }
 
 /// An act, with the number of its statement from 1, or 0 at the end of its thread.
@@ -99,6 +155,22 @@ fn parts(call: Call) -> (Act, Option<Name>)
         | Call::WeakReset { name } => (Act::Leave { name: name.0 }, None),
         Call::Count { name } | Call::WeakCount { name } => (Act::Count { name: name.0 }, None),
         Call::Expired { name } => (Act::Expired { name: name.0 }, None),
+        Call::MakeThis { target, fields } => (make(fields, true, false), Some(target)),
+        Call::Null { target } => (make([0; 4], false, true), Some(target)),
+        Call::This { target, source } => (from_this(source, Kind::Owner), Some(target)),
+        Call::WeakThis { target, source } => (from_this(source, Kind::Weak), Some(target)),
+        Call::Read { name } => (Act::Read { name: name.0 }, None),
+        Call::Move { target, source } => (Act::Move { name: source.0 }, Some(target)),
+        Call::Alias {
+            target,
+            source,
+            of,
+            field,
+        } => (alias(source, of, Some(field)), Some(target)),
+        Call::AliasNull { target, source } => (alias(source, source, None), Some(target)),
+        Call::Place { name } => (place(name), None),
+        Call::Same { first, second } => (same(first, second), None),
+        Call::Before { first, second } => (before(first, second), None),
     }
 }
 
@@ -112,6 +184,57 @@ fn make(fields: [u64; 4], enabled: bool, null: bool) -> Act
             enabled,
             null,
         },
+    }
+}
+
+/// A pointer of this kind from the object of a name.
+fn from_this(source: Name, kind: Kind) -> Act
+    ensures { result ≡ Act.FromThis source.0 kind }
+{
+    Act::FromThis {
+        name: source.0,
+        kind,
+    }
+}
+
+/// The question whether two names point at one place.
+fn same(first: Name, second: Name) -> Act
+    ensures { result ≡ Act.Ask (Question.Same first.0 second.0) }
+{
+    let question = Question::Same {
+        first: first.0,
+        second: second.0,
+    };
+    Act::Ask { question }
+}
+
+/// The question whether a name comes before another.
+fn before(first: Name, second: Name) -> Act
+    ensures { result ≡ Act.Ask (Question.Before first.0 second.0) }
+{
+    let question = Question::Before {
+        first: first.0,
+        second: second.0,
+    };
+    Act::Ask { question }
+}
+
+/// The question where a name points.
+fn place(name: Name) -> Act
+    ensures { result ≡ Act.Ask (Question.Place name.0) }
+{
+    let question = Question::Place { name: name.0 };
+    Act::Ask { question }
+}
+
+/// An alias of a name, with a field of what another points into.
+fn alias(source: Name, of: Name, field: Option<Field>) -> Act
+    ensures { result ≡ Act.Alias source.0 of.0 field }
+{
+    Act::Alias {
+        name: source.0,
+        of: of.0,
+        field,
     }
 }
 

@@ -6,6 +6,8 @@ ghost use Rattle.step_core.specs.Stories.{Kept, Story, after};
 ghost use Rattle.step_core.specs.declared.act.Form.{Form};
 ghost use Rattle.step_core.specs.declared.past.Deed.{Deed};
 
+use crate::holdings::Pointer;
+use control_word::handle::Kind;
 use control_word::place::Block;
 
 /// What a thread has begun and not ended.
@@ -30,6 +32,13 @@ pub enum Half {
     /// A lock that found this word, which isn't 0: it is tried with it next.
     Locking {
         word: u64,
+    },
+    /// A pointer from this: the object that a name owns was found to give pointers to itself, and one of this kind is taken
+    /// next.
+    Giving {
+        name: u8,
+        kind: Kind,
+        pointer: Pointer,
     },
 }
 

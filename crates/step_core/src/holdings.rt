@@ -1,6 +1,7 @@
 //! What an actor holds.
 ghost use Rattle.std.specs.Prelude.{◌≡◌, ◌≢◌, ◌+◌, ◌<◌, ◌≤◌, IfOk, replicate, ◌-◌, ◌==◌, ℕ, false, cond, ◌∷◌, length, get_or, slice_set, Some, None};
 ghost use Rattle.control_word.specs.declared.handle.Kind.TheVariants.{Owner};
+ghost use Rattle.control_word.specs.Events.{origin};
 ghost use Rattle.control_word.specs.Handles.{IsPointer};
 ghost use Rattle.control_word.specs.State.{count};
 ghost use Rattle.control_word.specs.Views.{owed};
@@ -58,6 +59,14 @@ impl Holdings {
         ensures { result ≡ place_in self.now.slots.items at }
     {
         self.slots[at].place()
+    }
+
+    /// Puts a pointer into a slot.
+    pub(crate) fn fill(&mut self, at: usize, pointer: Pointer)
+        requires { at < length self.old.slots.items }
+        ensures { self.new.slots.items ≡ slice_set self.old.slots.items at (Full pointer) }
+    {
+        self.slots[at] = Slot::Full(pointer);
     }
 
     /// Whether a slot holds something.

@@ -13,11 +13,16 @@ mod holdings;
 mod limits;
 mod locking;
 mod making;
+#[cfg(test)]
+mod naming_tests;
 mod opening;
 #[cfg(test)]
 mod opening_tests;
 mod past;
 mod pointer;
+mod reading;
+#[cfg(test)]
+mod reading_tests;
 #[cfg(test)]
 mod run_tests;
 mod running;
@@ -30,9 +35,15 @@ mod table;
 mod taking;
 #[cfg(test)]
 mod tests;
+mod this;
+#[cfg(test)]
+mod this_tests;
 mod thread;
 mod told;
 mod trace;
+#[cfg(test)]
+mod value_tests;
+mod values;
 mod weak;
 #[cfg(test)]
 mod weak_tests;
@@ -40,7 +51,7 @@ mod world;
 #[cfg(test)]
 mod world_tests;
 
-pub use call::{Actor, Call, Kind, Name, Program};
+pub use call::{Actor, Call, Field, Kind, Name, Program};
 pub use said::{Answer, Ended, Said, Stepped, Turned};
 pub use trace::{RunRefusal, Trace, TraceStep};
 pub use world::World;

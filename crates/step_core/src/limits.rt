@@ -1,6 +1,6 @@
 //! Which programs a world may run.
-ghost use Rattle.std.specs.Prelude.{◌≡◌, ◌↔◌, ◌≤◌, ◌∷◌, All, IsTrue, map};
-ghost use Rattle.step_core.specs.Programs.{IsDeclared, IsPart, IsProgram, IsWellNamed, call_count, listed, names_of, part_of};
+ghost use Rattle.std.specs.Prelude.{◌≡◌, ◌↔◌, ◌&&◌, ◌≤◌, ◌∷◌, ◌++◌, Some, None, All, IsTrue, map};
+ghost use Rattle.step_core.specs.Programs.{IsDeclared, IsPart, IsProgram, IsWellNamed, call_count, listed, names_of, owner, part_of, weak};
 ghost use Rattle.step_core.specs.Starts.{AllHaveFields, CanBegin, HasFields};
 
 use crate::call::{Actor, Call, Kind, Name};
@@ -15,34 +15,97 @@ const MOST_CALLS: usize = 65_536;
 /// Least share of the allowance for each actor: its names, the value in hand, and some to spare.
 const LEAST_ALLOWANCE: u64 = 40;
 
-/// Whether a name is there, and of this kind.
-fn is_declared(kinds: &[Kind], name: Name, kind: Kind) -> bool
-    ensures { IsTrue result ↔ IsDeclared kinds.now (name, kind) }
+/// A name that a call has, and the kind that the call asks for, if it asks for one.
+type Asked = (Name, Option<Kind>);
+
+/// Whether a name is there, and of the kind that is asked for.
+fn is_declared(kinds: &[Kind], asked: Asked) -> bool
+    ensures { IsTrue result ↔ IsDeclared kinds.now asked }
 {
-    kinds.get(usize::from(name.0)) == Some(&kind)
+    let (name, kind) = asked;
+    let found = kinds.get(usize::from(name.0));
+    match kind {
+        None => found.is_some(),
+        Some(kind) => found == Some(&kind),
+    }
+}
+
+/// The same, where there is such a name.
+fn is_declared_if(kinds: &[Kind], asked: Option<Asked>) -> bool
+    ensures { IsTrue result ↔ All (IsDeclared kinds.now) (listed asked) }
+{
+    match asked {
+        None => true,
+        Some(asked) => is_declared(kinds, asked),
+    }
+}
+
+/// One to three names.
+type Names = (Asked, Option<Asked>, Option<Asked>);
+
+fn owner(name: Name) -> Asked
+    ensures { result ≡ owner name }
+{
+    (name, Some(Kind::Owner))
+}
+
+fn weak(name: Name) -> Asked
+    ensures { result ≡ weak name }
+{
+    (name, Some(Kind::Weak))
+}
+
+/// Two names.
+fn two(first: Asked, second: Asked) -> Names
+    ensures { result ≡ (first, Some second, None) }
+{
+    (first, Some(second), None)
 }
 
 /// The names of a call, each with the kind that the call asks for.
-fn names_of(call: Call) -> ((Name, Kind), Option<(Name, Kind)>)
-    ensures names { names_of call ≡ result.0 ∷ listed result.1 }
+fn names_of(call: Call) -> Names
+    ensures names { names_of call ≡ result.0 ∷ listed result.1 ++ listed result.2 }
     ensures fields { HasFields call }
 {
     match call {
-        Call::Make { target, fields: _ } => ((target, Kind::Owner), None),
-        Call::Empty { target: name } | Call::Reset { name } | Call::Count { name } => {
-            ((name, Kind::Owner), None)
-        }
-        Call::Copy { target, source } => ((target, Kind::Owner), Some((source, Kind::Owner))),
-        Call::Weak { target, source } => ((target, Kind::Weak), Some((source, Kind::Owner))),
-        Call::WeakCopy { target, source } => ((target, Kind::Weak), Some((source, Kind::Weak))),
-        Call::Lock { target, source } | Call::Upgrade { target, source } => {
-            ((target, Kind::Owner), Some((source, Kind::Weak)))
-        }
+        Call::Make { target: name, .. }
+        | Call::MakeThis { target: name, .. }
+        | Call::Null { target: name }
+        | Call::Empty { target: name }
+        | Call::Reset { name }
+        | Call::Count { name }
+        | Call::Read { name }
+        | Call::Place { name } => (owner(name), None, None),
         Call::WeakEmpty { target: name }
         | Call::WeakReset { name }
         | Call::WeakCount { name }
-        | Call::Expired { name } => ((name, Kind::Weak), None),
+        | Call::Expired { name } => (weak(name), None, None),
+        Call::Copy { target, source }
+        | Call::Move { target, source }
+        | Call::AliasNull { target, source }
+        | Call::This { target, source } => two(owner(target), owner(source)),
+        Call::Weak { target, source } | Call::WeakThis { target, source } => {
+            two(weak(target), owner(source))
+        }
+        Call::WeakCopy { target, source } => two(weak(target), weak(source)),
+        Call::Lock { target, source } | Call::Upgrade { target, source } => {
+            two(owner(target), weak(source))
+        }
+        Call::Same { first, second } => two(owner(first), owner(second)),
+        Call::Before { first, second } => two((first, None), (second, None)),
+        Call::Alias {
+            target,
+            source,
+            of,
+            ..
+        } => (owner(target), Some(owner(source)), Some(owner(of))),
     }
+}
+
+fn all_three(one: bool, two: bool, three: bool) -> bool
+    ensures { result ≡ (one && two && three) }
+{
+    one && two && three
 }
 
 /// Whether each name of a call is there, and of the kind that the call asks for.
@@ -50,11 +113,11 @@ fn is_well_named(kinds: &[Kind], call: Call) -> bool
     ensures named { IsTrue result ↔ IsWellNamed kinds.now call }
     ensures fields { HasFields call }
 {
-    let (first, second) = names_of(call);
-    match second {
-        None => is_declared(kinds, first.0, first.1),
-        Some(name) => is_declared(kinds, first.0, first.1) && is_declared(kinds, name.0, name.1),
-    }
+    let (first, second, third) = names_of(call);
+    let one = is_declared(kinds, first);
+    let two = is_declared_if(kinds, second);
+    let three = is_declared_if(kinds, third);
+    all_three(one, two, three)
 }
 
 /// Whether an actor's names are few enough, and its calls well named.

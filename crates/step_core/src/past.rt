@@ -75,6 +75,12 @@ pub enum Deed {
         place: Option<Place>,
         expired: bool,
     },
+    /// The field at the place of an owner was looked at.
+    Read {
+        block: Block,
+        place: Option<Place>,
+        value: u64,
+    },
     /// A member of an ending object was found empty.
     Clear {
         block: Block,

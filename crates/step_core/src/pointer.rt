@@ -22,7 +22,7 @@ impl Table {
     {
         match pointer.kind {
             Kind::Owner => self.share(desk, pointer.block, pointer.place, pointer.place),
-            Kind::Weak => self.weak_share(desk, pointer),
+            Kind::Weak => self.weak_share(desk, pointer, pointer.place),
         }
     }
 

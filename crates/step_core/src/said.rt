@@ -1,6 +1,6 @@
 //! What steps and turns answer.
 
-use control_word::Refusal;
+use control_word::{Place, Refusal};
 
 /// What an act answers, where it answers something.
 #[derive(Clone, Copy, Debug, PartialEq, Eq)]
@@ -13,6 +13,14 @@ pub enum Answer {
     Locked(bool),
     /// An upgrade gave an owner.
     Upgraded,
+    /// The field that was read.
+    Read(u64),
+    /// Where an owner points, if not at null.
+    Place(Option<Place>),
+    /// Whether two owners point at one place.
+    Same(bool),
+    /// Whether the first comes before the second by what they own.
+    Before(bool),
     /// The statement is refused, and does nothing.
     Refused(Refusal),
 }

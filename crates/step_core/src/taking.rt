@@ -2,6 +2,7 @@
 ghost use Rattle.std.specs.Prelude.{◌≡◌, false, ◌<◌, ◌==◌, cond, ◌∷◌, length, slice_set, Some, None};
 ghost use Rattle.control_word.specs.declared.handle.Kind.TheVariants.{Owner};
 ghost use Rattle.control_word.specs.Events.{origin};
+ghost use Rattle.control_word.specs.Words.{flags_of};
 ghost use Rattle.control_word.specs.declared.view.Pending.TheVariants.{Idle};
 ghost use Rattle.step_core.specs.Deeds.{as_owner, as_weak, downgrade, is_expired, lock, owner_word, share};
 ghost use Rattle.step_core.specs.Holdings.{Holds, slot, weak_slot};
@@ -62,7 +63,7 @@ impl Holdings {
         ensures holds { Holds desk self.new.slots.items table.new }
     {
         table.known();
-        table.weak_share(desk, pointer);
+        table.weak_share(desk, pointer, pointer.place);
         self.slots[to] = Slot::Full(Pointer {
             kind: Kind::Weak,
             block: pointer.block,

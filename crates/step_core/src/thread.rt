@@ -48,6 +48,11 @@ impl Thread {
                 statement,
             } => self.end_on(desk, table, block, stage, statement),
             Half::Locking { word } => self.lock_on(desk, table, word),
+            Half::Giving {
+                name,
+                kind,
+                pointer,
+            } => self.give(desk, table, name, kind, pointer),
         }
     }
 
@@ -71,6 +76,11 @@ impl Thread {
             Act::Downgrade { name } => self.downgrade(desk, table, name),
             Act::Lock { name, must } => self.lock(desk, table, name, must),
             Act::Expired { name } => self.expired(desk, table, name),
+            Act::Read { name } => self.read(desk, table, name),
+            Act::FromThis { name, kind } => self.from_this(desk, table, name, kind),
+            Act::Alias { name, of, field } => self.alias(desk, table, name, of, field),
+            Act::Move { name } => self.pull(desk, table, name),
+            Act::Ask { question } => self.reply(desk, table, question),
         }
     }
 
@@ -273,7 +283,7 @@ pub(crate) fn silent(statement: u32) -> Said
 }
 
 /// A step that is an event, or none.
-fn says(event: bool, said: Said) -> Stepped
+pub(crate) fn says(event: bool, said: Said) -> Stepped
     ensures { result ≡ cond event (Stepped.Event said) (Stepped.Quiet said) }
 {
     if event {

@@ -1,7 +1,7 @@
 //! What weak handles do to the words of a table. Each function is one atomic step on one word.
-ghost use Rattle.std.specs.Prelude.{◌≡◌, ◌<◌, ◌==◌, ◌&&◌, true, false, cond, slice_index};
+ghost use Rattle.std.specs.Prelude.{◌≡◌, ◌⊎◌, ◌<◌, ◌==◌, ◌&&◌, true, false, cond, slice_index};
 ghost use Rattle.control_word.specs.declared.view.Pending.TheVariants.{Idle};
-ghost use Rattle.control_word.specs.Events.{is_gone};
+ghost use Rattle.control_word.specs.Events.{is_gone, place_at};
 ghost use Rattle.control_word.specs.Layout.{spot};
 ghost use Rattle.control_word.specs.State.{Has, held, bag_size, count, weak};
 ghost use Rattle.step_core.specs.Stories.{after, handle_in, object_in, pending, state, weak_in};
@@ -14,15 +14,17 @@ use control_word::layout::{OWNERS, WEAKS, block_word};
 use control_word::place::{Block, Place};
 
 impl Table {
-    /// A weak handle more, from a handle, which keeps the block while the word goes up.
-    pub(crate) fn weak_share(&mut self, desk: usize, pointer: Pointer)
+    /// A weak handle more, with the place of a handle or of its object itself. That handle keeps the block while the word goes
+    /// up.
+    pub(crate) fn weak_share(&mut self, desk: usize, pointer: Pointer, place: Option<Place>)
         requires seat { desk < self.old.extent.actors }
         requires idle { pending self.old desk ≡ Idle }
         requires held { Has (held desk (handle_in self.old pointer.kind pointer.block pointer.place)) (state self.old).hands }
+        requires place { (place ≡ pointer.place) ⊎ (place ≡ place_at pointer.block.0) }
         requires room { bag_size (state self.old) desk < (state self.old).allowance desk }
-        ensures { self.new ≡ after self.old desk (Deed.WeakShare pointer.block pointer.place) }
+        ensures { self.new ≡ after self.old desk (Deed.WeakShare pointer.block place) }
     {
-        let Pointer { block, place, .. } = pointer;
+        let block = pointer.block;
         let past = self.then(desk, Deed::WeakShare { block, place });
         self.words[block_word(block, WEAKS)] += 1;
         self.past = past;

@@ -1,7 +1,7 @@
 //! The machine: a table and the threads over it.
 ghost use Rattle.std.specs.Prelude.{◌≡◌, ◌<◌, ◌≤◌, ◌-◌, length, true, false};
 ghost use Rattle.step_core.specs.Stories.{Kept};
-ghost use Rattle.step_core.specs.Turning.{HasBegun, Plays, Prepares, Rests, is_ending, is_event, is_locking, is_making, is_preparing, turned_by};
+ghost use Rattle.step_core.specs.Turning.{HasBegun, Plays, Prepares, Rests, is_ending, is_event, is_giving, is_locking, is_making, is_preparing, turned_by};
 ghost use Rattle.step_core.specs.Worlds.{GoesTo, Steps, Turns, half_of};
 
 use crate::half::Half;
@@ -93,12 +93,18 @@ impl World {
         if self.is_locking(number) {
             return self.lock(number);
         }
+        if self.is_giving(number) {
+            return self.give(number);
+        }
         let stepped = self.advance(number);
         if self.is_making(number) {
             return self.make(number);
         }
         if self.is_locking(number) {
             return self.lock(number);
+        }
+        if self.is_giving(number) {
+            return self.give(number);
         }
         turned(stepped)
     }
@@ -115,6 +121,17 @@ impl World {
         if is_event(stepped) {
             return turned(stepped);
         }
+        turned(self.advance(number))
+    }
+
+    /// The rest of a pointer from this that is under way.
+    fn give(&mut self, number: usize) -> Turned
+        requires within { number < length self.old.walks }
+        requires giving { is_giving (half_of self.old number) ≡ true }
+        ensures plays { Plays number self.old result self.new }
+        ensures goes { GoesTo number self.old self.new }
+        ensures actors { length self.new.walks ≡ length self.old.walks }
+    {
         turned(self.advance(number))
     }
 
@@ -165,6 +182,14 @@ impl World {
         ensures { result ≡ is_locking (half_of self.now number) }
     {
         matches!(self.threads[number].half, Half::Locking { .. })
+    }
+
+    /// Whether a thread takes a pointer from this.
+    fn is_giving(&self, number: usize) -> bool
+        requires { number < length self.now.walks }
+        ensures { result ≡ is_giving (half_of self.now number) }
+    {
+        matches!(self.threads[number].half, Half::Giving { .. })
     }
 
     /// Whether a thread makes an object, and has words of its block left to look at or to write.

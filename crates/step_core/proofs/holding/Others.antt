@@ -1,27 +1,28 @@
 -- What other desks do changes nothing of what a desk has.
-use Rattle.std.proofs.Common.{◌≡◌, ◌≢◌, ℕ, suc, ◌<◌, ◌≤◌, ◌==◌, Bool, true, List, [], ◌∷◌, length, get_or, Some, refl, sym, ap}
+use Rattle.std.proofs.Common.{◌≡◌, ◌≢◌, ℕ, suc, ◌<◌, ◌≤◌, ◌==◌, Bool, true, cond, List, [], ◌∷◌, length, get_or, Some, refl, sym, ap}
 use Rattle.std.proofs.Common.{subst, ◌∙◌, arith, eq-eqb, get_or-set_other}
 use Rattle.std.proofs.lemmas.Bool.{cond_both, eqb-true, and_parts}
 use Rattle.control_word.proofs.history.Kept.{Same, block_after, has_same, same_after, still}
 use Rattle.control_word.proofs.history.Legal.{held_busy, sound}
 use Rattle.control_word.proofs.lists.Parts.{part}
-use Rattle.control_word.proofs.lists.Tallies.{num, num_cons, put_cases}
+use Rattle.control_word.proofs.lists.Tallies.{num, num_cons, put_cases, put_other}
 use Rattle.control_word.specs.declared.event.Event.TheVariants as event
 use Rattle.control_word.specs.declared.handle.Handle.{Handle}
 use Rattle.control_word.specs.declared.place.Block.{Block}
 use Rattle.control_word.proofs.history.Moving.{counted_live, owner_counted}
 use Rattle.control_word.specs.declared.view.Pending.{Pending}
 use Rattle.control_word.specs.declared.view.View.{View}
-use Rattle.control_word.specs.Handles.{empty}
+use Rattle.control_word.specs.Events.{moved_to, new_object}
+use Rattle.control_word.specs.Handles.{empty, handle}
 use Rattle.control_word.specs.State.{Has, Held, Object, Phase, State, Stored, bag, common, ending, held, kind_of_member, live, same_held, same_stored}
 use Rattle.control_word.specs.State.{stock, stored, unmade, weak_number}
 use Rattle.control_word.specs.Views.{used_up}
 use Rattle.step_core.specs.declared.act.Form.{Form}
 use Rattle.step_core.specs.declared.half.Half.{Half}
-use Rattle.step_core.specs.declared.half.Half.TheVariants.{Rest, Making, Ending, Locking}
+use Rattle.step_core.specs.declared.half.Half.TheVariants.{Rest, Making, Ending, Locking, Giving}
 use Rattle.step_core.specs.declared.holdings.Pointer.{Pointer}
 use Rattle.step_core.specs.declared.past.Deed.{Deed}
-use Rattle.step_core.specs.declared.past.Deed.TheVariants.{Prepare, Write, Claim, Share, WeakShare, Leave, WeakLeave, Lock, Count, Expired, Clear, Finish}
+use Rattle.step_core.specs.declared.past.Deed.TheVariants.{Prepare, Write, Claim, Share, WeakShare, Leave, WeakLeave, Lock, Count, Expired, Read, Clear, Finish}
 use Rattle.step_core.specs.Actors.{HalfFits, Stocks, in_store}
 use Rattle.step_core.specs.Holdings.{Holds, Slots, slot, times}
 use Rattle.step_core.specs.Openings.{opening}
@@ -59,6 +60,7 @@ same_deed v e d (WeakLeave b p vacant) n = same_after {V = Nothing} (state v) d 
 same_deed v e d (Lock b p got) n = same_after {V = Nothing} (state v) d e (event.Lock (weak_in v b p) got) n (λ z. z)
 same_deed v e d (Count k b p m) n = still (state v) d
 same_deed v e d (Expired k b p x) n = still (state v) d
+same_deed v e d (Read b p m) n = still (state v) d
 same_deed v e d (Clear b m) n = same_after {V = Nothing} (state v) d e (event.ClearMember (object_in v b) m (empty (kind_of_member m))) n (λ z. z)
 same_deed v e d (Finish b vacant) n = same_after {V = Nothing} (state v) d e (event.Finish (object_in v b) vacant tt) n (λ z. z)
 
@@ -74,8 +76,35 @@ block_stays v e o (WeakLeave b p vacant) le = refl
 block_stays v e o (Lock b p got) le = refl
 block_stays v e o (Count k b p m) le = refl
 block_stays v e o (Expired k b p x) le = refl
+block_stays v e o (Read b p m) le = refl
 block_stays v e o (Clear b m) le = (block_after {V = Nothing} (state v) e o (event.ClearMember (object_in v b) m (empty (kind_of_member m))) le).0
 block_stays v e o (Finish b vacant) le = (block_after {V = Nothing} (state v) e o (event.Finish (object_in v b) vacant tt) le).0
+
+-- so does whether it gives pointers to itself
+enabled_stays : (v : Story) (e o : ℕ) (x : Deed) → o ≤ (state v).made → ((state (after v e x)).object o).enabled ≡ ((state v).object o).enabled
+enabled_stays v e o (Prepare b) le = refl
+enabled_stays v e o (Write b j m) le = refl
+enabled_stays v e o (Claim b enabled null fields) le =
+    ap (λ (y : Object). y.enabled) (put_other (state v).object (suc (state v).made) (new_object b.0 enabled null fields) o (λ q. omega arith))
+enabled_stays v e o (Share b p q) le = refl
+enabled_stays v e o (Leave b p last) le =
+    let i = object_in v b in
+    let y = (state v).object i in
+    put_cases (λ j (z : Object). z.enabled ≡ ((state v).object j).enabled) (state v).object i (cond last (moved_to (ending e) y) y) o
+    (λ q. cond_both last (moved_to (ending e) y) y (λ (z : Object). z.enabled ≡ ((state v).object o).enabled)
+    (λ t. ap (λ (k : ℕ). ((state v).object k).enabled) (sym q)) (λ t. ap (λ (k : ℕ). ((state v).object k).enabled) (sym q))) (λ q. refl)
+enabled_stays v e o (WeakShare b p) le = refl
+enabled_stays v e o (WeakLeave b p vacant) le = refl
+enabled_stays v e o (Lock b p got) le = refl
+enabled_stays v e o (Count k b p m) le = refl
+enabled_stays v e o (Expired k b p x) le = refl
+enabled_stays v e o (Read b p m) le = refl
+enabled_stays v e o (Clear b m) le =
+    put_cases (λ j (z : Object). z.enabled ≡ ((state v).object j).enabled) (state v).object (object_in v b) _ o
+    (λ q. ap (λ (k : ℕ). ((state v).object k).enabled) (sym q)) (λ q. refl)
+enabled_stays v e o (Finish b vacant) le =
+    put_cases (λ j (z : Object). z.enabled ≡ ((state v).object j).enabled) (state v).object (object_in v b) _ o
+    (λ q. ap (λ (k : ℕ). ((state v).object k).enabled) (sym q)) (λ q. refl)
 
 -- the object in a block that a desk keeps is the same
 kept_object : (v : Story) (e : ℕ) (b : Block) (x : Deed) → Kept v → Kept (after v e x) → 0 < weak_number (state v) (object_in v b)
@@ -153,6 +182,7 @@ ends_on v e d o (WeakLeave b p vacant) n kept kept' end = end
 ends_on v e d o (Lock b p got) n kept kept' end = end
 ends_on v e d o (Count k b p m) n kept kept' end = end
 ends_on v e d o (Expired k b p x) n kept kept' end = end
+ends_on v e d o (Read b p m) n kept kept' end = end
 ends_on v e d o (Clear b m) n kept kept' end =
     put_cases (λ i (y : Object). i ≡ o → y.phase ≡ ending d) (state v).object (object_in v b) _ o
     (λ q t. ap (λ (j : ℕ). ((state v).object j).phase) (sym q) ∙ end) (λ q t. end) refl
@@ -179,6 +209,21 @@ half_others d (Making b at f) form v e x n kept kept' fits =
       done = λ j le. ap (λ (p : Pending Nothing). get_or (known p) j 0) same ∙ fits.done j le;
     }
 half_others d (Locking word) form v e x n kept kept' fits = (same_pending v e d x n ∙ fits.0, fits.1)
+half_others d (Giving i kind y) form v e x n kept kept' fits =
+    let has = has_same (state v) (state (after v e x)) d _ (same_deed v e d x n) fits.has in
+    let busy = handle_busy v d y.kind y.block y.place kept fits.has in
+    let busy' = held_busy (opening v.extent) (state (after v e x)) d (object_in v y.block) y.kind y.place
+    (sound (opening v.extent) (after v e x).history kept'.stands.legal) has in
+    let o = kept_object v e y.block x kept kept' busy busy' in
+    let fine = sound (opening v.extent) v.history kept.stands.legal in
+    record {
+      idle = same_pending v e d x n ∙ fits.idle;
+      has = subst (λ (k : ℕ). Has (held d (handle y.kind (Some k) y.place)) (state (after v e x)).hands) (sym o) has;
+      enabled =
+          ap (λ (k : ℕ). ((state (after v e x)).object k).enabled) o
+          ∙ enabled_stays v e (object_in v y.block) x (fine.latest_made y.block.0)
+          ∙ fits.enabled;
+    }
 half_others d (Ending b at k) form v e x n kept kept' fits =
     let end = ends_on v e d (object_in v b) x n kept kept' fits.ending in
     let busy : 0 < weak_number (state (after v e x)) (object_in v b) = let c : common ((state (after v e x)).object

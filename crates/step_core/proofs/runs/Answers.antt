@@ -12,10 +12,10 @@ use Rattle.control_word.specs.declared.place.Block.{Block}
 use Rattle.control_word.specs.Histories.{entry}
 use Rattle.control_word.specs.State.{State, weak}
 use Rattle.step_core.specs.declared.act.Act.{Act}
-use Rattle.step_core.specs.declared.act.Act.TheVariants.{Make, Share, Downgrade, Lock, Put, Leave, Clear, Count, Expired}
+use Rattle.step_core.specs.declared.act.Act.TheVariants.{Make, Share, Downgrade, Lock, Put, Leave, Clear, Count, Expired, Read, FromThis, Alias, Move, Ask}
 use Rattle.step_core.specs.declared.act.Task.{Task}
 use Rattle.step_core.specs.declared.half.Half.{Half}
-use Rattle.step_core.specs.declared.half.Half.TheVariants.{Rest, Making, Ending, Locking}
+use Rattle.step_core.specs.declared.half.Half.TheVariants.{Rest, Making, Ending, Locking, Giving}
 use Rattle.step_core.specs.declared.holdings.Pointer.{Pointer}
 use Rattle.step_core.specs.declared.past.Deed.{Deed}
 use Rattle.step_core.specs.declared.past.Deed.TheVariants as deed
@@ -25,11 +25,11 @@ use Rattle.step_core.specs.declared.said.Stepped.TheVariants as stepped
 use Rattle.step_core.specs.declared.trace.TraceStep.{TraceStep}
 use Rattle.step_core.specs.Actors.{wanted}
 use Rattle.step_core.specs.Courses.{Walk, form_of, locked}
-use Rattle.step_core.specs.Deeds.{as_owner, downgrade, is_expired, is_last, leave, leave_as, lock, owner_word, share, share_as, tell, tell_expired}
+use Rattle.step_core.specs.Deeds.{is_enabled, read, as_owner, downgrade, is_expired, is_last, leave, leave_as, lock, owner_word, share, share_as, tell, tell_expired, alias, aliased}
 use Rattle.step_core.specs.Headline.{TellsLocks, Was, answer_by}
-use Rattle.step_core.specs.Holdings.{is_full, slot}
+use Rattle.step_core.specs.Holdings.{inside, is_full, slot, owner_slot, place_in}
 use Rattle.step_core.specs.Scenes.{found, least, lock_answer, on, walk_of}
-use Rattle.step_core.specs.Steps.{Step, acts, begins, begun, claims, ends_on, first, is_event, looks, made_on, prepares, silent, step_at, stepped as stepped_by, story_after, story_by, tried, tries, trying}
+use Rattle.step_core.specs.Steps.{asks, given as given_by, Step, acts, begins, begun, claims, ends_on, first, is_event, looks, made_on, prepares, silent, step_at, stepped as stepped_by, story_after, story_by, tried, tries, trying}
 use Rattle.step_core.specs.Stories.{Nothing, Story, added, event_of, known, object_in, pending, state}
 use Rattle.step_core.specs.Worlds.{Sight, half_of, scene, step_of}
 use Rattle.step_core.proofs.runs.Headline.{IsStep}
@@ -85,6 +85,18 @@ lock_tells v d k i w ts must (Some x) at =
     cond_both (owner_word v x == 0) (acts (state v) d w k ts (Lock i must) (Some (lock (state v) x)) Rest) (trying w k (owner_word v x))
     (λ (s : Step). Tells (Some s)) (λ e. lock_done v d k i w ts must x at) (λ e. tt)
 
+ask_tells : (v : Story) (d k i : ℕ) (q : Kind) (w : Walk) (ts : List Task) (o : Option Pointer)
+    → Tells (Some (on (asks v d w k ts i q) (acts (state v) d w k ts (FromThis i q) None Rest) o))
+ask_tells v d k i q w ts None = tt
+ask_tells v d k i q w ts (Some x) =
+    cond_both (is_enabled (state v) x) (record { deed = None; half = Giving i q x; walk = w; said = silent k })
+    (acts (state v) d w k ts (FromThis i q) None Rest) (λ (y : Step). Tells (Some y)) (λ e. tt) (λ e. tt)
+
+given_tells : (v : Story) (d i : ℕ) (q : Kind) (x : Pointer) (w : Walk) (ts : List Task) → Tells (given_by v d w i q x ts)
+given_tells v d i q x w [] = tt
+given_tells v d i Owner x w (t ∷ ts) = tt
+given_tells v d i Weak x w (t ∷ ts) = tt
+
 first_tells : (v : Story) (d k : ℕ) (w : Walk) (ts : List Task) (a : Act) → Tells (Some (first v d w k ts a))
 first_tells v d k w ts (Make form) = begin_tells w k ts (least d (state v).stores)
 first_tells v d k w ts (Share i) = plain share _ (λ x. share_plain x.kind x) (slot w.slots i)
@@ -94,6 +106,11 @@ first_tells v d k w ts (Clear i) = plain (leave (state v)) _ (λ x. leave_plain 
 first_tells v d k w ts (Count i) = plain (tell (state v)) _ (λ x. refl) (slot w.slots i)
 first_tells v d k w ts (Downgrade i) = plain downgrade _ (λ x. refl) (slot w.slots i)
 first_tells v d k w ts (Expired i) = plain (tell_expired (state v)) _ (λ x. refl) (slot w.slots i)
+first_tells v d k w ts (Read i) = plain (read (state v)) _ (λ x. refl) (inside (slot w.slots i))
+first_tells v d k w ts (FromThis i kind) = ask_tells v d k i kind w ts (inside (slot w.slots i))
+first_tells v d k w ts (Alias i j field) = plain (alias (aliased field (place_in w.slots j))) _ (λ x. refl) (owner_slot (slot w.slots i))
+first_tells v d k w ts (Move i) = tt
+first_tells v d k w ts (Ask q) = tt
 first_tells v d k w ts (Lock i must) = lock_tells v d k i w ts must (locked w.slots (Lock i must)) refl
 
 rest_tells : (v : Story) (d : ℕ) (w : Walk) (ts : List Task) → Tells (begun v d w ts)
@@ -138,6 +155,7 @@ step_tells v d Rest w = rest_tells v d w w.todo
 step_tells v d (Making b i f) w = make_tells v d i w b f w.todo
 step_tells v d (Ending b stage k) w = end_tells v stage k w b
 step_tells v d (Locking word) w = tried_tells v d word w w.todo
+step_tells v d (Giving i kind x) w = given_tells v d i kind x w w.todo
 
 as_answered : (v : Story) (x : Step) → answer_by (stepped_by v (Some x)) ≡ x.said.answer
 as_answered v x =

@@ -8,20 +8,20 @@ use Rattle.control_word.specs.declared.place.Block.{Block}
 use Rattle.control_word.specs.Events.{origin}
 use Rattle.control_word.specs.State.{weak}
 use Rattle.step_core.specs.declared.act.Act.{Act}
-use Rattle.step_core.specs.declared.act.Act.TheVariants.{Make, Share, Downgrade, Lock, Put, Leave, Clear, Count, Expired}
+use Rattle.step_core.specs.declared.act.Act.TheVariants.{Make, Share, Downgrade, Lock, Put, Leave, Clear, Count, Expired, Read, FromThis, Alias, Move, Ask}
 use Rattle.step_core.specs.declared.act.Task.{Task}
 use Rattle.step_core.specs.declared.half.Half.{Half}
-use Rattle.step_core.specs.declared.half.Half.TheVariants.{Rest, Making, Ending, Locking}
+use Rattle.step_core.specs.declared.half.Half.TheVariants.{Rest, Making, Ending, Locking, Giving}
 use Rattle.step_core.specs.declared.holdings.Pointer.{Pointer}
 use Rattle.step_core.specs.declared.past.Deed.TheVariants as deed
 use Rattle.step_core.specs.Actors.{wanted}
 use Rattle.step_core.specs.Bounds.{spare}
-use Rattle.step_core.specs.Courses.{Walk, form_of, hand, locked, placed}
-use Rattle.step_core.specs.Deeds.{as_weak, is_last, lock, owner_word}
+use Rattle.step_core.specs.Courses.{Walk, form_of, hand, locked, placed, passed}
+use Rattle.step_core.specs.Deeds.{is_enabled, this_as, as_weak, is_last, lock, owner_word, aliased}
 use Rattle.step_core.specs.declared.slot.Slot.TheVariants.{Full}
-use Rattle.step_core.specs.Holdings.{Slots, filled, is_full, plain, slot, value}
-use Rattle.step_core.specs.Scenes.{found, least, on, taking}
-use Rattle.step_core.specs.Steps.{Step, acts, begins, begun, claims, end_as, end_of, ends_on, first, looks, made_on, prepares}
+use Rattle.step_core.specs.Holdings.{inside, Slots, filled, is_full, plain, slot, value, owner_slot, place_in}
+use Rattle.step_core.specs.Scenes.{giving, went, found, least, on, taking, alias_of}
+use Rattle.step_core.specs.Steps.{asks, given, Step, acts, begins, begun, claims, end_as, end_of, ends_on, first, looks, made_on, prepares}
 use Rattle.step_core.specs.Steps.{silent, step_at, story_after, tried, tries, trying}
 use Rattle.step_core.specs.Stories.{Story, known, object_in, pending, state}
 use Rattle.step_core.specs.Turning.{IsLock, IsTried, IsUnderWay}
@@ -39,6 +39,7 @@ alone v w Rest = spare Rest
 alone v w (Making b i differs) = spare (Making b i differs)
 alone v w (Ending b stage k) = spare (Ending b stage k)
 alone v w (Locking word) = cond (word_of v w w.todo == word) 12 14
+alone v w (Giving i kind x) = spare (Giving i kind x)
 
 alone_of_lock : (v : Story) (w : Walk) (word : ℕ) → (12 ≤ alone v w (Locking word)) × (alone v w (Locking word) ≤ 14)
 alone_of_lock v w word = go (word_of v w w.todo == word)
@@ -58,6 +59,7 @@ alone_most v w Rest = omega arith
 alone_most v w (Making b i differs) = omega arith
 alone_most v w (Ending b stage k) = omega arith
 alone_most v w (Locking word) = let l = (alone_of_lock v w word).1 in omega (arith, l)
+alone_most v w (Giving i kind x) = omega arith
 
 -- a step leaves the thread with fewer steps, where it runs alone, and never with more
 pub record Lessens (v v' : Story) (h h' : Half) (w w' : Walk) (n : ℕ) : Type 0 where
@@ -129,6 +131,25 @@ looked_less v d k w t ts i must (Some x) is a e =
     (λ ne. trying_less v d k Rest w (length (t ∷ ts)) (owner_word v x) (word_is v w t ts x is (ap (locked w.slots) a ∙ e)) n (omega arith)
     (λ z. absurd (false≢true (sym ne ∙ z))) (omega arith))
 
+-- an object that is asked has one step more: it gives a pointer then
+giving_less : (v : Story) (d : ℕ) (w : Walk) (ts : List Task) (i : ℕ) (q : Kind) → length (went (state v) d w.slots w.taken ts (FromThis i q)).todo ≤ length ts
+giving_less v d w ts i q = taken_less w.slots true ts (option_map (this_as q) (giving (state v) (inside (slot w.slots i))))
+
+asked_less : (v : Story) (d k : ℕ) (w : Walk) (t : Task) (ts : List Task) (i : ℕ) (q : Kind) (o : Option Pointer) → w.todo ≡ t ∷ ts
+    → IsLess v d Rest w (length (t ∷ ts)) (Some (on (asks v d w k ts i q) (acts (state v) d w k ts (FromThis i q) None Rest) o))
+asked_less v d k w t ts i q None is = over_less v _ Rest w _ (length ts) (giving_less v d w ts i q) (omega arith, omega arith)
+asked_less v d k w t ts i q (Some x) is =
+    let e = ap (λ (z : List Task). length z) is in
+    cond_both (is_enabled (state v) x) (record { deed = None; half = Giving i q x; walk = w; said = silent k })
+    (acts (state v) d w k ts (FromThis i q) None Rest) (λ (y : Step). IsLess v d Rest w (length (t ∷ ts)) (Some y))
+    (λ b. record { own = omega (arith, e); most = omega (arith, e) })
+    (λ b. over_less v _ Rest w _ (length ts) (giving_less v d w ts i q) (omega arith, omega arith))
+
+give_less : (v : Story) (d i : ℕ) (q : Kind) (x : Pointer) (w : Walk) (ts : List Task) → w.todo ≡ ts → IsUnderWay d v (Giving i q x) ts
+    → IsLess v d (Giving i q x) w (length ts) (given v d w i q x ts)
+give_less v d i q x w [] is way = absurd way
+give_less v d i q x w (t ∷ ts) is way = let l = giving_less v d w ts i q in record { own = omega (arith, l); most = omega (arith, l) }
+
 first_less : (v : Story) (d : ℕ) (w : Walk) (t : Task) (ts : List Task) (a : Act) → w.todo ≡ t ∷ ts → t.act ≡ a
     → IsLess v d Rest w (length (t ∷ ts)) (Some (first v d w t.statement ts a))
 first_less v d w t ts (Make form) is same = begun_less v d t.statement w t ts (least d (state v).stores) is
@@ -144,7 +165,15 @@ first_less v d w t ts (Count i) is same = over_less v _ Rest w _ (length ts) (se
 first_less v d w t ts (Downgrade i) is same =
     over_less v _ Rest w _ (length ts) (settled_less (slice_set w.slots (hand w.slots) (filled (option_map as_weak (slot w.slots i)))) true ts) (omega arith, omega arith)
 first_less v d w t ts (Lock i must) is same = looked_less v d t.statement w t ts i must (locked w.slots (Lock i must)) is same refl
+first_less v d w t ts (Alias i j field) is same =
+    let p = alias_of (aliased field (place_in w.slots j)) (owner_slot (slot w.slots i)) in
+    over_less v _ Rest w _ (length ts) (settled_less (slice_set w.slots (hand w.slots) p) true ts) (omega arith, omega arith)
+first_less v d w t ts (Move i) is same =
+    over_less v _ Rest w _ (length ts) (settled_less (passed i (hand w.slots) w.slots) true ts) (omega arith, omega arith)
+first_less v d w t ts (Ask q) is same = over_less v _ Rest w _ (length ts) (settled_less w.slots w.taken ts) (omega arith, omega arith)
 first_less v d w t ts (Expired i) is same = over_less v _ Rest w _ (length ts) (settled_less w.slots w.taken ts) (omega arith, omega arith)
+first_less v d w t ts (Read i) is same = over_less v _ Rest w _ (length ts) (settled_less w.slots w.taken ts) (omega arith, omega arith)
+first_less v d w t ts (FromThis i kind) is same = asked_less v d t.statement w t ts i kind (inside (slot w.slots i)) is
 
 rest_less : (v : Story) (d : ℕ) (w : Walk) (ts : List Task) → w.todo ≡ ts → IsLess v d Rest w (length ts) (begun v d w ts)
 rest_less v d w [] is = (is, refl)
@@ -206,6 +235,11 @@ tried_less v d word w t ts (Leave i) (Some x) is same e full = cc
 tried_less v d word w t ts (Clear i) (Some x) is same e full = cc
 tried_less v d word w t ts (Count i) (Some x) is same e full = cc
 tried_less v d word w t ts (Expired i) (Some x) is same e full = cc
+tried_less v d word w t ts (Read i) (Some x) is same e full = cc
+tried_less v d word w t ts (FromThis i kind) (Some x) is same e full = cc
+tried_less v d word w t ts (Alias i j field) (Some x) is same e full = cc
+tried_less v d word w t ts (Move i) (Some x) is same e full = cc
+tried_less v d word w t ts (Ask q) (Some x) is same e full = cc
 
 lock_less : (v : Story) (d word : ℕ) (w : Walk) (ts : List Task) → w.todo ≡ ts → IsLock w.slots ts
     → IsLess v d (Locking word) w (length ts) (tried v d w word ts)
@@ -218,3 +252,4 @@ less v d Rest w way held = rest_less v d w w.todo refl
 less v d (Making b i f) w way held = make_less v d i w b f w.todo refl way
 less v d (Ending b stage k) w way held = end_less v d stage k w b way
 less v d (Locking word) w way held = lock_less v d word w w.todo refl held
+less v d (Giving i kind x) w way held = give_less v d i kind x w w.todo refl way

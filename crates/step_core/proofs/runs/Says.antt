@@ -11,10 +11,10 @@ use Rattle.control_word.specs.declared.place.Block.{Block}
 use Rattle.control_word.specs.declared.place.Place.{Place}
 use Rattle.control_word.specs.State.{weak}
 use Rattle.step_core.specs.declared.act.Act.{Act}
-use Rattle.step_core.specs.declared.act.Act.TheVariants.{Make, Share, Downgrade, Lock, Put, Leave, Clear, Count, Expired}
+use Rattle.step_core.specs.declared.act.Act.TheVariants.{Make, Share, Downgrade, Lock, Put, Leave, Clear, Count, Expired, Read, FromThis, Alias, Move, Ask}
 use Rattle.step_core.specs.declared.act.Task.{Task}
 use Rattle.step_core.specs.declared.half.Half.{Half}
-use Rattle.step_core.specs.declared.half.Half.TheVariants.{Rest, Making, Ending, Locking}
+use Rattle.step_core.specs.declared.half.Half.TheVariants.{Rest, Making, Ending, Locking, Giving}
 use Rattle.step_core.specs.declared.holdings.Pointer.{Pointer}
 use Rattle.step_core.specs.declared.past.Deed.{Deed}
 use Rattle.step_core.specs.declared.past.Deed.TheVariants as deed
@@ -24,11 +24,11 @@ use Rattle.step_core.specs.declared.said.Stepped.TheVariants as stepped
 use Rattle.step_core.specs.declared.trace.TraceStep.{TraceStep}
 use Rattle.step_core.specs.Actors.{wanted}
 use Rattle.step_core.specs.Courses.{Walk, form_of, locked}
-use Rattle.step_core.specs.Deeds.{downgrade, is_last as is_last_of, leave, leave_as, lock, owned, owner_word, share, share_as, tell, tell_expired}
+use Rattle.step_core.specs.Deeds.{is_enabled, read, downgrade, is_last as is_last_of, leave, leave_as, lock, owned, owner_word, share, share_as, tell, tell_expired, alias, aliased}
 use Rattle.step_core.specs.Headline.{LastLeft, TellsWhatIsLeft, ended_by}
-use Rattle.step_core.specs.Holdings.{slot}
+use Rattle.step_core.specs.Holdings.{inside, slot, owner_slot, place_in}
 use Rattle.step_core.specs.Scenes.{ended_by as ended_of, least, on, remains, remains_as}
-use Rattle.step_core.specs.Steps.{Step, acts, begins, begun, claims, ends_on, first, is_event, looks, made_on, prepares, silent, step_at}
+use Rattle.step_core.specs.Steps.{asks, given, Step, acts, begins, begun, claims, ends_on, first, is_event, looks, made_on, prepares, silent, step_at}
 use Rattle.step_core.specs.Steps.{stepped as stepped_by, story_after, story_by, tried, tries, trying}
 use Rattle.step_core.specs.Stories.{Nothing, Story, added, event_of, known, object_in, owner_in, pending, state}
 use Rattle.step_core.specs.Totals.{is_last}
@@ -67,6 +67,10 @@ downgrade_tells : (v : Story) (o : Option Pointer) → None ≡ left_by v (optio
 downgrade_tells v None = refl
 downgrade_tells v (Some x) = refl
 
+alias_tells : (v : Story) (p : Option Place) (o : Option Pointer) → None ≡ left_by v (option_map (alias p) o)
+alias_tells v p None = refl
+alias_tells v p (Some x) = refl
+
 count_tells : (v : Story) (o : Option Pointer) → None ≡ left_by v (option_map (tell (state v)) o)
 count_tells v None = refl
 count_tells v (Some x) = refl
@@ -74,6 +78,23 @@ count_tells v (Some x) = refl
 expired_tells : (v : Story) (o : Option Pointer) → None ≡ left_by v (option_map (tell_expired (state v)) o)
 expired_tells v None = refl
 expired_tells v (Some x) = refl
+
+read_tells : (v : Story) (o : Option Pointer) → None ≡ left_by v (option_map (read (state v)) o)
+read_tells v None = refl
+read_tells v (Some x) = refl
+
+-- an object that is asked for a pointer, or gives one, goes on
+ask_tells : (v : Story) (d k i : ℕ) (q : Kind) (w : Walk) (ts : List Task) (o : Option Pointer)
+    → Tells v (Some (on (asks v d w k ts i q) (acts (state v) d w k ts (FromThis i q) None Rest) o))
+ask_tells v d k i q w ts None = refl
+ask_tells v d k i q w ts (Some x) =
+    cond_both (is_enabled (state v) x) (record { deed = None; half = Giving i q x; walk = w; said = silent k })
+    (acts (state v) d w k ts (FromThis i q) None Rest) (λ (y : Step). Tells v (Some y)) (λ e. refl) (λ e. refl)
+
+given_tells : (v : Story) (d i : ℕ) (q : Kind) (x : Pointer) (w : Walk) (ts : List Task) → Tells v (given v d w i q x ts)
+given_tells v d i q x w [] = tt
+given_tells v d i Owner x w (t ∷ ts) = refl
+given_tells v d i Weak x w (t ∷ ts) = refl
 
 -- a lock ends nothing, whether it is tried or done
 lock_tells : (v : Story) (d k i word : ℕ) (must : Bool) (w : Walk) (ts : List Task) (x : Pointer) (b : Bool)
@@ -98,6 +119,11 @@ try_tells v d k word w ts (Leave i) (Some x) e = cc
 try_tells v d k word w ts (Clear i) (Some x) e = cc
 try_tells v d k word w ts (Count i) (Some x) e = cc
 try_tells v d k word w ts (Expired i) (Some x) e = cc
+try_tells v d k word w ts (Read i) (Some x) e = cc
+try_tells v d k word w ts (FromThis i kind) (Some x) e = cc
+try_tells v d k word w ts (Alias i j field) (Some x) e = cc
+try_tells v d k word w ts (Move i) (Some x) e = cc
+try_tells v d k word w ts (Ask q) (Some x) e = cc
 
 tried_tells : (v : Story) (d word : ℕ) (w : Walk) (ts : List Task) → Tells v (tried v d w word ts)
 tried_tells v d word w [] = tt
@@ -117,6 +143,11 @@ first_tells v d k w ts (Count i) = count_tells v (slot w.slots i)
 first_tells v d k w ts (Downgrade i) = downgrade_tells v (slot w.slots i)
 first_tells v d k w ts (Lock i must) = look_tells v d k i must w ts (locked w.slots (Lock i must))
 first_tells v d k w ts (Expired i) = expired_tells v (slot w.slots i)
+first_tells v d k w ts (Read i) = read_tells v (inside (slot w.slots i))
+first_tells v d k w ts (FromThis i kind) = ask_tells v d k i kind w ts (inside (slot w.slots i))
+first_tells v d k w ts (Alias i j field) = alias_tells v (aliased field (place_in w.slots j)) (owner_slot (slot w.slots i))
+first_tells v d k w ts (Move i) = refl
+first_tells v d k w ts (Ask q) = refl
 
 rest_tells : (v : Story) (d : ℕ) (w : Walk) (ts : List Task) → Tells v (begun v d w ts)
 rest_tells v d w [] = tt
@@ -146,6 +177,7 @@ step_tells v d Rest w = rest_tells v d w w.todo
 step_tells v d (Making b i f) w = make_tells v d i w b f w.todo
 step_tells v d (Ending b stage k) w = end_tells v stage k w b
 step_tells v d (Locking word) w = tried_tells v d word w w.todo
+step_tells v d (Giving i kind x) w = given_tells v d i kind x w w.todo
 
 -- both answers of a step say what is said
 as_said : (v : Story) (x : Step) → ended_by (stepped_by v (Some x)) ≡ x.said.ended

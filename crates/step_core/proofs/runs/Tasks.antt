@@ -4,7 +4,7 @@ use Rattle.std.specs.Prelude.{Some, slice_get, sum_by}
 use Rattle.std.proofs.lemmas.List.{length-drop, length-map}
 use Rattle.std.proofs.lemmas.List.Sums.{sum_by-cons}
 use Rattle.step_core.specs.declared.half.Half.{Half}
-use Rattle.step_core.specs.declared.half.Half.TheVariants.{Rest, Making, Ending, Locking}
+use Rattle.step_core.specs.declared.half.Half.TheVariants.{Rest, Making, Ending, Locking, Giving}
 use Rattle.step_core.specs.declared.thread.Thread.{Thread}
 use Rattle.step_core.specs.Bounds.{most_steps, spare, tasks_of}
 use Rattle.step_core.specs.Courses.{Walk}
@@ -30,6 +30,7 @@ spare_most (Making b i differs) = flag differs i
     flag false j = omega arith
 spare_most (Ending b stage k) = omega arith
 spare_most (Locking word) = omega arith
+spare_most (Giving i kind x) = omega arith
 
 spares : (halves : List Half) → sum_by spare halves ≤ 17 * length halves
 spares [] = omega arith

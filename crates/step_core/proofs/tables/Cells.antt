@@ -1,5 +1,5 @@
 -- What the word of a cell tells of the cell.
-use Rattle.std.proofs.Common.{◌≡◌, ◌≢◌, ℕ, ◌+◌, ◌*◌, ◌<◌, ◌≤◌, ◌==◌, List, get_or, Option, Some, None, refl, sym, ap, ◌∙◌, subst, arith}
+use Rattle.std.proofs.Common.{◌≡◌, ℕ, ◌<◌, get_or, Option, Some, None, refl, sym, ap, ◌∙◌, arith}
 use Rattle.std.specs.Prelude.{◌↔◌}
 use Rattle.control_word.proofs.history.Formation.{formed}
 use Rattle.control_word.proofs.history.Kept.{cells_led}
@@ -17,7 +17,7 @@ use Rattle.control_word.specs.Packing.{IsCellWord, cell_bits}
 use Rattle.control_word.specs.Words.{blocks_of, cell_at, shown}
 use Rattle.step_core.specs.Openings.{opening}
 use Rattle.step_core.specs.Stories.{Kept, Story, pending, state, view_in}
-use Rattle.step_core.proofs.tables.Standing.{point, ready}
+use Rattle.step_core.proofs.tables.Standing.{ready}
 
 abbrev at_cell : Story → Cell → ℕ
 at_cell v c = cell_at (opening v.extent) (state v) c

@@ -11,9 +11,9 @@ use Rattle.control_word.specs.Events.{moved_to}
 use Rattle.control_word.specs.Histories.{IsLegal}
 use Rattle.control_word.specs.Layout.{spot}
 use Rattle.control_word.specs.State.{Object, ending}
-use Rattle.control_word.specs.Views.{added, adds, owed, owes, total, used_up}
+use Rattle.control_word.specs.Views.{added, adds, total, used_up}
 use Rattle.step_core.specs.declared.past.Deed.{Deed}
-use Rattle.step_core.specs.declared.past.Deed.TheVariants.{Prepare, Write, Claim, Share, WeakShare, Leave, WeakLeave, Lock, Count, Expired, Clear, Finish}
+use Rattle.step_core.specs.declared.past.Deed.TheVariants.{Prepare, Write, Claim, Share, WeakShare, Leave, WeakLeave, Lock, Count, Expired, Read, Clear, Finish}
 use Rattle.step_core.specs.Openings.{opening}
 use Rattle.step_core.specs.Stories.{AllWhole, ShutsNoDoor, Kept, Nothing, Story, after, history_after, object_in, pending, pending_after, state, view_in}
 
@@ -28,6 +28,7 @@ shuts_none v d (WeakLeave b p vacant) = tt
 shuts_none v d (Lock b p got) = tt
 shuts_none v d (Count k b p n) = tt
 shuts_none v d (Expired k b p e) = tt
+shuts_none v d (Read b p n) = tt
 shuts_none v d (Clear b m) = tt
 shuts_none v d (Finish b vacant) = tt
 
@@ -68,6 +69,7 @@ whole_after v d (WeakLeave b p vacant) whole legal = whole
 whole_after v d (Lock b p got) whole legal = whole
 whole_after v d (Count k b p n) whole legal = whole
 whole_after v d (Expired k b p e) whole legal = whole
+whole_after v d (Read b p n) whole legal = whole
 whole_after v d (Clear b m) whole legal = λ o some le.
     put_cases (λ j (z : Object). o ≡ j → length z.fields ≡ 4) (state v).object (object_in v b) _ o
     (λ e t. moved_whole v (object_in v b) ((state v).object (object_in v b)) o whole refl some le e) (λ ne t. whole o some le) refl

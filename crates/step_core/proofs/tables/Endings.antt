@@ -3,7 +3,6 @@ use Rattle.std.proofs.Common.{◌≡◌, ℕ, ◌+◌, ◌-◌, ◌<◌, ◌==�
 use Rattle.std.specs.Prelude.{◌↔◌}
 use Rattle.std.proofs.lemmas.List.{set-get_or}
 use Rattle.control_word.proofs.history.Allowances.{allowed}
-use Rattle.control_word.proofs.lists.Tallies.{put_cases}
 use Rattle.control_word.proofs.steps.Clear.{clears'}
 use Rattle.control_word.proofs.steps.WeakLeave.{finishes'}
 use Rattle.control_word.proofs.words.CellWords.{cell_read}
@@ -12,11 +11,11 @@ use Rattle.control_word.specs.declared.event.Event.TheVariants as event
 use Rattle.control_word.specs.declared.handle.Handle.{Handle}
 use Rattle.control_word.specs.declared.place.Block.{Block}
 use Rattle.control_word.specs.declared.view.Pending.TheVariants.{Idle}
-use Rattle.control_word.specs.Events.{moved_to, after as cleared}
+use Rattle.control_word.specs.Events.{after as cleared}
 use Rattle.control_word.specs.Handles.{empty}
 use Rattle.control_word.specs.Histories.{entry}
 use Rattle.control_word.specs.Layout.{spot}
-use Rattle.control_word.specs.State.{HasRoom, Object, ending, gone, kind_of_member, put, weak}
+use Rattle.control_word.specs.State.{HasRoom, ending, kind_of_member, weak}
 use Rattle.control_word.specs.Steps.{me, purse}
 use Rattle.control_word.specs.Views.{Stands, sees_as}
 use Rattle.control_word.specs.Words.{blocks_of, packed}

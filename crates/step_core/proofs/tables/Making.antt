@@ -1,15 +1,13 @@
 -- The steps of a make.
-use Rattle.std.proofs.Common.{◌≡◌, ℕ, suc, ◌+◌, ◌<◌, Bool, List, ◌∷◌, length, set, get_or, refl, sym, ap, subst, ◌∙◌, arith}
-use Rattle.control_word.proofs.lists.Tallies.{put_cases}
+use Rattle.std.proofs.Common.{◌≡◌, ℕ, ◌+◌, ◌<◌, Bool, List, ◌∷◌, length, set, get_or, sym, ap, subst, ◌∙◌, arith}
 use Rattle.control_word.proofs.steps.Claim.{claims}
 use Rattle.control_word.proofs.steps.Write.{writes_weak_word, writes_word}
 use Rattle.control_word.specs.declared.event.Event.TheVariants as event
 use Rattle.control_word.specs.declared.place.Block.{Block}
 use Rattle.control_word.specs.declared.view.Pending.{Pending}
 use Rattle.control_word.specs.declared.view.Pending.TheVariants.{Idle, Making}
-use Rattle.control_word.specs.Handles.{empty}
 use Rattle.control_word.specs.Layout.{spot}
-use Rattle.control_word.specs.State.{Has, Object, bag_size, kind_of_member, stored}
+use Rattle.control_word.specs.State.{Has, bag_size, stored}
 use Rattle.control_word.specs.Views.{Stands, sees_as}
 use Rattle.control_word.specs.Words.{flags_of}
 use Rattle.step_core.specs.declared.past.Deed.TheVariants.{Prepare, Write, Claim}

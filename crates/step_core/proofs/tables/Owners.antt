@@ -2,7 +2,6 @@
 use Rattle.std.proofs.Common.{◌≡◌, ℕ, suc, ◌+◌, ◌-◌, ◌*◌, ◌<◌, ◌≤◌, ◌==◌, Bool, true, false, cond, ◌∷◌, set, get_or, Option, refl, sym, subst, arith, eq-eqb, ne_eqb}
 use Rattle.std.proofs.lemmas.Bool.{cond_both, eqb-true, eqb-false, false≢true}
 use Rattle.std.specs.Prelude.{◌↔◌, IsTrue}
-use Rattle.control_word.proofs.lists.Tallies.{put_cases}
 use Rattle.control_word.proofs.steps.Leave.{leaves'}
 use Rattle.control_word.proofs.steps.Look.{tells_count}
 use Rattle.control_word.proofs.steps.Share.{shares}
@@ -14,12 +13,11 @@ use Rattle.control_word.specs.Words.{slot}
 use Rattle.control_word.specs.declared.place.Block.{Block}
 use Rattle.control_word.specs.declared.place.Place.{Place}
 use Rattle.control_word.specs.declared.view.Pending.TheVariants.{Idle}
-use Rattle.control_word.specs.Events.{moved_to}
-use Rattle.control_word.specs.Handles.{IsPointer, empty}
+use Rattle.control_word.specs.Handles.{IsPointer}
 use Rattle.control_word.specs.Histories.{entry}
 use Rattle.control_word.specs.Layout.{spot}
 use Rattle.control_word.specs.Packing.{funds_of, number_of}
-use Rattle.control_word.specs.State.{Has, Object, bag_size, count, ending, held, kind_of_member}
+use Rattle.control_word.specs.State.{Has, bag_size, count, held}
 use Rattle.control_word.specs.Steps.{me}
 use Rattle.control_word.specs.Views.{Stands, owed, sees_as}
 use Rattle.step_core.specs.declared.past.Deed.TheVariants.{Share, Leave, Count}

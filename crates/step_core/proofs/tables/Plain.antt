@@ -1,17 +1,17 @@
 -- Deeds that do nothing to a cell.
-use Rattle.std.proofs.Common.{◌≡◌, ◌≢◌, ℕ, suc, ◌<◌, List, [], ◌∷◌, length, refl, sym, ap, ◌∙◌, subst}
-use Rattle.std.proofs.lemmas.Bool.{cond_both, cond-false}
+use Rattle.std.proofs.Common.{◌≡◌, ℕ, suc, ◌<◌, length, refl, sym, ap}
+use Rattle.std.proofs.lemmas.Bool.{cond_both}
 use Rattle.control_word.proofs.lists.Tallies.{put_cases}
 use Rattle.control_word.specs.declared.handle.Handle.{Handle}
 use Rattle.control_word.specs.declared.view.Pending.{Pending}
 use Rattle.control_word.specs.declared.view.Pending.TheVariants.{Idle, Making, Merging, Parting, Paying, Visiting}
 use Rattle.control_word.specs.Events.{moved_to}
 use Rattle.control_word.specs.Handles.{empty}
-use Rattle.control_word.specs.State.{Object, ending, gone, kind_of_member, put}
+use Rattle.control_word.specs.State.{Object, ending, kind_of_member, put}
 use Rattle.control_word.specs.Views.{owed, owes}
 use Rattle.step_core.specs.declared.past.Deed.{Deed}
-use Rattle.step_core.specs.declared.past.Deed.TheVariants.{Prepare, Write, Claim, Share, WeakShare, Leave, WeakLeave, Lock, Count, Expired, Clear, Finish}
-use Rattle.step_core.specs.Stories.{AllBare, IsCalm, IsPlain, Kept, Nothing, Plain, Story, after, object_in, pending, pending_after, state}
+use Rattle.step_core.specs.declared.past.Deed.TheVariants.{Prepare, Write, Claim, Share, WeakShare, Leave, WeakLeave, Lock, Count, Expired, Read, Clear, Finish}
+use Rattle.step_core.specs.Stories.{AllBare, IsCalm, IsPlain, Nothing, Plain, Story, after, object_in, pending, pending_after, state}
 use Rattle.step_core.proofs.tables.Doors.{none_in, pending_all}
 
 calm_deed : (v : Story) (d : ℕ) (x : Deed) → IsPlain x → IsCalm (pending_after v d x)
@@ -25,6 +25,7 @@ calm_deed v d (WeakLeave b p vacant) plain = tt
 calm_deed v d (Lock b p got) plain = tt
 calm_deed v d (Count k b p n) plain = tt
 calm_deed v d (Expired k b p e) plain = tt
+calm_deed v d (Read b p n) plain = tt
 calm_deed v d (Clear b m) plain = tt
 calm_deed v d (Finish b vacant) plain = tt
 
@@ -50,6 +51,7 @@ bare_after v d (WeakLeave b p vacant) plain bare = bare
 bare_after v d (Lock b p got) plain bare = bare
 bare_after v d (Count k b p n) plain bare = bare
 bare_after v d (Expired k b p e) plain bare = bare
+bare_after v d (Read b p n) plain bare = bare
 bare_after v d (Clear b m) plain bare =
     bare_put v (object_in v b) _ bare (λ n. put_cases (λ j (k : Handle). k ≡ empty (kind_of_member j)) ((state v).object (object_in v b)).member m
     (empty (kind_of_member m)) n (λ f. ap (λ (q : ℕ). empty (kind_of_member q)) (sym f)) (λ ne. bare (object_in v b) n))

@@ -1,20 +1,27 @@
 -- What the flags and fields of a block say of the object in it.
-use Rattle.std.proofs.Common.{◌≡◌, ◌≢◌, ℕ, zero, suc, ◌+◌, ◌-◌, ◌<◌, true, false, List, [], ◌∷◌, length, get_or, refl, sym}
+use Rattle.std.proofs.Common.{◌≡◌, ◌≢◌, ℕ, zero, suc, ◌+◌, ◌-◌, ◌<◌, true, false, List, [], ◌∷◌, length, get_or, Some, refl, sym}
 use Rattle.std.proofs.Common.{ap, subst, ◌∙◌, arith}
 use Rattle.std.proofs.lemmas.Bool.{cond-true, cond-false}
 use Rattle.control_word.proofs.history.Legal.{sound}
 use Rattle.control_word.proofs.history.Soundness.{IsBusy}
+use Rattle.control_word.proofs.steps.Look.{look_event}
 use Rattle.control_word.proofs.words.Body.{body_more, body_read, words_field, words_flags}
+use Rattle.control_word.specs.declared.event.Event.TheVariants as event
 use Rattle.control_word.specs.declared.place.Block.{Block}
+use Rattle.control_word.specs.declared.place.Place.{Place}
+use Rattle.control_word.specs.declared.view.Pending.TheVariants.{Idle}
 use Rattle.control_word.specs.Layout.{spot}
-use Rattle.control_word.specs.State.{Object}
+use Rattle.control_word.specs.State.{Has, Object, held}
 use Rattle.control_word.specs.Words.{blocks_of, flags_of, object_words}
 use Rattle.step_core.specs.declared.said.Ended.TheVariants.{Fields, Null}
+use Rattle.step_core.specs.declared.past.Deed.TheVariants.{Read}
 use Rattle.step_core.specs.Openings.{opening}
 use Rattle.step_core.specs.Scenes.{remains}
-use Rattle.step_core.specs.Stories.{Kept, Story, object_in, state}
+use Rattle.step_core.specs.Stories.{Kept, Story, after, object_in, owner_in, pending, state, view_in}
 use Rattle.step_core.proofs.tables.Doors.{no_door}
-use Rattle.step_core.proofs.tables.Places.{there}
+use Rattle.step_core.proofs.tables.Owners.{mine}
+use Rattle.step_core.proofs.tables.Places.{event_by, owner_busy, there}
+use Rattle.step_core.proofs.tables.Standing.{ready, kept_after}
 
 pub flags_read : (v : Story) (b : Block) → Kept v → IsBusy (state v) (object_in v b)
     → get_or v.words (spot b.0 2) 0 ≡ flags_of ((state v).object (object_in v b)).enabled ((state v).object (object_in v b)).null
@@ -66,6 +73,18 @@ whole_here v b kept busy =
     let some : object_in v b ≢ 0 = λ e. let z = fine.unmade_free 0 fine.none in
     let t : 0 < 0 = subst (λ n. 0 < n) z (subst (IsBusy (state v)) e busy) in omega arith in
     kept.whole (object_in v b) (omega arith) (fine.latest_made b.0)
+
+-- a field of an object that a desk owns
+pub kept_read : (v : Story) (d : ℕ) (b : Block) (p : Place) (n : ℕ) → Kept v → d < v.extent.actors → pending v d ≡ Idle
+    → Has (held d (owner_in v b (Some p))) (state v).hands → p.block.0 ≡ b.0 → n ≡ get_or ((state v).object (object_in v b)).fields p.field 0
+    → Kept (after v d (Read b (Some p) n))
+kept_read v d b p n kept lt idle has here is =
+    let r = ready v d Idle kept lt idle in
+    let h = there v b kept (owner_busy v d b (Some p) kept has) in
+    kept_after v d (Read b (Some p) n) kept lt
+    (event_by v d v.words Idle (event.Read (owner_in v b (Some p)) n) kept lt
+    (look_event (opening v.extent) v.words v.views v.history kept.stands d (view_in v.views d) r.seated r.awake r.pending (object_in v b) (Some p)
+    (event.Read (owner_in v b (Some p)) n) tt ((mine v d b (Some p) kept lt has, refl, refl), (p, refl, here ∙ sym h.0, is)) tt refl refl))
 
 -- what an ending object leaves, by its words
 pub remains_null : (x : Object) → x.null ≡ true → remains x ≡ Null

@@ -12,7 +12,7 @@ use Rattle.control_word.specs.Steps.{Point, Ready}
 use Rattle.control_word.specs.Views.{Stands, sees_as, used_up}
 use Rattle.step_core.specs.declared.extent.Extent.{Extent}
 use Rattle.step_core.specs.declared.past.Deed.{Deed}
-use Rattle.step_core.specs.declared.past.Deed.TheVariants.{Prepare, Write, Claim, Share, WeakShare, Leave, WeakLeave, Lock, Count, Expired, Clear, Finish}
+use Rattle.step_core.specs.declared.past.Deed.TheVariants.{Prepare, Write, Claim, Share, WeakShare, Leave, WeakLeave, Lock, Count, Expired, Read, Clear, Finish}
 use Rattle.step_core.specs.Openings.{opening}
 use Rattle.step_core.specs.Stories.{Nothing, Story, Seats, Kept, after, history_after, pending, pending_after, state, view_in, views_after}
 use Rattle.step_core.specs.Stories.{words_after}
@@ -65,6 +65,7 @@ same_allowance v d (WeakLeave b p vacant) = refl
 same_allowance v d (Lock b p got) = refl
 same_allowance v d (Count k b p n) = refl
 same_allowance v d (Expired k b p e) = refl
+same_allowance v d (Read b p n) = refl
 same_allowance v d (Clear b m) = refl
 same_allowance v d (Finish b vacant) = refl
 

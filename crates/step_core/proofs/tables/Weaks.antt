@@ -1,5 +1,5 @@
 -- Steps of weak handles on the words.
-use Rattle.std.proofs.Common.{◌≡◌, ℕ, suc, ◌-◌, ◌<◌, ◌==◌, ◌&&◌, Bool, ◌∷◌, set, get_or, Option, refl, sym, subst, ◌∙◌, inl, arith, ne_eqb}
+use Rattle.std.proofs.Common.{◌⊎◌, ⊎_elim, inr, ap, ◌≡◌, ℕ, suc, ◌-◌, ◌<◌, ◌==◌, ◌&&◌, Bool, ◌∷◌, set, get_or, Option, refl, sym, subst, ◌∙◌, inl, arith, ne_eqb}
 use Rattle.control_word.proofs.history.Moving.{owner_counted}
 use Rattle.control_word.proofs.steps.Look.{look_event, tells_expired}
 use Rattle.control_word.proofs.steps.WeakLeave.{weak_leaves'}
@@ -10,7 +10,7 @@ use Rattle.control_word.specs.declared.handle.Kind.TheVariants.{Owner, Weak}
 use Rattle.control_word.specs.declared.place.Block.{Block}
 use Rattle.control_word.specs.declared.place.Place.{Place}
 use Rattle.control_word.specs.declared.view.Pending.TheVariants.{Idle}
-use Rattle.control_word.specs.Events.{is_gone}
+use Rattle.control_word.specs.Events.{Asks, is_gone, place_at}
 use Rattle.control_word.specs.Histories.{entry}
 use Rattle.control_word.specs.Layout.{spot}
 use Rattle.control_word.specs.State.{Has, bag_size, count, held, weak}
@@ -18,24 +18,36 @@ use Rattle.control_word.specs.Steps.{me}
 use Rattle.control_word.specs.Views.{Stands, sees_as}
 use Rattle.step_core.specs.declared.past.Deed.TheVariants.{WeakShare, WeakLeave, Expired}
 use Rattle.step_core.specs.Openings.{opening}
-use Rattle.step_core.specs.Stories.{Story, Kept, after, handle_in, object_in, pending, state, view_in, weak_in}
+use Rattle.step_core.specs.Stories.{Nothing, Story, Kept, after, handle_in, object_in, pending, state, view_in, weak_in}
 use Rattle.step_core.proofs.tables.Owners.{mine_as, some_owner}
 use Rattle.step_core.proofs.tables.Places.{event_by, handle_busy, named, there}
 use Rattle.step_core.proofs.tables.Standing.{point, ready, kept_after}
 
-pub kept_weak_share : (v : Story) (d : ℕ) (k : Kind) (b : Block) (p : Option Place) → Kept v → d < v.extent.actors → pending v d ≡ Idle
-    → Has (held d (handle_in v k b p)) (state v).hands → bag_size (state v) d < (state v).allowance d → Kept (after v d (WeakShare b p))
-kept_weak_share v d k b p kept lt idle has room =
-    let e = event.WeakShare (object_in v b) p in
-    let busy = handle_busy v d k b p kept has in
-    kept_after v d (WeakShare b p) kept lt
-    (event_by v d (set v.words (spot b.0 1) (suc (get_or v.words (spot b.0 1) 0))) Idle e kept lt
-    (subst (λ (c : ℕ). Stands (opening v.extent) (set v.words (spot c 1) (suc (get_or v.words (spot c 1) 0)))
-    (set v.views d (sees_as (view_in v.views d) Idle (entry (me (point v d)) e ∷ v.history))) (entry (me (point v d)) e ∷ v.history))
-    (there v b kept busy).0
-    (weak_shares (point v d) (object_in v b) p (ready v d Idle kept lt idle) busy
-    (inl (handle_in v k b p, (mine_as v d k b p kept lt has, refl, refl), refl, inl refl))
-    (subst (λ (n : ℕ). bag_size (state v) n < (state v).allowance n) (sym (named v d kept lt)) room))))
+-- the place of a weak handle is that of the handle that it comes from, or the object's own
+module _ (v : Story) (d : ℕ) (k : Kind) (b : Block) (p q : Option Place) (kept : Kept v) (lt : d < v.extent.actors)
+    (has : Has (held d (handle_in v k b p)) (state v).hands) where
+  may_share : (q ≡ p) ⊎ (q ≡ place_at b.0) → Asks {V = Nothing} (state v) (me (point v d)) (event.WeakShare (object_in v b) q)
+  may_share is =
+      inl (
+        handle_in v k b p,
+        (mine_as v d k b p kept lt has, refl, refl),
+        refl,
+        ⊎_elim (λ (e : q ≡ p). inl e)
+            (λ (e : q ≡ place_at b.0). inr (e ∙ ap place_at (sym (there v b kept (handle_busy v d k b p kept has)).0))) is,
+      )
+
+  pub kept_weak_share : pending v d ≡ Idle → (q ≡ p) ⊎ (q ≡ place_at b.0) → bag_size (state v) d < (state v).allowance d
+      → Kept (after v d (WeakShare b q))
+  kept_weak_share idle is room =
+      let e = event.WeakShare (object_in v b) q in
+      let busy = handle_busy v d k b p kept has in
+      kept_after v d (WeakShare b q) kept lt
+      (event_by v d (set v.words (spot b.0 1) (suc (get_or v.words (spot b.0 1) 0))) Idle e kept lt
+      (subst (λ (c : ℕ). Stands (opening v.extent) (set v.words (spot c 1) (suc (get_or v.words (spot c 1) 0)))
+      (set v.views d (sees_as (view_in v.views d) Idle (entry (me (point v d)) e ∷ v.history))) (entry (me (point v d)) e ∷ v.history))
+      (there v b kept busy).0
+      (weak_shares (point v d) (object_in v b) q (ready v d Idle kept lt idle) busy (may_share is)
+      (subst (λ (n : ℕ). bag_size (state v) n < (state v).allowance n) (sym (named v d kept lt)) room))))
 
 leaving : (v : Story) (d : ℕ) (b : Block) (p : Option Place) → Kept v → d < v.extent.actors → pending v d ≡ Idle → Has (held d (weak_in v b p)) (state v).hands
     → (0 < get_or v.words (spot b.0 1) 0)

@@ -6,26 +6,27 @@ use Rattle.std.specs.List.{filter}
 use Rattle.control_word.specs.declared.event.Entry.{Entry}
 use Rattle.control_word.specs.declared.event.Event.TheVariants as event
 use Rattle.control_word.specs.declared.place.Block.{Block}
+use Rattle.control_word.specs.declared.place.Place.{Place}
 use Rattle.control_word.specs.Histories.{entry}
 use Rattle.control_word.specs.Events.{origin}
 use Rattle.control_word.specs.State.{weak}
 use Rattle.step_core.specs.declared.act.Act.{Act}
 use Rattle.step_core.specs.declared.act.Form.{Form}
-use Rattle.step_core.specs.declared.act.Act.TheVariants.{Make, Share, Downgrade, Lock, Put, Leave, Clear, Count, Expired}
+use Rattle.step_core.specs.declared.act.Act.TheVariants.{Make, Share, Downgrade, Lock, Put, Leave, Clear, Count, Expired, Read, FromThis, Alias, Move, Ask}
 use Rattle.step_core.specs.declared.act.Task.{Task}
 use Rattle.step_core.specs.declared.half.Half.{Half}
-use Rattle.step_core.specs.declared.half.Half.TheVariants.{Rest, Making, Ending, Locking}
+use Rattle.step_core.specs.declared.half.Half.TheVariants.{Rest, Making, Ending, Locking, Giving}
 use Rattle.step_core.specs.declared.holdings.Pointer.{Pointer}
 use Rattle.step_core.specs.declared.past.Deed.TheVariants as deed
 use Rattle.step_core.specs.declared.said.Answer.{Answer}
 use Rattle.step_core.specs.Actors.{wanted}
-use Rattle.step_core.specs.Courses.{Walk, form_of, hand, idle, locked, placed, settled, slots_idle, taken_idle}
+use Rattle.step_core.specs.Courses.{Walk, form_of, hand, idle, locked, placed, settled, slots_idle, taken_idle, passed}
 use Rattle.step_core.specs.declared.slot.Slot.TheVariants.{Full}
-use Rattle.step_core.specs.Holdings.{Slots, filled, plain, slot, value}
-use Rattle.step_core.specs.Scenes.{answer_of, ended_by, found, least, on, remains, remains_as, taking, went}
-use Rattle.step_core.specs.Steps.{Step, acts, begins, begun, claims, end_as, end_of, ends_on, first, looks, made_on, prepares, tried, tries, trying}
+use Rattle.step_core.specs.Holdings.{inside, Slots, filled, plain, slot, value, owner_slot, place_in}
+use Rattle.step_core.specs.Scenes.{giving, answer_of, ended_by, found, least, on, remains, remains_as, taking, went, alias_of}
+use Rattle.step_core.specs.Steps.{asks, given, Step, acts, begins, begun, claims, end_as, end_of, ends_on, first, looks, made_on, prepares, tried, tries, trying}
 use Rattle.step_core.specs.Steps.{silent, step_at, stepped, story_by, walk_by}
-use Rattle.step_core.specs.Deeds.{as_weak, downgrade, is_last as is_last_of, leave, leave_as, lock, owned, owner_word, share, share_as, tell, tell_expired}
+use Rattle.step_core.specs.Deeds.{give, is_enabled, read, this_as, as_weak, downgrade, is_last as is_last_of, leave, leave_as, lock, owned, owner_word, share, share_as, tell, tell_expired, alias, aliased}
 use Rattle.control_word.specs.declared.handle.Kind.{Kind}
 use Rattle.control_word.specs.declared.handle.Kind.TheVariants.{Owner, Weak}
 use Rattle.step_core.specs.Stories.{Nothing, Story, known, object_in, owner_in, pending, state}
@@ -88,6 +89,11 @@ downgraded : (v : Story) (d k : ℕ) (w x : Walk) (n : ℕ) → length x.todo �
 downgraded v d k w x n le None = record { made = plus_none _; ended = plus_none _; few = omega (arith, le) }
 downgraded v d k w x n le (Some y) = record { made = plus_none _; ended = plus_none _; few = omega (arith, le) }
 
+aliased_by : (v : Story) (d k : ℕ) (w x : Walk) (n : ℕ) (p : Option Place) → length x.todo ≤ n → (y : Option Pointer)
+    → IsCounted v d Rest w n (Some (record { deed = option_map (alias p) y; half = Rest; walk = x; said = silent k }))
+aliased_by v d k w x n p le None = record { made = plus_none _; ended = plus_none _; few = omega (arith, le) }
+aliased_by v d k w x n p le (Some y) = record { made = plus_none _; ended = plus_none _; few = omega (arith, le) }
+
 expired : (v : Story) (d k : ℕ) (w x : Walk) (n : ℕ) (a : Option Answer) → length x.todo ≤ n → (y : Option Pointer)
     → IsCounted v d Rest w n (Some (record {
       deed = option_map (tell_expired (state v)) y;
@@ -97,6 +103,16 @@ expired : (v : Story) (d k : ℕ) (w x : Walk) (n : ℕ) (a : Option Answer) →
     }))
 expired v d k w x n a le None = record { made = plus_none _; ended = plus_none _; few = omega (arith, le) }
 expired v d k w x n a le (Some y) = record { made = plus_none _; ended = plus_none _; few = omega (arith, le) }
+
+read_one : (v : Story) (d k : ℕ) (w x : Walk) (n : ℕ) (a : Option Answer) → length x.todo ≤ n → (y : Option Pointer)
+    → IsCounted v d Rest w n (Some (record {
+      deed = option_map (read (state v)) y;
+      half = Rest;
+      walk = x;
+      said = record { statement = k; answer = a; ended = None };
+    }))
+read_one v d k w x n a le None = record { made = plus_none _; ended = plus_none _; few = omega (arith, le) }
+read_one v d k w x n a le (Some y) = record { made = plus_none _; ended = plus_none _; few = omega (arith, le) }
 
 -- a lock that is done
 locked_by : (v : Story) (d k : ℕ) (h : Half) (w x : Walk) (n : ℕ) (a : Option Answer) (y : Pointer) → is_prepared h ≡ false → length x.todo ≤ n
@@ -194,6 +210,34 @@ taken_less : (slots : Slots) (must : Bool) (ts : List Task) (o : Option Pointer)
 taken_less slots must ts None = settled_less slots (not must) ts
 taken_less slots must ts (Some x) = settled_less (slice_set slots (hand slots) (Full x)) true ts
 
+-- an object is asked for a pointer, or gives one
+asked_less : (v : Story) (d : ℕ) (w : Walk) (ts : List Task) (i : ℕ) (q : Kind) → length (went (state v) d w.slots w.taken ts (FromThis i q)).todo ≤ length ts
+asked_less v d w ts i q = taken_less w.slots true ts (option_map (this_as q) (giving (state v) (inside (slot w.slots i))))
+
+asked_one : (v : Story) (d k : ℕ) (w : Walk) (t : Task) (ts : List Task) (i : ℕ) (q : Kind) (o : Option Pointer) → w.todo ≡ t ∷ ts
+    → IsCounted v d Rest w (length (t ∷ ts)) (Some (on (asks v d w k ts i q) (acts (state v) d w k ts (FromThis i q) None Rest) o))
+asked_one v d k w t ts i q None is =
+    let l = asked_less v d w ts i q in
+    quiet v d k Rest Rest w (went (state v) d w.slots w.taken ts (FromThis i q)) (length (t ∷ ts)) (answer_of (state v) d w.slots (FromThis i q)) (omega (arith, l))
+asked_one v d k w t ts i q (Some y) is =
+    let l = asked_less v d w ts i q in
+    let e = ap (λ (z : List Task). length z) is in
+    cond_both (is_enabled (state v) y) (record { deed = None; half = Giving i q y; walk = w; said = silent k })
+    (acts (state v) d w k ts (FromThis i q) None Rest) (λ (x : Step). IsCounted v d Rest w (length (t ∷ ts)) (Some x))
+    (λ b. quiet v d k Rest (Giving i q y) w w (length (t ∷ ts)) None (omega (arith, e)))
+    (λ b. quiet v d k Rest Rest w (went (state v) d w.slots w.taken ts (FromThis i q)) (length (t ∷ ts))
+    (answer_of (state v) d w.slots (FromThis i q)) (omega (arith, l)))
+
+given_one : (v : Story) (d i : ℕ) (q r : Kind) (y : Pointer) (w : Walk) (t : Task) (ts : List Task)
+    → IsCounted v d (Giving i q y) w (length (t ∷ ts)) (Some (acts (state v) d w t.statement ts (FromThis i q) (Some (give r y)) Rest))
+given_one v d i q Owner y w t ts = let l = asked_less v d w ts i q in record { made = plus_none _; ended = plus_none _; few = omega (arith, l) }
+given_one v d i q Weak y w t ts = let l = asked_less v d w ts i q in record { made = plus_none _; ended = plus_none _; few = omega (arith, l) }
+
+counted_give : (v : Story) (d i : ℕ) (q : Kind) (y : Pointer) (w : Walk) (ts : List Task) → w.todo ≡ ts
+    → IsCounted v d (Giving i q y) w (length ts) (given v d w i q y ts)
+counted_give v d i q y w [] is = record { made = plus_none _; ended = plus_none _; few = let e = ap (λ (z : List Task). length z) is in omega (arith, e) }
+counted_give v d i q y w (t ∷ ts) is = given_one v d i q q y w t ts
+
 -- a lock is tried, or done
 tried_or : (v : Story) (d k : ℕ) (h : Half) (w : Walk) (ts : List Task) (n word : ℕ) (i : ℕ) (must : Bool) (y : Pointer) (b : Bool) → is_prepared h ≡ false
     → length ts ≤ n → length w.todo ≤ n
@@ -240,10 +284,26 @@ counted_act v d w t ts (Downgrade i) is =
     let l = settled_less (slice_set w.slots (hand w.slots) (filled (option_map as_weak (slot w.slots i)))) true ts in
     downgraded v d t.statement w x (length (t ∷ ts)) (omega (arith, l)) (slot w.slots i)
 counted_act v d w t ts (Lock i must) is = looked v d t.statement w t ts i must (locked w.slots (Lock i must)) is
+counted_act v d w t ts (Alias i j field) is =
+    let x = went (state v) d w.slots w.taken ts (Alias i j field) in
+    let p = aliased field (place_in w.slots j) in
+    let l = settled_less (slice_set w.slots (hand w.slots) (alias_of p (owner_slot (slot w.slots i)))) true ts in
+    aliased_by v d t.statement w x (length (t ∷ ts)) p (omega (arith, l)) (owner_slot (slot w.slots i))
+counted_act v d w t ts (Move i) is =
+    let l = settled_less (passed i (hand w.slots) w.slots) true ts in
+    quiet v d t.statement Rest Rest w (went (state v) d w.slots w.taken ts (Move i)) (length (t ∷ ts)) None (omega (arith, l))
+counted_act v d w t ts (Ask q) is =
+    let l = settled_less w.slots w.taken ts in
+    quiet v d t.statement Rest Rest w (went (state v) d w.slots w.taken ts (Ask q)) (length (t ∷ ts)) (answer_of (state v) d w.slots (Ask q)) (omega (arith, l))
 counted_act v d w t ts (Expired i) is =
     let x = went (state v) d w.slots w.taken ts (Expired i) in
     let l = settled_less w.slots w.taken ts in
     expired v d t.statement w x (length (t ∷ ts)) (answer_of (state v) d w.slots (Expired i)) (omega (arith, l)) (slot w.slots i)
+counted_act v d w t ts (Read i) is =
+    let x = went (state v) d w.slots w.taken ts (Read i) in
+    let l = settled_less w.slots w.taken ts in
+    read_one v d t.statement w x (length (t ∷ ts)) (answer_of (state v) d w.slots (Read i)) (omega (arith, l)) (inside (slot w.slots i))
+counted_act v d w t ts (FromThis i kind) is = asked_one v d t.statement w t ts i kind (inside (slot w.slots i)) is
 
 counted_rest : (v : Story) (d : ℕ) (w : Walk) (ts : List Task) → w.todo ≡ ts → IsCounted v d Rest w (length ts) (begun v d w ts)
 counted_rest v d w [] is = record { made = plus_none _; ended = plus_none _; few = let e = ap (λ (z : List Task). length z) is in omega (arith, e) }
@@ -272,6 +332,11 @@ counted_try v d word w t ts (Leave i) (Some y) is e = cc
 counted_try v d word w t ts (Clear i) (Some y) is e = cc
 counted_try v d word w t ts (Count i) (Some y) is e = cc
 counted_try v d word w t ts (Expired i) (Some y) is e = cc
+counted_try v d word w t ts (Read i) (Some y) is e = cc
+counted_try v d word w t ts (FromThis i kind) (Some y) is e = cc
+counted_try v d word w t ts (Alias i j field) (Some y) is e = cc
+counted_try v d word w t ts (Move i) (Some y) is e = cc
+counted_try v d word w t ts (Ask q) (Some y) is e = cc
 
 counted_lock : (v : Story) (d word : ℕ) (w : Walk) (ts : List Task) → w.todo ≡ ts → IsCounted v d (Locking word) w (length ts) (tried v d w word ts)
 counted_lock v d word w [] is = record { made = plus_none _; ended = plus_none _; few = let e = ap (λ (z : List Task). length z) is in omega (arith, e) }
@@ -283,3 +348,4 @@ counted v d Rest w = counted_rest v d w w.todo refl
 counted v d (Making b i f) w = counted_make v d i w b f w.todo refl
 counted v d (Ending b stage k) w = counted_end v d stage k w b
 counted v d (Locking word) w = counted_lock v d word w w.todo refl
+counted v d (Giving i kind x) w = counted_give v d i kind x w w.todo refl

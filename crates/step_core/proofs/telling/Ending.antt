@@ -5,24 +5,25 @@ use Rattle.std.proofs.lemmas.Bool.{cases_eq, cond_both}
 use Rattle.control_word.proofs.history.Legal.{sound}
 use Rattle.control_word.proofs.lists.Tallies.{put_cases}
 use Rattle.control_word.specs.declared.place.Block.{Block}
+use Rattle.control_word.specs.declared.place.Place.{Place}
 use Rattle.control_word.specs.State.{Object, State, common, ending, gone, live, put, weak}
 use Rattle.step_core.specs.declared.act.Act.{Act}
 use Rattle.step_core.specs.declared.act.Form.{Form}
-use Rattle.step_core.specs.declared.act.Act.TheVariants.{Make, Share, Downgrade, Lock, Put, Leave, Clear, Count, Expired}
+use Rattle.step_core.specs.declared.act.Act.TheVariants.{Make, Share, Downgrade, Lock, Put, Leave, Clear, Count, Expired, Read, FromThis, Alias, Move, Ask}
 use Rattle.step_core.specs.declared.act.Task.{Task}
 use Rattle.step_core.specs.declared.half.Half.{Half}
-use Rattle.step_core.specs.declared.half.Half.TheVariants.{Rest, Making, Ending, Locking}
+use Rattle.step_core.specs.declared.half.Half.TheVariants.{Rest, Making, Ending, Locking, Giving}
 use Rattle.step_core.specs.declared.holdings.Pointer.{Pointer}
 use Rattle.step_core.specs.declared.past.Deed.TheVariants as deed
 use Rattle.step_core.specs.declared.said.Said.{Said}
 use Rattle.step_core.specs.Actors.{wanted}
 use Rattle.step_core.specs.Courses.{Walk, form_of, locked}
-use Rattle.step_core.specs.Holdings.{slot}
+use Rattle.step_core.specs.Holdings.{inside, slot, owner_slot, place_in}
 use Rattle.step_core.specs.Openings.{opening}
 use Rattle.step_core.specs.Scenes.{least, on}
-use Rattle.step_core.specs.Steps.{Step, acts, begins, begun, claims, end_as, end_of, ends_on, first, half_by, looks, made_on}
+use Rattle.step_core.specs.Steps.{asks, given, Step, acts, begins, begun, claims, end_as, end_of, ends_on, first, half_by, looks, made_on}
 use Rattle.step_core.specs.Steps.{prepares, silent, step_at, story_by, tried, tries, trying}
-use Rattle.step_core.specs.Deeds.{downgrade, is_last, leave, leave_as, lock, owner_word, share, share_as, tell, tell_expired}
+use Rattle.step_core.specs.Deeds.{is_enabled, read, downgrade, is_last, leave, leave_as, lock, owner_word, share, share_as, tell, tell_expired, alias, aliased}
 use Rattle.control_word.specs.declared.handle.Kind.{Kind}
 use Rattle.control_word.specs.declared.handle.Kind.TheVariants.{Owner, Weak}
 use Rattle.step_core.specs.Stories.{Kept, Story, known, object_in, pending, state}
@@ -73,10 +74,35 @@ downgraded : (v : Story) (d k : ℕ) (x : Walk) (f : ℕ → Half) → f d ≡ R
 downgraded v d k x f at all None = same v d Rest f _ refl (λ b t. t) at all
 downgraded v d k x f at all (Some y) = same v d Rest f _ refl (λ b t. t) at all
 
+aliased_by : (v : Story) (d k : ℕ) (x : Walk) (f : ℕ → Half) (p : Option Place) → f d ≡ Rest → AllEnd (state v) f → (y : Option Pointer)
+    → Right v d Rest f (Some (record { deed = option_map (alias p) y; half = Rest; walk = x; said = silent k }))
+aliased_by v d k x f p at all None = same v d Rest f _ refl (λ b t. t) at all
+aliased_by v d k x f p at all (Some y) = same v d Rest f _ refl (λ b t. t) at all
+
 expired : (v : Story) (d : ℕ) (x : Walk) (a : Said) (f : ℕ → Half) → f d ≡ Rest → AllEnd (state v) f → (y : Option Pointer)
     → Right v d Rest f (Some (record { deed = option_map (tell_expired (state v)) y; half = Rest; walk = x; said = a }))
 expired v d x a f at all None = same v d Rest f _ refl (λ b t. t) at all
 expired v d x a f at all (Some y) = same v d Rest f _ refl (λ b t. t) at all
+
+read_on : (v : Story) (d : ℕ) (x : Walk) (a : Said) (f : ℕ → Half) → f d ≡ Rest → AllEnd (state v) f → (y : Option Pointer)
+    → Right v d Rest f (Some (record { deed = option_map (read (state v)) y; half = Rest; walk = x; said = a }))
+read_on v d x a f at all None = same v d Rest f _ refl (λ b t. t) at all
+read_on v d x a f at all (Some y) = same v d Rest f _ refl (λ b t. t) at all
+
+-- an object is asked for a pointer, or gives one
+asked : (v : Story) (d k : ℕ) (w : Walk) (ts : List Task) (i : ℕ) (q : Kind) (f : ℕ → Half) → f d ≡ Rest → AllEnd (state v) f → (o : Option Pointer)
+    → Right v d Rest f (Some (on (asks v d w k ts i q) (acts (state v) d w k ts (FromThis i q) None Rest) o))
+asked v d k w ts i q f at all None = same v d Rest f _ refl (λ b t. t) at all
+asked v d k w ts i q f at all (Some y) =
+    cond_both (is_enabled (state v) y) (record { deed = None; half = Giving i q y; walk = w; said = silent k })
+    (acts (state v) d w k ts (FromThis i q) None Rest) (λ (x : Step). Right v d Rest f (Some x))
+    (λ e. same v d Rest f _ refl (λ b t. absurd t) at all) (λ e. same v d Rest f _ refl (λ b t. t) at all)
+
+given_on : (v : Story) (d i : ℕ) (q r : Kind) (y : Pointer) (w : Walk) (f : ℕ → Half) → f d ≡ Giving i q y → AllEnd (state v) f → (ts : List Task)
+    → Right v d (Giving i q y) f (given v d w i r y ts)
+given_on v d i q r y w f at all [] = same v d (Giving i q y) f None refl (λ b t. t) at all
+given_on v d i q Owner y w f at all (t ∷ ts) = same v d (Giving i q y) f _ refl (λ b t. absurd t) at all
+given_on v d i q Weak y w f at all (t ∷ ts) = same v d (Giving i q y) f _ refl (λ b t. absurd t) at all
 
 -- a lock is tried, or done
 tried_or : (v : Story) (d k word : ℕ) (w : Walk) (ts : List Task) (a : Act) (h : Half) (f : ℕ → Half) → f d ≡ h → AllEnd (state v) f
@@ -170,6 +196,11 @@ acted v d k w ts f at all kept (Count i) = told v d _ _ f at all (slot w.slots i
 acted v d k w ts f at all kept (Downgrade i) = downgraded v d k _ f at all (slot w.slots i)
 acted v d k w ts f at all kept (Lock i must) = looked v d k w ts (Lock i must) f at all (locked w.slots (Lock i must))
 acted v d k w ts f at all kept (Expired i) = expired v d _ _ f at all (slot w.slots i)
+acted v d k w ts f at all kept (Read i) = read_on v d _ _ f at all (inside (slot w.slots i))
+acted v d k w ts f at all kept (FromThis i kind) = asked v d k w ts i kind f at all (inside (slot w.slots i))
+acted v d k w ts f at all kept (Alias i j field) = aliased_by v d k _ f (aliased field (place_in w.slots j)) at all (owner_slot (slot w.slots i))
+acted v d k w ts f at all kept (Move i) = same v d Rest f _ refl (λ b t. t) at all
+acted v d k w ts f at all kept (Ask q) = same v d Rest f _ refl (λ b t. t) at all
 
 rested : (v : Story) (d : ℕ) (w : Walk) (f : ℕ → Half) → f d ≡ Rest → AllEnd (state v) f → Kept v → (ts : List Task)
     → Right v d Rest f (begun v d w ts)
@@ -261,3 +292,4 @@ ends_right v d Rest w f at all kept = rested v d w f at all kept w.todo
 ends_right v d (Making b i c) w f at all kept = making v d i w b c f at all w.todo
 ends_right v d (Ending b stage k) w f at all kept = ended v d stage k w b f at all kept
 ends_right v d (Locking word) w f at all kept = tried_on v d word w f at all w.todo
+ends_right v d (Giving i kind x) w f at all kept = given_on v d i kind kind x w f at all w.todo

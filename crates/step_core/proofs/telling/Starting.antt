@@ -37,6 +37,17 @@ tasks_size k ((call.Lock t s) ∷ cs) n = let i = tasks_size (k + 1) cs n in ome
 tasks_size k ((call.Upgrade t s) ∷ cs) n = let i = tasks_size (k + 1) cs n in omega (arith, i)
 tasks_size k ((call.WeakCount t) ∷ cs) n = let i = tasks_size (k + 1) cs n in omega (arith, i)
 tasks_size k ((call.Expired t) ∷ cs) n = let i = tasks_size (k + 1) cs n in omega (arith, i)
+tasks_size k ((call.MakeThis t f) ∷ cs) n = let i = tasks_size (k + 1) cs n in omega (arith, i)
+tasks_size k ((call.Null t) ∷ cs) n = let i = tasks_size (k + 1) cs n in omega (arith, i)
+tasks_size k ((call.Move t s) ∷ cs) n = let i = tasks_size (k + 1) cs n in omega (arith, i)
+tasks_size k ((call.Alias t s o f) ∷ cs) n = let i = tasks_size (k + 1) cs n in omega (arith, i)
+tasks_size k ((call.AliasNull t s) ∷ cs) n = let i = tasks_size (k + 1) cs n in omega (arith, i)
+tasks_size k ((call.This t s) ∷ cs) n = let i = tasks_size (k + 1) cs n in omega (arith, i)
+tasks_size k ((call.WeakThis t s) ∷ cs) n = let i = tasks_size (k + 1) cs n in omega (arith, i)
+tasks_size k ((call.Read t) ∷ cs) n = let i = tasks_size (k + 1) cs n in omega (arith, i)
+tasks_size k ((call.Place t) ∷ cs) n = let i = tasks_size (k + 1) cs n in omega (arith, i)
+tasks_size k ((call.Same t s) ∷ cs) n = let i = tasks_size (k + 1) cs n in omega (arith, i)
+tasks_size k ((call.Before t s) ∷ cs) n = let i = tasks_size (k + 1) cs n in omega (arith, i)
 
 first_left : (part : Part) → IsPart part → length (first_walk part).todo ≤ 2 * length part.calls + 32
 first_left part fine =

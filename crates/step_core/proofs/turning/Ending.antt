@@ -6,7 +6,7 @@ use Rattle.std.proofs.lemmas.Bool.{false≢true}
 use Rattle.std.proofs.lemmas.List.{set-get_or, set-set}
 use Rattle.control_word.specs.declared.place.Block.{Block}
 use Rattle.step_core.specs.declared.half.Half.{Half}
-use Rattle.step_core.specs.declared.half.Half.TheVariants.{Rest, Making, Ending, Locking}
+use Rattle.step_core.specs.declared.half.Half.TheVariants.{Rest, Making, Ending, Locking, Giving}
 use Rattle.step_core.specs.declared.said.Stepped.{Stepped}
 use Rattle.step_core.specs.Courses.{Walk}
 use Rattle.step_core.specs.Scenes.{History, Scene, nowhere, walk_of}
@@ -22,6 +22,7 @@ left Rest = 0
 left (Making b i differs) = 0
 left (Ending b stage k) = 4 - stage
 left (Locking word) = 0
+left (Giving i kind x) = 0
 
 -- what the thread has begun after its step
 pub half_after : (d : ℕ) (u : Sight) (x : Option Step) → d < length u.halves → half_of (sight_by d u x) d ≡ half_by (half_of u d) x
@@ -79,6 +80,7 @@ stepped_end : (d : ℕ) (u : Sight) (h : Half) → half_of u d ≡ h → HasBegu
 stepped_end d u Rest e begun is = absurd (false≢true is)
 stepped_end d u (Making b i differs) e begun is = absurd (false≢true is)
 stepped_end d u (Locking word) e begun is = absurd (false≢true is)
+stepped_end d u (Giving i kind x) e begun is = absurd (false≢true is)
 stepped_end d u (Ending b s k) e begun is =
     let w = walk_of (scene u) d in
     let le : s ≤ 3 = subst (λ (h : Half). IsUnderWay d u.story h w.todo) e begun.half in
@@ -119,12 +121,14 @@ same_scene : (d : ℕ) (v : Sight) (h : Half) → is_ending h ≡ false → rest
 same_scene d v Rest is = refl
 same_scene d v (Making b i differs) is = refl
 same_scene d v (Locking word) is = refl
+same_scene d v (Giving i kind x) is = refl
 same_scene d v (Ending b s k) is = absurd (false≢true (sym is))
 
 same_half : (h : Half) → is_ending h ≡ false → rested_half h ≡ h
 same_half Rest is = refl
 same_half (Making b i differs) is = refl
 same_half (Locking word) is = refl
+same_half (Giving i kind x) is = refl
 same_half (Ending b s k) is = absurd (false≢true (sym is))
 
 -- where no object ends the scene is as it is

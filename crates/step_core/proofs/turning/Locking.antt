@@ -3,10 +3,10 @@ use Rattle.std.proofs.Common.{◌≡◌, ℕ, ◌<◌, ◌==◌, Bool, true, fal
 use Rattle.std.specs.Prelude.{Option, Some, None, option_map}
 use Rattle.std.proofs.lemmas.Bool.{cond-true, cond_both, false≢true}
 use Rattle.step_core.specs.declared.act.Act.{Act}
-use Rattle.step_core.specs.declared.act.Act.TheVariants.{Make, Share, Downgrade, Lock, Put, Leave, Clear, Count, Expired}
+use Rattle.step_core.specs.declared.act.Act.TheVariants.{Make, Share, Downgrade, Lock, Put, Leave, Clear, Count, Expired, Read, FromThis, Alias, Move, Ask}
 use Rattle.step_core.specs.declared.act.Task.{Task}
 use Rattle.step_core.specs.declared.half.Half.{Half}
-use Rattle.step_core.specs.declared.half.Half.TheVariants.{Rest, Making, Ending, Locking}
+use Rattle.step_core.specs.declared.half.Half.TheVariants.{Rest, Making, Ending, Locking, Giving}
 use Rattle.step_core.specs.declared.holdings.Pointer.{Pointer}
 use Rattle.step_core.specs.declared.said.Stepped.{Stepped}
 use Rattle.step_core.specs.Courses.{locked}
@@ -18,7 +18,7 @@ use Rattle.step_core.specs.Stories.{state}
 use Rattle.step_core.specs.Turning.{HasBegun, IsLock, IsTried, Plays, is_event, is_locking, turned_by}
 use Rattle.step_core.specs.Worlds.{Sight, Steps, half_of, scene, sight_by, step_of}
 use Rattle.step_core.proofs.turning.Ending.{half_after, halves_after, same_walks, scene_as}
-use Rattle.step_core.proofs.turning.Playing.{lock_so, plays_as}
+use Rattle.step_core.proofs.turning.Saying.{lock_so, plays_as}
 use Rattle.step_core.proofs.turning.Turns.{plays_on}
 
 -- the lock that is done
@@ -77,6 +77,11 @@ looks_done d u t ts y (Leave i) e zero = cc
 looks_done d u t ts y (Clear i) e zero = cc
 looks_done d u t ts y (Count i) e zero = cc
 looks_done d u t ts y (Expired i) e zero = cc
+looks_done d u t ts y (Read i) e zero = cc
+looks_done d u t ts y (FromThis i kind) e zero = cc
+looks_done d u t ts y (Alias i j field) e zero = cc
+looks_done d u t ts y (Move i) e zero = cc
+looks_done d u t ts y (Ask q) e zero = cc
 
 -- the second try finds the word that the first found
 second : (d : ℕ) (v : Sight) (t : Task) (ts : List Task) (y : Pointer) → (walk_of (scene v) d).todo ≡ t ∷ ts → locked (walk_of (scene v) d).slots t.act ≡ Some y
@@ -112,6 +117,7 @@ locks_now : (d : ℕ) (u : Sight) (h : Half) → half_of u d ≡ h → is_lockin
 locks_now d u Rest e is begun = absurd (false≢true is)
 locks_now d u (Making b i f) e is begun = absurd (false≢true is)
 locks_now d u (Ending b s k) e is begun = absurd (false≢true is)
+locks_now d u (Giving i kind x) e is begun = absurd (false≢true is)
 locks_now d u (Locking word) e is begun =
     let w = walk_of (scene u) d in (word, locks_by d u word w.todo e refl (subst (λ (h : Half). IsTried h w) e begun.tried))
 

@@ -8,7 +8,7 @@ use Rattle.step_core.specs.declared.act.Act.{Act}
 use Rattle.step_core.specs.declared.act.Act.TheVariants.{Make}
 use Rattle.step_core.specs.declared.act.Task.{Task}
 use Rattle.step_core.specs.declared.half.Half.{Half}
-use Rattle.step_core.specs.declared.half.Half.TheVariants.{Rest, Making, Ending, Locking}
+use Rattle.step_core.specs.declared.half.Half.TheVariants.{Rest, Making, Ending, Locking, Giving}
 use Rattle.step_core.specs.declared.said.Said.{Said}
 use Rattle.step_core.specs.declared.said.Stepped.{Stepped}
 use Rattle.step_core.specs.declared.said.Turned.{Turned}
@@ -20,7 +20,7 @@ use Rattle.step_core.specs.Stories.{known, pending, state}
 use Rattle.step_core.specs.Turning.{HasBegun, IsReady, IsUnderWay, Plays, Prepares, Rests, is_acting, rested_half, turned, turned_by}
 use Rattle.step_core.specs.Worlds.{Sight, Steps, Turns, half_of, rested, scene, sight_by, step_of}
 use Rattle.step_core.proofs.turning.Making.{made_step}
-use Rattle.step_core.proofs.turning.Playing.{Acts, acted_said, acted_scene, plays_as}
+use Rattle.step_core.proofs.turning.Saying.{Acts, acted_said, acted_scene, plays_as}
 
 -- a claim is what the make says and makes
 claims_so : (d : ℕ) (u : Sight) (k : ℕ) (ts : List Task) (b : Block) (a : Act) → a ≡ Make (form_of a) → least d (state u.story).stores ≡ Some b.0
@@ -55,7 +55,9 @@ claimed d u r (Making c j f) (Making b i g) e ready begun answer =
 claimed d u r (Making c j f) Rest e ready begun answer = absurd ready
 claimed d u r (Making c j f) (Ending b s k) e ready begun answer = absurd ready
 claimed d u r (Making c j f) (Locking word) e ready begun answer = absurd ready
+claimed d u r (Making c j f) (Giving i kind x) e ready begun answer = absurd ready
 claimed d u r (Locking word) h e ready begun answer = absurd ready
+claimed d u r (Giving i kind x) h e ready begun answer = absurd ready
 claimed d u r Rest h e ready begun answer = absurd ready
 claimed d u r (Ending b s k) h e ready begun answer = absurd ready
 
@@ -84,6 +86,7 @@ over_rest Rest m = refl
 over_rest (Making b i f) m = absurd (false≢true (sym m))
 over_rest (Ending b s k) m = refl
 over_rest (Locking word) m = absurd (false≢true (sym m))
+over_rest (Giving i kind x) m = absurd (false≢true (sym m))
 
 turns_by : (d : ℕ) (u u' : Sight) (r : Turned) (o : Option Said) → said d (rested u d) ≡ o → r ≡ turned o → scene u' ≡ play d (rested u d)
     → u'.halves ≡ set u.halves d Rest → Turns d u r u'

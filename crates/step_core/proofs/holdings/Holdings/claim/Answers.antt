@@ -1,6 +1,6 @@
 use Rattle.control_word.specs.declared.handle.Kind.TheVariants.{Owner}
 use Rattle.std.proofs.Common.{ℕ, set, sym, subst}
-use Rattle.std.specs.Prelude.{Option, Some}
+use Rattle.std.specs.Prelude.{Option}
 use Rattle.control_word.specs.declared.place.Place.{Place}
 use Rattle.control_word.specs.Events.{origin}
 use Rattle.control_word.specs.State.{Has, stored}

@@ -1,5 +1,4 @@
 use Rattle.std.proofs.Common.{◌≡◌, ◌==◌, ℕ, cond, subst, ap, length, arith}
-use Rattle.control_word.specs.Layout.{spot}
 use Rattle.control_word.specs.Packing.{funds_of, number_of}
 use Rattle.step_core.specs.declared.past.Deed.TheVariants.{Count}
 use Rattle.step_core.specs.Stories.{Story, Kept}

@@ -40,9 +40,9 @@ invariant_of-self c =
     let i = inside c.args.self.now c.args.pointer.block 1 k (there c.args.self.now c.args.pointer.block k
     (handle_busy c.args.self.now c.args.desk c.args.pointer.kind c.args.pointer.block _ k c.requires.held)).1 (let q = c.requires in omega arith) in
     let f = found c.self.inside.words.items c.args.self.now.words c.block_word.result _ _ w c.block_word.ensures i c.index_mut.ensures.value in
-    kept_as c.args.self.now c.args.desk (WeakShare c.args.pointer.block c.args.pointer.place) _ _ _ _
-    (kept_weak_share c.args.self.now c.args.desk c.args.pointer.kind c.args.pointer.block c.args.pointer.place k c.requires.seat c.requires.idle c.requires.held
-    c.requires.room)
+    kept_as c.args.self.now c.args.desk (WeakShare c.args.pointer.block c.args.place) _ _ _ _
+    (kept_weak_share c.args.self.now c.args.desk c.args.pointer.kind c.args.pointer.block c.args.pointer.place c.args.place k c.requires.seat c.requires.held
+    c.requires.idle c.requires.place c.requires.room)
     (ap (λ (s : Story). s.extent) c.self.view_is)
     (let e = c.block_word.ensures in
     let g : c.index_mut.result.now + 1 ≡ suc (get_or c.args.self.now.words (spot c.args.pointer.block.0 1) 0) = omega (arith, f) in cc)

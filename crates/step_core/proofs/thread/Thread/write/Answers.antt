@@ -2,7 +2,7 @@ use Rattle.step_core.specs.declared.act.Form.{Form}
 use Rattle.step_core.specs.declared.half.Half.TheVariants.{Making}
 use Rattle.std.proofs.Common.{◌+◌, false}
 use Rattle.step_core.specs.declared.thread.Thread.{Thread}
-use Rattle.std.proofs.Common.{ℕ, sym, ap, subst, get_or, List, ◌∙◌}
+use Rattle.std.proofs.Common.{ℕ, sym, ap, subst, get_or, ◌∙◌}
 use Rattle.step_core.specs.Actors.{wanted}
 use Rattle.step_core.specs.declared.past.Deed.TheVariants as deed
 use Rattle.step_core.specs.Stories.{Story, after}

@@ -3,7 +3,7 @@ use Rattle.std.specs.Prelude.{string_bytes}
 use Rattle.std.specs.List.{flat_map}
 use Rattle.script_text.specs.Canonical.{number_after}
 use Rattle.script_text.proofs.PrintLemmas.{fields_line}
-use Rattle.script_text.proofs.printing.put_fields.Goals as goal
+use Rattle.script_text.proofs.line.put_fields.Goals as goal
 
 pub returns : goal.returns
 returns c =

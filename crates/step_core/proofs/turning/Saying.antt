@@ -1,0 +1,253 @@
+-- What a step of an act says, and the turn that it is.
+use Rattle.std.proofs.Common.{◌≡◌, ℕ, ◌<◌, ◌==◌, Bool, true, false, cond, List, ◌∷◌, length, set, refl, sym, ap, subst, ◌∙◌}
+use Rattle.std.specs.Prelude.{Option, Some, None, option_map}
+use Rattle.std.proofs.lemmas.Bool.{cond_both, cond-false, false≢true}
+use Rattle.control_word.specs.declared.place.Place.{Place}
+use Rattle.step_core.specs.declared.act.Act.{Act}
+use Rattle.step_core.specs.declared.act.Form.{Form}
+use Rattle.step_core.specs.declared.act.Act.TheVariants.{Make, Share, Downgrade, Lock, Put, Leave, Clear, Count, Expired, Read, FromThis, Alias, Move, Ask}
+use Rattle.step_core.specs.declared.act.Task.{Task}
+use Rattle.step_core.specs.declared.half.Half.{Half}
+use Rattle.step_core.specs.declared.half.Half.TheVariants.{Rest, Locking, Giving}
+use Rattle.step_core.specs.declared.holdings.Pointer.{Pointer}
+use Rattle.step_core.specs.declared.past.Deed.{Deed}
+use Rattle.step_core.specs.declared.said.Said.{Said}
+use Rattle.step_core.specs.declared.said.Stepped.{Stepped}
+use Rattle.step_core.specs.declared.said.Stepped.TheVariants.{Event, Quiet}
+use Rattle.step_core.specs.declared.said.Turned.TheVariants.{Acted}
+use Rattle.control_word.specs.declared.handle.Kind.{Kind}
+use Rattle.control_word.specs.declared.handle.Kind.TheVariants.{Owner, Weak}
+use Rattle.control_word.specs.Histories.{entry}
+use Rattle.step_core.specs.Courses.{Walk, locked}
+use Rattle.step_core.specs.Deeds.{downgrade, is_enabled, is_last, leave, leave_as, lock, owned, owner_word, read, share, share_as, tell, tell_expired, alias, aliased}
+use Rattle.step_core.specs.Holdings.{inside, slot, owner_slot, place_in}
+use Rattle.step_core.specs.Openings.{opening}
+use Rattle.step_core.specs.Scenes.{History, Scene, acted, answer_of, ended_of, ends_as, full_answer, holding, least, leaves, left_as, made, on, shared_as}
+use Rattle.step_core.specs.Scenes.{play_from, said_from}
+use Rattle.step_core.specs.Scenes.{counts, downgrades, expires, gives, giving, locks, reads, shares, walk_of, went, aliases}
+use Rattle.step_core.specs.Steps.{Step, acts, asks, begins, end_as, end_of, first, is_event, looks, silent, stepped, story_after, trying}
+use Rattle.step_core.specs.Stories.{Story, after, state}
+use Rattle.step_core.specs.Turning.{Plays, is_acting, turned, turned_by}
+use Rattle.step_core.specs.Worlds.{Sight, rested_from, scene, sight_by, step_of}
+use Rattle.step_core.proofs.turning.Ending.{half_after, halves_after}
+
+-- what a step of an act says is what the turn says
+said_on : (b : Bool) (x : Said) → turned_by (cond b (Event x) (Quiet x)) ≡ Acted x
+said_on true x = refl
+said_on false x = refl
+
+-- the scene after an act
+abbrev pub acted_scene : ℕ → Sight → List Task → Act → Scene
+acted_scene d u ts a =
+    let w = walk_of (scene u) d in
+    record {
+      extent = u.story.extent;
+      history = acted (opening u.story.extent) d w.slots u.story.history a;
+      walks = set u.walks d (went (state u.story) d w.slots w.taken ts a);
+    }
+
+abbrev pub acted_said : ℕ → Sight → ℕ → Act → Said
+acted_said d u k a =
+    let w = walk_of (scene u) d in record {
+      statement = k;
+      answer = answer_of (state u.story) d w.slots a;
+      ended = ended_of
+          (state u.story) w.slots a;
+    }
+
+-- a step of an act that is none of a make says what the act says, and leaves what the act makes, but for an end
+abbrev pub Acts : ℕ → Sight → ℕ → List Task → Act → Step → Type 0
+Acts d u k ts a x = (x.said ≡ acted_said d u k a) × (rested_from (sight_by d u (Some x)) d x.half ≡ acted_scene d u ts a)
+
+begins_so : (d : ℕ) (u : Sight) (k : ℕ) (ts : List Task) (form : Form) (o : Option ℕ) → least d (state u.story).stores ≡ o
+    → is_acting (begins (walk_of (scene u) d) k ts o).half ≡ false → Acts d u k ts (Make form) (begins (walk_of (scene u) d) k ts o)
+begins_so d u k ts form None e is =
+    let w = walk_of (scene u) d in (
+      ap (λ (q : Option ℕ). record { statement = k; answer = full_answer q; ended = None }) (sym e),
+      ap (λ (q : Option ℕ). record {
+        extent = u.story.extent;
+        history = made d form u.story.history q;
+        walks = set u.walks d
+            (holding w.slots ts form.null q);
+      }) (sym e),
+    )
+begins_so d u k ts form (Some b) e is = absurd (false≢true (sym is))
+
+-- what is done on a full slot
+abbrev Told : ℕ → Story → (Pointer → Deed) → (Pointer → History) → Option Pointer → Type 0
+Told d v f g o =
+    (w : List Walk) → ◌≡◌ {A = Scene} (record {
+      extent = (story_after v d (option_map f o)).extent;
+      history = (story_after v d
+          (option_map f o)).history;
+      walks = w;
+    })
+    (record { extent = v.extent; history = on g v.history o; walks = w })
+
+shared : (d : ℕ) (v : Story) (o : Option Pointer) → Told d v share (shares (opening v.extent) d v.history) o
+shared d v None w = refl
+shared d v (Some x) w = go x.kind
+  where
+    go : (k : Kind)
+        → ◌≡◌ {A = Scene} (record { extent = (after v d (share_as k x)).extent; history = (after v d (share_as k x)).history; walks = w })
+        (record { extent = v.extent; history = entry d (shared_as k (state v) x) ∷ v.history; walks = w })
+    go Owner = refl
+    go Weak = refl
+
+shared_at : (d : ℕ) (v : Story) (p : Option Place) (o : Option Pointer) → Told d v (alias p) (aliases p (opening v.extent) d v.history) o
+shared_at d v p None w = refl
+shared_at d v p (Some x) w = refl
+
+downgraded : (d : ℕ) (v : Story) (o : Option Pointer) → Told d v downgrade (downgrades (opening v.extent) d v.history) o
+downgraded d v None w = refl
+downgraded d v (Some x) w = refl
+
+counted : (d : ℕ) (v : Story) (o : Option Pointer) → Told d v (tell (state v)) (counts (opening v.extent) d v.history) o
+counted d v None w = refl
+counted d v (Some x) w = refl
+
+expired : (d : ℕ) (v : Story) (o : Option Pointer) → Told d v (tell_expired (state v)) (expires (opening v.extent) d v.history) o
+expired d v None w = refl
+expired d v (Some x) w = refl
+
+read_so : (d : ℕ) (v : Story) (o : Option Pointer) → Told d v (read (state v)) (reads (opening v.extent) d v.history) o
+read_so d v None w = refl
+read_so d v (Some x) w = refl
+
+-- a leave, and the end that it begins
+ended : (d : ℕ) (v : Story) (k : ℕ) (w : List Walk) (h : List Half) (x : Pointer) (q : Kind) (last : Bool)
+    → rested_from (record { story = after v d (leave_as q x last); walks = w; halves = h }) d (cond last (end_as q k x.block) Rest)
+    ≡ record {
+      extent = v.extent;
+      history = (let left = entry d (left_as q (state v) x last) ∷ v.history in
+          cond last (ends_as q (opening v.extent) d (owned (state v) x) left) left);
+      walks = w;
+    }
+ended d v k w h x Owner true = refl
+ended d v k w h x Owner false = refl
+ended d v k w h x Weak true = refl
+ended d v k w h x Weak false = refl
+
+left : (d : ℕ) (v : Story) (k : ℕ) (w : List Walk) (h : List Half) (o : Option Pointer)
+    → rested_from (record { story = story_after v d (option_map (leave (state v)) o); walks = w; halves = h }) d (on (end_of (state v) k) Rest o)
+    ≡ record { extent = v.extent; history = on (leaves (opening v.extent) d v.history) v.history o; walks = w }
+left d v k w h None = refl
+left d v k w h (Some x) = ended d v k w h x x.kind (is_last (state v) x)
+
+-- a lock that is done
+pub lock_so : (d : ℕ) (u : Sight) (k : ℕ) (ts : List Task) (a : Act) (x : Pointer) → locked (walk_of (scene u) d).slots a ≡ Some x
+    → Acts d u k ts a (acts (state u.story) d (walk_of (scene u) d) k ts a (Some (lock (state u.story) x)) Rest)
+lock_so d u k ts (Lock i must) x e =
+    let w = walk_of (scene u) d in (
+      refl,
+      ap (λ (o : Option Pointer). record {
+        extent = u.story.extent;
+        history = on (locks (opening u.story.extent) d u.story.history) u.story.history o;
+        walks = set u.walks d (went (state u.story) d w.slots w.taken ts (Lock i must));
+      }) (sym e),
+    )
+lock_so d u k ts (Make form) x e = cc
+lock_so d u k ts (Share i) x e = cc
+lock_so d u k ts (Downgrade i) x e = cc
+lock_so d u k ts (Put i) x e = cc
+lock_so d u k ts (Leave i) x e = cc
+lock_so d u k ts (Clear i) x e = cc
+lock_so d u k ts (Count i) x e = cc
+lock_so d u k ts (Expired i) x e = cc
+lock_so d u k ts (Read i) x e = cc
+lock_so d u k ts (FromThis i kind) x e = cc
+lock_so d u k ts (Alias i j field) x e = cc
+lock_so d u k ts (Move i) x e = cc
+lock_so d u k ts (Ask q) x e = cc
+
+-- a lock of nothing
+lose_so : (d : ℕ) (u : Sight) (k : ℕ) (ts : List Task) (i : ℕ) (must : Bool) → locked (walk_of (scene u) d).slots (Lock i must) ≡ None
+    → Acts d u k ts (Lock i must) (acts (state u.story) d (walk_of (scene u) d) k ts (Lock i must) None Rest)
+lose_so d u k ts i must e =
+    let w = walk_of (scene u) d in (
+      refl,
+      ap (λ (o : Option Pointer). record {
+        extent = u.story.extent;
+        history = on (locks (opening u.story.extent) d u.story.history) u.story.history o;
+        walks = set u.walks d (went (state u.story) d w.slots w.taken ts (Lock i must));
+      }) (sym e),
+    )
+
+looks_so : (d : ℕ) (u : Sight) (k : ℕ) (ts : List Task) (i : ℕ) (must : Bool) (o : Option Pointer) → locked (walk_of (scene u) d).slots (Lock i must) ≡ o
+    → let w = walk_of (scene u) d in
+    let a = Lock i must in
+    let x = on (looks u.story d w k ts a) (acts (state u.story) d w k ts a None Rest) o in is_acting x.half ≡ false → Acts d u k ts a x
+looks_so d u k ts i must None e is = lose_so d u k ts i must e
+looks_so d u k ts i must (Some y) e is =
+    let w = walk_of (scene u) d in
+    let a = Lock i must in
+    let n = owner_word u.story y in
+    cond_both (n == 0) (acts (state u.story) d w k ts a (Some (lock (state u.story) y)) Rest) (trying w k n)
+    (λ (x : Step). is_acting x.half ≡ false → Acts d u k ts a x) (λ t q. lock_so d u k ts a y e)
+    (λ t q. absurd (false≢true (sym q ∙ ap (λ (b : Bool). is_acting (cond b Rest (Locking n))) t))) is
+
+-- an object that gives no pointers to itself, or none to ask
+unasked_so : (d : ℕ) (u : Sight) (k : ℕ) (ts : List Task) (i : ℕ) (q : Kind) → giving (state u.story) (inside (slot (walk_of (scene u) d).slots i)) ≡ None
+    → Acts d u k ts (FromThis i q) (acts (state u.story) d (walk_of (scene u) d) k ts (FromThis i q) None Rest)
+unasked_so d u k ts i q e =
+    let w = walk_of (scene u) d in (
+      refl,
+      ap (λ (o : Option Pointer). record {
+        extent = u.story.extent;
+        history = on (gives q (opening u.story.extent) d u.story.history) u.story.history o;
+        walks = set u.walks d (went (state u.story) d w.slots w.taken ts (FromThis i q));
+      }) (sym e),
+    )
+
+asks_so : (d : ℕ) (u : Sight) (k : ℕ) (ts : List Task) (i : ℕ) (q : Kind) (o : Option Pointer) → inside (slot (walk_of (scene u) d).slots i) ≡ o
+    → let w = walk_of (scene u) d in
+    let a = FromThis i q in
+    let x = on (asks u.story d w k ts i q) (acts (state u.story) d w k ts a None Rest) o in is_acting x.half ≡ false → Acts d u k ts a x
+asks_so d u k ts i q None e is = unasked_so d u k ts i q (ap (giving (state u.story)) e)
+asks_so d u k ts i q (Some y) e is =
+    let w = walk_of (scene u) d in
+    let a = FromThis i q in
+    cond_both (is_enabled (state u.story) y) (record { deed = None; half = Giving i q y; walk = w; said = silent k })
+    (acts (state u.story) d w k ts a None Rest) (λ (x : Step). is_acting x.half ≡ false → Acts d u k ts a x) (λ t z. absurd (false≢true (sym z)))
+    (λ t z. unasked_so d u k ts i q (ap (giving (state u.story)) e ∙ cond-false (is_enabled (state u.story) y) (Some y) None t)) is
+
+-- each act
+pub acts_so : (d : ℕ) (u : Sight) (k : ℕ) (ts : List Task) (a : Act)
+    → let x = first u.story d (walk_of (scene u) d) k ts a in is_acting x.half ≡ false → Acts d u k ts a x
+acts_so d u k ts (Make form) is = begins_so d u k ts form (least d (state u.story).stores) refl is
+acts_so d u k ts (Share i) is = (refl, shared d u.story (slot (walk_of (scene u) d).slots i) _)
+acts_so d u k ts (Put i) is =
+    let w = walk_of (scene u) d in
+    let y = sight_by d u (Some (first u.story d w k ts (Put i))) in (refl, left d u.story k y.walks y.halves (slot w.slots i))
+acts_so d u k ts (Leave i) is =
+    let w = walk_of (scene u) d in
+    let y = sight_by d u (Some (first u.story d w k ts (Leave i))) in (refl, left d u.story k y.walks y.halves (slot w.slots i))
+acts_so d u k ts (Clear i) is =
+    let w = walk_of (scene u) d in
+    let y = sight_by d u (Some (first u.story d w k ts (Clear i))) in (refl, left d u.story k y.walks y.halves (slot w.slots i))
+acts_so d u k ts (Count i) is = (refl, counted d u.story (slot (walk_of (scene u) d).slots i) _)
+acts_so d u k ts (Downgrade i) is = (refl, downgraded d u.story (slot (walk_of (scene u) d).slots i) _)
+acts_so d u k ts (Lock i must) is = looks_so d u k ts i must (locked (walk_of (scene u) d).slots (Lock i must)) refl is
+acts_so d u k ts (Expired i) is = (refl, expired d u.story (slot (walk_of (scene u) d).slots i) _)
+acts_so d u k ts (Read i) is = (refl, read_so d u.story (inside (slot (walk_of (scene u) d).slots i)) _)
+acts_so d u k ts (FromThis i kind) is = asks_so d u k ts i kind (inside (slot (walk_of (scene u) d).slots i)) refl is
+acts_so d u k ts (Alias i j field) is =
+    let w = walk_of (scene u) d in (refl, shared_at d u.story (aliased field (place_in w.slots j)) (owner_slot (slot w.slots i)) _)
+acts_so d u k ts (Move i) is = (refl, refl)
+acts_so d u k ts (Ask q) is = (refl, refl)
+
+-- what a thread does whose next act is this
+pub plays_as : (d : ℕ) (u : Sight) (t : Task) (ts : List Task) (x : Step) (r : Stepped) → (walk_of (scene u) d).todo ≡ t ∷ ts → step_of d u ≡ Some x
+    → r ≡ stepped u.story (step_of d u) → Acts d u t.statement ts t.act x → is_acting x.half ≡ false → d < length u.halves
+    → Plays d u (turned_by r) (sight_by d u (step_of d u))
+plays_as d u t ts x r todo is answer so none lt =
+    let w = walk_of (scene u) d in
+    let h = half_after d u (Some x) lt in
+    subst (λ (o : Option Step). r ≡ stepped u.story o → Plays d u (turned_by r) (sight_by d u o)) (sym is)
+    (λ e. record {
+      answer = ap turned_by e ∙ said_on (is_event u.story x.deed) x.said ∙ ap Acted so.0
+          ∙ ap (λ (l : List Task). turned (said_from (scene u) d w.slots l)) (sym todo);
+      scene = ap (rested_from (sight_by d u (Some x)) d) h ∙ so.1 ∙ ap (λ (l : List Task). play_from (scene u) d w l) (sym todo);
+      done = ap is_acting h ∙ none;
+      halves = halves_after d u (Some x) lt;
+    }) answer
