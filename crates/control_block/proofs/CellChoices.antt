@@ -17,7 +17,7 @@ use Rattle.control_block.specs.Plays.{Holding, known}
 use Rattle.control_block.specs.declared.board.Sight.{Sight}
 use Rattle.control_block.proofs.CellDesks.{in_seat, one}
 use Rattle.control_block.proofs.CellRounds.{Trades, compare_trades, differ_trades}
-use Rattle.control_block.proofs.Passage.{IsQuiet}
+use Rattle.control_block.proofs.Passage.{IsQuiet, plain}
 
 -- one handle more is counted where it differed
 pub counted_of : (s : Bool) (n : ℕ) → n ≡ bool_byte (not s) → n ≡ cond s 0 1
@@ -59,10 +59,6 @@ module _ {V : Type 0} where
       → Holds y k (cond s b None) (cond s p None) ⊎ (cond s b None ≡ None)
   has_of y k b p true t = inl t
   has_of y k b p false t = inr refl
-
-pub quiet_of : (V : Type 0) (n : ℕ) (expected new h : Handle) (weak s : Bool) → IsQuiet {V = V} (Compare (Free n) expected new h s weak)
-quiet_of V n expected new h weak true = record { objects = λ y d. refl; latest = λ y d. refl; values = λ y f. refl }
-quiet_of V n expected new h weak false = record { objects = λ y d. refl; latest = λ y d. refl; values = λ y f. refl }
 
 pub stores_of : (V : Type 0) (n : ℕ) (expected new h : Handle) (weak s : Bool) (y : State) (d : ℕ)
     → (after {V = V} y d (Compare (Free n) expected new h s weak)).stores ≡ y.stores

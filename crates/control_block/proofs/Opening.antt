@@ -58,7 +58,6 @@ module _ {V : Type 0} where
         sized = length-map (replicate k.blocks None) (λ y. some y) ∙ length-replicate k.blocks None;
         homes = λ b inside. inl (nones None k.blocks (b - 1) (let a = inside.0 in let c = inside.1 in omega arith));
         backed = only (λ u. u.view.spent ≡ false → IsBacked (start (opening_of k)) u.view.name u.view.pending u.hand) (opens_with k) (λ _. tt);
-        bare = λ o m. refl;
       }
 
 -- the store lists all blocks

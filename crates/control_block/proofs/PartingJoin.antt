@@ -42,6 +42,7 @@ module _ {V : Type 0} where
         → ((leads (opening_of k) h).latest b ≡ (known x).latest b)
         × (((leads (opening_of k) h).object ((known x).latest b)).phase ≡ ending x.view.name)
         × (value (opening_of k) h ((known x).latest b) ≡ value (opening_of x.shape) x.view.seen ((known x).latest b))
+        × ((m : ℕ) → ((leads (opening_of k) h).object ((known x).latest b)).member m ≡ ((known x).object ((known x).latest b)).member m)
 
   pub side : (x : Sight V) (k : Shape) (h : List (Entry V)) → x.shape ≡ k → Knows x.view.name h x.view.seen → IsLegal (opening_of k) h → Side x k h
   side x k h shape knows legal =
@@ -56,7 +57,7 @@ module _ {V : Type 0} where
             same = r.same;
             blocks = r.blocks;
             ends = λ b e.
-                let t = still_ends (opening_of x.shape) later x.view.seen b x.view.name l quiet e in (t.latest, t.object.phase ∙ e, t.value);
+                let t = still_ends (opening_of x.shape) later x.view.seen b x.view.name l quiet e in (t.latest, t.object.phase ∙ e, t.value, t.object.member);
           }
 
   module _ (d o : Inside V) (h : IsDesk d) (i : IsDesk o) (shapes : o.seat.me.0.shape ≡ d.seat.me.0.shape) (u : Sight V)
@@ -213,11 +214,13 @@ module _ {V : Type 0} where
         → ((known s).object ((known s).latest b)).phase ≡ ending s.view.name
         → (((known u).object ((known u).latest b)).phase ≡ ending n)
         × (value (opening_of u.shape) u.view.seen ((known u).latest b) ≡ value (opening_of s.shape) s.view.seen ((known s).latest b))
+        × ((m : ℕ) → ((known u).object ((known u).latest b)).member m ≡ ((known s).object ((known s).latest b)).member m)
     ends_after s sd to b e =
         let t = sd.ends b e in (
           ap (λ (y : State). (y.object (y.latest b)).phase) now
               ∙ (ap (λ q. handed m n (then.object q).phase) t.0 ∙ (ap (handed m n) t.1 ∙ to)),
           (λ k. value (opening_of (shape k)) (seen k) ((now k).latest b)) ∙ (ap (value (opening_of v.shape) before) t.0 ∙ t.2),
+          λ q. ap (λ (y : State). (y.object (y.latest b)).member q) now ∙ (ap (λ j. (then.object j).member q) t.0 ∙ t.3 q),
         )
 
     -- a name that is told anew

@@ -124,6 +124,11 @@ module _ {V : Type 0} (d : Inside V) (h : IsDesk d) (hs : List HeldValue) (holds
         ap (λ (s : State). (s.object (s.latest b)).phase) (part.now d h hs holds a bs w u p)
         ∙ (ap (λ o. ((part.then d h hs holds a bs w u p).object o).phase) still.latest ∙ (still.object.phase ∙ ends.phase))
 
+    members_left : (m : ℕ) → ((known w).object ((known w).latest b)).member m ≡ ((known v).object ((known v).latest b)).member m
+    members_left m =
+        ap (λ (s : State). (s.object (s.latest b)).member m) (part.now d h hs holds a bs w u p)
+        ∙ (ap (λ o. ((part.then d h hs holds a bs w u p).object o).member m) still.latest ∙ still.object.member m)
+
     value_left : value (opening_of w.shape) w.view.seen ((known w).latest b) ≡ Some x
     value_left =
         (λ i. value (opening_of (shape i)) (part.seen d h hs holds a bs w u p i) ((part.now d h hs holds a bs w u p i).latest b))
@@ -183,7 +188,10 @@ splits d e new h hs holds a k p tables counts many tallies least =
           let a1 = part.tally_left d h hs holds a bs w u p y.block in let a2 = h.stored y.block in let a3 = tallies y.block in
           least record { 0 = x.block } record { 0 = y.block } x'' (times_has y.block e.store.items (omega arith));
       endings = λ b x ends. record {
-        phase = ending_left d h hs holds a bs w u p b x ends ∙ ap ending (sym name);
-        kept = value_left d h hs holds a bs w u p b x ends;
+        ends = record {
+          phase = ending_left d h hs holds a bs w u p b x ends ∙ ap ending (sym name);
+          kept = value_left d h hs holds a bs w u p b x ends;
+        };
+        members = members_left d h hs holds a bs w u p b x ends;
       };
     }

@@ -7,11 +7,11 @@ use Rattle.control_word.specs.declared.handle.Handle.{Handle}
 use Rattle.control_word.specs.declared.handle.Kind.{Kind}
 use Rattle.control_word.specs.declared.place.Block.{Block}
 use Rattle.control_word.specs.declared.place.Place.{Place}
-use Rattle.control_word.specs.Handles.{IsPointer, handle}
+use Rattle.control_word.specs.Handles.{IsPointer, empty, handle}
 use Rattle.control_word.specs.declared.shape.Shape.{Shape}
 use Rattle.control_word.specs.Events.{place_at}
 use Rattle.control_word.specs.Histories.{entry, leads, value, IsLegal}
-use Rattle.control_word.specs.State.{Has, Object, State, Held, Stored, bag, ending, stock}
+use Rattle.control_word.specs.State.{Has, Object, State, Held, Stored, bag, ending, kind_of_member, stock}
 use Rattle.control_word.specs.Views.{NoneBy}
 use Rattle.control_word.specs.Words.{blocks_of}
 use Rattle.control_block.specs.Rule.{opening_of}
@@ -95,13 +95,29 @@ module _ {V : Type 0} where
     pub phase : ((state_of d).object (latest_of d b)).phase ≡ ending d.name
     pub kept : value (opening_of d.shape) d.seen (latest_of d b) ≡ Some x
 
+  -- the object last made in the block
+  abbrev pub object_in : DeskNow V → ℕ → Object
+  object_in d b = (state_of d).object (latest_of d b)
+
+  -- what its member m holds, and that this is nothing
+  abbrev pub member_in : DeskNow V → ℕ → ℕ → Handle
+  member_in d b m = (object_in d b).member m
+
+  abbrev pub IsCleared : DeskNow V → ℕ → ℕ → Type 0
+  IsCleared d b m = member_in d b m ≡ empty (kind_of_member m)
+
+  -- it ends in the desk's hands, with the members that it had
+  pub record EndsStill (d e : DeskNow V) (b : ℕ) (x : V) : Type 0 where
+    pub ends : IsEnding e b x
+    pub members : (m : ℕ) → member_in e b m ≡ member_in d b m
+
   -- what ends in the desk's hands ends there still
   abbrev pub KeepsEndings : DeskNow V → DeskNow V → Type 0
-  KeepsEndings d e = (b : ℕ) (x : V) → IsEnding d b x → IsEnding e b x
+  KeepsEndings d e = (b : ℕ) (x : V) → IsEnding d b x → EndsStill d e b x
 
   -- the same, but for a block
   abbrev pub KeepsOtherEndings : DeskNow V → ℕ → DeskNow V → Type 0
-  KeepsOtherEndings d c e = (b : ℕ) (x : V) → b ≢ c → IsEnding d b x → IsEnding e b x
+  KeepsOtherEndings d c e = (b : ℕ) (x : V) → b ≢ c → IsEnding d b x → EndsStill d e b x
 
   -- the same desk, with the allowance that it had
   pub record IsSameDesk (d e : DeskNow V) : Type 0 where
@@ -122,10 +138,6 @@ module _ {V : Type 0} where
   -- the desk has a handle of the object in the block, or it ends in its hands
   abbrev pub IsNear : DeskNow V → ℕ → Type 0
   IsNear d b = ((k : Kind) × (p : Option Place) × HasHandle d k p b) ⊎ ((x : V) × IsEnding d b x)
-
-  -- the object last made in the block
-  abbrev pub object_in : DeskNow V → ℕ → Object
-  object_in d b = (state_of d).object (latest_of d b)
 
   -- a weak handle with place q may come from a handle that the desk has in the block, or by from-this from an object
   -- that ends in its hands ([util.smartptr.weak.const], [util.smartptr.enab])

@@ -8,7 +8,7 @@ ghost use Rattle.control_word.specs.declared.handle.Kind.TheVariants.{Owner, Wea
 ghost use Rattle.control_word.specs.declared.place.Place.{Place};
 ghost use Rattle.control_word.specs.State.{count, without};
 ghost use Rattle.control_block.specs.Refusals.{IsFullOrLimit};
-ghost use Rattle.control_block.specs.Desks.{Adds, HasHandle, IsEnding, IsNear, IsSameDesk, Keeps, KeepsEndings, KeepsOtherEndings, MayGiveWeak, MayPoint, allowance_of, bag_of, latest_of, object_in, on_latest, state_of, stock_of};
+ghost use Rattle.control_block.specs.Desks.{Adds, HasHandle, IsCleared, IsEnding, IsNear, IsSameDesk, Keeps, KeepsEndings, KeepsOtherEndings, MayGiveWeak, MayPoint, allowance_of, bag_of, latest_of, object_in, on_latest, state_of, stock_of};
 ghost use Rattle.control_block.specs.Plays.{IsTold};
 
 use crate::desk::Desk;
@@ -206,6 +206,7 @@ pub fn leave_weak<V: Drop + Send, A: About>(
 pub fn finish<V: Drop + Send>(domain: &Domain<V>, desk: &mut Desk<V>, block: Block) -> bool
     requires domain { desk.old.domain ≡ domain.now.id }
     requires ending { (x : V) × IsEnding desk.old block.0 x }
+    requires clear { (m : ℕ) → m < 3 → IsCleared desk.old block.0 m }
     ensures event { (x : V) → IsEnding desk.old block.0 x → Adds desk.old (Finish (latest_of desk.old block.0) result x) desk.new }
     ensures bag { bag_of desk.new ≡ bag_of desk.old }
     ensures held { desk.new.held ≡ desk.old.held }

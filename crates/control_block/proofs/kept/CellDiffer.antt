@@ -23,7 +23,7 @@ use Rattle.control_block.specs.CellPlays.{IsCellAt, as_differed, differed_empty,
 use Rattle.control_block.specs.declared.board.Sight.{Sight}
 use Rattle.control_block.proofs.CellWords.{Decoded, Opened}
 use Rattle.control_block.proofs.Hands.{hand_there}
-use Rattle.control_block.proofs.Passage.{adds, point, quiet_next, ready}
+use Rattle.control_block.proofs.Passage.{adds, plain, point, quiet_next, ready}
 use Rattle.control_block.proofs.Still.{unmoved}
 use Rattle.control_block.proofs.kept.CellLook.{allows_cell_look, is_held, shows_one}
 use Rattle.control_block.proofs.kept.Look.{looked}
@@ -62,7 +62,7 @@ module _ {V : Type 0} where
           (is.open', hand_there k s r id v at rests.awake kk expected he _ is.kind, hand_there k s r id v at rests.awake kk new hn _ is.kind, it, inl (sym same)) in (
             seeing v Idle None hist,
             quiet_next k s r id v (set s.words i (get_or s.words i 0)) ev Idle at rests.awake rests.empty
-                record { objects = λ u q. refl; latest = λ u q. refl; values = λ u f. refl } (looked z s.words i _ hist told),
+                (plain (λ u q. refl) (λ u q. refl) (λ u f. refl)) (looked z s.words i _ hist told),
             (
               is_held k s r id v at rests.awake c d.taken,
               λ _ _. (adds k s r id v at rests.awake Idle None ev told.legal, refl),

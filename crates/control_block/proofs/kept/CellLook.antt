@@ -22,7 +22,7 @@ use Rattle.control_block.specs.Plays.{At, Rests}
 use Rattle.control_block.specs.CellPlays.{IsCellAt, IsHeld, kind_in, as_loaded, as_peeked, loaded_empty, of_cell, peeked}
 use Rattle.control_block.specs.declared.board.Sight.{Sight}
 use Rattle.control_block.proofs.CellWords.{Decoded, Opened, decoded, found_is, opened}
-use Rattle.control_block.proofs.Passage.{adds, knows, point, quiet_next, ready}
+use Rattle.control_block.proofs.Passage.{adds, knows, plain, point, quiet_next, ready}
 use Rattle.control_block.proofs.Still.{unmoved}
 use Rattle.control_block.proofs.kept.Look.{looked}
 
@@ -94,7 +94,7 @@ module _ {V : Type 0} where
           let told = law.loads_empty (point k s r id v) c kk h.place (ready k s r id v at rests.awake Idle rests.idle) is.open' same in (
             seeing v Idle None hist,
             quiet_next k s r id v (set s.words i (get_or s.words i 0)) ev Idle at rests.awake rests.empty
-                record { objects = λ u q. refl; latest = λ u q. refl; values = λ u f. refl } (looked z s.words i _ hist told),
+                (plain (λ u q. refl) (λ u q. refl) (λ u f. refl)) (looked z s.words i _ hist told),
             (is_held k s r id v at rests.awake c d.taken, λ _. (adds k s r id v at rests.awake Idle None ev told.legal, refl), λ n. absurd (n (ap (block_of (blocks_of t)) e))),
           )
 

@@ -10,7 +10,7 @@ use Rattle.control_block.specs.Rule.{opening_of}
 use Rattle.control_block.proofs.DeskBags.{adds_of, bag_stays, before, ends_still, legal_now, same_desk}
 use Rattle.control_block.proofs.DeskSteps.{as_many, came, desk_after}
 use Rattle.control_block.proofs.DeskStores.{put_back, room_back, stock_grows}
-use Rattle.control_block.proofs.OwnEndings.{ending_before, ends_in, ends_value, finish_spares}
+use Rattle.control_block.proofs.OwnEndings.{clear_in, ending_before, ends_in, ends_value, finish_spares}
 use Rattle.control_block.proofs.StoreBlocks.{ending_word, finish_block}
 use Rattle.control_block.proofs.calls.finish.Goals as goal
 
@@ -20,6 +20,9 @@ finish-vacant-requires-clause-ends g c = ends_in c.desk.inside c.args.desk.now c
 pub finish-vacant-requires-clause-value : goal.finish-vacant-requires-clause-value
 finish-vacant-requires-clause-value g c =
     (c.requires.ending.0, ends_value c.desk.inside c.args.desk.now c.args.block.0 c.requires.ending.0 c.desk.view_is c.requires.ending.1)
+
+pub finish-vacant-requires-clause-clear : goal.finish-vacant-requires-clause-clear
+finish-vacant-requires-clause-clear g c = clear_in c.desk.inside c.args.desk.now c.args.block.0 c.desk.view_is c.requires.clear
 
 pub finish-vacant-requires-clause-word : goal.finish-vacant-requires-clause-word
 finish-vacant-requires-clause-word g c =

@@ -4,7 +4,7 @@ use Rattle.control_word.specs.declared.handle.Kind.TheVariants.{Weak}
 use Rattle.control_word.specs.declared.view.Pending.TheVariants.{Idle}
 use Rattle.control_block.specs.Desks.{bag_of, on_latest}
 use Rattle.control_block.specs.Inside.{desk_now}
-use Rattle.control_block.proofs.DeskBags.{adds_of, bag_stays, holding_in, keeps_quietly}
+use Rattle.control_block.proofs.DeskBags.{adds_of, bag_stays, holding_in, calm, keeps_quietly}
 use Rattle.control_block.proofs.DeskSteps.{as_many, came, quiet_desk, word_inside}
 use Rattle.control_block.proofs.calls.is_expired.Goals as goal
 
@@ -44,4 +44,4 @@ returns-clause-keeps g c =
     keeps_quietly d c.is_expired.new.chair.me.0 (Expired (on_latest (desk_now d) Weak g.A.About.place c.args.of.block.0) c.is_expired.result)
     c.desk.invariant
     c.is_expired.ensures.event _ _ c.args.desk.now c.desk.view_is c.is_expired.ensures.chair.0
-    record { objects = λ s n. refl; latest = λ s n. refl; values = λ s f. refl } (λ s n. refl) (λ s n. refl)
+    (calm (λ s n. refl) (λ s n. refl) (λ s f. refl)) (λ s n. refl) (λ s n. refl)

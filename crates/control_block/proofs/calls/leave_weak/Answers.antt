@@ -1,4 +1,5 @@
 use Rattle.std.proofs.Common.{◌+◌, ◌∷◌, cond, refl, sym, ap, ◌∙◌, arith, None, Some, length}
+use Rattle.control_word.proofs.history.Legal.{sound}
 use Rattle.control_word.specs.Handles.{handle, same_handle}
 use Rattle.control_word.specs.Histories.{leads}
 use Rattle.control_word.specs.State.{stored, without}
@@ -8,7 +9,7 @@ use Rattle.control_word.specs.declared.view.Pending.TheVariants.{Idle}
 use Rattle.control_block.specs.Desks.{bag_of, on_latest, stock_of}
 use Rattle.control_block.specs.Inside.{desk_now}
 use Rattle.control_block.specs.Rule.{opening_of}
-use Rattle.control_block.proofs.DeskBags.{adds_of, bag_loses, before, ends_still, holding_in, quiet_spares, same_desk}
+use Rattle.control_block.proofs.DeskBags.{adds_of, bag_loses, before, calm, ends_still, holding_in, legal_now, quiet_spares, same_desk}
 use Rattle.control_block.proofs.DeskSteps.{came, desk_after, holds_some, one_fewer, word_inside}
 use Rattle.control_block.proofs.DeskStores.{put_back, room_back, stock_grows}
 use Rattle.control_block.proofs.StoreBlocks.{weak_block}
@@ -100,6 +101,6 @@ returns-clause-endings g c = λ b x ends.
     let s = c.leave_weak-vacant.ensures in
     let e = WeakLeave (on_latest (desk_now d) Weak g.A.About.place c.args.of.block.0) c.leave_weak-vacant.result in
     let t = came v w Idle None e s.event in
-    let z = opening_of v.shape in let hist = before d w e h s.event in
+    let z = opening_of v.shape in let hist = before d w e h s.event in let now = legal_now d w e h s.event in
     ends_still d w e h s.event _ _ b x c.args.desk.now c.desk.view_is
-    (λ p. quiet_spares (leads z hist) _ v.view.name e b record { objects = λ y n. refl; latest = λ y n. refl; values = λ y f. refl } p) ends
+    (λ p. quiet_spares z (leads z hist) _ v.view.name e b (calm (λ y n. refl) (λ y n. refl) (λ y f. refl)) (sound z hist now.0) now.1.asks p) ends

@@ -4,7 +4,7 @@ use Rattle.control_word.specs.declared.handle.Kind.TheVariants.{Owner}
 use Rattle.control_word.specs.declared.view.Pending.TheVariants.{Idle}
 use Rattle.control_block.specs.Desks.{bag_of, on_latest}
 use Rattle.control_block.specs.Inside.{desk_now}
-use Rattle.control_block.proofs.DeskBags.{adds_of, bag_stays, holding_in, keeps_quietly, field_low}
+use Rattle.control_block.proofs.DeskBags.{adds_of, bag_stays, holding_in, calm, keeps_quietly, field_low}
 use Rattle.control_block.proofs.DeskSteps.{as_many, came, quiet_desk, word_inside}
 use Rattle.control_block.proofs.calls.read.Goals as goal
 
@@ -47,4 +47,4 @@ returns-clause-keeps g c =
     keeps_quietly d c.read.new.chair.me.0 (Read (on_latest (desk_now d) Owner (Some c.args.place) c.args.place.block.0) c.read.result)
     c.desk.invariant
     c.read.ensures.event _ _ c.args.desk.now c.desk.view_is c.read.ensures.chair.0
-    record { objects = λ s n. refl; latest = λ s n. refl; values = λ s f. refl } (λ s n. refl) (λ s n. refl)
+    (calm (λ s n. refl) (λ s n. refl) (λ s f. refl)) (λ s n. refl) (λ s n. refl)

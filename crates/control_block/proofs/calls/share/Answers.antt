@@ -5,7 +5,7 @@ use Rattle.control_word.specs.declared.handle.Kind.TheVariants.{Owner}
 use Rattle.control_word.specs.declared.view.Pending.TheVariants.{Idle}
 use Rattle.control_block.specs.Desks.{bag_of, on_latest}
 use Rattle.control_block.specs.Inside.{desk_now}
-use Rattle.control_block.proofs.DeskBags.{adds_of, bag_gets, block_still, holding_in, keeps_quietly, points_well, room_left}
+use Rattle.control_block.proofs.DeskBags.{adds_of, bag_gets, block_still, holding_in, calm, keeps_quietly, points_well, room_left}
 use Rattle.control_block.proofs.DeskSteps.{came, one_more, quiet_desk, word_inside}
 use Rattle.control_block.proofs.calls.share.Goals as goal
 use Rattle.std.proofs.Common.{None}
@@ -56,4 +56,4 @@ returns-clause-keeps g c =
     let d = c.desk.inside in
     keeps_quietly d c.share.new.chair.me.0 (Share (on_latest (desk_now d) Owner g.A.About.place c.args.of.block.0) g.A.About.wanted) c.desk.invariant
     c.share.ensures.event _ _ c.args.desk.now c.desk.view_is c.share.ensures.chair.0
-    record { objects = λ s n. refl; latest = λ s n. refl; values = λ s f. refl } (λ s n. refl) (λ s n. refl)
+    (calm (λ s n. refl) (λ s n. refl) (λ s f. refl)) (λ s n. refl) (λ s n. refl)

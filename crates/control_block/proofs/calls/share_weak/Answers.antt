@@ -5,7 +5,7 @@ use Rattle.control_word.specs.declared.handle.Kind.TheVariants.{Weak}
 use Rattle.control_word.specs.declared.view.Pending.TheVariants.{Idle}
 use Rattle.control_block.specs.Desks.{bag_of, latest_of, on_latest}
 use Rattle.control_block.specs.Inside.{desk_now}
-use Rattle.control_block.proofs.DeskBags.{adds_of, bag_gets, keeps_quietly, room_left}
+use Rattle.control_block.proofs.DeskBags.{adds_of, bag_gets, calm, keeps_quietly, room_left}
 use Rattle.control_block.proofs.DeskSteps.{came, one_more, quiet_desk}
 use Rattle.control_block.proofs.WeakGifts.{may_block, may_in, may_word}
 use Rattle.control_block.proofs.calls.share_weak.Goals as goal
@@ -50,4 +50,4 @@ returns-clause-keeps g c =
     let d = c.desk.inside in
     keeps_quietly d c.share_weak.new.chair.me.0 (WeakShare (latest_of (desk_now d) c.args.block.0) g.A.About.wanted) c.desk.invariant
     c.share_weak.ensures.event _ _ c.args.desk.now c.desk.view_is c.share_weak.ensures.chair.0
-    record { objects = λ s n. refl; latest = λ s n. refl; values = λ s f. refl } (λ s n. refl) (λ s n. refl)
+    (calm (λ s n. refl) (λ s n. refl) (λ s f. refl)) (λ s n. refl) (λ s n. refl)

@@ -20,7 +20,7 @@ use Rattle.control_block.proofs.Bags.{seen_as}
 use Rattle.control_block.proofs.CellDesks.{bag_is, cell_there, event_is, fits, formed_out, holds_after, in_seat, lost_counted, lost_hand, lost_holding}
 use Rattle.control_block.proofs.CellDesks.{lost_mine, lost_room, lost_shows, lost_word, one, one_few, size_is}
 use Rattle.control_block.proofs.CellRounds.{Trades, swap_trades}
-use Rattle.control_block.proofs.DeskBags.{adds_of, keeps_quietly, now_of}
+use Rattle.control_block.proofs.DeskBags.{adds_of, calm_swap, keeps_quietly, now_of}
 use Rattle.control_block.proofs.DeskSteps.{quiet_desk}
 use Rattle.control_block.proofs.cell_calls.exchange.Goals as goal
 
@@ -152,4 +152,4 @@ returns-clause-keeps g c =
     let mine = lost_mine v k p b (lost_holding d y k p h c.desk.view_is b r.holds) in
     let came = subst (λ (z : Cell). CameOut (λ q. Swap z lost q) k v x w) r.cell.1 c.swap-old.ensures.swapped in
     keeps_quietly d w (e (in_seat w k x.owned x.place)) h (event_is d h w e k x b p trades came mine) _ _ y c.desk.view_is
-    c.swap-old.ensures.chair.0 record { objects = λ q m. refl; latest = λ q m. refl; values = λ q f. refl } (λ q m. refl) (λ q m. refl)
+    c.swap-old.ensures.chair.0 (calm_swap (Free n) lost _) (λ q m. refl) (λ q m. refl)

@@ -12,7 +12,7 @@ use Rattle.std.proofs.lemmas.List.{length-map}
 use Rattle.control_word.specs.State.{bag}
 use Rattle.control_block.specs.Plays.{known}
 use Rattle.control_block.proofs.CellRounds.{load_trades}
-use Rattle.control_block.proofs.DeskBags.{adds_of, keeps_quietly, now_of}
+use Rattle.control_block.proofs.DeskBags.{adds_of, calm, keeps_quietly, now_of}
 use Rattle.control_block.proofs.DeskSteps.{quiet_desk}
 use Rattle.control_block.proofs.cell_calls.load.Goals as goal
 
@@ -72,4 +72,4 @@ returns-clause-keeps g c =
     let e : Handle → Event g.row.V.Denot = λ y. Load g.A.Aimed.cell y in let t = c.load-seen.ensures in
     let trades = load_trades g.row.V.Denot g.A.Aimed.cell k in
     keeps_quietly d w (e (in_seat w k x.owned x.place)) h (event_is d h w e k x None None trades t.loaded tt) _ _ c.args.desk.now c.desk.view_is
-    t.chair.0 record { objects = λ y n. refl; latest = λ y n. refl; values = λ y f. refl } (λ y n. refl) (λ y n. refl)
+    t.chair.0 (calm (λ y n. refl) (λ y n. refl) (λ y f. refl)) (λ y n. refl) (λ y n. refl)

@@ -17,10 +17,10 @@ use Rattle.control_block.specs.Desks.{Adds, DeskNow, bag_of}
 use Rattle.control_block.specs.Inside.{desk_now}
 use Rattle.control_block.specs.Plays.{Holding, known}
 use Rattle.control_block.proofs.Bags.{seen_as}
-use Rattle.control_block.proofs.CellChoices.{allowances_of, bag_of_choice, counted_of, few_of, fits_of, has_of, mine_of, quiet_of, stores_of, trades_of, within_of}
+use Rattle.control_block.proofs.CellChoices.{allowances_of, bag_of_choice, counted_of, few_of, fits_of, has_of, mine_of, stores_of, trades_of, within_of}
 use Rattle.control_block.proofs.CellDesks.{bag_is, cell_there, event_is, fits, formed_out, holds_after, in_seat, lost_counted, lost_hand, lost_holding}
 use Rattle.control_block.proofs.CellDesks.{lost_mine, lost_shows, lost_word, one, one_few, size_is}
-use Rattle.control_block.proofs.DeskBags.{adds_of, keeps_quietly, now_of, room_left}
+use Rattle.control_block.proofs.DeskBags.{adds_of, calm_compare, keeps_quietly, now_of, room_left}
 use Rattle.control_block.proofs.DeskSteps.{quiet_desk}
 use Rattle.control_block.proofs.cell_compare_calls.compare.Goals as goal
 
@@ -172,5 +172,5 @@ returns-clause-keeps g c =
     let came = subst (λ (z : Cell). CameOut (λ q. Compare z a.expected a.new q s a.weak) k v x w) r.cell.1 c.compare-swapped.ensures.compared in
     let z = in_seat w k x.owned x.place in
     keeps_quietly d w (e z) h (event_is d h w e k x (cond s b None) (cond s p None) trades came mine) _ _ y c.desk.view_is c.compare-swapped.ensures.chair.0
-    (quiet_of g.row.V.Denot n a.expected a.new z a.weak s) (λ q m. stores_of g.row.V.Denot n a.expected a.new z a.weak s q m)
+    (calm_compare (Free n) a.expected a.new z s a.weak) (λ q m. stores_of g.row.V.Denot n a.expected a.new z a.weak s q m)
     (λ q m. allowances_of g.row.V.Denot n a.expected a.new z a.weak s q m)

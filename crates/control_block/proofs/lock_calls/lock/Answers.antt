@@ -5,7 +5,7 @@ use Rattle.control_word.specs.declared.handle.Kind.TheVariants.{Owner, Weak}
 use Rattle.control_word.specs.declared.view.Pending.TheVariants.{Idle}
 use Rattle.control_block.specs.Desks.{bag_of, on_latest}
 use Rattle.control_block.specs.Inside.{desk_now}
-use Rattle.control_block.proofs.DeskBags.{bag_gets, bag_stays, block_still, holding_in, keeps_quietly}
+use Rattle.control_block.proofs.DeskBags.{bag_gets, bag_stays, block_still, holding_in, calm, keeps_quietly}
 use Rattle.control_block.proofs.DeskSteps.{as_many, came, one_more, quiet_desk, word_inside}
 use Rattle.control_block.proofs.DeskLocks.{none_after}
 use Rattle.control_block.proofs.lock_calls.lock.Goals as goal
@@ -39,7 +39,7 @@ returns-then-not-lock-clause-keeps g c =
     let d = c.desk.inside in
     keeps_quietly d c.lock.new.chair.me.0 (Lock (on_latest (desk_now d) Weak g.A.About.place c.args.of.block.0) false) c.desk.invariant
     c.if-not-lock.ensures.event _ _ c.args.desk.now c.desk.view_is c.lock.ensures.chair.0
-    record { objects = λ s n. refl; latest = λ s n. refl; values = λ s f. refl } (λ s n. refl) (λ s n. refl)
+    (calm (λ s n. refl) (λ s n. refl) (λ s f. refl)) (λ s n. refl) (λ s n. refl)
 
 pub invariant_of-desk-2 : goal.invariant_of-desk-2
 invariant_of-desk-2 g c =
@@ -69,4 +69,4 @@ returns-clause-keeps g c =
     let d = c.desk.inside in
     keeps_quietly d c.lock.new.chair.me.0 (Lock (on_latest (desk_now d) Weak g.A.About.place c.args.of.block.0) true) c.desk.invariant
     c.if-not-lock.ensures.event _ _ c.args.desk.now c.desk.view_is c.lock.ensures.chair.0
-    record { objects = λ s n. refl; latest = λ s n. refl; values = λ s f. refl } (λ s n. refl) (λ s n. refl)
+    (calm (λ s n. refl) (λ s n. refl) (λ s f. refl)) (λ s n. refl) (λ s n. refl)

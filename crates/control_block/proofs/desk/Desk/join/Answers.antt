@@ -9,7 +9,7 @@ use Rattle.control_word.specs.State.{Held, bag, bag_size, same_stored, stock, st
 use Rattle.control_word.specs.Words.{blocks_of}
 use Rattle.control_word.specs.declared.handle.Handle.{Handle}
 use Rattle.control_word.specs.declared.shape.Shape.{Shape}
-use Rattle.control_block.specs.Desks.{DeskNow, IsEnding, allowance_of, bag_of, by_block, stock_of}
+use Rattle.control_block.specs.Desks.{DeskNow, IsEnding, allowance_of, bag_of, by_block, member_in, stock_of}
 use Rattle.control_block.specs.Inside.{IsSized}
 use Rattle.control_block.specs.Parting.{JoinsWith, times}
 use Rattle.control_block.specs.Plays.{known}
@@ -129,10 +129,16 @@ returns-clause-endings g c =
           let is = subst (λ (y : DeskNow g.row.V.Denot). IsEnding y b x) (sym c.self.view_is) e in
           let t = joining.ends_after d o h k shapes u j d.seat.me.0 (joining.one d o h k shapes u j)
           (joining.own_name d o h k shapes u j) b is.phase in
-          record { phase = t.0 ∙ ap Rattle.control_word.specs.State.ending (sym name); kept = t.1 ∙ is.kept }),
+          record {
+            ends = record { phase = t.0 ∙ ap Rattle.control_word.specs.State.ending (sym name); kept = t.1 ∙ is.kept };
+            members = λ m. t.2 m ∙ ap (λ (y : DeskNow g.row.V.Denot). member_in y b m) c.self.view_is;
+          }),
       (λ b x e.
           let is = subst (λ (y : DeskNow g.row.V.Denot). IsEnding y b x) (sym c.other.view_is) e in
           let t = joining.ends_after d o h k shapes u j o.seat.me.0 (joining.two d o h k shapes u j)
           (joining.other_name d o h k shapes u j) b is.phase in
-          record { phase = t.0 ∙ ap Rattle.control_word.specs.State.ending (sym name); kept = t.1 ∙ is.kept }),
+          record {
+            ends = record { phase = t.0 ∙ ap Rattle.control_word.specs.State.ending (sym name); kept = t.1 ∙ is.kept };
+            members = λ m. t.2 m ∙ ap (λ (y : DeskNow g.row.V.Denot). member_in y b m) c.other.view_is;
+          }),
     )
