@@ -19,7 +19,7 @@ use Rattle.control_word.specs.declared.cell.CellWord.{CellWord}
 use Rattle.control_word.specs.declared.event.Cell.{Cell}
 use Rattle.control_word.specs.declared.event.Cell.TheVariants.{Free, Member}
 use Rattle.control_word.specs.declared.event.Event.{Event}
-use Rattle.control_word.specs.declared.event.Event.TheVariants.{Compare, Load, Swap}
+use Rattle.control_word.specs.declared.event.Event.TheVariants.{ClearMember, Compare, Load, Swap}
 use Rattle.control_word.specs.declared.handle.Handle.{Handle}
 use Rattle.control_word.specs.declared.handle.Kind.{Kind}
 use Rattle.control_word.specs.declared.handle.Kind.TheVariants.{Owner, Weak}
@@ -375,3 +375,6 @@ differ_trades V c k expected new weak t n h = refl
 
 pub compare_trades : (V : Type 0) (c : Cell) (expected new : Handle) (weak : Bool) → Trades {V = V} (λ h. Compare c expected new h true weak) new
 compare_trades V c expected new weak t n h = ap (λ (l : List Held). cond (has_object h) (held n h ∷ l) l) (fills_hands c new (loses n new t))
+
+pub clear_trades : (V : Type 0) (o m : ℕ) (k : Kind) → Trades {V = V} (λ h. ClearMember o m h) (empty k)
+clear_trades V o m k t n h = refl

@@ -1,5 +1,5 @@
 -- What contracts see of a desk after a call: its bag, and what it keeps.
-use Rattle.std.proofs.Common.{◌≡◌, ◌≢◌, arith, ℕ, ◌==◌, ◌<◌, ◌⊎◌, ⊎_elim, Bool, true, false, List, ◌∷◌, ◌++◌, map, length, Option, Some, None, refl, sym, ap, subst, ◌∙◌}
+use Rattle.std.proofs.Common.{◌≡◌, ◌≢◌, arith, ℕ, ◌+◌, ◌==◌, ◌↔◌, min, IsTrue, true≢false, ◌<◌, ◌⊎◌, ⊎_elim, Bool, true, false, List, ◌∷◌, ◌++◌, map, length, Option, Some, None, refl, sym, ap, subst, ◌∙◌}
 use Rattle.std.specs.List.{filter}
 use Rattle.atomic_table.specs.Seated.{TableId}
 use Rattle.control_word.proofs.history.Given.{names_an_object}
@@ -25,14 +25,14 @@ use Rattle.control_word.specs.declared.handle.Kind.{Kind}
 use Rattle.control_word.specs.declared.handle.Kind.TheVariants.{Owner}
 use Rattle.control_word.specs.declared.place.Place.{Place}
 use Rattle.control_word.specs.declared.view.Pending.TheVariants.{Idle}
-use Rattle.control_block.specs.Desks.{Adds, DeskNow, EndsStill, HasHandle, IsEnding, IsSameDesk, Keeps, MayPoint, bag_of, by_block}
-use Rattle.control_block.specs.Inside.{IsDesk, desk_now}
+use Rattle.control_block.specs.Desks.{Adds, DeskNow, EndsStill, HasHandle, IsEnding, IsSameDesk, Keeps, MayPoint, allowance_of, bag_of, by_block, held_of}
+use Rattle.control_block.specs.Inside.{IsDesk, IsDeskWith, desk_now}
 use Rattle.control_block.specs.Plays.{Added, HasRoomFor, Holding, known}
 use Rattle.control_block.specs.Rule.{opening_of}
 use Rattle.control_block.specs.declared.board.Sight.{Sight}
 use Rattle.control_block.specs.declared.desk.Desk.TheInside.{Inside}
 use Rattle.control_block.proofs.Bags.{alone_there, map_without, seen_as, shown, shown_held, shown_later}
-use Rattle.control_block.proofs.DeskSteps.{allowance_left, came, stock_left}
+use Rattle.control_block.proofs.DeskSteps.{allowance_left, came, ending_same, stock_left}
 use Rattle.control_block.proofs.Endings.{not_filled, still_ends}
 use Rattle.control_block.proofs.Parts.{part_without_mine}
 use Rattle.control_block.proofs.Passage.{IsQuiet, plain, quiet_compare, quiet_swap}
@@ -49,7 +49,7 @@ module _ {V : Type 0} where
   now_of id w m = record { domain = id; shape = w.shape; name = w.view.name; seen = w.view.seen; held = m }
 
   -- what a desk has in a block, by what its seat knows
-  pub holding_in : (d : Inside V) (e : DeskNow V) (k : Kind) (p : Option Place) (b : ℕ) → IsDesk d → desk_now d ≡ e → HasHandle e k p b
+  pub holding_in : {n' : ℕ} (d : Inside V) (e : DeskNow V) (k : Kind) (p : Option Place) (b : ℕ) → IsDeskWith n' d → desk_now d ≡ e → HasHandle e k p b
       → Holding d.seat.me.0 k ((known d.seat.me.0).latest b) p b
   holding_in d e k p b h is has =
       let v = d.seat.me.0 in
@@ -107,7 +107,7 @@ module _ {V : Type 0} where
         members = q.members z t n b fine asks ends;
       }
 
-  module _ (d : Inside V) (w : Sight V) (e : Event V) (h : IsDesk d) (a : Added d.seat.me.0 Idle None e w) where
+  module _ {n' : ℕ} (d : Inside V) (w : Sight V) (e : Event V) (h : IsDeskWith n' d) (a : Added d.seat.me.0 Idle None e w) where
     -- the history before the event
     abbrev pub before : List (Entry V)
     before = a.between ++ d.seat.me.0.view.seen
@@ -211,12 +211,23 @@ module _ {V : Type 0} where
             name = same.name;
             allowance = same.allowance;
             stock = ap length (stock_left v w e c stores);
+            count = ending_same v w e c quiet.quiet;
             endings = λ b x ends. ends_still b x (desk_now d) refl (λ p. quiet_spares z (leads z before) (value z before) n e b quiet (sound z before legal_now.0) legal_now.1.asks p) ends;
           } in
           subst (λ (q : DeskNow V). Keeps q (now_of id w m)) is keeps
 
+  pub held_is : (d : Inside V) (y : DeskNow V) → IsDesk d → desk_now d ≡ y → held_of y ≡ d.held + min 1 d.endings
+  held_is d y h is = ap (λ (u : DeskNow V). held_of u) (sym is) ∙ ap (λ n. d.held + min 1 n) (sym h.ended)
+
+  -- a desk that says that it isn't at its allowance isn't
+  pub not_full : (d : Inside V) (y : DeskNow V) (b : Bool) → IsDesk d → desk_now d ≡ y → (IsTrue b ↔ (held_of y ≡ allowance_of y)) → b ≡ false
+      → d.held + min 1 d.endings ≢ d.allowance
+  not_full d y b h is told low full =
+      let e : held_of (desk_now d) ≡ allowance_of (desk_now d) = ap (λ n. d.held + min 1 n) (sym h.ended) ∙ (full ∙ h.allowed) in
+      true≢false (sym (told.1 (subst (λ (u : DeskNow V). held_of u ≡ allowance_of u) is e)) ∙ low)
+
   -- a desk that isn't at its allowance has room for a handle more
-  pub room_left : (d : Inside V) → IsDesk d → d.held ≢ d.allowance → HasRoomFor d.seat.me.0
+  pub room_left : (d : Inside V) → IsDesk d → d.held + min 1 d.endings ≢ d.allowance → HasRoomFor d.seat.me.0
   room_left d h ne = omega (arith, h.holding, h.within, h.allowed, ne)
 
   -- the place of an owner that a desk has is one of four fields

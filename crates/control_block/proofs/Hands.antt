@@ -45,7 +45,7 @@ same_number b c e = ap (λ (y : Option Block). first y) e
     first (Some x) = x.0
 
 -- what a bag has after a handle came in
-gets_most : (s : State) (d : ℕ) (h : Handle) → bag_size (gets d h s) d ≤ suc (bag_size s d)
+pub gets_most : (s : State) (d : ℕ) (h : Handle) → bag_size (gets d h s) d ≤ suc (bag_size s d)
 gets_most s d h =
     cond_both (has_object h) (held d h ∷ s.hands) s.hands (λ l. length (filter (λ (x : Held). x.desk == d) l) ≤ suc (bag_size s d))
     (λ e. let a = bag_one d h s.hands in omega arith) (λ e. omega arith)
@@ -54,9 +54,13 @@ pub fills_hands : (c : Cell) (x : Handle) (s : State) → (fills c x s).hands �
 fills_hands (Free c) x s = refl
 fills_hands (Member o m) x s = refl
 
-fills_allowance : (c : Cell) (x : Handle) (s : State) → (fills c x s).allowance ≡ s.allowance
+pub fills_allowance : (c : Cell) (x : Handle) (s : State) → (fills c x s).allowance ≡ s.allowance
 fills_allowance (Free c) x s = refl
 fills_allowance (Member o m) x s = refl
+
+pub fills_stores : (c : Cell) (x : Handle) (s : State) → (fills c x s).stores ≡ s.stores
+fills_stores (Free c) x s = refl
+fills_stores (Member o m) x s = refl
 
 -- what goes in makes no desk's bag larger
 swaps_most : (s : State) (d : ℕ) (c : Cell) (h old : Handle) → bag_size (swaps d c h old s) d ≤ suc (bag_size (loses d h s) d)

@@ -23,7 +23,7 @@ use Rattle.control_word.specs.declared.place.Block.{Block}
 use Rattle.control_word.specs.declared.place.Place.{Place}
 use Rattle.control_word.specs.declared.view.Pending.TheVariants.{Idle}
 use Rattle.control_block.specs.Desks.{DeskNow, IsCleared, IsEnding}
-use Rattle.control_block.specs.Inside.{IsDesk, desk_now}
+use Rattle.control_block.specs.Inside.{IsDesk, IsDeskWith, desk_now}
 use Rattle.control_block.specs.Plays.{Added, Ends, Holding, IsClear, known}
 use Rattle.control_block.specs.Rule.{opening_of}
 use Rattle.control_block.specs.declared.board.Sight.{Sight}
@@ -104,14 +104,14 @@ module _ {V : Type 0} where
   clear_in d y b is clear m lt = subst (λ (q : DeskNow V). IsCleared q b m) (sym is) (clear m lt)
 
   -- its block is one of the shape's
-  pub ends_inside : (d : Inside V) (b : ℕ) → IsDesk d → Ends d.seat.me.0 ((known d.seat.me.0).latest b) b
+  pub ends_inside : {n' : ℕ} (d : Inside V) (b : ℕ) → IsDeskWith n' d → Ends d.seat.me.0 ((known d.seat.me.0).latest b) b
       → (((known d.seat.me.0).object ((known d.seat.me.0).latest b)).block ≡ b) × InShape (opening_of d.seat.me.0.shape) b
   ends_inside d b h ends =
       let v = d.seat.me.0 in let z = opening_of v.shape in let fine = sound z v.view.seen h.legal in
       let here = ends_here z (known v) b v.view.name fine ends.1 in
       (here, subst (InShape z) here (fine.placed ((known v).latest b) (ends_busy z (known v) b v.view.name fine ends.1)).1)
 
-  module _ (d : Inside V) (w : Sight V) (e : Event V) (h : IsDesk d) (a : Added d.seat.me.0 Idle None e w) where
+  module _ {n' : ℕ} (d : Inside V) (w : Sight V) (e : Event V) (h : IsDeskWith n' d) (a : Added d.seat.me.0 Idle None e w) where
     -- at the event an object that the desk has, or that ends in its hands, is in its block
     pub block_before : (k : Kind) (o : ℕ) (p : Option Place) (b : ℕ) → Holding d.seat.me.0 k o p b
         → blocks_of (leads (opening_of d.seat.me.0.shape) (before d w e h a)) o ≡ b
@@ -133,7 +133,7 @@ module _ {V : Type 0} where
         ∙ (ends_inside d b h ends).0
 
   -- after the last owner's leave
-  pub ends_by_leave : (d : Inside V) (w : Sight V) (o b m : ℕ) (id : TableId) (p : Option Place) (x : V) (h : IsDesk d)
+  pub ends_by_leave : {n' : ℕ} (d : Inside V) (w : Sight V) (o b m : ℕ) (id : TableId) (p : Option Place) (x : V) (h : IsDeskWith n' d)
       → Added d.seat.me.0 Idle None (Leave (owner o p) true) w → Holding d.seat.me.0 Owner o p b
       → value (opening_of d.seat.me.0.shape) w.view.seen o ≡ Some x → IsEnding (now_of id w m) b x
   ends_by_leave d w o b m id p x h a holds is =
@@ -149,7 +149,7 @@ module _ {V : Type 0} where
         kept = ap (value z (entry n ev ∷ hist)) last ∙ (ap (λ l. value z l o) (sym seen) ∙ is);
       }
 
-  pub ended_if : (d : Inside V) (w : Sight V) (o b m : ℕ) (id : TableId) (p : Option Place) (r : Option V) → IsDesk d
+  pub ended_if : {n' : ℕ} (d : Inside V) (w : Sight V) (o b m : ℕ) (id : TableId) (p : Option Place) (r : Option V) → IsDeskWith n' d
       → Added d.seat.me.0 Idle None (Leave (owner o p) (is_some r)) w → Holding d.seat.me.0 Owner o p b
       → IfSome r (λ x. value (opening_of d.seat.me.0.shape) w.view.seen o ≡ Some x) → IfSome r (IsEnding (now_of id w m) b)
   ended_if d w o b m id p None h a holds is = is

@@ -15,15 +15,16 @@ use Rattle.control_word.proofs.history.Others.{held_made}
 use Rattle.control_word.proofs.lists.Parts.{has_part, part_has}
 use Rattle.control_word.proofs.views.Resting.{as_seen}
 use Rattle.control_word.specs.Events.{after, loses}
-use Rattle.control_word.specs.Handles.{handle}
+use Rattle.control_word.specs.Handles.{empty, handle}
 use Rattle.control_word.specs.Histories.{IsLegal, entry, leads, value, valued}
-use Rattle.control_word.specs.State.{Has, Held, InShape, Object, Opening, State, Stored, bag_size, ending, held}
+use Rattle.control_word.specs.State.{Has, Held, InShape, Object, Opening, State, Stored, bag_size, ending, held, kind_of_member}
 use Rattle.control_word.specs.Steps.{Point, Ready}
 use Rattle.control_word.specs.Views.{Knows, Stands, sees_as}
 use Rattle.control_word.specs.declared.event.Entry.{Entry}
 use Rattle.control_word.specs.declared.event.Cell.{Cell}
+use Rattle.control_word.specs.declared.event.Cell.TheVariants.{Member}
 use Rattle.control_word.specs.declared.event.Event.{Event}
-use Rattle.control_word.specs.declared.event.Event.TheVariants.{Compare, Swap}
+use Rattle.control_word.specs.declared.event.Event.TheVariants.{ClearMember, Compare, Swap}
 use Rattle.control_word.specs.declared.handle.Handle.{Handle}
 use Rattle.control_word.specs.declared.handle.Kind.{Kind}
 use Rattle.control_word.specs.declared.place.Block.{Block}
@@ -223,6 +224,15 @@ module _ {V : Type 0} where
         values = λ s f. refl;
       }
   quiet_compare c expected new old false weak = plain (λ s d. refl) (λ s d. refl) (λ s f. refl)
+
+  pub quiet_clear : (o m : ℕ) (h : Handle) → IsQuiet (ClearMember o m h)
+  quiet_clear o m h =
+      record {
+        phases = λ s d q. fills_phase s (Member o m) (empty (kind_of_member m)) q;
+        blocks = λ s d q. fills_block s (Member o m) (empty (kind_of_member m)) q;
+        latest = λ s d. refl;
+        values = λ s f. refl;
+      }
 
   pub same_kept : (k : Shape) (h : List (Entry V)) (d : ℕ) (e : Event V) → IsQuiet e → (b : ℕ)
       → kept (opening_of k) (entry d e ∷ h) b ≡ kept (opening_of k) h b

@@ -1,5 +1,5 @@
 -- What contracts see of a domain and of a desk.
-use Rattle.std.specs.Prelude.{◌≡◌, ◌≢◌, ◌⊎◌, ℕ, zero, suc, true, List, [], ◌∷◌, ◌++◌, map, length, Option, Some, None}
+use Rattle.std.specs.Prelude.{◌≡◌, ◌≢◌, ◌⊎◌, ℕ, zero, suc, ◌+◌, ◌==◌, min, true, cond, List, [], ◌∷◌, ◌++◌, map, length, Option, Some, None}
 use Rattle.atomic_table.specs.Seated.{TableId}
 use Rattle.control_word.specs.declared.event.Entry.{Entry}
 use Rattle.control_word.specs.declared.event.Event.{Event}
@@ -11,7 +11,7 @@ use Rattle.control_word.specs.Handles.{IsPointer, empty, handle}
 use Rattle.control_word.specs.declared.shape.Shape.{Shape}
 use Rattle.control_word.specs.Events.{place_at}
 use Rattle.control_word.specs.Histories.{entry, leads, value, IsLegal}
-use Rattle.control_word.specs.State.{Has, Object, State, Held, Stored, bag, ending, kind_of_member, stock}
+use Rattle.control_word.specs.State.{Has, Object, State, Held, Stored, Phase, bag, ending, gone, kind_of_member, live, stock, sum_below, unmade}
 use Rattle.control_word.specs.Views.{NoneBy}
 use Rattle.control_word.specs.Words.{blocks_of}
 use Rattle.control_block.specs.Rule.{opening_of}
@@ -32,6 +32,17 @@ pub record DeskNow (V : Type 0) : Type 0 where
 abbrev pub all_blocks : ℕ → List Block
 all_blocks zero = []
 all_blocks (suc n) = all_blocks n ++ record { 0 = suc n } ∷ []
+
+-- whether an object in this phase ends with the desk, as a number
+abbrev pub ends_with : ℕ → Phase → ℕ
+ends_with n unmade = 0
+ends_with n live = 0
+ends_with n gone = 0
+ends_with n (ending d) = cond (d == n) 1 0
+
+-- in how many blocks an object ends with the desk
+abbrev pub many_ending : ℕ → State → ℕ → ℕ
+many_ending blocks s n = sum_below blocks (λ j. ends_with n (s.object (s.latest (suc j))).phase)
 
 -- a handle by its block, in place of its object
 abbrev pub in_block : (ℕ → ℕ) → Option ℕ → Option ℕ
@@ -56,6 +67,15 @@ module _ {V : Type 0} where
 
   abbrev pub stock_of : DeskNow V → List Stored
   stock_of d = stock (state_of d) d.name
+
+  -- how many objects end in its hands
+  abbrev pub endings_of : DeskNow V → ℕ
+  endings_of d = many_ending d.shape.blocks (state_of d) d.name
+
+  -- what it counts of its allowance: each handle, empty ones too, and one place more while an object ends in its hands, since
+  -- what a member held comes into them
+  abbrev pub held_of : DeskNow V → ℕ
+  held_of d = d.held + min 1 (endings_of d)
 
   -- the handles with an object that it holds, newest first, by their blocks
   abbrev pub bag_of : DeskNow V → List Handle
@@ -126,7 +146,16 @@ module _ {V : Type 0} where
     pub name : e.name ≡ d.name
     pub allowance : allowance_of e ≡ allowance_of d
 
-  -- and the number of vacant blocks and the endings are as they were too
+  -- and the number of vacant blocks is as it was too, and what ended in its hands ends there still
+  pub record KeepsStock (d e : DeskNow V) : Type 0 where
+    pub domain : e.domain ≡ d.domain
+    pub shape : e.shape ≡ d.shape
+    pub name : e.name ≡ d.name
+    pub allowance : allowance_of e ≡ allowance_of d
+    pub stock : length (stock_of e) ≡ length (stock_of d)
+    pub endings : KeepsEndings d e
+
+  -- and nothing more ends there
   pub record Keeps (d e : DeskNow V) : Type 0 where
     pub domain : e.domain ≡ d.domain
     pub shape : e.shape ≡ d.shape
@@ -134,6 +163,7 @@ module _ {V : Type 0} where
     pub allowance : allowance_of e ≡ allowance_of d
     pub stock : length (stock_of e) ≡ length (stock_of d)
     pub endings : KeepsEndings d e
+    pub count : endings_of e ≡ endings_of d
 
   -- the desk has a handle of the object in the block, or it ends in its hands
   abbrev pub IsNear : DeskNow V → ℕ → Type 0

@@ -24,7 +24,7 @@ use Rattle.control_block.specs.Plays.{At, HasRoomFor, known}
 use Rattle.control_block.specs.FundPlays.{Owes}
 use Rattle.control_block.specs.CellPlays.{Gave, IsCellAt, IsWordOf, compare_swapped, debt, kind_in}
 use Rattle.control_block.specs.declared.board.Sight.{Sight}
-use Rattle.control_block.proofs.CellWords.{Opened, cell_keeps, decoded, found_is, one_cell, opened}
+use Rattle.control_block.proofs.CellWords.{Opened, cell_keeps, decoded, found_is, is_open, one_cell, opened}
 use Rattle.control_block.proofs.Hands.{hand_block, hand_there, room_swapped, same_object}
 use Rattle.control_block.proofs.Passage.{point, quiet_compare}
 use Rattle.control_block.proofs.Still.{allows_exchange}
@@ -67,7 +67,7 @@ module _ {V : Type 0} where
       let mine : InHand (known v) v.view.name expected.kind expected = subst (λ m. InHand (known v) v.view.name m expected) (sym he.0) he in
       let alike = is_expected k s r id v at owes.awake c i is expected mine x d.taken same shows in
       let told = law.compare_swaps (point k s r id v) c expected new weak' (ready_new k s r id v at owes.awake new y is_new full own owes.pending) alike
-      (is.open', hand_there k s r id v at owes.awake (kind_in v.shape c) expected he _ is.kind, hand_there k s r id v at owes.awake (kind_in v.shape c) new hand _ is.kind, refl, inl (sym alike))
+      (is_open k s r id v at owes.awake c i cell, hand_there k s r id v at owes.awake (kind_in v.shape c) expected he _ is.kind, hand_there k s r id v at owes.awake (kind_in v.shape c) new hand _ is.kind, refl, inl (sym alike))
       (room_swapped k s r id v at owes.awake (kind_in v.shape c) new hand old c more) d.taken
       (ap (λ j. get_or s.words j 0) is.there ∙ (d.bits ∙ sym (cell_shown (blocks_of t) old d.taken))) in
       let g = gives k s r id i c v at owes.awake owes.empty (λ h. Compare c expected new h true weak')

@@ -25,7 +25,7 @@ use Rattle.control_block.specs.Plays.{At, HasRoomFor, known}
 use Rattle.control_block.specs.FundPlays.{Owes}
 use Rattle.control_block.specs.CellPlays.{Gave, IsCellAt, IsWordOf, debt, kind_in, swapped}
 use Rattle.control_block.specs.declared.board.Sight.{Sight}
-use Rattle.control_block.proofs.CellWords.{Decoded, Opened, decoded, found_is, opened}
+use Rattle.control_block.proofs.CellWords.{Decoded, Opened, decoded, found_is, is_open, opened}
 use Rattle.control_block.proofs.Hands.{debt_purse, hand_block, hand_there, room_swapped}
 use Rattle.control_block.proofs.Passage.{IsQuiet, adds, point, quiet_next, quiet_swap, ready}
 
@@ -86,7 +86,7 @@ module _ {V : Type 0} where
       let own : InHand (known v) v.view.name new.kind new = subst (λ m. InHand (known v) v.view.name m new) (sym kind) hand in
       let x = shown (blocks_of t) (cell_of t c) d.taken in
       let told = law.swaps' (point k s r id v) c new (ready_new k s r id v at owes.awake new y is_new full own owes.pending)
-      (is.open', hand_there k s r id v at owes.awake (kind_in v.shape c) new hand _ is.kind, refl)
+      (is_open k s r id v at owes.awake c i cell, hand_there k s r id v at owes.awake (kind_in v.shape c) new hand _ is.kind, refl)
       (room_swapped k s r id v at owes.awake (kind_in v.shape c) new hand (cell_of t c) c more) d.taken
       (ap (λ j. get_or s.words j 0) is.there ∙ (d.bits ∙ sym (cell_shown (blocks_of t) (cell_of t c) d.taken))) in
       let g = gives k s r id i c v at owes.awake owes.empty (λ h. Swap c new h)

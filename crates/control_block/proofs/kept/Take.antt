@@ -29,7 +29,7 @@ use Rattle.control_block.specs.Rule.{Ruled, opening_of, seeing, view_of}
 use Rattle.control_block.specs.Plays.{At, HasRoomFor, Rests, known}
 use Rattle.control_block.specs.CellPlays.{IsCellAt, IsWordOf, Took, kind_in, took}
 use Rattle.control_block.specs.declared.board.Sight.{Sight}
-use Rattle.control_block.proofs.CellWords.{Decoded, Opened, decoded, found_is, one_cell, opened}
+use Rattle.control_block.proofs.CellWords.{Decoded, Opened, decoded, found_is, is_open, one_cell, opened}
 use Rattle.control_block.proofs.Hands.{hand_block, hand_there}
 use Rattle.control_block.proofs.Passage.{IsQuiet, adds, plain, point, quiet_next, ready, still_room}
 use Rattle.control_block.proofs.Still.{allows_exchange}
@@ -112,7 +112,7 @@ module _ {V : Type 0} where
       (λ s r at is o same bits.
       let low = subst (λ y. get_or s.words y 0 < 4398046511104) (sym is.there) (subst (λ n. n < 4398046511104) (sym bits) (left_over x valid left)) in
       (law.takes (point k s r id me.0) c (kind_in me.0.shape c) o x.place (ready k s r id me.0 at rests.awake Idle rests.idle) same
-      (still_room k s r id me.0 at rests.awake more) low).0 is.open')
+      (still_room k s r id me.0 at rests.awake more) low).0 (is_open k s r id me.0 at rests.awake c i cell))
 
   pub allows_differ : (k : Shape) (slots id i found : ℕ) (c : Cell) (expected new : Handle) (weak' : Bool) (x : CellWord) (me : At V) → Rests me
       → IsCellAt me.0 c i → IsCellWord x → found ≡ cell_bits x → x.owned ≢ None → x.taken < 256 → HasRoomFor me.0
@@ -136,7 +136,7 @@ module _ {V : Type 0} where
       })))) inr why in
       (law.takes (point k s r id v) c kk o x.place (ready k s r id v at rests.awake Idle rests.idle) same
       (still_room k s r id v at rests.awake more) low).1 expected new weak' (
-        is.open',
+        is_open k s r id v at rests.awake c i cell,
         hand_there k s r id v at rests.awake kk expected he _ is.kind,
         hand_there k s r id v at rests.awake kk new hn _ is.kind,
         same,
