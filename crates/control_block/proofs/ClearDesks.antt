@@ -16,7 +16,7 @@ use Rattle.control_block.specs.CellCalls.{handle_in, with_handle}
 use Rattle.control_block.specs.CellRounds.{CameOut}
 use Rattle.control_block.specs.Desks.{Adds, DeskNow, EndsStill, IsEnding, IsSameDesk, bag_of, endings_of, many_ending, member_in, stock_of}
 use Rattle.control_block.specs.Inside.{IsDesk, IsDeskWith, desk_now}
-use Rattle.control_block.specs.Plays.{Added, Ends, known}
+use Rattle.control_block.specs.Plays.{Added, Ends, HasRoomFor, known}
 use Rattle.control_block.specs.Rule.{opening_of}
 use Rattle.control_block.specs.declared.board.Sight.{Sight}
 use Rattle.control_block.specs.declared.desk.Desk.TheInside.{Inside}
@@ -25,9 +25,15 @@ use Rattle.control_block.proofs.CellDesks.{bag_is, event_is, in_seat, one, size_
 use Rattle.control_block.proofs.CellRounds.{clear_trades}
 use Rattle.control_block.proofs.DeskBags.{adds_of, before, ends_still, legal_now, now_of, same_desk}
 use Rattle.control_block.proofs.DeskSteps.{came, ending_same, quiet_desk, stock_left}
+use Rattle.control_block.proofs.EndingCounts.{some_ending}
 use Rattle.control_block.proofs.Endings.{still_ends}
-use Rattle.control_block.proofs.OwnEndings.{clear_spares, ending_before}
+use Rattle.control_block.proofs.OwnEndings.{clear_spares, ending_before, ends_inside}
 use Rattle.control_block.proofs.Passage.{quiet_clear}
+
+pub room_out : {V : Type 0} (d : Inside V) (b : ℕ) → IsDesk d → Ends d.seat.me.0 ((known d.seat.me.0).latest b) b → HasRoomFor d.seat.me.0
+room_out d b h ends =
+    let v = d.seat.me.0 in let i = (ends_inside d b h ends).1 in let low = i.0 in let high = i.1 in
+    let t = some_ending v.shape.blocks (known v) v.view.name b low high ends.1 in omega (arith, h.ended, h.holding, h.within, h.allowed)
 
 module _ {V : Type 0} (d : Inside V) (h : IsDesk d) (b m : ℕ) (ends : Ends d.seat.me.0 ((known d.seat.me.0).latest b) b) (k : Kind) (t : Inside V)
     (x : CellWord) (c : CameOut (λ y. ClearMember ((known d.seat.me.0).latest b) m y) k d.seat.me.0 x t.seat.me.0)
@@ -46,6 +52,12 @@ module _ {V : Type 0} (d : Inside V) (h : IsDesk d) (b m : ℕ) (ends : Ends d.s
 
   abbrev pub got : Handle
   got = in_seat w k x.owned x.place
+
+  -- there is room for what comes out: while an object ends with the desk it keeps a place free
+  pub one_ends : 0 < d.endings
+  one_ends =
+      let i = (ends_inside d b h ends).1 in let low = i.0 in let high = i.1 in
+      let t' = some_ending v.shape.blocks (known v) v.view.name b low high ends.1 in let q = h.ended in omega arith
 
   pub event : Added v Idle None (e got) w
   event = event_is d h w e k x None None (clear_trades V o m k) c tt

@@ -2,6 +2,7 @@ pub mod Lists
 pub mod Stores
 pub mod Opening
 pub mod ClearDesks
+pub mod ClearLeaves
 pub mod Closing
 pub mod EndingCounts
 pub mod EndingNames

@@ -7,7 +7,8 @@ ghost use Rattle.control_block.specs.Desks.{IsCleared, IsEnding, IsSameDesk, Kee
 use crate::cell_calls::Content;
 use crate::desk::Desk;
 use crate::domain::Domain;
-use crate::{clears, steps};
+use crate::clears;
+use crate::handles::Pointer;
 use control_word::Block;
 use control_word::handle::Kind;
 use std::marker::Brand;
@@ -45,7 +46,12 @@ pub fn clear_shared<V: Drop + Send>(
     let Some(held) = out.owned else {
         return (content, None);
     };
-    let value = steps::leave::<V, Brand>(board, seat, held);
+    let of = Pointer {
+        kind: Kind::Owner,
+        block: held,
+        place: out.place,
+    };
+    let value = clears::leave_out::<V, Brand>(board, seat, of);
     desk.endings += u32::from(value.is_some());
     (content, value)
 }

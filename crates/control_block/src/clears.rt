@@ -1,20 +1,25 @@
 //! The members of an object that ends: each is emptied by the desk in whose hands it ends. A member that holds nothing is
 //! cleared by a look, so an object that never used its members ends without a further locked step.
-ghost use Rattle.std.specs.Prelude.{◌≡◌, ◌+◌, ◌<◌, true, false, []};
-ghost use Rattle.control_word.specs.Handles.{empty};
+ghost use Rattle.std.specs.Prelude.{◌≡◌, ◌+◌, ◌<◌, ◌≤◌, true, false, [], is_some, IfSome, Some};
+ghost use Rattle.control_word.specs.Handles.{empty, owner};
 ghost use Rattle.control_word.specs.Layout.{spot};
 ghost use Rattle.control_word.specs.Packing.{IsCellWord};
 ghost use Rattle.control_word.specs.State.{kind_of_member};
-ghost use Rattle.control_word.specs.declared.event.Event.TheVariants.{ClearMember};
+ghost use Rattle.control_word.specs.declared.event.Event.TheVariants.{ClearMember, Leave};
+ghost use Rattle.control_word.specs.Histories.{value};
+ghost use Rattle.control_word.specs.declared.handle.Kind.TheVariants.{Owner};
+ghost use Rattle.control_block.specs.Rule.{opening_of};
 ghost use Rattle.control_block.specs.CellPlays.{Gave};
 ghost use Rattle.control_block.specs.CellRounds.{CameOut};
 ghost use Rattle.control_block.specs.Inside.{IsSized};
-ghost use Rattle.control_block.specs.Plays.{Ends, HasRoomFor, Rests, tells};
+ghost use Rattle.control_block.specs.Plays.{Ends, HasRoomFor, Holding, Rests, tells};
 
 use crate::board::{Board, Chair};
 use crate::cell_rounds::settle;
 use crate::clear_plays::{Clears, LooksClear};
+use crate::handles::Pointer;
 use crate::plays::Meant;
+use crate::steps;
 use control_word::cell::unpack;
 use control_word::handle::Kind;
 use control_word::layout::{MEMBERS, block_word};
@@ -84,4 +89,21 @@ pub fn clear<V, M: Meant>(
     let left = CELL_FUNDS - u32::from(out.taken);
     settle(board, chair, kind, out.owned, left);
     out
+}
+
+/// Leave: an owner that came out of a member leaves, as any other does.
+pub fn leave_out<V: Drop + Send, M: Meant>(
+    board: &Board<V>,
+    chair: &mut Chair<V>,
+    of: Pointer,
+) -> Option<V>
+    requires board { chair.old.table_id ≡ board.now.table_id }
+    requires rests { Rests chair.old.me }
+    requires word { (0 < of.block.0) × (of.block.0 ≤ board.now.key.blocks) × (spot of.block.0 0 < board.now.table_id.words) }
+    requires holds { (M.block ≡ of.block) × Holding chair.old.me.0 Owner M.object M.place of.block.0 }
+    ensures chair { (chair.new.table_id ≡ chair.old.table_id) × (chair.new.id ≡ chair.old.id) × (chair.new.me.1 ≡ []) }
+    ensures event { tells (Leave (owner M.object M.place) (is_some result)) chair.old.me.0 chair.new.me.0 }
+    ensures value { IfSome result (λ x. value (opening_of chair.old.me.0.shape) chair.new.me.0.view.seen M.object ≡ Some x) }
+{
+    steps::leave::<V, M>(board, chair, of.block)
 }
