@@ -3,6 +3,7 @@ pub mod Stores
 pub mod Opening
 pub mod ClearDesks
 pub mod ClearLeaves
+pub mod ClearWeakLeaves
 pub mod Closing
 pub mod EndingCounts
 pub mod EndingNames

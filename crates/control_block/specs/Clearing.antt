@@ -31,8 +31,7 @@ module _ {V : Type 0} where
     pub lets : Lets between c p r e
 
   -- the same of the weak one
-  pub record EmptiesWeakly (d : DeskNow V) (b m : ℕ) (c : Option Block) (p : Option Place) (e : DeskNow V) : Type 0 where
+  pub record EmptiesWeakly (d : DeskNow V) (b m : ℕ) (c : Option Block) (p : Option Place) (vacant : Bool) (e : DeskNow V) : Type 0 where
     pub between : DeskNow V
     pub takes : TakesOut d b m Weak c p between
-    pub vacant : Bool
     pub lets : LetsWeakly between c p vacant e

@@ -171,7 +171,7 @@ pub fn share_weak<V: Drop + Send, A: About>(
 }
 
 /// A block that is vacant goes to the store.
-fn put_by(store: &mut Vec<Block, Global>, block: Block, vacant: bool)
+pub(crate) fn put_by(store: &mut Vec<Block, Global>, block: Block, vacant: bool)
     requires room { vacant ≡ true → vec_len store.old < vec_capacity store.old }
     ensures items { store.new.items ≡ store.old.items ++ cond vacant (block ∷ []) [] }
     ensures capacity { vec_capacity store.new ≡ vec_capacity store.old }

@@ -1,13 +1,13 @@
 //! The members of an object that ends: each is emptied by the desk in whose hands it ends. A member that holds nothing is
 //! cleared by a look, so an object that never used its members ends without a further locked step.
 ghost use Rattle.std.specs.Prelude.{◌≡◌, ◌+◌, ◌<◌, ◌≤◌, true, false, [], is_some, IfSome, Some};
-ghost use Rattle.control_word.specs.Handles.{empty, owner};
+ghost use Rattle.control_word.specs.Handles.{empty, owner, weak_of};
 ghost use Rattle.control_word.specs.Layout.{spot};
 ghost use Rattle.control_word.specs.Packing.{IsCellWord};
 ghost use Rattle.control_word.specs.State.{kind_of_member};
-ghost use Rattle.control_word.specs.declared.event.Event.TheVariants.{ClearMember, Leave};
+ghost use Rattle.control_word.specs.declared.event.Event.TheVariants.{ClearMember, Leave, WeakLeave};
 ghost use Rattle.control_word.specs.Histories.{value};
-ghost use Rattle.control_word.specs.declared.handle.Kind.TheVariants.{Owner};
+ghost use Rattle.control_word.specs.declared.handle.Kind.TheVariants.{Owner, Weak};
 ghost use Rattle.control_block.specs.Rule.{opening_of};
 ghost use Rattle.control_block.specs.CellPlays.{Gave};
 ghost use Rattle.control_block.specs.CellRounds.{CameOut};
@@ -106,4 +106,20 @@ pub fn leave_out<V: Drop + Send, M: Meant>(
     ensures value { IfSome result (λ x. value (opening_of chair.old.me.0.shape) chair.new.me.0.view.seen M.object ≡ Some x) }
 {
     steps::leave::<V, M>(board, chair, of.block)
+}
+
+/// Weak leave: a weak handle that came out of a member leaves, as any other does.
+pub fn leave_weak_out<V: Drop + Send, M: Meant>(
+    board: &Board<V>,
+    chair: &mut Chair<V>,
+    of: Pointer,
+) -> bool
+    requires board { chair.old.table_id ≡ board.now.table_id }
+    requires rests { Rests chair.old.me }
+    requires word { (0 < of.block.0) × (spot of.block.0 1 < board.now.table_id.words) }
+    requires holds { Holding chair.old.me.0 Weak M.object M.place of.block.0 }
+    ensures chair { (chair.new.table_id ≡ chair.old.table_id) × (chair.new.id ≡ chair.old.id) × (chair.new.me.1 ≡ chair.old.me.1) }
+    ensures event { tells (WeakLeave (weak_of M.object M.place) result) chair.old.me.0 chair.new.me.0 }
+{
+    steps::leave_weak::<V, M>(board, chair, of.block)
 }
