@@ -1,4 +1,7 @@
+use Rattle.atomic_cells.proofs.Kept.{endings_both}
 use Rattle.atomic_cells.proofs.weak_at.WeakAt.store.Goals as goal
 
 pub returns-clause-endings : goal.returns-clause-endings
-returns-clause-endings g c = λ b x ends. c.release_weak.ensures.endings b x (c.exchange-old.ensures.keeps.endings b x ends)
+returns-clause-endings g c =
+    endings_both c.args.desk.now c.exchange-old.new.desk c.release_weak.new.desk c.exchange-old.ensures.keeps.endings
+    c.release_weak.ensures.endings
