@@ -1,7 +1,6 @@
 use Rattle.std.proofs.Common.{false}
 use Rattle.control_word.specs.Handles.{empty}
-use Rattle.control_block.specs.CellCalls.{cell_at}
-use Rattle.control_block.specs.CellCalls.{handle_in}
+use Rattle.control_block.specs.CellCalls.{cell_at, handle_in}
 use Rattle.atomic_cells.proofs.weak_at.WeakAt.exchange.Given as goal
 
 abbrev pub ghosts-exchange : goal.ghosts-exchange
