@@ -8,6 +8,8 @@ mod compared;
 #[cfg(test)]
 mod crowd_tests;
 #[cfg(test)]
+mod member_tests;
+#[cfg(test)]
 mod race_tests;
 #[cfg(test)]
 mod reuse_tests;
