@@ -12,7 +12,9 @@ use crate::{SharedAt, SharedMember, WeakAt};
 use control_block::desk::Desk;
 use control_block::domain::{Domain, open};
 use control_block::handles;
-use shared_handle::{Ending, Left, Member, Shared, downgrade, read, release, release_weak, share, use_count};
+use shared_handle::{
+    Ending, Left, Member, Shared, downgrade, read, release, release_weak, share, use_count,
+};
 use std::sync::Wait;
 use std::test::Fail;
 
@@ -181,7 +183,13 @@ fn watch_from(
 }
 
 // What is seen of two objects: what the stores found, what the first's member tells, and what their ends find.
-type Tied = (Option<Was>, Option<Was>, Option<(Option<u64>, u32)>, Option<Found>, Option<Found>);
+type Tied = (
+    Option<Was>,
+    Option<Was>,
+    Option<(Option<u64>, u32)>,
+    Option<Found>,
+    Option<Found>,
+);
 
 // Object 1 owns object 2 by its first member, and object 2 watches object 1 by its weak member. Both end.
 #[tactic(auto, using(shared_handle::proofs::Taken::first_out))]
