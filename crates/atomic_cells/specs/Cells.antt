@@ -9,15 +9,8 @@ use Rattle.control_word.specs.declared.place.Place.{Place}
 use Rattle.control_block.specs.CellCalls.{handle_in}
 use Rattle.control_block.specs.Desks.{Adds, DeskNow}
 use Rattle.shared_handle.specs.Calls.{LeavesWeakly}
-use Rattle.shared_handle.specs.Endings.{IsLeft}
+use Rattle.shared_handle.specs.Endings.{IsGone, IsLeft}
 use Rattle.shared_handle.specs.declared.endings.Left.{Left}
-use Rattle.shared_handle.specs.declared.endings.Left.TheVariants.{Empty, Last, Others}
-
--- what is told of a weak pointer that left: whether it was an empty one (own)
-abbrev pub IsGone : {V : Type 0} → Option Block → Left V → Type 0
-IsGone b Empty = b ≡ None
-IsGone b Others = (c : Block) × (b ≡ Some c)
-IsGone b (Last x) = ⊥
 
 module _ {V : Type 0} where
   -- cell n holds this handle now, and the desk has a copy

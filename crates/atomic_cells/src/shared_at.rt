@@ -2,11 +2,12 @@
 ghost use Rattle.std.specs.Prelude.{◌≡◌, ◌↔◌, ◌+◌, ◌<◌, IfErr, IfOk, IsErr, OnOk};
 ghost use Rattle.control_word.specs.declared.handle.Kind.TheVariants.{Owner};
 ghost use Rattle.control_block.specs.CellCalls.{Belongs, IsProper};
-ghost use Rattle.control_block.specs.Desks.{Keeps, allowance_of, bag_of};
+ghost use Rattle.control_block.specs.Desks.{Keeps, KeepsStock, allowance_of, bag_of, endings_of, held_of};
 ghost use Rattle.shared_handle.specs.Calls.{Holds, with_handle, without_handle};
+ghost use Rattle.shared_handle.specs.Endings.{more_ending};
 ghost use Rattle.atomic_cells.specs.Cells.{Exchanges, Loads, Stores};
 
-use control_block::cell_calls::{self, Content, FreeCell};
+use control_block::cell_calls::{self, CellAt, Content, Site};
 use control_block::desk::Desk;
 use control_block::domain::Domain;
 use control_word::Refusal;
@@ -18,7 +19,7 @@ use std::sync::Wait;
 /// A cell that holds a shared pointer. It begins with an empty one.
 #[derive(Clone, Copy, Drop)]
 pub struct SharedAt {
-    index: u32,
+    pub(crate) index: u32,
 }
 
 impl SharedAt {
@@ -28,15 +29,6 @@ impl SharedAt {
         ensures { result.index ≡ index }
     {
         SharedAt { index }
-    }
-
-    pub(crate) fn cell(&self) -> FreeCell
-        ensures { (result.number ≡ self.now.index) × (result.kind ≡ Owner) }
-    {
-        FreeCell {
-            number: self.index,
-            kind: Kind::Owner,
-        }
     }
 
     /// A copy of what the cell holds ([util.smartptr.atomic.shared]), from its one step on the cell. It tries again while
@@ -49,7 +41,7 @@ impl SharedAt {
     ) -> Result<Shared, Refusal>
         requires domain { Belongs desk.old domain.now }
         requires cell { self.now.index < desk.old.shape.shared_cells }
-        ensures limit { IsErr result ↔ (desk.old.held ≡ allowance_of desk.old) }
+        ensures limit { IsErr result ↔ (held_of desk.old ≡ allowance_of desk.old) }
         ensures refused { IfErr result (λ why. (why ≡ Refusal.Limit) × (desk.new ≡ desk.old)) }
         ensures event { IfOk result (λ h. Loads desk.old self.now.index Owner h.block h.place desk.new) }
         ensures bag { IfOk result (λ h. bag_of desk.new ≡ with_handle Owner h.block h.place (bag_of desk.old)) }
@@ -58,7 +50,15 @@ impl SharedAt {
         ensures proper { IfOk result (λ h. IsProper Owner h.block h.place) }
         ensures keeps { OnOk result (Keeps desk.old desk.new) }
     {
-        let found = cell_calls::load::<V, Brand, R>(rt, domain, desk, self.cell())?;
+        let found = cell_calls::load::<V, Brand, R>(
+            rt,
+            domain,
+            desk,
+            CellAt {
+                site: Site::Free(self.index),
+                kind: Kind::Owner,
+            },
+        )?;
         Ok(Shared::of_parts(found.block, found.place))
     }
 
@@ -83,7 +83,15 @@ impl SharedAt {
     {
         let (block, place) = handle.into_parts();
         let new = Content { block, place };
-        let old = cell_calls::exchange::<V, Brand>(domain, desk, self.cell(), new);
+        let old = cell_calls::exchange::<V, Brand>(
+            domain,
+            desk,
+            CellAt {
+                site: Site::Free(self.index),
+                kind: Kind::Owner,
+            },
+            new,
+        );
         Shared::of_parts(old.block, old.place)
     }
 
@@ -104,7 +112,8 @@ impl SharedAt {
         ensures stored { Stores desk.old self.now.index handle.block handle.place result desk.new }
         ensures bag { bag_of desk.new ≡ without_handle Owner handle.block handle.place (bag_of desk.old) }
         ensures held { desk.new.held + 1 ≡ desk.old.held }
-        ensures keeps { Keeps desk.old desk.new }
+        ensures keeps { KeepsStock desk.old desk.new }
+        ensures count { endings_of desk.new ≡ endings_of desk.old + more_ending result }
     {
         let old = self.exchange(domain, desk, handle);
         release(domain, desk, old)

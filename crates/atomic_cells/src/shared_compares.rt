@@ -3,17 +3,18 @@ ghost use Rattle.std.specs.Prelude.{◌≡◌, ◌↔◌, ◌+◌, ◌<◌, cond
 ghost use Rattle.control_word.specs.declared.event.Cell.TheVariants.{Free};
 ghost use Rattle.control_word.specs.declared.handle.Kind.TheVariants.{Owner};
 ghost use Rattle.control_block.specs.CellCalls.{Belongs, IsProper, handle_in};
-ghost use Rattle.control_block.specs.Desks.{Keeps, allowance_of, bag_of};
+ghost use Rattle.control_block.specs.Desks.{Keeps, allowance_of, bag_of, held_of};
 ghost use Rattle.shared_handle.specs.Calls.{Holds, with_handle, without_handle};
 ghost use Rattle.atomic_cells.specs.Compares.{Compares, GivesBack, came_out, has_swapped};
 
 use crate::compared::Compared;
 use crate::shared_at::SharedAt;
-use control_block::cell_calls::Content;
+use control_block::cell_calls::{CellAt, Content, Site};
 use control_block::cell_compare_calls;
 use control_block::cell_plays::Aimed;
 use control_block::desk::Desk;
 use control_block::domain::Domain;
+use control_word::handle::Kind;
 use control_word::{Refusal, Refused};
 use shared_handle::Shared;
 use std::marker::Brand;
@@ -34,7 +35,7 @@ impl SharedAt {
         requires proper { IsProper Owner expected.now.block expected.now.place × IsProper Owner desired.block desired.place }
         requires meant { (A.cell ≡ Free self.now.index) × (A.expected ≡ handle_in desk.old Owner expected.now.block expected.now.place)
             × (A.new ≡ handle_in desk.old Owner desired.block desired.place) }
-        ensures limit { IsErr result ↔ (desk.old.held ≡ allowance_of desk.old) }
+        ensures limit { IsErr result ↔ (held_of desk.old ≡ allowance_of desk.old) }
         ensures refused { IfErr result (λ r. (r.why ≡ Refusal.Limit) × (r.back ≡ desired) × (desk.new ≡ desk.old)) }
         ensures compared { IfOk result (λ c. let h = came_out c in
             Compares desk.old self.now.index Owner expected.now.block expected.now.place desired.block desired.place (has_swapped c) h.block h.place A.weak desk.new) }
@@ -52,7 +53,10 @@ impl SharedAt {
             block: expected.block(),
             place: expected.place(),
         };
-        let cell = self.cell();
+        let cell = CellAt {
+            site: Site::Free(self.index),
+            kind: Kind::Owner,
+        };
         match cell_compare_calls::compare::<V, A, R>(rt, domain, desk, cell, there, new) {
             Err(why) => Err(Refused {
                 why,
@@ -87,7 +91,7 @@ impl SharedAt {
         requires cell { self.now.index < desk.old.shape.shared_cells }
         requires holds { Holds desk.old Owner expected.now.block expected.now.place × Holds desk.old Owner desired.block desired.place }
         requires proper { IsProper Owner expected.now.block expected.now.place × IsProper Owner desired.block desired.place }
-        ensures limit { IsErr result ↔ (desk.old.held ≡ allowance_of desk.old) }
+        ensures limit { IsErr result ↔ (held_of desk.old ≡ allowance_of desk.old) }
         ensures refused { IfErr result (λ r. (r.why ≡ Refusal.Limit) × (r.back ≡ desired) × (desk.new ≡ desk.old)) }
         ensures compared { IfOk result (λ c. let h = came_out c in
             Compares desk.old self.now.index Owner expected.now.block expected.now.place desired.block desired.place (has_swapped c) h.block h.place false desk.new) }
@@ -115,7 +119,7 @@ impl SharedAt {
         requires cell { self.now.index < desk.old.shape.shared_cells }
         requires holds { Holds desk.old Owner expected.now.block expected.now.place × Holds desk.old Owner desired.block desired.place }
         requires proper { IsProper Owner expected.now.block expected.now.place × IsProper Owner desired.block desired.place }
-        ensures limit { IsErr result ↔ (desk.old.held ≡ allowance_of desk.old) }
+        ensures limit { IsErr result ↔ (held_of desk.old ≡ allowance_of desk.old) }
         ensures refused { IfErr result (λ r. (r.why ≡ Refusal.Limit) × (r.back ≡ desired) × (desk.new ≡ desk.old)) }
         ensures compared { IfOk result (λ c. let h = came_out c in
             Compares desk.old self.now.index Owner expected.now.block expected.now.place desired.block desired.place (has_swapped c) h.block h.place true desk.new) }

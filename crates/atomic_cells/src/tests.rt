@@ -5,6 +5,7 @@ ghost use Rattle.control_word.specs.declared.handle.Kind.TheVariants.{Owner, Wea
 ghost use Rattle.control_block.specs.CellCalls.{Belongs, IsProper};
 ghost use Rattle.control_block.specs.Desks.{IsSameDesk, allowance_of, bag_of};
 ghost use Rattle.shared_handle.specs.Calls.{Holds, with_handle, without_handle};
+ghost use Rattle.shared_handle.specs.Endings.{Ends};
 
 use crate::{SharedAt, WeakAt};
 use control_block::census::close;
@@ -13,7 +14,8 @@ use control_block::domain::{Domain, open};
 use control_block::handles;
 use control_word::Shape;
 use shared_handle::{
-    Left, Shared, downgrade, expired, make, read, release, release_weak, share, use_count,
+    Ending, Left, Member, Shared, downgrade, expired, make, read, release, release_weak, share,
+    use_count,
 };
 use std::sync::Wait;
 use std::test::Fail;
@@ -37,6 +39,34 @@ pub(crate) enum Was {
     Last,
 }
 
+// What a member held was an object's last owner: no test that asks for a burial has such members.
+fn lose(left: Left<u64>) {
+    match left {
+        Left::Empty | Left::Others => {}
+        Left::Last(ending) => {
+            ending.forget();
+        }
+    }
+}
+
+// The end of an object whose members were the last owners of none.
+pub(crate) fn bury(domain: &Domain<u64>, desk: &mut Desk<u64>, ending: Ending<u64>) -> u64
+    requires domain { desk.old.domain ≡ domain.now.id }
+    requires ends { Ends desk.old ending }
+    ensures desk { IsSameDesk desk.old desk.new }
+    ensures bag { bag_of desk.new ≡ bag_of desk.old }
+    ensures held { desk.new.held ≡ desk.old.held }
+{
+    let mut ending = ending;
+    let first = ending.clear_member(domain, desk, Member::First);
+    let next = ending.clear_member(domain, desk, Member::Next);
+    let up = ending.clear_member(domain, desk, Member::Up);
+    lose(first);
+    lose(next);
+    lose(up);
+    ending.finish(domain, desk)
+}
+
 // An owner leaves.
 pub(crate) fn drop_owner(domain: &Domain<u64>, desk: &mut Desk<u64>, owner: Shared) -> Was
     requires domain { desk.old.domain ≡ domain.now.id }
@@ -49,7 +79,7 @@ pub(crate) fn drop_owner(domain: &Domain<u64>, desk: &mut Desk<u64>, owner: Shar
         Left::Empty => Was::Empty,
         Left::Others => Was::Others,
         Left::Last(ending) => {
-            ending.finish(domain, desk);
+            bury(domain, desk, ending);
             Was::Last
         }
     }
@@ -69,7 +99,7 @@ pub(crate) fn put(domain: &Domain<u64>, desk: &mut Desk<u64>, at: SharedAt, owne
         Left::Empty => Was::Empty,
         Left::Others => Was::Others,
         Left::Last(ending) => {
-            ending.finish(domain, desk);
+            bury(domain, desk, ending);
             Was::Last
         }
     }
@@ -94,7 +124,7 @@ pub(crate) fn put_weak(
         Left::Empty => Was::Empty,
         Left::Others => Was::Others,
         Left::Last(ending) => {
-            ending.finish(domain, desk);
+            ending.forget();
             unreachable!()
         }
     }

@@ -2,11 +2,11 @@
 ghost use Rattle.std.specs.Prelude.{◌≡◌, ◌↔◌, ◌+◌, ◌<◌, IfErr, IfOk, IsErr, OnOk};
 ghost use Rattle.control_word.specs.declared.handle.Kind.TheVariants.{Weak};
 ghost use Rattle.control_block.specs.CellCalls.{Belongs, IsProper};
-ghost use Rattle.control_block.specs.Desks.{IsSameDesk, Keeps, KeepsEndings, allowance_of, bag_of};
+ghost use Rattle.control_block.specs.Desks.{IsSameDesk, Keeps, KeepsEndings, allowance_of, bag_of, held_of};
 ghost use Rattle.shared_handle.specs.Calls.{Holds, with_handle, without_handle};
 ghost use Rattle.atomic_cells.specs.Cells.{Exchanges, Loads, StoresWeakly};
 
-use control_block::cell_calls::{self, Content, FreeCell};
+use control_block::cell_calls::{self, CellAt, Content, Site};
 use control_block::desk::Desk;
 use control_block::domain::Domain;
 use control_block::handles;
@@ -19,7 +19,7 @@ use std::sync::Wait;
 /// A cell that holds a weak pointer. It begins with an empty one.
 #[derive(Clone, Copy, Drop)]
 pub struct WeakAt {
-    index: u32,
+    pub(crate) index: u32,
 }
 
 impl WeakAt {
@@ -29,17 +29,6 @@ impl WeakAt {
         ensures { result.index ≡ index }
     {
         WeakAt { index }
-    }
-
-    // The weak cells stand behind the shared ones.
-    pub(crate) fn cell<V: Drop + Send>(&self, domain: &Domain<V>) -> FreeCell
-        requires low { self.now.index < domain.now.shape.weak_cells }
-        ensures { (result.number ≡ domain.now.shape.shared_cells + self.now.index) × (result.kind ≡ Weak) }
-    {
-        FreeCell {
-            number: domain.shared_cells() + self.index,
-            kind: Kind::Weak,
-        }
     }
 
     /// A copy of what the cell holds ([util.smartptr.atomic.weak]), from its one step on the cell. It tries again while
@@ -52,7 +41,7 @@ impl WeakAt {
     ) -> Result<handles::Weak, Refusal>
         requires domain { Belongs desk.old domain.now }
         requires cell { self.now.index < desk.old.shape.weak_cells }
-        ensures limit { IsErr result ↔ (desk.old.held ≡ allowance_of desk.old) }
+        ensures limit { IsErr result ↔ (held_of desk.old ≡ allowance_of desk.old) }
         ensures refused { IfErr result (λ why. (why ≡ Refusal.Limit) × (desk.new ≡ desk.old)) }
         ensures event { IfOk result (λ h. Loads desk.old (desk.old.shape.shared_cells + self.now.index) Weak h.block h.place desk.new) }
         ensures bag { IfOk result (λ h. bag_of desk.new ≡ with_handle Weak h.block h.place (bag_of desk.old)) }
@@ -61,7 +50,15 @@ impl WeakAt {
         ensures proper { IfOk result (λ h. IsProper Weak h.block h.place) }
         ensures keeps { OnOk result (Keeps desk.old desk.new) }
     {
-        let found = cell_calls::load::<V, Brand, R>(rt, domain, desk, self.cell(domain))?;
+        let found = cell_calls::load::<V, Brand, R>(
+            rt,
+            domain,
+            desk,
+            CellAt {
+                site: Site::Free(domain.shared_cells() + self.index),
+                kind: Kind::Weak,
+            },
+        )?;
         Ok(handles::Weak::of_parts(found.block, found.place))
     }
 
@@ -86,7 +83,15 @@ impl WeakAt {
     {
         let (block, place) = handle.into_parts();
         let new = Content { block, place };
-        let old = cell_calls::exchange::<V, Brand>(domain, desk, self.cell(domain), new);
+        let old = cell_calls::exchange::<V, Brand>(
+            domain,
+            desk,
+            CellAt {
+                site: Site::Free(domain.shared_cells() + self.index),
+                kind: Kind::Weak,
+            },
+            new,
+        );
         handles::Weak::of_parts(old.block, old.place)
     }
 

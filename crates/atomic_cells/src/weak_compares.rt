@@ -3,17 +3,18 @@ ghost use Rattle.std.specs.Prelude.{◌≡◌, ◌↔◌, ◌+◌, ◌<◌, cond
 ghost use Rattle.control_word.specs.declared.event.Cell.TheVariants.{Free};
 ghost use Rattle.control_word.specs.declared.handle.Kind.TheVariants.{Weak};
 ghost use Rattle.control_block.specs.CellCalls.{Belongs, IsProper, handle_in};
-ghost use Rattle.control_block.specs.Desks.{Keeps, allowance_of, bag_of};
+ghost use Rattle.control_block.specs.Desks.{Keeps, allowance_of, bag_of, held_of};
 ghost use Rattle.shared_handle.specs.Calls.{Holds, with_handle, without_handle};
 ghost use Rattle.atomic_cells.specs.Compares.{Compares, GivesBack, came_out, has_swapped};
 
 use crate::compared::Compared;
 use crate::weak_at::WeakAt;
-use control_block::cell_calls::Content;
+use control_block::cell_calls::{CellAt, Content, Site};
 use control_block::cell_plays::Aimed;
 use control_block::desk::Desk;
 use control_block::domain::Domain;
 use control_block::{cell_compare_calls, handles};
+use control_word::handle::Kind;
 use control_word::{Refusal, Refused};
 use std::marker::Brand;
 use std::sync::Wait;
@@ -33,7 +34,7 @@ impl WeakAt {
         requires proper { IsProper Weak expected.now.block expected.now.place × IsProper Weak desired.block desired.place }
         requires meant { (A.cell ≡ Free (desk.old.shape.shared_cells + self.now.index)) × (A.expected ≡ handle_in desk.old Weak expected.now.block expected.now.place)
             × (A.new ≡ handle_in desk.old Weak desired.block desired.place) }
-        ensures limit { IsErr result ↔ (desk.old.held ≡ allowance_of desk.old) }
+        ensures limit { IsErr result ↔ (held_of desk.old ≡ allowance_of desk.old) }
         ensures refused { IfErr result (λ r. (r.why ≡ Refusal.Limit) × (r.back ≡ desired) × (desk.new ≡ desk.old)) }
         ensures compared { IfOk result (λ c. let h = came_out c in
             Compares desk.old (desk.old.shape.shared_cells + self.now.index) Weak expected.now.block expected.now.place desired.block desired.place (has_swapped c) h.block h.place A.weak desk.new) }
@@ -51,7 +52,10 @@ impl WeakAt {
             block: expected.block(),
             place: expected.place(),
         };
-        let cell = self.cell(domain);
+        let cell = CellAt {
+            site: Site::Free(domain.shared_cells() + self.index),
+            kind: Kind::Weak,
+        };
         match cell_compare_calls::compare::<V, A, R>(rt, domain, desk, cell, there, new) {
             Err(why) => Err(Refused {
                 why,
@@ -86,7 +90,7 @@ impl WeakAt {
         requires cell { self.now.index < desk.old.shape.weak_cells }
         requires holds { Holds desk.old Weak expected.now.block expected.now.place × Holds desk.old Weak desired.block desired.place }
         requires proper { IsProper Weak expected.now.block expected.now.place × IsProper Weak desired.block desired.place }
-        ensures limit { IsErr result ↔ (desk.old.held ≡ allowance_of desk.old) }
+        ensures limit { IsErr result ↔ (held_of desk.old ≡ allowance_of desk.old) }
         ensures refused { IfErr result (λ r. (r.why ≡ Refusal.Limit) × (r.back ≡ desired) × (desk.new ≡ desk.old)) }
         ensures compared { IfOk result (λ c. let h = came_out c in
             Compares desk.old (desk.old.shape.shared_cells + self.now.index) Weak expected.now.block expected.now.place desired.block desired.place (has_swapped c) h.block h.place false desk.new) }
@@ -114,7 +118,7 @@ impl WeakAt {
         requires cell { self.now.index < desk.old.shape.weak_cells }
         requires holds { Holds desk.old Weak expected.now.block expected.now.place × Holds desk.old Weak desired.block desired.place }
         requires proper { IsProper Weak expected.now.block expected.now.place × IsProper Weak desired.block desired.place }
-        ensures limit { IsErr result ↔ (desk.old.held ≡ allowance_of desk.old) }
+        ensures limit { IsErr result ↔ (held_of desk.old ≡ allowance_of desk.old) }
         ensures refused { IfErr result (λ r. (r.why ≡ Refusal.Limit) × (r.back ≡ desired) × (desk.new ≡ desk.old)) }
         ensures compared { IfOk result (λ c. let h = came_out c in
             Compares desk.old (desk.old.shape.shared_cells + self.now.index) Weak expected.now.block expected.now.place desired.block desired.place (has_swapped c) h.block h.place true desk.new) }

@@ -243,11 +243,3 @@ module _ {V : Type 0} where
       proper : (q : Option Block) → IsFormed (in_seat w k q p) → IsProper k q p
       proper None f = f
       proper (Some q) f = tt
-
-  -- where a free cell is
-  pub cell_there : (v : Sight V) (z : Shape) (c : Cell) (n i : ℕ) (k : Kind) → c ≡ Free n → v.shape ≡ z → IsFreeCell z n k
-      → i ≡ cell_place z.blocks n → IsCellAt v c i × (k ≡ kind_in v.shape c)
-  cell_there v z c n i k is shape free at =
-      subst (λ (y : Cell). IsCellAt v y i × (k ≡ kind_in v.shape y)) (sym is)
-      (subst (λ (y : Shape). ((n < y.shared_cells + y.weak_cells) × (i ≡ cell_place y.blocks n)) × (k ≡ kind_in y (Free n))) (sym shape)
-      ((free.0, at), free.1))
