@@ -12,6 +12,8 @@ mod member_tests;
 #[cfg(test)]
 mod race_tests;
 #[cfg(test)]
+mod refusal_tests;
+#[cfg(test)]
 mod reuse_tests;
 #[cfg(test)]
 mod row_tests;
