@@ -1,10 +1,14 @@
 -- What two calls one after the other keep.
-use Rattle.std.proofs.Common.{◌∙◌, ◌≡◌, ℕ, subst, ap, sym, ◌+◌, ◌<◌, ◌≤◌, arith}
+use Rattle.std.proofs.Common.{◌∙◌, ◌≡◌, ℕ, subst, ◌<◌}
 use Rattle.control_word.specs.declared.shape.Shape.{Shape}
-use Rattle.control_block.specs.Desks.{DeskNow, Keeps}
+use Rattle.control_block.specs.Desks.{DeskNow, Keeps, KeepsEndings, KeepsStock}
 
 module _ {V : Type 0} where
-  pub keeps_both : (d e f : DeskNow V) → Keeps d e → Keeps e f → Keeps d f
+  pub endings_both : (d e f : DeskNow V) → KeepsEndings d e → KeepsEndings e f → KeepsEndings d f
+  endings_both d e f a b n x ends =
+      let s = a n x ends in let t = b n x s.ends in record { ends = t.ends; members = λ m. t.members m ∙ s.members m }
+
+  pub keeps_both : (d e f : DeskNow V) → Keeps d e → KeepsStock e f → KeepsStock d f
   keeps_both d e f a b =
       record {
         domain = b.domain ∙ a.domain;
@@ -12,7 +16,7 @@ module _ {V : Type 0} where
         name = b.name ∙ a.name;
         allowance = b.allowance ∙ a.allowance;
         stock = b.stock ∙ a.stock;
-        endings = λ n x ends. b.endings n x (a.endings n x ends);
+        endings = endings_both d e f a.endings b.endings;
       }
 
 -- the cell is one of the domain's

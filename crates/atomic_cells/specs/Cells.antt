@@ -1,6 +1,6 @@
 -- What the calls on cells say ([util.smartptr.atomic.shared], [util.smartptr.atomic.weak]).
 use Rattle.std.specs.Prelude.{◌≡◌, ℕ, ◌+◌, Bool, true, false, Option, None, Some}
-use Rattle.control_word.specs.declared.event.Cell.TheVariants.{Free}
+use Rattle.control_word.specs.declared.event.Cell.{Cell}
 use Rattle.control_word.specs.declared.event.Event.TheVariants.{Load, Swap}
 use Rattle.control_word.specs.declared.handle.Kind.{Kind}
 use Rattle.control_word.specs.declared.handle.Kind.TheVariants.{Owner, Weak}
@@ -9,38 +9,31 @@ use Rattle.control_word.specs.declared.place.Place.{Place}
 use Rattle.control_block.specs.CellCalls.{handle_in}
 use Rattle.control_block.specs.Desks.{Adds, DeskNow}
 use Rattle.shared_handle.specs.Calls.{LeavesWeakly}
-use Rattle.shared_handle.specs.Endings.{IsLeft}
+use Rattle.shared_handle.specs.Endings.{IsGone, IsLeft}
 use Rattle.shared_handle.specs.declared.endings.Left.{Left}
-use Rattle.shared_handle.specs.declared.endings.Left.TheVariants.{Empty, Last, Others}
-
--- what is told of a weak pointer that left: whether it was an empty one (own)
-abbrev pub IsGone : {V : Type 0} → Option Block → Left V → Type 0
-IsGone b Empty = b ≡ None
-IsGone b Others = (c : Block) × (b ≡ Some c)
-IsGone b (Last x) = ⊥
 
 module _ {V : Type 0} where
-  -- cell n holds this handle now, and the desk has a copy
-  abbrev pub Loads : DeskNow V → ℕ → Kind → Option Block → Option Place → DeskNow V → Type 0
-  Loads d n k b p e = Adds d (Load (Free n) (handle_in e k b p)) e
+  -- cell c holds this handle now, and the desk has a copy
+  abbrev pub Loads : DeskNow V → Cell → Kind → Option Block → Option Place → DeskNow V → Type 0
+  Loads d c k b p e = Adds d (Load c (handle_in e k b p)) e
 
-  -- the desk's handle (b, p) went into cell n, and the cell's, (c, q), came out
-  abbrev pub Exchanges : DeskNow V → ℕ → Kind → Option Block → Option Place → Option Block → Option Place → DeskNow V → Type 0
-  Exchanges d n k b p c q e = Adds d (Swap (Free n) (handle_in d k b p) (handle_in e k c q)) e
+  -- the desk's handle (b, p) went into cell c, and the cell's, (a, q), came out
+  abbrev pub Exchanges : DeskNow V → Cell → Kind → Option Block → Option Place → Option Block → Option Place → DeskNow V → Type 0
+  Exchanges d c k b p a q e = Adds d (Swap c (handle_in d k b p) (handle_in e k a q)) e
 
   -- the same, and then what came out left
-  pub record Stores (d : DeskNow V) (n : ℕ) (b : Option Block) (p : Option Place) (left : Left V) (e : DeskNow V) : Type 0 where
+  pub record Stores (d : DeskNow V) (c : Cell) (b : Option Block) (p : Option Place) (left : Left V) (e : DeskNow V) : Type 0 where
     pub block : Option Block
     pub place : Option Place
     pub between : DeskNow V
-    pub exchanges : Exchanges d n Owner b p block place between
+    pub exchanges : Exchanges d c Owner b p block place between
     pub leaves : IsLeft between block place left e
 
-  pub record StoresWeakly (d : DeskNow V) (n : ℕ) (b : Option Block) (p : Option Place) (left : Left V) (e : DeskNow V) : Type 0 where
+  pub record StoresWeakly (d : DeskNow V) (c : Cell) (b : Option Block) (p : Option Place) (left : Left V) (e : DeskNow V) : Type 0 where
     pub block : Option Block
     pub place : Option Place
     pub between : DeskNow V
-    pub exchanges : Exchanges d n Weak b p block place between
+    pub exchanges : Exchanges d c Weak b p block place between
     pub vacant : Bool
     pub leaves : LeavesWeakly between block place vacant e
     pub told : IsGone block left

@@ -1,6 +1,6 @@
 -- What a compare-and-swap says ([util.smartptr.atomic.shared], [util.smartptr.atomic.weak]).
 use Rattle.std.specs.Prelude.{◌≡◌, ℕ, Bool, true, false, Option}
-use Rattle.control_word.specs.declared.event.Cell.TheVariants.{Free}
+use Rattle.control_word.specs.declared.event.Cell.{Cell}
 use Rattle.control_word.specs.declared.event.Event.TheVariants.{Compare}
 use Rattle.control_word.specs.declared.handle.Kind.{Kind}
 use Rattle.control_word.specs.declared.place.Block.{Block}
@@ -25,8 +25,8 @@ GivesBack d (Swapped old) = Unit {0}
 GivesBack d (Differs held desired) = desired ≡ d
 
 module _ {V : Type 0} where
-  -- cell n was compared with (eb, ep): where it held an equivalent pointer, (b, p) went in, and (c, q) is what it held. The
+  -- cell at was compared with (eb, ep): where it held an equivalent pointer, (b, p) went in, and (c, q) is what it held. The
   -- weak form may differ on an equivalent one
-  abbrev pub Compares : DeskNow V → ℕ → Kind → Option Block → Option Place → Option Block → Option Place → Bool → Option Block → Option Place → Bool
+  abbrev pub Compares : DeskNow V → Cell → Kind → Option Block → Option Place → Option Block → Option Place → Bool → Option Block → Option Place → Bool
       → DeskNow V → Type 0
-  Compares d n k eb ep b p swapped c q weak e = Adds d (Compare (Free n) (handle_in d k eb ep) (handle_in d k b p) (handle_in e k c q) swapped weak) e
+  Compares d at k eb ep b p swapped c q weak e = Adds d (Compare at (handle_in d k eb ep) (handle_in d k b p) (handle_in e k c q) swapped weak) e

@@ -26,13 +26,13 @@ fn compare<R: Wait>(
     rt: &R,
     domain: &Domain<u64>,
     desk: &mut Desk<u64>,
-    at: SharedAt,
+    at: u32,
     weak: bool,
     expected: &Shared,
     desired: Shared,
 ) -> Option<Found>
     requires domain { Belongs desk.old domain.now }
-    requires cell { at.index < desk.old.shape.shared_cells }
+    requires cell { at < desk.old.shape.shared_cells }
     requires desired { Holds desk.old Owner desired.block desired.place }
     requires expected { Holds desk.old Owner expected.now.block expected.now.place }
     requires real { (b : Block) × (desired.block ≡ Some b) }
@@ -41,9 +41,9 @@ fn compare<R: Wait>(
 {
     let block = desired.block();
     let compared = if weak {
-        at.compare_exchange_weak(rt, domain, desk, expected, desired)
+        SharedAt::free(at).compare_exchange_weak(rt, domain, desk, expected, desired)
     } else {
-        at.compare_exchange_strong(rt, domain, desk, expected, desired)
+        SharedAt::free(at).compare_exchange_strong(rt, domain, desk, expected, desired)
     };
     match compared {
         Ok(Compared::Swapped(old)) => {
@@ -73,7 +73,7 @@ fn compare_twice<R: Wait>(
     rt: &R,
     domain: &Domain<u64>,
     desk: &mut Desk<u64>,
-    at: SharedAt,
+    at: u32,
     weak: bool,
 ) -> Option<
     (
@@ -84,7 +84,7 @@ fn compare_twice<R: Wait>(
     ),
 >
     requires domain { Belongs desk.old domain.now }
-    requires cell { at.index < desk.old.shape.shared_cells }
+    requires cell { at < desk.old.shape.shared_cells }
     ensures desk { IsSameDesk desk.old desk.new }
 {
     let x = object(domain, desk, 5)?;
@@ -117,13 +117,13 @@ fn compare_weakly<R: Wait>(
     rt: &R,
     domain: &Domain<u64>,
     desk: &mut Desk<u64>,
-    at: WeakAt,
+    at: u32,
     weak: bool,
     expected: &handles::Weak,
     desired: handles::Weak,
 ) -> Option<bool>
     requires domain { Belongs desk.old domain.now }
-    requires cell { at.index < desk.old.shape.weak_cells }
+    requires cell { at < desk.old.shape.weak_cells }
     requires desired { Holds desk.old Weak desired.block desired.place }
     requires expected { Holds desk.old Weak expected.now.block expected.now.place }
     requires real { (b : Block) × (desired.block ≡ Some b) }
@@ -131,9 +131,9 @@ fn compare_weakly<R: Wait>(
     ensures bag { bag_of desk.new ≡ without_handle Weak desired.block desired.place (bag_of desk.old) }
 {
     let compared = if weak {
-        at.compare_exchange_weak(rt, domain, desk, expected, desired)
+        WeakAt::free(at).compare_exchange_weak(rt, domain, desk, expected, desired)
     } else {
-        at.compare_exchange_strong(rt, domain, desk, expected, desired)
+        WeakAt::free(at).compare_exchange_strong(rt, domain, desk, expected, desired)
     };
     match compared {
         Ok(Compared::Swapped(old)) => {
@@ -158,10 +158,10 @@ fn compare_watchers<R: Wait>(
     rt: &R,
     domain: &Domain<u64>,
     desk: &mut Desk<u64>,
-    at: WeakAt,
+    at: u32,
 ) -> Option<(Option<bool>, Option<bool>)>
     requires domain { Belongs desk.old domain.now }
-    requires cell { at.index < desk.old.shape.weak_cells }
+    requires cell { at < desk.old.shape.weak_cells }
     ensures desk { IsSameDesk desk.old desk.new }
 {
     let x = object(domain, desk, 5)?;
@@ -190,7 +190,7 @@ fn a_weak_cell_is_compared(rt: HostRuntime) -> Result<(), Fail> {
     let (domain, mut desk) = open::<u64>(rt.alloc(), shape(1, 1, 1, 8))
         .ok()
         .ok_or("memory")?;
-    let seen = compare_watchers(&rt, &domain, &mut desk, WeakAt::free(0));
+    let seen = compare_watchers(&rt, &domain, &mut desk, 0);
     shut(domain, desk);
     assert_eq!(rt; seen, Some((Some(false), Some(true))));
     Ok(())
@@ -201,7 +201,7 @@ fn a_compare_goes_by_place_and_object(rt: HostRuntime) -> Result<(), Fail> {
     let (domain, mut desk) = open::<u64>(rt.alloc(), shape(2, 1, 1, 8))
         .ok()
         .ok_or("memory")?;
-    let at = SharedAt::free(0);
+    let at: u32 = 0;
     let strong = compare_twice(&rt, &domain, &mut desk, at, false);
     let weak = compare_twice(&rt, &domain, &mut desk, at, true);
     shut(domain, desk);

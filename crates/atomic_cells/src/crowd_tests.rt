@@ -4,7 +4,6 @@ ghost use denote.Param.Send.{IsSync};
 ghost use Rattle.control_block.specs.CellCalls.{Belongs};
 ghost use Rattle.control_block.specs.Desks.{IsSameDesk, stock_of};
 
-use crate::SharedAt;
 use crate::race_tests::{pair, part};
 use crate::tests::shape;
 use control_block::census::close;
@@ -21,12 +20,12 @@ fn both_pairs<R: Threads + Wait + Sync>(
     rt: &R,
     alloc: Global,
     domain: &Domain<u64>,
-    at: SharedAt,
+    at: u32,
     one: &mut Desk<u64>,
     two: &mut Desk<u64>,
 ) -> u32
     requires domain { Belongs one.old domain.now × Belongs two.old domain.now }
-    requires cell { at.index < domain.now.shape.shared_cells }
+    requires cell { at < domain.now.shape.shared_cells }
     requires stock { (1 ≤ length (stock_of one.old)) × (1 ≤ length (stock_of two.old)) }
     ensures one { IsSameDesk one.old one.new }
     ensures two { IsSameDesk two.old two.new }
@@ -34,11 +33,11 @@ fn both_pairs<R: Threads + Wait + Sync>(
     let (a, b) = join_mut(
         rt,
         &mut || -> u32
-            requires { IsSync R.row × Belongs one.now domain.now × (at.index < domain.now.shape.shared_cells) × (1 ≤ length (stock_of one.now)) }
+            requires { IsSync R.row × Belongs one.now domain.now × (at < domain.now.shape.shared_cells) × (1 ≤ length (stock_of one.now)) }
             ensures { IsSameDesk one.entry.now one.exit.now }
         { pair(rt, alloc, domain, at, one) },
         &mut || -> u32
-            requires { IsSync R.row × Belongs two.now domain.now × (at.index < domain.now.shape.shared_cells) × (1 ≤ length (stock_of two.now)) }
+            requires { IsSync R.row × Belongs two.now domain.now × (at < domain.now.shape.shared_cells) × (1 ≤ length (stock_of two.now)) }
             ensures { IsSameDesk two.entry.now two.exit.now }
         { pair(rt, alloc, domain, at, two) },
     );
@@ -50,11 +49,11 @@ fn four<R: Threads + Wait + Sync>(
     rt: &R,
     alloc: Global,
     domain: &Domain<u64>,
-    at: SharedAt,
+    at: u32,
     one: &mut Desk<u64>,
 ) -> u32
     requires domain { Belongs one.old domain.now }
-    requires cell { at.index < domain.now.shape.shared_cells }
+    requires cell { at < domain.now.shape.shared_cells }
     ensures one { IsSameDesk one.old one.new }
 {
     if one.stock() < 4 {
@@ -74,7 +73,7 @@ fn four_threads_leave_one_owner(rt: HostRuntime) -> Result<(), Fail> {
     let (domain, mut desk) = open::<u64>(rt.alloc(), shape(4, 1, 0, 16))
         .ok()
         .ok_or("memory")?;
-    let answered = four(&rt, rt.alloc(), &domain, SharedAt::free(0), &mut desk);
+    let answered = four(&rt, rt.alloc(), &domain, 0, &mut desk);
     let mut taken: u32 = 0;
     let mut owners: u32 = 0;
     let mut weaks: u32 = 0;

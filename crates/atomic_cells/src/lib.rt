@@ -15,6 +15,7 @@ mod reuse_tests;
 mod row_tests;
 mod shared_at;
 mod shared_compares;
+mod sites;
 #[cfg(test)]
 mod tests;
 mod weak_at;
@@ -22,4 +23,5 @@ mod weak_compares;
 
 pub use compared::Compared;
 pub use shared_at::SharedAt;
+pub use sites::SharedMember;
 pub use weak_at::WeakAt;

@@ -6,7 +6,6 @@ ghost use Rattle.control_block.specs.CellCalls.{Belongs};
 ghost use Rattle.control_block.specs.Desks.{IsSameDesk, allowance_of, bag_of, stock_of};
 ghost use Rattle.shared_handle.specs.Calls.{Holds};
 
-use crate::SharedAt;
 use crate::tests::{Was, drop_owner, exchange_copy, object, put_copy, shape, tell};
 use control_block::census::close;
 use control_block::desk::Desk;
@@ -23,11 +22,11 @@ fn round<R: Wait>(
     rt: &R,
     domain: &Domain<u64>,
     desk: &mut Desk<u64>,
-    at: SharedAt,
+    at: u32,
     owner: &Shared,
 ) -> u32
     requires domain { Belongs desk.old domain.now }
-    requires cell { at.index < desk.old.shape.shared_cells }
+    requires cell { at < desk.old.shape.shared_cells }
     requires holds { Holds desk.old Owner owner.now.block owner.now.place }
     requires real { (b : Block) × (owner.now.block ≡ Some b) }
     ensures desk { IsSameDesk desk.old desk.new }
@@ -44,11 +43,11 @@ fn work<R: Wait>(
     rt: &R,
     domain: &Domain<u64>,
     desk: &mut Desk<u64>,
-    at: SharedAt,
+    at: u32,
     owner: &Shared,
 ) -> u32
     requires domain { Belongs desk.old domain.now }
-    requires cell { at.index < desk.old.shape.shared_cells }
+    requires cell { at < desk.old.shape.shared_cells }
     requires holds { Holds desk.old Owner owner.now.block owner.now.place }
     requires real { (b : Block) × (owner.now.block ≡ Some b) }
     ensures desk { IsSameDesk desk.old desk.new }
@@ -65,14 +64,14 @@ fn work<R: Wait>(
 fn both<R: Threads + Wait + Sync>(
     rt: &R,
     domain: &Domain<u64>,
-    at: SharedAt,
+    at: u32,
     one: &mut Desk<u64>,
     x: &Shared,
     two: &mut Desk<u64>,
     y: &Shared,
 ) -> u32
     requires domain { Belongs one.old domain.now × Belongs two.old domain.now }
-    requires cell { at.index < domain.now.shape.shared_cells }
+    requires cell { at < domain.now.shape.shared_cells }
     requires holds { Holds one.old Owner x.now.block x.now.place × Holds two.old Owner y.now.block y.now.place }
     requires real { ((b : Block) × (x.now.block ≡ Some b)) × ((b : Block) × (y.now.block ≡ Some b)) }
     ensures one { IsSameDesk one.old one.new × (bag_of one.new ≡ bag_of one.old) }
@@ -90,12 +89,12 @@ fn both<R: Threads + Wait + Sync>(
 fn both_with_objects<R: Threads + Wait + Sync>(
     rt: &R,
     domain: &Domain<u64>,
-    at: SharedAt,
+    at: u32,
     one: &mut Desk<u64>,
     two: &mut Desk<u64>,
 ) -> u32
     requires domain { Belongs one.old domain.now × Belongs two.old domain.now }
-    requires cell { at.index < domain.now.shape.shared_cells }
+    requires cell { at < domain.now.shape.shared_cells }
     ensures one { IsSameDesk one.old one.new }
     ensures two { IsSameDesk two.old two.new }
 {
@@ -146,11 +145,11 @@ pub(crate) fn pair<R: Threads + Wait + Sync>(
     rt: &R,
     alloc: Global,
     domain: &Domain<u64>,
-    at: SharedAt,
+    at: u32,
     one: &mut Desk<u64>,
 ) -> u32
     requires domain { Belongs one.old domain.now }
-    requires cell { at.index < domain.now.shape.shared_cells }
+    requires cell { at < domain.now.shape.shared_cells }
     requires stock { 1 ≤ length (stock_of one.old) }
     ensures one { IsSameDesk one.old one.new }
 {
@@ -168,7 +167,7 @@ fn two_threads_leave_one_owner(rt: HostRuntime) -> Result<(), Fail> {
     let (domain, mut desk) = open::<u64>(rt.alloc(), shape(2, 1, 0, 8))
         .ok()
         .ok_or("memory")?;
-    let answered = pair(&rt, rt.alloc(), &domain, SharedAt::free(0), &mut desk);
+    let answered = pair(&rt, rt.alloc(), &domain, 0, &mut desk);
     let mut taken: u32 = 0;
     let mut owners: u32 = 0;
     let mut weaks: u32 = 0;

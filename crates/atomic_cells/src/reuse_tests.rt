@@ -93,12 +93,12 @@ fn compare_with_empty<R: Wait>(
     rt: &R,
     domain: &Domain<u64>,
     desk: &mut Desk<u64>,
-    at: SharedAt,
+    at: u32,
     e: &Shared,
     b: &Shared,
 ) -> Option<(bool, bool, u32)>
     requires domain { Belongs desk.old domain.now }
-    requires cell { at.index < desk.old.shape.shared_cells }
+    requires cell { at < desk.old.shape.shared_cells }
     requires empty { e.now.block ≡ None }
     requires real { (x : Block) × (b.now.block ≡ Some x) }
     requires bag { bag_of desk.old ≡ with_handle Owner b.now.block b.now.place [] }
@@ -110,7 +110,7 @@ fn compare_with_empty<R: Wait>(
     let Ok(copy) = share(domain, desk, b) else {
         return None;
     };
-    match at.compare_exchange_strong(rt, domain, desk, e, copy) {
+    match SharedAt::free(at).compare_exchange_strong(rt, domain, desk, e, copy) {
         Ok(Compared::Differs { held, desired }) => {
             let (same, owners) = count_between(domain, desk, held, desired, b);
             Some((true, same, owners))
@@ -134,11 +134,11 @@ fn use_again<R: Wait>(
     rt: &R,
     domain: &Domain<u64>,
     desk: &mut Desk<u64>,
-    at: SharedAt,
+    at: u32,
     e: Shared,
 ) -> Option<Again>
     requires domain { Belongs desk.old domain.now }
-    requires cell { at.index < desk.old.shape.shared_cells }
+    requires cell { at < desk.old.shape.shared_cells }
     requires empty { e.block ≡ None }
     requires counted { (bag_of desk.old ≡ []) × (desk.old.held ≡ 1) }
     ensures desk { IsSameDesk desk.old desk.new }
@@ -160,10 +160,10 @@ fn use_a_block_twice<R: Wait>(
     rt: &R,
     domain: &Domain<u64>,
     desk: &mut Desk<u64>,
-    at: SharedAt,
+    at: u32,
 ) -> Option<(bool, Was, Again)>
     requires domain { Belongs desk.old domain.now }
-    requires cell { at.index < desk.old.shape.shared_cells }
+    requires cell { at < desk.old.shape.shared_cells }
     requires fresh { (bag_of desk.old ≡ []) × (desk.old.held ≡ 0) }
     ensures desk { IsSameDesk desk.old desk.new }
 {
@@ -177,7 +177,7 @@ fn a_pointer_to_a_block_that_is_used_again_owns_nothing(rt: HostRuntime) -> Resu
     let (domain, mut desk) = open::<u64>(rt.alloc(), shape(1, 1, 0, 8))
         .ok()
         .ok_or("memory")?;
-    let seen = use_a_block_twice(&rt, &domain, &mut desk, SharedAt::free(0));
+    let seen = use_a_block_twice(&rt, &domain, &mut desk, 0);
     shut(domain, desk);
     assert_eq!(rt;
         seen,

@@ -19,13 +19,13 @@ use std::sync::Wait;
 use std::test::Fail;
 
 // A new object goes into the cell, and what comes out leaves: what was left of it.
-fn exchange_new(domain: &Domain<u64>, desk: &mut Desk<u64>, at: SharedAt, field: u64) -> Option<Was>
+fn exchange_new(domain: &Domain<u64>, desk: &mut Desk<u64>, at: u32, field: u64) -> Option<Was>
     requires domain { Belongs desk.old domain.now }
-    requires cell { at.index < desk.old.shape.shared_cells }
+    requires cell { at < desk.old.shape.shared_cells }
     ensures desk { IsSameDesk desk.old desk.new }
 {
     let owner = object(domain, desk, field)?;
-    let old = at.exchange(domain, desk, owner);
+    let old = SharedAt::free(at).exchange(domain, desk, owner);
     Some(drop_owner(domain, desk, old))
 }
 
@@ -34,12 +34,12 @@ fn exchange_in_part(
     alloc: Global,
     domain: &Domain<u64>,
     desk: &mut Desk<u64>,
-    at: SharedAt,
+    at: u32,
     z: &Shared,
     x: &Shared,
 ) -> Option<Was>
     requires domain { Belongs desk.old domain.now }
-    requires cell { at.index < desk.old.shape.shared_cells }
+    requires cell { at < desk.old.shape.shared_cells }
     requires real { ((b : Block) × (z.now.block ≡ Some b)) × ((b : Block) × (x.now.block ≡ Some b)) }
     requires one { Holds desk.old Owner x.now.block x.now.place }
     requires both { AreIn (handle Owner (number_of z.now.block) z.now.place ∷ (handle Owner (number_of x.now.block) x.now.place ∷ [])) (bag_of desk.old) }
@@ -64,12 +64,12 @@ fn tell_and_leave<R: Wait>(
     rt: &R,
     domain: &Domain<u64>,
     desk: &mut Desk<u64>,
-    at: SharedAt,
+    at: u32,
     z: Shared,
     x: Shared,
 ) -> After
     requires domain { Belongs desk.old domain.now }
-    requires cell { at.index < desk.old.shape.shared_cells }
+    requires cell { at < desk.old.shape.shared_cells }
     requires real { ((b : Block) × (z.block ≡ Some b)) × ((b : Block) × (x.block ≡ Some b)) }
     requires one { Holds desk.old Owner x.block x.place }
     requires both { AreIn (handle Owner (number_of z.block) z.place ∷ (handle Owner (number_of x.block) x.place ∷ [])) (bag_of desk.old) }
@@ -91,12 +91,12 @@ fn replace_and_leave<R: Wait>(
     alloc: Global,
     domain: &Domain<u64>,
     desk: &mut Desk<u64>,
-    at: SharedAt,
+    at: u32,
     z: Shared,
     x: Shared,
 ) -> (Option<Was>, After)
     requires domain { Belongs desk.old domain.now }
-    requires cell { at.index < desk.old.shape.shared_cells }
+    requires cell { at < desk.old.shape.shared_cells }
     requires real { ((b : Block) × (z.block ≡ Some b)) × ((b : Block) × (x.block ≡ Some b)) }
     requires one { Holds desk.old Owner x.block x.place }
     requires both { AreIn (handle Owner (number_of z.block) z.place ∷ (handle Owner (number_of x.block) x.place ∷ [])) (bag_of desk.old) }
@@ -117,10 +117,10 @@ fn replace_elsewhere<R: Wait>(
     alloc: Global,
     domain: &Domain<u64>,
     desk: &mut Desk<u64>,
-    at: SharedAt,
+    at: u32,
 ) -> Option<(Before, Option<Was>, After)>
     requires domain { Belongs desk.old domain.now }
-    requires cell { at.index < desk.old.shape.shared_cells }
+    requires cell { at < desk.old.shape.shared_cells }
     ensures desk { IsSameDesk desk.old desk.new }
 {
     let x = object(domain, desk, 5)?;
@@ -129,7 +129,7 @@ fn replace_elsewhere<R: Wait>(
         return None;
     };
     let stored = put(domain, desk, at, y);
-    let Ok(z) = at.load(rt, domain, desk) else {
+    let Ok(z) = SharedAt::free(at).load(rt, domain, desk) else {
         drop_owner(domain, desk, x);
         return None;
     };
@@ -156,7 +156,7 @@ fn a_part_replaces_the_object(rt: HostRuntime) -> Result<(), Fail> {
     let (domain, mut desk) = open::<u64>(rt.alloc(), shape(4, 1, 0, 8))
         .ok()
         .ok_or("memory")?;
-    let seen = replace_elsewhere(&rt, rt.alloc(), &domain, &mut desk, SharedAt::free(0));
+    let seen = replace_elsewhere(&rt, rt.alloc(), &domain, &mut desk, 0);
     shut(domain, desk);
     let stored = (Was::Empty, Some(5), 3);
     assert_eq!(rt; seen, Some((stored, Some(Was::Others), (Some(6), 2))));

@@ -1,42 +1,66 @@
 //! Cells of shared pointers ([util.smartptr.atomic.shared]).
-ghost use Rattle.std.specs.Prelude.{◌≡◌, ◌↔◌, ◌+◌, ◌<◌, IfErr, IfOk, IsErr, OnOk};
+ghost use Rattle.std.specs.Prelude.{◌≡◌, ◌↔◌, ◌+◌, IfErr, IfOk, IsErr, OnOk};
 ghost use Rattle.control_word.specs.declared.handle.Kind.TheVariants.{Owner};
 ghost use Rattle.control_block.specs.CellCalls.{Belongs};
-ghost use Rattle.control_block.specs.Desks.{Keeps, allowance_of, bag_of};
+ghost use Rattle.control_block.specs.Desks.{Keeps, KeepsStock, allowance_of, bag_of, endings_of, held_of};
 ghost use Rattle.shared_handle.specs.Calls.{Holds, with_handle, without_handle};
+ghost use Rattle.shared_handle.specs.Endings.{more_ending};
 ghost use Rattle.atomic_cells.specs.Cells.{Exchanges, Loads, Stores};
+ghost use Rattle.atomic_cells.specs.Sites.{IsMember, IsOpen, shared_cell, shared_site};
+ghost use Rattle.atomic_cells.specs.declared.shared_at.SharedAt.{SharedAt};
+ghost use Rattle.atomic_cells.specs.declared.sites.SharedSite.TheVariants as site;
 
-use control_block::cell_calls::{self, Content, FreeCell};
+use crate::sites::{self, SharedMember, SharedSite};
+use control_block::cell_calls::{self, CellAt, Content};
 use control_block::desk::Desk;
 use control_block::domain::Domain;
 use control_word::Refusal;
 use control_word::handle::Kind;
 use shared_handle::{Left, Shared, release};
-use std::marker::Brand;
+use std::marker::{Brand, PhantomData};
 use std::sync::Wait;
 
-/// A cell that holds a shared pointer. It begins with an empty one.
+/// A cell that holds a shared pointer: a free one, or a member of an object, which keeps the borrow of a handle that owns
+/// the object. It begins with an empty one. Condition of its calls: a free one is of the domain's shape, and the handle of a
+/// member is the desk's.
 #[derive(Clone, Copy, Drop)]
-pub struct SharedAt {
-    index: u32,
+pub struct SharedAt<'a> {
+    pub(crate) site: SharedSite,
+    owner: PhantomData<&'a ()>,
 }
 
-impl SharedAt {
-    /// A free cell, by its number from 0 among the free shared cells (own). Condition of its calls: the domain's shape has
-    /// that cell.
-    pub fn free(index: u32) -> SharedAt
-        ensures { result.index ≡ index }
+impl<'a> SharedAt<'a> {
+    /// A free cell, by its number from 0 among the free shared cells (own).
+    pub fn free(index: u32) -> SharedAt<'a>
+        ensures { result.site ≡ site.Free index }
     {
-        SharedAt { index }
+        SharedAt {
+            site: SharedSite::Free(index),
+            owner: PhantomData,
+        }
     }
 
-    pub(crate) fn cell(&self) -> FreeCell
-        ensures { (result.number ≡ self.now.index) × (result.kind ≡ Owner) }
+    /// A member of the object that the handle owns and points into (own). It is refused `Null` just where the handle's place
+    /// is null, and `Outside` just where that isn't in the object that it owns.
+    pub fn member(handle: &'a Shared, which: SharedMember) -> Result<SharedAt<'a>, Refusal>
+        ensures { IsMember (λ c (at : SharedAt). at.site ≡ site.Of c which) handle.now.block handle.now.place result }
     {
-        FreeCell {
-            number: self.index,
-            kind: Kind::Owner,
+        let Some(place) = handle.place() else {
+            return Err(Refusal::Null);
+        };
+        if handle.block() != Some(place.block) {
+            return Err(Refusal::Outside);
         }
+        Ok(SharedAt {
+            site: SharedSite::Of(place.block, which),
+            owner: PhantomData,
+        })
+    }
+
+    pub(crate) fn cell(&self) -> CellAt
+        ensures { (result.site ≡ shared_site self.now.site) × (result.kind ≡ Owner) }
+    {
+        sites::shared_cell(self.site)
     }
 
     /// A copy of what the cell holds ([util.smartptr.atomic.shared]), from its one step on the cell. It tries again while
@@ -48,10 +72,10 @@ impl SharedAt {
         desk: &mut Desk<V>,
     ) -> Result<Shared, Refusal>
         requires domain { Belongs desk.old domain.now }
-        requires cell { self.now.index < desk.old.shape.shared_cells }
-        ensures limit { IsErr result ↔ (desk.old.held ≡ allowance_of desk.old) }
+        requires cell { IsOpen desk.old self.now.site }
+        ensures limit { IsErr result ↔ (held_of desk.old ≡ allowance_of desk.old) }
         ensures refused { IfErr result (λ why. (why ≡ Refusal.Limit) × (desk.new ≡ desk.old)) }
-        ensures event { IfOk result (λ h. Loads desk.old self.now.index Owner h.block h.place desk.new) }
+        ensures event { IfOk result (λ h. Loads desk.old (shared_cell desk.old self.now.site) Owner h.block h.place desk.new) }
         ensures bag { IfOk result (λ h. bag_of desk.new ≡ with_handle Owner h.block h.place (bag_of desk.old)) }
         ensures held { OnOk result (desk.new.held ≡ desk.old.held + 1) }
         ensures holds { IfOk result (λ h. Holds desk.new Owner h.block h.place) }
@@ -70,9 +94,9 @@ impl SharedAt {
         handle: Shared,
     ) -> Shared
         requires domain { Belongs desk.old domain.now }
-        requires cell { self.now.index < desk.old.shape.shared_cells }
+        requires cell { IsOpen desk.old self.now.site }
         requires holds { Holds desk.old Owner handle.block handle.place }
-        ensures event { Exchanges desk.old self.now.index Owner handle.block handle.place result.block result.place desk.new }
+        ensures event { Exchanges desk.old (shared_cell desk.old self.now.site) Owner handle.block handle.place result.block result.place desk.new }
         ensures bag { bag_of desk.new ≡ with_handle Owner result.block result.place (without_handle Owner handle.block handle.place (bag_of desk.old)) }
         ensures held { desk.new.held ≡ desk.old.held }
         ensures holds { Holds desk.new Owner result.block result.place }
@@ -98,12 +122,13 @@ impl SharedAt {
         handle: Shared,
     ) -> Left<V>
         requires domain { Belongs desk.old domain.now }
-        requires cell { self.now.index < desk.old.shape.shared_cells }
+        requires cell { IsOpen desk.old self.now.site }
         requires holds { Holds desk.old Owner handle.block handle.place }
-        ensures stored { Stores desk.old self.now.index handle.block handle.place result desk.new }
+        ensures stored { Stores desk.old (shared_cell desk.old self.now.site) handle.block handle.place result desk.new }
         ensures bag { bag_of desk.new ≡ without_handle Owner handle.block handle.place (bag_of desk.old) }
         ensures held { desk.new.held + 1 ≡ desk.old.held }
-        ensures keeps { Keeps desk.old desk.new }
+        ensures keeps { KeepsStock desk.old desk.new }
+        ensures count { endings_of desk.new ≡ endings_of desk.old + more_ending result }
     {
         let old = self.exchange(domain, desk, handle);
         release(domain, desk, old)

@@ -1,11 +1,11 @@
 //! Compare-and-swap of cells of shared pointers ([util.smartptr.atomic.shared]).
-ghost use Rattle.std.specs.Prelude.{◌≡◌, ◌↔◌, ◌+◌, ◌<◌, cond, true, false, IfErr, IfOk, IsErr, OnOk};
-ghost use Rattle.control_word.specs.declared.event.Cell.TheVariants.{Free};
+ghost use Rattle.std.specs.Prelude.{◌≡◌, ◌↔◌, ◌+◌, cond, true, false, IfErr, IfOk, IsErr, OnOk};
 ghost use Rattle.control_word.specs.declared.handle.Kind.TheVariants.{Owner};
 ghost use Rattle.control_block.specs.CellCalls.{Belongs, handle_in};
-ghost use Rattle.control_block.specs.Desks.{Keeps, allowance_of, bag_of};
+ghost use Rattle.control_block.specs.Desks.{Keeps, allowance_of, bag_of, held_of};
 ghost use Rattle.shared_handle.specs.Calls.{Holds, with_handle, without_handle};
 ghost use Rattle.atomic_cells.specs.Compares.{Compares, GivesBack, came_out, has_swapped};
+ghost use Rattle.atomic_cells.specs.Sites.{IsOpen, shared_cell};
 
 use crate::compared::Compared;
 use crate::shared_at::SharedAt;
@@ -20,7 +20,7 @@ use shared_handle::Shared;
 use std::marker::Brand;
 use std::sync::Wait;
 
-impl SharedAt {
+impl<'a> SharedAt<'a> {
     fn compare_as<V: Drop + Send, A: Aimed, R: Wait>(
         &self,
         rt: &R,
@@ -30,14 +30,14 @@ impl SharedAt {
         desired: Shared,
     ) -> Result<Compared<Shared>, Refused<Shared>>
         requires domain { Belongs desk.old domain.now }
-        requires cell { self.now.index < desk.old.shape.shared_cells }
+        requires cell { IsOpen desk.old self.now.site }
         requires holds { Holds desk.old Owner expected.now.block expected.now.place × Holds desk.old Owner desired.block desired.place }
-        requires meant { (A.cell ≡ Free self.now.index) × (A.expected ≡ handle_in desk.old Owner expected.now.block expected.now.place)
+        requires meant { (A.cell ≡ shared_cell desk.old self.now.site) × (A.expected ≡ handle_in desk.old Owner expected.now.block expected.now.place)
             × (A.new ≡ handle_in desk.old Owner desired.block desired.place) }
-        ensures limit { IsErr result ↔ (desk.old.held ≡ allowance_of desk.old) }
+        ensures limit { IsErr result ↔ (held_of desk.old ≡ allowance_of desk.old) }
         ensures refused { IfErr result (λ r. (r.why ≡ Refusal.Limit) × (r.back ≡ desired) × (desk.new ≡ desk.old)) }
         ensures compared { IfOk result (λ c. let h = came_out c in
-            Compares desk.old self.now.index Owner expected.now.block expected.now.place desired.block desired.place (has_swapped c) h.block h.place A.weak desk.new) }
+            Compares desk.old (shared_cell desk.old self.now.site) Owner expected.now.block expected.now.place desired.block desired.place (has_swapped c) h.block h.place A.weak desk.new) }
         ensures back { IfOk result (λ c. GivesBack desired c) }
         ensures bag { IfOk result (λ c. bag_of desk.new ≡ with_handle Owner (came_out c).block (came_out c).place
             (cond (has_swapped c) (without_handle Owner desired.block desired.place (bag_of desk.old)) (bag_of desk.old))) }
@@ -88,12 +88,12 @@ impl SharedAt {
         desired: Shared,
     ) -> Result<Compared<Shared>, Refused<Shared>>
         requires domain { Belongs desk.old domain.now }
-        requires cell { self.now.index < desk.old.shape.shared_cells }
+        requires cell { IsOpen desk.old self.now.site }
         requires holds { Holds desk.old Owner expected.now.block expected.now.place × Holds desk.old Owner desired.block desired.place }
-        ensures limit { IsErr result ↔ (desk.old.held ≡ allowance_of desk.old) }
+        ensures limit { IsErr result ↔ (held_of desk.old ≡ allowance_of desk.old) }
         ensures refused { IfErr result (λ r. (r.why ≡ Refusal.Limit) × (r.back ≡ desired) × (desk.new ≡ desk.old)) }
         ensures compared { IfOk result (λ c. let h = came_out c in
-            Compares desk.old self.now.index Owner expected.now.block expected.now.place desired.block desired.place (has_swapped c) h.block h.place false desk.new) }
+            Compares desk.old (shared_cell desk.old self.now.site) Owner expected.now.block expected.now.place desired.block desired.place (has_swapped c) h.block h.place false desk.new) }
         ensures back { IfOk result (λ c. GivesBack desired c) }
         ensures bag { IfOk result (λ c. bag_of desk.new ≡ with_handle Owner (came_out c).block (came_out c).place
             (cond (has_swapped c) (without_handle Owner desired.block desired.place (bag_of desk.old)) (bag_of desk.old))) }
@@ -114,12 +114,12 @@ impl SharedAt {
         desired: Shared,
     ) -> Result<Compared<Shared>, Refused<Shared>>
         requires domain { Belongs desk.old domain.now }
-        requires cell { self.now.index < desk.old.shape.shared_cells }
+        requires cell { IsOpen desk.old self.now.site }
         requires holds { Holds desk.old Owner expected.now.block expected.now.place × Holds desk.old Owner desired.block desired.place }
-        ensures limit { IsErr result ↔ (desk.old.held ≡ allowance_of desk.old) }
+        ensures limit { IsErr result ↔ (held_of desk.old ≡ allowance_of desk.old) }
         ensures refused { IfErr result (λ r. (r.why ≡ Refusal.Limit) × (r.back ≡ desired) × (desk.new ≡ desk.old)) }
         ensures compared { IfOk result (λ c. let h = came_out c in
-            Compares desk.old self.now.index Owner expected.now.block expected.now.place desired.block desired.place (has_swapped c) h.block h.place true desk.new) }
+            Compares desk.old (shared_cell desk.old self.now.site) Owner expected.now.block expected.now.place desired.block desired.place (has_swapped c) h.block h.place true desk.new) }
         ensures back { IfOk result (λ c. GivesBack desired c) }
         ensures bag { IfOk result (λ c. bag_of desk.new ≡ with_handle Owner (came_out c).block (came_out c).place
             (cond (has_swapped c) (without_handle Owner desired.block desired.place (bag_of desk.old)) (bag_of desk.old))) }

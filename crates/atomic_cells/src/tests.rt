@@ -5,6 +5,7 @@ ghost use Rattle.control_word.specs.declared.handle.Kind.TheVariants.{Owner, Wea
 ghost use Rattle.control_block.specs.CellCalls.{Belongs};
 ghost use Rattle.control_block.specs.Desks.{IsSameDesk, allowance_of, bag_of};
 ghost use Rattle.shared_handle.specs.Calls.{Holds, with_handle, without_handle};
+ghost use Rattle.shared_handle.specs.Endings.{Ends};
 
 use crate::{SharedAt, WeakAt};
 use control_block::census::close;
@@ -13,7 +14,7 @@ use control_block::domain::{Domain, open};
 use control_block::handles;
 use control_word::Shape;
 use shared_handle::{
-    Left, Shared, downgrade, expired, make, read, release, release_weak, share, use_count,
+    Ending, Left, Member, Shared, downgrade, expired, make, read, release, release_weak, share, use_count,
 };
 use std::sync::Wait;
 use std::test::Fail;
@@ -37,6 +38,34 @@ pub(crate) enum Was {
     Last,
 }
 
+// What a member held was an object's last owner: no test that asks for a burial has such members.
+fn lose(left: Left<u64>) {
+    match left {
+        Left::Empty | Left::Others => {}
+        Left::Last(ending) => {
+            ending.forget();
+        }
+    }
+}
+
+// The end of an object whose members were the last owners of none.
+pub(crate) fn bury(domain: &Domain<u64>, desk: &mut Desk<u64>, ending: Ending<u64>) -> u64
+    requires domain { desk.old.domain ≡ domain.now.id }
+    requires ends { Ends desk.old ending }
+    ensures desk { IsSameDesk desk.old desk.new }
+    ensures bag { bag_of desk.new ≡ bag_of desk.old }
+    ensures held { desk.new.held ≡ desk.old.held }
+{
+    let mut ending = ending;
+    let first = ending.clear_member(domain, desk, Member::First);
+    let next = ending.clear_member(domain, desk, Member::Next);
+    let up = ending.clear_member(domain, desk, Member::Up);
+    lose(first);
+    lose(next);
+    lose(up);
+    ending.finish(domain, desk)
+}
+
 // An owner leaves.
 pub(crate) fn drop_owner(domain: &Domain<u64>, desk: &mut Desk<u64>, owner: Shared) -> Was
     requires domain { desk.old.domain ≡ domain.now.id }
@@ -49,26 +78,26 @@ pub(crate) fn drop_owner(domain: &Domain<u64>, desk: &mut Desk<u64>, owner: Shar
         Left::Empty => Was::Empty,
         Left::Others => Was::Others,
         Left::Last(ending) => {
-            ending.finish(domain, desk);
+            bury(domain, desk, ending);
             Was::Last
         }
     }
 }
 
 // An owner goes into a cell.
-pub(crate) fn put(domain: &Domain<u64>, desk: &mut Desk<u64>, at: SharedAt, owner: Shared) -> Was
+pub(crate) fn put(domain: &Domain<u64>, desk: &mut Desk<u64>, at: u32, owner: Shared) -> Was
     requires domain { Belongs desk.old domain.now }
-    requires cell { at.index < desk.old.shape.shared_cells }
+    requires cell { at < desk.old.shape.shared_cells }
     requires held { Holds desk.old Owner owner.block owner.place }
     ensures desk { IsSameDesk desk.old desk.new }
     ensures bag { bag_of desk.new ≡ without_handle Owner owner.block owner.place (bag_of desk.old) }
     ensures held { desk.new.held + 1 ≡ desk.old.held }
 {
-    match at.store(domain, desk, owner) {
+    match SharedAt::free(at).store(domain, desk, owner) {
         Left::Empty => Was::Empty,
         Left::Others => Was::Others,
         Left::Last(ending) => {
-            ending.finish(domain, desk);
+            bury(domain, desk, ending);
             Was::Last
         }
     }
@@ -78,21 +107,21 @@ pub(crate) fn put(domain: &Domain<u64>, desk: &mut Desk<u64>, at: SharedAt, owne
 pub(crate) fn put_weak(
     domain: &Domain<u64>,
     desk: &mut Desk<u64>,
-    at: WeakAt,
+    at: u32,
     weak: handles::Weak,
 ) -> Was
     requires domain { Belongs desk.old domain.now }
-    requires cell { at.index < desk.old.shape.weak_cells }
+    requires cell { at < desk.old.shape.weak_cells }
     requires held { Holds desk.old Weak weak.block weak.place }
     ensures desk { IsSameDesk desk.old desk.new }
     ensures bag { bag_of desk.new ≡ without_handle Weak weak.block weak.place (bag_of desk.old) }
     ensures held { desk.new.held + 1 ≡ desk.old.held }
 {
-    match at.store(domain, desk, weak) {
+    match WeakAt::free(at).store(domain, desk, weak) {
         Left::Empty => Was::Empty,
         Left::Others => Was::Others,
         Left::Last(ending) => {
-            ending.finish(domain, desk);
+            ending.forget();
             unreachable!()
         }
     }
@@ -116,15 +145,15 @@ pub(crate) fn tell<R: Wait>(
     rt: &R,
     domain: &Domain<u64>,
     desk: &mut Desk<u64>,
-    at: SharedAt,
+    at: u32,
 ) -> Option<(Option<u64>, u32)>
     requires domain { Belongs desk.old domain.now }
-    requires cell { at.index < desk.old.shape.shared_cells }
+    requires cell { at < desk.old.shape.shared_cells }
     ensures desk { IsSameDesk desk.old desk.new }
     ensures bag { bag_of desk.new ≡ bag_of desk.old }
     ensures held { desk.new.held ≡ desk.old.held }
 {
-    match at.load(rt, domain, desk) {
+    match SharedAt::free(at).load(rt, domain, desk) {
         Ok(owner) => {
             let field = read(domain, desk, &owner).ok();
             let owners = use_count(domain, desk, &owner);
@@ -140,11 +169,11 @@ pub(crate) fn tell<R: Wait>(
 pub(crate) fn put_copy(
     domain: &Domain<u64>,
     desk: &mut Desk<u64>,
-    at: SharedAt,
+    at: u32,
     owner: &Shared,
 ) -> Option<Was>
     requires domain { Belongs desk.old domain.now }
-    requires cell { at.index < desk.old.shape.shared_cells }
+    requires cell { at < desk.old.shape.shared_cells }
     requires holds { Holds desk.old Owner owner.now.block owner.now.place }
     requires real { (b : Block) × (owner.now.block ≡ Some b) }
     ensures desk { IsSameDesk desk.old desk.new }
@@ -162,11 +191,11 @@ pub(crate) fn put_copy(
 pub(crate) fn exchange_copy(
     domain: &Domain<u64>,
     desk: &mut Desk<u64>,
-    at: SharedAt,
+    at: u32,
     owner: &Shared,
 ) -> Option<Was>
     requires domain { Belongs desk.old domain.now }
-    requires cell { at.index < desk.old.shape.shared_cells }
+    requires cell { at < desk.old.shape.shared_cells }
     requires holds { Holds desk.old Owner owner.now.block owner.now.place }
     requires real { (b : Block) × (owner.now.block ≡ Some b) }
     ensures desk { IsSameDesk desk.old desk.new }
@@ -175,7 +204,7 @@ pub(crate) fn exchange_copy(
 {
     match share(domain, desk, owner) {
         Ok(copy) => {
-            let old = at.exchange(domain, desk, copy);
+            let old = SharedAt::free(at).exchange(domain, desk, copy);
             Some(drop_owner(domain, desk, old))
         }
         Err(_) => None,
@@ -204,10 +233,10 @@ fn store_and_load<R: Wait>(
     rt: &R,
     domain: &Domain<u64>,
     desk: &mut Desk<u64>,
-    at: SharedAt,
+    at: u32,
 ) -> Option<(Option<Was>, u32, Option<Was>, Option<Was>, u32)>
     requires domain { Belongs desk.old domain.now }
-    requires cell { at.index < desk.old.shape.shared_cells }
+    requires cell { at < desk.old.shape.shared_cells }
     ensures desk { IsSameDesk desk.old desk.new }
 {
     let owner = object(domain, desk, 5)?;
@@ -229,7 +258,7 @@ fn a_thousand_loads_tell_three_owners(rt: HostRuntime) -> Result<(), Fail> {
     let (domain, mut desk) = open::<u64>(rt.alloc(), shape(1, 1, 0, 4))
         .ok()
         .ok_or("memory")?;
-    let seen = store_and_load(&rt, &domain, &mut desk, SharedAt::free(0));
+    let seen = store_and_load(&rt, &domain, &mut desk, 0);
     shut(domain, desk);
     let others = Some(Was::Others);
     assert_eq!(rt; seen, Some((Some(Was::Empty), 1_000, others, others, 2)));
@@ -243,10 +272,10 @@ fn watch<R: Wait>(
     rt: &R,
     domain: &Domain<u64>,
     desk: &mut Desk<u64>,
-    at: WeakAt,
+    at: u32,
 ) -> Option<(bool, bool, bool)>
     requires domain { Belongs desk.old domain.now }
-    requires cell { at.index < desk.old.shape.weak_cells }
+    requires cell { at < desk.old.shape.weak_cells }
     ensures desk { IsSameDesk desk.old desk.new }
 {
     let owner = object(domain, desk, 3)?;
@@ -255,13 +284,13 @@ fn watch<R: Wait>(
         return None;
     };
     let empty = put_weak(domain, desk, at, weak) == Was::Empty;
-    let Ok(loaded) = at.load(rt, domain, desk) else {
+    let Ok(loaded) = WeakAt::free(at).load(rt, domain, desk) else {
         drop_owner(domain, desk, owner);
         return None;
     };
     let before = expired(domain, desk, &loaded);
     drop_owner(domain, desk, owner);
-    let old = at.exchange(domain, desk, loaded);
+    let old = WeakAt::free(at).exchange(domain, desk, loaded);
     let after = expired(domain, desk, &old);
     release_weak(domain, desk, old);
     Some((empty, before, after))
@@ -272,7 +301,7 @@ fn a_weak_cell_watches(rt: HostRuntime) -> Result<(), Fail> {
     let (domain, mut desk) = open::<u64>(rt.alloc(), shape(1, 1, 1, 4))
         .ok()
         .ok_or("memory")?;
-    let seen = watch(&rt, &domain, &mut desk, WeakAt::free(0));
+    let seen = watch(&rt, &domain, &mut desk, 0);
     shut(domain, desk);
     assert_eq!(rt; seen, Some((true, false, true)));
     Ok(())

@@ -1,43 +1,72 @@
 //! Cells of weak pointers ([util.smartptr.atomic.weak]).
-ghost use Rattle.std.specs.Prelude.{◌≡◌, ◌↔◌, ◌+◌, ◌<◌, IfErr, IfOk, IsErr, OnOk};
+ghost use Rattle.std.specs.Prelude.{◌≡◌, ◌↔◌, ◌+◌, IfErr, IfOk, IsErr, OnOk};
 ghost use Rattle.control_word.specs.declared.handle.Kind.TheVariants.{Weak};
 ghost use Rattle.control_block.specs.CellCalls.{Belongs};
-ghost use Rattle.control_block.specs.Desks.{IsSameDesk, Keeps, KeepsEndings, allowance_of, bag_of};
+ghost use Rattle.control_block.specs.Desks.{IsSameDesk, Keeps, KeepsEndings, allowance_of, bag_of, held_of};
 ghost use Rattle.shared_handle.specs.Calls.{Holds, with_handle, without_handle};
 ghost use Rattle.atomic_cells.specs.Cells.{Exchanges, Loads, StoresWeakly};
+ghost use Rattle.atomic_cells.specs.Sites.{IsFewWeak, IsMember, IsOpenWeakly, weak_cell, weak_site};
+ghost use Rattle.atomic_cells.specs.declared.sites.WeakSite.TheVariants as site;
+ghost use Rattle.atomic_cells.specs.declared.weak_at.WeakAt.{WeakAt};
 
-use control_block::cell_calls::{self, Content, FreeCell};
+use crate::sites::WeakSite;
+use control_block::cell_calls::{self, CellAt, Content, Site};
 use control_block::desk::Desk;
 use control_block::domain::Domain;
 use control_block::handles;
 use control_word::Refusal;
 use control_word::handle::Kind;
-use shared_handle::{Left, release_weak};
-use std::marker::Brand;
+use shared_handle::{Left, Shared, release_weak};
+use std::marker::{Brand, PhantomData};
 use std::sync::Wait;
 
-/// A cell that holds a weak pointer. It begins with an empty one.
+/// A cell that holds a weak pointer: a free one, or the member `up` of an object, which keeps the borrow of a handle that
+/// owns the object. It begins with an empty one. Condition of its calls: a free one is of the domain's shape, and the handle
+/// of a member is the desk's.
 #[derive(Clone, Copy, Drop)]
-pub struct WeakAt {
-    index: u32,
+pub struct WeakAt<'a> {
+    pub(crate) site: WeakSite,
+    owner: PhantomData<&'a ()>,
 }
 
-impl WeakAt {
-    /// A free cell, by its number from 0 among the free weak cells (own). Condition of its calls: the domain's shape has
-    /// that cell.
-    pub fn free(index: u32) -> WeakAt
-        ensures { result.index ≡ index }
+impl<'a> WeakAt<'a> {
+    /// A free cell, by its number from 0 among the free weak cells (own).
+    pub fn free(index: u32) -> WeakAt<'a>
+        ensures { result.site ≡ site.Free index }
     {
-        WeakAt { index }
+        WeakAt {
+            site: WeakSite::Free(index),
+            owner: PhantomData,
+        }
     }
 
-    // The weak cells stand behind the shared ones.
-    pub(crate) fn cell<V: Drop + Send>(&self, domain: &Domain<V>) -> FreeCell
-        requires low { self.now.index < domain.now.shape.weak_cells }
-        ensures { (result.number ≡ domain.now.shape.shared_cells + self.now.index) × (result.kind ≡ Weak) }
+    /// The member `up` of the object that the handle owns and points into (own). It is refused `Null` just where the handle's
+    /// place is null, and `Outside` just where that isn't in the object that it owns.
+    pub fn member(handle: &'a Shared) -> Result<WeakAt<'a>, Refusal>
+        ensures { IsMember (λ c (at : WeakAt). at.site ≡ site.Up c) handle.now.block handle.now.place result }
     {
-        FreeCell {
-            number: domain.shared_cells() + self.index,
+        let Some(place) = handle.place() else {
+            return Err(Refusal::Null);
+        };
+        if handle.block() != Some(place.block) {
+            return Err(Refusal::Outside);
+        }
+        Ok(WeakAt {
+            site: WeakSite::Up(place.block),
+            owner: PhantomData,
+        })
+    }
+
+    pub(crate) fn cell<V: Drop + Send>(&self, domain: &Domain<V>) -> CellAt
+        requires low { IsFewWeak domain.now.shape.weak_cells self.now.site }
+        ensures { (result.site ≡ weak_site domain.now.shape.shared_cells self.now.site) × (result.kind ≡ Weak) }
+    {
+        let site = match self.site {
+            WeakSite::Free(number) => Site::Free(domain.shared_cells() + number),
+            WeakSite::Up(block) => Site::Member(block, 2),
+        };
+        CellAt {
+            site,
             kind: Kind::Weak,
         }
     }
@@ -51,10 +80,10 @@ impl WeakAt {
         desk: &mut Desk<V>,
     ) -> Result<handles::Weak, Refusal>
         requires domain { Belongs desk.old domain.now }
-        requires cell { self.now.index < desk.old.shape.weak_cells }
-        ensures limit { IsErr result ↔ (desk.old.held ≡ allowance_of desk.old) }
+        requires cell { IsOpenWeakly desk.old self.now.site }
+        ensures limit { IsErr result ↔ (held_of desk.old ≡ allowance_of desk.old) }
         ensures refused { IfErr result (λ why. (why ≡ Refusal.Limit) × (desk.new ≡ desk.old)) }
-        ensures event { IfOk result (λ h. Loads desk.old (desk.old.shape.shared_cells + self.now.index) Weak h.block h.place desk.new) }
+        ensures event { IfOk result (λ h. Loads desk.old (weak_cell desk.old self.now.site) Weak h.block h.place desk.new) }
         ensures bag { IfOk result (λ h. bag_of desk.new ≡ with_handle Weak h.block h.place (bag_of desk.old)) }
         ensures held { OnOk result (desk.new.held ≡ desk.old.held + 1) }
         ensures holds { IfOk result (λ h. Holds desk.new Weak h.block h.place) }
@@ -73,9 +102,9 @@ impl WeakAt {
         handle: handles::Weak,
     ) -> handles::Weak
         requires domain { Belongs desk.old domain.now }
-        requires cell { self.now.index < desk.old.shape.weak_cells }
+        requires cell { IsOpenWeakly desk.old self.now.site }
         requires holds { Holds desk.old Weak handle.block handle.place }
-        ensures event { Exchanges desk.old (desk.old.shape.shared_cells + self.now.index) Weak handle.block handle.place result.block result.place desk.new }
+        ensures event { Exchanges desk.old (weak_cell desk.old self.now.site) Weak handle.block handle.place result.block result.place desk.new }
         ensures bag { bag_of desk.new ≡ with_handle Weak result.block result.place (without_handle Weak handle.block handle.place (bag_of desk.old)) }
         ensures held { desk.new.held ≡ desk.old.held }
         ensures holds { Holds desk.new Weak result.block result.place }
@@ -101,9 +130,9 @@ impl WeakAt {
         handle: handles::Weak,
     ) -> Left<V>
         requires domain { Belongs desk.old domain.now }
-        requires cell { self.now.index < desk.old.shape.weak_cells }
+        requires cell { IsOpenWeakly desk.old self.now.site }
         requires holds { Holds desk.old Weak handle.block handle.place }
-        ensures stored { StoresWeakly desk.old (desk.old.shape.shared_cells + self.now.index) handle.block handle.place result desk.new }
+        ensures stored { StoresWeakly desk.old (weak_cell desk.old self.now.site) handle.block handle.place result desk.new }
         ensures bag { bag_of desk.new ≡ without_handle Weak handle.block handle.place (bag_of desk.old) }
         ensures held { desk.new.held + 1 ≡ desk.old.held }
         ensures desk { IsSameDesk desk.old desk.new }

@@ -1,11 +1,11 @@
 //! Compare-and-swap of cells of weak pointers ([util.smartptr.atomic.weak]).
-ghost use Rattle.std.specs.Prelude.{◌≡◌, ◌↔◌, ◌+◌, ◌<◌, cond, true, false, IfErr, IfOk, IsErr, OnOk};
-ghost use Rattle.control_word.specs.declared.event.Cell.TheVariants.{Free};
+ghost use Rattle.std.specs.Prelude.{◌≡◌, ◌↔◌, ◌+◌, cond, true, false, IfErr, IfOk, IsErr, OnOk};
 ghost use Rattle.control_word.specs.declared.handle.Kind.TheVariants.{Weak};
 ghost use Rattle.control_block.specs.CellCalls.{Belongs, handle_in};
-ghost use Rattle.control_block.specs.Desks.{Keeps, allowance_of, bag_of};
+ghost use Rattle.control_block.specs.Desks.{Keeps, allowance_of, bag_of, held_of};
 ghost use Rattle.shared_handle.specs.Calls.{Holds, with_handle, without_handle};
 ghost use Rattle.atomic_cells.specs.Compares.{Compares, GivesBack, came_out, has_swapped};
+ghost use Rattle.atomic_cells.specs.Sites.{IsOpenWeakly, weak_cell};
 
 use crate::compared::Compared;
 use crate::weak_at::WeakAt;
@@ -19,7 +19,7 @@ use control_word::{Refusal, Refused};
 use std::marker::Brand;
 use std::sync::Wait;
 
-impl WeakAt {
+impl<'a> WeakAt<'a> {
     fn compare_as<V: Drop + Send, A: Aimed, R: Wait>(
         &self,
         rt: &R,
@@ -29,14 +29,14 @@ impl WeakAt {
         desired: handles::Weak,
     ) -> Result<Compared<handles::Weak>, Refused<handles::Weak>>
         requires domain { Belongs desk.old domain.now }
-        requires cell { self.now.index < desk.old.shape.weak_cells }
+        requires cell { IsOpenWeakly desk.old self.now.site }
         requires holds { Holds desk.old Weak expected.now.block expected.now.place × Holds desk.old Weak desired.block desired.place }
-        requires meant { (A.cell ≡ Free (desk.old.shape.shared_cells + self.now.index)) × (A.expected ≡ handle_in desk.old Weak expected.now.block expected.now.place)
+        requires meant { (A.cell ≡ weak_cell desk.old self.now.site) × (A.expected ≡ handle_in desk.old Weak expected.now.block expected.now.place)
             × (A.new ≡ handle_in desk.old Weak desired.block desired.place) }
-        ensures limit { IsErr result ↔ (desk.old.held ≡ allowance_of desk.old) }
+        ensures limit { IsErr result ↔ (held_of desk.old ≡ allowance_of desk.old) }
         ensures refused { IfErr result (λ r. (r.why ≡ Refusal.Limit) × (r.back ≡ desired) × (desk.new ≡ desk.old)) }
         ensures compared { IfOk result (λ c. let h = came_out c in
-            Compares desk.old (desk.old.shape.shared_cells + self.now.index) Weak expected.now.block expected.now.place desired.block desired.place (has_swapped c) h.block h.place A.weak desk.new) }
+            Compares desk.old (weak_cell desk.old self.now.site) Weak expected.now.block expected.now.place desired.block desired.place (has_swapped c) h.block h.place A.weak desk.new) }
         ensures back { IfOk result (λ c. GivesBack desired c) }
         ensures bag { IfOk result (λ c. bag_of desk.new ≡ with_handle Weak (came_out c).block (came_out c).place
             (cond (has_swapped c) (without_handle Weak desired.block desired.place (bag_of desk.old)) (bag_of desk.old))) }
@@ -87,12 +87,12 @@ impl WeakAt {
         desired: handles::Weak,
     ) -> Result<Compared<handles::Weak>, Refused<handles::Weak>>
         requires domain { Belongs desk.old domain.now }
-        requires cell { self.now.index < desk.old.shape.weak_cells }
+        requires cell { IsOpenWeakly desk.old self.now.site }
         requires holds { Holds desk.old Weak expected.now.block expected.now.place × Holds desk.old Weak desired.block desired.place }
-        ensures limit { IsErr result ↔ (desk.old.held ≡ allowance_of desk.old) }
+        ensures limit { IsErr result ↔ (held_of desk.old ≡ allowance_of desk.old) }
         ensures refused { IfErr result (λ r. (r.why ≡ Refusal.Limit) × (r.back ≡ desired) × (desk.new ≡ desk.old)) }
         ensures compared { IfOk result (λ c. let h = came_out c in
-            Compares desk.old (desk.old.shape.shared_cells + self.now.index) Weak expected.now.block expected.now.place desired.block desired.place (has_swapped c) h.block h.place false desk.new) }
+            Compares desk.old (weak_cell desk.old self.now.site) Weak expected.now.block expected.now.place desired.block desired.place (has_swapped c) h.block h.place false desk.new) }
         ensures back { IfOk result (λ c. GivesBack desired c) }
         ensures bag { IfOk result (λ c. bag_of desk.new ≡ with_handle Weak (came_out c).block (came_out c).place
             (cond (has_swapped c) (without_handle Weak desired.block desired.place (bag_of desk.old)) (bag_of desk.old))) }
@@ -113,12 +113,12 @@ impl WeakAt {
         desired: handles::Weak,
     ) -> Result<Compared<handles::Weak>, Refused<handles::Weak>>
         requires domain { Belongs desk.old domain.now }
-        requires cell { self.now.index < desk.old.shape.weak_cells }
+        requires cell { IsOpenWeakly desk.old self.now.site }
         requires holds { Holds desk.old Weak expected.now.block expected.now.place × Holds desk.old Weak desired.block desired.place }
-        ensures limit { IsErr result ↔ (desk.old.held ≡ allowance_of desk.old) }
+        ensures limit { IsErr result ↔ (held_of desk.old ≡ allowance_of desk.old) }
         ensures refused { IfErr result (λ r. (r.why ≡ Refusal.Limit) × (r.back ≡ desired) × (desk.new ≡ desk.old)) }
         ensures compared { IfOk result (λ c. let h = came_out c in
-            Compares desk.old (desk.old.shape.shared_cells + self.now.index) Weak expected.now.block expected.now.place desired.block desired.place (has_swapped c) h.block h.place true desk.new) }
+            Compares desk.old (weak_cell desk.old self.now.site) Weak expected.now.block expected.now.place desired.block desired.place (has_swapped c) h.block h.place true desk.new) }
         ensures back { IfOk result (λ c. GivesBack desired c) }
         ensures bag { IfOk result (λ c. bag_of desk.new ≡ with_handle Weak (came_out c).block (came_out c).place
             (cond (has_swapped c) (without_handle Weak desired.block desired.place (bag_of desk.old)) (bag_of desk.old))) }

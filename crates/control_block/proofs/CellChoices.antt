@@ -2,11 +2,10 @@
 use Rattle.std.proofs.Common.{◌≡◌, ◌≢◌, ◌⊎◌, ℕ, ◌+◌, ◌<◌, ◌≤◌, Bool, true, false, not, cond, List, Option, None, refl, subst, inl, inr, arith}
 use Rattle.std.specs.Prelude.{IfSome}
 use mir.Val.{bool_byte}
-use Rattle.control_word.specs.Events.{after}
+use Rattle.control_word.specs.Events.{after, loses}
 use Rattle.control_word.specs.State.{State}
 use Rattle.control_word.specs.declared.event.Cell.{Cell}
-use Rattle.control_word.specs.declared.event.Cell.TheVariants.{Free}
-use Rattle.control_word.specs.declared.event.Event.TheVariants.{Compare}
+use Rattle.control_word.specs.declared.event.Event.TheVariants.{Compare, Swap}
 use Rattle.control_word.specs.declared.handle.Handle.{Handle}
 use Rattle.control_word.specs.declared.handle.Kind.{Kind}
 use Rattle.control_word.specs.declared.place.Block.{Block}
@@ -17,7 +16,7 @@ use Rattle.control_block.specs.Plays.{Holding, known}
 use Rattle.control_block.specs.declared.board.Sight.{Sight}
 use Rattle.control_block.proofs.CellDesks.{in_seat, one}
 use Rattle.control_block.proofs.CellRounds.{Trades, compare_trades, differ_trades}
-use Rattle.control_block.proofs.Passage.{IsQuiet}
+use Rattle.control_block.proofs.Hands.{fills_allowance, fills_stores}
 
 -- one handle more is counted where it differed
 pub counted_of : (s : Bool) (n : ℕ) → n ≡ bool_byte (not s) → n ≡ cond s 0 1
@@ -34,9 +33,9 @@ pub few_of : (s : Bool) (b c : Option Block) (n m held : ℕ) → n + one (cond 
 few_of true b c n m held size fit most few = omega arith
 few_of false b c n m held size fit most few = omega arith
 
-pub within_of : (s : Bool) (held most : ℕ) → held ≤ most → held ≢ most → held + cond s 0 1 ≤ most
-within_of true held most le ne = omega arith
-within_of false held most le ne = omega arith
+pub within_of : (s : Bool) (held more most : ℕ) → held + more ≤ most → held + more ≢ most → held + cond s 0 1 + more ≤ most
+within_of true held more most le ne = omega arith
+within_of false held more most le ne = omega arith
 
 pub bag_of_choice : (s : Bool) (k : Kind) (b : Option Block) (p : Option Place) (l : List Handle)
     → without_handle k (cond s b None) (cond s p None) l ≡ cond s (without_handle k b p l) l
@@ -60,16 +59,19 @@ module _ {V : Type 0} where
   has_of y k b p true t = inl t
   has_of y k b p false t = inr refl
 
-pub quiet_of : (V : Type 0) (n : ℕ) (expected new h : Handle) (weak s : Bool) → IsQuiet {V = V} (Compare (Free n) expected new h s weak)
-quiet_of V n expected new h weak true = record { objects = λ y d. refl; latest = λ y d. refl; values = λ y f. refl }
-quiet_of V n expected new h weak false = record { objects = λ y d. refl; latest = λ y d. refl; values = λ y f. refl }
+pub swap_stores : (V : Type 0) (c : Cell) (new old : Handle) (y : State) (d : ℕ) → (after {V = V} y d (Swap c new old)).stores ≡ y.stores
+swap_stores V c new old y d = fills_stores c new (loses d new y)
 
-pub stores_of : (V : Type 0) (n : ℕ) (expected new h : Handle) (weak s : Bool) (y : State) (d : ℕ)
-    → (after {V = V} y d (Compare (Free n) expected new h s weak)).stores ≡ y.stores
-stores_of V n expected new h weak true y d = refl
-stores_of V n expected new h weak false y d = refl
+pub swap_allowances : (V : Type 0) (c : Cell) (new old : Handle) (y : State) (d : ℕ)
+    → (after {V = V} y d (Swap c new old)).allowance ≡ y.allowance
+swap_allowances V c new old y d = fills_allowance c new (loses d new y)
 
-pub allowances_of : (V : Type 0) (n : ℕ) (expected new h : Handle) (weak s : Bool) (y : State) (d : ℕ)
-    → (after {V = V} y d (Compare (Free n) expected new h s weak)).allowance ≡ y.allowance
-allowances_of V n expected new h weak true y d = refl
-allowances_of V n expected new h weak false y d = refl
+pub stores_of : (V : Type 0) (c : Cell) (expected new h : Handle) (weak s : Bool) (y : State) (d : ℕ)
+    → (after {V = V} y d (Compare c expected new h s weak)).stores ≡ y.stores
+stores_of V c expected new h weak true y d = fills_stores c new (loses d new y)
+stores_of V c expected new h weak false y d = refl
+
+pub allowances_of : (V : Type 0) (c : Cell) (expected new h : Handle) (weak s : Bool) (y : State) (d : ℕ)
+    → (after {V = V} y d (Compare c expected new h s weak)).allowance ≡ y.allowance
+allowances_of V c expected new h weak true y d = fills_allowance c new (loses d new y)
+allowances_of V c expected new h weak false y d = refl

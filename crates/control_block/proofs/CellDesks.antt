@@ -228,27 +228,24 @@ module _ {V : Type 0} where
   holds_after y k (Some b) p m is few = subst (Has (handle k (Some b.0) p)) (sym is) (inl refl)
 
   -- what a cell held is well formed
+  pub formed_in : (d : Inside V) (w : Sight V) (c : Cell) (e : Event V) (k : Kind) (b : Option Block) (p : Option Place)
+      (a : Added d.seat.me.0 Idle None e w) → (let t = leads (opening_of d.seat.me.0.shape) (a.between ++ d.seat.me.0.view.seen) in
+      Asks t d.seat.me.0.view.name e → IsCell t c × (in_seat w k b p ≡ cell_of t c)) → IsProper k b p
+  formed_in d w c e k b p a asks =
+      let v = d.seat.me.0 in let z = opening_of v.shape in let hist = a.between ++ v.view.seen in
+      let legal = subst (IsLegal z) (ap (λ (u : Sight V). u.view.seen) a.now) a.legal in let t = asks legal.1.asks in
+      proper b (subst IsFormed (sym t.1) ((are_formed z hist legal.0).1 c t.0).0)
+    where
+      proper : (q : Option Block) → IsFormed (in_seat w k q p) → IsProper k q p
+      proper None f = f
+      proper (Some q) f = tt
+
   pub formed_out : (d : Inside V) (w : Sight V) (c : Cell) (e : Event V) (k : Kind) (b : Option Block) (p : Option Place)
       (a : Added d.seat.me.0 Idle None e w) → (let t = leads (opening_of d.seat.me.0.shape) (a.between ++ d.seat.me.0.view.seen) in
       Asks t d.seat.me.0.view.name e → IsOpen t d.seat.me.0.view.name c × (in_seat w k b p ≡ cell_of t c)) → IsProper k b p
-  formed_out d w c e k b p a asks =
-      let v = d.seat.me.0 in let z = opening_of v.shape in let hist = a.between ++ v.view.seen in
-      let legal = subst (IsLegal z) (ap (λ (u : Sight V). u.view.seen) a.now) a.legal in let t = asks legal.1.asks in
-      proper b (subst IsFormed (sym t.1) ((are_formed z hist legal.0).1 c (counted c t.0)).0)
+  formed_out d w c e k b p a asks = formed_in d w c e k b p a (λ is. let t = asks is in (counted c t.0, t.1))
     where
       counted : (c : Cell) → (let t = leads (opening_of d.seat.me.0.shape) (a.between ++ d.seat.me.0.view.seen) in
           IsOpen t d.seat.me.0.view.name c → IsCell t c)
       counted (Free n) open' = open'
       counted (Member o m) open' = open'.0
-
-      proper : (q : Option Block) → IsFormed (in_seat w k q p) → IsProper k q p
-      proper None f = f
-      proper (Some q) f = tt
-
-  -- where a free cell is
-  pub cell_there : (v : Sight V) (z : Shape) (c : Cell) (n i : ℕ) (k : Kind) → c ≡ Free n → v.shape ≡ z → IsFreeCell z n k
-      → i ≡ cell_place z.blocks n → IsCellAt v c i × (k ≡ kind_in v.shape c)
-  cell_there v z c n i k is shape free at =
-      subst (λ (y : Cell). IsCellAt v y i × (k ≡ kind_in v.shape y)) (sym is)
-      (subst (λ (y : Shape). ((n < y.shared_cells + y.weak_cells) × (i ≡ cell_place y.blocks n)) × (k ≡ kind_in y (Free n))) (sym shape)
-      ((free.0, at), free.1))

@@ -1,12 +1,17 @@
 -- What the steps of one call on a cell come to.
 use Rattle.std.proofs.Common.{◌≡◌, ◌≢◌, ℕ, ◌+◌, ◌-◌, ◌<◌, ◌∷◌, ◌++◌, ◌&&◌, eq-eqb, [], Bool, true}
-use Rattle.std.proofs.Common.{false, true≢false, List, Option, Some, None, cond, refl, sym, ap, subst, ◌∙◌, inl, arith}
+use Rattle.std.proofs.Common.{false, true≢false, List, Option, Some, None, cond, refl, sym, ap, subst, ◌∙◌, inl, inr, arith}
+use Rattle.std.proofs.lemmas.Bool.{cond_both}
 use Rattle.std.specs.Prelude.{IfSome, is_some}
 use Rattle.atomic_table.specs.Seated.{TableId}
-use Rattle.control_word.proofs.history.Given.{names_an_object}
+use Rattle.control_word.proofs.history.Given.{legal_seen, names_an_object}
+use Rattle.control_word.proofs.history.Kept.{block_kept, same_kept}
+use Rattle.control_word.proofs.history.Legal.{sound}
+use Rattle.control_word.proofs.history.Others.{held_made}
+use Rattle.control_word.proofs.lists.Parts.{has_part, part_has}
 use Rattle.control_word.specs.Events.{InHand, after, fills, gets, loses}
 use Rattle.control_word.specs.Handles.{empty, equivalent, handle, has_object, same_number, same_place}
-use Rattle.control_word.specs.Histories.{IsLegal, leads}
+use Rattle.control_word.specs.Histories.{IsLegal, entry, leads}
 use Rattle.control_word.specs.Layout.{cell_place, spot}
 use Rattle.control_word.specs.State.{Has, Held, InShape, State, held}
 use Rattle.control_word.specs.Words.{block_of, blocks_of, slot}
@@ -14,7 +19,7 @@ use Rattle.control_word.specs.declared.cell.CellWord.{CellWord}
 use Rattle.control_word.specs.declared.event.Cell.{Cell}
 use Rattle.control_word.specs.declared.event.Cell.TheVariants.{Free, Member}
 use Rattle.control_word.specs.declared.event.Event.{Event}
-use Rattle.control_word.specs.declared.event.Event.TheVariants.{Compare, Load, Swap}
+use Rattle.control_word.specs.declared.event.Event.TheVariants.{ClearMember, Compare, Load, Swap}
 use Rattle.control_word.specs.declared.handle.Handle.{Handle}
 use Rattle.control_word.specs.declared.handle.Kind.{Kind}
 use Rattle.control_word.specs.declared.handle.Kind.TheVariants.{Owner, Weak}
@@ -30,6 +35,7 @@ use Rattle.control_block.specs.Plays.{Added, At, Holding, Rests, goes_on, in_cal
 use Rattle.control_block.specs.Rule.{opening_of}
 use Rattle.control_block.specs.declared.board.Sight.{Sight}
 use Rattle.control_block.proofs.Chairs.{added_as}
+use Rattle.control_block.proofs.Hands.{fills_hands}
 
 pub not_none : (q : Option Block) → is_some q ≡ true → q ≢ None
 not_none None e n = true≢false (sym e)
@@ -289,14 +295,33 @@ module _ {V : Type 0} where
           let o = object_shown (blocks_of (known w)) c.handle.object b (sym (ap (λ y. y.owned) c.shows) ∙ is) in
           came_inside v w Idle e lost c.handle k o.0 b id trades c.event c.kind o.1 o.2 sized
 
-  pub cell_still : (v w : Sight V) (c : Cell) (i : ℕ) (k : Kind) → ((n : ℕ) × (c ≡ Free n)) → w.shape ≡ v.shape
-      → IsCellAt v c i × (k ≡ kind_in v.shape c) → IsCellAt w c i × (k ≡ kind_in w.shape c)
-  cell_still v w c i k free shape t = (
-    subst (λ (y : Cell). IsCellAt w y i) (sym free.1)
-        (subst (λ y. (free.0 < y.shared_cells + y.weak_cells) × (i ≡ cell_place y.blocks free.0)) (sym shape)
-        (subst (λ (y : Cell). IsCellAt v y i) free.1 t.0)),
-    t.1 ∙ ap (λ y. kind_in y c) (sym shape),
-  )
+  -- an event by which the desk loses no handle leaves it those that it has, in their blocks
+  still_holding : (v w : Sight V) (e : Event V) (k : Kind) (o : ℕ) (p : Option Place) (b : ℕ)
+      → ((t : State) (n : ℕ) (x : Held) → Has x t.hands → Has x (after t n e).hands) → Added v Idle None e w → Holding v k o p b → Holding w k o p b
+  still_holding v w e k o p b keeps a mine =
+      let z = opening_of v.shape in let n = v.view.name in let l = a.between ++ v.view.seen in let t = leads z l in
+      let legal = subst (IsLegal z) (ap (λ (u : Sight V). u.view.seen) a.now) a.legal in
+      let seen = legal_seen z a.between v.view.seen legal.0 in let s = same_kept z a.between v.view.seen n a.quiet in
+      let x = held n (handle k (Some o) p) in
+      let has : Has x t.hands = (part_has (λ (y : Held). y.desk) n x t.hands (subst (Has x) (sym s.in_bag)
+      (has_part (λ (y : Held). y.desk) n x (known v).hands refl mine.has))).0 in
+      subst (λ (u : Sight V). Holding u k o p b) (sym a.now)
+      record {
+        has = keeps t n x has;
+        there = (block_kept z (entry n e ∷ a.between) v.view.seen o (held_made z (known v) n o k p (sound z v.view.seen seen) mine.has)).0 ∙ mine.there;
+      }
+
+  -- so a cell that is open to it stays so
+  pub cell_still : (v w : Sight V) (e : Event V) (c : Cell) (i : ℕ) (k : Kind) → ((t : State) (n : ℕ) (x : Held) → Has x t.hands → Has x (after t n e).hands)
+      → Added v Idle None e w → IsCellAt v c i × (k ≡ kind_in v.shape c) → IsCellAt w c i × (k ≡ kind_in w.shape c)
+  cell_still v w e c i k keeps a t = (there c t.0, t.1 ∙ ap (λ y. kind_in y c) (sym shape))
+    where
+      shape : w.shape ≡ v.shape
+      shape = ap (λ (u : Sight V). u.shape) a.now
+
+      there : (d : Cell) → IsCellAt v d i → IsCellAt w d i
+      there (Free n) at = subst (λ y. (n < y.shared_cells + y.weak_cells) × (i ≡ cell_place y.blocks n)) (sym shape) at
+      there (Member o m) at = let q = at.1 in (at.0, (q.0, q.1, still_holding v w e Owner o q.0 q.1 keeps a q.2, q.3))
 
   pub hand_at : (me me' : At V) (k : Kind) (h : Handle) → me' ≡ me → InHand (known me.0) me.0.view.name k h
       → InHand (known me'.0) me'.0.view.name k h
@@ -328,9 +353,15 @@ module _ {V : Type 0} where
       subst (λ (y : Sight V). InHand (known y) y.view.name (kind_in y.shape c) h) (sym is)
       (subst (λ m. InHand (known v) v.view.name m h) kind hand)
 
-fills_hands : (c : Cell) (x : Handle) (s : State) → (fills c x s).hands ≡ s.hands
-fills_hands (Free c) x s = refl
-fills_hands (Member o m) x s = refl
+gets_keeps : (d : ℕ) (h : Handle) (s : State) (x : Held) → Has x s.hands → Has x (gets d h s).hands
+gets_keeps d h s x has = cond_both (has_object h) (held d h ∷ s.hands) s.hands (Has x) (λ _. inr has) (λ _. has)
+
+pub load_keeps : (V : Type 0) (c : Cell) (h : Handle) (t : State) (n : ℕ) (x : Held) → Has x t.hands → Has x (after {V = V} t n (Load c h)).hands
+load_keeps V c h t n x has = gets_keeps n h t x has
+
+pub differ_keeps : (V : Type 0) (c : Cell) (expected new h : Handle) (weak : Bool) (t : State) (n : ℕ) (x : Held)
+    → Has x t.hands → Has x (after {V = V} t n (Compare c expected new h false weak)).hands
+differ_keeps V c expected new h weak t n x has = gets_keeps n h t x has
 
 pub load_trades : (V : Type 0) (c : Cell) (k : Kind) → Trades {V = V} (λ h. Load c h) (empty k)
 load_trades V c k t n h = refl
@@ -344,3 +375,6 @@ differ_trades V c k expected new weak t n h = refl
 
 pub compare_trades : (V : Type 0) (c : Cell) (expected new : Handle) (weak : Bool) → Trades {V = V} (λ h. Compare c expected new h true weak) new
 compare_trades V c expected new weak t n h = ap (λ (l : List Held). cond (has_object h) (held n h ∷ l) l) (fills_hands c new (loses n new t))
+
+pub clear_trades : (V : Type 0) (o m : ℕ) (k : Kind) → Trades {V = V} (λ h. ClearMember o m h) (empty k)
+clear_trades V o m k t n h = refl

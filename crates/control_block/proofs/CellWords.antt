@@ -11,7 +11,7 @@ use Rattle.control_word.proofs.history.Legal.{sound}
 use Rattle.control_word.proofs.history.Soundness.{IsBusy}
 use Rattle.control_word.proofs.packing.Cells.{block_fits, field_fits, owned_fits, same_block, same_place}
 use Rattle.control_word.proofs.packing.Fields.{same_parts}
-use Rattle.control_word.proofs.steps.Standing.{cells_show}
+use Rattle.control_word.proofs.steps.Standing.{kept_show}
 use Rattle.control_word.proofs.words.Banks.{IsKept, open_kept}
 use Rattle.control_word.proofs.words.Funds.{cell_busy, member_busy}
 use Rattle.control_word.specs.Events.{IsOpen, after, cell_of, kind_of}
@@ -74,25 +74,34 @@ module _ {V : Type 0} where
 
   module _ (k : Shape) (s : Table.State (Option V) (Sight V)) (r : Ruled k s) (id : ℕ) (v : Sight V) (at : get_elem? s.views id ≡ some v)
       (awake : v.view.spent ≡ false) where
-    -- the cell is open, and its word is this one
+    -- the cell is there, and its word is this one
     pub record Opened (c : Cell) (i : ℕ) : Type 0 where
-      pub open' : IsOpen (leads (opening_of k) r.history) v.view.name c
+      pub kept : IsKept (leads (opening_of k) r.history) c
       pub there : cell_at (opening_of k) (leads (opening_of k) r.history) c ≡ i
       pub kind : kind_of (leads (opening_of k) r.history) c ≡ kind_in v.shape c
+
+    -- a cell that is open by what the desk has seen is open
+    pub is_open : (c : Cell) (i : ℕ) → IsCellAt v c i → IsOpen (leads (opening_of k) r.history) v.view.name c
+    is_open (Free c) i cell =
+        let shape = r.shapes id v at awake in let n = cells_led (opening_of k) r.history in
+        let low : c < k.shared_cells + k.weak_cells = subst (λ y. c < y.shared_cells + y.weak_cells) shape cell.0 in omega arith
+    is_open (Member o m) i cell =
+        let q = cell.1 in let mine = held_there k s r id v at awake Owner o q.0 q.1 q.2 in (cell.0, (handle Owner (Some o) q.0, (mine.0, refl, refl), refl))
 
     pub opened : (c : Cell) (i : ℕ) → IsCellAt v c i → Opened c i
     opened (Free c) i cell =
         let z = opening_of k in let shape = r.shapes id v at awake in let n = cells_led z r.history in
         let low : c < k.shared_cells + k.weak_cells = subst (λ y. c < y.shared_cells + y.weak_cells) shape cell.0 in
         record {
-          open' = omega arith;
+          kept = open_kept (opening_of k) (leads (opening_of k) r.history) v.view.name (Free c) (sound (opening_of k) r.history r.stands.legal) (is_open (Free c) i cell);
           there = sym (cell.1 ∙ ap (λ y. Rattle.control_word.specs.Layout.cell_place y.blocks c) shape);
           kind = ap (λ n. kind_of_free n c) (shared_led z r.history ∙ ap (λ y. y.shared_cells) (sym shape));
         }
     opened (Member o m) i cell =
         let q = cell.1 in let mine = held_there k s r id v at awake Owner o q.0 q.1 q.2 in
         record {
-          open' = (cell.0, (handle Owner (Some o) q.0, (mine.0, refl, refl), refl));
+          kept = open_kept (opening_of k) (leads (opening_of k) r.history) v.view.name (Member o m) (sound (opening_of k) r.history r.stands.legal)
+              (is_open (Member o m) i cell);
           there = ap (λ b. spot b (7 + m)) mine.1 ∙ sym q.3;
           kind = refl;
         }
@@ -106,18 +115,15 @@ module _ {V : Type 0} where
         pub bare : (cell_of (leads (opening_of k) r.history) c).object ≡ None → taken ≡ 0
         pub kind : (cell_of (leads (opening_of k) r.history) c).kind ≡ kind_in v.shape c
 
-      kept : IsKept (leads (opening_of k) r.history) c
-      kept = open_kept (opening_of k) (leads (opening_of k) r.history) v.view.name c (sound (opening_of k) r.history r.stands.legal) is.open'
-
       pub decoded : Decoded
       decoded =
-          let z = opening_of k in let t = cells_show (point k s r id v) v.view.pending c (ready k s r id v at awake v.view.pending refl) is.open' in
+          let z = opening_of k in let t = kept_show (point k s r id v) v.view.pending c (ready k s r id v at awake v.view.pending refl) is.kept in
           record {
             taken = t.0;
             bits = ap (λ j. get_or s.words j 0) (sym is.there) ∙ t.1.0;
             valid = t.1.1;
             bare = t.2;
-            kind = well c kept ∙ is.kind;
+            kind = well c is.kept ∙ is.kind;
           }
         where
           well : (d : Cell) → IsKept (leads (opening_of k) r.history) d
@@ -127,7 +133,7 @@ module _ {V : Type 0} where
 
       -- what the cell holds is counted
       pub cell_keeps : (o : ℕ) → (cell_of (leads (opening_of k) r.history) c).object ≡ Some o → IsBusy (leads (opening_of k) r.history) o
-      cell_keeps o e = go c kept e
+      cell_keeps o e = go c is.kept e
         where
           go : (d : Cell) → IsKept (leads (opening_of k) r.history) d → (cell_of (leads (opening_of k) r.history) d).object ≡ Some o
               → IsBusy (leads (opening_of k) r.history) o

@@ -1,5 +1,5 @@
 -- What contracts see of a desk after a call: its bag, and what it keeps.
-use Rattle.std.proofs.Common.{◌≡◌, ◌≢◌, arith, ℕ, ◌==◌, ◌<◌, ◌⊎◌, ⊎_elim, List, ◌∷◌, ◌++◌, map, length, Option, Some, None, refl, sym, ap, subst, ◌∙◌}
+use Rattle.std.proofs.Common.{◌≡◌, ◌≢◌, arith, ℕ, ◌+◌, ◌==◌, ◌↔◌, min, IsTrue, true≢false, ◌<◌, ◌⊎◌, ⊎_elim, Bool, true, false, List, ◌∷◌, ◌++◌, map, length, Option, Some, None, refl, sym, ap, subst, ◌∙◌}
 use Rattle.std.specs.List.{filter}
 use Rattle.atomic_table.specs.Seated.{TableId}
 use Rattle.control_word.proofs.history.Given.{names_an_object}
@@ -7,31 +7,41 @@ use Rattle.control_word.proofs.history.Formation.{are_formed}
 use Rattle.control_word.proofs.history.Kept.{block_kept, same_kept}
 use Rattle.control_word.proofs.history.Legal.{sound}
 use Rattle.control_word.proofs.history.Others.{held_made}
+use Rattle.control_word.proofs.history.Soundness.{Sound}
 use Rattle.control_word.proofs.lists.Parts.{part_mine}
 use Rattle.control_word.proofs.lists.Tallies.{has_before, held_self, held_true}
-use Rattle.control_word.specs.Events.{after, place_at}
+use Rattle.control_word.specs.Events.{Asks, IsOpen, after, fills, loses, place_at}
 use Rattle.control_word.specs.Handles.{IsPointer, handle, same_handle}
 use Rattle.control_word.specs.Histories.{IsLegal, entry, leads, value, valued}
-use Rattle.control_word.specs.State.{Held, InShape, Object, State, bag, ending, held, same_held, without}
+use Rattle.control_word.specs.State.{Held, InShape, Object, Opening, State, bag, ending, held, same_held, without}
 use Rattle.control_word.specs.Words.{blocks_of}
 use Rattle.control_word.specs.declared.event.Entry.{Entry}
+use Rattle.control_word.specs.declared.event.Cell.{Cell}
+use Rattle.control_word.specs.declared.event.Cell.TheVariants.{Free, Member}
 use Rattle.control_word.specs.declared.event.Event.{Event}
+use Rattle.control_word.specs.declared.event.Event.TheVariants.{Compare, Swap}
 use Rattle.control_word.specs.declared.handle.Handle.{Handle}
 use Rattle.control_word.specs.declared.handle.Kind.{Kind}
 use Rattle.control_word.specs.declared.handle.Kind.TheVariants.{Owner}
 use Rattle.control_word.specs.declared.place.Place.{Place}
 use Rattle.control_word.specs.declared.view.Pending.TheVariants.{Idle}
-use Rattle.control_block.specs.Desks.{Adds, DeskNow, HasHandle, IsEnding, IsSameDesk, Keeps, MayPoint, bag_of, by_block}
-use Rattle.control_block.specs.Inside.{IsDesk, desk_now}
+use Rattle.control_block.specs.Desks.{Adds, DeskNow, EndsStill, HasHandle, IsEnding, IsSameDesk, Keeps, MayPoint, allowance_of, bag_of, by_block, held_of}
+use Rattle.control_block.specs.Inside.{IsDesk, IsDeskWith, desk_now}
 use Rattle.control_block.specs.Plays.{Added, HasRoomFor, Holding, known}
 use Rattle.control_block.specs.Rule.{opening_of}
 use Rattle.control_block.specs.declared.board.Sight.{Sight}
 use Rattle.control_block.specs.declared.desk.Desk.TheInside.{Inside}
 use Rattle.control_block.proofs.Bags.{alone_there, map_without, seen_as, shown, shown_held, shown_later}
-use Rattle.control_block.proofs.DeskSteps.{allowance_left, came, stock_left}
-use Rattle.control_block.proofs.Endings.{still_ends}
+use Rattle.control_block.proofs.DeskSteps.{allowance_left, came, ending_same, stock_left}
+use Rattle.control_block.proofs.Endings.{not_filled, still_ends}
 use Rattle.control_block.proofs.Parts.{part_without_mine}
-use Rattle.control_block.proofs.Passage.{IsQuiet}
+use Rattle.control_block.proofs.Passage.{IsQuiet, plain, quiet_compare, quiet_swap}
+
+-- what goes into a cell goes into no ending object's
+filled : (c : Cell) (new : Handle) (z : Opening) (t : State) (n b : ℕ) → Sound z t → IsOpen t n c → (t.object (t.latest b)).phase ≡ ending n → (m : ℕ)
+    → ((fills c new (loses n new t)).object (t.latest b)).member m ≡ (t.object (t.latest b)).member m
+filled (Free c) new z t n b fine open' ends m = refl
+filled (Member q c) new z t n b fine open' ends m = (not_filled z t b n fine ends n q c new open').member m
 
 module _ {V : Type 0} where
   -- a desk at rest, by its seat
@@ -39,7 +49,7 @@ module _ {V : Type 0} where
   now_of id w m = record { domain = id; shape = w.shape; name = w.view.name; seen = w.view.seen; held = m }
 
   -- what a desk has in a block, by what its seat knows
-  pub holding_in : (d : Inside V) (e : DeskNow V) (k : Kind) (p : Option Place) (b : ℕ) → IsDesk d → desk_now d ≡ e → HasHandle e k p b
+  pub holding_in : {n' : ℕ} (d : Inside V) (e : DeskNow V) (k : Kind) (p : Option Place) (b : ℕ) → IsDeskWith n' d → desk_now d ≡ e → HasHandle e k p b
       → Holding d.seat.me.0 k ((known d.seat.me.0).latest b) p b
   holding_in d e k p b h is has =
       let v = d.seat.me.0 in
@@ -63,17 +73,41 @@ module _ {V : Type 0} where
     pub latest : (after t n e).latest b ≡ t.latest b
     pub phase : ((after t n e).object (t.latest b)).phase ≡ ending n
     pub value : valued t e f (t.latest b) ≡ f (t.latest b)
+    pub members : (m : ℕ) → ((after t n e).object (t.latest b)).member m ≡ (t.object (t.latest b)).member m
 
-  pub quiet_spares : (t : State) (f : ℕ → Option V) (n : ℕ) (e : Event V) (b : ℕ) → IsQuiet e → (t.object (t.latest b)).phase ≡ ending n → Spares t
-      f n e b
-  quiet_spares t f n e b q ends =
+  -- an event that moves no object, and leaves the members of those that end in its desk's hands
+  pub record IsCalm (e : Event V) : Type 0 where
+    pub quiet : IsQuiet e
+    pub members : (z : Opening) (t : State) (n b : ℕ) → Sound z t → Asks t n e → (t.object (t.latest b)).phase ≡ ending n
+        → (m : ℕ) → ((after t n e).object (t.latest b)).member m ≡ (t.object (t.latest b)).member m
+
+  pub calm : {e : Event V} → ((s : State) (d : ℕ) → (after s d e).object ≡ s.object) → ((s : State) (d : ℕ) → (after s d e).latest ≡ s.latest)
+      → ((s : State) (f : ℕ → Option V) → valued s e f ≡ f) → IsCalm e
+  calm objects latest values =
       record {
-        latest = ap (λ (g : ℕ → ℕ). g b) (q.latest t n);
-        phase = ap (λ (g : ℕ → Object). (g (t.latest b)).phase) (q.objects t n) ∙ ends;
-        value = ap (λ (g : ℕ → Option V). g (t.latest b)) (q.values t f);
+        quiet = plain objects latest values;
+        members = λ z t n b fine asks ends m. ap (λ (g : ℕ → Object). (g (t.latest b)).member m) (objects t n);
       }
 
-  module _ (d : Inside V) (w : Sight V) (e : Event V) (h : IsDesk d) (a : Added d.seat.me.0 Idle None e w) where
+  pub calm_swap : (c : Cell) (new old : Handle) → IsCalm (Swap c new old)
+  calm_swap c new old = record { quiet = quiet_swap c new old; members = λ z t n b fine asks ends m. filled c new z t n b fine asks.0 ends m }
+
+  pub calm_compare : (c : Cell) (expected new old : Handle) (swapped weak : Bool) → IsCalm (Compare c expected new old swapped weak)
+  calm_compare c expected new old true weak =
+      record { quiet = quiet_compare c expected new old true weak; members = λ z t n b fine asks ends m. filled c new z t n b fine asks.0 ends m }
+  calm_compare c expected new old false weak = calm (λ s d. refl) (λ s d. refl) (λ s f. refl)
+
+  pub quiet_spares : (z : Opening) (t : State) (f : ℕ → Option V) (n : ℕ) (e : Event V) (b : ℕ) → IsCalm e → Sound z t → Asks t n e
+      → (t.object (t.latest b)).phase ≡ ending n → Spares t f n e b
+  quiet_spares z t f n e b q fine asks ends =
+      record {
+        latest = ap (λ (g : ℕ → ℕ). g b) (q.quiet.latest t n);
+        phase = q.quiet.phases t n (t.latest b) ∙ ends;
+        value = ap (λ (g : ℕ → Option V). g (t.latest b)) (q.quiet.values t f);
+        members = q.members z t n b fine asks ends;
+      }
+
+  module _ {n' : ℕ} (d : Inside V) (w : Sight V) (e : Event V) (h : IsDeskWith n' d) (a : Added d.seat.me.0 Idle None e w) where
     -- the history before the event
     abbrev pub before : List (Entry V)
     before = a.between ++ d.seat.me.0.view.seen
@@ -134,7 +168,7 @@ module _ {V : Type 0} where
           → ((((leads (opening_of d.seat.me.0.shape) before).object ((leads (opening_of d.seat.me.0.shape) before).latest b)).phase
           ≡ ending d.seat.me.0.view.name)
           → Spares (leads (opening_of d.seat.me.0.shape) before) (value (opening_of d.seat.me.0.shape) before) d.seat.me.0.view.name e b)
-          → IsEnding y b x → IsEnding (now_of id w m) b x
+          → IsEnding y b x → EndsStill y (now_of id w m) b x
       ends_still b x y is own ends =
           let v = d.seat.me.0 in let z = opening_of v.shape in let n = v.view.name in
           let was = subst (λ (q : DeskNow V). IsEnding q b x) (sym is) ends in
@@ -142,11 +176,16 @@ module _ {V : Type 0} where
           let p : ((leads z before).object ((leads z before).latest b)).phase ≡ ending n =
           ap (λ (o : ℕ). ((leads z before).object o).phase) t.latest ∙ (t.object.phase ∙ was.phase) in
           let r = own p in
-          subst (λ (u : Sight V). IsEnding (now_of id u m) b x) (sym a.now)
+          subst (λ (q : DeskNow V). EndsStill q (now_of id w m) b x) is
+          (subst (λ (u : Sight V). EndsStill (desk_now d) (now_of id u m) b x) (sym a.now)
           record {
-            phase = ap (λ (o : ℕ). ((leads z (entry n e ∷ before)).object o).phase) r.latest ∙ r.phase;
-            kept = ap (value z (entry n e ∷ before)) r.latest ∙ (r.value ∙ (ap (value z before) t.latest ∙ (t.value ∙ was.kept)));
-          }
+            ends = record {
+              phase = ap (λ (o : ℕ). ((leads z (entry n e ∷ before)).object o).phase) r.latest ∙ r.phase;
+              kept = ap (value z (entry n e ∷ before)) r.latest ∙ (r.value ∙ (ap (value z before) t.latest ∙ (t.value ∙ was.kept)));
+            };
+            members = λ q. ap (λ (o : ℕ). ((leads z (entry n e ∷ before)).object o).member q) r.latest
+                ∙ (r.members q ∙ (ap (λ (o : ℕ). ((leads z before).object o).member q) t.latest ∙ t.object.member q));
+          })
 
       pub same_desk : (y : DeskNow V) → desk_now d ≡ y → id ≡ d.seat.table_id → ((s : State) (x : ℕ) → (after s x e).allowance ≡ s.allowance)
           → IsSameDesk y (now_of id w m)
@@ -160,7 +199,7 @@ module _ {V : Type 0} where
           subst (λ (q : DeskNow V). IsSameDesk q (now_of id w m)) is same
 
       -- what an event that changes no object and no store leaves
-      pub keeps_quietly : (y : DeskNow V) → desk_now d ≡ y → id ≡ d.seat.table_id → IsQuiet e →
+      pub keeps_quietly : (y : DeskNow V) → desk_now d ≡ y → id ≡ d.seat.table_id → IsCalm e →
           ((s : State) (x : ℕ) → (after s x e).stores ≡ s.stores)
           → ((s : State) (x : ℕ) → (after s x e).allowance ≡ s.allowance) → Keeps y (now_of id w m)
       keeps_quietly y is table quiet stores allowances =
@@ -172,12 +211,23 @@ module _ {V : Type 0} where
             name = same.name;
             allowance = same.allowance;
             stock = ap length (stock_left v w e c stores);
-            endings = λ b x ends. ends_still b x (desk_now d) refl (λ p. quiet_spares (leads z before) (value z before) n e b quiet p) ends;
+            count = ending_same v w e c quiet.quiet;
+            endings = λ b x ends. ends_still b x (desk_now d) refl (λ p. quiet_spares z (leads z before) (value z before) n e b quiet (sound z before legal_now.0) legal_now.1.asks p) ends;
           } in
           subst (λ (q : DeskNow V). Keeps q (now_of id w m)) is keeps
 
+  pub held_is : (d : Inside V) (y : DeskNow V) → IsDesk d → desk_now d ≡ y → held_of y ≡ d.held + min 1 d.endings
+  held_is d y h is = ap (λ (u : DeskNow V). held_of u) (sym is) ∙ ap (λ n. d.held + min 1 n) (sym h.ended)
+
+  -- a desk that says that it isn't at its allowance isn't
+  pub not_full : (d : Inside V) (y : DeskNow V) (b : Bool) → IsDesk d → desk_now d ≡ y → (IsTrue b ↔ (held_of y ≡ allowance_of y)) → b ≡ false
+      → d.held + min 1 d.endings ≢ d.allowance
+  not_full d y b h is told low full =
+      let e : held_of (desk_now d) ≡ allowance_of (desk_now d) = ap (λ n. d.held + min 1 n) (sym h.ended) ∙ (full ∙ h.allowed) in
+      true≢false (sym (told.1 (subst (λ (u : DeskNow V). held_of u ≡ allowance_of u) is e)) ∙ low)
+
   -- a desk that isn't at its allowance has room for a handle more
-  pub room_left : (d : Inside V) → IsDesk d → d.held ≢ d.allowance → HasRoomFor d.seat.me.0
+  pub room_left : (d : Inside V) → IsDesk d → d.held + min 1 d.endings ≢ d.allowance → HasRoomFor d.seat.me.0
   room_left d h ne = omega (arith, h.holding, h.within, h.allowed, ne)
 
   -- the place of an owner that a desk has is one of four fields

@@ -1,5 +1,5 @@
 -- What a desk is after a call.
-use Rattle.std.proofs.Common.{◌≡◌, ◌≢◌, ℕ, suc, ◌<◌, ◌≤◌, ◌==◌, ◌&&◌, Bool, true, false, List, [], ◌∷◌, ◌++◌, length, Option, Some, None, refl, sym, ap}
+use Rattle.std.proofs.Common.{◌≡◌, ◌≢◌, ℕ, suc, ◌+◌, ◌<◌, ◌≤◌, ◌==◌, ◌&&◌, min, Bool, true, false, List, [], ◌∷◌, ◌++◌, length, Option, Some, None, refl, sym, ap}
 use Rattle.std.proofs.Common.{subst, ◌∙◌, ⊎_elim, arith, eq-eqb, ne_eqb}
 use Rattle.std.proofs.lemmas.Bool.{cases_eq, cond-true, cond-false}
 use Rattle.std.specs.List.{filter}
@@ -26,11 +26,14 @@ use Rattle.control_word.specs.declared.event.Event.{Event}
 use Rattle.control_word.specs.declared.place.Block.{Block}
 use Rattle.control_word.specs.declared.view.Pending.{Pending}
 use Rattle.control_word.specs.declared.view.Pending.TheVariants.{Idle}
-use Rattle.control_block.specs.Inside.{IsDesk, IsSized}
+use Rattle.control_block.specs.Desks.{many_ending}
+use Rattle.control_block.specs.Inside.{IsDesk, IsDeskWith, IsSized}
 use Rattle.control_block.specs.Plays.{Added, Holding, known}
 use Rattle.control_block.specs.Rule.{opening_of}
 use Rattle.control_block.specs.declared.board.Sight.{Sight}
 use Rattle.control_block.specs.declared.desk.Desk.TheInside.{Inside}
+use Rattle.control_block.proofs.EndingCounts.{quiet_count, same_count}
+use Rattle.control_block.proofs.Passage.{IsQuiet}
 
 -- how often a desk's store has a block, told by the desk's part
 in_part : (d b : ℕ) (l : List Stored)
@@ -77,6 +80,7 @@ module _ {V : Type 0} where
     pub name : w.view.name ≡ v.view.name
     pub shape : w.shape ≡ v.shape
     pub legal : IsLegal (opening_of w.shape) w.view.seen
+    pub ending : many_ending v.shape.blocks state v.view.name ≡ many_ending v.shape.blocks (known v) v.view.name
 
   pub came : (v w : Sight V) (p : Pending V) (c : Option Block) (e : Event V) → Added v p c e w → Came v e w
   came v w p c e a =
@@ -94,15 +98,27 @@ module _ {V : Type 0} where
         name = ap (λ (u : Sight V). u.view.name) a.now;
         shape = shape;
         legal = subst (λ y. IsLegal (opening_of y) w.view.seen) (sym shape) a.legal;
+        ending = same_count z a.between v.view.seen d l.0 a.quiet;
       }
 
+  -- how many objects end in its hands after the event
+  pub ending_after : (v w : Sight V) (e : Event V) (c : Came v e w)
+      → many_ending w.shape.blocks (known w) w.view.name ≡ many_ending v.shape.blocks (after c.state v.view.name e) v.view.name
+  ending_after v w e c = λ i. many_ending (c.shape i).blocks (c.now i) (c.name i)
+
+  -- as many as before, where it moves no object
+  pub ending_same : (v w : Sight V) (e : Event V) (c : Came v e w) → IsQuiet e
+      → many_ending w.shape.blocks (known w) w.view.name ≡ many_ending v.shape.blocks (known v) v.view.name
+  ending_same v w e c quiet = ending_after v w e c ∙ (quiet_count v.shape.blocks c.state v.view.name v.view.name e quiet ∙ c.ending)
+
   -- a call that leaves the store and the allowance alone
-  pub quiet_desk : (d d' : Inside V) (e : Event V) → IsDesk d → Added d.seat.me.0 Idle None e d'.seat.me.0
+  pub quiet_desk : {n m : ℕ} (d d' : Inside V) (e : Event V) → IsDeskWith n d → Added d.seat.me.0 Idle None e d'.seat.me.0
       → d'.seat.table_id ≡ d.seat.table_id → d'.seat.me.1 ≡ []
       → ((s : State) (x : ℕ) → (after s x e).stores ≡ s.stores) → ((s : State) (x : ℕ) → (after s x e).allowance ≡ s.allowance)
       → d'.store ≡ d.store → d'.allowance ≡ d.allowance → bag_size (known d'.seat.me.0) d'.seat.me.0.view.name ≤ d'.held
-      → d'.held ≤ d'.allowance → IsDesk d'
-  quiet_desk d d' e h a table none stores allowances store allowance held within =
+      → d'.held + min 1 d'.endings ≤ m + d'.allowance → d'.endings ≡ many_ending d'.seat.me.0.shape.blocks (known d'.seat.me.0) d'.seat.me.0.view.name
+      → IsDeskWith m d'
+  quiet_desk d d' e h a table none stores allowances store allowance held within ended =
       let v = d.seat.me.0 in let w = d'.seat.me.0 in let c = came v w Idle None e a in let n = v.view.name in
       let stores' : (known w).stores ≡ c.state.stores = ap (λ (s : State). s.stores) c.now ∙ stores c.state n in
       let allowance' : (known w).allowance w.view.name ≡ (known v).allowance n =
@@ -120,6 +136,7 @@ module _ {V : Type 0} where
             × Rattle.control_word.specs.declared.shape.Shape.Shape). IsSized y.0 y.1) (λ i. (sym table i, sym c.shape i)) h.sized;
         allowed = allowance ∙ (h.allowed ∙ sym allowance');
         holding = held;
+        ended = ended;
         within = within;
         stored = λ b. ap (λ s. length (filter (λ (x : Block). x.0 == b) s.items)) store
             ∙ (h.stored b ∙ (sym (same_tally n b (known v) c.state c.same.in_stock)
@@ -163,7 +180,7 @@ module _ {V : Type 0} where
       let one = bag_one v.view.name x [] in let s = ap length c.same.in_bag in omega arith
 
   -- the block of a handle that a desk holds is the table's
-  pub word_inside : (d : Inside V) (id : TableId) (k : Kind) (o : ℕ) (p : Option Place) (b j : ℕ) → IsDesk d → d.seat.table_id ≡ id
+  pub word_inside : {n : ℕ} (d : Inside V) (id : TableId) (k : Kind) (o : ℕ) (p : Option Place) (b j : ℕ) → IsDeskWith n d → d.seat.table_id ≡ id
       → Holding d.seat.me.0 k o p b → j < 16
       → (0 < b) × (spot b j < id.words)
   word_inside d id k o p b j h table holds low =
@@ -180,7 +197,7 @@ module _ {V : Type 0} where
       (λ i. bag_size (c.now i) (c.name i))
       ∙ (ap (λ (l : List Held). length (filter (λ (y : Held). y.desk == v.view.name) l)) hands ∙ ap length c.same.in_bag)
 
-  pub slot_inside : (d : Inside V) (id : TableId) (k : Kind) (o : ℕ) (p : Option Place) (b : ℕ) → IsDesk d → d.seat.table_id ≡ id
+  pub slot_inside : {n : ℕ} (d : Inside V) (id : TableId) (k : Kind) (o : ℕ) (p : Option Place) (b : ℕ) → IsDeskWith n d → d.seat.table_id ≡ id
       → Holding d.seat.me.0 k o p b → b ≤ id.slots
   slot_inside d id k o p b h table holds =
       let v = d.seat.me.0 in let z = opening_of v.shape in
@@ -189,7 +206,7 @@ module _ {V : Type 0} where
       let l1 = inside.1 in omega arith
 
   -- who holds a handle holds at least one
-  pub holds_some : (d : Inside V) (k : Kind) (o : ℕ) (p : Option Place) (b : ℕ) → IsDesk d → Holding d.seat.me.0 k o p b → 0 < d.held
+  pub holds_some : {n : ℕ} (d : Inside V) (k : Kind) (o : ℕ) (p : Option Place) (b : ℕ) → IsDeskWith n d → Holding d.seat.me.0 k o p b → 0 < d.held
   holds_some d k o p b h holds =
       let v = d.seat.me.0 in
       let t = num_has (λ (y : Held). y.desk == v.view.name) (held v.view.name (handle k (Some o) p)) (known v).hands holds.has
@@ -197,15 +214,16 @@ module _ {V : Type 0} where
       let u = h.holding in omega arith
 
   -- a call that leaves the allowance alone, with a store that lists the stock after it
-  pub desk_after : (d d' : Inside V) (e : Event V) (h : IsDesk d) (a : Added d.seat.me.0 Idle None e d'.seat.me.0)
+  pub desk_after : {n m : ℕ} (d d' : Inside V) (e : Event V) (h : IsDeskWith n d) (a : Added d.seat.me.0 Idle None e d'.seat.me.0)
       → d'.seat.table_id ≡ d.seat.table_id → d'.seat.me.1 ≡ []
       → ((s : State) (x : ℕ) → (after s x e).allowance ≡ s.allowance) → d'.allowance ≡ d.allowance
       → (let c = came d.seat.me.0 d'.seat.me.0 Idle None e a in let s = after c.state d.seat.me.0.view.name e in
       ((b : ℕ) → length (filter (λ (x : Block). x.0 == b) d'.store.items) ≡ length (filter (same_stored (stored d.seat.me.0.view.name b)) s.stores))
       × (length d'.store.items ≡ length (stock s d.seat.me.0.view.name)))
       → vec_capacity d'.store ≡ vec_capacity d.store
-      → bag_size (known d'.seat.me.0) d'.seat.me.0.view.name ≤ d'.held → d'.held ≤ d'.allowance → IsDesk d'
-  desk_after d d' e h a table none allowances allowance stores capacity held within =
+      → bag_size (known d'.seat.me.0) d'.seat.me.0.view.name ≤ d'.held → d'.held + min 1 d'.endings ≤ m + d'.allowance
+      → d'.endings ≡ many_ending d'.seat.me.0.shape.blocks (known d'.seat.me.0) d'.seat.me.0.view.name → IsDeskWith m d'
+  desk_after d d' e h a table none allowances allowance stores capacity held within ended =
       let v = d.seat.me.0 in let w = d'.seat.me.0 in let c = came v w Idle None e a in let n = v.view.name in
       record {
         rests = record {
@@ -220,6 +238,7 @@ module _ {V : Type 0} where
             × Rattle.control_word.specs.declared.shape.Shape.Shape). IsSized y.0 y.1) (λ i. (sym table i, sym c.shape i)) h.sized;
         allowed = allowance ∙ (h.allowed ∙ sym (allowance_left v w e c allowances));
         holding = held;
+        ended = ended;
         within = within;
         stored = λ b. stores.0 b ∙ (λ i. length (filter (same_stored (stored (sym c.name i) b)) (sym c.now i).stores));
         many = stores.1 ∙ (λ i. length (stock (sym c.now i) (sym c.name i)));
@@ -228,7 +247,7 @@ module _ {V : Type 0} where
       }
 
   -- a block that becomes vacant is pushed
-  pub pushed : (d : Inside V) (h : IsDesk d) (s : State) (items : List Block) (b : Block) → Same (known d.seat.me.0) s d.seat.me.0.view.name
+  pub pushed : {n' : ℕ} (d : Inside V) (h : IsDeskWith n' d) (s : State) (items : List Block) (b : Block) → Same (known d.seat.me.0) s d.seat.me.0.view.name
       → items ≡ d.store.items ++ b ∷ []
       → (l : List Stored) → l ≡ stored d.seat.me.0.view.name b.0 ∷ s.stores
       → ((q : ℕ) → length (filter (λ (x : Block). x.0 == q) items) ≡ length (filter (same_stored (stored d.seat.me.0.view.name q)) l))

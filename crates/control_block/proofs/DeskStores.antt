@@ -14,7 +14,7 @@ use Rattle.control_word.specs.Layout.{spot}
 use Rattle.control_word.specs.State.{Has, State, Stored, same_stored, stock, stored, without}
 use Rattle.control_word.specs.declared.place.Block.{Block}
 use Rattle.control_word.specs.declared.event.Event.{Event}
-use Rattle.control_block.specs.Inside.{IsDesk}
+use Rattle.control_block.specs.Inside.{IsDeskWith}
 use Rattle.control_block.specs.Plays.{known}
 use Rattle.control_block.specs.Rule.{opening_of}
 use Rattle.control_block.specs.declared.board.Sight.{Sight}
@@ -40,7 +40,7 @@ one_block n q b =
     (λ i. eq-eqb n n refl i && ne_eqb q b.0 (λ z. m (sym z)) i))))
     (cases_eq b.0 q)
 
-module _ {V : Type 0} (d : Inside V) (h : IsDesk d) where
+module _ {V : Type 0} {n' : ℕ} (d : Inside V) (h : IsDeskWith n' d) where
   -- the last block of the store is the desk's
   pub last_stored : (items : List Block) (b : Block) → d.store.items ≡ items ++ b ∷ [] → Has (stored d.seat.me.0.view.name b.0)
       (known d.seat.me.0).stores

@@ -6,8 +6,8 @@ use Rattle.control_word.proofs.history.Legal.{sound, written}
 use Rattle.control_word.proofs.history.Moving.{counted_live, owner_counted}
 use Rattle.control_word.proofs.history.Others.{valued_else}
 use Rattle.control_word.proofs.history.Soundness.{Sound}
-use Rattle.control_word.proofs.lists.Tallies.{put_other}
-use Rattle.control_word.specs.Events.{Asks, Holds, after, fills, handed, moved_to, new_object}
+use Rattle.control_word.proofs.lists.Tallies.{put_cases, put_other}
+use Rattle.control_word.specs.Events.{Asks, Holds, IsOpen, after, fills, handed, moved_to, new_object}
 use Rattle.control_word.specs.Handles.{object_of}
 use Rattle.control_word.specs.Histories.{IsLegal, leads, value, valued}
 use Rattle.control_word.specs.State.{Object, Opening, Phase, State, common, ending, gone, live, put, unmade, weak_number}
@@ -21,16 +21,17 @@ use Rattle.control_word.specs.declared.event.Event.TheVariants.{Share, Split, Sw
 use Rattle.control_word.specs.declared.handle.Handle.{Handle}
 use Rattle.control_word.specs.declared.handle.Kind.TheVariants.{Owner}
 
--- all of an object but its members and its block
+-- one object for another, but for its number
 pub record Alike (x y : Object) : Type 0 where
   pub phase : y.phase ≡ x.phase
   pub enabled : y.enabled ≡ x.enabled
   pub null : y.null ≡ x.null
   pub fields : y.fields ≡ x.fields
   pub block : y.block ≡ x.block
+  pub member : (m : ℕ) → y.member m ≡ x.member m
 
 pub alike : (x : Object) → Alike x x
-alike x = record { phase = refl; enabled = refl; null = refl; fields = refl; block = refl }
+alike x = record { phase = refl; enabled = refl; null = refl; fields = refl; block = refl; member = λ m. refl }
 
 alike_both : (x y w : Object) → Alike x y → Alike y w → Alike x w
 alike_both x y w a b =
@@ -41,24 +42,26 @@ alike_both x y w a b =
       fields = b.fields ∙ a.fields;
       block = b.block
           ∙ a.block;
+      member = λ m. b.member m ∙ a.member m;
     }
 
 alike_is : (x y : Object) → y ≡ x → Alike x y
 alike_is x y e = subst (λ w. Alike x w) (sym e) (alike x)
 
-alike_put : (f : ℕ → Object) (q : ℕ) (x : Object) (o : ℕ) → Alike (f q) x → Alike (f o) (put f q x o)
-alike_put f q x o a =
-    ⊎_elim (λ (e : o ≡ q). subst (λ y. Alike (f o) y) (sym (Rattle.control_word.proofs.lists.Tallies.put_same f q x o e)) (subst
-    (λ n. Alike (f n) x) (sym e) a))
-    (λ (n : o ≢ q). alike_is (f o) (put f q x o) (put_other f q x o n)) (cases_eq o q)
+-- a handle that goes into a cell moves no object
+pub fills_phase : (s : State) (c : Cell) (h : Handle) (o : ℕ) → ((fills c h s).object o).phase ≡ (s.object o).phase
+fills_phase s (Free c) h o = refl
+fills_phase s (Member q m) h o =
+    put_cases (λ i x. x.phase ≡ (s.object i).phase) s.object q (record (s.object q) { member = put (s.object q).member m h }) o
+    (λ e. ap (λ i. (s.object i).phase) (sym e)) (λ n. refl)
 
-alike_fills : (s : State) (c : Cell) (h : Handle) (o : ℕ) → Alike (s.object o) ((fills c h s).object o)
-alike_fills s (Free c) h o = alike (s.object o)
-alike_fills s (Member q m) h o =
-    alike_put s.object q (record (s.object q) { member = put (s.object q).member m h }) o
-    record { phase = refl; enabled = refl; null = refl; fields = refl; block = refl }
+pub fills_block : (s : State) (c : Cell) (h : Handle) (o : ℕ) → ((fills c h s).object o).block ≡ (s.object o).block
+fills_block s (Free c) h o = refl
+fills_block s (Member q m) h o =
+    put_cases (λ i x. x.block ≡ (s.object i).block) s.object q (record (s.object q) { member = put (s.object q).member m h }) o
+    (λ e. ap (λ i. (s.object i).block) (sym e)) (λ n. refl)
 
-fills_latest : (s : State) (c : Cell) (h : Handle) → (fills c h s).latest ≡ s.latest
+pub fills_latest : (s : State) (c : Cell) (h : Handle) → (fills c h s).latest ≡ s.latest
 fills_latest s (Free c) h = refl
 fills_latest s (Member q m) h = refl
 
@@ -88,6 +91,13 @@ module _ (z : Opening) (s : State) (b d : ℕ) (fine : Sound z s) (ends : (s.obj
   pub not_live : (h : Handle) (c : ℕ) → Holds s c Owner h → s.latest b ≢ object_of h
   not_live h c holds q = ends_live d (sym ends ∙ (ap (λ o. (s.object o).phase) q ∙ owner_lives z s c h fine holds))
 
+  -- a member that is open is that of another object
+  pub not_filled : (e q c : ℕ) (x : Handle) → IsOpen s e (Member q c) → Alike (s.object (s.latest b)) ((fills (Member q c) x s).object (s.latest b))
+  not_filled e q c x open' =
+      let u = s.object q in
+      alike_is _ _ (put_other s.object q (record u { member = put u.member c x }) (s.latest b)
+      (λ i. not_live open'.1.0 e open'.1.1 (i ∙ sym open'.1.2)))
+
   pub ends_busy : 0 < weak_number s (s.latest b)
   ends_busy = let t : common (s.object (s.latest b)).phase ≡ 1 = ap common ends in omega arith
 
@@ -116,14 +126,15 @@ module _ {V : Type 0} where
     stays_after (Lock h c) asks n m = record { latest = refl; object = alike (s.object (s.latest b)) }
     stays_after (Load c x) asks n m = record { latest = refl; object = alike (s.object (s.latest b)) }
     stays_after (Swap (Free c) x y) asks n m = record { latest = refl; object = alike (s.object (s.latest b)) }
-    stays_after (Swap (Member q c) x y) asks n m = record { latest = refl; object = alike_fills s (Member q c) x (s.latest b) }
+    stays_after (Swap (Member q c) x y) asks n m = record { latest = refl; object = not_filled z s b d fine ends e q c x asks.0 }
     stays_after (Compare (Free c) g x y true w) asks n m = record { latest = refl; object = alike (s.object (s.latest b)) }
-    stays_after (Compare (Member q c) g x y true w) asks n m = record { latest = refl; object = alike_fills s (Member q c) x (s.latest b) }
+    stays_after (Compare (Member q c) g x y true w) asks n m = record { latest = refl; object = not_filled z s b d fine ends e q c x asks.0 }
     stays_after (Compare c g x y false w) asks n m = record { latest = refl; object = alike (s.object (s.latest b)) }
     stays_after (ClearMember o c h) asks n m =
         record {
           latest = refl;
-          object = alike_put s.object o _ (s.latest b) record { phase = refl; enabled = refl; null = refl; fields = refl; block = refl };
+          object = alike_is _ _ (put_other s.object o _ (s.latest b)
+              (λ q. n (ends_same e d (sym asks.0 ∙ (ap (λ (i : ℕ). (s.object i).phase) (sym q) ∙ ends)))));
         }
     stays_after (Finish o c val) asks n m =
         record {
@@ -143,6 +154,7 @@ module _ {V : Type 0} where
             null = refl;
             fields = refl;
             block = refl;
+            member = λ q. refl;
           };
         }
 

@@ -12,14 +12,15 @@ use Rattle.control_word.proofs.history.Soundness.{IsBusy}
 use Rattle.control_word.proofs.lists.Tallies.{held_self, held_true, num_without}
 use Rattle.control_word.proofs.words.Counting.{bag_one}
 use Rattle.control_word.proofs.words.Funds.{same_counts}
-use Rattle.control_word.specs.Events.{Holds, InHand, gets, loses, swaps}
+use Rattle.control_word.specs.Events.{Holds, InHand, fills, gets, loses, swaps}
 use Rattle.control_word.specs.Handles.{handle, has_object, object_of}
 use Rattle.control_word.specs.Histories.{leads}
 use Rattle.control_word.specs.Layout.{spot}
 use Rattle.control_word.specs.State.{HasRoom, Held, State, bag_size, held, same_held, without}
 use Rattle.control_word.specs.Steps.{purse}
 use Rattle.control_word.specs.Words.{block_of, blocks_of, slot}
-use Rattle.control_word.specs.declared.event.Cell.TheVariants.{Free}
+use Rattle.control_word.specs.declared.event.Cell.{Cell}
+use Rattle.control_word.specs.declared.event.Cell.TheVariants.{Free, Member}
 use Rattle.control_word.specs.declared.handle.Handle.{Handle}
 use Rattle.control_word.specs.declared.handle.Kind.{Kind}
 use Rattle.control_word.specs.declared.place.Block.{Block}
@@ -44,10 +45,28 @@ same_number b c e = ap (λ (y : Option Block). first y) e
     first (Some x) = x.0
 
 -- what a bag has after a handle came in
-gets_most : (s : State) (d : ℕ) (h : Handle) → bag_size (gets d h s) d ≤ suc (bag_size s d)
+pub gets_most : (s : State) (d : ℕ) (h : Handle) → bag_size (gets d h s) d ≤ suc (bag_size s d)
 gets_most s d h =
     cond_both (has_object h) (held d h ∷ s.hands) s.hands (λ l. length (filter (λ (x : Held). x.desk == d) l) ≤ suc (bag_size s d))
     (λ e. let a = bag_one d h s.hands in omega arith) (λ e. omega arith)
+
+pub fills_hands : (c : Cell) (x : Handle) (s : State) → (fills c x s).hands ≡ s.hands
+fills_hands (Free c) x s = refl
+fills_hands (Member o m) x s = refl
+
+pub fills_allowance : (c : Cell) (x : Handle) (s : State) → (fills c x s).allowance ≡ s.allowance
+fills_allowance (Free c) x s = refl
+fills_allowance (Member o m) x s = refl
+
+pub fills_stores : (c : Cell) (x : Handle) (s : State) → (fills c x s).stores ≡ s.stores
+fills_stores (Free c) x s = refl
+fills_stores (Member o m) x s = refl
+
+-- what goes in makes no desk's bag larger
+swaps_most : (s : State) (d : ℕ) (c : Cell) (h old : Handle) → bag_size (swaps d c h old s) d ≤ suc (bag_size (loses d h s) d)
+swaps_most s d c h old =
+    let b = gets_most (fills c h (loses d h s)) d old in
+    let q = ap (λ l. length (filter (λ (x : Held). x.desk == d) l)) (fills_hands c h (loses d h s)) in omega arith
 
 module _ {V : Type 0} where
   -- what is owed for a handle is its purse
@@ -106,18 +125,19 @@ module _ {V : Type 0} where
             a ∙ (ap Some one.1 ∙ sym b)
 
     -- a swap keeps to the allowance
-    pub room_swapped : (old : Handle) (c : ℕ) → (h.object ≡ None → HasRoomFor v)
-        → HasRoom (swaps v.view.name (Free c) h old (leads (opening_of k) r.history)) v.view.name
+    pub room_swapped : (old : Handle) (c : Cell) → (h.object ≡ None → HasRoomFor v)
+        → HasRoom (swaps v.view.name c h old (leads (opening_of k) r.history)) v.view.name
     room_swapped old c more = go h.object refl
       where
-        go : (o : Option ℕ) → h.object ≡ o → HasRoom (swaps v.view.name (Free c) h old (leads (opening_of k) r.history)) v.view.name
+        go : (o : Option ℕ) → h.object ≡ o → HasRoom (swaps v.view.name c h old (leads (opening_of k) r.history)) v.view.name
         go None e =
             let t = leads (opening_of k) r.history in let d = v.view.name in let a = still_room k s r id v at awake (more e) in
             let l : loses d h t ≡ t = ap (λ y. loses d (handle h.kind y h.place) t) e in
-            let b = gets_most (loses d h t) d old in let q = ap (λ y. bag_size y d) l in omega arith
+            let b = swaps_most t d c h old in let q = ap (λ y. bag_size y d) l in
+            let f = ap (λ (g : ℕ → ℕ). g d) (fills_allowance c h (loses d h t)) in omega arith
         go (Some o) e =
             let t = leads (opening_of k) r.history in let d = v.view.name in let a = (allowed (opening_of k) r.history r.stands.legal).rooms d in
-            let b = gets_most (loses d h t) d old in let p : Held → Bool = λ x. x.desk == d in
+            let b = swaps_most t d c h old in let f = ap (λ (g : ℕ → ℕ). g d) (fills_allowance c h (loses d h t)) in let p : Held → Bool = λ x. x.desk == d in
             let has : Rattle.control_word.specs.State.Has (held d h) t.hands =
             ⊎_elim (λ n. absurd (no_object o h.object e n.0)) (λ n. n.0) (hand_there m refl).1 in
             let l : bag_size (loses d h t) d ≡ length (filter p (without same_held (held d h) t.hands)) =

@@ -1,11 +1,17 @@
 pub mod Lists
 pub mod Stores
 pub mod Opening
+pub mod ClearDesks
+pub mod ClearLeaves
+pub mod ClearWeakLeaves
 pub mod Closing
+pub mod EndingCounts
+pub mod EndingNames
 pub mod Endings
 pub mod Passage
 pub mod Unseen
 pub mod CellRounds
+pub mod CellSites
 pub mod Still
 pub mod CellWords
 pub mod Hands
@@ -30,6 +36,7 @@ pub mod DeskBags
 pub mod DeskLocks
 pub mod CellDesks
 pub mod CellChoices
+pub mod OwnCounts
 pub mod OwnEndings
 pub mod StoreBlocks
 pub mod WeakGifts

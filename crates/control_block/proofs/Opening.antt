@@ -10,13 +10,13 @@ use lib.ListN.{get_elem?, length-replicate}
 use Rattle.atomic_table.specs.Table.{opening}
 use Rattle.control_word.proofs.steps.Standing.{begins}
 use Rattle.control_word.specs.Layout.{IsWithinLimits, table_size}
-use Rattle.control_word.specs.State.{IsOpening, Stored, all_stored, bag_size, same_stored, start, stock, stored}
+use Rattle.control_word.specs.State.{IsOpening, Stored, all_stored, bag_size, same_stored, start, stock, stored, sum_below}
 use Rattle.control_word.specs.Views.{Stands, fresh}
 use Rattle.control_word.specs.declared.place.Block.{Block}
 use Rattle.control_word.specs.declared.shape.Shape.{Shape}
 use Rattle.std.specs.Prelude.{vec_capacity}
 use Rattle.control_word.specs.Histories.{IsLegal}
-use Rattle.control_block.specs.Desks.{all_blocks}
+use Rattle.control_block.specs.Desks.{all_blocks, many_ending}
 use Rattle.control_block.specs.Inside.{IsDesk, IsSized}
 use Rattle.control_block.specs.Plays.{At, Rests, known}
 use Rattle.control_block.specs.declared.desk.Desk.TheInside.{Inside}
@@ -58,7 +58,6 @@ module _ {V : Type 0} where
         sized = length-map (replicate k.blocks None) (λ y. some y) ∙ length-replicate k.blocks None;
         homes = λ b inside. inl (nones None k.blocks (b - 1) (let a = inside.0 in let c = inside.1 in omega arith));
         backed = only (λ u. u.view.spent ≡ false → IsBacked (start (opening_of k)) u.view.name u.view.pending u.hand) (opens_with k) (λ _. tt);
-        bare = λ o m. refl;
       }
 
 -- the store lists all blocks
@@ -81,11 +80,15 @@ pub all_many : (n : ℕ) → length (all_blocks n) ≡ length (filter (λ (x : S
 all_many zero = refl
 all_many (suc n) = let i = all_many n in let x : Block = record { 0 = suc n } in let a = length-append (all_blocks n) (x ∷ []) in omega arith
 
+none_ending : (n : ℕ) → sum_below n (λ j. 0) ≡ 0
+none_ending zero = refl
+none_ending (suc n) = let i = none_ending n in omega arith
+
 module _ {V : Type 0} where
   pub first_desk : (d : Inside V) (k : Shape) → IsWithinLimits k → d.seat.me ≡ (opens_with k, []) → IsSized d.seat.table_id k
       → d.allowance ≡ k.allowance
-      → d.held ≡ 0 → d.store.items ≡ all_blocks k.blocks → vec_capacity d.store ≡ k.blocks → IsDesk d
-  first_desk d k fine me sized allowed held items room =
+      → d.held ≡ 0 → d.endings ≡ 0 → d.store.items ≡ all_blocks k.blocks → vec_capacity d.store ≡ k.blocks → IsDesk d
+  first_desk d k fine me sized allowed held ended items room =
       let v : Sight V = opens_with k in let e : v ≡ d.seat.me.0 = sym (ap (λ (m : At V). m.0) me) in let s = fine.some_handle in
       record {
         rests = subst (λ (m : At V). Rests m) (sym me) record { awake = refl; idle = refl; empty = refl; none = refl };
@@ -94,6 +97,7 @@ module _ {V : Type 0} where
         sized = subst (λ (u : Sight V). IsSized d.seat.table_id u.shape) e sized;
         allowed = allowed ∙ ap (λ (u : Sight V). (known u).allowance u.view.name) e;
         holding = subst (λ (u : Sight V). bag_size (known u) u.view.name ≤ d.held) e (omega arith);
+        ended = ended ∙ (sym (none_ending k.blocks) ∙ ap (λ (u : Sight V). many_ending u.shape.blocks (known u) u.view.name) e);
         within = omega arith;
         stored = λ b. ap (λ l. length (filter (λ (c : Block). c.0 == b) l)) items
             ∙ (all_tallies b k.blocks ∙ ap (λ (u : Sight V). length (filter (same_stored (stored u.view.name b)) (known u).stores)) e);

@@ -1,5 +1,5 @@
 -- What a desk's own events leave of the objects that end in its hands.
-use Rattle.std.proofs.Common.{◌≡◌, ◌≢◌, ℕ, suc, ◌==◌, Bool, true, cond, List, ◌∷◌, Option, Some, None, refl, sym, ap, subst, ◌∙◌, arith, ne_eqb}
+use Rattle.std.proofs.Common.{◌≡◌, ◌≢◌, ℕ, suc, ◌<◌, ◌==◌, Bool, true, cond, List, ◌∷◌, Option, Some, None, refl, sym, ap, subst, ◌∙◌, arith, ne_eqb}
 use Rattle.std.proofs.lemmas.Bool.{cond-false}
 use Rattle.std.specs.Prelude.{IfSome, is_some}
 use Rattle.atomic_table.specs.Seated.{TableId}
@@ -10,21 +10,21 @@ use Rattle.control_word.proofs.history.Others.{held_made}
 use Rattle.control_word.proofs.history.Soundness.{Sound}
 use Rattle.control_word.proofs.lists.Tallies.{put_other, put_same}
 use Rattle.control_word.specs.Events.{Asks, moved_to, new_object}
-use Rattle.control_word.specs.Handles.{object_of, owner}
+use Rattle.control_word.specs.Handles.{empty, object_of, owner}
 use Rattle.control_word.specs.Histories.{entry, leads, value}
-use Rattle.control_word.specs.State.{InShape, Object, Opening, State, ending, gone, put}
+use Rattle.control_word.specs.State.{InShape, Object, Opening, State, ending, gone, kind_of_member, put}
 use Rattle.control_word.specs.Words.{blocks_of}
 use Rattle.control_word.specs.declared.event.Event.{Event}
-use Rattle.control_word.specs.declared.event.Event.TheVariants.{Finish, Leave, Make, Visit}
+use Rattle.control_word.specs.declared.event.Event.TheVariants.{ClearMember, Finish, Leave, Make, Visit}
 use Rattle.control_word.specs.declared.handle.Handle.{Handle}
 use Rattle.control_word.specs.declared.handle.Kind.{Kind}
 use Rattle.control_word.specs.declared.handle.Kind.TheVariants.{Owner}
 use Rattle.control_word.specs.declared.place.Block.{Block}
 use Rattle.control_word.specs.declared.place.Place.{Place}
 use Rattle.control_word.specs.declared.view.Pending.TheVariants.{Idle}
-use Rattle.control_block.specs.Desks.{DeskNow, IsEnding}
-use Rattle.control_block.specs.Inside.{IsDesk, desk_now}
-use Rattle.control_block.specs.Plays.{Added, Ends, Holding, known}
+use Rattle.control_block.specs.Desks.{DeskNow, IsCleared, IsEnding}
+use Rattle.control_block.specs.Inside.{IsDesk, IsDeskWith, desk_now}
+use Rattle.control_block.specs.Plays.{Added, Ends, Holding, IsClear, known}
 use Rattle.control_block.specs.Rule.{opening_of}
 use Rattle.control_block.specs.declared.board.Sight.{Sight}
 use Rattle.control_block.specs.declared.desk.Desk.TheInside.{Inside}
@@ -41,6 +41,9 @@ module _ {V : Type 0} where
               (cond last (moved_to (ending n) (t.object (object_of h))) (t.object (object_of h)))
               (t.latest b) (not_live z t b n fine ends h n asks.0)) ∙ ends;
           value = refl;
+          members = λ m. ap (λ (x : Object). x.member m) (put_other t.object (object_of h)
+              (cond last (moved_to (ending n) (t.object (object_of h))) (t.object (object_of h)))
+              (t.latest b) (not_live z t b n fine ends h n asks.0));
         }
 
     pub visit_spares : (h : Handle) (was becomes : V) → Asks t n (Visit h was becomes) → Spares t f n (Visit h was becomes) b
@@ -49,6 +52,7 @@ module _ {V : Type 0} where
           latest = refl;
           phase = ends;
           value = put_other f (object_of h) (Some becomes) (t.latest b) (not_live z t b n fine ends h n asks);
+          members = λ m. refl;
         }
 
     pub make_spares : (c : Block) (enabled null : Bool) (fields : List ℕ) (x : V) → Asks t n (Make c enabled null fields x)
@@ -61,6 +65,7 @@ module _ {V : Type 0} where
           latest = put_other t.latest c.0 (suc t.made) b apart;
           phase = ap (λ (y : Object). y.phase) (put_other t.object (suc t.made) (new_object c.0 enabled null fields) (t.latest b) new) ∙ ends;
           value = cond-false (t.latest b == suc t.made) (Some x) (f (t.latest b)) (ne_eqb (t.latest b) (suc t.made) new);
+          members = λ m. ap (λ (y : Object). y.member m) (put_other t.object (suc t.made) (new_object c.0 enabled null fields) (t.latest b) new);
         }
 
     pub finish_spares : (o c : ℕ) (vacant : Bool) (x : V) → (t.object o).block ≡ c → b ≢ c → Spares t f n (Finish o vacant x) b
@@ -70,6 +75,20 @@ module _ {V : Type 0} where
           phase = ap (λ (y : Object). y.phase) (put_other t.object o (moved_to gone (t.object o)) (t.latest b)
               (λ q. apart (sym (ends_here z t b n fine ends) ∙ (ap (λ y. (t.object y).block) q ∙ there)))) ∙ ends;
           value = refl;
+          members = λ m. ap (λ (y : Object). y.member m) (put_other t.object o (moved_to gone (t.object o)) (t.latest b)
+              (λ q. apart (sym (ends_here z t b n fine ends) ∙ (ap (λ y. (t.object y).block) q ∙ there))));
+        }
+
+    pub clear_spares : (o m : ℕ) (h : Handle) (c : ℕ) → (t.object o).block ≡ c → b ≢ c → Spares t f n (ClearMember o m h) b
+    clear_spares o m h c there apart =
+        let x = t.object o in
+        let other = put_other t.object o (record x { member = put x.member m (empty (kind_of_member m)) }) (t.latest b)
+        (λ q. apart (sym (ends_here z t b n fine ends) ∙ (ap (λ y. (t.object y).block) q ∙ there))) in
+        record {
+          latest = refl;
+          phase = ap (λ (y : Object). y.phase) other ∙ ends;
+          value = refl;
+          members = λ k. ap (λ (y : Object). y.member k) other;
         }
 
   -- an ending, by what the seat knows
@@ -80,15 +99,19 @@ module _ {V : Type 0} where
       → value (opening_of d.seat.me.0.shape) d.seat.me.0.view.seen ((known d.seat.me.0).latest b) ≡ Some x
   ends_value d y b x is ends = (subst (λ (q : DeskNow V). IsEnding q b x) (sym is) ends).kept
 
+  pub clear_in : (d : Inside V) (y : DeskNow V) (b : ℕ) → desk_now d ≡ y → ((m : ℕ) → m < 3 → IsCleared y b m)
+      → IsClear d.seat.me.0 ((known d.seat.me.0).latest b)
+  clear_in d y b is clear m lt = subst (λ (q : DeskNow V). IsCleared q b m) (sym is) (clear m lt)
+
   -- its block is one of the shape's
-  pub ends_inside : (d : Inside V) (b : ℕ) → IsDesk d → Ends d.seat.me.0 ((known d.seat.me.0).latest b) b
+  pub ends_inside : {n' : ℕ} (d : Inside V) (b : ℕ) → IsDeskWith n' d → Ends d.seat.me.0 ((known d.seat.me.0).latest b) b
       → (((known d.seat.me.0).object ((known d.seat.me.0).latest b)).block ≡ b) × InShape (opening_of d.seat.me.0.shape) b
   ends_inside d b h ends =
       let v = d.seat.me.0 in let z = opening_of v.shape in let fine = sound z v.view.seen h.legal in
       let here = ends_here z (known v) b v.view.name fine ends.1 in
       (here, subst (InShape z) here (fine.placed ((known v).latest b) (ends_busy z (known v) b v.view.name fine ends.1)).1)
 
-  module _ (d : Inside V) (w : Sight V) (e : Event V) (h : IsDesk d) (a : Added d.seat.me.0 Idle None e w) where
+  module _ {n' : ℕ} (d : Inside V) (w : Sight V) (e : Event V) (h : IsDeskWith n' d) (a : Added d.seat.me.0 Idle None e w) where
     -- at the event an object that the desk has, or that ends in its hands, is in its block
     pub block_before : (k : Kind) (o : ℕ) (p : Option Place) (b : ℕ) → Holding d.seat.me.0 k o p b
         → blocks_of (leads (opening_of d.seat.me.0.shape) (before d w e h a)) o ≡ b
@@ -110,7 +133,7 @@ module _ {V : Type 0} where
         ∙ (ends_inside d b h ends).0
 
   -- after the last owner's leave
-  pub ends_by_leave : (d : Inside V) (w : Sight V) (o b m : ℕ) (id : TableId) (p : Option Place) (x : V) (h : IsDesk d)
+  pub ends_by_leave : {n' : ℕ} (d : Inside V) (w : Sight V) (o b m : ℕ) (id : TableId) (p : Option Place) (x : V) (h : IsDeskWith n' d)
       → Added d.seat.me.0 Idle None (Leave (owner o p) true) w → Holding d.seat.me.0 Owner o p b
       → value (opening_of d.seat.me.0.shape) w.view.seen o ≡ Some x → IsEnding (now_of id w m) b x
   ends_by_leave d w o b m id p x h a holds is =
@@ -126,7 +149,7 @@ module _ {V : Type 0} where
         kept = ap (value z (entry n ev ∷ hist)) last ∙ (ap (λ l. value z l o) (sym seen) ∙ is);
       }
 
-  pub ended_if : (d : Inside V) (w : Sight V) (o b m : ℕ) (id : TableId) (p : Option Place) (r : Option V) → IsDesk d
+  pub ended_if : {n' : ℕ} (d : Inside V) (w : Sight V) (o b m : ℕ) (id : TableId) (p : Option Place) (r : Option V) → IsDeskWith n' d
       → Added d.seat.me.0 Idle None (Leave (owner o p) (is_some r)) w → Holding d.seat.me.0 Owner o p b
       → IfSome r (λ x. value (opening_of d.seat.me.0.shape) w.view.seen o ≡ Some x) → IfSome r (IsEnding (now_of id w m) b)
   ended_if d w o b m id p None h a holds is = is

@@ -1,5 +1,6 @@
 -- Desks by their fields, and the state at which an event of a desk came.
-use Rattle.std.proofs.Common.{◌≡◌, ℕ, ◌≤◌, true, false, List, [], ◌++◌, length, Option, Some, None, ◌<◌, refl, sym, ap, subst, ◌∙◌, ⊎_elim, arith}
+use Rattle.control_block.specs.Desks.{many_ending}
+use Rattle.std.proofs.Common.{◌≡◌, ℕ, ◌+◌, ◌≤◌, min, true, false, List, [], ◌++◌, length, Option, Some, None, ◌<◌, refl, sym, ap, subst, ◌∙◌, ⊎_elim, arith}
 use Rattle.std.proofs.lemmas.Bool.{cases_lt}
 use Rattle.control_word.proofs.views.Resting.{sum_at}
 use Rattle.std.specs.List.{filter}
@@ -50,10 +51,11 @@ module _ {V : Type 0} where
   -- a desk by its chair's view and its numbers
   pub desk_of : (d : Inside V) (u : Sight V) → d.seat.me ≡ (u, []) → (u.view.spent ≡ false) × (u.view.pending ≡ Idle) × (u.hand ≡ None)
       → IsLegal (opening_of u.shape) u.view.seen → IsWithinLimits u.shape → IsSized d.seat.table_id u.shape
-      → d.allowance ≡ (known u).allowance u.view.name → bag_size (known u) u.view.name ≤ d.held → d.held ≤ d.allowance
+      → d.allowance ≡ (known u).allowance u.view.name → bag_size (known u) u.view.name ≤ d.held → d.held + min 1 d.endings ≤ d.allowance
       → ((b : ℕ) → times b d.store.items ≡ length (filter (same_stored (stored u.view.name b)) (known u).stores))
-      → length d.store.items ≡ length (stock (known u) u.view.name) → u.shape.blocks ≤ vec_capacity d.store → IsDesk d
-  desk_of d u me rests legal limits sized allowed holding within tallies many room =
+      → length d.store.items ≡ length (stock (known u) u.view.name) → u.shape.blocks ≤ vec_capacity d.store
+      → d.endings ≡ many_ending u.shape.blocks (known u) u.view.name → IsDesk d
+  desk_of d u me rests legal limits sized allowed holding within tallies many room ended =
       let e : u ≡ d.seat.me.0 = sym (ap (λ (m : At V). m.0) me) in
       record {
         rests = subst (λ (m : At V). Rests m) (sym me) record { awake = rests.0; idle = rests.1; empty = rests.2; none = refl };
@@ -62,7 +64,8 @@ module _ {V : Type 0} where
         sized = subst (λ (y : Sight V). IsSized d.seat.table_id y.shape) e sized;
         allowed = allowed ∙ ap (λ (y : Sight V). (known y).allowance y.view.name) e;
         holding = subst (λ (y : Sight V). bag_size (known y) y.view.name ≤ d.held) e holding;
-        within = within;
+        ended = ended ∙ ap (λ (y : Sight V). many_ending y.shape.blocks (known y) y.view.name) e;
+        within = omega (arith, within);
         stored = λ b. tallies b ∙ ap (λ (y : Sight V). length (filter (same_stored (stored y.view.name b)) (known y).stores)) e;
         many = many ∙ ap (λ (y : Sight V). length (stock (known y) y.view.name)) e;
         room = subst (λ (y : Sight V). y.shape.blocks ≤ vec_capacity d.store) e room;

@@ -1,5 +1,5 @@
 -- What the desk of a join has.
-use Rattle.std.proofs.Common.{◌≡◌, ◌≢◌, ℕ, ◌+◌, ◌<◌, ◌≤◌, ◌==◌, Bool, true, false, cond, List, [], ◌∷◌, ◌++◌, map, length, Option, Some, None}
+use Rattle.std.proofs.Common.{◌≡◌, ◌≢◌, ℕ, ◌+◌, ◌<◌, ◌≤◌, ◌==◌, Bool, true, false, cond, List, [], ◌∷◌, ◌++◌, map, length, suc, Option, Some, None}
 use Rattle.std.proofs.Common.{refl, sym, ap, subst, ◌∙◌, arith, append_assoc, length-append}
 use Rattle.std.proofs.lemmas.Bool.{cond_both}
 use Rattle.std.proofs.lemmas.List.{length-map, map-append}
@@ -12,20 +12,21 @@ use Rattle.control_word.proofs.history.Legal.{sound}
 use Rattle.control_word.proofs.lists.Tallies.{num, put_other, put_same}
 use Rattle.control_word.specs.Events.{handed, joins_up, renamed}
 use Rattle.control_word.specs.Histories.{IsLegal, entry, leads, value}
-use Rattle.control_word.specs.State.{Held, State, Stored, bag, bag_size, ending, held, put, same_stored, stock, stored}
+use Rattle.control_word.specs.State.{Held, State, Stored, bag, bag_size, ending, held, put, same_stored, stock, stored, sum_below}
 use Rattle.control_word.specs.Views.{Knows}
 use Rattle.control_word.specs.Words.{blocks_of}
 use Rattle.control_word.specs.declared.event.Entry.{Entry}
 use Rattle.control_word.specs.declared.event.Event.TheVariants.{Join}
 use Rattle.control_word.specs.declared.handle.Handle.{Handle}
 use Rattle.control_word.specs.declared.shape.Shape.{Shape}
-use Rattle.control_block.specs.Desks.{bag_of, by_block}
+use Rattle.control_block.specs.Desks.{bag_of, by_block, ends_with, many_ending}
 use Rattle.control_block.specs.Inside.{IsDesk, desk_now}
 use Rattle.control_block.specs.Plays.{JoinsUp, known}
 use Rattle.control_block.specs.Rule.{opening_of}
 use Rattle.control_block.specs.declared.board.Sight.{Sight}
 use Rattle.control_block.specs.declared.desk.Desk.TheInside.{Inside}
 use Rattle.control_block.proofs.Chairs.{none_by}
+use Rattle.control_block.proofs.EndingCounts.{few_ending, handed_count, same_count}
 use Rattle.control_block.proofs.Endings.{still_ends}
 use Rattle.control_block.proofs.PartingDesks.{allowance_within, reached, shown_alike}
 use Rattle.control_block.proofs.PartingLists.{map_same, map_twice}
@@ -37,11 +38,13 @@ module _ {V : Type 0} where
   -- What one of the two has in the state to which the history before the join led
   pub record Side (x : Sight V) (k : Shape) (h : List (Entry V)) : Type 0 where
     pub same : Same (known x) (leads (opening_of k) h) x.view.name
+    pub count : many_ending x.shape.blocks (leads (opening_of k) h) x.view.name ≡ many_ending x.shape.blocks (known x) x.view.name
     pub blocks : (o : ℕ) → o ≤ (known x).made → blocks_of (leads (opening_of k) h) o ≡ blocks_of (known x) o
     pub ends : (b : ℕ) → ((known x).object ((known x).latest b)).phase ≡ ending x.view.name
         → ((leads (opening_of k) h).latest b ≡ (known x).latest b)
         × (((leads (opening_of k) h).object ((known x).latest b)).phase ≡ ending x.view.name)
         × (value (opening_of k) h ((known x).latest b) ≡ value (opening_of x.shape) x.view.seen ((known x).latest b))
+        × ((m : ℕ) → ((leads (opening_of k) h).object ((known x).latest b)).member m ≡ ((known x).object ((known x).latest b)).member m)
 
   pub side : (x : Sight V) (k : Shape) (h : List (Entry V)) → x.shape ≡ k → Knows x.view.name h x.view.seen → IsLegal (opening_of k) h → Side x k h
   side x k h shape knows legal =
@@ -54,9 +57,10 @@ module _ {V : Type 0} where
           let r = reached x later quiet l in
           record {
             same = r.same;
+            count = same_count (opening_of x.shape) later x.view.seen x.view.name l quiet;
             blocks = r.blocks;
             ends = λ b e.
-                let t = still_ends (opening_of x.shape) later x.view.seen b x.view.name l quiet e in (t.latest, t.object.phase ∙ e, t.value);
+                let t = still_ends (opening_of x.shape) later x.view.seen b x.view.name l quiet e in (t.latest, t.object.phase ∙ e, t.value, t.object.member);
           }
 
   module _ (d o : Inside V) (h : IsDesk d) (i : IsDesk o) (shapes : o.seat.me.0.shape ≡ d.seat.me.0.shape) (u : Sight V)
@@ -116,6 +120,21 @@ module _ {V : Type 0} where
 
     pub now : known u ≡ joins_up n m then
     now = λ k. leads (opening_of (shape k)) (seen k)
+
+    -- what ended with either ends with the one
+    pub endings_after : many_ending u.shape.blocks (known u) n ≡ d.endings + o.endings
+    endings_after =
+        let a : many_ending u.shape.blocks (known u) n ≡ sum_below v.shape.blocks (λ q. ends_with n (handed m n (then.object (then.latest (suc q))).phase)) =
+        λ k. many_ending (shape k).blocks (now k) n in
+        let b = handed_count v.shape.blocks then n m apart in
+        let c : many_ending v.shape.blocks then m ≡ o.endings =
+        subst (λ (y : Shape). many_ending y.blocks then m ≡ o.endings) shapes (two.count ∙ sym i.ended) in
+        let e : many_ending v.shape.blocks then n ≡ d.endings = one.count ∙ sym h.ended in
+        omega arith
+
+    pub endings_few : d.endings + o.endings ≤ 65535
+    endings_few = let t = few_ending u.shape.blocks (known u) n in let e = endings_after in let a = h.limits.blocks in
+        let s = ap (λ (y : Shape). y.blocks) shape in omega arith
 
     pub allowance_after : (known u).allowance n ≡ (known v).allowance n + (known w).allowance m
     allowance_after =
@@ -213,11 +232,13 @@ module _ {V : Type 0} where
         → ((known s).object ((known s).latest b)).phase ≡ ending s.view.name
         → (((known u).object ((known u).latest b)).phase ≡ ending n)
         × (value (opening_of u.shape) u.view.seen ((known u).latest b) ≡ value (opening_of s.shape) s.view.seen ((known s).latest b))
+        × ((m : ℕ) → ((known u).object ((known u).latest b)).member m ≡ ((known s).object ((known s).latest b)).member m)
     ends_after s sd to b e =
         let t = sd.ends b e in (
           ap (λ (y : State). (y.object (y.latest b)).phase) now
               ∙ (ap (λ q. handed m n (then.object q).phase) t.0 ∙ (ap (handed m n) t.1 ∙ to)),
           (λ k. value (opening_of (shape k)) (seen k) ((now k).latest b)) ∙ (ap (value (opening_of v.shape) before) t.0 ∙ t.2),
+          λ q. ap (λ (y : State). (y.object (y.latest b)).member q) now ∙ (ap (λ j. (then.object j).member q) t.0 ∙ t.3 q),
         )
 
     -- a name that is told anew

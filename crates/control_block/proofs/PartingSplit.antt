@@ -14,7 +14,7 @@ use Rattle.control_word.specs.declared.event.Entry.{Entry}
 use Rattle.control_word.specs.declared.event.Event.TheVariants.{Split}
 use Rattle.control_word.specs.declared.handle.Handle.{Handle}
 use Rattle.control_word.specs.declared.place.Block.{Block}
-use Rattle.control_block.specs.Desks.{bag_of, by_block}
+use Rattle.control_block.specs.Desks.{bag_of, by_block, many_ending}
 use Rattle.control_block.specs.Inside.{IsDesk, desk_now}
 use Rattle.control_block.specs.Parting.{HoldsAll, Parted, as_listed, in_history, listed, times, without_all}
 use Rattle.control_block.specs.Plays.{MaySplit, known}
@@ -22,6 +22,8 @@ use Rattle.control_block.specs.Rule.{opening_of}
 use Rattle.control_block.specs.declared.board.Sight.{Sight}
 use Rattle.control_block.specs.declared.desk.Desk.TheInside.{Inside}
 use Rattle.control_block.specs.declared.handles.Held.{Held as HeldValue}
+use Rattle.control_block.proofs.EndingCounts.{same_count}
+use Rattle.control_block.proofs.EndingNames.{none_named}
 use Rattle.control_block.proofs.Parts.{all_from, all_to}
 use Rattle.control_block.proofs.PartingDesks.{Reached, reached, shown_back}
 use Rattle.control_block.proofs.PartingLists.{all_back, all_map, length_less, less_all, less_map}
@@ -159,6 +161,17 @@ module _ {V : Type 0} (d : Inside V) (h : IsDesk d) (hs : List HeldValue) (holds
         ∙ (part_got same_stored stored_true stored_self (λ (b : Block). stored n b.0) (λ b. stored p.to b.0) (λ (x : Stored). x.desk) p.to bs
         then.stores (λ x e. apart e) (λ x. refl)
         ∙ append_none (map (λ (b : Block). stored p.to b.0) bs) (filter (λ (x : Stored). x.desk == p.to) then.stores) stock_new)
+
+    -- what ends with the desk ends there still, and nothing with the new one
+    pub ending_left : d.endings ≡ many_ending w.shape.blocks (known w) n
+    ending_left =
+        h.ended ∙ sym ((λ i. many_ending (shape i).blocks (now i) n)
+        ∙ same_count (opening_of v.shape) p.event.between v.view.seen n legal.0 p.event.quiet)
+
+    pub ending_given : many_ending w.shape.blocks (known w) p.to ≡ 0
+    ending_given =
+        (λ i. many_ending (shape i).blocks (now i) p.to)
+        ∙ none_named (opening_of v.shape) before v.shape.blocks p.to legal.0 (let t = legal.1.asks.0 in omega arith)
 
     pub allowance_left : (known w).allowance n ≡ (known v).allowance n - a
     allowance_left =

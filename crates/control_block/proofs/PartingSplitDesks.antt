@@ -1,5 +1,5 @@
 -- The two desks of a split, as contracts see them.
-use Rattle.std.proofs.Common.{◌≡◌, ℕ, ◌+◌, ◌-◌, ◌≤◌, true, List, [], ◌∷◌, ◌++◌, map, length, Some, None}
+use Rattle.std.proofs.Common.{◌≡◌, ℕ, ◌+◌, ◌-◌, ◌≤◌, min, true, List, [], ◌∷◌, ◌++◌, map, length, Some, None}
 use Rattle.std.proofs.Common.{refl, sym, ap, subst, ◌∙◌, arith}
 use Rattle.std.proofs.lemmas.List.{length-map}
 use Rattle.std.specs.List.{filter}
@@ -16,7 +16,7 @@ use Rattle.control_word.specs.declared.handle.Handle.{Handle}
 use Rattle.control_word.specs.declared.place.Block.{Block}
 use Rattle.control_word.specs.declared.shape.Shape.{Shape}
 use Rattle.atomic_table.specs.Seated.{TableId}
-use Rattle.control_block.specs.Desks.{IsEnding, bag_of, by_block}
+use Rattle.control_block.specs.Desks.{many_ending, IsEnding, bag_of, by_block}
 use Rattle.control_block.specs.Inside.{IsDesk, IsSized, desk_now}
 use Rattle.control_block.specs.Parting.{HoldsAll, Parted, SplitsOff, in_history, listed, times, without_all}
 use Rattle.control_block.specs.Plays.{known}
@@ -47,9 +47,9 @@ module _ {V : Type 0} (d : Inside V) (h : IsDesk d) (hs : List HeldValue) (holds
 
   -- the desk that goes on
   pub old_desk : (e : Inside V) → e.seat.table_id ≡ d.seat.table_id → e.seat.me ≡ (w, []) → e.allowance ≡ d.allowance - a
-      → e.held ≡ d.held - length hs → e.held ≤ e.allowance → ((b : ℕ) → times b bs + times b e.store.items ≡ times b d.store.items)
+      → e.held ≡ d.held - length hs → e.endings ≡ d.endings → e.held + min 1 e.endings ≤ e.allowance → ((b : ℕ) → times b bs + times b e.store.items ≡ times b d.store.items)
       → length e.store.items + length bs ≡ length d.store.items → vec_capacity e.store ≡ vec_capacity d.store → IsDesk e
-  old_desk e table me allowance count within tallies many room =
+  old_desk e table me allowance count endings within tallies many room =
       let own = h.allowed in let l = part.allowance_left d h hs holds a bs w u p in let b = ap length (part.bag_left d h hs holds a bs w u p) in
       let g = length_less same_held held_true held_self (part.back d h hs holds) (listed hs) (bag (known v) n) (part.gone d h hs holds).0 in
       let s = part.sizes d h hs holds in
@@ -70,11 +70,12 @@ module _ {V : Type 0} (d : Inside V) (h : IsDesk d) (hs : List HeldValue) (holds
       (let x = tallies b in let y = part.tally_left d h hs holds a bs w u p b in let z = h.stored b in omega arith))
       (subst (λ j. length e.store.items ≡ length (stock (known w) j)) (sym name) (omega arith))
       (subst (λ c. w.shape.blocks ≤ c) (sym room) (subst (λ (k : Shape). k.blocks ≤ vec_capacity d.store) (sym shape) h.room))
+      (endings ∙ (part.ending_left d h hs holds a bs w u p ∙ ap (many_ending w.shape.blocks (known w)) (sym name)))
 
   -- the new desk
-  pub new_desk : (e : Inside V) → e.seat.table_id ≡ d.seat.table_id → e.seat.me ≡ (u, []) → e.allowance ≡ a → e.held ≡ length hs → length hs ≤ a
+  pub new_desk : (e : Inside V) → e.seat.table_id ≡ d.seat.table_id → e.seat.me ≡ (u, []) → e.allowance ≡ a → e.held ≡ length hs → e.endings ≡ 0 → length hs ≤ a
       → e.store.items ≡ bs → v.shape.blocks ≤ vec_capacity e.store → IsDesk e
-  new_desk e table me allowance count few items room =
+  new_desk e table me allowance count endings few items room =
       let l = part.allowance_given d h hs holds a bs w u p in let b = ap length (part.bag_given d h hs holds a bs w u p) in
       let f = few_listed hs in let m = part.many_handles d h hs holds in let c = length-map (in_history (known v) hs) (λ (x : Handle). held p.to x) in
       let t = ap length (part.stock_given d h hs holds a bs w u p) in
@@ -84,6 +85,7 @@ module _ {V : Type 0} (d : Inside V) (h : IsDesk d) (hs : List HeldValue) (holds
       (subst IsWithinLimits (sym shape) h.limits) (subst (λ (y : TableId × Shape). IsSized y.0 y.1) (λ i. (sym table i, sym shape i)) h.sized)
       (omega arith) (omega arith) (omega arith) (λ b. ap (times b) items ∙ sym (part.tally_given d h hs holds a bs w u p b)) (omega arith)
       (subst (λ (k : Shape). k.blocks ≤ vec_capacity e.store) (sym shape) room)
+      (endings ∙ sym (part.ending_given d h hs holds a bs w u p))
 
   -- what either holds is in the blocks that the old desk knew
   alike : (x : Held) → Has x (bag (known v) n) → by_block (blocks_of (known w)) x.handle ≡ by_block (blocks_of (known v)) x.handle
@@ -123,6 +125,11 @@ module _ {V : Type 0} (d : Inside V) (h : IsDesk d) (hs : List HeldValue) (holds
     ending_left =
         ap (λ (s : State). (s.object (s.latest b)).phase) (part.now d h hs holds a bs w u p)
         ∙ (ap (λ o. ((part.then d h hs holds a bs w u p).object o).phase) still.latest ∙ (still.object.phase ∙ ends.phase))
+
+    members_left : (m : ℕ) → ((known w).object ((known w).latest b)).member m ≡ ((known v).object ((known v).latest b)).member m
+    members_left m =
+        ap (λ (s : State). (s.object (s.latest b)).member m) (part.now d h hs holds a bs w u p)
+        ∙ (ap (λ o. ((part.then d h hs holds a bs w u p).object o).member m) still.latest ∙ still.object.member m)
 
     value_left : value (opening_of w.shape) w.view.seen ((known w).latest b) ≡ Some x
     value_left =
@@ -182,8 +189,15 @@ splits d e new h hs holds a k p tables counts many tallies least =
           (subst (λ j. same_stored (stored j y.block) y ≡ true) (t.1 ∙ name) (stored_self y)) in
           let a1 = part.tally_left d h hs holds a bs w u p y.block in let a2 = h.stored y.block in let a3 = tallies y.block in
           least record { 0 = x.block } record { 0 = y.block } x'' (times_has y.block e.store.items (omega arith));
+      count = (
+        ap (many_ending w.shape.blocks (known w)) name ∙ (sym (part.ending_left d h hs holds a bs w u p) ∙ h.ended),
+        ap (λ (y : Sight _). many_ending y.shape.blocks (known y) y.view.name) p.other ∙ part.ending_given d h hs holds a bs w u p,
+      );
       endings = λ b x ends. record {
-        phase = ending_left d h hs holds a bs w u p b x ends ∙ ap ending (sym name);
-        kept = value_left d h hs holds a bs w u p b x ends;
+        ends = record {
+          phase = ending_left d h hs holds a bs w u p b x ends ∙ ap ending (sym name);
+          kept = value_left d h hs holds a bs w u p b x ends;
+        };
+        members = members_left d h hs holds a bs w u p b x ends;
       };
     }

@@ -1,5 +1,5 @@
 -- What a step makes of the rule.
-use Rattle.std.proofs.Common.{◌≡◌, ◌≢◌, ◌⊎◌, ℕ, ◌-◌, ◌<◌, ◌≤◌, false, List, ◌∷◌, ◌++◌, map, length, get_or, set, Option, Some, None}
+use Rattle.std.proofs.Common.{◌≡◌, ◌≢◌, ◌⊎◌, ℕ, ◌-◌, ◌<◌, ◌≤◌, Bool, false, true, List, ◌∷◌, ◌++◌, map, length, get_or, set, Option, Some, None}
 use Rattle.std.proofs.Common.{refl, sym, ap, subst, ◌∙◌, inl, inr, ⊎_elim, arith}
 use mathlib.Core.Logic.{dite}
 use mathlib.Core.Option.{some, some-injective}
@@ -14,23 +14,27 @@ use Rattle.control_word.proofs.history.Legal.{sound}
 use Rattle.control_word.proofs.history.Others.{held_made}
 use Rattle.control_word.proofs.lists.Parts.{has_part, part_has}
 use Rattle.control_word.proofs.views.Resting.{as_seen}
-use Rattle.control_word.specs.Events.{after}
-use Rattle.control_word.specs.Handles.{handle}
+use Rattle.control_word.specs.Events.{after, loses}
+use Rattle.control_word.specs.Handles.{empty, handle}
 use Rattle.control_word.specs.Histories.{IsLegal, entry, leads, value, valued}
-use Rattle.control_word.specs.State.{Has, Held, InShape, Object, Opening, State, Stored, bag_size, ending, held}
+use Rattle.control_word.specs.State.{Has, Held, InShape, Object, Opening, State, Stored, bag_size, ending, held, kind_of_member}
 use Rattle.control_word.specs.Steps.{Point, Ready}
 use Rattle.control_word.specs.Views.{Knows, Stands, sees_as}
 use Rattle.control_word.specs.declared.event.Entry.{Entry}
+use Rattle.control_word.specs.declared.event.Cell.{Cell}
+use Rattle.control_word.specs.declared.event.Cell.TheVariants.{Member}
 use Rattle.control_word.specs.declared.event.Event.{Event}
+use Rattle.control_word.specs.declared.event.Event.TheVariants.{ClearMember, Compare, Swap}
+use Rattle.control_word.specs.declared.handle.Handle.{Handle}
 use Rattle.control_word.specs.declared.handle.Kind.{Kind}
 use Rattle.control_word.specs.declared.place.Block.{Block}
 use Rattle.control_word.specs.declared.place.Place.{Place}
 use Rattle.control_word.specs.declared.shape.Shape.{Shape}
 use Rattle.control_word.specs.declared.view.Pending.{Pending}
-use Rattle.control_block.specs.Rule.{opening_of, view_of, kept, while_live, IsSlotOf, IsBacked, IsOut, HasBareMembers, Ruled, seeing}
+use Rattle.control_block.specs.Rule.{opening_of, view_of, kept, while_live, IsSlotOf, IsBacked, IsOut, Ruled, seeing}
 use Rattle.control_block.specs.Plays.{Added, At, Ends, Holding, HasRoomFor, Moved, known}
 use Rattle.control_block.specs.declared.board.Sight.{Sight}
-use Rattle.control_block.proofs.Endings.{Alike, still_ends}
+use Rattle.control_block.proofs.Endings.{Alike, fills_block, fills_latest, fills_phase, still_ends}
 use Rattle.control_block.proofs.Lists.{each_set, map_set, set_there}
 
 -- what a half-done call needs is still there, where no ending of the desk's was touched
@@ -53,14 +57,14 @@ module _ {V : Type 0} where
       (homes : List (mathlib.Core.Option.Option (Option V))) (h : List (Entry V))
       → get_elem? s.views id ≡ some v → w.view.spent ≡ false → w.shape ≡ k
       → Stands (opening_of k) words (set (map view_of s.views) id w.view) h
-      → length homes ≡ length s.homes → HasBareMembers (leads (opening_of k) h)
+      → length homes ≡ length s.homes
       → IsBacked (leads (opening_of k) h) w.view.name w.view.pending w.hand
       → ((j : ℕ) (u : Sight V) → j ≢ id → get_elem? s.views j ≡ some u → u.view.spent ≡ false
       → IsBacked (leads (opening_of k) r.history) u.view.name u.view.pending u.hand
       → IsBacked (leads (opening_of k) h) u.view.name u.view.pending u.hand)
       → ((b : ℕ) → InShape (opening_of k) b → IsPlaced k s r v w homes h b)
       → Ruled k record { words = words; homes = homes; views = set s.views id w }
-  next k s r id v w words homes h at awake shape stands sized bare mine others placed =
+  next k s r id v w words homes h at awake shape stands sized mine others placed =
       let z = opening_of k in
       record {
         history = h;
@@ -71,7 +75,6 @@ module _ {V : Type 0} where
         homes = λ b inside. place b inside (placed b inside);
         backed = each_set (λ j u. u.view.spent ≡ false → IsBacked (leads z h) u.view.name u.view.pending u.hand) s.views id w (λ _. mine)
             (λ j u n e un. others j u n e un (r.backed j u e un));
-        bare = bare;
       }
     where
       still_out : (b : ℕ) → (IsSlotOf v.hand b → ⊥) → IsOut s.views b → IsOut (set s.views id w) b
@@ -185,17 +188,58 @@ module _ {V : Type 0} where
           legal = subst (λ z. IsLegal (opening_of z) r.history) (sym (r.shapes id v at awake)) r.stands.legal;
         }
 
-  -- the event changes no object, no block and no value
+  -- the event moves no object, ends none, and changes no value
   pub record IsQuiet (e : Event V) : Type 0 where
-    pub objects : (s : State) (d : ℕ) → (after s d e).object ≡ s.object
+    pub phases : (s : State) (d o : ℕ) → ((after s d e).object o).phase ≡ (s.object o).phase
+    pub blocks : (s : State) (d o : ℕ) → ((after s d e).object o).block ≡ (s.object o).block
     pub latest : (s : State) (d : ℕ) → (after s d e).latest ≡ s.latest
     pub values : (s : State) (f : ℕ → Option V) → valued s e f ≡ f
+
+  -- an event that changes no object
+  pub plain : {e : Event V} → ((s : State) (d : ℕ) → (after s d e).object ≡ s.object) → ((s : State) (d : ℕ) → (after s d e).latest ≡ s.latest)
+      → ((s : State) (f : ℕ → Option V) → valued s e f ≡ f) → IsQuiet e
+  plain objects latest values =
+      record {
+        phases = λ s d o. ap (λ (g : ℕ → Object). (g o).phase) (objects s d);
+        blocks = λ s d o. ap (λ (g : ℕ → Object). (g o).block) (objects s d);
+        latest = latest;
+        values = values;
+      }
+
+  pub quiet_swap : (c : Cell) (new old : Handle) → IsQuiet (Swap c new old)
+  quiet_swap c new old =
+      record {
+        phases = λ s d o. fills_phase (loses d new s) c new o;
+        blocks = λ s d o. fills_block (loses d new s) c new o;
+        latest = λ s d. fills_latest (loses d new s) c new;
+        values = λ s f. refl;
+      }
+
+  pub quiet_compare : (c : Cell) (expected new old : Handle) (swapped weak : Bool) → IsQuiet (Compare c expected new old swapped weak)
+  quiet_compare c expected new old true weak =
+      record {
+        phases = λ s d o. fills_phase (loses d new s) c new o;
+        blocks = λ s d o. fills_block (loses d new s) c new o;
+        latest = λ s d. fills_latest (loses d new s) c new;
+        values = λ s f. refl;
+      }
+  quiet_compare c expected new old false weak = plain (λ s d. refl) (λ s d. refl) (λ s f. refl)
+
+  pub quiet_clear : (o m : ℕ) (h : Handle) → IsQuiet (ClearMember o m h)
+  quiet_clear o m h =
+      record {
+        phases = λ s d q. fills_phase s (Member o m) (empty (kind_of_member m)) q;
+        blocks = λ s d q. fills_block s (Member o m) (empty (kind_of_member m)) q;
+        latest = λ s d. refl;
+        values = λ s f. refl;
+      }
 
   pub same_kept : (k : Shape) (h : List (Entry V)) (d : ℕ) (e : Event V) → IsQuiet e → (b : ℕ)
       → kept (opening_of k) (entry d e ∷ h) b ≡ kept (opening_of k) h b
   same_kept k h d e q b =
-      let s = leads (opening_of k) h in let f = q.objects s d in let l = q.latest s d in let v = q.values s (value (opening_of k) h) in
-      λ i. while_live ((f i) ((l i) b)).phase ((v i) ((l i) b))
+      let z = opening_of k in let s = leads z h in let l = q.latest s d in let v = q.values s (value z h) in
+      ap (λ o. while_live ((leads z (entry d e ∷ h)).object o).phase (value z (entry d e ∷ h) o)) (ap (λ (f : ℕ → ℕ). f b) l)
+      ∙ ((λ i. while_live (q.phases s d (s.latest b) i) ((v i) (s.latest b))))
 
   -- such an event with the slots left alone
   pub quiet_next : (k : Shape) (s : Table.State (Option V) (Sight V)) (r : Ruled k s) (id : ℕ) (v : Sight V) (words : List ℕ) (e : Event V)
@@ -206,9 +250,10 @@ module _ {V : Type 0} where
   quiet_next k s r id v words e p at awake free q stands =
       let h = entry v.view.name e ∷ r.history in let t = leads (opening_of k) r.history in
       next k s r id v (seeing v p None h) words s.homes h at awake (r.shapes id v at awake) stands refl
-      (λ o m. ap (λ (g : ℕ → Object). (g o).member m) (q.objects t v.view.name) ∙ r.bare o m) tt
+      tt
       (λ j u ne there un b. backed_still t (leads (opening_of k) h) u.view.name u.view.pending u.hand
-      (λ c y. (λ x. (((q.objects t v.view.name) x) (((q.latest t v.view.name) x) c)).phase) ∙ y) b)
+      (λ c y. ap (λ (o : ℕ). ((leads (opening_of k) h).object o).phase) (ap (λ (f : ℕ → ℕ). f c) (q.latest t v.view.name))
+      ∙ (q.phases t v.view.name (t.latest c) ∙ y)) b)
       (λ b inside. inr (inr (refl, same_kept k r.history v.view.name e q b, λ y. subst (λ c. IsSlotOf c b) free y)))
 
   -- a step that makes such an event

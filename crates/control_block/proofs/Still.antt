@@ -32,7 +32,7 @@ module _ {V : Type 0} where
       → Ruled k record { words = words; homes = s.homes; views = set s.views id (in_call v p) }
   moved_on k s r id v words p at awake free own stands =
       next k s r id v (in_call v p) words s.homes r.history at awake (r.shapes id v at awake)
-      (unseen (opening_of k) s.words words (map view_of s.views) r.history id v.view p (at_map view_of s.views id v at) awake r.stands own stands) refl r.bare tt
+      (unseen (opening_of k) s.words words (map view_of s.views) r.history id v.view p (at_map view_of s.views id v at) awake r.stands own stands) refl tt
       (λ j u ne there un back. back) (λ b inside. inr (inr (refl, refl, λ y. subst (λ c. IsSlotOf c b) free y)))
 
   -- a step by which the desk's call goes on

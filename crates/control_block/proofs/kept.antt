@@ -16,6 +16,7 @@ pub mod Look
 pub mod Leave
 pub mod Make
 pub mod Finish
+pub mod Clear
 pub mod Split
 pub mod Join
 pub mod Peek

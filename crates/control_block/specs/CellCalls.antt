@@ -1,13 +1,19 @@
 -- What the calls on cells say of a desk. A handle goes by its kind, its block, if it has one, and its place.
 use Rattle.std.specs.Prelude.{◌≡◌, ℕ, ◌+◌, ◌<◌, List, ◌∷◌, length, Option, None, Some}
 use Rattle.control_word.specs.Handles.{handle, same_handle}
-use Rattle.control_word.specs.State.{kind_of_free, without}
+use Rattle.control_word.specs.Layout.{cell_place, spot}
+use Rattle.control_word.specs.State.{kind_of_free, kind_of_member, without}
+use Rattle.control_word.specs.declared.event.Cell.{Cell}
+use Rattle.control_word.specs.declared.event.Cell.TheVariants.{Free, Member}
 use Rattle.control_word.specs.declared.handle.Handle.{Handle}
 use Rattle.control_word.specs.declared.handle.Kind.{Kind}
+use Rattle.control_word.specs.declared.handle.Kind.TheVariants.{Owner}
 use Rattle.control_word.specs.declared.place.Block.{Block}
 use Rattle.control_word.specs.declared.place.Place.{Place}
 use Rattle.control_word.specs.declared.shape.Shape.{Shape}
 use Rattle.control_block.specs.Desks.{DeskNow, DomainNow, HasHandle, bag_of, latest_of}
+use Rattle.control_block.specs.declared.cell_calls.Site.{Site}
+use Rattle.control_block.specs.declared.cell_calls.Site.TheVariants as site
 
 -- a bag with a handle more, and with one less; an empty handle stands in no bag
 abbrev pub with_handle : Kind → Option Block → Option Place → List Handle → List Handle
@@ -27,6 +33,16 @@ object_by latest (Some b) = Some (latest b.0)
 abbrev pub IsFreeCell : Shape → ℕ → Kind → Type 0
 IsFreeCell z n k = (n < z.shared_cells + z.weak_cells) × (k ≡ kind_of_free z.shared_cells n)
 
+-- a member of a block is one of three
+abbrev pub IsSite : Site → Type 0
+IsSite (site.Free n) = Unit {0}
+IsSite (site.Member b m) = (0 < b.0) × (m < 3)
+
+-- the word of a cell in a table with so many blocks
+abbrev pub word_at : ℕ → Site → ℕ
+word_at blocks (site.Free n) = cell_place blocks n
+word_at blocks (site.Member b m) = spot b.0 (7 + m)
+
 module _ {V : Type 0} where
   -- the desk is one of the domain's
   pub record Belongs (d : DeskNow V) (domain : DomainNow) : Type 0 where
@@ -36,6 +52,16 @@ module _ {V : Type 0} where
   -- the handle in a block is on the object last made there
   abbrev pub handle_in : DeskNow V → Kind → Option Block → Option Place → Handle
   handle_in d k b p = handle k (object_by (latest_of d) b) p
+
+  -- the cell by the desk's history: a member is that of the object last made in the block
+  abbrev pub cell_at : DeskNow V → Site → Cell
+  cell_at d (site.Free n) = Free n
+  cell_at d (site.Member b m) = Member (latest_of d b.0) m
+
+  -- the cell is open to the desk, and has handles of this kind: it is free, or a member of an object that the desk has an owner of
+  abbrev pub IsOpenAt : DeskNow V → Site → Kind → Type 0
+  IsOpenAt d (site.Free n) k = IsFreeCell d.shape n k
+  IsOpenAt d (site.Member b m) k = (m < 3) × (k ≡ kind_of_member m) × ((p : Option Place) × HasHandle d Owner p b.0)
 
   -- the desk has the handle: its bag shows it, or it is empty and among those that are counted beyond the bag
   abbrev pub Holds : DeskNow V → Kind → Option Block → Option Place → Type 0

@@ -6,7 +6,7 @@ use Rattle.control_word.specs.declared.event.Cell.{Cell}
 use Rattle.control_word.specs.declared.event.Cell.TheVariants.{Free, Member}
 use Rattle.control_word.specs.declared.event.Entry.{Entry}
 use Rattle.control_word.specs.declared.event.Event.{Event}
-use Rattle.control_word.specs.declared.event.Event.TheVariants.{Load, Compare}
+use Rattle.control_word.specs.declared.event.Event.TheVariants.{ClearMember, Load, Compare}
 use Rattle.control_word.specs.declared.handle.Handle.{Handle}
 use Rattle.control_word.specs.declared.handle.Kind.{Kind}
 use Rattle.control_word.specs.declared.handle.Kind.TheVariants.{Owner}
@@ -16,7 +16,7 @@ use Rattle.control_word.specs.declared.shape.Shape.{Shape}
 use Rattle.control_word.specs.declared.view.Pending.{Pending}
 use Rattle.control_word.specs.declared.view.Pending.TheVariants.{Idle}
 use Rattle.control_word.specs.Events.{cell_of}
-use Rattle.control_word.specs.Handles.{handle, equivalent, object_of}
+use Rattle.control_word.specs.Handles.{empty, handle, equivalent, object_of}
 use Rattle.control_word.specs.Histories.{leads, IsLegal}
 use Rattle.control_word.specs.Layout.{cell_place, spot}
 use Rattle.control_word.specs.Packing.{IsCellWord, IsPackedCell, cell_bits}
@@ -114,6 +114,15 @@ module _ {V : Type 0} where
   compare_swapped c e st m n m' =
       (n ≡ st.first → (x : CellWord) → IsCellWord x → n ≡ cell_bits x → Gave e (kind_in m.0.shape c) m.0 x m'.0 × (m'.1 ≡ m.1))
       × (n ≢ st.first → m' ≡ m)
+
+  -- the member of an ending object holds nothing, and is cleared by the look; else nothing changes
+  abbrev pub looked_clear : ℕ → ℕ → Step (Option V) → At V → ℕ → At V → Type 0
+  looked_clear o q st m n m' =
+      (n ≡ 0 → tells (ClearMember o q (empty (kind_of_member q))) m.0 m'.0 × (m'.1 ≡ m.1)) × (n ≢ 0 → m' ≡ m)
+
+  -- the member of an ending object was cleared
+  abbrev pub cleared : ℕ → ℕ → Step (Option V) → At V → ℕ → At V → Type 0
+  cleared o q st m n m' = swapped (Member o q) (λ h. ClearMember o q h) st m n m'
 
   -- what was owed is in the cell, where its word was the one that was found, and the desk has seen no more; else nothing changes
   abbrev pub refilled : Step (Option V) → At V → ℕ → At V → Type 0

@@ -1,5 +1,5 @@
 -- What contracts see of a domain and of a desk.
-use Rattle.std.specs.Prelude.{◌≡◌, ◌≢◌, ◌⊎◌, ℕ, zero, suc, true, List, [], ◌∷◌, ◌++◌, map, length, Option, Some, None}
+use Rattle.std.specs.Prelude.{◌≡◌, ◌≢◌, ◌⊎◌, ℕ, zero, suc, ◌+◌, ◌==◌, min, true, cond, List, [], ◌∷◌, ◌++◌, map, length, Option, Some, None}
 use Rattle.atomic_table.specs.Seated.{TableId}
 use Rattle.control_word.specs.declared.event.Entry.{Entry}
 use Rattle.control_word.specs.declared.event.Event.{Event}
@@ -7,11 +7,11 @@ use Rattle.control_word.specs.declared.handle.Handle.{Handle}
 use Rattle.control_word.specs.declared.handle.Kind.{Kind}
 use Rattle.control_word.specs.declared.place.Block.{Block}
 use Rattle.control_word.specs.declared.place.Place.{Place}
-use Rattle.control_word.specs.Handles.{IsPointer, handle}
+use Rattle.control_word.specs.Handles.{IsPointer, empty, handle}
 use Rattle.control_word.specs.declared.shape.Shape.{Shape}
 use Rattle.control_word.specs.Events.{place_at}
 use Rattle.control_word.specs.Histories.{entry, leads, value, IsLegal}
-use Rattle.control_word.specs.State.{Has, Object, State, Held, Stored, bag, ending, stock}
+use Rattle.control_word.specs.State.{Has, Object, State, Held, Stored, Phase, bag, ending, gone, kind_of_member, live, stock, sum_below, unmade}
 use Rattle.control_word.specs.Views.{NoneBy}
 use Rattle.control_word.specs.Words.{blocks_of}
 use Rattle.control_block.specs.Rule.{opening_of}
@@ -32,6 +32,17 @@ pub record DeskNow (V : Type 0) : Type 0 where
 abbrev pub all_blocks : ℕ → List Block
 all_blocks zero = []
 all_blocks (suc n) = all_blocks n ++ record { 0 = suc n } ∷ []
+
+-- whether an object in this phase ends with the desk, as a number
+abbrev pub ends_with : ℕ → Phase → ℕ
+ends_with n unmade = 0
+ends_with n live = 0
+ends_with n gone = 0
+ends_with n (ending d) = cond (d == n) 1 0
+
+-- in how many blocks an object ends with the desk
+abbrev pub many_ending : ℕ → State → ℕ → ℕ
+many_ending blocks s n = sum_below blocks (λ j. ends_with n (s.object (s.latest (suc j))).phase)
 
 -- a handle by its block, in place of its object
 abbrev pub in_block : (ℕ → ℕ) → Option ℕ → Option ℕ
@@ -56,6 +67,15 @@ module _ {V : Type 0} where
 
   abbrev pub stock_of : DeskNow V → List Stored
   stock_of d = stock (state_of d) d.name
+
+  -- how many objects end in its hands
+  abbrev pub endings_of : DeskNow V → ℕ
+  endings_of d = many_ending d.shape.blocks (state_of d) d.name
+
+  -- what it counts of its allowance: each handle, empty ones too, and one place more while an object ends in its hands, since
+  -- what a member held comes into them
+  abbrev pub held_of : DeskNow V → ℕ
+  held_of d = d.held + min 1 (endings_of d)
 
   -- the handles with an object that it holds, newest first, by their blocks
   abbrev pub bag_of : DeskNow V → List Handle
@@ -95,13 +115,29 @@ module _ {V : Type 0} where
     pub phase : ((state_of d).object (latest_of d b)).phase ≡ ending d.name
     pub kept : value (opening_of d.shape) d.seen (latest_of d b) ≡ Some x
 
+  -- the object last made in the block
+  abbrev pub object_in : DeskNow V → ℕ → Object
+  object_in d b = (state_of d).object (latest_of d b)
+
+  -- what its member m holds, and that this is nothing
+  abbrev pub member_in : DeskNow V → ℕ → ℕ → Handle
+  member_in d b m = (object_in d b).member m
+
+  abbrev pub IsCleared : DeskNow V → ℕ → ℕ → Type 0
+  IsCleared d b m = member_in d b m ≡ empty (kind_of_member m)
+
+  -- it ends in the desk's hands, with the members that it had
+  pub record EndsStill (d e : DeskNow V) (b : ℕ) (x : V) : Type 0 where
+    pub ends : IsEnding e b x
+    pub members : (m : ℕ) → member_in e b m ≡ member_in d b m
+
   -- what ends in the desk's hands ends there still
   abbrev pub KeepsEndings : DeskNow V → DeskNow V → Type 0
-  KeepsEndings d e = (b : ℕ) (x : V) → IsEnding d b x → IsEnding e b x
+  KeepsEndings d e = (b : ℕ) (x : V) → IsEnding d b x → EndsStill d e b x
 
   -- the same, but for a block
   abbrev pub KeepsOtherEndings : DeskNow V → ℕ → DeskNow V → Type 0
-  KeepsOtherEndings d c e = (b : ℕ) (x : V) → b ≢ c → IsEnding d b x → IsEnding e b x
+  KeepsOtherEndings d c e = (b : ℕ) (x : V) → b ≢ c → IsEnding d b x → EndsStill d e b x
 
   -- the same desk, with the allowance that it had
   pub record IsSameDesk (d e : DeskNow V) : Type 0 where
@@ -110,8 +146,8 @@ module _ {V : Type 0} where
     pub name : e.name ≡ d.name
     pub allowance : allowance_of e ≡ allowance_of d
 
-  -- and the number of vacant blocks and the endings are as they were too
-  pub record Keeps (d e : DeskNow V) : Type 0 where
+  -- and the number of vacant blocks is as it was too, and what ended in its hands ends there still
+  pub record KeepsStock (d e : DeskNow V) : Type 0 where
     pub domain : e.domain ≡ d.domain
     pub shape : e.shape ≡ d.shape
     pub name : e.name ≡ d.name
@@ -119,13 +155,19 @@ module _ {V : Type 0} where
     pub stock : length (stock_of e) ≡ length (stock_of d)
     pub endings : KeepsEndings d e
 
+  -- and nothing more ends there
+  pub record Keeps (d e : DeskNow V) : Type 0 where
+    pub domain : e.domain ≡ d.domain
+    pub shape : e.shape ≡ d.shape
+    pub name : e.name ≡ d.name
+    pub allowance : allowance_of e ≡ allowance_of d
+    pub stock : length (stock_of e) ≡ length (stock_of d)
+    pub endings : KeepsEndings d e
+    pub count : endings_of e ≡ endings_of d
+
   -- the desk has a handle of the object in the block, or it ends in its hands
   abbrev pub IsNear : DeskNow V → ℕ → Type 0
   IsNear d b = ((k : Kind) × (p : Option Place) × HasHandle d k p b) ⊎ ((x : V) × IsEnding d b x)
-
-  -- the object last made in the block
-  abbrev pub object_in : DeskNow V → ℕ → Object
-  object_in d b = (state_of d).object (latest_of d b)
 
   -- a weak handle with place q may come from a handle that the desk has in the block, or by from-this from an object
   -- that ends in its hands ([util.smartptr.weak.const], [util.smartptr.enab])

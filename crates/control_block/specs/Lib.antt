@@ -6,6 +6,7 @@ pub mod DoorPlays
 pub mod FundPlays
 pub mod CellPlays
 pub mod CellRounds
+pub mod Clearing
 pub mod Desks
 pub mod CellCalls
 pub mod Refusals

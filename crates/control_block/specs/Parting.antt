@@ -13,7 +13,7 @@ use Rattle.control_word.specs.Views.{Knows, comes}
 use Rattle.control_block.specs.declared.board.Sight.{Sight}
 use Rattle.control_block.specs.declared.handles.Held.{Held}
 use Rattle.control_block.specs.declared.handles.Held.TheVariants as held
-use Rattle.control_block.specs.Desks.{Adds, DeskNow, KeepsEndings, allowance_of, bag_of, by_block, state_of, stock_of}
+use Rattle.control_block.specs.Desks.{Adds, DeskNow, KeepsEndings, allowance_of, bag_of, endings_of, held_of, by_block, state_of, stock_of}
 use Rattle.control_block.specs.Plays.{tells}
 use Rattle.control_block.specs.Rule.{opening_of}
 
@@ -55,7 +55,7 @@ module _ {V : Type 0} where
 
   -- what the desk can give with n handles: it keeps an allowance for those that stay, 1 at least
   abbrev pub free_of : DeskNow V → ℕ → ℕ
-  free_of d n = allowance_of d - max 1 (d.held - n)
+  free_of d n = allowance_of d - max 1 (held_of d - n)
 
   -- no allowance is given, or less than the handles need, or more than is free
   abbrev pub IsTooMuch : DeskNow V → ℕ → ℕ → Type 0
@@ -73,6 +73,7 @@ module _ {V : Type 0} where
     pub stock : (length (stock_of new) ≡ k) × (length (stock_of e) + k ≡ length (stock_of d))
     pub least : (x y : Stored) → Has x (stock_of new) → Has y (stock_of e) → x.block ≤ y.block
     pub endings : KeepsEndings d e
+    pub count : (endings_of e ≡ endings_of d) × (endings_of new ≡ 0)
 
   -- d and another desk have become e: one history goes on from all that either had seen, with no event of either between,
   -- and ends with the join

@@ -12,11 +12,11 @@ use Rattle.control_word.specs.declared.place.Place.{Place}
 use Rattle.control_word.specs.declared.view.Pending.{Pending}
 use Rattle.control_word.specs.declared.view.Pending.TheVariants.{Idle, Making, Parting, Merging}
 use Rattle.control_word.specs.Events.{place_at}
-use Rattle.control_word.specs.Handles.{handle, owner, weak_of}
+use Rattle.control_word.specs.Handles.{empty, handle, owner, weak_of}
 use Rattle.control_word.specs.Histories.{entry, leads, value, IsLegal}
 use Rattle.control_word.specs.Packing.{number_of, funds_of}
 use Rattle.control_word.specs.Words.{flags_of}
-use Rattle.control_word.specs.State.{Object, State, Has, HasAll, ending, same_held, same_stored, stored, held, bag_size, count}
+use Rattle.control_word.specs.State.{Object, State, Has, HasAll, ending, kind_of_member, same_held, same_stored, stored, held, bag_size, count}
 use Rattle.control_word.specs.Views.{NoneBy, Knows, comes, together, used_up}
 use Rattle.control_block.specs.Rule.{opening_of, seeing}
 use Rattle.control_block.specs.declared.board.Sight.{Sight}
@@ -68,6 +68,10 @@ module _ {V : Type 0} where
   -- by what it has seen, object o in block b is ending in the desk's hands
   abbrev pub Ends : Sight V → ℕ → ℕ → Type 0
   Ends v o b = ((known v).latest b ≡ o) × (((known v).object o).phase ≡ ending v.view.name)
+
+  -- by what it has seen, the members of object o hold nothing
+  abbrev pub IsClear : Sight V → ℕ → Type 0
+  IsClear v o = (m : ℕ) → m < 3 → ((known v).object o).member m ≡ empty (kind_of_member m)
 
   -- a weak handle with place q may come from a handle that the desk holds, or by from-this from an ending of its
   abbrev pub MayShareWeakly : Sight V → ℕ → ℕ → Option Place → Type 0

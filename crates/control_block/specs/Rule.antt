@@ -9,10 +9,9 @@ use Rattle.control_word.specs.declared.shape.Shape.{Shape}
 use Rattle.control_word.specs.declared.view.Pending.{Pending}
 use Rattle.control_word.specs.declared.view.Pending.TheVariants.{Idle, Making, Visiting}
 use Rattle.control_word.specs.declared.view.View.{View}
-use Rattle.control_word.specs.Handles.{empty}
 use Rattle.control_word.specs.Histories.{leads, value}
 use Rattle.control_word.specs.Layout.{IsWithinLimits, spot}
-use Rattle.control_word.specs.State.{Opening, State, Phase, unmade, live, gone, ending, InShape, kind_of_member}
+use Rattle.control_word.specs.State.{Opening, State, Phase, unmade, live, gone, ending, InShape}
 use Rattle.control_word.specs.Views.{Stands, sees_as}
 use Rattle.control_block.specs.declared.board.Sight.{Sight}
 
@@ -33,10 +32,6 @@ opening_of k =
 abbrev pub IsSlotOf : Option Block → ℕ → Type 0
 IsSlotOf None b = ⊥
 IsSlotOf (Some c) b = c.0 ≡ b
-
--- no member cell holds anything: nothing can reach one yet
-abbrev pub HasBareMembers : State → Type 0
-HasBareMembers s = (o m : ℕ) → (s.object o).member m ≡ empty (kind_of_member m)
 
 module _ {V : Type 0} where
   abbrev pub view_of : Sight V → View V
@@ -79,7 +74,6 @@ module _ {V : Type 0} where
         → (get_elem? s.homes (b - 1) ≡ some (some (kept (opening_of k) history b))) ⊎ IsOut s.views b
     pub backed : (j : ℕ) (u : Sight V) → get_elem? s.views j ≡ some u → u.view.spent ≡ false
         → IsBacked (leads (opening_of k) history) u.view.name u.view.pending u.hand
-    pub bare : HasBareMembers (leads (opening_of k) history)
 
   -- a seat with this half-done call, this slot in hand, and this history seen
   abbrev pub seeing : Sight V → Pending V → Option Block → List (Entry V) → Sight V

@@ -8,7 +8,7 @@ ghost use Rattle.control_word.specs.declared.handle.Kind.TheVariants.{Owner, Wea
 ghost use Rattle.control_word.specs.declared.place.Place.{Place};
 ghost use Rattle.control_word.specs.State.{count, without};
 ghost use Rattle.control_block.specs.Refusals.{IsFullOrLimit};
-ghost use Rattle.control_block.specs.Desks.{Adds, HasHandle, IsEnding, IsNear, IsSameDesk, Keeps, KeepsEndings, KeepsOtherEndings, MayGiveWeak, MayPoint, allowance_of, bag_of, latest_of, object_in, on_latest, state_of, stock_of};
+ghost use Rattle.control_block.specs.Desks.{Adds, HasHandle, IsCleared, IsEnding, IsNear, IsSameDesk, Keeps, KeepsEndings, KeepsOtherEndings, KeepsStock, MayGiveWeak, MayPoint, allowance_of, bag_of, endings_of, held_of, latest_of, object_in, on_latest, state_of, stock_of};
 ghost use Rattle.control_block.specs.Plays.{IsTold};
 
 use crate::desk::Desk;
@@ -53,7 +53,7 @@ pub fn share<V: Drop + Send, A: About>(
     requires meant { (A.kind ≡ of.kind) × (A.place ≡ of.place) × (A.wanted ≡ wanted) }
     requires holds { HasHandle desk.old Owner A.place of.block.0 }
     requires wanted { MayPoint A.place of.block.0 A.wanted }
-    ensures limit { IsErr result ↔ (desk.old.held ≡ allowance_of desk.old) }
+    ensures limit { IsErr result ↔ (held_of desk.old ≡ allowance_of desk.old) }
     ensures refused { IfErr result (λ why. (why ≡ Refusal.Limit) × (desk.new ≡ desk.old)) }
     ensures handle { IfOk result (λ h. (h.block ≡ Some of.block) × (h.place ≡ wanted)) }
     ensures event { OnOk result (Adds desk.old (Share (on_latest desk.old Owner A.place of.block.0) A.wanted) desk.new) }
@@ -61,7 +61,7 @@ pub fn share<V: Drop + Send, A: About>(
     ensures held { OnOk result (desk.new.held ≡ desk.old.held + 1) }
     ensures keeps { OnOk result (Keeps desk.old desk.new) }
 {
-    if desk.held == desk.allowance {
+    if desk.is_full() {
         return Err(Refusal::Limit);
     }
     steps::share::<V, Brand>(&domain.table.shared, &mut desk.seat, of.block);
@@ -130,10 +130,12 @@ pub fn leave<V: Drop + Send, A: About>(
     ensures ending { IfSome result (IsEnding desk.new of.block.0) }
     ensures bag { bag_of desk.new ≡ without same_handle (handle Owner (Some of.block.0) A.place) (bag_of desk.old) }
     ensures held { desk.new.held + 1 ≡ desk.old.held }
-    ensures keeps { Keeps desk.old desk.new }
+    ensures keeps { KeepsStock desk.old desk.new }
+    ensures count { endings_of desk.new ≡ endings_of desk.old + cond (is_some result) 1 0 }
 {
     let value = steps::leave::<V, Brand>(&domain.table.shared, &mut desk.seat, of.block);
     desk.held -= 1;
+    desk.endings += u32::from(value.is_some());
     value
 }
 
@@ -149,7 +151,7 @@ pub fn share_weak<V: Drop + Send, A: About>(
     requires domain { desk.old.domain ≡ domain.now.id }
     requires meant { A.wanted ≡ wanted }
     requires may { MayGiveWeak desk.old block.0 A.wanted }
-    ensures limit { IsErr result ↔ (desk.old.held ≡ allowance_of desk.old) }
+    ensures limit { IsErr result ↔ (held_of desk.old ≡ allowance_of desk.old) }
     ensures refused { IfErr result (λ why. (why ≡ Refusal.Limit) × (desk.new ≡ desk.old)) }
     ensures handle { IfOk result (λ h. (h.block ≡ Some block) × (h.place ≡ wanted)) }
     ensures event { OnOk result (Adds desk.old (WeakShare (latest_of desk.old block.0) A.wanted) desk.new) }
@@ -157,7 +159,7 @@ pub fn share_weak<V: Drop + Send, A: About>(
     ensures held { OnOk result (desk.new.held ≡ desk.old.held + 1) }
     ensures keeps { OnOk result (Keeps desk.old desk.new) }
 {
-    if desk.held == desk.allowance {
+    if desk.is_full() {
         return Err(Refusal::Limit);
     }
     steps::share_weak::<V, Brand>(&domain.table.shared, &mut desk.seat, block);
@@ -169,7 +171,7 @@ pub fn share_weak<V: Drop + Send, A: About>(
 }
 
 /// A block that is vacant goes to the store.
-fn put_by(store: &mut Vec<Block, Global>, block: Block, vacant: bool)
+pub(crate) fn put_by(store: &mut Vec<Block, Global>, block: Block, vacant: bool)
     requires room { vacant ≡ true → vec_len store.old < vec_capacity store.old }
     ensures items { store.new.items ≡ store.old.items ++ cond vacant (block ∷ []) [] }
     ensures capacity { vec_capacity store.new ≡ vec_capacity store.old }
@@ -194,6 +196,7 @@ pub fn leave_weak<V: Drop + Send, A: About>(
     ensures desk { IsSameDesk desk.old desk.new }
     ensures stock { length (stock_of desk.new) ≡ length (stock_of desk.old) + cond result 1 0 }
     ensures endings { KeepsEndings desk.old desk.new }
+    ensures count { endings_of desk.new ≡ endings_of desk.old }
 {
     let vacant = steps::leave_weak::<V, Brand>(&domain.table.shared, &mut desk.seat, of.block);
     desk.held -= 1;
@@ -206,14 +209,17 @@ pub fn leave_weak<V: Drop + Send, A: About>(
 pub fn finish<V: Drop + Send>(domain: &Domain<V>, desk: &mut Desk<V>, block: Block) -> bool
     requires domain { desk.old.domain ≡ domain.now.id }
     requires ending { (x : V) × IsEnding desk.old block.0 x }
+    requires clear { (m : ℕ) → m < 3 → IsCleared desk.old block.0 m }
     ensures event { (x : V) → IsEnding desk.old block.0 x → Adds desk.old (Finish (latest_of desk.old block.0) result x) desk.new }
     ensures bag { bag_of desk.new ≡ bag_of desk.old }
     ensures held { desk.new.held ≡ desk.old.held }
     ensures desk { IsSameDesk desk.old desk.new }
     ensures stock { length (stock_of desk.new) ≡ length (stock_of desk.old) + cond result 1 0 }
     ensures endings { KeepsOtherEndings desk.old block.0 desk.new }
+    ensures count { endings_of desk.new + 1 ≡ endings_of desk.old }
 {
     let vacant = steps::finish::<V, Brand>(&domain.table.shared, &mut desk.seat, block);
+    desk.endings -= 1;
     put_by(&mut desk.store, block, vacant);
     vacant
 }
@@ -241,7 +247,7 @@ pub fn make<V: Drop + Send>(
     value: V,
 ) -> Result<Pointer, Refused<V>>
     requires domain { desk.old.domain ≡ domain.now.id }
-    ensures refusals { IsFullOrLimit (desk.old.held ≡ allowance_of desk.old) (stock_of desk.old ≡ []) result }
+    ensures refusals { IsFullOrLimit (held_of desk.old ≡ allowance_of desk.old) (stock_of desk.old ≡ []) result }
     ensures refused { IfErr result (λ r. (r.back ≡ value) × (desk.new ≡ desk.old)) }
     ensures handle { IfOk result (λ h. (h.kind ≡ Owner) × (h.place ≡ origin h.block.0 null)) }
     ensures event { IfOk result (λ h. Adds desk.old (Make h.block enabled null fields value) desk.new) }
@@ -250,8 +256,9 @@ pub fn make<V: Drop + Send>(
     ensures desk { OnOk result (IsSameDesk desk.old desk.new) }
     ensures stock { OnOk result (length (stock_of desk.new) + 1 ≡ length (stock_of desk.old)) }
     ensures endings { OnOk result (KeepsEndings desk.old desk.new) }
+    ensures count { OnOk result (endings_of desk.new ≡ endings_of desk.old) }
 {
-    if desk.held == desk.allowance {
+    if desk.is_full() {
         return Err(Refused {
             why: Refusal::Limit,
             back: value,
@@ -324,12 +331,12 @@ pub fn fields<V: Drop + Send>(domain: &Domain<V>, desk: &mut Desk<V>, block: Blo
 /// One empty handle more, which is only counted (own). It is refused `Limit` just where the desk is at its allowance,
 /// and then nothing changes.
 pub fn count_empty<V: Drop + Send>(desk: &mut Desk<V>) -> Result<(), Refusal>
-    ensures limit { IsErr result ↔ (desk.old.held ≡ allowance_of desk.old) }
+    ensures limit { IsErr result ↔ (held_of desk.old ≡ allowance_of desk.old) }
     ensures refused { IfErr result (λ why. (why ≡ Refusal.Limit) × (desk.new ≡ desk.old)) }
     ensures counted { OnOk result (desk.new ≡ record desk.old { held = desk.old.held + 1 }) }
     ensures holds { OnOk result (length (bag_of desk.new) < desk.new.held) }
 {
-    if desk.held == desk.allowance {
+    if desk.is_full() {
         return Err(Refusal::Limit);
     }
     desk.held += 1; // it has no block, and counts all the same

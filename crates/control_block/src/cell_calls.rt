@@ -1,11 +1,10 @@
-//! Calls of a desk on free cells, for the crate above. Each makes its events, and when it returns nothing is under way: no
+//! Calls of a desk on cells, for the crate above. Each makes its events, and when it returns nothing is under way: no
 //! fund is out, and no load.
 ghost use Rattle.std.specs.Coded.{Coded-set};
 ghost use Rattle.std.specs.Prelude.{◌≡◌, ◌↔◌, ◌+◌, IfErr, IfOk, IsErr, OnOk};
-ghost use Rattle.control_word.specs.declared.event.Cell.TheVariants.{Free};
 ghost use Rattle.control_word.specs.declared.event.Event.TheVariants.{Load, Swap};
-ghost use Rattle.control_block.specs.CellCalls.{Belongs, Holds, IsFreeCell, handle_in, with_handle, without_handle};
-ghost use Rattle.control_block.specs.Desks.{Adds, Keeps, allowance_of, bag_of};
+ghost use Rattle.control_block.specs.CellCalls.{Belongs, Holds, IsOpenAt, IsSite, cell_at, handle_in, with_handle, without_handle, word_at};
+ghost use Rattle.control_block.specs.Desks.{Adds, Keeps, allowance_of, bag_of, held_of};
 ghost use Rattle.control_block.specs.Handles.{IsProper, IsProper-prop};
 
 use crate::cell_plays::Aimed;
@@ -13,14 +12,22 @@ use crate::cell_rounds;
 use crate::desk::Desk;
 use crate::domain::Domain;
 use control_word::handle::Kind;
-use control_word::layout::cell_word;
+use control_word::layout::{MEMBERS, block_word, cell_word};
 use control_word::{Block, CellWord, Place, Refusal};
 use std::sync::Wait;
 
-/// A free cell: its number among all free cells, the shared ones first, and the kind of its handles.
+/// Where a cell is: a free one by its number among all free cells, the shared ones first, or a member (0 first, 1 next,
+/// 2 up) of the object in a block.
 #[derive(Clone, Copy, Drop)]
-pub struct FreeCell {
-    pub number: u32,
+pub enum Site {
+    Free(u32),
+    Member(Block, u32),
+}
+
+/// A cell, and the kind of its handles.
+#[derive(Clone, Copy, Drop)]
+pub struct CellAt {
+    pub site: Site,
     pub kind: Kind,
 }
 
@@ -34,17 +41,28 @@ pub struct Content {
     pub ghost proper: { IsProper kind block place } by { IsProper-prop kind block place (Coded-set place-code) },
 }
 
+/// Where a cell's word lies.
+pub(crate) fn word_of(blocks: u32, site: Site) -> usize
+    requires { IsSite site }
+    ensures { result ≡ word_at blocks site }
+{
+    match site {
+        Site::Free(number) => cell_word(blocks, number),
+        Site::Member(block, member) => block_word(block, MEMBERS + member as usize),
+    }
+}
+
 /// A copy of what a cell holds ([util.smartptr.atomic.shared], [util.smartptr.atomic.weak]). It is refused `Limit` just
 /// where the desk is at its allowance, and then nothing changes.
 pub fn load<V: Drop + Send, A: Aimed, R: Wait>(
     rt: &R,
     domain: &Domain<V>,
     desk: &mut Desk<V>,
-    cell: FreeCell,
+    cell: CellAt,
 ) -> Result<Content, Refusal>
     requires domain { Belongs desk.old domain.now }
-    requires cell { IsFreeCell desk.old.shape cell.number cell.kind × (A.cell ≡ Free cell.number) }
-    ensures limit { IsErr result ↔ (desk.old.held ≡ allowance_of desk.old) }
+    requires cell { IsOpenAt desk.old cell.site cell.kind × (A.cell ≡ cell_at desk.old cell.site) }
+    ensures limit { IsErr result ↔ (held_of desk.old ≡ allowance_of desk.old) }
     ensures refused { IfErr result (λ why. (why ≡ Refusal.Limit) × (desk.new ≡ desk.old)) }
     ensures event { IfOk result (λ h. Adds desk.old (Load A.cell (handle_in desk.new cell.kind h.block h.place)) desk.new) }
     ensures bag { IfOk result (λ h. bag_of desk.new ≡ with_handle cell.kind h.block h.place (bag_of desk.old)) }
@@ -53,11 +71,11 @@ pub fn load<V: Drop + Send, A: Aimed, R: Wait>(
     ensures kind { IfOk result (λ h. h.kind ≡ cell.kind) }
     ensures keeps { OnOk result (Keeps desk.old desk.new) }
 {
-    if desk.held == desk.allowance {
+    if desk.is_full() {
         return Err(Refusal::Limit);
     }
     let board = &domain.table.shared;
-    let word = cell_word(domain.shape.blocks, cell.number);
+    let word = word_of(domain.shape.blocks, cell.site);
     let seen = cell_rounds::load::<V, A, R>(rt, board, &mut desk.seat, word, cell.kind);
     desk.held += 1;
     Ok(Content {
@@ -72,11 +90,11 @@ pub fn load<V: Drop + Send, A: Aimed, R: Wait>(
 pub fn exchange<V: Drop + Send, A: Aimed>(
     domain: &Domain<V>,
     desk: &mut Desk<V>,
-    cell: FreeCell,
+    cell: CellAt,
     new: Content,
 ) -> Content
     requires domain { Belongs desk.old domain.now }
-    requires cell { IsFreeCell desk.old.shape cell.number cell.kind × (A.cell ≡ Free cell.number) }
+    requires cell { IsOpenAt desk.old cell.site cell.kind × (A.cell ≡ cell_at desk.old cell.site) }
     requires new { A.new ≡ handle_in desk.old cell.kind new.block new.place }
     requires holds { Holds desk.old cell.kind new.block new.place }
     requires kind { new.kind ≡ cell.kind }
@@ -88,13 +106,14 @@ pub fn exchange<V: Drop + Send, A: Aimed>(
     ensures keeps { Keeps desk.old desk.new }
 {
     let board = &domain.table.shared;
-    let word = cell_word(domain.shape.blocks, cell.number);
+    let seat = &mut desk.seat;
+    let word = word_of(domain.shape.blocks, cell.site);
     let full = CellWord {
         owned: new.block,
         place: new.place,
         taken: 0,
     };
-    let old = cell_rounds::swap::<V, A>(board, &mut desk.seat, word, cell.kind, full);
+    let old = cell_rounds::swap::<V, A>(board, seat, word, cell.kind, full);
     Content {
         kind: cell.kind,
         block: old.owned,

@@ -1,16 +1,14 @@
-//! The compare-and-swap of a free cell as a call of a desk.
+//! The compare-and-swap of a cell as a call of a desk.
 ghost use Rattle.std.specs.Prelude.{◌≡◌, ◌↔◌, ◌+◌, cond, IfErr, IfOk, IsErr, OnOk};
-ghost use Rattle.control_word.specs.declared.event.Cell.TheVariants.{Free};
 ghost use Rattle.control_word.specs.declared.event.Event.TheVariants.{Compare};
-ghost use Rattle.control_block.specs.CellCalls.{Belongs, Holds, IsFreeCell, handle_in, with_handle, without_handle};
-ghost use Rattle.control_block.specs.Desks.{Adds, Keeps, allowance_of, bag_of};
+ghost use Rattle.control_block.specs.CellCalls.{Belongs, Holds, IsOpenAt, cell_at, handle_in, with_handle, without_handle};
+ghost use Rattle.control_block.specs.Desks.{Adds, Keeps, allowance_of, bag_of, held_of};
 
-use crate::cell_calls::{Content, FreeCell};
+use crate::cell_calls::{CellAt, Content, word_of};
 use crate::cell_compares;
 use crate::cell_plays::Aimed;
 use crate::desk::Desk;
 use crate::domain::Domain;
-use control_word::layout::cell_word;
 use control_word::{CellWord, Refusal};
 use std::sync::Wait;
 
@@ -21,17 +19,17 @@ pub fn compare<V: Drop + Send, A: Aimed, R: Wait>(
     rt: &R,
     domain: &Domain<V>,
     desk: &mut Desk<V>,
-    cell: FreeCell,
+    cell: CellAt,
     expected: Content,
     new: Content,
 ) -> Result<(bool, Content), Refusal>
     requires domain { Belongs desk.old domain.now }
-    requires cell { IsFreeCell desk.old.shape cell.number cell.kind × (A.cell ≡ Free cell.number) }
+    requires cell { IsOpenAt desk.old cell.site cell.kind × (A.cell ≡ cell_at desk.old cell.site) }
     requires expected { A.expected ≡ handle_in desk.old cell.kind expected.block expected.place }
     requires new { A.new ≡ handle_in desk.old cell.kind new.block new.place }
     requires holds { Holds desk.old cell.kind expected.block expected.place × Holds desk.old cell.kind new.block new.place }
     requires kind { (expected.kind ≡ cell.kind) × (new.kind ≡ cell.kind) }
-    ensures limit { IsErr result ↔ (desk.old.held ≡ allowance_of desk.old) }
+    ensures limit { IsErr result ↔ (held_of desk.old ≡ allowance_of desk.old) }
     ensures refused { IfErr result (λ why. (why ≡ Refusal.Limit) × (desk.new ≡ desk.old)) }
     ensures event { IfOk result (λ r. Adds desk.old (Compare A.cell A.expected A.new (handle_in desk.new cell.kind r.1.block r.1.place) r.0 A.weak) desk.new) }
     ensures bag { IfOk result (λ r. bag_of desk.new ≡ with_handle cell.kind r.1.block r.1.place (cond r.0 (without_handle cell.kind new.block new.place (bag_of desk.old)) (bag_of desk.old))) }
@@ -40,11 +38,11 @@ pub fn compare<V: Drop + Send, A: Aimed, R: Wait>(
     ensures kind { IfOk result (λ r. r.1.kind ≡ cell.kind) }
     ensures keeps { OnOk result (Keeps desk.old desk.new) }
 {
-    if desk.held == desk.allowance {
+    if desk.is_full() {
         return Err(Refusal::Limit);
     }
     let board = &domain.table.shared;
-    let word = cell_word(domain.shape.blocks, cell.number);
+    let word = word_of(domain.shape.blocks, cell.site);
     let there = CellWord {
         owned: expected.block,
         place: expected.place,

@@ -4,7 +4,6 @@ ghost use Rattle.std.specs.Prelude.{◌≡◌, ◌≢◌, ◌⊎◌, ℕ, ◌<�
 ghost use Rattle.control_word.specs.Events.{InHand};
 ghost use Rattle.control_word.specs.Handles.{object_of};
 ghost use Rattle.control_word.specs.Packing.{IsCellWord};
-ghost use Rattle.control_word.specs.declared.event.Cell.TheVariants.{Free};
 ghost use Rattle.control_word.specs.declared.event.Event.TheVariants.{Compare};
 ghost use Rattle.control_block.specs.CellPlays.{IsCellAt, IsWordOf, kind_in};
 ghost use Rattle.control_block.specs.CellRounds.{CameOut, IsCounted};
@@ -44,7 +43,6 @@ fn try_differ<V, A: Aimed, R: Wait>(
     requires rests { Rests chair.old.me }
     requires word { word < board.now.table_id.words }
     requires cell { IsCellAt chair.old.me.0 A.cell word × (kind ≡ kind_in chair.old.me.0.shape A.cell) }
-    requires free { (n : ℕ) × (A.cell ≡ Free n) }
     requires seen { IsCellWord seen × (seen.owned ≢ None) × (seen.taken < 256) }
     requires room { HasRoomFor chair.old.me.0 }
     requires hands { InHand (known chair.old.me.0) chair.old.me.0.view.name kind A.expected × InHand (known chair.old.me.0) chair.old.me.0.view.name kind A.new }
@@ -78,7 +76,6 @@ fn try_swap<V, A: Aimed>(
     requires rests { Rests chair.old.me }
     requires word { word < board.now.table_id.words }
     requires cell { IsCellAt chair.old.me.0 A.cell word × (kind ≡ kind_in chair.old.me.0.shape A.cell) }
-    requires free { (n : ℕ) × (A.cell ≡ Free n) }
     requires seen { IsCellWord seen × IsWordOf chair.old.me.0 A.expected seen }
     requires new { IsCellWord new × (new.taken ≡ 0) × IsWordOf chair.old.me.0 A.new new }
     requires hands { InHand (known chair.old.me.0) chair.old.me.0.view.name kind A.expected × InHand (known chair.old.me.0) chair.old.me.0.view.name kind A.new }
@@ -115,7 +112,6 @@ pub fn compare<V, A: Aimed, R: Wait>(
     requires rests { Rests chair.old.me }
     requires word { word < board.now.table_id.words }
     requires cell { IsCellAt chair.old.me.0 A.cell word × (kind ≡ kind_in chair.old.me.0.shape A.cell) }
-    requires free { (n : ℕ) × (A.cell ≡ Free n) }
     requires expected { IsWordOf chair.old.me.0 A.expected expected }
     requires new { IsCellWord new × (new.taken ≡ 0) × IsWordOf chair.old.me.0 A.new new }
     requires hands { InHand (known chair.old.me.0) chair.old.me.0.view.name kind A.expected × InHand (known chair.old.me.0) chair.old.me.0.view.name kind A.new }

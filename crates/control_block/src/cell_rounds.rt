@@ -5,7 +5,6 @@ ghost use Rattle.control_word.specs.Handles.{object_of};
 ghost use Rattle.control_word.specs.declared.handle.Handle.{Handle};
 ghost use Rattle.control_word.specs.Events.{InHand};
 ghost use Rattle.control_word.specs.Packing.{IsCellWord};
-ghost use Rattle.control_word.specs.declared.event.Cell.TheVariants.{Free};
 ghost use Rattle.control_word.specs.declared.event.Event.TheVariants.{Compare, Load, Swap};
 ghost use Rattle.control_block.specs.CellPlays.{IsCellAt, IsWordOf, debt, kind_in};
 ghost use Rattle.control_block.specs.CellRounds.{CameOut, IsCounted};
@@ -111,7 +110,6 @@ fn try_load<V, A: Aimed, R: Wait>(
     requires rests { Rests chair.old.me }
     requires word { word < board.now.table_id.words }
     requires cell { IsCellAt chair.old.me.0 A.cell word × (kind ≡ kind_in chair.old.me.0.shape A.cell) }
-    requires free { (n : ℕ) × (A.cell ≡ Free n) }
     requires seen { IsCellWord seen × (seen.owned ≢ None) × (seen.taken < 256) }
     requires room { HasRoomFor chair.old.me.0 }
     ensures chair { (chair.new.table_id ≡ chair.old.table_id) × (chair.new.id ≡ chair.old.id) × Rests chair.new.me }
@@ -142,7 +140,6 @@ pub fn load<V, A: Aimed, R: Wait>(
     requires rests { Rests chair.old.me }
     requires word { word < board.now.table_id.words }
     requires cell { IsCellAt chair.old.me.0 A.cell word × (kind ≡ kind_in chair.old.me.0.shape A.cell) }
-    requires free { (n : ℕ) × (A.cell ≡ Free n) }
     requires room { HasRoomFor chair.old.me.0 }
     ensures chair { (chair.new.table_id ≡ chair.old.table_id) × (chair.new.id ≡ chair.old.id) × Rests chair.new.me }
     ensures cell { IsCellWord result }
@@ -215,7 +212,6 @@ pub fn swap<V, A: Aimed>(
     requires rests { Rests chair.old.me }
     requires word { word < board.now.table_id.words }
     requires cell { IsCellAt chair.old.me.0 A.cell word × (kind ≡ kind_in chair.old.me.0.shape A.cell) }
-    requires free { (n : ℕ) × (A.cell ≡ Free n) }
     requires new { IsCellWord new × (new.taken ≡ 0) × IsWordOf chair.old.me.0 A.new new }
     requires hand { InHand (known chair.old.me.0) chair.old.me.0.view.name kind A.new }
     requires holds { IfSome new.owned (λ b. Holding chair.old.me.0 A.new.kind (object_of A.new) A.new.place b.0) }

@@ -4,7 +4,6 @@ ghost use Rattle.std.specs.Prelude.{◌≡◌, ◌≢◌, ◌⊎◌, ℕ, ◌<�
 ghost use Rattle.control_word.specs.Events.{InHand};
 ghost use Rattle.control_word.specs.Handles.{equivalent, handle};
 ghost use Rattle.control_word.specs.Packing.{IsCellWord};
-ghost use Rattle.control_word.specs.declared.event.Cell.TheVariants.{Free};
 ghost use Rattle.control_word.specs.declared.event.Event.TheVariants.{Compare, Load, Swap};
 ghost use Rattle.control_block.specs.Plays.{HasRoomFor, Rests, goes_on, known, tells};
 ghost use Rattle.control_word.specs.declared.place.Block.{Block};
@@ -152,7 +151,6 @@ pub fn swap<V, A: Aimed>(
     requires board { chair.old.table_id ≡ board.now.table_id }
     requires word { word < board.now.table_id.words }
     requires cell { IsCellAt chair.old.me.0 A.cell word }
-    requires free { (n : ℕ) × (A.cell ≡ Free n) }
     requires new { IsCellWord new × (new.taken ≡ 0) × IsWordOf chair.old.me.0 A.new new }
     requires hand { InHand (known chair.old.me.0) chair.old.me.0.view.name (kind_in chair.old.me.0.shape A.cell) A.new }
     requires owes { Owes (debt A.new new.owned 256) chair.old.me }
@@ -176,7 +174,6 @@ pub fn compare_and_swap<V, A: Aimed>(
     requires board { chair.old.table_id ≡ board.now.table_id }
     requires word { word < board.now.table_id.words }
     requires cell { IsCellAt chair.old.me.0 A.cell word }
-    requires free { (n : ℕ) × (A.cell ≡ Free n) }
     requires seen { IsCellWord seen × IsWordOf chair.old.me.0 A.expected seen }
     requires expected { InHand (known chair.old.me.0) chair.old.me.0.view.name (kind_in chair.old.me.0.shape A.cell) A.expected }
     requires new { IsCellWord new × (new.taken ≡ 0) × IsWordOf chair.old.me.0 A.new new }

@@ -50,6 +50,7 @@ pub fn close<V: Drop + Send>(
         seat,
         allowance: _,
         held: _,
+        endings: _,
         store: _,
     } = desk;
     let Domain { table, shape } = domain;

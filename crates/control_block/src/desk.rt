@@ -1,6 +1,6 @@
 //! A desk: one thread's part of a domain.
 ghost use Rattle.std.specs.Prelude.{◌≡◌, ◌↔◌, ℕ, length, IsTrue};
-ghost use Rattle.control_block.specs.Desks.{allowance_of, stock_of};
+ghost use Rattle.control_block.specs.Desks.{allowance_of, held_of, stock_of};
 
 use crate::board::Chair;
 use crate::domain::Domain;
@@ -14,6 +14,8 @@ pub struct Desk<V: Drop + Send> {
     pub(crate) allowance: u32,
     /// Handles that were handed out, empty ones too.
     pub(crate) held: u32,
+    /// Objects that end in its hands.
+    pub(crate) endings: u32,
     /// It has room for all blocks.
     pub(crate) store: Vec<Block, Global>,
 }
@@ -44,11 +46,19 @@ impl<V: Drop + Send> Desk<V> {
         self.allowance
     }
 
-    /// How many handles it holds, empty ones too (own).
+    /// How many handles it holds, empty ones too, and one more while an object ends in its hands (own): what a member held
+    /// passes through them.
     pub fn held(&self) -> u32
-        ensures { result ≡ self.now.held }
+        ensures { result ≡ held_of self.now }
     {
-        self.held
+        self.held + self.endings.min(1)
+    }
+
+    /// Whether it is at its allowance.
+    pub(crate) fn is_full(&self) -> bool
+        ensures { IsTrue result ↔ (held_of self.now ≡ allowance_of self.now) }
+    {
+        self.held() == self.allowance
     }
 
     /// Whether it has the whole allowance: then every other desk is joined, and it has seen all (own).

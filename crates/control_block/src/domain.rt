@@ -75,6 +75,7 @@ pub fn open<V: Drop + Send>(alloc: Global, shape: Shape) -> Result<(Domain<V>, D
         seat,
         allowance: shape.allowance,
         held: 0,
+        endings: 0,
         store,
     };
     Ok((Domain { table, shape }, desk))

@@ -2,7 +2,7 @@
 ghost use Rattle.std.specs.Prelude.{◌≡◌, ◌+◌, List, ◌++◌, length};
 ghost use Rattle.std.specs.List.Sorted.{IsPermutation};
 ghost use Rattle.control_word.specs.declared.handle.Handle.{Handle};
-ghost use Rattle.control_block.specs.Desks.{KeepsEndings, allowance_of, bag_of, stock_of};
+ghost use Rattle.control_block.specs.Desks.{KeepsEndings, allowance_of, bag_of, endings_of, stock_of};
 ghost use Rattle.control_block.specs.Parting.{AreIn, JoinsWith};
 
 use crate::desk::Desk;
@@ -22,16 +22,19 @@ impl<V: Drop + Send> Desk<V> {
         ensures bag { IsPermutation (bag_of self.old ++ bag_of other) (bag_of self.new) }
         ensures handles { (hs ks : List Handle) → AreIn hs (bag_of self.old) → AreIn ks (bag_of other) → AreIn (hs ++ ks) (bag_of self.new) }
         ensures endings { KeepsEndings self.old self.new × KeepsEndings other self.new }
+        ensures count { endings_of self.new ≡ endings_of self.old + endings_of other }
     {
         let Desk {
             seat,
             allowance,
             held,
+            endings,
             store,
         } = other;
         steps::join(&domain.table.shared, &mut self.seat, seat);
         append_all(&mut self.store, store.as_slice());
         self.allowance += allowance;
         self.held += held;
+        self.endings += endings;
     }
 }

@@ -4,7 +4,7 @@ ghost use Rattle.control_word.specs.Handles.{handle};
 ghost use Rattle.control_word.specs.State.{count};
 ghost use Rattle.control_word.specs.declared.event.Event.TheVariants.{Lock};
 ghost use Rattle.control_word.specs.declared.handle.Kind.TheVariants.{Owner, Weak};
-ghost use Rattle.control_block.specs.Desks.{Adds, HasHandle, Keeps, allowance_of, bag_of, latest_of, on_latest, state_of};
+ghost use Rattle.control_block.specs.Desks.{Adds, HasHandle, Keeps, allowance_of, bag_of, held_of, latest_of, on_latest, state_of};
 ghost use Rattle.control_block.specs.LockCalls.{state_before};
 
 use crate::calls::About;
@@ -28,7 +28,7 @@ pub fn lock<V: Drop + Send, A: About, R: Wait>(
     requires domain { desk.old.domain ≡ domain.now.id }
     requires meant { (A.kind ≡ of.kind) × (A.place ≡ of.place) }
     requires holds { HasHandle desk.old Weak A.place of.block.0 }
-    ensures limit { IsErr result ↔ (desk.old.held ≡ allowance_of desk.old) }
+    ensures limit { IsErr result ↔ (held_of desk.old ≡ allowance_of desk.old) }
     ensures refused { IfErr result (λ why. (why ≡ Refusal.Limit) × (desk.new ≡ desk.old)) }
     ensures handle { IfOk result (λ r. IfSome r (λ h. (h.block ≡ Some of.block) × (h.place ≡ of.place))) }
     ensures event { IfOk result (λ r. Adds desk.old (Lock (on_latest desk.old Weak A.place of.block.0) (is_some r)) desk.new) }
@@ -38,7 +38,7 @@ pub fn lock<V: Drop + Send, A: About, R: Wait>(
     ensures held { IfOk result (λ r. desk.new.held ≡ desk.old.held + cond (is_some r) 1 0) }
     ensures keeps { OnOk result (Keeps desk.old desk.new) }
 {
-    if desk.held == desk.allowance {
+    if desk.is_full() {
         return Err(Refusal::Limit);
     }
     if !locks::lock::<V, Brand, R>(rt, &domain.table.shared, &mut desk.seat, of.block) {

@@ -24,7 +24,7 @@ pub trait Meant {
 
     ghost block: { Block };
 
-    /// Of the flags and fields of a block that is being prepared.
+    /// Of the flags and fields of a block that is being prepared, or of the members of an object that ends.
     ghost word: { ℕ };
 }
 

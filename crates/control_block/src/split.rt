@@ -87,7 +87,7 @@ impl<V: Drop + Send> Desk<V> {
         ensures refused { IfErr result (λ r. (r.why ≡ Refusal.Limit) ⊎ (r.why ≡ Refusal.Memory)) }
         ensures same { IfErr result (λ r. (r.back.items ≡ handles.items) × (self.new ≡ self.old)) }
     {
-        let held = self.held;
+        let held = self.held + self.endings.min(1);
         let count = handles.len() as u32;
         let stay = held - count;
         let keep = stay.max(1);
@@ -111,12 +111,13 @@ impl<V: Drop + Send> Desk<V> {
             handles.as_slice(),
             store.as_slice(),
         );
-        self.held = stay;
+        self.held -= count;
         self.allowance -= allowance;
         let other = Desk {
             seat,
             allowance,
             held: count,
+            endings: 0,
             store,
         };
         Ok((other, handles))

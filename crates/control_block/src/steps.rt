@@ -10,7 +10,7 @@ ghost use Rattle.control_word.specs.Words.{flags_of};
 ghost use Rattle.control_word.specs.declared.event.Event.TheVariants.{Count, Expired, Finish, Leave, Make, Read, Share, Split, WeakLeave, WeakShare};
 ghost use Rattle.control_word.specs.declared.view.Pending.TheVariants.{Parting};
 ghost use Rattle.control_word.specs.declared.handle.Kind.TheVariants.{Owner, Weak};
-ghost use Rattle.control_block.specs.Plays.{tells, goes_on, comes_off, known, Added, JoinsUp, MaySplit, Ends, Rests, Holding, HasRoomFor, IsNear, IsPrepared, IsTold, MayShareWeakly};
+ghost use Rattle.control_block.specs.Plays.{tells, goes_on, comes_off, known, Added, JoinsUp, MaySplit, Ends, Rests, Holding, HasRoomFor, IsClear, IsNear, IsPrepared, IsTold, MayShareWeakly};
 ghost use Rattle.control_block.specs.declared.board.Sight.{Sight};
 
 use crate::board::{Board, Chair};
@@ -231,6 +231,7 @@ pub fn finish<V, M: Meant>(board: &Board<V>, chair: &mut Chair<V>, block: Block)
     requires rests { Rests chair.old.me }
     requires word { (0 < block.0) × (spot block.0 1 < board.now.table_id.words) }
     requires ends { Ends chair.old.me.0 M.object block.0 }
+    requires clear { IsClear chair.old.me.0 M.object }
     requires value { (x : V) × (value (opening_of chair.old.me.0.shape) chair.old.me.0.view.seen M.object ≡ Some x) }
     ensures chair { (chair.new.table_id ≡ chair.old.table_id) × (chair.new.id ≡ chair.old.id) × (chair.new.me.1 ≡ chair.old.me.1) }
     ensures event { (x : V) → value (opening_of chair.old.me.0.shape) chair.old.me.0.view.seen M.object ≡ Some x → tells (Finish M.object result x) chair.old.me.0 chair.new.me.0 }

@@ -5,7 +5,7 @@ ghost use Rattle.control_block.specs.CellCalls.{Belongs};
 ghost use Rattle.control_block.specs.Desks.{IsSameDesk, bag_of};
 ghost use Rattle.shared_handle.specs.Calls.{Holds};
 
-use crate::rounds::end;
+use crate::rounds::{bury, end};
 use atomic_cells::{Compared, SharedAt};
 use control_block::desk::Desk;
 use control_block::domain::Domain;
@@ -35,7 +35,7 @@ pub(crate) fn store_copies(
         };
         match SharedAt::free(cell).store(domain, desk, copy) {
             Left::Empty | Left::Others => {}
-            Left::Last(ending) => ending.finish(domain, desk),
+            Left::Last(ending) => bury(domain, desk, ending),
         }
     }
 }

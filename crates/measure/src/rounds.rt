@@ -3,16 +3,47 @@ ghost use Rattle.std.specs.Prelude.{◌≡◌, ◌+◌};
 ghost use Rattle.control_word.specs.declared.handle.Kind.TheVariants.{Owner, Weak};
 ghost use Rattle.control_block.specs.Desks.{IsSameDesk, bag_of};
 ghost use Rattle.shared_handle.specs.Calls.{Holds, without_handle};
+ghost use Rattle.shared_handle.specs.Endings.{Ends};
 
 use control_block::desk::Desk;
 use control_block::domain::Domain;
 use control_block::handles;
-use shared_handle::{Left, Shared, downgrade, lock, make, release, release_weak, share, use_count};
+use shared_handle::{
+    Ending, Left, Member, Shared, downgrade, lock, make, release, release_weak, share, use_count,
+};
 use std::hint::black_box;
 use std::sync::Wait;
 
 /// The fields of each object, as the peers have them.
 pub(crate) const FIELDS: [u64; 4] = [1, 2, 3, 4];
+
+// Objects of these rounds hold nothing in their members.
+fn lose(left: Left<()>) {
+    match left {
+        Left::Empty | Left::Others => {}
+        Left::Last(ending) => {
+            ending.forget();
+        }
+    }
+}
+
+/// An object ends: its members are cleared, and it is finished.
+pub(crate) fn bury(domain: &Domain<()>, desk: &mut Desk<()>, ending: Ending<()>)
+    requires domain { desk.old.domain ≡ domain.now.id }
+    requires ends { Ends desk.old ending }
+    ensures desk { IsSameDesk desk.old desk.new }
+    ensures bag { bag_of desk.new ≡ bag_of desk.old }
+    ensures held { desk.new.held ≡ desk.old.held }
+{
+    let mut ending = ending;
+    let first = ending.clear_member(domain, desk, Member::First);
+    let next = ending.clear_member(domain, desk, Member::Next);
+    let up = ending.clear_member(domain, desk, Member::Up);
+    lose(first);
+    lose(next);
+    lose(up);
+    ending.finish(domain, desk)
+}
 
 /// An owner leaves, and its object ends where it was the last.
 pub(crate) fn end(domain: &Domain<()>, desk: &mut Desk<()>, owner: Shared)
@@ -24,7 +55,7 @@ pub(crate) fn end(domain: &Domain<()>, desk: &mut Desk<()>, owner: Shared)
 {
     match release(domain, desk, owner) {
         Left::Empty | Left::Others => {}
-        Left::Last(ending) => ending.finish(domain, desk),
+        Left::Last(ending) => bury(domain, desk, ending),
     }
 }
 

@@ -7,7 +7,7 @@ use Rattle.control_word.specs.declared.place.Block.{Block}
 use Rattle.control_word.specs.declared.place.Place.{Place}
 use Rattle.control_word.specs.declared.refusal.Refusal.{Refusal}
 use Rattle.control_word.specs.declared.refusal.Refusal.TheVariants.{BadWeak, Limit}
-use Rattle.control_block.specs.Desks.{Adds, DeskNow, allowance_of, latest_of, on_latest, state_of}
+use Rattle.control_block.specs.Desks.{Adds, DeskNow, allowance_of, held_of, latest_of, on_latest, state_of}
 use Rattle.control_block.specs.LockCalls.{state_before}
 use Rattle.control_block.specs.declared.handles.Shared.{Shared}
 use Rattle.shared_handle.specs.Calls.{counting}
@@ -37,7 +37,7 @@ module _ {V : Type 0} where
   abbrev pub IsUpgrade : DeskNow V → Option Block → Option Place → Result Shared Refusal → DeskNow V → Type 0
   IsUpgrade d None p (Ok h) e = ⊥
   IsUpgrade d (Some b) p (Ok h) e = IsLock d b p true e × (h.block ≡ Some b) × (h.place ≡ p)
-  IsUpgrade d b p (Err Limit) e = (d.held ≡ allowance_of d) × (e ≡ d)
-  IsUpgrade d None p (Err BadWeak) e = (d.held ≢ allowance_of d) × (e ≡ d)
-  IsUpgrade d (Some b) p (Err BadWeak) e = (d.held ≢ allowance_of d) × IsLock d b p false e
+  IsUpgrade d b p (Err Limit) e = (held_of d ≡ allowance_of d) × (e ≡ d)
+  IsUpgrade d None p (Err BadWeak) e = (held_of d ≢ allowance_of d) × (e ≡ d)
+  IsUpgrade d (Some b) p (Err BadWeak) e = (held_of d ≢ allowance_of d) × IsLock d b p false e
   IsUpgrade d b p (Err why) e = ⊥

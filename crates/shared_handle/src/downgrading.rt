@@ -1,7 +1,7 @@
 //! Weak pointers from shared ones ([util.smartptr.weak.const]).
 ghost use Rattle.std.specs.Prelude.{◌≡◌, ◌↔◌, ◌+◌, IfErr, IfOk, IsErr, OnOk};
 ghost use Rattle.control_word.specs.declared.handle.Kind.TheVariants.{Owner, Weak};
-ghost use Rattle.control_block.specs.Desks.{Keeps, allowance_of, bag_of};
+ghost use Rattle.control_block.specs.Desks.{Keeps, allowance_of, bag_of, held_of};
 ghost use Rattle.shared_handle.specs.Calls.{Holds, SharesWeakly, weak_place, with_handle};
 
 use control_block::desk::Desk;
@@ -21,7 +21,7 @@ pub fn downgrade<V: Drop + Send>(
 ) -> Result<handles::Weak, Refusal>
     requires domain { desk.old.domain ≡ domain.now.id }
     requires holds { Holds desk.old Owner handle.now.block handle.now.place }
-    ensures limit { IsErr result ↔ (desk.old.held ≡ allowance_of desk.old) }
+    ensures limit { IsErr result ↔ (held_of desk.old ≡ allowance_of desk.old) }
     ensures refused { IfErr result (λ why. (why ≡ Refusal.Limit) × (desk.new ≡ desk.old)) }
     ensures handle { IfOk result (λ h. (h.block ≡ handle.now.block) × (h.place ≡ weak_place handle.now.block handle.now.place)) }
     ensures event { OnOk result (SharesWeakly desk.old handle.now.block handle.now.place desk.new) }

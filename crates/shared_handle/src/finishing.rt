@@ -1,26 +1,27 @@
 //! What an object that ends still gives, and its end.
-ghost use Rattle.std.specs.Prelude.{◌≡◌, ◌≢◌, ℕ, ◌+◌, ◌<◌, Bool, cond, true, false, length, slice_index, Err, IfErr, IfOk, OnOk, Some};
+ghost use Rattle.std.specs.Prelude.{◌≡◌, ◌≢◌, ℕ, ◌+◌, ◌<◌, Bool, cond, ◌&&◌, true, false, length, slice_index, Err, IfErr, IfOk, OnOk, Some};
 ghost use Rattle.control_word.specs.declared.event.Event.TheVariants.{Finish};
 ghost use Rattle.control_word.specs.declared.handle.Kind.TheVariants.{Weak};
 ghost use Rattle.control_word.specs.Histories.{value};
 ghost use Rattle.control_block.specs.Rule.{opening_of};
-ghost use Rattle.control_block.specs.Desks.{Adds, IsEnding, IsSameDesk, Keeps, KeepsOtherEndings, allowance_of, bag_of, latest_of, object_in, stock_of};
+ghost use Rattle.control_block.specs.Desks.{Adds, IsEnding, IsSameDesk, Keeps, KeepsOtherEndings, allowance_of, bag_of, endings_of, held_of, latest_of, object_in, stock_of};
 ghost use Rattle.shared_handle.specs.Calls.{IsOfThis, SharesWeakly, with_handle};
-ghost use Rattle.shared_handle.specs.Endings.{WhyNoWeakThis};
+ghost use Rattle.shared_handle.specs.Endings.{Ends, IsAllClear, IsUncleared, WhyNoWeakThis};
 
 use crate::endings::Ending;
 use control_block::desk::Desk;
 use control_block::domain::Domain;
 use control_block::handles::Shared;
 use control_block::{calls, handles};
-use control_word::{Place, Refusal};
+use control_word::{Block, Place, Refusal};
 use std::marker::Brand;
+use std::mem::forget;
 
 impl<V: Drop + Send> Ending<V> {
     /// The object's four fields (own).
     pub fn fields(&self, domain: &Domain<V>, desk: &mut Desk<V>) -> [u64; 4]
         requires domain { desk.old.domain ≡ domain.now.id }
-        requires ends { IsEnding desk.old self.now.block.0 self.now.value }
+        requires ends { Ends desk.old self.now }
         ensures fields { (k : ℕ) → k < 4 → slice_index result k ≡ slice_index (object_in desk.old self.now.block.0).fields k }
         ensures same { desk.new ≡ desk.old }
     {
@@ -30,18 +31,31 @@ impl<V: Drop + Send> Ending<V> {
     /// Whether it is the end of an owned null pointer ([util.smartptr.shared.const]).
     pub fn is_null(&self, domain: &Domain<V>, desk: &mut Desk<V>) -> bool
         requires domain { desk.old.domain ≡ domain.now.id }
-        requires ends { IsEnding desk.old self.now.block.0 self.now.value }
+        requires ends { Ends desk.old self.now }
         ensures null { result ≡ (object_in desk.old self.now.block.0).null }
         ensures same { desk.new ≡ desk.old }
     {
         calls::is_null(domain, desk, self.block)
     }
 
-    /// Whether all member cells are cleared (own): nothing reaches one yet, so they are from the start.
-    pub fn is_clear(&self) -> bool
-        ensures { result ≡ true }
+    /// An object that begins to end: no member is cleared yet.
+    pub(crate) fn begin(block: Block, value: V) -> Self
+        ensures { (result.block ≡ block) × (result.value ≡ value) × IsUncleared result }
     {
-        true
+        Self {
+            block,
+            value,
+            first: false,
+            next: false,
+            up: false,
+        }
+    }
+
+    /// Whether all three members are cleared (own).
+    pub fn is_clear(&self) -> bool
+        ensures { result ≡ (self.now.first && self.now.next && self.now.up) }
+    {
+        self.first && self.next && self.up
     }
 
     /// No owner comes of an object that ends ([util.smartptr.enab], [util.smartptr.weak.bad]): it is refused `NotEnabled`
@@ -52,7 +66,7 @@ impl<V: Drop + Send> Ending<V> {
         desk: &mut Desk<V>,
     ) -> Result<Shared, Refusal>
         requires domain { desk.old.domain ≡ domain.now.id }
-        requires ends { IsEnding desk.old self.now.block.0 self.now.value }
+        requires ends { Ends desk.old self.now }
         ensures refused { result ≡ Err (cond (object_in desk.old self.now.block.0).enabled Refusal.BadWeak Refusal.NotEnabled) }
         ensures same { desk.new ≡ desk.old }
     {
@@ -72,9 +86,9 @@ impl<V: Drop + Send> Ending<V> {
         desk: &mut Desk<V>,
     ) -> Result<handles::Weak, Refusal>
         requires domain { desk.old.domain ≡ domain.now.id }
-        requires ends { IsEnding desk.old self.now.block.0 self.now.value }
+        requires ends { Ends desk.old self.now }
         ensures refused { IfErr result (λ why. WhyNoWeakThis desk.old self.now.block why × (desk.new ≡ desk.old)) }
-        ensures may { OnOk result ((desk.old.held ≢ allowance_of desk.old) × ((object_in desk.old self.now.block.0).enabled ≡ true)) }
+        ensures may { OnOk result ((held_of desk.old ≢ allowance_of desk.old) × ((object_in desk.old self.now.block.0).enabled ≡ true)) }
         ensures handle { IfOk result (λ h. (h.block ≡ Some self.now.block) × IsOfThis h.block h.place) }
         ensures event { IfOk result (λ h. SharesWeakly desk.old h.block h.place desk.new) }
         ensures bag { IfOk result (λ h. bag_of desk.new ≡ with_handle Weak h.block h.place (bag_of desk.old)) }
@@ -91,20 +105,44 @@ impl<V: Drop + Send> Ending<V> {
         calls::share_weak::<V, Brand>(domain, desk, block, Some(Place { block, field: 0 }))
     }
 
-    /// The end ([util.smartptr.shared.dest]): the value comes out, which is the one that the object was made with, and
+    /// The end ([util.smartptr.shared.dest]). Condition: all three members were cleared. The value comes out, which is the one that the object was made with, and
     /// dropping it is the deleter's call. Where no weak handle is left, the block is vacant, and in the desk's store.
     pub fn finish(self, domain: &Domain<V>, desk: &mut Desk<V>) -> V
         requires domain { desk.old.domain ≡ domain.now.id }
-        requires ends { IsEnding desk.old self.block.0 self.value }
+        requires ends { Ends desk.old self }
+        requires clear { IsAllClear self }
         ensures value { (result ≡ self.value) × (value (opening_of desk.old.shape) desk.old.seen (latest_of desk.old self.block.0) ≡ Some result) }
         ensures event { (vacant : Bool) × Adds desk.old (Finish (latest_of desk.old self.block.0) vacant result) desk.new × (length (stock_of desk.new) ≡ length (stock_of desk.old) + cond vacant 1 0) }
         ensures bag { bag_of desk.new ≡ bag_of desk.old }
         ensures held { desk.new.held ≡ desk.old.held }
         ensures desk { IsSameDesk desk.old desk.new }
         ensures endings { KeepsOtherEndings desk.old self.block.0 desk.new }
+        ensures count { endings_of desk.new + 1 ≡ endings_of desk.old }
     {
-        let Self { block, value } = self;
+        let Self {
+            block,
+            value,
+            first: _,
+            next: _,
+            up: _,
+        } = self;
         calls::finish(domain, desk, block);
         value
+    }
+
+    /// The object stays ending in its desk's hands (own), as a handle that is forgotten stays counted: its value is neither
+    /// handed out nor dropped, and its block, which it answers, isn't used again.
+    pub fn forget(self) -> Block
+        ensures { result ≡ self.block }
+    {
+        let Self {
+            block,
+            value,
+            first: _,
+            next: _,
+            up: _,
+        } = self;
+        forget(value);
+        block
     }
 }

@@ -2,6 +2,7 @@
 //! values that must be spent.
 #![tactic(auto)]
 
+mod clearing;
 mod downgrading;
 #[cfg(test)]
 mod drop_tests;
@@ -37,7 +38,7 @@ mod weaks;
 
 pub use control_block::handles::{Held, Shared, Weak};
 pub use downgrading::downgrade;
-pub use endings::{Ending, Left};
+pub use endings::{Ending, Left, Member};
 pub use locking::{lock, upgrade};
 pub use looks::{place, read, same_place, use_count};
 pub use making::{empty, empty_weak, make, make_null};

@@ -1,7 +1,7 @@
 //! Owners from weak pointers.
 ghost use Rattle.std.specs.Prelude.{◌≡◌, ◌↔◌, ◌+◌, is_some, IfErr, IfOk, IsErr, OnOk, None};
 ghost use Rattle.control_word.specs.declared.handle.Kind.TheVariants.{Owner, Weak};
-ghost use Rattle.control_block.specs.Desks.{Keeps, allowance_of, bag_of};
+ghost use Rattle.control_block.specs.Desks.{Keeps, allowance_of, bag_of, held_of};
 ghost use Rattle.shared_handle.specs.Calls.{Holds, with_handle};
 ghost use Rattle.shared_handle.specs.Locks.{IsOwnerOf, IsUpgrade, Locks, SawNoOwner};
 
@@ -26,7 +26,7 @@ pub fn lock<V: Drop + Send, R: Wait>(
 ) -> Result<Shared, Refusal>
     requires domain { desk.old.domain ≡ domain.now.id }
     requires holds { Holds desk.old Weak handle.now.block handle.now.place }
-    ensures limit { IsErr result ↔ (desk.old.held ≡ allowance_of desk.old) }
+    ensures limit { IsErr result ↔ (held_of desk.old ≡ allowance_of desk.old) }
     ensures refused { IfErr result (λ why. (why ≡ Refusal.Limit) × (desk.new ≡ desk.old)) }
     ensures handle { IfOk result (λ h. IsOwnerOf handle.now.block handle.now.place (is_some h.block) h) }
     ensures lock { IfOk result (λ h. Locks desk.old handle.now.block handle.now.place (is_some h.block) desk.new) }

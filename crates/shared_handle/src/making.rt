@@ -1,7 +1,7 @@
 //! Empty handles, and owners of new objects.
 ghost use Rattle.std.specs.Prelude.{◌≡◌, ◌↔◌, ◌+◌, [], ◌∷◌, false, length, true, IfErr, IfOk, IsErr, OnOk, None};
 ghost use Rattle.control_word.specs.declared.handle.Kind.TheVariants.{Owner};
-ghost use Rattle.control_block.specs.Desks.{IsSameDesk, KeepsEndings, allowance_of, bag_of, stock_of};
+ghost use Rattle.control_block.specs.Desks.{IsSameDesk, KeepsEndings, allowance_of, bag_of, held_of, stock_of};
 ghost use Rattle.control_block.specs.Refusals.{IsFullOrLimit};
 ghost use Rattle.shared_handle.specs.Calls.{Makes, counting, with_handle};
 
@@ -15,7 +15,7 @@ use control_word::{Refusal, Refused};
 /// just where the desk is at its allowance, and then nothing changes.
 pub fn empty<V: Drop + Send>(_domain: &Domain<V>, desk: &mut Desk<V>) -> Result<Shared, Refusal>
     requires domain { desk.old.domain ≡ _domain.now.id }
-    ensures limit { IsErr result ↔ (desk.old.held ≡ allowance_of desk.old) }
+    ensures limit { IsErr result ↔ (held_of desk.old ≡ allowance_of desk.old) }
     ensures refused { IfErr result (λ why. (why ≡ Refusal.Limit) × (desk.new ≡ desk.old)) }
     ensures handle { IfOk result (λ h. (h.block ≡ None) × (h.place ≡ None)) }
     ensures counted { OnOk result (desk.new ≡ counting (desk.old.held + 1) desk.old) }
@@ -28,7 +28,7 @@ pub fn empty<V: Drop + Send>(_domain: &Domain<V>, desk: &mut Desk<V>) -> Result<
 /// at its allowance, and then nothing changes.
 pub fn empty_weak<V: Drop + Send>(_domain: &Domain<V>, desk: &mut Desk<V>) -> Result<Weak, Refusal>
     requires domain { desk.old.domain ≡ _domain.now.id }
-    ensures limit { IsErr result ↔ (desk.old.held ≡ allowance_of desk.old) }
+    ensures limit { IsErr result ↔ (held_of desk.old ≡ allowance_of desk.old) }
     ensures refused { IfErr result (λ why. (why ≡ Refusal.Limit) × (desk.new ≡ desk.old)) }
     ensures handle { IfOk result (λ h. (h.block ≡ None) × (h.place ≡ None)) }
     ensures counted { OnOk result (desk.new ≡ counting (desk.old.held + 1) desk.old) }
@@ -47,7 +47,7 @@ fn make_as<V: Drop + Send>(
     value: V,
 ) -> Result<Shared, Refused<V>>
     requires domain { desk.old.domain ≡ domain.now.id }
-    ensures refusals { IsFullOrLimit (desk.old.held ≡ allowance_of desk.old) (stock_of desk.old ≡ []) result }
+    ensures refusals { IsFullOrLimit (held_of desk.old ≡ allowance_of desk.old) (stock_of desk.old ≡ []) result }
     ensures refused { IfErr result (λ r. (r.back ≡ value) × (desk.new ≡ desk.old)) }
     ensures event { IfOk result (λ h. Makes desk.old enabled null fields value h.block h.place desk.new) }
     ensures bag { IfOk result (λ h. bag_of desk.new ≡ with_handle Owner h.block h.place (bag_of desk.old)) }
@@ -74,7 +74,7 @@ pub fn make<V: Drop + Send>(
     value: V,
 ) -> Result<Shared, Refused<V>>
     requires domain { desk.old.domain ≡ domain.now.id }
-    ensures refusals { IsFullOrLimit (desk.old.held ≡ allowance_of desk.old) (stock_of desk.old ≡ []) result }
+    ensures refusals { IsFullOrLimit (held_of desk.old ≡ allowance_of desk.old) (stock_of desk.old ≡ []) result }
     ensures refused { IfErr result (λ r. (r.back ≡ value) × (desk.new ≡ desk.old)) }
     ensures event { IfOk result (λ h. Makes desk.old enabled false fields value h.block h.place desk.new) }
     ensures bag { IfOk result (λ h. bag_of desk.new ≡ with_handle Owner h.block h.place (bag_of desk.old)) }
@@ -94,7 +94,7 @@ pub fn make_null<V: Drop + Send>(
     value: V,
 ) -> Result<Shared, Refused<V>>
     requires domain { desk.old.domain ≡ domain.now.id }
-    ensures refusals { IsFullOrLimit (desk.old.held ≡ allowance_of desk.old) (stock_of desk.old ≡ []) result }
+    ensures refusals { IsFullOrLimit (held_of desk.old ≡ allowance_of desk.old) (stock_of desk.old ≡ []) result }
     ensures refused { IfErr result (λ r. (r.back ≡ value) × (desk.new ≡ desk.old)) }
     ensures event { IfOk result (λ h. Makes desk.old false true (0 ∷ 0 ∷ 0 ∷ 0 ∷ []) value h.block h.place desk.new) }
     ensures bag { IfOk result (λ h. bag_of desk.new ≡ with_handle Owner h.block h.place (bag_of desk.old)) }

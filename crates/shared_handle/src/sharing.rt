@@ -2,9 +2,9 @@
 ghost use Rattle.std.specs.Prelude.{◌≡◌, ◌⊎◌, ◌↔◌, ◌+◌, IfErr, IfOk, IsErr, OnOk};
 ghost use Rattle.control_word.specs.Handles.{IsPointer};
 ghost use Rattle.control_word.specs.declared.handle.Kind.TheVariants.{Owner};
-ghost use Rattle.control_block.specs.Desks.{Keeps, allowance_of, bag_of};
+ghost use Rattle.control_block.specs.Desks.{Keeps, KeepsStock, allowance_of, bag_of, endings_of, held_of};
 ghost use Rattle.shared_handle.specs.Calls.{Holds, IsOfThis, Shares, with_handle, without_handle};
-ghost use Rattle.shared_handle.specs.Endings.{IsLeft};
+ghost use Rattle.shared_handle.specs.Endings.{IsLeft, more_ending};
 
 use crate::endings::{Ending, Left};
 use control_block::calls;
@@ -25,7 +25,7 @@ pub(crate) fn share_to<V: Drop + Send>(
     requires domain { desk.old.domain ≡ domain.now.id }
     requires holds { Holds desk.old Owner handle.now.block handle.now.place }
     requires place { (place ≡ handle.now.place) ⊎ (IsOfThis handle.now.block place ⊎ IsPointer place) }
-    ensures limit { IsErr result ↔ (desk.old.held ≡ allowance_of desk.old) }
+    ensures limit { IsErr result ↔ (held_of desk.old ≡ allowance_of desk.old) }
     ensures refused { IfErr result (λ why. (why ≡ Refusal.Limit) × (desk.new ≡ desk.old)) }
     ensures handle { IfOk result (λ h. (h.block ≡ handle.now.block) × (h.place ≡ place)) }
     ensures event { OnOk result (Shares desk.old handle.now.block handle.now.place place desk.new) }
@@ -55,7 +55,7 @@ pub fn share<V: Drop + Send>(
 ) -> Result<Shared, Refusal>
     requires domain { desk.old.domain ≡ domain.now.id }
     requires holds { Holds desk.old Owner handle.now.block handle.now.place }
-    ensures limit { IsErr result ↔ (desk.old.held ≡ allowance_of desk.old) }
+    ensures limit { IsErr result ↔ (held_of desk.old ≡ allowance_of desk.old) }
     ensures refused { IfErr result (λ why. (why ≡ Refusal.Limit) × (desk.new ≡ desk.old)) }
     ensures handle { IfOk result (λ h. (h.block ≡ handle.now.block) × (h.place ≡ handle.now.place)) }
     ensures event { OnOk result (Shares desk.old handle.now.block handle.now.place handle.now.place desk.new) }
@@ -78,7 +78,7 @@ pub fn alias<V: Drop + Send>(
     requires domain { desk.old.domain ≡ domain.now.id }
     requires holds { Holds desk.old Owner handle.now.block handle.now.place }
     requires place { IsPointer place }
-    ensures limit { IsErr result ↔ (desk.old.held ≡ allowance_of desk.old) }
+    ensures limit { IsErr result ↔ (held_of desk.old ≡ allowance_of desk.old) }
     ensures refused { IfErr result (λ why. (why ≡ Refusal.Limit) × (desk.new ≡ desk.old)) }
     ensures handle { IfOk result (λ h. (h.block ≡ handle.now.block) × (h.place ≡ place)) }
     ensures event { OnOk result (Shares desk.old handle.now.block handle.now.place place desk.new) }
@@ -97,7 +97,8 @@ pub fn release<V: Drop + Send>(domain: &Domain<V>, desk: &mut Desk<V>, handle: S
     ensures left { IsLeft desk.old handle.block handle.place result desk.new }
     ensures bag { bag_of desk.new ≡ without_handle Owner handle.block handle.place (bag_of desk.old) }
     ensures held { desk.new.held + 1 ≡ desk.old.held }
-    ensures keeps { Keeps desk.old desk.new }
+    ensures keeps { KeepsStock desk.old desk.new }
+    ensures count { endings_of desk.new ≡ endings_of desk.old + more_ending result }
 {
     let (block, place) = handle.into_parts();
     let Some(block) = block else {
@@ -111,6 +112,6 @@ pub fn release<V: Drop + Send>(domain: &Domain<V>, desk: &mut Desk<V>, handle: S
     };
     match calls::leave::<V, Brand>(domain, desk, of) {
         None => Left::Others,
-        Some(value) => Left::Last(Ending { block, value }),
+        Some(value) => Left::Last(Ending::begin(block, value)),
     }
 }

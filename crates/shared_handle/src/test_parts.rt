@@ -4,8 +4,9 @@ ghost use Rattle.control_word.specs.declared.place.Block.{Block};
 ghost use Rattle.control_word.specs.declared.handle.Kind.TheVariants.{Owner};
 ghost use Rattle.control_block.specs.Desks.{IsSameDesk, allowance_of, bag_of, stock_of};
 ghost use Rattle.shared_handle.specs.Calls.{Holds, with_handle, without_handle};
+ghost use Rattle.shared_handle.specs.Endings.{Ends};
 
-use crate::{Held, Left, Shared, make, release, share};
+use crate::{Ending, Held, Left, Member, Shared, make, release, share};
 use control_block::census::close;
 use control_block::desk::Desk;
 use control_block::domain::Domain;
@@ -34,6 +35,35 @@ pub(crate) fn shut<V: Drop + Send>(domain: Domain<V>, desk: Desk<V>)
     }
 }
 
+// What a member held was an object's last owner: no test that asks for a burial has such members.
+fn lose<V: Drop + Send>(left: Left<V>) {
+    match left {
+        Left::Empty | Left::Others => {}
+        Left::Last(ending) => {
+            ending.forget();
+        }
+    }
+}
+
+// The end of an object whose members were the last owners of none.
+pub(crate) fn bury<V: Drop + Send>(domain: &Domain<V>, desk: &mut Desk<V>, ending: Ending<V>) -> V
+    requires domain { desk.old.domain ≡ domain.now.id }
+    requires ends { Ends desk.old ending }
+    ensures value { result ≡ ending.value }
+    ensures desk { IsSameDesk desk.old desk.new }
+    ensures bag { bag_of desk.new ≡ bag_of desk.old }
+    ensures held { desk.new.held ≡ desk.old.held }
+{
+    let mut ending = ending;
+    let first = ending.clear_member(domain, desk, Member::First);
+    let next = ending.clear_member(domain, desk, Member::Next);
+    let up = ending.clear_member(domain, desk, Member::Up);
+    lose(first);
+    lose(next);
+    lose(up);
+    ending.finish(domain, desk)
+}
+
 // The value of the object that the handle was the last owner of.
 pub(crate) fn end<V: Drop + Send>(
     domain: &Domain<V>,
@@ -48,7 +78,7 @@ pub(crate) fn end<V: Drop + Send>(
 {
     match release(domain, desk, handle) {
         Left::Empty | Left::Others => None,
-        Left::Last(ending) => Some(ending.finish(domain, desk)),
+        Left::Last(ending) => Some(bury(domain, desk, ending)),
     }
 }
 
@@ -68,7 +98,7 @@ pub(crate) fn leave_others<V: Drop + Send>(
         Left::Others => true,
         Left::Empty => false,
         Left::Last(ending) => {
-            ending.finish(domain, desk);
+            bury(domain, desk, ending);
             false
         }
     }
@@ -87,7 +117,7 @@ pub(crate) fn leave(domain: &Domain<u64>, desk: &mut Desk<u64>, handle: &mut Opt
     match release(domain, desk, owner) {
         Left::Empty | Left::Others => 0,
         Left::Last(ending) => {
-            ending.finish(domain, desk);
+            bury(domain, desk, ending);
             1
         }
     }

@@ -1,9 +1,10 @@
 ghost use Rattle.std.specs.Prelude.{◌≡◌, []};
 ghost use Rattle.control_word.specs.declared.handle.Kind.TheVariants.{Owner};
-ghost use Rattle.control_block.specs.Desks.{IsEnding, IsSameDesk, bag_of};
+ghost use Rattle.control_block.specs.Desks.{IsSameDesk, bag_of};
 ghost use Rattle.shared_handle.specs.Calls.{Holds, with_handle};
+ghost use Rattle.shared_handle.specs.Endings.{Ends};
 
-use crate::test_parts::{end, leave_others, shape, shut};
+use crate::test_parts::{bury, end, leave_others, shape, shut};
 use crate::{Ending, Left, Shared, expired, make, release, release_weak, share, use_count};
 use control_block::desk::Desk;
 use control_block::domain::{Domain, open};
@@ -119,7 +120,7 @@ fn last_words(
     ending: &Ending<u64>,
 ) -> ([u64; 4], bool, bool, Option<Refusal>)
     requires domain { desk.old.domain ≡ domain.now.id }
-    requires ends { IsEnding desk.old ending.now.block.0 ending.now.value }
+    requires ends { Ends desk.old ending.now }
     ensures same { desk.new ≡ desk.old }
 {
     let fields = ending.fields(domain, desk);
@@ -148,11 +149,11 @@ fn end_with_a_weak_handle(
     };
     let (fields, _, clear, why) = last_words(domain, desk, &ending);
     let Ok(weak) = ending.weak_from_this(domain, desk) else {
-        ending.finish(domain, desk);
+        bury(domain, desk, ending);
         return None;
     };
     let expired = expired(domain, desk, &weak);
-    let value = ending.finish(domain, desk);
+    let value = bury(domain, desk, ending);
     let before = desk.stock();
     release_weak(domain, desk, weak);
     Some((fields, clear, why, expired, value, before, desk.stock()))

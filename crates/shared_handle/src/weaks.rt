@@ -1,7 +1,7 @@
 //! Weak pointers ([util.smartptr.weak]).
 ghost use Rattle.std.specs.Prelude.{◌≡◌, ◌↔◌, ◌+◌, Bool, cond, length, IfErr, IfOk, IsErr, OnOk};
 ghost use Rattle.control_word.specs.declared.handle.Kind.TheVariants.{Weak};
-ghost use Rattle.control_block.specs.Desks.{IsSameDesk, Keeps, KeepsEndings, allowance_of, bag_of, stock_of};
+ghost use Rattle.control_block.specs.Desks.{IsSameDesk, Keeps, KeepsEndings, allowance_of, bag_of, held_of, stock_of};
 ghost use Rattle.shared_handle.specs.Calls.{Holds, LeavesWeakly, SharesWeakly, weak_place, with_handle, without_handle};
 
 use control_block::desk::Desk;
@@ -22,7 +22,7 @@ pub fn share_weak<V: Drop + Send>(
 ) -> Result<handles::Weak, Refusal>
     requires domain { desk.old.domain ≡ domain.now.id }
     requires holds { Holds desk.old Weak handle.now.block handle.now.place }
-    ensures limit { IsErr result ↔ (desk.old.held ≡ allowance_of desk.old) }
+    ensures limit { IsErr result ↔ (held_of desk.old ≡ allowance_of desk.old) }
     ensures refused { IfErr result (λ why. (why ≡ Refusal.Limit) × (desk.new ≡ desk.old)) }
     ensures handle { IfOk result (λ h. (h.block ≡ handle.now.block) × (h.place ≡ weak_place handle.now.block handle.now.place)) }
     ensures event { OnOk result (SharesWeakly desk.old handle.now.block handle.now.place desk.new) }

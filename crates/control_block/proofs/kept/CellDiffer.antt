@@ -21,9 +21,9 @@ use Rattle.control_block.specs.Rule.{Ruled, opening_of, seeing}
 use Rattle.control_block.specs.Plays.{At, Rests, known}
 use Rattle.control_block.specs.CellPlays.{IsCellAt, as_differed, differed_empty, kind_in}
 use Rattle.control_block.specs.declared.board.Sight.{Sight}
-use Rattle.control_block.proofs.CellWords.{Decoded, Opened}
+use Rattle.control_block.proofs.CellWords.{Decoded, Opened, is_open}
 use Rattle.control_block.proofs.Hands.{hand_there}
-use Rattle.control_block.proofs.Passage.{adds, point, quiet_next, ready}
+use Rattle.control_block.proofs.Passage.{adds, plain, point, quiet_next, ready}
 use Rattle.control_block.proofs.Still.{unmoved}
 use Rattle.control_block.proofs.kept.CellLook.{allows_cell_look, is_held, shows_one}
 use Rattle.control_block.proofs.kept.Look.{looked}
@@ -59,10 +59,10 @@ module _ {V : Type 0} where
           let it : h ≡ old = λ j. record { kind = sym d.kind j; object = sym e j; place = old.place } in
           let ev : Event V = Compare c expected new h false weak' in let hist = entry v.view.name ev ∷ r.history in
           let told = law.differs_empty (point k s r id v) c kk old.place expected new weak' (ready k s r id v at rests.awake Idle rests.idle) it
-          (is.open', hand_there k s r id v at rests.awake kk expected he _ is.kind, hand_there k s r id v at rests.awake kk new hn _ is.kind, it, inl (sym same)) in (
+          (is_open k s r id v at rests.awake c i cell, hand_there k s r id v at rests.awake kk expected he _ is.kind, hand_there k s r id v at rests.awake kk new hn _ is.kind, it, inl (sym same)) in (
             seeing v Idle None hist,
             quiet_next k s r id v (set s.words i (get_or s.words i 0)) ev Idle at rests.awake rests.empty
-                record { objects = λ u q. refl; latest = λ u q. refl; values = λ u f. refl } (looked z s.words i _ hist told),
+                (plain (λ u q. refl) (λ u q. refl) (λ u f. refl)) (looked z s.words i _ hist told),
             (
               is_held k s r id v at rests.awake c d.taken,
               λ _ _. (adds k s r id v at rests.awake Idle None ev told.legal, refl),

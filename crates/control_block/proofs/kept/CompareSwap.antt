@@ -15,7 +15,7 @@ use Rattle.control_word.specs.Packing.{IsCellWord, cell_bits}
 use Rattle.control_word.specs.Steps.{Adds, cell_word, purse}
 use Rattle.control_word.specs.Words.{blocks_of, shown}
 use Rattle.control_word.specs.declared.cell.CellWord.{CellWord}
-use Rattle.control_word.specs.declared.event.Cell.TheVariants.{Free}
+use Rattle.control_word.specs.declared.event.Cell.{Cell}
 use Rattle.control_word.specs.declared.event.Event.TheVariants.{Compare}
 use Rattle.control_word.specs.declared.handle.Handle.{Handle}
 use Rattle.control_word.specs.declared.shape.Shape.{Shape}
@@ -24,9 +24,9 @@ use Rattle.control_block.specs.Plays.{At, HasRoomFor, known}
 use Rattle.control_block.specs.FundPlays.{Owes}
 use Rattle.control_block.specs.CellPlays.{Gave, IsCellAt, IsWordOf, compare_swapped, debt, kind_in}
 use Rattle.control_block.specs.declared.board.Sight.{Sight}
-use Rattle.control_block.proofs.CellWords.{Opened, cell_keeps, decoded, found_is, one_cell, opened}
+use Rattle.control_block.proofs.CellWords.{Opened, cell_keeps, decoded, found_is, is_open, one_cell, opened}
 use Rattle.control_block.proofs.Hands.{hand_block, hand_there, room_swapped, same_object}
-use Rattle.control_block.proofs.Passage.{point}
+use Rattle.control_block.proofs.Passage.{point, quiet_compare}
 use Rattle.control_block.proofs.Still.{allows_exchange}
 use Rattle.control_block.proofs.kept.Swap.{gives, packs_new, ready_new}
 
@@ -38,7 +38,7 @@ equivalent_to x y e p =
 module _ {V : Type 0} where
   -- a cell that shows what is expected holds an equivalent of it
   pub is_expected : (k : Shape) (s : Table.State (Option V) (Sight V)) (r : Ruled k s) (id : ℕ) (v : Sight V) (at : get_elem? s.views id ≡ some v)
-      (awake : v.view.spent ≡ false) (c : Rattle.control_word.specs.declared.event.Cell.Cell) (i : ℕ) (is : Opened k s r id v at awake c i)
+      (awake : v.view.spent ≡ false) (c : Cell) (i : ℕ) (is : Opened k s r id v at awake c i)
       (expected : Handle) → InHand (known v) v.view.name expected.kind expected
       → (x : CellWord) (n : ℕ) → x ≡ shown (blocks_of (leads (opening_of k) r.history)) (cell_of (leads (opening_of k) r.history) c) n
       → IsWordOf v expected x → equivalent (cell_of (leads (opening_of k) r.history) c) expected ≡ true
@@ -49,35 +49,35 @@ module _ {V : Type 0} where
       equivalent_to old expected
       (same_object k s r id v at awake expected.kind expected hand old.object (cell_keeps k s r id v at awake c i is) block) place
 
-  pub allows_compare_swap : (k : Shape) (slots id i found n : ℕ) (c : ℕ) (expected new : Handle) (weak' : Bool) (x y : CellWord) (me : At V)
+  pub allows_compare_swap : (k : Shape) (slots id i found n : ℕ) (c : Cell) (expected new : Handle) (weak' : Bool) (x y : CellWord) (me : At V)
       → Owes (debt new y.owned 256) me
-      → IsCellAt me.0 (Free c) i → IsCellWord x → found ≡ cell_bits x → IsWordOf me.0 expected x
-      → InHand (known me.0) me.0.view.name (kind_in me.0.shape (Free c)) expected → IsWordOf me.0 new y → y.taken ≡ 0
-      → InHand (known me.0) me.0.view.name (kind_in me.0.shape (Free c)) new → (new.object ≡ None → HasRoomFor me.0) → n ≡ cell_bits y
+      → IsCellAt me.0 c i → IsCellWord x → found ≡ cell_bits x → IsWordOf me.0 expected x
+      → InHand (known me.0) me.0.view.name (kind_in me.0.shape c) expected → IsWordOf me.0 new y → y.taken ≡ 0
+      → InHand (known me.0) me.0.view.name (kind_in me.0.shape c) new → (new.object ≡ None → HasRoomFor me.0) → n ≡ cell_bits y
       → Allows (Ruled k) slots id me i (λ m. either (m == found) n m)
-      (compare_swapped (Free c) (λ h. Compare (Free c) expected new h true weak') (step slots i found n none) me)
+      (compare_swapped c (λ h. Compare c expected new h true weak') (step slots i found n none) me)
   allows_compare_swap k slots id i found n c expected new weak' x y me owes cell valid is_found shows he is_new full hand more bits =
-      allows_exchange k slots id i found n me (compare_swapped (Free c) (λ h. Compare (Free c) expected new h true weak') (step slots i found n none) me)
+      allows_exchange k slots id i found n me (compare_swapped c (λ h. Compare c expected new h true weak') (step slots i found n none) me)
       (λ m q. (λ a. absurd (q a), λ _. refl))
       (λ s r at q.
-      let v = me.0 in let z = opening_of k in let t = leads z r.history in let cc' = Free c in let old = cell_of t cc' in
-      let is = opened k s r id v at owes.awake cc' i cell in let d = decoded k s r id v at owes.awake cc' i is in
-      let same = found_is k s r id v at owes.awake cc' i is d x valid (q ∙ is_found) in
+      let v = me.0 in let z = opening_of k in let t = leads z r.history in let old = cell_of t c in
+      let is = opened k s r id v at owes.awake c i cell in let d = decoded k s r id v at owes.awake c i is in
+      let same = found_is k s r id v at owes.awake c i is d x valid (q ∙ is_found) in
       let own : InHand (known v) v.view.name new.kind new = subst (λ m. InHand (known v) v.view.name m new) (sym hand.0) hand in
       let mine : InHand (known v) v.view.name expected.kind expected = subst (λ m. InHand (known v) v.view.name m expected) (sym he.0) he in
-      let alike = is_expected k s r id v at owes.awake cc' i is expected mine x d.taken same shows in
-      let told = law.compare_swaps (point k s r id v) cc' expected new weak' (ready_new k s r id v at owes.awake new y is_new full own owes.pending) alike
-      (is.open', hand_there k s r id v at owes.awake (kind_in v.shape cc') expected he _ is.kind, hand_there k s r id v at owes.awake (kind_in v.shape cc') new hand _ is.kind, refl, inl (sym alike))
-      (room_swapped k s r id v at owes.awake (kind_in v.shape cc') new hand old c more) d.taken
+      let alike = is_expected k s r id v at owes.awake c i is expected mine x d.taken same shows in
+      let told = law.compare_swaps (point k s r id v) c expected new weak' (ready_new k s r id v at owes.awake new y is_new full own owes.pending) alike
+      (is_open k s r id v at owes.awake c i cell, hand_there k s r id v at owes.awake (kind_in v.shape c) expected he _ is.kind, hand_there k s r id v at owes.awake (kind_in v.shape c) new hand _ is.kind, refl, inl (sym alike))
+      (room_swapped k s r id v at owes.awake (kind_in v.shape c) new hand old c more) d.taken
       (ap (λ j. get_or s.words j 0) is.there ∙ (d.bits ∙ sym (cell_shown (blocks_of t) old d.taken))) in
-      let g = gives k s r id i cc' v at owes.awake owes.empty (λ h. Compare cc' expected new h true weak')
-      (λ h. record { objects = λ u q. refl; latest = λ u q. refl; values = λ u f. refl }) is d n x same
-      (subst (λ m. Adds (point k s r id v) (cell_word (point k s r id v) cc') m (Compare cc' expected new old true weak') (purse (blocks_of t) old (256 - d.taken)))
+      let g = gives k s r id i c v at owes.awake owes.empty (λ h. Compare c expected new h true weak')
+      (λ h. quiet_compare c expected new h true weak') is d n x same
+      (subst (λ m. Adds (point k s r id v) (cell_word (point k s r id v) c) m (Compare c expected new old true weak') (purse (blocks_of t) old (256 - d.taken)))
       (sym (bits ∙ packs_new k s r id v at owes.awake new y is_new full own)) told) in (
         g.0,
         g.1,
         (
-          λ _ b well is_b. (subst (λ a. Gave (λ h. Compare cc' expected new h true weak') (kind_in v.shape cc') v a g.0) (one_cell x b valid well (sym is_found ∙ is_b)) g.2, refl),
+          λ _ b well is_b. (subst (λ a. Gave (λ h. Compare c expected new h true weak') (kind_in v.shape c) v a g.0) (one_cell x b valid well (sym is_found ∙ is_b)) g.2, refl),
           λ m. absurd (m refl),
         ),
       ))

@@ -97,7 +97,7 @@ module _ {V : Type 0} where
               subst (λ c. Ruled k record { words = set s.words i (either c (found + 4) (get_or s.words i 0)); homes = set s.homes (b.0 - 1) none; views = set s.views id w })
                   (sym (eq-eqb (get_or s.words i 0) found q))
                   (next k s r id v w (set s.words i (found + 4)) (set s.homes (b.0 - 1) none) r.history at rests.awake (r.shapes id v at rests.awake) stands
-                  (length-set s.homes (b.0 - 1) none) r.bare (inl e) (λ y u ne there un back. back)
+                  (length-set s.homes (b.0 - 1) none) (inl e) (λ y u ne there un back. back)
                   (λ c within. ⊎_elim (λ (u : c ≡ b.0). inr (inl (sym u)))
                   (λ (u : c ≢ b.0). inr (inr (
                     set_else s.homes (b.0 - 1) (c - 1) none (slots_apart b.0 c inside.0 within.0 u),
@@ -141,7 +141,7 @@ module _ {V : Type 0} where
         gives,
         tt,
         subst (λ c. Ruled k record { words = set s.words i ((get_or s.words i 0 + (2 ^ 64 - 4)) % 2 ^ 64); homes = put_back s.homes c; views = set s.views id w }) (sym carried)
-            (next k s r id v w _ homes h at awake (r.shapes id v at awake) now (length-set s.homes (b.0 - 1) (some (Some becomes))) r.bare tt
+            (next k s r id v w _ homes h at awake (r.shapes id v at awake) now (length-set s.homes (b.0 - 1) (some (Some becomes))) tt
             (λ y u ne there un back. back)
             (λ c within. ⊎_elim
             (λ (q : c ≡ b.0). inl (subst (λ y. get_elem? homes (y - 1) ≡ some (some (kept z h y))) (sym q)

@@ -54,7 +54,6 @@ module _ {V : Type 0} where
         sized = r.sized;
         homes = λ b inside. ⊎_elim inl (λ (o : IsOut s.views b). inr (out b there o)) (r.homes b inside);
         backed = all (λ x u. u.view.spent ≡ false → IsBacked (leads z r.history) u.view.name u.view.pending u.hand) (λ _. tt) (λ _. tt) r.backed;
-        bare = r.bare;
       }
     where
       out : (b : ℕ) → get_elem? s.views j ≡ some w → IsOut s.views b → IsOut (set (set s.views id (grown v w)) j over) b
@@ -80,7 +79,7 @@ module _ {V : Type 0} where
         keeps,
         tt,
         next k s r id v (seeing v Idle None h) (set s.words i (get_or s.words i 0)) s.homes h at awake (r.shapes id v at awake) (looked z s.words i _ h told) refl
-            (λ o m. r.bare o m) tt
+            tt
             (others_still k s r id v at awake e told.legal.1.asks
             (λ j u n there un names. n (sym (r.stands.team.names id j v.view u.view now.seated (at_map view_of s.views j u there) awake un other (inr second) (inl (sym names))))))
             (λ b inside. inr (inr (

@@ -31,7 +31,7 @@ use Rattle.control_word.specs.declared.view.Pending.TheVariants.{Idle}
 use Rattle.control_block.specs.Rule.{IsBacked, IsSlotOf, Ruled, kept, opening_of, seeing, view_of, while_live}
 use Rattle.control_block.specs.Plays.{At, Holding, Rests, gave_back, left}
 use Rattle.control_block.specs.declared.board.Sight.{Sight}
-use Rattle.control_block.proofs.Passage.{adds, held_there, next, point, quiet_next, ready}
+use Rattle.control_block.proofs.Passage.{adds, held_there, next, plain, point, quiet_next, ready}
 use Rattle.control_block.proofs.Slots.{kept_else, live_home, live_unmade, others_still, slots_apart}
 use Rattle.control_block.proofs.LastOwners.{unvisited}
 use Rattle.control_block.proofs.kept.Look.{looked}
@@ -62,7 +62,6 @@ module _ {V : Type 0} where
         let there = (held_there k s r id v at awake Owner o p b.0 holds).1 in
         next k s r id v (seeing v Idle (Some b) h) words (set s.homes (b.0 - 1) none) h at awake (r.shapes id v at awake) stands
         (length-set s.homes (b.0 - 1) none)
-        (λ q m. put_cases (λ j y. y.member m ≡ empty (kind_of_member m)) t.object o x q (λ i. r.bare o m) (λ i. r.bare q m))
         (inr (ap (λ q. (Rattle.control_word.specs.State.put t.object o x q).phase) n.2 ∙ ap (λ y. y.phase) (put_same t.object o x o refl)))
         (others_still k s r id v at awake e (stands.legal.1.asks) (λ _ _ _ _ _ i. i))
         (λ c inside. ⊎_elim (λ (q : c ≡ b.0). inr (inl (sym q)))
@@ -105,7 +104,7 @@ module _ {V : Type 0} where
             keeps,
             tt,
             quiet_next k s r id v _ ev Idle at rests.awake rests.empty
-                record { objects = λ t d. put_again t.object o; latest = λ t d. refl; values = λ t f. refl } now,
+                (plain (λ t d. put_again t.object o) (λ t d. refl) (λ t f. refl)) now,
             (λ _. (adds k s r id v at rests.awake Idle None ev now.legal, refl), λ q. absurd (n q)),
           )
 
@@ -151,7 +150,7 @@ module _ {V : Type 0} where
         subst (λ c. Ruled k record { words = set s.words i (get_or s.words i 0); homes = put_back s.homes c; views = set s.views id w }) (sym carried)
             (next k s r id v w _ (set s.homes (b.0 - 1) (some None)) r.history at awake (r.shapes id v at awake)
             (looked z s.words i _ r.history (subst (λ l. Stands z s.words l r.history) (sym (same_views s at)) r.stands))
-            (length-set s.homes (b.0 - 1) (some None)) r.bare tt (λ j u ne there un back. back)
+            (length-set s.homes (b.0 - 1) (some None)) tt (λ j u ne there un back. back)
             (λ c within. ⊎_elim
             (λ (q : c ≡ b.0). inl (subst (λ y. get_elem? (set s.homes (b.0 - 1) (some None)) (y - 1) ≡ some (some (kept z r.history y))) (sym q)
             (set_here s.homes (b.0 - 1) (some None) (let l = r.sized in let l0 = inside.0 in

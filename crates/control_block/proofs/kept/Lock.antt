@@ -22,7 +22,7 @@ use Rattle.control_block.specs.Rule.{Ruled, opening_of, seeing, view_of}
 use Rattle.control_block.specs.Plays.{At, HasRoomFor, Holding, Rests, tells}
 use Rattle.control_block.specs.LockPlays.{GotOwner, earlier, locked, sought_owner}
 use Rattle.control_block.specs.declared.board.Sight.{Sight}
-use Rattle.control_block.proofs.Passage.{adds, held_there, point, quiet_next, ready, still_room}
+use Rattle.control_block.proofs.Passage.{adds, held_there, plain, point, quiet_next, ready, still_room}
 use Rattle.control_block.proofs.Still.{allows_exchange, unmoved}
 use Rattle.control_block.proofs.kept.Look.{looked}
 
@@ -56,7 +56,7 @@ module _ {V : Type 0} where
         keeps,
         tt,
         quiet_next k s r id v (set s.words i n) ev Idle at rests.awake rests.empty
-            record { objects = λ t d. refl; latest = λ t d. refl; values = λ t f. refl } (looked z s.words i _ h told),
+            (plain (λ t d. refl) (λ t d. refl) (λ t f. refl)) (looked z s.words i _ h told),
         (λ _. (adds k s r id v at rests.awake Idle None ev told.legal, refl), λ m. absurd (m q)),
       ))
       (λ (q : n ≢ 0). (
@@ -90,6 +90,6 @@ module _ {V : Type 0} where
       (subst (λ x. Stands z (set s.words x (suc (get_or s.words x 0))) (set views id (sees_as v.view Idle h)) h) same told) in (
         seeing v Idle None h,
         quiet_next k s r id v (set s.words i (suc found)) ev Idle at rests.awake rests.empty
-            record { objects = λ t d. refl; latest = λ t d. refl; values = λ t f. refl } stands,
+            (plain (λ t d. refl) (λ t d. refl) (λ t f. refl)) stands,
         (λ _. (adds k s r id v at rests.awake Idle None ev told.legal, refl), λ m. absurd (m refl)),
       ))

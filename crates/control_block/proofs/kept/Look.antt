@@ -26,7 +26,7 @@ use Rattle.control_word.specs.declared.shape.Shape.{Shape}
 use Rattle.control_word.specs.declared.view.Pending.TheVariants.{Idle}
 use Rattle.control_block.specs.Rule.{Ruled, opening_of, view_of}
 use Rattle.control_block.specs.Plays.{At, Holding, Rests, counted, found_expired, read, told}
-use Rattle.control_block.proofs.Passage.{allows_event, allows_telling, held_there, point, ready}
+use Rattle.control_block.proofs.Passage.{allows_event, allows_telling, held_there, plain, point, ready}
 
 -- two terms of a sum
 sum_two : (n p q : ℕ) (f : ℕ → ℕ) → p < n → q < n → p ≢ q → f p + f q ≤ sum_below n f
@@ -78,7 +78,7 @@ module _ {V : Type 0} where
   allows_count k slots id b o i m p me rests holds e =
       allows_telling k slots id i me (λ n. n)
       (λ n. Count (handle m (Some o) p) (told n)) Idle (counted m o p (step slots i 0 0 none) me) rests.awake rests.empty
-      (λ n. record { objects = λ s d. refl; latest = λ s d. refl; values = λ s f. refl })
+      (λ n. (plain (λ s d. refl) (λ s d. refl) (λ s f. refl)))
       (λ s r at small.
       let v = me.0 in let z = opening_of k in let views = map view_of s.views in
       let mine = held_there k s r id v at rests.awake m o p b holds in
@@ -101,7 +101,7 @@ module _ {V : Type 0} where
       → Allows (Ruled k) slots id me i (λ n. n) (found_expired o p (step slots i 0 0 none) me)
   allows_expired k slots id b o i p me rests holds e =
       allows_event k slots id i me (λ n. n) (λ n. Expired (weak_of o p) (n == 0)) Idle rests.awake rests.empty
-      (λ n. record { objects = λ s d. refl; latest = λ s d. refl; values = λ s f. refl })
+      (λ n. (plain (λ s d. refl) (λ s d. refl) (λ s f. refl)))
       (λ s r at small.
       let v = me.0 in let z = opening_of k in let views = map view_of s.views in
       let mine = held_there k s r id v at rests.awake Weak o p b holds in
@@ -115,7 +115,7 @@ module _ {V : Type 0} where
       → Allows (Ruled k) slots id me i (λ n. n) (read o p (step slots i 0 0 none) me)
   allows_read k slots id i o place p me rests is holds low e =
       allows_event k slots id i me (λ n. n) (λ n. Read (owner o p) n) Idle rests.awake rests.empty
-      (λ n. record { objects = λ s d. refl; latest = λ s d. refl; values = λ s f. refl })
+      (λ n. (plain (λ s d. refl) (λ s d. refl) (λ s f. refl)))
       (λ s r at small.
       let v = me.0 in let z = opening_of k in let views = map view_of s.views in
       let mine = held_there k s r id v at rests.awake Owner o (Some place) place.block.0 (subst (λ x. Holding v Owner o x place.block.0) is holds) in

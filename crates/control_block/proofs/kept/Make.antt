@@ -47,7 +47,7 @@ module _ {V : Type 0} where
         vacant_home k s r id v at rests.awake rests.empty b.0 mine,
         next k s r id v w (set s.words i 1) (set s.homes (b.0 - 1) none) r.history at rests.awake (r.shapes id v at rests.awake)
             (subst (λ x. Stands z (set s.words x 1) (set (map view_of s.views) id w.view) r.history) (sym e) now)
-            (length-set s.homes (b.0 - 1) none) r.bare (inl refl) (λ j u ne there un back. back)
+            (length-set s.homes (b.0 - 1) none) (inl refl) (λ j u ne there un back. back)
             (λ c within. ⊎_elim (λ (q : c ≡ b.0). inr (inl (sym q)))
             (λ (q : c ≢ b.0). inr (inr (
               set_else s.homes (b.0 - 1) (c - 1) none (slots_apart b.0 c inside.0 within.0 q),
@@ -75,7 +75,7 @@ module _ {V : Type 0} where
           tt,
           next k s r id v w (set s.words i n) s.homes r.history at awake (r.shapes id v at awake)
               (subst (λ x. Stands z (set s.words x n) (set (map view_of s.views) id w.view) r.history) (sym e) now)
-              refl r.bare (inl refl) (λ q u ne there un back. back)
+              refl (inl refl) (λ q u ne there un back. back)
               (λ c within. ⊎_elim (λ (q : c ≡ b.0). inr (inl (sym q)))
               (λ (q : c ≢ b.0). inr (inr (refl, refl, λ y. q (sym (subst (λ h. IsSlotOf h c) hand y))))) (cases_eq c b.0)),
           (subst (λ q. Rattle.control_block.specs.Plays.Moved v q (Some b) w) same (moves k s r id v at awake p (Some b)), refl),
@@ -108,7 +108,7 @@ module _ {V : Type 0} where
             (next k s r id v w (set s.words i 1) homes h at awake (r.shapes id v at awake)
             (subst (λ y. Stands z (set s.words y 1) (set (map view_of s.views) id w.view) h) (sym e) now)
             (length-set s.homes (b.0 - 1) (some (Some x)))
-            (λ q n. put_cases (λ j y. y.member n ≡ empty (kind_of_member n)) t.object m new q (λ _. refl) (λ _. r.bare q n)) tt
+            tt
             (others_still k s r id v at awake ev asks (λ _ _ _ _ _ n. n))
             (λ c within. ⊎_elim
             (λ (q : c ≡ b.0). inl (subst (λ y. get_elem? homes (y - 1) ≡ some (some (kept z h y))) (sym q)

@@ -16,7 +16,7 @@ use Rattle.control_word.specs.declared.shape.Shape.{Shape}
 use Rattle.control_word.specs.declared.view.Pending.TheVariants.{Idle}
 use Rattle.control_block.specs.Plays.{At, HasRoomFor, Holding, Rests, shared}
 use Rattle.control_block.specs.Rule.{Ruled, opening_of, view_of}
-use Rattle.control_block.proofs.Passage.{allows_event, held_there, point, ready, still_room}
+use Rattle.control_block.proofs.Passage.{allows_event, held_there, plain, point, ready, still_room}
 
 pub wraps : (n : ℕ) → n + 1099511627776 < 18446744073709551616 → (n + 1) % 2 ^ 64 ≡ suc n
 wraps n lt = omega arith
@@ -26,7 +26,7 @@ module _ {V : Type 0} where
       → Allows (Ruled k) slots id me i (λ n. (n + 1) % 2 ^ 64) (shared o p q (step slots i 1 0 none) me)
   allows_share k slots id b o i p q me rests holds fine more e =
       allows_event k slots id i me (λ n. (n + 1) % 2 ^ 64) (λ n. Share (owner o p) q) Idle rests.awake rests.empty
-      (λ n. record { objects = λ s d. refl; latest = λ s d. refl; values = λ s f. refl })
+      (λ n. (plain (λ s d. refl) (λ s d. refl) (λ s f. refl)))
       (λ s r at small.
       let v = me.0 in let z = opening_of k in let views = map view_of s.views in
       let now = ready k s r id v at rests.awake Idle rests.idle in

@@ -25,7 +25,7 @@ use Rattle.control_block.specs.Plays.{At, MaySplit, Rests, comes_off, goes_on, k
 use Rattle.control_block.specs.declared.board.Sight.{Sight}
 use Rattle.control_block.proofs.Lists.{each_set, map_set}
 use Rattle.control_block.proofs.Parts.{all_from, all_to}
-use Rattle.control_block.proofs.Passage.{adds, known_as, point, quiet_next, ready, same}
+use Rattle.control_block.proofs.Passage.{adds, known_as, plain, point, quiet_next, ready, same}
 use Rattle.control_block.proofs.kept.Look.{looked}
 
 -- the giver's bag has the given handles no more
@@ -75,7 +75,7 @@ module _ {V : Type 0} where
         keeps,
         tt,
         quiet_next k s r id v (set s.words i (get_or s.words i 0)) e (Parting to) at rests.awake rests.empty
-            record { objects = λ y x. refl; latest = λ y x. refl; values = λ y f. refl }
+            (plain (λ y x. refl) (λ y x. refl) (λ y f. refl))
             (looked z s.words i _ h told),
         (to, adds k s r id v at rests.awake (Parting to) None e told.legal, refl),
       )
@@ -106,7 +106,6 @@ module _ {V : Type 0} where
             (λ x y n there un. r.backed x y there un) j u q)
             (λ (q : c ≡ u). λ _. subst
             (λ (y : Sight V). IsBacked (leads z r.history) y.view.name y.view.pending y.hand) q tt) (at_snoc (set s.views id w) c u j e);
-        bare = r.bare;
       }
     where
       out : (b : ℕ) → IsOut s.views b → IsOut (set s.views id (goes_on v) ++ comes_off v ∷ []) b

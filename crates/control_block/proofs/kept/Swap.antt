@@ -4,6 +4,7 @@ use Rattle.std.proofs.Common.{arith}
 use Rattle.atomic_table.specs.Table as Table
 use Rattle.atomic_table.specs.Table.{Allows, keeps, step}
 use mathlib.Core.Option.{none, some}
+use mathlib.Core.Path.{fun_ext}
 use lib.ListN.{get_elem?}
 use Rattle.control_word.proofs.steps.Swap as law
 use Rattle.control_word.proofs.words.Decoding.{cell_shown}
@@ -15,7 +16,6 @@ use Rattle.control_word.specs.Views.{Stands, sees_as}
 use Rattle.control_word.specs.Words.{blocks_of, packed, shown}
 use Rattle.control_word.specs.declared.cell.CellWord.{CellWord}
 use Rattle.control_word.specs.declared.event.Cell.{Cell}
-use Rattle.control_word.specs.declared.event.Cell.TheVariants.{Free}
 use Rattle.control_word.specs.declared.event.Event.{Event}
 use Rattle.control_word.specs.declared.event.Event.TheVariants.{Swap}
 use Rattle.control_word.specs.declared.handle.Handle.{Handle}
@@ -25,9 +25,9 @@ use Rattle.control_block.specs.Plays.{At, HasRoomFor, known}
 use Rattle.control_block.specs.FundPlays.{Owes}
 use Rattle.control_block.specs.CellPlays.{Gave, IsCellAt, IsWordOf, debt, kind_in, swapped}
 use Rattle.control_block.specs.declared.board.Sight.{Sight}
-use Rattle.control_block.proofs.CellWords.{Decoded, Opened, decoded, found_is, opened}
+use Rattle.control_block.proofs.CellWords.{Decoded, Opened, decoded, found_is, is_open, opened}
 use Rattle.control_block.proofs.Hands.{debt_purse, hand_block, hand_there, room_swapped}
-use Rattle.control_block.proofs.Passage.{IsQuiet, adds, point, quiet_next, ready}
+use Rattle.control_block.proofs.Passage.{IsQuiet, adds, point, quiet_next, quiet_swap, ready}
 
 module _ {V : Type 0} where
   module _ (k : Shape) (s : Table.State (Option V) (Sight V)) (r : Ruled k s) (id : ℕ) (v : Sight V) (at : get_elem? s.views id ≡ some v)
@@ -63,7 +63,7 @@ module _ {V : Type 0} where
         let hist = entry v.view.name (e old) ∷ r.history in let w = seeing v p None hist in
         let owed : debt old x.owned (256 - x.taken) ≡ p = ap (λ y. debt old y.owned (256 - y.taken)) same ∙ debt_purse (blocks_of t) old (256 - d.taken) in
         let blocks : blocks_of (known w) ≡ blocks_of t =
-        ap (λ y. blocks_of (leads (opening_of y) hist)) (r.shapes id v at awake) ∙ ap (λ f o. (f o).block) ((quiet old).objects t v.view.name) in
+        ap (λ y. blocks_of (leads (opening_of y) hist)) (r.shapes id v at awake) ∙ fun_ext (λ o. (quiet old).blocks t v.view.name o) in
         let stands = subst (λ y. Stands z (set s.words y n) (set (map view_of s.views) id (sees_as v.view p hist)) hist) is.there told in (
           w,
           quiet_next k s r id v (set s.words i n) (e old) p at awake free (quiet old) stands,
@@ -75,23 +75,23 @@ module _ {V : Type 0} where
           },
         )
 
-  pub allows_swap : (k : Shape) (slots id i n : ℕ) (c : ℕ) (new : Handle) (y : CellWord) (me : At V) → Owes (debt new y.owned 256) me
-      → IsCellAt me.0 (Free c) i → IsWordOf me.0 new y → y.taken ≡ 0 → InHand (known me.0) me.0.view.name (kind_in me.0.shape (Free c)) new
+  pub allows_swap : (k : Shape) (slots id i n : ℕ) (c : Cell) (new : Handle) (y : CellWord) (me : At V) → Owes (debt new y.owned 256) me
+      → IsCellAt me.0 c i → IsWordOf me.0 new y → y.taken ≡ 0 → InHand (known me.0) me.0.view.name (kind_in me.0.shape c) new
       → (new.object ≡ None → HasRoomFor me.0) → n ≡ cell_bits y
-      → Allows (Ruled k) slots id me i (λ _. n) (swapped (Free c) (λ h. Swap (Free c) new h) (step slots i n 0 none) me)
+      → Allows (Ruled k) slots id me i (λ _. n) (swapped c (λ h. Swap c new h) (step slots i n 0 none) me)
   allows_swap k slots id i n c new y me owes cell is_new full hand more bits s r sized at small =
-      let v = me.0 in let z = opening_of k in let t = leads z r.history in let cc' = Free c in
-      let is = opened k s r id v at owes.awake cc' i cell in let d = decoded k s r id v at owes.awake cc' i is in
-      let kind : new.kind ≡ kind_in v.shape cc' = hand.0 in
+      let v = me.0 in let z = opening_of k in let t = leads z r.history in
+      let is = opened k s r id v at owes.awake c i cell in let d = decoded k s r id v at owes.awake c i is in
+      let kind : new.kind ≡ kind_in v.shape c = hand.0 in
       let own : InHand (known v) v.view.name new.kind new = subst (λ m. InHand (known v) v.view.name m new) (sym kind) hand in
-      let x = shown (blocks_of t) (cell_of t cc') d.taken in
-      let told = law.swaps' (point k s r id v) cc' new (ready_new k s r id v at owes.awake new y is_new full own owes.pending)
-      (is.open', hand_there k s r id v at owes.awake (kind_in v.shape cc') new hand _ is.kind, refl)
-      (room_swapped k s r id v at owes.awake (kind_in v.shape cc') new hand (cell_of t cc') c more) d.taken
-      (ap (λ j. get_or s.words j 0) is.there ∙ (d.bits ∙ sym (cell_shown (blocks_of t) (cell_of t cc') d.taken))) in
-      let g = gives k s r id i cc' v at owes.awake owes.empty (λ h. Swap cc' new h)
-      (λ h. record { objects = λ u q. refl; latest = λ u q. refl; values = λ u f. refl }) is d n x refl
-      (subst (λ m. Adds (point k s r id v) (cell_word (point k s r id v) cc') m (Swap cc' new (cell_of t cc')) (purse (blocks_of t) (cell_of t cc') (256 - d.taken)))
+      let x = shown (blocks_of t) (cell_of t c) d.taken in
+      let told = law.swaps' (point k s r id v) c new (ready_new k s r id v at owes.awake new y is_new full own owes.pending)
+      (is_open k s r id v at owes.awake c i cell, hand_there k s r id v at owes.awake (kind_in v.shape c) new hand _ is.kind, refl)
+      (room_swapped k s r id v at owes.awake (kind_in v.shape c) new hand (cell_of t c) c more) d.taken
+      (ap (λ j. get_or s.words j 0) is.there ∙ (d.bits ∙ sym (cell_shown (blocks_of t) (cell_of t c) d.taken))) in
+      let g = gives k s r id i c v at owes.awake owes.empty (λ h. Swap c new h)
+      (λ h. quiet_swap c new h) is d n x refl
+      (subst (λ m. Adds (point k s r id v) (cell_word (point k s r id v) c) m (Swap c new (cell_of t c)) (purse (blocks_of t) (cell_of t c) (256 - d.taken)))
       (sym (bits ∙ packs_new k s r id v at owes.awake new y is_new full own)) told) in (
         g.0,
         keeps,
@@ -100,7 +100,7 @@ module _ {V : Type 0} where
         (
           record { cell = x; valid = d.valid; bits = d.bits },
           λ b valid is_b. (
-            subst (λ a. Gave (λ h. Swap cc' new h) (kind_in v.shape cc') v a g.0) (sym (found_is k s r id v at owes.awake cc' i is d b valid is_b)) g.2,
+            subst (λ a. Gave (λ h. Swap c new h) (kind_in v.shape c) v a g.0) (sym (found_is k s r id v at owes.awake c i is d b valid is_b)) g.2,
             refl,
           ),
         ),

@@ -29,9 +29,9 @@ use Rattle.control_block.specs.Rule.{Ruled, opening_of, seeing, view_of}
 use Rattle.control_block.specs.Plays.{At, HasRoomFor, Rests, known}
 use Rattle.control_block.specs.CellPlays.{IsCellAt, IsWordOf, Took, kind_in, took}
 use Rattle.control_block.specs.declared.board.Sight.{Sight}
-use Rattle.control_block.proofs.CellWords.{Decoded, Opened, decoded, found_is, one_cell, opened}
+use Rattle.control_block.proofs.CellWords.{Decoded, Opened, decoded, found_is, is_open, one_cell, opened}
 use Rattle.control_block.proofs.Hands.{hand_block, hand_there}
-use Rattle.control_block.proofs.Passage.{IsQuiet, adds, point, quiet_next, ready, still_room}
+use Rattle.control_block.proofs.Passage.{IsQuiet, adds, plain, point, quiet_next, ready, still_room}
 use Rattle.control_block.proofs.Still.{allows_exchange}
 
 -- of a word that shows less than 256 taken a fund is left
@@ -82,7 +82,7 @@ module _ {V : Type 0} where
             block = record { 0 = blocks_of t o };
             owned = ap (λ y. y.owned) same ∙ ap (block_of (blocks_of t)) has;
             there = ap (λ y. ((leads (opening_of y) hist).object o).block) (r.shapes id v at rests.awake)
-                ∙ ap (λ f. (f o).block) ((quiet h).objects t v.view.name);
+                ∙ (quiet h).blocks t v.view.name o;
             event = adds k s r id v at rests.awake p None (e h) told.legal;
           },
         )
@@ -108,11 +108,11 @@ module _ {V : Type 0} where
       (took c (λ h. Load c h) (step slots i found (found + 17179869184) none) me)
   allows_load k slots id i found c x me rests cell valid is_found holds left more =
       allows_take k slots id i found c x (λ h. Load c h) me rests cell valid is_found holds
-      (λ h. record { objects = λ s d. refl; latest = λ s d. refl; values = λ s f. refl })
+      (λ h. (plain (λ s d. refl) (λ s d. refl) (λ s f. refl)))
       (λ s r at is o same bits.
       let low = subst (λ y. get_or s.words y 0 < 4398046511104) (sym is.there) (subst (λ n. n < 4398046511104) (sym bits) (left_over x valid left)) in
       (law.takes (point k s r id me.0) c (kind_in me.0.shape c) o x.place (ready k s r id me.0 at rests.awake Idle rests.idle) same
-      (still_room k s r id me.0 at rests.awake more) low).0 is.open')
+      (still_room k s r id me.0 at rests.awake more) low).0 (is_open k s r id me.0 at rests.awake c i cell))
 
   pub allows_differ : (k : Shape) (slots id i found : ℕ) (c : Cell) (expected new : Handle) (weak' : Bool) (x : CellWord) (me : At V) → Rests me
       → IsCellAt me.0 c i → IsCellWord x → found ≡ cell_bits x → x.owned ≢ None → x.taken < 256 → HasRoomFor me.0
@@ -122,7 +122,7 @@ module _ {V : Type 0} where
       (took c (λ h. Compare c expected new h false weak') (step slots i found (found + 17179869184) none) me)
   allows_differ k slots id i found c expected new weak' x me rests cell valid is_found holds left more he hn why =
       allows_take k slots id i found c x (λ h. Compare c expected new h false weak') me rests cell valid is_found holds
-      (λ h. record { objects = λ s d. refl; latest = λ s d. refl; values = λ s f. refl })
+      (λ h. (plain (λ s d. refl) (λ s d. refl) (λ s f. refl)))
       (λ s r at is o same bits.
       let v = me.0 in let t = leads (opening_of k) r.history in let kk = kind_in v.shape c in let h = handle kk (Some o) x.place in
       let low = subst (λ y. get_or s.words y 0 < 4398046511104) (sym is.there) (subst (λ n. n < 4398046511104) (sym bits) (left_over x valid left)) in
@@ -136,7 +136,7 @@ module _ {V : Type 0} where
       })))) inr why in
       (law.takes (point k s r id v) c kk o x.place (ready k s r id v at rests.awake Idle rests.idle) same
       (still_room k s r id v at rests.awake more) low).1 expected new weak' (
-        is.open',
+        is_open k s r id v at rests.awake c i cell,
         hand_there k s r id v at rests.awake kk expected he _ is.kind,
         hand_there k s r id v at rests.awake kk new hn _ is.kind,
         same,

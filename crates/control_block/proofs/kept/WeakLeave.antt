@@ -14,7 +14,7 @@ use Rattle.control_word.specs.declared.shape.Shape.{Shape}
 use Rattle.control_word.specs.declared.view.Pending.TheVariants.{Idle}
 use Rattle.control_block.specs.Rule.{Ruled, opening_of, view_of}
 use Rattle.control_block.specs.Plays.{At, Holding, Rests, weakly_left}
-use Rattle.control_block.proofs.Passage.{allows_event, held_there, point, ready}
+use Rattle.control_block.proofs.Passage.{allows_event, held_there, plain, point, ready}
 
 pub falls : (n : ℕ) → 0 < n → n < 18446744073709551616 → (n + (2 ^ 64 - 1)) % 2 ^ 64 ≡ n - 1
 falls n more lt = omega arith
@@ -24,7 +24,7 @@ module _ {V : Type 0} where
       → Allows (Ruled k) slots id me i (λ n. (n + (2 ^ 64 - 1)) % 2 ^ 64) (weakly_left o p (step slots i 1 0 none) me)
   allows_weak_leave k slots id b o i p me rests holds e =
       allows_event k slots id i me (λ n. (n + (2 ^ 64 - 1)) % 2 ^ 64) (λ n. WeakLeave (weak_of o p) (n == 1)) Idle rests.awake rests.empty
-      (λ n. record { objects = λ s d. refl; latest = λ s d. refl; values = λ s f. refl })
+      (λ n. (plain (λ s d. refl) (λ s d. refl) (λ s f. refl)))
       (λ s r at small.
       let v = me.0 in let z = opening_of k in let views = map view_of s.views in
       let mine = held_there k s r id v at rests.awake Weak o p b holds in

@@ -23,7 +23,7 @@ use Rattle.control_block.specs.Rule.{Ruled, opening_of, view_of}
 use Rattle.control_block.specs.Plays.{At, Ends, HasRoomFor, Holding, MayShareWeakly, Rests, known, weakly_shared}
 use Rattle.control_block.specs.declared.board.Sight.{Sight}
 use Rattle.control_block.proofs.Endings.{ends_busy, ends_here}
-use Rattle.control_block.proofs.Passage.{allows_event, held_there, point, ready, still_ending, still_room}
+use Rattle.control_block.proofs.Passage.{allows_event, held_there, plain, point, ready, still_ending, still_room}
 use Rattle.control_block.proofs.kept.Share.{wraps}
 
 module _ {V : Type 0} where
@@ -54,7 +54,7 @@ module _ {V : Type 0} where
       → Allows (Ruled k) slots id me i (λ n. (n + 1) % 2 ^ 64) (weakly_shared o q (step slots i 1 0 none) me)
   allows_weak_share k slots id b o i q me rests may more e =
       allows_event k slots id i me (λ n. (n + 1) % 2 ^ 64) (λ n. WeakShare o q) Idle rests.awake rests.empty
-      (λ n. record { objects = λ s d. refl; latest = λ s d. refl; values = λ s f. refl })
+      (λ n. (plain (λ s d. refl) (λ s d. refl) (λ s f. refl)))
       (λ s r at small.
       let v = me.0 in let z = opening_of k in let views = map view_of s.views in
       let now = ready k s r id v at rests.awake Idle rests.idle in

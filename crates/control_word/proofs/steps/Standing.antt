@@ -1,5 +1,5 @@
 -- What stands at the start, what cells show, and that no count carries or wraps.
-use Rattle.std.proofs.Common.{◌≡◌, None, ap, ◌∙◌, arith}
+use Rattle.std.proofs.Common.{◌≡◌, ℕ, None, ap, ◌∙◌, arith}
 use Rattle.control_word.proofs.history.Kept.{cells_led}
 use Rattle.control_word.proofs.history.Legal.{sound}
 use Rattle.control_word.proofs.history.Storing.{kept}
@@ -8,7 +8,9 @@ use Rattle.control_word.proofs.words.Decoding.{cell_decodes}
 use Rattle.control_word.proofs.words.Opening.{opens}
 use Rattle.control_word.proofs.words.Rooms.{funds_room, halves}
 use Rattle.control_word.specs.Events.{cell_of}
-use Rattle.control_word.specs.Steps.{Begins, CellsShow, HasHeadroom, Point, Ready, cell_word, me, state}
+use Rattle.control_word.specs.Packing.{IsCellWord, cell_bits}
+use Rattle.control_word.specs.Steps.{Begins, CellsShow, HasHeadroom, Point, Ready, cell_word, me, state, word}
+use Rattle.control_word.specs.Words.{blocks_of, shown}
 use Rattle.control_word.specs.declared.event.Cell.{Cell}
 use Rattle.control_word.specs.declared.event.Cell.TheVariants.{Free, Member}
 use Rattle.control_word.specs.declared.view.Pending.{Pending}
@@ -24,13 +26,19 @@ module _ {V : Type 0} where
       let place = (sound at.opening at.history ready.stands.legal).placed o kept.1 in
       ready.stands.bare.members ((state at).object o).block m place.1 kept.0 (ap (λ n. (((state at).object n).member m).object) place.0 ∙ e)
 
+  -- the word of a free cell, or of a member of an object that is there or is ending
+  pub kept_show : (at : Point V) (p : Pending V) (c : Cell) → Ready at p → IsKept (state at) c
+      → (taken : ℕ) × (let x = shown (blocks_of (state at)) (cell_of (state at) c) taken in (word at (cell_word at c) ≡ cell_bits x) × IsCellWord x)
+      × ((cell_of (state at) c).object ≡ None → taken ≡ 0)
+  kept_show at p c ready kept = (
+    ready.stands.taken (cell_word at c),
+    cell_decodes at.opening at.words at.views at.history ready.stands at.seat at.view ready.seated ready.awake c kept,
+    nothing_taken at p ready c kept,
+  )
+
   pub cells_show : CellsShow V
   cells_show at p c ready open' =
-      let kept = open_kept at.opening (state at) (me at) c (sound at.opening at.history ready.stands.legal) open' in (
-        ready.stands.taken (cell_word at c),
-        cell_decodes at.opening at.words at.views at.history ready.stands at.seat at.view ready.seated ready.awake c kept,
-        nothing_taken at p ready c kept,
-      )
+      kept_show at p c ready (open_kept at.opening (state at) (me at) c (sound at.opening at.history ready.stands.legal) open')
 
   pub has_headroom : HasHeadroom V
   has_headroom at p ready k o busy =

@@ -21,7 +21,7 @@ use Rattle.control_word.specs.declared.handle.Handle.{Handle}
 use Rattle.control_word.specs.declared.handle.Kind.{Kind}
 use Rattle.control_word.specs.declared.place.Place.{Place}
 
-sum_set : (n p : ℕ) (f g : ℕ → ℕ) → p < n → ((j : ℕ) → j < n → j ≢ p → g j ≡ f j) → sum_below n g + f p ≡ sum_below n f + g p
+pub sum_set : (n p : ℕ) (f g : ℕ → ℕ) → p < n → ((j : ℕ) → j < n → j ≢ p → g j ≡ f j) → sum_below n g + f p ≡ sum_below n f + g p
 sum_set zero p f g lt same = absurd (omega arith)
 sum_set (suc n) p f g lt same =
     ⊎_elim

@@ -4,13 +4,14 @@ use Rattle.control_word.specs.State.{stored}
 use Rattle.control_word.specs.declared.event.Event.TheVariants.{Finish}
 use Rattle.control_word.specs.declared.view.Pending.TheVariants.{Idle}
 use Rattle.control_word.proofs.history.Legal.{sound}
-use Rattle.control_block.specs.Desks.{bag_of, latest_of, stock_of}
+use Rattle.control_block.specs.Desks.{bag_of, endings_of, latest_of, stock_of}
 use Rattle.control_block.specs.Inside.{desk_now}
 use Rattle.control_block.specs.Rule.{opening_of}
 use Rattle.control_block.proofs.DeskBags.{adds_of, bag_stays, before, ends_still, legal_now, same_desk}
+use Rattle.control_block.proofs.OwnCounts.{shrunk_count}
 use Rattle.control_block.proofs.DeskSteps.{as_many, came, desk_after}
 use Rattle.control_block.proofs.DeskStores.{put_back, room_back, stock_grows}
-use Rattle.control_block.proofs.OwnEndings.{ending_before, ends_in, ends_value, finish_spares}
+use Rattle.control_block.proofs.OwnEndings.{clear_in, ending_before, ends_in, ends_value, finish_spares}
 use Rattle.control_block.proofs.StoreBlocks.{ending_word, finish_block}
 use Rattle.control_block.proofs.calls.finish.Goals as goal
 
@@ -20,6 +21,9 @@ finish-vacant-requires-clause-ends g c = ends_in c.desk.inside c.args.desk.now c
 pub finish-vacant-requires-clause-value : goal.finish-vacant-requires-clause-value
 finish-vacant-requires-clause-value g c =
     (c.requires.ending.0, ends_value c.desk.inside c.args.desk.now c.args.block.0 c.requires.ending.0 c.desk.view_is c.requires.ending.1)
+
+pub finish-vacant-requires-clause-clear : goal.finish-vacant-requires-clause-clear
+finish-vacant-requires-clause-clear g c = clear_in c.desk.inside c.args.desk.now c.args.block.0 c.desk.view_is c.requires.clear
 
 pub finish-vacant-requires-clause-word : goal.finish-vacant-requires-clause-word
 finish-vacant-requires-clause-word g c =
@@ -52,7 +56,7 @@ invariant_of-desk g c =
     let size = as_many v w e t refl in
     desk_after d _ e h a s.chair.0 (s.chair.2 ∙ h.rests.none) (λ y x. refl) refl
     (put_back d h t.state _ c.args.block c.finish-vacant.result t.same c.put_by.ensures.items _ stores) c.put_by.ensures.capacity
-    (omega (arith, size, h.holding)) h.within
+    (omega (arith, size, h.holding)) (let f = shrunk_count d w _ _ _ a in omega (arith, h.within, h.ended)) (let f = shrunk_count d w _ _ _ a in omega (arith, h.ended))
 
 pub returns-clause-event : goal.returns-clause-event
 returns-clause-event g c = λ x ends.
@@ -77,6 +81,18 @@ returns-clause-desk g c =
     let a = s.event c.requires.ending.0 (ends_value d c.args.desk.now c.args.block.0 c.requires.ending.0 c.desk.view_is c.requires.ending.1) in
     let t = came v w Idle None e a in
     same_desk d w e h a _ _ c.args.desk.now c.desk.view_is c.finish-vacant.ensures.chair.0 (λ s n. refl)
+
+pub overflow_sub-desk : goal.overflow_sub-desk
+overflow_sub-desk g c =
+    let d = c.desk.inside in let h = c.desk.invariant in let w = c.finish-vacant.new.chair.me.0 in
+    let a = c.finish-vacant.ensures.event c.requires.ending.0 (ends_value d c.args.desk.now c.args.block.0 c.requires.ending.0 c.desk.view_is c.requires.ending.1) in
+    let f = shrunk_count d w _ _ _ a in omega (arith, h.ended)
+
+pub returns-clause-count : goal.returns-clause-count
+returns-clause-count g c =
+    let d = c.desk.inside in let w = c.finish-vacant.new.chair.me.0 in
+    let a = c.finish-vacant.ensures.event c.requires.ending.0 (ends_value d c.args.desk.now c.args.block.0 c.requires.ending.0 c.desk.view_is c.requires.ending.1) in
+    shrunk_count d w _ _ _ a ∙ ap endings_of c.desk.view_is
 
 pub returns-clause-stock : goal.returns-clause-stock
 returns-clause-stock g c =

@@ -4,8 +4,9 @@ use Rattle.control_word.specs.declared.handle.Kind.TheVariants.{Weak}
 use Rattle.control_word.specs.declared.view.Pending.TheVariants.{Idle}
 use Rattle.control_block.specs.Desks.{bag_of, on_latest}
 use Rattle.control_block.specs.Inside.{desk_now}
-use Rattle.control_block.proofs.DeskBags.{adds_of, bag_stays, holding_in, keeps_quietly}
-use Rattle.control_block.proofs.DeskSteps.{as_many, came, quiet_desk, word_inside}
+use Rattle.control_block.proofs.DeskBags.{adds_of, bag_stays, holding_in, calm, keeps_quietly}
+use Rattle.control_block.proofs.Passage.{plain}
+use Rattle.control_block.proofs.DeskSteps.{ending_same, as_many, came, quiet_desk, word_inside}
 use Rattle.control_block.proofs.calls.is_expired.Goals as goal
 
 pub is_expired-requires-clause-holds : goal.is_expired-requires-clause-holds
@@ -23,7 +24,8 @@ invariant_of-desk g c =
     let d = c.desk.inside in let h = c.desk.invariant in let v = d.seat.me.0 in let w = c.is_expired.new.chair.me.0 in let s = c.is_expired.ensures in
     let e = Expired (on_latest (desk_now d) Weak g.A.About.place c.args.of.block.0) c.is_expired.result in let t = came v w Idle None e s.event in
     let size = as_many v w e t refl in
-    quiet_desk d _ e h s.event s.chair.0 (s.chair.2 ∙ h.rests.none) (λ y x. refl) (λ y x. refl) refl refl (omega (arith, size, h.holding)) h.within
+    quiet_desk d _ e h s.event s.chair.0 (s.chair.2 ∙ h.rests.none) (λ y x. refl) (λ y x. refl) refl refl (omega (arith, size, h.holding)) (omega (arith, h.within))
+    (h.ended ∙ sym (ending_same v w e t (plain (λ y x. refl) (λ y x. refl) (λ y f. refl))))
 
 pub returns-clause-event : goal.returns-clause-event
 returns-clause-event g c =
@@ -44,4 +46,4 @@ returns-clause-keeps g c =
     keeps_quietly d c.is_expired.new.chair.me.0 (Expired (on_latest (desk_now d) Weak g.A.About.place c.args.of.block.0) c.is_expired.result)
     c.desk.invariant
     c.is_expired.ensures.event _ _ c.args.desk.now c.desk.view_is c.is_expired.ensures.chair.0
-    record { objects = λ s n. refl; latest = λ s n. refl; values = λ s f. refl } (λ s n. refl) (λ s n. refl)
+    (calm (λ s n. refl) (λ s n. refl) (λ s f. refl)) (λ s n. refl) (λ s n. refl)

@@ -1,5 +1,7 @@
-use Rattle.std.proofs.Common.{refl, sym, ap, ◌∙◌, arith, None, Some, length}
+use Rattle.std.proofs.Common.{◌+◌, cond, refl, sym, ap, ◌∙◌, arith, None, Some, length}
 use Rattle.std.specs.Prelude.{is_some}
+use mir.Val.{bool_byte}
+use Rattle.control_block.specs.Plays.{known}
 use Rattle.control_word.specs.Handles.{handle, same_handle}
 use Rattle.control_word.specs.Histories.{leads}
 use Rattle.control_word.specs.State.{without}
@@ -7,11 +9,13 @@ use Rattle.control_word.specs.declared.event.Event.TheVariants.{Leave}
 use Rattle.control_word.specs.declared.handle.Kind.TheVariants.{Owner}
 use Rattle.control_word.specs.declared.view.Pending.TheVariants.{Idle}
 use Rattle.control_word.proofs.history.Legal.{sound}
-use Rattle.control_block.specs.Desks.{bag_of, on_latest, stock_of}
+use Rattle.control_block.specs.Desks.{bag_of, endings_of, on_latest, stock_of}
 use Rattle.control_block.specs.Inside.{desk_now}
 use Rattle.control_block.specs.Rule.{opening_of}
 use Rattle.control_block.proofs.DeskBags.{adds_of, bag_loses, before, ends_still, holding_in, legal_now, same_desk}
 use Rattle.control_block.proofs.DeskSteps.{came, holds_some, one_fewer, quiet_desk, slot_inside, stock_left, word_inside}
+use Rattle.control_block.proofs.EndingCounts.{few_ending}
+use Rattle.control_block.proofs.OwnCounts.{byte_few, grown, grown_count}
 use Rattle.control_block.proofs.OwnEndings.{ended_if, leave_spares}
 use Rattle.control_block.proofs.calls.leave.Goals as goal
 
@@ -36,6 +40,11 @@ overflow_sub-desk g c =
     let holds = holding_in c.desk.inside c.args.desk.now Owner g.A.About.place c.args.of.block.0 c.desk.invariant c.desk.view_is c.requires.holds in
     let some' = holds_some c.desk.inside Owner _ g.A.About.place c.args.of.block.0 c.desk.invariant holds in omega arith
 
+pub overflow_add-desk : goal.overflow_add-desk
+overflow_add-desk g c =
+    let d = c.desk.inside in let h = c.desk.invariant in let v = d.seat.me.0 in let few = few_ending v.shape.blocks (known v) v.view.name in
+    let most = h.limits.blocks in let one = byte_few c.is_some.result in omega (arith, h.ended, c.from.ensures)
+
 pub invariant_of-desk : goal.invariant_of-desk
 invariant_of-desk g c =
     let d = c.desk.inside in let h = c.desk.invariant in let v = d.seat.me.0 in let w = c.leave-value.new.chair.me.0 in
@@ -43,7 +52,10 @@ invariant_of-desk g c =
     let e = Leave (on_latest (desk_now d) Owner g.A.About.place c.args.of.block.0) (is_some c.leave-value.result) in
     let t = came v w Idle None e s.event in
     let size = one_fewer v w e t (on_latest (desk_now d) Owner g.A.About.place c.args.of.block.0) t.asks.0.0 refl in
-    quiet_desk d _ e h s.event s.chair.0 s.chair.2 (λ y x. refl) (λ y x. refl) refl refl (omega (arith, size, h.holding)) (omega (arith, h.within))
+    let more = grown d w (on_latest (desk_now d) Owner g.A.About.place c.args.of.block.0) (is_some c.leave-value.result) c.from.result h s.event (c.from.ensures ∙ ap bool_byte c.is_some.ensures) in
+    quiet_desk d _ e h s.event s.chair.0 s.chair.2 (λ y x. refl) (λ y x. refl) refl refl (omega (arith, size, h.holding))
+    (let some' = holds_some d Owner _ g.A.About.place c.args.of.block.0 h
+    (holding_in d c.args.desk.now Owner g.A.About.place c.args.of.block.0 h c.desk.view_is c.requires.holds) in omega (arith, h.within)) more
 
 pub returns-clause-event : goal.returns-clause-event
 returns-clause-event g c =
@@ -81,6 +93,12 @@ returns-clause-keeps g c =
       endings = λ b x ends. ends_still d w e h a _ _ b x c.args.desk.now c.desk.view_is
           (λ p. leave_spares z (leads z hist) _ v.view.name b (sound z hist now.0) p _ _ now.1.asks) ends;
     }
+
+pub returns-clause-count : goal.returns-clause-count
+returns-clause-count g c =
+    let d = c.desk.inside in
+    grown_count d c.leave-value.new.chair.me.0 (on_latest (desk_now d) Owner g.A.About.place c.args.of.block.0) (is_some c.leave-value.result) c.desk.invariant
+    c.leave-value.ensures.event ∙ ap (λ z. endings_of z + cond (is_some c.leave-value.result) 1 0) c.desk.view_is
 
 pub returns-clause-ending : goal.returns-clause-ending
 returns-clause-ending g c =

@@ -1,15 +1,17 @@
 use Rattle.std.proofs.Common.{◌+◌, ◌∷◌, cond, refl, sym, ap, ◌∙◌, arith, None, Some, length}
+use Rattle.control_word.proofs.history.Legal.{sound}
 use Rattle.control_word.specs.Handles.{handle, same_handle}
 use Rattle.control_word.specs.Histories.{leads}
 use Rattle.control_word.specs.State.{stored, without}
 use Rattle.control_word.specs.declared.event.Event.TheVariants.{WeakLeave}
 use Rattle.control_word.specs.declared.handle.Kind.TheVariants.{Weak}
 use Rattle.control_word.specs.declared.view.Pending.TheVariants.{Idle}
-use Rattle.control_block.specs.Desks.{bag_of, on_latest, stock_of}
+use Rattle.control_block.specs.Desks.{bag_of, endings_of, on_latest, stock_of}
 use Rattle.control_block.specs.Inside.{desk_now}
 use Rattle.control_block.specs.Rule.{opening_of}
-use Rattle.control_block.proofs.DeskBags.{adds_of, bag_loses, before, ends_still, holding_in, quiet_spares, same_desk}
-use Rattle.control_block.proofs.DeskSteps.{came, desk_after, holds_some, one_fewer, word_inside}
+use Rattle.control_block.proofs.DeskBags.{adds_of, bag_loses, before, calm, ends_still, holding_in, legal_now, quiet_spares, same_desk}
+use Rattle.control_block.proofs.Passage.{plain}
+use Rattle.control_block.proofs.DeskSteps.{ending_same, came, desk_after, holds_some, one_fewer, word_inside}
 use Rattle.control_block.proofs.DeskStores.{put_back, room_back, stock_grows}
 use Rattle.control_block.proofs.StoreBlocks.{weak_block}
 use Rattle.control_block.proofs.calls.leave_weak.Goals as goal
@@ -52,7 +54,7 @@ invariant_of-desk g c =
     let size = one_fewer v w e t (on_latest (desk_now d) Weak g.A.About.place c.args.of.block.0) t.asks.0.0 refl in
     desk_after d _ e h s.event s.chair.0 (s.chair.2 ∙ h.rests.none) (λ y x. refl) refl
     (put_back d h t.state _ c.args.of.block c.leave_weak-vacant.result t.same c.put_by.ensures.items _ stores) c.put_by.ensures.capacity
-    (omega (arith, size, h.holding)) (omega (arith, h.within))
+    (omega (arith, size, h.holding)) (omega (arith, h.within)) (h.ended ∙ sym (ending_same v w e t (plain (λ y x. refl) (λ y x. refl) (λ y f. refl))))
 
 pub returns-clause-event : goal.returns-clause-event
 returns-clause-event g c =
@@ -82,6 +84,13 @@ returns-clause-desk g c =
     let t = came v w Idle None e s.event in
     same_desk d w e h s.event _ _ c.args.desk.now c.desk.view_is c.leave_weak-vacant.ensures.chair.0 (λ s n. refl)
 
+pub returns-clause-count : goal.returns-clause-count
+returns-clause-count g c =
+    let d = c.desk.inside in let v = d.seat.me.0 in let w = c.leave_weak-vacant.new.chair.me.0 in
+    let e = WeakLeave (on_latest (desk_now d) Weak g.A.About.place c.args.of.block.0) c.leave_weak-vacant.result in
+    let t = came v w Idle None e c.leave_weak-vacant.ensures.event in
+    ending_same v w e t (plain (λ y x. refl) (λ y x. refl) (λ y f. refl)) ∙ ap endings_of c.desk.view_is
+
 pub returns-clause-stock : goal.returns-clause-stock
 returns-clause-stock g c =
     let d = c.desk.inside in let h = c.desk.invariant in let v = d.seat.me.0 in let w = c.leave_weak-vacant.new.chair.me.0 in
@@ -100,6 +109,6 @@ returns-clause-endings g c = λ b x ends.
     let s = c.leave_weak-vacant.ensures in
     let e = WeakLeave (on_latest (desk_now d) Weak g.A.About.place c.args.of.block.0) c.leave_weak-vacant.result in
     let t = came v w Idle None e s.event in
-    let z = opening_of v.shape in let hist = before d w e h s.event in
+    let z = opening_of v.shape in let hist = before d w e h s.event in let now = legal_now d w e h s.event in
     ends_still d w e h s.event _ _ b x c.args.desk.now c.desk.view_is
-    (λ p. quiet_spares (leads z hist) _ v.view.name e b record { objects = λ y n. refl; latest = λ y n. refl; values = λ y f. refl } p) ends
+    (λ p. quiet_spares z (leads z hist) _ v.view.name e b (calm (λ y n. refl) (λ y n. refl) (λ y f. refl)) (sound z hist now.0) now.1.asks p) ends

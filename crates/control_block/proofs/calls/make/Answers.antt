@@ -6,9 +6,10 @@ use Rattle.control_word.specs.declared.event.Event.TheVariants.{Make}
 use Rattle.control_word.specs.declared.handle.Kind.TheVariants.{Owner}
 use Rattle.control_word.specs.declared.view.Pending.TheVariants.{Idle}
 use Rattle.control_word.proofs.history.Legal.{sound}
-use Rattle.control_block.specs.Desks.{bag_of, stock_of}
+use Rattle.control_block.specs.Desks.{endings_of, bag_of, stock_of}
 use Rattle.control_block.specs.Rule.{opening_of}
-use Rattle.control_block.proofs.DeskBags.{adds_of, bag_gets, before, ends_still, legal_now, room_left, same_desk}
+use Rattle.control_block.proofs.DeskBags.{not_full, adds_of, bag_gets, before, ends_still, legal_now, room_left, same_desk}
+use Rattle.control_block.proofs.OwnCounts.{made_count}
 use Rattle.control_block.proofs.DeskSteps.{came, desk_after, one_more}
 use Rattle.control_block.proofs.OwnEndings.{make_spares}
 use Rattle.control_block.proofs.DeskStores.{last_stored, popped, stock_shrinks, stored_word}
@@ -28,16 +29,16 @@ make-requires-clause-word g c = λ _ _.
     (last_stored c.desk.inside c.desk.invariant c.pop.new.self.items c.in-Some.block c.in-Some.ensures.items)
 
 pub make-requires-clause-room : goal.make-requires-clause-room
-make-requires-clause-room g c = λ _ _. room_left c.desk.inside c.desk.invariant c.if-desk.false
+make-requires-clause-room g c = λ _ _. room_left c.desk.inside c.desk.invariant (not_full c.desk.inside c.args.desk.now _ c.desk.invariant c.desk.view_is c.if-is_full.ensures refl)
 
 pub invariant_of-desk-2 : goal.invariant_of-desk-2
 invariant_of-desk-2 g c =
     let d = c.desk.inside in let h = c.desk.invariant in let v = d.seat.me.0 in let w = c.make.new.chair.me.0 in let s = c.make.ensures in
     let e = Make c.in-Some.block c.args.enabled c.args.null c.args.fields c.args.value in let t = came v w Idle None e s.event in
-    let size = one_more v w e t (handle Owner _ (origin c.in-Some.block.0 c.args.null)) refl in let ne = c.if-desk.false in
+    let size = one_more v w e t (handle Owner _ (origin c.in-Some.block.0 c.args.null)) refl in let ne = (not_full c.desk.inside c.args.desk.now _ c.desk.invariant c.desk.view_is c.if-is_full.ensures refl) in
     desk_after d _ e h s.event s.chair.0 s.chair.2 (λ y x. refl) refl
     (popped d h t.state _ c.in-Some.block t.same c.in-Some.ensures.items t.asks.0) c.in-Some.ensures.capacity
-    (omega (arith, size, h.holding)) (omega (arith, h.within, ne))
+    (omega (arith, size, h.holding)) (omega (arith, h.within, ne)) (h.ended ∙ sym (made_count d w _ _ _ _ _ s.event))
 
 pub returns-clause-event : goal.returns-clause-event
 returns-clause-event g c =
@@ -58,6 +59,9 @@ returns-clause-desk g c =
     let d = c.desk.inside in let h = c.desk.invariant in let v = d.seat.me.0 in let w = c.make.new.chair.me.0 in let s = c.make.ensures in
     let e = Make c.in-Some.block c.args.enabled c.args.null c.args.fields c.args.value in let t = came v w Idle None e s.event in
     same_desk d w e h s.event _ _ c.args.desk.now c.desk.view_is c.make.ensures.chair.0 (λ s n. refl)
+
+pub returns-clause-count : goal.returns-clause-count
+returns-clause-count g c = made_count c.desk.inside c.make.new.chair.me.0 _ _ _ _ _ c.make.ensures.event ∙ ap endings_of c.desk.view_is
 
 pub returns-clause-stock : goal.returns-clause-stock
 returns-clause-stock g c =

@@ -4,8 +4,9 @@ use Rattle.control_word.specs.declared.handle.Kind.TheVariants.{Owner}
 use Rattle.control_word.specs.declared.view.Pending.TheVariants.{Idle}
 use Rattle.control_block.specs.Desks.{bag_of, on_latest}
 use Rattle.control_block.specs.Inside.{desk_now}
-use Rattle.control_block.proofs.DeskBags.{adds_of, bag_stays, holding_in, keeps_quietly, field_low}
-use Rattle.control_block.proofs.DeskSteps.{as_many, came, quiet_desk, word_inside}
+use Rattle.control_block.proofs.DeskBags.{adds_of, bag_stays, holding_in, calm, keeps_quietly, field_low}
+use Rattle.control_block.proofs.Passage.{plain}
+use Rattle.control_block.proofs.DeskSteps.{ending_same, as_many, came, quiet_desk, word_inside}
 use Rattle.control_block.proofs.calls.read.Goals as goal
 
 pub read-requires-clause-holds : goal.read-requires-clause-holds
@@ -27,7 +28,8 @@ invariant_of-desk g c =
     let d = c.desk.inside in let h = c.desk.invariant in let v = d.seat.me.0 in let w = c.read.new.chair.me.0 in let s = c.read.ensures in
     let e = Read (on_latest (desk_now d) Owner (Some c.args.place) c.args.place.block.0) c.read.result in let t = came v w Idle None e s.event in
     let size = as_many v w e t refl in
-    quiet_desk d _ e h s.event s.chair.0 (s.chair.2 ∙ h.rests.none) (λ y x. refl) (λ y x. refl) refl refl (omega (arith, size, h.holding)) h.within
+    quiet_desk d _ e h s.event s.chair.0 (s.chair.2 ∙ h.rests.none) (λ y x. refl) (λ y x. refl) refl refl (omega (arith, size, h.holding)) (omega (arith, h.within))
+    (h.ended ∙ sym (ending_same v w e t (plain (λ y x. refl) (λ y x. refl) (λ y f. refl))))
 
 pub returns-clause-event : goal.returns-clause-event
 returns-clause-event g c =
@@ -47,4 +49,4 @@ returns-clause-keeps g c =
     keeps_quietly d c.read.new.chair.me.0 (Read (on_latest (desk_now d) Owner (Some c.args.place) c.args.place.block.0) c.read.result)
     c.desk.invariant
     c.read.ensures.event _ _ c.args.desk.now c.desk.view_is c.read.ensures.chair.0
-    record { objects = λ s n. refl; latest = λ s n. refl; values = λ s f. refl } (λ s n. refl) (λ s n. refl)
+    (calm (λ s n. refl) (λ s n. refl) (λ s f. refl)) (λ s n. refl) (λ s n. refl)

@@ -5,8 +5,9 @@ use Rattle.control_word.specs.declared.handle.Kind.TheVariants.{Weak}
 use Rattle.control_word.specs.declared.view.Pending.TheVariants.{Idle}
 use Rattle.control_block.specs.Desks.{bag_of, latest_of, on_latest}
 use Rattle.control_block.specs.Inside.{desk_now}
-use Rattle.control_block.proofs.DeskBags.{adds_of, bag_gets, keeps_quietly, room_left}
-use Rattle.control_block.proofs.DeskSteps.{came, one_more, quiet_desk}
+use Rattle.control_block.proofs.DeskBags.{not_full, adds_of, bag_gets, calm, keeps_quietly, room_left}
+use Rattle.control_block.proofs.Passage.{plain}
+use Rattle.control_block.proofs.DeskSteps.{ending_same, came, one_more, quiet_desk}
 use Rattle.control_block.proofs.WeakGifts.{may_block, may_in, may_word}
 use Rattle.control_block.proofs.calls.share_weak.Goals as goal
 
@@ -21,15 +22,15 @@ share_weak-requires-clause-word g c =
     (may_in c.desk.inside c.args.desk.now c.args.block.0 g.A.About.wanted c.desk.invariant c.desk.view_is c.requires.may)
 
 pub share_weak-requires-clause-room : goal.share_weak-requires-clause-room
-share_weak-requires-clause-room g c = room_left c.desk.inside c.desk.invariant c.if-desk.false
+share_weak-requires-clause-room g c = room_left c.desk.inside c.desk.invariant (not_full c.desk.inside c.args.desk.now _ c.desk.invariant c.desk.view_is c.if-is_full.ensures refl)
 
 pub invariant_of-desk : goal.invariant_of-desk
 invariant_of-desk g c =
     let d = c.desk.inside in let h = c.desk.invariant in let v = d.seat.me.0 in let w = c.share_weak.new.chair.me.0 in let s = c.share_weak.ensures in
     let e = WeakShare (latest_of (desk_now d) c.args.block.0) g.A.About.wanted in let t = came v w Idle None e s.event in
-    let size = one_more v w e t (on_latest (desk_now d) Weak g.A.About.wanted c.args.block.0) refl in let ne = c.if-desk.false in
+    let size = one_more v w e t (on_latest (desk_now d) Weak g.A.About.wanted c.args.block.0) refl in let ne = (not_full c.desk.inside c.args.desk.now _ c.desk.invariant c.desk.view_is c.if-is_full.ensures refl) in
     quiet_desk d _ e h s.event s.chair.0 (s.chair.2 ∙ h.rests.none) (λ y x. refl) (λ y x. refl) refl refl (omega (arith, size, h.holding))
-    (omega (arith, h.within, ne))
+    (omega (arith, h.within, ne)) (h.ended ∙ sym (ending_same v w e t (plain (λ y x. refl) (λ y x. refl) (λ y f. refl))))
 
 pub returns-clause-event : goal.returns-clause-event
 returns-clause-event g c =
@@ -50,4 +51,4 @@ returns-clause-keeps g c =
     let d = c.desk.inside in
     keeps_quietly d c.share_weak.new.chair.me.0 (WeakShare (latest_of (desk_now d) c.args.block.0) g.A.About.wanted) c.desk.invariant
     c.share_weak.ensures.event _ _ c.args.desk.now c.desk.view_is c.share_weak.ensures.chair.0
-    record { objects = λ s n. refl; latest = λ s n. refl; values = λ s f. refl } (λ s n. refl) (λ s n. refl)
+    (calm (λ s n. refl) (λ s n. refl) (λ s f. refl)) (λ s n. refl) (λ s n. refl)

@@ -10,7 +10,7 @@ use Rattle.control_block.specs.CellRounds.{CameOut, IsCounted}
 use Rattle.control_block.specs.Inside.{IsSized}
 use Rattle.control_block.specs.Plays.{At}
 use Rattle.control_block.specs.declared.board.Sight.{Sight}
-use Rattle.control_block.proofs.CellRounds.{came_counted, came_holding, cell_still, load_trades, took_inside, took_owes, turned}
+use Rattle.control_block.proofs.CellRounds.{came_counted, came_holding, cell_still, load_keeps, load_trades, took_inside, took_owes, turned}
 use Rattle.control_block.proofs.cell_rounds.try_load.Goals as goal
 
 pub turn-requires-clause-word : goal.turn-requires-clause-word
@@ -32,7 +32,7 @@ top_up-requires-clause-cell g c =
     let r = c.requires in let k = c.args.kind in let v = c.args.chair.now.me.0 in let e : Handle → Event g.row.V.Denot = λ h. Load g.A.Aimed.cell h in
     let t = subst (λ (y : Kind). Took e y v c.args.seen c.take.new.chair.me.0) (sym r.cell.1) (c.if-not-take.ensures.took refl) in
     let came = turned e k v c.take.new.chair.me.0 c.turn.new.chair.me.0 c.args.seen t c.turn.ensures.settled in
-    cell_still v c.turn.new.chair.me.0 g.A.Aimed.cell c.args.word k r.free (ap (λ (u : Sight g.row.V.Denot). u.shape) came.event.now) r.cell
+    cell_still v c.turn.new.chair.me.0 (e came.handle) g.A.Aimed.cell c.args.word k (load_keeps g.row.V.Denot g.A.Aimed.cell came.handle) came.event r.cell
 
 pub top_up-requires-clause-holds : goal.top_up-requires-clause-holds
 top_up-requires-clause-holds g c =

@@ -15,12 +15,9 @@ pub compare_exchange-requires : goal.compare_exchange-requires
 compare_exchange-requires g c =
     let r = c.requires in let board = c.args.board.now in let chair = c.args.chair.now in let a = g.A.Aimed in let slots = board.table_id.slots in
     let i = c.args.word in let found = c.pack-found.result in let n = c.pack.result in let me = chair.me in
-    let here = λ (h : _) (x : InHand (known me.0) me.0.view.name (kind_in me.0.shape a.cell) h). subst (λ y. InHand (known me.0) me.0.view.name (kind_in me.0.shape y) h) r.free.1 x in (
+    (
       r.board,
       r.word,
-      subst (λ (y : Cell). Allows (Ruled board.key) slots chair.id me i (λ m. either (m == found) n m)
-          (compare_swapped y (λ h. Compare y a.expected a.new h true a.weak) (step slots i found n none) me)) (sym r.free.1)
-          (allows_compare_swap board.key slots chair.id i found n r.free.0 a.expected a.new a.weak c.args.seen c.args.new me r.owes
-          (subst (λ y. IsCellAt me.0 y i) r.free.1 r.cell) r.seen.0 c.pack-found.ensures r.seen.1 (here a.expected r.expected) r.new.2 r.new.1 (here a.new r.hand)
-          r.room c.pack.ensures),
+      allows_compare_swap board.key slots chair.id i found n a.cell a.expected a.new a.weak c.args.seen c.args.new me r.owes r.cell r.seen.0
+          c.pack-found.ensures r.seen.1 r.expected r.new.2 r.new.1 r.hand r.room c.pack.ensures,
     )

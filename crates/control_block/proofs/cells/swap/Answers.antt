@@ -16,9 +16,7 @@ swap-requires g c =
     let i = c.args.word in let n = c.pack.result in let me = chair.me in (
       r.board,
       r.word,
-      subst (λ (y : Cell). Allows (Ruled board.key) slots chair.id me i (λ _. n) (swapped y (λ h. Swap y a.new h) (step slots i n 0 none) me)) (sym r.free.1)
-          (allows_swap board.key slots chair.id i n r.free.0 a.new c.args.new me r.owes (subst (λ y. IsCellAt me.0 y i) r.free.1 r.cell) r.new.2 r.new.1
-          (subst (λ y. InHand (known me.0) me.0.view.name (kind_in me.0.shape y) a.new) r.free.1 r.hand) r.room c.pack.ensures),
+      allows_swap board.key slots chair.id i n a.cell a.new c.args.new me r.owes r.cell r.new.2 r.new.1 r.hand r.room c.pack.ensures,
     )
 
 pub unpack-requires : goal.unpack-requires

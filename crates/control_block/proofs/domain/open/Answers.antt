@@ -15,4 +15,4 @@ invariant_of-desk g c =
     let t = c.in_ok-table.ensures in
     let words = ap length (c.as_slice.ensures.value ∙ e) ∙ (length-replicate c.table_words.result 0 ∙ c.table_words.ensures) in
     first_desk _ c.args.shape (c.if-not-is_within_limits.ensures.0 refl) t.4
-    record { words = ap (λ x. x.words) t.2 ∙ (t.0 ∙ words); slots = ap (λ x. x.slots) t.2 ∙ t.1 } refl refl c.in_ok-store.ensures.0 c.in_ok-store.ensures.1
+    record { words = ap (λ x. x.words) t.2 ∙ (t.0 ∙ words); slots = ap (λ x. x.slots) t.2 ∙ t.1 } refl refl refl c.in_ok-store.ensures.0 c.in_ok-store.ensures.1

@@ -5,8 +5,9 @@ use Rattle.control_word.specs.declared.handle.Kind.TheVariants.{Owner, Weak}
 use Rattle.control_word.specs.declared.view.Pending.TheVariants.{Idle}
 use Rattle.control_block.specs.Desks.{bag_of, on_latest}
 use Rattle.control_block.specs.Inside.{desk_now}
-use Rattle.control_block.proofs.DeskBags.{bag_gets, bag_stays, block_still, holding_in, keeps_quietly}
-use Rattle.control_block.proofs.DeskSteps.{as_many, came, one_more, quiet_desk, word_inside}
+use Rattle.control_block.proofs.DeskBags.{not_full, bag_gets, bag_stays, block_still, holding_in, calm, keeps_quietly}
+use Rattle.control_block.proofs.Passage.{plain}
+use Rattle.control_block.proofs.DeskSteps.{ending_same, as_many, came, one_more, quiet_desk, word_inside}
 use Rattle.control_block.proofs.DeskLocks.{none_after}
 use Rattle.control_block.proofs.lock_calls.lock.Goals as goal
 
@@ -26,7 +27,8 @@ invariant_of-desk g c =
     let s = c.if-not-lock.ensures in
     let e = Lock (on_latest (desk_now d) Weak g.A.About.place c.args.of.block.0) false in let t = came v w Idle None e s.event in
     let size = as_many v w e t refl in
-    quiet_desk d _ e h s.event s.chair.0 (s.chair.2 ∙ h.rests.none) (λ y x. refl) (λ y x. refl) refl refl (omega (arith, size, h.holding)) h.within
+    quiet_desk d _ e h s.event s.chair.0 (s.chair.2 ∙ h.rests.none) (λ y x. refl) (λ y x. refl) refl refl (omega (arith, size, h.holding)) (omega (arith, h.within))
+    (h.ended ∙ sym (ending_same v w e t (plain (λ y x. refl) (λ y x. refl) (λ y f. refl))))
 
 pub returns-then-not-lock-clause-bag : goal.returns-then-not-lock-clause-bag
 returns-then-not-lock-clause-bag g c =
@@ -39,16 +41,16 @@ returns-then-not-lock-clause-keeps g c =
     let d = c.desk.inside in
     keeps_quietly d c.lock.new.chair.me.0 (Lock (on_latest (desk_now d) Weak g.A.About.place c.args.of.block.0) false) c.desk.invariant
     c.if-not-lock.ensures.event _ _ c.args.desk.now c.desk.view_is c.lock.ensures.chair.0
-    record { objects = λ s n. refl; latest = λ s n. refl; values = λ s f. refl } (λ s n. refl) (λ s n. refl)
+    (calm (λ s n. refl) (λ s n. refl) (λ s f. refl)) (λ s n. refl) (λ s n. refl)
 
 pub invariant_of-desk-2 : goal.invariant_of-desk-2
 invariant_of-desk-2 g c =
     let d = c.desk.inside in let h = c.desk.invariant in let v = d.seat.me.0 in let w = c.lock.new.chair.me.0 in
     let s = c.if-not-lock.ensures in
     let e = Lock (on_latest (desk_now d) Weak g.A.About.place c.args.of.block.0) true in let t = came v w Idle None e s.event in
-    let size = one_more v w e t (on_latest (desk_now d) Owner g.A.About.place c.args.of.block.0) refl in let ne = c.if-desk.false in
+    let size = one_more v w e t (on_latest (desk_now d) Owner g.A.About.place c.args.of.block.0) refl in let ne = (not_full c.desk.inside c.args.desk.now _ c.desk.invariant c.desk.view_is c.if-is_full.ensures refl) in
     quiet_desk d _ e h s.event s.chair.0 (s.chair.2 ∙ h.rests.none) (λ y x. refl) (λ y x. refl) refl refl (omega (arith, size, h.holding))
-    (omega (arith, h.within, ne))
+    (omega (arith, h.within, ne)) (h.ended ∙ sym (ending_same v w e t (plain (λ y x. refl) (λ y x. refl) (λ y f. refl))))
 
 pub returns-clause-expired : goal.returns-clause-expired
 returns-clause-expired g c =
@@ -69,4 +71,4 @@ returns-clause-keeps g c =
     let d = c.desk.inside in
     keeps_quietly d c.lock.new.chair.me.0 (Lock (on_latest (desk_now d) Weak g.A.About.place c.args.of.block.0) true) c.desk.invariant
     c.if-not-lock.ensures.event _ _ c.args.desk.now c.desk.view_is c.lock.ensures.chair.0
-    record { objects = λ s n. refl; latest = λ s n. refl; values = λ s f. refl } (λ s n. refl) (λ s n. refl)
+    (calm (λ s n. refl) (λ s n. refl) (λ s f. refl)) (λ s n. refl) (λ s n. refl)

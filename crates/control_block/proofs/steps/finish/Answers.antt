@@ -10,7 +10,7 @@ fetch_sub-requires g c =
     let r = c.requires in let e = c.block_word.ensures in let board = c.args.board.now in let chair = c.args.chair.now in (
       r.board,
       subst (λ x. x < board.table_id.words) (sym e) r.word.1,
-      allows_finish board.key board.table_id.slots chair.id c.args.block.0 g.M.Meant.object c.block_word.result r.value.0 chair.me r.rests r.ends r.value.1 e,
+      allows_finish board.key board.table_id.slots chair.id c.args.block.0 g.M.Meant.object c.block_word.result r.value.0 chair.me r.rests r.ends r.clear r.value.1 e,
     )
 
 pub returns-clause-event : goal.returns-clause-event

@@ -5,12 +5,12 @@ use Rattle.control_word.specs.Layout.{spot}
 use Rattle.control_word.specs.declared.event.Event.TheVariants.{Visit}
 use Rattle.control_word.specs.declared.handle.Kind.TheVariants.{Owner}
 use Rattle.control_word.specs.declared.view.Pending.TheVariants.{Idle}
-use Rattle.control_block.specs.Desks.{bag_of, on_latest, stock_of}
+use Rattle.control_block.specs.Desks.{endings_of, bag_of, on_latest, stock_of}
 use Rattle.control_block.specs.Inside.{desk_now}
 use Rattle.control_block.specs.Plays.{known}
 use Rattle.control_block.specs.Rule.{opening_of}
 use Rattle.control_block.proofs.DeskBags.{adds_of, bag_stays, before, ends_still, holding_in, legal_now, same_desk}
-use Rattle.control_block.proofs.DeskSteps.{as_many, came, quiet_desk, stock_left, word_inside}
+use Rattle.control_block.proofs.DeskSteps.{ending_after, as_many, came, quiet_desk, stock_left, word_inside}
 use Rattle.control_block.proofs.OwnEndings.{visit_spares}
 use Rattle.control_block.proofs.Visiting.{again, tells_visit}
 use Rattle.control_block.proofs.visits.visit.Goals as goal
@@ -52,7 +52,8 @@ invariant_of-desk g c =
     let a = tells_visit v w b o p i was becomes None me t (c.open.ensures.event v was (again v b o p i was None me t)) in
     let e = Visit (on_latest (desk_now d) Owner p b.0) was becomes in let size = as_many v w e (came v w Idle None e a) refl in
     let s = c.shut-value.ensures.chair in let f = c.open.ensures.chair in
-    quiet_desk d _ e h a (f.0 ∙ s.0) f.2 (λ y x. refl) (λ y x. refl) refl refl (omega (arith, size, h.holding)) h.within
+    quiet_desk d _ e h a (f.0 ∙ s.0) f.2 (λ y x. refl) (λ y x. refl) refl refl (omega (arith, size, h.holding)) (omega (arith, h.within))
+    (let u = came v w Idle None e a in h.ended ∙ sym (ending_after v w e u ∙ u.ending))
 
 pub returns-clause-event : goal.returns-clause-event
 returns-clause-event g c =
@@ -93,6 +94,7 @@ returns-clause-keeps g c =
       name = same.name;
       allowance = same.allowance;
       stock = ap length (stock_left v w e (came v w Idle None e a) (λ y n. refl) ∙ ap stock_of c.desk.view_is);
+      count = let u = came v w Idle None e a in ending_after v w e u ∙ (u.ending ∙ ap endings_of c.desk.view_is);
       endings = λ r x ends. ends_still d w e h a _ _ r x c.args.desk.now c.desk.view_is
           (λ q. visit_spares z (leads z hist) _ v.view.name r (sound z hist now.0) q _ _ _ now.1.asks) ends;
     }

@@ -1,9 +1,11 @@
 use Rattle.std.proofs.Common.{ℕ, subst, sym}
-use Rattle.control_block.specs.Desks.{DeskNow, IsEnding}
+use Rattle.control_block.specs.Desks.{DeskNow}
+use Rattle.shared_handle.specs.Endings.{Ends}
+use Rattle.shared_handle.proofs.Kept.{ends_kept}
 use Rattle.shared_handle.proofs.tests.end_with_a_weak_handle.Goals as goal
 
-pub finish-value-requires-clause-ends : goal.finish-value-requires-clause-ends
-finish-value-requires-clause-ends c = λ _.
-    let b = c.in-Last.ending.block.0 in let x = c.in-Last.ending.value in
-    let first = subst (λ (d : DeskNow ℕ). IsEnding d b x) (sym c.last_words-clear.ensures.same) c.in-Last.ensures.left.2 in
-    c.expired-expired.ensures.keeps.endings b x (c.in-Ok.ensures.keeps.endings b x first)
+pub bury-value-requires-clause-ends : goal.bury-value-requires-clause-ends
+bury-value-requires-clause-ends c = λ _.
+    let x = c.in-Last.ending in
+    let first = subst (λ (d : DeskNow ℕ). Ends d x) (sym c.last_words-clear.ensures.same) c.in-Last.ensures.left.2 in
+    ends_kept _ _ x c.expired-expired.ensures.keeps.endings (ends_kept _ _ x c.in-Ok.ensures.keeps.endings first)

@@ -1,5 +1,5 @@
 use Rattle.std.proofs.Common.{◌+◌, false}
-use Rattle.control_word.specs.declared.event.Cell.TheVariants.{Free}
+use Rattle.atomic_cells.specs.Sites.{weak_cell}
 use Rattle.control_word.specs.declared.handle.Kind.TheVariants.{Weak}
 use Rattle.control_block.specs.CellCalls.{handle_in}
 use Rattle.atomic_cells.proofs.weak_at.WeakAt.compare_exchange_strong.Given as goal
@@ -7,7 +7,7 @@ use Rattle.atomic_cells.proofs.weak_at.WeakAt.compare_exchange_strong.Given as g
 abbrev pub ghosts-compare_as : goal.ghosts-compare_as
 ghosts-compare_as g a =
     record {
-      cell = Free (a.desk.now.shape.shared_cells + a.self.now.index);
+      cell = weak_cell a.desk.now a.self.now.site;
       new = handle_in a.desk.now Weak a.desired.block a.desired.place;
       expected = handle_in a.desk.now Weak a.expected.now.block a.expected.now.place;
       weak = false;

@@ -1,13 +1,12 @@
 use Rattle.std.proofs.Common.{false}
 use Rattle.control_word.specs.Handles.{empty}
-use Rattle.control_word.specs.declared.event.Cell.TheVariants.{Free}
-use Rattle.control_block.specs.CellCalls.{handle_in}
+use Rattle.control_block.specs.CellCalls.{cell_at, handle_in}
 use Rattle.atomic_cells.proofs.weak_at.WeakAt.exchange.Given as goal
 
 abbrev pub ghosts-exchange : goal.ghosts-exchange
 ghosts-exchange g a =
     record {
-      cell = Free a.cell.number;
+      cell = cell_at a.desk.now a.cell.site;
       new = handle_in a.desk.now a.cell.kind a.new.block a.new.place;
       expected = empty a.cell.kind;
       weak = false;

@@ -9,7 +9,7 @@ use Rattle.control_word.specs.State.{Held, bag, bag_size, same_stored, stock, st
 use Rattle.control_word.specs.Words.{blocks_of}
 use Rattle.control_word.specs.declared.handle.Handle.{Handle}
 use Rattle.control_word.specs.declared.shape.Shape.{Shape}
-use Rattle.control_block.specs.Desks.{DeskNow, IsEnding, allowance_of, bag_of, by_block, stock_of}
+use Rattle.control_block.specs.Desks.{DeskNow, IsEnding, allowance_of, bag_of, by_block, endings_of, many_ending, member_in, stock_of}
 use Rattle.control_block.specs.Inside.{IsSized}
 use Rattle.control_block.specs.Parting.{JoinsWith, times}
 use Rattle.control_block.specs.Plays.{known}
@@ -42,6 +42,20 @@ overflow_add-self-2 g c =
     let few = joining.allowance_few c.self.inside c.other.inside c.self.invariant c.other.invariant shapes u j in
     omega (arith, c.self.invariant.within, c.other.invariant.within)
 
+pub overflow_add-self-3 : goal.overflow_add-self-3
+overflow_add-self-3 g c =
+    let shapes = ap (λ z. z.shape) c.other.view_is ∙ (c.requires.domain.2 ∙ sym (ap (λ z. z.shape) c.self.view_is)) in
+    let u = c.join.new.chair.me.0 in let j = c.join.ensures.event in
+    let few = joining.endings_few c.self.inside c.other.inside c.self.invariant c.other.invariant shapes u j in omega arith
+
+pub returns-clause-count : goal.returns-clause-count
+returns-clause-count g c =
+    let d = c.self.inside in let o = c.other.inside in let h = c.self.invariant in let k = c.other.invariant in
+    let shapes = ap (λ z. z.shape) c.other.view_is ∙ (c.requires.domain.2 ∙ sym (ap (λ z. z.shape) c.self.view_is)) in
+    let u = c.join.new.chair.me.0 in let j = c.join.ensures.event in
+    ap (many_ending u.shape.blocks (known u)) (joining.name d o h k shapes u j) ∙ (joining.endings_after d o h k shapes u j
+    ∙ ((λ i. h.ended i + k.ended i) ∙ (λ i. endings_of (c.self.view_is i) + endings_of (c.other.view_is i))))
+
 pub invariant_of-self : goal.invariant_of-self
 invariant_of-self g c =
     let d = c.self.inside in let o = c.other.inside in let h = c.self.invariant in let k = c.other.invariant in
@@ -68,6 +82,7 @@ invariant_of-self g c =
     (subst (λ y. length c.append_all.new.store.items ≡ length (stock (known u) y)) (sym name)
     (let a = ap length items ∙ length-append d.store.items o.store.items in omega (arith, h.many, k.many)))
     (subst (λ (y : Shape). y.blocks ≤ vec_capacity c.append_all.new.store) (sym shape) (omega (arith, h.room, c.append_all.ensures.1)))
+    (subst (λ y. d.endings + o.endings ≡ many_ending u.shape.blocks (known u) y) (sym name) (sym (joining.endings_after d o h k shapes u j)))
 
 pub returns-clause-event : goal.returns-clause-event
 returns-clause-event g c =
@@ -129,10 +144,16 @@ returns-clause-endings g c =
           let is = subst (λ (y : DeskNow g.row.V.Denot). IsEnding y b x) (sym c.self.view_is) e in
           let t = joining.ends_after d o h k shapes u j d.seat.me.0 (joining.one d o h k shapes u j)
           (joining.own_name d o h k shapes u j) b is.phase in
-          record { phase = t.0 ∙ ap Rattle.control_word.specs.State.ending (sym name); kept = t.1 ∙ is.kept }),
+          record {
+            ends = record { phase = t.0 ∙ ap Rattle.control_word.specs.State.ending (sym name); kept = t.1 ∙ is.kept };
+            members = λ m. t.2 m ∙ ap (λ (y : DeskNow g.row.V.Denot). member_in y b m) c.self.view_is;
+          }),
       (λ b x e.
           let is = subst (λ (y : DeskNow g.row.V.Denot). IsEnding y b x) (sym c.other.view_is) e in
           let t = joining.ends_after d o h k shapes u j o.seat.me.0 (joining.two d o h k shapes u j)
           (joining.other_name d o h k shapes u j) b is.phase in
-          record { phase = t.0 ∙ ap Rattle.control_word.specs.State.ending (sym name); kept = t.1 ∙ is.kept }),
+          record {
+            ends = record { phase = t.0 ∙ ap Rattle.control_word.specs.State.ending (sym name); kept = t.1 ∙ is.kept };
+            members = λ m. t.2 m ∙ ap (λ (y : DeskNow g.row.V.Denot). member_in y b m) c.other.view_is;
+          }),
     )

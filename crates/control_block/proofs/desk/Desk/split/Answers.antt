@@ -26,6 +26,12 @@ overflow_sub-stay g c =
     let s = sizes d c.self.invariant c.args.handles.items (subst (λ z. HoldsAll z c.args.handles.items) (sym c.self.view_is) c.requires.held) in
     omega (arith, s.1, c.len-count.ensures, c.args.handles.ok)
 
+pub overflow_sub-self : goal.overflow_sub-self
+overflow_sub-self g c =
+    let d = c.self.inside in
+    let s = sizes d c.self.invariant c.args.handles.items (subst (λ z. HoldsAll z c.args.handles.items) (sym c.self.view_is) c.requires.held) in
+    omega (arith, s.1, c.len-count.ensures, c.args.handles.ok)
+
 pub pass_least-requires-clause-count : goal.pass_least-requires-clause-count
 pass_least-requires-clause-count g c =
     let d = c.self.inside in
@@ -47,7 +53,8 @@ part-seat-requires-clause-may g c =
     let holds = subst (λ z. HoldsAll z hs) (sym c.self.view_is) c.requires.held in
     let size : length hs ≡ c.len-count.result = omega (arith, c.len-count.ensures, c.args.handles.ok) in
     let m = may_split d c.self.invariant hs holds c.args.allowance c.max-keep.result c.pass_least.new.to.items (omega arith) (omega arith)
-    (omega (arith, c.saturating_sub.ensures)) (omega (arith, c.max-keep.ensures)) (omega (arith, c.max-keep.ensures))
+    (omega (arith, c.saturating_sub.ensures)) (omega (arith, c.max-keep.ensures))
+    (omega (arith, c.max-keep.ensures, c.min.ensures))
     (λ b. let t = c.pass_least.ensures.same b in omega arith) in
     subst (λ (y : List HeldValue × List Block). MaySplit d.seat.me.0 c.args.allowance (in_history (known d.seat.me.0) y.0) y.1)
     (λ i. (sym c.as_slice.ensures.value i, sym c.as_slice-2.ensures.value i)) m
@@ -64,7 +71,7 @@ invariant_of-other g c =
     let id = ap (λ z. z.domain) c.self.view_is ∙ (c.requires.domain ∙ sym (ap (λ z. z.id) c.domain.view_is)) in
     let slots : d.seat.table_id.slots ≡ c.domain.inside.table.shared.table_id.slots = ap (λ z. z.slots) id in
     new_desk d c.self.invariant hs holds c.args.allowance bs w u p _ c.part-seat.ensures.other.0
-    (λ i. (u, c.part-seat.ensures.other.1 i)) refl (sym size) (omega arith) refl
+    (λ i. (u, c.part-seat.ensures.other.1 i)) refl (sym size) refl (omega arith) refl
     (omega (arith, c.in-Ok.ensures.capacity, c.pass_least.ensures.room.1, c.self.invariant.sized.slots, c.domain.invariant.sized.slots))
 
 pub invariant_of-self : goal.invariant_of-self
@@ -77,7 +84,8 @@ invariant_of-self g c =
     subst (λ (y : List HeldValue × List Block). Parted d.seat.me.0 c.args.allowance (in_history (known d.seat.me.0) y.0) y.1 w u)
     (λ i. (c.as_slice.ensures.value i, c.as_slice-2.ensures.value i)) c.part-seat.ensures.event in
     old_desk d c.self.invariant hs holds c.args.allowance bs w u p _ c.part-seat.ensures.chair.0
-    (λ i. (w, c.part-seat.ensures.chair.1 i)) refl (ap (λ x. d.held - x) (sym size)) (omega (arith, c.saturating_sub.ensures, c.max-keep.ensures))
+    (λ i. (w, c.part-seat.ensures.chair.1 i)) refl (ap (λ x. d.held - x) (sym size)) refl
+    (omega (arith, c.saturating_sub.ensures, c.max-keep.ensures, c.min.ensures))
     c.pass_least.ensures.same (omega (arith, c.pass_least.ensures.count.0, c.pass_least.ensures.count.1)) c.pass_least.ensures.room.0
 
 pub returns-clause-parts : goal.returns-clause-parts
@@ -93,12 +101,14 @@ returns-clause-parts g c =
       seat = c.part-seat.new.chair;
       allowance = d.allowance - c.args.allowance;
       held = d.held - c.len-count.result;
+      endings = d.endings;
       store = c.pass_least.new.store;
     } in
     let new : Inside g.row.V.Denot = record {
       seat = c.part-seat.result;
       allowance = c.args.allowance;
       held = c.len-count.result;
+      endings = 0;
       store = c.pass_least.new.to;
     } in
     subst (λ (y : DeskNow g.row.V.Denot). SplitsOff y c.args.allowance c.args.blocks hs (desk_now e) (desk_now new)) c.self.view_is

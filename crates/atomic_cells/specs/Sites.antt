@@ -1,0 +1,76 @@
+-- Which cell a call is on ([util.smartptr.atomic.shared], [util.smartptr.atomic.weak]; members of objects: own).
+use Rattle.std.specs.Prelude.{◌≡◌, ℕ, ◌+◌, ◌<◌, Option, None, Some, Result, Ok, Err}
+use Rattle.control_word.specs.declared.event.Cell.{Cell}
+use Rattle.control_word.specs.declared.handle.Kind.TheVariants.{Owner}
+use Rattle.control_word.specs.declared.place.Block.{Block}
+use Rattle.control_word.specs.declared.place.Place.{Place}
+use Rattle.control_word.specs.declared.refusal.Refusal.{Refusal}
+use Rattle.control_word.specs.declared.refusal.Refusal.TheVariants.{Null, Outside}
+use Rattle.control_word.specs.declared.shape.Shape.{Shape}
+use Rattle.control_block.specs.CellCalls.{cell_at}
+use Rattle.control_block.specs.Desks.{DeskNow, HasHandle}
+use Rattle.control_block.specs.declared.cell_calls.Site.{Site}
+use Rattle.control_block.specs.declared.cell_calls.Site.TheVariants as inner
+use Rattle.shared_handle.specs.Endings.{IsOutside}
+use Rattle.atomic_cells.specs.declared.sites.SharedMember.{SharedMember}
+use Rattle.atomic_cells.specs.declared.sites.SharedMember.TheVariants.{First, Next}
+use Rattle.atomic_cells.specs.declared.sites.SharedSite.{SharedSite}
+use Rattle.atomic_cells.specs.declared.sites.SharedSite.TheVariants as shared
+use Rattle.atomic_cells.specs.declared.sites.WeakSite.{WeakSite}
+use Rattle.atomic_cells.specs.declared.sites.WeakSite.TheVariants as weak
+
+-- the members by their numbers
+abbrev pub number_of : SharedMember → ℕ
+number_of First = 0
+number_of Next = 1
+
+abbrev pub shared_site : SharedSite → Site
+shared_site (shared.Free n) = inner.Free n
+shared_site (shared.Of b m) = inner.Member b (number_of m)
+
+-- the free weak cells stand behind so many shared ones
+abbrev pub weak_site : ℕ → WeakSite → Site
+weak_site z (weak.Free n) = inner.Free (z + n)
+weak_site z (weak.Up b) = inner.Member b 2
+
+-- a free cell is one of the shape
+abbrev pub IsFreeShared : Shape → SharedSite → Type 0
+IsFreeShared z (shared.Free n) = n < z.shared_cells
+IsFreeShared z (shared.Of b m) = ⊥
+
+abbrev pub IsFreeWeak : Shape → WeakSite → Type 0
+IsFreeWeak z (weak.Free n) = n < z.weak_cells
+IsFreeWeak z (weak.Up b) = ⊥
+
+-- the number of a free one is below so many
+abbrev pub IsFewWeak : ℕ → WeakSite → Type 0
+IsFewWeak k (weak.Free n) = n < k
+IsFewWeak k (weak.Up b) = Unit {0}
+
+-- the member of the object that the handle owns and points into, or why there is none (own)
+abbrev pub IsMember : {A : Type 0} → (Block → A → Type 0) → Option Block → Option Place → Result A Refusal → Type 0
+IsMember is b p (Ok at) = (q : Place) × (p ≡ Some q) × (b ≡ Some q.block) × is q.block at
+IsMember is b p (Err Null) = p ≡ None
+IsMember is b p (Err Outside) = IsOutside b p
+IsMember is b p (Err why) = ⊥
+
+module _ {V : Type 0} where
+  -- the desk has an owner of the object in the block
+  abbrev pub IsOwned : DeskNow V → Block → Type 0
+  IsOwned d b = (p : Option Place) × HasHandle d Owner p b.0
+
+  -- the cell is open to the desk: it is a free one of the shape, or a member of an object that the desk has an owner of
+  abbrev pub IsOpen : DeskNow V → SharedSite → Type 0
+  IsOpen d (shared.Free n) = n < d.shape.shared_cells
+  IsOpen d (shared.Of b m) = IsOwned d b
+
+  abbrev pub IsOpenWeakly : DeskNow V → WeakSite → Type 0
+  IsOpenWeakly d (weak.Free n) = n < d.shape.weak_cells
+  IsOpenWeakly d (weak.Up b) = IsOwned d b
+
+  -- the cell by the desk's history: a member is that of the object last made in the block
+  abbrev pub shared_cell : DeskNow V → SharedSite → Cell
+  shared_cell d s = cell_at d (shared_site s)
+
+  abbrev pub weak_cell : DeskNow V → WeakSite → Cell
+  weak_cell d s = cell_at d (weak_site d.shape.shared_cells s)

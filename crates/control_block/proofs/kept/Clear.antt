@@ -1,0 +1,126 @@
+-- Clear: a member of an object that ends is emptied, by a look where it holds nothing.
+use Rattle.std.proofs.Common.{◌≡◌, ◌≢◌, ℕ, ◌+◌, ◌-◌, ◌*◌, ◌<◌, ◌≤◌, false, [], ◌∷◌, get_or, set, map, Option, None, refl, sym, ap, subst, ◌∙◌, ⊎_elim, arith}
+use Rattle.std.proofs.lemmas.Bool.{cases_eq}
+use Rattle.atomic_table.specs.Table as Table
+use Rattle.atomic_table.specs.Table.{Allows, keeps, step}
+use mathlib.Core.Option.{none, some}
+use lib.ListN.{get_elem?}
+use Rattle.control_word.proofs.history.Legal.{sound}
+use Rattle.control_word.proofs.steps.Clear as law
+use Rattle.control_word.proofs.steps.Look.{load_is_write}
+use Rattle.control_word.proofs.words.Decoding.{cell_shown}
+use Rattle.control_word.specs.Events.{after, cell_of}
+use Rattle.control_word.specs.Handles.{empty}
+use Rattle.control_word.specs.Histories.{entry, leads}
+use Rattle.control_word.specs.Layout.{spot}
+use Rattle.control_word.specs.Packing.{IsCellWord, cell_bits}
+use Rattle.control_word.specs.State.{HasRoom, common, ending, kind_of_member}
+use Rattle.control_word.specs.Steps.{Adds, cell_word, purse}
+use Rattle.control_word.specs.Views.{Stands, sees_as}
+use Rattle.control_word.specs.Words.{blocks_of, packed, shown}
+use Rattle.control_word.specs.declared.cell.CellWord.{CellWord}
+use Rattle.control_word.specs.declared.event.Cell.{Cell}
+use Rattle.control_word.specs.declared.event.Cell.TheVariants.{Member}
+use Rattle.control_word.specs.declared.event.Event.{Event}
+use Rattle.control_word.specs.declared.event.Event.TheVariants.{ClearMember}
+use Rattle.control_word.specs.declared.handle.Handle.{Handle}
+use Rattle.control_word.specs.declared.shape.Shape.{Shape}
+use Rattle.control_word.specs.declared.view.Pending.TheVariants.{Idle}
+use Rattle.control_block.specs.Rule.{Ruled, opening_of, seeing, view_of}
+use Rattle.control_block.specs.Plays.{At, Ends, HasRoomFor, Rests}
+use Rattle.control_block.specs.CellPlays.{Gave, cleared, looked_clear}
+use Rattle.control_block.specs.declared.board.Sight.{Sight}
+use Rattle.control_block.proofs.CellRounds.{no_block}
+use Rattle.control_block.proofs.CellWords.{Opened, decoded, found_is, one_cell}
+use Rattle.control_block.proofs.Endings.{ends_here}
+use Rattle.control_block.proofs.Hands.{gets_most}
+use Rattle.control_block.proofs.Passage.{adds, point, quiet_clear, quiet_next, ready, still_ending, still_room}
+use Rattle.control_block.proofs.Still.{unmoved}
+use Rattle.control_block.proofs.kept.Swap.{gives}
+
+-- the word of a member that holds nothing
+abbrev no_cell : CellWord
+no_cell = record { owned = None; place = None; taken = 0 }
+
+module _ {V : Type 0} where
+  module _ (k : Shape) (s : Table.State (Option V) (Sight V)) (r : Ruled k s) (id : ℕ) (v : Sight V) (at : get_elem? s.views id ≡ some v)
+      (awake : v.view.spent ≡ false) (o b m i : ℕ) (ends : Ends v o b) (lt : m < 3) (e : i ≡ spot b (7 + m)) where
+    -- the object ends with the desk, and is in the block
+    phase : ((leads (opening_of k) r.history).object o).phase ≡ ending v.view.name
+    phase = (still_ending k s r id v at awake o b ends).1.phase ∙ ends.1
+
+    in_block : ((leads (opening_of k) r.history).object o).block ≡ b
+    in_block =
+        let z = opening_of k in let t = leads z r.history in let still = still_ending k s r id v at awake o b ends in
+        ap (λ y. (t.object y).block) (sym still.0) ∙ ends_here z t b v.view.name (sound z r.history r.stands.legal) (ap (λ y. (t.object y).phase) still.0 ∙ phase)
+
+    -- so its member is a cell with this word
+    there : Opened k s r id v at awake (Member o m) i
+    there =
+        let one : common ((leads (opening_of k) r.history).object o).phase ≡ 1 = ap common phase in
+        record { kept = (lt, omega arith); there = ap (λ y. spot y (7 + m)) in_block ∙ sym e; kind = refl }
+
+    room : HasRoomFor v → (h : Handle) → HasRoom (after {V = V} (leads (opening_of k) r.history) v.view.name (ClearMember o m h)) v.view.name
+    room more h =
+        let a = still_room k s r id v at awake more in let t = leads (opening_of k) r.history in
+        let x = t.object o in
+        let g = gets_most (Rattle.control_word.specs.Events.changes o (record x { member = Rattle.control_word.specs.State.put x.member m (empty (kind_of_member m)) }) t) v.view.name h in
+        omega arith
+
+    told : (taken : ℕ) → Rests (v, []) → HasRoomFor v → (let t = leads (opening_of k) r.history in let old = (t.object o).member m in
+        get_or s.words i 0 ≡ packed (blocks_of t) old + 17179869184 * taken
+        → Adds (point k s r id v) (cell_word (point k s r id v) (Member o m)) 0 (ClearMember o m old) (purse (blocks_of t) old (256 - taken)))
+    told taken rests more found =
+        let t = leads (opening_of k) r.history in let old = (t.object o).member m in
+        law.clears' (point k s r id v) o m (ready k s r id v at awake Idle rests.idle) phase lt (room more old) taken
+        (ap (λ j. get_or s.words j 0) there.there ∙ found)
+
+  pub allows_clear : (k : Shape) (slots id b o m i : ℕ) (me : At V) → Rests me → Ends me.0 o b → m < 3 → i ≡ spot b (7 + m) → HasRoomFor me.0
+      → Allows (Ruled k) slots id me i (λ _. 0) (cleared o m (step slots i 0 0 none) me)
+  allows_clear k slots id b o m i me rests ends lt e more s r sized at small =
+      let v = me.0 in let t = leads (opening_of k) r.history in let c = Member o m in
+      let is = there k s r id v at rests.awake o b m i ends lt e in let d = decoded k s r id v at rests.awake c i is in
+      let x = shown (blocks_of t) (cell_of t c) d.taken in
+      let rest : Rests (v, []) = record { awake = rests.awake; idle = rests.idle; empty = rests.empty; none = refl } in
+      let g = gives k s r id i c v at rests.awake rests.empty (λ h. ClearMember o m h) (λ h. quiet_clear o m h) is d 0 x refl
+      (told k s r id v at rests.awake o b m i ends lt e d.taken rest more (d.bits ∙ sym (cell_shown (blocks_of t) (cell_of t c) d.taken))) in (
+        g.0,
+        keeps,
+        tt,
+        g.1,
+        (
+          record { cell = x; valid = d.valid; bits = d.bits },
+          λ y valid is_y. (
+            subst (λ a. Gave (λ h. ClearMember o m h) (kind_of_member m) v a g.0) (sym (found_is k s r id v at rests.awake c i is d y valid is_y)) g.2,
+            refl,
+          ),
+        ),
+      )
+
+  pub allows_look_clear : (k : Shape) (slots id b o m i : ℕ) (me : At V) → Rests me → Ends me.0 o b → m < 3 → i ≡ spot b (7 + m) → HasRoomFor me.0
+      → Allows (Ruled k) slots id me i (λ n. n) (looked_clear o m (step slots i 0 0 none) me)
+  allows_look_clear k slots id b o m i me rests ends lt e more s r sized at small =
+      ⊎_elim
+      (λ (q : get_or s.words i 0 ≡ 0).
+      let v = me.0 in let z = opening_of k in let t = leads z r.history in let c = Member o m in let old = cell_of t c in
+      let is = there k s r id v at rests.awake o b m i ends lt e in let d = decoded k s r id v at rests.awake c i is in
+      let x = shown (blocks_of t) old d.taken in
+      let same : x ≡ no_cell = one_cell x no_cell d.valid record { owned = tt; place = tt; taken = omega arith } (sym d.bits ∙ q) in
+      let bare : old.object ≡ None = no_block (blocks_of t) old.object (ap (λ y. y.owned) same) in
+      let nothing : old ≡ empty (kind_of_member m) = λ j. record { kind = d.kind j; object = bare j; place = (same j).place } in
+      let rest : Rests (v, []) = record { awake = rests.awake; idle = rests.idle; empty = rests.empty; none = refl } in
+      let ev : Event V = ClearMember o m (empty (kind_of_member m)) in let hist = entry v.view.name ev ∷ r.history in
+      let adds' = told k s r id v at rests.awake o b m i ends lt e d.taken rest more (d.bits ∙ sym (cell_shown (blocks_of t) old d.taken)) in
+      let now : Stands z (set s.words i 0) (set (map view_of s.views) id (sees_as v.view Idle hist)) hist =
+      subst (λ y. Stands z (set s.words y 0) (set (map view_of s.views) id (sees_as v.view Idle hist)) hist) is.there
+      (subst (λ h. Adds (point k s r id v) (cell_word (point k s r id v) c) 0 (ClearMember o m h) (purse (blocks_of t) h (256 - d.taken))) nothing adds') in
+      (
+        seeing v Idle None hist,
+        keeps,
+        tt,
+        quiet_next k s r id v (set s.words i (get_or s.words i 0)) ev Idle at rests.awake rests.empty (quiet_clear o m (empty (kind_of_member m)))
+            (subst (λ n. Stands z (set s.words i n) (set (map view_of s.views) id (sees_as v.view Idle hist)) hist) (sym q) now),
+        (λ _. (adds k s r id v at rests.awake Idle None ev now.legal, refl), λ n. absurd (n q)),
+      ))
+      (λ (q : get_or s.words i 0 ≢ 0). (me.0, keeps, tt, unmoved k s id i me.0 r at, (λ n. absurd (q n), λ _. refl)))
+      (cases_eq (get_or s.words i 0) 0)

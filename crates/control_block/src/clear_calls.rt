@@ -1,0 +1,100 @@
+//! Calls of a desk on the members of an object that ends in its hands, for the crate above. What a member holds comes out
+//! and leaves: the place that the desk keeps free while an object ends there is for it.
+ghost use Rattle.std.specs.Prelude.{◌≡◌, ◌≢◌, ℕ, ◌+◌, ◌<◌, cond, is_some, length};
+ghost use Rattle.control_block.specs.Clearing.{Empties, EmptiesWeakly};
+ghost use Rattle.control_block.specs.Desks.{IsCleared, IsEnding, IsSameDesk, KeepsOtherEndings, bag_of, endings_of, member_in, stock_of};
+
+use crate::calls::put_by;
+use crate::cell_calls::Content;
+use crate::desk::Desk;
+use crate::domain::Domain;
+use crate::clears;
+use crate::handles::Pointer;
+use control_word::Block;
+use control_word::handle::Kind;
+use std::marker::Brand;
+
+/// A shared member (0 first, 1 next) of an object that ends in the desk's hands is emptied: what it held comes out and
+/// leaves (own). Where that was an object's last owner ([util.smartptr.shared.dest]), its value comes out, and it ends in the
+/// desk's hands.
+pub fn clear_shared<V: Drop + Send>(
+    domain: &Domain<V>,
+    desk: &mut Desk<V>,
+    block: Block,
+    member: u32,
+) -> (Content, Option<V>)
+    requires domain { desk.old.domain ≡ domain.now.id }
+    requires ending { (x : V) × IsEnding desk.old block.0 x }
+    requires member { member < 2 }
+    ensures emptied { Empties desk.old block.0 member result.0.block result.0.place result.1 desk.new }
+    ensures bag { bag_of desk.new ≡ bag_of desk.old }
+    ensures held { desk.new.held ≡ desk.old.held }
+    ensures cleared { IsCleared desk.new block.0 member }
+    ensures kept { (m : ℕ) → m ≢ member → member_in desk.new block.0 m ≡ member_in desk.old block.0 m }
+    ensures ending { (x : V) → IsEnding desk.old block.0 x → IsEnding desk.new block.0 x }
+    ensures endings { KeepsOtherEndings desk.old block.0 desk.new }
+    ensures desk { IsSameDesk desk.old desk.new }
+    ensures stock { length (stock_of desk.new) ≡ length (stock_of desk.old) }
+    ensures count { endings_of desk.new ≡ endings_of desk.old + cond (is_some result.1) 1 0 }
+{
+    let board = &domain.table.shared;
+    let seat = &mut desk.seat;
+    let out = clears::clear::<V, Brand>(board, seat, block, member, Kind::Owner);
+    let content = Content {
+        kind: Kind::Owner,
+        block: out.owned,
+        place: out.place,
+    };
+    let Some(held) = out.owned else {
+        return (content, None);
+    };
+    let of = Pointer {
+        kind: Kind::Owner,
+        block: held,
+        place: out.place,
+    };
+    let value = clears::leave_out::<V, Brand>(board, seat, of);
+    desk.endings += u32::from(value.is_some());
+    (content, value)
+}
+
+/// The weak member, `up`, of an object that ends in the desk's hands is emptied: what it held comes out and leaves (own). It
+/// says whether the block of that is vacant now, and in the desk's store.
+pub fn clear_weak<V: Drop + Send>(
+    domain: &Domain<V>,
+    desk: &mut Desk<V>,
+    block: Block,
+) -> (Content, bool)
+    requires domain { desk.old.domain ≡ domain.now.id }
+    requires ending { (x : V) × IsEnding desk.old block.0 x }
+    ensures emptied { EmptiesWeakly desk.old block.0 2 result.0.block result.0.place result.1 desk.new }
+    ensures bag { bag_of desk.new ≡ bag_of desk.old }
+    ensures held { desk.new.held ≡ desk.old.held }
+    ensures cleared { IsCleared desk.new block.0 2 }
+    ensures kept { (m : ℕ) → m ≢ 2 → member_in desk.new block.0 m ≡ member_in desk.old block.0 m }
+    ensures ending { (x : V) → IsEnding desk.old block.0 x → IsEnding desk.new block.0 x }
+    ensures endings { KeepsOtherEndings desk.old block.0 desk.new }
+    ensures desk { IsSameDesk desk.old desk.new }
+    ensures stock { length (stock_of desk.new) ≡ length (stock_of desk.old) + cond result.1 1 0 }
+    ensures count { endings_of desk.new ≡ endings_of desk.old }
+{
+    let board = &domain.table.shared;
+    let seat = &mut desk.seat;
+    let out = clears::clear::<V, Brand>(board, seat, block, 2, Kind::Weak);
+    let content = Content {
+        kind: Kind::Weak,
+        block: out.owned,
+        place: out.place,
+    };
+    let Some(held) = out.owned else {
+        return (content, false);
+    };
+    let of = Pointer {
+        kind: Kind::Weak,
+        block: held,
+        place: out.place,
+    };
+    let vacant = clears::leave_weak_out::<V, Brand>(board, seat, of);
+    put_by(&mut desk.store, held, vacant);
+    (content, vacant)
+}

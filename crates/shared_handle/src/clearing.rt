@@ -1,0 +1,95 @@
+//! The members of an object that ends are emptied before its end.
+ghost use Rattle.std.specs.Prelude.{◌≡◌, ℕ, ◌+◌, ◌<◌, Bool, cond, length};
+ghost use Rattle.control_block.specs.Desks.{IsCleared, IsSameDesk, KeepsOtherEndings, bag_of, endings_of, stock_of};
+ghost use Rattle.shared_handle.specs.Endings.{Clears, ClearsUp, Ends, IsClearing, more_ending, with_clear};
+
+use crate::endings::{Ending, Left, Member};
+use control_block::clear_calls;
+use control_block::desk::Desk;
+use control_block::domain::Domain;
+
+impl<V: Drop + Send> Ending<V> {
+    // A shared member is emptied; which one is cleared by then is noted by the caller.
+    fn clear_shared(&self, domain: &Domain<V>, desk: &mut Desk<V>, member: u32) -> Left<V>
+        requires domain { desk.old.domain ≡ domain.now.id }
+        requires ends { Ends desk.old self.now }
+        requires member { member < 2 }
+        ensures clears { Clears desk.old self.now member result desk.new }
+        ensures ends { Ends desk.new self.now }
+        ensures cleared { IsCleared desk.new self.now.block.0 member }
+        ensures bag { bag_of desk.new ≡ bag_of desk.old }
+        ensures held { desk.new.held ≡ desk.old.held }
+        ensures desk { IsSameDesk desk.old desk.new }
+        ensures stock { length (stock_of desk.new) ≡ length (stock_of desk.old) }
+        ensures endings { KeepsOtherEndings desk.old self.now.block.0 desk.new }
+        ensures count { endings_of desk.new ≡ endings_of desk.old + more_ending result }
+    {
+        let (held, value) = clear_calls::clear_shared(domain, desk, self.block, member);
+        let Some(block) = held.block else {
+            return Left::Empty;
+        };
+        match value {
+            None => Left::Others,
+            Some(value) => Left::Last(Ending::begin(block, value)),
+        }
+    }
+
+    // The weak member is emptied.
+    fn clear_up(&self, domain: &Domain<V>, desk: &mut Desk<V>) -> Left<V>
+        requires domain { desk.old.domain ≡ domain.now.id }
+        requires ends { Ends desk.old self.now }
+        ensures clears { ClearsUp desk.old self.now result desk.new }
+        ensures ends { Ends desk.new self.now }
+        ensures cleared { IsCleared desk.new self.now.block.0 2 }
+        ensures bag { bag_of desk.new ≡ bag_of desk.old }
+        ensures held { desk.new.held ≡ desk.old.held }
+        ensures desk { IsSameDesk desk.old desk.new }
+        ensures endings { KeepsOtherEndings desk.old self.now.block.0 desk.new }
+        ensures count { endings_of desk.new ≡ endings_of desk.old + more_ending result }
+    {
+        let (held, _) = clear_calls::clear_weak(domain, desk, self.block);
+        match held.block {
+            None => Left::Empty,
+            Some(_) => Left::Others,
+        }
+    }
+
+    /// A member is emptied, and what it held leaves (own): it answers what a release of that answers, and for `up` never
+    /// `Last`. It refuses nothing, at the allowance too: the desk keeps one place of its allowance free while an object ends in
+    /// its hands.
+    pub fn clear_member(
+        &mut self,
+        domain: &Domain<V>,
+        desk: &mut Desk<V>,
+        member: Member,
+    ) -> Left<V>
+        requires domain { desk.old.domain ≡ domain.now.id }
+        requires ends { Ends desk.old self.old }
+        ensures clears { IsClearing desk.old self.old member result desk.new }
+        ensures noted { self.new ≡ with_clear member self.old }
+        ensures ends { Ends desk.new self.new }
+        ensures bag { bag_of desk.new ≡ bag_of desk.old }
+        ensures held { desk.new.held ≡ desk.old.held }
+        ensures desk { IsSameDesk desk.old desk.new }
+        ensures endings { KeepsOtherEndings desk.old self.old.block.0 desk.new }
+        ensures count { endings_of desk.new ≡ endings_of desk.old + more_ending result }
+    {
+        match member {
+            Member::First => {
+                let left = self.clear_shared(domain, desk, 0);
+                self.first = true;
+                left
+            }
+            Member::Next => {
+                let left = self.clear_shared(domain, desk, 1);
+                self.next = true;
+                left
+            }
+            Member::Up => {
+                let left = self.clear_up(domain, desk);
+                self.up = true;
+                left
+            }
+        }
+    }
+}
