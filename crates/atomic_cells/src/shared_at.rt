@@ -79,7 +79,11 @@ impl SharedAt {
         ensures keeps { Keeps desk.old desk.new }
     {
         let (block, place) = handle.into_parts();
-        let new = Content { block, place };
+        let new = Content {
+            kind: Kind::Owner,
+            block,
+            place,
+        };
         let old = cell_calls::exchange::<V, Brand>(domain, desk, self.cell(), new);
         Shared::of_parts(old.block, old.place)
     }

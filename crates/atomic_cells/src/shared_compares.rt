@@ -14,6 +14,7 @@ use control_block::cell_compare_calls;
 use control_block::cell_plays::Aimed;
 use control_block::desk::Desk;
 use control_block::domain::Domain;
+use control_word::handle::Kind;
 use control_word::{Refusal, Refused};
 use shared_handle::Shared;
 use std::marker::Brand;
@@ -45,8 +46,13 @@ impl SharedAt {
         ensures keeps { OnOk result (Keeps desk.old desk.new) }
     {
         let (block, place) = desired.into_parts();
-        let new = Content { block, place };
+        let new = Content {
+            kind: Kind::Owner,
+            block,
+            place,
+        };
         let there = Content {
+            kind: Kind::Owner,
             block: expected.block(),
             place: expected.place(),
         };

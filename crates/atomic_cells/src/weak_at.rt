@@ -82,7 +82,11 @@ impl WeakAt {
         ensures keeps { Keeps desk.old desk.new }
     {
         let (block, place) = handle.into_parts();
-        let new = Content { block, place };
+        let new = Content {
+            kind: Kind::Weak,
+            block,
+            place,
+        };
         let old = cell_calls::exchange::<V, Brand>(domain, desk, self.cell(domain), new);
         handles::Weak::of_parts(old.block, old.place)
     }

@@ -14,6 +14,7 @@ use control_block::cell_plays::Aimed;
 use control_block::desk::Desk;
 use control_block::domain::Domain;
 use control_block::{cell_compare_calls, handles};
+use control_word::handle::Kind;
 use control_word::{Refusal, Refused};
 use std::marker::Brand;
 use std::sync::Wait;
@@ -44,8 +45,13 @@ impl WeakAt {
         ensures keeps { OnOk result (Keeps desk.old desk.new) }
     {
         let (block, place) = desired.into_parts();
-        let new = Content { block, place };
+        let new = Content {
+            kind: Kind::Weak,
+            block,
+            place,
+        };
         let there = Content {
+            kind: Kind::Weak,
             block: expected.block(),
             place: expected.place(),
         };

@@ -1,11 +1,12 @@
 //! Calls of a desk on free cells, for the crate above. Each makes its events, and when it returns nothing is under way: no
 //! fund is out, and no load.
+ghost use Rattle.std.specs.Coded.{Coded-set};
 ghost use Rattle.std.specs.Prelude.{◌≡◌, ◌↔◌, ◌+◌, IfErr, IfOk, IsErr, OnOk};
 ghost use Rattle.control_word.specs.declared.event.Cell.TheVariants.{Free};
 ghost use Rattle.control_word.specs.declared.event.Event.TheVariants.{Load, Swap};
 ghost use Rattle.control_block.specs.CellCalls.{Belongs, Holds, IsFreeCell, handle_in, with_handle, without_handle};
 ghost use Rattle.control_block.specs.Desks.{Adds, Keeps, allowance_of, bag_of};
-ghost use Rattle.control_block.specs.Handles.{IsProper};
+ghost use Rattle.control_block.specs.Handles.{IsProper, IsProper-prop};
 
 use crate::cell_plays::Aimed;
 use crate::cell_rounds;
@@ -23,11 +24,14 @@ pub struct FreeCell {
     pub kind: Kind,
 }
 
-/// What goes into a cell or comes out of it: a handle of the cell's kind, by its block, if it has one, and its place.
+/// What goes into a cell or comes out of it: a handle, by its kind, its block, if it has one, and its place.
 #[derive(Clone, Copy, Drop)]
 pub struct Content {
+    pub kind: Kind,
     pub block: Option<Block>,
     pub place: Option<Place>,
+    /// An empty owner may point at a place all the same: one of a block's fields. An empty weak handle points nowhere.
+    pub ghost proper: { IsProper kind block place } by { IsProper-prop kind block place (Coded-set place-code) },
 }
 
 /// A copy of what a cell holds ([util.smartptr.atomic.shared], [util.smartptr.atomic.weak]). It is refused `Limit` just
@@ -46,7 +50,7 @@ pub fn load<V: Drop + Send, A: Aimed, R: Wait>(
     ensures bag { IfOk result (λ h. bag_of desk.new ≡ with_handle cell.kind h.block h.place (bag_of desk.old)) }
     ensures held { OnOk result (desk.new.held ≡ desk.old.held + 1) }
     ensures holds { IfOk result (λ h. Holds desk.new cell.kind h.block h.place) }
-    ensures proper { IfOk result (λ h. IsProper cell.kind h.block h.place) }
+    ensures kind { IfOk result (λ h. h.kind ≡ cell.kind) }
     ensures keeps { OnOk result (Keeps desk.old desk.new) }
 {
     if desk.held == desk.allowance {
@@ -57,6 +61,7 @@ pub fn load<V: Drop + Send, A: Aimed, R: Wait>(
     let seen = cell_rounds::load::<V, A, R>(rt, board, &mut desk.seat, word, cell.kind);
     desk.held += 1;
     Ok(Content {
+        kind: cell.kind,
         block: seen.owned,
         place: seen.place,
     })
@@ -74,12 +79,12 @@ pub fn exchange<V: Drop + Send, A: Aimed>(
     requires cell { IsFreeCell desk.old.shape cell.number cell.kind × (A.cell ≡ Free cell.number) }
     requires new { A.new ≡ handle_in desk.old cell.kind new.block new.place }
     requires holds { Holds desk.old cell.kind new.block new.place }
-    requires proper { IsProper cell.kind new.block new.place }
+    requires kind { new.kind ≡ cell.kind }
     ensures event { Adds desk.old (Swap A.cell A.new (handle_in desk.new cell.kind result.block result.place)) desk.new }
     ensures bag { bag_of desk.new ≡ with_handle cell.kind result.block result.place (without_handle cell.kind new.block new.place (bag_of desk.old)) }
     ensures held { desk.new.held ≡ desk.old.held }
     ensures holds { Holds desk.new cell.kind result.block result.place }
-    ensures proper { IsProper cell.kind result.block result.place }
+    ensures kind { result.kind ≡ cell.kind }
     ensures keeps { Keeps desk.old desk.new }
 {
     let board = &domain.table.shared;
@@ -91,6 +96,7 @@ pub fn exchange<V: Drop + Send, A: Aimed>(
     };
     let old = cell_rounds::swap::<V, A>(board, &mut desk.seat, word, cell.kind, full);
     Content {
+        kind: cell.kind,
         block: old.owned,
         place: old.place,
     }

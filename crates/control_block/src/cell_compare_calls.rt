@@ -4,7 +4,6 @@ ghost use Rattle.control_word.specs.declared.event.Cell.TheVariants.{Free};
 ghost use Rattle.control_word.specs.declared.event.Event.TheVariants.{Compare};
 ghost use Rattle.control_block.specs.CellCalls.{Belongs, Holds, IsFreeCell, handle_in, with_handle, without_handle};
 ghost use Rattle.control_block.specs.Desks.{Adds, Keeps, allowance_of, bag_of};
-ghost use Rattle.control_block.specs.Handles.{IsProper};
 
 use crate::cell_calls::{Content, FreeCell};
 use crate::cell_compares;
@@ -31,14 +30,14 @@ pub fn compare<V: Drop + Send, A: Aimed, R: Wait>(
     requires expected { A.expected ≡ handle_in desk.old cell.kind expected.block expected.place }
     requires new { A.new ≡ handle_in desk.old cell.kind new.block new.place }
     requires holds { Holds desk.old cell.kind expected.block expected.place × Holds desk.old cell.kind new.block new.place }
-    requires proper { IsProper cell.kind expected.block expected.place × IsProper cell.kind new.block new.place }
+    requires kind { (expected.kind ≡ cell.kind) × (new.kind ≡ cell.kind) }
     ensures limit { IsErr result ↔ (desk.old.held ≡ allowance_of desk.old) }
     ensures refused { IfErr result (λ why. (why ≡ Refusal.Limit) × (desk.new ≡ desk.old)) }
     ensures event { IfOk result (λ r. Adds desk.old (Compare A.cell A.expected A.new (handle_in desk.new cell.kind r.1.block r.1.place) r.0 A.weak) desk.new) }
     ensures bag { IfOk result (λ r. bag_of desk.new ≡ with_handle cell.kind r.1.block r.1.place (cond r.0 (without_handle cell.kind new.block new.place (bag_of desk.old)) (bag_of desk.old))) }
     ensures held { IfOk result (λ r. desk.new.held ≡ desk.old.held + cond r.0 0 1) }
     ensures holds { IfOk result (λ r. Holds desk.new cell.kind r.1.block r.1.place) }
-    ensures proper { IfOk result (λ r. IsProper cell.kind r.1.block r.1.place) }
+    ensures kind { IfOk result (λ r. r.1.kind ≡ cell.kind) }
     ensures keeps { OnOk result (Keeps desk.old desk.new) }
 {
     if desk.held == desk.allowance {
@@ -64,6 +63,7 @@ pub fn compare<V: Drop + Send, A: Aimed, R: Wait>(
     Ok((
         swapped,
         Content {
+            kind: cell.kind,
             block: seen.owned,
             place: seen.place,
         },

@@ -1,7 +1,6 @@
 -- Going past idle tasks changes nothing that a thread means.
 use Rattle.std.proofs.Common.{◌≡◌, ℕ, ◌+◌, ◌-◌, ◌<◌, ◌≤◌, Bool, true, false, cond, List, ◌∷◌, length, set, drop, sym, ap, subst, ◌∙◌, arith, length-set}
 use Rattle.std.proofs.Common.{get_or-set_same}
-use Rattle.std.specs.Prelude.{None}
 use Rattle.std.proofs.lemmas.Bool.{cond-true, cond-false, false≢true}
 use Rattle.std.proofs.lemmas.List.{drop_more}
 use Rattle.step_core.specs.declared.act.Act.{Act}
@@ -10,7 +9,7 @@ use Rattle.step_core.specs.declared.act.Task.{Task}
 use Rattle.step_core.specs.declared.course.Course.{Course}
 use Rattle.step_core.specs.Courses.{Begins, CourseReady, IsPassed, IsReady, Ready, hand, idle, no_task, placed, settled, slots_idle, taken_after}
 use Rattle.step_core.specs.Courses.{taken_idle, task_at, todo}
-use Rattle.step_core.specs.Holdings.{Slots, slot}
+use Rattle.step_core.specs.Holdings.{Slots, plain, value}
 
 pub todo_at : (c : Course) → c.at < length c.tasks.items → todo c ≡ task_at c ∷ drop (c.at + 1) c.tasks.items
 todo_at c lt = drop_more c.tasks.items c.at no_task lt
@@ -35,11 +34,11 @@ passed_same a b lt e p =
     cc
 
 placed_length : (k : ℕ) (slots : Slots) → length (placed k slots) ≡ length slots
-placed_length k slots = length-set (set slots k (slot slots (hand slots))) (hand slots) None ∙ length-set slots k (slot slots (hand slots))
+placed_length k slots = length-set (set slots k (value slots (hand slots))) (hand slots) plain ∙ length-set slots k (value slots (hand slots))
 
-placed_hand : (k : ℕ) (slots : Slots) → 0 < length slots → slot (placed k slots) (hand slots) ≡ None
+placed_hand : (k : ℕ) (slots : Slots) → 0 < length slots → value (placed k slots) (hand slots) ≡ plain
 placed_hand k slots lt =
-    get_or-set_same (set slots k (slot slots (hand slots))) (hand slots) None None (let e = length-set slots k (slot slots
+    get_or-set_same (set slots k (value slots (hand slots))) (hand slots) plain plain (let e = length-set slots k (value slots
     (hand slots)) in omega (arith, e))
 
 placed_ready : (k : ℕ) (slots : Slots) (ts : List Task) → 0 < length slots → Ready (hand slots) false ts → IsReady (placed k slots) false ts
@@ -48,18 +47,18 @@ placed_ready k slots ts lt r =
     let h : hand (placed k slots) ≡ hand slots = ap (λ (n : ℕ). n - 1) e in
     record {
       some = omega (arith, e);
-      free = λ t. ap (λ (n : ℕ). slot (placed k slots) n) h ∙ placed_hand k slots lt;
+      free = λ t. ap (λ (n : ℕ). value (placed k slots) n) h ∙ placed_hand k slots lt;
       ready = subst (λ (n : ℕ). Ready n false ts) (sym h) r;
     }
 
-put_ready : (k : ℕ) (slots : Slots) (taken : Bool) (ts : List Task) → 0 < length slots → (taken ≡ false → slot slots (hand slots) ≡ None)
+put_ready : (k : ℕ) (slots : Slots) (taken : Bool) (ts : List Task) → 0 < length slots → (taken ≡ false → value slots (hand slots) ≡ plain)
     → Ready (hand slots) false ts
     → IsReady (cond taken (placed k slots) slots) false ts
 put_ready k slots true ts lt free r = placed_ready k slots ts lt r
 put_ready k slots false ts lt free r = record { some = lt; free = free; ready = r }
 
 ready_past : (act : Act) (slots : Slots) (taken : Bool) (ts : List Task) → idle act slots taken ≡ true → 0 < length slots → (taken ≡ false
-    → slot slots (hand slots) ≡ None)
+    → value slots (hand slots) ≡ plain)
     → Ready (hand slots) (taken_after act taken) ts → IsReady (slots_idle act slots taken) (taken_idle act taken) ts
 ready_past (Make form) slots taken ts i lt free r = absurd (false≢true i)
 ready_past (Share k) slots taken ts i lt free r = absurd (false≢true i)

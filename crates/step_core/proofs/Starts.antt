@@ -1,7 +1,7 @@
 -- A thread at its start fits the table.
 use Rattle.std.proofs.Common.{◌≡◌, ℕ, zero, suc, ◌+◌, ◌<◌, ◌≤◌, Bool, false, List, [], ◌∷◌, ◌++◌, length}
 use Rattle.std.proofs.Common.{get_or, replicate, refl, sym, ap, subst, ◌∙◌, arith}
-use Rattle.std.specs.Prelude.{All, Option, None, Some, slice_get}
+use Rattle.std.specs.Prelude.{All, Some, slice_get}
 use Rattle.std.proofs.lemmas.List.{length-replicate}
 use Rattle.std.proofs.lemmas.List.Elements.{All-head, All-tail}
 use Rattle.control_word.specs.declared.handle.Handle.{Handle}
@@ -15,30 +15,30 @@ use Rattle.step_core.specs.declared.call.Kind.TheVariants.{Owner}
 use Rattle.step_core.specs.declared.call.Kind.TheVariants as kind
 use Rattle.step_core.specs.declared.call.Name.{Name}
 use Rattle.step_core.specs.declared.extent.Extent.{Extent}
-use Rattle.step_core.specs.declared.holdings.Pointer.{Pointer}
+use Rattle.step_core.specs.declared.slot.Slot.{Slot}
 use Rattle.step_core.specs.Acts.{acts, clearing, numbered, tasks_from}
 use Rattle.step_core.specs.Courses.{IsReady, Ready, hand}
-use Rattle.step_core.specs.Holdings.{Holds, IsSlot, Slots, full, owns, slot}
+use Rattle.step_core.specs.Holdings.{Holds, IsSlot, Slots, full, owns, plain, value}
 use Rattle.step_core.specs.Programs.{IsDeclared, IsPart, IsWellNamed, Part, names_of}
 use Rattle.step_core.specs.Starts.{HasFields, first_story}
 use Rattle.step_core.specs.Stories.{Nothing, Story, pending}
 use Rattle.step_core.proofs.tables.Start.{fresh_at}
 
 -- empty slots
-slot_none : (n i : ℕ) → slot (replicate n None) i ≡ None
+slot_none : (n i : ℕ) → value (replicate n plain) i ≡ plain
 slot_none zero i = refl
 slot_none (suc n) zero = refl
 slot_none (suc n) (suc i) = slot_none n i
 
-none_owned : (v : Story) (h : Handle) (n : ℕ) → owns v (replicate n None) h ≡ 0
+none_owned : (v : Story) (h : Handle) (n : ℕ) → owns v (replicate n plain) h ≡ 0
 none_owned v h zero = refl
 none_owned v h (suc n) = none_owned v h n
 
-none_full : (n : ℕ) → full (replicate n None) ≡ 0
+none_full : (n : ℕ) → full (replicate n plain) ≡ 0
 none_full zero = refl
 none_full (suc n) = none_full n
 
-pub holds_start : (d n : ℕ) (x : Extent) → Holds d (replicate n None) (first_story x)
+pub holds_start : (d n : ℕ) (x : Extent) → Holds d (replicate n plain) (first_story x)
 holds_start d n x =
     record {
       owned = λ h. sym (none_owned (first_story x) h n);
@@ -103,14 +103,14 @@ tasks_ready kinds k (c ∷ cs) named four =
     (tasks_ready kinds (k + 1) cs (All-tail (IsWellNamed kinds) c cs named) (All-tail HasFields c cs four))
 
 pub ready_start : (part : Part) (tasks : List Task) (slots : Slots) → IsPart part → All HasFields part.calls
-    → tasks ≡ tasks_from 1 part.calls (length part.kinds) → slots ≡ replicate (length part.kinds + 1) None → IsReady slots false tasks
+    → tasks ≡ tasks_from 1 part.calls (length part.kinds) → slots ≡ replicate (length part.kinds + 1) plain → IsReady slots false tasks
 ready_start part tasks slots fine four is empty =
-    let l = length-replicate {A = Option Pointer} (length part.kinds + 1) None in
+    let l = length-replicate {A = Slot} (length part.kinds + 1) plain in
     let s : length slots ≡ length part.kinds + 1 = ap (λ (z : Slots). length z) empty ∙ l in
     let h : hand slots ≡ length part.kinds = omega (arith, s) in
     record {
       some = omega (arith, s);
-      free = λ t. ap (λ (z : Slots). slot z (hand slots)) empty ∙ slot_none (length part.kinds + 1) (hand slots);
+      free = λ t. ap (λ (z : Slots). value z (hand slots)) empty ∙ slot_none (length part.kinds + 1) (hand slots);
       ready = subst (λ (n : ℕ). Ready n false tasks) (sym h) (subst (λ (z : List Task). Ready (length part.kinds) false z) (sym is)
           (tasks_ready part.kinds 1 part.calls fine.named four));
     }

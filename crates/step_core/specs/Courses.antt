@@ -5,7 +5,7 @@ use Rattle.step_core.specs.declared.act.Form.{Form}
 use Rattle.step_core.specs.declared.act.Act.TheVariants.{Make, Share, Downgrade, Lock, Put, Leave, Clear, Count, Expired}
 use Rattle.step_core.specs.declared.act.Task.{Task}
 use Rattle.step_core.specs.declared.course.Course.{Course}
-use Rattle.step_core.specs.Holdings.{Holds, Slots, is_full, slot, weak_slot}
+use Rattle.step_core.specs.Holdings.{Holds, Slots, is_full, plain, slot, value, weak_slot}
 use Rattle.control_word.specs.declared.view.Pending.TheVariants.{Idle}
 use Rattle.step_core.specs.declared.holdings.Pointer.{Pointer}
 use Rattle.step_core.specs.declared.past.Deed.{Deed}
@@ -36,7 +36,7 @@ idle _ slots taken = false
 
 -- the value in hand is in slot k
 abbrev pub placed : ℕ → Slots → Slots
-placed k slots = slice_set (slice_set slots k (slot slots (hand slots))) (hand slots) None
+placed k slots = slice_set (slice_set slots k (value slots (hand slots))) (hand slots) plain
 
 -- what a task leaves that is idle
 abbrev pub slots_idle : Act → Slots → Bool → Slots
@@ -85,7 +85,7 @@ Ready n taken (t ∷ ts) = Begins n taken t.act × Ready n (taken_after t.act ta
 -- what a thread relies on
 pub record IsReady (slots : Slots) (taken : Bool) (todo : List Task) : Type 0 where
   pub some : 0 < length slots
-  pub free : taken ≡ false → slot slots (hand slots) ≡ None
+  pub free : taken ≡ false → value slots (hand slots) ≡ plain
   pub ready : Ready (hand slots) taken todo
 
 abbrev pub no_task : Task

@@ -22,9 +22,10 @@ use Rattle.step_core.specs.declared.said.Answer.TheVariants as answer
 use Rattle.step_core.specs.declared.said.Ended.{Ended}
 use Rattle.step_core.specs.declared.said.Ended.TheVariants as ended
 use Rattle.step_core.specs.declared.said.Said.{Said}
+use Rattle.step_core.specs.declared.slot.Slot.TheVariants.{Full}
 use Rattle.step_core.specs.Courses.{Walk, hand, locked, placed, settled}
 use Rattle.step_core.specs.Deeds.{as_weak, is_expired, is_last, owned, owner_left}
-use Rattle.step_core.specs.Holdings.{Slots, is_full, slot}
+use Rattle.step_core.specs.Holdings.{Slots, filled, is_full, plain, slot, value}
 use Rattle.step_core.specs.Openings.{opening}
 use Rattle.step_core.specs.Stories.{Nothing}
 
@@ -114,7 +115,7 @@ acted z d slots h (Expired k) = on (expires z d h) h (slot slots k)
 -- a new object's owner is in hand, or the rest of the statement is passed over
 abbrev pub holding : Slots → List Task → Bool → Option ℕ → Walk
 holding slots rest null None = settled slots false rest
-holding slots rest null (Some b) = settled (slice_set slots (hand slots) (Some (record { kind = Owner; block = record { 0 = b }; place = origin b null }))) true rest
+holding slots rest null (Some b) = settled (slice_set slots (hand slots) (Full (record { kind = Owner; block = record { 0 = b }; place = origin b null }))) true rest
 
 -- what a lock finds: an owner, where there is a weak pointer and an owner is left
 abbrev pub found : State → Option Pointer → Option Pointer
@@ -123,17 +124,17 @@ found s x = on (owner_left s) None x
 -- what was found is in hand; where nothing was and it must be, the rest of the statement is passed over
 abbrev pub taking : Slots → Bool → List Task → Option Pointer → Walk
 taking slots must rest None = settled slots (not must) rest
-taking slots must rest (Some x) = settled (slice_set slots (hand slots) (Some x)) true rest
+taking slots must rest (Some x) = settled (slice_set slots (hand slots) (Full x)) true rest
 
 -- where the thread is after it
 abbrev pub went : State → ℕ → Slots → Bool → List Task → Act → Walk
 went s d slots taken rest (Make form) = holding slots rest form.null (least d s.stores)
-went s d slots taken rest (Share k) = settled (slice_set slots (hand slots) (slot slots k)) true rest
-went s d slots taken rest (Put k) = settled (placed k (slice_set slots k None)) false rest
-went s d slots taken rest (Leave k) = settled (slice_set slots k None) taken rest
-went s d slots taken rest (Clear k) = settled (slice_set slots k None) taken rest
+went s d slots taken rest (Share k) = settled (slice_set slots (hand slots) (value slots k)) true rest
+went s d slots taken rest (Put k) = settled (placed k (slice_set slots k plain)) false rest
+went s d slots taken rest (Leave k) = settled (slice_set slots k plain) taken rest
+went s d slots taken rest (Clear k) = settled (slice_set slots k plain) taken rest
 went s d slots taken rest (Count k) = settled slots taken rest
-went s d slots taken rest (Downgrade k) = settled (slice_set slots (hand slots) (option_map as_weak (slot slots k))) true rest
+went s d slots taken rest (Downgrade k) = settled (slice_set slots (hand slots) (filled (option_map as_weak (slot slots k)))) true rest
 went s d slots taken rest (Lock k must) = taking slots must rest (found s (locked slots (Lock k must)))
 went s d slots taken rest (Expired k) = settled slots taken rest
 

@@ -1,5 +1,5 @@
 -- How a world begins. All of it is own.
-use Rattle.std.specs.Prelude.{◌≡◌, ℕ, ◌+◌, ◌*◌, ◌≤◌, false, List, [], All, length, map, replicate, None}
+use Rattle.std.specs.Prelude.{◌≡◌, ℕ, ◌+◌, ◌*◌, ◌≤◌, false, List, [], All, length, map, replicate}
 use Rattle.control_word.specs.declared.shape.Shape.{Shape}
 use Rattle.control_word.specs.Layout.{IsWithinLimits, table_size}
 use Rattle.control_word.specs.Views.{fresh}
@@ -10,7 +10,7 @@ use Rattle.step_core.specs.declared.half.Half.{Half}
 use Rattle.step_core.specs.declared.half.Half.TheVariants.{Rest}
 use Rattle.step_core.specs.Acts.{tasks_from}
 use Rattle.step_core.specs.Courses.{Walk, settled}
-use Rattle.step_core.specs.Holdings.{Slots}
+use Rattle.step_core.specs.Holdings.{Slots, plain}
 use Rattle.step_core.specs.Programs.{IsProgram, Part}
 use Rattle.step_core.specs.Worlds.{Sight}
 use Rattle.step_core.specs.Stories.{Story}
@@ -26,7 +26,7 @@ extent_of shape parts = record { shape = shape; actors = length parts }
 
 -- n names and the hand, all empty
 abbrev pub no_slots : ℕ → Slots
-no_slots n = replicate (n + 1) None
+no_slots n = replicate (n + 1) plain
 
 -- a thread that holds nothing, at the first act of its calls
 abbrev pub first_walk : Part → Walk

@@ -4,9 +4,10 @@ ghost use Rattle.control_word.specs.State.{count};
 ghost use Rattle.control_word.specs.declared.handle.Kind.TheVariants.{Owner};
 ghost use Rattle.control_word.specs.Words.{flags_of};
 ghost use Rattle.step_core.specs.Deeds.{as_weak, downgrade, is_expired, is_last, leave, owned, share, tell, tell_expired};
-ghost use Rattle.step_core.specs.Holdings.{Holds, is_full, slot};
+ghost use Rattle.step_core.specs.Holdings.{Holds, filled, is_full, plain, slot, value};
 ghost use Rattle.step_core.specs.Stories.{IsMaking, Plain, Story, after, known, object_in, pending, state};
 ghost use Rattle.step_core.specs.declared.holdings.Pointer.{Pointer};
+ghost use Rattle.step_core.specs.declared.slot.Slot.TheVariants.{Full};
 ghost use Rattle.control_word.specs.Events.{origin};
 ghost use Rattle.control_word.specs.Layout.{spot};
 ghost use Rattle.control_word.specs.Views.{owed};
@@ -115,7 +116,7 @@ impl Course {
         requires act { (task_at self.old).act ≡ Act.Share name }
         ensures event { result ≡ is_full (slot self.old.holdings.slots.items name) }
         ensures table { table.new ≡ done_on share table.old desk (slot self.old.holdings.slots.items name) }
-        ensures walk { walk self.new ≡ settled (slice_set self.old.holdings.slots.items (hand self.old.holdings.slots.items) (slot self.old.holdings.slots.items name)) true (rest self.old) }
+        ensures walk { walk self.new ≡ settled (slice_set self.old.holdings.slots.items (hand self.old.holdings.slots.items) (value self.old.holdings.slots.items name)) true (rest self.old) }
         ensures on { HasGoneOn desk self.old self.new table.new }
     {
         let from = usize::from(name);
@@ -123,6 +124,8 @@ impl Course {
         self.taken = true;
         match self.holdings.get(from) {
             None => {
+                let place = self.holdings.place(from);
+                self.holdings.set_empty(hand, place);
                 self.go_on();
                 false
             }
@@ -141,7 +144,7 @@ impl Course {
         ensures event { result ≡ is_full (slot self.old.holdings.slots.items name) }
         ensures table { table.new ≡ done_on downgrade table.old desk (slot self.old.holdings.slots.items name) }
         ensures walk { walk self.new
-            ≡ settled (slice_set self.old.holdings.slots.items (hand self.old.holdings.slots.items) (option_map as_weak (slot self.old.holdings.slots.items name))) true (rest self.old) }
+            ≡ settled (slice_set self.old.holdings.slots.items (hand self.old.holdings.slots.items) (filled (option_map as_weak (slot self.old.holdings.slots.items name)))) true (rest self.old) }
         ensures on { HasGoneOn desk self.old self.new table.new }
     {
         let from = usize::from(name);
@@ -166,12 +169,13 @@ impl Course {
         requires act { ((task_at self.old).act ≡ Act.Leave name) ⊎ ((task_at self.old).act ≡ Act.Clear name) }
         ensures last { result ≡ on (is_last (state table.old)) false (slot self.old.holdings.slots.items name) }
         ensures table { table.new ≡ done_on (leave (state table.old)) table.old desk (slot self.old.holdings.slots.items name) }
-        ensures walk { walk self.new ≡ settled (slice_set self.old.holdings.slots.items name None) self.old.taken (rest self.old) }
+        ensures walk { walk self.new ≡ settled (slice_set self.old.holdings.slots.items name plain) self.old.taken (rest self.old) }
         ensures on { HasGoneOn desk self.old self.new table.new }
     {
         let from = usize::from(name);
         match self.holdings.get(from) {
             None => {
+                self.holdings.set_empty(from, None);
                 self.go_on();
                 false
             }
@@ -190,7 +194,7 @@ impl Course {
         ensures full { is_full (slot self.old.holdings.slots.items name) ≡ true }
         ensures last { result ≡ on (is_last (state table.old)) false (slot self.old.holdings.slots.items name) }
         ensures table { table.new ≡ done_on (leave (state table.old)) table.old desk (slot self.old.holdings.slots.items name) }
-        ensures walk { walk self.new ≡ settled (placed name (slice_set self.old.holdings.slots.items name None)) false (rest self.old) }
+        ensures walk { walk self.new ≡ settled (placed name (slice_set self.old.holdings.slots.items name plain)) false (rest self.old) }
         ensures on { HasGoneOn desk self.old self.new table.new }
     {
         let to = usize::from(name);
@@ -265,7 +269,7 @@ impl Course {
         requires act { (task_at self.old).act ≡ Act.Make form }
         ensures table { table.new ≡ after table.old desk (Deed.Claim block form.enabled form.null form.fields) }
         ensures walk { walk self.new
-            ≡ settled (slice_set self.old.holdings.slots.items (hand self.old.holdings.slots.items) (Some (record { kind = Owner; block = block; place = origin block.0 form.null }))) true (rest self.old) }
+            ≡ settled (slice_set self.old.holdings.slots.items (hand self.old.holdings.slots.items) (Full (record { kind = Owner; block = block; place = origin block.0 form.null }))) true (rest self.old) }
         ensures on { HasGoneOn desk self.old self.new table.new }
     {
         let hand = self.holdings.hand();

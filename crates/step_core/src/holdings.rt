@@ -1,18 +1,19 @@
 //! What an actor holds.
 ghost use Rattle.std.specs.Prelude.{◌≡◌, ◌≢◌, ◌+◌, ◌<◌, ◌≤◌, IfOk, replicate, ◌-◌, ◌==◌, ℕ, false, cond, ◌∷◌, length, get_or, slice_set, Some, None};
 ghost use Rattle.control_word.specs.declared.handle.Kind.TheVariants.{Owner};
-ghost use Rattle.control_word.specs.Events.{origin};
+ghost use Rattle.control_word.specs.Handles.{IsPointer};
 ghost use Rattle.control_word.specs.State.{count};
 ghost use Rattle.control_word.specs.Views.{owed};
 ghost use Rattle.control_word.specs.Layout.{spot};
 ghost use Rattle.control_word.specs.declared.view.Pending.TheVariants.{Idle};
 ghost use Rattle.control_word.specs.Words.{flags_of};
 ghost use Rattle.step_core.specs.Deeds.{as_owner, as_weak, downgrade, is_expired, is_last, leave, lock, owned, owner_word, share, tell, tell_expired};
-ghost use Rattle.step_core.specs.Holdings.{Holds, is_full, slot, weak_as, weak_slot};
+ghost use Rattle.step_core.specs.Holdings.{Holds, is_full, place_in, plain, slot, value, weak_as, weak_slot};
+ghost use Rattle.step_core.specs.declared.slot.Slot.TheVariants.{Empty, Full};
 ghost use Rattle.step_core.specs.Stories.{IsMaking, Plain, Story, after, known, object_in, pending, state};
 
-use crate::act::Form;
 use crate::past::Deed;
+use crate::slot::Slot;
 use crate::table::Table;
 use control_word::handle::Kind;
 use control_word::place::{Block, Place};
@@ -29,7 +30,7 @@ pub struct Pointer {
 /// The values of an actor's names, and last the value that it has in hand between two acts.
 #[derive(Drop)]
 pub struct Holdings {
-    slots: Vec<Option<Pointer>>,
+    pub(crate) slots: Vec<Slot>,
     ghost few: { length slots.items < 34 },
 }
 
@@ -37,9 +38,9 @@ impl Holdings {
     /// So many names, of which none holds anything, and an empty hand.
     pub(crate) fn new(alloc: Global, names: u8) -> Result<Holdings, AllocError>
         requires { names ≤ 32 }
-        ensures { IfOk result (λ h. h.slots.items ≡ replicate (names + 1) None) }
+        ensures { IfOk result (λ h. h.slots.items ≡ replicate (names + 1) plain) }
     {
-        let slots = vec![in alloc; None; usize::from(names) + 1]?;
+        let slots = vec![in alloc; Slot::Empty { place: None }; usize::from(names) + 1]?;
         Ok(Holdings { slots })
     }
 
@@ -48,7 +49,15 @@ impl Holdings {
         requires { at < length self.now.slots.items }
         ensures { result ≡ slot self.now.slots.items at }
     {
-        self.slots[at]
+        self.slots[at].pointer()
+    }
+
+    /// The place that a slot stores.
+    pub(crate) fn place(&self, at: usize) -> Option<Place>
+        requires { at < length self.now.slots.items }
+        ensures { result ≡ place_in self.now.slots.items at }
+    {
+        self.slots[at].place()
     }
 
     /// Whether a slot holds something.
@@ -72,62 +81,10 @@ impl Holdings {
         requires { at < length self.now.slots.items }
         ensures { result ≡ weak_slot (slot self.now.slots.items at) }
     {
-        match self.slots[at] {
+        match self.get(at) {
             Some(pointer) => weak(pointer),
             None => None,
         }
-    }
-
-    /// Copies the pointer of one slot into another, which is empty.
-    pub(crate) fn share(
-        &mut self,
-        desk: usize,
-        table: &mut Table,
-        from: usize,
-        to: usize,
-        pointer: Pointer,
-    )
-        requires seat { desk < table.old.extent.actors }
-        requires idle { pending table.old desk ≡ Idle }
-        requires holds { Holds desk self.old.slots.items table.old }
-        requires from { slot self.old.slots.items from ≡ Some pointer }
-        requires inside { to < length self.old.slots.items }
-        requires empty { slot self.old.slots.items to ≡ None }
-        ensures slots { self.new.slots.items ≡ slice_set self.old.slots.items to (Some pointer) }
-        ensures table { table.new ≡ after table.old desk (share pointer) }
-        ensures holds { Holds desk self.new.slots.items table.new }
-    {
-        table.known();
-        table.copy_pointer(desk, pointer);
-        self.slots[to] = Some(pointer);
-    }
-
-    /// Puts a weak pointer to the object of one slot into another, which is empty.
-    pub(crate) fn downgrade(
-        &mut self,
-        desk: usize,
-        table: &mut Table,
-        from: usize,
-        to: usize,
-        pointer: Pointer,
-    )
-        requires seat { desk < table.old.extent.actors }
-        requires idle { pending table.old desk ≡ Idle }
-        requires holds { Holds desk self.old.slots.items table.old }
-        requires from { slot self.old.slots.items from ≡ Some pointer }
-        requires inside { to < length self.old.slots.items }
-        requires empty { slot self.old.slots.items to ≡ None }
-        ensures slots { self.new.slots.items ≡ slice_set self.old.slots.items to (Some (as_weak pointer)) }
-        ensures table { table.new ≡ after table.old desk (downgrade pointer) }
-        ensures holds { Holds desk self.new.slots.items table.new }
-    {
-        table.known();
-        table.weak_share(desk, pointer);
-        self.slots[to] = Some(Pointer {
-            kind: Kind::Weak,
-            block: pointer.block,
-            place: pointer.place,
-        });
     }
 
     /// Leaves what a slot holds. Answers whether that was the last, as `Table::leave_pointer` says.
@@ -143,14 +100,14 @@ impl Holdings {
         requires holds { Holds desk self.old.slots.items table.old }
         requires inside { from < length self.old.slots.items }
         requires from { slot self.old.slots.items from ≡ Some pointer }
-        ensures slots { self.new.slots.items ≡ slice_set self.old.slots.items from None }
+        ensures slots { self.new.slots.items ≡ slice_set self.old.slots.items from plain }
         ensures last { result ≡ is_last (state table.old) pointer }
         ensures table { table.new ≡ after table.old desk (leave (state table.old) pointer) }
         ensures holds { Holds desk self.new.slots.items table.new }
     {
         table.known();
         let last = table.leave_pointer(desk, pointer);
-        self.slots[from] = None;
+        self.slots[from] = Slot::Empty { place: None };
         last
     }
 
@@ -210,70 +167,15 @@ impl Holdings {
         table.look_lock(desk, pointer.block, pointer.place)
     }
 
-    /// Tries a lock of a weak pointer in one slot, as `Table::try_lock` says: the owner comes into another slot, which is
-    /// empty.
-    pub(crate) fn try_lock(
-        &mut self,
-        desk: usize,
-        table: &mut Table,
-        from: usize,
-        to: usize,
-        pointer: Pointer,
-        found: u64,
-    ) -> u64
-        requires seat { desk < table.old.extent.actors }
-        requires idle { pending table.old desk ≡ Idle }
-        requires holds { Holds desk self.old.slots.items table.old }
-        requires from { weak_slot (slot self.old.slots.items from) ≡ Some pointer }
-        requires inside { to < length self.old.slots.items }
-        requires empty { slot self.old.slots.items to ≡ None }
-        requires some { 0 < found }
-        ensures word { result ≡ owner_word table.old pointer }
-        ensures left { (result == 0) ≡ is_expired (state table.old) pointer }
-        ensures slots { self.new.slots.items ≡ cond (result == found) (slice_set self.old.slots.items to (Some (as_owner pointer))) self.old.slots.items }
-        ensures table { table.new ≡ cond (result == found) (after table.old desk (lock (state table.old) pointer)) table.old }
-        ensures holds { Holds desk self.new.slots.items table.new }
+    /// A slot that has no object becomes empty, with this place.
+    pub(crate) fn set_empty(&mut self, at: usize, place: Option<Place>)
+        requires inside { at < length self.old.slots.items }
+        requires place { IsPointer place }
+        requires empty { slot self.old.slots.items at ≡ None }
+        ensures slots { self.new.slots.items ≡ slice_set self.old.slots.items at (Empty place) }
+        ensures holds { (d : ℕ) (v : Story) → Holds d self.old.slots.items v → Holds d self.new.slots.items v }
     {
-        table.known();
-        let now = table.try_lock(desk, pointer.block, pointer.place, found);
-        if now != found {
-            return now;
-        }
-        self.slots[to] = Some(Pointer {
-            kind: Kind::Owner,
-            block: pointer.block,
-            place: pointer.place,
-        });
-        now
-    }
-
-    /// The object is made: its first owner comes into an empty slot.
-    pub(crate) fn claim(
-        &mut self,
-        desk: usize,
-        table: &mut Table,
-        to: usize,
-        block: Block,
-        form: Form,
-    )
-        requires seat { desk < table.old.extent.actors }
-        requires making { IsMaking table.old desk block }
-        requires known { known (pending table.old desk) ≡ flags_of form.enabled form.null ∷ form.fields }
-        requires holds { Holds desk self.old.slots.items table.old }
-        requires inside { to < length self.old.slots.items }
-        requires empty { slot self.old.slots.items to ≡ None }
-        ensures slots { self.new.slots.items ≡ slice_set self.old.slots.items to (Some (record { kind = Owner; block = block; place = origin block.0 form.null })) }
-        ensures table { table.new ≡ after table.old desk (Deed.Claim block form.enabled form.null form.fields) }
-        ensures holds { Holds desk self.new.slots.items table.new }
-    {
-        table.known();
-        table.claim(desk, block, form.enabled, form.null, form.fields);
-        let place = origin(block, form.null);
-        self.slots[to] = Some(Pointer {
-            kind: Kind::Owner,
-            block,
-            place,
-        });
+        self.slots[at] = Slot::Empty { place };
     }
 
     /// The value in one slot goes to another, which is empty.
@@ -282,11 +184,11 @@ impl Holdings {
         requires inside { to < length self.old.slots.items }
         requires apart { from ≢ to }
         requires empty { slot self.old.slots.items to ≡ None }
-        ensures slots { self.new.slots.items ≡ slice_set (slice_set self.old.slots.items to (slot self.old.slots.items from)) from None }
+        ensures slots { self.new.slots.items ≡ slice_set (slice_set self.old.slots.items to (value self.old.slots.items from)) from plain }
         ensures holds { (d : ℕ) (v : Story) → Holds d self.old.slots.items v → Holds d self.new.slots.items v }
     {
         self.slots[to] = self.slots[from];
-        self.slots[from] = None;
+        self.slots[from] = Slot::Empty { place: None };
     }
 }
 
@@ -297,16 +199,5 @@ fn weak(pointer: Pointer) -> Option<Pointer>
     match pointer.kind {
         Kind::Owner => None,
         Kind::Weak => Some(pointer),
-    }
-}
-
-/// Where a new object's owner points: at the object, or nowhere where the owned pointer is null.
-fn origin(block: Block, null: bool) -> Option<Place>
-    ensures { result ≡ origin block.0 null }
-{
-    if null {
-        None
-    } else {
-        Some(Place { block, field: 0 })
     }
 }

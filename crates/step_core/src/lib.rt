@@ -22,10 +22,12 @@ mod pointer;
 mod run_tests;
 mod running;
 mod said;
+mod slot;
 #[cfg(test)]
 mod step_tests;
 mod stock;
 mod table;
+mod taking;
 #[cfg(test)]
 mod tests;
 mod thread;

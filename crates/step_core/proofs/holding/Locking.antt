@@ -1,8 +1,9 @@
 -- What a lock does to a desk's bag and to its slots.
-use Rattle.std.proofs.Common.{◌≡◌, ℕ, ◌<◌, ◌==◌, Bool, true, false, cond, not, length, set, Some, None, refl, sym, ap, subst, ◌∙◌, arith, ne_eqb}
+use Rattle.std.proofs.Common.{◌≡◌, ℕ, ◌<◌, ◌==◌, Bool, true, false, cond, not, length, set, None, refl, sym, ap, subst, ◌∙◌, arith, ne_eqb}
 use Rattle.std.proofs.lemmas.Bool.{eqb-true}
 use Rattle.control_word.specs.Handles.{IsPointer}
 use Rattle.step_core.specs.declared.holdings.Pointer.{Pointer}
+use Rattle.step_core.specs.declared.slot.Slot.TheVariants.{Full}
 use Rattle.step_core.specs.declared.past.Deed.TheVariants.{Lock}
 use Rattle.step_core.specs.Deeds.{as_owner}
 use Rattle.step_core.specs.Holdings.{Holds, Slots, slot}
@@ -34,5 +35,5 @@ tried v d x now found e some is = go (now == found) refl
     go false q = refl
 
 pub holds_tried : (d : ℕ) (slots : Slots) (v : Story) (i : ℕ) (x : Pointer) → Holds d slots v → IsPointer x.place → i < length slots → slot slots i ≡ None
-    → Holds d (set slots i (Some (as_owner x))) (after v d (Lock x.block x.place true))
+    → Holds d (set slots i (Full (as_owner x))) (after v d (Lock x.block x.place true))
 holds_tried d slots v i x holds fine lt e = holds_more d slots v (after v d (Lock x.block x.place true)) i (as_owner x) holds refl refl fine lt e

@@ -7,6 +7,7 @@ use Rattle.control_word.proofs.lists.Tallies.{handle_self, held_self, held_true,
 use Rattle.control_word.proofs.words.Counting.{bag_one}
 use Rattle.control_word.specs.declared.handle.Handle.{Handle}
 use Rattle.control_word.specs.declared.place.Block.{Block}
+use Rattle.control_word.specs.declared.place.Place.{Place}
 use Rattle.control_word.proofs.history.Legal.{sound}
 use Rattle.control_word.proofs.lists.Tallies.{put_other, put_same}
 use Rattle.control_word.specs.Events.{origin}
@@ -16,13 +17,15 @@ use Rattle.control_word.specs.Handles.{IsPointer, handle, owner, same_handle}
 use Rattle.control_word.specs.State.{Has, Held, InShape, Opening, bag_size, held, same_held, stored, without}
 use Rattle.step_core.specs.declared.act.Form.{Form}
 use Rattle.step_core.specs.declared.holdings.Pointer.{Pointer}
+use Rattle.step_core.specs.declared.slot.Slot.{Slot}
+use Rattle.step_core.specs.declared.slot.Slot.TheVariants.{Empty, Full}
 use Rattle.step_core.specs.declared.past.Deed.TheVariants.{Claim}
 use Rattle.step_core.specs.Deeds.{leave_as, share, share_as}
-use Rattle.step_core.specs.Holdings.{Holds, IsSlot, Slots, is_full, is_it, owns, slot, times, weak_as, weak_slot}
+use Rattle.step_core.specs.Holdings.{Holds, IsSlot, Slots, has_object, is_it, owns, plain, pointer_of, slot, times, value, weak_as, weak_slot}
 use Rattle.step_core.specs.Openings.{opening}
 use Rattle.step_core.specs.Stories.{Story, Kept, after, handle_in, object_in, state, weak_in}
 use Rattle.step_core.proofs.tables.Places.{handle_busy, there}
-use Rattle.step_core.proofs.holding.Slots.{counted_has, full_less, has_slot, num_set, one_held, one_slot, slot_inside}
+use Rattle.step_core.proofs.holding.Slots.{counted_has, full_is, full_less, has_slot, num_none, num_set, num_some, one_held, one_slot, slot_inside}
 use Rattle.step_core.proofs.tables.Start.{forty}
 
 -- a pointer in a slot is a handle in the bag
@@ -30,11 +33,11 @@ pub slot_held : (d : ℕ) (slots : Slots) (v : Story) (i : ℕ) (x : Pointer) �
     → Has (held d (handle_in v x.kind x.block x.place)) (state v).hands
 slot_held d slots v i x holds e =
     let h = handle_in v x.kind x.block x.place in
-    let n = num_has (is_it v h) (Some x) slots (has_slot slots i x e) (handle_self h) in
+    let n = num_has (is_it v h) (Full x) slots (has_slot slots i x e) (handle_self h) in
     counted_has (held d h) (state v).hands (let o = holds.owned h in omega (arith, n, o))
 
 pub slot_formed : (d : ℕ) (slots : Slots) (v : Story) (i : ℕ) (x : Pointer) → Holds d slots v → slot slots i ≡ Some x → IsPointer x.place
-slot_formed d slots v i x holds e = subst IsSlot e (holds.formed i)
+slot_formed d slots v i x holds e = subst IsSlot (full_is (value slots i) x e) (holds.formed i)
 
 -- where a slot is empty the desk may have one more handle
 pub has_room : (d : ℕ) (slots : Slots) (v : Story) (i : ℕ) → Kept v → d < v.extent.actors → Holds d slots v → length slots < 34
@@ -46,16 +49,16 @@ has_room d slots v i kept lt holds few inside e =
     let c = ap (λ (f : ℕ → ℕ). f d) kept.allowed in
     let s = holds.size in omega (arith, a, b, c, s)
 
-formed_set : (slots : Slots) (i : ℕ) (x : Option Pointer) → ((j : ℕ) → IsSlot (slot slots j)) → i < length slots → IsSlot x → (j : ℕ)
-    → IsSlot (slot (set slots i x) j)
+formed_set : (slots : Slots) (i : ℕ) (x : Slot) → ((j : ℕ) → IsSlot (value slots j)) → i < length slots → IsSlot x → (j : ℕ)
+    → IsSlot (value (set slots i x) j)
 formed_set slots i x all lt fine j =
-    ⊎_elim (λ (e : j ≡ i). subst (λ (k : ℕ). IsSlot (slot (set slots i x) k)) (sym e) (subst IsSlot (sym (get_or-set_same slots i x None lt)) fine))
-    (λ (n : j ≢ i). subst IsSlot (sym (get_or-set_other slots i j x None n)) (all j)) (cases_eq j i)
+    ⊎_elim (λ (e : j ≡ i). subst (λ (k : ℕ). IsSlot (value (set slots i x) k)) (sym e) (subst IsSlot (sym (get_or-set_same slots i x plain lt)) fine))
+    (λ (n : j ≢ i). subst IsSlot (sym (get_or-set_other slots i j x plain n)) (all j)) (cases_eq j i)
 
-same_is : (v w : Story) (h : Handle) (y : Option Pointer) → ((p : Pointer) → y ≡ Some p → object_in w p.block ≡ object_in v p.block)
+same_is : (v w : Story) (h : Handle) (y : Slot) → ((p : Pointer) → pointer_of y ≡ Some p → object_in w p.block ≡ object_in v p.block)
     → is_it w h y ≡ is_it v h y
-same_is v w h None f = refl
-same_is v w h (Some p) f = ap (λ (o : ℕ). same_handle h (handle p.kind (Some o) p.place)) (f p refl)
+same_is v w h (Empty q) f = refl
+same_is v w h (Full p) f = ap (λ (o : ℕ). same_handle h (handle p.kind (Some o) p.place)) (f p refl)
 
 pub same_owns : (v w : Story) (h : Handle) (slots : Slots) → ((i : ℕ) (p : Pointer) → slot slots i ≡ Some p → object_in w p.block ≡ object_in v p.block)
     → owns w slots h ≡ owns v slots h
@@ -71,33 +74,33 @@ same_owns v w h (y ∷ ys) f =
 -- a handle more, in a slot that was empty
 pub holds_more : (d : ℕ) (slots : Slots) (v w : Story) (i : ℕ) (x : Pointer) → Holds d slots v
     → (state w).hands ≡ held d (handle_in v x.kind x.block x.place) ∷ (state v).hands → (state w).latest ≡ (state v).latest → IsPointer x.place
-    → i < length slots → slot slots i ≡ None → Holds d (set slots i (Some x)) w
+    → i < length slots → slot slots i ≡ None → Holds d (set slots i (Full x)) w
 holds_more d slots v w i x holds hands latest fine lt e =
     let y = handle_in v x.kind x.block x.place in
-    let new = set slots i (Some x) in
+    let new = set slots i (Full x) in
     record {
       owned = λ h.
           let a = num_cons (same_held (held d h)) (held d y) (state v).hands in
           let b = one_held d h y in
-          let s = num_set (is_it v h) slots i (Some x) lt in
-          let z : num (is_it v h) (slot slots i ∷ []) ≡ 0 = ap (λ (w : Option Pointer). num (is_it v h) (w ∷ [])) e in
-          let t = one_slot (is_it v h) (Some x) in
+          let s = num_set (is_it v h) slots i (Full x) lt in
+          let z = num_none (is_it v h) (value slots i) (λ q. refl) e in
+          let t = one_slot (is_it v h) (Full x) in
           let o = holds.owned h in
           let m : times (state w) d h ≡ num (same_held (held d h)) (held d y ∷ (state v).hands) = ap (λ (l : List Held). num (same_held (held d h)) l) hands in
           let k = same_owns v w h new (λ j p q. ap (λ (f : ℕ → ℕ). f p.block.0) latest) in omega (arith, a, b, s, z, t, o, m, k);
       size =
           (let a = bag_one d y (state v).hands in
-          let s = num_set is_full slots i (Some x) lt in
-          let z : num is_full (slot slots i ∷ []) ≡ 0 = ap (λ (w : Option Pointer). num is_full (w ∷ [])) e in
+          let s = num_set has_object slots i (Full x) lt in
+          let z = num_none has_object (value slots i) (λ q. refl) e in
           let m : bag_size (state w) d ≡ num (λ (q : Held). q.desk == d) (held d y ∷ (state v).hands) = ap (λ (l : List Held). num (λ (q : Held). q.desk == d) l) hands in
           let o = holds.size in omega (arith, a, s, z, o, m));
-      formed = formed_set slots i (Some x) holds.formed lt fine;
+      formed = formed_set slots i (Full x) holds.formed lt fine;
     }
 
 -- a handle less, of a slot
 pub holds_less : (d : ℕ) (slots : Slots) (v w : Story) (i : ℕ) (x : Pointer) → Holds d slots v → slot slots i ≡ Some x
     → (state w).hands ≡ without same_held (held d (handle_in v x.kind x.block x.place)) (state v).hands → (state w).latest ≡ (state v).latest
-    → Holds d (set slots i None) w
+    → Holds d (set slots i plain) w
 holds_less d slots v w i x holds e hands latest =
     let y = handle_in v x.kind x.block x.place in
     let has = slot_held d slots v i x holds e in
@@ -107,20 +110,20 @@ holds_less d slots v w i x holds e hands latest =
       owned = λ h.
           let a = num_without same_held held_true held_self (same_held (held d h)) (held d y) (state v).hands has in
           let b = one_held d h y in
-          let s = num_set (is_it v h) slots i None lt in
-          let z = ap (λ (w : Option Pointer). num (is_it v h) (w ∷ [])) e in
-          let t = one_slot (is_it v h) (Some x) in
+          let s = num_set (is_it v h) slots i plain lt in
+          let z = num_some (is_it v h) (value slots i) x e in
+          let t = one_slot (is_it v h) (Full x) in
           let o = holds.owned h in
           let m : times (state w) d h ≡ num (same_held (held d h)) less = ap (λ (l : List Held). num (same_held (held d h)) l) hands in
-          let k = same_owns v w h (set slots i None) (λ j p q. ap (λ (f : ℕ → ℕ). f p.block.0) latest) in omega (arith, a, b, s, z, t, o, m, k);
+          let k = same_owns v w h (set slots i plain) (λ j p q. ap (λ (f : ℕ → ℕ). f p.block.0) latest) in omega (arith, a, b, s, z, t, o, m, k);
       size =
           (let a = num_without same_held held_true held_self (λ (w : Held). w.desk == d) (held d y) (state v).hands has in
           let b = bag_one d y [] in
-          let s = num_set is_full slots i None lt in
-          let z = ap (λ (w : Option Pointer). num is_full (w ∷ [])) e in
+          let s = num_set has_object slots i plain lt in
+          let z = num_some has_object (value slots i) x e in
           let m : bag_size (state w) d ≡ num (λ (q : Held). q.desk == d) less = ap (λ (l : List Held). num (λ (q : Held). q.desk == d) l) hands in
           let o = holds.size in omega (arith, a, b, s, z, o, m));
-      formed = formed_set slots i None holds.formed lt tt;
+      formed = formed_set slots i plain holds.formed lt tt;
     }
 
 -- no handle comes or goes
@@ -152,11 +155,11 @@ weak_held d slots v i x holds e =
 
 -- the place of a weak pointer in a slot is well formed
 pub weak_formed : (d : ℕ) (slots : Slots) (v : Story) (i : ℕ) (x : Pointer) → Holds d slots v → weak_slot (slot slots i) ≡ Some x → IsPointer x.place
-weak_formed d slots v i x holds e = go (slot slots i) (holds.formed i) e
+weak_formed d slots v i x holds e = go (value slots i) (holds.formed i) e
   where
-    go : (o : Option Pointer) → IsSlot o → weak_slot o ≡ Some x → IsPointer x.place
-    go None f e = cc
-    go (Some y) f e = kinds y.kind e
+    go : (o : Slot) → IsSlot o → weak_slot (pointer_of o) ≡ Some x → IsPointer x.place
+    go (Empty p) f e = cc
+    go (Full y) f e = kinds y.kind e
       where
         kinds : (k : Kind) → weak_as k y ≡ Some x → IsPointer x.place
         kinds Owner e = cc
@@ -164,42 +167,59 @@ weak_formed d slots v i x holds e = go (slot slots i) (holds.formed i) e
 
 -- a copy of a pointer
 pub holds_share : (d : ℕ) (slots : Slots) (v : Story) (i : ℕ) (x : Pointer) → Holds d slots v → IsPointer x.place → i < length slots
-    → slot slots i ≡ None → Holds d (set slots i (Some x)) (after v d (share x))
+    → slot slots i ≡ None → Holds d (set slots i (Full x)) (after v d (share x))
 holds_share d slots v i x holds fine lt e = go x.kind refl
   where
-    go : (k : Kind) → x.kind ≡ k → Holds d (set slots i (Some x)) (after v d (share_as k x))
+    go : (k : Kind) → x.kind ≡ k → Holds d (set slots i (Full x)) (after v d (share_as k x))
     go Owner is = holds_more d slots v (after v d (share_as Owner x)) i x holds (ap (λ (k : Kind). held d (handle_in v k x.block x.place) ∷ (state v).hands) (sym is)) refl fine lt e
     go Weak is = holds_more d slots v (after v d (share_as Weak x)) i x holds (ap (λ (k : Kind). held d (handle_in v k x.block x.place) ∷ (state v).hands) (sym is)) refl fine lt e
 
 -- a pointer leaves
 pub holds_leave : (d : ℕ) (slots : Slots) (v : Story) (i : ℕ) (x : Pointer) (last : Bool) → Holds d slots v → slot slots i ≡ Some x
-    → Holds d (set slots i None) (after v d (leave_as x.kind x last))
+    → Holds d (set slots i plain) (after v d (leave_as x.kind x last))
 holds_leave d slots v i x last holds e = go x.kind refl
   where
-    go : (k : Kind) → x.kind ≡ k → Holds d (set slots i None) (after v d (leave_as k x last))
+    go : (k : Kind) → x.kind ≡ k → Holds d (set slots i plain) (after v d (leave_as k x last))
     go Owner is = holds_less d slots v (after v d (leave_as Owner x last)) i x holds e
         (ap (λ (k : Kind). without same_held (held d (handle_in v k x.block x.place)) (state v).hands) (sym is)) refl
     go Weak is = holds_less d slots v (after v d (leave_as Weak x last)) i x holds e
         (ap (λ (k : Kind). without same_held (held d (handle_in v k x.block x.place)) (state v).hands) (sym is)) refl
 
+-- a slot without an object gets a place
+pub holds_empty : (d : ℕ) (slots : Slots) (v : Story) (i : ℕ) (p : Option Place) → Holds d slots v → i < length slots → slot slots i ≡ None → IsPointer p
+    → Holds d (set slots i (Empty p)) v
+holds_empty d slots v i p holds lt e fine =
+    let same : (q : Slot → Bool) → ((r : Option Place) → q (Empty r) ≡ false) → num q (set slots i (Empty p)) ≡ num q slots =
+    λ q none.
+    let a = num_set q slots i (Empty p) lt in
+    let z = num_none q (value slots i) none e in
+    let y = num_none q (Empty p) none refl in
+    omega (arith, a, z, y) in
+    record {
+      owned = λ h. holds.owned h ∙ sym (same (is_it v h) (λ q. refl));
+      size = holds.size ∙ sym (same has_object (λ q. refl));
+      formed = formed_set slots i (Empty p) holds.formed lt fine;
+    }
+
 -- a value goes from one slot to another
 pub holds_move : (d : ℕ) (slots : Slots) (v : Story) (i j : ℕ) → Holds d slots v → i < length slots → j < length slots → i ≢ j → slot slots j ≡ None
-    → Holds d (set (set slots j (slot slots i)) i None) v
+    → Holds d (set (set slots j (value slots i)) i plain) v
 holds_move d slots v i j holds li lj n e =
-    let mid = set slots j (slot slots i) in
-    let lm : i < length mid = let t = length-set slots j (slot slots i) in omega (arith, t) in
-    let at : slot mid i ≡ slot slots i = get_or-set_other slots j i (slot slots i) None n in
-    let moved : (p : Option Pointer → Bool) → p None ≡ false → num p (set mid i None) ≡ num p slots =
+    let mid = set slots j (value slots i) in
+    let lm : i < length mid = let t = length-set slots j (value slots i) in omega (arith, t) in
+    let at : value mid i ≡ value slots i = get_or-set_other slots j i (value slots i) plain n in
+    let moved : (p : Slot → Bool) → ((q : Option Place) → p (Empty q) ≡ false) → num p (set mid i plain) ≡ num p slots =
     λ p none.
-    let a = num_set p mid i None lm in
-    let b = num_set p slots j (slot slots i) lj in
-    let c = ap (λ (w : Option Pointer). num p (w ∷ [])) at in
-    let z = ap (λ (w : Option Pointer). num p (w ∷ [])) e in
-    omega (arith, a, b, c, z) in
+    let a = num_set p mid i plain lm in
+    let b = num_set p slots j (value slots i) lj in
+    let c = ap (λ (w : Slot). num p (w ∷ [])) at in
+    let z = num_none p (value slots j) none e in
+    let y = num_none p plain none refl in
+    omega (arith, a, b, c, z, y) in
     record {
-      owned = λ h. holds.owned h ∙ sym (moved (is_it v h) refl);
-      size = holds.size ∙ sym (moved is_full refl);
-      formed = formed_set mid i None (formed_set slots j (slot slots i) holds.formed lj (holds.formed i)) lm tt;
+      owned = λ h. holds.owned h ∙ sym (moved (is_it v h) (λ q. refl));
+      size = holds.size ∙ sym (moved has_object (λ q. refl));
+      formed = formed_set mid i plain (formed_set slots j (value slots i) holds.formed lj (holds.formed i)) lm tt;
     }
 
 -- a block in a store is no block of a pointer
@@ -212,11 +232,11 @@ apart d slots v b i x kept holds has e same =
     let vacant = ((sound (opening v.extent) v.history kept.stands.legal).stores d b.0 has).0 in
     let z = vacant (object_in v x.block) (t.0 ∙ same) in omega (arith, busy, z)
 
-claimed_is : (v : Story) (d : ℕ) (b : Block) (enabled null : Bool) (fields : List ℕ) (h : Handle) (y : Option Pointer) → ((p : Pointer)
-    → y ≡ Some p → p.block.0 ≢ b.0)
+claimed_is : (v : Story) (d : ℕ) (b : Block) (enabled null : Bool) (fields : List ℕ) (h : Handle) (y : Slot) → ((p : Pointer)
+    → pointer_of y ≡ Some p → p.block.0 ≢ b.0)
     → is_it (after v d (Claim b enabled null fields)) h y ≡ is_it v h y
-claimed_is v d b enabled null fields h None f = refl
-claimed_is v d b enabled null fields h (Some p) f =
+claimed_is v d b enabled null fields h (Empty q) f = refl
+claimed_is v d b enabled null fields h (Full p) f =
     ap (λ (o : ℕ). same_handle h (handle p.kind (Some o) p.place)) (put_other (state v).latest b.0 (suc (state v).made) p.block.0 (f p refl))
 
 claimed_owns : (v : Story) (d : ℕ) (b : Block) (enabled null : Bool) (fields : List ℕ) (h : Handle) (slots : Slots)
@@ -239,7 +259,7 @@ origin_formed z b false shape few = let low = shape.0 in let high = shape.1 in (
 pub holds_claim : (d : ℕ) (slots : Slots) (v : Story) (i : ℕ) (b : Block) (form : Form) → Kept v → Holds d slots v
     → Has (stored d b.0) (state v).stores
     → InShape (opening v.extent) b.0 → v.extent.shape.blocks ≤ 65535 → i < length slots → slot slots i ≡ None
-    → Holds d (set slots i (Some (record { kind = Owner; block = b; place = origin b.0 form.null }))) (after v d (Claim b form.enabled form.null form.fields))
+    → Holds d (set slots i (Full (record { kind = Owner; block = b; place = origin b.0 form.null }))) (after v d (Claim b form.enabled form.null form.fields))
 holds_claim d slots v i b form kept holds has shape few lt e =
     let x : Pointer = record { kind = Owner; block = b; place = origin b.0 form.null } in
     let w = after v d (Claim b form.enabled form.null form.fields) in
@@ -248,18 +268,18 @@ holds_claim d slots v i b form kept holds has shape few lt e =
       owned = λ h.
           let a = num_cons (same_held (held d h)) (held d y) (state v).hands in
           let m = one_held d h y in
-          let s = num_set (is_it w h) slots i (Some x) lt in
-          let z : num (is_it w h) (slot slots i ∷ []) ≡ 0 = ap (λ (q : Option Pointer). num (is_it w h) (q ∷ [])) e in
-          let t = one_slot (is_it w h) (Some x) in
-          let u : is_it w h (Some x) ≡ same_handle h y = ap
+          let s = num_set (is_it w h) slots i (Full x) lt in
+          let z = num_none (is_it w h) (value slots i) (λ q. refl) e in
+          let t = one_slot (is_it w h) (Full x) in
+          let u : is_it w h (Full x) ≡ same_handle h y = ap
           (λ (o : ℕ). same_handle h (owner o (origin b.0 form.null))) (put_same (state v).latest b.0 (suc (state v).made) b.0 refl) in
-          let k : ◌≡◌ {A = ℕ} (cond (is_it w h (Some x)) 1 0) (cond (same_handle h y) 1 0) = ap (λ (q : Bool). cond q 1 0) u in
+          let k : ◌≡◌ {A = ℕ} (cond (is_it w h (Full x)) 1 0) (cond (same_handle h y) 1 0) = ap (λ (q : Bool). cond q 1 0) u in
           let c = claimed_owns v d b form.enabled form.null form.fields h slots (λ j p q. apart d slots v b j p kept holds has q) in
           let o = holds.owned h in omega (arith, a, m, s, z, t, k, c, o);
       size =
           (let a = bag_one d y (state v).hands in
-          let s = num_set is_full slots i (Some x) lt in
-          let z : num is_full (slot slots i ∷ []) ≡ 0 = ap (λ (q : Option Pointer). num is_full (q ∷ [])) e in
+          let s = num_set has_object slots i (Full x) lt in
+          let z = num_none has_object (value slots i) (λ q. refl) e in
           let o = holds.size in omega (arith, a, s, z, o));
-      formed = formed_set slots i (Some x) holds.formed lt (origin_formed (opening v.extent) b.0 form.null shape few);
+      formed = formed_set slots i (Full x) holds.formed lt (origin_formed (opening v.extent) b.0 form.null shape few);
     }

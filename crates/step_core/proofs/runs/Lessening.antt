@@ -18,7 +18,8 @@ use Rattle.step_core.specs.Actors.{wanted}
 use Rattle.step_core.specs.Bounds.{spare}
 use Rattle.step_core.specs.Courses.{Walk, form_of, hand, locked, placed}
 use Rattle.step_core.specs.Deeds.{as_weak, is_last, lock, owner_word}
-use Rattle.step_core.specs.Holdings.{Slots, is_full, slot}
+use Rattle.step_core.specs.declared.slot.Slot.TheVariants.{Full}
+use Rattle.step_core.specs.Holdings.{Slots, filled, is_full, plain, slot, value}
 use Rattle.step_core.specs.Scenes.{found, least, on, taking}
 use Rattle.step_core.specs.Steps.{Step, acts, begins, begun, claims, end_as, end_of, ends_on, first, looks, made_on, prepares}
 use Rattle.step_core.specs.Steps.{silent, step_at, story_after, tried, tries, trying}
@@ -109,7 +110,7 @@ trying_less v d k h w n word is len most none more =
 
 taken_less : (slots : Slots) (must : Bool) (ts : List Task) (o : Option Pointer) → length (taking slots must ts o).todo ≤ length ts
 taken_less slots must ts None = settled_less slots (not must) ts
-taken_less slots must ts (Some x) = settled_less (slice_set slots (hand slots) (Some x)) true ts
+taken_less slots must ts (Some x) = settled_less (slice_set slots (hand slots) (Full x)) true ts
 
 word_is : (v : Story) (w : Walk) (t : Task) (ts : List Task) (x : Pointer) → w.todo ≡ t ∷ ts → locked w.slots t.act ≡ Some x
     → word_of v w w.todo ≡ owner_word v x
@@ -132,16 +133,16 @@ first_less : (v : Story) (d : ℕ) (w : Walk) (t : Task) (ts : List Task) (a : A
     → IsLess v d Rest w (length (t ∷ ts)) (Some (first v d w t.statement ts a))
 first_less v d w t ts (Make form) is same = begun_less v d t.statement w t ts (least d (state v).stores) is
 first_less v d w t ts (Share i) is same =
-    over_less v _ Rest w _ (length ts) (settled_less (slice_set w.slots (hand w.slots) (slot w.slots i)) true ts) (omega arith, omega arith)
+    over_less v _ Rest w _ (length ts) (settled_less (slice_set w.slots (hand w.slots) (value w.slots i)) true ts) (omega arith, omega arith)
 first_less v d w t ts (Put i) is same =
-    left_less v d t.statement w (first v d w t.statement ts (Put i)) (length ts) (slot w.slots i) refl (settled_less (placed i (slice_set w.slots i None)) false ts)
+    left_less v d t.statement w (first v d w t.statement ts (Put i)) (length ts) (slot w.slots i) refl (settled_less (placed i (slice_set w.slots i plain)) false ts)
 first_less v d w t ts (Leave i) is same =
-    left_less v d t.statement w (first v d w t.statement ts (Leave i)) (length ts) (slot w.slots i) refl (settled_less (slice_set w.slots i None) w.taken ts)
+    left_less v d t.statement w (first v d w t.statement ts (Leave i)) (length ts) (slot w.slots i) refl (settled_less (slice_set w.slots i plain) w.taken ts)
 first_less v d w t ts (Clear i) is same =
-    left_less v d t.statement w (first v d w t.statement ts (Clear i)) (length ts) (slot w.slots i) refl (settled_less (slice_set w.slots i None) w.taken ts)
+    left_less v d t.statement w (first v d w t.statement ts (Clear i)) (length ts) (slot w.slots i) refl (settled_less (slice_set w.slots i plain) w.taken ts)
 first_less v d w t ts (Count i) is same = over_less v _ Rest w _ (length ts) (settled_less w.slots w.taken ts) (omega arith, omega arith)
 first_less v d w t ts (Downgrade i) is same =
-    over_less v _ Rest w _ (length ts) (settled_less (slice_set w.slots (hand w.slots) (option_map as_weak (slot w.slots i))) true ts) (omega arith, omega arith)
+    over_less v _ Rest w _ (length ts) (settled_less (slice_set w.slots (hand w.slots) (filled (option_map as_weak (slot w.slots i)))) true ts) (omega arith, omega arith)
 first_less v d w t ts (Lock i must) is same = looked_less v d t.statement w t ts i must (locked w.slots (Lock i must)) is same refl
 first_less v d w t ts (Expired i) is same = over_less v _ Rest w _ (length ts) (settled_less w.slots w.taken ts) (omega arith, omega arith)
 
@@ -170,7 +171,7 @@ make_less v d i w b f (t ∷ ts) is way =
     let n = ap (λ (z : List Task). length z) is in
     cond_both (i == 5) (claims w t.statement ts b (form_of t.act)) (prepares found want w t.statement b i f)
     (λ (x : Step). IsLess v d (Making b i f) w (length (t ∷ ts)) (Some x))
-    (λ e. let l = settled_less (slice_set w.slots (hand w.slots) (Some (record { kind = Owner; block = record { 0 = b.0 }; place = origin b.0 (form_of t.act).null }))) true ts in
+    (λ e. let l = settled_less (slice_set w.slots (hand w.slots) (Full (record { kind = Owner; block = record { 0 = b.0 }; place = origin b.0 (form_of t.act).null }))) true ts in
     let g = flag_one f in record { own = omega (arith, l, g); most = omega (arith, l, g) })
     (λ e. prepared_less v d found want t.statement i (length (t ∷ ts)) w b f way.0 (eqb-false i 5 e) n)
 

@@ -20,7 +20,8 @@ use Rattle.step_core.specs.declared.past.Deed.TheVariants as deed
 use Rattle.step_core.specs.declared.said.Answer.{Answer}
 use Rattle.step_core.specs.Actors.{wanted}
 use Rattle.step_core.specs.Courses.{Walk, form_of, hand, idle, locked, placed, settled, slots_idle, taken_idle}
-use Rattle.step_core.specs.Holdings.{Slots, slot}
+use Rattle.step_core.specs.declared.slot.Slot.TheVariants.{Full}
+use Rattle.step_core.specs.Holdings.{Slots, filled, plain, slot, value}
 use Rattle.step_core.specs.Scenes.{answer_of, ended_by, found, least, on, remains, remains_as, taking, went}
 use Rattle.step_core.specs.Steps.{Step, acts, begins, begun, claims, end_as, end_of, ends_on, first, looks, made_on, prepares, tried, tries, trying}
 use Rattle.step_core.specs.Steps.{silent, step_at, stepped, story_by, walk_by}
@@ -157,7 +158,7 @@ made_one : (v : Story) (d i k : ℕ) (w : Walk) (t : Task) (ts : List Task) (b :
 made_one v d i k w t ts b f form e =
     let c : ◌≡◌ {A = ℕ} (cond (i == 5) 1 0) 1 = ap (λ (z : Bool). cond z 1 0) e in
     let m : suc (made_in v.history) ≡ made_in v.history + cond (i == 5) 1 0 = omega (arith, c) in
-    let l = settled_less (slice_set w.slots (hand w.slots) (Some (record { kind = Owner; block = b; place = origin b.0 form.null }))) true ts in
+    let l = settled_less (slice_set w.slots (hand w.slots) (Full (record { kind = Owner; block = b; place = origin b.0 form.null }))) true ts in
     record { made = m; ended = plus_none _; few = omega (arith, c, l) }
 
 prepared_one : (v : Story) (d k found want i n : ℕ) (w : Walk) (b : Block) (f : Bool) → length w.todo ≤ n
@@ -191,7 +192,7 @@ begun_in v d k w t ts (Some b) is =
 
 taken_less : (slots : Slots) (must : Bool) (ts : List Task) (o : Option Pointer) → length (taking slots must ts o).todo ≤ length ts
 taken_less slots must ts None = settled_less slots (not must) ts
-taken_less slots must ts (Some x) = settled_less (slice_set slots (hand slots) (Some x)) true ts
+taken_less slots must ts (Some x) = settled_less (slice_set slots (hand slots) (Full x)) true ts
 
 -- a lock is tried, or done
 tried_or : (v : Story) (d k : ℕ) (h : Half) (w : Walk) (ts : List Task) (n word : ℕ) (i : ℕ) (must : Bool) (y : Pointer) (b : Bool) → is_prepared h ≡ false
@@ -216,19 +217,19 @@ counted_act : (v : Story) (d : ℕ) (w : Walk) (t : Task) (ts : List Task) (a : 
 counted_act v d w t ts (Make form) is = begun_in v d t.statement w t ts (least d (state v).stores) is
 counted_act v d w t ts (Share i) is =
     let x = went (state v) d w.slots w.taken ts (Share i) in
-    let l = settled_less (slice_set w.slots (hand w.slots) (slot w.slots i)) true ts in
+    let l = settled_less (slice_set w.slots (hand w.slots) (value w.slots i)) true ts in
     shared v d t.statement w x (length (t ∷ ts)) (omega (arith, l)) (slot w.slots i)
 counted_act v d w t ts (Put i) is =
     let x = went (state v) d w.slots w.taken ts (Put i) in
-    let l = settled_less (placed i (slice_set w.slots i None)) false ts in
+    let l = settled_less (placed i (slice_set w.slots i plain)) false ts in
     left v d t.statement w x (length (t ∷ ts)) (omega (arith, l)) (slot w.slots i)
 counted_act v d w t ts (Leave i) is =
     let x = went (state v) d w.slots w.taken ts (Leave i) in
-    let l = settled_less (slice_set w.slots i None) w.taken ts in
+    let l = settled_less (slice_set w.slots i plain) w.taken ts in
     left v d t.statement w x (length (t ∷ ts)) (omega (arith, l)) (slot w.slots i)
 counted_act v d w t ts (Clear i) is =
     let x = went (state v) d w.slots w.taken ts (Clear i) in
-    let l = settled_less (slice_set w.slots i None) w.taken ts in
+    let l = settled_less (slice_set w.slots i plain) w.taken ts in
     left v d t.statement w x (length (t ∷ ts)) (omega (arith, l)) (slot w.slots i)
 counted_act v d w t ts (Count i) is =
     let x = went (state v) d w.slots w.taken ts (Count i) in
@@ -236,7 +237,7 @@ counted_act v d w t ts (Count i) is =
     told v d t.statement w x (length (t ∷ ts)) (answer_of (state v) d w.slots (Count i)) (omega (arith, l)) (slot w.slots i)
 counted_act v d w t ts (Downgrade i) is =
     let x = went (state v) d w.slots w.taken ts (Downgrade i) in
-    let l = settled_less (slice_set w.slots (hand w.slots) (option_map as_weak (slot w.slots i))) true ts in
+    let l = settled_less (slice_set w.slots (hand w.slots) (filled (option_map as_weak (slot w.slots i)))) true ts in
     downgraded v d t.statement w x (length (t ∷ ts)) (omega (arith, l)) (slot w.slots i)
 counted_act v d w t ts (Lock i must) is = looked v d t.statement w t ts i must (locked w.slots (Lock i must)) is
 counted_act v d w t ts (Expired i) is =

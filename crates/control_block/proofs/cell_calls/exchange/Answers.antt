@@ -14,6 +14,7 @@ use Rattle.control_block.specs.CellCalls.{Holds, IsFreeCell, handle_in, with_han
 use Rattle.control_block.specs.CellPlays.{IsWordOf}
 use Rattle.control_block.specs.CellRounds.{CameOut}
 use Rattle.control_block.specs.Desks.{Adds, DeskNow, bag_of}
+use Rattle.control_block.specs.Handles.{IsProper}
 use Rattle.control_block.specs.Inside.{desk_now}
 use Rattle.control_block.specs.Plays.{Holding, known}
 use Rattle.control_block.proofs.Bags.{seen_as}
@@ -35,7 +36,7 @@ swap-old-requires-clause-new g c =
     let r = c.requires in let d = c.desk.inside in let h = c.desk.invariant in let v = d.seat.me.0 in let k = c.args.cell.kind in
     let b = c.args.new.block in let p = c.args.new.place in let y = c.args.desk.now in let lost = g.A.Aimed.new in
     let new_is : lost ≡ in_seat v k b p = r.new ∙ ap (λ (z : DeskNow g.row.V.Denot). handle_in z k b p) (sym c.desk.view_is) in (
-      lost_word d y k p h c.desk.view_is b r.holds r.proper,
+      lost_word d y k p h c.desk.view_is b r.holds (subst (λ z. IsProper z b p) r.kind c.args.new.proper),
       refl,
       subst (λ (z : Handle). IsWordOf v z record { owned = b; place = p; taken = 0 }) (sym new_is) (lost_shows d y k p h c.desk.view_is b r.holds),
     )
@@ -45,7 +46,7 @@ swap-old-requires-clause-hand g c =
     let r = c.requires in let d = c.desk.inside in let h = c.desk.invariant in let v = d.seat.me.0 in let k = c.args.cell.kind in
     let b = c.args.new.block in let p = c.args.new.place in let y = c.args.desk.now in let lost = g.A.Aimed.new in
     let new_is : lost ≡ in_seat v k b p = r.new ∙ ap (λ (z : DeskNow g.row.V.Denot). handle_in z k b p) (sym c.desk.view_is) in
-    subst (λ (z : Handle). InHand (known v) v.view.name k z) (sym new_is) (lost_hand d y k p h c.desk.view_is b r.holds r.proper)
+    subst (λ (z : Handle). InHand (known v) v.view.name k z) (sym new_is) (lost_hand d y k p h c.desk.view_is b r.holds (subst (λ z. IsProper z b p) r.kind c.args.new.proper))
 
 pub swap-old-requires-clause-holds : goal.swap-old-requires-clause-holds
 swap-old-requires-clause-holds g c =
@@ -128,8 +129,8 @@ returns-clause-holds g c =
     holds_after (now_of c.swap-old.new.chair.table_id w d.held) k x.owned x.place (without_handle k b p (bag_of (desk_now d)))
     (bag_is d h w e k x b p trades came mine) (λ none. let q = ap one none in omega (arith, size, fit, m, q))
 
-pub returns-clause-proper : goal.returns-clause-proper
-returns-clause-proper g c =
+pub invariant_of-result : goal.invariant_of-result
+invariant_of-result g c =
     let r = c.requires in let d = c.desk.inside in let h = c.desk.invariant in let v = d.seat.me.0 in let w = c.swap-old.new.chair.me.0 in
     let x = c.swap-old.result in let k = c.args.cell.kind in let b = c.args.new.block in let p = c.args.new.place in let y = c.args.desk.now in
     let n = c.args.cell.number in let lost = g.A.Aimed.new in
@@ -138,8 +139,10 @@ returns-clause-proper g c =
     let trades = subst (λ z. Trades e z) new_is (swap_trades g.row.V.Denot (Free n) lost) in
     let mine = lost_mine v k p b (lost_holding d y k p h c.desk.view_is b r.holds) in
     let came = subst (λ (z : Cell). CameOut (λ q. Swap z lost q) k v x w) r.cell.1 c.swap-old.ensures.swapped in
-    formed_out d w (Free n) (e (in_seat w k x.owned x.place)) k x.owned x.place (event_is d h w e k x b p trades came mine)
-    (λ asks. (asks.0, asks.2))
+    record {
+      proper = formed_out d w (Free n) (e (in_seat w k x.owned x.place)) k x.owned x.place (event_is d h w e k x b p trades came mine)
+          (λ asks. (asks.0, asks.2));
+    }
 
 pub returns-clause-keeps : goal.returns-clause-keeps
 returns-clause-keeps g c =

@@ -59,12 +59,12 @@ returns-clause-holds g c =
     let n = length-map (bag (known w) w.view.name) (seen_as (known w)) in
     holds_after (now_of c.load-seen.new.chair.table_id w (d.held + 1)) k x.owned x.place (bag_of (desk_now d)) is (λ none. let m = ap one none in omega (arith, size, n, m, h.holding))
 
-pub returns-clause-proper : goal.returns-clause-proper
-returns-clause-proper g c =
+pub invariant_of-result : goal.invariant_of-result
+invariant_of-result g c =
     let d = c.desk.inside in let h = c.desk.invariant in let w = c.load-seen.new.chair.me.0 in let x = c.load-seen.result in let k = c.args.cell.kind in
     let e : Handle → Event g.row.V.Denot = λ y. Load g.A.Aimed.cell y in let t = c.load-seen.ensures in
     let trades = load_trades g.row.V.Denot g.A.Aimed.cell k in
-    formed_out d w g.A.Aimed.cell (e (in_seat w k x.owned x.place)) k x.owned x.place (event_is d h w e k x None None trades t.loaded tt) (λ asks. asks)
+    record { proper = formed_out d w g.A.Aimed.cell (e (in_seat w k x.owned x.place)) k x.owned x.place (event_is d h w e k x None None trades t.loaded tt) (λ asks. asks) }
 
 pub returns-clause-keeps : goal.returns-clause-keeps
 returns-clause-keeps g c =

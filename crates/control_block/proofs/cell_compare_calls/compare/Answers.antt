@@ -14,6 +14,7 @@ use Rattle.control_block.specs.CellCalls.{Holds, IsFreeCell, handle_in, with_han
 use Rattle.control_block.specs.CellPlays.{IsWordOf}
 use Rattle.control_block.specs.CellRounds.{CameOut}
 use Rattle.control_block.specs.Desks.{Adds, DeskNow, bag_of}
+use Rattle.control_block.specs.Handles.{IsProper}
 use Rattle.control_block.specs.Inside.{desk_now}
 use Rattle.control_block.specs.Plays.{Holding, known}
 use Rattle.control_block.proofs.Bags.{seen_as}
@@ -44,7 +45,7 @@ compare-swapped-requires-clause-new g c =
     let r = c.requires in let d = c.desk.inside in let h = c.desk.invariant in let v = d.seat.me.0 in let k = c.args.cell.kind in
     let b = c.args.new.block in let p = c.args.new.place in let y = c.args.desk.now in let lost = g.A.Aimed.new in
     let new_is : lost ≡ in_seat v k b p = r.new ∙ ap (λ (z : DeskNow g.row.V.Denot). handle_in z k b p) (sym c.desk.view_is) in (
-      lost_word d y k p h c.desk.view_is b r.holds.1 r.proper.1,
+      lost_word d y k p h c.desk.view_is b r.holds.1 (subst (λ z. IsProper z b p) r.kind.1 c.args.new.proper),
       refl,
       subst (λ (z : Handle). IsWordOf v z record { owned = b; place = p; taken = 0 }) (sym new_is) (lost_shows d y k p h c.desk.view_is b r.holds.1),
     )
@@ -56,8 +57,8 @@ compare-swapped-requires-clause-hands g c =
     let new_is : lost ≡ in_seat v k b p = r.new ∙ ap (λ (z : DeskNow g.row.V.Denot). handle_in z k b p) (sym c.desk.view_is) in
     let there = g.A.Aimed.expected in let q = c.args.expected.block in let o = c.args.expected.place in
     let there_is : there ≡ in_seat v k q o = r.expected ∙ ap (λ (z : DeskNow g.row.V.Denot). handle_in z k q o) (sym c.desk.view_is) in (
-      subst (λ (z : Handle). InHand (known v) v.view.name k z) (sym there_is) (lost_hand d y k o h c.desk.view_is q r.holds.0 r.proper.0),
-      subst (λ (z : Handle). InHand (known v) v.view.name k z) (sym new_is) (lost_hand d y k p h c.desk.view_is b r.holds.1 r.proper.1),
+      subst (λ (z : Handle). InHand (known v) v.view.name k z) (sym there_is) (lost_hand d y k o h c.desk.view_is q r.holds.0 (subst (λ z. IsProper z q o) r.kind.0 c.args.expected.proper)),
+      subst (λ (z : Handle). InHand (known v) v.view.name k z) (sym new_is) (lost_hand d y k p h c.desk.view_is b r.holds.1 (subst (λ z. IsProper z b p) r.kind.1 c.args.new.proper)),
     )
 
 pub compare-swapped-requires-clause-holds : goal.compare-swapped-requires-clause-holds
@@ -147,8 +148,8 @@ returns-clause-holds g c =
     (subst (λ q. bag_size (known w) w.view.name < d.held + q) (sym more)
     (few_of s b x.owned _ _ d.held size fit h.holding (ap one none))))
 
-pub returns-clause-proper : goal.returns-clause-proper
-returns-clause-proper g c =
+pub invariant_of-result : goal.invariant_of-result
+invariant_of-result g c =
     let r = c.requires in let d = c.desk.inside in let h = c.desk.invariant in let v = d.seat.me.0 in let w = c.compare-swapped.new.chair.me.0 in
     let s = c.compare-swapped.result.0 in let x = c.compare-swapped.result.1 in let k = c.args.cell.kind in let b = c.args.new.block in
     let p = c.args.new.place in let y = c.args.desk.now in let n = c.args.cell.number in let a = g.A.Aimed in
@@ -157,8 +158,10 @@ returns-clause-proper g c =
     let trades = trades_of v k b p (Free n) a.expected a.new a.weak new_is s in
     let mine = mine_of v k b p s (lost_mine v k p b (lost_holding d y k p h c.desk.view_is b r.holds.1)) in
     let came = subst (λ (z : Cell). CameOut (λ q. Compare z a.expected a.new q s a.weak) k v x w) r.cell.1 c.compare-swapped.ensures.compared in
-    formed_out d w (Free n) (e (in_seat w k x.owned x.place)) k x.owned x.place
-    (event_is d h w e k x (cond s b None) (cond s p None) trades came mine) (λ asks. (asks.0, asks.3))
+    record {
+      proper = formed_out d w (Free n) (e (in_seat w k x.owned x.place)) k x.owned x.place
+          (event_is d h w e k x (cond s b None) (cond s p None) trades came mine) (λ asks. (asks.0, asks.3));
+    }
 
 pub returns-clause-keeps : goal.returns-clause-keeps
 returns-clause-keeps g c =

@@ -1,9 +1,9 @@
 use Rattle.std.proofs.Common.{refl, sym, subst}
 use Rattle.step_core.specs.Deeds.{as_weak}
+use Rattle.step_core.specs.declared.slot.Slot.TheVariants.{Full}
 use Rattle.step_core.specs.Holdings.{Holds}
 use Rattle.step_core.specs.Stories.{Story}
 use Rattle.std.proofs.Common.{set}
-use Rattle.std.specs.Prelude.{Some}
 use Rattle.step_core.proofs.holding.Owning.{has_room, holds_more, slot_formed, slot_held}
 use Rattle.step_core.proofs.holdings.Holdings.downgrade.Goals as goal
 
@@ -16,6 +16,6 @@ weak_share-requires-clause-room c =
 
 pub returns-clause-holds : goal.returns-clause-holds
 returns-clause-holds c =
-    subst (λ (v : Story). Holds c.args.desk (set c.args.self.now.slots.items c.args.to (Some (as_weak c.args.pointer))) v) (sym c.weak_share.ensures)
+    subst (λ (v : Story). Holds c.args.desk (set c.args.self.now.slots.items c.args.to (Full (as_weak c.args.pointer))) v) (sym c.weak_share.ensures)
     (holds_more c.args.desk c.args.self.now.slots.items c.args.table.now _ c.args.to (as_weak c.args.pointer) c.requires.holds refl refl
     (slot_formed c.args.desk c.args.self.now.slots.items c.args.table.now c.args.from c.args.pointer c.requires.holds c.requires.from) c.requires.inside c.requires.empty)

@@ -1,7 +1,6 @@
 use Rattle.std.proofs.Common.{set, sym, subst}
-use Rattle.std.specs.Prelude.{None}
 use Rattle.step_core.specs.Deeds.{is_last}
-use Rattle.step_core.specs.Holdings.{Holds}
+use Rattle.step_core.specs.Holdings.{Holds, plain}
 use Rattle.step_core.specs.Stories.{Story, state}
 use Rattle.step_core.proofs.holding.Owning.{holds_leave, slot_held}
 use Rattle.step_core.proofs.holdings.Holdings.leave.Goals as goal
@@ -11,5 +10,5 @@ leave_pointer-last-requires-clause-held c = slot_held c.args.desk c.args.self.no
 
 pub returns-clause-holds : goal.returns-clause-holds
 returns-clause-holds c =
-    subst (λ (v : Story). Holds c.args.desk (set c.args.self.now.slots.items c.args.from None) v) (sym c.leave_pointer-last.ensures.after)
+    subst (λ (v : Story). Holds c.args.desk (set c.args.self.now.slots.items c.args.from plain) v) (sym c.leave_pointer-last.ensures.after)
     (holds_leave c.args.desk c.args.self.now.slots.items c.args.table.now c.args.from c.args.pointer (is_last (state c.args.table.now) c.args.pointer) c.requires.holds c.requires.from)

@@ -1,6 +1,7 @@
-use Rattle.std.proofs.Common.{◌≡◌, ◌∙◌, ◌==◌, cond, set, Some, true, ap, sym, subst, arith, eq-eqb, Bool}
+use Rattle.std.proofs.Common.{◌≡◌, ◌∙◌, ◌==◌, cond, set, true, ap, sym, subst, arith, eq-eqb, Bool}
 use Rattle.step_core.specs.declared.past.Deed.TheVariants as deed
 use Rattle.step_core.specs.Deeds.{as_owner}
+use Rattle.step_core.specs.declared.slot.Slot.TheVariants.{Full}
 use Rattle.step_core.specs.Holdings.{Holds}
 use Rattle.step_core.specs.Stories.{Story, after}
 use Rattle.step_core.proofs.holding.Locking.{holds_tried}
@@ -22,6 +23,6 @@ returns-clause-holds c =
     let e : (c.try_lock-now.result == c.args.found) ≡ true = eq-eqb c.try_lock-now.result c.args.found (omega (arith, z)) in
     let w = after v c.args.desk (deed.Lock x.block x.place true) in
     let t = c.try_lock-now.ensures.after ∙ ap (λ (b : Bool). cond b w v) e in
-    subst (λ (u : Story). Holds c.args.desk (set c.args.self.now.slots.items c.args.to (Some (as_owner x))) u) (sym t)
+    subst (λ (u : Story). Holds c.args.desk (set c.args.self.now.slots.items c.args.to (Full (as_owner x))) u) (sym t)
     (holds_tried c.args.desk c.args.self.now.slots.items v c.args.to x c.requires.holds
     (weak_formed c.args.desk c.args.self.now.slots.items v c.args.from x c.requires.holds c.requires.from) c.requires.inside c.requires.empty)

@@ -1,0 +1,38 @@
+//! What a name holds.
+ghost use Rattle.std.specs.Prelude.{◌≡◌};
+ghost use Rattle.step_core.specs.Holdings.{place_of, pointer_of};
+
+use crate::holdings::Pointer;
+use control_word::place::Place;
+
+/// The value of a name, or the one that is in hand.
+#[derive(Clone, Copy, Debug, PartialEq, Eq, Drop)]
+pub enum Slot {
+    /// A pointer without an object. A shared one may store a place all the same ([util.smartptr.shared.const], the aliasing
+    /// constructor).
+    Empty { place: Option<Place> },
+    /// A pointer that has an object.
+    Full(Pointer),
+}
+
+impl Slot {
+    /// The pointer, if it has an object.
+    pub(crate) fn pointer(self) -> Option<Pointer>
+        ensures { result ≡ pointer_of self }
+    {
+        match self {
+            Slot::Empty { .. } => None,
+            Slot::Full(pointer) => Some(pointer),
+        }
+    }
+
+    /// The place that it stores ([util.smartptr.shared.obs], `get`).
+    pub(crate) fn place(self) -> Option<Place>
+        ensures { result ≡ place_of self }
+    {
+        match self {
+            Slot::Empty { place } => place,
+            Slot::Full(pointer) => pointer.place,
+        }
+    }
+}
