@@ -124,7 +124,13 @@ fn ends<R: Clock + CpuClock + Wait + Print>(
     time_ends(rt, domain, desk)?;
     for _ in 0..passes {
         let spent = time_ends(rt, domain, desk)?;
-        line(rt, "end of a chain of 4,095, each", CHAIN, &[spent], &[spent])?;
+        line(
+            rt,
+            "end of a chain of 4,095, each",
+            CHAIN,
+            &[spent],
+            &[spent],
+        )?;
     }
     Ok(())
 }

@@ -52,11 +52,7 @@ pub(crate) fn let_go<R: Wait>(rt: &R, domain: &Domain<()>, desk: &mut Desk<()>, 
 
 /// A chain: the owner of its first object. None where the desk has too few blocks.
 #[tactic(auto, using(crate::proofs::Taken::first_out, crate::proofs::Chained::second_out, crate::proofs::Observed::first_held, crate::proofs::Chained::second_held))]
-pub(crate) fn build<R: Wait>(
-    rt: &R,
-    domain: &Domain<()>,
-    desk: &mut Desk<()>,
-) -> Option<Shared>
+pub(crate) fn build<R: Wait>(rt: &R, domain: &Domain<()>, desk: &mut Desk<()>) -> Option<Shared>
     requires domain { Belongs desk.old domain.now }
     ensures desk { IsSameDesk desk.old desk.new }
     ensures real { IfSome result IsReal }

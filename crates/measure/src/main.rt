@@ -10,10 +10,10 @@ mod alone;
 mod cell_rounds;
 mod chain;
 mod next;
-mod stack;
 mod observers;
 mod rounds;
 mod rows;
+mod stack;
 mod timing;
 mod workers;
 

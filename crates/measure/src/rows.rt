@@ -53,11 +53,8 @@ impl Row {
     /// together.
     pub(crate) fn chunk(self) -> u32 {
         match self {
-            Row::ShareCommon
-            | Row::LoadCommon
-            | Row::StoreCommon
-            | Row::LoadBeside
-            | Row::Stack => 100,
+            Row::ShareCommon | Row::LoadCommon | Row::StoreCommon | Row::LoadBeside | Row::Stack =>
+                100,
             _ => 2_000,
         }
     }

@@ -63,7 +63,10 @@ fn try_push<R: Wait>(
                 return None;
             }
             let_go(rt, domain, desk, top);
-            Some(Attempt { node: desired, top: held })
+            Some(Attempt {
+                node: desired,
+                top: held,
+            })
         }
         Err(refused) => {
             let Refused { why: _, back } = refused;
