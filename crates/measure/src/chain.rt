@@ -34,7 +34,9 @@ pub(crate) fn end_left<R: Wait>(rt: &R, domain: &Domain<()>, desk: &mut Desk<()>
     }
     match left {
         Left::Empty | Left::Others => {}
-        Left::Last(ending) => ending.finish(domain, desk),
+        Left::Last(ending) => {
+            ending.forget();
+        }
     }
 }
 

@@ -29,11 +29,11 @@ fn try_push<R: Wait>(
     rt: &R,
     domain: &Domain<()>,
     desk: &mut Desk<()>,
-    head: SharedAt,
+    head: u32,
     attempt: Attempt,
 ) -> Option<Attempt>
     requires domain { Belongs desk.old domain.now }
-    requires head { head.index < desk.old.shape.shared_cells }
+    requires head { head < desk.old.shape.shared_cells }
     requires bag { (l : List Handle) × (bag_of desk.old ≡ with_handle Owner attempt.top.block attempt.top.place (with_handle Owner attempt.node.block attempt.node.place l)) }
     requires real { IsReal attempt.top × IsReal attempt.node }
     ensures desk { IsSameDesk desk.old desk.new }
@@ -49,7 +49,8 @@ fn try_push<R: Wait>(
     };
     let left = store_next(domain, desk, &node, copy);
     end_left(rt, domain, desk, left);
-    match head.compare_exchange_weak(rt, domain, desk, &top, node) {
+    let cell = SharedAt::free(head);
+    match cell.compare_exchange_weak(rt, domain, desk, &top, node) {
         Ok(Compared::Swapped(old)) => {
             let_go(rt, domain, desk, old);
             let_go(rt, domain, desk, top);
@@ -83,11 +84,11 @@ fn try_pop<R: Wait>(
     rt: &R,
     domain: &Domain<()>,
     desk: &mut Desk<()>,
-    head: SharedAt,
+    head: u32,
     top: Shared,
 ) -> Option<Shared>
     requires domain { Belongs desk.old domain.now }
-    requires head { head.index < desk.old.shape.shared_cells }
+    requires head { head < desk.old.shape.shared_cells }
     requires bag { (l : List Handle) × (bag_of desk.old ≡ with_handle Owner top.block top.place l) }
     requires real { IsReal top }
     ensures desk { IsSameDesk desk.old desk.new }
@@ -104,7 +105,8 @@ fn try_pop<R: Wait>(
         let_go(rt, domain, desk, top);
         return None;
     }
-    match head.compare_exchange_weak(rt, domain, desk, &top, next) {
+    let cell = SharedAt::free(head);
+    match cell.compare_exchange_weak(rt, domain, desk, &top, next) {
         Ok(Compared::Swapped(old)) => {
             let_go(rt, domain, desk, old);
             let_go(rt, domain, desk, top);
@@ -132,19 +134,14 @@ fn try_pop<R: Wait>(
 
 /// The top of the stack, or none where the cell is empty.
 #[tactic(auto, using(crate::proofs::Taken::first_out))]
-fn top_of<R: Wait>(
-    rt: &R,
-    domain: &Domain<()>,
-    desk: &mut Desk<()>,
-    head: SharedAt,
-) -> Option<Shared>
+fn top_of<R: Wait>(rt: &R, domain: &Domain<()>, desk: &mut Desk<()>, head: u32) -> Option<Shared>
     requires domain { Belongs desk.old domain.now }
-    requires head { head.index < desk.old.shape.shared_cells }
+    requires head { head < desk.old.shape.shared_cells }
     ensures desk { IsSameDesk desk.old desk.new }
     ensures real { IfSome result IsReal }
     ensures bag { MatchOption result (bag_of desk.new ≡ bag_of desk.old) (λ t. bag_of desk.new ≡ with_handle Owner t.block t.place (bag_of desk.old)) }
 {
-    let Ok(top) = head.load(rt, domain, desk) else {
+    let Ok(top) = SharedAt::free(head).load(rt, domain, desk) else {
         return None;
     };
     if top.block().is_none() {
@@ -156,9 +153,9 @@ fn top_of<R: Wait>(
 
 /// A new node goes to the top.
 #[tactic(auto, using(crate::proofs::Taken::first_out, crate::proofs::Chained::second_out, crate::proofs::Observed::first_held, crate::proofs::Chained::second_held))]
-fn push<R: Wait>(rt: &R, domain: &Domain<()>, desk: &mut Desk<()>, head: SharedAt)
+fn push<R: Wait>(rt: &R, domain: &Domain<()>, desk: &mut Desk<()>, head: u32)
     requires domain { Belongs desk.old domain.now }
-    requires head { head.index < desk.old.shape.shared_cells }
+    requires head { head < desk.old.shape.shared_cells }
     ensures desk { IsSameDesk desk.old desk.new }
     ensures bag { bag_of desk.new ≡ bag_of desk.old }
 {
@@ -183,9 +180,9 @@ fn push<R: Wait>(rt: &R, domain: &Domain<()>, desk: &mut Desk<()>, head: SharedA
 
 /// The top node leaves, if it isn't the bottom.
 #[tactic(auto, using(crate::proofs::Taken::first_out, crate::proofs::Observed::first_held))]
-fn pop<R: Wait>(rt: &R, domain: &Domain<()>, desk: &mut Desk<()>, head: SharedAt)
+fn pop<R: Wait>(rt: &R, domain: &Domain<()>, desk: &mut Desk<()>, head: u32)
     requires domain { Belongs desk.old domain.now }
-    requires head { head.index < desk.old.shape.shared_cells }
+    requires head { head < desk.old.shape.shared_cells }
     ensures desk { IsSameDesk desk.old desk.new }
     ensures bag { bag_of desk.new ≡ bag_of desk.old }
 {
@@ -207,15 +204,14 @@ pub(crate) fn push_and_pop<R: Wait>(
     rt: &R,
     domain: &Domain<()>,
     desk: &mut Desk<()>,
-    cell: u32,
+    head: u32,
     count: u32,
 )
     requires domain { Belongs desk.old domain.now }
-    requires cell { cell < desk.old.shape.shared_cells }
+    requires head { head < desk.old.shape.shared_cells }
     ensures desk { IsSameDesk desk.old desk.new }
     ensures bag { bag_of desk.new ≡ bag_of desk.old }
 {
-    let head = SharedAt::free(cell);
     for _ in 0..count {
         push(rt, domain, desk, head);
         pop(rt, domain, desk, head);
