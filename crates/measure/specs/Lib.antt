@@ -1,2 +1,3 @@
 pub mod Workers
 pub mod Observers
+pub mod Nodes

@@ -1,9 +1,11 @@
 //! The rows of one thread alone, which works on longer lists.
 ghost use Rattle.std.specs.Prelude.{◌≡◌};
 ghost use Rattle.std.specs.List.{All};
+ghost use Rattle.control_block.specs.CellCalls.{Belongs};
 ghost use Rattle.control_block.specs.Desks.{IsSameDesk, bag_of};
 ghost use Rattle.measure.specs.Observers.{IsWatched};
 
+use crate::chain::{CHAIN, build, let_go};
 use crate::observers::{OBSERVERS, Observer, notify, recruit, retire};
 use crate::rows::line;
 use crate::timing::{CHUNKS, SPAN, Spent, nanos};
@@ -75,6 +77,64 @@ fn notifications<R: Clock + CpuClock + Wait + Print>(
     Ok(())
 }
 
+/// Ends of chains for as long as a row runs. What makes a chain is not in it.
+#[tactic(auto, using(crate::proofs::Taken::first_out, crate::proofs::Observed::first_held))]
+fn time_ends<R: Clock + CpuClock + Wait>(
+    rt: &R,
+    domain: &Domain<()>,
+    desk: &mut Desk<()>,
+) -> io::Result<Spent>
+    requires domain { Belongs desk.old domain.now }
+    ensures desk { IsSameDesk desk.old desk.new }
+{
+    let mut spent = Spent {
+        wall: 0,
+        processor: 0,
+        chunks: 0,
+    };
+    for chunk in 1..=CHUNKS {
+        let Some(first) = build(rt, domain, desk) else {
+            return Err(io::Error::from(io::ErrorKind::OutOfMemory));
+        };
+        let before = rt.thread_cpu_time();
+        let start = Instant::now(rt);
+        let_go(rt, domain, desk, first);
+        let wall = start?.elapsed(rt)?;
+        let processor = rt.thread_cpu_time()?.saturating_sub(before?);
+        spent.chunks = chunk;
+        spent.wall = spent.wall.saturating_add(nanos(wall));
+        spent.processor = spent.processor.saturating_add(nanos(processor));
+        if spent.wall >= SPAN {
+            break;
+        }
+    }
+    Ok(spent)
+}
+
+/// A chain's row, so many times; what comes before the first is not told.
+fn ends<R: Clock + CpuClock + Wait + Print>(
+    rt: &R,
+    domain: &Domain<()>,
+    desk: &mut Desk<()>,
+    passes: u32,
+) -> io::Result<()>
+    requires domain { Belongs desk.old domain.now }
+    ensures desk { IsSameDesk desk.old desk.new }
+{
+    time_ends(rt, domain, desk)?;
+    for _ in 0..passes {
+        let spent = time_ends(rt, domain, desk)?;
+        line(
+            rt,
+            "end of a chain of 4,095, each",
+            CHAIN,
+            &[spent],
+            &[spent],
+        )?;
+    }
+    Ok(())
+}
+
 /// The rows, so many times.
 pub(crate) fn measure<R: Clock + CpuClock + Wait + Print>(
     rt: &R,
@@ -83,7 +143,7 @@ pub(crate) fn measure<R: Clock + CpuClock + Wait + Print>(
     desk: &mut Desk<()>,
     passes: u32,
 ) -> io::Result<()>
-    requires domain { desk.old.domain ≡ domain.now.id }
+    requires domain { Belongs desk.old domain.now }
     ensures desk { IsSameDesk desk.old desk.new }
 {
     let Ok(observers) = recruit(domain, desk, alloc) else {
@@ -95,5 +155,6 @@ pub(crate) fn measure<R: Clock + CpuClock + Wait + Print>(
         notifications(rt, domain, desk, observers.as_slice(), passes)
     };
     retire(domain, desk, observers);
-    told
+    told?;
+    ends(rt, domain, desk, passes)
 }

@@ -8,9 +8,12 @@ ghost use Rattle.measure.specs.Workers.{IsManaged, IsTeamReady};
 
 mod alone;
 mod cell_rounds;
+mod chain;
+mod next;
 mod observers;
 mod rounds;
 mod rows;
+mod stack;
 mod timing;
 mod workers;
 
@@ -30,7 +33,7 @@ use std::{env, io};
 use workers::Team;
 
 const SHAPE: Shape = Shape {
-    blocks: 2_048,
+    blocks: 8_192,
     shared_cells: 9,
     weak_cells: 0,
     allowance: 4_096,
@@ -66,7 +69,7 @@ fn with_team<R: Clock + CpuClock + Threads + Wait + Sync + Print>(
 ) -> io::Result<()>
     requires domain { (desk.old.domain ≡ domain.now.id) × (desk.old.shape ≡ domain.now.shape) }
     requires cells { 8 < domain.now.shape.shared_cells }
-    ensures domain { desk.new.domain ≡ domain.now.id }
+    ensures domain { (desk.new.domain ≡ domain.now.id) × (desk.new.shape ≡ domain.now.shape) }
     ensures sum { allowance_of desk.new ≡ allowance_of desk.old }
 {
     let Ok(common) = make(domain, desk, FIELDS, false, ()) else {

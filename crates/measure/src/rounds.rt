@@ -17,8 +17,8 @@ use std::sync::Wait;
 /// The fields of each object, as the peers have them.
 pub(crate) const FIELDS: [u64; 4] = [1, 2, 3, 4];
 
-// Objects of these rounds hold nothing in their members.
-fn lose(left: Left<()>) {
+/// What is left of a member that nothing was put into: it held nothing.
+pub(crate) fn lose(left: Left<()>) {
     match left {
         Left::Empty | Left::Others => {}
         Left::Last(ending) => {

@@ -16,6 +16,7 @@ pub(crate) enum Row {
     StoreOwn,
     ExchangeOwn,
     CompareOwn,
+    Stack,
     /// The first thread's part of a row that has one writer.
     StoreCommon,
     /// The other threads' part of it.
@@ -24,7 +25,7 @@ pub(crate) enum Row {
 
 impl Row {
     /// Those of one, two and four threads, of which the first does this.
-    pub(crate) const ALL: [Row; 12] = [
+    pub(crate) const ALL: [Row; 13] = [
         Row::MakeEnd,
         Row::ShareOwn,
         Row::ShareCommon,
@@ -37,6 +38,7 @@ impl Row {
         Row::ExchangeOwn,
         Row::CompareOwn,
         Row::StoreCommon,
+        Row::Stack,
     ];
 
     /// What the threads after the first do.
@@ -51,7 +53,8 @@ impl Row {
     /// together.
     pub(crate) fn chunk(self) -> u32 {
         match self {
-            Row::ShareCommon | Row::LoadCommon | Row::StoreCommon | Row::LoadBeside => 100,
+            Row::ShareCommon | Row::LoadCommon | Row::StoreCommon | Row::LoadBeside | Row::Stack =>
+                100,
             _ => 2_000,
         }
     }
@@ -70,6 +73,7 @@ impl Row {
             Row::StoreOwn => "cell store of a copy, own cell",
             Row::ExchangeOwn => "cell exchange, own cell",
             Row::CompareOwn => "cell compare_exchange of a copy, own cell",
+            Row::Stack => "stack push + pop",
             Row::StoreCommon => "cell store of a copy, others load",
             Row::LoadBeside => "cell load + release, the first stores",
         }

@@ -4,7 +4,7 @@ ghost use Rattle.measure.specs.Workers.{IsPairReady, IsReady, IsTeamReady};
 
 use crate::rows::Row;
 use crate::workers::{COMMON_CELL, Pair, Team, Worker};
-use crate::{cell_rounds, rounds};
+use crate::{cell_rounds, rounds, stack};
 use control_block::domain::Domain;
 use std::rt::Clock;
 use std::sync::Wait;
@@ -119,6 +119,7 @@ fn work<R: Wait>(rt: &R, domain: &Domain<()>, worker: &mut Worker, row: Row)
         ),
         Row::StoreOwn => cell_rounds::store_copies(domain, desk, own, *cell, count),
         Row::StoreCommon => cell_rounds::store_copies(domain, desk, own, COMMON_CELL, count),
+        Row::Stack => stack::push_and_pop(rt, domain, desk, COMMON_CELL, count),
         Row::ExchangeOwn => cell_rounds::exchange(domain, desk, own, *cell, count),
         Row::CompareOwn => {
             cell_rounds::compare_and_exchange(rt, domain, desk, own, *cell, count);

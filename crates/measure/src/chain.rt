@@ -1,0 +1,77 @@
+//! Chains of objects, each the owner of the next, and their ends.
+ghost use Rattle.std.specs.Prelude.{◌≡◌, ◌<◌, ◌+◌, MatchOption, IfSome};
+ghost use Rattle.control_word.specs.declared.handle.Kind.TheVariants.{Owner};
+ghost use Rattle.control_block.specs.CellCalls.{Belongs};
+ghost use Rattle.control_block.specs.Desks.{IsSameDesk, bag_of};
+ghost use Rattle.shared_handle.specs.Calls.{Holds, with_handle, without_handle};
+ghost use Rattle.measure.specs.Nodes.{CanEnd};
+ghost use Rattle.measure.specs.Workers.{IsReal};
+
+use crate::next::{bury, store_next};
+use crate::rounds::FIELDS;
+use control_block::desk::Desk;
+use control_block::domain::Domain;
+use shared_handle::{Left, Shared, make, release};
+use std::sync::Wait;
+
+/// How long a chain is.
+pub(crate) const CHAIN: u32 = 4_095;
+
+/// Where an owner was the last, its object ends, and with it the chain of those that it alone owned, one after the other.
+pub(crate) fn end_left<R: Wait>(rt: &R, domain: &Domain<()>, desk: &mut Desk<()>, left: Left<()>)
+    requires domain { Belongs desk.old domain.now }
+    requires left { CanEnd desk.old left }
+    ensures desk { IsSameDesk desk.old desk.new }
+    ensures bag { bag_of desk.new ≡ bag_of desk.old }
+    ensures held { desk.new.held ≡ desk.old.held }
+{
+    let mut left = left;
+    for _ in rt.forever() {
+        match left {
+            Left::Empty | Left::Others => return,
+            Left::Last(ending) => left = bury(domain, desk, ending),
+        }
+    }
+    match left {
+        Left::Empty | Left::Others => {}
+        Left::Last(ending) => {
+            ending.forget();
+        }
+    }
+}
+
+/// An owner of a node leaves, and what it alone owned ends.
+pub(crate) fn let_go<R: Wait>(rt: &R, domain: &Domain<()>, desk: &mut Desk<()>, owner: Shared)
+    requires domain { Belongs desk.old domain.now }
+    requires holds { Holds desk.old Owner owner.block owner.place }
+    ensures desk { IsSameDesk desk.old desk.new }
+    ensures bag { bag_of desk.new ≡ without_handle Owner owner.block owner.place (bag_of desk.old) }
+    ensures held { desk.new.held + 1 ≡ desk.old.held }
+{
+    let left = release(domain, desk, owner);
+    end_left(rt, domain, desk, left);
+}
+
+/// A chain: the owner of its first object. None where the desk has too few blocks.
+#[tactic(auto, using(crate::proofs::Taken::first_out, crate::proofs::Chained::second_out, crate::proofs::Observed::first_held, crate::proofs::Chained::second_held))]
+pub(crate) fn build<R: Wait>(rt: &R, domain: &Domain<()>, desk: &mut Desk<()>) -> Option<Shared>
+    requires domain { Belongs desk.old domain.now }
+    ensures desk { IsSameDesk desk.old desk.new }
+    ensures real { IfSome result IsReal }
+    ensures bag { MatchOption result (bag_of desk.new ≡ bag_of desk.old) (λ h. bag_of desk.new ≡ with_handle Owner h.block h.place (bag_of desk.old)) }
+    ensures held { MatchOption result (desk.new.held ≡ desk.old.held) (λ h. desk.new.held ≡ desk.old.held + 1) }
+{
+    let Ok(mut first) = make(domain, desk, FIELDS, false, ()) else {
+        return None;
+    };
+    for _ in 1..CHAIN {
+        let Ok(node) = make(domain, desk, FIELDS, false, ()) else {
+            let_go(rt, domain, desk, first);
+            return None;
+        };
+        let left = store_next(domain, desk, &node, first);
+        end_left(rt, domain, desk, left);
+        first = node;
+    }
+    Some(first)
+}

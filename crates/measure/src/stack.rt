@@ -1,0 +1,219 @@
+//! A stack of nodes, each the owner of the one below it, with the top one in a cell; at the bottom is an object that stays.
+ghost use Rattle.std.specs.Prelude.{◌≡◌, ◌<◌, ◌+◌, List, MatchOption, IfSome};
+ghost use Rattle.control_word.specs.declared.handle.Handle.{Handle};
+ghost use Rattle.control_word.specs.declared.handle.Kind.TheVariants.{Owner};
+ghost use Rattle.control_block.specs.CellCalls.{Belongs};
+ghost use Rattle.control_block.specs.Desks.{IsSameDesk, bag_of};
+ghost use Rattle.shared_handle.specs.Calls.{with_handle};
+ghost use Rattle.measure.specs.Workers.{IsReal};
+
+use crate::chain::{end_left, let_go};
+use crate::next::{load_next, store_next};
+use crate::rounds::FIELDS;
+use atomic_cells::{Compared, SharedAt};
+use control_block::desk::Desk;
+use control_block::domain::Domain;
+use control_word::Refused;
+use shared_handle::{Shared, make, share};
+use std::sync::Wait;
+
+/// A new node, and the one at the top.
+struct Attempt {
+    node: Shared,
+    top: Shared,
+}
+
+/// One try to put the node above the top one. What to try next, if it isn't done.
+#[tactic(auto, using(crate::proofs::Taken::first_out, crate::proofs::Chained::second_out, crate::proofs::Observed::first_held, crate::proofs::Chained::second_held))]
+fn try_push<R: Wait>(
+    rt: &R,
+    domain: &Domain<()>,
+    desk: &mut Desk<()>,
+    head: u32,
+    attempt: Attempt,
+) -> Option<Attempt>
+    requires domain { Belongs desk.old domain.now }
+    requires head { head < desk.old.shape.shared_cells }
+    requires bag { (l : List Handle) × (bag_of desk.old ≡ with_handle Owner attempt.top.block attempt.top.place (with_handle Owner attempt.node.block attempt.node.place l)) }
+    requires real { IsReal attempt.top × IsReal attempt.node }
+    ensures desk { IsSameDesk desk.old desk.new }
+    ensures real { IfSome result (λ a. IsReal a.top × IsReal a.node) }
+    ensures bag { (l : List Handle) → bag_of desk.old ≡ with_handle Owner attempt.top.block attempt.top.place (with_handle Owner attempt.node.block attempt.node.place l)
+        → MatchOption result (bag_of desk.new ≡ l) (λ a. bag_of desk.new ≡ with_handle Owner a.top.block a.top.place (with_handle Owner a.node.block a.node.place l)) }
+{
+    let Attempt { node, top } = attempt;
+    let Ok(copy) = share(domain, desk, &top) else {
+        let_go(rt, domain, desk, top);
+        let_go(rt, domain, desk, node);
+        return None;
+    };
+    let left = store_next(domain, desk, &node, copy);
+    end_left(rt, domain, desk, left);
+    let cell = SharedAt::free(head);
+    match cell.compare_exchange_weak(rt, domain, desk, &top, node) {
+        Ok(Compared::Swapped(old)) => {
+            let_go(rt, domain, desk, old);
+            let_go(rt, domain, desk, top);
+            None
+        }
+        Ok(Compared::Differs { held, desired }) => {
+            if held.block().is_none() {
+                let_go(rt, domain, desk, held);
+                let_go(rt, domain, desk, top);
+                let_go(rt, domain, desk, desired);
+                return None;
+            }
+            let_go(rt, domain, desk, top);
+            Some(Attempt {
+                node: desired,
+                top: held,
+            })
+        }
+        Err(refused) => {
+            let Refused { why: _, back } = refused;
+            let_go(rt, domain, desk, top);
+            let_go(rt, domain, desk, back);
+            None
+        }
+    }
+}
+
+/// One try to take the top node from the stack. What to try next, if it isn't done.
+#[tactic(auto, using(crate::proofs::Taken::first_out, crate::proofs::Chained::second_out, crate::proofs::Observed::first_held, crate::proofs::Chained::second_held))]
+fn try_pop<R: Wait>(
+    rt: &R,
+    domain: &Domain<()>,
+    desk: &mut Desk<()>,
+    head: u32,
+    top: Shared,
+) -> Option<Shared>
+    requires domain { Belongs desk.old domain.now }
+    requires head { head < desk.old.shape.shared_cells }
+    requires bag { (l : List Handle) × (bag_of desk.old ≡ with_handle Owner top.block top.place l) }
+    requires real { IsReal top }
+    ensures desk { IsSameDesk desk.old desk.new }
+    ensures real { IfSome result IsReal }
+    ensures bag { (l : List Handle) → bag_of desk.old ≡ with_handle Owner top.block top.place l
+        → MatchOption result (bag_of desk.new ≡ l) (λ t. bag_of desk.new ≡ with_handle Owner t.block t.place l) }
+{
+    let Ok(next) = load_next(rt, domain, desk, &top) else {
+        let_go(rt, domain, desk, top);
+        return None;
+    };
+    if next.block().is_none() {
+        let_go(rt, domain, desk, next);
+        let_go(rt, domain, desk, top);
+        return None;
+    }
+    let cell = SharedAt::free(head);
+    match cell.compare_exchange_weak(rt, domain, desk, &top, next) {
+        Ok(Compared::Swapped(old)) => {
+            let_go(rt, domain, desk, old);
+            let_go(rt, domain, desk, top);
+            None
+        }
+        Ok(Compared::Differs { held, desired }) => {
+            if held.block().is_none() {
+                let_go(rt, domain, desk, held);
+                let_go(rt, domain, desk, desired);
+                let_go(rt, domain, desk, top);
+                return None;
+            }
+            let_go(rt, domain, desk, desired);
+            let_go(rt, domain, desk, top);
+            Some(held)
+        }
+        Err(refused) => {
+            let Refused { why: _, back } = refused;
+            let_go(rt, domain, desk, back);
+            let_go(rt, domain, desk, top);
+            None
+        }
+    }
+}
+
+/// The top of the stack, or none where the cell is empty.
+#[tactic(auto, using(crate::proofs::Taken::first_out))]
+fn top_of<R: Wait>(rt: &R, domain: &Domain<()>, desk: &mut Desk<()>, head: u32) -> Option<Shared>
+    requires domain { Belongs desk.old domain.now }
+    requires head { head < desk.old.shape.shared_cells }
+    ensures desk { IsSameDesk desk.old desk.new }
+    ensures real { IfSome result IsReal }
+    ensures bag { MatchOption result (bag_of desk.new ≡ bag_of desk.old) (λ t. bag_of desk.new ≡ with_handle Owner t.block t.place (bag_of desk.old)) }
+{
+    let Ok(top) = SharedAt::free(head).load(rt, domain, desk) else {
+        return None;
+    };
+    if top.block().is_none() {
+        let_go(rt, domain, desk, top);
+        return None;
+    }
+    Some(top)
+}
+
+/// A new node goes to the top.
+#[tactic(auto, using(crate::proofs::Taken::first_out, crate::proofs::Chained::second_out, crate::proofs::Observed::first_held, crate::proofs::Chained::second_held))]
+fn push<R: Wait>(rt: &R, domain: &Domain<()>, desk: &mut Desk<()>, head: u32)
+    requires domain { Belongs desk.old domain.now }
+    requires head { head < desk.old.shape.shared_cells }
+    ensures desk { IsSameDesk desk.old desk.new }
+    ensures bag { bag_of desk.new ≡ bag_of desk.old }
+{
+    let Ok(node) = make(domain, desk, FIELDS, false, ()) else {
+        return;
+    };
+    let Some(top) = top_of(rt, domain, desk, head) else {
+        let_go(rt, domain, desk, node);
+        return;
+    };
+    let mut attempt = Attempt { node, top };
+    for _ in rt.forever() {
+        match try_push(rt, domain, desk, head, attempt) {
+            None => return,
+            Some(next) => attempt = next,
+        }
+    }
+    let Attempt { node, top } = attempt;
+    let_go(rt, domain, desk, top);
+    let_go(rt, domain, desk, node);
+}
+
+/// The top node leaves, if it isn't the bottom.
+#[tactic(auto, using(crate::proofs::Taken::first_out, crate::proofs::Observed::first_held))]
+fn pop<R: Wait>(rt: &R, domain: &Domain<()>, desk: &mut Desk<()>, head: u32)
+    requires domain { Belongs desk.old domain.now }
+    requires head { head < desk.old.shape.shared_cells }
+    ensures desk { IsSameDesk desk.old desk.new }
+    ensures bag { bag_of desk.new ≡ bag_of desk.old }
+{
+    let Some(top) = top_of(rt, domain, desk, head) else {
+        return;
+    };
+    let mut top = top;
+    for _ in rt.forever() {
+        match try_pop(rt, domain, desk, head, top) {
+            None => return,
+            Some(next) => top = next,
+        }
+    }
+    let_go(rt, domain, desk, top);
+}
+
+/// Nodes that come and leave, each time one.
+pub(crate) fn push_and_pop<R: Wait>(
+    rt: &R,
+    domain: &Domain<()>,
+    desk: &mut Desk<()>,
+    head: u32,
+    count: u32,
+)
+    requires domain { Belongs desk.old domain.now }
+    requires head { head < desk.old.shape.shared_cells }
+    ensures desk { IsSameDesk desk.old desk.new }
+    ensures bag { bag_of desk.new ≡ bag_of desk.old }
+{
+    for _ in 0..count {
+        push(rt, domain, desk, head);
+        pop(rt, domain, desk, head);
+    }
+}
