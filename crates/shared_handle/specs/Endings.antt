@@ -43,6 +43,12 @@ module _ {V : Type 0} where
   IsLeft d b p Others e = (c : Block) × (b ≡ Some c) × Adds d (Leave (on_latest d Owner p c.0) false) e
   IsLeft d b p (Last x) e = (b ≡ Some x.block) × Adds d (Leave (on_latest d Owner p x.block.0) true) e × Ends e x × IsUncleared x
 
+  -- what ends for it, if an object does, is not the one in the block
+  abbrev pub IsBeside : ℕ → Left V → Type 0
+  IsBeside b Empty = Unit {0}
+  IsBeside b Others = Unit {0}
+  IsBeside b (Last x) = x.block.0 ≢ b
+
   -- how many more objects end for it
   abbrev pub more_ending : Left V → ℕ
   more_ending Empty = 0

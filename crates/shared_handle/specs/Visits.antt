@@ -1,6 +1,5 @@
 -- What a visit of a value says.
 use Rattle.std.specs.Prelude.{◌≡◌, Option, None, Some, Result, Ok, Err}
-use Rattle.std.specs.Fn.{FnOnceReturnsAtMut}
 use Rattle.control_word.specs.declared.event.Event.TheVariants.{Visit}
 use Rattle.control_word.specs.declared.handle.Kind.TheVariants.{Owner}
 use Rattle.control_word.specs.declared.place.Block.{Block}

@@ -1,7 +1,7 @@
 //! The members of an object that ends are emptied before its end.
 ghost use Rattle.std.specs.Prelude.{◌≡◌, ℕ, ◌+◌, ◌<◌, Bool, cond, length};
 ghost use Rattle.control_block.specs.Desks.{IsCleared, IsSameDesk, KeepsOtherEndings, bag_of, endings_of, stock_of};
-ghost use Rattle.shared_handle.specs.Endings.{Clears, ClearsUp, Ends, IsClearing, more_ending, with_clear};
+ghost use Rattle.shared_handle.specs.Endings.{Clears, ClearsUp, Ends, IsBeside, IsClearing, more_ending, with_clear};
 
 use crate::endings::{Ending, Left, Member};
 use control_block::clear_calls;
@@ -23,6 +23,7 @@ impl<V: Drop + Send> Ending<V> {
         ensures stock { length (stock_of desk.new) ≡ length (stock_of desk.old) }
         ensures endings { KeepsOtherEndings desk.old self.now.block.0 desk.new }
         ensures count { endings_of desk.new ≡ endings_of desk.old + more_ending result }
+        ensures beside { IsBeside self.now.block.0 result }
     {
         let (held, value) = clear_calls::clear_shared(domain, desk, self.block, member);
         let Some(block) = held.block else {
@@ -35,6 +36,7 @@ impl<V: Drop + Send> Ending<V> {
     }
 
     // The weak member is emptied.
+    #[tactic(auto, using(crate::proofs::Beside::up_beside))]
     fn clear_up(&self, domain: &Domain<V>, desk: &mut Desk<V>) -> Left<V>
         requires domain { desk.old.domain ≡ domain.now.id }
         requires ends { Ends desk.old self.now }
@@ -46,6 +48,7 @@ impl<V: Drop + Send> Ending<V> {
         ensures desk { IsSameDesk desk.old desk.new }
         ensures endings { KeepsOtherEndings desk.old self.now.block.0 desk.new }
         ensures count { endings_of desk.new ≡ endings_of desk.old + more_ending result }
+        ensures beside { IsBeside self.now.block.0 result }
     {
         let (held, _) = clear_calls::clear_weak(domain, desk, self.block);
         match held.block {
@@ -55,8 +58,8 @@ impl<V: Drop + Send> Ending<V> {
     }
 
     /// A member is emptied, and what it held leaves (own): it answers what a release of that answers, and for `up` never
-    /// `Last`. It refuses nothing, at the allowance too: the desk keeps one place of its allowance free while an object ends in
-    /// its hands.
+    /// `Last`. An object that ends for it is another than this one, and the two may be finished in either order. It refuses
+    /// nothing, at the allowance too: the desk keeps one place of its allowance free while an object ends in its hands.
     pub fn clear_member(
         &mut self,
         domain: &Domain<V>,
@@ -73,6 +76,7 @@ impl<V: Drop + Send> Ending<V> {
         ensures desk { IsSameDesk desk.old desk.new }
         ensures endings { KeepsOtherEndings desk.old self.old.block.0 desk.new }
         ensures count { endings_of desk.new ≡ endings_of desk.old + more_ending result }
+        ensures beside { IsBeside self.old.block.0 result }
     {
         match member {
             Member::First => {
