@@ -3,6 +3,8 @@
 #![tactic(auto)]
 
 #[cfg(test)]
+mod cascade_tests;
+#[cfg(test)]
 mod compare_tests;
 mod compared;
 #[cfg(test)]

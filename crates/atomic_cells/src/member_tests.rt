@@ -3,7 +3,7 @@ ghost use Rattle.std.specs.Prelude.{◌≡◌, ◌+◌, IfSome, Some};
 ghost use Rattle.control_word.specs.declared.place.Block.{Block};
 ghost use Rattle.control_word.specs.declared.handle.Kind.TheVariants.{Owner, Weak};
 ghost use Rattle.control_block.specs.CellCalls.{Belongs};
-ghost use Rattle.control_block.specs.Desks.{IsSameDesk, bag_of};
+ghost use Rattle.control_block.specs.Desks.{IsSameDesk, KeepsOtherEndings, bag_of};
 ghost use Rattle.shared_handle.specs.Calls.{Holds, with_handle, without_handle};
 ghost use Rattle.shared_handle.specs.Endings.{Ends};
 
@@ -19,7 +19,7 @@ use std::sync::Wait;
 use std::test::Fail;
 
 // What was left of what a cell held; nothing here ends in another's member.
-fn told(left: Left<u64>) -> Was {
+pub(crate) fn told(left: Left<u64>) -> Was {
     match left {
         Left::Empty => Was::Empty,
         Left::Others => Was::Others,
@@ -32,7 +32,7 @@ fn told(left: Left<u64>) -> Was {
 
 // An owner goes into a member of the whole: what the store found.
 #[tactic(auto, using(crate::proofs::Members::member_open))]
-fn put_in(
+pub(crate) fn put_in(
     domain: &Domain<u64>,
     desk: &mut Desk<u64>,
     whole: &Shared,
@@ -107,15 +107,16 @@ fn tell_in<R: Wait>(
 }
 
 // What an object's end finds: in first, next and up, and its value.
-type Found = (Was, Was, Was, u64);
+pub(crate) type Found = (Was, Was, Was, u64);
 
 // The end of an object whose members are the last owners of none.
-fn end_of(domain: &Domain<u64>, desk: &mut Desk<u64>, ending: Ending<u64>) -> Found
+pub(crate) fn end_of(domain: &Domain<u64>, desk: &mut Desk<u64>, ending: Ending<u64>) -> Found
     requires domain { desk.old.domain ≡ domain.now.id }
     requires ends { Ends desk.old ending }
     ensures desk { IsSameDesk desk.old desk.new }
     ensures bag { bag_of desk.new ≡ bag_of desk.old }
     ensures held { desk.new.held ≡ desk.old.held }
+    ensures endings { KeepsOtherEndings desk.old ending.block.0 desk.new }
 {
     let mut ending = ending;
     let first = ending.clear_member(domain, desk, Member::First);

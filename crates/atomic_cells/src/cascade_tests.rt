@@ -1,0 +1,88 @@
+//! An object that ends within another's end, as the last owner of it was a member of that.
+ghost use Rattle.std.specs.Prelude.{◌≡◌, ◌+◌};
+ghost use Rattle.control_word.specs.declared.handle.Kind.TheVariants.{Owner};
+ghost use Rattle.control_block.specs.CellCalls.{Belongs};
+ghost use Rattle.control_block.specs.Desks.{IsSameDesk, bag_of};
+ghost use Rattle.shared_handle.specs.Calls.{Holds, without_handle};
+ghost use Rattle.shared_handle.specs.Endings.{Ends};
+
+use crate::SharedMember;
+use crate::member_tests::{Found, end_of, put_in, told};
+use crate::tests::{Was, drop_owner, object, shape, shut};
+use control_block::desk::Desk;
+use control_block::domain::{Domain, open};
+use shared_handle::{Ending, Left, Member, Shared, release};
+use std::test::Fail;
+
+// What two ends find: that within and that around it.
+pub(crate) type Both = (Found, Found);
+
+// The end of an object whose first member is the last owner of another. That ends first, while this one has a member left.
+fn end_both(domain: &Domain<u64>, desk: &mut Desk<u64>, around: Ending<u64>) -> Option<Both>
+    requires domain { desk.old.domain ≡ domain.now.id }
+    requires ends { Ends desk.old around }
+    ensures desk { IsSameDesk desk.old desk.new }
+    ensures bag { bag_of desk.new ≡ bag_of desk.old }
+    ensures held { desk.new.held ≡ desk.old.held }
+{
+    let mut around = around;
+    match around.clear_member(domain, desk, Member::First) {
+        Left::Empty | Left::Others => {
+            around.forget();
+            None
+        }
+        Left::Last(within) => {
+            let next = around.clear_member(domain, desk, Member::Next);
+            let inner = end_of(domain, desk, within);
+            let up = around.clear_member(domain, desk, Member::Up);
+            let value = around.finish(domain, desk);
+            Some((inner, (Was::Last, told(next), told(up), value)))
+        }
+    }
+}
+
+// The last owner leaves of an object that has the last owner of another in its first member.
+pub(crate) fn leave_both(domain: &Domain<u64>, desk: &mut Desk<u64>, owner: Shared) -> Option<Both>
+    requires domain { desk.old.domain ≡ domain.now.id }
+    requires held { Holds desk.old Owner owner.block owner.place }
+    ensures desk { IsSameDesk desk.old desk.new }
+    ensures bag { bag_of desk.new ≡ without_handle Owner owner.block owner.place (bag_of desk.old) }
+    ensures held { desk.new.held + 1 ≡ desk.old.held }
+{
+    match release(domain, desk, owner) {
+        Left::Empty | Left::Others => None,
+        Left::Last(around) => end_both(domain, desk, around),
+    }
+}
+
+// Object 1 is the only owner of object 2, by its first member: what the store found there, and what both ends find.
+#[tactic(auto, using(shared_handle::proofs::Taken::first_out))]
+fn end_a_tree(domain: &Domain<u64>, desk: &mut Desk<u64>) -> Option<(Option<Was>, Option<Both>)>
+    requires domain { Belongs desk.old domain.now }
+    ensures desk { IsSameDesk desk.old desk.new }
+{
+    let a = object(domain, desk, 1)?;
+    let Some(b) = object(domain, desk, 2) else {
+        drop_owner(domain, desk, a);
+        return None;
+    };
+    let first = put_in(domain, desk, &a, SharedMember::First, b);
+    let both = leave_both(domain, desk, a);
+    Some((first, both))
+}
+
+#[test]
+fn a_tree_ends_from_its_root(rt: HostRuntime) -> Result<(), Fail> {
+    let (domain, mut desk) = open::<u64>(rt.alloc(), shape(2, 0, 0, 2))
+        .ok()
+        .ok_or("memory")?;
+    let seen = end_a_tree(&domain, &mut desk);
+    let left = shut(domain, desk);
+    let (first, both) = seen.ok_or("memory")?;
+    let (inner, outer) = both.ok_or("no two ends")?;
+    assert_eq!(rt; first, Some(Was::Empty));
+    assert_eq!(rt; inner, (Was::Empty, Was::Empty, Was::Empty, 2));
+    assert_eq!(rt; outer, (Was::Last, Was::Empty, Was::Empty, 1));
+    assert_eq!(rt; left, 2);
+    Ok(())
+}
