@@ -10,6 +10,8 @@ mod compared;
 #[cfg(test)]
 mod crowd_tests;
 #[cfg(test)]
+mod member_swap_tests;
+#[cfg(test)]
 mod member_tests;
 #[cfg(test)]
 mod race_tests;

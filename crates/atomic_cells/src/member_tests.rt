@@ -81,7 +81,7 @@ fn put_up(
 
 // The field and the owners of what a member of the whole holds.
 #[tactic(auto, using(crate::proofs::Members::member_open, shared_handle::proofs::Taken::first_out))]
-fn tell_in<R: Wait>(
+pub(crate) fn tell_in<R: Wait>(
     rt: &R,
     domain: &Domain<u64>,
     desk: &mut Desk<u64>,
