@@ -1,5 +1,4 @@
-ghost use Rattle.std.specs.Prelude.{◌≡◌, ◌+◌, ◌-◌, ◌<◌, ◌≤◌, [], length, IfOk, IfErr, IfSome, IsTrue, None, Some};
-ghost use Rattle.control_block.specs.declared.handles.Held.TheVariants.{Owner};
+ghost use Rattle.std.specs.Prelude.{◌≡◌, ◌+◌, ◌-◌, ◌<◌, ◌≤◌, [], ◌∷◌, length, IfOk, IfErr, IfSome, IsTrue, None, Some};
 ghost use Rattle.control_block.specs.Desks.{allowance_of, bag_of, stock_of};
 ghost use Rattle.control_block.specs.Parting.{listed};
 
@@ -167,7 +166,7 @@ fn count_two(desk: &mut Desk<u64>) -> bool
     ensures fits { IsTrue result → desk.new ≡ record desk.old { held = desk.old.held + 2 } }
     ensures same { (IsTrue result → ⊥) → desk.new ≡ desk.old }
 {
-    if desk.allowance - desk.held < 2 {
+    if desk.endings > 0 || desk.allowance - desk.held < 2 {
         return false;
     }
     desk.held += 2;
@@ -177,7 +176,7 @@ fn count_two(desk: &mut Desk<u64>) -> bool
 // An empty owner that stores a pointer to this field.
 fn empty_at(field: u8) -> Held
     requires { field < 4 }
-    ensures { result ≡ Owner record { block = None; place = Some record { block = record { 0 = 1 }; field = field } } }
+    ensures { listed (result ∷ []) ≡ [] }
 {
     Held::Owner(Shared {
         block: None,
