@@ -93,12 +93,12 @@ fn time_ends<R: Clock + CpuClock + Wait>(
         chunks: 0,
     };
     for chunk in 1..=CHUNKS {
-        let Some(first) = build(rt, domain, desk) else {
+        let Some(first) = build(domain, desk) else {
             return Err(io::Error::from(io::ErrorKind::OutOfMemory));
         };
         let before = rt.thread_cpu_time();
         let start = Instant::now(rt);
-        let_go(rt, domain, desk, first);
+        let_go(domain, desk, first);
         let wall = start?.elapsed(rt)?;
         let processor = rt.thread_cpu_time()?.saturating_sub(before?);
         spent.chunks = chunk;

@@ -32,8 +32,11 @@ use std::time::CpuClock;
 use std::{env, io};
 use workers::Team;
 
+/// How many objects there can be.
+const BLOCKS: u32 = 8_192;
+
 const SHAPE: Shape = Shape {
-    blocks: 8_192,
+    blocks: BLOCKS,
     shared_cells: 9,
     weak_cells: 0,
     allowance: 4_096,

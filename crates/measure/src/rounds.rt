@@ -17,7 +17,7 @@ use std::sync::Wait;
 /// The fields of each object, as the peers have them.
 pub(crate) const FIELDS: [u64; 4] = [1, 2, 3, 4];
 
-/// What is left of a member that nothing was put into: it held nothing.
+/// What is left where nothing more is to end: an object that did would end in the desk's hands for good.
 pub(crate) fn lose(left: Left<()>) {
     match left {
         Left::Empty | Left::Others => {}

@@ -43,27 +43,27 @@ fn try_push<R: Wait>(
 {
     let Attempt { node, top } = attempt;
     let Ok(copy) = share(domain, desk, &top) else {
-        let_go(rt, domain, desk, top);
-        let_go(rt, domain, desk, node);
+        let_go(domain, desk, top);
+        let_go(domain, desk, node);
         return None;
     };
     let left = store_next(domain, desk, &node, copy);
-    end_left(rt, domain, desk, left);
+    end_left(domain, desk, left);
     let cell = SharedAt::free(head);
     match cell.compare_exchange_weak(rt, domain, desk, &top, node) {
         Ok(Compared::Swapped(old)) => {
-            let_go(rt, domain, desk, old);
-            let_go(rt, domain, desk, top);
+            let_go(domain, desk, old);
+            let_go(domain, desk, top);
             None
         }
         Ok(Compared::Differs { held, desired }) => {
             if held.block().is_none() {
-                let_go(rt, domain, desk, held);
-                let_go(rt, domain, desk, top);
-                let_go(rt, domain, desk, desired);
+                let_go(domain, desk, held);
+                let_go(domain, desk, top);
+                let_go(domain, desk, desired);
                 return None;
             }
-            let_go(rt, domain, desk, top);
+            let_go(domain, desk, top);
             Some(Attempt {
                 node: desired,
                 top: held,
@@ -71,8 +71,8 @@ fn try_push<R: Wait>(
         }
         Err(refused) => {
             let Refused { why: _, back } = refused;
-            let_go(rt, domain, desk, top);
-            let_go(rt, domain, desk, back);
+            let_go(domain, desk, top);
+            let_go(domain, desk, back);
             None
         }
     }
@@ -97,36 +97,36 @@ fn try_pop<R: Wait>(
         → MatchOption result (bag_of desk.new ≡ l) (λ t. bag_of desk.new ≡ with_handle Owner t.block t.place l) }
 {
     let Ok(next) = load_next(rt, domain, desk, &top) else {
-        let_go(rt, domain, desk, top);
+        let_go(domain, desk, top);
         return None;
     };
     if next.block().is_none() {
-        let_go(rt, domain, desk, next);
-        let_go(rt, domain, desk, top);
+        let_go(domain, desk, next);
+        let_go(domain, desk, top);
         return None;
     }
     let cell = SharedAt::free(head);
     match cell.compare_exchange_weak(rt, domain, desk, &top, next) {
         Ok(Compared::Swapped(old)) => {
-            let_go(rt, domain, desk, old);
-            let_go(rt, domain, desk, top);
+            let_go(domain, desk, old);
+            let_go(domain, desk, top);
             None
         }
         Ok(Compared::Differs { held, desired }) => {
             if held.block().is_none() {
-                let_go(rt, domain, desk, held);
-                let_go(rt, domain, desk, desired);
-                let_go(rt, domain, desk, top);
+                let_go(domain, desk, held);
+                let_go(domain, desk, desired);
+                let_go(domain, desk, top);
                 return None;
             }
-            let_go(rt, domain, desk, desired);
-            let_go(rt, domain, desk, top);
+            let_go(domain, desk, desired);
+            let_go(domain, desk, top);
             Some(held)
         }
         Err(refused) => {
             let Refused { why: _, back } = refused;
-            let_go(rt, domain, desk, back);
-            let_go(rt, domain, desk, top);
+            let_go(domain, desk, back);
+            let_go(domain, desk, top);
             None
         }
     }
@@ -145,7 +145,7 @@ fn top_of<R: Wait>(rt: &R, domain: &Domain<()>, desk: &mut Desk<()>, head: u32) 
         return None;
     };
     if top.block().is_none() {
-        let_go(rt, domain, desk, top);
+        let_go(domain, desk, top);
         return None;
     }
     Some(top)
@@ -163,7 +163,7 @@ fn push<R: Wait>(rt: &R, domain: &Domain<()>, desk: &mut Desk<()>, head: u32)
         return;
     };
     let Some(top) = top_of(rt, domain, desk, head) else {
-        let_go(rt, domain, desk, node);
+        let_go(domain, desk, node);
         return;
     };
     let mut attempt = Attempt { node, top };
@@ -174,8 +174,8 @@ fn push<R: Wait>(rt: &R, domain: &Domain<()>, desk: &mut Desk<()>, head: u32)
         }
     }
     let Attempt { node, top } = attempt;
-    let_go(rt, domain, desk, top);
-    let_go(rt, domain, desk, node);
+    let_go(domain, desk, top);
+    let_go(domain, desk, node);
 }
 
 /// The top node leaves, if it isn't the bottom.
@@ -196,7 +196,7 @@ fn pop<R: Wait>(rt: &R, domain: &Domain<()>, desk: &mut Desk<()>, head: u32)
             Some(next) => top = next,
         }
     }
-    let_go(rt, domain, desk, top);
+    let_go(domain, desk, top);
 }
 
 /// Nodes that come and leave, each time one.
