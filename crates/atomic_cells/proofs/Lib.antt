@@ -1,3 +1,4 @@
 pub mod Joined
 pub mod Kept
+pub mod Members
 pub mod Taken

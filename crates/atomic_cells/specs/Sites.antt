@@ -6,7 +6,6 @@ use Rattle.control_word.specs.declared.place.Block.{Block}
 use Rattle.control_word.specs.declared.place.Place.{Place}
 use Rattle.control_word.specs.declared.refusal.Refusal.{Refusal}
 use Rattle.control_word.specs.declared.refusal.Refusal.TheVariants.{Null, Outside}
-use Rattle.control_word.specs.declared.shape.Shape.{Shape}
 use Rattle.control_block.specs.CellCalls.{cell_at}
 use Rattle.control_block.specs.Desks.{DeskNow, HasHandle}
 use Rattle.control_block.specs.declared.cell_calls.Site.{Site}
@@ -32,15 +31,6 @@ shared_site (shared.Of b m) = inner.Member b (number_of m)
 abbrev pub weak_site : ℕ → WeakSite → Site
 weak_site z (weak.Free n) = inner.Free (z + n)
 weak_site z (weak.Up b) = inner.Member b 2
-
--- a free cell is one of the shape
-abbrev pub IsFreeShared : Shape → SharedSite → Type 0
-IsFreeShared z (shared.Free n) = n < z.shared_cells
-IsFreeShared z (shared.Of b m) = ⊥
-
-abbrev pub IsFreeWeak : Shape → WeakSite → Type 0
-IsFreeWeak z (weak.Free n) = n < z.weak_cells
-IsFreeWeak z (weak.Up b) = ⊥
 
 -- the number of a free one is below so many
 abbrev pub IsFewWeak : ℕ → WeakSite → Type 0

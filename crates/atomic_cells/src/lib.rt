@@ -8,7 +8,11 @@ mod compared;
 #[cfg(test)]
 mod crowd_tests;
 #[cfg(test)]
+mod member_tests;
+#[cfg(test)]
 mod race_tests;
+#[cfg(test)]
+mod refusal_tests;
 #[cfg(test)]
 mod reuse_tests;
 #[cfg(test)]

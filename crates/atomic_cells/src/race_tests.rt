@@ -39,13 +39,7 @@ fn round<R: Wait>(
 }
 
 // In a thread: 10,000 rounds. How many were answered.
-fn work<R: Wait>(
-    rt: &R,
-    domain: &Domain<u64>,
-    desk: &mut Desk<u64>,
-    at: u32,
-    owner: &Shared,
-) -> u32
+fn work<R: Wait>(rt: &R, domain: &Domain<u64>, desk: &mut Desk<u64>, at: u32, owner: &Shared) -> u32
     requires domain { Belongs desk.old domain.now }
     requires cell { at < desk.old.shape.shared_cells }
     requires holds { Holds desk.old Owner owner.now.block owner.now.place }

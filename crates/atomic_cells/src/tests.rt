@@ -14,7 +14,8 @@ use control_block::domain::{Domain, open};
 use control_block::handles;
 use control_word::Shape;
 use shared_handle::{
-    Ending, Left, Member, Shared, downgrade, expired, make, read, release, release_weak, share, use_count,
+    Ending, Left, Member, Shared, downgrade, expired, make, read, release, release_weak, share,
+    use_count,
 };
 use std::sync::Wait;
 use std::test::Fail;

@@ -1,5 +1,6 @@
 -- What contracts see of a desk after a call: its bag, and what it keeps.
-use Rattle.std.proofs.Common.{◌≡◌, ◌≢◌, arith, ℕ, ◌+◌, ◌==◌, ◌↔◌, min, IsTrue, true≢false, ◌<◌, ◌⊎◌, ⊎_elim, Bool, true, false, List, ◌∷◌, ◌++◌, map, length, Option, Some, None, refl, sym, ap, subst, ◌∙◌}
+use Rattle.std.proofs.Common.{◌≡◌, ◌≢◌, arith, ℕ, ◌+◌, ◌==◌, ◌↔◌, min, IsTrue, true≢false, ◌<◌, ◌⊎◌, ⊎_elim, Bool}
+use Rattle.std.proofs.Common.{true, false, List, ◌∷◌, ◌++◌, map, length, Option, Some, None, refl, sym, ap, subst, ◌∙◌}
 use Rattle.std.specs.List.{filter}
 use Rattle.atomic_table.specs.Seated.{TableId}
 use Rattle.control_word.proofs.history.Given.{names_an_object}

@@ -3,11 +3,11 @@ ghost use Rattle.control_word.specs.Handles.{handle};
 ghost use Rattle.control_word.specs.declared.handle.Kind.TheVariants.{Owner, Weak};
 ghost use Rattle.control_block.specs.Desks.{HasHandle, IsEnding, IsSameDesk, allowance_of, bag_of};
 
-use crate::calls;
 use crate::census::close;
 use crate::desk::Desk;
 use crate::domain::{Domain, open};
 use crate::handles::{Pointer, Shared};
+use crate::{calls, clear_calls};
 use control_word::handle::Kind;
 use control_word::{Place, Shape};
 use std::marker::Brand;
@@ -67,6 +67,9 @@ fn end_under_a_weak_handle(
         return None;
     };
     let fields = calls::fields(domain, desk, owner.block);
+    clear_calls::clear_shared(domain, desk, owner.block, 0);
+    clear_calls::clear_shared(domain, desk, owner.block, 1);
+    clear_calls::clear_weak(domain, desk, owner.block);
     let free = calls::finish(domain, desk, owner.block);
     let after = calls::is_expired::<u64, Brand>(domain, desk, watch);
     let freed = calls::leave_weak::<u64, Brand>(domain, desk, watch);

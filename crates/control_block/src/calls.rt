@@ -8,7 +8,8 @@ ghost use Rattle.control_word.specs.declared.handle.Kind.TheVariants.{Owner, Wea
 ghost use Rattle.control_word.specs.declared.place.Place.{Place};
 ghost use Rattle.control_word.specs.State.{count, without};
 ghost use Rattle.control_block.specs.Refusals.{IsFullOrLimit};
-ghost use Rattle.control_block.specs.Desks.{Adds, HasHandle, IsCleared, IsEnding, IsNear, IsSameDesk, Keeps, KeepsEndings, KeepsOtherEndings, KeepsStock, MayGiveWeak, MayPoint, allowance_of, bag_of, endings_of, held_of, latest_of, object_in, on_latest, state_of, stock_of};
+ghost use Rattle.control_block.specs.Desks.{Adds, HasHandle, IsCleared, IsEnding, IsNear, IsSameDesk, Keeps, KeepsEndings, KeepsOtherEndings, KeepsStock};
+ghost use Rattle.control_block.specs.Desks.{MayGiveWeak, MayPoint, allowance_of, bag_of, endings_of, held_of, latest_of, object_in, on_latest, state_of, stock_of};
 ghost use Rattle.control_block.specs.Plays.{IsTold};
 
 use crate::desk::Desk;

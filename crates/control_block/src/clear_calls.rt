@@ -6,9 +6,9 @@ ghost use Rattle.control_block.specs.Desks.{IsCleared, IsEnding, IsSameDesk, Kee
 
 use crate::calls::put_by;
 use crate::cell_calls::Content;
+use crate::clears;
 use crate::desk::Desk;
 use crate::domain::Domain;
-use crate::clears;
 use crate::handles::Pointer;
 use control_word::Block;
 use control_word::handle::Kind;

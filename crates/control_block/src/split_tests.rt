@@ -24,6 +24,7 @@ fn spend(desk: Desk<u64>) {
         seat,
         allowance: _,
         held: _,
+        endings: _,
         store,
     } = desk;
     drop(seat);

@@ -25,6 +25,7 @@ fn is_empty(domain: Domain<u64>, desk: Desk<u64>) -> bool
                 seat,
                 allowance: _,
                 held: _,
+                endings: _,
                 store,
             } = desk;
             drop(seat);

@@ -113,7 +113,7 @@ fn one_block_and_two_handles(rt: HostRuntime) -> Result<(), Fail> {
     Ok(())
 }
 
-// What an object that ends says of itself: its fields, whether it is null and clear, and why it gives no owner.
+// What an object that ends says of itself: its fields, whether it is null, and clear before its clears, and why it gives no owner.
 fn last_words(
     domain: &Domain<u64>,
     desk: &mut Desk<u64>,
@@ -168,6 +168,6 @@ fn an_enabled_object_ends(rt: HostRuntime) -> Result<(), Fail> {
     };
     shut(domain, desk);
     let why = Some(Refusal::BadWeak);
-    assert_eq!(rt; seen, Some(([1, 2, 3, 4], true, why, true, 9, 1, 2)));
+    assert_eq!(rt; seen, Some(([1, 2, 3, 4], false, why, true, 9, 1, 2)));
     Ok(())
 }

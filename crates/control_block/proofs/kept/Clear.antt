@@ -113,8 +113,7 @@ module _ {V : Type 0} where
       let adds' = told k s r id v at rests.awake o b m i ends lt e d.taken rest more (d.bits ∙ sym (cell_shown (blocks_of t) old d.taken)) in
       let now : Stands z (set s.words i 0) (set (map view_of s.views) id (sees_as v.view Idle hist)) hist =
       subst (λ y. Stands z (set s.words y 0) (set (map view_of s.views) id (sees_as v.view Idle hist)) hist) is.there
-      (subst (λ h. Adds (point k s r id v) (cell_word (point k s r id v) c) 0 (ClearMember o m h) (purse (blocks_of t) h (256 - d.taken))) nothing adds') in
-      (
+      (subst (λ h. Adds (point k s r id v) (cell_word (point k s r id v) c) 0 (ClearMember o m h) (purse (blocks_of t) h (256 - d.taken))) nothing adds') in (
         seeing v Idle None hist,
         keeps,
         tt,

@@ -115,7 +115,6 @@ plain_step v d (Locking word) w = go w.todo
     go : (ts : List Task) → IsPlainStep (tried v d w word ts)
     go [] = tt
     go (t ∷ ts) = plain_tried v d w word t.statement ts t.act (locked w.slots t.act)
-
 plain_step v d (Giving i kind x) w = plain_given v d w i kind x w.todo
 
 pub plain_by : (v : Story) (d : ℕ) (x : Option Step) → IsPlainStep x → d < length v.views → Plain v → Plain (story_by v d x)

@@ -77,7 +77,8 @@ returns-in_default-clause-kept g c =
     let d = c.desk.inside in let h = c.desk.invariant in let b = c.args.block.0 in let m : ℕ = 2 in let x = c.clear-out.result in
     let ends = ends_in d c.args.desk.now b c.requires.ending.0 c.desk.view_is c.requires.ending.1 in let n = c.clear-out.ensures in
     let t : Inside g.row.V.Denot = record { seat = c.clear-out.new.chair; allowance = d.allowance; held = d.held; endings = d.endings; store = d.store } in
-    λ q ne. clear.kept_out d h b m ends Weak t x n.cleared n.chair.0 c.requires.ending.0 (subst (λ (z : DeskNow g.row.V.Denot). IsEnding z b c.requires.ending.0) (sym c.desk.view_is) c.requires.ending.1) q ne ∙ ap (λ (z : DeskNow g.row.V.Denot). member_in z b q) c.desk.view_is
+    λ q ne. clear.kept_out d h b m ends Weak t x n.cleared n.chair.0 c.requires.ending.0 (subst (λ (z : DeskNow g.row.V.Denot). IsEnding z b c.requires.ending.0) (sym c.desk.view_is)
+    c.requires.ending.1) q ne ∙ ap (λ (z : DeskNow g.row.V.Denot). member_in z b q) c.desk.view_is
 
 pub returns-in_default-clause-ending : goal.returns-in_default-clause-ending
 returns-in_default-clause-ending g c =
@@ -211,7 +212,8 @@ returns-clause-cleared g c =
     (clear_trades g.row.V.Denot (clear.o d h b m ends Weak t x n.cleared n.chair.0) m Weak) n.cleared c.in-Some.is).1 in
     let l = c.leave_weak_out-vacant.ensures in let r = c.leave_weak_out-vacant.result in
     let f : Inside g.row.V.Denot = record { seat = c.leave_weak_out-vacant.new.chair; allowance = d.allowance; held = d.held; endings = d.endings; store = c.put_by.new.store } in
-    let e = clear.ends_out d h b m ends Weak t x n.cleared n.chair.0 c.requires.ending.0 (subst (λ (z : DeskNow g.row.V.Denot). IsEnding z b c.requires.ending.0) (sym c.desk.view_is) c.requires.ending.1) in let s = leave.still_left t f mid a p r l.event holds l.chair.0 b c.requires.ending.0 e in
+    let e = clear.ends_out d h b m ends Weak t x n.cleared n.chair.0 c.requires.ending.0 (subst (λ (z : DeskNow g.row.V.Denot). IsEnding z b c.requires.ending.0) (sym c.desk.view_is)
+    c.requires.ending.1) in let s = leave.still_left t f mid a p r l.event holds l.chair.0 b c.requires.ending.0 e in
     s.members m ∙ clear.cleared_out d h b m ends Weak t x n.cleared n.chair.0 c.requires.ending.0 (subst (λ (z : DeskNow g.row.V.Denot). IsEnding z b c.requires.ending.0) (sym c.desk.view_is) c.requires.ending.1)
 
 pub returns-clause-kept : goal.returns-clause-kept
@@ -226,8 +228,10 @@ returns-clause-kept g c =
     (clear_trades g.row.V.Denot (clear.o d h b m ends Weak t x n.cleared n.chair.0) m Weak) n.cleared c.in-Some.is).1 in
     let l = c.leave_weak_out-vacant.ensures in let r = c.leave_weak_out-vacant.result in
     let f : Inside g.row.V.Denot = record { seat = c.leave_weak_out-vacant.new.chair; allowance = d.allowance; held = d.held; endings = d.endings; store = c.put_by.new.store } in
-    λ q ne. let e = clear.ends_out d h b m ends Weak t x n.cleared n.chair.0 c.requires.ending.0 (subst (λ (z : DeskNow g.row.V.Denot). IsEnding z b c.requires.ending.0) (sym c.desk.view_is) c.requires.ending.1) in let s = leave.still_left t f mid a p r l.event holds l.chair.0 b c.requires.ending.0 e in
-    s.members q ∙ (clear.kept_out d h b m ends Weak t x n.cleared n.chair.0 c.requires.ending.0 (subst (λ (z : DeskNow g.row.V.Denot). IsEnding z b c.requires.ending.0) (sym c.desk.view_is) c.requires.ending.1) q ne ∙ ap (λ (z : DeskNow g.row.V.Denot). member_in z b q) c.desk.view_is)
+    λ q ne. let e = clear.ends_out d h b m ends Weak t x n.cleared n.chair.0 c.requires.ending.0
+    (subst (λ (z : DeskNow g.row.V.Denot). IsEnding z b c.requires.ending.0) (sym c.desk.view_is) c.requires.ending.1) in let s = leave.still_left t f mid a p r l.event holds l.chair.0 b c.requires.ending.0 e in
+    s.members q ∙ (clear.kept_out d h b m ends Weak t x n.cleared n.chair.0 c.requires.ending.0
+    (subst (λ (z : DeskNow g.row.V.Denot). IsEnding z b c.requires.ending.0) (sym c.desk.view_is) c.requires.ending.1) q ne ∙ ap (λ (z : DeskNow g.row.V.Denot). member_in z b q) c.desk.view_is)
 
 pub returns-clause-ending : goal.returns-clause-ending
 returns-clause-ending g c =
