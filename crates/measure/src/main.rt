@@ -42,6 +42,24 @@ const SHAPE: Shape = Shape {
     allowance: 4_096,
 };
 
+/// A row of two and of four threads. None of the stack: where two desks share a node, the last to leave it gets its block, and
+/// in the end one of them would have none left.
+fn crowds<R: Clock + CpuClock + Threads + Wait + Sync + Print>(
+    rt: &R,
+    domain: &Domain<()>,
+    team: &mut Team,
+    row: Row,
+) -> io::Result<()>
+    requires { IsTeamReady domain.now team.old }
+    ensures { IsTeamReady domain.now team.new }
+{
+    if matches!(row, Row::Stack) {
+        return Ok(());
+    }
+    timing::two(rt, domain, &mut team.front, row)?;
+    timing::four(rt, domain, team, row)
+}
+
 /// All rows, so many times.
 fn measure<R: Clock + CpuClock + Threads + Wait + Sync + Print>(
     rt: &R,
@@ -55,8 +73,7 @@ fn measure<R: Clock + CpuClock + Threads + Wait + Sync + Print>(
     for _ in 0..passes {
         for row in Row::ALL {
             timing::one(rt, domain, &mut team.front.left, row)?;
-            timing::two(rt, domain, &mut team.front, row)?;
-            timing::four(rt, domain, team, row)?;
+            crowds(rt, domain, team, row)?;
         }
     }
     Ok(())
