@@ -34,11 +34,12 @@ fn time<R: Clock + CpuClock + Wait>(
         wall: 0,
         processor: 0,
         chunks: 0,
+        whole: true,
     };
     let start = Instant::now(rt)?;
     let before = rt.thread_cpu_time()?;
     for chunk in 1..=CHUNKS {
-        black_box(notify(rt, domain, desk, observers));
+        spent.whole &= black_box(notify(rt, domain, desk, observers)).is_some();
         spent.chunks = chunk;
         spent.wall = nanos(start.elapsed(rt)?);
         if spent.wall >= SPAN {
@@ -91,6 +92,7 @@ fn time_ends<R: Clock + CpuClock + Wait>(
         wall: 0,
         processor: 0,
         chunks: 0,
+        whole: true,
     };
     for chunk in 1..=CHUNKS {
         let Some(first) = build(domain, desk) else {
