@@ -1,7 +1,7 @@
 """Reads lines "test|peer|threads|nanoseconds|share" and prints, for each test, a row a peer that has it: nanoseconds by
-thread count, and the ratio to libstdc++. A sample is clean where each thread had a processor for 95 % of its time and
-all started together; a number is the lowest tenth of the clean samples, since other work on the machine adds to a
-sample, and - where there is none."""
+thread count, and the ratio to libstdc++. A sample is clean where each thread had a processor for 95 % of its time, all
+started together and no call was refused (else its share is 0); a number is the lowest tenth of the clean samples, since
+other work on the machine adds to a sample, and - where there is none."""
 import collections
 import sys
 

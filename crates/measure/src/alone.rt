@@ -34,11 +34,12 @@ fn time<R: Clock + CpuClock + Wait>(
         wall: 0,
         processor: 0,
         chunks: 0,
+        whole: true,
     };
     let start = Instant::now(rt)?;
     let before = rt.thread_cpu_time()?;
     for chunk in 1..=CHUNKS {
-        black_box(notify(rt, domain, desk, observers));
+        spent.whole &= black_box(notify(rt, domain, desk, observers)).is_some();
         spent.chunks = chunk;
         spent.wall = nanos(start.elapsed(rt)?);
         if spent.wall >= SPAN {
@@ -91,14 +92,15 @@ fn time_ends<R: Clock + CpuClock + Wait>(
         wall: 0,
         processor: 0,
         chunks: 0,
+        whole: true,
     };
     for chunk in 1..=CHUNKS {
-        let Some(first) = build(rt, domain, desk) else {
+        let Some(first) = build(domain, desk) else {
             return Err(io::Error::from(io::ErrorKind::OutOfMemory));
         };
         let before = rt.thread_cpu_time();
         let start = Instant::now(rt);
-        let_go(rt, domain, desk, first);
+        let_go(domain, desk, first);
         let wall = start?.elapsed(rt)?;
         let processor = rt.thread_cpu_time()?.saturating_sub(before?);
         spent.chunks = chunk;

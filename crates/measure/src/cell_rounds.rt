@@ -1,4 +1,4 @@
-//! The work of the rows of cells, on one desk: a user's own calls, `count` times.
+//! The work of the rows of cells, on one desk: a user's own calls, `count` times, and whether none was refused.
 ghost use Rattle.std.specs.Prelude.{◌≡◌, ◌+◌, ◌<◌};
 ghost use Rattle.control_word.specs.declared.handle.Kind.TheVariants.{Owner};
 ghost use Rattle.control_block.specs.CellCalls.{Belongs};
@@ -21,7 +21,7 @@ pub(crate) fn store_copies(
     owner: &Shared,
     cell: u32,
     count: u32,
-)
+) -> bool
     requires domain { Belongs desk.old domain.now }
     requires cell { cell < desk.old.shape.shared_cells }
     requires holds { Holds desk.old Owner owner.now.block owner.now.place }
@@ -31,13 +31,14 @@ pub(crate) fn store_copies(
 {
     for _ in 0..count {
         let Ok(copy) = share(domain, desk, owner) else {
-            return;
+            return false;
         };
         match SharedAt::free(cell).store(domain, desk, copy) {
             Left::Empty | Left::Others => {}
             Left::Last(ending) => bury(domain, desk, ending),
         }
     }
+    true
 }
 
 /// Copies of what a cell holds come and leave.
@@ -48,7 +49,7 @@ pub(crate) fn load_and_release<R: Wait>(
     desk: &mut Desk<()>,
     cell: u32,
     count: u32,
-)
+) -> bool
     requires domain { Belongs desk.old domain.now }
     requires cell { cell < desk.old.shape.shared_cells }
     ensures desk { IsSameDesk desk.old desk.new }
@@ -56,10 +57,12 @@ pub(crate) fn load_and_release<R: Wait>(
     ensures held { desk.new.held ≡ desk.old.held }
 {
     for _ in 0..count {
-        if let Ok(found) = SharedAt::free(cell).load(rt, domain, desk) {
-            end(domain, desk, found);
-        }
+        let Ok(found) = SharedAt::free(cell).load(rt, domain, desk) else {
+            return false;
+        };
+        end(domain, desk, found);
     }
+    true
 }
 
 /// An owner goes into a cell, and what comes out goes in again.
@@ -70,7 +73,7 @@ pub(crate) fn exchange(
     owner: &Shared,
     cell: u32,
     count: u32,
-)
+) -> bool
     requires domain { Belongs desk.old domain.now }
     requires cell { cell < desk.old.shape.shared_cells }
     requires holds { Holds desk.old Owner owner.now.block owner.now.place }
@@ -79,16 +82,17 @@ pub(crate) fn exchange(
     ensures held { desk.new.held ≡ desk.old.held }
 {
     let Ok(copy) = share(domain, desk, owner) else {
-        return;
+        return false;
     };
     let mut handle = copy;
     for _ in 0..count {
         handle = SharedAt::free(cell).exchange(domain, desk, handle);
     }
     end(domain, desk, handle);
+    true
 }
 
-/// A copy of an owner is for a cell that holds an equivalent one, and what came out leaves.
+/// A copy of an owner is for a cell that holds an equivalent one, and what came out leaves: whether no call was refused.
 #[tactic(auto, using(crate::proofs::Taken::first_out))]
 fn compare_once<R: Wait>(
     rt: &R,
@@ -96,7 +100,7 @@ fn compare_once<R: Wait>(
     desk: &mut Desk<()>,
     owner: &Shared,
     cell: u32,
-)
+) -> bool
     requires domain { Belongs desk.old domain.now }
     requires cell { cell < desk.old.shape.shared_cells }
     requires holds { Holds desk.old Owner owner.now.block owner.now.place }
@@ -105,17 +109,22 @@ fn compare_once<R: Wait>(
     ensures held { desk.new.held ≡ desk.old.held }
 {
     let Ok(copy) = share(domain, desk, owner) else {
-        return;
+        return false;
     };
     match SharedAt::free(cell).compare_exchange_strong(rt, domain, desk, owner, copy) {
-        Ok(Compared::Swapped(old)) => end(domain, desk, old),
+        Ok(Compared::Swapped(old)) => {
+            end(domain, desk, old);
+            true
+        }
         Ok(Compared::Differs { held, desired }) => {
             end(domain, desk, held);
             end(domain, desk, desired);
+            true
         }
         Err(refused) => {
             let Refused { why: _, back } = refused;
             end(domain, desk, back);
+            false
         }
     }
 }
@@ -128,7 +137,7 @@ pub(crate) fn compare_and_exchange<R: Wait>(
     owner: &Shared,
     cell: u32,
     count: u32,
-)
+) -> bool
     requires domain { Belongs desk.old domain.now }
     requires cell { cell < desk.old.shape.shared_cells }
     requires holds { Holds desk.old Owner owner.now.block owner.now.place }
@@ -137,6 +146,9 @@ pub(crate) fn compare_and_exchange<R: Wait>(
     ensures held { desk.new.held ≡ desk.old.held }
 {
     for _ in 0..count {
-        compare_once(rt, domain, desk, owner, cell);
+        if !compare_once(rt, domain, desk, owner, cell) {
+            return false;
+        }
     }
+    true
 }

@@ -7,18 +7,19 @@ ghost use Rattle.shared_handle.specs.Calls.{Holds, with_handle, without_handle};
 ghost use Rattle.measure.specs.Nodes.{CanEnd};
 ghost use Rattle.measure.specs.Workers.{IsReal};
 
+use crate::BLOCKS;
 use crate::next::{bury, store_next};
-use crate::rounds::FIELDS;
+use crate::rounds::{FIELDS, lose};
 use control_block::desk::Desk;
 use control_block::domain::Domain;
 use shared_handle::{Left, Shared, make, release};
-use std::sync::Wait;
 
 /// How long a chain is.
 pub(crate) const CHAIN: u32 = 4_095;
 
-/// Where an owner was the last, its object ends, and with it the chain of those that it alone owned, one after the other.
-pub(crate) fn end_left<R: Wait>(rt: &R, domain: &Domain<()>, desk: &mut Desk<()>, left: Left<()>)
+/// Where an owner was the last, its object ends, and with it the chain of those that it alone owned, one after the other: no
+/// more than there are blocks.
+pub(crate) fn end_left(domain: &Domain<()>, desk: &mut Desk<()>, left: Left<()>)
     requires domain { Belongs desk.old domain.now }
     requires left { CanEnd desk.old left }
     ensures desk { IsSameDesk desk.old desk.new }
@@ -26,22 +27,17 @@ pub(crate) fn end_left<R: Wait>(rt: &R, domain: &Domain<()>, desk: &mut Desk<()>
     ensures held { desk.new.held ≡ desk.old.held }
 {
     let mut left = left;
-    for _ in rt.forever() {
+    for _ in 0..BLOCKS {
         match left {
             Left::Empty | Left::Others => return,
             Left::Last(ending) => left = bury(domain, desk, ending),
         }
     }
-    match left {
-        Left::Empty | Left::Others => {}
-        Left::Last(ending) => {
-            ending.forget();
-        }
-    }
+    lose(left);
 }
 
 /// An owner of a node leaves, and what it alone owned ends.
-pub(crate) fn let_go<R: Wait>(rt: &R, domain: &Domain<()>, desk: &mut Desk<()>, owner: Shared)
+pub(crate) fn let_go(domain: &Domain<()>, desk: &mut Desk<()>, owner: Shared)
     requires domain { Belongs desk.old domain.now }
     requires holds { Holds desk.old Owner owner.block owner.place }
     ensures desk { IsSameDesk desk.old desk.new }
@@ -49,12 +45,12 @@ pub(crate) fn let_go<R: Wait>(rt: &R, domain: &Domain<()>, desk: &mut Desk<()>, 
     ensures held { desk.new.held + 1 ≡ desk.old.held }
 {
     let left = release(domain, desk, owner);
-    end_left(rt, domain, desk, left);
+    end_left(domain, desk, left);
 }
 
 /// A chain: the owner of its first object. None where the desk has too few blocks.
 #[tactic(auto, using(crate::proofs::Taken::first_out, crate::proofs::Chained::second_out, crate::proofs::Observed::first_held, crate::proofs::Chained::second_held))]
-pub(crate) fn build<R: Wait>(rt: &R, domain: &Domain<()>, desk: &mut Desk<()>) -> Option<Shared>
+pub(crate) fn build(domain: &Domain<()>, desk: &mut Desk<()>) -> Option<Shared>
     requires domain { Belongs desk.old domain.now }
     ensures desk { IsSameDesk desk.old desk.new }
     ensures real { IfSome result IsReal }
@@ -66,11 +62,11 @@ pub(crate) fn build<R: Wait>(rt: &R, domain: &Domain<()>, desk: &mut Desk<()>) -
     };
     for _ in 1..CHAIN {
         let Ok(node) = make(domain, desk, FIELDS, false, ()) else {
-            let_go(rt, domain, desk, first);
+            let_go(domain, desk, first);
             return None;
         };
         let left = store_next(domain, desk, &node, first);
-        end_left(rt, domain, desk, left);
+        end_left(domain, desk, left);
         first = node;
     }
     Some(first)

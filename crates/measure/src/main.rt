@@ -1,5 +1,6 @@
 //! `measure PASSES`: what a caller waits for each call on handles and cells, with 1, 2 and 4 threads. It prints lines
-//! "test|peer|threads|nanoseconds|share", as the peers' programs do, and nothing without an argument.
+//! "test|peer|threads|nanoseconds|share", as the peers' programs do, and nothing without an argument. Where a call was
+//! refused, the share is 0: then the time is no measure of the work.
 #![tactic(auto)]
 
 ghost use Rattle.std.specs.Prelude.{◌≡◌, ◌+◌, ◌<◌};
@@ -32,29 +33,37 @@ use std::time::CpuClock;
 use std::{env, io};
 use workers::Team;
 
+/// How many objects there can be. A multiple of 512, so that the cells, which lie behind the blocks, begin a page.
+const BLOCKS: u32 = 65_024;
+
 const SHAPE: Shape = Shape {
+    blocks: BLOCKS,
+    shared_cells: 9,
+    weak_cells: 0,
+    allowance: 4_096,
+};
+
+/// The same, for the rows of one thread alone.
+const SMALL: Shape = Shape {
     blocks: 8_192,
     shared_cells: 9,
     weak_cells: 0,
     allowance: 4_096,
 };
 
-/// All rows, so many times.
+/// All rows.
 fn measure<R: Clock + CpuClock + Threads + Wait + Sync + Print>(
     rt: &R,
     domain: &Domain<()>,
     team: &mut Team,
-    passes: u32,
 ) -> io::Result<()>
     requires { IsTeamReady domain.now team.old }
     ensures { IsTeamReady domain.now team.new }
 {
-    for _ in 0..passes {
-        for row in Row::ALL {
-            timing::one(rt, domain, &mut team.front.left, row)?;
-            timing::two(rt, domain, &mut team.front, row)?;
-            timing::four(rt, domain, team, row)?;
-        }
+    for row in Row::ALL {
+        timing::one(rt, domain, &mut team.front.left, row)?;
+        timing::two(rt, domain, &mut team.front, row)?;
+        timing::four(rt, domain, team, row)?;
     }
     Ok(())
 }
@@ -65,7 +74,6 @@ fn with_team<R: Clock + CpuClock + Threads + Wait + Sync + Print>(
     alloc: Global,
     domain: &Domain<()>,
     desk: &mut Desk<()>,
-    passes: u32,
 ) -> io::Result<()>
     requires domain { (desk.old.domain ≡ domain.now.id) × (desk.old.shape ≡ domain.now.shape) }
     requires cells { 8 < domain.now.shape.shared_cells }
@@ -77,13 +85,46 @@ fn with_team<R: Clock + CpuClock + Threads + Wait + Sync + Print>(
     };
     let told = match workers::hire_team(domain, desk, alloc, &common) {
         Some(mut team) => {
-            let told = measure(rt, domain, &mut team, passes);
+            let told = measure(rt, domain, &mut team);
             workers::dismiss_team(domain, desk, team, &common);
             told
         }
         None => Err(io::Error::from(io::ErrorKind::OutOfMemory)),
     };
     rounds::end(domain, desk, common);
+    told
+}
+
+/// All rows on a domain of their own, so that each worker begins with as many blocks.
+fn pass<R: Clock + CpuClock + Threads + Wait + Sync + Print>(
+    rt: &R,
+    alloc: Global,
+) -> io::Result<()> {
+    let Ok((domain, mut desk)) = open::<()>(alloc, SHAPE) else {
+        return Err(io::Error::from(io::ErrorKind::OutOfMemory));
+    };
+    let told = with_team(rt, alloc, &domain, &mut desk);
+    match close(domain, desk) {
+        Ok(census) => drop(census),
+        Err(_) => unreachable!(),
+    }
+    told
+}
+
+/// The rows of one thread alone, so many times.
+fn passes_alone<R: Clock + CpuClock + Wait + Print>(
+    rt: &R,
+    alloc: Global,
+    passes: u32,
+) -> io::Result<()> {
+    let Ok((domain, mut desk)) = open::<()>(alloc, SMALL) else {
+        return Err(io::Error::from(io::ErrorKind::OutOfMemory));
+    };
+    let told = alone::measure(rt, alloc, &domain, &mut desk, passes);
+    match close(domain, desk) {
+        Ok(census) => drop(census),
+        Err(_) => unreachable!(),
+    }
     told
 }
 
@@ -94,15 +135,8 @@ fn main(rt: HostRuntime) -> io::Result<()> {
     let Ok(passes) = passes.parse::<u32>() else {
         return Err(io::Error::from(io::ErrorKind::InvalidInput));
     };
-    let Ok((domain, mut desk)) = open::<()>(rt.alloc(), SHAPE) else {
-        return Err(io::Error::from(io::ErrorKind::OutOfMemory));
-    };
-    let told = with_team(&rt, rt.alloc(), &domain, &mut desk, passes);
-    let alone = alone::measure(&rt, rt.alloc(), &domain, &mut desk, passes);
-    match close(domain, desk) {
-        Ok(census) => drop(census),
-        Err(_) => unreachable!(),
+    for _ in 0..passes {
+        pass(&rt, rt.alloc())?;
     }
-    told?;
-    alone
+    passes_alone(&rt, rt.alloc(), passes)
 }

@@ -67,30 +67,31 @@ pub(crate) fn recruit(
     Ok(observers)
 }
 
-/// The subject asks each observer for an owner, and lets it go: how many gave one.
+/// The subject asks each observer for an owner, and lets it go: how many gave one, or none where a call was refused.
 pub(crate) fn notify<R: Wait>(
     rt: &R,
     domain: &Domain<()>,
     desk: &mut Desk<()>,
     observers: &[Observer],
-) -> usize
+) -> Option<usize>
     requires domain { desk.old.domain ≡ domain.now.id }
     requires watched { All (IsWatched (bag_of desk.old)) observers.now }
     ensures desk { IsSameDesk desk.old desk.new }
     ensures bag { bag_of desk.new ≡ bag_of desk.old }
     ensures held { desk.new.held ≡ desk.old.held }
-    ensures count { result ≤ length observers.now }
+    ensures count { IfSome result (λ n. n ≤ length observers.now) }
 {
     let mut living = 0;
     for observer in observers {
-        if let Ok(owner) = lock(rt, domain, desk, &observer.weak) {
-            if owner.block().is_some() {
-                living += 1;
-            }
-            end(domain, desk, owner);
+        let Ok(owner) = lock(rt, domain, desk, &observer.weak) else {
+            return None;
+        };
+        if owner.block().is_some() {
+            living += 1;
         }
+        end(domain, desk, owner);
     }
-    living
+    Some(living)
 }
 
 /// An observer's handles leave.

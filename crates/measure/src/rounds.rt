@@ -1,4 +1,4 @@
-//! The work of each row, on one desk: a user's own calls, `count` times.
+//! The work of each row, on one desk: a user's own calls, `count` times, and whether none was refused.
 ghost use Rattle.std.specs.Prelude.{◌≡◌, ◌+◌};
 ghost use Rattle.control_word.specs.declared.handle.Kind.TheVariants.{Owner, Weak};
 ghost use Rattle.control_block.specs.Desks.{IsSameDesk, bag_of};
@@ -17,7 +17,7 @@ use std::sync::Wait;
 /// The fields of each object, as the peers have them.
 pub(crate) const FIELDS: [u64; 4] = [1, 2, 3, 4];
 
-/// What is left of a member that nothing was put into: it held nothing.
+/// What is left where nothing more is to end: an object that did would end in the desk's hands for good.
 pub(crate) fn lose(left: Left<()>) {
     match left {
         Left::Empty | Left::Others => {}
@@ -61,17 +61,19 @@ pub(crate) fn end(domain: &Domain<()>, desk: &mut Desk<()>, owner: Shared)
 
 /// Objects that are made and end.
 #[tactic(auto, using(crate::proofs::Taken::first_out))]
-pub(crate) fn make_and_end(domain: &Domain<()>, desk: &mut Desk<()>, count: u32)
+pub(crate) fn make_and_end(domain: &Domain<()>, desk: &mut Desk<()>, count: u32) -> bool
     requires domain { desk.old.domain ≡ domain.now.id }
     ensures desk { IsSameDesk desk.old desk.new }
     ensures bag { bag_of desk.new ≡ bag_of desk.old }
     ensures held { desk.new.held ≡ desk.old.held }
 {
     for _ in 0..count {
-        if let Ok(owner) = make(domain, desk, FIELDS, false, ()) {
-            end(domain, desk, owner);
-        }
+        let Ok(owner) = make(domain, desk, FIELDS, false, ()) else {
+            return false;
+        };
+        end(domain, desk, owner);
     }
+    true
 }
 
 /// Copies of an owner that come and leave.
@@ -81,7 +83,7 @@ pub(crate) fn share_and_release(
     desk: &mut Desk<()>,
     owner: &Shared,
     count: u32,
-)
+) -> bool
     requires domain { desk.old.domain ≡ domain.now.id }
     requires holds { Holds desk.old Owner owner.now.block owner.now.place }
     ensures desk { IsSameDesk desk.old desk.new }
@@ -89,10 +91,12 @@ pub(crate) fn share_and_release(
     ensures held { desk.new.held ≡ desk.old.held }
 {
     for _ in 0..count {
-        if let Ok(copy) = share(domain, desk, owner) {
-            end(domain, desk, copy);
-        }
+        let Ok(copy) = share(domain, desk, owner) else {
+            return false;
+        };
+        end(domain, desk, copy);
     }
+    true
 }
 
 /// Weak handles of an owner that come and leave.
@@ -102,7 +106,7 @@ pub(crate) fn downgrade_and_release(
     desk: &mut Desk<()>,
     owner: &Shared,
     count: u32,
-)
+) -> bool
     requires domain { desk.old.domain ≡ domain.now.id }
     requires holds { Holds desk.old Owner owner.now.block owner.now.place }
     ensures desk { IsSameDesk desk.old desk.new }
@@ -110,14 +114,21 @@ pub(crate) fn downgrade_and_release(
     ensures held { desk.new.held ≡ desk.old.held }
 {
     for _ in 0..count {
-        if let Ok(weak) = downgrade(domain, desk, owner) {
-            release_weak(domain, desk, weak);
-        }
+        let Ok(weak) = downgrade(domain, desk, owner) else {
+            return false;
+        };
+        release_weak(domain, desk, weak);
     }
+    true
 }
 
 /// An owner that counts.
-pub(crate) fn count_owners(domain: &Domain<()>, desk: &mut Desk<()>, owner: &Shared, count: u32)
+pub(crate) fn count_owners(
+    domain: &Domain<()>,
+    desk: &mut Desk<()>,
+    owner: &Shared,
+    count: u32,
+) -> bool
     requires domain { desk.old.domain ≡ domain.now.id }
     requires holds { Holds desk.old Owner owner.now.block owner.now.place }
     ensures desk { IsSameDesk desk.old desk.new }
@@ -127,6 +138,7 @@ pub(crate) fn count_owners(domain: &Domain<()>, desk: &mut Desk<()>, owner: &Sha
     for _ in 0..count {
         black_box(use_count(domain, desk, owner));
     }
+    true
 }
 
 /// Owners that come of a weak handle, and leave.
@@ -137,18 +149,22 @@ fn lock_weak<R: Wait>(
     desk: &mut Desk<()>,
     weak: &handles::Weak,
     count: u32,
-)
+) -> bool
     requires domain { desk.old.domain ≡ domain.now.id }
     requires holds { Holds desk.old Weak weak.now.block weak.now.place }
     ensures desk { IsSameDesk desk.old desk.new }
     ensures bag { bag_of desk.new ≡ bag_of desk.old }
     ensures held { desk.new.held ≡ desk.old.held }
 {
+    let mut whole = true;
     for _ in 0..count {
         if let Ok(owner) = lock(rt, domain, desk, weak) {
             end(domain, desk, owner);
+        } else {
+            whole = false;
         }
     }
+    whole
 }
 
 /// The same, with a weak handle of an owner.
@@ -159,15 +175,17 @@ pub(crate) fn lock_and_release<R: Wait>(
     desk: &mut Desk<()>,
     owner: &Shared,
     count: u32,
-)
+) -> bool
     requires domain { desk.old.domain ≡ domain.now.id }
     requires holds { Holds desk.old Owner owner.now.block owner.now.place }
     ensures desk { IsSameDesk desk.old desk.new }
     ensures bag { bag_of desk.new ≡ bag_of desk.old }
     ensures held { desk.new.held ≡ desk.old.held }
 {
-    if let Ok(weak) = downgrade(domain, desk, owner) {
-        lock_weak(rt, domain, desk, &weak, count);
-        release_weak(domain, desk, weak);
-    }
+    let Ok(weak) = downgrade(domain, desk, owner) else {
+        return false;
+    };
+    let whole = lock_weak(rt, domain, desk, &weak, count);
+    release_weak(domain, desk, weak);
+    whole
 }

@@ -59,6 +59,15 @@ impl Row {
         }
     }
 
+    /// What the threads do until each has a processor: not the stack's, in which a node's block goes to the thread that
+    /// leaves it last, so that in the end one would have none left.
+    pub(crate) fn settling(self) -> Row {
+        match self {
+            Row::Stack => Row::ShareCommon,
+            row => row,
+        }
+    }
+
     /// Its name, as the peers' programs call it.
     fn name(self) -> &'static str {
         match self {
@@ -93,7 +102,7 @@ impl Row {
 }
 
 /// A line: nanoseconds of some of the threads by their rounds, and the least part of its time, of 100, that a thread had a
-/// processor, or that it shared with the others.
+/// processor, or that it shared with the others; 0 where a call was refused, since then the rounds weren't done.
 pub(crate) fn line<R: Print>(
     rt: &R,
     name: &str,
@@ -122,6 +131,9 @@ fn share_of(spent: &[Spent]) -> u64 {
     let mut least = u64::MAX;
     let mut most = 1u64;
     for thread in spent {
+        if !thread.whole {
+            return 0;
+        }
         share = share.min(thread.processor.saturating_mul(100) / thread.wall.max(1));
         least = least.min(thread.wall);
         most = most.max(thread.wall);

@@ -23,7 +23,8 @@ struct Attempt {
     top: Shared,
 }
 
-/// One try to put the node above the top one. What to try next, if it isn't done.
+/// One try to put the node above the top one. What to try next, if it isn't done; `whole` is false where it never will be,
+/// since a call was refused.
 #[tactic(auto, using(crate::proofs::Taken::first_out, crate::proofs::Chained::second_out, crate::proofs::Observed::first_held, crate::proofs::Chained::second_held))]
 fn try_push<R: Wait>(
     rt: &R,
@@ -31,6 +32,7 @@ fn try_push<R: Wait>(
     desk: &mut Desk<()>,
     head: u32,
     attempt: Attempt,
+    whole: &mut bool,
 ) -> Option<Attempt>
     requires domain { Belongs desk.old domain.now }
     requires head { head < desk.old.shape.shared_cells }
@@ -43,27 +45,29 @@ fn try_push<R: Wait>(
 {
     let Attempt { node, top } = attempt;
     let Ok(copy) = share(domain, desk, &top) else {
-        let_go(rt, domain, desk, top);
-        let_go(rt, domain, desk, node);
+        let_go(domain, desk, top);
+        let_go(domain, desk, node);
+        *whole = false;
         return None;
     };
     let left = store_next(domain, desk, &node, copy);
-    end_left(rt, domain, desk, left);
+    end_left(domain, desk, left);
     let cell = SharedAt::free(head);
     match cell.compare_exchange_weak(rt, domain, desk, &top, node) {
         Ok(Compared::Swapped(old)) => {
-            let_go(rt, domain, desk, old);
-            let_go(rt, domain, desk, top);
+            let_go(domain, desk, old);
+            let_go(domain, desk, top);
             None
         }
         Ok(Compared::Differs { held, desired }) => {
             if held.block().is_none() {
-                let_go(rt, domain, desk, held);
-                let_go(rt, domain, desk, top);
-                let_go(rt, domain, desk, desired);
+                let_go(domain, desk, held);
+                let_go(domain, desk, top);
+                let_go(domain, desk, desired);
+                *whole = false;
                 return None;
             }
-            let_go(rt, domain, desk, top);
+            let_go(domain, desk, top);
             Some(Attempt {
                 node: desired,
                 top: held,
@@ -71,14 +75,16 @@ fn try_push<R: Wait>(
         }
         Err(refused) => {
             let Refused { why: _, back } = refused;
-            let_go(rt, domain, desk, top);
-            let_go(rt, domain, desk, back);
+            *whole = false;
+            let_go(domain, desk, top);
+            let_go(domain, desk, back);
             None
         }
     }
 }
 
-/// One try to take the top node from the stack. What to try next, if it isn't done.
+/// One try to take the top node from the stack. What to try next, if it isn't done; `whole` is false where it never will
+/// be, since a call was refused or only the bottom is left.
 #[tactic(auto, using(crate::proofs::Taken::first_out, crate::proofs::Chained::second_out, crate::proofs::Observed::first_held, crate::proofs::Chained::second_held))]
 fn try_pop<R: Wait>(
     rt: &R,
@@ -86,6 +92,7 @@ fn try_pop<R: Wait>(
     desk: &mut Desk<()>,
     head: u32,
     top: Shared,
+    whole: &mut bool,
 ) -> Option<Shared>
     requires domain { Belongs desk.old domain.now }
     requires head { head < desk.old.shape.shared_cells }
@@ -97,36 +104,40 @@ fn try_pop<R: Wait>(
         → MatchOption result (bag_of desk.new ≡ l) (λ t. bag_of desk.new ≡ with_handle Owner t.block t.place l) }
 {
     let Ok(next) = load_next(rt, domain, desk, &top) else {
-        let_go(rt, domain, desk, top);
+        let_go(domain, desk, top);
+        *whole = false;
         return None;
     };
     if next.block().is_none() {
-        let_go(rt, domain, desk, next);
-        let_go(rt, domain, desk, top);
+        let_go(domain, desk, next);
+        let_go(domain, desk, top);
+        *whole = false;
         return None;
     }
     let cell = SharedAt::free(head);
     match cell.compare_exchange_weak(rt, domain, desk, &top, next) {
         Ok(Compared::Swapped(old)) => {
-            let_go(rt, domain, desk, old);
-            let_go(rt, domain, desk, top);
+            let_go(domain, desk, old);
+            let_go(domain, desk, top);
             None
         }
         Ok(Compared::Differs { held, desired }) => {
             if held.block().is_none() {
-                let_go(rt, domain, desk, held);
-                let_go(rt, domain, desk, desired);
-                let_go(rt, domain, desk, top);
+                let_go(domain, desk, held);
+                let_go(domain, desk, desired);
+                let_go(domain, desk, top);
+                *whole = false;
                 return None;
             }
-            let_go(rt, domain, desk, desired);
-            let_go(rt, domain, desk, top);
+            let_go(domain, desk, desired);
+            let_go(domain, desk, top);
             Some(held)
         }
         Err(refused) => {
             let Refused { why: _, back } = refused;
-            let_go(rt, domain, desk, back);
-            let_go(rt, domain, desk, top);
+            *whole = false;
+            let_go(domain, desk, back);
+            let_go(domain, desk, top);
             None
         }
     }
@@ -145,75 +156,81 @@ fn top_of<R: Wait>(rt: &R, domain: &Domain<()>, desk: &mut Desk<()>, head: u32) 
         return None;
     };
     if top.block().is_none() {
-        let_go(rt, domain, desk, top);
+        let_go(domain, desk, top);
         return None;
     }
     Some(top)
 }
 
-/// A new node goes to the top.
+/// A new node goes to the top: whether no call was refused.
 #[tactic(auto, using(crate::proofs::Taken::first_out, crate::proofs::Chained::second_out, crate::proofs::Observed::first_held, crate::proofs::Chained::second_held))]
-fn push<R: Wait>(rt: &R, domain: &Domain<()>, desk: &mut Desk<()>, head: u32)
+fn push<R: Wait>(rt: &R, domain: &Domain<()>, desk: &mut Desk<()>, head: u32) -> bool
     requires domain { Belongs desk.old domain.now }
     requires head { head < desk.old.shape.shared_cells }
     ensures desk { IsSameDesk desk.old desk.new }
     ensures bag { bag_of desk.new ≡ bag_of desk.old }
 {
     let Ok(node) = make(domain, desk, FIELDS, false, ()) else {
-        return;
+        return false;
     };
     let Some(top) = top_of(rt, domain, desk, head) else {
-        let_go(rt, domain, desk, node);
-        return;
+        let_go(domain, desk, node);
+        return false;
     };
     let mut attempt = Attempt { node, top };
+    let mut whole = true;
     for _ in rt.forever() {
-        match try_push(rt, domain, desk, head, attempt) {
-            None => return,
+        match try_push(rt, domain, desk, head, attempt, &mut whole) {
+            None => return whole,
             Some(next) => attempt = next,
         }
     }
     let Attempt { node, top } = attempt;
-    let_go(rt, domain, desk, top);
-    let_go(rt, domain, desk, node);
+    let_go(domain, desk, top);
+    let_go(domain, desk, node);
+    false
 }
 
-/// The top node leaves, if it isn't the bottom.
+/// The top node leaves, if it isn't the bottom: whether one did.
 #[tactic(auto, using(crate::proofs::Taken::first_out, crate::proofs::Observed::first_held))]
-fn pop<R: Wait>(rt: &R, domain: &Domain<()>, desk: &mut Desk<()>, head: u32)
+fn pop<R: Wait>(rt: &R, domain: &Domain<()>, desk: &mut Desk<()>, head: u32) -> bool
     requires domain { Belongs desk.old domain.now }
     requires head { head < desk.old.shape.shared_cells }
     ensures desk { IsSameDesk desk.old desk.new }
     ensures bag { bag_of desk.new ≡ bag_of desk.old }
 {
     let Some(top) = top_of(rt, domain, desk, head) else {
-        return;
+        return false;
     };
     let mut top = top;
+    let mut whole = true;
     for _ in rt.forever() {
-        match try_pop(rt, domain, desk, head, top) {
-            None => return,
+        match try_pop(rt, domain, desk, head, top, &mut whole) {
+            None => return whole,
             Some(next) => top = next,
         }
     }
-    let_go(rt, domain, desk, top);
+    let_go(domain, desk, top);
+    false
 }
 
-/// Nodes that come and leave, each time one.
+/// Nodes that come and leave, each time one, up to a call that is refused: whether none was.
 pub(crate) fn push_and_pop<R: Wait>(
     rt: &R,
     domain: &Domain<()>,
     desk: &mut Desk<()>,
     head: u32,
     count: u32,
-)
+) -> bool
     requires domain { Belongs desk.old domain.now }
     requires head { head < desk.old.shape.shared_cells }
     ensures desk { IsSameDesk desk.old desk.new }
     ensures bag { bag_of desk.new ≡ bag_of desk.old }
 {
     for _ in 0..count {
-        push(rt, domain, desk, head);
-        pop(rt, domain, desk, head);
+        if !push(rt, domain, desk, head) || !pop(rt, domain, desk, head) {
+            return false;
+        }
     }
+    true
 }

@@ -31,6 +31,8 @@ pub(crate) struct Spent {
     pub(crate) wall: u64,
     pub(crate) processor: u64,
     pub(crate) chunks: u32,
+    /// No call was refused.
+    pub(crate) whole: bool,
 }
 
 /// Where the threads of a row meet.
@@ -80,17 +82,17 @@ pub(crate) fn nanos(time: Duration) -> u64 {
     u64::try_from(time.as_nanos()).unwrap_or(0)
 }
 
-/// The worker's cell holds the worker's object, and the common cell the common one.
-fn fill(domain: &Domain<()>, worker: &mut Worker)
+/// The worker's cell holds the worker's object, and the common cell the common one: whether no call was refused.
+fn fill(domain: &Domain<()>, worker: &mut Worker) -> bool
     requires { IsReady domain.now worker.old }
     ensures { IsReady domain.now worker.new }
 {
-    cell_rounds::store_copies(domain, &mut worker.desk, &worker.own, worker.cell, 1);
-    cell_rounds::store_copies(domain, &mut worker.desk, &worker.common, COMMON_CELL, 1);
+    let own = cell_rounds::store_copies(domain, &mut worker.desk, &worker.own, worker.cell, 1);
+    own & cell_rounds::store_copies(domain, &mut worker.desk, &worker.common, COMMON_CELL, 1)
 }
 
-/// A chunk of rounds.
-fn work<R: Wait>(rt: &R, domain: &Domain<()>, worker: &mut Worker, row: Row)
+/// A chunk of rounds: whether no call was refused.
+fn work<R: Wait>(rt: &R, domain: &Domain<()>, worker: &mut Worker, row: Row) -> bool
     requires { IsReady domain.now worker.old }
     ensures { IsReady domain.now worker.new }
 {
@@ -122,12 +124,12 @@ fn work<R: Wait>(rt: &R, domain: &Domain<()>, worker: &mut Worker, row: Row)
         Row::Stack => stack::push_and_pop(rt, domain, desk, COMMON_CELL, count),
         Row::ExchangeOwn => cell_rounds::exchange(domain, desk, own, *cell, count),
         Row::CompareOwn => {
-            cell_rounds::compare_and_exchange(rt, domain, desk, own, *cell, count);
+            cell_rounds::compare_and_exchange(rt, domain, desk, own, *cell, count)
         }
     }
 }
 
-/// Chunks of rounds up to a moment, one at least: how many.
+/// Chunks of rounds up to a moment, one at least: how many, and whether no call was refused.
 fn work_until<R: Clock + Wait>(
     rt: &R,
     domain: &Domain<()>,
@@ -135,19 +137,20 @@ fn work_until<R: Clock + Wait>(
     row: Row,
     start: &Start,
     end: u64,
-) -> io::Result<u32>
+) -> io::Result<(u32, bool)>
     requires { IsReady domain.now worker.old }
     ensures { IsReady domain.now worker.new }
 {
     let mut chunks = 0;
+    let mut whole = true;
     for chunk in 1..=CHUNKS {
-        work(rt, domain, worker, row);
+        whole &= work(rt, domain, worker, row);
         chunks = chunk;
         if start.now(rt)? >= end {
             break;
         }
     }
-    Ok(chunks)
+    Ok((chunks, whole))
 }
 
 /// Chunks of rounds, from when all have come and settled up to a common moment.
@@ -161,17 +164,25 @@ fn time<R: Clock + CpuClock + Wait>(
     requires { IsReady domain.now worker.old }
     ensures { IsReady domain.now worker.new }
 {
-    fill(domain, worker);
+    let filled = fill(domain, worker);
     let end = start.meet(rt)?;
-    work_until(rt, domain, worker, row, start, end.saturating_sub(SPAN))?;
+    work_until(
+        rt,
+        domain,
+        worker,
+        row.settling(),
+        start,
+        end.saturating_sub(SPAN),
+    )?;
     let begin = start.now(rt)?;
     let before = rt.thread_cpu_time()?;
-    let chunks = work_until(rt, domain, worker, row, start, end)?;
+    let (chunks, whole) = work_until(rt, domain, worker, row, start, end)?;
     let after = rt.thread_cpu_time()?;
     Ok(Spent {
         wall: start.now(rt)?.saturating_sub(begin),
         processor: nanos(after.saturating_sub(before)),
         chunks,
+        whole: whole && filled,
     })
 }
 

@@ -16,8 +16,9 @@ use std::alloc::{AllocFailed, Global};
 /// How many handles a worker's desk may hold.
 pub(crate) const ALLOWANCE: u32 = 8;
 
-/// How many blocks it has: so many that what lies a byte apart for neighbouring blocks shares no cache line between desks.
-pub(crate) const BLOCKS: u32 = 128;
+/// How many blocks it has: more than a thread pushes nodes in a row of the stack, since it may be that others get the block
+/// of each. What lies a byte apart for neighbouring blocks shares no cache line between desks.
+pub(crate) const BLOCKS: u32 = 16_000;
 
 /// The cell that all workers have in common. Each has one more of its own, with an unused one between any two: 128 bytes
 /// apart, as the peers' are.

@@ -6,6 +6,6 @@ use Rattle.measure.specs.Workers.{IsReal}
 use Rattle.measure.proofs.chain.build.Given as goal
 
 abbrev pub invariant-loop : goal.invariant-loop
-invariant-loop g l =
+invariant-loop l =
     IsSameDesk l.fn.desk l.desk × (bag_of l.desk ≡ with_handle Owner l.first.block l.first.place (bag_of l.fn.desk))
     × (l.desk.held ≡ l.fn.desk.held + 1) × IsReal l.first

@@ -4,5 +4,5 @@ use Rattle.measure.specs.Nodes.{CanEnd}
 use Rattle.measure.proofs.chain.end_left.Given as goal
 
 abbrev pub invariant-loop : goal.invariant-loop
-invariant-loop g l =
+invariant-loop l =
     IsSameDesk l.initial.desk l.desk × (bag_of l.desk ≡ bag_of l.initial.desk) × (l.desk.held ≡ l.initial.desk.held) × CanEnd l.desk l.left
