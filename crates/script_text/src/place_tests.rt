@@ -148,7 +148,11 @@ fn calls(rt: HostRuntime) -> Result<(), Fail> {
     ];
     assert_eq!(rt; actor.kinds.as_slice(), kinds.as_slice());
     let [a, n, b, c, d, w] = [Name(0), Name(1), Name(2), Name(3), Name(4), Name(5)];
-    let [makes, aliases, moves, looks] = parts(actor.calls.as_slice())?;
+    let calls = actor.calls.as_slice();
+    if calls.len() != 13 {
+        return Err(Fail::from("13 calls"));
+    }
+    let (makes, aliases, moves, looks) = (&calls[..2], &calls[2..5], &calls[5..8], &calls[8..]);
     let fields = [7, 0, 0, 0];
     let make = Call::MakeThis { target: a, fields };
     assert_eq!(rt; makes, [make, Call::Null { target: n }].as_slice());
@@ -197,13 +201,4 @@ fn calls(rt: HostRuntime) -> Result<(), Fail> {
     };
     assert_eq!(rt; looks, [read, place, same, before, after].as_slice());
     Ok(())
-}
-
-/// The calls of the text by their kinds.
-fn parts(calls: &[Call]) -> Result<[&[Call]; 4], Fail> {
-    if calls.len() == 13 {
-        Ok([&calls[..2], &calls[2..5], &calls[5..8], &calls[8..]])
-    } else {
-        Err(Fail::from("13 calls"))
-    }
 }
