@@ -1,7 +1,7 @@
 -- How many steps a world has left at most. All of it is own.
 use Rattle.std.specs.Prelude.{ℕ, ◌+◌, ◌-◌, ◌*◌, cond, length, sum_by}
 use Rattle.step_core.specs.declared.half.Half.{Half}
-use Rattle.step_core.specs.declared.half.Half.TheVariants.{Rest, Making, Ending, Locking, Giving}
+use Rattle.step_core.specs.declared.half.Half.TheVariants.{Rest, Making, Locking, Giving}
 use Rattle.step_core.specs.declared.thread.Thread.{Thread}
 use Rattle.step_core.specs.Told.{left_to_do}
 use Rattle.step_core.specs.Worlds.{Sight}
@@ -12,7 +12,6 @@ use Rattle.step_core.specs.Worlds.{Sight}
 abbrev pub spare : Half → ℕ
 spare Rest = 13
 spare (Making b i differs) = 2 * (5 - i) + cond differs 1 2
-spare (Ending b stage k) = 13 + (4 - stage)
 spare (Locking word) = 13
 spare (Giving i kind x) = 12
 

@@ -3,6 +3,7 @@ pub mod Bounds
 pub mod Acts
 pub mod Courses
 pub mod Deeds
+pub mod Endings
 pub mod Headline
 pub mod Holdings
 pub mod Openings

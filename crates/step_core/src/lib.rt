@@ -48,6 +48,7 @@ mod this_tests;
 mod thread;
 mod told;
 mod trace;
+mod unwinding;
 #[cfg(test)]
 mod value_tests;
 mod values;

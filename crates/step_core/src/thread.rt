@@ -1,14 +1,15 @@
 //! A thread of the machine: its course, its store, and the act that it has begun.
-ghost use Rattle.std.specs.Prelude.{◌≡◌, ◌<◌, ◌⊎◌, ◌==◌, length, true, Some, None, cond};
+ghost use Rattle.std.specs.Prelude.{◌≡◌, ◌<◌, ◌⊎◌, ◌==◌, length, true, Some, None, cond, []};
 ghost use Rattle.control_word.specs.State.{ending};
 ghost use Rattle.control_word.specs.declared.handle.Kind.TheVariants.{Owner, Weak};
-ghost use Rattle.step_core.specs.Scenes.{on, remains_as};
-ghost use Rattle.step_core.specs.Steps.{end_as, silent};
+ghost use Rattle.step_core.specs.Scenes.{begins_end_as, on, remains_as};
+ghost use Rattle.step_core.specs.Steps.{silent};
 ghost use Rattle.step_core.specs.Stories.{Plain, object_in, state};
 ghost use Rattle.step_core.specs.declared.holdings.Pointer.{Pointer};
 
 use crate::act::Act;
 use crate::course::Course;
+use crate::ending::Ending;
 use crate::half::Half;
 use crate::holdings::Pointer;
 use crate::said::{Answer, Ended, Said, Stepped};
@@ -36,17 +37,12 @@ impl Thread {
         ensures fits { Fits desk self.new table.new }
     {
         match self.half {
-            Half::Rest => self.act(desk, table),
+            Half::Rest => self.go(desk, table),
             Half::Making {
                 block,
                 index,
                 differs,
             } => self.make_on(desk, table, block, index, differs),
-            Half::Ending {
-                block,
-                stage,
-                statement,
-            } => self.end_on(desk, table, block, stage, statement),
             Half::Locking { word } => self.lock_on(desk, table, word),
             Half::Giving {
                 name,
@@ -56,11 +52,26 @@ impl Thread {
         }
     }
 
+    /// Within no act: the ending begun last goes on, or else the next act comes.
+    fn go(&mut self, desk: usize, table: &mut Table) -> Stepped
+        requires fits { Fits desk self.old table.old }
+        requires plain { Plain table.old }
+        requires rest { self.old.half ≡ Half.Rest }
+        ensures stepped { HasStepped desk self.old table.old result self.new table.new }
+        ensures fits { Fits desk self.new table.new }
+    {
+        match self.course.endings.first() {
+            Some(ending) => self.end_on(desk, table, ending),
+            None => self.act(desk, table),
+        }
+    }
+
     /// The next act, or the first step of it.
     fn act(&mut self, desk: usize, table: &mut Table) -> Stepped
         requires fits { Fits desk self.old table.old }
         requires plain { Plain table.old }
         requires rest { self.old.half ≡ Half.Rest }
+        requires none { self.old.course.endings.list ≡ [] }
         ensures stepped { HasStepped desk self.old table.old result self.new table.new }
         ensures fits { Fits desk self.new table.new }
     {
@@ -88,6 +99,7 @@ impl Thread {
     fn share(&mut self, desk: usize, table: &mut Table, name: u8) -> Stepped
         requires fits { Fits desk self.old table.old }
         requires rest { self.old.half ≡ Half.Rest }
+        requires none { self.old.course.endings.list ≡ [] }
         requires within { self.old.course.at < length self.old.course.tasks.items }
         requires act { (task_at self.old.course).act ≡ Act.Share name }
         ensures stepped { HasStepped desk self.old table.old result self.new table.new }
@@ -103,6 +115,7 @@ impl Thread {
     fn downgrade(&mut self, desk: usize, table: &mut Table, name: u8) -> Stepped
         requires fits { Fits desk self.old table.old }
         requires rest { self.old.half ≡ Half.Rest }
+        requires none { self.old.course.endings.list ≡ [] }
         requires within { self.old.course.at < length self.old.course.tasks.items }
         requires act { (task_at self.old.course).act ≡ Act.Downgrade name }
         ensures stepped { HasStepped desk self.old table.old result self.new table.new }
@@ -118,6 +131,7 @@ impl Thread {
     fn expired(&mut self, desk: usize, table: &mut Table, name: u8) -> Stepped
         requires fits { Fits desk self.old table.old }
         requires rest { self.old.half ≡ Half.Rest }
+        requires none { self.old.course.endings.list ≡ [] }
         requires within { self.old.course.at < length self.old.course.tasks.items }
         requires act { (task_at self.old.course).act ≡ Act.Expired name }
         ensures stepped { HasStepped desk self.old table.old result self.new table.new }
@@ -143,6 +157,7 @@ impl Thread {
         requires fits { Fits desk self.old table.old }
         requires plain { Plain table.old }
         requires rest { self.old.half ≡ Half.Rest }
+        requires none { self.old.course.endings.list ≡ [] }
         requires within { self.old.course.at < length self.old.course.tasks.items }
         requires act { (task_at self.old.course).act ≡ Act.Count name }
         ensures stepped { HasStepped desk self.old table.old result self.new table.new }
@@ -167,6 +182,7 @@ impl Thread {
     fn leave(&mut self, desk: usize, table: &mut Table, name: u8) -> Stepped
         requires fits { Fits desk self.old table.old }
         requires rest { self.old.half ≡ Half.Rest }
+        requires none { self.old.course.endings.list ≡ [] }
         requires within { self.old.course.at < length self.old.course.tasks.items }
         requires act { ((task_at self.old.course).act ≡ Act.Leave name) ⊎ ((task_at self.old.course).act ≡ Act.Clear name) }
         ensures stepped { HasStepped desk self.old table.old result self.new table.new }
@@ -193,6 +209,7 @@ impl Thread {
     fn put(&mut self, desk: usize, table: &mut Table, name: u8) -> Stepped
         requires fits { Fits desk self.old table.old }
         requires rest { self.old.half ≡ Half.Rest }
+        requires none { self.old.course.endings.list ≡ [] }
         requires within { self.old.course.at < length self.old.course.tasks.items }
         requires act { (task_at self.old.course).act ≡ Act.Put name }
         ensures stepped { HasStepped desk self.old table.old result self.new table.new }
@@ -224,12 +241,14 @@ impl Thread {
         last: bool,
         statement: u32,
     ) -> Option<Ended>
-        requires rest { self.old.half ≡ Half.Rest }
         requires ending { (x : Pointer) → held ≡ Some x → x.kind ≡ Owner → last ≡ true → ((state table.now).object (object_in table.now x.block)).phase ≡ ending desk }
+        requires begins { (x : Pointer) → held ≡ Some x → x.kind ≡ Owner → last ≡ true → length self.old.course.endings.list < self.old.course.endings.room }
         requires room { (x : Pointer) → held ≡ Some x → x.kind ≡ Weak → last ≡ true → length self.old.stock.blocks < self.old.stock.room }
-        ensures course { self.new.course ≡ self.old.course }
+        ensures course { self.new.course ≡ record self.old.course { endings = self.new.course.endings } }
+        ensures endings { self.new.course.endings.list ≡ on (λ x. cond last (begins_end_as x.kind statement x self.old.course.endings.list) self.old.course.endings.list) self.old.course.endings.list held }
+        ensures roomy { self.old.course.endings.room ≤ self.new.course.endings.room }
         ensures stock { IsStockedBy held last self.old.stock self.new.stock }
-        ensures half { self.new.half ≡ on (λ x. cond last (end_as x.kind statement x.block) Half.Rest) Half.Rest held }
+        ensures half { self.new.half ≡ self.old.half }
         ensures ended { result ≡ on (λ x. cond last (remains_as x.kind ((state table.now).object (object_in table.now x.block))) None) None held }
     {
         match held {
@@ -246,21 +265,23 @@ impl Thread {
         pointer: Pointer,
         statement: u32,
     ) -> Option<Ended>
-        requires rest { self.old.half ≡ Half.Rest }
         requires ending { pointer.kind ≡ Owner → ((state table.now).object (object_in table.now pointer.block)).phase ≡ ending desk }
+        requires begins { pointer.kind ≡ Owner → length self.old.course.endings.list < self.old.course.endings.room }
         requires room { pointer.kind ≡ Weak → length self.old.stock.blocks < self.old.stock.room }
-        ensures course { self.new.course ≡ self.old.course }
+        ensures course { self.new.course ≡ record self.old.course { endings = self.new.course.endings } }
+        ensures endings { self.new.course.endings.list ≡ begins_end_as pointer.kind statement pointer self.old.course.endings.list }
+        ensures roomy { self.old.course.endings.room ≤ self.new.course.endings.room }
         ensures stock { IsStocked pointer.kind pointer.block.0 true self.old.stock self.new.stock }
-        ensures half { self.new.half ≡ end_as pointer.kind statement pointer.block }
+        ensures half { self.new.half ≡ self.old.half }
         ensures ended { result ≡ remains_as pointer.kind ((state table.now).object (object_in table.now pointer.block)) }
     {
         match pointer.kind {
             Kind::Owner => {
-                self.half = Half::Ending {
+                self.course.endings.begin(Ending {
                     block: pointer.block,
                     stage: 0,
                     statement,
-                };
+                });
                 Some(table.remains(desk, pointer.block))
             }
             Kind::Weak => {
