@@ -219,7 +219,7 @@ on_step d u v v' r on begun is steps actors kept =
     let l = (walk_of (scene v) d).endings in
     let s = stepped_end d v l refl begun (ends_some l is) in
     subst (λ (w : Sight). length w.walks ≡ length v.walks → GoesTo d u w → IsOn d u w) (sym steps.1)
-    (λ same goes. record { scene = s.0 ∙ on.scene; halves = s.1 ∙ on.halves; actors = same ∙ on.actors; goes = goes; }) actors all
+    (λ same goes. record { scene = s.0 ∙ on.scene; halves = s.1 ∙ on.halves; actors = same ∙ on.actors; goes = goes }) actors all
 
 pub on_less : (d : ℕ) (v v' : Sight) (r : Stepped) → HasBegun d v → is_ending v d ≡ true → Steps d v r v'
     → left (walk_of (scene v') d).endings < left (walk_of (scene v) d).endings
