@@ -17,6 +17,10 @@ first_of (e ∷ es) = Some e
 abbrev pub staged : Ending → Ending
 staged e = record { block = e.block; stage = e.stage + 1; statement = e.statement }
 
+abbrev pub staged_first : List Ending → List Ending
+staged_first [] = []
+staged_first (e ∷ es) = staged e ∷ es
+
 -- how many endings are of the object in a block
 abbrev pub endings_of : ℕ → List Ending → ℕ
 endings_of b es = sum_by (λ (e : Ending). cond (e.block.0 == b) 1 0) es

@@ -1,6 +1,6 @@
 //! The objects that end in a thread's hands.
 ghost use Rattle.std.specs.Prelude.{◌≡◌, ◌<◌, ◌≤◌, [], ◌∷◌, length, IfOk, Some};
-ghost use Rattle.step_core.specs.Endings.{first_of, staged};
+ghost use Rattle.step_core.specs.Endings.{first_of, staged_first};
 
 use control_word::place::Block;
 use std::alloc::{AllocError, Global};
@@ -57,6 +57,24 @@ impl Endings {
         ensures room { self.old.room ≤ self.new.room }
     {
         if self.items.push(ending).is_err() {
+            unreachable!()
+        }
+    }
+
+    /// The ending begun last has one more member cleared.
+    pub(crate) fn advance(&mut self, ending: Ending)
+        requires first { first_of self.old.list ≡ Some ending }
+        requires inside { ending.stage < 3 }
+        ensures list { self.new.list ≡ staged_first self.old.list }
+        ensures room { self.old.room ≤ self.new.room }
+    {
+        let _ending = self.items.pop();
+        let next = Ending {
+            block: ending.block,
+            stage: ending.stage + 1,
+            statement: ending.statement,
+        };
+        if self.items.push(next).is_err() {
             unreachable!()
         }
     }

@@ -1,5 +1,5 @@
 //! A thread of the machine: its course, its store, and the act that it has begun.
-ghost use Rattle.std.specs.Prelude.{◌≡◌, ◌<◌, ◌⊎◌, ◌==◌, length, true, Some, None, cond, []};
+ghost use Rattle.std.specs.Prelude.{◌≡◌, ◌<◌, ◌≤◌, ◌⊎◌, ◌==◌, length, true, Some, None, cond, []};
 ghost use Rattle.control_word.specs.State.{ending};
 ghost use Rattle.control_word.specs.declared.handle.Kind.TheVariants.{Owner, Weak};
 ghost use Rattle.step_core.specs.Scenes.{begins_end_as, on, remains_as};

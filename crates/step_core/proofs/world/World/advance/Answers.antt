@@ -37,7 +37,7 @@ returns-clause-was c =
     subst (λ (u : Sight). HasBegun c.args.number u) c.self.view_is
     (has_begun c.self.inside.table c.self.inside.threads.items c.args.number c.index_mut-thread.result.now lt c.index_mut-thread.ensures.value
     (c.self.invariant.0.each c.args.number c.index_mut-thread.result.now
-    (thread_at c.self.inside.threads.items c.args.number c.index_mut-thread.result.now lt c.index_mut-thread.ensures.value)))
+    (thread_at c.self.inside.threads.items c.args.number c.index_mut-thread.result.now lt c.index_mut-thread.ensures.value)) c.self.invariant.1.plain.bare)
 
 pub returns-clause-steps : goal.returns-clause-steps
 returns-clause-steps c =
