@@ -1,6 +1,6 @@
 //! Runs: one step for each number of a list, and then each actor alone to its end.
 ghost use Rattle.std.specs.Prelude.{◌≡◌, ◌+◌, ◌-◌, ◌<◌, ◌≤◌, ◌∷◌, ◌++◌, ℕ, [], All, IfErr, IfOk, MatchOption, length, map, slice_get, sum_by, vec_capacity, vec_len};
-ghost use Rattle.step_core.specs.Bounds.{most_steps, tasks_of};
+ghost use Rattle.step_core.specs.Bounds.{most_steps};
 ghost use Rattle.step_core.specs.Headline.{AfterEach, AllAtRest, CountsAtRest, LocksWhereOwned, OfEach, TellsLocks, TellsWhatIsLeft, ValuesAtLastLeave, ValuesOnce};
 ghost use Rattle.step_core.specs.Runs.{Adds, IsFirstBad, IsRefusedFor, IsRun, IsScheduled, Names, RunInOrder, RunsToEnd};
 ghost use Rattle.step_core.specs.Stories.{Kept};
@@ -54,7 +54,7 @@ impl World {
         ensures few { result ≤ 2000000 }
     {
         self.table.known();
-        13 * tasks_left(self.threads.as_slice()) + 18 * self.threads.len()
+        17 * self.threads.len()
     }
 
     /// One step for each number.
@@ -103,19 +103,6 @@ impl World {
             }
         }
     }
-}
-
-/// How many tasks threads have left.
-fn tasks_left(threads: &[Thread]) -> usize
-    requires within { (d : ℕ) (t : Thread) → slice_get threads.now d ≡ Some t → t.course.at ≤ length t.course.tasks.items }
-    requires few { sum_by tasks_of threads.now ≤ 133120 }
-    ensures { result ≡ sum_by tasks_of threads.now }
-{
-    let mut left = 0;
-    for thread in threads {
-        left += thread.course.tasks.len() - thread.course.at;
-    }
-    left
 }
 
 /// The position, from 1, of the first number that names none of so many actors.
