@@ -25,7 +25,8 @@ use Rattle.control_word.specs.declared.handle.Kind.TheVariants.{Owner, Weak}
 use Rattle.control_word.specs.declared.place.Place.{Place}
 use Rattle.step_core.specs.declared.past.Deed.TheVariants.{Finish, Leave, WeakLeave}
 use Rattle.step_core.specs.Deeds.{is_last, leave, leave_as}
-use Rattle.step_core.specs.Scenes.{begins_end_as, on}
+use Rattle.step_core.specs.Entries.{on}
+use Rattle.step_core.specs.Scenes.{begins_end_as}
 use Rattle.step_core.specs.declared.thread.Thread.{Thread}
 use Rattle.step_core.specs.Actors.{HalfFits, Stocks, in_list, in_store}
 use Rattle.step_core.specs.Courses.{HasGoneOn, done_on}

@@ -2,7 +2,8 @@
 ghost use Rattle.std.specs.Prelude.{◌≡◌, ◌<◌, ◌≤◌, ◌⊎◌, [], length, true, Some, None, cond};
 ghost use Rattle.control_word.specs.State.{ending};
 ghost use Rattle.control_word.specs.declared.handle.Kind.TheVariants.{Owner, Weak};
-ghost use Rattle.step_core.specs.Scenes.{begins_end_as, on, remains_as};
+ghost use Rattle.step_core.specs.Entries.{on};
+ghost use Rattle.step_core.specs.Scenes.{begins_end_as, remains_as};
 ghost use Rattle.step_core.specs.Stories.{object_in, state};
 ghost use Rattle.step_core.specs.declared.act.Act.{Act};
 ghost use Rattle.step_core.specs.declared.half.Half.{Half};

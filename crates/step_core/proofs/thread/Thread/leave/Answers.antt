@@ -8,7 +8,8 @@ use Rattle.step_core.specs.Steps.{acts}
 use Rattle.step_core.specs.declared.said.Stepped.TheVariants.{Event, Quiet}
 use Rattle.step_core.specs.Deeds.{is_last, leave}
 use Rattle.step_core.specs.Holdings.{plain, slot}
-use Rattle.step_core.specs.Scenes.{ended_by, on}
+use Rattle.step_core.specs.Entries.{on}
+use Rattle.step_core.specs.Scenes.{ended_by}
 use Rattle.step_core.specs.Stories.{state}
 use Rattle.step_core.proofs.Courses.{left_taken}
 use Rattle.step_core.proofs.Endings.{HasLeft, begins_room, ending_left, fits_left, room_weak}
