@@ -20,3 +20,4 @@ pub mod Starts
 pub mod Told
 pub mod CellDeeds
 pub mod Cells
+pub mod Contents

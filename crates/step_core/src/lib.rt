@@ -9,6 +9,8 @@ mod cell_tests;
 mod cells;
 mod census;
 mod clearing;
+mod comparing;
+mod contents;
 mod course;
 mod ending;
 mod extent;
@@ -18,6 +20,7 @@ mod funds;
 mod half;
 mod holdings;
 mod limits;
+mod loading;
 mod locking;
 mod making;
 #[cfg(test)]
@@ -38,6 +41,7 @@ mod slot;
 #[cfg(test)]
 mod step_tests;
 mod stock;
+mod swapping;
 mod table;
 mod taking;
 #[cfg(test)]

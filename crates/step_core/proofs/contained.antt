@@ -1,0 +1,4 @@
+pub mod Coming
+pub mod Going
+pub mod Offered
+pub mod Told
