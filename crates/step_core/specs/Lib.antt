@@ -21,3 +21,4 @@ pub mod Told
 pub mod CellDeeds
 pub mod Cells
 pub mod Contents
+pub mod Refills

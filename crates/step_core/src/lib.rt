@@ -28,6 +28,7 @@ mod naming_tests;
 mod opening;
 #[cfg(test)]
 mod opening_tests;
+mod others;
 mod past;
 mod pointer;
 mod reading;
@@ -35,6 +36,7 @@ mod reading;
 mod reading_tests;
 #[cfg(test)]
 mod run_tests;
+mod refill;
 mod running;
 mod said;
 mod slot;
