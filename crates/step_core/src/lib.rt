@@ -18,6 +18,8 @@ mod extent;
 mod fund_tests;
 mod funds;
 mod half;
+#[cfg(test)]
+mod holding_tests;
 mod holdings;
 mod limits;
 mod loading;
@@ -34,9 +36,9 @@ mod pointer;
 mod reading;
 #[cfg(test)]
 mod reading_tests;
+mod refill;
 #[cfg(test)]
 mod run_tests;
-mod refill;
 mod running;
 mod said;
 mod slot;

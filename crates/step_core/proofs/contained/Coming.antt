@@ -1,5 +1,5 @@
 -- What comes out of a cell, and into a slot.
-use Rattle.std.proofs.Common.{◌≡◌, ℕ, ◌<◌, ◌≤◌, ◌∷◌, List, length, set, false, Option, Some, None, refl, sym, ap, subst, ◌∙◌, arith}
+use Rattle.std.proofs.Common.{◌≡◌, ℕ, ◌<◌, ◌≤◌, ◌∷◌, List, get_or, length, set, false, Option, Some, None, refl, sym, ap, subst, ◌∙◌, arith}
 use Rattle.std.specs.Prelude.{IfSome, is_some}
 use Rattle.control_word.specs.declared.cell.CellWord.{CellWord}
 use Rattle.control_word.specs.declared.handle.Kind.{Kind}
@@ -9,6 +9,7 @@ use Rattle.control_word.specs.Events.{gets}
 use Rattle.control_word.specs.Handles.{IsPointer, handle}
 use Rattle.control_word.specs.Packing.{IsCellWord, IsPlace, cell_bits}
 use Rattle.control_word.specs.State.{ending, kind_of_member}
+use Rattle.control_word.specs.Words.{blocks_of, shown}
 use Rattle.step_core.specs.declared.cell_deed.Cell.{Cell}
 use Rattle.step_core.specs.declared.cell_deed.Cell.TheVariants.{Member}
 use Rattle.step_core.specs.declared.cell_deed.CellDeed.TheVariants.{Look, Take, TakeOut}
@@ -17,13 +18,14 @@ use Rattle.step_core.specs.declared.past.Deed.TheVariants.{OnCell}
 use Rattle.step_core.specs.declared.slot.Slot.{Slot}
 use Rattle.step_core.specs.CellDeeds.{cell_in, handle_as, kind_in, object_at}
 use Rattle.step_core.specs.Cells.{IsOpenTo, Shows, word_at}
-use Rattle.step_core.specs.Contents.{held_in, slot_by, slot_in, slot_of}
+use Rattle.step_core.specs.Contents.{held_in, seen, slot_by, slot_in, slot_of}
 use Rattle.step_core.specs.Holdings.{Holds, Slots, slot}
 use Rattle.step_core.specs.Stories.{Kept, Story, after, object_in, state}
-use Rattle.step_core.proofs.contained.Told.{shows_slot}
+use Rattle.step_core.proofs.contained.Told.{shows_seen, shows_slot}
 use Rattle.step_core.proofs.holding.Owning.{holds_empty, holds_look, holds_more}
+use Rattle.step_core.proofs.tables.Cells.{decoded}
 use Rattle.step_core.proofs.tables.Places.{ending_busy}
-use Rattle.step_core.proofs.tables.Shown.{Found, found_in, kept_cell}
+use Rattle.step_core.proofs.tables.Shown.{Found, cell_there, found_in, kept_cell}
 
 pub pointer_valid : (x : CellWord) → IsCellWord x → IsPointer x.place
 pointer_valid x valid = go x.place valid.place
@@ -98,3 +100,13 @@ member_found v d b m x kept lt end few shows = found_in v d (Member b m) x kept 
 pub comes : (v : Story) (d : ℕ) (c : Cell) (x : CellWord) (k : Kind) (y : Slot) → Found v c x → k ≡ kind_in (state v) c → y ≡ slot_in k x
     → y ≡ slot_of (state v) (held_in (state v) c)
 comes v d c x k y found kind is = is ∙ ap (λ (q : Kind). slot_in q x) kind ∙ shows_slot v d c x found
+
+-- a cell shows what it holds
+pub seen_found : (v : Story) (d : ℕ) (c : Cell) → Kept v → d < v.extent.actors → IsOpenTo v d c → Found v c (seen v c)
+seen_found v d c kept lt way =
+    let is = kept_cell v d c kept way in
+    let code = decoded v d (cell_in (state v) c) kept lt is in
+    let bits : word_at v c ≡ cell_bits (shown (blocks_of (state v)) (held_in (state v) c) code.taken) =
+    ap (λ (i : ℕ). get_or v.words i 0) (sym (cell_there v c kept is)) ∙ code.bits in
+    let f = found_in v d c (shown (blocks_of (state v)) (held_in (state v) c) code.taken) kept lt is code.valid bits in
+    subst (λ (x : CellWord). Found v c x) (shows_seen v d c (shown (blocks_of (state v)) (held_in (state v) c) code.taken) f) f

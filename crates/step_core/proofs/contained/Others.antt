@@ -4,7 +4,7 @@ use Rattle.control_word.proofs.history.Kept.{cells_led, has_same}
 use Rattle.control_word.proofs.history.Legal.{held_busy, sound, written}
 use Rattle.control_word.proofs.history.Soundness.{IsBusy}
 use Rattle.control_word.specs.declared.cell.CellWord.{CellWord}
-use Rattle.control_word.specs.declared.handle.Handle.{Handle}
+use Rattle.control_word.specs.declared.event.Event.{Event}
 use Rattle.control_word.specs.declared.handle.Kind.{Kind}
 use Rattle.control_word.specs.declared.handle.Kind.TheVariants.{Owner}
 use Rattle.control_word.specs.declared.place.Block.{Block}
@@ -12,9 +12,9 @@ use Rattle.control_word.specs.declared.place.Place.{Place}
 use Rattle.control_word.specs.declared.view.Pending.{Pending}
 use Rattle.control_word.specs.declared.view.Pending.TheVariants.{Paying}
 use Rattle.control_word.specs.Handles.{handle, object_of}
-use Rattle.control_word.specs.Histories.{value}
+use Rattle.control_word.specs.Histories.{leads, value}
 use Rattle.control_word.specs.Layout.{spot}
-use Rattle.control_word.specs.State.{Has, held, kind_of_free}
+use Rattle.control_word.specs.State.{Has, State, held, kind_of_free}
 use Rattle.control_word.specs.Steps.{me}
 use Rattle.control_word.specs.Views.{Fits}
 use Rattle.control_word.specs.Words.{slot}
@@ -28,13 +28,21 @@ use Rattle.step_core.specs.declared.slot.Slot.TheVariants.{Empty, Full}
 use Rattle.step_core.specs.CellDeeds.{kind_in, owing}
 use Rattle.step_core.specs.Cells.{IsOpenTo}
 use Rattle.step_core.specs.Contents.{owing_for}
+use Rattle.step_core.specs.Holdings.{Holds, Slots}
 use Rattle.step_core.specs.Openings.{opening}
 use Rattle.step_core.specs.Refills.{RefillFits, StageFits}
-use Rattle.step_core.specs.Stories.{Kept, Nothing, Story, after, handle_in, object_in, pending, state, view_in}
+use Rattle.step_core.specs.Stories.{Kept, Nothing, Story, added, after, event_of, handle_in, object_in, pending, state, view_in}
 use Rattle.step_core.proofs.contained.Told.{shared_is}
 use Rattle.step_core.proofs.holding.Others.{kept_object, same_deed, same_pending}
+use Rattle.step_core.proofs.holding.Owning.{holds_look}
 use Rattle.step_core.proofs.tables.Places.{handle_busy, named}
 use Rattle.step_core.proofs.tables.Standing.{point, ready}
+
+-- a step that is no event leaves what any desk holds
+pub holds_quiet : (d e : ℕ) (slots : Slots) (v : Story) (x : Deed) → event_of v x ≡ None → Holds d slots v → Holds d slots (after v e x)
+holds_quiet d e slots v x none holds =
+    let same : state (after v e x) ≡ state v = ap (λ (o : Option (Event Nothing)). leads (opening v.extent) (added e o v.history)) none in
+    holds_look d slots v (after v e x) (ap (λ (s : State). s.hands) same) (ap (λ (s : State). s.latest) same) holds
 
 -- the desk has a handle of the object on whose count its funds are out
 payer : (v : Story) (d : ℕ) (k : Kind) (b : Block) (p : Option Place) (funds loads : ℕ) → Kept v → d < v.extent.actors
