@@ -1,9 +1,9 @@
 //! Values go between the slots of an actor and a cell, step by step.
 use crate::act::Form;
 use crate::cell_deed::Cell;
+use crate::comparing::Comparing;
 use crate::extent::Extent;
 use crate::holdings::{Holdings, Pointer};
-use crate::slot::Slot;
 use crate::table::Table;
 use control_word::cell::pack;
 use control_word::handle::Kind;
@@ -38,6 +38,12 @@ const VALUE: CellWord = CellWord {
     taken: 0,
 };
 
+const EMPTY: CellWord = CellWord {
+    owned: None,
+    place: None,
+    taken: 0,
+};
+
 const EXTENT: Extent = Extent {
     shape: Shape {
         blocks: 2,
@@ -46,6 +52,18 @@ const EXTENT: Extent = Extent {
         allowance: 40,
     },
     actors: 1,
+};
+
+const NEXT: Block = Block(2);
+
+/// An owner of the object in the second block.
+const OTHER: Pointer = Pointer {
+    kind: Kind::Owner,
+    block: NEXT,
+    place: Some(Place {
+        block: NEXT,
+        field: 0,
+    }),
 };
 
 #[test]
@@ -66,5 +84,107 @@ fn a_value_is_stored_and_loaded(rt: HostRuntime) -> Result<(), Fail> {
     assert_eq!(rt; holdings.get(1), Some(OWNER));
     let seen = holdings.look_to_load(0, &mut table, CELL, 0);
     assert_eq!(rt; pack(seen), 17179934721);
+    Ok(())
+}
+
+#[test]
+fn a_value_is_exchanged_for_nothing(rt: HostRuntime) -> Result<(), Fail> {
+    let mut table = Table::new(rt.alloc(), &EXTENT)?;
+    let mut holdings = Holdings::new(rt.alloc(), 2)?;
+    table.prepare(0, BLOCK);
+    holdings.claim(0, &mut table, 0, BLOCK, FORM);
+    holdings.bring(0, &mut table, 0, OWNER);
+    holdings.exchange(0, &mut table, CELL, 0);
+    assert_eq!(rt; holdings.get(0), None);
+    let came = holdings.exchange(0, &mut table, CELL, 1);
+    assert_eq!(rt; pack(came), 65537);
+    assert_eq!(rt; holdings.get(1), Some(OWNER));
+    table.give_back(0, Kind::Owner, BLOCK, 256);
+    assert_eq!(rt; table.word(BLOCK, OWNERS), 1);
+    Ok(())
+}
+
+#[test]
+fn a_compare_swaps_what_it_expects(rt: HostRuntime) -> Result<(), Fail> {
+    let mut table = Table::new(rt.alloc(), &EXTENT)?;
+    let mut holdings = Holdings::new(rt.alloc(), 2)?;
+    table.prepare(0, BLOCK);
+    holdings.claim(0, &mut table, 0, BLOCK, FORM);
+    holdings.bring(0, &mut table, 0, OWNER);
+    let comparing = Comparing {
+        expected: 1,
+        new: 0,
+        other: 2,
+        weak: false,
+    };
+    let swapped = holdings.compare_and_swap(0, &mut table, CELL, EMPTY, comparing);
+    assert!(rt; swapped);
+    assert_eq!(rt; (holdings.get(0), holdings.get(2)), (None, None));
+    let seen = holdings.look_to_load(0, &mut table, CELL, 0);
+    assert_eq!(rt; pack(seen), 65537);
+    Ok(())
+}
+
+#[test]
+fn a_compare_that_differs_loads(rt: HostRuntime) -> Result<(), Fail> {
+    let mut table = Table::new(rt.alloc(), &EXTENT)?;
+    let mut holdings = Holdings::new(rt.alloc(), 2)?;
+    table.prepare(0, BLOCK);
+    holdings.claim(0, &mut table, 0, BLOCK, FORM);
+    holdings.bring(0, &mut table, 0, OWNER);
+    holdings.exchange(0, &mut table, CELL, 0);
+    let comparing = Comparing {
+        expected: 1,
+        new: 0,
+        other: 2,
+        weak: false,
+    };
+    let took = holdings.take_differing(0, &mut table, CELL, VALUE, comparing);
+    assert!(rt; took);
+    table.turn_fund(0, Kind::Owner, BLOCK);
+    assert_eq!(rt; table.word(BLOCK, OWNERS), 1095216660482);
+    assert_eq!(rt; (holdings.get(0), holdings.get(2)), (Some(OWNER), None));
+    Ok(())
+}
+
+#[test]
+fn a_compare_with_an_empty_cell_differs(rt: HostRuntime) -> Result<(), Fail> {
+    let mut table = Table::new(rt.alloc(), &EXTENT)?;
+    let mut holdings = Holdings::new(rt.alloc(), 2)?;
+    table.prepare(0, BLOCK);
+    holdings.claim(0, &mut table, 0, BLOCK, FORM);
+    let comparing = Comparing {
+        expected: 0,
+        new: 1,
+        other: 2,
+        weak: false,
+    };
+    let seen = holdings.look_to_compare(0, &mut table, CELL, comparing);
+    assert_eq!(rt; pack(seen), 0);
+    assert_eq!(rt; holdings.get(0), Some(OWNER));
+    Ok(())
+}
+
+#[test]
+fn a_member_is_taken_out(rt: HostRuntime) -> Result<(), Fail> {
+    let mut table = Table::new(rt.alloc(), &EXTENT)?;
+    let mut holdings = Holdings::new(rt.alloc(), 2)?;
+    table.prepare(0, BLOCK);
+    holdings.claim(0, &mut table, 0, BLOCK, FORM);
+    table.prepare(0, NEXT);
+    holdings.claim(0, &mut table, 1, NEXT, FORM);
+    holdings.bring(0, &mut table, 1, OTHER);
+    let member = Cell::Member {
+        block: BLOCK,
+        member: 1,
+    };
+    holdings.exchange(0, &mut table, member, 1);
+    let last = holdings.leave(0, &mut table, 0, OWNER);
+    assert!(rt; last);
+    let came = holdings.take_out(0, &mut table, BLOCK, 1, 2);
+    assert_eq!(rt; pack(came), 131074);
+    assert_eq!(rt; holdings.get(2), Some(OTHER));
+    table.give_back(0, Kind::Owner, NEXT, 256);
+    assert_eq!(rt; table.word(NEXT, OWNERS), 1);
     Ok(())
 }
