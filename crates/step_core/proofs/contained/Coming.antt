@@ -1,5 +1,5 @@
 -- What comes out of a cell, and into a slot.
-use Rattle.std.proofs.Common.{◌≡◌, ℕ, ◌<◌, ◌≤◌, ◌∷◌, List, get_or, length, set, false, Option, Some, None, refl, sym, ap, subst, ◌∙◌, arith}
+use Rattle.std.proofs.Common.{◌≡◌, ℕ, ◌<◌, get_or, length, set, false, Option, Some, None, refl, sym, ap, subst, ◌∙◌, arith}
 use Rattle.std.specs.Prelude.{IfSome, is_some}
 use Rattle.control_word.specs.declared.cell.CellWord.{CellWord}
 use Rattle.control_word.specs.declared.handle.Kind.{Kind}
@@ -46,7 +46,7 @@ holds_got d slots v w i k x holds hands latest fine lt e = go x.owned hands
     go (Some b) q = holds_more d slots v w i (record { kind = k; block = b; place = x.place }) holds q latest fine lt e
 
 module _ (d : ℕ) (slots : Slots) (v : Story) (i : ℕ) (c : Cell) (x : CellWord) (holds : Holds d slots v) (found : Found v c x)
-  (lt : i < length slots) (e : slot slots i ≡ None) where
+    (lt : i < length slots) (e : slot slots i ≡ None) where
   came : (w : Story) → (state w).hands ≡ (gets d (handle_as (state v) (kind_in (state v) c) x) (state v)).hands
       → (state w).latest ≡ (state v).latest → Holds d (set slots i (slot_of (state v) (held_in (state v) c))) w
   came w hands latest =

@@ -1,5 +1,5 @@
 -- Compares of a cell with slots' values, by words.
-use Rattle.std.proofs.Common.{◌≡◌, ◌≢◌, ℕ, ◌<◌, Bool, true, false, cond, length, set, Option, Some, None, refl, sym, ap, subst, ◌∙◌, arith}
+use Rattle.std.proofs.Common.{◌≡◌, ◌≢◌, ℕ, ◌<◌, Bool, true, false, cond, length, set, Some, None, refl, ap, subst, ◌∙◌, arith}
 use Rattle.std.proofs.Common.{get_or-set_same, length-set}
 use Rattle.std.specs.Prelude.{◌||◌, is_some}
 use Rattle.std.proofs.lemmas.List.{set-set}
@@ -10,7 +10,6 @@ use Rattle.step_core.specs.declared.cell_deed.CellDeed.TheVariants.{Look, Take}
 use Rattle.step_core.specs.declared.cell_deed.Compared.{Compared}
 use Rattle.step_core.specs.declared.comparing.Comparing.{Comparing}
 use Rattle.step_core.specs.declared.past.Deed.TheVariants.{OnCell}
-use Rattle.step_core.specs.declared.slot.Slot.{Slot}
 use Rattle.step_core.specs.CellDeeds.{handle_told}
 use Rattle.step_core.specs.Contents.{as_word, compared_in, differed, held_in, same_value, slot_of}
 use Rattle.step_core.specs.Holdings.{Holds, Slots, plain, pointer_of, slot, value}
@@ -36,7 +35,7 @@ done_if false true x y e f = cc
 done_if false false x y e f = refl
 
 module _ (d : ℕ) (slots : Slots) (v : Story) (c : Cell) (x : CellWord) (y : Comparing) (q : Compared) (kept : Kept v) (holds : Holds d slots v)
-  (is : q ≡ compared_in slots y) where
+    (is : q ≡ compared_in slots y) where
   -- the word that was found tells what is expected, or not
   pub alike_in : equivalent (handle_told (state v) c x) (handle_told (state v) c q.expected) ≡ same_value x (as_word (value slots y.expected))
   alike_in =
@@ -50,7 +49,7 @@ module _ (d : ℕ) (slots : Slots) (v : Story) (c : Cell) (x : CellWord) (y : Co
       ∙ ap (λ (p : Compared). cond (is_some x.owned || same_value x (as_word (value slots y.expected))) v (after v d (OnCell (Look c x (Some p))))) is
 
 module _ (d : ℕ) (slots : Slots) (v : Story) (i j : ℕ) (c : Cell) (x : CellWord) (y : Compared) (holds : Holds d slots v) (found : Found v c x)
-  (li : i < length slots) (lj : j < length slots) (apart : i ≢ j) (e : slot slots j ≡ None) where
+    (li : i < length slots) (lj : j < length slots) (apart : i ≢ j) (e : slot slots j ≡ None) where
   -- the new value is aside, and its slot is empty
   abbrev aside : Slots
   aside = set (set slots j (value slots i)) i plain

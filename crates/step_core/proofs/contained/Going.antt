@@ -1,5 +1,5 @@
 -- What goes into a cell from a slot, in place of what comes out.
-use Rattle.std.proofs.Common.{◌≡◌, ◌≢◌, ℕ, ◌<◌, ◌∷◌, Bool, true, false, cond, List, length, set, Option, Some, None, refl, sym, ap, subst, ◌∙◌, arith}
+use Rattle.std.proofs.Common.{◌≡◌, ◌≢◌, ℕ, ◌<◌, ◌∷◌, true, false, cond, List, length, set, Option, Some, None, refl, sym, ap, subst, ◌∙◌, arith}
 use Rattle.std.proofs.Common.{get_or-set_same, get_or-set_other, length-set}
 use Rattle.std.proofs.lemmas.List.{set-set, set_comm}
 use Rattle.control_word.specs.declared.cell.CellWord.{CellWord}
@@ -9,9 +9,8 @@ use Rattle.control_word.specs.declared.handle.Handle.{Handle}
 use Rattle.control_word.specs.declared.handle.Kind.{Kind}
 use Rattle.control_word.specs.declared.handle.Kind.TheVariants.{Owner, Weak}
 use Rattle.control_word.specs.declared.place.Block.{Block}
-use Rattle.control_word.specs.declared.place.Place.{Place}
-use Rattle.control_word.specs.Events.{gets, loses, swaps}
-use Rattle.control_word.specs.Handles.{IsPointer, handle, has_object, same_kind}
+use Rattle.control_word.specs.Events.{swaps}
+use Rattle.control_word.specs.Handles.{handle, has_object}
 use Rattle.control_word.specs.State.{Held, State, held, same_held, without}
 use Rattle.step_core.specs.declared.cell_deed.Cell.{Cell}
 use Rattle.step_core.specs.declared.cell_deed.CellDeed.TheVariants.{CompareSwap, Swap}
@@ -21,7 +20,7 @@ use Rattle.step_core.specs.declared.past.Deed.TheVariants.{OnCell}
 use Rattle.step_core.specs.declared.slot.Slot.{Slot}
 use Rattle.step_core.specs.declared.slot.Slot.TheVariants.{Empty, Full}
 use Rattle.step_core.specs.CellDeeds.{cell_in, handle_as, handle_told, kind_in, object_at}
-use Rattle.step_core.specs.Contents.{as_word, held_in, is_of, slot_in, slot_of, swapped}
+use Rattle.step_core.specs.Contents.{as_word, held_in, is_of, slot_of, swapped}
 use Rattle.step_core.specs.Deeds.{leave_as}
 use Rattle.step_core.specs.Holdings.{Holds, Slots, plain, pointer_of, slot, value}
 use Rattle.step_core.specs.Stories.{Story, after, handle_in, state}
@@ -95,8 +94,8 @@ swap_latest d (named.Free n) new old s = refl
 swap_latest d (named.Member o m) new old s = refl
 
 module _ (d : ℕ) (slots : Slots) (v : Story) (i j : ℕ) (c : Cell) (x : CellWord) (holds : Holds d slots v) (found : Found v c x)
-  (is : is_of (kind_in (state v) c) (value slots i) ≡ true) (li : i < length slots) (lj : j < length slots)
-  (e : slot (set slots i plain) j ≡ None) where
+    (is : is_of (kind_in (state v) c) (value slots i) ≡ true) (li : i < length slots) (lj : j < length slots)
+    (e : slot (set slots i plain) j ≡ None) where
   -- the value of slot i went, and what the cell held came into slot j
   went : (w : Story) → (state w).hands ≡ (swaps d (cell_in (state v) c) (handle_told (state v) c (as_word (value slots i))) (handle_told (state v) c x) (state v)).hands
       → (state w).latest ≡ (swaps d (cell_in (state v) c) (handle_told (state v) c (as_word (value slots i))) (handle_told (state v) c x) (state v)).latest
@@ -116,7 +115,7 @@ module _ (d : ℕ) (slots : Slots) (v : Story) (i j : ℕ) (c : Cell) (x : CellW
       (let t = length-set slots i plain in omega (arith, t, lj)) e)
 
 module _ (d : ℕ) (slots : Slots) (v : Story) (i : ℕ) (c : Cell) (x : CellWord) (holds : Holds d slots v) (found : Found v c x)
-  (is : is_of (kind_in (state v) c) (value slots i) ≡ true) (li : i < length slots) where
+    (is : is_of (kind_in (state v) c) (value slots i) ≡ true) (li : i < length slots) where
   -- into the same slot
   pub holds_exchanged : Holds d (set slots i (slot_of (state v) (held_in (state v) c))) (after v d (OnCell (Swap c (as_word (value slots i)) x)))
   holds_exchanged =

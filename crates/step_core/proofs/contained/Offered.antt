@@ -1,8 +1,7 @@
 -- What is asked of a slot's value that goes into a cell, by its word.
-use Rattle.std.proofs.Common.{◌≡◌, ℕ, ◌<◌, ◌==◌, true, length, Option, Some, None, refl, sym, ap, subst, ◌∙◌, arith}
+use Rattle.std.proofs.Common.{◌≡◌, ℕ, ◌<◌, true, length, Some, None, refl, sym, ap, subst, ◌∙◌}
 use Rattle.control_word.specs.declared.cell.CellWord.{CellWord}
 use Rattle.control_word.specs.declared.handle.Kind.{Kind}
-use Rattle.control_word.specs.declared.view.Pending.{Pending}
 use Rattle.control_word.specs.Packing.{IsCellWord}
 use Rattle.control_word.specs.State.{State, bag_size}
 use Rattle.step_core.specs.declared.cell_deed.Cell.{Cell}
@@ -11,8 +10,8 @@ use Rattle.step_core.specs.declared.slot.Slot.TheVariants.{Empty, Full}
 use Rattle.step_core.specs.CellDeeds.{kind_in, owing}
 use Rattle.step_core.specs.Cells.{HasInHand}
 use Rattle.step_core.specs.Contents.{as_word, is_of, owing_for, owned_by}
-use Rattle.step_core.specs.Holdings.{Holds, Slots, place_of, pointer_of, slot, value}
-use Rattle.step_core.specs.Stories.{Kept, Nothing, Story, pending, state}
+use Rattle.step_core.specs.Holdings.{Holds, Slots, place_of, pointer_of, value}
+use Rattle.step_core.specs.Stories.{Kept, Story, pending, state}
 use Rattle.step_core.proofs.contained.Told.{in_hand, kind_is, word_valid}
 use Rattle.step_core.proofs.holding.Owning.{has_room}
 
@@ -21,7 +20,7 @@ owing_word s k (Empty p) n is = refl
 owing_word s k (Full x) n is = ap (λ (q : Kind). owing s q (Some x.block) x.place n 0) (kind_is k x is)
 
 module _ (d : ℕ) (slots : Slots) (v : Story) (i : ℕ) (c : Cell) (w : CellWord) (kept : Kept v) (holds : Holds d slots v)
-  (is : is_of (kind_in (state v) c) (value slots i) ≡ true) (e : w ≡ as_word (value slots i)) where
+    (is : is_of (kind_in (state v) c) (value slots i) ≡ true) (e : w ≡ as_word (value slots i)) where
   pub goes_valid : IsCellWord w × (w.taken ≡ 0)
   goes_valid = (subst IsCellWord (sym e) (word_valid d slots v i kept holds), ap (λ (x : CellWord). x.taken) e)
 

@@ -1,5 +1,5 @@
 -- What other desks do leaves a desk's call on a cell.
-use Rattle.std.proofs.Common.{◌≡◌, ◌≢◌, ℕ, ◌<◌, ◌≤◌, Option, Some, None, refl, sym, ap, subst, ◌∙◌, arith}
+use Rattle.std.proofs.Common.{◌≡◌, ◌≢◌, ℕ, ◌<◌, Option, Some, None, refl, sym, ap, subst, ◌∙◌, arith}
 use Rattle.control_word.proofs.history.Kept.{cells_led, has_same}
 use Rattle.control_word.proofs.history.Legal.{held_busy, sound, written}
 use Rattle.control_word.proofs.history.Soundness.{IsBusy}

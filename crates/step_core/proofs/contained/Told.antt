@@ -1,5 +1,5 @@
 -- What the word of a cell tells of a slot's value.
-use Rattle.std.proofs.Common.{◌≡◌, ◌≢◌, ℕ, ◌+◌, ◌*◌, ◌/◌, ◌<◌, ◌≤◌, ◌==◌, ◌&&◌, Bool, true, false, List, [], ◌∷◌, Option, Some, None, refl, sym, ap, subst, ◌∙◌}
+use Rattle.std.proofs.Common.{◌≡◌, ◌≢◌, ℕ, ◌/◌, ◌<◌, ◌≤◌, ◌&&◌, Bool, true, false, List, [], ◌∷◌, Option, Some, None, refl, sym, ap, subst, ◌∙◌}
 use Rattle.std.proofs.Common.{inl, inr, ⊎_elim, arith, eq-eqb, ne_eqb}
 use Rattle.std.proofs.lemmas.Bool.{cases_eq}
 use Rattle.std.proofs.lemmas.Option.{same_Some}
@@ -27,8 +27,8 @@ use Rattle.step_core.specs.declared.cell_deed.Cell.{Cell}
 use Rattle.step_core.specs.declared.holdings.Pointer.{Pointer}
 use Rattle.step_core.specs.declared.slot.Slot.{Slot}
 use Rattle.step_core.specs.declared.slot.Slot.TheVariants.{Empty, Full}
-use Rattle.step_core.specs.CellDeeds.{cell_in, handle_as, handle_told, kind_in, object_at}
-use Rattle.step_core.specs.Cells.{HasInHand, IsOpenTo, Shows, word_at}
+use Rattle.step_core.specs.CellDeeds.{handle_as, handle_told, kind_in, object_at}
+use Rattle.step_core.specs.Cells.{HasInHand, word_at}
 use Rattle.step_core.specs.Contents.{as_word, held_in, is_of, owned_by, same_block, same_value, seen, slot_by, slot_in, slot_of, told}
 use Rattle.step_core.specs.Holdings.{Holds, IsSlot, Slots, place_of, pointer_of, value}
 use Rattle.step_core.specs.Openings.{opening}
@@ -163,9 +163,15 @@ module _ (d : ℕ) (slots : Slots) (v : Story) (i : ℕ) (kept : Kept v) (holds 
 
       go : (k : Kind) (a : Slot) → value slots i ≡ a → IsSlot a → is_of k a ≡ true → InHand (state v) d k (handle_as (state v) k (as_word a))
       go k (Empty p) at formed is = (refl, inl (refl, bare k p formed is))
-      go k (Full x) at formed is =
-          (refl, inr (subst (λ (q : Kind). Has (held d (handle_in v q x.block x.place)) (state v).hands) (kind_is k x is)
-          (slot_held d slots v i x holds (ap pointer_of at)), refl, refl))
+      go k (Full x) at formed is = (
+        refl,
+        inr (
+          subst (λ (q : Kind). Has (held d (handle_in v q x.block x.place)) (state v).hands) (kind_is k x is)
+              (slot_held d slots v i x holds (ap pointer_of at)),
+          refl,
+          refl,
+        ),
+      )
 
   -- what is compared is told by words
   pub alike_told : (c : Cell) (x : CellWord) → is_of (kind_in (state v) c) (value slots i) ≡ true

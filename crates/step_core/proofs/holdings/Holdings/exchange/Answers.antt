@@ -1,11 +1,11 @@
-use Rattle.std.proofs.Common.{◌≡◌, ◌∙◌, set, sym, ap, subst}
+use Rattle.std.proofs.Common.{◌∙◌, set, sym, ap, subst}
 use Rattle.std.proofs.lemmas.List.{get_or_read}
 use Rattle.control_word.specs.declared.cell.CellWord.{CellWord}
 use Rattle.step_core.specs.declared.cell_deed.CellDeed.TheVariants.{Swap}
 use Rattle.step_core.specs.declared.past.Deed.TheVariants.{OnCell}
 use Rattle.step_core.specs.declared.slot.Slot.{Slot}
 use Rattle.step_core.specs.Contents.{as_word, held_in, slot_of}
-use Rattle.step_core.specs.Holdings.{Holds, plain, value}
+use Rattle.step_core.specs.Holdings.{Holds, plain}
 use Rattle.step_core.specs.Stories.{Story, after, state}
 use Rattle.step_core.proofs.contained.Coming.{comes, open_shown}
 use Rattle.step_core.proofs.contained.Going.{holds_exchanged}

@@ -1,20 +1,16 @@
-use Rattle.std.proofs.Common.{◌≡◌, ◌∙◌, Bool, cond, set, sym, ap, subst}
-use Rattle.std.proofs.lemmas.Bool.{cond-false, eqb-true}
-use Rattle.std.specs.Prelude.{Some, is_some, not}
-use Rattle.control_word.specs.declared.cell.CellWord.{CellWord}
-use Rattle.step_core.specs.declared.cell_deed.CellDeed.TheVariants.{CompareSwap, Look, Take}
+use Rattle.std.proofs.Common.{◌∙◌, sym, ap, subst}
+use Rattle.std.specs.Prelude.{Some, is_some}
+use Rattle.step_core.specs.declared.cell_deed.CellDeed.TheVariants.{Look}
 use Rattle.step_core.specs.declared.cell_deed.Compared.{Compared}
 use Rattle.step_core.specs.declared.past.Deed.TheVariants.{OnCell}
 use Rattle.step_core.specs.declared.slot.Slot.{Slot}
-use Rattle.step_core.specs.Contents.{as_word, compared_in, differed, held_in, same_value, slot_of, swapped}
-use Rattle.step_core.specs.Holdings.{Holds, Slots, plain, value}
+use Rattle.step_core.specs.Contents.{as_word, compared_in, differed, held_in, same_value, slot_of}
+use Rattle.step_core.specs.Holdings.{Holds, Slots, value}
 use Rattle.step_core.specs.Stories.{Story, after, state}
-use Rattle.step_core.proofs.contained.Coming.{comes, open_found, open_shown}
-use Rattle.step_core.proofs.contained.Comparing.{alike_in, done_if, holds_differed, holds_unlike, left_first, left_next, looked_in}
-use Rattle.step_core.proofs.contained.Going.{holds_compared}
-use Rattle.step_core.proofs.contained.Offered.{goes_in_hand, goes_paid, goes_roomy, goes_valid}
+use Rattle.step_core.proofs.contained.Coming.{comes, open_shown}
+use Rattle.step_core.proofs.contained.Comparing.{done_if, holds_unlike, left_first, left_next, looked_in}
+use Rattle.step_core.proofs.contained.Offered.{goes_in_hand}
 use Rattle.step_core.proofs.contained.Told.{shows_seen}
-use Rattle.step_core.proofs.holding.Owning.{has_room}
 use Rattle.step_core.proofs.holdings.Holdings.look_to_compare.Goals as goal
 
 pub look_to_compare-found-requires-clause-expected : goal.look_to_compare-found-requires-clause-expected

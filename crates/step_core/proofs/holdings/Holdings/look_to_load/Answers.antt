@@ -1,4 +1,4 @@
-use Rattle.std.proofs.Common.{◌≡◌, ◌∙◌, Bool, cond, set, sym, ap, subst}
+use Rattle.std.proofs.Common.{◌∙◌, Bool, cond, set, sym, ap, subst}
 use Rattle.std.proofs.lemmas.Bool.{cond-false}
 use Rattle.std.specs.Prelude.{None, is_some}
 use Rattle.step_core.specs.declared.cell_deed.CellDeed.TheVariants.{Look}

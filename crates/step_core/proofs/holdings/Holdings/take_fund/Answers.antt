@@ -1,4 +1,4 @@
-use Rattle.std.proofs.Common.{◌≡◌, ◌∙◌, Bool, cond, set, ap, sym, subst}
+use Rattle.std.proofs.Common.{◌∙◌, Bool, cond, set, ap, sym, subst}
 use Rattle.std.proofs.lemmas.Bool.{eqb-true}
 use Rattle.std.specs.Prelude.{None}
 use Rattle.step_core.specs.declared.cell_deed.CellDeed.TheVariants.{Take}

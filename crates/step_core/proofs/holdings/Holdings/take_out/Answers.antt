@@ -1,13 +1,11 @@
-use Rattle.std.proofs.Common.{◌≡◌, ◌∙◌, Bool, cond, set, sym, ap, subst}
+use Rattle.std.proofs.Common.{◌∙◌, set, sym, ap, subst}
 use Rattle.std.proofs.lemmas.Bool.{cond-true}
 use Rattle.std.specs.Prelude.{is_some, not}
 use Rattle.step_core.specs.declared.cell_deed.Cell.TheVariants.{Member}
-use Rattle.step_core.specs.declared.cell_deed.CellDeed.TheVariants.{TakeOut}
-use Rattle.step_core.specs.declared.past.Deed.TheVariants.{OnCell}
 use Rattle.step_core.specs.declared.slot.Slot.{Slot}
 use Rattle.step_core.specs.Contents.{held_in, slot_of}
 use Rattle.step_core.specs.Holdings.{Holds}
-use Rattle.step_core.specs.Stories.{Story, after, state}
+use Rattle.step_core.specs.Stories.{Story, state}
 use Rattle.step_core.proofs.contained.Coming.{comes, holds_taken_out, holds_taken_bare, member_found, none_owned}
 use Rattle.step_core.proofs.contained.Told.{shows_seen}
 use Rattle.step_core.proofs.holding.Owning.{has_room}
