@@ -1,0 +1,6 @@
+pub mod Coming
+pub mod Comparing
+pub mod Going
+pub mod Offered
+pub mod Others
+pub mod Told
