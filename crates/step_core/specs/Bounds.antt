@@ -6,7 +6,8 @@ use Rattle.step_core.specs.declared.act.Task.{Task}
 use Rattle.step_core.specs.declared.ending.Ending.{Ending}
 use Rattle.step_core.specs.declared.half.Half.{Half}
 use Rattle.step_core.specs.declared.half.Half.TheVariants.{Rest, Making, Locking, Giving}
-use Rattle.step_core.specs.Courses.{Walk, hand}
+use Rattle.step_core.specs.declared.thread.Thread.{Thread}
+use Rattle.step_core.specs.Courses.{Walk, hand, todo}
 use Rattle.step_core.specs.Holdings.{Slots, is_full, slot}
 use Rattle.step_core.specs.Totals.{ended_in, made_in}
 use Rattle.step_core.specs.Worlds.{Sight}
@@ -40,6 +41,10 @@ task_steps ts = sum_by (λ (t : Task). weight t.act) ts
 
 abbrev pub walk_steps : Walk → ℕ
 walk_steps w = task_steps w.todo + sum_by ending_steps w.endings + carried w.endings w.slots
+
+-- those that a thread has left, but for what came out of a member
+abbrev pub steps_of : Thread → ℕ
+steps_of t = task_steps (todo t.course) + sum_by ending_steps t.course.endings.list
 
 abbrev pub left_to_do : List Walk → ℕ
 left_to_do walks = sum_by walk_steps walks

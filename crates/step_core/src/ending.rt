@@ -1,5 +1,6 @@
 //! The objects that end in a thread's hands.
-ghost use Rattle.std.specs.Prelude.{◌≡◌, ◌<◌, ◌≤◌, [], ◌∷◌, length, IfOk, Some};
+ghost use Rattle.std.specs.Prelude.{◌≡◌, ◌<◌, ◌≤◌, [], ◌∷◌, length, sum_by, IfOk, Some};
+ghost use Rattle.step_core.specs.Bounds.{ending_steps};
 ghost use Rattle.step_core.specs.Endings.{first_of, staged_first};
 
 use control_word::place::Block;
@@ -87,4 +88,24 @@ impl Endings {
     {
         let _ending = self.items.pop();
     }
+
+    /// The steps that they have left, but for what comes out of members.
+    pub(crate) fn steps_left(&self) -> usize
+        requires { sum_by ending_steps self.now.list ≤ 2000000 }
+        ensures { result ≡ sum_by ending_steps self.now.list }
+    {
+        ending_steps(self.items.as_slice())
+    }
+}
+
+/// The steps that endings have left.
+fn ending_steps(endings: &[Ending]) -> usize
+    requires { sum_by ending_steps endings.now ≤ 2000000 }
+    ensures { result ≡ sum_by ending_steps endings.now }
+{
+    let mut left = 0;
+    for ending in endings {
+        left += 4 * 3usize.saturating_sub(usize::from(ending.stage)) + 1;
+    }
+    left
 }

@@ -1,8 +1,9 @@
 -- What an act takes from the steps that a thread has left.
 use Rattle.std.proofs.Common.{◌≡◌, ℕ, zero, suc, ◌+◌, ◌*◌, ◌-◌, ◌<◌, ◌≤◌, Bool, true, false, cond, List, [], ◌∷◌, length, get_or, refl, sym, ap, subst, ◌∙◌, arith}
 use Rattle.std.proofs.Common.{get_or-set_same, length-set}
-use Rattle.std.specs.Prelude.{Option, Some, None, is_some, slice_set, sum_by}
+use Rattle.std.specs.Prelude.{Option, Some, None, is_some, reverse, slice_set, sum_by}
 use Rattle.std.proofs.lemmas.Bool.{cond_both}
+use Rattle.std.proofs.lemmas.List.Sorted.{IsPermutation-reverse, sum_by-IsPermutation}
 use Rattle.std.proofs.lemmas.List.Sums.{sum_by-cons}
 use Rattle.control_word.specs.declared.handle.Kind.{Kind}
 use Rattle.control_word.specs.declared.handle.Kind.TheVariants.{Owner, Weak}
@@ -230,3 +231,12 @@ staged_less w e es is free lt =
     let c = sum_by-cons ending_steps (staged e) es in
     let f = carried_free (staged e ∷ es) w.slots free in
     omega (arith, a, b, c, f, lt)
+
+-- at most one pointer came out of a member, and isn't left yet
+pub carried_most : (es : List Ending) (slots : Slots) → carried es slots ≤ 1
+carried_most [] slots = omega arith
+carried_most (e ∷ es) slots = carried_one (is_full (slot slots (hand slots)))
+
+-- the same endings, the other way round
+pub reversed_steps : (es : List Ending) → sum_by ending_steps (reverse es) ≡ sum_by ending_steps es
+reversed_steps es = sum_by-IsPermutation ending_steps es (reverse es) (IsPermutation-reverse es)
