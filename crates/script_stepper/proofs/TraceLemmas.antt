@@ -13,7 +13,8 @@ use Rattle.step_core.specs.declared.holdings.Pointer.{Pointer}
 use Rattle.step_core.specs.Courses.{Walk, idle, locked, settled, slots_idle, taken_idle}
 use Rattle.step_core.specs.Holdings.{Slots, inside, slot}
 use Rattle.step_core.specs.Deeds.{this_as}
-use Rattle.step_core.specs.Scenes.{Scene, found, giving, holding, least, nowhere, play, play_from, said, said_from, state_in, taking, walk_of, went}
+use Rattle.step_core.specs.Entries.{giving, least}
+use Rattle.step_core.specs.Scenes.{Scene, found, holding, nowhere, play, play_from, said, said_from, state_in, taking, walk_of, went}
 use Rattle.script_stepper.specs.Traces.{Item, heard, plays, told}
 
 pub plays-append : (xs ys : List ℕ) (c : Scene) → plays (xs ++ ys) c ≡ plays ys (plays xs c)
