@@ -1,8 +1,9 @@
 -- The endings of a thread, step by step.
-use Rattle.std.proofs.Common.{◌≡◌, ◌≢◌, ◌⊎◌, ℕ, suc, ◌+◌, ◌-◌, ◌<◌, ◌≤◌, ◌==◌, Bool, true, false, cond, List, [], ◌∷◌, All, length, set, refl, sym, ap, subst, ◌∙◌, arith, eq-eqb, ⊎_elim}
+use Rattle.std.proofs.Common.{◌≡◌, ◌≢◌, ◌⊎◌, ℕ, suc, ◌+◌, ◌-◌, ◌<◌, ◌≤◌, ◌==◌, Bool, true, false, List, [], ◌∷◌}
+use Rattle.std.proofs.Common.{All, length, set, refl, sym, ap, subst, ◌∙◌, arith, ⊎_elim}
 use Rattle.std.proofs.Common.{get_or-set_same}
 use Rattle.std.specs.Prelude.{Option, Some, None, is_some}
-use Rattle.std.proofs.lemmas.Bool.{cond-false, cond-true, cond_both, eqb-true, eqb-false, false≢true}
+use Rattle.std.proofs.lemmas.Bool.{cond-false, cond_both, eqb-true, eqb-false, false≢true}
 use Rattle.std.proofs.lemmas.List.{set-get_or, set-set}
 use Rattle.std.proofs.lemmas.List.Elements.{All-head}
 use Rattle.control_word.specs.declared.event.Event.TheVariants as event
@@ -20,7 +21,7 @@ use Rattle.step_core.specs.Courses.{Walk, hand}
 use Rattle.step_core.specs.Endings.{first_of, staged}
 use Rattle.step_core.specs.Holdings.{Slots, is_full, slot}
 use Rattle.step_core.specs.Openings.{opening}
-use Rattle.step_core.specs.Scenes.{History, Scene, Stop, Wound, clears, goes_on, nowhere, put_walk, rested, rested_walk, stops, unwound, walk_of}
+use Rattle.step_core.specs.Scenes.{History, Scene, Stop, Wound, goes_on, nowhere, put_walk, rested, rested_walk, stops, unwound, walk_of}
 use Rattle.step_core.specs.Steps.{Step, at_rest, ends_on, half_by, silent, step_at, walk_by, with_endings}
 use Rattle.step_core.specs.Stories.{AllBare, Kept, object_in, state}
 use Rattle.step_core.specs.Turning.{HasBegun, IsAlone, Rests, is_ending}
@@ -219,7 +220,7 @@ on_step d u v v' r on begun is steps actors kept =
     let l = (walk_of (scene v) d).endings in
     let s = stepped_end d v l refl begun (ends_some l is) in
     subst (λ (w : Sight). length w.walks ≡ length v.walks → GoesTo d u w → IsOn d u w) (sym steps.1)
-    (λ same goes. record { scene = s.0 ∙ on.scene; halves = s.1 ∙ on.halves; actors = same ∙ on.actors; goes = goes; }) actors all
+    (λ same goes. record { scene = s.0 ∙ on.scene; halves = s.1 ∙ on.halves; actors = same ∙ on.actors; goes = goes }) actors all
 
 pub on_less : (d : ℕ) (v v' : Sight) (r : Stepped) → HasBegun d v → is_ending v d ≡ true → Steps d v r v'
     → left (walk_of (scene v') d).endings < left (walk_of (scene v) d).endings

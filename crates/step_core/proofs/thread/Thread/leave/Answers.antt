@@ -53,7 +53,7 @@ returns-clause-fits c =
     let has : HasLeft c.args.desk c.args.self.now.course c.leave-last.new.self c.left-ended.new.self.course c.leave-last.new.table c.statement-statement.result c.get-held.result c.leave-last.result =
     record {
       gone = c.leave-last.ensures.on;
-      empty = ap (λ (w : Walk). w.taken) c.leave-last.ensures.walk ∙ ap (λ (b : Bool). (settled (slice_set slots c.args.name plain) b c.args.self.now.course.endings.list (rest c.args.self.now.course)).taken) (leave_empty c.args.self.now.course c.args.name c.requires.within c.requires.fits.ready c.requires.act) ∙ settled_taken _ _ _;
+      empty = ap (λ (w : Walk). w.taken) c.leave-last.ensures.walk ∙ ap (λ (b : Bool). (settled (slice_set slots c.args.name plain) b c.args.self.now.course.endings.list (rest c.args.self.now.course)).taken) (leave_empty c.args.self.now.course c.args.name c.requires.within c.requires.fits.ready c.requires.act) ∙ settled_taken (slice_set slots c.args.name plain) c.args.self.now.course.endings.list (rest c.args.self.now.course);
       same = c.left-ended.ensures.course;
       list = c.left-ended.ensures.endings;
       roomy = c.left-ended.ensures.roomy;
@@ -71,7 +71,7 @@ returns-clause-stepped c =
     let has : HasLeft c.args.desk c.args.self.now.course c.leave-last.new.self c.left-ended.new.self.course c.leave-last.new.table c.statement-statement.result c.get-held.result c.leave-last.result =
     record {
       gone = c.leave-last.ensures.on;
-      empty = ap (λ (w : Walk). w.taken) c.leave-last.ensures.walk ∙ ap (λ (b : Bool). (settled (slice_set slots c.args.name plain) b c.args.self.now.course.endings.list (rest c.args.self.now.course)).taken) (leave_empty c.args.self.now.course c.args.name c.requires.within c.requires.fits.ready c.requires.act) ∙ settled_taken _ _ _;
+      empty = ap (λ (w : Walk). w.taken) c.leave-last.ensures.walk ∙ ap (λ (b : Bool). (settled (slice_set slots c.args.name plain) b c.args.self.now.course.endings.list (rest c.args.self.now.course)).taken) (leave_empty c.args.self.now.course c.args.name c.requires.within c.requires.fits.ready c.requires.act) ∙ settled_taken (slice_set slots c.args.name plain) c.args.self.now.course.endings.list (rest c.args.self.now.course);
       same = c.left-ended.ensures.course;
       list = c.left-ended.ensures.endings;
       roomy = c.left-ended.ensures.roomy;

@@ -2,7 +2,7 @@ use Rattle.std.proofs.Common.{◌≡◌, ◌∙◌, Bool, false, cond, refl, sym
 use Rattle.std.specs.Prelude.{Option, None, is_some, option_map, slice_set}
 use Rattle.step_core.specs.declared.act.Act.TheVariants as act
 use Rattle.step_core.specs.declared.holdings.Pointer.{Pointer}
-use Rattle.step_core.specs.Courses.{Walk, done_on, rest, settled, task_at, walk}
+use Rattle.step_core.specs.Courses.{Walk, done_on, placed, rest, task_at, walk}
 use Rattle.step_core.specs.declared.half.Half.TheVariants.{Rest}
 use Rattle.step_core.specs.Steps.{acts}
 use Rattle.step_core.specs.declared.said.Stepped.TheVariants.{Event, Quiet}
@@ -53,7 +53,7 @@ returns-clause-fits c =
     let has : HasLeft c.args.desk c.args.self.now.course c.put-last.new.self c.left-ended.new.self.course c.put-last.new.table c.statement-statement.result c.get-held.result c.put-last.result =
     record {
       gone = c.put-last.ensures.on;
-      empty = ap (λ (w : Walk). w.taken) c.put-last.ensures.walk ∙ settled_taken _ _ _;
+      empty = ap (λ (w : Walk). w.taken) c.put-last.ensures.walk ∙ settled_taken (placed c.args.name (slice_set slots c.args.name plain)) c.args.self.now.course.endings.list (rest c.args.self.now.course);
       same = c.left-ended.ensures.course;
       list = c.left-ended.ensures.endings;
       roomy = c.left-ended.ensures.roomy;
@@ -71,7 +71,7 @@ returns-clause-stepped c =
     let has : HasLeft c.args.desk c.args.self.now.course c.put-last.new.self c.left-ended.new.self.course c.put-last.new.table c.statement-statement.result c.get-held.result c.put-last.result =
     record {
       gone = c.put-last.ensures.on;
-      empty = ap (λ (w : Walk). w.taken) c.put-last.ensures.walk ∙ settled_taken _ _ _;
+      empty = ap (λ (w : Walk). w.taken) c.put-last.ensures.walk ∙ settled_taken (placed c.args.name (slice_set slots c.args.name plain)) c.args.self.now.course.endings.list (rest c.args.self.now.course);
       same = c.left-ended.ensures.course;
       list = c.left-ended.ensures.endings;
       roomy = c.left-ended.ensures.roomy;
