@@ -1,11 +1,11 @@
 -- How many steps a world has left at most. All of it is own.
 use Rattle.std.specs.Prelude.{ℕ, ◌+◌, ◌-◌, ◌*◌, cond, List, [], ◌∷◌, drop, sum_by}
 use Rattle.step_core.specs.declared.act.Act.{Act}
-use Rattle.step_core.specs.declared.act.Act.TheVariants.{Make}
+use Rattle.step_core.specs.declared.act.Act.TheVariants.{Make, Swap, Exchange}
 use Rattle.step_core.specs.declared.act.Task.{Task}
 use Rattle.step_core.specs.declared.ending.Ending.{Ending}
 use Rattle.step_core.specs.declared.half.Half.{Half}
-use Rattle.step_core.specs.declared.half.Half.TheVariants.{Rest, Making, Locking, Giving}
+use Rattle.step_core.specs.declared.half.Half.TheVariants.{Rest, Making, Locking, Giving, Brought, Returning}
 use Rattle.step_core.specs.declared.thread.Thread.{Thread}
 use Rattle.step_core.specs.Courses.{Walk, hand, todo}
 use Rattle.step_core.specs.Holdings.{Slots, is_full, slot}
@@ -13,9 +13,11 @@ use Rattle.step_core.specs.Totals.{ended_in, made_in}
 use Rattle.step_core.specs.Worlds.{Sight}
 
 -- What a task has for its steps. A make prepares its block, looks at five words and writes them, and claims; and its object
--- may end, which takes 13 steps. Any other act takes two at most
+-- may end, which takes 13 steps. A swap brings funds, swaps, and gives funds back. Any other act takes two at most
 abbrev pub weight : Act → ℕ
 weight (Make form) = 28
+weight (Swap c) = 3
+weight (Exchange k c) = 3
 weight _ = 2
 
 -- What a half has to spare, whatever others do: a thread at rest has 15, which what it begins uses up. A lock that is tried
@@ -25,6 +27,8 @@ spare Rest = 15
 spare (Making b i differs) = 2 * (5 - i) + cond differs 1 2
 spare (Locking word) = 15
 spare (Giving i kind x) = 14
+spare Brought = 15
+spare (Returning kind b funds k) = 15
 
 -- the steps that the end of an object has left: four for each member, as what comes out of it has to leave, and the last
 abbrev pub ending_steps : Ending → ℕ

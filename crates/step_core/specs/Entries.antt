@@ -15,11 +15,14 @@ use Rattle.control_word.specs.State.{Object, Opening, State, Stored, count, weak
 use Rattle.control_word.specs.Words.{blocks_of}
 use Rattle.step_core.specs.declared.act.Act.{Act}
 use Rattle.step_core.specs.declared.act.Form.{Form}
-use Rattle.step_core.specs.declared.act.Act.TheVariants.{Make, Share, Downgrade, Lock, Put, Leave, Clear, Count, Expired, Read, FromThis, Alias, Move, Ask}
+use Rattle.step_core.specs.declared.act.Act.TheVariants.{Make, Share, Downgrade, Lock, Put, Leave, Clear, Count, Expired, Read, FromThis, Alias, Move, Ask, Offer, Swap, Exchange, Drop}
 use Rattle.step_core.specs.declared.act.Question.{Question}
 use Rattle.step_core.specs.declared.act.Question.TheVariants as question
 use Rattle.step_core.specs.declared.act.Task.{Task}
+use Rattle.step_core.specs.declared.call.CellName.{CellName}
 use Rattle.step_core.specs.declared.call.Field.{Field}
+use Rattle.step_core.specs.CellDeeds.{cell_in}
+use Rattle.step_core.specs.Contents.{held_in, told}
 use Rattle.step_core.specs.declared.ending.Ending.{Ending}
 use Rattle.step_core.specs.declared.extent.Extent.{Extent}
 use Rattle.step_core.specs.declared.holdings.Pointer.{Pointer}
@@ -29,7 +32,7 @@ use Rattle.step_core.specs.declared.said.Ended.{Ended}
 use Rattle.step_core.specs.declared.said.Ended.TheVariants as ended
 use Rattle.step_core.specs.declared.said.Said.{Said}
 use Rattle.step_core.specs.declared.slot.Slot.TheVariants.{Full, Empty}
-use Rattle.step_core.specs.Courses.{Walk, hand, locked, placed, settled, passed}
+use Rattle.step_core.specs.Courses.{cell_at, going, hand, kind_at, locked, offered, on_going, other}
 use Rattle.step_core.specs.Deeds.{as_weak, field_of, is_enabled, is_expired, is_last, owned, owner_left, this_as, aliased, at_place}
 use Rattle.step_core.specs.Holdings.{Slots, filled, inside, is_full, place_in, plain, slot, value, owner_slot}
 use Rattle.step_core.specs.declared.slot.Slot.{Slot}
@@ -106,6 +109,13 @@ abbrev pub giving : State → Option Pointer → Option Pointer
 giving s None = None
 giving s (Some x) = cond (is_enabled s x) (Some x) None
 
+-- a slot's value goes into a cell, and what that held comes out ([util.smartptr.atomic.shared], `exchange`)
+abbrev pub swaps : Opening → ℕ → Slots → History → CellName → ℕ → History
+swaps z d slots h c k =
+    let s = leads z h in
+    let x = cell_at s c in
+    entry d (event.Swap (cell_in s x) (told s (kind_at c) (value slots k)) (held_in s x)) ∷ h
+
 -- the history after an act of a desk whose thread has this in its slots
 abbrev pub acted : Opening → ℕ → Slots → History → Act → History
 acted z d slots h (Make form) = made d form h (least d (leads z h).stores)
@@ -122,3 +132,7 @@ acted z d slots h (FromThis k kind) = on (gives kind z d h) h (giving (leads z h
 acted z d slots h (Alias k j field) = on (aliases (aliased field (place_in slots j)) z d h) h (owner_slot (slot slots k))
 acted z d slots h (Move k) = h
 acted z d slots h (Ask q) = h
+acted z d slots h (Offer k c) = on (shares z d h) h (offered slots k c)
+acted z d slots h (Swap c) = on_going (swaps z d slots h) h (going slots (Swap c))
+acted z d slots h (Exchange k c) = on_going (swaps z d slots h) h (going slots (Exchange k c))
+acted z d slots h Drop = on (leaves z d h) h (slot slots (other slots))

@@ -15,11 +15,13 @@ use Rattle.control_word.specs.State.{Object, Opening, State, Stored, count, weak
 use Rattle.control_word.specs.Words.{blocks_of}
 use Rattle.step_core.specs.declared.act.Act.{Act}
 use Rattle.step_core.specs.declared.act.Form.{Form}
-use Rattle.step_core.specs.declared.act.Act.TheVariants.{Make, Share, Downgrade, Lock, Put, Leave, Clear, Count, Expired, Read, FromThis, Alias, Move, Ask}
+use Rattle.step_core.specs.declared.act.Act.TheVariants.{Make, Share, Downgrade, Lock, Put, Leave, Clear, Count, Expired, Read, FromThis, Alias, Move, Ask, Offer, Swap, Exchange, Drop}
 use Rattle.step_core.specs.declared.act.Question.{Question}
 use Rattle.step_core.specs.declared.act.Question.TheVariants as question
 use Rattle.step_core.specs.declared.act.Task.{Task}
+use Rattle.step_core.specs.declared.call.CellName.{CellName}
 use Rattle.step_core.specs.declared.call.Field.{Field}
+use Rattle.step_core.specs.Contents.{held_in, slot_of, swapped}
 use Rattle.step_core.specs.declared.ending.Ending.{Ending}
 use Rattle.step_core.specs.declared.extent.Extent.{Extent}
 use Rattle.step_core.specs.declared.holdings.Pointer.{Pointer}
@@ -29,7 +31,7 @@ use Rattle.step_core.specs.declared.said.Ended.{Ended}
 use Rattle.step_core.specs.declared.said.Ended.TheVariants as ended
 use Rattle.step_core.specs.declared.said.Said.{Said}
 use Rattle.step_core.specs.declared.slot.Slot.TheVariants.{Full, Empty}
-use Rattle.step_core.specs.Courses.{Walk, hand, locked, placed, settled, passed}
+use Rattle.step_core.specs.Courses.{Walk, cell_at, fitting, going, hand, kind_at, locked, on_going, other, placed, settled, passed}
 use Rattle.step_core.specs.Deeds.{as_weak, field_of, is_enabled, is_expired, is_last, owned, owner_left, this_as, aliased, at_place}
 use Rattle.step_core.specs.Holdings.{Slots, filled, inside, is_full, place_in, plain, slot, value, owner_slot}
 use Rattle.step_core.specs.declared.slot.Slot.{Slot}
@@ -69,6 +71,10 @@ alias_of p (Some x) = Full (at_place p x)
 abbrev pub alias_in : Slots → ℕ → ℕ → Option Field → Slot
 alias_in slots k j field = alias_of (aliased field (place_in slots j)) (owner_slot (slot slots k))
 
+-- what comes out of a cell
+abbrev pub came : State → CellName → Slot
+came s c = slot_of s (held_in s (cell_at s c))
+
 -- what it has by an act
 abbrev pub hands : State → ℕ → Slots → Bool → Act → Hands
 hands s d slots taken (Make form) = holding slots form.null (least d s.stores)
@@ -85,12 +91,17 @@ hands s d slots taken (FromThis k kind) = taking slots true (option_map (this_as
 hands s d slots taken (Alias k j field) = (slice_set slots (hand slots) (alias_in slots k j field), true)
 hands s d slots taken (Move k) = (passed k (hand slots) slots, true)
 hands s d slots taken (Ask q) = (slots, taken)
+hands s d slots taken (Offer k c) = (slice_set slots (hand slots) (fitting (kind_at c) (value slots k)), true)
+hands s d slots taken (Swap c) = (on_going (λ x k. swapped k (other slots) slots (came s x)) slots (going slots (Swap c)), false)
+hands s d slots taken (Exchange k c) = (on_going (λ x i. slice_set slots i (came s x)) slots (going slots (Exchange k c)), taken)
+hands s d slots taken Drop = (slice_set slots (other slots) plain, taken)
 
 -- the pointer that leaves by an act
 abbrev pub left : Slots → Act → Option Pointer
 left slots (Put k) = slot slots k
 left slots (Leave k) = slot slots k
 left slots (Clear k) = slot slots k
+left slots Drop = slot slots (other slots)
 left slots _ = None
 
 -- the endings after a pointer's leave by statement k: where it was the last owner, its object's end begins
@@ -107,14 +118,6 @@ endings_by s k slots es a = on (λ x. begins_end s k x es) es (left slots a)
 -- where the thread is by an act of statement k alone, with these tasks after it
 abbrev pub went : State → ℕ → Walk → ℕ → List Task → Act → Walk
 went s d w k ts a = let x = hands s d w.slots w.taken a in settled x.0 x.1 (endings_by s k w.slots w.endings a) ts
-
--- a handle as a slot has it
-abbrev pub slot_as : State → Handle → Option ℕ → Slot
-slot_as s h None = Empty h.place
-slot_as s h (Some o) = Full (record { kind = h.kind; block = record { 0 = (s.object o).block }; place = h.place })
-
-abbrev pub slot_of : State → Handle → Slot
-slot_of s h = slot_as s h h.object
 
 -- how far the end of an object comes by itself: to a member that held an object, with so many members behind it, or to its end
 pub record Stop : Type 0 where
@@ -232,6 +235,7 @@ abbrev pub ended_of : State → Slots → Act → Option Ended
 ended_of s slots (Put k) = ended_by s (slot slots k)
 ended_of s slots (Leave k) = ended_by s (slot slots k)
 ended_of s slots (Clear k) = ended_by s (slot slots k)
+ended_of s slots Drop = ended_by s (slot slots (other slots))
 ended_of s slots _ = None
 
 abbrev pub said_of : State → ℕ → Slots → Task → Said

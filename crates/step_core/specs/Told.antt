@@ -3,7 +3,7 @@ use Rattle.std.specs.Prelude.{◌≡◌, ℕ, ◌+◌, ◌*◌, ◌<◌, ◌≤�
 use Rattle.control_word.specs.State.{State, ending}
 use Rattle.step_core.specs.declared.ending.Ending.{Ending}
 use Rattle.step_core.specs.declared.half.Half.{Half}
-use Rattle.step_core.specs.declared.half.Half.TheVariants.{Rest, Making, Locking, Giving}
+use Rattle.step_core.specs.declared.half.Half.TheVariants.{Rest, Making, Locking, Giving, Brought, Returning}
 use Rattle.step_core.specs.declared.said.Stepped.{Stepped}
 use Rattle.step_core.specs.declared.said.Stepped.TheVariants.{Event, Quiet, Waited, Done}
 use Rattle.step_core.specs.declared.thread.Thread.{Thread}
@@ -39,6 +39,8 @@ is_prepared Rest = false
 is_prepared (Making b i differs) = i == 5
 is_prepared (Locking word) = false
 is_prepared (Giving i kind x) = false
+is_prepared Brought = false
+is_prepared (Returning kind b funds k) = false
 
 -- how many objects a step made, of a thread that had begun this, and of how many the last owner left by it
 abbrev pub makes : Half → Stepped → ℕ

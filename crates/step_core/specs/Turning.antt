@@ -4,13 +4,13 @@ use Rattle.step_core.specs.declared.act.Act.TheVariants.{Make, FromThis}
 use Rattle.step_core.specs.declared.act.Task.{Task}
 use Rattle.step_core.specs.declared.ending.Ending.{Ending}
 use Rattle.step_core.specs.declared.half.Half.{Half}
-use Rattle.step_core.specs.declared.half.Half.TheVariants.{Rest, Making, Locking, Giving}
+use Rattle.step_core.specs.declared.half.Half.TheVariants.{Rest, Making, Locking, Giving, Brought, Returning}
 use Rattle.step_core.specs.declared.said.Said.{Said}
 use Rattle.step_core.specs.declared.said.Stepped.{Stepped}
 use Rattle.step_core.specs.declared.said.Stepped.TheVariants as stepped
 use Rattle.step_core.specs.declared.said.Turned.{Turned}
 use Rattle.step_core.specs.declared.said.Turned.TheVariants.{Acted, Waited, Done}
-use Rattle.step_core.specs.Courses.{Walk, form_of, hand, locked}
+use Rattle.step_core.specs.Courses.{Walk, form_of, going, hand, locked}
 use Rattle.step_core.specs.Deeds.{is_enabled}
 use Rattle.step_core.specs.Endings.{first_of}
 use Rattle.step_core.specs.Holdings.{Slots, inside, is_full, slot}
@@ -27,16 +27,24 @@ IsUnderWay d v (Making b i differs) (t ∷ ts) = (i ≤ 5) × (least d (state v)
 IsUnderWay d v (Locking word) ts = Unit {0}
 IsUnderWay d v (Giving i kind x) [] = ⊥
 IsUnderWay d v (Giving i kind x) (t ∷ ts) = (t.act ≡ FromThis i kind) × (is_enabled (state v) x ≡ true)
+IsUnderWay d v Brought ts = Unit {0}
+IsUnderWay d v (Returning kind b funds k) ts = Unit {0}
 
 -- the next act locks a weak pointer
 abbrev pub IsLock : Slots → List Task → Type 0
 IsLock slots [] = ⊥
 IsLock slots (t ∷ ts) = is_full (locked slots t.act) ≡ true
 
--- a lock that is under way is the next act
+-- the next act puts a value into a cell
+abbrev pub IsSwap : Slots → List Task → Type 0
+IsSwap slots [] = ⊥
+IsSwap slots (t ∷ ts) = is_some (going slots t.act) ≡ true
+
+-- a lock or a swap that is under way is the next act
 abbrev pub IsTried : Half → Walk → Type 0
 IsTried (Locking word) w = IsLock w.slots w.todo
 IsTried (Giving i kind x) w = inside (slot w.slots i) ≡ Some x
+IsTried Brought w = IsSwap w.slots w.todo
 IsTried _ w = Unit {0}
 
 -- an act that is half done is one of a statement: no object ends in the thread's hands
@@ -45,6 +53,8 @@ IsAlone Rest es = Unit {0}
 IsAlone (Making b i differs) es = es ≡ []
 IsAlone (Locking word) es = es ≡ []
 IsAlone (Giving i kind x) es = es ≡ []
+IsAlone Brought es = es ≡ []
+IsAlone (Returning kind b funds k) es = Unit {0}
 
 -- between two steps of thread d: where objects end nothing is in hand, and no member of an object holds anything
 pub record HasBegun (d : ℕ) (u : Sight) : Type 0 where
@@ -78,6 +88,7 @@ abbrev pub is_acting : Half → Bool
 is_acting (Making b i differs) = true
 is_acting (Locking word) = true
 is_acting (Giving i kind x) = true
+is_acting Brought = true
 is_acting _ = false
 
 -- a make that has words left to look at or to write

@@ -1,5 +1,5 @@
 //! How a thread goes on from act to act.
-ghost use Rattle.std.specs.Prelude.{◌≡◌, ◌⊎◌, ◌+◌, ◌<◌, ◌≤◌, ◌==◌, ◌∷◌, ℕ, length, drop, true, false, slice_set, Option, Some, None, option_map};
+ghost use Rattle.std.specs.Prelude.{◌≡◌, ◌⊎◌, ◌+◌, ◌<◌, ◌≤◌, ◌==◌, ◌∷◌, ℕ, length, drop, true, false, cond, slice_set, Option, Some, None, option_map};
 ghost use Rattle.control_word.specs.State.{count};
 ghost use Rattle.control_word.specs.declared.handle.Kind.TheVariants.{Owner};
 ghost use Rattle.control_word.specs.Words.{flags_of};
@@ -32,7 +32,7 @@ pub struct Course {
 
 impl Course {
     ghost use Rattle.step_core.specs.Entries.{on};
-    ghost use Rattle.step_core.specs.Courses.{CanAct, CourseReady, HasGoneOn, IsPassed, IsReady, done_on, hand, idle, placed, rest, settled, task_at, todo, walk};
+    ghost use Rattle.step_core.specs.Courses.{CanAct, CourseReady, HasGoneOn, IsPassed, IsReady, done_on, hand, idle, passed, placed, rest, settled, task_at, todo, walk};
 
     /// Whether the next task is no act where it comes.
     fn is_idle(&self) -> bool
@@ -43,11 +43,13 @@ impl Course {
         match self.tasks[self.at].act {
             Act::Put { name } => !(self.taken && self.holdings.is_full(usize::from(name))),
             Act::Clear { name } => !self.holdings.is_full(usize::from(name)),
+            Act::Swap { cell } => !(self.taken && self.may_go_in(self.holdings.hand(), cell)),
+            Act::Drop => !self.holdings.is_full(self.holdings.other()),
             _ => false,
         }
     }
 
-    /// Goes past an idle task. A value that is in hand goes to its name, which is empty.
+    /// Goes past an idle task. A value that is in hand goes to its name, which is empty, or is to be dropped.
     fn pass(&mut self)
         requires within { self.old.at < length self.old.tasks.items }
         requires ready { CourseReady self.old }
@@ -56,12 +58,27 @@ impl Course {
     {
         let act = self.tasks[self.at].act;
         self.at += 1;
-        if let Act::Put { name } = act {
-            if self.taken {
-                let hand = self.holdings.hand();
-                self.holdings.pass_on(hand, usize::from(name));
-                self.taken = false;
-            }
+        let other = self.holdings.other();
+        match act {
+            Act::Put { name } => self.put_down(usize::from(name)),
+            Act::Swap { .. } => self.put_down(other),
+            Act::Drop => self.holdings.set_empty(other, None),
+            _ => {}
+        }
+    }
+
+    /// What was taken goes to a slot that holds nothing.
+    fn put_down(&mut self, to: usize)
+        requires inside { to < hand self.old.holdings.slots.items }
+        requires empty { self.old.taken ≡ true → slot self.old.holdings.slots.items to ≡ None }
+        ensures slots { self.new.holdings.slots.items ≡ cond self.old.taken (passed (hand self.old.holdings.slots.items) to self.old.holdings.slots.items) self.old.holdings.slots.items }
+        ensures course { self.new ≡ record self.old { holdings = self.new.holdings; taken = false } }
+        ensures holds { (d : ℕ) (v : Story) → Holds d self.old.holdings.slots.items v → Holds d self.new.holdings.slots.items v }
+    {
+        if self.taken {
+            let hand = self.holdings.hand();
+            self.holdings.pass_on(hand, to);
+            self.taken = false;
         }
     }
 

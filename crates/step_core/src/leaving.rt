@@ -75,7 +75,7 @@ impl Thread {
 
     /// After a leave that was the last: of an owner, the end of its object begins; of a weak pointer, its block comes into the
     /// store. Answers what an object leaves that ends.
-    fn left(
+    pub(crate) fn left(
         &mut self,
         desk: usize,
         table: &Table,

@@ -28,6 +28,7 @@ mod locking;
 mod making;
 #[cfg(test)]
 mod naming_tests;
+mod offering;
 mod opening;
 #[cfg(test)]
 mod opening_tests;
@@ -46,6 +47,7 @@ mod slot;
 #[cfg(test)]
 mod step_tests;
 mod stock;
+mod storing;
 mod swapping;
 mod table;
 mod taking;
@@ -68,7 +70,7 @@ mod world;
 #[cfg(test)]
 mod world_tests;
 
-pub use call::{Actor, Call, Field, Kind, Name, Program};
+pub use call::{Actor, Call, CellName, Field, Kind, Name, Program};
 pub use said::{Answer, Ended, Said, Stepped, Turned};
 pub use trace::{RunRefusal, Trace, TraceStep};
 pub use world::World;

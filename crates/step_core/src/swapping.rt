@@ -1,5 +1,5 @@
 //! How the values of an actor's slots go into cells. Each function is one atomic step.
-ghost use Rattle.std.specs.Prelude.{◌≡◌, ◌≢◌, ◌<◌, true, length, slice_set, Some, None};
+ghost use Rattle.std.specs.Prelude.{◌≡◌, ◌≢◌, ◌<◌, ◌≤◌, true, length, slice_set, Some, None};
 ghost use Rattle.control_word.specs.declared.view.Pending.TheVariants.{Idle};
 ghost use Rattle.step_core.specs.CellDeeds.{kind_in};
 ghost use Rattle.step_core.specs.Cells.{IsOpenTo};
@@ -48,6 +48,7 @@ impl Holdings {
         requires kind { is_of (kind_in (state table.old) cell) (value self.old.slots.items at) ≡ true }
         requires owes { pending table.old desk ≡ owing_for (state table.old) (value self.old.slots.items at) 256 }
         ensures found { result ≡ seen table.old cell }
+        ensures few { result.taken ≤ 256 }
         ensures slots { self.new.slots.items ≡ slice_set self.old.slots.items at (slot_of (state table.old) (held_in (state table.old) cell)) }
         ensures table { table.new ≡ after table.old desk (Deed.OnCell (CellDeed.Swap cell (as_word (value self.old.slots.items at)) result)) }
         ensures holds { Holds desk self.new.slots.items table.new }
@@ -79,6 +80,7 @@ impl Holdings {
         requires kind { is_of (kind_in (state table.old) cell) (value self.old.slots.items from) ≡ true }
         requires owes { pending table.old desk ≡ owing_for (state table.old) (value self.old.slots.items from) 256 }
         ensures found { result ≡ seen table.old cell }
+        ensures few { result.taken ≤ 256 }
         ensures slots { self.new.slots.items ≡ swapped from to self.old.slots.items (slot_of (state table.old) (held_in (state table.old) cell)) }
         ensures table { table.new ≡ after table.old desk (Deed.OnCell (CellDeed.Swap cell (as_word (value self.old.slots.items from)) result)) }
         ensures holds { Holds desk self.new.slots.items table.new }

@@ -42,6 +42,13 @@ impl Thread {
                 kind,
                 pointer,
             } => self.give(desk, table, name, kind, pointer),
+            Half::Brought => self.put_in(desk, table),
+            Half::Returning {
+                kind,
+                block,
+                funds,
+                statement,
+            } => self.give_back(desk, table, kind, block, funds, statement),
         }
     }
 
@@ -85,6 +92,10 @@ impl Thread {
             Act::Alias { name, of, field } => self.alias(desk, table, name, of, field),
             Act::Move { name } => self.pull(desk, table, name),
             Act::Ask { question } => self.reply(desk, table, question),
+            Act::Offer { name, cell } => self.offer(desk, table, name, cell),
+            Act::Swap { cell } => self.store(desk, table, cell),
+            Act::Exchange { name, cell } => self.send(desk, table, name, cell),
+            Act::Drop => self.drop_other(desk, table),
         }
     }
 
