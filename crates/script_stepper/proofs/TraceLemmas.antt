@@ -7,18 +7,9 @@ use Rattle.std.proofs.lemmas.List.{get_or_past, length-set}
 use Rattle.step_core.specs.declared.act.Task.{Task}
 use Rattle.step_core.specs.declared.ending.Ending.{Ending}
 use Rattle.step_core.specs.declared.said.Said.{Said}
-<<<<<<< HEAD
-use Rattle.step_core.specs.declared.holdings.Pointer.{Pointer}
-use Rattle.step_core.specs.Courses.{Walk, idle, locked, settled, slots_idle, taken_idle}
-use Rattle.step_core.specs.Holdings.{Slots, inside, slot}
-use Rattle.step_core.specs.Deeds.{this_as}
-use Rattle.step_core.specs.Entries.{giving, least}
-use Rattle.step_core.specs.Scenes.{Scene, found, holding, nowhere, play, play_from, said, said_from, state_in, taking, walk_of, went}
-=======
 use Rattle.step_core.specs.Courses.{Walk}
 use Rattle.step_core.specs.Holdings.{Slots}
 use Rattle.step_core.specs.Scenes.{Scene, next, next_of, nowhere, play, play_from, said, said_from, walk_of}
->>>>>>> e404e3625b8293cb02513d7e46821ad0e6d891ef
 use Rattle.script_stepper.specs.Traces.{Item, heard, plays, told}
 
 pub plays-append : (xs ys : List ℕ) (c : Scene) → plays (xs ++ ys) c ≡ plays ys (plays xs c)
