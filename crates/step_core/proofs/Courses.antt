@@ -8,7 +8,7 @@ use Rattle.step_core.specs.declared.act.Act.TheVariants.{Make, Share, Downgrade,
 use Rattle.step_core.specs.declared.act.Task.{Task}
 use Rattle.step_core.specs.declared.course.Course.{Course}
 use Rattle.step_core.specs.declared.ending.Ending.{Ending}
-use Rattle.step_core.specs.Courses.{Begins, CourseReady, IsPassed, IsReady, Ready, Walk, hand, idle, no_task, placed, settled, slots_idle, taken_after}
+use Rattle.step_core.specs.Courses.{Begins, CourseReady, IsPassed, IsReady, Ready, Walk, hand, idle, no_task, placed, rest, settled, slots_idle, taken_after}
 use Rattle.step_core.specs.Courses.{taken_idle, task_at, todo}
 use Rattle.step_core.specs.Endings.{Stack}
 use Rattle.step_core.specs.Holdings.{Slots, plain, value}
@@ -64,6 +64,9 @@ settled_taken slots es (t ∷ ts) =
     taken_either (idle t.act slots false) _ _
     (subst (λ (b : Bool). (settled (slots_idle t.act slots false) b es ts).taken ≡ false) (sym (idle_taken t.act))
     (settled_taken (slots_idle t.act slots false) es ts)) refl
+
+pub left_taken : (c : Course) (slots : Slots) → c.taken ≡ false → (settled slots c.taken c.endings.list (rest c)).taken ≡ false
+left_taken c slots e = ap (λ (b : Bool). (settled slots b c.endings.list (rest c)).taken) e ∙ settled_taken slots c.endings.list (rest c)
 
 pub passed_todo : (a b : Course) → IsPassed a b → todo b ≡ drop (a.at + 1) a.tasks.items
 passed_todo a b p = let x = p.at in let y = p.tasks in cc

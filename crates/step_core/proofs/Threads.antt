@@ -25,7 +25,7 @@ use Rattle.step_core.specs.declared.past.Deed.TheVariants as deed
 use Rattle.step_core.specs.declared.thread.Thread.{Thread}
 use Rattle.step_core.specs.Actors.{HalfFits, IsPrepared, Stocks, in_list, wanted}
 use Rattle.step_core.specs.Courses.{Begins, CourseReady, HasGoneOn, IsReady, Ready, form_of, hand, rest, taken_after, task_at}
-use Rattle.step_core.specs.Scenes.{least}
+use Rattle.step_core.specs.Entries.{least}
 use Rattle.step_core.specs.Stocks.{Stored}
 use Rattle.step_core.specs.Stories.{Kept, Nothing, Story, after, known, pending, pending_after, state}
 use Rattle.step_core.specs.Threads.{Fits, IsNext, form_at}

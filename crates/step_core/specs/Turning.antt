@@ -14,7 +14,8 @@ use Rattle.step_core.specs.Courses.{Walk, form_of, hand, locked}
 use Rattle.step_core.specs.Deeds.{is_enabled}
 use Rattle.step_core.specs.Endings.{first_of}
 use Rattle.step_core.specs.Holdings.{Slots, inside, is_full, slot}
-use Rattle.step_core.specs.Scenes.{least, play, rested, said, walk_of}
+use Rattle.step_core.specs.Entries.{least}
+use Rattle.step_core.specs.Scenes.{play, rested, said, walk_of}
 use Rattle.step_core.specs.Stories.{AllBare, Story, state}
 use Rattle.step_core.specs.Worlds.{Sight, half_of, scene}
 

@@ -28,7 +28,7 @@ use Rattle.step_core.specs.Actors.{HalfFits, Stocks, in_store}
 use Rattle.step_core.specs.Endings.{EndsAll}
 use Rattle.step_core.specs.Holdings.{Holds, Slots, slot, times}
 use Rattle.step_core.specs.Openings.{opening}
-use Rattle.step_core.specs.Scenes.{least}
+use Rattle.step_core.specs.Entries.{least}
 use Rattle.step_core.specs.Stories.{Kept, known, Nothing, Story, after, handle_in, object_in, owner_in, pending, state, weak_in}
 use Rattle.step_core.proofs.holding.Ends.{each_end}
 use Rattle.step_core.proofs.holding.Least.{least_part}

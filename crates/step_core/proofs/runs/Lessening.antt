@@ -25,7 +25,8 @@ use Rattle.step_core.specs.Courses.{Walk, form_of, hand, locked, settled}
 use Rattle.step_core.specs.Deeds.{alias, aliased, downgrade, give, is_enabled, is_last, leave, leave_as, lock, owned, owner_word, read, share, tell, tell_expired}
 use Rattle.step_core.specs.Endings.{staged}
 use Rattle.step_core.specs.Holdings.{inside, is_full, owner_slot, place_in, slot}
-use Rattle.step_core.specs.Scenes.{ended_by, holding, least, left as leaves_by, on, remains_as, went}
+use Rattle.step_core.specs.Entries.{least, on}
+use Rattle.step_core.specs.Scenes.{ended_by, holding, left as leaves_by, remains_as, went}
 use Rattle.step_core.specs.Steps.{Step, acts, asks, at_rest, begins, begun, claims, ends_on, first, given, is_event, looks, made_on, prepares}
 use Rattle.step_core.specs.Steps.{silent, step_at, stepped as stepped_by, story_after, tried, tries, trying, with_endings}
 use Rattle.step_core.specs.Stories.{Story, known, object_in, pending, state}

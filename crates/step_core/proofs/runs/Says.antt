@@ -29,7 +29,8 @@ use Rattle.step_core.specs.Deeds.{is_enabled, read, downgrade, is_last as is_las
 use Rattle.step_core.specs.Headline.{LastLeft, TellsWhatIsLeft, ended_by}
 use Rattle.step_core.specs.Endings.{staged}
 use Rattle.step_core.specs.Holdings.{inside, is_full, slot, owner_slot, place_in}
-use Rattle.step_core.specs.Scenes.{ended_by as ended_of, least, on, remains, remains_as}
+use Rattle.step_core.specs.Entries.{least, on}
+use Rattle.step_core.specs.Scenes.{ended_by as ended_of, remains, remains_as}
 use Rattle.step_core.specs.Steps.{asks, at_rest, given, Step, acts, begins, begun, claims, ends_on, first, is_event, looks, made_on, prepares, silent, step_at}
 use Rattle.step_core.specs.Steps.{stepped as stepped_by, story_after, story_by, tried, tries, trying, with_endings}
 use Rattle.step_core.specs.Stories.{Nothing, Story, added, event_of, known, object_in, owner_in, pending, state}

@@ -24,7 +24,8 @@ use Rattle.step_core.specs.Bounds.{walk_steps, weight}
 use Rattle.step_core.specs.Courses.{Walk, form_of, hand, locked, settled}
 use Rattle.step_core.specs.Endings.{staged}
 use Rattle.step_core.specs.Holdings.{inside, is_full, owner_slot, place_in, slot}
-use Rattle.step_core.specs.Scenes.{answer_of, ended_by, holding, least, left as leaves_by, on, remains, remains_as, went}
+use Rattle.step_core.specs.Entries.{least, on}
+use Rattle.step_core.specs.Scenes.{answer_of, ended_by, holding, left as leaves_by, remains, remains_as, went}
 use Rattle.step_core.specs.Steps.{asks, at_rest, given, Step, acts, begins, begun, claims, ends_on, first, looks, made_on, prepares, tried, tries, trying, with_endings}
 use Rattle.step_core.specs.Steps.{silent, step_at, stepped, story_by, walk_by}
 use Rattle.step_core.specs.Deeds.{give, is_enabled, read, downgrade, is_last as is_last_of, leave, leave_as, lock, owned, owner_word, share, share_as, tell, tell_expired, alias, aliased}

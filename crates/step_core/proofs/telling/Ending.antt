@@ -26,7 +26,8 @@ use Rattle.step_core.specs.Deeds.{alias, aliased, downgrade, give, is_enabled, i
 use Rattle.step_core.specs.Endings.{endings_of, staged}
 use Rattle.step_core.specs.Holdings.{inside, is_full, owner_slot, place_in, slot}
 use Rattle.step_core.specs.Openings.{opening}
-use Rattle.step_core.specs.Scenes.{begins_end, begins_end_as, endings_by, hands, holding, least, left as leaves_by, on, went}
+use Rattle.step_core.specs.Entries.{least, on}
+use Rattle.step_core.specs.Scenes.{begins_end, begins_end_as, endings_by, hands, holding, left as leaves_by, went}
 use Rattle.step_core.specs.Steps.{Step, acts, asks, at_rest, begins, begun, claims, ends_on, first, given, looks, made_on, prepares, silent}
 use Rattle.step_core.specs.Steps.{step_at, story_after, story_by, tried, tries, trying, walk_by, with_endings}
 use Rattle.step_core.specs.Stories.{Kept, Story, known, object_in, pending, state}

@@ -20,7 +20,7 @@ use Rattle.step_core.specs.Courses.{Walk, form_of, hand, locked}
 use Rattle.step_core.specs.Deeds.{alias, aliased, downgrade, give, is_enabled, is_last, leave, leave_as, lock, owner_word, read, share, share_as, tell, tell_expired}
 use Rattle.step_core.specs.Endings.{staged}
 use Rattle.step_core.specs.Holdings.{inside, is_full, owner_slot, place_in, slot}
-use Rattle.step_core.specs.Scenes.{least, on}
+use Rattle.step_core.specs.Entries.{least, on}
 use Rattle.step_core.specs.Steps.{Step, acts, asks, at_rest, begins, begun, claims, ends_on, first, given, looks, made_on, prepares, silent, step_at, story_after, story_by, tried, tries, trying, with_endings}
 use Rattle.step_core.specs.Stories.{IsPlain, Plain, Story, known, object_in, pending, state}
 use Rattle.step_core.proofs.tables.Plain.{plain_after}

@@ -20,8 +20,8 @@ use Rattle.step_core.specs.declared.slot.Slot.{Slot}
 use Rattle.step_core.specs.Endings.{staged}
 use Rattle.step_core.specs.Steps.{with_endings}
 use Rattle.step_core.specs.Holdings.{Slots, is_full, plain, pointer_of, slot, value}
-use Rattle.step_core.specs.Scenes.{begins_end, begins_end_as, ended_by, ended_of, endings_by, hands, left, on, remains_as, went}
-
+use Rattle.step_core.specs.Entries.{on}
+use Rattle.step_core.specs.Scenes.{begins_end, begins_end_as, ended_by, ended_of, endings_by, hands, left, remains_as, went}
 -- what settling passes over has no steps left
 pub settled_steps : (slots : Slots) (taken : Bool) (es : List Ending) (ts : List Task) → task_steps (settled slots taken es ts).todo ≤ task_steps ts
 settled_steps slots taken es [] = omega arith

@@ -21,7 +21,8 @@ use Rattle.step_core.specs.Courses.{Walk, hand}
 use Rattle.step_core.specs.Endings.{first_of, staged}
 use Rattle.step_core.specs.Holdings.{Slots, is_full, slot}
 use Rattle.step_core.specs.Openings.{opening}
-use Rattle.step_core.specs.Scenes.{History, Scene, Stop, Wound, goes_on, nowhere, put_walk, rested, rested_walk, stops, unwound, walk_of}
+use Rattle.step_core.specs.Entries.{History}
+use Rattle.step_core.specs.Scenes.{Scene, Stop, Wound, goes_on, nowhere, put_walk, rested, rested_walk, stops, unwound, walk_of}
 use Rattle.step_core.specs.Steps.{Step, at_rest, ends_on, half_by, silent, step_at, walk_by, with_endings}
 use Rattle.step_core.specs.Stories.{AllBare, Kept, object_in, state}
 use Rattle.step_core.specs.Turning.{HasBegun, IsAlone, Rests, is_ending}

@@ -15,8 +15,9 @@ use Rattle.step_core.specs.Courses.{Walk}
 use Rattle.step_core.specs.Deeds.{give, is_enabled}
 use Rattle.step_core.specs.Holdings.{inside, slot}
 use Rattle.step_core.specs.Openings.{opening}
-use Rattle.step_core.specs.Scenes.{Scene, giving, walk_of, went}
-use Rattle.step_core.specs.Scenes.{gives as gives_in, on}
+use Rattle.step_core.specs.Entries.{giving}
+use Rattle.step_core.specs.Scenes.{Scene, walk_of, went}
+use Rattle.step_core.specs.Entries.{gives as gives_in, on}
 use Rattle.step_core.specs.Steps.{acts, given, step_at, stepped}
 use Rattle.step_core.specs.Stories.{Story, after, state}
 use Rattle.step_core.specs.Turning.{HasBegun, IsAlone, IsTried, IsUnderWay, Plays, is_giving, turned_by}

@@ -13,7 +13,8 @@ use Rattle.step_core.specs.declared.said.Stepped.{Stepped}
 use Rattle.step_core.specs.Courses.{locked}
 use Rattle.step_core.specs.Deeds.{lock, owner_word}
 use Rattle.step_core.specs.Holdings.{is_full}
-use Rattle.step_core.specs.Scenes.{on, walk_of}
+use Rattle.step_core.specs.Entries.{on}
+use Rattle.step_core.specs.Scenes.{walk_of}
 use Rattle.step_core.specs.Steps.{Step, acts, at_rest, begun, first, looks, step_at, stepped, tried, tries, trying}
 use Rattle.step_core.specs.Stories.{state}
 use Rattle.step_core.specs.Turning.{HasBegun, IsAlone, IsLock, IsTried, Plays, is_event, is_locking, turned_by}

@@ -17,7 +17,7 @@ use Rattle.control_word.specs.declared.handle.Kind.TheVariants.{Owner, Weak}
 use Rattle.step_core.specs.Courses.{locked}
 use Rattle.step_core.specs.Deeds.{is_enabled, is_last, lock, owner_word}
 use Rattle.step_core.specs.Holdings.{inside, slot}
-use Rattle.step_core.specs.Scenes.{least, on}
+use Rattle.step_core.specs.Entries.{least, on}
 use Rattle.step_core.specs.Scenes.{next, next_of, play_from, rested, said_from}
 use Rattle.step_core.specs.Scenes.{walk_of}
 use Rattle.step_core.specs.Steps.{Step, acts, asks, at_rest, begins, begun, first, looks, silent, step_at, stepped, trying}

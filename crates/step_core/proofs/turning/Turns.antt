@@ -14,7 +14,8 @@ use Rattle.step_core.specs.declared.said.Stepped.{Stepped}
 use Rattle.step_core.specs.declared.said.Turned.{Turned}
 use Rattle.step_core.specs.Actors.{wanted}
 use Rattle.step_core.specs.Courses.{form_of, settled}
-use Rattle.step_core.specs.Scenes.{Scene, full_answer, holding, least, made, next, play, play_from, rested, said, said_from, walk_of}
+use Rattle.step_core.specs.Entries.{least, made}
+use Rattle.step_core.specs.Scenes.{Scene, full_answer, holding, next, play, play_from, rested, said, said_from, walk_of}
 use Rattle.step_core.specs.Steps.{Step, claims, prepares, stepped}
 use Rattle.step_core.specs.Stories.{known, pending, state}
 use Rattle.step_core.specs.Turning.{HasBegun, IsAlone, IsReady, IsUnderWay, Plays, Prepares, Rests, is_acting, turned, turned_by}

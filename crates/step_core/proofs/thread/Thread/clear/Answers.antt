@@ -1,7 +1,7 @@
 use Rattle.std.proofs.Common.{sym, subst, drop}
 use Rattle.step_core.specs.Stories.{Story}
 use Rattle.step_core.specs.Threads.{Fits}
-use Rattle.step_core.proofs.Endings.{fits_clear, idle_here}
+use Rattle.step_core.proofs.EndSteps.{fits_clear, idle_here}
 use Rattle.step_core.proofs.holding.Ends.{ending_here, first_is}
 use Rattle.step_core.proofs.thread.Thread.clear.Goals as goal
 

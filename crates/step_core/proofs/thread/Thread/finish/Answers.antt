@@ -2,7 +2,8 @@ use Rattle.std.proofs.Common.{◌∙◌, Bool, sym, ap, subst}
 use Rattle.step_core.specs.declared.past.Deed.TheVariants as deed
 use Rattle.step_core.specs.Stories.{Kept, Story, after}
 use Rattle.step_core.specs.Threads.{Fits}
-use Rattle.step_core.proofs.Endings.{fits_finish, fits_finish_not, idle_here, room_left}
+use Rattle.step_core.proofs.Endings.{room_left}
+use Rattle.step_core.proofs.EndSteps.{fits_finish, fits_finish_not, idle_here}
 use Rattle.step_core.proofs.holding.Ends.{ending_here}
 use Rattle.step_core.proofs.thread.Thread.finish.Goals as goal
 

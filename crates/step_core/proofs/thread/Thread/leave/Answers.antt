@@ -1,18 +1,19 @@
 use Rattle.std.proofs.Common.{◌≡◌, ◌∙◌, Bool, false, cond, refl, sym, ap, ⊎_elim}
-use Rattle.std.specs.Prelude.{Option, None, is_some, option_map, slice_set}
+use Rattle.std.specs.Prelude.{Option, None, option_map, slice_set}
 use Rattle.step_core.specs.declared.act.Act.TheVariants as act
 use Rattle.step_core.specs.declared.holdings.Pointer.{Pointer}
-use Rattle.step_core.specs.Courses.{Walk, done_on, rest, settled, task_at, walk}
+use Rattle.step_core.specs.Courses.{Walk, done_on, rest, task_at, walk}
 use Rattle.step_core.specs.declared.half.Half.TheVariants.{Rest}
 use Rattle.step_core.specs.Steps.{acts}
 use Rattle.step_core.specs.declared.said.Stepped.TheVariants.{Event, Quiet}
 use Rattle.step_core.specs.Deeds.{is_last, leave}
 use Rattle.step_core.specs.Holdings.{plain, slot}
-use Rattle.step_core.specs.Scenes.{ended_by, on}
+use Rattle.step_core.specs.Entries.{on}
+use Rattle.step_core.specs.Scenes.{ended_by}
 use Rattle.step_core.specs.Stories.{state}
-use Rattle.step_core.proofs.Courses.{settled_taken}
+use Rattle.step_core.proofs.Courses.{left_taken}
 use Rattle.step_core.proofs.Endings.{HasLeft, begins_room, ending_left, fits_left, room_weak}
-use Rattle.step_core.proofs.Leaving.{stepped_left, went_left}
+use Rattle.step_core.proofs.LeaveSteps.{stepped_left, went_left}
 use Rattle.step_core.proofs.Threads.{leave_empty}
 use Rattle.step_core.proofs.thread.Thread.leave.Goals as goal
 
@@ -53,7 +54,8 @@ returns-clause-fits c =
     let has : HasLeft c.args.desk c.args.self.now.course c.leave-last.new.self c.left-ended.new.self.course c.leave-last.new.table c.statement-statement.result c.get-held.result c.leave-last.result =
     record {
       gone = c.leave-last.ensures.on;
-      empty = ap (λ (w : Walk). w.taken) c.leave-last.ensures.walk ∙ ap (λ (b : Bool). (settled (slice_set slots c.args.name plain) b c.args.self.now.course.endings.list (rest c.args.self.now.course)).taken) (leave_empty c.args.self.now.course c.args.name c.requires.within c.requires.fits.ready c.requires.act) ∙ settled_taken (slice_set slots c.args.name plain) c.args.self.now.course.endings.list (rest c.args.self.now.course);
+      empty = ap (λ (w : Walk). w.taken) c.leave-last.ensures.walk ∙ left_taken c.args.self.now.course (slice_set slots c.args.name plain)
+          (leave_empty c.args.self.now.course c.args.name c.requires.within c.requires.fits.ready c.requires.act);
       same = c.left-ended.ensures.course;
       list = c.left-ended.ensures.endings;
       roomy = c.left-ended.ensures.roomy;
@@ -71,7 +73,8 @@ returns-clause-stepped c =
     let has : HasLeft c.args.desk c.args.self.now.course c.leave-last.new.self c.left-ended.new.self.course c.leave-last.new.table c.statement-statement.result c.get-held.result c.leave-last.result =
     record {
       gone = c.leave-last.ensures.on;
-      empty = ap (λ (w : Walk). w.taken) c.leave-last.ensures.walk ∙ ap (λ (b : Bool). (settled (slice_set slots c.args.name plain) b c.args.self.now.course.endings.list (rest c.args.self.now.course)).taken) (leave_empty c.args.self.now.course c.args.name c.requires.within c.requires.fits.ready c.requires.act) ∙ settled_taken (slice_set slots c.args.name plain) c.args.self.now.course.endings.list (rest c.args.self.now.course);
+      empty = ap (λ (w : Walk). w.taken) c.leave-last.ensures.walk ∙ left_taken c.args.self.now.course (slice_set slots c.args.name plain)
+          (leave_empty c.args.self.now.course c.args.name c.requires.within c.requires.fits.ready c.requires.act);
       same = c.left-ended.ensures.course;
       list = c.left-ended.ensures.endings;
       roomy = c.left-ended.ensures.roomy;

@@ -20,7 +20,8 @@ use Rattle.step_core.specs.Courses.{Walk, done_on, rest, settled, task_at, walk}
 use Rattle.step_core.specs.Deeds.{is_last, leave, leave_as, owned}
 use Rattle.step_core.specs.Endings.{Stack}
 use Rattle.step_core.specs.Holdings.{is_full}
-use Rattle.step_core.specs.Scenes.{answer_of, begins_end, begins_end_as, ended_by, ended_of, hands, left, on, remains, remains_as, went}
+use Rattle.step_core.specs.Entries.{on}
+use Rattle.step_core.specs.Scenes.{answer_of, begins_end, begins_end_as, ended_by, ended_of, hands, left, remains, remains_as, went}
 use Rattle.step_core.specs.Steps.{Step, acts, first, with_endings}
 use Rattle.step_core.specs.Stories.{Story, after, event_of, object_in, state}
 use Rattle.step_core.specs.Threads.{HasStepped}
