@@ -6,7 +6,8 @@ use Rattle.std.proofs.lemmas.Bool.{cases_eq, cases_lt}
 use Rattle.std.proofs.lemmas.List.{append-nil, length-take-le, take_more}
 use Rattle.step_core.specs.declared.ending.Ending.{Ending}
 use Rattle.step_core.specs.Courses.{Walk}
-use Rattle.step_core.specs.Scenes.{History, Scene, next, nowhere, walk_of}
+use Rattle.step_core.specs.Entries.{History}
+use Rattle.step_core.specs.Scenes.{Scene, next, nowhere, walk_of}
 use Rattle.step_core.specs.Totals.{ended_in, made_in}
 use Rattle.step_core.specs.Worlds.{Sight, scene}
 use Rattle.script_stepper.specs.Running.{AllOver, HasRun, IsNew, parts_left, turns_left}

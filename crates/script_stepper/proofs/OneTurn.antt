@@ -11,7 +11,8 @@ use Rattle.step_core.specs.declared.said.Said.{Said}
 use Rattle.step_core.specs.declared.said.Turned.TheVariants.{Acted, Done}
 use Rattle.step_core.specs.Courses.{Walk}
 use Rattle.step_core.specs.Openings.{opening}
-use Rattle.step_core.specs.Scenes.{Scene, acted, next, nowhere, play, play_from, put_walk, rest_of, rested, said, walk_of}
+use Rattle.step_core.specs.Entries.{acted}
+use Rattle.step_core.specs.Scenes.{Scene, next, nowhere, play, play_from, put_walk, rest_of, rested, said, walk_of}
 use Rattle.step_core.specs.Scenes.{state_in}
 use Rattle.step_core.specs.Stories.{Kept}
 use Rattle.step_core.specs.Worlds.{Sight, Turns, scene}

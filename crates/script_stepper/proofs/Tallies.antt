@@ -13,8 +13,9 @@ use Rattle.step_core.specs.declared.holdings.Pointer.{Pointer}
 use Rattle.step_core.specs.Courses.{locked}
 use Rattle.step_core.specs.Deeds.{aliased, is_last}
 use Rattle.step_core.specs.Holdings.{Slots, inside, owner_slot, place_in, slot}
-use Rattle.step_core.specs.Scenes.{History, acted, aliases, begins_end, begins_end_as, counts, downgrades, endings_by, expires, given_as, gives, giving}
-use Rattle.step_core.specs.Scenes.{least, leaves, left_as, locks, made, on, reads, shared_as, shares}
+use Rattle.step_core.specs.Entries.{History, acted, aliases, counts, downgrades, expires, given_as, gives, giving}
+use Rattle.step_core.specs.Scenes.{begins_end, begins_end_as, endings_by}
+use Rattle.step_core.specs.Entries.{least, leaves, left_as, locks, made, on, reads, shared_as, shares}
 use Rattle.step_core.specs.Totals.{ended_in, made_in}
 use Rattle.script_stepper.specs.Running.{parts_left}
 

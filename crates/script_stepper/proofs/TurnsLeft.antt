@@ -12,7 +12,8 @@ use Rattle.step_core.specs.declared.ending.Ending.{Ending}
 use Rattle.step_core.specs.declared.said.Said.{Said}
 use Rattle.step_core.specs.Courses.{Walk, hand}
 use Rattle.step_core.specs.Openings.{opening}
-use Rattle.step_core.specs.Scenes.{Scene, Wound, acted, next, next_of, nowhere, play, play_from, rest_of, rested_walk, said, said_from}
+use Rattle.step_core.specs.Entries.{acted}
+use Rattle.step_core.specs.Scenes.{Scene, Wound, next, next_of, nowhere, play, play_from, rest_of, rested_walk, said, said_from}
 use Rattle.step_core.specs.Scenes.{state_in, walk_of, went}
 use Rattle.step_core.specs.Totals.{ended_in, made_in}
 use Rattle.script_stepper.specs.Running.{parts_left, turns_left}

@@ -10,7 +10,7 @@ use Rattle.step_core.specs.declared.half.Half.{Half}
 use Rattle.step_core.specs.declared.half.Half.TheVariants.{Rest, Making, Locking, Giving}
 use Rattle.step_core.specs.declared.holdings.Pointer.{Pointer}
 use Rattle.step_core.specs.Deeds.{is_enabled}
-use Rattle.step_core.specs.Scenes.{least}
+use Rattle.step_core.specs.Entries.{least}
 use Rattle.step_core.specs.Stories.{IsMaking, Story, handle_in, known, pending, state}
 
 -- how often the desk has the block in its store, and how often a list has it

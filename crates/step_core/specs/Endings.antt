@@ -1,5 +1,5 @@
 -- The objects that end in a thread's hands. All of it is own.
-use Rattle.std.specs.Prelude.{◌≡◌, ℕ, ◌+◌, ◌<◌, ◌≤◌, ◌==◌, cond, List, [], ◌∷◌, All, Option, Some, None, sum_by}
+use Rattle.std.specs.Prelude.{◌≡◌, ℕ, ◌+◌, ◌≤◌, ◌==◌, cond, List, [], ◌∷◌, All, Option, Some, None, sum_by}
 use Rattle.control_word.specs.State.{ending}
 use Rattle.step_core.specs.declared.ending.Ending.{Ending}
 use Rattle.step_core.specs.Stories.{Story, object_in, state}
@@ -16,6 +16,10 @@ first_of (e ∷ es) = Some e
 -- an ending with one more member cleared
 abbrev pub staged : Ending → Ending
 staged e = record { block = e.block; stage = e.stage + 1; statement = e.statement }
+
+abbrev pub staged_first : List Ending → List Ending
+staged_first [] = []
+staged_first (e ∷ es) = staged e ∷ es
 
 -- how many endings are of the object in a block
 abbrev pub endings_of : ℕ → List Ending → ℕ

@@ -4,6 +4,7 @@ pub mod Acts
 pub mod Courses
 pub mod Deeds
 pub mod Endings
+pub mod Entries
 pub mod Headline
 pub mod Holdings
 pub mod Openings

@@ -3,7 +3,6 @@ use Rattle.std.specs.Prelude.{ℕ, ◌+◌, ◌==◌, Bool, true, false, cond, L
 use Rattle.control_word.specs.declared.place.Block.{Block}
 use Rattle.control_word.specs.State.{State, weak}
 use Rattle.control_word.specs.declared.handle.Kind.{Kind}
-use Rattle.control_word.specs.declared.handle.Kind.TheVariants.{Owner, Weak}
 use Rattle.step_core.specs.declared.act.Act.{Act}
 use Rattle.step_core.specs.declared.act.Form.{Form}
 use Rattle.step_core.specs.declared.act.Act.TheVariants.{Make, Share, Downgrade, Lock, Put, Leave, Clear, Count, Expired, Read, FromThis, Alias, Move, Ask}
@@ -22,7 +21,8 @@ use Rattle.step_core.specs.Courses.{Walk, form_of, hand, locked, settled}
 use Rattle.step_core.specs.Deeds.{downgrade, give, is_enabled, leave, lock, owner_word, read, share, tell, tell_expired, alias, aliased}
 use Rattle.step_core.specs.Endings.{staged}
 use Rattle.step_core.specs.Holdings.{inside, is_full, slot, owner_slot, place_in}
-use Rattle.step_core.specs.Scenes.{answer_of, ended_of, full_answer, holding, least, on, went}
+use Rattle.step_core.specs.Entries.{least, on}
+use Rattle.step_core.specs.Scenes.{answer_of, ended_of, full_answer, holding, went}
 use Rattle.step_core.specs.Stories.{Story, after, event_of, known, object_in, pending, state}
 
 -- what a step does to the table, if anything; what the thread has begun and not ended after it; where it is then; what it says

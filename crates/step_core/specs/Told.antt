@@ -1,5 +1,5 @@
 -- What a world keeps beside its threads, so that it can tell its totals and its census. All of it is own.
-use Rattle.std.specs.Prelude.{◌≡◌, ℕ, ◌+◌, ◌<◌, ◌≤◌, ◌==◌, Bool, false, cond, List, [], length, map, sum_by, is_some}
+use Rattle.std.specs.Prelude.{◌≡◌, ℕ, ◌+◌, ◌*◌, ◌<◌, ◌≤◌, ◌==◌, Bool, false, cond, List, [], length, map, is_some}
 use Rattle.control_word.specs.State.{State, ending}
 use Rattle.step_core.specs.declared.ending.Ending.{Ending}
 use Rattle.step_core.specs.declared.half.Half.{Half}
@@ -7,7 +7,7 @@ use Rattle.step_core.specs.declared.half.Half.TheVariants.{Rest, Making, Locking
 use Rattle.step_core.specs.declared.said.Stepped.{Stepped}
 use Rattle.step_core.specs.declared.said.Stepped.TheVariants.{Event, Quiet, Waited, Done}
 use Rattle.step_core.specs.declared.thread.Thread.{Thread}
-use Rattle.step_core.specs.Courses.{Walk}
+use Rattle.step_core.specs.Bounds.{left_to_do}
 use Rattle.step_core.specs.Endings.{endings_of}
 use Rattle.step_core.specs.Scenes.{walk_of}
 use Rattle.step_core.specs.Stories.{Plain, Story, state}
@@ -21,17 +21,15 @@ sight v threads = record { story = v; walks = map thread_walk threads; halves = 
 abbrev pub AllEnd : State → (ℕ → List Ending) → Type 0
 AllEnd s f = (o e : ℕ) → (s.object o).phase ≡ ending e → 0 < endings_of (s.object o).block (f e)
 
--- how many tasks are left
-abbrev pub left_to_do : List Walk → ℕ
-left_to_do walks = sum_by (λ (w : Walk). length w.todo) walks
-
--- the totals are those of the history, and small: an object is made or ended by a task of its own. Nothing was done to a cell
+-- the totals are those of the history, and small: an object is made by a task that has the steps of its end, and no more are left
+-- than were made. Nothing was done to a cell
 pub record IsTold (u : Sight) (m e : ℕ) : Type 0 where
   pub threads : length u.walks ≡ u.story.extent.actors
   pub halves : length u.halves ≡ length u.walks
   pub made : m ≡ made_in u.story.history
   pub ended : e ≡ ended_in u.story.history
-  pub few : m + e + left_to_do u.walks ≤ 133120
+  pub order : e ≤ m
+  pub few : 28 * m + left_to_do u.walks ≤ 13 * e + 1970176
   pub endings : AllEnd (state u.story) (λ d. (walk_of (scene u) d).endings)
   pub plain : Plain u.story
 

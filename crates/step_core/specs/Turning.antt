@@ -1,7 +1,8 @@
 -- The parts of a turn. All of it is own.
-use Rattle.std.specs.Prelude.{◌≡◌, ℕ, ◌<◌, ◌≤◌, Bool, true, false, not, ◌==◌, List, [], ◌∷◌, length, slice_set, is_some, Option, Some, None}
+use Rattle.std.specs.Prelude.{◌≡◌, ◌⊎◌, ℕ, ◌<◌, ◌≤◌, Bool, true, false, not, ◌==◌, List, [], ◌∷◌, length, slice_set, is_some, All, Option, Some, None}
 use Rattle.step_core.specs.declared.act.Act.TheVariants.{Make, FromThis}
 use Rattle.step_core.specs.declared.act.Task.{Task}
+use Rattle.step_core.specs.declared.ending.Ending.{Ending}
 use Rattle.step_core.specs.declared.half.Half.{Half}
 use Rattle.step_core.specs.declared.half.Half.TheVariants.{Rest, Making, Locking, Giving}
 use Rattle.step_core.specs.declared.said.Said.{Said}
@@ -9,12 +10,13 @@ use Rattle.step_core.specs.declared.said.Stepped.{Stepped}
 use Rattle.step_core.specs.declared.said.Stepped.TheVariants as stepped
 use Rattle.step_core.specs.declared.said.Turned.{Turned}
 use Rattle.step_core.specs.declared.said.Turned.TheVariants.{Acted, Waited, Done}
-use Rattle.step_core.specs.Courses.{Walk, form_of, locked}
+use Rattle.step_core.specs.Courses.{Walk, form_of, hand, locked}
 use Rattle.step_core.specs.Deeds.{is_enabled}
 use Rattle.step_core.specs.Endings.{first_of}
 use Rattle.step_core.specs.Holdings.{Slots, inside, is_full, slot}
-use Rattle.step_core.specs.Scenes.{least, play, rested, said, walk_of}
-use Rattle.step_core.specs.Stories.{Story, state}
+use Rattle.step_core.specs.Entries.{least}
+use Rattle.step_core.specs.Scenes.{play, rested, said, walk_of}
+use Rattle.step_core.specs.Stories.{AllBare, Story, state}
 use Rattle.step_core.specs.Worlds.{Sight, half_of, scene}
 
 -- a make that is under way is the next act, in the least block of the store
@@ -37,10 +39,23 @@ IsTried (Locking word) w = IsLock w.slots w.todo
 IsTried (Giving i kind x) w = inside (slot w.slots i) ≡ Some x
 IsTried _ w = Unit {0}
 
+-- an act that is half done is one of a statement: no object ends in the thread's hands
+abbrev pub IsAlone : Half → List Ending → Type 0
+IsAlone Rest es = Unit {0}
+IsAlone (Making b i differs) es = es ≡ []
+IsAlone (Locking word) es = es ≡ []
+IsAlone (Giving i kind x) es = es ≡ []
+
+-- between two steps of thread d: where objects end nothing is in hand, and no member of an object holds anything
 pub record HasBegun (d : ℕ) (u : Sight) : Type 0 where
   pub within : d < length u.halves
+  pub walks : d < length u.walks
   pub half : IsUnderWay d u.story (half_of u d) (walk_of (scene u) d).todo
   pub tried : IsTried (half_of u d) (walk_of (scene u) d)
+  pub alone : IsAlone (half_of u d) (walk_of (scene u) d).endings
+  pub staged : All (λ (e : Ending). e.stage ≤ 3) (walk_of (scene u) d).endings
+  pub free : ((walk_of (scene u) d).endings ≡ []) ⊎ (is_full (slot (walk_of (scene u) d).slots (hand (walk_of (scene u) d).slots)) ≡ false)
+  pub bare : AllBare (state u.story)
 
 -- the thread's endings go on by themselves
 abbrev pub is_ending : Sight → ℕ → Bool
@@ -100,7 +115,7 @@ abbrev pub turned : Option Said → Turned
 turned None = Done
 turned (Some x) = Acted x
 
--- thread d made its next act, but for the end of the object whose last owner left by it
+-- thread d made its next act, but for the endings that go on by themselves after it
 pub record Plays (d : ℕ) (u : Sight) (r : Turned) (u' : Sight) : Type 0 where
   pub answer : r ≡ turned (said d (scene u))
   pub scene : rested d (scene u') ≡ play d (scene u)

@@ -31,7 +31,7 @@ pub struct Course {
 }
 
 impl Course {
-    ghost use Rattle.step_core.specs.Scenes.{on};
+    ghost use Rattle.step_core.specs.Entries.{on};
     ghost use Rattle.step_core.specs.Courses.{CanAct, CourseReady, HasGoneOn, IsPassed, IsReady, done_on, hand, idle, placed, rest, settled, task_at, todo, walk};
 
     /// Whether the next task is no act where it comes.

@@ -1,6 +1,7 @@
 //! The objects that end in a thread's hands.
-ghost use Rattle.std.specs.Prelude.{◌≡◌, ◌<◌, ◌≤◌, [], ◌∷◌, length, IfOk, Some};
-ghost use Rattle.step_core.specs.Endings.{first_of, staged};
+ghost use Rattle.std.specs.Prelude.{◌≡◌, ◌<◌, ◌≤◌, [], ◌∷◌, length, sum_by, IfOk, Some};
+ghost use Rattle.step_core.specs.Bounds.{ending_steps};
+ghost use Rattle.step_core.specs.Endings.{first_of, staged_first};
 
 use control_word::place::Block;
 use std::alloc::{AllocError, Global};
@@ -61,6 +62,24 @@ impl Endings {
         }
     }
 
+    /// The ending begun last has one more member cleared.
+    pub(crate) fn advance(&mut self, ending: Ending)
+        requires first { first_of self.old.list ≡ Some ending }
+        requires inside { ending.stage < 3 }
+        ensures list { self.new.list ≡ staged_first self.old.list }
+        ensures room { self.old.room ≤ self.new.room }
+    {
+        let _ending = self.items.pop();
+        let next = Ending {
+            block: ending.block,
+            stage: ending.stage + 1,
+            statement: ending.statement,
+        };
+        if self.items.push(next).is_err() {
+            unreachable!()
+        }
+    }
+
     /// The ending begun last is over.
     pub(crate) fn finish(&mut self, ending: Ending)
         requires { first_of self.old.list ≡ Some ending }
@@ -69,4 +88,24 @@ impl Endings {
     {
         let _ending = self.items.pop();
     }
+
+    /// The steps that they have left, but for what comes out of members.
+    pub(crate) fn steps_left(&self) -> usize
+        requires { sum_by ending_steps self.now.list ≤ 2000000 }
+        ensures { result ≡ sum_by ending_steps self.now.list }
+    {
+        ending_steps(self.items.as_slice())
+    }
+}
+
+/// The steps that endings have left.
+fn ending_steps(endings: &[Ending]) -> usize
+    requires { sum_by ending_steps endings.now ≤ 2000000 }
+    ensures { result ≡ sum_by ending_steps endings.now }
+{
+    let mut left = 0;
+    for ending in endings {
+        left += 4 * 3usize.saturating_sub(usize::from(ending.stage)) + 1;
+    }
+    left
 }

@@ -17,6 +17,7 @@ mod fund_tests;
 mod funds;
 mod half;
 mod holdings;
+mod leaving;
 mod limits;
 mod locking;
 mod making;

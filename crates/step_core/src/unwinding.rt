@@ -2,6 +2,7 @@
 ghost use Rattle.std.specs.Prelude.{◌≡◌, ◌<◌, Some};
 ghost use Rattle.step_core.specs.Endings.{first_of};
 ghost use Rattle.step_core.specs.Stories.{Plain};
+ghost use Rattle.step_core.specs.declared.half.Half.{Half};
 
 use crate::ending::Ending;
 use crate::said::Stepped;
@@ -39,12 +40,7 @@ impl Thread {
     {
         table.known();
         table.clear_empty(desk, ending.block, ending.stage);
-        self.course.endings.finish(ending);
-        self.course.endings.begin(Ending {
-            block: ending.block,
-            stage: ending.stage + 1,
-            statement: ending.statement,
-        });
+        self.course.endings.advance(ending);
         Stepped::Event(silent(ending.statement))
     }
 

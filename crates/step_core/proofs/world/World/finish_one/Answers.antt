@@ -11,7 +11,7 @@ module _ (c : goal.After-add) where
   one_less : Falls c.args.number c.loop-stepped.self c.advance.new.self
   one_less =
       let s = c.advance.ensures in
-      before_end c.args.number c.loop-stepped.self c.advance.new.self c.advance.result s.was inside s.steps c.in_default.not-Done
+      before_end c.args.number c.loop-stepped.self c.advance.new.self c.advance.result s.was s.kept inside s.steps c.in_default.not-Done
 
 pub add-requires : goal.add-requires
 add-requires c =
@@ -19,7 +19,7 @@ add-requires c =
     let i = c.loop-stepped.invariant in
     let a = i.on.actors in
     let w = c.requires.within in
-    let f = before_end c.args.number c.loop-stepped.self c.advance.new.self c.advance.result s.was (omega (arith, a, w)) s.steps c.in_default.not-Done in
+    let f = before_end c.args.number c.loop-stepped.self c.advance.new.self c.advance.result s.was s.kept (omega (arith, a, w)) s.steps c.in_default.not-Done in
     let first = c.requires.room in
     let before = i.room in
     let capacity = i.capacity in
