@@ -1,5 +1,5 @@
 -- One turn of a world at rest.
-use Rattle.std.proofs.Common.{◌≡◌, ℕ, ◌-◌, ◌<◌, ◌≤◌, List, [], ◌∷◌, ◌++◌, inl, inr, length, refl, sym, ◌∙◌, ap, subst, arith, get_or, get_or-set_same, get_or-set_other}
+use Rattle.std.proofs.Common.{◌≡◌, ℕ, ◌-◌, ◌<◌, ◌≤◌, List, [], ◌∷◌, ◌++◌, inl, inr, length, sym, ◌∙◌, ap, subst, arith, get_or, get_or-set_same, get_or-set_other}
 use Rattle.std.specs.Prelude.{Option, Some, None, slice_set}
 use Rattle.std.specs.List.{flat_map}
 use Rattle.std.proofs.lemmas.Bool.{cases_eq, cases_lt}
@@ -12,11 +12,10 @@ use Rattle.step_core.specs.declared.said.Turned.TheVariants.{Acted, Done}
 use Rattle.step_core.specs.Courses.{Walk}
 use Rattle.step_core.specs.Openings.{opening}
 use Rattle.step_core.specs.Entries.{acted}
-use Rattle.step_core.specs.Scenes.{Scene, Wound, next, nowhere, play, play_from, put_walk, rest_of, rested, rested_walk, said, walk_of}
-use Rattle.step_core.specs.Scenes.{state_in, went}
+use Rattle.step_core.specs.Scenes.{Scene, next, nowhere, play, play_from, put_walk, rest_of, rested, said, walk_of}
+use Rattle.step_core.specs.Scenes.{state_in}
 use Rattle.step_core.specs.Stories.{Kept}
-use Rattle.step_core.specs.Totals.{ended_in, made_in}
-use Rattle.step_core.specs.Worlds.{Sight, Turns, half_of, scene}
+use Rattle.step_core.specs.Worlds.{Sight, Turns, scene}
 use Rattle.step_core.proofs.telling.Order.{ended_few}
 use Rattle.script_text.specs.Grammar.{ended}
 use Rattle.script_stepper.specs.Lines.{item_lines, said_lines}
@@ -26,7 +25,7 @@ use Rattle.script_stepper.proofs.Acting.{went_size}
 use Rattle.script_stepper.proofs.LineLemmas.{flat_map-one}
 use Rattle.script_stepper.proofs.TraceLemmas.{play_done, play_other, play_size, said_done}
 use Rattle.script_stepper.proofs.TurnsLeft.{InOrder, next_walk, next_wound, play_less, play_most, put}
-use Rattle.script_stepper.proofs.Unwinding.{rested_size, rested_still, rested_waits, still}
+use Rattle.script_stepper.proofs.Unwinding.{rested_size, rested_still, rested_waits}
 
 -- endings that wait go on no further by themselves
 rested_same : (c : Scene) (d : ℕ) → Waits (walk_of c d) → rested d c ≡ c

@@ -1,5 +1,5 @@
 -- Each turn leaves its thread fewer turns, and no other thread more.
-use Rattle.std.proofs.Common.{◌≡◌, ◌≢◌, ℕ, suc, ◌+◌, ◌-◌, ◌*◌, ◌<◌, ◌≤◌, List, [], ◌∷◌, inl, inr, length, refl, sym, ◌∙◌, ap, subst, arith, get_or-set_same, get_or-set_other}
+use Rattle.std.proofs.Common.{◌≡◌, ◌≢◌, ℕ, suc, ◌+◌, ◌*◌, ◌<◌, ◌≤◌, List, [], ◌∷◌, inl, inr, length, refl, sym, ◌∙◌, ap, subst, arith, get_or-set_same, get_or-set_other}
 use Rattle.std.specs.Prelude.{Option, Some, None, slice_set}
 use Rattle.std.proofs.lemmas.Bool.{cases_eq, cases_lt}
 use Rattle.std.proofs.lemmas.List.{get_or_past}
@@ -12,11 +12,11 @@ use Rattle.step_core.specs.declared.ending.Ending.{Ending}
 use Rattle.step_core.specs.declared.said.Said.{Said}
 use Rattle.step_core.specs.Courses.{Walk, hand}
 use Rattle.step_core.specs.Openings.{opening}
-use Rattle.step_core.specs.Entries.{History, acted}
+use Rattle.step_core.specs.Entries.{acted}
 use Rattle.step_core.specs.Scenes.{Scene, Wound, next, next_of, nowhere, play, play_from, rest_of, rested_walk, said, said_from}
 use Rattle.step_core.specs.Scenes.{state_in, walk_of, went}
 use Rattle.step_core.specs.Totals.{ended_in, made_in}
-use Rattle.script_stepper.specs.Running.{parts_left, parts_to_come, turns_left}
+use Rattle.script_stepper.specs.Running.{parts_left, turns_left}
 use Rattle.script_stepper.specs.Traces.{tasks_in}
 use Rattle.script_stepper.proofs.Acting.{went_endings, went_free, went_less}
 use Rattle.script_stepper.proofs.Tallies.{Tally, may_make, tally}

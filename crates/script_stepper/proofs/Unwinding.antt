@@ -1,6 +1,6 @@
 -- What endings do that go on by themselves.
-use Rattle.std.proofs.Common.{◌≡◌, ℕ, zero, suc, ◌+◌, ◌-◌, ◌<◌, ◌≤◌, Bool, true, false, List, [], ◌∷◌, inl, inr, length, refl, sym, ◌∙◌, ap, subst, arith, get_or-set_same}
-use Rattle.std.specs.Prelude.{◌⊎◌, Option, Some, None, cond, slice_set}
+use Rattle.std.proofs.Common.{◌≡◌, ℕ, zero, suc, ◌-◌, ◌<◌, ◌≤◌, true, false, List, [], ◌∷◌, inl, inr, length, refl, sym, ◌∙◌, ap, subst, arith, get_or-set_same}
+use Rattle.std.specs.Prelude.{◌⊎◌, Option, Some, None, slice_set}
 use Rattle.std.proofs.lemmas.Bool.{cond_both}
 use Rattle.std.proofs.lemmas.List.{length-set}
 use Rattle.control_word.specs.declared.handle.Handle.{Handle}
@@ -10,7 +10,7 @@ use Rattle.control_word.specs.State.{Opening, State}
 use Rattle.step_core.specs.declared.ending.Ending.{Ending}
 use Rattle.step_core.specs.declared.slot.Slot.{Slot}
 use Rattle.step_core.specs.Courses.{Walk, hand}
-use Rattle.step_core.specs.Holdings.{Slots, is_full, plain, pointer_of, slot, value}
+use Rattle.step_core.specs.Holdings.{Slots, is_full, plain, pointer_of, slot}
 use Rattle.step_core.specs.Entries.{History}
 use Rattle.step_core.specs.Scenes.{Wound, clears, goes_on, rested_walk, slot_as, slot_of, stops, unwound}
 use Rattle.step_core.specs.Totals.{ended_in, made_in}

@@ -25,7 +25,8 @@ fn take_turn(world: &mut World, thread: u8, text: &mut String) -> Result<bool, A
             put_said(text, thread, &said)?;
             Ok(true)
         }
-        Turned::Waited | Turned::Done => Ok(false),
+        Turned::Done => Ok(false),
+        Turned::Waited => unreachable!(),
     }
 }
 
