@@ -11,29 +11,35 @@ use Rattle.control_word.specs.declared.place.Block.{Block}
 use Rattle.control_word.specs.State.{Object, State, common, ending, gone, live, put, weak}
 use Rattle.step_core.specs.declared.act.Act.{Act}
 use Rattle.step_core.specs.declared.act.Form.{Form}
-use Rattle.step_core.specs.declared.act.Act.TheVariants.{Make, Share, Downgrade, Lock, Put, Leave, Clear, Count, Expired, Read, FromThis, Alias, Move, Ask}
+use Rattle.step_core.specs.declared.act.Act.TheVariants.{Make, Share, Downgrade, Lock, Put, Leave, Clear, Count, Expired, Read, FromThis, Alias, Move, Ask, Offer, Swap, Exchange, Drop}
 use Rattle.step_core.specs.declared.act.Task.{Task}
 use Rattle.step_core.specs.declared.ending.Ending.{Ending}
 use Rattle.step_core.specs.declared.half.Half.{Half}
-use Rattle.step_core.specs.declared.half.Half.TheVariants.{Rest, Making, Locking, Giving}
+use Rattle.step_core.specs.declared.half.Half.TheVariants.{Rest, Making, Locking, Giving, Brought, Returning}
 use Rattle.step_core.specs.declared.holdings.Pointer.{Pointer}
 use Rattle.step_core.specs.declared.past.Deed.{Deed}
 use Rattle.step_core.specs.declared.past.Deed.TheVariants as deed
 use Rattle.step_core.specs.declared.said.Said.{Said}
 use Rattle.step_core.specs.Actors.{wanted}
-use Rattle.step_core.specs.Courses.{Walk, form_of, hand, locked, settled}
+use Rattle.step_core.specs.declared.call.CellName.{CellName}
+use Rattle.step_core.specs.declared.call.CellName.TheVariants as cell
+use Rattle.step_core.specs.declared.cell_deed.CellDeed.{CellDeed}
+use Rattle.step_core.specs.declared.cell_deed.CellDeed.TheVariants as cell_deed
+use Rattle.control_word.specs.declared.cell.CellWord.{CellWord}
+use Rattle.step_core.specs.Contents.{as_word, seen}
+use Rattle.step_core.specs.Courses.{Going, Walk, cell_at, form_of, going, hand, kind_at, locked, offered, on_going, other, settled}
 use Rattle.step_core.specs.Deeds.{alias, aliased, downgrade, give, is_enabled, is_last, leave, leave_as, lock, owner_word, read, share, share_as, tell, tell_expired}
 use Rattle.step_core.specs.Endings.{endings_of, staged}
-use Rattle.step_core.specs.Holdings.{inside, is_full, owner_slot, place_in, slot}
+use Rattle.step_core.specs.Holdings.{inside, is_full, owner_slot, place_in, slot, value}
 use Rattle.step_core.specs.Openings.{opening}
 use Rattle.step_core.specs.Entries.{least, on}
 use Rattle.step_core.specs.Scenes.{begins_end, begins_end_as, endings_by, hands, holding, left as leaves_by, went}
-use Rattle.step_core.specs.Steps.{Step, acts, asks, at_rest, begins, begun, claims, ends_on, first, given, looks, made_on, prepares, silent}
+use Rattle.step_core.specs.Steps.{Step, acts, asks, at_rest, begins, begun, brings, claims, ends_on, first, given, gives_back, looks, made_on, prepares, returns, sends, sent, silent, swaps}
 use Rattle.step_core.specs.Steps.{step_at, story_after, story_by, tried, tries, trying, walk_by, with_endings}
 use Rattle.step_core.specs.Stories.{Kept, Story, known, object_in, pending, state}
 use Rattle.step_core.specs.Told.{AllEnd}
 use Rattle.step_core.proofs.tables.Places.{owner_busy, there}
-use Rattle.step_core.proofs.telling.Walking.{settled_endings}
+use Rattle.step_core.proofs.telling.Walking.{settled_endings, swapping}
 
 abbrev Lists : Type 0
 Lists = ℕ → List Ending
@@ -155,11 +161,52 @@ tried_by v d word k w ts (FromThis i kind) f at all (Some y) e = cc
 tried_by v d word k w ts (Alias i j field) f at all (Some y) e = cc
 tried_by v d word k w ts (Move i) f at all (Some y) e = cc
 tried_by v d word k w ts (Ask q) f at all (Some y) e = cc
+tried_by v d word k w ts (Offer i c) f at all (Some y) e = cc
+tried_by v d word k w ts (Swap c) f at all (Some y) e = cc
+tried_by v d word k w ts (Exchange i c) f at all (Some y) e = cc
+tried_by v d word k w ts Drop f at all (Some y) e = cc
 
 tried_on : (v : Story) (d word : ℕ) (w : Walk) (f : Lists) → f d ≡ w.endings → AllEnd (state v) f → (ts : List Task)
     → Right v d w f (tried v d w word ts)
 tried_on v d word w f at all [] = same v d w f None refl refl at all
 tried_on v d word w f at all (t ∷ ts) = tried_by v d word t.statement w ts t.act f at all (locked w.slots t.act) refl
+
+-- a cell is none of an object
+still_swapped : (v : Story) (d : ℕ) (c : CellName) (new x : CellWord)
+    → (state (story_after v d (Some (deed.OnCell (cell_deed.Swap (cell_at (state v) c) new x))))).object ≡ (state v).object
+still_swapped v d (cell.Shared n) new x = refl
+still_swapped v d (cell.Weak n) new x = refl
+
+-- a value goes into a cell
+swapped : (v : Story) (d k : ℕ) (w : Walk) (ts : List Task) (a : Act) (x : Going) (f : Lists) → f d ≡ w.endings → AllEnd (state v) f
+    → going w.slots a ≡ Some x → Right v d w f (Some (swaps v d w k ts a x.0 x.1))
+swapped v d k w ts a x f at all goes =
+    let found = seen v (cell_at (state v) x.0) in
+    plain v d k w ts a (Some (deed.OnCell (cell_deed.Swap (cell_at (state v) x.0) (as_word (value w.slots x.1)) found)))
+    (gives_back (kind_at x.0) k found found.owned) f (swapping (state v) w.slots a x goes).stays
+    (still_swapped v d x.0 (as_word (value w.slots x.1)) found) at all
+
+-- its funds are brought first, where it has an object
+brought : (v : Story) (d k : ℕ) (w : Walk) (ts : List Task) (a : Act) (x : Going) (f : Lists) → f d ≡ w.endings → AllEnd (state v) f
+    → going w.slots a ≡ Some x → (o : Option Pointer) → Right v d w f (Some (on (brings w k) (swaps v d w k ts a x.0 x.1) o))
+brought v d k w ts a x f at all goes None = swapped v d k w ts a x f at all goes
+brought v d k w ts a x f at all goes (Some y) =
+    within v d k w (Some (deed.OnCell (cell_deed.Bring y.kind y.block y.place 256))) Brought f refl at all
+
+going_in : (v : Story) (d k : ℕ) (w : Walk) (ts : List Task) (a : Act) (o : Option Going) (f : Lists) → f d ≡ w.endings → AllEnd (state v) f
+    → going w.slots a ≡ o → leaves_by w.slots a ≡ None
+    → Right v d w f (Some (on_going (sends v d w k ts a) (acts (state v) d w k ts a None Rest) o))
+going_in v d k w ts a None f at all goes stays = plain v d k w ts a None Rest f stays refl at all
+going_in v d k w ts a (Some x) f at all goes stays = brought v d k w ts a x f at all goes (slot w.slots x.1)
+
+sent_on : (v : Story) (d : ℕ) (w : Walk) (f : Lists) → f d ≡ w.endings → AllEnd (state v) f → (ts : List Task) → Right v d w f (sent v d w ts)
+sent_on v d w f at all [] = same v d w f None refl refl at all
+sent_on v d w f at all (t ∷ ts) = go (going w.slots t.act) refl
+  where
+    go : (o : Option Going) → going w.slots t.act ≡ o
+        → Right v d w f (option_map (λ (x : Going). swaps v d w t.statement ts t.act x.0 x.1) o)
+    go None goes = same v d w f None refl refl at all
+    go (Some x) goes = swapped v d t.statement w ts t.act x f at all goes
 
 -- an owner leaves
 left_by : (v : Story) (d k : ℕ) (w x : Walk) (a : Said) (f : Lists) → f d ≡ w.endings → AllEnd (state v) f → Kept v → (y : Pointer) (last : Bool)
@@ -242,6 +289,12 @@ acted v d k w ts f at all kept (Alias i j field) =
     (done_on v d (alias (aliased field (place_in w.slots j))) (owner_slot (slot w.slots i)) (λ x. refl)) at all
 acted v d k w ts f at all kept (Move i) = plain v d k w ts (Move i) None Rest f refl refl at all
 acted v d k w ts f at all kept (Ask q) = plain v d k w ts (Ask q) None Rest f refl refl at all
+acted v d k w ts f at all kept (Offer i c) =
+    plain v d k w ts (Offer i c) _ Rest f refl (done_on v d share (offered w.slots i c) (λ x. shared v d x.kind x)) at all
+acted v d k w ts f at all kept (Swap c) = going_in v d k w ts (Swap c) (going w.slots (Swap c)) f at all refl refl
+acted v d k w ts f at all kept (Exchange i c) = going_in v d k w ts (Exchange i c) (going w.slots (Exchange i c)) f at all refl refl
+acted v d k w ts f at all kept Drop =
+    left v d k w (went (state v) d w k ts Drop) _ f at all kept (slot w.slots (other w.slots)) (act_endings v d k w ts Drop)
 
 begun_task : (v : Story) (d : ℕ) (w : Walk) (f : Lists) → f d ≡ w.endings → AllEnd (state v) f → Kept v → (ts : List Task)
     → Right v d w f (begun v d w ts)
@@ -360,3 +413,6 @@ ends_right v d Rest w f at all kept = rested v d w f at all kept w.endings refl
 ends_right v d (Making b i c) w f at all kept = making v d i w b c f at all w.todo
 ends_right v d (Locking word) w f at all kept = tried_on v d word w f at all w.todo
 ends_right v d (Giving i kind x) w f at all kept = given_on v d i kind x w f at all w.todo
+ends_right v d Brought w f at all kept = sent_on v d w f at all w.todo
+ends_right v d (Returning kind b funds k) w f at all kept =
+    within v d k w (Some (deed.OnCell (cell_deed.GiveBack kind b funds))) Rest f refl at all
