@@ -3,4 +3,5 @@ pub mod Comparing
 pub mod Going
 pub mod Offered
 pub mod Others
+pub mod Refilling
 pub mod Told
