@@ -1,6 +1,6 @@
 -- A desk's own steps on cells: what is out after them, and how a refill goes on.
-use Rattle.std.proofs.Common.{◌≡◌, ◌≢◌, ℕ, suc, ◌-◌, ◌<◌, ◌≤◌, true, List, Option, Some, None, refl, sym, ap, subst, ◌∙◌, inl, inr, arith}
-use Rattle.std.proofs.Common.{cond, get_or-set_same, ◌∷◌}
+use Rattle.std.proofs.Common.{◌≡◌, ℕ, ◌-◌, ◌<◌, true, List, Option, Some, None, refl, sym, ap, subst, ◌∙◌, inl, inr, arith}
+use Rattle.std.proofs.Common.{get_or-set_same, ◌∷◌}
 use Rattle.std.proofs.lemmas.Bool.{and_parts, cond_both, eqb-true}
 use Rattle.std.proofs.lemmas.Option.{same_Some}
 use Rattle.control_word.proofs.lists.Tallies.{same_place_true}
@@ -28,10 +28,9 @@ use Rattle.step_core.specs.declared.cell_deed.CellDeed.TheVariants.{Look, Bring,
 use Rattle.step_core.specs.declared.cell_deed.Compared.{Compared}
 use Rattle.step_core.specs.declared.extent.Extent.{Extent}
 use Rattle.step_core.specs.declared.past.Deed.TheVariants.{OnCell}
-use Rattle.step_core.specs.declared.refill.Stage.{Stage}
 use Rattle.step_core.specs.declared.refill.Stage.TheVariants.{Turning, Checking, Lacking, Refilling, Failing}
 use Rattle.step_core.specs.CellDeeds.{cell_in, cell_pending, handle_told, kind_in, object_at, owing}
-use Rattle.step_core.specs.Cells.{IsOpenTo, word_at}
+use Rattle.step_core.specs.Cells.{IsOpenTo}
 use Rattle.step_core.specs.Contents.{same_block, same_value}
 use Rattle.step_core.specs.Refills.{RefillFits, more_taken}
 use Rattle.step_core.specs.Stories.{Kept, Nothing, Story, after, handle_in, pending, state}
