@@ -5,4 +5,5 @@ pub mod Offered
 pub mod Others
 pub mod Reaching
 pub mod Refilling
+pub mod Telling
 pub mod Told

@@ -2,9 +2,10 @@
 ghost use Rattle.std.specs.Prelude.{◌≡◌, ℕ, ◌+◌, ◌<◌, true, Some};
 ghost use Rattle.control_word.specs.declared.cell.CellWord.{CellWord as Word};
 ghost use Rattle.control_word.specs.Handles.{equivalent};
+ghost use Rattle.control_word.specs.Packing.{IsCellWord, cell_bits};
 ghost use Rattle.control_word.specs.State.{kind_of_member};
 ghost use Rattle.step_core.specs.CellDeeds.{kind_in};
-ghost use Rattle.step_core.specs.Cells.{IsOpenTo, Shows};
+ghost use Rattle.step_core.specs.Cells.{IsOpenTo, word_at};
 ghost use Rattle.step_core.specs.Contents.{as_word, held_in, is_of, same_value, seen, slot_in, slot_of, told};
 ghost use Rattle.step_core.specs.Holdings.{Holds, Slots, inside, slot, value};
 ghost use Rattle.step_core.specs.Stories.{Kept, Story, state};
@@ -77,8 +78,8 @@ pub(crate) fn slot_in(kind: Kind, found: CellWord) -> Slot
 
 /// What a cell shows is what it holds, with the funds that were taken, and that is how it comes into a slot.
 pub(crate) fn shows_what_is_held()
-    ensures { (d : ℕ) (c : At) (x : Word) (v : Story) → Kept v → d < v.extent.actors → IsOpenTo v d c → Shows v c x
-        → (x ≡ seen v c) × (slot_in (kind_in (state v) c) x ≡ slot_of (state v) (held_in (state v) c)) }
+    ensures { (d : ℕ) (c : At) (x : Word) (v : Story) → Kept v → d < v.extent.actors → IsOpenTo v d c → IsCellWord x
+        → word_at v c ≡ cell_bits x → (x ≡ seen v c) × (slot_in (kind_in (state v) c) x ≡ slot_of (state v) (held_in (state v) c)) }
 {}
 
 /// A cell's word tells the value of a slot just where the handle in the cell is equivalent to that of the slot.

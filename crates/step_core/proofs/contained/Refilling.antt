@@ -5,8 +5,6 @@ use Rattle.std.proofs.lemmas.Bool.{and_parts, cond_both, eqb-true}
 use Rattle.std.proofs.lemmas.Option.{same_Some}
 use Rattle.control_word.proofs.lists.Tallies.{same_place_true}
 use Rattle.control_word.specs.declared.cell.CellWord.{CellWord}
-use Rattle.control_word.specs.declared.event.Cell.{Cell as Named}
-use Rattle.control_word.specs.declared.event.Cell.TheVariants as named
 use Rattle.control_word.specs.declared.handle.Handle.{Handle}
 use Rattle.control_word.specs.declared.handle.Kind.{Kind}
 use Rattle.control_word.specs.declared.place.Block.{Block}
@@ -14,11 +12,11 @@ use Rattle.control_word.specs.declared.place.Place.{Place}
 use Rattle.control_word.specs.declared.view.Pending.{Pending}
 use Rattle.control_word.specs.declared.view.Pending.TheVariants.{Paying}
 use Rattle.control_word.specs.declared.view.View.{View}
-use Rattle.control_word.specs.Events.{IsOpen, gets, swaps}
+use Rattle.control_word.specs.Events.{IsOpen, gets}
 use Rattle.control_word.specs.Handles.{handle, has_object}
 use Rattle.control_word.specs.Layout.{spot}
 use Rattle.control_word.specs.Packing.{IsCellWord}
-use Rattle.control_word.specs.State.{Has, Held, State, held, kind_of_free, kind_of_member}
+use Rattle.control_word.specs.State.{Has, Held, State, held, kind_of_member}
 use Rattle.control_word.specs.Views.{used_up}
 use Rattle.control_word.specs.Words.{slot}
 use Rattle.step_core.specs.declared.cell_deed.Cell.{Cell}
@@ -26,7 +24,6 @@ use Rattle.step_core.specs.declared.cell_deed.Cell.TheVariants.{Free, Member}
 use Rattle.step_core.specs.declared.cell_deed.CellDeed.{CellDeed}
 use Rattle.step_core.specs.declared.cell_deed.CellDeed.TheVariants.{Look, Bring, GiveBack, Take, Turn, Refill, Swap, CompareSwap, TakeOut}
 use Rattle.step_core.specs.declared.cell_deed.Compared.{Compared}
-use Rattle.step_core.specs.declared.extent.Extent.{Extent}
 use Rattle.step_core.specs.declared.past.Deed.TheVariants.{OnCell}
 use Rattle.step_core.specs.declared.refill.Stage.TheVariants.{Turning, Checking, Lacking, Refilling, Failing}
 use Rattle.step_core.specs.CellDeeds.{cell_in, cell_pending, handle_told, kind_in, object_at, owing}
@@ -34,11 +31,8 @@ use Rattle.step_core.specs.Cells.{IsOpenTo}
 use Rattle.step_core.specs.Contents.{same_block, same_value}
 use Rattle.step_core.specs.Refills.{RefillFits, more_taken}
 use Rattle.step_core.specs.Stories.{Kept, Nothing, Story, after, handle_in, pending, state}
-use Rattle.step_core.proofs.contained.Told.{shared_is}
-
-swap_latest : (d : ℕ) (c : Named) (new old : Handle) (s : State) → (swaps d c new old s).latest ≡ s.latest
-swap_latest d (named.Free n) new old s = refl
-swap_latest d (named.Member o m) new old s = refl
+use Rattle.step_core.proofs.contained.Going.{swap_latest}
+use Rattle.step_core.proofs.contained.Told.{kind_stays}
 
 -- no object comes into a block
 cell_latest : (v : Story) (d : ℕ) (x : CellDeed) → (state (after v d (OnCell x))).latest ≡ (state v).latest
@@ -59,16 +53,10 @@ same_owing : (s t : State) (k : Kind) (o : Option Block) (p : Option Place) (f l
 same_owing s t k None p f l latest = refl
 same_owing s t k (Some b) p f l latest = ap (λ (g : ℕ → ℕ). Paying k (g b.0) p (spot b.0 (slot k)) f l) (sym latest)
 
--- a cell is of the same kind after any deed
-kind_after : (v w : Story) (c : Cell) → w.extent ≡ v.extent → kind_in (state w) c ≡ kind_in (state v) c
-kind_after v w (Free n) same =
-    ap (λ (i : ℕ). kind_of_free i n) (shared_is w ∙ ap (λ (x : Extent). x.shape.shared_cells) same ∙ sym (shared_is v))
-kind_after v w (Member b m) same = refl
-
 owing_at : (v w : Story) (c : Cell) (o : Option Block) (p : Option Place) (f l : ℕ) → w.extent ≡ v.extent → (state w).latest ≡ (state v).latest
     → ◌≡◌ {A = Pending Nothing} (owing (state v) (kind_in (state v) c) o p f l) (owing (state w) (kind_in (state w) c) o p f l)
 owing_at v w c o p f l same latest =
-    same_owing (state v) (state w) (kind_in (state v) c) o p f l latest ∙ ap (λ (k : Kind). owing (state w) k o p f l) (sym (kind_after v w c same))
+    same_owing (state v) (state w) (kind_in (state v) c) o p f l latest ∙ ap (λ (k : Kind). owing (state w) k o p f l) (sym (kind_stays v w c same))
 
 -- what is out after a step of its own, as the state tells it that the step leaves
 pub owes_after : (v : Story) (d : ℕ) (x : CellDeed) → Kept v → d < v.extent.actors
@@ -177,8 +165,8 @@ module _ (d : ℕ) (v : Story) (kept : Kept v) (lt : d < v.extent.actors) where
 
 module _ (d : ℕ) (v : Story) where
   -- the cell holds the same value still
-  pub is_drained : (c : Cell) (x y : CellWord) → RefillFits d Checking c x v → IsCellWord y → same_value x y ≡ true → RefillFits d Lacking c y v
-  is_drained c x y fits valid same =
+  pub finds_same : (c : Cell) (x y : CellWord) → RefillFits d Checking c x v → IsCellWord y → same_value x y ≡ true → RefillFits d Lacking c y v
+  finds_same c x y fits valid same =
       let t = and_parts _ _ same in
       let p = same_place_true x.place y.place t.1 in
       record {
