@@ -1,20 +1,19 @@
 -- The events of steps on cells, by what cells hold and slots have.
-use Rattle.std.proofs.Common.{◌≡◌, ◌<◌, Bool, true, false, Option, Some, None, sym, ap, ◌∙◌}
+use Rattle.std.proofs.Common.{◌≡◌, ℕ, Bool, true, false, Option, Some, None, sym, ap, ◌∙◌}
 use Rattle.control_word.specs.declared.cell.CellWord.{CellWord}
 use Rattle.control_word.specs.declared.event.Event.{Event}
 use Rattle.control_word.specs.declared.event.Event.TheVariants as event
 use Rattle.control_word.specs.declared.handle.Handle.{Handle}
 use Rattle.control_word.specs.Handles.{equivalent}
 use Rattle.step_core.specs.declared.cell_deed.Cell.{Cell}
-use Rattle.step_core.specs.declared.cell_deed.Cell.TheVariants.{Member}
-use Rattle.step_core.specs.declared.cell_deed.CellDeed.TheVariants.{CompareSwap, Look, Swap, Take, TakeOut}
+use Rattle.step_core.specs.declared.cell_deed.CellDeed.TheVariants.{CompareSwap, Look, Swap, Take}
 use Rattle.step_core.specs.declared.comparing.Comparing.{Comparing}
 use Rattle.step_core.specs.declared.past.Deed.TheVariants.{OnCell}
 use Rattle.step_core.specs.declared.slot.Slot.{Slot}
 use Rattle.step_core.specs.CellDeeds.{cell_in, handle_told, kind_in}
 use Rattle.step_core.specs.Contents.{as_word, compare_of, compared_in, held_in, is_of, load_of, same_value, swap_of, told}
 use Rattle.step_core.specs.Holdings.{Holds, Slots, value}
-use Rattle.step_core.specs.Stories.{Kept, Nothing, Story, event_of, object_in, state}
+use Rattle.step_core.specs.Stories.{Kept, Nothing, Story, event_of, state}
 use Rattle.step_core.proofs.contained.Told.{alike_told, word_told}
 use Rattle.step_core.proofs.tables.Shown.{Found}
 
@@ -33,7 +32,7 @@ module _ (v : Story) (c : Cell) (x : CellWord) (found : Found v c x) where
       ∙ ap (λ (h : Handle). Some (event.Swap (cell_in s c) h (held_in s c))) (word_told s (kind_in s c) a is)
 
   module _ (d : ℕ) (slots : Slots) (y : Comparing) (kept : Kept v) (holds : Holds d slots v)
-    (expected : is_of (kind_in (state v) c) (value slots y.expected) ≡ true) (new : is_of (kind_in (state v) c) (value slots y.new) ≡ true) where
+      (expected : is_of (kind_in (state v) c) (value slots y.expected) ≡ true) (new : is_of (kind_in (state v) c) (value slots y.new) ≡ true) where
     -- a compare, with what it finds
     compared : (b : Bool) → same_value x (as_word (value slots y.expected)) ≡ b
         → ◌≡◌ {A = Option (Event Nothing)}
