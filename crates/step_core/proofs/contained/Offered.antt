@@ -33,7 +33,7 @@ module _ (d : ℕ) (slots : Slots) (v : Story) (i : ℕ) (c : Cell) (w : CellWor
       ∙ ap (λ (x : CellWord). owing (state v) (kind_in (state v) c) x.owned x.place 256 0) (sym e)
 
   -- what has no object leaves room in the bag
-  pub goes_roomy : d < v.extent.actors → length slots < 34 → i < length slots → w.owned ≡ None → bag_size (state v) d < (state v).allowance d
+  pub goes_roomy : d < v.extent.actors → length slots < 35 → i < length slots → w.owned ≡ None → bag_size (state v) d < (state v).allowance d
   goes_roomy lt few inside none = has_room d slots v i kept lt holds few inside (bare (value slots i) (ap (λ (x : CellWord). x.owned) (sym e) ∙ none))
     where
       bare : (a : Slot) → owned_by a ≡ None → pointer_of a ≡ None

@@ -44,6 +44,9 @@ returns-clause-found c =
     let x = c.swap_cell-found.result in
     shows_seen v c.args.desk c.args.cell x (open_shown v c.args.desk c.args.cell x c.known.ensures c.requires.seat c.requires.open c.swap_cell-found.ensures.found)
 
+pub returns-clause-few : goal.returns-clause-few
+returns-clause-few c = c.swap_cell-found.ensures.found.valid.taken
+
 pub returns-clause-slots : goal.returns-clause-slots
 returns-clause-slots c =
     let v = c.args.table.now in
