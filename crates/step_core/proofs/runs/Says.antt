@@ -1,5 +1,5 @@
 -- What steps tell of objects that end.
-use Rattle.std.proofs.Common.{◌≡◌, ℕ, ◌+◌, ◌-◌, ◌==◌, Bool, true, false, cond, List, [], ◌∷◌, length, get_or, refl, sym, ap, subst, ◌∙◌, arith}
+use Rattle.std.proofs.Common.{◌≡◌, ℕ, ◌-◌, ◌==◌, Bool, true, false, cond, List, [], ◌∷◌, length, get_or, refl, sym, ap, subst, ◌∙◌, arith}
 use Rattle.std.specs.Prelude.{Option, Some, None, MatchOption, option_map}
 use Rattle.std.proofs.lemmas.Bool.{cond_both, eqb-true, false≢true}
 use Rattle.control_word.specs.declared.event.Entry.{Entry}
@@ -40,7 +40,7 @@ use Rattle.step_core.specs.Scenes.{walk_of}
 use Rattle.step_core.specs.CellDeeds.{cell_event}
 use Rattle.step_core.proofs.tables.CellDeeds.{by_event}
 use Rattle.step_core.proofs.runs.Headline.{IsStep, asked, newest_is_last}
-use Rattle.step_core.proofs.telling.Walking.{swapping}
+use Rattle.step_core.proofs.telling.Swapping.{swapping}
 
 -- what is left by a deed: it is the last owner's leave, or nothing
 abbrev left_by : Story → Option Deed → Option Ended

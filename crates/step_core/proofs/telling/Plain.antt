@@ -1,5 +1,5 @@
 -- No act of a thread fills a member, or loads what a cell holds.
-use Rattle.std.proofs.Common.{ℕ, ◌+◌, ◌<◌, ◌==◌, Bool, true, false, List, [], ◌∷◌, length, get_or}
+use Rattle.std.proofs.Common.{ℕ, ◌<◌, ◌==◌, Bool, true, false, List, [], ◌∷◌, length, get_or}
 use Rattle.std.specs.Prelude.{Option, Some, None, option_map}
 use Rattle.std.proofs.lemmas.Bool.{cond_both}
 use Rattle.control_word.specs.declared.handle.Kind.{Kind}
@@ -26,7 +26,7 @@ use Rattle.step_core.specs.Deeds.{alias, aliased, downgrade, give, is_enabled, i
 use Rattle.step_core.specs.Endings.{staged}
 use Rattle.step_core.specs.Holdings.{inside, is_full, owner_slot, place_in, slot, value}
 use Rattle.step_core.specs.Entries.{least, on}
-use Rattle.step_core.specs.Steps.{Step, acts, asks, at_rest, begins, begun, brings, claims, ends_on, first, given, looks, made_on, prepares, returns, sends, sent, silent, step_at, story_after, story_by, swaps, tried, tries, trying, with_endings}
+use Rattle.step_core.specs.Steps.{Step, acts, asks, at_rest, begins, begun, brings, claims, ends_on, first, given, looks, made_on, prepares, sends, sent, silent, step_at, story_after, story_by, swaps, tried, tries, trying, with_endings}
 use Rattle.step_core.specs.Stories.{IsPlain, Plain, Story, known, object_in, pending, state}
 use Rattle.step_core.proofs.tables.Plain.{plain_after}
 

@@ -1,6 +1,6 @@
 -- What an act takes from the steps that a thread has left.
-use Rattle.std.proofs.Common.{◌≡◌, ℕ, zero, suc, ◌+◌, ◌*◌, ◌-◌, ◌<◌, ◌≤◌, Bool, true, false, cond, List, [], ◌∷◌, length, get_or, refl, sym, ap, subst, ◌∙◌, arith}
-use Rattle.std.proofs.Common.{◌≢◌, ⊎_elim, get_or-set_other, get_or-set_same, length-set}
+use Rattle.std.proofs.Common.{◌≡◌, ℕ, ◌+◌, ◌*◌, ◌-◌, ◌<◌, ◌≤◌, Bool, true, false, cond, List, [], ◌∷◌, length, refl, sym, ap, subst, ◌∙◌, ◌≢◌, ⊎_elim, arith}
+use Rattle.std.proofs.Common.{get_or-set_other, get_or-set_same, length-set}
 use Rattle.std.specs.Prelude.{Option, Some, None, is_some, reverse, slice_set, sum_by}
 use Rattle.std.proofs.lemmas.Bool.{cases_eq, cond_both}
 use Rattle.std.proofs.lemmas.List.Sorted.{IsPermutation-reverse, sum_by-IsPermutation}
@@ -14,14 +14,15 @@ use Rattle.step_core.specs.declared.act.Task.{Task}
 use Rattle.step_core.specs.declared.ending.Ending.{Ending}
 use Rattle.step_core.specs.declared.holdings.Pointer.{Pointer}
 use Rattle.step_core.specs.Bounds.{carried, ending_steps, task_steps, walk_steps, weight}
-use Rattle.step_core.specs.Courses.{Going, Walk, going, hand, idle, other, placed, settled, slots_idle, taken_idle}
+use Rattle.step_core.specs.Courses.{Walk, hand, idle, other, placed, settled, slots_idle, taken_idle}
 use Rattle.step_core.specs.Deeds.{is_last, owned}
 use Rattle.step_core.specs.declared.slot.Slot.{Slot}
 use Rattle.step_core.specs.Endings.{staged}
 use Rattle.step_core.specs.Steps.{with_endings}
 use Rattle.step_core.specs.Holdings.{Slots, is_full, plain, pointer_of, slot, value}
 use Rattle.step_core.specs.Entries.{on}
-use Rattle.step_core.specs.Scenes.{begins_end, begins_end_as, ended_by, ended_of, endings_by, hands, left, remains_as, went}
+use Rattle.step_core.specs.Scenes.{begins_end, begins_end_as, ended_by, endings_by, hands, left, remains_as, went}
+
 -- what settling passes over has no steps left
 pub settled_steps : (slots : Slots) (taken : Bool) (es : List Ending) (ts : List Task) → task_steps (settled slots taken es ts).todo ≤ task_steps ts
 settled_steps slots taken es [] = omega arith
@@ -208,7 +209,7 @@ carried_leaves s d k w e es is full =
     omega (arith, r, b, c, g, h, i)
 
 -- an act of a statement that nothing leaves by
-went_still : (s : State) (d k : ℕ) (w : Walk) (t : Task) (ts : List Task) (a : Act) → w.endings ≡ [] → w.todo ≡ t ∷ ts
+pub went_still : (s : State) (d k : ℕ) (w : Walk) (t : Task) (ts : List Task) (a : Act) → w.endings ≡ [] → w.todo ≡ t ∷ ts
     → left w.slots a ≡ None → walk_steps (went s d w k ts a) + weight t.act ≤ walk_steps w
 went_still s d k w t ts a none is stays =
     let l = went_steps s d k w t ts a none is in
@@ -219,40 +220,6 @@ pub went_plain : (s : State) (d k : ℕ) (w : Walk) (t : Task) (ts : List Task) 
     → left w.slots a ≡ None → walk_steps (went s d w k ts a) + 2 ≤ walk_steps w
 went_plain s d k w t ts a none is stays =
     let l = went_still s d k w t ts a none is stays in let j = weight_two t.act in omega (arith, l, j)
-
--- a value goes into a cell by the act: it takes three steps, and nothing leaves
-pub record IsSwapping (s : State) (slots : Slots) (a : Act) : Type 0 where
-  pub weight : weight a ≡ 3
-  pub stays : left slots a ≡ None
-  pub ends : ended_of s slots a ≡ None
-
-pub swapping : (s : State) (slots : Slots) (a : Act) (x : Going) → going slots a ≡ Some x → IsSwapping s slots a
-swapping s slots (Swap c) x e = record { weight = refl; stays = refl; ends = refl }
-swapping s slots (Exchange k c) x e = record { weight = refl; stays = refl; ends = refl }
-swapping s slots (Make form) x e = cc
-swapping s slots (Share k) x e = cc
-swapping s slots (Downgrade k) x e = cc
-swapping s slots (Lock k must) x e = cc
-swapping s slots (Put k) x e = cc
-swapping s slots (Leave k) x e = cc
-swapping s slots (Clear k) x e = cc
-swapping s slots (Count k) x e = cc
-swapping s slots (Expired k) x e = cc
-swapping s slots (Read k) x e = cc
-swapping s slots (FromThis k kind) x e = cc
-swapping s slots (Alias k j field) x e = cc
-swapping s slots (Move k) x e = cc
-swapping s slots (Ask q) x e = cc
-swapping s slots (Offer k c) x e = cc
-swapping s slots Drop x e = cc
-
-pub went_swap : (s : State) (d k : ℕ) (w : Walk) (t : Task) (ts : List Task) (a : Act) (x : Going) → w.endings ≡ [] → w.todo ≡ t ∷ ts
-    → t.act ≡ a → going w.slots a ≡ Some x → walk_steps (went s d w k ts a) + 3 ≤ walk_steps w
-went_swap s d k w t ts a x none is same goes =
-    let y = swapping s w.slots a x goes in
-    let l = went_still s d k w t ts a none is y.stays in
-    let j : weight t.act ≡ 3 = ap weight same ∙ y.weight in
-    omega (arith, l, j)
 
 -- any act of a statement
 pub went_less : (s : State) (d k : ℕ) (w : Walk) (t : Task) (ts : List Task) (a : Act) → w.endings ≡ [] → w.todo ≡ t ∷ ts
