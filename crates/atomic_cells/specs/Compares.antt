@@ -1,5 +1,5 @@
 -- What a compare-and-swap says ([util.smartptr.atomic.shared], [util.smartptr.atomic.weak]).
-use Rattle.std.specs.Prelude.{◌≡◌, ℕ, Bool, true, false, Option}
+use Rattle.std.specs.Prelude.{◌≡◌, Bool, true, false, Option}
 use Rattle.control_word.specs.declared.event.Cell.{Cell}
 use Rattle.control_word.specs.declared.event.Event.TheVariants.{Compare}
 use Rattle.control_word.specs.declared.handle.Kind.{Kind}

@@ -86,7 +86,7 @@ impl<'a> SharedAt<'a> {
     }
 
     /// The pointer goes into the cell, and what the cell held comes out ([util.smartptr.atomic.shared]), in one step on the
-    /// cell. It waits for nobody.
+    /// cell. It waits for nobody, and refuses nothing.
     pub fn exchange<V: Drop + Send>(
         &self,
         domain: &Domain<V>,
@@ -113,7 +113,7 @@ impl<'a> SharedAt<'a> {
     }
 
     /// The pointer goes into the cell, and what the cell held leaves ([util.smartptr.atomic.shared]); where that was an
-    /// object's last owner, the object ends in the desk's hands. It waits for nobody.
+    /// object's last owner, the object ends in the desk's hands. It waits for nobody, and refuses nothing.
     #[tactic(auto, using(shared_handle::proofs::Taken::first_out))]
     pub fn store<V: Drop + Send>(
         &self,

@@ -2,7 +2,7 @@
 ghost use Rattle.std.specs.Prelude.{◌≡◌, ◌↔◌, ◌+◌, IfErr, IfOk, IsErr, OnOk};
 ghost use Rattle.control_word.specs.declared.handle.Kind.TheVariants.{Weak};
 ghost use Rattle.control_block.specs.CellCalls.{Belongs};
-ghost use Rattle.control_block.specs.Desks.{IsSameDesk, Keeps, KeepsEndings, allowance_of, bag_of, held_of};
+ghost use Rattle.control_block.specs.Desks.{IsSameDesk, Keeps, KeepsEndings, allowance_of, bag_of, endings_of, held_of};
 ghost use Rattle.shared_handle.specs.Calls.{Holds, with_handle, without_handle};
 ghost use Rattle.atomic_cells.specs.Cells.{Exchanges, Loads, StoresWeakly};
 ghost use Rattle.atomic_cells.specs.Sites.{IsFewWeak, IsMember, IsOpenWeakly, weak_cell, weak_site};
@@ -94,7 +94,7 @@ impl<'a> WeakAt<'a> {
     }
 
     /// The pointer goes into the cell, and what the cell held comes out ([util.smartptr.atomic.weak]), in one step on the
-    /// cell. It waits for nobody.
+    /// cell. It waits for nobody, and refuses nothing.
     pub fn exchange<V: Drop + Send>(
         &self,
         domain: &Domain<V>,
@@ -121,7 +121,8 @@ impl<'a> WeakAt<'a> {
     }
 
     /// The pointer goes into the cell, and what the cell held leaves ([util.smartptr.atomic.weak]): it answers `Empty` where
-    /// that was an empty one, and else `Others`. It waits for nobody.
+    /// that was an empty one, and else `Others` (own). Where that was the last handle of an object that is gone, its block is
+    /// vacant, and in the desk's store. It waits for nobody, and refuses nothing.
     #[tactic(auto, using(shared_handle::proofs::Taken::first_out))]
     pub fn store<V: Drop + Send>(
         &self,
@@ -137,6 +138,7 @@ impl<'a> WeakAt<'a> {
         ensures held { desk.new.held + 1 ≡ desk.old.held }
         ensures desk { IsSameDesk desk.old desk.new }
         ensures endings { KeepsEndings desk.old desk.new }
+        ensures count { endings_of desk.new ≡ endings_of desk.old }
     {
         let old = self.exchange(domain, desk, handle);
         let left = if old.block().is_some() {

@@ -56,7 +56,7 @@ pub fn lock<V: Drop + Send, R: Wait>(
 
 /// The constructor from a weak pointer ([util.smartptr.shared.const]): a shared pointer that owns, and points where the
 /// handle does. It is refused `Limit` just where the desk is at its allowance, and else `BadWeak` just where the handle is
-/// empty or no owner remains at its step; then bag and number of handles are as they were.
+/// empty or no owner remains at its step ([util.smartptr.weak.bad]); then bag and number of handles are as they were.
 pub fn upgrade<V: Drop + Send, R: Wait>(
     rt: &R,
     domain: &Domain<V>,
