@@ -45,14 +45,9 @@ impl<'a> SharedAt<'a> {
     pub fn member(handle: &'a Shared, which: SharedMember) -> Result<SharedAt<'a>, Refusal>
         ensures { IsMember (λ c (at : SharedAt). at.site ≡ site.Of c which) handle.now.block handle.now.place result }
     {
-        let Some(place) = handle.place() else {
-            return Err(Refusal::Null);
-        };
-        if handle.block() != Some(place.block) {
-            return Err(Refusal::Outside);
-        }
+        let block = sites::block_within(handle)?;
         Ok(SharedAt {
-            site: SharedSite::Of(place.block, which),
+            site: SharedSite::Of(block, which),
             owner: PhantomData,
         })
     }

@@ -9,7 +9,7 @@ ghost use Rattle.atomic_cells.specs.Sites.{IsFewWeak, IsMember, IsOpenWeakly, we
 ghost use Rattle.atomic_cells.specs.declared.sites.WeakSite.TheVariants as site;
 ghost use Rattle.atomic_cells.specs.declared.weak_at.WeakAt.{WeakAt};
 
-use crate::sites::WeakSite;
+use crate::sites::{WeakSite, block_within};
 use control_block::cell_calls::{self, CellAt, Content, Site};
 use control_block::desk::Desk;
 use control_block::domain::Domain;
@@ -45,14 +45,9 @@ impl<'a> WeakAt<'a> {
     pub fn member(handle: &'a Shared) -> Result<WeakAt<'a>, Refusal>
         ensures { IsMember (λ c (at : WeakAt). at.site ≡ site.Up c) handle.now.block handle.now.place result }
     {
-        let Some(place) = handle.place() else {
-            return Err(Refusal::Null);
-        };
-        if handle.block() != Some(place.block) {
-            return Err(Refusal::Outside);
-        }
+        let block = block_within(handle)?;
         Ok(WeakAt {
-            site: WeakSite::Up(place.block),
+            site: WeakSite::Up(block),
             owner: PhantomData,
         })
     }

@@ -4,7 +4,7 @@ ghost use Rattle.control_word.specs.Handles as Handles;
 ghost use Rattle.control_word.specs.declared.handle.Kind.TheVariants.{Owner};
 ghost use Rattle.control_block.specs.Desks.{Keeps, bag_of};
 ghost use Rattle.shared_handle.specs.Calls.{Holds, IsCount};
-ghost use Rattle.shared_handle.specs.Endings.{IsRead};
+ghost use Rattle.shared_handle.specs.Endings.{IsPlaced, IsRead};
 
 use control_block::calls;
 use control_block::desk::Desk;
@@ -36,6 +36,20 @@ pub fn use_count<V: Drop + Send>(domain: &Domain<V>, desk: &mut Desk<V>, handle:
     calls::count::<V, Brand>(domain, desk, of)
 }
 
+/// The place that the handle points at, which is in the object that it owns: `Null` where there is none, and `Outside` where it
+/// isn't there.
+pub(crate) fn place_within(handle: &Shared) -> Result<Place, Refusal>
+    ensures { IsPlaced handle.now.block handle.now.place result }
+{
+    let Some(place) = handle.place() else {
+        return Err(Refusal::Null);
+    };
+    if handle.block() != Some(place.block) {
+        return Err(Refusal::Outside);
+    }
+    Ok(place)
+}
+
 /// The field that the handle points at (own). It is refused `Null` just where its place is null, and `Outside` just where
 /// that isn't in the object that it owns; then nothing changes.
 pub fn read<V: Drop + Send>(
@@ -50,12 +64,7 @@ pub fn read<V: Drop + Send>(
     ensures held { desk.new.held ≡ desk.old.held }
     ensures keeps { Keeps desk.old desk.new }
 {
-    let Some(place) = handle.place() else {
-        return Err(Refusal::Null);
-    };
-    if handle.block() != Some(place.block) {
-        return Err(Refusal::Outside);
-    }
+    let place = place_within(handle)?;
     Ok(calls::read(domain, desk, place))
 }
 
