@@ -6,11 +6,11 @@ ghost use Rattle.control_block.specs.Desks.{Keeps, bag_of};
 ghost use Rattle.shared_handle.specs.Calls.{Holds, IsCount};
 ghost use Rattle.shared_handle.specs.Endings.{IsPlaced, IsRead};
 
+use crate::pointers::owner_pointer;
 use control_block::calls;
 use control_block::desk::Desk;
 use control_block::domain::Domain;
-use control_block::handles::{Pointer, Shared};
-use control_word::handle::Kind;
+use control_block::handles::Shared;
 use control_word::{Place, Refusal};
 use std::marker::Brand;
 
@@ -25,13 +25,8 @@ pub fn use_count<V: Drop + Send>(domain: &Domain<V>, desk: &mut Desk<V>, handle:
     ensures held { desk.new.held ≡ desk.old.held }
     ensures keeps { Keeps desk.old desk.new }
 {
-    let Some(block) = handle.block() else {
+    let Some(of) = owner_pointer(handle) else {
         return 0;
-    };
-    let of = Pointer {
-        kind: Kind::Owner,
-        block,
-        place: handle.place(),
     };
     calls::count::<V, Brand>(domain, desk, of)
 }
