@@ -14,7 +14,7 @@ use Rattle.step_core.specs.Courses.{Begins, CourseReady, IsReady, Ready, hand, r
 use Rattle.step_core.specs.Deeds.{is_enabled}
 use Rattle.step_core.specs.Holdings.{inside, slot}
 use Rattle.step_core.specs.Stories.{Story, pending, state}
-use Rattle.step_core.specs.Threads.{Fits, form_at}
+use Rattle.step_core.specs.Threads.{Fits}
 use Rattle.step_core.proofs.Courses.{ready_head}
 use Rattle.step_core.proofs.Threads.{ready_any, resting}
 use Rattle.step_core.proofs.holding.Inside.{inside_held}
@@ -35,7 +35,7 @@ pub fits_asked : (d : ℕ) (t : Thread) (v : Story) (i : ℕ) (q : Kind) (x : Po
     → Fits d (record { course = t.course; stock = t.stock; half = Giving i q x }) v
 fits_asked d t v i q x fits e none lt act at enabled =
     let s = resting d t v fits e in
-    let idle : pending v d ≡ Idle = subst (λ (h : Half). HalfFits d h (form_at t.course) v) e fits.half in
+    let idle : pending v d ≡ Idle = subst (λ (h : Half). HalfFits d h t.course.holdings.slots.items (task_at t.course).act v) e fits.half in
     record {
       seat = fits.seat;
       holds = fits.holds;
@@ -46,4 +46,5 @@ fits_asked d t v i q x fits e none lt act at enabled =
       next = (lt, act, at, none);
       stocks = record { stocked = s.stocked; roomy = s.roomy };
       endings = fits.endings;
+      cells = fits.cells;
     }

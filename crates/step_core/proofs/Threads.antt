@@ -8,6 +8,7 @@ use Rattle.std.proofs.lemmas.List.Sorted.{sum_by_popped}
 use Rattle.std.proofs.lemmas.Bool.{cases_eq, cond_both, cond-true}
 use Rattle.std.specs.List.Sorted.{IsPermutation}
 use Rattle.control_word.specs.declared.place.Block.{Block}
+use Rattle.control_word.specs.declared.shape.Shape.{Shape}
 use Rattle.control_word.specs.declared.view.Pending.{Pending}
 use Rattle.control_word.specs.declared.view.View.{View}
 use Rattle.control_word.specs.State.{Has, stored}
@@ -24,7 +25,7 @@ use Rattle.step_core.specs.declared.past.Deed.{Deed}
 use Rattle.step_core.specs.declared.past.Deed.TheVariants as deed
 use Rattle.step_core.specs.declared.thread.Thread.{Thread}
 use Rattle.step_core.specs.Actors.{HalfFits, IsPrepared, Stocks, in_list, wanted}
-use Rattle.step_core.specs.Courses.{Begins, CourseReady, HasGoneOn, IsReady, Ready, form_of, hand, rest, taken_after, task_at}
+use Rattle.step_core.specs.Courses.{Begins, CourseReady, HasCell, HasGoneOn, IsReady, Ready, form_of, hand, rest, taken_after, task_at}
 use Rattle.step_core.specs.Entries.{least}
 use Rattle.step_core.specs.Stocks.{Stored}
 use Rattle.step_core.specs.Stories.{Kept, Nothing, Story, after, known, pending, pending_after, state}
@@ -129,12 +130,18 @@ form_here c form e = ap form_of e
 next_here : (c : Course) (form : Form) → (task_at c).act ≡ Make form → (task_at c).act ≡ Make (form_at c)
 next_here c form e = e ∙ ap Make (sym (form_here c form e))
 
+-- the tasks don't change, nor do their cells
+pub cells_gone : (z : Shape) (c c' : Course) → c'.tasks ≡ c.tasks → All (λ (x : Task). HasCell z x.act) c.tasks.items
+    → All (λ (x : Task). HasCell z x.act) c'.tasks.items
+cells_gone z c c' same all =
+    let e : c'.tasks.items ≡ c.tasks.items = (let k = same in cc) in subst (λ (l : List Task). All (λ (x : Task). HasCell z x.act) l) (sym e) all
+
 pub resting : (d : ℕ) (t : Thread) (v : Story) → Fits d t v → t.half ≡ Rest → Stocks d t.stock.blocks t.stock.room Rest v
 resting d t v fits e = subst (λ (h : Half). Stocks d t.stock.blocks t.stock.room h v) e fits.stocks
 
 pub prepared : (d : ℕ) (t : Thread) (v : Story) (b : Block) (i : ℕ) (f : Bool) → Fits d t v → t.half ≡ Making b i f
     → IsPrepared d b i (form_at t.course) v
-prepared d t v b i f fits e = subst (λ (h : Half). HalfFits d h (form_at t.course) v) e fits.half
+prepared d t v b i f fits e = subst (λ (h : Half). HalfFits d h t.course.holdings.slots.items (task_at t.course).act v) e fits.half
 
 -- the block that the stock gave is the least of the store, which has none where the stock is empty
 pub least_here : (d : ℕ) (t : Thread) (v : Story) (b : Block) (s : Stored) → Fits d t v → t.half ≡ Rest
@@ -174,6 +181,7 @@ fits_prepare d t v b s form kept fits e none lt act p all room =
       next = (lt, next_here t.course form act, none);
       stocks = record { stocked = x.stocked; roomy = (let q = x.roomy in omega (arith, q, room)) };
       endings = ends_none d t.course (after v d (deed.Prepare b)) none fits.endings.roomy;
+      cells = fits.cells;
     }
 
 pub fits_look : (d : ℕ) (t : Thread) (v : Story) (b : Block) (i n : ℕ) (same : Bool) → Fits d t v → t.half ≡ Making b i false → i < 5
@@ -205,6 +213,7 @@ fits_look d t v b i n same fits e lt is here =
       next = y;
       stocks = record { stocked = x.stocked; roomy = x.roomy };
       endings = fits.endings;
+      cells = fits.cells;
     }
 
 pub fits_write : (d : ℕ) (t : Thread) (v : Story) (b : Block) (i : ℕ) → Kept v → Fits d t v → t.half ≡ Making b i true → i < 5
@@ -239,6 +248,7 @@ fits_write d t v b i kept fits e lt =
       next = y;
       stocks = record { stocked = x.stocked; roomy = x.roomy };
       endings = ends_none d t.course (after v d (deed.Write b i n)) y.2 fits.endings.roomy;
+      cells = fits.cells;
     }
 
 pub fits_claim : (d : ℕ) (t : Thread) (v : Story) (b : Block) (f : Bool) (form : Form) (c : Course) → Kept v → Fits d t v → t.half ≡ Making b 5 f
@@ -260,4 +270,5 @@ fits_claim d t v b f form c kept fits e on =
       next = tt;
       stocks = stocks_claim d t.stock.blocks t.stock.room 5 f v b form x has;
       endings = ends_gone d t.course c v (after v d (deed.Claim b form.enabled form.null form.fields)) fits.endings y.2 on.endings refl;
+      cells = cells_gone v.extent.shape t.course c on.tasks fits.cells;
     }
