@@ -36,7 +36,7 @@ use Rattle.step_core.specs.Openings.{opening}
 use Rattle.step_core.specs.Stocks.{Stored}
 use Rattle.step_core.specs.Stories.{Kept, Story, after, object_in, pending, state}
 use Rattle.step_core.specs.Threads.{Fits, IsStocked, IsStockedBy}
-use Rattle.step_core.proofs.Threads.{cells_gone, own_pending, resting}
+use Rattle.step_core.proofs.Threads.{cells_on, own_pending, resting}
 use Rattle.step_core.proofs.holding.Ends.{ends_none, ends_nothing, ends_one}
 use Rattle.step_core.proofs.holding.Storing.{counted_stored, one_stored}
 use Rattle.step_core.proofs.tables.Places.{ending_busy, handle_busy, there}
@@ -261,7 +261,7 @@ fits_leaving d t v c r s n x k b kept fits e none kept' on empty list room is =
             roomy = (let q = fits.endings.roomy in let z : c.endings.room ≡ t.course.endings.room = ap (λ (y : Stack). y.room) on.endings in omega (arith, q, z, room));
             empty = inr empty;
           };
-      cells = cells_gone v.extent.shape t.course c on.tasks fits.cells;
+      cells = cells_on d t.course c (after v d (leave_as k x b)) on fits.cells;
     }
 
 -- a thread after it left what a slot held
@@ -287,7 +287,7 @@ fits_left d t t' v w c n None last kept kept' fits e none is said left half stoc
       next = tt;
       stocks = resting d t v fits e;
       endings = ends_none d (record c { endings = r }) v nothing (let q = fits.endings.roomy in omega (arith, q, room));
-      cells = cells_gone v.extent.shape t.course c left.gone.tasks fits.cells;
+      cells = cells_on d t.course c v (subst (λ (u : Story). HasGoneOn d t.course c u) is left.gone) fits.cells;
     }))))
 fits_left d t t' v w c n (Some x) last kept kept' fits e none is said left half stock =
     let b = is_last (state v) x in

@@ -3,6 +3,7 @@ pub mod Walks
 pub mod Stocks
 pub mod holding
 pub mod Courses
+pub mod CellNames
 pub mod Threads
 pub mod Endings
 pub mod EndSteps
@@ -18,3 +19,4 @@ pub mod StartStores
 pub mod telling
 pub mod turning
 mod contained
+pub mod Storing
