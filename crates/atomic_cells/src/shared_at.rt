@@ -45,14 +45,9 @@ impl<'a> SharedAt<'a> {
     pub fn member(handle: &'a Shared, which: SharedMember) -> Result<SharedAt<'a>, Refusal>
         ensures { IsMember (λ c (at : SharedAt). at.site ≡ site.Of c which) handle.now.block handle.now.place result }
     {
-        let Some(place) = handle.place() else {
-            return Err(Refusal::Null);
-        };
-        if handle.block() != Some(place.block) {
-            return Err(Refusal::Outside);
-        }
+        let block = sites::block_within(handle)?;
         Ok(SharedAt {
-            site: SharedSite::Of(place.block, which),
+            site: SharedSite::Of(block, which),
             owner: PhantomData,
         })
     }
@@ -86,7 +81,7 @@ impl<'a> SharedAt<'a> {
     }
 
     /// The pointer goes into the cell, and what the cell held comes out ([util.smartptr.atomic.shared]), in one step on the
-    /// cell. It waits for nobody.
+    /// cell. It waits for nobody, and refuses nothing.
     pub fn exchange<V: Drop + Send>(
         &self,
         domain: &Domain<V>,
@@ -113,7 +108,7 @@ impl<'a> SharedAt<'a> {
     }
 
     /// The pointer goes into the cell, and what the cell held leaves ([util.smartptr.atomic.shared]); where that was an
-    /// object's last owner, the object ends in the desk's hands. It waits for nobody.
+    /// object's last owner, the object ends in the desk's hands. It waits for nobody, and refuses nothing.
     #[tactic(auto, using(shared_handle::proofs::Taken::first_out))]
     pub fn store<V: Drop + Send>(
         &self,

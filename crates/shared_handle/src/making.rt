@@ -1,7 +1,7 @@
 //! Empty handles, and owners of new objects.
 ghost use Rattle.std.specs.Prelude.{◌≡◌, ◌↔◌, ◌+◌, [], ◌∷◌, false, length, true, IfErr, IfOk, IsErr, OnOk, None};
 ghost use Rattle.control_word.specs.declared.handle.Kind.TheVariants.{Owner};
-ghost use Rattle.control_block.specs.Desks.{IsSameDesk, KeepsEndings, allowance_of, bag_of, held_of, stock_of};
+ghost use Rattle.control_block.specs.Desks.{IsSameDesk, KeepsEndings, allowance_of, bag_of, endings_of, held_of, stock_of};
 ghost use Rattle.control_block.specs.Refusals.{IsFullOrLimit};
 ghost use Rattle.shared_handle.specs.Calls.{Makes, counting, with_handle};
 
@@ -55,6 +55,7 @@ fn make_as<V: Drop + Send>(
     ensures desk { OnOk result (IsSameDesk desk.old desk.new) }
     ensures stock { OnOk result (length (stock_of desk.new) + 1 ≡ length (stock_of desk.old)) }
     ensures endings { OnOk result (KeepsEndings desk.old desk.new) }
+    ensures count { OnOk result (endings_of desk.new ≡ endings_of desk.old) }
 {
     match calls::make(domain, desk, enabled, null, fields, value) {
         Ok(made) => Ok(Shared::of_parts(Some(made.block), made.place)),
@@ -82,6 +83,7 @@ pub fn make<V: Drop + Send>(
     ensures desk { OnOk result (IsSameDesk desk.old desk.new) }
     ensures stock { OnOk result (length (stock_of desk.new) + 1 ≡ length (stock_of desk.old)) }
     ensures endings { OnOk result (KeepsEndings desk.old desk.new) }
+    ensures count { OnOk result (endings_of desk.new ≡ endings_of desk.old) }
 {
     make_as(domain, desk, false, fields, enabled, value)
 }
@@ -102,6 +104,7 @@ pub fn make_null<V: Drop + Send>(
     ensures desk { OnOk result (IsSameDesk desk.old desk.new) }
     ensures stock { OnOk result (length (stock_of desk.new) + 1 ≡ length (stock_of desk.old)) }
     ensures endings { OnOk result (KeepsEndings desk.old desk.new) }
+    ensures count { OnOk result (endings_of desk.new ≡ endings_of desk.old) }
 {
     make_as(domain, desk, true, [0; 4], false, value)
 }
