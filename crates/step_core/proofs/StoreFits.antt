@@ -4,6 +4,7 @@ use Rattle.std.proofs.lemmas.Bool.{and_parts}
 use Rattle.std.specs.Prelude.{Option, Some, None, option_map, is_some}
 use Rattle.control_word.specs.declared.cell.CellWord.{CellWord}
 use Rattle.control_word.specs.declared.handle.Kind.{Kind}
+use Rattle.control_word.specs.declared.handle.Kind.TheVariants.{Owner, Weak}
 use Rattle.control_word.specs.declared.place.Block.{Block}
 use Rattle.control_word.specs.declared.view.Pending.{Pending}
 use Rattle.control_word.specs.declared.view.Pending.TheVariants.{Idle}
@@ -21,6 +22,7 @@ use Rattle.step_core.specs.declared.ending.Ending.{Ending}
 use Rattle.step_core.specs.declared.half.Half.{Half}
 use Rattle.step_core.specs.declared.half.Half.TheVariants.{Rest, Brought, Returning}
 use Rattle.step_core.specs.declared.holdings.Pointer.{Pointer}
+use Rattle.step_core.specs.declared.past.Deed.{Deed}
 use Rattle.step_core.specs.declared.past.Deed.TheVariants.{OnCell}
 use Rattle.step_core.specs.declared.slot.Slot.{Slot}
 use Rattle.step_core.specs.declared.slot.Slot.TheVariants.{Empty, Full}
@@ -29,13 +31,13 @@ use Rattle.step_core.specs.Actors.{HalfFits, Stocks, claimed, in_store}
 use Rattle.step_core.specs.CellDeeds.{kind_in, owing}
 use Rattle.step_core.specs.Contents.{as_word, is_of, owing_for, seen}
 use Rattle.step_core.specs.Courses.{Begins, CourseReady, Follows, Going, HasCell, HasGoneOn, IsReady, Ready, Walk, cell_at, going, going_from, hand, idle, kind_at, new_of}
-use Rattle.step_core.specs.Courses.{on_going, other, rest, taken_after, task_at, walk}
-use Rattle.step_core.specs.Endings.{EndsAll}
+use Rattle.step_core.specs.Courses.{done_on, other, rest, taken_after, task_at}
+use Rattle.step_core.specs.Deeds.{share_as}
 use Rattle.step_core.specs.Entries.{on}
 use Rattle.step_core.specs.Holdings.{Holds, Slots, pointer_of, slot, value}
 use Rattle.step_core.specs.Programs.{IsIn}
 use Rattle.step_core.specs.Steps.{Step, acts, brings, first, gives_back, sends, sent, step_at, swaps}
-use Rattle.step_core.specs.Stories.{Kept, Nothing, Story, after, pending, state}
+use Rattle.step_core.specs.Stories.{Kept, Nothing, Story, after, pending, pending_after, state}
 use Rattle.step_core.specs.Threads.{Fits, IsNext}
 use Rattle.step_core.proofs.CellNames.{cell_kind}
 use Rattle.step_core.proofs.Courses.{owed_by, ready_head, todo_at}
@@ -87,15 +89,15 @@ nothing_owed s (Full x) n e = absurd (let q : ◌≡◌ {A = Pending Nothing} (o
 
 -- where it goes
 pub going_is : (slots : Slots) (c : CellName) (i : ℕ) → is_of (kind_at c) (value slots i) ≡ true → going_from slots c i ≡ Some (c, i)
-going_is slots c i is = ap (λ (b : Bool). cond b (Some {A = Going} (c, i)) None) is
+going_is slots c i is = ap (λ (b : Bool). cond {A = Option Going} b (Some (c, i)) None) is
 
 pub going_not : (slots : Slots) (c : CellName) (i : ℕ) → is_of (kind_at c) (value slots i) ≡ false → going_from slots c i ≡ None
-going_not slots c i is = ap (λ (b : Bool). cond b (Some {A = Going} (c, i)) None) is
+going_not slots c i is = ap (λ (b : Bool). cond {A = Option Going} b (Some (c, i)) None) is
 
 pub went_there : (slots : Slots) (c : CellName) (i : ℕ) → is_some (going_from slots c i) ≡ true → is_of (kind_at c) (value slots i) ≡ true
 went_there slots c i e = go (is_of (kind_at c) (value slots i)) e
   where
-    go : (b : Bool) → is_some (cond b (Some {A = Going} (c, i)) None) ≡ true → b ≡ true
+    go : (b : Bool) → is_some (cond {A = Option Going} b (Some (c, i)) None) ≡ true → b ≡ true
     go true e = refl
     go false e = cc
 
@@ -229,3 +231,54 @@ fits_returned d t v k b f n kept fits e =
           };
       cells = fits.cells;
     }
+
+-- a deed on what a slot holds was done, and the thread went on
+pub fits_done : (f : Pointer → Deed) (d : ℕ) (t : Thread) (v w : Story) (o : Option Pointer) (c : Course) → Kept v → Fits d t v → t.half ≡ Rest
+    → t.course.endings.list ≡ [] → ((x : Pointer) → pending_after v d (f x) ≡ Idle)
+    → ((x : Pointer) → (state (after v d (f x))).stores ≡ (state v).stores) → w ≡ done_on f v d o → HasGoneOn d t.course c w
+    → Fits d (record { course = c; stock = t.stock; half = Rest }) w
+fits_done f d t v w o c kept fits e none calm stores is on =
+    subst (λ (u : Story). Fits d (record { course = c; stock = t.stock; half = Rest }) u) (sym is) (go o (subst (λ (u : Story). HasGoneOn d t.course c u) is on))
+  where
+    go : (o : Option Pointer) → HasGoneOn d t.course c (done_on f v d o) → Fits d (record { course = c; stock = t.stock; half = Rest }) (done_on f v d o)
+    go None on =
+        let s = resting d t v fits e in
+        record {
+          seat = fits.seat;
+          holds = on.holds;
+          within = on.within;
+          ready = on.ready;
+          still = on.still;
+          half = half_here d t v Rest fits e;
+          next = tt;
+          stocks = record { stocked = s.stocked; roomy = s.roomy };
+          endings = ends_gone d t.course c v v fits.endings none on.endings refl;
+          cells = cells_on d t.course c v on fits.cells;
+        }
+    go (Some x) on =
+        let s = resting d t v fits e in
+        let u = after v d (f x) in
+        record {
+          seat = fits.seat;
+          holds = on.holds;
+          within = on.within;
+          ready = on.ready;
+          still = on.still;
+          half = own_pending v d (f x) kept fits.seat ∙ calm x;
+          next = tt;
+          stocks =
+              record {
+                stocked = λ b. ap (λ l. length (filter (same_stored (stored d b)) l)) (stores x) ∙ s.stocked b;
+                roomy = s.roomy;
+              };
+          endings = ends_gone d t.course c v u fits.endings none on.endings refl;
+          cells = cells_on d t.course c u on fits.cells;
+        }
+
+pub share_calm : (v : Story) (d : ℕ) (x : Pointer) (k : Kind) → pending_after v d (share_as k x) ≡ Idle
+share_calm v d x Owner = refl
+share_calm v d x Weak = refl
+
+pub share_stores : (v : Story) (d : ℕ) (x : Pointer) (k : Kind) → (state (after v d (share_as k x))).stores ≡ (state v).stores
+share_stores v d x Owner = refl
+share_stores v d x Weak = refl
