@@ -1,22 +1,25 @@
 -- A thread at its start fits the table.
 use Rattle.std.proofs.Common.{◌≡◌, ℕ, zero, suc, ◌+◌, ◌<◌, ◌≤◌, Bool, false, List, [], ◌∷◌, ◌++◌, length, Option}
-use Rattle.std.proofs.Common.{get_or, replicate, refl, sym, ap, subst, ◌∙◌, arith}
+use Rattle.std.proofs.Common.{get_or, replicate, refl, sym, ap, subst, ◌∙◌, inl, arith}
 use Rattle.std.specs.Prelude.{All, Some, None, slice_get}
 use Rattle.std.proofs.lemmas.List.{length-replicate}
-use Rattle.std.proofs.lemmas.List.Elements.{All-head, All-tail}
+use Rattle.std.proofs.lemmas.List.Elements.{All-append, All-cons, All-head, All-nil, All-tail}
 use Rattle.control_word.specs.declared.handle.Handle.{Handle}
 use Rattle.control_word.specs.declared.view.Pending.TheVariants.{Idle}
 use Rattle.control_word.specs.declared.view.View.{View}
+use Rattle.control_word.specs.declared.shape.Shape.{Shape}
 use Rattle.step_core.specs.declared.act.Task.{Task}
 use Rattle.step_core.specs.declared.call.Call.{Call}
 use Rattle.step_core.specs.declared.call.Call.TheVariants as call
+use Rattle.step_core.specs.declared.call.CellName.{CellName}
+use Rattle.step_core.specs.declared.call.CellName.TheVariants as cell
 use Rattle.step_core.specs.declared.call.Kind.{Kind}
 use Rattle.step_core.specs.declared.extent.Extent.{Extent}
 use Rattle.step_core.specs.declared.slot.Slot.{Slot}
 use Rattle.step_core.specs.Acts.{acts, clearing, numbered, tasks_from}
-use Rattle.step_core.specs.Courses.{IsReady, Ready, hand}
+use Rattle.step_core.specs.Courses.{HasCell, IsReady, Ready, hand, other}
 use Rattle.step_core.specs.Holdings.{Holds, IsSlot, Slots, full, owns, plain, value}
-use Rattle.step_core.specs.Programs.{Asked, IsDeclared, IsFound, IsPart, IsWellNamed, Part, either, names_of, owner, weak}
+use Rattle.step_core.specs.Programs.{Asked, HasCells, IsDeclared, IsFound, IsIn, IsPart, IsWellNamed, Part, either, names_of, owner, weak}
 use Rattle.step_core.specs.Starts.{HasFields, first_story}
 use Rattle.step_core.specs.Stories.{Nothing, Story, pending}
 use Rattle.step_core.proofs.tables.Start.{fresh_at}
@@ -53,9 +56,9 @@ within [] i (Some k) e = absurd cc
 within (x ∷ xs) zero k e = omega arith
 within (x ∷ xs) (suc i) k e = let r = within xs i k e in omega (arith, r)
 
-clearing_ready : (n k : ℕ) (taken : Bool) → k ≤ n → Ready n taken (clearing k)
-clearing_ready n zero taken le = tt
-clearing_ready n (suc k) taken le = (omega arith, clearing_ready n k taken (omega arith))
+clearing_ready : (n k : ℕ) → k ≤ n → Ready n false (clearing k)
+clearing_ready n zero le = tt
+clearing_ready n (suc k) le = ((omega arith, refl), tt, clearing_ready n k (omega arith))
 
 -- the i-th name of a call
 name_within : (kinds : List Kind) (c : Call) (i : ℕ) (x : Asked) → i < length (names_of c) → x ≡ get_or (names_of c) i x → IsWellNamed kinds c
@@ -64,77 +67,151 @@ name_within kinds c i x lt e named = within kinds x.0.0 x.1 (subst (IsDeclared k
 
 call_ready : (kinds : List Kind) (k : ℕ) (c : Call) (ts : List Task) → IsWellNamed kinds c → HasFields c → Ready (length kinds) false ts
     → Ready (length kinds) false (numbered k (acts c) ++ ts)
-call_ready kinds k (call.Make t f) ts named four r = ((refl, four), (name_within kinds (call.Make t f) 0 (owner t) (omega arith) refl named, r))
-call_ready kinds k (call.Empty t) ts named four r = (name_within kinds (call.Empty t) 0 (owner t) (omega arith) refl named, r)
-call_ready kinds k (call.Reset t) ts named four r = (name_within kinds (call.Reset t) 0 (owner t) (omega arith) refl named, r)
-call_ready kinds k (call.Count t) ts named four r = (name_within kinds (call.Count t) 0 (owner t) (omega arith) refl named, r)
-call_ready kinds k (call.WeakEmpty t) ts named four r = (name_within kinds (call.WeakEmpty t) 0 (weak t) (omega arith) refl named, r)
-call_ready kinds k (call.WeakReset t) ts named four r = (name_within kinds (call.WeakReset t) 0 (weak t) (omega arith) refl named, r)
-call_ready kinds k (call.WeakCount t) ts named four r = (name_within kinds (call.WeakCount t) 0 (weak t) (omega arith) refl named, r)
-call_ready kinds k (call.Expired t) ts named four r = (name_within kinds (call.Expired t) 0 (weak t) (omega arith) refl named, r)
-call_ready kinds k (call.MakeThis t f) ts named four r = ((refl, four), (name_within kinds (call.MakeThis t f) 0 (owner t) (omega arith) refl named, r))
-call_ready kinds k (call.Null t) ts named four r = ((refl, refl), (name_within kinds (call.Null t) 0 (owner t) (omega arith) refl named, r))
+call_ready kinds k (call.Make t f) ts named four r = ((refl, four), tt, (name_within kinds (call.Make t f) 0 (owner t) (omega arith) refl named, tt, r))
+call_ready kinds k (call.Empty t) ts named four r = ((name_within kinds (call.Empty t) 0 (owner t) (omega arith) refl named, refl), tt, r)
+call_ready kinds k (call.Reset t) ts named four r = ((name_within kinds (call.Reset t) 0 (owner t) (omega arith) refl named, refl), tt, r)
+call_ready kinds k (call.Count t) ts named four r = (name_within kinds (call.Count t) 0 (owner t) (omega arith) refl named, tt, r)
+call_ready kinds k (call.WeakEmpty t) ts named four r = ((name_within kinds (call.WeakEmpty t) 0 (weak t) (omega arith) refl named, refl), tt, r)
+call_ready kinds k (call.WeakReset t) ts named four r = ((name_within kinds (call.WeakReset t) 0 (weak t) (omega arith) refl named, refl), tt, r)
+call_ready kinds k (call.WeakCount t) ts named four r = (name_within kinds (call.WeakCount t) 0 (weak t) (omega arith) refl named, tt, r)
+call_ready kinds k (call.Expired t) ts named four r = (name_within kinds (call.Expired t) 0 (weak t) (omega arith) refl named, tt, r)
+call_ready kinds k (call.MakeThis t f) ts named four r = ((refl, four), tt, (name_within kinds (call.MakeThis t f) 0 (owner t) (omega arith) refl named, tt, r))
+call_ready kinds k (call.Null t) ts named four r = ((refl, refl), tt, (name_within kinds (call.Null t) 0 (owner t) (omega arith) refl named, tt, r))
 call_ready kinds k (call.Move t s) ts named four r = (
   (name_within kinds (call.Move t s) 1 (owner s) (omega arith) refl named, refl),
-  (name_within kinds (call.Move t s) 0 (owner t) (omega arith) refl named, r),
+  tt,
+  (name_within kinds (call.Move t s) 0 (owner t) (omega arith) refl named, tt, r),
 )
 call_ready kinds k (call.Alias t s o f) ts named four r = (
   (name_within kinds (call.Alias t s o f) 1 (owner s) (omega arith) refl named, name_within kinds (call.Alias t s o f) 2 (owner o) (omega arith) refl named, refl),
-  (name_within kinds (call.Alias t s o f) 0 (owner t) (omega arith) refl named, r),
+  tt,
+  (name_within kinds (call.Alias t s o f) 0 (owner t) (omega arith) refl named, tt, r),
 )
 call_ready kinds k (call.AliasNull t s) ts named four r = (
   (name_within kinds (call.AliasNull t s) 1 (owner s) (omega arith) refl named, name_within kinds (call.AliasNull t s) 1 (owner s) (omega arith) refl named, refl),
-  (name_within kinds (call.AliasNull t s) 0 (owner t) (omega arith) refl named, r),
+  tt,
+  (name_within kinds (call.AliasNull t s) 0 (owner t) (omega arith) refl named, tt, r),
 )
 call_ready kinds k (call.This t s) ts named four r = (
   (name_within kinds (call.This t s) 1 (owner s) (omega arith) refl named, refl),
-  (name_within kinds (call.This t s) 0 (owner t) (omega arith) refl named, r),
+  tt,
+  (name_within kinds (call.This t s) 0 (owner t) (omega arith) refl named, tt, r),
 )
 call_ready kinds k (call.WeakThis t s) ts named four r = (
   (name_within kinds (call.WeakThis t s) 1 (owner s) (omega arith) refl named, refl),
-  (name_within kinds (call.WeakThis t s) 0 (weak t) (omega arith) refl named, r),
+  tt,
+  (name_within kinds (call.WeakThis t s) 0 (weak t) (omega arith) refl named, tt, r),
 )
-call_ready kinds k (call.Read t) ts named four r = (name_within kinds (call.Read t) 0 (owner t) (omega arith) refl named, r)
-call_ready kinds k (call.Place t) ts named four r = (name_within kinds (call.Place t) 0 (owner t) (omega arith) refl named, r)
-call_ready kinds k (call.Same t s) ts named four r = ((name_within kinds (call.Same t s) 0 (owner t) (omega arith) refl named, name_within kinds (call.Same t s) 1 (owner s) (omega arith) refl named), r)
-call_ready kinds k (call.Before t s) ts named four r = ((name_within kinds (call.Before t s) 0 (either t) (omega arith) refl named, name_within kinds (call.Before t s) 1 (either s) (omega arith) refl named), r)
+call_ready kinds k (call.Read t) ts named four r = (name_within kinds (call.Read t) 0 (owner t) (omega arith) refl named, tt, r)
+call_ready kinds k (call.Place t) ts named four r = (name_within kinds (call.Place t) 0 (owner t) (omega arith) refl named, tt, r)
+call_ready kinds k (call.Same t s) ts named four r = ((name_within kinds (call.Same t s) 0 (owner t) (omega arith) refl named, name_within kinds (call.Same t s) 1 (owner s) (omega arith) refl named), tt, r)
+call_ready kinds k (call.Before t s) ts named four r = ((name_within kinds (call.Before t s) 0 (either t) (omega arith) refl named, name_within kinds (call.Before t s) 1 (either s) (omega arith) refl named), tt, r)
 call_ready kinds k (call.Copy t s) ts named four r = (
   (name_within kinds (call.Copy t s) 1 (owner s) (omega arith) refl named, refl),
-  (name_within kinds (call.Copy t s) 0 (owner t) (omega arith) refl named, r),
+  tt,
+  (name_within kinds (call.Copy t s) 0 (owner t) (omega arith) refl named, tt, r),
 )
 call_ready kinds k (call.Weak t s) ts named four r = (
   (name_within kinds (call.Weak t s) 1 (owner s) (omega arith) refl named, refl),
-  (name_within kinds (call.Weak t s) 0 (weak t) (omega arith) refl named, r),
+  tt,
+  (name_within kinds (call.Weak t s) 0 (weak t) (omega arith) refl named, tt, r),
 )
 call_ready kinds k (call.WeakCopy t s) ts named four r = (
   (name_within kinds (call.WeakCopy t s) 1 (weak s) (omega arith) refl named, refl),
-  (name_within kinds (call.WeakCopy t s) 0 (weak t) (omega arith) refl named, r),
+  tt,
+  (name_within kinds (call.WeakCopy t s) 0 (weak t) (omega arith) refl named, tt, r),
 )
 call_ready kinds k (call.Lock t s) ts named four r = (
   (name_within kinds (call.Lock t s) 1 (weak s) (omega arith) refl named, refl),
-  (name_within kinds (call.Lock t s) 0 (owner t) (omega arith) refl named, r),
+  tt,
+  (name_within kinds (call.Lock t s) 0 (owner t) (omega arith) refl named, tt, r),
 )
 call_ready kinds k (call.Upgrade t s) ts named four r = (
   (name_within kinds (call.Upgrade t s) 1 (weak s) (omega arith) refl named, refl),
-  (name_within kinds (call.Upgrade t s) 0 (owner t) (omega arith) refl named, r),
+  tt,
+  (name_within kinds (call.Upgrade t s) 0 (owner t) (omega arith) refl named, tt, r),
 )
+call_ready kinds k (call.Store (cell.Shared n) t) ts named four r =
+    ((name_within kinds (call.Store (cell.Shared n) t) 0 (owner t) (omega arith) refl named, refl), tt, (tt, refl, (refl, tt, r)))
+call_ready kinds k (call.Store (cell.Weak n) t) ts named four r =
+    ((name_within kinds (call.Store (cell.Weak n) t) 0 (weak t) (omega arith) refl named, refl), tt, (tt, refl, (refl, tt, r)))
+call_ready kinds k (call.Exchange (cell.Shared n) t) ts named four r =
+    ((name_within kinds (call.Exchange (cell.Shared n) t) 0 (owner t) (omega arith) refl named, refl), tt, r)
+call_ready kinds k (call.Exchange (cell.Weak n) t) ts named four r =
+    ((name_within kinds (call.Exchange (cell.Weak n) t) 0 (weak t) (omega arith) refl named, refl), tt, r)
 
 tasks_ready : (kinds : List Kind) (k : ℕ) (calls : List Call) → All (IsWellNamed kinds) calls → All HasFields calls
     → Ready (length kinds) false (tasks_from k calls (length kinds))
-tasks_ready kinds k [] named four = clearing_ready (length kinds) (length kinds) false (omega arith)
+tasks_ready kinds k [] named four = clearing_ready (length kinds) (length kinds) (omega arith)
 tasks_ready kinds k (c ∷ cs) named four =
     call_ready kinds k c (tasks_from (k + 1) cs (length kinds)) (All-head (IsWellNamed kinds) c cs named) (All-head HasFields c cs four)
     (tasks_ready kinds (k + 1) cs (All-tail (IsWellNamed kinds) c cs named) (All-tail HasFields c cs four))
 
 pub ready_start : (part : Part) (tasks : List Task) (slots : Slots) → IsPart part → All HasFields part.calls
-    → tasks ≡ tasks_from 1 part.calls (length part.kinds) → slots ≡ replicate (length part.kinds + 1) plain → IsReady slots false tasks
+    → tasks ≡ tasks_from 1 part.calls (length part.kinds) → slots ≡ replicate (length part.kinds + 2) plain → IsReady slots false tasks
 ready_start part tasks slots fine four is empty =
-    let l = length-replicate {A = Slot} (length part.kinds + 1) plain in
-    let s : length slots ≡ length part.kinds + 1 = ap (λ (z : Slots). length z) empty ∙ l in
-    let h : hand slots ≡ length part.kinds = omega (arith, s) in
+    let l = length-replicate {A = Slot} (length part.kinds + 2) plain in
+    let s : length slots ≡ length part.kinds + 2 = ap (λ (z : Slots). length z) empty ∙ l in
+    let h : other slots ≡ length part.kinds = omega (arith, s) in
     record {
       some = omega (arith, s);
-      free = λ t. ap (λ (z : Slots). value z (hand slots)) empty ∙ slot_none (length part.kinds + 1) (hand slots);
+      free = λ t. ap (λ (z : Slots). value z (hand slots)) empty ∙ slot_none (length part.kinds + 2) (hand slots);
+      owes = inl (ap (λ (z : Slots). value z (other slots)) empty ∙ slot_none (length part.kinds + 2) (other slots));
       ready = subst (λ (n : ℕ). Ready n false tasks) (sym h) (subst (λ (z : List Task). Ready (length part.kinds) false z) (sym is)
           (tasks_ready part.kinds 1 part.calls fine.named four));
     }
+
+-- the shape has the cell of a task's act
+abbrev HasTask : Shape → Task → Type 0
+HasTask z t = HasCell z t.act
+
+-- the shape has the cells of all tasks of calls whose cells it has
+clearing_cells : (z : Shape) (n : ℕ) → All (HasTask z) (clearing n)
+clearing_cells z zero = All-nil (HasTask z)
+clearing_cells z (suc n) = All-cons (HasTask z) _ (clearing n) tt (clearing_cells z n)
+
+one : (z : Shape) (t : Task) → HasCell z t.act → All (HasTask z) (t ∷ [])
+one z t h = All-cons (HasTask z) t [] h (All-nil (HasTask z))
+
+two : (z : Shape) (t u : Task) → HasCell z t.act → HasCell z u.act → All (HasTask z) (t ∷ u ∷ [])
+two z t u h i = All-cons (HasTask z) t (u ∷ []) h (one z u i)
+
+three : (z : Shape) (t u w : Task) → HasCell z t.act → HasCell z u.act → HasCell z w.act → All (HasTask z) (t ∷ u ∷ w ∷ [])
+three z t u w h i j = All-cons (HasTask z) t (u ∷ w ∷ []) h (two z u w i j)
+
+first_cell : (z : Shape) (c : CellName) → All (IsIn z) (c ∷ []) → IsIn z c
+first_cell z c h = All-head (IsIn z) c [] h
+
+call_cells : (z : Shape) (k : ℕ) (c : Call) → HasCells z c → All (HasTask z) (numbered k (acts c))
+call_cells z k (call.Make t f) h = two z _ _ tt tt
+call_cells z k (call.MakeThis t f) h = two z _ _ tt tt
+call_cells z k (call.Null t) h = two z _ _ tt tt
+call_cells z k (call.Empty t) h = one z _ tt
+call_cells z k (call.Reset t) h = one z _ tt
+call_cells z k (call.Copy t s) h = two z _ _ tt tt
+call_cells z k (call.Move t s) h = two z _ _ tt tt
+call_cells z k (call.Alias t s o f) h = two z _ _ tt tt
+call_cells z k (call.AliasNull t s) h = two z _ _ tt tt
+call_cells z k (call.Count t) h = one z _ tt
+call_cells z k (call.Weak t s) h = two z _ _ tt tt
+call_cells z k (call.WeakCopy t s) h = two z _ _ tt tt
+call_cells z k (call.WeakEmpty t) h = one z _ tt
+call_cells z k (call.WeakReset t) h = one z _ tt
+call_cells z k (call.Lock t s) h = two z _ _ tt tt
+call_cells z k (call.Upgrade t s) h = two z _ _ tt tt
+call_cells z k (call.WeakCount t) h = one z _ tt
+call_cells z k (call.Expired t) h = one z _ tt
+call_cells z k (call.This t s) h = two z _ _ tt tt
+call_cells z k (call.WeakThis t s) h = two z _ _ tt tt
+call_cells z k (call.Read t) h = one z _ tt
+call_cells z k (call.Place t) h = one z _ tt
+call_cells z k (call.Same t s) h = one z _ tt
+call_cells z k (call.Before t s) h = one z _ tt
+call_cells z k (call.Store c t) h = three z _ _ _ (first_cell z c h) (first_cell z c h) tt
+call_cells z k (call.Exchange c t) h = one z _ (first_cell z c h)
+
+pub tasks_cells : (z : Shape) (k n : ℕ) (calls : List Call) → All (HasCells z) calls → All (HasTask z) (tasks_from k calls n)
+tasks_cells z k n [] h = clearing_cells z n
+tasks_cells z k n (c ∷ cs) h =
+    All-append (HasTask z) (numbered k (acts c)) (tasks_from (k + 1) cs n) (call_cells z k c (All-head (HasCells z) c cs h))
+    (tasks_cells z (k + 1) n cs (All-tail (HasCells z) c cs h))

@@ -1,15 +1,17 @@
 -- What statements do, act by act. All of it is own.
-use Rattle.std.specs.Prelude.{ℕ, zero, suc, ◌+◌, true, false, List, [], ◌∷◌, ◌++◌, Option, Some, None}
+use Rattle.std.specs.Prelude.{ℕ, zero, suc, ◌+◌, true, false, List, [], ◌∷◌, ◌++◌, Some, None}
 use Rattle.control_word.specs.declared.handle.Kind.TheVariants as handle
 use Rattle.step_core.specs.declared.act.Act.{Act}
 use Rattle.step_core.specs.declared.act.Act.TheVariants as act
 use Rattle.step_core.specs.declared.act.Question.TheVariants as question
+use Rattle.step_core.specs.declared.act.Tail.{Tail}
+use Rattle.step_core.specs.declared.act.Tail.TheVariants.{Nothing, Named, Into}
 use Rattle.step_core.specs.declared.act.Task.{Task}
 use Rattle.step_core.specs.declared.call.Call.{Call}
 use Rattle.step_core.specs.declared.call.Name.{Name}
 use Rattle.step_core.specs.declared.call.Call.TheVariants.{Make, Empty, Reset, Copy, Count}
 use Rattle.step_core.specs.declared.call.Call.TheVariants.{MakeThis, Null, Move, Alias, AliasNull, This, WeakThis, Read, Place, Same, Before}
-use Rattle.step_core.specs.declared.call.Call.TheVariants.{Weak, WeakCopy, WeakEmpty, WeakReset, Lock, Upgrade, WeakCount, Expired}
+use Rattle.step_core.specs.declared.call.Call.TheVariants.{Store, Exchange, Weak, WeakCopy, WeakEmpty, WeakReset, Lock, Upgrade, WeakCount, Expired}
 
 -- the acts of a statement, in order
 abbrev pub acts : Call → List Act
@@ -37,11 +39,14 @@ acts (Read name) = act.Read name.0 ∷ []
 acts (Place name) = act.Ask (question.Place name.0) ∷ []
 acts (Same first second) = act.Ask (question.Same first.0 second.0) ∷ []
 acts (Before first second) = act.Ask (question.Before first.0 second.0) ∷ []
+acts (Store cell source) = act.Offer source.0 cell ∷ act.Swap cell ∷ act.Drop ∷ []
+acts (Exchange cell name) = act.Exchange name.0 cell ∷ []
 
--- what was taken goes to its name
-abbrev pub puts : Option Name → List Act
-puts None = []
-puts (Some name) = act.Put name.0 ∷ []
+-- how a call goes on after its first act: what was taken goes to its name or into a cell, where there is one
+abbrev pub tail : Tail → List Act
+tail Nothing = []
+tail (Named name) = act.Put name.0 ∷ []
+tail (Into cell) = act.Swap cell ∷ act.Drop ∷ []
 
 abbrev pub numbered : ℕ → List Act → List Task
 numbered k [] = []

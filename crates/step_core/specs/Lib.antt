@@ -3,6 +3,8 @@ pub mod Bounds
 pub mod Acts
 pub mod Courses
 pub mod Deeds
+pub mod Endings
+pub mod Entries
 pub mod Headline
 pub mod Holdings
 pub mod Openings
@@ -20,3 +22,5 @@ pub mod Starts
 pub mod Told
 pub mod CellDeeds
 pub mod Cells
+pub mod Contents
+pub mod Refills

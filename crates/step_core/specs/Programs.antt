@@ -1,11 +1,14 @@
 -- Programs, without where they lie in memory.
-use Rattle.std.specs.Prelude.{◌≡◌, ℕ, ◌≤◌, List, [], ◌∷◌, Option, Some, None, All, IsTrue, is_some, length, map, sum_by, slice_get}
+use Rattle.std.specs.Prelude.{◌≡◌, ℕ, ◌<◌, ◌≤◌, List, [], ◌∷◌, Option, Some, None, All, IsTrue, is_some, length, map, sum_by, slice_get}
+use Rattle.control_word.specs.declared.shape.Shape.{Shape}
 use Rattle.step_core.specs.declared.call.Actor.{Actor}
 use Rattle.step_core.specs.declared.call.Call.{Call}
 use Rattle.step_core.specs.declared.call.Call.TheVariants.{Make, Empty, Reset, Copy, Count}
 use Rattle.step_core.specs.declared.call.Call.TheVariants.{MakeThis, Null, Move, Alias, AliasNull, This, WeakThis, Read, Place, Same, Before}
-use Rattle.step_core.specs.declared.call.Call.TheVariants.{WeakCopy, WeakEmpty, WeakReset, Lock, Upgrade, WeakCount, Expired}
+use Rattle.step_core.specs.declared.call.Call.TheVariants.{Store, Exchange, WeakCopy, WeakEmpty, WeakReset, Lock, Upgrade, WeakCount, Expired}
 use Rattle.step_core.specs.declared.call.Call.TheVariants as call
+use Rattle.step_core.specs.declared.call.CellName.{CellName}
+use Rattle.step_core.specs.declared.call.CellName.TheVariants as cell
 use Rattle.step_core.specs.declared.call.Field.{Field}
 use Rattle.step_core.specs.declared.call.Field.TheVariants.{Zero, One, Two, Three}
 use Rattle.step_core.specs.declared.call.Kind.{Kind}
@@ -45,6 +48,11 @@ weak name = (name, Some kind.Weak)
 abbrev pub either : Name → Asked
 either name = (name, None)
 
+-- a name of the kind of what a cell holds
+abbrev pub as_in : CellName → Name → Asked
+as_in (cell.Shared n) name = owner name
+as_in (cell.Weak n) name = weak name
+
 -- the names of a call
 abbrev pub names_of : Call → List Asked
 names_of (Make target fields) = owner target ∷ []
@@ -71,6 +79,26 @@ names_of (Read name) = owner name ∷ []
 names_of (Place name) = owner name ∷ []
 names_of (Same first second) = owner first ∷ owner second ∷ []
 names_of (Before first second) = either first ∷ either second ∷ []
+names_of (Store cell source) = as_in cell source ∷ []
+names_of (Exchange cell name) = as_in cell name ∷ []
+
+-- the cells of a call
+abbrev pub cells_of : Call → List CellName
+cells_of (Store cell source) = cell ∷ []
+cells_of (Exchange cell name) = cell ∷ []
+cells_of _ = []
+
+-- a shape has the cell
+abbrev pub IsIn : Shape → CellName → Type 0
+IsIn shape (cell.Shared n) = n < shape.shared_cells
+IsIn shape (cell.Weak n) = n < shape.weak_cells
+
+-- it has each cell of a call, and of a part's calls
+abbrev pub HasCells : Shape → Call → Type 0
+HasCells shape call = All (IsIn shape) (cells_of call)
+
+abbrev pub AllHaveCells : Shape → Part → Type 0
+AllHaveCells shape part = All (HasCells shape) part.calls
 
 abbrev pub listed : Option Asked → List Asked
 listed None = []

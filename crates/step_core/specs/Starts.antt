@@ -11,26 +11,28 @@ use Rattle.step_core.specs.declared.half.Half.TheVariants.{Rest}
 use Rattle.step_core.specs.Acts.{tasks_from}
 use Rattle.step_core.specs.Courses.{Walk, settled}
 use Rattle.step_core.specs.Holdings.{Slots, plain}
-use Rattle.step_core.specs.Programs.{IsProgram, Part}
+use Rattle.step_core.specs.Programs.{AllHaveCells, IsProgram, Part}
 use Rattle.step_core.specs.Worlds.{Sight}
 use Rattle.step_core.specs.Stories.{Story}
 
--- a world of this shape may run the program: both are within the limits, with 40 handles or more for each actor
+-- a world of this shape may run the program: both are within the limits, with 40 handles or more for each actor, and the shape
+-- has the cells of all calls
 pub record CanBegin (shape : Shape) (parts : List Part) : Type 0 where
   pub limits : IsWithinLimits shape
   pub program : IsProgram parts
   pub enough : 40 * length parts ≤ shape.allowance
+  pub cells : All (AllHaveCells shape) parts
 
 abbrev pub extent_of : Shape → List Part → Extent
 extent_of shape parts = record { shape = shape; actors = length parts }
 
--- n names and the hand, all empty
+-- n names, what is to be dropped and the hand, all empty
 abbrev pub no_slots : ℕ → Slots
-no_slots n = replicate (n + 1) plain
+no_slots n = replicate (n + 2) plain
 
 -- a thread that holds nothing, at the first act of its calls
 abbrev pub first_walk : Part → Walk
-first_walk part = settled (no_slots (length part.kinds)) false (tasks_from 1 part.calls (length part.kinds))
+first_walk part = settled (no_slots (length part.kinds)) false [] (tasks_from 1 part.calls (length part.kinds))
 
 -- all words are 0, and nothing has happened
 abbrev pub first_story : Extent → Story

@@ -1,15 +1,18 @@
 -- What one step of a thread does, by what it has begun and by its next act. All of it is own.
-use Rattle.std.specs.Prelude.{ℕ, ◌+◌, ◌==◌, Bool, true, false, cond, List, [], ◌∷◌, get_or, is_some, Option, Some, None, option_map}
+use Rattle.std.specs.Prelude.{ℕ, ◌+◌, ◌-◌, ◌==◌, Bool, true, false, cond, List, [], ◌∷◌, get_or, is_some, Option, Some, None, option_map}
+use Rattle.control_word.specs.declared.cell.CellWord.{CellWord}
 use Rattle.control_word.specs.declared.place.Block.{Block}
 use Rattle.control_word.specs.State.{State, weak}
 use Rattle.control_word.specs.declared.handle.Kind.{Kind}
-use Rattle.control_word.specs.declared.handle.Kind.TheVariants.{Owner, Weak}
 use Rattle.step_core.specs.declared.act.Act.{Act}
 use Rattle.step_core.specs.declared.act.Form.{Form}
-use Rattle.step_core.specs.declared.act.Act.TheVariants.{Make, Share, Downgrade, Lock, Put, Leave, Clear, Count, Expired, Read, FromThis, Alias, Move, Ask}
+use Rattle.step_core.specs.declared.act.Act.TheVariants.{Make, Share, Downgrade, Lock, Put, Leave, Clear, Count, Expired, Read, FromThis, Alias, Move, Ask, Offer, Swap, Exchange, Drop}
 use Rattle.step_core.specs.declared.act.Task.{Task}
+use Rattle.step_core.specs.declared.call.CellName.{CellName}
+use Rattle.step_core.specs.declared.cell_deed.CellDeed.TheVariants as cell_deed
+use Rattle.step_core.specs.declared.ending.Ending.{Ending}
 use Rattle.step_core.specs.declared.half.Half.{Half}
-use Rattle.step_core.specs.declared.half.Half.TheVariants.{Rest, Making, Ending, Locking, Giving}
+use Rattle.step_core.specs.declared.half.Half.TheVariants.{Rest, Making, Locking, Giving, Brought, Returning}
 use Rattle.step_core.specs.declared.holdings.Pointer.{Pointer}
 use Rattle.step_core.specs.declared.past.Deed.{Deed}
 use Rattle.step_core.specs.declared.past.Deed.TheVariants as deed
@@ -17,10 +20,13 @@ use Rattle.step_core.specs.declared.said.Said.{Said}
 use Rattle.step_core.specs.declared.said.Stepped.{Stepped}
 use Rattle.step_core.specs.declared.said.Stepped.TheVariants.{Event, Quiet, Done}
 use Rattle.step_core.specs.Actors.{wanted}
-use Rattle.step_core.specs.Courses.{Walk, form_of, locked, settled}
-use Rattle.step_core.specs.Deeds.{downgrade, give, is_enabled, is_last, leave, lock, owner_word, read, share, tell, tell_expired, alias, aliased}
-use Rattle.step_core.specs.Holdings.{inside, slot, owner_slot, place_in}
-use Rattle.step_core.specs.Scenes.{answer_of, ended_of, full_answer, holding, least, on, went}
+use Rattle.step_core.specs.Courses.{Going, Walk, cell_at, form_of, going, hand, kind_at, locked, offered, on_going, other, settled}
+use Rattle.step_core.specs.Contents.{as_word, seen}
+use Rattle.step_core.specs.Deeds.{downgrade, give, is_enabled, leave, lock, owner_word, read, share, tell, tell_expired, alias, aliased}
+use Rattle.step_core.specs.Endings.{staged}
+use Rattle.step_core.specs.Holdings.{inside, is_full, slot, owner_slot, place_in, value}
+use Rattle.step_core.specs.Entries.{least, on}
+use Rattle.step_core.specs.Scenes.{answer_of, ended_of, full_answer, holding, went}
 use Rattle.step_core.specs.Stories.{Story, after, event_of, known, object_in, pending, state}
 
 -- what a step does to the table, if anything; what the thread has begun and not ended after it; where it is then; what it says
@@ -33,28 +39,20 @@ pub record Step : Type 0 where
 abbrev pub silent : ℕ → Said
 silent k = record { statement = k; answer = None; ended = None }
 
--- where the last owner leaves, the end of the object begins; its steps are of statement k
-abbrev pub end_as : Kind → ℕ → Block → Half
-end_as Owner k b = Ending b 0 k
-end_as Weak k b = Rest
-
-abbrev pub end_of : State → ℕ → Pointer → Half
-end_of s k x = cond (is_last s x) (end_as x.kind k x.block) Rest
-
 -- an act of statement k on what a slot holds
 abbrev pub acts : State → ℕ → Walk → ℕ → List Task → Act → Option Deed → Half → Step
 acts s d w k ts a x h =
     record {
       deed = x;
       half = h;
-      walk = went s d w.slots w.taken ts a;
+      walk = went s d w k ts a;
       said = record { statement = k; answer = answer_of s d w.slots a; ended = ended_of s w.slots a };
     }
 
 -- a make begins in the least block of the store; it is refused where there is none
 abbrev pub begins : Walk → ℕ → List Task → Option ℕ → Step
 begins w k ts None =
-    record { deed = None; half = Rest; walk = settled w.slots false ts; said = record { statement = k; answer = full_answer None; ended = None } }
+    record { deed = None; half = Rest; walk = settled w.slots false w.endings ts; said = record { statement = k; answer = full_answer None; ended = None } }
 begins w k ts (Some b) =
     let block : Block = record { 0 = b } in record { deed = Some (deed.Prepare block); half = Making block 0 false; walk = w; said = silent k }
 
@@ -76,13 +74,33 @@ asks v d w k ts i kind x =
     cond (is_enabled (state v) x) (record { deed = None; half = Giving i kind x; walk = w; said = silent k })
     (acts (state v) d w k ts (FromThis i kind) None Rest)
 
+-- a pointer's funds are brought for a cell, and the swap is next
+abbrev pub brings : Walk → ℕ → Pointer → Step
+brings w k x = record { deed = Some (deed.OnCell (cell_deed.Bring x.kind x.block x.place 256)); half = Brought; walk = w; said = silent k }
+
+-- of what came out of a cell the funds that were not taken are given back, where it has an object
+abbrev pub gives_back : Kind → ℕ → CellWord → Option Block → Half
+gives_back kind k x None = Rest
+gives_back kind k x (Some b) = Returning kind b (256 - x.taken) k
+
+-- a slot's value goes into a cell, and what that held comes out
+abbrev pub swaps : Story → ℕ → Walk → ℕ → List Task → Act → CellName → ℕ → Step
+swaps v d w k ts a c i =
+    let x = cell_at (state v) c in
+    let found = seen v x in
+    acts (state v) d w k ts a (Some (deed.OnCell (cell_deed.Swap x (as_word (value w.slots i)) found))) (gives_back (kind_at c) k found found.owned)
+
+-- where the value has an object its funds are brought first
+abbrev pub sends : Story → ℕ → Walk → ℕ → List Task → Act → CellName → ℕ → Step
+sends v d w k ts a c i = on (brings w k) (swaps v d w k ts a c i) (slot w.slots i)
+
 -- the first step of the next act, or the whole of it
 abbrev pub first : Story → ℕ → Walk → ℕ → List Task → Act → Step
 first v d w k ts (Make form) = begins w k ts (least d (state v).stores)
 first v d w k ts (Share i) = acts (state v) d w k ts (Share i) (option_map share (slot w.slots i)) Rest
-first v d w k ts (Put i) = acts (state v) d w k ts (Put i) (option_map (leave (state v)) (slot w.slots i)) (on (end_of (state v) k) Rest (slot w.slots i))
-first v d w k ts (Leave i) = acts (state v) d w k ts (Leave i) (option_map (leave (state v)) (slot w.slots i)) (on (end_of (state v) k) Rest (slot w.slots i))
-first v d w k ts (Clear i) = acts (state v) d w k ts (Clear i) (option_map (leave (state v)) (slot w.slots i)) (on (end_of (state v) k) Rest (slot w.slots i))
+first v d w k ts (Put i) = acts (state v) d w k ts (Put i) (option_map (leave (state v)) (slot w.slots i)) Rest
+first v d w k ts (Leave i) = acts (state v) d w k ts (Leave i) (option_map (leave (state v)) (slot w.slots i)) Rest
+first v d w k ts (Clear i) = acts (state v) d w k ts (Clear i) (option_map (leave (state v)) (slot w.slots i)) Rest
 first v d w k ts (Count i) = acts (state v) d w k ts (Count i) (option_map (tell (state v)) (slot w.slots i)) Rest
 first v d w k ts (Downgrade i) = acts (state v) d w k ts (Downgrade i) (option_map downgrade (slot w.slots i)) Rest
 first v d w k ts (Lock i must) = let a = Lock i must in on (looks v d w k ts a) (acts (state v) d w k ts a None Rest) (locked w.slots a)
@@ -93,6 +111,10 @@ first v d w k ts (Alias i j field) =
     acts (state v) d w k ts (Alias i j field) (option_map (alias (aliased field (place_in w.slots j))) (owner_slot (slot w.slots i))) Rest
 first v d w k ts (Move i) = acts (state v) d w k ts (Move i) None Rest
 first v d w k ts (Ask q) = acts (state v) d w k ts (Ask q) None Rest
+first v d w k ts (Offer i c) = acts (state v) d w k ts (Offer i c) (option_map share (offered w.slots i c)) Rest
+first v d w k ts (Swap c) = let a = Swap c in on_going (sends v d w k ts a) (acts (state v) d w k ts a None Rest) (going w.slots a)
+first v d w k ts (Exchange i c) = let a = Exchange i c in on_going (sends v d w k ts a) (acts (state v) d w k ts a None Rest) (going w.slots a)
+first v d w k ts Drop = acts (state v) d w k ts Drop (option_map (leave (state v)) (slot w.slots (other w.slots))) Rest
 
 abbrev pub begun : Story → ℕ → Walk → List Task → Option Step
 begun v d w [] = None
@@ -107,6 +129,15 @@ abbrev pub given : Story → ℕ → Walk → ℕ → Kind → Pointer → List 
 given v d w i kind x [] = None
 given v d w i kind x (t ∷ ts) = Some (acts (state v) d w t.statement ts (FromThis i kind) (Some (give kind x)) Rest)
 
+-- the funds are brought: the swap
+abbrev pub sent : Story → ℕ → Walk → List Task → Option Step
+sent v d w [] = None
+sent v d w (t ∷ ts) = option_map (λ (x : Going). swaps v d w t.statement ts t.act x.0 x.1) (going w.slots t.act)
+
+-- funds are given back
+abbrev pub returns : Walk → Kind → Block → ℕ → ℕ → Step
+returns w kind b funds k = record { deed = Some (deed.OnCell (cell_deed.GiveBack kind b funds)); half = Rest; walk = w; said = silent k }
+
 -- a make looks at a word of its block, and passes on where it is as wanted; a word that differs is written
 abbrev pub prepares : ℕ → ℕ → Walk → ℕ → Block → ℕ → Bool → Step
 prepares found want w k b i true = record { deed = Some (deed.Write b i want); half = Making b (i + 1) false; walk = w; said = silent k }
@@ -116,7 +147,8 @@ prepares found want w k b i false =
 -- the object is made: its owner comes into the hand
 abbrev pub claims : Walk → ℕ → List Task → Block → Form → Step
 claims w k ts b form =
-    record { deed = Some (deed.Claim b form.enabled form.null form.fields); half = Rest; walk = holding w.slots ts form.null (Some b.0); said = silent k }
+    let x = holding w.slots form.null (Some b.0) in
+    record { deed = Some (deed.Claim b form.enabled form.null form.fields); half = Rest; walk = settled x.0 x.1 w.endings ts; said = silent k }
 
 abbrev pub made_on : Story → ℕ → Walk → Block → ℕ → Bool → List Task → Option Step
 made_on v d w b i differs [] = None
@@ -124,19 +156,30 @@ made_on v d w b i differs (t ∷ ts) =
     Some (cond (i == 5) (claims w t.statement ts b (form_of t.act))
     (prepares (get_or (known (pending v d)) i 0) (get_or (wanted (form_of t.act)) i 0) w t.statement b i differs))
 
+abbrev pub with_endings : Walk → List Ending → Walk
+with_endings w es = record { slots = w.slots; taken = w.taken; endings = es; todo = w.todo }
+
 -- an object ends: its members are cleared in order, and then it is finished
-abbrev pub ends_on : Story → Walk → Block → ℕ → ℕ → Step
-ends_on v w b stage k =
-    cond (stage == 3) (record { deed = Some (deed.Finish b (weak (state v) (object_in v b) == 0)); half = Rest; walk = w; said = silent k })
-    (record { deed = Some (deed.Clear b stage); half = Ending b (stage + 1) k; walk = w; said = silent k })
+abbrev pub ends_on : Story → Walk → Ending → List Ending → Step
+ends_on v w e es =
+    cond (e.stage == 3)
+    (record { deed = Some (deed.Finish e.block (weak (state v) (object_in v e.block) == 0)); half = Rest; walk = with_endings w es; said = silent e.statement })
+    (record { deed = Some (deed.Clear e.block e.stage); half = Rest; walk = with_endings w (staged e ∷ es); said = silent e.statement })
+
+-- within no act: what came out of a member leaves, or else the ending begun last goes on; without endings the next task comes
+abbrev pub at_rest : Story → ℕ → Walk → List Ending → Option Step
+at_rest v d w [] = begun v d w w.todo
+at_rest v d w (e ∷ es) =
+    Some (cond (is_full (slot w.slots (hand w.slots))) (first v d w e.statement w.todo (Leave (hand w.slots))) (ends_on v w e es))
 
 -- the step of desk d's thread that has begun this and is here; none at its end
 abbrev pub step_at : Story → ℕ → Half → Walk → Option Step
-step_at v d Rest w = begun v d w w.todo
+step_at v d Rest w = at_rest v d w w.endings
 step_at v d (Making b i differs) w = made_on v d w b i differs w.todo
-step_at v d (Ending b stage k) w = Some (ends_on v w b stage k)
 step_at v d (Locking word) w = tried v d w word w.todo
 step_at v d (Giving i kind x) w = given v d w i kind x w.todo
+step_at v d Brought w = sent v d w w.todo
+step_at v d (Returning kind b funds k) w = Some (returns w kind b funds k)
 
 -- what it makes of the table
 abbrev pub story_after : Story → ℕ → Option Deed → Story

@@ -16,6 +16,9 @@ use Rattle.control_word.specs.Layout.{spot}
 use Rattle.control_word.specs.State.{State, kind_of_member}
 use Rattle.control_word.specs.Steps.{known_of}
 use Rattle.control_word.specs.Views.{Stands, sees_as, used_up}
+use Rattle.step_core.specs.declared.cell_deed.Cell.TheVariants.{Free}
+use Rattle.step_core.specs.declared.cell_deed.CellDeed.{CellDeed}
+use Rattle.step_core.specs.declared.cell_deed.CellDeed.TheVariants as cell_deed
 use Rattle.step_core.specs.declared.extent.Extent.{Extent}
 use Rattle.step_core.specs.declared.past.Deed.{Deed}
 use Rattle.step_core.specs.declared.past.Deed.TheVariants.{Prepare, Write, Claim, Share, WeakShare, Leave, WeakLeave, Lock, Count, Expired, Read, Clear, Finish, OnCell}
@@ -151,18 +154,25 @@ pub record Kept (v : Story) : Type 0 where
 abbrev pub AllBare : State → Type 0
 AllBare s = (o m : ℕ) → (s.object o).member m ≡ empty (kind_of_member m)
 
--- what a desk has half done takes nothing from any count
+-- what a desk has half done takes nothing from any count: it loads nothing
 abbrev pub IsCalm : Pending Nothing → Type 0
 IsCalm Idle = Unit {0}
 IsCalm (Making b l) = Unit {0}
+IsCalm (Paying k o p word funds loads) = loads ≡ 0
 IsCalm _ = ⊥
 
--- nothing was done to a cell: no member was filled, and no count lags behind
+-- no member was filled, and no count lags behind
 pub record Plain (v : Story) : Type 0 where
   pub bare : AllBare (state v)
   pub calm : (d : ℕ) → IsCalm (pending v d)
 
--- a deed that does nothing to a cell
+-- a step that loads nothing and fills no member: funds that are brought or given back, and swaps of free cells
+abbrev pub IsPlainOn : CellDeed → Type 0
+IsPlainOn (cell_deed.Bring k b p f) = Unit {0}
+IsPlainOn (cell_deed.GiveBack k b f) = Unit {0}
+IsPlainOn (cell_deed.Swap (Free n) new x) = Unit {0}
+IsPlainOn _ = ⊥
+
 abbrev pub IsPlain : Deed → Type 0
-IsPlain (OnCell x) = ⊥
+IsPlain (OnCell x) = IsPlainOn x
 IsPlain _ = Unit {0}

@@ -1,8 +1,8 @@
 //! The primitive acts that statements are made of.
 ghost use Rattle.std.specs.Prelude.{◌≡◌, ◌<◌, ◌^◌, ◌++◌, ◌∷◌, length, IfOk, OnOk};
-ghost use Rattle.step_core.specs.Acts.{acts, numbered, puts, tasks_from};
+ghost use Rattle.step_core.specs.Acts.{acts, numbered, tail, tasks_from};
 
-use crate::call::{Call, Field, Name};
+use crate::call::{Call, CellName, Field, Name};
 use control_word::handle::Kind;
 use std::alloc::{AllocError, Global};
 
@@ -71,6 +71,23 @@ pub enum Act {
     Ask {
         question: Question,
     },
+    /// Takes a copy of what a name holds, which is to go into a cell.
+    Offer {
+        name: u8,
+        cell: CellName,
+    },
+    /// Puts what was taken into a cell; what the cell held is to be dropped. It is no act where nothing was taken that may go
+    /// into the cell.
+    Swap {
+        cell: CellName,
+    },
+    /// Exchanges what a name holds for what a cell holds.
+    Exchange {
+        name: u8,
+        cell: CellName,
+    },
+    /// Leaves what is to be dropped. It is no act where that is nothing.
+    Drop,
 }
 
 /// What a make wants its object to be.
@@ -122,55 +139,79 @@ pub(crate) fn tasks(alloc: Global, calls: &[Call], names: u8) -> Result<Vec<Task
     Ok(tasks)
 }
 
+/// How a call goes on after its first act.
+#[derive(Clone, Copy, Debug, PartialEq, Eq)]
+pub enum Tail {
+    /// It doesn't.
+    Nothing,
+    /// What was taken goes to a name.
+    Named(Name),
+    /// It goes into a cell, and what the cell held is dropped.
+    Into(CellName),
+}
+
 /// The tasks of a call.
 fn add(tasks: &mut Vec<Task>, statement: u32, call: Call) -> Result<(), AllocError>
     ensures { OnOk result (tasks.new.items ≡ tasks.old.items ++ numbered statement (acts call)) }
 {
-    let (act, target) = parts(call);
+    let (act, tail) = parts(call);
     tasks.push(Task { statement, act })?;
-    if let Some(Name(name)) = target {
-        tasks.push(Task {
-            statement,
-            act: Act::Put { name },
-        })?;
+    match tail {
+        Tail::Nothing => Ok(()),
+        Tail::Named(name) => {
+            let act = Act::Put { name: name.0 };
+            tasks.push(Task { statement, act })?;
+            Ok(())
+        }
+        Tail::Into(cell) => {
+            let act = Act::Swap { cell };
+            tasks.push(Task { statement, act })?;
+            let act = Act::Drop;
+            tasks.push(Task { statement, act })?;
+            Ok(())
+        }
     }
-    Ok(())
 }
 
-/// The first act of a call, and the name that gets what it takes.
-fn parts(call: Call) -> (Act, Option<Name>)
-    ensures { acts call ≡ result.0 ∷ puts result.1 }
+/// The first act of a call, and how it goes on.
+fn parts(call: Call) -> (Act, Tail)
+    ensures { acts call ≡ result.0 ∷ tail result.1 }
 {
     match call {
-        Call::Make { target, fields } => (make(fields, false, false), Some(target)),
+        Call::Make { target, fields } => (make(fields, false, false), Tail::Named(target)),
         Call::Copy { target, source } | Call::WeakCopy { target, source } => {
-            (Act::Share { name: source.0 }, Some(target))
+            (Act::Share { name: source.0 }, Tail::Named(target))
         }
-        Call::Weak { target, source } => (Act::Downgrade { name: source.0 }, Some(target)),
-        Call::Lock { target, source } => (lock(source, false), Some(target)),
-        Call::Upgrade { target, source } => (lock(source, true), Some(target)),
+        Call::Weak { target, source } => (Act::Downgrade { name: source.0 }, Tail::Named(target)),
+        Call::Lock { target, source } => (lock(source, false), Tail::Named(target)),
+        Call::Upgrade { target, source } => (lock(source, true), Tail::Named(target)),
         Call::Empty { target: name }
         | Call::Reset { name }
         | Call::WeakEmpty { target: name }
-        | Call::WeakReset { name } => (Act::Leave { name: name.0 }, None),
-        Call::Count { name } | Call::WeakCount { name } => (Act::Count { name: name.0 }, None),
-        Call::Expired { name } => (Act::Expired { name: name.0 }, None),
-        Call::MakeThis { target, fields } => (make(fields, true, false), Some(target)),
-        Call::Null { target } => (make([0; 4], false, true), Some(target)),
-        Call::This { target, source } => (from_this(source, Kind::Owner), Some(target)),
-        Call::WeakThis { target, source } => (from_this(source, Kind::Weak), Some(target)),
-        Call::Read { name } => (Act::Read { name: name.0 }, None),
-        Call::Move { target, source } => (Act::Move { name: source.0 }, Some(target)),
+        | Call::WeakReset { name } => (Act::Leave { name: name.0 }, Tail::Nothing),
+        Call::Count { name } | Call::WeakCount { name } => (Act::Count { name: name.0 }, Tail::Nothing),
+        Call::Expired { name } => (Act::Expired { name: name.0 }, Tail::Nothing),
+        Call::MakeThis { target, fields } => (make(fields, true, false), Tail::Named(target)),
+        Call::Null { target } => (make([0; 4], false, true), Tail::Named(target)),
+        Call::This { target, source } => (from_this(source, Kind::Owner), Tail::Named(target)),
+        Call::WeakThis { target, source } => (from_this(source, Kind::Weak), Tail::Named(target)),
+        Call::Read { name } => (Act::Read { name: name.0 }, Tail::Nothing),
+        Call::Move { target, source } => (Act::Move { name: source.0 }, Tail::Named(target)),
         Call::Alias {
             target,
             source,
             of,
             field,
-        } => (alias(source, of, Some(field)), Some(target)),
-        Call::AliasNull { target, source } => (alias(source, source, None), Some(target)),
-        Call::Place { name } => (place(name), None),
-        Call::Same { first, second } => (same(first, second), None),
-        Call::Before { first, second } => (before(first, second), None),
+        } => (alias(source, of, Some(field)), Tail::Named(target)),
+        Call::AliasNull { target, source } => (alias(source, source, None), Tail::Named(target)),
+        Call::Place { name } => (place(name), Tail::Nothing),
+        Call::Same { first, second } => (same(first, second), Tail::Nothing),
+        Call::Before { first, second } => (before(first, second), Tail::Nothing),
+        Call::Store { cell, source } => {
+            let name = source.0;
+            (Act::Offer { name, cell }, Tail::Into(cell))
+        }
+        Call::Exchange { cell, name: Name(name) } => (Act::Exchange { name, cell }, Tail::Nothing),
     }
 }
 

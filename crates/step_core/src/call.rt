@@ -13,6 +13,13 @@ pub enum Kind {
 #[derive(Clone, Copy, Debug, PartialEq, Eq)]
 pub struct Name(pub u8);
 
+/// A free cell: an `atomic<shared_ptr>` or an `atomic<weak_ptr>`, by its number from 0 among those of its kind.
+#[derive(Clone, Copy, Debug, PartialEq, Eq)]
+pub enum CellName {
+    Shared(u8),
+    Weak(u8),
+}
+
 /// A field of an object, which has four.
 #[derive(Clone, Copy, Debug, PartialEq, Eq)]
 pub enum Field {
@@ -152,6 +159,18 @@ pub enum Call {
     Before {
         first: Name,
         second: Name,
+    },
+    /// The cell becomes what the source is; what it was is left ([util.smartptr.atomic.shared], [util.smartptr.atomic.weak],
+    /// `store`).
+    Store {
+        cell: CellName,
+        source: Name,
+    },
+    /// The cell becomes what the name was, and the name what the cell was ([util.smartptr.atomic.shared],
+    /// [util.smartptr.atomic.weak], `exchange`).
+    Exchange {
+        cell: CellName,
+        name: Name,
     },
 }
 

@@ -1,5 +1,5 @@
 //! How a thread goes on from act to act.
-ghost use Rattle.std.specs.Prelude.{◌≡◌, ◌⊎◌, ◌+◌, ◌<◌, ◌≤◌, ◌==◌, ◌∷◌, ℕ, length, drop, true, false, slice_set, Option, Some, None, option_map};
+ghost use Rattle.std.specs.Prelude.{◌≡◌, ◌⊎◌, ◌+◌, ◌<◌, ◌≤◌, ◌==◌, ◌∷◌, ℕ, length, drop, true, false, cond, slice_set, Option, Some, None, option_map};
 ghost use Rattle.control_word.specs.State.{count};
 ghost use Rattle.control_word.specs.declared.handle.Kind.TheVariants.{Owner};
 ghost use Rattle.control_word.specs.Words.{flags_of};
@@ -13,24 +13,26 @@ ghost use Rattle.control_word.specs.Layout.{spot};
 ghost use Rattle.control_word.specs.Views.{owed};
 
 use crate::act::{Act, Form, Task};
+use crate::ending::Endings;
 use crate::holdings::Holdings;
 use crate::past::Deed;
 use crate::table::Table;
 use control_word::place::Block;
 
-/// The tasks of a thread, of which those before `at` are done, and what it holds. Where `taken`, an act has taken a value
-/// into the hand, an empty one perhaps.
+/// The tasks of a thread, of which those before `at` are done, what it holds, and the objects that end in its hands. Where
+/// `taken`, an act has taken a value into the hand, an empty one perhaps.
 #[derive(Drop)]
 pub struct Course {
     pub(crate) tasks: Vec<Task>,
     pub(crate) at: usize,
     pub(crate) holdings: Holdings,
     pub(crate) taken: bool,
+    pub(crate) endings: Endings,
 }
 
 impl Course {
-    ghost use Rattle.step_core.specs.Scenes.{on};
-    ghost use Rattle.step_core.specs.Courses.{CanAct, CourseReady, HasGoneOn, IsPassed, IsReady, done_on, hand, idle, placed, rest, settled, task_at, todo, walk};
+    ghost use Rattle.step_core.specs.Entries.{on};
+    ghost use Rattle.step_core.specs.Courses.{CanAct, CourseReady, HasGoneOn, IsPassed, IsReady, done_on, hand, idle, passed, placed, rest, settled, task_at, todo, walk};
 
     /// Whether the next task is no act where it comes.
     fn is_idle(&self) -> bool
@@ -41,11 +43,13 @@ impl Course {
         match self.tasks[self.at].act {
             Act::Put { name } => !(self.taken && self.holdings.is_full(usize::from(name))),
             Act::Clear { name } => !self.holdings.is_full(usize::from(name)),
+            Act::Swap { cell } => !(self.taken && self.may_go_in(self.holdings.hand(), cell)),
+            Act::Drop => !self.holdings.is_full(self.holdings.other()),
             _ => false,
         }
     }
 
-    /// Goes past an idle task. A value that is in hand goes to its name, which is empty.
+    /// Goes past an idle task. A value that is in hand goes to its name, which is empty, or is to be dropped.
     fn pass(&mut self)
         requires within { self.old.at < length self.old.tasks.items }
         requires ready { CourseReady self.old }
@@ -54,12 +58,27 @@ impl Course {
     {
         let act = self.tasks[self.at].act;
         self.at += 1;
-        if let Act::Put { name } = act {
-            if self.taken {
-                let hand = self.holdings.hand();
-                self.holdings.pass_on(hand, usize::from(name));
-                self.taken = false;
-            }
+        let other = self.holdings.other();
+        match act {
+            Act::Put { name } => self.put_down(usize::from(name)),
+            Act::Swap { .. } => self.put_down(other),
+            Act::Drop => self.holdings.set_empty(other, None),
+            _ => {}
+        }
+    }
+
+    /// What was taken goes to a slot that holds nothing.
+    fn put_down(&mut self, to: usize)
+        requires inside { to < hand self.old.holdings.slots.items }
+        requires empty { self.old.taken ≡ true → slot self.old.holdings.slots.items to ≡ None }
+        ensures slots { self.new.holdings.slots.items ≡ cond self.old.taken (passed (hand self.old.holdings.slots.items) to self.old.holdings.slots.items) self.old.holdings.slots.items }
+        ensures course { self.new ≡ record self.old { holdings = self.new.holdings; taken = false } }
+        ensures holds { (d : ℕ) (v : Story) → Holds d self.old.holdings.slots.items v → Holds d self.new.holdings.slots.items v }
+    {
+        if self.taken {
+            let hand = self.holdings.hand();
+            self.holdings.pass_on(hand, to);
+            self.taken = false;
         }
     }
 
@@ -67,8 +86,9 @@ impl Course {
     pub(crate) fn settle(&mut self)
         requires within { self.old.at ≤ length self.old.tasks.items }
         requires ready { CourseReady self.old }
-        ensures walk { walk self.new ≡ settled self.old.holdings.slots.items self.old.taken (todo self.old) }
+        ensures walk { walk self.new ≡ settled self.old.holdings.slots.items self.old.taken self.old.endings.list (todo self.old) }
         ensures tasks { self.new.tasks ≡ self.old.tasks }
+        ensures endings { self.new.endings ≡ self.old.endings }
         ensures within { self.new.at ≤ length self.new.tasks.items }
         ensures onward { self.old.at ≤ self.new.at }
         ensures ready { CourseReady self.new }
@@ -92,7 +112,7 @@ impl Course {
     pub(crate) fn go_on(&mut self)
         requires within { self.old.at < length self.old.tasks.items }
         requires ready { IsReady self.old.holdings.slots.items self.old.taken (rest self.old) }
-        ensures walk { walk self.new ≡ settled self.old.holdings.slots.items self.old.taken (rest self.old) }
+        ensures walk { walk self.new ≡ settled self.old.holdings.slots.items self.old.taken self.old.endings.list (rest self.old) }
         ensures on { (d : ℕ) (v : Story) → Holds d self.old.holdings.slots.items v → HasGoneOn d self.old self.new v }
     {
         self.at += 1;
@@ -103,7 +123,7 @@ impl Course {
     pub(crate) fn take(&mut self, taken: bool)
         requires within { self.old.at < length self.old.tasks.items }
         requires ready { IsReady self.old.holdings.slots.items taken (rest self.old) }
-        ensures walk { walk self.new ≡ settled self.old.holdings.slots.items taken (rest self.old) }
+        ensures walk { walk self.new ≡ settled self.old.holdings.slots.items taken self.old.endings.list (rest self.old) }
         ensures on { (d : ℕ) (v : Story) → Holds d self.old.holdings.slots.items v → HasGoneOn d self.old self.new v }
     {
         self.taken = taken;
@@ -116,7 +136,7 @@ impl Course {
         requires act { (task_at self.old).act ≡ Act.Share name }
         ensures event { result ≡ is_full (slot self.old.holdings.slots.items name) }
         ensures table { table.new ≡ done_on share table.old desk (slot self.old.holdings.slots.items name) }
-        ensures walk { walk self.new ≡ settled (slice_set self.old.holdings.slots.items (hand self.old.holdings.slots.items) (value self.old.holdings.slots.items name)) true (rest self.old) }
+        ensures walk { walk self.new ≡ settled (slice_set self.old.holdings.slots.items (hand self.old.holdings.slots.items) (value self.old.holdings.slots.items name)) true self.old.endings.list (rest self.old) }
         ensures on { HasGoneOn desk self.old self.new table.new }
     {
         let from = usize::from(name);
@@ -144,7 +164,7 @@ impl Course {
         ensures event { result ≡ is_full (slot self.old.holdings.slots.items name) }
         ensures table { table.new ≡ done_on downgrade table.old desk (slot self.old.holdings.slots.items name) }
         ensures walk { walk self.new
-            ≡ settled (slice_set self.old.holdings.slots.items (hand self.old.holdings.slots.items) (filled (option_map as_weak (slot self.old.holdings.slots.items name)))) true (rest self.old) }
+            ≡ settled (slice_set self.old.holdings.slots.items (hand self.old.holdings.slots.items) (filled (option_map as_weak (slot self.old.holdings.slots.items name)))) true self.old.endings.list (rest self.old) }
         ensures on { HasGoneOn desk self.old self.new table.new }
     {
         let from = usize::from(name);
@@ -169,7 +189,7 @@ impl Course {
         requires act { ((task_at self.old).act ≡ Act.Leave name) ⊎ ((task_at self.old).act ≡ Act.Clear name) }
         ensures last { result ≡ on (is_last (state table.old)) false (slot self.old.holdings.slots.items name) }
         ensures table { table.new ≡ done_on (leave (state table.old)) table.old desk (slot self.old.holdings.slots.items name) }
-        ensures walk { walk self.new ≡ settled (slice_set self.old.holdings.slots.items name plain) self.old.taken (rest self.old) }
+        ensures walk { walk self.new ≡ settled (slice_set self.old.holdings.slots.items name plain) self.old.taken self.old.endings.list (rest self.old) }
         ensures on { HasGoneOn desk self.old self.new table.new }
     {
         let from = usize::from(name);
@@ -194,7 +214,7 @@ impl Course {
         ensures full { is_full (slot self.old.holdings.slots.items name) ≡ true }
         ensures last { result ≡ on (is_last (state table.old)) false (slot self.old.holdings.slots.items name) }
         ensures table { table.new ≡ done_on (leave (state table.old)) table.old desk (slot self.old.holdings.slots.items name) }
-        ensures walk { walk self.new ≡ settled (placed name (slice_set self.old.holdings.slots.items name plain)) false (rest self.old) }
+        ensures walk { walk self.new ≡ settled (placed name (slice_set self.old.holdings.slots.items name plain)) false self.old.endings.list (rest self.old) }
         ensures on { HasGoneOn desk self.old self.new table.new }
     {
         let to = usize::from(name);
@@ -218,7 +238,7 @@ impl Course {
         requires act { (task_at self.old).act ≡ Act.Count name }
         ensures exact { result ≡ on (λ x. count (state table.old) (owned (state table.old) x)) 0 (slot self.old.holdings.slots.items name) }
         ensures table { table.new ≡ done_on (tell (state table.old)) table.old desk (slot self.old.holdings.slots.items name) }
-        ensures walk { walk self.new ≡ settled self.old.holdings.slots.items self.old.taken (rest self.old) }
+        ensures walk { walk self.new ≡ settled self.old.holdings.slots.items self.old.taken self.old.endings.list (rest self.old) }
         ensures on { HasGoneOn desk self.old self.new table.new }
     {
         let from = usize::from(name);
@@ -241,7 +261,7 @@ impl Course {
         requires act { (task_at self.old).act ≡ Act.Expired name }
         ensures exact { result ≡ on (is_expired (state table.old)) true (slot self.old.holdings.slots.items name) }
         ensures table { table.new ≡ done_on (tell_expired (state table.old)) table.old desk (slot self.old.holdings.slots.items name) }
-        ensures walk { walk self.new ≡ settled self.old.holdings.slots.items self.old.taken (rest self.old) }
+        ensures walk { walk self.new ≡ settled self.old.holdings.slots.items self.old.taken self.old.endings.list (rest self.old) }
         ensures on { HasGoneOn desk self.old self.new table.new }
     {
         let from = usize::from(name);
@@ -269,7 +289,7 @@ impl Course {
         requires act { (task_at self.old).act ≡ Act.Make form }
         ensures table { table.new ≡ after table.old desk (Deed.Claim block form.enabled form.null form.fields) }
         ensures walk { walk self.new
-            ≡ settled (slice_set self.old.holdings.slots.items (hand self.old.holdings.slots.items) (Full (record { kind = Owner; block = block; place = origin block.0 form.null }))) true (rest self.old) }
+            ≡ settled (slice_set self.old.holdings.slots.items (hand self.old.holdings.slots.items) (Full (record { kind = Owner; block = block; place = origin block.0 form.null }))) true self.old.endings.list (rest self.old) }
         ensures on { HasGoneOn desk self.old self.new table.new }
     {
         let hand = self.holdings.hand();

@@ -28,20 +28,21 @@ pub struct Pointer {
     pub place: Option<Place>,
 }
 
-/// The values of an actor's names, and last the value that it has in hand between two acts.
+/// The values of an actor's names, then what is to be dropped at the end of a statement, and last the value that it has in hand
+/// between two acts.
 #[derive(Drop)]
 pub struct Holdings {
     pub(crate) slots: Vec<Slot>,
-    ghost few: { length slots.items < 34 },
+    ghost few: { length slots.items < 35 },
 }
 
 impl Holdings {
-    /// So many names, of which none holds anything, and an empty hand.
+    /// So many names, of which none holds anything, with nothing to drop and an empty hand.
     pub(crate) fn new(alloc: Global, names: u8) -> Result<Holdings, AllocError>
         requires { names ≤ 32 }
-        ensures { IfOk result (λ h. h.slots.items ≡ replicate (names + 1) plain) }
+        ensures { IfOk result (λ h. h.slots.items ≡ replicate (names + 2) plain) }
     {
-        let slots = vec![in alloc; Slot::Empty { place: None }; usize::from(names) + 1]?;
+        let slots = vec![in alloc; Slot::Empty { place: None }; usize::from(names) + 2]?;
         Ok(Holdings { slots })
     }
 
@@ -77,12 +78,20 @@ impl Holdings {
         self.get(at).is_some()
     }
 
-    /// The slot behind those of the names, for the value that is in hand.
+    /// The last slot, for the value that is in hand.
     pub(crate) fn hand(&self) -> usize
         requires { 0 < length self.now.slots.items }
         ensures { result ≡ length self.now.slots.items - 1 }
     {
         self.slots.len() - 1
+    }
+
+    /// The slot behind those of the names, for what is to be dropped.
+    pub(crate) fn other(&self) -> usize
+        requires { 1 < length self.now.slots.items }
+        ensures { result ≡ length self.now.slots.items - 2 }
+    {
+        self.slots.len() - 2
     }
 
     /// The weak pointer that a slot holds, if it holds one.

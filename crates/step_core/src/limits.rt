@@ -1,9 +1,9 @@
 //! Which programs a world may run.
 ghost use Rattle.std.specs.Prelude.{◌≡◌, ◌↔◌, ◌&&◌, ◌≤◌, ◌∷◌, ◌++◌, Some, None, All, IsTrue, map};
-ghost use Rattle.step_core.specs.Programs.{IsDeclared, IsPart, IsProgram, IsWellNamed, call_count, listed, names_of, owner, part_of, weak};
+ghost use Rattle.step_core.specs.Programs.{AllHaveCells, HasCells, IsDeclared, IsIn, IsPart, IsProgram, IsWellNamed, as_in, call_count, listed, names_of, owner, part_of, weak};
 ghost use Rattle.step_core.specs.Starts.{AllHaveFields, CanBegin, HasFields};
 
-use crate::call::{Actor, Call, Kind, Name};
+use crate::call::{Actor, Call, CellName, Kind, Name};
 use control_word::Shape;
 
 /// Most actors of a program.
@@ -55,6 +55,16 @@ fn weak(name: Name) -> Asked
     (name, Some(Kind::Weak))
 }
 
+/// A name of the kind of what a cell holds.
+fn as_in(cell: CellName, name: Name) -> Asked
+    ensures { result ≡ as_in cell name }
+{
+    match cell {
+        CellName::Shared(_) => owner(name),
+        CellName::Weak(_) => weak(name),
+    }
+}
+
 /// Two names.
 fn two(first: Asked, second: Asked) -> Names
     ensures { result ≡ (first, Some second, None) }
@@ -99,6 +109,9 @@ fn names_of(call: Call) -> Names
             of,
             ..
         } => (owner(target), Some(owner(source)), Some(owner(of))),
+        Call::Store { cell, source: name } | Call::Exchange { cell, name } => {
+            (as_in(cell, name), None, None)
+        }
     }
 }
 
@@ -171,6 +184,50 @@ fn is_program(actors: &[Actor]) -> bool
     (1..=MOST_ACTORS).contains(&actors.len()) && has_few_calls(actors) && are_parts(actors)
 }
 
+/// Whether a shape has a cell.
+fn is_in(shape: &Shape, cell: CellName) -> bool
+    ensures { IsTrue result ↔ IsIn shape.now cell }
+{
+    match cell {
+        CellName::Shared(number) => u32::from(number) < shape.shared_cells,
+        CellName::Weak(number) => u32::from(number) < shape.weak_cells,
+    }
+}
+
+/// Whether it has each cell of a call.
+fn has_cells(shape: &Shape, call: Call) -> bool
+    ensures { IsTrue result ↔ HasCells shape.now call }
+{
+    match call {
+        Call::Store { cell, .. } | Call::Exchange { cell, .. } => is_in(shape, cell),
+        _ => true,
+    }
+}
+
+/// Whether it has each cell of an actor's calls.
+fn has_all_cells(shape: &Shape, actor: &Actor) -> bool
+    ensures { IsTrue result ↔ AllHaveCells shape.now (part_of actor.now) }
+{
+    for call in &actor.calls {
+        if !has_cells(shape, *call) {
+            return false;
+        }
+    }
+    true
+}
+
+/// Whether it has each cell of all actors' calls.
+fn have_cells(shape: &Shape, actors: &[Actor]) -> bool
+    ensures { IsTrue result ↔ All (AllHaveCells shape.now) (map part_of actors.now) }
+{
+    for actor in actors {
+        if !has_all_cells(shape, actor) {
+            return false;
+        }
+    }
+    true
+}
+
 /// Whether a world of this shape may run these actors.
 pub(crate) fn can_begin(shape: &Shape, actors: &[Actor]) -> bool
     ensures begin { IsTrue result ↔ CanBegin shape.now (map part_of actors.now) }
@@ -179,4 +236,5 @@ pub(crate) fn can_begin(shape: &Shape, actors: &[Actor]) -> bool
     shape.is_within_limits()
         && is_program(actors)
         && LEAST_ALLOWANCE * actors.len() as u64 <= u64::from(shape.allowance)
+        && have_cells(shape, actors)
 }

@@ -3,7 +3,7 @@ ghost use Rattle.std.specs.Prelude.{◌≡◌, ◌↔◌, ◌⊎◌, ◌<◌, �
 ghost use Rattle.step_core.specs.Actors.{Stocks};
 ghost use Rattle.step_core.specs.Courses.{walk};
 ghost use Rattle.step_core.specs.Openings.{IsExtent};
-ghost use Rattle.step_core.specs.Programs.{IsPart, IsProgram, part_of, parts_of};
+ghost use Rattle.step_core.specs.Programs.{AllHaveCells, IsPart, IsProgram, part_of, parts_of};
 ghost use Rattle.step_core.specs.Starts.{AllHaveFields, CanBegin, HasFields, first_sight, first_story, first_walk};
 ghost use Rattle.step_core.specs.Stories.{Kept};
 ghost use Rattle.step_core.specs.Threads.{Fits};
@@ -12,6 +12,7 @@ ghost use Rattle.step_core.specs.Worlds.{AllFit};
 use crate::act::tasks;
 use crate::call::{Actor, Program};
 use crate::course::Course;
+use crate::ending::Endings;
 use crate::extent::Extent;
 use crate::half::Half;
 use crate::holdings::Holdings;
@@ -47,6 +48,7 @@ fn thread_of(alloc: Global, extent: &Extent, desk: u32, actor: &Actor) -> Result
     requires part { IsPart (part_of actor.now) }
     requires calls { length actor.now.calls.items < 2 ^ 31 }
     requires fields { All HasFields actor.now.calls.items }
+    requires cells { AllHaveCells extent.now.shape (part_of actor.now) }
     ensures walk { IfOk result (λ t. walk t.course ≡ first_walk (part_of actor.now)) }
     ensures half { IfOk result (λ t. t.half ≡ Half.Rest) }
     ensures fits { IfOk result (λ t. Fits desk t (first_story extent.now)) }
@@ -55,11 +57,13 @@ fn thread_of(alloc: Global, extent: &Extent, desk: u32, actor: &Actor) -> Result
     let tasks = tasks(alloc, actor.calls.as_slice(), names)?;
     let holdings = Holdings::new(alloc, names)?;
     let stock = stock_of(alloc, extent, desk)?;
+    let endings = Endings::new(alloc, extent.shape.blocks as usize)?;
     let mut course = Course {
         tasks,
         at: 0,
         holdings,
         taken: false,
+        endings,
     };
     course.settle();
     Ok(Thread {
@@ -75,6 +79,7 @@ fn threads_of(alloc: Global, extent: &Extent, actors: &[Actor]) -> Result<Vec<Th
     requires actors { extent.now.actors ≡ length actors.now }
     requires program { IsProgram (map part_of actors.now) }
     requires fields { AllHaveFields (map part_of actors.now) }
+    requires cells { All (AllHaveCells extent.now.shape) (map part_of actors.now) }
     ensures walks { IfOk result (λ v. map (λ t. walk t.course) v.items ≡ map first_walk (map part_of actors.now)) }
     ensures halves { IfOk result (λ v. map (λ t. t.half) v.items ≡ map (λ part. Half.Rest) (map part_of actors.now)) }
     ensures fit { IfOk result (λ v. AllFit (first_story extent.now) v.items) }
@@ -113,7 +118,7 @@ impl World {
     ///
     /// Refused `Shape` just where the shape is outside its limits; or there are not 1 to 64 actors; or an actor has more than
     /// 32 names; or there are more than 65,536 calls; or a call names a name that its actor hasn't, or one of the other kind;
-    /// or the allowance is below 40 for each actor. Refused `Memory` where a growth was really refused. The program comes back
+    /// or it names a cell that the shape hasn't; or the allowance is below 40 for each actor. Refused `Memory` where a growth was really refused. The program comes back
     /// as it was (own).
     pub fn new(alloc: Global, shape: Shape, program: Program) -> Result<World, Refused<Program>>
         ensures start { IfOk result (λ w. w ≡ first_sight shape (parts_of program)) }

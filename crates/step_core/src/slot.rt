@@ -1,8 +1,10 @@
 //! What a name holds.
 ghost use Rattle.std.specs.Prelude.{◌≡◌};
+ghost use Rattle.step_core.specs.Contents.{is_of};
 ghost use Rattle.step_core.specs.Holdings.{place_of, pointer_of};
 
 use crate::holdings::Pointer;
+use control_word::handle::Kind;
 use control_word::place::Place;
 
 /// The value of a name, or the one that is in hand.
@@ -33,6 +35,20 @@ impl Slot {
         match self {
             Slot::Empty { place } => place,
             Slot::Full(pointer) => pointer.place,
+        }
+    }
+
+    /// Whether it may go into a cell of this kind: an empty weak pointer has a null place.
+    pub(crate) fn is_of(self, kind: Kind) -> bool
+        ensures { result ≡ is_of kind self }
+    {
+        match (self, kind) {
+            (Slot::Empty { .. }, Kind::Owner) => true,
+            (Slot::Empty { place }, Kind::Weak) => place.is_none(),
+            (Slot::Full(pointer), kind) => match (pointer.kind, kind) {
+                (Kind::Owner, Kind::Owner) | (Kind::Weak, Kind::Weak) => true,
+                _ => false,
+            },
         }
     }
 }

@@ -40,7 +40,7 @@ pub slot_formed : (d : ℕ) (slots : Slots) (v : Story) (i : ℕ) (x : Pointer) 
 slot_formed d slots v i x holds e = subst IsSlot (full_is (value slots i) x e) (holds.formed i)
 
 -- where a slot is empty the desk may have one more handle
-pub has_room : (d : ℕ) (slots : Slots) (v : Story) (i : ℕ) → Kept v → d < v.extent.actors → Holds d slots v → length slots < 34
+pub has_room : (d : ℕ) (slots : Slots) (v : Story) (i : ℕ) → Kept v → d < v.extent.actors → Holds d slots v → length slots < 35
     → i < length slots → slot slots i ≡ None
     → bag_size (state v) d < (state v).allowance d
 has_room d slots v i kept lt holds few inside e =

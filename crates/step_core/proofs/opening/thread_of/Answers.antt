@@ -1,10 +1,15 @@
-use Rattle.std.proofs.Common.{◌≡◌, ◌+◌, ◌∙◌, ℕ, List, length, sym, ap, subst, arith}
+use Rattle.std.proofs.Common.{◌≡◌, ◌≤◌, ◌+◌, ◌∙◌, ℕ, List, length, sym, ap, subst, arith}
 use Rattle.step_core.specs.declared.call.Call.{Call}
 use Rattle.step_core.specs.Acts.{tasks_from}
+use Rattle.std.specs.Prelude.{All}
+use Rattle.step_core.specs.declared.act.Task.{Task}
+use Rattle.step_core.specs.Courses.{HasCell}
+use Rattle.step_core.specs.Endings.{Stack}
 use Rattle.step_core.specs.Holdings.{Holds, Slots}
 use Rattle.step_core.specs.Programs.{part_of}
 use Rattle.step_core.specs.Starts.{first_story, no_slots}
-use Rattle.step_core.proofs.Starts.{holds_start, idle_start, ready_start}
+use Rattle.step_core.proofs.holding.Ends.{ends_none}
+use Rattle.step_core.proofs.Starts.{holds_start, idle_start, ready_start, tasks_cells}
 use Rattle.step_core.proofs.opening.thread_of.Goals as goal
 
 pub settle-requires-clause-ready : goal.settle-requires-clause-ready
@@ -21,11 +26,21 @@ returns-clause-fits c =
       seat = c.requires.desk;
       holds = c.settle.ensures.holds c.args.desk (first_story c.args.extent.now)
           (subst (λ (s : Slots). Holds c.args.desk s (first_story c.args.extent.now)) (sym c.in_ok-holdings.ensures)
-          (holds_start c.args.desk (c.len-names.result + 1) c.args.extent.now));
+          (holds_start c.args.desk (c.len-names.result + 2) c.args.extent.now));
       within = c.settle.ensures.within;
       ready = c.settle.ensures.ready;
       still = c.settle.ensures.still;
       half = idle_start c.args.desk c.args.extent.now c.requires.desk;
       next = tt;
       stocks = c.in_ok-stock.ensures;
+      endings =
+          ends_none c.args.desk c.settle.new.self (first_story c.args.extent.now)
+          (ap (λ (z : Stack). z.list) c.settle.ensures.endings ∙ c.in_ok-endings.ensures.none)
+          (subst (λ (z : Stack). c.args.extent.now.shape.blocks ≤ z.room) (sym c.settle.ensures.endings) c.in_ok-endings.ensures.room);
+      cells =
+          let t = c.settle.ensures.tasks in
+          let i = c.in_ok-tasks.ensures ∙ ap (λ (l : List Call). tasks_from 1 l c.len-names.result) c.as_slice.ensures.value in
+          let e : c.settle.new.self.tasks.items ≡ tasks_from 1 c.args.actor.now.calls.items c.len-names.result = cc in
+          subst (λ (l : List Task). All (λ (x : Task). HasCell c.args.extent.now.shape x.act) l) (sym e)
+          (tasks_cells c.args.extent.now.shape 1 c.len-names.result c.args.actor.now.calls.items c.requires.cells);
     }
