@@ -189,6 +189,11 @@ pub owes_head : (c : Course) → c.at < length c.tasks.items → CourseReady c
 owes_head c lt r =
     subst (λ (ts : List Task). (value c.holdings.slots.items (other c.holdings.slots.items) ≡ plain) ⊎ Drops ts) (todo_at c lt) r.owes
 
+-- nothing is, where the next act isn't that
+pub owed_by : (c : Course) → c.at < length c.tasks.items → CourseReady c → ((task_at c).act ≡ Drop → ⊥)
+    → value c.holdings.slots.items (other c.holdings.slots.items) ≡ plain
+owed_by c lt r never = owed_none c.holdings.slots.items (task_at c).act (owes_head c lt r) never
+
 pub passed_ready : (a b : Course) → a.at < length a.tasks.items → idle (task_at a).act a.holdings.slots.items a.taken ≡ true → IsPassed a b
     → CourseReady a → CourseReady b
 passed_ready a b lt e p r =

@@ -3,6 +3,7 @@ pub mod Walks
 pub mod Stocks
 pub mod holding
 pub mod Courses
+pub mod CellNames
 pub mod Threads
 pub mod Endings
 pub mod EndSteps

@@ -1,7 +1,7 @@
 -- A thread's own deeds keep it fitting the table.
 use Rattle.std.proofs.Common.{◌≡◌, ◌≢◌, ℕ, ◌+◌, ◌<◌, ◌≤◌, ◌==◌, ◌⊎◌, Bool, true, false, cond, not, List, [], ◌∷◌, length, set, get_or, refl, sym}
 use Rattle.std.proofs.Common.{ap, subst, ◌∙◌}
-use Rattle.std.proofs.Common.{⊎_elim, arith, eq-eqb, get_or-set_same, get_or-set_other, length-set}
+use Rattle.std.proofs.Common.{⊎_elim, inl, arith, eq-eqb, get_or-set_same, get_or-set_other, length-set}
 use Rattle.std.specs.List.{All}
 use Rattle.std.specs.Prelude.{Some, None}
 use Rattle.std.proofs.lemmas.List.Sorted.{sum_by_popped}
@@ -15,7 +15,7 @@ use Rattle.control_word.specs.Steps.{known_of}
 use Rattle.control_word.specs.Views.{used_up}
 use Rattle.step_core.specs.declared.act.Act.{Act}
 use Rattle.step_core.specs.declared.act.Form.{Form}
-use Rattle.step_core.specs.declared.act.Act.TheVariants.{Make, Share, Downgrade, Lock, Put, Leave, Clear, Count, Expired, Read, FromThis, Alias, Move, Ask}
+use Rattle.step_core.specs.declared.act.Act.TheVariants.{Make, Share, Downgrade, Lock, Put, Leave, Clear, Count, Expired, Read, FromThis, Alias, Move, Ask, Offer, Swap, Exchange, Drop}
 use Rattle.step_core.specs.declared.act.Task.{Task}
 use Rattle.step_core.specs.declared.course.Course.{Course}
 use Rattle.step_core.specs.declared.half.Half.{Half}
@@ -24,12 +24,12 @@ use Rattle.step_core.specs.declared.past.Deed.{Deed}
 use Rattle.step_core.specs.declared.past.Deed.TheVariants as deed
 use Rattle.step_core.specs.declared.thread.Thread.{Thread}
 use Rattle.step_core.specs.Actors.{HalfFits, IsPrepared, Stocks, in_list, wanted}
-use Rattle.step_core.specs.Courses.{Begins, CourseReady, HasGoneOn, IsReady, Ready, form_of, hand, rest, taken_after, task_at}
+use Rattle.step_core.specs.Courses.{Begins, CourseReady, HasCell, HasGoneOn, IsReady, Ready, form_of, no_task, other, rest, taken_after, task_at}
 use Rattle.step_core.specs.Entries.{least}
 use Rattle.step_core.specs.Stocks.{Stored}
 use Rattle.step_core.specs.Stories.{Kept, Nothing, Story, after, known, pending, pending_after, state}
 use Rattle.step_core.specs.Threads.{Fits, IsNext, form_at}
-use Rattle.step_core.proofs.Courses.{ready_head}
+use Rattle.step_core.proofs.Courses.{owed_by, ready_head}
 use Rattle.step_core.proofs.holding.Ends.{ends_gone, ends_none}
 use Rattle.step_core.proofs.holding.Least.{least_stored, none_stored}
 use Rattle.step_core.proofs.holding.Storing.{stocks_claim, stocks_take}
@@ -55,6 +55,10 @@ weaker n (FromThis k kind) b = (b.0, refl)
 weaker n (Alias k j field) b = (b.0, b.1, refl)
 weaker n (Move k) b = (b.0, refl)
 weaker n (Ask q) b = b
+weaker n (Offer k c) b = (b.0, refl)
+weaker n (Swap c) b = b
+weaker n (Exchange k c) b = (b.0, refl)
+weaker n Drop b = refl
 
 ready_more : (n : ℕ) (act : Act) (ts : List Task) → (Ready n true ts → Ready n false ts) → Ready n (taken_after act true) ts
     → Ready n (taken_after act false) ts
@@ -72,16 +76,20 @@ ready_more n (FromThis k kind) ts f r = r
 ready_more n (Alias k j field) ts f r = r
 ready_more n (Move k) ts f r = r
 ready_more n (Ask q) ts f r = f r
+ready_more n (Offer k c) ts f r = r
+ready_more n (Swap c) ts f r = r
+ready_more n (Exchange k c) ts f r = f r
+ready_more n Drop ts f r = f r
 
 -- what is ready for a value in hand is ready for none
 pub ready_any : (n : ℕ) (ts : List Task) → Ready n true ts → Ready n false ts
 ready_any n [] r = r
-ready_any n (t ∷ ts) r = (weaker n t.act r.0, ready_more n t.act ts (ready_any n ts) r.1)
+ready_any n (t ∷ ts) r = (weaker n t.act r.0, r.1, ready_more n t.act ts (ready_any n ts) r.2)
 
 -- a make comes with nothing in hand
 pub make_empty : (c : Course) (form : Form) → c.at < length c.tasks.items → CourseReady c → (task_at c).act ≡ Make form → c.taken ≡ false
 make_empty c form lt ready act =
-    let b : Begins (hand c.holdings.slots.items) c.taken (Make form) = subst (Begins (hand c.holdings.slots.items) c.taken) act
+    let b : Begins (other c.holdings.slots.items) c.taken (Make form) = subst (Begins (other c.holdings.slots.items) c.taken) act
     (ready_head c lt ready).0 in b.0
 
 -- a lock that gives no owner takes an empty value, or nothing where it is refused
@@ -89,26 +97,31 @@ pub lost_ready : (c : Course) (k : ℕ) (must : Bool) → c.at < length c.tasks.
     → IsReady c.holdings.slots.items (not must) (rest c)
 lost_ready c k must lt ready act =
     let h = ready_head c lt ready in
-    let n = hand c.holdings.slots.items in
+    let n = other c.holdings.slots.items in
     let b : Begins n c.taken (Lock k must) = subst (Begins n c.taken) act h.0 in
-    let r : Ready n true (rest c) = subst (λ (a : Act). Ready n (taken_after a c.taken) (rest c)) act h.1 in
-    record { some = ready.some; free = λ e. ready.free b.1; ready = go must r }
+    let r : Ready n true (rest c) = subst (λ (a : Act). Ready n (taken_after a c.taken) (rest c)) act h.2 in
+    record {
+      some = ready.some;
+      free = λ e. ready.free b.1;
+      owes = inl (owed_by c lt ready (λ e. let q = act in absurd cc));
+      ready = go must r;
+    }
   where
-    go : (m : Bool) → Ready (hand c.holdings.slots.items) true (rest c) → Ready (hand c.holdings.slots.items) (not m) (rest c)
-    go true r = ready_any (hand c.holdings.slots.items) (rest c) r
+    go : (m : Bool) → Ready (other c.holdings.slots.items) true (rest c) → Ready (other c.holdings.slots.items) (not m) (rest c)
+    go true r = ready_any (other c.holdings.slots.items) (rest c) r
     go false r = r
 
 -- a lock that gives an owner takes it
 pub won_ready : (c : Course) (k : ℕ) (must : Bool) → c.at < length c.tasks.items → CourseReady c → (task_at c).act ≡ Lock k must
-    → Ready (hand c.holdings.slots.items) true (rest c)
+    → Ready (other c.holdings.slots.items) true (rest c)
 won_ready c k must lt ready act =
-    let h = ready_head c lt ready in subst (λ (a : Act). Ready (hand c.holdings.slots.items) (taken_after a c.taken) (rest c)) act h.1
+    let h = ready_head c lt ready in subst (λ (a : Act). Ready (other c.holdings.slots.items) (taken_after a c.taken) (rest c)) act h.2
 
 -- a name is left with nothing in hand
 pub leave_empty : (c : Course) (k : ℕ) → c.at < length c.tasks.items → CourseReady c → ((task_at c).act ≡ Leave k) ⊎ ((task_at c).act ≡ Clear k)
     → c.taken ≡ false
 leave_empty c k lt ready act =
-    let n = hand c.holdings.slots.items in
+    let n = other c.holdings.slots.items in
     let h = (ready_head c lt ready).0 in
     ⊎_elim (λ (e : (task_at c).act ≡ Leave k). let b : Begins n c.taken (Leave k) = subst (Begins n c.taken) e h in b.1)
     (λ (e : (task_at c).act ≡ Clear k). let b : Begins n c.taken (Clear k) = subst (Begins n c.taken) e h in b.1) act
@@ -118,10 +131,15 @@ pub refused_ready : (c : Course) (form : Form) → c.at < length c.tasks.items �
     → IsReady c.holdings.slots.items c.taken (rest c)
 refused_ready c form lt ready act =
     let h = ready_head c lt ready in
-    let n = hand c.holdings.slots.items in
+    let n = other c.holdings.slots.items in
     let b : Begins n c.taken (Make form) = subst (Begins n c.taken) act h.0 in
-    let r : Ready n true (rest c) = subst (λ (a : Act). Ready n (taken_after a c.taken) (rest c)) act h.1 in
-    record { some = ready.some; free = ready.free; ready = subst (λ (t : Bool). Ready n t (rest c)) (sym b.0) (ready_any n (rest c) r) }
+    let r : Ready n true (rest c) = subst (λ (a : Act). Ready n (taken_after a c.taken) (rest c)) act h.2 in
+    record {
+      some = ready.some;
+      free = ready.free;
+      owes = inl (owed_by c lt ready (λ e. let q = act in absurd cc));
+      ready = subst (λ (t : Bool). Ready n t (rest c)) (sym b.0) (ready_any n (rest c) r);
+    }
 
 pub form_here : (c : Course) (form : Form) → (task_at c).act ≡ Make form → form_at c ≡ form
 form_here c form e = ap form_of e
@@ -129,12 +147,25 @@ form_here c form e = ap form_of e
 next_here : (c : Course) (form : Form) → (task_at c).act ≡ Make form → (task_at c).act ≡ Make (form_at c)
 next_here c form e = e ∙ ap Make (sym (form_here c form e))
 
+-- its tasks are the same
+pub cells_on : (d : ℕ) (c c' : Course) (v : Story) → HasGoneOn d c c' v → All (λ (x : Task). HasCell v.extent.shape x.act) c.tasks.items
+    → All (λ (x : Task). HasCell v.extent.shape x.act) c'.tasks.items
+cells_on d c c' v on cells =
+    let t = on.tasks in
+    let e : c'.tasks.items ≡ c.tasks.items = cc in
+    subst (λ (l : List Task). All (λ (x : Task). HasCell v.extent.shape x.act) l) (sym e) cells
+
+-- the shape has the cell of the next one
+pub cell_here : (c : Course) (v : Story) → c.at < length c.tasks.items → All (λ (x : Task). HasCell v.extent.shape x.act) c.tasks.items
+    → HasCell v.extent.shape (task_at c).act
+cell_here c v lt cells = cells c.at no_task lt
+
 pub resting : (d : ℕ) (t : Thread) (v : Story) → Fits d t v → t.half ≡ Rest → Stocks d t.stock.blocks t.stock.room Rest v
 resting d t v fits e = subst (λ (h : Half). Stocks d t.stock.blocks t.stock.room h v) e fits.stocks
 
 pub prepared : (d : ℕ) (t : Thread) (v : Story) (b : Block) (i : ℕ) (f : Bool) → Fits d t v → t.half ≡ Making b i f
     → IsPrepared d b i (form_at t.course) v
-prepared d t v b i f fits e = subst (λ (h : Half). HalfFits d h (form_at t.course) v) e fits.half
+prepared d t v b i f fits e = subst (λ (h : Half). HalfFits d h t.course.holdings.slots.items (task_at t.course).act v) e fits.half
 
 -- the block that the stock gave is the least of the store, which has none where the stock is empty
 pub least_here : (d : ℕ) (t : Thread) (v : Story) (b : Block) (s : Stored) → Fits d t v → t.half ≡ Rest
@@ -174,6 +205,7 @@ fits_prepare d t v b s form kept fits e none lt act p all room =
       next = (lt, next_here t.course form act, none);
       stocks = record { stocked = x.stocked; roomy = (let q = x.roomy in omega (arith, q, room)) };
       endings = ends_none d t.course (after v d (deed.Prepare b)) none fits.endings.roomy;
+      cells = fits.cells;
     }
 
 pub fits_look : (d : ℕ) (t : Thread) (v : Story) (b : Block) (i n : ℕ) (same : Bool) → Fits d t v → t.half ≡ Making b i false → i < 5
@@ -205,6 +237,7 @@ fits_look d t v b i n same fits e lt is here =
       next = y;
       stocks = record { stocked = x.stocked; roomy = x.roomy };
       endings = fits.endings;
+      cells = fits.cells;
     }
 
 pub fits_write : (d : ℕ) (t : Thread) (v : Story) (b : Block) (i : ℕ) → Kept v → Fits d t v → t.half ≡ Making b i true → i < 5
@@ -239,6 +272,7 @@ fits_write d t v b i kept fits e lt =
       next = y;
       stocks = record { stocked = x.stocked; roomy = x.roomy };
       endings = ends_none d t.course (after v d (deed.Write b i n)) y.2 fits.endings.roomy;
+      cells = fits.cells;
     }
 
 pub fits_claim : (d : ℕ) (t : Thread) (v : Story) (b : Block) (f : Bool) (form : Form) (c : Course) → Kept v → Fits d t v → t.half ≡ Making b 5 f
@@ -260,4 +294,5 @@ fits_claim d t v b f form c kept fits e on =
       next = tt;
       stocks = stocks_claim d t.stock.blocks t.stock.room 5 f v b form x has;
       endings = ends_gone d t.course c v (after v d (deed.Claim b form.enabled form.null form.fields)) fits.endings y.2 on.endings refl;
+      cells = cells_on d t.course c (after v d (deed.Claim b form.enabled form.null form.fields)) on fits.cells;
     }

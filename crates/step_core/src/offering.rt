@@ -1,5 +1,5 @@
 //! How a thread puts values into cells, act by act.
-ghost use Rattle.std.specs.Prelude.{◌≡◌, ◌<◌, ◌≤◌, true, length, slice_set};
+ghost use Rattle.std.specs.Prelude.{◌≡◌, ◌<◌, ◌≤◌, true, false, length, slice_set};
 ghost use Rattle.step_core.specs.Contents.{as_word, held_in, is_of, owing_for, seen, slot_of, swapped};
 ghost use Rattle.step_core.specs.Courses.{CanAct, CourseReady, HasCell, HasGoneOn, cell_at, done_on, fitting, hand, kind_at, offered, other, rest, settled, task_at, walk};
 ghost use Rattle.step_core.specs.Deeds.{is_last, leave, share};
