@@ -1,19 +1,23 @@
 -- What an act alone does to where a thread is: its tasks, its slots and its endings.
-use Rattle.std.proofs.Common.{◌≡◌, ℕ, suc, ◌≤◌, Bool, true, false, List, [], ◌∷◌, inl, inr, length, refl, ◌∙◌, subst, arith, get_or-set_same}
+use Rattle.std.proofs.Common.{◌≡◌, ℕ, suc, ◌≤◌, Bool, true, false, List, [], ◌∷◌, inl, inr, length, refl, sym, ◌∙◌, subst, arith, get_or-set_same}
+use Rattle.std.proofs.Common.{get_or-set_other}
 use Rattle.std.specs.Prelude.{Option, Some, None, option_map, slice_set}
-use Rattle.std.proofs.lemmas.Bool.{cases_lt, cond_both}
+use Rattle.std.proofs.lemmas.Bool.{cases_eq, cases_lt, cond_both}
 use Rattle.std.proofs.lemmas.List.{get_or_past, length-set}
 use Rattle.control_word.specs.State.{State}
 use Rattle.step_core.specs.declared.act.Act.{Act}
-use Rattle.step_core.specs.declared.act.Act.TheVariants.{Make, Share, Downgrade, Alias, Move, FromThis, Lock, Put, Leave, Clear, Count, Expired, Read, Ask}
+use Rattle.step_core.specs.declared.act.Act.TheVariants.{Make, Share, Downgrade, Alias, Move, FromThis, Lock, Put, Leave, Clear, Count, Expired, Read, Ask, Offer, Swap, Exchange, Drop}
 use Rattle.step_core.specs.declared.act.Task.{Task}
 use Rattle.step_core.specs.declared.ending.Ending.{Ending}
 use Rattle.step_core.specs.declared.holdings.Pointer.{Pointer}
-use Rattle.step_core.specs.Courses.{Walk, hand, idle, locked, placed, settled, slots_idle, taken_idle}
+use Rattle.step_core.specs.declared.call.CellName.{CellName}
+use Rattle.step_core.specs.declared.slot.Slot.{Slot}
+use Rattle.step_core.specs.Contents.{swapped}
+use Rattle.step_core.specs.Courses.{Going, Walk, going, hand, idle, locked, on_going, other, placed, settled, slots_idle, taken_idle}
 use Rattle.step_core.specs.Deeds.{this_as}
 use Rattle.step_core.specs.Holdings.{Slots, inside, plain, slot, value}
 use Rattle.step_core.specs.Entries.{giving, least}
-use Rattle.step_core.specs.Scenes.{endings_by, found, hands, holding, taking, went}
+use Rattle.step_core.specs.Scenes.{came, endings_by, found, hands, holding, taking, went}
 -- ---- the tasks and endings of a settled thread
 
 settled_less : (ts : List Task) (slots : Slots) (taken : Bool) (es : List Ending) → length (settled slots taken es ts).todo ≤ length ts
@@ -53,6 +57,11 @@ idle_size (FromThis k kind) slots taken = refl
 idle_size (Alias k j field) slots taken = refl
 idle_size (Move k) slots taken = refl
 idle_size (Ask q) slots taken = refl
+idle_size (Offer k c) slots taken = refl
+idle_size (Swap c) slots true = placed_size (other slots) slots
+idle_size (Swap c) slots false = refl
+idle_size (Exchange k c) slots taken = refl
+idle_size Drop slots taken = length-set slots (other slots) plain
 
 pub settled_size : (ts : List Task) (slots : Slots) (taken : Bool) (es : List Ending) → length (settled slots taken es ts).slots ≡ length slots
 settled_size [] slots taken es = refl
@@ -70,6 +79,14 @@ taking_size : (slots : Slots) (must : Bool) (x : Option Pointer) → length (tak
 taking_size slots must None = refl
 taking_size slots must (Some x) = length-set slots (hand slots) _
 
+swapped_size : (i k : ℕ) (slots : Slots) (x : Slot) → length (swapped i k slots x) ≡ length slots
+swapped_size i k slots x = length-set (slice_set slots k x) i plain ∙ length-set slots k x
+
+going_size : (f : CellName → ℕ → Slots) (slots : Slots) (o : Option Going) → ((c : CellName) (k : ℕ) → length (f c k) ≡ length slots)
+    → length (on_going f slots o) ≡ length slots
+going_size f slots None size = refl
+going_size f slots (Some x) size = size x.0 x.1
+
 hands_size : (s : State) (d : ℕ) (slots : Slots) (taken : Bool) (a : Act) → length (hands s d slots taken a).0 ≡ length slots
 hands_size s d slots taken (Make form) = holding_size slots form.null (least d s.stores)
 hands_size s d slots taken (Share k) = length-set slots (hand slots) _
@@ -85,6 +102,13 @@ hands_size s d slots taken (FromThis k kind) = taking_size slots true (option_ma
 hands_size s d slots taken (Alias k j field) = length-set slots (hand slots) _
 hands_size s d slots taken (Move k) = length-set (slice_set slots (hand slots) (value slots k)) k plain ∙ length-set slots (hand slots) (value slots k)
 hands_size s d slots taken (Ask q) = refl
+hands_size s d slots taken (Offer k c) = length-set slots (hand slots) _
+hands_size s d slots taken (Swap c) =
+    going_size (λ x i. swapped i (other slots) slots (came s x)) slots (going slots (Swap c))
+    (λ x i. swapped_size i (other slots) slots (came s x))
+hands_size s d slots taken (Exchange k c) =
+    going_size (λ x i. slice_set slots i (came s x)) slots (going slots (Exchange k c)) (λ x i. length-set slots i (came s x))
+hands_size s d slots taken Drop = length-set slots (other slots) plain
 
 -- ---- a thread after an act alone
 
@@ -125,6 +149,16 @@ free_placed k slots =
     let n = length-set slots k (value slots (hand slots)) in
     free_set (slice_set slots k (value slots (hand slots))) (hand slots) (omega (arith, n))
 
+free_dropped : (slots : Slots) → IsFree slots → IsFree (slice_set slots (other slots) plain)
+free_dropped slots h =
+    let n = length-set slots (other slots) plain in
+    let same : hand slots ≡ hand (slice_set slots (other slots) plain) = omega (arith, n) in
+    elim (cases_eq (hand slots) (other slots)) [
+      | inl e ↦ free_set slots (other slots) (sym e)
+      | inr ne ↦ subst (λ (j : ℕ). value (slice_set slots (other slots) plain) j ≡ plain) same
+          (get_or-set_other slots (other slots) (hand slots) plain plain ne ∙ h)
+    ]
+
 free_idle : (a : Act) (slots : Slots) (taken : Bool) → IsFree slots → IsFree (slots_idle a slots taken)
 free_idle (Put k) slots true h = free_placed k slots
 free_idle (Put k) slots false h = h
@@ -141,6 +175,11 @@ free_idle (FromThis k kind) slots taken h = h
 free_idle (Alias k j field) slots taken h = h
 free_idle (Move k) slots taken h = h
 free_idle (Ask q) slots taken h = h
+free_idle (Offer k c) slots taken h = h
+free_idle (Swap c) slots true h = free_placed (other slots) slots
+free_idle (Swap c) slots false h = h
+free_idle (Exchange k c) slots taken h = h
+free_idle Drop slots taken h = free_dropped slots h
 
 free_settled : (ts : List Task) (slots : Slots) (taken : Bool) (es : List Ending) → IsFree slots → IsFree (settled slots taken es ts).slots
 free_settled [] slots taken es h = h

@@ -6,16 +6,16 @@ use Rattle.control_word.specs.declared.handle.Kind.TheVariants.{Owner, Weak}
 use Rattle.control_word.specs.Histories.{entry, leads}
 use Rattle.control_word.specs.State.{Opening, State}
 use Rattle.step_core.specs.declared.act.Act.{Act}
-use Rattle.step_core.specs.declared.act.Act.TheVariants.{Make, Share, Downgrade, Alias, Move, FromThis, Lock, Put, Leave, Clear, Count, Expired, Read, Ask}
+use Rattle.step_core.specs.declared.act.Act.TheVariants.{Make, Share, Downgrade, Alias, Move, FromThis, Lock, Put, Leave, Clear, Count, Expired, Read, Ask, Offer, Swap, Exchange, Drop}
 use Rattle.step_core.specs.declared.act.Form.{Form}
 use Rattle.step_core.specs.declared.ending.Ending.{Ending}
 use Rattle.step_core.specs.declared.holdings.Pointer.{Pointer}
-use Rattle.step_core.specs.Courses.{locked}
+use Rattle.step_core.specs.Courses.{Going, going, locked, offered, on_going, other}
 use Rattle.step_core.specs.Deeds.{aliased, is_last}
 use Rattle.step_core.specs.Holdings.{Slots, inside, owner_slot, place_in, slot}
 use Rattle.step_core.specs.Entries.{History, acted, aliases, counts, downgrades, expires, given_as, gives, giving}
 use Rattle.step_core.specs.Scenes.{begins_end, begins_end_as, endings_by}
-use Rattle.step_core.specs.Entries.{least, leaves, left_as, locks, made, on, reads, shared_as, shares}
+use Rattle.step_core.specs.Entries.{least, leaves, left_as, locks, made, on, reads, shared_as, shares, swaps}
 use Rattle.step_core.specs.Totals.{ended_in, made_in}
 use Rattle.script_stepper.specs.Running.{parts_left}
 
@@ -73,6 +73,12 @@ left_tally : (z : Opening) (d k : ℕ) (h : History) (es : List Ending) (x : Opt
 left_tally z d k h es None = same 0 h h es refl refl
 left_tally z d k h es (Some p) = left_one d k h es (leads z h) p p.kind (is_last (leads z h) p)
 
+-- a value goes into a cell
+swapped : (z : Opening) (d : ℕ) (slots : Slots) (h : History) (es : List Ending) (o : Option Going)
+    → Tally 0 h es (on_going (swaps z d slots h) h o) es
+swapped z d slots h es None = same 0 h h es refl refl
+swapped z d slots h es (Some x) = same 0 h (swaps z d slots h x.0 x.1) es refl refl
+
 pub tally : (z : Opening) (d k : ℕ) (slots : Slots) (h : History) (es : List Ending) (a : Act)
     → Tally (may_make a) h es (acted z d slots h a) (endings_by (leads z h) k slots es a)
 tally z d k slots h es (Make form) = make_tally d form h es (least d (leads z h).stores)
@@ -93,3 +99,8 @@ tally z d k slots h es (Alias i j field) =
     same_on (aliases (aliased field (place_in slots j)) z d h) h es (owner_slot (slot slots i)) (λ p. refl) (λ p. refl)
 tally z d k slots h es (Move i) = same 0 h h es refl refl
 tally z d k slots h es (Ask q) = same 0 h h es refl refl
+tally z d k slots h es (Offer i c) =
+    same_on (shares z d h) h es (offered slots i c) (λ p. shared_made d h (leads z h) p p.kind) (λ p. shared_ended d h (leads z h) p p.kind)
+tally z d k slots h es (Swap c) = swapped z d slots h es (going slots (Swap c))
+tally z d k slots h es (Exchange i c) = swapped z d slots h es (going slots (Exchange i c))
+tally z d k slots h es Drop = left_tally z d k h es (slot slots (other slots))

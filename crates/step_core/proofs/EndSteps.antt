@@ -15,17 +15,18 @@ use Rattle.step_core.specs.declared.half.Half.TheVariants.{Rest}
 use Rattle.step_core.specs.declared.past.Deed.TheVariants.{Clear, Finish}
 use Rattle.step_core.specs.declared.thread.Thread.{Thread}
 use Rattle.step_core.specs.Actors.{HalfFits}
+use Rattle.step_core.specs.Courses.{task_at}
 use Rattle.step_core.specs.Endings.{EndsAll, IsEnding, Stack, staged, staged_first}
 use Rattle.step_core.specs.Stocks.{Stored}
 use Rattle.step_core.specs.Stories.{Kept, Story, after, object_in, pending, state}
-use Rattle.step_core.specs.Threads.{EndsFit, Fits, form_at}
+use Rattle.step_core.specs.Threads.{EndsFit, Fits}
 use Rattle.step_core.proofs.Endings.{finished_store}
 use Rattle.step_core.proofs.Threads.{own_pending, resting}
 use Rattle.step_core.proofs.holding.Ends.{each_end, once_first, once_rest, once_staged, others_end}
 use Rattle.step_core.proofs.tables.Places.{ending_busy, there}
 
 pub idle_here : (d : ℕ) (t : Thread) (v : Story) → Fits d t v → t.half ≡ Rest → pending v d ≡ Idle
-idle_here d t v fits e = subst (λ (h : Half). HalfFits d h (form_at t.course) v) e fits.half
+idle_here d t v fits e = subst (λ (h : Half). HalfFits d h t.course.holdings.slots.items (task_at t.course).act v) e fits.half
 
 -- the other endings, once one object is finished
 finished_others : (d : ℕ) (v : Story) (e : Ending) (es : List Ending) (vacant : Bool) → Kept v → EndsAll d (e ∷ es) v → IsEnding d e v
@@ -78,6 +79,7 @@ fits_finish d t v e r s kept fits rests list same is p room =
                 let o = x.stocked c in omega (arith, g, a, o);
             roomy = (let q = x.roomy in omega (arith, q, room));
           };
+      cells = fits.cells;
       endings = finished_ends d t v e r true kept fits list same is;
     })
 
@@ -97,6 +99,7 @@ fits_finish_not d t v e r kept fits rests list same is =
       half = own_pending v d (Finish b false) kept fits.seat;
       next = tt;
       stocks = record { stocked = x.stocked; roomy = x.roomy };
+      cells = fits.cells;
       endings = finished_ends d t v e r false kept fits list same is;
     })
 
@@ -141,5 +144,6 @@ fits_clear d t v e r es kept fits rests list new room is lt =
             roomy = (let q = fits.endings.roomy in omega (arith, q, room));
             empty = ⊎_elim (λ (n : t.course.endings.list ≡ []). absurd cc) (λ (n : t.course.taken ≡ false). inr n) fits.endings.empty;
           };
+      cells = fits.cells;
     })
 

@@ -29,14 +29,14 @@ use Rattle.step_core.specs.Entries.{on}
 use Rattle.step_core.specs.Scenes.{begins_end_as}
 use Rattle.step_core.specs.declared.thread.Thread.{Thread}
 use Rattle.step_core.specs.Actors.{HalfFits, Stocks, in_list, in_store}
-use Rattle.step_core.specs.Courses.{HasGoneOn, done_on}
+use Rattle.step_core.specs.Courses.{HasGoneOn, done_on, task_at}
 use Rattle.step_core.specs.Endings.{EndsAll, IsEnding, Stack}
 use Rattle.step_core.specs.Holdings.{Holds}
 use Rattle.step_core.specs.Openings.{opening}
 use Rattle.step_core.specs.Stocks.{Stored}
 use Rattle.step_core.specs.Stories.{Kept, Story, after, object_in, pending, state}
-use Rattle.step_core.specs.Threads.{Fits, IsStocked, IsStockedBy, form_at}
-use Rattle.step_core.proofs.Threads.{own_pending, resting}
+use Rattle.step_core.specs.Threads.{Fits, IsStocked, IsStockedBy}
+use Rattle.step_core.proofs.Threads.{cells_on, own_pending, resting}
 use Rattle.step_core.proofs.holding.Ends.{ends_none, ends_nothing, ends_one}
 use Rattle.step_core.proofs.holding.Storing.{counted_stored, one_stored}
 use Rattle.step_core.proofs.tables.Places.{ending_busy, handle_busy, there}
@@ -261,6 +261,7 @@ fits_leaving d t v c r s n x k b kept fits e none kept' on empty list room is =
             roomy = (let q = fits.endings.roomy in let z : c.endings.room ≡ t.course.endings.room = ap (λ (y : Stack). y.room) on.endings in omega (arith, q, z, room));
             empty = inr empty;
           };
+      cells = cells_on d t.course c (after v d (leave_as k x b)) on fits.cells;
     }
 
 -- a thread after it left what a slot held
@@ -268,7 +269,7 @@ pub fits_left : (d : ℕ) (t t' : Thread) (v w : Story) (c : Course) (n : ℕ) (
     → t.course.endings.list ≡ [] → w ≡ done_on (leave (state v)) v d o → last ≡ on (is_last (state v)) false o
     → HasLeft d t.course c t'.course w n o last → t'.half ≡ t.half → IsStockedBy o last t.stock t'.stock → Fits d t' w
 fits_left d t t' v w c n None last kept kept' fits e none is said left half stock =
-    let idle : HalfFits d Rest (form_at t.course) v = subst (λ (h : Half). HalfFits d h (form_at t.course) v) e fits.half in
+    let idle : HalfFits d Rest t.course.holdings.slots.items (task_at t.course).act v = subst (λ (h : Half). HalfFits d h t.course.holdings.slots.items (task_at t.course).act v) e fits.half in
     let r = t'.course.endings in
     let nothing : r.list ≡ [] = left.list ∙ ap (λ (z : Stack). z.list) left.gone.endings ∙ none in
     let room : t.course.endings.room ≤ r.room = let z : c.endings.room ≡ t.course.endings.room = ap (λ (y : Stack). y.room) left.gone.endings in let q = left.roomy in omega (arith, z, q) in
@@ -286,6 +287,7 @@ fits_left d t t' v w c n None last kept kept' fits e none is said left half stoc
       next = tt;
       stocks = resting d t v fits e;
       endings = ends_none d (record c { endings = r }) v nothing (let q = fits.endings.roomy in omega (arith, q, room));
+      cells = cells_on d t.course c v (subst (λ (u : Story). HasGoneOn d t.course c u) is left.gone) fits.cells;
     }))))
 fits_left d t t' v w c n (Some x) last kept kept' fits e none is said left half stock =
     let b = is_last (state v) x in

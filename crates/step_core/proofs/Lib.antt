@@ -19,3 +19,4 @@ pub mod StartStores
 pub mod telling
 pub mod turning
 mod contained
+pub mod Storing

@@ -7,3 +7,4 @@ pub mod Owning
 pub mod Slots
 pub mod Storing
 pub mod Values
+pub mod Halves

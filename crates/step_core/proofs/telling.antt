@@ -1,6 +1,9 @@
 pub mod Walking
 pub mod Order
+pub mod Deeds
 pub mod Counting
+pub mod Still
+pub mod Swapping
 pub mod Ending
 pub mod Stepping
 pub mod Worlds

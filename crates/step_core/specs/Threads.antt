@@ -31,7 +31,6 @@ IsNext (Making b i differs) c = (c.at < length c.tasks.items) × ((task_at c).ac
 IsNext (Locking word) c = (c.at < length c.tasks.items) × (is_full (locked c.holdings.slots.items (task_at c).act) ≡ true) × (c.endings.list ≡ [])
 IsNext (Giving i kind x) c =
     (c.at < length c.tasks.items) × ((task_at c).act ≡ FromThis i kind) × (inside (slot c.holdings.slots.items i) ≡ Some x) × (c.endings.list ≡ [])
-
 IsNext Brought c = (c.at < length c.tasks.items) × (is_some (going c.holdings.slots.items (task_at c).act) ≡ true) × (c.endings.list ≡ [])
 IsNext (Returning kind b funds k) c = Unit {0}
 

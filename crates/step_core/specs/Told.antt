@@ -22,7 +22,7 @@ abbrev pub AllEnd : State → (ℕ → List Ending) → Type 0
 AllEnd s f = (o e : ℕ) → (s.object o).phase ≡ ending e → 0 < endings_of (s.object o).block (f e)
 
 -- the totals are those of the history, and small: an object is made by a task that has the steps of its end, and no more are left
--- than were made. Nothing was done to a cell
+-- than were made. No member was filled, and no count lags behind
 pub record IsTold (u : Sight) (m e : ℕ) : Type 0 where
   pub threads : length u.walks ≡ u.story.extent.actors
   pub halves : length u.halves ≡ length u.walks

@@ -189,7 +189,10 @@ fn parts(call: Call) -> (Act, Tail)
         | Call::Reset { name }
         | Call::WeakEmpty { target: name }
         | Call::WeakReset { name } => (Act::Leave { name: name.0 }, Tail::Nothing),
-        Call::Count { name } | Call::WeakCount { name } => (Act::Count { name: name.0 }, Tail::Nothing),
+        Call::Count { name } | Call::WeakCount { name } => (
+            Act::Count { name: name.0 },
+            Tail::Nothing,
+        ),
         Call::Expired { name } => (Act::Expired { name: name.0 }, Tail::Nothing),
         Call::MakeThis { target, fields } => (make(fields, true, false), Tail::Named(target)),
         Call::Null { target } => (make([0; 4], false, true), Tail::Named(target)),
@@ -211,7 +214,10 @@ fn parts(call: Call) -> (Act, Tail)
             let name = source.0;
             (Act::Offer { name, cell }, Tail::Into(cell))
         }
-        Call::Exchange { cell, name: Name(name) } => (Act::Exchange { name, cell }, Tail::Nothing),
+        Call::Exchange {
+            cell,
+            name: Name(name),
+        } => (Act::Exchange { name, cell }, Tail::Nothing),
     }
 }
 

@@ -48,6 +48,8 @@ mod slot;
 #[cfg(test)]
 mod step_tests;
 mod stock;
+#[cfg(test)]
+mod store_tests;
 mod storing;
 mod swapping;
 mod table;

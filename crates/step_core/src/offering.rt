@@ -51,13 +51,7 @@ impl Course {
     }
 
     /// Takes a copy of what a name holds, where it may go into the cell. Answers whether that touched a block.
-    pub(crate) fn offer(
-        &mut self,
-        desk: usize,
-        table: &mut Table,
-        name: u8,
-        cell: CellName,
-    ) -> bool
+    pub(crate) fn offer(&mut self, desk: usize, table: &mut Table, name: u8, cell: CellName) -> bool
         requires can { CanAct desk self.old table.old }
         requires act { (task_at self.old).act ≡ Act.Offer name cell }
         ensures event { result ≡ is_full (offered self.old.holdings.slots.items name cell) }
@@ -136,9 +130,7 @@ impl Course {
         ensures on { HasGoneOn desk self.old self.new table.new }
     {
         let cell = table.cell(cell);
-        let found = self
-            .holdings
-            .exchange(desk, table, cell, usize::from(name));
+        let found = self.holdings.exchange(desk, table, cell, usize::from(name));
         self.go_on();
         found
     }

@@ -17,7 +17,8 @@ const W: Name = Name(2);
 
 const C: Name = Name(3);
 
-/// A world of one actor with the owners `A` and `B`, the weak name `W` and the owners `C` and `D`, and with two blocks.
+/// A world of one actor with the owners `A` and `B`, the weak name `W` and the owners `C` and `D`, with two blocks and a cell of
+/// each kind.
 pub(crate) fn world(rt: &impl Abort, alloc: Global, calls: &[Call]) -> Result<World, AllocError> {
     let actor = Actor {
         kinds: [
@@ -34,8 +35,8 @@ pub(crate) fn world(rt: &impl Abort, alloc: Global, calls: &[Call]) -> Result<Wo
     let actors = vec![in alloc; actor]?;
     let shape = Shape {
         blocks: 2,
-        shared_cells: 0,
-        weak_cells: 0,
+        shared_cells: 1,
+        weak_cells: 1,
         allowance: 40,
     };
     Ok(

@@ -139,6 +139,8 @@ fn weight(act: Act) -> usize
 {
     match act {
         Act::Make { .. } => 28,
+        Act::Swap { .. } => 3,
+        Act::Exchange { .. } => 3,
         _ => 2,
     }
 }

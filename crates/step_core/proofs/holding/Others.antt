@@ -17,19 +17,17 @@ use Rattle.control_word.specs.Handles.{empty, handle}
 use Rattle.control_word.specs.State.{Has, Held, Object, Phase, State, Stored, bag, common, ending, held, kind_of_member, live, same_held, same_stored}
 use Rattle.control_word.specs.State.{stock, stored, unmade, weak_number}
 use Rattle.control_word.specs.Views.{used_up}
-use Rattle.step_core.specs.declared.act.Form.{Form}
 use Rattle.step_core.specs.declared.ending.Ending.{Ending}
 use Rattle.step_core.specs.declared.half.Half.{Half}
-use Rattle.step_core.specs.declared.half.Half.TheVariants.{Rest, Making, Locking, Giving}
 use Rattle.step_core.specs.declared.holdings.Pointer.{Pointer}
 use Rattle.step_core.specs.declared.past.Deed.{Deed}
 use Rattle.step_core.specs.declared.past.Deed.TheVariants.{Prepare, Write, Claim, Share, WeakShare, Leave, WeakLeave, Lock, Count, Expired, Read, Clear, Finish, OnCell}
-use Rattle.step_core.specs.Actors.{HalfFits, Stocks, in_store}
+use Rattle.step_core.specs.Actors.{Stocks, in_store}
 use Rattle.step_core.specs.Endings.{EndsAll}
 use Rattle.step_core.specs.Holdings.{Holds, Slots, slot, times}
 use Rattle.step_core.specs.Openings.{opening}
 use Rattle.step_core.specs.Entries.{least}
-use Rattle.step_core.specs.Stories.{Kept, known, Nothing, Story, after, handle_in, object_in, owner_in, pending, state, weak_in}
+use Rattle.step_core.specs.Stories.{Kept, Nothing, Story, after, handle_in, object_in, owner_in, pending, state, weak_in}
 use Rattle.step_core.proofs.holding.Ends.{each_end}
 use Rattle.step_core.proofs.holding.Least.{least_part}
 use Rattle.step_core.proofs.holding.Owning.{same_owns, slot_held}
@@ -87,7 +85,7 @@ block_stays v e o (Finish b vacant) le = (block_after {V = Nothing} (state v) e 
 block_stays v e o (OnCell x) le = (framed v e x).block o
 
 -- so does whether it gives pointers to itself
-enabled_stays : (v : Story) (e o : ℕ) (x : Deed) → o ≤ (state v).made → ((state (after v e x)).object o).enabled ≡ ((state v).object o).enabled
+pub enabled_stays : (v : Story) (e o : ℕ) (x : Deed) → o ≤ (state v).made → ((state (after v e x)).object o).enabled ≡ ((state v).object o).enabled
 enabled_stays v e o (Prepare b) le = refl
 enabled_stays v e o (Write b j m) le = refl
 enabled_stays v e o (Claim b enabled null fields) le =
@@ -200,38 +198,8 @@ ends_on v e d o (Finish b vacant) n kept kept' end =
 ends_on v e d o (OnCell x) n kept kept' end = (framed v e x).phase o ∙ end
 
 -- the same store has the same least block
-least_others : (d : ℕ) (s t : State) → Same s t d → least d t.stores ≡ least d s.stores
+pub least_others : (d : ℕ) (s t : State) → Same s t d → least d t.stores ≡ least d s.stores
 least_others d s t same = least_part d t.stores ∙ ap (least d) same.in_stock ∙ sym (least_part d s.stores)
-
--- another desk's deed leaves a half-done act
-pub half_others : (d : ℕ) (half : Half) (form : Form) (v : Story) (e : ℕ) (x : Deed) → e ≢ d → Kept v → Kept (after v e x)
-    → HalfFits d half form v
-    → HalfFits d half form (after v e x)
-half_others d Rest form v e x n kept kept' fits = same_pending v e d x n ∙ fits
-half_others d (Making b at f) form v e x n kept kept' fits =
-    let same = same_pending v e d x n in
-    record {
-      making = record { words = fits.making.words; size = fits.making.size; making = same ∙ fits.making.making };
-      within = fits.within;
-      least = least_others d (state v) (state (after v e x)) (same_deed v e d x n) ∙ fits.least;
-      done = λ j le. ap (λ (p : Pending Nothing). get_or (known p) j 0) same ∙ fits.done j le;
-    }
-half_others d (Locking word) form v e x n kept kept' fits = (same_pending v e d x n ∙ fits.0, fits.1)
-half_others d (Giving i kind y) form v e x n kept kept' fits =
-    let has = has_same (state v) (state (after v e x)) d _ (same_deed v e d x n) fits.has in
-    let busy = handle_busy v d y.kind y.block y.place kept fits.has in
-    let busy' = held_busy (opening v.extent) (state (after v e x)) d (object_in v y.block) y.kind y.place
-    (sound (opening v.extent) (after v e x).history kept'.stands.legal) has in
-    let o = kept_object v e y.block x kept kept' busy busy' in
-    let fine = sound (opening v.extent) v.history kept.stands.legal in
-    record {
-      idle = same_pending v e d x n ∙ fits.idle;
-      has = subst (λ (k : ℕ). Has (held d (handle y.kind (Some k) y.place)) (state (after v e x)).hands) (sym o) has;
-      enabled =
-          ap (λ (k : ℕ). ((state (after v e x)).object k).enabled) o
-          ∙ enabled_stays v e (object_in v y.block) x (fine.latest_made y.block.0)
-          ∙ fits.enabled;
-    }
 
 -- another desk's deed leaves the endings
 pub ends_others : (d : ℕ) (es : List Ending) (v : Story) (e : ℕ) (x : Deed) → e ≢ d → Kept v → Kept (after v e x) → EndsAll d es v

@@ -1,5 +1,5 @@
 -- What locks answer.
-use Rattle.std.proofs.Common.{◌≡◌, ℕ, ◌+◌, ◌-◌, ◌==◌, Bool, true, false, cond, List, [], ◌∷◌, length, get_or, refl, sym, ap, subst, ◌∙◌, arith}
+use Rattle.std.proofs.Common.{◌≡◌, ℕ, ◌-◌, ◌==◌, Bool, true, false, cond, List, [], ◌∷◌, length, get_or, refl, sym, ap, subst, ◌∙◌, arith}
 use Rattle.std.specs.Prelude.{Option, Some, None, not, option_map}
 use Rattle.std.proofs.lemmas.Bool.{cond_both}
 use Rattle.control_word.specs.declared.event.Entry.{Entry}
@@ -12,10 +12,10 @@ use Rattle.control_word.specs.declared.place.Block.{Block}
 use Rattle.control_word.specs.Histories.{entry}
 use Rattle.control_word.specs.State.{State, weak}
 use Rattle.step_core.specs.declared.act.Act.{Act}
-use Rattle.step_core.specs.declared.act.Act.TheVariants.{Make, Share, Downgrade, Lock, Put, Leave, Clear, Count, Expired, Read, FromThis, Alias, Move, Ask}
+use Rattle.step_core.specs.declared.act.Act.TheVariants.{Make, Share, Downgrade, Lock, Put, Leave, Clear, Count, Expired, Read, FromThis, Alias, Move, Ask, Offer, Swap, Exchange, Drop}
 use Rattle.step_core.specs.declared.act.Task.{Task}
 use Rattle.step_core.specs.declared.half.Half.{Half}
-use Rattle.step_core.specs.declared.half.Half.TheVariants.{Rest, Making, Locking, Giving}
+use Rattle.step_core.specs.declared.half.Half.TheVariants.{Rest, Making, Locking, Giving, Brought, Returning}
 use Rattle.step_core.specs.declared.holdings.Pointer.{Pointer}
 use Rattle.step_core.specs.declared.past.Deed.{Deed}
 use Rattle.step_core.specs.declared.past.Deed.TheVariants as deed
@@ -25,14 +25,15 @@ use Rattle.step_core.specs.declared.said.Stepped.TheVariants as stepped
 use Rattle.step_core.specs.declared.trace.TraceStep.{TraceStep}
 use Rattle.step_core.specs.Actors.{wanted}
 use Rattle.step_core.specs.declared.ending.Ending.{Ending}
-use Rattle.step_core.specs.Courses.{Walk, form_of, hand, locked}
+use Rattle.step_core.specs.Courses.{Going, Walk, form_of, going, hand, locked, offered, on_going, other}
 use Rattle.step_core.specs.Deeds.{is_enabled, read, as_owner, downgrade, is_expired, is_last, leave, leave_as, lock, owner_word, share, share_as, tell, tell_expired, alias, aliased}
 use Rattle.step_core.specs.Endings.{staged}
 use Rattle.step_core.specs.Headline.{TellsLocks, Was, answer_by}
 use Rattle.step_core.specs.Holdings.{inside, is_full, slot, owner_slot, place_in}
 use Rattle.step_core.specs.Entries.{least, on}
 use Rattle.step_core.specs.Scenes.{found, lock_answer, walk_of}
-use Rattle.step_core.specs.Steps.{asks, at_rest, given as given_by, Step, acts, begins, begun, claims, ends_on, first, is_event, looks, made_on, prepares, silent, step_at, stepped as stepped_by, story_after, story_by, tried, tries, trying, with_endings}
+use Rattle.step_core.specs.Steps.{asks, at_rest, brings, given as given_by, Step, acts, begins, begun, claims, ends_on, first, is_event, looks, made_on, prepares}
+use Rattle.step_core.specs.Steps.{sends, sent, silent, step_at, stepped as stepped_by, story_after, story_by, swaps, tried, tries, trying, with_endings}
 use Rattle.step_core.specs.Stories.{Nothing, Story, added, event_of, known, object_in, pending, state}
 use Rattle.step_core.specs.Worlds.{Sight, half_of, scene, step_of}
 use Rattle.step_core.proofs.tables.CellDeeds.{by_event}
@@ -101,6 +102,24 @@ given_tells v d i q x w [] = tt
 given_tells v d i Owner x w (t ∷ ts) = tt
 given_tells v d i Weak x w (t ∷ ts) = tt
 
+-- a value goes into a cell, or its funds are brought first
+going_tells : (v : Story) (d k : ℕ) (w : Walk) (ts : List Task) (a : Act) (o : Option Going)
+    → Tells (Some (on_going (sends v d w k ts a) (acts (state v) d w k ts a None Rest) o))
+going_tells v d k w ts a None = tt
+going_tells v d k w ts a (Some x) = go (slot w.slots x.1)
+  where
+    go : (o : Option Pointer) → Tells (Some (on (brings w k) (swaps v d w k ts a x.0 x.1) o))
+    go None = tt
+    go (Some y) = tt
+
+sent_tells : (v : Story) (d : ℕ) (w : Walk) (ts : List Task) → Tells (sent v d w ts)
+sent_tells v d w [] = tt
+sent_tells v d w (t ∷ ts) = go (going w.slots t.act)
+  where
+    go : (o : Option Going) → Tells (option_map (λ (x : Going). swaps v d w t.statement ts t.act x.0 x.1) o)
+    go None = tt
+    go (Some x) = tt
+
 first_tells : (v : Story) (d k : ℕ) (w : Walk) (ts : List Task) (a : Act) → Tells (Some (first v d w k ts a))
 first_tells v d k w ts (Make form) = begin_tells w k ts (least d (state v).stores)
 first_tells v d k w ts (Share i) = plain share _ (λ x. share_plain x.kind x) (slot w.slots i)
@@ -115,6 +134,10 @@ first_tells v d k w ts (FromThis i kind) = ask_tells v d k i kind w ts (inside (
 first_tells v d k w ts (Alias i j field) = plain (alias (aliased field (place_in w.slots j))) _ (λ x. refl) (owner_slot (slot w.slots i))
 first_tells v d k w ts (Move i) = tt
 first_tells v d k w ts (Ask q) = tt
+first_tells v d k w ts (Offer i c) = plain share _ (λ x. share_plain x.kind x) (offered w.slots i c)
+first_tells v d k w ts (Swap c) = going_tells v d k w ts (Swap c) (going w.slots (Swap c))
+first_tells v d k w ts (Exchange i c) = going_tells v d k w ts (Exchange i c) (going w.slots (Exchange i c))
+first_tells v d k w ts Drop = plain (leave (state v)) _ (λ x. leave_plain x.kind x (is_last (state v) x)) (slot w.slots (other w.slots))
 first_tells v d k w ts (Lock i must) = lock_tells v d k i w ts must (locked w.slots (Lock i must)) refl
 
 task_tells : (v : Story) (d : ℕ) (w : Walk) (ts : List Task) → Tells (begun v d w ts)
@@ -170,6 +193,8 @@ step_tells v d Rest w = rest_tells v d w w.endings
 step_tells v d (Making b i f) w = make_tells v d i w b f w.todo
 step_tells v d (Locking word) w = tried_tells v d word w w.todo
 step_tells v d (Giving i kind x) w = given_tells v d i kind x w w.todo
+step_tells v d Brought w = sent_tells v d w w.todo
+step_tells v d (Returning kind b funds k) w = tt
 
 as_answered : (v : Story) (x : Step) → answer_by (stepped_by v (Some x)) ≡ x.said.answer
 as_answered v x =

@@ -1,148 +1,38 @@
 -- How many steps a thread has left, step by step.
-use Rattle.std.proofs.Common.{◌≡◌, ℕ, suc, ◌+◌, ◌*◌, ◌<◌, ◌≤◌, ◌==◌, Bool, true, false, cond, List, [], ◌∷◌, length, get_or, refl, sym, ap, subst, ◌∙◌, arith}
+use Rattle.std.proofs.Common.{◌≡◌, ℕ, ◌+◌, ◌<◌, ◌≤◌, ◌==◌, Bool, true, false, cond, List, [], ◌∷◌, get_or, refl, sym, ap, ◌∙◌, arith}
 use Rattle.std.specs.Prelude.{All, Option, Some, None, is_some, option_map}
-use Rattle.std.proofs.lemmas.Bool.{cond_both, eq-eqb, eqb-false, false≢true}
+use Rattle.std.proofs.lemmas.Bool.{cond_both, eqb-false, false≢true}
 use Rattle.std.proofs.lemmas.List.Elements.{All-head}
 use Rattle.control_word.specs.declared.handle.Kind.{Kind}
-use Rattle.control_word.specs.declared.handle.Kind.TheVariants.{Owner, Weak}
 use Rattle.control_word.specs.declared.place.Block.{Block}
 use Rattle.control_word.specs.State.{weak}
 use Rattle.step_core.specs.declared.act.Act.{Act}
 use Rattle.step_core.specs.declared.act.Form.{Form}
-use Rattle.step_core.specs.declared.act.Act.TheVariants.{Make, Share, Downgrade, Lock, Put, Leave, Clear, Count, Expired, Read, FromThis, Alias, Move, Ask}
+use Rattle.step_core.specs.declared.act.Act.TheVariants.{Make, Share, Downgrade, Lock, Put, Leave, Clear, Count, Expired, Read, FromThis, Alias, Move, Ask, Offer, Swap, Exchange, Drop}
 use Rattle.step_core.specs.declared.act.Task.{Task}
 use Rattle.step_core.specs.declared.ending.Ending.{Ending}
 use Rattle.step_core.specs.declared.half.Half.{Half}
-use Rattle.step_core.specs.declared.half.Half.TheVariants.{Rest, Making, Locking, Giving}
+use Rattle.step_core.specs.declared.half.Half.TheVariants.{Rest, Making, Locking, Giving, Brought, Returning}
 use Rattle.step_core.specs.declared.holdings.Pointer.{Pointer}
-use Rattle.step_core.specs.declared.past.Deed.{Deed}
 use Rattle.step_core.specs.declared.past.Deed.TheVariants as deed
-use Rattle.step_core.specs.declared.said.Stepped.{Stepped}
-use Rattle.step_core.specs.declared.said.Stepped.TheVariants as stepped
 use Rattle.step_core.specs.Actors.{wanted}
 use Rattle.step_core.specs.Bounds.{spare, walk_steps, weight}
-use Rattle.step_core.specs.Courses.{Walk, form_of, hand, locked, settled}
-use Rattle.step_core.specs.Deeds.{alias, aliased, downgrade, give, is_enabled, is_last, leave, leave_as, lock, owned, owner_word, read, share, tell, tell_expired}
+use Rattle.control_word.specs.declared.cell.CellWord.{CellWord}
+use Rattle.step_core.specs.Contents.{seen}
+use Rattle.step_core.specs.Courses.{Going, Walk, cell_at, form_of, going, hand, kind_at, locked, offered, on_going, other, settled}
+use Rattle.step_core.specs.Deeds.{alias, aliased, downgrade, give, is_enabled, lock, owned, owner_word, read, share, tell, tell_expired}
 use Rattle.step_core.specs.Endings.{staged}
 use Rattle.step_core.specs.Holdings.{inside, is_full, owner_slot, place_in, slot}
 use Rattle.step_core.specs.Entries.{least, on}
-use Rattle.step_core.specs.Scenes.{ended_by, holding, left as leaves_by, remains_as, went}
-use Rattle.step_core.specs.Steps.{Step, acts, asks, at_rest, begins, begun, claims, ends_on, first, given, is_event, looks, made_on, prepares}
-use Rattle.step_core.specs.Steps.{silent, step_at, stepped as stepped_by, story_after, tried, tries, trying, with_endings}
+use Rattle.step_core.specs.Scenes.{holding, left as leaves_by, went}
+use Rattle.step_core.specs.Steps.{Step, acts, asks, at_rest, begins, begun, brings, claims, ends_on, first, given, gives_back, looks, made_on, prepares}
+use Rattle.step_core.specs.Steps.{sends, sent, silent, step_at, stepped as stepped_by, story_after, swaps, tried, tries, trying, with_endings}
 use Rattle.step_core.specs.Stories.{Story, known, object_in, pending, state}
-use Rattle.step_core.specs.Told.{ends_by, is_prepared, makes}
-use Rattle.step_core.specs.Turning.{IsAlone, IsLock, IsTried, IsUnderWay}
-use Rattle.step_core.proofs.telling.Walking.{IsFree, carried_leaves, ends_at, over_less, settled_alone, staged_less, walk_alone, weight_two, went_less, went_plain}
-
--- the word that counts the owners of what the next act locks
-abbrev word_of : Story → Walk → List Task → ℕ
-word_of v w [] = 0
-word_of v w (t ∷ ts) = on (owner_word v) 0 (locked w.slots t.act)
-
--- how many steps a half-done act has to spare where its thread runs alone: a lock whose word is still the one found is done next,
--- and any other begins again first
-abbrev pub alone : Story → Walk → Half → ℕ
-alone v w Rest = spare Rest
-alone v w (Making b i differs) = spare (Making b i differs)
-alone v w (Locking word) = cond (word_of v w w.todo == word) 14 16
-alone v w (Giving i kind x) = spare (Giving i kind x)
-
-alone_of_lock : (v : Story) (w : Walk) (word : ℕ) → (14 ≤ alone v w (Locking word)) × (alone v w (Locking word) ≤ 16)
-alone_of_lock v w word = go (word_of v w w.todo == word)
-  where
-    go : (b : Bool) → (14 ≤ cond b 14 16) × (cond b 14 16 ≤ 16)
-    go true = (omega arith, omega arith)
-    go false = (omega arith, omega arith)
-
-alone_same : (v : Story) (w : Walk) (word : ℕ) → word_of v w w.todo ≡ word → alone v w (Locking word) ≡ 14
-alone_same v w word is = ap {B = ℕ} (λ (b : Bool). cond b 14 16) (eq-eqb _ _ is)
-
-alone_other : (v : Story) (w : Walk) (word : ℕ) → (word_of v w w.todo == word) ≡ false → alone v w (Locking word) ≡ 16
-alone_other v w word is = ap {B = ℕ} (λ (b : Bool). cond b 14 16) is
-
-pub alone_most : (v : Story) (w : Walk) (h : Half) → alone v w h ≤ spare h + 1
-alone_most v w Rest = omega arith
-alone_most v w (Making b i differs) = omega arith
-alone_most v w (Locking word) = let l = (alone_of_lock v w word).1 in omega (arith, l)
-alone_most v w (Giving i kind x) = omega arith
-
--- A step leaves the thread with fewer steps, where it runs alone, and never with more. An object that is made has the steps of
--- its end, and one whose last owner left gives them to its ending
-pub record Lessens (v v' : Story) (h h' : Half) (w w' : Walk) (made ended : ℕ) : Type 0 where
-  pub own : walk_steps w' + 13 * made + alone v' w' h' < walk_steps w + 13 * ended + alone v w h
-  pub most : walk_steps w' + 13 * made + spare h' ≤ walk_steps w + 13 * ended + spare h
-
--- no step, just at the end; or the thread has fewer steps left than it had, with h begun
-abbrev pub IsLess : Story → ℕ → Half → Walk → Option Step → Type 0
-IsLess v d h w None = (w.todo ≡ []) × (w.endings ≡ []) × (h ≡ Rest)
-IsLess v d h w (Some x) =
-    Lessens v (story_after v d x.deed) h x.half w x.walk (makes h (stepped_by v (Some x))) (ends_by (stepped_by v (Some x)))
-
--- none is made but by a make that is prepared
-none_made : (h : Half) (r : Stepped) → is_prepared h ≡ false → makes h r ≡ 0
-none_made h (stepped.Event x) e = ap (λ (b : Bool). cond b 1 0) e
-none_made h (stepped.Quiet x) e = refl
-none_made h stepped.Waited e = refl
-none_made h stepped.Done e = refl
-
-one_made : (h : Half) (r : Stepped) → makes h r ≤ 1
-one_made h (stepped.Event x) = go (is_prepared h)
-  where
-    go : (b : Bool) → cond b 1 0 ≤ 1
-    go true = omega arith
-    go false = omega arith
-one_made h (stepped.Quiet x) = omega arith
-one_made h stepped.Waited = omega arith
-one_made h stepped.Done = omega arith
-
--- the act is done by which nothing leaves
-plain_less : (v : Story) (d k : ℕ) (h : Half) (w : Walk) (t : Task) (ts : List Task) (a : Act) (x : Option Deed) → is_prepared h ≡ false
-    → leaves_by w.slots a ≡ None → w.endings ≡ [] → w.todo ≡ t ∷ ts → 14 ≤ alone v w h → 14 ≤ spare h
-    → IsLess v d h w (Some (acts (state v) d w k ts a x Rest))
-plain_less v d k h w t ts a x unmade stays none is own most =
-    let l = went_plain (state v) d k w t ts a none is stays in
-    let m = none_made h (stepped_by v (Some (acts (state v) d w k ts a x Rest))) unmade in
-    record { own = omega (arith, l, m, own); most = omega (arith, l, m, most) }
-
--- the steps that an object's end gets are told
-left_ends : (v : Story) (d k : ℕ) (x : Walk) (o : Option Pointer)
-    → ends_by (stepped_by v (Some (record {
-      deed = option_map (leave (state v)) o;
-      half = Rest;
-      walk = x;
-      said = record { statement = k; answer = None; ended = ended_by (state v) o };
-    }))) ≡ ends_at (state v) o
-left_ends v d k x None = refl
-left_ends v d k x (Some y) = go y.kind (is_last (state v) y)
-  where
-    go : (q : Kind) (b : Bool) → ends_by (stepped_by v (Some (record {
-      deed = Some (leave_as q y b);
-      half = Rest;
-      walk = x;
-      said = record { statement = k; answer = None; ended = cond b (remains_as q ((state v).object (owned (state v) y))) None };
-    }))) ≡ cond (is_some (cond b (remains_as q ((state v).object (owned (state v) y))) None)) 1 0
-    go Owner b = refl
-    go Weak true = refl
-    go Weak false = refl
-
--- so it is where a pointer leaves
-left_less : (v : Story) (d k : ℕ) (w x : Walk) (o : Option Pointer) → walk_steps x + 1 ≤ walk_steps w + 13 * ends_at (state v) o
-    → IsLess v d Rest w (Some (record {
-      deed = option_map (leave (state v)) o;
-      half = Rest;
-      walk = x;
-      said = record { statement = k; answer = None; ended = ended_by (state v) o };
-    }))
-left_less v d k w x o le =
-    let y : Step = record {
-      deed = option_map (leave (state v)) o;
-      half = Rest;
-      walk = x;
-      said = record { statement = k; answer = None; ended = ended_by (state v) o };
-    } in
-    let m = none_made Rest (stepped_by v (Some y)) refl in
-    let e = left_ends v d k x o in
-    record { own = omega (arith, le, m, e); most = omega (arith, le, m, e) }
+use Rattle.step_core.specs.Told.{is_prepared}
+use Rattle.step_core.specs.Turning.{IsAlone, IsLock, IsSwap, IsTried, IsUnderWay}
+use Rattle.step_core.proofs.telling.Walking.{IsFree, carried_leaves, over_less, settled_alone, staged_less, walk_alone, weight_two, went_less}
+use Rattle.step_core.proofs.telling.Swapping.{went_swap}
+use Rattle.step_core.proofs.runs.Alone.{IsLess, Lessens, alone, alone_of_lock, alone_other, alone_same, left_less, none_made, one_made, plain_less, word_of}
 
 begun_less : (v : Story) (d k : ℕ) (w : Walk) (t : Task) (ts : List Task) (o : Option ℕ) → w.endings ≡ [] → w.todo ≡ t ∷ ts
     → IsLess v d Rest w (Some (begins w k ts o))
@@ -193,6 +83,50 @@ give_less v d i q x w [] none is way = absurd way
 give_less v d i q x w (t ∷ ts) none is way =
     plain_less v d t.statement (Giving i q x) w t ts (FromThis i q) (Some (give q x)) refl refl none is (omega arith) (omega arith)
 
+-- what comes out of a cell is given back, or nothing is
+spare_back : (q : Kind) (k : ℕ) (x : CellWord) (o : Option Block) → spare (gives_back q k x o) ≡ 15
+spare_back q k x None = refl
+spare_back q k x (Some b) = refl
+
+alone_back : (v : Story) (w : Walk) (q : Kind) (k : ℕ) (x : CellWord) (o : Option Block) → alone v w (gives_back q k x o) ≤ 16
+alone_back v w q k x None = omega arith
+alone_back v w q k x (Some b) = omega arith
+
+-- a value goes into a cell
+swapped_less : (v : Story) (d k : ℕ) (h : Half) (w : Walk) (t : Task) (ts : List Task) (a : Act) (x : Going) → is_prepared h ≡ false
+    → w.endings ≡ [] → w.todo ≡ t ∷ ts → t.act ≡ a → going w.slots a ≡ Some x → 14 ≤ alone v w h → 15 ≤ spare h
+    → IsLess v d h w (Some (swaps v d w k ts a x.0 x.1))
+swapped_less v d k h w t ts a x unmade none is same goes own most =
+    let y = swaps v d w k ts a x.0 x.1 in
+    let found = seen v (cell_at (state v) x.0) in
+    let l = went_swap (state v) d k w t ts a x none is same goes in
+    let m = none_made h (stepped_by v (Some y)) unmade in
+    let r = alone_back (story_after v d y.deed) y.walk (kind_at x.0) k found found.owned in
+    let s = spare_back (kind_at x.0) k found found.owned in
+    record { own = omega (arith, l, m, own, r); most = omega (arith, l, m, most, s) }
+
+-- its funds are brought first, where it has an object
+brought_less : (v : Story) (d k : ℕ) (w : Walk) (t : Task) (ts : List Task) (a : Act) (x : Going) → w.endings ≡ [] → w.todo ≡ t ∷ ts
+    → t.act ≡ a → going w.slots a ≡ Some x → (o : Option Pointer)
+    → IsLess v d Rest w (Some (on (brings w k) (swaps v d w k ts a x.0 x.1) o))
+brought_less v d k w t ts a x none is same goes None = swapped_less v d k Rest w t ts a x refl none is same goes (omega arith) (omega arith)
+brought_less v d k w t ts a x none is same goes (Some y) = record { own = omega arith; most = omega arith }
+
+going_less : (v : Story) (d k : ℕ) (w : Walk) (t : Task) (ts : List Task) (a : Act) (o : Option Going) → w.endings ≡ [] → w.todo ≡ t ∷ ts
+    → t.act ≡ a → going w.slots a ≡ o → leaves_by w.slots a ≡ None
+    → IsLess v d Rest w (Some (on_going (sends v d w k ts a) (acts (state v) d w k ts a None Rest) o))
+going_less v d k w t ts a None none is same goes stays = plain_less v d k Rest w t ts a None refl stays none is (omega arith) (omega arith)
+going_less v d k w t ts a (Some x) none is same goes stays = brought_less v d k w t ts a x none is same goes (slot w.slots x.1)
+
+sent_less : (v : Story) (d : ℕ) (w : Walk) (ts : List Task) → w.endings ≡ [] → w.todo ≡ ts → IsSwap w.slots ts → IsLess v d Brought w (sent v d w ts)
+sent_less v d w [] none is held = absurd held
+sent_less v d w (t ∷ ts) none is held = go (going w.slots t.act) refl held
+  where
+    go : (o : Option Going) → going w.slots t.act ≡ o → is_some o ≡ true
+        → IsLess v d Brought w (option_map (λ (x : Going). swaps v d w t.statement ts t.act x.0 x.1) o)
+    go None goes some = absurd (false≢true some)
+    go (Some x) goes some = swapped_less v d t.statement Brought w t ts t.act x refl none is refl goes (omega arith) (omega arith)
+
 first_less : (v : Story) (d k : ℕ) (w : Walk) (t : Task) (ts : List Task) (a : Act) → w.endings ≡ [] → w.todo ≡ t ∷ ts → t.act ≡ a
     → IsLess v d Rest w (Some (first v d w k ts a))
 first_less v d k w t ts (Make form) none is same = begun_less v d k w t ts (least d (state v).stores) none is
@@ -220,6 +154,12 @@ first_less v d k w t ts (Move i) none is same =
     plain_less v d k Rest w t ts (Move i) None refl refl none is (omega arith) (omega arith)
 first_less v d k w t ts (Ask q) none is same =
     plain_less v d k Rest w t ts (Ask q) None refl refl none is (omega arith) (omega arith)
+first_less v d k w t ts (Offer i c) none is same =
+    plain_less v d k Rest w t ts (Offer i c) (option_map share (offered w.slots i c)) refl refl none is (omega arith) (omega arith)
+first_less v d k w t ts (Swap c) none is same = going_less v d k w t ts (Swap c) (going w.slots (Swap c)) none is same refl refl
+first_less v d k w t ts (Exchange i c) none is same = going_less v d k w t ts (Exchange i c) (going w.slots (Exchange i c)) none is same refl refl
+first_less v d k w t ts Drop none is same =
+    left_less v d k w (went (state v) d w k ts Drop) (slot w.slots (other w.slots)) (went_less (state v) d k w t ts Drop none is)
 
 task_less : (v : Story) (d : ℕ) (w : Walk) (ts : List Task) → w.endings ≡ [] → w.todo ≡ ts → IsLess v d Rest w (begun v d w ts)
 task_less v d w [] none is = (is, none, refl)
@@ -311,6 +251,10 @@ tried_less v d word w t ts (FromThis i kind) (Some x) none is same e full = cc
 tried_less v d word w t ts (Alias i j field) (Some x) none is same e full = cc
 tried_less v d word w t ts (Move i) (Some x) none is same e full = cc
 tried_less v d word w t ts (Ask q) (Some x) none is same e full = cc
+tried_less v d word w t ts (Offer i c) (Some x) none is same e full = cc
+tried_less v d word w t ts (Swap c) (Some x) none is same e full = cc
+tried_less v d word w t ts (Exchange i c) (Some x) none is same e full = cc
+tried_less v d word w t ts Drop (Some x) none is same e full = cc
 
 lock_less : (v : Story) (d word : ℕ) (w : Walk) (ts : List Task) → w.endings ≡ [] → w.todo ≡ ts → IsLock w.slots ts
     → IsLess v d (Locking word) w (tried v d w word ts)
@@ -324,3 +268,5 @@ less v d Rest w way held none staged = rest_less v d w w.endings refl staged
 less v d (Making b i f) w way held none staged = make_less v d i w b f w.todo none refl way
 less v d (Locking word) w way held none staged = lock_less v d word w w.todo none refl held
 less v d (Giving i kind x) w way held none staged = give_less v d i kind x w w.todo none refl way
+less v d Brought w way held none staged = sent_less v d w w.todo none refl held
+less v d (Returning kind b funds k) w way held none staged = record { own = omega arith; most = omega arith }

@@ -19,7 +19,8 @@ use Rattle.step_core.specs.Stories.{Kept, Story}
 use Rattle.step_core.specs.Told.{ends_by, makes}
 use Rattle.step_core.specs.Turning.{HasBegun}
 use Rattle.step_core.specs.Worlds.{Sight, Steps, half_of, scene, sight_by, step_of}
-use Rattle.step_core.proofs.runs.Lessening.{IsLess, alone, less}
+use Rattle.step_core.proofs.runs.Alone.{IsLess, alone}
+use Rattle.step_core.proofs.runs.Lessening.{less}
 use Rattle.step_core.proofs.telling.Counting.{counted}
 use Rattle.step_core.proofs.telling.Order.{ended_few}
 

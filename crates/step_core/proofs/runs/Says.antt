@@ -1,5 +1,5 @@
 -- What steps tell of objects that end.
-use Rattle.std.proofs.Common.{◌≡◌, ℕ, ◌+◌, ◌-◌, ◌==◌, Bool, true, false, cond, List, [], ◌∷◌, length, get_or, refl, sym, ap, subst, ◌∙◌, arith}
+use Rattle.std.proofs.Common.{◌≡◌, ℕ, ◌-◌, ◌==◌, Bool, true, false, cond, List, [], ◌∷◌, length, get_or, refl, sym, ap, subst, ◌∙◌, arith}
 use Rattle.std.specs.Prelude.{Option, Some, None, MatchOption, option_map}
 use Rattle.std.proofs.lemmas.Bool.{cond_both, eqb-true, false≢true}
 use Rattle.control_word.specs.declared.event.Entry.{Entry}
@@ -11,10 +11,10 @@ use Rattle.control_word.specs.declared.place.Block.{Block}
 use Rattle.control_word.specs.declared.place.Place.{Place}
 use Rattle.control_word.specs.State.{weak}
 use Rattle.step_core.specs.declared.act.Act.{Act}
-use Rattle.step_core.specs.declared.act.Act.TheVariants.{Make, Share, Downgrade, Lock, Put, Leave, Clear, Count, Expired, Read, FromThis, Alias, Move, Ask}
+use Rattle.step_core.specs.declared.act.Act.TheVariants.{Make, Share, Downgrade, Lock, Put, Leave, Clear, Count, Expired, Read, FromThis, Alias, Move, Ask, Offer, Swap, Exchange, Drop}
 use Rattle.step_core.specs.declared.act.Task.{Task}
 use Rattle.step_core.specs.declared.half.Half.{Half}
-use Rattle.step_core.specs.declared.half.Half.TheVariants.{Rest, Making, Locking, Giving}
+use Rattle.step_core.specs.declared.half.Half.TheVariants.{Rest, Making, Locking, Giving, Brought, Returning}
 use Rattle.step_core.specs.declared.holdings.Pointer.{Pointer}
 use Rattle.step_core.specs.declared.past.Deed.{Deed}
 use Rattle.step_core.specs.declared.past.Deed.TheVariants as deed
@@ -24,15 +24,15 @@ use Rattle.step_core.specs.declared.said.Stepped.TheVariants as stepped
 use Rattle.step_core.specs.declared.trace.TraceStep.{TraceStep}
 use Rattle.step_core.specs.Actors.{wanted}
 use Rattle.step_core.specs.declared.ending.Ending.{Ending}
-use Rattle.step_core.specs.Courses.{Walk, form_of, hand, locked}
+use Rattle.step_core.specs.Courses.{Going, Walk, form_of, going, hand, locked, offered, on_going, other}
 use Rattle.step_core.specs.Deeds.{is_enabled, read, downgrade, is_last as is_last_of, leave, leave_as, lock, owned, owner_word, share, share_as, tell, tell_expired, alias, aliased}
 use Rattle.step_core.specs.Headline.{LastLeft, TellsWhatIsLeft, ended_by}
 use Rattle.step_core.specs.Endings.{staged}
 use Rattle.step_core.specs.Holdings.{inside, is_full, slot, owner_slot, place_in}
 use Rattle.step_core.specs.Entries.{least, on}
 use Rattle.step_core.specs.Scenes.{ended_by as ended_of, remains, remains_as}
-use Rattle.step_core.specs.Steps.{asks, at_rest, given, Step, acts, begins, begun, claims, ends_on, first, is_event, looks, made_on, prepares, silent, step_at}
-use Rattle.step_core.specs.Steps.{stepped as stepped_by, story_after, story_by, tried, tries, trying, with_endings}
+use Rattle.step_core.specs.Steps.{asks, at_rest, brings, given, Step, acts, begins, begun, claims, ends_on, first, is_event, looks, made_on, prepares, sends, sent, silent, step_at}
+use Rattle.step_core.specs.Steps.{stepped as stepped_by, story_after, story_by, swaps, tried, tries, trying, with_endings}
 use Rattle.step_core.specs.Stories.{Nothing, Story, added, event_of, known, object_in, owner_in, pending, state}
 use Rattle.step_core.specs.Totals.{is_last}
 use Rattle.step_core.specs.Worlds.{Sight, half_of, scene, step_of}
@@ -40,6 +40,7 @@ use Rattle.step_core.specs.Scenes.{walk_of}
 use Rattle.step_core.specs.CellDeeds.{cell_event}
 use Rattle.step_core.proofs.tables.CellDeeds.{by_event}
 use Rattle.step_core.proofs.runs.Headline.{IsStep, asked, newest_is_last}
+use Rattle.step_core.proofs.telling.Swapping.{swapping}
 
 -- what is left by a deed: it is the last owner's leave, or nothing
 abbrev left_by : Story → Option Deed → Option Ended
@@ -129,6 +130,10 @@ try_tells v d k word w ts (FromThis i kind) (Some x) e = cc
 try_tells v d k word w ts (Alias i j field) (Some x) e = cc
 try_tells v d k word w ts (Move i) (Some x) e = cc
 try_tells v d k word w ts (Ask q) (Some x) e = cc
+try_tells v d k word w ts (Offer i c) (Some x) e = cc
+try_tells v d k word w ts (Swap c) (Some x) e = cc
+try_tells v d k word w ts (Exchange i c) (Some x) e = cc
+try_tells v d k word w ts Drop (Some x) e = cc
 
 tried_tells : (v : Story) (d word : ℕ) (w : Walk) (ts : List Task) → Tells v (tried v d w word ts)
 tried_tells v d word w [] = tt
@@ -137,6 +142,26 @@ tried_tells v d word w (t ∷ ts) = try_tells v d t.statement word w ts t.act (l
 begin_tells : (v : Story) (w : Walk) (k : ℕ) (ts : List Task) (o : Option ℕ) → Tells v (Some (begins w k ts o))
 begin_tells v w k ts None = refl
 begin_tells v w k ts (Some b) = refl
+
+-- a value goes into a cell, or its funds are brought first
+send_tells : (v : Story) (d k : ℕ) (w : Walk) (ts : List Task) (a : Act) (x : Going) → going w.slots a ≡ Some x → (o : Option Pointer)
+    → Tells v (Some (on (brings w k) (swaps v d w k ts a x.0 x.1) o))
+send_tells v d k w ts a x goes None = (swapping (state v) w.slots a x goes).ends
+send_tells v d k w ts a x goes (Some y) = refl
+
+going_tells : (v : Story) (d k : ℕ) (w : Walk) (ts : List Task) (a : Act) (o : Option Going) → going w.slots a ≡ o
+    → Tells v (Some (acts (state v) d w k ts a None Rest))
+    → Tells v (Some (on_going (sends v d w k ts a) (acts (state v) d w k ts a None Rest) o))
+going_tells v d k w ts a None goes idle = idle
+going_tells v d k w ts a (Some x) goes idle = send_tells v d k w ts a x goes (slot w.slots x.1)
+
+sent_tells : (v : Story) (d : ℕ) (w : Walk) (ts : List Task) → Tells v (sent v d w ts)
+sent_tells v d w [] = tt
+sent_tells v d w (t ∷ ts) = go (going w.slots t.act) refl
+  where
+    go : (o : Option Going) → going w.slots t.act ≡ o → Tells v (option_map (λ (x : Going). swaps v d w t.statement ts t.act x.0 x.1) o)
+    go None goes = tt
+    go (Some x) goes = (swapping (state v) w.slots t.act x goes).ends
 
 first_tells : (v : Story) (d k : ℕ) (w : Walk) (ts : List Task) (a : Act) → Tells v (Some (first v d w k ts a))
 first_tells v d k w ts (Make form) = begin_tells v w k ts (least d (state v).stores)
@@ -153,6 +178,10 @@ first_tells v d k w ts (FromThis i kind) = ask_tells v d k i kind w ts (inside (
 first_tells v d k w ts (Alias i j field) = alias_tells v (aliased field (place_in w.slots j)) (owner_slot (slot w.slots i))
 first_tells v d k w ts (Move i) = refl
 first_tells v d k w ts (Ask q) = refl
+first_tells v d k w ts (Offer i c) = share_tells v (offered w.slots i c)
+first_tells v d k w ts (Swap c) = going_tells v d k w ts (Swap c) (going w.slots (Swap c)) refl refl
+first_tells v d k w ts (Exchange i c) = going_tells v d k w ts (Exchange i c) (going w.slots (Exchange i c)) refl refl
+first_tells v d k w ts Drop = leave_tells v (slot w.slots (other w.slots))
 
 task_tells : (v : Story) (d : ℕ) (w : Walk) (ts : List Task) → Tells v (begun v d w ts)
 task_tells v d w [] = tt
@@ -193,6 +222,8 @@ step_tells v d Rest w = rest_tells v d w w.endings
 step_tells v d (Making b i f) w = make_tells v d i w b f w.todo
 step_tells v d (Locking word) w = tried_tells v d word w w.todo
 step_tells v d (Giving i kind x) w = given_tells v d i kind x w w.todo
+step_tells v d Brought w = sent_tells v d w w.todo
+step_tells v d (Returning kind b funds k) w = refl
 
 -- both answers of a step say what is said
 as_said : (v : Story) (x : Step) → ended_by (stepped_by v (Some x)) ≡ x.said.ended

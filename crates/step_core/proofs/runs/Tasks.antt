@@ -1,10 +1,10 @@
 -- How many steps a world has left.
-use Rattle.std.proofs.Common.{◌≡◌, ℕ, ◌+◌, ◌-◌, ◌*◌, ◌≤◌, Bool, true, false, cond, List, [], ◌∷◌, length, map, refl, ap, arith}
+use Rattle.std.proofs.Common.{◌≡◌, ℕ, ◌+◌, ◌-◌, ◌*◌, ◌≤◌, Bool, true, false, cond, List, [], ◌∷◌, length, map, arith}
 use Rattle.std.specs.Prelude.{Some, slice_get, sum_by}
 use Rattle.std.proofs.lemmas.List.{length-map}
 use Rattle.std.proofs.lemmas.List.Sums.{sum_by-cons}
 use Rattle.step_core.specs.declared.half.Half.{Half}
-use Rattle.step_core.specs.declared.half.Half.TheVariants.{Rest, Making, Locking, Giving}
+use Rattle.step_core.specs.declared.half.Half.TheVariants.{Rest, Making, Locking, Giving, Brought, Returning}
 use Rattle.step_core.specs.declared.thread.Thread.{Thread}
 use Rattle.step_core.specs.Bounds.{left_to_do, living, most_steps, spare, steps_of, walk_steps}
 use Rattle.step_core.specs.Stories.{Kept, Story}
@@ -32,6 +32,8 @@ spare_most (Making b i differs) = flag differs i
     flag false j = omega arith
 spare_most (Locking word) = omega arith
 spare_most (Giving i kind x) = omega arith
+spare_most Brought = omega arith
+spare_most (Returning kind b funds k) = omega arith
 
 spares : (halves : List Half) → sum_by spare halves ≤ 15 * length halves
 spares [] = omega arith

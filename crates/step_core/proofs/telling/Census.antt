@@ -23,11 +23,10 @@ use Rattle.step_core.specs.declared.half.Half.{Half}
 use Rattle.step_core.specs.declared.half.Half.TheVariants.{Rest}
 use Rattle.step_core.specs.declared.thread.Thread.{Thread}
 use Rattle.step_core.specs.Actors.{HalfFits}
-use Rattle.step_core.specs.Courses.{Walk}
+use Rattle.step_core.specs.Courses.{Walk, task_at}
 use Rattle.step_core.specs.Openings.{opening}
 use Rattle.step_core.specs.Scenes.{nowhere}
 use Rattle.step_core.specs.Stories.{Kept, Nothing, Story, pending, state}
-use Rattle.step_core.specs.Threads.{form_at}
 use Rattle.step_core.specs.Endings.{endings_of}
 use Rattle.step_core.specs.Told.{IsTold, sight}
 use Rattle.step_core.specs.Totals.{IsAtEnd, census_of, counts_in}
@@ -143,7 +142,7 @@ idle_end : (v : Story) (threads : List Thread) → AllFit v threads → All (λ 
 idle_end v threads fit all d lt =
     let t = at_thread threads d lt in
     let h : t.0.half ≡ Rest = sym (half_at threads d t.0 t.1) ∙ all_rest (map thread_half threads) d all in
-    subst (λ (x : Half). HalfFits d x (form_at t.0.course) v) h (fit.each d t.0 t.1).half
+    subst (λ (x : Half). HalfFits d x t.0.course.holdings.slots.items (task_at t.0.course).act v) h (fit.each d t.0 t.1).half
 
 -- a world whose threads are at their end
 still_end : (v : Story) (threads : List Thread) (m e : ℕ) → AllFit v threads → IsTold (sight v threads) m e → IsAtEnd (sight v threads) → IsStill v

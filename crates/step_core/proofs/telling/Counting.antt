@@ -1,154 +1,39 @@
 -- What a step adds to the totals, and what it takes from the tasks that are left.
-use Rattle.std.proofs.Common.{◌≡◌, ℕ, suc, ◌+◌, ◌*◌, ◌≤◌, ◌==◌, Bool, true, false, cond, List, [], ◌∷◌, length, get_or, refl, sym, ap, ◌∙◌, arith}
-use Rattle.std.specs.Prelude.{Option, Some, None, is_some, not, option_map, slice_set}
+use Rattle.std.proofs.Common.{◌≡◌, ℕ, suc, ◌+◌, ◌≤◌, ◌==◌, Bool, true, false, cond, List, [], ◌∷◌, get_or, refl, ap, arith}
+use Rattle.std.specs.Prelude.{Option, Some, None, is_some, option_map}
 use Rattle.std.proofs.lemmas.Bool.{cond_both}
-use Rattle.control_word.specs.declared.event.Entry.{Entry}
-use Rattle.control_word.specs.declared.event.Event.TheVariants as event
 use Rattle.control_word.specs.declared.place.Block.{Block}
-use Rattle.control_word.specs.declared.place.Place.{Place}
-use Rattle.control_word.specs.Histories.{entry}
-use Rattle.control_word.specs.Events.{origin}
 use Rattle.control_word.specs.State.{weak}
 use Rattle.step_core.specs.declared.act.Act.{Act}
 use Rattle.step_core.specs.declared.act.Form.{Form}
-use Rattle.step_core.specs.declared.act.Act.TheVariants.{Make, Share, Downgrade, Lock, Put, Leave, Clear, Count, Expired, Read, FromThis, Alias, Move, Ask}
+use Rattle.step_core.specs.declared.act.Act.TheVariants.{Make, Share, Downgrade, Lock, Put, Leave, Clear, Count, Expired, Read, FromThis, Alias, Move, Ask, Offer, Swap, Exchange, Drop}
 use Rattle.step_core.specs.declared.act.Task.{Task}
 use Rattle.step_core.specs.declared.half.Half.{Half}
-use Rattle.step_core.specs.declared.half.Half.TheVariants.{Rest, Making, Locking, Giving}
+use Rattle.step_core.specs.declared.half.Half.TheVariants.{Rest, Making, Locking, Giving, Brought, Returning}
 use Rattle.step_core.specs.declared.holdings.Pointer.{Pointer}
 use Rattle.step_core.specs.declared.past.Deed.TheVariants as deed
 use Rattle.step_core.specs.declared.said.Answer.{Answer}
+use Rattle.step_core.specs.declared.said.Ended.{Ended}
 use Rattle.step_core.specs.Actors.{wanted}
 use Rattle.step_core.specs.declared.ending.Ending.{Ending}
 use Rattle.step_core.specs.Bounds.{walk_steps, weight}
-use Rattle.step_core.specs.Courses.{Walk, form_of, hand, locked, settled}
+use Rattle.step_core.specs.Courses.{Going, Walk, form_of, going, hand, locked, offered, on_going, other, settled}
 use Rattle.step_core.specs.Endings.{staged}
 use Rattle.step_core.specs.Holdings.{inside, is_full, owner_slot, place_in, slot}
 use Rattle.step_core.specs.Entries.{least, on}
-use Rattle.step_core.specs.Scenes.{answer_of, ended_by, holding, left as leaves_by, remains, remains_as, went}
-use Rattle.step_core.specs.Steps.{asks, at_rest, given, Step, acts, begins, begun, claims, ends_on, first, looks, made_on, prepares, tried, tries, trying, with_endings}
-use Rattle.step_core.specs.Steps.{silent, step_at, stepped, story_by, walk_by}
-use Rattle.step_core.specs.Deeds.{give, is_enabled, read, downgrade, is_last as is_last_of, leave, leave_as, lock, owned, owner_word, share, share_as, tell, tell_expired, alias, aliased}
+use Rattle.step_core.specs.Scenes.{answer_of, ended_of, holding, left as leaves_by, went}
+use Rattle.step_core.specs.Steps.{asks, at_rest, brings, given, Step, acts, begins, begun, claims, ends_on, first, looks, made_on, prepares, sends, sent, swaps, tried, tries, trying, with_endings}
+use Rattle.step_core.specs.Steps.{silent, step_at}
+use Rattle.step_core.specs.Deeds.{give, is_enabled, lock, owner_word, aliased}
 use Rattle.control_word.specs.declared.handle.Kind.{Kind}
 use Rattle.control_word.specs.declared.handle.Kind.TheVariants.{Owner, Weak}
-use Rattle.step_core.specs.Stories.{Nothing, Story, known, object_in, owner_in, pending, state}
-use Rattle.step_core.specs.Told.{ends_by, is_prepared, makes}
-use Rattle.step_core.specs.Totals.{ended_in, made_in}
+use Rattle.step_core.specs.Stories.{Story, known, object_in, pending, state}
+use Rattle.step_core.specs.Told.{is_prepared}
+use Rattle.step_core.specs.Totals.{made_in}
 use Rattle.step_core.specs.Turning.{IsAlone, IsUnderWay}
-use Rattle.step_core.proofs.telling.Order.{ended_more}
-use Rattle.step_core.proofs.telling.Walking.{IsFree, carried_leaves, ends_at, over_less, settled_alone, staged_most, walk_alone, went_less, went_plain}
-
--- the step is counted, where h is what the thread had begun: an object is made by a task that has the steps of its end
-pub record IsCounted (v : Story) (d : ℕ) (h : Half) (w : Walk) (x : Option Step) : Type 0 where
-  pub made : made_in (story_by v d x).history ≡ made_in v.history + makes h (stepped v x)
-  pub ended : ended_in (story_by v d x).history ≡ ended_in v.history + ends_by (stepped v x)
-  pub few : 28 * makes h (stepped v x) + walk_steps (walk_by w x) ≤ walk_steps w + 13 * ends_by (stepped v x)
-
-plus_none : (n : ℕ) → n ≡ n + 0
-plus_none n = omega arith
-
-some_if : {A : Type 0} (b : Bool) (a : A) → is_some (cond b (Some a) None) ≡ b
-some_if true a = refl
-some_if false a = refl
-
--- a step that is no event
-quiet : (v : Story) (d k : ℕ) (h h' : Half) (w x : Walk) (a : Option Answer) → walk_steps x ≤ walk_steps w
-    → IsCounted v d h w (Some (record { deed = None; half = h'; walk = x; said = record { statement = k; answer = a; ended = None } }))
-quiet v d k h h' w x a le = record { made = plus_none _; ended = plus_none _; few = omega (arith, le) }
-
-shared : (v : Story) (d k : ℕ) (w x : Walk) → walk_steps x ≤ walk_steps w → (y : Option Pointer)
-    → IsCounted v d Rest w (Some (record { deed = option_map share y; half = Rest; walk = x; said = silent k }))
-shared v d k w x le None = record { made = plus_none _; ended = plus_none _; few = omega (arith, le) }
-shared v d k w x le (Some y) = go y.kind
-  where
-    go : (q : Kind) → IsCounted v d Rest w (Some (record { deed = Some (share_as q y); half = Rest; walk = x; said = silent k }))
-    go Owner = record { made = plus_none _; ended = plus_none _; few = omega (arith, le) }
-    go Weak = record { made = plus_none _; ended = plus_none _; few = omega (arith, le) }
-
-downgraded : (v : Story) (d k : ℕ) (w x : Walk) → walk_steps x ≤ walk_steps w → (y : Option Pointer)
-    → IsCounted v d Rest w (Some (record { deed = option_map downgrade y; half = Rest; walk = x; said = silent k }))
-downgraded v d k w x le None = record { made = plus_none _; ended = plus_none _; few = omega (arith, le) }
-downgraded v d k w x le (Some y) = record { made = plus_none _; ended = plus_none _; few = omega (arith, le) }
-
-aliased_by : (v : Story) (d k : ℕ) (w x : Walk) (p : Option Place) → walk_steps x ≤ walk_steps w → (y : Option Pointer)
-    → IsCounted v d Rest w (Some (record { deed = option_map (alias p) y; half = Rest; walk = x; said = silent k }))
-aliased_by v d k w x p le None = record { made = plus_none _; ended = plus_none _; few = omega (arith, le) }
-aliased_by v d k w x p le (Some y) = record { made = plus_none _; ended = plus_none _; few = omega (arith, le) }
-
-expired : (v : Story) (d k : ℕ) (w x : Walk) (a : Option Answer) → walk_steps x ≤ walk_steps w → (y : Option Pointer)
-    → IsCounted v d Rest w (Some (record {
-      deed = option_map (tell_expired (state v)) y;
-      half = Rest;
-      walk = x;
-      said = record { statement = k; answer = a; ended = None };
-    }))
-expired v d k w x a le None = record { made = plus_none _; ended = plus_none _; few = omega (arith, le) }
-expired v d k w x a le (Some y) = record { made = plus_none _; ended = plus_none _; few = omega (arith, le) }
-
-read_one : (v : Story) (d k : ℕ) (w x : Walk) (a : Option Answer) → walk_steps x ≤ walk_steps w → (y : Option Pointer)
-    → IsCounted v d Rest w (Some (record {
-      deed = option_map (read (state v)) y;
-      half = Rest;
-      walk = x;
-      said = record { statement = k; answer = a; ended = None };
-    }))
-read_one v d k w x a le None = record { made = plus_none _; ended = plus_none _; few = omega (arith, le) }
-read_one v d k w x a le (Some y) = record { made = plus_none _; ended = plus_none _; few = omega (arith, le) }
-
--- a lock that is done
-locked_by : (v : Story) (d k : ℕ) (h : Half) (w x : Walk) (a : Option Answer) (y : Pointer) → is_prepared h ≡ false → walk_steps x ≤ walk_steps w
-    → IsCounted v d h w (Some (record {
-      deed = Some (lock (state v) y);
-      half = Rest;
-      walk = x;
-      said = record { statement = k; answer = a; ended = None };
-    }))
-locked_by v d k h w x a y e le =
-    let z : ◌≡◌ {A = ℕ} (cond (is_prepared h) 1 0) 0 = ap (λ (b : Bool). cond b 1 0) e in
-    record { made = omega (arith, z); ended = plus_none _; few = omega (arith, le, z) }
-
-told : (v : Story) (d k : ℕ) (w x : Walk) (a : Option Answer) → walk_steps x ≤ walk_steps w → (y : Option Pointer)
-    → IsCounted v d Rest w (Some (record {
-      deed = option_map (tell (state v)) y;
-      half = Rest;
-      walk = x;
-      said = record { statement = k; answer = a; ended = None };
-    }))
-told v d k w x a le None = record { made = plus_none _; ended = plus_none _; few = omega (arith, le) }
-told v d k w x a le (Some y) = record { made = plus_none _; ended = plus_none _; few = omega (arith, le) }
-
-left_by : (v : Story) (d k : ℕ) (w x : Walk) (y : Pointer) (q : Kind) (b : Bool)
-    → walk_steps x ≤ walk_steps w + 13 * cond (is_some (cond b (remains_as q ((state v).object (owned (state v) y))) None)) 1 0
-    → IsCounted v d Rest w (Some (record {
-      deed = Some (leave_as q y b);
-      half = Rest;
-      walk = x;
-      said = record { statement = k; answer = None; ended = cond b (remains_as q ((state v).object (owned (state v) y))) None };
-    }))
-left_by v d k w x y Owner b le =
-    let s = state v in
-    let r = remains (s.object (owned s y)) in
-    let t = some_if b r in
-    let u : ◌≡◌ {A = ℕ} (cond (is_some (cond b (Some r) None)) 1 0) (cond b 1 0) = ap (λ (z : Bool). cond z 1 0) t in
-    record {
-      made = plus_none _;
-      ended =
-          ended_more (entry d (event.Leave (owner_in v y.block y.place) b)) v.history b refl
-          ∙ ap (λ (z : ℕ). ended_in v.history + z) (sym u);
-      few = omega (arith, le);
-    }
-left_by v d k w x y Weak true le = record { made = plus_none _; ended = plus_none _; few = omega (arith, le) }
-left_by v d k w x y Weak false le = record { made = plus_none _; ended = plus_none _; few = omega (arith, le) }
-
-left : (v : Story) (d k : ℕ) (w x : Walk) (y : Option Pointer) → walk_steps x + 1 ≤ walk_steps w + 13 * ends_at (state v) y
-    → IsCounted v d Rest w (Some (record {
-      deed = option_map (leave (state v)) y;
-      half = Rest;
-      walk = x;
-      said = record { statement = k; answer = None; ended = ended_by (state v) y };
-    }))
-left v d k w x None le = record { made = plus_none _; ended = plus_none _; few = omega (arith, le) }
-left v d k w x (Some y) le = left_by v d k w x y y.kind (is_last_of (state v) y) (omega (arith, le))
+use Rattle.step_core.proofs.telling.Walking.{IsFree, carried_leaves, over_less, settled_alone, staged_most, walk_alone, went_less, went_plain}
+use Rattle.step_core.proofs.telling.Swapping.{swapping, went_swap}
+use Rattle.step_core.proofs.telling.Deeds.{IsCounted, aliased_by, downgraded, expired, left, locked_by, plus_none, quiet, read_one, shared, told}
 
 made_one : (v : Story) (d i k : ℕ) (w : Walk) (t : Task) (ts : List Task) (b : Block) (f : Bool) (form : Form) → (i == 5) ≡ true
     → t.act ≡ Make form → w.endings ≡ [] → w.todo ≡ t ∷ ts → IsCounted v d (Making b i f) w (Some (claims w k ts b form))
@@ -240,41 +125,84 @@ looked v d k w t ts i must None none is =
     (plain v d k w t ts (Lock i must) none is refl)
 looked v d k w t ts i must (Some y) none is = tried_or v d k Rest w t ts (owner_word v y) i must y (owner_word v y == 0) refl none is
 
-counted_act : (v : Story) (d k : ℕ) (w : Walk) (t : Task) (ts : List Task) (a : Act) → w.endings ≡ [] → w.todo ≡ t ∷ ts
+-- a value goes into a cell
+swapped : (v : Story) (d k : ℕ) (h : Half) (w : Walk) (t : Task) (ts : List Task) (a : Act) (x : Going) → is_prepared h ≡ false
+    → w.endings ≡ [] → w.todo ≡ t ∷ ts → t.act ≡ a → going w.slots a ≡ Some x → IsCounted v d h w (Some (swaps v d w k ts a x.0 x.1))
+swapped v d k h w t ts a x e none is same goes =
+    let z : ◌≡◌ {A = ℕ} (cond (is_prepared h) 1 0) 0 = ap (λ (b : Bool). cond b 1 0) e in
+    let y = swapping (state v) w.slots a x goes in
+    let n : ◌≡◌ {A = ℕ} (cond (is_some (ended_of (state v) w.slots a)) 1 0) 0 = ap (λ (o : Option Ended). cond (is_some o) 1 0) y.ends in
+    let l = went_swap (state v) d k w t ts a x none is same goes in
+    record { made = omega (arith, z); ended = omega (arith, n); few = omega (arith, l, z, n) }
+
+-- the funds of what goes in are brought first, where it has an object
+brought : (v : Story) (d k : ℕ) (w : Walk) (t : Task) (ts : List Task) (a : Act) (x : Going) → w.endings ≡ [] → w.todo ≡ t ∷ ts
+    → t.act ≡ a → going w.slots a ≡ Some x → (o : Option Pointer)
+    → IsCounted v d Rest w (Some (on (brings w k) (swaps v d w k ts a x.0 x.1) o))
+brought v d k w t ts a x none is same goes None = swapped v d k Rest w t ts a x refl none is same goes
+brought v d k w t ts a x none is same goes (Some y) = record { made = plus_none _; ended = plus_none _; few = omega arith }
+
+going_in : (v : Story) (d k : ℕ) (w : Walk) (t : Task) (ts : List Task) (a : Act) (o : Option Going) → w.endings ≡ [] → w.todo ≡ t ∷ ts
+    → t.act ≡ a → going w.slots a ≡ o → IsCounted v d Rest w (Some (acts (state v) d w k ts a None Rest))
+    → IsCounted v d Rest w (Some (on_going (sends v d w k ts a) (acts (state v) d w k ts a None Rest) o))
+going_in v d k w t ts a None none is same goes idle = idle
+going_in v d k w t ts a (Some x) none is same goes idle = brought v d k w t ts a x none is same goes (slot w.slots x.1)
+
+counted_send : (v : Story) (d : ℕ) (w : Walk) (ts : List Task) → w.endings ≡ [] → w.todo ≡ ts → IsCounted v d Brought w (sent v d w ts)
+counted_send v d w [] none is = record { made = plus_none _; ended = plus_none _; few = omega arith }
+counted_send v d w (t ∷ ts) none is = go (going w.slots t.act) refl
+  where
+    go : (o : Option Going) → going w.slots t.act ≡ o
+        → IsCounted v d Brought w (option_map (λ (x : Going). swaps v d w t.statement ts t.act x.0 x.1) o)
+    go None goes = record { made = plus_none _; ended = plus_none _; few = omega arith }
+    go (Some x) goes = swapped v d t.statement Brought w t ts t.act x refl none is refl goes
+
+counted_act : (v : Story) (d k : ℕ) (w : Walk) (t : Task) (ts : List Task) (a : Act) → w.endings ≡ [] → w.todo ≡ t ∷ ts → t.act ≡ a
     → IsCounted v d Rest w (Some (first v d w k ts a))
-counted_act v d k w t ts (Make form) none is = begun_in v d k w t ts (least d (state v).stores) none is
-counted_act v d k w t ts (Share i) none is =
+counted_act v d k w t ts (Make form) none is same = begun_in v d k w t ts (least d (state v).stores) none is
+counted_act v d k w t ts (Share i) none is same =
     shared v d k w (went (state v) d w k ts (Share i)) (plain v d k w t ts (Share i) none is refl) (slot w.slots i)
-counted_act v d k w t ts (Put i) none is =
+counted_act v d k w t ts (Put i) none is same =
     left v d k w (went (state v) d w k ts (Put i)) (slot w.slots i) (went_less (state v) d k w t ts (Put i) none is)
-counted_act v d k w t ts (Leave i) none is =
+counted_act v d k w t ts (Leave i) none is same =
     left v d k w (went (state v) d w k ts (Leave i)) (slot w.slots i) (went_less (state v) d k w t ts (Leave i) none is)
-counted_act v d k w t ts (Clear i) none is =
+counted_act v d k w t ts (Clear i) none is same =
     left v d k w (went (state v) d w k ts (Clear i)) (slot w.slots i) (went_less (state v) d k w t ts (Clear i) none is)
-counted_act v d k w t ts (Count i) none is =
+counted_act v d k w t ts (Count i) none is same =
     told v d k w (went (state v) d w k ts (Count i)) (answer_of (state v) d w.slots (Count i)) (plain v d k w t ts (Count i) none is refl)
     (slot w.slots i)
-counted_act v d k w t ts (Downgrade i) none is =
+counted_act v d k w t ts (Downgrade i) none is same =
     downgraded v d k w (went (state v) d w k ts (Downgrade i)) (plain v d k w t ts (Downgrade i) none is refl) (slot w.slots i)
-counted_act v d k w t ts (Lock i must) none is = looked v d k w t ts i must (locked w.slots (Lock i must)) none is
-counted_act v d k w t ts (Alias i j field) none is =
+counted_act v d k w t ts (Lock i must) none is same = looked v d k w t ts i must (locked w.slots (Lock i must)) none is
+counted_act v d k w t ts (Alias i j field) none is same =
     aliased_by v d k w (went (state v) d w k ts (Alias i j field)) (aliased field (place_in w.slots j))
     (plain v d k w t ts (Alias i j field) none is refl) (owner_slot (slot w.slots i))
-counted_act v d k w t ts (Move i) none is =
+counted_act v d k w t ts (Move i) none is same =
     quiet v d k Rest Rest w (went (state v) d w k ts (Move i)) None (plain v d k w t ts (Move i) none is refl)
-counted_act v d k w t ts (Ask q) none is =
+counted_act v d k w t ts (Ask q) none is same =
     quiet v d k Rest Rest w (went (state v) d w k ts (Ask q)) (answer_of (state v) d w.slots (Ask q)) (plain v d k w t ts (Ask q) none is refl)
-counted_act v d k w t ts (Expired i) none is =
+counted_act v d k w t ts (Expired i) none is same =
     expired v d k w (went (state v) d w k ts (Expired i)) (answer_of (state v) d w.slots (Expired i))
     (plain v d k w t ts (Expired i) none is refl) (slot w.slots i)
-counted_act v d k w t ts (Read i) none is =
+counted_act v d k w t ts (Read i) none is same =
     read_one v d k w (went (state v) d w k ts (Read i)) (answer_of (state v) d w.slots (Read i)) (plain v d k w t ts (Read i) none is refl)
     (inside (slot w.slots i))
-counted_act v d k w t ts (FromThis i kind) none is = asked_one v d k w t ts i kind (inside (slot w.slots i)) none is
+counted_act v d k w t ts (FromThis i kind) none is same = asked_one v d k w t ts i kind (inside (slot w.slots i)) none is
+
+counted_act v d k w t ts (Offer i c) none is same =
+    shared v d k w (went (state v) d w k ts (Offer i c)) (plain v d k w t ts (Offer i c) none is refl) (offered w.slots i c)
+counted_act v d k w t ts (Swap c) none is same =
+    going_in v d k w t ts (Swap c) (going w.slots (Swap c)) none is same refl
+    (quiet v d k Rest Rest w (went (state v) d w k ts (Swap c)) None (plain v d k w t ts (Swap c) none is refl))
+counted_act v d k w t ts (Exchange i c) none is same =
+    going_in v d k w t ts (Exchange i c) (going w.slots (Exchange i c)) none is same refl
+    (quiet v d k Rest Rest w (went (state v) d w k ts (Exchange i c)) None (plain v d k w t ts (Exchange i c) none is refl))
+counted_act v d k w t ts Drop none is same =
+    left v d k w (went (state v) d w k ts Drop) (slot w.slots (other w.slots)) (went_less (state v) d k w t ts Drop none is)
 
 counted_task : (v : Story) (d : ℕ) (w : Walk) (ts : List Task) → w.endings ≡ [] → w.todo ≡ ts → IsCounted v d Rest w (begun v d w ts)
 counted_task v d w [] none is = record { made = plus_none _; ended = plus_none _; few = omega arith }
-counted_task v d w (t ∷ ts) none is = counted_act v d t.statement w t ts t.act none is
+counted_task v d w (t ∷ ts) none is = counted_act v d t.statement w t ts t.act none is refl
 
 counted_end : (v : Story) (d : ℕ) (w : Walk) (e : Ending) (es : List Ending) → w.endings ≡ e ∷ es → IsFree w.slots
     → IsCounted v d Rest w (Some (ends_on v w e es))
@@ -319,6 +247,10 @@ counted_try v d word w t ts (FromThis i kind) (Some y) none is e = cc
 counted_try v d word w t ts (Alias i j field) (Some y) none is e = cc
 counted_try v d word w t ts (Move i) (Some y) none is e = cc
 counted_try v d word w t ts (Ask q) (Some y) none is e = cc
+counted_try v d word w t ts (Offer i c) (Some y) none is e = cc
+counted_try v d word w t ts (Swap c) (Some y) none is e = cc
+counted_try v d word w t ts (Exchange i c) (Some y) none is e = cc
+counted_try v d word w t ts Drop (Some y) none is e = cc
 
 counted_lock : (v : Story) (d word : ℕ) (w : Walk) (ts : List Task) → w.endings ≡ [] → w.todo ≡ ts
     → IsCounted v d (Locking word) w (tried v d w word ts)
@@ -331,3 +263,5 @@ counted v d Rest w way alone = counted_rest v d w w.endings refl
 counted v d (Making b i f) w way alone = counted_make v d i w b f w.todo refl alone way
 counted v d (Locking word) w way alone = counted_lock v d word w w.todo alone refl
 counted v d (Giving i kind x) w way alone = counted_give v d i kind x w w.todo refl alone
+counted v d Brought w way alone = counted_send v d w w.todo alone refl
+counted v d (Returning kind b funds k) w way alone = record { made = plus_none _; ended = plus_none _; few = omega arith }

@@ -4,162 +4,36 @@ use Rattle.std.specs.Prelude.{Option, Some, None, option_map}
 use Rattle.std.proofs.lemmas.Bool.{cases_eq, cond_both}
 use Rattle.std.proofs.lemmas.List.Sums.{sum_by-cons}
 use Rattle.control_word.proofs.history.Legal.{sound}
-use Rattle.control_word.proofs.lists.Tallies.{put_cases}
 use Rattle.control_word.specs.declared.handle.Kind.{Kind}
 use Rattle.control_word.specs.declared.handle.Kind.TheVariants.{Owner, Weak}
 use Rattle.control_word.specs.declared.place.Block.{Block}
-use Rattle.control_word.specs.State.{Object, State, common, ending, gone, live, put, weak}
+use Rattle.control_word.specs.State.{common, ending, gone, live, weak}
 use Rattle.step_core.specs.declared.act.Act.{Act}
 use Rattle.step_core.specs.declared.act.Form.{Form}
-use Rattle.step_core.specs.declared.act.Act.TheVariants.{Make, Share, Downgrade, Lock, Put, Leave, Clear, Count, Expired, Read, FromThis, Alias, Move, Ask}
+use Rattle.step_core.specs.declared.act.Act.TheVariants.{Make, Share, Downgrade, Lock, Put, Leave, Clear, Count, Expired, Read, FromThis, Alias, Move, Ask, Offer, Swap, Exchange, Drop}
 use Rattle.step_core.specs.declared.act.Task.{Task}
 use Rattle.step_core.specs.declared.ending.Ending.{Ending}
 use Rattle.step_core.specs.declared.half.Half.{Half}
-use Rattle.step_core.specs.declared.half.Half.TheVariants.{Rest, Making, Locking, Giving}
+use Rattle.step_core.specs.declared.half.Half.TheVariants.{Rest, Making, Locking, Giving, Brought, Returning}
 use Rattle.step_core.specs.declared.holdings.Pointer.{Pointer}
-use Rattle.step_core.specs.declared.past.Deed.{Deed}
 use Rattle.step_core.specs.declared.past.Deed.TheVariants as deed
 use Rattle.step_core.specs.declared.said.Said.{Said}
 use Rattle.step_core.specs.Actors.{wanted}
-use Rattle.step_core.specs.Courses.{Walk, form_of, hand, locked, settled}
-use Rattle.step_core.specs.Deeds.{alias, aliased, downgrade, give, is_enabled, is_last, leave, leave_as, lock, owner_word, read, share, share_as, tell, tell_expired}
+use Rattle.step_core.specs.declared.cell_deed.CellDeed.TheVariants as cell_deed
+use Rattle.step_core.specs.Courses.{Walk, form_of, going, hand, locked, offered, other}
+use Rattle.step_core.specs.Deeds.{alias, aliased, downgrade, is_last, leave, leave_as, read, share, tell, tell_expired}
 use Rattle.step_core.specs.Endings.{endings_of, staged}
 use Rattle.step_core.specs.Holdings.{inside, is_full, owner_slot, place_in, slot}
 use Rattle.step_core.specs.Openings.{opening}
 use Rattle.step_core.specs.Entries.{least, on}
-use Rattle.step_core.specs.Scenes.{begins_end, begins_end_as, endings_by, hands, holding, left as leaves_by, went}
-use Rattle.step_core.specs.Steps.{Step, acts, asks, at_rest, begins, begun, claims, ends_on, first, given, looks, made_on, prepares, silent}
-use Rattle.step_core.specs.Steps.{step_at, story_after, story_by, tried, tries, trying, walk_by, with_endings}
+use Rattle.step_core.specs.Scenes.{begins_end, begins_end_as, endings_by, hands, holding, went}
+use Rattle.step_core.specs.Steps.{Step, asks, at_rest, begins, begun, claims, ends_on, first, made_on, prepares, silent}
+use Rattle.step_core.specs.Steps.{step_at, story_by, with_endings}
 use Rattle.step_core.specs.Stories.{Kept, Story, known, object_in, pending, state}
 use Rattle.step_core.specs.Told.{AllEnd}
 use Rattle.step_core.proofs.tables.Places.{owner_busy, there}
 use Rattle.step_core.proofs.telling.Walking.{settled_endings}
-
-abbrev Lists : Type 0
-Lists = ℕ → List Ending
-
--- what ends in other threads' hands is as it was
-abbrev IsElse : ℕ → Lists → Lists → Type 0
-IsElse d f g = (e : ℕ) → e ≢ d → g e ≡ f e
-
--- an ending for an object that had one
-abbrev Follows : List Ending → List Ending → Type 0
-Follows old new = (b : ℕ) → 0 < endings_of b old → 0 < endings_of b new
-
-follows_same : (old new : List Ending) → new ≡ old → Follows old new
-follows_same old new is b has = subst (λ (l : List Ending). 0 < endings_of b l) (sym is) has
-
-passes : (d : ℕ) (f g : Lists) (old new : List Ending) → f d ≡ old → g d ≡ new → IsElse d f g → Follows old new
-    → (b e : ℕ) → 0 < endings_of b (f e) → 0 < endings_of b (g e)
-passes d f g old new was now else own b e has =
-    ⊎_elim
-    (λ (q : e ≡ d).
-    let h : 0 < endings_of b old = subst (λ (l : List Ending). 0 < endings_of b l) (ap f q ∙ was) has in
-    subst (λ (l : List Ending). 0 < endings_of b l) (sym (ap g q ∙ now)) (own b h))
-    (λ (n : e ≢ d). subst (λ (l : List Ending). 0 < endings_of b l) (sym (else e n)) has) (cases_eq e d)
-
--- one object is another
-end_put : (s t : State) (g : Lists) (o : ℕ) (x : Object) → t.object ≡ put s.object o x
-    → ((e : ℕ) → x.phase ≡ ending e → 0 < endings_of x.block (g e))
-    → ((p e : ℕ) → p ≢ o → (s.object p).phase ≡ ending e → 0 < endings_of (s.object p).block (g e)) → AllEnd t g
-end_put s t g o x is here else p e =
-    let P : Object → Type 0 = λ y. y.phase ≡ ending e → 0 < endings_of y.block (g e) in
-    subst P (sym (ap (λ (k : ℕ → Object). k p) is)) (put_cases (λ k y. P y) s.object o x p (λ q. here e) (λ n. else p e n))
-
--- after the step all is as it should be
-pub record Right (v : Story) (d : ℕ) (w : Walk) (f : Lists) (x : Option Step) : Type 0 where
-  pub right : (g : Lists) → Kept (story_by v d x) → g d ≡ (walk_by w x).endings → IsElse d f g → AllEnd (state (story_by v d x)) g
-
--- where no object changes
-same : (v : Story) (d : ℕ) (w : Walk) (f : Lists) (x : Option Step) → (state (story_by v d x)).object ≡ (state v).object
-    → (walk_by w x).endings ≡ w.endings → f d ≡ w.endings → AllEnd (state v) f → Right v d w f x
-same v d w f x is own at all = record {
-  right = λ g kept now else o e.
-      let P : Object → Type 0 = λ y. y.phase ≡ ending e → 0 < endings_of y.block (g e) in
-      subst P (sym (ap (λ (k : ℕ → Object). k o) is))
-      (λ p. passes d f g w.endings (walk_by w x).endings at now else (follows_same w.endings (walk_by w x).endings own) ((state v).object o).block e
-      (all o e p));
-}
-
--- an act on what a slot holds
-done_on : (v : Story) (d : ℕ) (f : Pointer → Deed) (o : Option Pointer)
-    → ((x : Pointer) → (state (story_after v d (Some (f x)))).object ≡ (state v).object)
-    → (state (story_after v d (option_map f o))).object ≡ (state v).object
-done_on v d f None still = refl
-done_on v d f (Some x) still = still x
-
-shared : (v : Story) (d : ℕ) (q : Kind) (x : Pointer) → (state (story_after v d (Some (share_as q x)))).object ≡ (state v).object
-shared v d Owner x = refl
-shared v d Weak x = refl
-
-gave : (v : Story) (d : ℕ) (q : Kind) (x : Pointer) → (state (story_after v d (Some (give q x)))).object ≡ (state v).object
-gave v d Owner x = refl
-gave v d Weak x = refl
-
--- an act by which nothing leaves
-plain : (v : Story) (d k : ℕ) (w : Walk) (ts : List Task) (a : Act) (x : Option Deed) (h : Half) (f : Lists) → leaves_by w.slots a ≡ None
-    → (state (story_after v d x)).object ≡ (state v).object → f d ≡ w.endings → AllEnd (state v) f
-    → Right v d w f (Some (acts (state v) d w k ts a x h))
-plain v d k w ts a x h f stays is at all =
-    let y = hands (state v) d w.slots w.taken a in
-    let e = settled_endings y.0 y.1 (endings_by (state v) k w.slots w.endings a) ts in
-    let n = ap (λ (o : Option Pointer). on (λ z. begins_end (state v) k z w.endings) w.endings o) stays in
-    same v d w f (Some (acts (state v) d w k ts a x h)) is (e ∙ n) at all
-
--- a step within an act
-within : (v : Story) (d k : ℕ) (w : Walk) (x : Option Deed) (h : Half) (f : Lists) → (state (story_after v d x)).object ≡ (state v).object
-    → f d ≡ w.endings → AllEnd (state v) f → Right v d w f (Some (record { deed = x; half = h; walk = w; said = silent k }))
-within v d k w x h f is at all = same v d w f _ is refl at all
-
--- an object is asked for a pointer, or gives one
-asked : (v : Story) (d k : ℕ) (w : Walk) (ts : List Task) (i : ℕ) (q : Kind) (f : Lists) → f d ≡ w.endings → AllEnd (state v) f → (o : Option Pointer)
-    → Right v d w f (Some (on (asks v d w k ts i q) (acts (state v) d w k ts (FromThis i q) None Rest) o))
-asked v d k w ts i q f at all None = plain v d k w ts (FromThis i q) None Rest f refl refl at all
-asked v d k w ts i q f at all (Some y) =
-    cond_both (is_enabled (state v) y) (record { deed = None; half = Giving i q y; walk = w; said = silent k })
-    (acts (state v) d w k ts (FromThis i q) None Rest) (λ (x : Step). Right v d w f (Some x))
-    (λ e. within v d k w None (Giving i q y) f refl at all) (λ e. plain v d k w ts (FromThis i q) None Rest f refl refl at all)
-
-given_on : (v : Story) (d i : ℕ) (q : Kind) (y : Pointer) (w : Walk) (f : Lists) → f d ≡ w.endings → AllEnd (state v) f → (ts : List Task)
-    → Right v d w f (given v d w i q y ts)
-given_on v d i q y w f at all [] = same v d w f None refl refl at all
-given_on v d i q y w f at all (t ∷ ts) = plain v d t.statement w ts (FromThis i q) (Some (give q y)) Rest f refl (gave v d q y) at all
-
--- a lock is tried, or done
-tried_or : (v : Story) (d k word : ℕ) (w : Walk) (ts : List Task) (i : ℕ) (must : Bool) (f : Lists) → f d ≡ w.endings → AllEnd (state v) f
-    → (y : Pointer) (c : Bool)
-    → Right v d w f (Some (cond c (acts (state v) d w k ts (Lock i must) (Some (lock (state v) y)) Rest) (trying w k word)))
-tried_or v d k word w ts i must f at all y true = plain v d k w ts (Lock i must) (Some (lock (state v) y)) Rest f refl refl at all
-tried_or v d k word w ts i must f at all y false = within v d k w None (cond (word == 0) Rest (Locking word)) f refl at all
-
-looked : (v : Story) (d k : ℕ) (w : Walk) (ts : List Task) (i : ℕ) (must : Bool) (f : Lists) → f d ≡ w.endings → AllEnd (state v) f
-    → (o : Option Pointer)
-    → Right v d w f (Some (on (looks v d w k ts (Lock i must)) (acts (state v) d w k ts (Lock i must) None Rest) o))
-looked v d k w ts i must f at all None = plain v d k w ts (Lock i must) None Rest f refl refl at all
-looked v d k w ts i must f at all (Some y) = tried_or v d k (owner_word v y) w ts i must f at all y (owner_word v y == 0)
-
-tried_by : (v : Story) (d word k : ℕ) (w : Walk) (ts : List Task) (a : Act) (f : Lists) → f d ≡ w.endings → AllEnd (state v) f
-    → (o : Option Pointer) → locked w.slots a ≡ o → Right v d w f (option_map (tries v d w k ts a word) o)
-tried_by v d word k w ts a f at all None e = same v d w f None refl refl at all
-tried_by v d word k w ts (Lock i must) f at all (Some y) e = tried_or v d k (owner_word v y) w ts i must f at all y (owner_word v y == word)
-tried_by v d word k w ts (Make form) f at all (Some y) e = cc
-tried_by v d word k w ts (Share i) f at all (Some y) e = cc
-tried_by v d word k w ts (Downgrade i) f at all (Some y) e = cc
-tried_by v d word k w ts (Put i) f at all (Some y) e = cc
-tried_by v d word k w ts (Leave i) f at all (Some y) e = cc
-tried_by v d word k w ts (Clear i) f at all (Some y) e = cc
-tried_by v d word k w ts (Count i) f at all (Some y) e = cc
-tried_by v d word k w ts (Expired i) f at all (Some y) e = cc
-tried_by v d word k w ts (Read i) f at all (Some y) e = cc
-tried_by v d word k w ts (FromThis i kind) f at all (Some y) e = cc
-tried_by v d word k w ts (Alias i j field) f at all (Some y) e = cc
-tried_by v d word k w ts (Move i) f at all (Some y) e = cc
-tried_by v d word k w ts (Ask q) f at all (Some y) e = cc
-
-tried_on : (v : Story) (d word : ℕ) (w : Walk) (f : Lists) → f d ≡ w.endings → AllEnd (state v) f → (ts : List Task)
-    → Right v d w f (tried v d w word ts)
-tried_on v d word w f at all [] = same v d w f None refl refl at all
-tried_on v d word w f at all (t ∷ ts) = tried_by v d word t.statement w ts t.act f at all (locked w.slots t.act) refl
+use Rattle.step_core.proofs.telling.Still.{Follows, Lists, Right, asked, done_on, end_put, given_on, going_in, looked, passes, plain, same, sent_on, shared, tried_on, within}
 
 -- an owner leaves
 left_by : (v : Story) (d k : ℕ) (w x : Walk) (a : Said) (f : Lists) → f d ≡ w.endings → AllEnd (state v) f → Kept v → (y : Pointer) (last : Bool)
@@ -242,6 +116,12 @@ acted v d k w ts f at all kept (Alias i j field) =
     (done_on v d (alias (aliased field (place_in w.slots j))) (owner_slot (slot w.slots i)) (λ x. refl)) at all
 acted v d k w ts f at all kept (Move i) = plain v d k w ts (Move i) None Rest f refl refl at all
 acted v d k w ts f at all kept (Ask q) = plain v d k w ts (Ask q) None Rest f refl refl at all
+acted v d k w ts f at all kept (Offer i c) =
+    plain v d k w ts (Offer i c) _ Rest f refl (done_on v d share (offered w.slots i c) (λ x. shared v d x.kind x)) at all
+acted v d k w ts f at all kept (Swap c) = going_in v d k w ts (Swap c) (going w.slots (Swap c)) f at all refl refl
+acted v d k w ts f at all kept (Exchange i c) = going_in v d k w ts (Exchange i c) (going w.slots (Exchange i c)) f at all refl refl
+acted v d k w ts f at all kept Drop =
+    left v d k w (went (state v) d w k ts Drop) _ f at all kept (slot w.slots (other w.slots)) (act_endings v d k w ts Drop)
 
 begun_task : (v : Story) (d : ℕ) (w : Walk) (f : Lists) → f d ≡ w.endings → AllEnd (state v) f → Kept v → (ts : List Task)
     → Right v d w f (begun v d w ts)
@@ -360,3 +240,6 @@ ends_right v d Rest w f at all kept = rested v d w f at all kept w.endings refl
 ends_right v d (Making b i c) w f at all kept = making v d i w b c f at all w.todo
 ends_right v d (Locking word) w f at all kept = tried_on v d word w f at all w.todo
 ends_right v d (Giving i kind x) w f at all kept = given_on v d i kind x w f at all w.todo
+ends_right v d Brought w f at all kept = sent_on v d w f at all w.todo
+ends_right v d (Returning kind b funds k) w f at all kept =
+    within v d k w (Some (deed.OnCell (cell_deed.GiveBack kind b funds))) Rest f refl at all

@@ -1,27 +1,32 @@
--- No act of a thread does anything to a cell.
-use Rattle.std.proofs.Common.{ℕ, ◌+◌, ◌<◌, ◌==◌, Bool, true, false, List, [], ◌∷◌, length, get_or}
+-- No act of a thread fills a member, or loads what a cell holds.
+use Rattle.std.proofs.Common.{ℕ, ◌<◌, ◌==◌, Bool, true, false, List, [], ◌∷◌, length, get_or}
 use Rattle.std.specs.Prelude.{Option, Some, None, option_map}
 use Rattle.std.proofs.lemmas.Bool.{cond_both}
 use Rattle.control_word.specs.declared.handle.Kind.{Kind}
 use Rattle.control_word.specs.declared.handle.Kind.TheVariants.{Owner, Weak}
 use Rattle.control_word.specs.declared.place.Block.{Block}
 use Rattle.step_core.specs.declared.act.Act.{Act}
-use Rattle.step_core.specs.declared.act.Act.TheVariants.{Make, Share, Downgrade, Lock, Put, Leave, Clear, Count, Expired, Read, FromThis, Alias, Move, Ask}
+use Rattle.step_core.specs.declared.act.Act.TheVariants.{Make, Share, Downgrade, Lock, Put, Leave, Clear, Count, Expired, Read, FromThis, Alias, Move, Ask, Offer, Swap, Exchange, Drop}
 use Rattle.step_core.specs.declared.act.Task.{Task}
 use Rattle.step_core.specs.declared.ending.Ending.{Ending}
 use Rattle.step_core.specs.declared.half.Half.{Half}
-use Rattle.step_core.specs.declared.half.Half.TheVariants.{Rest, Making, Locking, Giving}
+use Rattle.step_core.specs.declared.half.Half.TheVariants.{Rest, Making, Locking, Giving, Brought, Returning}
 use Rattle.step_core.specs.declared.holdings.Pointer.{Pointer}
 use Rattle.step_core.specs.declared.past.Deed.{Deed}
 use Rattle.step_core.specs.declared.past.Deed.TheVariants as deed
-use Rattle.control_word.specs.State.{weak}
+use Rattle.control_word.specs.State.{State, weak}
 use Rattle.step_core.specs.Actors.{wanted}
-use Rattle.step_core.specs.Courses.{Walk, form_of, hand, locked}
+use Rattle.step_core.specs.declared.call.CellName.{CellName}
+use Rattle.step_core.specs.declared.call.CellName.TheVariants as cell
+use Rattle.step_core.specs.declared.cell_deed.CellDeed.TheVariants as cell_deed
+use Rattle.control_word.specs.declared.cell.CellWord.{CellWord}
+use Rattle.step_core.specs.Courses.{Going, Walk, cell_at, form_of, going, hand, locked, offered, on_going, other}
+use Rattle.step_core.specs.Contents.{as_word, seen}
 use Rattle.step_core.specs.Deeds.{alias, aliased, downgrade, give, is_enabled, is_last, leave, leave_as, lock, owner_word, read, share, share_as, tell, tell_expired}
 use Rattle.step_core.specs.Endings.{staged}
-use Rattle.step_core.specs.Holdings.{inside, is_full, owner_slot, place_in, slot}
+use Rattle.step_core.specs.Holdings.{inside, is_full, owner_slot, place_in, slot, value}
 use Rattle.step_core.specs.Entries.{least, on}
-use Rattle.step_core.specs.Steps.{Step, acts, asks, at_rest, begins, begun, claims, ends_on, first, given, looks, made_on, prepares, silent, step_at, story_after, story_by, tried, tries, trying, with_endings}
+use Rattle.step_core.specs.Steps.{Step, acts, asks, at_rest, begins, begun, brings, claims, ends_on, first, given, looks, made_on, prepares, sends, sent, silent, step_at, story_after, story_by, swaps, tried, tries, trying, with_endings}
 use Rattle.step_core.specs.Stories.{IsPlain, Plain, Story, known, object_in, pending, state}
 use Rattle.step_core.proofs.tables.Plain.{plain_after}
 
@@ -71,6 +76,28 @@ plain_given : (v : Story) (d : ℕ) (w : Walk) (i : ℕ) (kind : Kind) (x : Poin
 plain_given v d w i kind x [] = tt
 plain_given v d w i kind x (t ∷ ts) = plain_give kind x
 
+plain_swap : (s : State) (c : CellName) (new x : CellWord) → IsPlain (deed.OnCell (cell_deed.Swap (cell_at s c) new x))
+plain_swap s (cell.Shared n) new x = tt
+plain_swap s (cell.Weak n) new x = tt
+
+plain_send : (v : Story) (d : ℕ) (w : Walk) (k : ℕ) (ts : List Task) (a : Act) (x : Going) (o : Option Pointer)
+    → AllPlain (on (brings w k) (swaps v d w k ts a x.0 x.1) o).deed
+plain_send v d w k ts a x None = plain_swap (state v) x.0 (as_word (value w.slots x.1)) (seen v (cell_at (state v) x.0))
+plain_send v d w k ts a x (Some y) = tt
+
+plain_going : (v : Story) (d : ℕ) (w : Walk) (k : ℕ) (ts : List Task) (a : Act) (o : Option Going)
+    → AllPlain (on_going (sends v d w k ts a) (acts (state v) d w k ts a None Rest) o).deed
+plain_going v d w k ts a None = tt
+plain_going v d w k ts a (Some x) = plain_send v d w k ts a x (slot w.slots x.1)
+
+plain_sent : (v : Story) (d : ℕ) (w : Walk) (ts : List Task) → IsPlainStep (sent v d w ts)
+plain_sent v d w [] = tt
+plain_sent v d w (t ∷ ts) = go (going w.slots t.act)
+  where
+    go : (o : Option Going) → IsPlainStep (option_map (λ (x : Going). swaps v d w t.statement ts t.act x.0 x.1) o)
+    go None = tt
+    go (Some x) = plain_swap (state v) x.0 (as_word (value w.slots x.1)) (seen v (cell_at (state v) x.0))
+
 plain_first : (v : Story) (d : ℕ) (w : Walk) (k : ℕ) (ts : List Task) (a : Act) → AllPlain (first v d w k ts a).deed
 plain_first v d w k ts (Make fields) = plain_begins w k ts (least d (state v).stores)
 plain_first v d w k ts (Share i) = on_slot share (slot w.slots i) (λ x. plain_share x.kind x)
@@ -86,6 +113,10 @@ plain_first v d w k ts (FromThis i kind) = plain_asks v d w k ts i kind (inside 
 plain_first v d w k ts (Alias i j field) = on_slot (alias (aliased field (place_in w.slots j))) (owner_slot (slot w.slots i)) (λ x. tt)
 plain_first v d w k ts (Move i) = tt
 plain_first v d w k ts (Ask q) = tt
+plain_first v d w k ts (Offer i c) = on_slot share (offered w.slots i c) (λ x. plain_share x.kind x)
+plain_first v d w k ts (Swap c) = plain_going v d w k ts (Swap c) (going w.slots (Swap c))
+plain_first v d w k ts (Exchange i c) = plain_going v d w k ts (Exchange i c) (going w.slots (Exchange i c))
+plain_first v d w k ts Drop = on_slot (leave (state v)) (slot w.slots (other w.slots)) (λ x. plain_leave x.kind x (is_last (state v) x))
 
 plain_tried : (v : Story) (d : ℕ) (w : Walk) (word k : ℕ) (ts : List Task) (a : Act) (o : Option Pointer) → IsPlainStep (option_map (tries v d w k ts a word) o)
 plain_tried v d w word k ts a None = tt
@@ -133,6 +164,8 @@ plain_step v d (Locking word) w = go w.todo
     go [] = tt
     go (t ∷ ts) = plain_tried v d w word t.statement ts t.act (locked w.slots t.act)
 plain_step v d (Giving i kind x) w = plain_given v d w i kind x w.todo
+plain_step v d Brought w = plain_sent v d w w.todo
+plain_step v d (Returning kind b funds k) w = tt
 
 pub plain_by : (v : Story) (d : ℕ) (x : Option Step) → IsPlainStep x → d < length v.views → Plain v → Plain (story_by v d x)
 plain_by v d None is lt plain = plain

@@ -29,7 +29,7 @@ clearing_steps (suc n) =
     let a = sum_by-cons (λ (t : Task). weight t.act) (record { statement = 0; act = act.Clear n }) (clearing n) in
     omega (arith, i, a)
 
--- a statement is one act or two, of which the first may be a make
+-- a statement is a few acts, of which one may be a make
 abbrev act_steps : List Act → ℕ
 act_steps [] = 0
 act_steps (a ∷ rest) = weight a + act_steps rest
@@ -66,6 +66,8 @@ call_steps (call.Read t) = omega arith
 call_steps (call.Place t) = omega arith
 call_steps (call.Same t s) = omega arith
 call_steps (call.Before t s) = omega arith
+call_steps (call.Store c s) = omega arith
+call_steps (call.Exchange c n) = omega arith
 
 all_steps : (k : ℕ) (calls : List Call) (n : ℕ) → task_steps (tasks_from k calls n) ≤ 30 * length calls + 2 * n
 all_steps k [] n = let i = clearing_steps n in omega (arith, i)

@@ -1,27 +1,28 @@
 -- What an act takes from the steps that a thread has left.
-use Rattle.std.proofs.Common.{◌≡◌, ℕ, zero, suc, ◌+◌, ◌*◌, ◌-◌, ◌<◌, ◌≤◌, Bool, true, false, cond, List, [], ◌∷◌, length, get_or, refl, sym, ap, subst, ◌∙◌, arith}
-use Rattle.std.proofs.Common.{get_or-set_same, length-set}
+use Rattle.std.proofs.Common.{◌≡◌, ℕ, ◌+◌, ◌*◌, ◌-◌, ◌<◌, ◌≤◌, Bool, true, false, cond, List, [], ◌∷◌, length, refl, sym, ap, subst, ◌∙◌, ◌≢◌, ⊎_elim, arith}
+use Rattle.std.proofs.Common.{get_or-set_other, get_or-set_same, length-set}
 use Rattle.std.specs.Prelude.{Option, Some, None, is_some, reverse, slice_set, sum_by}
-use Rattle.std.proofs.lemmas.Bool.{cond_both}
+use Rattle.std.proofs.lemmas.Bool.{cases_eq, cond_both}
 use Rattle.std.proofs.lemmas.List.Sorted.{IsPermutation-reverse, sum_by-IsPermutation}
 use Rattle.std.proofs.lemmas.List.Sums.{sum_by-cons}
 use Rattle.control_word.specs.declared.handle.Kind.{Kind}
 use Rattle.control_word.specs.declared.handle.Kind.TheVariants.{Owner, Weak}
 use Rattle.control_word.specs.State.{State}
 use Rattle.step_core.specs.declared.act.Act.{Act}
-use Rattle.step_core.specs.declared.act.Act.TheVariants.{Make, Share, Downgrade, Lock, Put, Leave, Clear, Count, Expired, Read, FromThis, Alias, Move, Ask}
+use Rattle.step_core.specs.declared.act.Act.TheVariants.{Make, Share, Downgrade, Lock, Put, Leave, Clear, Count, Expired, Read, FromThis, Alias, Move, Ask, Offer, Swap, Exchange, Drop}
 use Rattle.step_core.specs.declared.act.Task.{Task}
 use Rattle.step_core.specs.declared.ending.Ending.{Ending}
 use Rattle.step_core.specs.declared.holdings.Pointer.{Pointer}
 use Rattle.step_core.specs.Bounds.{carried, ending_steps, task_steps, walk_steps, weight}
-use Rattle.step_core.specs.Courses.{Walk, hand, idle, placed, settled, slots_idle, taken_idle}
+use Rattle.step_core.specs.Courses.{Walk, hand, idle, other, placed, settled, slots_idle, taken_idle}
 use Rattle.step_core.specs.Deeds.{is_last, owned}
 use Rattle.step_core.specs.declared.slot.Slot.{Slot}
 use Rattle.step_core.specs.Endings.{staged}
 use Rattle.step_core.specs.Steps.{with_endings}
 use Rattle.step_core.specs.Holdings.{Slots, is_full, plain, pointer_of, slot, value}
 use Rattle.step_core.specs.Entries.{on}
-use Rattle.step_core.specs.Scenes.{begins_end, begins_end_as, ended_by, ended_of, endings_by, hands, left, remains_as, went}
+use Rattle.step_core.specs.Scenes.{begins_end, begins_end_as, ended_by, endings_by, hands, left, remains_as, went}
+
 -- what settling passes over has no steps left
 pub settled_steps : (slots : Slots) (taken : Bool) (es : List Ending) (ts : List Task) → task_steps (settled slots taken es ts).todo ≤ task_steps ts
 settled_steps slots taken es [] = omega arith
@@ -61,6 +62,17 @@ placed_free k slots =
     let l = length-set slots k (value slots (hand slots)) in
     emptied (slice_set slots k (value slots (hand slots))) (hand slots) (omega (arith, l))
 
+-- what is to be dropped has left
+dropped_free : (slots : Slots) → IsFree slots → IsFree (slice_set slots (other slots) plain)
+dropped_free slots free =
+    let l = length-set slots (other slots) plain in
+    let h : hand (slice_set slots (other slots) plain) ≡ hand slots = omega (arith, l) in
+    ⊎_elim (λ (e : hand slots ≡ other slots). emptied slots (other slots) (sym e))
+    (λ (n : hand slots ≢ other slots).
+    subst (λ (i : ℕ). is_full (slot (slice_set slots (other slots) plain) i) ≡ false) (sym h)
+    (ap (λ (y : Slot). is_full (pointer_of y)) (get_or-set_other slots (other slots) (hand slots) plain plain n) ∙ free))
+    (cases_eq (hand slots) (other slots))
+
 idle_free : (a : Act) (slots : Slots) (taken : Bool) → IsFree slots → IsFree (slots_idle a slots taken)
 idle_free (Put k) slots true free = placed_free k slots
 idle_free (Put k) slots false free = free
@@ -77,6 +89,11 @@ idle_free (FromThis k kind) slots taken free = free
 idle_free (Alias k j field) slots taken free = free
 idle_free (Move k) slots taken free = free
 idle_free (Ask q) slots taken free = free
+idle_free (Offer k c) slots taken free = free
+idle_free (Swap c) slots true free = placed_free (other slots) slots
+idle_free (Swap c) slots false free = free
+idle_free (Exchange k c) slots taken free = free
+idle_free Drop slots taken free = dropped_free slots free
 
 settled_free : (slots : Slots) (taken : Bool) (es : List Ending) (ts : List Task) → IsFree slots → IsFree (settled slots taken es ts).slots
 settled_free slots taken es [] free = free
@@ -135,6 +152,10 @@ weight_two (FromThis k kind) = omega arith
 weight_two (Alias k j field) = omega arith
 weight_two (Move k) = omega arith
 weight_two (Ask q) = omega arith
+weight_two (Offer k c) = omega arith
+weight_two (Swap c) = omega arith
+weight_two (Exchange k c) = omega arith
+weight_two Drop = omega arith
 
 -- settled without an ending, a thread has the steps of its tasks alone
 pub settled_alone : (slots : Slots) (taken : Bool) (ts : List Task) → walk_steps (settled slots taken [] ts) ≤ task_steps ts
@@ -154,9 +175,9 @@ walk_alone w t ts none is =
     let d = sum_by-cons (λ (x : Task). weight x.act) t ts in
     omega (arith, a, b, c, d)
 
--- an act of a statement takes two steps, and brings those of the object that it ends
+-- an act of a statement takes its steps, and brings those of the object that it ends
 pub went_steps : (s : State) (d k : ℕ) (w : Walk) (t : Task) (ts : List Task) (a : Act) → w.endings ≡ [] → w.todo ≡ t ∷ ts
-    → walk_steps (went s d w k ts a) + 2 ≤ walk_steps w + 14 * ends_at s (left w.slots a)
+    → walk_steps (went s d w k ts a) + weight t.act ≤ walk_steps w + 14 * ends_at s (left w.slots a)
 went_steps s d k w t ts a none is =
     let x = hands s d w.slots w.taken a in
     let es = endings_by s k w.slots w.endings a in
@@ -168,8 +189,7 @@ went_steps s d k w t ts a none is =
     let g = ap (λ (l : List Ending). carried l (went s d w k ts a).slots) f in
     let h = begun_carried s k (went s d w k ts a).slots (left w.slots a) in
     let i = walk_alone w t ts none is in
-    let j = weight_two t.act in
-    omega (arith, r, b, c, g, h, i, j)
+    omega (arith, r, b, c, g, h, i)
 
 -- what came out of a member leaves
 pub carried_leaves : (s : State) (d k : ℕ) (w : Walk) (e : Ending) (es : List Ending) → w.endings ≡ e ∷ es
@@ -189,12 +209,17 @@ carried_leaves s d k w e es is full =
     omega (arith, r, b, c, g, h, i)
 
 -- an act of a statement that nothing leaves by
-pub went_plain : (s : State) (d k : ℕ) (w : Walk) (t : Task) (ts : List Task) (a : Act) → w.endings ≡ [] → w.todo ≡ t ∷ ts
-    → left w.slots a ≡ None → walk_steps (went s d w k ts a) + 2 ≤ walk_steps w
-went_plain s d k w t ts a none is stays =
+pub went_still : (s : State) (d k : ℕ) (w : Walk) (t : Task) (ts : List Task) (a : Act) → w.endings ≡ [] → w.todo ≡ t ∷ ts
+    → left w.slots a ≡ None → walk_steps (went s d w k ts a) + weight t.act ≤ walk_steps w
+went_still s d k w t ts a none is stays =
     let l = went_steps s d k w t ts a none is in
     let z : ends_at s (left w.slots a) ≡ 0 = ap (ends_at s) stays in
     omega (arith, l, z)
+
+pub went_plain : (s : State) (d k : ℕ) (w : Walk) (t : Task) (ts : List Task) (a : Act) → w.endings ≡ [] → w.todo ≡ t ∷ ts
+    → left w.slots a ≡ None → walk_steps (went s d w k ts a) + 2 ≤ walk_steps w
+went_plain s d k w t ts a none is stays =
+    let l = went_still s d k w t ts a none is stays in let j = weight_two t.act in omega (arith, l, j)
 
 -- any act of a statement
 pub went_less : (s : State) (d k : ℕ) (w : Walk) (t : Task) (ts : List Task) (a : Act) → w.endings ≡ [] → w.todo ≡ t ∷ ts
@@ -202,7 +227,8 @@ pub went_less : (s : State) (d k : ℕ) (w : Walk) (t : Task) (ts : List Task) (
 went_less s d k w t ts a none is =
     let l = went_steps s d k w t ts a none is in
     let z = carried_one (is_some (ended_by s (left w.slots a))) in
-    omega (arith, l, z)
+    let j = weight_two t.act in
+    omega (arith, l, z, j)
 
 -- the ending begun last is over
 pub over_less : (w : Walk) (e : Ending) (es : List Ending) → w.endings ≡ e ∷ es → IsFree w.slots

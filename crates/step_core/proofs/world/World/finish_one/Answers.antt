@@ -4,7 +4,7 @@ use Rattle.step_core.specs.Bounds.{most_steps, spare}
 use Rattle.step_core.specs.Scenes.{walk_of}
 use Rattle.step_core.specs.Worlds.{scene}
 use Rattle.step_core.proofs.runs.Chains.{on_end, on_more}
-use Rattle.step_core.proofs.runs.Lessening.{alone}
+use Rattle.step_core.proofs.runs.Alone.{alone}
 use Rattle.step_core.proofs.runs.Measures.{Falls, at_end, before_end}
 use Rattle.step_core.proofs.world.World.finish_one.Goals as goal
 

@@ -1,0 +1,1 @@
+-- How a thread puts values into cells.

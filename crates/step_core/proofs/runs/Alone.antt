@@ -1,0 +1,138 @@
+-- What a step takes from the steps that its thread has left.
+use Rattle.std.proofs.Common.{◌≡◌, ℕ, ◌+◌, ◌*◌, ◌<◌, ◌≤◌, ◌==◌, Bool, true, false, cond, List, [], ◌∷◌, refl, ap, arith}
+use Rattle.std.specs.Prelude.{Option, Some, None, is_some, option_map}
+use Rattle.std.proofs.lemmas.Bool.{eq-eqb}
+use Rattle.control_word.specs.declared.handle.Kind.{Kind}
+use Rattle.control_word.specs.declared.handle.Kind.TheVariants.{Owner, Weak}
+use Rattle.step_core.specs.declared.act.Act.{Act}
+use Rattle.step_core.specs.declared.act.Task.{Task}
+use Rattle.step_core.specs.declared.half.Half.{Half}
+use Rattle.step_core.specs.declared.half.Half.TheVariants.{Rest, Making, Locking, Giving, Brought, Returning}
+use Rattle.step_core.specs.declared.holdings.Pointer.{Pointer}
+use Rattle.step_core.specs.declared.past.Deed.{Deed}
+use Rattle.step_core.specs.declared.said.Stepped.{Stepped}
+use Rattle.step_core.specs.declared.said.Stepped.TheVariants as stepped
+use Rattle.step_core.specs.Bounds.{spare, walk_steps}
+use Rattle.step_core.specs.Courses.{Walk, locked}
+use Rattle.step_core.specs.Deeds.{is_last, leave, leave_as, owned, owner_word}
+use Rattle.step_core.specs.Entries.{on}
+use Rattle.step_core.specs.Scenes.{ended_by, left as leaves_by, remains_as}
+use Rattle.step_core.specs.Steps.{Step, acts}
+use Rattle.step_core.specs.Steps.{stepped as stepped_by, story_after}
+use Rattle.step_core.specs.Stories.{Story, state}
+use Rattle.step_core.specs.Told.{ends_by, is_prepared, makes}
+use Rattle.step_core.proofs.telling.Walking.{ends_at, went_plain}
+
+-- the word that counts the owners of what the next act locks
+abbrev pub word_of : Story → Walk → List Task → ℕ
+word_of v w [] = 0
+word_of v w (t ∷ ts) = on (owner_word v) 0 (locked w.slots t.act)
+
+-- how many steps a half-done act has to spare where its thread runs alone: a lock whose word is still the one found is done next,
+-- and any other begins again first. A swap takes the steps of its funds from its task
+abbrev pub alone : Story → Walk → Half → ℕ
+alone v w Rest = spare Rest
+alone v w (Making b i differs) = spare (Making b i differs)
+alone v w (Locking word) = cond (word_of v w w.todo == word) 14 16
+alone v w (Giving i kind x) = spare (Giving i kind x)
+alone v w Brought = 14
+alone v w (Returning kind b funds k) = 16
+
+pub alone_of_lock : (v : Story) (w : Walk) (word : ℕ) → (14 ≤ alone v w (Locking word)) × (alone v w (Locking word) ≤ 16)
+alone_of_lock v w word = go (word_of v w w.todo == word)
+  where
+    go : (b : Bool) → (14 ≤ cond b 14 16) × (cond b 14 16 ≤ 16)
+    go true = (omega arith, omega arith)
+    go false = (omega arith, omega arith)
+
+pub alone_same : (v : Story) (w : Walk) (word : ℕ) → word_of v w w.todo ≡ word → alone v w (Locking word) ≡ 14
+alone_same v w word is = ap {B = ℕ} (λ (b : Bool). cond b 14 16) (eq-eqb _ _ is)
+
+pub alone_other : (v : Story) (w : Walk) (word : ℕ) → (word_of v w w.todo == word) ≡ false → alone v w (Locking word) ≡ 16
+alone_other v w word is = ap {B = ℕ} (λ (b : Bool). cond b 14 16) is
+
+pub alone_most : (v : Story) (w : Walk) (h : Half) → alone v w h ≤ spare h + 1
+alone_most v w Rest = omega arith
+alone_most v w (Making b i differs) = omega arith
+alone_most v w (Locking word) = let l = (alone_of_lock v w word).1 in omega (arith, l)
+alone_most v w (Giving i kind x) = omega arith
+alone_most v w Brought = omega arith
+alone_most v w (Returning kind b funds k) = omega arith
+
+-- A step leaves the thread with fewer steps, where it runs alone, and never with more. An object that is made has the steps of
+-- its end, and one whose last owner left gives them to its ending
+pub record Lessens (v v' : Story) (h h' : Half) (w w' : Walk) (made ended : ℕ) : Type 0 where
+  pub own : walk_steps w' + 13 * made + alone v' w' h' < walk_steps w + 13 * ended + alone v w h
+  pub most : walk_steps w' + 13 * made + spare h' ≤ walk_steps w + 13 * ended + spare h
+
+-- no step, just at the end; or the thread has fewer steps left than it had, with h begun
+abbrev pub IsLess : Story → ℕ → Half → Walk → Option Step → Type 0
+IsLess v d h w None = (w.todo ≡ []) × (w.endings ≡ []) × (h ≡ Rest)
+IsLess v d h w (Some x) =
+    Lessens v (story_after v d x.deed) h x.half w x.walk (makes h (stepped_by v (Some x))) (ends_by (stepped_by v (Some x)))
+
+-- none is made but by a make that is prepared
+pub none_made : (h : Half) (r : Stepped) → is_prepared h ≡ false → makes h r ≡ 0
+none_made h (stepped.Event x) e = ap (λ (b : Bool). cond b 1 0) e
+none_made h (stepped.Quiet x) e = refl
+none_made h stepped.Waited e = refl
+none_made h stepped.Done e = refl
+
+pub one_made : (h : Half) (r : Stepped) → makes h r ≤ 1
+one_made h (stepped.Event x) = go (is_prepared h)
+  where
+    go : (b : Bool) → cond b 1 0 ≤ 1
+    go true = omega arith
+    go false = omega arith
+one_made h (stepped.Quiet x) = omega arith
+one_made h stepped.Waited = omega arith
+one_made h stepped.Done = omega arith
+
+-- the act is done by which nothing leaves
+pub plain_less : (v : Story) (d k : ℕ) (h : Half) (w : Walk) (t : Task) (ts : List Task) (a : Act) (x : Option Deed) → is_prepared h ≡ false
+    → leaves_by w.slots a ≡ None → w.endings ≡ [] → w.todo ≡ t ∷ ts → 14 ≤ alone v w h → 14 ≤ spare h
+    → IsLess v d h w (Some (acts (state v) d w k ts a x Rest))
+plain_less v d k h w t ts a x unmade stays none is own most =
+    let l = went_plain (state v) d k w t ts a none is stays in
+    let m = none_made h (stepped_by v (Some (acts (state v) d w k ts a x Rest))) unmade in
+    record { own = omega (arith, l, m, own); most = omega (arith, l, m, most) }
+
+-- the steps that an object's end gets are told
+left_ends : (v : Story) (d k : ℕ) (x : Walk) (o : Option Pointer)
+    → ends_by (stepped_by v (Some (record {
+      deed = option_map (leave (state v)) o;
+      half = Rest;
+      walk = x;
+      said = record { statement = k; answer = None; ended = ended_by (state v) o };
+    }))) ≡ ends_at (state v) o
+left_ends v d k x None = refl
+left_ends v d k x (Some y) = go y.kind (is_last (state v) y)
+  where
+    go : (q : Kind) (b : Bool) → ends_by (stepped_by v (Some (record {
+      deed = Some (leave_as q y b);
+      half = Rest;
+      walk = x;
+      said = record { statement = k; answer = None; ended = cond b (remains_as q ((state v).object (owned (state v) y))) None };
+    }))) ≡ cond (is_some (cond b (remains_as q ((state v).object (owned (state v) y))) None)) 1 0
+    go Owner b = refl
+    go Weak true = refl
+    go Weak false = refl
+
+-- so it is where a pointer leaves
+pub left_less : (v : Story) (d k : ℕ) (w x : Walk) (o : Option Pointer) → walk_steps x + 1 ≤ walk_steps w + 13 * ends_at (state v) o
+    → IsLess v d Rest w (Some (record {
+      deed = option_map (leave (state v)) o;
+      half = Rest;
+      walk = x;
+      said = record { statement = k; answer = None; ended = ended_by (state v) o };
+    }))
+left_less v d k w x o le =
+    let y : Step = record {
+      deed = option_map (leave (state v)) o;
+      half = Rest;
+      walk = x;
+      said = record { statement = k; answer = None; ended = ended_by (state v) o };
+    } in
+    let m = none_made Rest (stepped_by v (Some y)) refl in
+    let e = left_ends v d k x o in
+    record { own = omega (arith, le, m, e); most = omega (arith, le, m, e) }

@@ -1,0 +1,136 @@
+-- What a deed adds to the totals, and what is left by it.
+use Rattle.std.proofs.Common.{◌≡◌, ℕ, ◌+◌, ◌*◌, ◌≤◌, Bool, true, false, cond, refl, sym, ap, ◌∙◌, arith}
+use Rattle.std.specs.Prelude.{Option, Some, None, is_some, option_map}
+use Rattle.control_word.specs.declared.event.Event.TheVariants as event
+use Rattle.control_word.specs.declared.place.Place.{Place}
+use Rattle.control_word.specs.Histories.{entry}
+use Rattle.step_core.specs.declared.act.Act.TheVariants.{Leave}
+use Rattle.step_core.specs.declared.half.Half.{Half}
+use Rattle.step_core.specs.declared.half.Half.TheVariants.{Rest}
+use Rattle.step_core.specs.declared.holdings.Pointer.{Pointer}
+use Rattle.step_core.specs.declared.said.Answer.{Answer}
+use Rattle.step_core.specs.Bounds.{walk_steps}
+use Rattle.step_core.specs.Courses.{Walk}
+use Rattle.step_core.specs.Scenes.{ended_by, remains, remains_as}
+use Rattle.step_core.specs.Steps.{Step}
+use Rattle.step_core.specs.Steps.{silent, stepped, story_by, walk_by}
+use Rattle.step_core.specs.Deeds.{read, downgrade, is_last as is_last_of, leave, leave_as, lock, owned, share, share_as, tell, tell_expired, alias}
+use Rattle.control_word.specs.declared.handle.Kind.{Kind}
+use Rattle.control_word.specs.declared.handle.Kind.TheVariants.{Owner, Weak}
+use Rattle.step_core.specs.Stories.{Story, owner_in, state}
+use Rattle.step_core.specs.Told.{ends_by, is_prepared, makes}
+use Rattle.step_core.specs.Totals.{ended_in, made_in}
+use Rattle.step_core.proofs.telling.Order.{ended_more}
+use Rattle.step_core.proofs.telling.Walking.{ends_at}
+
+-- the step is counted, where h is what the thread had begun: an object is made by a task that has the steps of its end
+pub record IsCounted (v : Story) (d : ℕ) (h : Half) (w : Walk) (x : Option Step) : Type 0 where
+  pub made : made_in (story_by v d x).history ≡ made_in v.history + makes h (stepped v x)
+  pub ended : ended_in (story_by v d x).history ≡ ended_in v.history + ends_by (stepped v x)
+  pub few : 28 * makes h (stepped v x) + walk_steps (walk_by w x) ≤ walk_steps w + 13 * ends_by (stepped v x)
+
+pub plus_none : (n : ℕ) → n ≡ n + 0
+plus_none n = omega arith
+
+some_if : {A : Type 0} (b : Bool) (a : A) → is_some (cond b (Some a) None) ≡ b
+some_if true a = refl
+some_if false a = refl
+
+-- a step that is no event
+pub quiet : (v : Story) (d k : ℕ) (h h' : Half) (w x : Walk) (a : Option Answer) → walk_steps x ≤ walk_steps w
+    → IsCounted v d h w (Some (record { deed = None; half = h'; walk = x; said = record { statement = k; answer = a; ended = None } }))
+quiet v d k h h' w x a le = record { made = plus_none _; ended = plus_none _; few = omega (arith, le) }
+
+pub shared : (v : Story) (d k : ℕ) (w x : Walk) → walk_steps x ≤ walk_steps w → (y : Option Pointer)
+    → IsCounted v d Rest w (Some (record { deed = option_map share y; half = Rest; walk = x; said = silent k }))
+shared v d k w x le None = record { made = plus_none _; ended = plus_none _; few = omega (arith, le) }
+shared v d k w x le (Some y) = go y.kind
+  where
+    go : (q : Kind) → IsCounted v d Rest w (Some (record { deed = Some (share_as q y); half = Rest; walk = x; said = silent k }))
+    go Owner = record { made = plus_none _; ended = plus_none _; few = omega (arith, le) }
+    go Weak = record { made = plus_none _; ended = plus_none _; few = omega (arith, le) }
+
+pub downgraded : (v : Story) (d k : ℕ) (w x : Walk) → walk_steps x ≤ walk_steps w → (y : Option Pointer)
+    → IsCounted v d Rest w (Some (record { deed = option_map downgrade y; half = Rest; walk = x; said = silent k }))
+downgraded v d k w x le None = record { made = plus_none _; ended = plus_none _; few = omega (arith, le) }
+downgraded v d k w x le (Some y) = record { made = plus_none _; ended = plus_none _; few = omega (arith, le) }
+
+pub aliased_by : (v : Story) (d k : ℕ) (w x : Walk) (p : Option Place) → walk_steps x ≤ walk_steps w → (y : Option Pointer)
+    → IsCounted v d Rest w (Some (record { deed = option_map (alias p) y; half = Rest; walk = x; said = silent k }))
+aliased_by v d k w x p le None = record { made = plus_none _; ended = plus_none _; few = omega (arith, le) }
+aliased_by v d k w x p le (Some y) = record { made = plus_none _; ended = plus_none _; few = omega (arith, le) }
+
+pub expired : (v : Story) (d k : ℕ) (w x : Walk) (a : Option Answer) → walk_steps x ≤ walk_steps w → (y : Option Pointer)
+    → IsCounted v d Rest w (Some (record {
+      deed = option_map (tell_expired (state v)) y;
+      half = Rest;
+      walk = x;
+      said = record { statement = k; answer = a; ended = None };
+    }))
+expired v d k w x a le None = record { made = plus_none _; ended = plus_none _; few = omega (arith, le) }
+expired v d k w x a le (Some y) = record { made = plus_none _; ended = plus_none _; few = omega (arith, le) }
+
+pub read_one : (v : Story) (d k : ℕ) (w x : Walk) (a : Option Answer) → walk_steps x ≤ walk_steps w → (y : Option Pointer)
+    → IsCounted v d Rest w (Some (record {
+      deed = option_map (read (state v)) y;
+      half = Rest;
+      walk = x;
+      said = record { statement = k; answer = a; ended = None };
+    }))
+read_one v d k w x a le None = record { made = plus_none _; ended = plus_none _; few = omega (arith, le) }
+read_one v d k w x a le (Some y) = record { made = plus_none _; ended = plus_none _; few = omega (arith, le) }
+
+-- a lock that is done
+pub locked_by : (v : Story) (d k : ℕ) (h : Half) (w x : Walk) (a : Option Answer) (y : Pointer) → is_prepared h ≡ false → walk_steps x ≤ walk_steps w
+    → IsCounted v d h w (Some (record {
+      deed = Some (lock (state v) y);
+      half = Rest;
+      walk = x;
+      said = record { statement = k; answer = a; ended = None };
+    }))
+locked_by v d k h w x a y e le =
+    let z : ◌≡◌ {A = ℕ} (cond (is_prepared h) 1 0) 0 = ap (λ (b : Bool). cond b 1 0) e in
+    record { made = omega (arith, z); ended = plus_none _; few = omega (arith, le, z) }
+
+pub told : (v : Story) (d k : ℕ) (w x : Walk) (a : Option Answer) → walk_steps x ≤ walk_steps w → (y : Option Pointer)
+    → IsCounted v d Rest w (Some (record {
+      deed = option_map (tell (state v)) y;
+      half = Rest;
+      walk = x;
+      said = record { statement = k; answer = a; ended = None };
+    }))
+told v d k w x a le None = record { made = plus_none _; ended = plus_none _; few = omega (arith, le) }
+told v d k w x a le (Some y) = record { made = plus_none _; ended = plus_none _; few = omega (arith, le) }
+
+left_by : (v : Story) (d k : ℕ) (w x : Walk) (y : Pointer) (q : Kind) (b : Bool)
+    → walk_steps x ≤ walk_steps w + 13 * cond (is_some (cond b (remains_as q ((state v).object (owned (state v) y))) None)) 1 0
+    → IsCounted v d Rest w (Some (record {
+      deed = Some (leave_as q y b);
+      half = Rest;
+      walk = x;
+      said = record { statement = k; answer = None; ended = cond b (remains_as q ((state v).object (owned (state v) y))) None };
+    }))
+left_by v d k w x y Owner b le =
+    let s = state v in
+    let r = remains (s.object (owned s y)) in
+    let t = some_if b r in
+    let u : ◌≡◌ {A = ℕ} (cond (is_some (cond b (Some r) None)) 1 0) (cond b 1 0) = ap (λ (z : Bool). cond z 1 0) t in
+    record {
+      made = plus_none _;
+      ended =
+          ended_more (entry d (event.Leave (owner_in v y.block y.place) b)) v.history b refl
+          ∙ ap (λ (z : ℕ). ended_in v.history + z) (sym u);
+      few = omega (arith, le);
+    }
+left_by v d k w x y Weak true le = record { made = plus_none _; ended = plus_none _; few = omega (arith, le) }
+left_by v d k w x y Weak false le = record { made = plus_none _; ended = plus_none _; few = omega (arith, le) }
+
+pub left : (v : Story) (d k : ℕ) (w x : Walk) (y : Option Pointer) → walk_steps x + 1 ≤ walk_steps w + 13 * ends_at (state v) y
+    → IsCounted v d Rest w (Some (record {
+      deed = option_map (leave (state v)) y;
+      half = Rest;
+      walk = x;
+      said = record { statement = k; answer = None; ended = ended_by (state v) y };
+    }))
+left v d k w x None le = record { made = plus_none _; ended = plus_none _; few = omega (arith, le) }
+left v d k w x (Some y) le = left_by v d k w x y y.kind (is_last_of (state v) y) (omega (arith, le))

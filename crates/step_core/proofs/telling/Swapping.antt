@@ -1,0 +1,46 @@
+-- What an act takes that puts a value into a cell.
+use Rattle.std.proofs.Common.{◌≡◌, ℕ, ◌+◌, ◌≤◌, List, [], ◌∷◌, refl, ap, ◌∙◌, arith}
+use Rattle.std.specs.Prelude.{Some, None}
+use Rattle.control_word.specs.State.{State}
+use Rattle.step_core.specs.declared.act.Act.{Act}
+use Rattle.step_core.specs.declared.act.Act.TheVariants.{Make, Share, Downgrade, Lock, Put, Leave, Clear, Count, Expired, Read, FromThis, Alias, Move, Ask, Offer, Swap, Exchange, Drop}
+use Rattle.step_core.specs.declared.act.Task.{Task}
+use Rattle.step_core.specs.Bounds.{walk_steps, weight}
+use Rattle.step_core.specs.Courses.{Going, Walk, going}
+use Rattle.step_core.specs.Holdings.{Slots}
+use Rattle.step_core.specs.Scenes.{ended_of, left, went}
+use Rattle.step_core.proofs.telling.Walking.{went_still}
+
+-- a value goes into a cell by the act: it takes three steps, and nothing leaves
+pub record IsSwapping (s : State) (slots : Slots) (a : Act) : Type 0 where
+  pub weight : weight a ≡ 3
+  pub stays : left slots a ≡ None
+  pub ends : ended_of s slots a ≡ None
+
+pub swapping : (s : State) (slots : Slots) (a : Act) (x : Going) → going slots a ≡ Some x → IsSwapping s slots a
+swapping s slots (Swap c) x e = record { weight = refl; stays = refl; ends = refl }
+swapping s slots (Exchange k c) x e = record { weight = refl; stays = refl; ends = refl }
+swapping s slots (Make form) x e = cc
+swapping s slots (Share k) x e = cc
+swapping s slots (Downgrade k) x e = cc
+swapping s slots (Lock k must) x e = cc
+swapping s slots (Put k) x e = cc
+swapping s slots (Leave k) x e = cc
+swapping s slots (Clear k) x e = cc
+swapping s slots (Count k) x e = cc
+swapping s slots (Expired k) x e = cc
+swapping s slots (Read k) x e = cc
+swapping s slots (FromThis k kind) x e = cc
+swapping s slots (Alias k j field) x e = cc
+swapping s slots (Move k) x e = cc
+swapping s slots (Ask q) x e = cc
+swapping s slots (Offer k c) x e = cc
+swapping s slots Drop x e = cc
+
+pub went_swap : (s : State) (d k : ℕ) (w : Walk) (t : Task) (ts : List Task) (a : Act) (x : Going) → w.endings ≡ [] → w.todo ≡ t ∷ ts
+    → t.act ≡ a → going w.slots a ≡ Some x → walk_steps (went s d w k ts a) + 3 ≤ walk_steps w
+went_swap s d k w t ts a x none is same goes =
+    let y = swapping s w.slots a x goes in
+    let l = went_still s d k w t ts a none is y.stays in
+    let j : weight t.act ≡ 3 = ap weight same ∙ y.weight in
+    omega (arith, l, j)
