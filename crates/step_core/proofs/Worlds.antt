@@ -3,6 +3,8 @@ use Rattle.std.proofs.Common.{◌≡◌, ◌≢◌, ◌⊎◌, inl, inr, false, 
 use Rattle.std.specs.Prelude.{Option, None, Some, slice_get, map}
 use Rattle.std.proofs.lemmas.List.{get_or-map, length-map, map-set}
 use Rattle.std.proofs.lemmas.Bool.{cases_eq}
+use Rattle.std.proofs.lemmas.List.Elements.{All-drop, All-head}
+use Rattle.control_word.specs.declared.shape.Shape.{Shape}
 use Rattle.std.proofs.lemmas.Option.{same_Some, slice_get-get_or}
 use Rattle.step_core.specs.declared.act.Task.{Task}
 use Rattle.step_core.specs.declared.course.Course.{Course}
@@ -12,18 +14,19 @@ use Rattle.step_core.specs.Holdings.{is_full, pointer_of, slot}
 use Rattle.step_core.specs.declared.past.Deed.{Deed}
 use Rattle.step_core.specs.declared.said.Stepped.{Stepped}
 use Rattle.step_core.specs.declared.half.Half.{Half}
-use Rattle.step_core.specs.declared.half.Half.TheVariants.{Rest, Making, Locking, Giving}
+use Rattle.step_core.specs.declared.half.Half.TheVariants.{Rest, Making, Locking, Giving, Brought, Returning}
 use Rattle.step_core.specs.declared.thread.Thread.{Thread}
 use Rattle.step_core.specs.Actors.{HalfFits}
-use Rattle.step_core.specs.Courses.{Walk, hand, todo, walk}
+use Rattle.step_core.specs.Courses.{HasCell, Walk, hand, task_at, todo, walk}
 use Rattle.step_core.specs.Scenes.{nowhere, walk_of}
 use Rattle.step_core.specs.Steps.{Step, half_by, step_at, stepped, story_after, story_by, walk_by}
 use Rattle.step_core.specs.Stories.{AllBare, Kept, Story, after, state}
-use Rattle.step_core.specs.Threads.{Fits, HasStepped, IsNext, form_at}
-use Rattle.step_core.specs.Turning.{HasBegun, IsAlone, IsLock, IsTried, IsUnderWay}
+use Rattle.step_core.specs.Threads.{Fits, HasStepped, IsNext}
+use Rattle.step_core.specs.Turning.{HasBegun, IsAlone, IsInShape, IsLock, IsSwap, IsTried, IsUnderWay}
 use Rattle.step_core.specs.Worlds.{AllFit, Sight, Steps, half_of, scene, step_of, thread_half, thread_walk}
 use Rattle.step_core.proofs.Courses.{todo_at}
-use Rattle.step_core.proofs.holding.Others.{ends_others, half_others, holds_others, stocks_others}
+use Rattle.step_core.proofs.holding.Halves.{half_others}
+use Rattle.step_core.proofs.holding.Others.{ends_others, holds_others, stocks_others}
 
 module _ {X : Type 0} where
   get_other : (xs : List X) (i j : ℕ) (y : X) → j ≢ i → slice_get (set xs i y) j ≡ slice_get xs j
@@ -46,7 +49,7 @@ fits_others d u v n x ne kept kept' fits =
       within = fits.within;
       ready = fits.ready;
       still = fits.still;
-      half = half_others d u.half (form_at u.course) v n x ne kept kept' fits.half;
+      half = half_others d n v x ne kept kept' u.half u.course.holdings.slots.items (task_at u.course).act fits.half;
       next = fits.next;
       stocks = stocks_others d u.stock.blocks u.stock.room u.half v n x ne fits.stocks;
       endings = record {
@@ -54,6 +57,7 @@ fits_others d u v n x ne kept kept' fits =
         roomy = fits.endings.roomy;
         empty = fits.endings.empty;
       };
+      cells = fits.cells;
     }
 
 fits_deed : (d : ℕ) (u : Thread) (v v' : Story) (n : ℕ) (x : Deed) → n ≢ d → Kept v → Kept v' → v' ≡ after v n x → Fits d u v → Fits d u v'
@@ -112,25 +116,36 @@ steps v v' threads n t t' r lt read moved =
     )
 
 -- what a thread has begun
-begun_of : (d : ℕ) (h : Half) (c : Course) (v : Story) → HalfFits d h (form_at c) v → IsNext h c → IsUnderWay d v h (todo c)
+begun_of : (d : ℕ) (h : Half) (c : Course) (v : Story) → HalfFits d h c.holdings.slots.items (task_at c).act v → IsNext h c → IsUnderWay d v h (todo c)
 begun_of d Rest c v fits next = tt
 begun_of d (Making b i differs) c v fits next =
     subst (λ (ts : List Task). IsUnderWay d v (Making b i differs) ts) (sym (todo_at c next.0)) (fits.within, fits.least, next.1)
 begun_of d (Locking word) c v fits next = tt
 begun_of d (Giving i kind x) c v fits next =
     subst (λ (ts : List Task). IsUnderWay d v (Giving i kind x) ts) (sym (todo_at c next.0)) (next.1, fits.enabled)
+begun_of d Brought c v fits next = tt
+begun_of d (Returning kind b funds k) c v fits next = tt
 
 tried_of : (h : Half) (c : Course) → IsNext h c → IsTried h (walk c)
 tried_of Rest c next = tt
 tried_of (Making b i differs) c next = tt
 tried_of (Locking word) c next = subst (λ (ts : List Task). IsLock c.holdings.slots.items ts) (sym (todo_at c next.0)) next.1
 tried_of (Giving i kind x) c next = next.2
+tried_of Brought c next = subst (λ (ts : List Task). IsSwap c.holdings.slots.items ts) (sym (todo_at c next.0)) next.1
+tried_of (Returning kind b funds k) c next = tt
 
 alone_of : (h : Half) (c : Course) → IsNext h c → IsAlone h c.endings.list
 alone_of Rest c next = tt
 alone_of (Making b i differs) c next = next.2
 alone_of (Locking word) c next = next.2
 alone_of (Giving i kind x) c next = next.3
+alone_of Brought c next = next.2
+alone_of (Returning kind b funds k) c next = tt
+
+-- the shape has the cells of the tasks that are left
+in_shape : (z : Shape) (ts : List Task) → All (λ (t : Task). HasCell z t.act) ts → IsInShape z ts
+in_shape z [] all = tt
+in_shape z (t ∷ ts) all = All-head (λ (t : Task). HasCell z t.act) t ts all
 
 -- where an object ends nothing is in hand
 free_of : (d : ℕ) (t : Thread) (v : Story) → Fits d t v
@@ -140,8 +155,9 @@ free_of d t v fits =
     (λ (e : t.course.taken ≡ false). inr (ap (λ (x : Slot). is_full (pointer_of x)) (fits.ready.free e))) fits.endings.empty
 
 pub has_begun : (v : Story) (threads : List Thread) (n : ℕ) (t : Thread) → n < length threads → t ≡ get_or threads n t → Fits n t v → AllBare (state v)
+    → Kept v
     → HasBegun n (sight v threads)
-has_begun v threads n t lt read fits bare =
+has_begun v threads n t lt read fits bare kept =
     let h : get_or (map thread_half threads) n Rest ≡ t.half = get_or-map thread_half threads n t Rest lt ∙ ap thread_half (sym read) in
     let w : get_or (map thread_walk threads) n nowhere ≡ walk t.course = get_or-map thread_walk threads n t nowhere lt ∙ ap thread_walk (sym read) in
     record {
@@ -162,4 +178,9 @@ has_begun v threads n t lt read fits bare =
       free =
           subst (λ (k : Walk). (k.endings ≡ []) ⊎ (is_full (slot k.slots (hand k.slots)) ≡ false)) (sym w) (free_of n t v fits);
       bare = bare;
+      seat = fits.seat;
+      kept = kept;
+      cell =
+          subst (λ (k : Walk). IsInShape v.extent.shape k.todo) (sym w)
+          (in_shape v.extent.shape (todo t.course) (All-drop (λ (x : Task). HasCell v.extent.shape x.act) t.course.at t.course.tasks.items fits.cells));
     }

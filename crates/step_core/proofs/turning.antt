@@ -5,4 +5,5 @@ pub mod Locking
 pub mod Making
 pub mod Saying
 pub mod Playing
+pub mod Swapping
 pub mod Turns

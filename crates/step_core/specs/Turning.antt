@@ -1,5 +1,5 @@
 -- The parts of a turn. All of it is own.
-use Rattle.std.specs.Prelude.{◌≡◌, ◌⊎◌, ℕ, ◌<◌, ◌≤◌, Bool, true, false, not, ◌==◌, List, [], ◌∷◌, length, slice_set, is_some, All, Option, Some, None}
+use Rattle.std.specs.Prelude.{◌≡◌, ◌⊎◌, ℕ, ◌<◌, ◌≤◌, Bool, true, false, not, ◌||◌, ◌==◌, List, [], ◌∷◌, length, slice_set, is_some, All, Option, Some, None}
 use Rattle.step_core.specs.declared.act.Act.TheVariants.{Make, FromThis}
 use Rattle.step_core.specs.declared.act.Task.{Task}
 use Rattle.step_core.specs.declared.ending.Ending.{Ending}
@@ -10,13 +10,14 @@ use Rattle.step_core.specs.declared.said.Stepped.{Stepped}
 use Rattle.step_core.specs.declared.said.Stepped.TheVariants as stepped
 use Rattle.step_core.specs.declared.said.Turned.{Turned}
 use Rattle.step_core.specs.declared.said.Turned.TheVariants.{Acted, Waited, Done}
-use Rattle.step_core.specs.Courses.{Walk, form_of, going, hand, locked}
+use Rattle.control_word.specs.declared.shape.Shape.{Shape}
+use Rattle.step_core.specs.Courses.{HasCell, Walk, form_of, going, hand, locked}
 use Rattle.step_core.specs.Deeds.{is_enabled}
 use Rattle.step_core.specs.Endings.{first_of}
 use Rattle.step_core.specs.Holdings.{Slots, inside, is_full, slot}
 use Rattle.step_core.specs.Entries.{least}
 use Rattle.step_core.specs.Scenes.{play, rested, said, walk_of}
-use Rattle.step_core.specs.Stories.{AllBare, Story, state}
+use Rattle.step_core.specs.Stories.{AllBare, Kept, Story, state}
 use Rattle.step_core.specs.Worlds.{Sight, half_of, scene}
 
 -- a make that is under way is the next act, in the least block of the store
@@ -56,6 +57,11 @@ IsAlone (Giving i kind x) es = es ≡ []
 IsAlone Brought es = es ≡ []
 IsAlone (Returning kind b funds k) es = Unit {0}
 
+-- the shape has the cell of the next act
+abbrev pub IsInShape : Shape → List Task → Type 0
+IsInShape z [] = Unit {0}
+IsInShape z (t ∷ ts) = HasCell z t.act
+
 -- between two steps of thread d: where objects end nothing is in hand, and no member of an object holds anything
 pub record HasBegun (d : ℕ) (u : Sight) : Type 0 where
   pub within : d < length u.halves
@@ -66,6 +72,9 @@ pub record HasBegun (d : ℕ) (u : Sight) : Type 0 where
   pub staged : All (λ (e : Ending). e.stage ≤ 3) (walk_of (scene u) d).endings
   pub free : ((walk_of (scene u) d).endings ≡ []) ⊎ (is_full (slot (walk_of (scene u) d).slots (hand (walk_of (scene u) d).slots)) ≡ false)
   pub bare : AllBare (state u.story)
+  pub seat : d < u.story.extent.actors
+  pub kept : Kept u.story
+  pub cell : IsInShape u.story.extent.shape (walk_of (scene u) d).todo
 
 -- the thread's endings go on by themselves
 abbrev pub is_ending : Sight → ℕ → Bool
@@ -83,6 +92,23 @@ abbrev pub is_giving : Half → Bool
 is_giving (Giving i kind x) = true
 is_giving _ = false
 
+abbrev pub is_brought : Half → Bool
+is_brought Brought = true
+is_brought _ = false
+
+abbrev pub is_returning : Half → Bool
+is_returning (Returning kind b funds k) = true
+is_returning _ = false
+
+-- the rest of an act goes on by itself: funds are given back, or an object ends
+abbrev pub has_rest : Sight → ℕ → Bool
+has_rest u d = is_returning (half_of u d) || is_ending u d
+
+-- what a thread has begun, once the funds are given back
+abbrev pub returned : Half → Half
+returned (Returning kind b funds k) = Rest
+returned h = h
+
 -- an act that is under way
 abbrev pub is_acting : Half → Bool
 is_acting (Making b i differs) = true
@@ -96,11 +122,11 @@ abbrev pub is_preparing : Half → Bool
 is_preparing (Making b i differs) = not (i == 5)
 is_preparing _ = false
 
--- thread d's endings have gone on by themselves
+-- the rest of thread d's act has gone on by itself
 pub record Rests (d : ℕ) (u u' : Sight) : Type 0 where
   pub scene : scene u' ≡ rested d (scene u)
-  pub over : is_ending u' d ≡ false
-  pub halves : u'.halves ≡ u.halves
+  pub over : has_rest u' d ≡ false
+  pub halves : u'.halves ≡ slice_set u.halves d (returned (half_of u d))
 
 -- the same make, with its words prepared
 abbrev pub IsReady : Half → Half → Type 0
@@ -126,7 +152,7 @@ abbrev pub turned : Option Said → Turned
 turned None = Done
 turned (Some x) = Acted x
 
--- thread d made its next act, but for the endings that go on by themselves after it
+-- thread d made its next act, but for the rest that goes on by itself after it
 pub record Plays (d : ℕ) (u : Sight) (r : Turned) (u' : Sight) : Type 0 where
   pub answer : r ≡ turned (said d (scene u))
   pub scene : rested d (scene u') ≡ play d (scene u)

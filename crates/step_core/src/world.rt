@@ -1,7 +1,7 @@
 //! The machine: a table and the threads over it.
 ghost use Rattle.std.specs.Prelude.{◌≡◌, ◌<◌, ◌≤◌, ◌-◌, length, true, false};
 ghost use Rattle.step_core.specs.Stories.{Kept};
-ghost use Rattle.step_core.specs.Turning.{HasBegun, Plays, Prepares, Rests, is_ending, is_event, is_giving, is_locking, is_making, is_preparing, turned_by};
+ghost use Rattle.step_core.specs.Turning.{HasBegun, Plays, Prepares, Rests, has_rest, is_brought, is_ending, is_event, is_giving, is_locking, is_making, is_preparing, is_returning, turned_by};
 ghost use Rattle.step_core.specs.Worlds.{GoesTo, Steps, Turns, half_of};
 
 use crate::half::Half;
@@ -49,7 +49,7 @@ impl World {
     }
 
     /// One act of an actor, with all of its steps: first the rest of what its last step began, and at the end what its last
-    /// owner's leave began, so that no end of an object is left under way. It answers what the act says, and `Done` just at
+    /// owner's leave or its swap began, so that no end of an object is left under way and no funds are out. It answers what the act says, and `Done` just at
     /// the actor's end; it never answers `Waited` yet. Condition: the actor is one of the world's, from 1 (own).
     pub fn turn(&mut self, actor: u8) -> Turned
         requires some { 0 < actor }
@@ -67,14 +67,14 @@ impl World {
         turned
     }
 
-    /// The rest of the end of an object, where one is under way.
+    /// The rest of an act, where it is under way: funds are given back, and objects end.
     fn rest(&mut self, number: usize)
         requires { number < length self.old.walks }
         ensures rests { Rests number self.old self.new }
         ensures goes { GoesTo number self.old self.new }
         ensures actors { length self.new.walks ≡ length self.old.walks }
     {
-        while self.is_ending(number) {
+        while self.has_rest(number) {
             self.advance(number);
         }
     }
@@ -82,7 +82,7 @@ impl World {
     /// The steps through the next act.
     fn act(&mut self, number: usize) -> Turned
         requires within { number < length self.old.walks }
-        requires rested { is_ending self.old number ≡ false }
+        requires rested { has_rest self.old number ≡ false }
         ensures plays { Plays number self.old result self.new }
         ensures goes { GoesTo number self.old self.new }
         ensures actors { length self.new.walks ≡ length self.old.walks }
@@ -96,6 +96,9 @@ impl World {
         if self.is_giving(number) {
             return self.give(number);
         }
+        if self.is_brought(number) {
+            return self.swap(number);
+        }
         let stepped = self.advance(number);
         if self.is_making(number) {
             return self.make(number);
@@ -105,6 +108,9 @@ impl World {
         }
         if self.is_giving(number) {
             return self.give(number);
+        }
+        if self.is_brought(number) {
+            return self.swap(number);
         }
         turned(stepped)
     }
@@ -128,6 +134,17 @@ impl World {
     fn give(&mut self, number: usize) -> Turned
         requires within { number < length self.old.walks }
         requires giving { is_giving (half_of self.old number) ≡ true }
+        ensures plays { Plays number self.old result self.new }
+        ensures goes { GoesTo number self.old self.new }
+        ensures actors { length self.new.walks ≡ length self.old.walks }
+    {
+        turned(self.advance(number))
+    }
+
+    /// The swap, where its funds are brought.
+    fn swap(&mut self, number: usize) -> Turned
+        requires within { number < length self.old.walks }
+        requires brought { is_brought (half_of self.old number) ≡ true }
         ensures plays { Plays number self.old result self.new }
         ensures goes { GoesTo number self.old self.new }
         ensures actors { length self.new.walks ≡ length self.old.walks }
@@ -160,6 +177,14 @@ impl World {
         }
     }
 
+    /// Whether a thread has a rest of an act that goes on by itself.
+    fn has_rest(&self, number: usize) -> bool
+        requires { number < length self.now.walks }
+        ensures { result ≡ has_rest self.now number }
+    {
+        self.is_returning(number) || self.is_ending(number)
+    }
+
     /// Whether a thread ends an object.
     fn is_ending(&self, number: usize) -> bool
         requires { number < length self.now.walks }
@@ -190,6 +215,22 @@ impl World {
         ensures { result ≡ is_giving (half_of self.now number) }
     {
         matches!(self.threads[number].half, Half::Giving { .. })
+    }
+
+    /// Whether a thread has brought the funds of what goes into a cell.
+    fn is_brought(&self, number: usize) -> bool
+        requires { number < length self.now.walks }
+        ensures { result ≡ is_brought (half_of self.now number) }
+    {
+        matches!(self.threads[number].half, Half::Brought)
+    }
+
+    /// Whether a thread has funds to give back of what came out of a cell.
+    fn is_returning(&self, number: usize) -> bool
+        requires { number < length self.now.walks }
+        ensures { result ≡ is_returning (half_of self.now number) }
+    {
+        matches!(self.threads[number].half, Half::Returning { .. })
     }
 
     /// Whether a thread makes an object, and has words of its block left to look at or to write.

@@ -8,7 +8,7 @@ use Rattle.step_core.specs.declared.act.Act.{Act}
 use Rattle.step_core.specs.declared.act.Act.TheVariants.{FromThis}
 use Rattle.step_core.specs.declared.act.Task.{Task}
 use Rattle.step_core.specs.declared.half.Half.{Half}
-use Rattle.step_core.specs.declared.half.Half.TheVariants.{Rest, Making, Locking, Giving}
+use Rattle.step_core.specs.declared.half.Half.TheVariants.{Rest, Making, Locking, Giving, Brought, Returning}
 use Rattle.step_core.specs.declared.holdings.Pointer.{Pointer}
 use Rattle.step_core.specs.declared.said.Stepped.{Stepped}
 use Rattle.step_core.specs.Courses.{Walk}
@@ -63,6 +63,8 @@ gives_so : (d : ℕ) (u : Sight) (r : Stepped) (h : Half) → half_of u d ≡ h 
 gives_so d u r Rest e is begun answer = absurd (false≢true is)
 gives_so d u r (Making b i f) e is begun answer = absurd (false≢true is)
 gives_so d u r (Locking word) e is begun answer = absurd (false≢true is)
+gives_so d u r Brought e is begun answer = absurd (false≢true is)
+gives_so d u r (Returning kind b funds k) e is begun answer = absurd (false≢true is)
 gives_so d u r (Giving i q x) e is begun answer =
     let w = walk_of (scene u) d in
     gives_by d u r i q x w.todo e refl (subst (λ (h : Half). IsUnderWay d u.story h w.todo) e begun.half)

@@ -3,11 +3,11 @@ use Rattle.std.proofs.Common.{◌≡◌, ℕ, ◌<◌, ◌==◌, Bool, true, fal
 use Rattle.std.specs.Prelude.{Option, Some, None, option_map}
 use Rattle.std.proofs.lemmas.Bool.{cond-true, cond_both, false≢true}
 use Rattle.step_core.specs.declared.act.Act.{Act}
-use Rattle.step_core.specs.declared.act.Act.TheVariants.{Make, Share, Downgrade, Lock, Put, Leave, Clear, Count, Expired, Read, FromThis, Alias, Move, Ask}
+use Rattle.step_core.specs.declared.act.Act.TheVariants.{Make, Share, Downgrade, Lock, Put, Leave, Clear, Count, Expired, Read, FromThis, Alias, Move, Ask, Offer, Swap, Exchange, Drop}
 use Rattle.step_core.specs.declared.act.Task.{Task}
 use Rattle.step_core.specs.declared.ending.Ending.{Ending}
 use Rattle.step_core.specs.declared.half.Half.{Half}
-use Rattle.step_core.specs.declared.half.Half.TheVariants.{Rest, Making, Locking, Giving}
+use Rattle.step_core.specs.declared.half.Half.TheVariants.{Rest, Making, Locking, Giving, Brought, Returning}
 use Rattle.step_core.specs.declared.holdings.Pointer.{Pointer}
 use Rattle.step_core.specs.declared.said.Stepped.{Stepped}
 use Rattle.step_core.specs.Courses.{locked}
@@ -89,6 +89,10 @@ looks_done d u t ts y (FromThis i kind) e zero = cc
 looks_done d u t ts y (Alias i j field) e zero = cc
 looks_done d u t ts y (Move i) e zero = cc
 looks_done d u t ts y (Ask q) e zero = cc
+looks_done d u t ts y (Offer i c) e zero = cc
+looks_done d u t ts y (Swap c) e zero = cc
+looks_done d u t ts y (Exchange i c) e zero = cc
+looks_done d u t ts y Drop e zero = cc
 
 -- the second try finds the word that the first found
 second : (d : ℕ) (v : Sight) (t : Task) (ts : List Task) (y : Pointer) → (walk_of (scene v) d).endings ≡ []
@@ -125,6 +129,8 @@ locks_now : (d : ℕ) (u : Sight) (h : Half) → half_of u d ≡ h → is_lockin
 locks_now d u Rest e is begun = absurd (false≢true is)
 locks_now d u (Making b i f) e is begun = absurd (false≢true is)
 locks_now d u (Giving i kind x) e is begun = absurd (false≢true is)
+locks_now d u Brought e is begun = absurd (false≢true is)
+locks_now d u (Returning kind b funds k) e is begun = absurd (false≢true is)
 locks_now d u (Locking word) e is begun =
     let w = walk_of (scene u) d in (word, locks_by d u word w.todo e (subst (λ (h : Half). IsAlone h w.endings) e begun.alone) refl (subst (λ (h : Half). IsTried h w) e begun.tried))
 

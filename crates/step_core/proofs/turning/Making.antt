@@ -7,7 +7,7 @@ use Rattle.std.proofs.lemmas.List.{set-get_or, set-set}
 use Rattle.control_word.specs.declared.place.Block.{Block}
 use Rattle.step_core.specs.declared.act.Task.{Task}
 use Rattle.step_core.specs.declared.half.Half.{Half}
-use Rattle.step_core.specs.declared.half.Half.TheVariants.{Rest, Making, Locking, Giving}
+use Rattle.step_core.specs.declared.half.Half.TheVariants.{Rest, Making, Locking, Giving, Brought, Returning}
 use Rattle.step_core.specs.declared.said.Stepped.{Stepped}
 use Rattle.step_core.specs.Actors.{wanted}
 use Rattle.step_core.specs.Courses.{Walk, form_of}
@@ -25,6 +25,8 @@ words_left Rest = 0
 words_left (Making b i differs) = 2 * (5 - i) + cond differs 0 1
 words_left (Locking word) = 0
 words_left (Giving i kind x) = 0
+words_left Brought = 0
+words_left (Returning kind b funds k) = 0
 
 -- a make in the same block
 abbrev pub SameMake : Half → Half → Type 0
@@ -44,6 +46,8 @@ same_start Rest is = absurd (false≢true is)
 same_start (Making b i differs) is = refl
 same_start (Locking word) is = absurd (false≢true is)
 same_start (Giving i kind x) is = absurd (false≢true is)
+same_start Brought is = absurd (false≢true is)
+same_start (Returning kind b funds k) is = absurd (false≢true is)
 
 pub at_start : (d : ℕ) (u : Sight) → is_making (half_of u d) ≡ true → IsAt d u u
 at_start d u is = record {
@@ -108,18 +112,26 @@ prepared d u (Making b i g) e begun is =
     (subst (λ (h : Half). IsUnderWay d u.story h (walk_of (scene u) d).todo) e begun.half) begun.within is
 prepared d u (Locking word) e begun is = absurd (false≢true is)
 prepared d u (Giving i kind x) e begun is = absurd (false≢true is)
+prepared d u Brought e begun is = absurd (false≢true is)
+prepared d u (Returning kind b funds k) e begun is = absurd (false≢true is)
 
 same_make : (a b c : Half) → SameMake a b → SameMake b c → SameMake a c
 same_make (Making b i f) (Making c j g) (Making e k h) p q = q ∙ p
 same_make (Making b i f) (Making c j g) Rest p q = absurd q
 same_make (Making b i f) (Making c j g) (Locking word) p q = absurd q
 same_make (Making b i f) (Making c j g) (Giving n kind x) p q = absurd q
+same_make (Making b i f) (Making c j g) Brought p q = absurd q
+same_make (Making b i f) (Making c j g) (Returning kind n funds k) p q = absurd q
 same_make (Making b i f) (Locking word) c p q = absurd p
 same_make (Making b i f) (Giving n kind x) c p q = absurd p
+same_make (Making b i f) Brought c p q = absurd p
+same_make (Making b i f) (Returning kind n funds k) c p q = absurd p
 same_make (Making b i f) Rest c p q = absurd p
 same_make Rest b c p q = absurd p
 same_make (Locking word) b c p q = absurd p
 same_make (Giving n kind x) b c p q = absurd p
+same_make Brought b c p q = absurd p
+same_make (Returning kind n funds k) b c p q = absurd p
 
 -- a step of a make that has words left
 pub at_step : (d : ℕ) (u v v' : Sight) (r : Stepped) → IsAt d u v → HasBegun d v → is_preparing (half_of v d) ≡ true → Steps d v r v'
@@ -154,9 +166,13 @@ ready_half (Making b i f) (Making c j g) same is = (same, five j is)
 ready_half (Making b i f) Rest same is = absurd same
 ready_half (Making b i f) (Locking word) same is = absurd same
 ready_half (Making b i f) (Giving n kind x) same is = absurd same
+ready_half (Making b i f) Brought same is = absurd same
+ready_half (Making b i f) (Returning kind n funds k) same is = absurd same
 ready_half Rest h same is = absurd same
 ready_half (Locking word) h same is = absurd same
 ready_half (Giving n kind x) h same is = absurd same
+ready_half Brought h same is = absurd same
+ready_half (Returning kind n funds k) h same is = absurd same
 
 pub ready : (d : ℕ) (u v : Sight) → IsAt d u v → is_preparing (half_of v d) ≡ false → Prepares d u v
 ready d u v at is = record { scene = at.scene; ready = ready_half (half_of u d) (half_of v d) at.same is; halves = at.halves }

@@ -5,27 +5,51 @@ use Rattle.std.proofs.lemmas.Bool.{cond_both, false≢true}
 use Rattle.control_word.specs.declared.place.Block.{Block}
 use Rattle.control_word.specs.State.{State}
 use Rattle.step_core.specs.declared.act.Act.{Act}
-use Rattle.step_core.specs.declared.act.Act.TheVariants.{Make, Share, Downgrade, Lock, Put, Leave, Clear, Count, Expired, Read, FromThis, Alias, Move, Ask}
+use Rattle.step_core.specs.declared.act.Act.TheVariants.{Make, Share, Downgrade, Lock, Put, Leave, Clear, Count, Expired, Read, FromThis, Alias, Move, Ask, Offer, Swap, Exchange, Drop}
 use Rattle.step_core.specs.declared.act.Task.{Task}
 use Rattle.step_core.specs.declared.ending.Ending.{Ending}
 use Rattle.step_core.specs.declared.half.Half.{Half}
-use Rattle.step_core.specs.declared.half.Half.TheVariants.{Rest, Making, Locking, Giving}
+use Rattle.step_core.specs.declared.half.Half.TheVariants.{Rest, Making, Locking, Giving, Brought, Returning}
 use Rattle.step_core.specs.declared.holdings.Pointer.{Pointer}
 use Rattle.step_core.specs.declared.said.Stepped.{Stepped}
 use Rattle.control_word.specs.declared.handle.Kind.{Kind}
 use Rattle.control_word.specs.declared.handle.Kind.TheVariants.{Owner, Weak}
-use Rattle.step_core.specs.Courses.{locked}
-use Rattle.step_core.specs.Deeds.{is_enabled, is_last, lock, owner_word}
-use Rattle.step_core.specs.Holdings.{inside, slot}
+use Rattle.step_core.specs.Courses.{HasCell, going, locked, offered, other}
+use Rattle.step_core.specs.Deeds.{aliased, is_enabled, is_last, lock, owner_word}
+use Rattle.step_core.specs.Holdings.{inside, owner_slot, place_in, slot}
 use Rattle.step_core.specs.Entries.{least, on}
 use Rattle.step_core.specs.Scenes.{next, next_of, play_from, rested, said_from}
 use Rattle.step_core.specs.Scenes.{walk_of}
 use Rattle.step_core.specs.Steps.{Step, acts, asks, at_rest, begins, begun, first, looks, silent, step_at, stepped, trying}
 use Rattle.step_core.specs.Stories.{state}
-use Rattle.step_core.specs.Turning.{HasBegun, Plays, is_acting, is_ending, is_giving, is_locking, is_making, turned, turned_by}
+use Rattle.step_core.specs.Turning.{HasBegun, IsInShape, Plays, has_rest, is_acting, is_brought, is_ending, is_giving, is_locking, is_making, is_returning, returned, turned, turned_by}
 use Rattle.step_core.specs.Worlds.{Sight, Steps, half_of, scene, sight_by, step_of}
-use Rattle.step_core.proofs.turning.Ending.{ended, half_after, halves_after, rested_none, same_walks, scene_as}
-use Rattle.step_core.proofs.turning.Saying.{acts_so, plays_as}
+use Rattle.step_core.proofs.turning.Ending.{ended, half_after, halves_after, none_left, rested_none, same_walks, scene_as}
+use Rattle.step_core.proofs.turning.Saying.{Acts, asks_so, begins_so, counted, downgraded, expired, left, looks_so, plays_as, read_so, shared, shared_at}
+use Rattle.step_core.proofs.turning.Swapping.{CanPut, goes_same, goes_so}
+
+-- each act
+acts_so : (d : ℕ) (u : Sight) (k : ℕ) (ts : List Task) (a : Act) → CanPut d u a
+    → let x = first u.story d (walk_of (scene u) d) k ts a in is_acting x.half ≡ false → Acts d u k ts a x
+acts_so d u k ts (Make form) can is = begins_so d u k ts form (least d (state u.story).stores) refl is
+acts_so d u k ts (Share i) can is = (refl, shared d u.story (slot (walk_of (scene u) d).slots i) _)
+acts_so d u k ts (Put i) can is = (refl, left d u.story (slot (walk_of (scene u) d).slots i) _)
+acts_so d u k ts (Leave i) can is = (refl, left d u.story (slot (walk_of (scene u) d).slots i) _)
+acts_so d u k ts (Clear i) can is = (refl, left d u.story (slot (walk_of (scene u) d).slots i) _)
+acts_so d u k ts (Count i) can is = (refl, counted d u.story (slot (walk_of (scene u) d).slots i) _)
+acts_so d u k ts (Downgrade i) can is = (refl, downgraded d u.story (slot (walk_of (scene u) d).slots i) _)
+acts_so d u k ts (Lock i must) can is = looks_so d u k ts i must (locked (walk_of (scene u) d).slots (Lock i must)) refl is
+acts_so d u k ts (Expired i) can is = (refl, expired d u.story (slot (walk_of (scene u) d).slots i) _)
+acts_so d u k ts (Read i) can is = (refl, read_so d u.story (inside (slot (walk_of (scene u) d).slots i)) _)
+acts_so d u k ts (FromThis i kind) can is = asks_so d u k ts i kind (inside (slot (walk_of (scene u) d).slots i)) refl is
+acts_so d u k ts (Alias i j field) can is =
+    let w = walk_of (scene u) d in (refl, shared_at d u.story (aliased field (place_in w.slots j)) (owner_slot (slot w.slots i)) _)
+acts_so d u k ts (Move i) can is = (refl, refl)
+acts_so d u k ts (Ask q) can is = (refl, refl)
+acts_so d u k ts (Offer i c) can is = (refl, shared d u.story (offered (walk_of (scene u) d).slots i c) _)
+acts_so d u k ts (Swap c) can is = goes_so d u k ts (Swap c) (going (walk_of (scene u) d).slots (Swap c)) can refl refl is
+acts_so d u k ts (Exchange i c) can is = goes_so d u k ts (Exchange i c) (going (walk_of (scene u) d).slots (Exchange i c)) can refl refl is
+acts_so d u k ts Drop can is = let w = walk_of (scene u) d in (refl, left d u.story (slot w.slots (other w.slots)) _)
 
 -- a thread at its end does nothing
 plays_none : (d : ℕ) (u : Sight) (r : Stepped) → (walk_of (scene u) d).endings ≡ [] → (walk_of (scene u) d).todo ≡ [] → half_of u d ≡ Rest
@@ -54,15 +78,16 @@ begun_step d u ts rest none todo =
 -- an act that is no make, or is refused
 plays_first : (d : ℕ) (u : Sight) (r : Stepped) (ts : List Task) → half_of u d ≡ Rest → (walk_of (scene u) d).endings ≡ []
     → (walk_of (scene u) d).todo ≡ ts → r ≡ stepped u.story (step_of d u)
-    → d < length u.halves → d < length u.walks → is_acting (half_of (sight_by d u (step_of d u)) d) ≡ false
+    → HasBegun d u → is_acting (half_of (sight_by d u (step_of d u)) d) ≡ false
     → Plays d u (turned_by r) (sight_by d u (step_of d u))
-plays_first d u r [] rest none todo answer lt walks over = plays_none d u r none todo rest (begun_step d u [] rest none todo) answer lt
-plays_first d u r (t ∷ ts) rest none todo answer lt walks over =
+plays_first d u r [] rest none todo answer begun over = plays_none d u r none todo rest (begun_step d u [] rest none todo) answer begun.within
+plays_first d u r (t ∷ ts) rest none todo answer now over =
     let x = first u.story d (walk_of (scene u) d) t.statement ts t.act in
     let is = begun_step d u (t ∷ ts) rest none todo in
-    let h : half_of (sight_by d u (step_of d u)) d ≡ x.half = ap (λ (o : Option Step). half_of (sight_by d u o) d) is ∙ half_after d u (Some x) lt in
+    let h : half_of (sight_by d u (step_of d u)) d ≡ x.half = ap (λ (o : Option Step). half_of (sight_by d u o) d) is ∙ half_after d u (Some x) now.within in
     let n : is_acting x.half ≡ false = ap is_acting (sym h) ∙ over in
-    plays_as d u t ts x r none todo is answer (acts_so d u t.statement ts t.act n) n lt walks
+    let cell = subst (λ (l : List Task). IsInShape u.story.extent.shape l) todo now.cell in
+    plays_as d u t ts x r none todo is answer (acts_so d u t.statement ts t.act (now.seat, now.kept, cell) n) n now.within now.walks
 
 begins_same : (d : ℕ) (u : Sight) (k : ℕ) (ts : List Task) (o : Option ℕ) → is_acting (begins (walk_of (scene u) d) k ts o).half ≡ true
     → scene (sight_by d u (Some (begins (walk_of (scene u) d) k ts o))) ≡ scene u
@@ -109,6 +134,10 @@ first_same d u k ts (FromThis i kind) is = asks_same d u k ts i kind (inside (sl
 first_same d u k ts (Alias i j field) is = absurd (false≢true is)
 first_same d u k ts (Move i) is = absurd (false≢true is)
 first_same d u k ts (Ask q) is = absurd (false≢true is)
+first_same d u k ts (Offer i c) is = absurd (false≢true is)
+first_same d u k ts (Swap c) is = goes_same d u k ts (Swap c) (going (walk_of (scene u) d).slots (Swap c)) is
+first_same d u k ts (Exchange i c) is = goes_same d u k ts (Exchange i c) (going (walk_of (scene u) d).slots (Exchange i c)) is
+first_same d u k ts Drop is = absurd (false≢true is)
 
 -- a make that has just begun
 begun_same : (d : ℕ) (u : Sight) (ts : List Task) → half_of u d ≡ Rest → (walk_of (scene u) d).endings ≡ [] → (walk_of (scene u) d).todo ≡ ts
@@ -123,25 +152,38 @@ begun_same d u (t ∷ ts) rest none todo lt is =
     ap (λ (o : Option Step). scene (sight_by d u o)) e ∙ first_same d u t.statement ts t.act (ap is_acting (sym h) ∙ is)
 
 -- a thread that has begun nothing
-pub resting : (h : Half) → is_acting h ≡ false → h ≡ Rest
-resting Rest m = refl
-resting (Making b i f) m = absurd (false≢true (sym m))
-resting (Locking word) m = absurd (false≢true (sym m))
-resting (Giving i kind x) m = absurd (false≢true (sym m))
+resting : (h : Half) → is_acting h ≡ false → is_returning h ≡ false → h ≡ Rest
+resting Rest m n = refl
+resting (Making b i f) m n = absurd (false≢true (sym m))
+resting (Locking word) m n = absurd (false≢true (sym m))
+resting (Giving i kind x) m n = absurd (false≢true (sym m))
+resting Brought m n = absurd (false≢true (sym m))
+resting (Returning kind b funds k) m n = absurd (false≢true (sym n))
 
-pub plays : (d : ℕ) (u v : Sight) (r : Stepped) → is_acting (half_of u d) ≡ false → is_ending u d ≡ false → HasBegun d u → Steps d u r v
+-- or has it once the funds are given back
+pub over_returned : (h : Half) → is_acting h ≡ false → returned h ≡ Rest
+over_returned Rest m = refl
+over_returned (Making b i f) m = absurd (false≢true (sym m))
+over_returned (Locking word) m = absurd (false≢true (sym m))
+over_returned (Giving i kind x) m = absurd (false≢true (sym m))
+over_returned Brought m = absurd (false≢true (sym m))
+over_returned (Returning kind b funds k) m = refl
+
+pub plays : (d : ℕ) (u v : Sight) (r : Stepped) → is_acting (half_of u d) ≡ false → has_rest u d ≡ false → HasBegun d u → Steps d u r v
     → is_acting (half_of v d) ≡ false → Plays d u (turned_by r) v
 plays d u v r m e begun steps over =
+    let n = none_left d u e in
     subst (λ (w : Sight). is_acting (half_of w d) ≡ false → Plays d u (turned_by r) w) (sym steps.1)
-    (plays_first d u r (walk_of (scene u) d).todo (resting (half_of u d) m) (ended d u e) refl steps.0 begun.within begun.walks) over
+    (plays_first d u r (walk_of (scene u) d).todo (resting (half_of u d) m n.0) (ended d u n.1) refl steps.0 begun) over
 
-pub begins_make : (d : ℕ) (u v : Sight) (r : Stepped) → is_acting (half_of u d) ≡ false → is_ending u d ≡ false → HasBegun d u
+pub begins_make : (d : ℕ) (u v : Sight) (r : Stepped) → is_acting (half_of u d) ≡ false → has_rest u d ≡ false → HasBegun d u
     → Steps d u r v
     → is_acting (half_of v d) ≡ true → (scene v ≡ scene u) × (v.halves ≡ set u.halves d (half_of v d))
 begins_make d u v r m e begun steps some =
+    let n = none_left d u e in
     subst (λ (w : Sight). is_acting (half_of w d) ≡ true → (scene w ≡ scene u) × (w.halves ≡ set u.halves d (half_of w d))) (sym steps.1)
     (λ t. (
-      begun_same d u (walk_of (scene u) d).todo (resting (half_of u d) m) (ended d u e) refl begun.within t,
+      begun_same d u (walk_of (scene u) d).todo (resting (half_of u d) m n.0) (ended d u n.1) refl begun.within t,
       halves_after d u
           (step_of d u) begun.within,
     )) some
@@ -151,21 +193,37 @@ making_acts Rest m = m
 making_acts (Making b i f) m = refl
 making_acts (Locking word) m = refl
 making_acts (Giving i kind x) m = refl
+making_acts Brought m = refl
+making_acts (Returning kind b funds k) m = m
 
 pub locking_acts : (h : Half) → is_locking h ≡ true → is_acting h ≡ true
 locking_acts Rest m = m
 locking_acts (Making b i f) m = refl
 locking_acts (Locking word) m = refl
 locking_acts (Giving i kind x) m = refl
+locking_acts Brought m = refl
+locking_acts (Returning kind b funds k) m = m
 
 pub giving_acts : (h : Half) → is_giving h ≡ true → is_acting h ≡ true
 giving_acts Rest m = m
 giving_acts (Making b i f) m = refl
 giving_acts (Locking word) m = refl
 giving_acts (Giving i kind x) m = refl
+giving_acts Brought m = refl
+giving_acts (Returning kind b funds k) m = m
 
-pub none_acts : (h : Half) → is_making h ≡ false → is_locking h ≡ false → is_giving h ≡ false → is_acting h ≡ false
-none_acts Rest m l g = refl
-none_acts (Making b i f) m l g = m
-none_acts (Locking word) m l g = l
-none_acts (Giving i kind x) m l g = g
+pub brought_acts : (h : Half) → is_brought h ≡ true → is_acting h ≡ true
+brought_acts Rest m = m
+brought_acts (Making b i f) m = refl
+brought_acts (Locking word) m = refl
+brought_acts (Giving i kind x) m = refl
+brought_acts Brought m = refl
+brought_acts (Returning kind b funds k) m = m
+
+pub none_acts : (h : Half) → is_making h ≡ false → is_locking h ≡ false → is_giving h ≡ false → is_brought h ≡ false → is_acting h ≡ false
+none_acts Rest m l g b = refl
+none_acts (Making c i f) m l g b = m
+none_acts (Locking word) m l g b = l
+none_acts (Giving i kind x) m l g b = g
+none_acts Brought m l g b = b
+none_acts (Returning kind c funds k) m l g b = refl

@@ -5,7 +5,7 @@ use Rattle.std.proofs.lemmas.Bool.{cond_both, cond-false, false≢true}
 use Rattle.control_word.specs.declared.place.Place.{Place}
 use Rattle.step_core.specs.declared.act.Act.{Act}
 use Rattle.step_core.specs.declared.act.Form.{Form}
-use Rattle.step_core.specs.declared.act.Act.TheVariants.{Make, Share, Downgrade, Lock, Put, Leave, Clear, Count, Expired, Read, FromThis, Alias, Move, Ask}
+use Rattle.step_core.specs.declared.act.Act.TheVariants.{Make, Share, Downgrade, Lock, Put, Leave, Clear, Count, Expired, Read, FromThis, Alias, Move, Ask, Offer, Swap, Exchange, Drop}
 use Rattle.step_core.specs.declared.act.Task.{Task}
 use Rattle.step_core.specs.declared.ending.Ending.{Ending}
 use Rattle.step_core.specs.declared.half.Half.{Half}
@@ -52,7 +52,7 @@ acted_said d u k a = said_of (state u.story) d (walk_of (scene u) d).slots (reco
 abbrev pub Acts : ℕ → Sight → ℕ → List Task → Act → Step → Type 0
 Acts d u k ts a x = (x.said ≡ acted_said d u k a) × (scene (sight_by d u (Some x)) ≡ acted_scene d u k ts a)
 
-begins_so : (d : ℕ) (u : Sight) (k : ℕ) (ts : List Task) (form : Form) (o : Option ℕ) → least d (state u.story).stores ≡ o
+pub begins_so : (d : ℕ) (u : Sight) (k : ℕ) (ts : List Task) (form : Form) (o : Option ℕ) → least d (state u.story).stores ≡ o
     → is_acting (begins (walk_of (scene u) d) k ts o).half ≡ false → Acts d u k ts (Make form) (begins (walk_of (scene u) d) k ts o)
 begins_so d u k ts form None e is =
     let w = walk_of (scene u) d in (
@@ -66,7 +66,7 @@ begins_so d u k ts form None e is =
 begins_so d u k ts form (Some b) e is = absurd (false≢true (sym is))
 
 -- what is done on a full slot
-abbrev Told : ℕ → Story → (Pointer → Deed) → (Pointer → History) → Option Pointer → Type 0
+abbrev pub Told : ℕ → Story → (Pointer → Deed) → (Pointer → History) → Option Pointer → Type 0
 Told d v f g o =
     (w : List Walk) → ◌≡◌ {A = Scene} (record {
       extent = (story_after v d (option_map f o)).extent;
@@ -76,7 +76,7 @@ Told d v f g o =
     })
     (record { extent = v.extent; history = on g v.history o; walks = w })
 
-shared : (d : ℕ) (v : Story) (o : Option Pointer) → Told d v share (shares (opening v.extent) d v.history) o
+pub shared : (d : ℕ) (v : Story) (o : Option Pointer) → Told d v share (shares (opening v.extent) d v.history) o
 shared d v None w = refl
 shared d v (Some x) w = go x.kind
   where
@@ -86,28 +86,28 @@ shared d v (Some x) w = go x.kind
     go Owner = refl
     go Weak = refl
 
-shared_at : (d : ℕ) (v : Story) (p : Option Place) (o : Option Pointer) → Told d v (alias p) (aliases p (opening v.extent) d v.history) o
+pub shared_at : (d : ℕ) (v : Story) (p : Option Place) (o : Option Pointer) → Told d v (alias p) (aliases p (opening v.extent) d v.history) o
 shared_at d v p None w = refl
 shared_at d v p (Some x) w = refl
 
-downgraded : (d : ℕ) (v : Story) (o : Option Pointer) → Told d v downgrade (downgrades (opening v.extent) d v.history) o
+pub downgraded : (d : ℕ) (v : Story) (o : Option Pointer) → Told d v downgrade (downgrades (opening v.extent) d v.history) o
 downgraded d v None w = refl
 downgraded d v (Some x) w = refl
 
-counted : (d : ℕ) (v : Story) (o : Option Pointer) → Told d v (tell (state v)) (counts (opening v.extent) d v.history) o
+pub counted : (d : ℕ) (v : Story) (o : Option Pointer) → Told d v (tell (state v)) (counts (opening v.extent) d v.history) o
 counted d v None w = refl
 counted d v (Some x) w = refl
 
-expired : (d : ℕ) (v : Story) (o : Option Pointer) → Told d v (tell_expired (state v)) (expires (opening v.extent) d v.history) o
+pub expired : (d : ℕ) (v : Story) (o : Option Pointer) → Told d v (tell_expired (state v)) (expires (opening v.extent) d v.history) o
 expired d v None w = refl
 expired d v (Some x) w = refl
 
-read_so : (d : ℕ) (v : Story) (o : Option Pointer) → Told d v (read (state v)) (reads (opening v.extent) d v.history) o
+pub read_so : (d : ℕ) (v : Story) (o : Option Pointer) → Told d v (read (state v)) (reads (opening v.extent) d v.history) o
 read_so d v None w = refl
 read_so d v (Some x) w = refl
 
 -- a leave
-left : (d : ℕ) (v : Story) (o : Option Pointer) → Told d v (leave (state v)) (leaves (opening v.extent) d v.history) o
+pub left : (d : ℕ) (v : Story) (o : Option Pointer) → Told d v (leave (state v)) (leaves (opening v.extent) d v.history) o
 left d v None w = refl
 left d v (Some x) w = go x.kind (is_last (state v) x)
   where
@@ -142,6 +142,10 @@ lock_so d u k ts (FromThis i kind) x e = cc
 lock_so d u k ts (Alias i j field) x e = cc
 lock_so d u k ts (Move i) x e = cc
 lock_so d u k ts (Ask q) x e = cc
+lock_so d u k ts (Offer i c) x e = cc
+lock_so d u k ts (Swap c) x e = cc
+lock_so d u k ts (Exchange i c) x e = cc
+lock_so d u k ts Drop x e = cc
 
 -- a lock of nothing
 lose_so : (d : ℕ) (u : Sight) (k : ℕ) (ts : List Task) (i : ℕ) (must : Bool) → locked (walk_of (scene u) d).slots (Lock i must) ≡ None
@@ -156,7 +160,7 @@ lose_so d u k ts i must e =
       }) (sym e),
     )
 
-looks_so : (d : ℕ) (u : Sight) (k : ℕ) (ts : List Task) (i : ℕ) (must : Bool) (o : Option Pointer) → locked (walk_of (scene u) d).slots (Lock i must) ≡ o
+pub looks_so : (d : ℕ) (u : Sight) (k : ℕ) (ts : List Task) (i : ℕ) (must : Bool) (o : Option Pointer) → locked (walk_of (scene u) d).slots (Lock i must) ≡ o
     → let w = walk_of (scene u) d in
     let a = Lock i must in
     let x = on (looks u.story d w k ts a) (acts (state u.story) d w k ts a None Rest) o in is_acting x.half ≡ false → Acts d u k ts a x
@@ -182,7 +186,7 @@ unasked_so d u k ts i q e =
       }) (sym e),
     )
 
-asks_so : (d : ℕ) (u : Sight) (k : ℕ) (ts : List Task) (i : ℕ) (q : Kind) (o : Option Pointer) → inside (slot (walk_of (scene u) d).slots i) ≡ o
+pub asks_so : (d : ℕ) (u : Sight) (k : ℕ) (ts : List Task) (i : ℕ) (q : Kind) (o : Option Pointer) → inside (slot (walk_of (scene u) d).slots i) ≡ o
     → let w = walk_of (scene u) d in
     let a = FromThis i q in
     let x = on (asks u.story d w k ts i q) (acts (state u.story) d w k ts a None Rest) o in is_acting x.half ≡ false → Acts d u k ts a x
@@ -193,25 +197,6 @@ asks_so d u k ts i q (Some y) e is =
     cond_both (is_enabled (state u.story) y) (record { deed = None; half = Giving i q y; walk = w; said = silent k })
     (acts (state u.story) d w k ts a None Rest) (λ (x : Step). is_acting x.half ≡ false → Acts d u k ts a x) (λ t z. absurd (false≢true (sym z)))
     (λ t z. unasked_so d u k ts i q (ap (giving (state u.story)) e ∙ cond-false (is_enabled (state u.story) y) (Some y) None t)) is
-
--- each act
-pub acts_so : (d : ℕ) (u : Sight) (k : ℕ) (ts : List Task) (a : Act)
-    → let x = first u.story d (walk_of (scene u) d) k ts a in is_acting x.half ≡ false → Acts d u k ts a x
-acts_so d u k ts (Make form) is = begins_so d u k ts form (least d (state u.story).stores) refl is
-acts_so d u k ts (Share i) is = (refl, shared d u.story (slot (walk_of (scene u) d).slots i) _)
-acts_so d u k ts (Put i) is = (refl, left d u.story (slot (walk_of (scene u) d).slots i) _)
-acts_so d u k ts (Leave i) is = (refl, left d u.story (slot (walk_of (scene u) d).slots i) _)
-acts_so d u k ts (Clear i) is = (refl, left d u.story (slot (walk_of (scene u) d).slots i) _)
-acts_so d u k ts (Count i) is = (refl, counted d u.story (slot (walk_of (scene u) d).slots i) _)
-acts_so d u k ts (Downgrade i) is = (refl, downgraded d u.story (slot (walk_of (scene u) d).slots i) _)
-acts_so d u k ts (Lock i must) is = looks_so d u k ts i must (locked (walk_of (scene u) d).slots (Lock i must)) refl is
-acts_so d u k ts (Expired i) is = (refl, expired d u.story (slot (walk_of (scene u) d).slots i) _)
-acts_so d u k ts (Read i) is = (refl, read_so d u.story (inside (slot (walk_of (scene u) d).slots i)) _)
-acts_so d u k ts (FromThis i kind) is = asks_so d u k ts i kind (inside (slot (walk_of (scene u) d).slots i)) refl is
-acts_so d u k ts (Alias i j field) is =
-    let w = walk_of (scene u) d in (refl, shared_at d u.story (aliased field (place_in w.slots j)) (owner_slot (slot w.slots i)) _)
-acts_so d u k ts (Move i) is = (refl, refl)
-acts_so d u k ts (Ask q) is = (refl, refl)
 
 -- the next act of a thread in whose hands no object ends
 pub next_task : (w : Walk) (t : Task) (ts : List Task) → w.endings ≡ [] → w.todo ≡ t ∷ ts → next w ≡ Some t

@@ -8,7 +8,7 @@ use Rattle.step_core.specs.declared.act.Act.{Act}
 use Rattle.step_core.specs.declared.act.Act.TheVariants.{Make}
 use Rattle.step_core.specs.declared.act.Task.{Task}
 use Rattle.step_core.specs.declared.half.Half.{Half}
-use Rattle.step_core.specs.declared.half.Half.TheVariants.{Rest, Making, Locking, Giving}
+use Rattle.step_core.specs.declared.half.Half.TheVariants.{Rest, Making, Locking, Giving, Brought, Returning}
 use Rattle.step_core.specs.declared.said.Said.{Said}
 use Rattle.step_core.specs.declared.said.Stepped.{Stepped}
 use Rattle.step_core.specs.declared.said.Turned.{Turned}
@@ -18,10 +18,10 @@ use Rattle.step_core.specs.Entries.{least, made}
 use Rattle.step_core.specs.Scenes.{Scene, full_answer, holding, next, play, play_from, rested, said, said_from, walk_of}
 use Rattle.step_core.specs.Steps.{Step, claims, prepares, stepped}
 use Rattle.step_core.specs.Stories.{known, pending, state}
-use Rattle.step_core.specs.Turning.{HasBegun, IsAlone, IsReady, IsUnderWay, Plays, Prepares, Rests, is_acting, turned, turned_by}
+use Rattle.step_core.specs.Turning.{HasBegun, IsAlone, IsReady, IsUnderWay, Plays, Prepares, Rests, is_acting, returned, turned, turned_by}
 use Rattle.step_core.specs.Worlds.{Sight, Steps, Turns, half_of, scene, sight_by, step_of}
 use Rattle.step_core.proofs.turning.Making.{made_step}
-use Rattle.step_core.proofs.turning.Playing.{resting}
+use Rattle.step_core.proofs.turning.Playing.{over_returned}
 use Rattle.step_core.proofs.turning.Saying.{Acts, acted_said, acted_scene, plays_as}
 
 -- a claim is what the make says and makes
@@ -61,8 +61,12 @@ claimed d u r (Making c j f) (Making b i g) e ready begun answer =
 claimed d u r (Making c j f) Rest e ready begun answer = absurd ready
 claimed d u r (Making c j f) (Locking word) e ready begun answer = absurd ready
 claimed d u r (Making c j f) (Giving i kind x) e ready begun answer = absurd ready
+claimed d u r (Making c j f) Brought e ready begun answer = absurd ready
+claimed d u r (Making c j f) (Returning kind b funds k) e ready begun answer = absurd ready
 claimed d u r (Locking word) h e ready begun answer = absurd ready
 claimed d u r (Giving i kind x) h e ready begun answer = absurd ready
+claimed d u r Brought h e ready begun answer = absurd ready
+claimed d u r (Returning kind b funds k) h e ready begun answer = absurd ready
 claimed d u r Rest h e ready begun answer = absurd ready
 
 -- what is done from the same scene
@@ -93,10 +97,11 @@ turns_by d u u' r None is answer played halves =
     let t = no_next c d (next (walk_of c d)) is in
     subst (λ (t : Turned). Turns d u t u') (sym answer) (t, played ∙ ap (play_from c d (walk_of c d)) t, halves)
 
--- the endings that were under way, the act, and the endings that go on after it
+-- the rest that was under way, the act, and the rest that goes on after it
 pub turns : (d : ℕ) (u v w u' : Sight) (r : Turned) → Rests d u v → Plays d v r w → Rests d w u' → Turns d u r u'
 turns d u v w u' r before plays behind =
     turns_by d u u' r (said d (rested d (scene u))) refl (plays.answer ∙ ap (λ (c : Scene). turned (said d c)) before.scene)
     (behind.scene ∙ plays.scene ∙ ap (play d) before.scene)
-    (behind.halves ∙ plays.halves ∙ ap (λ (l : List Half). set l d (half_of w d)) before.halves
-    ∙ ap (set u.halves d) (resting (half_of w d) plays.done))
+    (behind.halves ∙ ap (set w.halves d) (over_returned (half_of w d) plays.done)
+    ∙ ap (λ (l : List Half). set l d Rest) (plays.halves ∙ ap (λ (l : List Half). set l d (half_of w d)) before.halves
+    ∙ set-set u.halves d (returned (half_of u d)) (half_of w d)) ∙ set-set u.halves d (half_of w d) Rest)

@@ -1,0 +1,181 @@
+-- A swap of a cell, step by step.
+use Rattle.std.proofs.Common.{◌≡◌, ℕ, ◌<◌, Bool, true, false, cond, List, [], ◌∷◌, length, set, refl, sym, ap, subst, ◌∙◌}
+use Rattle.std.specs.Prelude.{Option, Some, None, is_some, option_map}
+use Rattle.std.proofs.lemmas.Bool.{cond-true, cond-false, false≢true}
+use Rattle.std.proofs.lemmas.Option.{same_Some}
+use Rattle.control_word.specs.declared.cell.CellWord.{CellWord}
+use Rattle.control_word.specs.declared.event.Event.{Event}
+use Rattle.control_word.specs.declared.event.Event.TheVariants as event
+use Rattle.control_word.specs.declared.handle.Kind.{Kind}
+use Rattle.control_word.specs.declared.place.Block.{Block}
+use Rattle.control_word.specs.declared.shape.Shape.{Shape}
+use Rattle.control_word.specs.Histories.{entry}
+use Rattle.control_word.specs.State.{Opening}
+use Rattle.step_core.specs.declared.act.Act.{Act}
+use Rattle.step_core.specs.declared.act.Act.TheVariants.{Make, Share, Downgrade, Lock, Put, Leave, Clear, Count, Expired, Read, FromThis, Alias, Move, Ask, Offer, Swap, Exchange, Drop}
+use Rattle.step_core.specs.declared.act.Task.{Task}
+use Rattle.step_core.specs.declared.call.CellName.{CellName}
+use Rattle.step_core.specs.declared.cell_deed.CellDeed.TheVariants as cell_deed
+use Rattle.step_core.specs.declared.half.Half.{Half}
+use Rattle.step_core.specs.declared.half.Half.TheVariants.{Rest, Making, Locking, Giving, Brought, Returning}
+use Rattle.step_core.specs.declared.holdings.Pointer.{Pointer}
+use Rattle.step_core.specs.declared.past.Deed.TheVariants as deed
+use Rattle.step_core.specs.declared.said.Stepped.{Stepped}
+use Rattle.step_core.specs.CellDeeds.{cell_in}
+use Rattle.step_core.specs.Contents.{as_word, held_in, is_of, seen, told}
+use Rattle.step_core.specs.Courses.{Going, HasCell, cell_at, going, going_from, hand, kind_at, on_going}
+use Rattle.step_core.specs.Entries.{History, acted, on, swaps as swaps_in}
+use Rattle.step_core.specs.Holdings.{Slots, slot, value}
+use Rattle.step_core.specs.Openings.{opening}
+use Rattle.step_core.specs.Programs.{IsIn}
+use Rattle.step_core.specs.Scenes.{walk_of, went}
+use Rattle.step_core.specs.Steps.{Step, acts, brings, gives_back, sends, sent, step_at, stepped, swaps}
+use Rattle.step_core.specs.Stories.{Kept, Nothing, Story, added, history_after, state}
+use Rattle.step_core.specs.Turning.{HasBegun, IsAlone, IsInShape, IsSwap, IsTried, Plays, is_acting, is_brought, turned_by}
+use Rattle.step_core.specs.Worlds.{Sight, Steps, half_of, scene, sight_by, step_of}
+use Rattle.step_core.proofs.CellNames.{cell_kind, cell_open, goes_in}
+use Rattle.step_core.proofs.contained.Coming.{seen_found}
+use Rattle.step_core.proofs.contained.Telling.{swap_tells}
+use Rattle.step_core.proofs.turning.Ending.{same_walks, scene_as}
+use Rattle.step_core.proofs.turning.Saying.{Acts, plays_as}
+
+-- the event of a swap tells what goes in and what comes out
+swap_told : (v : Story) (d : ℕ) (slots : Slots) (c : CellName) (i : ℕ) → Kept v → d < v.extent.actors → IsIn v.extent.shape c
+    → is_of (kind_at c) (value slots i) ≡ true
+    → let x = cell_at (state v) c in
+    history_after v d (deed.OnCell (cell_deed.Swap x (as_word (value slots i)) (seen v x))) ≡ swaps_in (opening v.extent) d slots v.history c i
+swap_told v d slots c i kept lt is may =
+    let s = state v in
+    let x = cell_at s c in
+    let found = seen_found v d x kept lt (cell_open v d c is) in
+    ap (λ (o : Option (Event Nothing)). added d o v.history) (swap_tells v x (seen v x) found (value slots i) (goes_in v c (value slots i) is may))
+    ∙ ap (λ (k : Kind). entry d (event.Swap (cell_in s x) (told s k (value slots i)) (held_in s x)) ∷ v.history) (cell_kind v c is)
+
+-- the cell is there, and the value may go into it
+abbrev Goes : Shape → Slots → CellName → ℕ → Type 0
+Goes z slots c i = IsIn z c × (is_of (kind_at c) (value slots i) ≡ true)
+
+goes_from : (z : Shape) (slots : Slots) (x : CellName) (k : ℕ) (c : CellName) (i : ℕ) → going_from slots x k ≡ Some (c, i) → IsIn z x → Goes z slots c i
+goes_from z slots x k c i e is = go (is_of (kind_at x) (value slots k)) refl
+  where
+    go : (b : Bool) → is_of (kind_at x) (value slots k) ≡ b → Goes z slots c i
+    go true q =
+        let f : ◌≡◌ {A = Option Going} (Some (x, k)) (Some (c, i)) = sym (cond-true (is_of (kind_at x) (value slots k)) (Some (x, k)) None q) ∙ e in
+        subst (λ (g : Going). Goes z slots g.0 g.1) (same_Some _ _ f) (is, q)
+    go false q =
+        let f : ◌≡◌ {A = Option Going} None (Some (c, i)) = sym (cond-false (is_of (kind_at x) (value slots k)) (Some (x, k)) None q) ∙ e in cc
+
+-- an act that puts a value into a cell
+abbrev Puts : Opening → ℕ → Slots → History → Shape → Act → CellName → ℕ → Type 0
+Puts o d slots h z a c i = (acted o d slots h a ≡ swaps_in o d slots h c i) × Goes z slots c i
+
+puts_as : (o : Opening) (d : ℕ) (slots : Slots) (h : History) (z : Shape) (a : Act) (c : CellName) (i : ℕ) → going slots a ≡ Some (c, i) → HasCell z a
+    → Puts o d slots h z a c i
+puts_as o d slots h z (Swap x) c i e is =
+    (ap (on_going (swaps_in o d slots h) h) e, goes_from z slots x (hand slots) c i e is)
+puts_as o d slots h z (Exchange k x) c i e is = (ap (on_going (swaps_in o d slots h) h) e, goes_from z slots x k c i e is)
+puts_as o d slots h z (Make form) c i e is = cc
+puts_as o d slots h z (Share k) c i e is = cc
+puts_as o d slots h z (Downgrade k) c i e is = cc
+puts_as o d slots h z (Lock k must) c i e is = cc
+puts_as o d slots h z (Put k) c i e is = cc
+puts_as o d slots h z (Leave k) c i e is = cc
+puts_as o d slots h z (Clear k) c i e is = cc
+puts_as o d slots h z (Count k) c i e is = cc
+puts_as o d slots h z (Expired k) c i e is = cc
+puts_as o d slots h z (Read k) c i e is = cc
+puts_as o d slots h z (FromThis k kind) c i e is = cc
+puts_as o d slots h z (Alias k j field) c i e is = cc
+puts_as o d slots h z (Move k) c i e is = cc
+puts_as o d slots h z (Ask q) c i e is = cc
+puts_as o d slots h z (Offer k x) c i e is = cc
+puts_as o d slots h z Drop c i e is = cc
+
+-- after the swap no act is under way
+swap_over : (q : Kind) (k : ℕ) (x : CellWord) (o : Option Block) → is_acting (gives_back q k x o) ≡ false
+swap_over q k x None = refl
+swap_over q k x (Some b) = refl
+
+-- the thread's desk is there, and so is the cell of its act
+abbrev pub CanPut : ℕ → Sight → Act → Type 0
+CanPut d u a = (d < u.story.extent.actors) × Kept u.story × HasCell u.story.extent.shape a
+
+swaps_so : (d : ℕ) (u : Sight) (k : ℕ) (ts : List Task) (a : Act) (c : CellName) (i : ℕ) → CanPut d u a
+    → going (walk_of (scene u) d).slots a ≡ Some (c, i) → Acts d u k ts a (swaps u.story d (walk_of (scene u) d) k ts a c i)
+swaps_so d u k ts a c i can e =
+    let w = walk_of (scene u) d in
+    let v = u.story in
+    let p = puts_as (opening v.extent) d w.slots v.history v.extent.shape a c i e can.2 in (
+      refl,
+      ap (λ (h : History). record { extent = v.extent; history = h; walks = set u.walks d (went (state v) d w k ts a) })
+          (swap_told v d w.slots c i can.1 can.0 p.1 p.2 ∙ sym p.0),
+    )
+
+-- the funds are brought first, where the value has an object
+sends_so : (d : ℕ) (u : Sight) (k : ℕ) (ts : List Task) (a : Act) (c : CellName) (i : ℕ) (o : Option Pointer) → CanPut d u a
+    → going (walk_of (scene u) d).slots a ≡ Some (c, i)
+    → let w = walk_of (scene u) d in
+    let x = on (brings w k) (swaps u.story d w k ts a c i) o in is_acting x.half ≡ false → Acts d u k ts a x
+sends_so d u k ts a c i None can e is = swaps_so d u k ts a c i can e
+sends_so d u k ts a c i (Some p) can e is = absurd (false≢true (sym is))
+
+pub goes_so : (d : ℕ) (u : Sight) (k : ℕ) (ts : List Task) (a : Act) (g : Option Going) → CanPut d u a → going (walk_of (scene u) d).slots a ≡ g
+    → acted (opening u.story.extent) d (walk_of (scene u) d).slots u.story.history a
+    ≡ on_going (swaps_in (opening u.story.extent) d (walk_of (scene u) d).slots u.story.history) u.story.history (going (walk_of (scene u) d).slots a)
+    → let w = walk_of (scene u) d in
+    let x = on_going (sends u.story d w k ts a) (acts (state u.story) d w k ts a None Rest) g in is_acting x.half ≡ false → Acts d u k ts a x
+goes_so d u k ts a None can e by is =
+    let w = walk_of (scene u) d in
+    let v = u.story in (
+      refl,
+      ap (λ (h : History). record { extent = v.extent; history = h; walks = set u.walks d (went (state v) d w k ts a) })
+          (sym (by ∙ ap (on_going (swaps_in (opening v.extent) d w.slots v.history) v.history) e)),
+    )
+goes_so d u k ts a (Some g) can e by is = sends_so d u k ts a g.0 g.1 (slot (walk_of (scene u) d).slots g.1) can e is
+
+-- funds that were just brought
+sends_same : (d : ℕ) (u : Sight) (k : ℕ) (ts : List Task) (a : Act) (c : CellName) (i : ℕ) (o : Option Pointer)
+    → let w = walk_of (scene u) d in
+    let x = on (brings w k) (swaps u.story d w k ts a c i) o in is_acting x.half ≡ true → scene (sight_by d u (Some x)) ≡ scene u
+sends_same d u k ts a c i None is = absurd (false≢true (sym (swap_over (kind_at c) k _ _) ∙ is))
+sends_same d u k ts a c i (Some p) is = scene_as u _ _ _ _ refl (same_walks d u)
+
+pub goes_same : (d : ℕ) (u : Sight) (k : ℕ) (ts : List Task) (a : Act) (g : Option Going)
+    → let w = walk_of (scene u) d in
+    let x = on_going (sends u.story d w k ts a) (acts (state u.story) d w k ts a None Rest) g in
+    is_acting x.half ≡ true → scene (sight_by d u (Some x)) ≡ scene u
+goes_same d u k ts a None is = absurd (false≢true is)
+goes_same d u k ts a (Some g) is = sends_same d u k ts a g.0 g.1 (slot (walk_of (scene u) d).slots g.1) is
+
+some_of : (o : Option Going) → is_some o ≡ true → (g : Going) × (o ≡ Some g)
+some_of None e = absurd (false≢true e)
+some_of (Some g) e = (g, refl)
+
+puts_by : (d : ℕ) (u : Sight) (r : Stepped) (ts : List Task) → half_of u d ≡ Brought → (walk_of (scene u) d).todo ≡ ts
+    → IsSwap (walk_of (scene u) d).slots ts → HasBegun d u → r ≡ stepped u.story (step_of d u) → Plays d u (turned_by r) (sight_by d u (step_of d u))
+puts_by d u r [] e todo way begun answer = absurd way
+puts_by d u r (t ∷ ts) e todo way begun answer =
+    let w = walk_of (scene u) d in
+    let g = some_of (going w.slots t.act) way in
+    let y = swaps u.story d w t.statement ts t.act g.0.0 g.0.1 in
+    let is : step_of d u ≡ Some y = ap (λ (h : Half). step_at u.story d h w) e ∙ ap (λ (l : List Task). sent u.story d w l) todo
+    ∙ ap (option_map (λ (x : Going). swaps u.story d w t.statement ts t.act x.0 x.1)) g.1 in
+    let none = subst (λ (h : Half). IsAlone h w.endings) e begun.alone in
+    let cell = subst (λ (l : List Task). IsInShape u.story.extent.shape l) todo begun.cell in
+    plays_as d u t ts y r none todo is answer (swaps_so d u t.statement ts t.act g.0.0 g.0.1 (begun.seat, begun.kept, cell) g.1)
+    (swap_over (kind_at g.0.0) t.statement _ _) begun.within begun.walks
+
+puts_so : (d : ℕ) (u : Sight) (r : Stepped) (h : Half) → half_of u d ≡ h → is_brought h ≡ true → HasBegun d u → r ≡ stepped u.story (step_of d u)
+    → Plays d u (turned_by r) (sight_by d u (step_of d u))
+puts_so d u r Rest e is begun answer = absurd (false≢true is)
+puts_so d u r (Making b i f) e is begun answer = absurd (false≢true is)
+puts_so d u r (Locking word) e is begun answer = absurd (false≢true is)
+puts_so d u r (Giving i kind x) e is begun answer = absurd (false≢true is)
+puts_so d u r (Returning kind b funds k) e is begun answer = absurd (false≢true is)
+puts_so d u r Brought e is begun answer =
+    let w = walk_of (scene u) d in puts_by d u r w.todo e refl (subst (λ (h : Half). IsTried h w) e begun.tried) begun answer
+
+-- a swap whose funds are brought is done
+pub puts : (d : ℕ) (u v : Sight) (r : Stepped) → is_brought (half_of u d) ≡ true → HasBegun d u → Steps d u r v → Plays d u (turned_by r) v
+puts d u v r is begun steps =
+    subst (λ (w : Sight). Plays d u (turned_by r) w) (sym steps.1) (puts_so d u r (half_of u d) refl is begun steps.0)
