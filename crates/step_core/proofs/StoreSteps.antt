@@ -1,9 +1,7 @@
 -- What the steps of a thread are that puts values into cells.
-use Rattle.std.proofs.Common.{◌≡◌, ℕ, ◌<◌, ◌⊎◌, Bool, true, false, List, [], ◌∷◌, length, refl, sym, ap, ◌∙◌, ⊎_elim}
-use Rattle.std.specs.Prelude.{Option, Some, None, option_map, slice_set}
-use Rattle.control_word.specs.declared.cell.CellWord.{CellWord}
+use Rattle.std.proofs.Common.{◌≡◌, ℕ, ◌<◌, ◌⊎◌, List, [], length, sym, ap, ◌∙◌, ⊎_elim}
+use Rattle.std.specs.Prelude.{Option, Some, None, option_map}
 use Rattle.step_core.specs.declared.act.Act.{Act}
-use Rattle.step_core.specs.declared.act.Act.TheVariants.{Swap, Exchange}
 use Rattle.step_core.specs.declared.act.Task.{Task}
 use Rattle.step_core.specs.declared.call.CellName.{CellName}
 use Rattle.step_core.specs.declared.half.Half.{Half}
@@ -26,17 +24,6 @@ module _ (d : ℕ) (t : Thread) (v : Story) (a : Act) (c : CellName) (i : ℕ) (
     (one : first v d (walk t.course) (task_at t.course).statement (rest t.course) a
     ≡ on_going (sends v d (walk t.course) (task_at t.course).statement (rest t.course) a)
     (acts (state v) d (walk t.course) (task_at t.course).statement (rest t.course) a None Rest) (going t.course.holdings.slots.items a)) where
-  -- an act that puts nothing in goes on
-  pub step_passes : t.half ≡ Rest → going t.course.holdings.slots.items a ≡ None
-      → step_at v d t.half (walk t.course)
-      ≡ Some (acts (state v) d (walk t.course) (task_at t.course).statement (rest t.course) a None Rest)
-  step_passes e goes =
-      let w = walk t.course in
-      let n = (task_at t.course).statement in
-      let ts = rest t.course in
-      at_act d t v a e none lt act
-      ∙ ap (λ (x : Step). Some x) (one ∙ ap (λ (g : Option Going). on_going (sends v d w n ts a) (acts (state v) d w n ts a None Rest) g) goes)
-
   -- the first step of one that puts something in
   step_sends : t.half ≡ Rest → going t.course.holdings.slots.items a ≡ Some (c, i)
       → step_at v d t.half (walk t.course) ≡ Some (sends v d (walk t.course) (task_at t.course).statement (rest t.course) a c i)
