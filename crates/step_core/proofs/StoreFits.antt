@@ -1,14 +1,13 @@
 -- A thread that puts values into cells fits the table, and its steps are as they are said.
 use Rattle.std.proofs.Common.{◌≡◌, ℕ, ◌-◌, ◌<◌, ◌⊎◌, Bool, true, false, cond, not, ◌&&◌, [], length, refl, sym, ap, subst, ◌∙◌, ⊎_elim, arith}
-use Rattle.std.specs.Prelude.{Option, Some, None, is_some}
+use Rattle.std.specs.Prelude.{Option, Some, None}
 use Rattle.control_word.specs.declared.cell.CellWord.{CellWord}
 use Rattle.control_word.specs.declared.handle.Kind.{Kind}
 use Rattle.control_word.specs.declared.handle.Kind.TheVariants.{Owner, Weak}
 use Rattle.control_word.specs.declared.place.Block.{Block}
-use Rattle.control_word.specs.declared.view.Pending.{Pending}
 use Rattle.control_word.specs.declared.view.Pending.TheVariants.{Idle}
 use Rattle.std.specs.List.{filter}
-use Rattle.control_word.specs.State.{State, same_stored, stored}
+use Rattle.control_word.specs.State.{same_stored, stored}
 use Rattle.step_core.specs.declared.act.Act.{Act}
 use Rattle.step_core.specs.declared.act.Act.TheVariants.{Swap, Exchange, Drop}
 use Rattle.step_core.specs.declared.call.CellName.{CellName}
@@ -21,20 +20,18 @@ use Rattle.step_core.specs.declared.half.Half.TheVariants.{Rest, Brought, Return
 use Rattle.step_core.specs.declared.holdings.Pointer.{Pointer}
 use Rattle.step_core.specs.declared.past.Deed.{Deed}
 use Rattle.step_core.specs.declared.past.Deed.TheVariants.{OnCell}
-use Rattle.step_core.specs.declared.slot.Slot.{Slot}
-use Rattle.step_core.specs.declared.slot.Slot.TheVariants.{Empty, Full}
 use Rattle.step_core.specs.declared.thread.Thread.{Thread}
 use Rattle.step_core.specs.Actors.{HalfFits, Stocks, claimed, in_store}
 use Rattle.step_core.specs.CellDeeds.{owing}
-use Rattle.step_core.specs.Contents.{is_of, owing_for}
-use Rattle.step_core.specs.Courses.{Begins, CourseReady, Going, HasCell, HasGoneOn, cell_at, going, going_from, hand, idle, kind_at, new_of}
+use Rattle.step_core.specs.Contents.{is_of}
+use Rattle.step_core.specs.Courses.{Begins, CourseReady, Going, HasCell, HasGoneOn, cell_at, going_from, hand, idle, kind_at}
 use Rattle.step_core.specs.Courses.{done_on, other, task_at}
 use Rattle.step_core.specs.Deeds.{share_as}
 use Rattle.step_core.specs.Entries.{on}
-use Rattle.step_core.specs.Holdings.{Holds, Slots, pointer_of, slot, value}
+use Rattle.step_core.specs.Holdings.{Slots, slot, value}
 use Rattle.step_core.specs.Programs.{IsIn}
 use Rattle.step_core.specs.Steps.{gives_back}
-use Rattle.step_core.specs.Stories.{Kept, Nothing, Story, after, pending, pending_after, state}
+use Rattle.step_core.specs.Stories.{Kept, Story, after, pending, pending_after, state}
 use Rattle.step_core.specs.Threads.{Fits, IsNext}
 use Rattle.step_core.proofs.CellNames.{cell_kind}
 use Rattle.step_core.proofs.Courses.{ready_head}
@@ -42,7 +39,7 @@ use Rattle.step_core.proofs.Threads.{cell_here, cells_on, own_pending, resting}
 use Rattle.step_core.proofs.contained.Others.{holds_quiet}
 use Rattle.step_core.proofs.contained.Refilling.{owes_after}
 use Rattle.step_core.proofs.contained.Told.{kind_stays}
-use Rattle.step_core.proofs.holding.Ends.{each_end, ends_gone, ends_none}
+use Rattle.step_core.proofs.holding.Ends.{each_end, ends_gone}
 
 -- what is half done of the next act
 pub half_here : (d : ℕ) (t : Thread) (v : Story) (h : Half) → Fits d t v → t.half ≡ h
@@ -71,10 +68,6 @@ swap_goes c x lt still act =
     go true false e = cc
     go false b e = cc
 
-pub nothing_owed : (s : State) (a : Slot) (n : ℕ) → owing_for s a n ≡ Idle → pointer_of a ≡ None
-nothing_owed s (Empty p) n e = refl
-nothing_owed s (Full x) n e = absurd (let q : ◌≡◌ {A = Pending Nothing} (owing s x.kind (Some x.block) x.place n 0) Idle = e in cc)
-
 -- where it goes
 pub going_is : (slots : Slots) (c : CellName) (i : ℕ) → is_of (kind_at c) (value slots i) ≡ true → going_from slots c i ≡ Some (c, i)
 going_is slots c i is = ap (λ (b : Bool). cond {A = Option Going} b (Some (c, i)) None) is
@@ -82,28 +75,6 @@ going_is slots c i is = ap (λ (b : Bool). cond {A = Option Going} b (Some (c, i
 pub drop_empty : (c : Course) → c.at < length c.tasks.items → CourseReady c → (task_at c).act ≡ Drop → c.taken ≡ false
 drop_empty c lt ready act =
     let b : Begins (other c.holdings.slots.items) c.taken Drop = subst (Begins (other c.holdings.slots.items) c.taken) act (ready_head c lt ready).0 in b
-
--- the funds are brought
-pub fits_brought : (d : ℕ) (t : Thread) (v : Story) (x : Pointer) → Fits d t v → t.half ≡ Rest → t.course.endings.list ≡ []
-    → t.course.at < length t.course.tasks.items → is_some (going t.course.holdings.slots.items (task_at t.course).act) ≡ true
-    → pending (after v d (OnCell (cell_deed.Bring x.kind x.block x.place 256))) d
-    ≡ owing_for (state (after v d (OnCell (cell_deed.Bring x.kind x.block x.place 256)))) (new_of t.course.holdings.slots.items (task_at t.course).act) 256
-    → Holds d t.course.holdings.slots.items (after v d (OnCell (cell_deed.Bring x.kind x.block x.place 256)))
-    → Fits d (record { course = t.course; stock = t.stock; half = Brought }) (after v d (OnCell (cell_deed.Bring x.kind x.block x.place 256)))
-fits_brought d t v x fits e none lt goes owes holds =
-    let s = resting d t v fits e in
-    record {
-      seat = fits.seat;
-      holds = holds;
-      within = fits.within;
-      ready = fits.ready;
-      still = fits.still;
-      half = owes;
-      next = (lt, goes, none);
-      stocks = record { stocked = s.stocked; roomy = s.roomy };
-      endings = ends_none d t.course (after v d (OnCell (cell_deed.Bring x.kind x.block x.place 256))) none fits.endings.roomy;
-      cells = fits.cells;
-    }
 
 -- a swap moves no block
 same_stores : (v : Story) (d : ℕ) (c : Cell) (new x : CellWord) → (state (after v d (OnCell (cell_deed.Swap c new x)))).stores ≡ (state v).stores
