@@ -65,6 +65,7 @@ impl<'a> SharedAt<'a> {
 
     /// A copy of what the cell holds ([util.smartptr.atomic.shared]), from its one step on the cell. It tries again while
     /// others change the cell. It is refused `Limit` just where the desk is at its allowance, and then nothing changes.
+    #[inline(always)]
     pub fn load<V: Drop + Send, R: Wait>(
         &self,
         rt: &R,

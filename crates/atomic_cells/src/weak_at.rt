@@ -73,6 +73,7 @@ impl<'a> WeakAt<'a> {
 
     /// A copy of what the cell holds ([util.smartptr.atomic.weak]), from its one step on the cell. It tries again while
     /// others change the cell. It is refused `Limit` just where the desk is at its allowance, and then nothing changes.
+    #[inline(always)]
     pub fn load<V: Drop + Send, R: Wait>(
         &self,
         rt: &R,

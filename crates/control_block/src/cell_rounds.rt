@@ -35,6 +35,7 @@ fn is_drained(seen: CellWord, of: Pointer) -> bool
 
 /// Refill: while a cell holds what a handle of the desk's holds, and many of its funds are taken, as many are brought
 /// and put into it (own). Nobody sees a difference but the words.
+#[inline(never)]
 pub fn refill<V, A: Aimed, M: Meant, R: Wait>(
     rt: &R,
     board: &Board<V>,
@@ -66,6 +67,7 @@ pub fn refill<V, A: Aimed, M: Meant, R: Wait>(
 }
 
 /// Top up: a load that left many funds of a cell taken puts them back. The desk has the handle that the load gave.
+#[inline(always)]
 pub(crate) fn top_up<V, A: Aimed, R: Wait>(
     rt: &R,
     board: &Board<V>,
@@ -98,6 +100,7 @@ pub(crate) fn top_up<V, A: Aimed, R: Wait>(
 
 /// One try at the load of a cell with an object: a fund is taken and turned into a handle, where the cell still shows
 /// what was seen. Else nothing changes.
+#[inline(always)]
 fn try_load<V, A: Aimed, R: Wait>(
     rt: &R,
     board: &Board<V>,
@@ -129,6 +132,7 @@ fn try_load<V, A: Aimed, R: Wait>(
 
 /// Load: what a cell holds comes out as a handle more ([util.smartptr.atomic.shared], [util.smartptr.atomic.weak]). It
 /// tries again while others change the cell, and while all its funds are taken.
+#[inline(always)]
 pub fn load<V, A: Aimed, R: Wait>(
     rt: &R,
     board: &Board<V>,
