@@ -88,6 +88,7 @@ impl<'a> SharedAt<'a> {
 
     /// The pointer goes into the cell, and what the cell held comes out ([util.smartptr.atomic.shared]), in one step on the
     /// cell. It waits for nobody.
+    #[inline]
     pub fn exchange<V: Drop + Send>(
         &self,
         domain: &Domain<V>,
@@ -115,6 +116,7 @@ impl<'a> SharedAt<'a> {
 
     /// The pointer goes into the cell, and what the cell held leaves ([util.smartptr.atomic.shared]); where that was an
     /// object's last owner, the object ends in the desk's hands. It waits for nobody.
+    #[inline]
     #[tactic(auto, using(shared_handle::proofs::Taken::first_out))]
     pub fn store<V: Drop + Send>(
         &self,

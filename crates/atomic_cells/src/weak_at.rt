@@ -96,6 +96,7 @@ impl<'a> WeakAt<'a> {
 
     /// The pointer goes into the cell, and what the cell held comes out ([util.smartptr.atomic.weak]), in one step on the
     /// cell. It waits for nobody.
+    #[inline]
     pub fn exchange<V: Drop + Send>(
         &self,
         domain: &Domain<V>,
@@ -123,6 +124,7 @@ impl<'a> WeakAt<'a> {
 
     /// The pointer goes into the cell, and what the cell held leaves ([util.smartptr.atomic.weak]): it answers `Empty` where
     /// that was an empty one, and else `Others`. It waits for nobody.
+    #[inline]
     #[tactic(auto, using(shared_handle::proofs::Taken::first_out))]
     pub fn store<V: Drop + Send>(
         &self,

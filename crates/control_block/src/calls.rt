@@ -65,8 +65,8 @@ pub fn share<V: Drop + Send, A: About>(
     if desk.is_full() {
         return Err(Refusal::Limit);
     }
+    desk.held += 1; // here, since each locked instruction that follows waits for what was stored before it
     steps::share::<V, Brand>(&domain.table.shared, &mut desk.seat, of.block);
-    desk.held += 1;
     Ok(Shared {
         block: Some(of.block),
         place: wanted,

@@ -88,6 +88,7 @@ pub fn load<V: Drop + Send, A: Aimed, R: Wait>(
 
 /// A handle that the desk has goes into a cell, and what the cell held comes out ([util.smartptr.atomic.shared],
 /// [util.smartptr.atomic.weak]). It waits for nobody.
+#[inline]
 pub fn exchange<V: Drop + Send, A: Aimed>(
     domain: &Domain<V>,
     desk: &mut Desk<V>,
