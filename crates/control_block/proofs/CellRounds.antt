@@ -9,7 +9,7 @@ use Rattle.control_word.proofs.history.Kept.{block_kept, same_kept}
 use Rattle.control_word.proofs.history.Legal.{sound}
 use Rattle.control_word.proofs.history.Others.{held_made}
 use Rattle.control_word.proofs.lists.Parts.{has_part, part_has}
-use Rattle.control_word.specs.Events.{InHand, after, fills, gets, loses}
+use Rattle.control_word.specs.Events.{InHand, after, gets, loses}
 use Rattle.control_word.specs.Handles.{empty, equivalent, handle, has_object, same_number, same_place}
 use Rattle.control_word.specs.Histories.{IsLegal, entry, leads}
 use Rattle.control_word.specs.Layout.{cell_place, spot}
