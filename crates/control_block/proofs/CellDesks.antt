@@ -38,7 +38,8 @@ use Rattle.control_block.specs.Rule.{opening_of, seeing}
 use Rattle.control_block.specs.declared.board.Sight.{Sight}
 use Rattle.control_block.specs.declared.desk.Desk.TheInside.{Inside}
 use Rattle.control_block.proofs.Bags.{alone_there, map_without, seen_as, shown, shown_later}
-use Rattle.control_block.proofs.CellRounds.{Trades, came_holding, came_object, no_block, slot_low}
+use Rattle.control_block.proofs.CellRounds.{came_holding, came_object, no_block}
+use Rattle.control_block.proofs.CellTrades.{Trades, slot_low}
 use Rattle.control_block.proofs.DeskBags.{holding_in}
 use Rattle.control_block.proofs.DeskSteps.{word_inside}
 use Rattle.control_block.proofs.Parts.{part_without_mine}

@@ -24,7 +24,7 @@ use Rattle.control_block.specs.declared.board.Sight.{Sight}
 use Rattle.control_block.specs.declared.desk.Desk.TheInside.{Inside}
 use Rattle.control_block.proofs.Bags.{shown}
 use Rattle.control_block.proofs.CellDesks.{bag_is, event_is, formed_in, in_seat, one, size_is}
-use Rattle.control_block.proofs.CellRounds.{clear_trades}
+use Rattle.control_block.proofs.CellTrades.{clear_trades}
 use Rattle.control_block.proofs.DeskBags.{adds_of, before, ends_still, legal_now, same_desk}
 use Rattle.control_block.proofs.DeskSteps.{came, ending_same, quiet_desk, stock_left}
 use Rattle.control_block.proofs.EndingCounts.{some_ending}

@@ -17,7 +17,7 @@ use Rattle.control_block.proofs.Bags.{seen_as}
 use Rattle.control_block.proofs.CellDesks.{bag_is, event_is, fits, formed_out, holds_after, in_seat, lost_counted, lost_hand, lost_holding}
 use Rattle.control_block.proofs.CellDesks.{lost_mine, lost_room, lost_shows, lost_word, one, one_few, size_is}
 use Rattle.control_block.proofs.CellChoices.{swap_allowances, swap_stores}
-use Rattle.control_block.proofs.CellRounds.{Trades, swap_trades}
+use Rattle.control_block.proofs.CellTrades.{Trades, swap_trades}
 use Rattle.control_block.proofs.CellSites.{cell_there, word_there}
 use Rattle.control_block.proofs.DeskBags.{adds_of, calm_swap, keeps_quietly, now_of}
 use Rattle.control_block.proofs.Passage.{quiet_swap}

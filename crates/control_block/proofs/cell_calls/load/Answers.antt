@@ -10,7 +10,7 @@ use Rattle.control_block.proofs.Bags.{seen_as}
 use Rattle.std.proofs.lemmas.List.{length-map}
 use Rattle.control_word.specs.State.{bag}
 use Rattle.control_block.specs.Plays.{known}
-use Rattle.control_block.proofs.CellRounds.{load_trades}
+use Rattle.control_block.proofs.CellTrades.{load_trades}
 use Rattle.control_block.proofs.CellSites.{cell_there, word_there}
 use Rattle.control_block.proofs.DeskBags.{not_full, adds_of, calm, keeps_quietly, now_of}
 use Rattle.control_block.proofs.Passage.{plain}

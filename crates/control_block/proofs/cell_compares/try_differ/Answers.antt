@@ -9,7 +9,8 @@ use Rattle.control_block.specs.CellPlays.{Took}
 use Rattle.control_block.specs.CellRounds.{CameOut, IsCounted}
 use Rattle.control_block.specs.Inside.{IsSized}
 use Rattle.control_block.specs.Plays.{At}
-use Rattle.control_block.proofs.CellRounds.{came_counted, came_holding, cell_still, differ_keeps, differ_trades, took_inside, took_owes, turned}
+use Rattle.control_block.proofs.CellRounds.{came_counted, came_holding, took_inside, took_owes, turned}
+use Rattle.control_block.proofs.CellTrades.{cell_still, differ_keeps, differ_trades}
 use Rattle.control_block.proofs.cell_compares.try_differ.Goals as goal
 
 pub turn-requires-clause-word : goal.turn-requires-clause-word

@@ -8,7 +8,8 @@ use Rattle.control_block.specs.Desks.{DeskNow, EndsStill, IsEnding, IsSameDesk, 
 use Rattle.control_block.specs.Inside.{IsDeskWith, desk_now}
 use Rattle.control_block.specs.declared.desk.Desk.TheInside.{Inside}
 use Rattle.control_block.proofs.CellDesks.{one}
-use Rattle.control_block.proofs.CellRounds.{came_object, clear_trades}
+use Rattle.control_block.proofs.CellRounds.{came_object}
+use Rattle.control_block.proofs.CellTrades.{clear_trades}
 use Rattle.control_block.proofs.ClearDesks as clear
 use Rattle.control_block.proofs.ClearWeakLeaves as leave
 use Rattle.control_block.proofs.DeskSteps.{word_inside}
