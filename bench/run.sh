@@ -1,6 +1,6 @@
 #!/usr/bin/env bash
 # Builds the program `measure` (proved first, where it isn't) and the peers, and prints the tables of README.md. The programs
-# run in turn, so that what else the machine does falls on all; a turn takes 10 seconds, and the first argument says how many (20).
+# run in turn, so that what else the machine does falls on all; a turn takes some 13 seconds, and the first argument says how many (20).
 set -euo pipefail
 cd "$(dirname "${BASH_SOURCE[0]}")"
 build=$(mktemp -d)
