@@ -1,5 +1,5 @@
 -- Going past idle tasks changes nothing that a thread means.
-use Rattle.std.proofs.Common.{◌≡◌, ℕ, ◌+◌, ◌-◌, ◌<◌, ◌≤◌, Bool, true, false, cond, List, ◌∷◌, length, set, drop, sym, ap, subst, ◌∙◌, arith, length-set}
+use Rattle.std.proofs.Common.{◌≡◌, ℕ, ◌+◌, ◌-◌, ◌<◌, ◌≤◌, Bool, true, false, cond, List, [], ◌∷◌, length, set, drop, refl, sym, ap, subst, ◌∙◌, arith, length-set}
 use Rattle.std.proofs.Common.{get_or-set_same}
 use Rattle.std.proofs.lemmas.Bool.{cond-true, cond-false, false≢true}
 use Rattle.std.proofs.lemmas.List.{drop_more}
@@ -7,30 +7,77 @@ use Rattle.step_core.specs.declared.act.Act.{Act}
 use Rattle.step_core.specs.declared.act.Act.TheVariants.{Make, Share, Downgrade, Lock, Put, Leave, Clear, Count, Expired, Read, FromThis, Alias, Move, Ask}
 use Rattle.step_core.specs.declared.act.Task.{Task}
 use Rattle.step_core.specs.declared.course.Course.{Course}
-use Rattle.step_core.specs.Courses.{Begins, CourseReady, IsPassed, IsReady, Ready, hand, idle, no_task, placed, settled, slots_idle, taken_after}
+use Rattle.step_core.specs.declared.ending.Ending.{Ending}
+use Rattle.step_core.specs.Courses.{Begins, CourseReady, IsPassed, IsReady, Ready, Walk, hand, idle, no_task, placed, rest, settled, slots_idle, taken_after}
 use Rattle.step_core.specs.Courses.{taken_idle, task_at, todo}
+use Rattle.step_core.specs.Endings.{Stack}
 use Rattle.step_core.specs.Holdings.{Slots, plain, value}
+use Rattle.step_core.specs.Steps.{with_endings}
 
 pub todo_at : (c : Course) → c.at < length c.tasks.items → todo c ≡ task_at c ∷ drop (c.at + 1) c.tasks.items
 todo_at c lt = drop_more c.tasks.items c.at no_task lt
 
-settled_idle : (slots : Slots) (taken : Bool) (t : Task) (ts : List Task) → idle t.act slots taken ≡ true
-    → settled slots taken (t ∷ ts) ≡ settled (slots_idle t.act slots taken) (taken_idle t.act taken) ts
-settled_idle slots taken t ts e = cond-true (idle t.act slots taken) _ _ e
+settled_idle : (slots : Slots) (taken : Bool) (es : List Ending) (t : Task) (ts : List Task) → idle t.act slots taken ≡ true
+    → settled slots taken es (t ∷ ts) ≡ settled (slots_idle t.act slots taken) (taken_idle t.act taken) es ts
+settled_idle slots taken es t ts e = cond-true (idle t.act slots taken) _ _ e
 
-settled_still : (slots : Slots) (taken : Bool) (t : Task) (ts : List Task) → idle t.act slots taken ≡ false
-    → settled slots taken (t ∷ ts) ≡ record { slots = slots; taken = taken; todo = t ∷ ts }
-settled_still slots taken t ts e = cond-false (idle t.act slots taken) _ _ e
+settled_still : (slots : Slots) (taken : Bool) (es : List Ending) (t : Task) (ts : List Task) → idle t.act slots taken ≡ false
+    → settled slots taken es (t ∷ ts) ≡ record { slots = slots; taken = taken; endings = es; todo = t ∷ ts }
+settled_still slots taken es t ts e = cond-false (idle t.act slots taken) _ _ e
+
+with_either : (b : Bool) (x y x' y' : Walk) (es : List Ending) → with_endings x es ≡ x' → with_endings y es ≡ y'
+    → with_endings (cond b x y) es ≡ cond b x' y'
+with_either true x y x' y' es e f = e
+with_either false x y x' y' es e f = f
+
+-- the endings have no part in it
+pub settled_with : (slots : Slots) (taken : Bool) (es es' : List Ending) (ts : List Task)
+    → with_endings (settled slots taken es ts) es' ≡ settled slots taken es' ts
+settled_with slots taken es es' [] = refl
+settled_with slots taken es es' (t ∷ ts) =
+    with_either (idle t.act slots taken) _ _ _ _ es' (settled_with (slots_idle t.act slots taken) (taken_idle t.act taken) es es' ts) refl
+
+idle_taken : (act : Act) → taken_idle act false ≡ false
+idle_taken (Make form) = refl
+idle_taken (Share k) = refl
+idle_taken (Put k) = refl
+idle_taken (Leave k) = refl
+idle_taken (Clear k) = refl
+idle_taken (Count k) = refl
+idle_taken (Downgrade k) = refl
+idle_taken (Lock k must) = refl
+idle_taken (Expired k) = refl
+idle_taken (Read k) = refl
+idle_taken (FromThis k kind) = refl
+idle_taken (Alias k j field) = refl
+idle_taken (Move k) = refl
+idle_taken (Ask q) = refl
+
+taken_either : (b : Bool) (x y : Walk) → x.taken ≡ false → y.taken ≡ false → (cond b x y).taken ≡ false
+taken_either true x y e f = e
+taken_either false x y e f = f
+
+-- where nothing was taken nothing is
+pub settled_taken : (slots : Slots) (es : List Ending) (ts : List Task) → (settled slots false es ts).taken ≡ false
+settled_taken slots es [] = refl
+settled_taken slots es (t ∷ ts) =
+    taken_either (idle t.act slots false) _ _
+    (subst (λ (b : Bool). (settled (slots_idle t.act slots false) b es ts).taken ≡ false) (sym (idle_taken t.act))
+    (settled_taken (slots_idle t.act slots false) es ts)) refl
+
+pub left_taken : (c : Course) (slots : Slots) → c.taken ≡ false → (settled slots c.taken c.endings.list (rest c)).taken ≡ false
+left_taken c slots e = ap (λ (b : Bool). (settled slots b c.endings.list (rest c)).taken) e ∙ settled_taken slots c.endings.list (rest c)
 
 pub passed_todo : (a b : Course) → IsPassed a b → todo b ≡ drop (a.at + 1) a.tasks.items
 passed_todo a b p = let x = p.at in let y = p.tasks in cc
 
 pub passed_same : (a b : Course) → a.at < length a.tasks.items → idle (task_at a).act a.holdings.slots.items a.taken ≡ true → IsPassed a b
-    → settled b.holdings.slots.items b.taken (todo b) ≡ settled a.holdings.slots.items a.taken (todo a)
+    → settled b.holdings.slots.items b.taken b.endings.list (todo b) ≡ settled a.holdings.slots.items a.taken a.endings.list (todo a)
 passed_same a b lt e p =
     let h = todo_at a lt in
-    let i = settled_idle a.holdings.slots.items a.taken (task_at a) (drop (a.at + 1) a.tasks.items) e in
+    let i = settled_idle a.holdings.slots.items a.taken a.endings.list (task_at a) (drop (a.at + 1) a.tasks.items) e in
     let n = p.slots in let m = p.taken in let t = passed_todo a b p in
+    let k : b.endings.list ≡ a.endings.list = ap (λ (x : Stack). x.list) p.endings in
     cc
 
 placed_length : (k : ℕ) (slots : Slots) → length (placed k slots) ≡ length slots

@@ -1,45 +1,45 @@
--- The end of an object keeps a thread fitting the table.
+-- What a leave makes of a thread's store and endings, so that it fits the table.
 use Rattle.std.proofs.Common.{◌≡◌, ◌≢◌, ℕ, zero, suc, ◌+◌, ◌<◌, ◌≤◌, ◌==◌, Bool, true, false, cond, not, List, [], ◌∷◌, length, refl, sym, ap}
 use Rattle.std.proofs.Common.{subst, ◌∙◌}
-use Rattle.std.proofs.Common.{⊎_elim, arith, eq-eqb, ne_eqb}
+use Rattle.std.proofs.Common.{⊎_elim, inr, arith, eq-eqb, ne_eqb}
 use Rattle.std.proofs.lemmas.Bool.{cases_eq, cond_both, cond-true, cond-false, eqb-true, and_parts}
 use Rattle.std.proofs.lemmas.List.Sorted.{sum_by_pushed}
 use Rattle.std.proofs.lemmas.List.Sums.{sum_by-cons}
 use Rattle.std.specs.List.{filter}
-use Rattle.std.specs.List.Sorted.{IsPermutation}
 use Rattle.control_word.proofs.history.Legal.{sound}
 use Rattle.control_word.proofs.lists.Sums.{num_le}
 use Rattle.control_word.proofs.lists.Tallies.{num_cons, put_cases}
 use Rattle.control_word.specs.Events.{moved_to}
 use Rattle.control_word.specs.declared.place.Block.{Block}
+use Rattle.control_word.specs.declared.view.Pending.TheVariants.{Idle}
 use Rattle.control_word.specs.Laws.{how_often}
 use Rattle.control_word.specs.State.{State, Object, Stored as Kept_in, ending, same_stored, stored}
 use Rattle.step_core.specs.declared.course.Course.{Course}
+use Rattle.step_core.specs.declared.ending.Ending.{Ending}
 use Rattle.step_core.specs.declared.half.Half.{Half}
-use Rattle.step_core.specs.declared.half.Half.TheVariants.{Rest, Ending}
+use Rattle.step_core.specs.declared.half.Half.TheVariants.{Rest}
 use Rattle.step_core.specs.declared.holdings.Pointer.{Pointer}
 use Rattle.std.specs.Prelude.{Option, Some, None}
 use Rattle.control_word.specs.declared.handle.Kind.{Kind}
 use Rattle.control_word.specs.declared.handle.Kind.TheVariants.{Owner, Weak}
 use Rattle.control_word.specs.declared.place.Place.{Place}
-use Rattle.step_core.specs.declared.past.Deed.TheVariants.{Clear, Finish, Leave, WeakLeave}
+use Rattle.step_core.specs.declared.past.Deed.TheVariants.{Finish, Leave, WeakLeave}
 use Rattle.step_core.specs.Deeds.{is_last, leave, leave_as}
-use Rattle.step_core.specs.Scenes.{on}
-use Rattle.step_core.specs.Steps.{end_as}
+use Rattle.step_core.specs.Entries.{on}
+use Rattle.step_core.specs.Scenes.{begins_end_as}
 use Rattle.step_core.specs.declared.thread.Thread.{Thread}
-use Rattle.step_core.specs.Actors.{HalfFits, IsEnding, Stocks, in_list, in_store}
+use Rattle.step_core.specs.Actors.{HalfFits, Stocks, in_list, in_store}
 use Rattle.step_core.specs.Courses.{HasGoneOn, done_on}
+use Rattle.step_core.specs.Endings.{EndsAll, IsEnding, Stack}
 use Rattle.step_core.specs.Holdings.{Holds}
 use Rattle.step_core.specs.Openings.{opening}
 use Rattle.step_core.specs.Stocks.{Stored}
-use Rattle.step_core.specs.Stories.{Kept, Story, after, object_in, state}
-use Rattle.step_core.specs.Threads.{Fits, IsNext, IsStocked, IsStockedBy, form_at}
+use Rattle.step_core.specs.Stories.{Kept, Story, after, object_in, pending, state}
+use Rattle.step_core.specs.Threads.{Fits, IsStocked, IsStockedBy, form_at}
 use Rattle.step_core.proofs.Threads.{own_pending, resting}
+use Rattle.step_core.proofs.holding.Ends.{ends_none, ends_nothing, ends_one}
 use Rattle.step_core.proofs.holding.Storing.{counted_stored, one_stored}
 use Rattle.step_core.proofs.tables.Places.{ending_busy, handle_busy, there}
-
-pub ends_here : (d : ℕ) (t : Thread) (v : Story) (b : Block) (i k : ℕ) → Fits d t v → t.half ≡ Ending b i k → IsEnding d b i v
-ends_here d t v b i k fits e = subst (λ (h : Half). HalfFits d h (form_at t.course) v) e fits.half
 
 -- numbers from 1 to n, each once at most, are n or fewer
 without_number : (b c : ℕ) (l : List ℕ) → in_list c (filter (λ x. not (x == b)) l) ≤ in_list c l
@@ -107,7 +107,7 @@ store_few d v l kept same =
     (λ b. let m = most_once d b (state v) in let o = fine.once b in let s = same b in omega (arith, m, o, s))
     (λ b lt. (fine.stores d b (counted_stored (stored d b) (state v).stores (let s = same b in omega (arith, s, lt)))).1)
 
-finished_store : (d : ℕ) (v : Story) (b : Block) (c : ℕ) → ((state v).object (object_in v b)).block ≡ b.0
+pub finished_store : (d : ℕ) (v : Story) (b : Block) (c : ℕ) → ((state v).object (object_in v b)).block ≡ b.0
     → in_store (state (after v d (Finish b true))) d c ≡ cond (b.0 == c) 1 0 + in_store (state v) d c
 finished_store d v b c at =
     let y = ((state v).object (object_in v b)).block in
@@ -116,83 +116,17 @@ finished_store d v b c at =
     let e : ◌≡◌ {A = ℕ} (cond (y == c) 1 0) (cond (b.0 == c) 1 0) = ap (λ (k : ℕ). cond (k == c) 1 0) at in
     omega (arith, a, o, e)
 
-ended_stock : (d : ℕ) (t : Thread) (v : Story) (b : Block) (k : ℕ) → Fits d t v → t.half ≡ Ending b 3 k
-    → Stocks d t.stock.blocks t.stock.room (Ending b 3 k) v
-ended_stock d t v b k fits e = subst (λ (h : Half). Stocks d t.stock.blocks t.stock.room h v) e fits.stocks
-
 -- a block that is vacant again has room in the store
-pub room_left : (d : ℕ) (t : Thread) (v : Story) (b : Block) (k : ℕ) → Kept v → Kept (after v d (Finish b true)) → Fits d t v → t.half ≡ Ending b 3 k
-    → length t.stock.blocks < t.stock.room
-room_left d t v b k kept kept' fits e =
-    let i = ends_here d t v b 3 k fits e in
-    let at = (there v b kept (ending_busy v d b i.ending)).0 in
-    let s = ended_stock d t v b k fits e in
+pub room_left : (d : ℕ) (t : Thread) (v : Story) (e : Ending) → Kept v → Kept (after v d (Finish e.block true)) → Fits d t v → t.half ≡ Rest
+    → IsEnding d e v → length t.stock.blocks < t.stock.room
+room_left d t v e kept kept' fits rests is =
+    let b = e.block in
+    let at = (there v b kept (ending_busy v d b is.ending)).0 in
+    let s = resting d t v fits rests in
     let f = store_few d (after v d (Finish b true)) (b.0 ∷ t.stock.blocks) kept'
     (λ c. let g = finished_store d v b c at in let a = sum_by-cons (λ (y : ℕ). cond (y == c) 1 0) b.0 t.stock.blocks in
     let o = s.stocked c in omega (arith, g, a, o)) in
     let r = s.roomy in omega (arith, f, r)
-
-pub fits_finish : (d : ℕ) (t : Thread) (v : Story) (b : Block) (k : ℕ) (s : Stored) → Kept v → Fits d t v → t.half ≡ Ending b 3 k
-    → IsPermutation (b.0 ∷ t.stock.blocks) s.blocks → t.stock.room ≤ s.room
-    → Fits d (record { course = t.course; stock = s; half = Rest }) (after v d (Finish b true))
-fits_finish d t v b k s kept fits e p room =
-    let i = ends_here d t v b 3 k fits e in
-    let at = (there v b kept (ending_busy v d b i.ending)).0 in
-    let x = ended_stock d t v b k fits e in
-    record {
-      seat = fits.seat;
-      holds = record { owned = fits.holds.owned; size = fits.holds.size; formed = fits.holds.formed };
-      within = fits.within;
-      ready = fits.ready;
-      still = fits.still;
-      half = own_pending v d (Finish b true) kept fits.seat;
-      next = tt;
-      stocks =
-          record {
-            stocked = λ c.
-                let g = finished_store d v b c at in
-                let a = sum_by_pushed (λ (y : ℕ). cond (y == c) 1 0) b.0 t.stock.blocks s.blocks p in
-                let o = x.stocked c in omega (arith, g, a, o);
-            roomy = (let r = x.roomy in omega (arith, r, room));
-          };
-    }
-
-pub fits_finish_not : (d : ℕ) (t : Thread) (v : Story) (b : Block) (k : ℕ) → Kept v → Fits d t v → t.half ≡ Ending b 3 k
-    → Fits d (record { course = t.course; stock = t.stock; half = Rest }) (after v d (Finish b false))
-fits_finish_not d t v b k kept fits e =
-    let x = ended_stock d t v b k fits e in
-    record {
-      seat = fits.seat;
-      holds = record { owned = fits.holds.owned; size = fits.holds.size; formed = fits.holds.formed };
-      within = fits.within;
-      ready = fits.ready;
-      still = fits.still;
-      half = own_pending v d (Finish b false) kept fits.seat;
-      next = tt;
-      stocks = record { stocked = x.stocked; roomy = x.roomy };
-    }
-
-pub fits_clear : (d : ℕ) (t : Thread) (v : Story) (b : Block) (i k : ℕ) → Kept v → Fits d t v → t.half ≡ Ending b i k → i < 3
-    → Fits d (record { course = t.course; stock = t.stock; half = Ending b (i + 1) k }) (after v d (Clear b i))
-fits_clear d t v b i k kept fits e lt =
-    let o = object_in v b in
-    let n = ends_here d t v b i k fits e in
-    let x : Stocks d t.stock.blocks t.stock.room (Ending b i k) v = subst (λ (h : Half). Stocks d t.stock.blocks t.stock.room h v) e fits.stocks in
-    record {
-      seat = fits.seat;
-      holds = record { owned = fits.holds.owned; size = fits.holds.size; formed = fits.holds.formed };
-      within = fits.within;
-      ready = fits.ready;
-      still = fits.still;
-      half =
-          record {
-            idle = own_pending v d (Clear b i) kept fits.seat;
-            ending = put_cases (λ j (y : Object). y.phase ≡ ending d) (state v).object o _ o (λ q. n.ending) (λ q. n.ending);
-            within = omega arith;
-          };
-      next = tt;
-      stocks = record { stocked = x.stocked; roomy = x.roomy };
-    }
 
 -- the object whose last owner leaves is ending in the desk's hands
 pub left_ending : (v : Story) (d : ℕ) (x : Pointer) (last : Bool) → last ≡ true
@@ -247,17 +181,30 @@ room_weak v w d t o last x kept kept' fits e is said at kind ended =
         let o = s.stocked c in omega (arith, g, a, o)) in
         let r = s.roomy in omega (arith, f, r)
 
+-- there is room for its ending
+pub begins_room : (v w : Story) (d : ℕ) (t : Thread) (c : Course) (o : Option Pointer) (last : Bool) (x : Pointer) → Kept w → Fits d t v
+    → t.course.endings.list ≡ [] → c.endings ≡ t.course.endings → w ≡ done_on (leave (state v)) v d o
+    → last ≡ on (is_last (state v)) false o → o ≡ Some x → x.kind ≡ Owner → last ≡ true → length c.endings.list < c.endings.room
+begins_room v w d t c o last x kept' fits none same is said at kind ended =
+    let phase = ending_left v w d o last x is said at kind ended in
+    let place = (there w x.block kept' (ending_busy w d x.block phase)).1 in
+    let extent : w.extent.shape.blocks ≡ v.extent.shape.blocks = ap (λ (u : Story). u.extent.shape.blocks) is ∙ same_extent v d o in
+    let r = fits.endings.roomy in
+    let e : length c.endings.list ≡ 0 = ap (λ (z : Stack). length z.list) same ∙ ap length none in
+    let q : c.endings.room ≡ t.course.endings.room = ap (λ (z : Stack). z.room) same in
+    let low = place.0 in let high = place.1 in omega (arith, low, high, extent, r, e, q)
+  where
+    same_extent : (v : Story) (d : ℕ) (o : Option Pointer) → (done_on (leave (state v)) v d o).extent.shape.blocks ≡ v.extent.shape.blocks
+    same_extent v d None = refl
+    same_extent v d (Some x) = refl
+
 -- the stock after a pointer left
-stocks_left : (d : ℕ) (t : Thread) (v : Story) (x : Pointer) (s : Stored) (k : Kind) (b : Bool) (n : ℕ) → Kept v → Fits d t v → t.half ≡ Rest
-    → Kept (after v d (leave_as k x b)) → IsStocked k x.block.0 b t.stock s
-    → Stocks d s.blocks s.room (cond b (end_as k n x.block) Rest) (after v d (leave_as k x b))
-stocks_left d t v x s Owner true n kept fits e kept' is =
-    let y = resting d t v fits e in subst (λ (z : Stored). Stocks d z.blocks z.room (Ending x.block 0 n) (after v d (leave_as Owner x true))) (sym is)
+stocks_left : (d : ℕ) (t : Thread) (v : Story) (x : Pointer) (s : Stored) (k : Kind) (b : Bool) → Kept v → Fits d t v → t.half ≡ Rest
+    → Kept (after v d (leave_as k x b)) → IsStocked k x.block.0 b t.stock s → Stocks d s.blocks s.room Rest (after v d (leave_as k x b))
+stocks_left d t v x s Owner b kept fits e kept' is =
+    let y = resting d t v fits e in subst (λ (z : Stored). Stocks d z.blocks z.room Rest (after v d (leave_as Owner x b))) (sym is)
     (record { stocked = y.stocked; roomy = y.roomy })
-stocks_left d t v x s Owner false n kept fits e kept' is =
-    let y = resting d t v fits e in subst (λ (z : Stored). Stocks d z.blocks z.room Rest (after v d (leave_as Owner x false))) (sym is)
-    (record { stocked = y.stocked; roomy = y.roomy })
-stocks_left d t v x s Weak true n kept fits e kept' is =
+stocks_left d t v x s Weak true kept fits e kept' is =
     let y = resting d t v fits e in
     record {
       stocked = λ c.
@@ -266,62 +213,88 @@ stocks_left d t v x s Weak true n kept fits e kept' is =
           let o = y.stocked c in omega (arith, g, a, o);
       roomy = (let r = y.roomy in let q = is.1 in omega (arith, r, q));
     }
-stocks_left d t v x s Weak false n kept fits e kept' is =
+stocks_left d t v x s Weak false kept fits e kept' is =
     let y = resting d t v fits e in subst (λ (z : Stored). Stocks d z.blocks z.room Rest (after v d (leave_as Weak x false))) (sym is)
     (record { stocked = y.stocked; roomy = y.roomy })
 
-half_left : (d : ℕ) (t : Thread) (v : Story) (c : Course) (x : Pointer) (k : Kind) (b : Bool) (n : ℕ) → Kept v → Fits d t v
-    → HalfFits d (cond b (end_as k n x.block) Rest) (form_at c) (after v d (leave_as k x b)) × IsNext (cond b (end_as k n x.block) Rest) c
-half_left d t v c x Owner true n kept fits = (
-  record { idle = own_pending v d (Leave x.block x.place true) kept fits.seat; ending = left_ending v d x true refl; within = omega arith },
-  tt,
-)
-half_left d t v c x Owner false n kept fits = (own_pending v d (Leave x.block x.place false) kept fits.seat, tt)
-half_left d t v c x Weak true n kept fits = (own_pending v d (WeakLeave x.block x.place true) kept fits.seat, tt)
-half_left d t v c x Weak false n kept fits = (own_pending v d (WeakLeave x.block x.place false) kept fits.seat, tt)
+idle_left : (d : ℕ) (t : Thread) (v : Story) (x : Pointer) (k : Kind) (b : Bool) → Kept v → Fits d t v → pending (after v d (leave_as k x b)) d ≡ Idle
+idle_left d t v x Owner b kept fits = own_pending v d (Leave x.block x.place b) kept fits.seat
+idle_left d t v x Weak b kept fits = own_pending v d (WeakLeave x.block x.place b) kept fits.seat
 
-fits_leaving : (d : ℕ) (t : Thread) (v : Story) (c : Course) (s : Stored) (n : ℕ) (x : Pointer) (k : Kind) (b : Bool) → Kept v → Fits d t v → t.half ≡ Rest
-    → Kept (after v d (leave_as k x b)) → HasGoneOn d t.course c (after v d (leave_as k x b)) → IsStocked k x.block.0 b t.stock s
-    → Fits d (record { course = c; stock = s; half = cond b (end_as k n x.block) Rest }) (after v d (leave_as k x b))
-fits_leaving d t v c s n x k b kept fits e kept' on is =
-    let h = half_left d t v c x k b n kept fits in
+-- the endings after it: none before, and at most its own
+ends_left : (d : ℕ) (v : Story) (x : Pointer) (k : Kind) (b : Bool) (n : ℕ) → EndsAll d (cond b (begins_end_as k n x []) []) (after v d (leave_as k x b))
+ends_left d v x Owner true n =
+    ends_one d (after v d (Leave x.block x.place true)) (record { block = x.block; stage = 0; statement = n })
+    (record { ending = left_ending v d x true refl; within = omega arith })
+ends_left d v x Owner false n = ends_nothing d (after v d (Leave x.block x.place false))
+ends_left d v x Weak true n = ends_nothing d (after v d (WeakLeave x.block x.place true))
+ends_left d v x Weak false n = ends_nothing d (after v d (WeakLeave x.block x.place false))
+
+-- what a leave made of the course: it went on, and an ending begins perhaps
+pub record HasLeft (d : ℕ) (c c' c'' : Course) (w : Story) (n : ℕ) (o : Option Pointer) (last : Bool) : Type 0 where
+  pub gone : HasGoneOn d c c' w
+  pub empty : c'.taken ≡ false
+  pub same : c'' ≡ record c' { endings = c''.endings }
+  pub list : c''.endings.list ≡ on (λ x. cond last (begins_end_as x.kind n x c'.endings.list) c'.endings.list) c'.endings.list o
+  pub roomy : c'.endings.room ≤ c''.endings.room
+
+fits_leaving : (d : ℕ) (t : Thread) (v : Story) (c : Course) (r : Stack) (s : Stored) (n : ℕ) (x : Pointer) (k : Kind) (b : Bool) → Kept v → Fits d t v
+    → t.half ≡ Rest → t.course.endings.list ≡ [] → Kept (after v d (leave_as k x b)) → HasGoneOn d t.course c (after v d (leave_as k x b))
+    → c.taken ≡ false → r.list ≡ cond b (begins_end_as k n x c.endings.list) c.endings.list → c.endings.room ≤ r.room
+    → IsStocked k x.block.0 b t.stock s
+    → Fits d (record { course = record c { endings = r }; stock = s; half = Rest }) (after v d (leave_as k x b))
+fits_leaving d t v c r s n x k b kept fits e none kept' on empty list room is =
+    let w = after v d (leave_as k x b) in
+    let nothing : c.endings.list ≡ [] = ap (λ (z : Stack). z.list) on.endings ∙ none in
     record {
-      seat = seat k b;
+      seat = fits.seat;
       holds = on.holds;
       within = on.within;
       ready = on.ready;
       still = on.still;
-      half = h.0;
-      next = h.1;
-      stocks = stocks_left d t v x s k b n kept fits e kept' is;
+      half = idle_left d t v x k b kept fits;
+      next = tt;
+      stocks = stocks_left d t v x s k b kept fits e kept' is;
+      endings =
+          record {
+            all = subst (λ (l : List Ending). EndsAll d l w) (sym (list ∙ ap (λ (l : List Ending). cond b (begins_end_as k n x l) l) nothing)) (ends_left d v x k b n);
+            roomy = (let q = fits.endings.roomy in let z : c.endings.room ≡ t.course.endings.room = ap (λ (y : Stack). y.room) on.endings in omega (arith, q, z, room));
+            empty = inr empty;
+          };
     }
-  where
-    seat : (k : Kind) (b : Bool) → d < (after v d (leave_as k x b)).extent.actors
-    seat k b = fits.seat
 
 -- a thread after it left what a slot held
-pub fits_left : (d : ℕ) (t t' : Thread) (v w : Story) (n : ℕ) (o : Option Pointer) (last : Bool) → Kept v → Kept w → Fits d t v → t.half ≡ Rest
-    → w ≡ done_on (leave (state v)) v d o → last ≡ on (is_last (state v)) false o → HasGoneOn d t.course t'.course w
-    → t'.half ≡ on (λ x. cond last (end_as x.kind n x.block) Rest) Rest o → IsStockedBy o last t.stock t'.stock → Fits d t' w
-fits_left d t t' v w n None last kept kept' fits e is said on half stock =
+pub fits_left : (d : ℕ) (t t' : Thread) (v w : Story) (c : Course) (n : ℕ) (o : Option Pointer) (last : Bool) → Kept v → Kept w → Fits d t v → t.half ≡ Rest
+    → t.course.endings.list ≡ [] → w ≡ done_on (leave (state v)) v d o → last ≡ on (is_last (state v)) false o
+    → HasLeft d t.course c t'.course w n o last → t'.half ≡ t.half → IsStockedBy o last t.stock t'.stock → Fits d t' w
+fits_left d t t' v w c n None last kept kept' fits e none is said left half stock =
     let idle : HalfFits d Rest (form_at t.course) v = subst (λ (h : Half). HalfFits d h (form_at t.course) v) e fits.half in
-    subst (λ (h : Half). Fits d (record { course = t'.course; stock = t'.stock; half = h }) w) (sym half)
-    (subst (λ (u : Story). Fits d (record { course = t'.course; stock = t'.stock; half = Rest }) u) (sym is)
-    (subst (λ (s : Stored). Fits d (record { course = t'.course; stock = s; half = Rest }) v) (sym stock)
+    let r = t'.course.endings in
+    let nothing : r.list ≡ [] = left.list ∙ ap (λ (z : Stack). z.list) left.gone.endings ∙ none in
+    let room : t.course.endings.room ≤ r.room = let z : c.endings.room ≡ t.course.endings.room = ap (λ (y : Stack). y.room) left.gone.endings in let q = left.roomy in omega (arith, z, q) in
+    subst (λ (k : Course). Fits d (record { course = k; stock = t'.stock; half = t'.half }) w) (sym left.same)
+    (subst (λ (h : Half). Fits d (record { course = record c { endings = r }; stock = t'.stock; half = h }) w) (sym (half ∙ e))
+    (subst (λ (u : Story). Fits d (record { course = record c { endings = r }; stock = t'.stock; half = Rest }) u) (sym is)
+    (subst (λ (s : Stored). Fits d (record { course = record c { endings = r }; stock = s; half = Rest }) v) (sym stock)
     (record {
       seat = fits.seat;
-      holds = subst (λ (u : Story). Holds d t'.course.holdings.slots.items u) is on.holds;
-      within = on.within;
-      ready = on.ready;
-      still = on.still;
+      holds = subst (λ (u : Story). Holds d c.holdings.slots.items u) is left.gone.holds;
+      within = left.gone.within;
+      ready = left.gone.ready;
+      still = left.gone.still;
       half = idle;
       next = tt;
       stocks = resting d t v fits e;
-    })))
-fits_left d t t' v w n (Some x) last kept kept' fits e is said on half stock =
+      endings = ends_none d (record c { endings = r }) v nothing (let q = fits.endings.roomy in omega (arith, q, room));
+    }))))
+fits_left d t t' v w c n (Some x) last kept kept' fits e none is said left half stock =
     let b = is_last (state v) x in
-    let h : t'.half ≡ cond b (end_as x.kind n x.block) Rest = half ∙ ap (λ (q : Bool). cond q (end_as x.kind n x.block) Rest) said in
-    subst (λ (h : Half). Fits d (record { course = t'.course; stock = t'.stock; half = h }) w) (sym h)
-    (subst (λ (u : Story). Fits d (record { course = t'.course; stock = t'.stock; half = cond b (end_as x.kind n x.block) Rest }) u) (sym is)
-    (fits_leaving d t v t'.course t'.stock n x x.kind b kept fits e (subst (λ (u : Story). Kept u) is kept')
-    (subst (λ (u : Story). HasGoneOn d t.course t'.course u) is on) (subst (λ (q : Bool). IsStocked x.kind x.block.0 q t.stock t'.stock) said stock)))
+    let r = t'.course.endings in
+    let list : r.list ≡ cond b (begins_end_as x.kind n x c.endings.list) c.endings.list =
+    left.list ∙ ap (λ (q : Bool). cond q (begins_end_as x.kind n x c.endings.list) c.endings.list) said in
+    subst (λ (k : Course). Fits d (record { course = k; stock = t'.stock; half = t'.half }) w) (sym left.same)
+    (subst (λ (h : Half). Fits d (record { course = record c { endings = r }; stock = t'.stock; half = h }) w) (sym (half ∙ e))
+    (subst (λ (u : Story). Fits d (record { course = record c { endings = r }; stock = t'.stock; half = Rest }) u) (sym is)
+    (fits_leaving d t v c r t'.stock n x x.kind b kept fits e none (subst (λ (u : Story). Kept u) is kept')
+    (subst (λ (u : Story). HasGoneOn d t.course c u) is left.gone) left.empty list left.roomy
+    (subst (λ (q : Bool). IsStocked x.kind x.block.0 q t.stock t'.stock) said stock))))

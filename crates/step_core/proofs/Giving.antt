@@ -1,5 +1,5 @@
 -- A thread that asks an object for a pointer fits the table.
-use Rattle.std.proofs.Common.{◌≡◌, ℕ, ◌<◌, true, false, length, Some, subst}
+use Rattle.std.proofs.Common.{◌≡◌, ℕ, ◌<◌, true, false, [], length, Some, subst}
 use Rattle.control_word.specs.declared.handle.Kind.{Kind}
 use Rattle.control_word.specs.declared.view.Pending.TheVariants.{Idle}
 use Rattle.step_core.specs.declared.act.Act.{Act}
@@ -30,10 +30,10 @@ refused_this c k q lt ready act =
     record { some = ready.some; free = λ e. ready.free b.1; ready = ready_any n (rest c) r }
 
 -- the object was asked, and gives pointers to itself
-pub fits_asked : (d : ℕ) (t : Thread) (v : Story) (i : ℕ) (q : Kind) (x : Pointer) → Fits d t v → t.half ≡ Rest → t.course.at < length t.course.tasks.items
+pub fits_asked : (d : ℕ) (t : Thread) (v : Story) (i : ℕ) (q : Kind) (x : Pointer) → Fits d t v → t.half ≡ Rest → t.course.endings.list ≡ [] → t.course.at < length t.course.tasks.items
     → (task_at t.course).act ≡ FromThis i q → inside (slot t.course.holdings.slots.items i) ≡ Some x → is_enabled (state v) x ≡ true
     → Fits d (record { course = t.course; stock = t.stock; half = Giving i q x }) v
-fits_asked d t v i q x fits e lt act at enabled =
+fits_asked d t v i q x fits e none lt act at enabled =
     let s = resting d t v fits e in
     let idle : pending v d ≡ Idle = subst (λ (h : Half). HalfFits d h (form_at t.course) v) e fits.half in
     record {
@@ -43,6 +43,7 @@ fits_asked d t v i q x fits e lt act at enabled =
       ready = fits.ready;
       still = fits.still;
       half = record { idle = idle; has = inside_held d t.course.holdings.slots.items v i x fits.holds at; enabled = enabled };
-      next = (lt, act, at);
+      next = (lt, act, at, none);
       stocks = record { stocked = s.stocked; roomy = s.roomy };
+      endings = fits.endings;
     }

@@ -5,7 +5,8 @@ pub mod holding
 pub mod Courses
 pub mod Threads
 pub mod Endings
-pub mod Leaving
+pub mod EndSteps
+pub mod LeaveSteps
 pub mod Giving
 pub mod Steps
 pub mod Worlds

@@ -53,9 +53,9 @@ within [] i (Some k) e = absurd cc
 within (x ∷ xs) zero k e = omega arith
 within (x ∷ xs) (suc i) k e = let r = within xs i k e in omega (arith, r)
 
-clearing_ready : (n k : ℕ) (taken : Bool) → k ≤ n → Ready n taken (clearing k)
-clearing_ready n zero taken le = tt
-clearing_ready n (suc k) taken le = (omega arith, clearing_ready n k taken (omega arith))
+clearing_ready : (n k : ℕ) → k ≤ n → Ready n false (clearing k)
+clearing_ready n zero le = tt
+clearing_ready n (suc k) le = ((omega arith, refl), clearing_ready n k (omega arith))
 
 -- the i-th name of a call
 name_within : (kinds : List Kind) (c : Call) (i : ℕ) (x : Asked) → i < length (names_of c) → x ≡ get_or (names_of c) i x → IsWellNamed kinds c
@@ -65,11 +65,11 @@ name_within kinds c i x lt e named = within kinds x.0.0 x.1 (subst (IsDeclared k
 call_ready : (kinds : List Kind) (k : ℕ) (c : Call) (ts : List Task) → IsWellNamed kinds c → HasFields c → Ready (length kinds) false ts
     → Ready (length kinds) false (numbered k (acts c) ++ ts)
 call_ready kinds k (call.Make t f) ts named four r = ((refl, four), (name_within kinds (call.Make t f) 0 (owner t) (omega arith) refl named, r))
-call_ready kinds k (call.Empty t) ts named four r = (name_within kinds (call.Empty t) 0 (owner t) (omega arith) refl named, r)
-call_ready kinds k (call.Reset t) ts named four r = (name_within kinds (call.Reset t) 0 (owner t) (omega arith) refl named, r)
+call_ready kinds k (call.Empty t) ts named four r = ((name_within kinds (call.Empty t) 0 (owner t) (omega arith) refl named, refl), r)
+call_ready kinds k (call.Reset t) ts named four r = ((name_within kinds (call.Reset t) 0 (owner t) (omega arith) refl named, refl), r)
 call_ready kinds k (call.Count t) ts named four r = (name_within kinds (call.Count t) 0 (owner t) (omega arith) refl named, r)
-call_ready kinds k (call.WeakEmpty t) ts named four r = (name_within kinds (call.WeakEmpty t) 0 (weak t) (omega arith) refl named, r)
-call_ready kinds k (call.WeakReset t) ts named four r = (name_within kinds (call.WeakReset t) 0 (weak t) (omega arith) refl named, r)
+call_ready kinds k (call.WeakEmpty t) ts named four r = ((name_within kinds (call.WeakEmpty t) 0 (weak t) (omega arith) refl named, refl), r)
+call_ready kinds k (call.WeakReset t) ts named four r = ((name_within kinds (call.WeakReset t) 0 (weak t) (omega arith) refl named, refl), r)
 call_ready kinds k (call.WeakCount t) ts named four r = (name_within kinds (call.WeakCount t) 0 (weak t) (omega arith) refl named, r)
 call_ready kinds k (call.Expired t) ts named four r = (name_within kinds (call.Expired t) 0 (weak t) (omega arith) refl named, r)
 call_ready kinds k (call.MakeThis t f) ts named four r = ((refl, four), (name_within kinds (call.MakeThis t f) 0 (owner t) (omega arith) refl named, r))
@@ -121,7 +121,7 @@ call_ready kinds k (call.Upgrade t s) ts named four r = (
 
 tasks_ready : (kinds : List Kind) (k : ℕ) (calls : List Call) → All (IsWellNamed kinds) calls → All HasFields calls
     → Ready (length kinds) false (tasks_from k calls (length kinds))
-tasks_ready kinds k [] named four = clearing_ready (length kinds) (length kinds) false (omega arith)
+tasks_ready kinds k [] named four = clearing_ready (length kinds) (length kinds) (omega arith)
 tasks_ready kinds k (c ∷ cs) named four =
     call_ready kinds k c (tasks_from (k + 1) cs (length kinds)) (All-head (IsWellNamed kinds) c cs named) (All-head HasFields c cs four)
     (tasks_ready kinds (k + 1) cs (All-tail (IsWellNamed kinds) c cs named) (All-tail HasFields c cs four))

@@ -1,5 +1,5 @@
 -- A thread's own deeds keep it fitting the table.
-use Rattle.std.proofs.Common.{◌≡◌, ◌≢◌, ℕ, ◌+◌, ◌<◌, ◌≤◌, ◌==◌, Bool, true, false, cond, not, List, [], ◌∷◌, length, set, get_or, refl, sym}
+use Rattle.std.proofs.Common.{◌≡◌, ◌≢◌, ℕ, ◌+◌, ◌<◌, ◌≤◌, ◌==◌, ◌⊎◌, Bool, true, false, cond, not, List, [], ◌∷◌, length, set, get_or, refl, sym}
 use Rattle.std.proofs.Common.{ap, subst, ◌∙◌}
 use Rattle.std.proofs.Common.{⊎_elim, arith, eq-eqb, get_or-set_same, get_or-set_other, length-set}
 use Rattle.std.specs.List.{All}
@@ -25,11 +25,12 @@ use Rattle.step_core.specs.declared.past.Deed.TheVariants as deed
 use Rattle.step_core.specs.declared.thread.Thread.{Thread}
 use Rattle.step_core.specs.Actors.{HalfFits, IsPrepared, Stocks, in_list, wanted}
 use Rattle.step_core.specs.Courses.{Begins, CourseReady, HasGoneOn, IsReady, Ready, form_of, hand, rest, taken_after, task_at}
-use Rattle.step_core.specs.Scenes.{least}
+use Rattle.step_core.specs.Entries.{least}
 use Rattle.step_core.specs.Stocks.{Stored}
 use Rattle.step_core.specs.Stories.{Kept, Nothing, Story, after, known, pending, pending_after, state}
 use Rattle.step_core.specs.Threads.{Fits, IsNext, form_at}
 use Rattle.step_core.proofs.Courses.{ready_head}
+use Rattle.step_core.proofs.holding.Ends.{ends_gone, ends_none}
 use Rattle.step_core.proofs.holding.Least.{least_stored, none_stored}
 use Rattle.step_core.proofs.holding.Storing.{stocks_claim, stocks_take}
 use Rattle.step_core.proofs.tables.Places.{making_stored, named}
@@ -43,8 +44,8 @@ weaker : (n : ℕ) (act : Act) → Begins n true act → Begins n false act
 weaker n (Make form) b = (refl, b.1)
 weaker n (Share k) b = (b.0, refl)
 weaker n (Put k) b = b
-weaker n (Leave k) b = b
-weaker n (Clear k) b = b
+weaker n (Leave k) b = (b.0, refl)
+weaker n (Clear k) b = (b.0, refl)
 weaker n (Count k) b = b
 weaker n (Downgrade k) b = (b.0, refl)
 weaker n (Lock k must) b = (b.0, refl)
@@ -103,6 +104,15 @@ pub won_ready : (c : Course) (k : ℕ) (must : Bool) → c.at < length c.tasks.i
 won_ready c k must lt ready act =
     let h = ready_head c lt ready in subst (λ (a : Act). Ready (hand c.holdings.slots.items) (taken_after a c.taken) (rest c)) act h.1
 
+-- a name is left with nothing in hand
+pub leave_empty : (c : Course) (k : ℕ) → c.at < length c.tasks.items → CourseReady c → ((task_at c).act ≡ Leave k) ⊎ ((task_at c).act ≡ Clear k)
+    → c.taken ≡ false
+leave_empty c k lt ready act =
+    let n = hand c.holdings.slots.items in
+    let h = (ready_head c lt ready).0 in
+    ⊎_elim (λ (e : (task_at c).act ≡ Leave k). let b : Begins n c.taken (Leave k) = subst (Begins n c.taken) e h in b.1)
+    (λ (e : (task_at c).act ≡ Clear k). let b : Begins n c.taken (Clear k) = subst (Begins n c.taken) e h in b.1) act
+
 -- a make that is refused takes nothing
 pub refused_ready : (c : Course) (form : Form) → c.at < length c.tasks.items → CourseReady c → (task_at c).act ≡ Make form
     → IsReady c.holdings.slots.items c.taken (rest c)
@@ -142,10 +152,10 @@ least_nowhere d t v fits e none =
     none_stored d (state v).stores (λ c. let q = x.stocked c in let z : in_list c t.stock.blocks ≡ 0 = ap (in_list c) none in omega (arith, q, z))
 
 pub fits_prepare : (d : ℕ) (t : Thread) (v : Story) (b : Block) (s : Stored) (form : Form) → Kept v → Fits d t v → t.half ≡ Rest
-    → t.course.at < length t.course.tasks.items → (task_at t.course).act ≡ Make form → IsPermutation t.stock.blocks (b.0 ∷ s.blocks)
-    → All (λ c. b.0 ≤ c) t.stock.blocks → s.room ≡ t.stock.room
+    → t.course.endings.list ≡ [] → t.course.at < length t.course.tasks.items → (task_at t.course).act ≡ Make form
+    → IsPermutation t.stock.blocks (b.0 ∷ s.blocks) → All (λ c. b.0 ≤ c) t.stock.blocks → s.room ≡ t.stock.room
     → Fits d (record { course = t.course; stock = s; half = Making b 0 false }) (after v d (deed.Prepare b))
-fits_prepare d t v b s form kept fits e lt act p all room =
+fits_prepare d t v b s form kept fits e none lt act p all room =
     let o = own_pending v d (deed.Prepare b) kept fits.seat in
     let x = stocks_take d t.stock.blocks s.blocks t.stock.room 0 false v b (resting d t v fits e) p in
     record {
@@ -161,8 +171,9 @@ fits_prepare d t v b s form kept fits e lt act p all room =
             least = least_here d t v b s fits e p all;
             done = λ j l. absurd (omega arith);
           };
-      next = (lt, next_here t.course form act);
+      next = (lt, next_here t.course form act, none);
       stocks = record { stocked = x.stocked; roomy = (let q = x.roomy in omega (arith, q, room)) };
+      endings = ends_none d t.course (after v d (deed.Prepare b)) none fits.endings.roomy;
     }
 
 pub fits_look : (d : ℕ) (t : Thread) (v : Story) (b : Block) (i n : ℕ) (same : Bool) → Fits d t v → t.half ≡ Making b i false → i < 5
@@ -193,6 +204,7 @@ fits_look d t v b i n same fits e lt is here =
           };
       next = y;
       stocks = record { stocked = x.stocked; roomy = x.roomy };
+      endings = fits.endings;
     }
 
 pub fits_write : (d : ℕ) (t : Thread) (v : Story) (b : Block) (i : ℕ) → Kept v → Fits d t v → t.half ≡ Making b i true → i < 5
@@ -226,6 +238,7 @@ fits_write d t v b i kept fits e lt =
           };
       next = y;
       stocks = record { stocked = x.stocked; roomy = x.roomy };
+      endings = ends_none d t.course (after v d (deed.Write b i n)) y.2 fits.endings.roomy;
     }
 
 pub fits_claim : (d : ℕ) (t : Thread) (v : Story) (b : Block) (f : Bool) (form : Form) (c : Course) → Kept v → Fits d t v → t.half ≡ Making b 5 f
@@ -234,6 +247,7 @@ pub fits_claim : (d : ℕ) (t : Thread) (v : Story) (b : Block) (f : Bool) (form
 fits_claim d t v b f form c kept fits e on =
     let p = prepared d t v b 5 f fits e in
     let x : Stocks d t.stock.blocks t.stock.room (Making b 5 f) v = subst (λ (h : Half). Stocks d t.stock.blocks t.stock.room h v) e fits.stocks in
+    let y : IsNext (Making b 5 f) t.course = subst (λ (h : Half). IsNext h t.course) e fits.next in
     let has = subst (λ (n : ℕ). Has (stored n b.0) (state v).stores) (named v d kept fits.seat)
     (making_stored v d b p.making.words kept fits.seat p.making.making) in
     record {
@@ -245,4 +259,5 @@ fits_claim d t v b f form c kept fits e on =
       half = own_pending v d (deed.Claim b form.enabled form.null form.fields) kept fits.seat;
       next = tt;
       stocks = stocks_claim d t.stock.blocks t.stock.room 5 f v b form x has;
+      endings = ends_gone d t.course c v (after v d (deed.Claim b form.enabled form.null form.fields)) fits.endings y.2 on.endings refl;
     }

@@ -1,26 +1,29 @@
 -- A step of one thread keeps all of them fitting the table.
-use Rattle.std.proofs.Common.{◌≡◌, ◌≢◌, ℕ, zero, suc, ◌<◌, List, [], ◌∷◌, length, set, get_or, refl, sym, ap, subst, ◌∙◌, ⊎_elim, arith}
+use Rattle.std.proofs.Common.{◌≡◌, ◌≢◌, ◌⊎◌, inl, inr, false, All, ◌≤◌, ℕ, zero, suc, ◌<◌, List, [], ◌∷◌, length, set, get_or, refl, sym, ap, subst, ◌∙◌, ⊎_elim, arith}
 use Rattle.std.specs.Prelude.{Option, None, Some, slice_get, map}
 use Rattle.std.proofs.lemmas.List.{get_or-map, length-map, map-set}
 use Rattle.std.proofs.lemmas.Bool.{cases_eq}
 use Rattle.std.proofs.lemmas.Option.{same_Some, slice_get-get_or}
 use Rattle.step_core.specs.declared.act.Task.{Task}
 use Rattle.step_core.specs.declared.course.Course.{Course}
+use Rattle.step_core.specs.declared.ending.Ending.{Ending}
+use Rattle.step_core.specs.declared.slot.Slot.{Slot}
+use Rattle.step_core.specs.Holdings.{is_full, pointer_of, slot}
 use Rattle.step_core.specs.declared.past.Deed.{Deed}
 use Rattle.step_core.specs.declared.said.Stepped.{Stepped}
 use Rattle.step_core.specs.declared.half.Half.{Half}
-use Rattle.step_core.specs.declared.half.Half.TheVariants.{Rest, Making, Ending, Locking, Giving}
+use Rattle.step_core.specs.declared.half.Half.TheVariants.{Rest, Making, Locking, Giving}
 use Rattle.step_core.specs.declared.thread.Thread.{Thread}
 use Rattle.step_core.specs.Actors.{HalfFits}
-use Rattle.step_core.specs.Courses.{Walk, todo, walk}
+use Rattle.step_core.specs.Courses.{Walk, hand, todo, walk}
 use Rattle.step_core.specs.Scenes.{nowhere, walk_of}
 use Rattle.step_core.specs.Steps.{Step, half_by, step_at, stepped, story_after, story_by, walk_by}
-use Rattle.step_core.specs.Stories.{Kept, Story, after}
+use Rattle.step_core.specs.Stories.{AllBare, Kept, Story, after, state}
 use Rattle.step_core.specs.Threads.{Fits, HasStepped, IsNext, form_at}
-use Rattle.step_core.specs.Turning.{HasBegun, IsLock, IsTried, IsUnderWay}
+use Rattle.step_core.specs.Turning.{HasBegun, IsAlone, IsLock, IsTried, IsUnderWay}
 use Rattle.step_core.specs.Worlds.{AllFit, Sight, Steps, half_of, scene, step_of, thread_half, thread_walk}
 use Rattle.step_core.proofs.Courses.{todo_at}
-use Rattle.step_core.proofs.holding.Others.{half_others, holds_others, stocks_others}
+use Rattle.step_core.proofs.holding.Others.{ends_others, half_others, holds_others, stocks_others}
 
 module _ {X : Type 0} where
   get_other : (xs : List X) (i j : ℕ) (y : X) → j ≢ i → slice_get (set xs i y) j ≡ slice_get xs j
@@ -46,6 +49,11 @@ fits_others d u v n x ne kept kept' fits =
       half = half_others d u.half (form_at u.course) v n x ne kept kept' fits.half;
       next = fits.next;
       stocks = stocks_others d u.stock.blocks u.stock.room u.half v n x ne fits.stocks;
+      endings = record {
+        all = ends_others d u.course.endings.list v n x ne kept kept' fits.endings.all;
+        roomy = fits.endings.roomy;
+        empty = fits.endings.empty;
+      };
     }
 
 fits_deed : (d : ℕ) (u : Thread) (v v' : Story) (n : ℕ) (x : Deed) → n ≢ d → Kept v → Kept v' → v' ≡ after v n x → Fits d u v → Fits d u v'
@@ -108,7 +116,6 @@ begun_of : (d : ℕ) (h : Half) (c : Course) (v : Story) → HalfFits d h (form_
 begun_of d Rest c v fits next = tt
 begun_of d (Making b i differs) c v fits next =
     subst (λ (ts : List Task). IsUnderWay d v (Making b i differs) ts) (sym (todo_at c next.0)) (fits.within, fits.least, next.1)
-begun_of d (Ending b stage k) c v fits next = fits.within
 begun_of d (Locking word) c v fits next = tt
 begun_of d (Giving i kind x) c v fits next =
     subst (λ (ts : List Task). IsUnderWay d v (Giving i kind x) ts) (sym (todo_at c next.0)) (next.1, fits.enabled)
@@ -116,21 +123,43 @@ begun_of d (Giving i kind x) c v fits next =
 tried_of : (h : Half) (c : Course) → IsNext h c → IsTried h (walk c)
 tried_of Rest c next = tt
 tried_of (Making b i differs) c next = tt
-tried_of (Ending b stage k) c next = tt
 tried_of (Locking word) c next = subst (λ (ts : List Task). IsLock c.holdings.slots.items ts) (sym (todo_at c next.0)) next.1
 tried_of (Giving i kind x) c next = next.2
 
-pub has_begun : (v : Story) (threads : List Thread) (n : ℕ) (t : Thread) → n < length threads → t ≡ get_or threads n t → Fits n t v
+alone_of : (h : Half) (c : Course) → IsNext h c → IsAlone h c.endings.list
+alone_of Rest c next = tt
+alone_of (Making b i differs) c next = next.2
+alone_of (Locking word) c next = next.2
+alone_of (Giving i kind x) c next = next.3
+
+-- where an object ends nothing is in hand
+free_of : (d : ℕ) (t : Thread) (v : Story) → Fits d t v
+    → ((walk t.course).endings ≡ []) ⊎ (is_full (slot (walk t.course).slots (hand (walk t.course).slots)) ≡ false)
+free_of d t v fits =
+    ⊎_elim (λ (e : t.course.endings.list ≡ []). inl e)
+    (λ (e : t.course.taken ≡ false). inr (ap (λ (x : Slot). is_full (pointer_of x)) (fits.ready.free e))) fits.endings.empty
+
+pub has_begun : (v : Story) (threads : List Thread) (n : ℕ) (t : Thread) → n < length threads → t ≡ get_or threads n t → Fits n t v → AllBare (state v)
     → HasBegun n (sight v threads)
-has_begun v threads n t lt read fits =
+has_begun v threads n t lt read fits bare =
     let h : get_or (map thread_half threads) n Rest ≡ t.half = get_or-map thread_half threads n t Rest lt ∙ ap thread_half (sym read) in
     let w : get_or (map thread_walk threads) n nowhere ≡ walk t.course = get_or-map thread_walk threads n t nowhere lt ∙ ap thread_walk (sym read) in
     record {
       within = (let m = length-map threads thread_half in omega (arith, m, lt));
+      walks = (let m = length-map threads thread_walk in omega (arith, m, lt));
       tried =
           subst (λ (k : Walk). IsTried (get_or (map thread_half threads) n Rest) k) (sym w)
           (subst (λ (k : Half). IsTried k (walk t.course)) (sym h) (tried_of t.half t.course fits.next));
       half =
           subst (λ (k : Walk). IsUnderWay n v (get_or (map thread_half threads) n Rest) k.todo) (sym w)
           (subst (λ (k : Half). IsUnderWay n v k (todo t.course)) (sym h) (begun_of n t.half t.course v fits.half fits.next));
+      alone =
+          subst (λ (k : Walk). IsAlone (get_or (map thread_half threads) n Rest) k.endings) (sym w)
+          (subst (λ (k : Half). IsAlone k t.course.endings.list) (sym h) (alone_of t.half t.course fits.next));
+      staged =
+          subst (λ (k : Walk). All (λ (e : Ending). e.stage ≤ 3) k.endings) (sym w)
+          (λ i e less. (fits.endings.all.each i e less).within);
+      free =
+          subst (λ (k : Walk). (k.endings ≡ []) ⊎ (is_full (slot k.slots (hand k.slots)) ≡ false)) (sym w) (free_of n t v fits);
+      bare = bare;
     }

@@ -1,3 +1,4 @@
+pub mod Ends
 pub mod Inside
 pub mod Least
 pub mod Locking

@@ -1,3 +1,5 @@
+pub mod Walking
+pub mod Order
 pub mod Counting
 pub mod Ending
 pub mod Stepping

@@ -3,15 +3,15 @@ use Rattle.std.specs.Prelude.{◌≡◌, ℕ, ◌+◌, ◌<◌, ◌≤◌, ◌==
 use Rattle.std.specs.List.{filter}
 use Rattle.control_word.specs.declared.place.Block.{Block}
 use Rattle.control_word.specs.declared.view.Pending.TheVariants.{Idle}
-use Rattle.control_word.specs.State.{Has, State, ending, held, same_stored, stored}
+use Rattle.control_word.specs.State.{Has, State, held, same_stored, stored}
 use Rattle.step_core.specs.declared.act.Form.{Form}
 use Rattle.control_word.specs.Words.{flags_of}
 use Rattle.step_core.specs.declared.half.Half.{Half}
-use Rattle.step_core.specs.declared.half.Half.TheVariants.{Rest, Making, Ending, Locking, Giving}
+use Rattle.step_core.specs.declared.half.Half.TheVariants.{Rest, Making, Locking, Giving}
 use Rattle.step_core.specs.declared.holdings.Pointer.{Pointer}
 use Rattle.step_core.specs.Deeds.{is_enabled}
-use Rattle.step_core.specs.Scenes.{least}
-use Rattle.step_core.specs.Stories.{IsMaking, Story, handle_in, known, object_in, pending, state}
+use Rattle.step_core.specs.Entries.{least}
+use Rattle.step_core.specs.Stories.{IsMaking, Story, handle_in, known, pending, state}
 
 -- how often the desk has the block in its store, and how often a list has it
 abbrev pub in_store : State → ℕ → ℕ → ℕ
@@ -24,7 +24,6 @@ in_list b l = sum_by (λ c. cond (c == b) 1 0) l
 abbrev pub claimed : Half → ℕ → ℕ
 claimed Rest b = 0
 claimed (Making c i differs) b = cond (c.0 == b) 1 0
-claimed (Ending c at k) b = 0
 claimed (Locking found) b = 0
 claimed (Giving i kind x) b = 0
 
@@ -50,15 +49,8 @@ pub record IsGiving (d : ℕ) (x : Pointer) (v : Story) : Type 0 where
   pub has : Has (held d (handle_in v x.kind x.block x.place)) (state v).hands
   pub enabled : is_enabled (state v) x ≡ true
 
--- the object ends in the desk's hands
-pub record IsEnding (d : ℕ) (b : Block) (at : ℕ) (v : Story) : Type 0 where
-  pub idle : pending v d ≡ Idle
-  pub ending : ((state v).object (object_in v b)).phase ≡ ending d
-  pub within : at ≤ 3
-
 abbrev pub HalfFits : ℕ → Half → Form → Story → Type 0
 HalfFits d Rest form v = pending v d ≡ Idle
 HalfFits d (Making b i differs) form v = IsPrepared d b i form v
-HalfFits d (Ending b at k) form v = IsEnding d b at v
 HalfFits d (Locking found) form v = (pending v d ≡ Idle) × (0 < found)
 HalfFits d (Giving i kind x) form v = IsGiving d x v

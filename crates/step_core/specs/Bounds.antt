@@ -1,24 +1,57 @@
 -- How many steps a world has left at most. All of it is own.
-use Rattle.std.specs.Prelude.{ℕ, ◌+◌, ◌-◌, ◌*◌, cond, length, sum_by}
+use Rattle.std.specs.Prelude.{ℕ, ◌+◌, ◌-◌, ◌*◌, cond, List, [], ◌∷◌, drop, sum_by}
+use Rattle.step_core.specs.declared.act.Act.{Act}
+use Rattle.step_core.specs.declared.act.Act.TheVariants.{Make}
+use Rattle.step_core.specs.declared.act.Task.{Task}
+use Rattle.step_core.specs.declared.ending.Ending.{Ending}
 use Rattle.step_core.specs.declared.half.Half.{Half}
-use Rattle.step_core.specs.declared.half.Half.TheVariants.{Rest, Making, Ending, Locking, Giving}
+use Rattle.step_core.specs.declared.half.Half.TheVariants.{Rest, Making, Locking, Giving}
 use Rattle.step_core.specs.declared.thread.Thread.{Thread}
-use Rattle.step_core.specs.Told.{left_to_do}
+use Rattle.step_core.specs.Courses.{Walk, hand, todo}
+use Rattle.step_core.specs.Holdings.{Slots, is_full, slot}
+use Rattle.step_core.specs.Totals.{ended_in, made_in}
 use Rattle.step_core.specs.Worlds.{Sight}
 
--- A task takes 13 steps at most: a make prepares its block, looks at five words and writes them, and claims. A thread at rest
--- has 13 more to spare, which what it begins uses up. A lock that is tried keeps them all: where others changed its word it may
--- have to begin again
+-- What a task has for its steps. A make prepares its block, looks at five words and writes them, and claims; and its object
+-- may end, which takes 13 steps. Any other act takes two at most
+abbrev pub weight : Act → ℕ
+weight (Make form) = 28
+weight _ = 2
+
+-- What a half has to spare, whatever others do: a thread at rest has 15, which what it begins uses up. A lock that is tried
+-- keeps them all: where others changed its word it may have to begin again
 abbrev pub spare : Half → ℕ
-spare Rest = 13
+spare Rest = 15
 spare (Making b i differs) = 2 * (5 - i) + cond differs 1 2
-spare (Ending b stage k) = 13 + (4 - stage)
-spare (Locking word) = 13
-spare (Giving i kind x) = 12
+spare (Locking word) = 15
+spare (Giving i kind x) = 14
+
+-- the steps that the end of an object has left: four for each member, as what comes out of it has to leave, and the last
+abbrev pub ending_steps : Ending → ℕ
+ending_steps e = 4 * (3 - e.stage) + 1
+
+-- what came out of a member has to leave
+abbrev pub carried : List Ending → Slots → ℕ
+carried [] slots = 0
+carried (e ∷ es) slots = cond (is_full (slot slots (hand slots))) 1 0
+
+-- the steps that a thread's tasks and endings have left
+abbrev pub task_steps : List Task → ℕ
+task_steps ts = sum_by (λ (t : Task). weight t.act) ts
+
+abbrev pub walk_steps : Walk → ℕ
+walk_steps w = task_steps w.todo + sum_by ending_steps w.endings + carried w.endings w.slots
+
+-- those that a thread has left, but for what came out of a member
+abbrev pub steps_of : Thread → ℕ
+steps_of t = task_steps (todo t.course) + sum_by ending_steps t.course.endings.list
+
+abbrev pub left_to_do : List Walk → ℕ
+left_to_do walks = sum_by walk_steps walks
+
+-- the objects whose last owner hasn't left: each may have to end
+abbrev pub living : Sight → ℕ
+living u = made_in u.story.history - ended_in u.story.history
 
 abbrev pub most_steps : Sight → ℕ
-most_steps u = 13 * left_to_do u.walks + sum_by spare u.halves
-
--- how many tasks a thread has left
-abbrev pub tasks_of : Thread → ℕ
-tasks_of t = length t.course.tasks.items - t.course.at
+most_steps u = left_to_do u.walks + sum_by spare u.halves + 13 * living u

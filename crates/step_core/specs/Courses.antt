@@ -7,6 +7,7 @@ use Rattle.step_core.specs.declared.act.Question.{Question}
 use Rattle.step_core.specs.declared.act.Question.TheVariants as question
 use Rattle.step_core.specs.declared.act.Task.{Task}
 use Rattle.step_core.specs.declared.course.Course.{Course}
+use Rattle.step_core.specs.declared.ending.Ending.{Ending}
 use Rattle.step_core.specs.Holdings.{Holds, Slots, is_full, plain, slot, value, weak_slot}
 use Rattle.control_word.specs.declared.view.Pending.TheVariants.{Idle}
 use Rattle.step_core.specs.declared.holdings.Pointer.{Pointer}
@@ -53,16 +54,19 @@ abbrev pub taken_idle : Act → Bool → Bool
 taken_idle (Put k) taken = false
 taken_idle _ taken = taken
 
+-- where a thread is: what it holds, the objects that end in its hands, the one begun last first, and its tasks
 pub record Walk : Type 0 where
   pub slots : Slots
   pub taken : Bool
+  pub endings : List Ending
   pub todo : List Task
 
 -- the thread at its next act
-abbrev pub settled : Slots → Bool → List Task → Walk
-settled slots taken [] = record { slots = slots; taken = taken; todo = [] }
-settled slots taken (t ∷ ts) =
-    cond (idle t.act slots taken) (settled (slots_idle t.act slots taken) (taken_idle t.act taken) ts) (record { slots = slots; taken = taken; todo = t ∷ ts })
+abbrev pub settled : Slots → Bool → List Ending → List Task → Walk
+settled slots taken endings [] = record { slots = slots; taken = taken; endings = endings; todo = [] }
+settled slots taken endings (t ∷ ts) =
+    cond (idle t.act slots taken) (settled (slots_idle t.act slots taken) (taken_idle t.act taken) endings ts)
+    (record { slots = slots; taken = taken; endings = endings; todo = t ∷ ts })
 
 -- a question about some of n names
 abbrev pub IsAbout : ℕ → Question → Type 0
@@ -75,8 +79,8 @@ abbrev pub Begins : ℕ → Bool → Act → Type 0
 Begins n taken (Make form) = (taken ≡ false) × (length form.fields ≡ 4)
 Begins n taken (Share k) = (k < n) × (taken ≡ false)
 Begins n taken (Put k) = k < n
-Begins n taken (Leave k) = k < n
-Begins n taken (Clear k) = k < n
+Begins n taken (Leave k) = (k < n) × (taken ≡ false)
+Begins n taken (Clear k) = (k < n) × (taken ≡ false)
 Begins n taken (Count k) = k < n
 Begins n taken (Downgrade k) = (k < n) × (taken ≡ false)
 Begins n taken (Lock k must) = (k < n) × (taken ≡ false)
@@ -118,7 +122,7 @@ abbrev pub task_at : Course → Task
 task_at c = get_or c.tasks.items c.at no_task
 
 abbrev pub walk : Course → Walk
-walk c = record { slots = c.holdings.slots.items; taken = c.taken; todo = todo c }
+walk c = record { slots = c.holdings.slots.items; taken = c.taken; endings = c.endings.list; todo = todo c }
 
 abbrev pub CourseReady : Course → Type 0
 CourseReady c = IsReady c.holdings.slots.items c.taken (todo c)
@@ -129,12 +133,13 @@ pub record IsPassed (a b : Course) : Type 0 where
   pub taken : b.taken ≡ taken_idle (task_at a).act a.taken
   pub at : b.at ≡ a.at + 1
   pub tasks : b.tasks ≡ a.tasks
+  pub endings : b.endings ≡ a.endings
   pub holds : (d : ℕ) (v : Story) → Holds d a.holdings.slots.items v → Holds d b.holdings.slots.items v
 
 abbrev pub CourseStill : Course → Type 0
 CourseStill c = c.at < length c.tasks.items → idle (task_at c).act c.holdings.slots.items c.taken ≡ false
 
--- the thread is at an act, and no call of its desk is half done
+-- the thread is at an act, no object ends in its hands, and no call of its desk is half done
 pub record CanAct (d : ℕ) (c : Course) (v : Story) : Type 0 where
   pub seat : d < v.extent.actors
   pub idle : pending v d ≡ Idle
@@ -142,11 +147,13 @@ pub record CanAct (d : ℕ) (c : Course) (v : Story) : Type 0 where
   pub within : c.at < length c.tasks.items
   pub ready : CourseReady c
   pub still : CourseStill c
+  pub ended : c.endings.list ≡ []
 
 -- the thread is at a later act, or at its end
 pub record HasGoneOn (d : ℕ) (c c' : Course) (v : Story) : Type 0 where
   pub holds : Holds d c'.holdings.slots.items v
   pub tasks : c'.tasks ≡ c.tasks
+  pub endings : c'.endings ≡ c.endings
   pub within : c'.at ≤ length c'.tasks.items
   pub onward : c.at < c'.at
   pub ready : CourseReady c'

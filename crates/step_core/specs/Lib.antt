@@ -3,6 +3,8 @@ pub mod Bounds
 pub mod Acts
 pub mod Courses
 pub mod Deeds
+pub mod Endings
+pub mod Entries
 pub mod Headline
 pub mod Holdings
 pub mod Openings

@@ -24,6 +24,7 @@ reached u (x ∷ xs) = reached (sight_by (x.actor - 1) u (step_of (x.actor - 1) 
 -- thread d has made its last act, and ended its last object
 pub record IsOver (d : ℕ) (u : Sight) : Type 0 where
   pub walk : (walk_of (scene u) d).todo ≡ []
+  pub endings : (walk_of (scene u) d).endings ≡ []
   pub half : half_of u d ≡ Rest
 
 -- the step is one of thread d, which wasn't at its end

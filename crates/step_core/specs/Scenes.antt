@@ -9,9 +9,9 @@ use Rattle.control_word.specs.declared.handle.Kind.TheVariants.{Owner, Weak}
 use Rattle.control_word.specs.declared.place.Place.{Place}
 use Rattle.control_word.specs.declared.refusal.Refusal.TheVariants.{BadWeak, Full, NotEnabled, Null, Outside}
 use Rattle.control_word.specs.Events.{origin, place_at}
-use Rattle.control_word.specs.Handles.{empty, handle, owner, weak_of, owner_before, same_place}
+use Rattle.control_word.specs.Handles.{empty, handle, has_object, owner, weak_of, owner_before, same_place}
 use Rattle.control_word.specs.Histories.{entry, leads}
-use Rattle.control_word.specs.State.{Object, Opening, State, Stored, count, kind_of_member, weak}
+use Rattle.control_word.specs.State.{Object, Opening, State, Stored, count, weak}
 use Rattle.control_word.specs.Words.{blocks_of}
 use Rattle.step_core.specs.declared.act.Act.{Act}
 use Rattle.step_core.specs.declared.act.Form.{Form}
@@ -20,6 +20,7 @@ use Rattle.step_core.specs.declared.act.Question.{Question}
 use Rattle.step_core.specs.declared.act.Question.TheVariants as question
 use Rattle.step_core.specs.declared.act.Task.{Task}
 use Rattle.step_core.specs.declared.call.Field.{Field}
+use Rattle.step_core.specs.declared.ending.Ending.{Ending}
 use Rattle.step_core.specs.declared.extent.Extent.{Extent}
 use Rattle.step_core.specs.declared.holdings.Pointer.{Pointer}
 use Rattle.step_core.specs.declared.said.Answer.{Answer}
@@ -34,9 +35,7 @@ use Rattle.step_core.specs.Holdings.{Slots, filled, inside, is_full, place_in, p
 use Rattle.step_core.specs.declared.slot.Slot.{Slot}
 use Rattle.step_core.specs.Openings.{opening}
 use Rattle.step_core.specs.Stories.{Nothing}
-
-abbrev pub History : Type 0
-History = List (Entry Nothing)
+use Rattle.step_core.specs.Entries.{History, lesser, least, handle_of, on, leaves, giving, acted}
 
 -- the history so far, and where each thread is
 pub record Scene : Type 0 where
@@ -44,117 +43,23 @@ pub record Scene : Type 0 where
   pub history : History
   pub walks : List Walk
 
--- the least block in a desk's store
-abbrev pub lesser : ℕ → Option ℕ → Option ℕ
-lesser b None = Some b
-lesser b (Some c) = Some (min b c)
-
-abbrev pub least : ℕ → List Stored → Option ℕ
-least d [] = None
-least d (x ∷ xs) = cond (x.desk == d) (lesser x.block (least d xs)) (least d xs)
-
--- a pointer as histories name it
-abbrev pub handle_of : State → Pointer → Handle
-handle_of s x = handle x.kind (Some (owned s x)) x.place
-
-abbrev pub on : {A : Type 0} → (Pointer → A) → A → Option Pointer → A
-on f none None = none
-on f none (Some x) = f x
-
-abbrev pub made : ℕ → Form → History → Option ℕ → History
-made d form h None = h
-made d form h (Some b) = entry d (event.Make (record { 0 = b }) form.enabled form.null form.fields tt) ∷ h
-
-abbrev pub clears : ℕ → ℕ → ℕ → History → History
-clears d o m h = entry d (event.ClearMember o m (empty (kind_of_member m))) ∷ h
-
--- an object ends: its members that are left are cleared in order, and then it is finished
-abbrev pub ends : Opening → ℕ → ℕ → ℕ → History → History
-ends z d o zero h = entry d (event.Finish o (weak (leads z h) o == 0) tt) ∷ h
-ends z d o (suc k) h = ends z d o k (clears d o (2 - k) h)
-
--- a pointer leaves, and the last owner's object ends
-abbrev pub left_as : Kind → State → Pointer → Bool → Event Nothing
-left_as Owner s x last = event.Leave (owner (owned s x) x.place) last
-left_as Weak s x last = event.WeakLeave (weak_of (owned s x) x.place) last
-
-abbrev pub ends_as : Kind → Opening → ℕ → ℕ → History → History
-ends_as Owner z d o h = ends z d o 3 h
-ends_as Weak z d o h = h
-
-abbrev pub leaves : Opening → ℕ → History → Pointer → History
-leaves z d h x =
-    let s = leads z h in
-    let left = entry d (left_as x.kind s x (is_last s x)) ∷ h in cond (is_last s x) (ends_as x.kind z d (owned s x) left) left
-
-abbrev pub shared_as : Kind → State → Pointer → Event Nothing
-shared_as Owner s x = event.Share (owner (owned s x) x.place) x.place
-shared_as Weak s x = event.WeakShare (owned s x) x.place
-
-abbrev pub shares : Opening → ℕ → History → Pointer → History
-shares z d h x = let s = leads z h in entry d (shared_as x.kind s x) ∷ h
-
-abbrev pub aliases : Option Place → Opening → ℕ → History → Pointer → History
-aliases p z d h x = entry d (event.Share (owner (owned (leads z h) x) x.place) p) ∷ h
-
-abbrev pub downgrades : Opening → ℕ → History → Pointer → History
-downgrades z d h x = entry d (event.WeakShare (owned (leads z h) x) x.place) ∷ h
-
-abbrev pub locks : Opening → ℕ → History → Pointer → History
-locks z d h x = let s = leads z h in entry d (event.Lock (weak_of (owned s x) x.place) (not (is_expired s x))) ∷ h
-
-abbrev pub counts : Opening → ℕ → History → Pointer → History
-counts z d h x = let s = leads z h in entry d (event.Count (handle_of s x) (count s (owned s x))) ∷ h
-
-abbrev pub expires : Opening → ℕ → History → Pointer → History
-expires z d h x = let s = leads z h in entry d (event.Expired (handle_of s x) (is_expired s x)) ∷ h
-
-abbrev pub reads : Opening → ℕ → History → Pointer → History
-reads z d h x = let s = leads z h in entry d (event.Read (owner (owned s x) x.place) (field_of s x)) ∷ h
-
--- an owner's object gives a pointer to itself
-abbrev pub given_as : Kind → State → Pointer → Event Nothing
-given_as Owner s x = event.Share (owner (owned s x) x.place) (place_at x.block.0)
-given_as Weak s x = event.WeakShare (owned s x) (place_at x.block.0)
-
-abbrev pub gives : Kind → Opening → ℕ → History → Pointer → History
-gives k z d h x = let s = leads z h in entry d (given_as k s x) ∷ h
-
--- the pointer whose object gives pointers to itself
-abbrev pub giving : State → Option Pointer → Option Pointer
-giving s None = None
-giving s (Some x) = cond (is_enabled s x) (Some x) None
-
--- the history after an act of a desk whose thread has this in its slots
-abbrev pub acted : Opening → ℕ → Slots → History → Act → History
-acted z d slots h (Make form) = made d form h (least d (leads z h).stores)
-acted z d slots h (Share k) = on (shares z d h) h (slot slots k)
-acted z d slots h (Put k) = on (leaves z d h) h (slot slots k)
-acted z d slots h (Leave k) = on (leaves z d h) h (slot slots k)
-acted z d slots h (Clear k) = on (leaves z d h) h (slot slots k)
-acted z d slots h (Count k) = on (counts z d h) h (slot slots k)
-acted z d slots h (Downgrade k) = on (downgrades z d h) h (slot slots k)
-acted z d slots h (Lock k must) = on (locks z d h) h (locked slots (Lock k must))
-acted z d slots h (Expired k) = on (expires z d h) h (slot slots k)
-acted z d slots h (Read k) = on (reads z d h) h (inside (slot slots k))
-acted z d slots h (FromThis k kind) = on (gives kind z d h) h (giving (leads z h) (inside (slot slots k)))
-acted z d slots h (Alias k j field) = on (aliases (aliased field (place_in slots j)) z d h) h (owner_slot (slot slots k))
-acted z d slots h (Move k) = h
-acted z d slots h (Ask q) = h
+-- what a thread has in its slots, and whether something is in hand
+abbrev pub Hands : Type 0
+Hands = Slots × Bool
 
 -- a new object's owner is in hand, or the rest of the statement is passed over
-abbrev pub holding : Slots → List Task → Bool → Option ℕ → Walk
-holding slots rest null None = settled slots false rest
-holding slots rest null (Some b) = settled (slice_set slots (hand slots) (Full (record { kind = Owner; block = record { 0 = b }; place = origin b null }))) true rest
+abbrev pub holding : Slots → Bool → Option ℕ → Hands
+holding slots null None = (slots, false)
+holding slots null (Some b) = (slice_set slots (hand slots) (Full (record { kind = Owner; block = record { 0 = b }; place = origin b null })), true)
 
 -- what a lock finds: an owner, where there is a weak pointer and an owner is left
 abbrev pub found : State → Option Pointer → Option Pointer
 found s x = on (owner_left s) None x
 
 -- what was found is in hand; where nothing was and it must be, the rest of the statement is passed over
-abbrev pub taking : Slots → Bool → List Task → Option Pointer → Walk
-taking slots must rest None = settled slots (not must) rest
-taking slots must rest (Some x) = settled (slice_set slots (hand slots) (Full x)) true rest
+abbrev pub taking : Slots → Bool → Option Pointer → Hands
+taking slots must None = (slots, not must)
+taking slots must (Some x) = (slice_set slots (hand slots) (Full x), true)
 
 -- an alias with this place: an owner, or an empty pointer, has it
 abbrev pub alias_of : Option Place → Option Pointer → Slot
@@ -164,22 +69,108 @@ alias_of p (Some x) = Full (at_place p x)
 abbrev pub alias_in : Slots → ℕ → ℕ → Option Field → Slot
 alias_in slots k j field = alias_of (aliased field (place_in slots j)) (owner_slot (slot slots k))
 
--- where the thread is after it
-abbrev pub went : State → ℕ → Slots → Bool → List Task → Act → Walk
-went s d slots taken rest (Make form) = holding slots rest form.null (least d s.stores)
-went s d slots taken rest (Share k) = settled (slice_set slots (hand slots) (value slots k)) true rest
-went s d slots taken rest (Put k) = settled (placed k (slice_set slots k plain)) false rest
-went s d slots taken rest (Leave k) = settled (slice_set slots k plain) taken rest
-went s d slots taken rest (Clear k) = settled (slice_set slots k plain) taken rest
-went s d slots taken rest (Count k) = settled slots taken rest
-went s d slots taken rest (Downgrade k) = settled (slice_set slots (hand slots) (filled (option_map as_weak (slot slots k)))) true rest
-went s d slots taken rest (Lock k must) = taking slots must rest (found s (locked slots (Lock k must)))
-went s d slots taken rest (Expired k) = settled slots taken rest
-went s d slots taken rest (Read k) = settled slots taken rest
-went s d slots taken rest (FromThis k kind) = taking slots true rest (option_map (this_as kind) (giving s (inside (slot slots k))))
-went s d slots taken rest (Alias k j field) = settled (slice_set slots (hand slots) (alias_in slots k j field)) true rest
-went s d slots taken rest (Move k) = settled (passed k (hand slots) slots) true rest
-went s d slots taken rest (Ask q) = settled slots taken rest
+-- what it has by an act
+abbrev pub hands : State → ℕ → Slots → Bool → Act → Hands
+hands s d slots taken (Make form) = holding slots form.null (least d s.stores)
+hands s d slots taken (Share k) = (slice_set slots (hand slots) (value slots k), true)
+hands s d slots taken (Put k) = (placed k (slice_set slots k plain), false)
+hands s d slots taken (Leave k) = (slice_set slots k plain, taken)
+hands s d slots taken (Clear k) = (slice_set slots k plain, taken)
+hands s d slots taken (Count k) = (slots, taken)
+hands s d slots taken (Downgrade k) = (slice_set slots (hand slots) (filled (option_map as_weak (slot slots k))), true)
+hands s d slots taken (Lock k must) = taking slots must (found s (locked slots (Lock k must)))
+hands s d slots taken (Expired k) = (slots, taken)
+hands s d slots taken (Read k) = (slots, taken)
+hands s d slots taken (FromThis k kind) = taking slots true (option_map (this_as kind) (giving s (inside (slot slots k))))
+hands s d slots taken (Alias k j field) = (slice_set slots (hand slots) (alias_in slots k j field), true)
+hands s d slots taken (Move k) = (passed k (hand slots) slots, true)
+hands s d slots taken (Ask q) = (slots, taken)
+
+-- the pointer that leaves by an act
+abbrev pub left : Slots → Act → Option Pointer
+left slots (Put k) = slot slots k
+left slots (Leave k) = slot slots k
+left slots (Clear k) = slot slots k
+left slots _ = None
+
+-- the endings after a pointer's leave by statement k: where it was the last owner, its object's end begins
+abbrev pub begins_end_as : Kind → ℕ → Pointer → List Ending → List Ending
+begins_end_as Owner k x es = record { block = x.block; stage = 0; statement = k } ∷ es
+begins_end_as Weak k x es = es
+
+abbrev pub begins_end : State → ℕ → Pointer → List Ending → List Ending
+begins_end s k x es = cond (is_last s x) (begins_end_as x.kind k x es) es
+
+abbrev pub endings_by : State → ℕ → Slots → List Ending → Act → List Ending
+endings_by s k slots es a = on (λ x. begins_end s k x es) es (left slots a)
+
+-- where the thread is by an act of statement k alone, with these tasks after it
+abbrev pub went : State → ℕ → Walk → ℕ → List Task → Act → Walk
+went s d w k ts a = let x = hands s d w.slots w.taken a in settled x.0 x.1 (endings_by s k w.slots w.endings a) ts
+
+-- a handle as a slot has it
+abbrev pub slot_as : State → Handle → Option ℕ → Slot
+slot_as s h None = Empty h.place
+slot_as s h (Some o) = Full (record { kind = h.kind; block = record { 0 = (s.object o).block }; place = h.place })
+
+abbrev pub slot_of : State → Handle → Slot
+slot_of s h = slot_as s h h.object
+
+-- how far the end of an object comes by itself: to a member that held an object, with so many members behind it, or to its end
+pub record Stop : Type 0 where
+  pub history : History
+  pub out : Option (ℕ × Slot)
+
+-- a member of an ending object is cleared
+abbrev pub clears : Opening → ℕ → ℕ → ℕ → History → History
+clears z d o m h = entry d (event.ClearMember o m (((leads z h).object o).member m)) ∷ h
+
+-- an object ends: its members that are left are cleared in order, up to one that held an object; with none left it is finished
+abbrev pub stops : Opening → ℕ → ℕ → ℕ → History → Stop
+stops z d o zero h = record { history = entry d (event.Finish o (weak (leads z h) o == 0) tt) ∷ h; out = None }
+stops z d o (suc k) h =
+    let s = leads z h in
+    let x = (s.object o).member (2 - k) in
+    cond (has_object x) (record { history = clears z d o (2 - k) h; out = Some (k, slot_of s x) }) (stops z d o k (clears z d o (2 - k) h))
+
+-- how far a thread's endings come by themselves
+pub record Wound : Type 0 where
+  pub history : History
+  pub slots : Slots
+  pub endings : List Ending
+
+-- the first ending came to its end, and the others went on, or a member's handle is in hand
+abbrev pub goes_on : Ending → List Ending → History → Slots → Wound → Option (ℕ × Slot) → Wound
+goes_on e es h slots others None = others
+goes_on e es h slots others (Some p) =
+    record {
+      history = h;
+      slots = slice_set slots (hand slots) p.1;
+      endings = record { block = e.block; stage = 3 - p.0; statement = e.statement } ∷ es;
+    }
+
+-- the endings go on, the last begun first, until a member's handle is in hand or none is left
+abbrev pub unwound : Opening → ℕ → Slots → List Ending → History → Wound
+unwound z d slots [] h = record { history = h; slots = slots; endings = [] }
+unwound z d slots (e ∷ es) h =
+    let c = stops z d ((leads z h).latest e.block.0) (3 - e.stage) h in
+    goes_on e es c.history slots (unwound z d slots es c.history) c.out
+
+-- what came out of a member of an ending object leaves before all else
+abbrev pub next_of : Slots → List Ending → List Task → Option Task
+next_of slots (e ∷ es) ts = Some (record { statement = e.statement; act = Leave (hand slots) })
+next_of slots [] [] = None
+next_of slots [] (t ∷ ts) = Some t
+
+-- the next act of a thread whose endings have gone on by themselves
+abbrev pub next : Walk → Option Task
+next w = next_of w.slots w.endings w.todo
+
+-- the tasks after it
+abbrev pub rest_of : List Ending → List Task → List Task
+rest_of (e ∷ es) ts = ts
+rest_of [] [] = []
+rest_of [] (t ∷ ts) = ts
 
 abbrev pub full_answer : Option ℕ → Option Answer
 full_answer None = Some (answer.Refused Full)
@@ -247,7 +238,7 @@ abbrev pub said_of : State → ℕ → Slots → Task → Said
 said_of s d slots t = record { statement = t.statement; answer = answer_of s d slots t.act; ended = ended_of s slots t.act }
 
 abbrev pub nowhere : Walk
-nowhere = record { slots = []; taken = false; todo = [] }
+nowhere = record { slots = []; taken = false; endings = []; todo = [] }
 
 abbrev pub walk_of : Scene → ℕ → Walk
 walk_of c d = get_or c.walks d nowhere
@@ -255,23 +246,37 @@ walk_of c d = get_or c.walks d nowhere
 abbrev pub state_in : Scene → State
 state_in c = leads (opening c.extent) c.history
 
-abbrev pub play_from : Scene → ℕ → Walk → List Task → Scene
-play_from c d w [] = c
-play_from c d w (t ∷ ts) =
+-- a thread's endings go on by themselves, unless what came out of a member is in hand
+abbrev pub rested_walk : Opening → ℕ → History → Walk → Wound
+rested_walk z d h w =
+    cond (is_full (slot w.slots (hand w.slots))) (record { history = h; slots = w.slots; endings = w.endings }) (unwound z d w.slots w.endings h)
+
+abbrev pub put_walk : Scene → ℕ → Walk → Wound → Scene
+put_walk c d w x =
     record {
       extent = c.extent;
-      history = acted (opening c.extent) d w.slots c.history t.act;
-      walks = slice_set c.walks d (went (state_in c) d w.slots w.taken ts t.act);
+      history = x.history;
+      walks = slice_set c.walks d (record { slots = x.slots; taken = w.taken; endings = x.endings; todo = w.todo });
     }
 
--- thread d makes its next act, with the end of the object whose last owner left by it; a thread at its end does nothing
-abbrev pub play : ℕ → Scene → Scene
-play d c = play_from c d (walk_of c d) (walk_of c d).todo
+-- the scene once thread d's endings have gone on by themselves
+abbrev pub rested : ℕ → Scene → Scene
+rested d c = let w = walk_of c d in put_walk c d w (rested_walk (opening c.extent) d c.history w)
 
-abbrev pub said_from : Scene → ℕ → Slots → List Task → Option Said
-said_from c d slots [] = None
-said_from c d slots (t ∷ ts) = Some (said_of (state_in c) d slots t)
+abbrev pub play_from : Scene → ℕ → Walk → Option Task → Scene
+play_from c d w None = c
+play_from c d w (Some t) =
+    let w' = went (state_in c) d w t.statement (rest_of w.endings w.todo) t.act in
+    put_walk c d w' (rested_walk (opening c.extent) d (acted (opening c.extent) d w.slots c.history t.act) w')
+
+-- thread d makes its next act, and its endings go on by themselves; a thread at its end does nothing
+abbrev pub play : ℕ → Scene → Scene
+play d c = play_from c d (walk_of c d) (next (walk_of c d))
+
+abbrev pub said_from : Scene → ℕ → Slots → Option Task → Option Said
+said_from c d slots None = None
+said_from c d slots (Some t) = Some (said_of (state_in c) d slots t)
 
 -- what its next act says
 abbrev pub said : ℕ → Scene → Option Said
-said d c = said_from c d (walk_of c d).slots (walk_of c d).todo
+said d c = said_from c d (walk_of c d).slots (next (walk_of c d))

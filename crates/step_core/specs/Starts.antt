@@ -30,7 +30,7 @@ no_slots n = replicate (n + 1) plain
 
 -- a thread that holds nothing, at the first act of its calls
 abbrev pub first_walk : Part → Walk
-first_walk part = settled (no_slots (length part.kinds)) false (tasks_from 1 part.calls (length part.kinds))
+first_walk part = settled (no_slots (length part.kinds)) false [] (tasks_from 1 part.calls (length part.kinds))
 
 -- all words are 0, and nothing has happened
 abbrev pub first_story : Extent → Story

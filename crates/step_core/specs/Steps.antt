@@ -3,13 +3,13 @@ use Rattle.std.specs.Prelude.{ℕ, ◌+◌, ◌==◌, Bool, true, false, cond, L
 use Rattle.control_word.specs.declared.place.Block.{Block}
 use Rattle.control_word.specs.State.{State, weak}
 use Rattle.control_word.specs.declared.handle.Kind.{Kind}
-use Rattle.control_word.specs.declared.handle.Kind.TheVariants.{Owner, Weak}
 use Rattle.step_core.specs.declared.act.Act.{Act}
 use Rattle.step_core.specs.declared.act.Form.{Form}
 use Rattle.step_core.specs.declared.act.Act.TheVariants.{Make, Share, Downgrade, Lock, Put, Leave, Clear, Count, Expired, Read, FromThis, Alias, Move, Ask}
 use Rattle.step_core.specs.declared.act.Task.{Task}
+use Rattle.step_core.specs.declared.ending.Ending.{Ending}
 use Rattle.step_core.specs.declared.half.Half.{Half}
-use Rattle.step_core.specs.declared.half.Half.TheVariants.{Rest, Making, Ending, Locking, Giving}
+use Rattle.step_core.specs.declared.half.Half.TheVariants.{Rest, Making, Locking, Giving}
 use Rattle.step_core.specs.declared.holdings.Pointer.{Pointer}
 use Rattle.step_core.specs.declared.past.Deed.{Deed}
 use Rattle.step_core.specs.declared.past.Deed.TheVariants as deed
@@ -17,10 +17,12 @@ use Rattle.step_core.specs.declared.said.Said.{Said}
 use Rattle.step_core.specs.declared.said.Stepped.{Stepped}
 use Rattle.step_core.specs.declared.said.Stepped.TheVariants.{Event, Quiet, Done}
 use Rattle.step_core.specs.Actors.{wanted}
-use Rattle.step_core.specs.Courses.{Walk, form_of, locked, settled}
-use Rattle.step_core.specs.Deeds.{downgrade, give, is_enabled, is_last, leave, lock, owner_word, read, share, tell, tell_expired, alias, aliased}
-use Rattle.step_core.specs.Holdings.{inside, slot, owner_slot, place_in}
-use Rattle.step_core.specs.Scenes.{answer_of, ended_of, full_answer, holding, least, on, went}
+use Rattle.step_core.specs.Courses.{Walk, form_of, hand, locked, settled}
+use Rattle.step_core.specs.Deeds.{downgrade, give, is_enabled, leave, lock, owner_word, read, share, tell, tell_expired, alias, aliased}
+use Rattle.step_core.specs.Endings.{staged}
+use Rattle.step_core.specs.Holdings.{inside, is_full, slot, owner_slot, place_in}
+use Rattle.step_core.specs.Entries.{least, on}
+use Rattle.step_core.specs.Scenes.{answer_of, ended_of, full_answer, holding, went}
 use Rattle.step_core.specs.Stories.{Story, after, event_of, known, object_in, pending, state}
 
 -- what a step does to the table, if anything; what the thread has begun and not ended after it; where it is then; what it says
@@ -33,28 +35,20 @@ pub record Step : Type 0 where
 abbrev pub silent : ℕ → Said
 silent k = record { statement = k; answer = None; ended = None }
 
--- where the last owner leaves, the end of the object begins; its steps are of statement k
-abbrev pub end_as : Kind → ℕ → Block → Half
-end_as Owner k b = Ending b 0 k
-end_as Weak k b = Rest
-
-abbrev pub end_of : State → ℕ → Pointer → Half
-end_of s k x = cond (is_last s x) (end_as x.kind k x.block) Rest
-
 -- an act of statement k on what a slot holds
 abbrev pub acts : State → ℕ → Walk → ℕ → List Task → Act → Option Deed → Half → Step
 acts s d w k ts a x h =
     record {
       deed = x;
       half = h;
-      walk = went s d w.slots w.taken ts a;
+      walk = went s d w k ts a;
       said = record { statement = k; answer = answer_of s d w.slots a; ended = ended_of s w.slots a };
     }
 
 -- a make begins in the least block of the store; it is refused where there is none
 abbrev pub begins : Walk → ℕ → List Task → Option ℕ → Step
 begins w k ts None =
-    record { deed = None; half = Rest; walk = settled w.slots false ts; said = record { statement = k; answer = full_answer None; ended = None } }
+    record { deed = None; half = Rest; walk = settled w.slots false w.endings ts; said = record { statement = k; answer = full_answer None; ended = None } }
 begins w k ts (Some b) =
     let block : Block = record { 0 = b } in record { deed = Some (deed.Prepare block); half = Making block 0 false; walk = w; said = silent k }
 
@@ -80,9 +74,9 @@ asks v d w k ts i kind x =
 abbrev pub first : Story → ℕ → Walk → ℕ → List Task → Act → Step
 first v d w k ts (Make form) = begins w k ts (least d (state v).stores)
 first v d w k ts (Share i) = acts (state v) d w k ts (Share i) (option_map share (slot w.slots i)) Rest
-first v d w k ts (Put i) = acts (state v) d w k ts (Put i) (option_map (leave (state v)) (slot w.slots i)) (on (end_of (state v) k) Rest (slot w.slots i))
-first v d w k ts (Leave i) = acts (state v) d w k ts (Leave i) (option_map (leave (state v)) (slot w.slots i)) (on (end_of (state v) k) Rest (slot w.slots i))
-first v d w k ts (Clear i) = acts (state v) d w k ts (Clear i) (option_map (leave (state v)) (slot w.slots i)) (on (end_of (state v) k) Rest (slot w.slots i))
+first v d w k ts (Put i) = acts (state v) d w k ts (Put i) (option_map (leave (state v)) (slot w.slots i)) Rest
+first v d w k ts (Leave i) = acts (state v) d w k ts (Leave i) (option_map (leave (state v)) (slot w.slots i)) Rest
+first v d w k ts (Clear i) = acts (state v) d w k ts (Clear i) (option_map (leave (state v)) (slot w.slots i)) Rest
 first v d w k ts (Count i) = acts (state v) d w k ts (Count i) (option_map (tell (state v)) (slot w.slots i)) Rest
 first v d w k ts (Downgrade i) = acts (state v) d w k ts (Downgrade i) (option_map downgrade (slot w.slots i)) Rest
 first v d w k ts (Lock i must) = let a = Lock i must in on (looks v d w k ts a) (acts (state v) d w k ts a None Rest) (locked w.slots a)
@@ -116,7 +110,8 @@ prepares found want w k b i false =
 -- the object is made: its owner comes into the hand
 abbrev pub claims : Walk → ℕ → List Task → Block → Form → Step
 claims w k ts b form =
-    record { deed = Some (deed.Claim b form.enabled form.null form.fields); half = Rest; walk = holding w.slots ts form.null (Some b.0); said = silent k }
+    let x = holding w.slots form.null (Some b.0) in
+    record { deed = Some (deed.Claim b form.enabled form.null form.fields); half = Rest; walk = settled x.0 x.1 w.endings ts; said = silent k }
 
 abbrev pub made_on : Story → ℕ → Walk → Block → ℕ → Bool → List Task → Option Step
 made_on v d w b i differs [] = None
@@ -124,17 +119,26 @@ made_on v d w b i differs (t ∷ ts) =
     Some (cond (i == 5) (claims w t.statement ts b (form_of t.act))
     (prepares (get_or (known (pending v d)) i 0) (get_or (wanted (form_of t.act)) i 0) w t.statement b i differs))
 
+abbrev pub with_endings : Walk → List Ending → Walk
+with_endings w es = record { slots = w.slots; taken = w.taken; endings = es; todo = w.todo }
+
 -- an object ends: its members are cleared in order, and then it is finished
-abbrev pub ends_on : Story → Walk → Block → ℕ → ℕ → Step
-ends_on v w b stage k =
-    cond (stage == 3) (record { deed = Some (deed.Finish b (weak (state v) (object_in v b) == 0)); half = Rest; walk = w; said = silent k })
-    (record { deed = Some (deed.Clear b stage); half = Ending b (stage + 1) k; walk = w; said = silent k })
+abbrev pub ends_on : Story → Walk → Ending → List Ending → Step
+ends_on v w e es =
+    cond (e.stage == 3)
+    (record { deed = Some (deed.Finish e.block (weak (state v) (object_in v e.block) == 0)); half = Rest; walk = with_endings w es; said = silent e.statement })
+    (record { deed = Some (deed.Clear e.block e.stage); half = Rest; walk = with_endings w (staged e ∷ es); said = silent e.statement })
+
+-- within no act: what came out of a member leaves, or else the ending begun last goes on; without endings the next task comes
+abbrev pub at_rest : Story → ℕ → Walk → List Ending → Option Step
+at_rest v d w [] = begun v d w w.todo
+at_rest v d w (e ∷ es) =
+    Some (cond (is_full (slot w.slots (hand w.slots))) (first v d w e.statement w.todo (Leave (hand w.slots))) (ends_on v w e es))
 
 -- the step of desk d's thread that has begun this and is here; none at its end
 abbrev pub step_at : Story → ℕ → Half → Walk → Option Step
-step_at v d Rest w = begun v d w w.todo
+step_at v d Rest w = at_rest v d w w.endings
 step_at v d (Making b i differs) w = made_on v d w b i differs w.todo
-step_at v d (Ending b stage k) w = Some (ends_on v w b stage k)
 step_at v d (Locking word) w = tried v d w word w.todo
 step_at v d (Giving i kind x) w = given v d w i kind x w.todo
 

@@ -1,5 +1,5 @@
 -- A thread of the machine, and how it fits the table. All of it is own.
-use Rattle.std.specs.Prelude.{◌≡◌, ℕ, ◌<◌, ◌≤◌, ◌∷◌, Bool, true, length, Option, Some, None}
+use Rattle.std.specs.Prelude.{◌≡◌, ℕ, ◌<◌, ◌≤◌, ◌⊎◌, [], ◌∷◌, Bool, true, false, length, Option, Some, None}
 use Rattle.std.specs.List.Sorted.{IsPermutation}
 use Rattle.control_word.specs.declared.handle.Kind.{Kind}
 use Rattle.control_word.specs.declared.handle.Kind.TheVariants.{Weak}
@@ -7,12 +7,13 @@ use Rattle.step_core.specs.declared.act.Form.{Form}
 use Rattle.step_core.specs.declared.act.Act.TheVariants.{Make, FromThis}
 use Rattle.step_core.specs.declared.course.Course.{Course}
 use Rattle.step_core.specs.declared.half.Half.{Half}
-use Rattle.step_core.specs.declared.half.Half.TheVariants.{Rest, Making, Ending, Locking, Giving}
+use Rattle.step_core.specs.declared.half.Half.TheVariants.{Rest, Making, Locking, Giving}
 use Rattle.step_core.specs.declared.said.Stepped.{Stepped}
 use Rattle.step_core.specs.declared.thread.Thread.{Thread}
 use Rattle.step_core.specs.Actors.{HalfFits, Stocks}
 use Rattle.step_core.specs.Courses.{CourseReady, CourseStill, form_of, locked, task_at, walk}
 use Rattle.step_core.specs.declared.holdings.Pointer.{Pointer}
+use Rattle.step_core.specs.Endings.{EndsAll}
 use Rattle.step_core.specs.Holdings.{Holds, inside, is_full, slot}
 use Rattle.step_core.specs.Stocks.{Stored}
 use Rattle.step_core.specs.Steps.{half_by, step_at, stepped, story_by, walk_by}
@@ -22,13 +23,19 @@ use Rattle.step_core.specs.Stories.{Story}
 abbrev pub form_at : Course → Form
 form_at c = form_of (task_at c).act
 
--- a make, a lock or a pointer from this that is under way is the next act
+-- a make, a lock or a pointer from this that is under way is the next act, and no object ends
 abbrev pub IsNext : Half → Course → Type 0
 IsNext Rest c = Unit {0}
-IsNext (Making b i differs) c = (c.at < length c.tasks.items) × ((task_at c).act ≡ Make (form_at c))
-IsNext (Ending b stage k) c = Unit {0}
-IsNext (Locking word) c = (c.at < length c.tasks.items) × (is_full (locked c.holdings.slots.items (task_at c).act) ≡ true)
-IsNext (Giving i kind x) c = (c.at < length c.tasks.items) × ((task_at c).act ≡ FromThis i kind) × (inside (slot c.holdings.slots.items i) ≡ Some x)
+IsNext (Making b i differs) c = (c.at < length c.tasks.items) × ((task_at c).act ≡ Make (form_at c)) × (c.endings.list ≡ [])
+IsNext (Locking word) c = (c.at < length c.tasks.items) × (is_full (locked c.holdings.slots.items (task_at c).act) ≡ true) × (c.endings.list ≡ [])
+IsNext (Giving i kind x) c =
+    (c.at < length c.tasks.items) × ((task_at c).act ≡ FromThis i kind) × (inside (slot c.holdings.slots.items i) ≡ Some x) × (c.endings.list ≡ [])
+
+-- the objects that end in a thread's hands are those of its endings; there is room for more, and nothing was taken meanwhile
+pub record EndsFit (d : ℕ) (c : Course) (v : Story) : Type 0 where
+  pub all : EndsAll d c.endings.list v
+  pub roomy : v.extent.shape.blocks ≤ c.endings.room
+  pub empty : (c.endings.list ≡ []) ⊎ (c.taken ≡ false)
 
 -- between two steps the thread has what its desk has, and its half-done act is as its desk's view says
 pub record Fits (d : ℕ) (t : Thread) (v : Story) : Type 0 where
@@ -40,6 +47,7 @@ pub record Fits (d : ℕ) (t : Thread) (v : Story) : Type 0 where
   pub half : HalfFits d t.half (form_at t.course) v
   pub next : IsNext t.half t.course
   pub stocks : Stocks d t.stock.blocks t.stock.room t.half v
+  pub endings : EndsFit d t.course v
 
 -- the thread made its step, and the table is as that left it
 pub record HasStepped (d : ℕ) (t : Thread) (v : Story) (r : Stepped) (t' : Thread) (v' : Story) : Type 0 where

@@ -1,50 +1,42 @@
 -- What a world keeps beside its threads, so that it can tell its totals and its census. All of it is own.
-use Rattle.std.specs.Prelude.{◌≡◌, ℕ, ◌+◌, ◌≤◌, ◌==◌, Bool, false, cond, List, length, map, sum_by, is_some}
+use Rattle.std.specs.Prelude.{◌≡◌, ℕ, ◌+◌, ◌*◌, ◌<◌, ◌≤◌, ◌==◌, Bool, false, cond, List, [], length, map, is_some}
 use Rattle.control_word.specs.State.{State, ending}
+use Rattle.step_core.specs.declared.ending.Ending.{Ending}
 use Rattle.step_core.specs.declared.half.Half.{Half}
-use Rattle.step_core.specs.declared.half.Half.TheVariants.{Rest, Making, Ending, Locking, Giving}
+use Rattle.step_core.specs.declared.half.Half.TheVariants.{Rest, Making, Locking, Giving}
 use Rattle.step_core.specs.declared.said.Stepped.{Stepped}
 use Rattle.step_core.specs.declared.said.Stepped.TheVariants.{Event, Quiet, Waited, Done}
 use Rattle.step_core.specs.declared.thread.Thread.{Thread}
-use Rattle.step_core.specs.Courses.{Walk}
+use Rattle.step_core.specs.Bounds.{left_to_do}
+use Rattle.step_core.specs.Endings.{endings_of}
+use Rattle.step_core.specs.Scenes.{walk_of}
 use Rattle.step_core.specs.Stories.{Plain, Story, state}
 use Rattle.step_core.specs.Totals.{ended_in, made_in}
-use Rattle.step_core.specs.Worlds.{Sight, half_of, thread_half, thread_walk}
+use Rattle.step_core.specs.Worlds.{Sight, scene, thread_half, thread_walk}
 
 abbrev pub sight : Story → List Thread → Sight
 sight v threads = record { story = v; walks = map thread_walk threads; halves = map thread_half threads }
 
--- what was begun is the end of the object in this block
-abbrev pub EndsIn : ℕ → Half → Type 0
-EndsIn b Rest = ⊥
-EndsIn b (Making c i differs) = ⊥
-EndsIn b (Ending c stage k) = c.0 ≡ b
-EndsIn b (Locking word) = ⊥
-EndsIn b (Giving i kind x) = ⊥
+-- each ending object is in an ending of the thread in whose hands it is
+abbrev pub AllEnd : State → (ℕ → List Ending) → Type 0
+AllEnd s f = (o e : ℕ) → (s.object o).phase ≡ ending e → 0 < endings_of (s.object o).block (f e)
 
--- each ending object ends by what the thread has begun in whose hands it is
-abbrev pub AllEnd : State → (ℕ → Half) → Type 0
-AllEnd s f = (o e : ℕ) → (s.object o).phase ≡ ending e → EndsIn (s.object o).block (f e)
-
--- how many tasks are left
-abbrev pub left_to_do : List Walk → ℕ
-left_to_do walks = sum_by (λ (w : Walk). length w.todo) walks
-
--- the totals are those of the history, and small: an object is made or ended by a task of its own. Nothing was done to a cell
+-- the totals are those of the history, and small: an object is made by a task that has the steps of its end, and no more are left
+-- than were made. Nothing was done to a cell
 pub record IsTold (u : Sight) (m e : ℕ) : Type 0 where
   pub threads : length u.walks ≡ u.story.extent.actors
   pub halves : length u.halves ≡ length u.walks
   pub made : m ≡ made_in u.story.history
   pub ended : e ≡ ended_in u.story.history
-  pub few : m + e + left_to_do u.walks ≤ 133120
-  pub endings : AllEnd (state u.story) (half_of u)
+  pub order : e ≤ m
+  pub few : 28 * m + left_to_do u.walks ≤ 13 * e + 1970176
+  pub endings : AllEnd (state u.story) (λ d. (walk_of (scene u) d).endings)
   pub plain : Plain u.story
 
 -- the next step of a make is the one that makes the object
 abbrev pub is_prepared : Half → Bool
 is_prepared Rest = false
 is_prepared (Making b i differs) = i == 5
-is_prepared (Ending b stage k) = false
 is_prepared (Locking word) = false
 is_prepared (Giving i kind x) = false
 
@@ -61,6 +53,6 @@ ends_by (Quiet x) = 0
 ends_by Waited = 0
 ends_by Done = 0
 
--- the thread has no task left, and rests
+-- the thread has no task and no ending left, and rests
 abbrev pub HasEnded : Thread → Type 0
-HasEnded t = (t.half ≡ Rest) × (t.course.at ≡ length t.course.tasks.items)
+HasEnded t = (t.half ≡ Rest) × (t.course.endings.list ≡ []) × (t.course.at ≡ length t.course.tasks.items)

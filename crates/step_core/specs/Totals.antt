@@ -38,4 +38,5 @@ counts_in owners number = cond (number == 0) None (Some (record { owners = owner
 -- each thread has made its last act and ended its last object
 pub record IsAtEnd (u : Sight) : Type 0 where
   pub walks : All (λ (w : Walk). w.todo ≡ []) u.walks
+  pub endings : All (λ (w : Walk). w.endings ≡ []) u.walks
   pub halves : All (λ (h : Half). h ≡ Rest) u.halves

@@ -1,27 +1,29 @@
 -- The parts of a turn. All of it is own.
-use Rattle.std.specs.Prelude.{◌≡◌, ℕ, ◌<◌, ◌≤◌, Bool, true, false, not, ◌==◌, List, [], ◌∷◌, length, slice_set, Option, Some, None}
+use Rattle.std.specs.Prelude.{◌≡◌, ◌⊎◌, ℕ, ◌<◌, ◌≤◌, Bool, true, false, not, ◌==◌, List, [], ◌∷◌, length, slice_set, is_some, All, Option, Some, None}
 use Rattle.step_core.specs.declared.act.Act.TheVariants.{Make, FromThis}
 use Rattle.step_core.specs.declared.act.Task.{Task}
+use Rattle.step_core.specs.declared.ending.Ending.{Ending}
 use Rattle.step_core.specs.declared.half.Half.{Half}
-use Rattle.step_core.specs.declared.half.Half.TheVariants.{Rest, Making, Ending, Locking, Giving}
+use Rattle.step_core.specs.declared.half.Half.TheVariants.{Rest, Making, Locking, Giving}
 use Rattle.step_core.specs.declared.said.Said.{Said}
 use Rattle.step_core.specs.declared.said.Stepped.{Stepped}
 use Rattle.step_core.specs.declared.said.Stepped.TheVariants as stepped
 use Rattle.step_core.specs.declared.said.Turned.{Turned}
 use Rattle.step_core.specs.declared.said.Turned.TheVariants.{Acted, Waited, Done}
-use Rattle.step_core.specs.Courses.{Walk, form_of, locked}
+use Rattle.step_core.specs.Courses.{Walk, form_of, hand, locked}
 use Rattle.step_core.specs.Deeds.{is_enabled}
+use Rattle.step_core.specs.Endings.{first_of}
 use Rattle.step_core.specs.Holdings.{Slots, inside, is_full, slot}
-use Rattle.step_core.specs.Scenes.{least, play, said, walk_of}
-use Rattle.step_core.specs.Stories.{Story, state}
-use Rattle.step_core.specs.Worlds.{Sight, half_of, rested, scene}
+use Rattle.step_core.specs.Entries.{least}
+use Rattle.step_core.specs.Scenes.{play, rested, said, walk_of}
+use Rattle.step_core.specs.Stories.{AllBare, Story, state}
+use Rattle.step_core.specs.Worlds.{Sight, half_of, scene}
 
 -- a make that is under way is the next act, in the least block of the store
 abbrev pub IsUnderWay : ℕ → Story → Half → List Task → Type 0
 IsUnderWay d v Rest ts = Unit {0}
 IsUnderWay d v (Making b i differs) [] = ⊥
 IsUnderWay d v (Making b i differs) (t ∷ ts) = (i ≤ 5) × (least d (state v).stores ≡ Some b.0) × (t.act ≡ Make (form_of t.act))
-IsUnderWay d v (Ending b stage k) ts = stage ≤ 3
 IsUnderWay d v (Locking word) ts = Unit {0}
 IsUnderWay d v (Giving i kind x) [] = ⊥
 IsUnderWay d v (Giving i kind x) (t ∷ ts) = (t.act ≡ FromThis i kind) × (is_enabled (state v) x ≡ true)
@@ -37,14 +39,27 @@ IsTried (Locking word) w = IsLock w.slots w.todo
 IsTried (Giving i kind x) w = inside (slot w.slots i) ≡ Some x
 IsTried _ w = Unit {0}
 
+-- an act that is half done is one of a statement: no object ends in the thread's hands
+abbrev pub IsAlone : Half → List Ending → Type 0
+IsAlone Rest es = Unit {0}
+IsAlone (Making b i differs) es = es ≡ []
+IsAlone (Locking word) es = es ≡ []
+IsAlone (Giving i kind x) es = es ≡ []
+
+-- between two steps of thread d: where objects end nothing is in hand, and no member of an object holds anything
 pub record HasBegun (d : ℕ) (u : Sight) : Type 0 where
   pub within : d < length u.halves
+  pub walks : d < length u.walks
   pub half : IsUnderWay d u.story (half_of u d) (walk_of (scene u) d).todo
   pub tried : IsTried (half_of u d) (walk_of (scene u) d)
+  pub alone : IsAlone (half_of u d) (walk_of (scene u) d).endings
+  pub staged : All (λ (e : Ending). e.stage ≤ 3) (walk_of (scene u) d).endings
+  pub free : ((walk_of (scene u) d).endings ≡ []) ⊎ (is_full (slot (walk_of (scene u) d).slots (hand (walk_of (scene u) d).slots)) ≡ false)
+  pub bare : AllBare (state u.story)
 
-abbrev pub is_ending : Half → Bool
-is_ending (Ending b stage k) = true
-is_ending _ = false
+-- the thread's endings go on by themselves
+abbrev pub is_ending : Sight → ℕ → Bool
+is_ending u d = is_some (first_of (walk_of (scene u) d).endings)
 
 abbrev pub is_making : Half → Bool
 is_making (Making b i differs) = true
@@ -70,15 +85,11 @@ abbrev pub is_preparing : Half → Bool
 is_preparing (Making b i differs) = not (i == 5)
 is_preparing _ = false
 
-abbrev pub rested_half : Half → Half
-rested_half (Ending b stage k) = Rest
-rested_half h = h
-
--- thread d has finished the object that ended in its hands
+-- thread d's endings have gone on by themselves
 pub record Rests (d : ℕ) (u u' : Sight) : Type 0 where
-  pub scene : scene u' ≡ rested u d
-  pub over : is_ending (half_of u' d) ≡ false
-  pub halves : u'.halves ≡ slice_set u.halves d (rested_half (half_of u d))
+  pub scene : scene u' ≡ rested d (scene u)
+  pub over : is_ending u' d ≡ false
+  pub halves : u'.halves ≡ u.halves
 
 -- the same make, with its words prepared
 abbrev pub IsReady : Half → Half → Type 0
@@ -104,9 +115,9 @@ abbrev pub turned : Option Said → Turned
 turned None = Done
 turned (Some x) = Acted x
 
--- thread d made its next act, but for the end of the object whose last owner left by it
+-- thread d made its next act, but for the endings that go on by themselves after it
 pub record Plays (d : ℕ) (u : Sight) (r : Turned) (u' : Sight) : Type 0 where
   pub answer : r ≡ turned (said d (scene u))
-  pub scene : rested u' d ≡ play d (scene u)
+  pub scene : rested d (scene u') ≡ play d (scene u)
   pub done : is_acting (half_of u' d) ≡ false
   pub halves : u'.halves ≡ slice_set u.halves d (half_of u' d)

@@ -1,16 +1,15 @@
 -- What clauses see of a world, and what steps and turns of a thread do to it. All of it is own.
-use Rattle.std.specs.Prelude.{◌≡◌, ℕ, ◌-◌, List, [], ◌∷◌, get_or, slice_get, slice_set, Option, Some}
+use Rattle.std.specs.Prelude.{◌≡◌, ℕ, List, [], ◌∷◌, get_or, slice_get, slice_set, Option, Some, None}
 use Rattle.step_core.specs.declared.half.Half.{Half}
-use Rattle.step_core.specs.declared.half.Half.TheVariants.{Rest, Making, Ending, Locking, Giving}
+use Rattle.step_core.specs.declared.half.Half.TheVariants.{Rest}
 use Rattle.step_core.specs.declared.said.Stepped.{Stepped}
 use Rattle.step_core.specs.declared.said.Turned.{Turned}
 use Rattle.step_core.specs.declared.said.Turned.TheVariants.{Acted, Waited, Done}
 use Rattle.step_core.specs.declared.thread.Thread.{Thread}
 use Rattle.step_core.specs.Courses.{Walk, walk}
-use Rattle.step_core.specs.Openings.{opening}
-use Rattle.step_core.specs.Scenes.{Scene, ends, play, said, walk_of}
+use Rattle.step_core.specs.Scenes.{Scene, next, play, rested, said, walk_of}
 use Rattle.step_core.specs.Steps.{Step, half_by, step_at, stepped, story_by, walk_by}
-use Rattle.step_core.specs.Stories.{Kept, Story, object_in}
+use Rattle.step_core.specs.Stories.{Kept, Story}
 use Rattle.step_core.specs.Threads.{Fits}
 
 -- the table, where each thread is, and what it has begun
@@ -60,24 +59,11 @@ StepsBy d u (r ∷ rs) u' = (m : Sight) × Steps d u r m × Kept m.story × Step
 abbrev pub GoesTo : ℕ → Sight → Sight → Type 0
 GoesTo d u u' = (rs : List Stepped) × StepsBy d u rs u'
 
--- the scene once the thread has finished the object that ends in its hands
-abbrev pub rested_from : Sight → ℕ → Half → Scene
-rested_from u d Rest = scene u
-rested_from u d (Making b i differs) = scene u
-rested_from u d (Locking word) = scene u
-rested_from u d (Giving i kind x) = scene u
-rested_from u d (Ending b stage k) =
-    record {
-      extent = u.story.extent;
-      history = ends (opening u.story.extent) d (object_in u.story b) (3 - stage) u.story.history;
-      walks = u.walks;
-    }
-
-abbrev pub rested : Sight → ℕ → Scene
-rested u d = rested_from u d (half_of u d)
-
--- a whole turn of thread d: its next act if it has one, and what that says; others are where they were
+-- a whole turn of thread d: its endings go on by themselves, then its next act comes, if it has one, and what that says;
+-- others are where they were
 abbrev pub Turns : ℕ → Sight → Turned → Sight → Type 0
-Turns d u (Acted x) u' = (Some x ≡ said d (rested u d)) × (scene u' ≡ play d (rested u d)) × (u'.halves ≡ slice_set u.halves d Rest)
+Turns d u (Acted x) u' =
+    let c = rested d (scene u) in (Some x ≡ said d c) × (scene u' ≡ play d c) × (u'.halves ≡ slice_set u.halves d Rest)
 Turns d u Waited u' = ⊥
-Turns d u Done u' = ((walk_of (rested u d) d).todo ≡ []) × (scene u' ≡ rested u d) × (u'.halves ≡ slice_set u.halves d Rest)
+Turns d u Done u' =
+    let c = rested d (scene u) in (next (walk_of c d) ≡ None) × (scene u' ≡ c) × (u'.halves ≡ slice_set u.halves d Rest)

@@ -13,23 +13,25 @@ ghost use Rattle.control_word.specs.Layout.{spot};
 ghost use Rattle.control_word.specs.Views.{owed};
 
 use crate::act::{Act, Form, Task};
+use crate::ending::Endings;
 use crate::holdings::Holdings;
 use crate::past::Deed;
 use crate::table::Table;
 use control_word::place::Block;
 
-/// The tasks of a thread, of which those before `at` are done, and what it holds. Where `taken`, an act has taken a value
-/// into the hand, an empty one perhaps.
+/// The tasks of a thread, of which those before `at` are done, what it holds, and the objects that end in its hands. Where
+/// `taken`, an act has taken a value into the hand, an empty one perhaps.
 #[derive(Drop)]
 pub struct Course {
     pub(crate) tasks: Vec<Task>,
     pub(crate) at: usize,
     pub(crate) holdings: Holdings,
     pub(crate) taken: bool,
+    pub(crate) endings: Endings,
 }
 
 impl Course {
-    ghost use Rattle.step_core.specs.Scenes.{on};
+    ghost use Rattle.step_core.specs.Entries.{on};
     ghost use Rattle.step_core.specs.Courses.{CanAct, CourseReady, HasGoneOn, IsPassed, IsReady, done_on, hand, idle, placed, rest, settled, task_at, todo, walk};
 
     /// Whether the next task is no act where it comes.
@@ -67,8 +69,9 @@ impl Course {
     pub(crate) fn settle(&mut self)
         requires within { self.old.at ≤ length self.old.tasks.items }
         requires ready { CourseReady self.old }
-        ensures walk { walk self.new ≡ settled self.old.holdings.slots.items self.old.taken (todo self.old) }
+        ensures walk { walk self.new ≡ settled self.old.holdings.slots.items self.old.taken self.old.endings.list (todo self.old) }
         ensures tasks { self.new.tasks ≡ self.old.tasks }
+        ensures endings { self.new.endings ≡ self.old.endings }
         ensures within { self.new.at ≤ length self.new.tasks.items }
         ensures onward { self.old.at ≤ self.new.at }
         ensures ready { CourseReady self.new }
@@ -92,7 +95,7 @@ impl Course {
     pub(crate) fn go_on(&mut self)
         requires within { self.old.at < length self.old.tasks.items }
         requires ready { IsReady self.old.holdings.slots.items self.old.taken (rest self.old) }
-        ensures walk { walk self.new ≡ settled self.old.holdings.slots.items self.old.taken (rest self.old) }
+        ensures walk { walk self.new ≡ settled self.old.holdings.slots.items self.old.taken self.old.endings.list (rest self.old) }
         ensures on { (d : ℕ) (v : Story) → Holds d self.old.holdings.slots.items v → HasGoneOn d self.old self.new v }
     {
         self.at += 1;
@@ -103,7 +106,7 @@ impl Course {
     pub(crate) fn take(&mut self, taken: bool)
         requires within { self.old.at < length self.old.tasks.items }
         requires ready { IsReady self.old.holdings.slots.items taken (rest self.old) }
-        ensures walk { walk self.new ≡ settled self.old.holdings.slots.items taken (rest self.old) }
+        ensures walk { walk self.new ≡ settled self.old.holdings.slots.items taken self.old.endings.list (rest self.old) }
         ensures on { (d : ℕ) (v : Story) → Holds d self.old.holdings.slots.items v → HasGoneOn d self.old self.new v }
     {
         self.taken = taken;
@@ -116,7 +119,7 @@ impl Course {
         requires act { (task_at self.old).act ≡ Act.Share name }
         ensures event { result ≡ is_full (slot self.old.holdings.slots.items name) }
         ensures table { table.new ≡ done_on share table.old desk (slot self.old.holdings.slots.items name) }
-        ensures walk { walk self.new ≡ settled (slice_set self.old.holdings.slots.items (hand self.old.holdings.slots.items) (value self.old.holdings.slots.items name)) true (rest self.old) }
+        ensures walk { walk self.new ≡ settled (slice_set self.old.holdings.slots.items (hand self.old.holdings.slots.items) (value self.old.holdings.slots.items name)) true self.old.endings.list (rest self.old) }
         ensures on { HasGoneOn desk self.old self.new table.new }
     {
         let from = usize::from(name);
@@ -144,7 +147,7 @@ impl Course {
         ensures event { result ≡ is_full (slot self.old.holdings.slots.items name) }
         ensures table { table.new ≡ done_on downgrade table.old desk (slot self.old.holdings.slots.items name) }
         ensures walk { walk self.new
-            ≡ settled (slice_set self.old.holdings.slots.items (hand self.old.holdings.slots.items) (filled (option_map as_weak (slot self.old.holdings.slots.items name)))) true (rest self.old) }
+            ≡ settled (slice_set self.old.holdings.slots.items (hand self.old.holdings.slots.items) (filled (option_map as_weak (slot self.old.holdings.slots.items name)))) true self.old.endings.list (rest self.old) }
         ensures on { HasGoneOn desk self.old self.new table.new }
     {
         let from = usize::from(name);
@@ -169,7 +172,7 @@ impl Course {
         requires act { ((task_at self.old).act ≡ Act.Leave name) ⊎ ((task_at self.old).act ≡ Act.Clear name) }
         ensures last { result ≡ on (is_last (state table.old)) false (slot self.old.holdings.slots.items name) }
         ensures table { table.new ≡ done_on (leave (state table.old)) table.old desk (slot self.old.holdings.slots.items name) }
-        ensures walk { walk self.new ≡ settled (slice_set self.old.holdings.slots.items name plain) self.old.taken (rest self.old) }
+        ensures walk { walk self.new ≡ settled (slice_set self.old.holdings.slots.items name plain) self.old.taken self.old.endings.list (rest self.old) }
         ensures on { HasGoneOn desk self.old self.new table.new }
     {
         let from = usize::from(name);
@@ -194,7 +197,7 @@ impl Course {
         ensures full { is_full (slot self.old.holdings.slots.items name) ≡ true }
         ensures last { result ≡ on (is_last (state table.old)) false (slot self.old.holdings.slots.items name) }
         ensures table { table.new ≡ done_on (leave (state table.old)) table.old desk (slot self.old.holdings.slots.items name) }
-        ensures walk { walk self.new ≡ settled (placed name (slice_set self.old.holdings.slots.items name plain)) false (rest self.old) }
+        ensures walk { walk self.new ≡ settled (placed name (slice_set self.old.holdings.slots.items name plain)) false self.old.endings.list (rest self.old) }
         ensures on { HasGoneOn desk self.old self.new table.new }
     {
         let to = usize::from(name);
@@ -218,7 +221,7 @@ impl Course {
         requires act { (task_at self.old).act ≡ Act.Count name }
         ensures exact { result ≡ on (λ x. count (state table.old) (owned (state table.old) x)) 0 (slot self.old.holdings.slots.items name) }
         ensures table { table.new ≡ done_on (tell (state table.old)) table.old desk (slot self.old.holdings.slots.items name) }
-        ensures walk { walk self.new ≡ settled self.old.holdings.slots.items self.old.taken (rest self.old) }
+        ensures walk { walk self.new ≡ settled self.old.holdings.slots.items self.old.taken self.old.endings.list (rest self.old) }
         ensures on { HasGoneOn desk self.old self.new table.new }
     {
         let from = usize::from(name);
@@ -241,7 +244,7 @@ impl Course {
         requires act { (task_at self.old).act ≡ Act.Expired name }
         ensures exact { result ≡ on (is_expired (state table.old)) true (slot self.old.holdings.slots.items name) }
         ensures table { table.new ≡ done_on (tell_expired (state table.old)) table.old desk (slot self.old.holdings.slots.items name) }
-        ensures walk { walk self.new ≡ settled self.old.holdings.slots.items self.old.taken (rest self.old) }
+        ensures walk { walk self.new ≡ settled self.old.holdings.slots.items self.old.taken self.old.endings.list (rest self.old) }
         ensures on { HasGoneOn desk self.old self.new table.new }
     {
         let from = usize::from(name);
@@ -269,7 +272,7 @@ impl Course {
         requires act { (task_at self.old).act ≡ Act.Make form }
         ensures table { table.new ≡ after table.old desk (Deed.Claim block form.enabled form.null form.fields) }
         ensures walk { walk self.new
-            ≡ settled (slice_set self.old.holdings.slots.items (hand self.old.holdings.slots.items) (Full (record { kind = Owner; block = block; place = origin block.0 form.null }))) true (rest self.old) }
+            ≡ settled (slice_set self.old.holdings.slots.items (hand self.old.holdings.slots.items) (Full (record { kind = Owner; block = block; place = origin block.0 form.null }))) true self.old.endings.list (rest self.old) }
         ensures on { HasGoneOn desk self.old self.new table.new }
     {
         let hand = self.holdings.hand();

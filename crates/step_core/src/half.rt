@@ -1,9 +1,11 @@
 //! Where a thread is within an act.
 ghost use Rattle.std.specs.Prelude.{◌≢◌, ℕ, List};
 ghost use Rattle.step_core.specs.Actors.{HalfFits, Stocks};
+ghost use Rattle.step_core.specs.Endings.{EndsAll};
 ghost use Rattle.step_core.specs.Holdings.{Holds, Slots};
 ghost use Rattle.step_core.specs.Stories.{Kept, Story, after};
 ghost use Rattle.step_core.specs.declared.act.Form.{Form};
+ghost use Rattle.step_core.specs.declared.ending.Ending.{Ending};
 ghost use Rattle.step_core.specs.declared.past.Deed.{Deed};
 
 use crate::holdings::Pointer;
@@ -22,13 +24,6 @@ pub enum Half {
         index: u8,
         differs: bool,
     },
-    /// The end of an object, by the last leave of a statement: its members are cleared (stages 0 to 2), and then it is
-    /// finished.
-    Ending {
-        block: Block,
-        stage: u8,
-        statement: u32,
-    },
     /// A lock that found this word, which isn't 0: it is tried with it next.
     Locking {
         word: u64,
@@ -44,7 +39,7 @@ pub enum Half {
 
 /// What other desks do changes nothing of what a desk has.
 pub(crate) fn others_keep()
-    ensures { (d e : ℕ) (slots : Slots) (blocks : List ℕ) (form : Form) (room : ℕ) (half : Half) (v : Story) (x : Deed) → e ≢ d → Kept v → Kept (after v e x)
-        → Holds d slots v × Stocks d blocks room half v × HalfFits d half form v
-        → Holds d slots (after v e x) × Stocks d blocks room half (after v e x) × HalfFits d half form (after v e x) }
+    ensures { (d e : ℕ) (slots : Slots) (blocks : List ℕ) (form : Form) (room : ℕ) (half : Half) (es : List Ending) (v : Story) (x : Deed) → e ≢ d → Kept v → Kept (after v e x)
+        → Holds d slots v × Stocks d blocks room half v × HalfFits d half form v × EndsAll d es v
+        → Holds d slots (after v e x) × Stocks d blocks room half (after v e x) × HalfFits d half form (after v e x) × EndsAll d es (after v e x) }
 {}

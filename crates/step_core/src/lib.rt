@@ -17,6 +17,7 @@ mod fund_tests;
 mod funds;
 mod half;
 mod holdings;
+mod leaving;
 mod limits;
 mod locking;
 mod making;
@@ -48,6 +49,7 @@ mod this_tests;
 mod thread;
 mod told;
 mod trace;
+mod unwinding;
 #[cfg(test)]
 mod value_tests;
 mod values;

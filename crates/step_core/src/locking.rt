@@ -1,7 +1,6 @@
 //! How a thread locks a weak pointer, step by step.
-ghost use Rattle.std.specs.Prelude.{◌≡◌, ◌<◌, ◌==◌, cond, length, Some, None};
+ghost use Rattle.std.specs.Prelude.{◌≡◌, ◌<◌, ◌==◌, cond, length, Some, None, []};
 ghost use Rattle.step_core.specs.Scenes.{lock_answer};
-
 use crate::act::Act;
 use crate::half::Half;
 use crate::said::{Answer, Said, Stepped};
@@ -17,6 +16,7 @@ impl Thread {
     pub(crate) fn lock(&mut self, desk: usize, table: &mut Table, name: u8, must: bool) -> Stepped
         requires fits { Fits desk self.old table.old }
         requires rest { self.old.half ≡ Half.Rest }
+        requires none { self.old.course.endings.list ≡ [] }
         requires within { self.old.course.at < length self.old.course.tasks.items }
         requires act { (task_at self.old.course).act ≡ Act.Lock name must }
         ensures stepped { HasStepped desk self.old table.old result self.new table.new }

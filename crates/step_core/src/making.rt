@@ -1,5 +1,5 @@
 //! How a thread makes an object, step by step.
-ghost use Rattle.std.specs.Prelude.{◌≡◌, ◌<◌, length, get_or, false, true};
+ghost use Rattle.std.specs.Prelude.{◌≡◌, ◌<◌, length, get_or, false, true, []};
 ghost use Rattle.control_word.specs.Words.{flags_of};
 ghost use Rattle.step_core.specs.Actors.{wanted};
 
@@ -20,6 +20,7 @@ impl Thread {
     pub(crate) fn begin(&mut self, desk: usize, table: &mut Table, form: Form) -> Stepped
         requires fits { Fits desk self.old table.old }
         requires rest { self.old.half ≡ Half.Rest }
+        requires none { self.old.course.endings.list ≡ [] }
         requires within { self.old.course.at < length self.old.course.tasks.items }
         requires act { (task_at self.old.course).act ≡ Act.Make form }
         ensures stepped { HasStepped desk self.old table.old result self.new table.new }

@@ -12,6 +12,7 @@ ghost use Rattle.step_core.specs.Worlds.{AllFit};
 use crate::act::tasks;
 use crate::call::{Actor, Program};
 use crate::course::Course;
+use crate::ending::Endings;
 use crate::extent::Extent;
 use crate::half::Half;
 use crate::holdings::Holdings;
@@ -55,11 +56,13 @@ fn thread_of(alloc: Global, extent: &Extent, desk: u32, actor: &Actor) -> Result
     let tasks = tasks(alloc, actor.calls.as_slice(), names)?;
     let holdings = Holdings::new(alloc, names)?;
     let stock = stock_of(alloc, extent, desk)?;
+    let endings = Endings::new(alloc, extent.shape.blocks as usize)?;
     let mut course = Course {
         tasks,
         at: 0,
         holdings,
         taken: false,
+        endings,
     };
     course.settle();
     Ok(Thread {

@@ -1,5 +1,5 @@
 //! How a thread reads the field that an owner points at.
-ghost use Rattle.std.specs.Prelude.{◌≡◌, ◌<◌, length, slice_index, Some, None};
+ghost use Rattle.std.specs.Prelude.{◌≡◌, ◌<◌, length, slice_index, Some, None, []};
 ghost use Rattle.control_word.specs.declared.view.Pending.TheVariants.{Idle};
 ghost use Rattle.control_word.specs.State.{Has, held};
 ghost use Rattle.step_core.specs.Holdings.{inside_as, into};
@@ -83,6 +83,7 @@ impl Thread {
     pub(crate) fn read(&mut self, desk: usize, table: &mut Table, name: u8) -> Stepped
         requires fits { Fits desk self.old table.old }
         requires rest { self.old.half ≡ Half.Rest }
+        requires none { self.old.course.endings.list ≡ [] }
         requires within { self.old.course.at < length self.old.course.tasks.items }
         requires act { (task_at self.old.course).act ≡ Act.Read name }
         ensures stepped { HasStepped desk self.old table.old result self.new table.new }

@@ -1,11 +1,12 @@
 //! Runs: one step for each number of a list, and then each actor alone to its end.
 ghost use Rattle.std.specs.Prelude.{◌≡◌, ◌+◌, ◌-◌, ◌<◌, ◌≤◌, ◌∷◌, ◌++◌, ℕ, [], All, IfErr, IfOk, MatchOption, length, map, slice_get, sum_by, vec_capacity, vec_len};
-ghost use Rattle.step_core.specs.Bounds.{most_steps, tasks_of};
+ghost use Rattle.step_core.specs.Bounds.{most_steps, steps_of, task_steps, weight};
 ghost use Rattle.step_core.specs.Headline.{AfterEach, AllAtRest, CountsAtRest, LocksWhereOwned, OfEach, TellsLocks, TellsWhatIsLeft, ValuesAtLastLeave, ValuesOnce};
 ghost use Rattle.step_core.specs.Runs.{Adds, IsFirstBad, IsRefusedFor, IsRun, IsScheduled, Names, RunInOrder, RunsToEnd};
 ghost use Rattle.step_core.specs.Stories.{Kept};
 ghost use Rattle.step_core.specs.Totals.{IsAtEnd};
 
+use crate::act::{Act, Task};
 use crate::said::Stepped;
 use crate::thread::Thread;
 use crate::trace::{RunRefusal, Trace, TraceStep};
@@ -54,7 +55,8 @@ impl World {
         ensures few { result ≤ 2000000 }
     {
         self.table.known();
-        13 * tasks_left(self.threads.as_slice()) + 18 * self.threads.len()
+        let living = (self.made - self.ended) as usize;
+        steps_left(self.threads.as_slice()) + 17 * self.threads.len() + 13 * living
     }
 
     /// One step for each number.
@@ -105,17 +107,40 @@ impl World {
     }
 }
 
-/// How many tasks threads have left.
-fn tasks_left(threads: &[Thread]) -> usize
+/// The steps that threads' tasks and endings have left.
+fn steps_left(threads: &[Thread]) -> usize
     requires within { (d : ℕ) (t : Thread) → slice_get threads.now d ≡ Some t → t.course.at ≤ length t.course.tasks.items }
-    requires few { sum_by tasks_of threads.now ≤ 133120 }
-    ensures { result ≡ sum_by tasks_of threads.now }
+    requires few { sum_by steps_of threads.now ≤ 2000000 }
+    ensures { result ≡ sum_by steps_of threads.now }
 {
     let mut left = 0;
     for thread in threads {
-        left += thread.course.tasks.len() - thread.course.at;
+        let tasks = &thread.course.tasks[thread.course.at..];
+        left += task_steps(tasks) + thread.course.endings.steps_left();
     }
     left
+}
+
+/// The steps that tasks have.
+fn task_steps(tasks: &[Task]) -> usize
+    requires { task_steps tasks.now ≤ 2000000 }
+    ensures { result ≡ task_steps tasks.now }
+{
+    let mut left = 0;
+    for task in tasks {
+        left += weight(task.act);
+    }
+    left
+}
+
+/// The steps that an act has.
+fn weight(act: Act) -> usize
+    ensures { result ≡ weight act }
+{
+    match act {
+        Act::Make { .. } => 28,
+        _ => 2,
+    }
 }
 
 /// The position, from 1, of the first number that names none of so many actors.

@@ -1,5 +1,5 @@
 //! How a thread takes a pointer that an object gives to itself, step by step.
-ghost use Rattle.std.specs.Prelude.{◌≡◌, ◌<◌, Bool, length, slice_set, Some, None};
+ghost use Rattle.std.specs.Prelude.{◌≡◌, ◌<◌, Bool, length, slice_set, Some, None, []};
 ghost use Rattle.control_word.specs.declared.handle.Kind.TheVariants.{Owner};
 ghost use Rattle.control_word.specs.declared.view.Pending.TheVariants.{Idle};
 ghost use Rattle.control_word.specs.Events.{place_at};
@@ -102,6 +102,7 @@ impl Thread {
     pub(crate) fn from_this(&mut self, desk: usize, table: &Table, name: u8, kind: Kind) -> Stepped
         requires fits { Fits desk self.old table.now }
         requires rest { self.old.half ≡ Half.Rest }
+        requires none { self.old.course.endings.list ≡ [] }
         requires within { self.old.course.at < length self.old.course.tasks.items }
         requires act { (task_at self.old.course).act ≡ Act.FromThis name kind }
         ensures stepped { HasStepped desk self.old table.now result self.new table.now }

@@ -1,20 +1,14 @@
 //! A thread of the machine: its course, its store, and the act that it has begun.
-ghost use Rattle.std.specs.Prelude.{◌≡◌, ◌<◌, ◌⊎◌, ◌==◌, length, true, Some, None, cond};
-ghost use Rattle.control_word.specs.State.{ending};
-ghost use Rattle.control_word.specs.declared.handle.Kind.TheVariants.{Owner, Weak};
-ghost use Rattle.step_core.specs.Scenes.{on, remains_as};
-ghost use Rattle.step_core.specs.Steps.{end_as, silent};
-ghost use Rattle.step_core.specs.Stories.{Plain, object_in, state};
-ghost use Rattle.step_core.specs.declared.holdings.Pointer.{Pointer};
+ghost use Rattle.std.specs.Prelude.{◌≡◌, ◌<◌, [], length, cond};
+ghost use Rattle.step_core.specs.Steps.{silent};
+ghost use Rattle.step_core.specs.Stories.{Plain};
 
 use crate::act::Act;
 use crate::course::Course;
 use crate::half::Half;
-use crate::holdings::Pointer;
-use crate::said::{Answer, Ended, Said, Stepped};
+use crate::said::{Answer, Said, Stepped};
 use crate::stock::Stock;
 use crate::table::Table;
-use control_word::handle::Kind;
 
 /// A thread. What it holds is its desk's bag, and its store has its desk's vacant blocks.
 #[derive(Drop)]
@@ -26,7 +20,7 @@ pub struct Thread {
 
 impl Thread {
     ghost use Rattle.step_core.specs.Courses.{task_at};
-    ghost use Rattle.step_core.specs.Threads.{Fits, HasStepped, IsStocked, IsStockedBy};
+    ghost use Rattle.step_core.specs.Threads.{Fits, HasStepped};
 
     /// The next atomic step, or the next act that touches no word.
     pub(crate) fn step(&mut self, desk: usize, table: &mut Table) -> Stepped
@@ -36,17 +30,12 @@ impl Thread {
         ensures fits { Fits desk self.new table.new }
     {
         match self.half {
-            Half::Rest => self.act(desk, table),
+            Half::Rest => self.go(desk, table),
             Half::Making {
                 block,
                 index,
                 differs,
             } => self.make_on(desk, table, block, index, differs),
-            Half::Ending {
-                block,
-                stage,
-                statement,
-            } => self.end_on(desk, table, block, stage, statement),
             Half::Locking { word } => self.lock_on(desk, table, word),
             Half::Giving {
                 name,
@@ -56,11 +45,26 @@ impl Thread {
         }
     }
 
+    /// Within no act: the ending begun last goes on, or else the next act comes.
+    fn go(&mut self, desk: usize, table: &mut Table) -> Stepped
+        requires fits { Fits desk self.old table.old }
+        requires plain { Plain table.old }
+        requires rest { self.old.half ≡ Half.Rest }
+        ensures stepped { HasStepped desk self.old table.old result self.new table.new }
+        ensures fits { Fits desk self.new table.new }
+    {
+        match self.course.endings.first() {
+            Some(ending) => self.end_on(desk, table, ending),
+            None => self.act(desk, table),
+        }
+    }
+
     /// The next act, or the first step of it.
     fn act(&mut self, desk: usize, table: &mut Table) -> Stepped
         requires fits { Fits desk self.old table.old }
         requires plain { Plain table.old }
         requires rest { self.old.half ≡ Half.Rest }
+        requires none { self.old.course.endings.list ≡ [] }
         ensures stepped { HasStepped desk self.old table.old result self.new table.new }
         ensures fits { Fits desk self.new table.new }
     {
@@ -88,6 +92,7 @@ impl Thread {
     fn share(&mut self, desk: usize, table: &mut Table, name: u8) -> Stepped
         requires fits { Fits desk self.old table.old }
         requires rest { self.old.half ≡ Half.Rest }
+        requires none { self.old.course.endings.list ≡ [] }
         requires within { self.old.course.at < length self.old.course.tasks.items }
         requires act { (task_at self.old.course).act ≡ Act.Share name }
         ensures stepped { HasStepped desk self.old table.old result self.new table.new }
@@ -103,6 +108,7 @@ impl Thread {
     fn downgrade(&mut self, desk: usize, table: &mut Table, name: u8) -> Stepped
         requires fits { Fits desk self.old table.old }
         requires rest { self.old.half ≡ Half.Rest }
+        requires none { self.old.course.endings.list ≡ [] }
         requires within { self.old.course.at < length self.old.course.tasks.items }
         requires act { (task_at self.old.course).act ≡ Act.Downgrade name }
         ensures stepped { HasStepped desk self.old table.old result self.new table.new }
@@ -118,6 +124,7 @@ impl Thread {
     fn expired(&mut self, desk: usize, table: &mut Table, name: u8) -> Stepped
         requires fits { Fits desk self.old table.old }
         requires rest { self.old.half ≡ Half.Rest }
+        requires none { self.old.course.endings.list ≡ [] }
         requires within { self.old.course.at < length self.old.course.tasks.items }
         requires act { (task_at self.old.course).act ≡ Act.Expired name }
         ensures stepped { HasStepped desk self.old table.old result self.new table.new }
@@ -143,6 +150,7 @@ impl Thread {
         requires fits { Fits desk self.old table.old }
         requires plain { Plain table.old }
         requires rest { self.old.half ≡ Half.Rest }
+        requires none { self.old.course.endings.list ≡ [] }
         requires within { self.old.course.at < length self.old.course.tasks.items }
         requires act { (task_at self.old.course).act ≡ Act.Count name }
         ensures stepped { HasStepped desk self.old table.old result self.new table.new }
@@ -161,113 +169,6 @@ impl Thread {
                 ended: None,
             },
         )
-    }
-
-    /// Leaves what a name holds, if anything. Where that was the last owner, the end of its object begins.
-    fn leave(&mut self, desk: usize, table: &mut Table, name: u8) -> Stepped
-        requires fits { Fits desk self.old table.old }
-        requires rest { self.old.half ≡ Half.Rest }
-        requires within { self.old.course.at < length self.old.course.tasks.items }
-        requires act { ((task_at self.old.course).act ≡ Act.Leave name) ⊎ ((task_at self.old.course).act ≡ Act.Clear name) }
-        ensures stepped { HasStepped desk self.old table.old result self.new table.new }
-        ensures fits { Fits desk self.new table.new }
-    {
-        table.known();
-        let statement = self.course.statement();
-        let held = self.course.holdings.get(usize::from(name));
-        let last = self.course.leave(desk, table, name);
-        table.known();
-        let ended = self.left(desk, table, held, last, statement);
-        says(
-            held.is_some(),
-            Said {
-                statement,
-                answer: None,
-                ended,
-            },
-        )
-    }
-
-    /// Leaves what a name holds, and puts there what is in hand. Where that was the last owner, the end of its object
-    /// begins.
-    fn put(&mut self, desk: usize, table: &mut Table, name: u8) -> Stepped
-        requires fits { Fits desk self.old table.old }
-        requires rest { self.old.half ≡ Half.Rest }
-        requires within { self.old.course.at < length self.old.course.tasks.items }
-        requires act { (task_at self.old.course).act ≡ Act.Put name }
-        ensures stepped { HasStepped desk self.old table.old result self.new table.new }
-        ensures fits { Fits desk self.new table.new }
-    {
-        table.known();
-        let statement = self.course.statement();
-        let held = self.course.holdings.get(usize::from(name));
-        let last = self.course.put(desk, table, name);
-        table.known();
-        let ended = self.left(desk, table, held, last, statement);
-        says(
-            held.is_some(),
-            Said {
-                statement,
-                answer: None,
-                ended,
-            },
-        )
-    }
-
-    /// After a leave that was the last: of an owner, the end of its object begins; of a weak pointer, its block comes into the
-    /// store. Answers what an object leaves that ends.
-    fn left(
-        &mut self,
-        desk: usize,
-        table: &Table,
-        held: Option<Pointer>,
-        last: bool,
-        statement: u32,
-    ) -> Option<Ended>
-        requires rest { self.old.half ≡ Half.Rest }
-        requires ending { (x : Pointer) → held ≡ Some x → x.kind ≡ Owner → last ≡ true → ((state table.now).object (object_in table.now x.block)).phase ≡ ending desk }
-        requires room { (x : Pointer) → held ≡ Some x → x.kind ≡ Weak → last ≡ true → length self.old.stock.blocks < self.old.stock.room }
-        ensures course { self.new.course ≡ self.old.course }
-        ensures stock { IsStockedBy held last self.old.stock self.new.stock }
-        ensures half { self.new.half ≡ on (λ x. cond last (end_as x.kind statement x.block) Half.Rest) Half.Rest held }
-        ensures ended { result ≡ on (λ x. cond last (remains_as x.kind ((state table.now).object (object_in table.now x.block))) None) None held }
-    {
-        match held {
-            Some(pointer) if last => self.close(desk, table, pointer, statement),
-            _ => None,
-        }
-    }
-
-    /// After the last leave of a kind, as `left` says.
-    fn close(
-        &mut self,
-        desk: usize,
-        table: &Table,
-        pointer: Pointer,
-        statement: u32,
-    ) -> Option<Ended>
-        requires rest { self.old.half ≡ Half.Rest }
-        requires ending { pointer.kind ≡ Owner → ((state table.now).object (object_in table.now pointer.block)).phase ≡ ending desk }
-        requires room { pointer.kind ≡ Weak → length self.old.stock.blocks < self.old.stock.room }
-        ensures course { self.new.course ≡ self.old.course }
-        ensures stock { IsStocked pointer.kind pointer.block.0 true self.old.stock self.new.stock }
-        ensures half { self.new.half ≡ end_as pointer.kind statement pointer.block }
-        ensures ended { result ≡ remains_as pointer.kind ((state table.now).object (object_in table.now pointer.block)) }
-    {
-        match pointer.kind {
-            Kind::Owner => {
-                self.half = Half::Ending {
-                    block: pointer.block,
-                    stage: 0,
-                    statement,
-                };
-                Some(table.remains(desk, pointer.block))
-            }
-            Kind::Weak => {
-                self.stock.put(pointer.block);
-                None
-            }
-        }
     }
 }
 

@@ -1,10 +1,11 @@
 //! What is done with pointers by their values: aliases, moves, and what is told of them.
-ghost use Rattle.std.specs.Prelude.{◌≡◌, ◌<◌, ℕ, length, slice_set, true, Some, None};
+ghost use Rattle.std.specs.Prelude.{◌≡◌, ◌<◌, ℕ, length, slice_set, true, Some, None, []};
 ghost use Rattle.control_word.specs.Handles.{IsPointer, same_place};
 ghost use Rattle.control_word.specs.declared.view.Pending.TheVariants.{Idle};
 ghost use Rattle.step_core.specs.Deeds.{alias, aliased, at_place};
 ghost use Rattle.step_core.specs.Holdings.{Holds, is_full, owner_as, owner_slot, place_in, slot};
-ghost use Rattle.step_core.specs.Scenes.{alias_in, before, on, reply};
+ghost use Rattle.step_core.specs.Entries.{on};
+ghost use Rattle.step_core.specs.Scenes.{alias_in, before, reply};
 ghost use Rattle.step_core.specs.Stories.{Story, after, pending, state};
 ghost use Rattle.step_core.specs.declared.act.Act.{Act};
 ghost use Rattle.step_core.specs.declared.half.Half.{Half};
@@ -112,7 +113,7 @@ impl Course {
         ensures table { table.new
             ≡ done_on (alias (aliased field (place_in self.old.holdings.slots.items of))) table.old desk (owner_slot (slot self.old.holdings.slots.items name)) }
         ensures walk { walk self.new
-            ≡ settled (slice_set self.old.holdings.slots.items (hand self.old.holdings.slots.items) (alias_in self.old.holdings.slots.items name of field)) true (rest self.old) }
+            ≡ settled (slice_set self.old.holdings.slots.items (hand self.old.holdings.slots.items) (alias_in self.old.holdings.slots.items name of field)) true self.old.endings.list (rest self.old) }
         ensures on { HasGoneOn desk self.old self.new table.new }
     {
         let from = usize::from(name);
@@ -138,7 +139,7 @@ impl Course {
         requires within { self.old.at < length self.old.tasks.items }
         requires ready { CourseReady self.old }
         requires act { (task_at self.old).act ≡ Act.Move name }
-        ensures walk { walk self.new ≡ settled (passed name (hand self.old.holdings.slots.items) self.old.holdings.slots.items) true (rest self.old) }
+        ensures walk { walk self.new ≡ settled (passed name (hand self.old.holdings.slots.items) self.old.holdings.slots.items) true self.old.endings.list (rest self.old) }
         ensures on { (d : ℕ) (v : Story) → Holds d self.old.holdings.slots.items v → HasGoneOn d self.old self.new v }
     {
         let hand = self.holdings.hand();
@@ -151,7 +152,7 @@ impl Course {
         requires can { CanAct desk self.old table.now }
         requires act { (task_at self.old).act ≡ Act.Ask question }
         ensures answer { result ≡ reply (state table.now) self.old.holdings.slots.items question }
-        ensures walk { walk self.new ≡ settled self.old.holdings.slots.items self.old.taken (rest self.old) }
+        ensures walk { walk self.new ≡ settled self.old.holdings.slots.items self.old.taken self.old.endings.list (rest self.old) }
         ensures on { HasGoneOn desk self.old self.new table.now }
     {
         let answer = self.holdings.reply(desk, table, question);
@@ -175,6 +176,7 @@ impl Thread {
     ) -> Stepped
         requires fits { Fits desk self.old table.old }
         requires rest { self.old.half ≡ Half.Rest }
+        requires none { self.old.course.endings.list ≡ [] }
         requires within { self.old.course.at < length self.old.course.tasks.items }
         requires act { (task_at self.old.course).act ≡ Act.Alias name of field }
         ensures stepped { HasStepped desk self.old table.old result self.new table.new }
@@ -190,6 +192,7 @@ impl Thread {
     pub(crate) fn pull(&mut self, desk: usize, table: &Table, name: u8) -> Stepped
         requires fits { Fits desk self.old table.now }
         requires rest { self.old.half ≡ Half.Rest }
+        requires none { self.old.course.endings.list ≡ [] }
         requires within { self.old.course.at < length self.old.course.tasks.items }
         requires act { (task_at self.old.course).act ≡ Act.Move name }
         ensures stepped { HasStepped desk self.old table.now result self.new table.now }
@@ -205,6 +208,7 @@ impl Thread {
     pub(crate) fn reply(&mut self, desk: usize, table: &Table, question: Question) -> Stepped
         requires fits { Fits desk self.old table.now }
         requires rest { self.old.half ≡ Half.Rest }
+        requires none { self.old.course.endings.list ≡ [] }
         requires within { self.old.course.at < length self.old.course.tasks.items }
         requires act { (task_at self.old.course).act ≡ Act.Ask question }
         ensures stepped { HasStepped desk self.old table.now result self.new table.now }

@@ -82,7 +82,7 @@ impl World {
     /// The steps through the next act.
     fn act(&mut self, number: usize) -> Turned
         requires within { number < length self.old.walks }
-        requires rested { is_ending (half_of self.old number) ≡ false }
+        requires rested { is_ending self.old number ≡ false }
         ensures plays { Plays number self.old result self.new }
         ensures goes { GoesTo number self.old self.new }
         ensures actors { length self.new.walks ≡ length self.old.walks }
@@ -163,9 +163,9 @@ impl World {
     /// Whether a thread ends an object.
     fn is_ending(&self, number: usize) -> bool
         requires { number < length self.now.walks }
-        ensures { result ≡ is_ending (half_of self.now number) }
+        ensures { result ≡ is_ending self.now number }
     {
-        matches!(self.threads[number].half, Half::Ending { .. })
+        self.threads[number].course.endings.first().is_some()
     }
 
     /// Whether a thread makes an object.

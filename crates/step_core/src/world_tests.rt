@@ -62,7 +62,9 @@ fn blocks(world: &World) -> u32
 fn has_ended(thread: &Thread) -> bool
     ensures { IsTrue result → HasEnded thread.now }
 {
-    thread.half == Half::Rest && thread.course.at == thread.course.tasks.len()
+    thread.half == Half::Rest
+        && thread.course.endings.first().is_none()
+        && thread.course.at == thread.course.tasks.len()
 }
 
 fn have_ended(threads: &[Thread]) -> bool

@@ -10,7 +10,7 @@ use Rattle.std.specs.List.{All, AllByRecursion, filter}
 use Rattle.control_word.proofs.lists.Tallies.{num, num_cons}
 use Rattle.control_word.specs.State.{Stored, same_stored, stored}
 use Rattle.step_core.specs.Actors.{in_list}
-use Rattle.step_core.specs.Scenes.{least, lesser}
+use Rattle.step_core.specs.Entries.{least, lesser}
 use Rattle.step_core.proofs.holding.Storing.{one_stored}
 
 abbrev Least : ℕ → List Stored → Option ℕ → Type 0

@@ -18,16 +18,19 @@ use Rattle.control_word.specs.State.{Has, Held, Object, Phase, State, Stored, ba
 use Rattle.control_word.specs.State.{stock, stored, unmade, weak_number}
 use Rattle.control_word.specs.Views.{used_up}
 use Rattle.step_core.specs.declared.act.Form.{Form}
+use Rattle.step_core.specs.declared.ending.Ending.{Ending}
 use Rattle.step_core.specs.declared.half.Half.{Half}
-use Rattle.step_core.specs.declared.half.Half.TheVariants.{Rest, Making, Ending, Locking, Giving}
+use Rattle.step_core.specs.declared.half.Half.TheVariants.{Rest, Making, Locking, Giving}
 use Rattle.step_core.specs.declared.holdings.Pointer.{Pointer}
 use Rattle.step_core.specs.declared.past.Deed.{Deed}
 use Rattle.step_core.specs.declared.past.Deed.TheVariants.{Prepare, Write, Claim, Share, WeakShare, Leave, WeakLeave, Lock, Count, Expired, Read, Clear, Finish, OnCell}
 use Rattle.step_core.specs.Actors.{HalfFits, Stocks, in_store}
+use Rattle.step_core.specs.Endings.{EndsAll}
 use Rattle.step_core.specs.Holdings.{Holds, Slots, slot, times}
 use Rattle.step_core.specs.Openings.{opening}
-use Rattle.step_core.specs.Scenes.{least}
+use Rattle.step_core.specs.Entries.{least}
 use Rattle.step_core.specs.Stories.{Kept, known, Nothing, Story, after, handle_in, object_in, owner_in, pending, state, weak_in}
+use Rattle.step_core.proofs.holding.Ends.{each_end}
 use Rattle.step_core.proofs.holding.Least.{least_part}
 use Rattle.step_core.proofs.holding.Owning.{same_owns, slot_held}
 use Rattle.step_core.proofs.tables.CellDeeds.{framed, same_cell}
@@ -229,13 +232,18 @@ half_others d (Giving i kind y) form v e x n kept kept' fits =
           ∙ enabled_stays v e (object_in v y.block) x (fine.latest_made y.block.0)
           ∙ fits.enabled;
     }
-half_others d (Ending b at k) form v e x n kept kept' fits =
-    let end = ends_on v e d (object_in v b) x n kept kept' fits.ending in
-    let busy : 0 < weak_number (state (after v e x)) (object_in v b) = let c : common ((state (after v e x)).object
-    (object_in v b)).phase ≡ 1 = ap common end in omega arith in
-    let o = kept_object v e b x kept kept' (ending_busy v d b fits.ending) busy in
+
+-- another desk's deed leaves the endings
+pub ends_others : (d : ℕ) (es : List Ending) (v : Story) (e : ℕ) (x : Deed) → e ≢ d → Kept v → Kept (after v e x) → EndsAll d es v
+    → EndsAll d es (after v e x)
+ends_others d es v e x n kept kept' ends =
     record {
-      idle = same_pending v e d x n ∙ fits.idle;
-      ending = subst (λ (k : ℕ). ((state (after v e x)).object k).phase ≡ ending d) (sym o) end;
-      within = fits.within;
+      each = each_end d v (after v e x) es
+          (λ y is.
+          let end = ends_on v e d (object_in v y.block) x n kept kept' is.ending in
+          let busy : 0 < weak_number (state (after v e x)) (object_in v y.block) = let c : common ((state (after v e x)).object
+          (object_in v y.block)).phase ≡ 1 = ap common end in omega arith in
+          let o = kept_object v e y.block x kept kept' (ending_busy v d y.block is.ending) busy in
+          record { ending = subst (λ (k : ℕ). ((state (after v e x)).object k).phase ≡ ending d) (sym o) end; within = is.within }) ends.each;
+      once = ends.once;
     }

@@ -14,7 +14,8 @@ use Rattle.step_core.specs.declared.holdings.Pointer.{Pointer}
 use Rattle.step_core.specs.Deeds.{aliased}
 use Rattle.step_core.specs.Holdings.{Holds, Slots, owner_as, owner_slot, place_in, slot}
 use Rattle.step_core.specs.Programs.{field_number}
-use Rattle.step_core.specs.Scenes.{before, handle_of, on}
+use Rattle.step_core.specs.Entries.{handle_of, on}
+use Rattle.step_core.specs.Scenes.{before}
 use Rattle.step_core.specs.Stories.{Kept, Story, handle_in, owner_in, state}
 use Rattle.step_core.proofs.holding.Owning.{slot_held}
 use Rattle.step_core.proofs.tables.Places.{handle_busy, there}

@@ -15,7 +15,7 @@ use Rattle.step_core.specs.declared.act.Act.{Act}
 use Rattle.step_core.specs.declared.act.Act.TheVariants.{Make, Share, Downgrade, Lock, Put, Leave, Clear, Count, Expired, Read, FromThis, Alias, Move, Ask}
 use Rattle.step_core.specs.declared.act.Task.{Task}
 use Rattle.step_core.specs.declared.half.Half.{Half}
-use Rattle.step_core.specs.declared.half.Half.TheVariants.{Rest, Making, Ending, Locking, Giving}
+use Rattle.step_core.specs.declared.half.Half.TheVariants.{Rest, Making, Locking, Giving}
 use Rattle.step_core.specs.declared.holdings.Pointer.{Pointer}
 use Rattle.step_core.specs.declared.past.Deed.{Deed}
 use Rattle.step_core.specs.declared.past.Deed.TheVariants as deed
@@ -24,12 +24,15 @@ use Rattle.step_core.specs.declared.said.Stepped.{Stepped}
 use Rattle.step_core.specs.declared.said.Stepped.TheVariants as stepped
 use Rattle.step_core.specs.declared.trace.TraceStep.{TraceStep}
 use Rattle.step_core.specs.Actors.{wanted}
-use Rattle.step_core.specs.Courses.{Walk, form_of, locked}
+use Rattle.step_core.specs.declared.ending.Ending.{Ending}
+use Rattle.step_core.specs.Courses.{Walk, form_of, hand, locked}
 use Rattle.step_core.specs.Deeds.{is_enabled, read, as_owner, downgrade, is_expired, is_last, leave, leave_as, lock, owner_word, share, share_as, tell, tell_expired, alias, aliased}
+use Rattle.step_core.specs.Endings.{staged}
 use Rattle.step_core.specs.Headline.{TellsLocks, Was, answer_by}
 use Rattle.step_core.specs.Holdings.{inside, is_full, slot, owner_slot, place_in}
-use Rattle.step_core.specs.Scenes.{found, least, lock_answer, on, walk_of}
-use Rattle.step_core.specs.Steps.{asks, given as given_by, Step, acts, begins, begun, claims, ends_on, first, is_event, looks, made_on, prepares, silent, step_at, stepped as stepped_by, story_after, story_by, tried, tries, trying}
+use Rattle.step_core.specs.Entries.{least, on}
+use Rattle.step_core.specs.Scenes.{found, lock_answer, walk_of}
+use Rattle.step_core.specs.Steps.{asks, at_rest, given as given_by, Step, acts, begins, begun, claims, ends_on, first, is_event, looks, made_on, prepares, silent, step_at, stepped as stepped_by, story_after, story_by, tried, tries, trying, with_endings}
 use Rattle.step_core.specs.Stories.{Nothing, Story, added, event_of, known, object_in, pending, state}
 use Rattle.step_core.specs.Worlds.{Sight, half_of, scene, step_of}
 use Rattle.step_core.proofs.tables.CellDeeds.{by_event}
@@ -114,9 +117,9 @@ first_tells v d k w ts (Move i) = tt
 first_tells v d k w ts (Ask q) = tt
 first_tells v d k w ts (Lock i must) = lock_tells v d k i w ts must (locked w.slots (Lock i must)) refl
 
-rest_tells : (v : Story) (d : ℕ) (w : Walk) (ts : List Task) → Tells (begun v d w ts)
-rest_tells v d w [] = tt
-rest_tells v d w (t ∷ ts) = first_tells v d t.statement w ts t.act
+task_tells : (v : Story) (d : ℕ) (w : Walk) (ts : List Task) → Tells (begun v d w ts)
+task_tells v d w [] = tt
+task_tells v d w (t ∷ ts) = first_tells v d t.statement w ts t.act
 
 prepared_tells : (found want k i : ℕ) (w : Walk) (b : Block) (f : Bool) → Tells (Some (prepares found want w k b i f))
 prepared_tells found want k i w b true = tt
@@ -130,12 +133,23 @@ make_tells v d i w b f (t ∷ ts) =
     cond_both (i == 5) (claims w t.statement ts b (form_of t.act)) (prepares found want w t.statement b i f) (λ (x : Step). Tells (Some x))
     (λ e. tt) (λ e. prepared_tells found want t.statement i w b f)
 
-end_tells : (v : Story) (stage k : ℕ) (w : Walk) (b : Block) → Tells (Some (ends_on v w b stage k))
-end_tells v stage k w b =
-    cond_both (stage == 3)
-    (record { deed = Some (deed.Finish b (weak (state v) (object_in v b) == 0)); half = Rest; walk = w; said = silent k })
-    (record { deed = Some (deed.Clear b stage); half = Ending b (stage + 1) k; walk = w; said = silent k })
-    (λ (x : Step). Tells (Some x)) (λ e. tt) (λ e. tt)
+end_tells : (v : Story) (w : Walk) (e : Ending) (es : List Ending) → Tells (Some (ends_on v w e es))
+end_tells v w e es =
+    cond_both (e.stage == 3)
+    (record {
+      deed = Some (deed.Finish e.block (weak (state v) (object_in v e.block) == 0));
+      half = Rest;
+      walk = with_endings w es;
+      said = silent e.statement;
+    })
+    (record { deed = Some (deed.Clear e.block e.stage); half = Rest; walk = with_endings w (staged e ∷ es); said = silent e.statement })
+    (λ (x : Step). Tells (Some x)) (λ c. tt) (λ c. tt)
+
+rest_tells : (v : Story) (d : ℕ) (w : Walk) (es : List Ending) → Tells (at_rest v d w es)
+rest_tells v d w [] = task_tells v d w w.todo
+rest_tells v d w (e ∷ es) =
+    cond_both (is_full (slot w.slots (hand w.slots))) (first v d w e.statement w.todo (Leave (hand w.slots))) (ends_on v w e es)
+    (λ (x : Step). Tells (Some x)) (λ c. first_tells v d e.statement w w.todo (Leave (hand w.slots))) (λ c. end_tells v w e es)
 
 tried_tells : (v : Story) (d word : ℕ) (w : Walk) (ts : List Task) → Tells (tried v d w word ts)
 tried_tells v d word w [] = tt
@@ -152,9 +166,8 @@ tried_tells v d word w (t ∷ ts) = go t.act
     go _ = tt
 
 step_tells : (v : Story) (d : ℕ) (h : Half) (w : Walk) → Tells (step_at v d h w)
-step_tells v d Rest w = rest_tells v d w w.todo
+step_tells v d Rest w = rest_tells v d w w.endings
 step_tells v d (Making b i f) w = make_tells v d i w b f w.todo
-step_tells v d (Ending b stage k) w = end_tells v stage k w b
 step_tells v d (Locking word) w = tried_tells v d word w w.todo
 step_tells v d (Giving i kind x) w = given_tells v d i kind x w w.todo
 

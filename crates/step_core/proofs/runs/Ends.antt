@@ -21,6 +21,7 @@ still_over d e u u' r ne steps over =
     let x = step_of d u in
     subst (λ (w : Sight). IsOver e w) (sym steps.1) (record {
       walk = ap (λ (w : Walk). w.todo) (get_or-set_other u.walks d e (walk_by (walk_of (scene u) d) x) nowhere ne) ∙ over.walk;
+      endings = ap (λ (w : Walk). w.endings) (get_or-set_other u.walks d e (walk_by (walk_of (scene u) d) x) nowhere ne) ∙ over.endings;
       half = get_or-set_other u.halves d e (half_by (half_of u d) x) Rest ne ∙ over.half;
     })
 
@@ -47,6 +48,8 @@ pub at_end : (n : ℕ) (u u' : Sight) (xs : List TraceStep) → RunInOrder n u x
 at_end n u u' xs runs walks halves =
     record {
       walks = All-from_get_or (λ (w : Walk). w.todo ≡ []) u'.walks nowhere (λ i lt. (all_over n u u' xs runs i (omega (arith, lt, walks))).walk);
+      endings =
+          All-from_get_or (λ (w : Walk). w.endings ≡ []) u'.walks nowhere (λ i lt. (all_over n u u' xs runs i (omega (arith, lt, walks))).endings);
       halves = All-from_get_or (λ (h : Half). h ≡ Rest) u'.halves Rest (λ i lt. (all_over n u u' xs runs i (omega (arith, lt, halves))).half);
     }
 

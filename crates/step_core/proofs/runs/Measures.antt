@@ -9,16 +9,19 @@ use Rattle.step_core.specs.declared.half.Half.{Half}
 use Rattle.step_core.specs.declared.half.Half.TheVariants.{Rest}
 use Rattle.step_core.specs.declared.said.Stepped.{Stepped}
 use Rattle.step_core.specs.declared.said.Stepped.TheVariants.{Event, Quiet, Done}
-use Rattle.step_core.specs.Bounds.{most_steps, spare}
+use Rattle.step_core.specs.Bounds.{living, most_steps, spare, walk_steps}
 use Rattle.step_core.specs.Courses.{Walk}
+use Rattle.step_core.specs.Openings.{opening}
 use Rattle.step_core.specs.Runs.{IsOver}
 use Rattle.step_core.specs.Scenes.{nowhere, walk_of}
-use Rattle.step_core.specs.Steps.{Step, begun, is_event}
-use Rattle.step_core.specs.Steps.{story_after, stepped}
-use Rattle.step_core.specs.Stories.{Story}
+use Rattle.step_core.specs.Steps.{Step, is_event, story_after, story_by, stepped}
+use Rattle.step_core.specs.Stories.{Kept, Story}
+use Rattle.step_core.specs.Told.{ends_by, makes}
 use Rattle.step_core.specs.Turning.{HasBegun}
 use Rattle.step_core.specs.Worlds.{Sight, Steps, half_of, scene, sight_by, step_of}
 use Rattle.step_core.proofs.runs.Lessening.{IsLess, alone, less}
+use Rattle.step_core.proofs.telling.Counting.{counted}
+use Rattle.step_core.proofs.telling.Order.{ended_few}
 
 -- what thread d has to spare
 abbrev pub spare_of : ℕ → Sight → ℕ
@@ -29,7 +32,7 @@ alone_of d u = alone u.story (walk_of (scene u) d) (half_of u d)
 
 -- the steps that thread d has left, if it runs alone
 abbrev pub left_of : ℕ → Sight → ℕ
-left_of d u = 13 * length (walk_of (scene u) d).todo + alone_of d u
+left_of d u = walk_steps (walk_of (scene u) d) + alone_of d u + 13 * living u
 
 -- thread d has fewer steps left, and so have all together; they never have more
 pub record Falls (d : ℕ) (u u' : Sight) : Type 0 where
@@ -38,15 +41,27 @@ pub record Falls (d : ℕ) (u u' : Sight) : Type 0 where
   pub most : most_steps u' ≤ most_steps u
   pub within : spare_of d u' ≤ most_steps u'
 
+-- what lives after a step, by what it made and of what the last owner left
+living_by : (d : ℕ) (u : Sight) → HasBegun d u → Kept (story_by u.story d (step_of d u))
+    → living (sight_by d u (step_of d u)) + ends_by (stepped u.story (step_of d u)) ≤ living u + makes (half_of u d) (stepped u.story (step_of d u))
+living_by d u begun kept =
+    let x = step_of d u in
+    let c = counted u.story d (half_of u d) (walk_of (scene u) d) begun.half begun.alone in
+    let law = ended_few (opening (story_by u.story d x).extent) (story_by u.story d x).history kept.stands.legal in
+    let m = c.made in
+    let e = c.ended in
+    omega (arith, law, m, e)
+
 falls : (d : ℕ) (u : Sight) (x : Step) → d < length u.walks → d < length u.halves
-    → IsLess u.story d (half_of u d) (walk_of (scene u) d) (length (walk_of (scene u) d).todo) (Some x) → Falls d u (sight_by d u (Some x))
-falls d u x lt within fewer =
+    → living (sight_by d u (Some x)) + ends_by (stepped u.story (Some x)) ≤ living u + makes (half_of u d) (stepped u.story (Some x))
+    → IsLess u.story d (half_of u d) (walk_of (scene u) d) (Some x) → Falls d u (sight_by d u (Some x))
+falls d u x lt within live fewer =
     let v = story_after u.story d x.deed in
-    let s = sum_by-set (λ (w : Walk). length w.todo) u.walks d x.walk nowhere lt in
+    let s = sum_by-set walk_steps u.walks d x.walk nowhere lt in
     let t = sum_by-set spare u.halves d x.half Rest within in
     let walked = get_or-set_same u.walks d x.walk nowhere lt in
     let half = get_or-set_same u.halves d x.half Rest within in
-    let p = ap (λ (w : Walk). length w.todo) walked in
+    let p = ap walk_steps walked in
     let q = ap spare half in
     let a = ap (λ (w : Walk). alone v w (half_of (sight_by d u (Some x)) d)) walked ∙ ap (alone v x.walk) half in
     let own = fewer.own in
@@ -54,9 +69,9 @@ falls d u x lt within fewer =
     let size = length-set u.halves d x.half in
     let one = get_or-le-sum_by spare (slice_set u.halves d x.half) d Rest (omega (arith, within, size)) in
     record {
-      own = omega (arith, own, p, a);
-      all = omega (arith, own, s, t, p, q, a);
-      most = omega (arith, most, s, t);
+      own = omega (arith, own, p, a, live);
+      all = omega (arith, own, s, t, p, q, a, live);
+      most = omega (arith, most, s, t, live);
       within = omega (arith, one);
     }
 
@@ -76,32 +91,41 @@ sight_of v ws hs = record { story = v; walks = ws; halves = hs }
 same_sight : (u : Sight) (ws : List Walk) (hs : List Half) → ws ≡ u.walks → hs ≡ u.halves → sight_of u.story ws hs ≡ u
 same_sight u ws hs e f = ap (λ (w : List Walk). sight_of u.story w hs) e ∙ ap (sight_of u.story u.walks) f
 
+left : (d : ℕ) (u : Sight) → HasBegun d u → IsLess u.story d (half_of u d) (walk_of (scene u) d) (step_of d u)
+left d u begun = less u.story d (half_of u d) (walk_of (scene u) d) begun.half begun.tried begun.alone begun.staged
+
 -- a step at the end changes nothing
 pub at_end : (d : ℕ) (u u' : Sight) → HasBegun d u → Steps d u Done u' → (u' ≡ u) × IsOver d u
-at_end d u u' begun steps = go (step_of d u) steps.0 steps.1 (less u.story d (half_of u d) (walk_of (scene u) d) begun.half begun.tried)
+at_end d u u' begun steps = go (step_of d u) steps.0 steps.1 (left d u begun)
   where
     go : (o : Option Step) → Done ≡ stepped u.story o → u' ≡ sight_by d u o
-        → IsLess u.story d (half_of u d) (walk_of (scene u) d) (length (walk_of (scene u) d).todo) o → (u' ≡ u) × IsOver d u
+        → IsLess u.story d (half_of u d) (walk_of (scene u) d) o → (u' ≡ u) × IsOver d u
     go None r e l =
-        (e ∙ same_sight u _ _ (set-get_or u.walks d nowhere) (set-get_or u.halves d Rest), record { walk = l.0; half = l.1 })
+        (e ∙ same_sight u _ _ (set-get_or u.walks d nowhere) (set-get_or u.halves d Rest), record { walk = l.0; endings = l.1; half = l.2 })
     go (Some x) r e l = absurd (never_done u.story x (sym r))
 
 -- any other step is one less
-pub before_end : (d : ℕ) (u u' : Sight) (r : Stepped) → HasBegun d u → d < length u.walks → Steps d u r u' → r ≢ Done → Falls d u u'
-before_end d u u' r begun lt steps ne = go (step_of d u) steps.0 steps.1 (less u.story d (half_of u d) (walk_of (scene u) d) begun.half begun.tried)
+pub before_end : (d : ℕ) (u u' : Sight) (r : Stepped) → HasBegun d u → Kept u'.story → d < length u.walks → Steps d u r u' → r ≢ Done
+    → Falls d u u'
+before_end d u u' r begun kept lt steps ne =
+    go (step_of d u) steps.0 steps.1 (living_by d u begun (subst (λ (w : Sight). Kept w.story) steps.1 kept)) (left d u begun)
   where
     go : (o : Option Step) → r ≡ stepped u.story o → u' ≡ sight_by d u o
-        → IsLess u.story d (half_of u d) (walk_of (scene u) d) (length (walk_of (scene u) d).todo) o → Falls d u u'
-    go None e f l = absurd (ne e)
-    go (Some x) e f l = subst (λ (w : Sight). Falls d u w) (sym f) (falls d u x lt begun.within l)
+        → living (sight_by d u o) + ends_by (stepped u.story o) ≤ living u + makes (half_of u d) (stepped u.story o)
+        → IsLess u.story d (half_of u d) (walk_of (scene u) d) o → Falls d u u'
+    go None e f live l = absurd (ne e)
+    go (Some x) e f live l = subst (λ (w : Sight). Falls d u w) (sym f) (falls d u x lt begun.within live l)
 
 -- no step is one more
-pub never_more : (d : ℕ) (u u' : Sight) (r : Stepped) → HasBegun d u → d < length u.walks → Steps d u r u' → most_steps u' ≤ most_steps u
-never_more d u u' r begun lt steps = go (step_of d u) steps.1 (less u.story d (half_of u d) (walk_of (scene u) d) begun.half begun.tried)
+pub never_more : (d : ℕ) (u u' : Sight) (r : Stepped) → HasBegun d u → Kept u'.story → d < length u.walks → Steps d u r u'
+    → most_steps u' ≤ most_steps u
+never_more d u u' r begun kept lt steps =
+    go (step_of d u) steps.1 (living_by d u begun (subst (λ (w : Sight). Kept w.story) steps.1 kept)) (left d u begun)
   where
     go : (o : Option Step) → u' ≡ sight_by d u o
-        → IsLess u.story d (half_of u d) (walk_of (scene u) d) (length (walk_of (scene u) d).todo) o → most_steps u' ≤ most_steps u
-    go None f l =
+        → living (sight_by d u o) + ends_by (stepped u.story o) ≤ living u + makes (half_of u d) (stepped u.story o)
+        → IsLess u.story d (half_of u d) (walk_of (scene u) d) o → most_steps u' ≤ most_steps u
+    go None f live l =
         let e : u' ≡ u = f ∙ same_sight u _ _ (set-get_or u.walks d nowhere) (set-get_or u.halves d Rest) in
         let k = ap most_steps e in omega (arith, k)
-    go (Some x) f l = let k = ap most_steps f in let g = (falls d u x lt begun.within l).most in omega (arith, k, g)
+    go (Some x) f live l = let k = ap most_steps f in let g = (falls d u x lt begun.within live l).most in omega (arith, k, g)

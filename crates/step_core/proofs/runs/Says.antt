@@ -14,7 +14,7 @@ use Rattle.step_core.specs.declared.act.Act.{Act}
 use Rattle.step_core.specs.declared.act.Act.TheVariants.{Make, Share, Downgrade, Lock, Put, Leave, Clear, Count, Expired, Read, FromThis, Alias, Move, Ask}
 use Rattle.step_core.specs.declared.act.Task.{Task}
 use Rattle.step_core.specs.declared.half.Half.{Half}
-use Rattle.step_core.specs.declared.half.Half.TheVariants.{Rest, Making, Ending, Locking, Giving}
+use Rattle.step_core.specs.declared.half.Half.TheVariants.{Rest, Making, Locking, Giving}
 use Rattle.step_core.specs.declared.holdings.Pointer.{Pointer}
 use Rattle.step_core.specs.declared.past.Deed.{Deed}
 use Rattle.step_core.specs.declared.past.Deed.TheVariants as deed
@@ -23,13 +23,16 @@ use Rattle.step_core.specs.declared.said.Stepped.{Stepped}
 use Rattle.step_core.specs.declared.said.Stepped.TheVariants as stepped
 use Rattle.step_core.specs.declared.trace.TraceStep.{TraceStep}
 use Rattle.step_core.specs.Actors.{wanted}
-use Rattle.step_core.specs.Courses.{Walk, form_of, locked}
+use Rattle.step_core.specs.declared.ending.Ending.{Ending}
+use Rattle.step_core.specs.Courses.{Walk, form_of, hand, locked}
 use Rattle.step_core.specs.Deeds.{is_enabled, read, downgrade, is_last as is_last_of, leave, leave_as, lock, owned, owner_word, share, share_as, tell, tell_expired, alias, aliased}
 use Rattle.step_core.specs.Headline.{LastLeft, TellsWhatIsLeft, ended_by}
-use Rattle.step_core.specs.Holdings.{inside, slot, owner_slot, place_in}
-use Rattle.step_core.specs.Scenes.{ended_by as ended_of, least, on, remains, remains_as}
-use Rattle.step_core.specs.Steps.{asks, given, Step, acts, begins, begun, claims, ends_on, first, is_event, looks, made_on, prepares, silent, step_at}
-use Rattle.step_core.specs.Steps.{stepped as stepped_by, story_after, story_by, tried, tries, trying}
+use Rattle.step_core.specs.Endings.{staged}
+use Rattle.step_core.specs.Holdings.{inside, is_full, slot, owner_slot, place_in}
+use Rattle.step_core.specs.Entries.{least, on}
+use Rattle.step_core.specs.Scenes.{ended_by as ended_of, remains, remains_as}
+use Rattle.step_core.specs.Steps.{asks, at_rest, given, Step, acts, begins, begun, claims, ends_on, first, is_event, looks, made_on, prepares, silent, step_at}
+use Rattle.step_core.specs.Steps.{stepped as stepped_by, story_after, story_by, tried, tries, trying, with_endings}
 use Rattle.step_core.specs.Stories.{Nothing, Story, added, event_of, known, object_in, owner_in, pending, state}
 use Rattle.step_core.specs.Totals.{is_last}
 use Rattle.step_core.specs.Worlds.{Sight, half_of, scene, step_of}
@@ -151,9 +154,9 @@ first_tells v d k w ts (Alias i j field) = alias_tells v (aliased field (place_i
 first_tells v d k w ts (Move i) = refl
 first_tells v d k w ts (Ask q) = refl
 
-rest_tells : (v : Story) (d : ℕ) (w : Walk) (ts : List Task) → Tells v (begun v d w ts)
-rest_tells v d w [] = tt
-rest_tells v d w (t ∷ ts) = first_tells v d t.statement w ts t.act
+task_tells : (v : Story) (d : ℕ) (w : Walk) (ts : List Task) → Tells v (begun v d w ts)
+task_tells v d w [] = tt
+task_tells v d w (t ∷ ts) = first_tells v d t.statement w ts t.act
 
 prepared_tells : (v : Story) (found want k i : ℕ) (w : Walk) (b : Block) (f : Bool) → Tells v (Some (prepares found want w k b i f))
 prepared_tells v found want k i w b true = refl
@@ -167,17 +170,27 @@ make_tells v d i w b f (t ∷ ts) =
     cond_both (i == 5) (claims w t.statement ts b (form_of t.act)) (prepares found want w t.statement b i f) (λ (x : Step). Tells v (Some x))
     (λ e. refl) (λ e. prepared_tells v found want t.statement i w b f)
 
-end_tells : (v : Story) (stage k : ℕ) (w : Walk) (b : Block) → Tells v (Some (ends_on v w b stage k))
-end_tells v stage k w b =
-    cond_both (stage == 3)
-    (record { deed = Some (deed.Finish b (weak (state v) (object_in v b) == 0)); half = Rest; walk = w; said = silent k })
-    (record { deed = Some (deed.Clear b stage); half = Ending b (stage + 1) k; walk = w; said = silent k })
-    (λ (x : Step). Tells v (Some x)) (λ e. refl) (λ e. refl)
+end_tells : (v : Story) (w : Walk) (e : Ending) (es : List Ending) → Tells v (Some (ends_on v w e es))
+end_tells v w e es =
+    cond_both (e.stage == 3)
+    (record {
+      deed = Some (deed.Finish e.block (weak (state v) (object_in v e.block) == 0));
+      half = Rest;
+      walk = with_endings w es;
+      said = silent e.statement;
+    })
+    (record { deed = Some (deed.Clear e.block e.stage); half = Rest; walk = with_endings w (staged e ∷ es); said = silent e.statement })
+    (λ (x : Step). Tells v (Some x)) (λ c. refl) (λ c. refl)
+
+rest_tells : (v : Story) (d : ℕ) (w : Walk) (es : List Ending) → Tells v (at_rest v d w es)
+rest_tells v d w [] = task_tells v d w w.todo
+rest_tells v d w (e ∷ es) =
+    cond_both (is_full (slot w.slots (hand w.slots))) (first v d w e.statement w.todo (Leave (hand w.slots))) (ends_on v w e es)
+    (λ (x : Step). Tells v (Some x)) (λ c. first_tells v d e.statement w w.todo (Leave (hand w.slots))) (λ c. end_tells v w e es)
 
 step_tells : (v : Story) (d : ℕ) (h : Half) (w : Walk) → Tells v (step_at v d h w)
-step_tells v d Rest w = rest_tells v d w w.todo
+step_tells v d Rest w = rest_tells v d w w.endings
 step_tells v d (Making b i f) w = make_tells v d i w b f w.todo
-step_tells v d (Ending b stage k) w = end_tells v stage k w b
 step_tells v d (Locking word) w = tried_tells v d word w w.todo
 step_tells v d (Giving i kind x) w = given_tells v d i kind x w w.todo
 

@@ -23,10 +23,13 @@ use Rattle.step_core.specs.declared.half.Half.{Half}
 use Rattle.step_core.specs.declared.half.Half.TheVariants.{Rest}
 use Rattle.step_core.specs.declared.thread.Thread.{Thread}
 use Rattle.step_core.specs.Actors.{HalfFits}
+use Rattle.step_core.specs.Courses.{Walk}
 use Rattle.step_core.specs.Openings.{opening}
+use Rattle.step_core.specs.Scenes.{nowhere}
 use Rattle.step_core.specs.Stories.{Kept, Nothing, Story, pending, state}
 use Rattle.step_core.specs.Threads.{form_at}
-use Rattle.step_core.specs.Told.{EndsIn, IsTold, sight}
+use Rattle.step_core.specs.Endings.{endings_of}
+use Rattle.step_core.specs.Told.{IsTold, sight}
 use Rattle.step_core.specs.Totals.{IsAtEnd, census_of, counts_in}
 use Rattle.step_core.specs.Worlds.{AllFit, Sight, thread_half, thread_walk}
 
@@ -130,6 +133,11 @@ all_rest [] j all = refl
 all_rest (h ∷ hs) zero all = all 0 Rest (omega arith)
 all_rest (h ∷ hs) (suc j) all = all_rest hs j (All-tail (λ (x : Half). x ≡ Rest) h hs all)
 
+all_over : (ws : List Walk) (j : ℕ) → All (λ (w : Walk). w.endings ≡ []) ws → (get_or ws j nowhere).endings ≡ []
+all_over [] j all = refl
+all_over (w ∷ ws) zero all = all 0 nowhere (omega arith)
+all_over (w ∷ ws) (suc j) all = all_over ws j (All-tail (λ (x : Walk). x.endings ≡ []) w ws all)
+
 idle_end : (v : Story) (threads : List Thread) → AllFit v threads → All (λ (h : Half). h ≡ Rest) (map thread_half threads) → (d : ℕ)
     → d < length threads → pending v d ≡ Idle
 idle_end v threads fit all d lt =
@@ -145,8 +153,9 @@ still_end v threads m e fit told end =
     record {
       idle = λ d lt. idle_end v threads fit end.halves d (omega (arith, l, n, lt));
       none = λ o i p.
-          subst (λ (h : Half). EndsIn ((state v).object o).block h → ⊥) (sym (all_rest (map thread_half threads) i end.halves)) (λ t. t)
-          (told.endings o i p);
+          let none = ap (endings_of ((state v).object o).block) (all_over (map thread_walk threads) i end.endings) in
+          let some = told.endings o i p in
+          absurd (omega (arith, none, some));
     }
 
 pub still_now : (u : Sight) (v : Story) (threads : List Thread) (m e : ℕ) → sight v threads ≡ u → AllFit v threads → IsTold (sight v threads) m e

@@ -1,295 +1,362 @@
 -- Which objects end in whose hands, after a step.
-use Rattle.std.proofs.Common.{◌≡◌, ◌≢◌, ℕ, suc, ◌+◌, ◌==◌, Bool, true, false, cond, List, [], ◌∷◌, get_or, refl, sym, ap, subst, ◌∙◌, ⊎_elim, arith}
+use Rattle.std.proofs.Common.{◌≡◌, ◌≢◌, ℕ, suc, ◌+◌, ◌<◌, ◌==◌, Bool, true, false, cond, List, [], ◌∷◌, get_or, refl, sym, ap, subst, ◌∙◌, ⊎_elim, eq-eqb, ne_eqb, arith}
 use Rattle.std.specs.Prelude.{Option, Some, None, option_map}
 use Rattle.std.proofs.lemmas.Bool.{cases_eq, cond_both}
+use Rattle.std.proofs.lemmas.List.Sums.{sum_by-cons}
 use Rattle.control_word.proofs.history.Legal.{sound}
 use Rattle.control_word.proofs.lists.Tallies.{put_cases}
+use Rattle.control_word.specs.declared.handle.Kind.{Kind}
+use Rattle.control_word.specs.declared.handle.Kind.TheVariants.{Owner, Weak}
 use Rattle.control_word.specs.declared.place.Block.{Block}
-use Rattle.control_word.specs.declared.place.Place.{Place}
 use Rattle.control_word.specs.State.{Object, State, common, ending, gone, live, put, weak}
 use Rattle.step_core.specs.declared.act.Act.{Act}
 use Rattle.step_core.specs.declared.act.Form.{Form}
 use Rattle.step_core.specs.declared.act.Act.TheVariants.{Make, Share, Downgrade, Lock, Put, Leave, Clear, Count, Expired, Read, FromThis, Alias, Move, Ask}
 use Rattle.step_core.specs.declared.act.Task.{Task}
+use Rattle.step_core.specs.declared.ending.Ending.{Ending}
 use Rattle.step_core.specs.declared.half.Half.{Half}
-use Rattle.step_core.specs.declared.half.Half.TheVariants.{Rest, Making, Ending, Locking, Giving}
+use Rattle.step_core.specs.declared.half.Half.TheVariants.{Rest, Making, Locking, Giving}
 use Rattle.step_core.specs.declared.holdings.Pointer.{Pointer}
+use Rattle.step_core.specs.declared.past.Deed.{Deed}
 use Rattle.step_core.specs.declared.past.Deed.TheVariants as deed
 use Rattle.step_core.specs.declared.said.Said.{Said}
 use Rattle.step_core.specs.Actors.{wanted}
-use Rattle.step_core.specs.Courses.{Walk, form_of, locked}
-use Rattle.step_core.specs.Holdings.{inside, slot, owner_slot, place_in}
+use Rattle.step_core.specs.Courses.{Walk, form_of, hand, locked, settled}
+use Rattle.step_core.specs.Deeds.{alias, aliased, downgrade, give, is_enabled, is_last, leave, leave_as, lock, owner_word, read, share, share_as, tell, tell_expired}
+use Rattle.step_core.specs.Endings.{endings_of, staged}
+use Rattle.step_core.specs.Holdings.{inside, is_full, owner_slot, place_in, slot}
 use Rattle.step_core.specs.Openings.{opening}
-use Rattle.step_core.specs.Scenes.{least, on}
-use Rattle.step_core.specs.Steps.{asks, given, Step, acts, begins, begun, claims, end_as, end_of, ends_on, first, half_by, looks, made_on}
-use Rattle.step_core.specs.Steps.{prepares, silent, step_at, story_by, tried, tries, trying}
-use Rattle.step_core.specs.Deeds.{is_enabled, read, downgrade, is_last, leave, leave_as, lock, owner_word, share, share_as, tell, tell_expired, alias, aliased}
-use Rattle.control_word.specs.declared.handle.Kind.{Kind}
-use Rattle.control_word.specs.declared.handle.Kind.TheVariants.{Owner, Weak}
+use Rattle.step_core.specs.Entries.{least, on}
+use Rattle.step_core.specs.Scenes.{begins_end, begins_end_as, endings_by, hands, holding, left as leaves_by, went}
+use Rattle.step_core.specs.Steps.{Step, acts, asks, at_rest, begins, begun, claims, ends_on, first, given, looks, made_on, prepares, silent}
+use Rattle.step_core.specs.Steps.{step_at, story_after, story_by, tried, tries, trying, walk_by, with_endings}
 use Rattle.step_core.specs.Stories.{Kept, Story, known, object_in, pending, state}
-use Rattle.step_core.specs.Told.{AllEnd, EndsIn}
+use Rattle.step_core.specs.Told.{AllEnd}
 use Rattle.step_core.proofs.tables.Places.{owner_busy, there}
+use Rattle.step_core.proofs.telling.Walking.{settled_endings}
 
--- what threads have begun is as it was, but for thread d's
-abbrev IsElse : ℕ → (ℕ → Half) → (ℕ → Half) → Type 0
+abbrev Lists : Type 0
+Lists = ℕ → List Ending
+
+-- what ends in other threads' hands is as it was
+abbrev IsElse : ℕ → Lists → Lists → Type 0
 IsElse d f g = (e : ℕ) → e ≢ d → g e ≡ f e
 
-passes : (d : ℕ) (f g : ℕ → Half) → IsElse d f g → ((b : ℕ) → EndsIn b (f d) → EndsIn b (g d)) → (b e : ℕ) → EndsIn b (f e) → EndsIn b (g e)
-passes d f g else own b e h =
-    ⊎_elim (λ (q : e ≡ d). subst (λ (k : ℕ). EndsIn b (g k)) (sym q) (own b (subst (λ (k : ℕ). EndsIn b (f k)) q h)))
-    (λ (n : e ≢ d). subst (EndsIn b) (sym (else e n)) h) (cases_eq e d)
+-- an ending for an object that had one
+abbrev Follows : List Ending → List Ending → Type 0
+Follows old new = (b : ℕ) → 0 < endings_of b old → 0 < endings_of b new
+
+follows_same : (old new : List Ending) → new ≡ old → Follows old new
+follows_same old new is b has = subst (λ (l : List Ending). 0 < endings_of b l) (sym is) has
+
+passes : (d : ℕ) (f g : Lists) (old new : List Ending) → f d ≡ old → g d ≡ new → IsElse d f g → Follows old new
+    → (b e : ℕ) → 0 < endings_of b (f e) → 0 < endings_of b (g e)
+passes d f g old new was now else own b e has =
+    ⊎_elim
+    (λ (q : e ≡ d).
+    let h : 0 < endings_of b old = subst (λ (l : List Ending). 0 < endings_of b l) (ap f q ∙ was) has in
+    subst (λ (l : List Ending). 0 < endings_of b l) (sym (ap g q ∙ now)) (own b h))
+    (λ (n : e ≢ d). subst (λ (l : List Ending). 0 < endings_of b l) (sym (else e n)) has) (cases_eq e d)
 
 -- one object is another
-end_put : (s t : State) (g : ℕ → Half) (o : ℕ) (x : Object) → t.object ≡ put s.object o x → ((e : ℕ) → x.phase ≡ ending e → EndsIn x.block (g e))
-    → ((p e : ℕ) → p ≢ o → (s.object p).phase ≡ ending e → EndsIn (s.object p).block (g e)) → AllEnd t g
+end_put : (s t : State) (g : Lists) (o : ℕ) (x : Object) → t.object ≡ put s.object o x
+    → ((e : ℕ) → x.phase ≡ ending e → 0 < endings_of x.block (g e))
+    → ((p e : ℕ) → p ≢ o → (s.object p).phase ≡ ending e → 0 < endings_of (s.object p).block (g e)) → AllEnd t g
 end_put s t g o x is here else p e =
-    let P : Object → Type 0 = λ y. y.phase ≡ ending e → EndsIn y.block (g e) in
+    let P : Object → Type 0 = λ y. y.phase ≡ ending e → 0 < endings_of y.block (g e) in
     subst P (sym (ap (λ (k : ℕ → Object). k p) is)) (put_cases (λ k y. P y) s.object o x p (λ q. here e) (λ n. else p e n))
 
 -- after the step all is as it should be
-pub record Right (v : Story) (d : ℕ) (h : Half) (f : ℕ → Half) (x : Option Step) : Type 0 where
-  pub right : (g : ℕ → Half) → Kept (story_by v d x) → g d ≡ half_by h x → ((e : ℕ) → e ≢ d → g e ≡ f e) → AllEnd (state (story_by v d x)) g
+pub record Right (v : Story) (d : ℕ) (w : Walk) (f : Lists) (x : Option Step) : Type 0 where
+  pub right : (g : Lists) → Kept (story_by v d x) → g d ≡ (walk_by w x).endings → IsElse d f g → AllEnd (state (story_by v d x)) g
 
 -- where no object changes
-same : (v : Story) (d : ℕ) (h : Half) (f : ℕ → Half) (x : Option Step) → (state (story_by v d x)).object ≡ (state v).object
-    → ((b : ℕ) → EndsIn b h → EndsIn b (half_by h x)) → f d ≡ h → AllEnd (state v) f → Right v d h f x
-same v d h f x is own at all = record {
+same : (v : Story) (d : ℕ) (w : Walk) (f : Lists) (x : Option Step) → (state (story_by v d x)).object ≡ (state v).object
+    → (walk_by w x).endings ≡ w.endings → f d ≡ w.endings → AllEnd (state v) f → Right v d w f x
+same v d w f x is own at all = record {
   right = λ g kept now else o e.
-      let P : Object → Type 0 = λ y. y.phase ≡ ending e → EndsIn y.block (g e) in
+      let P : Object → Type 0 = λ y. y.phase ≡ ending e → 0 < endings_of y.block (g e) in
       subst P (sym (ap (λ (k : ℕ → Object). k o) is))
-      (λ p. passes d f g else (λ b t. subst (EndsIn b) (sym now) (own b (subst (EndsIn b) at t))) ((state v).object o).block e (all o e p));
+      (λ p. passes d f g w.endings (walk_by w x).endings at now else (follows_same w.endings (walk_by w x).endings own) ((state v).object o).block e
+      (all o e p));
 }
 
-shared : (v : Story) (d k : ℕ) (x : Walk) (f : ℕ → Half) → f d ≡ Rest → AllEnd (state v) f → (y : Option Pointer)
-    → Right v d Rest f (Some (record { deed = option_map share y; half = Rest; walk = x; said = silent k }))
-shared v d k x f at all None = same v d Rest f _ refl (λ b t. t) at all
-shared v d k x f at all (Some y) = go y.kind
-  where
-    go : (q : Kind) → Right v d Rest f (Some (record { deed = Some (share_as q y); half = Rest; walk = x; said = silent k }))
-    go Owner = same v d Rest f _ refl (λ b t. t) at all
-    go Weak = same v d Rest f _ refl (λ b t. t) at all
+-- an act on what a slot holds
+done_on : (v : Story) (d : ℕ) (f : Pointer → Deed) (o : Option Pointer)
+    → ((x : Pointer) → (state (story_after v d (Some (f x)))).object ≡ (state v).object)
+    → (state (story_after v d (option_map f o))).object ≡ (state v).object
+done_on v d f None still = refl
+done_on v d f (Some x) still = still x
 
-downgraded : (v : Story) (d k : ℕ) (x : Walk) (f : ℕ → Half) → f d ≡ Rest → AllEnd (state v) f → (y : Option Pointer)
-    → Right v d Rest f (Some (record { deed = option_map downgrade y; half = Rest; walk = x; said = silent k }))
-downgraded v d k x f at all None = same v d Rest f _ refl (λ b t. t) at all
-downgraded v d k x f at all (Some y) = same v d Rest f _ refl (λ b t. t) at all
+shared : (v : Story) (d : ℕ) (q : Kind) (x : Pointer) → (state (story_after v d (Some (share_as q x)))).object ≡ (state v).object
+shared v d Owner x = refl
+shared v d Weak x = refl
 
-aliased_by : (v : Story) (d k : ℕ) (x : Walk) (f : ℕ → Half) (p : Option Place) → f d ≡ Rest → AllEnd (state v) f → (y : Option Pointer)
-    → Right v d Rest f (Some (record { deed = option_map (alias p) y; half = Rest; walk = x; said = silent k }))
-aliased_by v d k x f p at all None = same v d Rest f _ refl (λ b t. t) at all
-aliased_by v d k x f p at all (Some y) = same v d Rest f _ refl (λ b t. t) at all
+gave : (v : Story) (d : ℕ) (q : Kind) (x : Pointer) → (state (story_after v d (Some (give q x)))).object ≡ (state v).object
+gave v d Owner x = refl
+gave v d Weak x = refl
 
-expired : (v : Story) (d : ℕ) (x : Walk) (a : Said) (f : ℕ → Half) → f d ≡ Rest → AllEnd (state v) f → (y : Option Pointer)
-    → Right v d Rest f (Some (record { deed = option_map (tell_expired (state v)) y; half = Rest; walk = x; said = a }))
-expired v d x a f at all None = same v d Rest f _ refl (λ b t. t) at all
-expired v d x a f at all (Some y) = same v d Rest f _ refl (λ b t. t) at all
+-- an act by which nothing leaves
+plain : (v : Story) (d k : ℕ) (w : Walk) (ts : List Task) (a : Act) (x : Option Deed) (h : Half) (f : Lists) → leaves_by w.slots a ≡ None
+    → (state (story_after v d x)).object ≡ (state v).object → f d ≡ w.endings → AllEnd (state v) f
+    → Right v d w f (Some (acts (state v) d w k ts a x h))
+plain v d k w ts a x h f stays is at all =
+    let y = hands (state v) d w.slots w.taken a in
+    let e = settled_endings y.0 y.1 (endings_by (state v) k w.slots w.endings a) ts in
+    let n = ap (λ (o : Option Pointer). on (λ z. begins_end (state v) k z w.endings) w.endings o) stays in
+    same v d w f (Some (acts (state v) d w k ts a x h)) is (e ∙ n) at all
 
-read_on : (v : Story) (d : ℕ) (x : Walk) (a : Said) (f : ℕ → Half) → f d ≡ Rest → AllEnd (state v) f → (y : Option Pointer)
-    → Right v d Rest f (Some (record { deed = option_map (read (state v)) y; half = Rest; walk = x; said = a }))
-read_on v d x a f at all None = same v d Rest f _ refl (λ b t. t) at all
-read_on v d x a f at all (Some y) = same v d Rest f _ refl (λ b t. t) at all
+-- a step within an act
+within : (v : Story) (d k : ℕ) (w : Walk) (x : Option Deed) (h : Half) (f : Lists) → (state (story_after v d x)).object ≡ (state v).object
+    → f d ≡ w.endings → AllEnd (state v) f → Right v d w f (Some (record { deed = x; half = h; walk = w; said = silent k }))
+within v d k w x h f is at all = same v d w f _ is refl at all
 
 -- an object is asked for a pointer, or gives one
-asked : (v : Story) (d k : ℕ) (w : Walk) (ts : List Task) (i : ℕ) (q : Kind) (f : ℕ → Half) → f d ≡ Rest → AllEnd (state v) f → (o : Option Pointer)
-    → Right v d Rest f (Some (on (asks v d w k ts i q) (acts (state v) d w k ts (FromThis i q) None Rest) o))
-asked v d k w ts i q f at all None = same v d Rest f _ refl (λ b t. t) at all
+asked : (v : Story) (d k : ℕ) (w : Walk) (ts : List Task) (i : ℕ) (q : Kind) (f : Lists) → f d ≡ w.endings → AllEnd (state v) f → (o : Option Pointer)
+    → Right v d w f (Some (on (asks v d w k ts i q) (acts (state v) d w k ts (FromThis i q) None Rest) o))
+asked v d k w ts i q f at all None = plain v d k w ts (FromThis i q) None Rest f refl refl at all
 asked v d k w ts i q f at all (Some y) =
     cond_both (is_enabled (state v) y) (record { deed = None; half = Giving i q y; walk = w; said = silent k })
-    (acts (state v) d w k ts (FromThis i q) None Rest) (λ (x : Step). Right v d Rest f (Some x))
-    (λ e. same v d Rest f _ refl (λ b t. absurd t) at all) (λ e. same v d Rest f _ refl (λ b t. t) at all)
+    (acts (state v) d w k ts (FromThis i q) None Rest) (λ (x : Step). Right v d w f (Some x))
+    (λ e. within v d k w None (Giving i q y) f refl at all) (λ e. plain v d k w ts (FromThis i q) None Rest f refl refl at all)
 
-given_on : (v : Story) (d i : ℕ) (q r : Kind) (y : Pointer) (w : Walk) (f : ℕ → Half) → f d ≡ Giving i q y → AllEnd (state v) f → (ts : List Task)
-    → Right v d (Giving i q y) f (given v d w i r y ts)
-given_on v d i q r y w f at all [] = same v d (Giving i q y) f None refl (λ b t. t) at all
-given_on v d i q Owner y w f at all (t ∷ ts) = same v d (Giving i q y) f _ refl (λ b t. absurd t) at all
-given_on v d i q Weak y w f at all (t ∷ ts) = same v d (Giving i q y) f _ refl (λ b t. absurd t) at all
+given_on : (v : Story) (d i : ℕ) (q : Kind) (y : Pointer) (w : Walk) (f : Lists) → f d ≡ w.endings → AllEnd (state v) f → (ts : List Task)
+    → Right v d w f (given v d w i q y ts)
+given_on v d i q y w f at all [] = same v d w f None refl refl at all
+given_on v d i q y w f at all (t ∷ ts) = plain v d t.statement w ts (FromThis i q) (Some (give q y)) Rest f refl (gave v d q y) at all
 
 -- a lock is tried, or done
-tried_or : (v : Story) (d k word : ℕ) (w : Walk) (ts : List Task) (a : Act) (h : Half) (f : ℕ → Half) → f d ≡ h → AllEnd (state v) f
-    → ((b : ℕ) → EndsIn b h → ⊥) → (y : Pointer) (c : Bool)
-    → Right v d h f (Some (cond c (acts (state v) d w k ts a (Some (lock (state v) y)) Rest) (trying w k word)))
-tried_or v d k word w ts a h f at all ends y true = same v d h f _ refl (λ b t. absurd (ends b t)) at all
-tried_or v d k word w ts a h f at all ends y false = same v d h f _ refl (λ b t. absurd (ends b t)) at all
+tried_or : (v : Story) (d k word : ℕ) (w : Walk) (ts : List Task) (i : ℕ) (must : Bool) (f : Lists) → f d ≡ w.endings → AllEnd (state v) f
+    → (y : Pointer) (c : Bool)
+    → Right v d w f (Some (cond c (acts (state v) d w k ts (Lock i must) (Some (lock (state v) y)) Rest) (trying w k word)))
+tried_or v d k word w ts i must f at all y true = plain v d k w ts (Lock i must) (Some (lock (state v) y)) Rest f refl refl at all
+tried_or v d k word w ts i must f at all y false = within v d k w None (cond (word == 0) Rest (Locking word)) f refl at all
 
-looked : (v : Story) (d k : ℕ) (w : Walk) (ts : List Task) (a : Act) (f : ℕ → Half) → f d ≡ Rest → AllEnd (state v) f → (o : Option Pointer)
-    → Right v d Rest f (Some (on (looks v d w k ts a) (acts (state v) d w k ts a None Rest) o))
-looked v d k w ts a f at all None = same v d Rest f _ refl (λ b t. t) at all
-looked v d k w ts a f at all (Some y) = tried_or v d k (owner_word v y) w ts a Rest f at all (λ b t. t) y (owner_word v y == 0)
+looked : (v : Story) (d k : ℕ) (w : Walk) (ts : List Task) (i : ℕ) (must : Bool) (f : Lists) → f d ≡ w.endings → AllEnd (state v) f
+    → (o : Option Pointer)
+    → Right v d w f (Some (on (looks v d w k ts (Lock i must)) (acts (state v) d w k ts (Lock i must) None Rest) o))
+looked v d k w ts i must f at all None = plain v d k w ts (Lock i must) None Rest f refl refl at all
+looked v d k w ts i must f at all (Some y) = tried_or v d k (owner_word v y) w ts i must f at all y (owner_word v y == 0)
 
-tried_on : (v : Story) (d word : ℕ) (w : Walk) (f : ℕ → Half) → f d ≡ Locking word → AllEnd (state v) f → (ts : List Task)
-    → Right v d (Locking word) f (tried v d w word ts)
-tried_on v d word w f at all [] = same v d (Locking word) f None refl (λ b t. t) at all
-tried_on v d word w f at all (t ∷ ts) = go (locked w.slots t.act)
-  where
-    go : (o : Option Pointer) → Right v d (Locking word) f (option_map (tries v d w t.statement ts t.act word) o)
-    go None = same v d (Locking word) f None refl (λ b t. t) at all
-    go (Some y) = tried_or v d t.statement (owner_word v y) w ts t.act (Locking word) f at all (λ b t. t) y (owner_word v y == word)
+tried_by : (v : Story) (d word k : ℕ) (w : Walk) (ts : List Task) (a : Act) (f : Lists) → f d ≡ w.endings → AllEnd (state v) f
+    → (o : Option Pointer) → locked w.slots a ≡ o → Right v d w f (option_map (tries v d w k ts a word) o)
+tried_by v d word k w ts a f at all None e = same v d w f None refl refl at all
+tried_by v d word k w ts (Lock i must) f at all (Some y) e = tried_or v d k (owner_word v y) w ts i must f at all y (owner_word v y == word)
+tried_by v d word k w ts (Make form) f at all (Some y) e = cc
+tried_by v d word k w ts (Share i) f at all (Some y) e = cc
+tried_by v d word k w ts (Downgrade i) f at all (Some y) e = cc
+tried_by v d word k w ts (Put i) f at all (Some y) e = cc
+tried_by v d word k w ts (Leave i) f at all (Some y) e = cc
+tried_by v d word k w ts (Clear i) f at all (Some y) e = cc
+tried_by v d word k w ts (Count i) f at all (Some y) e = cc
+tried_by v d word k w ts (Expired i) f at all (Some y) e = cc
+tried_by v d word k w ts (Read i) f at all (Some y) e = cc
+tried_by v d word k w ts (FromThis i kind) f at all (Some y) e = cc
+tried_by v d word k w ts (Alias i j field) f at all (Some y) e = cc
+tried_by v d word k w ts (Move i) f at all (Some y) e = cc
+tried_by v d word k w ts (Ask q) f at all (Some y) e = cc
 
-told : (v : Story) (d : ℕ) (x : Walk) (a : Said) (f : ℕ → Half) → f d ≡ Rest → AllEnd (state v) f → (y : Option Pointer)
-    → Right v d Rest f (Some (record { deed = option_map (tell (state v)) y; half = Rest; walk = x; said = a }))
-told v d x a f at all None = same v d Rest f _ refl (λ b t. t) at all
-told v d x a f at all (Some y) = same v d Rest f _ refl (λ b t. t) at all
-
-nothing_ends : (b : ℕ) (h : Half) → h ≡ Rest → EndsIn b h → ⊥
-nothing_ends b h e t = subst (EndsIn b) e t
+tried_on : (v : Story) (d word : ℕ) (w : Walk) (f : Lists) → f d ≡ w.endings → AllEnd (state v) f → (ts : List Task)
+    → Right v d w f (tried v d w word ts)
+tried_on v d word w f at all [] = same v d w f None refl refl at all
+tried_on v d word w f at all (t ∷ ts) = tried_by v d word t.statement w ts t.act f at all (locked w.slots t.act) refl
 
 -- an owner leaves
-left_by : (v : Story) (d k : ℕ) (x : Walk) (a : Said) (f : ℕ → Half) → f d ≡ Rest → AllEnd (state v) f → Kept v → (y : Pointer) (last : Bool)
-    → Right v d Rest f (Some (record {
-      deed = Some (deed.Leave y.block y.place last);
-      half = cond last
-          (Ending y.block 0 k) Rest;
-      walk = x;
-      said = a;
-    }))
-left_by v d k x a f at all kept y true = record {
+left_by : (v : Story) (d k : ℕ) (w x : Walk) (a : Said) (f : Lists) → f d ≡ w.endings → AllEnd (state v) f → Kept v → (y : Pointer) (last : Bool)
+    → x.endings ≡ cond last (begins_end_as Owner k y w.endings) w.endings
+    → Right v d w f (Some (record { deed = Some (deed.Leave y.block y.place last); half = Rest; walk = x; said = a }))
+left_by v d k w x a f at all kept y true is = record {
   right = λ g after now else.
       let s = state v in
       let o = object_in v y.block in
       let has = after.stands.legal.1.asks.0.0 in
       let here = (there v y.block kept (owner_busy v d y.block y.place kept has)).0 in
-      end_put s (state (story_by v d (Some (record {
-        deed = Some
-            (deed.Leave y.block y.place true);
-        half = Ending y.block 0 k;
-        walk = x;
-        said = a;
-      })))) g o
+      let new : Ending = record { block = y.block; stage = 0; statement = k } in
+      let more : (b : ℕ) → endings_of b (new ∷ w.endings) ≡ cond (y.block.0 == b) 1 0 + endings_of b w.endings =
+          λ b. sum_by-cons (λ (e : Ending). cond (e.block.0 == b) 1 0) new w.endings in
+      let one : ◌≡◌ {A = ℕ} (cond (y.block.0 == (s.object o).block) 1 0) 1 =
+          ap (λ (b : Bool). cond b 1 0) (eq-eqb y.block.0 (s.object o).block (sym here)) in
+      end_put s (state (story_by v d (Some (record { deed = Some (deed.Leave y.block y.place true); half = Rest; walk = x; said = a })))) g o
       (record (s.object o) { phase = ending d }) refl
-      (λ e p. let q : d ≡ e = cc in subst (λ (j : ℕ). EndsIn (s.object o).block (g j)) q (subst (EndsIn (s.object o).block) (sym now) (sym here)))
-      (λ r e n p. passes d f g else (λ b t. absurd (nothing_ends b (f d) at t)) (s.object r).block e (all r e p));
+      (λ e p. let q : d ≡ e = cc in
+      subst (λ (j : ℕ). 0 < endings_of (s.object o).block (g j)) q
+      (subst (λ (l : List Ending). 0 < endings_of (s.object o).block l) (sym (now ∙ is)) (let m = more (s.object o).block in omega (arith, m, one))))
+      (λ r e n p.
+      passes d f g w.endings (new ∷ w.endings) at (now ∙ is) else (λ b t. let m = more b in omega (arith, m, t)) (s.object r).block e (all r e p));
 }
-left_by v d k x a f at all kept y false = record {
+left_by v d k w x a f at all kept y false is = record {
   right = λ g after now else.
       let s = state v in
       let o = object_in v y.block in
-      let own : (b : ℕ) → EndsIn b (f d) → EndsIn b (g d) = λ b t. absurd (nothing_ends b (f d) at t) in
+      let keep = passes d f g w.endings w.endings at (now ∙ is) else (λ b t. t) in
       end_put s (state (story_by v d (Some (record { deed = Some (deed.Leave y.block y.place false); half = Rest; walk = x; said = a })))) g o
-      (s.object o) refl (λ e p. passes d f g else own (s.object o).block e (all o e p)) (λ r e n p. passes d f g else own
-      (s.object r).block e (all r e p));
+      (s.object o) refl (λ e p. keep (s.object o).block e (all o e p)) (λ r e n p. keep (s.object r).block e (all r e p));
 }
 
-left_as : (v : Story) (d k : ℕ) (x : Walk) (a : Said) (f : ℕ → Half) → f d ≡ Rest → AllEnd (state v) f → Kept v → (y : Pointer) (q : Kind) (last : Bool)
-    → Right v d Rest f (Some (record { deed = Some (leave_as q y last); half = cond last (end_as q k y.block) Rest; walk = x; said = a }))
-left_as v d k x a f at all kept y Owner last = left_by v d k x a f at all kept y last
-left_as v d k x a f at all kept y Weak true = same v d Rest f _ refl (λ b t. t) at all
-left_as v d k x a f at all kept y Weak false = same v d Rest f _ refl (λ b t. t) at all
+left_as : (v : Story) (d k : ℕ) (w x : Walk) (a : Said) (f : Lists) → f d ≡ w.endings → AllEnd (state v) f → Kept v → (y : Pointer) (q : Kind) (last : Bool)
+    → x.endings ≡ cond last (begins_end_as q k y w.endings) w.endings
+    → Right v d w f (Some (record { deed = Some (leave_as q y last); half = Rest; walk = x; said = a }))
+left_as v d k w x a f at all kept y Owner last is = left_by v d k w x a f at all kept y last is
+left_as v d k w x a f at all kept y Weak true is = same v d w f _ refl is at all
+left_as v d k w x a f at all kept y Weak false is = same v d w f _ refl is at all
 
-left : (v : Story) (d k : ℕ) (x : Walk) (a : Said) (f : ℕ → Half) → f d ≡ Rest → AllEnd (state v) f → Kept v → (y : Option Pointer)
-    → Right v d Rest f (Some (record { deed = option_map (leave (state v)) y; half = on (end_of (state v) k) Rest y; walk = x; said = a }))
-left v d k x a f at all kept None = same v d Rest f _ refl (λ b t. t) at all
-left v d k x a f at all kept (Some y) = left_as v d k x a f at all kept y y.kind (is_last (state v) y)
+left : (v : Story) (d k : ℕ) (w x : Walk) (a : Said) (f : Lists) → f d ≡ w.endings → AllEnd (state v) f → Kept v → (y : Option Pointer)
+    → x.endings ≡ on (λ z. begins_end (state v) k z w.endings) w.endings y
+    → Right v d w f (Some (record { deed = option_map (leave (state v)) y; half = Rest; walk = x; said = a }))
+left v d k w x a f at all kept None is = same v d w f _ refl is at all
+left v d k w x a f at all kept (Some y) is = left_as v d k w x a f at all kept y y.kind (is_last (state v) y) is
 
-begun_in : (v : Story) (d k : ℕ) (w : Walk) (ts : List Task) (f : ℕ → Half) → f d ≡ Rest → AllEnd (state v) f → (o : Option ℕ)
-    → Right v d Rest f (Some (begins w k ts o))
-begun_in v d k w ts f at all None = same v d Rest f _ refl (λ b t. t) at all
-begun_in v d k w ts f at all (Some b) = same v d Rest f _ refl (λ c t. absurd t) at all
+-- where the thread's endings are after an act
+act_endings : (v : Story) (d k : ℕ) (w : Walk) (ts : List Task) (a : Act) → (went (state v) d w k ts a).endings ≡ endings_by (state v) k w.slots w.endings a
+act_endings v d k w ts a =
+    let y = hands (state v) d w.slots w.taken a in settled_endings y.0 y.1 (endings_by (state v) k w.slots w.endings a) ts
 
-acted : (v : Story) (d k : ℕ) (w : Walk) (ts : List Task) (f : ℕ → Half) → f d ≡ Rest → AllEnd (state v) f → Kept v → (a : Act)
-    → Right v d Rest f (Some (first v d w k ts a))
+begun_in : (v : Story) (d k : ℕ) (w : Walk) (ts : List Task) (f : Lists) → f d ≡ w.endings → AllEnd (state v) f → (o : Option ℕ)
+    → Right v d w f (Some (begins w k ts o))
+begun_in v d k w ts f at all None = same v d w f _ refl (settled_endings w.slots false w.endings ts) at all
+begun_in v d k w ts f at all (Some b) = same v d w f _ refl refl at all
+
+acted : (v : Story) (d k : ℕ) (w : Walk) (ts : List Task) (f : Lists) → f d ≡ w.endings → AllEnd (state v) f → Kept v → (a : Act)
+    → Right v d w f (Some (first v d w k ts a))
 acted v d k w ts f at all kept (Make form) = begun_in v d k w ts f at all (least d (state v).stores)
-acted v d k w ts f at all kept (Share i) = shared v d k _ f at all (slot w.slots i)
-acted v d k w ts f at all kept (Put i) = left v d k _ _ f at all kept (slot w.slots i)
-acted v d k w ts f at all kept (Leave i) = left v d k _ _ f at all kept (slot w.slots i)
-acted v d k w ts f at all kept (Clear i) = left v d k _ _ f at all kept (slot w.slots i)
-acted v d k w ts f at all kept (Count i) = told v d _ _ f at all (slot w.slots i)
-acted v d k w ts f at all kept (Downgrade i) = downgraded v d k _ f at all (slot w.slots i)
-acted v d k w ts f at all kept (Lock i must) = looked v d k w ts (Lock i must) f at all (locked w.slots (Lock i must))
-acted v d k w ts f at all kept (Expired i) = expired v d _ _ f at all (slot w.slots i)
-acted v d k w ts f at all kept (Read i) = read_on v d _ _ f at all (inside (slot w.slots i))
+acted v d k w ts f at all kept (Share i) =
+    plain v d k w ts (Share i) _ Rest f refl (done_on v d share (slot w.slots i) (λ x. shared v d x.kind x)) at all
+acted v d k w ts f at all kept (Put i) =
+    left v d k w (went (state v) d w k ts (Put i)) _ f at all kept (slot w.slots i) (act_endings v d k w ts (Put i))
+acted v d k w ts f at all kept (Leave i) =
+    left v d k w (went (state v) d w k ts (Leave i)) _ f at all kept (slot w.slots i) (act_endings v d k w ts (Leave i))
+acted v d k w ts f at all kept (Clear i) =
+    left v d k w (went (state v) d w k ts (Clear i)) _ f at all kept (slot w.slots i) (act_endings v d k w ts (Clear i))
+acted v d k w ts f at all kept (Count i) =
+    plain v d k w ts (Count i) _ Rest f refl (done_on v d (tell (state v)) (slot w.slots i) (λ x. refl)) at all
+acted v d k w ts f at all kept (Downgrade i) =
+    plain v d k w ts (Downgrade i) _ Rest f refl (done_on v d downgrade (slot w.slots i) (λ x. refl)) at all
+acted v d k w ts f at all kept (Lock i must) = looked v d k w ts i must f at all (locked w.slots (Lock i must))
+acted v d k w ts f at all kept (Expired i) =
+    plain v d k w ts (Expired i) _ Rest f refl (done_on v d (tell_expired (state v)) (slot w.slots i) (λ x. refl)) at all
+acted v d k w ts f at all kept (Read i) =
+    plain v d k w ts (Read i) _ Rest f refl (done_on v d (read (state v)) (inside (slot w.slots i)) (λ x. refl)) at all
 acted v d k w ts f at all kept (FromThis i kind) = asked v d k w ts i kind f at all (inside (slot w.slots i))
-acted v d k w ts f at all kept (Alias i j field) = aliased_by v d k _ f (aliased field (place_in w.slots j)) at all (owner_slot (slot w.slots i))
-acted v d k w ts f at all kept (Move i) = same v d Rest f _ refl (λ b t. t) at all
-acted v d k w ts f at all kept (Ask q) = same v d Rest f _ refl (λ b t. t) at all
+acted v d k w ts f at all kept (Alias i j field) =
+    plain v d k w ts (Alias i j field) _ Rest f refl
+    (done_on v d (alias (aliased field (place_in w.slots j))) (owner_slot (slot w.slots i)) (λ x. refl)) at all
+acted v d k w ts f at all kept (Move i) = plain v d k w ts (Move i) None Rest f refl refl at all
+acted v d k w ts f at all kept (Ask q) = plain v d k w ts (Ask q) None Rest f refl refl at all
 
-rested : (v : Story) (d : ℕ) (w : Walk) (f : ℕ → Half) → f d ≡ Rest → AllEnd (state v) f → Kept v → (ts : List Task)
-    → Right v d Rest f (begun v d w ts)
-rested v d w f at all kept [] = same v d Rest f None refl (λ b t. t) at all
-rested v d w f at all kept (t ∷ ts) = acted v d t.statement w ts f at all kept t.act
+begun_task : (v : Story) (d : ℕ) (w : Walk) (f : Lists) → f d ≡ w.endings → AllEnd (state v) f → Kept v → (ts : List Task)
+    → Right v d w f (begun v d w ts)
+begun_task v d w f at all kept [] = same v d w f None refl refl at all
+begun_task v d w f at all kept (t ∷ ts) = acted v d t.statement w ts f at all kept t.act
 
--- an object is made
-claimed : (v : Story) (d k i : ℕ) (w : Walk) (ts : List Task) (b : Block) (c : Bool) (form : Form) (f : ℕ → Half) → f d ≡ Making b i c
-    → AllEnd (state v) f → Right v d (Making b i c) f (Some (claims w k ts b form))
-claimed v d k i w ts b c form f at all = record {
+-- a member is cleared
+cleared : (v : Story) (d : ℕ) (w : Walk) (e : Ending) (es : List Ending) (f : Lists) → f d ≡ e ∷ es → AllEnd (state v) f
+    → Right v d w f (Some (record {
+      deed = Some (deed.Clear e.block e.stage);
+      half = Rest;
+      walk = with_endings w (staged e ∷ es);
+      said = silent e.statement;
+    }))
+cleared v d w e es f at all = record {
   right = λ g after now else.
       let s = state v in
-      let own : (j : ℕ) → EndsIn j (f d) → EndsIn j (g d) = λ j t. absurd (let u : EndsIn j (Making b i c) = subst (EndsIn j) at t in u) in
+      let o = object_in v e.block in
+      let own : Follows (e ∷ es) (staged e ∷ es) = λ b has.
+          let m = sum_by-cons (λ (x : Ending). cond (x.block.0 == b) 1 0) e es in
+          let n = sum_by-cons (λ (x : Ending). cond (x.block.0 == b) 1 0) (staged e) es in
+          omega (arith, m, n, has) in
+      let keep = passes d f g (e ∷ es) (staged e ∷ es) at now else own in
+      end_put s (state (story_by v d (Some (record {
+        deed = Some (deed.Clear e.block e.stage);
+        half = Rest;
+        walk = with_endings w (staged e ∷ es);
+        said = silent e.statement;
+      })))) g o
+      _ refl (λ i p. keep (s.object o).block i (all o i p)) (λ r i n p. keep (s.object r).block i (all r i p));
+}
+
+-- the object is gone: no other ends in its block
+finished : (v : Story) (d : ℕ) (w : Walk) (e : Ending) (es : List Ending) (vacant : Bool) (f : Lists) → f d ≡ e ∷ es → AllEnd (state v) f → Kept v
+    → Right v d w f (Some (record { deed = Some (deed.Finish e.block vacant); half = Rest; walk = with_endings w es; said = silent e.statement }))
+finished v d w e es vacant f at all kept = record {
+  right = λ g after now else.
+      let s = state v in
+      let o = object_in v e.block in
+      end_put s
+      (state (story_by v d (Some (record { deed = Some (deed.Finish e.block vacant); half = Rest; walk = with_endings w es; said = silent e.statement })))) g o
+      _ refl (λ i p. absurd (gone_ends i p))
+      (λ r i n p.
+      ⊎_elim
+      (λ (q : i ≡ d).
+      let h : 0 < endings_of (s.object r).block (e ∷ es) =
+          subst (λ (l : List Ending). 0 < endings_of (s.object r).block l) (ap f q ∙ at) (all r i p) in
+      let c : common (s.object r).phase ≡ 1 = ap common p in
+      let l = ((sound (opening v.extent) v.history kept.stands.legal).placed r (omega (arith, c))).0 in
+      let m = sum_by-cons (λ (x : Ending). cond (x.block.0 == (s.object r).block) 1 0) e es in
+      let other : e.block.0 ≢ (s.object r).block = λ t. n (sym l ∙ ap s.latest (sym t)) in
+      let z : ◌≡◌ {A = ℕ} (cond (e.block.0 == (s.object r).block) 1 0) 0 =
+          ap (λ (b : Bool). cond b 1 0) (ne_eqb e.block.0 (s.object r).block other) in
+      subst (λ (x : List Ending). 0 < endings_of (s.object r).block x) (sym (ap g q ∙ now)) (omega (arith, h, m, z)))
+      (λ (k : i ≢ d). subst (λ (x : List Ending). 0 < endings_of (s.object r).block x) (sym (else i k)) (all r i p)) (cases_eq i d));
+}
+  where
+    gone_ends : (i : ℕ) → gone ≡ ending i → ⊥
+    gone_ends i p = cc
+
+ended : (v : Story) (d : ℕ) (w : Walk) (e : Ending) (es : List Ending) (f : Lists) → f d ≡ e ∷ es → AllEnd (state v) f → Kept v
+    → Right v d w f (Some (ends_on v w e es))
+ended v d w e es f at all kept =
+    cond_both (e.stage == 3)
+    (record {
+      deed = Some (deed.Finish e.block (weak (state v) (object_in v e.block) == 0));
+      half = Rest;
+      walk = with_endings w es;
+      said = silent e.statement;
+    })
+    (record { deed = Some (deed.Clear e.block e.stage); half = Rest; walk = with_endings w (staged e ∷ es); said = silent e.statement })
+    (λ (x : Step). Right v d w f (Some x))
+    (λ c. finished v d w e es (weak (state v) (object_in v e.block) == 0) f at all kept) (λ c. cleared v d w e es f at all)
+
+rested : (v : Story) (d : ℕ) (w : Walk) (f : Lists) → f d ≡ w.endings → AllEnd (state v) f → Kept v → (es : List Ending) → w.endings ≡ es
+    → Right v d w f (at_rest v d w es)
+rested v d w f at all kept [] is = begun_task v d w f at all kept w.todo
+rested v d w f at all kept (e ∷ es) is =
+    cond_both (is_full (slot w.slots (hand w.slots))) (first v d w e.statement w.todo (Leave (hand w.slots))) (ends_on v w e es)
+    (λ (x : Step). Right v d w f (Some x)) (λ c. acted v d e.statement w w.todo f at all kept (Leave (hand w.slots)))
+    (λ c. ended v d w e es f (at ∙ is) all kept)
+
+-- an object is made
+claimed : (v : Story) (d k : ℕ) (w : Walk) (ts : List Task) (b : Block) (form : Form) (f : Lists) → f d ≡ w.endings → AllEnd (state v) f
+    → Right v d w f (Some (claims w k ts b form))
+claimed v d k w ts b form f at all = record {
+  right = λ g after now else.
+      let s = state v in
+      let x = holding w.slots form.null (Some b.0) in
+      let keep = passes d f g w.endings w.endings at (now ∙ settled_endings x.0 x.1 w.endings ts) else (λ j t. t) in
       end_put s (state (story_by v d (Some (claims w k ts b form)))) g (suc s.made) _ refl (λ e p. absurd (live_ends e p))
-      (λ r e n p. passes d f g else own (s.object r).block e (all r e p));
+      (λ r e n p. keep (s.object r).block e (all r e p));
 }
   where
     live_ends : (e : ℕ) → live ≡ ending e → ⊥
     live_ends e p = cc
 
-prepared : (v : Story) (d k found want i : ℕ) (w : Walk) (b : Block) (c : Bool) (f : ℕ → Half) → f d ≡ Making b i c → AllEnd (state v) f
-    → Right v d (Making b i c) f (Some (prepares found want w k b i c))
-prepared v d k found want i w b true f at all = same v d (Making b i true) f _ refl (λ j t. absurd t) at all
-prepared v d k found want i w b false f at all = same v d (Making b i false) f _ refl (λ j t. absurd t) at all
+prepared : (v : Story) (d k found want i : ℕ) (w : Walk) (b : Block) (c : Bool) (f : Lists) → f d ≡ w.endings → AllEnd (state v) f
+    → Right v d w f (Some (prepares found want w k b i c))
+prepared v d k found want i w b true f at all = same v d w f _ refl refl at all
+prepared v d k found want i w b false f at all = same v d w f _ refl refl at all
 
-making : (v : Story) (d i : ℕ) (w : Walk) (b : Block) (c : Bool) (f : ℕ → Half) → f d ≡ Making b i c → AllEnd (state v) f → (ts : List Task)
-    → Right v d (Making b i c) f (made_on v d w b i c ts)
-making v d i w b c f at all [] = same v d (Making b i c) f None refl (λ j t. t) at all
+making : (v : Story) (d i : ℕ) (w : Walk) (b : Block) (c : Bool) (f : Lists) → f d ≡ w.endings → AllEnd (state v) f → (ts : List Task)
+    → Right v d w f (made_on v d w b i c ts)
+making v d i w b c f at all [] = same v d w f None refl refl at all
 making v d i w b c f at all (t ∷ ts) =
     let found = get_or (known (pending v d)) i 0 in
     let want = get_or (wanted (form_of t.act)) i 0 in
     cond_both (i == 5) (claims w t.statement ts b (form_of t.act)) (prepares found want w t.statement b i c)
-    (λ (x : Step). Right v d (Making b i c) f (Some x))
-    (λ e. claimed v d t.statement i w ts b c (form_of t.act) f at all) (λ e. prepared v d t.statement found want i w b c f at all)
-
--- a member is cleared
-cleared : (v : Story) (d stage k : ℕ) (w : Walk) (b : Block) (f : ℕ → Half) → f d ≡ Ending b stage k → AllEnd (state v) f
-    → Right v d (Ending b stage k) f (Some (record { deed = Some (deed.Clear b stage); half = Ending b (stage + 1) k; walk = w; said = silent k }))
-cleared v d stage k w b f at all = record {
-  right = λ g after now else.
-      let s = state v in
-      let o = object_in v b in
-      let own : (j : ℕ) → EndsIn j (f d) → EndsIn j (g d) = λ j t. subst (EndsIn j) (sym now) (let u : EndsIn j (Ending b stage k) = subst
-      (EndsIn j) at t in u) in
-      end_put s (state (story_by v d (Some (record {
-        deed = Some (deed.Clear b stage);
-        half = Ending b
-            (stage + 1) k;
-        walk = w;
-        said = silent k;
-      })))) g o
-      _ refl (λ e p. passes d f g else own (s.object o).block e (all o e p)) (λ r e n p. passes d f g else own (s.object r).block e (all r e p));
-}
-
--- the object is gone: no other ends in its block
-finished : (v : Story) (d stage k : ℕ) (w : Walk) (b : Block) (vacant : Bool) (f : ℕ → Half) → f d ≡ Ending b stage k → AllEnd (state v) f → Kept v
-    → Right v d (Ending b stage k) f (Some (record { deed = Some (deed.Finish b vacant); half = Rest; walk = w; said = silent k }))
-finished v d stage k w b vacant f at all kept = record {
-  right = λ g after now else.
-      let s = state v in
-      let o = object_in v b in
-      end_put s (state (story_by v d (Some (record { deed = Some (deed.Finish b vacant); half = Rest; walk = w; said = silent k })))) g o
-      _ refl (λ e p. absurd (gone_ends e p))
-      (λ r e n p.
-      ⊎_elim
-      (λ (q : e ≡ d).
-      let t : b.0 ≡ (s.object r).block = subst (EndsIn (s.object r).block) at (subst (λ (j : ℕ). EndsIn (s.object r).block (f j)) q (all r e p)) in
-      let c : common (s.object r).phase ≡ 1 = ap common p in
-      let l = ((sound (opening v.extent) v.history kept.stands.legal).placed r (omega (arith, c))).0 in
-      absurd (n (sym l ∙ ap s.latest (sym t))))
-      (λ (m : e ≢ d). subst (EndsIn (s.object r).block) (sym (else e m)) (all r e p)) (cases_eq e d));
-}
-  where
-    gone_ends : (e : ℕ) → gone ≡ ending e → ⊥
-    gone_ends e p = cc
-
-ended : (v : Story) (d stage k : ℕ) (w : Walk) (b : Block) (f : ℕ → Half) → f d ≡ Ending b stage k → AllEnd (state v) f → Kept v
-    → Right v d (Ending b stage k) f (Some (ends_on v w b stage k))
-ended v d stage k w b f at all kept =
-    cond_both (stage == 3)
-    (record { deed = Some (deed.Finish b (weak (state v) (object_in v b) == 0)); half = Rest; walk = w; said = silent k })
-    (record { deed = Some (deed.Clear b stage); half = Ending b (stage + 1) k; walk = w; said = silent k })
-    (λ (x : Step). Right v d (Ending b stage k) f (Some x))
-    (λ e. finished v d stage k w b (weak (state v) (object_in v b) == 0) f at all kept) (λ e. cleared v d stage k w b f at all)
+    (λ (x : Step). Right v d w f (Some x))
+    (λ e. claimed v d t.statement w ts b (form_of t.act) f at all) (λ e. prepared v d t.statement found want i w b c f at all)
 
 -- after each step
-pub ends_right : (v : Story) (d : ℕ) (h : Half) (w : Walk) (f : ℕ → Half) → f d ≡ h → AllEnd (state v) f → Kept v → Right v d h f (step_at v d h w)
-ends_right v d Rest w f at all kept = rested v d w f at all kept w.todo
+pub ends_right : (v : Story) (d : ℕ) (h : Half) (w : Walk) (f : Lists) → f d ≡ w.endings → AllEnd (state v) f → Kept v → Right v d w f (step_at v d h w)
+ends_right v d Rest w f at all kept = rested v d w f at all kept w.endings refl
 ends_right v d (Making b i c) w f at all kept = making v d i w b c f at all w.todo
-ends_right v d (Ending b stage k) w f at all kept = ended v d stage k w b f at all kept
 ends_right v d (Locking word) w f at all kept = tried_on v d word w f at all w.todo
-ends_right v d (Giving i kind x) w f at all kept = given_on v d i kind kind x w f at all w.todo
+ends_right v d (Giving i kind x) w f at all kept = given_on v d i kind x w f at all w.todo

@@ -8,18 +8,20 @@ use Rattle.control_word.specs.declared.place.Block.{Block}
 use Rattle.step_core.specs.declared.act.Act.{Act}
 use Rattle.step_core.specs.declared.act.Act.TheVariants.{Make, Share, Downgrade, Lock, Put, Leave, Clear, Count, Expired, Read, FromThis, Alias, Move, Ask}
 use Rattle.step_core.specs.declared.act.Task.{Task}
+use Rattle.step_core.specs.declared.ending.Ending.{Ending}
 use Rattle.step_core.specs.declared.half.Half.{Half}
-use Rattle.step_core.specs.declared.half.Half.TheVariants.{Rest, Making, Ending, Locking, Giving}
+use Rattle.step_core.specs.declared.half.Half.TheVariants.{Rest, Making, Locking, Giving}
 use Rattle.step_core.specs.declared.holdings.Pointer.{Pointer}
 use Rattle.step_core.specs.declared.past.Deed.{Deed}
 use Rattle.step_core.specs.declared.past.Deed.TheVariants as deed
 use Rattle.control_word.specs.State.{weak}
 use Rattle.step_core.specs.Actors.{wanted}
-use Rattle.step_core.specs.Courses.{Walk, form_of, locked}
+use Rattle.step_core.specs.Courses.{Walk, form_of, hand, locked}
 use Rattle.step_core.specs.Deeds.{alias, aliased, downgrade, give, is_enabled, is_last, leave, leave_as, lock, owner_word, read, share, share_as, tell, tell_expired}
-use Rattle.step_core.specs.Holdings.{inside, owner_slot, place_in, slot}
-use Rattle.step_core.specs.Scenes.{least, on}
-use Rattle.step_core.specs.Steps.{Step, acts, asks, begins, begun, claims, first, given, looks, made_on, prepares, silent, step_at, story_after, story_by, tried, tries, trying}
+use Rattle.step_core.specs.Endings.{staged}
+use Rattle.step_core.specs.Holdings.{inside, is_full, owner_slot, place_in, slot}
+use Rattle.step_core.specs.Entries.{least, on}
+use Rattle.step_core.specs.Steps.{Step, acts, asks, at_rest, begins, begun, claims, ends_on, first, given, looks, made_on, prepares, silent, step_at, story_after, story_by, tried, tries, trying, with_endings}
 use Rattle.step_core.specs.Stories.{IsPlain, Plain, Story, known, object_in, pending, state}
 use Rattle.step_core.proofs.tables.Plain.{plain_after}
 
@@ -100,16 +102,31 @@ plain_made v d w b i false (t ∷ ts) =
     cond_both (i == 5) (claims w t.statement ts b (form_of t.act))
     (prepares (get_or (known (pending v d)) i 0) (get_or (wanted (form_of t.act)) i 0) w t.statement b i false) (λ (s : Step). AllPlain s.deed) (λ t. tt) (λ t. tt)
 
+plain_task : (v : Story) (d : ℕ) (w : Walk) (ts : List Task) → IsPlainStep (begun v d w ts)
+plain_task v d w [] = tt
+plain_task v d w (t ∷ ts) = plain_first v d w t.statement ts t.act
+
+plain_end : (v : Story) (w : Walk) (e : Ending) (es : List Ending) → AllPlain (ends_on v w e es).deed
+plain_end v w e es =
+    cond_both (e.stage == 3)
+    (record {
+      deed = Some (deed.Finish e.block (weak (state v) (object_in v e.block) == 0));
+      half = Rest;
+      walk = with_endings w es;
+      said = silent e.statement;
+    })
+    (record { deed = Some (deed.Clear e.block e.stage); half = Rest; walk = with_endings w (staged e ∷ es); said = silent e.statement })
+    (λ (s : Step). AllPlain s.deed) (λ t. tt) (λ t. tt)
+
+plain_rest : (v : Story) (d : ℕ) (w : Walk) (es : List Ending) → IsPlainStep (at_rest v d w es)
+plain_rest v d w [] = plain_task v d w w.todo
+plain_rest v d w (e ∷ es) =
+    cond_both (is_full (slot w.slots (hand w.slots))) (first v d w e.statement w.todo (Leave (hand w.slots))) (ends_on v w e es)
+    (λ (s : Step). AllPlain s.deed) (λ t. plain_first v d w e.statement w.todo (Leave (hand w.slots))) (λ t. plain_end v w e es)
+
 pub plain_step : (v : Story) (d : ℕ) (h : Half) (w : Walk) → IsPlainStep (step_at v d h w)
-plain_step v d Rest w = go w.todo
-  where
-    go : (ts : List Task) → IsPlainStep (begun v d w ts)
-    go [] = tt
-    go (t ∷ ts) = plain_first v d w t.statement ts t.act
+plain_step v d Rest w = plain_rest v d w w.endings
 plain_step v d (Making b i differs) w = plain_made v d w b i differs w.todo
-plain_step v d (Ending b stage k) w =
-    cond_both (stage == 3) (record { deed = Some (deed.Finish b (weak (state v) (object_in v b) == 0)); half = Rest; walk = w; said = silent k })
-    (record { deed = Some (deed.Clear b stage); half = Ending b (stage + 1) k; walk = w; said = silent k }) (λ (s : Step). AllPlain s.deed) (λ t. tt) (λ t. tt)
 plain_step v d (Locking word) w = go w.todo
   where
     go : (ts : List Task) → IsPlainStep (tried v d w word ts)

@@ -1,65 +1,93 @@
 -- What a world keeps, at its start.
-use Rattle.std.proofs.Common.{◌≡◌, ℕ, zero, suc, ◌+◌, ◌*◌, ◌≤◌, List, [], ◌∷◌, length, map, refl, sym, ap, ◌∙◌, arith}
+use Rattle.std.proofs.Common.{◌≡◌, ℕ, zero, suc, ◌+◌, ◌*◌, ◌≤◌, List, [], ◌∷◌, ◌++◌, length, map, refl, sym, ap, ◌∙◌, arith}
 use Rattle.std.specs.Prelude.{All, false}
 use Rattle.std.proofs.lemmas.List.{length-map}
 use Rattle.std.proofs.lemmas.List.Elements.{All-head, All-tail}
 use Rattle.std.proofs.lemmas.List.Sums.{sum_by-cons}
 use Rattle.control_word.specs.State.{ending, unmade}
+use Rattle.step_core.specs.declared.act.Act.{Act}
+use Rattle.step_core.specs.declared.act.Act.TheVariants as act
+use Rattle.step_core.specs.declared.act.Task.{Task}
 use Rattle.step_core.specs.declared.call.Call.{Call}
 use Rattle.step_core.specs.declared.call.Call.TheVariants as call
 use Rattle.step_core.specs.declared.extent.Extent.{Extent}
 use Rattle.step_core.specs.declared.thread.Thread.{Thread}
-use Rattle.step_core.specs.Acts.{clearing, tasks_from}
+use Rattle.step_core.specs.Acts.{acts, clearing, numbered, tasks_from}
+use Rattle.step_core.specs.Bounds.{left_to_do, task_steps, walk_steps, weight}
 use Rattle.step_core.specs.Courses.{Walk}
 use Rattle.step_core.specs.Programs.{IsPart, IsProgram, Part, call_count}
 use Rattle.step_core.specs.Starts.{first_story, first_walk, no_slots}
-use Rattle.step_core.specs.Told.{IsTold, left_to_do, sight}
+use Rattle.step_core.specs.Told.{IsTold, sight}
 use Rattle.step_core.specs.Worlds.{thread_half, thread_walk}
 use Rattle.step_core.proofs.tables.Start.{plain_start}
-use Rattle.step_core.proofs.telling.Counting.{settled_less}
+use Rattle.step_core.proofs.telling.Walking.{settled_alone}
 
-clearing_size : (n : ℕ) → length (clearing n) ≡ n
-clearing_size zero = refl
-clearing_size (suc n) = ap suc (clearing_size n)
+clearing_steps : (n : ℕ) → task_steps (clearing n) ≡ 2 * n
+clearing_steps zero = refl
+clearing_steps (suc n) =
+    let i = clearing_steps n in
+    let a = sum_by-cons (λ (t : Task). weight t.act) (record { statement = 0; act = act.Clear n }) (clearing n) in
+    omega (arith, i, a)
 
-tasks_size : (k : ℕ) (calls : List Call) (n : ℕ) → length (tasks_from k calls n) ≤ 2 * length calls + n
-tasks_size k [] n = let i = clearing_size n in omega (arith, i)
-tasks_size k ((call.Make t f) ∷ cs) n = let i = tasks_size (k + 1) cs n in omega (arith, i)
-tasks_size k ((call.Empty t) ∷ cs) n = let i = tasks_size (k + 1) cs n in omega (arith, i)
-tasks_size k ((call.Reset t) ∷ cs) n = let i = tasks_size (k + 1) cs n in omega (arith, i)
-tasks_size k ((call.Copy t s) ∷ cs) n = let i = tasks_size (k + 1) cs n in omega (arith, i)
-tasks_size k ((call.Count t) ∷ cs) n = let i = tasks_size (k + 1) cs n in omega (arith, i)
-tasks_size k ((call.Weak t s) ∷ cs) n = let i = tasks_size (k + 1) cs n in omega (arith, i)
-tasks_size k ((call.WeakCopy t s) ∷ cs) n = let i = tasks_size (k + 1) cs n in omega (arith, i)
-tasks_size k ((call.WeakEmpty t) ∷ cs) n = let i = tasks_size (k + 1) cs n in omega (arith, i)
-tasks_size k ((call.WeakReset t) ∷ cs) n = let i = tasks_size (k + 1) cs n in omega (arith, i)
-tasks_size k ((call.Lock t s) ∷ cs) n = let i = tasks_size (k + 1) cs n in omega (arith, i)
-tasks_size k ((call.Upgrade t s) ∷ cs) n = let i = tasks_size (k + 1) cs n in omega (arith, i)
-tasks_size k ((call.WeakCount t) ∷ cs) n = let i = tasks_size (k + 1) cs n in omega (arith, i)
-tasks_size k ((call.Expired t) ∷ cs) n = let i = tasks_size (k + 1) cs n in omega (arith, i)
-tasks_size k ((call.MakeThis t f) ∷ cs) n = let i = tasks_size (k + 1) cs n in omega (arith, i)
-tasks_size k ((call.Null t) ∷ cs) n = let i = tasks_size (k + 1) cs n in omega (arith, i)
-tasks_size k ((call.Move t s) ∷ cs) n = let i = tasks_size (k + 1) cs n in omega (arith, i)
-tasks_size k ((call.Alias t s o f) ∷ cs) n = let i = tasks_size (k + 1) cs n in omega (arith, i)
-tasks_size k ((call.AliasNull t s) ∷ cs) n = let i = tasks_size (k + 1) cs n in omega (arith, i)
-tasks_size k ((call.This t s) ∷ cs) n = let i = tasks_size (k + 1) cs n in omega (arith, i)
-tasks_size k ((call.WeakThis t s) ∷ cs) n = let i = tasks_size (k + 1) cs n in omega (arith, i)
-tasks_size k ((call.Read t) ∷ cs) n = let i = tasks_size (k + 1) cs n in omega (arith, i)
-tasks_size k ((call.Place t) ∷ cs) n = let i = tasks_size (k + 1) cs n in omega (arith, i)
-tasks_size k ((call.Same t s) ∷ cs) n = let i = tasks_size (k + 1) cs n in omega (arith, i)
-tasks_size k ((call.Before t s) ∷ cs) n = let i = tasks_size (k + 1) cs n in omega (arith, i)
+-- a statement is one act or two, of which the first may be a make
+abbrev act_steps : List Act → ℕ
+act_steps [] = 0
+act_steps (a ∷ rest) = weight a + act_steps rest
 
-first_left : (part : Part) → IsPart part → length (first_walk part).todo ≤ 2 * length part.calls + 32
+numbered_steps : (k : ℕ) (l : List Act) (ts : List Task) → task_steps (numbered k l ++ ts) ≡ act_steps l + task_steps ts
+numbered_steps k [] ts = omega arith
+numbered_steps k (a ∷ rest) ts =
+    let i = numbered_steps k rest ts in
+    let b = sum_by-cons (λ (t : Task). weight t.act) (record { statement = k; act = a }) (numbered k rest ++ ts) in
+    omega (arith, i, b)
+
+call_steps : (c : Call) → act_steps (acts c) ≤ 30
+call_steps (call.Make t f) = omega arith
+call_steps (call.Empty t) = omega arith
+call_steps (call.Reset t) = omega arith
+call_steps (call.Copy t s) = omega arith
+call_steps (call.Count t) = omega arith
+call_steps (call.Weak t s) = omega arith
+call_steps (call.WeakCopy t s) = omega arith
+call_steps (call.WeakEmpty t) = omega arith
+call_steps (call.WeakReset t) = omega arith
+call_steps (call.Lock t s) = omega arith
+call_steps (call.Upgrade t s) = omega arith
+call_steps (call.WeakCount t) = omega arith
+call_steps (call.Expired t) = omega arith
+call_steps (call.MakeThis t f) = omega arith
+call_steps (call.Null t) = omega arith
+call_steps (call.Move t s) = omega arith
+call_steps (call.Alias t s o f) = omega arith
+call_steps (call.AliasNull t s) = omega arith
+call_steps (call.This t s) = omega arith
+call_steps (call.WeakThis t s) = omega arith
+call_steps (call.Read t) = omega arith
+call_steps (call.Place t) = omega arith
+call_steps (call.Same t s) = omega arith
+call_steps (call.Before t s) = omega arith
+
+all_steps : (k : ℕ) (calls : List Call) (n : ℕ) → task_steps (tasks_from k calls n) ≤ 30 * length calls + 2 * n
+all_steps k [] n = let i = clearing_steps n in omega (arith, i)
+all_steps k (c ∷ cs) n =
+    let i = all_steps (k + 1) cs n in
+    let a = numbered_steps k (acts c) (tasks_from (k + 1) cs n) in
+    let b = call_steps c in
+    omega (arith, i, a, b)
+
+first_left : (part : Part) → IsPart part → walk_steps (first_walk part) ≤ 30 * length part.calls + 64
 first_left part fine =
-    let s = settled_less (no_slots (length part.kinds)) false (tasks_from 1 part.calls (length part.kinds)) in
-    let t = tasks_size 1 part.calls (length part.kinds) in let f = fine.few in omega (arith, s, t, f)
+    let s = settled_alone (no_slots (length part.kinds)) false (tasks_from 1 part.calls (length part.kinds)) in
+    let t = all_steps 1 part.calls (length part.kinds) in
+    let f = fine.few in
+    omega (arith, s, t, f)
 
-all_left : (parts : List Part) → All IsPart parts → left_to_do (map first_walk parts) ≤ 2 * call_count parts + 32 * length parts
+all_left : (parts : List Part) → All IsPart parts → left_to_do (map first_walk parts) ≤ 30 * call_count parts + 64 * length parts
 all_left [] all = omega arith
 all_left (p ∷ ps) all =
     let f = first_left p (All-head IsPart p ps all) in
     let i = all_left ps (All-tail IsPart p ps all) in
-    let a = sum_by-cons (λ (w : Walk). length w.todo) (first_walk p) (map first_walk ps) in
+    let a = sum_by-cons walk_steps (first_walk p) (map first_walk ps) in
     let b = sum_by-cons (λ (q : Part). length q.calls) p ps in
     omega (arith, f, i, a, b)
 
@@ -81,6 +109,7 @@ told_start x parts threads size fine walks =
       halves = k ∙ sym l;
       made = refl;
       ended = refl;
+      order = omega arith;
       few = omega (arith, same, a, calls, actors);
       endings = λ o e p. absurd (not_ending e p);
       plain = plain_start x (first_story x).words;

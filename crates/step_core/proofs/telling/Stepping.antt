@@ -3,17 +3,20 @@ use Rattle.std.proofs.Common.{◌≡◌, ℕ, ◌+◌, ◌<◌, length, refl, sy
 use Rattle.std.specs.Prelude.{Option, Some, None}
 use Rattle.std.proofs.lemmas.List.Sums.{sum_by-set}
 use Rattle.step_core.specs.declared.extent.Extent.{Extent}
-use Rattle.step_core.specs.declared.half.Half.TheVariants.{Rest}
 use Rattle.step_core.specs.declared.past.Deed.{Deed}
 use Rattle.step_core.specs.declared.said.Stepped.{Stepped}
+use Rattle.step_core.specs.Bounds.{walk_steps}
 use Rattle.step_core.specs.Courses.{Walk}
+use Rattle.step_core.specs.Openings.{opening}
 use Rattle.step_core.specs.Scenes.{nowhere, walk_of}
 use Rattle.step_core.specs.Steps.{Step, half_by, story_after, story_by, stepped, walk_by}
 use Rattle.step_core.specs.Stories.{Kept, Story}
 use Rattle.step_core.specs.Told.{IsTold, ends_by, makes}
+use Rattle.step_core.specs.Turning.{HasBegun}
 use Rattle.step_core.specs.Worlds.{Sight, Steps, half_of, scene, sight_by, step_of}
 use Rattle.step_core.proofs.telling.Plain.{plain_by, plain_step}
 use Rattle.step_core.proofs.telling.Counting.{counted}
+use Rattle.step_core.proofs.telling.Order.{ended_few}
 use Rattle.step_core.proofs.telling.Ending.{ends_right}
 
 same_extent : (v : Story) (d : ℕ) (x : Option Step) → (story_by v d x).extent ≡ v.extent
@@ -24,34 +27,36 @@ same_extent v d (Some x) = go x.deed
     go None = refl
     go (Some y) = refl
 
-told_step : (d : ℕ) (u : Sight) (m e : ℕ) → Kept u.story → Kept (story_by u.story d (step_of d u)) → d < length u.walks → IsTold u m e
+told_step : (d : ℕ) (u : Sight) (m e : ℕ) → Kept u.story → Kept (story_by u.story d (step_of d u)) → HasBegun d u → d < length u.walks → IsTold u m e
     → IsTold (sight_by d u (step_of d u)) (m + makes (half_of u d) (stepped u.story (step_of d u))) (e + ends_by (stepped u.story (step_of d u)))
-told_step d u m e kept after lt told =
+told_step d u m e kept after begun lt told =
     let x = step_of d u in
     let w = walk_of (scene u) d in
     let h = half_of u d in
-    let c = counted u.story d h w in
+    let c = counted u.story d h w begun.half begun.alone in
     let small = told.few in
+    let law = ended_few (opening (story_by u.story d x).extent) (story_by u.story d x).history after.stands.legal in
     let l = length-set u.walks d (walk_by w x) in
     let k = length-set u.halves d (half_by h x) in
-    let inside : d < length u.halves = let t = told.halves in omega (arith, t) in
-    let s = sum_by-set (λ (y : Walk). length y.todo) u.walks d (walk_by w x) nowhere lt in
+    let s = sum_by-set walk_steps u.walks d (walk_by w x) nowhere lt in
     record {
       threads = l ∙ told.threads ∙ ap (λ (z : Extent). z.actors) (sym (same_extent u.story d x));
       halves = k ∙ told.halves ∙ sym l;
       made = (let a = told.made in let b = c.made in omega (arith, a, b));
       ended = (let a = told.ended in let b = c.ended in omega (arith, a, b));
+      order = (let a = told.made in let b = c.made in let p = told.ended in let q = c.ended in omega (arith, law, a, b, p, q));
       few = (let b = c.few in omega (arith, s, b, small));
-      endings = (ends_right u.story d h w (half_of u) refl told.endings kept).right (half_of (sight_by d u x)) after
-          (get_or-set_same u.halves d (half_by h x) Rest inside)
-          (λ i n. get_or-set_other u.halves d i (half_by h x) Rest n);
+      endings = (ends_right u.story d h w (λ i. (walk_of (scene u) i).endings) refl told.endings kept).right
+          (λ i. (walk_of (scene (sight_by d u x)) i).endings) after
+          (ap (λ (y : Walk). y.endings) (get_or-set_same u.walks d (walk_by w x) nowhere lt))
+          (λ i n. ap (λ (y : Walk). y.endings) (get_or-set_other u.walks d i (walk_by w x) nowhere n));
       plain = plain_by u.story d x (plain_step u.story d h w) (let t = told.threads in let s = kept.seats.size in omega (arith, t, s, lt)) told.plain;
     }
 
-pub told_by : (d : ℕ) (u v : Sight) (r : Stepped) (m e : ℕ) → Kept u.story → Kept v.story → d < length u.walks → IsTold u m e
+pub told_by : (d : ℕ) (u v : Sight) (r : Stepped) (m e : ℕ) → Kept u.story → Kept v.story → HasBegun d u → d < length u.walks → IsTold u m e
     → Steps d u r v → IsTold v (m + makes (half_of u d) r) (e + ends_by r)
-told_by d u v r m e kept after lt told steps =
+told_by d u v r m e kept after begun lt told steps =
     let x = step_of d u in
     let k : Kept (story_by u.story d x) = subst (λ (y : Sight). Kept y.story) steps.1 after in
     subst (λ (y : Sight). IsTold y (m + makes (half_of u d) r) (e + ends_by r)) (sym steps.1)
-    (subst (λ (q : Stepped). IsTold (sight_by d u x) (m + makes (half_of u d) q) (e + ends_by q)) (sym steps.0) (told_step d u m e kept k lt told))
+    (subst (λ (q : Stepped). IsTold (sight_by d u x) (m + makes (half_of u d) q) (e + ends_by q)) (sym steps.0) (told_step d u m e kept k begun lt told))

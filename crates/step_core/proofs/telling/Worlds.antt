@@ -8,28 +8,30 @@ use Rattle.step_core.specs.declared.thread.Thread.{Thread}
 use Rattle.step_core.specs.Stories.{Kept, Story}
 use Rattle.step_core.specs.Threads.{HasStepped}
 use Rattle.step_core.specs.Told.{IsTold, ends_by, makes, sight}
+use Rattle.step_core.specs.Turning.{HasBegun}
 use Rattle.step_core.specs.Worlds.{half_of, thread_half, thread_walk}
 use Rattle.step_core.proofs.telling.Stepping.{told_by}
 use Rattle.step_core.proofs.Worlds.{steps}
 
-pub told_after : (v w : Story) (threads : List Thread) (n : ℕ) (t t' : Thread) (r : Stepped) (m e : ℕ) → Kept v → Kept w → n < length threads
-    → t ≡ get_or threads n t → HasStepped n t v r t' w → IsTold (sight v threads) m e
+pub told_after : (v w : Story) (threads : List Thread) (n : ℕ) (t t' : Thread) (r : Stepped) (m e : ℕ) → Kept v → Kept w → HasBegun n (sight v threads)
+    → n < length threads → t ≡ get_or threads n t → HasStepped n t v r t' w → IsTold (sight v threads) m e
     → IsTold (sight w (set threads n t')) (m + makes t.half r) (e + ends_by r)
-told_after v w threads n t t' r m e kept after lt read moved told =
+told_after v w threads n t t' r m e kept after begun lt read moved told =
     let l = length-map threads thread_walk in
     let h : half_of (sight v threads) n ≡ t.half = get_or-map thread_half threads n t Rest lt ∙ ap thread_half (sym read) in
     subst (λ (x : Half). IsTold (sight w (set threads n t')) (m + makes x r) (e + ends_by r)) h
-    (told_by n (sight v threads) (sight w (set threads n t')) r m e kept after (omega (arith, l)) told (steps v w threads n t t' r lt read moved))
+    (told_by n (sight v threads) (sight w (set threads n t')) r m e kept after begun (omega (arith, l)) told (steps v w threads n t t' r lt read moved))
 
 -- the totals have room for a step
-pub few_told : (v : Story) (threads : List Thread) (m e : ℕ) → IsTold (sight v threads) m e → m + e ≤ 133120
-few_told v threads m e told = let f = told.few in omega (arith, f)
+pub few_told : (v : Story) (threads : List Thread) (m e : ℕ) → IsTold (sight v threads) m e → (m ≤ 131345) × (e ≤ m)
+few_told v threads m e told = let f = told.few in let o = told.order in (omega (arith, f, o), o)
 
 -- the same, with the totals as they were computed
-pub told_now : (v w : Story) (threads : List Thread) (n : ℕ) (t t' : Thread) (r : Stepped) (m e x y : ℕ) → Kept v → Kept w → n < length threads
-    → t ≡ get_or threads n t → HasStepped n t v r t' w → IsTold (sight v threads) m e → x ≡ makes t.half r → y ≡ ends_by r
+pub told_now : (v w : Story) (threads : List Thread) (n : ℕ) (t t' : Thread) (r : Stepped) (m e x y : ℕ) → Kept v → Kept w
+    → HasBegun n (sight v threads) → n < length threads → t ≡ get_or threads n t → HasStepped n t v r t' w → IsTold (sight v threads) m e
+    → x ≡ makes t.half r → y ≡ ends_by r
     → IsTold (sight w (set threads n t')) (m + x) (e + y)
-told_now v w threads n t t' r m e x y kept after lt read moved told p q =
+told_now v w threads n t t' r m e x y kept after begun lt read moved told p q =
     let s = sight w (set threads n t') in
     subst (λ (k : ℕ). IsTold s (m + k) (e + y)) (sym p) (subst (λ (k : ℕ). IsTold s (m + makes t.half r) (e + k)) (sym q)
-    (told_after v w threads n t t' r m e kept after lt read moved told))
+    (told_after v w threads n t t' r m e kept after begun lt read moved told))

@@ -1,28 +1,38 @@
--- The end of an object, step by step.
-use Rattle.std.proofs.Common.{◌≡◌, ℕ, zero, suc, ◌-◌, ◌<◌, ◌≤◌, true, false, List, length, set, refl, sym, ap, subst, ◌∙◌, arith}
+-- The endings of a thread, step by step.
+use Rattle.std.proofs.Common.{◌≡◌, ◌≢◌, ◌⊎◌, ℕ, suc, ◌+◌, ◌-◌, ◌<◌, ◌≤◌, ◌==◌, Bool, true, false, List, [], ◌∷◌}
+use Rattle.std.proofs.Common.{All, length, set, refl, sym, ap, subst, ◌∙◌, arith, ⊎_elim}
 use Rattle.std.proofs.Common.{get_or-set_same}
-use Rattle.std.specs.Prelude.{Option, Some}
-use Rattle.std.proofs.lemmas.Bool.{false≢true}
+use Rattle.std.specs.Prelude.{Option, Some, None, is_some}
+use Rattle.std.proofs.lemmas.Bool.{cond-false, cond_both, eqb-true, eqb-false, false≢true}
 use Rattle.std.proofs.lemmas.List.{set-get_or, set-set}
-use Rattle.control_word.specs.declared.place.Block.{Block}
+use Rattle.std.proofs.lemmas.List.Elements.{All-head}
+use Rattle.control_word.specs.declared.event.Event.TheVariants as event
+use Rattle.control_word.specs.declared.handle.Handle.{Handle}
+use Rattle.control_word.specs.Handles.{empty, has_object}
+use Rattle.control_word.specs.Histories.{entry, leads}
+use Rattle.control_word.specs.State.{Opening, kind_of_member, weak}
+use Rattle.step_core.specs.declared.ending.Ending.{Ending}
 use Rattle.step_core.specs.declared.half.Half.{Half}
-use Rattle.step_core.specs.declared.half.Half.TheVariants.{Rest, Making, Ending, Locking, Giving}
+use Rattle.step_core.specs.declared.half.Half.TheVariants.{Rest, Making, Locking, Giving}
+use Rattle.step_core.specs.declared.past.Deed.TheVariants as deed
 use Rattle.step_core.specs.declared.said.Stepped.{Stepped}
-use Rattle.step_core.specs.Courses.{Walk}
-use Rattle.step_core.specs.Scenes.{History, Scene, nowhere, walk_of}
-use Rattle.step_core.specs.Steps.{Step, ends_on, half_by, step_at}
-use Rattle.step_core.specs.Stories.{Kept}
-use Rattle.step_core.specs.Turning.{HasBegun, IsUnderWay, Rests, is_ending, rested_half}
-use Rattle.step_core.specs.Worlds.{GoesTo, Sight, Steps, half_of, rested, rested_from, scene, sight_by, step_of}
+use Rattle.step_core.specs.declared.slot.Slot.{Slot}
+use Rattle.step_core.specs.Courses.{Walk, hand}
+use Rattle.step_core.specs.Endings.{first_of, staged}
+use Rattle.step_core.specs.Holdings.{Slots, is_full, slot}
+use Rattle.step_core.specs.Openings.{opening}
+use Rattle.step_core.specs.Entries.{History}
+use Rattle.step_core.specs.Scenes.{Scene, Stop, Wound, goes_on, nowhere, put_walk, rested, rested_walk, stops, unwound, walk_of}
+use Rattle.step_core.specs.Steps.{Step, at_rest, ends_on, half_by, silent, step_at, walk_by, with_endings}
+use Rattle.step_core.specs.Stories.{AllBare, Kept, object_in, state}
+use Rattle.step_core.specs.Turning.{HasBegun, IsAlone, Rests, is_ending}
+use Rattle.step_core.specs.Worlds.{GoesTo, Sight, Steps, half_of, scene, sight_by, step_of}
 use Rattle.step_core.proofs.turning.Chains.{more_steps, no_step, one_step}
 
--- the steps that are left of an end
-abbrev pub left : Half → ℕ
-left Rest = 0
-left (Making b i differs) = 0
-left (Ending b stage k) = 4 - stage
-left (Locking word) = 0
-left (Giving i kind x) = 0
+-- the steps that are left of endings
+abbrev pub left : List Ending → ℕ
+left [] = 0
+left (e ∷ es) = (4 - e.stage) + left es
 
 -- what the thread has begun after its step
 pub half_after : (d : ℕ) (u : Sight) (x : Option Step) → d < length u.halves → half_of (sight_by d u x) d ≡ half_by (half_of u d) x
@@ -30,6 +40,11 @@ half_after d u x lt = get_or-set_same u.halves d (half_by (half_of u d) x) Rest 
 
 pub halves_after : (d : ℕ) (u : Sight) (x : Option Step) → d < length u.halves → (sight_by d u x).halves ≡ set u.halves d (half_of (sight_by d u x) d)
 halves_after d u x lt = ap (λ (h : Half). set u.halves d h) (sym (half_after d u x lt))
+
+-- where it is after it
+pub walk_after : (d : ℕ) (u : Sight) (x : Option Step) → d < length u.walks
+    → walk_of (scene (sight_by d u x)) d ≡ walk_by (walk_of (scene u) d) x
+walk_after d u x lt = get_or-set_same u.walks d (walk_by (walk_of (scene u) d) x) nowhere lt
 
 -- a thread that stays where it is
 pub same_walks : (d : ℕ) (u : Sight) → set u.walks d (walk_of (scene u) d) ≡ u.walks
@@ -39,106 +54,187 @@ pub scene_as : (u : Sight) (h h' : History) (w w' : List Walk) → h ≡ h' → 
     → ◌≡◌ {A = Scene} (record { extent = u.story.extent; history = h; walks = w }) (record { extent = u.story.extent; history = h'; walks = w' })
 scene_as u h h' w w' e f = cc
 
-end_step : (d : ℕ) (u : Sight) (b : Block) (s k : ℕ) → s ≤ 3 → d < length u.halves
-    → rested (sight_by d u (Some (ends_on u.story (walk_of (scene u) d) b s k))) d ≡ rested_from u d (Ending b s k)
-end_step d u b zero k le lt =
-    let x : Option Step = Some (ends_on u.story (walk_of (scene u) d) b 0 k) in
-    ap (rested_from (sight_by d u x) d) (half_after d u x lt) ∙ scene_as u _ _ _ _ refl (same_walks d u)
-end_step d u b (suc zero) k le lt =
-    let x : Option Step = Some (ends_on u.story (walk_of (scene u) d) b 1 k) in
-    ap (rested_from (sight_by d u x) d) (half_after d u x lt) ∙ scene_as u _ _ _ _ refl (same_walks d u)
-end_step d u b (suc (suc zero)) k le lt =
-    let x : Option Step = Some (ends_on u.story (walk_of (scene u) d) b 2 k) in
-    ap (rested_from (sight_by d u x) d) (half_after d u x lt) ∙ scene_as u _ _ _ _ refl (same_walks d u)
-end_step d u b (suc (suc (suc zero))) k le lt =
-    let x : Option Step = Some (ends_on u.story (walk_of (scene u) d) b 3 k) in
-    ap (rested_from (sight_by d u x) d) (half_after d u x lt) ∙ scene_as u _ _ _ _ refl (same_walks d u)
-end_step d u b (suc (suc (suc (suc s)))) k le lt = absurd (omega (arith, le))
+-- a scene with thread d here, and this history
+abbrev pub moved : Scene → ℕ → Walk → History → Scene
+moved c d w h = record { extent = c.extent; history = h; walks = set c.walks d w }
 
-end_half : (u : Sight) (w : Walk) (b : Block) (s k : ℕ) → s ≤ 3 → (rested_half (ends_on u.story w b s k).half ≡ Rest)
-    × (left (ends_on u.story w b s k).half < 4 - s)
-end_half u w b zero k le = (refl, omega arith)
-end_half u w b (suc zero) k le = (refl, omega arith)
-end_half u w b (suc (suc zero)) k le = (refl, omega arith)
-end_half u w b (suc (suc (suc zero))) k le = (refl, omega arith)
-end_half u w b (suc (suc (suc (suc s)))) k le = absurd (omega (arith, le))
+pub rested_moved : (c : Scene) (d : ℕ) (w : Walk) (h : History) → d < length c.walks
+    → rested d (moved c d w h) ≡ put_walk c d w (rested_walk (opening c.extent) d h w)
+rested_moved c d w h lt =
+    let x : Walk → Wound = λ (k : Walk). rested_walk (opening c.extent) d h k in
+    ap (λ (k : Walk). put_walk (moved c d w h) d k (x k)) (get_or-set_same c.walks d w nowhere lt)
+    ∙ ap (λ (l : List Walk). record { extent = c.extent; history = (x w).history; walks = l }) (set-set c.walks d w _)
 
--- how far the end of an object has come
+-- where no object ends the scene is as it is
+still : (z : Opening) (d : ℕ) (h : History) (w : Walk) → w.endings ≡ []
+    → rested_walk z d h w ≡ record { history = h; slots = w.slots; endings = w.endings }
+still z d h w none =
+    cond_both (is_full (slot w.slots (hand w.slots))) (record { history = h; slots = w.slots; endings = w.endings }) (unwound z d w.slots w.endings h)
+    (λ (x : Wound). x ≡ record { history = h; slots = w.slots; endings = w.endings }) (λ t. refl)
+    (λ t. ap (λ (es : List Ending). unwound z d w.slots es h) none
+    ∙ ap (λ (es : List Ending). record { history = h; slots = w.slots; endings = es }) (sym none))
+
+pub rested_none : (c : Scene) (d : ℕ) → (walk_of c d).endings ≡ [] → rested d c ≡ c
+rested_none c d none =
+    let w = walk_of c d in
+    ap (put_walk c d w) (still (opening c.extent) d c.history w none)
+    ∙ ap (λ (l : List Walk). record { extent = c.extent; history = c.history; walks = l }) (set-get_or c.walks d nowhere)
+
+-- how the endings go on, by how far the first comes
+abbrev goes : Opening → ℕ → Slots → Ending → List Ending → Stop → Wound
+goes z d slots e es c = goes_on e es c.history slots (unwound z d slots es c.history) c.out
+
+goes_staged : (e : Ending) (es : List Ending) (h : History) (slots : Slots) (others : Wound) (out : Option (ℕ × Slot))
+    → goes_on (staged e) es h slots others out ≡ goes_on e es h slots others out
+goes_staged e es h slots others None = refl
+goes_staged e es h slots others (Some p) = refl
+
+-- a member that holds nothing is cleared, and the object goes on to end
+clears_bare : (z : Opening) (d o k : ℕ) (h : History) → AllBare (leads z h)
+    → stops z d o (suc k) h ≡ stops z d o k (entry d (event.ClearMember o (2 - k) (empty (kind_of_member (2 - k)))) ∷ h)
+clears_bare z d o k h bare =
+    let x : Handle = ((leads z h).object o).member (2 - k) in
+    let b : x ≡ empty (kind_of_member (2 - k)) = bare o (2 - k) in
+    cond-false (has_object x) _ _ (ap has_object b) ∙ ap (λ (y : Handle). stops z d o k (entry d (event.ClearMember o (2 - k) y) ∷ h)) b
+
+unwound_clear : (z : Opening) (d : ℕ) (slots : Slots) (e : Ending) (es : List Ending) (h : History) → AllBare (leads z h) → e.stage < 3
+    → unwound z d slots (staged e ∷ es) (entry d (event.ClearMember ((leads z h).latest e.block.0) e.stage (empty (kind_of_member e.stage))) ∷ h)
+    ≡ unwound z d slots (e ∷ es) h
+unwound_clear z d slots e es h bare lt =
+    let o = (leads z h).latest e.block.0 in
+    let g : ℕ → History = λ (m : ℕ). entry d (event.ClearMember o m (empty (kind_of_member m))) ∷ h in
+    let n = 2 - e.stage in
+    let more : ◌≡◌ {A = ℕ} (3 - e.stage) (suc n) = omega (arith, lt) in
+    let less : ◌≡◌ {A = ℕ} (3 - (e.stage + 1)) n = omega (arith, lt) in
+    let same : ◌≡◌ {A = ℕ} (2 - n) e.stage = omega (arith, lt) in
+    let c = stops z d o n (g e.stage) in
+    ap (λ (j : ℕ). goes z d slots (staged e) es (stops z d o j (g e.stage))) less
+    ∙ goes_staged e es c.history slots (unwound z d slots es c.history) c.out
+    ∙ ap (λ (m : ℕ). goes z d slots e es (stops z d o n (g m))) (sym same)
+    ∙ ap (goes z d slots e es) (sym (clears_bare z d o n h bare))
+    ∙ ap (λ (j : ℕ). goes z d slots e es (stops z d o j h)) (sym more)
+
+unwound_finish : (z : Opening) (d : ℕ) (slots : Slots) (e : Ending) (es : List Ending) (h : History) → e.stage ≡ 3
+    → let o = (leads z h).latest e.block.0 in
+    unwound z d slots es (entry d (event.Finish o (weak (leads z h) o == 0) tt) ∷ h) ≡ unwound z d slots (e ∷ es) h
+unwound_finish z d slots e es h is =
+    ap (λ (j : ℕ). goes z d slots e es (stops z d ((leads z h).latest e.block.0) (3 - j) h)) (sym is)
+
+-- the scene that the endings come to is the same after a step of the first
+abbrev Same : ℕ → Sight → Step → Type 0
+Same d u x = (rested d (scene (sight_by d u (Some x))) ≡ rested d (scene u)) × (x.half ≡ Rest) × (left x.walk.endings < left (walk_of (scene u) d).endings)
+
+wound_on : (d : ℕ) (u : Sight) (es : List Ending) (h : History) → d < length u.walks
+    → let w = walk_of (scene u) d in
+    let z = opening u.story.extent in
+    is_full (slot w.slots (hand w.slots)) ≡ false → unwound z d w.slots es h ≡ unwound z d w.slots w.endings u.story.history
+    → rested d (moved (scene u) d (with_endings w es) h) ≡ rested d (scene u)
+wound_on d u es h lt free same =
+    let w = walk_of (scene u) d in
+    let z = opening u.story.extent in
+    rested_moved (scene u) d (with_endings w es) h lt
+    ∙ ap (put_walk (scene u) d w) (cond-false (is_full (slot w.slots (hand w.slots))) _ _ free ∙ same
+    ∙ sym (cond-false (is_full (slot w.slots (hand w.slots))) (record { history = u.story.history; slots = w.slots; endings = w.endings }) _ free))
+
+end_step : (d : ℕ) (u : Sight) (e : Ending) (es : List Ending) → d < length u.walks → (walk_of (scene u) d).endings ≡ e ∷ es → e.stage ≤ 3
+    → AllBare (state u.story) → is_full (slot (walk_of (scene u) d).slots (hand (walk_of (scene u) d).slots)) ≡ false
+    → Same d u (ends_on u.story (walk_of (scene u) d) e es)
+end_step d u e es lt is within bare free =
+    let w = walk_of (scene u) d in
+    let v = u.story in
+    let z = opening v.extent in
+    let o = object_in v e.block in
+    cond_both (e.stage == 3)
+    (record { deed = Some (deed.Finish e.block (weak (state v) o == 0)); half = Rest; walk = with_endings w es; said = silent e.statement })
+    (record { deed = Some (deed.Clear e.block e.stage); half = Rest; walk = with_endings w (staged e ∷ es); said = silent e.statement })
+    (Same d u)
+    (λ t. let three = eqb-true e.stage 3 t in (
+      wound_on d u es _ lt free
+          (unwound_finish z d w.slots e es v.history three ∙ ap (λ (l : List Ending). unwound z d w.slots l v.history) (sym is)),
+      refl,
+      (let n = ap left is in omega (arith, n, three)),
+    ))
+    (λ t. let ne = eqb-false e.stage 3 t in
+    let less : e.stage < 3 = omega (arith, within, ne) in (
+      wound_on d u (staged e ∷ es) _ lt free
+          (unwound_clear z d w.slots e es v.history bare less ∙ ap (λ (l : List Ending). unwound z d w.slots l v.history) (sym is)),
+      refl,
+      (let n = ap left is in omega (arith, n, less)),
+    ))
+
+-- how far the endings have come
 pub record IsOn (d : ℕ) (u u' : Sight) : Type 0 where
-  pub scene : rested u' d ≡ rested u d
-  pub kind : rested_half (half_of u' d) ≡ rested_half (half_of u d)
-  pub halves : u'.halves ≡ set u.halves d (half_of u' d)
+  pub scene : rested d (scene u') ≡ rested d (scene u)
+  pub halves : u'.halves ≡ u.halves
   pub actors : length u'.walks ≡ length u.walks
   pub goes : GoesTo d u u'
 
 pub on_start : (d : ℕ) (u : Sight) → IsOn d u u
-on_start d u = record { scene = refl; kind = refl; halves = sym (set-get_or u.halves d Rest); actors = refl; goes = no_step d u }
+on_start d u = record { scene = refl; halves = refl; actors = refl; goes = no_step d u }
 
-stepped_end : (d : ℕ) (u : Sight) (h : Half) → half_of u d ≡ h → HasBegun d u → is_ending h ≡ true
-    → let v = sight_by d u (step_of d u) in
-    (rested v d ≡ rested u d) × (rested_half (half_of v d) ≡ rested_half (half_of u d)) × (left (half_of v d) < left (half_of u d))
-stepped_end d u Rest e begun is = absurd (false≢true is)
-stepped_end d u (Making b i differs) e begun is = absurd (false≢true is)
-stepped_end d u (Locking word) e begun is = absurd (false≢true is)
-stepped_end d u (Giving i kind x) e begun is = absurd (false≢true is)
-stepped_end d u (Ending b s k) e begun is =
+-- a thread whose objects end is within no act
+within_none : (h : Half) (e : Ending) (es : List Ending) → IsAlone h (e ∷ es) → h ≡ Rest
+within_none Rest e es alone = refl
+within_none (Making b i differs) e es alone = cc
+within_none (Locking word) e es alone = cc
+within_none (Giving i kind x) e es alone = cc
+
+first_staged : (e : Ending) (es : List Ending) → All (λ (x : Ending). x.stage ≤ 3) (e ∷ es) → e.stage ≤ 3
+first_staged e es all = All-head (λ (x : Ending). x.stage ≤ 3) e es all
+
+full_none : (b : Bool) (e : Ending) (es : List Ending) → ((e ∷ es) ≡ []) ⊎ (b ≡ false) → b ≡ false
+full_none b e es free = ⊎_elim (λ (n : (e ∷ es) ≡ []). cc) (λ (f : b ≡ false). f) free
+
+abbrev Onward : ℕ → Sight → Sight → Type 0
+Onward d u v =
+    (rested d (scene v) ≡ rested d (scene u)) × (v.halves ≡ u.halves) × (left (walk_of (scene v) d).endings < left (walk_of (scene u) d).endings)
+
+stepped_end : (d : ℕ) (u : Sight) (l : List Ending) → (walk_of (scene u) d).endings ≡ l → HasBegun d u → first_of l ≢ None
+    → Onward d u (sight_by d u (step_of d u))
+stepped_end d u [] e begun is = absurd (is refl)
+stepped_end d u (x ∷ es) e begun is =
     let w = walk_of (scene u) d in
-    let le : s ≤ 3 = subst (λ (h : Half). IsUnderWay d u.story h w.todo) e begun.half in
-    let x : Option Step = Some (ends_on u.story w b s k) in
-    let f : step_of d u ≡ x = ap (λ (h : Half). step_at u.story d h w) e in
-    let g = half_after d u x begun.within in
-    let p = end_half u w b s k le in
-    let a : rested (sight_by d u x) d ≡ rested u d = end_step d u b s k le begun.within ∙ ap (rested_from u d) (sym e) in
-    let m : rested_half (half_of (sight_by d u x) d) ≡ rested_half (half_of u d) = ap rested_half g ∙ p.0 ∙ ap rested_half (sym e) in
-    let n : left (half_of (sight_by d u x) d) < left (half_of u d) = (let q = p.1 in let i = ap left g in
-    let j = ap left e in omega (arith, q, i, j)) in
-    subst (λ (y : Option Step). (rested (sight_by d u y) d ≡ rested u d) × (rested_half (half_of (sight_by d u y) d) ≡ rested_half (half_of u d))
-    × (left (half_of (sight_by d u y) d) < left (half_of u d))) (sym f) (a, m, n)
+    let free = full_none (is_full (slot w.slots (hand w.slots))) x es
+    (subst (λ (l : List Ending). (l ≡ []) ⊎ (is_full (slot w.slots (hand w.slots)) ≡ false)) e begun.free) in
+    let rest : half_of u d ≡ Rest = within_none (half_of u d) x es (subst (λ (l : List Ending). IsAlone (half_of u d) l) e begun.alone) in
+    let stage = first_staged x es (subst (λ (l : List Ending). All (λ (y : Ending). y.stage ≤ 3) l) e begun.staged) in
+    let y = ends_on u.story w x es in
+    let s : step_of d u ≡ Some y = ap (λ (h : Half). step_at u.story d h w) rest ∙ ap (λ (l : List Ending). at_rest u.story d w l) e
+    ∙ ap (λ (k : Step). Some k) (cond-false (is_full (slot w.slots (hand w.slots))) _ _ free) in
+    let p = end_step d u x es begun.walks e stage begun.bare free in
+    let k = ap (λ (q : Walk). left q.endings) (walk_after d u (Some y) begun.walks) in
+    subst (λ (o : Option Step). Onward d u (sight_by d u o)) (sym s) (
+      p.0,
+      ap (set u.halves d) (p.1 ∙ sym rest) ∙ set-get_or u.halves d Rest,
+      (let q = p.2 in omega (arith, k, q)),
+    )
 
--- a step of the end of an object
-pub on_step : (d : ℕ) (u v v' : Sight) (r : Stepped) → IsOn d u v → HasBegun d v → is_ending (half_of v d) ≡ true → Steps d v r v'
-    → length v'.walks ≡ length v.walks
-    → Kept v'.story → IsOn d u v'
+ends_some : (l : List Ending) → is_some (first_of l) ≡ true → first_of l ≢ None
+ends_some [] is n = false≢true is
+ends_some (e ∷ es) is n = cc
+
+-- a step of the endings
+pub on_step : (d : ℕ) (u v v' : Sight) (r : Stepped) → IsOn d u v → HasBegun d v → is_ending v d ≡ true → Steps d v r v'
+    → length v'.walks ≡ length v.walks → Kept v'.story → IsOn d u v'
 on_step d u v v' r on begun is steps actors kept =
     let all : GoesTo d u v' = more_steps d u v v' on.goes (one_step d v v' r steps kept) in
-    let s = stepped_end d v (half_of v d) refl begun is in
-    let h = halves_after d v (step_of d v) begun.within in
+    let l = (walk_of (scene v) d).endings in
+    let s = stepped_end d v l refl begun (ends_some l is) in
     subst (λ (w : Sight). length w.walks ≡ length v.walks → GoesTo d u w → IsOn d u w) (sym steps.1)
-    (λ same goes. record {
-      scene = s.0 ∙ on.scene;
-      kind = s.1 ∙ on.kind;
-      halves = h ∙ ap (λ (l : List Half). set l d (half_of (sight_by d v (step_of d v)) d)) on.halves ∙ set-set u.halves d (half_of v d) _;
-      actors = same ∙ on.actors;
-      goes = goes;
-    }) actors all
+    (λ same goes. record { scene = s.0 ∙ on.scene; halves = s.1 ∙ on.halves; actors = same ∙ on.actors; goes = goes }) actors all
 
-pub on_less : (d : ℕ) (v v' : Sight) (r : Stepped) → HasBegun d v → is_ending (half_of v d) ≡ true → Steps d v r v'
-    → left (half_of v' d) < left (half_of v d)
+pub on_less : (d : ℕ) (v v' : Sight) (r : Stepped) → HasBegun d v → is_ending v d ≡ true → Steps d v r v'
+    → left (walk_of (scene v') d).endings < left (walk_of (scene v) d).endings
 on_less d v v' r begun is steps =
-    subst (λ (w : Sight). left (half_of w d) < left (half_of v d)) (sym steps.1) (stepped_end d v (half_of v d) refl begun is).2
+    let l = (walk_of (scene v) d).endings in
+    subst (λ (w : Sight). left (walk_of (scene w) d).endings < left l) (sym steps.1) (stepped_end d v l refl begun (ends_some l is)).2
 
-same_scene : (d : ℕ) (v : Sight) (h : Half) → is_ending h ≡ false → rested_from v d h ≡ scene v
-same_scene d v Rest is = refl
-same_scene d v (Making b i differs) is = refl
-same_scene d v (Locking word) is = refl
-same_scene d v (Giving i kind x) is = refl
-same_scene d v (Ending b s k) is = absurd (false≢true (sym is))
+no_ending : (l : List Ending) → is_some (first_of l) ≡ false → l ≡ []
+no_ending [] is = refl
+no_ending (e ∷ es) is = absurd (false≢true (sym is))
 
-same_half : (h : Half) → is_ending h ≡ false → rested_half h ≡ h
-same_half Rest is = refl
-same_half (Making b i differs) is = refl
-same_half (Locking word) is = refl
-same_half (Giving i kind x) is = refl
-same_half (Ending b s k) is = absurd (false≢true (sym is))
+pub ended : (d : ℕ) (v : Sight) → is_ending v d ≡ false → (walk_of (scene v) d).endings ≡ []
+ended d v is = no_ending (walk_of (scene v) d).endings is
 
--- where no object ends the scene is as it is
-pub at_rest : (d : ℕ) (v : Sight) → is_ending (half_of v d) ≡ false → rested v d ≡ scene v
-at_rest d v is = same_scene d v (half_of v d) is
-
-pub rests : (d : ℕ) (u v : Sight) → IsOn d u v → is_ending (half_of v d) ≡ false → Rests d u v
-rests d u v on is =
-    record {
-      scene = sym (at_rest d v is) ∙ on.scene;
-      over = is;
-      halves = on.halves ∙ ap (λ (h : Half). set u.halves d h) (sym (same_half (half_of v d) is) ∙ on.kind);
-    }
+pub rests : (d : ℕ) (u v : Sight) → IsOn d u v → is_ending v d ≡ false → Rests d u v
+rests d u v on is = record { scene = sym (rested_none (scene v) d (ended d v is)) ∙ on.scene; over = is; halves = on.halves }

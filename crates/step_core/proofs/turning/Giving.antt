@@ -8,18 +8,19 @@ use Rattle.step_core.specs.declared.act.Act.{Act}
 use Rattle.step_core.specs.declared.act.Act.TheVariants.{FromThis}
 use Rattle.step_core.specs.declared.act.Task.{Task}
 use Rattle.step_core.specs.declared.half.Half.{Half}
-use Rattle.step_core.specs.declared.half.Half.TheVariants.{Rest, Making, Ending, Locking, Giving}
+use Rattle.step_core.specs.declared.half.Half.TheVariants.{Rest, Making, Locking, Giving}
 use Rattle.step_core.specs.declared.holdings.Pointer.{Pointer}
 use Rattle.step_core.specs.declared.said.Stepped.{Stepped}
 use Rattle.step_core.specs.Courses.{Walk}
 use Rattle.step_core.specs.Deeds.{give, is_enabled}
 use Rattle.step_core.specs.Holdings.{inside, slot}
 use Rattle.step_core.specs.Openings.{opening}
-use Rattle.step_core.specs.Scenes.{Scene, giving, walk_of, went}
-use Rattle.step_core.specs.Scenes.{gives as gives_in, on}
+use Rattle.step_core.specs.Entries.{giving}
+use Rattle.step_core.specs.Scenes.{Scene, walk_of, went}
+use Rattle.step_core.specs.Entries.{gives as gives_in, on}
 use Rattle.step_core.specs.Steps.{acts, given, step_at, stepped}
 use Rattle.step_core.specs.Stories.{Story, after, state}
-use Rattle.step_core.specs.Turning.{HasBegun, IsTried, IsUnderWay, Plays, is_giving, turned_by}
+use Rattle.step_core.specs.Turning.{HasBegun, IsAlone, IsTried, IsUnderWay, Plays, is_giving, turned_by}
 use Rattle.step_core.specs.Worlds.{Sight, Steps, half_of, scene, sight_by, step_of}
 use Rattle.step_core.proofs.turning.Saying.{Acts, plays_as}
 
@@ -37,34 +38,35 @@ give_so d u k ts i q x e is =
     let w = walk_of (scene u) d in
     let g : giving (state u.story) (inside (slot w.slots i)) ≡ Some x = ap (giving (state u.story)) e ∙ cond-true (is_enabled (state u.story) x) (Some x) None is in (
       refl,
-      given_as d u.story q x (set u.walks d (went (state u.story) d w.slots w.taken ts (FromThis i q)))
+      given_as d u.story q x (set u.walks d (went (state u.story) d w k ts (FromThis i q)))
           ∙ ap (λ (o : Option Pointer). record {
             extent = u.story.extent;
             history = on (gives_in q (opening u.story.extent) d u.story.history) u.story.history o;
-            walks = set u.walks d (went (state u.story) d w.slots w.taken ts (FromThis i q));
+            walks = set u.walks d (went (state u.story) d w k ts (FromThis i q));
           }) (sym g),
     )
 
 gives_by : (d : ℕ) (u : Sight) (r : Stepped) (i : ℕ) (q : Kind) (x : Pointer) (ts : List Task) → half_of u d ≡ Giving i q x
     → (walk_of (scene u) d).todo ≡ ts → IsUnderWay d u.story (Giving i q x) ts → inside (slot (walk_of (scene u) d).slots i) ≡ Some x
-    → d < length u.halves → r ≡ stepped u.story (step_of d u) → Plays d u (turned_by r) (sight_by d u (step_of d u))
-gives_by d u r i q x [] e todo way at lt answer = absurd way
-gives_by d u r i q x (t ∷ ts) e todo way at lt answer =
+    → HasBegun d u → r ≡ stepped u.story (step_of d u) → Plays d u (turned_by r) (sight_by d u (step_of d u))
+gives_by d u r i q x [] e todo way at begun answer = absurd way
+gives_by d u r i q x (t ∷ ts) e todo way at begun answer =
     let w = walk_of (scene u) d in
     let y = acts (state u.story) d w t.statement ts (FromThis i q) (Some (give q x)) Rest in
     let is : step_of d u ≡ Some y = ap (λ (h : Half). step_at u.story d h w) e ∙ ap (λ (l : List Task). given u.story d w i q x l) todo in
-    plays_as d u t ts y r todo is answer (subst (λ (a : Act). Acts d u t.statement ts a y) (sym way.0) (give_so d u t.statement ts i q x at way.1)) refl lt
+    let none = subst (λ (h : Half). IsAlone h w.endings) e begun.alone in
+    plays_as d u t ts y r none todo is answer (subst (λ (a : Act). Acts d u t.statement ts a y) (sym way.0) (give_so d u t.statement ts i q x at way.1)) refl
+    begun.within begun.walks
 
 gives_so : (d : ℕ) (u : Sight) (r : Stepped) (h : Half) → half_of u d ≡ h → is_giving h ≡ true → HasBegun d u → r ≡ stepped u.story (step_of d u)
     → Plays d u (turned_by r) (sight_by d u (step_of d u))
 gives_so d u r Rest e is begun answer = absurd (false≢true is)
 gives_so d u r (Making b i f) e is begun answer = absurd (false≢true is)
-gives_so d u r (Ending b s k) e is begun answer = absurd (false≢true is)
 gives_so d u r (Locking word) e is begun answer = absurd (false≢true is)
 gives_so d u r (Giving i q x) e is begun answer =
     let w = walk_of (scene u) d in
     gives_by d u r i q x w.todo e refl (subst (λ (h : Half). IsUnderWay d u.story h w.todo) e begun.half)
-    (subst (λ (h : Half). IsTried h w) e begun.tried) begun.within answer
+    (subst (λ (h : Half). IsTried h w) e begun.tried) begun answer
 
 -- a pointer from this that is under way is given
 pub gives : (d : ℕ) (u v : Sight) (r : Stepped) → is_giving (half_of u d) ≡ true → HasBegun d u → Steps d u r v → Plays d u (turned_by r) v

@@ -5,17 +5,19 @@ use Rattle.std.proofs.lemmas.Bool.{cond-true, cond_both, false≢true}
 use Rattle.step_core.specs.declared.act.Act.{Act}
 use Rattle.step_core.specs.declared.act.Act.TheVariants.{Make, Share, Downgrade, Lock, Put, Leave, Clear, Count, Expired, Read, FromThis, Alias, Move, Ask}
 use Rattle.step_core.specs.declared.act.Task.{Task}
+use Rattle.step_core.specs.declared.ending.Ending.{Ending}
 use Rattle.step_core.specs.declared.half.Half.{Half}
-use Rattle.step_core.specs.declared.half.Half.TheVariants.{Rest, Making, Ending, Locking, Giving}
+use Rattle.step_core.specs.declared.half.Half.TheVariants.{Rest, Making, Locking, Giving}
 use Rattle.step_core.specs.declared.holdings.Pointer.{Pointer}
 use Rattle.step_core.specs.declared.said.Stepped.{Stepped}
 use Rattle.step_core.specs.Courses.{locked}
 use Rattle.step_core.specs.Deeds.{lock, owner_word}
 use Rattle.step_core.specs.Holdings.{is_full}
-use Rattle.step_core.specs.Scenes.{on, walk_of}
-use Rattle.step_core.specs.Steps.{Step, acts, begun, first, looks, step_at, stepped, tried, tries, trying}
+use Rattle.step_core.specs.Entries.{on}
+use Rattle.step_core.specs.Scenes.{walk_of}
+use Rattle.step_core.specs.Steps.{Step, acts, at_rest, begun, first, looks, step_at, stepped, tried, tries, trying}
 use Rattle.step_core.specs.Stories.{state}
-use Rattle.step_core.specs.Turning.{HasBegun, IsLock, IsTried, Plays, is_event, is_locking, turned_by}
+use Rattle.step_core.specs.Turning.{HasBegun, IsAlone, IsLock, IsTried, Plays, is_event, is_locking, turned_by}
 use Rattle.step_core.specs.Worlds.{Sight, Steps, half_of, scene, sight_by, step_of}
 use Rattle.step_core.proofs.turning.Ending.{half_after, halves_after, same_walks, scene_as}
 use Rattle.step_core.proofs.turning.Saying.{lock_so, plays_as}
@@ -30,6 +32,7 @@ record Locks (d : ℕ) (u : Sight) (word : ℕ) : Type 0 where
   task : Task
   tasks : List Task
   pointer : Pointer
+  none : (walk_of (scene u) d).endings ≡ []
   todo : (walk_of (scene u) d).todo ≡ task ∷ tasks
   locks : locked (walk_of (scene u) d).slots task.act ≡ Some pointer
   step : step_of d u ≡ Some (tries u.story d (walk_of (scene u) d) task.statement tasks task.act word pointer)
@@ -38,16 +41,18 @@ full_some : (o : Option Pointer) → is_full o ≡ true → (y : Pointer) × (o 
 full_some None e = absurd (false≢true e)
 full_some (Some y) e = (y, refl)
 
-locks_by : (d : ℕ) (u : Sight) (word : ℕ) (ts : List Task) → half_of u d ≡ Locking word → (walk_of (scene u) d).todo ≡ ts → IsLock (walk_of (scene u) d).slots ts
+locks_by : (d : ℕ) (u : Sight) (word : ℕ) (ts : List Task) → half_of u d ≡ Locking word → (walk_of (scene u) d).endings ≡ []
+    → (walk_of (scene u) d).todo ≡ ts → IsLock (walk_of (scene u) d).slots ts
     → Locks d u word
-locks_by d u word [] e f is = absurd is
-locks_by d u word (t ∷ ts) e f is =
+locks_by d u word [] e none f is = absurd is
+locks_by d u word (t ∷ ts) e none f is =
     let w = walk_of (scene u) d in
     let y = full_some (locked w.slots t.act) is in
     record {
       task = t;
       tasks = ts;
       pointer = y.0;
+      none = none;
       todo = f;
       locks = y.1;
       step = ap (λ (h : Half). step_at u.story d h w) e ∙ ap (λ (l : List Task). tried u.story d w word l) f
@@ -55,10 +60,12 @@ locks_by d u word (t ∷ ts) e f is =
     }
 
 -- the step that does the lock
-plays_done : (d : ℕ) (u : Sight) (r : Stepped) (t : Task) (ts : List Task) (y : Pointer) → (walk_of (scene u) d).todo ≡ t ∷ ts
-    → locked (walk_of (scene u) d).slots t.act ≡ Some y → step_of d u ≡ Some (done d u t ts y) → r ≡ stepped u.story (step_of d u) → d < length u.halves
+plays_done : (d : ℕ) (u : Sight) (r : Stepped) (t : Task) (ts : List Task) (y : Pointer) → (walk_of (scene u) d).endings ≡ []
+    → (walk_of (scene u) d).todo ≡ t ∷ ts
+    → locked (walk_of (scene u) d).slots t.act ≡ Some y → step_of d u ≡ Some (done d u t ts y) → r ≡ stepped u.story (step_of d u) → HasBegun d u
     → Plays d u (turned_by r) (sight_by d u (step_of d u))
-plays_done d u r t ts y todo locks is answer lt = plays_as d u t ts (done d u t ts y) r todo is answer (lock_so d u t.statement ts t.act y locks) refl lt
+plays_done d u r t ts y none todo locks is answer begun =
+    plays_as d u t ts (done d u t ts y) r none todo is answer (lock_so d u t.statement ts t.act y locks) refl begun.within begun.walks
 
 -- a look that finds no owner does the lock
 looks_done : (d : ℕ) (u : Sight) (t : Task) (ts : List Task) (y : Pointer) (a : Act) → locked (walk_of (scene u) d).slots a ≡ Some y
@@ -84,15 +91,16 @@ looks_done d u t ts y (Move i) e zero = cc
 looks_done d u t ts y (Ask q) e zero = cc
 
 -- the second try finds the word that the first found
-second : (d : ℕ) (v : Sight) (t : Task) (ts : List Task) (y : Pointer) → (walk_of (scene v) d).todo ≡ t ∷ ts → locked (walk_of (scene v) d).slots t.act ≡ Some y
+second : (d : ℕ) (v : Sight) (t : Task) (ts : List Task) (y : Pointer) → (walk_of (scene v) d).endings ≡ []
+    → (walk_of (scene v) d).todo ≡ t ∷ ts → locked (walk_of (scene v) d).slots t.act ≡ Some y
     → half_of v d ≡ cond (owner_word v.story y == 0) Rest (Locking (owner_word v.story y)) → step_of d v ≡ Some (done d v t ts y)
-second d v t ts y todo locks half = go (owner_word v.story y == 0) refl
+second d v t ts y none todo locks half = go (owner_word v.story y == 0) refl
   where
     go : (b : Bool) → (owner_word v.story y == 0) ≡ b → step_of d v ≡ Some (done d v t ts y)
     go true q =
         let w = walk_of (scene v) d in
         let e : half_of v d ≡ Rest = half ∙ ap (λ (b : Bool). cond b Rest (Locking (owner_word v.story y))) q in
-        ap (λ (h : Half). step_at v.story d h w) e ∙ ap (λ (l : List Task). begun v.story d w l) todo
+        ap (λ (h : Half). step_at v.story d h w) e ∙ ap (λ (l : List Ending). at_rest v.story d w l) none ∙ ap (λ (l : List Task). begun v.story d w l) todo
         ∙ ap (λ (x : Step). Some x) (looks_done d v t ts y t.act locks q)
     go false q =
         let w = walk_of (scene v) d in
@@ -116,10 +124,9 @@ tried_once d u t ts y word =
 locks_now : (d : ℕ) (u : Sight) (h : Half) → half_of u d ≡ h → is_locking h ≡ true → HasBegun d u → (word : ℕ) × Locks d u word
 locks_now d u Rest e is begun = absurd (false≢true is)
 locks_now d u (Making b i f) e is begun = absurd (false≢true is)
-locks_now d u (Ending b s k) e is begun = absurd (false≢true is)
 locks_now d u (Giving i kind x) e is begun = absurd (false≢true is)
 locks_now d u (Locking word) e is begun =
-    let w = walk_of (scene u) d in (word, locks_by d u word w.todo e refl (subst (λ (h : Half). IsTried h w) e begun.tried))
+    let w = walk_of (scene u) d in (word, locks_by d u word w.todo e (subst (λ (h : Half). IsAlone h w.endings) e begun.alone) refl (subst (λ (h : Half). IsTried h w) e begun.tried))
 
 -- a lock that is done at the first try
 pub lock_first : (d : ℕ) (u v : Sight) (r : Stepped) → is_locking (half_of u d) ≡ true → HasBegun d u → Steps d u r v → is_event r ≡ true
@@ -130,7 +137,7 @@ lock_first d u v r is begun steps event =
     steps.0 ∙ ap (stepped u.story) l.step in
     let x = (tried_once d u l.task l.tasks l.pointer _ r answer).0 event in
     subst (λ (w : Sight). Plays d u (turned_by r) w) (sym steps.1)
-    (plays_done d u r l.task l.tasks l.pointer l.todo l.locks (l.step ∙ ap (λ (y : Step). Some y) x) steps.0 begun.within)
+    (plays_done d u r l.task l.tasks l.pointer l.none l.todo l.locks (l.step ∙ ap (λ (y : Step). Some y) x) steps.0 begun)
 
 -- at the second
 pub lock_second : (d : ℕ) (u v w : Sight) (r s : Stepped) → is_locking (half_of u d) ≡ true → HasBegun d u → Steps d u r v → is_event r ≡ false
@@ -149,7 +156,8 @@ lock_second d u v w r s is begun steps event again next =
     (λ b n.
     plays_on d u (sight_by d u y) w (turned_by s) same (halves_after d u y begun.within)
     (subst (λ (q : Sight). Plays d (sight_by d u y) (turned_by s) q) (sym n.1)
-    (let todo = ap (λ c. (walk_of c d).todo) same ∙ l.todo in
+    (let none = ap (λ c. (walk_of c d).endings) same ∙ l.none in
+    let todo = ap (λ c. (walk_of c d).todo) same ∙ l.todo in
     let locks = ap (λ c. locked (walk_of c d).slots l.task.act) same ∙ l.locks in
-    plays_done d (sight_by d u y) s l.task l.tasks l.pointer todo locks (second d (sight_by d u y) l.task l.tasks l.pointer todo locks half) n.0 b.within)))
+    plays_done d (sight_by d u y) s l.task l.tasks l.pointer none todo locks (second d (sight_by d u y) l.task l.tasks l.pointer none todo locks half) n.0 b)))
     again next

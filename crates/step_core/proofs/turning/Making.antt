@@ -7,7 +7,7 @@ use Rattle.std.proofs.lemmas.List.{set-get_or, set-set}
 use Rattle.control_word.specs.declared.place.Block.{Block}
 use Rattle.step_core.specs.declared.act.Task.{Task}
 use Rattle.step_core.specs.declared.half.Half.{Half}
-use Rattle.step_core.specs.declared.half.Half.TheVariants.{Rest, Making, Ending, Locking, Giving}
+use Rattle.step_core.specs.declared.half.Half.TheVariants.{Rest, Making, Locking, Giving}
 use Rattle.step_core.specs.declared.said.Stepped.{Stepped}
 use Rattle.step_core.specs.Actors.{wanted}
 use Rattle.step_core.specs.Courses.{Walk, form_of}
@@ -23,7 +23,6 @@ use Rattle.step_core.proofs.turning.Ending.{half_after, halves_after, same_walks
 abbrev pub words_left : Half → ℕ
 words_left Rest = 0
 words_left (Making b i differs) = 2 * (5 - i) + cond differs 0 1
-words_left (Ending b stage k) = 0
 words_left (Locking word) = 0
 words_left (Giving i kind x) = 0
 
@@ -43,7 +42,6 @@ pub record IsAt (d : ℕ) (u u' : Sight) : Type 0 where
 same_start : (h : Half) → is_making h ≡ true → SameMake h h
 same_start Rest is = absurd (false≢true is)
 same_start (Making b i differs) is = refl
-same_start (Ending b s k) is = absurd (false≢true is)
 same_start (Locking word) is = absurd (false≢true is)
 same_start (Giving i kind x) is = absurd (false≢true is)
 
@@ -108,22 +106,18 @@ prepared d u Rest e begun is = absurd (false≢true is)
 prepared d u (Making b i g) e begun is =
     prepared_by d u b i g (walk_of (scene u) d).todo e refl
     (subst (λ (h : Half). IsUnderWay d u.story h (walk_of (scene u) d).todo) e begun.half) begun.within is
-prepared d u (Ending b s k) e begun is = absurd (false≢true is)
 prepared d u (Locking word) e begun is = absurd (false≢true is)
 prepared d u (Giving i kind x) e begun is = absurd (false≢true is)
 
 same_make : (a b c : Half) → SameMake a b → SameMake b c → SameMake a c
 same_make (Making b i f) (Making c j g) (Making e k h) p q = q ∙ p
 same_make (Making b i f) (Making c j g) Rest p q = absurd q
-same_make (Making b i f) (Making c j g) (Ending e s k) p q = absurd q
 same_make (Making b i f) (Making c j g) (Locking word) p q = absurd q
 same_make (Making b i f) (Making c j g) (Giving n kind x) p q = absurd q
 same_make (Making b i f) (Locking word) c p q = absurd p
 same_make (Making b i f) (Giving n kind x) c p q = absurd p
 same_make (Making b i f) Rest c p q = absurd p
-same_make (Making b i f) (Ending e s k) c p q = absurd p
 same_make Rest b c p q = absurd p
-same_make (Ending e s k) b c p q = absurd p
 same_make (Locking word) b c p q = absurd p
 same_make (Giving n kind x) b c p q = absurd p
 
@@ -158,11 +152,9 @@ ready_half (Making b i f) (Making c j g) same is = (same, five j is)
         whole true q = refl
         whole false q = absurd (false≢true (sym q))
 ready_half (Making b i f) Rest same is = absurd same
-ready_half (Making b i f) (Ending e s k) same is = absurd same
 ready_half (Making b i f) (Locking word) same is = absurd same
 ready_half (Making b i f) (Giving n kind x) same is = absurd same
 ready_half Rest h same is = absurd same
-ready_half (Ending e s k) h same is = absurd same
 ready_half (Locking word) h same is = absurd same
 ready_half (Giving n kind x) h same is = absurd same
 

@@ -7,8 +7,9 @@ use Rattle.control_word.specs.State.{State}
 use Rattle.step_core.specs.declared.act.Act.{Act}
 use Rattle.step_core.specs.declared.act.Act.TheVariants.{Make, Share, Downgrade, Lock, Put, Leave, Clear, Count, Expired, Read, FromThis, Alias, Move, Ask}
 use Rattle.step_core.specs.declared.act.Task.{Task}
+use Rattle.step_core.specs.declared.ending.Ending.{Ending}
 use Rattle.step_core.specs.declared.half.Half.{Half}
-use Rattle.step_core.specs.declared.half.Half.TheVariants.{Rest, Making, Ending, Locking, Giving}
+use Rattle.step_core.specs.declared.half.Half.TheVariants.{Rest, Making, Locking, Giving}
 use Rattle.step_core.specs.declared.holdings.Pointer.{Pointer}
 use Rattle.step_core.specs.declared.said.Stepped.{Stepped}
 use Rattle.control_word.specs.declared.handle.Kind.{Kind}
@@ -16,63 +17,57 @@ use Rattle.control_word.specs.declared.handle.Kind.TheVariants.{Owner, Weak}
 use Rattle.step_core.specs.Courses.{locked}
 use Rattle.step_core.specs.Deeds.{is_enabled, is_last, lock, owner_word}
 use Rattle.step_core.specs.Holdings.{inside, slot}
-use Rattle.step_core.specs.Scenes.{least, on}
-use Rattle.step_core.specs.Scenes.{play_from, said_from}
+use Rattle.step_core.specs.Entries.{least, on}
+use Rattle.step_core.specs.Scenes.{next, next_of, play_from, rested, said_from}
 use Rattle.step_core.specs.Scenes.{walk_of}
-use Rattle.step_core.specs.Steps.{Step, acts, asks, begins, begun, end_as, end_of, first, looks, silent, step_at, stepped, trying}
+use Rattle.step_core.specs.Steps.{Step, acts, asks, at_rest, begins, begun, first, looks, silent, step_at, stepped, trying}
 use Rattle.step_core.specs.Stories.{state}
 use Rattle.step_core.specs.Turning.{HasBegun, Plays, is_acting, is_ending, is_giving, is_locking, is_making, turned, turned_by}
-use Rattle.step_core.specs.Worlds.{Sight, Steps, half_of, rested_from, scene, sight_by, step_of}
-use Rattle.step_core.proofs.turning.Ending.{half_after, halves_after, same_walks, scene_as}
+use Rattle.step_core.specs.Worlds.{Sight, Steps, half_of, scene, sight_by, step_of}
+use Rattle.step_core.proofs.turning.Ending.{ended, half_after, halves_after, rested_none, same_walks, scene_as}
 use Rattle.step_core.proofs.turning.Saying.{acts_so, plays_as}
 
 -- a thread at its end does nothing
-plays_none : (d : ℕ) (u : Sight) (r : Stepped) → (walk_of (scene u) d).todo ≡ [] → half_of u d ≡ Rest → step_of d u ≡ None
-    → r ≡ stepped u.story (step_of d u)
+plays_none : (d : ℕ) (u : Sight) (r : Stepped) → (walk_of (scene u) d).endings ≡ [] → (walk_of (scene u) d).todo ≡ [] → half_of u d ≡ Rest
+    → step_of d u ≡ None → r ≡ stepped u.story (step_of d u)
     → d < length u.halves → Plays d u (turned_by r) (sight_by d u (step_of d u))
-plays_none d u r todo rest is answer lt =
+plays_none d u r none todo rest is answer lt =
     let w = walk_of (scene u) d in
     let h = half_after d u None lt ∙ rest in
+    let n : next w ≡ None = ap (λ (es : List Ending). next_of w.slots es w.todo) none ∙ ap (next_of w.slots []) todo in
+    let same : scene (sight_by d u None) ≡ scene u = scene_as u _ _ _ _ refl (same_walks d u) in
     subst (λ (o : Option Step). r ≡ stepped u.story o → Plays d u (turned_by r) (sight_by d u o)) (sym is)
     (λ e. record {
-      answer = ap turned_by e ∙ ap (λ (l : List Task). turned (said_from (scene u) d w.slots l)) (sym todo);
-      scene = ap (rested_from (sight_by d u None) d) h ∙ scene_as u _ _ _ _ refl (same_walks d u)
-          ∙ ap (λ (l : List Task). play_from (scene u) d w l) (sym todo);
+      answer = ap turned_by e ∙ ap (λ (o : Option Task). turned (said_from (scene u) d w.slots o)) (sym n);
+      scene = ap (rested d) same ∙ rested_none (scene u) d none ∙ ap (λ (o : Option Task). play_from (scene u) d w o) (sym n);
       done = ap is_acting h;
       halves = halves_after d u None lt;
     }) answer
 
-begun_step : (d : ℕ) (u : Sight) (ts : List Task) → half_of u d ≡ Rest → (walk_of (scene u) d).todo ≡ ts
+begun_step : (d : ℕ) (u : Sight) (ts : List Task) → half_of u d ≡ Rest → (walk_of (scene u) d).endings ≡ [] → (walk_of (scene u) d).todo ≡ ts
     → step_of d u ≡ begun u.story d (walk_of (scene u) d) ts
-begun_step d u ts rest todo =
+begun_step d u ts rest none todo =
     let w = walk_of (scene u) d in
-    ap (λ (h : Half). step_at u.story d h w) rest ∙ ap (λ (l : List Task). begun u.story d w l) todo
+    ap (λ (h : Half). step_at u.story d h w) rest ∙ ap (λ (l : List Ending). at_rest u.story d w l) none
+    ∙ ap (λ (l : List Task). begun u.story d w l) todo
 
 -- an act that is no make, or is refused
-plays_first : (d : ℕ) (u : Sight) (r : Stepped) (ts : List Task) → half_of u d ≡ Rest → (walk_of (scene u) d).todo ≡ ts
-    → r ≡ stepped u.story (step_of d u)
-    → d < length u.halves → is_acting (half_of (sight_by d u (step_of d u)) d) ≡ false → Plays d u (turned_by r) (sight_by d u (step_of d u))
-plays_first d u r [] rest todo answer lt none = plays_none d u r todo rest (begun_step d u [] rest todo) answer lt
-plays_first d u r (t ∷ ts) rest todo answer lt none =
+plays_first : (d : ℕ) (u : Sight) (r : Stepped) (ts : List Task) → half_of u d ≡ Rest → (walk_of (scene u) d).endings ≡ []
+    → (walk_of (scene u) d).todo ≡ ts → r ≡ stepped u.story (step_of d u)
+    → d < length u.halves → d < length u.walks → is_acting (half_of (sight_by d u (step_of d u)) d) ≡ false
+    → Plays d u (turned_by r) (sight_by d u (step_of d u))
+plays_first d u r [] rest none todo answer lt walks over = plays_none d u r none todo rest (begun_step d u [] rest none todo) answer lt
+plays_first d u r (t ∷ ts) rest none todo answer lt walks over =
     let x = first u.story d (walk_of (scene u) d) t.statement ts t.act in
-    let is = begun_step d u (t ∷ ts) rest todo in
+    let is = begun_step d u (t ∷ ts) rest none todo in
     let h : half_of (sight_by d u (step_of d u)) d ≡ x.half = ap (λ (o : Option Step). half_of (sight_by d u o) d) is ∙ half_after d u (Some x) lt in
-    let n : is_acting x.half ≡ false = ap is_acting (sym h) ∙ none in
-    plays_as d u t ts x r todo is answer (acts_so d u t.statement ts t.act n) n lt
+    let n : is_acting x.half ≡ false = ap is_acting (sym h) ∙ over in
+    plays_as d u t ts x r none todo is answer (acts_so d u t.statement ts t.act n) n lt walks
 
 begins_same : (d : ℕ) (u : Sight) (k : ℕ) (ts : List Task) (o : Option ℕ) → is_acting (begins (walk_of (scene u) d) k ts o).half ≡ true
     → scene (sight_by d u (Some (begins (walk_of (scene u) d) k ts o))) ≡ scene u
 begins_same d u k ts None is = absurd (false≢true is)
 begins_same d u k ts (Some b) is = scene_as u _ _ _ _ refl (same_walks d u)
-
-no_end : (last : Bool) (q : Kind) (b : Block) (k : ℕ) → is_acting (cond last (end_as q k b) Rest) ≡ true → ⊥
-no_end true Owner b k is = false≢true is
-no_end true Weak b k is = false≢true is
-no_end false q b k is = false≢true is
-
-no_make : (s : State) (k : ℕ) (o : Option Pointer) → is_acting (on (end_of s k) Rest o) ≡ true → ⊥
-no_make s k None is = false≢true is
-no_make s k (Some x) is = no_end (is_last s x) x.kind x.block k is
 
 -- a lock that has just begun
 looks_same : (d : ℕ) (u : Sight) (k : ℕ) (ts : List Task) (a : Act) (o : Option Pointer)
@@ -102,9 +97,9 @@ first_same : (d : ℕ) (u : Sight) (k : ℕ) (ts : List Task) (a : Act)
     → let x = first u.story d (walk_of (scene u) d) k ts a in is_acting x.half ≡ true → scene (sight_by d u (Some x)) ≡ scene u
 first_same d u k ts (Make form) is = begins_same d u k ts (least d (state u.story).stores) is
 first_same d u k ts (Share i) is = absurd (false≢true is)
-first_same d u k ts (Put i) is = absurd (no_make (state u.story) k (slot (walk_of (scene u) d).slots i) is)
-first_same d u k ts (Leave i) is = absurd (no_make (state u.story) k (slot (walk_of (scene u) d).slots i) is)
-first_same d u k ts (Clear i) is = absurd (no_make (state u.story) k (slot (walk_of (scene u) d).slots i) is)
+first_same d u k ts (Put i) is = absurd (false≢true is)
+first_same d u k ts (Leave i) is = absurd (false≢true is)
+first_same d u k ts (Clear i) is = absurd (false≢true is)
 first_same d u k ts (Count i) is = absurd (false≢true is)
 first_same d u k ts (Downgrade i) is = absurd (false≢true is)
 first_same d u k ts (Lock i must) is = looks_same d u k ts (Lock i must) (locked (walk_of (scene u) d).slots (Lock i must)) is
@@ -116,38 +111,37 @@ first_same d u k ts (Move i) is = absurd (false≢true is)
 first_same d u k ts (Ask q) is = absurd (false≢true is)
 
 -- a make that has just begun
-begun_same : (d : ℕ) (u : Sight) (ts : List Task) → half_of u d ≡ Rest → (walk_of (scene u) d).todo ≡ ts → d < length u.halves
-    → is_acting (half_of (sight_by d u (step_of d u)) d) ≡ true → scene (sight_by d u (step_of d u)) ≡ scene u
-begun_same d u [] rest todo lt is =
-    absurd (false≢true (sym (ap is_acting (ap (λ (o : Option Step). half_of (sight_by d u o) d) (begun_step d u [] rest todo)
+begun_same : (d : ℕ) (u : Sight) (ts : List Task) → half_of u d ≡ Rest → (walk_of (scene u) d).endings ≡ [] → (walk_of (scene u) d).todo ≡ ts
+    → d < length u.halves → is_acting (half_of (sight_by d u (step_of d u)) d) ≡ true → scene (sight_by d u (step_of d u)) ≡ scene u
+begun_same d u [] rest none todo lt is =
+    absurd (false≢true (sym (ap is_acting (ap (λ (o : Option Step). half_of (sight_by d u o) d) (begun_step d u [] rest none todo)
     ∙ half_after d u None lt ∙ rest)) ∙ is))
-begun_same d u (t ∷ ts) rest todo lt is =
+begun_same d u (t ∷ ts) rest none todo lt is =
     let x = first u.story d (walk_of (scene u) d) t.statement ts t.act in
-    let e = begun_step d u (t ∷ ts) rest todo in
+    let e = begun_step d u (t ∷ ts) rest none todo in
     let h : half_of (sight_by d u (step_of d u)) d ≡ x.half = ap (λ (o : Option Step). half_of (sight_by d u o) d) e ∙ half_after d u (Some x) lt in
     ap (λ (o : Option Step). scene (sight_by d u o)) e ∙ first_same d u t.statement ts t.act (ap is_acting (sym h) ∙ is)
 
 -- a thread that has begun nothing
-resting : (h : Half) → is_acting h ≡ false → is_ending h ≡ false → h ≡ Rest
-resting Rest m e = refl
-resting (Making b i f) m e = absurd (false≢true (sym m))
-resting (Ending b s k) m e = absurd (false≢true (sym e))
-resting (Locking word) m e = absurd (false≢true (sym m))
-resting (Giving i kind x) m e = absurd (false≢true (sym m))
+pub resting : (h : Half) → is_acting h ≡ false → h ≡ Rest
+resting Rest m = refl
+resting (Making b i f) m = absurd (false≢true (sym m))
+resting (Locking word) m = absurd (false≢true (sym m))
+resting (Giving i kind x) m = absurd (false≢true (sym m))
 
-pub plays : (d : ℕ) (u v : Sight) (r : Stepped) → is_acting (half_of u d) ≡ false → is_ending (half_of u d) ≡ false → HasBegun d u → Steps d u r v
+pub plays : (d : ℕ) (u v : Sight) (r : Stepped) → is_acting (half_of u d) ≡ false → is_ending u d ≡ false → HasBegun d u → Steps d u r v
     → is_acting (half_of v d) ≡ false → Plays d u (turned_by r) v
-plays d u v r m e begun steps none =
+plays d u v r m e begun steps over =
     subst (λ (w : Sight). is_acting (half_of w d) ≡ false → Plays d u (turned_by r) w) (sym steps.1)
-    (plays_first d u r (walk_of (scene u) d).todo (resting (half_of u d) m e) refl steps.0 begun.within) none
+    (plays_first d u r (walk_of (scene u) d).todo (resting (half_of u d) m) (ended d u e) refl steps.0 begun.within begun.walks) over
 
-pub begins_make : (d : ℕ) (u v : Sight) (r : Stepped) → is_acting (half_of u d) ≡ false → is_ending (half_of u d) ≡ false → HasBegun d u
+pub begins_make : (d : ℕ) (u v : Sight) (r : Stepped) → is_acting (half_of u d) ≡ false → is_ending u d ≡ false → HasBegun d u
     → Steps d u r v
     → is_acting (half_of v d) ≡ true → (scene v ≡ scene u) × (v.halves ≡ set u.halves d (half_of v d))
 begins_make d u v r m e begun steps some =
     subst (λ (w : Sight). is_acting (half_of w d) ≡ true → (scene w ≡ scene u) × (w.halves ≡ set u.halves d (half_of w d))) (sym steps.1)
     (λ t. (
-      begun_same d u (walk_of (scene u) d).todo (resting (half_of u d) m e) refl begun.within t,
+      begun_same d u (walk_of (scene u) d).todo (resting (half_of u d) m) (ended d u e) refl begun.within t,
       halves_after d u
           (step_of d u) begun.within,
     )) some
@@ -155,27 +149,23 @@ begins_make d u v r m e begun steps some =
 pub making_acts : (h : Half) → is_making h ≡ true → is_acting h ≡ true
 making_acts Rest m = m
 making_acts (Making b i f) m = refl
-making_acts (Ending b s k) m = m
 making_acts (Locking word) m = refl
 making_acts (Giving i kind x) m = refl
 
 pub locking_acts : (h : Half) → is_locking h ≡ true → is_acting h ≡ true
 locking_acts Rest m = m
 locking_acts (Making b i f) m = refl
-locking_acts (Ending b s k) m = m
 locking_acts (Locking word) m = refl
 locking_acts (Giving i kind x) m = refl
 
 pub giving_acts : (h : Half) → is_giving h ≡ true → is_acting h ≡ true
 giving_acts Rest m = m
 giving_acts (Making b i f) m = refl
-giving_acts (Ending b s k) m = m
 giving_acts (Locking word) m = refl
 giving_acts (Giving i kind x) m = refl
 
 pub none_acts : (h : Half) → is_making h ≡ false → is_locking h ≡ false → is_giving h ≡ false → is_acting h ≡ false
 none_acts Rest m l g = refl
 none_acts (Making b i f) m l g = m
-none_acts (Ending b s k) m l g = refl
 none_acts (Locking word) m l g = l
 none_acts (Giving i kind x) m l g = g

@@ -1,5 +1,5 @@
 -- What a step of an act says, and the turn that it is.
-use Rattle.std.proofs.Common.{◌≡◌, ℕ, ◌<◌, ◌==◌, Bool, true, false, cond, List, ◌∷◌, length, set, refl, sym, ap, subst, ◌∙◌}
+use Rattle.std.proofs.Common.{◌≡◌, ℕ, ◌<◌, ◌==◌, Bool, true, false, cond, List, [], ◌∷◌, length, set, refl, sym, ap, subst, ◌∙◌}
 use Rattle.std.specs.Prelude.{Option, Some, None, option_map}
 use Rattle.std.proofs.lemmas.Bool.{cond_both, cond-false, false≢true}
 use Rattle.control_word.specs.declared.place.Place.{Place}
@@ -7,6 +7,7 @@ use Rattle.step_core.specs.declared.act.Act.{Act}
 use Rattle.step_core.specs.declared.act.Form.{Form}
 use Rattle.step_core.specs.declared.act.Act.TheVariants.{Make, Share, Downgrade, Lock, Put, Leave, Clear, Count, Expired, Read, FromThis, Alias, Move, Ask}
 use Rattle.step_core.specs.declared.act.Task.{Task}
+use Rattle.step_core.specs.declared.ending.Ending.{Ending}
 use Rattle.step_core.specs.declared.half.Half.{Half}
 use Rattle.step_core.specs.declared.half.Half.TheVariants.{Rest, Locking, Giving}
 use Rattle.step_core.specs.declared.holdings.Pointer.{Pointer}
@@ -18,46 +19,38 @@ use Rattle.step_core.specs.declared.said.Turned.TheVariants.{Acted}
 use Rattle.control_word.specs.declared.handle.Kind.{Kind}
 use Rattle.control_word.specs.declared.handle.Kind.TheVariants.{Owner, Weak}
 use Rattle.control_word.specs.Histories.{entry}
-use Rattle.step_core.specs.Courses.{Walk, locked}
+use Rattle.step_core.specs.Courses.{Walk, locked, settled}
 use Rattle.step_core.specs.Deeds.{downgrade, is_enabled, is_last, leave, leave_as, lock, owned, owner_word, read, share, share_as, tell, tell_expired, alias, aliased}
 use Rattle.step_core.specs.Holdings.{inside, slot, owner_slot, place_in}
 use Rattle.step_core.specs.Openings.{opening}
-use Rattle.step_core.specs.Scenes.{History, Scene, acted, answer_of, ended_of, ends_as, full_answer, holding, least, leaves, left_as, made, on, shared_as}
-use Rattle.step_core.specs.Scenes.{play_from, said_from}
-use Rattle.step_core.specs.Scenes.{counts, downgrades, expires, gives, giving, locks, reads, shares, walk_of, went, aliases}
-use Rattle.step_core.specs.Steps.{Step, acts, asks, begins, end_as, end_of, first, is_event, looks, silent, stepped, story_after, trying}
+use Rattle.step_core.specs.Entries.{History, acted, least, leaves, left_as, made, on, shared_as}
+use Rattle.step_core.specs.Scenes.{Scene, full_answer, holding, next, next_of}
+use Rattle.step_core.specs.Scenes.{play, play_from, put_walk, rest_of, rested, rested_walk, said_from, said_of}
+use Rattle.step_core.specs.Entries.{counts, downgrades, expires, gives, giving, locks, reads, shares, aliases}
+use Rattle.step_core.specs.Scenes.{walk_of, went}
+use Rattle.step_core.specs.Steps.{Step, acts, asks, begins, first, is_event, looks, silent, stepped, story_after, trying}
 use Rattle.step_core.specs.Stories.{Story, after, state}
 use Rattle.step_core.specs.Turning.{Plays, is_acting, turned, turned_by}
-use Rattle.step_core.specs.Worlds.{Sight, rested_from, scene, sight_by, step_of}
-use Rattle.step_core.proofs.turning.Ending.{half_after, halves_after}
+use Rattle.step_core.specs.Worlds.{Sight, scene, sight_by, step_of}
+use Rattle.step_core.proofs.turning.Ending.{half_after, halves_after, moved, rested_moved}
 
 -- what a step of an act says is what the turn says
 said_on : (b : Bool) (x : Said) → turned_by (cond b (Event x) (Quiet x)) ≡ Acted x
 said_on true x = refl
 said_on false x = refl
 
--- the scene after an act
-abbrev pub acted_scene : ℕ → Sight → List Task → Act → Scene
-acted_scene d u ts a =
+-- the scene after an act alone
+abbrev pub acted_scene : ℕ → Sight → ℕ → List Task → Act → Scene
+acted_scene d u k ts a =
     let w = walk_of (scene u) d in
-    record {
-      extent = u.story.extent;
-      history = acted (opening u.story.extent) d w.slots u.story.history a;
-      walks = set u.walks d (went (state u.story) d w.slots w.taken ts a);
-    }
+    moved (scene u) d (went (state u.story) d w k ts a) (acted (opening u.story.extent) d w.slots u.story.history a)
 
 abbrev pub acted_said : ℕ → Sight → ℕ → Act → Said
-acted_said d u k a =
-    let w = walk_of (scene u) d in record {
-      statement = k;
-      answer = answer_of (state u.story) d w.slots a;
-      ended = ended_of
-          (state u.story) w.slots a;
-    }
+acted_said d u k a = said_of (state u.story) d (walk_of (scene u) d).slots (record { statement = k; act = a })
 
--- a step of an act that is none of a make says what the act says, and leaves what the act makes, but for an end
+-- a step of an act that is none of a make says what the act says, and leaves what the act makes
 abbrev pub Acts : ℕ → Sight → ℕ → List Task → Act → Step → Type 0
-Acts d u k ts a x = (x.said ≡ acted_said d u k a) × (rested_from (sight_by d u (Some x)) d x.half ≡ acted_scene d u ts a)
+Acts d u k ts a x = (x.said ≡ acted_said d u k a) × (scene (sight_by d u (Some x)) ≡ acted_scene d u k ts a)
 
 begins_so : (d : ℕ) (u : Sight) (k : ℕ) (ts : List Task) (form : Form) (o : Option ℕ) → least d (state u.story).stores ≡ o
     → is_acting (begins (walk_of (scene u) d) k ts o).half ≡ false → Acts d u k ts (Make form) (begins (walk_of (scene u) d) k ts o)
@@ -67,8 +60,7 @@ begins_so d u k ts form None e is =
       ap (λ (q : Option ℕ). record {
         extent = u.story.extent;
         history = made d form u.story.history q;
-        walks = set u.walks d
-            (holding w.slots ts form.null q);
+        walks = set u.walks d (let y = holding w.slots form.null q in settled y.0 y.1 w.endings ts);
       }) (sym e),
     )
 begins_so d u k ts form (Some b) e is = absurd (false≢true (sym is))
@@ -114,25 +106,16 @@ read_so : (d : ℕ) (v : Story) (o : Option Pointer) → Told d v (read (state v
 read_so d v None w = refl
 read_so d v (Some x) w = refl
 
--- a leave, and the end that it begins
-ended : (d : ℕ) (v : Story) (k : ℕ) (w : List Walk) (h : List Half) (x : Pointer) (q : Kind) (last : Bool)
-    → rested_from (record { story = after v d (leave_as q x last); walks = w; halves = h }) d (cond last (end_as q k x.block) Rest)
-    ≡ record {
-      extent = v.extent;
-      history = (let left = entry d (left_as q (state v) x last) ∷ v.history in
-          cond last (ends_as q (opening v.extent) d (owned (state v) x) left) left);
-      walks = w;
-    }
-ended d v k w h x Owner true = refl
-ended d v k w h x Owner false = refl
-ended d v k w h x Weak true = refl
-ended d v k w h x Weak false = refl
-
-left : (d : ℕ) (v : Story) (k : ℕ) (w : List Walk) (h : List Half) (o : Option Pointer)
-    → rested_from (record { story = story_after v d (option_map (leave (state v)) o); walks = w; halves = h }) d (on (end_of (state v) k) Rest o)
-    ≡ record { extent = v.extent; history = on (leaves (opening v.extent) d v.history) v.history o; walks = w }
-left d v k w h None = refl
-left d v k w h (Some x) = ended d v k w h x x.kind (is_last (state v) x)
+-- a leave
+left : (d : ℕ) (v : Story) (o : Option Pointer) → Told d v (leave (state v)) (leaves (opening v.extent) d v.history) o
+left d v None w = refl
+left d v (Some x) w = go x.kind (is_last (state v) x)
+  where
+    go : (k : Kind) (last : Bool)
+        → ◌≡◌ {A = Scene} (record { extent = (after v d (leave_as k x last)).extent; history = (after v d (leave_as k x last)).history; walks = w })
+        (record { extent = v.extent; history = entry d (left_as k (state v) x last) ∷ v.history; walks = w })
+    go Owner last = refl
+    go Weak last = refl
 
 -- a lock that is done
 pub lock_so : (d : ℕ) (u : Sight) (k : ℕ) (ts : List Task) (a : Act) (x : Pointer) → locked (walk_of (scene u) d).slots a ≡ Some x
@@ -143,7 +126,7 @@ lock_so d u k ts (Lock i must) x e =
       ap (λ (o : Option Pointer). record {
         extent = u.story.extent;
         history = on (locks (opening u.story.extent) d u.story.history) u.story.history o;
-        walks = set u.walks d (went (state u.story) d w.slots w.taken ts (Lock i must));
+        walks = set u.walks d (went (state u.story) d w k ts (Lock i must));
       }) (sym e),
     )
 lock_so d u k ts (Make form) x e = cc
@@ -169,7 +152,7 @@ lose_so d u k ts i must e =
       ap (λ (o : Option Pointer). record {
         extent = u.story.extent;
         history = on (locks (opening u.story.extent) d u.story.history) u.story.history o;
-        walks = set u.walks d (went (state u.story) d w.slots w.taken ts (Lock i must));
+        walks = set u.walks d (went (state u.story) d w k ts (Lock i must));
       }) (sym e),
     )
 
@@ -195,7 +178,7 @@ unasked_so d u k ts i q e =
       ap (λ (o : Option Pointer). record {
         extent = u.story.extent;
         history = on (gives q (opening u.story.extent) d u.story.history) u.story.history o;
-        walks = set u.walks d (went (state u.story) d w.slots w.taken ts (FromThis i q));
+        walks = set u.walks d (went (state u.story) d w k ts (FromThis i q));
       }) (sym e),
     )
 
@@ -216,15 +199,9 @@ pub acts_so : (d : ℕ) (u : Sight) (k : ℕ) (ts : List Task) (a : Act)
     → let x = first u.story d (walk_of (scene u) d) k ts a in is_acting x.half ≡ false → Acts d u k ts a x
 acts_so d u k ts (Make form) is = begins_so d u k ts form (least d (state u.story).stores) refl is
 acts_so d u k ts (Share i) is = (refl, shared d u.story (slot (walk_of (scene u) d).slots i) _)
-acts_so d u k ts (Put i) is =
-    let w = walk_of (scene u) d in
-    let y = sight_by d u (Some (first u.story d w k ts (Put i))) in (refl, left d u.story k y.walks y.halves (slot w.slots i))
-acts_so d u k ts (Leave i) is =
-    let w = walk_of (scene u) d in
-    let y = sight_by d u (Some (first u.story d w k ts (Leave i))) in (refl, left d u.story k y.walks y.halves (slot w.slots i))
-acts_so d u k ts (Clear i) is =
-    let w = walk_of (scene u) d in
-    let y = sight_by d u (Some (first u.story d w k ts (Clear i))) in (refl, left d u.story k y.walks y.halves (slot w.slots i))
+acts_so d u k ts (Put i) is = (refl, left d u.story (slot (walk_of (scene u) d).slots i) _)
+acts_so d u k ts (Leave i) is = (refl, left d u.story (slot (walk_of (scene u) d).slots i) _)
+acts_so d u k ts (Clear i) is = (refl, left d u.story (slot (walk_of (scene u) d).slots i) _)
 acts_so d u k ts (Count i) is = (refl, counted d u.story (slot (walk_of (scene u) d).slots i) _)
 acts_so d u k ts (Downgrade i) is = (refl, downgraded d u.story (slot (walk_of (scene u) d).slots i) _)
 acts_so d u k ts (Lock i must) is = looks_so d u k ts i must (locked (walk_of (scene u) d).slots (Lock i must)) refl is
@@ -236,18 +213,37 @@ acts_so d u k ts (Alias i j field) is =
 acts_so d u k ts (Move i) is = (refl, refl)
 acts_so d u k ts (Ask q) is = (refl, refl)
 
+-- the next act of a thread in whose hands no object ends
+pub next_task : (w : Walk) (t : Task) (ts : List Task) → w.endings ≡ [] → w.todo ≡ t ∷ ts → next w ≡ Some t
+next_task w t ts none todo = ap (λ (es : List Ending). next_of w.slots es w.todo) none ∙ ap (next_of w.slots []) todo
+
+pub rest_tasks : (w : Walk) (t : Task) (ts : List Task) → w.endings ≡ [] → w.todo ≡ t ∷ ts → rest_of w.endings w.todo ≡ ts
+rest_tasks w t ts none todo = ap (λ (es : List Ending). rest_of es w.todo) none ∙ ap (rest_of []) todo
+
+played : (d : ℕ) (u : Sight) (t : Task) (ts : List Task) → (walk_of (scene u) d).endings ≡ [] → (walk_of (scene u) d).todo ≡ t ∷ ts → d < length u.walks
+    → rested d (acted_scene d u t.statement ts t.act) ≡ play d (scene u)
+played d u t ts none todo lt =
+    let w = walk_of (scene u) d in
+    let z = opening u.story.extent in
+    let h = acted z d w.slots u.story.history t.act in
+    rested_moved (scene u) d (went (state u.story) d w t.statement ts t.act) h lt
+    ∙ ap (λ (l : List Task). let w' = went (state u.story) d w t.statement l t.act in put_walk (scene u) d w' (rested_walk z d h w'))
+    (sym (rest_tasks w t ts none todo))
+    ∙ ap (play_from (scene u) d w) (sym (next_task w t ts none todo))
+
 -- what a thread does whose next act is this
-pub plays_as : (d : ℕ) (u : Sight) (t : Task) (ts : List Task) (x : Step) (r : Stepped) → (walk_of (scene u) d).todo ≡ t ∷ ts → step_of d u ≡ Some x
-    → r ≡ stepped u.story (step_of d u) → Acts d u t.statement ts t.act x → is_acting x.half ≡ false → d < length u.halves
+pub plays_as : (d : ℕ) (u : Sight) (t : Task) (ts : List Task) (x : Step) (r : Stepped) → (walk_of (scene u) d).endings ≡ []
+    → (walk_of (scene u) d).todo ≡ t ∷ ts → step_of d u ≡ Some x
+    → r ≡ stepped u.story (step_of d u) → Acts d u t.statement ts t.act x → is_acting x.half ≡ false → d < length u.halves → d < length u.walks
     → Plays d u (turned_by r) (sight_by d u (step_of d u))
-plays_as d u t ts x r todo is answer so none lt =
+plays_as d u t ts x r none todo is answer so rest lt walks =
     let w = walk_of (scene u) d in
     let h = half_after d u (Some x) lt in
     subst (λ (o : Option Step). r ≡ stepped u.story o → Plays d u (turned_by r) (sight_by d u o)) (sym is)
     (λ e. record {
       answer = ap turned_by e ∙ said_on (is_event u.story x.deed) x.said ∙ ap Acted so.0
-          ∙ ap (λ (l : List Task). turned (said_from (scene u) d w.slots l)) (sym todo);
-      scene = ap (rested_from (sight_by d u (Some x)) d) h ∙ so.1 ∙ ap (λ (l : List Task). play_from (scene u) d w l) (sym todo);
-      done = ap is_acting h ∙ none;
+          ∙ ap (λ (o : Option Task). turned (said_from (scene u) d w.slots o)) (sym (next_task w t ts none todo));
+      scene = ap (rested d) so.1 ∙ played d u t ts none todo walks;
+      done = ap is_acting h ∙ rest;
       halves = halves_after d u (Some x) lt;
     }) answer

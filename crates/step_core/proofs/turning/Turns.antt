@@ -8,18 +8,20 @@ use Rattle.step_core.specs.declared.act.Act.{Act}
 use Rattle.step_core.specs.declared.act.Act.TheVariants.{Make}
 use Rattle.step_core.specs.declared.act.Task.{Task}
 use Rattle.step_core.specs.declared.half.Half.{Half}
-use Rattle.step_core.specs.declared.half.Half.TheVariants.{Rest, Making, Ending, Locking, Giving}
+use Rattle.step_core.specs.declared.half.Half.TheVariants.{Rest, Making, Locking, Giving}
 use Rattle.step_core.specs.declared.said.Said.{Said}
 use Rattle.step_core.specs.declared.said.Stepped.{Stepped}
 use Rattle.step_core.specs.declared.said.Turned.{Turned}
 use Rattle.step_core.specs.Actors.{wanted}
-use Rattle.step_core.specs.Courses.{form_of}
-use Rattle.step_core.specs.Scenes.{Scene, full_answer, holding, least, made, play, play_from, said, said_from, walk_of}
+use Rattle.step_core.specs.Courses.{form_of, settled}
+use Rattle.step_core.specs.Entries.{least, made}
+use Rattle.step_core.specs.Scenes.{Scene, full_answer, holding, next, play, play_from, rested, said, said_from, walk_of}
 use Rattle.step_core.specs.Steps.{Step, claims, prepares, stepped}
 use Rattle.step_core.specs.Stories.{known, pending, state}
-use Rattle.step_core.specs.Turning.{HasBegun, IsReady, IsUnderWay, Plays, Prepares, Rests, is_acting, rested_half, turned, turned_by}
-use Rattle.step_core.specs.Worlds.{Sight, Steps, Turns, half_of, rested, scene, sight_by, step_of}
+use Rattle.step_core.specs.Turning.{HasBegun, IsAlone, IsReady, IsUnderWay, Plays, Prepares, Rests, is_acting, turned, turned_by}
+use Rattle.step_core.specs.Worlds.{Sight, Steps, Turns, half_of, scene, sight_by, step_of}
 use Rattle.step_core.proofs.turning.Making.{made_step}
+use Rattle.step_core.proofs.turning.Playing.{resting}
 use Rattle.step_core.proofs.turning.Saying.{Acts, acted_said, acted_scene, plays_as}
 
 -- a claim is what the make says and makes
@@ -29,37 +31,39 @@ claims_so d u k ts b a is low =
     let w = walk_of (scene u) d in
     let f = form_of a in (
       ap (λ (q : Option ℕ). record { statement = k; answer = full_answer q; ended = None }) (sym low) ∙ ap (acted_said d u k) (sym is),
-      ap (λ (q : Option ℕ). record { extent = u.story.extent; history = made d f u.story.history q; walks = set u.walks d (holding w.slots ts f.null q) })
-          (sym low)
-          ∙ ap (acted_scene d u ts) (sym is),
+      ap (λ (q : Option ℕ). record {
+        extent = u.story.extent;
+        history = made d f u.story.history q;
+        walks = set u.walks d (let y = holding w.slots f.null q in settled y.0 y.1 w.endings ts);
+      }) (sym low)
+          ∙ ap (acted_scene d u k ts) (sym is),
     )
 
 claimed_by : (d : ℕ) (u : Sight) (r : Stepped) (b : Block) (i : ℕ) (g : Bool) (ts : List Task) → half_of u d ≡ Making b i g → i ≡ 5
-    → (walk_of (scene u) d).todo ≡ ts → IsUnderWay d u.story (Making b i g) ts → d < length u.halves → r ≡ stepped u.story (step_of d u)
+    → (walk_of (scene u) d).todo ≡ ts → IsUnderWay d u.story (Making b i g) ts → HasBegun d u → r ≡ stepped u.story (step_of d u)
     → Plays d u (turned_by r) (sight_by d u (step_of d u))
-claimed_by d u r b i g [] e five todo way lt answer = absurd way
-claimed_by d u r b i g (t ∷ ts) e five todo way lt answer =
+claimed_by d u r b i g [] e five todo way begun answer = absurd way
+claimed_by d u r b i g (t ∷ ts) e five todo way begun answer =
     let w = walk_of (scene u) d in
     let f = form_of t.act in
     let x = claims w t.statement ts b f in
     let is : step_of d u ≡ Some x = made_step d u b i g t ts e todo
     ∙ ap (λ (y : Step). Some y) (cond-true (i == 5) x (prepares (get_or (known (pending u.story d)) i 0) (get_or
     (wanted f) i 0) w t.statement b i g) (eq-eqb i 5 five)) in
-    plays_as d u t ts x r todo is answer (claims_so d u t.statement ts b t.act way.2 way.1) refl lt
+    let none = subst (λ (h : Half). IsAlone h w.endings) e begun.alone in
+    plays_as d u t ts x r none todo is answer (claims_so d u t.statement ts b t.act way.2 way.1) refl begun.within begun.walks
 
 claimed : (d : ℕ) (u : Sight) (r : Stepped) (g h : Half) → half_of u d ≡ h → IsReady g h → HasBegun d u → r ≡ stepped u.story (step_of d u)
     → Plays d u (turned_by r) (sight_by d u (step_of d u))
 claimed d u r (Making c j f) (Making b i g) e ready begun answer =
     claimed_by d u r b i g (walk_of (scene u) d).todo e ready.1 refl
-    (subst (λ (h : Half). IsUnderWay d u.story h (walk_of (scene u) d).todo) e begun.half) begun.within answer
+    (subst (λ (h : Half). IsUnderWay d u.story h (walk_of (scene u) d).todo) e begun.half) begun answer
 claimed d u r (Making c j f) Rest e ready begun answer = absurd ready
-claimed d u r (Making c j f) (Ending b s k) e ready begun answer = absurd ready
 claimed d u r (Making c j f) (Locking word) e ready begun answer = absurd ready
 claimed d u r (Making c j f) (Giving i kind x) e ready begun answer = absurd ready
 claimed d u r (Locking word) h e ready begun answer = absurd ready
 claimed d u r (Giving i kind x) h e ready begun answer = absurd ready
 claimed d u r Rest h e ready begun answer = absurd ready
-claimed d u r (Ending b s k) h e ready begun answer = absurd ready
 
 -- what is done from the same scene
 pub plays_on : (d : ℕ) (u v w : Sight) (r : Turned) → scene v ≡ scene u → v.halves ≡ set u.halves d (half_of v d) → Plays d v r w → Plays d u r w
@@ -77,31 +81,22 @@ makes d u v w r prepares begun steps =
     plays_on d u v w (turned_by r) prepares.scene prepares.halves
     (subst (λ (x : Sight). Plays d v (turned_by r) x) (sym steps.1) (claimed d v r (half_of u d) (half_of v d) refl prepares.ready begun steps.0))
 
-no_todo : (c : Scene) (d : ℕ) (ts : List Task) → said_from c d (walk_of c d).slots ts ≡ None → ts ≡ []
-no_todo c d [] e = refl
-no_todo c d (t ∷ ts) e = cc
+no_next : (c : Scene) (d : ℕ) (o : Option Task) → said_from c d (walk_of c d).slots o ≡ None → o ≡ None
+no_next c d None e = refl
+no_next c d (Some t) e = cc
 
-over_rest : (h : Half) → is_acting h ≡ false → rested_half h ≡ Rest
-over_rest Rest m = refl
-over_rest (Making b i f) m = absurd (false≢true (sym m))
-over_rest (Ending b s k) m = refl
-over_rest (Locking word) m = absurd (false≢true (sym m))
-over_rest (Giving i kind x) m = absurd (false≢true (sym m))
-
-turns_by : (d : ℕ) (u u' : Sight) (r : Turned) (o : Option Said) → said d (rested u d) ≡ o → r ≡ turned o → scene u' ≡ play d (rested u d)
+turns_by : (d : ℕ) (u u' : Sight) (r : Turned) (o : Option Said) → let c = rested d (scene u) in said d c ≡ o → r ≡ turned o → scene u' ≡ play d c
     → u'.halves ≡ set u.halves d Rest → Turns d u r u'
 turns_by d u u' r (Some x) is answer played halves = subst (λ (t : Turned). Turns d u t u') (sym answer) (sym is, played, halves)
 turns_by d u u' r None is answer played halves =
-    let c = rested u d in
-    let t = no_todo c d (walk_of c d).todo is in
+    let c = rested d (scene u) in
+    let t = no_next c d (next (walk_of c d)) is in
     subst (λ (t : Turned). Turns d u t u') (sym answer) (t, played ∙ ap (play_from c d (walk_of c d)) t, halves)
 
--- the end that is under way, the act, and the end that it began
+-- the endings that were under way, the act, and the endings that go on after it
 pub turns : (d : ℕ) (u v w u' : Sight) (r : Turned) → Rests d u v → Plays d v r w → Rests d w u' → Turns d u r u'
 turns d u v w u' r before plays behind =
-    turns_by d u u' r (said d (rested u d)) refl (plays.answer ∙ ap (λ (c : Scene). turned (said d c)) before.scene)
+    turns_by d u u' r (said d (rested d (scene u))) refl (plays.answer ∙ ap (λ (c : Scene). turned (said d c)) before.scene)
     (behind.scene ∙ plays.scene ∙ ap (play d) before.scene)
-    (behind.halves ∙ ap (λ (l : List Half). set l d (rested_half (half_of w d))) (plays.halves
-    ∙ ap (λ (l : List Half). set l d (half_of w d)) before.halves)
-    ∙ ap (λ (l : List Half). set l d (rested_half (half_of w d))) (set-set u.halves d _ _) ∙ set-set u.halves d _ _
-    ∙ ap (set u.halves d) (over_rest (half_of w d) plays.done))
+    (behind.halves ∙ plays.halves ∙ ap (λ (l : List Half). set l d (half_of w d)) before.halves
+    ∙ ap (set u.halves d) (resting (half_of w d) plays.done))

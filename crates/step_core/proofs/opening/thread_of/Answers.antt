@@ -1,9 +1,11 @@
-use Rattle.std.proofs.Common.{◌≡◌, ◌+◌, ◌∙◌, ℕ, List, length, sym, ap, subst, arith}
+use Rattle.std.proofs.Common.{◌≡◌, ◌≤◌, ◌+◌, ◌∙◌, ℕ, List, length, sym, ap, subst, arith}
 use Rattle.step_core.specs.declared.call.Call.{Call}
 use Rattle.step_core.specs.Acts.{tasks_from}
+use Rattle.step_core.specs.Endings.{Stack}
 use Rattle.step_core.specs.Holdings.{Holds, Slots}
 use Rattle.step_core.specs.Programs.{part_of}
 use Rattle.step_core.specs.Starts.{first_story, no_slots}
+use Rattle.step_core.proofs.holding.Ends.{ends_none}
 use Rattle.step_core.proofs.Starts.{holds_start, idle_start, ready_start}
 use Rattle.step_core.proofs.opening.thread_of.Goals as goal
 
@@ -28,4 +30,8 @@ returns-clause-fits c =
       half = idle_start c.args.desk c.args.extent.now c.requires.desk;
       next = tt;
       stocks = c.in_ok-stock.ensures;
+      endings =
+          ends_none c.args.desk c.settle.new.self (first_story c.args.extent.now)
+          (ap (λ (z : Stack). z.list) c.settle.ensures.endings ∙ c.in_ok-endings.ensures.none)
+          (subst (λ (z : Stack). c.args.extent.now.shape.blocks ≤ z.room) (sym c.settle.ensures.endings) c.in_ok-endings.ensures.room);
     }

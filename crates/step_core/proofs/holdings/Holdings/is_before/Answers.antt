@@ -2,7 +2,7 @@ use Rattle.std.proofs.Common.{◌≡◌, ℕ, Option, ap, sym, ◌∙◌}
 use Rattle.std.specs.Prelude.{nat_lt}
 use Rattle.step_core.specs.declared.holdings.Pointer.{Pointer}
 use Rattle.step_core.specs.Holdings.{slot}
-use Rattle.step_core.specs.Scenes.{on}
+use Rattle.step_core.specs.Entries.{on}
 use Rattle.step_core.proofs.holding.Values.{before_by}
 use Rattle.step_core.proofs.holdings.Holdings.is_before.Goals as goal
 

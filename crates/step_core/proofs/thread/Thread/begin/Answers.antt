@@ -12,7 +12,7 @@ use Rattle.step_core.specs.Steps.{begins, silent}
 use Rattle.step_core.specs.Stories.{Story}
 use Rattle.step_core.specs.Threads.{Fits}
 use Rattle.step_core.proofs.holding.Storing.{taken_stored}
-use Rattle.step_core.proofs.Steps.{at_rest, stepped_as}
+use Rattle.step_core.proofs.Steps.{at_act, stepped_as}
 use Rattle.step_core.proofs.Threads.{fits_prepare, least_here, least_nowhere, make_empty, refused_ready, resting}
 use Rattle.step_core.proofs.thread.Thread.begin.Goals as goal
 
@@ -29,20 +29,20 @@ returns-in-Some-clause-fits c =
     subst (λ (v : Story). Fits c.args.desk
     (record { course = c.args.self.now.course; stock = c.take_least.new.self; half = Making c.in-Some.block 0 false }) v) (sym c.prepare.ensures)
     (fits_prepare c.args.desk c.args.self.now c.args.table.now c.in-Some.block c.take_least.new.self c.args.form c.known.ensures c.requires.fits c.requires.rest
-    c.requires.within c.requires.act c.in-Some.ensures.least.0 c.in-Some.ensures.least.1 c.take_least.ensures.room)
+    c.requires.none c.requires.within c.requires.act c.in-Some.ensures.least.0 c.in-Some.ensures.least.1 c.take_least.ensures.room)
 
 pub returns-in-None-clause-stepped : goal.returns-in-None-clause-stepped
 returns-in-None-clause-stepped c =
     let t = c.args.self.now in
     let v = c.args.table.now in
     let k = (task_at t.course).statement in
-    let is = at_rest c.args.desk t v (Make c.args.form) c.requires.rest c.requires.within c.requires.act
+    let is = at_act c.args.desk t v (Make c.args.form) c.requires.rest c.requires.none c.requires.within c.requires.act
     ∙ ap (λ (o : Option ℕ). Some (begins (walk t.course) k (rest t.course) o))
     (least_nowhere c.args.desk t v c.requires.fits c.requires.rest c.in-None.ensures.least) in
     let empty = make_empty t.course c.args.form c.requires.within c.requires.fits.ready c.requires.act in
     stepped_as c.args.desk t v (begins (walk t.course) k (rest t.course) None) _ _ _ is
     (ap (λ (n : ℕ). Quiet (record { statement = n; answer = Some (Refused Full); ended = None })) c.statement-statement.ensures) refl
-    (c.go_on.ensures.walk ∙ ap (λ (b : Bool). settled t.course.holdings.slots.items b (rest t.course)) empty) c.requires.rest
+    (c.go_on.ensures.walk ∙ ap (λ (b : Bool). settled t.course.holdings.slots.items b t.course.endings.list (rest t.course)) empty) c.requires.rest
 
 pub returns-in-Some-clause-stepped : goal.returns-in-Some-clause-stepped
 returns-in-Some-clause-stepped c =
@@ -51,7 +51,7 @@ returns-in-Some-clause-stepped c =
     let k = (task_at t.course).statement in
     let b = c.in-Some.block in
     let s = c.in-Some.ensures.least in
-    let is = at_rest c.args.desk t v (Make c.args.form) c.requires.rest c.requires.within c.requires.act
+    let is = at_act c.args.desk t v (Make c.args.form) c.requires.rest c.requires.none c.requires.within c.requires.act
     ∙ ap (λ (o : Option ℕ). Some (begins (walk t.course) k (rest t.course) o))
     (least_here c.args.desk t v b c.take_least.new.self c.requires.fits c.requires.rest s.0 s.1) in
     stepped_as c.args.desk t v (begins (walk t.course) k (rest t.course) (Some b.0)) _ _ _ is

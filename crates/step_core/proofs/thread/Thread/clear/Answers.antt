@@ -1,27 +1,25 @@
-use Rattle.std.proofs.Common.{◌+◌, sym, subst}
-use Rattle.step_core.specs.declared.half.Half.TheVariants.{Ending}
+use Rattle.std.proofs.Common.{sym, subst, drop}
 use Rattle.step_core.specs.Stories.{Story}
 use Rattle.step_core.specs.Threads.{Fits}
-use Rattle.step_core.proofs.Endings.{ends_here, fits_clear}
+use Rattle.step_core.proofs.EndSteps.{fits_clear, idle_here}
+use Rattle.step_core.proofs.holding.Ends.{ending_here, first_is}
 use Rattle.step_core.proofs.thread.Thread.clear.Goals as goal
 
 pub clear_empty-requires-clause-idle : goal.clear_empty-requires-clause-idle
-clear_empty-requires-clause-idle c =
-    (ends_here _ c.args.self.now c.args.table.now c.args.block c.args.stage c.args.statement c.requires.fits c.requires.half).idle
+clear_empty-requires-clause-idle c = idle_here _ c.args.self.now c.args.table.now c.requires.fits c.requires.rest
 
 pub clear_empty-requires-clause-ending : goal.clear_empty-requires-clause-ending
-clear_empty-requires-clause-ending c =
-    (ends_here _ c.args.self.now c.args.table.now c.args.block c.args.stage c.args.statement c.requires.fits c.requires.half).ending
-
-pub returns-clause-fits : goal.returns-clause-fits
-returns-clause-fits c =
-    subst (λ (v : Story). Fits c.args.desk (record {
-      course = c.args.self.now.course;
-      stock = c.args.self.now.stock;
-      half = Ending c.args.block
-          (c.args.stage + 1) c.args.statement;
-    }) v) (sym c.clear_empty.ensures)
-    (fits_clear c.args.desk c.args.self.now c.args.table.now c.args.block c.args.stage c.args.statement c.known.ensures c.requires.fits c.requires.half c.requires.inside)
+clear_empty-requires-clause-ending c = (ending_here _ c.args.table.now _ c.args.ending c.requires.fits.endings.all c.requires.first).ending
 
 pub clear_empty-requires-clause-empty : goal.clear_empty-requires-clause-empty
 clear_empty-requires-clause-empty c = c.requires.plain.bare _ _
+
+pub returns-clause-fits : goal.returns-clause-fits
+returns-clause-fits c =
+    let t = c.args.self.now in
+    let v = c.args.table.now in
+    let is = ending_here c.args.desk v t.course.endings.list c.args.ending c.requires.fits.endings.all c.requires.first in
+    subst (λ (u : Story). Fits c.args.desk (record { course = record t.course { endings = c.advance.new.self }; stock = t.stock; half = t.half }) u)
+    (sym c.clear_empty.ensures)
+    (fits_clear c.args.desk t v c.args.ending c.advance.new.self (drop 1 t.course.endings.list) c.known.ensures c.requires.fits c.requires.rest
+    (first_is t.course.endings.list c.args.ending c.requires.first) c.advance.ensures.list c.advance.ensures.room is c.requires.inside)

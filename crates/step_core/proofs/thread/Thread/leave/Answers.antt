@@ -1,18 +1,20 @@
-use Rattle.std.proofs.Common.{◌≡◌, ◌∙◌, Bool, false, cond, subst, refl, sym, ap, ⊎_elim}
-use Rattle.std.specs.Prelude.{Option, None, is_some}
+use Rattle.std.proofs.Common.{◌≡◌, ◌∙◌, Bool, false, cond, refl, sym, ap, ⊎_elim}
+use Rattle.std.specs.Prelude.{Option, None, option_map, slice_set}
 use Rattle.step_core.specs.declared.act.Act.TheVariants as act
 use Rattle.step_core.specs.declared.holdings.Pointer.{Pointer}
-use Rattle.step_core.specs.Courses.{HasGoneOn, done_on, walk}
-use Rattle.step_core.specs.declared.course.Course.{Course}
+use Rattle.step_core.specs.Courses.{Walk, done_on, rest, task_at, walk}
 use Rattle.step_core.specs.declared.half.Half.TheVariants.{Rest}
+use Rattle.step_core.specs.Steps.{acts}
 use Rattle.step_core.specs.declared.said.Stepped.TheVariants.{Event, Quiet}
 use Rattle.step_core.specs.Deeds.{is_last, leave}
-use Rattle.step_core.specs.Holdings.{slot}
-use Rattle.step_core.specs.Scenes.{on, remains_as}
-use Rattle.step_core.specs.Steps.{end_as}
-use Rattle.step_core.specs.Stories.{object_in, state}
-use Rattle.step_core.proofs.Endings.{ending_left, fits_left, room_weak}
-use Rattle.step_core.proofs.Leaving.{stepped_left}
+use Rattle.step_core.specs.Holdings.{plain, slot}
+use Rattle.step_core.specs.Entries.{on}
+use Rattle.step_core.specs.Scenes.{ended_by}
+use Rattle.step_core.specs.Stories.{state}
+use Rattle.step_core.proofs.Courses.{left_taken}
+use Rattle.step_core.proofs.Endings.{HasLeft, begins_room, ending_left, fits_left, room_weak}
+use Rattle.step_core.proofs.LeaveSteps.{stepped_left, went_left}
+use Rattle.step_core.proofs.Threads.{leave_empty}
 use Rattle.step_core.proofs.thread.Thread.leave.Goals as goal
 
 pub left-ended-requires-clause-ending : goal.left-ended-requires-clause-ending
@@ -23,6 +25,15 @@ left-ended-requires-clause-ending c = λ x.
     let is : c.leave-last.new.table ≡ done_on (leave (state v)) v c.args.desk c.get-held.result = c.leave-last.ensures.table ∙ ap (done_on (leave (state v)) v c.args.desk) (sym h) in
     let said : c.leave-last.result ≡ on (is_last (state v)) false c.get-held.result = c.leave-last.ensures.last ∙ ap (on (is_last (state v)) false) (sym h) in
     ending_left v c.leave-last.new.table c.args.desk c.get-held.result c.leave-last.result x is said
+
+pub left-ended-requires-clause-begins : goal.left-ended-requires-clause-begins
+left-ended-requires-clause-begins c = λ x.
+    let v = c.args.table.now in
+    let slots = c.args.self.now.course.holdings.slots.items in
+    let h : c.get-held.result ≡ slot slots c.args.name = c.get-held.ensures ∙ ap (slot slots) c.from.ensures in
+    let is : c.leave-last.new.table ≡ done_on (leave (state v)) v c.args.desk c.get-held.result = c.leave-last.ensures.table ∙ ap (done_on (leave (state v)) v c.args.desk) (sym h) in
+    let said : c.leave-last.result ≡ on (is_last (state v)) false c.get-held.result = c.leave-last.ensures.last ∙ ap (on (is_last (state v)) false) (sym h) in
+    begins_room v c.leave-last.new.table c.args.desk c.args.self.now c.leave-last.new.self c.get-held.result c.leave-last.result x c.known-2.ensures c.requires.fits c.requires.none c.leave-last.ensures.on.endings is said
 
 pub left-ended-requires-clause-room : goal.left-ended-requires-clause-room
 left-ended-requires-clause-room c = λ x.
@@ -40,10 +51,17 @@ returns-clause-fits c =
     let h : c.get-held.result ≡ slot slots c.args.name = c.get-held.ensures ∙ ap (slot slots) c.from.ensures in
     let is : c.leave-last.new.table ≡ done_on (leave (state v)) v c.args.desk c.get-held.result = c.leave-last.ensures.table ∙ ap (done_on (leave (state v)) v c.args.desk) (sym h) in
     let said : c.leave-last.result ≡ on (is_last (state v)) false c.get-held.result = c.leave-last.ensures.last ∙ ap (on (is_last (state v)) false) (sym h) in
-    fits_left c.args.desk c.args.self.now c.left-ended.new.self v c.leave-last.new.table c.statement-statement.result c.get-held.result c.leave-last.result c.known.ensures c.known-2.ensures
-    c.requires.fits c.requires.rest is said
-    (subst (λ (k : Course). HasGoneOn c.args.desk c.args.self.now.course k c.leave-last.new.table) (sym c.left-ended.ensures.course) c.leave-last.ensures.on)
-    c.left-ended.ensures.half c.left-ended.ensures.stock
+    let has : HasLeft c.args.desk c.args.self.now.course c.leave-last.new.self c.left-ended.new.self.course c.leave-last.new.table c.statement-statement.result c.get-held.result c.leave-last.result =
+    record {
+      gone = c.leave-last.ensures.on;
+      empty = ap (λ (w : Walk). w.taken) c.leave-last.ensures.walk ∙ left_taken c.args.self.now.course (slice_set slots c.args.name plain)
+          (leave_empty c.args.self.now.course c.args.name c.requires.within c.requires.fits.ready c.requires.act);
+      same = c.left-ended.ensures.course;
+      list = c.left-ended.ensures.endings;
+      roomy = c.left-ended.ensures.roomy;
+    } in
+    fits_left c.args.desk c.args.self.now c.left-ended.new.self v c.leave-last.new.table c.leave-last.new.self c.statement-statement.result c.get-held.result c.leave-last.result c.known.ensures c.known-2.ensures
+    c.requires.fits c.requires.rest c.requires.none is said has c.left-ended.ensures.half c.left-ended.ensures.stock
 
 pub returns-clause-stepped : goal.returns-clause-stepped
 returns-clause-stepped c =
@@ -52,18 +70,30 @@ returns-clause-stepped c =
     let h : c.get-held.result ≡ slot slots c.args.name = c.get-held.ensures ∙ ap (slot slots) c.from.ensures in
     let is : c.leave-last.new.table ≡ done_on (leave (state v)) v c.args.desk c.get-held.result = c.leave-last.ensures.table ∙ ap (done_on (leave (state v)) v c.args.desk) (sym h) in
     let said : c.leave-last.result ≡ on (is_last (state v)) false c.get-held.result = c.leave-last.ensures.last ∙ ap (on (is_last (state v)) false) (sym h) in
+    let has : HasLeft c.args.desk c.args.self.now.course c.leave-last.new.self c.left-ended.new.self.course c.leave-last.new.table c.statement-statement.result c.get-held.result c.leave-last.result =
+    record {
+      gone = c.leave-last.ensures.on;
+      empty = ap (λ (w : Walk). w.taken) c.leave-last.ensures.walk ∙ left_taken c.args.self.now.course (slice_set slots c.args.name plain)
+          (leave_empty c.args.self.now.course c.args.name c.requires.within c.requires.fits.ready c.requires.act);
+      same = c.left-ended.ensures.course;
+      list = c.left-ended.ensures.endings;
+      roomy = c.left-ended.ensures.roomy;
+    } in
     ⊎_elim
-    (λ e. stepped_left c.args.desk c.args.self.now c.left-ended.new.self v c.leave-last.new.table c.says.result (act.Leave c.args.name) (slot slots c.args.name) c.leave-last.result
-    c.left-ended.result c.statement-statement.result c.statement-statement.ensures c.requires.rest c.requires.within e refl refl refl c.leave-last.ensures.table c.leave-last.ensures.last
-    (c.left-ended.ensures.ended ∙ ap (λ (o : Option Pointer). on (λ x. cond c.leave-last.result (remains_as x.kind ((state c.leave-last.new.table).object (object_in c.leave-last.new.table x.block))) None) None o) h)
-    (c.left-ended.ensures.half ∙ ap (λ (o : Option Pointer). on (λ x. cond c.leave-last.result (end_as x.kind c.statement-statement.result x.block) Rest) Rest o) h)
-    (ap walk c.left-ended.ensures.course ∙ c.leave-last.ensures.walk)
+    (λ e. stepped_left c.args.desk c.args.self.now c.left-ended.new.self v c.leave-last.new.table c.says.result (act.Leave c.args.name) c.get-held.result c.leave-last.result
+    c.left-ended.result c.statement-statement.result c.statement-statement.ensures c.requires.rest c.requires.none c.requires.within e
+    (ap (λ (o : Option Pointer). acts (state v) c.args.desk (walk c.args.self.now.course) (task_at c.args.self.now.course).statement (rest c.args.self.now.course) (act.Leave c.args.name) (option_map (leave (state v)) o) Rest) (sym h))
+    refl (ap (λ (o : Option Pointer). ended_by (state v) o) (sym h)) is said
+    c.left-ended.ensures.ended c.left-ended.ensures.half
+    (went_left c.args.desk c.args.self.now.course c.leave-last.new.self c.left-ended.new.self.course v c.leave-last.new.table (act.Leave c.args.name) c.get-held.result c.leave-last.result c.statement-statement.result has (sym h) said c.leave-last.ensures.walk)
     (c.says.ensures ∙ ap (λ (b : Bool). cond b (Event (record { statement = c.statement-statement.result; answer = None; ended = c.left-ended.result }))
-    (Quiet (record { statement = c.statement-statement.result; answer = None; ended = c.left-ended.result }))) (c.is_some.ensures ∙ ap (λ (o : Option Pointer). is_some o) h)))
-    (λ e. stepped_left c.args.desk c.args.self.now c.left-ended.new.self v c.leave-last.new.table c.says.result (act.Clear c.args.name) (slot slots c.args.name) c.leave-last.result
-    c.left-ended.result c.statement-statement.result c.statement-statement.ensures c.requires.rest c.requires.within e refl refl refl c.leave-last.ensures.table c.leave-last.ensures.last
-    (c.left-ended.ensures.ended ∙ ap (λ (o : Option Pointer). on (λ x. cond c.leave-last.result (remains_as x.kind ((state c.leave-last.new.table).object (object_in c.leave-last.new.table x.block))) None) None o) h)
-    (c.left-ended.ensures.half ∙ ap (λ (o : Option Pointer). on (λ x. cond c.leave-last.result (end_as x.kind c.statement-statement.result x.block) Rest) Rest o) h)
-    (ap walk c.left-ended.ensures.course ∙ c.leave-last.ensures.walk)
+    (Quiet (record { statement = c.statement-statement.result; answer = None; ended = c.left-ended.result }))) c.is_some.ensures))
+    (λ e. stepped_left c.args.desk c.args.self.now c.left-ended.new.self v c.leave-last.new.table c.says.result (act.Clear c.args.name) c.get-held.result c.leave-last.result
+    c.left-ended.result c.statement-statement.result c.statement-statement.ensures c.requires.rest c.requires.none c.requires.within e
+    (ap (λ (o : Option Pointer). acts (state v) c.args.desk (walk c.args.self.now.course) (task_at c.args.self.now.course).statement (rest c.args.self.now.course) (act.Clear c.args.name) (option_map (leave (state v)) o) Rest) (sym h))
+    refl (ap (λ (o : Option Pointer). ended_by (state v) o) (sym h)) is said
+    c.left-ended.ensures.ended c.left-ended.ensures.half
+    (went_left c.args.desk c.args.self.now.course c.leave-last.new.self c.left-ended.new.self.course v c.leave-last.new.table (act.Clear c.args.name) c.get-held.result c.leave-last.result c.statement-statement.result has (sym h) said c.leave-last.ensures.walk)
     (c.says.ensures ∙ ap (λ (b : Bool). cond b (Event (record { statement = c.statement-statement.result; answer = None; ended = c.left-ended.result }))
-    (Quiet (record { statement = c.statement-statement.result; answer = None; ended = c.left-ended.result }))) (c.is_some.ensures ∙ ap (λ (o : Option Pointer). is_some o) h))) c.requires.act
+    (Quiet (record { statement = c.statement-statement.result; answer = None; ended = c.left-ended.result }))) c.is_some.ensures))
+    c.requires.act

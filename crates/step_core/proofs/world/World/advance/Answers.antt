@@ -25,7 +25,10 @@ invariant_of-self c =
       all_fit c.self.inside.table c.step-stepped.new.table c.self.inside.threads.items c.args.number c.index_mut-thread.result.now c.step-stepped.new.self
           c.step-stepped.result c.known.ensures c.known-2.ensures c.self.invariant.0 lt c.step-stepped.ensures.stepped c.step-stepped.ensures.fits,
       told_now c.self.inside.table c.step-stepped.new.table c.self.inside.threads.items c.args.number c.index_mut-thread.result.now c.step-stepped.new.self
-          c.step-stepped.result c.self.inside.made c.self.inside.ended c.makes.result c.ends.result c.known.ensures c.known-2.ensures lt
+          c.step-stepped.result c.self.inside.made c.self.inside.ended c.makes.result c.ends.result c.known.ensures c.known-2.ensures
+          (has_begun c.self.inside.table c.self.inside.threads.items c.args.number c.index_mut-thread.result.now lt c.index_mut-thread.ensures.value
+          (c.self.invariant.0.each c.args.number c.index_mut-thread.result.now
+          (thread_at c.self.inside.threads.items c.args.number c.index_mut-thread.result.now lt c.index_mut-thread.ensures.value)) c.self.invariant.1.plain.bare) lt
           c.index_mut-thread.ensures.value c.step-stepped.ensures.stepped c.self.invariant.1 c.makes.ensures c.ends.ensures,
     )
 
@@ -37,7 +40,7 @@ returns-clause-was c =
     subst (λ (u : Sight). HasBegun c.args.number u) c.self.view_is
     (has_begun c.self.inside.table c.self.inside.threads.items c.args.number c.index_mut-thread.result.now lt c.index_mut-thread.ensures.value
     (c.self.invariant.0.each c.args.number c.index_mut-thread.result.now
-    (thread_at c.self.inside.threads.items c.args.number c.index_mut-thread.result.now lt c.index_mut-thread.ensures.value)))
+    (thread_at c.self.inside.threads.items c.args.number c.index_mut-thread.result.now lt c.index_mut-thread.ensures.value)) c.self.invariant.1.plain.bare)
 
 pub returns-clause-steps : goal.returns-clause-steps
 returns-clause-steps c =

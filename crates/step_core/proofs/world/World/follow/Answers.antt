@@ -21,7 +21,7 @@ loop-turn-preserved c =
     let high = named.1 in
     let same = i.actors in
     let from = c.from.ensures in
-    let most = never_more (c.from.result - 1) c.loop-turn.self c.advance-stepped.new.self c.advance-stepped.result s.was
+    let most = never_more (c.from.result - 1) c.loop-turn.self c.advance-stepped.new.self c.advance-stepped.result s.was s.kept
     (omega (arith, low, high, same, from)) s.steps in
     let len = e.len in
     let was = i.len in

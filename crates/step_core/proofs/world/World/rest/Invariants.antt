@@ -1,4 +1,5 @@
-use Rattle.step_core.specs.Worlds.{half_of}
+use Rattle.step_core.specs.Scenes.{walk_of}
+use Rattle.step_core.specs.Worlds.{scene}
 use Rattle.step_core.proofs.turning.Ending.{IsOn, left}
 use Rattle.step_core.proofs.world.World.rest.Given as goal
 
@@ -6,4 +7,4 @@ abbrev pub invariant-loop-self : goal.invariant-loop-self
 invariant-loop-self l = IsOn l.number l.initial.self l.self
 
 abbrev pub decreases-loop-self : goal.decreases-loop-self
-decreases-loop-self l = left (half_of l.self l.number)
+decreases-loop-self l = left (walk_of (scene l.self) l.number).endings

@@ -1,0 +1,7 @@
+use Rattle.std.proofs.Common.{◌≡◌, take}
+use Rattle.std.specs.Prelude.{sum_by}
+use Rattle.step_core.specs.Bounds.{steps_of}
+use Rattle.step_core.proofs.running.steps_left.Given as goal
+
+abbrev pub invariant-loop-thread : goal.invariant-loop-thread
+invariant-loop-thread l = l.left ≡ sum_by steps_of (take l.thread-index l.threads)

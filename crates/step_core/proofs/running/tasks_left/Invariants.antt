@@ -1,7 +1,0 @@
-use Rattle.std.proofs.Common.{◌≡◌, take}
-use Rattle.std.specs.Prelude.{sum_by}
-use Rattle.step_core.specs.Bounds.{tasks_of}
-use Rattle.step_core.proofs.running.tasks_left.Given as goal
-
-abbrev pub invariant-loop-thread : goal.invariant-loop-thread
-invariant-loop-thread l = l.left ≡ sum_by tasks_of (take l.thread-index l.threads)

@@ -1,0 +1,242 @@
+-- What an act takes from the steps that a thread has left.
+use Rattle.std.proofs.Common.{◌≡◌, ℕ, zero, suc, ◌+◌, ◌*◌, ◌-◌, ◌<◌, ◌≤◌, Bool, true, false, cond, List, [], ◌∷◌, length, get_or, refl, sym, ap, subst, ◌∙◌, arith}
+use Rattle.std.proofs.Common.{get_or-set_same, length-set}
+use Rattle.std.specs.Prelude.{Option, Some, None, is_some, reverse, slice_set, sum_by}
+use Rattle.std.proofs.lemmas.Bool.{cond_both}
+use Rattle.std.proofs.lemmas.List.Sorted.{IsPermutation-reverse, sum_by-IsPermutation}
+use Rattle.std.proofs.lemmas.List.Sums.{sum_by-cons}
+use Rattle.control_word.specs.declared.handle.Kind.{Kind}
+use Rattle.control_word.specs.declared.handle.Kind.TheVariants.{Owner, Weak}
+use Rattle.control_word.specs.State.{State}
+use Rattle.step_core.specs.declared.act.Act.{Act}
+use Rattle.step_core.specs.declared.act.Act.TheVariants.{Make, Share, Downgrade, Lock, Put, Leave, Clear, Count, Expired, Read, FromThis, Alias, Move, Ask}
+use Rattle.step_core.specs.declared.act.Task.{Task}
+use Rattle.step_core.specs.declared.ending.Ending.{Ending}
+use Rattle.step_core.specs.declared.holdings.Pointer.{Pointer}
+use Rattle.step_core.specs.Bounds.{carried, ending_steps, task_steps, walk_steps, weight}
+use Rattle.step_core.specs.Courses.{Walk, hand, idle, placed, settled, slots_idle, taken_idle}
+use Rattle.step_core.specs.Deeds.{is_last, owned}
+use Rattle.step_core.specs.declared.slot.Slot.{Slot}
+use Rattle.step_core.specs.Endings.{staged}
+use Rattle.step_core.specs.Steps.{with_endings}
+use Rattle.step_core.specs.Holdings.{Slots, is_full, plain, pointer_of, slot, value}
+use Rattle.step_core.specs.Entries.{on}
+use Rattle.step_core.specs.Scenes.{begins_end, begins_end_as, ended_by, ended_of, endings_by, hands, left, remains_as, went}
+-- what settling passes over has no steps left
+pub settled_steps : (slots : Slots) (taken : Bool) (es : List Ending) (ts : List Task) → task_steps (settled slots taken es ts).todo ≤ task_steps ts
+settled_steps slots taken es [] = omega arith
+settled_steps slots taken es (t ∷ ts) =
+    let r = settled_steps (slots_idle t.act slots taken) (taken_idle t.act taken) es ts in
+    let s = sum_by-cons (λ (x : Task). weight x.act) t ts in
+    cond_both (idle t.act slots taken) (settled (slots_idle t.act slots taken) (taken_idle t.act taken) es ts)
+    (record { slots = slots; taken = taken; endings = es; todo = t ∷ ts }) (λ (w : Walk). task_steps w.todo ≤ task_steps (t ∷ ts))
+    (λ e. omega (arith, r, s)) (λ e. omega arith)
+
+pub settled_endings : (slots : Slots) (taken : Bool) (es : List Ending) (ts : List Task) → (settled slots taken es ts).endings ≡ es
+settled_endings slots taken es [] = refl
+settled_endings slots taken es (t ∷ ts) =
+    let r = settled_endings (slots_idle t.act slots taken) (taken_idle t.act taken) es ts in
+    cond_both (idle t.act slots taken) (settled (slots_idle t.act slots taken) (taken_idle t.act taken) es ts)
+    (record { slots = slots; taken = taken; endings = es; todo = t ∷ ts }) (λ (w : Walk). w.endings ≡ es) (λ e. r) (λ e. refl)
+
+-- nothing is in hand
+abbrev pub IsFree : Slots → Type 0
+IsFree slots = is_full (slot slots (hand slots)) ≡ false
+
+emptied_at : (slots : Slots) (k : ℕ) → k ≡ hand slots → is_full (slot (slice_set slots k plain) k) ≡ false
+emptied_at [] k e = refl
+emptied_at (x ∷ xs) k e =
+    let lt : k < length (x ∷ xs) = omega (arith, e) in
+    ap (λ (y : Slot). is_full (pointer_of y)) (get_or-set_same (x ∷ xs) k plain plain lt)
+
+-- what is in hand has left, or has gone to its name
+emptied : (slots : Slots) (k : ℕ) → k ≡ hand slots → IsFree (slice_set slots k plain)
+emptied slots k e =
+    let l = length-set slots k plain in
+    let h : hand (slice_set slots k plain) ≡ k = omega (arith, l, e) in
+    subst (λ (i : ℕ). is_full (slot (slice_set slots k plain) i) ≡ false) (sym h) (emptied_at slots k e)
+
+placed_free : (k : ℕ) (slots : Slots) → IsFree (placed k slots)
+placed_free k slots =
+    let l = length-set slots k (value slots (hand slots)) in
+    emptied (slice_set slots k (value slots (hand slots))) (hand slots) (omega (arith, l))
+
+idle_free : (a : Act) (slots : Slots) (taken : Bool) → IsFree slots → IsFree (slots_idle a slots taken)
+idle_free (Put k) slots true free = placed_free k slots
+idle_free (Put k) slots false free = free
+idle_free (Make form) slots taken free = free
+idle_free (Share k) slots taken free = free
+idle_free (Downgrade k) slots taken free = free
+idle_free (Lock k must) slots taken free = free
+idle_free (Leave k) slots taken free = free
+idle_free (Clear k) slots taken free = free
+idle_free (Count k) slots taken free = free
+idle_free (Expired k) slots taken free = free
+idle_free (Read k) slots taken free = free
+idle_free (FromThis k kind) slots taken free = free
+idle_free (Alias k j field) slots taken free = free
+idle_free (Move k) slots taken free = free
+idle_free (Ask q) slots taken free = free
+
+settled_free : (slots : Slots) (taken : Bool) (es : List Ending) (ts : List Task) → IsFree slots → IsFree (settled slots taken es ts).slots
+settled_free slots taken es [] free = free
+settled_free slots taken es (t ∷ ts) free =
+    let r = settled_free (slots_idle t.act slots taken) (taken_idle t.act taken) es ts (idle_free t.act slots taken free) in
+    cond_both (idle t.act slots taken) (settled (slots_idle t.act slots taken) (taken_idle t.act taken) es ts)
+    (record { slots = slots; taken = taken; endings = es; todo = t ∷ ts }) (λ (w : Walk). IsFree w.slots) (λ e. r) (λ e. free)
+
+carried_free : (es : List Ending) (slots : Slots) → IsFree slots → carried es slots ≡ 0
+carried_free [] slots free = refl
+carried_free (e ∷ es) slots free = ap (λ (b : Bool). cond b 1 0) free
+
+-- the objects that end by a pointer's leave
+abbrev pub ends_at : State → Option Pointer → ℕ
+ends_at s o = cond (is_some (ended_by s o)) 1 0
+
+begun_steps : (s : State) (k : ℕ) (es : List Ending) (o : Option Pointer)
+    → sum_by ending_steps (on (λ x. begins_end s k x es) es o) ≡ sum_by ending_steps es + 13 * ends_at s o
+begun_steps s k es None = omega arith
+begun_steps s k es (Some x) = go x.kind (is_last s x)
+  where
+    go : (q : Kind) (b : Bool) → sum_by ending_steps (cond b (begins_end_as q k x es) es)
+        ≡ sum_by ending_steps es + 13 * cond (is_some (cond b (remains_as q (s.object (owned s x))) None)) 1 0
+    go Owner true = let a = sum_by-cons ending_steps (record { block = x.block; stage = 0; statement = k }) es in omega (arith, a)
+    go Owner false = omega arith
+    go Weak true = omega arith
+    go Weak false = omega arith
+
+carried_one : (b : Bool) → cond b 1 0 ≤ 1
+carried_one true = omega arith
+carried_one false = omega arith
+
+begun_carried : (s : State) (k : ℕ) (slots : Slots) (o : Option Pointer) → carried (on (λ x. begins_end s k x []) [] o) slots ≤ ends_at s o
+begun_carried s k slots None = omega arith
+begun_carried s k slots (Some x) = go x.kind (is_last s x)
+  where
+    go : (q : Kind) (b : Bool) → carried (cond b (begins_end_as q k x []) []) slots
+        ≤ cond (is_some (cond b (remains_as q (s.object (owned s x))) None)) 1 0
+    go Owner true = carried_one (is_full (slot slots (hand slots)))
+    go Owner false = omega arith
+    go Weak true = omega arith
+    go Weak false = omega arith
+
+pub weight_two : (a : Act) → 2 ≤ weight a
+weight_two (Make form) = omega arith
+weight_two (Put k) = omega arith
+weight_two (Share k) = omega arith
+weight_two (Downgrade k) = omega arith
+weight_two (Lock k must) = omega arith
+weight_two (Leave k) = omega arith
+weight_two (Clear k) = omega arith
+weight_two (Count k) = omega arith
+weight_two (Expired k) = omega arith
+weight_two (Read k) = omega arith
+weight_two (FromThis k kind) = omega arith
+weight_two (Alias k j field) = omega arith
+weight_two (Move k) = omega arith
+weight_two (Ask q) = omega arith
+
+-- settled without an ending, a thread has the steps of its tasks alone
+pub settled_alone : (slots : Slots) (taken : Bool) (ts : List Task) → walk_steps (settled slots taken [] ts) ≤ task_steps ts
+settled_alone slots taken ts =
+    let s = settled_steps slots taken [] ts in
+    let e = settled_endings slots taken [] ts in
+    let a = ap (λ (l : List Ending). sum_by ending_steps l) e in
+    let b = ap (λ (l : List Ending). carried l (settled slots taken [] ts).slots) e in
+    omega (arith, s, a, b)
+
+-- a thread whose endings are over, at its next task
+pub walk_alone : (w : Walk) (t : Task) (ts : List Task) → w.endings ≡ [] → w.todo ≡ t ∷ ts → walk_steps w ≡ weight t.act + task_steps ts
+walk_alone w t ts none is =
+    let a = ap (λ (l : List Ending). sum_by ending_steps l) none in
+    let b = ap (λ (l : List Ending). carried l w.slots) none in
+    let c = ap task_steps is in
+    let d = sum_by-cons (λ (x : Task). weight x.act) t ts in
+    omega (arith, a, b, c, d)
+
+-- an act of a statement takes two steps, and brings those of the object that it ends
+pub went_steps : (s : State) (d k : ℕ) (w : Walk) (t : Task) (ts : List Task) (a : Act) → w.endings ≡ [] → w.todo ≡ t ∷ ts
+    → walk_steps (went s d w k ts a) + 2 ≤ walk_steps w + 14 * ends_at s (left w.slots a)
+went_steps s d k w t ts a none is =
+    let x = hands s d w.slots w.taken a in
+    let es = endings_by s k w.slots w.endings a in
+    let r = settled_steps x.0 x.1 es ts in
+    let e : es ≡ on (λ p. begins_end s k p []) [] (left w.slots a) = ap (λ (l : List Ending). on (λ p. begins_end s k p l) l (left w.slots a)) none in
+    let f = settled_endings x.0 x.1 es ts ∙ e in
+    let b = ap (λ (l : List Ending). sum_by ending_steps l) f in
+    let c = begun_steps s k [] (left w.slots a) in
+    let g = ap (λ (l : List Ending). carried l (went s d w k ts a).slots) f in
+    let h = begun_carried s k (went s d w k ts a).slots (left w.slots a) in
+    let i = walk_alone w t ts none is in
+    let j = weight_two t.act in
+    omega (arith, r, b, c, g, h, i, j)
+
+-- what came out of a member leaves
+pub carried_leaves : (s : State) (d k : ℕ) (w : Walk) (e : Ending) (es : List Ending) → w.endings ≡ e ∷ es
+    → is_full (slot w.slots (hand w.slots)) ≡ true
+    → walk_steps (went s d w k w.todo (Leave (hand w.slots))) + 1 ≤ walk_steps w + 13 * ends_at s (slot w.slots (hand w.slots))
+carried_leaves s d k w e es is full =
+    let slots = slice_set w.slots (hand w.slots) plain in
+    let new = endings_by s k w.slots w.endings (Leave (hand w.slots)) in
+    let r = settled_steps slots w.taken new w.todo in
+    let f = settled_endings slots w.taken new w.todo in
+    let b = ap (λ (l : List Ending). sum_by ending_steps l) f in
+    let c = begun_steps s k w.endings (slot w.slots (hand w.slots)) in
+    let g = carried_free (settled slots w.taken new w.todo).endings (settled slots w.taken new w.todo).slots
+    (settled_free slots w.taken new w.todo (emptied w.slots (hand w.slots) refl)) in
+    let h = ap (λ (l : List Ending). carried l w.slots) is in
+    let i : carried (e ∷ es) w.slots ≡ 1 = ap (λ (q : Bool). cond q 1 0) full in
+    omega (arith, r, b, c, g, h, i)
+
+-- an act of a statement that nothing leaves by
+pub went_plain : (s : State) (d k : ℕ) (w : Walk) (t : Task) (ts : List Task) (a : Act) → w.endings ≡ [] → w.todo ≡ t ∷ ts
+    → left w.slots a ≡ None → walk_steps (went s d w k ts a) + 2 ≤ walk_steps w
+went_plain s d k w t ts a none is stays =
+    let l = went_steps s d k w t ts a none is in
+    let z : ends_at s (left w.slots a) ≡ 0 = ap (ends_at s) stays in
+    omega (arith, l, z)
+
+-- any act of a statement
+pub went_less : (s : State) (d k : ℕ) (w : Walk) (t : Task) (ts : List Task) (a : Act) → w.endings ≡ [] → w.todo ≡ t ∷ ts
+    → walk_steps (went s d w k ts a) + 1 ≤ walk_steps w + 13 * ends_at s (left w.slots a)
+went_less s d k w t ts a none is =
+    let l = went_steps s d k w t ts a none is in
+    let z = carried_one (is_some (ended_by s (left w.slots a))) in
+    omega (arith, l, z)
+
+-- the ending begun last is over
+pub over_less : (w : Walk) (e : Ending) (es : List Ending) → w.endings ≡ e ∷ es → IsFree w.slots
+    → walk_steps (with_endings w es) + 1 ≤ walk_steps w
+over_less w e es is free =
+    let a = ap (λ (l : List Ending). sum_by ending_steps l) is in
+    let b = sum_by-cons ending_steps e es in
+    let c = carried_free es w.slots free in
+    omega (arith, a, b, c)
+
+-- a member of its object is cleared
+pub staged_most : (w : Walk) (e : Ending) (es : List Ending) → w.endings ≡ e ∷ es → IsFree w.slots
+    → walk_steps (with_endings w (staged e ∷ es)) ≤ walk_steps w
+staged_most w e es is free =
+    let a = ap (λ (l : List Ending). sum_by ending_steps l) is in
+    let b = sum_by-cons ending_steps e es in
+    let c = sum_by-cons ending_steps (staged e) es in
+    let f = carried_free (staged e ∷ es) w.slots free in
+    omega (arith, a, b, c, f)
+
+pub staged_less : (w : Walk) (e : Ending) (es : List Ending) → w.endings ≡ e ∷ es → IsFree w.slots → e.stage < 3
+    → walk_steps (with_endings w (staged e ∷ es)) + 4 ≤ walk_steps w
+staged_less w e es is free lt =
+    let a = ap (λ (l : List Ending). sum_by ending_steps l) is in
+    let b = sum_by-cons ending_steps e es in
+    let c = sum_by-cons ending_steps (staged e) es in
+    let f = carried_free (staged e ∷ es) w.slots free in
+    omega (arith, a, b, c, f, lt)
+
+-- at most one pointer came out of a member, and isn't left yet
+pub carried_most : (es : List Ending) (slots : Slots) → carried es slots ≤ 1
+carried_most [] slots = omega arith
+carried_most (e ∷ es) slots = carried_one (is_full (slot slots (hand slots)))
+
+-- the same endings, the other way round
+pub reversed_steps : (es : List Ending) → sum_by ending_steps (reverse es) ≡ sum_by ending_steps es
+reversed_steps es = sum_by-IsPermutation ending_steps es (reverse es) (IsPermutation-reverse es)

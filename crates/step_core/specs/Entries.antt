@@ -1,0 +1,124 @@
+-- What the acts of threads add to the history. All of it is own but the events, which name their sections.
+use Rattle.std.specs.Prelude.{ℕ, zero, suc, ◌-◌, ◌==◌, min, Bool, true, false, not, cond, List, [], ◌∷◌, get_or, slice_set, Option, Some, None, option_map}
+use Rattle.control_word.specs.declared.event.Entry.{Entry}
+use Rattle.control_word.specs.declared.event.Event.TheVariants as event
+use Rattle.control_word.specs.declared.event.Event.{Event}
+use Rattle.control_word.specs.declared.handle.Handle.{Handle}
+use Rattle.control_word.specs.declared.handle.Kind.{Kind}
+use Rattle.control_word.specs.declared.handle.Kind.TheVariants.{Owner, Weak}
+use Rattle.control_word.specs.declared.place.Place.{Place}
+use Rattle.control_word.specs.declared.refusal.Refusal.TheVariants.{BadWeak, Full, NotEnabled, Null, Outside}
+use Rattle.control_word.specs.Events.{origin, place_at}
+use Rattle.control_word.specs.Handles.{empty, handle, has_object, owner, weak_of, owner_before, same_place}
+use Rattle.control_word.specs.Histories.{entry, leads}
+use Rattle.control_word.specs.State.{Object, Opening, State, Stored, count, weak}
+use Rattle.control_word.specs.Words.{blocks_of}
+use Rattle.step_core.specs.declared.act.Act.{Act}
+use Rattle.step_core.specs.declared.act.Form.{Form}
+use Rattle.step_core.specs.declared.act.Act.TheVariants.{Make, Share, Downgrade, Lock, Put, Leave, Clear, Count, Expired, Read, FromThis, Alias, Move, Ask}
+use Rattle.step_core.specs.declared.act.Question.{Question}
+use Rattle.step_core.specs.declared.act.Question.TheVariants as question
+use Rattle.step_core.specs.declared.act.Task.{Task}
+use Rattle.step_core.specs.declared.call.Field.{Field}
+use Rattle.step_core.specs.declared.ending.Ending.{Ending}
+use Rattle.step_core.specs.declared.extent.Extent.{Extent}
+use Rattle.step_core.specs.declared.holdings.Pointer.{Pointer}
+use Rattle.step_core.specs.declared.said.Answer.{Answer}
+use Rattle.step_core.specs.declared.said.Answer.TheVariants as answer
+use Rattle.step_core.specs.declared.said.Ended.{Ended}
+use Rattle.step_core.specs.declared.said.Ended.TheVariants as ended
+use Rattle.step_core.specs.declared.said.Said.{Said}
+use Rattle.step_core.specs.declared.slot.Slot.TheVariants.{Full, Empty}
+use Rattle.step_core.specs.Courses.{Walk, hand, locked, placed, settled, passed}
+use Rattle.step_core.specs.Deeds.{as_weak, field_of, is_enabled, is_expired, is_last, owned, owner_left, this_as, aliased, at_place}
+use Rattle.step_core.specs.Holdings.{Slots, filled, inside, is_full, place_in, plain, slot, value, owner_slot}
+use Rattle.step_core.specs.declared.slot.Slot.{Slot}
+use Rattle.step_core.specs.Openings.{opening}
+use Rattle.step_core.specs.Stories.{Nothing}
+
+abbrev pub History : Type 0
+History = List (Entry Nothing)
+
+-- the least block in a desk's store
+abbrev pub lesser : ℕ → Option ℕ → Option ℕ
+lesser b None = Some b
+lesser b (Some c) = Some (min b c)
+
+abbrev pub least : ℕ → List Stored → Option ℕ
+least d [] = None
+least d (x ∷ xs) = cond (x.desk == d) (lesser x.block (least d xs)) (least d xs)
+
+-- a pointer as histories name it
+abbrev pub handle_of : State → Pointer → Handle
+handle_of s x = handle x.kind (Some (owned s x)) x.place
+
+abbrev pub on : {A : Type 0} → (Pointer → A) → A → Option Pointer → A
+on f none None = none
+on f none (Some x) = f x
+
+abbrev pub made : ℕ → Form → History → Option ℕ → History
+made d form h None = h
+made d form h (Some b) = entry d (event.Make (record { 0 = b }) form.enabled form.null form.fields tt) ∷ h
+
+-- a pointer leaves; where it is the last owner, its object begins to end
+abbrev pub left_as : Kind → State → Pointer → Bool → Event Nothing
+left_as Owner s x last = event.Leave (owner (owned s x) x.place) last
+left_as Weak s x last = event.WeakLeave (weak_of (owned s x) x.place) last
+
+abbrev pub leaves : Opening → ℕ → History → Pointer → History
+leaves z d h x = let s = leads z h in entry d (left_as x.kind s x (is_last s x)) ∷ h
+
+abbrev pub shared_as : Kind → State → Pointer → Event Nothing
+shared_as Owner s x = event.Share (owner (owned s x) x.place) x.place
+shared_as Weak s x = event.WeakShare (owned s x) x.place
+
+abbrev pub shares : Opening → ℕ → History → Pointer → History
+shares z d h x = let s = leads z h in entry d (shared_as x.kind s x) ∷ h
+
+abbrev pub aliases : Option Place → Opening → ℕ → History → Pointer → History
+aliases p z d h x = entry d (event.Share (owner (owned (leads z h) x) x.place) p) ∷ h
+
+abbrev pub downgrades : Opening → ℕ → History → Pointer → History
+downgrades z d h x = entry d (event.WeakShare (owned (leads z h) x) x.place) ∷ h
+
+abbrev pub locks : Opening → ℕ → History → Pointer → History
+locks z d h x = let s = leads z h in entry d (event.Lock (weak_of (owned s x) x.place) (not (is_expired s x))) ∷ h
+
+abbrev pub counts : Opening → ℕ → History → Pointer → History
+counts z d h x = let s = leads z h in entry d (event.Count (handle_of s x) (count s (owned s x))) ∷ h
+
+abbrev pub expires : Opening → ℕ → History → Pointer → History
+expires z d h x = let s = leads z h in entry d (event.Expired (handle_of s x) (is_expired s x)) ∷ h
+
+abbrev pub reads : Opening → ℕ → History → Pointer → History
+reads z d h x = let s = leads z h in entry d (event.Read (owner (owned s x) x.place) (field_of s x)) ∷ h
+
+-- an owner's object gives a pointer to itself
+abbrev pub given_as : Kind → State → Pointer → Event Nothing
+given_as Owner s x = event.Share (owner (owned s x) x.place) (place_at x.block.0)
+given_as Weak s x = event.WeakShare (owned s x) (place_at x.block.0)
+
+abbrev pub gives : Kind → Opening → ℕ → History → Pointer → History
+gives k z d h x = let s = leads z h in entry d (given_as k s x) ∷ h
+
+-- the pointer whose object gives pointers to itself
+abbrev pub giving : State → Option Pointer → Option Pointer
+giving s None = None
+giving s (Some x) = cond (is_enabled s x) (Some x) None
+
+-- the history after an act of a desk whose thread has this in its slots
+abbrev pub acted : Opening → ℕ → Slots → History → Act → History
+acted z d slots h (Make form) = made d form h (least d (leads z h).stores)
+acted z d slots h (Share k) = on (shares z d h) h (slot slots k)
+acted z d slots h (Put k) = on (leaves z d h) h (slot slots k)
+acted z d slots h (Leave k) = on (leaves z d h) h (slot slots k)
+acted z d slots h (Clear k) = on (leaves z d h) h (slot slots k)
+acted z d slots h (Count k) = on (counts z d h) h (slot slots k)
+acted z d slots h (Downgrade k) = on (downgrades z d h) h (slot slots k)
+acted z d slots h (Lock k must) = on (locks z d h) h (locked slots (Lock k must))
+acted z d slots h (Expired k) = on (expires z d h) h (slot slots k)
+acted z d slots h (Read k) = on (reads z d h) h (inside (slot slots k))
+acted z d slots h (FromThis k kind) = on (gives kind z d h) h (giving (leads z h) (inside (slot slots k)))
+acted z d slots h (Alias k j field) = on (aliases (aliased field (place_in slots j)) z d h) h (owner_slot (slot slots k))
+acted z d slots h (Move k) = h
+acted z d slots h (Ask q) = h
