@@ -17,3 +17,4 @@ pub mod Starts
 pub mod StartStores
 pub mod telling
 pub mod turning
+mod contained

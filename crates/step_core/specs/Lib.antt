@@ -22,3 +22,5 @@ pub mod Starts
 pub mod Told
 pub mod CellDeeds
 pub mod Cells
+pub mod Contents
+pub mod Refills

@@ -30,7 +30,7 @@ fn place_of(cell: Cell, blocks: u32) -> usize
 }
 
 /// Whether two places are one.
-fn is_same_place(one: Option<Place>, other: Option<Place>) -> bool
+pub(crate) fn is_same_place(one: Option<Place>, other: Option<Place>) -> bool
     ensures { result ≡ same_place one other }
 {
     match (one, other) {

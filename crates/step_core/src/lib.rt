@@ -4,11 +4,14 @@
 mod act;
 mod call;
 mod cell_deed;
+mod cell_events;
 #[cfg(test)]
 mod cell_tests;
 mod cells;
 mod census;
 mod clearing;
+mod comparing;
+mod contents;
 mod course;
 mod ending;
 mod extent;
@@ -16,9 +19,12 @@ mod extent;
 mod fund_tests;
 mod funds;
 mod half;
+#[cfg(test)]
+mod holding_tests;
 mod holdings;
 mod leaving;
 mod limits;
+mod loading;
 mod locking;
 mod making;
 #[cfg(test)]
@@ -26,11 +32,13 @@ mod naming_tests;
 mod opening;
 #[cfg(test)]
 mod opening_tests;
+mod others;
 mod past;
 mod pointer;
 mod reading;
 #[cfg(test)]
 mod reading_tests;
+mod refill;
 #[cfg(test)]
 mod run_tests;
 mod running;
@@ -39,6 +47,7 @@ mod slot;
 #[cfg(test)]
 mod step_tests;
 mod stock;
+mod swapping;
 mod table;
 mod taking;
 #[cfg(test)]

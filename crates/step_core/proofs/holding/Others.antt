@@ -114,7 +114,7 @@ enabled_stays v e o (Finish b vacant) le =
 enabled_stays v e o (OnCell x) le = (framed v e x).enabled o
 
 -- the object in a block that a desk keeps is the same
-kept_object : (v : Story) (e : ℕ) (b : Block) (x : Deed) → Kept v → Kept (after v e x) → 0 < weak_number (state v) (object_in v b)
+pub kept_object : (v : Story) (e : ℕ) (b : Block) (x : Deed) → Kept v → Kept (after v e x) → 0 < weak_number (state v) (object_in v b)
     → 0 < weak_number (state (after v e x)) (object_in v b) → object_in (after v e x) b ≡ object_in v b
 kept_object v e b x kept kept' busy busy' =
     let o = object_in v b in
@@ -149,7 +149,7 @@ holds_others d slots v e x n kept kept' holds =
       formed = holds.formed;
     }
 
-same_pending : (v : Story) (e d : ℕ) (x : Deed) → e ≢ d → pending (after v e x) d ≡ pending v d
+pub same_pending : (v : Story) (e d : ℕ) (x : Deed) → e ≢ d → pending (after v e x) d ≡ pending v d
 same_pending v e d x n = ap (λ (w : View Nothing). w.pending) (get_or-set_other v.views e d _ used_up (λ (q : d ≡ e). n (sym q)))
 
 -- another desk's deed leaves a store
