@@ -1,5 +1,5 @@
 -- What the acts of threads add to the history. All of it is own but the events, which name their sections.
-use Rattle.std.specs.Prelude.{ℕ, zero, suc, ◌-◌, ◌==◌, min, Bool, true, false, not, cond, List, [], ◌∷◌, get_or, slice_set, Option, Some, None, option_map}
+use Rattle.std.specs.Prelude.{ℕ, ◌==◌, min, Bool, not, cond, List, [], ◌∷◌, Option, Some, None}
 use Rattle.control_word.specs.declared.event.Entry.{Entry}
 use Rattle.control_word.specs.declared.event.Event.TheVariants as event
 use Rattle.control_word.specs.declared.event.Event.{Event}
@@ -7,33 +7,17 @@ use Rattle.control_word.specs.declared.handle.Handle.{Handle}
 use Rattle.control_word.specs.declared.handle.Kind.{Kind}
 use Rattle.control_word.specs.declared.handle.Kind.TheVariants.{Owner, Weak}
 use Rattle.control_word.specs.declared.place.Place.{Place}
-use Rattle.control_word.specs.declared.refusal.Refusal.TheVariants.{BadWeak, Full, NotEnabled, Null, Outside}
-use Rattle.control_word.specs.Events.{origin, place_at}
-use Rattle.control_word.specs.Handles.{empty, handle, has_object, owner, weak_of, owner_before, same_place}
+use Rattle.control_word.specs.Events.{place_at}
+use Rattle.control_word.specs.Handles.{handle, owner, weak_of}
 use Rattle.control_word.specs.Histories.{entry, leads}
-use Rattle.control_word.specs.State.{Object, Opening, State, Stored, count, weak}
-use Rattle.control_word.specs.Words.{blocks_of}
+use Rattle.control_word.specs.State.{Opening, State, Stored, count}
 use Rattle.step_core.specs.declared.act.Act.{Act}
 use Rattle.step_core.specs.declared.act.Form.{Form}
 use Rattle.step_core.specs.declared.act.Act.TheVariants.{Make, Share, Downgrade, Lock, Put, Leave, Clear, Count, Expired, Read, FromThis, Alias, Move, Ask}
-use Rattle.step_core.specs.declared.act.Question.{Question}
-use Rattle.step_core.specs.declared.act.Question.TheVariants as question
-use Rattle.step_core.specs.declared.act.Task.{Task}
-use Rattle.step_core.specs.declared.call.Field.{Field}
-use Rattle.step_core.specs.declared.ending.Ending.{Ending}
-use Rattle.step_core.specs.declared.extent.Extent.{Extent}
 use Rattle.step_core.specs.declared.holdings.Pointer.{Pointer}
-use Rattle.step_core.specs.declared.said.Answer.{Answer}
-use Rattle.step_core.specs.declared.said.Answer.TheVariants as answer
-use Rattle.step_core.specs.declared.said.Ended.{Ended}
-use Rattle.step_core.specs.declared.said.Ended.TheVariants as ended
-use Rattle.step_core.specs.declared.said.Said.{Said}
-use Rattle.step_core.specs.declared.slot.Slot.TheVariants.{Full, Empty}
-use Rattle.step_core.specs.Courses.{Walk, hand, locked, placed, settled, passed}
-use Rattle.step_core.specs.Deeds.{as_weak, field_of, is_enabled, is_expired, is_last, owned, owner_left, this_as, aliased, at_place}
-use Rattle.step_core.specs.Holdings.{Slots, filled, inside, is_full, place_in, plain, slot, value, owner_slot}
-use Rattle.step_core.specs.declared.slot.Slot.{Slot}
-use Rattle.step_core.specs.Openings.{opening}
+use Rattle.step_core.specs.Courses.{locked}
+use Rattle.step_core.specs.Deeds.{field_of, is_enabled, is_expired, is_last, owned, aliased}
+use Rattle.step_core.specs.Holdings.{Slots, inside, place_in, slot, owner_slot}
 use Rattle.step_core.specs.Stories.{Nothing}
 
 abbrev pub History : Type 0

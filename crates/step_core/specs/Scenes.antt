@@ -1,20 +1,17 @@
 -- What the acts of threads make of the history, act by act. All of it is own but the events, which name their sections.
-use Rattle.std.specs.Prelude.{ℕ, zero, suc, ◌-◌, ◌==◌, min, Bool, true, false, not, cond, List, [], ◌∷◌, get_or, slice_set, Option, Some, None, option_map}
-use Rattle.control_word.specs.declared.event.Entry.{Entry}
+use Rattle.std.specs.Prelude.{ℕ, zero, suc, ◌-◌, ◌==◌, Bool, true, false, not, cond, List, [], ◌∷◌, get_or, slice_set, Option, Some, None, option_map}
 use Rattle.control_word.specs.declared.event.Event.TheVariants as event
-use Rattle.control_word.specs.declared.event.Event.{Event}
 use Rattle.control_word.specs.declared.handle.Handle.{Handle}
 use Rattle.control_word.specs.declared.handle.Kind.{Kind}
 use Rattle.control_word.specs.declared.handle.Kind.TheVariants.{Owner, Weak}
 use Rattle.control_word.specs.declared.place.Place.{Place}
 use Rattle.control_word.specs.declared.refusal.Refusal.TheVariants.{BadWeak, Full, NotEnabled, Null, Outside}
-use Rattle.control_word.specs.Events.{origin, place_at}
-use Rattle.control_word.specs.Handles.{empty, handle, has_object, owner, weak_of, owner_before, same_place}
+use Rattle.control_word.specs.Events.{origin}
+use Rattle.control_word.specs.Handles.{empty, has_object, owner_before, same_place}
 use Rattle.control_word.specs.Histories.{entry, leads}
-use Rattle.control_word.specs.State.{Object, Opening, State, Stored, count, weak}
+use Rattle.control_word.specs.State.{Object, Opening, State, count, weak}
 use Rattle.control_word.specs.Words.{blocks_of}
 use Rattle.step_core.specs.declared.act.Act.{Act}
-use Rattle.step_core.specs.declared.act.Form.{Form}
 use Rattle.step_core.specs.declared.act.Act.TheVariants.{Make, Share, Downgrade, Lock, Put, Leave, Clear, Count, Expired, Read, FromThis, Alias, Move, Ask}
 use Rattle.step_core.specs.declared.act.Question.{Question}
 use Rattle.step_core.specs.declared.act.Question.TheVariants as question
@@ -34,8 +31,7 @@ use Rattle.step_core.specs.Deeds.{as_weak, field_of, is_enabled, is_expired, is_
 use Rattle.step_core.specs.Holdings.{Slots, filled, inside, is_full, place_in, plain, slot, value, owner_slot}
 use Rattle.step_core.specs.declared.slot.Slot.{Slot}
 use Rattle.step_core.specs.Openings.{opening}
-use Rattle.step_core.specs.Stories.{Nothing}
-use Rattle.step_core.specs.Entries.{History, lesser, least, handle_of, on, leaves, giving, acted}
+use Rattle.step_core.specs.Entries.{History, least, handle_of, on, giving, acted}
 
 -- the history so far, and where each thread is
 pub record Scene : Type 0 where
