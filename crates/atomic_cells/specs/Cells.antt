@@ -1,5 +1,5 @@
 -- What the calls on cells say ([util.smartptr.atomic.shared], [util.smartptr.atomic.weak]).
-use Rattle.std.specs.Prelude.{◌≡◌, ℕ, ◌+◌, Bool, true, false, Option, None, Some}
+use Rattle.std.specs.Prelude.{◌≡◌, ◌+◌, Bool, cond, length, Option}
 use Rattle.control_word.specs.declared.event.Cell.{Cell}
 use Rattle.control_word.specs.declared.event.Event.TheVariants.{Load, Swap}
 use Rattle.control_word.specs.declared.handle.Kind.{Kind}
@@ -7,7 +7,7 @@ use Rattle.control_word.specs.declared.handle.Kind.TheVariants.{Owner, Weak}
 use Rattle.control_word.specs.declared.place.Block.{Block}
 use Rattle.control_word.specs.declared.place.Place.{Place}
 use Rattle.control_block.specs.CellCalls.{handle_in}
-use Rattle.control_block.specs.Desks.{Adds, DeskNow}
+use Rattle.control_block.specs.Desks.{Adds, DeskNow, stock_of}
 use Rattle.shared_handle.specs.Calls.{LeavesWeakly}
 use Rattle.shared_handle.specs.Endings.{IsGone, IsLeft}
 use Rattle.shared_handle.specs.declared.endings.Left.{Left}
@@ -21,7 +21,7 @@ module _ {V : Type 0} where
   abbrev pub Exchanges : DeskNow V → Cell → Kind → Option Block → Option Place → Option Block → Option Place → DeskNow V → Type 0
   Exchanges d c k b p a q e = Adds d (Swap c (handle_in d k b p) (handle_in e k a q)) e
 
-  -- the same, and then what came out left
+  -- the same, and then what came out, (block, place), left
   pub record Stores (d : DeskNow V) (c : Cell) (b : Option Block) (p : Option Place) (left : Left V) (e : DeskNow V) : Type 0 where
     pub block : Option Block
     pub place : Option Place
@@ -29,6 +29,7 @@ module _ {V : Type 0} where
     pub exchanges : Exchanges d c Owner b p block place between
     pub leaves : IsLeft between block place left e
 
+  -- the same of a weak one; whether the block of what came out is vacant now, and in the desk's store
   pub record StoresWeakly (d : DeskNow V) (c : Cell) (b : Option Block) (p : Option Place) (left : Left V) (e : DeskNow V) : Type 0 where
     pub block : Option Block
     pub place : Option Place
@@ -37,3 +38,4 @@ module _ {V : Type 0} where
     pub vacant : Bool
     pub leaves : LeavesWeakly between block place vacant e
     pub told : IsGone block left
+    pub stock : length (stock_of e) ≡ length (stock_of d) + cond vacant 1 0

@@ -1,11 +1,12 @@
 -- What a compare-and-swap says ([util.smartptr.atomic.shared], [util.smartptr.atomic.weak]).
-use Rattle.std.specs.Prelude.{◌≡◌, ℕ, Bool, true, false, Option}
+use Rattle.std.specs.Prelude.{◌≡◌, Bool, cond, List, true, false, Option}
 use Rattle.control_word.specs.declared.event.Cell.{Cell}
 use Rattle.control_word.specs.declared.event.Event.TheVariants.{Compare}
+use Rattle.control_word.specs.declared.handle.Handle.{Handle}
 use Rattle.control_word.specs.declared.handle.Kind.{Kind}
 use Rattle.control_word.specs.declared.place.Block.{Block}
 use Rattle.control_word.specs.declared.place.Place.{Place}
-use Rattle.control_block.specs.CellCalls.{handle_in}
+use Rattle.control_block.specs.CellCalls.{handle_in, with_handle, without_handle}
 use Rattle.control_block.specs.Desks.{Adds, DeskNow}
 use Rattle.atomic_cells.specs.declared.compared.Compared.{Compared}
 use Rattle.atomic_cells.specs.declared.compared.Compared.TheVariants.{Differs, Swapped}
@@ -23,6 +24,10 @@ has_swapped (Differs held desired) = false
 abbrev pub GivesBack : {H : Type 0} → H → Compared H → Type 0
 GivesBack d (Swapped old) = Unit {0}
 GivesBack d (Differs held desired) = desired ≡ d
+
+-- a bag after a compare: where it swapped, (b, p) went out of it; and what the cell held, (c, q), is in it
+abbrev pub bag_compared : Bool → Kind → Option Block → Option Place → Option Block → Option Place → List Handle → List Handle
+bag_compared swapped k b p c q l = with_handle k c q (cond swapped (without_handle k b p l) l)
 
 module _ {V : Type 0} where
   -- cell at was compared with (eb, ep): where it held an equivalent pointer, (b, p) went in, and (c, q) is what it held. The

@@ -7,8 +7,8 @@ ghost use Rattle.shared_handle.specs.Calls.{Holds, without_handle};
 ghost use Rattle.shared_handle.specs.Endings.{Ends};
 
 use crate::SharedMember;
-use crate::member_tests::{Found, end_of, put_in, told};
-use crate::tests::{Was, drop_owner, object, shape, shut};
+use crate::member_tests::put_in;
+use crate::test_parts::{Found, Was, drop_owner, end_of, object, shape, shut, told};
 use control_block::desk::Desk;
 use control_block::domain::{Domain, open};
 use shared_handle::{Ending, Left, Member, Shared, release};

@@ -6,7 +6,7 @@ ghost use Rattle.control_block.specs.CellCalls.{Belongs};
 ghost use Rattle.control_block.specs.Desks.{IsSameDesk, bag_of};
 ghost use Rattle.shared_handle.specs.Calls.{Holds, without_handle};
 
-use crate::tests::{drop_owner, object, put_copy, put_weak, shape, shut, tell};
+use crate::test_parts::{drop_owner, object, put_copy, put_weak, shape, shut, tell};
 use crate::{Compared, SharedAt, WeakAt};
 use control_block::desk::Desk;
 use control_block::domain::{Domain, open};

@@ -5,7 +5,7 @@ ghost use Rattle.control_block.specs.CellCalls.{Belongs};
 ghost use Rattle.control_block.specs.Desks.{IsSameDesk, stock_of};
 
 use crate::race_tests::{pair, part};
-use crate::tests::shape;
+use crate::test_parts::shape;
 use control_block::census::close;
 use control_block::desk::Desk;
 use control_block::domain::{Domain, open};

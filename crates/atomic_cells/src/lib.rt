@@ -25,6 +25,8 @@ mod shared_at;
 mod shared_compares;
 mod sites;
 #[cfg(test)]
+mod test_parts;
+#[cfg(test)]
 mod tests;
 mod weak_at;
 mod weak_compares;

@@ -8,7 +8,7 @@ ghost use Rattle.shared_handle.specs.Calls.{Holds, without_handle};
 
 use crate::cascade_tests::{Both, leave_both};
 use crate::member_tests::tell_in;
-use crate::tests::{Was, drop_owner, object, shape, shut};
+use crate::test_parts::{Was, drop_owner, object, shape, shut};
 use crate::{Compared, SharedAt, SharedMember};
 use control_block::desk::Desk;
 use control_block::domain::{Domain, open};

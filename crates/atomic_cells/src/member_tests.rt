@@ -3,32 +3,17 @@ ghost use Rattle.std.specs.Prelude.{◌≡◌, ◌+◌, IfSome, Some};
 ghost use Rattle.control_word.specs.declared.place.Block.{Block};
 ghost use Rattle.control_word.specs.declared.handle.Kind.TheVariants.{Owner, Weak};
 ghost use Rattle.control_block.specs.CellCalls.{Belongs};
-ghost use Rattle.control_block.specs.Desks.{IsSameDesk, KeepsOtherEndings, bag_of};
+ghost use Rattle.control_block.specs.Desks.{IsSameDesk, bag_of};
 ghost use Rattle.shared_handle.specs.Calls.{Holds, with_handle, without_handle};
-ghost use Rattle.shared_handle.specs.Endings.{Ends};
 
-use crate::tests::{Was, drop_owner, object, shape, shut};
+use crate::test_parts::{Found, Was, drop_owner, end_of, object, shape, shut, told};
 use crate::{SharedAt, SharedMember, WeakAt};
 use control_block::desk::Desk;
 use control_block::domain::{Domain, open};
 use control_block::handles;
-use shared_handle::{
-    Ending, Left, Member, Shared, downgrade, read, release, release_weak, share, use_count,
-};
+use shared_handle::{Left, Shared, downgrade, read, release, release_weak, share, use_count};
 use std::sync::Wait;
 use std::test::Fail;
-
-// What was left of what a cell held; nothing here ends in another's member.
-pub(crate) fn told(left: Left<u64>) -> Was {
-    match left {
-        Left::Empty => Was::Empty,
-        Left::Others => Was::Others,
-        Left::Last(ending) => {
-            ending.forget();
-            Was::Last
-        }
-    }
-}
 
 // An owner goes into a member of the whole: what the store found.
 #[tactic(auto, using(crate::proofs::Members::member_open))]
@@ -104,26 +89,6 @@ pub(crate) fn tell_in<R: Wait>(
     let owners = use_count(domain, desk, &owner);
     drop_owner(domain, desk, owner);
     Some((field, owners))
-}
-
-// What an object's end finds: in first, next and up, and its value.
-pub(crate) type Found = (Was, Was, Was, u64);
-
-// The end of an object whose members are the last owners of none.
-pub(crate) fn end_of(domain: &Domain<u64>, desk: &mut Desk<u64>, ending: Ending<u64>) -> Found
-    requires domain { desk.old.domain ≡ domain.now.id }
-    requires ends { Ends desk.old ending }
-    ensures desk { IsSameDesk desk.old desk.new }
-    ensures bag { bag_of desk.new ≡ bag_of desk.old }
-    ensures held { desk.new.held ≡ desk.old.held }
-    ensures endings { KeepsOtherEndings desk.old ending.block.0 desk.new }
-{
-    let mut ending = ending;
-    let first = ending.clear_member(domain, desk, Member::First);
-    let next = ending.clear_member(domain, desk, Member::Next);
-    let up = ending.clear_member(domain, desk, Member::Up);
-    let value = ending.finish(domain, desk);
-    (told(first), told(next), told(up), value)
 }
 
 // The last owner leaves: what its object's end finds.

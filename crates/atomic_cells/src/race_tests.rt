@@ -6,7 +6,7 @@ ghost use Rattle.control_block.specs.CellCalls.{Belongs};
 ghost use Rattle.control_block.specs.Desks.{IsSameDesk, allowance_of, bag_of, stock_of};
 ghost use Rattle.shared_handle.specs.Calls.{Holds};
 
-use crate::tests::{Was, drop_owner, exchange_copy, object, put_copy, shape, tell};
+use crate::test_parts::{Was, drop_owner, exchange_copy, object, put_copy, shape, tell};
 use control_block::census::close;
 use control_block::desk::Desk;
 use control_block::domain::{Domain, open};

@@ -6,7 +6,7 @@ ghost use Rattle.control_block.specs.CellCalls.{Belongs};
 ghost use Rattle.control_block.specs.Desks.{IsSameDesk, bag_of};
 ghost use Rattle.shared_handle.specs.Calls.{with_handle};
 
-use crate::tests::{Was, drop_owner, object, put_copy, shape, shut};
+use crate::test_parts::{Was, drop_owner, object, put_copy, shape, shut};
 use crate::{Compared, SharedAt};
 use control_block::desk::Desk;
 use control_block::domain::{Domain, open};

@@ -10,7 +10,7 @@ ghost use Rattle.shared_handle.specs.Calls.{Holds};
 
 use crate::SharedAt;
 use crate::race_tests::part;
-use crate::tests::{Was, drop_owner, object, put, shape, shut, tell};
+use crate::test_parts::{Was, drop_owner, object, put, shape, shut, tell};
 use control_block::desk::Desk;
 use control_block::domain::{Domain, open};
 use shared_handle::{Shared, read, share, use_count};

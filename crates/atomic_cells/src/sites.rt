@@ -1,11 +1,13 @@
 //! Which cells there are: free ones, and the members of objects.
 ghost use Rattle.std.specs.Prelude.{◌≡◌};
 ghost use Rattle.control_word.specs.declared.handle.Kind.TheVariants.{Owner};
-ghost use Rattle.atomic_cells.specs.Sites.{shared_site};
+ghost use Rattle.control_word.specs.declared.place.Block.{Block};
+ghost use Rattle.atomic_cells.specs.Sites.{IsMember, shared_site};
 
 use control_block::cell_calls::{CellAt, Site};
-use control_word::Block;
 use control_word::handle::Kind;
+use control_word::{Block, Refusal};
+use shared_handle::Shared;
 
 /// The two members of an object that hold shared pointers (own).
 #[derive(Clone, Copy, Drop)]
@@ -26,6 +28,20 @@ pub(crate) enum SharedSite {
 pub(crate) enum WeakSite {
     Free(u32),
     Up(Block),
+}
+
+/// The block of the object that the handle owns and points into: `Null` where its place is null, and `Outside` where that
+/// isn't in the object that it owns.
+pub(crate) fn block_within(handle: &Shared) -> Result<Block, Refusal>
+    ensures { IsMember (λ c (b : Block). b ≡ c) handle.now.block handle.now.place result }
+{
+    let Some(place) = handle.place() else {
+        return Err(Refusal::Null);
+    };
+    if handle.block() != Some(place.block) {
+        return Err(Refusal::Outside);
+    }
+    Ok(place.block)
 }
 
 pub(crate) fn shared_cell(site: SharedSite) -> CellAt

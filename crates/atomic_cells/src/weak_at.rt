@@ -2,14 +2,14 @@
 ghost use Rattle.std.specs.Prelude.{◌≡◌, ◌↔◌, ◌+◌, IfErr, IfOk, IsErr, OnOk};
 ghost use Rattle.control_word.specs.declared.handle.Kind.TheVariants.{Weak};
 ghost use Rattle.control_block.specs.CellCalls.{Belongs};
-ghost use Rattle.control_block.specs.Desks.{IsSameDesk, Keeps, KeepsEndings, allowance_of, bag_of, held_of};
+ghost use Rattle.control_block.specs.Desks.{IsSameDesk, Keeps, KeepsEndings, allowance_of, bag_of, endings_of, held_of};
 ghost use Rattle.shared_handle.specs.Calls.{Holds, with_handle, without_handle};
 ghost use Rattle.atomic_cells.specs.Cells.{Exchanges, Loads, StoresWeakly};
 ghost use Rattle.atomic_cells.specs.Sites.{IsFewWeak, IsMember, IsOpenWeakly, weak_cell, weak_site};
 ghost use Rattle.atomic_cells.specs.declared.sites.WeakSite.TheVariants as site;
 ghost use Rattle.atomic_cells.specs.declared.weak_at.WeakAt.{WeakAt};
 
-use crate::sites::WeakSite;
+use crate::sites::{WeakSite, block_within};
 use control_block::cell_calls::{self, CellAt, Content, Site};
 use control_block::desk::Desk;
 use control_block::domain::Domain;
@@ -45,14 +45,9 @@ impl<'a> WeakAt<'a> {
     pub fn member(handle: &'a Shared) -> Result<WeakAt<'a>, Refusal>
         ensures { IsMember (λ c (at : WeakAt). at.site ≡ site.Up c) handle.now.block handle.now.place result }
     {
-        let Some(place) = handle.place() else {
-            return Err(Refusal::Null);
-        };
-        if handle.block() != Some(place.block) {
-            return Err(Refusal::Outside);
-        }
+        let block = block_within(handle)?;
         Ok(WeakAt {
-            site: WeakSite::Up(place.block),
+            site: WeakSite::Up(block),
             owner: PhantomData,
         })
     }
@@ -73,6 +68,7 @@ impl<'a> WeakAt<'a> {
 
     /// A copy of what the cell holds ([util.smartptr.atomic.weak]), from its one step on the cell. It tries again while
     /// others change the cell. It is refused `Limit` just where the desk is at its allowance, and then nothing changes.
+    #[inline(always)]
     pub fn load<V: Drop + Send, R: Wait>(
         &self,
         rt: &R,
@@ -94,7 +90,8 @@ impl<'a> WeakAt<'a> {
     }
 
     /// The pointer goes into the cell, and what the cell held comes out ([util.smartptr.atomic.weak]), in one step on the
-    /// cell. It waits for nobody.
+    /// cell. It waits for nobody, and refuses nothing.
+    #[inline]
     pub fn exchange<V: Drop + Send>(
         &self,
         domain: &Domain<V>,
@@ -121,7 +118,9 @@ impl<'a> WeakAt<'a> {
     }
 
     /// The pointer goes into the cell, and what the cell held leaves ([util.smartptr.atomic.weak]): it answers `Empty` where
-    /// that was an empty one, and else `Others`. It waits for nobody.
+    /// that was an empty one, and else `Others` (own). Where that was the last handle of an object that is gone, its block is
+    /// vacant, and in the desk's store. It waits for nobody, and refuses nothing.
+    #[inline]
     #[tactic(auto, using(shared_handle::proofs::Taken::first_out))]
     pub fn store<V: Drop + Send>(
         &self,
@@ -137,6 +136,7 @@ impl<'a> WeakAt<'a> {
         ensures held { desk.new.held + 1 ≡ desk.old.held }
         ensures desk { IsSameDesk desk.old desk.new }
         ensures endings { KeepsEndings desk.old desk.new }
+        ensures count { endings_of desk.new ≡ endings_of desk.old }
     {
         let old = self.exchange(domain, desk, handle);
         let left = if old.block().is_some() {

@@ -3,8 +3,8 @@ ghost use Rattle.std.specs.Prelude.{◌≡◌, ◌↔◌, ◌+◌, cond, true, f
 ghost use Rattle.control_word.specs.declared.handle.Kind.TheVariants.{Weak};
 ghost use Rattle.control_block.specs.CellCalls.{Belongs, handle_in};
 ghost use Rattle.control_block.specs.Desks.{Keeps, allowance_of, bag_of, held_of};
-ghost use Rattle.shared_handle.specs.Calls.{Holds, with_handle, without_handle};
-ghost use Rattle.atomic_cells.specs.Compares.{Compares, GivesBack, came_out, has_swapped};
+ghost use Rattle.shared_handle.specs.Calls.{Holds};
+ghost use Rattle.atomic_cells.specs.Compares.{Compares, GivesBack, bag_compared, came_out, has_swapped};
 ghost use Rattle.atomic_cells.specs.Sites.{IsOpenWeakly, weak_cell};
 
 use crate::compared::Compared;
@@ -38,8 +38,8 @@ impl<'a> WeakAt<'a> {
         ensures compared { IfOk result (λ c. let h = came_out c in
             Compares desk.old (weak_cell desk.old self.now.site) Weak expected.now.block expected.now.place desired.block desired.place (has_swapped c) h.block h.place A.weak desk.new) }
         ensures back { IfOk result (λ c. GivesBack desired c) }
-        ensures bag { IfOk result (λ c. bag_of desk.new ≡ with_handle Weak (came_out c).block (came_out c).place
-            (cond (has_swapped c) (without_handle Weak desired.block desired.place (bag_of desk.old)) (bag_of desk.old))) }
+        ensures bag { IfOk result (λ c. let h = came_out c in
+            bag_of desk.new ≡ bag_compared (has_swapped c) Weak desired.block desired.place h.block h.place (bag_of desk.old)) }
         ensures held { IfOk result (λ c. desk.new.held ≡ desk.old.held + cond (has_swapped c) 0 1) }
         ensures holds { IfOk result (λ c. Holds desk.new Weak (came_out c).block (came_out c).place) }
         ensures keeps { OnOk result (Keeps desk.old desk.new) }
@@ -94,8 +94,8 @@ impl<'a> WeakAt<'a> {
         ensures compared { IfOk result (λ c. let h = came_out c in
             Compares desk.old (weak_cell desk.old self.now.site) Weak expected.now.block expected.now.place desired.block desired.place (has_swapped c) h.block h.place false desk.new) }
         ensures back { IfOk result (λ c. GivesBack desired c) }
-        ensures bag { IfOk result (λ c. bag_of desk.new ≡ with_handle Weak (came_out c).block (came_out c).place
-            (cond (has_swapped c) (without_handle Weak desired.block desired.place (bag_of desk.old)) (bag_of desk.old))) }
+        ensures bag { IfOk result (λ c. let h = came_out c in
+            bag_of desk.new ≡ bag_compared (has_swapped c) Weak desired.block desired.place h.block h.place (bag_of desk.old)) }
         ensures held { IfOk result (λ c. desk.new.held ≡ desk.old.held + cond (has_swapped c) 0 1) }
         ensures holds { IfOk result (λ c. Holds desk.new Weak (came_out c).block (came_out c).place) }
         ensures keeps { OnOk result (Keeps desk.old desk.new) }
@@ -120,8 +120,8 @@ impl<'a> WeakAt<'a> {
         ensures compared { IfOk result (λ c. let h = came_out c in
             Compares desk.old (weak_cell desk.old self.now.site) Weak expected.now.block expected.now.place desired.block desired.place (has_swapped c) h.block h.place true desk.new) }
         ensures back { IfOk result (λ c. GivesBack desired c) }
-        ensures bag { IfOk result (λ c. bag_of desk.new ≡ with_handle Weak (came_out c).block (came_out c).place
-            (cond (has_swapped c) (without_handle Weak desired.block desired.place (bag_of desk.old)) (bag_of desk.old))) }
+        ensures bag { IfOk result (λ c. let h = came_out c in
+            bag_of desk.new ≡ bag_compared (has_swapped c) Weak desired.block desired.place h.block h.place (bag_of desk.old)) }
         ensures held { IfOk result (λ c. desk.new.held ≡ desk.old.held + cond (has_swapped c) 0 1) }
         ensures holds { IfOk result (λ c. Holds desk.new Weak (came_out c).block (came_out c).place) }
         ensures keeps { OnOk result (Keeps desk.old desk.new) }

@@ -1,12 +1,17 @@
+pub mod Acting
 pub mod Answering
 pub mod ClosingLemmas
 pub mod EndLemmas
 pub mod LineLemmas
+pub mod OneTurn
 pub mod Overs
 pub mod RunLemmas
 pub mod StepLemmas
 pub mod StepRunLemmas
+pub mod Tallies
 pub mod TraceLemmas
 pub mod TurnBounds
 pub mod TurnLemmas
+pub mod TurnsLeft
+pub mod Unwinding
 pub mod Writing

@@ -1,6 +1,6 @@
 -- Turns of a world, one after the other.
 use Rattle.std.proofs.Common.{◌≡◌, ℕ, zero, suc, ◌+◌, ◌-◌, ◌<◌, ◌≤◌, List, [], ◌∷◌, ◌++◌, replicate, length, get_or, refl, sym, ◌∙◌, ap}
-use Rattle.std.proofs.Common.{subst, arith, append_assoc, take, true, false}
+use Rattle.std.proofs.Common.{subst, arith, append_assoc, take, false}
 use Rattle.std.specs.Prelude.{Option, Some, None, is_some}
 use Rattle.std.specs.List.{flat_map}
 use Rattle.std.proofs.lemmas.Grind.{flat_map-append}
@@ -9,12 +9,12 @@ use Rattle.script_text.specs.Grammar.{ended}
 use Rattle.std.proofs.lemmas.List.{append-nil}
 use Rattle.script_text.proofs.PrintLemmas.{ended-append}
 use Rattle.step_core.specs.declared.said.Said.{Said}
-use Rattle.step_core.specs.Scenes.{Scene, said, walk_of}
+use Rattle.step_core.specs.Scenes.{Scene, next, said, walk_of}
 use Rattle.step_core.specs.Worlds.{Sight, scene}
 use Rattle.script_stepper.specs.Lines.{item_lines}
-use Rattle.script_stepper.specs.Running.{AllRest, HasRun, IsThread}
+use Rattle.script_stepper.specs.Running.{AllRest, HasRun, IsThread, turns_left}
 use Rattle.script_stepper.specs.Traces.{Item, plays, told}
-use Rattle.script_stepper.proofs.TraceLemmas.{idle_plays, idle_told, play_less, plays-append, plays_size}
+use Rattle.script_stepper.proofs.TraceLemmas.{idle_plays, idle_told, plays-append, plays_size}
 use Rattle.script_stepper.proofs.TraceLemmas.{said_none, told-append}
 
 pub run_then : (xs ys : List ℕ) (u v w : Sight) (a b e : List ℕ) → HasRun xs u v a b → HasRun ys v w b e → HasRun (xs ++ ys) u w a e
@@ -31,6 +31,7 @@ run_then xs ys u v w a b e p q =
           (sym (ended-append (flat_map item_lines (told xs (scene u))) (flat_map item_lines (told ys (plays xs (scene u))))))
           ∙ ap (λ (t : List (List ℕ)). a ++ ended t) (sym (flat_map-append item_lines (told xs (scene u)) (told ys (plays xs (scene u)))))
           ∙ ap (λ (t : List Item). a ++ ended (flat_map item_lines t)) (sym (told-append xs ys (scene u)));
+      most = λ d. let l = p.most d in let m = q.most d in omega (arith, l, m);
     }
 
 pub run_same : (xs ys : List ℕ) (u v : Sight) (a b : List ℕ) → xs ≡ ys → HasRun xs u v a b → HasRun ys u v a b
@@ -55,30 +56,15 @@ replicate_then zero j t = let e : zero + j ≡ j = omega arith in ap (λ (n : �
 replicate_then (suc k) j t =
     let e : suc k + j ≡ suc (k + j) = omega arith in ap (λ (n : ℕ). replicate n t) e ∙ ap (λ (l : List ℕ). t ∷ l) (replicate_then k j t)
 
--- so far a thread took turns alone, each of which left less to do
+-- so far a thread took turns alone, each of which left it fewer
 pub record Alone (thread : ℕ) (u v : Sight) (a b : List ℕ) : Type 0 where
   pub turns : ℕ
   pub run : HasRun (replicate turns thread) u v a b
-  pub less : turns + length (walk_of (scene v) (thread - 1)).todo ≤ length (walk_of (scene u) (thread - 1)).todo
+  pub less : turns + turns_left (thread - 1) (scene v) ≤ turns_left (thread - 1) (scene u)
 
-is_less : (thread : ℕ) (v w : Sight) (b e : List ℕ) (x : Option Said) → IsThread v thread → HasRun (thread ∷ []) v w b e
-    → x ≡ said (thread - 1) (scene v) → is_some x ≡ true
-    → length (walk_of (scene w) (thread - 1)).todo < length (walk_of (scene v) (thread - 1)).todo
-is_less thread v w b e None t h q s = absurd cc
-is_less thread v w b e (Some x) t h q s =
-    let k = play_less (thread - 1) (scene v) x (omega (arith, t.0, t.1)) q in
-    subst (λ (c : Scene). length (walk_of c (thread - 1)).todo < length (walk_of (scene v) (thread - 1)).todo) (sym h.scene_is) k
-
-pub alone_less : (thread : ℕ) (v w : Sight) (b e : List ℕ) → IsThread v thread → HasRun (thread ∷ []) v w b e
-    → true ≡ is_some (said (thread - 1) (scene v))
-    → length (walk_of (scene w) (thread - 1)).todo < length (walk_of (scene v) (thread - 1)).todo
-alone_less thread v w b e t h s = is_less thread v w b e (said (thread - 1) (scene v)) t h refl (sym s)
-
-pub alone_more : (thread : ℕ) (u v w : Sight) (a b e : List ℕ) → IsThread u thread → Alone thread u v a b → HasRun (thread ∷ []) v w b e
-    → true ≡ is_some (said (thread - 1) (scene v))
-    → Alone thread u w a e
-alone_more thread u v w a b e t p q s =
-    let k = alone_less thread v w b e (run_thread _ u v a b thread p.run t) q s in
+pub alone_more : (thread : ℕ) (u v w : Sight) (a b e : List ℕ) → Alone thread u v a b → HasRun (thread ∷ []) v w b e
+    → turns_left (thread - 1) (scene w) < turns_left (thread - 1) (scene v) → Alone thread u w a e
+alone_more thread u v w a b e p q k =
     let l = p.less in
     record {
       turns = p.turns + 1;
@@ -87,30 +73,32 @@ alone_more thread u v w a b e t p q s =
     }
 
 is_over : (thread : ℕ) (v : Sight) (x : Option Said) → x ≡ said (thread - 1) (scene v) → false ≡ is_some x
-    → (walk_of (scene v) (thread - 1)).todo ≡ []
+    → next (walk_of (scene v) (thread - 1)) ≡ None
 is_over thread v None q s = said_none (thread - 1) (scene v) (sym q)
 is_over thread v (Some x) q s = absurd cc
 
-idle_run : (j thread : ℕ) (v : Sight) (b : List ℕ) → AllRest v → (walk_of (scene v) (thread - 1)).todo ≡ [] → HasRun (replicate j thread) v v b b
+idle_run : (j thread : ℕ) (v : Sight) (b : List ℕ) → AllRest v → next (walk_of (scene v) (thread - 1)) ≡ None → HasRun (replicate j thread) v v b b
 idle_run j thread v b h over =
     record {
       rests = h;
       scene_is = sym (idle_plays j thread (scene v) over);
       text_is = sym (append-nil b) ∙ ap (λ (l : List Item). b ++ ended (flat_map item_lines l)) (sym (idle_told j thread (scene v) over));
+      most = λ d. omega arith;
     }
 
-still_run : (thread : ℕ) (v w : Sight) (b e : List ℕ) → HasRun (thread ∷ []) v w b e → (walk_of (scene v) (thread - 1)).todo ≡ [] → HasRun [] v w b e
+still_run : (thread : ℕ) (v w : Sight) (b e : List ℕ) → HasRun (thread ∷ []) v w b e → next (walk_of (scene v) (thread - 1)) ≡ None → HasRun [] v w b e
 still_run thread v w b e h over =
     record {
       rests = h.rests;
       scene_is = h.scene_is ∙ idle_plays 1 thread (scene v) over;
       text_is = h.text_is ∙ ap (λ (l : List Item). b ++ ended (flat_map item_lines l)) (idle_told 1 thread (scene v) over);
+      most = h.most;
     }
 
 -- and then further turns are as good as none
 pub alone_ends : (thread : ℕ) (u v w : Sight) (a b e : List ℕ) → Alone thread u v a b → HasRun (thread ∷ []) v w b e
     → false ≡ is_some (said (thread - 1) (scene v))
-    → (n : ℕ) → length (walk_of (scene u) (thread - 1)).todo ≤ n → HasRun (replicate n thread) u w a e
+    → (n : ℕ) → turns_left (thread - 1) (scene u) ≤ n → HasRun (replicate n thread) u w a e
 alone_ends thread u v w a b e p q s n le =
     let over = is_over thread v (said (thread - 1) (scene v)) refl s in
     let l = p.less in

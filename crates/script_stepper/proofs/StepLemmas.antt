@@ -1,5 +1,6 @@
 -- The text of a whole run.
-use Rattle.std.proofs.Common.{◌≡◌, ℕ, zero, suc, List, [], ◌∷◌, ◌++◌, get_or, length, map, refl, subst, sym, ap, ◌∙◌}
+use Rattle.std.proofs.Common.{◌≡◌, ℕ, zero, suc, ◌+◌, ◌<◌, false, List, [], ◌∷◌, ◌++◌, inl, get_or, length, map, refl, subst, sym, ap, ◌∙◌, arith}
+use Rattle.std.proofs.lemmas.List.{length-replicate}
 use Rattle.std.specs.List.{flat_map}
 use Rattle.script_text.specs.Grammar.{ended}
 use Rattle.script_text.proofs.PrintLemmas.{ended-append}
@@ -8,17 +9,20 @@ use Rattle.script_text.specs.Drafts.{Section}
 use Rattle.script_text.specs.Scripts.{program_in}
 use Rattle.step_core.specs.declared.half.Half.{Half}
 use Rattle.step_core.specs.declared.half.Half.TheVariants.{Rest}
+use Rattle.step_core.specs.Acts.{tasks_from}
+use Rattle.step_core.specs.Holdings.{plain}
 use Rattle.step_core.specs.Programs.{Part}
-use Rattle.step_core.specs.Starts.{first_sight}
+use Rattle.step_core.specs.Starts.{first_sight, first_walk, no_slots}
 use Rattle.step_core.specs.declared.extent.Extent.{Extent}
-use Rattle.step_core.specs.Scenes.{Scene}
+use Rattle.step_core.specs.Scenes.{Scene, nowhere}
 use Rattle.step_core.specs.Worlds.{Sight, scene}
 use Rattle.script_stepper.specs.Beginnings.{script_shape}
 use Rattle.script_stepper.specs.declared.stepping.Pace.{Pace}
 use Rattle.script_stepper.specs.Runs.{IsShown, IsTextBy}
 use Rattle.script_stepper.specs.Lines.{closing_lines, item_lines, shown}
-use Rattle.script_stepper.specs.Running.{AllRest, HasRun}
+use Rattle.script_stepper.specs.Running.{AllRest, HasRun, IsNew, Waits}
 use Rattle.script_stepper.specs.Traces.{outcome, schedule, trace}
+use Rattle.script_stepper.proofs.Acting.{settled_endings, settled_size}
 use Rattle.script_stepper.proofs.TraceLemmas.{plays_extent}
 
 -- a run leaves the table as large as it was
@@ -40,9 +44,30 @@ all_rest [] d = refl
 all_rest (part ∷ parts) zero = refl
 all_rest (part ∷ parts) (suc d) = all_rest parts d
 
+first_waits : (parts : List Part) (d : ℕ) → d < length (map first_walk parts) → Waits (get_or (map first_walk parts) d nowhere)
+first_waits [] d lt = absurd (omega (arith, lt))
+first_waits (part ∷ parts) zero lt =
+    let n = settled_size (tasks_from 1 part.calls (length part.kinds)) (no_slots (length part.kinds)) false [] in
+    let m : length (no_slots (length part.kinds)) ≡ length part.kinds + 1 = length-replicate (length part.kinds + 1) plain in
+    record {
+      some = omega (arith, n, m);
+      endings = inl (settled_endings (tasks_from 1 part.calls (length part.kinds)) (no_slots (length part.kinds)) false []);
+    }
+first_waits (part ∷ parts) (suc d) lt = first_waits parts d (omega (arith, lt))
+
+first_endings : (parts : List Part) (d : ℕ) → (get_or (map first_walk parts) d nowhere).endings ≡ []
+first_endings [] d = refl
+first_endings (part ∷ parts) zero = settled_endings (tasks_from 1 part.calls (length part.kinds)) (no_slots (length part.kinds)) false []
+first_endings (part ∷ parts) (suc d) = first_endings parts d
+
 -- a world begins at rest
 pub first_rests : (shape : Shape) (parts : List Part) (u : Sight) → u ≡ first_sight shape parts → AllRest u
-first_rests shape parts u e = subst AllRest (sym e) (all_rest parts)
+first_rests shape parts u e =
+    subst AllRest (sym e) (record { halves = all_rest parts; walks = first_waits parts })
+
+-- and with no object
+pub first_new : (shape : Shape) (parts : List Part) (u : Sight) → u ≡ first_sight shape parts → IsNew u
+first_new shape parts u e = subst IsNew (sym e) (record { history = refl; endings = first_endings parts })
 
 pub run_is : (pace : Pace) (script : List Section) (turns text : List ℕ) (threads : ℕ) (shape : Shape) (u : Sight) → threads ≡ length script
     → shape ≡ script_shape threads

@@ -1,27 +1,56 @@
 -- What turns do to a world, and to the text that tells of them. All of it is own.
-use Rattle.std.specs.Prelude.{◌≡◌, ℕ, ◌≤◌, ◌++◌, List, [], length}
+use Rattle.std.specs.Prelude.{◌≡◌, ◌⊎◌, ℕ, suc, ◌+◌, ◌-◌, ◌*◌, ◌<◌, ◌≤◌, ◌++◌, true, List, [], ◌∷◌, length, None}
 use Rattle.std.specs.List.{flat_map}
 use Rattle.script_text.specs.Grammar.{ended}
+use Rattle.step_core.specs.declared.ending.Ending.{Ending}
 use Rattle.step_core.specs.declared.half.Half.TheVariants.{Rest}
-use Rattle.step_core.specs.Scenes.{walk_of}
+use Rattle.step_core.specs.Courses.{Walk, hand}
+use Rattle.step_core.specs.Holdings.{is_full, slot}
+use Rattle.step_core.specs.Scenes.{Scene, next, walk_of}
+use Rattle.step_core.specs.Totals.{ended_in, made_in}
 use Rattle.step_core.specs.Worlds.{Sight, half_of, scene}
 use Rattle.script_stepper.specs.Lines.{item_lines}
-use Rattle.script_stepper.specs.Traces.{plays, told}
+use Rattle.script_stepper.specs.Traces.{plays, tasks_in, told}
+
+-- no object ends in the thread's hands, or what came out of a member of one is in hand and has to leave first
+pub record Waits (w : Walk) : Type 0 where
+  pub some : 0 < length w.slots
+  pub endings : (w.endings ≡ []) ⊎ (is_full (slot w.slots (hand w.slots)) ≡ true)
 
 -- no thread is within an act
-abbrev pub AllRest : Sight → Type 0
-AllRest u = (d : ℕ) → half_of u d ≡ Rest
+pub record AllRest (u : Sight) : Type 0 where
+  pub halves : (d : ℕ) → half_of u d ≡ Rest
+  pub walks : (d : ℕ) → d < length u.walks → Waits (walk_of (scene u) d)
 
 -- each thread is at its end
 abbrev pub AllOver : Sight → Type 0
-AllOver u = (d : ℕ) → (walk_of (scene u) d).todo ≡ []
+AllOver u = (d : ℕ) → next (walk_of (scene u) d) ≡ None
+
+-- no object was made yet
+pub record IsNew (u : Sight) : Type 0 where
+  pub history : u.story.history ≡ []
+  pub endings : (d : ℕ) → (walk_of (scene u) d).endings ≡ []
 
 -- the number of a thread of the world, from 1
 abbrev pub IsThread : Sight → ℕ → Type 0
 IsThread u thread = (1 ≤ thread) × (thread ≤ length u.walks)
 
--- the world took these turns, and the text goes on with the lines of what they said
+-- the parts that ends of objects have left: members to be cleared, and the finish
+abbrev pub parts_left : List Ending → ℕ
+parts_left [] = 0
+parts_left (e ∷ es) = suc (3 - e.stage) + parts_left es
+
+-- the objects whose last owner hasn't left, and those that may still be made, have four parts each
+abbrev pub parts_to_come : Scene → ℕ
+parts_to_come c = 4 * ((made_in c.history - ended_in c.history) + tasks_in c.walks)
+
+-- thread d has no more turns left
+abbrev pub turns_left : ℕ → Scene → ℕ
+turns_left d c = length (walk_of c d).todo + parts_left (walk_of c d).endings + parts_to_come c
+
+-- the world took these turns, and the text goes on with the lines of what they said. No thread has more left than before
 pub record HasRun (turns : List ℕ) (u u' : Sight) (old new : List ℕ) : Type 0 where
   pub rests : AllRest u'
   pub scene_is : scene u' ≡ plays turns (scene u)
   pub text_is : new ≡ old ++ ended (flat_map item_lines (told turns (scene u)))
+  pub most : (d : ℕ) → turns_left d (scene u') ≤ turns_left d (scene u)

@@ -1,8 +1,9 @@
 -- Whole runs, turn by turn: whose acts come in which order, and what they say. All of it is own.
-use Rattle.std.specs.Prelude.{ℕ, ◌+◌, ◌-◌, List, [], ◌∷◌, ◌++◌, length, replicate, Option, Some, None}
+use Rattle.std.specs.Prelude.{ℕ, ◌+◌, ◌-◌, ◌*◌, List, [], ◌∷◌, ◌++◌, length, replicate, sum_by, Option, Some, None}
 use Rattle.step_core.specs.declared.said.Said.{Said}
 use Rattle.step_core.specs.Courses.{Walk}
 use Rattle.step_core.specs.Scenes.{Scene, play, said}
+
 -- what a thread said, with the thread's number, from 1
 abbrev pub Item : Type 0
 Item = ℕ × Said
@@ -22,14 +23,20 @@ abbrev pub told : List ℕ → Scene → List Item
 told [] c = []
 told (thread ∷ turns) c = heard thread (said (thread - 1) c) ++ told turns (play (thread - 1) c)
 
--- each thread as often as it has tasks, in number order: turns enough for all to come to their ends
-abbrev pub to_the_end : ℕ → List Walk → List ℕ
-to_the_end thread [] = []
-to_the_end thread (walk ∷ walks) = replicate (length walk.todo) thread ++ to_the_end (thread + 1) walks
+-- how many tasks all threads have left
+abbrev pub tasks_in : List Walk → ℕ
+tasks_in walks = sum_by (λ (w : Walk). length w.todo) walks
 
--- the given turns; then each thread runs alone to its end, in number order
+-- each thread as often as it has tasks, and so many times more, in number order
+abbrev pub to_the_end : ℕ → ℕ → List Walk → List ℕ
+to_the_end more thread [] = []
+to_the_end more thread (walk ∷ walks) = replicate (length walk.todo + more) thread ++ to_the_end more (thread + 1) walks
+
+-- the given turns; then each thread runs alone to its end, in number order. These are turns enough where no object was made
+-- before: each task makes one object at most, whose end has four parts, three members and the finish, and a turn that is no
+-- task is the leave of what came out of a member, and gets one part further or more
 abbrev pub schedule : List ℕ → Scene → List ℕ
-schedule turns c = turns ++ to_the_end 1 c.walks
+schedule turns c = turns ++ to_the_end (4 * tasks_in c.walks) 1 c.walks
 
 -- what a run with these turns says
 abbrev pub trace : List ℕ → Scene → List Item

@@ -2,9 +2,9 @@
 ghost use Rattle.std.specs.Prelude.{◌≡◌, ◌≤◌, OnOk};
 ghost use Rattle.step_core.specs.Worlds.{scene};
 ghost use Rattle.step_core.specs.Scenes.{state_in};
+ghost use Rattle.step_core.specs.Totals.{IsAtEnd};
 ghost use Rattle.script_text.specs.Canonical.{AddsLines};
 ghost use Rattle.script_stepper.specs.Lines.{block_lines, census_lines, closing_lines};
-ghost use Rattle.script_stepper.specs.Running.{AllOver, AllRest};
 
 use crate::lines::{put_block, put_totals};
 use control_word::place::Block;
@@ -13,8 +13,7 @@ use step_core::World;
 
 /// Adds the line of a block, where it isn't vacant.
 fn put_counts(world: &World, number: u16, text: &mut String) -> Result<(), AllocError>
-    requires rests { AllRest world.now }
-    requires over { AllOver world.now }
+    requires end { IsAtEnd world.now }
     requires block { (1 ≤ number) × (number ≤ world.now.story.extent.shape.blocks) }
     ensures { OnOk result (AddsLines text.old text.new (block_lines (state_in (scene world.now)) number)) }
 {
@@ -26,8 +25,7 @@ fn put_counts(world: &World, number: u16, text: &mut String) -> Result<(), Alloc
 
 /// Adds a line for each block that isn't vacant, in block order.
 fn put_census(world: &World, blocks: u16, text: &mut String) -> Result<(), AllocError>
-    requires rests { AllRest world.now }
-    requires over { AllOver world.now }
+    requires end { IsAtEnd world.now }
     requires all { blocks ≡ world.now.story.extent.shape.blocks }
     ensures { OnOk result (AddsLines text.old text.new (census_lines blocks (state_in (scene world.now)))) }
 {
@@ -39,8 +37,7 @@ fn put_census(world: &World, blocks: u16, text: &mut String) -> Result<(), Alloc
 
 /// Adds the census and the last line.
 pub(crate) fn put_closing(world: &World, blocks: u16, text: &mut String) -> Result<(), AllocError>
-    requires rests { AllRest world.now }
-    requires over { AllOver world.now }
+    requires end { IsAtEnd world.now }
     requires all { blocks ≡ world.now.story.extent.shape.blocks }
     ensures { OnOk result (AddsLines text.old text.new (closing_lines (scene world.now))) }
 {

@@ -1,29 +1,32 @@
 //! Turns of a world, and the text that tells of them (own).
-ghost use Rattle.std.specs.Prelude.{◌≡◌, ℕ, ◌-◌, ◌≤◌, ◌∷◌, [], All, IfOk, OnOk};
+ghost use Rattle.std.specs.Prelude.{◌≡◌, ℕ, ◌-◌, ◌<◌, ◌≤◌, ◌∷◌, [], true, None, All, IfOk, OnOk};
 ghost use Rattle.std.specs.Prelude.{is_some, length, replicate, string_bytes};
-ghost use Rattle.step_core.specs.Scenes.{said, walk_of};
+ghost use Rattle.step_core.specs.Scenes.{next, said, walk_of};
 ghost use Rattle.step_core.specs.Worlds.{scene};
-ghost use Rattle.script_stepper.specs.Running.{AllOver, AllRest, HasRun, IsThread};
+ghost use Rattle.script_stepper.specs.Running.{AllOver, AllRest, HasRun, IsNew, IsThread, turns_left};
 ghost use Rattle.script_stepper.specs.Traces.{schedule};
 
 use crate::lines::put_said;
 use std::alloc::AllocError;
 use step_core::{Turned, World};
 
-/// One turn of a thread. Answers whether it had an act; the lines of what that says are added.
+/// One turn of a thread. Answers whether it had an act, which leaves it fewer; the lines of what that says are added.
 fn take_turn(world: &mut World, thread: u8, text: &mut String) -> Result<bool, AllocError>
     requires rests { AllRest world.old }
     requires thread { IsThread world.old thread }
     ensures run { OnOk result
         (HasRun (thread ∷ []) world.old world.new (string_bytes text.old) (string_bytes text.new)) }
     ensures acted { IfOk result (λ acted. acted ≡ is_some (said (thread - 1) (scene world.old))) }
+    ensures less { IfOk result (λ acted. acted ≡ true
+        → turns_left (thread - 1) (scene world.new) < turns_left (thread - 1) (scene world.old)) }
 {
     match world.turn(thread) {
         Turned::Acted(said) => {
             put_said(text, thread, &said)?;
             Ok(true)
         }
-        Turned::Waited | Turned::Done => Ok(false),
+        Turned::Done => Ok(false),
+        Turned::Waited => unreachable!(),
     }
 }
 
@@ -40,19 +43,19 @@ fn take_turns(world: &mut World, turns: &[u8], text: &mut String) -> Result<(), 
     Ok(())
 }
 
-/// Runs a thread alone to its end, for which as many turns are enough as it has tasks.
+/// Runs a thread alone to its end, for which as many turns are enough as it has left.
 fn finish(world: &mut World, thread: u8, text: &mut String) -> Result<(), AllocError>
     requires rests { AllRest world.old }
     requires thread { IsThread world.old thread }
-    ensures run { OnOk result ((n : ℕ) → length (walk_of (scene world.old) (thread - 1)).todo ≤ n
+    ensures run { OnOk result ((n : ℕ) → turns_left (thread - 1) (scene world.old) ≤ n
         → HasRun (replicate n thread) world.old world.new (string_bytes text.old) (string_bytes text.new)) }
-    ensures over { OnOk result ((walk_of (scene world.new) (thread - 1)).todo ≡ []) }
+    ensures over { OnOk result (next (walk_of (scene world.new) (thread - 1)) ≡ None) }
 {
     while take_turn(world, thread, text)? {}
     Ok(())
 }
 
-/// One turn for each number; then each of the threads runs alone to its end, in number order.
+/// One turn for each number; then each of the threads runs alone to its end, in number order. No object was made yet.
 pub(crate) fn run_turns(
     world: &mut World,
     threads: u8,
@@ -60,6 +63,7 @@ pub(crate) fn run_turns(
     text: &mut String,
 ) -> Result<(), AllocError>
     requires rests { AllRest world.old }
+    requires new { IsNew world.old }
     requires all { threads ≡ length world.old.walks }
     requires threads { All (IsThread world.old) turns.now }
     ensures run { OnOk result

@@ -9,7 +9,7 @@ ghost use Rattle.step_core.specs.Worlds.{scene};
 ghost use Rattle.step_core.specs.Starts.{first_sight};
 ghost use Rattle.script_stepper.specs.Beginnings.{script_shape};
 ghost use Rattle.script_stepper.specs.Lines.{shown};
-ghost use Rattle.script_stepper.specs.Running.{AllRest, IsThread};
+ghost use Rattle.script_stepper.specs.Running.{AllRest, IsNew, IsThread};
 ghost use Rattle.script_stepper.specs.Runs.{Delivers, IsFineText, IsRunText, IsShown, IsTextBy, Tells};
 ghost use Rattle.script_stepper.specs.Runs.{Writes, WritesOne, is_output, run_text, text_in};
 ghost use Rattle.script_stepper.specs.TurnLists.{list_at};
@@ -78,6 +78,7 @@ fn turns_text(
     turns: &[u8],
 ) -> Result<String, AllocError>
     requires rests { AllRest world.old }
+    requires new { IsNew world.old }
     requires all { threads ≡ length world.old.walks }
     requires blocks { blocks ≡ world.old.story.extent.shape.blocks }
     requires threads { All (IsThread world.old) turns.now }
@@ -99,6 +100,7 @@ fn text_of(
     pace: Pace,
 ) -> Result<String, AllocError>
     requires rests { AllRest world.old }
+    requires new { IsNew world.old }
     requires all { threads ≡ length world.old.walks }
     requires blocks { blocks ≡ world.old.story.extent.shape.blocks }
     requires threads { All (IsThread world.old) turns.now }

@@ -10,7 +10,13 @@ use Rattle.control_word.specs.declared.handle.Kind.TheVariants.{Owner, Weak}
 use Rattle.control_word.specs.declared.place.Block.{Block}
 use Rattle.control_word.specs.declared.place.Place.{Place}
 use Rattle.control_block.specs.CellCalls as inner
+use Rattle.control_block.specs.declared.handles.Pointer.{Pointer}
 use Rattle.control_block.specs.Desks.{Adds, DeskNow, allowance_of, latest_of, on_latest, state_of}
+
+-- what a handle of this kind, with this block and place, is on
+abbrev pub IsOn : Kind → Option Block → Option Place → Option Pointer → Type 0
+IsOn k b p None = b ≡ None
+IsOn k b p (Some of) = (of.kind ≡ k) × (b ≡ Some of.block) × (of.place ≡ p)
 
 -- a bag with a handle more, and with one less
 abbrev pub with_handle : Kind → Option Block → Option Place → List Handle → List Handle

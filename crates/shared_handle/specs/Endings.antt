@@ -23,6 +23,13 @@ IsWithin b p = (q : Place) × (p ≡ Some q) × (b ≡ Some q.block)
 abbrev pub IsOutside : Option Block → Option Place → Type 0
 IsOutside b p = (q : Place) × (p ≡ Some q) × (b ≢ Some q.block)
 
+-- the place is in the object that the handle owns, or why not (own)
+abbrev pub IsPlaced : Option Block → Option Place → Result Place Refusal → Type 0
+IsPlaced b p (Ok q) = (p ≡ Some q) × (b ≡ Some q.block)
+IsPlaced b p (Err Null) = p ≡ None
+IsPlaced b p (Err Outside) = IsOutside b p
+IsPlaced b p (Err why) = ⊥
+
 module _ {V : Type 0} where
   -- the object ends in the desk's hands, with this value, and the members that are told to be cleared hold nothing
   pub record Ends (d : DeskNow V) (x : Ending V) : Type 0 where

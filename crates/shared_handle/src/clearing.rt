@@ -70,6 +70,7 @@ impl<V: Drop + Send> Ending<V> {
         requires ends { Ends desk.old self.old }
         ensures clears { IsClearing desk.old self.old member result desk.new }
         ensures noted { self.new ≡ with_clear member self.old }
+        ensures object { (self.new.block ≡ self.old.block) × (self.new.value ≡ self.old.value) }
         ensures ends { Ends desk.new self.new }
         ensures bag { bag_of desk.new ≡ bag_of desk.old }
         ensures held { desk.new.held ≡ desk.old.held }

@@ -105,8 +105,9 @@ impl<V: Drop + Send> Ending<V> {
         calls::share_weak::<V, Brand>(domain, desk, block, Some(Place { block, field: 0 }))
     }
 
-    /// The end ([util.smartptr.shared.dest]). Condition: all three members were cleared. The value comes out, which is the one that the object was made with, and
-    /// dropping it is the deleter's call. Where no weak handle is left, the block is vacant, and in the desk's store.
+    /// The end ([util.smartptr.shared.dest]). Condition: all three members were cleared. The value comes out, which is the one
+    /// that the object was made with, as the visits left it, and dropping it is the deleter's call. Where no weak handle is
+    /// left, the block is vacant, and in the desk's store. It refuses nothing.
     pub fn finish(self, domain: &Domain<V>, desk: &mut Desk<V>) -> V
         requires domain { desk.old.domain ≡ domain.now.id }
         requires ends { Ends desk.old self }
@@ -130,8 +131,11 @@ impl<V: Drop + Send> Ending<V> {
         value
     }
 
-    /// The object stays ending in its desk's hands (own), as a handle that is forgotten stays counted: its value is neither
-    /// handed out nor dropped, and its block, which it answers, isn't used again.
+    /// Gives the ending up (own), as `std::mem::forget` does a value that need not be spent. A clear may hand out one ending
+    /// more, and how long a chain is that ends so isn't known before, since other desks may lengthen it meanwhile: a caller
+    /// whose loop is counted, so that it ends without a wait, can be left with an ending after its last round. The object
+    /// stays ending in its desk's hands, and its place of the allowance taken, as a handle that is forgotten stays counted:
+    /// its value is neither handed out nor dropped, and its block, which it answers, isn't used again.
     pub fn forget(self) -> Block
         ensures { result ≡ self.block }
     {

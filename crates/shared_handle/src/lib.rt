@@ -20,6 +20,7 @@ mod order_tests;
 mod ordering;
 #[cfg(test)]
 mod parting_tests;
+mod pointers;
 #[cfg(test)]
 mod race_tests;
 #[cfg(test)]

@@ -5,12 +5,12 @@ ghost use Rattle.control_block.specs.Desks.{Keeps, allowance_of, bag_of, held_of
 ghost use Rattle.shared_handle.specs.Calls.{Holds, with_handle};
 ghost use Rattle.shared_handle.specs.Locks.{IsOwnerOf, IsUpgrade, Locks, SawNoOwner};
 
+use crate::pointers::weak_pointer;
 use control_block::desk::Desk;
 use control_block::domain::Domain;
-use control_block::handles::{Pointer, Shared};
+use control_block::handles::Shared;
 use control_block::{calls, handles, lock_calls};
 use control_word::Refusal;
-use control_word::handle::Kind;
 use std::marker::Brand;
 use std::sync::Wait;
 
@@ -18,6 +18,7 @@ use std::sync::Wait;
 /// where the handle does; else an empty one. Of an empty handle it is empty, and touches no word. Once the desk has seen
 /// the object without owner, every later lock of its is empty. It tries again while others change the count. It is refused
 /// `Limit` just where the desk is at its allowance, and then nothing changes.
+#[inline(always)]
 pub fn lock<V: Drop + Send, R: Wait>(
     rt: &R,
     domain: &Domain<V>,
@@ -36,14 +37,9 @@ pub fn lock<V: Drop + Send, R: Wait>(
     ensures holds { IfOk result (λ h. Holds desk.new Owner h.block h.place) }
     ensures keeps { OnOk result (Keeps desk.old desk.new) }
 {
-    let Some(block) = handle.block() else {
+    let Some(of) = weak_pointer(handle) else {
         calls::count_empty(desk)?;
         return Ok(Shared::of_parts(None, None));
-    };
-    let of = Pointer {
-        kind: Kind::Weak,
-        block,
-        place: handle.place(),
     };
     match lock_calls::lock::<V, Brand, R>(rt, domain, desk, of)? {
         Some(owner) => Ok(owner),
@@ -56,7 +52,7 @@ pub fn lock<V: Drop + Send, R: Wait>(
 
 /// The constructor from a weak pointer ([util.smartptr.shared.const]): a shared pointer that owns, and points where the
 /// handle does. It is refused `Limit` just where the desk is at its allowance, and else `BadWeak` just where the handle is
-/// empty or no owner remains at its step; then bag and number of handles are as they were.
+/// empty or no owner remains at its step ([util.smartptr.weak.bad]); then bag and number of handles are as they were.
 pub fn upgrade<V: Drop + Send, R: Wait>(
     rt: &R,
     domain: &Domain<V>,
@@ -76,13 +72,8 @@ pub fn upgrade<V: Drop + Send, R: Wait>(
     if desk.held() == desk.allowance() {
         return Err(Refusal::Limit);
     }
-    let Some(block) = handle.block() else {
+    let Some(of) = weak_pointer(handle) else {
         return Err(Refusal::BadWeak);
-    };
-    let of = Pointer {
-        kind: Kind::Weak,
-        block,
-        place: handle.place(),
     };
     match lock_calls::lock::<V, Brand, R>(rt, domain, desk, of)? {
         Some(owner) => Ok(owner),

@@ -4,13 +4,13 @@ ghost use Rattle.control_word.specs.Handles as Handles;
 ghost use Rattle.control_word.specs.declared.handle.Kind.TheVariants.{Owner};
 ghost use Rattle.control_block.specs.Desks.{Keeps, bag_of};
 ghost use Rattle.shared_handle.specs.Calls.{Holds, IsCount};
-ghost use Rattle.shared_handle.specs.Endings.{IsRead};
+ghost use Rattle.shared_handle.specs.Endings.{IsPlaced, IsRead};
 
+use crate::pointers::owner_pointer;
 use control_block::calls;
 use control_block::desk::Desk;
 use control_block::domain::Domain;
-use control_block::handles::{Pointer, Shared};
-use control_word::handle::Kind;
+use control_block::handles::Shared;
 use control_word::{Place, Refusal};
 use std::marker::Brand;
 
@@ -25,15 +25,24 @@ pub fn use_count<V: Drop + Send>(domain: &Domain<V>, desk: &mut Desk<V>, handle:
     ensures held { desk.new.held ≡ desk.old.held }
     ensures keeps { Keeps desk.old desk.new }
 {
-    let Some(block) = handle.block() else {
+    let Some(of) = owner_pointer(handle) else {
         return 0;
     };
-    let of = Pointer {
-        kind: Kind::Owner,
-        block,
-        place: handle.place(),
-    };
     calls::count::<V, Brand>(domain, desk, of)
+}
+
+/// The place that the handle points at, which is in the object that it owns: `Null` where there is none, and `Outside` where it
+/// isn't there.
+pub(crate) fn place_within(handle: &Shared) -> Result<Place, Refusal>
+    ensures { IsPlaced handle.now.block handle.now.place result }
+{
+    let Some(place) = handle.place() else {
+        return Err(Refusal::Null);
+    };
+    if handle.block() != Some(place.block) {
+        return Err(Refusal::Outside);
+    }
+    Ok(place)
 }
 
 /// The field that the handle points at (own). It is refused `Null` just where its place is null, and `Outside` just where
@@ -50,12 +59,7 @@ pub fn read<V: Drop + Send>(
     ensures held { desk.new.held ≡ desk.old.held }
     ensures keeps { Keeps desk.old desk.new }
 {
-    let Some(place) = handle.place() else {
-        return Err(Refusal::Null);
-    };
-    if handle.block() != Some(place.block) {
-        return Err(Refusal::Outside);
-    }
+    let place = place_within(handle)?;
     Ok(calls::read(domain, desk, place))
 }
 

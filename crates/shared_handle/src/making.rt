@@ -1,7 +1,7 @@
 //! Empty handles, and owners of new objects.
 ghost use Rattle.std.specs.Prelude.{◌≡◌, ◌↔◌, ◌+◌, [], ◌∷◌, false, length, true, IfErr, IfOk, IsErr, OnOk, None};
 ghost use Rattle.control_word.specs.declared.handle.Kind.TheVariants.{Owner};
-ghost use Rattle.control_block.specs.Desks.{IsSameDesk, KeepsEndings, allowance_of, bag_of, held_of, stock_of};
+ghost use Rattle.control_block.specs.Desks.{IsSameDesk, KeepsEndings, allowance_of, bag_of, endings_of, held_of, stock_of};
 ghost use Rattle.control_block.specs.Refusals.{IsFullOrLimit};
 ghost use Rattle.shared_handle.specs.Calls.{Makes, counting, with_handle};
 
@@ -38,6 +38,7 @@ pub fn empty_weak<V: Drop + Send>(_domain: &Domain<V>, desk: &mut Desk<V>) -> Re
 }
 
 /// A new object with these fields and this value, and its owner, which points at it.
+#[inline(always)]
 fn make_as<V: Drop + Send>(
     domain: &Domain<V>,
     desk: &mut Desk<V>,
@@ -55,6 +56,7 @@ fn make_as<V: Drop + Send>(
     ensures desk { OnOk result (IsSameDesk desk.old desk.new) }
     ensures stock { OnOk result (length (stock_of desk.new) + 1 ≡ length (stock_of desk.old)) }
     ensures endings { OnOk result (KeepsEndings desk.old desk.new) }
+    ensures count { OnOk result (endings_of desk.new ≡ endings_of desk.old) }
 {
     match calls::make(domain, desk, enabled, null, fields, value) {
         Ok(made) => Ok(Shared::of_parts(Some(made.block), made.place)),
@@ -66,6 +68,7 @@ fn make_as<V: Drop + Send>(
 /// ([util.smartptr.shared.create]). Where `enabled`, it gives pointers to itself ([util.smartptr.enab]). It is refused
 /// `Limit` just where the desk is at its allowance, and else `Full` just where its store is empty: then the value comes
 /// back, and nothing changes.
+#[inline(always)]
 pub fn make<V: Drop + Send>(
     domain: &Domain<V>,
     desk: &mut Desk<V>,
@@ -82,6 +85,7 @@ pub fn make<V: Drop + Send>(
     ensures desk { OnOk result (IsSameDesk desk.old desk.new) }
     ensures stock { OnOk result (length (stock_of desk.new) + 1 ≡ length (stock_of desk.old)) }
     ensures endings { OnOk result (KeepsEndings desk.old desk.new) }
+    ensures count { OnOk result (endings_of desk.new ≡ endings_of desk.old) }
 {
     make_as(domain, desk, false, fields, enabled, value)
 }
@@ -102,6 +106,7 @@ pub fn make_null<V: Drop + Send>(
     ensures desk { OnOk result (IsSameDesk desk.old desk.new) }
     ensures stock { OnOk result (length (stock_of desk.new) + 1 ≡ length (stock_of desk.old)) }
     ensures endings { OnOk result (KeepsEndings desk.old desk.new) }
+    ensures count { OnOk result (endings_of desk.new ≡ endings_of desk.old) }
 {
     make_as(domain, desk, true, [0; 4], false, value)
 }

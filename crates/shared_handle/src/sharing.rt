@@ -7,6 +7,7 @@ ghost use Rattle.shared_handle.specs.Calls.{Holds, IsOfThis, Shares, with_handle
 ghost use Rattle.shared_handle.specs.Endings.{IsLeft, more_ending};
 
 use crate::endings::{Ending, Left};
+use crate::pointers::owner_pointer;
 use control_block::calls;
 use control_block::desk::Desk;
 use control_block::domain::Domain;
@@ -33,14 +34,9 @@ pub(crate) fn share_to<V: Drop + Send>(
     ensures held { OnOk result (desk.new.held ≡ desk.old.held + 1) }
     ensures keeps { OnOk result (Keeps desk.old desk.new) }
 {
-    let Some(block) = handle.block() else {
+    let Some(of) = owner_pointer(handle) else {
         calls::count_empty(desk)?;
         return Ok(Shared::of_parts(None, place));
-    };
-    let of = Pointer {
-        kind: Kind::Owner,
-        block,
-        place: handle.place(),
     };
     calls::share::<V, Brand>(domain, desk, of, place)
 }

@@ -5,6 +5,7 @@ ghost use Rattle.control_block.specs.Desks.{Keeps, bag_of};
 ghost use Rattle.shared_handle.specs.Calls.{Holds, IsOfThis, Shares, SharesWeakly, with_handle};
 ghost use Rattle.shared_handle.specs.Endings.{IsThis, MayGiveThis, WhyNotThis};
 
+use crate::looks::place_within;
 use crate::sharing::share_to;
 use control_block::desk::Desk;
 use control_block::domain::Domain;
@@ -28,13 +29,7 @@ fn this_block<V: Drop + Send>(
     if desk.held() == desk.allowance() {
         return Err(Refusal::Limit);
     }
-    let Some(place) = handle.place() else {
-        return Err(Refusal::Null);
-    };
-    let block = place.block;
-    if handle.block() != Some(block) {
-        return Err(Refusal::Outside);
-    }
+    let block = place_within(handle)?.block;
     if !calls::is_enabled(domain, desk, block) {
         return Err(Refusal::NotEnabled);
     }

@@ -6,11 +6,11 @@ ghost use Rattle.control_block.specs.Desks.{Keeps, bag_of};
 ghost use Rattle.shared_handle.specs.Calls.{Holds};
 ghost use Rattle.shared_handle.specs.Visits.{IsVisit};
 
+use crate::pointers::owner_pointer;
 use control_block::desk::Desk;
 use control_block::domain::Domain;
-use control_block::handles::{Pointer, Shared};
+use control_block::handles::Shared;
 use control_block::visits;
-use control_word::handle::Kind;
 use control_word::{Refusal, Refused};
 use std::marker::Brand;
 use std::sync::Wait;
@@ -33,16 +33,11 @@ pub fn visit<V: Drop + Send, R, F: FnOnce(&mut V) -> R, W: Wait>(
     ensures held { desk.new.held ≡ desk.old.held }
     ensures keeps { Keeps desk.old desk.new }
 {
-    let Some(block) = handle.block() else {
+    let Some(of) = owner_pointer(handle) else {
         return Err(Refused {
             why: Refusal::Null,
             back: f,
         });
-    };
-    let of = Pointer {
-        kind: Kind::Owner,
-        block,
-        place: handle.place(),
     };
     Ok(visits::visit::<V, Brand, _, _, _>(rt, domain, desk, of, f))
 }

@@ -5,12 +5,11 @@ ghost use Rattle.control_block.specs.Desks.{Keeps, bag_of};
 ghost use Rattle.shared_handle.specs.Calls.{Holds, IsCount, IsExpiry};
 
 use crate::ordering::HasOwner;
+use crate::pointers::weak_pointer;
 use control_block::desk::Desk;
 use control_block::domain::Domain;
-use control_block::handles::Pointer;
 use control_block::{calls, handles};
 use control_word::Block;
-use control_word::handle::Kind;
 use std::marker::Brand;
 
 impl HasOwner for handles::Weak {
@@ -34,13 +33,8 @@ pub fn use_count_weak<V: Drop + Send>(
     ensures held { desk.new.held ≡ desk.old.held }
     ensures keeps { Keeps desk.old desk.new }
 {
-    let Some(block) = handle.block() else {
+    let Some(of) = weak_pointer(handle) else {
         return 0;
-    };
-    let of = Pointer {
-        kind: Kind::Weak,
-        block,
-        place: handle.place(),
     };
     calls::count::<V, Brand>(domain, desk, of)
 }
@@ -59,13 +53,8 @@ pub fn expired<V: Drop + Send>(
     ensures held { desk.new.held ≡ desk.old.held }
     ensures keeps { Keeps desk.old desk.new }
 {
-    let Some(block) = handle.block() else {
+    let Some(of) = weak_pointer(handle) else {
         return true;
-    };
-    let of = Pointer {
-        kind: Kind::Weak,
-        block,
-        place: handle.place(),
     };
     calls::is_expired::<V, Brand>(domain, desk, of)
 }

@@ -1,7 +1,7 @@
 //! Weak pointers ([util.smartptr.weak]).
 ghost use Rattle.std.specs.Prelude.{◌≡◌, ◌↔◌, ◌+◌, Bool, cond, length, IfErr, IfOk, IsErr, OnOk};
 ghost use Rattle.control_word.specs.declared.handle.Kind.TheVariants.{Weak};
-ghost use Rattle.control_block.specs.Desks.{IsSameDesk, Keeps, KeepsEndings, allowance_of, bag_of, held_of, stock_of};
+ghost use Rattle.control_block.specs.Desks.{IsSameDesk, Keeps, KeepsEndings, allowance_of, bag_of, endings_of, held_of, stock_of};
 ghost use Rattle.shared_handle.specs.Calls.{Holds, LeavesWeakly, SharesWeakly, weak_place, with_handle, without_handle};
 
 use control_block::desk::Desk;
@@ -47,6 +47,7 @@ pub fn release_weak<V: Drop + Send>(domain: &Domain<V>, desk: &mut Desk<V>, hand
     ensures held { desk.new.held + 1 ≡ desk.old.held }
     ensures desk { IsSameDesk desk.old desk.new }
     ensures endings { KeepsEndings desk.old desk.new }
+    ensures count { endings_of desk.new ≡ endings_of desk.old }
 {
     let (block, place) = handle.into_parts();
     let Some(block) = block else {

@@ -142,4 +142,3 @@ fits_clear d t v e r es kept fits rests list new room is lt =
             empty = ⊎_elim (λ (n : t.course.endings.list ≡ []). absurd cc) (λ (n : t.course.taken ≡ false). inr n) fits.endings.empty;
           };
     })
-

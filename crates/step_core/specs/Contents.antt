@@ -1,6 +1,8 @@
 -- What cells hold, and how slots and the words of cells tell it. All of it is own.
 use Rattle.std.specs.Prelude.{◌≡◌, ◌≢◌, ℕ, ◌<◌, ◌/◌, ◌==◌, ◌&&◌, length, Bool, true, false, slice_set, Option, Some, None}
 use Rattle.control_word.specs.declared.cell.CellWord.{CellWord}
+use Rattle.control_word.specs.declared.event.Event.{Event}
+use Rattle.control_word.specs.declared.event.Event.TheVariants as event
 use Rattle.control_word.specs.declared.handle.Handle.{Handle}
 use Rattle.control_word.specs.declared.handle.Kind.{Kind}
 use Rattle.control_word.specs.declared.handle.Kind.TheVariants.{Owner, Weak}
@@ -9,7 +11,7 @@ use Rattle.control_word.specs.declared.place.Place.{Place}
 use Rattle.control_word.specs.declared.view.Pending.{Pending}
 use Rattle.control_word.specs.declared.view.Pending.TheVariants.{Idle}
 use Rattle.control_word.specs.Events.{cell_of}
-use Rattle.control_word.specs.Handles.{handle, same_kind, same_place}
+use Rattle.control_word.specs.Handles.{equivalent, handle, same_kind, same_place}
 use Rattle.control_word.specs.State.{State}
 use Rattle.control_word.specs.Words.{blocks_of, shown}
 use Rattle.step_core.specs.declared.cell_deed.Cell.{Cell}
@@ -17,7 +19,7 @@ use Rattle.step_core.specs.declared.cell_deed.Compared.{Compared}
 use Rattle.step_core.specs.declared.comparing.Comparing.{Comparing}
 use Rattle.step_core.specs.declared.slot.Slot.{Slot}
 use Rattle.step_core.specs.declared.slot.Slot.TheVariants.{Empty, Full}
-use Rattle.step_core.specs.CellDeeds.{cell_in, owing}
+use Rattle.step_core.specs.CellDeeds.{cell_in, kind_in, owing}
 use Rattle.step_core.specs.Cells.{word_at}
 use Rattle.step_core.specs.Deeds.{owned}
 use Rattle.step_core.specs.Holdings.{Slots, place_of, plain, slot, value}
@@ -106,3 +108,15 @@ pub record CanCompare (k : Kind) (slots : Slots) (y : Comparing) : Type 0 where
   pub apart : y.new ≢ y.other
   pub empty : slot slots y.other ≡ None
   pub kinds : (is_of k (value slots y.expected) ≡ true) × (is_of k (value slots y.new) ≡ true)
+
+-- what steps on a cell tell, by what the cell holds and slots have
+abbrev pub load_of : State → Cell → Event Nothing
+load_of s c = event.Load (cell_in s c) (held_in s c)
+
+abbrev pub swap_of : State → Cell → Slot → Event Nothing
+swap_of s c x = event.Swap (cell_in s c) (told s (kind_in s c) x) (held_in s c)
+
+abbrev pub compare_of : State → Cell → Slot → Slot → Bool → Event Nothing
+compare_of s c expected new weak =
+    let h = told s (kind_in s c) expected in
+    event.Compare (cell_in s c) h (told s (kind_in s c) new) (held_in s c) (equivalent (held_in s c) h) weak

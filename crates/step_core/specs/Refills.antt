@@ -1,5 +1,5 @@
 -- What a thread relies on that took a fund of a cell, until the cell is refilled. All of it is own.
-use Rattle.std.specs.Prelude.{◌≡◌, ℕ, Some}
+use Rattle.std.specs.Prelude.{◌≡◌, ℕ, suc, Some}
 use Rattle.control_word.specs.declared.cell.CellWord.{CellWord}
 use Rattle.control_word.specs.declared.handle.Kind.{Kind}
 use Rattle.control_word.specs.declared.place.Block.{Block}
@@ -12,6 +12,10 @@ use Rattle.step_core.specs.declared.refill.Stage.TheVariants.{Turning, Checking,
 use Rattle.step_core.specs.CellDeeds.{kind_in, owing}
 use Rattle.step_core.specs.Cells.{IsOpenTo}
 use Rattle.step_core.specs.Stories.{Story, handle_in, pending, state}
+
+-- one fund more is taken
+abbrev pub more_taken : CellWord → CellWord
+more_taken x = record { owned = x.owned; place = x.place; taken = suc x.taken }
 
 -- the funds that are out: the one that was taken, or those that were brought in place of all that were
 abbrev pub StageFits : ℕ → Stage → Kind → Block → CellWord → Story → Type 0

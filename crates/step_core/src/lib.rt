@@ -4,6 +4,7 @@
 mod act;
 mod call;
 mod cell_deed;
+mod cell_events;
 #[cfg(test)]
 mod cell_tests;
 mod cells;

@@ -1,6 +1,7 @@
 //! How a thread locks a weak pointer, step by step.
 ghost use Rattle.std.specs.Prelude.{◌≡◌, ◌<◌, ◌==◌, cond, length, Some, None, []};
 ghost use Rattle.step_core.specs.Scenes.{lock_answer};
+
 use crate::act::Act;
 use crate::half::Half;
 use crate::said::{Answer, Said, Stepped};

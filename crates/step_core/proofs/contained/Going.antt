@@ -89,7 +89,7 @@ swap_hands : (d : ℕ) (c : Named) (new old : Handle) (s : State) → (swaps d c
 swap_hands d (named.Free n) new old s = refl
 swap_hands d (named.Member o m) new old s = refl
 
-swap_latest : (d : ℕ) (c : Named) (new old : Handle) (s : State) → (swaps d c new old s).latest ≡ s.latest
+pub swap_latest : (d : ℕ) (c : Named) (new old : Handle) (s : State) → (swaps d c new old s).latest ≡ s.latest
 swap_latest d (named.Free n) new old s = refl
 swap_latest d (named.Member o m) new old s = refl
 

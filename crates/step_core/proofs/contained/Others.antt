@@ -14,7 +14,7 @@ use Rattle.control_word.specs.declared.view.Pending.TheVariants.{Paying}
 use Rattle.control_word.specs.Handles.{handle, object_of}
 use Rattle.control_word.specs.Histories.{leads, value}
 use Rattle.control_word.specs.Layout.{spot}
-use Rattle.control_word.specs.State.{Has, State, held, kind_of_free}
+use Rattle.control_word.specs.State.{Has, State, held}
 use Rattle.control_word.specs.Steps.{me}
 use Rattle.control_word.specs.Views.{Fits}
 use Rattle.control_word.specs.Words.{slot}
@@ -32,7 +32,7 @@ use Rattle.step_core.specs.Holdings.{Holds, Slots}
 use Rattle.step_core.specs.Openings.{opening}
 use Rattle.step_core.specs.Refills.{RefillFits, StageFits}
 use Rattle.step_core.specs.Stories.{Kept, Nothing, Story, added, after, event_of, handle_in, object_in, pending, state, view_in}
-use Rattle.step_core.proofs.contained.Told.{shared_is}
+use Rattle.step_core.proofs.contained.Told.{kind_stays}
 use Rattle.step_core.proofs.holding.Others.{kept_object, same_deed, same_pending}
 use Rattle.step_core.proofs.holding.Owning.{holds_look}
 use Rattle.step_core.proofs.tables.Places.{handle_busy, named}
@@ -98,11 +98,6 @@ module _ (d e : ℕ) (v : Story) (x : Deed) (n : e ≢ d) (kept : Kept v) (kept'
       let o = kept_object v e b x kept kept' (subst (IsBusy s) here busy) (subst (IsBusy t) here busy') in
       (way.0, (h, (has_same s t d h same hold.0, hold.1, hold.2), here ∙ sym o))
 
-  -- a cell is of the same kind
-  kind_others : (c : Cell) → kind_in (state (after v e x)) c ≡ kind_in (state v) c
-  kind_others (Free m) = ap (λ (i : ℕ). kind_of_free i m) (shared_is (after v e x) ∙ sym (shared_is v))
-  kind_others (Member b m) = refl
-
   stage_others : (stage : Stage) (k : Kind) (b : Block) (y : CellWord) → d < v.extent.actors → StageFits d stage k b y v → StageFits d stage k b y (after v e x)
   stage_others Turning k b y lt is = funds_others k (Some b) y.place 1 1 lt is
   stage_others Checking k b y lt is = same_pending v e d x n ∙ is
@@ -112,7 +107,7 @@ module _ (d e : ℕ) (v : Story) (x : Deed) (n : e ≢ d) (kept : Kept v) (kept'
 
   pub refill_others : (stage : Stage) (c : Cell) (y : CellWord) → d < v.extent.actors → RefillFits d stage c y v → RefillFits d stage c y (after v e x)
   refill_others stage c y lt fits =
-      let k = sym (kind_others c) in
+      let k = sym (kind_stays v (after v e x) c refl) in
       record {
         valid = fits.valid;
         block = fits.block;

@@ -21,9 +21,11 @@ use Rattle.control_word.specs.Events.{InHand, after}
 use Rattle.control_word.specs.Handles.{IsFormed, IsPointer, equivalent, handle, same_kind, same_number, same_place}
 use Rattle.control_word.specs.Histories.{leads}
 use Rattle.control_word.specs.Packing.{IsBlock, IsCellWord, IsPlace, block_number, cell_bits, place_block, place_field}
-use Rattle.control_word.specs.State.{Has, Opening, State, held}
+use Rattle.control_word.specs.State.{Has, Opening, State, held, kind_of_free}
 use Rattle.control_word.specs.Words.{block_of, blocks_of}
 use Rattle.step_core.specs.declared.cell_deed.Cell.{Cell}
+use Rattle.step_core.specs.declared.cell_deed.Cell.TheVariants as at
+use Rattle.step_core.specs.declared.extent.Extent.{Extent}
 use Rattle.step_core.specs.declared.holdings.Pointer.{Pointer}
 use Rattle.step_core.specs.declared.slot.Slot.{Slot}
 use Rattle.step_core.specs.declared.slot.Slot.TheVariants.{Empty, Full}
@@ -215,3 +217,9 @@ shared_led z (e ∷ h) = shared_after (leads z h) e.desk e.event ∙ shared_led 
 
 pub shared_is : (v : Story) → (state v).shared ≡ v.extent.shape.shared_cells
 shared_is v = shared_led (opening v.extent) v.history
+
+-- so a cell is of the same kind after any deed
+pub kind_stays : (v w : Story) (c : Cell) → w.extent ≡ v.extent → kind_in (state w) c ≡ kind_in (state v) c
+kind_stays v w (at.Free n) same =
+    ap (λ (i : ℕ). kind_of_free i n) (shared_is w ∙ ap (λ (x : Extent). x.shape.shared_cells) same ∙ sym (shared_is v))
+kind_stays v w (at.Member b m) same = refl

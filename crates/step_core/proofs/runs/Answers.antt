@@ -1,5 +1,5 @@
 -- What locks answer.
-use Rattle.std.proofs.Common.{◌≡◌, ℕ, ◌+◌, ◌-◌, ◌==◌, Bool, true, false, cond, List, [], ◌∷◌, length, get_or, refl, sym, ap, subst, ◌∙◌, arith}
+use Rattle.std.proofs.Common.{◌≡◌, ℕ, ◌-◌, ◌==◌, Bool, true, false, cond, List, [], ◌∷◌, length, get_or, refl, sym, ap, subst, ◌∙◌, arith}
 use Rattle.std.specs.Prelude.{Option, Some, None, not, option_map}
 use Rattle.std.proofs.lemmas.Bool.{cond_both}
 use Rattle.control_word.specs.declared.event.Entry.{Entry}
@@ -32,7 +32,8 @@ use Rattle.step_core.specs.Headline.{TellsLocks, Was, answer_by}
 use Rattle.step_core.specs.Holdings.{inside, is_full, slot, owner_slot, place_in}
 use Rattle.step_core.specs.Entries.{least, on}
 use Rattle.step_core.specs.Scenes.{found, lock_answer, walk_of}
-use Rattle.step_core.specs.Steps.{asks, at_rest, given as given_by, Step, acts, begins, begun, claims, ends_on, first, is_event, looks, made_on, prepares, silent, step_at, stepped as stepped_by, story_after, story_by, tried, tries, trying, with_endings}
+use Rattle.step_core.specs.Steps.{asks, at_rest, given as given_by, Step, acts, begins, begun, claims, ends_on, first, is_event, looks, made_on, prepares}
+use Rattle.step_core.specs.Steps.{silent, step_at, stepped as stepped_by, story_after, story_by, tried, tries, trying, with_endings}
 use Rattle.step_core.specs.Stories.{Nothing, Story, added, event_of, known, object_in, pending, state}
 use Rattle.step_core.specs.Worlds.{Sight, half_of, scene, step_of}
 use Rattle.step_core.proofs.tables.CellDeeds.{by_event}

@@ -1,5 +1,5 @@
 -- How many steps a thread has left, step by step.
-use Rattle.std.proofs.Common.{◌≡◌, ℕ, suc, ◌+◌, ◌*◌, ◌<◌, ◌≤◌, ◌==◌, Bool, true, false, cond, List, [], ◌∷◌, length, get_or, refl, sym, ap, subst, ◌∙◌, arith}
+use Rattle.std.proofs.Common.{◌≡◌, ℕ, ◌+◌, ◌*◌, ◌<◌, ◌≤◌, ◌==◌, Bool, true, false, cond, List, [], ◌∷◌, get_or, refl, sym, ap, ◌∙◌, arith}
 use Rattle.std.specs.Prelude.{All, Option, Some, None, is_some, option_map}
 use Rattle.std.proofs.lemmas.Bool.{cond_both, eq-eqb, eqb-false, false≢true}
 use Rattle.std.proofs.lemmas.List.Elements.{All-head}
@@ -27,7 +27,7 @@ use Rattle.step_core.specs.Endings.{staged}
 use Rattle.step_core.specs.Holdings.{inside, is_full, owner_slot, place_in, slot}
 use Rattle.step_core.specs.Entries.{least, on}
 use Rattle.step_core.specs.Scenes.{ended_by, holding, left as leaves_by, remains_as, went}
-use Rattle.step_core.specs.Steps.{Step, acts, asks, at_rest, begins, begun, claims, ends_on, first, given, is_event, looks, made_on, prepares}
+use Rattle.step_core.specs.Steps.{Step, acts, asks, at_rest, begins, begun, claims, ends_on, first, given, looks, made_on, prepares}
 use Rattle.step_core.specs.Steps.{silent, step_at, stepped as stepped_by, story_after, tried, tries, trying, with_endings}
 use Rattle.step_core.specs.Stories.{Story, known, object_in, pending, state}
 use Rattle.step_core.specs.Told.{ends_by, is_prepared, makes}

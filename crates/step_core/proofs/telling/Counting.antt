@@ -1,13 +1,11 @@
 -- What a step adds to the totals, and what it takes from the tasks that are left.
-use Rattle.std.proofs.Common.{◌≡◌, ℕ, suc, ◌+◌, ◌*◌, ◌≤◌, ◌==◌, Bool, true, false, cond, List, [], ◌∷◌, length, get_or, refl, sym, ap, ◌∙◌, arith}
-use Rattle.std.specs.Prelude.{Option, Some, None, is_some, not, option_map, slice_set}
+use Rattle.std.proofs.Common.{◌≡◌, ℕ, suc, ◌+◌, ◌*◌, ◌≤◌, ◌==◌, Bool, true, false, cond, List, [], ◌∷◌, get_or, refl, sym, ap, ◌∙◌, arith}
+use Rattle.std.specs.Prelude.{Option, Some, None, is_some, option_map}
 use Rattle.std.proofs.lemmas.Bool.{cond_both}
-use Rattle.control_word.specs.declared.event.Entry.{Entry}
 use Rattle.control_word.specs.declared.event.Event.TheVariants as event
 use Rattle.control_word.specs.declared.place.Block.{Block}
 use Rattle.control_word.specs.declared.place.Place.{Place}
 use Rattle.control_word.specs.Histories.{entry}
-use Rattle.control_word.specs.Events.{origin}
 use Rattle.control_word.specs.State.{weak}
 use Rattle.step_core.specs.declared.act.Act.{Act}
 use Rattle.step_core.specs.declared.act.Form.{Form}
@@ -31,7 +29,7 @@ use Rattle.step_core.specs.Steps.{silent, step_at, stepped, story_by, walk_by}
 use Rattle.step_core.specs.Deeds.{give, is_enabled, read, downgrade, is_last as is_last_of, leave, leave_as, lock, owned, owner_word, share, share_as, tell, tell_expired, alias, aliased}
 use Rattle.control_word.specs.declared.handle.Kind.{Kind}
 use Rattle.control_word.specs.declared.handle.Kind.TheVariants.{Owner, Weak}
-use Rattle.step_core.specs.Stories.{Nothing, Story, known, object_in, owner_in, pending, state}
+use Rattle.step_core.specs.Stories.{Story, known, object_in, owner_in, pending, state}
 use Rattle.step_core.specs.Told.{ends_by, is_prepared, makes}
 use Rattle.step_core.specs.Totals.{ended_in, made_in}
 use Rattle.step_core.specs.Turning.{IsAlone, IsUnderWay}
@@ -158,7 +156,7 @@ made_one v d i k w t ts b f form e same none is =
     let x = holding w.slots form.null (Some b.0) in
     let l = settled_alone x.0 x.1 ts in
     let n : walk_steps (settled x.0 x.1 w.endings ts) ≡ walk_steps (settled x.0 x.1 [] ts) =
-        ap (λ (es : List Ending). walk_steps (settled x.0 x.1 es ts)) none in
+    ap (λ (es : List Ending). walk_steps (settled x.0 x.1 es ts)) none in
     let a = walk_alone w t ts none is in
     let g : weight t.act ≡ 28 = ap weight same in
     record { made = m; ended = plus_none _; few = omega (arith, c, l, n, a, g) }
@@ -183,7 +181,7 @@ begun_in : (v : Story) (d k : ℕ) (w : Walk) (t : Task) (ts : List Task) (o : O
 begun_in v d k w t ts None none is =
     let l = settled_alone w.slots false ts in
     let n : walk_steps (settled w.slots false w.endings ts) ≡ walk_steps (settled w.slots false [] ts) =
-        ap (λ (es : List Ending). walk_steps (settled w.slots false es ts)) none in
+    ap (λ (es : List Ending). walk_steps (settled w.slots false es ts)) none in
     let a = walk_alone w t ts none is in
     record { made = plus_none _; ended = plus_none _; few = omega (arith, l, n, a) }
 begun_in v d k w t ts (Some b) none is = record { made = plus_none _; ended = plus_none _; few = omega arith }

@@ -1,5 +1,5 @@
 -- What an act takes from the steps that a thread has left.
-use Rattle.std.proofs.Common.{◌≡◌, ℕ, zero, suc, ◌+◌, ◌*◌, ◌-◌, ◌<◌, ◌≤◌, Bool, true, false, cond, List, [], ◌∷◌, length, get_or, refl, sym, ap, subst, ◌∙◌, arith}
+use Rattle.std.proofs.Common.{◌≡◌, ℕ, ◌+◌, ◌*◌, ◌<◌, ◌≤◌, Bool, true, false, cond, List, [], ◌∷◌, length, refl, sym, ap, subst, ◌∙◌, arith}
 use Rattle.std.proofs.Common.{get_or-set_same, length-set}
 use Rattle.std.specs.Prelude.{Option, Some, None, is_some, reverse, slice_set, sum_by}
 use Rattle.std.proofs.lemmas.Bool.{cond_both}
@@ -21,7 +21,8 @@ use Rattle.step_core.specs.Endings.{staged}
 use Rattle.step_core.specs.Steps.{with_endings}
 use Rattle.step_core.specs.Holdings.{Slots, is_full, plain, pointer_of, slot, value}
 use Rattle.step_core.specs.Entries.{on}
-use Rattle.step_core.specs.Scenes.{begins_end, begins_end_as, ended_by, ended_of, endings_by, hands, left, remains_as, went}
+use Rattle.step_core.specs.Scenes.{begins_end, begins_end_as, ended_by, endings_by, hands, left, remains_as, went}
+
 -- what settling passes over has no steps left
 pub settled_steps : (slots : Slots) (taken : Bool) (es : List Ending) (ts : List Task) → task_steps (settled slots taken es ts).todo ≤ task_steps ts
 settled_steps slots taken es [] = omega arith

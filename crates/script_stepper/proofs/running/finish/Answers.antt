@@ -1,6 +1,6 @@
 use Rattle.std.proofs.Common.{sym, ◌∙◌}
 use Rattle.std.specs.Prelude.{string_bytes}
-use Rattle.script_stepper.proofs.RunLemmas.{alone_ends, alone_less, alone_more, run_thread}
+use Rattle.script_stepper.proofs.RunLemmas.{alone_ends, alone_more, run_thread}
 use Rattle.script_stepper.proofs.running.finish.Goals as goal
 
 pub take_turn-requires-clause-thread : goal.take_turn-requires-clause-thread
@@ -9,18 +9,12 @@ take_turn-requires-clause-thread c =
     c.requires.thread
 
 pub loop-smaller : goal.loop-smaller
-loop-smaller c =
-    let t =
-    run_thread _ c.args.world.now c.loop.world (string_bytes c.args.text.now) (string_bytes c.loop.text) c.args.thread c.loop.invariant.run
-    c.requires.thread in
-    alone_less c.args.thread c.loop.world c.take_turn.new.world (string_bytes c.loop.text) (string_bytes c.take_turn.new.text) t
-    c.in_ok-take_turn.ensures.run (sym c.if-branch.true ∙ c.in_ok-take_turn.ensures.acted)
+loop-smaller c = c.in_ok-take_turn.ensures.less c.if-branch.true
 
 pub loop-preserved : goal.loop-preserved
 loop-preserved c =
     alone_more c.args.thread c.args.world.now c.loop.world c.take_turn.new.world (string_bytes c.args.text.now) (string_bytes c.loop.text)
-    (string_bytes c.take_turn.new.text)
-    c.requires.thread c.loop.invariant c.in_ok-take_turn.ensures.run (sym c.if-branch.true ∙ c.in_ok-take_turn.ensures.acted)
+    (string_bytes c.take_turn.new.text) c.loop.invariant c.in_ok-take_turn.ensures.run (c.in_ok-take_turn.ensures.less c.if-branch.true)
 
 pub returns-clause-run : goal.returns-clause-run
 returns-clause-run c n le =

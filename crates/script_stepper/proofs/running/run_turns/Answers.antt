@@ -15,7 +15,7 @@ loop-index-preserved c =
     record {
       run =
           ends_then c.args.turns.now c.loop-index.index c.args.world.now c.loop-index.world c.finish.new.world
-          (string_bytes c.args.text.now) (string_bytes c.loop-index.text) (string_bytes c.finish.new.text) here c.loop-index.invariant.run
+          (string_bytes c.args.text.now) (string_bytes c.loop-index.text) (string_bytes c.finish.new.text) c.requires.new here c.loop-index.invariant.run
           c.in_ok-finish.ensures.run;
       over =
           over_then c.loop-index.index c.loop-index.world c.finish.new.world (string_bytes c.loop-index.text) (string_bytes c.finish.new.text)

@@ -2,8 +2,12 @@ use Rattle.std.proofs.Common.{sym, ◌∙◌}
 use Rattle.std.specs.Prelude.{string_bytes}
 use Rattle.step_core.specs.Worlds.{scene}
 use Rattle.script_stepper.specs.Traces.{schedule}
+use Rattle.script_stepper.proofs.Overs.{at_end}
 use Rattle.script_stepper.proofs.StepLemmas.{same_blocks, shown_text}
 use Rattle.script_stepper.proofs.stepping.turns_text.Goals as goal
+
+pub put_closing-requires-clause-end : goal.put_closing-requires-clause-end
+put_closing-requires-clause-end c = at_end c.run_turns.new.world c.in_ok-run_turns.ensures.run.rests c.in_ok-run_turns.ensures.over
 
 pub put_closing-requires-clause-all : goal.put_closing-requires-clause-all
 put_closing-requires-clause-all c =

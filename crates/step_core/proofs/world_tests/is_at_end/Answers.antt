@@ -13,13 +13,15 @@ use Rattle.step_core.specs.Worlds.{thread_half, thread_walk}
 use Rattle.step_core.proofs.world_tests.is_at_end.Goals as goal
 
 no_task : (t : Thread) → HasEnded t → (thread_walk t).todo ≡ []
-no_task t e = let a = e.1 in drop_all t.course.at t.course.tasks.items (omega (arith, a))
+no_task t e = let a = e.2 in drop_all t.course.at t.course.tasks.items (omega (arith, a))
 
 at_end : (v : Story) (threads : List Thread) → All HasEnded threads → IsAtEnd (sight v threads)
 at_end v threads all =
     record {
       walks = All-map (λ (w : Walk). w.todo ≡ []) thread_walk threads
           (All-weaker HasEnded (λ (t : Thread). (thread_walk t).todo ≡ []) no_task threads all);
+      endings = All-map (λ (w : Walk). w.endings ≡ []) thread_walk threads
+          (All-weaker HasEnded (λ (t : Thread). (thread_walk t).endings ≡ []) (λ t e. e.1) threads all);
       halves = All-map (λ (h : Half). h ≡ Rest) thread_half threads (All-weaker HasEnded (λ (t : Thread). t.half ≡ Rest) (λ t e. e.0) threads all);
     }
 

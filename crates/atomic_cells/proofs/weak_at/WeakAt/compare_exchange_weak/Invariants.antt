@@ -1,4 +1,4 @@
-use Rattle.std.proofs.Common.{◌+◌, true}
+use Rattle.std.proofs.Common.{true}
 use Rattle.atomic_cells.specs.Sites.{weak_cell}
 use Rattle.control_word.specs.declared.handle.Kind.TheVariants.{Weak}
 use Rattle.control_block.specs.CellCalls.{handle_in}

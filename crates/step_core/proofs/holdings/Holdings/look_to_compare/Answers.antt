@@ -95,7 +95,8 @@ returns-then-is_same_value-clause-holds c =
     let same = same_value x (as_word (value l m.expected)) in
     let w = after v d (OnCell (Look c.args.cell x (Some (compared_in l m)))) in
     let t = c.look_to_compare-found.ensures.after ∙ looked_in d l v c.args.cell x m c.compared-compared.result c.known.ensures c.requires.holds c.compared-compared.ensures in
-    subst (λ (u : Story). Holds d l u) (left_next (is_some x.owned) same v w (sym (c.is_same_value.ensures ∙ ap (λ (q : Compared). same_value x q.expected) c.compared-compared.ensures) ∙ c.if-is_same_value.true) ∙ sym t) c.requires.holds
+    let alike = sym (c.is_same_value.ensures ∙ ap (λ (q : Compared). same_value x q.expected) c.compared-compared.ensures) ∙ c.if-is_same_value.true in
+    subst (λ (u : Story). Holds d l u) (left_next (is_some x.owned) same v w alike ∙ sym t) c.requires.holds
 
 pub returns-clause-found : goal.returns-clause-found
 returns-clause-found c =

@@ -1,6 +1,11 @@
-use Rattle.std.proofs.Common.{◌<◌, length, arith}
-use Rattle.step_core.proofs.runs.Chains.{on_more}
-use Rattle.step_core.proofs.runs.Measures.{Falls, before_end}
+use Rattle.std.proofs.Common.{◌<◌, length, ap, arith}
+use Rattle.step_core.specs.declared.half.Half.{Half}
+use Rattle.step_core.specs.Bounds.{most_steps, spare}
+use Rattle.step_core.specs.Scenes.{walk_of}
+use Rattle.step_core.specs.Worlds.{scene}
+use Rattle.step_core.proofs.runs.Chains.{on_end, on_more}
+use Rattle.step_core.proofs.runs.Lessening.{alone}
+use Rattle.step_core.proofs.runs.Measures.{Falls, at_end, before_end}
 use Rattle.step_core.proofs.world.World.finish_one.Goals as goal
 
 module _ (c : goal.After-add) where
@@ -45,3 +50,19 @@ loop-stepped-preserved c =
       room = omega (arith, l, less, before);
       capacity = (let first = c.loop-stepped.invariant.capacity in omega (arith, room, first));
     }
+
+pub returns-in-Done-clause-adds : goal.returns-in-Done-clause-adds
+returns-in-Done-clause-adds c =
+    let e = at_end c.args.number c.loop-stepped.self c.advance.new.self c.in-Done.ensures.was c.in-Done.ensures.steps in
+    on_end c.args.number c.args.self.now c.loop-stepped.self c.advance.new.self c.args.steps.now.items c.loop-stepped.steps.items
+    c.loop-stepped.invariant.on e.0 e.1
+
+pub returns-in-Done-clause-room : goal.returns-in-Done-clause-room
+returns-in-Done-clause-room c =
+    let e = at_end c.args.number c.loop-stepped.self c.advance.new.self c.in-Done.ensures.was c.in-Done.ensures.steps in
+    let u = c.loop-stepped.self in
+    let a = ap (λ (h : Half). alone u.story (walk_of (scene u) c.args.number) h) e.1.half in
+    let s = ap spare e.1.half in
+    let m = ap most_steps e.0 in
+    let r = c.loop-stepped.invariant.room in
+    omega (arith, a, s, m, r)

@@ -1,0 +1,95 @@
+-- What an act does to the totals of a history, and to the parts that endings have left.
+use Rattle.std.proofs.Common.{◌≡◌, ℕ, ◌+◌, ◌*◌, ◌≤◌, Bool, true, false, List, ◌∷◌, refl, arith}
+use Rattle.std.specs.Prelude.{Option, Some, None, cond}
+use Rattle.control_word.specs.declared.handle.Kind.{Kind}
+use Rattle.control_word.specs.declared.handle.Kind.TheVariants.{Owner, Weak}
+use Rattle.control_word.specs.Histories.{entry, leads}
+use Rattle.control_word.specs.State.{Opening, State}
+use Rattle.step_core.specs.declared.act.Act.{Act}
+use Rattle.step_core.specs.declared.act.Act.TheVariants.{Make, Share, Downgrade, Alias, Move, FromThis, Lock, Put, Leave, Clear, Count, Expired, Read, Ask}
+use Rattle.step_core.specs.declared.act.Form.{Form}
+use Rattle.step_core.specs.declared.ending.Ending.{Ending}
+use Rattle.step_core.specs.declared.holdings.Pointer.{Pointer}
+use Rattle.step_core.specs.Courses.{locked}
+use Rattle.step_core.specs.Deeds.{aliased, is_last}
+use Rattle.step_core.specs.Holdings.{Slots, inside, owner_slot, place_in, slot}
+use Rattle.step_core.specs.Entries.{History, acted, aliases, counts, downgrades, expires, given_as, gives, giving}
+use Rattle.step_core.specs.Entries.{least, leaves, left_as, locks, made, on, reads, shared_as, shares}
+use Rattle.step_core.specs.Scenes.{begins_end, begins_end_as, endings_by}
+use Rattle.step_core.specs.Totals.{ended_in, made_in}
+use Rattle.script_stepper.specs.Running.{parts_left}
+
+-- how many objects an act makes at most
+abbrev pub may_make : Act → ℕ
+may_make (Make form) = 1
+may_make _ = 0
+
+-- at most so many objects were made, and so many last owners left, whose objects now have all parts of their ends left
+pub record Tally (most : ℕ) (h : History) (es : List Ending) (h' : History) (es' : List Ending) : Type 0 where
+  pub made : made_in h' ≤ made_in h + most
+  pub last : ℕ
+  pub ended : ended_in h' ≡ ended_in h + last
+  pub parts : parts_left es' ≡ parts_left es + 4 * last
+
+same : (most : ℕ) (h h' : History) (es : List Ending) → made_in h' ≡ made_in h → ended_in h' ≡ ended_in h → Tally most h es h' es
+same most h h' es m e =
+    record { made = omega (arith, m); last = 0; ended = omega (arith, e); parts = omega arith }
+
+same_on : (f : Pointer → History) (h : History) (es : List Ending) (x : Option Pointer) → ((p : Pointer) → made_in (f p) ≡ made_in h)
+    → ((p : Pointer) → ended_in (f p) ≡ ended_in h) → Tally 0 h es (on f h x) es
+same_on f h es None m e = same 0 h h es refl refl
+same_on f h es (Some p) m e = same 0 h (f p) es (m p) (e p)
+
+make_tally : (d : ℕ) (form : Form) (h : History) (es : List Ending) (b : Option ℕ) → Tally 1 h es (made d form h b) es
+make_tally d form h es None = same 1 h h es refl refl
+make_tally d form h es (Some b) = record { made = omega arith; last = 0; ended = omega arith; parts = omega arith }
+
+shared_made : (d : ℕ) (h : History) (s : State) (p : Pointer) (k : Kind) → made_in (entry d (shared_as k s p) ∷ h) ≡ made_in h
+shared_made d h s p Owner = refl
+shared_made d h s p Weak = refl
+
+shared_ended : (d : ℕ) (h : History) (s : State) (p : Pointer) (k : Kind) → ended_in (entry d (shared_as k s p) ∷ h) ≡ ended_in h
+shared_ended d h s p Owner = refl
+shared_ended d h s p Weak = refl
+
+given_made : (d : ℕ) (h : History) (s : State) (p : Pointer) (k : Kind) → made_in (entry d (given_as k s p) ∷ h) ≡ made_in h
+given_made d h s p Owner = refl
+given_made d h s p Weak = refl
+
+given_ended : (d : ℕ) (h : History) (s : State) (p : Pointer) (k : Kind) → ended_in (entry d (given_as k s p) ∷ h) ≡ ended_in h
+given_ended d h s p Owner = refl
+given_ended d h s p Weak = refl
+
+-- a pointer leaves, and its object ends or not
+left_one : (d k : ℕ) (h : History) (es : List Ending) (s : State) (p : Pointer) (kind : Kind) (last : Bool)
+    → Tally 0 h es (entry d (left_as kind s p last) ∷ h) (cond last (begins_end_as kind k p es) es)
+left_one d k h es s p Owner true = record { made = omega arith; last = 1; ended = omega arith; parts = omega arith }
+left_one d k h es s p Owner false = record { made = omega arith; last = 0; ended = omega arith; parts = omega arith }
+left_one d k h es s p Weak true = record { made = omega arith; last = 0; ended = omega arith; parts = omega arith }
+left_one d k h es s p Weak false = record { made = omega arith; last = 0; ended = omega arith; parts = omega arith }
+
+left_tally : (z : Opening) (d k : ℕ) (h : History) (es : List Ending) (x : Option Pointer)
+    → Tally 0 h es (on (leaves z d h) h x) (on (λ p. begins_end (leads z h) k p es) es x)
+left_tally z d k h es None = same 0 h h es refl refl
+left_tally z d k h es (Some p) = left_one d k h es (leads z h) p p.kind (is_last (leads z h) p)
+
+pub tally : (z : Opening) (d k : ℕ) (slots : Slots) (h : History) (es : List Ending) (a : Act)
+    → Tally (may_make a) h es (acted z d slots h a) (endings_by (leads z h) k slots es a)
+tally z d k slots h es (Make form) = make_tally d form h es (least d (leads z h).stores)
+tally z d k slots h es (Share i) =
+    same_on (shares z d h) h es (slot slots i) (λ p. shared_made d h (leads z h) p p.kind) (λ p. shared_ended d h (leads z h) p p.kind)
+tally z d k slots h es (Put i) = left_tally z d k h es (slot slots i)
+tally z d k slots h es (Leave i) = left_tally z d k h es (slot slots i)
+tally z d k slots h es (Clear i) = left_tally z d k h es (slot slots i)
+tally z d k slots h es (Count i) = same_on (counts z d h) h es (slot slots i) (λ p. refl) (λ p. refl)
+tally z d k slots h es (Downgrade i) = same_on (downgrades z d h) h es (slot slots i) (λ p. refl) (λ p. refl)
+tally z d k slots h es (Lock i must) = same_on (locks z d h) h es (locked slots (Lock i must)) (λ p. refl) (λ p. refl)
+tally z d k slots h es (Expired i) = same_on (expires z d h) h es (slot slots i) (λ p. refl) (λ p. refl)
+tally z d k slots h es (Read i) = same_on (reads z d h) h es (inside (slot slots i)) (λ p. refl) (λ p. refl)
+tally z d k slots h es (FromThis i kind) =
+    same_on (gives kind z d h) h es (giving (leads z h) (inside (slot slots i))) (λ p. given_made d h (leads z h) p kind)
+    (λ p. given_ended d h (leads z h) p kind)
+tally z d k slots h es (Alias i j field) =
+    same_on (aliases (aliased field (place_in slots j)) z d h) h es (owner_slot (slot slots i)) (λ p. refl) (λ p. refl)
+tally z d k slots h es (Move i) = same 0 h h es refl refl
+tally z d k slots h es (Ask q) = same 0 h h es refl refl

@@ -1,0 +1,185 @@
+-- What endings do that go on by themselves.
+use Rattle.std.proofs.Common.{◌≡◌, ℕ, zero, suc, ◌-◌, ◌<◌, ◌≤◌, true, false, List, [], ◌∷◌, inl, inr, length, refl, sym, ◌∙◌, ap, subst, arith, get_or-set_same}
+use Rattle.std.specs.Prelude.{◌⊎◌, Option, Some, None, slice_set}
+use Rattle.std.proofs.lemmas.Bool.{cond_both}
+use Rattle.std.proofs.lemmas.List.{length-set}
+use Rattle.control_word.specs.declared.handle.Handle.{Handle}
+use Rattle.control_word.specs.Handles.{has_object}
+use Rattle.control_word.specs.Histories.{leads}
+use Rattle.control_word.specs.State.{Opening, State}
+use Rattle.step_core.specs.declared.ending.Ending.{Ending}
+use Rattle.step_core.specs.declared.slot.Slot.{Slot}
+use Rattle.step_core.specs.Courses.{Walk, hand}
+use Rattle.step_core.specs.Holdings.{Slots, is_full, plain, pointer_of, slot}
+use Rattle.step_core.specs.Entries.{History}
+use Rattle.step_core.specs.Scenes.{Wound, clears, goes_on, rested_walk, slot_as, slot_of, stops, unwound}
+use Rattle.step_core.specs.Totals.{ended_in, made_in}
+use Rattle.script_stepper.specs.Running.{parts_left}
+use Rattle.script_stepper.proofs.Acting.{IsFree}
+
+-- ---- an ending that goes on by itself
+
+-- what came out of a member has an object, and there are fewer members behind it
+abbrev pub IsOut : ℕ → Option (ℕ × Slot) → Type 0
+IsOut n None = Unit {0}
+IsOut n (Some p) = (p.0 < n) × (is_full (pointer_of p.1) ≡ true)
+
+full_as : (s : State) (h : Handle) (o : Option ℕ) → elim (o) [ None ↦ false | Some n ↦ true ] ≡ true → is_full (pointer_of (slot_as s h o)) ≡ true
+full_as s h None e = absurd cc
+full_as s h (Some o) e = refl
+
+full_of : (s : State) (h : Handle) → has_object h ≡ true → is_full (pointer_of (slot_of s h)) ≡ true
+full_of s h e = full_as s h h.object e
+
+out_more : (n : ℕ) (o : Option (ℕ × Slot)) → IsOut n o → IsOut (suc n) o
+out_more n None h = tt
+out_more n (Some p) h = let l = h.0 in (omega (arith, l), h.1)
+
+stops_out : (z : Opening) (d o n : ℕ) (h : History) → IsOut n (stops z d o n h).out
+stops_out z d o zero h = tt
+stops_out z d o (suc k) h =
+    let s = leads z h in
+    let x = (s.object o).member (2 - k) in
+    cond_both (has_object x) (record { history = clears z d o (2 - k) h; out = Some (k, slot_of s x) })
+    (stops z d o k (clears z d o (2 - k) h)) (λ c. IsOut (suc k) c.out) (λ e. (omega arith, full_of s x e))
+    (λ _. out_more k (stops z d o k (clears z d o (2 - k) h)).out (stops_out z d o k (clears z d o (2 - k) h)))
+
+-- the end of an object makes none, and leaves none to its end
+abbrev pub SameTotals : History → History → Type 0
+SameTotals h h' = (made_in h' ≡ made_in h) × (ended_in h' ≡ ended_in h)
+
+same_then : (a b c : History) → SameTotals a b → SameTotals b c → SameTotals a c
+same_then a b c p q = (q.0 ∙ p.0, q.1 ∙ p.1)
+
+stops_totals : (z : Opening) (d o n : ℕ) (h : History) → SameTotals h (stops z d o n h).history
+stops_totals z d o zero h = (refl, refl)
+stops_totals z d o (suc k) h =
+    let s = leads z h in
+    let x = (s.object o).member (2 - k) in
+    cond_both (has_object x) (record { history = clears z d o (2 - k) h; out = Some (k, slot_of s x) })
+    (stops z d o k (clears z d o (2 - k) h)) (λ c. SameTotals h c.history) (λ e. (refl, refl))
+    (λ _. same_then h (clears z d o (2 - k) h) (stops z d o k (clears z d o (2 - k) h)).history (refl, refl)
+    (stops_totals z d o k (clears z d o (2 - k) h)))
+
+-- ---- endings that go on
+
+goes_totals : (e : Ending) (es : List Ending) (h m : History) (slots : Slots) (others : Wound) (o : Option (ℕ × Slot)) → SameTotals h m
+    → SameTotals m others.history → SameTotals h (goes_on e es m slots others o).history
+goes_totals e es h m slots others None p q = same_then h m others.history p q
+goes_totals e es h m slots others (Some x) p q = p
+
+pub unwound_totals : (z : Opening) (d : ℕ) (slots : Slots) (es : List Ending) (h : History) → SameTotals h (unwound z d slots es h).history
+unwound_totals z d slots [] h = (refl, refl)
+unwound_totals z d slots (e ∷ es) h =
+    let o = (leads z h).latest e.block.0 in
+    let c = stops z d o (3 - e.stage) h in
+    goes_totals e es h c.history slots (unwound z d slots es c.history) c.out (stops_totals z d o (3 - e.stage) h)
+    (unwound_totals z d slots es c.history)
+
+goes_size : (e : Ending) (es : List Ending) (m : History) (slots : Slots) (others : Wound) (o : Option (ℕ × Slot))
+    → length others.slots ≡ length slots → length (goes_on e es m slots others o).slots ≡ length slots
+goes_size e es m slots others None p = p
+goes_size e es m slots others (Some x) p = length-set slots (hand slots) x.1
+
+pub unwound_size : (z : Opening) (d : ℕ) (slots : Slots) (es : List Ending) (h : History) → length (unwound z d slots es h).slots ≡ length slots
+unwound_size z d slots [] h = refl
+unwound_size z d slots (e ∷ es) h =
+    let c = stops z d ((leads z h).latest e.block.0) (3 - e.stage) h in
+    goes_size e es c.history slots (unwound z d slots es c.history) c.out (unwound_size z d slots es c.history)
+
+goes_less : (e : Ending) (es : List Ending) (m : History) (slots : Slots) (others : Wound) (o : Option (ℕ × Slot)) → IsOut (3 - e.stage) o
+    → parts_left others.endings ≤ parts_left es → parts_left (goes_on e es m slots others o).endings < parts_left (e ∷ es)
+goes_less e es m slots others None h p = omega (arith, p)
+goes_less e es m slots others (Some x) h p = let l = h.0 in omega (arith, l)
+
+unwound_parts : (z : Opening) (d : ℕ) (slots : Slots) (es : List Ending) (h : History) → parts_left (unwound z d slots es h).endings ≤ parts_left es
+unwound_parts z d slots [] h = omega arith
+unwound_parts z d slots (e ∷ es) h =
+    let o = (leads z h).latest e.block.0 in
+    let c = stops z d o (3 - e.stage) h in
+    let l = goes_less e es c.history slots (unwound z d slots es c.history) c.out (stops_out z d o (3 - e.stage) h)
+    (unwound_parts z d slots es c.history) in
+    omega (arith, l)
+
+unwound_less : (z : Opening) (d : ℕ) (slots : Slots) (es : List Ending) (h : History) → 0 < parts_left es
+    → parts_left (unwound z d slots es h).endings < parts_left es
+unwound_less z d slots [] h some = absurd (omega (arith, some))
+unwound_less z d slots (e ∷ es) h some =
+    let o = (leads z h).latest e.block.0 in
+    let c = stops z d o (3 - e.stage) h in
+    goes_less e es c.history slots (unwound z d slots es c.history) c.out (stops_out z d o (3 - e.stage) h)
+    (unwound_parts z d slots es c.history)
+
+-- no ending is left, or what came out of a member is in hand
+abbrev pub IsWaiting : Slots → List Ending → Type 0
+IsWaiting slots es = (es ≡ []) ⊎ (is_full (slot slots (hand slots)) ≡ true)
+
+hand_full : (slots : Slots) (x : Slot) → 0 < length slots → is_full (pointer_of x) ≡ true
+    → is_full (slot (slice_set slots (hand slots) x) (hand (slice_set slots (hand slots) x))) ≡ true
+hand_full slots x some full =
+    let n = length-set slots (hand slots) x in
+    let same : hand slots ≡ hand (slice_set slots (hand slots) x) = omega (arith, n) in
+    subst (λ (j : ℕ). is_full (slot (slice_set slots (hand slots) x) j) ≡ true) same
+    (ap (λ (y : Slot). is_full (pointer_of y)) (get_or-set_same slots (hand slots) x plain (omega (arith, some))) ∙ full)
+
+goes_waits : (e : Ending) (es : List Ending) (m : History) (slots : Slots) (others : Wound) (o : Option (ℕ × Slot)) (n : ℕ) → 0 < length slots
+    → IsOut n o → IsWaiting others.slots others.endings
+    → IsWaiting (goes_on e es m slots others o).slots (goes_on e es m slots others o).endings
+goes_waits e es m slots others None n some h p = p
+goes_waits e es m slots others (Some x) n some h p = inr (hand_full slots x.1 some h.1)
+
+unwound_waits : (z : Opening) (d : ℕ) (slots : Slots) (es : List Ending) (h : History) → 0 < length slots
+    → IsWaiting (unwound z d slots es h).slots (unwound z d slots es h).endings
+unwound_waits z d slots [] h some = inl refl
+unwound_waits z d slots (e ∷ es) h some =
+    let o = (leads z h).latest e.block.0 in
+    let c = stops z d o (3 - e.stage) h in
+    goes_waits e es c.history slots (unwound z d slots es c.history) c.out (3 - e.stage) some (stops_out z d o (3 - e.stage) h)
+    (unwound_waits z d slots es c.history some)
+
+-- ---- the endings of a thread
+
+abbrev pub still : History → Walk → Wound
+still h w = record { history = h; slots = w.slots; endings = w.endings }
+
+pub rested_totals : (z : Opening) (d : ℕ) (h : History) (w : Walk) → SameTotals h (rested_walk z d h w).history
+rested_totals z d h w =
+    cond_both (is_full (slot w.slots (hand w.slots))) (still h w) (unwound z d w.slots w.endings h) (λ c. SameTotals h c.history)
+    (λ _. (refl, refl)) (λ _. unwound_totals z d w.slots w.endings h)
+
+pub rested_size : (z : Opening) (d : ℕ) (h : History) (w : Walk) → length (rested_walk z d h w).slots ≡ length w.slots
+rested_size z d h w =
+    cond_both (is_full (slot w.slots (hand w.slots))) (still h w) (unwound z d w.slots w.endings h) (λ c. length c.slots ≡ length w.slots)
+    (λ _. refl) (λ _. unwound_size z d w.slots w.endings h)
+
+pub rested_parts : (z : Opening) (d : ℕ) (h : History) (w : Walk) → parts_left (rested_walk z d h w).endings ≤ parts_left w.endings
+rested_parts z d h w =
+    cond_both (is_full (slot w.slots (hand w.slots))) (still h w) (unwound z d w.slots w.endings h)
+    (λ c. parts_left c.endings ≤ parts_left w.endings) (λ _. omega arith) (λ _. unwound_parts z d w.slots w.endings h)
+
+-- with nothing in hand they get one part further or more
+pub rested_less : (z : Opening) (d : ℕ) (h : History) (w : Walk) → IsFree w.slots → 0 < parts_left w.endings
+    → parts_left (rested_walk z d h w).endings < parts_left w.endings
+rested_less z d h w free some =
+    cond_both (is_full (slot w.slots (hand w.slots))) (still h w) (unwound z d w.slots w.endings h)
+    (λ c. parts_left c.endings < parts_left w.endings)
+    (λ full. let none = ap (λ (x : Slot). is_full (pointer_of x)) free in absurd cc) (λ _. unwound_less z d w.slots w.endings h some)
+
+pub rested_waits : (z : Opening) (d : ℕ) (h : History) (w : Walk) → 0 < length w.slots
+    → IsWaiting (rested_walk z d h w).slots (rested_walk z d h w).endings
+rested_waits z d h w some =
+    cond_both (is_full (slot w.slots (hand w.slots))) (still h w) (unwound z d w.slots w.endings h) (λ c. IsWaiting c.slots c.endings)
+    (λ full. inr full) (λ _. unwound_waits z d w.slots w.endings h some)
+
+-- endings that wait go on no further
+wound_none : (z : Opening) (d : ℕ) (h : History) (w : Walk) (es : List Ending) → w.endings ≡ es → es ≡ [] → unwound z d w.slots es h ≡ still h w
+wound_none z d h w [] e none = ap (λ (l : List Ending). record { history = h; slots = w.slots; endings = l }) (sym e)
+wound_none z d h w (x ∷ es) e none = absurd cc
+
+pub rested_still : (z : Opening) (d : ℕ) (h : History) (w : Walk) → IsWaiting w.slots w.endings → rested_walk z d h w ≡ still h w
+rested_still z d h w (inl none) =
+    cond_both (is_full (slot w.slots (hand w.slots))) (still h w) (unwound z d w.slots w.endings h) (λ c. c ≡ still h w)
+    (λ _. refl) (λ _. wound_none z d h w w.endings refl none)
+rested_still z d h w (inr full) =
+    cond_both (is_full (slot w.slots (hand w.slots))) (still h w) (unwound z d w.slots w.endings h) (λ c. c ≡ still h w)
+    (λ _. refl) (λ no. absurd cc)

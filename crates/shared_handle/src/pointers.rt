@@ -1,0 +1,31 @@
+//! What a handle that isn't empty is on: the calls of control blocks go by it.
+ghost use Rattle.std.specs.Prelude.{◌≡◌};
+ghost use Rattle.control_word.specs.declared.handle.Kind.TheVariants.{Owner, Weak};
+ghost use Rattle.shared_handle.specs.Calls.{IsOn};
+
+use control_block::handles::{self, Pointer, Shared};
+use control_word::handle::Kind;
+
+/// What an owner is on, none where it is empty.
+pub(crate) fn owner_pointer(handle: &Shared) -> Option<Pointer>
+    ensures { IsOn Owner handle.now.block handle.now.place result }
+{
+    let block = handle.block()?;
+    Some(Pointer {
+        kind: Kind::Owner,
+        block,
+        place: handle.place(),
+    })
+}
+
+/// What a weak handle is on, none where it is empty.
+pub(crate) fn weak_pointer(handle: &handles::Weak) -> Option<Pointer>
+    ensures { IsOn Weak handle.now.block handle.now.place result }
+{
+    let block = handle.block()?;
+    Some(Pointer {
+        kind: Kind::Weak,
+        block,
+        place: handle.place(),
+    })
+}
