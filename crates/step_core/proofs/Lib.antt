@@ -19,4 +19,5 @@ pub mod StartStores
 pub mod telling
 pub mod turning
 mod contained
-pub mod Storing
+pub mod StoreFits
+pub mod StoreSteps

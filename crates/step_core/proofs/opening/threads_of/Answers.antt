@@ -1,7 +1,7 @@
 use Rattle.std.proofs.Common.{refl, sym, subst, arith}
 use Rattle.std.specs.Prelude.{All}
 use Rattle.step_core.specs.declared.call.Actor.{Actor}
-use Rattle.step_core.specs.Programs.{IsPart, Part, part_of}
+use Rattle.step_core.specs.Programs.{AllHaveCells, IsPart, Part, part_of}
 use Rattle.step_core.specs.Starts.{HasFields, first_story}
 use Rattle.step_core.proofs.Openings.{push_started}
 use Rattle.step_core.proofs.Programs.{all_mapped, more_calls}
@@ -22,6 +22,12 @@ thread_of-requires-clause-fields c =
     subst (λ (a : Actor). All HasFields a.calls.items) (sym c.index-actors-desk.is)
     (all_mapped (λ (part : Part). All HasFields part.calls) part_of c.args.actors.now c.requires.fields c.loop-desk.desk c.index-actors-desk.result
     c.loop-desk-test.true)
+
+pub thread_of-requires-clause-cells : goal.thread_of-requires-clause-cells
+thread_of-requires-clause-cells c =
+    let z = c.args.extent.now.shape in
+    subst (λ (a : Actor). AllHaveCells z (part_of a)) (sym c.index-actors-desk.is)
+    (all_mapped (AllHaveCells z) part_of c.args.actors.now c.requires.cells c.loop-desk.desk c.index-actors-desk.result c.loop-desk-test.true)
 
 pub loop-desk-preserved : goal.loop-desk-preserved
 loop-desk-preserved c =

@@ -1,1 +1,0 @@
--- How a thread puts values into cells.
