@@ -92,9 +92,13 @@ puts_as o d slots h z (Offer k x) c i e is = cc
 puts_as o d slots h z Drop c i e is = cc
 
 -- after the swap no act is under way
-swap_over : (q : Kind) (k : ℕ) (x : CellWord) (o : Option Block) → is_acting (gives_back q k x o) ≡ false
-swap_over q k x None = refl
-swap_over q k x (Some b) = refl
+no_more : (q : Kind) (k : ℕ) (x : CellWord) (o : Option Block) → is_acting (gives_back q k x o) ≡ false
+no_more q k x None = refl
+no_more q k x (Some b) = refl
+
+swap_over : (d : ℕ) (u : Sight) (k : ℕ) (ts : List Task) (a : Act) (c : CellName) (i : ℕ)
+    → is_acting (swaps u.story d (walk_of (scene u) d) k ts a c i).half ≡ false
+swap_over d u k ts a c i = let found = seen u.story (cell_at (state u.story) c) in no_more (kind_at c) k found found.owned
 
 -- the thread's desk is there, and so is the cell of its act
 abbrev pub CanPut : ℕ → Sight → Act → Type 0
@@ -108,7 +112,7 @@ swaps_so d u k ts a c i can e =
     let p = puts_as (opening v.extent) d w.slots v.history v.extent.shape a c i e can.2 in (
       refl,
       ap (λ (h : History). record { extent = v.extent; history = h; walks = set u.walks d (went (state v) d w k ts a) })
-          (swap_told v d w.slots c i can.1 can.0 p.1 p.2 ∙ sym p.0),
+          (swap_told v d w.slots c i can.1 can.0 p.1.0 p.1.1 ∙ sym p.0),
     )
 
 -- the funds are brought first, where the value has an object
@@ -137,7 +141,7 @@ goes_so d u k ts a (Some g) can e by is = sends_so d u k ts a g.0 g.1 (slot (wal
 sends_same : (d : ℕ) (u : Sight) (k : ℕ) (ts : List Task) (a : Act) (c : CellName) (i : ℕ) (o : Option Pointer)
     → let w = walk_of (scene u) d in
     let x = on (brings w k) (swaps u.story d w k ts a c i) o in is_acting x.half ≡ true → scene (sight_by d u (Some x)) ≡ scene u
-sends_same d u k ts a c i None is = absurd (false≢true (sym (swap_over (kind_at c) k _ _) ∙ is))
+sends_same d u k ts a c i None is = absurd (false≢true (sym (swap_over d u k ts a c i) ∙ is))
 sends_same d u k ts a c i (Some p) is = scene_as u _ _ _ _ refl (same_walks d u)
 
 pub goes_same : (d : ℕ) (u : Sight) (k : ℕ) (ts : List Task) (a : Act) (g : Option Going)
@@ -163,7 +167,7 @@ puts_by d u r (t ∷ ts) e todo way begun answer =
     let none = subst (λ (h : Half). IsAlone h w.endings) e begun.alone in
     let cell = subst (λ (l : List Task). IsInShape u.story.extent.shape l) todo begun.cell in
     plays_as d u t ts y r none todo is answer (swaps_so d u t.statement ts t.act g.0.0 g.0.1 (begun.seat, begun.kept, cell) g.1)
-    (swap_over (kind_at g.0.0) t.statement _ _) begun.within begun.walks
+    (swap_over d u t.statement ts t.act g.0.0 g.0.1) begun.within begun.walks
 
 puts_so : (d : ℕ) (u : Sight) (r : Stepped) (h : Half) → half_of u d ≡ h → is_brought h ≡ true → HasBegun d u → r ≡ stepped u.story (step_of d u)
     → Plays d u (turned_by r) (sight_by d u (step_of d u))
