@@ -51,7 +51,8 @@ returns-clause-fits c =
     let h : c.get-held.result ≡ slot slots (other slots) = c.get-held.ensures ∙ ap (slot slots) c.other.ensures in
     let is : c.drop_other-last.new.table ≡ done_on (leave (state v)) v c.args.desk c.get-held.result = c.drop_other-last.ensures.table ∙ ap (done_on (leave (state v)) v c.args.desk) (sym h) in
     let said : c.drop_other-last.result ≡ on (is_last (state v)) false c.get-held.result = c.drop_other-last.ensures.last ∙ ap (on (is_last (state v)) false) (sym h) in
-    let has : HasLeft c.args.desk c.args.self.now.course c.drop_other-last.new.self c.left-ended.new.self.course c.drop_other-last.new.table c.statement-statement.result c.get-held.result c.drop_other-last.result =
+    let has : HasLeft c.args.desk c.args.self.now.course c.drop_other-last.new.self c.left-ended.new.self.course
+    c.drop_other-last.new.table c.statement-statement.result c.get-held.result c.drop_other-last.result =
     record {
       gone = c.drop_other-last.ensures.on;
       empty = ap (λ (w : Walk). w.taken) c.drop_other-last.ensures.walk ∙ left_taken c.args.self.now.course (slice_set slots (other slots) plain)
@@ -70,7 +71,8 @@ returns-clause-stepped c =
     let h : c.get-held.result ≡ slot slots (other slots) = c.get-held.ensures ∙ ap (slot slots) c.other.ensures in
     let is : c.drop_other-last.new.table ≡ done_on (leave (state v)) v c.args.desk c.get-held.result = c.drop_other-last.ensures.table ∙ ap (done_on (leave (state v)) v c.args.desk) (sym h) in
     let said : c.drop_other-last.result ≡ on (is_last (state v)) false c.get-held.result = c.drop_other-last.ensures.last ∙ ap (on (is_last (state v)) false) (sym h) in
-    let has : HasLeft c.args.desk c.args.self.now.course c.drop_other-last.new.self c.left-ended.new.self.course c.drop_other-last.new.table c.statement-statement.result c.get-held.result c.drop_other-last.result =
+    let has : HasLeft c.args.desk c.args.self.now.course c.drop_other-last.new.self c.left-ended.new.self.course
+    c.drop_other-last.new.table c.statement-statement.result c.get-held.result c.drop_other-last.result =
     record {
       gone = c.drop_other-last.ensures.on;
       empty = ap (λ (w : Walk). w.taken) c.drop_other-last.ensures.walk ∙ left_taken c.args.self.now.course (slice_set slots (other slots) plain)
@@ -84,6 +86,7 @@ returns-clause-stepped c =
     (ap (λ (o : Option Pointer). acts (state v) c.args.desk (walk c.args.self.now.course) (task_at c.args.self.now.course).statement (rest c.args.self.now.course) act.Drop (option_map (leave (state v)) o) Rest) (sym h))
     refl (ap (λ (o : Option Pointer). ended_by (state v) o) (sym h)) is said
     c.left-ended.ensures.ended c.left-ended.ensures.half
-    (went_left c.args.desk c.args.self.now.course c.drop_other-last.new.self c.left-ended.new.self.course v c.drop_other-last.new.table act.Drop c.get-held.result c.drop_other-last.result c.statement-statement.result has (sym h) said c.drop_other-last.ensures.walk)
+    (went_left c.args.desk c.args.self.now.course c.drop_other-last.new.self c.left-ended.new.self.course v c.drop_other-last.new.table
+    act.Drop c.get-held.result c.drop_other-last.result c.statement-statement.result has (sym h) said c.drop_other-last.ensures.walk)
     (c.says.ensures ∙ ap (λ (b : Bool). cond b (Event (record { statement = c.statement-statement.result; answer = None; ended = c.left-ended.result }))
     (Quiet (record { statement = c.statement-statement.result; answer = None; ended = c.left-ended.result }))) c.is_some.ensures)
