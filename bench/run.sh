@@ -1,6 +1,6 @@
 #!/usr/bin/env bash
-# Builds the program `measure` (proved first, where it isn't) and the peers, and prints the table of README.md. The programs
-# run in turn, so that what else the machine does falls on all; a turn takes 10 seconds, and the first argument says how many (20).
+# Builds the program `measure` (proved first, where it isn't) and the peers, and prints the tables of README.md. The programs
+# run in turn, so that what else the machine does falls on all; a turn takes some 13 seconds, and the first argument says how many (20).
 set -euo pipefail
 cd "$(dirname "${BASH_SOURCE[0]}")"
 build=$(mktemp -d)
@@ -8,6 +8,7 @@ trap 'rm -rf "$build"' EXIT
 (cd ../crates/measure && rt run -- 0) > "$build/proof" 2>&1 || { cat "$build/proof"; exit 1; }
 cp ../crates/measure/out/measure "$build/measure"
 g++ -std=c++20 -O2 -Wall -Wextra -o "$build/peers" peers.cpp -lpthread
+g++ -std=c++20 -O2 -Wall -Wextra -o "$build/steps" steps.cpp -lpthread
 arc_swap=()
 for source in /usr/share/cargo/registry/arc-swap-*/src/lib.rs; do
   [ -f "$source" ] || continue
@@ -22,3 +23,4 @@ for turn in $(seq "${1:-20}"); do
 done
 echo "$(uname -n), $(grep -m1 'model name' /proc/cpuinfo | cut -d: -f2 | xargs), $(nproc) processors, $(date -u +%F), load$(uptime | sed 's/.*average//')"
 python3 table.py "$build"/measure.* "$build"/peers.* "$build"/arc.*
+"$build/steps"

@@ -60,6 +60,7 @@ impl<'a> SharedAt<'a> {
 
     /// A copy of what the cell holds ([util.smartptr.atomic.shared]), from its one step on the cell. It tries again while
     /// others change the cell. It is refused `Limit` just where the desk is at its allowance, and then nothing changes.
+    #[inline(always)]
     pub fn load<V: Drop + Send, R: Wait>(
         &self,
         rt: &R,
@@ -82,6 +83,7 @@ impl<'a> SharedAt<'a> {
 
     /// The pointer goes into the cell, and what the cell held comes out ([util.smartptr.atomic.shared]), in one step on the
     /// cell. It waits for nobody, and refuses nothing.
+    #[inline]
     pub fn exchange<V: Drop + Send>(
         &self,
         domain: &Domain<V>,
@@ -109,6 +111,7 @@ impl<'a> SharedAt<'a> {
 
     /// The pointer goes into the cell, and what the cell held leaves ([util.smartptr.atomic.shared]); where that was an
     /// object's last owner, the object ends in the desk's hands. It waits for nobody, and refuses nothing.
+    #[inline]
     #[tactic(auto, using(shared_handle::proofs::Taken::first_out))]
     pub fn store<V: Drop + Send>(
         &self,

@@ -68,6 +68,7 @@ impl<'a> WeakAt<'a> {
 
     /// A copy of what the cell holds ([util.smartptr.atomic.weak]), from its one step on the cell. It tries again while
     /// others change the cell. It is refused `Limit` just where the desk is at its allowance, and then nothing changes.
+    #[inline(always)]
     pub fn load<V: Drop + Send, R: Wait>(
         &self,
         rt: &R,
@@ -90,6 +91,7 @@ impl<'a> WeakAt<'a> {
 
     /// The pointer goes into the cell, and what the cell held comes out ([util.smartptr.atomic.weak]), in one step on the
     /// cell. It waits for nobody, and refuses nothing.
+    #[inline]
     pub fn exchange<V: Drop + Send>(
         &self,
         domain: &Domain<V>,
@@ -118,6 +120,7 @@ impl<'a> WeakAt<'a> {
     /// The pointer goes into the cell, and what the cell held leaves ([util.smartptr.atomic.weak]): it answers `Empty` where
     /// that was an empty one, and else `Others` (own). Where that was the last handle of an object that is gone, its block is
     /// vacant, and in the desk's store. It waits for nobody, and refuses nothing.
+    #[inline]
     #[tactic(auto, using(shared_handle::proofs::Taken::first_out))]
     pub fn store<V: Drop + Send>(
         &self,

@@ -15,7 +15,7 @@ use Rattle.control_block.specs.Desks.{DeskNow}
 use Rattle.control_block.specs.Plays.{Holding, known}
 use Rattle.control_block.specs.declared.board.Sight.{Sight}
 use Rattle.control_block.proofs.CellDesks.{in_seat, one}
-use Rattle.control_block.proofs.CellRounds.{Trades, compare_trades, differ_trades}
+use Rattle.control_block.proofs.CellTrades.{Trades, compare_trades, differ_trades}
 use Rattle.control_block.proofs.Hands.{fills_allowance, fills_stores}
 
 -- one handle more is counted where it differed

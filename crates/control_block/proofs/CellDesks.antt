@@ -25,12 +25,10 @@ use Rattle.control_word.specs.declared.place.Block.{Block}
 use Rattle.control_word.specs.declared.place.Place.{Place}
 use Rattle.control_word.specs.declared.view.Pending.TheVariants.{Idle}
 use Rattle.control_word.specs.Laws.{IsCell}
-use Rattle.control_word.specs.Layout.{cell_place}
 use Rattle.control_word.specs.declared.event.Cell.{Cell}
 use Rattle.control_word.specs.declared.event.Cell.TheVariants.{Free, Member}
-use Rattle.control_word.specs.declared.shape.Shape.{Shape}
-use Rattle.control_block.specs.CellCalls.{Holds, IsFreeCell, object_by, with_handle, without_handle}
-use Rattle.control_block.specs.CellPlays.{IsCellAt, IsWordOf, kind_in}
+use Rattle.control_block.specs.CellCalls.{Holds, object_by, with_handle, without_handle}
+use Rattle.control_block.specs.CellPlays.{IsWordOf}
 use Rattle.control_block.specs.CellRounds.{CameOut, IsCounted}
 use Rattle.control_block.specs.Desks.{DeskNow, bag_of}
 use Rattle.control_block.specs.Handles.{IsProper}
@@ -40,7 +38,8 @@ use Rattle.control_block.specs.Rule.{opening_of, seeing}
 use Rattle.control_block.specs.declared.board.Sight.{Sight}
 use Rattle.control_block.specs.declared.desk.Desk.TheInside.{Inside}
 use Rattle.control_block.proofs.Bags.{alone_there, map_without, seen_as, shown, shown_later}
-use Rattle.control_block.proofs.CellRounds.{Trades, came_holding, came_object, no_block, slot_low}
+use Rattle.control_block.proofs.CellRounds.{came_holding, came_object, no_block}
+use Rattle.control_block.proofs.CellTrades.{Trades, slot_low}
 use Rattle.control_block.proofs.DeskBags.{holding_in}
 use Rattle.control_block.proofs.DeskSteps.{word_inside}
 use Rattle.control_block.proofs.Parts.{part_without_mine}

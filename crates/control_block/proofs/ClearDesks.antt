@@ -1,5 +1,5 @@
 -- What a desk has when a member of an object that ends in its hands was emptied.
-use Rattle.std.proofs.Common.{◌≡◌, ◌≢◌, ℕ, ◌+◌, ◌<◌, ◌≤◌, ◌==◌, min, cond, [], ◌∷◌, ◌++◌, List, length, Option, Some, None, refl, sym, ap, subst, ◌∙◌, inr, eq-eqb, ne_eqb, arith}
+use Rattle.std.proofs.Common.{◌≡◌, ◌≢◌, ℕ, ◌+◌, ◌<◌, ◌≤◌, ◌==◌, min, cond, [], ◌∷◌, List, length, Some, None, refl, sym, ap, subst, ◌∙◌, inr, eq-eqb, ne_eqb, arith}
 use Rattle.std.proofs.lemmas.Bool.{cond-true, cond-false}
 use Rattle.control_word.proofs.history.Legal.{sound}
 use Rattle.control_word.proofs.lists.Tallies.{put_same}
@@ -15,7 +15,7 @@ use Rattle.control_word.specs.declared.handle.Kind.{Kind}
 use Rattle.control_word.specs.declared.view.Pending.TheVariants.{Idle}
 use Rattle.control_block.specs.CellCalls.{handle_in, with_handle}
 use Rattle.control_block.specs.CellRounds.{CameOut}
-use Rattle.control_block.specs.Desks.{Adds, DeskNow, EndsStill, IsEnding, IsSameDesk, bag_of, endings_of, many_ending, member_in, stock_of}
+use Rattle.control_block.specs.Desks.{Adds, EndsStill, IsEnding, IsSameDesk, bag_of, many_ending, member_in, stock_of}
 use Rattle.control_block.specs.Handles.{IsProper}
 use Rattle.control_block.specs.Inside.{IsDesk, IsDeskWith, desk_now}
 use Rattle.control_block.specs.Plays.{Added, Ends, HasRoomFor, known}
@@ -24,8 +24,8 @@ use Rattle.control_block.specs.declared.board.Sight.{Sight}
 use Rattle.control_block.specs.declared.desk.Desk.TheInside.{Inside}
 use Rattle.control_block.proofs.Bags.{shown}
 use Rattle.control_block.proofs.CellDesks.{bag_is, event_is, formed_in, in_seat, one, size_is}
-use Rattle.control_block.proofs.CellRounds.{clear_trades}
-use Rattle.control_block.proofs.DeskBags.{adds_of, before, ends_still, legal_now, now_of, same_desk}
+use Rattle.control_block.proofs.CellTrades.{clear_trades}
+use Rattle.control_block.proofs.DeskBags.{adds_of, before, ends_still, legal_now, same_desk}
 use Rattle.control_block.proofs.DeskSteps.{came, ending_same, quiet_desk, stock_left}
 use Rattle.control_block.proofs.EndingCounts.{some_ending}
 use Rattle.control_block.proofs.Endings.{still_ends}

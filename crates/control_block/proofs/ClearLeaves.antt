@@ -1,5 +1,5 @@
 -- What a desk has when an owner that came out of a member has left.
-use Rattle.std.proofs.Common.{◌≡◌, ℕ, suc, ◌+◌, ◌-◌, ◌<◌, ◌≤◌, min, cond, Bool, [], ◌∷◌, List, length, Option, Some, None, refl, sym, ap, subst, ◌∙◌, arith}
+use Rattle.std.proofs.Common.{◌≡◌, ℕ, ◌+◌, ◌<◌, cond, [], ◌∷◌, List, length, Option, Some, None, refl, ap, subst, ◌∙◌, arith}
 use Rattle.std.specs.Prelude.{IfSome, is_some}
 use Rattle.std.proofs.lemmas.Bool.{cond-true}
 use mir.Val.{bool_byte}
@@ -7,7 +7,7 @@ use Rattle.control_word.proofs.history.Legal.{sound}
 use Rattle.control_word.proofs.lists.Tallies.{handle_self}
 use Rattle.control_word.specs.Handles.{handle, owner, same_handle}
 use Rattle.control_word.specs.Histories.{leads, value}
-use Rattle.control_word.specs.State.{bag_size, without}
+use Rattle.control_word.specs.State.{without}
 use Rattle.control_word.specs.declared.event.Event.{Event}
 use Rattle.control_word.specs.declared.event.Event.TheVariants.{Leave}
 use Rattle.control_word.specs.declared.handle.Handle.{Handle}
@@ -16,7 +16,7 @@ use Rattle.control_word.specs.declared.place.Block.{Block}
 use Rattle.control_word.specs.declared.place.Place.{Place}
 use Rattle.control_word.specs.declared.view.Pending.TheVariants.{Idle}
 use Rattle.control_block.specs.CellCalls.{with_handle}
-use Rattle.control_block.specs.Desks.{Adds, DeskNow, EndsStill, IsEnding, IsSameDesk, bag_of, endings_of, on_latest, stock_of}
+use Rattle.control_block.specs.Desks.{Adds, EndsStill, IsEnding, IsSameDesk, bag_of, endings_of, on_latest, stock_of}
 use Rattle.control_block.specs.Inside.{IsDesk, IsDeskWith, desk_now}
 use Rattle.control_block.specs.Plays.{Added, Holding, known}
 use Rattle.control_block.specs.Rule.{opening_of}

@@ -1,13 +1,12 @@
 -- What a desk has when a weak handle that came out of a member has left.
-use Rattle.std.proofs.Common.{◌≡◌, ℕ, suc, ◌+◌, ◌-◌, ◌<◌, ◌≤◌, ◌==◌, min, cond, Bool, true, [], ◌∷◌, ◌++◌, List, length, Option, Some, None, refl, sym, ap, subst, ◌∙◌, arith}
-use Rattle.std.specs.List.{filter}
+use Rattle.std.proofs.Common.{◌≡◌, ℕ, ◌+◌, ◌<◌, min, cond, Bool, true, [], ◌∷◌, ◌++◌, List, length, Option, Some, None, refl, sym, ap, subst, ◌∙◌, arith}
 use Rattle.std.specs.Prelude.{vec_capacity}
 use Rattle.std.proofs.lemmas.Bool.{cond-true}
 use Rattle.control_word.proofs.history.Legal.{sound}
 use Rattle.control_word.proofs.lists.Tallies.{handle_self}
 use Rattle.control_word.specs.Handles.{handle, same_handle, weak_of}
 use Rattle.control_word.specs.Histories.{leads}
-use Rattle.control_word.specs.State.{Stored, bag_size, stored, without}
+use Rattle.control_word.specs.State.{stored, without}
 use Rattle.control_word.specs.declared.event.Event.{Event}
 use Rattle.control_word.specs.declared.event.Event.TheVariants.{WeakLeave}
 use Rattle.control_word.specs.declared.handle.Handle.{Handle}
@@ -16,7 +15,7 @@ use Rattle.control_word.specs.declared.place.Block.{Block}
 use Rattle.control_word.specs.declared.place.Place.{Place}
 use Rattle.control_word.specs.declared.view.Pending.TheVariants.{Idle}
 use Rattle.control_block.specs.CellCalls.{with_handle}
-use Rattle.control_block.specs.Desks.{Adds, DeskNow, EndsStill, IsEnding, IsSameDesk, bag_of, endings_of, on_latest, stock_of}
+use Rattle.control_block.specs.Desks.{Adds, EndsStill, IsEnding, IsSameDesk, bag_of, endings_of, on_latest, stock_of}
 use Rattle.control_block.specs.Inside.{IsDesk, IsDeskWith, desk_now}
 use Rattle.control_block.specs.Plays.{Added, Holding, known}
 use Rattle.control_block.specs.Rule.{opening_of}

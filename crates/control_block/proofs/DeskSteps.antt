@@ -27,7 +27,7 @@ use Rattle.control_word.specs.declared.place.Block.{Block}
 use Rattle.control_word.specs.declared.view.Pending.{Pending}
 use Rattle.control_word.specs.declared.view.Pending.TheVariants.{Idle}
 use Rattle.control_block.specs.Desks.{many_ending}
-use Rattle.control_block.specs.Inside.{IsDesk, IsDeskWith, IsSized}
+use Rattle.control_block.specs.Inside.{IsDeskWith, IsSized}
 use Rattle.control_block.specs.Plays.{Added, Holding, known}
 use Rattle.control_block.specs.Rule.{opening_of}
 use Rattle.control_block.specs.declared.board.Sight.{Sight}

@@ -1,18 +1,16 @@
 -- How many objects end in a desk's hands.
-use Rattle.std.proofs.Common.{◌≡◌, ◌≢◌, ℕ, zero, suc, ◌+◌, ◌-◌, ◌<◌, ◌≤◌, ◌==◌, Bool, true, false, cond, List, [], ◌∷◌, ◌++◌, refl, sym, ap, subst, ◌∙◌}
+use Rattle.std.proofs.Common.{◌≡◌, ◌≢◌, ℕ, zero, suc, ◌+◌, ◌-◌, ◌<◌, ◌≤◌, ◌==◌, Bool, true, false, cond, List, [], ◌∷◌, ◌++◌, refl, sym, ap, ◌∙◌}
 use Rattle.std.proofs.Common.{⊎_elim, arith, eq-eqb, ne_eqb}
 use Rattle.std.proofs.lemmas.Bool.{cases_eq, cond_both, cond-false, cond-true}
 use Rattle.control_word.proofs.history.Legal.{sound}
-use Rattle.control_word.proofs.history.Moving.{live_busy}
 use Rattle.control_word.proofs.history.Soundness.{Sound}
-use Rattle.control_word.proofs.lists.Tallies.{put_cases, put_other, put_same}
+use Rattle.control_word.proofs.lists.Tallies.{put_other, put_same}
 use Rattle.control_word.proofs.words.Banks.{sum_all, sum_set}
 use Rattle.control_word.specs.Events.{Asks, Holds, after, handed, leaves, moved_to, new_object, renamed}
-use Rattle.control_word.specs.Handles.{empty, object_of}
+use Rattle.control_word.specs.Handles.{object_of}
 use Rattle.control_word.specs.Histories.{IsLegal, leads}
-use Rattle.control_word.specs.State.{Object, Opening, Phase, State, common, ending, gone, kind_of_member, live, put, sum_below, unmade}
+use Rattle.control_word.specs.State.{Object, Opening, Phase, State, common, ending, gone, live, put, sum_below, unmade}
 use Rattle.control_word.specs.Views.{Names, NoneBy}
-use Rattle.control_word.specs.declared.event.Cell.TheVariants.{Free, Member}
 use Rattle.control_word.specs.declared.event.Entry.{Entry}
 use Rattle.control_word.specs.declared.event.Event.{Event}
 use Rattle.control_word.specs.declared.event.Event.TheVariants.{ClearMember, Compare, Count, Expired, Finish, Join, Leave, Load, Lock, Make, Read}
@@ -21,7 +19,7 @@ use Rattle.control_word.specs.declared.handle.Handle.{Handle}
 use Rattle.control_word.specs.declared.handle.Kind.TheVariants.{Owner}
 use Rattle.control_word.specs.declared.place.Block.{Block}
 use Rattle.control_block.specs.Desks.{ends_with, many_ending}
-use Rattle.control_block.proofs.Endings.{fills_latest, fills_phase, owner_lives}
+use Rattle.control_block.proofs.Endings.{owner_lives}
 use Rattle.control_block.proofs.Passage.{IsQuiet}
 
 -- an object without the owners' common count ends with nobody

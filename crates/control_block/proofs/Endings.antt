@@ -1,7 +1,7 @@
 -- An object that ends in a desk's hands stays as it is, whatever the others do.
 use Rattle.std.proofs.Common.{◌≡◌, ◌≢◌, ℕ, suc, ◌<◌, ◌≤◌, Bool, true, false, cond, List, [], ◌∷◌, ◌++◌, Some, None, Option, refl, sym, ap, subst, ◌∙◌}
 use Rattle.std.proofs.Common.{⊎_elim, arith}
-use Rattle.std.proofs.lemmas.Bool.{cases_eq, cond-false}
+use Rattle.std.proofs.lemmas.Bool.{cond-false}
 use Rattle.control_word.proofs.history.Legal.{sound, written}
 use Rattle.control_word.proofs.history.Moving.{counted_live, owner_counted}
 use Rattle.control_word.proofs.history.Others.{valued_else}

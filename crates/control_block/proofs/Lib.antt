@@ -12,6 +12,7 @@ pub mod Passage
 pub mod Unseen
 pub mod CellRounds
 pub mod CellSites
+pub mod CellTrades
 pub mod Still
 pub mod CellWords
 pub mod Hands

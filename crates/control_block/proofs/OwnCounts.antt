@@ -1,5 +1,5 @@
 -- How a desk's own events change the number of objects that end in its hands.
-use Rattle.std.proofs.Common.{◌≡◌, ℕ, ◌+◌, ◌≤◌, ◌==◌, Bool, true, false, cond, List, refl, sym, ap, subst, ◌∙◌, None, eq-eqb, arith}
+use Rattle.std.proofs.Common.{◌≡◌, ℕ, ◌+◌, ◌≤◌, ◌==◌, Bool, true, false, cond, List, refl, ap, ◌∙◌, None, eq-eqb, arith}
 use Rattle.std.proofs.lemmas.Bool.{cond-true}
 use mir.Val.{bool_byte}
 use Rattle.control_word.specs.declared.event.Event.TheVariants.{Finish, Leave, Make}
@@ -7,7 +7,7 @@ use Rattle.control_word.specs.declared.handle.Handle.{Handle}
 use Rattle.control_word.specs.declared.place.Block.{Block}
 use Rattle.control_word.specs.declared.view.Pending.TheVariants.{Idle}
 use Rattle.control_block.specs.Desks.{many_ending}
-use Rattle.control_block.specs.Inside.{IsDesk, IsDeskWith}
+use Rattle.control_block.specs.Inside.{IsDeskWith}
 use Rattle.control_block.specs.Plays.{Added, known}
 use Rattle.control_block.specs.Rule.{opening_of}
 use Rattle.control_block.specs.declared.board.Sight.{Sight}

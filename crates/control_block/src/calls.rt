@@ -65,8 +65,8 @@ pub fn share<V: Drop + Send, A: About>(
     if desk.is_full() {
         return Err(Refusal::Limit);
     }
+    desk.held += 1; // here, since each locked instruction that follows waits for what was stored before it
     steps::share::<V, Brand>(&domain.table.shared, &mut desk.seat, of.block);
-    desk.held += 1;
     Ok(Shared {
         block: Some(of.block),
         place: wanted,
@@ -239,6 +239,7 @@ fn origin_of(block: Block, null: bool) -> Option<Place>
 /// A new object with one owner, in a block of the desk's store ([util.smartptr.shared.create]; for an owned null pointer
 /// [util.smartptr.shared.const]). It is refused `Limit` just where the desk is at its allowance, and else `Full` just
 /// where its store is empty; then the value comes back and nothing changes.
+#[inline(always)]
 pub fn make<V: Drop + Send>(
     domain: &Domain<V>,
     desk: &mut Desk<V>,
@@ -271,9 +272,9 @@ pub fn make<V: Drop + Send>(
             back: value,
         });
     };
+    desk.held += 1; // here, since each locked instruction that follows waits for what was stored before it
     let board = &domain.table.shared;
     steps::make::<V, Brand>(board, &mut desk.seat, block, enabled, null, fields, value);
-    desk.held += 1;
     Ok(Pointer {
         kind: Kind::Owner,
         block,

@@ -54,6 +54,7 @@ pub(crate) fn word_of(blocks: u32, site: Site) -> usize
 
 /// A copy of what a cell holds ([util.smartptr.atomic.shared], [util.smartptr.atomic.weak]). It is refused `Limit` just
 /// where the desk is at its allowance, and then nothing changes.
+#[inline(always)]
 pub fn load<V: Drop + Send, A: Aimed, R: Wait>(
     rt: &R,
     domain: &Domain<V>,
@@ -76,8 +77,8 @@ pub fn load<V: Drop + Send, A: Aimed, R: Wait>(
     }
     let board = &domain.table.shared;
     let word = word_of(domain.shape.blocks, cell.site);
+    desk.held += 1; // here, since each locked instruction that follows waits for what was stored before it
     let seen = cell_rounds::load::<V, A, R>(rt, board, &mut desk.seat, word, cell.kind);
-    desk.held += 1;
     Ok(Content {
         kind: cell.kind,
         block: seen.owned,
@@ -87,6 +88,7 @@ pub fn load<V: Drop + Send, A: Aimed, R: Wait>(
 
 /// A handle that the desk has goes into a cell, and what the cell held comes out ([util.smartptr.atomic.shared],
 /// [util.smartptr.atomic.weak]). It waits for nobody.
+#[inline]
 pub fn exchange<V: Drop + Send, A: Aimed>(
     domain: &Domain<V>,
     desk: &mut Desk<V>,

@@ -14,12 +14,11 @@ ghost use Rattle.control_block.specs.Plays.{HasRoomFor, Holding, Rests, goes_on,
 
 use crate::board::{Board, Chair};
 use crate::cell_plays::Aimed;
-use crate::handles::Pointer;
 use crate::plays::Meant;
 use crate::{cells, funds};
 use control_word::handle::Kind;
 use control_word::shape::CELL_FUNDS;
-use control_word::{Block, CellWord};
+use control_word::{Block, CellWord, Place};
 use std::marker::Brand;
 use std::sync::Wait;
 
@@ -27,45 +26,49 @@ use std::sync::Wait;
 const MANY_TAKEN: u16 = 128;
 
 /// Whether a cell shows a handle in the block with this place, and many of its funds are taken.
-fn is_drained(seen: CellWord, of: Pointer) -> bool
-    ensures { result ≡ true → seen.owned ≡ Some of.block }
+fn is_drained(seen: CellWord, block: Block, place: Option<Place>) -> bool
+    ensures { result ≡ true → seen.owned ≡ Some block }
 {
-    seen.owned == Some(of.block) && seen.place == of.place && seen.taken >= MANY_TAKEN
+    seen.owned == Some(block) && seen.place == place && seen.taken >= MANY_TAKEN
 }
 
 /// Refill: while a cell holds what a handle of the desk's holds, and many of its funds are taken, as many are brought
 /// and put into it (own). Nobody sees a difference but the words.
+#[inline(never)]
 pub fn refill<V, A: Aimed, M: Meant, R: Wait>(
     rt: &R,
     board: &Board<V>,
     chair: &mut Chair<V>,
     word: usize,
-    of: Pointer,
+    kind: Kind,
+    block: Block,
+    place: Option<Place>,
 )
     requires board { (chair.old.table_id ≡ board.now.table_id) × IsSized chair.old.table_id chair.old.me.0.shape }
     requires rests { Rests chair.old.me }
     requires word { word < board.now.table_id.words }
-    requires cell { IsCellAt chair.old.me.0 A.cell word × (of.kind ≡ kind_in chair.old.me.0.shape A.cell) }
-    requires holds { (M.kind ≡ of.kind) × Holding chair.old.me.0 M.kind M.object M.place of.block.0 }
-    requires count { IsCounted of.kind of.block board.now.table_id }
+    requires cell { IsCellAt chair.old.me.0 A.cell word × (kind ≡ kind_in chair.old.me.0.shape A.cell) }
+    requires holds { (M.kind ≡ kind) × Holding chair.old.me.0 M.kind M.object M.place block.0 }
+    requires count { IsCounted kind block board.now.table_id }
     ensures chair { (chair.new.table_id ≡ chair.old.table_id) × (chair.new.id ≡ chair.old.id) × (chair.new.me ≡ chair.old.me) }
 {
     for _ in rt.forever() {
         let seen = cells::peek::<V, A>(board, chair, word);
-        if !is_drained(seen, of) {
+        if !is_drained(seen, block, place) {
             return;
         }
         let taken = u32::from(seen.taken);
-        funds::bring::<V, M>(board, chair, of.kind, of.block, taken);
+        funds::bring::<V, M>(board, chair, kind, block, taken);
         if cells::refill::<V, A>(board, chair, word, seen) {
             return;
         }
-        funds::give_back(board, chair, of.kind, of.block, taken);
+        funds::give_back(board, chair, kind, block, taken);
     }
     unreachable!()
 }
 
 /// Top up: a load that left many funds of a cell taken puts them back. The desk has the handle that the load gave.
+#[inline(always)]
 pub(crate) fn top_up<V, A: Aimed, R: Wait>(
     rt: &R,
     board: &Board<V>,
@@ -87,17 +90,13 @@ pub(crate) fn top_up<V, A: Aimed, R: Wait>(
         return;
     }
     if let Some(block) = seen.owned {
-        let of = Pointer {
-            kind,
-            block,
-            place: seen.place,
-        };
-        refill::<V, A, Brand, R>(rt, board, chair, word, of);
+        refill::<V, A, Brand, R>(rt, board, chair, word, kind, block, seen.place);
     }
 }
 
 /// One try at the load of a cell with an object: a fund is taken and turned into a handle, where the cell still shows
 /// what was seen. Else nothing changes.
+#[inline(always)]
 fn try_load<V, A: Aimed, R: Wait>(
     rt: &R,
     board: &Board<V>,
@@ -129,6 +128,7 @@ fn try_load<V, A: Aimed, R: Wait>(
 
 /// Load: what a cell holds comes out as a handle more ([util.smartptr.atomic.shared], [util.smartptr.atomic.weak]). It
 /// tries again while others change the cell, and while all its funds are taken.
+#[inline(always)]
 pub fn load<V, A: Aimed, R: Wait>(
     rt: &R,
     board: &Board<V>,
@@ -201,6 +201,7 @@ pub(crate) fn settle<V>(
 
 /// Swap: a handle that the desk holds goes into a cell, and what the cell held comes out
 /// ([util.smartptr.atomic.shared], [util.smartptr.atomic.weak]).
+#[inline]
 pub fn swap<V, A: Aimed>(
     board: &Board<V>,
     chair: &mut Chair<V>,

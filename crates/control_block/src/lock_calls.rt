@@ -19,6 +19,7 @@ use std::sync::Wait;
 /// An owner from a weak handle that the desk holds, just where one remains at its step, and else none
 /// ([util.smartptr.weak.obs]). Where the desk had seen the object without owner there is none. It is refused `Limit` just
 /// where the desk is at its allowance, and then nothing changes.
+#[inline(always)]
 pub fn lock<V: Drop + Send, A: About, R: Wait>(
     rt: &R,
     domain: &Domain<V>,
@@ -41,10 +42,11 @@ pub fn lock<V: Drop + Send, A: About, R: Wait>(
     if desk.is_full() {
         return Err(Refusal::Limit);
     }
+    desk.held += 1; // here, since each locked instruction that follows waits for what was stored before it
     if !locks::lock::<V, Brand, R>(rt, &domain.table.shared, &mut desk.seat, of.block) {
+        desk.held -= 1;
         return Ok(None);
     }
-    desk.held += 1;
     Ok(Some(Shared {
         block: Some(of.block),
         place: of.place,

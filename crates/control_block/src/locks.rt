@@ -18,6 +18,7 @@ use std::sync::Wait;
 
 /// Lock: an owner from a weak handle that the desk holds, just where one remains at its step
 /// ([util.smartptr.weak.obs]). It tries again while it finds the owner word changed by others.
+#[inline(always)]
 pub fn lock<V, M: Meant, R: Wait>(
     rt: &R,
     board: &Board<V>,

@@ -17,6 +17,7 @@ impl Pause {
     }
 
     /// Spins for a while, and longer the next time.
+    #[inline(never)]
     pub(crate) fn wait(&mut self) {
         for _ in 0..self.spins {
             std::hint::spin_loop();

@@ -143,6 +143,7 @@ pub fn leave<V: Drop + Send, M: Meant>(
 }
 
 /// The first write of a make: the weak word of an own vacant block becomes 1, and its empty slot is in hand.
+#[inline(always)]
 fn begin<V, M: Meant>(board: &Board<V>, chair: &mut Chair<V>, block: Block)
     requires board { chair.old.table_id ≡ board.now.table_id }
     requires rests { Rests chair.old.me }
@@ -155,6 +156,7 @@ fn begin<V, M: Meant>(board: &Board<V>, chair: &mut Chair<V>, block: Block)
 }
 
 /// A further write of a make: flags are word 0, fields words 1 to 4. A word that has its value is only looked at.
+#[inline(always)]
 fn write<V, M: Meant>(board: &Board<V>, chair: &mut Chair<V>, block: Block, word: usize, value: u64)
     requires board { chair.old.table_id ≡ board.now.table_id }
     requires word { (0 < block.0) × (spot block.0 9 < board.now.table_id.words) × (word < 5) }
@@ -170,6 +172,7 @@ fn write<V, M: Meant>(board: &Board<V>, chair: &mut Chair<V>, block: Block, word
 }
 
 /// All writes of a make before its claim.
+#[inline(always)]
 fn prepare<V>(board: &Board<V>, chair: &mut Chair<V>, block: Block, flags: u64, fields: [u64; 4])
     requires sized { length fields ≡ 4 }
     requires board { chair.old.table_id ≡ board.now.table_id }
@@ -188,6 +191,7 @@ fn prepare<V>(board: &Board<V>, chair: &mut Chair<V>, block: Block, flags: u64, 
 }
 
 /// The claim: a prepared block with a value in its slot becomes an object with one owner.
+#[inline(always)]
 fn claim<V, M: Planned>(board: &Board<V>, chair: &mut Chair<V>, block: Block)
     requires board { chair.old.table_id ≡ board.now.table_id }
     requires word { (0 < block.0) × (spot block.0 0 < board.now.table_id.words) }
@@ -201,6 +205,7 @@ fn claim<V, M: Planned>(board: &Board<V>, chair: &mut Chair<V>, block: Block)
 
 /// Make: an object in an own vacant block, with one owner ([util.smartptr.shared.create]; for an owned null pointer
 /// [util.smartptr.shared.const]).
+#[inline(always)]
 pub fn make<V: Drop + Send, M: Planned>(
     board: &Board<V>,
     chair: &mut Chair<V>,

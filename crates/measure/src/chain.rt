@@ -17,8 +17,8 @@ use shared_handle::{Left, Shared, make, release};
 /// How long a chain is.
 pub(crate) const CHAIN: u32 = 4_095;
 
-/// Where an owner was the last, its object ends, and with it the chain of those that it alone owned, one after the other: no
-/// more than there are blocks.
+/// Where an owner was the last, its object ends, and with it the chain of those that it alone owned, one after the other. It
+/// ends as many objects at most as there are blocks, so that it waits for nobody; what ends after them would stay ending.
 pub(crate) fn end_left(domain: &Domain<()>, desk: &mut Desk<()>, left: Left<()>)
     requires domain { Belongs desk.old domain.now }
     requires left { CanEnd desk.old left }

@@ -28,6 +28,7 @@ pub(crate) fn lose(left: Left<()>) {
 }
 
 /// An object ends: its members are cleared, and it is finished.
+#[inline(always)]
 pub(crate) fn bury(domain: &Domain<()>, desk: &mut Desk<()>, ending: Ending<()>)
     requires domain { desk.old.domain ≡ domain.now.id }
     requires ends { Ends desk.old ending }
@@ -46,6 +47,7 @@ pub(crate) fn bury(domain: &Domain<()>, desk: &mut Desk<()>, ending: Ending<()>)
 }
 
 /// An owner leaves, and its object ends where it was the last.
+#[inline(always)]
 pub(crate) fn end(domain: &Domain<()>, desk: &mut Desk<()>, owner: Shared)
     requires domain { desk.old.domain ≡ domain.now.id }
     requires holds { Holds desk.old Owner owner.block owner.place }

@@ -12,8 +12,7 @@ use Rattle.step_core.specs.declared.said.Turned.TheVariants.{Acted, Done}
 use Rattle.step_core.specs.Courses.{Walk}
 use Rattle.step_core.specs.Openings.{opening}
 use Rattle.step_core.specs.Entries.{acted}
-use Rattle.step_core.specs.Scenes.{Scene, next, nowhere, play, play_from, put_walk, rest_of, rested, said, walk_of}
-use Rattle.step_core.specs.Scenes.{state_in}
+use Rattle.step_core.specs.Scenes.{Scene, next, nowhere, play, play_from, put_walk, rest_of, rested, said, state_in, walk_of}
 use Rattle.step_core.specs.Stories.{Kept}
 use Rattle.step_core.specs.Worlds.{Sight, Turns, scene}
 use Rattle.step_core.proofs.telling.Order.{ended_few}
@@ -49,7 +48,7 @@ waits_at c d (Some t) lt h =
     let more = rested_size z d after w in
     let some = h.some in
     let here : walk_of (play_from c d (walk_of c d) (Some t)) d ≡ put w x = get_or-set_same c.walks d (put w x) nowhere lt in
-    subst Waits (sym here) (record { some = omega (arith, size, more, some); endings = rested_waits z d after w (omega (arith, size, some)); })
+    subst Waits (sym here) (record { some = omega (arith, size, more, some); endings = rested_waits z d after w (omega (arith, size, some)) })
 
 play_waits : (c : Scene) (d e : ℕ) → d < length c.walks → e < length c.walks → ((i : ℕ) → i < length c.walks → Waits (walk_of c i))
     → Waits (walk_of (play d c) e)
@@ -63,9 +62,9 @@ still_rest : (halves : List Half) (d e : ℕ) → get_or halves e Rest ≡ Rest 
 still_rest halves d e h =
     elim (cases_eq e d) [
       | inl same ↦ elim (cases_lt d (length halves)) [
-          | inl lt ↦ subst (λ (i : ℕ). get_or (slice_set halves d Rest) i Rest ≡ Rest) (sym same) (get_or-set_same halves d Rest Rest lt)
-          | inr le ↦ (let n = length-set halves d Rest in get_or_past (slice_set halves d Rest) e Rest (omega (arith, n, le, same)))
-        ]
+        | inl lt ↦ subst (λ (i : ℕ). get_or (slice_set halves d Rest) i Rest ≡ Rest) (sym same) (get_or-set_same halves d Rest Rest lt)
+        | inr le ↦ (let n = length-set halves d Rest in get_or_past (slice_set halves d Rest) e Rest (omega (arith, n, le, same)))
+      ]
       | inr ne ↦ get_or-set_other halves d e Rest Rest ne ∙ h
     ]
 
@@ -74,9 +73,9 @@ rests_on u u' d rests lt is halves =
     record {
       halves = λ e. ap (λ (l : List Half). get_or l e Rest) halves ∙ still_rest u.halves d e (rests.halves e);
       walks = λ e here.
-      let n = ap (λ (c : Scene). length c.walks) is in
-      let m = play_size d (scene u) in
-      subst (λ (c : Scene). Waits (walk_of c e)) (sym is) (play_waits (scene u) d e lt (omega (arith, n, m, here)) rests.walks);
+          let n = ap (λ (c : Scene). length c.walks) is in
+          let m = play_size d (scene u) in
+          subst (λ (c : Scene). Waits (walk_of c e)) (sym is) (play_waits (scene u) d e lt (omega (arith, n, m, here)) rests.walks);
     }
 
 in_order : (u : Sight) (c : Scene) → Kept u.story → scene u ≡ c → InOrder c

@@ -63,11 +63,11 @@ first_endings (part ∷ parts) (suc d) = first_endings parts d
 -- a world begins at rest
 pub first_rests : (shape : Shape) (parts : List Part) (u : Sight) → u ≡ first_sight shape parts → AllRest u
 first_rests shape parts u e =
-    subst AllRest (sym e) (record { halves = all_rest parts; walks = first_waits parts; })
+    subst AllRest (sym e) (record { halves = all_rest parts; walks = first_waits parts })
 
 -- and with no object
 pub first_new : (shape : Shape) (parts : List Part) (u : Sight) → u ≡ first_sight shape parts → IsNew u
-first_new shape parts u e = subst IsNew (sym e) (record { history = refl; endings = first_endings parts; })
+first_new shape parts u e = subst IsNew (sym e) (record { history = refl; endings = first_endings parts })
 
 pub run_is : (pace : Pace) (script : List Section) (turns text : List ℕ) (threads : ℕ) (shape : Shape) (u : Sight) → threads ≡ length script
     → shape ≡ script_shape threads

@@ -33,7 +33,7 @@ pub record Tally (most : ℕ) (h : History) (es : List Ending) (h' : History) (e
 
 same : (most : ℕ) (h h' : History) (es : List Ending) → made_in h' ≡ made_in h → ended_in h' ≡ ended_in h → Tally most h es h' es
 same most h h' es m e =
-    record { made = omega (arith, m); last = 0; ended = omega (arith, e); parts = omega arith; }
+    record { made = omega (arith, m); last = 0; ended = omega (arith, e); parts = omega arith }
 
 same_on : (f : Pointer → History) (h : History) (es : List Ending) (x : Option Pointer) → ((p : Pointer) → made_in (f p) ≡ made_in h)
     → ((p : Pointer) → ended_in (f p) ≡ ended_in h) → Tally 0 h es (on f h x) es
@@ -42,7 +42,7 @@ same_on f h es (Some p) m e = same 0 h (f p) es (m p) (e p)
 
 make_tally : (d : ℕ) (form : Form) (h : History) (es : List Ending) (b : Option ℕ) → Tally 1 h es (made d form h b) es
 make_tally d form h es None = same 1 h h es refl refl
-make_tally d form h es (Some b) = record { made = omega arith; last = 0; ended = omega arith; parts = omega arith; }
+make_tally d form h es (Some b) = record { made = omega arith; last = 0; ended = omega arith; parts = omega arith }
 
 shared_made : (d : ℕ) (h : History) (s : State) (p : Pointer) (k : Kind) → made_in (entry d (shared_as k s p) ∷ h) ≡ made_in h
 shared_made d h s p Owner = refl
@@ -63,10 +63,10 @@ given_ended d h s p Weak = refl
 -- a pointer leaves, and its object ends or not
 left_one : (d k : ℕ) (h : History) (es : List Ending) (s : State) (p : Pointer) (kind : Kind) (last : Bool)
     → Tally 0 h es (entry d (left_as kind s p last) ∷ h) (cond last (begins_end_as kind k p es) es)
-left_one d k h es s p Owner true = record { made = omega arith; last = 1; ended = omega arith; parts = omega arith; }
-left_one d k h es s p Owner false = record { made = omega arith; last = 0; ended = omega arith; parts = omega arith; }
-left_one d k h es s p Weak true = record { made = omega arith; last = 0; ended = omega arith; parts = omega arith; }
-left_one d k h es s p Weak false = record { made = omega arith; last = 0; ended = omega arith; parts = omega arith; }
+left_one d k h es s p Owner true = record { made = omega arith; last = 1; ended = omega arith; parts = omega arith }
+left_one d k h es s p Owner false = record { made = omega arith; last = 0; ended = omega arith; parts = omega arith }
+left_one d k h es s p Weak true = record { made = omega arith; last = 0; ended = omega arith; parts = omega arith }
+left_one d k h es s p Weak false = record { made = omega arith; last = 0; ended = omega arith; parts = omega arith }
 
 left_tally : (z : Opening) (d k : ℕ) (h : History) (es : List Ending) (x : Option Pointer)
     → Tally 0 h es (on (leaves z d h) h x) (on (λ p. begins_end (leads z h) k p es) es x)

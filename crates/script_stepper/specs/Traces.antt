@@ -3,6 +3,7 @@ use Rattle.std.specs.Prelude.{ℕ, ◌+◌, ◌-◌, ◌*◌, List, [], ◌∷�
 use Rattle.step_core.specs.declared.said.Said.{Said}
 use Rattle.step_core.specs.Courses.{Walk}
 use Rattle.step_core.specs.Scenes.{Scene, play, said}
+
 -- what a thread said, with the thread's number, from 1
 abbrev pub Item : Type 0
 Item = ℕ × Said

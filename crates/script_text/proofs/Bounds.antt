@@ -14,6 +14,7 @@ use Rattle.script_text.specs.Grammar.{Leads, Begins}
 use Rattle.script_text.specs.Scripts.{kinds_in, part_in, program_in, statement_count, IsScript}
 use Rattle.script_text.proofs.ReadNames.{slice_get-more, Grows}
 use Rattle.script_text.proofs.Changes.{with_thread, IsAdded, Change, skipped, began, added, line_change}
+use Rattle.script_text.proofs.CellBounds.{script_cells}
 use Rattle.script_text.proofs.RoundTrip.{round_trip}
 
 -- each name of the call is declared, by recursion
@@ -158,4 +159,5 @@ script_is bytes d number h =
             All-from_recursion IsPart (program_in (sections d))
             (parts-last d.done d.current b.parts (part_is d.current b.few b.named));
       };
+      cells = script_cells bytes d number h;
     }

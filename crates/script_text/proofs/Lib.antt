@@ -9,8 +9,10 @@ pub mod ReadNames
 pub mod ReadNumbers
 pub mod Reversible
 pub mod Aliases
+pub mod Cells
 pub mod Rewrites
 pub mod Changes
 pub mod RoundTrip
+pub mod CellBounds
 pub mod Bounds
 pub mod PrintLemmas

@@ -10,12 +10,14 @@ use Rattle.script_text.specs.declared.keyword.Keyword.{Keyword}
 use Rattle.script_text.specs.declared.keyword.Keyword.TheVariants as key
 use Rattle.script_text.specs.declared.keyword.PlaceKeyword.{PlaceKeyword}
 use Rattle.script_text.specs.declared.keyword.PlaceKeyword.TheVariants as place
+use Rattle.script_text.specs.declared.keyword.CellKeyword.{CellKeyword}
+use Rattle.script_text.specs.declared.keyword.CellKeyword.TheVariants as cell
 use Rattle.script_text.specs.declared.keyword.WeakKeyword.{WeakKeyword}
 use Rattle.script_text.specs.declared.keyword.WeakKeyword.TheVariants as weak
 use Rattle.script_text.specs.Names.{NameList}
 use Rattle.script_text.specs.Keywords.{spelling_of, takes_words}
-use Rattle.script_text.specs.Shapes.{alias_at, one_target, one_source, target_and_source, two_sources, target_and_fields}
-use Rattle.script_text.specs.Calls.{alias_call, as_call, call_at, place_call_at, weak_call_at}
+use Rattle.script_text.specs.Shapes.{alias_at, cell_and_source, one_target, one_source, target_and_source, two_sources, target_and_fields}
+use Rattle.script_text.specs.Calls.{alias_call, as_call, call_at, cell_call_at, place_call_at, weak_call_at}
 use Rattle.script_text.specs.Canonical.{call_words}
 use Rattle.script_text.specs.Scripts.{kinds_in}
 use Rattle.script_text.proofs.TidyWords.{IsTidy}
@@ -23,6 +25,7 @@ use Rattle.script_text.proofs.ReadNames.{both_give, given, same_given, with_name
 use Rattle.script_text.proofs.Reversible.{Reader, Writer, Asker, Sizer, IsReversible, always, write_one, asks_one, target_reversible}
 use Rattle.script_text.proofs.Reversible.{source_reversible, write_two, asks_two, target_and_source_reversible, asks_both, two_sources_reversible}
 use Rattle.script_text.proofs.Aliases.{Parts, write_alias, asks_alias, alias_size, alias_reversible}
+use Rattle.script_text.proofs.Cells.{asks_cell, cell_reversible, write_cell}
 use Rattle.script_text.proofs.Reversible.{write_fields, asks_first, target_and_fields_reversible}
 
 -- later names change no word of the statement
@@ -123,6 +126,17 @@ place_rewrites place.Before =
     (asks_both None) (always 2)
     (λ ns ws. refl) (λ ns x. refl) (λ x. refl) (λ x. refl) (two_sources_reversible None)
 
+-- each keyword on a cell by its shape
+cell_rewrites : (k : CellKeyword) (names new : NameList) (words : List (List ℕ)) (c : Call)
+    → call_at names (key.Cell k) words ≡ Ok (with_names c new) → Rewrites names (key.Cell k) c new
+unfolding call_at cell_call_at
+cell_rewrites cell.Store =
+    rewrites_by (key.Cell cell.Store) (λ p. call.Store p.0 p.1) cell_and_source write_cell asks_cell (always 2)
+    (λ ns ws. refl) (λ ns x. refl) (λ x. refl) (λ x. refl) cell_reversible
+cell_rewrites cell.Exchange =
+    rewrites_by (key.Cell cell.Exchange) (λ p. call.Exchange p.0 p.1) cell_and_source write_cell asks_cell (always 2)
+    (λ ns ws. refl) (λ ns x. refl) (λ x. refl) (λ x. refl) cell_reversible
+
 -- each keyword on weak names by its shape
 weak_rewrites : (k : WeakKeyword) (names new : NameList) (words : List (List ℕ)) (c : Call)
     → call_at names (key.Weak k) words ≡ Ok (with_names c new) → Rewrites names (key.Weak k) c new
@@ -183,4 +197,5 @@ rewrites key.Count =
     rewrites_by key.Count call.Count (λ ns ws. one_source ns Owner ws) write_one (asks_one Owner) (always 1)
     (λ ns ws. refl) (λ ns x. refl) (λ x. refl) (λ x. refl) (source_reversible Owner)
 rewrites (key.Place k) = place_rewrites k
+rewrites (key.Cell k) = cell_rewrites k
 rewrites (key.Weak k) = weak_rewrites k

@@ -9,11 +9,13 @@ use Rattle.script_text.specs.declared.keyword.Keyword.{Keyword}
 use Rattle.script_text.specs.declared.keyword.Keyword.TheVariants as key
 use Rattle.script_text.specs.declared.keyword.PlaceKeyword.{PlaceKeyword}
 use Rattle.script_text.specs.declared.keyword.PlaceKeyword.TheVariants as place
+use Rattle.script_text.specs.declared.keyword.CellKeyword.{CellKeyword}
+use Rattle.script_text.specs.declared.keyword.CellKeyword.TheVariants as cell
 use Rattle.script_text.specs.declared.keyword.WeakKeyword.{WeakKeyword}
 use Rattle.script_text.specs.declared.keyword.WeakKeyword.TheVariants as weak
 use Rattle.script_text.specs.Reading.{◌>>=◌}
 use Rattle.script_text.specs.Names.{NameList}
-use Rattle.script_text.specs.Shapes.{Aim, alias_at, one_target, one_source, target_and_source, two_sources, target_and_fields}
+use Rattle.script_text.specs.Shapes.{Aim, alias_at, cell_and_source, one_target, one_source, target_and_source, two_sources, target_and_fields}
 
 -- what was read, as a call
 abbrev pub as_call : {A : Type 0} → (A → Call) → Result (A × NameList) Cause → Result (Call × NameList) Cause
@@ -34,6 +36,11 @@ place_call_at names place.Read words = as_call call.Read (one_source names Owner
 place_call_at names place.Place words = as_call call.Place (one_source names Owner words)
 place_call_at names place.Same words = as_call (λ p. call.Same p.0 p.1) (two_sources names (Some Owner) words)
 place_call_at names place.Before words = as_call (λ p. call.Before p.0 p.1) (two_sources names None words)
+
+-- the call of a statement on a cell
+unfoldable pub cell_call_at : NameList → CellKeyword → List (List ℕ) → Result (Call × NameList) Cause
+cell_call_at names cell.Store words = as_call (λ p. call.Store p.0 p.1) (cell_and_source names words)
+cell_call_at names cell.Exchange words = as_call (λ p. call.Exchange p.0 p.1) (cell_and_source names words)
 
 -- the call of a statement on weak names, and the names with its target
 unfoldable pub weak_call_at : NameList → WeakKeyword → List (List ℕ) → Result (Call × NameList) Cause
@@ -56,4 +63,5 @@ call_at names key.Reset words = as_call call.Reset (one_source names Owner words
 call_at names key.Copy words = as_call (λ p. call.Copy p.0 p.1) (target_and_source names Owner Owner words)
 call_at names key.Count words = as_call call.Count (one_source names Owner words)
 call_at names (key.Place keyword) words = place_call_at names keyword words
+call_at names (key.Cell keyword) words = cell_call_at names keyword words
 call_at names (key.Weak keyword) words = weak_call_at names keyword words

@@ -4,8 +4,9 @@ use Rattle.std.specs.Str.{bytes_eq}
 use Rattle.script_text.specs.declared.fault.Cause.{Cause}
 use Rattle.script_text.specs.declared.fault.Cause.TheVariants.{UnknownStatement}
 use Rattle.script_text.specs.declared.keyword.Keyword.{Keyword}
-use Rattle.script_text.specs.declared.keyword.Keyword.TheVariants.{Make, MakeThis, Null, Empty, Reset, Copy, Count, Place, Weak}
+use Rattle.script_text.specs.declared.keyword.Keyword.TheVariants.{Make, MakeThis, Null, Empty, Reset, Copy, Count, Place, Cell, Weak}
 use Rattle.script_text.specs.declared.keyword.PlaceKeyword.TheVariants as place
+use Rattle.script_text.specs.declared.keyword.CellKeyword.TheVariants as cell
 use Rattle.script_text.specs.declared.keyword.WeakKeyword.TheVariants as weak
 
 -- a first word, and the least and the greatest number of words that may follow it
@@ -35,6 +36,8 @@ spelling_of (Place place.Read) = spelled (codes "read") 1 1
 spelling_of (Place place.Place) = spelled (codes "place") 1 1
 spelling_of (Place place.Same) = spelled (codes "same") 2 2
 spelling_of (Place place.Before) = spelled (codes "before") 2 2
+spelling_of (Cell cell.Store) = spelled (codes "store") 2 2
+spelling_of (Cell cell.Exchange) = spelled (codes "exchange") 2 2
 spelling_of (Weak weak.Weak) = spelled (codes "weak") 2 2
 spelling_of (Weak weak.Copy) = spelled (codes "wcopy") 2 2
 spelling_of (Weak weak.Empty) = spelled (codes "wempty") 1 1
@@ -50,6 +53,7 @@ keywords =
     Make ∷ MakeThis ∷ Null ∷ Empty ∷ Reset ∷ Copy ∷ Count
     ∷ Place place.Move ∷ Place place.Alias ∷ Place place.This ∷ Place place.WeakThis
     ∷ Place place.Read ∷ Place place.Place ∷ Place place.Same ∷ Place place.Before
+    ∷ Cell cell.Store ∷ Cell cell.Exchange
     ∷ Weak weak.Weak ∷ Weak weak.Copy ∷ Weak weak.Empty ∷ Weak weak.Reset
     ∷ Weak weak.Lock ∷ Weak weak.Upgrade ∷ Weak weak.Count ∷ Weak weak.Expired ∷ []
 

@@ -1,7 +1,8 @@
 -- Scripts, and the programs that they are.
-use Rattle.std.specs.Prelude.{◌≡◌, ℕ, ◌≤◌, List, length, map}
+use Rattle.std.specs.Prelude.{◌≡◌, ℕ, ◌≤◌, List, All, length, map}
+use Rattle.control_word.specs.declared.shape.Shape.{Shape}
 use Rattle.step_core.specs.declared.call.Kind.{Kind}
-use Rattle.step_core.specs.Programs.{Part, IsProgram, call_count}
+use Rattle.step_core.specs.Programs.{AllHaveCells, Part, IsProgram, call_count}
 use Rattle.script_text.specs.Names.{NameList}
 use Rattle.script_text.specs.Drafts.{Section}
 use Rattle.script_text.specs.Grammar.{Reads}
@@ -23,9 +24,14 @@ program_in script = map part_in script
 abbrev pub statement_count : List Section → ℕ
 statement_count script = call_count (program_in script)
 
+-- a shape with the cells that texts name, 128 of each kind
+abbrev pub HasTextCells : Shape → Type 0
+HasTextCells shape = (128 ≤ shape.shared_cells) × (128 ≤ shape.weak_cells)
+
 -- threads that some text spells, with the number of their statements
 pub record IsScript (script : List Section) (count : ℕ) : Type 0 where
   pub reads : Reads (canonical script) script
   pub counted : count ≡ statement_count script
   pub threads : length script ≤ 16
   pub program : IsProgram (program_in script)
+  pub cells : (shape : Shape) → HasTextCells shape → All (AllHaveCells shape) (program_in script)

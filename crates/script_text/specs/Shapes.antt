@@ -1,17 +1,19 @@
 -- The words after the first one: a definition for each shape of statement.
--- `T` is a target, `O` a source, `Y` a source of either kind, `n` a number, `F` a field. Words are looked at from left to right, and a target is declared
+-- `T` is a target, `O` a source, `Y` a source of either kind, `n` a number, `F` a field, `C` a cell and `X` a source of its kind. Words are looked at from left to right, and a target is declared
 -- after all other checks.
 use Rattle.std.specs.Prelude.{ℕ, List, [], ◌∷◌, map, Option, Some, None, Result, Ok, Err, codes, if◌then◌else◌, slice_get}
 use Rattle.std.specs.Str.{bytes_eq}
 use Rattle.std.specs.Borrow.{Bor}
+use Rattle.step_core.specs.declared.call.CellName.{CellName}
+use Rattle.step_core.specs.declared.call.CellName.TheVariants as free
 use Rattle.step_core.specs.declared.call.Field.{Field}
 use Rattle.step_core.specs.declared.call.Kind.{Kind}
-use Rattle.step_core.specs.declared.call.Kind.TheVariants.{Owner}
+use Rattle.step_core.specs.declared.call.Kind.TheVariants.{Owner, Weak}
 use Rattle.step_core.specs.declared.call.Name.{Name}
 use Rattle.script_text.specs.declared.fault.Cause.{Cause}
 use Rattle.script_text.specs.declared.fault.Cause.TheVariants.{WrongNumberOfWords}
 use Rattle.script_text.specs.Reading.{◌>>=◌}
-use Rattle.script_text.specs.Words.{number_at, field_at}
+use Rattle.script_text.specs.Words.{number_at, cell_at, field_at}
 use Rattle.script_text.specs.Names.{NameList, asked_source_at, source_at, target_at, declared}
 
 -- the words, without where they lie in memory
@@ -49,6 +51,19 @@ two_sources names asked (one ∷ other ∷ []) = do
   second ← asked_source_at names asked other
   Ok ((first, second), names)
 two_sources names asked _ = Err WrongNumberOfWords
+
+-- the kind of the names whose values go into a cell ([util.smartptr.atomic.shared], [util.smartptr.atomic.weak])
+abbrev pub cell_kind : CellName → Kind
+cell_kind (free.Shared n) = Owner
+cell_kind (free.Weak n) = Weak
+
+-- `C X`
+unfoldable pub cell_and_source : NameList → List (List ℕ) → Result ((CellName × Name) × NameList) Cause
+cell_and_source names (one ∷ other ∷ []) = do
+  cell ← cell_at one
+  source ← source_at names (cell_kind cell) other
+  Ok ((cell, source), names)
+cell_and_source names _ = Err WrongNumberOfWords
 
 -- where an alias points: at a field of what a name points into, or at null
 abbrev pub Aim : Type 0

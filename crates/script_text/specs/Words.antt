@@ -3,7 +3,10 @@ use Rattle.std.specs.Prelude.{ℕ, ◌-◌, ◌^◌, ◌==◌, ◌&&◌, ◌||�
 use Rattle.std.specs.List.{slice_split, list_all}
 use Rattle.std.specs.Str.Parse.{digits_value}
 use Rattle.script_text.specs.declared.fault.Cause.{Cause}
-use Rattle.script_text.specs.declared.fault.Cause.TheVariants.{BadField, BadName, BadNumber}
+use Rattle.script_text.specs.Reading.{◌>>=◌}
+use Rattle.script_text.specs.declared.fault.Cause.TheVariants.{BadCell, BadField, BadName, BadNumber}
+use Rattle.step_core.specs.declared.call.CellName.{CellName}
+use Rattle.step_core.specs.declared.call.CellName.TheVariants as free
 use Rattle.step_core.specs.declared.call.Field.{Field}
 use Rattle.step_core.specs.declared.call.Field.TheVariants.{Zero, One, Two, Three}
 
@@ -68,3 +71,29 @@ numbered_field (Err c) = Err BadField
 -- the field that a word is
 unfoldable pub field_at : List ℕ → Result Field Cause
 field_at word = numbered_field (number_at word)
+
+-- a cell's number, among 128 of its kind
+abbrev pub cell_numbered : ℕ → Result ℕ Cause
+cell_numbered n = if nat_lt n 128 then Ok n else Err BadCell
+
+-- and no other word
+abbrev pub numbered_cell : Result ℕ Cause → Result ℕ Cause
+numbered_cell (Ok n) = cell_numbered n
+numbered_cell (Err c) = Err BadCell
+
+-- the number of a cell that a word is
+unfoldable pub cell_number_at : List ℕ → Result ℕ Cause
+cell_number_at word = numbered_cell (number_at word)
+
+-- the cell of a kind by its number
+abbrev pub cell_of_kind : (ℕ → CellName) → List ℕ → Result CellName Cause
+cell_of_kind kind number = do
+  n ← cell_number_at number
+  Ok (kind n)
+
+-- the free cell that a word is: `s` or `w`, and its number
+unfoldable pub cell_at : List ℕ → Result CellName Cause
+cell_at [] = Err BadCell
+cell_at (letter ∷ number) =
+    if letter == 115 then cell_of_kind free.Shared number
+    else (if letter == 119 then cell_of_kind free.Weak number else Err BadCell)

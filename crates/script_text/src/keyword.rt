@@ -19,6 +19,8 @@ pub(crate) enum Keyword {
     Count,
     /// A statement on where owners point, or on what they own.
     Place(PlaceKeyword),
+    /// A statement on a cell.
+    Cell(CellKeyword),
     /// A statement on weak names.
     Weak(WeakKeyword),
 }
@@ -36,6 +38,13 @@ pub(crate) enum PlaceKeyword {
     Before,
 }
 
+/// A statement on a cell by its first word.
+#[derive(Clone, Copy, Debug, PartialEq, Eq)]
+pub(crate) enum CellKeyword {
+    Store,
+    Exchange,
+}
+
 /// A statement on weak names by its first word.
 #[derive(Clone, Copy, Debug, PartialEq, Eq)]
 pub(crate) enum WeakKeyword {
@@ -50,7 +59,7 @@ pub(crate) enum WeakKeyword {
 }
 
 /// Each statement once.
-const KEYWORDS: [Keyword; 23] = [
+const KEYWORDS: [Keyword; 25] = [
     Keyword::Make,
     Keyword::MakeThis,
     Keyword::Null,
@@ -66,6 +75,8 @@ const KEYWORDS: [Keyword; 23] = [
     Keyword::Place(PlaceKeyword::Place),
     Keyword::Place(PlaceKeyword::Same),
     Keyword::Place(PlaceKeyword::Before),
+    Keyword::Cell(CellKeyword::Store),
+    Keyword::Cell(CellKeyword::Exchange),
     Keyword::Weak(WeakKeyword::Weak),
     Keyword::Weak(WeakKeyword::Copy),
     Keyword::Weak(WeakKeyword::Empty),
@@ -106,6 +117,8 @@ fn spelling_of(keyword: Keyword) -> Spelling
         Keyword::Place(PlaceKeyword::Place) => ("place", 1, 1),
         Keyword::Place(PlaceKeyword::Same) => ("same", 2, 2),
         Keyword::Place(PlaceKeyword::Before) => ("before", 2, 2),
+        Keyword::Cell(CellKeyword::Store) => ("store", 2, 2),
+        Keyword::Cell(CellKeyword::Exchange) => ("exchange", 2, 2),
         Keyword::Weak(WeakKeyword::Weak) => ("weak", 2, 2),
         Keyword::Weak(WeakKeyword::Copy) => ("wcopy", 2, 2),
         Keyword::Weak(WeakKeyword::Empty) => ("wempty", 1, 1),

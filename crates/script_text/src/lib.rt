@@ -34,8 +34,11 @@
 //! | `place O` | `Place` | |
 //! | `same O O` | `Same` | |
 //! | `before Y Y` | `Before`; each name of either kind | |
+//! | `store C X` | `Store`; X of the kind of the cell | |
+//! | `exchange C X` | `Exchange`; the same | |
 //!
 //! A number is at most 18446744073709551615, a field (`F`) a number from 0 to 3; leading zeros are read, and not written.
+//! A cell (`C`) is `s` ([util.smartptr.atomic.shared]) or `w` ([util.smartptr.atomic.weak]) and a number from 0 to 127.
 //!
 //! On one line causes are looked for in the order in which [`Cause`] lists them, except that the words
 //! after the first are looked at from left to right: each by its form, then whether a source is
@@ -48,6 +51,7 @@
 #![tactic(auto)]
 
 mod alias;
+mod cell;
 mod draft;
 mod fault;
 mod keyword;
@@ -67,6 +71,8 @@ pub use printing::print;
 pub use script::Script;
 pub use text::parse;
 
+#[cfg(test)]
+mod cell_tests;
 #[cfg(test)]
 mod place_tests;
 #[cfg(test)]

@@ -3,12 +3,12 @@
 ghost use Rattle.std.specs.Prelude.{◌≡◌, ◌∷◌, [], ◌++◌, map, OnOk, codes, string_bytes, decimal};
 ghost use Rattle.std.specs.List.{flat_map};
 ghost use Rattle.script_text.specs.Names.{NameList};
-ghost use Rattle.script_text.specs.Canonical.{AddsLines, spaced, number_after, call_words, line_words, call_line};
+ghost use Rattle.script_text.specs.Canonical.{AddsLines, cell_text, spaced, number_after, call_words, line_words, call_line};
 
 use crate::names::Names;
 use std::alloc::AllocError;
 use std::fmt::Write;
-use step_core::{Call, Field, Name};
+use step_core::{Call, CellName, Field, Name};
 
 /// What a line has: its first word, and what follows it.
 #[derive(Clone, Copy)]
@@ -20,6 +20,7 @@ pub(crate) enum Line {
     Alias(Name, Name, Name, Field),
     /// An alias that points at null.
     AliasNull(Name, Name),
+    Cell(&'static str, CellName, Name),
 }
 
 /// The line of a call.
@@ -56,6 +57,8 @@ fn line_of(call: &Call) -> Line
         Call::Place { name } => Line::One("place", name),
         Call::Same { first, second } => Line::Two("same", first, second),
         Call::Before { first, second } => Line::Two("before", first, second),
+        Call::Store { cell, source } => Line::Cell("store", cell, source),
+        Call::Exchange { cell, name } => Line::Cell("exchange", cell, name),
     }
 }
 
@@ -128,6 +131,23 @@ fn put_alias(
     Ok(())
 }
 
+/// Adds a line of a word, a cell and a name.
+fn put_cell(
+    text: &mut String,
+    first: &str,
+    cell: CellName,
+    name: &str,
+) -> Result<(), AllocError>
+    ensures { OnOk result
+        (AddsLines text.old text.new (spaced (first.now ∷ cell_text cell ∷ name.now ∷ []) ∷ [])) }
+{
+    match cell {
+        CellName::Shared(number) => writeln!(text, "{first} s{number} {name}")?,
+        CellName::Weak(number) => writeln!(text, "{first} w{number} {name}")?,
+    }
+    Ok(())
+}
+
 /// Adds the line of a call.
 pub(crate) fn put_call(text: &mut String, names: &Names, call: &Call) -> Result<(), AllocError>
     ensures { OnOk result (AddsLines text.old text.new (call_line names.now call.now ∷ [])) }
@@ -145,5 +165,6 @@ pub(crate) fn put_call(text: &mut String, names: &Names, call: &Call) -> Result<
         Line::AliasNull(target, source) => {
             put_alias_null(text, names.text(target), names.text(source))
         }
+        Line::Cell(word, cell, name) => put_cell(text, word, cell, names.text(name)),
     }
 }

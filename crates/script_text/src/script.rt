@@ -27,10 +27,11 @@ impl Model for Script {
 }
 
 impl Script {
-    ghost use Rattle.std.specs.Prelude.{◌≡◌, ◌≤◌, IfOk, IsOkUnless, length};
+    ghost use Rattle.std.specs.Prelude.{◌≡◌, ◌≤◌, All, IfOk, IsOkUnless, length};
+    ghost use Rattle.control_word.specs.declared.shape.Shape.{Shape};
     ghost use Rattle.control_word.specs.declared.refusal.Refusal.TheVariants.{Memory};
-    ghost use Rattle.step_core.specs.Programs.{parts_of, IsProgram};
-    ghost use Rattle.script_text.specs.Scripts.{program_in, statement_count};
+    ghost use Rattle.step_core.specs.Programs.{AllHaveCells, parts_of, IsProgram};
+    ghost use Rattle.script_text.specs.Scripts.{HasTextCells, program_in, statement_count};
 
     /// How many threads the script has, from 1 to 16 (own).
     pub fn threads(&self) -> u32
@@ -50,12 +51,14 @@ impl Script {
     }
 
     /// The program of the script (own): for each thread, in order, an actor with the kinds of its names
-    /// and its calls in order. It is within the limits of a program, and its calls are well named.
+    /// and its calls in order. It is within the limits of a program, its calls are well named, and a shape with 128 cells of
+    /// each kind has their cells.
     ///
     /// Refused by 1 alone, where a growth is refused; the script is as it was.
     pub fn program(&self, alloc: Global) -> Result<Program, Refusal>
         ensures calls { IfOk result (λ p. parts_of p ≡ program_in self.now) }
         ensures sound { IfOk result (λ p. IsProgram (parts_of p)) }
+        ensures cells { IfOk result (λ p. (shape : Shape) → HasTextCells shape → All (AllHaveCells shape) (parts_of p)) }
         ensures memory { IsOkUnless result Memory }
     {
         match program_of(alloc, self.threads.as_slice()) {

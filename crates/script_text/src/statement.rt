@@ -2,11 +2,12 @@
 
 ghost use Rattle.script_text.specs.Reading.{Gives};
 ghost use Rattle.script_text.specs.Shapes.{texts};
-ghost use Rattle.script_text.specs.Calls.{call_at, place_call_at, weak_call_at};
+ghost use Rattle.script_text.specs.Calls.{call_at, cell_call_at, place_call_at, weak_call_at};
 
 use crate::alias::alias;
+use crate::cell::cell_and_source;
 use crate::fault::Stop;
-use crate::keyword::{Keyword, PlaceKeyword, WeakKeyword};
+use crate::keyword::{CellKeyword, Keyword, PlaceKeyword, WeakKeyword};
 use crate::names::Names;
 use crate::shape::{source, target, target_and_fields, target_and_source, two_sources};
 use std::alloc::Global;
@@ -54,6 +55,7 @@ pub(crate) fn call_of(
             Ok(Call::Count { name })
         }
         Keyword::Place(keyword) => place_call_of(alloc, names, keyword, words),
+        Keyword::Cell(keyword) => cell_call_of(names, keyword, words),
         Keyword::Weak(keyword) => weak_call_of(alloc, names, keyword, words),
     }
 }
@@ -99,6 +101,19 @@ fn place_call_of(
             let (first, second) = two_sources(names, None, words)?;
             Ok(Call::Before { first, second })
         }
+    }
+}
+
+/// The same for a statement on a cell, which declares nothing.
+#[tactic(auto, unfolding(crate::specs::Calls::cell_call_at))]
+fn cell_call_of(names: &Names, keyword: CellKeyword, words: &[&[u8]]) -> Result<Call, Stop>
+    ensures { Gives (λ call. (call, names.now)) result
+        (cell_call_at names.now keyword (texts words.now)) }
+{
+    let (cell, name) = cell_and_source(names, words)?;
+    match keyword {
+        CellKeyword::Store => Ok(Call::Store { cell, source: name }),
+        CellKeyword::Exchange => Ok(Call::Exchange { cell, name }),
     }
 }
 

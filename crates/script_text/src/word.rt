@@ -3,12 +3,12 @@
 ghost use Rattle.std.specs.Prelude.{◌≡◌, ◌||◌, map, IfOk};
 ghost use Rattle.std.specs.List.{list_all};
 ghost use Rattle.script_text.specs.Reading.{Gives};
-ghost use Rattle.script_text.specs.Words.{is_space, is_clean_byte, is_name_byte, is_digit, words_of, line_content, is_name, name_at, number_at, field_at};
+ghost use Rattle.script_text.specs.Words.{is_space, is_clean_byte, is_name_byte, is_digit, words_of, line_content, is_name, name_at, number_at, cell_number_at, cell_at, field_at};
 
 use crate::fault::{Cause, Stop};
 use std::alloc::{AllocError, Global};
 use std::str;
-use step_core::Field;
+use step_core::{CellName, Field};
 
 /// How many bytes a name has at most.
 pub(crate) const NAME_BYTES: usize = 16;
@@ -121,5 +121,32 @@ pub(crate) fn field_of(word: &[u8]) -> Result<Field, Stop>
         Ok(3) => Ok(Field::Three),
         Ok(_) | Err(Stop::Cause(_)) => Err(Stop::Cause(Cause::BadField)),
         Err(Stop::Memory) => Err(Stop::Memory),
+    }
+}
+
+/// How many cells of each kind texts name.
+const CELLS: u64 = 128;
+
+/// The number of a cell that a word is.
+#[tactic(auto, unfolding(crate::specs::Words::cell_number_at))]
+fn cell_number(word: &[u8]) -> Result<u8, Stop>
+    ensures { Gives (λ n. n) result (cell_number_at word.now) }
+{
+    match number_of(word) {
+        Ok(number) if number < CELLS => Ok(number as u8),
+        Ok(_) | Err(Stop::Cause(_)) => Err(Stop::Cause(Cause::BadCell)),
+        Err(Stop::Memory) => Err(Stop::Memory),
+    }
+}
+
+/// The free cell that a word is.
+#[tactic(auto, unfolding(crate::specs::Words::cell_at))]
+pub(crate) fn cell_of(word: &[u8]) -> Result<CellName, Stop>
+    ensures { Gives (λ c. c) result (cell_at word.now) }
+{
+    match word {
+        [b's', number @ ..] => Ok(CellName::Shared(cell_number(number)?)),
+        [b'w', number @ ..] => Ok(CellName::Weak(cell_number(number)?)),
+        _ => Err(Stop::Cause(Cause::BadCell)),
     }
 }

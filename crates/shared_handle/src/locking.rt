@@ -18,6 +18,7 @@ use std::sync::Wait;
 /// where the handle does; else an empty one. Of an empty handle it is empty, and touches no word. Once the desk has seen
 /// the object without owner, every later lock of its is empty. It tries again while others change the count. It is refused
 /// `Limit` just where the desk is at its allowance, and then nothing changes.
+#[inline(always)]
 pub fn lock<V: Drop + Send, R: Wait>(
     rt: &R,
     domain: &Domain<V>,

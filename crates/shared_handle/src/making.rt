@@ -38,6 +38,7 @@ pub fn empty_weak<V: Drop + Send>(_domain: &Domain<V>, desk: &mut Desk<V>) -> Re
 }
 
 /// A new object with these fields and this value, and its owner, which points at it.
+#[inline(always)]
 fn make_as<V: Drop + Send>(
     domain: &Domain<V>,
     desk: &mut Desk<V>,
@@ -67,6 +68,7 @@ fn make_as<V: Drop + Send>(
 /// ([util.smartptr.shared.create]). Where `enabled`, it gives pointers to itself ([util.smartptr.enab]). It is refused
 /// `Limit` just where the desk is at its allowance, and else `Full` just where its store is empty: then the value comes
 /// back, and nothing changes.
+#[inline(always)]
 pub fn make<V: Drop + Send>(
     domain: &Domain<V>,
     desk: &mut Desk<V>,

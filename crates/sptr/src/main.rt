@@ -6,6 +6,8 @@ mod command;
 #[cfg(test)]
 mod fine_tests;
 #[cfg(test)]
+mod cell_tests;
+#[cfg(test)]
 mod place_tests;
 mod serve;
 #[cfg(test)]

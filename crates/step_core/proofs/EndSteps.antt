@@ -146,4 +146,3 @@ fits_clear d t v e r es kept fits rests list new room is lt =
           };
       cells = fits.cells;
     })
-

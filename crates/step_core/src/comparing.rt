@@ -66,6 +66,7 @@ impl Holdings {
         requires holds { Holds desk self.old.slots.items table.old }
         requires open { IsOpenTo table.old desk cell }
         requires compare { CanCompare (kind_in (state table.old) cell) self.old.slots.items comparing }
+        ensures valid { IsCellWord result }
         ensures found { result ≡ seen table.old cell }
         ensures slots { self.new.slots.items
             ≡ cond (is_some result.owned || same_value result (as_word (value self.old.slots.items comparing.expected))) self.old.slots.items

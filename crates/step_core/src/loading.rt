@@ -62,6 +62,7 @@ impl Holdings {
         requires open { IsOpenTo table.old desk cell }
         requires inside { to < length self.old.slots.items }
         requires empty { slot self.old.slots.items to ≡ None }
+        ensures valid { IsCellWord result }
         ensures found { result ≡ seen table.old cell }
         ensures slots { self.new.slots.items
             ≡ cond (is_some result.owned) self.old.slots.items
@@ -96,6 +97,7 @@ impl Holdings {
         requires member { member < 3 }
         requires inside { to < length self.old.slots.items }
         requires empty { slot self.old.slots.items to ≡ None }
+        ensures valid { IsCellWord result }
         ensures found { result ≡ seen table.old (Cell.Member block member) }
         ensures slots { self.new.slots.items
             ≡ cond (is_some result.owned)

@@ -1,5 +1,5 @@
 -- Clear: a member of an object that ends is emptied, by a look where it holds nothing.
-use Rattle.std.proofs.Common.{◌≡◌, ◌≢◌, ℕ, ◌+◌, ◌-◌, ◌*◌, ◌<◌, ◌≤◌, false, [], ◌∷◌, get_or, set, map, Option, None, refl, sym, ap, subst, ◌∙◌, ⊎_elim, arith}
+use Rattle.std.proofs.Common.{◌≡◌, ◌≢◌, ℕ, ◌+◌, ◌-◌, ◌*◌, ◌<◌, false, [], ◌∷◌, get_or, set, map, Option, None, refl, sym, ap, subst, ◌∙◌, ⊎_elim, arith}
 use Rattle.std.proofs.lemmas.Bool.{cases_eq}
 use Rattle.atomic_table.specs.Table as Table
 use Rattle.atomic_table.specs.Table.{Allows, keeps, step}
@@ -7,19 +7,16 @@ use mathlib.Core.Option.{none, some}
 use lib.ListN.{get_elem?}
 use Rattle.control_word.proofs.history.Legal.{sound}
 use Rattle.control_word.proofs.steps.Clear as law
-use Rattle.control_word.proofs.steps.Look.{load_is_write}
 use Rattle.control_word.proofs.words.Decoding.{cell_shown}
 use Rattle.control_word.specs.Events.{after, cell_of}
 use Rattle.control_word.specs.Handles.{empty}
 use Rattle.control_word.specs.Histories.{entry, leads}
 use Rattle.control_word.specs.Layout.{spot}
-use Rattle.control_word.specs.Packing.{IsCellWord, cell_bits}
 use Rattle.control_word.specs.State.{HasRoom, common, ending, kind_of_member}
 use Rattle.control_word.specs.Steps.{Adds, cell_word, purse}
 use Rattle.control_word.specs.Views.{Stands, sees_as}
 use Rattle.control_word.specs.Words.{blocks_of, packed, shown}
 use Rattle.control_word.specs.declared.cell.CellWord.{CellWord}
-use Rattle.control_word.specs.declared.event.Cell.{Cell}
 use Rattle.control_word.specs.declared.event.Cell.TheVariants.{Member}
 use Rattle.control_word.specs.declared.event.Event.{Event}
 use Rattle.control_word.specs.declared.event.Event.TheVariants.{ClearMember}

@@ -11,10 +11,10 @@ use Rattle.control_word.proofs.history.Given.{names_an_object}
 use Rattle.control_word.proofs.history.Legal.{sound}
 use Rattle.control_word.proofs.history.Moving.{counted_live, owner_counted}
 use Rattle.control_word.proofs.history.Values.{has_value}
-use Rattle.control_word.proofs.lists.Tallies.{put_again, put_cases, put_same}
+use Rattle.control_word.proofs.lists.Tallies.{put_again, put_same}
 use Rattle.control_word.proofs.steps.Leave as law
 use Rattle.control_word.specs.Events.{moved_to}
-use Rattle.control_word.specs.Handles.{owner, empty}
+use Rattle.control_word.specs.Handles.{owner}
 use Rattle.control_word.specs.State.{InShape, ending, kind_of_member, live, unmade}
 use Rattle.control_word.specs.declared.event.Entry.{Entry}
 use Rattle.control_word.specs.declared.event.Event.{Event}

@@ -8,11 +8,10 @@ use Rattle.atomic_table.proofs.Lists.{set_else, set_here}
 use mathlib.Core.Option.{none, some}
 use lib.ListN.{get_elem?}
 use Rattle.control_word.proofs.history.Legal.{sound}
-use Rattle.control_word.proofs.lists.Tallies.{put_cases, put_other, put_same}
+use Rattle.control_word.proofs.lists.Tallies.{put_other, put_same}
 use Rattle.control_word.proofs.steps.Claim as claim
 use Rattle.control_word.proofs.steps.Write as write
 use Rattle.control_word.specs.Events.{new_object}
-use Rattle.control_word.specs.Handles.{empty}
 use Rattle.control_word.specs.State.{Has, InShape, kind_of_member, put, stored}
 use Rattle.control_word.specs.Steps.{known_of}
 use Rattle.control_word.specs.Words.{flags_of}

@@ -43,7 +43,7 @@ made_one v d i k w t ts b f form e same none is =
     let x = holding w.slots form.null (Some b.0) in
     let l = settled_alone x.0 x.1 ts in
     let n : walk_steps (settled x.0 x.1 w.endings ts) ≡ walk_steps (settled x.0 x.1 [] ts) =
-        ap (λ (es : List Ending). walk_steps (settled x.0 x.1 es ts)) none in
+    ap (λ (es : List Ending). walk_steps (settled x.0 x.1 es ts)) none in
     let a = walk_alone w t ts none is in
     let g : weight t.act ≡ 28 = ap weight same in
     record { made = m; ended = plus_none _; few = omega (arith, c, l, n, a, g) }
@@ -68,7 +68,7 @@ begun_in : (v : Story) (d k : ℕ) (w : Walk) (t : Task) (ts : List Task) (o : O
 begun_in v d k w t ts None none is =
     let l = settled_alone w.slots false ts in
     let n : walk_steps (settled w.slots false w.endings ts) ≡ walk_steps (settled w.slots false [] ts) =
-        ap (λ (es : List Ending). walk_steps (settled w.slots false es ts)) none in
+    ap (λ (es : List Ending). walk_steps (settled w.slots false es ts)) none in
     let a = walk_alone w t ts none is in
     record { made = plus_none _; ended = plus_none _; few = omega (arith, l, n, a) }
 begun_in v d k w t ts (Some b) none is = record { made = plus_none _; ended = plus_none _; few = omega arith }

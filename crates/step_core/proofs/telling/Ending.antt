@@ -47,9 +47,9 @@ left_by v d k w x a f at all kept y true is = record {
       let here = (there v y.block kept (owner_busy v d y.block y.place kept has)).0 in
       let new : Ending = record { block = y.block; stage = 0; statement = k } in
       let more : (b : ℕ) → endings_of b (new ∷ w.endings) ≡ cond (y.block.0 == b) 1 0 + endings_of b w.endings =
-          λ b. sum_by-cons (λ (e : Ending). cond (e.block.0 == b) 1 0) new w.endings in
+      λ b. sum_by-cons (λ (e : Ending). cond (e.block.0 == b) 1 0) new w.endings in
       let one : ◌≡◌ {A = ℕ} (cond (y.block.0 == (s.object o).block) 1 0) 1 =
-          ap (λ (b : Bool). cond b 1 0) (eq-eqb y.block.0 (s.object o).block (sym here)) in
+      ap (λ (b : Bool). cond b 1 0) (eq-eqb y.block.0 (s.object o).block (sym here)) in
       end_put s (state (story_by v d (Some (record { deed = Some (deed.Leave y.block y.place true); half = Rest; walk = x; said = a })))) g o
       (record (s.object o) { phase = ending d }) refl
       (λ e p. let q : d ≡ e = cc in
@@ -141,9 +141,9 @@ cleared v d w e es f at all = record {
       let s = state v in
       let o = object_in v e.block in
       let own : Follows (e ∷ es) (staged e ∷ es) = λ b has.
-          let m = sum_by-cons (λ (x : Ending). cond (x.block.0 == b) 1 0) e es in
-          let n = sum_by-cons (λ (x : Ending). cond (x.block.0 == b) 1 0) (staged e) es in
-          omega (arith, m, n, has) in
+      let m = sum_by-cons (λ (x : Ending). cond (x.block.0 == b) 1 0) e es in
+      let n = sum_by-cons (λ (x : Ending). cond (x.block.0 == b) 1 0) (staged e) es in
+      omega (arith, m, n, has) in
       let keep = passes d f g (e ∷ es) (staged e ∷ es) at now else own in
       end_put s (state (story_by v d (Some (record {
         deed = Some (deed.Clear e.block e.stage);
@@ -168,13 +168,13 @@ finished v d w e es vacant f at all kept = record {
       ⊎_elim
       (λ (q : i ≡ d).
       let h : 0 < endings_of (s.object r).block (e ∷ es) =
-          subst (λ (l : List Ending). 0 < endings_of (s.object r).block l) (ap f q ∙ at) (all r i p) in
+      subst (λ (l : List Ending). 0 < endings_of (s.object r).block l) (ap f q ∙ at) (all r i p) in
       let c : common (s.object r).phase ≡ 1 = ap common p in
       let l = ((sound (opening v.extent) v.history kept.stands.legal).placed r (omega (arith, c))).0 in
       let m = sum_by-cons (λ (x : Ending). cond (x.block.0 == (s.object r).block) 1 0) e es in
       let other : e.block.0 ≢ (s.object r).block = λ t. n (sym l ∙ ap s.latest (sym t)) in
       let z : ◌≡◌ {A = ℕ} (cond (e.block.0 == (s.object r).block) 1 0) 0 =
-          ap (λ (b : Bool). cond b 1 0) (ne_eqb e.block.0 (s.object r).block other) in
+      ap (λ (b : Bool). cond b 1 0) (ne_eqb e.block.0 (s.object r).block other) in
       subst (λ (x : List Ending). 0 < endings_of (s.object r).block x) (sym (ap g q ∙ now)) (omega (arith, h, m, z)))
       (λ (k : i ≢ d). subst (λ (x : List Ending). 0 < endings_of (s.object r).block x) (sym (else i k)) (all r i p)) (cases_eq i d));
 }

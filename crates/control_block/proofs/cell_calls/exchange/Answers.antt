@@ -4,16 +4,12 @@ use Rattle.std.specs.Prelude.{IfSome}
 use Rattle.control_word.specs.Events.{InHand}
 use Rattle.control_word.specs.Handles.{object_of}
 use Rattle.control_word.specs.State.{bag}
-use Rattle.control_word.specs.declared.event.Cell.{Cell}
-use Rattle.control_word.specs.declared.event.Cell.TheVariants.{Free}
 use Rattle.control_word.specs.declared.event.Event.{Event}
 use Rattle.control_word.specs.declared.event.Event.TheVariants.{Swap}
 use Rattle.control_word.specs.declared.handle.Handle.{Handle}
-use Rattle.control_word.specs.declared.shape.Shape.{Shape}
 use Rattle.control_block.specs.CellCalls.{Holds, handle_in, with_handle, without_handle, word_at}
 use Rattle.control_block.specs.CellPlays.{IsWordOf}
-use Rattle.control_block.specs.CellRounds.{CameOut}
-use Rattle.control_block.specs.Desks.{Adds, DeskNow, bag_of}
+use Rattle.control_block.specs.Desks.{DeskNow, bag_of}
 use Rattle.control_block.specs.Handles.{IsProper}
 use Rattle.control_block.specs.Inside.{desk_now}
 use Rattle.control_block.specs.Plays.{Holding, known}
@@ -21,7 +17,7 @@ use Rattle.control_block.proofs.Bags.{seen_as}
 use Rattle.control_block.proofs.CellDesks.{bag_is, event_is, fits, formed_out, holds_after, in_seat, lost_counted, lost_hand, lost_holding}
 use Rattle.control_block.proofs.CellDesks.{lost_mine, lost_room, lost_shows, lost_word, one, one_few, size_is}
 use Rattle.control_block.proofs.CellChoices.{swap_allowances, swap_stores}
-use Rattle.control_block.proofs.CellRounds.{Trades, swap_trades}
+use Rattle.control_block.proofs.CellTrades.{Trades, swap_trades}
 use Rattle.control_block.proofs.CellSites.{cell_there, word_there}
 use Rattle.control_block.proofs.DeskBags.{adds_of, calm_swap, keeps_quietly, now_of}
 use Rattle.control_block.proofs.Passage.{quiet_swap}

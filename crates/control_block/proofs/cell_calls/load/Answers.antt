@@ -1,8 +1,7 @@
-use Rattle.std.proofs.Common.{◌+◌, refl, sym, ap, ◌∙◌, arith, None, inr, subst}
+use Rattle.std.proofs.Common.{◌+◌, refl, sym, ap, ◌∙◌, arith, None, inr}
 use Rattle.control_word.specs.declared.event.Event.{Event}
 use Rattle.control_word.specs.declared.event.Event.TheVariants.{Load}
 use Rattle.control_word.specs.declared.handle.Handle.{Handle}
-use Rattle.control_word.specs.declared.shape.Shape.{Shape}
 use Rattle.control_block.specs.CellCalls.{with_handle, word_at}
 use Rattle.control_block.specs.Desks.{bag_of}
 use Rattle.control_block.specs.Inside.{desk_now}
@@ -11,7 +10,7 @@ use Rattle.control_block.proofs.Bags.{seen_as}
 use Rattle.std.proofs.lemmas.List.{length-map}
 use Rattle.control_word.specs.State.{bag}
 use Rattle.control_block.specs.Plays.{known}
-use Rattle.control_block.proofs.CellRounds.{load_trades}
+use Rattle.control_block.proofs.CellTrades.{load_trades}
 use Rattle.control_block.proofs.CellSites.{cell_there, word_there}
 use Rattle.control_block.proofs.DeskBags.{not_full, adds_of, calm, keeps_quietly, now_of}
 use Rattle.control_block.proofs.Passage.{plain}

@@ -5,7 +5,8 @@ use Rattle.control_word.specs.declared.shape.Shape.{Shape}
 use Rattle.atomic_table.specs.Seated.{TableId}
 use Rattle.control_block.specs.CellPlays.{Gave, kind_in}
 use Rattle.control_block.specs.Inside.{IsSized}
-use Rattle.control_block.proofs.CellRounds.{gave_counted, compare_trades}
+use Rattle.control_block.proofs.CellRounds.{gave_counted}
+use Rattle.control_block.proofs.CellTrades.{compare_trades}
 use Rattle.control_block.proofs.cell_compares.try_swap.Goals as goal
 
 pub settle-requires-clause-count : goal.settle-requires-clause-count

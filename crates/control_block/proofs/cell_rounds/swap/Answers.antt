@@ -5,7 +5,8 @@ use Rattle.control_word.specs.declared.shape.Shape.{Shape}
 use Rattle.atomic_table.specs.Seated.{TableId}
 use Rattle.control_block.specs.CellPlays.{Gave, debt, kind_in}
 use Rattle.control_block.specs.Inside.{IsSized}
-use Rattle.control_block.proofs.CellRounds.{gave_counted, hand_in_call, swap_trades}
+use Rattle.control_block.proofs.CellRounds.{gave_counted, hand_in_call}
+use Rattle.control_block.proofs.CellTrades.{swap_trades}
 use Rattle.control_block.proofs.cell_rounds.swap.Goals as goal
 
 pub swap-old-requires-clause-hand : goal.swap-old-requires-clause-hand

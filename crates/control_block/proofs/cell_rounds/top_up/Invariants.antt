@@ -5,10 +5,10 @@ use Rattle.control_block.proofs.cell_rounds.top_up.Given as goal
 abbrev pub ghosts-refill : goal.ghosts-refill
 ghosts-refill g a =
     record {
-      kind = a.of.kind;
-      object = (known a.chair.now.me.0).latest a.of.block.0;
-      place = a.of.place;
+      kind = a.kind;
+      object = (known a.chair.now.me.0).latest a.block.0;
+      place = a.place;
       wanted = None;
-      block = a.of.block;
+      block = a.block;
       word = 0;
     }

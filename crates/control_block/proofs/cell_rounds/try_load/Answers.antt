@@ -1,4 +1,4 @@
-use Rattle.std.proofs.Common.{refl, sym, ap, subst}
+use Rattle.std.proofs.Common.{refl, sym, subst}
 use Rattle.atomic_table.specs.Seated.{TableId}
 use Rattle.control_word.specs.Handles.{empty}
 use Rattle.control_word.specs.declared.event.Event.{Event}
@@ -9,8 +9,8 @@ use Rattle.control_block.specs.CellPlays.{Took}
 use Rattle.control_block.specs.CellRounds.{CameOut, IsCounted}
 use Rattle.control_block.specs.Inside.{IsSized}
 use Rattle.control_block.specs.Plays.{At}
-use Rattle.control_block.specs.declared.board.Sight.{Sight}
-use Rattle.control_block.proofs.CellRounds.{came_counted, came_holding, cell_still, load_keeps, load_trades, took_inside, took_owes, turned}
+use Rattle.control_block.proofs.CellRounds.{came_counted, came_holding, took_inside, took_owes, turned}
+use Rattle.control_block.proofs.CellTrades.{cell_still, load_keeps, load_trades}
 use Rattle.control_block.proofs.cell_rounds.try_load.Goals as goal
 
 pub turn-requires-clause-word : goal.turn-requires-clause-word

@@ -1,13 +1,3 @@
-use Rattle.std.proofs.Common.{◌==◌, true, sym, subst}
-use Rattle.atomic_table.specs.Table.{Allows, step}
-use mathlib.Core.Option.{none}
-use prog.Atomic.{either}
-use Rattle.control_word.specs.Events.{InHand}
-use Rattle.control_word.specs.declared.event.Cell.{Cell}
-use Rattle.control_word.specs.declared.event.Event.TheVariants.{Compare}
-use Rattle.control_block.specs.CellPlays.{IsCellAt, compare_swapped, kind_in}
-use Rattle.control_block.specs.Plays.{known}
-use Rattle.control_block.specs.Rule.{Ruled}
 use Rattle.control_block.proofs.kept.CompareSwap.{allows_compare_swap}
 use Rattle.control_block.proofs.cells.compare_and_swap.Goals as goal
 

@@ -1,12 +1,4 @@
-use Rattle.std.proofs.Common.{◌∙◌, sym, subst}
-use Rattle.atomic_table.specs.Table.{Allows, step}
-use mathlib.Core.Option.{none}
-use Rattle.control_word.specs.Events.{InHand}
-use Rattle.control_word.specs.declared.event.Cell.{Cell}
-use Rattle.control_word.specs.declared.event.Event.TheVariants.{Swap}
-use Rattle.control_block.specs.CellPlays.{IsCellAt, kind_in, swapped}
-use Rattle.control_block.specs.Plays.{known}
-use Rattle.control_block.specs.Rule.{Ruled}
+use Rattle.std.proofs.Common.{◌∙◌, sym}
 use Rattle.control_block.proofs.kept.Swap.{allows_swap}
 use Rattle.control_block.proofs.cells.swap.Goals as goal
 

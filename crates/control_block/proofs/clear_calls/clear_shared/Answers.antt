@@ -1,19 +1,18 @@
-use Rattle.std.proofs.Common.{◌≡◌, ◌≢◌, ℕ, ◌+◌, ◌<◌, ◌-◌, cond, [], List, refl, sym, ap, subst, ◌∙◌, arith, Option, Some, None, length}
+use Rattle.std.proofs.Common.{◌≡◌, ℕ, ◌+◌, ◌-◌, cond, refl, sym, ap, subst, ◌∙◌, arith, None, length}
 use Rattle.std.specs.Prelude.{is_some}
 use mir.Val.{bool_byte}
 use Rattle.control_word.specs.Handles.{empty}
 use Rattle.control_block.specs.CellCalls.{with_handle}
 use Rattle.control_word.specs.declared.event.Event.TheVariants.{ClearMember}
-use Rattle.control_word.specs.declared.handle.Kind.{Kind}
 use Rattle.control_word.specs.declared.handle.Kind.TheVariants.{Owner}
-use Rattle.control_block.specs.CellRounds.{CameOut}
-use Rattle.control_block.specs.Clearing.{Empties, Lets, TakesOut}
-use Rattle.control_block.specs.Desks.{DeskNow, EndsStill, IsCleared, IsEnding, IsSameDesk, bag_of, endings_of, member_in, stock_of}
+use Rattle.control_block.specs.Clearing.{Lets, TakesOut}
+use Rattle.control_block.specs.Desks.{DeskNow, EndsStill, IsEnding, IsSameDesk, bag_of, endings_of, member_in, stock_of}
 use Rattle.control_block.specs.Inside.{IsDeskWith, desk_now}
 use Rattle.control_block.specs.Plays.{known}
 use Rattle.control_block.specs.declared.desk.Desk.TheInside.{Inside}
-use Rattle.control_block.proofs.CellDesks.{one, one_few}
-use Rattle.control_block.proofs.CellRounds.{came_object, clear_trades}
+use Rattle.control_block.proofs.CellDesks.{one}
+use Rattle.control_block.proofs.CellRounds.{came_object}
+use Rattle.control_block.proofs.CellTrades.{clear_trades}
 use Rattle.control_block.proofs.ClearDesks as clear
 use Rattle.control_block.proofs.ClearLeaves as leave
 use Rattle.control_block.proofs.DeskSteps.{slot_inside, word_inside}

@@ -1,24 +1,18 @@
-use Rattle.std.proofs.Common.{◌≡◌, ◌≢◌, ℕ, ◌+◌, ◌<◌, ◌-◌, cond, false, [], List, refl, sym, ap, subst, ◌∙◌, arith, Option, Some, None, length}
-use Rattle.std.specs.Prelude.{is_some}
-use mir.Val.{bool_byte}
+use Rattle.std.proofs.Common.{◌≡◌, ℕ, ◌+◌, ◌-◌, cond, false, refl, sym, ap, subst, ◌∙◌, arith, length}
 use Rattle.control_word.specs.Handles.{empty}
 use Rattle.control_block.specs.CellCalls.{with_handle}
 use Rattle.control_word.specs.declared.event.Event.TheVariants.{ClearMember}
-use Rattle.control_word.specs.declared.handle.Kind.{Kind}
 use Rattle.control_word.specs.declared.handle.Kind.TheVariants.{Weak}
-use Rattle.control_block.specs.CellRounds.{CameOut}
-use Rattle.control_block.specs.Clearing.{EmptiesWeakly, LetsWeakly, TakesOut}
-use Rattle.control_block.specs.Desks.{DeskNow, EndsStill, IsCleared, IsEnding, IsSameDesk, bag_of, endings_of, member_in, stock_of}
+use Rattle.control_block.specs.Clearing.{LetsWeakly, TakesOut}
+use Rattle.control_block.specs.Desks.{DeskNow, EndsStill, IsEnding, IsSameDesk, bag_of, endings_of, member_in, stock_of}
 use Rattle.control_block.specs.Inside.{IsDeskWith, desk_now}
-use Rattle.control_block.specs.Plays.{known}
 use Rattle.control_block.specs.declared.desk.Desk.TheInside.{Inside}
-use Rattle.control_block.proofs.CellDesks.{one, one_few}
-use Rattle.control_block.proofs.CellRounds.{came_object, clear_trades}
+use Rattle.control_block.proofs.CellDesks.{one}
+use Rattle.control_block.proofs.CellRounds.{came_object}
+use Rattle.control_block.proofs.CellTrades.{clear_trades}
 use Rattle.control_block.proofs.ClearDesks as clear
 use Rattle.control_block.proofs.ClearWeakLeaves as leave
-use Rattle.control_block.proofs.DeskSteps.{slot_inside, word_inside}
-use Rattle.control_block.proofs.EndingCounts.{few_ending}
-use Rattle.control_block.proofs.OwnCounts.{byte_few}
+use Rattle.control_block.proofs.DeskSteps.{word_inside}
 use Rattle.control_block.proofs.OwnEndings.{ends_in}
 use Rattle.control_block.proofs.StoreBlocks.{ending_word}
 use Rattle.control_block.proofs.clear_calls.clear_weak.Goals as goal

@@ -7,7 +7,8 @@ use Rattle.control_word.specs.declared.handle.Kind.{Kind}
 use Rattle.control_block.specs.CellPlays.{Gave}
 use Rattle.control_block.specs.Inside.{IsSized}
 use Rattle.control_block.specs.Plays.{At}
-use Rattle.control_block.proofs.CellRounds.{clear_trades, gave_counted, given_back}
+use Rattle.control_block.proofs.CellRounds.{gave_counted, given_back}
+use Rattle.control_block.proofs.CellTrades.{clear_trades}
 use Rattle.control_block.proofs.clears.clear.Goals as goal
 
 pub settle-requires-clause-count : goal.settle-requires-clause-count

@@ -43,8 +43,8 @@ returns-then-not-lock-clause-keeps g c =
     c.if-not-lock.ensures.event _ _ c.args.desk.now c.desk.view_is c.lock.ensures.chair.0
     (calm (λ s n. refl) (λ s n. refl) (λ s f. refl)) (λ s n. refl) (λ s n. refl)
 
-pub invariant_of-desk-2 : goal.invariant_of-desk-2
-invariant_of-desk-2 g c =
+pub invariant_of-desk-else-not-lock : goal.invariant_of-desk-else-not-lock
+invariant_of-desk-else-not-lock g c =
     let d = c.desk.inside in let h = c.desk.invariant in let v = d.seat.me.0 in let w = c.lock.new.chair.me.0 in
     let s = c.if-not-lock.ensures in
     let e = Lock (on_latest (desk_now d) Weak g.A.About.place c.args.of.block.0) true in let t = came v w Idle None e s.event in

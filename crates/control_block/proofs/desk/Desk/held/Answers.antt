@@ -1,4 +1,4 @@
-use Rattle.std.proofs.Common.{◌+◌, arith}
+use Rattle.std.proofs.Common.{arith}
 use Rattle.control_block.proofs.PartingDesks.{allowance_most}
 use Rattle.control_block.proofs.desk.Desk.held.Goals as goal
 

@@ -32,7 +32,8 @@ left-ended-requires-clause-begins c = λ x.
     let h : c.get-held.result ≡ slot slots c.args.name = c.get-held.ensures ∙ ap (slot slots) c.from.ensures in
     let is : c.put-last.new.table ≡ done_on (leave (state v)) v c.args.desk c.get-held.result = c.put-last.ensures.table ∙ ap (done_on (leave (state v)) v c.args.desk) (sym h) in
     let said : c.put-last.result ≡ on (is_last (state v)) false c.get-held.result = c.put-last.ensures.last ∙ ap (on (is_last (state v)) false) (sym h) in
-    begins_room v c.put-last.new.table c.args.desk c.args.self.now c.put-last.new.self c.get-held.result c.put-last.result x c.known-2.ensures c.requires.fits c.requires.none c.put-last.ensures.on.endings is said
+    begins_room v c.put-last.new.table c.args.desk c.args.self.now c.put-last.new.self
+    c.get-held.result c.put-last.result x c.known-2.ensures c.requires.fits c.requires.none c.put-last.ensures.on.endings is said
 
 pub left-ended-requires-clause-room : goal.left-ended-requires-clause-room
 left-ended-requires-clause-room c = λ x.
@@ -59,7 +60,8 @@ returns-clause-fits c =
       list = c.left-ended.ensures.endings;
       roomy = c.left-ended.ensures.roomy;
     } in
-    fits_left c.args.desk c.args.self.now c.left-ended.new.self v c.put-last.new.table c.put-last.new.self c.statement-statement.result c.get-held.result c.put-last.result c.known.ensures c.known-2.ensures
+    fits_left c.args.desk c.args.self.now c.left-ended.new.self v c.put-last.new.table c.put-last.new.self
+    c.statement-statement.result c.get-held.result c.put-last.result c.known.ensures c.known-2.ensures
     c.requires.fits c.requires.rest c.requires.none is said has c.left-ended.ensures.half c.left-ended.ensures.stock
 
 pub returns-clause-stepped : goal.returns-clause-stepped
@@ -80,9 +82,11 @@ returns-clause-stepped c =
     } in
     stepped_left c.args.desk c.args.self.now c.left-ended.new.self v c.put-last.new.table c.says.result (act.Put c.args.name) c.get-held.result c.put-last.result
     c.left-ended.result c.statement-statement.result c.statement-statement.ensures c.requires.rest c.requires.none c.requires.within c.requires.act
-    (ap (λ (o : Option Pointer). acts (state v) c.args.desk (walk c.args.self.now.course) (task_at c.args.self.now.course).statement (rest c.args.self.now.course) (act.Put c.args.name) (option_map (leave (state v)) o) Rest) (sym h))
+    (ap (λ (o : Option Pointer). acts (state v) c.args.desk (walk c.args.self.now.course) (task_at c.args.self.now.course).statement (rest c.args.self.now.course)
+    (act.Put c.args.name) (option_map (leave (state v)) o) Rest) (sym h))
     refl (ap (λ (o : Option Pointer). ended_by (state v) o) (sym h)) is said
     c.left-ended.ensures.ended c.left-ended.ensures.half
-    (went_left c.args.desk c.args.self.now.course c.put-last.new.self c.left-ended.new.self.course v c.put-last.new.table (act.Put c.args.name) c.get-held.result c.put-last.result c.statement-statement.result has (sym h) said c.put-last.ensures.walk)
+    (went_left c.args.desk c.args.self.now.course c.put-last.new.self c.left-ended.new.self.course v c.put-last.new.table
+    (act.Put c.args.name) c.get-held.result c.put-last.result c.statement-statement.result has (sym h) said c.put-last.ensures.walk)
     (c.says.ensures ∙ ap (λ (b : Bool). cond b (Event (record { statement = c.statement-statement.result; answer = None; ended = c.left-ended.result }))
     (Quiet (record { statement = c.statement-statement.result; answer = None; ended = c.left-ended.result }))) c.is_some.ensures)
