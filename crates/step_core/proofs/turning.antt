@@ -1,5 +1,6 @@
 pub mod Chains
 pub mod Ending
+pub mod Resting
 pub mod Giving
 pub mod Locking
 pub mod Making

@@ -11,18 +11,18 @@ use Rattle.step_core.specs.declared.half.Half.TheVariants.{Rest, Making, Locking
 use Rattle.step_core.specs.declared.holdings.Pointer.{Pointer}
 use Rattle.step_core.specs.declared.said.Stepped.{Stepped}
 use Rattle.control_word.specs.declared.handle.Kind.{Kind}
-use Rattle.control_word.specs.declared.handle.Kind.TheVariants.{Owner, Weak}
-use Rattle.step_core.specs.Courses.{HasCell, going, locked, offered, other}
-use Rattle.step_core.specs.Deeds.{aliased, is_enabled, is_last, lock, owner_word}
+use Rattle.step_core.specs.Courses.{going, locked, offered, other}
+use Rattle.step_core.specs.Deeds.{aliased, is_enabled, lock, owner_word}
 use Rattle.step_core.specs.Holdings.{inside, owner_slot, place_in, slot}
 use Rattle.step_core.specs.Entries.{least, on}
 use Rattle.step_core.specs.Scenes.{next, next_of, play_from, rested, said_from}
 use Rattle.step_core.specs.Scenes.{walk_of}
 use Rattle.step_core.specs.Steps.{Step, acts, asks, at_rest, begins, begun, first, looks, silent, step_at, stepped, trying}
 use Rattle.step_core.specs.Stories.{state}
-use Rattle.step_core.specs.Turning.{HasBegun, IsInShape, Plays, has_rest, is_acting, is_brought, is_ending, is_giving, is_locking, is_making, is_returning, returned, turned, turned_by}
+use Rattle.step_core.specs.Turning.{HasBegun, IsInShape, Plays, has_rest, is_acting, is_brought, is_giving, is_locking, is_making, is_returning, returned, turned, turned_by}
 use Rattle.step_core.specs.Worlds.{Sight, Steps, half_of, scene, sight_by, step_of}
-use Rattle.step_core.proofs.turning.Ending.{ended, half_after, halves_after, none_left, rested_none, same_walks, scene_as}
+use Rattle.step_core.proofs.turning.Ending.{half_after, halves_after, rested_none, same_walks, scene_as}
+use Rattle.step_core.proofs.turning.Resting.{ended, none_left}
 use Rattle.step_core.proofs.turning.Saying.{Acts, asks_so, begins_so, counted, downgraded, expired, left, looks_so, plays_as, read_so, shared, shared_at}
 use Rattle.step_core.proofs.turning.Swapping.{CanPut, goes_same, goes_so}
 

@@ -19,15 +19,15 @@ use Rattle.control_word.specs.declared.handle.Kind.{Kind}
 use Rattle.control_word.specs.declared.handle.Kind.TheVariants.{Owner, Weak}
 use Rattle.control_word.specs.Histories.{entry}
 use Rattle.step_core.specs.Courses.{Walk, locked, settled}
-use Rattle.step_core.specs.Deeds.{downgrade, is_enabled, is_last, leave, leave_as, lock, owner_word, read, share, share_as, tell, tell_expired, alias, aliased}
-use Rattle.step_core.specs.Holdings.{inside, slot, owner_slot, place_in}
+use Rattle.step_core.specs.Deeds.{downgrade, is_enabled, is_last, leave, leave_as, lock, owner_word, read, share, share_as, tell, tell_expired, alias}
+use Rattle.step_core.specs.Holdings.{inside, slot}
 use Rattle.step_core.specs.Openings.{opening}
 use Rattle.step_core.specs.Entries.{History, acted, least, leaves, left_as, made, on, shared_as}
 use Rattle.step_core.specs.Scenes.{Scene, full_answer, holding, next, next_of}
 use Rattle.step_core.specs.Scenes.{play, play_from, put_walk, rest_of, rested, rested_walk, said_from, said_of}
 use Rattle.step_core.specs.Entries.{counts, downgrades, expires, gives, giving, locks, reads, shares, aliases}
 use Rattle.step_core.specs.Scenes.{walk_of, went}
-use Rattle.step_core.specs.Steps.{Step, acts, asks, begins, first, is_event, looks, silent, stepped, story_after, trying}
+use Rattle.step_core.specs.Steps.{Step, acts, asks, begins, is_event, looks, silent, stepped, story_after, trying}
 use Rattle.step_core.specs.Stories.{Story, after, state}
 use Rattle.step_core.specs.Turning.{Plays, is_acting, turned, turned_by}
 use Rattle.step_core.specs.Worlds.{Sight, scene, sight_by, step_of}

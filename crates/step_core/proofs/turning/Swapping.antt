@@ -1,5 +1,5 @@
 -- A swap of a cell, step by step.
-use Rattle.std.proofs.Common.{◌≡◌, ℕ, ◌<◌, Bool, true, false, cond, List, [], ◌∷◌, length, set, refl, sym, ap, subst, ◌∙◌}
+use Rattle.std.proofs.Common.{◌≡◌, ℕ, ◌<◌, Bool, true, false, List, [], ◌∷◌, set, refl, sym, ap, subst, ◌∙◌}
 use Rattle.std.specs.Prelude.{Option, Some, None, is_some, option_map}
 use Rattle.std.proofs.lemmas.Bool.{cond-true, cond-false, false≢true}
 use Rattle.std.proofs.lemmas.Option.{same_Some}
@@ -29,7 +29,7 @@ use Rattle.step_core.specs.Holdings.{Slots, slot, value}
 use Rattle.step_core.specs.Openings.{opening}
 use Rattle.step_core.specs.Programs.{IsIn}
 use Rattle.step_core.specs.Scenes.{walk_of, went}
-use Rattle.step_core.specs.Steps.{Step, acts, brings, gives_back, sends, sent, step_at, stepped, swaps}
+use Rattle.step_core.specs.Steps.{acts, brings, gives_back, sends, sent, step_at, stepped, swaps}
 use Rattle.step_core.specs.Stories.{Kept, Nothing, Story, added, history_after, state}
 use Rattle.step_core.specs.Turning.{HasBegun, IsAlone, IsInShape, IsSwap, IsTried, Plays, is_acting, is_brought, turned_by}
 use Rattle.step_core.specs.Worlds.{Sight, Steps, half_of, scene, sight_by, step_of}

@@ -18,7 +18,7 @@ use Rattle.step_core.specs.Entries.{least, made}
 use Rattle.step_core.specs.Scenes.{Scene, full_answer, holding, next, play, play_from, rested, said, said_from, walk_of}
 use Rattle.step_core.specs.Steps.{Step, claims, prepares, stepped}
 use Rattle.step_core.specs.Stories.{known, pending, state}
-use Rattle.step_core.specs.Turning.{HasBegun, IsAlone, IsReady, IsUnderWay, Plays, Prepares, Rests, is_acting, returned, turned, turned_by}
+use Rattle.step_core.specs.Turning.{HasBegun, IsAlone, IsReady, IsUnderWay, Plays, Prepares, Rests, returned, turned, turned_by}
 use Rattle.step_core.specs.Worlds.{Sight, Steps, Turns, half_of, scene, sight_by, step_of}
 use Rattle.step_core.proofs.turning.Making.{made_step}
 use Rattle.step_core.proofs.turning.Playing.{over_returned}

@@ -1,4 +1,4 @@
-use Rattle.step_core.proofs.turning.Ending.{on_step}
+use Rattle.step_core.proofs.turning.Resting.{on_step}
 use Rattle.std.proofs.Common.{sym, ◌∙◌}
 use Rattle.step_core.proofs.world.World.rest.Goals as goal
 

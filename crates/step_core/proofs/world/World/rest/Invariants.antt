@@ -1,4 +1,4 @@
-use Rattle.step_core.proofs.turning.Ending.{IsOn, rest_left}
+use Rattle.step_core.proofs.turning.Resting.{IsOn, rest_left}
 use Rattle.step_core.proofs.world.World.rest.Given as goal
 
 abbrev pub invariant-loop-self : goal.invariant-loop-self
