@@ -1,60 +1,50 @@
 -- A thread that puts values into cells fits the table, and its steps are as they are said.
-use Rattle.std.proofs.Common.{◌≡◌, ℕ, ◌-◌, ◌<◌, ◌≤◌, ◌⊎◌, Bool, true, false, cond, not, ◌&&◌, List, [], ◌∷◌, length, refl, sym, ap, subst, ◌∙◌, ⊎_elim, inl, inr, arith}
-use Rattle.std.proofs.lemmas.Bool.{and_parts}
-use Rattle.std.specs.Prelude.{Option, Some, None, option_map, is_some}
+use Rattle.std.proofs.Common.{◌≡◌, ℕ, ◌-◌, ◌<◌, ◌⊎◌, Bool, true, false, cond, not, ◌&&◌, [], length, refl, sym, ap, subst, ◌∙◌, ⊎_elim, arith}
+use Rattle.std.specs.Prelude.{Option, Some, None}
 use Rattle.control_word.specs.declared.cell.CellWord.{CellWord}
 use Rattle.control_word.specs.declared.handle.Kind.{Kind}
 use Rattle.control_word.specs.declared.handle.Kind.TheVariants.{Owner, Weak}
 use Rattle.control_word.specs.declared.place.Block.{Block}
-use Rattle.control_word.specs.declared.view.Pending.{Pending}
 use Rattle.control_word.specs.declared.view.Pending.TheVariants.{Idle}
 use Rattle.std.specs.List.{filter}
-use Rattle.control_word.specs.State.{State, same_stored, stored}
+use Rattle.control_word.specs.State.{same_stored, stored}
 use Rattle.step_core.specs.declared.act.Act.{Act}
 use Rattle.step_core.specs.declared.act.Act.TheVariants.{Swap, Exchange, Drop}
-use Rattle.step_core.specs.declared.act.Task.{Task}
 use Rattle.step_core.specs.declared.call.CellName.{CellName}
 use Rattle.step_core.specs.declared.cell_deed.Cell.{Cell}
 use Rattle.step_core.specs.declared.cell_deed.Cell.TheVariants.{Free, Member}
 use Rattle.step_core.specs.declared.cell_deed.CellDeed.TheVariants as cell_deed
 use Rattle.step_core.specs.declared.course.Course.{Course}
-use Rattle.step_core.specs.declared.ending.Ending.{Ending}
 use Rattle.step_core.specs.declared.half.Half.{Half}
 use Rattle.step_core.specs.declared.half.Half.TheVariants.{Rest, Brought, Returning}
 use Rattle.step_core.specs.declared.holdings.Pointer.{Pointer}
 use Rattle.step_core.specs.declared.past.Deed.{Deed}
 use Rattle.step_core.specs.declared.past.Deed.TheVariants.{OnCell}
-use Rattle.step_core.specs.declared.slot.Slot.{Slot}
-use Rattle.step_core.specs.declared.slot.Slot.TheVariants.{Empty, Full}
 use Rattle.step_core.specs.declared.thread.Thread.{Thread}
 use Rattle.step_core.specs.Actors.{HalfFits, Stocks, claimed, in_store}
-use Rattle.step_core.specs.CellDeeds.{kind_in, owing}
-use Rattle.step_core.specs.Contents.{as_word, is_of, owing_for, seen}
-use Rattle.step_core.specs.Courses.{Begins, CourseReady, Follows, Going, HasCell, HasGoneOn, IsReady, Ready, Walk, cell_at, going, going_from, hand, idle, kind_at, new_of}
-use Rattle.step_core.specs.Courses.{done_on, other, rest, taken_after, task_at}
+use Rattle.step_core.specs.CellDeeds.{owing}
+use Rattle.step_core.specs.Contents.{is_of}
+use Rattle.step_core.specs.Courses.{Begins, CourseReady, Going, HasCell, HasGoneOn, cell_at, going_from, hand, idle, kind_at}
+use Rattle.step_core.specs.Courses.{done_on, other, task_at}
 use Rattle.step_core.specs.Deeds.{share_as}
 use Rattle.step_core.specs.Entries.{on}
-use Rattle.step_core.specs.Holdings.{Holds, Slots, pointer_of, slot, value}
+use Rattle.step_core.specs.Holdings.{Slots, slot, value}
 use Rattle.step_core.specs.Programs.{IsIn}
-use Rattle.step_core.specs.Steps.{Step, acts, brings, first, gives_back, sends, sent, step_at, swaps}
-use Rattle.step_core.specs.Stories.{Kept, Nothing, Story, after, pending, pending_after, state}
+use Rattle.step_core.specs.Steps.{gives_back}
+use Rattle.step_core.specs.Stories.{Kept, Story, after, pending, pending_after, state}
 use Rattle.step_core.specs.Threads.{Fits, IsNext}
 use Rattle.step_core.proofs.CellNames.{cell_kind}
-use Rattle.step_core.proofs.Courses.{owed_by, ready_head, todo_at}
-use Rattle.step_core.proofs.Steps.{at_act}
-use Rattle.step_core.proofs.Threads.{cell_here, cells_on, own_pending, ready_any, resting}
+use Rattle.step_core.proofs.Courses.{ready_head}
+use Rattle.step_core.proofs.Threads.{cell_here, cells_on, own_pending, resting}
 use Rattle.step_core.proofs.contained.Others.{holds_quiet}
 use Rattle.step_core.proofs.contained.Refilling.{owes_after}
 use Rattle.step_core.proofs.contained.Told.{kind_stays}
-use Rattle.step_core.proofs.holding.Ends.{each_end, ends_gone, ends_none}
+use Rattle.step_core.proofs.holding.Ends.{each_end, ends_gone}
 
 -- what is half done of the next act
 pub half_here : (d : ℕ) (t : Thread) (v : Story) (h : Half) → Fits d t v → t.half ≡ h
     → HalfFits d h t.course.holdings.slots.items (task_at t.course).act v
 half_here d t v h fits e = subst (λ (x : Half). HalfFits d x t.course.holdings.slots.items (task_at t.course).act v) e fits.half
-
-pub next_here : (d : ℕ) (t : Thread) (v : Story) (h : Half) → Fits d t v → t.half ≡ h → IsNext h t.course
-next_here d t v h fits e = subst (λ (x : Half). IsNext x t.course) e fits.next
 
 -- the cell of the next act is in the shape
 pub cell_of_swap : (d : ℕ) (t : Thread) (v : Story) (c : CellName) → Fits d t v → t.course.at < length t.course.tasks.items → (task_at t.course).act ≡ Swap c
@@ -78,73 +68,13 @@ swap_goes c x lt still act =
     go true false e = cc
     go false b e = cc
 
--- a slot without an object has nothing to bring
-pub owes_nothing : (s : State) (a : Slot) (n : ℕ) → pointer_of a ≡ None → owing_for s a n ≡ Idle
-owes_nothing s (Empty p) n e = refl
-owes_nothing s (Full x) n e = cc
-
-pub nothing_owed : (s : State) (a : Slot) (n : ℕ) → owing_for s a n ≡ Idle → pointer_of a ≡ None
-nothing_owed s (Empty p) n e = refl
-nothing_owed s (Full x) n e = absurd (let q : ◌≡◌ {A = Pending Nothing} (owing s x.kind (Some x.block) x.place n 0) Idle = e in cc)
-
 -- where it goes
 pub going_is : (slots : Slots) (c : CellName) (i : ℕ) → is_of (kind_at c) (value slots i) ≡ true → going_from slots c i ≡ Some (c, i)
 going_is slots c i is = ap (λ (b : Bool). cond {A = Option Going} b (Some (c, i)) None) is
 
-pub going_not : (slots : Slots) (c : CellName) (i : ℕ) → is_of (kind_at c) (value slots i) ≡ false → going_from slots c i ≡ None
-going_not slots c i is = ap (λ (b : Bool). cond {A = Option Going} b (Some (c, i)) None) is
-
-pub went_there : (slots : Slots) (c : CellName) (i : ℕ) → is_some (going_from slots c i) ≡ true → is_of (kind_at c) (value slots i) ≡ true
-went_there slots c i e = go (is_of (kind_at c) (value slots i)) e
-  where
-    go : (b : Bool) → is_some (cond {A = Option Going} b (Some (c, i)) None) ≡ true → b ≡ true
-    go true e = refl
-    go false e = cc
-
--- an exchange that comes with nothing to put in goes on
-pub exchange_ready : (c : Course) (k : ℕ) (x : CellName) → c.at < length c.tasks.items → CourseReady c → (task_at c).act ≡ Exchange k x
-    → IsReady c.holdings.slots.items c.taken (rest c)
-exchange_ready c k x lt ready act =
-    let h = ready_head c lt ready in
-    record {
-      some = ready.some;
-      free = ready.free;
-      owes = inl (owed_by c lt ready (λ e. let q = act in absurd cc));
-      ready = subst (λ (a : Act). Ready (other c.holdings.slots.items) (taken_after a c.taken) (rest c)) act h.2;
-    }
-
-pub exchange_name : (c : Course) (k : ℕ) (x : CellName) → c.at < length c.tasks.items → CourseReady c → (task_at c).act ≡ Exchange k x
-    → k < length c.holdings.slots.items
-exchange_name c k x lt ready act =
-    let h = ready_head c lt ready in
-    let b : Begins (other c.holdings.slots.items) c.taken (Exchange k x) = subst (Begins (other c.holdings.slots.items) c.taken) act h.0 in
-    let l = b.0 in omega (arith, l)
-
 pub drop_empty : (c : Course) → c.at < length c.tasks.items → CourseReady c → (task_at c).act ≡ Drop → c.taken ≡ false
 drop_empty c lt ready act =
     let b : Begins (other c.holdings.slots.items) c.taken Drop = subst (Begins (other c.holdings.slots.items) c.taken) act (ready_head c lt ready).0 in b
-
--- the funds are brought
-pub fits_brought : (d : ℕ) (t : Thread) (v : Story) (x : Pointer) → Fits d t v → t.half ≡ Rest → t.course.endings.list ≡ []
-    → t.course.at < length t.course.tasks.items → is_some (going t.course.holdings.slots.items (task_at t.course).act) ≡ true
-    → pending (after v d (OnCell (cell_deed.Bring x.kind x.block x.place 256))) d
-    ≡ owing_for (state (after v d (OnCell (cell_deed.Bring x.kind x.block x.place 256)))) (new_of t.course.holdings.slots.items (task_at t.course).act) 256
-    → Holds d t.course.holdings.slots.items (after v d (OnCell (cell_deed.Bring x.kind x.block x.place 256)))
-    → Fits d (record { course = t.course; stock = t.stock; half = Brought }) (after v d (OnCell (cell_deed.Bring x.kind x.block x.place 256)))
-fits_brought d t v x fits e none lt goes owes holds =
-    let s = resting d t v fits e in
-    record {
-      seat = fits.seat;
-      holds = holds;
-      within = fits.within;
-      ready = fits.ready;
-      still = fits.still;
-      half = owes;
-      next = (lt, goes, none);
-      stocks = record { stocked = s.stocked; roomy = s.roomy };
-      endings = ends_none d t.course (after v d (OnCell (cell_deed.Bring x.kind x.block x.place 256))) none fits.endings.roomy;
-      cells = fits.cells;
-    }
 
 -- a swap moves no block
 same_stores : (v : Story) (d : ℕ) (c : Cell) (new x : CellWord) → (state (after v d (OnCell (cell_deed.Swap c new x)))).stores ≡ (state v).stores

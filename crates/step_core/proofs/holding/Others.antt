@@ -1,5 +1,5 @@
 -- What other desks do changes nothing of what a desk has.
-use Rattle.std.proofs.Common.{◌≡◌, ◌≢◌, ℕ, suc, ◌<◌, ◌≤◌, ◌==◌, Bool, true, cond, List, [], ◌∷◌, length, get_or, Some, refl, sym, ap}
+use Rattle.std.proofs.Common.{◌≡◌, ◌≢◌, ℕ, suc, ◌<◌, ◌≤◌, ◌==◌, Bool, true, cond, List, [], ◌∷◌, length, Some, refl, sym, ap}
 use Rattle.std.proofs.Common.{subst, ◌∙◌, arith, eq-eqb, get_or-set_other}
 use Rattle.std.proofs.lemmas.Bool.{cond_both, eqb-true, and_parts}
 use Rattle.control_word.proofs.history.Kept.{Same, block_after, has_same, same_after, still}
@@ -10,10 +10,9 @@ use Rattle.control_word.specs.declared.event.Event.TheVariants as event
 use Rattle.control_word.specs.declared.handle.Handle.{Handle}
 use Rattle.control_word.specs.declared.place.Block.{Block}
 use Rattle.control_word.proofs.history.Moving.{counted_live, owner_counted}
-use Rattle.control_word.specs.declared.view.Pending.{Pending}
 use Rattle.control_word.specs.declared.view.View.{View}
 use Rattle.control_word.specs.Events.{moved_to, new_object}
-use Rattle.control_word.specs.Handles.{empty, handle}
+use Rattle.control_word.specs.Handles.{empty}
 use Rattle.control_word.specs.State.{Has, Held, Object, Phase, State, Stored, bag, common, ending, held, kind_of_member, live, same_held, same_stored}
 use Rattle.control_word.specs.State.{stock, stored, unmade, weak_number}
 use Rattle.control_word.specs.Views.{used_up}

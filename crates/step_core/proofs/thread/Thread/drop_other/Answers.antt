@@ -51,7 +51,8 @@ returns-clause-fits c =
     let h : c.get-held.result ≡ slot slots (other slots) = c.get-held.ensures ∙ ap (slot slots) c.other.ensures in
     let is : c.drop_other-last.new.table ≡ done_on (leave (state v)) v c.args.desk c.get-held.result = c.drop_other-last.ensures.table ∙ ap (done_on (leave (state v)) v c.args.desk) (sym h) in
     let said : c.drop_other-last.result ≡ on (is_last (state v)) false c.get-held.result = c.drop_other-last.ensures.last ∙ ap (on (is_last (state v)) false) (sym h) in
-    let has : HasLeft c.args.desk c.args.self.now.course c.drop_other-last.new.self c.left-ended.new.self.course c.drop_other-last.new.table c.statement-statement.result c.get-held.result c.drop_other-last.result =
+    let has : HasLeft c.args.desk c.args.self.now.course c.drop_other-last.new.self c.left-ended.new.self.course
+    c.drop_other-last.new.table c.statement-statement.result c.get-held.result c.drop_other-last.result =
     record {
       gone = c.drop_other-last.ensures.on;
       empty = ap (λ (w : Walk). w.taken) c.drop_other-last.ensures.walk ∙ left_taken c.args.self.now.course (slice_set slots (other slots) plain)
@@ -70,7 +71,8 @@ returns-clause-stepped c =
     let h : c.get-held.result ≡ slot slots (other slots) = c.get-held.ensures ∙ ap (slot slots) c.other.ensures in
     let is : c.drop_other-last.new.table ≡ done_on (leave (state v)) v c.args.desk c.get-held.result = c.drop_other-last.ensures.table ∙ ap (done_on (leave (state v)) v c.args.desk) (sym h) in
     let said : c.drop_other-last.result ≡ on (is_last (state v)) false c.get-held.result = c.drop_other-last.ensures.last ∙ ap (on (is_last (state v)) false) (sym h) in
-    let has : HasLeft c.args.desk c.args.self.now.course c.drop_other-last.new.self c.left-ended.new.self.course c.drop_other-last.new.table c.statement-statement.result c.get-held.result c.drop_other-last.result =
+    let has : HasLeft c.args.desk c.args.self.now.course c.drop_other-last.new.self c.left-ended.new.self.course
+    c.drop_other-last.new.table c.statement-statement.result c.get-held.result c.drop_other-last.result =
     record {
       gone = c.drop_other-last.ensures.on;
       empty = ap (λ (w : Walk). w.taken) c.drop_other-last.ensures.walk ∙ left_taken c.args.self.now.course (slice_set slots (other slots) plain)

@@ -1,7 +1,7 @@
-use Rattle.std.proofs.Common.{ℕ, sym, subst, ap, ◌∙◌}
+use Rattle.std.proofs.Common.{sym, subst, ap, ◌∙◌}
 use Rattle.control_word.specs.declared.handle.Kind.{Kind}
 use Rattle.step_core.specs.Contents.{as_word}
-use Rattle.step_core.specs.Courses.{HasGoneOn, hand}
+use Rattle.step_core.specs.Courses.{HasGoneOn}
 use Rattle.step_core.specs.Holdings.{value}
 use Rattle.step_core.specs.Steps.{gives_back}
 use Rattle.step_core.specs.Stories.{Story}

@@ -21,5 +21,5 @@ returns-clause-stepped c =
     let goes = going_is slots c.args.cell (hand slots) (swap_goes t.course c.args.cell c.requires.within c.requires.fits.still c.requires.act) in
     let at = sym (c.get.ensures ∙ ap (slot slots) c.hand-hand.ensures) ∙ c.in-Some.is in
     stepped_as d t v (brings (walk t.course) n x) _ _ _
-    (step_brings d t v (Swap c.args.cell) c.args.cell (hand slots) c.requires.fits c.requires.none c.requires.within c.requires.act refl x c.requires.rest goes at)
+    (step_brings d t v (Swap c.args.cell) c.args.cell (hand slots) c.requires.none c.requires.within c.requires.act refl x c.requires.rest goes at)
     (ap (λ (s : Said). Quiet s) (c.silent.ensures ∙ ap silent c.statement-statement.ensures)) c.bring.ensures.table refl refl

@@ -1,4 +1,4 @@
-use Rattle.std.proofs.Common.{ℕ, sym, subst, ap, ◌∙◌}
+use Rattle.std.proofs.Common.{sym, subst, ap, ◌∙◌}
 use Rattle.control_word.specs.declared.handle.Kind.{Kind}
 use Rattle.step_core.specs.Contents.{as_word}
 use Rattle.step_core.specs.Courses.{HasGoneOn, hand}
