@@ -1,10 +1,11 @@
 //! How a thread puts values into cells, act by act.
 ghost use Rattle.std.specs.Prelude.{◌≡◌, ◌<◌, ◌≤◌, true, false, length, slice_set};
-ghost use Rattle.step_core.specs.Contents.{as_word, held_in, is_of, owing_for, seen, slot_of, swapped};
+ghost use Rattle.step_core.specs.Contents.{as_word, is_of, owing_for, seen, swapped};
 ghost use Rattle.step_core.specs.Courses.{CanAct, CourseReady, HasCell, HasGoneOn, cell_at, done_on, fitting, hand, kind_at, offered, other, rest, settled, task_at, walk};
 ghost use Rattle.step_core.specs.Deeds.{is_last, leave, share};
 ghost use Rattle.step_core.specs.Entries.{on};
 ghost use Rattle.step_core.specs.Holdings.{Holds, is_full, plain, slot, value};
+ghost use Rattle.step_core.specs.Scenes.{came};
 ghost use Rattle.step_core.specs.Stories.{after, pending, state};
 
 use crate::act::Act;
@@ -95,7 +96,7 @@ impl Course {
         ensures few { result.taken ≤ 256 }
         ensures table { table.new ≡ after table.old desk (Deed.OnCell (CellDeed.Swap (cell_at (state table.old) cell) (as_word (value self.old.holdings.slots.items (hand self.old.holdings.slots.items))) result)) }
         ensures walk { walk self.new
-            ≡ settled (swapped (hand self.old.holdings.slots.items) (other self.old.holdings.slots.items) self.old.holdings.slots.items (slot_of (state table.old) (held_in (state table.old) (cell_at (state table.old) cell)))) false self.old.endings.list (rest self.old) }
+            ≡ settled (swapped (hand self.old.holdings.slots.items) (other self.old.holdings.slots.items) self.old.holdings.slots.items (came (state table.old) cell)) false self.old.endings.list (rest self.old) }
         ensures on { HasGoneOn desk self.old self.new table.new }
     {
         let hand = self.holdings.hand();
@@ -126,7 +127,7 @@ impl Course {
         ensures few { result.taken ≤ 256 }
         ensures table { table.new ≡ after table.old desk (Deed.OnCell (CellDeed.Swap (cell_at (state table.old) cell) (as_word (value self.old.holdings.slots.items name)) result)) }
         ensures walk { walk self.new
-            ≡ settled (slice_set self.old.holdings.slots.items name (slot_of (state table.old) (held_in (state table.old) (cell_at (state table.old) cell)))) self.old.taken self.old.endings.list (rest self.old) }
+            ≡ settled (slice_set self.old.holdings.slots.items name (came (state table.old) cell)) self.old.taken self.old.endings.list (rest self.old) }
         ensures on { HasGoneOn desk self.old self.new table.new }
     {
         let cell = table.cell(cell);

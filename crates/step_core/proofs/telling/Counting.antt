@@ -188,7 +188,6 @@ counted_act v d k w t ts (Read i) none is same =
     read_one v d k w (went (state v) d w k ts (Read i)) (answer_of (state v) d w.slots (Read i)) (plain v d k w t ts (Read i) none is refl)
     (inside (slot w.slots i))
 counted_act v d k w t ts (FromThis i kind) none is same = asked_one v d k w t ts i kind (inside (slot w.slots i)) none is
-
 counted_act v d k w t ts (Offer i c) none is same =
     shared v d k w (went (state v) d w k ts (Offer i c)) (plain v d k w t ts (Offer i c) none is refl) (offered w.slots i c)
 counted_act v d k w t ts (Swap c) none is same =

@@ -86,7 +86,7 @@ returns-clause-stepped c =
     (ap (λ (o : Option Pointer). acts (state v) c.args.desk (walk c.args.self.now.course) (task_at c.args.self.now.course).statement (rest c.args.self.now.course) act.Drop (option_map (leave (state v)) o) Rest) (sym h))
     refl (ap (λ (o : Option Pointer). ended_by (state v) o) (sym h)) is said
     c.left-ended.ensures.ended c.left-ended.ensures.half
-    (went_left c.args.desk c.args.self.now.course c.drop_other-last.new.self c.left-ended.new.self.course v c.drop_other-last.new.table
-    act.Drop c.get-held.result c.drop_other-last.result c.statement-statement.result has (sym h) said c.drop_other-last.ensures.walk)
+    (went_left c.args.desk c.args.self.now.course c.drop_other-last.new.self c.left-ended.new.self.course v c.drop_other-last.new.table act.Drop
+    c.get-held.result c.drop_other-last.result c.statement-statement.result has (sym h) said c.drop_other-last.ensures.walk)
     (c.says.ensures ∙ ap (λ (b : Bool). cond b (Event (record { statement = c.statement-statement.result; answer = None; ended = c.left-ended.result }))
     (Quiet (record { statement = c.statement-statement.result; answer = None; ended = c.left-ended.result }))) c.is_some.ensures)
