@@ -1,4 +1,5 @@
 pub mod Acting
+pub mod Beginning
 pub mod Answering
 pub mod ClosingLemmas
 pub mod EndLemmas
