@@ -48,7 +48,7 @@ first_waits : (parts : List Part) (d : ℕ) → d < length (map first_walk parts
 first_waits [] d lt = absurd (omega (arith, lt))
 first_waits (part ∷ parts) zero lt =
     let n = settled_size (tasks_from 1 part.calls (length part.kinds)) (no_slots (length part.kinds)) false [] in
-    let m : length (no_slots (length part.kinds)) ≡ length part.kinds + 1 = length-replicate (length part.kinds + 1) plain in
+    let m : length (no_slots (length part.kinds)) ≡ length part.kinds + 2 = length-replicate (length part.kinds + 2) plain in
     record {
       some = omega (arith, n, m);
       endings = inl (settled_endings (tasks_from 1 part.calls (length part.kinds)) (no_slots (length part.kinds)) false []);

@@ -12,7 +12,8 @@ use Rattle.step_core.specs.declared.slot.Slot.{Slot}
 use Rattle.step_core.specs.Courses.{Walk, hand}
 use Rattle.step_core.specs.Holdings.{Slots, is_full, plain, pointer_of, slot}
 use Rattle.step_core.specs.Entries.{History}
-use Rattle.step_core.specs.Scenes.{Wound, clears, goes_on, rested_walk, slot_as, slot_of, stops, unwound}
+use Rattle.step_core.specs.Contents.{slot_as, slot_of}
+use Rattle.step_core.specs.Scenes.{Wound, clears, goes_on, rested_walk, stops, unwound}
 use Rattle.step_core.specs.Totals.{ended_in, made_in}
 use Rattle.script_stepper.specs.Running.{parts_left}
 use Rattle.script_stepper.proofs.Acting.{IsFree}
