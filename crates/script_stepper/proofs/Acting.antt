@@ -18,6 +18,7 @@ use Rattle.step_core.specs.Deeds.{this_as}
 use Rattle.step_core.specs.Holdings.{Slots, inside, plain, slot, value}
 use Rattle.step_core.specs.Entries.{giving, least}
 use Rattle.step_core.specs.Scenes.{came, endings_by, found, hands, holding, taking, went}
+
 -- ---- the tasks and endings of a settled thread
 
 settled_less : (ts : List Task) (slots : Slots) (taken : Bool) (es : List Ending) → length (settled slots taken es ts).todo ≤ length ts

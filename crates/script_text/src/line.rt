@@ -132,12 +132,7 @@ fn put_alias(
 }
 
 /// Adds a line of a word, a cell and a name.
-fn put_cell(
-    text: &mut String,
-    first: &str,
-    cell: CellName,
-    name: &str,
-) -> Result<(), AllocError>
+fn put_cell(text: &mut String, first: &str, cell: CellName, name: &str) -> Result<(), AllocError>
     ensures { OnOk result
         (AddsLines text.old text.new (spaced (first.now ∷ cell_text cell ∷ name.now ∷ []) ∷ [])) }
 {

@@ -2,11 +2,11 @@
 #![tactic(auto)]
 
 mod answers;
+#[cfg(test)]
+mod cell_tests;
 mod command;
 #[cfg(test)]
 mod fine_tests;
-#[cfg(test)]
-mod cell_tests;
 #[cfg(test)]
 mod place_tests;
 mod serve;
