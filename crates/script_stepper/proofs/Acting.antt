@@ -5,19 +5,19 @@ use Rattle.std.specs.Prelude.{Option, Some, None, option_map, slice_set}
 use Rattle.std.proofs.lemmas.Bool.{cases_eq, cases_lt, cond_both}
 use Rattle.std.proofs.lemmas.List.{get_or_past, length-set}
 use Rattle.control_word.specs.State.{State}
-use Rattle.step_core.specs.declared.act.Act.{Act}
-use Rattle.step_core.specs.declared.act.Act.TheVariants.{Make, Share, Downgrade, Alias, Move, FromThis, Lock, Put, Leave, Clear, Count, Expired, Read, Ask, Offer, Swap, Exchange, Drop}
-use Rattle.step_core.specs.declared.act.Task.{Task}
-use Rattle.step_core.specs.declared.ending.Ending.{Ending}
-use Rattle.step_core.specs.declared.holdings.Pointer.{Pointer}
-use Rattle.step_core.specs.declared.call.CellName.{CellName}
-use Rattle.step_core.specs.declared.slot.Slot.{Slot}
-use Rattle.step_core.specs.Contents.{swapped}
-use Rattle.step_core.specs.Courses.{Going, Walk, going, hand, idle, locked, on_going, other, placed, settled, slots_idle, taken_idle}
-use Rattle.step_core.specs.Deeds.{this_as}
-use Rattle.step_core.specs.Holdings.{Slots, inside, plain, slot, value}
-use Rattle.step_core.specs.Entries.{giving, least}
-use Rattle.step_core.specs.Scenes.{came, endings_by, found, hands, holding, taking, went}
+use Rattle.step_threads.specs.declared.act.Act.{Act}
+use Rattle.step_threads.specs.declared.act.Act.TheVariants.{Make, Share, Downgrade, Alias, Move, FromThis, Lock, Put, Leave, Clear, Count, Expired, Read, Ask, Offer, Swap, Exchange, Drop}
+use Rattle.step_threads.specs.declared.act.Task.{Task}
+use Rattle.step_threads.specs.declared.ending.Ending.{Ending}
+use Rattle.step_table.specs.declared.holdings.Pointer.{Pointer}
+use Rattle.step_threads.specs.declared.call.CellName.{CellName}
+use Rattle.step_table.specs.declared.slot.Slot.{Slot}
+use Rattle.step_table.specs.Contents.{swapped}
+use Rattle.step_threads.specs.Courses.{Going, Walk, going, hand, idle, locked, on_going, other, placed, settled, slots_idle, taken_idle}
+use Rattle.step_table.specs.Deeds.{this_as}
+use Rattle.step_table.specs.Holdings.{Slots, inside, plain, slot, value}
+use Rattle.step_threads.specs.Entries.{giving, least}
+use Rattle.step_threads.specs.Scenes.{came, endings_by, found, hands, holding, taking, went}
 
 -- ---- the tasks and endings of a settled thread
 

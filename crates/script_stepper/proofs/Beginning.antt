@@ -3,7 +3,7 @@ use Rattle.std.proofs.Common.{◌≡◌, ℕ, ◌≤◌, List, length, rules, ar
 use Rattle.std.proofs.lemmas.List.{length-map}
 use Rattle.std.specs.Prelude.{All}
 use Rattle.control_word.specs.Layout.{IsWithinLimits}
-use Rattle.step_core.specs.Programs.{AllHaveCells, IsProgram, Part}
+use Rattle.step_threads.specs.Programs.{AllHaveCells, IsProgram, Part}
 use Rattle.step_core.specs.Starts.{CanBegin}
 use Rattle.script_text.specs.Drafts.{Section}
 use Rattle.script_text.specs.Scripts.{HasTextCells, part_in, program_in}

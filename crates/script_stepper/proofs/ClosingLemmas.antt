@@ -4,8 +4,8 @@ use Rattle.std.specs.List.{flat_map}
 use Rattle.std.proofs.lemmas.Grind.{flat_map-append}
 use Rattle.control_word.specs.State.{State}
 use Rattle.script_text.specs.Grammar.{ended}
-use Rattle.step_core.specs.Stocks.{from}
-use Rattle.step_core.specs.Scenes.{Scene, state_in}
+use Rattle.step_threads.specs.Stocks.{from}
+use Rattle.step_threads.specs.Scenes.{Scene, state_in}
 use Rattle.step_core.specs.Totals.{ended_in, made_in}
 use Rattle.script_stepper.specs.Lines.{block_lines, census_lines, closing_lines, totals_text}
 use Rattle.script_stepper.proofs.LineLemmas.{flat_map-one, lines_then}

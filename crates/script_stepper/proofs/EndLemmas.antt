@@ -4,10 +4,10 @@ use Rattle.std.proofs.Common.{arith, append_assoc, take}
 use Rattle.std.specs.Prelude.{None}
 use Rattle.std.proofs.lemmas.Bool.{cases_eq, cases_lt}
 use Rattle.std.proofs.lemmas.List.{append-nil, length-take-le, take_more}
-use Rattle.step_core.specs.declared.ending.Ending.{Ending}
-use Rattle.step_core.specs.Courses.{Walk}
-use Rattle.step_core.specs.Entries.{History}
-use Rattle.step_core.specs.Scenes.{Scene, next, nowhere, walk_of}
+use Rattle.step_threads.specs.declared.ending.Ending.{Ending}
+use Rattle.step_threads.specs.Courses.{Walk}
+use Rattle.step_threads.specs.Entries.{History}
+use Rattle.step_threads.specs.Scenes.{Scene, next, nowhere, walk_of}
 use Rattle.step_core.specs.Totals.{ended_in, made_in}
 use Rattle.step_core.specs.Worlds.{Sight, scene}
 use Rattle.script_stepper.specs.Running.{AllOver, HasRun, IsNew, parts_left, turns_left}

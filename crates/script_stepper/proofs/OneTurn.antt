@@ -4,16 +4,16 @@ use Rattle.std.specs.Prelude.{Option, Some, None, slice_set}
 use Rattle.std.specs.List.{flat_map}
 use Rattle.std.proofs.lemmas.Bool.{cases_eq, cases_lt}
 use Rattle.std.proofs.lemmas.List.{append-nil, get_or_past, length-set, set-get_or}
-use Rattle.step_core.specs.declared.act.Task.{Task}
-use Rattle.step_core.specs.declared.half.Half.{Half}
-use Rattle.step_core.specs.declared.half.Half.TheVariants.{Rest}
-use Rattle.step_core.specs.declared.said.Said.{Said}
-use Rattle.step_core.specs.declared.said.Turned.TheVariants.{Acted, Done}
-use Rattle.step_core.specs.Courses.{Walk}
-use Rattle.step_core.specs.Openings.{opening}
-use Rattle.step_core.specs.Entries.{acted}
-use Rattle.step_core.specs.Scenes.{Scene, next, nowhere, play, play_from, put_walk, rest_of, rested, said, state_in, walk_of}
-use Rattle.step_core.specs.Stories.{Kept}
+use Rattle.step_threads.specs.declared.act.Task.{Task}
+use Rattle.step_threads.specs.declared.half.Half.{Half}
+use Rattle.step_threads.specs.declared.half.Half.TheVariants.{Rest}
+use Rattle.step_threads.specs.declared.said.Said.{Said}
+use Rattle.step_threads.specs.declared.said.Turned.TheVariants.{Acted, Done}
+use Rattle.step_threads.specs.Courses.{Walk}
+use Rattle.step_table.specs.Openings.{opening}
+use Rattle.step_threads.specs.Entries.{acted}
+use Rattle.step_threads.specs.Scenes.{Scene, next, nowhere, play, play_from, put_walk, rest_of, rested, said, state_in, walk_of}
+use Rattle.step_table.specs.Stories.{Kept}
 use Rattle.step_core.specs.Worlds.{Sight, Turns, scene}
 use Rattle.step_core.proofs.telling.Order.{ended_few}
 use Rattle.script_text.specs.Grammar.{ended}

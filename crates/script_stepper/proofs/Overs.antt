@@ -1,10 +1,10 @@
 -- All threads at their ends.
 use Rattle.std.proofs.Common.{◌≡◌, []}
 use Rattle.std.proofs.lemmas.List.Elements.{All-from_get_or}
-use Rattle.step_core.specs.declared.half.Half.{Half}
-use Rattle.step_core.specs.declared.half.Half.TheVariants.{Rest}
-use Rattle.step_core.specs.Courses.{Walk}
-use Rattle.step_core.specs.Scenes.{nowhere, walk_of}
+use Rattle.step_threads.specs.declared.half.Half.{Half}
+use Rattle.step_threads.specs.declared.half.Half.TheVariants.{Rest}
+use Rattle.step_threads.specs.Courses.{Walk}
+use Rattle.step_threads.specs.Scenes.{nowhere, walk_of}
 use Rattle.step_core.specs.Totals.{IsAtEnd}
 use Rattle.step_core.specs.Worlds.{Sight, scene}
 use Rattle.script_stepper.specs.Running.{AllOver, AllRest}

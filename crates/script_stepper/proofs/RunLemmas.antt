@@ -8,8 +8,8 @@ use Rattle.std.proofs.lemmas.List.{replicate_more, take_more}
 use Rattle.script_text.specs.Grammar.{ended}
 use Rattle.std.proofs.lemmas.List.{append-nil}
 use Rattle.script_text.proofs.PrintLemmas.{ended-append}
-use Rattle.step_core.specs.declared.said.Said.{Said}
-use Rattle.step_core.specs.Scenes.{Scene, next, said, walk_of}
+use Rattle.step_threads.specs.declared.said.Said.{Said}
+use Rattle.step_threads.specs.Scenes.{Scene, next, said, walk_of}
 use Rattle.step_core.specs.Worlds.{Sight, scene}
 use Rattle.script_stepper.specs.Lines.{item_lines}
 use Rattle.script_stepper.specs.Running.{AllRest, HasRun, IsThread, turns_left}

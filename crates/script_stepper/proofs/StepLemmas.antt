@@ -7,14 +7,14 @@ use Rattle.script_text.proofs.PrintLemmas.{ended-append}
 use Rattle.control_word.specs.declared.shape.Shape.{Shape}
 use Rattle.script_text.specs.Drafts.{Section}
 use Rattle.script_text.specs.Scripts.{program_in}
-use Rattle.step_core.specs.declared.half.Half.{Half}
-use Rattle.step_core.specs.declared.half.Half.TheVariants.{Rest}
-use Rattle.step_core.specs.Acts.{tasks_from}
-use Rattle.step_core.specs.Holdings.{plain}
-use Rattle.step_core.specs.Programs.{Part}
+use Rattle.step_threads.specs.declared.half.Half.{Half}
+use Rattle.step_threads.specs.declared.half.Half.TheVariants.{Rest}
+use Rattle.step_threads.specs.Acts.{tasks_from}
+use Rattle.step_table.specs.Holdings.{plain}
+use Rattle.step_threads.specs.Programs.{Part}
 use Rattle.step_core.specs.Starts.{first_sight, first_walk, no_slots}
-use Rattle.step_core.specs.declared.extent.Extent.{Extent}
-use Rattle.step_core.specs.Scenes.{Scene, nowhere}
+use Rattle.step_table.specs.declared.extent.Extent.{Extent}
+use Rattle.step_threads.specs.Scenes.{Scene, nowhere}
 use Rattle.step_core.specs.Worlds.{Sight, scene}
 use Rattle.script_stepper.specs.Beginnings.{script_shape}
 use Rattle.script_stepper.specs.declared.stepping.Pace.{Pace}

@@ -1,13 +1,13 @@
 -- Runs by single steps, and their text.
 use Rattle.std.proofs.Common.{◌≡◌, ℕ, ◌-◌, List, [], ◌∷◌, ◌++◌, Option, Some, None, refl, sym, ap, subst, ◌∙◌}
 use Rattle.std.specs.List.{flat_map}
-use Rattle.step_core.specs.declared.extent.Extent.{Extent}
-use Rattle.step_core.specs.declared.past.Deed.{Deed}
-use Rattle.step_core.specs.declared.said.Stepped.{Stepped}
+use Rattle.step_table.specs.declared.extent.Extent.{Extent}
+use Rattle.step_table.specs.declared.past.Deed.{Deed}
+use Rattle.step_threads.specs.declared.said.Stepped.{Stepped}
 use Rattle.step_core.specs.declared.trace.TraceStep.{TraceStep}
 use Rattle.step_core.specs.Runs.{IsRun}
-use Rattle.step_core.specs.Steps.{Step, story_after, story_by}
-use Rattle.step_core.specs.Stories.{Story}
+use Rattle.step_threads.specs.Steps.{Step, story_after, story_by}
+use Rattle.step_table.specs.Stories.{Story}
 use Rattle.step_core.specs.Worlds.{Sight, Steps, scene, step_of}
 use Rattle.script_text.specs.Grammar.{ended}
 use Rattle.script_stepper.specs.Lines.{closing_lines}

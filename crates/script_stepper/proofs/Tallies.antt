@@ -5,17 +5,16 @@ use Rattle.control_word.specs.declared.handle.Kind.{Kind}
 use Rattle.control_word.specs.declared.handle.Kind.TheVariants.{Owner, Weak}
 use Rattle.control_word.specs.Histories.{entry, leads}
 use Rattle.control_word.specs.State.{Opening, State}
-use Rattle.step_core.specs.declared.act.Act.{Act}
-use Rattle.step_core.specs.declared.act.Act.TheVariants.{Make, Share, Downgrade, Alias, Move, FromThis, Lock, Put, Leave, Clear, Count, Expired, Read, Ask, Offer, Swap, Exchange, Drop}
-use Rattle.step_core.specs.declared.act.Form.{Form}
-use Rattle.step_core.specs.declared.ending.Ending.{Ending}
-use Rattle.step_core.specs.declared.holdings.Pointer.{Pointer}
-use Rattle.step_core.specs.Courses.{Going, going, locked, offered, on_going, other}
-use Rattle.step_core.specs.Deeds.{aliased, is_last}
-use Rattle.step_core.specs.Holdings.{Slots, inside, owner_slot, place_in, slot}
-use Rattle.step_core.specs.Entries.{History, acted, aliases, counts, downgrades, expires, given_as, gives, giving}
-use Rattle.step_core.specs.Scenes.{begins_end, begins_end_as, endings_by}
-use Rattle.step_core.specs.Entries.{least, leaves, left_as, locks, made, on, reads, shared_as, shares, swaps}
+use Rattle.step_threads.specs.declared.act.Act.{Act}
+use Rattle.step_threads.specs.declared.act.Act.TheVariants.{Make, Share, Downgrade, Alias, Move, FromThis, Lock, Put, Leave, Clear, Count, Expired, Read, Ask, Offer, Swap, Exchange, Drop}
+use Rattle.step_table.specs.declared.form.Form.{Form}
+use Rattle.step_threads.specs.declared.ending.Ending.{Ending}
+use Rattle.step_table.specs.declared.holdings.Pointer.{Pointer}
+use Rattle.step_threads.specs.Courses.{Going, going, locked, offered, on_going, other}
+use Rattle.step_table.specs.Deeds.{aliased, is_last, on}
+use Rattle.step_table.specs.Holdings.{Slots, inside, owner_slot, place_in, slot}
+use Rattle.step_threads.specs.Entries.{History, acted, aliases, counts, downgrades, expires, given_as, gives, giving, least, leaves, left_as, locks, made, reads, shared_as, shares, swaps}
+use Rattle.step_threads.specs.Scenes.{begins_end, begins_end_as, endings_by}
 use Rattle.step_core.specs.Totals.{ended_in, made_in}
 use Rattle.script_stepper.specs.Running.{parts_left}
 

@@ -4,12 +4,12 @@ use Rattle.std.proofs.Common.{length, refl, sym, ◌∙◌, ap, subst, append_as
 use Rattle.std.specs.Prelude.{Option, Some, None}
 use Rattle.std.proofs.lemmas.Bool.{cases_eq}
 use Rattle.std.proofs.lemmas.List.{get_or_past, length-set}
-use Rattle.step_core.specs.declared.act.Task.{Task}
-use Rattle.step_core.specs.declared.ending.Ending.{Ending}
-use Rattle.step_core.specs.declared.said.Said.{Said}
-use Rattle.step_core.specs.Courses.{Walk}
-use Rattle.step_core.specs.Holdings.{Slots}
-use Rattle.step_core.specs.Scenes.{Scene, next, next_of, nowhere, play, play_from, said, said_from, walk_of}
+use Rattle.step_threads.specs.declared.act.Task.{Task}
+use Rattle.step_threads.specs.declared.ending.Ending.{Ending}
+use Rattle.step_threads.specs.declared.said.Said.{Said}
+use Rattle.step_threads.specs.Courses.{Walk}
+use Rattle.step_table.specs.Holdings.{Slots}
+use Rattle.step_threads.specs.Scenes.{Scene, next, next_of, nowhere, play, play_from, said, said_from, walk_of}
 use Rattle.script_stepper.specs.Traces.{Item, heard, plays, told}
 
 pub plays-append : (xs ys : List ℕ) (c : Scene) → plays (xs ++ ys) c ≡ plays ys (plays xs c)

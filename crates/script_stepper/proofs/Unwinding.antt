@@ -7,13 +7,13 @@ use Rattle.control_word.specs.declared.handle.Handle.{Handle}
 use Rattle.control_word.specs.Handles.{has_object}
 use Rattle.control_word.specs.Histories.{leads}
 use Rattle.control_word.specs.State.{Opening, State}
-use Rattle.step_core.specs.declared.ending.Ending.{Ending}
-use Rattle.step_core.specs.declared.slot.Slot.{Slot}
-use Rattle.step_core.specs.Courses.{Walk, hand}
-use Rattle.step_core.specs.Holdings.{Slots, is_full, plain, pointer_of, slot}
-use Rattle.step_core.specs.Entries.{History}
-use Rattle.step_core.specs.Contents.{slot_as, slot_of}
-use Rattle.step_core.specs.Scenes.{Wound, clears, goes_on, rested_walk, stops, unwound}
+use Rattle.step_threads.specs.declared.ending.Ending.{Ending}
+use Rattle.step_table.specs.declared.slot.Slot.{Slot}
+use Rattle.step_threads.specs.Courses.{Walk, hand}
+use Rattle.step_table.specs.Holdings.{Slots, is_full, plain, pointer_of, slot}
+use Rattle.step_threads.specs.Entries.{History}
+use Rattle.step_table.specs.Contents.{slot_as, slot_of}
+use Rattle.step_threads.specs.Scenes.{Wound, clears, goes_on, rested_walk, stops, unwound}
 use Rattle.step_core.specs.Totals.{ended_in, made_in}
 use Rattle.script_stepper.specs.Running.{parts_left}
 use Rattle.script_stepper.proofs.Acting.{IsFree}

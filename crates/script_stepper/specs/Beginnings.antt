@@ -3,7 +3,7 @@ use Rattle.std.specs.Prelude.{ℕ, ◌*◌, ◌/◌, List, length}
 use Rattle.control_word.specs.declared.shape.Shape.{Shape}
 use Rattle.script_text.specs.Drafts.{Section}
 use Rattle.script_text.specs.Scripts.{program_in}
-use Rattle.step_core.specs.Scenes.{Scene}
+use Rattle.step_threads.specs.Scenes.{Scene}
 use Rattle.step_core.specs.Worlds.{Sight, scene}
 use Rattle.step_core.specs.Starts.{first_sight}
 

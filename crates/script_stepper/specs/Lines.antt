@@ -5,14 +5,14 @@ use Rattle.control_word.specs.declared.counts.Counts.{Counts}
 use Rattle.control_word.specs.declared.place.Place.{Place}
 use Rattle.control_word.specs.Refusal.{refusal_number}
 use Rattle.control_word.specs.State.{State}
-use Rattle.step_core.specs.declared.said.Answer.{Answer}
-use Rattle.step_core.specs.declared.said.Answer.TheVariants.{Count, Expired, Locked, Upgraded, Read, Same, Before, Refused}
-use Rattle.step_core.specs.declared.said.Answer.TheVariants as answer
-use Rattle.step_core.specs.declared.said.Ended.{Ended}
-use Rattle.step_core.specs.declared.said.Ended.TheVariants.{Fields, Null}
-use Rattle.step_core.specs.declared.said.Said.{Said}
-use Rattle.step_core.specs.Scenes.{Scene, state_in}
-use Rattle.step_core.specs.Stocks.{from}
+use Rattle.step_threads.specs.declared.said.Answer.{Answer}
+use Rattle.step_threads.specs.declared.said.Answer.TheVariants.{Count, Expired, Locked, Upgraded, Read, Same, Before, Refused}
+use Rattle.step_threads.specs.declared.said.Answer.TheVariants as answer
+use Rattle.step_table.specs.declared.ended.Ended.{Ended}
+use Rattle.step_table.specs.declared.ended.Ended.TheVariants.{Fields, Null}
+use Rattle.step_threads.specs.declared.said.Said.{Said}
+use Rattle.step_threads.specs.Scenes.{Scene, state_in}
+use Rattle.step_threads.specs.Stocks.{from}
 use Rattle.step_core.specs.Totals.{census_of, ended_in, made_in}
 use Rattle.script_text.specs.Canonical.{number_after}
 use Rattle.script_stepper.specs.Traces.{Item, outcome, trace}

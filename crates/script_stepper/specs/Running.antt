@@ -2,11 +2,11 @@
 use Rattle.std.specs.Prelude.{◌≡◌, ◌⊎◌, ℕ, suc, ◌+◌, ◌-◌, ◌*◌, ◌<◌, ◌≤◌, ◌++◌, true, List, [], ◌∷◌, length, None}
 use Rattle.std.specs.List.{flat_map}
 use Rattle.script_text.specs.Grammar.{ended}
-use Rattle.step_core.specs.declared.ending.Ending.{Ending}
-use Rattle.step_core.specs.declared.half.Half.TheVariants.{Rest}
-use Rattle.step_core.specs.Courses.{Walk, hand}
-use Rattle.step_core.specs.Holdings.{is_full, slot}
-use Rattle.step_core.specs.Scenes.{Scene, next, walk_of}
+use Rattle.step_threads.specs.declared.ending.Ending.{Ending}
+use Rattle.step_threads.specs.declared.half.Half.TheVariants.{Rest}
+use Rattle.step_threads.specs.Courses.{Walk, hand}
+use Rattle.step_table.specs.Holdings.{is_full, slot}
+use Rattle.step_threads.specs.Scenes.{Scene, next, walk_of}
 use Rattle.step_core.specs.Totals.{ended_in, made_in}
 use Rattle.step_core.specs.Worlds.{Sight, half_of, scene}
 use Rattle.script_stepper.specs.Lines.{item_lines}

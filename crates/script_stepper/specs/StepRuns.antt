@@ -2,9 +2,9 @@
 use Rattle.std.specs.Prelude.{◌≡◌, ℕ, ◌++◌, List, Option, Some, None}
 use Rattle.std.specs.List.{flat_map}
 use Rattle.script_text.specs.Grammar.{ended}
-use Rattle.step_core.specs.declared.said.Said.{Said}
-use Rattle.step_core.specs.declared.said.Stepped.{Stepped}
-use Rattle.step_core.specs.declared.said.Stepped.TheVariants.{Event, Quiet, Waited, Done}
+use Rattle.step_threads.specs.declared.said.Said.{Said}
+use Rattle.step_threads.specs.declared.said.Stepped.{Stepped}
+use Rattle.step_threads.specs.declared.said.Stepped.TheVariants.{Event, Quiet, Waited, Done}
 use Rattle.step_core.specs.declared.trace.TraceStep.{TraceStep}
 use Rattle.step_core.specs.Runs.{IsRun, IsScheduled}
 use Rattle.step_core.specs.Totals.{IsAtEnd}

@@ -1,8 +1,8 @@
 -- Whole runs, turn by turn: whose acts come in which order, and what they say. All of it is own.
 use Rattle.std.specs.Prelude.{ℕ, ◌+◌, ◌-◌, ◌*◌, List, [], ◌∷◌, ◌++◌, length, replicate, sum_by, Option, Some, None}
-use Rattle.step_core.specs.declared.said.Said.{Said}
-use Rattle.step_core.specs.Courses.{Walk}
-use Rattle.step_core.specs.Scenes.{Scene, play, said}
+use Rattle.step_threads.specs.declared.said.Said.{Said}
+use Rattle.step_threads.specs.Courses.{Walk}
+use Rattle.step_threads.specs.Scenes.{Scene, play, said}
 
 -- what a thread said, with the thread's number, from 1
 abbrev pub Item : Type 0

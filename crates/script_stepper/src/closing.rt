@@ -1,7 +1,7 @@
 //! How a run's text ends: the census of a world, and its totals (own).
 ghost use Rattle.std.specs.Prelude.{◌≡◌, ◌≤◌, OnOk};
 ghost use Rattle.step_core.specs.Worlds.{scene};
-ghost use Rattle.step_core.specs.Scenes.{state_in};
+ghost use Rattle.step_threads.specs.Scenes.{state_in};
 ghost use Rattle.step_core.specs.Totals.{IsAtEnd};
 ghost use Rattle.script_text.specs.Canonical.{AddsLines};
 ghost use Rattle.script_stepper.specs.Lines.{block_lines, census_lines, closing_lines};

@@ -1,7 +1,7 @@
 //! Turns of a world, and the text that tells of them (own).
 ghost use Rattle.std.specs.Prelude.{◌≡◌, ℕ, ◌-◌, ◌<◌, ◌≤◌, ◌∷◌, [], true, None, All, IfOk, OnOk};
 ghost use Rattle.std.specs.Prelude.{is_some, length, replicate, string_bytes};
-ghost use Rattle.step_core.specs.Scenes.{next, said, walk_of};
+ghost use Rattle.step_threads.specs.Scenes.{next, said, walk_of};
 ghost use Rattle.step_core.specs.Worlds.{scene};
 ghost use Rattle.script_stepper.specs.Running.{AllOver, AllRest, HasRun, IsNew, IsThread, turns_left};
 ghost use Rattle.script_stepper.specs.Traces.{schedule};

@@ -3,11 +3,12 @@ use Rattle.std.proofs.Common.{◌≡◌, ℕ, suc, ◌<◌, ◌^◌, Bool, true,
 use Rattle.std.specs.Prelude.{codes, decimal}
 use Rattle.std.specs.List.{AllByRecursion}
 use Rattle.std.specs.Str.{bytes_eq}
-use Rattle.step_core.specs.declared.call.Field.{Field}
-use Rattle.step_core.specs.declared.call.Field.TheVariants.{Zero, One, Two, Three}
-use Rattle.step_core.specs.declared.call.Kind.TheVariants.{Owner}
-use Rattle.step_core.specs.declared.call.Name.{Name}
-use Rattle.step_core.specs.Programs.{Asked, IsDeclared, field_number, owner}
+use Rattle.step_table.specs.declared.field.Field.{Field}
+use Rattle.step_table.specs.declared.field.Field.TheVariants.{Zero, One, Two, Three}
+use Rattle.step_threads.specs.declared.call.Kind.TheVariants.{Owner}
+use Rattle.step_threads.specs.declared.call.Name.{Name}
+use Rattle.step_threads.specs.Programs.{Asked, IsDeclared, owner}
+use Rattle.step_table.specs.Deeds.{field_number}
 use Rattle.script_text.specs.Reading.{◌>>=◌}
 use Rattle.script_text.specs.Words.{field_at, numbered_field}
 use Rattle.script_text.specs.Names.{NameList, source_at, target_at, declared, name_text}

@@ -5,9 +5,9 @@ use Rattle.std.specs.List.{AllByRecursion}
 use Rattle.std.proofs.lemmas.List.{map-append, length-map}
 use Rattle.std.proofs.lemmas.List.Elements.{All-from_recursion}
 use Rattle.std.proofs.lemmas.List.Sums.{sum_by-append, sum_by-cons}
-use Rattle.step_core.specs.declared.call.Call.{Call}
-use Rattle.step_core.specs.declared.call.Kind.{Kind}
-use Rattle.step_core.specs.Programs.{Asked, IsFound, Part, names_of, IsDeclared, IsWellNamed, IsPart}
+use Rattle.step_threads.specs.declared.call.Call.{Call}
+use Rattle.step_threads.specs.declared.call.Kind.{Kind}
+use Rattle.step_threads.specs.Programs.{Asked, IsFound, Part, names_of, IsDeclared, IsWellNamed, IsPart}
 use Rattle.script_text.specs.Names.{NameList}
 use Rattle.script_text.specs.Drafts.{Section, Draft, new_draft, sections, no_section, with_call}
 use Rattle.script_text.specs.Grammar.{Leads, Begins}

@@ -4,12 +4,12 @@ use Rattle.std.specs.Prelude.{All}
 use Rattle.std.specs.List.{AllByRecursion}
 use Rattle.std.proofs.lemmas.List.Elements.{All-from_recursion}
 use Rattle.control_word.specs.declared.shape.Shape.{Shape}
-use Rattle.step_core.specs.declared.call.Call.{Call}
-use Rattle.step_core.specs.declared.call.Call.TheVariants as call
-use Rattle.step_core.specs.declared.call.CellName.{CellName}
-use Rattle.step_core.specs.declared.call.Kind.TheVariants.{Owner, Weak}
-use Rattle.step_core.specs.declared.call.Name.{Name}
-use Rattle.step_core.specs.Programs.{AllHaveCells, HasCells, IsIn, Part, cells_of}
+use Rattle.step_threads.specs.declared.call.Call.{Call}
+use Rattle.step_threads.specs.declared.call.Call.TheVariants as call
+use Rattle.step_threads.specs.declared.call.CellName.{CellName}
+use Rattle.step_threads.specs.declared.call.Kind.TheVariants.{Owner, Weak}
+use Rattle.step_threads.specs.declared.call.Name.{Name}
+use Rattle.step_threads.specs.Programs.{AllHaveCells, HasCells, IsIn, Part, cells_of}
 use Rattle.script_text.specs.declared.fault.Cause.{Cause}
 use Rattle.script_text.specs.declared.keyword.Keyword.{Keyword}
 use Rattle.script_text.specs.declared.keyword.Keyword.TheVariants as key

@@ -4,10 +4,10 @@ use Rattle.std.specs.Prelude.{decimal}
 use Rattle.std.specs.List.{list_all}
 use Rattle.std.proofs.lemmas.Bool.{lt-ltb, ltb-true}
 use Rattle.control_word.specs.declared.shape.Shape.{Shape}
-use Rattle.step_core.specs.declared.call.CellName.{CellName}
-use Rattle.step_core.specs.declared.call.CellName.TheVariants as free
-use Rattle.step_core.specs.declared.call.Name.{Name}
-use Rattle.step_core.specs.Programs.{Asked, IsDeclared, IsIn, as_in}
+use Rattle.step_threads.specs.declared.call.CellName.{CellName}
+use Rattle.step_threads.specs.declared.call.CellName.TheVariants as free
+use Rattle.step_threads.specs.declared.call.Name.{Name}
+use Rattle.step_threads.specs.Programs.{Asked, IsDeclared, IsIn, as_in}
 use Rattle.script_text.specs.declared.fault.Cause.{Cause}
 use Rattle.script_text.specs.declared.fault.Cause.TheVariants.{BadCell}
 use Rattle.script_text.specs.Reading.{◌>>=◌}

@@ -5,7 +5,7 @@ use Rattle.std.specs.List.{list_all, starts_with, AllByRecursion}
 use Rattle.std.specs.Str.{bytes_eq}
 use Rattle.std.proofs.lemmas.Bool.{ltb-true}
 use Rattle.std.proofs.lemmas.Slice.Eq.{bytes_eq-Decides}
-use Rattle.step_core.specs.declared.call.Call.{Call}
+use Rattle.step_threads.specs.declared.call.Call.{Call}
 use Rattle.script_text.specs.declared.fault.Cause.{Cause}
 use Rattle.script_text.specs.declared.fault.Cause.TheVariants.{BadByte, WrongNumberOfWords, TooManyThreads, TooManyStatements}
 use Rattle.script_text.specs.declared.keyword.Keyword.{Keyword}

@@ -3,10 +3,10 @@
 use Rattle.std.proofs.Common.{◌≡◌, ℕ, List, [], ◌∷◌, ◌++◌, length, map, Option, Some, Result, Ok, refl, sym, ap, subst, ◌∙◌}
 use Rattle.std.specs.Prelude.{decimal}
 use Rattle.std.specs.List.{AllByRecursion}
-use Rattle.step_core.specs.declared.call.Kind.{Kind}
-use Rattle.step_core.specs.declared.call.Kind.TheVariants.{Owner}
-use Rattle.step_core.specs.declared.call.Name.{Name}
-use Rattle.step_core.specs.Programs.{Asked, IsDeclared}
+use Rattle.step_threads.specs.declared.call.Kind.{Kind}
+use Rattle.step_threads.specs.declared.call.Kind.TheVariants.{Owner}
+use Rattle.step_threads.specs.declared.call.Name.{Name}
+use Rattle.step_threads.specs.Programs.{Asked, IsDeclared}
 use Rattle.script_text.specs.declared.fault.Cause.{Cause}
 use Rattle.script_text.specs.Reading.{◌>>=◌}
 use Rattle.script_text.specs.Names.{NameList, asked_source_at, source_at, target_at, declared, name_text}

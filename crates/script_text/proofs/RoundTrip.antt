@@ -4,7 +4,7 @@ use Rattle.std.specs.Prelude.{codes, ltb}
 use Rattle.std.specs.List.{flat_map, AllByRecursion}
 use Rattle.std.proofs.lemmas.List.{append-nil}
 use Rattle.std.proofs.lemmas.List.Concat.{flat_map-cons, flat_map-append}
-use Rattle.step_core.specs.declared.call.Call.{Call}
+use Rattle.step_threads.specs.declared.call.Call.{Call}
 use Rattle.script_text.specs.declared.keyword.Keyword.{Keyword}
 use Rattle.script_text.specs.Names.{NameList}
 use Rattle.script_text.specs.Keywords.{takes_words}

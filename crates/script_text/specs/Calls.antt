@@ -1,9 +1,9 @@
 -- The call that a statement spells.
 use Rattle.std.specs.Prelude.{ℕ, List, Some, None, Result, Ok}
-use Rattle.step_core.specs.declared.call.Call.{Call}
-use Rattle.step_core.specs.declared.call.Call.TheVariants as call
-use Rattle.step_core.specs.declared.call.Kind.TheVariants.{Owner, Weak}
-use Rattle.step_core.specs.declared.call.Name.{Name}
+use Rattle.step_threads.specs.declared.call.Call.{Call}
+use Rattle.step_threads.specs.declared.call.Call.TheVariants as call
+use Rattle.step_threads.specs.declared.call.Kind.TheVariants.{Owner, Weak}
+use Rattle.step_threads.specs.declared.call.Name.{Name}
 use Rattle.script_text.specs.declared.fault.Cause.{Cause}
 use Rattle.script_text.specs.declared.keyword.Keyword.{Keyword}
 use Rattle.script_text.specs.declared.keyword.Keyword.TheVariants as key

@@ -1,11 +1,11 @@
 -- Canonical text: single spaces, numbers without leading zeros, and no line that is skipped.
 use Rattle.std.specs.Prelude.{◌≡◌, ℕ, ◌++◌, String, List, [], ◌∷◌, map, codes, decimal, string_bytes}
 use Rattle.std.specs.List.{flat_map, join_with_byte}
-use Rattle.step_core.specs.declared.call.Call.{Call}
-use Rattle.step_core.specs.declared.call.Call.TheVariants as call
-use Rattle.step_core.specs.declared.call.CellName.{CellName}
-use Rattle.step_core.specs.declared.call.CellName.TheVariants as free
-use Rattle.step_core.specs.Programs.{field_number}
+use Rattle.step_threads.specs.declared.call.Call.{Call}
+use Rattle.step_threads.specs.declared.call.Call.TheVariants as call
+use Rattle.step_threads.specs.declared.call.CellName.{CellName}
+use Rattle.step_threads.specs.declared.call.CellName.TheVariants as free
+use Rattle.step_table.specs.Deeds.{field_number}
 use Rattle.script_text.specs.declared.line.Line.{Line}
 use Rattle.script_text.specs.declared.line.Line.TheVariants as line
 use Rattle.script_text.specs.Names.{NameList, name_text}

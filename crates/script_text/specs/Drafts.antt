@@ -2,7 +2,7 @@
 use Rattle.std.specs.Prelude.{ℕ, ◌+◌, ◌++◌, ◌==◌, List, [], ◌∷◌, length, map, Result, Ok, Err, nat_eq, nat_lt, if◌then◌else◌, codes}
 use Rattle.std.specs.List.{list_all, starts_with}
 use Rattle.std.specs.Str.{bytes_eq}
-use Rattle.step_core.specs.declared.call.Call.{Call}
+use Rattle.step_threads.specs.declared.call.Call.{Call}
 use Rattle.script_text.specs.declared.draft.Draft as rust
 use Rattle.script_text.specs.declared.fault.Cause.{Cause}
 use Rattle.script_text.specs.declared.fault.Cause.TheVariants.{BadByte, WrongNumberOfWords, TooManyThreads, TooManyStatements}

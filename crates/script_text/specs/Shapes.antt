@@ -4,12 +4,12 @@
 use Rattle.std.specs.Prelude.{ℕ, List, [], ◌∷◌, map, Option, Some, None, Result, Ok, Err, codes, if◌then◌else◌, slice_get}
 use Rattle.std.specs.Str.{bytes_eq}
 use Rattle.std.specs.Borrow.{Bor}
-use Rattle.step_core.specs.declared.call.CellName.{CellName}
-use Rattle.step_core.specs.declared.call.CellName.TheVariants as free
-use Rattle.step_core.specs.declared.call.Field.{Field}
-use Rattle.step_core.specs.declared.call.Kind.{Kind}
-use Rattle.step_core.specs.declared.call.Kind.TheVariants.{Owner, Weak}
-use Rattle.step_core.specs.declared.call.Name.{Name}
+use Rattle.step_threads.specs.declared.call.CellName.{CellName}
+use Rattle.step_threads.specs.declared.call.CellName.TheVariants as free
+use Rattle.step_table.specs.declared.field.Field.{Field}
+use Rattle.step_threads.specs.declared.call.Kind.{Kind}
+use Rattle.step_threads.specs.declared.call.Kind.TheVariants.{Owner, Weak}
+use Rattle.step_threads.specs.declared.call.Name.{Name}
 use Rattle.script_text.specs.declared.fault.Cause.{Cause}
 use Rattle.script_text.specs.declared.fault.Cause.TheVariants.{WrongNumberOfWords}
 use Rattle.script_text.specs.Reading.{◌>>=◌}

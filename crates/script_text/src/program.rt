@@ -1,7 +1,7 @@
 //! Threads as actors.
 
 ghost use Rattle.std.specs.Prelude.{◌≡◌, IfOk, map};
-ghost use Rattle.step_core.specs.Programs.{part_of, parts_of};
+ghost use Rattle.step_threads.specs.Programs.{part_of, parts_of};
 ghost use Rattle.script_text.specs.Drafts.{section_of};
 ghost use Rattle.script_text.specs.Scripts.{part_in, program_in};
 

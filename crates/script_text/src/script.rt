@@ -30,7 +30,7 @@ impl Script {
     ghost use Rattle.std.specs.Prelude.{◌≡◌, ◌≤◌, All, IfOk, IsOkUnless, length};
     ghost use Rattle.control_word.specs.declared.shape.Shape.{Shape};
     ghost use Rattle.control_word.specs.declared.refusal.Refusal.TheVariants.{Memory};
-    ghost use Rattle.step_core.specs.Programs.{AllHaveCells, parts_of, IsProgram};
+    ghost use Rattle.step_threads.specs.Programs.{AllHaveCells, parts_of, IsProgram};
     ghost use Rattle.script_text.specs.Scripts.{HasTextCells, program_in, statement_count};
 
     /// How many threads the script has, from 1 to 16 (own).

@@ -1,15 +1,3 @@
-pub mod tables
-pub mod Walks
-pub mod Stocks
-pub mod holding
-pub mod Courses
-pub mod CellNames
-pub mod Threads
-pub mod Endings
-pub mod EndSteps
-pub mod LeaveSteps
-pub mod Giving
-pub mod Steps
 pub mod Worlds
 pub mod Openings
 pub mod Programs
@@ -18,6 +6,3 @@ pub mod Starts
 pub mod StartStores
 pub mod telling
 pub mod turning
-mod contained
-pub mod StoreFits
-pub mod StoreSteps

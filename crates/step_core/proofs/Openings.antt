@@ -4,15 +4,15 @@ use Rattle.std.proofs.Common.{refl, sym, ap, subst, ◌∙◌, inl, inr, ⊎_eli
 use Rattle.std.specs.Prelude.{Some, slice_get}
 use Rattle.std.proofs.lemmas.List.{length_push, map_push, take_more}
 use Rattle.std.proofs.lemmas.Option.{same_Some}
-use Rattle.step_core.specs.declared.call.Actor.{Actor}
-use Rattle.step_core.specs.declared.half.Half.{Half}
-use Rattle.step_core.specs.declared.half.Half.TheVariants.{Rest}
-use Rattle.step_core.specs.declared.thread.Thread.{Thread}
-use Rattle.step_core.specs.Courses.{walk}
-use Rattle.step_core.specs.Programs.{Part, part_of}
+use Rattle.step_threads.specs.declared.call.Actor.{Actor}
+use Rattle.step_threads.specs.declared.half.Half.{Half}
+use Rattle.step_threads.specs.declared.half.Half.TheVariants.{Rest}
+use Rattle.step_threads.specs.declared.thread.Thread.{Thread}
+use Rattle.step_threads.specs.Courses.{walk}
+use Rattle.step_threads.specs.Programs.{Part, part_of}
 use Rattle.step_core.specs.Starts.{first_walk}
-use Rattle.step_core.specs.Stories.{Story}
-use Rattle.step_core.specs.Threads.{Fits}
+use Rattle.step_table.specs.Stories.{Story}
+use Rattle.step_threads.specs.Threads.{Fits}
 use Rattle.step_core.specs.Worlds.{AllFit}
 
 at_pushed : {A : Type 0} (xs : List A) (y a : A) (i : ℕ) → slice_get (xs ++ y ∷ []) i ≡ Some a → (slice_get xs i ≡ Some a) ⊎

@@ -10,12 +10,12 @@ use Rattle.std.proofs.Math.Nat.{div-lt_iff_lt-mul, div-mul-le_self, mul-le-mul_l
 use Rattle.std.specs.List.Sorted.{IsPermutation}
 use Rattle.control_word.proofs.lists.Tallies.{num, num_cons}
 use Rattle.control_word.specs.State.{Stored, all_stored, same_stored, stored}
-use Rattle.step_core.specs.declared.extent.Extent.{Extent}
-use Rattle.step_core.specs.declared.half.Half.TheVariants.{Rest}
-use Rattle.step_core.specs.Actors.{Stocks, in_list}
-use Rattle.step_core.specs.Openings.{each_stock}
+use Rattle.step_table.specs.declared.extent.Extent.{Extent}
+use Rattle.step_threads.specs.declared.half.Half.TheVariants.{Rest}
+use Rattle.step_threads.specs.Actors.{Stocks, in_list}
+use Rattle.step_table.specs.Openings.{each_stock}
 use Rattle.step_core.specs.Starts.{first_story}
-use Rattle.step_core.specs.Stocks.{Stored as Blocks, from}
+use Rattle.step_threads.specs.Stocks.{Stored as Blocks, from}
 
 -- numbers from f on
 from_below : (b f n : ℕ) → b < f → in_list b (from f n) ≡ 0

@@ -8,21 +8,21 @@ use Rattle.control_word.specs.declared.handle.Handle.{Handle}
 use Rattle.control_word.specs.declared.view.Pending.TheVariants.{Idle}
 use Rattle.control_word.specs.declared.view.View.{View}
 use Rattle.control_word.specs.declared.shape.Shape.{Shape}
-use Rattle.step_core.specs.declared.act.Task.{Task}
-use Rattle.step_core.specs.declared.call.Call.{Call}
-use Rattle.step_core.specs.declared.call.Call.TheVariants as call
-use Rattle.step_core.specs.declared.call.CellName.{CellName}
-use Rattle.step_core.specs.declared.call.CellName.TheVariants as cell
-use Rattle.step_core.specs.declared.call.Kind.{Kind}
-use Rattle.step_core.specs.declared.extent.Extent.{Extent}
-use Rattle.step_core.specs.declared.slot.Slot.{Slot}
-use Rattle.step_core.specs.Acts.{acts, clearing, numbered, tasks_from}
-use Rattle.step_core.specs.Courses.{HasCell, IsReady, Ready, hand, other}
-use Rattle.step_core.specs.Holdings.{Holds, IsSlot, Slots, full, owns, plain, value}
-use Rattle.step_core.specs.Programs.{Asked, HasCells, IsDeclared, IsFound, IsIn, IsPart, IsWellNamed, Part, either, names_of, owner, weak}
+use Rattle.step_threads.specs.declared.act.Task.{Task}
+use Rattle.step_threads.specs.declared.call.Call.{Call}
+use Rattle.step_threads.specs.declared.call.Call.TheVariants as call
+use Rattle.step_threads.specs.declared.call.CellName.{CellName}
+use Rattle.step_threads.specs.declared.call.CellName.TheVariants as cell
+use Rattle.step_threads.specs.declared.call.Kind.{Kind}
+use Rattle.step_table.specs.declared.extent.Extent.{Extent}
+use Rattle.step_table.specs.declared.slot.Slot.{Slot}
+use Rattle.step_threads.specs.Acts.{acts, clearing, numbered, tasks_from}
+use Rattle.step_threads.specs.Courses.{HasCell, IsReady, Ready, hand, other}
+use Rattle.step_table.specs.Holdings.{Holds, IsSlot, Slots, full, owns, plain, value}
+use Rattle.step_threads.specs.Programs.{Asked, HasCells, IsDeclared, IsFound, IsIn, IsPart, IsWellNamed, Part, either, names_of, owner, weak}
 use Rattle.step_core.specs.Starts.{HasFields, first_story}
-use Rattle.step_core.specs.Stories.{Nothing, Story, pending}
-use Rattle.step_core.proofs.tables.Start.{fresh_at}
+use Rattle.step_table.specs.Stories.{Nothing, Story, pending}
+use Rattle.step_table.proofs.tables.Start.{fresh_at}
 
 -- empty slots
 slot_none : (n i : ℕ) → value (replicate n plain) i ≡ plain

@@ -6,27 +6,28 @@ use Rattle.std.proofs.lemmas.Bool.{cases_eq}
 use Rattle.std.proofs.lemmas.List.Elements.{All-drop, All-head}
 use Rattle.control_word.specs.declared.shape.Shape.{Shape}
 use Rattle.std.proofs.lemmas.Option.{same_Some, slice_get-get_or}
-use Rattle.step_core.specs.declared.act.Task.{Task}
-use Rattle.step_core.specs.declared.course.Course.{Course}
-use Rattle.step_core.specs.declared.ending.Ending.{Ending}
-use Rattle.step_core.specs.declared.slot.Slot.{Slot}
-use Rattle.step_core.specs.Holdings.{is_full, pointer_of, slot}
-use Rattle.step_core.specs.declared.past.Deed.{Deed}
-use Rattle.step_core.specs.declared.said.Stepped.{Stepped}
-use Rattle.step_core.specs.declared.half.Half.{Half}
-use Rattle.step_core.specs.declared.half.Half.TheVariants.{Rest, Making, Locking, Giving, Brought, Returning}
-use Rattle.step_core.specs.declared.thread.Thread.{Thread}
-use Rattle.step_core.specs.Actors.{HalfFits}
-use Rattle.step_core.specs.Courses.{HasCell, Walk, hand, task_at, todo, walk}
-use Rattle.step_core.specs.Scenes.{nowhere, walk_of}
-use Rattle.step_core.specs.Steps.{Step, half_by, step_at, stepped, story_after, story_by, walk_by}
-use Rattle.step_core.specs.Stories.{AllBare, Kept, Story, after, state}
-use Rattle.step_core.specs.Threads.{Fits, HasStepped, IsNext}
+use Rattle.step_threads.specs.declared.act.Task.{Task}
+use Rattle.step_threads.specs.declared.course.Course.{Course}
+use Rattle.step_threads.specs.declared.ending.Ending.{Ending}
+use Rattle.step_table.specs.declared.slot.Slot.{Slot}
+use Rattle.step_table.specs.Holdings.{is_full, pointer_of, slot}
+use Rattle.step_table.specs.declared.past.Deed.{Deed}
+use Rattle.step_threads.specs.declared.said.Stepped.{Stepped}
+use Rattle.step_threads.specs.declared.half.Half.{Half}
+use Rattle.step_threads.specs.declared.half.Half.TheVariants.{Rest, Making, Locking, Giving, Brought, Returning}
+use Rattle.step_threads.specs.declared.thread.Thread.{Thread}
+use Rattle.step_threads.specs.Actors.{HalfFits}
+use Rattle.step_threads.specs.Courses.{HasCell, Walk, hand, task_at, todo, walk}
+use Rattle.step_threads.specs.Scenes.{nowhere, walk_of}
+use Rattle.step_threads.specs.Steps.{Step, half_by, step_at, stepped, story_after, story_by, walk_by}
+use Rattle.step_table.specs.Stories.{AllBare, Kept, Story, after, state}
+use Rattle.step_threads.specs.Threads.{Fits, HasStepped, IsNext}
 use Rattle.step_core.specs.Turning.{HasBegun, IsAlone, IsInShape, IsLock, IsSwap, IsTried, IsUnderWay}
 use Rattle.step_core.specs.Worlds.{AllFit, Sight, Steps, half_of, scene, step_of, thread_half, thread_walk}
-use Rattle.step_core.proofs.Courses.{todo_at}
-use Rattle.step_core.proofs.holding.Halves.{half_others}
-use Rattle.step_core.proofs.holding.Others.{ends_others, holds_others, stocks_others}
+use Rattle.step_threads.proofs.Courses.{todo_at}
+use Rattle.step_threads.proofs.holding.Halves.{half_others}
+use Rattle.step_threads.proofs.holding.Others.{ends_others, stocks_others}
+use Rattle.step_table.proofs.holding.Keeping.{holds_others}
 
 module _ {X : Type 0} where
   get_other : (xs : List X) (i j : ℕ) (y : X) → j ≢ i → slice_get (set xs i y) j ≡ slice_get xs j

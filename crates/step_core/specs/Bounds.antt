@@ -1,16 +1,17 @@
 -- How many steps a world has left at most. All of it is own.
 use Rattle.std.specs.Prelude.{ℕ, ◌+◌, ◌-◌, ◌*◌, cond, List, [], ◌∷◌, sum_by}
-use Rattle.step_core.specs.declared.act.Act.{Act}
-use Rattle.step_core.specs.declared.act.Act.TheVariants.{Make, Swap, Exchange}
-use Rattle.step_core.specs.declared.act.Task.{Task}
-use Rattle.step_core.specs.declared.ending.Ending.{Ending}
-use Rattle.step_core.specs.declared.half.Half.{Half}
-use Rattle.step_core.specs.declared.half.Half.TheVariants.{Rest, Making, Locking, Giving, Brought, Returning}
-use Rattle.step_core.specs.declared.thread.Thread.{Thread}
-use Rattle.step_core.specs.Courses.{Walk, hand, todo}
-use Rattle.step_core.specs.Holdings.{Slots, is_full, slot}
+use Rattle.step_threads.specs.declared.act.Act.{Act}
+use Rattle.step_threads.specs.declared.act.Act.TheVariants.{Make, Swap, Exchange}
+use Rattle.step_threads.specs.declared.act.Task.{Task}
+use Rattle.step_threads.specs.declared.ending.Ending.{Ending}
+use Rattle.step_threads.specs.declared.half.Half.{Half}
+use Rattle.step_threads.specs.declared.half.Half.TheVariants.{Rest, Making, Locking, Giving, Brought, Returning}
+use Rattle.step_threads.specs.declared.thread.Thread.{Thread}
+use Rattle.step_threads.specs.Courses.{Walk, hand, todo}
+use Rattle.step_table.specs.Holdings.{Slots, is_full, slot}
 use Rattle.step_core.specs.Totals.{ended_in, made_in}
 use Rattle.step_core.specs.Worlds.{Sight}
+use Rattle.step_threads.specs.Endings.{ending_steps}
 
 -- What a task has for its steps. A make prepares its block, looks at five words and writes them, and claims; and its object
 -- may end, which takes 13 steps. A swap brings funds, swaps, and gives funds back. Any other act takes two at most
@@ -29,10 +30,6 @@ spare (Locking word) = 15
 spare (Giving i kind x) = 14
 spare Brought = 15
 spare (Returning kind b funds k) = 15
-
--- the steps that the end of an object has left: four for each member, as what comes out of it has to leave, and the last
-abbrev pub ending_steps : Ending → ℕ
-ending_steps e = 4 * (3 - e.stage) + 1
 
 -- what came out of a member has to leave
 abbrev pub carried : List Ending → Slots → ℕ

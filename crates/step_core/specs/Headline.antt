@@ -9,15 +9,16 @@ use Rattle.control_word.specs.Layout.{spot}
 use Rattle.control_word.specs.Packing.{number_of}
 use Rattle.control_word.specs.State.{InShape, State, common, count, live, weak}
 use Rattle.control_word.specs.Views.{IsAtRest}
-use Rattle.step_core.specs.declared.said.Answer.{Answer}
-use Rattle.step_core.specs.declared.said.Ended.{Ended}
-use Rattle.step_core.specs.declared.said.Stepped.{Stepped}
-use Rattle.step_core.specs.declared.said.Stepped.TheVariants.{Event as Step, Quiet, Waited, Done}
+use Rattle.step_threads.specs.declared.said.Answer.{Answer}
+use Rattle.step_table.specs.declared.ended.Ended.{Ended}
+use Rattle.step_threads.specs.declared.said.Stepped.{Stepped}
+use Rattle.step_threads.specs.declared.said.Stepped.TheVariants.{Event as Step, Quiet, Waited, Done}
 use Rattle.step_core.specs.declared.trace.TraceStep.{TraceStep}
-use Rattle.step_core.specs.Openings.{opening}
+use Rattle.step_table.specs.Openings.{opening}
 use Rattle.step_core.specs.Runs.{reached}
-use Rattle.step_core.specs.Scenes.{lock_answer, remains}
-use Rattle.step_core.specs.Stories.{Nothing, state}
+use Rattle.step_threads.specs.Scenes.{lock_answer}
+use Rattle.step_table.specs.Deeds.{remains}
+use Rattle.step_table.specs.Stories.{Nothing, state}
 use Rattle.step_core.specs.Worlds.{Sight}
 
 -- P holds before the first step, and after each: of what each beginning of the steps leads to (own)

@@ -2,13 +2,13 @@
 use Rattle.std.specs.Prelude.{◌≡◌, ◌≢◌, ℕ, zero, suc, ◌+◌, ◌-◌, ◌<◌, ◌≤◌, List, [], ◌∷◌, ◌++◌, All, length, map, slice_index}
 use Rattle.control_word.specs.declared.refusal.Refusal.{Refusal}
 use Rattle.control_word.specs.declared.refusal.Refusal.TheVariants as refusal
-use Rattle.step_core.specs.declared.half.Half.TheVariants.{Rest}
-use Rattle.step_core.specs.declared.said.Stepped.TheVariants.{Done}
+use Rattle.step_threads.specs.declared.half.Half.TheVariants.{Rest}
+use Rattle.step_threads.specs.declared.said.Stepped.TheVariants.{Done}
 use Rattle.step_core.specs.declared.trace.RunRefusal.{RunRefusal}
 use Rattle.step_core.specs.declared.trace.RunRefusal.TheVariants.{Memory, BadTurn}
 use Rattle.step_core.specs.declared.trace.TraceStep.{TraceStep}
-use Rattle.step_core.specs.Scenes.{walk_of}
-use Rattle.step_core.specs.Stories.{Kept}
+use Rattle.step_threads.specs.Scenes.{walk_of}
+use Rattle.step_table.specs.Stories.{Kept}
 use Rattle.step_core.specs.Worlds.{Sight, Steps, half_of, scene, sight_by, step_of}
 
 -- the steps came one after another, each of its actor, and after each the words stood for the history

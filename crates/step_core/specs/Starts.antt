@@ -3,17 +3,17 @@ use Rattle.std.specs.Prelude.{◌≡◌, ℕ, ◌+◌, ◌*◌, ◌≤◌, false
 use Rattle.control_word.specs.declared.shape.Shape.{Shape}
 use Rattle.control_word.specs.Layout.{IsWithinLimits, table_size}
 use Rattle.control_word.specs.Views.{fresh}
-use Rattle.step_core.specs.declared.call.Call.{Call}
-use Rattle.step_core.specs.declared.call.Call.TheVariants.{Make, MakeThis}
-use Rattle.step_core.specs.declared.extent.Extent.{Extent}
-use Rattle.step_core.specs.declared.half.Half.{Half}
-use Rattle.step_core.specs.declared.half.Half.TheVariants.{Rest}
-use Rattle.step_core.specs.Acts.{tasks_from}
-use Rattle.step_core.specs.Courses.{Walk, settled}
-use Rattle.step_core.specs.Holdings.{Slots, plain}
-use Rattle.step_core.specs.Programs.{AllHaveCells, IsProgram, Part}
+use Rattle.step_threads.specs.declared.call.Call.{Call}
+use Rattle.step_threads.specs.declared.call.Call.TheVariants.{Make, MakeThis}
+use Rattle.step_table.specs.declared.extent.Extent.{Extent}
+use Rattle.step_threads.specs.declared.half.Half.{Half}
+use Rattle.step_threads.specs.declared.half.Half.TheVariants.{Rest}
+use Rattle.step_threads.specs.Acts.{tasks_from}
+use Rattle.step_threads.specs.Courses.{Walk, settled}
+use Rattle.step_table.specs.Holdings.{Slots, plain}
+use Rattle.step_threads.specs.Programs.{AllHaveCells, IsProgram, Part}
 use Rattle.step_core.specs.Worlds.{Sight}
-use Rattle.step_core.specs.Stories.{Story}
+use Rattle.step_table.specs.Stories.{Story}
 
 -- a world of this shape may run the program: both are within the limits, with 40 handles or more for each actor, and the shape
 -- has the cells of all calls

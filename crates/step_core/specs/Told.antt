@@ -1,16 +1,16 @@
 -- What a world keeps beside its threads, so that it can tell its totals and its census. All of it is own.
 use Rattle.std.specs.Prelude.{◌≡◌, ℕ, ◌+◌, ◌*◌, ◌<◌, ◌≤◌, ◌==◌, Bool, false, cond, List, [], length, map, is_some}
 use Rattle.control_word.specs.State.{State, ending}
-use Rattle.step_core.specs.declared.ending.Ending.{Ending}
-use Rattle.step_core.specs.declared.half.Half.{Half}
-use Rattle.step_core.specs.declared.half.Half.TheVariants.{Rest, Making, Locking, Giving, Brought, Returning}
-use Rattle.step_core.specs.declared.said.Stepped.{Stepped}
-use Rattle.step_core.specs.declared.said.Stepped.TheVariants.{Event, Quiet, Waited, Done}
-use Rattle.step_core.specs.declared.thread.Thread.{Thread}
+use Rattle.step_threads.specs.declared.ending.Ending.{Ending}
+use Rattle.step_threads.specs.declared.half.Half.{Half}
+use Rattle.step_threads.specs.declared.half.Half.TheVariants.{Rest, Making, Locking, Giving, Brought, Returning}
+use Rattle.step_threads.specs.declared.said.Stepped.{Stepped}
+use Rattle.step_threads.specs.declared.said.Stepped.TheVariants.{Event, Quiet, Waited, Done}
+use Rattle.step_threads.specs.declared.thread.Thread.{Thread}
 use Rattle.step_core.specs.Bounds.{left_to_do}
-use Rattle.step_core.specs.Endings.{endings_of}
-use Rattle.step_core.specs.Scenes.{walk_of}
-use Rattle.step_core.specs.Stories.{Plain, Story, state}
+use Rattle.step_threads.specs.Endings.{endings_of}
+use Rattle.step_threads.specs.Scenes.{walk_of}
+use Rattle.step_table.specs.Stories.{Plain, Story, state}
 use Rattle.step_core.specs.Totals.{ended_in, made_in}
 use Rattle.step_core.specs.Worlds.{Sight, scene, thread_half, thread_walk}
 

@@ -6,10 +6,10 @@ use Rattle.control_word.specs.declared.event.Entry.{Entry}
 use Rattle.control_word.specs.declared.event.Event.{Event}
 use Rattle.control_word.specs.declared.event.Event.TheVariants.{Make, Leave}
 use Rattle.control_word.specs.State.{State, count, weak, weak_number}
-use Rattle.step_core.specs.declared.half.Half.{Half}
-use Rattle.step_core.specs.declared.half.Half.TheVariants.{Rest}
-use Rattle.step_core.specs.Courses.{Walk}
-use Rattle.step_core.specs.Stories.{Nothing}
+use Rattle.step_threads.specs.declared.half.Half.{Half}
+use Rattle.step_threads.specs.declared.half.Half.TheVariants.{Rest}
+use Rattle.step_threads.specs.Courses.{Walk}
+use Rattle.step_table.specs.Stories.{Nothing}
 use Rattle.step_core.specs.Worlds.{Sight}
 
 abbrev pub is_make : Event Nothing → Bool

@@ -1,23 +1,23 @@
 -- The parts of a turn. All of it is own.
 use Rattle.std.specs.Prelude.{◌≡◌, ◌⊎◌, ℕ, ◌<◌, ◌≤◌, Bool, true, false, not, ◌||◌, ◌==◌, List, [], ◌∷◌, length, slice_set, is_some, All, Option, Some, None}
-use Rattle.step_core.specs.declared.act.Act.TheVariants.{Make, FromThis}
-use Rattle.step_core.specs.declared.act.Task.{Task}
-use Rattle.step_core.specs.declared.ending.Ending.{Ending}
-use Rattle.step_core.specs.declared.half.Half.{Half}
-use Rattle.step_core.specs.declared.half.Half.TheVariants.{Rest, Making, Locking, Giving, Brought, Returning}
-use Rattle.step_core.specs.declared.said.Said.{Said}
-use Rattle.step_core.specs.declared.said.Stepped.{Stepped}
-use Rattle.step_core.specs.declared.said.Stepped.TheVariants as stepped
-use Rattle.step_core.specs.declared.said.Turned.{Turned}
-use Rattle.step_core.specs.declared.said.Turned.TheVariants.{Acted, Waited, Done}
+use Rattle.step_threads.specs.declared.act.Act.TheVariants.{Make, FromThis}
+use Rattle.step_threads.specs.declared.act.Task.{Task}
+use Rattle.step_threads.specs.declared.ending.Ending.{Ending}
+use Rattle.step_threads.specs.declared.half.Half.{Half}
+use Rattle.step_threads.specs.declared.half.Half.TheVariants.{Rest, Making, Locking, Giving, Brought, Returning}
+use Rattle.step_threads.specs.declared.said.Said.{Said}
+use Rattle.step_threads.specs.declared.said.Stepped.{Stepped}
+use Rattle.step_threads.specs.declared.said.Stepped.TheVariants as stepped
+use Rattle.step_threads.specs.declared.said.Turned.{Turned}
+use Rattle.step_threads.specs.declared.said.Turned.TheVariants.{Acted, Waited, Done}
 use Rattle.control_word.specs.declared.shape.Shape.{Shape}
-use Rattle.step_core.specs.Courses.{HasCell, Walk, form_of, going, hand, locked}
-use Rattle.step_core.specs.Deeds.{is_enabled}
-use Rattle.step_core.specs.Endings.{first_of}
-use Rattle.step_core.specs.Holdings.{Slots, inside, is_full, slot}
-use Rattle.step_core.specs.Entries.{least}
-use Rattle.step_core.specs.Scenes.{play, rested, said, walk_of}
-use Rattle.step_core.specs.Stories.{AllBare, Kept, Story, state}
+use Rattle.step_threads.specs.Courses.{HasCell, Walk, form_of, going, hand, locked}
+use Rattle.step_table.specs.Deeds.{is_enabled}
+use Rattle.step_threads.specs.Endings.{first_of}
+use Rattle.step_table.specs.Holdings.{Slots, inside, is_full, slot}
+use Rattle.step_threads.specs.Entries.{least}
+use Rattle.step_threads.specs.Scenes.{play, rested, said, walk_of}
+use Rattle.step_table.specs.Stories.{AllBare, Kept, Story, state}
 use Rattle.step_core.specs.Worlds.{Sight, half_of, scene}
 
 -- a make that is under way is the next act, in the least block of the store

@@ -1,16 +1,16 @@
 -- What clauses see of a world, and what steps and turns of a thread do to it. All of it is own.
 use Rattle.std.specs.Prelude.{◌≡◌, ℕ, List, [], ◌∷◌, get_or, slice_get, slice_set, Option, Some, None}
-use Rattle.step_core.specs.declared.half.Half.{Half}
-use Rattle.step_core.specs.declared.half.Half.TheVariants.{Rest}
-use Rattle.step_core.specs.declared.said.Stepped.{Stepped}
-use Rattle.step_core.specs.declared.said.Turned.{Turned}
-use Rattle.step_core.specs.declared.said.Turned.TheVariants.{Acted, Waited, Done}
-use Rattle.step_core.specs.declared.thread.Thread.{Thread}
-use Rattle.step_core.specs.Courses.{Walk, walk}
-use Rattle.step_core.specs.Scenes.{Scene, next, play, rested, said, walk_of}
-use Rattle.step_core.specs.Steps.{Step, half_by, step_at, stepped, story_by, walk_by}
-use Rattle.step_core.specs.Stories.{Kept, Story}
-use Rattle.step_core.specs.Threads.{Fits}
+use Rattle.step_threads.specs.declared.half.Half.{Half}
+use Rattle.step_threads.specs.declared.half.Half.TheVariants.{Rest}
+use Rattle.step_threads.specs.declared.said.Stepped.{Stepped}
+use Rattle.step_threads.specs.declared.said.Turned.{Turned}
+use Rattle.step_threads.specs.declared.said.Turned.TheVariants.{Acted, Waited, Done}
+use Rattle.step_threads.specs.declared.thread.Thread.{Thread}
+use Rattle.step_threads.specs.Courses.{Walk, walk}
+use Rattle.step_threads.specs.Scenes.{Scene, next, play, rested, said, walk_of}
+use Rattle.step_threads.specs.Steps.{Step, half_by, step_at, stepped, story_by, walk_by}
+use Rattle.step_table.specs.Stories.{Kept, Story}
+use Rattle.step_threads.specs.Threads.{Fits}
 
 -- the table, where each thread is, and what it has begun
 pub record Sight : Type 0 where

@@ -2,7 +2,7 @@
 ghost use Rattle.std.specs.Prelude.{◌≡◌, ◌↔◌, ◌<◌, ◌≤◌, None};
 ghost use Rattle.control_word.specs.Packing.{number_of};
 ghost use Rattle.control_word.specs.State.{IsVacant};
-ghost use Rattle.step_core.specs.Stories.{state};
+ghost use Rattle.step_table.specs.Stories.{state};
 ghost use Rattle.step_core.specs.Totals.{IsAtEnd, census_of, counts_in, ended_in, made_in};
 
 use crate::world::World;

@@ -1,10 +1,10 @@
 //! Which programs a world may run.
 ghost use Rattle.std.specs.Prelude.{◌≡◌, ◌↔◌, ◌&&◌, ◌≤◌, ◌∷◌, ◌++◌, Some, None, All, IsTrue, map};
-ghost use Rattle.step_core.specs.Programs.{AllHaveCells, HasCells, IsDeclared, IsIn, IsPart, IsProgram, IsWellNamed, as_in, call_count, listed, names_of, owner, part_of, weak};
+ghost use Rattle.step_threads.specs.Programs.{AllHaveCells, HasCells, IsDeclared, IsIn, IsPart, IsProgram, IsWellNamed, as_in, call_count, listed, names_of, owner, part_of, weak};
 ghost use Rattle.step_core.specs.Starts.{AllHaveFields, CanBegin, HasFields};
 
-use crate::call::{Actor, Call, CellName, Kind, Name};
 use control_word::Shape;
+use step_threads::call::{Actor, Call, CellName, Kind, Name};
 
 /// Most actors of a program.
 const MOST_ACTORS: usize = 64;

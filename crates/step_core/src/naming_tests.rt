@@ -1,9 +1,10 @@
 //! Which names a call may have.
-use crate::call::{Actor, Call, Field, Kind, Name, Program};
 use crate::world::World;
 use control_word::{Refusal, Shape};
 use std::alloc::Global;
 use std::test::Fail;
+use step_table::field::Field;
+use step_threads::call::{Actor, Call, Kind, Name, Program};
 
 const A: Name = Name(0);
 

@@ -1,28 +1,28 @@
 //! How a world begins.
 ghost use Rattle.std.specs.Prelude.{◌≡◌, ◌↔◌, ◌⊎◌, ◌<◌, ◌^◌, All, length, map, IfErr, IfOk};
-ghost use Rattle.step_core.specs.Actors.{Stocks};
-ghost use Rattle.step_core.specs.Courses.{walk};
-ghost use Rattle.step_core.specs.Openings.{IsExtent};
-ghost use Rattle.step_core.specs.Programs.{AllHaveCells, IsPart, IsProgram, part_of, parts_of};
+ghost use Rattle.step_threads.specs.Actors.{Stocks};
+ghost use Rattle.step_threads.specs.Courses.{walk};
+ghost use Rattle.step_table.specs.Openings.{IsExtent};
+ghost use Rattle.step_threads.specs.Programs.{AllHaveCells, IsPart, IsProgram, part_of, parts_of};
 ghost use Rattle.step_core.specs.Starts.{AllHaveFields, CanBegin, HasFields, first_sight, first_story, first_walk};
-ghost use Rattle.step_core.specs.Stories.{Kept};
-ghost use Rattle.step_core.specs.Threads.{Fits};
+ghost use Rattle.step_table.specs.Stories.{Kept};
+ghost use Rattle.step_threads.specs.Threads.{Fits};
 ghost use Rattle.step_core.specs.Worlds.{AllFit};
 
-use crate::act::tasks;
-use crate::call::{Actor, Program};
-use crate::course::Course;
-use crate::ending::Endings;
-use crate::extent::Extent;
-use crate::half::Half;
-use crate::holdings::Holdings;
 use crate::limits::can_begin;
-use crate::stock::Stock;
-use crate::table::Table;
-use crate::thread::Thread;
 use crate::world::World;
 use control_word::{Refusal, Refused, Shape};
 use std::alloc::{AllocError, Global};
+use step_table::extent::Extent;
+use step_table::holdings::Holdings;
+use step_table::table::Table;
+use step_threads::act::tasks;
+use step_threads::call::{Actor, Program};
+use step_threads::course::Course;
+use step_threads::ending::Endings;
+use step_threads::half::Half;
+use step_threads::stock::Stock;
+use step_threads::thread::Thread;
 
 /// The store of a desk. All have the same number of blocks, in order; the rest goes to the last.
 fn stock_of(alloc: Global, extent: &Extent, desk: u32) -> Result<Stock, AllocError>

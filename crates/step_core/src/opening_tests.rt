@@ -1,9 +1,9 @@
 //! How worlds begin, and what they refuse.
-use crate::call::{Actor, Call, Kind, Name, Program};
 use crate::world::World;
 use control_word::{Refusal, Shape};
 use std::alloc::{AllocError, Global};
 use std::test::Fail;
+use step_threads::call::{Actor, Call, Kind, Name, Program};
 
 const COUNT: Call = Call::Count { name: Name(0) };
 

@@ -1,13 +1,15 @@
 //! Worlds whose names read fields, and own null pointers.
 
-use crate::call::{Actor, Call, Field, Kind, Name, Program};
-use crate::said::{Answer, Ended, Said, Stepped, Turned};
 use crate::step_tests::{said, step, turn};
 use crate::world::World;
 use control_word::{Block, Place, Refusal, Shape};
 use std::alloc::{AllocError, Global};
 use std::process::Abort;
 use std::test::Fail;
+use step_table::ended::Ended;
+use step_table::field::Field;
+use step_threads::call::{Actor, Call, Kind, Name, Program};
+use step_threads::said::{Answer, Said, Stepped, Turned};
 
 const A: Name = Name(0);
 

@@ -1,12 +1,13 @@
 //! Runs by given numbers, step by step.
-use crate::call::{Actor, Call, Kind, Name, Program};
-use crate::said::{Answer, Ended, Said, Stepped};
 use crate::trace::{RunRefusal, Trace};
 use crate::world::World;
 use control_word::{Refusal, Shape};
 use std::alloc::{AllocError, Global};
 use std::process::Abort;
 use std::test::Fail;
+use step_table::ended::Ended;
+use step_threads::call::{Actor, Call, Kind, Name, Program};
+use step_threads::said::{Answer, Said, Stepped};
 
 const A: Name = Name(0);
 

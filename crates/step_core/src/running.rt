@@ -3,15 +3,15 @@ ghost use Rattle.std.specs.Prelude.{◌≡◌, ◌+◌, ◌-◌, ◌<◌, ◌≤
 ghost use Rattle.step_core.specs.Bounds.{most_steps, steps_of, task_steps, weight};
 ghost use Rattle.step_core.specs.Headline.{AfterEach, AllAtRest, CountsAtRest, LocksWhereOwned, OfEach, TellsLocks, TellsWhatIsLeft, ValuesAtLastLeave, ValuesOnce};
 ghost use Rattle.step_core.specs.Runs.{Adds, IsFirstBad, IsRefusedFor, IsRun, IsScheduled, Names, RunInOrder, RunsToEnd};
-ghost use Rattle.step_core.specs.Stories.{Kept};
+ghost use Rattle.step_table.specs.Stories.{Kept};
 ghost use Rattle.step_core.specs.Totals.{IsAtEnd};
 
-use crate::act::{Act, Task};
-use crate::said::Stepped;
-use crate::thread::Thread;
 use crate::trace::{RunRefusal, Trace, TraceStep};
 use crate::world::World;
 use std::alloc::Global;
+use step_threads::act::{Act, Task};
+use step_threads::said::Stepped;
+use step_threads::thread::Thread;
 
 impl World {
     /// Runs the world to its end: one step for each number, and then each actor alone to its end, in number order. The trace

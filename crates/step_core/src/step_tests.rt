@@ -1,13 +1,14 @@
 //! Worlds, step by step.
 ghost use Rattle.std.specs.Prelude.{◌≡◌, length};
 
-use crate::call::{Actor, Call, Kind, Name, Program};
-use crate::said::{Answer, Ended, Said, Stepped, Turned};
 use crate::world::World;
 use control_word::Shape;
 use std::alloc::{AllocError, Global};
 use std::process::Abort;
 use std::test::Fail;
+use step_table::ended::Ended;
+use step_threads::call::{Actor, Call, Kind, Name, Program};
+use step_threads::said::{Answer, Said, Stepped, Turned};
 
 const A: Name = Name(0);
 

@@ -1,13 +1,14 @@
 //! Worlds whose names go into cells and come out of them.
 
-use crate::call::{Actor, Call, CellName, Kind, Name, Program};
 use crate::reading_tests::world;
-use crate::said::{Answer, Ended, Stepped, Turned};
 use crate::step_tests::{said, step, turn};
 use crate::world::World;
 use control_word::{Refusal, Shape};
 use std::alloc::{AllocError, Global};
 use std::test::Fail;
+use step_table::ended::Ended;
+use step_threads::call::{Actor, Call, CellName, Kind, Name, Program};
+use step_threads::said::{Answer, Stepped, Turned};
 
 const A: Name = Name(0);
 

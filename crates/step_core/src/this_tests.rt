@@ -1,11 +1,12 @@
 //! Worlds whose objects give pointers to themselves.
 
-use crate::call::{Call, Name};
 use crate::reading_tests::{says, world};
-use crate::said::{Answer, Ended, Stepped, Turned};
 use crate::step_tests::{said, step, turn};
 use control_word::Refusal;
 use std::test::Fail;
+use step_table::ended::Ended;
+use step_threads::call::{Call, Name};
+use step_threads::said::{Answer, Stepped, Turned};
 
 const A: Name = Name(0);
 

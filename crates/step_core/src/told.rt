@@ -2,8 +2,8 @@
 ghost use Rattle.std.specs.Prelude.{◌≡◌};
 ghost use Rattle.step_core.specs.Told.{ends_by, makes};
 
-use crate::half::Half;
-use crate::said::Stepped;
+use step_threads::half::Half;
+use step_threads::said::Stepped;
 
 /// How many objects a step made, of a thread that had begun this.
 pub(crate) fn makes(half: Half, stepped: Stepped) -> u32

@@ -1,9 +1,9 @@
 //! What a run of a world answers.
 ghost use Rattle.std.specs.Prelude.{◌≡◌};
 
-use crate::said::Stepped;
 use control_word::Refusal;
 use std::alloc::AllocError;
+use step_threads::said::Stepped;
 
 /// A step of a run: the number of the actor that made it, from 1, and what it was.
 #[derive(Clone, Copy, Debug, PartialEq, Eq)]

@@ -1,12 +1,14 @@
 //! Short programs of aliases, moves, places and owner order.
 
-use crate::call::{Actor, Call, Field, Kind, Name};
-use crate::said::{Answer, Ended};
 use crate::world_tests::{Line, nothing_is_left, turns, world};
 use control_word::{Block, Place};
 use std::alloc::{AllocError, Global};
 use std::process::Abort;
 use std::test::Fail;
+use step_table::ended::Ended;
+use step_table::field::Field;
+use step_threads::call::{Actor, Call, Kind, Name};
+use step_threads::said::Answer;
 
 const A: Name = Name(0);
 

@@ -1,12 +1,13 @@
 //! Short programs with weak pointers.
 
-use crate::call::{Actor, Call, Kind, Name};
-use crate::said::{Answer, Ended, Stepped, Turned};
 use crate::step_tests::{makes, said, step, turn};
 use crate::world_tests::{nothing_is_left, turns, world};
 use control_word::Refusal;
 use std::alloc::{AllocError, Global};
 use std::test::Fail;
+use step_table::ended::Ended;
+use step_threads::call::{Actor, Call, Kind, Name};
+use step_threads::said::{Answer, Stepped, Turned};
 
 const A: Name = Name(0);
 

@@ -1,15 +1,15 @@
 //! The machine: a table and the threads over it.
 ghost use Rattle.std.specs.Prelude.{◌≡◌, ◌<◌, ◌≤◌, ◌-◌, length, true, false};
-ghost use Rattle.step_core.specs.Stories.{Kept};
+ghost use Rattle.step_table.specs.Stories.{Kept};
 ghost use Rattle.step_core.specs.Turning.{HasBegun, Plays, Prepares, Rests, has_rest, is_brought, is_ending, is_event, is_giving, is_locking, is_making, is_preparing, is_returning, turned_by};
 ghost use Rattle.step_core.specs.Worlds.{GoesTo, Steps, Turns, half_of};
 
-use crate::half::Half;
-use crate::said::{Stepped, Turned};
-use crate::table::Table;
-use crate::thread::Thread;
 use crate::told::{ends, makes};
 use std::marker::Model;
+use step_table::table::Table;
+use step_threads::half::Half;
+use step_threads::said::{Stepped, Turned};
+use step_threads::thread::Thread;
 
 /// Threads over one table. Thread d has what desk d has.
 #[derive(Drop)]

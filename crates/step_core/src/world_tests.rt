@@ -3,15 +3,16 @@ ghost use Rattle.std.specs.Prelude.{◌≡◌, All, IsTrue, length};
 ghost use Rattle.step_core.specs.Told.{HasEnded};
 ghost use Rattle.step_core.specs.Totals.{IsAtEnd};
 
-use crate::call::{Actor, Call, Kind, Name, Program};
-use crate::half::Half;
-use crate::said::{Answer, Ended, Turned};
-use crate::thread::Thread;
 use crate::world::World;
 use control_word::{Block, Refusal, Shape};
 use std::alloc::{AllocError, Global};
 use std::process::Abort;
 use std::test::Fail;
+use step_table::ended::Ended;
+use step_threads::call::{Actor, Call, Kind, Name, Program};
+use step_threads::half::Half;
+use step_threads::said::{Answer, Turned};
+use step_threads::thread::Thread;
 
 const A: Name = Name(0);
 

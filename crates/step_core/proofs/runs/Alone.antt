@@ -4,22 +4,20 @@ use Rattle.std.specs.Prelude.{Option, Some, None, is_some, option_map}
 use Rattle.std.proofs.lemmas.Bool.{eq-eqb}
 use Rattle.control_word.specs.declared.handle.Kind.{Kind}
 use Rattle.control_word.specs.declared.handle.Kind.TheVariants.{Owner, Weak}
-use Rattle.step_core.specs.declared.act.Act.{Act}
-use Rattle.step_core.specs.declared.act.Task.{Task}
-use Rattle.step_core.specs.declared.half.Half.{Half}
-use Rattle.step_core.specs.declared.half.Half.TheVariants.{Rest, Making, Locking, Giving, Brought, Returning}
-use Rattle.step_core.specs.declared.holdings.Pointer.{Pointer}
-use Rattle.step_core.specs.declared.past.Deed.{Deed}
-use Rattle.step_core.specs.declared.said.Stepped.{Stepped}
-use Rattle.step_core.specs.declared.said.Stepped.TheVariants as stepped
+use Rattle.step_threads.specs.declared.act.Act.{Act}
+use Rattle.step_threads.specs.declared.act.Task.{Task}
+use Rattle.step_threads.specs.declared.half.Half.{Half}
+use Rattle.step_threads.specs.declared.half.Half.TheVariants.{Rest, Making, Locking, Giving, Brought, Returning}
+use Rattle.step_table.specs.declared.holdings.Pointer.{Pointer}
+use Rattle.step_table.specs.declared.past.Deed.{Deed}
+use Rattle.step_threads.specs.declared.said.Stepped.{Stepped}
+use Rattle.step_threads.specs.declared.said.Stepped.TheVariants as stepped
 use Rattle.step_core.specs.Bounds.{spare, walk_steps}
-use Rattle.step_core.specs.Courses.{Walk, locked}
-use Rattle.step_core.specs.Deeds.{is_last, leave, leave_as, owned, owner_word}
-use Rattle.step_core.specs.Entries.{on}
-use Rattle.step_core.specs.Scenes.{ended_by, left as leaves_by, remains_as}
-use Rattle.step_core.specs.Steps.{Step, acts}
-use Rattle.step_core.specs.Steps.{stepped as stepped_by, story_after}
-use Rattle.step_core.specs.Stories.{Story, state}
+use Rattle.step_threads.specs.Courses.{Walk, locked}
+use Rattle.step_table.specs.Deeds.{is_last, leave, leave_as, owned, owner_word, on}
+use Rattle.step_threads.specs.Scenes.{ended_by, left as leaves_by, remains_as}
+use Rattle.step_threads.specs.Steps.{Step, acts, stepped as stepped_by, story_after}
+use Rattle.step_table.specs.Stories.{Story, state}
 use Rattle.step_core.specs.Told.{ends_by, is_prepared, makes}
 use Rattle.step_core.proofs.telling.Walking.{ends_at, went_plain}
 

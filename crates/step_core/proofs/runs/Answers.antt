@@ -11,32 +11,31 @@ use Rattle.control_word.specs.declared.handle.Kind.TheVariants.{Owner, Weak}
 use Rattle.control_word.specs.declared.place.Block.{Block}
 use Rattle.control_word.specs.Histories.{entry}
 use Rattle.control_word.specs.State.{State, weak}
-use Rattle.step_core.specs.declared.act.Act.{Act}
-use Rattle.step_core.specs.declared.act.Act.TheVariants.{Make, Share, Downgrade, Lock, Put, Leave, Clear, Count, Expired, Read, FromThis, Alias, Move, Ask, Offer, Swap, Exchange, Drop}
-use Rattle.step_core.specs.declared.act.Task.{Task}
-use Rattle.step_core.specs.declared.half.Half.{Half}
-use Rattle.step_core.specs.declared.half.Half.TheVariants.{Rest, Making, Locking, Giving, Brought, Returning}
-use Rattle.step_core.specs.declared.holdings.Pointer.{Pointer}
-use Rattle.step_core.specs.declared.past.Deed.{Deed}
-use Rattle.step_core.specs.declared.past.Deed.TheVariants as deed
-use Rattle.step_core.specs.declared.said.Answer.{Answer}
-use Rattle.step_core.specs.declared.said.Stepped.{Stepped}
-use Rattle.step_core.specs.declared.said.Stepped.TheVariants as stepped
+use Rattle.step_threads.specs.declared.act.Act.{Act}
+use Rattle.step_threads.specs.declared.act.Act.TheVariants.{Make, Share, Downgrade, Lock, Put, Leave, Clear, Count, Expired, Read, FromThis, Alias, Move, Ask, Offer, Swap, Exchange, Drop}
+use Rattle.step_threads.specs.declared.act.Task.{Task}
+use Rattle.step_threads.specs.declared.half.Half.{Half}
+use Rattle.step_threads.specs.declared.half.Half.TheVariants.{Rest, Making, Locking, Giving, Brought, Returning}
+use Rattle.step_table.specs.declared.holdings.Pointer.{Pointer}
+use Rattle.step_table.specs.declared.past.Deed.{Deed}
+use Rattle.step_table.specs.declared.past.Deed.TheVariants as deed
+use Rattle.step_threads.specs.declared.said.Answer.{Answer}
+use Rattle.step_threads.specs.declared.said.Stepped.{Stepped}
+use Rattle.step_threads.specs.declared.said.Stepped.TheVariants as stepped
 use Rattle.step_core.specs.declared.trace.TraceStep.{TraceStep}
-use Rattle.step_core.specs.Actors.{wanted}
-use Rattle.step_core.specs.declared.ending.Ending.{Ending}
-use Rattle.step_core.specs.Courses.{Going, Walk, form_of, going, hand, locked, offered, on_going, other}
-use Rattle.step_core.specs.Deeds.{is_enabled, read, as_owner, downgrade, is_expired, is_last, leave, leave_as, lock, owner_word, share, share_as, tell, tell_expired, alias, aliased}
-use Rattle.step_core.specs.Endings.{staged}
+use Rattle.step_threads.specs.Actors.{wanted}
+use Rattle.step_threads.specs.declared.ending.Ending.{Ending}
+use Rattle.step_threads.specs.Courses.{Going, Walk, form_of, going, hand, locked, offered, on_going, other}
+use Rattle.step_table.specs.Deeds.{is_enabled, read, as_owner, downgrade, is_expired, is_last, leave, leave_as, lock, owner_word, share, share_as, tell, tell_expired, alias, aliased, on}
+use Rattle.step_threads.specs.Endings.{staged}
 use Rattle.step_core.specs.Headline.{TellsLocks, Was, answer_by}
-use Rattle.step_core.specs.Holdings.{inside, is_full, slot, owner_slot, place_in}
-use Rattle.step_core.specs.Entries.{least, on}
-use Rattle.step_core.specs.Scenes.{found, lock_answer, walk_of}
-use Rattle.step_core.specs.Steps.{asks, at_rest, brings, given as given_by, Step, acts, begins, begun, claims, ends_on, first, is_event, looks, made_on, prepares}
-use Rattle.step_core.specs.Steps.{sends, sent, silent, step_at, stepped as stepped_by, story_after, story_by, swaps, tried, tries, trying, with_endings}
-use Rattle.step_core.specs.Stories.{Nothing, Story, added, event_of, known, object_in, pending, state}
+use Rattle.step_table.specs.Holdings.{inside, is_full, slot, owner_slot, place_in}
+use Rattle.step_threads.specs.Entries.{least}
+use Rattle.step_threads.specs.Scenes.{found, lock_answer, walk_of}
+use Rattle.step_threads.specs.Steps.{asks, at_rest, brings, given as given_by, Step, acts, begins, begun, claims, ends_on, first, is_event, looks, made_on, prepares, sends, sent, silent, step_at, stepped as stepped_by, story_after, story_by, swaps, tried, tries, trying, with_endings}
+use Rattle.step_table.specs.Stories.{Nothing, Story, added, event_of, known, object_in, pending, state}
 use Rattle.step_core.specs.Worlds.{Sight, half_of, scene, step_of}
-use Rattle.step_core.proofs.tables.CellDeeds.{by_event}
+use Rattle.step_table.proofs.tables.CellDeeds.{by_event}
 use Rattle.step_core.proofs.runs.Headline.{IsStep}
 
 -- what a deed gave that is a lock

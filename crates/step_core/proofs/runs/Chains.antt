@@ -3,11 +3,11 @@ use Rattle.std.proofs.Common.{◌≡◌, ◌≢◌, ℕ, zero, suc, ◌+◌, ◌
 use Rattle.std.specs.Prelude.{All}
 use Rattle.std.proofs.lemmas.List.{append-nil, map_push, take_more}
 use Rattle.std.proofs.lemmas.List.Elements.{All-append, All-cons, All-nil}
-use Rattle.step_core.specs.declared.said.Stepped.{Stepped}
-use Rattle.step_core.specs.declared.said.Stepped.TheVariants.{Done}
+use Rattle.step_threads.specs.declared.said.Stepped.{Stepped}
+use Rattle.step_threads.specs.declared.said.Stepped.TheVariants.{Done}
 use Rattle.step_core.specs.declared.trace.TraceStep.{TraceStep}
 use Rattle.step_core.specs.Runs.{Adds, IsOver, IsRun, IsStepOf, RunInOrder, RunsToEnd}
-use Rattle.step_core.specs.Stories.{Kept}
+use Rattle.step_table.specs.Stories.{Kept}
 use Rattle.step_core.specs.Worlds.{Sight, Steps}
 
 pub run_joined : (u m w : Sight) (xs ys : List TraceStep) → IsRun u xs m → IsRun m ys w → IsRun u (xs ++ ys) w

@@ -4,14 +4,14 @@ use Rattle.std.proofs.Common.{get_or-set_other}
 use Rattle.std.specs.Prelude.{All}
 use Rattle.std.proofs.lemmas.Bool.{cases_eq}
 use Rattle.std.proofs.lemmas.List.Elements.{All-from_get_or, All-head, All-tail}
-use Rattle.step_core.specs.declared.half.Half.{Half}
-use Rattle.step_core.specs.declared.half.Half.TheVariants.{Rest}
-use Rattle.step_core.specs.declared.said.Stepped.{Stepped}
+use Rattle.step_threads.specs.declared.half.Half.{Half}
+use Rattle.step_threads.specs.declared.half.Half.TheVariants.{Rest}
+use Rattle.step_threads.specs.declared.said.Stepped.{Stepped}
 use Rattle.step_core.specs.declared.trace.TraceStep.{TraceStep}
-use Rattle.step_core.specs.Courses.{Walk}
+use Rattle.step_threads.specs.Courses.{Walk}
 use Rattle.step_core.specs.Runs.{Adds, IsOver, IsRun, IsStepOf, RunInOrder, RunsToEnd}
-use Rattle.step_core.specs.Scenes.{nowhere, walk_of}
-use Rattle.step_core.specs.Steps.{half_by, walk_by}
+use Rattle.step_threads.specs.Scenes.{nowhere, walk_of}
+use Rattle.step_threads.specs.Steps.{half_by, walk_by}
 use Rattle.step_core.specs.Totals.{IsAtEnd}
 use Rattle.step_core.specs.Worlds.{Sight, Steps, half_of, scene, step_of}
 

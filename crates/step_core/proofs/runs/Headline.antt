@@ -13,14 +13,14 @@ use Rattle.control_word.specs.State.{count}
 use Rattle.control_word.proofs.history.Given.{given_over, live_while_owned, over}
 use Rattle.control_word.proofs.history.Made.{gives_once}
 use Rattle.control_word.proofs.views.Resting.{rests_exactly}
-use Rattle.step_core.specs.declared.extent.Extent.{Extent}
-use Rattle.step_core.specs.declared.past.Deed.{Deed}
+use Rattle.step_table.specs.declared.extent.Extent.{Extent}
+use Rattle.step_table.specs.declared.past.Deed.{Deed}
 use Rattle.step_core.specs.declared.trace.TraceStep.{TraceStep}
 use Rattle.step_core.specs.Headline.{AfterEach, CameOut, CountsAtRest, LastLeft, LocksWhereOwned, OfEach, ValuesAtLastLeave, ValuesOnce, Was}
-use Rattle.step_core.specs.Openings.{opening}
+use Rattle.step_table.specs.Openings.{opening}
 use Rattle.step_core.specs.Runs.{IsRun, reached}
-use Rattle.step_core.specs.Steps.{Step, story_after, story_by}
-use Rattle.step_core.specs.Stories.{Kept, Nothing, Story, added, event_of, state}
+use Rattle.step_threads.specs.Steps.{Step, story_after, story_by}
+use Rattle.step_table.specs.Stories.{Kept, Nothing, Story, added, event_of, state}
 use Rattle.step_core.specs.Totals.{is_last}
 use Rattle.step_core.specs.Worlds.{Sight, Steps, step_of}
 

@@ -6,28 +6,27 @@ use Rattle.std.proofs.lemmas.List.Elements.{All-head}
 use Rattle.control_word.specs.declared.handle.Kind.{Kind}
 use Rattle.control_word.specs.declared.place.Block.{Block}
 use Rattle.control_word.specs.State.{weak}
-use Rattle.step_core.specs.declared.act.Act.{Act}
-use Rattle.step_core.specs.declared.act.Form.{Form}
-use Rattle.step_core.specs.declared.act.Act.TheVariants.{Make, Share, Downgrade, Lock, Put, Leave, Clear, Count, Expired, Read, FromThis, Alias, Move, Ask, Offer, Swap, Exchange, Drop}
-use Rattle.step_core.specs.declared.act.Task.{Task}
-use Rattle.step_core.specs.declared.ending.Ending.{Ending}
-use Rattle.step_core.specs.declared.half.Half.{Half}
-use Rattle.step_core.specs.declared.half.Half.TheVariants.{Rest, Making, Locking, Giving, Brought, Returning}
-use Rattle.step_core.specs.declared.holdings.Pointer.{Pointer}
-use Rattle.step_core.specs.declared.past.Deed.TheVariants as deed
-use Rattle.step_core.specs.Actors.{wanted}
+use Rattle.step_threads.specs.declared.act.Act.{Act}
+use Rattle.step_table.specs.declared.form.Form.{Form}
+use Rattle.step_threads.specs.declared.act.Act.TheVariants.{Make, Share, Downgrade, Lock, Put, Leave, Clear, Count, Expired, Read, FromThis, Alias, Move, Ask, Offer, Swap, Exchange, Drop}
+use Rattle.step_threads.specs.declared.act.Task.{Task}
+use Rattle.step_threads.specs.declared.ending.Ending.{Ending}
+use Rattle.step_threads.specs.declared.half.Half.{Half}
+use Rattle.step_threads.specs.declared.half.Half.TheVariants.{Rest, Making, Locking, Giving, Brought, Returning}
+use Rattle.step_table.specs.declared.holdings.Pointer.{Pointer}
+use Rattle.step_table.specs.declared.past.Deed.TheVariants as deed
+use Rattle.step_threads.specs.Actors.{wanted}
 use Rattle.step_core.specs.Bounds.{spare, walk_steps, weight}
 use Rattle.control_word.specs.declared.cell.CellWord.{CellWord}
-use Rattle.step_core.specs.Contents.{seen}
-use Rattle.step_core.specs.Courses.{Going, Walk, cell_at, form_of, going, hand, kind_at, locked, offered, on_going, other, settled}
-use Rattle.step_core.specs.Deeds.{alias, aliased, downgrade, give, is_enabled, lock, owned, owner_word, read, share, tell, tell_expired}
-use Rattle.step_core.specs.Endings.{staged}
-use Rattle.step_core.specs.Holdings.{inside, is_full, owner_slot, place_in, slot}
-use Rattle.step_core.specs.Entries.{least, on}
-use Rattle.step_core.specs.Scenes.{holding, left as leaves_by, went}
-use Rattle.step_core.specs.Steps.{Step, acts, asks, at_rest, begins, begun, brings, claims, ends_on, first, given, gives_back, looks, made_on, prepares}
-use Rattle.step_core.specs.Steps.{sends, sent, silent, step_at, stepped as stepped_by, story_after, swaps, tried, tries, trying, with_endings}
-use Rattle.step_core.specs.Stories.{Story, known, object_in, pending, state}
+use Rattle.step_table.specs.Contents.{seen}
+use Rattle.step_threads.specs.Courses.{Going, Walk, cell_at, form_of, going, hand, kind_at, locked, offered, on_going, other, settled}
+use Rattle.step_table.specs.Deeds.{alias, aliased, downgrade, give, is_enabled, lock, owned, owner_word, read, share, tell, tell_expired, on}
+use Rattle.step_threads.specs.Endings.{staged}
+use Rattle.step_table.specs.Holdings.{inside, is_full, owner_slot, place_in, slot}
+use Rattle.step_threads.specs.Entries.{least}
+use Rattle.step_threads.specs.Scenes.{holding, left as leaves_by, went}
+use Rattle.step_threads.specs.Steps.{Step, acts, asks, at_rest, begins, begun, brings, claims, ends_on, first, given, gives_back, looks, made_on, prepares, sends, sent, silent, step_at, stepped as stepped_by, story_after, swaps, tried, tries, trying, with_endings}
+use Rattle.step_table.specs.Stories.{Story, known, object_in, pending, state}
 use Rattle.step_core.specs.Told.{is_prepared}
 use Rattle.step_core.specs.Turning.{IsAlone, IsLock, IsSwap, IsTried, IsUnderWay}
 use Rattle.step_core.proofs.telling.Walking.{IsFree, carried_leaves, over_less, settled_alone, staged_less, walk_alone, weight_two, went_less}

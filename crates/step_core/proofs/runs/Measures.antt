@@ -5,17 +5,17 @@ use Rattle.std.specs.Prelude.{Option, Some, None, slice_set}
 use Rattle.std.proofs.lemmas.Bool.{cond_both}
 use Rattle.std.proofs.lemmas.List.{set-get_or}
 use Rattle.std.proofs.lemmas.List.Sums.{get_or-le-sum_by, sum_by-set}
-use Rattle.step_core.specs.declared.half.Half.{Half}
-use Rattle.step_core.specs.declared.half.Half.TheVariants.{Rest}
-use Rattle.step_core.specs.declared.said.Stepped.{Stepped}
-use Rattle.step_core.specs.declared.said.Stepped.TheVariants.{Event, Quiet, Done}
+use Rattle.step_threads.specs.declared.half.Half.{Half}
+use Rattle.step_threads.specs.declared.half.Half.TheVariants.{Rest}
+use Rattle.step_threads.specs.declared.said.Stepped.{Stepped}
+use Rattle.step_threads.specs.declared.said.Stepped.TheVariants.{Event, Quiet, Done}
 use Rattle.step_core.specs.Bounds.{living, most_steps, spare, walk_steps}
-use Rattle.step_core.specs.Courses.{Walk}
-use Rattle.step_core.specs.Openings.{opening}
+use Rattle.step_threads.specs.Courses.{Walk}
+use Rattle.step_table.specs.Openings.{opening}
 use Rattle.step_core.specs.Runs.{IsOver}
-use Rattle.step_core.specs.Scenes.{nowhere, walk_of}
-use Rattle.step_core.specs.Steps.{Step, is_event, story_after, story_by, stepped}
-use Rattle.step_core.specs.Stories.{Kept, Story}
+use Rattle.step_threads.specs.Scenes.{nowhere, walk_of}
+use Rattle.step_threads.specs.Steps.{Step, is_event, story_after, story_by, stepped}
+use Rattle.step_table.specs.Stories.{Kept, Story}
 use Rattle.step_core.specs.Told.{ends_by, makes}
 use Rattle.step_core.specs.Turning.{HasBegun}
 use Rattle.step_core.specs.Worlds.{Sight, Steps, half_of, scene, sight_by, step_of}

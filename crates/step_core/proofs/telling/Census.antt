@@ -19,15 +19,15 @@ use Rattle.control_word.specs.Layout.{spot}
 use Rattle.control_word.specs.Packing.{number_of}
 use Rattle.control_word.specs.State.{InShape, IsVacant, Opening, Phase, State, common, count, ending, gone, live, unmade, weak, weak_number}
 use Rattle.control_word.specs.Views.{IsAtRest, NamesBlock, used_up}
-use Rattle.step_core.specs.declared.half.Half.{Half}
-use Rattle.step_core.specs.declared.half.Half.TheVariants.{Rest}
-use Rattle.step_core.specs.declared.thread.Thread.{Thread}
-use Rattle.step_core.specs.Actors.{HalfFits}
-use Rattle.step_core.specs.Courses.{Walk, task_at}
-use Rattle.step_core.specs.Openings.{opening}
-use Rattle.step_core.specs.Scenes.{nowhere}
-use Rattle.step_core.specs.Stories.{Kept, Nothing, Story, pending, state}
-use Rattle.step_core.specs.Endings.{endings_of}
+use Rattle.step_threads.specs.declared.half.Half.{Half}
+use Rattle.step_threads.specs.declared.half.Half.TheVariants.{Rest}
+use Rattle.step_threads.specs.declared.thread.Thread.{Thread}
+use Rattle.step_threads.specs.Actors.{HalfFits}
+use Rattle.step_threads.specs.Courses.{Walk, task_at}
+use Rattle.step_table.specs.Openings.{opening}
+use Rattle.step_threads.specs.Scenes.{nowhere}
+use Rattle.step_table.specs.Stories.{Kept, Nothing, Story, pending, state}
+use Rattle.step_threads.specs.Endings.{endings_of}
 use Rattle.step_core.specs.Told.{IsTold, sight}
 use Rattle.step_core.specs.Totals.{IsAtEnd, census_of, counts_in}
 use Rattle.step_core.specs.Worlds.{AllFit, Sight, thread_half, thread_walk}

@@ -4,30 +4,29 @@ use Rattle.std.specs.Prelude.{Option, Some, None, is_some, option_map}
 use Rattle.std.proofs.lemmas.Bool.{cond_both}
 use Rattle.control_word.specs.declared.place.Block.{Block}
 use Rattle.control_word.specs.State.{weak}
-use Rattle.step_core.specs.declared.act.Act.{Act}
-use Rattle.step_core.specs.declared.act.Form.{Form}
-use Rattle.step_core.specs.declared.act.Act.TheVariants.{Make, Share, Downgrade, Lock, Put, Leave, Clear, Count, Expired, Read, FromThis, Alias, Move, Ask, Offer, Swap, Exchange, Drop}
-use Rattle.step_core.specs.declared.act.Task.{Task}
-use Rattle.step_core.specs.declared.half.Half.{Half}
-use Rattle.step_core.specs.declared.half.Half.TheVariants.{Rest, Making, Locking, Giving, Brought, Returning}
-use Rattle.step_core.specs.declared.holdings.Pointer.{Pointer}
-use Rattle.step_core.specs.declared.past.Deed.TheVariants as deed
-use Rattle.step_core.specs.declared.said.Answer.{Answer}
-use Rattle.step_core.specs.declared.said.Ended.{Ended}
-use Rattle.step_core.specs.Actors.{wanted}
-use Rattle.step_core.specs.declared.ending.Ending.{Ending}
+use Rattle.step_threads.specs.declared.act.Act.{Act}
+use Rattle.step_table.specs.declared.form.Form.{Form}
+use Rattle.step_threads.specs.declared.act.Act.TheVariants.{Make, Share, Downgrade, Lock, Put, Leave, Clear, Count, Expired, Read, FromThis, Alias, Move, Ask, Offer, Swap, Exchange, Drop}
+use Rattle.step_threads.specs.declared.act.Task.{Task}
+use Rattle.step_threads.specs.declared.half.Half.{Half}
+use Rattle.step_threads.specs.declared.half.Half.TheVariants.{Rest, Making, Locking, Giving, Brought, Returning}
+use Rattle.step_table.specs.declared.holdings.Pointer.{Pointer}
+use Rattle.step_table.specs.declared.past.Deed.TheVariants as deed
+use Rattle.step_threads.specs.declared.said.Answer.{Answer}
+use Rattle.step_table.specs.declared.ended.Ended.{Ended}
+use Rattle.step_threads.specs.Actors.{wanted}
+use Rattle.step_threads.specs.declared.ending.Ending.{Ending}
 use Rattle.step_core.specs.Bounds.{walk_steps, weight}
-use Rattle.step_core.specs.Courses.{Going, Walk, form_of, going, hand, locked, offered, on_going, other, settled}
-use Rattle.step_core.specs.Endings.{staged}
-use Rattle.step_core.specs.Holdings.{inside, is_full, owner_slot, place_in, slot}
-use Rattle.step_core.specs.Entries.{least, on}
-use Rattle.step_core.specs.Scenes.{answer_of, ended_of, holding, left as leaves_by, went}
-use Rattle.step_core.specs.Steps.{asks, at_rest, brings, given, Step, acts, begins, begun, claims, ends_on, first, looks, made_on, prepares, sends, sent, swaps, tried, tries, trying, with_endings}
-use Rattle.step_core.specs.Steps.{silent, step_at}
-use Rattle.step_core.specs.Deeds.{give, is_enabled, lock, owner_word, aliased}
+use Rattle.step_threads.specs.Courses.{Going, Walk, form_of, going, hand, locked, offered, on_going, other, settled}
+use Rattle.step_threads.specs.Endings.{staged}
+use Rattle.step_table.specs.Holdings.{inside, is_full, owner_slot, place_in, slot}
+use Rattle.step_threads.specs.Entries.{least}
+use Rattle.step_table.specs.Deeds.{on, give, is_enabled, lock, owner_word, aliased}
+use Rattle.step_threads.specs.Scenes.{answer_of, ended_of, holding, left as leaves_by, went}
+use Rattle.step_threads.specs.Steps.{asks, at_rest, brings, given, Step, acts, begins, begun, claims, ends_on, first, looks, made_on, prepares, sends, sent, swaps, tried, tries, trying, with_endings, silent, step_at}
 use Rattle.control_word.specs.declared.handle.Kind.{Kind}
 use Rattle.control_word.specs.declared.handle.Kind.TheVariants.{Owner, Weak}
-use Rattle.step_core.specs.Stories.{Story, known, object_in, pending, state}
+use Rattle.step_table.specs.Stories.{Story, known, object_in, pending, state}
 use Rattle.step_core.specs.Told.{is_prepared}
 use Rattle.step_core.specs.Totals.{made_in}
 use Rattle.step_core.specs.Turning.{IsAlone, IsUnderWay}

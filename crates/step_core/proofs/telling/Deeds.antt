@@ -4,20 +4,19 @@ use Rattle.std.specs.Prelude.{Option, Some, None, is_some, option_map}
 use Rattle.control_word.specs.declared.event.Event.TheVariants as event
 use Rattle.control_word.specs.declared.place.Place.{Place}
 use Rattle.control_word.specs.Histories.{entry}
-use Rattle.step_core.specs.declared.act.Act.TheVariants.{Leave}
-use Rattle.step_core.specs.declared.half.Half.{Half}
-use Rattle.step_core.specs.declared.half.Half.TheVariants.{Rest}
-use Rattle.step_core.specs.declared.holdings.Pointer.{Pointer}
-use Rattle.step_core.specs.declared.said.Answer.{Answer}
+use Rattle.step_threads.specs.declared.act.Act.TheVariants.{Leave}
+use Rattle.step_threads.specs.declared.half.Half.{Half}
+use Rattle.step_threads.specs.declared.half.Half.TheVariants.{Rest}
+use Rattle.step_table.specs.declared.holdings.Pointer.{Pointer}
+use Rattle.step_threads.specs.declared.said.Answer.{Answer}
 use Rattle.step_core.specs.Bounds.{walk_steps}
-use Rattle.step_core.specs.Courses.{Walk}
-use Rattle.step_core.specs.Scenes.{ended_by, remains, remains_as}
-use Rattle.step_core.specs.Steps.{Step}
-use Rattle.step_core.specs.Steps.{silent, stepped, story_by, walk_by}
-use Rattle.step_core.specs.Deeds.{read, downgrade, is_last as is_last_of, leave, leave_as, lock, owned, share, share_as, tell, tell_expired, alias}
+use Rattle.step_threads.specs.Courses.{Walk}
+use Rattle.step_threads.specs.Scenes.{ended_by, remains_as}
+use Rattle.step_table.specs.Deeds.{remains, read, downgrade, is_last as is_last_of, leave, leave_as, lock, owned, share, share_as, tell, tell_expired, alias}
+use Rattle.step_threads.specs.Steps.{Step, silent, stepped, story_by, walk_by}
 use Rattle.control_word.specs.declared.handle.Kind.{Kind}
 use Rattle.control_word.specs.declared.handle.Kind.TheVariants.{Owner, Weak}
-use Rattle.step_core.specs.Stories.{Story, owner_in, state}
+use Rattle.step_table.specs.Stories.{Story, owner_in, state}
 use Rattle.step_core.specs.Told.{ends_by, is_prepared, makes}
 use Rattle.step_core.specs.Totals.{ended_in, made_in}
 use Rattle.step_core.proofs.telling.Order.{ended_more}

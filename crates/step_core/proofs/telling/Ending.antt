@@ -8,30 +8,29 @@ use Rattle.control_word.specs.declared.handle.Kind.{Kind}
 use Rattle.control_word.specs.declared.handle.Kind.TheVariants.{Owner, Weak}
 use Rattle.control_word.specs.declared.place.Block.{Block}
 use Rattle.control_word.specs.State.{common, ending, gone, live, weak}
-use Rattle.step_core.specs.declared.act.Act.{Act}
-use Rattle.step_core.specs.declared.act.Form.{Form}
-use Rattle.step_core.specs.declared.act.Act.TheVariants.{Make, Share, Downgrade, Lock, Put, Leave, Clear, Count, Expired, Read, FromThis, Alias, Move, Ask, Offer, Swap, Exchange, Drop}
-use Rattle.step_core.specs.declared.act.Task.{Task}
-use Rattle.step_core.specs.declared.ending.Ending.{Ending}
-use Rattle.step_core.specs.declared.half.Half.{Half}
-use Rattle.step_core.specs.declared.half.Half.TheVariants.{Rest, Making, Locking, Giving, Brought, Returning}
-use Rattle.step_core.specs.declared.holdings.Pointer.{Pointer}
-use Rattle.step_core.specs.declared.past.Deed.TheVariants as deed
-use Rattle.step_core.specs.declared.said.Said.{Said}
-use Rattle.step_core.specs.Actors.{wanted}
-use Rattle.step_core.specs.declared.cell_deed.CellDeed.TheVariants as cell_deed
-use Rattle.step_core.specs.Courses.{Walk, form_of, going, hand, locked, offered, other}
-use Rattle.step_core.specs.Deeds.{alias, aliased, downgrade, is_last, leave, leave_as, read, share, tell, tell_expired}
-use Rattle.step_core.specs.Endings.{endings_of, staged}
-use Rattle.step_core.specs.Holdings.{inside, is_full, owner_slot, place_in, slot}
-use Rattle.step_core.specs.Openings.{opening}
-use Rattle.step_core.specs.Entries.{least, on}
-use Rattle.step_core.specs.Scenes.{begins_end, begins_end_as, endings_by, hands, holding, went}
-use Rattle.step_core.specs.Steps.{Step, asks, at_rest, begins, begun, claims, ends_on, first, made_on, prepares, silent}
-use Rattle.step_core.specs.Steps.{step_at, story_by, with_endings}
-use Rattle.step_core.specs.Stories.{Kept, Story, known, object_in, pending, state}
+use Rattle.step_threads.specs.declared.act.Act.{Act}
+use Rattle.step_table.specs.declared.form.Form.{Form}
+use Rattle.step_threads.specs.declared.act.Act.TheVariants.{Make, Share, Downgrade, Lock, Put, Leave, Clear, Count, Expired, Read, FromThis, Alias, Move, Ask, Offer, Swap, Exchange, Drop}
+use Rattle.step_threads.specs.declared.act.Task.{Task}
+use Rattle.step_threads.specs.declared.ending.Ending.{Ending}
+use Rattle.step_threads.specs.declared.half.Half.{Half}
+use Rattle.step_threads.specs.declared.half.Half.TheVariants.{Rest, Making, Locking, Giving, Brought, Returning}
+use Rattle.step_table.specs.declared.holdings.Pointer.{Pointer}
+use Rattle.step_table.specs.declared.past.Deed.TheVariants as deed
+use Rattle.step_threads.specs.declared.said.Said.{Said}
+use Rattle.step_threads.specs.Actors.{wanted}
+use Rattle.step_table.specs.declared.cell_deed.CellDeed.TheVariants as cell_deed
+use Rattle.step_threads.specs.Courses.{Walk, form_of, going, hand, locked, offered, other}
+use Rattle.step_table.specs.Deeds.{alias, aliased, downgrade, is_last, leave, leave_as, read, share, tell, tell_expired, on}
+use Rattle.step_threads.specs.Endings.{endings_of, staged}
+use Rattle.step_table.specs.Holdings.{inside, is_full, owner_slot, place_in, slot}
+use Rattle.step_table.specs.Openings.{opening}
+use Rattle.step_threads.specs.Entries.{least}
+use Rattle.step_threads.specs.Scenes.{begins_end, begins_end_as, endings_by, hands, holding, went}
+use Rattle.step_threads.specs.Steps.{Step, asks, at_rest, begins, begun, claims, ends_on, first, made_on, prepares, silent, step_at, story_by, with_endings}
+use Rattle.step_table.specs.Stories.{Kept, Story, known, object_in, pending, state}
 use Rattle.step_core.specs.Told.{AllEnd}
-use Rattle.step_core.proofs.tables.Places.{owner_busy, there}
+use Rattle.step_table.proofs.tables.Places.{owner_busy, there}
 use Rattle.step_core.proofs.telling.Walking.{settled_endings}
 use Rattle.step_core.proofs.telling.Still.{Follows, Lists, Right, asked, done_on, end_put, given_on, going_in, looked, passes, plain, same, sent_on, shared, tried_on, within}
 

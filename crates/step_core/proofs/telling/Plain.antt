@@ -5,30 +5,30 @@ use Rattle.std.proofs.lemmas.Bool.{cond_both}
 use Rattle.control_word.specs.declared.handle.Kind.{Kind}
 use Rattle.control_word.specs.declared.handle.Kind.TheVariants.{Owner, Weak}
 use Rattle.control_word.specs.declared.place.Block.{Block}
-use Rattle.step_core.specs.declared.act.Act.{Act}
-use Rattle.step_core.specs.declared.act.Act.TheVariants.{Make, Share, Downgrade, Lock, Put, Leave, Clear, Count, Expired, Read, FromThis, Alias, Move, Ask, Offer, Swap, Exchange, Drop}
-use Rattle.step_core.specs.declared.act.Task.{Task}
-use Rattle.step_core.specs.declared.ending.Ending.{Ending}
-use Rattle.step_core.specs.declared.half.Half.{Half}
-use Rattle.step_core.specs.declared.half.Half.TheVariants.{Rest, Making, Locking, Giving, Brought, Returning}
-use Rattle.step_core.specs.declared.holdings.Pointer.{Pointer}
-use Rattle.step_core.specs.declared.past.Deed.{Deed}
-use Rattle.step_core.specs.declared.past.Deed.TheVariants as deed
+use Rattle.step_threads.specs.declared.act.Act.{Act}
+use Rattle.step_threads.specs.declared.act.Act.TheVariants.{Make, Share, Downgrade, Lock, Put, Leave, Clear, Count, Expired, Read, FromThis, Alias, Move, Ask, Offer, Swap, Exchange, Drop}
+use Rattle.step_threads.specs.declared.act.Task.{Task}
+use Rattle.step_threads.specs.declared.ending.Ending.{Ending}
+use Rattle.step_threads.specs.declared.half.Half.{Half}
+use Rattle.step_threads.specs.declared.half.Half.TheVariants.{Rest, Making, Locking, Giving, Brought, Returning}
+use Rattle.step_table.specs.declared.holdings.Pointer.{Pointer}
+use Rattle.step_table.specs.declared.past.Deed.{Deed}
+use Rattle.step_table.specs.declared.past.Deed.TheVariants as deed
 use Rattle.control_word.specs.State.{State, weak}
-use Rattle.step_core.specs.Actors.{wanted}
-use Rattle.step_core.specs.declared.call.CellName.{CellName}
-use Rattle.step_core.specs.declared.call.CellName.TheVariants as cell
-use Rattle.step_core.specs.declared.cell_deed.CellDeed.TheVariants as cell_deed
+use Rattle.step_threads.specs.Actors.{wanted}
+use Rattle.step_threads.specs.declared.call.CellName.{CellName}
+use Rattle.step_threads.specs.declared.call.CellName.TheVariants as cell
+use Rattle.step_table.specs.declared.cell_deed.CellDeed.TheVariants as cell_deed
 use Rattle.control_word.specs.declared.cell.CellWord.{CellWord}
-use Rattle.step_core.specs.Courses.{Going, Walk, cell_at, form_of, going, hand, locked, offered, on_going, other}
-use Rattle.step_core.specs.Contents.{as_word, seen}
-use Rattle.step_core.specs.Deeds.{alias, aliased, downgrade, give, is_enabled, is_last, leave, leave_as, lock, owner_word, read, share, share_as, tell, tell_expired}
-use Rattle.step_core.specs.Endings.{staged}
-use Rattle.step_core.specs.Holdings.{inside, is_full, owner_slot, place_in, slot, value}
-use Rattle.step_core.specs.Entries.{least, on}
-use Rattle.step_core.specs.Steps.{Step, acts, asks, at_rest, begins, begun, brings, claims, ends_on, first, given, looks, made_on, prepares, sends, sent, silent, step_at, story_after, story_by, swaps, tried, tries, trying, with_endings}
-use Rattle.step_core.specs.Stories.{IsPlain, Plain, Story, known, object_in, pending, state}
-use Rattle.step_core.proofs.tables.Plain.{plain_after}
+use Rattle.step_threads.specs.Courses.{Going, Walk, cell_at, form_of, going, hand, locked, offered, on_going, other}
+use Rattle.step_table.specs.Contents.{as_word, seen}
+use Rattle.step_table.specs.Deeds.{alias, aliased, downgrade, give, is_enabled, is_last, leave, leave_as, lock, owner_word, read, share, share_as, tell, tell_expired, on}
+use Rattle.step_threads.specs.Endings.{staged}
+use Rattle.step_table.specs.Holdings.{inside, is_full, owner_slot, place_in, slot, value}
+use Rattle.step_threads.specs.Entries.{least}
+use Rattle.step_threads.specs.Steps.{Step, acts, asks, at_rest, begins, begun, brings, claims, ends_on, first, given, looks, made_on, prepares, sends, sent, silent, step_at, story_after, story_by, swaps, tried, tries, trying, with_endings}
+use Rattle.step_table.specs.Stories.{IsPlain, Plain, Story, known, object_in, pending, state}
+use Rattle.step_table.proofs.tables.Plain.{plain_after}
 
 abbrev AllPlain : Option Deed → Type 0
 AllPlain None = Unit {0}

@@ -5,21 +5,21 @@ use Rattle.std.proofs.lemmas.List.{length-map}
 use Rattle.std.proofs.lemmas.List.Elements.{All-head, All-tail}
 use Rattle.std.proofs.lemmas.List.Sums.{sum_by-cons}
 use Rattle.control_word.specs.State.{ending, unmade}
-use Rattle.step_core.specs.declared.act.Act.{Act}
-use Rattle.step_core.specs.declared.act.Act.TheVariants as act
-use Rattle.step_core.specs.declared.act.Task.{Task}
-use Rattle.step_core.specs.declared.call.Call.{Call}
-use Rattle.step_core.specs.declared.call.Call.TheVariants as call
-use Rattle.step_core.specs.declared.extent.Extent.{Extent}
-use Rattle.step_core.specs.declared.thread.Thread.{Thread}
-use Rattle.step_core.specs.Acts.{acts, clearing, numbered, tasks_from}
+use Rattle.step_threads.specs.declared.act.Act.{Act}
+use Rattle.step_threads.specs.declared.act.Act.TheVariants as act
+use Rattle.step_threads.specs.declared.act.Task.{Task}
+use Rattle.step_threads.specs.declared.call.Call.{Call}
+use Rattle.step_threads.specs.declared.call.Call.TheVariants as call
+use Rattle.step_table.specs.declared.extent.Extent.{Extent}
+use Rattle.step_threads.specs.declared.thread.Thread.{Thread}
+use Rattle.step_threads.specs.Acts.{acts, clearing, numbered, tasks_from}
 use Rattle.step_core.specs.Bounds.{left_to_do, task_steps, walk_steps, weight}
-use Rattle.step_core.specs.Courses.{Walk}
-use Rattle.step_core.specs.Programs.{IsPart, IsProgram, Part, call_count}
+use Rattle.step_threads.specs.Courses.{Walk}
+use Rattle.step_threads.specs.Programs.{IsPart, IsProgram, Part, call_count}
 use Rattle.step_core.specs.Starts.{first_story, first_walk, no_slots}
 use Rattle.step_core.specs.Told.{IsTold, sight}
 use Rattle.step_core.specs.Worlds.{thread_half, thread_walk}
-use Rattle.step_core.proofs.tables.Start.{plain_start}
+use Rattle.step_table.proofs.tables.Start.{plain_start}
 use Rattle.step_core.proofs.telling.Walking.{settled_alone}
 
 clearing_steps : (n : ℕ) → task_steps (clearing n) ≡ 2 * n

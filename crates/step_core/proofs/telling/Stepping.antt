@@ -2,15 +2,15 @@
 use Rattle.std.proofs.Common.{◌≡◌, ℕ, ◌+◌, ◌<◌, length, refl, sym, ap, subst, ◌∙◌, arith, get_or-set_other, get_or-set_same, length-set}
 use Rattle.std.specs.Prelude.{Option, Some, None}
 use Rattle.std.proofs.lemmas.List.Sums.{sum_by-set}
-use Rattle.step_core.specs.declared.extent.Extent.{Extent}
-use Rattle.step_core.specs.declared.past.Deed.{Deed}
-use Rattle.step_core.specs.declared.said.Stepped.{Stepped}
+use Rattle.step_table.specs.declared.extent.Extent.{Extent}
+use Rattle.step_table.specs.declared.past.Deed.{Deed}
+use Rattle.step_threads.specs.declared.said.Stepped.{Stepped}
 use Rattle.step_core.specs.Bounds.{walk_steps}
-use Rattle.step_core.specs.Courses.{Walk}
-use Rattle.step_core.specs.Openings.{opening}
-use Rattle.step_core.specs.Scenes.{nowhere, walk_of}
-use Rattle.step_core.specs.Steps.{Step, half_by, story_after, story_by, stepped, walk_by}
-use Rattle.step_core.specs.Stories.{Kept, Story}
+use Rattle.step_threads.specs.Courses.{Walk}
+use Rattle.step_table.specs.Openings.{opening}
+use Rattle.step_threads.specs.Scenes.{nowhere, walk_of}
+use Rattle.step_threads.specs.Steps.{Step, half_by, story_after, story_by, stepped, walk_by}
+use Rattle.step_table.specs.Stories.{Kept, Story}
 use Rattle.step_core.specs.Told.{IsTold, ends_by, makes}
 use Rattle.step_core.specs.Turning.{HasBegun}
 use Rattle.step_core.specs.Worlds.{Sight, Steps, half_of, scene, sight_by, step_of}

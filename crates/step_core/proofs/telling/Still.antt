@@ -6,29 +6,27 @@ use Rattle.control_word.proofs.lists.Tallies.{put_cases}
 use Rattle.control_word.specs.declared.handle.Kind.{Kind}
 use Rattle.control_word.specs.declared.handle.Kind.TheVariants.{Owner, Weak}
 use Rattle.control_word.specs.State.{Object, State, ending, put}
-use Rattle.step_core.specs.declared.act.Act.{Act}
-use Rattle.step_core.specs.declared.act.Act.TheVariants.{Make, Share, Downgrade, Lock, Put, Leave, Clear, Count, Expired, Read, FromThis, Alias, Move, Ask, Offer, Swap, Exchange, Drop}
-use Rattle.step_core.specs.declared.act.Task.{Task}
-use Rattle.step_core.specs.declared.ending.Ending.{Ending}
-use Rattle.step_core.specs.declared.half.Half.{Half}
-use Rattle.step_core.specs.declared.half.Half.TheVariants.{Rest, Locking, Giving, Brought}
-use Rattle.step_core.specs.declared.holdings.Pointer.{Pointer}
-use Rattle.step_core.specs.declared.past.Deed.{Deed}
-use Rattle.step_core.specs.declared.past.Deed.TheVariants as deed
-use Rattle.step_core.specs.declared.call.CellName.{CellName}
-use Rattle.step_core.specs.declared.call.CellName.TheVariants as cell
-use Rattle.step_core.specs.declared.cell_deed.CellDeed.TheVariants as cell_deed
+use Rattle.step_threads.specs.declared.act.Act.{Act}
+use Rattle.step_threads.specs.declared.act.Act.TheVariants.{Make, Share, Downgrade, Lock, Put, Leave, Clear, Count, Expired, Read, FromThis, Alias, Move, Ask, Offer, Swap, Exchange, Drop}
+use Rattle.step_threads.specs.declared.act.Task.{Task}
+use Rattle.step_threads.specs.declared.ending.Ending.{Ending}
+use Rattle.step_threads.specs.declared.half.Half.{Half}
+use Rattle.step_threads.specs.declared.half.Half.TheVariants.{Rest, Locking, Giving, Brought}
+use Rattle.step_table.specs.declared.holdings.Pointer.{Pointer}
+use Rattle.step_table.specs.declared.past.Deed.{Deed}
+use Rattle.step_table.specs.declared.past.Deed.TheVariants as deed
+use Rattle.step_threads.specs.declared.call.CellName.{CellName}
+use Rattle.step_threads.specs.declared.call.CellName.TheVariants as cell
+use Rattle.step_table.specs.declared.cell_deed.CellDeed.TheVariants as cell_deed
 use Rattle.control_word.specs.declared.cell.CellWord.{CellWord}
-use Rattle.step_core.specs.Contents.{as_word, seen}
-use Rattle.step_core.specs.Courses.{Going, Walk, cell_at, going, kind_at, locked, on_going}
-use Rattle.step_core.specs.Deeds.{give, is_enabled, lock, owner_word, share_as}
-use Rattle.step_core.specs.Endings.{endings_of}
-use Rattle.step_core.specs.Holdings.{slot, value}
-use Rattle.step_core.specs.Entries.{on}
-use Rattle.step_core.specs.Scenes.{begins_end, endings_by, hands, left as leaves_by}
-use Rattle.step_core.specs.Steps.{Step, acts, asks, brings, given, gives_back, looks, sends, sent, silent, swaps}
-use Rattle.step_core.specs.Steps.{story_after, story_by, tried, tries, trying, walk_by}
-use Rattle.step_core.specs.Stories.{Kept, Story, state}
+use Rattle.step_table.specs.Contents.{as_word, seen}
+use Rattle.step_threads.specs.Courses.{Going, Walk, cell_at, going, kind_at, locked, on_going}
+use Rattle.step_table.specs.Deeds.{give, is_enabled, lock, owner_word, share_as, on}
+use Rattle.step_threads.specs.Endings.{endings_of}
+use Rattle.step_table.specs.Holdings.{slot, value}
+use Rattle.step_threads.specs.Scenes.{begins_end, endings_by, hands, left as leaves_by}
+use Rattle.step_threads.specs.Steps.{Step, acts, asks, brings, given, gives_back, looks, sends, sent, silent, swaps, story_after, story_by, tried, tries, trying, walk_by}
+use Rattle.step_table.specs.Stories.{Kept, Story, state}
 use Rattle.step_core.specs.Told.{AllEnd}
 use Rattle.step_core.proofs.telling.Walking.{settled_endings}
 use Rattle.step_core.proofs.telling.Swapping.{swapping}

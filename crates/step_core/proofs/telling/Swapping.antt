@@ -2,13 +2,13 @@
 use Rattle.std.proofs.Common.{◌≡◌, ℕ, ◌+◌, ◌≤◌, List, [], ◌∷◌, refl, ap, ◌∙◌, arith}
 use Rattle.std.specs.Prelude.{Some, None}
 use Rattle.control_word.specs.State.{State}
-use Rattle.step_core.specs.declared.act.Act.{Act}
-use Rattle.step_core.specs.declared.act.Act.TheVariants.{Make, Share, Downgrade, Lock, Put, Leave, Clear, Count, Expired, Read, FromThis, Alias, Move, Ask, Offer, Swap, Exchange, Drop}
-use Rattle.step_core.specs.declared.act.Task.{Task}
+use Rattle.step_threads.specs.declared.act.Act.{Act}
+use Rattle.step_threads.specs.declared.act.Act.TheVariants.{Make, Share, Downgrade, Lock, Put, Leave, Clear, Count, Expired, Read, FromThis, Alias, Move, Ask, Offer, Swap, Exchange, Drop}
+use Rattle.step_threads.specs.declared.act.Task.{Task}
 use Rattle.step_core.specs.Bounds.{walk_steps, weight}
-use Rattle.step_core.specs.Courses.{Going, Walk, going}
-use Rattle.step_core.specs.Holdings.{Slots}
-use Rattle.step_core.specs.Scenes.{ended_of, left, went}
+use Rattle.step_threads.specs.Courses.{Going, Walk, going}
+use Rattle.step_table.specs.Holdings.{Slots}
+use Rattle.step_threads.specs.Scenes.{ended_of, left, went}
 use Rattle.step_core.proofs.telling.Walking.{went_still}
 
 -- a value goes into a cell by the act: it takes three steps, and nothing leaves

@@ -1,27 +1,24 @@
 -- What an act takes from the steps that a thread has left.
-use Rattle.std.proofs.Common.{◌≡◌, ℕ, ◌+◌, ◌*◌, ◌-◌, ◌<◌, ◌≤◌, Bool, true, false, cond, List, [], ◌∷◌, length, refl, sym, ap, subst, ◌∙◌, ◌≢◌, ⊎_elim, arith}
-use Rattle.std.proofs.Common.{get_or-set_other, get_or-set_same, length-set}
-use Rattle.std.specs.Prelude.{Option, Some, None, is_some, reverse, slice_set, sum_by}
+use Rattle.std.proofs.Common.{◌≡◌, ℕ, ◌+◌, ◌*◌, ◌-◌, ◌<◌, ◌≤◌, Bool, true, false, cond, List, [], ◌∷◌, length, refl, sym, ap, subst, ◌∙◌, ◌≢◌, ⊎_elim, arith, get_or-set_other, get_or-set_same, length-set}
+use Rattle.std.specs.Prelude.{Option, Some, None, is_some, slice_set, sum_by}
 use Rattle.std.proofs.lemmas.Bool.{cases_eq, cond_both}
-use Rattle.std.proofs.lemmas.List.Sorted.{IsPermutation-reverse, sum_by-IsPermutation}
 use Rattle.std.proofs.lemmas.List.Sums.{sum_by-cons}
 use Rattle.control_word.specs.declared.handle.Kind.{Kind}
 use Rattle.control_word.specs.declared.handle.Kind.TheVariants.{Owner, Weak}
 use Rattle.control_word.specs.State.{State}
-use Rattle.step_core.specs.declared.act.Act.{Act}
-use Rattle.step_core.specs.declared.act.Act.TheVariants.{Make, Share, Downgrade, Lock, Put, Leave, Clear, Count, Expired, Read, FromThis, Alias, Move, Ask, Offer, Swap, Exchange, Drop}
-use Rattle.step_core.specs.declared.act.Task.{Task}
-use Rattle.step_core.specs.declared.ending.Ending.{Ending}
-use Rattle.step_core.specs.declared.holdings.Pointer.{Pointer}
-use Rattle.step_core.specs.Bounds.{carried, ending_steps, task_steps, walk_steps, weight}
-use Rattle.step_core.specs.Courses.{Walk, hand, idle, other, placed, settled, slots_idle, taken_idle}
-use Rattle.step_core.specs.Deeds.{is_last, owned}
-use Rattle.step_core.specs.declared.slot.Slot.{Slot}
-use Rattle.step_core.specs.Endings.{staged}
-use Rattle.step_core.specs.Steps.{with_endings}
-use Rattle.step_core.specs.Holdings.{Slots, is_full, plain, pointer_of, slot, value}
-use Rattle.step_core.specs.Entries.{on}
-use Rattle.step_core.specs.Scenes.{begins_end, begins_end_as, ended_by, endings_by, hands, left, remains_as, went}
+use Rattle.step_threads.specs.declared.act.Act.{Act}
+use Rattle.step_threads.specs.declared.act.Act.TheVariants.{Make, Share, Downgrade, Lock, Put, Leave, Clear, Count, Expired, Read, FromThis, Alias, Move, Ask, Offer, Swap, Exchange, Drop}
+use Rattle.step_threads.specs.declared.act.Task.{Task}
+use Rattle.step_threads.specs.declared.ending.Ending.{Ending}
+use Rattle.step_table.specs.declared.holdings.Pointer.{Pointer}
+use Rattle.step_core.specs.Bounds.{carried, task_steps, walk_steps, weight}
+use Rattle.step_threads.specs.Endings.{ending_steps, staged}
+use Rattle.step_threads.specs.Courses.{Walk, hand, idle, other, placed, settled, slots_idle, taken_idle}
+use Rattle.step_table.specs.Deeds.{is_last, owned, on}
+use Rattle.step_table.specs.declared.slot.Slot.{Slot}
+use Rattle.step_threads.specs.Steps.{with_endings}
+use Rattle.step_table.specs.Holdings.{Slots, is_full, plain, pointer_of, slot, value}
+use Rattle.step_threads.specs.Scenes.{begins_end, begins_end_as, ended_by, endings_by, hands, left, remains_as, went}
 
 -- what settling passes over has no steps left
 pub settled_steps : (slots : Slots) (taken : Bool) (es : List Ending) (ts : List Task) → task_steps (settled slots taken es ts).todo ≤ task_steps ts
@@ -262,7 +259,3 @@ staged_less w e es is free lt =
 pub carried_most : (es : List Ending) (slots : Slots) → carried es slots ≤ 1
 carried_most [] slots = omega arith
 carried_most (e ∷ es) slots = carried_one (is_full (slot slots (hand slots)))
-
--- the same endings, the other way round
-pub reversed_steps : (es : List Ending) → sum_by ending_steps (reverse es) ≡ sum_by ending_steps es
-reversed_steps es = sum_by-IsPermutation ending_steps es (reverse es) (IsPermutation-reverse es)

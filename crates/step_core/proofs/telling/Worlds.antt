@@ -1,12 +1,12 @@
 -- What a world keeps, after a step of one of its threads.
 use Rattle.std.proofs.Common.{◌≡◌, ℕ, ◌+◌, ◌<◌, ◌≤◌, List, length, set, get_or, sym, ap, subst, ◌∙◌, arith}
 use Rattle.std.proofs.lemmas.List.{get_or-map, length-map}
-use Rattle.step_core.specs.declared.half.Half.{Half}
-use Rattle.step_core.specs.declared.half.Half.TheVariants.{Rest}
-use Rattle.step_core.specs.declared.said.Stepped.{Stepped}
-use Rattle.step_core.specs.declared.thread.Thread.{Thread}
-use Rattle.step_core.specs.Stories.{Kept, Story}
-use Rattle.step_core.specs.Threads.{HasStepped}
+use Rattle.step_threads.specs.declared.half.Half.{Half}
+use Rattle.step_threads.specs.declared.half.Half.TheVariants.{Rest}
+use Rattle.step_threads.specs.declared.said.Stepped.{Stepped}
+use Rattle.step_threads.specs.declared.thread.Thread.{Thread}
+use Rattle.step_table.specs.Stories.{Kept, Story}
+use Rattle.step_threads.specs.Threads.{HasStepped}
 use Rattle.step_core.specs.Told.{IsTold, ends_by, makes, sight}
 use Rattle.step_core.specs.Turning.{HasBegun}
 use Rattle.step_core.specs.Worlds.{half_of, thread_half, thread_walk}

@@ -1,7 +1,7 @@
 -- Steps of a thread, one after another.
 use Rattle.std.proofs.Common.{ℕ, List, [], ◌∷◌, refl, subst}
-use Rattle.step_core.specs.declared.said.Stepped.{Stepped}
-use Rattle.step_core.specs.Stories.{Kept}
+use Rattle.step_threads.specs.declared.said.Stepped.{Stepped}
+use Rattle.step_table.specs.Stories.{Kept}
 use Rattle.step_core.specs.Worlds.{GoesTo, Sight, Steps, StepsBy}
 
 pub no_step : (d : ℕ) (u : Sight) → GoesTo d u u

@@ -10,19 +10,19 @@ use Rattle.control_word.specs.declared.handle.Handle.{Handle}
 use Rattle.control_word.specs.Handles.{empty, has_object}
 use Rattle.control_word.specs.Histories.{entry, leads}
 use Rattle.control_word.specs.State.{Opening, kind_of_member, weak}
-use Rattle.step_core.specs.declared.ending.Ending.{Ending}
-use Rattle.step_core.specs.declared.half.Half.{Half}
-use Rattle.step_core.specs.declared.half.Half.TheVariants.{Rest}
-use Rattle.step_core.specs.declared.past.Deed.TheVariants as deed
-use Rattle.step_core.specs.declared.slot.Slot.{Slot}
-use Rattle.step_core.specs.Courses.{Walk, hand}
-use Rattle.step_core.specs.Endings.{staged}
-use Rattle.step_core.specs.Holdings.{Slots, is_full, slot}
-use Rattle.step_core.specs.Openings.{opening}
-use Rattle.step_core.specs.Entries.{History}
-use Rattle.step_core.specs.Scenes.{Scene, Stop, Wound, goes_on, nowhere, put_walk, rested, rested_walk, stops, unwound, walk_of}
-use Rattle.step_core.specs.Steps.{Step, ends_on, half_by, silent, walk_by, with_endings}
-use Rattle.step_core.specs.Stories.{AllBare, object_in, state}
+use Rattle.step_threads.specs.declared.ending.Ending.{Ending}
+use Rattle.step_threads.specs.declared.half.Half.{Half}
+use Rattle.step_threads.specs.declared.half.Half.TheVariants.{Rest}
+use Rattle.step_table.specs.declared.past.Deed.TheVariants as deed
+use Rattle.step_table.specs.declared.slot.Slot.{Slot}
+use Rattle.step_threads.specs.Courses.{Walk, hand}
+use Rattle.step_threads.specs.Endings.{staged}
+use Rattle.step_table.specs.Holdings.{Slots, is_full, slot}
+use Rattle.step_table.specs.Openings.{opening}
+use Rattle.step_threads.specs.Entries.{History}
+use Rattle.step_threads.specs.Scenes.{Scene, Stop, Wound, goes_on, nowhere, put_walk, rested, rested_walk, stops, unwound, walk_of}
+use Rattle.step_threads.specs.Steps.{Step, ends_on, half_by, silent, walk_by, with_endings}
+use Rattle.step_table.specs.Stories.{AllBare, object_in, state}
 use Rattle.step_core.specs.Worlds.{Sight, half_of, scene, sight_by}
 
 -- the steps that are left of endings

@@ -4,22 +4,21 @@ use Rattle.std.specs.Prelude.{Option, Some, None}
 use Rattle.std.proofs.lemmas.Bool.{cond-true, false≢true}
 use Rattle.control_word.specs.declared.handle.Kind.{Kind}
 use Rattle.control_word.specs.declared.handle.Kind.TheVariants.{Owner, Weak}
-use Rattle.step_core.specs.declared.act.Act.{Act}
-use Rattle.step_core.specs.declared.act.Act.TheVariants.{FromThis}
-use Rattle.step_core.specs.declared.act.Task.{Task}
-use Rattle.step_core.specs.declared.half.Half.{Half}
-use Rattle.step_core.specs.declared.half.Half.TheVariants.{Rest, Making, Locking, Giving, Brought, Returning}
-use Rattle.step_core.specs.declared.holdings.Pointer.{Pointer}
-use Rattle.step_core.specs.declared.said.Stepped.{Stepped}
-use Rattle.step_core.specs.Courses.{Walk}
-use Rattle.step_core.specs.Deeds.{give, is_enabled}
-use Rattle.step_core.specs.Holdings.{inside, slot}
-use Rattle.step_core.specs.Openings.{opening}
-use Rattle.step_core.specs.Entries.{giving}
-use Rattle.step_core.specs.Scenes.{Scene, walk_of, went}
-use Rattle.step_core.specs.Entries.{gives as gives_in, on}
-use Rattle.step_core.specs.Steps.{acts, given, step_at, stepped}
-use Rattle.step_core.specs.Stories.{Story, after, state}
+use Rattle.step_threads.specs.declared.act.Act.{Act}
+use Rattle.step_threads.specs.declared.act.Act.TheVariants.{FromThis}
+use Rattle.step_threads.specs.declared.act.Task.{Task}
+use Rattle.step_threads.specs.declared.half.Half.{Half}
+use Rattle.step_threads.specs.declared.half.Half.TheVariants.{Rest, Making, Locking, Giving, Brought, Returning}
+use Rattle.step_table.specs.declared.holdings.Pointer.{Pointer}
+use Rattle.step_threads.specs.declared.said.Stepped.{Stepped}
+use Rattle.step_threads.specs.Courses.{Walk}
+use Rattle.step_table.specs.Deeds.{give, is_enabled, on}
+use Rattle.step_table.specs.Holdings.{inside, slot}
+use Rattle.step_table.specs.Openings.{opening}
+use Rattle.step_threads.specs.Entries.{giving, gives as gives_in}
+use Rattle.step_threads.specs.Scenes.{Scene, walk_of, went}
+use Rattle.step_threads.specs.Steps.{acts, given, step_at, stepped}
+use Rattle.step_table.specs.Stories.{Story, after, state}
 use Rattle.step_core.specs.Turning.{HasBegun, IsAlone, IsTried, IsUnderWay, Plays, is_giving, turned_by}
 use Rattle.step_core.specs.Worlds.{Sight, Steps, half_of, scene, sight_by, step_of}
 use Rattle.step_core.proofs.turning.Saying.{Acts, plays_as}

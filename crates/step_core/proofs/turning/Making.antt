@@ -5,15 +5,15 @@ use Rattle.std.specs.Prelude.{Option, Some}
 use Rattle.std.proofs.lemmas.Bool.{cond-false, cond_both, eqb-true, eqb-false, false≢true}
 use Rattle.std.proofs.lemmas.List.{set-get_or, set-set}
 use Rattle.control_word.specs.declared.place.Block.{Block}
-use Rattle.step_core.specs.declared.act.Task.{Task}
-use Rattle.step_core.specs.declared.half.Half.{Half}
-use Rattle.step_core.specs.declared.half.Half.TheVariants.{Rest, Making, Locking, Giving, Brought, Returning}
-use Rattle.step_core.specs.declared.said.Stepped.{Stepped}
-use Rattle.step_core.specs.Actors.{wanted}
-use Rattle.step_core.specs.Courses.{Walk, form_of}
-use Rattle.step_core.specs.Scenes.{walk_of}
-use Rattle.step_core.specs.Steps.{Step, claims, made_on, prepares, step_at}
-use Rattle.step_core.specs.Stories.{Kept, known, pending}
+use Rattle.step_threads.specs.declared.act.Task.{Task}
+use Rattle.step_threads.specs.declared.half.Half.{Half}
+use Rattle.step_threads.specs.declared.half.Half.TheVariants.{Rest, Making, Locking, Giving, Brought, Returning}
+use Rattle.step_threads.specs.declared.said.Stepped.{Stepped}
+use Rattle.step_threads.specs.Actors.{wanted}
+use Rattle.step_threads.specs.Courses.{Walk, form_of}
+use Rattle.step_threads.specs.Scenes.{walk_of}
+use Rattle.step_threads.specs.Steps.{Step, claims, made_on, prepares, step_at}
+use Rattle.step_table.specs.Stories.{Kept, known, pending}
 use Rattle.step_core.specs.Turning.{HasBegun, IsReady, IsUnderWay, Prepares, is_making, is_preparing}
 use Rattle.step_core.specs.Worlds.{GoesTo, Sight, Steps, half_of, scene, sight_by, step_of}
 use Rattle.step_core.proofs.turning.Chains.{more_steps, no_step, one_step}

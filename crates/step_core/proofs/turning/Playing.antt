@@ -2,23 +2,22 @@
 use Rattle.std.proofs.Common.{◌≡◌, ℕ, ◌<◌, ◌==◌, true, false, List, [], ◌∷◌, length, set, refl, sym, ap, subst, ◌∙◌}
 use Rattle.std.specs.Prelude.{Option, Some, None}
 use Rattle.std.proofs.lemmas.Bool.{cond_both, false≢true}
-use Rattle.step_core.specs.declared.act.Act.{Act}
-use Rattle.step_core.specs.declared.act.Act.TheVariants.{Make, Share, Downgrade, Lock, Put, Leave, Clear, Count, Expired, Read, FromThis, Alias, Move, Ask, Offer, Swap, Exchange, Drop}
-use Rattle.step_core.specs.declared.act.Task.{Task}
-use Rattle.step_core.specs.declared.ending.Ending.{Ending}
-use Rattle.step_core.specs.declared.half.Half.{Half}
-use Rattle.step_core.specs.declared.half.Half.TheVariants.{Rest, Making, Locking, Giving, Brought, Returning}
-use Rattle.step_core.specs.declared.holdings.Pointer.{Pointer}
-use Rattle.step_core.specs.declared.said.Stepped.{Stepped}
+use Rattle.step_threads.specs.declared.act.Act.{Act}
+use Rattle.step_threads.specs.declared.act.Act.TheVariants.{Make, Share, Downgrade, Lock, Put, Leave, Clear, Count, Expired, Read, FromThis, Alias, Move, Ask, Offer, Swap, Exchange, Drop}
+use Rattle.step_threads.specs.declared.act.Task.{Task}
+use Rattle.step_threads.specs.declared.ending.Ending.{Ending}
+use Rattle.step_threads.specs.declared.half.Half.{Half}
+use Rattle.step_threads.specs.declared.half.Half.TheVariants.{Rest, Making, Locking, Giving, Brought, Returning}
+use Rattle.step_table.specs.declared.holdings.Pointer.{Pointer}
+use Rattle.step_threads.specs.declared.said.Stepped.{Stepped}
 use Rattle.control_word.specs.declared.handle.Kind.{Kind}
-use Rattle.step_core.specs.Courses.{going, locked, offered, other}
-use Rattle.step_core.specs.Deeds.{aliased, is_enabled, lock, owner_word}
-use Rattle.step_core.specs.Holdings.{inside, owner_slot, place_in, slot}
-use Rattle.step_core.specs.Entries.{least, on}
-use Rattle.step_core.specs.Scenes.{next, next_of, play_from, rested, said_from}
-use Rattle.step_core.specs.Scenes.{walk_of}
-use Rattle.step_core.specs.Steps.{Step, acts, asks, at_rest, begins, begun, first, looks, silent, step_at, stepped, trying}
-use Rattle.step_core.specs.Stories.{state}
+use Rattle.step_threads.specs.Courses.{going, locked, offered, other}
+use Rattle.step_table.specs.Deeds.{aliased, is_enabled, lock, owner_word, on}
+use Rattle.step_table.specs.Holdings.{inside, owner_slot, place_in, slot}
+use Rattle.step_threads.specs.Entries.{least}
+use Rattle.step_threads.specs.Scenes.{next, next_of, play_from, rested, said_from, walk_of}
+use Rattle.step_threads.specs.Steps.{Step, acts, asks, at_rest, begins, begun, first, looks, silent, step_at, stepped, trying}
+use Rattle.step_table.specs.Stories.{state}
 use Rattle.step_core.specs.Turning.{HasBegun, IsInShape, Plays, has_rest, is_acting, is_brought, is_giving, is_locking, is_making, is_returning, returned, turned, turned_by}
 use Rattle.step_core.specs.Worlds.{Sight, Steps, half_of, scene, sight_by, step_of}
 use Rattle.step_core.proofs.turning.Ending.{half_after, halves_after, rested_none, same_walks, scene_as}

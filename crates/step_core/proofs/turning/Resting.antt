@@ -5,18 +5,18 @@ use Rattle.std.specs.Prelude.{Option, Some, None, is_some}
 use Rattle.std.proofs.lemmas.Bool.{cond-false, false≢true}
 use Rattle.std.proofs.lemmas.List.{set-get_or, set-set}
 use Rattle.std.proofs.lemmas.List.Elements.{All-head}
-use Rattle.step_core.specs.declared.ending.Ending.{Ending}
-use Rattle.step_core.specs.declared.half.Half.{Half}
-use Rattle.step_core.specs.declared.half.Half.TheVariants.{Rest, Making, Locking, Giving, Brought, Returning}
+use Rattle.step_threads.specs.declared.ending.Ending.{Ending}
+use Rattle.step_threads.specs.declared.half.Half.{Half}
+use Rattle.step_threads.specs.declared.half.Half.TheVariants.{Rest, Making, Locking, Giving, Brought, Returning}
 use Rattle.control_word.specs.declared.handle.Kind.{Kind}
 use Rattle.control_word.specs.declared.place.Block.{Block}
-use Rattle.step_core.specs.declared.said.Stepped.{Stepped}
-use Rattle.step_core.specs.Courses.{Walk, hand}
-use Rattle.step_core.specs.Endings.{first_of, staged}
-use Rattle.step_core.specs.Holdings.{is_full, slot}
-use Rattle.step_core.specs.Scenes.{rested, walk_of}
-use Rattle.step_core.specs.Steps.{Step, at_rest, ends_on, returns, step_at}
-use Rattle.step_core.specs.Stories.{Kept}
+use Rattle.step_threads.specs.declared.said.Stepped.{Stepped}
+use Rattle.step_threads.specs.Courses.{Walk, hand}
+use Rattle.step_threads.specs.Endings.{first_of, staged}
+use Rattle.step_table.specs.Holdings.{is_full, slot}
+use Rattle.step_threads.specs.Scenes.{rested, walk_of}
+use Rattle.step_threads.specs.Steps.{Step, at_rest, ends_on, returns, step_at}
+use Rattle.step_table.specs.Stories.{Kept}
 use Rattle.step_core.specs.Turning.{HasBegun, IsAlone, Rests, has_rest, is_ending, is_returning, returned}
 use Rattle.step_core.specs.Worlds.{GoesTo, Sight, Steps, half_of, scene, sight_by, step_of}
 use Rattle.step_core.proofs.turning.Chains.{more_steps, no_step, one_step}

@@ -3,32 +3,29 @@ use Rattle.std.proofs.Common.{◌≡◌, ℕ, ◌<◌, ◌==◌, Bool, true, fal
 use Rattle.std.specs.Prelude.{Option, Some, None, option_map}
 use Rattle.std.proofs.lemmas.Bool.{cond_both, cond-false, false≢true}
 use Rattle.control_word.specs.declared.place.Place.{Place}
-use Rattle.step_core.specs.declared.act.Act.{Act}
-use Rattle.step_core.specs.declared.act.Form.{Form}
-use Rattle.step_core.specs.declared.act.Act.TheVariants.{Make, Share, Downgrade, Lock, Put, Leave, Clear, Count, Expired, Read, FromThis, Alias, Move, Ask, Offer, Swap, Exchange, Drop}
-use Rattle.step_core.specs.declared.act.Task.{Task}
-use Rattle.step_core.specs.declared.ending.Ending.{Ending}
-use Rattle.step_core.specs.declared.half.Half.TheVariants.{Rest, Locking, Giving}
-use Rattle.step_core.specs.declared.holdings.Pointer.{Pointer}
-use Rattle.step_core.specs.declared.past.Deed.{Deed}
-use Rattle.step_core.specs.declared.said.Said.{Said}
-use Rattle.step_core.specs.declared.said.Stepped.{Stepped}
-use Rattle.step_core.specs.declared.said.Stepped.TheVariants.{Event, Quiet}
-use Rattle.step_core.specs.declared.said.Turned.TheVariants.{Acted}
+use Rattle.step_threads.specs.declared.act.Act.{Act}
+use Rattle.step_table.specs.declared.form.Form.{Form}
+use Rattle.step_threads.specs.declared.act.Act.TheVariants.{Make, Share, Downgrade, Lock, Put, Leave, Clear, Count, Expired, Read, FromThis, Alias, Move, Ask, Offer, Swap, Exchange, Drop}
+use Rattle.step_threads.specs.declared.act.Task.{Task}
+use Rattle.step_threads.specs.declared.ending.Ending.{Ending}
+use Rattle.step_threads.specs.declared.half.Half.TheVariants.{Rest, Locking, Giving}
+use Rattle.step_table.specs.declared.holdings.Pointer.{Pointer}
+use Rattle.step_table.specs.declared.past.Deed.{Deed}
+use Rattle.step_threads.specs.declared.said.Said.{Said}
+use Rattle.step_threads.specs.declared.said.Stepped.{Stepped}
+use Rattle.step_threads.specs.declared.said.Stepped.TheVariants.{Event, Quiet}
+use Rattle.step_threads.specs.declared.said.Turned.TheVariants.{Acted}
 use Rattle.control_word.specs.declared.handle.Kind.{Kind}
 use Rattle.control_word.specs.declared.handle.Kind.TheVariants.{Owner, Weak}
 use Rattle.control_word.specs.Histories.{entry}
-use Rattle.step_core.specs.Courses.{Walk, locked, settled}
-use Rattle.step_core.specs.Deeds.{downgrade, is_enabled, is_last, leave, leave_as, lock, owner_word, read, share, share_as, tell, tell_expired, alias}
-use Rattle.step_core.specs.Holdings.{inside, slot}
-use Rattle.step_core.specs.Openings.{opening}
-use Rattle.step_core.specs.Entries.{History, acted, least, leaves, left_as, made, on, shared_as}
-use Rattle.step_core.specs.Scenes.{Scene, full_answer, holding, next, next_of}
-use Rattle.step_core.specs.Scenes.{play, play_from, put_walk, rest_of, rested, rested_walk, said_from, said_of}
-use Rattle.step_core.specs.Entries.{counts, downgrades, expires, gives, giving, locks, reads, shares, aliases}
-use Rattle.step_core.specs.Scenes.{walk_of, went}
-use Rattle.step_core.specs.Steps.{Step, acts, asks, begins, is_event, looks, silent, stepped, story_after, trying}
-use Rattle.step_core.specs.Stories.{Story, after, state}
+use Rattle.step_threads.specs.Courses.{Walk, locked, settled}
+use Rattle.step_table.specs.Deeds.{downgrade, is_enabled, is_last, leave, leave_as, lock, owner_word, read, share, share_as, tell, tell_expired, alias, on}
+use Rattle.step_table.specs.Holdings.{inside, slot}
+use Rattle.step_table.specs.Openings.{opening}
+use Rattle.step_threads.specs.Entries.{History, acted, least, leaves, left_as, made, shared_as, counts, downgrades, expires, gives, giving, locks, reads, shares, aliases}
+use Rattle.step_threads.specs.Scenes.{Scene, full_answer, holding, next, next_of, play, play_from, put_walk, rest_of, rested, rested_walk, said_from, said_of, walk_of, went}
+use Rattle.step_threads.specs.Steps.{Step, acts, asks, begins, is_event, looks, silent, stepped, story_after, trying}
+use Rattle.step_table.specs.Stories.{Story, after, state}
 use Rattle.step_core.specs.Turning.{Plays, is_acting, turned, turned_by}
 use Rattle.step_core.specs.Worlds.{Sight, scene, sight_by, step_of}
 use Rattle.step_core.proofs.turning.Ending.{half_after, halves_after, moved, rested_moved}

@@ -11,31 +11,32 @@ use Rattle.control_word.specs.declared.place.Block.{Block}
 use Rattle.control_word.specs.declared.shape.Shape.{Shape}
 use Rattle.control_word.specs.Histories.{entry}
 use Rattle.control_word.specs.State.{Opening}
-use Rattle.step_core.specs.declared.act.Act.{Act}
-use Rattle.step_core.specs.declared.act.Act.TheVariants.{Make, Share, Downgrade, Lock, Put, Leave, Clear, Count, Expired, Read, FromThis, Alias, Move, Ask, Offer, Swap, Exchange, Drop}
-use Rattle.step_core.specs.declared.act.Task.{Task}
-use Rattle.step_core.specs.declared.call.CellName.{CellName}
-use Rattle.step_core.specs.declared.cell_deed.CellDeed.TheVariants as cell_deed
-use Rattle.step_core.specs.declared.half.Half.{Half}
-use Rattle.step_core.specs.declared.half.Half.TheVariants.{Rest, Making, Locking, Giving, Brought, Returning}
-use Rattle.step_core.specs.declared.holdings.Pointer.{Pointer}
-use Rattle.step_core.specs.declared.past.Deed.TheVariants as deed
-use Rattle.step_core.specs.declared.said.Stepped.{Stepped}
-use Rattle.step_core.specs.CellDeeds.{cell_in}
-use Rattle.step_core.specs.Contents.{as_word, held_in, is_of, seen, told}
-use Rattle.step_core.specs.Courses.{Going, HasCell, cell_at, going, going_from, hand, kind_at, on_going}
-use Rattle.step_core.specs.Entries.{History, acted, on, swaps as swaps_in}
-use Rattle.step_core.specs.Holdings.{Slots, slot, value}
-use Rattle.step_core.specs.Openings.{opening}
-use Rattle.step_core.specs.Programs.{IsIn}
-use Rattle.step_core.specs.Scenes.{walk_of, went}
-use Rattle.step_core.specs.Steps.{acts, brings, gives_back, sends, sent, step_at, stepped, swaps}
-use Rattle.step_core.specs.Stories.{Kept, Nothing, Story, added, history_after, state}
+use Rattle.step_threads.specs.declared.act.Act.{Act}
+use Rattle.step_threads.specs.declared.act.Act.TheVariants.{Make, Share, Downgrade, Lock, Put, Leave, Clear, Count, Expired, Read, FromThis, Alias, Move, Ask, Offer, Swap, Exchange, Drop}
+use Rattle.step_threads.specs.declared.act.Task.{Task}
+use Rattle.step_threads.specs.declared.call.CellName.{CellName}
+use Rattle.step_table.specs.declared.cell_deed.CellDeed.TheVariants as cell_deed
+use Rattle.step_threads.specs.declared.half.Half.{Half}
+use Rattle.step_threads.specs.declared.half.Half.TheVariants.{Rest, Making, Locking, Giving, Brought, Returning}
+use Rattle.step_table.specs.declared.holdings.Pointer.{Pointer}
+use Rattle.step_table.specs.declared.past.Deed.TheVariants as deed
+use Rattle.step_threads.specs.declared.said.Stepped.{Stepped}
+use Rattle.step_table.specs.CellDeeds.{cell_in}
+use Rattle.step_table.specs.Contents.{as_word, held_in, is_of, seen, told}
+use Rattle.step_threads.specs.Courses.{Going, HasCell, cell_at, going, going_from, hand, kind_at, on_going}
+use Rattle.step_threads.specs.Entries.{History, acted, swaps as swaps_in}
+use Rattle.step_table.specs.Deeds.{on}
+use Rattle.step_table.specs.Holdings.{Slots, slot, value}
+use Rattle.step_table.specs.Openings.{opening}
+use Rattle.step_threads.specs.Programs.{IsIn}
+use Rattle.step_threads.specs.Scenes.{walk_of, went}
+use Rattle.step_threads.specs.Steps.{acts, brings, gives_back, sends, sent, step_at, stepped, swaps}
+use Rattle.step_table.specs.Stories.{Kept, Nothing, Story, added, history_after, state}
 use Rattle.step_core.specs.Turning.{HasBegun, IsAlone, IsInShape, IsSwap, IsTried, Plays, is_acting, is_brought, turned_by}
 use Rattle.step_core.specs.Worlds.{Sight, Steps, half_of, scene, sight_by, step_of}
-use Rattle.step_core.proofs.CellNames.{cell_kind, cell_open, goes_in}
-use Rattle.step_core.proofs.contained.Coming.{seen_found}
-use Rattle.step_core.proofs.contained.Telling.{swap_tells}
+use Rattle.step_threads.proofs.CellNames.{cell_kind, cell_open, goes_in}
+use Rattle.step_table.proofs.contained.Coming.{seen_found}
+use Rattle.step_table.proofs.contained.Telling.{swap_tells}
 use Rattle.step_core.proofs.turning.Ending.{same_walks, scene_as}
 use Rattle.step_core.proofs.turning.Saying.{Acts, plays_as}
 

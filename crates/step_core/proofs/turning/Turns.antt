@@ -4,20 +4,20 @@ use Rattle.std.specs.Prelude.{Option, Some, None}
 use Rattle.std.proofs.lemmas.Bool.{cond-true}
 use Rattle.std.proofs.lemmas.List.{set-set}
 use Rattle.control_word.specs.declared.place.Block.{Block}
-use Rattle.step_core.specs.declared.act.Act.{Act}
-use Rattle.step_core.specs.declared.act.Act.TheVariants.{Make}
-use Rattle.step_core.specs.declared.act.Task.{Task}
-use Rattle.step_core.specs.declared.half.Half.{Half}
-use Rattle.step_core.specs.declared.half.Half.TheVariants.{Rest, Making, Locking, Giving, Brought, Returning}
-use Rattle.step_core.specs.declared.said.Said.{Said}
-use Rattle.step_core.specs.declared.said.Stepped.{Stepped}
-use Rattle.step_core.specs.declared.said.Turned.{Turned}
-use Rattle.step_core.specs.Actors.{wanted}
-use Rattle.step_core.specs.Courses.{form_of, settled}
-use Rattle.step_core.specs.Entries.{least, made}
-use Rattle.step_core.specs.Scenes.{Scene, full_answer, holding, next, play, play_from, rested, said, said_from, walk_of}
-use Rattle.step_core.specs.Steps.{Step, claims, prepares, stepped}
-use Rattle.step_core.specs.Stories.{known, pending, state}
+use Rattle.step_threads.specs.declared.act.Act.{Act}
+use Rattle.step_threads.specs.declared.act.Act.TheVariants.{Make}
+use Rattle.step_threads.specs.declared.act.Task.{Task}
+use Rattle.step_threads.specs.declared.half.Half.{Half}
+use Rattle.step_threads.specs.declared.half.Half.TheVariants.{Rest, Making, Locking, Giving, Brought, Returning}
+use Rattle.step_threads.specs.declared.said.Said.{Said}
+use Rattle.step_threads.specs.declared.said.Stepped.{Stepped}
+use Rattle.step_threads.specs.declared.said.Turned.{Turned}
+use Rattle.step_threads.specs.Actors.{wanted}
+use Rattle.step_threads.specs.Courses.{form_of, settled}
+use Rattle.step_threads.specs.Entries.{least, made}
+use Rattle.step_threads.specs.Scenes.{Scene, full_answer, holding, next, play, play_from, rested, said, said_from, walk_of}
+use Rattle.step_threads.specs.Steps.{Step, claims, prepares, stepped}
+use Rattle.step_table.specs.Stories.{known, pending, state}
 use Rattle.step_core.specs.Turning.{HasBegun, IsAlone, IsReady, IsUnderWay, Plays, Prepares, Rests, returned, turned, turned_by}
 use Rattle.step_core.specs.Worlds.{Sight, Steps, Turns, half_of, scene, sight_by, step_of}
 use Rattle.step_core.proofs.turning.Making.{made_step}

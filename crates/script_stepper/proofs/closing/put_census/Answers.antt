@@ -1,5 +1,5 @@
 use Rattle.std.specs.Prelude.{string_bytes}
-use Rattle.step_core.specs.Scenes.{state_in}
+use Rattle.step_threads.specs.Scenes.{state_in}
 use Rattle.step_core.specs.Worlds.{scene}
 use Rattle.script_stepper.proofs.ClosingLemmas.{census_then}
 use Rattle.script_stepper.proofs.closing.put_census.Goals as goal

@@ -1,7 +1,7 @@
 use Rattle.std.proofs.Common.{◌≡◌, ◌++◌}
 use Rattle.std.specs.Prelude.{string_bytes}
 use Rattle.script_text.specs.Grammar.{ended}
-use Rattle.step_core.specs.Scenes.{state_in}
+use Rattle.step_threads.specs.Scenes.{state_in}
 use Rattle.step_core.specs.Worlds.{scene}
 use Rattle.script_stepper.specs.Lines.{census_lines}
 use Rattle.script_stepper.proofs.closing.put_census.Given as goal

@@ -1,5 +1,5 @@
 use Rattle.std.proofs.Common.{ℕ, List, ◌++◌, ◌∙◌, ap, sym, arith, None, length, get_or, ◌<◌}
-use Rattle.step_core.specs.declared.said.Said.{Said}
+use Rattle.step_threads.specs.declared.said.Said.{Said}
 use Rattle.script_text.specs.Grammar.{ended}
 use Rattle.script_stepper.specs.Lines.{said_lines}
 use Rattle.script_stepper.proofs.LineLemmas.{lines_more}

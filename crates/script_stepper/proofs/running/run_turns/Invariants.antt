@@ -1,6 +1,6 @@
 use Rattle.std.proofs.Common.{◌≡◌, ℕ, ◌*◌, ◌<◌, ◌++◌, take}
 use Rattle.std.specs.Prelude.{None, string_bytes}
-use Rattle.step_core.specs.Scenes.{next, walk_of}
+use Rattle.step_threads.specs.Scenes.{next, walk_of}
 use Rattle.step_core.specs.Worlds.{scene}
 use Rattle.script_stepper.specs.Running.{HasRun}
 use Rattle.script_stepper.specs.Traces.{tasks_in, to_the_end}

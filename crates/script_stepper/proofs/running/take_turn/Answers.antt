@@ -1,5 +1,5 @@
 use Rattle.std.proofs.Common.{◌-◌, ◌<◌, ap, length, arith}
-use Rattle.step_core.specs.declared.said.Said.{Said}
+use Rattle.step_threads.specs.declared.said.Said.{Said}
 use Rattle.std.specs.Prelude.{None, Option, Some, is_some, string_bytes}
 use Rattle.script_stepper.proofs.OneTurn.{acted_text, acted_turn, done_text, done_turn, turn_less, turn_run}
 use Rattle.script_stepper.proofs.running.take_turn.Goals as goal

@@ -1,6 +1,6 @@
 use Rattle.std.proofs.Common.{rules, subst, sym}
 use Rattle.control_word.specs.declared.shape.Shape.{Shape}
-use Rattle.step_core.specs.Programs.{parts_of}
+use Rattle.step_threads.specs.Programs.{parts_of}
 use Rattle.step_core.specs.Starts.{CanBegin}
 use Rattle.script_stepper.proofs.Beginning.{can_begin}
 use Rattle.script_stepper.proofs.stepping.world_of.Goals as goal

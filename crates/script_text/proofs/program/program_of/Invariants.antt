@@ -1,5 +1,5 @@
 use Rattle.std.proofs.Common.{◌≡◌, map, take}
-use Rattle.step_core.specs.Programs.{part_of}
+use Rattle.step_threads.specs.Programs.{part_of}
 use Rattle.script_text.specs.Drafts.{section_of}
 use Rattle.script_text.specs.Scripts.{program_in}
 use Rattle.script_text.proofs.program.program_of.Given as goal

@@ -1,8 +1,8 @@
 use Rattle.std.proofs.Common.{◌<◌, List, [], length, get_or, refl, subst}
-use Rattle.step_core.specs.declared.call.Call.{Call}
-use Rattle.step_core.specs.declared.call.Call.TheVariants.{Make}
-use Rattle.step_core.specs.declared.call.Kind.{Kind}
-use Rattle.step_core.specs.Programs.{IsWellNamed}
+use Rattle.step_threads.specs.declared.call.Call.{Call}
+use Rattle.step_threads.specs.declared.call.Call.TheVariants.{Make}
+use Rattle.step_threads.specs.declared.call.Kind.{Kind}
+use Rattle.step_threads.specs.Programs.{IsWellNamed}
 use Rattle.step_core.specs.Starts.{HasFields}
 use Rattle.step_core.proofs.Programs.{held_by_more}
 use Rattle.step_core.proofs.limits.is_part.Goals as goal

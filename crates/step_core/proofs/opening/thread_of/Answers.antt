@@ -1,14 +1,14 @@
 use Rattle.std.proofs.Common.{◌≡◌, ◌≤◌, ◌+◌, ◌∙◌, ℕ, List, length, sym, ap, subst, arith}
-use Rattle.step_core.specs.declared.call.Call.{Call}
-use Rattle.step_core.specs.Acts.{tasks_from}
+use Rattle.step_threads.specs.declared.call.Call.{Call}
+use Rattle.step_threads.specs.Acts.{tasks_from}
 use Rattle.std.specs.Prelude.{All}
-use Rattle.step_core.specs.declared.act.Task.{Task}
-use Rattle.step_core.specs.Courses.{HasCell}
-use Rattle.step_core.specs.Endings.{Stack}
-use Rattle.step_core.specs.Holdings.{Holds, Slots}
-use Rattle.step_core.specs.Programs.{part_of}
+use Rattle.step_threads.specs.declared.act.Task.{Task}
+use Rattle.step_threads.specs.Courses.{HasCell}
+use Rattle.step_threads.specs.Endings.{Stack}
+use Rattle.step_table.specs.Holdings.{Holds, Slots}
+use Rattle.step_threads.specs.Programs.{part_of}
 use Rattle.step_core.specs.Starts.{first_story, no_slots}
-use Rattle.step_core.proofs.holding.Ends.{ends_none}
+use Rattle.step_threads.proofs.holding.Ends.{ends_none}
 use Rattle.step_core.proofs.Starts.{holds_start, idle_start, ready_start, tasks_cells}
 use Rattle.step_core.proofs.opening.thread_of.Goals as goal
 

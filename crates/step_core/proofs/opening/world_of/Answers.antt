@@ -1,9 +1,9 @@
 use Rattle.std.proofs.Common.{◌≡◌, length, sym, subst}
 use Rattle.std.proofs.lemmas.List.{length-map}
-use Rattle.step_core.specs.declared.extent.Extent.{Extent}
-use Rattle.step_core.specs.Programs.{part_of}
+use Rattle.step_table.specs.declared.extent.Extent.{Extent}
+use Rattle.step_threads.specs.Programs.{part_of}
 use Rattle.step_core.specs.Starts.{first_story}
-use Rattle.step_core.specs.Stories.{Story}
+use Rattle.step_table.specs.Stories.{Story}
 use Rattle.step_core.specs.Told.{IsTold, sight}
 use Rattle.step_core.specs.Worlds.{AllFit}
 use Rattle.step_core.proofs.telling.Starting.{told_start}

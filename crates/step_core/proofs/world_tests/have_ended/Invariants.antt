@@ -1,5 +1,5 @@
 use Rattle.std.proofs.Common.{ℕ, ◌<◌, get_or}
-use Rattle.step_core.specs.declared.thread.Thread.{Thread}
+use Rattle.step_threads.specs.declared.thread.Thread.{Thread}
 use Rattle.step_core.specs.Told.{HasEnded}
 use Rattle.step_core.proofs.world_tests.have_ended.Given as goal
 

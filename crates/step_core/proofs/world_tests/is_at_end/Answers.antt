@@ -2,11 +2,11 @@ use Rattle.std.proofs.Common.{◌≡◌, List, [], subst, arith}
 use Rattle.std.specs.Prelude.{All}
 use Rattle.std.proofs.lemmas.List.{drop_all}
 use Rattle.std.proofs.lemmas.List.Elements.{All-map, All-weaker}
-use Rattle.step_core.specs.declared.half.Half.{Half}
-use Rattle.step_core.specs.declared.half.Half.TheVariants.{Rest}
-use Rattle.step_core.specs.declared.thread.Thread.{Thread}
-use Rattle.step_core.specs.Courses.{Walk}
-use Rattle.step_core.specs.Stories.{Story}
+use Rattle.step_threads.specs.declared.half.Half.{Half}
+use Rattle.step_threads.specs.declared.half.Half.TheVariants.{Rest}
+use Rattle.step_threads.specs.declared.thread.Thread.{Thread}
+use Rattle.step_threads.specs.Courses.{Walk}
+use Rattle.step_table.specs.Stories.{Story}
 use Rattle.step_core.specs.Told.{HasEnded, sight}
 use Rattle.step_core.specs.Totals.{IsAtEnd}
 use Rattle.step_core.specs.Worlds.{thread_half, thread_walk}

@@ -2,7 +2,7 @@ use Rattle.std.proofs.Common.{◌≡◌, subst, sym}
 use Rattle.std.specs.Prelude.{None, Option}
 use Rattle.control_word.specs.declared.counts.Counts.{Counts}
 use Rattle.control_word.specs.State.{IsVacant}
-use Rattle.step_core.specs.Stories.{Kept, state}
+use Rattle.step_table.specs.Stories.{Kept, state}
 use Rattle.step_core.specs.Worlds.{Sight}
 use Rattle.step_core.proofs.telling.Census.{census_now, none_vacant}
 use Rattle.step_core.proofs.world.World.census.Goals as goal

@@ -1,7 +1,7 @@
 use Rattle.std.proofs.Common.{◌<◌, length, ap, arith}
-use Rattle.step_core.specs.declared.half.Half.{Half}
+use Rattle.step_threads.specs.declared.half.Half.{Half}
 use Rattle.step_core.specs.Bounds.{most_steps, spare}
-use Rattle.step_core.specs.Scenes.{walk_of}
+use Rattle.step_threads.specs.Scenes.{walk_of}
 use Rattle.step_core.specs.Worlds.{scene}
 use Rattle.step_core.proofs.runs.Chains.{on_end, on_more}
 use Rattle.step_core.proofs.runs.Alone.{alone}

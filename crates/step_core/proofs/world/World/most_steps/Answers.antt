@@ -1,6 +1,6 @@
 use Rattle.std.proofs.Common.{◌+◌, ◌-◌, ◌*◌, ◌≤◌, ◌≡◌, List, length, subst, sym, ap, ◌∙◌, arith}
 use Rattle.std.specs.Prelude.{Some, slice_get, sum_by}
-use Rattle.step_core.specs.declared.thread.Thread.{Thread}
+use Rattle.step_threads.specs.declared.thread.Thread.{Thread}
 use Rattle.step_core.specs.Bounds.{living, most_steps, steps_of}
 use Rattle.step_core.specs.Worlds.{Sight}
 use Rattle.step_core.proofs.runs.Tasks.{enough, few_steps, few_threads, within}

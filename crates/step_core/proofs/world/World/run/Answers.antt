@@ -4,7 +4,7 @@ use Rattle.step_core.proofs.runs.Chains.{whole}
 use Rattle.step_core.proofs.runs.Ends.{at_end}
 use Rattle.step_core.specs.Headline.{CountsAtRest, LocksWhereOwned, TellsLocks, TellsWhatIsLeft, ValuesAtLastLeave, ValuesOnce}
 use Rattle.step_core.specs.Runs.{IsRun}
-use Rattle.step_core.specs.Stories.{Kept}
+use Rattle.step_table.specs.Stories.{Kept}
 use Rattle.step_core.specs.Totals.{IsAtEnd}
 use Rattle.step_core.proofs.runs.Answers.{tells_locks}
 use Rattle.step_core.proofs.runs.Says.{tells}

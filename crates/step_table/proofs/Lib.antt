@@ -1,0 +1,4 @@
+pub mod tables
+pub mod Walks
+pub mod contained
+pub mod holding

@@ -1,0 +1,144 @@
+-- What goes into a cell from a slot, in place of what comes out.
+use Rattle.std.proofs.Common.{◌≡◌, ◌≢◌, ℕ, ◌<◌, ◌∷◌, true, false, cond, List, length, set, Option, Some, None, refl, sym, ap, subst, ◌∙◌, arith}
+use Rattle.std.proofs.Common.{get_or-set_same, get_or-set_other, length-set}
+use Rattle.std.proofs.lemmas.List.{set-set, set_comm}
+use Rattle.control_word.specs.declared.cell.CellWord.{CellWord}
+use Rattle.control_word.specs.declared.event.Cell.{Cell as Named}
+use Rattle.control_word.specs.declared.event.Cell.TheVariants as named
+use Rattle.control_word.specs.declared.handle.Handle.{Handle}
+use Rattle.control_word.specs.declared.handle.Kind.{Kind}
+use Rattle.control_word.specs.declared.handle.Kind.TheVariants.{Owner, Weak}
+use Rattle.control_word.specs.declared.place.Block.{Block}
+use Rattle.control_word.specs.Events.{swaps}
+use Rattle.control_word.specs.Handles.{handle, has_object}
+use Rattle.control_word.specs.State.{Held, State, held, same_held, without}
+use Rattle.step_table.specs.declared.cell_deed.Cell.{Cell}
+use Rattle.step_table.specs.declared.cell_deed.CellDeed.TheVariants.{CompareSwap, Swap}
+use Rattle.step_table.specs.declared.cell_deed.Compared.{Compared}
+use Rattle.step_table.specs.declared.holdings.Pointer.{Pointer}
+use Rattle.step_table.specs.declared.past.Deed.TheVariants.{OnCell}
+use Rattle.step_table.specs.declared.slot.Slot.{Slot}
+use Rattle.step_table.specs.declared.slot.Slot.TheVariants.{Empty, Full}
+use Rattle.step_table.specs.CellDeeds.{cell_in, handle_as, handle_told, kind_in, object_at}
+use Rattle.step_table.specs.Contents.{as_word, held_in, is_of, slot_of, swapped}
+use Rattle.step_table.specs.Deeds.{leave_as}
+use Rattle.step_table.specs.Holdings.{Holds, Slots, plain, pointer_of, slot, value}
+use Rattle.step_table.specs.Stories.{Story, after, handle_in, state}
+use Rattle.step_table.proofs.contained.Coming.{holds_got, pointer_valid}
+use Rattle.step_table.proofs.contained.Told.{kind_is, shows_slot}
+use Rattle.step_table.proofs.holding.Owning.{holds_empty, holds_less}
+use Rattle.step_table.proofs.tables.Shown.{Found}
+
+-- the hands after one handle came, or went
+abbrev came : ℕ → Handle → List Held → List Held
+came d h l = cond (has_object h) (held d h ∷ l) l
+
+abbrev gone : ℕ → Handle → List Held → List Held
+gone d h l = cond (has_object h) (without same_held (held d h) l) l
+
+-- as if the value of slot i had left by itself: no such step is made
+record Left (d : ℕ) (slots : Slots) (v : Story) (i : ℕ) (k : Kind) : Type 0 where
+  story : Story
+  holds : Holds d (set slots i plain) story
+  hands : (state story).hands ≡ gone d (handle_as (state v) k (as_word (value slots i))) (state v).hands
+  latest : (state story).latest ≡ (state v).latest
+
+left : (d : ℕ) (slots : Slots) (v : Story) (i : ℕ) (k : Kind) → Holds d slots v → i < length slots → is_of k (value slots i) ≡ true → Left d slots v i k
+left d slots v i k holds lt is = go (value slots i) refl is
+  where
+    full : (x : Pointer) (q : Kind) → value slots i ≡ Full x → x.kind ≡ q → q ≡ k → Left d slots v i k
+    full x Owner at kind same =
+        record {
+          story = after v d (leave_as Owner x false);
+          holds = holds_less d slots v (after v d (leave_as Owner x false)) i x holds (ap pointer_of at)
+              (ap (λ (t : Kind). without same_held (held d (handle_in v t x.block x.place)) (state v).hands) (sym kind)) refl;
+          hands = ap (λ (t : Kind). gone d (handle_as (state v) t (as_word (Full x))) (state v).hands) same
+              ∙ ap (λ (y : Slot). gone d (handle_as (state v) k (as_word y)) (state v).hands) (sym at);
+          latest = refl;
+        }
+    full x Weak at kind same =
+        record {
+          story = after v d (leave_as Weak x false);
+          holds = holds_less d slots v (after v d (leave_as Weak x false)) i x holds (ap pointer_of at)
+              (ap (λ (t : Kind). without same_held (held d (handle_in v t x.block x.place)) (state v).hands) (sym kind)) refl;
+          hands = ap (λ (t : Kind). gone d (handle_as (state v) t (as_word (Full x))) (state v).hands) same
+              ∙ ap (λ (y : Slot). gone d (handle_as (state v) k (as_word y)) (state v).hands) (sym at);
+          latest = refl;
+        }
+
+    go : (a : Slot) → value slots i ≡ a → is_of k a ≡ true → Left d slots v i k
+    go (Empty p) at is =
+        record {
+          story = v;
+          holds = holds_empty d slots v i None holds lt (ap pointer_of at) tt;
+          hands = ap (λ (y : Slot). gone d (handle_as (state v) k (as_word y)) (state v).hands) (sym at);
+          latest = refl;
+        }
+    go (Full x) at is = full x x.kind at refl (kind_is k x is)
+
+-- the same word tells the same handle, where blocks have the same objects
+same_told : (s t : State) (k : Kind) (x : CellWord) → t.latest ≡ s.latest → handle_as t k x ≡ handle_as s k x
+same_told s t k x latest = go x.owned
+  where
+    go : (o : Option Block) → handle k (object_at t o) x.place ≡ handle k (object_at s o) x.place
+    go None = refl
+    go (Some b) = ap (λ (f : ℕ → ℕ). handle k (Some (f b.0)) x.place) latest
+
+-- what a swap does to hands, whatever the cell
+swap_hands : (d : ℕ) (c : Named) (new old : Handle) (s : State) → (swaps d c new old s).hands ≡ came d old (gone d new s.hands)
+swap_hands d (named.Free n) new old s = refl
+swap_hands d (named.Member o m) new old s = refl
+
+pub swap_latest : (d : ℕ) (c : Named) (new old : Handle) (s : State) → (swaps d c new old s).latest ≡ s.latest
+swap_latest d (named.Free n) new old s = refl
+swap_latest d (named.Member o m) new old s = refl
+
+module _ (d : ℕ) (slots : Slots) (v : Story) (i j : ℕ) (c : Cell) (x : CellWord) (holds : Holds d slots v) (found : Found v c x)
+    (is : is_of (kind_in (state v) c) (value slots i) ≡ true) (li : i < length slots) (lj : j < length slots)
+    (e : slot (set slots i plain) j ≡ None) where
+  -- the value of slot i went, and what the cell held came into slot j
+  went : (w : Story) → (state w).hands ≡ (swaps d (cell_in (state v) c) (handle_told (state v) c (as_word (value slots i))) (handle_told (state v) c x) (state v)).hands
+      → (state w).latest ≡ (swaps d (cell_in (state v) c) (handle_told (state v) c (as_word (value slots i))) (handle_told (state v) c x) (state v)).latest
+      → Holds d (set (set slots i plain) j (slot_of (state v) (held_in (state v) c))) w
+  went w hands latest =
+      let s = state v in
+      let k = kind_in s c in
+      let n = cell_in s c in
+      let new = handle_told s c (as_word (value slots i)) in
+      let old = handle_told s c x in
+      let l = left d slots v i k holds li is in
+      let u = state l.story in
+      let at : (state w).hands ≡ came d (handle_as u k x) u.hands =
+      hands ∙ swap_hands d n new old s ∙ ap (came d old) (sym l.hands) ∙ ap (λ (h : Handle). came d h u.hands) (sym (same_told s u k x l.latest)) in
+      subst (λ (y : Slot). Holds d (set (set slots i plain) j y) w) (shows_slot v d c x found)
+      (holds_got d (set slots i plain) l.story w j k x l.holds at (latest ∙ swap_latest d n new old s ∙ sym l.latest) (pointer_valid x found.shows.valid)
+      (let t = length-set slots i plain in omega (arith, t, lj)) e)
+
+module _ (d : ℕ) (slots : Slots) (v : Story) (i : ℕ) (c : Cell) (x : CellWord) (holds : Holds d slots v) (found : Found v c x)
+    (is : is_of (kind_in (state v) c) (value slots i) ≡ true) (li : i < length slots) where
+  -- into the same slot
+  pub holds_exchanged : Holds d (set slots i (slot_of (state v) (held_in (state v) c))) (after v d (OnCell (Swap c (as_word (value slots i)) x)))
+  holds_exchanged =
+      let w = after v d (OnCell (Swap c (as_word (value slots i)) x)) in
+      subst (λ (l : Slots). Holds d l w) (set-set slots i plain (slot_of (state v) (held_in (state v) c)))
+      (went d slots v i i c x holds found is li li (ap pointer_of (get_or-set_same slots i plain plain li)) w refl refl)
+
+  -- into another slot
+  module _ (j : ℕ) (lj : j < length slots) (apart : i ≢ j) (e : slot slots j ≡ None) where
+    swapped_by : (w : Story)
+        → (state w).hands ≡ (swaps d (cell_in (state v) c) (handle_told (state v) c (as_word (value slots i))) (handle_told (state v) c x) (state v)).hands
+        → (state w).latest ≡ (swaps d (cell_in (state v) c) (handle_told (state v) c (as_word (value slots i))) (handle_told (state v) c x) (state v)).latest
+        → Holds d (swapped i j slots (slot_of (state v) (held_in (state v) c))) w
+    swapped_by w hands latest =
+        let y = slot_of (state v) (held_in (state v) c) in
+        subst (λ (l : Slots). Holds d l w) (set_comm slots i j plain y apart)
+        (went d slots v i j c x holds found is li lj (ap pointer_of (get_or-set_other slots i j plain plain (λ q. apart (sym q))) ∙ e) w hands latest)
+
+    pub holds_swapped : Holds d (swapped i j slots (slot_of (state v) (held_in (state v) c))) (after v d (OnCell (Swap c (as_word (value slots i)) x)))
+    holds_swapped = swapped_by (after v d (OnCell (Swap c (as_word (value slots i)) x))) refl refl
+
+    pub holds_compared : (y : Compared) → y.new ≡ as_word (value slots i)
+        → Holds d (swapped i j slots (slot_of (state v) (held_in (state v) c))) (after v d (OnCell (CompareSwap c x y)))
+    holds_compared y new = swapped_by (after v d (OnCell (CompareSwap c x y)))
+        (ap (λ (q : CellWord). (swaps d (cell_in (state v) c) (handle_told (state v) c q) (handle_told (state v) c x) (state v)).hands) new)
+        (ap (λ (q : CellWord). (swaps d (cell_in (state v) c) (handle_told (state v) c q) (handle_told (state v) c x) (state v)).latest) new)

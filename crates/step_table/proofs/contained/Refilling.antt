@@ -1,0 +1,183 @@
+-- A desk's own steps on cells: what is out after them, and how a refill goes on.
+use Rattle.std.proofs.Common.{◌≡◌, ℕ, ◌-◌, ◌<◌, true, List, Option, Some, None, refl, sym, ap, subst, ◌∙◌, inl, inr, arith}
+use Rattle.std.proofs.Common.{get_or-set_same, ◌∷◌}
+use Rattle.std.proofs.lemmas.Bool.{and_parts, cond_both, eqb-true}
+use Rattle.std.proofs.lemmas.Option.{same_Some}
+use Rattle.control_word.proofs.lists.Tallies.{same_place_true}
+use Rattle.control_word.specs.declared.cell.CellWord.{CellWord}
+use Rattle.control_word.specs.declared.handle.Handle.{Handle}
+use Rattle.control_word.specs.declared.handle.Kind.{Kind}
+use Rattle.control_word.specs.declared.place.Block.{Block}
+use Rattle.control_word.specs.declared.place.Place.{Place}
+use Rattle.control_word.specs.declared.view.Pending.{Pending}
+use Rattle.control_word.specs.declared.view.Pending.TheVariants.{Paying}
+use Rattle.control_word.specs.declared.view.View.{View}
+use Rattle.control_word.specs.Events.{IsOpen, gets}
+use Rattle.control_word.specs.Handles.{handle, has_object}
+use Rattle.control_word.specs.Layout.{spot}
+use Rattle.control_word.specs.Packing.{IsCellWord}
+use Rattle.control_word.specs.State.{Has, Held, State, held, kind_of_member}
+use Rattle.control_word.specs.Views.{used_up}
+use Rattle.control_word.specs.Words.{slot}
+use Rattle.step_table.specs.declared.cell_deed.Cell.{Cell}
+use Rattle.step_table.specs.declared.cell_deed.Cell.TheVariants.{Free, Member}
+use Rattle.step_table.specs.declared.cell_deed.CellDeed.{CellDeed}
+use Rattle.step_table.specs.declared.cell_deed.CellDeed.TheVariants.{Look, Bring, GiveBack, Take, Turn, Refill, Swap, CompareSwap, TakeOut}
+use Rattle.step_table.specs.declared.cell_deed.Compared.{Compared}
+use Rattle.step_table.specs.declared.past.Deed.TheVariants.{OnCell}
+use Rattle.step_table.specs.declared.refill.Stage.TheVariants.{Turning, Checking, Lacking, Refilling, Failing}
+use Rattle.step_table.specs.CellDeeds.{cell_in, cell_pending, handle_told, kind_in, object_at, owing}
+use Rattle.step_table.specs.Cells.{IsOpenTo}
+use Rattle.step_table.specs.Contents.{same_block, same_value}
+use Rattle.step_table.specs.Refills.{RefillFits, more_taken}
+use Rattle.step_table.specs.Stories.{Kept, Nothing, Story, after, handle_in, pending, state}
+use Rattle.step_table.proofs.contained.Going.{swap_latest}
+use Rattle.step_table.proofs.contained.Told.{kind_stays}
+
+-- no object comes into a block
+cell_latest : (v : Story) (d : ℕ) (x : CellDeed) → (state (after v d (OnCell x))).latest ≡ (state v).latest
+cell_latest v d (Look c x None) = refl
+cell_latest v d (Look c x (Some y)) = refl
+cell_latest v d (Bring k b p f) = refl
+cell_latest v d (GiveBack k b f) = refl
+cell_latest v d (Take c x None) = refl
+cell_latest v d (Take c x (Some y)) = refl
+cell_latest v d (Turn k b) = refl
+cell_latest v d (Refill c t) = refl
+cell_latest v d (Swap c new x) = swap_latest d (cell_in (state v) c) (handle_told (state v) c new) (handle_told (state v) c x) (state v)
+cell_latest v d (CompareSwap c x y) = swap_latest d (cell_in (state v) c) (handle_told (state v) c y.new) (handle_told (state v) c x) (state v)
+cell_latest v d (TakeOut b m x) = refl
+
+same_owing : (s t : State) (k : Kind) (o : Option Block) (p : Option Place) (f l : ℕ) → t.latest ≡ s.latest
+    → ◌≡◌ {A = Pending Nothing} (owing s k o p f l) (owing t k o p f l)
+same_owing s t k None p f l latest = refl
+same_owing s t k (Some b) p f l latest = ap (λ (g : ℕ → ℕ). Paying k (g b.0) p (spot b.0 (slot k)) f l) (sym latest)
+
+owing_at : (v w : Story) (c : Cell) (o : Option Block) (p : Option Place) (f l : ℕ) → w.extent ≡ v.extent → (state w).latest ≡ (state v).latest
+    → ◌≡◌ {A = Pending Nothing} (owing (state v) (kind_in (state v) c) o p f l) (owing (state w) (kind_in (state w) c) o p f l)
+owing_at v w c o p f l same latest =
+    same_owing (state v) (state w) (kind_in (state v) c) o p f l latest ∙ ap (λ (k : Kind). owing (state w) k o p f l) (sym (kind_stays v w c same))
+
+-- what is out after a step of its own, as the state tells it that the step leaves
+pub owes_after : (v : Story) (d : ℕ) (x : CellDeed) → Kept v → d < v.extent.actors
+    → pending (after v d (OnCell x)) d ≡ cell_pending (state (after v d (OnCell x))) x
+owes_after v d x kept lt =
+    ap (λ (w : View Nothing). w.pending) (get_or-set_same v.views d _ used_up (let s = kept.seats.size in omega (arith, s, lt))) ∙ go x
+  where
+    go : (x : CellDeed) → ◌≡◌ {A = Pending Nothing} (cell_pending (state v) x) (cell_pending (state (after v d (OnCell x))) x)
+    go (Look c x y) = refl
+    go (Bring k b p f) = refl
+    go (GiveBack k b f) = refl
+    go (Take c x y) = let w = after v d (OnCell (Take c x y)) in owing_at v w c x.owned x.place 1 1 refl (cell_latest v d (Take c x y))
+    go (Turn k b) = refl
+    go (Refill c t) = refl
+    go (Swap c new x) = let w = after v d (OnCell (Swap c new x)) in owing_at v w c x.owned x.place (256 - x.taken) 0 refl (cell_latest v d (Swap c new x))
+    go (CompareSwap c x y) =
+        let w = after v d (OnCell (CompareSwap c x y)) in owing_at v w c x.owned x.place (256 - x.taken) 0 refl (cell_latest v d (CompareSwap c x y))
+    go (TakeOut b m x) = same_owing (state v) (state (after v d (OnCell (TakeOut b m x)))) (kind_of_member m) x.owned x.place (256 - x.taken) 0 refl
+
+kind_got : (s : State) (d : ℕ) (h : Handle) (c : Cell) → kind_in (gets d h s) c ≡ kind_in s c
+kind_got s d h (Free n) = refl
+kind_got s d h (Member b m) = refl
+
+-- what was loaded is in the bag
+has_got : (s : State) (d : ℕ) (k : Kind) (o : Option Block) (p : Option Place) (b : Block) → o ≡ Some b
+    → Has (held d (handle k (object_at s (Some b)) p)) (gets d (handle k (object_at s o) p) s).hands
+has_got s d k o p b is =
+    subst (λ (q : Option Block). Has (held d (handle k (object_at s (Some b)) p)) (gets d (handle k (object_at s q) p) s).hands) (sym is) (inl refl)
+
+same_block_true : (o q : Option Block) → same_block o q ≡ true → o ≡ q
+same_block_true None None e = refl
+same_block_true None (Some b) e = cc
+same_block_true (Some a) None e = cc
+same_block_true (Some a) (Some b) e = ap (λ (n : ℕ). Some (record { 0 = n })) (eqb-true a.0 b.0 e)
+
+-- one more handle in the bag shuts no cell
+open_got : (s : State) (d : ℕ) (h : Handle) (c : Cell) → IsOpen s d (cell_in s c) → IsOpen (gets d h s) d (cell_in (gets d h s) c)
+open_got s d h (Free n) way = way
+open_got s d h (Member b m) way =
+    let y = way.1.0 in let hold = way.1.1 in
+    (way.0, (y, (cond_both (has_object h) (held d h ∷ s.hands) s.hands (λ (l : List Held). Has (held d y) l) (λ t. inr hold.0) (λ t. hold.0), hold.1, hold.2), way.1.2))
+
+module _ (d : ℕ) (v : Story) (kept : Kept v) (lt : d < v.extent.actors) where
+  -- a fund is taken
+  pub begins_refill : (c : Cell) (x : CellWord) (y : Option Compared) (b : Block) → IsOpenTo v d c → IsCellWord x → x.owned ≡ Some b → x.taken < 256
+      → RefillFits d Turning c (more_taken x) (after v d (OnCell (Take c x y)))
+  begins_refill c x y b way valid some few = go y
+    where
+      got : (w : Story) → state w ≡ gets d (handle_told (state v) c x) (state v) → w.extent ≡ v.extent
+          → pending w d ≡ owing (state w) (kind_in (state w) c) x.owned x.place 1 1 → RefillFits d Turning c (more_taken x) w
+      got w is same owes =
+          let s = state v in
+          let t = gets d (handle_told s c x) s in
+          record {
+            valid = record { owned = valid.owned; place = valid.place; taken = omega (arith, few) };
+            block = b;
+            owned = some;
+            opens = subst (λ (u : State). IsOpen u d (cell_in u c)) (sym is) (open_got s d (handle_told s c x) c way);
+            has = subst (λ (u : State). Has (held d (handle (kind_in u c) (Some (u.latest b.0)) x.place)) u.hands) (sym is)
+                (subst (λ (k : Kind). Has (held d (handle k (Some (s.latest b.0)) x.place)) t.hands) (sym (kind_got s d (handle_told s c x) c))
+                (has_got s d (kind_in s c) x.owned x.place b some));
+            pays = owes ∙ ap (λ (o : Option Block). owing (state w) (kind_in (state w) c) o x.place 1 1) some;
+          }
+
+      go : (y : Option Compared) → RefillFits d Turning c (more_taken x) (after v d (OnCell (Take c x y)))
+      go None = got (after v d (OnCell (Take c x None))) refl refl (owes_after v d (Take c x None) kept lt)
+      go (Some q) = got (after v d (OnCell (Take c x (Some q)))) refl refl (owes_after v d (Take c x (Some q)) kept lt)
+
+  -- the fund is turned
+  pub turns_fund : (c : Cell) (x : CellWord) (b : Block) → RefillFits d Turning c x v → RefillFits d Checking c x (after v d (OnCell (Turn (kind_in (state v) c) b)))
+  turns_fund c x b fits =
+      record {
+        valid = fits.valid;
+        block = fits.block;
+        owned = fits.owned;
+        opens = fits.opens;
+        has = fits.has;
+        pays = owes_after v d (Turn (kind_in (state v) c) b) kept lt;
+      }
+
+  -- as many funds are brought as were taken
+  pub brings_funds : (c : Cell) (x : CellWord) (b : Block) → RefillFits d Lacking c x v → x.owned ≡ Some b
+      → RefillFits d Refilling c x (after v d (OnCell (Bring (kind_in (state v) c) b x.place x.taken)))
+  brings_funds c x b fits some =
+      record {
+        valid = fits.valid;
+        block = b;
+        owned = some;
+        opens = fits.opens;
+        has = subst (λ (q : Block). Has (held d (handle_in v (kind_in (state v) c) q x.place)) (state v).hands) (same_Some _ _ (sym fits.owned ∙ some)) fits.has;
+        pays = owes_after v d (Bring (kind_in (state v) c) b x.place x.taken) kept lt;
+      }
+
+  -- the funds are given back
+  pub gives_back : (c : Cell) (x : CellWord) (b : Block) → RefillFits d Failing c x v
+      → RefillFits d Checking c x (after v d (OnCell (GiveBack (kind_in (state v) c) b x.taken)))
+  gives_back c x b fits =
+      record {
+        valid = fits.valid;
+        block = fits.block;
+        owned = fits.owned;
+        opens = fits.opens;
+        has = fits.has;
+        pays = owes_after v d (GiveBack (kind_in (state v) c) b x.taken) kept lt;
+      }
+
+module _ (d : ℕ) (v : Story) where
+  -- the cell holds the same value still
+  pub finds_same : (c : Cell) (x y : CellWord) → RefillFits d Checking c x v → IsCellWord y → same_value x y ≡ true → RefillFits d Lacking c y v
+  finds_same c x y fits valid same =
+      let t = and_parts _ _ same in
+      let p = same_place_true x.place y.place t.1 in
+      record {
+        valid = valid;
+        block = fits.block;
+        owned = sym (same_block_true x.owned y.owned t.0) ∙ fits.owned;
+        opens = fits.opens;
+        has = subst (λ (q : Option Place). Has (held d (handle_in v (kind_in (state v) c) fits.block q)) (state v).hands) p fits.has;
+        pays = fits.pays;
+      }
+
+  -- the cell shows something else
+  pub misses_cell : (c : Cell) (x : CellWord) → RefillFits d Refilling c x v → RefillFits d Failing c x v
+  misses_cell c x fits = record { valid = fits.valid; block = fits.block; owned = fits.owned; opens = fits.opens; has = fits.has; pays = fits.pays }

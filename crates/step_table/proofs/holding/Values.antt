@@ -1,0 +1,65 @@
+-- What pointers tell by their values.
+use Rattle.std.proofs.Common.{◌≡◌, ℕ, ◌<◌, Option, Some, None, refl, sym, ap, subst, ◌∙◌, arith}
+use Rattle.std.proofs.lemmas.Option.{same_Some}
+use Rattle.std.specs.Prelude.{nat_lt}
+use Rattle.control_word.specs.declared.handle.Kind.{Kind}
+use Rattle.control_word.specs.declared.handle.Kind.TheVariants.{Owner, Weak}
+use Rattle.control_word.specs.declared.place.Place.{Place}
+use Rattle.control_word.specs.Handles.{IsPointer, empty, rank}
+use Rattle.control_word.specs.State.{Has, held}
+use Rattle.control_word.specs.Words.{blocks_of}
+use Rattle.step_table.specs.declared.field.Field.{Field}
+use Rattle.step_table.specs.declared.field.Field.TheVariants.{Zero, One, Two, Three}
+use Rattle.step_table.specs.declared.holdings.Pointer.{Pointer}
+use Rattle.step_table.specs.Deeds.{aliased, field_number, handle_of, on, before}
+use Rattle.step_table.specs.Holdings.{Holds, Slots, owner_as, owner_slot, place_in, slot}
+use Rattle.step_table.specs.Stories.{Kept, Story, handle_in, owner_in, state}
+use Rattle.step_table.proofs.holding.Owning.{slot_held}
+use Rattle.step_table.proofs.tables.Places.{handle_busy, there}
+
+field_few : (f : Field) → field_number f < 4
+field_few Zero = omega arith
+field_few One = omega arith
+field_few Two = omega arith
+field_few Three = omega arith
+
+-- a place that is well formed, with another field
+pub aliased_formed : (d : ℕ) (slots : Slots) (v : Story) (j : ℕ) (field : Option Field) → Holds d slots v → IsPointer (aliased field (place_in slots j))
+aliased_formed d slots v j field holds = go field (place_in slots j) (holds.formed j)
+  where
+    go : (f : Option Field) (p : Option Place) → IsPointer p → IsPointer (aliased f p)
+    go None p e = tt
+    go (Some f) None e = tt
+    go (Some f) (Some p) e = (e.0, e.1, field_few f)
+
+-- an owner in a slot
+pub owner_held : (d : ℕ) (slots : Slots) (v : Story) (i : ℕ) (x : Pointer) → Holds d slots v → owner_slot (slot slots i) ≡ Some x
+    → Has (held d (owner_in v x.block x.place)) (state v).hands
+owner_held d slots v i x holds e =
+    let w = owner_is (slot slots i) x e in
+    subst (λ (k : Kind). Has (held d (handle_in v k x.block x.place)) (state v).hands) w.1 (slot_held d slots v i x holds w.0)
+  where
+    owner_is : (o : Option Pointer) (x : Pointer) → owner_slot o ≡ Some x → (o ≡ Some x) × (x.kind ≡ Owner)
+    owner_is None x e = cc
+    owner_is (Some y) x e = go y.kind refl e
+      where
+        go : (k : Kind) → y.kind ≡ k → owner_as k y ≡ Some x → (Some y ≡ Some x) × (x.kind ≡ Owner)
+        go Weak is e = cc
+        go Owner is e = (e, ap (λ (p : Pointer). p.kind) (sym (same_Some y x e)) ∙ is)
+
+-- the block of what a slot owns tells where it stands in owner order
+slot_rank : (d : ℕ) (slots : Slots) (v : Story) (i : ℕ) → Kept v → Holds d slots v
+    → rank (blocks_of (state v)) (on (handle_of (state v)) (empty Owner) (slot slots i)) ≡ on (λ x. x.block.0) 0 (slot slots i)
+slot_rank d slots v i kept holds = go (slot slots i) refl
+  where
+    go : (o : Option Pointer) → slot slots i ≡ o
+        → rank (blocks_of (state v)) (on (handle_of (state v)) (empty Owner) o) ≡ on (λ x. x.block.0) 0 o
+    go None e = refl
+    go (Some x) e = (there v x.block kept (handle_busy v d x.kind x.block x.place kept (slot_held d slots v i x holds e))).0
+
+pub before_by : (d : ℕ) (slots : Slots) (v : Story) (i j : ℕ) → Kept v → Holds d slots v
+    → before (state v) (slot slots i) (slot slots j) ≡ nat_lt (on (λ x. x.block.0) 0 (slot slots i)) (on (λ x. x.block.0) 0 (slot slots j))
+before_by d slots v i j kept holds =
+    let a = slot_rank d slots v i kept holds in
+    let b = slot_rank d slots v j kept holds in
+    rw (a, b) refl

@@ -1,0 +1,98 @@
+-- No half-done call shuts a door, and objects have four fields.
+use Rattle.std.proofs.Common.{◌≡◌, ◌≢◌, ℕ, suc, ◌<◌, ◌≤◌, cond, List, [], ◌∷◌, length, refl, sym, ap}
+use Rattle.std.proofs.Common.{subst, ⊎_elim, arith}
+use Rattle.std.proofs.Common.{get_or-set_same, get_or-set_other, ne_eqb}
+use Rattle.std.proofs.lemmas.Bool.{cases_eq, cond_both, cond-false}
+use Rattle.control_word.proofs.lists.Tallies.{put_cases}
+use Rattle.control_word.specs.declared.view.Pending.{Pending}
+use Rattle.control_word.specs.declared.view.Pending.TheVariants.{Idle, Making, Merging, Parting, Paying, Visiting}
+use Rattle.control_word.specs.declared.view.View.{View}
+use Rattle.control_word.specs.Events.{moved_to}
+use Rattle.control_word.specs.Histories.{IsLegal}
+use Rattle.control_word.specs.Layout.{spot}
+use Rattle.control_word.specs.State.{Object, ending}
+use Rattle.control_word.specs.Views.{added, adds, total, used_up}
+use Rattle.step_table.specs.declared.past.Deed.{Deed}
+use Rattle.step_table.specs.declared.past.Deed.TheVariants.{Prepare, Write, Claim, Share, WeakShare, Leave, WeakLeave, Lock, Count, Expired, Read, Clear, Finish, OnCell}
+use Rattle.step_table.proofs.tables.CellDeeds.{shuts_cell, whole_framed}
+use Rattle.step_table.specs.Openings.{opening}
+use Rattle.step_table.specs.Stories.{AllWhole, ShutsNoDoor, Kept, Nothing, Story, after, history_after, object_in, pending, pending_after, state, view_in}
+
+shuts_none : (v : Story) (d : ℕ) (x : Deed) → ShutsNoDoor (pending_after v d x)
+shuts_none v d (Prepare b) = tt
+shuts_none v d (Write b j n) = tt
+shuts_none v d (Claim b enabled null fields) = tt
+shuts_none v d (Share b p q) = tt
+shuts_none v d (Leave b p last) = tt
+shuts_none v d (WeakShare b p) = tt
+shuts_none v d (WeakLeave b p vacant) = tt
+shuts_none v d (Lock b p got) = tt
+shuts_none v d (Count k b p n) = tt
+shuts_none v d (Expired k b p e) = tt
+shuts_none v d (Read b p n) = tt
+shuts_none v d (Clear b m) = tt
+shuts_none v d (Finish b vacant) = tt
+shuts_none v d (OnCell x) = shuts_cell (state v) x
+
+-- what is so of each half-done call, and of the desk's after its deed
+pub pending_all : (P : Pending Nothing → Type 0) (v : Story) (d : ℕ) (x : Deed) → d < length v.views → P (pending_after v d x)
+    → ((e : ℕ) → P (pending v e)) → (e : ℕ) → P (pending (after v d x) e)
+pending_all P v d x lt new all e =
+    ⊎_elim (λ (is : e ≡ d). subst (λ (q : ℕ). P (pending (after v d x) q)) (sym is)
+    (subst P (ap (λ (w : View Nothing). w.pending) (sym (get_or-set_same v.views d _ used_up lt))) new))
+    (λ (ne : e ≢ d). subst P (ap (λ (w : View Nothing). w.pending) (sym (get_or-set_other v.views d e _ used_up ne))) (all e)) (cases_eq e d)
+
+pub doors_after : (v : Story) (d : ℕ) (x : Deed) → d < length v.views → ((e : ℕ) → ShutsNoDoor (pending v e))
+    → (e : ℕ) → ShutsNoDoor (pending (after v d x) e)
+doors_after v d x lt none e = pending_all (λ p. ShutsNoDoor p) v d x lt (shuts_none v d x) none e
+
+-- an object goes to another phase
+moved_whole : (v : Story) (i : ℕ) (y : Object) (o : ℕ) → AllWhole (state v) → y.fields ≡ ((state v).object i).fields → 0 < o → o ≤ (state v).made
+    → (o ≡ i) → length y.fields ≡ 4
+moved_whole v i y o whole same some le is =
+    subst (λ (l : List ℕ). length l ≡ 4) (sym same) (subst (λ (j : ℕ). length ((state v).object j).fields ≡ 4) is (whole o some le))
+
+pub whole_after : (v : Story) (d : ℕ) (x : Deed) → AllWhole (state v) → IsLegal (opening v.extent) (history_after v d x)
+    → AllWhole (state (after v d x))
+whole_after v d (Prepare b) whole legal = whole
+whole_after v d (Write b j n) whole legal = whole
+whole_after v d (Claim b enabled null fields) whole legal = λ o some le.
+    put_cases (λ j (y : Object). o ≡ j → length y.fields ≡ 4) (state v).object (suc (state v).made) _ o (λ e t. legal.1.asks.1)
+    (λ ne t. whole o some (omega arith)) refl
+whole_after v d (Share b p q) whole legal = whole
+whole_after v d (Leave b p last) whole legal = λ o some le.
+    let i = object_in v b in
+    let y = (state v).object i in
+    put_cases (λ j (z : Object). o ≡ j → length z.fields ≡ 4) (state v).object i _ o
+    (λ e t. moved_whole v i (cond last (moved_to (ending d) y) y) o whole
+    (cond_both last (moved_to (ending d) y) y (λ (z : Object). z.fields ≡ y.fields) (λ s. refl) (λ s. refl)) some le e) (λ ne t. whole o some le) refl
+whole_after v d (WeakShare b p) whole legal = whole
+whole_after v d (WeakLeave b p vacant) whole legal = whole
+whole_after v d (Lock b p got) whole legal = whole
+whole_after v d (Count k b p n) whole legal = whole
+whole_after v d (Expired k b p e) whole legal = whole
+whole_after v d (Read b p n) whole legal = whole
+whole_after v d (Clear b m) whole legal = λ o some le.
+    put_cases (λ j (z : Object). o ≡ j → length z.fields ≡ 4) (state v).object (object_in v b) _ o
+    (λ e t. moved_whole v (object_in v b) ((state v).object (object_in v b)) o whole refl some le e) (λ ne t. whole o some le) refl
+whole_after v d (Finish b vacant) whole legal = λ o some le.
+    put_cases (λ j (z : Object). o ≡ j → length z.fields ≡ 4) (state v).object (object_in v b) _ o
+    (λ e t. moved_whole v (object_in v b) ((state v).object (object_in v b)) o whole refl some le e) (λ ne t. whole o some le) refl
+whole_after v d (OnCell x) whole legal = whole_framed v d x whole
+
+pub none_in : (f : Pending Nothing → ℕ) (views : List (View Nothing)) → ((d : ℕ) → f (view_in views d).pending ≡ 0)
+    → total (λ (w : View Nothing). f w.pending) views ≡ 0
+none_in f [] none = refl
+none_in f (w ∷ ws) none = let a : f w.pending ≡ 0 = none 0 in let i = none_in f ws (λ d. none (suc d)) in omega (arith, a, i)
+
+adds_none : (p : Pending Nothing) (b : ℕ) → ShutsNoDoor p → adds p (spot b 2) ≡ 0
+adds_none Idle b none = refl
+adds_none (Making c l) b none = cond-false _ 1 0 (ne_eqb (spot b 2) (spot c.0 1) (λ e. omega arith))
+adds_none (Paying k o p word funds loads) b none = refl
+adds_none (Visiting o p word x) b none = absurd none
+adds_none (Parting to) b none = absurd none
+adds_none (Merging other x y) b none = absurd none
+
+-- no door is shut
+pub no_door : (v : Story) (b : ℕ) → Kept v → added v.views (spot b 2) ≡ 0
+no_door v b kept = none_in (λ p. adds p (spot b 2)) v.views (λ d. adds_none (pending v d) b (kept.doors d))

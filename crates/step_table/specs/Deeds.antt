@@ -1,0 +1,137 @@
+-- What acts do to the object of a pointer. All of it is own but the events, which name their sections.
+use Rattle.std.specs.Prelude.{ℕ, ◌==◌, Bool, cond, ◌&&◌, not, Option, Some, None, slice_index}
+use Rattle.control_word.specs.declared.handle.Kind.{Kind}
+use Rattle.control_word.specs.declared.handle.Kind.TheVariants.{Owner, Weak}
+use Rattle.control_word.specs.declared.place.Place.{Place}
+use Rattle.control_word.specs.Events.{is_gone, place_at}
+use Rattle.control_word.specs.Layout.{spot}
+use Rattle.control_word.specs.State.{Object, State, count, weak}
+use Rattle.step_table.specs.declared.field.Field.{Field}
+use Rattle.step_table.specs.declared.holdings.Pointer.{Pointer}
+use Rattle.step_table.specs.declared.past.Deed.{Deed}
+use Rattle.step_table.specs.declared.past.Deed.TheVariants as deed
+use Rattle.step_table.specs.Stories.{Story}
+use Rattle.step_table.specs.declared.field.Field.TheVariants.{Zero, One, Two, Three}
+use Rattle.control_word.specs.declared.handle.Handle.{Handle}
+use Rattle.control_word.specs.Handles.{handle, empty, owner_before}
+use Rattle.step_table.specs.declared.ended.Ended.{Ended}
+use Rattle.step_table.specs.declared.ended.Ended.TheVariants as ended
+use Rattle.control_word.specs.Words.{blocks_of}
+
+-- the number of a field
+abbrev pub field_number : Field → ℕ
+field_number Zero = 0
+field_number One = 1
+field_number Two = 2
+field_number Three = 3
+
+-- the object that a pointer owns or shares: no other keeps the block
+abbrev pub owned : State → Pointer → ℕ
+owned s x = s.latest x.block.0
+
+-- the same pointer, of the other kind
+abbrev pub as_owner : Pointer → Pointer
+as_owner x = record { kind = Owner; block = x.block; place = x.place }
+
+abbrev pub as_weak : Pointer → Pointer
+as_weak x = record { kind = Weak; block = x.block; place = x.place }
+
+-- an owner's leave is the last where no other owner is left; a weak handle's, where it leaves the block vacant
+abbrev pub last_as : Kind → State → ℕ → Bool
+last_as Owner s o = count s o == 1
+last_as Weak s o = weak s o == 1 && is_gone (s.object o).phase
+
+abbrev pub is_last : State → Pointer → Bool
+is_last s x = last_as x.kind s (owned s x)
+
+-- no owner is left
+abbrev pub is_expired : State → Pointer → Bool
+is_expired s x = count s (owned s x) == 0
+
+-- a copy of a pointer
+abbrev pub share_as : Kind → Pointer → Deed
+share_as Owner x = deed.Share x.block x.place x.place
+share_as Weak x = deed.WeakShare x.block x.place
+
+abbrev pub share : Pointer → Deed
+share x = share_as x.kind x
+
+-- a field of what a place points into; null has none
+abbrev pub aliased : Option Field → Option Place → Option Place
+aliased None p = None
+aliased (Some field) None = None
+aliased (Some field) (Some p) = Some (record { block = p.block; field = field_number field })
+
+-- an owner of the same object with another place ([util.smartptr.shared.const], the aliasing constructor)
+abbrev pub at_place : Option Place → Pointer → Pointer
+at_place p x = record { kind = Owner; block = x.block; place = p }
+
+abbrev pub alias : Option Place → Pointer → Deed
+alias p x = deed.Share x.block x.place p
+
+-- a weak pointer to the same object
+abbrev pub downgrade : Pointer → Deed
+downgrade x = deed.WeakShare x.block x.place
+
+abbrev pub leave_as : Kind → Pointer → Bool → Deed
+leave_as Owner x last = deed.Leave x.block x.place last
+leave_as Weak x last = deed.WeakLeave x.block x.place last
+
+abbrev pub leave : State → Pointer → Deed
+leave s x = leave_as x.kind x (is_last s x)
+
+abbrev pub tell : State → Pointer → Deed
+tell s x = deed.Count x.kind x.block x.place (count s (owned s x))
+
+abbrev pub tell_expired : State → Pointer → Deed
+tell_expired s x = deed.Expired x.kind x.block x.place (is_expired s x)
+
+abbrev pub lock : State → Pointer → Deed
+lock s x = deed.Lock x.block x.place (not (is_expired s x))
+
+-- what a lock gives: an owner with the weak pointer's place, if one is left
+abbrev pub owner_left : State → Pointer → Option Pointer
+owner_left s x = cond (is_expired s x) None (Some (as_owner x))
+
+-- the field that a pointer points at
+abbrev pub field_at : Object → Option Place → ℕ
+field_at o None = 0
+field_at o (Some p) = slice_index o.fields p.field
+
+abbrev pub field_of : State → Pointer → ℕ
+field_of s x = field_at (s.object (owned s x)) x.place
+
+abbrev pub read : State → Pointer → Deed
+read s x = deed.Read x.block x.place (field_of s x)
+
+-- the object gives pointers to itself ([util.smartptr.enab])
+abbrev pub is_enabled : State → Pointer → Bool
+is_enabled s x = (s.object (owned s x)).enabled
+
+-- what it gives: a pointer of this kind to the object itself
+abbrev pub this_as : Kind → Pointer → Pointer
+this_as k x = record { kind = k; block = x.block; place = place_at x.block.0 }
+
+abbrev pub give : Kind → Pointer → Deed
+give Owner x = deed.Share x.block x.place (place_at x.block.0)
+give Weak x = deed.WeakShare x.block (place_at x.block.0)
+
+-- the word that counts the owners of a pointer's object
+abbrev pub owner_word : Story → Pointer → ℕ
+owner_word v x = slice_index v.words (spot x.block.0 0)
+
+-- a pointer as histories name it
+abbrev pub handle_of : State → Pointer → Handle
+handle_of s x = handle x.kind (Some (owned s x)) x.place
+
+abbrev pub on : {A : Type 0} → (Pointer → A) → A → Option Pointer → A
+on f none None = none
+on f none (Some x) = f x
+
+-- what owns nothing comes before all that owns something, and else the lesser block first ([util.smartptr.shared.obs]; by
+-- block: own)
+abbrev pub before : State → Option Pointer → Option Pointer → Bool
+before s x y = owner_before (blocks_of s) (on (handle_of s) (empty Owner) x) (on (handle_of s) (empty Owner) y)
+
+abbrev pub remains : Object → Ended
+remains x = cond x.null ended.Null (ended.Fields x.fields)

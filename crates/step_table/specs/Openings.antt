@@ -1,0 +1,36 @@
+-- How a world begins: each actor has a store of blocks and a share of the allowance. All of it is own.
+use Rattle.std.specs.Prelude.{ℕ, ◌+◌, ◌-◌, ◌*◌, ◌/◌, ◌%◌, ◌≤◌, ◌==◌, cond, nat_lt}
+use Rattle.control_word.specs.State.{Opening}
+use Rattle.step_table.specs.declared.extent.Extent.{Extent}
+
+-- each actor has the same number of blocks, in order; the rest goes to the last
+abbrev pub each_stock : Extent → ℕ
+each_stock x = x.shape.blocks / x.actors
+
+abbrev pub holder_of : Extent → ℕ → ℕ
+holder_of x b = cond (nat_lt (each_stock x * (x.actors - 1)) b) (x.actors - 1) ((b - 1) / each_stock x)
+
+-- each actor may hold the same number of handles; the rest goes to the first
+abbrev pub share_of : Extent → ℕ → ℕ
+share_of x d = cond (nat_lt d x.actors) (x.shape.allowance / x.actors + cond (d == 0) (x.shape.allowance % x.actors) 0) 0
+
+abbrev pub opening : Extent → Opening
+opening x =
+    record {
+      blocks = x.shape.blocks;
+      shared_cells = x.shape.shared_cells;
+      cells = x.shape.shared_cells + x.shape.weak_cells;
+      allowance = x.shape.allowance;
+      desks = x.actors;
+      holder = holder_of x;
+      share = share_of x;
+    }
+
+-- 1 to 64 actors, with an allowance of 40 handles each or more, over a table within the limits
+pub record IsExtent (x : Extent) : Type 0 where
+  pub some : 1 ≤ x.actors
+  pub few : x.actors ≤ 64
+  pub blocks : x.shape.blocks ≤ 65535
+  pub cells : x.shape.shared_cells + x.shape.weak_cells ≤ 256
+  pub allowance : x.shape.allowance ≤ 4194304
+  pub enough : 40 * x.actors ≤ x.shape.allowance

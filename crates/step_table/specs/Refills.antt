@@ -1,0 +1,35 @@
+-- What a thread relies on that took a fund of a cell, until the cell is refilled. All of it is own.
+use Rattle.std.specs.Prelude.{◌≡◌, ℕ, suc, Some}
+use Rattle.control_word.specs.declared.cell.CellWord.{CellWord}
+use Rattle.control_word.specs.declared.handle.Kind.{Kind}
+use Rattle.control_word.specs.declared.place.Block.{Block}
+use Rattle.control_word.specs.declared.view.Pending.TheVariants.{Idle}
+use Rattle.control_word.specs.Packing.{IsCellWord}
+use Rattle.control_word.specs.State.{Has, held}
+use Rattle.step_table.specs.declared.cell_deed.Cell.{Cell}
+use Rattle.step_table.specs.declared.refill.Stage.{Stage}
+use Rattle.step_table.specs.declared.refill.Stage.TheVariants.{Turning, Checking, Lacking, Refilling, Failing}
+use Rattle.step_table.specs.CellDeeds.{kind_in, owing}
+use Rattle.step_table.specs.Cells.{IsOpenTo}
+use Rattle.step_table.specs.Stories.{Story, handle_in, pending, state}
+
+-- one fund more is taken
+abbrev pub more_taken : CellWord → CellWord
+more_taken x = record { owned = x.owned; place = x.place; taken = suc x.taken }
+
+-- the funds that are out: the one that was taken, or those that were brought in place of all that were
+abbrev pub StageFits : ℕ → Stage → Kind → Block → CellWord → Story → Type 0
+StageFits d Turning k b x v = pending v d ≡ owing (state v) k (Some b) x.place 1 1
+StageFits d Checking k b x v = pending v d ≡ Idle
+StageFits d Lacking k b x v = pending v d ≡ Idle
+StageFits d Refilling k b x v = pending v d ≡ owing (state v) k (Some b) x.place x.taken 0
+StageFits d Failing k b x v = pending v d ≡ owing (state v) k (Some b) x.place x.taken 0
+
+-- the value has an object, the cell is open, and the desk has what it loaded
+pub record RefillFits (d : ℕ) (stage : Stage) (c : Cell) (x : CellWord) (v : Story) : Type 0 where
+  pub valid : IsCellWord x
+  pub block : Block
+  pub owned : x.owned ≡ Some block
+  pub opens : IsOpenTo v d c
+  pub has : Has (held d (handle_in v (kind_in (state v) c) block x.place)) (state v).hands
+  pub pays : StageFits d stage (kind_in (state v) c) block x v

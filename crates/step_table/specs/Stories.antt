@@ -1,0 +1,178 @@
+-- What clauses see of a table: its words, what has happened, and what each desk knows of it. All of it is own.
+use Rattle.std.specs.Prelude.{◌≡◌, ℕ, suc, ◌+◌, ◌-◌, ◌<◌, ◌≤◌, false, cond, List, [], ◌∷◌, length, get_or, slice_index, slice_set, Option, Some, None}
+use Rattle.control_word.specs.declared.event.Entry.{Entry}
+use Rattle.control_word.specs.declared.event.Event.{Event}
+use Rattle.control_word.specs.declared.event.Event.TheVariants as event
+use Rattle.control_word.specs.declared.handle.Handle.{Handle}
+use Rattle.control_word.specs.declared.handle.Kind.{Kind}
+use Rattle.control_word.specs.declared.place.Block.{Block}
+use Rattle.control_word.specs.declared.place.Place.{Place}
+use Rattle.control_word.specs.declared.view.Pending.{Pending}
+use Rattle.control_word.specs.declared.view.Pending.TheVariants.{Idle, Making, Paying}
+use Rattle.control_word.specs.declared.view.View.{View}
+use Rattle.control_word.specs.Handles.{empty, handle, owner, weak_of}
+use Rattle.control_word.specs.Histories.{entry, leads}
+use Rattle.control_word.specs.Layout.{spot}
+use Rattle.control_word.specs.State.{State, kind_of_member}
+use Rattle.control_word.specs.Steps.{known_of}
+use Rattle.control_word.specs.Views.{Stands, sees_as, used_up}
+use Rattle.step_table.specs.declared.cell_deed.Cell.TheVariants.{Free}
+use Rattle.step_table.specs.declared.cell_deed.CellDeed.{CellDeed}
+use Rattle.step_table.specs.declared.cell_deed.CellDeed.TheVariants as cell_deed
+use Rattle.step_table.specs.declared.extent.Extent.{Extent}
+use Rattle.step_table.specs.declared.past.Deed.{Deed}
+use Rattle.step_table.specs.declared.past.Deed.TheVariants.{Prepare, Write, Claim, Share, WeakShare, Leave, WeakLeave, Lock, Count, Expired, Read, Clear, Finish, OnCell}
+use Rattle.step_table.specs.CellDeeds.{cell_event, cell_pending, cell_words}
+use Rattle.step_table.specs.Openings.{IsExtent, opening, share_of}
+
+-- objects of the machine have no value of their own
+abbrev pub Nothing : Type 0
+Nothing = Unit {0}
+
+pub record Story : Type 0 where
+  pub extent : Extent
+  pub words : List ℕ
+  pub views : List (View Nothing)
+  pub history : List (Entry Nothing)
+
+abbrev pub state : Story → State
+state v = leads (opening v.extent) v.history
+
+abbrev pub view_in : List (View Nothing) → ℕ → View Nothing
+view_in views d = get_or views d used_up
+
+-- the desk's half-done call
+abbrev pub pending : Story → ℕ → Pending Nothing
+pending v d = (view_in v.views d).pending
+
+-- the object that a handle on this block owns: no other keeps the block
+abbrev pub object_in : Story → Block → ℕ
+object_in v b = (state v).latest b.0
+
+abbrev pub owner_in : Story → Block → Option Place → Handle
+owner_in v b p = owner (object_in v b) p
+
+abbrev pub weak_in : Story → Block → Option Place → Handle
+weak_in v b p = weak_of (object_in v b) p
+
+-- the handle of either kind
+abbrev pub handle_in : Story → Kind → Block → Option Place → Handle
+handle_in v k b p = handle k (Some (object_in v b)) p
+
+-- the event of a deed; a write of a vacant block is none
+abbrev pub event_of : Story → Deed → Option (Event Nothing)
+event_of v (Prepare b) = None
+event_of v (Write b j n) = None
+event_of v (Claim b enabled null fields) = Some (event.Make b enabled null fields tt)
+event_of v (Share b p q) = Some (event.Share (owner_in v b p) q)
+event_of v (WeakShare b p) = Some (event.WeakShare (object_in v b) p)
+event_of v (Leave b p last) = Some (event.Leave (owner_in v b p) last)
+event_of v (WeakLeave b p vacant) = Some (event.WeakLeave (weak_in v b p) vacant)
+event_of v (Lock b p got) = Some (event.Lock (weak_in v b p) got)
+event_of v (Count k b p n) = Some (event.Count (handle_in v k b p) n)
+event_of v (Expired k b p expired) = Some (event.Expired (handle_in v k b p) expired)
+event_of v (Read b p n) = Some (event.Read (owner_in v b p) n)
+event_of v (Clear b m) = Some (event.ClearMember (object_in v b) m (empty (kind_of_member m)))
+event_of v (Finish b vacant) = Some (event.Finish (object_in v b) vacant tt)
+event_of v (OnCell x) = cell_event (state v) x
+
+-- the words after it: one of them is written, or none
+abbrev pub words_after : Story → Deed → List ℕ
+words_after v (Prepare b) = slice_set v.words (spot b.0 1) 1
+words_after v (Write b j n) = slice_set v.words (spot b.0 (2 + j)) n
+words_after v (Claim b enabled null fields) = slice_set v.words (spot b.0 0) 1
+words_after v (Share b p q) = slice_set v.words (spot b.0 0) (suc (slice_index v.words (spot b.0 0)))
+words_after v (WeakShare b p) = slice_set v.words (spot b.0 1) (suc (slice_index v.words (spot b.0 1)))
+words_after v (Leave b p last) = slice_set v.words (spot b.0 0) (slice_index v.words (spot b.0 0) - 1)
+words_after v (WeakLeave b p vacant) = slice_set v.words (spot b.0 1) (slice_index v.words (spot b.0 1) - 1)
+words_after v (Lock b p got) = cond got (slice_set v.words (spot b.0 0) (suc (slice_index v.words (spot b.0 0)))) v.words
+words_after v (Count k b p n) = v.words
+words_after v (Expired k b p expired) = v.words
+words_after v (Read b p n) = v.words
+words_after v (Clear b m) = v.words
+words_after v (Finish b vacant) = slice_set v.words (spot b.0 1) (slice_index v.words (spot b.0 1) - 1)
+words_after v (OnCell x) = cell_words v.extent.shape.blocks v.words x
+
+abbrev pub known : Pending Nothing → List ℕ
+known (Making b l) = l
+known _ = []
+
+-- the desk's half-done call after it: a make and a call on a cell take several steps
+abbrev pub pending_after : Story → ℕ → Deed → Pending Nothing
+pending_after v d (Prepare b) = Making b (known_of v.words b.0)
+pending_after v d (Write b j n) = Making b (slice_set (known (pending v d)) j n)
+pending_after v d (OnCell x) = cell_pending (state v) x
+pending_after v d _ = Idle
+
+-- the desk is making an object in this block, and knows its five loose words
+pub record IsMaking (v : Story) (d : ℕ) (b : Block) : Type 0 where
+  pub words : List ℕ
+  pub size : length words ≡ 5
+  pub making : pending v d ≡ Making b words
+
+abbrev pub added : ℕ → Option (Event Nothing) → List (Entry Nothing) → List (Entry Nothing)
+added d None h = h
+added d (Some e) h = entry d e ∷ h
+
+abbrev pub history_after : Story → ℕ → Deed → List (Entry Nothing)
+history_after v d x = added d (event_of v x) v.history
+
+abbrev pub views_after : Story → ℕ → Deed → List (View Nothing)
+views_after v d x = slice_set v.views d (sees_as (view_in v.views d) (pending_after v d x) (history_after v d x))
+
+-- the story after a deed of desk d
+abbrev pub after : Story → ℕ → Deed → Story
+after v d x = record { extent = v.extent; words = words_after v x; views = views_after v d x; history = history_after v d x }
+
+-- each actor has a view of its own
+pub record Seats (views : List (View Nothing)) (actors : ℕ) : Type 0 where
+  pub size : length views ≡ actors
+  pub names : (d : ℕ) → d < actors → (view_in views d).name ≡ d
+  pub awake : (d : ℕ) → d < actors → (view_in views d).spent ≡ false
+
+-- what a desk has half done shuts no door, and is no split or join
+abbrev pub ShutsNoDoor : Pending Nothing → Type 0
+ShutsNoDoor Idle = Unit {0}
+ShutsNoDoor (Making b l) = Unit {0}
+ShutsNoDoor (Paying k o p word funds loads) = Unit {0}
+ShutsNoDoor _ = ⊥
+
+-- each object that was made has four fields
+abbrev pub AllWhole : State → Type 0
+AllWhole s = (o : ℕ) → 0 < o → o ≤ s.made → length (s.object o).fields ≡ 4
+
+-- the words stand for the history; nobody's allowance has changed, and no door is shut
+pub record Kept (v : Story) : Type 0 where
+  pub stands : Stands (opening v.extent) v.words v.views v.history
+  pub seats : Seats v.views v.extent.actors
+  pub doors : (d : ℕ) → ShutsNoDoor (pending v d)
+  pub whole : AllWhole (state v)
+  pub proper : IsExtent v.extent
+  pub allowed : (state v).allowance ≡ share_of v.extent
+
+-- no member of an object holds a handle
+abbrev pub AllBare : State → Type 0
+AllBare s = (o m : ℕ) → (s.object o).member m ≡ empty (kind_of_member m)
+
+-- what a desk has half done takes nothing from any count: it loads nothing
+abbrev pub IsCalm : Pending Nothing → Type 0
+IsCalm Idle = Unit {0}
+IsCalm (Making b l) = Unit {0}
+IsCalm (Paying k o p word funds loads) = loads ≡ 0
+IsCalm _ = ⊥
+
+-- no member was filled, and no count lags behind
+pub record Plain (v : Story) : Type 0 where
+  pub bare : AllBare (state v)
+  pub calm : (d : ℕ) → IsCalm (pending v d)
+
+-- a step that loads nothing and fills no member: funds that are brought or given back, and swaps of free cells
+abbrev pub IsPlainOn : CellDeed → Type 0
+IsPlainOn (cell_deed.Bring k b p f) = Unit {0}
+IsPlainOn (cell_deed.GiveBack k b f) = Unit {0}
+IsPlainOn (cell_deed.Swap (Free n) new x) = Unit {0}
+IsPlainOn _ = ⊥
+
+abbrev pub IsPlain : Deed → Type 0
+IsPlain (OnCell x) = IsPlainOn x
+IsPlain _ = Unit {0}

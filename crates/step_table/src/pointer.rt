@@ -1,0 +1,43 @@
+//! Copies and leaves of pointers of either kind.
+ghost use Rattle.std.specs.Prelude.{◌≡◌, ◌<◌};
+ghost use Rattle.control_word.specs.declared.view.Pending.TheVariants.{Idle};
+ghost use Rattle.control_word.specs.Handles.{IsPointer};
+ghost use Rattle.control_word.specs.State.{Has, held, bag_size};
+ghost use Rattle.step_table.specs.Deeds.{is_last, leave, share};
+ghost use Rattle.step_table.specs.Stories.{after, handle_in, pending, state};
+
+use crate::holdings::Pointer;
+use crate::table::Table;
+use control_word::handle::Kind;
+
+impl Table {
+    /// A copy of a pointer.
+    pub fn copy_pointer(&mut self, desk: usize, pointer: Pointer)
+        requires seat { desk < self.old.extent.actors }
+        requires idle { pending self.old desk ≡ Idle }
+        requires held { Has (held desk (handle_in self.old pointer.kind pointer.block pointer.place)) (state self.old).hands }
+        requires place { IsPointer pointer.place }
+        requires room { bag_size (state self.old) desk < (state self.old).allowance desk }
+        ensures { self.new ≡ after self.old desk (share pointer) }
+    {
+        match pointer.kind {
+            Kind::Owner => self.share(desk, pointer.block, pointer.place, pointer.place),
+            Kind::Weak => self.weak_share(desk, pointer, pointer.place),
+        }
+    }
+
+    /// Ends a pointer. Answers whether it was the last: of an owner, that no other owner is left; of a weak pointer, that its
+    /// block is vacant.
+    pub fn leave_pointer(&mut self, desk: usize, pointer: Pointer) -> bool
+        requires seat { desk < self.old.extent.actors }
+        requires idle { pending self.old desk ≡ Idle }
+        requires held { Has (held desk (handle_in self.old pointer.kind pointer.block pointer.place)) (state self.old).hands }
+        ensures last { result ≡ is_last (state self.old) pointer }
+        ensures after { self.new ≡ after self.old desk (leave (state self.old) pointer) }
+    {
+        match pointer.kind {
+            Kind::Owner => self.leave(desk, pointer.block, pointer.place),
+            Kind::Weak => self.weak_leave(desk, pointer.block, pointer.place),
+        }
+    }
+}

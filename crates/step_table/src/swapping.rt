@@ -1,0 +1,90 @@
+//! How the values of an actor's slots go into cells. Each function is one atomic step.
+ghost use Rattle.std.specs.Prelude.{◌≡◌, ◌≢◌, ◌<◌, ◌≤◌, true, length, slice_set, Some, None};
+ghost use Rattle.control_word.specs.declared.view.Pending.TheVariants.{Idle};
+ghost use Rattle.step_table.specs.CellDeeds.{kind_in};
+ghost use Rattle.step_table.specs.Cells.{IsOpenTo};
+ghost use Rattle.step_table.specs.Contents.{as_word, held_in, is_of, owing_for, seen, slot_of, swapped};
+ghost use Rattle.step_table.specs.Holdings.{Holds, slot, value};
+ghost use Rattle.step_table.specs.Stories.{after, pending, state};
+
+use crate::cell_deed::{Cell, CellDeed};
+use crate::contents::slot_in;
+use crate::holdings::{Holdings, Pointer};
+use crate::past::Deed;
+use crate::slot::Slot;
+use crate::table::Table;
+use control_word::CellWord;
+
+/// The funds of a value that is in a cell.
+pub const FUNDS: u32 = 256;
+
+impl Holdings {
+    /// Brings the funds of a slot's pointer, which is to go into a cell.
+    pub fn bring(&self, desk: usize, table: &mut Table, from: usize, pointer: Pointer)
+        requires seat { desk < table.old.extent.actors }
+        requires idle { pending table.old desk ≡ Idle }
+        requires holds { Holds desk self.now.slots.items table.old }
+        requires from { slot self.now.slots.items from ≡ Some pointer }
+        ensures owes { pending table.new desk ≡ owing_for (state table.new) (value self.now.slots.items from) 256 }
+        ensures table { table.new ≡ after table.old desk (Deed.OnCell (CellDeed.Bring pointer.kind pointer.block pointer.place 256)) }
+        ensures holds { Holds desk self.now.slots.items table.new }
+    {
+        table.known();
+        table.bring(desk, pointer, FUNDS);
+    }
+
+    /// Exchanges a slot's value for what a cell holds.
+    pub fn exchange(&mut self, desk: usize, table: &mut Table, cell: Cell, at: usize) -> CellWord
+        requires seat { desk < table.old.extent.actors }
+        requires holds { Holds desk self.old.slots.items table.old }
+        requires open { IsOpenTo table.old desk cell }
+        requires inside { at < length self.old.slots.items }
+        requires kind { is_of (kind_in (state table.old) cell) (value self.old.slots.items at) ≡ true }
+        requires owes { pending table.old desk ≡ owing_for (state table.old) (value self.old.slots.items at) 256 }
+        ensures found { result ≡ seen table.old cell }
+        ensures few { result.taken ≤ 256 }
+        ensures slots { self.new.slots.items ≡ slice_set self.old.slots.items at (slot_of (state table.old) (held_in (state table.old) cell)) }
+        ensures table { table.new ≡ after table.old desk (Deed.OnCell (CellDeed.Swap cell (as_word (value self.old.slots.items at)) result)) }
+        ensures holds { Holds desk self.new.slots.items table.new }
+    {
+        table.known();
+        let kind = table.kind_in(cell);
+        let new = self.slots[at].word();
+        let found = table.swap_cell(desk, cell, new);
+        self.slots[at] = slot_in(kind, found);
+        found
+    }
+
+    /// Swaps a cell: a slot's value goes in, and what the cell held comes into another slot, which has no object.
+    pub fn swap(
+        &mut self,
+        desk: usize,
+        table: &mut Table,
+        cell: Cell,
+        from: usize,
+        to: usize,
+    ) -> CellWord
+        requires seat { desk < table.old.extent.actors }
+        requires holds { Holds desk self.old.slots.items table.old }
+        requires open { IsOpenTo table.old desk cell }
+        requires from { from < length self.old.slots.items }
+        requires inside { to < length self.old.slots.items }
+        requires apart { from ≢ to }
+        requires empty { slot self.old.slots.items to ≡ None }
+        requires kind { is_of (kind_in (state table.old) cell) (value self.old.slots.items from) ≡ true }
+        requires owes { pending table.old desk ≡ owing_for (state table.old) (value self.old.slots.items from) 256 }
+        ensures found { result ≡ seen table.old cell }
+        ensures few { result.taken ≤ 256 }
+        ensures slots { self.new.slots.items ≡ swapped from to self.old.slots.items (slot_of (state table.old) (held_in (state table.old) cell)) }
+        ensures table { table.new ≡ after table.old desk (Deed.OnCell (CellDeed.Swap cell (as_word (value self.old.slots.items from)) result)) }
+        ensures holds { Holds desk self.new.slots.items table.new }
+    {
+        table.known();
+        let kind = table.kind_in(cell);
+        let new = self.slots[from].word();
+        let found = table.swap_cell(desk, cell, new);
+        self.slots[to] = slot_in(kind, found);
+        self.slots[from] = Slot::Empty { place: None };
+        found
+    }
+}

@@ -1,0 +1,210 @@
+-- Going past idle tasks changes nothing that a thread means.
+use Rattle.std.proofs.Common.{◌≡◌, ℕ, ◌+◌, ◌-◌, ◌<◌, ◌≤◌, Bool, true, false, cond, List, [], ◌∷◌, length, set, drop, refl, sym, ap, subst, ◌∙◌, arith, length-set}
+use Rattle.std.proofs.Common.{◌⊎◌, ⊎_elim, inl, inr, get_or-set_same, get_or-set_other}
+use Rattle.std.proofs.lemmas.Bool.{cond-true, cond-false, false≢true}
+use Rattle.std.proofs.lemmas.List.{drop_more}
+use Rattle.step_threads.specs.declared.act.Act.{Act}
+use Rattle.step_threads.specs.declared.act.Act.TheVariants.{Make, Share, Downgrade, Lock, Put, Leave, Clear, Count, Expired, Read, FromThis, Alias, Move, Ask, Offer, Swap, Exchange, Drop}
+use Rattle.step_threads.specs.declared.act.Task.{Task}
+use Rattle.step_threads.specs.declared.course.Course.{Course}
+use Rattle.step_threads.specs.declared.ending.Ending.{Ending}
+use Rattle.step_threads.specs.Courses.{Begins, CourseReady, Drops, Follows, IsPassed, IsReady, Ready, Walk, hand, idle, no_task, other, placed, rest, settled, slots_idle, taken_after}
+use Rattle.step_threads.specs.Courses.{taken_idle, task_at, todo}
+use Rattle.step_threads.specs.Endings.{Stack}
+use Rattle.step_table.specs.Holdings.{Slots, plain, value}
+use Rattle.step_threads.specs.Steps.{with_endings}
+
+pub todo_at : (c : Course) → c.at < length c.tasks.items → todo c ≡ task_at c ∷ drop (c.at + 1) c.tasks.items
+todo_at c lt = drop_more c.tasks.items c.at no_task lt
+
+settled_idle : (slots : Slots) (taken : Bool) (es : List Ending) (t : Task) (ts : List Task) → idle t.act slots taken ≡ true
+    → settled slots taken es (t ∷ ts) ≡ settled (slots_idle t.act slots taken) (taken_idle t.act taken) es ts
+settled_idle slots taken es t ts e = cond-true (idle t.act slots taken) _ _ e
+
+settled_still : (slots : Slots) (taken : Bool) (es : List Ending) (t : Task) (ts : List Task) → idle t.act slots taken ≡ false
+    → settled slots taken es (t ∷ ts) ≡ record { slots = slots; taken = taken; endings = es; todo = t ∷ ts }
+settled_still slots taken es t ts e = cond-false (idle t.act slots taken) _ _ e
+
+with_either : (b : Bool) (x y x' y' : Walk) (es : List Ending) → with_endings x es ≡ x' → with_endings y es ≡ y'
+    → with_endings (cond b x y) es ≡ cond b x' y'
+with_either true x y x' y' es e f = e
+with_either false x y x' y' es e f = f
+
+-- the endings have no part in it
+pub settled_with : (slots : Slots) (taken : Bool) (es es' : List Ending) (ts : List Task)
+    → with_endings (settled slots taken es ts) es' ≡ settled slots taken es' ts
+settled_with slots taken es es' [] = refl
+settled_with slots taken es es' (t ∷ ts) =
+    with_either (idle t.act slots taken) _ _ _ _ es' (settled_with (slots_idle t.act slots taken) (taken_idle t.act taken) es es' ts) refl
+
+idle_taken : (act : Act) → taken_idle act false ≡ false
+idle_taken (Make form) = refl
+idle_taken (Share k) = refl
+idle_taken (Put k) = refl
+idle_taken (Leave k) = refl
+idle_taken (Clear k) = refl
+idle_taken (Count k) = refl
+idle_taken (Downgrade k) = refl
+idle_taken (Lock k must) = refl
+idle_taken (Expired k) = refl
+idle_taken (Read k) = refl
+idle_taken (FromThis k kind) = refl
+idle_taken (Alias k j field) = refl
+idle_taken (Move k) = refl
+idle_taken (Ask q) = refl
+idle_taken (Offer k c) = refl
+idle_taken (Swap c) = refl
+idle_taken (Exchange k c) = refl
+idle_taken Drop = refl
+
+taken_either : (b : Bool) (x y : Walk) → x.taken ≡ false → y.taken ≡ false → (cond b x y).taken ≡ false
+taken_either true x y e f = e
+taken_either false x y e f = f
+
+-- where nothing was taken nothing is
+pub settled_taken : (slots : Slots) (es : List Ending) (ts : List Task) → (settled slots false es ts).taken ≡ false
+settled_taken slots es [] = refl
+settled_taken slots es (t ∷ ts) =
+    taken_either (idle t.act slots false) _ _
+    (subst (λ (b : Bool). (settled (slots_idle t.act slots false) b es ts).taken ≡ false) (sym (idle_taken t.act))
+    (settled_taken (slots_idle t.act slots false) es ts)) refl
+
+pub left_taken : (c : Course) (slots : Slots) → c.taken ≡ false → (settled slots c.taken c.endings.list (rest c)).taken ≡ false
+left_taken c slots e = ap (λ (b : Bool). (settled slots b c.endings.list (rest c)).taken) e ∙ settled_taken slots c.endings.list (rest c)
+
+pub passed_todo : (a b : Course) → IsPassed a b → todo b ≡ drop (a.at + 1) a.tasks.items
+passed_todo a b p = let x = p.at in let y = p.tasks in cc
+
+pub passed_same : (a b : Course) → a.at < length a.tasks.items → idle (task_at a).act a.holdings.slots.items a.taken ≡ true → IsPassed a b
+    → settled b.holdings.slots.items b.taken b.endings.list (todo b) ≡ settled a.holdings.slots.items a.taken a.endings.list (todo a)
+passed_same a b lt e p =
+    let h = todo_at a lt in
+    let i = settled_idle a.holdings.slots.items a.taken a.endings.list (task_at a) (drop (a.at + 1) a.tasks.items) e in
+    let n = p.slots in let m = p.taken in let t = passed_todo a b p in
+    let k : b.endings.list ≡ a.endings.list = ap (λ (x : Stack). x.list) p.endings in
+    cc
+
+placed_length : (k : ℕ) (slots : Slots) → length (placed k slots) ≡ length slots
+placed_length k slots = length-set (set slots k (value slots (hand slots))) (hand slots) plain ∙ length-set slots k (value slots (hand slots))
+
+placed_hand : (k : ℕ) (slots : Slots) → 1 < length slots → value (placed k slots) (hand (placed k slots)) ≡ plain
+placed_hand k slots lt =
+    let e = placed_length k slots in
+    let h : hand (placed k slots) ≡ hand slots = ap (λ (n : ℕ). n - 1) e in
+    ap (λ (n : ℕ). value (placed k slots) n) h
+    ∙ get_or-set_same (set slots k (value slots (hand slots))) (hand slots) plain plain (let l = length-set slots k (value slots
+    (hand slots)) in omega (arith, l))
+
+-- the slots behind the names stay where the length does
+other_same : (slots slots' : Slots) → length slots' ≡ length slots → other slots' ≡ other slots
+other_same slots slots' e = ap (λ (n : ℕ). n - 2) e
+
+placed_other : (k : ℕ) (slots : Slots) → 1 < length slots → k < other slots → value slots (other slots) ≡ plain
+    → value (placed k slots) (other (placed k slots)) ≡ plain
+placed_other k slots lt below e =
+    ap (λ (n : ℕ). value (placed k slots) n) (other_same slots (placed k slots) (placed_length k slots))
+    ∙ get_or-set_other (set slots k (value slots (hand slots))) (hand slots) (other slots) plain plain (omega (arith, lt))
+    ∙ get_or-set_other slots k (other slots) (value slots (hand slots)) plain (omega (arith, below))
+    ∙ e
+
+ready_same : (slots slots' : Slots) (taken : Bool) (ts : List Task) → length slots' ≡ length slots → Ready (other slots) taken ts
+    → Ready (other slots') taken ts
+ready_same slots slots' taken ts e r = subst (λ (n : ℕ). Ready n taken ts) (sym (other_same slots slots' e)) r
+
+-- what was taken goes to a slot below the hand
+placed_ready : (k : ℕ) (slots : Slots) (ts : List Task) → 1 < length slots → Ready (other slots) false ts
+    → (value (placed k slots) (other (placed k slots)) ≡ plain) ⊎ Drops ts → IsReady (placed k slots) false ts
+placed_ready k slots ts lt r owes =
+    let e = placed_length k slots in
+    record {
+      some = omega (arith, e);
+      free = λ t. placed_hand k slots lt;
+      owes = owes;
+      ready = ready_same slots (placed k slots) false ts e r;
+    }
+
+put_ready : (k : ℕ) (slots : Slots) (taken : Bool) (ts : List Task) → 1 < length slots → k < other slots
+    → (taken ≡ false → value slots (hand slots) ≡ plain) → value slots (other slots) ≡ plain → Ready (other slots) false ts
+    → IsReady (cond taken (placed k slots) slots) false ts
+put_ready k slots true ts lt below free e r = placed_ready k slots ts lt r (inl (placed_other k slots lt below e))
+put_ready k slots false ts lt below free e r = record { some = lt; free = free; owes = inl e; ready = r }
+
+swap_ready : (slots : Slots) (taken : Bool) (ts : List Task) → 1 < length slots → (taken ≡ false → value slots (hand slots) ≡ plain) → Drops ts
+    → Ready (other slots) false ts → IsReady (cond taken (placed (other slots) slots) slots) false ts
+swap_ready slots true ts lt free drops r = placed_ready (other slots) slots ts lt r (inr drops)
+swap_ready slots false ts lt free drops r = record { some = lt; free = free; owes = inr drops; ready = r }
+
+drop_ready : (slots : Slots) (taken : Bool) (ts : List Task) → 1 < length slots → (taken ≡ false → value slots (hand slots) ≡ plain)
+    → Ready (other slots) taken ts → IsReady (set slots (other slots) plain) taken ts
+drop_ready slots taken ts lt free r =
+    let x = set slots (other slots) plain in
+    let e : length x ≡ length slots = length-set slots (other slots) plain in
+    record {
+      some = omega (arith, e, lt);
+      free = λ t.
+          ap (λ (n : ℕ). value x (n - 1)) e
+          ∙ get_or-set_other slots (other slots) (hand slots) plain plain (omega (arith, lt))
+          ∙ free t;
+      owes =
+          inl (ap (λ (n : ℕ). value x n) (other_same slots x e) ∙ get_or-set_same slots (other slots) plain plain (omega (arith, lt)));
+      ready = ready_same slots x taken ts e r;
+    }
+
+-- nothing is to be dropped where the next act isn't that
+owed_none : (slots : Slots) (act : Act) → (value slots (other slots) ≡ plain) ⊎ (act ≡ Drop) → (act ≡ Drop → ⊥) → value slots (other slots) ≡ plain
+owed_none slots act owes never = ⊎_elim (λ (e : value slots (other slots) ≡ plain). e) (λ (e : act ≡ Drop). absurd (never e)) owes
+
+ready_past : (act : Act) (slots : Slots) (taken : Bool) (ts : List Task) → idle act slots taken ≡ true → 1 < length slots
+    → (taken ≡ false → value slots (hand slots) ≡ plain) → (value slots (other slots) ≡ plain) ⊎ (act ≡ Drop)
+    → Begins (other slots) taken act → Follows act ts → Ready (other slots) (taken_after act taken) ts
+    → IsReady (slots_idle act slots taken) (taken_idle act taken) ts
+ready_past (Make form) slots taken ts i lt free owes b f r = absurd (false≢true i)
+ready_past (Share k) slots taken ts i lt free owes b f r = absurd (false≢true i)
+ready_past (Put k) slots taken ts i lt free owes b f r = put_ready k slots taken ts lt b free (owed_none slots (Put k) owes (λ e. absurd cc)) r
+ready_past (Leave k) slots taken ts i lt free owes b f r = absurd (false≢true i)
+ready_past (Clear k) slots taken ts i lt free owes b f r =
+    record { some = lt; free = free; owes = inl (owed_none slots (Clear k) owes (λ e. absurd cc)); ready = r }
+ready_past (Count k) slots taken ts i lt free owes b f r = absurd (false≢true i)
+ready_past (Downgrade k) slots taken ts i lt free owes b f r = absurd (false≢true i)
+ready_past (Lock k must) slots taken ts i lt free owes b f r = absurd (false≢true i)
+ready_past (Expired k) slots taken ts i lt free owes b f r = absurd (false≢true i)
+ready_past (Read k) slots taken ts i lt free owes b f r = absurd (false≢true i)
+ready_past (FromThis k kind) slots taken ts i lt free owes b f r = absurd (false≢true i)
+ready_past (Alias k j field) slots taken ts i lt free owes b f r = absurd (false≢true i)
+ready_past (Move k) slots taken ts i lt free owes b f r = absurd (false≢true i)
+ready_past (Ask q) slots taken ts i lt free owes b f r = absurd (false≢true i)
+ready_past (Offer k c) slots taken ts i lt free owes b f r = absurd (false≢true i)
+ready_past (Swap c) slots taken ts i lt free owes b f r = swap_ready slots taken ts lt free f r
+ready_past (Exchange k c) slots taken ts i lt free owes b f r = absurd (false≢true i)
+ready_past Drop slots taken ts i lt free owes b f r = drop_ready slots taken ts lt free r
+
+-- what the next act may rely on, and what is left to do after it
+pub ready_head : (c : Course) → c.at < length c.tasks.items → CourseReady c
+    → Begins (other c.holdings.slots.items) c.taken (task_at c).act × Follows (task_at c).act (rest c)
+    × Ready (other c.holdings.slots.items) (taken_after (task_at c).act c.taken) (rest c)
+ready_head c lt r = subst (λ (ts : List Task). Ready (other c.holdings.slots.items) c.taken ts) (todo_at c lt) r.ready
+
+pub owes_head : (c : Course) → c.at < length c.tasks.items → CourseReady c
+    → (value c.holdings.slots.items (other c.holdings.slots.items) ≡ plain) ⊎ ((task_at c).act ≡ Drop)
+owes_head c lt r =
+    subst (λ (ts : List Task). (value c.holdings.slots.items (other c.holdings.slots.items) ≡ plain) ⊎ Drops ts) (todo_at c lt) r.owes
+
+-- nothing is, where the next act isn't that
+pub owed_by : (c : Course) → c.at < length c.tasks.items → CourseReady c → ((task_at c).act ≡ Drop → ⊥)
+    → value c.holdings.slots.items (other c.holdings.slots.items) ≡ plain
+owed_by c lt r never = owed_none c.holdings.slots.items (task_at c).act (owes_head c lt r) never
+
+pub passed_ready : (a b : Course) → a.at < length a.tasks.items → idle (task_at a).act a.holdings.slots.items a.taken ≡ true → IsPassed a b
+    → CourseReady a → CourseReady b
+passed_ready a b lt e p r =
+    let h = ready_head a lt r in
+    let k = ready_past (task_at a).act a.holdings.slots.items a.taken (rest a) e r.some r.free (owes_head a lt r) h.0 h.1 h.2 in
+    subst (λ (z : Slots). IsReady z b.taken (todo b)) (sym p.slots)
+    (subst (λ (z : Bool). IsReady (slots_idle (task_at a).act a.holdings.slots.items a.taken) z (todo b)) (sym p.taken)
+    (subst (λ (z : List Task). IsReady (slots_idle (task_at a).act a.holdings.slots.items a.taken) (taken_idle (task_at a).act a.taken) z)
+    (sym (passed_todo a b p)) k))
+
+pub passed_within : (a b : Course) → a.at < length a.tasks.items → IsPassed a b → b.at ≤ length b.tasks.items
+passed_within a b lt p = subst
+    (λ (z : ℕ). z ≤ length b.tasks.items) (sym p.at) (let e : length b.tasks.items ≡ length a.tasks.items = (let k = p.tasks in cc) in omega
+    (arith, e, lt))

@@ -1,0 +1,299 @@
+-- What a leave makes of a thread's store and endings, so that it fits the table.
+use Rattle.std.proofs.Common.{◌≡◌, ◌≢◌, ℕ, zero, suc, ◌+◌, ◌<◌, ◌≤◌, ◌==◌, Bool, true, false, cond, not, List, [], ◌∷◌, length, refl, sym, ap, subst, ◌∙◌, ⊎_elim, inr, arith, eq-eqb, ne_eqb}
+use Rattle.std.proofs.lemmas.Bool.{cases_eq, cond_both, cond-true, cond-false, eqb-true, and_parts}
+use Rattle.std.proofs.lemmas.List.Sorted.{sum_by_pushed}
+use Rattle.std.proofs.lemmas.List.Sums.{sum_by-cons}
+use Rattle.std.specs.List.{filter}
+use Rattle.control_word.proofs.history.Legal.{sound}
+use Rattle.control_word.proofs.lists.Sums.{num_le}
+use Rattle.control_word.proofs.lists.Tallies.{num_cons, put_cases}
+use Rattle.control_word.specs.Events.{moved_to}
+use Rattle.control_word.specs.declared.place.Block.{Block}
+use Rattle.control_word.specs.declared.view.Pending.TheVariants.{Idle}
+use Rattle.control_word.specs.Laws.{how_often}
+use Rattle.control_word.specs.State.{State, Object, Stored as Kept_in, ending, same_stored, stored}
+use Rattle.step_threads.specs.declared.course.Course.{Course}
+use Rattle.step_threads.specs.declared.ending.Ending.{Ending}
+use Rattle.step_threads.specs.declared.half.Half.{Half}
+use Rattle.step_threads.specs.declared.half.Half.TheVariants.{Rest}
+use Rattle.step_table.specs.declared.holdings.Pointer.{Pointer}
+use Rattle.std.specs.Prelude.{Option, Some, None}
+use Rattle.control_word.specs.declared.handle.Kind.{Kind}
+use Rattle.control_word.specs.declared.handle.Kind.TheVariants.{Owner, Weak}
+use Rattle.control_word.specs.declared.place.Place.{Place}
+use Rattle.step_table.specs.declared.past.Deed.TheVariants.{Finish, Leave, WeakLeave}
+use Rattle.step_table.specs.Deeds.{is_last, leave, leave_as, on}
+use Rattle.step_threads.specs.Scenes.{begins_end_as}
+use Rattle.step_threads.specs.declared.thread.Thread.{Thread}
+use Rattle.step_threads.specs.Actors.{HalfFits, Stocks, in_list, in_store}
+use Rattle.step_threads.specs.Courses.{HasGoneOn, done_on, task_at}
+use Rattle.step_threads.specs.Endings.{EndsAll, IsEnding, Stack}
+use Rattle.step_table.specs.Holdings.{Holds}
+use Rattle.step_table.specs.Openings.{opening}
+use Rattle.step_threads.specs.Stocks.{Stored}
+use Rattle.step_table.specs.Stories.{Kept, Story, after, object_in, pending, state}
+use Rattle.step_threads.specs.Threads.{Fits, IsStocked, IsStockedBy}
+use Rattle.step_threads.proofs.Threads.{cells_on, own_pending, resting}
+use Rattle.step_threads.proofs.holding.Ends.{ends_none, ends_nothing, ends_one}
+use Rattle.step_threads.proofs.holding.Storing.{counted_stored, one_stored}
+use Rattle.step_table.proofs.tables.Places.{ending_busy, handle_busy, there}
+
+-- numbers from 1 to n, each once at most, are n or fewer
+without_number : (b c : ℕ) (l : List ℕ) → in_list c (filter (λ x. not (x == b)) l) ≤ in_list c l
+without_number b c [] = omega arith
+without_number b c (x ∷ xs) =
+    let i = without_number b c xs in
+    let a = sum_by-cons (λ (y : ℕ). cond (y == c) 1 0) x xs in
+    cond_both (not (x == b)) (x ∷ filter (λ y. not (y == b)) xs) (filter (λ y. not (y == b)) xs) (λ r. in_list c r ≤ in_list c (x ∷ xs))
+    (λ t. let k = sum_by-cons (λ (y : ℕ). cond (y == c) 1 0) x (filter (λ y. not (y == b)) xs) in omega (arith, i, a, k))
+    (λ t. omega (arith, i, a))
+
+none_left : (b : ℕ) (l : List ℕ) → in_list b (filter (λ x. not (x == b)) l) ≡ 0
+none_left b [] = refl
+none_left b (x ∷ xs) =
+    let i = none_left b xs in
+    ⊎_elim
+    (λ (e : x ≡ b). let n : not (x == b) ≡ false = ap not (eq-eqb x b e) in ap (in_list b) (cond-false (not (x == b)) (x ∷ filter
+    (λ y. not (y == b)) xs) (filter (λ y. not (y == b)) xs) n) ∙ i)
+    (λ (e : x ≢ b). let n : not (x == b) ≡ true = ap not (ne_eqb x b e) in
+    let a = sum_by-cons (λ (y : ℕ). cond (y == b) 1 0) x (filter (λ y. not (y == b)) xs) in
+    let z = cond-false {A = ℕ} (x == b) 1 0 (ne_eqb x b e) in
+    ap (in_list b) (cond-true (not (x == b)) (x ∷ filter (λ y. not (y == b)) xs) (filter (λ y. not (y == b)) xs) n)
+    ∙ omega (arith, i, a, z)) (cases_eq x b)
+
+parted : (b : ℕ) (l : List ℕ) → length l ≡ in_list b l + length (filter (λ x. not (x == b)) l)
+parted b [] = refl
+parted b (x ∷ xs) =
+    let i = parted b xs in
+    let a = sum_by-cons (λ (y : ℕ). cond (y == b) 1 0) x xs in
+    ⊎_elim
+    (λ (e : x ≡ b). let n : not (x == b) ≡ false = ap not (eq-eqb x b e) in
+    let f = ap (length {A = ℕ}) (cond-false (not (x == b)) (x ∷ filter (λ y. not (y == b)) xs) (filter (λ y. not (y == b)) xs) n) in
+    let z = cond-true {A = ℕ} (x == b) 1 0 (eq-eqb x b e) in omega (arith, i, a, f, z))
+    (λ (e : x ≢ b). let n : not (x == b) ≡ true = ap not (ne_eqb x b e) in
+    let f = ap (length {A = ℕ}) (cond-true (not (x == b)) (x ∷ filter (λ y. not (y == b)) xs) (filter (λ y. not (y == b)) xs) n) in
+    let z = cond-false {A = ℕ} (x == b) 1 0 (ne_eqb x b e) in omega (arith, i, a, f, z)) (cases_eq x b)
+
+few : (n : ℕ) (l : List ℕ) → ((b : ℕ) → in_list b l ≤ 1) → ((b : ℕ) → 0 < in_list b l → (1 ≤ b) × (b ≤ n)) → length l ≤ n
+few zero [] once low = omega arith
+few zero (x ∷ xs) once low =
+    let a = sum_by-cons (λ (y : ℕ). cond (y == x) 1 0) x xs in
+    let z = cond-true {A = ℕ} (x == x) 1 0 (eq-eqb x x refl) in
+    let t = low x (omega (arith, a, z)) in absurd (let p = t.0 in let q = t.1 in omega (arith, p, q))
+few (suc n) l once low =
+    let r = filter (λ x. not (x == suc n)) l in
+    let i = few n r (λ b. let w = without_number (suc n) b l in let o = once b in omega (arith, w, o))
+    (λ b lt.
+    let w = without_number (suc n) b l in
+    let t = low b (omega (arith, w, lt)) in
+    let p = t.0 in let q = t.1 in
+    ⊎_elim (λ (e : b ≡ suc n). absurd (let z : in_list b r ≡ 0 = ap (λ (k : ℕ). in_list k r) e ∙ none_left (suc n) l in omega (arith, z, lt)))
+    (λ (e : b ≢ suc n). (p, omega (arith, q, e))) (cases_eq b (suc n))) in
+    let p = parted (suc n) l in let o = once (suc n) in omega (arith, i, p, o)
+
+most_once : (d b : ℕ) (s : State) → in_store s d b ≤ how_often b s.stores
+most_once d b s =
+    num_le (same_stored (stored d b)) (λ (x : Kept_in). x.block == b) s.stores
+    (λ x t. eq-eqb x.block b (sym (eqb-true _ _ (and_parts _ _ t).1)))
+
+-- the store of a desk has each block of the shape once at most
+store_few : (d : ℕ) (v : Story) (l : List ℕ) → Kept v → ((b : ℕ) → in_store (state v) d b ≡ in_list b l) → length l ≤ v.extent.shape.blocks
+store_few d v l kept same =
+    let fine = sound (opening v.extent) v.history kept.stands.legal in
+    few v.extent.shape.blocks l
+    (λ b. let m = most_once d b (state v) in let o = fine.once b in let s = same b in omega (arith, m, o, s))
+    (λ b lt. (fine.stores d b (counted_stored (stored d b) (state v).stores (let s = same b in omega (arith, s, lt)))).1)
+
+pub finished_store : (d : ℕ) (v : Story) (b : Block) (c : ℕ) → ((state v).object (object_in v b)).block ≡ b.0
+    → in_store (state (after v d (Finish b true))) d c ≡ cond (b.0 == c) 1 0 + in_store (state v) d c
+finished_store d v b c at =
+    let y = ((state v).object (object_in v b)).block in
+    let a = num_cons (same_stored (stored d c)) (stored d y) (state v).stores in
+    let o = one_stored d y c in
+    let e : ◌≡◌ {A = ℕ} (cond (y == c) 1 0) (cond (b.0 == c) 1 0) = ap (λ (k : ℕ). cond (k == c) 1 0) at in
+    omega (arith, a, o, e)
+
+-- a block that is vacant again has room in the store
+pub room_left : (d : ℕ) (t : Thread) (v : Story) (e : Ending) → Kept v → Kept (after v d (Finish e.block true)) → Fits d t v → t.half ≡ Rest
+    → IsEnding d e v → length t.stock.blocks < t.stock.room
+room_left d t v e kept kept' fits rests is =
+    let b = e.block in
+    let at = (there v b kept (ending_busy v d b is.ending)).0 in
+    let s = resting d t v fits rests in
+    let f = store_few d (after v d (Finish b true)) (b.0 ∷ t.stock.blocks) kept'
+    (λ c. let g = finished_store d v b c at in let a = sum_by-cons (λ (y : ℕ). cond (y == c) 1 0) b.0 t.stock.blocks in
+    let o = s.stocked c in omega (arith, g, a, o)) in
+    let r = s.roomy in omega (arith, f, r)
+
+-- the object whose last owner leaves is ending in the desk's hands
+pub left_ending : (v : Story) (d : ℕ) (x : Pointer) (last : Bool) → last ≡ true
+    → let w = after v d (Leave x.block x.place last) in ((state w).object (object_in w x.block)).phase ≡ ending d
+left_ending v d x last is =
+    let o = object_in v x.block in
+    let y = (state v).object o in
+    put_cases (λ j (z : Object). z.phase ≡ ending d) (state v).object o (cond last (moved_to (ending d) y) y) o
+    (λ e. ap (λ (z : Object). z.phase) (cond-true last (moved_to (ending d) y) y is)) (λ n. absurd (n refl))
+
+-- where a pointer leaves that was the last owner, its object is ending in the desk's hands
+pub ending_left : (v w : Story) (d : ℕ) (o : Option Pointer) (last : Bool) (x : Pointer) → w ≡ done_on (leave (state v)) v d o
+    → last ≡ on (is_last (state v)) false o → o ≡ Some x → x.kind ≡ Owner → last ≡ true → ((state w).object (object_in w x.block)).phase ≡ ending d
+ending_left v w d o last x is said at kind t =
+    subst (λ (u : Story). ((state u).object (object_in u x.block)).phase ≡ ending d) (sym (is ∙ ap (done_on (leave (state v)) v d) at))
+    (go x.kind kind (is_last (state v) x) (sym (said ∙ ap (on (is_last (state v)) false) at) ∙ t))
+  where
+    go : (k : Kind) → k ≡ Owner → (b : Bool) → b ≡ true → let u = after v d (leave_as k x b) in ((state u).object (object_in u x.block)).phase ≡ ending d
+    go Owner e b t = left_ending v d x b t
+    go Weak e b t = cc
+
+-- a block that is vacant by a weak pointer's leave comes into the store
+left_store : (d : ℕ) (v : Story) (b : Block) (p : Option Place) (c : ℕ) → ((state v).object (object_in v b)).block ≡ b.0
+    → in_store (state (after v d (WeakLeave b p true))) d c ≡ cond (b.0 == c) 1 0 + in_store (state v) d c
+left_store d v b p c at =
+    let y = ((state v).object (object_in v b)).block in
+    let a = num_cons (same_stored (stored d c)) (stored d y) (state v).stores in
+    let o = one_stored d y c in
+    let e : ◌≡◌ {A = ℕ} (cond (y == c) 1 0) (cond (b.0 == c) 1 0) = ap (λ (k : ℕ). cond (k == c) 1 0) at in
+    omega (arith, a, o, e)
+
+left_place : (d : ℕ) (v : Story) (b : Block) (p : Option Place) (vacant : Bool) → Kept v → Kept (after v d (WeakLeave b p vacant))
+    → ((state v).object (object_in v b)).block ≡ b.0
+left_place d v b p vacant kept kept' = (there v b kept (handle_busy v d Weak b p kept kept'.stands.legal.1.asks.0.0)).0
+
+-- it has room there
+pub room_weak : (v w : Story) (d : ℕ) (t : Thread) (o : Option Pointer) (last : Bool) (x : Pointer) → Kept v → Kept w → Fits d t v → t.half ≡ Rest
+    → w ≡ done_on (leave (state v)) v d o → last ≡ on (is_last (state v)) false o → o ≡ Some x → x.kind ≡ Weak → last ≡ true
+    → length t.stock.blocks < t.stock.room
+room_weak v w d t o last x kept kept' fits e is said at kind ended =
+    go x.kind kind (is_last (state v) x) (sym (said ∙ ap (on (is_last (state v)) false) at) ∙ ended)
+    (subst (λ (u : Story). Kept u) (is ∙ ap (done_on (leave (state v)) v d) at) kept')
+  where
+    go : (k : Kind) → k ≡ Weak → (b : Bool) → b ≡ true → Kept (after v d (leave_as k x b)) → length t.stock.blocks < t.stock.room
+    go Owner e b q kept' = cc
+    go Weak k b q kept' =
+        let later : Kept (after v d (WeakLeave x.block x.place true)) = subst (λ (z : Bool). Kept (after v d (WeakLeave x.block x.place z))) q kept' in
+        let s = resting d t v fits e in
+        let f = store_few d (after v d (WeakLeave x.block x.place true)) (x.block.0 ∷ t.stock.blocks) later
+        (λ c. let g = left_store d v x.block x.place c (left_place d v x.block x.place true kept later) in
+        let a = sum_by-cons (λ (y : ℕ). cond (y == c) 1 0) x.block.0 t.stock.blocks in
+        let o = s.stocked c in omega (arith, g, a, o)) in
+        let r = s.roomy in omega (arith, f, r)
+
+-- there is room for its ending
+pub begins_room : (v w : Story) (d : ℕ) (t : Thread) (c : Course) (o : Option Pointer) (last : Bool) (x : Pointer) → Kept w → Fits d t v
+    → t.course.endings.list ≡ [] → c.endings ≡ t.course.endings → w ≡ done_on (leave (state v)) v d o
+    → last ≡ on (is_last (state v)) false o → o ≡ Some x → x.kind ≡ Owner → last ≡ true → length c.endings.list < c.endings.room
+begins_room v w d t c o last x kept' fits none same is said at kind ended =
+    let phase = ending_left v w d o last x is said at kind ended in
+    let place = (there w x.block kept' (ending_busy w d x.block phase)).1 in
+    let extent : w.extent.shape.blocks ≡ v.extent.shape.blocks = ap (λ (u : Story). u.extent.shape.blocks) is ∙ same_extent v d o in
+    let r = fits.endings.roomy in
+    let e : length c.endings.list ≡ 0 = ap (λ (z : Stack). length z.list) same ∙ ap length none in
+    let q : c.endings.room ≡ t.course.endings.room = ap (λ (z : Stack). z.room) same in
+    let low = place.0 in let high = place.1 in omega (arith, low, high, extent, r, e, q)
+  where
+    same_extent : (v : Story) (d : ℕ) (o : Option Pointer) → (done_on (leave (state v)) v d o).extent.shape.blocks ≡ v.extent.shape.blocks
+    same_extent v d None = refl
+    same_extent v d (Some x) = refl
+
+-- the stock after a pointer left
+stocks_left : (d : ℕ) (t : Thread) (v : Story) (x : Pointer) (s : Stored) (k : Kind) (b : Bool) → Kept v → Fits d t v → t.half ≡ Rest
+    → Kept (after v d (leave_as k x b)) → IsStocked k x.block.0 b t.stock s → Stocks d s.blocks s.room Rest (after v d (leave_as k x b))
+stocks_left d t v x s Owner b kept fits e kept' is =
+    let y = resting d t v fits e in subst (λ (z : Stored). Stocks d z.blocks z.room Rest (after v d (leave_as Owner x b))) (sym is)
+    (record { stocked = y.stocked; roomy = y.roomy })
+stocks_left d t v x s Weak true kept fits e kept' is =
+    let y = resting d t v fits e in
+    record {
+      stocked = λ c.
+          let g = left_store d v x.block x.place c (left_place d v x.block x.place true kept kept') in
+          let a = sum_by_pushed (λ (y : ℕ). cond (y == c) 1 0) x.block.0 t.stock.blocks s.blocks is.0 in
+          let o = y.stocked c in omega (arith, g, a, o);
+      roomy = (let r = y.roomy in let q = is.1 in omega (arith, r, q));
+    }
+stocks_left d t v x s Weak false kept fits e kept' is =
+    let y = resting d t v fits e in subst (λ (z : Stored). Stocks d z.blocks z.room Rest (after v d (leave_as Weak x false))) (sym is)
+    (record { stocked = y.stocked; roomy = y.roomy })
+
+idle_left : (d : ℕ) (t : Thread) (v : Story) (x : Pointer) (k : Kind) (b : Bool) → Kept v → Fits d t v → pending (after v d (leave_as k x b)) d ≡ Idle
+idle_left d t v x Owner b kept fits = own_pending v d (Leave x.block x.place b) kept fits.seat
+idle_left d t v x Weak b kept fits = own_pending v d (WeakLeave x.block x.place b) kept fits.seat
+
+-- the endings after it: none before, and at most its own
+ends_left : (d : ℕ) (v : Story) (x : Pointer) (k : Kind) (b : Bool) (n : ℕ) → EndsAll d (cond b (begins_end_as k n x []) []) (after v d (leave_as k x b))
+ends_left d v x Owner true n =
+    ends_one d (after v d (Leave x.block x.place true)) (record { block = x.block; stage = 0; statement = n })
+    (record { ending = left_ending v d x true refl; within = omega arith })
+ends_left d v x Owner false n = ends_nothing d (after v d (Leave x.block x.place false))
+ends_left d v x Weak true n = ends_nothing d (after v d (WeakLeave x.block x.place true))
+ends_left d v x Weak false n = ends_nothing d (after v d (WeakLeave x.block x.place false))
+
+-- what a leave made of the course: it went on, and an ending begins perhaps
+pub record HasLeft (d : ℕ) (c c' c'' : Course) (w : Story) (n : ℕ) (o : Option Pointer) (last : Bool) : Type 0 where
+  pub gone : HasGoneOn d c c' w
+  pub empty : c'.taken ≡ false
+  pub same : c'' ≡ record c' { endings = c''.endings }
+  pub list : c''.endings.list ≡ on (λ x. cond last (begins_end_as x.kind n x c'.endings.list) c'.endings.list) c'.endings.list o
+  pub roomy : c'.endings.room ≤ c''.endings.room
+
+fits_leaving : (d : ℕ) (t : Thread) (v : Story) (c : Course) (r : Stack) (s : Stored) (n : ℕ) (x : Pointer) (k : Kind) (b : Bool) → Kept v → Fits d t v
+    → t.half ≡ Rest → t.course.endings.list ≡ [] → Kept (after v d (leave_as k x b)) → HasGoneOn d t.course c (after v d (leave_as k x b))
+    → c.taken ≡ false → r.list ≡ cond b (begins_end_as k n x c.endings.list) c.endings.list → c.endings.room ≤ r.room
+    → IsStocked k x.block.0 b t.stock s
+    → Fits d (record { course = record c { endings = r }; stock = s; half = Rest }) (after v d (leave_as k x b))
+fits_leaving d t v c r s n x k b kept fits e none kept' on empty list room is =
+    let w = after v d (leave_as k x b) in
+    let nothing : c.endings.list ≡ [] = ap (λ (z : Stack). z.list) on.endings ∙ none in
+    record {
+      seat = fits.seat;
+      holds = on.holds;
+      within = on.within;
+      ready = on.ready;
+      still = on.still;
+      half = idle_left d t v x k b kept fits;
+      next = tt;
+      stocks = stocks_left d t v x s k b kept fits e kept' is;
+      endings =
+          record {
+            all = subst (λ (l : List Ending). EndsAll d l w) (sym (list ∙ ap (λ (l : List Ending). cond b (begins_end_as k n x l) l) nothing)) (ends_left d v x k b n);
+            roomy = (let q = fits.endings.roomy in let z : c.endings.room ≡ t.course.endings.room = ap (λ (y : Stack). y.room) on.endings in omega (arith, q, z, room));
+            empty = inr empty;
+          };
+      cells = cells_on d t.course c (after v d (leave_as k x b)) on fits.cells;
+    }
+
+-- a thread after it left what a slot held
+pub fits_left : (d : ℕ) (t t' : Thread) (v w : Story) (c : Course) (n : ℕ) (o : Option Pointer) (last : Bool) → Kept v → Kept w → Fits d t v → t.half ≡ Rest
+    → t.course.endings.list ≡ [] → w ≡ done_on (leave (state v)) v d o → last ≡ on (is_last (state v)) false o
+    → HasLeft d t.course c t'.course w n o last → t'.half ≡ t.half → IsStockedBy o last t.stock t'.stock → Fits d t' w
+fits_left d t t' v w c n None last kept kept' fits e none is said left half stock =
+    let idle : HalfFits d Rest t.course.holdings.slots.items (task_at t.course).act v = subst (λ (h : Half). HalfFits d h t.course.holdings.slots.items (task_at t.course).act v) e fits.half in
+    let r = t'.course.endings in
+    let nothing : r.list ≡ [] = left.list ∙ ap (λ (z : Stack). z.list) left.gone.endings ∙ none in
+    let room : t.course.endings.room ≤ r.room = let z : c.endings.room ≡ t.course.endings.room = ap (λ (y : Stack). y.room) left.gone.endings in let q = left.roomy in omega (arith, z, q) in
+    subst (λ (k : Course). Fits d (record { course = k; stock = t'.stock; half = t'.half }) w) (sym left.same)
+    (subst (λ (h : Half). Fits d (record { course = record c { endings = r }; stock = t'.stock; half = h }) w) (sym (half ∙ e))
+    (subst (λ (u : Story). Fits d (record { course = record c { endings = r }; stock = t'.stock; half = Rest }) u) (sym is)
+    (subst (λ (s : Stored). Fits d (record { course = record c { endings = r }; stock = s; half = Rest }) v) (sym stock)
+    (record {
+      seat = fits.seat;
+      holds = subst (λ (u : Story). Holds d c.holdings.slots.items u) is left.gone.holds;
+      within = left.gone.within;
+      ready = left.gone.ready;
+      still = left.gone.still;
+      half = idle;
+      next = tt;
+      stocks = resting d t v fits e;
+      endings = ends_none d (record c { endings = r }) v nothing (let q = fits.endings.roomy in omega (arith, q, room));
+      cells = cells_on d t.course c v (subst (λ (u : Story). HasGoneOn d t.course c u) is left.gone) fits.cells;
+    }))))
+fits_left d t t' v w c n (Some x) last kept kept' fits e none is said left half stock =
+    let b = is_last (state v) x in
+    let r = t'.course.endings in
+    let list : r.list ≡ cond b (begins_end_as x.kind n x c.endings.list) c.endings.list =
+    left.list ∙ ap (λ (q : Bool). cond q (begins_end_as x.kind n x c.endings.list) c.endings.list) said in
+    subst (λ (k : Course). Fits d (record { course = k; stock = t'.stock; half = t'.half }) w) (sym left.same)
+    (subst (λ (h : Half). Fits d (record { course = record c { endings = r }; stock = t'.stock; half = h }) w) (sym (half ∙ e))
+    (subst (λ (u : Story). Fits d (record { course = record c { endings = r }; stock = t'.stock; half = Rest }) u) (sym is)
+    (fits_leaving d t v c r t'.stock n x x.kind b kept fits e none (subst (λ (u : Story). Kept u) is kept')
+    (subst (λ (u : Story). HasGoneOn d t.course c u) is left.gone) left.empty list left.roomy
+    (subst (λ (q : Bool). IsStocked x.kind x.block.0 q t.stock t'.stock) said stock))))

@@ -1,0 +1,12 @@
+pub mod Stocks
+pub mod Courses
+pub mod CellNames
+pub mod Threads
+pub mod Endings
+pub mod EndSteps
+pub mod LeaveSteps
+pub mod Giving
+pub mod Steps
+pub mod StoreFits
+pub mod StoreSteps
+pub mod holding

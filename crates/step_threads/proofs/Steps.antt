@@ -1,0 +1,72 @@
+-- What a step of a thread was, by what the thread had begun.
+use Rattle.std.proofs.Common.{◌≡◌, ℕ, ◌<◌, Bool, true, false, cond, List, [], ◌∷◌, length, refl, sym, ap, subst, ◌∙◌, ⊎_elim}
+use Rattle.std.proofs.lemmas.Bool.{cond-false}
+use Rattle.std.specs.Prelude.{Option, Some, None, is_some, option_map}
+use Rattle.step_threads.specs.declared.act.Act.{Act}
+use Rattle.step_threads.specs.declared.act.Act.TheVariants.{Leave}
+use Rattle.step_threads.specs.declared.act.Task.{Task}
+use Rattle.step_threads.specs.declared.ending.Ending.{Ending}
+use Rattle.step_threads.specs.declared.half.Half.{Half}
+use Rattle.step_threads.specs.declared.half.Half.TheVariants.{Rest}
+use Rattle.step_table.specs.declared.holdings.Pointer.{Pointer}
+use Rattle.step_table.specs.declared.past.Deed.{Deed}
+use Rattle.step_threads.specs.declared.said.Said.{Said}
+use Rattle.step_threads.specs.declared.said.Stepped.{Stepped}
+use Rattle.step_threads.specs.declared.said.Stepped.TheVariants.{Event, Quiet}
+use Rattle.step_threads.specs.declared.thread.Thread.{Thread}
+use Rattle.step_threads.specs.Courses.{done_on, hand, rest, task_at, walk}
+use Rattle.step_table.specs.Holdings.{is_full, pointer_of, slot}
+use Rattle.step_threads.specs.Steps.{Step, at_rest, begun, ends_on, first, half_by, is_event, step_at, stepped, story_after, story_by, walk_by}
+use Rattle.step_table.specs.Stories.{Story, event_of}
+use Rattle.step_threads.specs.Threads.{Fits, HasStepped}
+use Rattle.step_threads.proofs.Courses.{todo_at}
+
+-- a step that is known
+pub stepped_as : (d : ℕ) (t : Thread) (v : Story) (x : Step) (r : Stepped) (t' : Thread) (v' : Story) → step_at v d t.half (walk t.course) ≡ Some x
+    → r ≡ stepped v (Some x) → v' ≡ story_after v d x.deed → walk t'.course ≡ x.walk → t'.half ≡ x.half → HasStepped d t v r t' v'
+stepped_as d t v x r t' v' is answer story walked half =
+    record {
+      answer = subst (λ (o : Option Step). r ≡ stepped v o) (sym is) answer;
+      story = subst (λ (o : Option Step). v' ≡ story_by v d o) (sym is) story;
+      place = subst (λ (o : Option Step). walk t'.course ≡ walk_by (walk t.course) o) (sym is) walked;
+      half = subst (λ (o : Option Step). t'.half ≡ half_by t.half o) (sym is) half;
+    }
+
+-- within no act, and without endings, the next act comes
+pub at_act : (d : ℕ) (t : Thread) (v : Story) (a : Act) → t.half ≡ Rest → t.course.endings.list ≡ [] → t.course.at < length t.course.tasks.items
+    → (task_at t.course).act ≡ a
+    → step_at v d t.half (walk t.course) ≡ Some (first v d (walk t.course) (task_at t.course).statement (rest t.course) a)
+at_act d t v a e none lt act =
+    let w = walk t.course in
+    ap (λ (h : Half). step_at v d h w) e ∙ ap (λ (es : List Ending). at_rest v d w es) none ∙ ap (λ (ts : List Task). begun v d w ts) (todo_at t.course lt)
+    ∙ ap (λ (b : Act). Some (first v d w (task_at t.course).statement (rest t.course) b)) act
+
+-- what a thread has in hand while an object ends
+none_here : (d : ℕ) (t : Thread) (v : Story) (e : Ending) (es : List Ending) → Fits d t v → t.course.endings.list ≡ e ∷ es
+    → is_full (slot t.course.holdings.slots.items (hand t.course.holdings.slots.items)) ≡ false
+none_here d t v e es fits is =
+    ⊎_elim (λ (n : t.course.endings.list ≡ []). absurd cc)
+    (λ (n : t.course.taken ≡ false). ap (λ x. is_full (pointer_of x)) (fits.ready.free n)) fits.endings.empty
+
+-- within no act the ending begun last goes on
+pub at_ending : (d : ℕ) (t : Thread) (v : Story) (e : Ending) (es : List Ending) → Fits d t v → t.half ≡ Rest → t.course.endings.list ≡ e ∷ es
+    → step_at v d t.half (walk t.course) ≡ Some (ends_on v (walk t.course) e es)
+at_ending d t v e es fits r is =
+    let w = walk t.course in
+    ap (λ (h : Half). step_at v d h w) r ∙ ap (λ (l : List Ending). at_rest v d w l) is
+    ∙ ap (λ (x : Step). Some x) (cond-false _ (first v d w e.statement w.todo (Leave (hand w.slots))) (ends_on v w e es) (none_here d t v e es fits is))
+
+-- a deed on what a slot holds is an event where the slot is full
+pub on_slot : (f : Pointer → Deed) (v : Story) (d : ℕ) (o : Option Pointer) → done_on f v d o ≡ story_after v d (option_map f o)
+on_slot f v d None = refl
+on_slot f v d (Some x) = refl
+
+pub event_on : (f : Pointer → Deed) (v : Story) (o : Option Pointer) → ((x : Pointer) → is_some (event_of v (f x)) ≡ true)
+    → is_full o ≡ is_event v (option_map f o)
+event_on f v None event = refl
+event_on f v (Some x) event = sym (event x)
+
+pub says_on : (f : Pointer → Deed) (v : Story) (o : Option Pointer) (r : Stepped) (x y : Said) (b : Bool)
+    → ((p : Pointer) → is_some (event_of v (f p)) ≡ true) → r ≡ cond b (Event x) (Quiet x) → b ≡ is_full o → x ≡ y
+    → r ≡ cond (is_event v (option_map f o)) (Event y) (Quiet y)
+says_on f v o r x y b event is e same = let k = event_on f v o event in cc

@@ -1,0 +1,298 @@
+-- A thread's own deeds keep it fitting the table.
+use Rattle.std.proofs.Common.{◌≡◌, ◌≢◌, ℕ, ◌+◌, ◌<◌, ◌≤◌, ◌==◌, ◌⊎◌, Bool, true, false, cond, not, List, [], ◌∷◌, length, set, get_or, refl, sym}
+use Rattle.std.proofs.Common.{ap, subst, ◌∙◌}
+use Rattle.std.proofs.Common.{⊎_elim, inl, arith, eq-eqb, get_or-set_same, get_or-set_other, length-set}
+use Rattle.std.specs.List.{All}
+use Rattle.std.specs.Prelude.{Some, None}
+use Rattle.std.proofs.lemmas.List.Sorted.{sum_by_popped}
+use Rattle.std.proofs.lemmas.Bool.{cases_eq, cond_both, cond-true}
+use Rattle.std.specs.List.Sorted.{IsPermutation}
+use Rattle.control_word.specs.declared.place.Block.{Block}
+use Rattle.control_word.specs.declared.view.Pending.{Pending}
+use Rattle.control_word.specs.declared.view.View.{View}
+use Rattle.control_word.specs.State.{Has, stored}
+use Rattle.control_word.specs.Steps.{known_of}
+use Rattle.control_word.specs.Views.{used_up}
+use Rattle.step_threads.specs.declared.act.Act.{Act}
+use Rattle.step_table.specs.declared.form.Form.{Form}
+use Rattle.step_threads.specs.declared.act.Act.TheVariants.{Make, Share, Downgrade, Lock, Put, Leave, Clear, Count, Expired, Read, FromThis, Alias, Move, Ask, Offer, Swap, Exchange, Drop}
+use Rattle.step_threads.specs.declared.act.Task.{Task}
+use Rattle.step_threads.specs.declared.course.Course.{Course}
+use Rattle.step_threads.specs.declared.half.Half.{Half}
+use Rattle.step_threads.specs.declared.half.Half.TheVariants.{Rest, Making}
+use Rattle.step_table.specs.declared.past.Deed.{Deed}
+use Rattle.step_table.specs.declared.past.Deed.TheVariants as deed
+use Rattle.step_threads.specs.declared.thread.Thread.{Thread}
+use Rattle.step_threads.specs.Actors.{HalfFits, IsPrepared, Stocks, in_list, wanted}
+use Rattle.step_threads.specs.Courses.{Begins, CourseReady, HasCell, HasGoneOn, IsReady, Ready, form_of, no_task, other, rest, taken_after, task_at}
+use Rattle.step_threads.specs.Entries.{least}
+use Rattle.step_threads.specs.Stocks.{Stored}
+use Rattle.step_table.specs.Stories.{Kept, Nothing, Story, after, known, pending, pending_after, state}
+use Rattle.step_threads.specs.Threads.{Fits, IsNext, form_at}
+use Rattle.step_threads.proofs.Courses.{owed_by, ready_head}
+use Rattle.step_threads.proofs.holding.Ends.{ends_gone, ends_none}
+use Rattle.step_threads.proofs.holding.Least.{least_stored, none_stored}
+use Rattle.step_threads.proofs.holding.Storing.{stocks_claim, stocks_take}
+use Rattle.step_table.proofs.tables.Places.{making_stored, named}
+
+-- the desk's own half-done call after its deed
+pub own_pending : (v : Story) (d : ℕ) (x : Deed) → Kept v → d < v.extent.actors → pending (after v d x) d ≡ pending_after v d x
+own_pending v d x kept lt =
+    ap (λ (w : View Nothing). w.pending) (get_or-set_same v.views d _ used_up (let s = kept.seats.size in omega (arith, s)))
+
+weaker : (n : ℕ) (act : Act) → Begins n true act → Begins n false act
+weaker n (Make form) b = (refl, b.1)
+weaker n (Share k) b = (b.0, refl)
+weaker n (Put k) b = b
+weaker n (Leave k) b = (b.0, refl)
+weaker n (Clear k) b = (b.0, refl)
+weaker n (Count k) b = b
+weaker n (Downgrade k) b = (b.0, refl)
+weaker n (Lock k must) b = (b.0, refl)
+weaker n (Expired k) b = b
+weaker n (Read k) b = b
+weaker n (FromThis k kind) b = (b.0, refl)
+weaker n (Alias k j field) b = (b.0, b.1, refl)
+weaker n (Move k) b = (b.0, refl)
+weaker n (Ask q) b = b
+weaker n (Offer k c) b = (b.0, refl)
+weaker n (Swap c) b = b
+weaker n (Exchange k c) b = (b.0, refl)
+weaker n Drop b = refl
+
+ready_more : (n : ℕ) (act : Act) (ts : List Task) → (Ready n true ts → Ready n false ts) → Ready n (taken_after act true) ts
+    → Ready n (taken_after act false) ts
+ready_more n (Make form) ts f r = r
+ready_more n (Share k) ts f r = r
+ready_more n (Put k) ts f r = r
+ready_more n (Leave k) ts f r = f r
+ready_more n (Clear k) ts f r = f r
+ready_more n (Count k) ts f r = f r
+ready_more n (Downgrade k) ts f r = r
+ready_more n (Lock k must) ts f r = r
+ready_more n (Expired k) ts f r = f r
+ready_more n (Read k) ts f r = f r
+ready_more n (FromThis k kind) ts f r = r
+ready_more n (Alias k j field) ts f r = r
+ready_more n (Move k) ts f r = r
+ready_more n (Ask q) ts f r = f r
+ready_more n (Offer k c) ts f r = r
+ready_more n (Swap c) ts f r = r
+ready_more n (Exchange k c) ts f r = f r
+ready_more n Drop ts f r = f r
+
+-- what is ready for a value in hand is ready for none
+pub ready_any : (n : ℕ) (ts : List Task) → Ready n true ts → Ready n false ts
+ready_any n [] r = r
+ready_any n (t ∷ ts) r = (weaker n t.act r.0, r.1, ready_more n t.act ts (ready_any n ts) r.2)
+
+-- a make comes with nothing in hand
+pub make_empty : (c : Course) (form : Form) → c.at < length c.tasks.items → CourseReady c → (task_at c).act ≡ Make form → c.taken ≡ false
+make_empty c form lt ready act =
+    let b : Begins (other c.holdings.slots.items) c.taken (Make form) = subst (Begins (other c.holdings.slots.items) c.taken) act
+    (ready_head c lt ready).0 in b.0
+
+-- a lock that gives no owner takes an empty value, or nothing where it is refused
+pub lost_ready : (c : Course) (k : ℕ) (must : Bool) → c.at < length c.tasks.items → CourseReady c → (task_at c).act ≡ Lock k must
+    → IsReady c.holdings.slots.items (not must) (rest c)
+lost_ready c k must lt ready act =
+    let h = ready_head c lt ready in
+    let n = other c.holdings.slots.items in
+    let b : Begins n c.taken (Lock k must) = subst (Begins n c.taken) act h.0 in
+    let r : Ready n true (rest c) = subst (λ (a : Act). Ready n (taken_after a c.taken) (rest c)) act h.2 in
+    record {
+      some = ready.some;
+      free = λ e. ready.free b.1;
+      owes = inl (owed_by c lt ready (λ e. let q = act in absurd cc));
+      ready = go must r;
+    }
+  where
+    go : (m : Bool) → Ready (other c.holdings.slots.items) true (rest c) → Ready (other c.holdings.slots.items) (not m) (rest c)
+    go true r = ready_any (other c.holdings.slots.items) (rest c) r
+    go false r = r
+
+-- a lock that gives an owner takes it
+pub won_ready : (c : Course) (k : ℕ) (must : Bool) → c.at < length c.tasks.items → CourseReady c → (task_at c).act ≡ Lock k must
+    → Ready (other c.holdings.slots.items) true (rest c)
+won_ready c k must lt ready act =
+    let h = ready_head c lt ready in subst (λ (a : Act). Ready (other c.holdings.slots.items) (taken_after a c.taken) (rest c)) act h.2
+
+-- a name is left with nothing in hand
+pub leave_empty : (c : Course) (k : ℕ) → c.at < length c.tasks.items → CourseReady c → ((task_at c).act ≡ Leave k) ⊎ ((task_at c).act ≡ Clear k)
+    → c.taken ≡ false
+leave_empty c k lt ready act =
+    let n = other c.holdings.slots.items in
+    let h = (ready_head c lt ready).0 in
+    ⊎_elim (λ (e : (task_at c).act ≡ Leave k). let b : Begins n c.taken (Leave k) = subst (Begins n c.taken) e h in b.1)
+    (λ (e : (task_at c).act ≡ Clear k). let b : Begins n c.taken (Clear k) = subst (Begins n c.taken) e h in b.1) act
+
+-- a make that is refused takes nothing
+pub refused_ready : (c : Course) (form : Form) → c.at < length c.tasks.items → CourseReady c → (task_at c).act ≡ Make form
+    → IsReady c.holdings.slots.items c.taken (rest c)
+refused_ready c form lt ready act =
+    let h = ready_head c lt ready in
+    let n = other c.holdings.slots.items in
+    let b : Begins n c.taken (Make form) = subst (Begins n c.taken) act h.0 in
+    let r : Ready n true (rest c) = subst (λ (a : Act). Ready n (taken_after a c.taken) (rest c)) act h.2 in
+    record {
+      some = ready.some;
+      free = ready.free;
+      owes = inl (owed_by c lt ready (λ e. let q = act in absurd cc));
+      ready = subst (λ (t : Bool). Ready n t (rest c)) (sym b.0) (ready_any n (rest c) r);
+    }
+
+pub form_here : (c : Course) (form : Form) → (task_at c).act ≡ Make form → form_at c ≡ form
+form_here c form e = ap form_of e
+
+next_here : (c : Course) (form : Form) → (task_at c).act ≡ Make form → (task_at c).act ≡ Make (form_at c)
+next_here c form e = e ∙ ap Make (sym (form_here c form e))
+
+-- its tasks are the same
+pub cells_on : (d : ℕ) (c c' : Course) (v : Story) → HasGoneOn d c c' v → All (λ (x : Task). HasCell v.extent.shape x.act) c.tasks.items
+    → All (λ (x : Task). HasCell v.extent.shape x.act) c'.tasks.items
+cells_on d c c' v on cells =
+    let t = on.tasks in
+    let e : c'.tasks.items ≡ c.tasks.items = cc in
+    subst (λ (l : List Task). All (λ (x : Task). HasCell v.extent.shape x.act) l) (sym e) cells
+
+-- the shape has the cell of the next one
+pub cell_here : (c : Course) (v : Story) → c.at < length c.tasks.items → All (λ (x : Task). HasCell v.extent.shape x.act) c.tasks.items
+    → HasCell v.extent.shape (task_at c).act
+cell_here c v lt cells = cells c.at no_task lt
+
+pub resting : (d : ℕ) (t : Thread) (v : Story) → Fits d t v → t.half ≡ Rest → Stocks d t.stock.blocks t.stock.room Rest v
+resting d t v fits e = subst (λ (h : Half). Stocks d t.stock.blocks t.stock.room h v) e fits.stocks
+
+pub prepared : (d : ℕ) (t : Thread) (v : Story) (b : Block) (i : ℕ) (f : Bool) → Fits d t v → t.half ≡ Making b i f
+    → IsPrepared d b i (form_at t.course) v
+prepared d t v b i f fits e = subst (λ (h : Half). HalfFits d h t.course.holdings.slots.items (task_at t.course).act v) e fits.half
+
+-- the block that the stock gave is the least of the store, which has none where the stock is empty
+pub least_here : (d : ℕ) (t : Thread) (v : Story) (b : Block) (s : Stored) → Fits d t v → t.half ≡ Rest
+    → IsPermutation t.stock.blocks (b.0 ∷ s.blocks)
+    → All (λ c. b.0 ≤ c) t.stock.blocks → least d (state v).stores ≡ Some b.0
+least_here d t v b s fits e p all =
+    let x = resting d t v fits e in
+    least_stored d b.0 (state v).stores t.stock.blocks (λ c. let q = x.stocked c in omega (arith, q))
+    (let a = sum_by_popped (λ (c : ℕ). cond (c == b.0) 1 0) b.0 t.stock.blocks s.blocks p in
+    let o = cond-true {A = ℕ} (b.0 == b.0) 1 0 (eq-eqb b.0 b.0 refl) in omega (arith, a, o)) all
+
+pub least_nowhere : (d : ℕ) (t : Thread) (v : Story) → Fits d t v → t.half ≡ Rest → t.stock.blocks ≡ [] → least d (state v).stores ≡ None
+least_nowhere d t v fits e none =
+    let x = resting d t v fits e in
+    none_stored d (state v).stores (λ c. let q = x.stocked c in let z : in_list c t.stock.blocks ≡ 0 = ap (in_list c) none in omega (arith, q, z))
+
+pub fits_prepare : (d : ℕ) (t : Thread) (v : Story) (b : Block) (s : Stored) (form : Form) → Kept v → Fits d t v → t.half ≡ Rest
+    → t.course.endings.list ≡ [] → t.course.at < length t.course.tasks.items → (task_at t.course).act ≡ Make form
+    → IsPermutation t.stock.blocks (b.0 ∷ s.blocks) → All (λ c. b.0 ≤ c) t.stock.blocks → s.room ≡ t.stock.room
+    → Fits d (record { course = t.course; stock = s; half = Making b 0 false }) (after v d (deed.Prepare b))
+fits_prepare d t v b s form kept fits e none lt act p all room =
+    let o = own_pending v d (deed.Prepare b) kept fits.seat in
+    let x = stocks_take d t.stock.blocks s.blocks t.stock.room 0 false v b (resting d t v fits e) p in
+    record {
+      seat = fits.seat;
+      holds = record { owned = fits.holds.owned; size = fits.holds.size; formed = fits.holds.formed };
+      within = fits.within;
+      ready = fits.ready;
+      still = fits.still;
+      half =
+          record {
+            making = record { words = known_of v.words b.0; size = refl; making = o };
+            within = omega arith;
+            least = least_here d t v b s fits e p all;
+            done = λ j l. absurd (omega arith);
+          };
+      next = (lt, next_here t.course form act, none);
+      stocks = record { stocked = x.stocked; roomy = (let q = x.roomy in omega (arith, q, room)) };
+      endings = ends_none d t.course (after v d (deed.Prepare b)) none fits.endings.roomy;
+      cells = fits.cells;
+    }
+
+pub fits_look : (d : ℕ) (t : Thread) (v : Story) (b : Block) (i n : ℕ) (same : Bool) → Fits d t v → t.half ≡ Making b i false → i < 5
+    → n ≡ cond same (i + 1) i → (same ≡ true → get_or (known (pending v d)) i 0 ≡ get_or (wanted (form_at t.course)) i 0)
+    → Fits d (record { course = t.course; stock = t.stock; half = Making b n (not same) }) v
+fits_look d t v b i n same fits e lt is here =
+    let p = prepared d t v b i false fits e in
+    let x : Stocks d t.stock.blocks t.stock.room (Making b i false) v = subst
+    (λ (h : Half). Stocks d t.stock.blocks t.stock.room h v) e fits.stocks in
+    let y : IsNext (Making b i false) t.course = subst (λ (h : Half). IsNext h t.course) e fits.next in
+    record {
+      seat = fits.seat;
+      holds = fits.holds;
+      within = fits.within;
+      ready = fits.ready;
+      still = fits.still;
+      half =
+          record {
+            making = p.making;
+            least = p.least;
+            within = subst (λ (k : ℕ). k ≤ 5) (sym is) (cond_both same (i + 1) i (λ (k : ℕ). k ≤ 5) (λ q. omega arith) (λ q. omega arith));
+            done = λ j l.
+                cond_both same (i + 1) i (λ (k : ℕ). n ≡ k → get_or (known (pending v d)) j 0 ≡ get_or (wanted (form_at t.course)) j 0)
+                (λ q r. ⊎_elim (λ (u : j ≡ i). subst
+                (λ (k : ℕ). get_or (known (pending v d)) k 0 ≡ get_or (wanted (form_at t.course)) k 0) (sym u) (here q))
+                (λ (u : j ≢ i). p.done j (omega (arith, l, r, u))) (cases_eq j i))
+                (λ q r. p.done j (omega (arith, l, r))) is;
+          };
+      next = y;
+      stocks = record { stocked = x.stocked; roomy = x.roomy };
+      endings = fits.endings;
+      cells = fits.cells;
+    }
+
+pub fits_write : (d : ℕ) (t : Thread) (v : Story) (b : Block) (i : ℕ) → Kept v → Fits d t v → t.half ≡ Making b i true → i < 5
+    → Fits d (record { course = t.course; stock = t.stock; half = Making b (i + 1) false }) (after v d (deed.Write b i (get_or (wanted
+    (form_at t.course)) i 0)))
+fits_write d t v b i kept fits e lt =
+    let n = get_or (wanted (form_at t.course)) i 0 in
+    let p = prepared d t v b i true fits e in
+    let o = own_pending v d (deed.Write b i n) kept fits.seat in
+    let x : Stocks d t.stock.blocks t.stock.room (Making b i true) v = subst (λ (h : Half). Stocks d t.stock.blocks t.stock.room h v) e fits.stocks in
+    let y : IsNext (Making b i true) t.course = subst (λ (h : Half). IsNext h t.course) e fits.next in
+    let k = known (pending v d) in
+    let five : length k ≡ 5 = ap (λ (q : Pending Nothing). length (known q)) p.making.making ∙ p.making.size in
+    record {
+      seat = fits.seat;
+      holds = record { owned = fits.holds.owned; size = fits.holds.size; formed = fits.holds.formed };
+      within = fits.within;
+      ready = fits.ready;
+      still = fits.still;
+      half =
+          record {
+            making = record { words = set k i n; size = length-set k i n ∙ five; making = o };
+            within = omega arith;
+            least = p.least;
+            done = λ j l.
+                ap (λ (q : Pending Nothing). get_or (known q) j 0) o
+                ∙ ⊎_elim (λ (u : j ≡ i). subst
+                (λ (m : ℕ). get_or (set k i n) m 0 ≡ get_or (wanted (form_at t.course)) m 0) (sym u) (get_or-set_same k i n 0 (omega
+                (arith, five))))
+                (λ (u : j ≢ i). get_or-set_other k i j n 0 u ∙ p.done j (omega (arith, l, u))) (cases_eq j i);
+          };
+      next = y;
+      stocks = record { stocked = x.stocked; roomy = x.roomy };
+      endings = ends_none d t.course (after v d (deed.Write b i n)) y.2 fits.endings.roomy;
+      cells = fits.cells;
+    }
+
+pub fits_claim : (d : ℕ) (t : Thread) (v : Story) (b : Block) (f : Bool) (form : Form) (c : Course) → Kept v → Fits d t v → t.half ≡ Making b 5 f
+    → HasGoneOn d t.course c (after v d (deed.Claim b form.enabled form.null form.fields))
+    → Fits d (record { course = c; stock = t.stock; half = Rest }) (after v d (deed.Claim b form.enabled form.null form.fields))
+fits_claim d t v b f form c kept fits e on =
+    let p = prepared d t v b 5 f fits e in
+    let x : Stocks d t.stock.blocks t.stock.room (Making b 5 f) v = subst (λ (h : Half). Stocks d t.stock.blocks t.stock.room h v) e fits.stocks in
+    let y : IsNext (Making b 5 f) t.course = subst (λ (h : Half). IsNext h t.course) e fits.next in
+    let has = subst (λ (n : ℕ). Has (stored n b.0) (state v).stores) (named v d kept fits.seat)
+    (making_stored v d b p.making.words kept fits.seat p.making.making) in
+    record {
+      seat = fits.seat;
+      holds = on.holds;
+      within = on.within;
+      ready = on.ready;
+      still = on.still;
+      half = own_pending v d (deed.Claim b form.enabled form.null form.fields) kept fits.seat;
+      next = tt;
+      stocks = stocks_claim d t.stock.blocks t.stock.room 5 f v b form x has;
+      endings = ends_gone d t.course c v (after v d (deed.Claim b form.enabled form.null form.fields)) fits.endings y.2 on.endings refl;
+      cells = cells_on d t.course c (after v d (deed.Claim b form.enabled form.null form.fields)) on fits.cells;
+    }

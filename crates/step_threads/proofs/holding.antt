@@ -1,0 +1,5 @@
+pub mod Ends
+pub mod Halves
+pub mod Least
+pub mod Others
+pub mod Storing

@@ -1,0 +1,85 @@
+-- What other desks do leaves what a desk has half done.
+use Rattle.std.proofs.Common.{◌≡◌, ◌≢◌, ℕ, ◌<◌, ◌≤◌, ◌⊎◌, get_or, Option, Some, inl, inr, sym, ap, subst, ◌∙◌, ⊎_elim, arith}
+use Rattle.std.proofs.lemmas.List.{get_or_past}
+use Rattle.std.proofs.lemmas.Bool.{cases_lt}
+use Rattle.control_word.proofs.history.Kept.{has_same}
+use Rattle.control_word.proofs.history.Legal.{held_busy, sound}
+use Rattle.control_word.specs.declared.handle.Kind.{Kind}
+use Rattle.control_word.specs.declared.place.Block.{Block}
+use Rattle.control_word.specs.declared.place.Place.{Place}
+use Rattle.control_word.specs.declared.view.Pending.{Pending}
+use Rattle.control_word.specs.declared.view.Pending.TheVariants.{Idle}
+use Rattle.control_word.specs.declared.view.View.{View}
+use Rattle.control_word.specs.Handles.{handle}
+use Rattle.control_word.specs.State.{Has, held}
+use Rattle.control_word.specs.Views.{used_up}
+use Rattle.step_threads.specs.declared.act.Act.{Act}
+use Rattle.step_threads.specs.declared.half.Half.{Half}
+use Rattle.step_threads.specs.declared.half.Half.TheVariants.{Rest, Making, Locking, Giving, Brought, Returning}
+use Rattle.step_table.specs.declared.past.Deed.{Deed}
+use Rattle.step_table.specs.declared.slot.Slot.{Slot}
+use Rattle.step_table.specs.declared.slot.Slot.TheVariants.{Empty, Full}
+use Rattle.step_threads.specs.Actors.{HalfFits}
+use Rattle.step_table.specs.CellDeeds.{owing}
+use Rattle.step_table.specs.Contents.{owing_for}
+use Rattle.step_threads.specs.Courses.{new_of}
+use Rattle.step_table.specs.Holdings.{Slots}
+use Rattle.step_table.specs.Openings.{opening}
+use Rattle.step_table.specs.Stories.{Kept, Nothing, Story, after, known, object_in, pending, state}
+use Rattle.step_table.proofs.contained.Others.{brought_others, funds_others}
+use Rattle.step_threads.proofs.holding.Others.{least_others}
+use Rattle.step_table.proofs.holding.Keeping.{enabled_stays, kept_object, same_deed, same_pending}
+use Rattle.step_table.proofs.tables.Places.{handle_busy}
+
+-- a desk that isn't there has nothing half done
+there_or_idle : (d : ℕ) (v : Story) → Kept v → (d < v.extent.actors) ⊎ (pending v d ≡ Idle)
+there_or_idle d v kept = ⊎_elim inl (λ (le : v.extent.actors ≤ d). inr (ap (λ (w : View Nothing). w.pending)
+    (get_or_past v.views d used_up (let s = kept.seats.size in omega (arith, s, le))))) (cases_lt d v.extent.actors)
+
+module _ (d e : ℕ) (v : Story) (x : Deed) (n : e ≢ d) (kept : Kept v) (kept' : Kept (after v e x)) where
+  brought_idle : (a : Slot) → pending v d ≡ Idle → pending v d ≡ owing_for (state v) a 256 → pending (after v e x) d ≡ owing_for (state (after v e x)) a 256
+  brought_idle (Empty p) none is = same_pending v e d x n ∙ is
+  brought_idle (Full y) none is =
+      absurd (let k : ◌≡◌ {A = Pending Nothing} Idle (owing (state v) y.kind (Some y.block) y.place 256 0) = sym none ∙ is in cc)
+
+  brought_stays : (a : Slot) → pending v d ≡ owing_for (state v) a 256 → pending (after v e x) d ≡ owing_for (state (after v e x)) a 256
+  brought_stays a is =
+      ⊎_elim (λ (lt : d < v.extent.actors). brought_others d e v x n kept kept' a 256 lt is) (λ (none : pending v d ≡ Idle). brought_idle a none is)
+      (there_or_idle d v kept)
+
+  funds_stay : (k : Kind) (b : Block) (p : Option Place) (funds : ℕ) → pending v d ≡ owing (state v) k (Some b) p funds 0
+      → pending (after v e x) d ≡ owing (state (after v e x)) k (Some b) p funds 0
+  funds_stay k b p funds is =
+      ⊎_elim (λ (lt : d < v.extent.actors). funds_others d e v x n kept kept' k (Some b) p funds 0 lt is)
+      (λ (none : pending v d ≡ Idle). absurd (let q : ◌≡◌ {A = Pending Nothing} Idle (owing (state v) k (Some b) p funds 0) = sym none ∙ is in cc))
+      (there_or_idle d v kept)
+
+  -- another desk's deed leaves a half-done act
+  pub half_others : (half : Half) (slots : Slots) (act : Act) → HalfFits d half slots act v → HalfFits d half slots act (after v e x)
+  half_others Rest slots act fits = same_pending v e d x n ∙ fits
+  half_others (Making b at f) slots act fits =
+      let same = same_pending v e d x n in
+      record {
+        making = record { words = fits.making.words; size = fits.making.size; making = same ∙ fits.making.making };
+        within = fits.within;
+        least = least_others d (state v) (state (after v e x)) (same_deed v e d x n) ∙ fits.least;
+        done = λ j le. ap (λ (p : Pending Nothing). get_or (known p) j 0) same ∙ fits.done j le;
+      }
+  half_others (Locking word) slots act fits = (same_pending v e d x n ∙ fits.0, fits.1)
+  half_others (Giving i kind y) slots act fits =
+      let has = has_same (state v) (state (after v e x)) d _ (same_deed v e d x n) fits.has in
+      let busy = handle_busy v d y.kind y.block y.place kept fits.has in
+      let busy' = held_busy (opening v.extent) (state (after v e x)) d (object_in v y.block) y.kind y.place
+      (sound (opening v.extent) (after v e x).history kept'.stands.legal) has in
+      let o = kept_object v e y.block x kept kept' busy busy' in
+      let fine = sound (opening v.extent) v.history kept.stands.legal in
+      record {
+        idle = same_pending v e d x n ∙ fits.idle;
+        has = subst (λ (k : ℕ). Has (held d (handle y.kind (Some k) y.place)) (state (after v e x)).hands) (sym o) has;
+        enabled =
+            ap (λ (k : ℕ). ((state (after v e x)).object k).enabled) o
+            ∙ enabled_stays v e (object_in v y.block) x (fine.latest_made y.block.0)
+            ∙ fits.enabled;
+      }
+  half_others Brought slots act fits = brought_stays (new_of slots act) fits
+  half_others (Returning kind b funds k) slots act fits = (fits.0, funds_stay kind b fits.0 funds fits.1)

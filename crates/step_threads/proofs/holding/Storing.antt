@@ -1,0 +1,76 @@
+-- What a thread's own deeds do to its store.
+use Rattle.std.proofs.Common.{◌≡◌, ◌≢◌, ℕ, ◌<◌, ◌==◌, Bool, true, false, cond, List, [], ◌∷◌, length, refl, sym, ap, ◌∙◌, inl, inr, ⊎_elim, arith, eq-eqb, ne_eqb}
+use Rattle.std.proofs.lemmas.Bool.{cases_eq, cond_both, cond-true, cond-false, and_from}
+use Rattle.std.proofs.lemmas.List.Sorted.{sum_by_popped}
+use Rattle.std.specs.List.{filter}
+use Rattle.std.specs.List.Sorted.{IsPermutation}
+use Rattle.control_word.proofs.lists.Tallies.{num, num_without, stored_self, stored_true}
+use Rattle.control_word.specs.declared.place.Block.{Block}
+use Rattle.control_word.specs.State.{Has, Stored, same_stored, stored}
+use Rattle.step_table.specs.declared.form.Form.{Form}
+use Rattle.step_threads.specs.declared.half.Half.{Half}
+use Rattle.step_threads.specs.declared.half.Half.TheVariants.{Rest, Making}
+use Rattle.step_table.specs.declared.past.Deed.{Deed}
+use Rattle.step_table.specs.declared.past.Deed.TheVariants.{Prepare, Write, Claim}
+use Rattle.step_threads.specs.Actors.{Stocks}
+use Rattle.step_table.specs.Stories.{Story, after, state}
+
+-- what is counted of a store is there
+pub counted_stored : (x : Stored) (l : List Stored) → 0 < num (same_stored x) l → Has x l
+counted_stored x [] lt = absurd (omega arith)
+counted_stored x (y ∷ ys) lt =
+    cond_both (same_stored x y) (y ∷ filter (same_stored x) ys) (filter (same_stored x) ys) (λ (r : List Stored). 0 < length r → Has x (y ∷ ys))
+    (λ e t. inl (stored_true x y e)) (λ e t. inr (counted_stored x ys t)) lt
+
+pub one_stored : (d b c : ℕ) → num (same_stored (stored d c)) (stored d b ∷ []) ≡ cond (b == c) 1 0
+one_stored d b c =
+    let e = eq-eqb d d refl in
+    ⊎_elim
+    (λ (q : b ≡ c). let k : same_stored (stored d c) (stored d b) ≡ true = and_from _ _ e (eq-eqb c b (sym q)) in
+    ap length (cond-true (same_stored (stored d c) (stored d b)) (stored d b ∷ []) [] k) ∙ sym (cond-true (b == c) 1 0 (eq-eqb b c q)))
+    (λ (n : b ≢ c). let k : same_stored (stored d c) (stored d b) ≡ false = rw (e, ne_eqb c b (λ q. n (sym q))) refl in
+    ap length (cond-false (same_stored (stored d c) (stored d b)) (stored d b ∷ []) [] k) ∙ sym (cond-false (b == c) 1 0 (ne_eqb b c n))) (cases_eq b c)
+
+-- the least block goes out, for a making
+pub stocks_take : (d : ℕ) (old new : List ℕ) (room i : ℕ) (f : Bool) (v : Story) (b : Block) → Stocks d old room Rest v → IsPermutation old (b.0 ∷ new)
+    → Stocks d new room (Making b i f) v
+stocks_take d old new room i f v b stocks p =
+    record {
+      stocked = λ c. let a = sum_by_popped (λ (x : ℕ). cond (x == c) 1 0) b.0 old new p in let s = stocks.stocked c in omega (arith, a, s);
+      roomy = stocks.roomy;
+    }
+
+pub taken_stored : (d : ℕ) (old new : List ℕ) (room : ℕ) (v : Story) (b : Block) → Stocks d old room Rest v → IsPermutation old (b.0 ∷ new) → Has (stored d b.0) (state v).stores
+taken_stored d old new room v b stocks p =
+    let a = sum_by_popped (λ (x : ℕ). cond (x == b.0) 1 0) b.0 old new p in
+    let s = stocks.stocked b.0 in
+    let c = cond-true {A = ℕ} (b.0 == b.0) 1 0 (eq-eqb b.0 b.0 refl) in
+    counted_stored (stored d b.0) (state v).stores (omega (arith, a, s, c))
+
+-- no store of a block changes
+pub stocks_write : (d : ℕ) (blocks : List ℕ) (room : ℕ) (half : Half) (v : Story) (b : Block) (j n : ℕ) → Stocks d blocks room half v → Stocks d blocks room half (after v d (Write b j n))
+stocks_write d blocks room half v b j n stocks = record { stocked = stocks.stocked; roomy = stocks.roomy }
+
+pub stocks_prepare : (d : ℕ) (blocks : List ℕ) (room : ℕ) (half : Half) (v : Story) (b : Block) → Stocks d blocks room half v → Stocks d blocks room half (after v d (Prepare b))
+stocks_prepare d blocks room half v b stocks = record { stocked = stocks.stocked; roomy = stocks.roomy }
+
+pub stocks_stage : (d : ℕ) (blocks : List ℕ) (room i j : ℕ) (f g : Bool) (v : Story) (b : Block) → Stocks d blocks room (Making b i f) v → Stocks d blocks room (Making b j g) v
+stocks_stage d blocks room i j f g v b stocks = record { stocked = stocks.stocked; roomy = stocks.roomy }
+
+-- the block is made
+pub stocks_claim : (d : ℕ) (blocks : List ℕ) (room i : ℕ) (f : Bool) (v : Story) (b : Block) (form : Form) → Stocks d blocks room (Making b i f) v
+    → Has (stored d b.0) (state v).stores → Stocks d blocks room Rest (after v d (Claim b form.enabled form.null form.fields))
+stocks_claim d blocks room i f v b form stocks has =
+    record {
+      stocked = λ c.
+          let a = num_without same_stored stored_true stored_self (same_stored (stored d c)) (stored d b.0) (state v).stores has in
+          let o = one_stored d b.0 c in
+          let s = stocks.stocked c in omega (arith, a, o, s);
+      roomy = stocks.roomy;
+    }
+
+-- a handle of the desk's comes or goes
+pub stocks_share : (d : ℕ) (blocks : List ℕ) (room : ℕ) (v : Story) (x : Deed) → (state (after v d x)).stores ≡ (state v).stores → Stocks d blocks room Rest v
+    → Stocks d blocks room Rest (after v d x)
+stocks_share d blocks room v x same stocks =
+    record { stocked = λ c. ap (λ (l : List Stored). num (same_stored (stored d c)) l) same ∙ stocks.stocked c; roomy = stocks.roomy }

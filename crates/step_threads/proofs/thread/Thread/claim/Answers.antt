@@ -1,0 +1,14 @@
+use Rattle.step_threads.specs.declared.half.Half.TheVariants.{Rest}
+use Rattle.std.proofs.Common.{sym, subst}
+use Rattle.step_threads.specs.Courses.{HasGoneOn}
+use Rattle.step_table.specs.Stories.{Story}
+use Rattle.step_threads.specs.Threads.{Fits}
+use Rattle.step_threads.proofs.Threads.{fits_claim}
+use Rattle.step_threads.proofs.thread.Thread.claim.Goals as goal
+
+pub returns-clause-fits : goal.returns-clause-fits
+returns-clause-fits c =
+    subst (λ (v : Story). Fits c.args.desk (record { course = c.claim.new.self; stock = c.args.self.now.stock; half = Rest }) v)
+    (sym c.claim.ensures.table)
+    (fits_claim c.args.desk c.args.self.now c.args.table.now c.args.block c.args.differs c.args.form c.claim.new.self c.known.ensures c.requires.fits c.requires.half
+    (subst (λ (v : Story). HasGoneOn c.args.desk c.args.self.now.course c.claim.new.self v) c.claim.ensures.table c.claim.ensures.on))

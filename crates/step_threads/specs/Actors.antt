@@ -1,0 +1,67 @@
+-- What a thread of the machine has, and how it fits the table. All of it is own.
+use Rattle.std.specs.Prelude.{◌≡◌, ℕ, ◌+◌, ◌<◌, ◌≤◌, ◌==◌, true, cond, List, ◌∷◌, length, get_or, sum_by, Option, Some}
+use Rattle.std.specs.List.{filter}
+use Rattle.control_word.specs.declared.place.Block.{Block}
+use Rattle.control_word.specs.declared.view.Pending.TheVariants.{Idle}
+use Rattle.control_word.specs.State.{Has, State, held, same_stored, stored}
+use Rattle.control_word.specs.declared.place.Place.{Place}
+use Rattle.step_threads.specs.declared.act.Act.{Act}
+use Rattle.step_table.specs.declared.form.Form.{Form}
+use Rattle.control_word.specs.Words.{flags_of}
+use Rattle.step_threads.specs.declared.half.Half.{Half}
+use Rattle.step_threads.specs.declared.half.Half.TheVariants.{Rest, Making, Locking, Giving, Brought, Returning}
+use Rattle.step_table.specs.declared.holdings.Pointer.{Pointer}
+use Rattle.step_table.specs.CellDeeds.{owing}
+use Rattle.step_table.specs.Contents.{owing_for}
+use Rattle.step_threads.specs.Courses.{form_of, new_of}
+use Rattle.step_table.specs.Deeds.{is_enabled}
+use Rattle.step_table.specs.Holdings.{Slots}
+use Rattle.step_threads.specs.Entries.{least}
+use Rattle.step_table.specs.Stories.{IsMaking, Story, handle_in, known, pending, state}
+
+-- how often the desk has the block in its store, and how often a list has it
+abbrev pub in_store : State → ℕ → ℕ → ℕ
+in_store s d b = length (filter (same_stored (stored d b)) s.stores)
+
+abbrev pub in_list : ℕ → List ℕ → ℕ
+in_list b l = sum_by (λ c. cond (c == b) 1 0) l
+
+-- the block that a making took out of the stock
+abbrev pub claimed : Half → ℕ → ℕ
+claimed Rest b = 0
+claimed (Making c i differs) b = cond (c.0 == b) 1 0
+claimed (Locking found) b = 0
+claimed (Giving i kind x) b = 0
+claimed Brought b = 0
+claimed (Returning kind c funds k) b = 0
+
+-- The stock has just the desk's vacant blocks, but for the one that a making took
+pub record Stocks (d : ℕ) (blocks : List ℕ) (room : ℕ) (half : Half) (v : Story) : Type 0 where
+  pub stocked : (b : ℕ) → in_store (state v) d b ≡ in_list b blocks + claimed half b
+  pub roomy : v.extent.shape.blocks ≤ room
+
+-- what a make wants its block's loose words to be: the flags and the fields
+abbrev pub wanted : Form → List ℕ
+wanted form = flags_of form.enabled form.null ∷ form.fields
+
+-- the block is the least of the store, and the words before are as they are wanted
+pub record IsPrepared (d : ℕ) (b : Block) (at : ℕ) (form : Form) (v : Story) : Type 0 where
+  pub making : IsMaking v d b
+  pub within : at ≤ 5
+  pub least : least d (state v).stores ≡ Some b.0
+  pub done : (j : ℕ) → j < at → get_or (known (pending v d)) j 0 ≡ get_or (wanted form) j 0
+
+-- the desk has a pointer whose object gives pointers to itself
+pub record IsGiving (d : ℕ) (x : Pointer) (v : Story) : Type 0 where
+  pub idle : pending v d ≡ Idle
+  pub has : Has (held d (handle_in v x.kind x.block x.place)) (state v).hands
+  pub enabled : is_enabled (state v) x ≡ true
+
+-- what is half done of an act, with this in the slots, is as the desk's view says
+abbrev pub HalfFits : ℕ → Half → Slots → Act → Story → Type 0
+HalfFits d Rest slots a v = pending v d ≡ Idle
+HalfFits d (Making b i differs) slots a v = IsPrepared d b i (form_of a) v
+HalfFits d (Locking found) slots a v = (pending v d ≡ Idle) × (0 < found)
+HalfFits d (Giving i kind x) slots a v = IsGiving d x v
+HalfFits d Brought slots a v = pending v d ≡ owing_for (state v) (new_of slots a) 256
+HalfFits d (Returning kind b funds k) slots a v = (p : Option Place) × (pending v d ≡ owing (state v) kind (Some b) p funds 0)

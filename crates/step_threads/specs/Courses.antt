@@ -1,0 +1,254 @@
+-- How a thread goes on from act to act. All of it is own.
+use Rattle.std.specs.Prelude.{◌≡◌, ℕ, ◌+◌, ◌-◌, ◌<◌, ◌≤◌, ◌⊎◌, Bool, true, false, cond, not, ◌&&◌, List, [], ◌∷◌, length, drop, get_or, slice_set, Option, Some, None}
+use Rattle.control_word.specs.declared.handle.Kind.{Kind}
+use Rattle.control_word.specs.declared.handle.Kind.TheVariants.{Owner, Weak}
+use Rattle.control_word.specs.declared.shape.Shape.{Shape}
+use Rattle.control_word.specs.State.{State}
+use Rattle.step_threads.specs.declared.act.Act.{Act}
+use Rattle.step_table.specs.declared.form.Form.{Form}
+use Rattle.step_threads.specs.declared.act.Act.TheVariants.{Make, Share, Downgrade, Lock, Put, Leave, Clear, Count, Expired, Read, FromThis, Alias, Move, Ask, Offer, Swap, Exchange, Drop}
+use Rattle.step_threads.specs.declared.act.Question.{Question}
+use Rattle.step_threads.specs.declared.act.Question.TheVariants as question
+use Rattle.step_threads.specs.declared.act.Task.{Task}
+use Rattle.step_threads.specs.declared.call.CellName.{CellName}
+use Rattle.step_threads.specs.declared.call.CellName.TheVariants as cell
+use Rattle.step_table.specs.declared.cell_deed.Cell.{Cell}
+use Rattle.step_table.specs.declared.cell_deed.Cell.TheVariants.{Free}
+use Rattle.step_threads.specs.declared.course.Course.{Course}
+use Rattle.step_table.specs.Contents.{is_of}
+use Rattle.step_threads.specs.declared.ending.Ending.{Ending}
+use Rattle.step_table.specs.Holdings.{Holds, Slots, is_full, plain, pointer_of, slot, value, weak_slot}
+use Rattle.control_word.specs.declared.view.Pending.TheVariants.{Idle}
+use Rattle.step_table.specs.declared.holdings.Pointer.{Pointer}
+use Rattle.step_table.specs.declared.past.Deed.{Deed}
+use Rattle.step_table.specs.declared.slot.Slot.{Slot}
+use Rattle.step_threads.specs.Programs.{IsIn}
+use Rattle.step_table.specs.Stories.{Story, after, pending}
+
+-- the last slot, for what an act takes
+abbrev pub hand : Slots → ℕ
+hand slots = length slots - 1
+
+-- the one before it, behind those of the names, for what is to be dropped at the end of its statement
+abbrev pub other : Slots → ℕ
+other slots = length slots - 2
+
+-- the kind of what a cell holds
+abbrev pub kind_at : CellName → Kind
+kind_at (cell.Shared n) = Owner
+kind_at (cell.Weak n) = Weak
+
+-- the cell in the table: the weak ones stand behind the shared ones
+abbrev pub cell_at : State → CellName → Cell
+cell_at s (cell.Shared n) = Free n
+cell_at s (cell.Weak n) = Free (s.shared + n)
+
+-- what is taken of a value for a cell of a kind
+abbrev pub fitting : Kind → Slot → Slot
+fitting k x = cond (is_of k x) x plain
+
+-- the pointer that is taken of a name for a cell
+abbrev pub offered : Slots → ℕ → CellName → Option Pointer
+offered slots k c = pointer_of (fitting (kind_at c) (value slots k))
+
+-- a cell that is swapped, and the slot whose value goes in
+abbrev pub Going : Type 0
+Going = CellName × ℕ
+
+abbrev pub going_from : Slots → CellName → ℕ → Option Going
+going_from slots c k = cond (is_of (kind_at c) (value slots k)) (Some (c, k)) None
+
+-- those of an act, where the value may go in
+abbrev pub going : Slots → Act → Option Going
+going slots (Swap c) = going_from slots c (hand slots)
+going slots (Exchange k c) = going_from slots c k
+going slots _ = None
+
+abbrev pub on_going : {A : Type 0} → (CellName → ℕ → A) → A → Option Going → A
+on_going f none None = none
+on_going f none (Some x) = f x.0 x.1
+
+-- the value that an act puts into a cell
+abbrev pub new_of : Slots → Act → Slot
+new_of slots (Swap c) = value slots (hand slots)
+new_of slots (Exchange k c) = value slots k
+new_of slots _ = plain
+
+abbrev pub no_form : Form
+no_form = record { fields = []; enabled = false; null = false }
+
+-- what an act makes, where it makes an object
+abbrev pub form_of : Act → Form
+form_of (Make form) = form
+form_of _ = no_form
+
+-- the weak handle that an act locks
+abbrev pub locked : Slots → Act → Option Pointer
+locked slots (Lock k must) = weak_slot (slot slots k)
+locked slots _ = None
+
+-- a task that is no act where it comes
+abbrev pub idle : Act → Slots → Bool → Bool
+idle (Put k) slots taken = not (taken && is_full (slot slots k))
+idle (Clear k) slots taken = not (is_full (slot slots k))
+idle (Swap c) slots taken = not (taken && is_of (kind_at c) (value slots (hand slots)))
+idle Drop slots taken = not (is_full (slot slots (other slots)))
+idle _ slots taken = false
+
+-- the value of slot i goes to slot k
+abbrev pub passed : ℕ → ℕ → Slots → Slots
+passed i k slots = slice_set (slice_set slots k (value slots i)) i plain
+
+-- the value in hand is in slot k
+abbrev pub placed : ℕ → Slots → Slots
+placed k slots = passed (hand slots) k slots
+
+-- what a task leaves that is idle: what is in hand and goes nowhere is to be dropped
+abbrev pub slots_idle : Act → Slots → Bool → Slots
+slots_idle (Put k) slots taken = cond taken (placed k slots) slots
+slots_idle (Swap c) slots taken = cond taken (placed (other slots) slots) slots
+slots_idle Drop slots taken = slice_set slots (other slots) plain
+slots_idle _ slots taken = slots
+
+abbrev pub taken_idle : Act → Bool → Bool
+taken_idle (Put k) taken = false
+taken_idle (Swap c) taken = false
+taken_idle _ taken = taken
+
+-- where a thread is: what it holds, the objects that end in its hands, the one begun last first, and its tasks
+pub record Walk : Type 0 where
+  pub slots : Slots
+  pub taken : Bool
+  pub endings : List Ending
+  pub todo : List Task
+
+-- the thread at its next act
+abbrev pub settled : Slots → Bool → List Ending → List Task → Walk
+settled slots taken endings [] = record { slots = slots; taken = taken; endings = endings; todo = [] }
+settled slots taken endings (t ∷ ts) =
+    cond (idle t.act slots taken) (settled (slots_idle t.act slots taken) (taken_idle t.act taken) endings ts)
+    (record { slots = slots; taken = taken; endings = endings; todo = t ∷ ts })
+
+-- a question about some of n names
+abbrev pub IsAbout : ℕ → Question → Type 0
+IsAbout n (question.Place k) = k < n
+IsAbout n (question.Same i j) = (i < n) × (j < n)
+IsAbout n (question.Before i j) = (i < n) × (j < n)
+
+-- an act that may come with n names, where something was taken or not
+abbrev pub Begins : ℕ → Bool → Act → Type 0
+Begins n taken (Make form) = (taken ≡ false) × (length form.fields ≡ 4)
+Begins n taken (Share k) = (k < n) × (taken ≡ false)
+Begins n taken (Put k) = k < n
+Begins n taken (Leave k) = (k < n) × (taken ≡ false)
+Begins n taken (Clear k) = (k < n) × (taken ≡ false)
+Begins n taken (Count k) = k < n
+Begins n taken (Downgrade k) = (k < n) × (taken ≡ false)
+Begins n taken (Lock k must) = (k < n) × (taken ≡ false)
+Begins n taken (Expired k) = k < n
+Begins n taken (Read k) = k < n
+Begins n taken (FromThis k kind) = (k < n) × (taken ≡ false)
+Begins n taken (Alias k j field) = (k < n) × (j < n) × (taken ≡ false)
+Begins n taken (Move k) = (k < n) × (taken ≡ false)
+Begins n taken (Ask q) = IsAbout n q
+Begins n taken (Offer k c) = (k < n) × (taken ≡ false)
+Begins n taken (Swap c) = Unit {0}
+Begins n taken (Exchange k c) = (k < n) × (taken ≡ false)
+Begins n taken Drop = taken ≡ false
+
+abbrev pub taken_after : Act → Bool → Bool
+taken_after (Make form) taken = true
+taken_after (Share k) taken = true
+taken_after (Downgrade k) taken = true
+taken_after (Lock k must) taken = true
+taken_after (FromThis k kind) taken = true
+taken_after (Alias k j field) taken = true
+taken_after (Move k) taken = true
+taken_after (Offer k c) taken = true
+taken_after (Put k) taken = false
+taken_after (Swap c) taken = false
+taken_after _ taken = taken
+
+-- what is to be dropped is, before all else
+abbrev pub Drops : List Task → Type 0
+Drops [] = ⊥
+Drops (t ∷ ts) = t.act ≡ Drop
+
+abbrev pub Follows : Act → List Task → Type 0
+Follows (Swap c) ts = Drops ts
+Follows _ ts = Unit {0}
+
+abbrev pub Ready : ℕ → Bool → List Task → Type 0
+Ready n taken [] = Unit {0}
+Ready n taken (t ∷ ts) = Begins n taken t.act × Follows t.act ts × Ready n (taken_after t.act taken) ts
+
+-- the shape has the cell of an act
+abbrev pub HasCell : Shape → Act → Type 0
+HasCell z (Offer k c) = IsIn z c
+HasCell z (Swap c) = IsIn z c
+HasCell z (Exchange k c) = IsIn z c
+HasCell z _ = Unit {0}
+
+-- what a thread relies on
+pub record IsReady (slots : Slots) (taken : Bool) (todo : List Task) : Type 0 where
+  pub some : 1 < length slots
+  pub free : taken ≡ false → value slots (hand slots) ≡ plain
+  pub owes : (value slots (other slots) ≡ plain) ⊎ Drops todo
+  pub ready : Ready (other slots) taken todo
+
+abbrev pub no_task : Task
+no_task = record { statement = 0; act = Count 0 }
+
+abbrev pub todo : Course → List Task
+todo c = drop c.at c.tasks.items
+
+abbrev pub task_at : Course → Task
+task_at c = get_or c.tasks.items c.at no_task
+
+abbrev pub walk : Course → Walk
+walk c = record { slots = c.holdings.slots.items; taken = c.taken; endings = c.endings.list; todo = todo c }
+
+abbrev pub CourseReady : Course → Type 0
+CourseReady c = IsReady c.holdings.slots.items c.taken (todo c)
+
+-- past an idle task
+pub record IsPassed (a b : Course) : Type 0 where
+  pub slots : b.holdings.slots.items ≡ slots_idle (task_at a).act a.holdings.slots.items a.taken
+  pub taken : b.taken ≡ taken_idle (task_at a).act a.taken
+  pub at : b.at ≡ a.at + 1
+  pub tasks : b.tasks ≡ a.tasks
+  pub endings : b.endings ≡ a.endings
+  pub holds : (d : ℕ) (v : Story) → Holds d a.holdings.slots.items v → Holds d b.holdings.slots.items v
+
+abbrev pub CourseStill : Course → Type 0
+CourseStill c = c.at < length c.tasks.items → idle (task_at c).act c.holdings.slots.items c.taken ≡ false
+
+-- the thread is at an act, no object ends in its hands, and no call of its desk is half done
+pub record CanAct (d : ℕ) (c : Course) (v : Story) : Type 0 where
+  pub seat : d < v.extent.actors
+  pub idle : pending v d ≡ Idle
+  pub holds : Holds d c.holdings.slots.items v
+  pub within : c.at < length c.tasks.items
+  pub ready : CourseReady c
+  pub still : CourseStill c
+  pub ended : c.endings.list ≡ []
+  pub cell : HasCell v.extent.shape (task_at c).act
+
+-- the thread is at a later act, or at its end
+pub record HasGoneOn (d : ℕ) (c c' : Course) (v : Story) : Type 0 where
+  pub holds : Holds d c'.holdings.slots.items v
+  pub tasks : c'.tasks ≡ c.tasks
+  pub endings : c'.endings ≡ c.endings
+  pub within : c'.at ≤ length c'.tasks.items
+  pub onward : c.at < c'.at
+  pub ready : CourseReady c'
+  pub still : CourseStill c'
+
+-- the tasks after the next one
+abbrev pub rest : Course → List Task
+rest c = drop (c.at + 1) c.tasks.items
+
+-- the deed is done where the slot holds something
+abbrev pub done_on : (Pointer → Deed) → Story → ℕ → Option Pointer → Story
+done_on f v d None = v
+done_on f v d (Some x) = after v d (f x)

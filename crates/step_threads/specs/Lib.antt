@@ -1,0 +1,10 @@
+pub mod Actors
+pub mod Acts
+pub mod Courses
+pub mod Endings
+pub mod Entries
+pub mod Programs
+pub mod Scenes
+pub mod Steps
+pub mod Stocks
+pub mod Threads

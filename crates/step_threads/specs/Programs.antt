@@ -1,0 +1,125 @@
+-- Programs, without where they lie in memory.
+use Rattle.std.specs.Prelude.{◌≡◌, ℕ, ◌<◌, ◌≤◌, List, [], ◌∷◌, Option, Some, None, All, IsTrue, is_some, length, map, sum_by, slice_get}
+use Rattle.control_word.specs.declared.shape.Shape.{Shape}
+use Rattle.step_threads.specs.declared.call.Actor.{Actor}
+use Rattle.step_threads.specs.declared.call.Call.{Call}
+use Rattle.step_threads.specs.declared.call.Call.TheVariants.{Make, Empty, Reset, Copy, Count}
+use Rattle.step_threads.specs.declared.call.Call.TheVariants.{MakeThis, Null, Move, Alias, AliasNull, This, WeakThis, Read, Place, Same, Before}
+use Rattle.step_threads.specs.declared.call.Call.TheVariants.{Store, Exchange, WeakCopy, WeakEmpty, WeakReset, Lock, Upgrade, WeakCount, Expired}
+use Rattle.step_threads.specs.declared.call.Call.TheVariants as call
+use Rattle.step_threads.specs.declared.call.CellName.{CellName}
+use Rattle.step_threads.specs.declared.call.CellName.TheVariants as cell
+use Rattle.step_threads.specs.declared.call.Kind.{Kind}
+use Rattle.step_threads.specs.declared.call.Kind.TheVariants.{Owner}
+use Rattle.step_threads.specs.declared.call.Kind.TheVariants as kind
+use Rattle.step_threads.specs.declared.call.Name.{Name}
+use Rattle.step_threads.specs.declared.call.Program.{Program}
+
+-- an actor's part of a program: the kinds of its names, and its calls in order
+pub record Part : Type 0 where
+  pub kinds : List Kind
+  pub calls : List Call
+
+abbrev pub part_of : Actor → Part
+part_of actor = record { kinds = actor.kinds.items; calls = actor.calls.items }
+
+abbrev pub parts_of : Program → List Part
+parts_of program = map part_of program.actors.items
+
+-- a name that a call has, and the kind that the call asks for, if it asks for one
+abbrev pub Asked : Type 0
+Asked = Name × Option Kind
+
+abbrev pub owner : Name → Asked
+owner name = (name, Some Owner)
+
+abbrev pub weak : Name → Asked
+weak name = (name, Some kind.Weak)
+
+abbrev pub either : Name → Asked
+either name = (name, None)
+
+-- a name of the kind of what a cell holds
+abbrev pub as_in : CellName → Name → Asked
+as_in (cell.Shared n) name = owner name
+as_in (cell.Weak n) name = weak name
+
+-- the names of a call
+abbrev pub names_of : Call → List Asked
+names_of (Make target fields) = owner target ∷ []
+names_of (MakeThis target fields) = owner target ∷ []
+names_of (Null target) = owner target ∷ []
+names_of (Empty target) = owner target ∷ []
+names_of (Reset name) = owner name ∷ []
+names_of (Copy target source) = owner target ∷ owner source ∷ []
+names_of (Move target source) = owner target ∷ owner source ∷ []
+names_of (Alias target source of field) = owner target ∷ owner source ∷ owner of ∷ []
+names_of (AliasNull target source) = owner target ∷ owner source ∷ []
+names_of (Count name) = owner name ∷ []
+names_of (call.Weak target source) = weak target ∷ owner source ∷ []
+names_of (WeakCopy target source) = weak target ∷ weak source ∷ []
+names_of (WeakEmpty target) = weak target ∷ []
+names_of (WeakReset name) = weak name ∷ []
+names_of (Lock target source) = owner target ∷ weak source ∷ []
+names_of (Upgrade target source) = owner target ∷ weak source ∷ []
+names_of (WeakCount name) = weak name ∷ []
+names_of (Expired name) = weak name ∷ []
+names_of (This target source) = owner target ∷ owner source ∷ []
+names_of (WeakThis target source) = weak target ∷ owner source ∷ []
+names_of (Read name) = owner name ∷ []
+names_of (Place name) = owner name ∷ []
+names_of (Same first second) = owner first ∷ owner second ∷ []
+names_of (Before first second) = either first ∷ either second ∷ []
+names_of (Store cell source) = as_in cell source ∷ []
+names_of (Exchange cell name) = as_in cell name ∷ []
+
+-- the cells of a call
+abbrev pub cells_of : Call → List CellName
+cells_of (Store cell source) = cell ∷ []
+cells_of (Exchange cell name) = cell ∷ []
+cells_of _ = []
+
+-- a shape has the cell
+abbrev pub IsIn : Shape → CellName → Type 0
+IsIn shape (cell.Shared n) = n < shape.shared_cells
+IsIn shape (cell.Weak n) = n < shape.weak_cells
+
+-- it has each cell of a call, and of a part's calls
+abbrev pub HasCells : Shape → Call → Type 0
+HasCells shape call = All (IsIn shape) (cells_of call)
+
+abbrev pub AllHaveCells : Shape → Part → Type 0
+AllHaveCells shape part = All (HasCells shape) part.calls
+
+abbrev pub listed : Option Asked → List Asked
+listed None = []
+listed (Some x) = x ∷ []
+
+-- a name with this kind is there, or with any where none is asked for
+abbrev pub IsFound : Option Kind → Option Kind → Type 0
+IsFound None found = IsTrue (is_some found)
+IsFound (Some kind) found = found ≡ Some kind
+
+-- among names of these kinds the name is one, and of the kind that is asked for
+abbrev pub IsDeclared : List Kind → Asked → Type 0
+IsDeclared kinds asked = IsFound asked.1 (slice_get kinds asked.0.0)
+
+-- each name of the call is declared, with the kind that the call asks for
+abbrev pub IsWellNamed : List Kind → Call → Type 0
+IsWellNamed kinds call = All (IsDeclared kinds) (names_of call)
+
+-- a part with at most 32 names, whose calls are well named
+pub record IsPart (part : Part) : Type 0 where
+  pub few : length part.kinds ≤ 32
+  pub named : All (IsWellNamed part.kinds) part.calls
+
+-- how many calls the parts have together
+abbrev pub call_count : List Part → ℕ
+call_count parts = sum_by (λ part. length part.calls) parts
+
+-- the parts of 1 to 64 actors, with at most 65,536 calls together
+pub record IsProgram (parts : List Part) : Type 0 where
+  pub some : 1 ≤ length parts
+  pub actors : length parts ≤ 64
+  pub calls : call_count parts ≤ 65536
+  pub each : All IsPart parts

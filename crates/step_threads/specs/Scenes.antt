@@ -1,0 +1,272 @@
+-- What the acts of threads make of the history, act by act. All of it is own but the events, which name their sections.
+use Rattle.std.specs.Prelude.{ℕ, zero, suc, ◌-◌, ◌==◌, Bool, true, false, not, cond, List, [], ◌∷◌, get_or, slice_set, Option, Some, None, option_map}
+use Rattle.control_word.specs.declared.event.Event.TheVariants as event
+use Rattle.control_word.specs.declared.handle.Kind.{Kind}
+use Rattle.control_word.specs.declared.handle.Kind.TheVariants.{Owner, Weak}
+use Rattle.control_word.specs.declared.place.Place.{Place}
+use Rattle.control_word.specs.declared.refusal.Refusal.TheVariants.{BadWeak, Full, NotEnabled, Null, Outside}
+use Rattle.control_word.specs.Events.{origin}
+use Rattle.control_word.specs.Handles.{empty, handle, has_object, owner, same_place}
+use Rattle.control_word.specs.Histories.{entry, leads}
+use Rattle.control_word.specs.State.{Object, Opening, State, count, weak}
+use Rattle.step_threads.specs.declared.act.Act.{Act}
+use Rattle.step_threads.specs.declared.act.Act.TheVariants.{Make, Share, Downgrade, Lock, Put, Leave, Clear, Count, Expired, Read, FromThis, Alias, Move, Ask, Offer, Swap, Exchange, Drop}
+use Rattle.step_threads.specs.declared.act.Question.{Question}
+use Rattle.step_threads.specs.declared.act.Question.TheVariants as question
+use Rattle.step_threads.specs.declared.act.Task.{Task}
+use Rattle.step_threads.specs.declared.call.CellName.{CellName}
+use Rattle.step_table.specs.declared.field.Field.{Field}
+use Rattle.step_table.specs.Contents.{held_in, slot_of, swapped}
+use Rattle.step_threads.specs.declared.ending.Ending.{Ending}
+use Rattle.step_table.specs.declared.extent.Extent.{Extent}
+use Rattle.step_table.specs.declared.holdings.Pointer.{Pointer}
+use Rattle.step_threads.specs.declared.said.Answer.{Answer}
+use Rattle.step_threads.specs.declared.said.Answer.TheVariants as answer
+use Rattle.step_table.specs.declared.ended.Ended.{Ended}
+use Rattle.step_table.specs.declared.ended.Ended.TheVariants as ended
+use Rattle.step_threads.specs.declared.said.Said.{Said}
+use Rattle.step_table.specs.declared.slot.Slot.TheVariants.{Full, Empty}
+use Rattle.step_threads.specs.Courses.{Walk, cell_at, fitting, going, hand, kind_at, locked, on_going, other, placed, settled, passed}
+use Rattle.step_table.specs.Deeds.{as_weak, field_of, is_enabled, is_expired, is_last, owned, owner_left, this_as, aliased, at_place, on, remains, before}
+use Rattle.step_table.specs.Holdings.{Slots, filled, inside, is_full, place_in, plain, slot, value, owner_slot}
+use Rattle.step_table.specs.declared.slot.Slot.{Slot}
+use Rattle.step_table.specs.Openings.{opening}
+use Rattle.step_threads.specs.Entries.{History, least, leaves, giving, acted}
+
+-- the history so far, and where each thread is
+pub record Scene : Type 0 where
+  pub extent : Extent
+  pub history : History
+  pub walks : List Walk
+
+-- what a thread has in its slots, and whether something is in hand
+abbrev pub Hands : Type 0
+Hands = Slots × Bool
+
+-- a new object's owner is in hand, or the rest of the statement is passed over
+abbrev pub holding : Slots → Bool → Option ℕ → Hands
+holding slots null None = (slots, false)
+holding slots null (Some b) = (slice_set slots (hand slots) (Full (record { kind = Owner; block = record { 0 = b }; place = origin b null })), true)
+
+-- what a lock finds: an owner, where there is a weak pointer and an owner is left
+abbrev pub found : State → Option Pointer → Option Pointer
+found s x = on (owner_left s) None x
+
+-- what was found is in hand; where nothing was and it must be, the rest of the statement is passed over
+abbrev pub taking : Slots → Bool → Option Pointer → Hands
+taking slots must None = (slots, not must)
+taking slots must (Some x) = (slice_set slots (hand slots) (Full x), true)
+
+-- an alias with this place: an owner, or an empty pointer, has it
+abbrev pub alias_of : Option Place → Option Pointer → Slot
+alias_of p None = Empty p
+alias_of p (Some x) = Full (at_place p x)
+
+abbrev pub alias_in : Slots → ℕ → ℕ → Option Field → Slot
+alias_in slots k j field = alias_of (aliased field (place_in slots j)) (owner_slot (slot slots k))
+
+-- what comes out of a cell
+abbrev pub came : State → CellName → Slot
+came s c = slot_of s (held_in s (cell_at s c))
+
+-- what it has by an act
+abbrev pub hands : State → ℕ → Slots → Bool → Act → Hands
+hands s d slots taken (Make form) = holding slots form.null (least d s.stores)
+hands s d slots taken (Share k) = (slice_set slots (hand slots) (value slots k), true)
+hands s d slots taken (Put k) = (placed k (slice_set slots k plain), false)
+hands s d slots taken (Leave k) = (slice_set slots k plain, taken)
+hands s d slots taken (Clear k) = (slice_set slots k plain, taken)
+hands s d slots taken (Count k) = (slots, taken)
+hands s d slots taken (Downgrade k) = (slice_set slots (hand slots) (filled (option_map as_weak (slot slots k))), true)
+hands s d slots taken (Lock k must) = taking slots must (found s (locked slots (Lock k must)))
+hands s d slots taken (Expired k) = (slots, taken)
+hands s d slots taken (Read k) = (slots, taken)
+hands s d slots taken (FromThis k kind) = taking slots true (option_map (this_as kind) (giving s (inside (slot slots k))))
+hands s d slots taken (Alias k j field) = (slice_set slots (hand slots) (alias_in slots k j field), true)
+hands s d slots taken (Move k) = (passed k (hand slots) slots, true)
+hands s d slots taken (Ask q) = (slots, taken)
+hands s d slots taken (Offer k c) = (slice_set slots (hand slots) (fitting (kind_at c) (value slots k)), true)
+hands s d slots taken (Swap c) = (on_going (λ x k. swapped k (other slots) slots (came s x)) slots (going slots (Swap c)), false)
+hands s d slots taken (Exchange k c) = (on_going (λ x i. slice_set slots i (came s x)) slots (going slots (Exchange k c)), taken)
+hands s d slots taken Drop = (slice_set slots (other slots) plain, taken)
+
+-- the pointer that leaves by an act
+abbrev pub left : Slots → Act → Option Pointer
+left slots (Put k) = slot slots k
+left slots (Leave k) = slot slots k
+left slots (Clear k) = slot slots k
+left slots Drop = slot slots (other slots)
+left slots _ = None
+
+-- the endings after a pointer's leave by statement k: where it was the last owner, its object's end begins
+abbrev pub begins_end_as : Kind → ℕ → Pointer → List Ending → List Ending
+begins_end_as Owner k x es = record { block = x.block; stage = 0; statement = k } ∷ es
+begins_end_as Weak k x es = es
+
+abbrev pub begins_end : State → ℕ → Pointer → List Ending → List Ending
+begins_end s k x es = cond (is_last s x) (begins_end_as x.kind k x es) es
+
+abbrev pub endings_by : State → ℕ → Slots → List Ending → Act → List Ending
+endings_by s k slots es a = on (λ x. begins_end s k x es) es (left slots a)
+
+-- where the thread is by an act of statement k alone, with these tasks after it
+abbrev pub went : State → ℕ → Walk → ℕ → List Task → Act → Walk
+went s d w k ts a = let x = hands s d w.slots w.taken a in settled x.0 x.1 (endings_by s k w.slots w.endings a) ts
+
+-- how far the end of an object comes by itself: to a member that held an object, with so many members behind it, or to its end
+pub record Stop : Type 0 where
+  pub history : History
+  pub out : Option (ℕ × Slot)
+
+-- a member of an ending object is cleared
+abbrev pub clears : Opening → ℕ → ℕ → ℕ → History → History
+clears z d o m h = entry d (event.ClearMember o m (((leads z h).object o).member m)) ∷ h
+
+-- an object ends: its members that are left are cleared in order, up to one that held an object; with none left it is finished
+abbrev pub stops : Opening → ℕ → ℕ → ℕ → History → Stop
+stops z d o zero h = record { history = entry d (event.Finish o (weak (leads z h) o == 0) tt) ∷ h; out = None }
+stops z d o (suc k) h =
+    let s = leads z h in
+    let x = (s.object o).member (2 - k) in
+    cond (has_object x) (record { history = clears z d o (2 - k) h; out = Some (k, slot_of s x) }) (stops z d o k (clears z d o (2 - k) h))
+
+-- how far a thread's endings come by themselves
+pub record Wound : Type 0 where
+  pub history : History
+  pub slots : Slots
+  pub endings : List Ending
+
+-- the first ending came to its end, and the others went on, or a member's handle is in hand
+abbrev pub goes_on : Ending → List Ending → History → Slots → Wound → Option (ℕ × Slot) → Wound
+goes_on e es h slots others None = others
+goes_on e es h slots others (Some p) =
+    record {
+      history = h;
+      slots = slice_set slots (hand slots) p.1;
+      endings = record { block = e.block; stage = 3 - p.0; statement = e.statement } ∷ es;
+    }
+
+-- the endings go on, the last begun first, until a member's handle is in hand or none is left
+abbrev pub unwound : Opening → ℕ → Slots → List Ending → History → Wound
+unwound z d slots [] h = record { history = h; slots = slots; endings = [] }
+unwound z d slots (e ∷ es) h =
+    let c = stops z d ((leads z h).latest e.block.0) (3 - e.stage) h in
+    goes_on e es c.history slots (unwound z d slots es c.history) c.out
+
+-- what came out of a member of an ending object leaves before all else
+abbrev pub next_of : Slots → List Ending → List Task → Option Task
+next_of slots (e ∷ es) ts = Some (record { statement = e.statement; act = Leave (hand slots) })
+next_of slots [] [] = None
+next_of slots [] (t ∷ ts) = Some t
+
+-- the next act of a thread whose endings have gone on by themselves
+abbrev pub next : Walk → Option Task
+next w = next_of w.slots w.endings w.todo
+
+-- the tasks after it
+abbrev pub rest_of : List Ending → List Task → List Task
+rest_of (e ∷ es) ts = ts
+rest_of [] [] = []
+rest_of [] (t ∷ ts) = ts
+
+abbrev pub full_answer : Option ℕ → Option Answer
+full_answer None = Some (answer.Refused Full)
+full_answer (Some b) = None
+
+-- a lock says whether it gave an owner; one that must is refused where it did not ([util.smartptr.shared.const], bad_weak_ptr)
+abbrev pub lock_answer : Bool → Bool → Answer
+lock_answer false got = answer.Locked got
+lock_answer true true = answer.Upgraded
+lock_answer true false = answer.Refused BadWeak
+
+-- why there is no field and no object to ask: the place is null, or isn't in the object (own)
+abbrev pub outside : Option Place → Answer
+outside None = answer.Refused Null
+outside (Some p) = answer.Refused Outside
+
+abbrev pub read_answer : State → Option Place → Option Pointer → Answer
+read_answer s p None = outside p
+read_answer s p (Some x) = answer.Read (field_of s x)
+
+abbrev pub this_answer : State → Option Place → Option Pointer → Option Answer
+this_answer s p None = Some (outside p)
+this_answer s p (Some x) = cond (is_enabled s x) None (Some (answer.Refused NotEnabled))
+
+-- what pointers tell by their values: equal are those that store the same place ([util.smartptr.shared.cmp])
+abbrev pub reply : State → Slots → Question → Answer
+reply s slots (question.Place k) = answer.Place (place_in slots k)
+reply s slots (question.Same i j) = answer.Same (same_place (place_in slots i) (place_in slots j))
+reply s slots (question.Before i j) = answer.Before (before s (slot slots i) (slot slots j))
+
+-- what an act answers: a make is refused where the store is empty, and a count is the number of owners
+abbrev pub answer_of : State → ℕ → Slots → Act → Option Answer
+answer_of s d slots (Make form) = full_answer (least d s.stores)
+answer_of s d slots (Count k) = Some (answer.Count (on (λ x. count s (owned s x)) 0 (slot slots k)))
+answer_of s d slots (Lock k must) = Some (lock_answer must (is_full (found s (locked slots (Lock k must)))))
+answer_of s d slots (Expired k) = Some (answer.Expired (on (is_expired s) true (slot slots k)))
+answer_of s d slots (Read k) = Some (read_answer s (place_in slots k) (inside (slot slots k)))
+answer_of s d slots (FromThis k kind) = this_answer s (place_in slots k) (inside (slot slots k))
+answer_of s d slots (Ask q) = Some (reply s slots q)
+answer_of s d slots _ = None
+
+abbrev pub remains_as : Kind → Object → Option Ended
+remains_as Owner x = Some (remains x)
+remains_as Weak x = None
+
+-- the object that ends where this pointer leaves
+abbrev pub ended_by : State → Option Pointer → Option Ended
+ended_by s x = on (λ y. cond (is_last s y) (remains_as y.kind (s.object (owned s y))) None) None x
+
+abbrev pub ended_of : State → Slots → Act → Option Ended
+ended_of s slots (Put k) = ended_by s (slot slots k)
+ended_of s slots (Leave k) = ended_by s (slot slots k)
+ended_of s slots (Clear k) = ended_by s (slot slots k)
+ended_of s slots Drop = ended_by s (slot slots (other slots))
+ended_of s slots _ = None
+
+abbrev pub said_of : State → ℕ → Slots → Task → Said
+said_of s d slots t = record { statement = t.statement; answer = answer_of s d slots t.act; ended = ended_of s slots t.act }
+
+abbrev pub nowhere : Walk
+nowhere = record { slots = []; taken = false; endings = []; todo = [] }
+
+abbrev pub walk_of : Scene → ℕ → Walk
+walk_of c d = get_or c.walks d nowhere
+
+abbrev pub state_in : Scene → State
+state_in c = leads (opening c.extent) c.history
+
+-- a thread's endings go on by themselves, unless what came out of a member is in hand
+abbrev pub rested_walk : Opening → ℕ → History → Walk → Wound
+rested_walk z d h w =
+    cond (is_full (slot w.slots (hand w.slots))) (record { history = h; slots = w.slots; endings = w.endings }) (unwound z d w.slots w.endings h)
+
+abbrev pub put_walk : Scene → ℕ → Walk → Wound → Scene
+put_walk c d w x =
+    record {
+      extent = c.extent;
+      history = x.history;
+      walks = slice_set c.walks d (record { slots = x.slots; taken = w.taken; endings = x.endings; todo = w.todo });
+    }
+
+-- the scene once thread d's endings have gone on by themselves
+abbrev pub rested : ℕ → Scene → Scene
+rested d c = let w = walk_of c d in put_walk c d w (rested_walk (opening c.extent) d c.history w)
+
+abbrev pub play_from : Scene → ℕ → Walk → Option Task → Scene
+play_from c d w None = c
+play_from c d w (Some t) =
+    let w' = went (state_in c) d w t.statement (rest_of w.endings w.todo) t.act in
+    put_walk c d w' (rested_walk (opening c.extent) d (acted (opening c.extent) d w.slots c.history t.act) w')
+
+-- thread d makes its next act, and its endings go on by themselves; a thread at its end does nothing
+abbrev pub play : ℕ → Scene → Scene
+play d c = play_from c d (walk_of c d) (next (walk_of c d))
+
+abbrev pub said_from : Scene → ℕ → Slots → Option Task → Option Said
+said_from c d slots None = None
+said_from c d slots (Some t) = Some (said_of (state_in c) d slots t)
+
+-- what its next act says
+abbrev pub said : ℕ → Scene → Option Said
+said d c = said_from c d (walk_of c d).slots (next (walk_of c d))

@@ -1,0 +1,70 @@
+-- A thread of the machine, and how it fits the table. All of it is own.
+use Rattle.std.specs.Prelude.{◌≡◌, ℕ, ◌<◌, ◌≤◌, ◌⊎◌, [], ◌∷◌, Bool, true, false, length, is_some, All, Option, Some, None}
+use Rattle.std.specs.List.Sorted.{IsPermutation}
+use Rattle.control_word.specs.declared.handle.Kind.{Kind}
+use Rattle.control_word.specs.declared.handle.Kind.TheVariants.{Weak}
+use Rattle.step_table.specs.declared.form.Form.{Form}
+use Rattle.step_threads.specs.declared.act.Act.TheVariants.{Make, FromThis}
+use Rattle.step_threads.specs.declared.act.Task.{Task}
+use Rattle.step_threads.specs.declared.course.Course.{Course}
+use Rattle.step_threads.specs.declared.half.Half.{Half}
+use Rattle.step_threads.specs.declared.half.Half.TheVariants.{Rest, Making, Locking, Giving, Brought, Returning}
+use Rattle.step_threads.specs.declared.said.Stepped.{Stepped}
+use Rattle.step_threads.specs.declared.thread.Thread.{Thread}
+use Rattle.step_threads.specs.Actors.{HalfFits, Stocks}
+use Rattle.step_threads.specs.Courses.{CourseReady, CourseStill, HasCell, form_of, going, locked, task_at, walk}
+use Rattle.step_table.specs.declared.holdings.Pointer.{Pointer}
+use Rattle.step_threads.specs.Endings.{EndsAll}
+use Rattle.step_table.specs.Holdings.{Holds, inside, is_full, slot}
+use Rattle.step_threads.specs.Stocks.{Stored}
+use Rattle.step_threads.specs.Steps.{half_by, step_at, stepped, story_by, walk_by}
+use Rattle.step_table.specs.Stories.{Story}
+
+-- what the next act makes, where it makes an object
+abbrev pub form_at : Course → Form
+form_at c = form_of (task_at c).act
+
+-- a make, a lock, a pointer from this or a swap that is under way is the next act, and no object ends
+abbrev pub IsNext : Half → Course → Type 0
+IsNext Rest c = Unit {0}
+IsNext (Making b i differs) c = (c.at < length c.tasks.items) × ((task_at c).act ≡ Make (form_at c)) × (c.endings.list ≡ [])
+IsNext (Locking word) c = (c.at < length c.tasks.items) × (is_full (locked c.holdings.slots.items (task_at c).act) ≡ true) × (c.endings.list ≡ [])
+IsNext (Giving i kind x) c =
+    (c.at < length c.tasks.items) × ((task_at c).act ≡ FromThis i kind) × (inside (slot c.holdings.slots.items i) ≡ Some x) × (c.endings.list ≡ [])
+IsNext Brought c = (c.at < length c.tasks.items) × (is_some (going c.holdings.slots.items (task_at c).act) ≡ true) × (c.endings.list ≡ [])
+IsNext (Returning kind b funds k) c = Unit {0}
+
+-- the objects that end in a thread's hands are those of its endings; there is room for more, and nothing was taken meanwhile
+pub record EndsFit (d : ℕ) (c : Course) (v : Story) : Type 0 where
+  pub all : EndsAll d c.endings.list v
+  pub roomy : v.extent.shape.blocks ≤ c.endings.room
+  pub empty : (c.endings.list ≡ []) ⊎ (c.taken ≡ false)
+
+-- between two steps the thread has what its desk has, and its half-done act is as its desk's view says
+pub record Fits (d : ℕ) (t : Thread) (v : Story) : Type 0 where
+  pub seat : d < v.extent.actors
+  pub holds : Holds d t.course.holdings.slots.items v
+  pub within : t.course.at ≤ length t.course.tasks.items
+  pub ready : CourseReady t.course
+  pub still : CourseStill t.course
+  pub half : HalfFits d t.half t.course.holdings.slots.items (task_at t.course).act v
+  pub next : IsNext t.half t.course
+  pub stocks : Stocks d t.stock.blocks t.stock.room t.half v
+  pub endings : EndsFit d t.course v
+  pub cells : All (λ (x : Task). HasCell v.extent.shape x.act) t.course.tasks.items
+
+-- the thread made its step, and the table is as that left it
+pub record HasStepped (d : ℕ) (t : Thread) (v : Story) (r : Stepped) (t' : Thread) (v' : Story) : Type 0 where
+  pub answer : r ≡ stepped v (step_at v d t.half (walk t.course))
+  pub story : v' ≡ story_by v d (step_at v d t.half (walk t.course))
+  pub place : walk t'.course ≡ walk_by (walk t.course) (step_at v d t.half (walk t.course))
+  pub half : t'.half ≡ half_by t.half (step_at v d t.half (walk t.course))
+
+-- the stock after a pointer left: a block that is vacant by it comes in
+abbrev pub IsStocked : Kind → ℕ → Bool → Stored → Stored → Type 0
+IsStocked Weak b true s s' = IsPermutation (b ∷ s.blocks) s'.blocks × (s.room ≤ s'.room)
+IsStocked _ b last s s' = s' ≡ s
+
+abbrev pub IsStockedBy : Option Pointer → Bool → Stored → Stored → Type 0
+IsStockedBy None last s s' = s' ≡ s
+IsStockedBy (Some x) last s s' = IsStocked x.kind x.block.0 last s s'

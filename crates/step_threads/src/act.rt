@@ -1,0 +1,287 @@
+//! The primitive acts that statements are made of.
+ghost use Rattle.std.specs.Prelude.{◌≡◌, ◌<◌, ◌^◌, ◌++◌, ◌∷◌, length, IfOk, OnOk};
+ghost use Rattle.step_threads.specs.Acts.{acts, numbered, tail, tasks_from};
+
+use crate::call::{Call, CellName, Name};
+use control_word::handle::Kind;
+use std::alloc::{AllocError, Global};
+use step_table::field::Field;
+use step_table::form::Form;
+
+/// A primitive act. What is taken comes into the hand, and `Put` moves it into a name and leaves what the name held.
+#[derive(Clone, Copy, Debug, PartialEq, Eq)]
+pub enum Act {
+    /// Makes an object of this form.
+    Make {
+        form: Form,
+    },
+    /// Takes a copy of what a name holds.
+    Share {
+        name: u8,
+    },
+    /// Takes a shared pointer that shares ownership with what a name holds. It points at this field of what `of` points into,
+    /// and at null where `of` does or no field is named.
+    Alias {
+        name: u8,
+        of: u8,
+        field: Option<Field>,
+    },
+    /// Takes what a name holds, which becomes empty.
+    Move {
+        name: u8,
+    },
+    /// Takes a weak pointer to the object of what a name holds.
+    Downgrade {
+        name: u8,
+    },
+    /// Takes an owner of the object of a weak name, if an owner is left. Where it `must`, it is refused without one.
+    Lock {
+        name: u8,
+        must: bool,
+    },
+    /// Leaves what a name holds, and puts there what was taken. It is no act where nothing was taken, or the name is empty.
+    Put {
+        name: u8,
+    },
+    /// Leaves what a name holds.
+    Leave {
+        name: u8,
+    },
+    /// Leaves what a name holds. It is no act where the name is empty.
+    Clear {
+        name: u8,
+    },
+    /// Tells how many owners there are.
+    Count {
+        name: u8,
+    },
+    /// Tells whether no owner is left.
+    Expired {
+        name: u8,
+    },
+    /// Tells the field that a name points at. It is refused where that isn't in the object that the name owns.
+    Read {
+        name: u8,
+    },
+    /// Takes a pointer of this kind from the object that a name owns and points into. It is refused where the name points
+    /// elsewhere, or the object gives none.
+    FromThis {
+        name: u8,
+        kind: Kind,
+    },
+    /// Tells something of pointers that touches no word.
+    Ask {
+        question: Question,
+    },
+    /// Takes a copy of what a name holds, which is to go into a cell.
+    Offer {
+        name: u8,
+        cell: CellName,
+    },
+    /// Puts what was taken into a cell; what the cell held is to be dropped. It is no act where nothing was taken that may go
+    /// into the cell.
+    Swap {
+        cell: CellName,
+    },
+    /// Exchanges what a name holds for what a cell holds.
+    Exchange {
+        name: u8,
+        cell: CellName,
+    },
+    /// Leaves what is to be dropped. It is no act where that is nothing.
+    Drop,
+}
+
+/// What is told of the pointers of names, by their values alone.
+#[derive(Clone, Copy, Debug, PartialEq, Eq)]
+pub enum Question {
+    /// Where a name points.
+    Place { name: u8 },
+    /// Whether two names point at one place.
+    Same { first: u8, second: u8 },
+    /// Whether the first name comes before the second by what they own.
+    Before { first: u8, second: u8 },
+}
+
+/// An act, with the number of its statement from 1, or 0 at the end of its thread.
+#[derive(Clone, Copy, Debug, PartialEq, Eq)]
+pub struct Task {
+    pub statement: u32,
+    pub act: Act,
+}
+
+/// The tasks of a thread: the acts of its calls, and then it leaves each name, the last declared first.
+pub fn tasks(alloc: Global, calls: &[Call], names: u8) -> Result<Vec<Task>, AllocError>
+    requires { length calls.now < 2 ^ 31 }
+    ensures { IfOk result (λ v. v.items ≡ tasks_from 1 calls.now names) }
+{
+    let mut tasks = Vec::new(alloc);
+    for (i, call) in calls.iter().enumerate() {
+        add(&mut tasks, i as u32 + 1, *call)?;
+    }
+    let mut left = names;
+    while left > 0 {
+        left -= 1;
+        tasks.push(Task {
+            statement: 0,
+            act: Act::Clear { name: left },
+        })?;
+    }
+    Ok(tasks)
+}
+
+/// How a call goes on after its first act.
+#[derive(Clone, Copy, Debug, PartialEq, Eq)]
+pub enum Tail {
+    /// It doesn't.
+    Nothing,
+    /// What was taken goes to a name.
+    Named(Name),
+    /// It goes into a cell, and what the cell held is dropped.
+    Into(CellName),
+}
+
+/// The tasks of a call.
+fn add(tasks: &mut Vec<Task>, statement: u32, call: Call) -> Result<(), AllocError>
+    ensures { OnOk result (tasks.new.items ≡ tasks.old.items ++ numbered statement (acts call)) }
+{
+    let (act, tail) = parts(call);
+    tasks.push(Task { statement, act })?;
+    match tail {
+        Tail::Nothing => Ok(()),
+        Tail::Named(name) => {
+            let act = Act::Put { name: name.0 };
+            tasks.push(Task { statement, act })?;
+            Ok(())
+        }
+        Tail::Into(cell) => {
+            let act = Act::Swap { cell };
+            tasks.push(Task { statement, act })?;
+            let act = Act::Drop;
+            tasks.push(Task { statement, act })?;
+            Ok(())
+        }
+    }
+}
+
+/// The first act of a call, and how it goes on.
+fn parts(call: Call) -> (Act, Tail)
+    ensures { acts call ≡ result.0 ∷ tail result.1 }
+{
+    match call {
+        Call::Make { target, fields } => (make(fields, false, false), Tail::Named(target)),
+        Call::Copy { target, source } | Call::WeakCopy { target, source } => {
+            (Act::Share { name: source.0 }, Tail::Named(target))
+        }
+        Call::Weak { target, source } => (Act::Downgrade { name: source.0 }, Tail::Named(target)),
+        Call::Lock { target, source } => (lock(source, false), Tail::Named(target)),
+        Call::Upgrade { target, source } => (lock(source, true), Tail::Named(target)),
+        Call::Empty { target: name }
+        | Call::Reset { name }
+        | Call::WeakEmpty { target: name }
+        | Call::WeakReset { name } => (Act::Leave { name: name.0 }, Tail::Nothing),
+        Call::Count { name } | Call::WeakCount { name } => (
+            Act::Count { name: name.0 },
+            Tail::Nothing,
+        ),
+        Call::Expired { name } => (Act::Expired { name: name.0 }, Tail::Nothing),
+        Call::MakeThis { target, fields } => (make(fields, true, false), Tail::Named(target)),
+        Call::Null { target } => (make([0; 4], false, true), Tail::Named(target)),
+        Call::This { target, source } => (from_this(source, Kind::Owner), Tail::Named(target)),
+        Call::WeakThis { target, source } => (from_this(source, Kind::Weak), Tail::Named(target)),
+        Call::Read { name } => (Act::Read { name: name.0 }, Tail::Nothing),
+        Call::Move { target, source } => (Act::Move { name: source.0 }, Tail::Named(target)),
+        Call::Alias {
+            target,
+            source,
+            of,
+            field,
+        } => (alias(source, of, Some(field)), Tail::Named(target)),
+        Call::AliasNull { target, source } => (alias(source, source, None), Tail::Named(target)),
+        Call::Place { name } => (place(name), Tail::Nothing),
+        Call::Same { first, second } => (same(first, second), Tail::Nothing),
+        Call::Before { first, second } => (before(first, second), Tail::Nothing),
+        Call::Store { cell, source } => {
+            let name = source.0;
+            (Act::Offer { name, cell }, Tail::Into(cell))
+        }
+        Call::Exchange {
+            cell,
+            name: Name(name),
+        } => (Act::Exchange { name, cell }, Tail::Nothing),
+    }
+}
+
+/// A make of an object with these fields and flags.
+fn make(fields: [u64; 4], enabled: bool, null: bool) -> Act
+    ensures { result ≡ Act.Make (record { fields = fields; enabled = enabled; null = null }) }
+{
+    Act::Make {
+        form: Form {
+            fields,
+            enabled,
+            null,
+        },
+    }
+}
+
+/// A pointer of this kind from the object of a name.
+fn from_this(source: Name, kind: Kind) -> Act
+    ensures { result ≡ Act.FromThis source.0 kind }
+{
+    Act::FromThis {
+        name: source.0,
+        kind,
+    }
+}
+
+/// The question whether two names point at one place.
+fn same(first: Name, second: Name) -> Act
+    ensures { result ≡ Act.Ask (Question.Same first.0 second.0) }
+{
+    let question = Question::Same {
+        first: first.0,
+        second: second.0,
+    };
+    Act::Ask { question }
+}
+
+/// The question whether a name comes before another.
+fn before(first: Name, second: Name) -> Act
+    ensures { result ≡ Act.Ask (Question.Before first.0 second.0) }
+{
+    let question = Question::Before {
+        first: first.0,
+        second: second.0,
+    };
+    Act::Ask { question }
+}
+
+/// The question where a name points.
+fn place(name: Name) -> Act
+    ensures { result ≡ Act.Ask (Question.Place name.0) }
+{
+    let question = Question::Place { name: name.0 };
+    Act::Ask { question }
+}
+
+/// An alias of a name, with a field of what another points into.
+fn alias(source: Name, of: Name, field: Option<Field>) -> Act
+    ensures { result ≡ Act.Alias source.0 of.0 field }
+{
+    Act::Alias {
+        name: source.0,
+        of: of.0,
+        field,
+    }
+}
+
+/// A lock of a name.
+fn lock(source: Name, must: bool) -> Act
+    ensures { result ≡ Act.Lock source.0 must }
+{
+    Act::Lock {
+        name: source.0,
+        must,
+    }
+}

@@ -1,0 +1,54 @@
+//! Where a thread is within an act.
+ghost use Rattle.std.specs.Prelude.{◌≢◌, ℕ, List};
+ghost use Rattle.step_threads.specs.Actors.{HalfFits, Stocks};
+ghost use Rattle.step_threads.specs.Endings.{EndsAll};
+ghost use Rattle.step_table.specs.Holdings.{Holds, Slots};
+ghost use Rattle.step_table.specs.Stories.{Kept, Story, after};
+ghost use Rattle.step_threads.specs.declared.act.Act.{Act};
+ghost use Rattle.step_threads.specs.declared.ending.Ending.{Ending};
+ghost use Rattle.step_table.specs.declared.past.Deed.{Deed};
+
+use control_word::handle::Kind;
+use control_word::place::Block;
+use step_table::holdings::Pointer;
+
+/// What a thread has begun and not ended.
+#[derive(Clone, Copy, Debug, PartialEq, Eq)]
+pub enum Half {
+    /// Nothing.
+    Rest,
+    /// A make: of its block's flags and fields those before `index` are as they shall be. The next is looked at, or
+    /// written where it was found to differ; behind the last the block is claimed.
+    Making {
+        block: Block,
+        index: u8,
+        differs: bool,
+    },
+    /// A lock that found this word, which isn't 0: it is tried with it next.
+    Locking {
+        word: u64,
+    },
+    /// A pointer from this: the object that a name owns was found to give pointers to itself, and one of this kind is taken
+    /// next.
+    Giving {
+        name: u8,
+        kind: Kind,
+        pointer: Pointer,
+    },
+    /// The funds of what goes into a cell are brought: the swap is next.
+    Brought,
+    /// The funds of what came out of a cell by this statement, but for those that were taken, are given back next.
+    Returning {
+        kind: Kind,
+        block: Block,
+        funds: u32,
+        statement: u32,
+    },
+}
+
+/// What other desks do changes nothing of what a desk has.
+pub fn others_keep()
+    ensures { (d e : ℕ) (slots : Slots) (blocks : List ℕ) (act : Act) (room : ℕ) (half : Half) (es : List Ending) (v : Story) (x : Deed) → e ≢ d → Kept v → Kept (after v e x)
+        → Holds d slots v × Stocks d blocks room half v × HalfFits d half slots act v × EndsAll d es v
+        → Holds d slots (after v e x) × Stocks d blocks room half (after v e x) × HalfFits d half slots act (after v e x) × EndsAll d es (after v e x) }
+{}

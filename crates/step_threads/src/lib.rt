@@ -1,0 +1,22 @@
+//! The threads of a world: how each act goes on, step by step.
+#![tactic(auto)]
+
+pub mod act;
+pub mod call;
+pub mod course;
+pub mod ending;
+pub mod half;
+pub mod leaving;
+pub mod locking;
+pub mod making;
+pub mod offering;
+pub mod reading;
+pub mod said;
+pub mod stock;
+pub mod storing;
+#[cfg(test)]
+mod tests;
+pub mod this;
+pub mod thread;
+pub mod unwinding;
+pub mod values;

@@ -1,0 +1,151 @@
+//! How a thread puts values into cells, act by act.
+ghost use Rattle.std.specs.Prelude.{◌≡◌, ◌<◌, ◌≤◌, true, false, length, slice_set};
+ghost use Rattle.step_table.specs.Contents.{as_word, is_of, owing_for, seen, swapped};
+ghost use Rattle.step_threads.specs.Courses.{CanAct, CourseReady, HasCell, HasGoneOn, cell_at, done_on, fitting, hand, kind_at, offered, other, rest, settled, task_at, walk};
+ghost use Rattle.step_table.specs.Deeds.{is_last, leave, share, on};
+ghost use Rattle.step_table.specs.Holdings.{Holds, is_full, plain, slot, value};
+ghost use Rattle.step_threads.specs.Scenes.{came};
+ghost use Rattle.step_table.specs.Stories.{after, pending, state};
+
+use crate::act::Act;
+use crate::call::CellName;
+use crate::course::Course;
+use control_word::CellWord;
+use control_word::handle::Kind;
+use step_table::cell_deed::{Cell, CellDeed};
+use step_table::past::Deed;
+use step_table::table::Table;
+
+impl CellName {
+    /// The kind of what the cell holds.
+    pub fn kind(self) -> Kind
+        ensures { result ≡ kind_at self }
+    {
+        match self {
+            CellName::Shared(_) => Kind::Owner,
+            CellName::Weak(_) => Kind::Weak,
+        }
+    }
+
+    /// The cell of a name: the weak ones stand behind the shared ones.
+    pub fn cell(self, table: &Table) -> Cell
+        ensures { result ≡ cell_at (state table.now) self }
+    {
+        table.known();
+        let number = match self {
+            CellName::Shared(number) => u32::from(number),
+            CellName::Weak(number) => table.shared_cells() + u32::from(number),
+        };
+        Cell::Free { number }
+    }
+}
+
+impl Course {
+    /// Whether a slot's value may go into a cell.
+    pub fn may_go_in(&self, at: usize, cell: CellName) -> bool
+        requires { at < length self.now.holdings.slots.items }
+        ensures { result ≡ is_of (kind_at cell) (value self.now.holdings.slots.items at) }
+    {
+        self.holdings.is_of(at, cell.kind())
+    }
+
+    /// Takes a copy of what a name holds, where it may go into the cell. Answers whether that touched a block.
+    pub fn offer(&mut self, desk: usize, table: &mut Table, name: u8, cell: CellName) -> bool
+        requires can { CanAct desk self.old table.old }
+        requires act { (task_at self.old).act ≡ Act.Offer name cell }
+        ensures event { result ≡ is_full (offered self.old.holdings.slots.items name cell) }
+        ensures table { table.new ≡ done_on share table.old desk (offered self.old.holdings.slots.items name cell) }
+        ensures walk { walk self.new ≡ settled (slice_set self.old.holdings.slots.items (hand self.old.holdings.slots.items) (fitting (kind_at cell) (value self.old.holdings.slots.items name))) true self.old.endings.list (rest self.old) }
+        ensures on { HasGoneOn desk self.old self.new table.new }
+    {
+        let from = usize::from(name);
+        if !self.may_go_in(from, cell) {
+            self.take(true);
+            return false;
+        }
+        let hand = self.holdings.hand();
+        self.taken = true;
+        match self.holdings.get(from) {
+            None => {
+                let place = self.holdings.place(from);
+                self.holdings.set_empty(hand, place);
+                self.go_on();
+                false
+            }
+            Some(pointer) => {
+                self.holdings.share(desk, table, from, hand, pointer);
+                self.go_on();
+                true
+            }
+        }
+    }
+
+    /// Puts what is in hand into a cell, for which its funds were brought. What the cell held is to be dropped.
+    pub fn swap(&mut self, desk: usize, table: &mut Table, cell: CellName) -> CellWord
+        requires seat { desk < table.old.extent.actors }
+        requires holds { Holds desk self.old.holdings.slots.items table.old }
+        requires within { self.old.at < length self.old.tasks.items }
+        requires ready { CourseReady self.old }
+        requires act { (task_at self.old).act ≡ Act.Swap cell }
+        requires cell { HasCell table.old.extent.shape (task_at self.old).act }
+        requires kind { is_of (kind_at cell) (value self.old.holdings.slots.items (hand self.old.holdings.slots.items)) ≡ true }
+        requires owes { pending table.old desk ≡ owing_for (state table.old) (value self.old.holdings.slots.items (hand self.old.holdings.slots.items)) 256 }
+        ensures found { result ≡ seen table.old (cell_at (state table.old) cell) }
+        ensures few { result.taken ≤ 256 }
+        ensures table { table.new ≡ after table.old desk (Deed.OnCell (CellDeed.Swap (cell_at (state table.old) cell) (as_word (value self.old.holdings.slots.items (hand self.old.holdings.slots.items))) result)) }
+        ensures walk { walk self.new
+            ≡ settled (swapped (hand self.old.holdings.slots.items) (other self.old.holdings.slots.items) self.old.holdings.slots.items (came (state table.old) cell)) false self.old.endings.list (rest self.old) }
+        ensures on { HasGoneOn desk self.old self.new table.new }
+    {
+        let hand = self.holdings.hand();
+        let other = self.holdings.other();
+        let cell = cell.cell(table);
+        let found = self.holdings.swap(desk, table, cell, hand, other);
+        self.take(false);
+        found
+    }
+
+    /// Exchanges what a name holds, for which its funds were brought, for what a cell holds.
+    pub fn exchange(&mut self, desk: usize, table: &mut Table, name: u8, cell: CellName) -> CellWord
+        requires seat { desk < table.old.extent.actors }
+        requires holds { Holds desk self.old.holdings.slots.items table.old }
+        requires within { self.old.at < length self.old.tasks.items }
+        requires ready { CourseReady self.old }
+        requires act { (task_at self.old).act ≡ Act.Exchange name cell }
+        requires cell { HasCell table.old.extent.shape (task_at self.old).act }
+        requires kind { is_of (kind_at cell) (value self.old.holdings.slots.items name) ≡ true }
+        requires owes { pending table.old desk ≡ owing_for (state table.old) (value self.old.holdings.slots.items name) 256 }
+        ensures found { result ≡ seen table.old (cell_at (state table.old) cell) }
+        ensures few { result.taken ≤ 256 }
+        ensures table { table.new ≡ after table.old desk (Deed.OnCell (CellDeed.Swap (cell_at (state table.old) cell) (as_word (value self.old.holdings.slots.items name)) result)) }
+        ensures walk { walk self.new
+            ≡ settled (slice_set self.old.holdings.slots.items name (came (state table.old) cell)) self.old.taken self.old.endings.list (rest self.old) }
+        ensures on { HasGoneOn desk self.old self.new table.new }
+    {
+        let cell = cell.cell(table);
+        let found = self.holdings.exchange(desk, table, cell, usize::from(name));
+        self.go_on();
+        found
+    }
+
+    /// Leaves what is to be dropped. Answers whether that was the last.
+    pub fn drop_other(&mut self, desk: usize, table: &mut Table) -> bool
+        requires can { CanAct desk self.old table.old }
+        requires act { (task_at self.old).act ≡ Act.Drop }
+        ensures full { is_full (slot self.old.holdings.slots.items (other self.old.holdings.slots.items)) ≡ true }
+        ensures last { result ≡ on (is_last (state table.old)) false (slot self.old.holdings.slots.items (other self.old.holdings.slots.items)) }
+        ensures table { table.new ≡ done_on (leave (state table.old)) table.old desk (slot self.old.holdings.slots.items (other self.old.holdings.slots.items)) }
+        ensures walk { walk self.new ≡ settled (slice_set self.old.holdings.slots.items (other self.old.holdings.slots.items) plain) self.old.taken self.old.endings.list (rest self.old) }
+        ensures on { HasGoneOn desk self.old self.new table.new }
+    {
+        let other = self.holdings.other();
+        match self.holdings.get(other) {
+            None => unreachable!(),
+            Some(pointer) => {
+                let last = self.holdings.leave(desk, table, other, pointer);
+                self.go_on();
+                last
+            }
+        }
+    }
+}

@@ -1,0 +1,47 @@
+//! An object's life, step by step.
+use crate::act::{Act, tasks};
+use crate::call::{Call, Name};
+use crate::half::others_keep;
+use crate::stock::Stock;
+use control_word::{Block, Place};
+use std::test::Fail;
+
+const BLOCK: Block = Block(1);
+
+const ORIGIN: Option<Place> = Some(Place {
+    block: BLOCK,
+    field: 0,
+});
+
+#[test]
+fn the_least_block_comes_first(rt: HostRuntime) -> Result<(), Fail> {
+    let mut stock = Stock::new(rt.alloc(), 3, 3, 3)?;
+    let least = stock.take_least();
+    assert_eq!(rt; least, Some(Block(3)));
+    let next = stock.take_least();
+    assert_eq!(rt; next, Some(Block(4)));
+    Ok(())
+}
+
+#[test]
+fn a_copy_is_two_acts(rt: HostRuntime) -> Result<(), Fail> {
+    let calls = [
+        Call::Make {
+            target: Name(0),
+            fields: [1, 0, 0, 0],
+        },
+        Call::Copy {
+            target: Name(1),
+            source: Name(0),
+        },
+        Call::Count { name: Name(0) },
+    ];
+    let acts = tasks(rt.alloc(), calls.as_slice(), 2)?;
+    assert_eq!(rt; acts.len(), 7);
+    assert_eq!(rt; acts[2].act, Act::Share { name: 0 });
+    assert_eq!(rt; acts[3].act, Act::Put { name: 1 });
+    assert_eq!(rt; acts[4].statement, 3);
+    assert_eq!(rt; acts[5].act, Act::Clear { name: 1 });
+    others_keep();
+    Ok(())
+}

@@ -1,0 +1,206 @@
+//! A thread of the machine: its course, its store, and the act that it has begun.
+ghost use Rattle.std.specs.Prelude.{◌≡◌, ◌<◌, [], length, cond};
+ghost use Rattle.step_threads.specs.Steps.{silent};
+ghost use Rattle.step_table.specs.Stories.{Plain};
+
+use crate::act::Act;
+use crate::course::Course;
+use crate::half::Half;
+use crate::said::{Answer, Said, Stepped};
+use crate::stock::Stock;
+use step_table::table::Table;
+
+/// A thread. What it holds is its desk's bag, and its store has its desk's vacant blocks.
+#[derive(Drop)]
+pub struct Thread {
+    pub course: Course,
+    pub stock: Stock,
+    pub half: Half,
+}
+
+impl Thread {
+    ghost use Rattle.step_threads.specs.Courses.{task_at};
+    ghost use Rattle.step_threads.specs.Threads.{Fits, HasStepped};
+
+    /// The next atomic step, or the next act that touches no word.
+    pub fn step(&mut self, desk: usize, table: &mut Table) -> Stepped
+        requires fits { Fits desk self.old table.old }
+        requires plain { Plain table.old }
+        ensures stepped { HasStepped desk self.old table.old result self.new table.new }
+        ensures fits { Fits desk self.new table.new }
+    {
+        match self.half {
+            Half::Rest => self.go(desk, table),
+            Half::Making {
+                block,
+                index,
+                differs,
+            } => self.make_on(desk, table, block, index, differs),
+            Half::Locking { word } => self.lock_on(desk, table, word),
+            Half::Giving {
+                name,
+                kind,
+                pointer,
+            } => self.give(desk, table, name, kind, pointer),
+            Half::Brought => self.put_in(desk, table),
+            Half::Returning {
+                kind,
+                block,
+                funds,
+                statement,
+            } => self.give_back(desk, table, kind, block, funds, statement),
+        }
+    }
+
+    /// Within no act: the ending begun last goes on, or else the next act comes.
+    fn go(&mut self, desk: usize, table: &mut Table) -> Stepped
+        requires fits { Fits desk self.old table.old }
+        requires plain { Plain table.old }
+        requires rest { self.old.half ≡ Half.Rest }
+        ensures stepped { HasStepped desk self.old table.old result self.new table.new }
+        ensures fits { Fits desk self.new table.new }
+    {
+        match self.course.endings.first() {
+            Some(ending) => self.end_on(desk, table, ending),
+            None => self.act(desk, table),
+        }
+    }
+
+    /// The next act, or the first step of it.
+    fn act(&mut self, desk: usize, table: &mut Table) -> Stepped
+        requires fits { Fits desk self.old table.old }
+        requires plain { Plain table.old }
+        requires rest { self.old.half ≡ Half.Rest }
+        requires none { self.old.course.endings.list ≡ [] }
+        ensures stepped { HasStepped desk self.old table.old result self.new table.new }
+        ensures fits { Fits desk self.new table.new }
+    {
+        if self.course.at == self.course.tasks.len() {
+            return Stepped::Done;
+        }
+        match self.course.tasks[self.course.at].act {
+            Act::Make { form } => self.begin(desk, table, form),
+            Act::Share { name } => self.share(desk, table, name),
+            Act::Put { name } => self.put(desk, table, name),
+            Act::Leave { name } | Act::Clear { name } => self.leave(desk, table, name),
+            Act::Count { name } => self.count(desk, table, name),
+            Act::Downgrade { name } => self.downgrade(desk, table, name),
+            Act::Lock { name, must } => self.lock(desk, table, name, must),
+            Act::Expired { name } => self.expired(desk, table, name),
+            Act::Read { name } => self.read(desk, table, name),
+            Act::FromThis { name, kind } => self.from_this(desk, table, name, kind),
+            Act::Alias { name, of, field } => self.alias(desk, table, name, of, field),
+            Act::Move { name } => self.pull(desk, table, name),
+            Act::Ask { question } => self.reply(desk, table, question),
+            Act::Offer { name, cell } => self.offer(desk, table, name, cell),
+            Act::Swap { cell } => self.store(desk, table, cell),
+            Act::Exchange { name, cell } => self.send(desk, table, name, cell),
+            Act::Drop => self.drop_other(desk, table),
+        }
+    }
+
+    /// Takes a copy of what a name holds.
+    fn share(&mut self, desk: usize, table: &mut Table, name: u8) -> Stepped
+        requires fits { Fits desk self.old table.old }
+        requires rest { self.old.half ≡ Half.Rest }
+        requires none { self.old.course.endings.list ≡ [] }
+        requires within { self.old.course.at < length self.old.course.tasks.items }
+        requires act { (task_at self.old.course).act ≡ Act.Share name }
+        ensures stepped { HasStepped desk self.old table.old result self.new table.new }
+        ensures fits { Fits desk self.new table.new }
+    {
+        table.known();
+        let statement = self.course.statement();
+        let event = self.course.share(desk, table, name);
+        says(event, silent(statement))
+    }
+
+    /// Takes a weak pointer to the object of what a name holds.
+    fn downgrade(&mut self, desk: usize, table: &mut Table, name: u8) -> Stepped
+        requires fits { Fits desk self.old table.old }
+        requires rest { self.old.half ≡ Half.Rest }
+        requires none { self.old.course.endings.list ≡ [] }
+        requires within { self.old.course.at < length self.old.course.tasks.items }
+        requires act { (task_at self.old.course).act ≡ Act.Downgrade name }
+        ensures stepped { HasStepped desk self.old table.old result self.new table.new }
+        ensures fits { Fits desk self.new table.new }
+    {
+        table.known();
+        let statement = self.course.statement();
+        let event = self.course.downgrade(desk, table, name);
+        says(event, silent(statement))
+    }
+
+    /// Tells whether no owner is left of the object of what a name holds; also where it is empty.
+    fn expired(&mut self, desk: usize, table: &mut Table, name: u8) -> Stepped
+        requires fits { Fits desk self.old table.old }
+        requires rest { self.old.half ≡ Half.Rest }
+        requires none { self.old.course.endings.list ≡ [] }
+        requires within { self.old.course.at < length self.old.course.tasks.items }
+        requires act { (task_at self.old.course).act ≡ Act.Expired name }
+        ensures stepped { HasStepped desk self.old table.old result self.new table.new }
+        ensures fits { Fits desk self.new table.new }
+    {
+        table.known();
+        let statement = self.course.statement();
+        let event = self.course.holdings.is_full(usize::from(name));
+        let expired = self.course.is_expired(desk, table, name);
+        let answer = Some(Answer::Expired(expired));
+        says(
+            event,
+            Said {
+                statement,
+                answer,
+                ended: None,
+            },
+        )
+    }
+
+    /// Tells how many owners the object has that a name holds; 0 where it is empty.
+    fn count(&mut self, desk: usize, table: &mut Table, name: u8) -> Stepped
+        requires fits { Fits desk self.old table.old }
+        requires plain { Plain table.old }
+        requires rest { self.old.half ≡ Half.Rest }
+        requires none { self.old.course.endings.list ≡ [] }
+        requires within { self.old.course.at < length self.old.course.tasks.items }
+        requires act { (task_at self.old.course).act ≡ Act.Count name }
+        ensures stepped { HasStepped desk self.old table.old result self.new table.new }
+        ensures fits { Fits desk self.new table.new }
+    {
+        table.known();
+        let statement = self.course.statement();
+        let event = self.course.holdings.is_full(usize::from(name));
+        let owners = self.course.count(desk, table, name);
+        let answer = Some(Answer::Count(owners));
+        says(
+            event,
+            Said {
+                statement,
+                answer,
+                ended: None,
+            },
+        )
+    }
+}
+
+/// What a step says that says nothing but its statement.
+pub fn silent(statement: u32) -> Said
+    ensures { result ≡ silent statement }
+{
+    Said {
+        statement,
+        answer: None,
+        ended: None,
+    }
+}
+
+/// A step that is an event, or none.
+pub fn says(event: bool, said: Said) -> Stepped
+    ensures { result ≡ cond event (Stepped.Event said) (Stepped.Quiet said) }
+{
+    if event {
+        Stepped::Event(said)
+    } else {
+        Stepped::Quiet(said)
+    }
+}
