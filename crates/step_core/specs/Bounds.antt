@@ -1,34 +1,48 @@
 -- How many steps a world has left at most. All of it is own.
-use Rattle.std.specs.Prelude.{ℕ, ◌+◌, ◌-◌, ◌*◌, cond, List, [], ◌∷◌, sum_by}
+use Rattle.std.specs.Prelude.{ℕ, ◌+◌, ◌-◌, ◌*◌, ◌==◌, Bool, false, cond, List, [], ◌∷◌, sum_by}
 use Rattle.step_threads.specs.declared.act.Act.{Act}
-use Rattle.step_threads.specs.declared.act.Act.TheVariants.{Make, Swap, Exchange}
+use Rattle.step_threads.specs.declared.act.Act.TheVariants.{Make, Swap, Exchange, Load, Compare}
 use Rattle.step_threads.specs.declared.act.Task.{Task}
 use Rattle.step_threads.specs.declared.ending.Ending.{Ending}
 use Rattle.step_threads.specs.declared.half.Half.{Half}
-use Rattle.step_threads.specs.declared.half.Half.TheVariants.{Rest, Making, Locking, Giving, Brought, Returning}
+use Rattle.step_threads.specs.declared.half.Half.TheVariants.{Rest, Making, Locking, Giving, Brought, Saw, Matched, Refill, Returning}
+use Rattle.step_table.specs.declared.refill.Stage.{Stage}
+use Rattle.step_table.specs.declared.refill.Stage.TheVariants.{Turning, Checking, Lacking, Refilling, Failing}
 use Rattle.step_threads.specs.declared.thread.Thread.{Thread}
-use Rattle.step_threads.specs.Courses.{Walk, hand, todo}
+use Rattle.control_word.specs.declared.cell.CellWord.{CellWord}
+use Rattle.control_word.specs.Packing.{cell_bits}
+use Rattle.step_table.specs.Cells.{word_at}
+use Rattle.step_threads.specs.Courses.{Walk, cell_at, hand, locked, todo}
+use Rattle.step_table.specs.Deeds.{owner_word, on}
 use Rattle.step_table.specs.Holdings.{Slots, is_full, slot}
+use Rattle.step_table.specs.Stories.{Story, state}
 use Rattle.step_core.specs.Totals.{ended_in, made_in}
 use Rattle.step_core.specs.Worlds.{Sight}
 use Rattle.step_threads.specs.Endings.{ending_steps}
 
 -- What a task has for its steps. A make prepares its block, looks at five words and writes them, and claims; and its object
--- may end, which takes 13 steps. A swap brings funds, swaps, and gives funds back. Any other act takes two at most
+-- may end, which takes 13 steps. A swap brings funds, swaps, and gives funds back. A load takes a fund, turns it, and may put back
+-- those that were taken, and so does a compare that differs. Any other act takes two at most
 abbrev pub weight : Act → ℕ
 weight (Make form) = 28
 weight (Swap c) = 3
 weight (Exchange k c) = 3
+weight (Load c) = 7
+weight (Compare k c weak) = 7
 weight _ = 2
 
 -- What a half has to spare, whatever others do: a thread at rest has 15, which what it begins uses up. A lock that is tried
--- keeps them all: where others changed its word it may have to begin again
+-- keeps them all: where others changed its word it may have to begin again, and so may a cell that is tried. One that was loaded has
+-- the steps of its act beside
 abbrev pub spare : Half → ℕ
 spare Rest = 15
 spare (Making b i differs) = 2 * (5 - i) + cond differs 1 2
 spare (Locking word) = 15
 spare (Giving i kind x) = 14
 spare Brought = 15
+spare (Saw x) = 15
+spare (Matched x) = 15
+spare (Refill stage c x k) = 22
 spare (Returning kind b funds k) = 15
 
 -- what came out of a member has to leave
@@ -49,6 +63,42 @@ steps_of t = task_steps (todo t.course) + sum_by ending_steps t.course.endings.l
 
 abbrev pub left_to_do : List Walk → ℕ
 left_to_do walks = sum_by walk_steps walks
+
+-- the word that counts the owners of what the next act locks
+abbrev pub lock_word : Story → Slots → List Task → ℕ
+lock_word v slots [] = 0
+lock_word v slots (t ∷ ts) = on (owner_word v) 0 (locked slots t.act)
+
+-- the cell of the next act, where it is one that is looked at first, shows this
+abbrev pub shows_on : Story → CellWord → Act → Bool
+shows_on v x (Load c) = word_at v (cell_at (state v) c) == cell_bits x
+shows_on v x (Compare k c weak) = word_at v (cell_at (state v) c) == cell_bits x
+shows_on v x _ = false
+
+abbrev pub shows_next : Story → CellWord → List Task → Bool
+shows_next v x [] = false
+shows_next v x (t ∷ ts) = shows_on v x t.act
+
+-- the steps of a refill, by how far it is and whether the cell shows what is to be refilled
+abbrev pub refill_steps : Bool → Stage → ℕ
+refill_steps shows Turning = 19
+refill_steps shows Checking = 18
+refill_steps shows Lacking = cond shows 17 21
+refill_steps shows Refilling = cond shows 16 20
+refill_steps shows Failing = 19
+
+-- What a half-done act has to spare where its thread runs alone. What was looked at and is still so is done next, and else the act
+-- begins again first. A swap and a load take the steps of their funds from their task
+abbrev pub alone : Story → Walk → Half → ℕ
+alone v w Rest = spare Rest
+alone v w (Making b i differs) = spare (Making b i differs)
+alone v w (Locking word) = cond (lock_word v w.slots w.todo == word) 14 16
+alone v w (Giving i kind x) = spare (Giving i kind x)
+alone v w Brought = 14
+alone v w (Saw x) = cond (shows_next v x w.todo) 14 18
+alone v w (Matched x) = cond (shows_next v x w.todo) 13 17
+alone v w (Refill stage c x k) = refill_steps (word_at v c == cell_bits x) stage
+alone v w (Returning kind b funds k) = 16
 
 -- the objects whose last owner hasn't left: each may have to end
 abbrev pub living : Sight → ℕ

@@ -5,4 +5,5 @@ pub mod Starts
 pub mod Told
 pub mod Totals
 pub mod Turning
+pub mod Watching
 pub mod Worlds

@@ -4,21 +4,25 @@ use Rattle.step_threads.specs.declared.act.Act.TheVariants.{Make, FromThis}
 use Rattle.step_threads.specs.declared.act.Task.{Task}
 use Rattle.step_threads.specs.declared.ending.Ending.{Ending}
 use Rattle.step_threads.specs.declared.half.Half.{Half}
-use Rattle.step_threads.specs.declared.half.Half.TheVariants.{Rest, Making, Locking, Giving, Brought, Returning}
+use Rattle.step_threads.specs.declared.half.Half.TheVariants.{Rest, Making, Locking, Giving, Brought, Saw, Matched, Refill, Returning}
 use Rattle.step_threads.specs.declared.said.Said.{Said}
 use Rattle.step_threads.specs.declared.said.Stepped.{Stepped}
 use Rattle.step_threads.specs.declared.said.Stepped.TheVariants as stepped
 use Rattle.step_threads.specs.declared.said.Turned.{Turned}
 use Rattle.step_threads.specs.declared.said.Turned.TheVariants.{Acted, Waited, Done}
+use Rattle.control_word.specs.declared.cell.CellWord.{CellWord}
 use Rattle.control_word.specs.declared.shape.Shape.{Shape}
-use Rattle.step_threads.specs.Courses.{HasCell, Walk, form_of, going, hand, locked}
-use Rattle.step_table.specs.Deeds.{is_enabled}
+use Rattle.control_word.specs.declared.view.Pending.TheVariants.{Idle}
+use Rattle.control_word.specs.Packing.{IsCellWord}
+use Rattle.step_threads.specs.Courses.{HasCell, Walk, form_of, going, hand, idle, locked}
+use Rattle.step_table.specs.Deeds.{Telling, is_enabled}
 use Rattle.step_threads.specs.Endings.{first_of}
-use Rattle.step_table.specs.Holdings.{Slots, inside, is_full, slot}
+use Rattle.step_table.specs.Holdings.{Holds, Slots, inside, is_full, slot}
 use Rattle.step_threads.specs.Entries.{least}
-use Rattle.step_threads.specs.Scenes.{play, rested, said, walk_of}
-use Rattle.step_table.specs.Stories.{AllBare, Kept, Story, state}
-use Rattle.step_core.specs.Worlds.{Sight, half_of, scene}
+use Rattle.step_threads.specs.Scenes.{play_with, rested, said_with, walk_of}
+use Rattle.step_table.specs.Stories.{AllBare, Kept, Story, pending, state}
+use Rattle.step_threads.specs.Threads.{IsMatchedBy, IsSeenBy}
+use Rattle.step_core.specs.Worlds.{Sight, TellsAll, half_of, scene}
 
 -- a make that is under way is the next act, in the least block of the store
 abbrev pub IsUnderWay : ℕ → Story → Half → List Task → Type 0
@@ -29,6 +33,9 @@ IsUnderWay d v (Locking word) ts = Unit {0}
 IsUnderWay d v (Giving i kind x) [] = ⊥
 IsUnderWay d v (Giving i kind x) (t ∷ ts) = (t.act ≡ FromThis i kind) × (is_enabled (state v) x ≡ true)
 IsUnderWay d v Brought ts = Unit {0}
+IsUnderWay d v (Saw x) ts = Unit {0}
+IsUnderWay d v (Matched x) ts = Unit {0}
+IsUnderWay d v (Refill stage c x k) ts = Unit {0}
 IsUnderWay d v (Returning kind b funds k) ts = Unit {0}
 
 -- the next act locks a weak pointer
@@ -41,11 +48,23 @@ abbrev pub IsSwap : Slots → List Task → Type 0
 IsSwap slots [] = ⊥
 IsSwap slots (t ∷ ts) = is_some (going slots t.act) ≡ true
 
--- a lock or a swap that is under way is the next act
+-- the next act loads or compares what was seen
+abbrev pub IsSeen : Slots → CellWord → List Task → Type 0
+IsSeen slots x [] = ⊥
+IsSeen slots x (t ∷ ts) = IsSeenBy slots x t.act
+
+-- it swaps what was seen, which is what it expects
+abbrev pub IsMatched : Slots → CellWord → List Task → Type 0
+IsMatched slots x [] = ⊥
+IsMatched slots x (t ∷ ts) = IsMatchedBy slots x t.act
+
+-- a lock, a swap, a load or a compare that is under way is the next act
 abbrev pub IsTried : Half → Walk → Type 0
 IsTried (Locking word) w = IsLock w.slots w.todo
 IsTried (Giving i kind x) w = inside (slot w.slots i) ≡ Some x
 IsTried Brought w = IsSwap w.slots w.todo
+IsTried (Saw x) w = IsSeen w.slots x w.todo
+IsTried (Matched x) w = IsMatched w.slots x w.todo
 IsTried _ w = Unit {0}
 
 -- an act that is half done is one of a statement: no object ends in the thread's hands
@@ -55,12 +74,28 @@ IsAlone (Making b i differs) es = es ≡ []
 IsAlone (Locking word) es = es ≡ []
 IsAlone (Giving i kind x) es = es ≡ []
 IsAlone Brought es = es ≡ []
+IsAlone (Saw x) es = es ≡ []
+IsAlone (Matched x) es = es ≡ []
+IsAlone (Refill stage c x k) es = Unit {0}
 IsAlone (Returning kind b funds k) es = Unit {0}
 
 -- the shape has the cell of the next act
 abbrev pub IsInShape : Shape → List Task → Type 0
 IsInShape z [] = Unit {0}
 IsInShape z (t ∷ ts) = HasCell z t.act
+
+-- the next task is an act
+abbrev pub IsStill : Walk → List Task → Type 0
+IsStill w [] = Unit {0}
+IsStill w (t ∷ ts) = idle t.act w.slots w.taken ≡ false
+
+-- what was seen of a cell is the value of a word; at rest no call is half done
+abbrev pub IsProper : ℕ → Story → Half → Type 0
+IsProper d v Rest = pending v d ≡ Idle
+IsProper d v (Saw x) = IsCellWord x
+IsProper d v (Matched x) = IsCellWord x
+IsProper d v (Refill stage c x k) = is_some x.owned ≡ true
+IsProper d v _ = Unit {0}
 
 -- between two steps of thread d: where objects end nothing is in hand, and no member of an object holds anything
 pub record HasBegun (d : ℕ) (u : Sight) : Type 0 where
@@ -75,6 +110,9 @@ pub record HasBegun (d : ℕ) (u : Sight) : Type 0 where
   pub seat : d < u.story.extent.actors
   pub kept : Kept u.story
   pub cell : IsInShape u.story.extent.shape (walk_of (scene u) d).todo
+  pub holds : Holds d (walk_of (scene u) d).slots u.story
+  pub still : IsStill (walk_of (scene u) d) (walk_of (scene u) d).todo
+  pub proper : IsProper d u.story (half_of u d)
 
 -- the thread's endings go on by themselves
 abbrev pub is_ending : Sight → ℕ → Bool
@@ -96,17 +134,28 @@ abbrev pub is_brought : Half → Bool
 is_brought Brought = true
 is_brought _ = false
 
+-- a load or a compare whose cell was looked at
+abbrev pub is_trying : Half → Bool
+is_trying (Saw x) = true
+is_trying (Matched x) = true
+is_trying _ = false
+
+abbrev pub is_refilling : Half → Bool
+is_refilling (Refill stage c x k) = true
+is_refilling _ = false
+
 abbrev pub is_returning : Half → Bool
 is_returning (Returning kind b funds k) = true
 is_returning _ = false
 
--- the rest of an act goes on by itself: funds are given back, or an object ends
+-- the rest of an act goes on by itself: funds are given back, a fund is turned and others are put back, or an object ends
 abbrev pub has_rest : Sight → ℕ → Bool
-has_rest u d = is_returning (half_of u d) || is_ending u d
+has_rest u d = is_returning (half_of u d) || is_refilling (half_of u d) || is_ending u d
 
--- what a thread has begun, once the funds are given back
+-- what a thread has begun, once no funds are out for what it did
 abbrev pub returned : Half → Half
 returned (Returning kind b funds k) = Rest
+returned (Refill stage c x k) = Rest
 returned h = h
 
 -- an act that is under way
@@ -115,6 +164,8 @@ is_acting (Making b i differs) = true
 is_acting (Locking word) = true
 is_acting (Giving i kind x) = true
 is_acting Brought = true
+is_acting (Saw x) = true
+is_acting (Matched x) = true
 is_acting _ = false
 
 -- a make that has words left to look at or to write
@@ -154,7 +205,9 @@ turned (Some x) = Acted x
 
 -- thread d made its next act, but for the rest that goes on by itself after it
 pub record Plays (d : ℕ) (u : Sight) (r : Turned) (u' : Sight) : Type 0 where
-  pub answer : r ≡ turned (said d (scene u))
-  pub scene : rested d (scene u') ≡ play d (scene u)
+  pub tell : Telling
+  pub tells : TellsAll d u (scene u) tell
+  pub answer : r ≡ turned (said_with tell d (scene u))
+  pub scene : rested d (scene u') ≡ play_with tell d (scene u)
   pub done : is_acting (half_of u' d) ≡ false
   pub halves : u'.halves ≡ slice_set u.halves d (half_of u' d)

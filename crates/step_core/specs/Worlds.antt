@@ -2,13 +2,16 @@
 use Rattle.std.specs.Prelude.{◌≡◌, ℕ, List, [], ◌∷◌, get_or, slice_get, slice_set, Option, Some, None}
 use Rattle.step_threads.specs.declared.half.Half.{Half}
 use Rattle.step_threads.specs.declared.half.Half.TheVariants.{Rest}
+use Rattle.step_table.specs.declared.holdings.Pointer.{Pointer}
 use Rattle.step_threads.specs.declared.said.Stepped.{Stepped}
 use Rattle.step_threads.specs.declared.said.Turned.{Turned}
 use Rattle.step_threads.specs.declared.said.Turned.TheVariants.{Acted, Waited, Done}
 use Rattle.step_threads.specs.declared.thread.Thread.{Thread}
 use Rattle.step_threads.specs.Courses.{Walk, walk}
-use Rattle.step_threads.specs.Scenes.{Scene, next, play, rested, said, walk_of}
-use Rattle.step_threads.specs.Steps.{Step, half_by, step_at, stepped, story_by, walk_by}
+use Rattle.step_table.specs.Deeds.{Telling, Tells}
+use Rattle.step_table.specs.Holdings.{slot}
+use Rattle.step_threads.specs.Scenes.{Scene, next, play_with, rested, said_with, state_in, walk_of}
+use Rattle.step_threads.specs.Steps.{Step, answered, half_by, step_at, story_by, walk_by}
 use Rattle.step_table.specs.Stories.{Kept, Story}
 use Rattle.step_threads.specs.Threads.{Fits}
 
@@ -46,9 +49,13 @@ sight_by d u x =
       halves = slice_set u.halves d (half_by (half_of u d) x);
     }
 
+-- what it answers
+abbrev pub answer_at : ℕ → Sight → Stepped
+answer_at d u = answered u.story d (half_of u d) (walk_of (scene u) d)
+
 -- thread d made its next step, and the others are where they were
 abbrev pub Steps : ℕ → Sight → Stepped → Sight → Type 0
-Steps d u r u' = (r ≡ stepped u.story (step_of d u)) × (u' ≡ sight_by d u (step_of d u))
+Steps d u r u' = (r ≡ answer_at d u) × (u' ≡ sight_by d u (step_of d u))
 
 -- thread d made these steps, one after another, and after each the words stood for the history
 abbrev pub StepsBy : ℕ → Sight → List Stepped → Sight → Type 0
@@ -59,11 +66,16 @@ StepsBy d u (r ∷ rs) u' = (m : Sight) × Steps d u r m × Kept m.story × Step
 abbrev pub GoesTo : ℕ → Sight → Sight → Type 0
 GoesTo d u u' = (rs : List Stepped) × StepsBy d u rs u'
 
--- a whole turn of thread d: its endings go on by themselves, then its next act comes, if it has one, and what that says;
--- others are where they were
+-- counts are told so of what thread d has in its slots
+abbrev pub TellsAll : ℕ → Sight → Scene → Telling → Type 0
+TellsAll d u c tell = (i : ℕ) (x : Pointer) → slot (walk_of c d).slots i ≡ Some x → Tells u.story d (state_in c) tell x
+
+-- a whole turn of thread d: its endings go on by themselves, then its next act comes, if it has one, and what that says, where a
+-- count may leave out the loads that others have under way; others are where they were
 abbrev pub Turns : ℕ → Sight → Turned → Sight → Type 0
 Turns d u (Acted x) u' =
-    let c = rested d (scene u) in (Some x ≡ said d c) × (scene u' ≡ play d c) × (u'.halves ≡ slice_set u.halves d Rest)
+    let c = rested d (scene u) in
+    (tell : Telling) × TellsAll d u c tell × (Some x ≡ said_with tell d c) × (scene u' ≡ play_with tell d c) × (u'.halves ≡ slice_set u.halves d Rest)
 Turns d u Waited u' = ⊥
 Turns d u Done u' =
     let c = rested d (scene u) in (next (walk_of c d) ≡ None) × (scene u' ≡ c) × (u'.halves ≡ slice_set u.halves d Rest)

@@ -109,9 +109,15 @@ fn names_of(call: Call) -> Names
             of,
             ..
         } => (owner(target), Some(owner(source)), Some(owner(of))),
-        Call::Store { cell, source: name } | Call::Exchange { cell, name } => {
-            (as_in(cell, name), None, None)
-        }
+        Call::Store { cell, source: name }
+        | Call::Exchange { cell, name }
+        | Call::Load { target: name, cell } => (as_in(cell, name), None, None),
+        Call::Compare {
+            cell,
+            expected,
+            desired,
+            ..
+        } => two(as_in(cell, expected), as_in(cell, desired)),
     }
 }
 
@@ -199,7 +205,10 @@ fn has_cells(shape: &Shape, call: Call) -> bool
     ensures { IsTrue result ↔ HasCells shape.now call }
 {
     match call {
-        Call::Store { cell, .. } | Call::Exchange { cell, .. } => is_in(shape, cell),
+        Call::Store { cell, .. }
+        | Call::Exchange { cell, .. }
+        | Call::Load { cell, .. }
+        | Call::Compare { cell, .. } => is_in(shape, cell),
         _ => true,
     }
 }

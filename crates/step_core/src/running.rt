@@ -1,5 +1,5 @@
 //! Runs: one step for each number of a list, and then each actor alone to its end.
-ghost use Rattle.std.specs.Prelude.{◌≡◌, ◌+◌, ◌-◌, ◌<◌, ◌≤◌, ◌∷◌, ◌++◌, ℕ, [], All, IfErr, IfOk, MatchOption, length, map, slice_get, sum_by, vec_capacity, vec_len};
+ghost use Rattle.std.specs.Prelude.{◌≡◌, ◌+◌, ◌-◌, ◌*◌, ◌<◌, ◌≤◌, ◌∷◌, ◌++◌, ℕ, [], All, IfErr, IfOk, MatchOption, length, map, slice_get, sum_by, vec_capacity, vec_len};
 ghost use Rattle.step_core.specs.Bounds.{most_steps, steps_of, task_steps, weight};
 ghost use Rattle.step_core.specs.Headline.{AfterEach, AllAtRest, CountsAtRest, LocksWhereOwned, OfEach, TellsLocks, TellsWhatIsLeft, ValuesAtLastLeave, ValuesOnce};
 ghost use Rattle.step_core.specs.Runs.{Adds, IsFirstBad, IsRefusedFor, IsRun, IsScheduled, Names, RunInOrder, RunsToEnd};
@@ -51,12 +51,12 @@ impl World {
 
     /// More steps than the world has left.
     fn most_steps(&self) -> usize
-        ensures enough { most_steps self.now + length self.now.walks ≤ result }
+        ensures enough { most_steps self.now + 3 * length self.now.walks ≤ result }
         ensures few { result ≤ 2000000 }
     {
         self.table.known();
         let living = (self.made - self.ended) as usize;
-        steps_left(self.threads.as_slice()) + 17 * self.threads.len() + 13 * living
+        steps_left(self.threads.as_slice()) + 26 * self.threads.len() + 13 * living
     }
 
     /// One step for each number.
@@ -64,10 +64,10 @@ impl World {
         requires named { All (Names (length self.old.walks)) turns.now }
         requires empty { steps.old.items ≡ [] }
         requires none { vec_len steps.old ≡ 0 }
-        requires room { length turns.now + most_steps self.old + length self.old.walks ≤ vec_capacity steps.old }
+        requires room { length turns.now + most_steps self.old + 3 * length self.old.walks ≤ vec_capacity steps.old }
         ensures run { IsRun self.old steps.new.items self.new }
         ensures numbers { map (λ x. x.actor) steps.new.items ≡ turns.now }
-        ensures room { vec_len steps.new + most_steps self.new + length self.new.walks ≤ vec_capacity steps.new }
+        ensures room { vec_len steps.new + most_steps self.new + 3 * length self.new.walks ≤ vec_capacity steps.new }
         ensures actors { length self.new.walks ≡ length self.old.walks }
     {
         for turn in turns {
@@ -79,7 +79,7 @@ impl World {
     /// Each actor runs alone to its end, in number order.
     fn finish(&mut self, steps: &mut Vec<TraceStep>)
         requires few { length self.old.walks ≤ 64 }
-        requires room { vec_len steps.old + most_steps self.old + length self.old.walks ≤ vec_capacity steps.old }
+        requires room { vec_len steps.old + most_steps self.old + 3 * length self.old.walks ≤ vec_capacity steps.old }
         ensures adds { Adds (RunInOrder (length self.old.walks)) self.old steps.old.items self.new steps.new.items }
         ensures actors { length self.new.walks ≡ length self.old.walks }
     {
@@ -92,9 +92,9 @@ impl World {
     fn finish_one(&mut self, number: usize, steps: &mut Vec<TraceStep>)
         requires within { number < length self.old.walks }
         requires few { length self.old.walks ≤ 64 }
-        requires room { vec_len steps.old + most_steps self.old + 1 ≤ vec_capacity steps.old }
+        requires room { vec_len steps.old + most_steps self.old + 3 ≤ vec_capacity steps.old }
         ensures adds { Adds (RunsToEnd number) self.old steps.old.items self.new steps.new.items }
-        ensures room { vec_len steps.new + most_steps self.new ≤ vec_len steps.old + most_steps self.old + 1 }
+        ensures room { vec_len steps.new + most_steps self.new ≤ vec_len steps.old + most_steps self.old + 3 }
         ensures capacity { vec_capacity steps.old ≤ vec_capacity steps.new }
         ensures actors { length self.new.walks ≡ length self.old.walks }
     {
@@ -141,6 +141,8 @@ fn weight(act: Act) -> usize
         Act::Make { .. } => 28,
         Act::Swap { .. } => 3,
         Act::Exchange { .. } => 3,
+        Act::Load { .. } => 7,
+        Act::Compare { .. } => 7,
         _ => 2,
     }
 }

@@ -1,7 +1,7 @@
 //! The machine: a table and the threads over it.
-ghost use Rattle.std.specs.Prelude.{◌≡◌, ◌<◌, ◌≤◌, ◌-◌, length, true, false};
+ghost use Rattle.std.specs.Prelude.{◌≡◌, ◌≢◌, ◌<◌, ◌≤◌, ◌-◌, length, true, false};
 ghost use Rattle.step_table.specs.Stories.{Kept};
-ghost use Rattle.step_core.specs.Turning.{HasBegun, Plays, Prepares, Rests, has_rest, is_brought, is_ending, is_event, is_giving, is_locking, is_making, is_preparing, is_returning, turned_by};
+ghost use Rattle.step_core.specs.Turning.{HasBegun, Plays, Prepares, Rests, has_rest, is_brought, is_ending, is_event, is_giving, is_locking, is_making, is_preparing, is_refilling, is_returning, is_trying, turned_by};
 ghost use Rattle.step_core.specs.Worlds.{GoesTo, Steps, Turns, half_of};
 
 use crate::told::{ends, makes};
@@ -36,12 +36,14 @@ impl Model for World {
 
 impl World {
     /// One step of an actor: one atomic step on one word, or one act that touches none. It answers `Event` just where the
-    /// step is an event, with what that says, and `Done` just at the actor's end; it never answers `Waited` yet. Condition:
-    /// the actor is one of the world's, from 1 (own).
+    /// step is an event, with what that says, and `Done` just at the actor's end. It would answer `Waited` just where all 256 funds of
+    /// a cell's value were taken, which so few actors never leave: each that finds half of them taken puts them back. Condition: the
+    /// actor is one of the world's, from 1 (own).
     pub fn step(&mut self, actor: u8) -> Stepped
         requires some { 0 < actor }
         requires within { actor ≤ length self.old.walks }
         ensures steps { Steps (actor - 1) self.old result self.new }
+        ensures never { result ≢ Stepped.Waited }
         ensures kept { Kept self.new.story }
         ensures actors { length self.new.walks ≡ length self.old.walks }
     {
@@ -49,8 +51,9 @@ impl World {
     }
 
     /// One act of an actor, with all of its steps: first the rest of what its last step began, and at the end what its last
-    /// owner's leave or its swap began, so that no end of an object is left under way and no funds are out. It answers what the act says, and `Done` just at
-    /// the actor's end; it never answers `Waited` yet. Condition: the actor is one of the world's, from 1 (own).
+    /// owner's leave, its swap or its load began, so that no end of an object and no load is left under way and no funds are out. It
+    /// answers what the act says, and `Done` just at the actor's end, but never `Waited`. A count leaves out at most the loads that
+    /// other actors have under way. Condition: the actor is one of the world's, from 1 (own).
     pub fn turn(&mut self, actor: u8) -> Turned
         requires some { 0 < actor }
         requires within { actor ≤ length self.old.walks }
@@ -67,7 +70,7 @@ impl World {
         turned
     }
 
-    /// The rest of an act, where it is under way: funds are given back, and objects end.
+    /// The rest of an act, where it is under way: funds are turned, put back and given back, and objects end.
     fn rest(&mut self, number: usize)
         requires { number < length self.old.walks }
         ensures rests { Rests number self.old self.new }
@@ -99,6 +102,9 @@ impl World {
         if self.is_brought(number) {
             return self.swap(number);
         }
+        if self.is_trying(number) {
+            return self.try_on(number);
+        }
         let stepped = self.advance(number);
         if self.is_making(number) {
             return self.make(number);
@@ -111,6 +117,9 @@ impl World {
         }
         if self.is_brought(number) {
             return self.swap(number);
+        }
+        if self.is_trying(number) {
+            return self.try_on(number);
         }
         turned(stepped)
     }
@@ -152,6 +161,23 @@ impl World {
         turned(self.advance(number))
     }
 
+    /// The rest of a load or a compare whose cell was looked at, through its event. Nobody steps between, so a second look sees what
+    /// the cell shows where it is tried.
+    fn try_on(&mut self, number: usize) -> Turned
+        requires within { number < length self.old.walks }
+        requires trying { is_trying (half_of self.old number) ≡ true }
+        ensures plays { Plays number self.old result self.new }
+        ensures goes { GoesTo number self.old self.new }
+        ensures actors { length self.new.walks ≡ length self.old.walks }
+    {
+        loop {
+            let stepped = self.advance(number);
+            if is_event(stepped) {
+                return turned(stepped);
+            }
+        }
+    }
+
     /// The rest of a make that is under way.
     fn make(&mut self, number: usize) -> Turned
         requires within { number < length self.old.walks }
@@ -182,7 +208,7 @@ impl World {
         requires { number < length self.now.walks }
         ensures { result ≡ has_rest self.now number }
     {
-        self.is_returning(number) || self.is_ending(number)
+        self.is_returning(number) || self.is_refilling(number) || self.is_ending(number)
     }
 
     /// Whether a thread ends an object.
@@ -225,6 +251,25 @@ impl World {
         matches!(self.threads[number].half, Half::Brought)
     }
 
+    /// Whether a thread has looked at a cell that it loads or compares.
+    fn is_trying(&self, number: usize) -> bool
+        requires { number < length self.now.walks }
+        ensures { result ≡ is_trying (half_of self.now number) }
+    {
+        matches!(
+            self.threads[number].half,
+            Half::Saw { .. } | Half::Matched { .. }
+        )
+    }
+
+    /// Whether a thread has a fund of a cell to turn, or funds to put back.
+    fn is_refilling(&self, number: usize) -> bool
+        requires { number < length self.now.walks }
+        ensures { result ≡ is_refilling (half_of self.now number) }
+    {
+        matches!(self.threads[number].half, Half::Refill { .. })
+    }
+
     /// Whether a thread has funds to give back of what came out of a cell.
     fn is_returning(&self, number: usize) -> bool
         requires { number < length self.now.walks }
@@ -249,6 +294,7 @@ impl World {
         requires { number < length self.old.walks }
         ensures was { HasBegun number self.old }
         ensures steps { Steps number self.old result self.new }
+        ensures never { result ≢ Stepped.Waited }
         ensures kept { Kept self.new.story }
         ensures actors { length self.new.walks ≡ length self.old.walks }
     {

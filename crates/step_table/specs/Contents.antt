@@ -1,5 +1,5 @@
 -- What cells hold, and how slots and the words of cells tell it. All of it is own.
-use Rattle.std.specs.Prelude.{◌≡◌, ◌≢◌, ℕ, ◌<◌, ◌/◌, ◌==◌, ◌&&◌, length, Bool, true, false, slice_set, Option, Some, None}
+use Rattle.std.specs.Prelude.{◌≡◌, ◌≢◌, ℕ, ◌<◌, ◌/◌, ◌==◌, ◌&&◌, length, Bool, true, false, slice_set, is_some, Option, Some, None}
 use Rattle.control_word.specs.declared.cell.CellWord.{CellWord}
 use Rattle.control_word.specs.declared.event.Event.{Event}
 use Rattle.control_word.specs.declared.event.Event.TheVariants as event
@@ -86,6 +86,10 @@ same_block (Some x) (Some y) = x.0 == y.0
 
 abbrev pub same_value : CellWord → CellWord → Bool
 same_value x y = same_block x.owned y.owned && same_place x.place y.place
+
+-- the value has an object, and all of its funds were taken
+abbrev pub is_spent : CellWord → Bool
+is_spent x = is_some x.owned && x.taken == 256
 
 -- the funds that were brought for a slot's value, which goes into a cell: without an object there are none
 abbrev pub owing_for : State → Slot → ℕ → Pending Nothing

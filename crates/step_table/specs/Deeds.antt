@@ -1,16 +1,18 @@
 -- What acts do to the object of a pointer. All of it is own but the events, which name their sections.
-use Rattle.std.specs.Prelude.{ℕ, ◌==◌, Bool, cond, ◌&&◌, not, Option, Some, None, slice_index}
+use Rattle.std.specs.Prelude.{◌≡◌, ◌≢◌, ℕ, ◌≤◌, ◌==◌, Bool, cond, ◌&&◌, not, Option, Some, None, slice_index}
 use Rattle.control_word.specs.declared.handle.Kind.{Kind}
 use Rattle.control_word.specs.declared.handle.Kind.TheVariants.{Owner, Weak}
 use Rattle.control_word.specs.declared.place.Place.{Place}
 use Rattle.control_word.specs.Events.{is_gone, place_at}
 use Rattle.control_word.specs.Layout.{spot}
+use Rattle.control_word.specs.Packing.{number_of}
 use Rattle.control_word.specs.State.{Object, State, count, weak}
+use Rattle.control_word.specs.Views.{owes}
 use Rattle.step_table.specs.declared.field.Field.{Field}
 use Rattle.step_table.specs.declared.holdings.Pointer.{Pointer}
 use Rattle.step_table.specs.declared.past.Deed.{Deed}
 use Rattle.step_table.specs.declared.past.Deed.TheVariants as deed
-use Rattle.step_table.specs.Stories.{Story}
+use Rattle.step_table.specs.Stories.{Story, pending}
 use Rattle.step_table.specs.declared.field.Field.TheVariants.{Zero, One, Two, Three}
 use Rattle.control_word.specs.declared.handle.Handle.{Handle}
 use Rattle.control_word.specs.Handles.{handle, empty, owner_before}
@@ -80,8 +82,37 @@ leave_as Weak x last = deed.WeakLeave x.block x.place last
 abbrev pub leave : State → Pointer → Deed
 leave s x = leave_as x.kind x (is_last s x)
 
-abbrev pub tell : State → Pointer → Deed
-tell s x = deed.Count x.kind x.block x.place (count s (owned s x))
+-- the word that counts the owners of a pointer's object
+abbrev pub owner_word : Story → Pointer → ℕ
+owner_word v x = slice_index v.words (spot x.block.0 0)
+
+-- how many owners of a pointer's object are told
+abbrev pub Telling : Type 0
+Telling = State → Pointer → ℕ
+
+-- all that there are ([util.smartptr.shared.obs], `use_count`)
+abbrev pub exact : Telling
+exact s x = count s (owned s x)
+
+-- what a look at the word tells: the owners that it numbers, and 1 where it numbers none but has funds, as a load is under way then
+abbrev pub told_number : ℕ → ℕ
+told_number word = cond (number_of word == 0) (cond (word == 0) 0 1) (number_of word)
+
+abbrev pub by_word : Story → Telling
+by_word v s x = told_number (owner_word v x)
+
+-- no other desk has a load of the pointer's object under way
+abbrev pub IsSettled : Story → ℕ → Pointer → Type 0
+IsSettled v d x = (e : ℕ) → e ≢ d → owes (pending v e) (spot x.block.0 0) ≡ 0
+
+-- none are told just where there are none, never more than there are, and all that there are where no such load is under way
+pub record Tells (v : Story) (d : ℕ) (s : State) (tell : Telling) (x : Pointer) : Type 0 where
+  pub none : (tell s x == 0) ≡ (exact s x == 0)
+  pub most : tell s x ≤ exact s x
+  pub exactly : IsSettled v d x → tell s x ≡ exact s x
+
+abbrev pub tell : Story → Pointer → Deed
+tell v x = deed.Count x.kind x.block x.place (told_number (owner_word v x))
 
 abbrev pub tell_expired : State → Pointer → Deed
 tell_expired s x = deed.Expired x.kind x.block x.place (is_expired s x)
@@ -115,10 +146,6 @@ this_as k x = record { kind = k; block = x.block; place = place_at x.block.0 }
 abbrev pub give : Kind → Pointer → Deed
 give Owner x = deed.Share x.block x.place (place_at x.block.0)
 give Weak x = deed.WeakShare x.block (place_at x.block.0)
-
--- the word that counts the owners of a pointer's object
-abbrev pub owner_word : Story → Pointer → ℕ
-owner_word v x = slice_index v.words (spot x.block.0 0)
 
 -- a pointer as histories name it
 abbrev pub handle_of : State → Pointer → Handle

@@ -1,5 +1,5 @@
 -- What a thread relies on that took a fund of a cell, until the cell is refilled. All of it is own.
-use Rattle.std.specs.Prelude.{◌≡◌, ℕ, suc, Some}
+use Rattle.std.specs.Prelude.{◌≡◌, ℕ, suc, Bool, ◌&&◌, Some, nat_lt}
 use Rattle.control_word.specs.declared.cell.CellWord.{CellWord}
 use Rattle.control_word.specs.declared.handle.Kind.{Kind}
 use Rattle.control_word.specs.declared.place.Block.{Block}
@@ -11,11 +11,20 @@ use Rattle.step_table.specs.declared.refill.Stage.{Stage}
 use Rattle.step_table.specs.declared.refill.Stage.TheVariants.{Turning, Checking, Lacking, Refilling, Failing}
 use Rattle.step_table.specs.CellDeeds.{kind_in, owing}
 use Rattle.step_table.specs.Cells.{IsOpenTo}
+use Rattle.step_table.specs.Contents.{same_value}
 use Rattle.step_table.specs.Stories.{Story, handle_in, pending, state}
 
 -- one fund more is taken
 abbrev pub more_taken : CellWord → CellWord
 more_taken x = record { owned = x.owned; place = x.place; taken = suc x.taken }
+
+-- so many funds were taken that they are to be put back: half of them or more
+abbrev pub is_low : CellWord → Bool
+is_low x = nat_lt 127 x.taken
+
+-- the cell holds the same value still, and so many of its funds were taken
+abbrev pub is_drained : CellWord → CellWord → Bool
+is_drained x found = same_value x found && is_low found
 
 -- the funds that are out: the one that was taken, or those that were brought in place of all that were
 abbrev pub StageFits : ℕ → Stage → Kind → Block → CellWord → Story → Type 0

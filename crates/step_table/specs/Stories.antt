@@ -154,23 +154,20 @@ pub record Kept (v : Story) : Type 0 where
 abbrev pub AllBare : State → Type 0
 AllBare s = (o m : ℕ) → (s.object o).member m ≡ empty (kind_of_member m)
 
--- what a desk has half done takes nothing from any count: it loads nothing
-abbrev pub IsCalm : Pending Nothing → Type 0
-IsCalm Idle = Unit {0}
-IsCalm (Making b l) = Unit {0}
-IsCalm (Paying k o p word funds loads) = loads ≡ 0
-IsCalm _ = ⊥
-
--- no member was filled, and no count lags behind
+-- no member was filled
 pub record Plain (v : Story) : Type 0 where
   pub bare : AllBare (state v)
-  pub calm : (d : ℕ) → IsCalm (pending v d)
 
--- a step that loads nothing and fills no member: funds that are brought or given back, and swaps of free cells
+-- a step that fills no member: funds, looks and loads don't, and swaps of free cells don't
 abbrev pub IsPlainOn : CellDeed → Type 0
+IsPlainOn (cell_deed.Look c x y) = Unit {0}
 IsPlainOn (cell_deed.Bring k b p f) = Unit {0}
 IsPlainOn (cell_deed.GiveBack k b f) = Unit {0}
+IsPlainOn (cell_deed.Take c x y) = Unit {0}
+IsPlainOn (cell_deed.Turn k b) = Unit {0}
+IsPlainOn (cell_deed.Refill c t) = Unit {0}
 IsPlainOn (cell_deed.Swap (Free n) new x) = Unit {0}
+IsPlainOn (cell_deed.CompareSwap (Free n) x y) = Unit {0}
 IsPlainOn _ = ⊥
 
 abbrev pub IsPlain : Deed → Type 0

@@ -50,7 +50,7 @@ fn is_same_empty(found: CellWord, expected: CellWord) -> bool
 
 impl Table {
     /// What a cell holds, and how many of its funds were taken.
-    fn shown(&self, desk: usize, cell: Cell) -> CellWord
+    pub fn shown(&self, desk: usize, cell: Cell) -> CellWord
         requires seat { desk < self.now.extent.actors }
         requires open { IsOpenTo self.now desk cell }
         ensures { Shows self.now cell result }

@@ -3,7 +3,6 @@ ghost use Rattle.std.specs.Prelude.{◌≡◌, ◌≢◌, ◌+◌, ◌<◌, ◌�
 ghost use Rattle.control_word.specs.declared.handle.Kind.TheVariants.{Owner};
 ghost use Rattle.control_word.specs.Events.{origin};
 ghost use Rattle.control_word.specs.Handles.{IsPointer};
-ghost use Rattle.control_word.specs.State.{count};
 ghost use Rattle.control_word.specs.Views.{owed};
 ghost use Rattle.control_word.specs.Layout.{spot};
 ghost use Rattle.control_word.specs.declared.view.Pending.TheVariants.{Idle};
@@ -12,7 +11,7 @@ ghost use Rattle.step_table.specs.Deeds.{as_owner, as_weak, downgrade, is_expire
 ghost use Rattle.step_table.specs.Contents.{is_of};
 ghost use Rattle.step_table.specs.Holdings.{Holds, is_full, place_in, plain, slot, value, weak_as, weak_slot};
 ghost use Rattle.step_table.specs.declared.slot.Slot.TheVariants.{Empty, Full};
-ghost use Rattle.step_table.specs.Stories.{IsMaking, Plain, Story, after, known, object_in, pending, state};
+ghost use Rattle.step_table.specs.Stories.{IsMaking, Story, after, known, object_in, pending, state};
 
 use crate::past::Deed;
 use crate::slot::Slot;
@@ -132,15 +131,14 @@ impl Holdings {
         last
     }
 
-    /// How many owners the object of a slot has: exactly, as nothing was done to a cell.
+    /// How many owners the object of a slot has, as its word tells.
     pub fn count(&self, desk: usize, table: &mut Table, from: usize, pointer: Pointer) -> u32
         requires seat { desk < table.old.extent.actors }
-        requires plain { Plain table.old }
         requires idle { pending table.old desk ≡ Idle }
         requires holds { Holds desk self.now.slots.items table.old }
         requires from { slot self.now.slots.items from ≡ Some pointer }
-        ensures exact { result ≡ count (state table.old) (owned (state table.old) pointer) }
-        ensures table { table.new ≡ after table.old desk (tell (state table.old) pointer) }
+        ensures told { result ≡ by_word table.old (state table.old) pointer }
+        ensures table { table.new ≡ after table.old desk (tell table.old pointer) }
         ensures holds { Holds desk self.now.slots.items table.new }
     {
         table.known();

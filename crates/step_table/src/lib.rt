@@ -9,6 +9,7 @@ pub mod cells;
 pub mod clearing;
 pub mod comparing;
 pub mod contents;
+pub mod counting;
 pub mod ended;
 pub mod extent;
 pub mod field;

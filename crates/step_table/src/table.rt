@@ -5,7 +5,7 @@ ghost use Rattle.control_word.specs.Handles.{IsPointer, empty};
 ghost use Rattle.control_word.specs.Layout.{spot, table_size};
 ghost use Rattle.control_word.specs.State.{Has, held, stored, ending, bag_size, count, kind_of_member, weak};
 ghost use Rattle.control_word.specs.Views.{fresh, owed};
-ghost use Rattle.step_table.specs.Deeds.{remains};
+ghost use Rattle.step_table.specs.Deeds.{told_number, remains};
 ghost use Rattle.control_word.specs.Words.{flags_of};
 ghost use Rattle.step_table.specs.Openings.{IsExtent};
 ghost use Rattle.step_table.specs.Stories.{IsMaking, Kept, after, handle_in, history_after, known, object_in, owner_in, pending, state, views_after};
@@ -193,6 +193,7 @@ impl Table {
         requires seat { desk < self.old.extent.actors }
         requires idle { pending self.old desk ≡ Idle }
         requires held { Has (held desk (handle_in self.old pointer.kind pointer.block pointer.place)) (state self.old).hands }
+        ensures told { result ≡ told_number (slice_index self.old.words (spot pointer.block.0 0)) }
         ensures none { (result == 0) ≡ (count (state self.old) (object_in self.old pointer.block) == 0) }
         ensures most { result ≤ count (state self.old) (object_in self.old pointer.block) }
         ensures exact { owed self.old.views (spot pointer.block.0 0) ≡ 0 → result ≡ count (state self.old) (object_in self.old pointer.block) }

@@ -9,7 +9,7 @@ use Rattle.step_threads.specs.declared.act.Act.{Act}
 use Rattle.step_table.specs.declared.form.Form.{Form}
 use Rattle.control_word.specs.Words.{flags_of}
 use Rattle.step_threads.specs.declared.half.Half.{Half}
-use Rattle.step_threads.specs.declared.half.Half.TheVariants.{Rest, Making, Locking, Giving, Brought, Returning}
+use Rattle.step_threads.specs.declared.half.Half.TheVariants.{Rest, Making, Locking, Giving, Brought, Saw, Matched, Refill, Returning}
 use Rattle.step_table.specs.declared.holdings.Pointer.{Pointer}
 use Rattle.step_table.specs.CellDeeds.{owing}
 use Rattle.step_table.specs.Contents.{owing_for}
@@ -17,6 +17,8 @@ use Rattle.step_threads.specs.Courses.{form_of, new_of}
 use Rattle.step_table.specs.Deeds.{is_enabled}
 use Rattle.step_table.specs.Holdings.{Slots}
 use Rattle.step_threads.specs.Entries.{least}
+use Rattle.control_word.specs.Packing.{IsCellWord}
+use Rattle.step_table.specs.Refills.{RefillFits}
 use Rattle.step_table.specs.Stories.{IsMaking, Story, handle_in, known, pending, state}
 
 -- how often the desk has the block in its store, and how often a list has it
@@ -33,6 +35,9 @@ claimed (Making c i differs) b = cond (c.0 == b) 1 0
 claimed (Locking found) b = 0
 claimed (Giving i kind x) b = 0
 claimed Brought b = 0
+claimed (Saw x) b = 0
+claimed (Matched x) b = 0
+claimed (Refill stage c x k) b = 0
 claimed (Returning kind c funds k) b = 0
 
 -- The stock has just the desk's vacant blocks, but for the one that a making took
@@ -64,4 +69,7 @@ HalfFits d (Making b i differs) slots a v = IsPrepared d b i (form_of a) v
 HalfFits d (Locking found) slots a v = (pending v d ≡ Idle) × (0 < found)
 HalfFits d (Giving i kind x) slots a v = IsGiving d x v
 HalfFits d Brought slots a v = pending v d ≡ owing_for (state v) (new_of slots a) 256
+HalfFits d (Saw x) slots a v = (pending v d ≡ Idle) × IsCellWord x
+HalfFits d (Matched x) slots a v = (pending v d ≡ owing_for (state v) (new_of slots a) 256) × IsCellWord x
+HalfFits d (Refill stage c x k) slots a v = RefillFits d stage c x v
 HalfFits d (Returning kind b funds k) slots a v = (p : Option Place) × (pending v d ≡ owing (state v) kind (Some b) p funds 0)

@@ -5,13 +5,13 @@ use Rattle.step_threads.specs.declared.act.Act.{Act}
 use Rattle.step_threads.specs.declared.act.Act.TheVariants as act
 use Rattle.step_threads.specs.declared.act.Question.TheVariants as question
 use Rattle.step_threads.specs.declared.act.Tail.{Tail}
-use Rattle.step_threads.specs.declared.act.Tail.TheVariants.{Nothing, Named, Into}
+use Rattle.step_threads.specs.declared.act.Tail.TheVariants.{Nothing, Named, Into, IntoAs}
 use Rattle.step_threads.specs.declared.act.Task.{Task}
 use Rattle.step_threads.specs.declared.call.Call.{Call}
 use Rattle.step_threads.specs.declared.call.Name.{Name}
 use Rattle.step_threads.specs.declared.call.Call.TheVariants.{Make, Empty, Reset, Copy, Count}
 use Rattle.step_threads.specs.declared.call.Call.TheVariants.{MakeThis, Null, Move, Alias, AliasNull, This, WeakThis, Read, Place, Same, Before}
-use Rattle.step_threads.specs.declared.call.Call.TheVariants.{Store, Exchange, Weak, WeakCopy, WeakEmpty, WeakReset, Lock, Upgrade, WeakCount, Expired}
+use Rattle.step_threads.specs.declared.call.Call.TheVariants.{Store, Exchange, Load, Compare, Weak, WeakCopy, WeakEmpty, WeakReset, Lock, Upgrade, WeakCount, Expired}
 
 -- the acts of a statement, in order
 abbrev pub acts : Call → List Act
@@ -41,12 +41,15 @@ acts (Same first second) = act.Ask (question.Same first.0 second.0) ∷ []
 acts (Before first second) = act.Ask (question.Before first.0 second.0) ∷ []
 acts (Store cell source) = act.Offer source.0 cell ∷ act.Swap cell ∷ act.Drop ∷ []
 acts (Exchange cell name) = act.Exchange name.0 cell ∷ []
+acts (Load target cell) = act.Load cell ∷ act.Put target.0 ∷ []
+acts (Compare cell expected desired weak) = act.Offer desired.0 cell ∷ act.Compare expected.0 cell weak ∷ act.Put expected.0 ∷ act.Drop ∷ []
 
 -- how a call goes on after its first act: what was taken goes to its name or into a cell, where there is one
 abbrev pub tail : Tail → List Act
 tail Nothing = []
 tail (Named name) = act.Put name.0 ∷ []
 tail (Into cell) = act.Swap cell ∷ act.Drop ∷ []
+tail (IntoAs cell name weak) = act.Compare name.0 cell weak ∷ act.Put name.0 ∷ act.Drop ∷ []
 
 abbrev pub numbered : ℕ → List Act → List Task
 numbered k [] = []

@@ -6,7 +6,7 @@ use Rattle.control_word.specs.declared.shape.Shape.{Shape}
 use Rattle.control_word.specs.State.{State}
 use Rattle.step_threads.specs.declared.act.Act.{Act}
 use Rattle.step_table.specs.declared.form.Form.{Form}
-use Rattle.step_threads.specs.declared.act.Act.TheVariants.{Make, Share, Downgrade, Lock, Put, Leave, Clear, Count, Expired, Read, FromThis, Alias, Move, Ask, Offer, Swap, Exchange, Drop}
+use Rattle.step_threads.specs.declared.act.Act.TheVariants.{Make, Share, Downgrade, Lock, Put, Leave, Clear, Count, Expired, Read, FromThis, Alias, Move, Ask, Offer, Swap, Exchange, Load, Compare, Drop}
 use Rattle.step_threads.specs.declared.act.Question.{Question}
 use Rattle.step_threads.specs.declared.act.Question.TheVariants as question
 use Rattle.step_threads.specs.declared.act.Task.{Task}
@@ -15,6 +15,7 @@ use Rattle.step_threads.specs.declared.call.CellName.TheVariants as cell
 use Rattle.step_table.specs.declared.cell_deed.Cell.{Cell}
 use Rattle.step_table.specs.declared.cell_deed.Cell.TheVariants.{Free}
 use Rattle.step_threads.specs.declared.course.Course.{Course}
+use Rattle.step_table.specs.declared.comparing.Comparing.{Comparing}
 use Rattle.step_table.specs.Contents.{is_of}
 use Rattle.step_threads.specs.declared.ending.Ending.{Ending}
 use Rattle.step_table.specs.Holdings.{Holds, Slots, is_full, plain, pointer_of, slot, value, weak_slot}
@@ -68,11 +69,16 @@ abbrev pub on_going : {A : Type 0} → (CellName → ℕ → A) → A → Option
 on_going f none None = none
 on_going f none (Some x) = f x.0 x.1
 
--- the value that an act puts into a cell
+-- the value that an act puts into a cell, or would
 abbrev pub new_of : Slots → Act → Slot
 new_of slots (Swap c) = value slots (hand slots)
 new_of slots (Exchange k c) = value slots k
+new_of slots (Compare k c weak) = value slots (hand slots)
 new_of slots _ = plain
+
+-- what is in hand goes into a cell that is equivalent to slot k, and what the cell held is to be dropped; else what is in hand is
+abbrev pub comparing : Slots → ℕ → Bool → Comparing
+comparing slots k weak = record { expected = k; new = hand slots; other = other slots; weak = weak }
 
 abbrev pub no_form : Form
 no_form = record { fields = []; enabled = false; null = false }
@@ -87,11 +93,16 @@ abbrev pub locked : Slots → Act → Option Pointer
 locked slots (Lock k must) = weak_slot (slot slots k)
 locked slots _ = None
 
+-- what was taken may go into the cell, and so may what it is compared with
+abbrev pub is_compared : Slots → Bool → ℕ → CellName → Bool
+is_compared slots taken k c = taken && is_of (kind_at c) (value slots (hand slots)) && is_of (kind_at c) (value slots k)
+
 -- a task that is no act where it comes
 abbrev pub idle : Act → Slots → Bool → Bool
 idle (Put k) slots taken = not (taken && is_full (slot slots k))
 idle (Clear k) slots taken = not (is_full (slot slots k))
 idle (Swap c) slots taken = not (taken && is_of (kind_at c) (value slots (hand slots)))
+idle (Compare k c weak) slots taken = not (is_compared slots taken k c)
 idle Drop slots taken = not (is_full (slot slots (other slots)))
 idle _ slots taken = false
 
@@ -107,12 +118,14 @@ placed k slots = passed (hand slots) k slots
 abbrev pub slots_idle : Act → Slots → Bool → Slots
 slots_idle (Put k) slots taken = cond taken (placed k slots) slots
 slots_idle (Swap c) slots taken = cond taken (placed (other slots) slots) slots
+slots_idle (Compare k c weak) slots taken = cond taken (placed (other slots) slots) slots
 slots_idle Drop slots taken = slice_set slots (other slots) plain
 slots_idle _ slots taken = slots
 
 abbrev pub taken_idle : Act → Bool → Bool
 taken_idle (Put k) taken = false
 taken_idle (Swap c) taken = false
+taken_idle (Compare k c weak) taken = false
 taken_idle _ taken = taken
 
 -- where a thread is: what it holds, the objects that end in its hands, the one begun last first, and its tasks
@@ -154,6 +167,8 @@ Begins n taken (Ask q) = IsAbout n q
 Begins n taken (Offer k c) = (k < n) × (taken ≡ false)
 Begins n taken (Swap c) = Unit {0}
 Begins n taken (Exchange k c) = (k < n) × (taken ≡ false)
+Begins n taken (Load c) = taken ≡ false
+Begins n taken (Compare k c weak) = k < n
 Begins n taken Drop = taken ≡ false
 
 abbrev pub taken_after : Act → Bool → Bool
@@ -165,17 +180,26 @@ taken_after (FromThis k kind) taken = true
 taken_after (Alias k j field) taken = true
 taken_after (Move k) taken = true
 taken_after (Offer k c) taken = true
+taken_after (Load c) taken = true
+taken_after (Compare k c weak) taken = true
 taken_after (Put k) taken = false
 taken_after (Swap c) taken = false
 taken_after _ taken = taken
 
--- what is to be dropped is, before all else
+-- an act drops what is to be dropped, or puts what was taken into a name before that
+abbrev pub dropping : Type 0 → Act → Type 0
+dropping later Drop = Unit {0}
+dropping later (Put k) = later
+dropping later _ = ⊥
+
+-- what is to be dropped is, before another act fills its slot
 abbrev pub Drops : List Task → Type 0
 Drops [] = ⊥
-Drops (t ∷ ts) = t.act ≡ Drop
+Drops (t ∷ ts) = dropping (Drops ts) t.act
 
 abbrev pub Follows : Act → List Task → Type 0
 Follows (Swap c) ts = Drops ts
+Follows (Compare k c weak) ts = Drops ts
 Follows _ ts = Unit {0}
 
 abbrev pub Ready : ℕ → Bool → List Task → Type 0
@@ -187,6 +211,8 @@ abbrev pub HasCell : Shape → Act → Type 0
 HasCell z (Offer k c) = IsIn z c
 HasCell z (Swap c) = IsIn z c
 HasCell z (Exchange k c) = IsIn z c
+HasCell z (Load c) = IsIn z c
+HasCell z (Compare k c weak) = IsIn z c
 HasCell z _ = Unit {0}
 
 -- what a thread relies on

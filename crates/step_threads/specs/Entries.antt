@@ -7,12 +7,12 @@ use Rattle.control_word.specs.declared.handle.Kind.{Kind}
 use Rattle.control_word.specs.declared.handle.Kind.TheVariants.{Owner, Weak}
 use Rattle.control_word.specs.declared.place.Place.{Place}
 use Rattle.control_word.specs.Events.{place_at}
-use Rattle.control_word.specs.Handles.{owner, weak_of}
+use Rattle.control_word.specs.Handles.{equivalent, owner, weak_of}
 use Rattle.control_word.specs.Histories.{entry, leads}
-use Rattle.control_word.specs.State.{Opening, State, Stored, count}
+use Rattle.control_word.specs.State.{Opening, State, Stored, weak}
 use Rattle.step_threads.specs.declared.act.Act.{Act}
 use Rattle.step_table.specs.declared.form.Form.{Form}
-use Rattle.step_threads.specs.declared.act.Act.TheVariants.{Make, Share, Downgrade, Lock, Put, Leave, Clear, Count, Expired, Read, FromThis, Alias, Move, Ask, Offer, Swap, Exchange, Drop}
+use Rattle.step_threads.specs.declared.act.Act.TheVariants.{Make, Share, Downgrade, Lock, Put, Leave, Clear, Count, Expired, Read, FromThis, Alias, Move, Ask, Offer, Swap, Exchange, Load, Compare, Drop}
 use Rattle.step_threads.specs.declared.act.Question.TheVariants as question
 use Rattle.step_threads.specs.declared.call.CellName.{CellName}
 use Rattle.step_table.specs.CellDeeds.{cell_in}
@@ -20,8 +20,8 @@ use Rattle.step_table.specs.Contents.{held_in, told}
 use Rattle.step_table.specs.declared.holdings.Pointer.{Pointer}
 use Rattle.step_threads.specs.declared.said.Answer.TheVariants as answer
 use Rattle.step_table.specs.declared.ended.Ended.TheVariants as ended
-use Rattle.step_threads.specs.Courses.{cell_at, going, kind_at, locked, offered, on_going, other}
-use Rattle.step_table.specs.Deeds.{field_of, is_enabled, is_expired, is_last, owned, aliased, handle_of, on}
+use Rattle.step_threads.specs.Courses.{cell_at, going, hand, kind_at, locked, offered, on_going, other}
+use Rattle.step_table.specs.Deeds.{Telling, field_of, is_enabled, is_expired, is_last, owned, aliased, handle_of, on}
 use Rattle.step_table.specs.Holdings.{Slots, inside, place_in, slot, value, owner_slot}
 use Rattle.step_table.specs.Stories.{Nothing}
 
@@ -65,8 +65,8 @@ downgrades z d h x = entry d (event.WeakShare (owned (leads z h) x) x.place) ∷
 abbrev pub locks : Opening → ℕ → History → Pointer → History
 locks z d h x = let s = leads z h in entry d (event.Lock (weak_of (owned s x) x.place) (not (is_expired s x))) ∷ h
 
-abbrev pub counts : Opening → ℕ → History → Pointer → History
-counts z d h x = let s = leads z h in entry d (event.Count (handle_of s x) (count s (owned s x))) ∷ h
+abbrev pub counts : Telling → Opening → ℕ → History → Pointer → History
+counts tell z d h x = let s = leads z h in entry d (event.Count (handle_of s x) (tell s x)) ∷ h
 
 abbrev pub expires : Opening → ℕ → History → Pointer → History
 expires z d h x = let s = leads z h in entry d (event.Expired (handle_of s x) (is_expired s x)) ∷ h
@@ -94,23 +94,43 @@ swaps z d slots h c k =
     let x = cell_at s c in
     entry d (event.Swap (cell_in s x) (told s (kind_at c) (value slots k)) (held_in s x)) ∷ h
 
--- the history after an act of a desk whose thread has this in its slots
-abbrev pub acted : Opening → ℕ → Slots → History → Act → History
-acted z d slots h (Make form) = made d form h (least d (leads z h).stores)
-acted z d slots h (Share k) = on (shares z d h) h (slot slots k)
-acted z d slots h (Put k) = on (leaves z d h) h (slot slots k)
-acted z d slots h (Leave k) = on (leaves z d h) h (slot slots k)
-acted z d slots h (Clear k) = on (leaves z d h) h (slot slots k)
-acted z d slots h (Count k) = on (counts z d h) h (slot slots k)
-acted z d slots h (Downgrade k) = on (downgrades z d h) h (slot slots k)
-acted z d slots h (Lock k must) = on (locks z d h) h (locked slots (Lock k must))
-acted z d slots h (Expired k) = on (expires z d h) h (slot slots k)
-acted z d slots h (Read k) = on (reads z d h) h (inside (slot slots k))
-acted z d slots h (FromThis k kind) = on (gives kind z d h) h (giving (leads z h) (inside (slot slots k)))
-acted z d slots h (Alias k j field) = on (aliases (aliased field (place_in slots j)) z d h) h (owner_slot (slot slots k))
-acted z d slots h (Move k) = h
-acted z d slots h (Ask q) = h
-acted z d slots h (Offer k c) = on (shares z d h) h (offered slots k c)
-acted z d slots h (Swap c) = on_going (swaps z d slots h) h (going slots (Swap c))
-acted z d slots h (Exchange k c) = on_going (swaps z d slots h) h (going slots (Exchange k c))
-acted z d slots h Drop = on (leaves z d h) h (slot slots (other slots))
+-- what a cell holds is loaded ([util.smartptr.atomic.shared], `load`)
+abbrev pub loads : Opening → ℕ → History → CellName → History
+loads z d h c = let s = leads z h in let x = cell_at s c in entry d (event.Load (cell_in s x) (held_in s x)) ∷ h
+
+-- a cell holds what a slot does: both own or share the same object, or none, and store the same place
+abbrev pub is_expected : State → Slots → ℕ → CellName → Bool
+is_expected s slots k c = equivalent (held_in s (cell_at s c)) (told s (kind_at c) (value slots k))
+
+-- a cell is compared with slot k, and what is in hand goes in where it is equivalent ([util.smartptr.atomic.shared],
+-- `compare_exchange_strong`)
+abbrev pub compares : Opening → ℕ → Slots → History → ℕ → CellName → Bool → History
+compares z d slots h k c weak =
+    let s = leads z h in
+    let x = cell_at s c in
+    let expected = told s (kind_at c) (value slots k) in
+    let new = told s (kind_at c) (value slots (hand slots)) in
+    entry d (event.Compare (cell_in s x) expected new (held_in s x) (is_expected s slots k c) weak) ∷ h
+
+-- the history after an act of a desk whose thread has this in its slots, where counts are told so
+abbrev pub acted : Telling → Opening → ℕ → Slots → History → Act → History
+acted tell z d slots h (Make form) = made d form h (least d (leads z h).stores)
+acted tell z d slots h (Share k) = on (shares z d h) h (slot slots k)
+acted tell z d slots h (Put k) = on (leaves z d h) h (slot slots k)
+acted tell z d slots h (Leave k) = on (leaves z d h) h (slot slots k)
+acted tell z d slots h (Clear k) = on (leaves z d h) h (slot slots k)
+acted tell z d slots h (Count k) = on (counts tell z d h) h (slot slots k)
+acted tell z d slots h (Downgrade k) = on (downgrades z d h) h (slot slots k)
+acted tell z d slots h (Lock k must) = on (locks z d h) h (locked slots (Lock k must))
+acted tell z d slots h (Expired k) = on (expires z d h) h (slot slots k)
+acted tell z d slots h (Read k) = on (reads z d h) h (inside (slot slots k))
+acted tell z d slots h (FromThis k kind) = on (gives kind z d h) h (giving (leads z h) (inside (slot slots k)))
+acted tell z d slots h (Alias k j field) = on (aliases (aliased field (place_in slots j)) z d h) h (owner_slot (slot slots k))
+acted tell z d slots h (Move k) = h
+acted tell z d slots h (Ask q) = h
+acted tell z d slots h (Offer k c) = on (shares z d h) h (offered slots k c)
+acted tell z d slots h (Swap c) = on_going (swaps z d slots h) h (going slots (Swap c))
+acted tell z d slots h (Exchange k c) = on_going (swaps z d slots h) h (going slots (Exchange k c))
+acted tell z d slots h (Load c) = loads z d h c
+acted tell z d slots h (Compare k c weak) = compares z d slots h k c weak
+acted tell z d slots h Drop = on (leaves z d h) h (slot slots (other slots))

@@ -5,7 +5,7 @@ use Rattle.step_threads.specs.declared.call.Actor.{Actor}
 use Rattle.step_threads.specs.declared.call.Call.{Call}
 use Rattle.step_threads.specs.declared.call.Call.TheVariants.{Make, Empty, Reset, Copy, Count}
 use Rattle.step_threads.specs.declared.call.Call.TheVariants.{MakeThis, Null, Move, Alias, AliasNull, This, WeakThis, Read, Place, Same, Before}
-use Rattle.step_threads.specs.declared.call.Call.TheVariants.{Store, Exchange, WeakCopy, WeakEmpty, WeakReset, Lock, Upgrade, WeakCount, Expired}
+use Rattle.step_threads.specs.declared.call.Call.TheVariants.{Store, Exchange, Load, Compare, WeakCopy, WeakEmpty, WeakReset, Lock, Upgrade, WeakCount, Expired}
 use Rattle.step_threads.specs.declared.call.Call.TheVariants as call
 use Rattle.step_threads.specs.declared.call.CellName.{CellName}
 use Rattle.step_threads.specs.declared.call.CellName.TheVariants as cell
@@ -72,11 +72,15 @@ names_of (Same first second) = owner first ∷ owner second ∷ []
 names_of (Before first second) = either first ∷ either second ∷ []
 names_of (Store cell source) = as_in cell source ∷ []
 names_of (Exchange cell name) = as_in cell name ∷ []
+names_of (Load target cell) = as_in cell target ∷ []
+names_of (Compare cell expected desired weak) = as_in cell expected ∷ as_in cell desired ∷ []
 
 -- the cells of a call
 abbrev pub cells_of : Call → List CellName
 cells_of (Store cell source) = cell ∷ []
 cells_of (Exchange cell name) = cell ∷ []
+cells_of (Load target cell) = cell ∷ []
+cells_of (Compare cell expected desired weak) = cell ∷ []
 cells_of _ = []
 
 -- a shape has the cell

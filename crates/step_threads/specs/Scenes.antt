@@ -10,13 +10,13 @@ use Rattle.control_word.specs.Handles.{empty, handle, has_object, owner, same_pl
 use Rattle.control_word.specs.Histories.{entry, leads}
 use Rattle.control_word.specs.State.{Object, Opening, State, count, weak}
 use Rattle.step_threads.specs.declared.act.Act.{Act}
-use Rattle.step_threads.specs.declared.act.Act.TheVariants.{Make, Share, Downgrade, Lock, Put, Leave, Clear, Count, Expired, Read, FromThis, Alias, Move, Ask, Offer, Swap, Exchange, Drop}
+use Rattle.step_threads.specs.declared.act.Act.TheVariants.{Make, Share, Downgrade, Lock, Put, Leave, Clear, Count, Expired, Read, FromThis, Alias, Move, Ask, Offer, Swap, Exchange, Load, Compare, Drop}
 use Rattle.step_threads.specs.declared.act.Question.{Question}
 use Rattle.step_threads.specs.declared.act.Question.TheVariants as question
 use Rattle.step_threads.specs.declared.act.Task.{Task}
 use Rattle.step_threads.specs.declared.call.CellName.{CellName}
 use Rattle.step_table.specs.declared.field.Field.{Field}
-use Rattle.step_table.specs.Contents.{held_in, slot_of, swapped}
+use Rattle.step_table.specs.Contents.{differed, held_in, slot_of, swapped}
 use Rattle.step_threads.specs.declared.ending.Ending.{Ending}
 use Rattle.step_table.specs.declared.extent.Extent.{Extent}
 use Rattle.step_table.specs.declared.holdings.Pointer.{Pointer}
@@ -27,11 +27,11 @@ use Rattle.step_table.specs.declared.ended.Ended.TheVariants as ended
 use Rattle.step_threads.specs.declared.said.Said.{Said}
 use Rattle.step_table.specs.declared.slot.Slot.TheVariants.{Full, Empty}
 use Rattle.step_threads.specs.Courses.{Walk, cell_at, fitting, going, hand, kind_at, locked, on_going, other, placed, settled, passed}
-use Rattle.step_table.specs.Deeds.{as_weak, field_of, is_enabled, is_expired, is_last, owned, owner_left, this_as, aliased, at_place, on, remains, before}
+use Rattle.step_table.specs.Deeds.{Telling, exact, as_weak, field_of, is_enabled, is_expired, is_last, owned, owner_left, this_as, aliased, at_place, on, remains, before}
 use Rattle.step_table.specs.Holdings.{Slots, filled, inside, is_full, place_in, plain, slot, value, owner_slot}
 use Rattle.step_table.specs.declared.slot.Slot.{Slot}
 use Rattle.step_table.specs.Openings.{opening}
-use Rattle.step_threads.specs.Entries.{History, least, leaves, giving, acted}
+use Rattle.step_threads.specs.Entries.{History, least, is_expected, leaves, giving, acted}
 
 -- the history so far, and where each thread is
 pub record Scene : Type 0 where
@@ -69,6 +69,11 @@ alias_in slots k j field = alias_of (aliased field (place_in slots j)) (owner_sl
 abbrev pub came : State → CellName → Slot
 came s c = slot_of s (held_in s (cell_at s c))
 
+-- what was in hand is in the cell, and what comes out is to be dropped; or what was in hand is, and what the cell holds is taken
+abbrev pub compared : Slots → Slot → Bool → Hands
+compared slots x true = (swapped (hand slots) (other slots) slots x, false)
+compared slots x false = (differed (hand slots) (other slots) slots x, true)
+
 -- what it has by an act
 abbrev pub hands : State → ℕ → Slots → Bool → Act → Hands
 hands s d slots taken (Make form) = holding slots form.null (least d s.stores)
@@ -88,6 +93,8 @@ hands s d slots taken (Ask q) = (slots, taken)
 hands s d slots taken (Offer k c) = (slice_set slots (hand slots) (fitting (kind_at c) (value slots k)), true)
 hands s d slots taken (Swap c) = (on_going (λ x k. swapped k (other slots) slots (came s x)) slots (going slots (Swap c)), false)
 hands s d slots taken (Exchange k c) = (on_going (λ x i. slice_set slots i (came s x)) slots (going slots (Exchange k c)), taken)
+hands s d slots taken (Load c) = (slice_set slots (hand slots) (came s c), true)
+hands s d slots taken (Compare k c weak) = compared slots (came s c) (is_expected s slots k c)
 hands s d slots taken Drop = (slice_set slots (other slots) plain, taken)
 
 -- the pointer that leaves by an act
@@ -198,16 +205,17 @@ reply s slots (question.Place k) = answer.Place (place_in slots k)
 reply s slots (question.Same i j) = answer.Same (same_place (place_in slots i) (place_in slots j))
 reply s slots (question.Before i j) = answer.Before (before s (slot slots i) (slot slots j))
 
--- what an act answers: a make is refused where the store is empty, and a count is the number of owners
-abbrev pub answer_of : State → ℕ → Slots → Act → Option Answer
-answer_of s d slots (Make form) = full_answer (least d s.stores)
-answer_of s d slots (Count k) = Some (answer.Count (on (λ x. count s (owned s x)) 0 (slot slots k)))
-answer_of s d slots (Lock k must) = Some (lock_answer must (is_full (found s (locked slots (Lock k must)))))
-answer_of s d slots (Expired k) = Some (answer.Expired (on (is_expired s) true (slot slots k)))
-answer_of s d slots (Read k) = Some (read_answer s (place_in slots k) (inside (slot slots k)))
-answer_of s d slots (FromThis k kind) = this_answer s (place_in slots k) (inside (slot slots k))
-answer_of s d slots (Ask q) = Some (reply s slots q)
-answer_of s d slots _ = None
+-- what an act answers: a make is refused where the store is empty, and a count is the number of owners that is told
+abbrev pub answer_of : Telling → State → ℕ → Slots → Act → Option Answer
+answer_of tell s d slots (Make form) = full_answer (least d s.stores)
+answer_of tell s d slots (Count k) = Some (answer.Count (on (tell s) 0 (slot slots k)))
+answer_of tell s d slots (Lock k must) = Some (lock_answer must (is_full (found s (locked slots (Lock k must)))))
+answer_of tell s d slots (Expired k) = Some (answer.Expired (on (is_expired s) true (slot slots k)))
+answer_of tell s d slots (Read k) = Some (read_answer s (place_in slots k) (inside (slot slots k)))
+answer_of tell s d slots (FromThis k kind) = this_answer s (place_in slots k) (inside (slot slots k))
+answer_of tell s d slots (Ask q) = Some (reply s slots q)
+answer_of tell s d slots (Compare k c weak) = Some (answer.Compared (is_expected s slots k c))
+answer_of tell s d slots _ = None
 
 abbrev pub remains_as : Kind → Object → Option Ended
 remains_as Owner x = Some (remains x)
@@ -224,8 +232,8 @@ ended_of s slots (Clear k) = ended_by s (slot slots k)
 ended_of s slots Drop = ended_by s (slot slots (other slots))
 ended_of s slots _ = None
 
-abbrev pub said_of : State → ℕ → Slots → Task → Said
-said_of s d slots t = record { statement = t.statement; answer = answer_of s d slots t.act; ended = ended_of s slots t.act }
+abbrev pub said_of : Telling → State → ℕ → Slots → Task → Said
+said_of tell s d slots t = record { statement = t.statement; answer = answer_of tell s d slots t.act; ended = ended_of s slots t.act }
 
 abbrev pub nowhere : Walk
 nowhere = record { slots = []; taken = false; endings = []; todo = [] }
@@ -253,20 +261,27 @@ put_walk c d w x =
 abbrev pub rested : ℕ → Scene → Scene
 rested d c = let w = walk_of c d in put_walk c d w (rested_walk (opening c.extent) d c.history w)
 
-abbrev pub play_from : Scene → ℕ → Walk → Option Task → Scene
-play_from c d w None = c
-play_from c d w (Some t) =
+abbrev pub play_from : Telling → Scene → ℕ → Walk → Option Task → Scene
+play_from tell c d w None = c
+play_from tell c d w (Some t) =
     let w' = went (state_in c) d w t.statement (rest_of w.endings w.todo) t.act in
-    put_walk c d w' (rested_walk (opening c.extent) d (acted (opening c.extent) d w.slots c.history t.act) w')
+    put_walk c d w' (rested_walk (opening c.extent) d (acted tell (opening c.extent) d w.slots c.history t.act) w')
 
--- thread d makes its next act, and its endings go on by themselves; a thread at its end does nothing
-abbrev pub play : ℕ → Scene → Scene
-play d c = play_from c d (walk_of c d) (next (walk_of c d))
+-- thread d makes its next act, where counts are told so, and its endings go on by themselves; a thread at its end does nothing
+abbrev pub play_with : Telling → ℕ → Scene → Scene
+play_with tell d c = play_from tell c d (walk_of c d) (next (walk_of c d))
 
-abbrev pub said_from : Scene → ℕ → Slots → Option Task → Option Said
-said_from c d slots None = None
-said_from c d slots (Some t) = Some (said_of (state_in c) d slots t)
+abbrev pub said_from : Telling → Scene → ℕ → Slots → Option Task → Option Said
+said_from tell c d slots None = None
+said_from tell c d slots (Some t) = Some (said_of tell (state_in c) d slots t)
 
 -- what its next act says
+abbrev pub said_with : Telling → ℕ → Scene → Option Said
+said_with tell d c = said_from tell c d (walk_of c d).slots (next (walk_of c d))
+
+-- where no other thread has a load under way, counts are exact
+abbrev pub play : ℕ → Scene → Scene
+play d c = play_with exact d c
+
 abbrev pub said : ℕ → Scene → Option Said
-said d c = said_from c d (walk_of c d).slots (next (walk_of c d))
+said d c = said_with exact d c

@@ -1,28 +1,36 @@
 -- What one step of a thread does, by what it has begun and by its next act. All of it is own.
-use Rattle.std.specs.Prelude.{ℕ, ◌+◌, ◌-◌, ◌==◌, Bool, true, false, cond, List, [], ◌∷◌, get_or, is_some, Option, Some, None, option_map}
+use Rattle.std.specs.Prelude.{ℕ, ◌+◌, ◌-◌, ◌==◌, Bool, true, false, not, ◌&&◌, cond, List, [], ◌∷◌, get_or, is_some, Option, Some, None, option_map}
 use Rattle.control_word.specs.declared.cell.CellWord.{CellWord}
 use Rattle.control_word.specs.declared.place.Block.{Block}
 use Rattle.control_word.specs.State.{State, weak}
 use Rattle.control_word.specs.declared.handle.Kind.{Kind}
 use Rattle.step_threads.specs.declared.act.Act.{Act}
 use Rattle.step_table.specs.declared.form.Form.{Form}
-use Rattle.step_threads.specs.declared.act.Act.TheVariants.{Make, Share, Downgrade, Lock, Put, Leave, Clear, Count, Expired, Read, FromThis, Alias, Move, Ask, Offer, Swap, Exchange, Drop}
+use Rattle.step_threads.specs.declared.act.Act.TheVariants.{Make, Share, Downgrade, Lock, Put, Leave, Clear, Count, Expired, Read, FromThis, Alias, Move, Ask, Offer, Swap, Exchange, Load, Compare, Drop}
 use Rattle.step_threads.specs.declared.act.Task.{Task}
 use Rattle.step_threads.specs.declared.call.CellName.{CellName}
 use Rattle.step_table.specs.declared.cell_deed.CellDeed.TheVariants as cell_deed
 use Rattle.step_threads.specs.declared.ending.Ending.{Ending}
 use Rattle.step_threads.specs.declared.half.Half.{Half}
-use Rattle.step_threads.specs.declared.half.Half.TheVariants.{Rest, Making, Locking, Giving, Brought, Returning}
+use Rattle.step_threads.specs.declared.half.Half.TheVariants.{Rest, Making, Locking, Giving, Brought, Saw, Matched, Refill, Returning}
 use Rattle.step_table.specs.declared.holdings.Pointer.{Pointer}
 use Rattle.step_table.specs.declared.past.Deed.{Deed}
 use Rattle.step_table.specs.declared.past.Deed.TheVariants as deed
 use Rattle.step_threads.specs.declared.said.Said.{Said}
 use Rattle.step_threads.specs.declared.said.Stepped.{Stepped}
-use Rattle.step_threads.specs.declared.said.Stepped.TheVariants.{Event, Quiet, Done}
+use Rattle.step_threads.specs.declared.said.Stepped.TheVariants.{Event, Quiet, Waited, Done}
 use Rattle.step_threads.specs.Actors.{wanted}
-use Rattle.step_threads.specs.Courses.{Going, Walk, cell_at, form_of, going, hand, kind_at, locked, offered, on_going, other, settled}
-use Rattle.step_table.specs.Contents.{as_word, seen}
-use Rattle.step_table.specs.Deeds.{downgrade, give, is_enabled, leave, lock, owner_word, read, share, tell, tell_expired, alias, aliased, on}
+use Rattle.step_threads.specs.Courses.{Going, Walk, cell_at, comparing, form_of, going, hand, kind_at, locked, offered, on_going, other, settled}
+use Rattle.control_word.specs.Packing.{cell_bits}
+use Rattle.step_table.specs.declared.cell_deed.Cell.{Cell}
+use Rattle.step_table.specs.declared.cell_deed.Compared.{Compared}
+use Rattle.step_table.specs.declared.refill.Stage.{Stage}
+use Rattle.step_table.specs.declared.refill.Stage.TheVariants.{Turning, Checking, Lacking, Refilling, Failing}
+use Rattle.step_table.specs.CellDeeds.{kind_in}
+use Rattle.step_table.specs.Cells.{word_at}
+use Rattle.step_table.specs.Contents.{as_word, compared_in, is_spent, same_value, seen}
+use Rattle.step_table.specs.Refills.{is_drained, is_low, more_taken}
+use Rattle.step_table.specs.Deeds.{by_word, downgrade, give, is_enabled, leave, lock, owner_word, read, share, tell, tell_expired, alias, aliased, on}
 use Rattle.step_threads.specs.Endings.{staged}
 use Rattle.step_table.specs.Holdings.{inside, is_full, slot, owner_slot, place_in, value}
 use Rattle.step_threads.specs.Entries.{least}
@@ -39,15 +47,19 @@ pub record Step : Type 0 where
 abbrev pub silent : ℕ → Said
 silent k = record { statement = k; answer = None; ended = None }
 
--- an act of statement k on what a slot holds
-abbrev pub acts : State → ℕ → Walk → ℕ → List Task → Act → Option Deed → Half → Step
-acts s d w k ts a x h =
+-- an act of statement k on what a slot holds: a count tells what the word does
+abbrev pub acts : Story → ℕ → Walk → ℕ → List Task → Act → Option Deed → Half → Step
+acts v d w k ts a x h =
     record {
       deed = x;
       half = h;
-      walk = went s d w k ts a;
-      said = record { statement = k; answer = answer_of s d w.slots a; ended = ended_of s w.slots a };
+      walk = went (state v) d w k ts a;
+      said = record { statement = k; answer = answer_of (by_word v) (state v) d w.slots a; ended = ended_of (state v) w.slots a };
     }
+
+-- a step on the way of statement k, which says nothing: what it does, and what is begun after it
+abbrev pub within : Walk → ℕ → Option Deed → Half → Step
+within w k x h = record { deed = x; half = h; walk = w; said = silent k }
 
 -- a make begins in the least block of the store; it is refused where there is none
 abbrev pub begins : Walk → ℕ → List Task → Option ℕ → Step
@@ -62,17 +74,17 @@ trying w k word = record { deed = None; half = cond (word == 0) Rest (Locking wo
 
 -- a lock looks first. Where it finds 0 no owner is left, and that is the whole of it
 abbrev pub looks : Story → ℕ → Walk → ℕ → List Task → Act → Pointer → Step
-looks v d w k ts a x = cond (owner_word v x == 0) (acts (state v) d w k ts a (Some (lock (state v) x)) Rest) (trying w k (owner_word v x))
+looks v d w k ts a x = cond (owner_word v x == 0) (acts v d w k ts a (Some (lock (state v) x)) Rest) (trying w k (owner_word v x))
 
 -- then it is tried with the word that it found, and goes on with the word that it finds where that is another
 abbrev pub tries : Story → ℕ → Walk → ℕ → List Task → Act → ℕ → Pointer → Step
-tries v d w k ts a word x = cond (owner_word v x == word) (acts (state v) d w k ts a (Some (lock (state v) x)) Rest) (trying w k (owner_word v x))
+tries v d w k ts a word x = cond (owner_word v x == word) (acts v d w k ts a (Some (lock (state v) x)) Rest) (trying w k (owner_word v x))
 
 -- an owner's object is asked for a pointer: a look tells whether it gives any, and then the pointer is taken
 abbrev pub asks : Story → ℕ → Walk → ℕ → List Task → ℕ → Kind → Pointer → Step
 asks v d w k ts i kind x =
     cond (is_enabled (state v) x) (record { deed = None; half = Giving i kind x; walk = w; said = silent k })
-    (acts (state v) d w k ts (FromThis i kind) None Rest)
+    (acts v d w k ts (FromThis i kind) None Rest)
 
 -- a pointer's funds are brought for a cell, and the swap is next
 abbrev pub brings : Walk → ℕ → Pointer → Step
@@ -88,33 +100,77 @@ abbrev pub swaps : Story → ℕ → Walk → ℕ → List Task → Act → Cell
 swaps v d w k ts a c i =
     let x = cell_at (state v) c in
     let found = seen v x in
-    acts (state v) d w k ts a (Some (deed.OnCell (cell_deed.Swap x (as_word (value w.slots i)) found))) (gives_back (kind_at c) k found found.owned)
+    acts v d w k ts a (Some (deed.OnCell (cell_deed.Swap x (as_word (value w.slots i)) found))) (gives_back (kind_at c) k found found.owned)
 
 -- where the value has an object its funds are brought first
 abbrev pub sends : Story → ℕ → Walk → ℕ → List Task → Act → CellName → ℕ → Step
 sends v d w k ts a c i = on (brings w k) (swaps v d w k ts a c i) (slot w.slots i)
 
+-- a cell was looked at: it is tried next with what it was seen to hold, which has an object. Where all of its funds were taken
+-- nothing is done, and without an object that is the whole of it
+abbrev pub sees : Story → ℕ → Walk → ℕ → List Task → Act → Cell → Option Compared → CellWord → Step
+sees v d w k ts a c y x =
+    cond (is_spent x) (within w k None Rest)
+    (cond (is_some x.owned) (within w k None (Saw x)) (acts v d w k ts a (Some (deed.OnCell (cell_deed.Look c x y))) Rest))
+
+-- a fund of a cell is taken, where it shows the same still; else the act begins again
+abbrev pub takes : Story → ℕ → Walk → ℕ → List Task → Act → Cell → Option Compared → CellWord → Step
+takes v d w k ts a c y x =
+    cond (word_at v c == cell_bits x) (acts v d w k ts a (Some (deed.OnCell (cell_deed.Take c x y))) (Refill Turning c (more_taken x) k))
+    (within w k None Rest)
+
+-- a compare looks at its cell: one that holds what is expected is tried next, and one that differs is as one that is loaded
+abbrev pub compares : Story → ℕ → Walk → ℕ → List Task → Act → Cell → Compared → CellWord → Step
+compares v d w k ts a c y x = cond (same_value x y.expected) (within w k None (Saw x)) (sees v d w k ts a c (Some y) x)
+
+-- what was brought for a value is given back, where it has an object
+abbrev pub missed : ℕ → Option Pointer → Half
+missed k None = Rest
+missed k (Some x) = Returning x.kind x.block 256 k
+
+-- a cell that holds what is expected is swapped, where it shows the same still; else what was brought is given back, and the act
+-- begins again
+abbrev pub matches : Story → ℕ → Walk → ℕ → List Task → Act → Cell → Compared → CellWord → Step
+matches v d w k ts a c y x =
+    cond (word_at v c == cell_bits x)
+    (acts v d w k ts a (Some (deed.OnCell (cell_deed.CompareSwap c x y))) (gives_back (kind_in (state v) c) k x x.owned))
+    (within w k None (missed k (slot w.slots (hand w.slots))))
+
+-- the funds of what is to go in are brought, where it has an object, and then the cell is swapped
+abbrev pub fetches : Walk → ℕ → CellWord → Pointer → Step
+fetches w k x p = within w k (Some (deed.OnCell (cell_deed.Bring p.kind p.block p.place 256))) (Matched x)
+
+-- a compare goes on that has seen this
+abbrev pub settles : Story → ℕ → Walk → ℕ → List Task → Act → Cell → Compared → CellWord → Step
+settles v d w k ts a c y x =
+    cond (same_value x y.expected) (on (fetches w k x) (matches v d w k ts a c y x) (slot w.slots (hand w.slots)))
+    (takes v d w k ts a c (Some y) x)
+
 -- the first step of the next act, or the whole of it
 abbrev pub first : Story → ℕ → Walk → ℕ → List Task → Act → Step
 first v d w k ts (Make form) = begins w k ts (least d (state v).stores)
-first v d w k ts (Share i) = acts (state v) d w k ts (Share i) (option_map share (slot w.slots i)) Rest
-first v d w k ts (Put i) = acts (state v) d w k ts (Put i) (option_map (leave (state v)) (slot w.slots i)) Rest
-first v d w k ts (Leave i) = acts (state v) d w k ts (Leave i) (option_map (leave (state v)) (slot w.slots i)) Rest
-first v d w k ts (Clear i) = acts (state v) d w k ts (Clear i) (option_map (leave (state v)) (slot w.slots i)) Rest
-first v d w k ts (Count i) = acts (state v) d w k ts (Count i) (option_map (tell (state v)) (slot w.slots i)) Rest
-first v d w k ts (Downgrade i) = acts (state v) d w k ts (Downgrade i) (option_map downgrade (slot w.slots i)) Rest
-first v d w k ts (Lock i must) = let a = Lock i must in on (looks v d w k ts a) (acts (state v) d w k ts a None Rest) (locked w.slots a)
-first v d w k ts (Expired i) = acts (state v) d w k ts (Expired i) (option_map (tell_expired (state v)) (slot w.slots i)) Rest
-first v d w k ts (Read i) = acts (state v) d w k ts (Read i) (option_map (read (state v)) (inside (slot w.slots i))) Rest
-first v d w k ts (FromThis i kind) = on (asks v d w k ts i kind) (acts (state v) d w k ts (FromThis i kind) None Rest) (inside (slot w.slots i))
+first v d w k ts (Share i) = acts v d w k ts (Share i) (option_map share (slot w.slots i)) Rest
+first v d w k ts (Put i) = acts v d w k ts (Put i) (option_map (leave (state v)) (slot w.slots i)) Rest
+first v d w k ts (Leave i) = acts v d w k ts (Leave i) (option_map (leave (state v)) (slot w.slots i)) Rest
+first v d w k ts (Clear i) = acts v d w k ts (Clear i) (option_map (leave (state v)) (slot w.slots i)) Rest
+first v d w k ts (Count i) = acts v d w k ts (Count i) (option_map (tell v) (slot w.slots i)) Rest
+first v d w k ts (Downgrade i) = acts v d w k ts (Downgrade i) (option_map downgrade (slot w.slots i)) Rest
+first v d w k ts (Lock i must) = let a = Lock i must in on (looks v d w k ts a) (acts v d w k ts a None Rest) (locked w.slots a)
+first v d w k ts (Expired i) = acts v d w k ts (Expired i) (option_map (tell_expired (state v)) (slot w.slots i)) Rest
+first v d w k ts (Read i) = acts v d w k ts (Read i) (option_map (read (state v)) (inside (slot w.slots i))) Rest
+first v d w k ts (FromThis i kind) = on (asks v d w k ts i kind) (acts v d w k ts (FromThis i kind) None Rest) (inside (slot w.slots i))
 first v d w k ts (Alias i j field) =
-    acts (state v) d w k ts (Alias i j field) (option_map (alias (aliased field (place_in w.slots j))) (owner_slot (slot w.slots i))) Rest
-first v d w k ts (Move i) = acts (state v) d w k ts (Move i) None Rest
-first v d w k ts (Ask q) = acts (state v) d w k ts (Ask q) None Rest
-first v d w k ts (Offer i c) = acts (state v) d w k ts (Offer i c) (option_map share (offered w.slots i c)) Rest
-first v d w k ts (Swap c) = let a = Swap c in on_going (sends v d w k ts a) (acts (state v) d w k ts a None Rest) (going w.slots a)
-first v d w k ts (Exchange i c) = let a = Exchange i c in on_going (sends v d w k ts a) (acts (state v) d w k ts a None Rest) (going w.slots a)
-first v d w k ts Drop = acts (state v) d w k ts Drop (option_map (leave (state v)) (slot w.slots (other w.slots))) Rest
+    acts v d w k ts (Alias i j field) (option_map (alias (aliased field (place_in w.slots j))) (owner_slot (slot w.slots i))) Rest
+first v d w k ts (Move i) = acts v d w k ts (Move i) None Rest
+first v d w k ts (Ask q) = acts v d w k ts (Ask q) None Rest
+first v d w k ts (Offer i c) = acts v d w k ts (Offer i c) (option_map share (offered w.slots i c)) Rest
+first v d w k ts (Swap c) = let a = Swap c in on_going (sends v d w k ts a) (acts v d w k ts a None Rest) (going w.slots a)
+first v d w k ts (Exchange i c) = let a = Exchange i c in on_going (sends v d w k ts a) (acts v d w k ts a None Rest) (going w.slots a)
+first v d w k ts (Load c) = let x = cell_at (state v) c in sees v d w k ts (Load c) x None (seen v x)
+first v d w k ts (Compare i c weak) =
+    let x = cell_at (state v) c in
+    compares v d w k ts (Compare i c weak) x (compared_in w.slots (comparing w.slots i weak)) (seen v x)
+first v d w k ts Drop = acts v d w k ts Drop (option_map (leave (state v)) (slot w.slots (other w.slots))) Rest
 
 abbrev pub begun : Story → ℕ → Walk → List Task → Option Step
 begun v d w [] = None
@@ -127,12 +183,46 @@ tried v d w word (t ∷ ts) = option_map (tries v d w t.statement ts t.act word)
 -- the object gives pointers to itself: one is taken
 abbrev pub given : Story → ℕ → Walk → ℕ → Kind → Pointer → List Task → Option Step
 given v d w i kind x [] = None
-given v d w i kind x (t ∷ ts) = Some (acts (state v) d w t.statement ts (FromThis i kind) (Some (give kind x)) Rest)
+given v d w i kind x (t ∷ ts) = Some (acts v d w t.statement ts (FromThis i kind) (Some (give kind x)) Rest)
 
 -- the funds are brought: the swap
 abbrev pub sent : Story → ℕ → Walk → List Task → Option Step
 sent v d w [] = None
 sent v d w (t ∷ ts) = option_map (λ (x : Going). swaps v d w t.statement ts t.act x.0 x.1) (going w.slots t.act)
+
+-- the next step of an act on a cell that was seen to hold this
+abbrev pub saw_on : Story → ℕ → Walk → ℕ → List Task → CellWord → Act → Option Step
+saw_on v d w k ts x (Load c) = Some (takes v d w k ts (Load c) (cell_at (state v) c) None x)
+saw_on v d w k ts x (Compare i c weak) =
+    Some (settles v d w k ts (Compare i c weak) (cell_at (state v) c) (compared_in w.slots (comparing w.slots i weak)) x)
+saw_on v d w k ts x _ = None
+
+abbrev pub saw : Story → ℕ → Walk → CellWord → List Task → Option Step
+saw v d w x [] = None
+saw v d w x (t ∷ ts) = saw_on v d w t.statement ts x t.act
+
+-- the next step of a compare whose cell was seen to hold what is expected, and which has brought the funds of what is to go in
+abbrev pub matched_on : Story → ℕ → Walk → ℕ → List Task → CellWord → Act → Option Step
+matched_on v d w k ts x (Compare i c weak) =
+    Some (matches v d w k ts (Compare i c weak) (cell_at (state v) c) (compared_in w.slots (comparing w.slots i weak)) x)
+matched_on v d w k ts x _ = None
+
+abbrev pub matched : Story → ℕ → Walk → CellWord → List Task → Option Step
+matched v d w x [] = None
+matched v d w x (t ∷ ts) = matched_on v d w t.statement ts x t.act
+
+-- the next step of a thread that took a fund of a cell, whose value had an object in this block. The fund becomes a handle. Where
+-- many were taken, as many are brought while the cell holds the value, and put in their place; where the cell shows something else by
+-- then they are given back, and it is looked at again
+abbrev pub refills_on : Story → Walk → Stage → Cell → CellWord → ℕ → Block → Step
+refills_on v w Turning c x k b =
+    within w k (Some (deed.OnCell (cell_deed.Turn (kind_in (state v) c) b))) (cond (is_low x) (Refill Checking c x k) Rest)
+refills_on v w Checking c x k b = within w k None (cond (is_drained x (seen v c)) (Refill Lacking c (seen v c) k) Rest)
+refills_on v w Lacking c x k b = within w k (Some (deed.OnCell (cell_deed.Bring (kind_in (state v) c) b x.place x.taken))) (Refill Refilling c x k)
+refills_on v w Refilling c x k b =
+    cond (word_at v c == cell_bits x) (within w k (Some (deed.OnCell (cell_deed.Refill c x.taken))) Rest) (within w k None (Refill Failing c x k))
+refills_on v w Failing c x k b =
+    within w k (Some (deed.OnCell (cell_deed.GiveBack (kind_in (state v) c) b x.taken))) (Refill Checking c x k)
 
 -- funds are given back
 abbrev pub returns : Walk → Kind → Block → ℕ → ℕ → Step
@@ -179,6 +269,9 @@ step_at v d (Making b i differs) w = made_on v d w b i differs w.todo
 step_at v d (Locking word) w = tried v d w word w.todo
 step_at v d (Giving i kind x) w = given v d w i kind x w.todo
 step_at v d Brought w = sent v d w w.todo
+step_at v d (Saw x) w = saw v d w x w.todo
+step_at v d (Matched x) w = matched v d w x w.todo
+step_at v d (Refill stage c x k) w = option_map (refills_on v w stage c x k) x.owned
 step_at v d (Returning kind b funds k) w = Some (returns w kind b funds k)
 
 -- what it makes of the table
@@ -202,7 +295,28 @@ abbrev pub is_event : Story → Option Deed → Bool
 is_event v None = false
 is_event v (Some x) = is_some (event_of v x)
 
--- what the step answers: an event says so, and nothing waits
+-- the next act looks at a cell of whose value all funds were taken, and which it loads, or finds to differ: it waits until some are put
+-- back
+abbrev pub waits_on : Story → Walk → Act → Bool
+waits_on v w (Load c) = is_spent (seen v (cell_at (state v) c))
+waits_on v w (Compare i c weak) =
+    let x = seen v (cell_at (state v) c) in not (same_value x (as_word (value w.slots i))) && is_spent x
+waits_on v w _ = false
+
+abbrev pub waits_at : Story → Walk → List Ending → List Task → Bool
+waits_at v w [] [] = false
+waits_at v w [] (t ∷ ts) = waits_on v w t.act
+waits_at v w (e ∷ es) ts = false
+
+abbrev pub waits : Story → Half → Walk → Bool
+waits v Rest w = waits_at v w w.endings w.todo
+waits v _ w = false
+
+-- what the step answers, where it doesn't wait: an event says so
 abbrev pub stepped : Story → Option Step → Stepped
 stepped v None = Done
 stepped v (Some x) = cond (is_event v x.deed) (Event x.said) (Quiet x.said)
+
+-- and a step that waits says so
+abbrev pub answered : Story → ℕ → Half → Walk → Stepped
+answered v d h w = cond (waits v h w) Waited (stepped v (step_at v d h w))

@@ -1,30 +1,48 @@
 -- A thread of the machine, and how it fits the table. All of it is own.
-use Rattle.std.specs.Prelude.{◌≡◌, ℕ, ◌<◌, ◌≤◌, ◌⊎◌, [], ◌∷◌, Bool, true, false, length, is_some, All, Option, Some, None}
+use Rattle.std.specs.Prelude.{◌≡◌, ◌≢◌, ℕ, ◌<◌, ◌≤◌, ◌⊎◌, [], ◌∷◌, Bool, true, false, length, is_some, All, Option, Some, None}
 use Rattle.std.specs.List.Sorted.{IsPermutation}
 use Rattle.control_word.specs.declared.handle.Kind.{Kind}
 use Rattle.control_word.specs.declared.handle.Kind.TheVariants.{Weak}
+use Rattle.control_word.specs.declared.cell.CellWord.{CellWord}
+use Rattle.step_threads.specs.declared.act.Act.{Act}
 use Rattle.step_table.specs.declared.form.Form.{Form}
-use Rattle.step_threads.specs.declared.act.Act.TheVariants.{Make, FromThis}
+use Rattle.step_threads.specs.declared.act.Act.TheVariants.{Make, FromThis, Load, Compare}
 use Rattle.step_threads.specs.declared.act.Task.{Task}
 use Rattle.step_threads.specs.declared.course.Course.{Course}
 use Rattle.step_threads.specs.declared.half.Half.{Half}
-use Rattle.step_threads.specs.declared.half.Half.TheVariants.{Rest, Making, Locking, Giving, Brought, Returning}
+use Rattle.step_threads.specs.declared.half.Half.TheVariants.{Rest, Making, Locking, Giving, Brought, Saw, Matched, Refill, Returning}
 use Rattle.step_threads.specs.declared.said.Stepped.{Stepped}
 use Rattle.step_threads.specs.declared.thread.Thread.{Thread}
 use Rattle.step_threads.specs.Actors.{HalfFits, Stocks}
 use Rattle.step_threads.specs.Courses.{CourseReady, CourseStill, HasCell, form_of, going, locked, task_at, walk}
 use Rattle.step_table.specs.declared.holdings.Pointer.{Pointer}
 use Rattle.step_threads.specs.Endings.{EndsAll}
-use Rattle.step_table.specs.Holdings.{Holds, inside, is_full, slot}
+use Rattle.step_table.specs.Contents.{as_word, same_value}
+use Rattle.step_table.specs.Holdings.{Holds, Slots, inside, is_full, slot, value}
 use Rattle.step_threads.specs.Stocks.{Stored}
-use Rattle.step_threads.specs.Steps.{half_by, step_at, stepped, story_by, walk_by}
+use Rattle.step_threads.specs.Steps.{answered, half_by, step_at, story_by, walk_by}
 use Rattle.step_table.specs.Stories.{Story}
 
 -- what the next act makes, where it makes an object
 abbrev pub form_at : Course → Form
 form_at c = form_of (task_at c).act
 
--- a make, a lock, a pointer from this or a swap that is under way is the next act, and no object ends
+-- what was seen can be loaded: it has an object, and not all of its funds were taken
+abbrev pub IsLoaded : CellWord → Type 0
+IsLoaded x = (x.owned ≢ None) × (x.taken < 256)
+
+-- the next act loads what was seen, or compares it
+abbrev pub IsSeenBy : Slots → CellWord → Act → Type 0
+IsSeenBy slots x (Load c) = IsLoaded x
+IsSeenBy slots x (Compare k c weak) = (same_value x (as_word (value slots k)) ≡ true) ⊎ IsLoaded x
+IsSeenBy slots x _ = ⊥
+
+-- it swaps what was seen, which is what it expects
+abbrev pub IsMatchedBy : Slots → CellWord → Act → Type 0
+IsMatchedBy slots x (Compare k c weak) = same_value x (as_word (value slots k)) ≡ true
+IsMatchedBy slots x _ = ⊥
+
+-- a make, a lock, a pointer from this or an act on a cell that is under way is the next act, and no object ends
 abbrev pub IsNext : Half → Course → Type 0
 IsNext Rest c = Unit {0}
 IsNext (Making b i differs) c = (c.at < length c.tasks.items) × ((task_at c).act ≡ Make (form_at c)) × (c.endings.list ≡ [])
@@ -32,6 +50,9 @@ IsNext (Locking word) c = (c.at < length c.tasks.items) × (is_full (locked c.ho
 IsNext (Giving i kind x) c =
     (c.at < length c.tasks.items) × ((task_at c).act ≡ FromThis i kind) × (inside (slot c.holdings.slots.items i) ≡ Some x) × (c.endings.list ≡ [])
 IsNext Brought c = (c.at < length c.tasks.items) × (is_some (going c.holdings.slots.items (task_at c).act) ≡ true) × (c.endings.list ≡ [])
+IsNext (Saw x) c = (c.at < length c.tasks.items) × IsSeenBy c.holdings.slots.items x (task_at c).act × (c.endings.list ≡ [])
+IsNext (Matched x) c = (c.at < length c.tasks.items) × IsMatchedBy c.holdings.slots.items x (task_at c).act × (c.endings.list ≡ [])
+IsNext (Refill stage cell x k) c = Unit {0}
 IsNext (Returning kind b funds k) c = Unit {0}
 
 -- the objects that end in a thread's hands are those of its endings; there is room for more, and nothing was taken meanwhile
@@ -55,7 +76,7 @@ pub record Fits (d : ℕ) (t : Thread) (v : Story) : Type 0 where
 
 -- the thread made its step, and the table is as that left it
 pub record HasStepped (d : ℕ) (t : Thread) (v : Story) (r : Stepped) (t' : Thread) (v' : Story) : Type 0 where
-  pub answer : r ≡ stepped v (step_at v d t.half (walk t.course))
+  pub answer : r ≡ answered v d t.half (walk t.course)
   pub story : v' ≡ story_by v d (step_at v d t.half (walk t.course))
   pub place : walk t'.course ≡ walk_by (walk t.course) (step_at v d t.half (walk t.course))
   pub half : t'.half ≡ half_by t.half (step_at v d t.half (walk t.course))

@@ -88,6 +88,18 @@ pub enum Act {
         name: u8,
         cell: CellName,
     },
+    /// Takes what a cell holds, which stays there.
+    Load {
+        cell: CellName,
+    },
+    /// Compares what a cell holds with what a name holds. Where it is equivalent, what was taken goes into the cell, and what the
+    /// cell held is to be dropped. Else what was taken is to be dropped, and what the cell holds is taken. It is no act where nothing
+    /// was taken that may go into the cell, or the name holds nothing that may.
+    Compare {
+        name: u8,
+        cell: CellName,
+        weak: bool,
+    },
     /// Leaves what is to be dropped. It is no act where that is nothing.
     Drop,
 }
@@ -139,6 +151,12 @@ pub enum Tail {
     Named(Name),
     /// It goes into a cell, and what the cell held is dropped.
     Into(CellName),
+    /// It goes into a cell that is equivalent to a name, and what the cell held is dropped; else the name gets what the cell holds.
+    IntoAs {
+        cell: CellName,
+        name: Name,
+        weak: bool,
+    },
 }
 
 /// The tasks of a call.
@@ -156,6 +174,16 @@ fn add(tasks: &mut Vec<Task>, statement: u32, call: Call) -> Result<(), AllocErr
         }
         Tail::Into(cell) => {
             let act = Act::Swap { cell };
+            tasks.push(Task { statement, act })?;
+            let act = Act::Drop;
+            tasks.push(Task { statement, act })?;
+            Ok(())
+        }
+        Tail::IntoAs { cell, name, weak } => {
+            let name = name.0;
+            let act = Act::Compare { name, cell, weak };
+            tasks.push(Task { statement, act })?;
+            let act = Act::Put { name };
             tasks.push(Task { statement, act })?;
             let act = Act::Drop;
             tasks.push(Task { statement, act })?;
@@ -201,15 +229,26 @@ fn parts(call: Call) -> (Act, Tail)
         Call::Place { name } => (place(name), Tail::Nothing),
         Call::Same { first, second } => (same(first, second), Tail::Nothing),
         Call::Before { first, second } => (before(first, second), Tail::Nothing),
-        Call::Store { cell, source } => {
-            let name = source.0;
-            (Act::Offer { name, cell }, Tail::Into(cell))
-        }
+        Call::Store { cell, source } => (offer(source.0, cell), Tail::Into(cell)),
         Call::Exchange {
             cell,
             name: Name(name),
         } => (Act::Exchange { name, cell }, Tail::Nothing),
+        Call::Load { target, cell } => (Act::Load { cell }, Tail::Named(target)),
+        Call::Compare {
+            cell,
+            expected: name,
+            desired: Name(source),
+            weak,
+        } => (offer(source, cell), Tail::IntoAs { cell, name, weak }),
     }
+}
+
+/// A copy of a name, for a cell.
+fn offer(name: u8, cell: CellName) -> Act
+    ensures { result ≡ Act.Offer name cell }
+{
+    Act::Offer { name, cell }
 }
 
 /// A make of an object with these fields and flags.

@@ -153,6 +153,22 @@ pub enum Call {
         cell: CellName,
         name: Name,
     },
+    /// The target becomes what the cell is, which stays as it is ([util.smartptr.atomic.shared], [util.smartptr.atomic.weak],
+    /// `load`).
+    Load {
+        target: Name,
+        cell: CellName,
+    },
+    /// Where the cell is equivalent to `expected`, that is, where it stores the same place and shares the same ownership or both own
+    /// nothing, it becomes what `desired` is, and what it was is left. Else `expected` becomes what the cell is. It answers which
+    /// ([util.smartptr.atomic.shared], [util.smartptr.atomic.weak], `compare_exchange_strong`, and `compare_exchange_weak` where it is
+    /// `weak`: that might also answer no on an equivalent value, but doesn't here).
+    Compare {
+        cell: CellName,
+        expected: Name,
+        desired: Name,
+        weak: bool,
+    },
 }
 
 /// An actor: the kinds of its names, by their numbers, and its calls in order.

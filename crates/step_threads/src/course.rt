@@ -1,11 +1,10 @@
 //! How a thread goes on from act to act.
 ghost use Rattle.std.specs.Prelude.{◌≡◌, ◌⊎◌, ◌+◌, ◌<◌, ◌≤◌, ◌==◌, ◌∷◌, ℕ, length, drop, true, false, cond, slice_set, Option, Some, None, option_map};
-ghost use Rattle.control_word.specs.State.{count};
 ghost use Rattle.control_word.specs.declared.handle.Kind.TheVariants.{Owner};
 ghost use Rattle.control_word.specs.Words.{flags_of};
-ghost use Rattle.step_table.specs.Deeds.{as_weak, downgrade, is_expired, is_last, leave, owned, share, tell, tell_expired};
+ghost use Rattle.step_table.specs.Deeds.{as_weak, by_word, downgrade, is_expired, is_last, leave, share, tell, tell_expired};
 ghost use Rattle.step_table.specs.Holdings.{Holds, filled, is_full, plain, slot, value};
-ghost use Rattle.step_table.specs.Stories.{IsMaking, Plain, Story, after, known, object_in, pending, state};
+ghost use Rattle.step_table.specs.Stories.{IsMaking, Story, after, known, object_in, pending, state};
 ghost use Rattle.step_table.specs.declared.holdings.Pointer.{Pointer};
 ghost use Rattle.step_table.specs.declared.slot.Slot.TheVariants.{Full};
 ghost use Rattle.control_word.specs.Events.{origin};
@@ -45,6 +44,7 @@ impl Course {
             Act::Put { name } => !(self.taken && self.holdings.is_full(usize::from(name))),
             Act::Clear { name } => !self.holdings.is_full(usize::from(name)),
             Act::Swap { cell } => !(self.taken && self.may_go_in(self.holdings.hand(), cell)),
+            Act::Compare { name, cell, .. } => !self.is_compared(name, cell),
             Act::Drop => !self.holdings.is_full(self.holdings.other()),
             _ => false,
         }
@@ -62,7 +62,7 @@ impl Course {
         let other = self.holdings.other();
         match act {
             Act::Put { name } => self.put_down(usize::from(name)),
-            Act::Swap { .. } => self.put_down(other),
+            Act::Swap { .. } | Act::Compare { .. } => self.put_down(other),
             Act::Drop => self.holdings.set_empty(other, None),
             _ => {}
         }
@@ -232,13 +232,12 @@ impl Course {
         }
     }
 
-    /// How many owners the object has that a name holds; 0 where it is empty.
+    /// How many owners the object has that a name holds, as its word tells; 0 where it is empty.
     pub fn count(&mut self, desk: usize, table: &mut Table, name: u8) -> u32
         requires can { CanAct desk self.old table.old }
-        requires plain { Plain table.old }
         requires act { (task_at self.old).act ≡ Act.Count name }
-        ensures exact { result ≡ on (λ x. count (state table.old) (owned (state table.old) x)) 0 (slot self.old.holdings.slots.items name) }
-        ensures table { table.new ≡ done_on (tell (state table.old)) table.old desk (slot self.old.holdings.slots.items name) }
+        ensures told { result ≡ on (by_word table.old (state table.old)) 0 (slot self.old.holdings.slots.items name) }
+        ensures table { table.new ≡ done_on (tell table.old) table.old desk (slot self.old.holdings.slots.items name) }
         ensures walk { walk self.new ≡ settled self.old.holdings.slots.items self.old.taken self.old.endings.list (rest self.old) }
         ensures on { HasGoneOn desk self.old self.new table.new }
     {

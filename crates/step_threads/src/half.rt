@@ -8,9 +8,12 @@ ghost use Rattle.step_threads.specs.declared.act.Act.{Act};
 ghost use Rattle.step_threads.specs.declared.ending.Ending.{Ending};
 ghost use Rattle.step_table.specs.declared.past.Deed.{Deed};
 
+use control_word::CellWord;
 use control_word::handle::Kind;
 use control_word::place::Block;
+use step_table::cell_deed::Cell;
 use step_table::holdings::Pointer;
+use step_table::refill::Stage;
 
 /// What a thread has begun and not ended.
 #[derive(Clone, Copy, Debug, PartialEq, Eq)]
@@ -37,6 +40,24 @@ pub enum Half {
     },
     /// The funds of what goes into a cell are brought: the swap is next.
     Brought,
+    /// A cell that is loaded or compared was seen to hold this: where it shows that still, it is loaded next, or found to differ, or
+    /// swapped.
+    Saw {
+        found: CellWord,
+    },
+    /// A cell was seen to hold this, which is what is expected, and the funds of what is to go in are brought: where the cell shows
+    /// that still, it is swapped next.
+    Matched {
+        found: CellWord,
+    },
+    /// A fund of a cell, which showed this since, was taken by this statement: it is turned next, and many that were taken are put
+    /// back.
+    Refill {
+        stage: Stage,
+        cell: Cell,
+        found: CellWord,
+        statement: u32,
+    },
     /// The funds of what came out of a cell by this statement, but for those that were taken, are given back next.
     Returning {
         kind: Kind,

@@ -22,6 +22,8 @@ pub enum Answer {
     Same(bool),
     /// Whether the first comes before the second by what they own.
     Before(bool),
+    /// Whether a cell was equivalent to what was expected.
+    Compared(bool),
     /// The statement is refused, and does nothing.
     Refused(Refusal),
 }

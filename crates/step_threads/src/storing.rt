@@ -188,7 +188,7 @@ impl Thread {
 }
 
 /// The funds of what came out of a cell that were not taken are given back, where it has an object.
-fn returning(kind: Kind, statement: u32, found: CellWord) -> Half
+pub fn returning(kind: Kind, statement: u32, found: CellWord) -> Half
     requires { found.taken ≤ 256 }
     ensures { result ≡ gives_back kind statement found found.owned }
 {

@@ -43,6 +43,14 @@ impl Thread {
                 pointer,
             } => self.give(desk, table, name, kind, pointer),
             Half::Brought => self.put_in(desk, table),
+            Half::Saw { found } => self.look_on(desk, table, found),
+            Half::Matched { found } => self.match_on(desk, table, found),
+            Half::Refill {
+                stage,
+                cell,
+                found,
+                statement,
+            } => self.refill_on(desk, table, stage, cell, found, statement),
             Half::Returning {
                 kind,
                 block,
@@ -69,7 +77,6 @@ impl Thread {
     /// The next act, or the first step of it.
     fn act(&mut self, desk: usize, table: &mut Table) -> Stepped
         requires fits { Fits desk self.old table.old }
-        requires plain { Plain table.old }
         requires rest { self.old.half ≡ Half.Rest }
         requires none { self.old.course.endings.list ≡ [] }
         ensures stepped { HasStepped desk self.old table.old result self.new table.new }
@@ -95,6 +102,8 @@ impl Thread {
             Act::Offer { name, cell } => self.offer(desk, table, name, cell),
             Act::Swap { cell } => self.store(desk, table, cell),
             Act::Exchange { name, cell } => self.send(desk, table, name, cell),
+            Act::Load { cell } => self.load(desk, table, cell),
+            Act::Compare { name, cell, weak } => self.compare(desk, table, name, cell, weak),
             Act::Drop => self.drop_other(desk, table),
         }
     }
@@ -156,10 +165,9 @@ impl Thread {
         )
     }
 
-    /// Tells how many owners the object has that a name holds; 0 where it is empty.
+    /// Tells how many owners the object has that a name holds, as its word tells; 0 where it is empty.
     fn count(&mut self, desk: usize, table: &mut Table, name: u8) -> Stepped
         requires fits { Fits desk self.old table.old }
-        requires plain { Plain table.old }
         requires rest { self.old.half ≡ Half.Rest }
         requires none { self.old.course.endings.list ≡ [] }
         requires within { self.old.course.at < length self.old.course.tasks.items }

@@ -1,0 +1,30 @@
+-- How many funds of a cell may be taken. All of it is own.
+use Rattle.std.specs.Prelude.{ℕ, ◌+◌, ◌/◌, ◌%◌, ◌<◌, ◌≤◌, ◌==◌, ◌&&◌, Bool, false, List, length}
+use Rattle.std.specs.List.{filter}
+use Rattle.control_word.specs.Packing.{cell_bits}
+use Rattle.step_table.specs.declared.cell_deed.Cell.TheVariants.{Free}
+use Rattle.step_threads.specs.declared.half.Half.{Half}
+use Rattle.step_threads.specs.declared.half.Half.TheVariants.{Refill}
+use Rattle.step_table.specs.CellDeeds.{word_of}
+use Rattle.step_table.specs.Cells.{word_at}
+use Rattle.step_table.specs.Refills.{is_low}
+use Rattle.step_table.specs.Stories.{Story}
+
+-- the value of a cell's word, without how many of its funds were taken
+abbrev pub content : ℕ → ℕ
+content word = word % 17179869184
+
+-- the thread has many funds to put back into the cell whose word lies there, and the word tells the value that they are of
+abbrev pub is_watching : ℕ → ℕ → ℕ → Half → Bool
+is_watching blocks place word (Refill stage c x k) = word_of blocks c == place && is_low x && content (cell_bits x) == content word
+is_watching blocks place word _ = false
+
+abbrev pub watchers : ℕ → ℕ → ℕ → List Half → ℕ
+watchers blocks place word halves = length (filter (is_watching blocks place word) halves)
+
+-- of no cell of the shape more funds are taken than 127, and one for each thread that has them to put back
+abbrev pub IsWatched : Story → List Half → Type 0
+IsWatched v halves =
+    let z = v.extent.shape in
+    (n : ℕ) → n < z.shared_cells + z.weak_cells
+    → word_at v (Free n) / 17179869184 ≤ 127 + watchers z.blocks (word_of z.blocks (Free n)) (word_at v (Free n)) halves
