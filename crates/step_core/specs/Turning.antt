@@ -1,5 +1,5 @@
 -- The parts of a turn. All of it is own.
-use Rattle.std.specs.Prelude.{◌≡◌, ◌⊎◌, ℕ, ◌<◌, ◌≤◌, Bool, true, false, not, ◌||◌, ◌==◌, List, [], ◌∷◌, length, slice_set, is_some, All, Option, Some, None}
+use Rattle.std.specs.Prelude.{◌≡◌, ◌≢◌, ◌⊎◌, ℕ, ◌<◌, ◌≤◌, Bool, true, false, not, ◌||◌, ◌==◌, List, [], ◌∷◌, length, slice_set, is_some, All, Option, Some, None}
 use Rattle.step_threads.specs.declared.act.Act.TheVariants.{Make, FromThis}
 use Rattle.step_threads.specs.declared.act.Task.{Task}
 use Rattle.step_threads.specs.declared.ending.Ending.{Ending}
@@ -14,6 +14,7 @@ use Rattle.control_word.specs.declared.cell.CellWord.{CellWord}
 use Rattle.control_word.specs.declared.shape.Shape.{Shape}
 use Rattle.control_word.specs.declared.view.Pending.TheVariants.{Idle}
 use Rattle.control_word.specs.Packing.{IsCellWord}
+use Rattle.control_word.specs.Views.{owes}
 use Rattle.step_threads.specs.Courses.{HasCell, Walk, form_of, going, hand, idle, locked}
 use Rattle.step_table.specs.Deeds.{Telling, is_enabled}
 use Rattle.step_threads.specs.Endings.{first_of}
@@ -22,7 +23,7 @@ use Rattle.step_threads.specs.Entries.{least}
 use Rattle.step_threads.specs.Scenes.{play_with, rested, said_with, walk_of}
 use Rattle.step_table.specs.Stories.{AllBare, Kept, Story, pending, state}
 use Rattle.step_threads.specs.Threads.{IsMatchedBy, IsSeenBy}
-use Rattle.step_core.specs.Worlds.{Sight, TellsAll, half_of, scene}
+use Rattle.step_core.specs.Worlds.{Sight, TellsAll, half_of, is_loading, scene}
 
 -- a make that is under way is the next act, in the least block of the store
 abbrev pub IsUnderWay : ℕ → Story → Half → List Task → Type 0
@@ -97,6 +98,10 @@ IsProper d v (Matched x) = IsCellWord x
 IsProper d v (Refill stage c x k) = is_some x.owned ≡ true
 IsProper d v _ = Unit {0}
 
+-- what another thread has half done is a load only where its half says so
+abbrev pub OthersOwe : ℕ → Sight → Type 0
+OthersOwe d u = (e : ℕ) → e ≢ d → is_loading (half_of u e) ≡ false → (i : ℕ) → owes (pending u.story e) i ≡ 0
+
 -- between two steps of thread d: where objects end nothing is in hand, and no member of an object holds anything
 pub record HasBegun (d : ℕ) (u : Sight) : Type 0 where
   pub within : d < length u.halves
@@ -113,6 +118,7 @@ pub record HasBegun (d : ℕ) (u : Sight) : Type 0 where
   pub holds : Holds d (walk_of (scene u) d).slots u.story
   pub still : IsStill (walk_of (scene u) d) (walk_of (scene u) d).todo
   pub proper : IsProper d u.story (half_of u d)
+  pub others : OthersOwe d u
 
 -- the thread's endings go on by themselves
 abbrev pub is_ending : Sight → ℕ → Bool

@@ -1,14 +1,15 @@
 -- What clauses see of a world, and what steps and turns of a thread do to it. All of it is own.
-use Rattle.std.specs.Prelude.{◌≡◌, ℕ, List, [], ◌∷◌, get_or, slice_get, slice_set, Option, Some, None}
+use Rattle.std.specs.Prelude.{◌≡◌, ◌≢◌, ℕ, Bool, true, false, List, [], ◌∷◌, get_or, slice_get, slice_set, Option, Some, None}
 use Rattle.step_threads.specs.declared.half.Half.{Half}
-use Rattle.step_threads.specs.declared.half.Half.TheVariants.{Rest}
+use Rattle.step_threads.specs.declared.half.Half.TheVariants.{Rest, Refill}
+use Rattle.step_table.specs.declared.refill.Stage.TheVariants.{Turning}
 use Rattle.step_table.specs.declared.holdings.Pointer.{Pointer}
 use Rattle.step_threads.specs.declared.said.Stepped.{Stepped}
 use Rattle.step_threads.specs.declared.said.Turned.{Turned}
 use Rattle.step_threads.specs.declared.said.Turned.TheVariants.{Acted, Waited, Done}
 use Rattle.step_threads.specs.declared.thread.Thread.{Thread}
 use Rattle.step_threads.specs.Courses.{Walk, walk}
-use Rattle.step_table.specs.Deeds.{Telling, Tells}
+use Rattle.step_table.specs.Deeds.{Telling, Tells, exact}
 use Rattle.step_table.specs.Holdings.{slot}
 use Rattle.step_threads.specs.Scenes.{Scene, next, play_with, rested, said_with, state_in, walk_of}
 use Rattle.step_threads.specs.Steps.{Step, answered, half_by, step_at, story_by, walk_by}
@@ -66,9 +67,19 @@ StepsBy d u (r ∷ rs) u' = (m : Sight) × Steps d u r m × Kept m.story × Step
 abbrev pub GoesTo : ℕ → Sight → Sight → Type 0
 GoesTo d u u' = (rs : List Stepped) × StepsBy d u rs u'
 
--- counts are told so of what thread d has in its slots
-abbrev pub TellsAll : ℕ → Sight → Scene → Telling → Type 0
-TellsAll d u c tell = (i : ℕ) (x : Pointer) → slot (walk_of c d).slots i ≡ Some x → Tells u.story d (state_in c) tell x
+-- a thread has a load under way: the fund that it took isn't turned yet
+abbrev pub is_loading : Half → Bool
+is_loading (Refill Turning c x k) = true
+is_loading _ = false
+
+-- no thread but d has one
+abbrev pub NoneLoads : ℕ → Sight → Type 0
+NoneLoads d u = (e : ℕ) → e ≢ d → is_loading (half_of u e) ≡ false
+
+-- counts are told so of what thread d has in its slots, and exactly where no other thread has a load under way
+pub record TellsAll (d : ℕ) (u : Sight) (c : Scene) (tell : Telling) : Type 0 where
+  pub each : (i : ℕ) (x : Pointer) → slot (walk_of c d).slots i ≡ Some x → Tells u.story d (state_in c) tell x
+  pub settled : NoneLoads d u → (i : ℕ) (x : Pointer) → slot (walk_of c d).slots i ≡ Some x → tell (state_in c) x ≡ exact (state_in c) x
 
 -- a whole turn of thread d: its endings go on by themselves, then its next act comes, if it has one, and what that says, where a
 -- count may leave out the loads that others have under way; others are where they were

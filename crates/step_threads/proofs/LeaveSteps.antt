@@ -80,7 +80,7 @@ went_left d c c' c'' v w a o last k has leaves said walked =
 pub stepped_left : (d : ℕ) (t t' : Thread) (v w : Story) (r : Stepped) (a : Act) (o : Option Pointer) (last : Bool) (ended : Option Ended) (k : ℕ)
     → k ≡ (task_at t.course).statement → t.half ≡ Rest → t.course.endings.list ≡ [] → t.course.at < length t.course.tasks.items → (task_at t.course).act ≡ a
     → first v d (walk t.course) (task_at t.course).statement (rest t.course) a
-    ≡ acts (state v) d (walk t.course) (task_at t.course).statement (rest t.course) a (option_map (leave (state v)) o) Rest
+    ≡ acts v d (walk t.course) (task_at t.course).statement (rest t.course) a (option_map (leave (state v)) o) Rest
     → answer_of (state v) d t.course.holdings.slots.items a ≡ None → ended_of (state v) t.course.holdings.slots.items a ≡ ended_by (state v) o
     → w ≡ done_on (leave (state v)) v d o → last ≡ on (is_last (state v)) false o
     → ended ≡ on (λ x. cond last (remains_as x.kind ((state w).object (object_in w x.block))) None) None o
@@ -95,7 +95,7 @@ stepped_left d t t' v w r a o last ended k number rests none lt act one silent e
     ap (λ (m : ℕ). record { statement = m; answer = None; ended = ended }) number
     ∙ ap (λ (z : Option Ended). record { statement = n; answer = None; ended = z }) e
     ∙ ap (λ z. record { statement = n; answer = z; ended = ended_of (state v) t.course.holdings.slots.items a }) (sym silent) in
-    stepped_as d t v (acts (state v) d (walk t.course) n (rest t.course) a (option_map (leave (state v)) o) Rest) r t' w
+    stepped_as d t v (acts v d (walk t.course) n (rest t.course) a (option_map (leave (state v)) o) Rest) r t' w
     (at_act d t v a rests none lt act ∙ ap (λ (x : Step). Some x) one)
     (says_on (leave (state v)) v o r _ y (is_some o) (λ x. left_event v x x.kind (is_last (state v) x)) says (some_full o) same)
     (is ∙ on_slot (leave (state v)) v d o) (walked ∙ ap (λ (m : ℕ). went (state v) d (walk t.course) m (rest t.course) a) number) (half ∙ rests)

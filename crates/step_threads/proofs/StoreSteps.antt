@@ -17,7 +17,7 @@ module _ (d : ℕ) (t : Thread) (v : Story) (a : Act) (c : CellName) (i : ℕ) (
     (lt : t.course.at < length t.course.tasks.items) (act : (task_at t.course).act ≡ a)
     (one : first v d (walk t.course) (task_at t.course).statement (rest t.course) a
     ≡ on_going (sends v d (walk t.course) (task_at t.course).statement (rest t.course) a)
-    (acts (state v) d (walk t.course) (task_at t.course).statement (rest t.course) a None Rest) (going t.course.holdings.slots.items a)) where
+    (acts v d (walk t.course) (task_at t.course).statement (rest t.course) a None Rest) (going t.course.holdings.slots.items a)) where
   -- the first step of one that puts something in
   step_sends : t.half ≡ Rest → going t.course.holdings.slots.items a ≡ Some (c, i)
       → step_at v d t.half (walk t.course) ≡ Some (sends v d (walk t.course) (task_at t.course).statement (rest t.course) a c i)
@@ -26,7 +26,7 @@ module _ (d : ℕ) (t : Thread) (v : Story) (a : Act) (c : CellName) (i : ℕ) (
       let n = (task_at t.course).statement in
       let ts = rest t.course in
       at_act d t v a e none lt act
-      ∙ ap (λ (x : Step). Some x) (one ∙ ap (λ (g : Option Going). on_going (sends v d w n ts a) (acts (state v) d w n ts a None Rest) g) goes)
+      ∙ ap (λ (x : Step). Some x) (one ∙ ap (λ (g : Option Going). on_going (sends v d w n ts a) (acts v d w n ts a None Rest) g) goes)
 
   pub step_brings : (x : Pointer) → t.half ≡ Rest → going t.course.holdings.slots.items a ≡ Some (c, i) → slot t.course.holdings.slots.items i ≡ Some x
       → step_at v d t.half (walk t.course) ≡ Some (brings (walk t.course) (task_at t.course).statement x)

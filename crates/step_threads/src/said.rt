@@ -45,7 +45,7 @@ pub enum Stepped {
     Event(Said),
     /// An act that touches no word, or a step on the way to an event.
     Quiet(Said),
-    /// What it wanted is another's for now; nothing changed.
+    /// All funds of the value in a cell were taken, which it would load; nothing changed.
     Waited,
     /// The actor is at its end; nothing changed.
     Done,
@@ -56,7 +56,7 @@ pub enum Stepped {
 pub enum Turned {
     /// One act, with the end of the object whose last owner left by it.
     Acted(Said),
-    /// What it wanted is another's for now.
+    /// All funds of the value in a cell were taken, which it would load.
     Waited,
     /// The actor is at its end.
     Done,

@@ -7,7 +7,7 @@ use Rattle.control_word.specs.declared.handle.Kind.TheVariants.{Owner, Weak}
 use Rattle.step_threads.specs.declared.act.Act.{Act}
 use Rattle.step_threads.specs.declared.act.Task.{Task}
 use Rattle.step_threads.specs.declared.half.Half.{Half}
-use Rattle.step_threads.specs.declared.half.Half.TheVariants.{Rest, Making, Locking, Giving, Brought, Returning}
+use Rattle.step_threads.specs.declared.half.Half.TheVariants.{Rest, Making, Locking, Giving, Brought, Saw, Matched, Refill, Returning}
 use Rattle.step_table.specs.declared.holdings.Pointer.{Pointer}
 use Rattle.step_table.specs.declared.past.Deed.{Deed}
 use Rattle.step_threads.specs.declared.said.Stepped.{Stepped}
@@ -89,10 +89,10 @@ one_made h stepped.Done = omega arith
 -- the act is done by which nothing leaves
 pub plain_less : (v : Story) (d k : ℕ) (h : Half) (w : Walk) (t : Task) (ts : List Task) (a : Act) (x : Option Deed) → is_prepared h ≡ false
     → leaves_by w.slots a ≡ None → w.endings ≡ [] → w.todo ≡ t ∷ ts → 14 ≤ alone v w h → 14 ≤ spare h
-    → IsLess v d h w (Some (acts (state v) d w k ts a x Rest))
+    → IsLess v d h w (Some (acts v d w k ts a x Rest))
 plain_less v d k h w t ts a x unmade stays none is own most =
     let l = went_plain (state v) d k w t ts a none is stays in
-    let m = none_made h (stepped_by v (Some (acts (state v) d w k ts a x Rest))) unmade in
+    let m = none_made h (stepped_by v (Some (acts v d w k ts a x Rest))) unmade in
     record { own = omega (arith, l, m, own); most = omega (arith, l, m, most) }
 
 -- the steps that an object's end gets are told

@@ -12,10 +12,10 @@ use Rattle.control_word.specs.declared.place.Block.{Block}
 use Rattle.control_word.specs.Histories.{entry}
 use Rattle.control_word.specs.State.{State, weak}
 use Rattle.step_threads.specs.declared.act.Act.{Act}
-use Rattle.step_threads.specs.declared.act.Act.TheVariants.{Make, Share, Downgrade, Lock, Put, Leave, Clear, Count, Expired, Read, FromThis, Alias, Move, Ask, Offer, Swap, Exchange, Drop}
+use Rattle.step_threads.specs.declared.act.Act.TheVariants.{Make, Share, Downgrade, Lock, Put, Leave, Clear, Count, Expired, Read, FromThis, Alias, Move, Ask, Offer, Swap, Exchange, Load, Compare, Drop}
 use Rattle.step_threads.specs.declared.act.Task.{Task}
 use Rattle.step_threads.specs.declared.half.Half.{Half}
-use Rattle.step_threads.specs.declared.half.Half.TheVariants.{Rest, Making, Locking, Giving, Brought, Returning}
+use Rattle.step_threads.specs.declared.half.Half.TheVariants.{Rest, Making, Locking, Giving, Brought, Saw, Matched, Refill, Returning}
 use Rattle.step_table.specs.declared.holdings.Pointer.{Pointer}
 use Rattle.step_table.specs.declared.past.Deed.{Deed}
 use Rattle.step_table.specs.declared.past.Deed.TheVariants as deed
@@ -78,23 +78,23 @@ given s x = go (is_expired s x)
     go false = refl
 
 lock_done : (v : Story) (d k i : ℕ) (w : Walk) (ts : List Task) (must : Bool) (x : Pointer) → locked w.slots (Lock i must) ≡ Some x
-    → Tells (Some (acts (state v) d w k ts (Lock i must) (Some (lock (state v) x)) Rest))
+    → Tells (Some (acts v d w k ts (Lock i must) (Some (lock (state v) x)) Rest))
 lock_done v d k i w ts must x at =
     (must, ap (λ (o : Option Pointer). Some (lock_answer must (is_full (found (state v) o)))) at ∙ ap (λ (b : Bool). Some (lock_answer must b)) (given (state v) x))
 
 lock_tells : (v : Story) (d k i : ℕ) (w : Walk) (ts : List Task) (must : Bool) (o : Option Pointer) → locked w.slots (Lock i must) ≡ o
-    → Tells (Some (on (looks v d w k ts (Lock i must)) (acts (state v) d w k ts (Lock i must) None Rest) o))
+    → Tells (Some (on (looks v d w k ts (Lock i must)) (acts v d w k ts (Lock i must) None Rest) o))
 lock_tells v d k i w ts must None at = tt
 lock_tells v d k i w ts must (Some x) at =
-    cond_both (owner_word v x == 0) (acts (state v) d w k ts (Lock i must) (Some (lock (state v) x)) Rest) (trying w k (owner_word v x))
+    cond_both (owner_word v x == 0) (acts v d w k ts (Lock i must) (Some (lock (state v) x)) Rest) (trying w k (owner_word v x))
     (λ (s : Step). Tells (Some s)) (λ e. lock_done v d k i w ts must x at) (λ e. tt)
 
 ask_tells : (v : Story) (d k i : ℕ) (q : Kind) (w : Walk) (ts : List Task) (o : Option Pointer)
-    → Tells (Some (on (asks v d w k ts i q) (acts (state v) d w k ts (FromThis i q) None Rest) o))
+    → Tells (Some (on (asks v d w k ts i q) (acts v d w k ts (FromThis i q) None Rest) o))
 ask_tells v d k i q w ts None = tt
 ask_tells v d k i q w ts (Some x) =
     cond_both (is_enabled (state v) x) (record { deed = None; half = Giving i q x; walk = w; said = silent k })
-    (acts (state v) d w k ts (FromThis i q) None Rest) (λ (y : Step). Tells (Some y)) (λ e. tt) (λ e. tt)
+    (acts v d w k ts (FromThis i q) None Rest) (λ (y : Step). Tells (Some y)) (λ e. tt) (λ e. tt)
 
 given_tells : (v : Story) (d i : ℕ) (q : Kind) (x : Pointer) (w : Walk) (ts : List Task) → Tells (given_by v d w i q x ts)
 given_tells v d i q x w [] = tt
@@ -103,7 +103,7 @@ given_tells v d i Weak x w (t ∷ ts) = tt
 
 -- a value goes into a cell, or its funds are brought first
 going_tells : (v : Story) (d k : ℕ) (w : Walk) (ts : List Task) (a : Act) (o : Option Going)
-    → Tells (Some (on_going (sends v d w k ts a) (acts (state v) d w k ts a None Rest) o))
+    → Tells (Some (on_going (sends v d w k ts a) (acts v d w k ts a None Rest) o))
 going_tells v d k w ts a None = tt
 going_tells v d k w ts a (Some x) = go (slot w.slots x.1)
   where
@@ -180,7 +180,7 @@ tried_tells v d word w (t ∷ ts) = go t.act
     one : (i : ℕ) (must : Bool) (o : Option Pointer) → locked w.slots (Lock i must) ≡ o → Tells (option_map (tries v d w t.statement ts (Lock i must) word) o)
     one i must None at = tt
     one i must (Some x) at =
-        cond_both (owner_word v x == word) (acts (state v) d w t.statement ts (Lock i must) (Some (lock (state v) x)) Rest)
+        cond_both (owner_word v x == word) (acts v d w t.statement ts (Lock i must) (Some (lock (state v) x)) Rest)
         (trying w t.statement (owner_word v x)) (λ (s : Step). Tells (Some s)) (λ e. lock_done v d t.statement i w ts must x at) (λ e. tt)
 
     go : (a : Act) → Tells (option_map (tries v d w t.statement ts a word) (locked w.slots a))

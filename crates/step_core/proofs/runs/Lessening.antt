@@ -8,11 +8,11 @@ use Rattle.control_word.specs.declared.place.Block.{Block}
 use Rattle.control_word.specs.State.{weak}
 use Rattle.step_threads.specs.declared.act.Act.{Act}
 use Rattle.step_table.specs.declared.form.Form.{Form}
-use Rattle.step_threads.specs.declared.act.Act.TheVariants.{Make, Share, Downgrade, Lock, Put, Leave, Clear, Count, Expired, Read, FromThis, Alias, Move, Ask, Offer, Swap, Exchange, Drop}
+use Rattle.step_threads.specs.declared.act.Act.TheVariants.{Make, Share, Downgrade, Lock, Put, Leave, Clear, Count, Expired, Read, FromThis, Alias, Move, Ask, Offer, Swap, Exchange, Load, Compare, Drop}
 use Rattle.step_threads.specs.declared.act.Task.{Task}
 use Rattle.step_threads.specs.declared.ending.Ending.{Ending}
 use Rattle.step_threads.specs.declared.half.Half.{Half}
-use Rattle.step_threads.specs.declared.half.Half.TheVariants.{Rest, Making, Locking, Giving, Brought, Returning}
+use Rattle.step_threads.specs.declared.half.Half.TheVariants.{Rest, Making, Locking, Giving, Brought, Saw, Matched, Refill, Returning}
 use Rattle.step_table.specs.declared.holdings.Pointer.{Pointer}
 use Rattle.step_table.specs.declared.past.Deed.TheVariants as deed
 use Rattle.step_threads.specs.Actors.{wanted}
@@ -57,10 +57,10 @@ word_is v w t ts x is e = ap (word_of v w) is ∙ ap (on (owner_word v) 0) e
 
 looked_less : (v : Story) (d k : ℕ) (w : Walk) (t : Task) (ts : List Task) (i : ℕ) (must : Bool) (o : Option Pointer) → w.endings ≡ []
     → w.todo ≡ t ∷ ts → t.act ≡ Lock i must → locked w.slots (Lock i must) ≡ o
-    → IsLess v d Rest w (Some (on (looks v d w k ts (Lock i must)) (acts (state v) d w k ts (Lock i must) None Rest) o))
+    → IsLess v d Rest w (Some (on (looks v d w k ts (Lock i must)) (acts v d w k ts (Lock i must) None Rest) o))
 looked_less v d k w t ts i must None none is a e = plain_less v d k Rest w t ts (Lock i must) None refl refl none is (omega arith) (omega arith)
 looked_less v d k w t ts i must (Some x) none is a e =
-    cond_both (owner_word v x == 0) (acts (state v) d w k ts (Lock i must) (Some (lock (state v) x)) Rest) (trying w k (owner_word v x))
+    cond_both (owner_word v x == 0) (acts v d w k ts (Lock i must) (Some (lock (state v) x)) Rest) (trying w k (owner_word v x))
     (λ (y : Step). IsLess v d Rest w (Some y))
     (λ _. plain_less v d k Rest w t ts (Lock i must) (Some (lock (state v) x)) refl refl none is (omega arith) (omega arith))
     (λ ne. trying_less v d k Rest w (owner_word v x) (word_is v w t ts x is (ap (locked w.slots) a ∙ e)) (omega arith)
@@ -68,11 +68,11 @@ looked_less v d k w t ts i must (Some x) none is a e =
 
 -- an object that is asked has one step more: it gives a pointer then
 asked_less : (v : Story) (d k : ℕ) (w : Walk) (t : Task) (ts : List Task) (i : ℕ) (q : Kind) (o : Option Pointer) → w.endings ≡ [] → w.todo ≡ t ∷ ts
-    → IsLess v d Rest w (Some (on (asks v d w k ts i q) (acts (state v) d w k ts (FromThis i q) None Rest) o))
+    → IsLess v d Rest w (Some (on (asks v d w k ts i q) (acts v d w k ts (FromThis i q) None Rest) o))
 asked_less v d k w t ts i q None none is = plain_less v d k Rest w t ts (FromThis i q) None refl refl none is (omega arith) (omega arith)
 asked_less v d k w t ts i q (Some x) none is =
     cond_both (is_enabled (state v) x) (record { deed = None; half = Giving i q x; walk = w; said = silent k })
-    (acts (state v) d w k ts (FromThis i q) None Rest) (λ (y : Step). IsLess v d Rest w (Some y))
+    (acts v d w k ts (FromThis i q) None Rest) (λ (y : Step). IsLess v d Rest w (Some y))
     (λ b. record { own = omega arith; most = omega arith })
     (λ b. plain_less v d k Rest w t ts (FromThis i q) None refl refl none is (omega arith) (omega arith))
 
@@ -113,7 +113,7 @@ brought_less v d k w t ts a x none is same goes (Some y) = record { own = omega 
 
 going_less : (v : Story) (d k : ℕ) (w : Walk) (t : Task) (ts : List Task) (a : Act) (o : Option Going) → w.endings ≡ [] → w.todo ≡ t ∷ ts
     → t.act ≡ a → going w.slots a ≡ o → leaves_by w.slots a ≡ None
-    → IsLess v d Rest w (Some (on_going (sends v d w k ts a) (acts (state v) d w k ts a None Rest) o))
+    → IsLess v d Rest w (Some (on_going (sends v d w k ts a) (acts v d w k ts a None Rest) o))
 going_less v d k w t ts a None none is same goes stays = plain_less v d k Rest w t ts a None refl stays none is (omega arith) (omega arith)
 going_less v d k w t ts a (Some x) none is same goes stays = brought_less v d k w t ts a x none is same goes (slot w.slots x.1)
 
@@ -232,7 +232,7 @@ tried_less v d word w t ts (Lock i must) (Some x) none is same e full =
     let k = t.statement in
     let found_word = word_is v w t ts x is (ap (locked w.slots) same ∙ e) in
     let low = (alone_of_lock v w word).0 in
-    cond_both (owner_word v x == word) (acts (state v) d w k ts (Lock i must) (Some (lock (state v) x)) Rest) (trying w k (owner_word v x))
+    cond_both (owner_word v x == word) (acts v d w k ts (Lock i must) (Some (lock (state v) x)) Rest) (trying w k (owner_word v x))
     (λ (y : Step). IsLess v d (Locking word) w (Some y))
     (λ _. plain_less v d k (Locking word) w t ts (Lock i must) (Some (lock (state v) x)) refl refl none is low (omega arith))
     (λ ne. let other = alone_other v w word (ap (λ (z : ℕ). z == word) found_word ∙ ne) in

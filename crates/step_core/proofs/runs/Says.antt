@@ -11,10 +11,10 @@ use Rattle.control_word.specs.declared.place.Block.{Block}
 use Rattle.control_word.specs.declared.place.Place.{Place}
 use Rattle.control_word.specs.State.{weak}
 use Rattle.step_threads.specs.declared.act.Act.{Act}
-use Rattle.step_threads.specs.declared.act.Act.TheVariants.{Make, Share, Downgrade, Lock, Put, Leave, Clear, Count, Expired, Read, FromThis, Alias, Move, Ask, Offer, Swap, Exchange, Drop}
+use Rattle.step_threads.specs.declared.act.Act.TheVariants.{Make, Share, Downgrade, Lock, Put, Leave, Clear, Count, Expired, Read, FromThis, Alias, Move, Ask, Offer, Swap, Exchange, Load, Compare, Drop}
 use Rattle.step_threads.specs.declared.act.Task.{Task}
 use Rattle.step_threads.specs.declared.half.Half.{Half}
-use Rattle.step_threads.specs.declared.half.Half.TheVariants.{Rest, Making, Locking, Giving, Brought, Returning}
+use Rattle.step_threads.specs.declared.half.Half.TheVariants.{Rest, Making, Locking, Giving, Brought, Saw, Matched, Refill, Returning}
 use Rattle.step_table.specs.declared.holdings.Pointer.{Pointer}
 use Rattle.step_table.specs.declared.past.Deed.{Deed}
 use Rattle.step_table.specs.declared.past.Deed.TheVariants as deed
@@ -89,11 +89,11 @@ read_tells v (Some x) = refl
 
 -- an object that is asked for a pointer, or gives one, goes on
 ask_tells : (v : Story) (d k i : ℕ) (q : Kind) (w : Walk) (ts : List Task) (o : Option Pointer)
-    → Tells v (Some (on (asks v d w k ts i q) (acts (state v) d w k ts (FromThis i q) None Rest) o))
+    → Tells v (Some (on (asks v d w k ts i q) (acts v d w k ts (FromThis i q) None Rest) o))
 ask_tells v d k i q w ts None = refl
 ask_tells v d k i q w ts (Some x) =
     cond_both (is_enabled (state v) x) (record { deed = None; half = Giving i q x; walk = w; said = silent k })
-    (acts (state v) d w k ts (FromThis i q) None Rest) (λ (y : Step). Tells v (Some y)) (λ e. refl) (λ e. refl)
+    (acts v d w k ts (FromThis i q) None Rest) (λ (y : Step). Tells v (Some y)) (λ e. refl) (λ e. refl)
 
 given_tells : (v : Story) (d i : ℕ) (q : Kind) (x : Pointer) (w : Walk) (ts : List Task) → Tells v (given v d w i q x ts)
 given_tells v d i q x w [] = tt
@@ -102,12 +102,12 @@ given_tells v d i Weak x w (t ∷ ts) = refl
 
 -- a lock ends nothing, whether it is tried or done
 lock_tells : (v : Story) (d k i word : ℕ) (must : Bool) (w : Walk) (ts : List Task) (x : Pointer) (b : Bool)
-    → Tells v (Some (cond b (acts (state v) d w k ts (Lock i must) (Some (lock (state v) x)) Rest) (trying w k word)))
+    → Tells v (Some (cond b (acts v d w k ts (Lock i must) (Some (lock (state v) x)) Rest) (trying w k word)))
 lock_tells v d k i word must w ts x true = refl
 lock_tells v d k i word must w ts x false = refl
 
 look_tells : (v : Story) (d k i : ℕ) (must : Bool) (w : Walk) (ts : List Task) (o : Option Pointer)
-    → Tells v (Some (on (looks v d w k ts (Lock i must)) (acts (state v) d w k ts (Lock i must) None Rest) o))
+    → Tells v (Some (on (looks v d w k ts (Lock i must)) (acts v d w k ts (Lock i must) None Rest) o))
 look_tells v d k i must w ts None = refl
 look_tells v d k i must w ts (Some x) = lock_tells v d k i (owner_word v x) must w ts x (owner_word v x == 0)
 
@@ -148,8 +148,8 @@ send_tells v d k w ts a x goes None = (swapping (state v) w.slots a x goes).ends
 send_tells v d k w ts a x goes (Some y) = refl
 
 going_tells : (v : Story) (d k : ℕ) (w : Walk) (ts : List Task) (a : Act) (o : Option Going) → going w.slots a ≡ o
-    → Tells v (Some (acts (state v) d w k ts a None Rest))
-    → Tells v (Some (on_going (sends v d w k ts a) (acts (state v) d w k ts a None Rest) o))
+    → Tells v (Some (acts v d w k ts a None Rest))
+    → Tells v (Some (on_going (sends v d w k ts a) (acts v d w k ts a None Rest) o))
 going_tells v d k w ts a None goes idle = idle
 going_tells v d k w ts a (Some x) goes idle = send_tells v d k w ts a x goes (slot w.slots x.1)
 

@@ -6,10 +6,10 @@ use Rattle.control_word.specs.declared.place.Block.{Block}
 use Rattle.control_word.specs.State.{weak}
 use Rattle.step_threads.specs.declared.act.Act.{Act}
 use Rattle.step_table.specs.declared.form.Form.{Form}
-use Rattle.step_threads.specs.declared.act.Act.TheVariants.{Make, Share, Downgrade, Lock, Put, Leave, Clear, Count, Expired, Read, FromThis, Alias, Move, Ask, Offer, Swap, Exchange, Drop}
+use Rattle.step_threads.specs.declared.act.Act.TheVariants.{Make, Share, Downgrade, Lock, Put, Leave, Clear, Count, Expired, Read, FromThis, Alias, Move, Ask, Offer, Swap, Exchange, Load, Compare, Drop}
 use Rattle.step_threads.specs.declared.act.Task.{Task}
 use Rattle.step_threads.specs.declared.half.Half.{Half}
-use Rattle.step_threads.specs.declared.half.Half.TheVariants.{Rest, Making, Locking, Giving, Brought, Returning}
+use Rattle.step_threads.specs.declared.half.Half.TheVariants.{Rest, Making, Locking, Giving, Brought, Saw, Matched, Refill, Returning}
 use Rattle.step_table.specs.declared.holdings.Pointer.{Pointer}
 use Rattle.step_table.specs.declared.past.Deed.TheVariants as deed
 use Rattle.step_threads.specs.declared.said.Answer.{Answer}
@@ -79,13 +79,13 @@ plain v d k w t ts a none is stays = let l = went_plain (state v) d k w t ts a n
 
 -- an object is asked for a pointer, or gives one
 asked_one : (v : Story) (d k : ℕ) (w : Walk) (t : Task) (ts : List Task) (i : ℕ) (q : Kind) (o : Option Pointer) → w.endings ≡ []
-    → w.todo ≡ t ∷ ts → IsCounted v d Rest w (Some (on (asks v d w k ts i q) (acts (state v) d w k ts (FromThis i q) None Rest) o))
+    → w.todo ≡ t ∷ ts → IsCounted v d Rest w (Some (on (asks v d w k ts i q) (acts v d w k ts (FromThis i q) None Rest) o))
 asked_one v d k w t ts i q None none is =
     quiet v d k Rest Rest w (went (state v) d w k ts (FromThis i q)) (answer_of (state v) d w.slots (FromThis i q))
     (plain v d k w t ts (FromThis i q) none is refl)
 asked_one v d k w t ts i q (Some y) none is =
     cond_both (is_enabled (state v) y) (record { deed = None; half = Giving i q y; walk = w; said = silent k })
-    (acts (state v) d w k ts (FromThis i q) None Rest) (λ (x : Step). IsCounted v d Rest w (Some x))
+    (acts v d w k ts (FromThis i q) None Rest) (λ (x : Step). IsCounted v d Rest w (Some x))
     (λ b. quiet v d k Rest (Giving i q y) w w None (omega arith))
     (λ b. quiet v d k Rest Rest w (went (state v) d w k ts (FromThis i q)) (answer_of (state v) d w.slots (FromThis i q))
     (plain v d k w t ts (FromThis i q) none is refl))
@@ -110,7 +110,7 @@ counted_give v d i q y w (t ∷ ts) is none =
 -- a lock is tried, or done
 tried_or : (v : Story) (d k : ℕ) (h : Half) (w : Walk) (t : Task) (ts : List Task) (word i : ℕ) (must : Bool) (y : Pointer) (b : Bool)
     → is_prepared h ≡ false → w.endings ≡ [] → w.todo ≡ t ∷ ts
-    → IsCounted v d h w (Some (cond b (acts (state v) d w k ts (Lock i must) (Some (lock (state v) y)) Rest) (trying w k word)))
+    → IsCounted v d h w (Some (cond b (acts v d w k ts (Lock i must) (Some (lock (state v) y)) Rest) (trying w k word)))
 tried_or v d k h w t ts word i must y true e none is =
     locked_by v d k h w (went (state v) d w k ts (Lock i must)) (answer_of (state v) d w.slots (Lock i must)) y e
     (plain v d k w t ts (Lock i must) none is refl)
@@ -118,7 +118,7 @@ tried_or v d k h w t ts word i must y false e none is = quiet v d k h (cond (wor
 
 looked : (v : Story) (d k : ℕ) (w : Walk) (t : Task) (ts : List Task) (i : ℕ) (must : Bool) (o : Option Pointer) → w.endings ≡ []
     → w.todo ≡ t ∷ ts
-    → IsCounted v d Rest w (Some (on (looks v d w k ts (Lock i must)) (acts (state v) d w k ts (Lock i must) None Rest) o))
+    → IsCounted v d Rest w (Some (on (looks v d w k ts (Lock i must)) (acts v d w k ts (Lock i must) None Rest) o))
 looked v d k w t ts i must None none is =
     quiet v d k Rest Rest w (went (state v) d w k ts (Lock i must)) (answer_of (state v) d w.slots (Lock i must))
     (plain v d k w t ts (Lock i must) none is refl)
@@ -142,8 +142,8 @@ brought v d k w t ts a x none is same goes None = swapped v d k Rest w t ts a x 
 brought v d k w t ts a x none is same goes (Some y) = record { made = plus_none _; ended = plus_none _; few = omega arith }
 
 going_in : (v : Story) (d k : ℕ) (w : Walk) (t : Task) (ts : List Task) (a : Act) (o : Option Going) → w.endings ≡ [] → w.todo ≡ t ∷ ts
-    → t.act ≡ a → going w.slots a ≡ o → IsCounted v d Rest w (Some (acts (state v) d w k ts a None Rest))
-    → IsCounted v d Rest w (Some (on_going (sends v d w k ts a) (acts (state v) d w k ts a None Rest) o))
+    → t.act ≡ a → going w.slots a ≡ o → IsCounted v d Rest w (Some (acts v d w k ts a None Rest))
+    → IsCounted v d Rest w (Some (on_going (sends v d w k ts a) (acts v d w k ts a None Rest) o))
 going_in v d k w t ts a None none is same goes idle = idle
 going_in v d k w t ts a (Some x) none is same goes idle = brought v d k w t ts a x none is same goes (slot w.slots x.1)
 

@@ -6,11 +6,11 @@ use Rattle.control_word.specs.declared.handle.Kind.{Kind}
 use Rattle.control_word.specs.declared.handle.Kind.TheVariants.{Owner, Weak}
 use Rattle.control_word.specs.declared.place.Block.{Block}
 use Rattle.step_threads.specs.declared.act.Act.{Act}
-use Rattle.step_threads.specs.declared.act.Act.TheVariants.{Make, Share, Downgrade, Lock, Put, Leave, Clear, Count, Expired, Read, FromThis, Alias, Move, Ask, Offer, Swap, Exchange, Drop}
+use Rattle.step_threads.specs.declared.act.Act.TheVariants.{Make, Share, Downgrade, Lock, Put, Leave, Clear, Count, Expired, Read, FromThis, Alias, Move, Ask, Offer, Swap, Exchange, Load, Compare, Drop}
 use Rattle.step_threads.specs.declared.act.Task.{Task}
 use Rattle.step_threads.specs.declared.ending.Ending.{Ending}
 use Rattle.step_threads.specs.declared.half.Half.{Half}
-use Rattle.step_threads.specs.declared.half.Half.TheVariants.{Rest, Making, Locking, Giving, Brought, Returning}
+use Rattle.step_threads.specs.declared.half.Half.TheVariants.{Rest, Making, Locking, Giving, Brought, Saw, Matched, Refill, Returning}
 use Rattle.step_table.specs.declared.holdings.Pointer.{Pointer}
 use Rattle.step_table.specs.declared.past.Deed.{Deed}
 use Rattle.step_table.specs.declared.past.Deed.TheVariants as deed
@@ -55,18 +55,18 @@ plain_begins w k ts None = tt
 plain_begins w k ts (Some b) = tt
 
 plain_lock : (v : Story) (d : ℕ) (w : Walk) (k : ℕ) (ts : List Task) (a : Act) (o : Option Pointer)
-    → AllPlain (on (looks v d w k ts a) (acts (state v) d w k ts a None Rest) o).deed
+    → AllPlain (on (looks v d w k ts a) (acts v d w k ts a None Rest) o).deed
 plain_lock v d w k ts a None = tt
 plain_lock v d w k ts a (Some x) =
-    cond_both (owner_word v x == 0) (acts (state v) d w k ts a (Some (lock (state v) x)) Rest) (trying w k (owner_word v x))
+    cond_both (owner_word v x == 0) (acts v d w k ts a (Some (lock (state v) x)) Rest) (trying w k (owner_word v x))
     (λ (s : Step). AllPlain s.deed) (λ t. tt) (λ t. tt)
 
 plain_asks : (v : Story) (d : ℕ) (w : Walk) (k : ℕ) (ts : List Task) (i : ℕ) (kind : Kind) (o : Option Pointer)
-    → AllPlain (on (asks v d w k ts i kind) (acts (state v) d w k ts (FromThis i kind) None Rest) o).deed
+    → AllPlain (on (asks v d w k ts i kind) (acts v d w k ts (FromThis i kind) None Rest) o).deed
 plain_asks v d w k ts i kind None = tt
 plain_asks v d w k ts i kind (Some x) =
     cond_both (is_enabled (state v) x) (record { deed = None; half = Giving i kind x; walk = w; said = silent k })
-    (acts (state v) d w k ts (FromThis i kind) None Rest) (λ (s : Step). AllPlain s.deed) (λ t. tt) (λ t. tt)
+    (acts v d w k ts (FromThis i kind) None Rest) (λ (s : Step). AllPlain s.deed) (λ t. tt) (λ t. tt)
 
 plain_give : (k : Kind) (x : Pointer) → IsPlain (give k x)
 plain_give Owner x = tt
@@ -86,7 +86,7 @@ plain_send v d w k ts a x None = plain_swap (state v) x.0 (as_word (value w.slot
 plain_send v d w k ts a x (Some y) = tt
 
 plain_going : (v : Story) (d : ℕ) (w : Walk) (k : ℕ) (ts : List Task) (a : Act) (o : Option Going)
-    → AllPlain (on_going (sends v d w k ts a) (acts (state v) d w k ts a None Rest) o).deed
+    → AllPlain (on_going (sends v d w k ts a) (acts v d w k ts a None Rest) o).deed
 plain_going v d w k ts a None = tt
 plain_going v d w k ts a (Some x) = plain_send v d w k ts a x (slot w.slots x.1)
 
@@ -121,7 +121,7 @@ plain_first v d w k ts Drop = on_slot (leave (state v)) (slot w.slots (other w.s
 plain_tried : (v : Story) (d : ℕ) (w : Walk) (word k : ℕ) (ts : List Task) (a : Act) (o : Option Pointer) → IsPlainStep (option_map (tries v d w k ts a word) o)
 plain_tried v d w word k ts a None = tt
 plain_tried v d w word k ts a (Some x) =
-    cond_both (owner_word v x == word) (acts (state v) d w k ts a (Some (lock (state v) x)) Rest) (trying w k (owner_word v x))
+    cond_both (owner_word v x == word) (acts v d w k ts a (Some (lock (state v) x)) Rest) (trying w k (owner_word v x))
     (λ (s : Step). AllPlain s.deed) (λ t. tt) (λ t. tt)
 
 plain_made : (v : Story) (d : ℕ) (w : Walk) (b : Block) (i : ℕ) (differs : Bool) (ts : List Task) → IsPlainStep (made_on v d w b i differs ts)

@@ -7,7 +7,7 @@ use Rattle.control_word.specs.declared.handle.Kind.{Kind}
 use Rattle.control_word.specs.declared.handle.Kind.TheVariants.{Owner, Weak}
 use Rattle.control_word.specs.State.{Object, State, ending, put}
 use Rattle.step_threads.specs.declared.act.Act.{Act}
-use Rattle.step_threads.specs.declared.act.Act.TheVariants.{Make, Share, Downgrade, Lock, Put, Leave, Clear, Count, Expired, Read, FromThis, Alias, Move, Ask, Offer, Swap, Exchange, Drop}
+use Rattle.step_threads.specs.declared.act.Act.TheVariants.{Make, Share, Downgrade, Lock, Put, Leave, Clear, Count, Expired, Read, FromThis, Alias, Move, Ask, Offer, Swap, Exchange, Load, Compare, Drop}
 use Rattle.step_threads.specs.declared.act.Task.{Task}
 use Rattle.step_threads.specs.declared.ending.Ending.{Ending}
 use Rattle.step_threads.specs.declared.half.Half.{Half}
@@ -95,12 +95,12 @@ gave v d Weak x = refl
 -- an act by which nothing leaves
 pub plain : (v : Story) (d k : ℕ) (w : Walk) (ts : List Task) (a : Act) (x : Option Deed) (h : Half) (f : Lists) → leaves_by w.slots a ≡ None
     → (state (story_after v d x)).object ≡ (state v).object → f d ≡ w.endings → AllEnd (state v) f
-    → Right v d w f (Some (acts (state v) d w k ts a x h))
+    → Right v d w f (Some (acts v d w k ts a x h))
 plain v d k w ts a x h f stays is at all =
     let y = hands (state v) d w.slots w.taken a in
     let e = settled_endings y.0 y.1 (endings_by (state v) k w.slots w.endings a) ts in
     let n = ap (λ (o : Option Pointer). on (λ z. begins_end (state v) k z w.endings) w.endings o) stays in
-    same v d w f (Some (acts (state v) d w k ts a x h)) is (e ∙ n) at all
+    same v d w f (Some (acts v d w k ts a x h)) is (e ∙ n) at all
 
 -- a step within an act
 pub within : (v : Story) (d k : ℕ) (w : Walk) (x : Option Deed) (h : Half) (f : Lists) → (state (story_after v d x)).object ≡ (state v).object
@@ -109,11 +109,11 @@ within v d k w x h f is at all = same v d w f _ is refl at all
 
 -- an object is asked for a pointer, or gives one
 pub asked : (v : Story) (d k : ℕ) (w : Walk) (ts : List Task) (i : ℕ) (q : Kind) (f : Lists) → f d ≡ w.endings → AllEnd (state v) f → (o : Option Pointer)
-    → Right v d w f (Some (on (asks v d w k ts i q) (acts (state v) d w k ts (FromThis i q) None Rest) o))
+    → Right v d w f (Some (on (asks v d w k ts i q) (acts v d w k ts (FromThis i q) None Rest) o))
 asked v d k w ts i q f at all None = plain v d k w ts (FromThis i q) None Rest f refl refl at all
 asked v d k w ts i q f at all (Some y) =
     cond_both (is_enabled (state v) y) (record { deed = None; half = Giving i q y; walk = w; said = silent k })
-    (acts (state v) d w k ts (FromThis i q) None Rest) (λ (x : Step). Right v d w f (Some x))
+    (acts v d w k ts (FromThis i q) None Rest) (λ (x : Step). Right v d w f (Some x))
     (λ e. within v d k w None (Giving i q y) f refl at all) (λ e. plain v d k w ts (FromThis i q) None Rest f refl refl at all)
 
 pub given_on : (v : Story) (d i : ℕ) (q : Kind) (y : Pointer) (w : Walk) (f : Lists) → f d ≡ w.endings → AllEnd (state v) f → (ts : List Task)
@@ -124,13 +124,13 @@ given_on v d i q y w f at all (t ∷ ts) = plain v d t.statement w ts (FromThis 
 -- a lock is tried, or done
 tried_or : (v : Story) (d k word : ℕ) (w : Walk) (ts : List Task) (i : ℕ) (must : Bool) (f : Lists) → f d ≡ w.endings → AllEnd (state v) f
     → (y : Pointer) (c : Bool)
-    → Right v d w f (Some (cond c (acts (state v) d w k ts (Lock i must) (Some (lock (state v) y)) Rest) (trying w k word)))
+    → Right v d w f (Some (cond c (acts v d w k ts (Lock i must) (Some (lock (state v) y)) Rest) (trying w k word)))
 tried_or v d k word w ts i must f at all y true = plain v d k w ts (Lock i must) (Some (lock (state v) y)) Rest f refl refl at all
 tried_or v d k word w ts i must f at all y false = within v d k w None (cond (word == 0) Rest (Locking word)) f refl at all
 
 pub looked : (v : Story) (d k : ℕ) (w : Walk) (ts : List Task) (i : ℕ) (must : Bool) (f : Lists) → f d ≡ w.endings → AllEnd (state v) f
     → (o : Option Pointer)
-    → Right v d w f (Some (on (looks v d w k ts (Lock i must)) (acts (state v) d w k ts (Lock i must) None Rest) o))
+    → Right v d w f (Some (on (looks v d w k ts (Lock i must)) (acts v d w k ts (Lock i must) None Rest) o))
 looked v d k w ts i must f at all None = plain v d k w ts (Lock i must) None Rest f refl refl at all
 looked v d k w ts i must f at all (Some y) = tried_or v d k (owner_word v y) w ts i must f at all y (owner_word v y == 0)
 
@@ -185,7 +185,7 @@ brought v d k w ts a x f at all goes (Some y) =
 
 pub going_in : (v : Story) (d k : ℕ) (w : Walk) (ts : List Task) (a : Act) (o : Option Going) (f : Lists) → f d ≡ w.endings → AllEnd (state v) f
     → going w.slots a ≡ o → leaves_by w.slots a ≡ None
-    → Right v d w f (Some (on_going (sends v d w k ts a) (acts (state v) d w k ts a None Rest) o))
+    → Right v d w f (Some (on_going (sends v d w k ts a) (acts v d w k ts a None Rest) o))
 going_in v d k w ts a None f at all goes stays = plain v d k w ts a None Rest f stays refl at all
 going_in v d k w ts a (Some x) f at all goes stays = brought v d k w ts a x f at all goes (slot w.slots x.1)
 

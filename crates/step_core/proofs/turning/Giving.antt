@@ -8,7 +8,7 @@ use Rattle.step_threads.specs.declared.act.Act.{Act}
 use Rattle.step_threads.specs.declared.act.Act.TheVariants.{FromThis}
 use Rattle.step_threads.specs.declared.act.Task.{Task}
 use Rattle.step_threads.specs.declared.half.Half.{Half}
-use Rattle.step_threads.specs.declared.half.Half.TheVariants.{Rest, Making, Locking, Giving, Brought, Returning}
+use Rattle.step_threads.specs.declared.half.Half.TheVariants.{Rest, Making, Locking, Giving, Brought, Saw, Matched, Refill, Returning}
 use Rattle.step_table.specs.declared.holdings.Pointer.{Pointer}
 use Rattle.step_threads.specs.declared.said.Stepped.{Stepped}
 use Rattle.step_threads.specs.Courses.{Walk}
@@ -32,7 +32,7 @@ given_as d v Weak x w = refl
 
 give_so : (d : ℕ) (u : Sight) (k : ℕ) (ts : List Task) (i : ℕ) (q : Kind) (x : Pointer) → inside (slot (walk_of (scene u) d).slots i) ≡ Some x
     → is_enabled (state u.story) x ≡ true
-    → Acts d u k ts (FromThis i q) (acts (state u.story) d (walk_of (scene u) d) k ts (FromThis i q) (Some (give q x)) Rest)
+    → Acts d u k ts (FromThis i q) (acts u.story d (walk_of (scene u) d) k ts (FromThis i q) (Some (give q x)) Rest)
 give_so d u k ts i q x e is =
     let w = walk_of (scene u) d in
     let g : giving (state u.story) (inside (slot w.slots i)) ≡ Some x = ap (giving (state u.story)) e ∙ cond-true (is_enabled (state u.story) x) (Some x) None is in (
@@ -51,7 +51,7 @@ gives_by : (d : ℕ) (u : Sight) (r : Stepped) (i : ℕ) (q : Kind) (x : Pointer
 gives_by d u r i q x [] e todo way at begun answer = absurd way
 gives_by d u r i q x (t ∷ ts) e todo way at begun answer =
     let w = walk_of (scene u) d in
-    let y = acts (state u.story) d w t.statement ts (FromThis i q) (Some (give q x)) Rest in
+    let y = acts u.story d w t.statement ts (FromThis i q) (Some (give q x)) Rest in
     let is : step_of d u ≡ Some y = ap (λ (h : Half). step_at u.story d h w) e ∙ ap (λ (l : List Task). given u.story d w i q x l) todo in
     let none = subst (λ (h : Half). IsAlone h w.endings) e begun.alone in
     plays_as d u t ts y r none todo is answer (subst (λ (a : Act). Acts d u t.statement ts a y) (sym way.0) (give_so d u t.statement ts i q x at way.1)) refl

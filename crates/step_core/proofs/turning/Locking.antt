@@ -3,11 +3,11 @@ use Rattle.std.proofs.Common.{◌≡◌, ℕ, ◌==◌, Bool, true, false, cond,
 use Rattle.std.specs.Prelude.{Option, Some, None, option_map}
 use Rattle.std.proofs.lemmas.Bool.{cond-true, cond_both, false≢true}
 use Rattle.step_threads.specs.declared.act.Act.{Act}
-use Rattle.step_threads.specs.declared.act.Act.TheVariants.{Make, Share, Downgrade, Lock, Put, Leave, Clear, Count, Expired, Read, FromThis, Alias, Move, Ask, Offer, Swap, Exchange, Drop}
+use Rattle.step_threads.specs.declared.act.Act.TheVariants.{Make, Share, Downgrade, Lock, Put, Leave, Clear, Count, Expired, Read, FromThis, Alias, Move, Ask, Offer, Swap, Exchange, Load, Compare, Drop}
 use Rattle.step_threads.specs.declared.act.Task.{Task}
 use Rattle.step_threads.specs.declared.ending.Ending.{Ending}
 use Rattle.step_threads.specs.declared.half.Half.{Half}
-use Rattle.step_threads.specs.declared.half.Half.TheVariants.{Rest, Making, Locking, Giving, Brought, Returning}
+use Rattle.step_threads.specs.declared.half.Half.TheVariants.{Rest, Making, Locking, Giving, Brought, Saw, Matched, Refill, Returning}
 use Rattle.step_table.specs.declared.holdings.Pointer.{Pointer}
 use Rattle.step_threads.specs.declared.said.Stepped.{Stepped}
 use Rattle.step_threads.specs.Courses.{locked}
@@ -24,7 +24,7 @@ use Rattle.step_core.proofs.turning.Turns.{plays_on}
 
 -- the lock that is done
 abbrev done : ℕ → Sight → Task → List Task → Pointer → Step
-done d u t ts y = acts (state u.story) d (walk_of (scene u) d) t.statement ts t.act (Some (lock (state u.story) y)) Rest
+done d u t ts y = acts u.story d (walk_of (scene u) d) t.statement ts t.act (Some (lock (state u.story) y)) Rest
 
 -- a thread that locks, and what it locks
 record Locks (d : ℕ) (u : Sight) (word : ℕ) : Type 0 where
@@ -69,11 +69,11 @@ plays_done d u r t ts y none todo locks is answer begun =
 -- a look that finds no owner does the lock
 looks_done : (d : ℕ) (u : Sight) (t : Task) (ts : List Task) (y : Pointer) (a : Act) → locked (walk_of (scene u) d).slots a ≡ Some y
     → (owner_word u.story y == 0) ≡ true
-    → first u.story d (walk_of (scene u) d) t.statement ts a ≡ acts (state u.story) d (walk_of (scene u) d) t.statement ts a (Some (lock (state u.story) y)) Rest
+    → first u.story d (walk_of (scene u) d) t.statement ts a ≡ acts u.story d (walk_of (scene u) d) t.statement ts a (Some (lock (state u.story) y)) Rest
 looks_done d u t ts y (Lock i must) e zero =
     let w = walk_of (scene u) d in
     let a = Lock i must in
-    ap (λ (o : Option Pointer). on (looks u.story d w t.statement ts a) (acts (state u.story) d w t.statement ts a None Rest) o) e
+    ap (λ (o : Option Pointer). on (looks u.story d w t.statement ts a) (acts u.story d w t.statement ts a None Rest) o) e
     ∙ cond-true (owner_word u.story y == 0) _ _ zero
 looks_done d u t ts y (Make form) e zero = cc
 looks_done d u t ts y (Share i) e zero = cc

@@ -3,11 +3,11 @@ use Rattle.std.proofs.Common.{◌≡◌, ℕ, ◌<◌, ◌==◌, true, false, Li
 use Rattle.std.specs.Prelude.{Option, Some, None}
 use Rattle.std.proofs.lemmas.Bool.{cond_both, false≢true}
 use Rattle.step_threads.specs.declared.act.Act.{Act}
-use Rattle.step_threads.specs.declared.act.Act.TheVariants.{Make, Share, Downgrade, Lock, Put, Leave, Clear, Count, Expired, Read, FromThis, Alias, Move, Ask, Offer, Swap, Exchange, Drop}
+use Rattle.step_threads.specs.declared.act.Act.TheVariants.{Make, Share, Downgrade, Lock, Put, Leave, Clear, Count, Expired, Read, FromThis, Alias, Move, Ask, Offer, Swap, Exchange, Load, Compare, Drop}
 use Rattle.step_threads.specs.declared.act.Task.{Task}
 use Rattle.step_threads.specs.declared.ending.Ending.{Ending}
 use Rattle.step_threads.specs.declared.half.Half.{Half}
-use Rattle.step_threads.specs.declared.half.Half.TheVariants.{Rest, Making, Locking, Giving, Brought, Returning}
+use Rattle.step_threads.specs.declared.half.Half.TheVariants.{Rest, Making, Locking, Giving, Brought, Saw, Matched, Refill, Returning}
 use Rattle.step_table.specs.declared.holdings.Pointer.{Pointer}
 use Rattle.step_threads.specs.declared.said.Stepped.{Stepped}
 use Rattle.control_word.specs.declared.handle.Kind.{Kind}
@@ -94,25 +94,25 @@ begins_same d u k ts (Some b) is = scene_as u _ _ _ _ refl (same_walks d u)
 -- a lock that has just begun
 looks_same : (d : ℕ) (u : Sight) (k : ℕ) (ts : List Task) (a : Act) (o : Option Pointer)
     → let w = walk_of (scene u) d in
-    let x = on (looks u.story d w k ts a) (acts (state u.story) d w k ts a None Rest) o in is_acting x.half ≡ true → scene (sight_by d u (Some x)) ≡ scene u
+    let x = on (looks u.story d w k ts a) (acts u.story d w k ts a None Rest) o in is_acting x.half ≡ true → scene (sight_by d u (Some x)) ≡ scene u
 looks_same d u k ts a None is = absurd (false≢true is)
 looks_same d u k ts a (Some y) is =
     let w = walk_of (scene u) d in
     let n = owner_word u.story y in
-    cond_both (n == 0) (acts (state u.story) d w k ts a (Some (lock (state u.story) y)) Rest) (trying w k n)
+    cond_both (n == 0) (acts u.story d w k ts a (Some (lock (state u.story) y)) Rest) (trying w k n)
     (λ (x : Step). is_acting x.half ≡ true → scene (sight_by d u (Some x)) ≡ scene u) (λ t q. absurd (false≢true q))
     (λ t q. scene_as u _ _ _ _ refl (same_walks d u)) is
 
 -- an object that was just asked
 asks_same : (d : ℕ) (u : Sight) (k : ℕ) (ts : List Task) (i : ℕ) (q : Kind) (o : Option Pointer)
     → let w = walk_of (scene u) d in
-    let x = on (asks u.story d w k ts i q) (acts (state u.story) d w k ts (FromThis i q) None Rest) o in
+    let x = on (asks u.story d w k ts i q) (acts u.story d w k ts (FromThis i q) None Rest) o in
     is_acting x.half ≡ true → scene (sight_by d u (Some x)) ≡ scene u
 asks_same d u k ts i q None is = absurd (false≢true is)
 asks_same d u k ts i q (Some y) is =
     let w = walk_of (scene u) d in
     cond_both (is_enabled (state u.story) y) (record { deed = None; half = Giving i q y; walk = w; said = silent k })
-    (acts (state u.story) d w k ts (FromThis i q) None Rest) (λ (x : Step). is_acting x.half ≡ true → scene (sight_by d u (Some x)) ≡ scene u)
+    (acts u.story d w k ts (FromThis i q) None Rest) (λ (x : Step). is_acting x.half ≡ true → scene (sight_by d u (Some x)) ≡ scene u)
     (λ t z. scene_as u _ _ _ _ refl (same_walks d u)) (λ t z. absurd (false≢true z)) is
 
 first_same : (d : ℕ) (u : Sight) (k : ℕ) (ts : List Task) (a : Act)

@@ -5,7 +5,7 @@ use Rattle.std.proofs.lemmas.Bool.{cond_both, cond-false, false≢true}
 use Rattle.control_word.specs.declared.place.Place.{Place}
 use Rattle.step_threads.specs.declared.act.Act.{Act}
 use Rattle.step_table.specs.declared.form.Form.{Form}
-use Rattle.step_threads.specs.declared.act.Act.TheVariants.{Make, Share, Downgrade, Lock, Put, Leave, Clear, Count, Expired, Read, FromThis, Alias, Move, Ask, Offer, Swap, Exchange, Drop}
+use Rattle.step_threads.specs.declared.act.Act.TheVariants.{Make, Share, Downgrade, Lock, Put, Leave, Clear, Count, Expired, Read, FromThis, Alias, Move, Ask, Offer, Swap, Exchange, Load, Compare, Drop}
 use Rattle.step_threads.specs.declared.act.Task.{Task}
 use Rattle.step_threads.specs.declared.ending.Ending.{Ending}
 use Rattle.step_threads.specs.declared.half.Half.TheVariants.{Rest, Locking, Giving}
@@ -115,7 +115,7 @@ left d v (Some x) w = go x.kind (is_last (state v) x)
 
 -- a lock that is done
 pub lock_so : (d : ℕ) (u : Sight) (k : ℕ) (ts : List Task) (a : Act) (x : Pointer) → locked (walk_of (scene u) d).slots a ≡ Some x
-    → Acts d u k ts a (acts (state u.story) d (walk_of (scene u) d) k ts a (Some (lock (state u.story) x)) Rest)
+    → Acts d u k ts a (acts u.story d (walk_of (scene u) d) k ts a (Some (lock (state u.story) x)) Rest)
 lock_so d u k ts (Lock i must) x e =
     let w = walk_of (scene u) d in (
       refl,
@@ -145,7 +145,7 @@ lock_so d u k ts Drop x e = cc
 
 -- a lock of nothing
 lose_so : (d : ℕ) (u : Sight) (k : ℕ) (ts : List Task) (i : ℕ) (must : Bool) → locked (walk_of (scene u) d).slots (Lock i must) ≡ None
-    → Acts d u k ts (Lock i must) (acts (state u.story) d (walk_of (scene u) d) k ts (Lock i must) None Rest)
+    → Acts d u k ts (Lock i must) (acts u.story d (walk_of (scene u) d) k ts (Lock i must) None Rest)
 lose_so d u k ts i must e =
     let w = walk_of (scene u) d in (
       refl,
@@ -159,19 +159,19 @@ lose_so d u k ts i must e =
 pub looks_so : (d : ℕ) (u : Sight) (k : ℕ) (ts : List Task) (i : ℕ) (must : Bool) (o : Option Pointer) → locked (walk_of (scene u) d).slots (Lock i must) ≡ o
     → let w = walk_of (scene u) d in
     let a = Lock i must in
-    let x = on (looks u.story d w k ts a) (acts (state u.story) d w k ts a None Rest) o in is_acting x.half ≡ false → Acts d u k ts a x
+    let x = on (looks u.story d w k ts a) (acts u.story d w k ts a None Rest) o in is_acting x.half ≡ false → Acts d u k ts a x
 looks_so d u k ts i must None e is = lose_so d u k ts i must e
 looks_so d u k ts i must (Some y) e is =
     let w = walk_of (scene u) d in
     let a = Lock i must in
     let n = owner_word u.story y in
-    cond_both (n == 0) (acts (state u.story) d w k ts a (Some (lock (state u.story) y)) Rest) (trying w k n)
+    cond_both (n == 0) (acts u.story d w k ts a (Some (lock (state u.story) y)) Rest) (trying w k n)
     (λ (x : Step). is_acting x.half ≡ false → Acts d u k ts a x) (λ t q. lock_so d u k ts a y e)
     (λ t q. absurd (false≢true (sym q ∙ ap (λ (b : Bool). is_acting (cond b Rest (Locking n))) t))) is
 
 -- an object that gives no pointers to itself, or none to ask
 unasked_so : (d : ℕ) (u : Sight) (k : ℕ) (ts : List Task) (i : ℕ) (q : Kind) → giving (state u.story) (inside (slot (walk_of (scene u) d).slots i)) ≡ None
-    → Acts d u k ts (FromThis i q) (acts (state u.story) d (walk_of (scene u) d) k ts (FromThis i q) None Rest)
+    → Acts d u k ts (FromThis i q) (acts u.story d (walk_of (scene u) d) k ts (FromThis i q) None Rest)
 unasked_so d u k ts i q e =
     let w = walk_of (scene u) d in (
       refl,
@@ -185,13 +185,13 @@ unasked_so d u k ts i q e =
 pub asks_so : (d : ℕ) (u : Sight) (k : ℕ) (ts : List Task) (i : ℕ) (q : Kind) (o : Option Pointer) → inside (slot (walk_of (scene u) d).slots i) ≡ o
     → let w = walk_of (scene u) d in
     let a = FromThis i q in
-    let x = on (asks u.story d w k ts i q) (acts (state u.story) d w k ts a None Rest) o in is_acting x.half ≡ false → Acts d u k ts a x
+    let x = on (asks u.story d w k ts i q) (acts u.story d w k ts a None Rest) o in is_acting x.half ≡ false → Acts d u k ts a x
 asks_so d u k ts i q None e is = unasked_so d u k ts i q (ap (giving (state u.story)) e)
 asks_so d u k ts i q (Some y) e is =
     let w = walk_of (scene u) d in
     let a = FromThis i q in
     cond_both (is_enabled (state u.story) y) (record { deed = None; half = Giving i q y; walk = w; said = silent k })
-    (acts (state u.story) d w k ts a None Rest) (λ (x : Step). is_acting x.half ≡ false → Acts d u k ts a x) (λ t z. absurd (false≢true (sym z)))
+    (acts u.story d w k ts a None Rest) (λ (x : Step). is_acting x.half ≡ false → Acts d u k ts a x) (λ t z. absurd (false≢true (sym z)))
     (λ t z. unasked_so d u k ts i q (ap (giving (state u.story)) e ∙ cond-false (is_enabled (state u.story) y) (Some y) None t)) is
 
 -- the next act of a thread in whose hands no object ends

@@ -12,12 +12,12 @@ use Rattle.control_word.specs.declared.shape.Shape.{Shape}
 use Rattle.control_word.specs.Histories.{entry}
 use Rattle.control_word.specs.State.{Opening}
 use Rattle.step_threads.specs.declared.act.Act.{Act}
-use Rattle.step_threads.specs.declared.act.Act.TheVariants.{Make, Share, Downgrade, Lock, Put, Leave, Clear, Count, Expired, Read, FromThis, Alias, Move, Ask, Offer, Swap, Exchange, Drop}
+use Rattle.step_threads.specs.declared.act.Act.TheVariants.{Make, Share, Downgrade, Lock, Put, Leave, Clear, Count, Expired, Read, FromThis, Alias, Move, Ask, Offer, Swap, Exchange, Load, Compare, Drop}
 use Rattle.step_threads.specs.declared.act.Task.{Task}
 use Rattle.step_threads.specs.declared.call.CellName.{CellName}
 use Rattle.step_table.specs.declared.cell_deed.CellDeed.TheVariants as cell_deed
 use Rattle.step_threads.specs.declared.half.Half.{Half}
-use Rattle.step_threads.specs.declared.half.Half.TheVariants.{Rest, Making, Locking, Giving, Brought, Returning}
+use Rattle.step_threads.specs.declared.half.Half.TheVariants.{Rest, Making, Locking, Giving, Brought, Saw, Matched, Refill, Returning}
 use Rattle.step_table.specs.declared.holdings.Pointer.{Pointer}
 use Rattle.step_table.specs.declared.past.Deed.TheVariants as deed
 use Rattle.step_threads.specs.declared.said.Stepped.{Stepped}
@@ -128,7 +128,7 @@ pub goes_so : (d : ℕ) (u : Sight) (k : ℕ) (ts : List Task) (a : Act) (g : Op
     → acted (opening u.story.extent) d (walk_of (scene u) d).slots u.story.history a
     ≡ on_going (swaps_in (opening u.story.extent) d (walk_of (scene u) d).slots u.story.history) u.story.history (going (walk_of (scene u) d).slots a)
     → let w = walk_of (scene u) d in
-    let x = on_going (sends u.story d w k ts a) (acts (state u.story) d w k ts a None Rest) g in is_acting x.half ≡ false → Acts d u k ts a x
+    let x = on_going (sends u.story d w k ts a) (acts u.story d w k ts a None Rest) g in is_acting x.half ≡ false → Acts d u k ts a x
 goes_so d u k ts a None can e by is =
     let w = walk_of (scene u) d in
     let v = u.story in (
@@ -147,7 +147,7 @@ sends_same d u k ts a c i (Some p) is = scene_as u _ _ _ _ refl (same_walks d u)
 
 pub goes_same : (d : ℕ) (u : Sight) (k : ℕ) (ts : List Task) (a : Act) (g : Option Going)
     → let w = walk_of (scene u) d in
-    let x = on_going (sends u.story d w k ts a) (acts (state u.story) d w k ts a None Rest) g in
+    let x = on_going (sends u.story d w k ts a) (acts u.story d w k ts a None Rest) g in
     is_acting x.half ≡ true → scene (sight_by d u (Some x)) ≡ scene u
 goes_same d u k ts a None is = absurd (false≢true is)
 goes_same d u k ts a (Some g) is = sends_same d u k ts a g.0 g.1 (slot (walk_of (scene u) d).slots g.1) is

@@ -8,7 +8,7 @@ use Rattle.step_threads.specs.declared.act.Act.{Act}
 use Rattle.step_threads.specs.declared.act.Act.TheVariants.{Make}
 use Rattle.step_threads.specs.declared.act.Task.{Task}
 use Rattle.step_threads.specs.declared.half.Half.{Half}
-use Rattle.step_threads.specs.declared.half.Half.TheVariants.{Rest, Making, Locking, Giving, Brought, Returning}
+use Rattle.step_threads.specs.declared.half.Half.TheVariants.{Rest, Making, Locking, Giving, Brought, Saw, Matched, Refill, Returning}
 use Rattle.step_threads.specs.declared.said.Said.{Said}
 use Rattle.step_threads.specs.declared.said.Stepped.{Stepped}
 use Rattle.step_threads.specs.declared.said.Turned.{Turned}
