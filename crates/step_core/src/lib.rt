@@ -4,6 +4,8 @@
 mod census;
 mod limits;
 #[cfg(test)]
+mod load_tests;
+#[cfg(test)]
 mod naming_tests;
 mod opening;
 #[cfg(test)]
