@@ -10,7 +10,7 @@ use Rattle.step_threads.specs.Courses.{Going, going, on_going, rest, task_at, wa
 use Rattle.step_table.specs.Deeds.{on}
 use Rattle.step_table.specs.Holdings.{slot}
 use Rattle.step_threads.specs.Steps.{Step, acts, brings, first, sends, step_at, swaps}
-use Rattle.step_table.specs.Stories.{Story, state}
+use Rattle.step_table.specs.Stories.{Story}
 use Rattle.step_threads.proofs.Steps.{at_act}
 
 module _ (d : ℕ) (t : Thread) (v : Story) (a : Act) (c : CellName) (i : ℕ) (none : t.course.endings.list ≡ [])
