@@ -1,3 +1,4 @@
+pub mod Counting
 pub mod Inside
 pub mod Keeping
 pub mod Locking

@@ -7,7 +7,7 @@ ghost use Rattle.control_word.specs.Views.{owed};
 ghost use Rattle.control_word.specs.Layout.{spot};
 ghost use Rattle.control_word.specs.declared.view.Pending.TheVariants.{Idle};
 ghost use Rattle.control_word.specs.Words.{flags_of};
-ghost use Rattle.step_table.specs.Deeds.{as_owner, as_weak, downgrade, is_expired, is_last, leave, lock, owned, owner_word, share, tell, tell_expired};
+ghost use Rattle.step_table.specs.Deeds.{as_owner, as_weak, by_word, downgrade, is_expired, is_last, leave, lock, owned, owner_word, share, tell, tell_expired};
 ghost use Rattle.step_table.specs.Contents.{is_of};
 ghost use Rattle.step_table.specs.Holdings.{Holds, is_full, place_in, plain, slot, value, weak_as, weak_slot};
 ghost use Rattle.step_table.specs.declared.slot.Slot.TheVariants.{Empty, Full};

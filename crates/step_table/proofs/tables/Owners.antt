@@ -1,6 +1,6 @@
 -- Steps on the word of the owners.
-use Rattle.std.proofs.Common.{◌≡◌, ℕ, suc, ◌+◌, ◌-◌, ◌*◌, ◌<◌, ◌≤◌, ◌==◌, Bool, true, false, cond, ◌∷◌, set, get_or, Option, refl, sym, subst, arith, eq-eqb, ne_eqb}
-use Rattle.std.proofs.lemmas.Bool.{cond_both, eqb-true, eqb-false, false≢true}
+use Rattle.std.proofs.Common.{◌≡◌, ℕ, suc, ◌+◌, ◌-◌, ◌*◌, ◌<◌, ◌≤◌, ◌==◌, Bool, true, false, cond, ◌∷◌, set, get_or, Option, refl, sym, subst, ◌∙◌, arith, eq-eqb, ne_eqb}
+use Rattle.std.proofs.lemmas.Bool.{cond_both, cond-false, cond-true, eqb-true, eqb-false, false≢true}
 use Rattle.std.specs.Prelude.{◌↔◌, IsTrue}
 use Rattle.control_word.proofs.steps.Leave.{leaves'}
 use Rattle.control_word.proofs.steps.Look.{tells_count}
@@ -21,6 +21,7 @@ use Rattle.control_word.specs.State.{Has, bag_size, count, held}
 use Rattle.control_word.specs.Steps.{me}
 use Rattle.control_word.specs.Views.{Stands, owed, sees_as}
 use Rattle.step_table.specs.declared.past.Deed.TheVariants.{Share, Leave, Count}
+use Rattle.step_table.specs.Deeds.{told_number}
 use Rattle.step_table.specs.Openings.{opening}
 use Rattle.step_table.specs.Stories.{Story, Kept, after, handle_in, object_in, owner_in, pending, state, view_in}
 use Rattle.step_table.proofs.tables.Standing.{point, ready, kept_after}
@@ -98,7 +99,7 @@ pub whole_one : (last : Bool) (w : ℕ) → (IsTrue last ↔ ((number_of w ≡ 1
 whole_one true w iff = let t = iff.0 refl in let a = t.0 in let f = t.1 in sym (eq-eqb w 1 (omega arith))
 whole_one false w iff = sym (ne_eqb w 1 (λ e. false≢true (iff.1 (omega arith, omega arith))))
 
--- what a count tells
+-- what a count tells: a word whose number is 0 has funds where it isn't 0
 pub told : (w n : ℕ) → (0 < number_of w → n ≡ number_of w) → (number_of w ≡ 0 → 0 < funds_of w → n ≡ 1) → (number_of w ≡ 0 → funds_of w ≡ 0 → n ≡ 0)
     → n ≡ cond (number_of w == 0) (cond (funds_of w == 0) 0 1) (number_of w)
 told w n some way none =
@@ -106,6 +107,12 @@ told w n some way none =
     (λ t. cond_both (funds_of w == 0) 0 1 (λ (x : ℕ). n ≡ x) (λ u. none (eqb-true _ _ t) (eqb-true _ _ u))
     (λ u. let ne = eqb-false _ _ u in way (eqb-true _ _ t) (omega arith)))
     (λ t. let ne = eqb-false _ _ t in some (omega arith))
+
+pub told_word : (w : ℕ) → told_number w ≡ cond (number_of w == 0) (cond (funds_of w == 0) 0 1) (number_of w)
+told_word w =
+    told w (told_number w) (λ some. cond-false (number_of w == 0) _ _ (ne_eqb (number_of w) 0 (λ e. absurd (omega arith))))
+    (λ none some. cond-true (number_of w == 0) _ _ (eq-eqb (number_of w) 0 none) ∙ cond-false (w == 0) 0 1 (ne_eqb w 0 (λ e. absurd (omega arith))))
+    (λ none bare. cond-true (number_of w == 0) _ _ (eq-eqb (number_of w) 0 none) ∙ cond-true (w == 0) 0 1 (eq-eqb w 0 (omega arith)))
 
 telling : (v : Story) (d : ℕ) (k : Kind) (b : Block) (p : Option Place) (n : ℕ) → Kept v → d < v.extent.actors → pending v d ≡ Idle
     → Has (held d (handle_in v k b p)) (state v).hands

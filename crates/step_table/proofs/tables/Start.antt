@@ -12,7 +12,7 @@ use Rattle.control_word.specs.State.{IsOpening, sum_below}
 use Rattle.control_word.specs.Views.{Stands, fresh, used_up}
 use Rattle.step_table.specs.declared.extent.Extent.{Extent}
 use Rattle.step_table.specs.Openings.{IsExtent, each_stock, holder_of, opening, share_of}
-use Rattle.step_table.specs.Stories.{IsCalm, Kept, Nothing, Plain, ShutsNoDoor}
+use Rattle.step_table.specs.Stories.{Kept, Nothing, Plain, ShutsNoDoor}
 
 -- of so many actors each has its share, and the first has the rest too
 sums : (q r a n : ℕ) → 1 ≤ n → n ≤ a → sum_below n (λ d. cond (nat_lt d a) (q + cond (d == 0) r 0) 0) ≡ n * q + r
@@ -81,11 +81,6 @@ idle_start d zero e = tt
 idle_start d (suc n) zero = tt
 idle_start d (suc n) (suc e) = idle_start (suc d) n e
 
-calm_start : (d n e : ℕ) → IsCalm (get_or (fresh {V = Nothing} d n) e used_up).pending
-calm_start d zero e = tt
-calm_start d (suc n) zero = tt
-calm_start d (suc n) (suc e) = calm_start (suc d) n e
-
 -- a new table stands for the empty history
 pub kept_start : (x : Extent) (words : List ℕ) → IsExtent x
     → words ≡ replicate (16 * x.shape.blocks + 8 * (x.shape.shared_cells + x.shape.weak_cells)) 0
@@ -106,4 +101,4 @@ kept_start x words fine is =
     }
 
 pub plain_start : (x : Extent) (words : List ℕ) → Plain (record { extent = x; words = words; views = fresh 0 x.actors; history = [] })
-plain_start x words = record { bare = λ o m. refl; calm = calm_start 0 x.actors }
+plain_start x words = record { bare = λ o m. refl }

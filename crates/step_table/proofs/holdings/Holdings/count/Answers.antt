@@ -1,6 +1,4 @@
 use Rattle.std.proofs.Common.{ℕ, ap, refl, sym, subst, ◌∙◌}
-use Rattle.control_word.specs.Layout.{spot}
-use Rattle.step_table.proofs.tables.Plain.{nothing_owed}
 use Rattle.step_table.specs.Holdings.{Holds}
 use Rattle.step_table.specs.Stories.{Story, after}
 use Rattle.step_table.specs.declared.past.Deed.TheVariants as deed
@@ -15,10 +13,10 @@ returns-clause-holds c =
     subst (λ (v : Story). Holds c.args.desk c.args.self.now.slots.items v) (sym c.count.ensures.after)
     (holds_look c.args.desk c.args.self.now.slots.items c.args.table.now (after c.args.table.now c.args.desk (deed.Count c.args.pointer.kind c.args.pointer.block c.args.pointer.place c.count.result)) refl refl c.requires.holds)
 
-pub returns-clause-exact : goal.returns-clause-exact
-returns-clause-exact c = c.count.ensures.exact (nothing_owed c.args.table.now (spot c.args.pointer.block.0 0) c.requires.plain)
+pub returns-clause-told : goal.returns-clause-told
+returns-clause-told c = c.count.ensures.told
 
 pub returns-clause-table : goal.returns-clause-table
 returns-clause-table c =
-    c.count.ensures.after ∙ ap (λ (n : ℕ). after c.args.table.now c.args.desk (deed.Count c.args.pointer.kind c.args.pointer.block c.args.pointer.place n))
-    (c.count.ensures.exact (nothing_owed c.args.table.now (spot c.args.pointer.block.0 0) c.requires.plain))
+    c.count.ensures.after
+    ∙ ap (λ (n : ℕ). after c.args.table.now c.args.desk (deed.Count c.args.pointer.kind c.args.pointer.block c.args.pointer.place n)) c.count.ensures.told

@@ -1,8 +1,9 @@
-use Rattle.std.proofs.Common.{◌≡◌, ◌==◌, ℕ, cond, subst, ap, length, arith}
+use Rattle.std.proofs.Common.{◌≡◌, ◌==◌, ◌∙◌, ℕ, cond, subst, sym, ap, length, arith}
 use Rattle.control_word.specs.Packing.{funds_of, number_of}
 use Rattle.step_table.specs.declared.past.Deed.TheVariants.{Count}
+use Rattle.step_table.specs.Deeds.{told_number}
 use Rattle.step_table.specs.Stories.{Story, Kept}
-use Rattle.step_table.proofs.tables.Owners.{exact_count, kept_count, told, told_most, told_none}
+use Rattle.step_table.proofs.tables.Owners.{exact_count, kept_count, told, told_most, told_none, told_word}
 use Rattle.step_table.proofs.tables.Places.{inside, handle_busy, there}
 use Rattle.step_table.proofs.tables.Standing.{found, kept_as, kept_now}
 use Rattle.step_table.proofs.table.Table.count.Goals as goal
@@ -72,3 +73,13 @@ returns-clause-exact c =
     c.requires.held (subst
     (λ (x : ℕ). c.told_count-owners.result ≡ cond (number_of x == 0) (cond (funds_of x == 0) 0 1) (number_of x)) f
     (told _ _ c.told_count-owners.ensures.counted c.told_count-owners.ensures.under_way c.told_count-owners.ensures.none))
+
+pub returns-clause-told : goal.returns-clause-told
+returns-clause-told c =
+    let k : Kept c.args.self.now = kept_now _ _ _ _ c.args.self.now c.self.invariant c.self.view_is in
+    let w : c.self.inside.words.items ≡ c.args.self.now.words = ap (λ (s : Story). s.words) c.self.view_is in
+    let i = inside c.args.self.now c.args.pointer.block 0 k (there c.args.self.now c.args.pointer.block k
+    (handle_busy c.args.self.now c.args.desk c.args.pointer.kind c.args.pointer.block _ k c.requires.held)).1 (let q = c.requires in omega arith) in
+    let f = found c.self.inside.words.items c.args.self.now.words c.block_word.result _ _ w c.block_word.ensures i c.index.ensures in
+    told _ _ c.told_count-owners.ensures.counted c.told_count-owners.ensures.under_way c.told_count-owners.ensures.none
+    ∙ sym (told_word c.index.result.now) ∙ ap told_number f
