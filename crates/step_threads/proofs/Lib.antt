@@ -9,4 +9,7 @@ pub mod Giving
 pub mod Steps
 pub mod StoreFits
 pub mod StoreSteps
+pub mod Compares
+pub mod CompareFits
+pub mod CompareSteps
 pub mod holding

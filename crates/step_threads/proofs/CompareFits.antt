@@ -1,0 +1,1 @@
+-- A thread that compares a cell fits the table.

@@ -1,0 +1,1 @@
+-- What the steps of a thread are that compares a cell.
