@@ -29,6 +29,14 @@ pub struct Comparing {
 }
 
 impl Holdings {
+    /// A slot's value as it goes into a cell.
+    pub fn word(&self, at: usize) -> CellWord
+        requires { at < length self.now.slots.items }
+        ensures { result ≡ as_word (value self.now.slots.items at) }
+    {
+        self.slots[at].word()
+    }
+
     /// What a compare expects and wants, as it is told to a table.
     fn compared(&self, comparing: Comparing) -> Compared
         requires expected { comparing.expected < length self.now.slots.items }

@@ -47,7 +47,7 @@ impl Course {
         requires { name < length self.now.holdings.slots.items }
         ensures { result ≡ as_word (value self.now.holdings.slots.items name) }
     {
-        self.holdings.slots[usize::from(name)].word()
+        self.holdings.word(usize::from(name))
     }
 
     /// Whether a word tells the value of a name, however many funds were taken.
