@@ -9,4 +9,7 @@ pub mod Giving
 pub mod Steps
 pub mod StoreFits
 pub mod StoreSteps
+pub mod LookFits
+pub mod LookSteps
+pub mod RefillFits
 pub mod holding
