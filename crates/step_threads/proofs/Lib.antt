@@ -15,4 +15,5 @@ pub mod CompareSteps
 pub mod LookFits
 pub mod LookSteps
 pub mod RefillFits
+pub mod LoadFits
 pub mod holding
