@@ -11,5 +11,6 @@ pub mod StoreFits
 pub mod StoreSteps
 pub mod LookFits
 pub mod LookSteps
+pub mod LoadFits
 pub mod RefillFits
 pub mod holding
