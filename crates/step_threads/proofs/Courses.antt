@@ -4,11 +4,11 @@ use Rattle.std.proofs.Common.{◌⊎◌, ⊎_elim, inl, inr, get_or-set_same, ge
 use Rattle.std.proofs.lemmas.Bool.{cond-true, cond-false, false≢true}
 use Rattle.std.proofs.lemmas.List.{drop_more}
 use Rattle.step_threads.specs.declared.act.Act.{Act}
-use Rattle.step_threads.specs.declared.act.Act.TheVariants.{Make, Share, Downgrade, Lock, Put, Leave, Clear, Count, Expired, Read, FromThis, Alias, Move, Ask, Offer, Swap, Exchange, Drop}
+use Rattle.step_threads.specs.declared.act.Act.TheVariants.{Make, Share, Downgrade, Lock, Put, Leave, Clear, Count, Expired, Read, FromThis, Alias, Move, Ask, Offer, Swap, Exchange, Load, Compare, Drop}
 use Rattle.step_threads.specs.declared.act.Task.{Task}
 use Rattle.step_threads.specs.declared.course.Course.{Course}
 use Rattle.step_threads.specs.declared.ending.Ending.{Ending}
-use Rattle.step_threads.specs.Courses.{Begins, CourseReady, Drops, Follows, IsPassed, IsReady, Ready, Walk, hand, idle, no_task, other, placed, rest, settled, slots_idle, taken_after}
+use Rattle.step_threads.specs.Courses.{Begins, CourseReady, Drops, Follows, IsPassed, IsReady, Ready, Walk, dropping, hand, idle, no_task, other, placed, rest, settled, slots_idle, taken_after}
 use Rattle.step_threads.specs.Courses.{taken_idle, task_at, todo}
 use Rattle.step_threads.specs.Endings.{Stack}
 use Rattle.step_table.specs.Holdings.{Slots, plain, value}
@@ -55,6 +55,8 @@ idle_taken (Ask q) = refl
 idle_taken (Offer k c) = refl
 idle_taken (Swap c) = refl
 idle_taken (Exchange k c) = refl
+idle_taken (Load c) = refl
+idle_taken (Compare k c weak) = refl
 idle_taken Drop = refl
 
 taken_either : (b : Bool) (x y : Walk) → x.taken ≡ false → y.taken ≡ false → (cond b x y).taken ≡ false
@@ -124,11 +126,13 @@ placed_ready k slots ts lt r owes =
     }
 
 put_ready : (k : ℕ) (slots : Slots) (taken : Bool) (ts : List Task) → 1 < length slots → k < other slots
-    → (taken ≡ false → value slots (hand slots) ≡ plain) → value slots (other slots) ≡ plain → Ready (other slots) false ts
+    → (taken ≡ false → value slots (hand slots) ≡ plain) → (value slots (other slots) ≡ plain) ⊎ Drops ts → Ready (other slots) false ts
     → IsReady (cond taken (placed k slots) slots) false ts
-put_ready k slots true ts lt below free e r = placed_ready k slots ts lt r (inl (placed_other k slots lt below e))
-put_ready k slots false ts lt below free e r = record { some = lt; free = free; owes = inl e; ready = r }
+put_ready k slots true ts lt below free (inl e) r = placed_ready k slots ts lt r (inl (placed_other k slots lt below e))
+put_ready k slots true ts lt below free (inr e) r = placed_ready k slots ts lt r (inr e)
+put_ready k slots false ts lt below free owes r = record { some = lt; free = free; owes = owes; ready = r }
 
+-- what is in hand, and goes nowhere, is to be dropped
 swap_ready : (slots : Slots) (taken : Bool) (ts : List Task) → 1 < length slots → (taken ≡ false → value slots (hand slots) ≡ plain) → Drops ts
     → Ready (other slots) false ts → IsReady (cond taken (placed (other slots) slots) slots) false ts
 swap_ready slots true ts lt free drops r = placed_ready (other slots) slots ts lt r (inr drops)
@@ -150,20 +154,66 @@ drop_ready slots taken ts lt free r =
       ready = ready_same slots x taken ts e r;
     }
 
--- nothing is to be dropped where the next act isn't that
-owed_none : (slots : Slots) (act : Act) → (value slots (other slots) ≡ plain) ⊎ (act ≡ Drop) → (act ≡ Drop → ⊥) → value slots (other slots) ≡ plain
-owed_none slots act owes never = ⊎_elim (λ (e : value slots (other slots) ≡ plain). e) (λ (e : act ≡ Drop). absurd (never e)) owes
+weaker : (n : ℕ) (act : Act) → Begins n true act → Begins n false act
+weaker n (Make form) b = (refl, b.1)
+weaker n (Share k) b = (b.0, refl)
+weaker n (Put k) b = b
+weaker n (Leave k) b = (b.0, refl)
+weaker n (Clear k) b = (b.0, refl)
+weaker n (Count k) b = b
+weaker n (Downgrade k) b = (b.0, refl)
+weaker n (Lock k must) b = (b.0, refl)
+weaker n (Expired k) b = b
+weaker n (Read k) b = b
+weaker n (FromThis k kind) b = (b.0, refl)
+weaker n (Alias k j field) b = (b.0, b.1, refl)
+weaker n (Move k) b = (b.0, refl)
+weaker n (Ask q) b = b
+weaker n (Offer k c) b = (b.0, refl)
+weaker n (Swap c) b = b
+weaker n (Exchange k c) b = (b.0, refl)
+weaker n (Load c) b = refl
+weaker n (Compare k c weak) b = b
+weaker n Drop b = refl
+
+ready_more : (n : ℕ) (act : Act) (ts : List Task) → (Ready n true ts → Ready n false ts) → Ready n (taken_after act true) ts
+    → Ready n (taken_after act false) ts
+ready_more n (Make form) ts f r = r
+ready_more n (Share k) ts f r = r
+ready_more n (Put k) ts f r = r
+ready_more n (Leave k) ts f r = f r
+ready_more n (Clear k) ts f r = f r
+ready_more n (Count k) ts f r = f r
+ready_more n (Downgrade k) ts f r = r
+ready_more n (Lock k must) ts f r = r
+ready_more n (Expired k) ts f r = f r
+ready_more n (Read k) ts f r = f r
+ready_more n (FromThis k kind) ts f r = r
+ready_more n (Alias k j field) ts f r = r
+ready_more n (Move k) ts f r = r
+ready_more n (Ask q) ts f r = f r
+ready_more n (Offer k c) ts f r = r
+ready_more n (Swap c) ts f r = r
+ready_more n (Exchange k c) ts f r = f r
+ready_more n (Load c) ts f r = r
+ready_more n (Compare k c weak) ts f r = r
+ready_more n Drop ts f r = f r
+
+-- what is ready for a value in hand is ready for none
+pub ready_any : (n : ℕ) (ts : List Task) → Ready n true ts → Ready n false ts
+ready_any n [] r = r
+ready_any n (t ∷ ts) r = (weaker n t.act r.0, r.1, ready_more n t.act ts (ready_any n ts) r.2)
 
 ready_past : (act : Act) (slots : Slots) (taken : Bool) (ts : List Task) → idle act slots taken ≡ true → 1 < length slots
-    → (taken ≡ false → value slots (hand slots) ≡ plain) → (value slots (other slots) ≡ plain) ⊎ (act ≡ Drop)
+    → (taken ≡ false → value slots (hand slots) ≡ plain) → (value slots (other slots) ≡ plain) ⊎ dropping (Drops ts) act
     → Begins (other slots) taken act → Follows act ts → Ready (other slots) (taken_after act taken) ts
     → IsReady (slots_idle act slots taken) (taken_idle act taken) ts
 ready_past (Make form) slots taken ts i lt free owes b f r = absurd (false≢true i)
 ready_past (Share k) slots taken ts i lt free owes b f r = absurd (false≢true i)
-ready_past (Put k) slots taken ts i lt free owes b f r = put_ready k slots taken ts lt b free (owed_none slots (Put k) owes (λ e. absurd cc)) r
+ready_past (Put k) slots taken ts i lt free owes b f r = put_ready k slots taken ts lt b free owes r
 ready_past (Leave k) slots taken ts i lt free owes b f r = absurd (false≢true i)
 ready_past (Clear k) slots taken ts i lt free owes b f r =
-    record { some = lt; free = free; owes = inl (owed_none slots (Clear k) owes (λ e. absurd cc)); ready = r }
+    record { some = lt; free = free; owes = ⊎_elim inl (λ (e : ⊥). absurd e) owes; ready = r }
 ready_past (Count k) slots taken ts i lt free owes b f r = absurd (false≢true i)
 ready_past (Downgrade k) slots taken ts i lt free owes b f r = absurd (false≢true i)
 ready_past (Lock k must) slots taken ts i lt free owes b f r = absurd (false≢true i)
@@ -176,6 +226,8 @@ ready_past (Ask q) slots taken ts i lt free owes b f r = absurd (false≢true i)
 ready_past (Offer k c) slots taken ts i lt free owes b f r = absurd (false≢true i)
 ready_past (Swap c) slots taken ts i lt free owes b f r = swap_ready slots taken ts lt free f r
 ready_past (Exchange k c) slots taken ts i lt free owes b f r = absurd (false≢true i)
+ready_past (Load c) slots taken ts i lt free owes b f r = absurd (false≢true i)
+ready_past (Compare k c weak) slots taken ts i lt free owes b f r = swap_ready slots taken ts lt free f (ready_any (other slots) ts r)
 ready_past Drop slots taken ts i lt free owes b f r = drop_ready slots taken ts lt free r
 
 -- what the next act may rely on, and what is left to do after it
@@ -185,14 +237,16 @@ pub ready_head : (c : Course) → c.at < length c.tasks.items → CourseReady c
 ready_head c lt r = subst (λ (ts : List Task). Ready (other c.holdings.slots.items) c.taken ts) (todo_at c lt) r.ready
 
 pub owes_head : (c : Course) → c.at < length c.tasks.items → CourseReady c
-    → (value c.holdings.slots.items (other c.holdings.slots.items) ≡ plain) ⊎ ((task_at c).act ≡ Drop)
+    → (value c.holdings.slots.items (other c.holdings.slots.items) ≡ plain) ⊎ dropping (Drops (rest c)) (task_at c).act
 owes_head c lt r =
     subst (λ (ts : List Task). (value c.holdings.slots.items (other c.holdings.slots.items) ≡ plain) ⊎ Drops ts) (todo_at c lt) r.owes
 
--- nothing is, where the next act isn't that
-pub owed_by : (c : Course) → c.at < length c.tasks.items → CourseReady c → ((task_at c).act ≡ Drop → ⊥)
+-- nothing is to be dropped, where the next act neither drops it nor comes before one that does
+pub owed_by : (c : Course) (a : Act) → c.at < length c.tasks.items → CourseReady c → (task_at c).act ≡ a → (dropping (Drops (rest c)) a → ⊥)
     → value c.holdings.slots.items (other c.holdings.slots.items) ≡ plain
-owed_by c lt r never = owed_none c.holdings.slots.items (task_at c).act (owes_head c lt r) never
+owed_by c a lt r act never =
+    ⊎_elim (λ (e : value c.holdings.slots.items (other c.holdings.slots.items) ≡ plain). e)
+    (λ (e : dropping (Drops (rest c)) (task_at c).act). absurd (never (subst (dropping (Drops (rest c))) act e))) (owes_head c lt r)
 
 pub passed_ready : (a b : Course) → a.at < length a.tasks.items → idle (task_at a).act a.holdings.slots.items a.taken ≡ true → IsPassed a b
     → CourseReady a → CourseReady b

@@ -15,8 +15,8 @@ use Rattle.step_table.specs.Deeds.{is_enabled}
 use Rattle.step_table.specs.Holdings.{inside, slot}
 use Rattle.step_table.specs.Stories.{Story, pending, state}
 use Rattle.step_threads.specs.Threads.{Fits}
-use Rattle.step_threads.proofs.Courses.{owed_by, ready_head}
-use Rattle.step_threads.proofs.Threads.{ready_any, resting}
+use Rattle.step_threads.proofs.Courses.{owed_by, ready_any, ready_head}
+use Rattle.step_threads.proofs.Threads.{resting}
 use Rattle.step_table.proofs.holding.Inside.{inside_held}
 
 -- a pointer from this that is refused takes nothing
@@ -30,7 +30,7 @@ refused_this c k q lt ready act =
     record {
       some = ready.some;
       free = λ e. ready.free b.1;
-      owes = inl (owed_by c lt ready (λ e. let q = act in absurd cc));
+      owes = inl (owed_by c (FromThis k q) lt ready act (λ e. e));
       ready = ready_any n (rest c) r;
     }
 

@@ -17,16 +17,16 @@ use Rattle.step_threads.specs.declared.said.Stepped.{Stepped}
 use Rattle.step_threads.specs.declared.said.Stepped.TheVariants.{Event, Quiet}
 use Rattle.step_threads.specs.declared.thread.Thread.{Thread}
 use Rattle.step_threads.specs.Courses.{Walk, done_on, rest, settled, task_at, walk}
-use Rattle.step_table.specs.Deeds.{is_last, leave, leave_as, owned, on, remains}
+use Rattle.step_table.specs.Deeds.{by_word, is_last, leave, leave_as, owned, on, remains}
 use Rattle.step_threads.specs.Endings.{Stack}
 use Rattle.step_table.specs.Holdings.{is_full}
 use Rattle.step_threads.specs.Scenes.{answer_of, begins_end, begins_end_as, ended_by, ended_of, hands, left, remains_as, went}
-use Rattle.step_threads.specs.Steps.{Step, acts, first, with_endings}
+use Rattle.step_threads.specs.Steps.{Step, acts, first, waits_on, with_endings}
 use Rattle.step_table.specs.Stories.{Story, after, event_of, object_in, state}
 use Rattle.step_threads.specs.Threads.{HasStepped}
 use Rattle.step_threads.proofs.Courses.{settled_with}
 use Rattle.step_threads.proofs.Endings.{HasLeft}
-use Rattle.step_threads.proofs.Steps.{at_act, on_slot, says_on, stepped_as}
+use Rattle.step_threads.proofs.Steps.{at_act, on_slot, says_on, stepped_as, waits_act}
 
 -- a leave changes nothing of what its object leaves
 same_remains : (v : Story) (d : ℕ) (x : Pointer) (k : Kind) (b : Bool)
@@ -79,23 +79,24 @@ went_left d c c' c'' v w a o last k has leaves said walked =
 -- a step that left what a slot held, and what is said of it
 pub stepped_left : (d : ℕ) (t t' : Thread) (v w : Story) (r : Stepped) (a : Act) (o : Option Pointer) (last : Bool) (ended : Option Ended) (k : ℕ)
     → k ≡ (task_at t.course).statement → t.half ≡ Rest → t.course.endings.list ≡ [] → t.course.at < length t.course.tasks.items → (task_at t.course).act ≡ a
+    → waits_on v (walk t.course) a ≡ false
     → first v d (walk t.course) (task_at t.course).statement (rest t.course) a
-    ≡ acts (state v) d (walk t.course) (task_at t.course).statement (rest t.course) a (option_map (leave (state v)) o) Rest
-    → answer_of (state v) d t.course.holdings.slots.items a ≡ None → ended_of (state v) t.course.holdings.slots.items a ≡ ended_by (state v) o
+    ≡ acts v d (walk t.course) (task_at t.course).statement (rest t.course) a (option_map (leave (state v)) o) Rest
+    → answer_of (by_word v) (state v) d t.course.holdings.slots.items a ≡ None → ended_of (state v) t.course.holdings.slots.items a ≡ ended_by (state v) o
     → w ≡ done_on (leave (state v)) v d o → last ≡ on (is_last (state v)) false o
     → ended ≡ on (λ x. cond last (remains_as x.kind ((state w).object (object_in w x.block))) None) None o
     → t'.half ≡ t.half → walk t'.course ≡ went (state v) d (walk t.course) k (rest t.course) a
     → r ≡ cond (is_some o) (Event (record { statement = k; answer = None; ended = ended })) (Quiet (record { statement = k; answer = None; ended = ended }))
     → HasStepped d t v r t' w
-stepped_left d t t' v w r a o last ended k number rests none lt act one silent ends is said left half walked says =
+stepped_left d t t' v w r a o last ended k number rests none lt act goes one silent ends is said left half walked says =
     let n = (task_at t.course).statement in
-    let y : Said = record { statement = n; answer = answer_of (state v) d t.course.holdings.slots.items a; ended = ended_of (state v) t.course.holdings.slots.items a } in
+    let y : Said = record { statement = n; answer = answer_of (by_word v) (state v) d t.course.holdings.slots.items a; ended = ended_of (state v) t.course.holdings.slots.items a } in
     let e : ended ≡ ended_of (state v) t.course.holdings.slots.items a = left ∙ ended_left v w d o last is said ∙ sym ends in
     let same : ◌≡◌ {A = Said} (record { statement = k; answer = None; ended = ended }) y =
     ap (λ (m : ℕ). record { statement = m; answer = None; ended = ended }) number
     ∙ ap (λ (z : Option Ended). record { statement = n; answer = None; ended = z }) e
     ∙ ap (λ z. record { statement = n; answer = z; ended = ended_of (state v) t.course.holdings.slots.items a }) (sym silent) in
-    stepped_as d t v (acts (state v) d (walk t.course) n (rest t.course) a (option_map (leave (state v)) o) Rest) r t' w
-    (at_act d t v a rests none lt act ∙ ap (λ (x : Step). Some x) one)
+    stepped_as d t v (acts v d (walk t.course) n (rest t.course) a (option_map (leave (state v)) o) Rest) r t' w
+    (waits_act t v a rests none lt act ∙ goes) (at_act d t v a rests none lt act ∙ ap (λ (x : Step). Some x) one)
     (says_on (leave (state v)) v o r _ y (is_some o) (λ x. left_event v x x.kind (is_last (state v) x)) says (some_full o) same)
     (is ∙ on_slot (leave (state v)) v d o) (walked ∙ ap (λ (m : ℕ). went (state v) d (walk t.course) m (rest t.course) a) number) (half ∙ rests)

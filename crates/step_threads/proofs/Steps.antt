@@ -12,21 +12,24 @@ use Rattle.step_table.specs.declared.holdings.Pointer.{Pointer}
 use Rattle.step_table.specs.declared.past.Deed.{Deed}
 use Rattle.step_threads.specs.declared.said.Said.{Said}
 use Rattle.step_threads.specs.declared.said.Stepped.{Stepped}
-use Rattle.step_threads.specs.declared.said.Stepped.TheVariants.{Event, Quiet}
+use Rattle.step_threads.specs.declared.said.Stepped.TheVariants.{Event, Quiet, Waited}
 use Rattle.step_threads.specs.declared.thread.Thread.{Thread}
 use Rattle.step_threads.specs.Courses.{done_on, hand, rest, task_at, walk}
 use Rattle.step_table.specs.Holdings.{is_full, pointer_of, slot}
-use Rattle.step_threads.specs.Steps.{Step, at_rest, begun, ends_on, first, half_by, is_event, step_at, stepped, story_after, story_by, walk_by}
+use Rattle.step_threads.specs.Steps.{Step, at_rest, begun, ends_on, first, half_by, is_event, step_at, stepped, story_after, story_by, waits, waits_at, waits_on, walk_by}
 use Rattle.step_table.specs.Stories.{Story, event_of}
 use Rattle.step_threads.specs.Threads.{Fits, HasStepped}
 use Rattle.step_threads.proofs.Courses.{todo_at}
 
--- a step that is known
-pub stepped_as : (d : ℕ) (t : Thread) (v : Story) (x : Step) (r : Stepped) (t' : Thread) (v' : Story) → step_at v d t.half (walk t.course) ≡ Some x
-    → r ≡ stepped v (Some x) → v' ≡ story_after v d x.deed → walk t'.course ≡ x.walk → t'.half ≡ x.half → HasStepped d t v r t' v'
-stepped_as d t v x r t' v' is answer story walked half =
+-- a step that is known, and doesn't wait
+pub stepped_as : (d : ℕ) (t : Thread) (v : Story) (x : Step) (r : Stepped) (t' : Thread) (v' : Story) → waits v t.half (walk t.course) ≡ false
+    → step_at v d t.half (walk t.course) ≡ Some x → r ≡ stepped v (Some x) → v' ≡ story_after v d x.deed → walk t'.course ≡ x.walk → t'.half ≡ x.half
+    → HasStepped d t v r t' v'
+stepped_as d t v x r t' v' goes is answer story walked half =
     record {
-      answer = subst (λ (o : Option Step). r ≡ stepped v o) (sym is) answer;
+      answer =
+          subst (λ (o : Option Step). r ≡ stepped v o) (sym is) answer
+          ∙ sym (ap (λ (b : Bool). cond b Waited (stepped v (step_at v d t.half (walk t.course)))) goes);
       story = subst (λ (o : Option Step). v' ≡ story_by v d o) (sym is) story;
       place = subst (λ (o : Option Step). walk t'.course ≡ walk_by (walk t.course) o) (sym is) walked;
       half = subst (λ (o : Option Step). t'.half ≡ half_by t.half o) (sym is) half;
@@ -40,6 +43,14 @@ at_act d t v a e none lt act =
     let w = walk t.course in
     ap (λ (h : Half). step_at v d h w) e ∙ ap (λ (es : List Ending). at_rest v d w es) none ∙ ap (λ (ts : List Task). begun v d w ts) (todo_at t.course lt)
     ∙ ap (λ (b : Act). Some (first v d w (task_at t.course).statement (rest t.course) b)) act
+
+-- then it is the act that waits, if any
+pub waits_act : (t : Thread) (v : Story) (a : Act) → t.half ≡ Rest → t.course.endings.list ≡ [] → t.course.at < length t.course.tasks.items
+    → (task_at t.course).act ≡ a → waits v t.half (walk t.course) ≡ waits_on v (walk t.course) a
+waits_act t v a e none lt act =
+    let w = walk t.course in
+    ap (λ (h : Half). waits v h w) e ∙ ap (λ (es : List Ending). waits_at v w es w.todo) none ∙ ap (λ (ts : List Task). waits_at v w [] ts) (todo_at t.course lt)
+    ∙ ap (λ (b : Act). waits_on v w b) act
 
 -- what a thread has in hand while an object ends
 none_here : (d : ℕ) (t : Thread) (v : Story) (e : Ending) (es : List Ending) → Fits d t v → t.course.endings.list ≡ e ∷ es

@@ -29,7 +29,7 @@ use Rattle.step_threads.specs.Entries.{least}
 use Rattle.step_threads.specs.Stocks.{Stored}
 use Rattle.step_table.specs.Stories.{Kept, Nothing, Story, after, known, pending, pending_after, state}
 use Rattle.step_threads.specs.Threads.{Fits, IsNext, form_at}
-use Rattle.step_threads.proofs.Courses.{owed_by, ready_head}
+use Rattle.step_threads.proofs.Courses.{owed_by, ready_any, ready_head}
 use Rattle.step_threads.proofs.holding.Ends.{ends_gone, ends_none}
 use Rattle.step_threads.proofs.holding.Least.{least_stored, none_stored}
 use Rattle.step_threads.proofs.holding.Storing.{stocks_claim, stocks_take}
@@ -39,52 +39,6 @@ use Rattle.step_table.proofs.tables.Places.{making_stored, named}
 pub own_pending : (v : Story) (d : ℕ) (x : Deed) → Kept v → d < v.extent.actors → pending (after v d x) d ≡ pending_after v d x
 own_pending v d x kept lt =
     ap (λ (w : View Nothing). w.pending) (get_or-set_same v.views d _ used_up (let s = kept.seats.size in omega (arith, s)))
-
-weaker : (n : ℕ) (act : Act) → Begins n true act → Begins n false act
-weaker n (Make form) b = (refl, b.1)
-weaker n (Share k) b = (b.0, refl)
-weaker n (Put k) b = b
-weaker n (Leave k) b = (b.0, refl)
-weaker n (Clear k) b = (b.0, refl)
-weaker n (Count k) b = b
-weaker n (Downgrade k) b = (b.0, refl)
-weaker n (Lock k must) b = (b.0, refl)
-weaker n (Expired k) b = b
-weaker n (Read k) b = b
-weaker n (FromThis k kind) b = (b.0, refl)
-weaker n (Alias k j field) b = (b.0, b.1, refl)
-weaker n (Move k) b = (b.0, refl)
-weaker n (Ask q) b = b
-weaker n (Offer k c) b = (b.0, refl)
-weaker n (Swap c) b = b
-weaker n (Exchange k c) b = (b.0, refl)
-weaker n Drop b = refl
-
-ready_more : (n : ℕ) (act : Act) (ts : List Task) → (Ready n true ts → Ready n false ts) → Ready n (taken_after act true) ts
-    → Ready n (taken_after act false) ts
-ready_more n (Make form) ts f r = r
-ready_more n (Share k) ts f r = r
-ready_more n (Put k) ts f r = r
-ready_more n (Leave k) ts f r = f r
-ready_more n (Clear k) ts f r = f r
-ready_more n (Count k) ts f r = f r
-ready_more n (Downgrade k) ts f r = r
-ready_more n (Lock k must) ts f r = r
-ready_more n (Expired k) ts f r = f r
-ready_more n (Read k) ts f r = f r
-ready_more n (FromThis k kind) ts f r = r
-ready_more n (Alias k j field) ts f r = r
-ready_more n (Move k) ts f r = r
-ready_more n (Ask q) ts f r = f r
-ready_more n (Offer k c) ts f r = r
-ready_more n (Swap c) ts f r = r
-ready_more n (Exchange k c) ts f r = f r
-ready_more n Drop ts f r = f r
-
--- what is ready for a value in hand is ready for none
-pub ready_any : (n : ℕ) (ts : List Task) → Ready n true ts → Ready n false ts
-ready_any n [] r = r
-ready_any n (t ∷ ts) r = (weaker n t.act r.0, r.1, ready_more n t.act ts (ready_any n ts) r.2)
 
 -- a make comes with nothing in hand
 pub make_empty : (c : Course) (form : Form) → c.at < length c.tasks.items → CourseReady c → (task_at c).act ≡ Make form → c.taken ≡ false
@@ -103,7 +57,7 @@ lost_ready c k must lt ready act =
     record {
       some = ready.some;
       free = λ e. ready.free b.1;
-      owes = inl (owed_by c lt ready (λ e. let q = act in absurd cc));
+      owes = inl (owed_by c (Lock k must) lt ready act (λ e. e));
       ready = go must r;
     }
   where
@@ -137,7 +91,7 @@ refused_ready c form lt ready act =
     record {
       some = ready.some;
       free = ready.free;
-      owes = inl (owed_by c lt ready (λ e. let q = act in absurd cc));
+      owes = inl (owed_by c (Make form) lt ready act (λ e. e));
       ready = subst (λ (t : Bool). Ready n t (rest c)) (sym b.0) (ready_any n (rest c) r);
     }
 

@@ -1,9 +1,13 @@
 -- What other desks do leaves what a desk has half done.
-use Rattle.std.proofs.Common.{◌≡◌, ◌≢◌, ℕ, ◌<◌, ◌≤◌, ◌⊎◌, get_or, Option, Some, inl, inr, sym, ap, subst, ◌∙◌, ⊎_elim, arith}
+use Rattle.std.proofs.Common.{◌≡◌, ◌≢◌, ℕ, ◌<◌, ◌≤◌, ◌==◌, ◌⊎◌, get_or, Option, Some, inl, inr, refl, sym, eq-eqb, ap, subst, ◌∙◌, ⊎_elim, arith}
 use Rattle.std.proofs.lemmas.List.{get_or_past}
-use Rattle.std.proofs.lemmas.Bool.{cases_lt}
+use Rattle.std.proofs.lemmas.Bool.{cases_lt, cond-false, le-ltb}
+use Rattle.std.specs.Prelude.{nat_lt}
+use Rattle.control_word.proofs.history.Allowances.{allowed}
 use Rattle.control_word.proofs.history.Kept.{has_same}
 use Rattle.control_word.proofs.history.Legal.{held_busy, sound}
+use Rattle.control_word.proofs.lists.Tallies.{num_has}
+use Rattle.control_word.specs.declared.handle.Handle.{Handle}
 use Rattle.control_word.specs.declared.handle.Kind.{Kind}
 use Rattle.control_word.specs.declared.place.Block.{Block}
 use Rattle.control_word.specs.declared.place.Place.{Place}
@@ -11,11 +15,11 @@ use Rattle.control_word.specs.declared.view.Pending.{Pending}
 use Rattle.control_word.specs.declared.view.Pending.TheVariants.{Idle}
 use Rattle.control_word.specs.declared.view.View.{View}
 use Rattle.control_word.specs.Handles.{handle}
-use Rattle.control_word.specs.State.{Has, held}
+use Rattle.control_word.specs.State.{Has, Held, held}
 use Rattle.control_word.specs.Views.{used_up}
 use Rattle.step_threads.specs.declared.act.Act.{Act}
 use Rattle.step_threads.specs.declared.half.Half.{Half}
-use Rattle.step_threads.specs.declared.half.Half.TheVariants.{Rest, Making, Locking, Giving, Brought, Returning}
+use Rattle.step_threads.specs.declared.half.Half.TheVariants.{Rest, Making, Locking, Giving, Brought, Saw, Matched, Refill, Returning}
 use Rattle.step_table.specs.declared.past.Deed.{Deed}
 use Rattle.step_table.specs.declared.slot.Slot.{Slot}
 use Rattle.step_table.specs.declared.slot.Slot.TheVariants.{Empty, Full}
@@ -24,9 +28,9 @@ use Rattle.step_table.specs.CellDeeds.{owing}
 use Rattle.step_table.specs.Contents.{owing_for}
 use Rattle.step_threads.specs.Courses.{new_of}
 use Rattle.step_table.specs.Holdings.{Slots}
-use Rattle.step_table.specs.Openings.{opening}
+use Rattle.step_table.specs.Openings.{opening, share_of}
 use Rattle.step_table.specs.Stories.{Kept, Nothing, Story, after, known, object_in, pending, state}
-use Rattle.step_table.proofs.contained.Others.{brought_others, funds_others}
+use Rattle.step_table.proofs.contained.Others.{brought_others, funds_others, refill_others}
 use Rattle.step_threads.proofs.holding.Others.{least_others}
 use Rattle.step_table.proofs.holding.Keeping.{enabled_stays, kept_object, same_deed, same_pending}
 use Rattle.step_table.proofs.tables.Places.{handle_busy}
@@ -35,6 +39,17 @@ use Rattle.step_table.proofs.tables.Places.{handle_busy}
 there_or_idle : (d : ℕ) (v : Story) → Kept v → (d < v.extent.actors) ⊎ (pending v d ≡ Idle)
 there_or_idle d v kept = ⊎_elim inl (λ (le : v.extent.actors ≤ d). inr (ap (λ (w : View Nothing). w.pending)
     (get_or_past v.views d used_up (let s = kept.seats.size in omega (arith, s, le))))) (cases_lt d v.extent.actors)
+
+-- a desk that holds something is there: others have no allowance
+held_seat : (v : Story) (d : ℕ) (h : Handle) → Kept v → Has (held d h) (state v).hands → d < v.extent.actors
+held_seat v d h kept has =
+    ⊎_elim (λ (lt : d < v.extent.actors). lt)
+    (λ (le : v.extent.actors ≤ d).
+    let none : ◌≡◌ {A = ℕ} (share_of v.extent d) 0 = cond-false (nat_lt d v.extent.actors) _ 0 (le-ltb d v.extent.actors le) in
+    let all = ap (λ (f : ℕ → ℕ). f d) kept.allowed in
+    let room = (allowed (opening v.extent) v.history kept.stands.legal).rooms d in
+    let one = num_has (λ (y : Held). y.desk == d) (held d h) (state v).hands has (eq-eqb d d refl) in
+    absurd (omega (arith, none, all, room, one))) (cases_lt d v.extent.actors)
 
 module _ (d e : ℕ) (v : Story) (x : Deed) (n : e ≢ d) (kept : Kept v) (kept' : Kept (after v e x)) where
   brought_idle : (a : Slot) → pending v d ≡ Idle → pending v d ≡ owing_for (state v) a 256 → pending (after v e x) d ≡ owing_for (state (after v e x)) a 256
@@ -82,4 +97,7 @@ module _ (d e : ℕ) (v : Story) (x : Deed) (n : e ≢ d) (kept : Kept v) (kept'
             ∙ fits.enabled;
       }
   half_others Brought slots act fits = brought_stays (new_of slots act) fits
+  half_others (Saw y) slots act fits = (same_pending v e d x n ∙ fits.0, fits.1)
+  half_others (Matched y) slots act fits = (brought_stays (new_of slots act) fits.0, fits.1)
+  half_others (Refill stage c y k) slots act fits = refill_others d e v x n kept kept' stage c y (held_seat v d _ kept fits.has) fits
   half_others (Returning kind b funds k) slots act fits = (fits.0, funds_stay kind b fits.0 funds fits.1)

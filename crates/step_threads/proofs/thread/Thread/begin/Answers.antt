@@ -12,7 +12,7 @@ use Rattle.step_threads.specs.Steps.{begins, silent}
 use Rattle.step_table.specs.Stories.{Story}
 use Rattle.step_threads.specs.Threads.{Fits}
 use Rattle.step_threads.proofs.holding.Storing.{taken_stored}
-use Rattle.step_threads.proofs.Steps.{at_act, stepped_as}
+use Rattle.step_threads.proofs.Steps.{at_act, stepped_as, waits_act}
 use Rattle.step_threads.proofs.Threads.{fits_prepare, least_here, least_nowhere, make_empty, refused_ready, resting}
 use Rattle.step_threads.proofs.thread.Thread.begin.Goals as goal
 
@@ -40,7 +40,8 @@ returns-in-None-clause-stepped c =
     ∙ ap (λ (o : Option ℕ). Some (begins (walk t.course) k (rest t.course) o))
     (least_nowhere c.args.desk t v c.requires.fits c.requires.rest c.in-None.ensures.least) in
     let empty = make_empty t.course c.args.form c.requires.within c.requires.fits.ready c.requires.act in
-    stepped_as c.args.desk t v (begins (walk t.course) k (rest t.course) None) _ _ _ is
+    stepped_as c.args.desk t v (begins (walk t.course) k (rest t.course) None) _ _ _
+    (waits_act t v (Make c.args.form) c.requires.rest c.requires.none c.requires.within c.requires.act) is
     (ap (λ (n : ℕ). Quiet (record { statement = n; answer = Some (Refused Full); ended = None })) c.statement-statement.ensures) refl
     (c.go_on.ensures.walk ∙ ap (λ (b : Bool). settled t.course.holdings.slots.items b t.course.endings.list (rest t.course)) empty) c.requires.rest
 
@@ -54,5 +55,6 @@ returns-in-Some-clause-stepped c =
     let is = at_act c.args.desk t v (Make c.args.form) c.requires.rest c.requires.none c.requires.within c.requires.act
     ∙ ap (λ (o : Option ℕ). Some (begins (walk t.course) k (rest t.course) o))
     (least_here c.args.desk t v b c.take_least.new.self c.requires.fits c.requires.rest s.0 s.1) in
-    stepped_as c.args.desk t v (begins (walk t.course) k (rest t.course) (Some b.0)) _ _ _ is
+    stepped_as c.args.desk t v (begins (walk t.course) k (rest t.course) (Some b.0)) _ _ _
+    (waits_act t v (Make c.args.form) c.requires.rest c.requires.none c.requires.within c.requires.act) is
     (ap (λ (x : Said). Quiet x) (c.silent.ensures ∙ ap silent c.statement-statement.ensures)) c.prepare.ensures refl refl

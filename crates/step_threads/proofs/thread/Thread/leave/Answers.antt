@@ -82,8 +82,8 @@ returns-clause-stepped c =
     } in
     ⊎_elim
     (λ e. stepped_left c.args.desk c.args.self.now c.left-ended.new.self v c.leave-last.new.table c.says.result (act.Leave c.args.name) c.get-held.result c.leave-last.result
-    c.left-ended.result c.statement-statement.result c.statement-statement.ensures c.requires.rest c.requires.none c.requires.within e
-    (ap (λ (o : Option Pointer). acts (state v) c.args.desk (walk c.args.self.now.course) (task_at c.args.self.now.course).statement (rest c.args.self.now.course)
+    c.left-ended.result c.statement-statement.result c.statement-statement.ensures c.requires.rest c.requires.none c.requires.within e refl
+    (ap (λ (o : Option Pointer). acts v c.args.desk (walk c.args.self.now.course) (task_at c.args.self.now.course).statement (rest c.args.self.now.course)
     (act.Leave c.args.name) (option_map (leave (state v)) o) Rest) (sym h))
     refl (ap (λ (o : Option Pointer). ended_by (state v) o) (sym h)) is said
     c.left-ended.ensures.ended c.left-ended.ensures.half
@@ -92,8 +92,8 @@ returns-clause-stepped c =
     (c.says.ensures ∙ ap (λ (b : Bool). cond b (Event (record { statement = c.statement-statement.result; answer = None; ended = c.left-ended.result }))
     (Quiet (record { statement = c.statement-statement.result; answer = None; ended = c.left-ended.result }))) c.is_some.ensures))
     (λ e. stepped_left c.args.desk c.args.self.now c.left-ended.new.self v c.leave-last.new.table c.says.result (act.Clear c.args.name) c.get-held.result c.leave-last.result
-    c.left-ended.result c.statement-statement.result c.statement-statement.ensures c.requires.rest c.requires.none c.requires.within e
-    (ap (λ (o : Option Pointer). acts (state v) c.args.desk (walk c.args.self.now.course) (task_at c.args.self.now.course).statement (rest c.args.self.now.course)
+    c.left-ended.result c.statement-statement.result c.statement-statement.ensures c.requires.rest c.requires.none c.requires.within e refl
+    (ap (λ (o : Option Pointer). acts v c.args.desk (walk c.args.self.now.course) (task_at c.args.self.now.course).statement (rest c.args.self.now.course)
     (act.Clear c.args.name) (option_map (leave (state v)) o) Rest) (sym h))
     refl (ap (λ (o : Option Pointer). ended_by (state v) o) (sym h)) is said
     c.left-ended.ensures.ended c.left-ended.ensures.half

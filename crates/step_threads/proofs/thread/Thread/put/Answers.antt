@@ -80,8 +80,8 @@ returns-clause-stepped c =
       roomy = c.left-ended.ensures.roomy;
     } in
     stepped_left c.args.desk c.args.self.now c.left-ended.new.self v c.put-last.new.table c.says.result (act.Put c.args.name) c.get-held.result c.put-last.result
-    c.left-ended.result c.statement-statement.result c.statement-statement.ensures c.requires.rest c.requires.none c.requires.within c.requires.act
-    (ap (λ (o : Option Pointer). acts (state v) c.args.desk (walk c.args.self.now.course) (task_at c.args.self.now.course).statement (rest c.args.self.now.course)
+    c.left-ended.result c.statement-statement.result c.statement-statement.ensures c.requires.rest c.requires.none c.requires.within c.requires.act refl
+    (ap (λ (o : Option Pointer). acts v c.args.desk (walk c.args.self.now.course) (task_at c.args.self.now.course).statement (rest c.args.self.now.course)
     (act.Put c.args.name) (option_map (leave (state v)) o) Rest) (sym h))
     refl (ap (λ (o : Option Pointer). ended_by (state v) o) (sym h)) is said
     c.left-ended.ensures.ended c.left-ended.ensures.half
