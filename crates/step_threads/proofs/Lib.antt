@@ -14,6 +14,7 @@ pub mod CompareFits
 pub mod CompareSteps
 pub mod LookFits
 pub mod LookSteps
+pub mod LoadFits
 pub mod RefillFits
 pub mod LoadFits
 pub mod holding

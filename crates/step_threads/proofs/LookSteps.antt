@@ -104,7 +104,7 @@ module _ (d : ℕ) (t : Thread) (v : Story) (c : CellName) (x : CellWord) (is : 
       let n = (task_at t.course).statement in
       let ts = rest t.course in
       let at = cell_at (state v) c in
-      stepped_as d t v (acts v d w n ts (Load c) (Some (OnCell (Look at x None))) Rest) r t' v' (waiting ∙ spent_bare x bare)
+      stepped_still d t v (acts v d w n ts (Load c) (Some (OnCell (Look at x None))) Rest) r t' v' (waiting ∙ spent_bare x bare)
       (looks_at ∙ ap (λ (s : Step). Some s) (sees_bare v d w n ts (Load c) at None x bare)) answer story walked half
 
   -- one of which all funds were taken waits
@@ -121,7 +121,7 @@ module _ (d : ℕ) (t : Thread) (v : Story) (c : CellName) (x : CellWord) (is : 
   loads_full r t' v' left full answer story walked half =
       let n = (task_at t.course).statement in
       let w = walk t.course in
-      stepped_as d t v (within w n None (Saw x)) r t' v' (waiting ∙ left)
+      stepped_still d t v (within w n None (Saw x)) r t' v' (waiting ∙ left)
       (looks_at ∙ ap (λ (s : Step). Some s) (sees_full v d w n (rest t.course) (Load c) (cell_at (state v) c) None x left full)) answer story walked half
 
 -- the next step of a load that has seen its cell
@@ -147,7 +147,7 @@ module _ (d : ℕ) (t : Thread) (v : Story) (c : CellName) (x : CellWord) (saws 
       let n = (task_at t.course).statement in
       let ts = rest t.course in
       let at = cell_at (state v) c in
-      stepped_as d t v (acts v d w n ts (Load c) (Some (OnCell (Take at x None))) (Refill Turning at (more_taken x) n)) r t' v' still_on
+      stepped_still d t v (acts v d w n ts (Load c) (Some (OnCell (Take at x None))) (Refill Turning at (more_taken x) n)) r t' v' still_on
       (seen_on ∙ ap (λ (s : Step). Some s) (takes_it v d w n ts (Load c) at None x same)) answer story walked half
 
   -- the cell shows something else: the load begins again
@@ -156,5 +156,5 @@ module _ (d : ℕ) (t : Thread) (v : Story) (c : CellName) (x : CellWord) (saws 
   takes_nothing r t' v' same answer story walked half =
       let w = walk t.course in
       let n = (task_at t.course).statement in
-      stepped_as d t v (within w n None Rest) r t' v' still_on
+      stepped_still d t v (within w n None Rest) r t' v' still_on
       (seen_on ∙ ap (λ (s : Step). Some s) (takes_none v d w n (rest t.course) (Load c) (cell_at (state v) c) None x same)) answer story walked half
