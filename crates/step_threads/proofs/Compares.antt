@@ -14,8 +14,7 @@ use Rattle.step_table.specs.Stories.{Story, state}
 use Rattle.step_threads.specs.Courses.{Begins, CourseReady, CourseStill, Drops, Follows, HasCell, IsReady, Ready, cell_at, comparing, dropping, hand, idle, kind_at, other, rest, taken_after, task_at}
 use Rattle.step_threads.specs.Programs.{IsIn}
 use Rattle.step_threads.proofs.CellNames.{goes_in}
-use Rattle.step_threads.proofs.Courses.{ready_head, todo_at}
-use Rattle.step_threads.proofs.Threads.{ready_any}
+use Rattle.step_threads.proofs.Courses.{ready_any, ready_head, todo_at}
 
 three : (a b c : Bool) → not (a && b && c) ≡ false → (b ≡ true) × (c ≡ true)
 three true true true e = (refl, refl)

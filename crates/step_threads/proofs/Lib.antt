@@ -16,5 +16,4 @@ pub mod LookFits
 pub mod LookSteps
 pub mod LoadFits
 pub mod RefillFits
-pub mod LoadFits
 pub mod holding

@@ -10,5 +10,5 @@ use Rattle.step_threads.proofs.CompareFits.{compare_brought}
 use Rattle.step_threads.proofs.thread.Thread.fetch.Goals as goal
 
 pub returns-clause-fits : goal.returns-clause-fits
-returns-clause-fits c =
+returns-clause-fits c = let q = compare_brought in
     ?
