@@ -30,22 +30,7 @@ use Rattle.step_threads.specs.Steps.{Step, acts, first, half_by, refills_on, saw
 use Rattle.step_table.specs.Stories.{Story, after, state}
 use Rattle.step_threads.specs.Threads.{HasStepped}
 use Rattle.step_threads.proofs.Courses.{todo_at}
-use Rattle.step_threads.proofs.Steps.{at_act}
-
--- a step that is known, of a thread that doesn't wait
-pub stepped_still : (d : ℕ) (t : Thread) (v : Story) (x : Step) (r : Stepped) (t' : Thread) (v' : Story) → waits v t.half (walk t.course) ≡ false
-    → step_at v d t.half (walk t.course) ≡ Some x → r ≡ stepped v (Some x) → v' ≡ story_after v d x.deed → walk t'.course ≡ x.walk → t'.half ≡ x.half
-    → HasStepped d t v r t' v'
-stepped_still d t v x r t' v' still is answer story walked half =
-    let w = walk t.course in
-    record {
-      answer =
-          subst (λ (o : Option Step). r ≡ stepped v o) (sym is) answer
-          ∙ sym (cond-false (waits v t.half w) Waited (stepped v (step_at v d t.half w)) still);
-      story = subst (λ (o : Option Step). v' ≡ story_by v d o) (sym is) story;
-      place = subst (λ (o : Option Step). walk t'.course ≡ walk_by w o) (sym is) walked;
-      half = subst (λ (o : Option Step). t'.half ≡ half_by t.half o) (sym is) half;
-    }
+use Rattle.step_threads.proofs.Steps.{at_act, stepped_as, waits_act}
 
 -- a thread that waits does nothing
 pub stepped_waiting : (d : ℕ) (t : Thread) (v : Story) (k : ℕ) (r : Stepped) (t' : Thread) (v' : Story) → waits v t.half (walk t.course) ≡ true
@@ -60,14 +45,6 @@ stepped_waiting d t v k r t' v' waiting is at answer story walked half =
       half = subst (λ (o : Option Step). t'.half ≡ half_by t.half o) (sym is) half;
     }
 
--- whether a thread at its next act waits
-pub waits_act : (t : Thread) (v : Story) (a : Act) → t.half ≡ Rest → t.course.endings.list ≡ [] → t.course.at < length t.course.tasks.items
-    → (task_at t.course).act ≡ a → waits v t.half (walk t.course) ≡ waits_on v (walk t.course) a
-waits_act t v a e none lt act =
-    let w = walk t.course in
-    ap (λ (h : Half). waits v h w) e ∙ ap (λ (es : List Ending). waits_at v w es w.todo) none
-    ∙ ap (λ (ts : List Task). waits_at v w [] ts) (todo_at t.course lt) ∙ ap (λ (b : Act). waits_on v w b) act
-
 -- the next step of a thread that took a fund of a cell
 pub refilled : (d : ℕ) (t : Thread) (v : Story) (stage : Stage) (c : Cell) (x : CellWord) (k : ℕ) (b : Block) (r : Stepped) (t' : Thread) (v' : Story)
     → t.half ≡ Refill stage c x k → x.owned ≡ Some b
@@ -75,7 +52,7 @@ pub refilled : (d : ℕ) (t : Thread) (v : Story) (stage : Stage) (c : Cell) (x 
     r ≡ stepped v (Some y) → v' ≡ story_after v d y.deed → walk t'.course ≡ y.walk → t'.half ≡ y.half → HasStepped d t v r t' v'
 refilled d t v stage c x k b r t' v' half owned =
     let w = walk t.course in
-    stepped_still d t v (refills_on v w stage c x k b) r t' v' (ap (λ (h : Half). waits v h w) half)
+    stepped_as d t v (refills_on v w stage c x k b) r t' v' (ap (λ (h : Half). waits v h w) half)
     (ap (λ (h : Half). step_at v d h w) half ∙ ap (λ (o : Option Block). option_map (refills_on v w stage c x k) o) owned)
 
 -- what the look of a cell leads to, by what it showed
@@ -127,7 +104,7 @@ module _ (d : ℕ) (t : Thread) (v : Story) (c : CellName) (x : CellWord) (is : 
       let n = (task_at t.course).statement in
       let ts = rest t.course in
       let at = cell_at (state v) c in
-      stepped_still d t v (acts v d w n ts (Load c) (Some (OnCell (Look at x None))) Rest) r t' v' (waiting ∙ spent_bare x bare)
+      stepped_as d t v (acts v d w n ts (Load c) (Some (OnCell (Look at x None))) Rest) r t' v' (waiting ∙ spent_bare x bare)
       (looks_at ∙ ap (λ (s : Step). Some s) (sees_bare v d w n ts (Load c) at None x bare)) answer story walked half
 
   -- one of which all funds were taken waits
@@ -144,7 +121,7 @@ module _ (d : ℕ) (t : Thread) (v : Story) (c : CellName) (x : CellWord) (is : 
   loads_full r t' v' left full answer story walked half =
       let n = (task_at t.course).statement in
       let w = walk t.course in
-      stepped_still d t v (within w n None (Saw x)) r t' v' (waiting ∙ left)
+      stepped_as d t v (within w n None (Saw x)) r t' v' (waiting ∙ left)
       (looks_at ∙ ap (λ (s : Step). Some s) (sees_full v d w n (rest t.course) (Load c) (cell_at (state v) c) None x left full)) answer story walked half
 
 -- the next step of a load that has seen its cell
@@ -170,7 +147,7 @@ module _ (d : ℕ) (t : Thread) (v : Story) (c : CellName) (x : CellWord) (saws 
       let n = (task_at t.course).statement in
       let ts = rest t.course in
       let at = cell_at (state v) c in
-      stepped_still d t v (acts v d w n ts (Load c) (Some (OnCell (Take at x None))) (Refill Turning at (more_taken x) n)) r t' v' still_on
+      stepped_as d t v (acts v d w n ts (Load c) (Some (OnCell (Take at x None))) (Refill Turning at (more_taken x) n)) r t' v' still_on
       (seen_on ∙ ap (λ (s : Step). Some s) (takes_it v d w n ts (Load c) at None x same)) answer story walked half
 
   -- the cell shows something else: the load begins again
@@ -179,5 +156,5 @@ module _ (d : ℕ) (t : Thread) (v : Story) (c : CellName) (x : CellWord) (saws 
   takes_nothing r t' v' same answer story walked half =
       let w = walk t.course in
       let n = (task_at t.course).statement in
-      stepped_still d t v (within w n None Rest) r t' v' still_on
+      stepped_as d t v (within w n None Rest) r t' v' still_on
       (seen_on ∙ ap (λ (s : Step). Some s) (takes_none v d w n (rest t.course) (Load c) (cell_at (state v) c) None x same)) answer story walked half
