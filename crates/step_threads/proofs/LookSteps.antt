@@ -56,7 +56,7 @@ refilled d t v stage c x k b r t' v' half owned =
     (ap (λ (h : Half). step_at v d h w) half ∙ ap (λ (o : Option Block). option_map (refills_on v w stage c x k) o) owned)
 
 -- what the look of a cell leads to, by what it showed
-spent_bare : (x : CellWord) → x.owned ≡ None → is_spent x ≡ false
+pub spent_bare : (x : CellWord) → x.owned ≡ None → is_spent x ≡ false
 spent_bare x bare = ap (λ (o : Option Block). is_some o && (x.taken == 256)) bare
 
 module _ (v : Story) (d : ℕ) (w : Walk) (k : ℕ) (ts : List Task) (a : Act) (c : Cell) (y : Option Compared) (x : CellWord) where
