@@ -9,6 +9,9 @@ pub mod Giving
 pub mod Steps
 pub mod StoreFits
 pub mod StoreSteps
+pub mod Compares
+pub mod CompareFits
+pub mod CompareSteps
 pub mod LookFits
 pub mod LookSteps
 pub mod LoadFits
