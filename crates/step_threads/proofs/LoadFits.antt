@@ -1,5 +1,6 @@
 -- A thread that loads what a cell holds fits the table.
-use Rattle.std.proofs.Common.{◌≡◌, ◌≢◌, ◌<◌, ◌==◌, ◌&&◌, ℕ, false, true, [], length, refl, sym, ap, subst, arith}
+use Rattle.std.proofs.Common.{◌≡◌, ◌≢◌, ◌<◌, ◌==◌, ◌&&◌, ℕ, false, true, [], length, refl, sym, subst, ◌∙◌, arith, eq-eqb}
+use Rattle.std.proofs.lemmas.Bool.{false≢true}
 use Rattle.std.specs.Prelude.{Option, Some, None, is_some}
 use Rattle.control_word.specs.declared.cell.CellWord.{CellWord}
 use Rattle.control_word.specs.declared.place.Block.{Block}
@@ -37,7 +38,9 @@ some_owned (Some b) e = λ q. cc
 
 pub few_taken : (x : CellWord) → IsCellWord x → is_some x.owned ≡ true → is_spent x ≡ false → x.taken < 256
 few_taken x valid full left =
-    let m = valid.taken in let t : (x.taken == 256) ≡ false = subst (λ b. (b && (x.taken == 256)) ≡ false) full left in omega (arith, m, t)
+    let m = valid.taken in
+    let t : (x.taken == 256) ≡ false = subst (λ b. (b && (x.taken == 256)) ≡ false) full left in
+    let n : x.taken ≢ 256 = λ q. false≢true (sym t ∙ eq-eqb x.taken 256 q) in omega (arith, m, n)
 
 pub cell_of_load : (d : ℕ) (t : Thread) (v : Story) (c : CellName) → Fits d t v → t.course.at < length t.course.tasks.items → (task_at t.course).act ≡ Load c
     → IsIn v.extent.shape c
@@ -48,7 +51,7 @@ pub saw_next : (d : ℕ) (t : Thread) (v : Story) (x : CellWord) → Fits d t v 
 saw_next d t v x fits e = subst (λ h. IsNext h t.course) e fits.next
 
 pub saw_loads : (d : ℕ) (t : Thread) (v : Story) (c : CellName) (x : CellWord) → Fits d t v → t.half ≡ Saw x → (task_at t.course).act ≡ Load c → IsLoaded x
-saw_loads d t v c x fits e act = subst (λ (a : Act). IsSeenBy t.course.holdings.slots.items x a) act (saw_next d t v x fits e).1.0
+saw_loads d t v c x fits e act = subst (λ (a : Act). IsSeenBy t.course.holdings.slots.items x a) act (saw_next d t v x fits e).1
 
 -- it can act
 pub saw_acts : (d : ℕ) (t : Thread) (v : Story) (x : CellWord) → Fits d t v → t.half ≡ Saw x → CanAct d t.course v
@@ -61,7 +64,7 @@ saw_acts d t v x fits e =
       within = next.0;
       ready = fits.ready;
       still = fits.still;
-      ended = next.1.1;
+      ended = next.2;
       cell = cell_here t.course v next.0 fits.cells;
     }
 
@@ -92,7 +95,7 @@ module _ (d : ℕ) (t : Thread) (v : Story) (c : CellName) (x : CellWord) (fits 
       let loaded = saw_loads d t v c x fits e act in
       let b = owned_some x.owned loaded.0 in
       let valid = (half_here d t v (Saw x) fits e).1 in
-      fits_gone d t v (Saw x) (Refill Turning at (more_taken x) k) fits e (λ b. refl) (λ b. refl) (OnCell (Take at x None)) c' next.1.1 refl on
+      fits_gone d t v (Saw x) (Refill Turning at (more_taken x) k) fits e (λ b. refl) (λ b. refl) (OnCell (Take at x None)) c' next.2 refl on
       (begins_refill d v kept fits.seat at x None b.0 (cell_open v d c (cell_of_load d t v c fits next.0 act)) valid b.1 loaded.1) tt
 
 -- the cell shows something else

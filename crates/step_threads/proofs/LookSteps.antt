@@ -56,7 +56,7 @@ refilled d t v stage c x k b r t' v' half owned =
     (ap (λ (h : Half). step_at v d h w) half ∙ ap (λ (o : Option Block). option_map (refills_on v w stage c x k) o) owned)
 
 -- what the look of a cell leads to, by what it showed
-spent_bare : (x : CellWord) → x.owned ≡ None → is_spent x ≡ false
+pub spent_bare : (x : CellWord) → x.owned ≡ None → is_spent x ≡ false
 spent_bare x bare = ap (λ (o : Option Block). is_some o && (x.taken == 256)) bare
 
 module _ (v : Story) (d : ℕ) (w : Walk) (k : ℕ) (ts : List Task) (a : Act) (c : Cell) (y : Option Compared) (x : CellWord) where
@@ -104,7 +104,7 @@ module _ (d : ℕ) (t : Thread) (v : Story) (c : CellName) (x : CellWord) (is : 
       let n = (task_at t.course).statement in
       let ts = rest t.course in
       let at = cell_at (state v) c in
-      stepped_still d t v (acts v d w n ts (Load c) (Some (OnCell (Look at x None))) Rest) r t' v' (waiting ∙ spent_bare x bare)
+      stepped_as d t v (acts v d w n ts (Load c) (Some (OnCell (Look at x None))) Rest) r t' v' (waiting ∙ spent_bare x bare)
       (looks_at ∙ ap (λ (s : Step). Some s) (sees_bare v d w n ts (Load c) at None x bare)) answer story walked half
 
   -- one of which all funds were taken waits
@@ -121,7 +121,7 @@ module _ (d : ℕ) (t : Thread) (v : Story) (c : CellName) (x : CellWord) (is : 
   loads_full r t' v' left full answer story walked half =
       let n = (task_at t.course).statement in
       let w = walk t.course in
-      stepped_still d t v (within w n None (Saw x)) r t' v' (waiting ∙ left)
+      stepped_as d t v (within w n None (Saw x)) r t' v' (waiting ∙ left)
       (looks_at ∙ ap (λ (s : Step). Some s) (sees_full v d w n (rest t.course) (Load c) (cell_at (state v) c) None x left full)) answer story walked half
 
 -- the next step of a load that has seen its cell
@@ -147,7 +147,7 @@ module _ (d : ℕ) (t : Thread) (v : Story) (c : CellName) (x : CellWord) (saws 
       let n = (task_at t.course).statement in
       let ts = rest t.course in
       let at = cell_at (state v) c in
-      stepped_still d t v (acts v d w n ts (Load c) (Some (OnCell (Take at x None))) (Refill Turning at (more_taken x) n)) r t' v' still_on
+      stepped_as d t v (acts v d w n ts (Load c) (Some (OnCell (Take at x None))) (Refill Turning at (more_taken x) n)) r t' v' still_on
       (seen_on ∙ ap (λ (s : Step). Some s) (takes_it v d w n ts (Load c) at None x same)) answer story walked half
 
   -- the cell shows something else: the load begins again
@@ -156,5 +156,5 @@ module _ (d : ℕ) (t : Thread) (v : Story) (c : CellName) (x : CellWord) (saws 
   takes_nothing r t' v' same answer story walked half =
       let w = walk t.course in
       let n = (task_at t.course).statement in
-      stepped_still d t v (within w n None Rest) r t' v' still_on
+      stepped_as d t v (within w n None Rest) r t' v' still_on
       (seen_on ∙ ap (λ (s : Step). Some s) (takes_none v d w n (rest t.course) (Load c) (cell_at (state v) c) None x same)) answer story walked half
