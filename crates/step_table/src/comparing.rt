@@ -82,6 +82,7 @@ impl Holdings {
         ensures table { table.new
             ≡ cond (is_some result.owned || same_value result (as_word (value self.old.slots.items comparing.expected))) table.old
             (after table.old desk (Deed.OnCell (CellDeed.Look cell result (Some (compared_in self.old.slots.items comparing))))) }
+        ensures stays { (is_some result.owned || same_value result (as_word (value self.old.slots.items comparing.expected))) ≡ true → self.new ≡ self.old }
         ensures holds { Holds desk self.new.slots.items table.new }
     {
         table.known();
@@ -120,6 +121,7 @@ impl Holdings {
             self.old.slots.items }
         ensures table { table.new
             ≡ cond result (after table.old desk (Deed.OnCell (CellDeed.Take cell seen (Some (compared_in self.old.slots.items comparing))))) table.old }
+        ensures stays { result ≡ false → self.new ≡ self.old }
         ensures holds { Holds desk self.new.slots.items table.new }
     {
         table.known();
@@ -155,6 +157,7 @@ impl Holdings {
             self.old.slots.items }
         ensures table { table.new
             ≡ cond result (after table.old desk (Deed.OnCell (CellDeed.CompareSwap cell seen (compared_in self.old.slots.items comparing)))) table.old }
+        ensures stays { result ≡ false → self.new ≡ self.old }
         ensures holds { Holds desk self.new.slots.items table.new }
     {
         table.known();

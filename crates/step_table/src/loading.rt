@@ -1,5 +1,5 @@
 //! How what cells hold comes into the slots of an actor. Each function is one atomic step.
-ghost use Rattle.std.specs.Prelude.{◌≡◌, ◌≢◌, ◌<◌, ◌==◌, cond, is_some, length, slice_set, Some, None};
+ghost use Rattle.std.specs.Prelude.{◌≡◌, ◌≢◌, ◌<◌, ◌==◌, cond, is_some, true, false, length, slice_set, Some, None};
 ghost use Rattle.control_word.specs.declared.view.Pending.TheVariants.{Idle};
 ghost use Rattle.control_word.specs.Packing.{IsCellWord, cell_bits};
 ghost use Rattle.control_word.specs.State.{ending};
@@ -37,6 +37,7 @@ impl Holdings {
         ensures slots { self.new.slots.items
             ≡ cond result (slice_set self.old.slots.items to (slot_of (state table.old) (held_in (state table.old) cell))) self.old.slots.items }
         ensures table { table.new ≡ cond result (after table.old desk (Deed.OnCell (CellDeed.Take cell seen None))) table.old }
+        ensures stays { result ≡ false → self.new ≡ self.old }
         ensures holds { Holds desk self.new.slots.items table.new }
     {
         table.known();
@@ -68,6 +69,7 @@ impl Holdings {
             ≡ cond (is_some result.owned) self.old.slots.items
             (slice_set self.old.slots.items to (slot_of (state table.old) (held_in (state table.old) cell))) }
         ensures table { table.new ≡ cond (is_some result.owned) table.old (after table.old desk (Deed.OnCell (CellDeed.Look cell result None))) }
+        ensures stays { is_some result.owned ≡ true → self.new ≡ self.old }
         ensures holds { Holds desk self.new.slots.items table.new }
     {
         table.known();

@@ -9,4 +9,12 @@ pub mod Giving
 pub mod Steps
 pub mod StoreFits
 pub mod StoreSteps
+pub mod Compares
+pub mod CompareFits
+pub mod CompareSteps
+pub mod CompareTells
+pub mod LookFits
+pub mod LookSteps
+pub mod LoadFits
+pub mod RefillFits
 pub mod holding

@@ -79,19 +79,19 @@ same_stores : (v : Story) (d : ℕ) (c : Cell) (new x : CellWord) → (state (af
 same_stores v d (Free n) new x = refl
 same_stores v d (Member b m) new x = refl
 
-claims_none : (k : Kind) (n : ℕ) (x : CellWord) (o : Option Block) (b : ℕ) → claimed (gives_back k n x o) b ≡ 0
+pub claims_none : (k : Kind) (n : ℕ) (x : CellWord) (o : Option Block) (b : ℕ) → claimed (gives_back k n x o) b ≡ 0
 claims_none k n x None b = refl
 claims_none k n x (Some c) b = refl
 
 claimed_none : (h : Half) (b : ℕ) → (h ≡ Rest) ⊎ (h ≡ Brought) → claimed h b ≡ 0
 claimed_none h b e = ⊎_elim (λ (q : h ≡ Rest). ap (λ (x : Half). claimed x b) q) (λ (q : h ≡ Brought). ap (λ (x : Half). claimed x b) q) e
 
-next_back : (k : Kind) (n : ℕ) (x : CellWord) (o : Option Block) (c : Course) → IsNext (gives_back k n x o) c
+pub next_back : (k : Kind) (n : ℕ) (x : CellWord) (o : Option Block) (c : Course) → IsNext (gives_back k n x o) c
 next_back k n x None c = tt
 next_back k n x (Some b) c = tt
 
 -- what came out owes its funds
-half_back : (d : ℕ) (slots : Slots) (a : Act) (w : Story) (k : Kind) (n : ℕ) (x : CellWord) (o : Option Block) → x.owned ≡ o
+pub half_back : (d : ℕ) (slots : Slots) (a : Act) (w : Story) (k : Kind) (n : ℕ) (x : CellWord) (o : Option Block) → x.owned ≡ o
     → pending w d ≡ owing (state w) k x.owned x.place (256 - x.taken) 0 → HalfFits d (gives_back k n x o) slots a w
 half_back d slots a w k n x None e is = is ∙ ap (λ (b : Option Block). owing (state w) k b x.place (256 - x.taken) 0) e
 half_back d slots a w k n x (Some b) e is = (x.place, is ∙ ap (λ (b : Option Block). owing (state w) k b x.place (256 - x.taken) 0) e)

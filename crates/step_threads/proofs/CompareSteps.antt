@@ -1,0 +1,245 @@
+-- What the steps of a thread are that compares a cell.
+use Rattle.std.proofs.Common.{◌≡◌, ℕ, ◌<◌, ◌==◌, Bool, true, false, not, ◌&&◌, List, [], length, refl, sym, ap, ◌∙◌}
+use Rattle.std.proofs.lemmas.Bool.{cond-false, cond-true}
+use Rattle.std.specs.Prelude.{Option, Some, None, is_some}
+use Rattle.control_word.specs.declared.cell.CellWord.{CellWord}
+use Rattle.control_word.specs.declared.handle.Kind.{Kind}
+use Rattle.control_word.specs.Handles.{equivalent}
+use Rattle.control_word.specs.Packing.{IsCellWord, cell_bits}
+use Rattle.step_threads.specs.declared.act.Act.{Act}
+use Rattle.step_threads.specs.declared.act.Act.TheVariants.{Compare}
+use Rattle.step_threads.specs.declared.act.Task.{Task}
+use Rattle.step_threads.specs.declared.call.CellName.{CellName}
+use Rattle.step_table.specs.declared.cell_deed.Cell.{Cell}
+use Rattle.step_table.specs.declared.cell_deed.CellDeed.TheVariants.{CompareSwap, Look, Take}
+use Rattle.step_table.specs.declared.cell_deed.Compared.{Compared}
+use Rattle.step_threads.specs.declared.half.Half.{Half}
+use Rattle.step_threads.specs.declared.half.Half.TheVariants.{Rest, Saw, Matched, Refill}
+use Rattle.step_table.specs.declared.holdings.Pointer.{Pointer}
+use Rattle.step_table.specs.declared.past.Deed.{Deed}
+use Rattle.step_table.specs.declared.past.Deed.TheVariants.{OnCell}
+use Rattle.step_table.specs.declared.refill.Stage.TheVariants.{Turning}
+use Rattle.step_threads.specs.declared.said.Answer.TheVariants.{Compared as Answered}
+use Rattle.step_threads.specs.declared.said.Said.{Said}
+use Rattle.step_threads.specs.declared.said.Stepped.{Stepped}
+use Rattle.step_threads.specs.declared.said.Stepped.TheVariants.{Event, Quiet, Waited}
+use Rattle.step_threads.specs.declared.thread.Thread.{Thread}
+use Rattle.step_table.specs.CellDeeds.{kind_in}
+use Rattle.step_table.specs.Cells.{word_at}
+use Rattle.step_table.specs.Contents.{as_word, compared_in, held_in, is_of, is_spent, same_value, seen, told}
+use Rattle.step_table.specs.Deeds.{on}
+use Rattle.step_table.specs.Holdings.{Holds, Slots, slot, value}
+use Rattle.step_table.specs.Refills.{more_taken}
+use Rattle.step_table.specs.Stories.{Kept, Story, after, event_of, state}
+use Rattle.step_threads.specs.Courses.{Walk, cell_at, comparing, hand, kind_at, rest, settled, task_at, walk}
+use Rattle.step_threads.specs.Entries.{is_expected}
+use Rattle.step_threads.specs.Programs.{IsIn}
+use Rattle.step_threads.specs.Scenes.{came, compared}
+use Rattle.step_threads.specs.Steps.{Step, acts, compares, fetches, gives_back, matched, matched_on, matches, missed, saw, saw_on, sees, settles, silent, step_at, takes, waits, within}
+use Rattle.step_threads.specs.Threads.{HasStepped}
+use Rattle.step_threads.proofs.CellNames.{cell_kind, cell_open, goes_in}
+use Rattle.step_threads.proofs.Courses.{todo_at}
+use Rattle.step_threads.proofs.LookSteps.{sees_bare, sees_full, sees_spent, spent_bare, stepped_waiting, takes_it, takes_none}
+use Rattle.step_threads.proofs.Steps.{at_act, stepped_as, waits_act}
+use Rattle.step_table.proofs.contained.Coming.{open_found, seen_found}
+use Rattle.step_table.proofs.contained.Told.{alike_seen, shows_seen}
+
+-- what a compare says that is done
+abbrev pub answers : ℕ → Bool → Said
+answers n b = record { statement = n; answer = Some (Answered b); ended = None }
+
+-- where a thread is by a compare
+abbrev pub compared_walk : Thread → Story → CellName → Bool → Walk
+compared_walk t v c b =
+    let x = compared t.course.holdings.slots.items (came (state v) c) b in settled x.0 x.1 t.course.endings.list (rest t.course)
+
+-- words tell whether a cell holds what is expected
+pub expected_told : (d : ℕ) (slots : Slots) (v : Story) (k : ℕ) (c : CellName) → Kept v → d < v.extent.actors → Holds d slots v → IsIn v.extent.shape c
+    → is_of (kind_at c) (value slots k) ≡ true → same_value (seen v (cell_at (state v) c)) (as_word (value slots k)) ≡ is_expected (state v) slots k c
+expected_told d slots v k c kept lt holds inside is =
+    let at = cell_at (state v) c in
+    alike_seen d slots v k kept holds at (seen v at) (seen_found v d at kept lt (cell_open v d c inside)) (goes_in v c (value slots k) inside is)
+    ∙ ap (λ (q : Kind). equivalent (held_in (state v) at) (told (state v) q (value slots k))) (cell_kind v c inside)
+
+-- what a cell shows still is what it holds
+pub shown_still : (d : ℕ) (v : Story) (c : CellName) (x : CellWord) → Kept v → d < v.extent.actors → IsIn v.extent.shape c → IsCellWord x
+    → word_at v (cell_at (state v) c) ≡ cell_bits x → x ≡ seen v (cell_at (state v) c)
+shown_still d v c x kept lt inside valid bits =
+    let at = cell_at (state v) c in shows_seen v d at x (open_found v d at x kept lt (cell_open v d c inside) valid bits)
+
+module _ (d : ℕ) (t : Thread) (v : Story) (k : ℕ) (c : CellName) (weak : Bool) (x : CellWord) (lt : t.course.at < length t.course.tasks.items)
+    (act : (task_at t.course).act ≡ Compare k c weak) where
+  abbrev slots : Slots
+  slots = t.course.holdings.slots.items
+
+  abbrev place : Cell
+  place = cell_at (state v) c
+
+  abbrev wanted : Compared
+  wanted = compared_in slots (comparing slots k weak)
+
+  abbrev number : ℕ
+  number = (task_at t.course).statement
+
+  -- a compare that is done, by an event that tells it
+  done : (b : Bool) (y : Deed) (h : Half) (r : Stepped) (t' : Thread) (v' : Story) → waits v t.half (walk t.course) ≡ false → is_some (event_of v y) ≡ true
+      → step_at v d t.half (walk t.course) ≡ Some (acts v d (walk t.course) number (rest t.course) (Compare k c weak) (Some y) h)
+      → is_expected (state v) slots k c ≡ b → r ≡ Event (answers number b) → v' ≡ after v d y → walk t'.course ≡ compared_walk t v c b → t'.half ≡ h
+      → HasStepped d t v r t' v'
+  done b y h r t' v' goes event is tells answer story walked half =
+      let w = walk t.course in
+      stepped_as d t v (acts v d w number (rest t.course) (Compare k c weak) (Some y) h) r t' v' goes is
+      (answer ∙ ap (λ (q : Bool). Event (answers number q)) (sym tells)
+      ∙ sym (cond-true (is_some (event_of v y)) (Event (answers number (is_expected (state v) slots k c))) (Quiet (answers number (is_expected (state v) slots k c))) event))
+      story (walked ∙ ap (λ (q : Bool). compared_walk t v c q) (sym tells)) half
+
+  -- the first step of a compare
+  module _ (is : x ≡ seen v place) (rests : t.half ≡ Rest) (none : t.course.endings.list ≡ []) where
+    looks_at : step_at v d t.half (walk t.course) ≡ Some (compares v d (walk t.course) number (rest t.course) (Compare k c weak) place wanted x)
+    looks_at =
+        at_act d t v (Compare k c weak) rests none lt act
+        ∙ ap (λ (z : CellWord). Some (compares v d (walk t.course) number (rest t.course) (Compare k c weak) place wanted z)) (sym is)
+
+    waiting : waits v t.half (walk t.course) ≡ (not (same_value x (as_word (value slots k))) && is_spent x)
+    waiting =
+        waits_act t v (Compare k c weak) rests none lt act ∙ ap (λ (z : CellWord). not (same_value z (as_word (value slots k))) && is_spent z) (sym is)
+
+    -- the cell holds what is expected: it is tried next
+    pub compares_alike : (r : Stepped) (t' : Thread) (v' : Story) → same_value x (as_word (value slots k)) ≡ true → r ≡ Quiet (silent number) → v' ≡ v
+        → walk t'.course ≡ walk t.course → t'.half ≡ Saw x → HasStepped d t v r t' v'
+    compares_alike r t' v' same answer story walked half =
+        let w = walk t.course in
+        stepped_as d t v (within w number None (Saw x)) r t' v' (waiting ∙ ap (λ (b : Bool). not b && is_spent x) same)
+        (looks_at ∙ ap (λ (s : Step). Some s) (cond-true (same_value x wanted.expected) (within w number None (Saw x))
+        (sees v d w number (rest t.course) (Compare k c weak) place (Some wanted) x) same)) answer story walked half
+
+    module _ (differs : same_value x (as_word (value slots k)) ≡ false) where
+      unlike_at : step_at v d t.half (walk t.course) ≡ Some (sees v d (walk t.course) number (rest t.course) (Compare k c weak) place (Some wanted) x)
+      unlike_at =
+          let w = walk t.course in
+          looks_at ∙ ap (λ (s : Step). Some s) (cond-false (same_value x wanted.expected) (within w number None (Saw x))
+          (sees v d w number (rest t.course) (Compare k c weak) place (Some wanted) x) differs)
+
+      spends : waits v t.half (walk t.course) ≡ is_spent x
+      spends = waiting ∙ ap (λ (b : Bool). not b && is_spent x) differs
+
+      -- one without an object was found to differ
+      pub compares_bare : (r : Stepped) (t' : Thread) (v' : Story) → x.owned ≡ None → is_expected (state v) slots k c ≡ false
+          → r ≡ Event (answers number false) → v' ≡ after v d (OnCell (Look place x (Some wanted))) → walk t'.course ≡ compared_walk t v c false
+          → t'.half ≡ Rest → HasStepped d t v r t' v'
+      compares_bare r t' v' bare tells answer story walked half =
+          done false (OnCell (Look place x (Some wanted))) Rest r t' v' (spends ∙ spent_bare x bare) refl
+          (unlike_at ∙ ap (λ (s : Step). Some s) (sees_bare v d (walk t.course) number (rest t.course) (Compare k c weak) place (Some wanted) x bare))
+          tells answer story walked half
+
+      -- one of which all funds were taken waits
+      pub compares_spent : (r : Stepped) (t' : Thread) (v' : Story) → is_spent x ≡ true → r ≡ Waited → v' ≡ v → walk t'.course ≡ walk t.course
+          → t'.half ≡ Rest → HasStepped d t v r t' v'
+      compares_spent r t' v' spent answer story walked half =
+          stepped_waiting d t v number r t' v' (spends ∙ spent)
+          (unlike_at ∙ ap (λ (s : Step). Some s) (sees_spent v d (walk t.course) number (rest t.course) (Compare k c weak) place (Some wanted) x spent))
+          rests answer story walked half
+
+      -- a fund of another is taken next
+      pub compares_full : (r : Stepped) (t' : Thread) (v' : Story) → is_spent x ≡ false → is_some x.owned ≡ true → r ≡ Quiet (silent number) → v' ≡ v
+          → walk t'.course ≡ walk t.course → t'.half ≡ Saw x → HasStepped d t v r t' v'
+      compares_full r t' v' left full answer story walked half =
+          stepped_as d t v (within (walk t.course) number None (Saw x)) r t' v' (spends ∙ left)
+          (unlike_at ∙ ap (λ (s : Step). Some s) (sees_full v d (walk t.course) number (rest t.course) (Compare k c weak) place (Some wanted) x left full))
+          answer story walked half
+
+  -- the next step of a compare that has seen its cell
+  module _ (saws : t.half ≡ Saw x) where
+    seen_on : step_at v d t.half (walk t.course) ≡ Some (settles v d (walk t.course) number (rest t.course) (Compare k c weak) place wanted x)
+    seen_on =
+        let w = walk t.course in
+        ap (λ (h : Half). step_at v d h w) saws ∙ ap (λ (ts : List Task). saw v d w x ts) (todo_at t.course lt)
+        ∙ ap (λ (a : Act). saw_on v d w number (rest t.course) x a) act
+
+    still_on : waits v t.half (walk t.course) ≡ false
+    still_on = let w = walk t.course in ap (λ (h : Half). waits v h w) saws
+
+    module _ (differs : same_value x (as_word (value slots k)) ≡ false) where
+      takes_on : step_at v d t.half (walk t.course) ≡ Some (takes v d (walk t.course) number (rest t.course) (Compare k c weak) place (Some wanted) x)
+      takes_on =
+          let w = walk t.course in
+          let ts = rest t.course in
+          let a = Compare k c weak in
+          seen_on ∙ ap (λ (s : Step). Some s) (cond-false (same_value x wanted.expected)
+          (on (fetches w number x) (matches v d w number ts a place wanted x) (slot slots (hand slots))) (takes v d w number ts a place (Some wanted) x) differs)
+
+      -- a fund is taken
+      pub differs_taken : (r : Stepped) (t' : Thread) (v' : Story) → (word_at v place == cell_bits x) ≡ true → is_expected (state v) slots k c ≡ false
+          → r ≡ Event (answers number false) → v' ≡ after v d (OnCell (Take place x (Some wanted))) → walk t'.course ≡ compared_walk t v c false
+          → t'.half ≡ Refill Turning place (more_taken x) number → HasStepped d t v r t' v'
+      differs_taken r t' v' same tells answer story walked half =
+          done false (OnCell (Take place x (Some wanted))) (Refill Turning place (more_taken x) number) r t' v' still_on refl
+          (takes_on ∙ ap (λ (s : Step). Some s) (takes_it v d (walk t.course) number (rest t.course) (Compare k c weak) place (Some wanted) x same))
+          tells answer story walked half
+
+      -- the cell shows something else: the compare begins again
+      pub differs_not : (r : Stepped) (t' : Thread) (v' : Story) → (word_at v place == cell_bits x) ≡ false → r ≡ Quiet (silent number) → v' ≡ v
+          → walk t'.course ≡ walk t.course → t'.half ≡ Rest → HasStepped d t v r t' v'
+      differs_not r t' v' same answer story walked half =
+          stepped_as d t v (within (walk t.course) number None Rest) r t' v' still_on
+          (takes_on ∙ ap (λ (s : Step). Some s) (takes_none v d (walk t.course) number (rest t.course) (Compare k c weak) place (Some wanted) x same))
+          answer story walked half
+
+    module _ (same : same_value x (as_word (value slots k)) ≡ true) where
+      alike_on : step_at v d t.half (walk t.course)
+          ≡ Some (on (fetches (walk t.course) number x) (matches v d (walk t.course) number (rest t.course) (Compare k c weak) place wanted x) (slot slots (hand slots)))
+      alike_on =
+          let w = walk t.course in
+          let ts = rest t.course in
+          let a = Compare k c weak in
+          seen_on ∙ ap (λ (s : Step). Some s) (cond-true (same_value x wanted.expected)
+          (on (fetches w number x) (matches v d w number ts a place wanted x) (slot slots (hand slots))) (takes v d w number ts a place (Some wanted) x) same)
+
+      -- the funds of what is to go in are brought
+      pub fetches_funds : (p : Pointer) → slot slots (hand slots) ≡ Some p → step_at v d t.half (walk t.course) ≡ Some (fetches (walk t.course) number x p)
+      fetches_funds p at =
+          let w = walk t.course in
+          alike_on
+          ∙ ap (λ (o : Option Pointer). Some (on (fetches w number x) (matches v d w number (rest t.course) (Compare k c weak) place wanted x) o)) at
+
+      -- or there are none to bring
+      pub fetches_none : slot slots (hand slots) ≡ None
+          → step_at v d t.half (walk t.course) ≡ Some (matches v d (walk t.course) number (rest t.course) (Compare k c weak) place wanted x)
+      fetches_none at =
+          let w = walk t.course in
+          alike_on
+          ∙ ap (λ (o : Option Pointer). Some (on (fetches w number x) (matches v d w number (rest t.course) (Compare k c weak) place wanted x) o)) at
+
+  -- the next step of a compare that has brought funds
+  pub matched_at : t.half ≡ Matched x
+      → step_at v d t.half (walk t.course) ≡ Some (matches v d (walk t.course) number (rest t.course) (Compare k c weak) place wanted x)
+  matched_at e =
+      let w = walk t.course in
+      ap (λ (h : Half). step_at v d h w) e ∙ ap (λ (ts : List Task). matched v d w x ts) (todo_at t.course lt)
+      ∙ ap (λ (a : Act). matched_on v d w number (rest t.course) x a) act
+
+  -- a compare that can swap
+  module _ (at : step_at v d t.half (walk t.course) ≡ Some (matches v d (walk t.course) number (rest t.course) (Compare k c weak) place wanted x))
+      (goes : waits v t.half (walk t.course) ≡ false) where
+    -- swaps
+    pub swaps_it : (r : Stepped) (t' : Thread) (v' : Story) → (word_at v place == cell_bits x) ≡ true → is_expected (state v) slots k c ≡ true
+        → r ≡ Event (answers number true) → v' ≡ after v d (OnCell (CompareSwap place x wanted)) → walk t'.course ≡ compared_walk t v c true
+        → t'.half ≡ gives_back (kind_in (state v) place) number x x.owned → HasStepped d t v r t' v'
+    swaps_it r t' v' same tells answer story walked half =
+        let w = walk t.course in
+        let h = gives_back (kind_in (state v) place) number x x.owned in
+        done true (OnCell (CompareSwap place x wanted)) h r t' v' goes refl
+        (at ∙ ap (λ (s : Step). Some s) (cond-true (word_at v place == cell_bits x)
+        (acts v d w number (rest t.course) (Compare k c weak) (Some (OnCell (CompareSwap place x wanted))) h)
+        (within w number None (missed number (slot slots (hand slots)))) same)) tells answer story walked half
+
+    -- or the cell shows something else: it gives back what was brought, and begins again
+    pub swaps_none : (r : Stepped) (t' : Thread) (v' : Story) → (word_at v place == cell_bits x) ≡ false → r ≡ Quiet (silent number) → v' ≡ v
+        → walk t'.course ≡ walk t.course → t'.half ≡ missed number (slot slots (hand slots)) → HasStepped d t v r t' v'
+    swaps_none r t' v' same answer story walked half =
+        let w = walk t.course in
+        let h = gives_back (kind_in (state v) place) number x x.owned in
+        stepped_as d t v (within w number None (missed number (slot slots (hand slots)))) r t' v' goes
+        (at ∙ ap (λ (s : Step). Some s) (cond-false (word_at v place == cell_bits x)
+        (acts v d w number (rest t.course) (Compare k c weak) (Some (OnCell (CompareSwap place x wanted))) h)
+        (within w number None (missed number (slot slots (hand slots)))) same)) answer story walked half

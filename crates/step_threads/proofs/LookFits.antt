@@ -1,0 +1,103 @@
+-- A thread within an act on a cell fits the table after a step.
+use Rattle.std.proofs.Common.{◌≡◌, ℕ, List, [], length, refl, sym, ap, subst, ◌∙◌, arith}
+use Rattle.std.specs.List.{filter}
+use Rattle.std.specs.Prelude.{Option, None}
+use Rattle.control_word.specs.declared.event.Event.{Event}
+use Rattle.control_word.specs.Histories.{leads}
+use Rattle.control_word.specs.State.{State, ending, same_stored, stored}
+use Rattle.step_threads.specs.declared.course.Course.{Course}
+use Rattle.step_threads.specs.declared.half.Half.{Half}
+use Rattle.step_table.specs.declared.past.Deed.{Deed}
+use Rattle.step_threads.specs.declared.thread.Thread.{Thread}
+use Rattle.step_threads.specs.Actors.{HalfFits, Stocks, claimed}
+use Rattle.step_threads.specs.Courses.{HasGoneOn, task_at}
+use Rattle.step_table.specs.Openings.{opening}
+use Rattle.step_table.specs.Stories.{Nothing, Story, added, after, event_of, state}
+use Rattle.step_threads.specs.Threads.{Fits, IsNext}
+use Rattle.step_threads.proofs.Threads.{cells_on}
+use Rattle.step_table.proofs.contained.Others.{holds_quiet}
+use Rattle.step_threads.proofs.holding.Ends.{each_end, ends_gone}
+
+-- what is half done claims no block
+abbrev pub ClaimsNone : Half → Type 0
+ClaimsNone h = (b : ℕ) → claimed h b ≡ 0
+
+module _ (d : ℕ) (t : Thread) (v : Story) (h h' : Half) (fits : Fits d t v) (was : t.half ≡ h) (none : ClaimsNone h) (none' : ClaimsNone h') where
+  -- the stock is that of the same store
+  stocks_as : (w : Story) → (state w).stores ≡ (state v).stores → w.extent ≡ v.extent → Stocks d t.stock.blocks t.stock.room h' w
+  stocks_as w same e =
+      let s = fits.stocks in
+      record {
+        stocked = λ b.
+            let a = s.stocked b in
+            let o = ap (λ l. length (filter (same_stored (stored d b)) l)) same in
+            let p = ap (λ (q : Half). claimed q b) was ∙ none b in let q = none' b in omega (arith, a, o, p, q);
+        roomy = let r = s.roomy in let x = ap (λ z. z.shape.blocks) e in omega (arith, r, x);
+      }
+
+  -- nothing was done to the table, and the thread is at the same act
+  pub fits_half : HalfFits d h' t.course.holdings.slots.items (task_at t.course).act v → IsNext h' t.course
+      → Fits d (record { course = t.course; stock = t.stock; half = h' }) v
+  fits_half half next =
+      record {
+        seat = fits.seat;
+        holds = fits.holds;
+        within = fits.within;
+        ready = fits.ready;
+        still = fits.still;
+        half = half;
+        next = next;
+        stocks = stocks_as v refl refl;
+        endings = fits.endings;
+        cells = fits.cells;
+      }
+
+  -- a step that is no event was made, and the thread is at the same act
+  pub fits_quiet : (x : Deed) → event_of v x ≡ None → HalfFits d h' t.course.holdings.slots.items (task_at t.course).act (after v d x) → IsNext h' t.course
+      → Fits d (record { course = t.course; stock = t.stock; half = h' }) (after v d x)
+  fits_quiet x quiet half next =
+      let w = after v d x in
+      let same : state w ≡ state v = ap (λ (o : Option (Event Nothing)). leads (opening v.extent) (added d o v.history)) quiet in
+      record {
+        seat = fits.seat;
+        holds = holds_quiet d d t.course.holdings.slots.items v x quiet fits.holds;
+        within = fits.within;
+        ready = fits.ready;
+        still = fits.still;
+        half = half;
+        next = next;
+        stocks = stocks_as w (ap (λ (s : State). s.stores) same) refl;
+        endings =
+            record {
+              all =
+                  record {
+                    each = each_end d v w t.course.endings.list (λ e is. record {
+                      ending = subst (λ (s : State). (s.object (s.latest e.block.0)).phase ≡ ending d) (sym same) is.ending;
+                      within = is.within;
+                    }) fits.endings.all.each;
+                    once = fits.endings.all.once;
+                  };
+              roomy = fits.endings.roomy;
+              empty = fits.endings.empty;
+            };
+        cells = fits.cells;
+      }
+
+  -- a step was made that moves no block, and the thread went on
+  pub fits_gone : (x : Deed) (c : Course) → t.course.endings.list ≡ [] → (state (after v d x)).stores ≡ (state v).stores
+      → HasGoneOn d t.course c (after v d x) → HalfFits d h' c.holdings.slots.items (task_at c).act (after v d x) → IsNext h' c
+      → Fits d (record { course = c; stock = t.stock; half = h' }) (after v d x)
+  fits_gone x c empty stores on half next =
+      let w = after v d x in
+      record {
+        seat = fits.seat;
+        holds = on.holds;
+        within = on.within;
+        ready = on.ready;
+        still = on.still;
+        half = half;
+        next = next;
+        stocks = stocks_as w stores refl;
+        endings = ends_gone d t.course c v w fits.endings empty on.endings refl;
+        cells = cells_on d t.course c w on fits.cells;
+      }

@@ -1,0 +1,86 @@
+-- A thread that refills a cell fits the table.
+use Rattle.std.proofs.Common.{◌≡◌, ℕ, ◌&&◌, Bool, true, false, cond, refl, sym, ap, subst, ◌∙◌}
+use Rattle.std.proofs.lemmas.Bool.{and_parts}
+use Rattle.std.specs.Prelude.{Option, Some, None}
+use Rattle.control_word.specs.declared.cell.CellWord.{CellWord}
+use Rattle.control_word.specs.declared.place.Block.{Block}
+use Rattle.control_word.specs.declared.view.Pending.TheVariants.{Idle}
+use Rattle.step_table.specs.declared.cell_deed.Cell.{Cell}
+use Rattle.step_table.specs.declared.cell_deed.CellDeed.TheVariants.{Turn, Bring, GiveBack, Refill as Refills}
+use Rattle.step_threads.specs.declared.half.Half.{Half}
+use Rattle.step_threads.specs.declared.half.Half.TheVariants.{Rest, Refill}
+use Rattle.step_table.specs.declared.past.Deed.TheVariants.{OnCell}
+use Rattle.step_table.specs.declared.refill.Stage.{Stage}
+use Rattle.step_table.specs.declared.refill.Stage.TheVariants.{Turning, Checking, Lacking, Refilling, Failing}
+use Rattle.step_threads.specs.declared.thread.Thread.{Thread}
+use Rattle.control_word.specs.Packing.{IsCellWord}
+use Rattle.step_table.specs.CellDeeds.{kind_in}
+use Rattle.step_table.specs.Contents.{same_value, seen}
+use Rattle.step_table.specs.Refills.{RefillFits, is_drained, is_low}
+use Rattle.step_table.specs.Stories.{Kept, Story, after, pending, state}
+use Rattle.step_threads.specs.Threads.{Fits}
+use Rattle.step_threads.proofs.LookFits.{fits_half, fits_quiet}
+use Rattle.step_threads.proofs.StoreFits.{half_here}
+use Rattle.step_threads.proofs.Threads.{own_pending}
+use Rattle.step_table.proofs.contained.Refilling.{brings_funds, finds_same, gives_back, misses_cell, turns_fund}
+
+pub refill_here : (d : ℕ) (t : Thread) (v : Story) (stage : Stage) (c : Cell) (x : CellWord) (k : ℕ) → Fits d t v → t.half ≡ Refill stage c x k
+    → RefillFits d stage c x v
+refill_here d t v stage c x k fits e = half_here d t v (Refill stage c x k) fits e
+
+abbrev pub At : Thread → Half → Thread
+At t h = record { course = t.course; stock = t.stock; half = h }
+
+pub fits_as : (d : ℕ) (t : Thread) (h h' : Half) (w w' : Story) → h' ≡ h → w' ≡ w → Fits d (At t h) w → Fits d (At t h') w'
+fits_as d t h h' w w' e is fits = subst (λ (q : Half). Fits d (At t q) w') (sym e) (subst (λ (u : Story). Fits d (At t h) u) (sym is) fits)
+
+module _ (d : ℕ) (t : Thread) (v : Story) (c : Cell) (x : CellWord) (k : ℕ) (fits : Fits d t v) where
+  -- the fund is turned
+  pub fits_turned : (b : Block) → Kept v → t.half ≡ Refill Turning c x k
+      → Fits d (At t (cond (is_low x) (Refill Checking c x k) Rest)) (after v d (OnCell (Turn (kind_in (state v) c) b)))
+  fits_turned b kept e = go (is_low x)
+    where
+      go : (low : Bool) → Fits d (At t (cond low (Refill Checking c x k) Rest)) (after v d (OnCell (Turn (kind_in (state v) c) b)))
+      go true =
+          fits_quiet d t v (Refill Turning c x k) (Refill Checking c x k) fits e (λ q. refl) (λ q. refl) (OnCell (Turn (kind_in (state v) c) b)) refl
+          (turns_fund d v kept fits.seat c x b (refill_here d t v Turning c x k fits e)) tt
+      go false =
+          fits_quiet d t v (Refill Turning c x k) Rest fits e (λ q. refl) (λ q. refl) (OnCell (Turn (kind_in (state v) c) b)) refl
+          (own_pending v d (OnCell (Turn (kind_in (state v) c) b)) kept fits.seat) tt
+
+  -- the cell was looked at
+  pub fits_checked : (y : CellWord) → t.half ≡ Refill Checking c x k → IsCellWord y → Fits d (At t (cond (is_drained x y) (Refill Lacking c y k) Rest)) v
+  fits_checked y e valid = go (is_drained x y) refl
+    where
+      go : (b : Bool) → is_drained x y ≡ b → Fits d (At t (cond b (Refill Lacking c y k) Rest)) v
+      go true same =
+          fits_half d t v (Refill Checking c x k) (Refill Lacking c y k) fits e (λ q. refl) (λ q. refl)
+          (finds_same d v c x y (refill_here d t v Checking c x k fits e) valid (and_parts (same_value x y) (is_low y) same).0) tt
+      go false same =
+          let r = refill_here d t v Checking c x k fits e in
+          fits_half d t v (Refill Checking c x k) Rest fits e (λ q. refl) (λ q. refl) r.pays tt
+
+  -- funds are brought
+  pub fits_refunded : (b : Block) → Kept v → t.half ≡ Refill Lacking c x k → x.owned ≡ Some b
+      → Fits d (At t (Refill Refilling c x k)) (after v d (OnCell (Bring (kind_in (state v) c) b x.place x.taken)))
+  fits_refunded b kept e owned =
+      fits_quiet d t v (Refill Lacking c x k) (Refill Refilling c x k) fits e (λ q. refl) (λ q. refl) (OnCell (Bring (kind_in (state v) c) b x.place x.taken)) refl
+      (brings_funds d v kept fits.seat c x b (refill_here d t v Lacking c x k fits e) owned) tt
+
+  -- they go into the cell
+  pub fits_refilled : Kept v → t.half ≡ Refill Refilling c x k → Fits d (At t Rest) (after v d (OnCell (Refills c x.taken)))
+  fits_refilled kept e =
+      fits_quiet d t v (Refill Refilling c x k) Rest fits e (λ q. refl) (λ q. refl) (OnCell (Refills c x.taken)) refl
+      (own_pending v d (OnCell (Refills c x.taken)) kept fits.seat) tt
+
+  pub fits_missed : t.half ≡ Refill Refilling c x k → Fits d (At t (Refill Failing c x k)) v
+  fits_missed e =
+      fits_half d t v (Refill Refilling c x k) (Refill Failing c x k) fits e (λ q. refl) (λ q. refl)
+      (misses_cell d v c x (refill_here d t v Refilling c x k fits e)) tt
+
+  -- they are given back
+  pub fits_failed : (b : Block) → Kept v → t.half ≡ Refill Failing c x k
+      → Fits d (At t (Refill Checking c x k)) (after v d (OnCell (GiveBack (kind_in (state v) c) b x.taken)))
+  fits_failed b kept e =
+      fits_quiet d t v (Refill Failing c x k) (Refill Checking c x k) fits e (λ q. refl) (λ q. refl) (OnCell (GiveBack (kind_in (state v) c) b x.taken)) refl
+      (gives_back d v kept fits.seat c x b (refill_here d t v Failing c x k fits e)) tt

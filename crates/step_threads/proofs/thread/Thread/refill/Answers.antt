@@ -1,0 +1,39 @@
+use Rattle.std.proofs.Common.{Bool, cond, sym, ap, ◌∙◌}
+use Rattle.control_word.specs.declared.place.Block.{Block}
+use Rattle.std.specs.Prelude.{Option}
+use Rattle.step_table.specs.declared.cell_deed.CellDeed.TheVariants.{Refill as Refills}
+use Rattle.step_threads.specs.declared.half.Half.TheVariants.{Rest, Refill}
+use Rattle.step_table.specs.declared.past.Deed.TheVariants.{OnCell}
+use Rattle.step_table.specs.declared.refill.Stage.TheVariants.{Refilling, Failing}
+use Rattle.step_table.specs.CellDeeds.{kind_in, owing}
+use Rattle.step_table.specs.Stories.{after, state}
+use Rattle.step_threads.proofs.RefillFits.{fits_as, fits_missed, fits_refilled, refill_here}
+use Rattle.step_threads.proofs.thread.Thread.refill.Goals as goal
+use Rattle.step_threads.proofs.thread.Thread.refill.Goals.{then-refill_cell, else-refill_cell}
+
+pub refill_cell-requires-clause-owes : goal.refill_cell-requires-clause-owes
+refill_cell-requires-clause-owes c =
+    let v = c.args.table.now in
+    let x = c.args.found in
+    let r = refill_here c.args.desk c.args.self.now v Refilling c.args.cell x c.args.statement c.requires.fits c.requires.half in
+    (x.place, r.pays ∙ ap (λ (o : Option Block). owing (state v) (kind_in (state v) c.args.cell) o x.place x.taken 0) (sym r.owned))
+
+pub returns-clause-fits : goal.returns-clause-fits
+returns-clause-fits c =
+    let d = c.args.desk in
+    let t = c.args.self.now in
+    let v = c.args.table.now in
+    let cell = c.args.cell in
+    let x = c.args.found in
+    let k = c.args.statement in
+    let w = after v d (OnCell (Refills cell x.taken)) in
+    elim c.if-refill_cell.branch [
+      | then-refill_cell p ↦
+          fits_as d t Rest c.if-refill_cell.self w c.refill_cell.new.self p.self-is
+          (c.refill_cell.ensures.after ∙ ap (λ (b : Bool). cond b w v) p.if-refill_cell.true)
+          (fits_refilled d t v cell x k c.requires.fits c.known.ensures c.requires.half)
+      | else-refill_cell p ↦
+          fits_as d t (Refill Failing cell x k) c.if-refill_cell.self v c.refill_cell.new.self (p.self-is ∙ p.at_stage-self.ensures)
+          (c.refill_cell.ensures.after ∙ ap (λ (b : Bool). cond b w v) p.if-refill_cell.false)
+          (fits_missed d t v cell x k c.requires.fits c.requires.half)
+    ]

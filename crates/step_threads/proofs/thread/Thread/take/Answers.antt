@@ -1,0 +1,31 @@
+use Rattle.std.proofs.Common.{◌≡◌, Bool, cond, sym, ap, subst, ◌∙◌}
+use Rattle.step_threads.specs.declared.half.Half.{Half}
+use Rattle.step_threads.specs.declared.half.Half.TheVariants.{Refill}
+use Rattle.step_table.specs.declared.cell_deed.Cell.{Cell}
+use Rattle.step_table.specs.declared.cell_deed.CellDeed.TheVariants.{Take}
+use Rattle.std.specs.Prelude.{None}
+use Rattle.step_table.specs.declared.past.Deed.TheVariants.{OnCell}
+use Rattle.step_table.specs.declared.refill.Stage.TheVariants.{Turning}
+use Rattle.step_table.specs.Refills.{more_taken}
+use Rattle.step_threads.specs.Courses.{HasGoneOn, cell_at}
+use Rattle.step_table.specs.Stories.{Story, after, state}
+use Rattle.step_threads.specs.Threads.{Fits}
+use Rattle.step_threads.proofs.LoadFits.{fits_taken}
+use Rattle.step_threads.proofs.thread.Thread.take.Goals as goal
+
+pub returns-clause-fits : goal.returns-clause-fits
+returns-clause-fits c =
+    let d = c.args.desk in
+    let t = c.args.self.now in
+    let v = c.args.table.now in
+    let x = c.args.found in
+    let n = c.statement-statement.result in
+    let c' = c.take_fund.new.self in
+    let w = after v d (OnCell (Take (cell_at (state v) c.args.cell) x None)) in
+    let is : c.take_fund.new.table ≡ w = c.take_fund.ensures.table ∙ ap (λ (b : Bool). cond b w v) c.if-not-take_fund.false in
+    let half : c.turning-self.result ≡ Refill Turning (cell_at (state v) c.args.cell) (more_taken x) n =
+    c.turning-self.ensures ∙ ap (λ (y : Cell). Refill Turning y (more_taken x) n) c.cell-at.ensures in
+    subst (λ (h : Half). Fits d (record { course = c'; stock = t.stock; half = h }) c.take_fund.new.table) (sym half)
+    (subst (λ (u : Story). Fits d (record { course = c'; stock = t.stock; half = Refill Turning (cell_at (state v) c.args.cell) (more_taken x) n }) u) (sym is)
+    (fits_taken d t v c.args.cell x c.requires.fits c' n c.known.ensures c.requires.half c.requires.act
+    (subst (λ (u : Story). HasGoneOn d t.course c' u) is (c.take_fund.ensures.on c.if-not-take_fund.false))))
