@@ -1,6 +1,6 @@
 //! An object's life, step by step.
 use crate::act::{Act, tasks};
-use crate::call::{Call, Name};
+use crate::call::{Call, CellName, Name};
 use crate::half::others_keep;
 use crate::stock::Stock;
 use control_word::{Block, Place};
@@ -43,5 +43,36 @@ fn a_copy_is_two_acts(rt: HostRuntime) -> Result<(), Fail> {
     assert_eq!(rt; acts[4].statement, 3);
     assert_eq!(rt; acts[5].act, Act::Clear { name: 1 });
     others_keep();
+    Ok(())
+}
+
+#[test]
+fn a_compare_is_four_acts(rt: HostRuntime) -> Result<(), Fail> {
+    let cell = CellName::Shared(0);
+    let calls = [
+        Call::Compare {
+            cell,
+            expected: Name(0),
+            desired: Name(1),
+            weak: true,
+        },
+        Call::Load {
+            target: Name(1),
+            cell,
+        },
+    ];
+    let acts = tasks(rt.alloc(), calls.as_slice(), 2)?;
+    assert_eq!(rt; acts.len(), 8);
+    assert_eq!(rt; acts[0].act, Act::Offer { name: 1, cell });
+    let compare = Act::Compare {
+        name: 0,
+        cell,
+        weak: true,
+    };
+    assert_eq!(rt; acts[1].act, compare);
+    assert_eq!(rt; acts[2].act, Act::Put { name: 0 });
+    assert_eq!(rt; acts[3].act, Act::Drop);
+    assert_eq!(rt; acts[4].act, Act::Load { cell });
+    assert_eq!(rt; acts[5].act, Act::Put { name: 1 });
     Ok(())
 }
