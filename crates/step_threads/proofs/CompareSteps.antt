@@ -40,8 +40,8 @@ use Rattle.step_threads.specs.Steps.{Step, acts, compares, fetches, gives_back, 
 use Rattle.step_threads.specs.Threads.{HasStepped}
 use Rattle.step_threads.proofs.CellNames.{cell_kind, cell_open, goes_in}
 use Rattle.step_threads.proofs.Courses.{todo_at}
-use Rattle.step_threads.proofs.LookSteps.{sees_bare, sees_full, sees_spent, spent_bare, stepped_waiting, takes_it, takes_none, waits_act}
-use Rattle.step_threads.proofs.Steps.{at_act, stepped_as}
+use Rattle.step_threads.proofs.LookSteps.{sees_bare, sees_full, sees_spent, spent_bare, stepped_waiting, takes_it, takes_none}
+use Rattle.step_threads.proofs.Steps.{at_act, stepped_as, waits_act}
 use Rattle.step_table.proofs.contained.Coming.{open_found, seen_found}
 use Rattle.step_table.proofs.contained.Told.{alike_seen, shows_seen}
 

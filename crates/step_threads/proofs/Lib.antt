@@ -12,6 +12,7 @@ pub mod StoreSteps
 pub mod Compares
 pub mod CompareFits
 pub mod CompareSteps
+pub mod CompareTells
 pub mod LookFits
 pub mod LookSteps
 pub mod LoadFits

@@ -1,14 +1,48 @@
-use Rattle.std.proofs.Common.{◌≡◌, ap, subst, sym, ◌∙◌}
-use Rattle.step_table.specs.declared.holdings.Pointer.{Pointer}
+use Rattle.std.proofs.Common.{◌≡◌, ℕ, refl, sym, ap, subst, ◌∙◌}
+use Rattle.step_table.specs.declared.cell_deed.CellDeed.TheVariants.{Bring}
+use Rattle.step_table.specs.declared.past.Deed.TheVariants.{OnCell}
 use Rattle.step_table.specs.Contents.{owing_for}
-use Rattle.step_table.specs.Holdings.{value}
-use Rattle.step_table.specs.Stories.{Story, pending, state}
-use Rattle.step_threads.specs.Courses.{hand}
+use Rattle.step_table.specs.Holdings.{slot, value}
+use Rattle.step_table.specs.Stories.{Story, after, pending, state}
+use Rattle.step_threads.specs.declared.half.Half.{Half}
 use Rattle.step_threads.specs.declared.half.Half.TheVariants.{Matched}
+use Rattle.step_threads.specs.declared.said.Said.{Said}
+use Rattle.step_threads.specs.declared.said.Stepped.TheVariants.{Quiet}
+use Rattle.step_threads.specs.Courses.{hand, task_at, walk}
+use Rattle.step_threads.specs.Steps.{fetches, silent, waits}
 use Rattle.step_threads.specs.Threads.{Fits}
 use Rattle.step_threads.proofs.CompareFits.{compare_brought}
+use Rattle.step_threads.proofs.CompareSteps.{fetches_funds}
+use Rattle.step_threads.proofs.LoadFits.{saw_next}
+use Rattle.step_threads.proofs.RefillFits.{At}
+use Rattle.step_threads.proofs.Steps.{stepped_as}
 use Rattle.step_threads.proofs.thread.Thread.fetch.Goals as goal
 
+pub returns-clause-stepped : goal.returns-clause-stepped
+returns-clause-stepped c =
+    let d = c.args.desk in
+    let t = c.args.self.now in
+    let v = c.args.table.now in
+    let w = walk t.course in
+    let n = (task_at t.course).statement in
+    let x = c.args.found in
+    let p = c.in-Some.pointer in
+    let r = c.requires in
+    let at = sym (c.get.ensures ∙ ap (slot t.course.holdings.slots.items) c.hand-hand.ensures) ∙ c.in-Some.is in
+    stepped_as d t v (fetches w n x p) _ _ _ (ap (λ (h : Half). waits v h w) r.half)
+    (fetches_funds d t v c.args.name c.args.cell c.args.weak x (saw_next d t v x r.fits r.half).0 r.act r.half r.alike p at)
+    (ap (λ (s : Said). Quiet s) (c.silent.ensures ∙ ap silent c.statement-statement.ensures)) c.bring.ensures.table refl refl
+
 pub returns-clause-fits : goal.returns-clause-fits
-returns-clause-fits c = let q = compare_brought in
-    ?
+returns-clause-fits c =
+    let d = c.args.desk in
+    let t = c.args.self.now in
+    let v = c.args.table.now in
+    let p = c.in-Some.pointer in
+    let slots = t.course.holdings.slots.items in
+    let r = c.requires in
+    let owes =
+    subst (λ (i : ℕ). pending c.bring.new.table d ≡ owing_for (state c.bring.new.table) (value slots i) 256) c.hand-hand.ensures c.bring.ensures.owes in
+    subst (λ (u : Story). Fits d (At t (Matched c.args.found)) u) (sym c.bring.ensures.table)
+    (compare_brought d t v c.args.name c.args.cell c.args.weak c.args.found r.fits r.act p r.half r.alike
+    (subst (λ (u : Story). pending u d ≡ owing_for (state u) (value slots (hand slots)) 256) c.bring.ensures.table owes))

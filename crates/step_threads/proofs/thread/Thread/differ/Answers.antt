@@ -1,0 +1,57 @@
+use Rattle.std.proofs.Common.{◌≡◌, ℕ, false, sym, ap, subst, ◌∙◌}
+use Rattle.std.proofs.lemmas.Bool.{cond-true}
+use Rattle.step_table.specs.declared.cell_deed.Cell.{Cell}
+use Rattle.step_table.specs.Contents.{compared_in}
+use Rattle.step_table.specs.Refills.{more_taken}
+use Rattle.step_table.specs.Stories.{Story, state}
+use Rattle.step_table.specs.declared.refill.Stage.TheVariants.{Turning}
+use Rattle.step_threads.specs.declared.half.Half.{Half}
+use Rattle.step_threads.specs.declared.half.Half.TheVariants.{Refill}
+use Rattle.step_threads.specs.declared.said.Said.{Said}
+use Rattle.step_threads.specs.declared.said.Stepped.TheVariants.{Event}
+use Rattle.step_threads.specs.Courses.{HasGoneOn, cell_at, comparing, task_at}
+use Rattle.step_threads.specs.Threads.{Fits}
+use Rattle.step_threads.proofs.CompareFits.{compare_taken, saw_other}
+use Rattle.step_threads.proofs.CompareSteps.{answers, differs_taken}
+use Rattle.step_threads.proofs.CompareTells.{tells_still}
+use Rattle.step_threads.proofs.LoadFits.{saw_next}
+use Rattle.step_threads.proofs.StoreFits.{half_here}
+use Rattle.step_threads.proofs.thread.Thread.differ.Goals as goal
+
+pub returns-clause-stepped : goal.returns-clause-stepped
+returns-clause-stepped c =
+    let d = c.args.desk in
+    let t = c.args.self.now in
+    let v = c.args.table.now in
+    let x = c.args.found in
+    let r = c.requires in
+    let took = c.take_differing in
+    let yes = c.if-not-take_differing.false in
+    let within = (saw_next d t v x r.fits r.half).0 in
+    let same = sym took.ensures.same ∙ yes in
+    let n = (task_at t.course).statement in
+    differs_taken d t v c.args.name c.args.cell c.args.weak x within r.act r.half r.differs _ _ _ same
+    (tells_still d t v c.args.name c.args.cell c.args.weak x r.fits r.act false c.known.ensures within (half_here d t v _ r.fits r.half).1 same r.differs)
+    (ap (λ (s : Said). Event s) (c.compared.ensures ∙ ap (λ (m : ℕ). answers m false) c.statement-statement.ensures))
+    (took.ensures.table ∙ cond-true took.result _ _ yes) (took.ensures.walk yes)
+    (c.turning-self.ensures ∙ ap (λ (y : Cell). Refill Turning y (more_taken x) c.statement-statement.result) c.cell-at.ensures
+    ∙ ap (λ (m : ℕ). Refill Turning (cell_at (state v) c.args.cell) (more_taken x) m) c.statement-statement.ensures)
+
+pub returns-clause-fits : goal.returns-clause-fits
+returns-clause-fits c =
+    let d = c.args.desk in
+    let t = c.args.self.now in
+    let v = c.args.table.now in
+    let x = c.args.found in
+    let slots = t.course.holdings.slots.items in
+    let r = c.requires in
+    let took = c.take_differing in
+    let yes = c.if-not-take_differing.false in
+    let m = c.statement-statement.result in
+    let table = took.ensures.table ∙ cond-true took.result _ _ yes in
+    let half = c.turning-self.ensures ∙ ap (λ (y : Cell). Refill Turning y (more_taken x) m) c.cell-at.ensures in
+    subst (λ (h : Half). Fits d (record { course = took.new.self; stock = t.stock; half = h }) took.new.table) (sym half)
+    (subst (λ (u : Story). Fits d (record { course = took.new.self; stock = t.stock; half = Refill Turning (cell_at (state v) c.args.cell) (more_taken x) m }) u) (sym table)
+    (compare_taken d t v c.args.name c.args.cell c.args.weak x r.fits r.act took.new.self (compared_in slots (comparing slots c.args.name c.args.weak)) c.known.ensures m r.half
+    (saw_other d t v c.args.name c.args.cell c.args.weak x r.fits r.act r.half r.differs)
+    (subst (λ (u : Story). HasGoneOn d t.course took.new.self u) table (took.ensures.on yes))))

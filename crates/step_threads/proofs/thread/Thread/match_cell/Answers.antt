@@ -1,0 +1,102 @@
+use Rattle.std.proofs.Common.{◌≡◌, ℕ, true, sym, ap, subst, ◌∙◌}
+use Rattle.std.proofs.lemmas.Bool.{cond-false, cond-true}
+use Rattle.std.specs.Prelude.{Option}
+use Rattle.control_word.specs.declared.handle.Kind.{Kind}
+use Rattle.step_table.specs.declared.cell_deed.Cell.{Cell}
+use Rattle.step_table.specs.declared.holdings.Pointer.{Pointer}
+use Rattle.step_table.specs.CellDeeds.{kind_in}
+use Rattle.step_table.specs.Contents.{compared_in}
+use Rattle.step_table.specs.Holdings.{slot}
+use Rattle.step_table.specs.Stories.{Story, state}
+use Rattle.step_threads.specs.declared.course.Course.{Course}
+use Rattle.step_threads.specs.declared.half.Half.{Half}
+use Rattle.step_threads.specs.declared.said.Said.{Said}
+use Rattle.step_threads.specs.declared.said.Stepped.TheVariants.{Event, Quiet}
+use Rattle.step_threads.specs.Courses.{HasGoneOn, cell_at, comparing, hand, task_at, walk}
+use Rattle.step_threads.specs.Steps.{gives_back, missed, silent}
+use Rattle.step_threads.specs.Threads.{Fits}
+use Rattle.step_threads.proofs.CompareFits.{compare_missed, compare_swapped, looking_claims}
+use Rattle.step_threads.proofs.CompareSteps.{answers, swaps_it, swaps_none}
+use Rattle.step_threads.proofs.CompareTells.{match_at, match_goes, match_none, match_valid, match_within, tells_still}
+use Rattle.step_threads.proofs.thread.Thread.match_cell.Goals as goal
+
+pub returns-then-not-compare_and_swap-clause-stepped : goal.returns-then-not-compare_and_swap-clause-stepped
+returns-then-not-compare_and_swap-clause-stepped c =
+    let d = c.args.desk in
+    let t = c.args.self.now in
+    let v = c.args.table.now in
+    let k = c.args.name in
+    let n = c.args.cell in
+    let x = c.args.found in
+    let r = c.requires in
+    let swap = c.compare_and_swap in
+    let miss = c.if-not-compare_and_swap.true in
+    let slots = t.course.holdings.slots.items in
+    swaps_none d t v k n c.args.weak x (match_within d t v k n c.args.weak x r.fits r.act r.half) r.act
+    (match_at d t v k n c.args.weak x r.fits r.act r.half r.alike r.owes) (match_goes d t v k n c.args.weak x r.fits r.act r.half) _ _ _
+    (sym swap.ensures.same ∙ miss)
+    (ap (λ (s : Said). Quiet s) (c.silent.ensures ∙ ap silent c.statement-statement.ensures)) (swap.ensures.table ∙ cond-false swap.result _ _ miss)
+    (ap walk (swap.ensures.stays miss))
+    (c.missed-self.ensures ∙ ap (missed c.statement-statement.result) (c.get-brought.ensures ∙ ap (slot slots) c.hand.ensures)
+    ∙ ap (λ (m : ℕ). missed m (slot slots (hand slots))) c.statement-statement.ensures)
+
+pub returns-then-not-compare_and_swap-clause-fits : goal.returns-then-not-compare_and_swap-clause-fits
+returns-then-not-compare_and_swap-clause-fits c =
+    let d = c.args.desk in
+    let t = c.args.self.now in
+    let v = c.args.table.now in
+    let r = c.requires in
+    let swap = c.compare_and_swap in
+    let miss = c.if-not-compare_and_swap.true in
+    let slots = t.course.holdings.slots.items in
+    let m = c.statement-statement.result in
+    let half = c.missed-self.ensures ∙ ap (missed m) (c.get-brought.ensures ∙ ap (slot slots) c.hand.ensures) in
+    subst (λ (h : Half). Fits d (record { course = swap.new.self; stock = t.stock; half = h }) swap.new.table) (sym half)
+    (subst (λ (u : Story). Fits d (record { course = swap.new.self; stock = t.stock; half = missed m (slot slots (hand slots)) }) u)
+    (sym (swap.ensures.table ∙ cond-false swap.result _ _ miss))
+    (subst (λ (q : Course). Fits d (record { course = q; stock = t.stock; half = missed m (slot slots (hand slots)) }) v) (sym (swap.ensures.stays miss))
+    (compare_missed d t v c.args.name c.args.cell c.args.weak c.args.found r.fits r.act m (looking_claims t c.args.found r.half) r.owes)))
+
+pub returns-clause-stepped : goal.returns-clause-stepped
+returns-clause-stepped c =
+    let d = c.args.desk in
+    let t = c.args.self.now in
+    let v = c.args.table.now in
+    let k = c.args.name in
+    let n = c.args.cell in
+    let x = c.args.found in
+    let r = c.requires in
+    let swap = c.compare_and_swap in
+    let hit = c.if-not-compare_and_swap.false in
+    let same = sym swap.ensures.same ∙ hit in
+    let within = match_within d t v k n c.args.weak x r.fits r.act r.half in
+    let kind = c.kind_in-kind.ensures ∙ ap (kind_in (state v)) c.cell-at.ensures in
+    swaps_it d t v k n c.args.weak x within r.act (match_at d t v k n c.args.weak x r.fits r.act r.half r.alike r.owes)
+    (match_goes d t v k n c.args.weak x r.fits r.act r.half) _ _ _ same
+    (tells_still d t v k n c.args.weak x r.fits r.act true c.known.ensures within (match_valid d t v k n c.args.weak x r.fits r.act r.half) same r.alike)
+    (ap (λ (s : Said). Event s) (c.compared.ensures ∙ ap (λ (m : ℕ). answers m true) c.statement-statement.ensures))
+    (swap.ensures.table ∙ cond-true swap.result _ _ hit) (swap.ensures.walk hit)
+    (c.returning-self.ensures ∙ ap (λ (q : Kind). gives_back q c.statement-statement.result x x.owned) kind
+    ∙ ap (λ (m : ℕ). gives_back (kind_in (state v) (cell_at (state v) n)) m x x.owned) c.statement-statement.ensures)
+
+pub returns-clause-fits : goal.returns-clause-fits
+returns-clause-fits c =
+    let d = c.args.desk in
+    let t = c.args.self.now in
+    let v = c.args.table.now in
+    let k = c.args.name in
+    let n = c.args.cell in
+    let x = c.args.found in
+    let r = c.requires in
+    let swap = c.compare_and_swap in
+    let hit = c.if-not-compare_and_swap.false in
+    let slots = t.course.holdings.slots.items in
+    let m = c.statement-statement.result in
+    let table = swap.ensures.table ∙ cond-true swap.result _ _ hit in
+    let kind = c.kind_in-kind.ensures ∙ ap (kind_in (state v)) c.cell-at.ensures in
+    subst (λ (h : Half). Fits d (record { course = swap.new.self; stock = t.stock; half = h }) swap.new.table)
+    (sym (c.returning-self.ensures ∙ ap (λ (q : Kind). gives_back q m x x.owned) kind))
+    (subst (λ (u : Story). Fits d (record { course = swap.new.self; stock = t.stock; half = gives_back (kind_in (state v) (cell_at (state v) n)) m x x.owned }) u) (sym table)
+    (compare_swapped d t v k n c.args.weak x r.fits r.act swap.new.self (compared_in slots (comparing slots k c.args.weak)) c.known.ensures m
+    (looking_claims t x r.half) (match_none d t v k n c.args.weak x r.fits r.act r.half)
+    (subst (λ (u : Story). HasGoneOn d t.course swap.new.self u) table (swap.ensures.on hit))))
