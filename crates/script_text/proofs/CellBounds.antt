@@ -1,5 +1,5 @@
 -- The cells of a script that was read are among those that texts name.
-use Rattle.std.proofs.Common.{◌≡◌, ℕ, List, [], ◌∷◌, ◌++◌, Some, None, Result, Ok, refl, subst}
+use Rattle.std.proofs.Common.{◌≡◌, ℕ, Bool, true, false, List, [], ◌∷◌, ◌++◌, Some, None, Result, Ok, refl, subst}
 use Rattle.std.specs.Prelude.{All}
 use Rattle.std.specs.List.{AllByRecursion}
 use Rattle.std.proofs.lemmas.List.Elements.{All-from_recursion}
@@ -21,13 +21,13 @@ use Rattle.script_text.specs.declared.keyword.WeakKeyword.TheVariants as weak
 use Rattle.script_text.specs.Reading.{◌>>=◌}
 use Rattle.script_text.specs.Words.{cell_at}
 use Rattle.script_text.specs.Names.{NameList, source_at}
-use Rattle.script_text.specs.Shapes.{Aim, alias_at, cell_and_source, cell_kind, one_source, one_target, target_and_fields, target_and_source, two_sources}
+use Rattle.script_text.specs.Shapes.{Aim, alias_at, cell_and_source, cell_and_sources, cell_kind, target_and_cell, one_source, one_target, target_and_fields, target_and_source, two_sources}
 use Rattle.script_text.specs.Calls.{alias_call, as_call, call_at, cell_call_at, place_call_at, weak_call_at}
 use Rattle.script_text.specs.Drafts.{Draft, Section, new_draft, sections, with_call}
 use Rattle.script_text.specs.Grammar.{Begins, Leads}
 use Rattle.script_text.specs.Scripts.{HasTextCells, part_in, program_in}
 use Rattle.script_text.proofs.ReadNames.{both_give, given, same_given, with_names}
-use Rattle.script_text.proofs.Cells.{IsTextCell, cell_is, text_cell_in}
+use Rattle.script_text.proofs.Cells.{IsTextCell, cell_is, compare_is, load_is, text_cell_in}
 use Rattle.script_text.proofs.Changes.{Change, IsAdded, added, began, line_change, skipped, with_thread}
 
 abbrev HaveTextCells : Call → Type 0
@@ -58,6 +58,24 @@ pair_cells make is names new (word ∷ other ∷ []) p h =
     let b = both_give (source_at names (cell_kind a.value) other) (λ source. given (pair a.value source)) (with_names p new) a.second in
     let made : HaveTextCells (make (a.value, b.value)) = rw (is (a.value, b.value)) (cell_is word a.value a.first, tt) in
     subst (λ (q : (CellName × Name) × NameList). HaveTextCells (make q.0)) (same_given (pair a.value b.value) (with_names p new) b.second) made
+
+load_cells : (names new : NameList) (words : List (List ℕ)) (p : Name × CellName)
+    → target_and_cell names words ≡ Ok (with_names p new) → HaveTextCells (call.Load p.0 p.1)
+unfolding target_and_cell
+load_cells names new [] p h = absurd cc
+load_cells names new (word ∷ []) p h = absurd cc
+load_cells names new (word ∷ other ∷ third ∷ words) p h = absurd cc
+load_cells names new (word ∷ other ∷ []) p h = (cell_is other p.1 (load_is names new word other p h).cell, tt)
+
+compare_cells : (way : Bool) (names new : NameList) (words : List (List ℕ)) (p : CellName × Name × Name)
+    → cell_and_sources names words ≡ Ok (with_names p new) → HaveTextCells (call.Compare p.0 p.1 p.2 way)
+unfolding cell_and_sources
+compare_cells way names new [] p h = absurd cc
+compare_cells way names new (word ∷ []) p h = absurd cc
+compare_cells way names new (word ∷ other ∷ []) p h = absurd cc
+compare_cells way names new (word ∷ other ∷ last ∷ fourth ∷ words) p h = absurd cc
+compare_cells way names new (word ∷ other ∷ last ∷ []) p h =
+    (cell_is word p.0 (compare_is names new word other last p h).cell, tt)
 
 alias_cells : (p : (Name × Name) × Aim) → HaveTextCells (alias_call p)
 alias_cells (p, None) = tt
@@ -101,6 +119,12 @@ call_cells key.Reset names new words c = call_by call.Reset (one_source names Ow
 call_cells key.Copy names new words c = call_by (λ p. call.Copy p.0 p.1) (target_and_source names Owner Owner words) (λ x ns h. tt) c new
 call_cells key.Count names new words c = call_by call.Count (one_source names Owner words) (λ x ns h. tt) c new
 call_cells (key.Place k) names new words c = place_cells k names new words c
+call_cells (key.Cell cell.Load) names new words c =
+    call_by (λ p. call.Load p.0 p.1) (target_and_cell names words) (λ x ns h. load_cells names ns words x h) c new
+call_cells (key.Cell cell.Compare) names new words c =
+    call_by (λ p. call.Compare p.0 p.1 p.2 false) (cell_and_sources names words) (λ x ns h. compare_cells false names ns words x h) c new
+call_cells (key.Cell cell.CompareWeak) names new words c =
+    call_by (λ p. call.Compare p.0 p.1 p.2 true) (cell_and_sources names words) (λ x ns h. compare_cells true names ns words x h) c new
 call_cells (key.Cell cell.Store) names new words c =
     call_by (λ p. call.Store p.0 p.1) (cell_and_source names words) (λ x ns h. pair_cells (λ p. call.Store p.0 p.1) (λ p. refl) names ns words x h) c new
 call_cells (key.Cell cell.Exchange) names new words c =

@@ -12,12 +12,12 @@ use Rattle.script_text.specs.declared.fault.Cause.{Cause}
 use Rattle.script_text.specs.declared.fault.Cause.TheVariants.{BadCell}
 use Rattle.script_text.specs.Reading.{◌>>=◌}
 use Rattle.script_text.specs.Words.{cell_at, cell_number_at, cell_of_kind, number_at, numbered_cell}
-use Rattle.script_text.specs.Names.{NameList, name_text, source_at}
-use Rattle.script_text.specs.Shapes.{cell_and_source, cell_kind}
+use Rattle.script_text.specs.Names.{NameList, declared, name_text, source_at, target_at}
+use Rattle.script_text.specs.Shapes.{cell_and_source, cell_and_sources, cell_kind, target_and_cell}
 use Rattle.script_text.specs.Canonical.{cell_text}
 use Rattle.script_text.specs.Scripts.{HasTextCells, kinds_in}
 use Rattle.script_text.proofs.TidyWords.{IsTidy, both_true, is_tidy_byte, name_is_tidy}
-use Rattle.script_text.proofs.ReadNames.{Entry, IsDeclared-Entry, both_give, given, grows_by_none, if_given, name_text-Entry, same_given, source_is, with_names}
+use Rattle.script_text.proofs.ReadNames.{Entry, IsDeclared-Entry, both_give, given, grows_by_none, if_given, name_text-Entry, same_given, source_is, target_is, with_names}
 use Rattle.script_text.proofs.ReadNumbers.{decimal_reads, decimal_tidy}
 use Rattle.script_text.proofs.Reversible.{Asker, IsReversible, Writer, always, moved, still}
 
@@ -128,3 +128,134 @@ cell_reversible names new (word ∷ other ∷ []) p h =
     (with_names p new) a.second in
     moved cell_and_source write_cell asks_cell (always 2) names names new (cell_pair a.value b.value) p b.second
     (cell_from names word other a.value b.value a.first b.first)
+
+-- ---- a name and a cell
+
+abbrev pub write_load : Writer (Name × CellName)
+write_load names p = name_text names p.0 ∷ cell_text p.1 ∷ []
+
+abbrev pub asks_load : Asker (Name × CellName)
+asks_load p = as_in p.1 p.0 ∷ []
+
+abbrev name_cell : Name → CellName → Name × CellName
+name_cell target cell = (target, cell)
+
+-- the words of a load that was read
+pub record IsLoad (names new : NameList) (word other : List ℕ) (p : Name × CellName) : Type 0 where
+  pub written : List ℕ
+  pub cell : cell_at other ≡ Ok p.1
+  pub target : target_at names (cell_kind p.1) word ≡ Ok written
+  pub made : declared names (cell_kind p.1) written ≡ Ok (with_names p.0 new)
+
+pub load_is : (names new : NameList) (word other : List ℕ) (p : Name × CellName)
+    → target_and_cell names (word ∷ other ∷ []) ≡ Ok (with_names p new) → IsLoad names new word other p
+unfolding target_and_cell
+load_is names new word other p h =
+    let a =
+    both_give (cell_at other)
+    (λ c. target_at names (cell_kind c) word >>= λ written. declared names (cell_kind c) written
+    >>= λ d. given (with_names (name_cell d.0 c) d.1))
+    (with_names p new) h in
+    let b =
+    both_give (target_at names (cell_kind a.value) word)
+    (λ written. declared names (cell_kind a.value) written >>= λ d. given (with_names (name_cell d.0 a.value) d.1))
+    (with_names p new) a.second in
+    let c =
+    both_give (declared names (cell_kind a.value) b.value) (λ d. given (with_names (name_cell d.0 a.value) d.1))
+    (with_names p new) b.second in
+    let same = same_given (with_names (name_cell c.value.0 a.value) c.value.1) (with_names p new) c.second in
+    subst (λ (q : (Name × CellName) × NameList). IsLoad names q.1 word other q.0) same
+    (record { written = b.value; cell = a.first; target = b.first; made = c.first })
+
+pub load_reversible : (names new : NameList) (words : List (List ℕ)) (p : Name × CellName)
+    → target_and_cell names words ≡ Ok (with_names p new)
+    → IsReversible target_and_cell write_load asks_load (always 2) names new p
+unfolding target_and_cell
+load_reversible names new [] p h = absurd cc
+load_reversible names new (word ∷ []) p h = absurd cc
+load_reversible names new (word ∷ other ∷ third ∷ words) p h = absurd cc
+load_reversible names new (word ∷ other ∷ []) p h =
+    let l = load_is names new word other p h in
+    let is = cell_is other p.1 l.cell in
+    let t = target_is names new (cell_kind p.1) word l.written p.0 l.target l.made in
+    let text : name_text new p.0 ≡ word = name_text-Entry new p.0 word (cell_kind p.1) t.entry in
+    record {
+      tidy = rw text (name_is_tidy word t.name_ok, (cell_tidy p.1 is, tt));
+      size_is = refl;
+      again = rw (text, cell_again p.1 is, l.target, l.made) refl;
+      grows = t.grows;
+      settled = λ more. ap (λ (u : List ℕ). u ∷ cell_text p.1 ∷ []) (still new more p.0 word (cell_kind p.1) t.entry);
+      named = (as_kind new p.1 p.0 word t.entry, tt);
+    }
+
+-- ---- a cell and two names
+
+abbrev pub write_compare : Writer (CellName × Name × Name)
+write_compare names p = cell_text p.0 ∷ name_text names p.1 ∷ name_text names p.2 ∷ []
+
+abbrev pub asks_compare : Asker (CellName × Name × Name)
+asks_compare p = as_in p.0 p.1 ∷ as_in p.0 p.2 ∷ []
+
+abbrev cell_and_two : CellName → Name → Name → CellName × Name × Name
+cell_and_two cell expected desired = (cell, expected, desired)
+
+-- the words of a compare that was read, which declares nothing
+pub record IsCompare (names new : NameList) (word other last : List ℕ) (p : CellName × Name × Name) : Type 0 where
+  pub cell : cell_at word ≡ Ok p.0
+  pub expected : source_at names (cell_kind p.0) other ≡ Ok p.1
+  pub desired : source_at names (cell_kind p.0) last ≡ Ok p.2
+  pub none : names ≡ new
+
+pub compare_is : (names new : NameList) (word other last : List ℕ) (p : CellName × Name × Name)
+    → cell_and_sources names (word ∷ other ∷ last ∷ []) ≡ Ok (with_names p new) → IsCompare names new word other last p
+unfolding cell_and_sources
+compare_is names new word other last p h =
+    let a =
+    both_give (cell_at word)
+    (λ c. source_at names (cell_kind c) other >>= λ expected. source_at names (cell_kind c) last
+    >>= λ desired. given (with_names (cell_and_two c expected desired) names))
+    (with_names p new) h in
+    let b =
+    both_give (source_at names (cell_kind a.value) other)
+    (λ expected. source_at names (cell_kind a.value) last
+    >>= λ desired. given (with_names (cell_and_two a.value expected desired) names))
+    (with_names p new) a.second in
+    let c =
+    both_give (source_at names (cell_kind a.value) last)
+    (λ desired. given (with_names (cell_and_two a.value b.value desired) names))
+    (with_names p new) b.second in
+    let same = same_given (with_names (cell_and_two a.value b.value c.value) names) (with_names p new) c.second in
+    subst (λ (q : (CellName × Name × Name) × NameList). IsCompare names q.1 word other last q.0) same
+    (record { cell = a.first; expected = b.first; desired = c.first; none = refl })
+
+compare_from : (names : NameList) (word other last : List ℕ) (p : CellName × Name × Name)
+    → IsCompare names names word other last p
+    → IsReversible cell_and_sources write_compare asks_compare (always 3) names names p
+unfolding cell_and_sources
+compare_from names word other last p l =
+    let is = cell_is word p.0 l.cell in
+    let s = source_is names (cell_kind p.0) other p.1 l.expected in
+    let t = source_is names (cell_kind p.0) last p.2 l.desired in
+    let text : name_text names p.1 ≡ other = name_text-Entry names p.1 other (cell_kind p.0) s.entry in
+    let also : name_text names p.2 ≡ last = name_text-Entry names p.2 last (cell_kind p.0) t.entry in
+    record {
+      tidy = rw (text, also) (cell_tidy p.0 is, (name_is_tidy other s.name_ok, (name_is_tidy last t.name_ok, tt)));
+      size_is = refl;
+      again = rw (cell_again p.0 is, text, also, l.expected, l.desired) refl;
+      grows = grows_by_none names;
+      settled = λ more. rw (still names more p.1 other (cell_kind p.0) s.entry, still names more p.2 last (cell_kind p.0) t.entry) refl;
+      named = (as_kind names p.0 p.1 other s.entry, (as_kind names p.0 p.2 last t.entry, tt));
+    }
+
+pub compare_reversible : (names new : NameList) (words : List (List ℕ)) (p : CellName × Name × Name)
+    → cell_and_sources names words ≡ Ok (with_names p new)
+    → IsReversible cell_and_sources write_compare asks_compare (always 3) names new p
+unfolding cell_and_sources
+compare_reversible names new [] p h = absurd cc
+compare_reversible names new (word ∷ []) p h = absurd cc
+compare_reversible names new (word ∷ other ∷ []) p h = absurd cc
+compare_reversible names new (word ∷ other ∷ last ∷ fourth ∷ words) p h = absurd cc
+compare_reversible names new (word ∷ other ∷ last ∷ []) p h =
+    let l = compare_is names new word other last p h in
+    subst (λ (ns : NameList). IsReversible cell_and_sources write_compare asks_compare (always 3) names ns p) l.none
+    (compare_from names word other last p (subst (λ (ns : NameList). IsCompare names ns word other last p) (sym l.none) l))

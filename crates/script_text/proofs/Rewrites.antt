@@ -1,5 +1,5 @@
 -- A statement that was read is read again from its canonical words.
-use Rattle.std.proofs.Common.{◌≡◌, ℕ, true, List, ◌∷◌, ◌++◌, length, Some, None, Ok, refl, sym, ap, subst, ◌∙◌}
+use Rattle.std.proofs.Common.{◌≡◌, ℕ, true, false, List, ◌∷◌, ◌++◌, length, Some, None, Ok, refl, sym, ap, subst, ◌∙◌}
 use Rattle.std.specs.Prelude.{codes}
 use Rattle.std.specs.List.{AllByRecursion}
 use Rattle.step_threads.specs.declared.call.Call.{Call}
@@ -16,7 +16,7 @@ use Rattle.script_text.specs.declared.keyword.WeakKeyword.{WeakKeyword}
 use Rattle.script_text.specs.declared.keyword.WeakKeyword.TheVariants as weak
 use Rattle.script_text.specs.Names.{NameList}
 use Rattle.script_text.specs.Keywords.{spelling_of, takes_words}
-use Rattle.script_text.specs.Shapes.{alias_at, cell_and_source, one_target, one_source, target_and_source, two_sources, target_and_fields}
+use Rattle.script_text.specs.Shapes.{alias_at, cell_and_source, cell_and_sources, target_and_cell, one_target, one_source, target_and_source, two_sources, target_and_fields}
 use Rattle.script_text.specs.Calls.{alias_call, as_call, call_at, cell_call_at, place_call_at, weak_call_at}
 use Rattle.script_text.specs.Canonical.{call_words}
 use Rattle.script_text.specs.Scripts.{kinds_in}
@@ -25,7 +25,7 @@ use Rattle.script_text.proofs.ReadNames.{both_give, given, same_given, with_name
 use Rattle.script_text.proofs.Reversible.{Reader, Writer, Asker, Sizer, IsReversible, always, write_one, asks_one, target_reversible}
 use Rattle.script_text.proofs.Reversible.{source_reversible, write_two, asks_two, target_and_source_reversible, asks_both, two_sources_reversible}
 use Rattle.script_text.proofs.Aliases.{Parts, write_alias, asks_alias, alias_size, alias_reversible}
-use Rattle.script_text.proofs.Cells.{asks_cell, cell_reversible, write_cell}
+use Rattle.script_text.proofs.Cells.{asks_cell, cell_reversible, write_cell, asks_load, load_reversible, write_load, asks_compare, compare_reversible, write_compare}
 use Rattle.script_text.proofs.Reversible.{write_fields, asks_first, target_and_fields_reversible}
 
 -- later names change no word of the statement
@@ -130,12 +130,21 @@ place_rewrites place.Before =
 cell_rewrites : (k : CellKeyword) (names new : NameList) (words : List (List ℕ)) (c : Call)
     → call_at names (key.Cell k) words ≡ Ok (with_names c new) → Rewrites names (key.Cell k) c new
 unfolding call_at cell_call_at
+cell_rewrites cell.Load =
+    rewrites_by (key.Cell cell.Load) (λ p. call.Load p.0 p.1) target_and_cell write_load asks_load (always 2)
+    (λ ns ws. refl) (λ ns x. refl) (λ x. refl) (λ x. refl) load_reversible
 cell_rewrites cell.Store =
     rewrites_by (key.Cell cell.Store) (λ p. call.Store p.0 p.1) cell_and_source write_cell asks_cell (always 2)
     (λ ns ws. refl) (λ ns x. refl) (λ x. refl) (λ x. refl) cell_reversible
 cell_rewrites cell.Exchange =
     rewrites_by (key.Cell cell.Exchange) (λ p. call.Exchange p.0 p.1) cell_and_source write_cell asks_cell (always 2)
     (λ ns ws. refl) (λ ns x. refl) (λ x. refl) (λ x. refl) cell_reversible
+cell_rewrites cell.Compare =
+    rewrites_by (key.Cell cell.Compare) (λ p. call.Compare p.0 p.1 p.2 false) cell_and_sources write_compare asks_compare (always 3)
+    (λ ns ws. refl) (λ ns x. refl) (λ x. refl) (λ x. refl) compare_reversible
+cell_rewrites cell.CompareWeak =
+    rewrites_by (key.Cell cell.CompareWeak) (λ p. call.Compare p.0 p.1 p.2 true) cell_and_sources write_compare asks_compare (always 3)
+    (λ ns ws. refl) (λ ns x. refl) (λ x. refl) (λ x. refl) compare_reversible
 
 -- each keyword on weak names by its shape
 weak_rewrites : (k : WeakKeyword) (names new : NameList) (words : List (List ℕ)) (c : Call)

@@ -13,6 +13,15 @@ pair_of (x ∷ []) d few many = absurd (omega arith)
 pair_of (x ∷ y ∷ []) d few many = refl
 pair_of (x ∷ y ∷ z ∷ xs) d few many = absurd (omega arith)
 
+-- and a list of three its first, its second and its third
+pub three_of : {A : Type 0} (xs : List A) (d : A) → 3 ≤ length xs → length xs < 4
+    → xs ≡ get_or xs 0 d ∷ get_or xs 1 d ∷ get_or xs 2 d ∷ []
+three_of [] d few many = absurd (omega arith)
+three_of (x ∷ []) d few many = absurd (omega arith)
+three_of (x ∷ y ∷ []) d few many = absurd (omega arith)
+three_of (x ∷ y ∷ z ∷ []) d few many = refl
+three_of (x ∷ y ∷ z ∷ u ∷ xs) d few many = absurd (omega arith)
+
 -- where the first reading fails, so does what comes of it
 pub fails_first : {A B : Type 0} (s : Stop) (r : Result A Cause) (f : A → Result B Cause) → Fails s r
     → Fails s (r >>= f)

@@ -1,5 +1,5 @@
 -- The call that a statement spells.
-use Rattle.std.specs.Prelude.{ℕ, List, Some, None, Result, Ok}
+use Rattle.std.specs.Prelude.{ℕ, true, false, List, Some, None, Result, Ok}
 use Rattle.step_threads.specs.declared.call.Call.{Call}
 use Rattle.step_threads.specs.declared.call.Call.TheVariants as call
 use Rattle.step_threads.specs.declared.call.Kind.TheVariants.{Owner, Weak}
@@ -15,7 +15,7 @@ use Rattle.script_text.specs.declared.keyword.WeakKeyword.{WeakKeyword}
 use Rattle.script_text.specs.declared.keyword.WeakKeyword.TheVariants as weak
 use Rattle.script_text.specs.Reading.{◌>>=◌}
 use Rattle.script_text.specs.Names.{NameList}
-use Rattle.script_text.specs.Shapes.{Aim, alias_at, cell_and_source, one_target, one_source, target_and_source, two_sources, target_and_fields}
+use Rattle.script_text.specs.Shapes.{Aim, alias_at, cell_and_source, cell_and_sources, target_and_cell, one_target, one_source, target_and_source, two_sources, target_and_fields}
 
 -- what was read, as a call
 abbrev pub as_call : {A : Type 0} → (A → Call) → Result (A × NameList) Cause → Result (Call × NameList) Cause
@@ -37,10 +37,13 @@ place_call_at names place.Place words = as_call call.Place (one_source names Own
 place_call_at names place.Same words = as_call (λ p. call.Same p.0 p.1) (two_sources names (Some Owner) words)
 place_call_at names place.Before words = as_call (λ p. call.Before p.0 p.1) (two_sources names None words)
 
--- the call of a statement on a cell
+-- the call of a statement on a cell, and the names with its target, if it has one
 unfoldable pub cell_call_at : NameList → CellKeyword → List (List ℕ) → Result (Call × NameList) Cause
+cell_call_at names cell.Load words = as_call (λ p. call.Load p.0 p.1) (target_and_cell names words)
 cell_call_at names cell.Store words = as_call (λ p. call.Store p.0 p.1) (cell_and_source names words)
 cell_call_at names cell.Exchange words = as_call (λ p. call.Exchange p.0 p.1) (cell_and_source names words)
+cell_call_at names cell.Compare words = as_call (λ p. call.Compare p.0 p.1 p.2 false) (cell_and_sources names words)
+cell_call_at names cell.CompareWeak words = as_call (λ p. call.Compare p.0 p.1 p.2 true) (cell_and_sources names words)
 
 -- the call of a statement on weak names, and the names with its target
 unfoldable pub weak_call_at : NameList → WeakKeyword → List (List ℕ) → Result (Call × NameList) Cause

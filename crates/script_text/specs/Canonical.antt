@@ -1,5 +1,5 @@
 -- Canonical text: single spaces, numbers without leading zeros, and no line that is skipped.
-use Rattle.std.specs.Prelude.{◌≡◌, ℕ, ◌++◌, String, List, [], ◌∷◌, map, codes, decimal, string_bytes}
+use Rattle.std.specs.Prelude.{◌≡◌, ℕ, ◌++◌, true, false, String, List, [], ◌∷◌, map, codes, decimal, string_bytes}
 use Rattle.std.specs.List.{flat_map, join_with_byte}
 use Rattle.step_threads.specs.declared.call.Call.{Call}
 use Rattle.step_threads.specs.declared.call.Call.TheVariants as call
@@ -38,6 +38,11 @@ call_words names (call.Same first second) = codes "same" ∷ name_text names fir
 call_words names (call.Before first second) = codes "before" ∷ name_text names first ∷ name_text names second ∷ []
 call_words names (call.Store cell source) = codes "store" ∷ cell_text cell ∷ name_text names source ∷ []
 call_words names (call.Exchange cell name) = codes "exchange" ∷ cell_text cell ∷ name_text names name ∷ []
+call_words names (call.Load target cell) = codes "load" ∷ name_text names target ∷ cell_text cell ∷ []
+call_words names (call.Compare cell expected desired false) =
+    codes "compare" ∷ cell_text cell ∷ name_text names expected ∷ name_text names desired ∷ []
+call_words names (call.Compare cell expected desired true) =
+    codes "compare_weak" ∷ cell_text cell ∷ name_text names expected ∷ name_text names desired ∷ []
 call_words names (call.Count name) = codes "count" ∷ name_text names name ∷ []
 call_words names (call.Weak target source) = codes "weak" ∷ name_text names target ∷ name_text names source ∷ []
 call_words names (call.WeakCopy target source) = codes "wcopy" ∷ name_text names target ∷ name_text names source ∷ []
@@ -58,6 +63,9 @@ line_words names (line.Alias target source of field) =
 line_words names (line.AliasNull target source) =
     codes "alias" ∷ name_text names target ∷ name_text names source ∷ codes "null" ∷ []
 line_words names (line.Cell word cell name) = word.now ∷ cell_text cell ∷ name_text names name ∷ []
+line_words names (line.Load target cell) = codes "load" ∷ name_text names target ∷ cell_text cell ∷ []
+line_words names (line.Compare word cell expected desired) =
+    word.now ∷ cell_text cell ∷ name_text names expected ∷ name_text names desired ∷ []
 
 -- a number after a space
 abbrev pub number_after : ℕ → List ℕ

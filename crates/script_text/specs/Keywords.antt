@@ -36,8 +36,11 @@ spelling_of (Place place.Read) = spelled (codes "read") 1 1
 spelling_of (Place place.Place) = spelled (codes "place") 1 1
 spelling_of (Place place.Same) = spelled (codes "same") 2 2
 spelling_of (Place place.Before) = spelled (codes "before") 2 2
+spelling_of (Cell cell.Load) = spelled (codes "load") 2 2
 spelling_of (Cell cell.Store) = spelled (codes "store") 2 2
 spelling_of (Cell cell.Exchange) = spelled (codes "exchange") 2 2
+spelling_of (Cell cell.Compare) = spelled (codes "compare") 3 3
+spelling_of (Cell cell.CompareWeak) = spelled (codes "compare_weak") 3 3
 spelling_of (Weak weak.Weak) = spelled (codes "weak") 2 2
 spelling_of (Weak weak.Copy) = spelled (codes "wcopy") 2 2
 spelling_of (Weak weak.Empty) = spelled (codes "wempty") 1 1
@@ -53,7 +56,7 @@ keywords =
     Make ∷ MakeThis ∷ Null ∷ Empty ∷ Reset ∷ Copy ∷ Count
     ∷ Place place.Move ∷ Place place.Alias ∷ Place place.This ∷ Place place.WeakThis
     ∷ Place place.Read ∷ Place place.Place ∷ Place place.Same ∷ Place place.Before
-    ∷ Cell cell.Store ∷ Cell cell.Exchange
+    ∷ Cell cell.Load ∷ Cell cell.Store ∷ Cell cell.Exchange ∷ Cell cell.Compare ∷ Cell cell.CompareWeak
     ∷ Weak weak.Weak ∷ Weak weak.Copy ∷ Weak weak.Empty ∷ Weak weak.Reset
     ∷ Weak weak.Lock ∷ Weak weak.Upgrade ∷ Weak weak.Count ∷ Weak weak.Expired ∷ []
 

@@ -1,6 +1,6 @@
 -- The words after the first one: a definition for each shape of statement.
--- `T` is a target, `O` a source, `Y` a source of either kind, `n` a number, `F` a field, `C` a cell and `X` a source of its kind. Words are looked at from left to right, and a target is declared
--- after all other checks.
+-- `T` is a target, `O` a source, `Y` a source of either kind, `n` a number, `F` a field, `C` a cell and `X` a source of its kind. Words are looked at from left to right, but a cell that gives its
+-- kind to a target before it comes first, and a target is declared after all other checks.
 use Rattle.std.specs.Prelude.{ℕ, List, [], ◌∷◌, map, Option, Some, None, Result, Ok, Err, codes, if◌then◌else◌, slice_get}
 use Rattle.std.specs.Str.{bytes_eq}
 use Rattle.std.specs.Borrow.{Bor}
@@ -64,6 +64,24 @@ cell_and_source names (one ∷ other ∷ []) = do
   source ← source_at names (cell_kind cell) other
   Ok ((cell, source), names)
 cell_and_source names _ = Err WrongNumberOfWords
+
+-- `T C`: the target has the cell's kind
+unfoldable pub target_and_cell : NameList → List (List ℕ) → Result ((Name × CellName) × NameList) Cause
+target_and_cell names (target ∷ one ∷ []) = do
+  cell ← cell_at one
+  name ← target_at names (cell_kind cell) target
+  new ← declared names (cell_kind cell) name
+  Ok ((new.0, cell), new.1)
+target_and_cell names _ = Err WrongNumberOfWords
+
+-- `C X X`
+unfoldable pub cell_and_sources : NameList → List (List ℕ) → Result ((CellName × Name × Name) × NameList) Cause
+cell_and_sources names (one ∷ other ∷ last ∷ []) = do
+  cell ← cell_at one
+  expected ← source_at names (cell_kind cell) other
+  desired ← source_at names (cell_kind cell) last
+  Ok ((cell, expected, desired), names)
+cell_and_sources names _ = Err WrongNumberOfWords
 
 -- where an alias points: at a field of what a name points into, or at null
 abbrev pub Aim : Type 0

@@ -41,8 +41,11 @@ pub(crate) enum PlaceKeyword {
 /// A statement on a cell by its first word.
 #[derive(Clone, Copy, Debug, PartialEq, Eq)]
 pub(crate) enum CellKeyword {
+    Load,
     Store,
     Exchange,
+    Compare,
+    CompareWeak,
 }
 
 /// A statement on weak names by its first word.
@@ -59,7 +62,7 @@ pub(crate) enum WeakKeyword {
 }
 
 /// Each statement once.
-const KEYWORDS: [Keyword; 25] = [
+const KEYWORDS: [Keyword; 28] = [
     Keyword::Make,
     Keyword::MakeThis,
     Keyword::Null,
@@ -75,8 +78,11 @@ const KEYWORDS: [Keyword; 25] = [
     Keyword::Place(PlaceKeyword::Place),
     Keyword::Place(PlaceKeyword::Same),
     Keyword::Place(PlaceKeyword::Before),
+    Keyword::Cell(CellKeyword::Load),
     Keyword::Cell(CellKeyword::Store),
     Keyword::Cell(CellKeyword::Exchange),
+    Keyword::Cell(CellKeyword::Compare),
+    Keyword::Cell(CellKeyword::CompareWeak),
     Keyword::Weak(WeakKeyword::Weak),
     Keyword::Weak(WeakKeyword::Copy),
     Keyword::Weak(WeakKeyword::Empty),
@@ -117,8 +123,11 @@ fn spelling_of(keyword: Keyword) -> Spelling
         Keyword::Place(PlaceKeyword::Place) => ("place", 1, 1),
         Keyword::Place(PlaceKeyword::Same) => ("same", 2, 2),
         Keyword::Place(PlaceKeyword::Before) => ("before", 2, 2),
+        Keyword::Cell(CellKeyword::Load) => ("load", 2, 2),
         Keyword::Cell(CellKeyword::Store) => ("store", 2, 2),
         Keyword::Cell(CellKeyword::Exchange) => ("exchange", 2, 2),
+        Keyword::Cell(CellKeyword::Compare) => ("compare", 3, 3),
+        Keyword::Cell(CellKeyword::CompareWeak) => ("compare_weak", 3, 3),
         Keyword::Weak(WeakKeyword::Weak) => ("weak", 2, 2),
         Keyword::Weak(WeakKeyword::Copy) => ("wcopy", 2, 2),
         Keyword::Weak(WeakKeyword::Empty) => ("wempty", 1, 1),

@@ -34,14 +34,17 @@
 //! | `place O` | `Place` | |
 //! | `same O O` | `Same` | |
 //! | `before Y Y` | `Before`; each name of either kind | |
+//! | `load T C` | `Load` | of the kind of the cell |
 //! | `store C X` | `Store`; X of the kind of the cell | |
 //! | `exchange C X` | `Exchange`; the same | |
+//! | `compare C X X` | `Compare`; the same | |
+//! | `compare_weak C X X` | `Compare`, weak; the same | |
 //!
 //! A number is at most 18446744073709551615, a field (`F`) a number from 0 to 3; leading zeros are read, and not written.
 //! A cell (`C`) is `s` ([util.smartptr.atomic.shared]) or `w` ([util.smartptr.atomic.weak]) and a number from 0 to 127.
 //!
 //! On one line causes are looked for in the order in which [`Cause`] lists them, except that the words
-//! after the first are looked at from left to right: each by its form, then whether a source is
+//! after the first are looked at from left to right (those of `load` from right to left): each by its form, then whether a source is
 //! declared, then whether it is declared with the other kind, be it a source or a target.
 //!
 //! A further statement is a variant of `step_core::Call` with its names in `names_of`, a row in
@@ -73,6 +76,10 @@ pub use text::parse;
 
 #[cfg(test)]
 mod cell_tests;
+#[cfg(test)]
+mod compare_tests;
+#[cfg(test)]
+mod load_tests;
 #[cfg(test)]
 mod place_tests;
 #[cfg(test)]

@@ -21,6 +21,8 @@ pub(crate) enum Line {
     /// An alias that points at null.
     AliasNull(Name, Name),
     Cell(&'static str, CellName, Name),
+    Load(Name, CellName),
+    Compare(&'static str, CellName, Name, Name),
 }
 
 /// The line of a call.
@@ -57,8 +59,18 @@ fn line_of(call: &Call) -> Line
         Call::Place { name } => Line::One("place", name),
         Call::Same { first, second } => Line::Two("same", first, second),
         Call::Before { first, second } => Line::Two("before", first, second),
+        Call::Load { target, cell } => Line::Load(target, cell),
         Call::Store { cell, source } => Line::Cell("store", cell, source),
         Call::Exchange { cell, name } => Line::Cell("exchange", cell, name),
+        Call::Compare {
+            cell,
+            expected,
+            desired,
+            weak,
+        } => {
+            let word = if weak { "compare_weak" } else { "compare" };
+            Line::Compare(word, cell, expected, desired)
+        }
     }
 }
 
@@ -143,6 +155,37 @@ fn put_cell(text: &mut String, first: &str, cell: CellName, name: &str) -> Resul
     Ok(())
 }
 
+/// Adds the line of a load.
+fn put_load(text: &mut String, target: &str, cell: CellName) -> Result<(), AllocError>
+    ensures { OnOk result
+        (AddsLines text.old text.new (spaced (codes "load" ∷ target.now ∷ cell_text cell ∷ []) ∷ [])) }
+{
+    match cell {
+        CellName::Shared(number) => writeln!(text, "load {target} s{number}")?,
+        CellName::Weak(number) => writeln!(text, "load {target} w{number}")?,
+    }
+    Ok(())
+}
+
+/// Adds the line of a word, a cell and two names.
+fn put_compare(
+    text: &mut String,
+    first: &str,
+    cell: CellName,
+    expected: &str,
+    desired: &str,
+) -> Result<(), AllocError>
+    ensures { OnOk result (AddsLines text.old text.new
+        (spaced (first.now ∷ cell_text cell ∷ expected.now ∷ desired.now ∷ []) ∷ [])) }
+{
+    match cell {
+        CellName::Shared(number) => write!(text, "{first} s{number}")?,
+        CellName::Weak(number) => write!(text, "{first} w{number}")?,
+    }
+    writeln!(text, " {expected} {desired}")?;
+    Ok(())
+}
+
 /// Adds the line of a call.
 pub(crate) fn put_call(text: &mut String, names: &Names, call: &Call) -> Result<(), AllocError>
     ensures { OnOk result (AddsLines text.old text.new (call_line names.now call.now ∷ [])) }
@@ -161,5 +204,10 @@ pub(crate) fn put_call(text: &mut String, names: &Names, call: &Call) -> Result<
             put_alias_null(text, names.text(target), names.text(source))
         }
         Line::Cell(word, cell, name) => put_cell(text, word, cell, names.text(name)),
+        Line::Load(target, cell) => put_load(text, names.text(target), cell),
+        Line::Compare(word, cell, expected, desired) => {
+            let (expected, desired) = (names.text(expected), names.text(desired));
+            put_compare(text, word, cell, expected, desired)
+        }
     }
 }

@@ -1,11 +1,12 @@
 //! Statements, as calls over the numbers of names.
 
 ghost use Rattle.script_text.specs.Reading.{Gives};
-ghost use Rattle.script_text.specs.Shapes.{texts};
-ghost use Rattle.script_text.specs.Calls.{call_at, cell_call_at, place_call_at, weak_call_at};
+ghost use Rattle.step_threads.specs.declared.call.Call.TheVariants.{Compare};
+ghost use Rattle.script_text.specs.Shapes.{cell_and_sources, texts};
+ghost use Rattle.script_text.specs.Calls.{as_call, call_at, cell_call_at, place_call_at, weak_call_at};
 
 use crate::alias::alias;
-use crate::cell::cell_and_source;
+use crate::cell::{cell_and_source, cell_and_sources, target_and_cell};
 use crate::fault::Stop;
 use crate::keyword::{CellKeyword, Keyword, PlaceKeyword, WeakKeyword};
 use crate::names::Names;
@@ -55,7 +56,7 @@ pub(crate) fn call_of(
             Ok(Call::Count { name })
         }
         Keyword::Place(keyword) => place_call_of(alloc, names, keyword, words),
-        Keyword::Cell(keyword) => cell_call_of(names, keyword, words),
+        Keyword::Cell(keyword) => cell_call_of(alloc, names, keyword, words),
         Keyword::Weak(keyword) => weak_call_of(alloc, names, keyword, words),
     }
 }
@@ -104,17 +105,47 @@ fn place_call_of(
     }
 }
 
-/// The same for a statement on a cell, which declares nothing.
+/// The same for a statement on a cell.
 #[tactic(auto, unfolding(crate::specs::Calls::cell_call_at))]
-fn cell_call_of(names: &Names, keyword: CellKeyword, words: &[&[u8]]) -> Result<Call, Stop>
-    ensures { Gives (λ call. (call, names.now)) result
-        (cell_call_at names.now keyword (texts words.now)) }
+fn cell_call_of(
+    alloc: Global,
+    names: &mut Names,
+    keyword: CellKeyword,
+    words: &[&[u8]],
+) -> Result<Call, Stop>
+    ensures { Gives (λ call. (call, names.new)) result
+        (cell_call_at names.old keyword (texts words.now)) }
 {
-    let (cell, name) = cell_and_source(names, words)?;
     match keyword {
-        CellKeyword::Store => Ok(Call::Store { cell, source: name }),
-        CellKeyword::Exchange => Ok(Call::Exchange { cell, name }),
+        CellKeyword::Load => {
+            let (target, cell) = target_and_cell(alloc, names, words)?;
+            Ok(Call::Load { target, cell })
+        }
+        CellKeyword::Store => {
+            let (cell, source) = cell_and_source(names, words)?;
+            Ok(Call::Store { cell, source })
+        }
+        CellKeyword::Exchange => {
+            let (cell, name) = cell_and_source(names, words)?;
+            Ok(Call::Exchange { cell, name })
+        }
+        CellKeyword::Compare => compare(names, words, false),
+        CellKeyword::CompareWeak => compare(names, words, true),
     }
+}
+
+/// The call of a compare, strong or weak.
+fn compare(names: &Names, words: &[&[u8]], weak: bool) -> Result<Call, Stop>
+    ensures { Gives (λ call. (call, names.now)) result
+        (as_call (λ p. Compare p.0 p.1 p.2 weak) (cell_and_sources names.now (texts words.now))) }
+{
+    let (cell, expected, desired) = cell_and_sources(names, words)?;
+    Ok(Call::Compare {
+        cell,
+        expected,
+        desired,
+        weak,
+    })
 }
 
 /// The same for a statement on weak names.

@@ -14,7 +14,7 @@ pub(crate) fn said(alloc: Global, text: &[u8]) -> Result<String, Fail> {
     }
 }
 
-fn repeated(alloc: Global, line: &str, times: u32) -> Result<String, Fail> {
+pub(crate) fn repeated(alloc: Global, line: &str, times: u32) -> Result<String, Fail> {
     let mut text = String::new(alloc);
     for _ in 0..times {
         text.push_str(line)?;
@@ -22,7 +22,7 @@ fn repeated(alloc: Global, line: &str, times: u32) -> Result<String, Fail> {
     Ok(text)
 }
 
-fn names(alloc: Global, count: u32) -> Result<String, Fail> {
+pub(crate) fn names(alloc: Global, count: u32) -> Result<String, Fail> {
     let mut text = String::new(alloc);
     for i in 0..count {
         let line = format!(in alloc; "empty n{i}\n")?;
