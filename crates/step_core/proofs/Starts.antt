@@ -132,9 +132,9 @@ call_ready kinds k (call.Upgrade t s) ts named four r = (
   (name_within kinds (call.Upgrade t s) 0 (owner t) (omega arith) refl named, tt, r),
 )
 call_ready kinds k (call.Store (cell.Shared n) t) ts named four r =
-    ((name_within kinds (call.Store (cell.Shared n) t) 0 (owner t) (omega arith) refl named, refl), tt, (tt, refl, (refl, tt, r)))
+    ((name_within kinds (call.Store (cell.Shared n) t) 0 (owner t) (omega arith) refl named, refl), tt, (tt, tt, (refl, tt, r)))
 call_ready kinds k (call.Store (cell.Weak n) t) ts named four r =
-    ((name_within kinds (call.Store (cell.Weak n) t) 0 (weak t) (omega arith) refl named, refl), tt, (tt, refl, (refl, tt, r)))
+    ((name_within kinds (call.Store (cell.Weak n) t) 0 (weak t) (omega arith) refl named, refl), tt, (tt, tt, (refl, tt, r)))
 call_ready kinds k (call.Exchange (cell.Shared n) t) ts named four r =
     ((name_within kinds (call.Exchange (cell.Shared n) t) 0 (owner t) (omega arith) refl named, refl), tt, r)
 call_ready kinds k (call.Exchange (cell.Weak n) t) ts named four r =
