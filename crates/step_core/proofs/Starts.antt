@@ -1,5 +1,5 @@
 -- A thread at its start fits the table.
-use Rattle.std.proofs.Common.{◌≡◌, ℕ, zero, suc, ◌+◌, ◌<◌, ◌≤◌, Bool, false, List, [], ◌∷◌, ◌++◌, length, Option}
+use Rattle.std.proofs.Common.{◌≡◌, ℕ, zero, suc, ◌+◌, ◌<◌, ◌≤◌, false, List, [], ◌∷◌, ◌++◌, length, Option}
 use Rattle.std.proofs.Common.{get_or, replicate, refl, sym, ap, subst, ◌∙◌, inl, arith}
 use Rattle.std.specs.Prelude.{All, Some, None, slice_get}
 use Rattle.std.proofs.lemmas.List.{length-replicate}

@@ -8,7 +8,6 @@ use Rattle.control_word.specs.declared.place.Block.{Block}
 use Rattle.control_word.specs.declared.place.Place.{Place}
 use Rattle.control_word.specs.Packing.{cell_bits}
 use Rattle.step_table.specs.declared.cell_deed.Cell.{Cell}
-use Rattle.step_table.specs.declared.cell_deed.CellDeed.{CellDeed}
 use Rattle.step_table.specs.declared.cell_deed.CellDeed.TheVariants as cell_deed
 use Rattle.step_table.specs.declared.cell_deed.Compared.{Compared}
 use Rattle.step_table.specs.declared.holdings.Pointer.{Pointer}
@@ -20,7 +19,7 @@ use Rattle.step_threads.specs.declared.act.Act.TheVariants.{Make, Share, Downgra
 use Rattle.step_threads.specs.declared.act.Task.{Task}
 use Rattle.step_threads.specs.declared.call.CellName.{CellName}
 use Rattle.step_threads.specs.declared.half.Half.{Half}
-use Rattle.step_threads.specs.declared.half.Half.TheVariants.{Rest, Saw, Matched, Refill}
+use Rattle.step_threads.specs.declared.half.Half.TheVariants.{Rest, Saw, Refill}
 use Rattle.step_table.specs.CellDeeds.{kind_in}
 use Rattle.step_table.specs.Cells.{word_at}
 use Rattle.step_table.specs.Contents.{compared_in, is_spent, same_value, seen}

@@ -19,7 +19,7 @@ use Rattle.step_table.specs.Stories.{Story, state}
 use Rattle.step_threads.specs.Courses.{Walk, cell_at}
 use Rattle.step_threads.specs.Scenes.{ended_of, left, went}
 use Rattle.step_threads.specs.Steps.{Step, acts, compares, matched, saw, sees, step_at}
-use Rattle.step_core.proofs.telling.Cases.{IsEach, IsEachAct, IsEachRefill, each_compares, each_matched, each_refill, each_saw, each_sees}
+use Rattle.step_core.proofs.telling.Cases.{IsEach, IsEachAct, each_compares, each_matched, each_refill, each_saw, each_sees}
 use Rattle.step_core.proofs.telling.Deeds.{IsCounted, plus_none, quiet}
 use Rattle.step_core.proofs.telling.Walking.{went_plain}
 

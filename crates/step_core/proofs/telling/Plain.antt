@@ -1,5 +1,5 @@
 -- No act of a thread fills a member.
-use Rattle.std.proofs.Common.{ℕ, ◌<◌, ◌==◌, Bool, true, false, List, [], ◌∷◌, length, get_or}
+use Rattle.std.proofs.Common.{ℕ, ◌==◌, Bool, true, false, List, [], ◌∷◌, get_or}
 use Rattle.std.specs.Prelude.{Option, Some, None, option_map}
 use Rattle.std.proofs.lemmas.Bool.{cond_both}
 use Rattle.control_word.specs.declared.handle.Kind.{Kind}

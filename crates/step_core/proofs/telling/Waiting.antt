@@ -1,10 +1,7 @@
 -- A step that waits adds nothing to the totals, as it is no event; and one that doesn't says so.
 use Rattle.std.proofs.Common.{◌≡◌, ◌≢◌, ℕ, Bool, true, false, not, ◌&&◌, cond, List, [], ◌∷◌, refl, sym, ap, ◌∙◌}
 use Rattle.std.specs.Prelude.{Option, Some, None, is_some}
-use Rattle.control_word.specs.declared.cell.CellWord.{CellWord}
-use Rattle.step_table.specs.declared.cell_deed.Cell.{Cell}
 use Rattle.step_table.specs.declared.cell_deed.CellDeed.TheVariants as cell_deed
-use Rattle.step_table.specs.declared.cell_deed.Compared.{Compared}
 use Rattle.step_table.specs.declared.past.Deed.TheVariants as deed
 use Rattle.step_threads.specs.declared.act.Act.{Act}
 use Rattle.step_threads.specs.declared.act.Act.TheVariants.{Make, Share, Downgrade, Lock, Put, Leave, Clear, Count, Expired, Read, FromThis, Alias, Move, Ask, Offer, Swap, Exchange, Load, Compare, Drop}
@@ -13,12 +10,12 @@ use Rattle.step_threads.specs.declared.ending.Ending.{Ending}
 use Rattle.step_threads.specs.declared.half.Half.{Half}
 use Rattle.step_threads.specs.declared.half.Half.TheVariants.{Rest, Making, Locking, Giving, Brought, Saw, Matched, Refill, Returning}
 use Rattle.step_threads.specs.declared.said.Stepped.{Stepped}
-use Rattle.step_threads.specs.declared.said.Stepped.TheVariants.{Event, Quiet, Waited, Done}
+use Rattle.step_threads.specs.declared.said.Stepped.TheVariants.{Event, Quiet, Waited}
 use Rattle.step_table.specs.Contents.{as_word, compared_in, is_spent, same_value, seen}
 use Rattle.step_table.specs.Holdings.{value}
 use Rattle.step_table.specs.Stories.{Story, state}
 use Rattle.step_threads.specs.Courses.{Walk, cell_at, comparing}
-use Rattle.step_threads.specs.Steps.{Step, acts, answered, at_rest, begun, compares, first, is_event, sees, step_at, stepped, waits, waits_at, waits_on, within}
+use Rattle.step_threads.specs.Steps.{Step, acts, answered, at_rest, begun, first, is_event, step_at, stepped, waits, waits_at, waits_on, within}
 use Rattle.step_core.specs.Told.{ends_by, makes}
 
 -- two answers of a step of a thread at rest that add as much
