@@ -95,7 +95,7 @@ least_shape v d b (x ∷ xs) all e =
       where
         lower : (x.block < c) ⊎ (c ≤ x.block) → InShape (opening v.extent) (min x.block c)
         lower (inl lt) = subst (λ (n : ℕ). InShape (opening v.extent) n) (sym (min-eq_left {n = x.block} {m = c} (omega arith))) here
-        lower (inr le) = subst (λ (n : ℕ). InShape (opening v.extent) n) (sym (min-eq_right {n = x.block} {m = c} (omega arith))) (later c refl)
+        lower (inr le) = subst (λ (n : ℕ). InShape (opening v.extent) n) (sym (min-eq_right {n = c} {m = x.block} (omega arith))) (later c refl)
 
 pub least_there : (v : Story) (d : ℕ) (b : Block) → Kept v → least d (state v).stores ≡ Some b.0 → IsThere v b
 least_there v d b kept e = least_shape v d b.0 (state v).stores (λ f c h. vacant_place v f (record { 0 = c }) kept h) e

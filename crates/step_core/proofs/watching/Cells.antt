@@ -127,7 +127,7 @@ flag true = omega arith
 flag false = omega arith
 
 -- the block of what is put back is one of the table
-block_there : (v : Story) (d : ℕ) (s : Stage) (c : Cell) (x : CellWord) → Kept v → RefillFits d s c x v → (b : Block) → x.owned ≡ Some b → IsThere v b
+pub block_there : (v : Story) (d : ℕ) (s : Stage) (c : Cell) (x : CellWord) → Kept v → RefillFits d s c x v → (b : Block) → x.owned ≡ Some b → IsThere v b
 block_there v d s c x kept fits b own =
     subst (IsThere v) (same_Some _ _ (sym fits.owned ∙ own))
     (there v fits.block kept (handle_busy v d (kind_in (state v) c) fits.block x.place kept fits.has)).1
