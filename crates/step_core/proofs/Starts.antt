@@ -132,13 +132,25 @@ call_ready kinds k (call.Upgrade t s) ts named four r = (
   (name_within kinds (call.Upgrade t s) 0 (owner t) (omega arith) refl named, tt, r),
 )
 call_ready kinds k (call.Store (cell.Shared n) t) ts named four r =
-    ((name_within kinds (call.Store (cell.Shared n) t) 0 (owner t) (omega arith) refl named, refl), tt, (tt, refl, (refl, tt, r)))
+    ((name_within kinds (call.Store (cell.Shared n) t) 0 (owner t) (omega arith) refl named, refl), tt, (tt, tt, (refl, tt, r)))
 call_ready kinds k (call.Store (cell.Weak n) t) ts named four r =
-    ((name_within kinds (call.Store (cell.Weak n) t) 0 (weak t) (omega arith) refl named, refl), tt, (tt, refl, (refl, tt, r)))
+    ((name_within kinds (call.Store (cell.Weak n) t) 0 (weak t) (omega arith) refl named, refl), tt, (tt, tt, (refl, tt, r)))
 call_ready kinds k (call.Exchange (cell.Shared n) t) ts named four r =
     ((name_within kinds (call.Exchange (cell.Shared n) t) 0 (owner t) (omega arith) refl named, refl), tt, r)
 call_ready kinds k (call.Exchange (cell.Weak n) t) ts named four r =
     ((name_within kinds (call.Exchange (cell.Weak n) t) 0 (weak t) (omega arith) refl named, refl), tt, r)
+call_ready kinds k (call.Load t (cell.Shared n)) ts named four r =
+    (refl, tt, (name_within kinds (call.Load t (cell.Shared n)) 0 (owner t) (omega arith) refl named, tt, r))
+call_ready kinds k (call.Load t (cell.Weak n)) ts named four r =
+    (refl, tt, (name_within kinds (call.Load t (cell.Weak n)) 0 (weak t) (omega arith) refl named, tt, r))
+call_ready kinds k (call.Compare (cell.Shared n) x y b) ts named four r =
+    let i = name_within kinds (call.Compare (cell.Shared n) x y b) 0 (owner x) (omega arith) refl named in
+    let j = name_within kinds (call.Compare (cell.Shared n) x y b) 1 (owner y) (omega arith) refl named in
+    ((j, refl), tt, (i, tt, (i, tt, (refl, tt, r))))
+call_ready kinds k (call.Compare (cell.Weak n) x y b) ts named four r =
+    let i = name_within kinds (call.Compare (cell.Weak n) x y b) 0 (weak x) (omega arith) refl named in
+    let j = name_within kinds (call.Compare (cell.Weak n) x y b) 1 (weak y) (omega arith) refl named in
+    ((j, refl), tt, (i, tt, (i, tt, (refl, tt, r))))
 
 tasks_ready : (kinds : List Kind) (k : ℕ) (calls : List Call) → All (IsWellNamed kinds) calls → All HasFields calls
     → Ready (length kinds) false (tasks_from k calls (length kinds))
@@ -179,6 +191,9 @@ two z t u h i = All-cons (HasTask z) t (u ∷ []) h (one z u i)
 three : (z : Shape) (t u w : Task) → HasCell z t.act → HasCell z u.act → HasCell z w.act → All (HasTask z) (t ∷ u ∷ w ∷ [])
 three z t u w h i j = All-cons (HasTask z) t (u ∷ w ∷ []) h (two z u w i j)
 
+four : (z : Shape) (t u w x : Task) → HasCell z t.act → HasCell z u.act → HasCell z w.act → HasCell z x.act → All (HasTask z) (t ∷ u ∷ w ∷ x ∷ [])
+four z t u w x h i j k = All-cons (HasTask z) t (u ∷ w ∷ x ∷ []) h (three z u w x i j k)
+
 first_cell : (z : Shape) (c : CellName) → All (IsIn z) (c ∷ []) → IsIn z c
 first_cell z c h = All-head (IsIn z) c [] h
 
@@ -209,6 +224,8 @@ call_cells z k (call.Same t s) h = one z _ tt
 call_cells z k (call.Before t s) h = one z _ tt
 call_cells z k (call.Store c t) h = three z _ _ _ (first_cell z c h) (first_cell z c h) tt
 call_cells z k (call.Exchange c t) h = one z _ (first_cell z c h)
+call_cells z k (call.Load t c) h = two z _ _ (first_cell z c h) tt
+call_cells z k (call.Compare c x y b) h = four z _ _ _ _ (first_cell z c h) (first_cell z c h) tt tt
 
 pub tasks_cells : (z : Shape) (k n : ℕ) (calls : List Call) → All (HasCells z) calls → All (HasTask z) (tasks_from k calls n)
 tasks_cells z k n [] h = clearing_cells z n

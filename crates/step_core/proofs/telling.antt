@@ -4,7 +4,11 @@ pub mod Deeds
 pub mod Counting
 pub mod Still
 pub mod Swapping
+pub mod Cases
+pub mod Looking
+pub mod Trying
 pub mod Ending
+pub mod Waiting
 pub mod Stepping
 pub mod Worlds
 pub mod Starting

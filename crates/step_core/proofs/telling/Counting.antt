@@ -17,11 +17,12 @@ use Rattle.step_table.specs.declared.ended.Ended.{Ended}
 use Rattle.step_threads.specs.Actors.{wanted}
 use Rattle.step_threads.specs.declared.ending.Ending.{Ending}
 use Rattle.step_core.specs.Bounds.{walk_steps, weight}
-use Rattle.step_threads.specs.Courses.{Going, Walk, form_of, going, hand, locked, offered, on_going, other, settled}
+use Rattle.step_threads.specs.Courses.{Going, Walk, cell_at, comparing, form_of, going, hand, locked, offered, on_going, other, settled}
 use Rattle.step_threads.specs.Endings.{staged}
+use Rattle.step_table.specs.Contents.{compared_in, seen}
 use Rattle.step_table.specs.Holdings.{inside, is_full, owner_slot, place_in, slot}
 use Rattle.step_threads.specs.Entries.{least}
-use Rattle.step_table.specs.Deeds.{on, give, is_enabled, lock, owner_word, aliased}
+use Rattle.step_table.specs.Deeds.{by_word, on, give, is_enabled, lock, owner_word, aliased}
 use Rattle.step_threads.specs.Scenes.{answer_of, ended_of, holding, left as leaves_by, went}
 use Rattle.step_threads.specs.Steps.{asks, at_rest, brings, given, Step, acts, begins, begun, claims, ends_on, first, looks, made_on, prepares, sends, sent, swaps, tried, tries, trying, with_endings, silent, step_at}
 use Rattle.control_word.specs.declared.handle.Kind.{Kind}
@@ -32,6 +33,7 @@ use Rattle.step_core.specs.Totals.{made_in}
 use Rattle.step_core.specs.Turning.{IsAlone, IsUnderWay}
 use Rattle.step_core.proofs.telling.Walking.{IsFree, carried_leaves, over_less, settled_alone, staged_most, walk_alone, went_less, went_plain}
 use Rattle.step_core.proofs.telling.Swapping.{swapping, went_swap}
+use Rattle.step_core.proofs.telling.Looking.{compares_one, counted_match, counted_refill, counted_saw, sees_one}
 use Rattle.step_core.proofs.telling.Deeds.{IsCounted, aliased_by, downgraded, expired, left, locked_by, plus_none, quiet, read_one, shared, told}
 
 made_one : (v : Story) (d i k : ℕ) (w : Walk) (t : Task) (ts : List Task) (b : Block) (f : Bool) (form : Form) → (i == 5) ≡ true
@@ -81,13 +83,13 @@ plain v d k w t ts a none is stays = let l = went_plain (state v) d k w t ts a n
 asked_one : (v : Story) (d k : ℕ) (w : Walk) (t : Task) (ts : List Task) (i : ℕ) (q : Kind) (o : Option Pointer) → w.endings ≡ []
     → w.todo ≡ t ∷ ts → IsCounted v d Rest w (Some (on (asks v d w k ts i q) (acts v d w k ts (FromThis i q) None Rest) o))
 asked_one v d k w t ts i q None none is =
-    quiet v d k Rest Rest w (went (state v) d w k ts (FromThis i q)) (answer_of (state v) d w.slots (FromThis i q))
+    quiet v d k Rest Rest w (went (state v) d w k ts (FromThis i q)) (answer_of (by_word v) (state v) d w.slots (FromThis i q))
     (plain v d k w t ts (FromThis i q) none is refl)
 asked_one v d k w t ts i q (Some y) none is =
     cond_both (is_enabled (state v) y) (record { deed = None; half = Giving i q y; walk = w; said = silent k })
     (acts v d w k ts (FromThis i q) None Rest) (λ (x : Step). IsCounted v d Rest w (Some x))
     (λ b. quiet v d k Rest (Giving i q y) w w None (omega arith))
-    (λ b. quiet v d k Rest Rest w (went (state v) d w k ts (FromThis i q)) (answer_of (state v) d w.slots (FromThis i q))
+    (λ b. quiet v d k Rest Rest w (went (state v) d w k ts (FromThis i q)) (answer_of (by_word v) (state v) d w.slots (FromThis i q))
     (plain v d k w t ts (FromThis i q) none is refl))
 
 given_one : (v : Story) (d i k : ℕ) (q r : Kind) (y : Pointer) (w x : Walk) (a : Option Answer) → walk_steps x ≤ walk_steps w
@@ -104,7 +106,7 @@ counted_give : (v : Story) (d i : ℕ) (q : Kind) (y : Pointer) (w : Walk) (ts :
     → IsCounted v d (Giving i q y) w (given v d w i q y ts)
 counted_give v d i q y w [] is none = record { made = plus_none _; ended = plus_none _; few = omega arith }
 counted_give v d i q y w (t ∷ ts) is none =
-    given_one v d i t.statement q q y w (went (state v) d w t.statement ts (FromThis i q)) (answer_of (state v) d w.slots (FromThis i q))
+    given_one v d i t.statement q q y w (went (state v) d w t.statement ts (FromThis i q)) (answer_of (by_word v) (state v) d w.slots (FromThis i q))
     (plain v d t.statement w t ts (FromThis i q) none is refl)
 
 -- a lock is tried, or done
@@ -112,7 +114,7 @@ tried_or : (v : Story) (d k : ℕ) (h : Half) (w : Walk) (t : Task) (ts : List T
     → is_prepared h ≡ false → w.endings ≡ [] → w.todo ≡ t ∷ ts
     → IsCounted v d h w (Some (cond b (acts v d w k ts (Lock i must) (Some (lock (state v) y)) Rest) (trying w k word)))
 tried_or v d k h w t ts word i must y true e none is =
-    locked_by v d k h w (went (state v) d w k ts (Lock i must)) (answer_of (state v) d w.slots (Lock i must)) y e
+    locked_by v d k h w (went (state v) d w k ts (Lock i must)) (answer_of (by_word v) (state v) d w.slots (Lock i must)) y e
     (plain v d k w t ts (Lock i must) none is refl)
 tried_or v d k h w t ts word i must y false e none is = quiet v d k h (cond (word == 0) Rest (Locking word)) w w None (omega arith)
 
@@ -120,7 +122,7 @@ looked : (v : Story) (d k : ℕ) (w : Walk) (t : Task) (ts : List Task) (i : ℕ
     → w.todo ≡ t ∷ ts
     → IsCounted v d Rest w (Some (on (looks v d w k ts (Lock i must)) (acts v d w k ts (Lock i must) None Rest) o))
 looked v d k w t ts i must None none is =
-    quiet v d k Rest Rest w (went (state v) d w k ts (Lock i must)) (answer_of (state v) d w.slots (Lock i must))
+    quiet v d k Rest Rest w (went (state v) d w k ts (Lock i must)) (answer_of (by_word v) (state v) d w.slots (Lock i must))
     (plain v d k w t ts (Lock i must) none is refl)
 looked v d k w t ts i must (Some y) none is = tried_or v d k Rest w t ts (owner_word v y) i must y (owner_word v y == 0) refl none is
 
@@ -168,7 +170,7 @@ counted_act v d k w t ts (Leave i) none is same =
 counted_act v d k w t ts (Clear i) none is same =
     left v d k w (went (state v) d w k ts (Clear i)) (slot w.slots i) (went_less (state v) d k w t ts (Clear i) none is)
 counted_act v d k w t ts (Count i) none is same =
-    told v d k w (went (state v) d w k ts (Count i)) (answer_of (state v) d w.slots (Count i)) (plain v d k w t ts (Count i) none is refl)
+    told v d k w (went (state v) d w k ts (Count i)) (answer_of (by_word v) (state v) d w.slots (Count i)) (plain v d k w t ts (Count i) none is refl)
     (slot w.slots i)
 counted_act v d k w t ts (Downgrade i) none is same =
     downgraded v d k w (went (state v) d w k ts (Downgrade i)) (plain v d k w t ts (Downgrade i) none is refl) (slot w.slots i)
@@ -179,12 +181,12 @@ counted_act v d k w t ts (Alias i j field) none is same =
 counted_act v d k w t ts (Move i) none is same =
     quiet v d k Rest Rest w (went (state v) d w k ts (Move i)) None (plain v d k w t ts (Move i) none is refl)
 counted_act v d k w t ts (Ask q) none is same =
-    quiet v d k Rest Rest w (went (state v) d w k ts (Ask q)) (answer_of (state v) d w.slots (Ask q)) (plain v d k w t ts (Ask q) none is refl)
+    quiet v d k Rest Rest w (went (state v) d w k ts (Ask q)) (answer_of (by_word v) (state v) d w.slots (Ask q)) (plain v d k w t ts (Ask q) none is refl)
 counted_act v d k w t ts (Expired i) none is same =
-    expired v d k w (went (state v) d w k ts (Expired i)) (answer_of (state v) d w.slots (Expired i))
+    expired v d k w (went (state v) d w k ts (Expired i)) (answer_of (by_word v) (state v) d w.slots (Expired i))
     (plain v d k w t ts (Expired i) none is refl) (slot w.slots i)
 counted_act v d k w t ts (Read i) none is same =
-    read_one v d k w (went (state v) d w k ts (Read i)) (answer_of (state v) d w.slots (Read i)) (plain v d k w t ts (Read i) none is refl)
+    read_one v d k w (went (state v) d w k ts (Read i)) (answer_of (by_word v) (state v) d w.slots (Read i)) (plain v d k w t ts (Read i) none is refl)
     (inside (slot w.slots i))
 counted_act v d k w t ts (FromThis i kind) none is same = asked_one v d k w t ts i kind (inside (slot w.slots i)) none is
 counted_act v d k w t ts (Offer i c) none is same =
@@ -195,6 +197,11 @@ counted_act v d k w t ts (Swap c) none is same =
 counted_act v d k w t ts (Exchange i c) none is same =
     going_in v d k w t ts (Exchange i c) (going w.slots (Exchange i c)) none is same refl
     (quiet v d k Rest Rest w (went (state v) d w k ts (Exchange i c)) None (plain v d k w t ts (Exchange i c) none is refl))
+counted_act v d k w t ts (Load c) none is same =
+    sees_one v d k w t ts (Load c) (cell_at (state v) c) None (seen v (cell_at (state v) c)) none is refl refl
+counted_act v d k w t ts (Compare i c weak) none is same =
+    compares_one v d k w t ts (Compare i c weak) (cell_at (state v) c) (compared_in w.slots (comparing w.slots i weak)) (seen v (cell_at (state v) c))
+    none is refl refl
 counted_act v d k w t ts Drop none is same =
     left v d k w (went (state v) d w k ts Drop) (slot w.slots (other w.slots)) (went_less (state v) d k w t ts Drop none is)
 
@@ -248,6 +255,8 @@ counted_try v d word w t ts (Ask q) (Some y) none is e = cc
 counted_try v d word w t ts (Offer i c) (Some y) none is e = cc
 counted_try v d word w t ts (Swap c) (Some y) none is e = cc
 counted_try v d word w t ts (Exchange i c) (Some y) none is e = cc
+counted_try v d word w t ts (Load c) (Some y) none is e = cc
+counted_try v d word w t ts (Compare i c weak) (Some y) none is e = cc
 counted_try v d word w t ts Drop (Some y) none is e = cc
 
 counted_lock : (v : Story) (d word : ℕ) (w : Walk) (ts : List Task) → w.endings ≡ [] → w.todo ≡ ts
@@ -262,4 +271,7 @@ counted v d (Making b i f) w way alone = counted_make v d i w b f w.todo refl al
 counted v d (Locking word) w way alone = counted_lock v d word w w.todo alone refl
 counted v d (Giving i kind x) w way alone = counted_give v d i kind x w w.todo refl alone
 counted v d Brought w way alone = counted_send v d w w.todo alone refl
+counted v d (Saw x) w way alone = counted_saw v d w x w.todo alone refl
+counted v d (Matched x) w way alone = counted_match v d w x w.todo alone refl
+counted v d (Refill stage c x k) w way alone = counted_refill v d stage c x k w
 counted v d (Returning kind b funds k) w way alone = record { made = plus_none _; ended = plus_none _; few = omega arith }

@@ -93,7 +93,7 @@ locked_by v d k h w x a y e le =
 
 pub told : (v : Story) (d k : ℕ) (w x : Walk) (a : Option Answer) → walk_steps x ≤ walk_steps w → (y : Option Pointer)
     → IsCounted v d Rest w (Some (record {
-      deed = option_map (tell (state v)) y;
+      deed = option_map (tell v) y;
       half = Rest;
       walk = x;
       said = record { statement = k; answer = a; ended = None };

@@ -20,7 +20,8 @@ use Rattle.step_table.specs.declared.past.Deed.TheVariants as deed
 use Rattle.step_threads.specs.declared.said.Said.{Said}
 use Rattle.step_threads.specs.Actors.{wanted}
 use Rattle.step_table.specs.declared.cell_deed.CellDeed.TheVariants as cell_deed
-use Rattle.step_threads.specs.Courses.{Walk, form_of, going, hand, locked, offered, other}
+use Rattle.step_table.specs.Contents.{compared_in, seen}
+use Rattle.step_threads.specs.Courses.{Walk, cell_at, comparing, form_of, going, hand, locked, offered, other}
 use Rattle.step_table.specs.Deeds.{alias, aliased, downgrade, is_last, leave, leave_as, read, share, tell, tell_expired, on}
 use Rattle.step_threads.specs.Endings.{endings_of, staged}
 use Rattle.step_table.specs.Holdings.{inside, is_full, owner_slot, place_in, slot}
@@ -31,6 +32,7 @@ use Rattle.step_threads.specs.Steps.{Step, asks, at_rest, begins, begun, claims,
 use Rattle.step_table.specs.Stories.{Kept, Story, known, object_in, pending, state}
 use Rattle.step_core.specs.Told.{AllEnd}
 use Rattle.step_table.proofs.tables.Places.{owner_busy, there}
+use Rattle.step_core.proofs.telling.Trying.{compares_on, matched_on, refill_on, saw_on, sees_on}
 use Rattle.step_core.proofs.telling.Walking.{settled_endings}
 use Rattle.step_core.proofs.telling.Still.{Follows, Lists, Right, asked, done_on, end_put, given_on, going_in, looked, passes, plain, same, sent_on, shared, tried_on, within}
 
@@ -101,7 +103,7 @@ acted v d k w ts f at all kept (Leave i) =
 acted v d k w ts f at all kept (Clear i) =
     left v d k w (went (state v) d w k ts (Clear i)) _ f at all kept (slot w.slots i) (act_endings v d k w ts (Clear i))
 acted v d k w ts f at all kept (Count i) =
-    plain v d k w ts (Count i) _ Rest f refl (done_on v d (tell (state v)) (slot w.slots i) (λ x. refl)) at all
+    plain v d k w ts (Count i) _ Rest f refl (done_on v d (tell v) (slot w.slots i) (λ x. refl)) at all
 acted v d k w ts f at all kept (Downgrade i) =
     plain v d k w ts (Downgrade i) _ Rest f refl (done_on v d downgrade (slot w.slots i) (λ x. refl)) at all
 acted v d k w ts f at all kept (Lock i must) = looked v d k w ts i must f at all (locked w.slots (Lock i must))
@@ -119,6 +121,10 @@ acted v d k w ts f at all kept (Offer i c) =
     plain v d k w ts (Offer i c) _ Rest f refl (done_on v d share (offered w.slots i c) (λ x. shared v d x.kind x)) at all
 acted v d k w ts f at all kept (Swap c) = going_in v d k w ts (Swap c) (going w.slots (Swap c)) f at all refl refl
 acted v d k w ts f at all kept (Exchange i c) = going_in v d k w ts (Exchange i c) (going w.slots (Exchange i c)) f at all refl refl
+acted v d k w ts f at all kept (Load c) =
+    sees_on v d k w ts (Load c) c None (seen v (cell_at (state v) c)) f refl at all
+acted v d k w ts f at all kept (Compare i c weak) =
+    compares_on v d k w ts (Compare i c weak) c (compared_in w.slots (comparing w.slots i weak)) (seen v (cell_at (state v) c)) f refl at all
 acted v d k w ts f at all kept Drop =
     left v d k w (went (state v) d w k ts Drop) _ f at all kept (slot w.slots (other w.slots)) (act_endings v d k w ts Drop)
 
@@ -240,5 +246,8 @@ ends_right v d (Making b i c) w f at all kept = making v d i w b c f at all w.to
 ends_right v d (Locking word) w f at all kept = tried_on v d word w f at all w.todo
 ends_right v d (Giving i kind x) w f at all kept = given_on v d i kind x w f at all w.todo
 ends_right v d Brought w f at all kept = sent_on v d w f at all w.todo
+ends_right v d (Saw x) w f at all kept = saw_on v d x w f at all w.todo
+ends_right v d (Matched x) w f at all kept = matched_on v d x w f at all w.todo
+ends_right v d (Refill stage c x k) w f at all kept = refill_on v d stage c x k w f at all
 ends_right v d (Returning kind b funds k) w f at all kept =
     within v d k w (Some (deed.OnCell (cell_deed.GiveBack kind b funds))) Rest f refl at all

@@ -1,4 +1,4 @@
--- No act of a thread fills a member, or loads what a cell holds.
+-- No act of a thread fills a member.
 use Rattle.std.proofs.Common.{ℕ, ◌<◌, ◌==◌, Bool, true, false, List, [], ◌∷◌, length, get_or}
 use Rattle.std.specs.Prelude.{Option, Some, None, option_map}
 use Rattle.std.proofs.lemmas.Bool.{cond_both}
@@ -19,9 +19,10 @@ use Rattle.step_threads.specs.Actors.{wanted}
 use Rattle.step_threads.specs.declared.call.CellName.{CellName}
 use Rattle.step_threads.specs.declared.call.CellName.TheVariants as cell
 use Rattle.step_table.specs.declared.cell_deed.CellDeed.TheVariants as cell_deed
+use Rattle.step_table.specs.declared.cell_deed.Compared.{Compared}
 use Rattle.control_word.specs.declared.cell.CellWord.{CellWord}
-use Rattle.step_threads.specs.Courses.{Going, Walk, cell_at, form_of, going, hand, locked, offered, on_going, other}
-use Rattle.step_table.specs.Contents.{as_word, seen}
+use Rattle.step_threads.specs.Courses.{Going, Walk, cell_at, comparing, form_of, going, hand, locked, offered, on_going, other}
+use Rattle.step_table.specs.Contents.{as_word, compared_in, seen}
 use Rattle.step_table.specs.Deeds.{alias, aliased, downgrade, give, is_enabled, is_last, leave, leave_as, lock, owner_word, read, share, share_as, tell, tell_expired, on}
 use Rattle.step_threads.specs.Endings.{staged}
 use Rattle.step_table.specs.Holdings.{inside, is_full, owner_slot, place_in, slot, value}
@@ -29,6 +30,7 @@ use Rattle.step_threads.specs.Entries.{least}
 use Rattle.step_threads.specs.Steps.{Step, acts, asks, at_rest, begins, begun, brings, claims, ends_on, first, given, looks, made_on, prepares, sends, sent, silent, step_at, story_after, story_by, swaps, tried, tries, trying, with_endings}
 use Rattle.step_table.specs.Stories.{IsPlain, Plain, Story, known, object_in, pending, state}
 use Rattle.step_table.proofs.tables.Plain.{plain_after}
+use Rattle.step_core.proofs.telling.Cases.{IsEach, IsEachAct, IsEachRefill, each_compares, each_matched, each_refill, each_saw, each_sees}
 
 abbrev AllPlain : Option Deed → Type 0
 AllPlain None = Unit {0}
@@ -98,13 +100,44 @@ plain_sent v d w (t ∷ ts) = go (going w.slots t.act)
     go None = tt
     go (Some x) = plain_swap (state v) x.0 (as_word (value w.slots x.1)) (seen v (cell_at (state v) x.0))
 
+-- loads and compares
+plain_match : (s : State) (c : CellName) (x : CellWord) (y : Compared) → IsPlain (deed.OnCell (cell_deed.CompareSwap (cell_at s c) x y))
+plain_match s (cell.Shared n) x y = tt
+plain_match s (cell.Weak n) x y = tt
+
+plain_each : (v : Story) (d : ℕ) (w : Walk) (k : ℕ) (ts : List Task) (a : Act) (c : CellName)
+    → IsEach v d w k ts a (cell_at (state v) c) (λ (s : Step). AllPlain s.deed)
+plain_each v d w k ts a c = record {
+  quiet = λ h. tt;
+  look = λ x y. tt;
+  take = λ x y h. tt;
+  swap = λ x y h. plain_match (state v) c x y;
+  bring = λ x p. tt;
+}
+
+plain_act : (v : Story) (d : ℕ) (w : Walk) (k : ℕ) (ts : List Task) → IsEachAct v d w k ts IsPlainStep
+plain_act v d w k ts = record {
+  none = tt;
+  load = λ c. plain_each v d w k ts (Load c) c;
+  compare = λ i c weak. plain_each v d w k ts (Compare i c weak) c;
+}
+
+plain_refill : (v : Story) (w : Walk) (k : ℕ) → IsEachRefill v w k (λ (s : Step). IsPlainStep (Some s))
+plain_refill v w k = record {
+  quiet = λ h. tt;
+  turn = λ kind b h. tt;
+  bring = λ kind b p n h. tt;
+  back = λ kind b n h. tt;
+  refill = λ c n h. tt;
+}
+
 plain_first : (v : Story) (d : ℕ) (w : Walk) (k : ℕ) (ts : List Task) (a : Act) → AllPlain (first v d w k ts a).deed
 plain_first v d w k ts (Make fields) = plain_begins w k ts (least d (state v).stores)
 plain_first v d w k ts (Share i) = on_slot share (slot w.slots i) (λ x. plain_share x.kind x)
 plain_first v d w k ts (Put i) = on_slot (leave (state v)) (slot w.slots i) (λ x. plain_leave x.kind x (is_last (state v) x))
 plain_first v d w k ts (Leave i) = on_slot (leave (state v)) (slot w.slots i) (λ x. plain_leave x.kind x (is_last (state v) x))
 plain_first v d w k ts (Clear i) = on_slot (leave (state v)) (slot w.slots i) (λ x. plain_leave x.kind x (is_last (state v) x))
-plain_first v d w k ts (Count i) = on_slot (tell (state v)) (slot w.slots i) (λ x. tt)
+plain_first v d w k ts (Count i) = on_slot (tell v) (slot w.slots i) (λ x. tt)
 plain_first v d w k ts (Downgrade i) = on_slot downgrade (slot w.slots i) (λ x. tt)
 plain_first v d w k ts (Lock i must) = plain_lock v d w k ts (Lock i must) (locked w.slots (Lock i must))
 plain_first v d w k ts (Expired i) = on_slot (tell_expired (state v)) (slot w.slots i) (λ x. tt)
@@ -116,6 +149,11 @@ plain_first v d w k ts (Ask q) = tt
 plain_first v d w k ts (Offer i c) = on_slot share (offered w.slots i c) (λ x. plain_share x.kind x)
 plain_first v d w k ts (Swap c) = plain_going v d w k ts (Swap c) (going w.slots (Swap c))
 plain_first v d w k ts (Exchange i c) = plain_going v d w k ts (Exchange i c) (going w.slots (Exchange i c))
+plain_first v d w k ts (Load c) =
+    each_sees v d w k ts (Load c) (cell_at (state v) c) (λ (s : Step). AllPlain s.deed) (plain_each v d w k ts (Load c) c) None (seen v (cell_at (state v) c))
+plain_first v d w k ts (Compare i c weak) =
+    each_compares v d w k ts (Compare i c weak) (cell_at (state v) c) (λ (s : Step). AllPlain s.deed) (plain_each v d w k ts (Compare i c weak) c)
+    (compared_in w.slots (comparing w.slots i weak)) (seen v (cell_at (state v) c))
 plain_first v d w k ts Drop = on_slot (leave (state v)) (slot w.slots (other w.slots)) (λ x. plain_leave x.kind x (is_last (state v) x))
 
 plain_tried : (v : Story) (d : ℕ) (w : Walk) (word k : ℕ) (ts : List Task) (a : Act) (o : Option Pointer) → IsPlainStep (option_map (tries v d w k ts a word) o)
@@ -165,12 +203,15 @@ plain_step v d (Locking word) w = go w.todo
     go (t ∷ ts) = plain_tried v d w word t.statement ts t.act (locked w.slots t.act)
 plain_step v d (Giving i kind x) w = plain_given v d w i kind x w.todo
 plain_step v d Brought w = plain_sent v d w w.todo
+plain_step v d (Saw x) w = each_saw v d w IsPlainStep x w.todo tt (λ t us e. plain_act v d w t.statement us)
+plain_step v d (Matched x) w = each_matched v d w IsPlainStep x w.todo tt (λ t us e. plain_act v d w t.statement us)
+plain_step v d (Refill stage c x k) w = each_refill v w k IsPlainStep tt (plain_refill v w k) stage c x x.owned
 plain_step v d (Returning kind b funds k) w = tt
 
-pub plain_by : (v : Story) (d : ℕ) (x : Option Step) → IsPlainStep x → d < length v.views → Plain v → Plain (story_by v d x)
-plain_by v d None is lt plain = plain
-plain_by v d (Some x) is lt plain = go x.deed is
+pub plain_by : (v : Story) (d : ℕ) (x : Option Step) → IsPlainStep x → Plain v → Plain (story_by v d x)
+plain_by v d None is plain = plain
+plain_by v d (Some x) is plain = go x.deed is
   where
     go : (y : Option Deed) → AllPlain y → Plain (story_after v d y)
     go None p = plain
-    go (Some y) p = plain_after v d y lt p plain
+    go (Some y) p = plain_after v d y p plain

@@ -1,23 +1,28 @@
 -- What a world keeps, at its start.
-use Rattle.std.proofs.Common.{◌≡◌, ℕ, zero, suc, ◌+◌, ◌*◌, ◌≤◌, List, [], ◌∷◌, ◌++◌, length, map, refl, sym, ap, ◌∙◌, arith}
-use Rattle.std.specs.Prelude.{All, false}
+use Rattle.std.proofs.Common.{◌≡◌, ℕ, zero, suc, ◌+◌, ◌*◌, ◌≤◌, List, [], ◌∷◌, ◌++◌, length, map, replicate, refl, sym, ap, ◌∙◌, arith}
+use Rattle.std.specs.Prelude.{All, false, slice_index}
 use Rattle.std.proofs.lemmas.List.{length-map}
 use Rattle.std.proofs.lemmas.List.Elements.{All-head, All-tail}
 use Rattle.std.proofs.lemmas.List.Sums.{sum_by-cons}
+use Rattle.control_word.specs.Layout.{table_size}
 use Rattle.control_word.specs.State.{ending, unmade}
 use Rattle.step_threads.specs.declared.act.Act.{Act}
 use Rattle.step_threads.specs.declared.act.Act.TheVariants as act
 use Rattle.step_threads.specs.declared.act.Task.{Task}
 use Rattle.step_threads.specs.declared.call.Call.{Call}
 use Rattle.step_threads.specs.declared.call.Call.TheVariants as call
+use Rattle.step_table.specs.declared.cell_deed.Cell.TheVariants.{Free}
 use Rattle.step_table.specs.declared.extent.Extent.{Extent}
+use Rattle.step_threads.specs.declared.half.Half.{Half}
 use Rattle.step_threads.specs.declared.thread.Thread.{Thread}
 use Rattle.step_threads.specs.Acts.{acts, clearing, numbered, tasks_from}
 use Rattle.step_core.specs.Bounds.{left_to_do, task_steps, walk_steps, weight}
 use Rattle.step_threads.specs.Courses.{Walk}
+use Rattle.step_table.specs.CellDeeds.{word_of}
 use Rattle.step_threads.specs.Programs.{IsPart, IsProgram, Part, call_count}
 use Rattle.step_core.specs.Starts.{first_story, first_walk, no_slots}
 use Rattle.step_core.specs.Told.{IsTold, sight}
+use Rattle.step_core.specs.Watching.{IsWatched}
 use Rattle.step_core.specs.Worlds.{thread_half, thread_walk}
 use Rattle.step_table.proofs.tables.Start.{plain_start}
 use Rattle.step_core.proofs.telling.Walking.{settled_alone}
@@ -68,6 +73,8 @@ call_steps (call.Same t s) = omega arith
 call_steps (call.Before t s) = omega arith
 call_steps (call.Store c s) = omega arith
 call_steps (call.Exchange c n) = omega arith
+call_steps (call.Load t c) = omega arith
+call_steps (call.Compare c x y b) = omega arith
 
 all_steps : (k : ℕ) (calls : List Call) (n : ℕ) → task_steps (tasks_from k calls n) ≤ 30 * length calls + 2 * n
 all_steps k [] n = let i = clearing_steps n in omega (arith, i)
@@ -96,6 +103,17 @@ all_left (p ∷ ps) all =
 not_ending : (e : ℕ) → unmade ≡ ending e → ⊥
 not_ending e p = cc
 
+-- no fund of a cell is taken
+zero_at : (n i : ℕ) → slice_index (replicate n 0) i ≡ 0
+zero_at zero i = refl
+zero_at (suc n) zero = refl
+zero_at (suc n) (suc i) = zero_at n i
+
+watched_start : (x : Extent) (halves : List Half) → IsWatched (first_story x) halves
+watched_start x halves n lt =
+    let z = zero_at (table_size x.shape) (word_of x.shape.blocks (Free n)) in
+    omega (arith, z)
+
 pub told_start : (x : Extent) (parts : List Part) (threads : List Thread) → x.actors ≡ length parts → IsProgram parts
     → map thread_walk threads ≡ map first_walk parts → IsTold (sight (first_story x) threads) 0 0
 told_start x parts threads size fine walks =
@@ -115,4 +133,5 @@ told_start x parts threads size fine walks =
       few = omega (arith, same, a, calls, actors);
       endings = λ o e p. absurd (not_ending e p);
       plain = plain_start x (first_story x).words;
+      watched = watched_start x (map thread_half threads);
     }

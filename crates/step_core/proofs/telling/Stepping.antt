@@ -14,6 +14,8 @@ use Rattle.step_table.specs.Stories.{Kept, Story}
 use Rattle.step_core.specs.Told.{IsTold, ends_by, makes}
 use Rattle.step_core.specs.Turning.{HasBegun}
 use Rattle.step_core.specs.Worlds.{Sight, Steps, half_of, scene, sight_by, step_of}
+use Rattle.step_core.proofs.watching.Worlds.{watched_step}
+use Rattle.step_core.proofs.telling.Waiting.{answered_adds}
 use Rattle.step_core.proofs.telling.Plain.{plain_by, plain_step}
 use Rattle.step_core.proofs.telling.Counting.{counted}
 use Rattle.step_core.proofs.telling.Order.{ended_few}
@@ -50,7 +52,8 @@ told_step d u m e kept after begun lt told =
           (λ i. (walk_of (scene (sight_by d u x)) i).endings) after
           (ap (λ (y : Walk). y.endings) (get_or-set_same u.walks d (walk_by w x) nowhere lt))
           (λ i n. ap (λ (y : Walk). y.endings) (get_or-set_other u.walks d i (walk_by w x) nowhere n));
-      plain = plain_by u.story d x (plain_step u.story d h w) (let t = told.threads in let s = kept.seats.size in omega (arith, t, s, lt)) told.plain;
+      plain = plain_by u.story d x (plain_step u.story d h w) told.plain;
+      watched = watched_step d u kept after begun told.watched;
     }
 
 pub told_by : (d : ℕ) (u v : Sight) (r : Stepped) (m e : ℕ) → Kept u.story → Kept v.story → HasBegun d u → d < length u.walks → IsTold u m e
@@ -58,5 +61,10 @@ pub told_by : (d : ℕ) (u v : Sight) (r : Stepped) (m e : ℕ) → Kept u.story
 told_by d u v r m e kept after begun lt told steps =
     let x = step_of d u in
     let k : Kept (story_by u.story d x) = subst (λ (y : Sight). Kept y.story) steps.1 after in
+    let same = answered_adds u.story d (half_of u d) (walk_of (scene u) d) in
+    let a : makes (half_of u d) r ≡ makes (half_of u d) (stepped u.story x) = ap (makes (half_of u d)) steps.0 ∙ same.0 in
+    let b : ends_by r ≡ ends_by (stepped u.story x) = ap ends_by steps.0 ∙ same.1 in
     subst (λ (y : Sight). IsTold y (m + makes (half_of u d) r) (e + ends_by r)) (sym steps.1)
-    (subst (λ (q : Stepped). IsTold (sight_by d u x) (m + makes (half_of u d) q) (e + ends_by q)) (sym steps.0) (told_step d u m e kept k begun lt told))
+    (subst (λ (j : ℕ). IsTold (sight_by d u x) (m + j) (e + ends_by r)) (sym a)
+    (subst (λ (j : ℕ). IsTold (sight_by d u x) (m + makes (half_of u d) (stepped u.story x)) (e + j)) (sym b)
+    (told_step d u m e kept k begun lt told)))

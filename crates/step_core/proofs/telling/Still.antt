@@ -154,6 +154,8 @@ tried_by v d word k w ts (Ask q) f at all (Some y) e = cc
 tried_by v d word k w ts (Offer i c) f at all (Some y) e = cc
 tried_by v d word k w ts (Swap c) f at all (Some y) e = cc
 tried_by v d word k w ts (Exchange i c) f at all (Some y) e = cc
+tried_by v d word k w ts (Load c) f at all (Some y) e = cc
+tried_by v d word k w ts (Compare i c weak) f at all (Some y) e = cc
 tried_by v d word k w ts Drop f at all (Some y) e = cc
 
 pub tried_on : (v : Story) (d word : ℕ) (w : Walk) (f : Lists) → f d ≡ w.endings → AllEnd (state v) f → (ts : List Task)

@@ -35,6 +35,8 @@ swapping s slots (Alias k j field) x e = cc
 swapping s slots (Move k) x e = cc
 swapping s slots (Ask q) x e = cc
 swapping s slots (Offer k c) x e = cc
+swapping s slots (Load c) x e = cc
+swapping s slots (Compare k c weak) x e = cc
 swapping s slots Drop x e = cc
 
 pub went_swap : (s : State) (d k : ℕ) (w : Walk) (t : Task) (ts : List Task) (a : Act) (x : Going) → w.endings ≡ [] → w.todo ≡ t ∷ ts

@@ -7,7 +7,7 @@ use Rattle.control_word.specs.declared.handle.Kind.{Kind}
 use Rattle.control_word.specs.declared.handle.Kind.TheVariants.{Owner, Weak}
 use Rattle.control_word.specs.State.{State}
 use Rattle.step_threads.specs.declared.act.Act.{Act}
-use Rattle.step_threads.specs.declared.act.Act.TheVariants.{Make, Share, Downgrade, Lock, Put, Leave, Clear, Count, Expired, Read, FromThis, Alias, Move, Ask, Offer, Swap, Exchange, Drop}
+use Rattle.step_threads.specs.declared.act.Act.TheVariants.{Make, Share, Downgrade, Lock, Put, Leave, Clear, Count, Expired, Read, FromThis, Alias, Move, Ask, Offer, Swap, Exchange, Load, Compare, Drop}
 use Rattle.step_threads.specs.declared.act.Task.{Task}
 use Rattle.step_threads.specs.declared.ending.Ending.{Ending}
 use Rattle.step_table.specs.declared.holdings.Pointer.{Pointer}
@@ -90,6 +90,9 @@ idle_free (Offer k c) slots taken free = free
 idle_free (Swap c) slots true free = placed_free (other slots) slots
 idle_free (Swap c) slots false free = free
 idle_free (Exchange k c) slots taken free = free
+idle_free (Load c) slots taken free = free
+idle_free (Compare k c weak) slots true free = placed_free (other slots) slots
+idle_free (Compare k c weak) slots false free = free
 idle_free Drop slots taken free = dropped_free slots free
 
 settled_free : (slots : Slots) (taken : Bool) (es : List Ending) (ts : List Task) → IsFree slots → IsFree (settled slots taken es ts).slots
@@ -152,6 +155,8 @@ weight_two (Ask q) = omega arith
 weight_two (Offer k c) = omega arith
 weight_two (Swap c) = omega arith
 weight_two (Exchange k c) = omega arith
+weight_two (Load c) = omega arith
+weight_two (Compare k c weak) = omega arith
 weight_two Drop = omega arith
 
 -- settled without an ending, a thread has the steps of its tasks alone

@@ -3,7 +3,7 @@ use Rattle.std.proofs.lemmas.List.{length-map, length-set}
 use Rattle.step_core.specs.Turning.{HasBegun}
 use Rattle.step_core.specs.Worlds.{Sight, Steps, thread_walk}
 use Rattle.step_core.proofs.Worlds.{all_fit, has_begun, sight, steps, thread_at}
-use Rattle.step_core.proofs.telling.Worlds.{told_now}
+use Rattle.step_core.proofs.telling.Worlds.{never_now, told_now}
 use Rattle.step_core.proofs.world.World.advance.Goals as goal
 
 pub step-stepped-requires-clause-plain : goal.step-stepped-requires-clause-plain
@@ -28,7 +28,8 @@ invariant_of-self c =
           c.step-stepped.result c.self.inside.made c.self.inside.ended c.makes.result c.ends.result c.known.ensures c.known-2.ensures
           (has_begun c.self.inside.table c.self.inside.threads.items c.args.number c.index_mut-thread.result.now lt c.index_mut-thread.ensures.value
           (c.self.invariant.0.each c.args.number c.index_mut-thread.result.now
-          (thread_at c.self.inside.threads.items c.args.number c.index_mut-thread.result.now lt c.index_mut-thread.ensures.value)) c.self.invariant.1.plain.bare c.known.ensures) lt
+          (thread_at c.self.inside.threads.items c.args.number c.index_mut-thread.result.now lt c.index_mut-thread.ensures.value)) c.self.invariant.1.plain.bare c.known.ensures c.self.invariant.0
+          c.self.invariant.1.threads) lt
           c.index_mut-thread.ensures.value c.step-stepped.ensures.stepped c.self.invariant.1 c.makes.ensures c.ends.ensures,
     )
 
@@ -40,7 +41,21 @@ returns-clause-was c =
     subst (λ (u : Sight). HasBegun c.args.number u) c.self.view_is
     (has_begun c.self.inside.table c.self.inside.threads.items c.args.number c.index_mut-thread.result.now lt c.index_mut-thread.ensures.value
     (c.self.invariant.0.each c.args.number c.index_mut-thread.result.now
-    (thread_at c.self.inside.threads.items c.args.number c.index_mut-thread.result.now lt c.index_mut-thread.ensures.value)) c.self.invariant.1.plain.bare c.known.ensures)
+    (thread_at c.self.inside.threads.items c.args.number c.index_mut-thread.result.now lt c.index_mut-thread.ensures.value)) c.self.invariant.1.plain.bare c.known.ensures c.self.invariant.0
+    c.self.invariant.1.threads)
+
+pub returns-clause-never : goal.returns-clause-never
+returns-clause-never c =
+    let l = ap (λ (u : Sight). length u.walks) c.self.view_is in
+    let m = length-map c.self.inside.threads.items thread_walk in
+    let lt : c.args.number < length c.self.inside.threads.items = omega (arith, l, m, c.requires) in
+    never_now c.self.inside.table c.step-stepped.new.table c.self.inside.threads.items c.args.number c.index_mut-thread.result.now c.step-stepped.new.self
+    c.step-stepped.result c.self.inside.made c.self.inside.ended c.known.ensures
+    (has_begun c.self.inside.table c.self.inside.threads.items c.args.number c.index_mut-thread.result.now lt c.index_mut-thread.ensures.value
+    (c.self.invariant.0.each c.args.number c.index_mut-thread.result.now
+    (thread_at c.self.inside.threads.items c.args.number c.index_mut-thread.result.now lt c.index_mut-thread.ensures.value)) c.self.invariant.1.plain.bare c.known.ensures c.self.invariant.0
+    c.self.invariant.1.threads)
+    lt c.index_mut-thread.ensures.value c.step-stepped.ensures.stepped c.self.invariant.1
 
 pub returns-clause-steps : goal.returns-clause-steps
 returns-clause-steps c =

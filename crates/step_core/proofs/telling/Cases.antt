@@ -1,0 +1,168 @@
+-- The steps of a load or a compare, case by case: what is so of each is so of all.
+use Rattle.std.proofs.Common.{◌≡◌, ℕ, ◌==◌, Bool, List, [], ◌∷◌, cond, refl}
+use Rattle.std.specs.Prelude.{Option, Some, None, is_some, option_map}
+use Rattle.std.proofs.lemmas.Bool.{cond_both}
+use Rattle.control_word.specs.declared.cell.CellWord.{CellWord}
+use Rattle.control_word.specs.declared.handle.Kind.{Kind}
+use Rattle.control_word.specs.declared.place.Block.{Block}
+use Rattle.control_word.specs.declared.place.Place.{Place}
+use Rattle.control_word.specs.Packing.{cell_bits}
+use Rattle.step_table.specs.declared.cell_deed.Cell.{Cell}
+use Rattle.step_table.specs.declared.cell_deed.CellDeed.{CellDeed}
+use Rattle.step_table.specs.declared.cell_deed.CellDeed.TheVariants as cell_deed
+use Rattle.step_table.specs.declared.cell_deed.Compared.{Compared}
+use Rattle.step_table.specs.declared.holdings.Pointer.{Pointer}
+use Rattle.step_table.specs.declared.past.Deed.TheVariants as deed
+use Rattle.step_table.specs.declared.refill.Stage.{Stage}
+use Rattle.step_table.specs.declared.refill.Stage.TheVariants.{Turning, Checking, Lacking, Refilling, Failing}
+use Rattle.step_threads.specs.declared.act.Act.{Act}
+use Rattle.step_threads.specs.declared.act.Act.TheVariants.{Make, Share, Downgrade, Lock, Put, Leave, Clear, Count, Expired, Read, FromThis, Alias, Move, Ask, Offer, Swap, Exchange, Load, Compare, Drop}
+use Rattle.step_threads.specs.declared.act.Task.{Task}
+use Rattle.step_threads.specs.declared.call.CellName.{CellName}
+use Rattle.step_threads.specs.declared.half.Half.{Half}
+use Rattle.step_threads.specs.declared.half.Half.TheVariants.{Rest, Saw, Matched, Refill}
+use Rattle.step_table.specs.CellDeeds.{kind_in}
+use Rattle.step_table.specs.Cells.{word_at}
+use Rattle.step_table.specs.Contents.{compared_in, is_spent, same_value, seen}
+use Rattle.step_table.specs.Deeds.{on}
+use Rattle.step_table.specs.Holdings.{slot}
+use Rattle.step_table.specs.Refills.{is_drained, is_low, more_taken}
+use Rattle.step_table.specs.Stories.{Story, state}
+use Rattle.step_threads.specs.Courses.{Walk, cell_at, comparing, hand}
+use Rattle.step_threads.specs.Steps.{Step, acts, compares, fetches, gives_back, matched, matched_on, matches, missed, refills_on, saw, saw_on, sees, settles, takes, within}
+
+-- steps of a thread that rests or is within an act, so that nothing is done; that look at a cell, take a fund of it, or swap it; and
+-- those on funds
+pub record IsEach (v : Story) (d : ℕ) (w : Walk) (k : ℕ) (ts : List Task) (a : Act) (c : Cell) (P : Step → Type 0) : Type 0 where
+  pub quiet : (h : Half) → P (within w k None h)
+  pub look : (x : CellWord) (y : Option Compared) → P (acts v d w k ts a (Some (deed.OnCell (cell_deed.Look c x y))) Rest)
+  pub take : (x : CellWord) (y : Option Compared) (h : Half) → P (acts v d w k ts a (Some (deed.OnCell (cell_deed.Take c x y))) h)
+  pub swap : (x : CellWord) (y : Compared) (h : Half) → P (acts v d w k ts a (Some (deed.OnCell (cell_deed.CompareSwap c x y))) h)
+  pub bring : (x : CellWord) (p : Pointer) → P (fetches w k x p)
+
+pub each_sees : (v : Story) (d : ℕ) (w : Walk) (k : ℕ) (ts : List Task) (a : Act) (c : Cell) (P : Step → Type 0) → IsEach v d w k ts a c P
+    → (y : Option Compared) (x : CellWord) → P (sees v d w k ts a c y x)
+each_sees v d w k ts a c P each y x =
+    let look = acts v d w k ts a (Some (deed.OnCell (cell_deed.Look c x y))) Rest in
+    cond_both (is_spent x) (within w k None Rest) (cond (is_some x.owned) (within w k None (Saw x)) look) P (λ e. each.quiet Rest)
+    (λ e. cond_both (is_some x.owned) (within w k None (Saw x)) look P (λ f. each.quiet (Saw x)) (λ f. each.look x y))
+
+pub each_compares : (v : Story) (d : ℕ) (w : Walk) (k : ℕ) (ts : List Task) (a : Act) (c : Cell) (P : Step → Type 0) → IsEach v d w k ts a c P
+    → (y : Compared) (x : CellWord) → P (compares v d w k ts a c y x)
+each_compares v d w k ts a c P each y x =
+    cond_both (same_value x y.expected) (within w k None (Saw x)) (sees v d w k ts a c (Some y) x) P (λ e. each.quiet (Saw x))
+    (λ e. each_sees v d w k ts a c P each (Some y) x)
+
+each_takes : (v : Story) (d : ℕ) (w : Walk) (k : ℕ) (ts : List Task) (a : Act) (c : Cell) (P : Step → Type 0) → IsEach v d w k ts a c P
+    → (y : Option Compared) (x : CellWord) → P (takes v d w k ts a c y x)
+each_takes v d w k ts a c P each y x =
+    cond_both (word_at v c == cell_bits x)
+    (acts v d w k ts a (Some (deed.OnCell (cell_deed.Take c x y))) (Refill Turning c (more_taken x) k)) (within w k None Rest) P
+    (λ e. each.take x y (Refill Turning c (more_taken x) k)) (λ e. each.quiet Rest)
+
+each_matches : (v : Story) (d : ℕ) (w : Walk) (k : ℕ) (ts : List Task) (a : Act) (c : Cell) (P : Step → Type 0) → IsEach v d w k ts a c P
+    → (y : Compared) (x : CellWord) → P (matches v d w k ts a c y x)
+each_matches v d w k ts a c P each y x =
+    let h = gives_back (kind_in (state v) c) k x x.owned in
+    let m = missed k (slot w.slots (hand w.slots)) in
+    cond_both (word_at v c == cell_bits x) (acts v d w k ts a (Some (deed.OnCell (cell_deed.CompareSwap c x y))) h) (within w k None m) P
+    (λ e. each.swap x y h) (λ e. each.quiet m)
+
+each_settles : (v : Story) (d : ℕ) (w : Walk) (k : ℕ) (ts : List Task) (a : Act) (c : Cell) (P : Step → Type 0) → IsEach v d w k ts a c P
+    → (y : Compared) (x : CellWord) → P (settles v d w k ts a c y x)
+each_settles v d w k ts a c P each y x =
+    cond_both (same_value x y.expected) (on (fetches w k x) (matches v d w k ts a c y x) (slot w.slots (hand w.slots)))
+    (takes v d w k ts a c (Some y) x) P (λ e. go (slot w.slots (hand w.slots))) (λ e. each_takes v d w k ts a c P each (Some y) x)
+  where
+    go : (o : Option Pointer) → P (on (fetches w k x) (matches v d w k ts a c y x) o)
+    go None = each_matches v d w k ts a c P each y x
+    go (Some p) = each.bring x p
+
+-- each act that may be half done
+pub record IsEachAct (v : Story) (d : ℕ) (w : Walk) (k : ℕ) (ts : List Task) (P : Option Step → Type 0) : Type 0 where
+  pub none : P None
+  pub load : (c : CellName) → IsEach v d w k ts (Load c) (cell_at (state v) c) (λ (x : Step). P (Some x))
+  pub compare : (i : ℕ) (c : CellName) (weak : Bool) → IsEach v d w k ts (Compare i c weak) (cell_at (state v) c) (λ (x : Step). P (Some x))
+
+saw_act : (v : Story) (d : ℕ) (w : Walk) (k : ℕ) (ts : List Task) (P : Option Step → Type 0) → IsEachAct v d w k ts P → (x : CellWord) (a : Act)
+    → P (saw_on v d w k ts x a)
+saw_act v d w k ts P each x (Load c) = each_takes v d w k ts (Load c) (cell_at (state v) c) (λ (s : Step). P (Some s)) (each.load c) None x
+saw_act v d w k ts P each x (Compare i c weak) =
+    each_settles v d w k ts (Compare i c weak) (cell_at (state v) c) (λ (s : Step). P (Some s)) (each.compare i c weak)
+    (compared_in w.slots (comparing w.slots i weak)) x
+saw_act v d w k ts P each x (Make form) = each.none
+saw_act v d w k ts P each x (Share i) = each.none
+saw_act v d w k ts P each x (Downgrade i) = each.none
+saw_act v d w k ts P each x (Lock i must) = each.none
+saw_act v d w k ts P each x (Put i) = each.none
+saw_act v d w k ts P each x (Leave i) = each.none
+saw_act v d w k ts P each x (Clear i) = each.none
+saw_act v d w k ts P each x (Count i) = each.none
+saw_act v d w k ts P each x (Expired i) = each.none
+saw_act v d w k ts P each x (Read i) = each.none
+saw_act v d w k ts P each x (FromThis i kind) = each.none
+saw_act v d w k ts P each x (Alias i j field) = each.none
+saw_act v d w k ts P each x (Move i) = each.none
+saw_act v d w k ts P each x (Ask q) = each.none
+saw_act v d w k ts P each x (Offer i c) = each.none
+saw_act v d w k ts P each x (Swap c) = each.none
+saw_act v d w k ts P each x (Exchange i c) = each.none
+saw_act v d w k ts P each x Drop = each.none
+
+matched_act : (v : Story) (d : ℕ) (w : Walk) (k : ℕ) (ts : List Task) (P : Option Step → Type 0) → IsEachAct v d w k ts P → (x : CellWord) (a : Act)
+    → P (matched_on v d w k ts x a)
+matched_act v d w k ts P each x (Compare i c weak) =
+    each_matches v d w k ts (Compare i c weak) (cell_at (state v) c) (λ (s : Step). P (Some s)) (each.compare i c weak)
+    (compared_in w.slots (comparing w.slots i weak)) x
+matched_act v d w k ts P each x (Load c) = each.none
+matched_act v d w k ts P each x (Make form) = each.none
+matched_act v d w k ts P each x (Share i) = each.none
+matched_act v d w k ts P each x (Downgrade i) = each.none
+matched_act v d w k ts P each x (Lock i must) = each.none
+matched_act v d w k ts P each x (Put i) = each.none
+matched_act v d w k ts P each x (Leave i) = each.none
+matched_act v d w k ts P each x (Clear i) = each.none
+matched_act v d w k ts P each x (Count i) = each.none
+matched_act v d w k ts P each x (Expired i) = each.none
+matched_act v d w k ts P each x (Read i) = each.none
+matched_act v d w k ts P each x (FromThis i kind) = each.none
+matched_act v d w k ts P each x (Alias i j field) = each.none
+matched_act v d w k ts P each x (Move i) = each.none
+matched_act v d w k ts P each x (Ask q) = each.none
+matched_act v d w k ts P each x (Offer i c) = each.none
+matched_act v d w k ts P each x (Swap c) = each.none
+matched_act v d w k ts P each x (Exchange i c) = each.none
+matched_act v d w k ts P each x Drop = each.none
+
+pub each_saw : (v : Story) (d : ℕ) (w : Walk) (P : Option Step → Type 0) (x : CellWord) (ts : List Task) → P None
+    → ((t : Task) (us : List Task) → ts ≡ t ∷ us → IsEachAct v d w t.statement us P) → P (saw v d w x ts)
+each_saw v d w P x [] none each = none
+each_saw v d w P x (t ∷ us) none each = saw_act v d w t.statement us P (each t us refl) x t.act
+
+pub each_matched : (v : Story) (d : ℕ) (w : Walk) (P : Option Step → Type 0) (x : CellWord) (ts : List Task) → P None
+    → ((t : Task) (us : List Task) → ts ≡ t ∷ us → IsEachAct v d w t.statement us P) → P (matched v d w x ts)
+each_matched v d w P x [] none each = none
+each_matched v d w P x (t ∷ us) none each = matched_act v d w t.statement us P (each t us refl) x t.act
+
+-- of a refill: nothing is done, or a step on funds
+pub record IsEachRefill (v : Story) (w : Walk) (k : ℕ) (P : Step → Type 0) : Type 0 where
+  pub quiet : (h : Half) → P (within w k None h)
+  pub turn : (kind : Kind) (b : Block) (h : Half) → P (within w k (Some (deed.OnCell (cell_deed.Turn kind b))) h)
+  pub bring : (kind : Kind) (b : Block) (p : Option Place) (n : ℕ) (h : Half) → P (within w k (Some (deed.OnCell (cell_deed.Bring kind b p n))) h)
+  pub back : (kind : Kind) (b : Block) (n : ℕ) (h : Half) → P (within w k (Some (deed.OnCell (cell_deed.GiveBack kind b n))) h)
+  pub refill : (c : Cell) (n : ℕ) (h : Half) → P (within w k (Some (deed.OnCell (cell_deed.Refill c n))) h)
+
+refill_stage : (v : Story) (w : Walk) (k : ℕ) (P : Step → Type 0) → IsEachRefill v w k P → (c : Cell) (x : CellWord) (b : Block) (stage : Stage)
+    → P (refills_on v w stage c x k b)
+refill_stage v w k P each c x b Turning = each.turn (kind_in (state v) c) b (cond (is_low x) (Refill Checking c x k) Rest)
+refill_stage v w k P each c x b Checking = each.quiet (cond (is_drained x (seen v c)) (Refill Lacking c (seen v c) k) Rest)
+refill_stage v w k P each c x b Lacking = each.bring (kind_in (state v) c) b x.place x.taken (Refill Refilling c x k)
+refill_stage v w k P each c x b Refilling =
+    cond_both (word_at v c == cell_bits x) (within w k (Some (deed.OnCell (cell_deed.Refill c x.taken))) Rest)
+    (within w k None (Refill Failing c x k)) P (λ e. each.refill c x.taken Rest) (λ e. each.quiet (Refill Failing c x k))
+refill_stage v w k P each c x b Failing = each.back (kind_in (state v) c) b x.taken (Refill Checking c x k)
+
+pub each_refill : (v : Story) (w : Walk) (k : ℕ) (P : Option Step → Type 0) → P None → IsEachRefill v w k (λ (x : Step). P (Some x))
+    → (stage : Stage) (c : Cell) (x : CellWord) (o : Option Block) → P (option_map (refills_on v w stage c x k) o)
+each_refill v w k P none each stage c x None = none
+each_refill v w k P none each stage c x (Some b) = refill_stage v w k (λ (s : Step). P (Some s)) each c x b stage

@@ -1,0 +1,100 @@
+-- What a step of a load or a compare adds to the totals: no object is made or ended by it.
+use Rattle.std.proofs.Common.{◌≡◌, ℕ, ◌+◌, ◌≤◌, Bool, false, cond, List, [], ◌∷◌, refl, ap, ◌∙◌, arith}
+use Rattle.std.specs.Prelude.{Option, Some, None, is_some}
+use Rattle.control_word.specs.declared.cell.CellWord.{CellWord}
+use Rattle.step_table.specs.declared.cell_deed.Cell.{Cell}
+use Rattle.step_table.specs.declared.cell_deed.CellDeed.TheVariants as cell_deed
+use Rattle.step_table.specs.declared.cell_deed.Compared.{Compared}
+use Rattle.step_table.specs.declared.ended.Ended.{Ended}
+use Rattle.step_table.specs.declared.past.Deed.TheVariants as deed
+use Rattle.step_table.specs.declared.refill.Stage.{Stage}
+use Rattle.step_threads.specs.declared.act.Act.{Act}
+use Rattle.step_threads.specs.declared.act.Act.TheVariants.{Load, Compare}
+use Rattle.step_threads.specs.declared.act.Task.{Task}
+use Rattle.step_threads.specs.declared.half.Half.{Half}
+use Rattle.step_threads.specs.declared.half.Half.TheVariants.{Rest, Saw, Matched, Refill}
+use Rattle.step_core.specs.Bounds.{walk_steps}
+use Rattle.step_core.specs.Told.{is_prepared}
+use Rattle.step_table.specs.Stories.{Story, state}
+use Rattle.step_threads.specs.Courses.{Walk, cell_at}
+use Rattle.step_threads.specs.Scenes.{ended_of, left, went}
+use Rattle.step_threads.specs.Steps.{Step, acts, compares, matched, saw, sees, step_at}
+use Rattle.step_core.proofs.telling.Cases.{IsEach, IsEachAct, IsEachRefill, each_compares, each_matched, each_refill, each_saw, each_sees}
+use Rattle.step_core.proofs.telling.Deeds.{IsCounted, plus_none, quiet}
+use Rattle.step_core.proofs.telling.Walking.{went_plain}
+
+-- an act by which nothing leaves, and no object ends
+each_counted : (v : Story) (d k : ℕ) (h : Half) (w : Walk) (t : Task) (ts : List Task) (a : Act) (c : Cell) → is_prepared h ≡ false
+    → w.endings ≡ [] → w.todo ≡ t ∷ ts → left w.slots a ≡ None → ended_of (state v) w.slots a ≡ None
+    → IsEach v d w k ts a c (λ (x : Step). IsCounted v d h w (Some x))
+each_counted v d k h w t ts a c e none is stays ends =
+    let z : ◌≡◌ {A = ℕ} (cond (is_prepared h) 1 0) 0 = ap (λ (b : Bool). cond b 1 0) e in
+    let n : ◌≡◌ {A = ℕ} (cond (is_some (ended_of (state v) w.slots a)) 1 0) 0 = ap (λ (o : Option Ended). cond (is_some o) 1 0) ends in
+    let l = went_plain (state v) d k w t ts a none is stays in
+    record {
+      quiet = λ h'. quiet v d k h h' w w None (omega arith);
+      look = λ x y. looked z n l x y;
+      take = λ x y h'. taken z n l x y h';
+      swap = λ x y h'. record { made = omega (arith, z); ended = omega (arith, n); few = omega (arith, l, z, n) };
+      bring = λ x p. record { made = plus_none _; ended = plus_none _; few = omega arith };
+    }
+  where
+    looked : ◌≡◌ {A = ℕ} (cond (is_prepared h) 1 0) 0 → ◌≡◌ {A = ℕ} (cond (is_some (ended_of (state v) w.slots a)) 1 0) 0
+        → walk_steps (went (state v) d w k ts a) + 2 ≤ walk_steps w → (x : CellWord) (y : Option Compared)
+        → IsCounted v d h w (Some (acts v d w k ts a (Some (deed.OnCell (cell_deed.Look c x y))) Rest))
+    looked z n l x None = record { made = omega (arith, z); ended = omega (arith, n); few = omega (arith, l, z, n) }
+    looked z n l x (Some y) = record { made = omega (arith, z); ended = omega (arith, n); few = omega (arith, l, z, n) }
+
+    taken : ◌≡◌ {A = ℕ} (cond (is_prepared h) 1 0) 0 → ◌≡◌ {A = ℕ} (cond (is_some (ended_of (state v) w.slots a)) 1 0) 0
+        → walk_steps (went (state v) d w k ts a) + 2 ≤ walk_steps w → (x : CellWord) (y : Option Compared) (h' : Half)
+        → IsCounted v d h w (Some (acts v d w k ts a (Some (deed.OnCell (cell_deed.Take c x y))) h'))
+    taken z n l x None h' = record { made = omega (arith, z); ended = omega (arith, n); few = omega (arith, l, z, n) }
+    taken z n l x (Some y) h' = record { made = omega (arith, z); ended = omega (arith, n); few = omega (arith, l, z, n) }
+
+pub sees_one : (v : Story) (d k : ℕ) (w : Walk) (t : Task) (ts : List Task) (a : Act) (c : Cell) (y : Option Compared) (x : CellWord)
+    → w.endings ≡ [] → w.todo ≡ t ∷ ts → left w.slots a ≡ None → ended_of (state v) w.slots a ≡ None
+    → IsCounted v d Rest w (Some (sees v d w k ts a c y x))
+sees_one v d k w t ts a c y x none is stays ends =
+    each_sees v d w k ts a c (λ (s : Step). IsCounted v d Rest w (Some s)) (each_counted v d k Rest w t ts a c refl none is stays ends) y x
+
+pub compares_one : (v : Story) (d k : ℕ) (w : Walk) (t : Task) (ts : List Task) (a : Act) (c : Cell) (y : Compared) (x : CellWord)
+    → w.endings ≡ [] → w.todo ≡ t ∷ ts → left w.slots a ≡ None → ended_of (state v) w.slots a ≡ None
+    → IsCounted v d Rest w (Some (compares v d w k ts a c y x))
+compares_one v d k w t ts a c y x none is stays ends =
+    each_compares v d w k ts a c (λ (s : Step). IsCounted v d Rest w (Some s)) (each_counted v d k Rest w t ts a c refl none is stays ends) y x
+
+-- what is under way goes on
+none_counted : (v : Story) (d : ℕ) (h : Half) (w : Walk) → IsCounted v d h w None
+none_counted v d h w = record { made = plus_none _; ended = plus_none _; few = omega arith }
+
+act_counted : (v : Story) (d : ℕ) (h : Half) (w : Walk) (t : Task) (ts : List Task) → is_prepared h ≡ false → w.endings ≡ [] → w.todo ≡ t ∷ ts
+    → IsEachAct v d w t.statement ts (λ (o : Option Step). IsCounted v d h w o)
+act_counted v d h w t ts e none is = record {
+  none = none_counted v d h w;
+  load = λ c. each_counted v d t.statement h w t ts (Load c) (cell_at (state v) c) e none is refl refl;
+  compare = λ i c weak. each_counted v d t.statement h w t ts (Compare i c weak) (cell_at (state v) c) e none is refl refl;
+}
+
+pub counted_saw : (v : Story) (d : ℕ) (w : Walk) (x : CellWord) (ts : List Task) → w.endings ≡ [] → w.todo ≡ ts
+    → IsCounted v d (Saw x) w (saw v d w x ts)
+counted_saw v d w x ts none is =
+    each_saw v d w (λ (o : Option Step). IsCounted v d (Saw x) w o) x ts (none_counted v d (Saw x) w)
+    (λ t us e. act_counted v d (Saw x) w t us refl none (is ∙ e))
+
+pub counted_match : (v : Story) (d : ℕ) (w : Walk) (x : CellWord) (ts : List Task) → w.endings ≡ [] → w.todo ≡ ts
+    → IsCounted v d (Matched x) w (matched v d w x ts)
+counted_match v d w x ts none is =
+    each_matched v d w (λ (o : Option Step). IsCounted v d (Matched x) w o) x ts (none_counted v d (Matched x) w)
+    (λ t us e. act_counted v d (Matched x) w t us refl none (is ∙ e))
+
+pub counted_refill : (v : Story) (d : ℕ) (stage : Stage) (c : Cell) (x : CellWord) (k : ℕ) (w : Walk)
+    → IsCounted v d (Refill stage c x k) w (step_at v d (Refill stage c x k) w)
+counted_refill v d stage c x k w =
+    let h = Refill stage c x k in
+    each_refill v w k (λ (o : Option Step). IsCounted v d h w o) (none_counted v d h w) (record {
+      quiet = λ h'. record { made = plus_none _; ended = plus_none _; few = omega arith };
+      turn = λ kind b h'. record { made = plus_none _; ended = plus_none _; few = omega arith };
+      bring = λ kind b p n h'. record { made = plus_none _; ended = plus_none _; few = omega arith };
+      back = λ kind b n h'. record { made = plus_none _; ended = plus_none _; few = omega arith };
+      refill = λ c n h'. record { made = plus_none _; ended = plus_none _; few = omega arith };
+    }) stage c x x.owned

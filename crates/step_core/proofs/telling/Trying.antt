@@ -1,0 +1,92 @@
+-- Loads and compares change no object.
+use Rattle.std.proofs.Common.{◌≡◌, ℕ, List, [], ◌∷◌, refl}
+use Rattle.std.specs.Prelude.{Option, Some, None}
+use Rattle.control_word.specs.declared.cell.CellWord.{CellWord}
+use Rattle.step_table.specs.declared.cell_deed.Cell.{Cell}
+use Rattle.step_table.specs.declared.cell_deed.CellDeed.TheVariants as cell_deed
+use Rattle.step_table.specs.declared.cell_deed.Compared.{Compared}
+use Rattle.step_table.specs.declared.past.Deed.TheVariants as deed
+use Rattle.step_table.specs.declared.refill.Stage.{Stage}
+use Rattle.step_threads.specs.declared.act.Act.{Act}
+use Rattle.step_threads.specs.declared.act.Act.TheVariants.{Load, Compare}
+use Rattle.step_threads.specs.declared.act.Task.{Task}
+use Rattle.step_threads.specs.declared.call.CellName.{CellName}
+use Rattle.step_threads.specs.declared.call.CellName.TheVariants as cell
+use Rattle.step_threads.specs.declared.half.Half.{Half}
+use Rattle.step_threads.specs.declared.half.Half.TheVariants.{Rest, Matched, Refill}
+use Rattle.step_table.specs.Stories.{Story, state}
+use Rattle.step_threads.specs.Courses.{Walk, cell_at}
+use Rattle.step_threads.specs.Scenes.{left}
+use Rattle.step_threads.specs.Steps.{Step, compares, matched, saw, sees, step_at, story_after}
+use Rattle.step_core.specs.Told.{AllEnd}
+use Rattle.step_core.proofs.telling.Cases.{IsEach, IsEachAct, each_compares, each_matched, each_refill, each_saw, each_sees}
+use Rattle.step_core.proofs.telling.Still.{Lists, Right, plain, same, within}
+
+still_looked : (v : Story) (d : ℕ) (c : Cell) (x : CellWord) (y : Option Compared)
+    → (state (story_after v d (Some (deed.OnCell (cell_deed.Look c x y))))).object ≡ (state v).object
+still_looked v d c x None = refl
+still_looked v d c x (Some y) = refl
+
+still_taken : (v : Story) (d : ℕ) (c : Cell) (x : CellWord) (y : Option Compared)
+    → (state (story_after v d (Some (deed.OnCell (cell_deed.Take c x y))))).object ≡ (state v).object
+still_taken v d c x None = refl
+still_taken v d c x (Some y) = refl
+
+-- a free cell is none of an object
+still_matched : (v : Story) (d : ℕ) (c : CellName) (x : CellWord) (y : Compared)
+    → (state (story_after v d (Some (deed.OnCell (cell_deed.CompareSwap (cell_at (state v) c) x y))))).object ≡ (state v).object
+still_matched v d (cell.Shared n) x y = refl
+still_matched v d (cell.Weak n) x y = refl
+
+each_right : (v : Story) (d k : ℕ) (w : Walk) (ts : List Task) (a : Act) (c : CellName) (f : Lists) → left w.slots a ≡ None → f d ≡ w.endings
+    → AllEnd (state v) f → IsEach v d w k ts a (cell_at (state v) c) (λ (x : Step). Right v d w f (Some x))
+each_right v d k w ts a c f stays at all =
+    let z = cell_at (state v) c in
+    record {
+      quiet = λ h. within v d k w None h f refl at all;
+      look = λ x y. plain v d k w ts a (Some (deed.OnCell (cell_deed.Look z x y))) Rest f stays (still_looked v d z x y) at all;
+      take = λ x y h. plain v d k w ts a (Some (deed.OnCell (cell_deed.Take z x y))) h f stays (still_taken v d z x y) at all;
+      swap = λ x y h. plain v d k w ts a (Some (deed.OnCell (cell_deed.CompareSwap z x y))) h f stays (still_matched v d c x y) at all;
+      bring = λ x p. within v d k w (Some (deed.OnCell (cell_deed.Bring p.kind p.block p.place 256))) (Matched x) f refl at all;
+    }
+
+pub sees_on : (v : Story) (d k : ℕ) (w : Walk) (ts : List Task) (a : Act) (c : CellName) (y : Option Compared) (x : CellWord) (f : Lists)
+    → left w.slots a ≡ None → f d ≡ w.endings → AllEnd (state v) f → Right v d w f (Some (sees v d w k ts a (cell_at (state v) c) y x))
+sees_on v d k w ts a c y x f stays at all =
+    each_sees v d w k ts a (cell_at (state v) c) (λ (s : Step). Right v d w f (Some s)) (each_right v d k w ts a c f stays at all) y x
+
+pub compares_on : (v : Story) (d k : ℕ) (w : Walk) (ts : List Task) (a : Act) (c : CellName) (y : Compared) (x : CellWord) (f : Lists)
+    → left w.slots a ≡ None → f d ≡ w.endings → AllEnd (state v) f → Right v d w f (Some (compares v d w k ts a (cell_at (state v) c) y x))
+compares_on v d k w ts a c y x f stays at all =
+    each_compares v d w k ts a (cell_at (state v) c) (λ (s : Step). Right v d w f (Some s)) (each_right v d k w ts a c f stays at all) y x
+
+act_right : (v : Story) (d k : ℕ) (w : Walk) (ts : List Task) (f : Lists) → f d ≡ w.endings → AllEnd (state v) f
+    → IsEachAct v d w k ts (λ (o : Option Step). Right v d w f o)
+act_right v d k w ts f at all = record {
+  none = same v d w f None refl refl at all;
+  load = λ c. each_right v d k w ts (Load c) c f refl at all;
+  compare = λ i c weak. each_right v d k w ts (Compare i c weak) c f refl at all;
+}
+
+pub saw_on : (v : Story) (d : ℕ) (x : CellWord) (w : Walk) (f : Lists) → f d ≡ w.endings → AllEnd (state v) f → (ts : List Task)
+    → Right v d w f (saw v d w x ts)
+saw_on v d x w f at all ts =
+    each_saw v d w (λ (o : Option Step). Right v d w f o) x ts (same v d w f None refl refl at all)
+    (λ t us e. act_right v d t.statement w us f at all)
+
+pub matched_on : (v : Story) (d : ℕ) (x : CellWord) (w : Walk) (f : Lists) → f d ≡ w.endings → AllEnd (state v) f → (ts : List Task)
+    → Right v d w f (matched v d w x ts)
+matched_on v d x w f at all ts =
+    each_matched v d w (λ (o : Option Step). Right v d w f o) x ts (same v d w f None refl refl at all)
+    (λ t us e. act_right v d t.statement w us f at all)
+
+pub refill_on : (v : Story) (d : ℕ) (stage : Stage) (c : Cell) (x : CellWord) (k : ℕ) (w : Walk) (f : Lists) → f d ≡ w.endings → AllEnd (state v) f
+    → Right v d w f (step_at v d (Refill stage c x k) w)
+refill_on v d stage c x k w f at all =
+    each_refill v w k (λ (o : Option Step). Right v d w f o) (same v d w f None refl refl at all) (record {
+      quiet = λ h. within v d k w None h f refl at all;
+      turn = λ kind b h. within v d k w (Some (deed.OnCell (cell_deed.Turn kind b))) h f refl at all;
+      bring = λ kind b p n h. within v d k w (Some (deed.OnCell (cell_deed.Bring kind b p n))) h f refl at all;
+      back = λ kind b n h. within v d k w (Some (deed.OnCell (cell_deed.GiveBack kind b n))) h f refl at all;
+      refill = λ z n h. within v d k w (Some (deed.OnCell (cell_deed.Refill z n))) h f refl at all;
+    }) stage c x x.owned

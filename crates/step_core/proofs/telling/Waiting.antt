@@ -1,0 +1,106 @@
+-- A step that waits adds nothing to the totals, as it is no event; and one that doesn't says so.
+use Rattle.std.proofs.Common.{◌≡◌, ◌≢◌, ℕ, Bool, true, false, not, ◌&&◌, cond, List, [], ◌∷◌, refl, sym, ap, ◌∙◌}
+use Rattle.std.specs.Prelude.{Option, Some, None, is_some}
+use Rattle.control_word.specs.declared.cell.CellWord.{CellWord}
+use Rattle.step_table.specs.declared.cell_deed.Cell.{Cell}
+use Rattle.step_table.specs.declared.cell_deed.CellDeed.TheVariants as cell_deed
+use Rattle.step_table.specs.declared.cell_deed.Compared.{Compared}
+use Rattle.step_table.specs.declared.past.Deed.TheVariants as deed
+use Rattle.step_threads.specs.declared.act.Act.{Act}
+use Rattle.step_threads.specs.declared.act.Act.TheVariants.{Make, Share, Downgrade, Lock, Put, Leave, Clear, Count, Expired, Read, FromThis, Alias, Move, Ask, Offer, Swap, Exchange, Load, Compare, Drop}
+use Rattle.step_threads.specs.declared.act.Task.{Task}
+use Rattle.step_threads.specs.declared.ending.Ending.{Ending}
+use Rattle.step_threads.specs.declared.half.Half.{Half}
+use Rattle.step_threads.specs.declared.half.Half.TheVariants.{Rest, Making, Locking, Giving, Brought, Saw, Matched, Refill, Returning}
+use Rattle.step_threads.specs.declared.said.Stepped.{Stepped}
+use Rattle.step_threads.specs.declared.said.Stepped.TheVariants.{Event, Quiet, Waited, Done}
+use Rattle.step_table.specs.Contents.{as_word, compared_in, is_spent, same_value, seen}
+use Rattle.step_table.specs.Holdings.{value}
+use Rattle.step_table.specs.Stories.{Story, state}
+use Rattle.step_threads.specs.Courses.{Walk, cell_at, comparing}
+use Rattle.step_threads.specs.Steps.{Step, acts, answered, at_rest, begun, compares, first, is_event, sees, step_at, stepped, waits, waits_at, waits_on, within}
+use Rattle.step_core.specs.Told.{ends_by, makes}
+
+-- two answers of a step of a thread at rest that add as much
+abbrev Adds : Stepped → Stepped → Type 0
+Adds r r' = (makes Rest r ≡ makes Rest r') × (ends_by r ≡ ends_by r')
+
+-- a step that looks at a cell all of whose funds were taken does nothing
+spent : (v : Story) (k : ℕ) (w : Walk) (x : Step) (b : Bool)
+    → let s = cond b (within w k None Rest) x in Adds (cond b Waited (stepped v (Some s))) (stepped v (Some s))
+spent v k w x true = (refl, refl)
+spent v k w x false = (refl, refl)
+
+differs : (v : Story) (k : ℕ) (w : Walk) (x y : Step) (same b : Bool)
+    → let s = cond same y (cond b (within w k None Rest) x) in Adds (cond (not same && b) Waited (stepped v (Some s))) (stepped v (Some s))
+differs v k w x y true b = (refl, refl)
+differs v k w x y false true = (refl, refl)
+differs v k w x y false false = (refl, refl)
+
+act_adds : (v : Story) (d k : ℕ) (w : Walk) (ts : List Task) (a : Act)
+    → let r = stepped v (Some (first v d w k ts a)) in Adds (cond (waits_on v w a) Waited r) r
+act_adds v d k w ts (Load c) =
+    let z = cell_at (state v) c in
+    let x = seen v z in
+    spent v k w
+    (cond (is_some x.owned) (within w k None (Saw x)) (acts v d w k ts (Load c) (Some (deed.OnCell (cell_deed.Look z x None))) Rest)) (is_spent x)
+act_adds v d k w ts (Compare i c weak) =
+    let z = cell_at (state v) c in
+    let x = seen v z in
+    let y = compared_in w.slots (comparing w.slots i weak) in
+    let look = acts v d w k ts (Compare i c weak) (Some (deed.OnCell (cell_deed.Look z x (Some y)))) Rest in
+    differs v k w (cond (is_some x.owned) (within w k None (Saw x)) look) (within w k None (Saw x)) (same_value x (as_word (value w.slots i)))
+    (is_spent x)
+act_adds v d k w ts (Make form) = (refl, refl)
+act_adds v d k w ts (Share i) = (refl, refl)
+act_adds v d k w ts (Downgrade i) = (refl, refl)
+act_adds v d k w ts (Lock i must) = (refl, refl)
+act_adds v d k w ts (Put i) = (refl, refl)
+act_adds v d k w ts (Leave i) = (refl, refl)
+act_adds v d k w ts (Clear i) = (refl, refl)
+act_adds v d k w ts (Count i) = (refl, refl)
+act_adds v d k w ts (Expired i) = (refl, refl)
+act_adds v d k w ts (Read i) = (refl, refl)
+act_adds v d k w ts (FromThis i kind) = (refl, refl)
+act_adds v d k w ts (Alias i j field) = (refl, refl)
+act_adds v d k w ts (Move i) = (refl, refl)
+act_adds v d k w ts (Ask q) = (refl, refl)
+act_adds v d k w ts (Offer i c) = (refl, refl)
+act_adds v d k w ts (Swap c) = (refl, refl)
+act_adds v d k w ts (Exchange i c) = (refl, refl)
+act_adds v d k w ts Drop = (refl, refl)
+
+task_adds : (v : Story) (d : ℕ) (w : Walk) (ts : List Task) → let r = stepped v (begun v d w ts) in Adds (cond (waits_at v w [] ts) Waited r) r
+task_adds v d w [] = (refl, refl)
+task_adds v d w (t ∷ ts) = act_adds v d t.statement w ts t.act
+
+rest_adds : (v : Story) (d : ℕ) (w : Walk) (es : List Ending)
+    → let r = stepped v (at_rest v d w es) in Adds (cond (waits_at v w es w.todo) Waited r) r
+rest_adds v d w [] = task_adds v d w w.todo
+rest_adds v d w (e ∷ es) = (refl, refl)
+
+pub answered_adds : (v : Story) (d : ℕ) (h : Half) (w : Walk)
+    → let r = stepped v (step_at v d h w) in (makes h (answered v d h w) ≡ makes h r) × (ends_by (answered v d h w) ≡ ends_by r)
+answered_adds v d Rest w = rest_adds v d w w.endings
+answered_adds v d (Making b i differs) w = (refl, refl)
+answered_adds v d (Locking word) w = (refl, refl)
+answered_adds v d (Giving i kind x) w = (refl, refl)
+answered_adds v d Brought w = (refl, refl)
+answered_adds v d (Saw x) w = (refl, refl)
+answered_adds v d (Matched x) w = (refl, refl)
+answered_adds v d (Refill stage c x k) w = (refl, refl)
+answered_adds v d (Returning kind b funds k) w = (refl, refl)
+
+-- a step that doesn't wait says so
+stepped_on : (v : Story) (x : Option Step) → stepped v x ≢ Waited
+stepped_on v None e = cc
+stepped_on v (Some x) e = go (is_event v x.deed) e
+  where
+    go : (b : Bool) → cond b (Event x.said) (Quiet x.said) ≡ Waited → ⊥
+    go true f = cc
+    go false f = cc
+
+pub never_waits : (v : Story) (d : ℕ) (h : Half) (w : Walk) (r : Stepped) → waits v h w ≡ false → r ≡ answered v d h w → r ≢ Waited
+never_waits v d h w r e is f =
+    let g : answered v d h w ≡ stepped v (step_at v d h w) = ap (λ (b : Bool). cond b Waited (stepped v (step_at v d h w))) e in
+    stepped_on v (step_at v d h w) (sym g ∙ sym is ∙ f)
