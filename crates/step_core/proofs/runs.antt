@@ -9,3 +9,4 @@ pub mod Measures
 pub mod Says
 pub mod Tasks
 pub mod Trying
+pub mod Waiting
