@@ -6,3 +6,4 @@ pub mod Starts
 pub mod StartStores
 pub mod telling
 pub mod turning
+pub mod watching

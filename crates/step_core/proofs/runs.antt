@@ -4,6 +4,9 @@ pub mod Chains
 pub mod Ends
 pub mod Headline
 pub mod Lessening
+pub mod Looking
 pub mod Measures
 pub mod Says
 pub mod Tasks
+pub mod Trying
+pub mod Waiting

@@ -12,7 +12,12 @@ use Rattle.step_table.specs.declared.holdings.Pointer.{Pointer}
 use Rattle.step_table.specs.declared.past.Deed.{Deed}
 use Rattle.step_threads.specs.declared.said.Stepped.{Stepped}
 use Rattle.step_threads.specs.declared.said.Stepped.TheVariants as stepped
-use Rattle.step_core.specs.Bounds.{spare, walk_steps}
+use Rattle.control_word.specs.declared.cell.CellWord.{CellWord}
+use Rattle.control_word.specs.Packing.{cell_bits}
+use Rattle.step_table.specs.declared.refill.Stage.{Stage}
+use Rattle.step_table.specs.declared.refill.Stage.TheVariants.{Turning, Checking, Lacking, Refilling, Failing}
+use Rattle.step_table.specs.Cells.{word_at}
+use Rattle.step_core.specs.Bounds.{alone, lock_word, refill_steps, shows_next, spare, walk_steps}
 use Rattle.step_threads.specs.Courses.{Walk, locked}
 use Rattle.step_table.specs.Deeds.{is_last, leave, leave_as, owned, owner_word, on}
 use Rattle.step_threads.specs.Scenes.{ended_by, left as leaves_by, remains_as}
@@ -21,40 +26,52 @@ use Rattle.step_table.specs.Stories.{Story, state}
 use Rattle.step_core.specs.Told.{ends_by, is_prepared, makes}
 use Rattle.step_core.proofs.telling.Walking.{ends_at, went_plain}
 
--- the word that counts the owners of what the next act locks
-abbrev pub word_of : Story → Walk → List Task → ℕ
-word_of v w [] = 0
-word_of v w (t ∷ ts) = on (owner_word v) 0 (locked w.slots t.act)
-
--- how many steps a half-done act has to spare where its thread runs alone: a lock whose word is still the one found is done next,
--- and any other begins again first. A swap takes the steps of its funds from its task
-abbrev pub alone : Story → Walk → Half → ℕ
-alone v w Rest = spare Rest
-alone v w (Making b i differs) = spare (Making b i differs)
-alone v w (Locking word) = cond (word_of v w w.todo == word) 14 16
-alone v w (Giving i kind x) = spare (Giving i kind x)
-alone v w Brought = 14
-alone v w (Returning kind b funds k) = 16
-
 pub alone_of_lock : (v : Story) (w : Walk) (word : ℕ) → (14 ≤ alone v w (Locking word)) × (alone v w (Locking word) ≤ 16)
-alone_of_lock v w word = go (word_of v w w.todo == word)
+alone_of_lock v w word = go (lock_word v w.slots w.todo == word)
   where
     go : (b : Bool) → (14 ≤ cond b 14 16) × (cond b 14 16 ≤ 16)
     go true = (omega arith, omega arith)
     go false = (omega arith, omega arith)
 
-pub alone_same : (v : Story) (w : Walk) (word : ℕ) → word_of v w w.todo ≡ word → alone v w (Locking word) ≡ 14
+pub alone_same : (v : Story) (w : Walk) (word : ℕ) → lock_word v w.slots w.todo ≡ word → alone v w (Locking word) ≡ 14
 alone_same v w word is = ap {B = ℕ} (λ (b : Bool). cond b 14 16) (eq-eqb _ _ is)
 
-pub alone_other : (v : Story) (w : Walk) (word : ℕ) → (word_of v w w.todo == word) ≡ false → alone v w (Locking word) ≡ 16
+pub alone_other : (v : Story) (w : Walk) (word : ℕ) → (lock_word v w.slots w.todo == word) ≡ false → alone v w (Locking word) ≡ 16
 alone_other v w word is = ap {B = ℕ} (λ (b : Bool). cond b 14 16) is
 
-pub alone_most : (v : Story) (w : Walk) (h : Half) → alone v w h ≤ spare h + 1
+-- what was seen is shown still, or isn't
+pub alone_saw : (v : Story) (w : Walk) (x : CellWord) (b : Bool) → shows_next v x w.todo ≡ b → alone v w (Saw x) ≡ cond b 14 18
+alone_saw v w x b is = ap {B = ℕ} (λ (t : Bool). cond t 14 18) is
+
+pub alone_matched : (v : Story) (w : Walk) (x : CellWord) (b : Bool) → shows_next v x w.todo ≡ b → alone v w (Matched x) ≡ cond b 13 17
+alone_matched v w x b is = ap {B = ℕ} (λ (t : Bool). cond t 13 17) is
+
+saw_most : (b : Bool) → cond b 14 18 ≤ 18
+saw_most true = omega arith
+saw_most false = omega arith
+
+matched_most : (b : Bool) → cond b 13 17 ≤ 17
+matched_most true = omega arith
+matched_most false = omega arith
+
+refill_most : (b : Bool) (s : Stage) → refill_steps b s ≤ 21
+refill_most b Turning = omega arith
+refill_most b Checking = omega arith
+refill_most true Lacking = omega arith
+refill_most false Lacking = omega arith
+refill_most true Refilling = omega arith
+refill_most false Refilling = omega arith
+refill_most b Failing = omega arith
+
+pub alone_most : (v : Story) (w : Walk) (h : Half) → alone v w h ≤ spare h + 3
 alone_most v w Rest = omega arith
 alone_most v w (Making b i differs) = omega arith
 alone_most v w (Locking word) = let l = (alone_of_lock v w word).1 in omega (arith, l)
 alone_most v w (Giving i kind x) = omega arith
 alone_most v w Brought = omega arith
+alone_most v w (Saw x) = let m = saw_most (shows_next v x w.todo) in omega (arith, m)
+alone_most v w (Matched x) = let m = matched_most (shows_next v x w.todo) in omega (arith, m)
+alone_most v w (Refill s c x k) = let m = refill_most (word_at v c == cell_bits x) s in omega (arith, m)
 alone_most v w (Returning kind b funds k) = omega arith
 
 -- A step leaves the thread with fewer steps, where it runs alone, and never with more. An object that is made has the steps of

@@ -1,5 +1,5 @@
 -- What locks answer.
-use Rattle.std.proofs.Common.{◌≡◌, ℕ, ◌-◌, ◌==◌, Bool, true, false, cond, List, [], ◌∷◌, length, get_or, refl, sym, ap, subst, ◌∙◌, arith}
+use Rattle.std.proofs.Common.{◌≡◌, ℕ, ◌-◌, ◌==◌, Bool, true, false, cond, List, [], ◌∷◌, length, get_or, refl, sym, ap, subst, ◌∙◌, inl, inr, arith}
 use Rattle.std.specs.Prelude.{Option, Some, None, not, option_map}
 use Rattle.std.proofs.lemmas.Bool.{cond_both}
 use Rattle.control_word.specs.declared.event.Entry.{Entry}
@@ -25,7 +25,7 @@ use Rattle.step_threads.specs.declared.said.Stepped.TheVariants as stepped
 use Rattle.step_core.specs.declared.trace.TraceStep.{TraceStep}
 use Rattle.step_threads.specs.Actors.{wanted}
 use Rattle.step_threads.specs.declared.ending.Ending.{Ending}
-use Rattle.step_threads.specs.Courses.{Going, Walk, form_of, going, hand, locked, offered, on_going, other}
+use Rattle.step_threads.specs.Courses.{Going, Walk, cell_at, comparing, form_of, going, hand, locked, offered, on_going, other}
 use Rattle.step_table.specs.Deeds.{is_enabled, read, as_owner, downgrade, is_expired, is_last, leave, leave_as, lock, owner_word, share, share_as, tell, tell_expired, alias, aliased, on}
 use Rattle.step_threads.specs.Endings.{staged}
 use Rattle.step_core.specs.Headline.{TellsLocks, Was, answer_by}
@@ -36,6 +36,10 @@ use Rattle.step_threads.specs.Steps.{asks, at_rest, brings, given as given_by, S
 use Rattle.step_table.specs.Stories.{Nothing, Story, added, event_of, known, object_in, pending, state}
 use Rattle.step_core.specs.Worlds.{Sight, half_of, scene, step_of}
 use Rattle.step_table.proofs.tables.CellDeeds.{by_event}
+use Rattle.step_table.specs.declared.cell_deed.Cell.{Cell}
+use Rattle.step_table.specs.Contents.{compared_in, seen}
+use Rattle.step_core.proofs.telling.Cases.{IsEach, IsEachAct, IsEachRefill, each_compares, each_matched, each_refill, each_saw, each_sees}
+use Rattle.step_core.proofs.runs.Waiting.{IsTold, told_at}
 use Rattle.step_core.proofs.runs.Headline.{IsStep}
 
 -- what a deed gave that is a lock
@@ -119,13 +123,29 @@ sent_tells v d w (t ∷ ts) = go (going w.slots t.act)
     go None = tt
     go (Some x) = tt
 
+-- a cell that is looked at, tried or refilled is no lock
+each_cell : (v : Story) (d : ℕ) (w : Walk) (k : ℕ) (ts : List Task) (a : Act) (c : Cell) → IsEach v d w k ts a c (λ (x : Step). Tells (Some x))
+each_cell v d w k ts a c = record { quiet = λ h. tt; look = λ x y. tt; take = λ x y h. tt; swap = λ x y h. tt; bring = λ x p. tt }
+
+each_act : (v : Story) (d : ℕ) (w : Walk) (k : ℕ) (ts : List Task) → IsEachAct v d w k ts Tells
+each_act v d w k ts =
+    record {
+      none = tt;
+      load = λ c. each_cell v d w k ts (Load c) (cell_at (state v) c);
+      compare = λ i c weak. each_cell v d w k ts (Compare i c weak) (cell_at (state v) c);
+    }
+
+each_stage : (v : Story) (w : Walk) (k : ℕ) → IsEachRefill v w k (λ (x : Step). Tells (Some x))
+each_stage v w k =
+    record { quiet = λ h. tt; turn = λ q b h. tt; bring = λ q b p n h. tt; back = λ q b n h. tt; refill = λ c n h. tt }
+
 first_tells : (v : Story) (d k : ℕ) (w : Walk) (ts : List Task) (a : Act) → Tells (Some (first v d w k ts a))
 first_tells v d k w ts (Make form) = begin_tells w k ts (least d (state v).stores)
 first_tells v d k w ts (Share i) = plain share _ (λ x. share_plain x.kind x) (slot w.slots i)
 first_tells v d k w ts (Put i) = plain (leave (state v)) _ (λ x. leave_plain x.kind x (is_last (state v) x)) (slot w.slots i)
 first_tells v d k w ts (Leave i) = plain (leave (state v)) _ (λ x. leave_plain x.kind x (is_last (state v) x)) (slot w.slots i)
 first_tells v d k w ts (Clear i) = plain (leave (state v)) _ (λ x. leave_plain x.kind x (is_last (state v) x)) (slot w.slots i)
-first_tells v d k w ts (Count i) = plain (tell (state v)) _ (λ x. refl) (slot w.slots i)
+first_tells v d k w ts (Count i) = plain (tell v) _ (λ x. refl) (slot w.slots i)
 first_tells v d k w ts (Downgrade i) = plain downgrade _ (λ x. refl) (slot w.slots i)
 first_tells v d k w ts (Expired i) = plain (tell_expired (state v)) _ (λ x. refl) (slot w.slots i)
 first_tells v d k w ts (Read i) = plain (read (state v)) _ (λ x. refl) (inside (slot w.slots i))
@@ -136,6 +156,12 @@ first_tells v d k w ts (Ask q) = tt
 first_tells v d k w ts (Offer i c) = plain share _ (λ x. share_plain x.kind x) (offered w.slots i c)
 first_tells v d k w ts (Swap c) = going_tells v d k w ts (Swap c) (going w.slots (Swap c))
 first_tells v d k w ts (Exchange i c) = going_tells v d k w ts (Exchange i c) (going w.slots (Exchange i c))
+first_tells v d k w ts (Load c) =
+    each_sees v d w k ts (Load c) (cell_at (state v) c) (λ (x : Step). Tells (Some x)) (each_cell v d w k ts (Load c) (cell_at (state v) c)) None
+    (seen v (cell_at (state v) c))
+first_tells v d k w ts (Compare i c weak) =
+    each_compares v d w k ts (Compare i c weak) (cell_at (state v) c) (λ (x : Step). Tells (Some x))
+    (each_cell v d w k ts (Compare i c weak) (cell_at (state v) c)) (compared_in w.slots (comparing w.slots i weak)) (seen v (cell_at (state v) c))
 first_tells v d k w ts Drop = plain (leave (state v)) _ (λ x. leave_plain x.kind x (is_last (state v) x)) (slot w.slots (other w.slots))
 first_tells v d k w ts (Lock i must) = lock_tells v d k i w ts must (locked w.slots (Lock i must)) refl
 
@@ -193,6 +219,9 @@ step_tells v d (Making b i f) w = make_tells v d i w b f w.todo
 step_tells v d (Locking word) w = tried_tells v d word w w.todo
 step_tells v d (Giving i kind x) w = given_tells v d i kind x w w.todo
 step_tells v d Brought w = sent_tells v d w w.todo
+step_tells v d (Saw x) w = each_saw v d w Tells x w.todo tt (λ t us e. each_act v d w t.statement us)
+step_tells v d (Matched x) w = each_matched v d w Tells x w.todo tt (λ t us e. each_act v d w t.statement us)
+step_tells v d (Refill stage c x k) w = each_refill v w k Tells tt (each_stage v w k) stage c x x.owned
 step_tells v d (Returning kind b funds k) w = tt
 
 as_answered : (v : Story) (x : Step) → answer_by (stepped_by v (Some x)) ≡ x.said.answer
@@ -223,11 +252,16 @@ by_deed v d _ w gave e = ap newest_gave e
 
 pub tells_locks : (u : Sight) (x : TraceStep) (u' : Sight) → IsStep u x u' → TellsLocks u x u'
 tells_locks u x u' step = λ w gave was.
-    go w gave was (step_of (x.actor - 1) u) (ap (λ (m : Sight). m.story.history) step.steps.1) step.steps.0
-    (step_tells u.story (x.actor - 1) (half_of u (x.actor - 1)) (walk_of (scene u) (x.actor - 1)))
+    by_answer w gave was (told_at (x.actor - 1) u x.stepped u' step.steps)
   where
     no_event : (w : Handle) (gave : Bool) → Was (event.Lock w gave) u x u' → u'.story.history ≡ u.story.history → ⊥
     no_event w gave was same = let n = ap (λ (h : List (Entry Nothing)). length h) (sym same ∙ was) in omega (arith, n)
+
+    by_answer : (w : Handle) (gave : Bool) → Was (event.Lock w gave) u x u' → IsTold (x.actor - 1) u x.stepped u'
+        → (must : Bool) × (answer_by x.stepped ≡ Some (lock_answer must gave))
+    by_answer w gave was (inl still) = absurd (no_event w gave was still.1)
+    by_answer w gave was (inr said) =
+        go w gave was (step_of (x.actor - 1) u) said.1 said.0 (step_tells u.story (x.actor - 1) (half_of u (x.actor - 1)) (walk_of (scene u) (x.actor - 1)))
 
     go : (w : Handle) (gave : Bool) → Was (event.Lock w gave) u x u' → (y : Option Step)
         → u'.story.history ≡ (story_by u.story (x.actor - 1) y).history → x.stepped ≡ stepped_by u.story y → Tells y

@@ -16,22 +16,23 @@ use Rattle.step_threads.specs.declared.half.Half.TheVariants.{Rest, Making, Lock
 use Rattle.step_table.specs.declared.holdings.Pointer.{Pointer}
 use Rattle.step_table.specs.declared.past.Deed.TheVariants as deed
 use Rattle.step_threads.specs.Actors.{wanted}
-use Rattle.step_core.specs.Bounds.{spare, walk_steps, weight}
+use Rattle.step_core.specs.Bounds.{alone, lock_word, spare, walk_steps, weight}
 use Rattle.control_word.specs.declared.cell.CellWord.{CellWord}
 use Rattle.step_table.specs.Contents.{seen}
-use Rattle.step_threads.specs.Courses.{Going, Walk, cell_at, form_of, going, hand, kind_at, locked, offered, on_going, other, settled}
+use Rattle.step_threads.specs.Courses.{Going, HasCell, Walk, cell_at, form_of, going, hand, kind_at, locked, offered, on_going, other, settled}
 use Rattle.step_table.specs.Deeds.{alias, aliased, downgrade, give, is_enabled, lock, owned, owner_word, read, share, tell, tell_expired, on}
 use Rattle.step_threads.specs.Endings.{staged}
-use Rattle.step_table.specs.Holdings.{inside, is_full, owner_slot, place_in, slot}
+use Rattle.step_table.specs.Holdings.{Holds, inside, is_full, owner_slot, place_in, slot}
 use Rattle.step_threads.specs.Entries.{least}
 use Rattle.step_threads.specs.Scenes.{holding, left as leaves_by, went}
-use Rattle.step_threads.specs.Steps.{Step, acts, asks, at_rest, begins, begun, brings, claims, ends_on, first, given, gives_back, looks, made_on, prepares, sends, sent, silent, step_at, stepped as stepped_by, story_after, swaps, tried, tries, trying, with_endings}
-use Rattle.step_table.specs.Stories.{Story, known, object_in, pending, state}
+use Rattle.step_threads.specs.Steps.{Step, acts, asks, at_rest, begins, begun, brings, claims, ends_on, first, given, gives_back, looks, made_on, prepares, sends, sent, silent, step_at, stepped as stepped_by, story_after, swaps, tried, tries, trying, waits, waits_at, waits_on, with_endings}
+use Rattle.step_table.specs.Stories.{Kept, Story, known, object_in, pending, state}
 use Rattle.step_core.specs.Told.{is_prepared}
-use Rattle.step_core.specs.Turning.{IsAlone, IsLock, IsSwap, IsTried, IsUnderWay}
+use Rattle.step_core.specs.Turning.{IsAlone, IsInShape, IsLock, IsOut, IsSwap, IsTried, IsUnderWay}
 use Rattle.step_core.proofs.telling.Walking.{IsFree, carried_leaves, over_less, settled_alone, staged_less, walk_alone, weight_two, went_less}
 use Rattle.step_core.proofs.telling.Swapping.{went_swap}
-use Rattle.step_core.proofs.runs.Alone.{IsLess, Lessens, alone, alone_of_lock, alone_other, alone_same, left_less, none_made, one_made, plain_less, word_of}
+use Rattle.step_core.proofs.runs.Alone.{IsLess, Lessens, alone_of_lock, alone_other, alone_same, left_less, none_made, one_made, plain_less}
+use Rattle.step_core.proofs.runs.Looking.{compare_less, load_less, refill_less, seen_less, swapping_less}
 
 begun_less : (v : Story) (d k : ℕ) (w : Walk) (t : Task) (ts : List Task) (o : Option ℕ) → w.endings ≡ [] → w.todo ≡ t ∷ ts
     → IsLess v d Rest w (Some (begins w k ts o))
@@ -44,7 +45,7 @@ begun_less v d k w t ts None none is =
 begun_less v d k w t ts (Some b) none is = record { own = omega arith; most = omega arith }
 
 -- a lock that isn't done leaves all tasks: it is tried again with the word that it found, or begins again
-trying_less : (v : Story) (d k : ℕ) (h : Half) (w : Walk) (word : ℕ) → word_of v w w.todo ≡ word → 15 ≤ spare h
+trying_less : (v : Story) (d k : ℕ) (h : Half) (w : Walk) (word : ℕ) → lock_word v w.slots w.todo ≡ word → 15 ≤ spare h
     → ((word == 0) ≡ true → 15 < alone v w h) → 14 < alone v w h → IsLess v d h w (Some (trying w k word))
 trying_less v d k h w word is most none more =
     cond_both (word == 0) Rest (Locking word) (λ (x : Half). Lessens v v h x w w 0 0)
@@ -52,8 +53,8 @@ trying_less v d k h w word is most none more =
     (λ e. let a = alone_same v w word is in record { own = omega (arith, more, a); most = omega (arith, most) })
 
 word_is : (v : Story) (w : Walk) (t : Task) (ts : List Task) (x : Pointer) → w.todo ≡ t ∷ ts → locked w.slots t.act ≡ Some x
-    → word_of v w w.todo ≡ owner_word v x
-word_is v w t ts x is e = ap (word_of v w) is ∙ ap (on (owner_word v) 0) e
+    → lock_word v w.slots w.todo ≡ owner_word v x
+word_is v w t ts x is e = ap (lock_word v w.slots) is ∙ ap (on (owner_word v) 0) e
 
 looked_less : (v : Story) (d k : ℕ) (w : Walk) (t : Task) (ts : List Task) (i : ℕ) (must : Bool) (o : Option Pointer) → w.endings ≡ []
     → w.todo ≡ t ∷ ts → t.act ≡ Lock i must → locked w.slots (Lock i must) ≡ o
@@ -126,43 +127,48 @@ sent_less v d w (t ∷ ts) none is held = go (going w.slots t.act) refl held
     go None goes some = absurd (false≢true some)
     go (Some x) goes some = swapped_less v d t.statement Brought w t ts t.act x refl none is refl goes (omega arith) (omega arith)
 
-first_less : (v : Story) (d k : ℕ) (w : Walk) (t : Task) (ts : List Task) (a : Act) → w.endings ≡ [] → w.todo ≡ t ∷ ts → t.act ≡ a
+first_less : (v : Story) (d k : ℕ) (w : Walk) (t : Task) (ts : List Task) (a : Act) → Kept v → d < v.extent.actors → Holds d w.slots v
+    → w.endings ≡ [] → w.todo ≡ t ∷ ts → t.act ≡ a → HasCell v.extent.shape a → waits_on v w a ≡ false
     → IsLess v d Rest w (Some (first v d w k ts a))
-first_less v d k w t ts (Make form) none is same = begun_less v d k w t ts (least d (state v).stores) none is
-first_less v d k w t ts (Put i) none is same =
+first_less v d k w t ts (Make form) kept seat holds none is same has calm = begun_less v d k w t ts (least d (state v).stores) none is
+first_less v d k w t ts (Put i) kept seat holds none is same has calm =
     left_less v d k w (went (state v) d w k ts (Put i)) (slot w.slots i) (went_less (state v) d k w t ts (Put i) none is)
-first_less v d k w t ts (Leave i) none is same =
+first_less v d k w t ts (Leave i) kept seat holds none is same has calm =
     left_less v d k w (went (state v) d w k ts (Leave i)) (slot w.slots i) (went_less (state v) d k w t ts (Leave i) none is)
-first_less v d k w t ts (Clear i) none is same =
+first_less v d k w t ts (Clear i) kept seat holds none is same has calm =
     left_less v d k w (went (state v) d w k ts (Clear i)) (slot w.slots i) (went_less (state v) d k w t ts (Clear i) none is)
-first_less v d k w t ts (Lock i must) none is same = looked_less v d k w t ts i must (locked w.slots (Lock i must)) none is same refl
-first_less v d k w t ts (FromThis i kind) none is same = asked_less v d k w t ts i kind (inside (slot w.slots i)) none is
-first_less v d k w t ts (Share i) none is same =
+first_less v d k w t ts (Lock i must) kept seat holds none is same has calm = looked_less v d k w t ts i must (locked w.slots (Lock i must)) none is same refl
+first_less v d k w t ts (FromThis i kind) kept seat holds none is same has calm = asked_less v d k w t ts i kind (inside (slot w.slots i)) none is
+first_less v d k w t ts (Share i) kept seat holds none is same has calm =
     plain_less v d k Rest w t ts (Share i) (option_map share (slot w.slots i)) refl refl none is (omega arith) (omega arith)
-first_less v d k w t ts (Downgrade i) none is same =
+first_less v d k w t ts (Downgrade i) kept seat holds none is same has calm =
     plain_less v d k Rest w t ts (Downgrade i) (option_map downgrade (slot w.slots i)) refl refl none is (omega arith) (omega arith)
-first_less v d k w t ts (Count i) none is same =
-    plain_less v d k Rest w t ts (Count i) (option_map (tell (state v)) (slot w.slots i)) refl refl none is (omega arith) (omega arith)
-first_less v d k w t ts (Expired i) none is same =
+first_less v d k w t ts (Count i) kept seat holds none is same has calm =
+    plain_less v d k Rest w t ts (Count i) (option_map (tell v) (slot w.slots i)) refl refl none is (omega arith) (omega arith)
+first_less v d k w t ts (Expired i) kept seat holds none is same has calm =
     plain_less v d k Rest w t ts (Expired i) (option_map (tell_expired (state v)) (slot w.slots i)) refl refl none is (omega arith) (omega arith)
-first_less v d k w t ts (Read i) none is same =
+first_less v d k w t ts (Read i) kept seat holds none is same has calm =
     plain_less v d k Rest w t ts (Read i) (option_map (read (state v)) (inside (slot w.slots i))) refl refl none is (omega arith) (omega arith)
-first_less v d k w t ts (Alias i j field) none is same =
+first_less v d k w t ts (Alias i j field) kept seat holds none is same has calm =
     plain_less v d k Rest w t ts (Alias i j field) (option_map (alias (aliased field (place_in w.slots j))) (owner_slot (slot w.slots i))) refl refl none is (omega arith) (omega arith)
-first_less v d k w t ts (Move i) none is same =
+first_less v d k w t ts (Move i) kept seat holds none is same has calm =
     plain_less v d k Rest w t ts (Move i) None refl refl none is (omega arith) (omega arith)
-first_less v d k w t ts (Ask q) none is same =
+first_less v d k w t ts (Ask q) kept seat holds none is same has calm =
     plain_less v d k Rest w t ts (Ask q) None refl refl none is (omega arith) (omega arith)
-first_less v d k w t ts (Offer i c) none is same =
+first_less v d k w t ts (Offer i c) kept seat holds none is same has calm =
     plain_less v d k Rest w t ts (Offer i c) (option_map share (offered w.slots i c)) refl refl none is (omega arith) (omega arith)
-first_less v d k w t ts (Swap c) none is same = going_less v d k w t ts (Swap c) (going w.slots (Swap c)) none is same refl refl
-first_less v d k w t ts (Exchange i c) none is same = going_less v d k w t ts (Exchange i c) (going w.slots (Exchange i c)) none is same refl refl
-first_less v d k w t ts Drop none is same =
+first_less v d k w t ts (Swap c) kept seat holds none is same has calm = going_less v d k w t ts (Swap c) (going w.slots (Swap c)) none is same refl refl
+first_less v d k w t ts (Exchange i c) kept seat holds none is same has calm = going_less v d k w t ts (Exchange i c) (going w.slots (Exchange i c)) none is same refl refl
+first_less v d k w t ts (Load c) kept seat holds none is same has calm = load_less v d w kept seat holds k t ts c none is same has calm
+first_less v d k w t ts (Compare i c weak) kept seat holds none is same has calm =
+    compare_less v d w kept seat holds k t ts i c weak none is same has calm
+first_less v d k w t ts Drop kept seat holds none is same has calm =
     left_less v d k w (went (state v) d w k ts Drop) (slot w.slots (other w.slots)) (went_less (state v) d k w t ts Drop none is)
 
-task_less : (v : Story) (d : ℕ) (w : Walk) (ts : List Task) → w.endings ≡ [] → w.todo ≡ ts → IsLess v d Rest w (begun v d w ts)
-task_less v d w [] none is = (is, none, refl)
-task_less v d w (t ∷ ts) none is = first_less v d t.statement w t ts t.act none is refl
+task_less : (v : Story) (d : ℕ) (w : Walk) (ts : List Task) → Kept v → d < v.extent.actors → Holds d w.slots v → w.endings ≡ [] → w.todo ≡ ts
+    → IsInShape v.extent.shape ts → waits_at v w [] ts ≡ false → IsLess v d Rest w (begun v d w ts)
+task_less v d w [] kept seat holds none is has calm = (is, none, refl)
+task_less v d w (t ∷ ts) kept seat holds none is has calm = first_less v d t.statement w t ts t.act kept seat holds none is refl has calm
 
 -- the ending begun last goes on
 end_less : (v : Story) (d : ℕ) (w : Walk) (e : Ending) (es : List Ending) → w.endings ≡ e ∷ es → IsFree w.slots → e.stage ≤ 3
@@ -182,9 +188,10 @@ end_less v d w e es is free le =
     let a = staged_less w e es is free (omega (arith, le, n)) in
     record { own = omega (arith, a); most = omega (arith, a) })
 
-rest_less : (v : Story) (d : ℕ) (w : Walk) (es : List Ending) → w.endings ≡ es → All (λ (e : Ending). e.stage ≤ 3) es → IsLess v d Rest w (at_rest v d w es)
-rest_less v d w [] is staged = task_less v d w w.todo is refl
-rest_less v d w (e ∷ es) is staged =
+rest_less : (v : Story) (d : ℕ) (w : Walk) (es : List Ending) → Kept v → d < v.extent.actors → Holds d w.slots v → w.endings ≡ es
+    → All (λ (e : Ending). e.stage ≤ 3) es → IsInShape v.extent.shape w.todo → waits_at v w es w.todo ≡ false → IsLess v d Rest w (at_rest v d w es)
+rest_less v d w [] kept seat holds is staged has calm = task_less v d w w.todo kept seat holds is refl has calm
+rest_less v d w (e ∷ es) kept seat holds is staged has calm =
     cond_both (is_full (slot w.slots (hand w.slots))) (first v d w e.statement w.todo (Leave (hand w.slots))) (ends_on v w e es)
     (λ (x : Step). IsLess v d Rest w (Some x))
     (λ full. left_less v d e.statement w (went (state v) d w e.statement w.todo (Leave (hand w.slots))) (slot w.slots (hand w.slots))
@@ -253,6 +260,8 @@ tried_less v d word w t ts (Ask q) (Some x) none is same e full = cc
 tried_less v d word w t ts (Offer i c) (Some x) none is same e full = cc
 tried_less v d word w t ts (Swap c) (Some x) none is same e full = cc
 tried_less v d word w t ts (Exchange i c) (Some x) none is same e full = cc
+tried_less v d word w t ts (Load c) (Some x) none is same e full = cc
+tried_less v d word w t ts (Compare i c weak) (Some x) none is same e full = cc
 tried_less v d word w t ts Drop (Some x) none is same e full = cc
 
 lock_less : (v : Story) (d word : ℕ) (w : Walk) (ts : List Task) → w.endings ≡ [] → w.todo ≡ ts → IsLock w.slots ts
@@ -260,12 +269,16 @@ lock_less : (v : Story) (d word : ℕ) (w : Walk) (ts : List Task) → w.endings
 lock_less v d word w [] none is full = absurd full
 lock_less v d word w (t ∷ ts) none is full = tried_less v d word w t ts t.act (locked w.slots t.act) none is refl refl full
 
--- each step that isn't the last is one less
-pub less : (v : Story) (d : ℕ) (h : Half) (w : Walk) → IsUnderWay d v h w.todo → IsTried h w → IsAlone h w.endings
-    → All (λ (e : Ending). e.stage ≤ 3) w.endings → IsLess v d h w (step_at v d h w)
-less v d Rest w way held none staged = rest_less v d w w.endings refl staged
-less v d (Making b i f) w way held none staged = make_less v d i w b f w.todo none refl way
-less v d (Locking word) w way held none staged = lock_less v d word w w.todo none refl held
-less v d (Giving i kind x) w way held none staged = give_less v d i kind x w w.todo none refl way
-less v d Brought w way held none staged = sent_less v d w w.todo none refl held
-less v d (Returning kind b funds k) w way held none staged = record { own = omega arith; most = omega arith }
+-- each step that isn't the last is one less, where the thread hasn't to wait
+module _ (v : Story) (d : ℕ) (w : Walk) (kept : Kept v) (seat : d < v.extent.actors) (holds : Holds d w.slots v) where
+  pub less : (h : Half) → IsUnderWay d v h w.todo → IsTried h w → IsAlone h w.endings → All (λ (e : Ending). e.stage ≤ 3) w.endings
+      → IsInShape v.extent.shape w.todo → IsOut d v h → waits v h w ≡ false → IsLess v d h w (step_at v d h w)
+  less Rest way held none staged has out calm = rest_less v d w w.endings kept seat holds refl staged has calm
+  less (Making b i f) way held none staged has out calm = make_less v d i w b f w.todo none refl way
+  less (Locking word) way held none staged has out calm = lock_less v d word w w.todo none refl held
+  less (Giving i kind x) way held none staged has out calm = give_less v d i kind x w w.todo none refl way
+  less Brought way held none staged has out calm = sent_less v d w w.todo none refl held
+  less (Saw x) way held none staged has out calm = seen_less v d w kept seat holds x w.todo none refl held
+  less (Matched x) way held none staged has out calm = swapping_less v d w kept seat holds x w.todo none refl held
+  less (Refill s c x k) way held none staged has out calm = refill_less v d w kept seat holds s c x k x.owned refl out
+  less (Returning kind b funds k) way held none staged has out calm = record { own = omega arith; most = omega arith }

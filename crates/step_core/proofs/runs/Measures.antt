@@ -1,5 +1,5 @@
 -- Each step that isn't `Done` takes one from the steps that are left.
-use Rattle.std.proofs.Common.{◌≡◌, ◌≢◌, ℕ, ◌+◌, ◌*◌, ◌<◌, ◌≤◌, List, length, sym, ap, subst, ◌∙◌, arith}
+use Rattle.std.proofs.Common.{◌≡◌, ◌≢◌, ℕ, ◌+◌, ◌*◌, ◌<◌, ◌≤◌, Bool, true, false, cond, List, length, refl, sym, ap, subst, ◌∙◌, arith}
 use Rattle.std.proofs.Common.{get_or-set_same, length-set}
 use Rattle.std.specs.Prelude.{Option, Some, None, slice_set}
 use Rattle.std.proofs.lemmas.Bool.{cond_both}
@@ -8,18 +8,18 @@ use Rattle.std.proofs.lemmas.List.Sums.{get_or-le-sum_by, sum_by-set}
 use Rattle.step_threads.specs.declared.half.Half.{Half}
 use Rattle.step_threads.specs.declared.half.Half.TheVariants.{Rest}
 use Rattle.step_threads.specs.declared.said.Stepped.{Stepped}
-use Rattle.step_threads.specs.declared.said.Stepped.TheVariants.{Event, Quiet, Done}
-use Rattle.step_core.specs.Bounds.{living, most_steps, spare, walk_steps}
+use Rattle.step_threads.specs.declared.said.Stepped.TheVariants.{Event, Quiet, Waited, Done}
+use Rattle.step_core.specs.Bounds.{alone, living, most_steps, spare, walk_steps}
 use Rattle.step_threads.specs.Courses.{Walk}
 use Rattle.step_table.specs.Openings.{opening}
 use Rattle.step_core.specs.Runs.{IsOver}
 use Rattle.step_threads.specs.Scenes.{nowhere, walk_of}
-use Rattle.step_threads.specs.Steps.{Step, is_event, story_after, story_by, stepped}
+use Rattle.step_threads.specs.Steps.{Step, is_event, story_after, story_by, stepped, waits}
 use Rattle.step_table.specs.Stories.{Kept, Story}
 use Rattle.step_core.specs.Told.{ends_by, makes}
 use Rattle.step_core.specs.Turning.{HasBegun}
-use Rattle.step_core.specs.Worlds.{Sight, Steps, half_of, scene, sight_by, step_of}
-use Rattle.step_core.proofs.runs.Alone.{IsLess, alone}
+use Rattle.step_core.specs.Worlds.{Sight, Steps, answer_at, half_of, scene, sight_by, step_of}
+use Rattle.step_core.proofs.runs.Alone.{IsLess}
 use Rattle.step_core.proofs.runs.Lessening.{less}
 use Rattle.step_core.proofs.telling.Counting.{counted}
 use Rattle.step_core.proofs.telling.Order.{ended_few}
@@ -92,13 +92,32 @@ sight_of v ws hs = record { story = v; walks = ws; halves = hs }
 same_sight : (u : Sight) (ws : List Walk) (hs : List Half) → ws ≡ u.walks → hs ≡ u.halves → sight_of u.story ws hs ≡ u
 same_sight u ws hs e f = ap (λ (w : List Walk). sight_of u.story w hs) e ∙ ap (sight_of u.story u.walks) f
 
-left : (d : ℕ) (u : Sight) → HasBegun d u → IsLess u.story d (half_of u d) (walk_of (scene u) d) (step_of d u)
-left d u begun = less u.story d (half_of u d) (walk_of (scene u) d) begun.half begun.tried begun.alone begun.staged
+-- a step that didn't wait
+record Calm (d : ℕ) (u : Sight) (r : Stepped) : Type 0 where
+  calm : waits u.story (half_of u d) (walk_of (scene u) d) ≡ false
+  answer : r ≡ stepped u.story (step_of d u)
+
+calm_by : (d : ℕ) (u : Sight) (r : Stepped) → r ≡ answer_at d u → r ≢ Waited → Calm d u r
+calm_by d u r e never = go (waits u.story (half_of u d) (walk_of (scene u) d)) refl e
+  where
+    go : (b : Bool) → waits u.story (half_of u d) (walk_of (scene u) d) ≡ b → r ≡ cond b Waited (stepped u.story (step_of d u)) → Calm d u r
+    go true is e = absurd (never e)
+    go false is e = record { calm = is; answer = e }
+
+left : (d : ℕ) (u : Sight) → HasBegun d u → waits u.story (half_of u d) (walk_of (scene u) d) ≡ false
+    → IsLess u.story d (half_of u d) (walk_of (scene u) d) (step_of d u)
+left d u begun calm =
+    less u.story d (walk_of (scene u) d) begun.kept begun.seat begun.holds (half_of u d) begun.half begun.tried begun.alone begun.staged
+    begun.cell begun.out calm
 
 -- a step at the end changes nothing
 pub at_end : (d : ℕ) (u u' : Sight) → HasBegun d u → Steps d u Done u' → (u' ≡ u) × IsOver d u
-at_end d u u' begun steps = go (step_of d u) steps.0 steps.1 (left d u begun)
+at_end d u u' begun steps =
+    let c = calm_by d u Done steps.0 done_goes in go (step_of d u) c.answer steps.1 (left d u begun c.calm)
   where
+    done_goes : Done ≢ Waited
+    done_goes e = cc
+
     go : (o : Option Step) → Done ≡ stepped u.story o → u' ≡ sight_by d u o
         → IsLess u.story d (half_of u d) (walk_of (scene u) d) o → (u' ≡ u) × IsOver d u
     go None r e l =
@@ -107,9 +126,10 @@ at_end d u u' begun steps = go (step_of d u) steps.0 steps.1 (left d u begun)
 
 -- any other step is one less
 pub before_end : (d : ℕ) (u u' : Sight) (r : Stepped) → HasBegun d u → Kept u'.story → d < length u.walks → Steps d u r u' → r ≢ Done
-    → Falls d u u'
-before_end d u u' r begun kept lt steps ne =
-    go (step_of d u) steps.0 steps.1 (living_by d u begun (subst (λ (w : Sight). Kept w.story) steps.1 kept)) (left d u begun)
+    → r ≢ Waited → Falls d u u'
+before_end d u u' r begun kept lt steps ne never =
+    let c = calm_by d u r steps.0 never in
+    go (step_of d u) c.answer steps.1 (living_by d u begun (subst (λ (w : Sight). Kept w.story) steps.1 kept)) (left d u begun c.calm)
   where
     go : (o : Option Step) → r ≡ stepped u.story o → u' ≡ sight_by d u o
         → living (sight_by d u o) + ends_by (stepped u.story o) ≤ living u + makes (half_of u d) (stepped u.story o)
@@ -119,9 +139,10 @@ before_end d u u' r begun kept lt steps ne =
 
 -- no step is one more
 pub never_more : (d : ℕ) (u u' : Sight) (r : Stepped) → HasBegun d u → Kept u'.story → d < length u.walks → Steps d u r u'
-    → most_steps u' ≤ most_steps u
-never_more d u u' r begun kept lt steps =
-    go (step_of d u) steps.1 (living_by d u begun (subst (λ (w : Sight). Kept w.story) steps.1 kept)) (left d u begun)
+    → r ≢ Waited → most_steps u' ≤ most_steps u
+never_more d u u' r begun kept lt steps never =
+    let c = calm_by d u r steps.0 never in
+    go (step_of d u) steps.1 (living_by d u begun (subst (λ (w : Sight). Kept w.story) steps.1 kept)) (left d u begun c.calm)
   where
     go : (o : Option Step) → u' ≡ sight_by d u o
         → living (sight_by d u o) + ends_by (stepped u.story o) ≤ living u + makes (half_of u d) (stepped u.story o)

@@ -1,5 +1,5 @@
 -- What steps tell of objects that end.
-use Rattle.std.proofs.Common.{◌≡◌, ℕ, ◌-◌, ◌==◌, Bool, true, false, cond, List, [], ◌∷◌, length, get_or, refl, sym, ap, subst, ◌∙◌, arith}
+use Rattle.std.proofs.Common.{◌≡◌, ℕ, ◌-◌, ◌==◌, Bool, true, false, cond, List, [], ◌∷◌, length, get_or, refl, sym, ap, subst, ◌∙◌, inl, inr, arith}
 use Rattle.std.specs.Prelude.{Option, Some, None, MatchOption, option_map}
 use Rattle.std.proofs.lemmas.Bool.{cond_both, eqb-true, false≢true}
 use Rattle.control_word.specs.declared.event.Entry.{Entry}
@@ -24,19 +24,23 @@ use Rattle.step_threads.specs.declared.said.Stepped.TheVariants as stepped
 use Rattle.step_core.specs.declared.trace.TraceStep.{TraceStep}
 use Rattle.step_threads.specs.Actors.{wanted}
 use Rattle.step_threads.specs.declared.ending.Ending.{Ending}
-use Rattle.step_threads.specs.Courses.{Going, Walk, form_of, going, hand, locked, offered, on_going, other}
+use Rattle.step_threads.specs.Courses.{Going, Walk, cell_at, comparing, form_of, going, hand, locked, offered, on_going, other}
 use Rattle.step_table.specs.Deeds.{is_enabled, read, downgrade, is_last as is_last_of, leave, leave_as, lock, owned, owner_word, share, share_as, tell, tell_expired, alias, aliased, on, remains}
 use Rattle.step_core.specs.Headline.{LastLeft, TellsWhatIsLeft, ended_by}
 use Rattle.step_threads.specs.Endings.{staged}
 use Rattle.step_table.specs.Holdings.{inside, is_full, slot, owner_slot, place_in}
 use Rattle.step_threads.specs.Entries.{least}
-use Rattle.step_threads.specs.Scenes.{ended_by as ended_of, remains_as, walk_of}
+use Rattle.step_threads.specs.Scenes.{ended_by as ended_of, ended_of as ends_of, remains_as, walk_of}
 use Rattle.step_threads.specs.Steps.{asks, at_rest, brings, given, Step, acts, begins, begun, claims, ends_on, first, is_event, looks, made_on, prepares, sends, sent, silent, step_at, stepped as stepped_by, story_after, story_by, swaps, tried, tries, trying, with_endings}
 use Rattle.step_table.specs.Stories.{Nothing, Story, added, event_of, known, object_in, owner_in, pending, state}
 use Rattle.step_core.specs.Totals.{is_last}
 use Rattle.step_core.specs.Worlds.{Sight, half_of, scene, step_of}
 use Rattle.step_table.specs.CellDeeds.{cell_event}
 use Rattle.step_table.proofs.tables.CellDeeds.{by_event}
+use Rattle.step_table.specs.declared.cell_deed.Cell.{Cell}
+use Rattle.step_table.specs.Contents.{compared_in, seen}
+use Rattle.step_core.proofs.telling.Cases.{IsEach, IsEachAct, IsEachRefill, each_compares, each_matched, each_refill, each_saw, each_sees}
+use Rattle.step_core.proofs.runs.Waiting.{IsTold, told_at}
 use Rattle.step_core.proofs.runs.Headline.{IsStep, asked, newest_is_last}
 use Rattle.step_core.proofs.telling.Swapping.{swapping}
 
@@ -75,7 +79,7 @@ alias_tells : (v : Story) (p : Option Place) (o : Option Pointer) → None ≡ l
 alias_tells v p None = refl
 alias_tells v p (Some x) = refl
 
-count_tells : (v : Story) (o : Option Pointer) → None ≡ left_by v (option_map (tell (state v)) o)
+count_tells : (v : Story) (o : Option Pointer) → None ≡ left_by v (option_map (tell v) o)
 count_tells v None = refl
 count_tells v (Some x) = refl
 
@@ -131,6 +135,8 @@ try_tells v d k word w ts (Ask q) (Some x) e = cc
 try_tells v d k word w ts (Offer i c) (Some x) e = cc
 try_tells v d k word w ts (Swap c) (Some x) e = cc
 try_tells v d k word w ts (Exchange i c) (Some x) e = cc
+try_tells v d k word w ts (Load c) (Some x) e = cc
+try_tells v d k word w ts (Compare i c weak) (Some x) e = cc
 try_tells v d k word w ts Drop (Some x) e = cc
 
 tried_tells : (v : Story) (d word : ℕ) (w : Walk) (ts : List Task) → Tells v (tried v d w word ts)
@@ -161,6 +167,23 @@ sent_tells v d w (t ∷ ts) = go (going w.slots t.act) refl
     go None goes = tt
     go (Some x) goes = (swapping (state v) w.slots t.act x goes).ends
 
+-- a step on a cell ends nothing, and neither does one on funds
+each_cell : (v : Story) (d : ℕ) (w : Walk) (k : ℕ) (ts : List Task) (a : Act) (c : Cell) → ends_of (state v) w.slots a ≡ None
+    → IsEach v d w k ts a c (λ (x : Step). Tells v (Some x))
+each_cell v d w k ts a c none = record { quiet = λ h. refl; look = λ x y. none; take = λ x y h. none; swap = λ x y h. none; bring = λ x p. refl }
+
+each_act : (v : Story) (d : ℕ) (w : Walk) (k : ℕ) (ts : List Task) → IsEachAct v d w k ts (Tells v)
+each_act v d w k ts =
+    record {
+      none = tt;
+      load = λ c. each_cell v d w k ts (Load c) (cell_at (state v) c) refl;
+      compare = λ i c weak. each_cell v d w k ts (Compare i c weak) (cell_at (state v) c) refl;
+    }
+
+each_stage : (v : Story) (w : Walk) (k : ℕ) → IsEachRefill v w k (λ (x : Step). Tells v (Some x))
+each_stage v w k =
+    record { quiet = λ h. refl; turn = λ q b h. refl; bring = λ q b p n h. refl; back = λ q b n h. refl; refill = λ c n h. refl }
+
 first_tells : (v : Story) (d k : ℕ) (w : Walk) (ts : List Task) (a : Act) → Tells v (Some (first v d w k ts a))
 first_tells v d k w ts (Make form) = begin_tells v w k ts (least d (state v).stores)
 first_tells v d k w ts (Share i) = share_tells v (slot w.slots i)
@@ -179,6 +202,13 @@ first_tells v d k w ts (Ask q) = refl
 first_tells v d k w ts (Offer i c) = share_tells v (offered w.slots i c)
 first_tells v d k w ts (Swap c) = going_tells v d k w ts (Swap c) (going w.slots (Swap c)) refl refl
 first_tells v d k w ts (Exchange i c) = going_tells v d k w ts (Exchange i c) (going w.slots (Exchange i c)) refl refl
+first_tells v d k w ts (Load c) =
+    each_sees v d w k ts (Load c) (cell_at (state v) c) (λ (x : Step). Tells v (Some x)) (each_cell v d w k ts (Load c) (cell_at (state v) c) refl) None
+    (seen v (cell_at (state v) c))
+first_tells v d k w ts (Compare i c weak) =
+    each_compares v d w k ts (Compare i c weak) (cell_at (state v) c) (λ (x : Step). Tells v (Some x))
+    (each_cell v d w k ts (Compare i c weak) (cell_at (state v) c) refl) (compared_in w.slots (comparing w.slots i weak))
+    (seen v (cell_at (state v) c))
 first_tells v d k w ts Drop = leave_tells v (slot w.slots (other w.slots))
 
 task_tells : (v : Story) (d : ℕ) (w : Walk) (ts : List Task) → Tells v (begun v d w ts)
@@ -221,6 +251,9 @@ step_tells v d (Making b i f) w = make_tells v d i w b f w.todo
 step_tells v d (Locking word) w = tried_tells v d word w w.todo
 step_tells v d (Giving i kind x) w = given_tells v d i kind x w w.todo
 step_tells v d Brought w = sent_tells v d w w.todo
+step_tells v d (Saw x) w = each_saw v d w (Tells v) x w.todo tt (λ t us e. each_act v d w t.statement us)
+step_tells v d (Matched x) w = each_matched v d w (Tells v) x w.todo tt (λ t us e. each_act v d w t.statement us)
+step_tells v d (Refill stage c x k) w = each_refill v w k (Tells v) tt (each_stage v w k) stage c x x.owned
 step_tells v d (Returning kind b funds k) w = refl
 
 -- both answers of a step say what is said
@@ -274,8 +307,10 @@ module _ (u : Sight) (x : TraceStep) (u' : Sight) (step : IsStep u x u') where
   by_step None now is says = none_left None refl now (ap ended_by is)
   by_step (Some y) now is says = by_deed y.deed now (ap ended_by is ∙ as_said u.story y ∙ says)
 
+  by_answer : IsTold (x.actor - 1) u x.stepped u' → TellsWhatIsLeft u x u'
+  by_answer (inl still) = none_left None refl still.1 (ap ended_by still.0)
+  by_answer (inr said) =
+      by_step (step_of (x.actor - 1) u) said.1 said.0 (step_tells u.story (x.actor - 1) (half_of u (x.actor - 1)) (walk_of (scene u) (x.actor - 1)))
+
 pub tells : (u : Sight) (x : TraceStep) (u' : Sight) → IsStep u x u' → TellsWhatIsLeft u x u'
-tells u x u' step =
-    let d = x.actor - 1 in
-    by_step u x u' step (step_of d u) (ap (λ (m : Sight). m.story.history) step.steps.1) step.steps.0
-    (step_tells u.story d (half_of u d) (walk_of (scene u) d))
+tells u x u' step = by_answer u x u' step (told_at (x.actor - 1) u x.stepped u' step.steps)

@@ -23,24 +23,27 @@ all_steps (t ∷ ts) =
     let j = (all_steps ts).1 in
     (omega (arith, a, b, c, i), omega (arith, a, b, c, j))
 
-spare_most : (h : Half) → spare h ≤ 15
+spare_most : (h : Half) → spare h ≤ 22
 spare_most Rest = omega arith
 spare_most (Making b i differs) = flag differs i
   where
-    flag : (f : Bool) (j : ℕ) → 2 * (5 - j) + cond f 1 2 ≤ 15
+    flag : (f : Bool) (j : ℕ) → 2 * (5 - j) + cond f 1 2 ≤ 22
     flag true j = omega arith
     flag false j = omega arith
 spare_most (Locking word) = omega arith
 spare_most (Giving i kind x) = omega arith
 spare_most Brought = omega arith
+spare_most (Saw x) = omega arith
+spare_most (Matched x) = omega arith
+spare_most (Refill stage c x k) = omega arith
 spare_most (Returning kind b funds k) = omega arith
 
-spares : (halves : List Half) → sum_by spare halves ≤ 15 * length halves
+spares : (halves : List Half) → sum_by spare halves ≤ 22 * length halves
 spares [] = omega arith
 spares (h ∷ hs) = let a = sum_by-cons spare h hs in let m = spare_most h in let i = spares hs in omega (arith, a, m, i)
 
 pub enough : (v : Story) (threads : List Thread)
-    → most_steps (sight v threads) + length (map thread_walk threads) ≤ sum_by steps_of threads + 17 * length threads + 13 * living (sight v threads)
+    → most_steps (sight v threads) + 3 * length (map thread_walk threads) ≤ sum_by steps_of threads + 26 * length threads + 13 * living (sight v threads)
 enough v threads =
     let a = (all_steps threads).0 in
     let b = spares (map thread_half threads) in

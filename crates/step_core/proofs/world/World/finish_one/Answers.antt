@@ -1,10 +1,9 @@
 use Rattle.std.proofs.Common.{◌<◌, length, ap, arith}
 use Rattle.step_threads.specs.declared.half.Half.{Half}
-use Rattle.step_core.specs.Bounds.{most_steps, spare}
+use Rattle.step_core.specs.Bounds.{alone, most_steps, spare}
 use Rattle.step_threads.specs.Scenes.{walk_of}
 use Rattle.step_core.specs.Worlds.{scene}
 use Rattle.step_core.proofs.runs.Chains.{on_end, on_more}
-use Rattle.step_core.proofs.runs.Alone.{alone}
 use Rattle.step_core.proofs.runs.Measures.{Falls, at_end, before_end}
 use Rattle.step_core.proofs.world.World.finish_one.Goals as goal
 
@@ -16,7 +15,7 @@ module _ (c : goal.After-add) where
   one_less : Falls c.args.number c.loop-stepped.self c.advance.new.self
   one_less =
       let s = c.advance.ensures in
-      before_end c.args.number c.loop-stepped.self c.advance.new.self c.advance.result s.was s.kept inside s.steps c.in_default.not-Done
+      before_end c.args.number c.loop-stepped.self c.advance.new.self c.advance.result s.was s.kept inside s.steps c.in_default.not-Done s.never
 
 pub add-requires : goal.add-requires
 add-requires c =
@@ -24,7 +23,7 @@ add-requires c =
     let i = c.loop-stepped.invariant in
     let a = i.on.actors in
     let w = c.requires.within in
-    let f = before_end c.args.number c.loop-stepped.self c.advance.new.self c.advance.result s.was s.kept (omega (arith, a, w)) s.steps c.in_default.not-Done in
+    let f = before_end c.args.number c.loop-stepped.self c.advance.new.self c.advance.result s.was s.kept (omega (arith, a, w)) s.steps c.in_default.not-Done s.never in
     let first = c.requires.room in
     let before = i.room in
     let capacity = i.capacity in

@@ -9,7 +9,7 @@ invariant-loop-stepped l = record {
   on : IsOn l.number l.initial.self l.initial.steps.items l.self l.steps.items;
   room :
       vec_len l.steps + most_steps l.self + alone_of l.number l.self
-      ≤ vec_len l.initial.steps + most_steps l.initial.self + 1 + spare_of l.number l.self;
+      ≤ vec_len l.initial.steps + most_steps l.initial.self + 3 + spare_of l.number l.self;
   capacity : vec_capacity l.initial.steps ≤ vec_capacity l.steps;
 }
 

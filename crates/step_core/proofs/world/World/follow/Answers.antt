@@ -22,7 +22,7 @@ loop-turn-preserved c =
     let same = i.actors in
     let from = c.from.ensures in
     let most = never_more (c.from.result - 1) c.loop-turn.self c.advance-stepped.new.self c.advance-stepped.result s.was s.kept
-    (omega (arith, low, high, same, from)) s.steps in
+    (omega (arith, low, high, same, from)) s.steps s.never in
     let len = e.len in
     let was = i.len in
     let before = i.room in

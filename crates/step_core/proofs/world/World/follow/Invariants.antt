@@ -1,4 +1,4 @@
-use Rattle.std.proofs.Common.{◌≡◌, ◌+◌, ◌≤◌, length, map, take, vec_capacity, vec_len}
+use Rattle.std.proofs.Common.{◌≡◌, ◌+◌, ◌*◌, ◌≤◌, length, map, take, vec_capacity, vec_len}
 use Rattle.step_core.specs.declared.trace.TraceStep.{TraceStep}
 use Rattle.step_core.specs.Bounds.{most_steps}
 use Rattle.step_core.specs.Runs.{IsRun}
@@ -9,6 +9,6 @@ invariant-loop-turn l = record {
   run : IsRun l.initial.self l.steps.items l.self;
   numbers : map (λ (x : TraceStep). x.actor) l.steps.items ≡ take l.turn-index l.turns;
   len : vec_len l.steps ≡ l.turn-index;
-  room : length l.turns + most_steps l.self + length l.self.walks ≤ vec_capacity l.steps;
+  room : length l.turns + most_steps l.self + 3 * length l.self.walks ≤ vec_capacity l.steps;
   actors : length l.self.walks ≡ length l.initial.self.walks;
 }

@@ -1,0 +1,99 @@
+-- A step that waits is no event.
+use Rattle.std.proofs.Common.{◌≡◌, ◌⊎◌, ℕ, Bool, true, false, cond, List, [], ◌∷◌, refl, sym, ap, subst, ◌∙◌, inl, inr}
+use Rattle.std.specs.Prelude.{◌&&◌, Some, None, not, is_some}
+use Rattle.std.proofs.lemmas.Bool.{false≢true}
+use Rattle.step_threads.specs.declared.act.Act.{Act}
+use Rattle.step_threads.specs.declared.act.Act.TheVariants.{Make, Share, Downgrade, Lock, Put, Leave, Clear, Count, Expired, Read, FromThis, Alias, Move, Ask, Offer, Swap, Exchange, Load, Compare, Drop}
+use Rattle.step_threads.specs.declared.act.Task.{Task}
+use Rattle.step_threads.specs.declared.ending.Ending.{Ending}
+use Rattle.step_threads.specs.declared.half.Half.{Half}
+use Rattle.step_threads.specs.declared.half.Half.TheVariants.{Rest, Making, Locking, Giving, Brought, Saw, Matched, Refill, Returning}
+use Rattle.step_threads.specs.declared.said.Stepped.{Stepped}
+use Rattle.step_threads.specs.declared.said.Stepped.TheVariants.{Waited}
+use Rattle.step_table.specs.declared.cell_deed.CellDeed.TheVariants as cell_deed
+use Rattle.step_table.specs.declared.past.Deed.TheVariants as deed
+use Rattle.step_table.specs.Contents.{as_word, compared_in, is_spent, same_value, seen}
+use Rattle.step_table.specs.Holdings.{value}
+use Rattle.step_table.specs.Stories.{Story, state}
+use Rattle.step_threads.specs.Courses.{Walk, cell_at, comparing}
+use Rattle.step_threads.specs.Scenes.{walk_of}
+use Rattle.step_threads.specs.Steps.{Step, acts, at_rest, begun, first, step_at, stepped, story_after, story_by, waits, waits_at, waits_on, within}
+use Rattle.step_core.specs.Worlds.{Sight, Steps, half_of, scene, step_of}
+
+-- a thread that waits does nothing
+abbrev Quiet : Story → ℕ → Bool → Story → Type 0
+Quiet v d waited v' = waited ≡ true → v' ≡ v
+
+spent : (v : Story) (d k : ℕ) (w : Walk) (x : Step) (b : Bool) → Quiet v d b (story_after v d (cond b (within w k None Rest) x).deed)
+spent v d k w x true e = refl
+spent v d k w x false e = absurd (false≢true e)
+
+differs : (v : Story) (d k : ℕ) (w : Walk) (x y : Step) (same b : Bool)
+    → Quiet v d (not same && b) (story_after v d (cond same y (cond b (within w k None Rest) x)).deed)
+differs v d k w x y true b e = absurd (false≢true e)
+differs v d k w x y false b e = spent v d k w x b e
+
+act_quiet : (v : Story) (d k : ℕ) (w : Walk) (ts : List Task) (a : Act) → Quiet v d (waits_on v w a) (story_after v d (first v d w k ts a).deed)
+act_quiet v d k w ts (Load c) e =
+    let z = cell_at (state v) c in
+    let x = seen v z in
+    spent v d k w (cond (is_some x.owned) (within w k None (Saw x)) (acts v d w k ts (Load c) (Some (deed.OnCell (cell_deed.Look z x None))) Rest))
+    (is_spent x) e
+act_quiet v d k w ts (Compare i c weak) e =
+    let z = cell_at (state v) c in
+    let x = seen v z in
+    let y = compared_in w.slots (comparing w.slots i weak) in
+    let look = acts v d w k ts (Compare i c weak) (Some (deed.OnCell (cell_deed.Look z x (Some y)))) Rest in
+    differs v d k w (cond (is_some x.owned) (within w k None (Saw x)) look) (within w k None (Saw x)) (same_value x (as_word (value w.slots i)))
+    (is_spent x) e
+act_quiet v d k w ts (Make form) e = absurd (false≢true e)
+act_quiet v d k w ts (Share i) e = absurd (false≢true e)
+act_quiet v d k w ts (Downgrade i) e = absurd (false≢true e)
+act_quiet v d k w ts (Lock i must) e = absurd (false≢true e)
+act_quiet v d k w ts (Put i) e = absurd (false≢true e)
+act_quiet v d k w ts (Leave i) e = absurd (false≢true e)
+act_quiet v d k w ts (Clear i) e = absurd (false≢true e)
+act_quiet v d k w ts (Count i) e = absurd (false≢true e)
+act_quiet v d k w ts (Expired i) e = absurd (false≢true e)
+act_quiet v d k w ts (Read i) e = absurd (false≢true e)
+act_quiet v d k w ts (FromThis i kind) e = absurd (false≢true e)
+act_quiet v d k w ts (Alias i j field) e = absurd (false≢true e)
+act_quiet v d k w ts (Move i) e = absurd (false≢true e)
+act_quiet v d k w ts (Ask q) e = absurd (false≢true e)
+act_quiet v d k w ts (Offer i c) e = absurd (false≢true e)
+act_quiet v d k w ts (Swap c) e = absurd (false≢true e)
+act_quiet v d k w ts (Exchange i c) e = absurd (false≢true e)
+act_quiet v d k w ts Drop e = absurd (false≢true e)
+
+rest_quiet : (v : Story) (d : ℕ) (w : Walk) (es : List Ending) (ts : List Task) → w.todo ≡ ts → Quiet v d (waits_at v w es ts) (story_by v d (at_rest v d w es))
+rest_quiet v d w [] [] is e = absurd (false≢true e)
+rest_quiet v d w [] (t ∷ ts) is e =
+    subst (λ (l : List Task). story_by v d (begun v d w l) ≡ v) (sym is) (act_quiet v d t.statement w ts t.act e)
+rest_quiet v d w (x ∷ es) ts is e = absurd (false≢true e)
+
+quiet : (v : Story) (d : ℕ) (h : Half) (w : Walk) → Quiet v d (waits v h w) (story_by v d (step_at v d h w))
+quiet v d Rest w e = rest_quiet v d w w.endings w.todo refl e
+quiet v d (Making b i differs) w e = absurd (false≢true e)
+quiet v d (Locking word) w e = absurd (false≢true e)
+quiet v d (Giving i kind x) w e = absurd (false≢true e)
+quiet v d Brought w e = absurd (false≢true e)
+quiet v d (Saw x) w e = absurd (false≢true e)
+quiet v d (Matched x) w e = absurd (false≢true e)
+quiet v d (Refill stage c x k) w e = absurd (false≢true e)
+quiet v d (Returning kind b funds k) w e = absurd (false≢true e)
+
+-- a step waited and did nothing, or answered as it is
+abbrev pub IsTold : ℕ → Sight → Stepped → Sight → Type 0
+IsTold d u r u' =
+    ((r ≡ Waited) × (u'.story.history ≡ u.story.history))
+    ⊎ ((r ≡ stepped u.story (step_of d u)) × (u'.story.history ≡ (story_by u.story d (step_of d u)).history))
+
+pub told_at : (d : ℕ) (u : Sight) (r : Stepped) (u' : Sight) → Steps d u r u' → IsTold d u r u'
+told_at d u r u' steps = go (waits u.story (half_of u d) (walk_of (scene u) d)) refl steps.0
+  where
+    moved : u'.story.history ≡ (story_by u.story d (step_of d u)).history
+    moved = ap (λ (m : Sight). m.story.history) steps.1
+
+    go : (b : Bool) → waits u.story (half_of u d) (walk_of (scene u) d) ≡ b → r ≡ cond b Waited (stepped u.story (step_of d u)) → IsTold d u r u'
+    go true is e = inl (e, moved ∙ ap (λ (v : Story). v.history) (quiet u.story d (half_of u d) (walk_of (scene u) d) is))
+    go false is e = inr (e, moved)

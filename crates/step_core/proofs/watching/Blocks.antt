@@ -1,0 +1,167 @@
+-- Steps on the words of blocks leave the words of free cells.
+use Rattle.std.proofs.Common.{◌≡◌, ◌⊎◌, ℕ, suc, ◌+◌, ◌-◌, ◌*◌, ◌<◌, ◌≤◌, ◌==◌, Bool, true, false, cond, List, [], ◌∷◌, refl, sym, ap, subst, ◌∙◌, inl, inr, arith}
+use Rattle.std.proofs.Math.Nat.{min-eq_left, min-eq_right}
+use Rattle.std.specs.Prelude.{Option, Some, None, option_map, min, not, slice_index, slice_set}
+use Rattle.std.proofs.lemmas.Bool.{cases_lt, cond_both}
+use Rattle.std.proofs.lemmas.Option.{same_Some}
+use Rattle.control_word.specs.declared.handle.Kind.{Kind}
+use Rattle.control_word.specs.declared.handle.Kind.TheVariants.{Owner, Weak}
+use Rattle.control_word.specs.declared.place.Block.{Block}
+use Rattle.control_word.specs.declared.place.Place.{Place}
+use Rattle.control_word.specs.Layout.{cell_place, spot}
+use Rattle.control_word.specs.State.{Has, InShape, State, Stored, stored}
+use Rattle.control_word.specs.Words.{slot as slot_of_kind}
+use Rattle.step_table.specs.declared.cell_deed.CellDeed.TheVariants as cell_deed
+use Rattle.step_table.specs.declared.holdings.Pointer.{Pointer}
+use Rattle.step_table.specs.declared.past.Deed.{Deed}
+use Rattle.step_table.specs.declared.past.Deed.TheVariants as deed
+use Rattle.step_table.specs.declared.slot.Slot.{Slot}
+use Rattle.step_table.specs.Contents.{is_of}
+use Rattle.step_table.specs.Deeds.{alias, downgrade, give, is_expired, leave_as, lock, read, share_as, tell, tell_expired}
+use Rattle.step_table.specs.Holdings.{Holds, Slots, inside, owner_as, owner_slot, plain, pointer_of, slot, value, weak_as, weak_slot}
+use Rattle.step_table.specs.Openings.{opening}
+use Rattle.step_table.specs.Stories.{Kept, Story, state}
+use Rattle.step_table.proofs.holding.Inside.{inside_is}
+use Rattle.step_table.proofs.holding.Owning.{slot_held}
+use Rattle.step_table.proofs.tables.Places.{handle_busy, there, vacant_place}
+use Rattle.step_threads.specs.declared.act.Act.{Act}
+use Rattle.step_threads.specs.declared.act.Act.TheVariants.{Lock}
+use Rattle.step_threads.specs.declared.call.CellName.{CellName}
+use Rattle.step_threads.specs.Courses.{fitting, kind_at, offered}
+use Rattle.step_threads.specs.Entries.{least, lesser}
+use Rattle.step_threads.specs.Steps.{story_after}
+use Rattle.step_core.proofs.watching.Words.{block_off}
+
+-- the deed leaves the words of free cells
+abbrev pub StaysOff : Story → ℕ → Option Deed → Type 0
+StaysOff v d x =
+    (n : ℕ) → slice_index (story_after v d x).words (cell_place v.extent.shape.blocks n) ≡ slice_index v.words (cell_place v.extent.shape.blocks n)
+
+abbrev pub IsThere : Story → Block → Type 0
+IsThere v b = InShape (opening v.extent) b.0
+
+-- the block of a pointer in a slot is one of the table
+module _ (v : Story) (d : ℕ) (slots : Slots) (kept : Kept v) (holds : Holds d slots v) (i : ℕ) (x : Pointer) where
+  pub slot_there : slot slots i ≡ Some x → IsThere v x.block
+  slot_there e = (there v x.block kept (handle_busy v d x.kind x.block x.place kept (slot_held d slots v i x holds e))).1
+
+  pub inside_there : inside (slot slots i) ≡ Some x → IsThere v x.block
+  inside_there e = slot_there (inside_is (slot slots i) x e).0
+
+  pub owner_there : owner_slot (slot slots i) ≡ Some x → IsThere v x.block
+  owner_there e = slot_there (owner_is (slot slots i) e)
+    where
+      owner_is : (o : Option Pointer) → owner_slot o ≡ Some x → o ≡ Some x
+      owner_is None e = cc
+      owner_is (Some y) e = go y.kind e
+        where
+          go : (k : Kind) → owner_as k y ≡ Some x → Some y ≡ Some x
+          go Weak e = cc
+          go Owner e = e
+
+  pub weak_there : weak_slot (slot slots i) ≡ Some x → IsThere v x.block
+  weak_there e = slot_there (weak_is (slot slots i) e)
+    where
+      weak_is : (o : Option Pointer) → weak_slot o ≡ Some x → o ≡ Some x
+      weak_is None e = cc
+      weak_is (Some y) e = go y.kind e
+        where
+          go : (k : Kind) → weak_as k y ≡ Some x → Some y ≡ Some x
+          go Owner e = cc
+          go Weak e = e
+
+  pub offered_there : (c : CellName) → offered slots i c ≡ Some x → IsThere v x.block
+  offered_there c e = slot_there (offered_is (is_of (kind_at c) (value slots i)) e)
+    where
+      offered_is : (b : Bool) → pointer_of (cond b (value slots i) plain) ≡ Some x → slot slots i ≡ Some x
+      offered_is true e = e
+      offered_is false e = cc
+
+-- the least block of a store is one of the table
+least_shape : (v : Story) (d b : ℕ) (l : List Stored) → ((e c : ℕ) → Has (stored e c) l → InShape (opening v.extent) c) → least d l ≡ Some b
+    → InShape (opening v.extent) b
+least_shape v d b [] all e = cc
+least_shape v d b (x ∷ xs) all e =
+    cond_both (x.desk == d) (lesser x.block (least d xs)) (least d xs) (λ (o : Option ℕ). o ≡ Some b → InShape (opening v.extent) b)
+    (λ t o. go (least d xs) (λ c is. least_shape v d c xs (λ f m h. all f m (inr h)) is) o)
+    (λ t o. least_shape v d b xs (λ f c h. all f c (inr h)) o) e
+  where
+    here : InShape (opening v.extent) x.block
+    here = all x.desk x.block (inl refl)
+
+    go : (o : Option ℕ) → ((c : ℕ) → o ≡ Some c → InShape (opening v.extent) c) → lesser x.block o ≡ Some b → InShape (opening v.extent) b
+    go None later e = subst (λ (n : ℕ). InShape (opening v.extent) n) (same_Some _ _ e) here
+    go (Some c) later e = subst (λ (n : ℕ). InShape (opening v.extent) n) (same_Some _ _ e) (lower (cases_lt x.block c))
+      where
+        lower : (x.block < c) ⊎ (c ≤ x.block) → InShape (opening v.extent) (min x.block c)
+        lower (inl lt) = subst (λ (n : ℕ). InShape (opening v.extent) n) (sym (min-eq_left {n = x.block} {m = c} (omega arith))) here
+        lower (inr le) = subst (λ (n : ℕ). InShape (opening v.extent) n) (sym (min-eq_right {n = c} {m = x.block} (omega arith))) (later c refl)
+
+pub least_there : (v : Story) (d : ℕ) (b : Block) → Kept v → least d (state v).stores ≡ Some b.0 → IsThere v b
+least_there v d b kept e = least_shape v d b.0 (state v).stores (λ f c h. vacant_place v f (record { 0 = c }) kept h) e
+
+slot_few : (k : Kind) → slot_of_kind k < 16
+slot_few Owner = omega arith
+slot_few Weak = omega arith
+
+module _ (v : Story) (d : ℕ) where
+  pub prepare_off : (b : Block) → IsThere v b → StaysOff v d (Some (deed.Prepare b))
+  prepare_off b is n = block_off v b.0 1 n 1 is (omega arith)
+
+  pub write_off : (b : Block) (j word : ℕ) → j < 5 → IsThere v b → StaysOff v d (Some (deed.Write b j word))
+  write_off b j word lt is n = block_off v b.0 (2 + j) n word is (omega (arith, lt))
+
+  pub claim_off : (b : Block) (enabled null : Bool) (fields : List ℕ) → IsThere v b → StaysOff v d (Some (deed.Claim b enabled null fields))
+  claim_off b enabled null fields is n = block_off v b.0 0 n 1 is (omega arith)
+
+  pub finish_off : (b : Block) (vacant : Bool) → IsThere v b → StaysOff v d (Some (deed.Finish b vacant))
+  finish_off b vacant is n = block_off v b.0 1 n (slice_index v.words (spot b.0 1) - 1) is (omega arith)
+
+  strong_off : (b : Block) (p q : Option Place) → IsThere v b → StaysOff v d (Some (deed.Share b p q))
+  strong_off b p q is n = block_off v b.0 0 n (suc (slice_index v.words (spot b.0 0))) is (omega arith)
+
+  weak_off : (b : Block) (p : Option Place) → IsThere v b → StaysOff v d (Some (deed.WeakShare b p))
+  weak_off b p is n = block_off v b.0 1 n (suc (slice_index v.words (spot b.0 1))) is (omega arith)
+
+  pub share_off : (q : Kind) (x : Pointer) → IsThere v x.block → StaysOff v d (Some (share_as q x))
+  share_off Owner x is = strong_off x.block x.place x.place is
+  share_off Weak x is = weak_off x.block x.place is
+
+  pub alias_off : (p : Option Place) (x : Pointer) → IsThere v x.block → StaysOff v d (Some (alias p x))
+  alias_off p x is = strong_off x.block x.place p is
+
+  pub downgrade_off : (x : Pointer) → IsThere v x.block → StaysOff v d (Some (downgrade x))
+  downgrade_off x is = weak_off x.block x.place is
+
+  pub give_off : (q : Kind) (x : Pointer) → IsThere v x.block → StaysOff v d (Some (give q x))
+  give_off Owner x is = λ n. block_off v x.block.0 0 n (suc (slice_index v.words (spot x.block.0 0))) is (omega arith)
+  give_off Weak x is = λ n. block_off v x.block.0 1 n (suc (slice_index v.words (spot x.block.0 1))) is (omega arith)
+
+  pub leave_off : (q : Kind) (x : Pointer) (last : Bool) → IsThere v x.block → StaysOff v d (Some (leave_as q x last))
+  leave_off Owner x last is = λ n. block_off v x.block.0 0 n (slice_index v.words (spot x.block.0 0) - 1) is (omega arith)
+  leave_off Weak x last is = λ n. block_off v x.block.0 1 n (slice_index v.words (spot x.block.0 1) - 1) is (omega arith)
+
+  pub lock_off : (x : Pointer) → IsThere v x.block → StaysOff v d (Some (lock (state v) x))
+  lock_off x is n = go (not (is_expired (state v) x))
+    where
+      go : (b : Bool) → slice_index (cond b (slice_set v.words (spot x.block.0 0) (suc (slice_index v.words (spot x.block.0 0)))) v.words)
+          (cell_place v.extent.shape.blocks n) ≡ slice_index v.words (cell_place v.extent.shape.blocks n)
+      go true = block_off v x.block.0 0 n (suc (slice_index v.words (spot x.block.0 0))) is (omega arith)
+      go false = refl
+
+  pub bring_off : (k : Kind) (b : Block) (p : Option Place) (f : ℕ) → IsThere v b → StaysOff v d (Some (deed.OnCell (cell_deed.Bring k b p f)))
+  bring_off k b p f is n =
+      block_off v b.0 (slot_of_kind k) n (slice_index v.words (spot b.0 (slot_of_kind k)) + 4294967296 * f) is (slot_few k)
+
+  pub give_back_off : (k : Kind) (b : Block) (f : ℕ) → IsThere v b → StaysOff v d (Some (deed.OnCell (cell_deed.GiveBack k b f)))
+  give_back_off k b f is n =
+      block_off v b.0 (slot_of_kind k) n (slice_index v.words (spot b.0 (slot_of_kind k)) - 4294967296 * f) is (slot_few k)
+
+  pub turn_off : (k : Kind) (b : Block) → IsThere v b → StaysOff v d (Some (deed.OnCell (cell_deed.Turn k b)))
+  turn_off k b is n =
+      block_off v b.0 (slot_of_kind k) n (slice_index v.words (spot b.0 (slot_of_kind k)) - 4294967295) is (slot_few k)
+
+  -- a step on what a slot holds
+  pub each_off : (f : Pointer → Deed) (o : Option Pointer) → ((x : Pointer) → o ≡ Some x → StaysOff v d (Some (f x))) → StaysOff v d (option_map f o)
+  each_off f None off = λ n. refl
+  each_off f (Some x) off = off x refl

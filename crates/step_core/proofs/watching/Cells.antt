@@ -1,0 +1,211 @@
+-- Steps on free cells: where half of a cell's funds or more are taken, threads count that put them back.
+use Rattle.std.proofs.Common.{◌≡◌, ◌≢◌, ℕ, suc, ◌+◌, ◌-◌, ◌*◌, ◌/◌, ◌<◌, ◌≤◌, ◌==◌, Bool, true, false, cond, length, set, refl, sym, ap, subst, ◌∙◌, ⊎_elim, inl, inr, arith}
+use Rattle.std.proofs.Common.{get_or-set_other, get_or-set_same, eq-eqb, ne_eqb, eqb-true}
+use Rattle.std.specs.Prelude.{◌&&◌, Option, Some, None, slice_index, slice_set}
+use Rattle.std.proofs.lemmas.Bool.{and_from, and_parts, cases_eq, cond_both, false≢true, ltb-false}
+use Rattle.std.proofs.lemmas.Option.{same_Some}
+use Rattle.control_word.specs.declared.cell.CellWord.{CellWord}
+use Rattle.control_word.specs.declared.place.Block.{Block}
+use Rattle.control_word.specs.Layout.{cell_place}
+use Rattle.control_word.specs.Packing.{IsCellWord, cell_bits}
+use Rattle.step_threads.specs.declared.half.Half.{Half}
+use Rattle.step_threads.specs.declared.half.Half.TheVariants.{Rest, Saw, Refill}
+use Rattle.step_table.specs.declared.cell_deed.Cell.{Cell}
+use Rattle.step_table.specs.declared.cell_deed.Cell.TheVariants.{Free}
+use Rattle.step_table.specs.declared.cell_deed.CellDeed.TheVariants as cell_deed
+use Rattle.step_table.specs.declared.past.Deed.{Deed}
+use Rattle.step_table.specs.declared.past.Deed.TheVariants as deed
+use Rattle.step_table.specs.declared.refill.Stage.{Stage}
+use Rattle.step_table.specs.declared.refill.Stage.TheVariants.{Turning, Checking, Lacking, Refilling, Failing}
+use Rattle.step_table.specs.CellDeeds.{kind_in, word_of}
+use Rattle.step_table.specs.Cells.{word_at}
+use Rattle.step_table.specs.Contents.{same_value, seen}
+use Rattle.step_table.specs.Openings.{opening}
+use Rattle.step_table.specs.Refills.{RefillFits, is_drained, is_low, more_taken}
+use Rattle.step_table.specs.Stories.{Kept, Story, state}
+use Rattle.step_table.proofs.contained.Coming.{seen_found}
+use Rattle.step_table.proofs.tables.Places.{handle_busy, there}
+use Rattle.step_threads.specs.Courses.{Walk}
+use Rattle.step_threads.specs.Steps.{Step, refills_on, story_after, within}
+use Rattle.step_core.specs.Watching.{content, is_watching}
+use Rattle.step_core.proofs.watching.Blocks.{IsThere, StaysOff, bring_off, give_back_off, turn_off}
+use Rattle.step_core.proofs.watching.Words.{Watch, bit, more_told, same_told, taken_told}
+
+-- so it is for each free cell of the shape
+abbrev pub Watches : Story → ℕ → Half → Option Deed → Half → Type 0
+Watches v d h x g =
+    let z = v.extent.shape in
+    (n : ℕ) → n < z.shared_cells + z.weak_cells
+    → Watch z.blocks (cell_place z.blocks n) (word_at v (Free n)) (slice_index (story_after v d x).words (cell_place z.blocks n)) h g
+
+-- the half has no funds of a cell
+abbrev pub IsQuiet : Story → Half → Type 0
+IsQuiet v h = (p a : ℕ) → bit v.extent.shape.blocks p a h ≡ 0
+
+pub still : (v : Story) (d : ℕ) (h : Half) (x : Option Deed) (g : Half) → IsQuiet v h → StaysOff v d x → Watches v d h x g
+still v d h x g quiet off n lt = inl (off n, (let q = quiet (cell_place v.extent.shape.blocks n) (word_at v (Free n)) in omega (arith, q)))
+
+-- the thread has the same funds to put back
+pub going_on : (v : Story) (d : ℕ) (s r : Stage) (c : Cell) (y : CellWord) (k : ℕ) (x : Option Deed) → StaysOff v d x
+    → Watches v d (Refill s c y k) x (Refill r c y k)
+going_on v d s r c y k x off n lt = inl (off n, omega arith)
+
+elsewhere : (v : Story) (s : Stage) (c : Cell) (x : CellWord) (k p a : ℕ) → p ≢ word_of v.extent.shape.blocks c
+    → bit v.extent.shape.blocks p a (Refill s c x k) ≡ 0
+elsewhere v s c x k p a ne =
+    ap (λ (t : Bool). cond (t && is_low x && content (cell_bits x) == content a) 1 0) (ne_eqb (word_of v.extent.shape.blocks c) p (λ e. ne (sym e)))
+
+-- one cell's word is another
+module _ (v : Story) (c : Cell) (word : ℕ) (h g : Half) (kept : Kept v)
+    (here : Watch v.extent.shape.blocks (word_of v.extent.shape.blocks c) (word_at v c) word h g)
+    (else : (p a : ℕ) → p ≢ word_of v.extent.shape.blocks c → bit v.extent.shape.blocks p a h ≡ 0) where
+  pub changed : (n : ℕ) → n < v.extent.shape.shared_cells + v.extent.shape.weak_cells
+      → Watch v.extent.shape.blocks (cell_place v.extent.shape.blocks n) (word_at v (Free n))
+      (slice_index (slice_set v.words (word_of v.extent.shape.blocks c) word) (cell_place v.extent.shape.blocks n)) h g
+  changed n lt =
+      let z = v.extent.shape in
+      let p = cell_place z.blocks n in
+      let q = word_of z.blocks c in
+      let size : p < length v.words = let s = kept.stands.shows.sized in omega (arith, s, lt) in
+      ⊎_elim
+      (λ (e : p ≡ q).
+      let b : slice_index (slice_set v.words p word) p ≡ word = get_or-set_same v.words p word 0 size in
+      let w : Watch z.blocks p (word_at v (Free n)) word h g = subst (λ (i : ℕ). Watch z.blocks i (slice_index v.words i) word h g) (sym e) here in
+      subst (λ (i : ℕ). Watch z.blocks p (word_at v (Free n)) (slice_index (slice_set v.words i word) p) h g) e
+      (subst (λ (i : ℕ). Watch z.blocks p (word_at v (Free n)) i h g) (sym b) w))
+      (λ (ne : p ≢ q).
+      inl (get_or-set_other v.words q p word 0 ne, (let o = else p (word_at v (Free n)) ne in omega (arith, o)))) (cases_eq p q)
+
+-- a value goes into the cell, of which no fund was taken
+pub put_in : (v : Story) (d : ℕ) (c : Cell) (x : CellWord) (h g : Half) → Kept v → IsQuiet v h → IsCellWord x → x.taken ≡ 0
+    → (n : ℕ) → n < v.extent.shape.shared_cells + v.extent.shape.weak_cells
+    → Watch v.extent.shape.blocks (cell_place v.extent.shape.blocks n) (word_at v (Free n))
+    (slice_index (slice_set v.words (word_of v.extent.shape.blocks c) (cell_bits x)) (cell_place v.extent.shape.blocks n)) h g
+put_in v d c x h g kept quiet valid none =
+    changed v c (cell_bits x) h g kept (inr (inl (let t = taken_told x valid in omega (arith, t, none)))) (λ p a ne. quiet p a)
+
+-- a fund is taken
+pub taken : (v : Story) (c : Cell) (x : CellWord) (k : ℕ) → Kept v → IsCellWord x → word_at v c ≡ cell_bits x
+    → (n : ℕ) → n < v.extent.shape.shared_cells + v.extent.shape.weak_cells
+    → Watch v.extent.shape.blocks (cell_place v.extent.shape.blocks n) (word_at v (Free n))
+    (slice_index (slice_set v.words (word_of v.extent.shape.blocks c) (word_at v c + 17179869184)) (cell_place v.extent.shape.blocks n))
+    (Saw x) (Refill Turning c (more_taken x) k)
+taken v c x k kept valid shows =
+    changed v c (word_at v c + 17179869184) (Saw x) (Refill Turning c (more_taken x) k) kept (go (is_low (more_taken x)) refl) (λ p a ne. refl)
+  where
+    blocks : ℕ
+    blocks = v.extent.shape.blocks
+
+    go : (b : Bool) → is_low (more_taken x) ≡ b
+        → Watch blocks (word_of blocks c) (word_at v c) (word_at v c + 17179869184) (Saw x) (Refill Turning c (more_taken x) k)
+    go true low =
+        let same : cell_bits (more_taken x) ≡ word_at v c + 17179869184 = more_told x ∙ ap (λ (n : ℕ). n + 17179869184) (sym shows) in
+        inr (inr (refl, refl, ap (λ (t : Bool). cond t 1 0)
+        (and_from _ _ (and_from _ _ (eq-eqb (word_of blocks c) (word_of blocks c) refl) low)
+        (eq-eqb (content (cell_bits (more_taken x))) (content (word_at v c + 17179869184)) (ap content same)))))
+    go false high =
+        let few : suc x.taken ≤ 127 = ltb-false 127 (suc x.taken) high in
+        let t = taken_told x valid in
+        inr (inl (omega (arith, few, t, shows)))
+
+middle_false : (a b : Bool) → (a && false && b) ≡ false
+middle_false true b = refl
+middle_false false b = refl
+
+last_false : (a : Bool) → (a && false) ≡ false
+last_false true = refl
+last_false false = refl
+
+-- few funds are none to put back
+few_quiet : (v : Story) (s : Stage) (c : Cell) (x : CellWord) (k : ℕ) → is_low x ≡ false → IsQuiet v (Refill s c x k)
+few_quiet v s c x k few p a =
+    ap (λ (t : Bool). cond (word_of v.extent.shape.blocks c == p && t && content (cell_bits x) == content a) 1 0) few
+    ∙ ap (λ (t : Bool). cond t 1 0) (middle_false (word_of v.extent.shape.blocks c == p) (content (cell_bits x) == content a))
+
+flag : (b : Bool) → cond b 1 0 ≤ 1
+flag true = omega arith
+flag false = omega arith
+
+-- the block of what is put back is one of the table
+pub block_there : (v : Story) (d : ℕ) (s : Stage) (c : Cell) (x : CellWord) → Kept v → RefillFits d s c x v → (b : Block) → x.owned ≡ Some b → IsThere v b
+block_there v d s c x kept fits b own =
+    subst (IsThere v) (same_Some _ _ (sym fits.owned ∙ own))
+    (there v fits.block kept (handle_busy v d (kind_in (state v) c) fits.block x.place kept fits.has)).1
+
+module _ (v : Story) (d : ℕ) (c : Cell) (x : CellWord) (k : ℕ) (w : Walk) (kept : Kept v) (seat : d < v.extent.actors) where
+  -- the cell is looked at
+  checked : RefillFits d Checking c x v → Watches v d (Refill Checking c x k) None (cond (is_drained x (seen v c)) (Refill Lacking c (seen v c) k) Rest)
+  checked fits n lt = ⊎_elim (λ (e : p ≡ q). at_cell e (is_drained x y) refl) away (cases_eq p q)
+    where
+      blocks : ℕ
+      blocks = v.extent.shape.blocks
+
+      p : ℕ
+      p = cell_place blocks n
+
+      q : ℕ
+      q = word_of blocks c
+
+      y : CellWord
+      y = seen v c
+
+      here : ℕ
+      here = word_at v (Free n)
+
+      away : p ≢ q → Watch blocks p here here (Refill Checking c x k) (cond (is_drained x y) (Refill Lacking c y k) Rest)
+      away ne = inl (refl, (let o = elsewhere v Checking c x k p here ne in omega (arith, o)))
+
+      shows : p ≡ q → here ≡ cell_bits y
+      shows e = ap (slice_index v.words) e ∙ (seen_found v d c kept seat fits.opens).shows.bits
+
+      valid : IsCellWord y
+      valid = (seen_found v d c kept seat fits.opens).shows.valid
+
+      differs : p ≡ q → same_value x y ≡ false → bit blocks p here (Refill Checking c x k) ≡ 0
+      differs e ne = go (content (cell_bits x) == content here) refl
+        where
+          go : (b : Bool) → (content (cell_bits x) == content here) ≡ b → ◌≡◌ {A = ℕ} (cond (q == p && is_low x && b) 1 0) 0
+          go false f = ap (λ (t : Bool). cond t 1 0) (last_false (q == p && is_low x))
+          go true f =
+              absurd (false≢true (sym ne ∙ same_told x y fits.valid valid (eqb-true _ _ f ∙ ap content (shows e))))
+
+      at_cell : p ≡ q → (b : Bool) → is_drained x y ≡ b → Watch blocks p here here (Refill Checking c x k) (cond b (Refill Lacking c y k) Rest)
+      at_cell e true drained =
+          let a = and_parts (same_value x y) (is_low y) drained in
+          let one : bit blocks p here (Refill Lacking c y k) ≡ 1 =
+          ap (λ (t : Bool). cond t 1 0) (and_from _ _ (and_from _ _ (eq-eqb q p (sym e)) a.1)
+          (eq-eqb (content (cell_bits y)) (content here) (ap content (sym (shows e))))) in
+          let f = flag (is_watching blocks p here (Refill Checking c x k)) in
+          inl (refl, omega (arith, one, f))
+      at_cell e false not = by_value (same_value x y) refl
+        where
+          by_value : (b : Bool) → same_value x y ≡ b → Watch blocks p here here (Refill Checking c x k) Rest
+          by_value false ne = let z = differs e ne in inl (refl, omega (arith, z))
+          by_value true same =
+              let high : is_low y ≡ false = ap (λ (t : Bool). t && is_low y) (sym same) ∙ not in
+              let few : y.taken ≤ 127 = ltb-false 127 y.taken high in
+              let t = taken_told y valid in
+              let s = shows e in
+              inr (inl (omega (arith, few, t, s)))
+
+  -- the thread's refill goes on
+  pub refilled : (s : Stage) → RefillFits d s c x v → (b : Block) → x.owned ≡ Some b
+      → Watches v d (Refill s c x k) (refills_on v w s c x k b).deed (refills_on v w s c x k b).half
+  refilled Turning fits b own =
+      let t = turn_off v d (kind_in (state v) c) b (block_there v d Turning c x kept fits b own) in
+      cond_both (is_low x) (Refill Checking c x k) Rest (λ (g : Half). Watches v d (Refill Turning c x k) (Some (deed.OnCell (cell_deed.Turn (kind_in (state v) c) b))) g)
+      (λ low. going_on v d Turning Checking c x k (Some (deed.OnCell (cell_deed.Turn (kind_in (state v) c) b))) t)
+      (λ few. still v d (Refill Turning c x k) (Some (deed.OnCell (cell_deed.Turn (kind_in (state v) c) b))) Rest (few_quiet v Turning c x k few) t)
+  refilled Checking fits b own = checked fits
+  refilled Lacking fits b own =
+      going_on v d Lacking Refilling c x k (Some (deed.OnCell (cell_deed.Bring (kind_in (state v) c) b x.place x.taken)))
+      (bring_off v d (kind_in (state v) c) b x.place x.taken (block_there v d Lacking c x kept fits b own))
+  refilled Refilling fits b own =
+      cond_both (word_at v c == cell_bits x) (within w k (Some (deed.OnCell (cell_deed.Refill c x.taken))) Rest) (within w k None (Refill Failing c x k))
+      (λ (y : Step). Watches v d (Refill Refilling c x k) y.deed y.half)
+      (λ e. changed v c (word_at v c - 17179869184 * x.taken) (Refill Refilling c x k) Rest kept
+      (inr (inl (let s = eqb-true _ _ e in let t = taken_told x fits.valid in omega (arith, s, t)))) (λ p a ne. elsewhere v Refilling c x k p a ne))
+      (λ e. going_on v d Refilling Failing c x k None (λ n. refl))
+  refilled Failing fits b own =
+      going_on v d Failing Checking c x k (Some (deed.OnCell (cell_deed.GiveBack (kind_in (state v) c) b x.taken)))
+      (give_back_off v d (kind_in (state v) c) b x.taken (block_there v d Failing c x kept fits b own))

@@ -1,0 +1,192 @@
+-- The next step of a thread, by what it has begun, and the funds that are taken of cells.
+use Rattle.std.proofs.Common.{◌≡◌, ℕ, ◌+◌, ◌<◌, ◌≤◌, ◌==◌, Bool, true, false, cond, List, [], ◌∷◌, get_or, refl, sym, ap, subst, ◌∙◌, arith}
+use Rattle.std.proofs.Common.{eqb-true}
+use Rattle.std.specs.Prelude.{Option, Some, None, is_some, option_map}
+use Rattle.std.proofs.lemmas.Bool.{cond_both, eqb-false}
+use Rattle.control_word.specs.declared.cell.CellWord.{CellWord}
+use Rattle.control_word.specs.declared.handle.Kind.{Kind}
+use Rattle.control_word.specs.declared.place.Block.{Block}
+use Rattle.control_word.specs.declared.place.Place.{Place}
+use Rattle.control_word.specs.declared.view.Pending.{Pending}
+use Rattle.control_word.specs.declared.view.Pending.TheVariants.{Paying}
+use Rattle.control_word.specs.Histories.{value as value_of}
+use Rattle.control_word.specs.Packing.{IsCellWord, cell_bits}
+use Rattle.control_word.specs.State.{weak}
+use Rattle.control_word.specs.Steps.{me}
+use Rattle.control_word.specs.Views.{Fits}
+use Rattle.step_threads.specs.declared.act.Act.{Act}
+use Rattle.step_table.specs.declared.form.Form.{Form}
+use Rattle.step_threads.specs.declared.act.Act.TheVariants.{Make, Share, Downgrade, Lock, Put, Leave, Clear, Count, Expired, Read, FromThis, Alias, Move, Ask, Offer, Swap, Exchange, Load, Compare, Drop}
+use Rattle.step_threads.specs.declared.act.Task.{Task}
+use Rattle.step_threads.specs.declared.call.CellName.{CellName}
+use Rattle.step_threads.specs.declared.ending.Ending.{Ending}
+use Rattle.step_threads.specs.declared.half.Half.{Half}
+use Rattle.step_threads.specs.declared.half.Half.TheVariants.{Rest, Making, Locking, Giving, Brought, Saw, Matched, Refill, Returning}
+use Rattle.step_table.specs.declared.cell_deed.Cell.{Cell}
+use Rattle.step_table.specs.declared.cell_deed.CellDeed.TheVariants as cell_deed
+use Rattle.step_table.specs.declared.cell_deed.Compared.{Compared}
+use Rattle.step_table.specs.declared.holdings.Pointer.{Pointer}
+use Rattle.step_table.specs.declared.past.Deed.{Deed}
+use Rattle.step_table.specs.declared.past.Deed.TheVariants as deed
+use Rattle.step_table.specs.declared.refill.Stage.{Stage}
+use Rattle.step_table.specs.declared.refill.Stage.TheVariants.{Turning}
+use Rattle.step_threads.specs.Actors.{wanted}
+use Rattle.step_table.specs.CellDeeds.{kind_in, owing}
+use Rattle.step_table.specs.Cells.{word_at}
+use Rattle.step_table.specs.Contents.{as_word, compared_in, is_spent, same_value, seen}
+use Rattle.step_table.specs.Refills.{more_taken}
+use Rattle.step_threads.specs.Courses.{Going, Walk, cell_at, comparing, form_of, going, hand, kind_at, locked, offered, on_going, other}
+use Rattle.step_table.specs.Deeds.{alias, aliased, downgrade, give, is_enabled, is_last, leave, lock, owner_word, read, share, tell, tell_expired, on}
+use Rattle.step_threads.specs.Endings.{staged}
+use Rattle.step_threads.specs.Entries.{least}
+use Rattle.step_table.specs.Holdings.{Holds, inside, is_full, owner_slot, place_in, slot, value, weak_slot}
+use Rattle.step_table.specs.Openings.{opening}
+use Rattle.step_threads.specs.Steps.{Step, acts, asks, at_rest, begins, begun, brings, claims, compares, ends_on, fetches, first, given, gives_back, looks, made_on, matched, matched_on, matches, missed, prepares, refills_on, returns, saw, saw_on, sees, sends, sent, settles, silent, step_at, story_after, story_by, swaps, takes, tried, tries, trying, with_endings, within}
+use Rattle.step_table.specs.Stories.{Kept, Nothing, Story, known, object_in, pending, state, view_in}
+use Rattle.step_table.proofs.contained.Told.{word_valid}
+use Rattle.step_table.proofs.tables.Places.{ending_busy, handle_busy, there}
+use Rattle.step_table.proofs.tables.Standing.{point, ready}
+use Rattle.step_core.specs.Turning.{IsOut, IsProper, IsTried, IsUnderWay}
+use Rattle.step_core.proofs.watching.Blocks.{IsThere, alias_off, bring_off, claim_off, downgrade_off, each_off, finish_off, give_back_off, give_off, inside_there, leave_off, least_there, lock_off, offered_there, owner_there, prepare_off, share_off, slot_there, weak_there, write_off}
+use Rattle.step_core.proofs.watching.Cells.{IsQuiet, Watches, put_in, refilled, still, taken}
+use Rattle.step_core.proofs.watching.Steps.{IsWatch, first_watch, matches_watch, sent_watch, settles_watch, takes_watch, tries_watch}
+
+module _ (v : Story) (d : ℕ) (w : Walk) (kept : Kept v) (seat : d < v.extent.actors) (holds : Holds d w.slots v) where
+  tried_watch : (word : ℕ) (ts : List Task) → IsWatch v d (Locking word) (tried v d w word ts)
+  tried_watch word [] = tt
+  tried_watch word (t ∷ ts) = tries_watch v d w kept seat holds t.statement word ts t.act (locked w.slots t.act) refl
+
+  given_watch : (i : ℕ) (q : Kind) (x : Pointer) (ts : List Task) → inside (slot w.slots i) ≡ Some x → IsWatch v d (Giving i q x) (given v d w i q x ts)
+  given_watch i q x [] e = tt
+  given_watch i q x (t ∷ ts) e =
+      still v d (Giving i q x) (Some (give q x)) Rest (λ p a. refl) (give_off v d q x (inside_there v d w.slots kept holds i x e))
+
+  put_watch : (ts : List Task) → IsWatch v d Brought (sent v d w ts)
+  put_watch [] = tt
+  put_watch (t ∷ ts) = sent_watch v d w kept seat holds t.statement ts t.act (going w.slots t.act)
+
+  prepares_watch : (found want k : ℕ) (b : Block) (i : ℕ) (f : Bool) → i < 5 → IsThere v b
+      → IsWatch v d (Making b i f) (Some (prepares found want w k b i f))
+  prepares_watch found want k b i true lt is = still v d (Making b i true) (Some (deed.Write b i want)) (Making b (i + 1) false) (λ p a. refl) (write_off v d b i want lt is)
+  prepares_watch found want k b i false lt is =
+      still v d (Making b i false) None (cond (found == want) (Making b (i + 1) false) (Making b i true)) (λ p a. refl) (λ n. refl)
+
+  made_watch : (b : Block) (i : ℕ) (f : Bool) (ts : List Task) → IsUnderWay d v (Making b i f) ts → IsWatch v d (Making b i f) (made_on v d w b i f ts)
+  made_watch b i f [] way = tt
+  made_watch b i f (t ∷ ts) way =
+      let form = form_of t.act in
+      let found = get_or (known (pending v d)) i 0 in
+      let want = get_or (wanted form) i 0 in
+      let is = least_there v d b kept way.1 in
+      cond_both (i == 5) (claims w t.statement ts b form) (prepares found want w t.statement b i f) (λ (y : Step). IsWatch v d (Making b i f) (Some y))
+      (λ t. still v d (Making b i f) (Some (deed.Claim b form.enabled form.null form.fields)) Rest (λ p a. refl) (claim_off v d b form.enabled form.null form.fields is))
+      (λ ne. prepares_watch found want t.statement b i f (let l = way.0 in let n = eqb-false i 5 ne in omega (arith, l, n)) is)
+
+  saw_watch : (k : ℕ) (ts : List Task) (x : CellWord) (a : Act) → IsCellWord x → IsWatch v d (Saw x) (saw_on v d w k ts x a)
+  saw_watch k ts x (Load c) valid = takes_watch v d w kept seat holds k ts (Load c) (cell_at (state v) c) None x valid
+  saw_watch k ts x (Compare i c weak) valid = settles_watch v d w kept seat holds k ts (Compare i c weak) (cell_at (state v) c) i weak x valid
+  saw_watch k ts x (Make form) valid = tt
+  saw_watch k ts x (Share i) valid = tt
+  saw_watch k ts x (Downgrade i) valid = tt
+  saw_watch k ts x (Lock i must) valid = tt
+  saw_watch k ts x (Put i) valid = tt
+  saw_watch k ts x (Leave i) valid = tt
+  saw_watch k ts x (Clear i) valid = tt
+  saw_watch k ts x (Count i) valid = tt
+  saw_watch k ts x (Expired i) valid = tt
+  saw_watch k ts x (Read i) valid = tt
+  saw_watch k ts x (FromThis i kind) valid = tt
+  saw_watch k ts x (Alias i j field) valid = tt
+  saw_watch k ts x (Move i) valid = tt
+  saw_watch k ts x (Ask q) valid = tt
+  saw_watch k ts x (Offer i c) valid = tt
+  saw_watch k ts x (Swap c) valid = tt
+  saw_watch k ts x (Exchange i c) valid = tt
+  saw_watch k ts x Drop valid = tt
+
+  matched_watch : (k : ℕ) (ts : List Task) (x : CellWord) (a : Act) → IsWatch v d (Matched x) (matched_on v d w k ts x a)
+  matched_watch k ts x (Compare i c weak) =
+      matches_watch v d w kept seat holds (Matched x) k ts (Compare i c weak) (cell_at (state v) c) i weak x (λ p q. refl)
+  matched_watch k ts x (Load c) = tt
+  matched_watch k ts x (Make form) = tt
+  matched_watch k ts x (Share i) = tt
+  matched_watch k ts x (Downgrade i) = tt
+  matched_watch k ts x (Lock i must) = tt
+  matched_watch k ts x (Put i) = tt
+  matched_watch k ts x (Leave i) = tt
+  matched_watch k ts x (Clear i) = tt
+  matched_watch k ts x (Count i) = tt
+  matched_watch k ts x (Expired i) = tt
+  matched_watch k ts x (Read i) = tt
+  matched_watch k ts x (FromThis i kind) = tt
+  matched_watch k ts x (Alias i j field) = tt
+  matched_watch k ts x (Move i) = tt
+  matched_watch k ts x (Ask q) = tt
+  matched_watch k ts x (Offer i c) = tt
+  matched_watch k ts x (Swap c) = tt
+  matched_watch k ts x (Exchange i c) = tt
+  matched_watch k ts x Drop = tt
+
+  seen_watch : (x : CellWord) (ts : List Task) → IsCellWord x → IsWatch v d (Saw x) (saw v d w x ts)
+  seen_watch x [] valid = tt
+  seen_watch x (t ∷ ts) valid = saw_watch t.statement ts x t.act valid
+
+  tried_on_watch : (x : CellWord) (ts : List Task) → IsWatch v d (Matched x) (matched v d w x ts)
+  tried_on_watch x [] = tt
+  tried_on_watch x (t ∷ ts) = matched_watch t.statement ts x t.act
+
+  -- funds are out for an object that the desk has a handle of
+  paid_there : (kind : Kind) (b : Block) (p : Option Place) (f : ℕ) → pending v d ≡ owing (state v) kind (Some b) p f 0 → IsThere v b
+  paid_there kind b p f is =
+      let r = ready v d (owing (state v) kind (Some b) p f 0) kept seat is in
+      let fine : Fits v.words (state v) (value_of (opening v.extent) v.history) (me (point v d)) (owing (state v) kind (Some b) p f 0) =
+      subst (λ (q : Pending Nothing). Fits v.words (state v) (value_of (opening v.extent) v.history) (me (point v d)) q) is
+      (kept.stands.team.seated d (view_in v.views d) r.seated r.awake).fits in
+      (there v b kept (handle_busy v (me (point v d)) kind b p kept fine.0)).1
+
+  refill_watch : (s : Stage) (c : Cell) (x : CellWord) (k : ℕ) (o : Option Block) → x.owned ≡ o → IsOut d v (Refill s c x k)
+      → IsWatch v d (Refill s c x k) (option_map (refills_on v w s c x k) o)
+  refill_watch s c x k None e out = tt
+  refill_watch s c x k (Some b) e out = refilled v d c x k w kept seat s out b e
+
+  -- an object that ends is one of the table
+  ends_watch : (e : Ending) (es : List Ending) → Kept (story_after v d (ends_on v w e es).deed) → IsWatch v d Rest (Some (ends_on v w e es))
+  ends_watch e es =
+      cond_both (e.stage == 3)
+      (record {
+        deed = Some (deed.Finish e.block (weak (state v) (object_in v e.block) == 0));
+        half = Rest;
+        walk = with_endings w es;
+        said = silent e.statement;
+      })
+      (record { deed = Some (deed.Clear e.block e.stage); half = Rest; walk = with_endings w (staged e ∷ es); said = silent e.statement })
+      (λ (s : Step). Kept (story_after v d s.deed) → IsWatch v d Rest (Some s))
+      (λ t after. still v d Rest (Some (deed.Finish e.block (weak (state v) (object_in v e.block) == 0))) Rest (λ p a. refl)
+      (finish_off v d e.block (weak (state v) (object_in v e.block) == 0)
+      (there v e.block kept (ending_busy v d e.block after.stands.legal.1.asks.0)).1))
+      (λ t after. still v d Rest (Some (deed.Clear e.block e.stage)) Rest (λ p a. refl) (λ n. refl))
+
+  begun_watch : (ts : List Task) → IsWatch v d Rest (begun v d w ts)
+  begun_watch [] = tt
+  begun_watch (t ∷ ts) = first_watch v d w kept seat holds t.statement ts t.act
+
+  rest_watch : (es : List Ending) → Kept (story_by v d (at_rest v d w es)) → IsWatch v d Rest (at_rest v d w es)
+  rest_watch [] after = begun_watch w.todo
+  rest_watch (e ∷ es) after =
+      cond_both (is_full (slot w.slots (hand w.slots))) (first v d w e.statement w.todo (Leave (hand w.slots))) (ends_on v w e es)
+      (λ (s : Step). Kept (story_after v d s.deed) → IsWatch v d Rest (Some s))
+      (λ t a. first_watch v d w kept seat holds e.statement w.todo (Leave (hand w.slots))) (λ t a. ends_watch e es a) after
+
+  pub each_watch : (h : Half) → IsUnderWay d v h w.todo → IsTried h w → IsProper d v h → IsOut d v h → Kept (story_by v d (step_at v d h w))
+      → IsWatch v d h (step_at v d h w)
+  each_watch Rest way held proper out after = rest_watch w.endings after
+  each_watch (Making b i f) way held proper out after = made_watch b i f w.todo way
+  each_watch (Locking word) way held proper out after = tried_watch word w.todo
+  each_watch (Giving i q x) way held proper out after = given_watch i q x w.todo held
+  each_watch Brought way held proper out after = put_watch w.todo
+  each_watch (Saw x) way held proper out after = seen_watch x w.todo proper
+  each_watch (Matched x) way held proper out after = tried_on_watch x w.todo
+  each_watch (Refill s c x k) way held proper out after = refill_watch s c x k x.owned refl out
+  each_watch (Returning q b f k) way held proper out after =
+      still v d (Returning q b f k) (Some (deed.OnCell (cell_deed.GiveBack q b f))) Rest (λ p a. refl)
+      (give_back_off v d q b f (paid_there q b out.0 f out.1))

@@ -1,0 +1,239 @@
+-- What each step does to the funds that are taken of cells.
+use Rattle.std.proofs.Common.{◌≡◌, ℕ, ◌+◌, ◌<◌, ◌≤◌, ◌==◌, Bool, true, false, cond, List, [], ◌∷◌, get_or, refl, sym, ap, subst, ◌∙◌, arith}
+use Rattle.std.proofs.Common.{eqb-true}
+use Rattle.std.specs.Prelude.{Option, Some, None, is_some, option_map}
+use Rattle.std.proofs.lemmas.Bool.{cond_both, eqb-false}
+use Rattle.control_word.specs.declared.cell.CellWord.{CellWord}
+use Rattle.control_word.specs.declared.handle.Kind.{Kind}
+use Rattle.control_word.specs.declared.place.Block.{Block}
+use Rattle.control_word.specs.declared.place.Place.{Place}
+use Rattle.control_word.specs.declared.view.Pending.{Pending}
+use Rattle.control_word.specs.declared.view.Pending.TheVariants.{Paying}
+use Rattle.control_word.specs.Histories.{value as value_of}
+use Rattle.control_word.specs.Packing.{IsCellWord, cell_bits}
+use Rattle.control_word.specs.State.{weak}
+use Rattle.control_word.specs.Steps.{me}
+use Rattle.control_word.specs.Views.{Fits}
+use Rattle.step_threads.specs.declared.act.Act.{Act}
+use Rattle.step_table.specs.declared.form.Form.{Form}
+use Rattle.step_threads.specs.declared.act.Act.TheVariants.{Make, Share, Downgrade, Lock, Put, Leave, Clear, Count, Expired, Read, FromThis, Alias, Move, Ask, Offer, Swap, Exchange, Load, Compare, Drop}
+use Rattle.step_threads.specs.declared.act.Task.{Task}
+use Rattle.step_threads.specs.declared.call.CellName.{CellName}
+use Rattle.step_threads.specs.declared.ending.Ending.{Ending}
+use Rattle.step_threads.specs.declared.half.Half.{Half}
+use Rattle.step_threads.specs.declared.half.Half.TheVariants.{Rest, Making, Locking, Giving, Brought, Saw, Matched, Refill, Returning}
+use Rattle.step_table.specs.declared.cell_deed.Cell.{Cell}
+use Rattle.step_table.specs.declared.cell_deed.CellDeed.TheVariants as cell_deed
+use Rattle.step_table.specs.declared.cell_deed.Compared.{Compared}
+use Rattle.step_table.specs.declared.holdings.Pointer.{Pointer}
+use Rattle.step_table.specs.declared.past.Deed.{Deed}
+use Rattle.step_table.specs.declared.past.Deed.TheVariants as deed
+use Rattle.step_table.specs.declared.refill.Stage.{Stage}
+use Rattle.step_table.specs.declared.refill.Stage.TheVariants.{Turning}
+use Rattle.step_threads.specs.Actors.{wanted}
+use Rattle.step_table.specs.CellDeeds.{kind_in, owing}
+use Rattle.step_table.specs.Cells.{word_at}
+use Rattle.step_table.specs.Contents.{as_word, compared_in, is_spent, same_value, seen}
+use Rattle.step_table.specs.Refills.{more_taken}
+use Rattle.step_threads.specs.Courses.{Going, Walk, cell_at, comparing, form_of, going, hand, kind_at, locked, offered, on_going, other}
+use Rattle.step_table.specs.Deeds.{alias, aliased, downgrade, give, is_enabled, is_last, leave, lock, owner_word, read, share, tell, tell_expired, on}
+use Rattle.step_threads.specs.Endings.{staged}
+use Rattle.step_threads.specs.Entries.{least}
+use Rattle.step_table.specs.Holdings.{Holds, inside, is_full, owner_slot, place_in, slot, value, weak_slot}
+use Rattle.step_table.specs.Openings.{opening}
+use Rattle.step_threads.specs.Steps.{Step, acts, asks, at_rest, begins, begun, brings, claims, compares, ends_on, fetches, first, given, gives_back, looks, made_on, matched, matched_on, matches, missed, prepares, refills_on, returns, saw, saw_on, sees, sends, sent, settles, silent, step_at, story_after, story_by, swaps, takes, tried, tries, trying, with_endings, within}
+use Rattle.step_table.specs.Stories.{Kept, Nothing, Story, known, object_in, pending, state, view_in}
+use Rattle.step_table.proofs.contained.Told.{word_valid}
+use Rattle.step_table.proofs.tables.Places.{ending_busy, handle_busy, there}
+use Rattle.step_table.proofs.tables.Standing.{point, ready}
+use Rattle.step_core.specs.Turning.{IsOut, IsProper, IsTried, IsUnderWay}
+use Rattle.step_core.proofs.watching.Blocks.{IsThere, alias_off, bring_off, claim_off, downgrade_off, each_off, finish_off, give_back_off, give_off, inside_there, leave_off, least_there, lock_off, offered_there, owner_there, prepare_off, share_off, slot_there, weak_there, write_off}
+use Rattle.step_core.proofs.watching.Cells.{IsQuiet, Watches, put_in, refilled, still, taken}
+
+-- so it is with a thread that has begun h
+abbrev pub IsWatch : Story → ℕ → Half → Option Step → Type 0
+IsWatch v d h None = Unit {0}
+IsWatch v d h (Some x) = Watches v d h x.deed x.half
+
+-- the weak pointer that an act locks is in a slot
+locked_is : (w : Walk) (a : Act) (x : Pointer) → locked w.slots a ≡ Some x → (i : ℕ) × (weak_slot (slot w.slots i) ≡ Some x)
+locked_is w (Lock i must) x e = (i, e)
+locked_is w (Make form) x e = cc
+locked_is w (Share i) x e = cc
+locked_is w (Downgrade i) x e = cc
+locked_is w (Put i) x e = cc
+locked_is w (Leave i) x e = cc
+locked_is w (Clear i) x e = cc
+locked_is w (Count i) x e = cc
+locked_is w (Expired i) x e = cc
+locked_is w (Read i) x e = cc
+locked_is w (FromThis i kind) x e = cc
+locked_is w (Alias i j field) x e = cc
+locked_is w (Move i) x e = cc
+locked_is w (Ask q) x e = cc
+locked_is w (Offer i c) x e = cc
+locked_is w (Swap c) x e = cc
+locked_is w (Exchange i c) x e = cc
+locked_is w (Load c) x e = cc
+locked_is w (Compare i c weak) x e = cc
+locked_is w Drop x e = cc
+
+module _ (v : Story) (d : ℕ) (w : Walk) (kept : Kept v) (seat : d < v.extent.actors) (holds : Holds d w.slots v) where
+  in_slot : (i : ℕ) (x : Pointer) → slot w.slots i ≡ Some x → IsThere v x.block
+  in_slot i x e = slot_there v d w.slots kept holds i x e
+
+  leaves : (i : ℕ) → Watches v d Rest (option_map (leave (state v)) (slot w.slots i)) Rest
+  leaves i =
+      still v d Rest (option_map (leave (state v)) (slot w.slots i)) Rest (λ p a. refl)
+      (each_off v d (leave (state v)) (slot w.slots i) (λ x e. leave_off v d x.kind x (is_last (state v) x) (in_slot i x e)))
+
+  begins_watch : (k : ℕ) (ts : List Task) (o : Option ℕ) → least d (state v).stores ≡ o → Watches v d Rest (begins w k ts o).deed (begins w k ts o).half
+  begins_watch k ts None e = still v d Rest None Rest (λ p a. refl) (λ n. refl)
+  begins_watch k ts (Some b) e =
+      let block : Block = record { 0 = b } in
+      still v d Rest (Some (deed.Prepare block)) (Making block 0 false) (λ p a. refl) (prepare_off v d block (least_there v d block kept e))
+
+  trying_watch : (h : Half) (k word : ℕ) → IsQuiet v h → Watches v d h None (trying w k word).half
+  trying_watch h k word quiet = still v d h None (trying w k word).half quiet (λ n. refl)
+
+  locks_watch : (h : Half) (k : ℕ) (ts : List Task) (a : Act) (x : Pointer) (b : Bool) (g : Half) → IsQuiet v h → locked w.slots a ≡ Some x
+      → Watches v d h (Some (lock (state v) x)) g
+  locks_watch h k ts a x b g quiet e =
+      let l = locked_is w a x e in still v d h (Some (lock (state v) x)) g quiet (lock_off v d x (weak_there v d w.slots kept holds l.0 x l.1))
+
+  looks_watch : (k : ℕ) (ts : List Task) (a : Act) (o : Option Pointer) → locked w.slots a ≡ o
+      → IsWatch v d Rest (Some (on (looks v d w k ts a) (acts v d w k ts a None Rest) o))
+  looks_watch k ts a None e = still v d Rest None Rest (λ p a. refl) (λ n. refl)
+  looks_watch k ts a (Some x) e =
+      cond_both (owner_word v x == 0) (acts v d w k ts a (Some (lock (state v) x)) Rest) (trying w k (owner_word v x))
+      (λ (y : Step). IsWatch v d Rest (Some y)) (λ t. locks_watch Rest k ts a x true Rest (λ p q. refl) e)
+      (λ t. trying_watch Rest k (owner_word v x) (λ p q. refl))
+
+  tries_watch : (k word : ℕ) (ts : List Task) (a : Act) (o : Option Pointer) → locked w.slots a ≡ o
+      → IsWatch v d (Locking word) (option_map (tries v d w k ts a word) o)
+  tries_watch k word ts a None e = tt
+  tries_watch k word ts a (Some x) e =
+      cond_both (owner_word v x == word) (acts v d w k ts a (Some (lock (state v) x)) Rest) (trying w k (owner_word v x))
+      (λ (y : Step). IsWatch v d (Locking word) (Some y)) (λ t. locks_watch (Locking word) k ts a x true Rest (λ p q. refl) e)
+      (λ t. trying_watch (Locking word) k (owner_word v x) (λ p q. refl))
+
+  asks_watch : (k : ℕ) (ts : List Task) (i : ℕ) (q : Kind) (o : Option Pointer)
+      → IsWatch v d Rest (Some (on (asks v d w k ts i q) (acts v d w k ts (FromThis i q) None Rest) o))
+  asks_watch k ts i q None = still v d Rest None Rest (λ p a. refl) (λ n. refl)
+  asks_watch k ts i q (Some x) =
+      cond_both (is_enabled (state v) x) (record { deed = None; half = Giving i q x; walk = w; said = silent k })
+      (acts v d w k ts (FromThis i q) None Rest) (λ (y : Step). IsWatch v d Rest (Some y))
+      (λ t. still v d Rest None (Giving i q x) (λ p a. refl) (λ n. refl)) (λ t. still v d Rest None Rest (λ p a. refl) (λ n. refl))
+
+  -- a value goes into a cell
+  swaps_watch : (h : Half) (k : ℕ) (ts : List Task) (a : Act) (c : CellName) (i : ℕ) → IsQuiet v h → IsWatch v d h (Some (swaps v d w k ts a c i))
+  swaps_watch h k ts a c i quiet =
+      let found = seen v (cell_at (state v) c) in
+      put_in v d (cell_at (state v) c) (as_word (value w.slots i)) h (gives_back (kind_at c) k found found.owned) kept quiet
+      (word_valid d w.slots v i kept holds) refl
+
+  sends_watch : (k : ℕ) (ts : List Task) (a : Act) (c : CellName) (i : ℕ) (o : Option Pointer) → slot w.slots i ≡ o
+      → IsWatch v d Rest (Some (on (brings w k) (swaps v d w k ts a c i) o))
+  sends_watch k ts a c i None e = swaps_watch Rest k ts a c i (λ p q. refl)
+  sends_watch k ts a c i (Some x) e =
+      still v d Rest (Some (deed.OnCell (cell_deed.Bring x.kind x.block x.place 256))) Brought (λ p q. refl)
+      (bring_off v d x.kind x.block x.place 256 (in_slot i x e))
+
+  going_watch : (k : ℕ) (ts : List Task) (a : Act) (o : Option Going)
+      → IsWatch v d Rest (Some (on_going (sends v d w k ts a) (acts v d w k ts a None Rest) o))
+  going_watch k ts a None = still v d Rest None Rest (λ p q. refl) (λ n. refl)
+  going_watch k ts a (Some x) = sends_watch k ts a x.0 x.1 (slot w.slots x.1) refl
+
+  sent_watch : (k : ℕ) (ts : List Task) (a : Act) (o : Option Going)
+      → IsWatch v d Brought (option_map (λ (x : Going). swaps v d w k ts a x.0 x.1) o)
+  sent_watch k ts a None = tt
+  sent_watch k ts a (Some x) = swaps_watch Brought k ts a x.0 x.1 (λ p q. refl)
+
+  -- a cell is looked at
+  sees_watch : (k : ℕ) (ts : List Task) (a : Act) (c : Cell) (y : Option Compared) (x : CellWord) → IsWatch v d Rest (Some (sees v d w k ts a c y x))
+  sees_watch k ts a c y x =
+      let quiet : IsQuiet v Rest = λ p q. refl in
+      cond_both (is_spent x) (within w k None Rest)
+      (cond (is_some x.owned) (within w k None (Saw x)) (acts v d w k ts a (Some (deed.OnCell (cell_deed.Look c x y))) Rest))
+      (λ (s : Step). IsWatch v d Rest (Some s)) (λ t. still v d Rest None Rest quiet (λ n. refl))
+      (λ t. cond_both (is_some x.owned) (within w k None (Saw x)) (acts v d w k ts a (Some (deed.OnCell (cell_deed.Look c x y))) Rest)
+      (λ (s : Step). IsWatch v d Rest (Some s)) (λ t. still v d Rest None (Saw x) quiet (λ n. refl))
+      (λ t. still v d Rest (Some (deed.OnCell (cell_deed.Look c x y))) Rest quiet (λ n. refl)))
+
+  compares_watch : (k : ℕ) (ts : List Task) (a : Act) (c : Cell) (y : Compared) (x : CellWord) → IsWatch v d Rest (Some (compares v d w k ts a c y x))
+  compares_watch k ts a c y x =
+      cond_both (same_value x y.expected) (within w k None (Saw x)) (sees v d w k ts a c (Some y) x) (λ (s : Step). IsWatch v d Rest (Some s))
+      (λ t. still v d Rest None (Saw x) (λ p q. refl) (λ n. refl)) (λ t. sees_watch k ts a c (Some y) x)
+
+  takes_watch : (k : ℕ) (ts : List Task) (a : Act) (c : Cell) (y : Option Compared) (x : CellWord) → IsCellWord x
+      → IsWatch v d (Saw x) (Some (takes v d w k ts a c y x))
+  takes_watch k ts a c y x valid =
+      cond_both (word_at v c == cell_bits x)
+      (acts v d w k ts a (Some (deed.OnCell (cell_deed.Take c x y))) (Refill Turning c (more_taken x) k)) (within w k None Rest)
+      (λ (s : Step). IsWatch v d (Saw x) (Some s)) (λ t. taken v c x k kept valid (eqb-true _ _ t))
+      (λ t. still v d (Saw x) None Rest (λ p q. refl) (λ n. refl))
+
+  matches_watch : (h : Half) (k : ℕ) (ts : List Task) (a : Act) (c : Cell) (i : ℕ) (weak : Bool) (x : CellWord) → IsQuiet v h
+      → IsWatch v d h (Some (matches v d w k ts a c (compared_in w.slots (comparing w.slots i weak)) x))
+  matches_watch h k ts a c i weak x quiet =
+      let y = compared_in w.slots (comparing w.slots i weak) in
+      cond_both (word_at v c == cell_bits x)
+      (acts v d w k ts a (Some (deed.OnCell (cell_deed.CompareSwap c x y))) (gives_back (kind_in (state v) c) k x x.owned))
+      (within w k None (missed k (slot w.slots (hand w.slots)))) (λ (s : Step). IsWatch v d h (Some s))
+      (λ t. put_in v d c (as_word (value w.slots (hand w.slots))) h (gives_back (kind_in (state v) c) k x x.owned) kept quiet
+      (word_valid d w.slots v (hand w.slots) kept holds) refl)
+      (λ t. still v d h None (missed k (slot w.slots (hand w.slots))) quiet (λ n. refl))
+
+  fetched_watch : (k : ℕ) (ts : List Task) (a : Act) (c : Cell) (i : ℕ) (weak : Bool) (x : CellWord) (o : Option Pointer)
+      → slot w.slots (hand w.slots) ≡ o
+      → IsWatch v d (Saw x) (Some (on (fetches w k x) (matches v d w k ts a c (compared_in w.slots (comparing w.slots i weak)) x) o))
+  fetched_watch k ts a c i weak x None e = matches_watch (Saw x) k ts a c i weak x (λ p q. refl)
+  fetched_watch k ts a c i weak x (Some y) e =
+      still v d (Saw x) (Some (deed.OnCell (cell_deed.Bring y.kind y.block y.place 256))) (Matched x) (λ p q. refl)
+      (bring_off v d y.kind y.block y.place 256 (in_slot (hand w.slots) y e))
+
+  settles_watch : (k : ℕ) (ts : List Task) (a : Act) (c : Cell) (i : ℕ) (weak : Bool) (x : CellWord) → IsCellWord x
+      → IsWatch v d (Saw x) (Some (settles v d w k ts a c (compared_in w.slots (comparing w.slots i weak)) x))
+  settles_watch k ts a c i weak x valid =
+      let y = compared_in w.slots (comparing w.slots i weak) in
+      cond_both (same_value x y.expected) (on (fetches w k x) (matches v d w k ts a c y x) (slot w.slots (hand w.slots)))
+      (takes v d w k ts a c (Some y) x) (λ (s : Step). IsWatch v d (Saw x) (Some s))
+      (λ t. fetched_watch k ts a c i weak x (slot w.slots (hand w.slots)) refl) (λ t. takes_watch k ts a c (Some y) x valid)
+
+  first_watch : (k : ℕ) (ts : List Task) (a : Act) → IsWatch v d Rest (Some (first v d w k ts a))
+  first_watch k ts (Make form) = begins_watch k ts (least d (state v).stores) refl
+  first_watch k ts (Share i) =
+      still v d Rest (option_map share (slot w.slots i)) Rest (λ p q. refl)
+      (each_off v d share (slot w.slots i) (λ x e. share_off v d x.kind x (in_slot i x e)))
+  first_watch k ts (Put i) = leaves i
+  first_watch k ts (Leave i) = leaves i
+  first_watch k ts (Clear i) = leaves i
+  first_watch k ts (Count i) =
+      still v d Rest (option_map (tell v) (slot w.slots i)) Rest (λ p q. refl) (each_off v d (tell v) (slot w.slots i) (λ x e n. refl))
+  first_watch k ts (Downgrade i) =
+      still v d Rest (option_map downgrade (slot w.slots i)) Rest (λ p q. refl)
+      (each_off v d downgrade (slot w.slots i) (λ x e. downgrade_off v d x (in_slot i x e)))
+  first_watch k ts (Lock i must) = looks_watch k ts (Lock i must) (locked w.slots (Lock i must)) refl
+  first_watch k ts (Expired i) =
+      still v d Rest (option_map (tell_expired (state v)) (slot w.slots i)) Rest (λ p q. refl)
+      (each_off v d (tell_expired (state v)) (slot w.slots i) (λ x e n. refl))
+  first_watch k ts (Read i) =
+      still v d Rest (option_map (read (state v)) (inside (slot w.slots i))) Rest (λ p q. refl)
+      (each_off v d (read (state v)) (inside (slot w.slots i)) (λ x e n. refl))
+  first_watch k ts (FromThis i q) = asks_watch k ts i q (inside (slot w.slots i))
+  first_watch k ts (Alias i j field) =
+      let f = alias (aliased field (place_in w.slots j)) in
+      still v d Rest (option_map f (owner_slot (slot w.slots i))) Rest (λ p q. refl)
+      (each_off v d f (owner_slot (slot w.slots i))
+      (λ x e. alias_off v d (aliased field (place_in w.slots j)) x (owner_there v d w.slots kept holds i x e)))
+  first_watch k ts (Move i) = still v d Rest None Rest (λ p q. refl) (λ n. refl)
+  first_watch k ts (Ask q) = still v d Rest None Rest (λ p q. refl) (λ n. refl)
+  first_watch k ts (Offer i c) =
+      still v d Rest (option_map share (offered w.slots i c)) Rest (λ p q. refl)
+      (each_off v d share (offered w.slots i c) (λ x e. share_off v d x.kind x (offered_there v d w.slots kept holds i x c e)))
+  first_watch k ts (Swap c) = going_watch k ts (Swap c) (going w.slots (Swap c))
+  first_watch k ts (Exchange i c) = going_watch k ts (Exchange i c) (going w.slots (Exchange i c))
+  first_watch k ts (Load c) = sees_watch k ts (Load c) (cell_at (state v) c) None (seen v (cell_at (state v) c))
+  first_watch k ts (Compare i c weak) =
+      compares_watch k ts (Compare i c weak) (cell_at (state v) c) (compared_in w.slots (comparing w.slots i weak)) (seen v (cell_at (state v) c))
+  first_watch k ts Drop = leaves (other w.slots)

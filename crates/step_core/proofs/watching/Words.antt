@@ -1,0 +1,140 @@
+-- Words of free cells, and the threads that have funds to put back into them.
+use Rattle.std.proofs.Common.{◌≡◌, ◌≢◌, ◌⊎◌, ℕ, zero, suc, ◌+◌, ◌-◌, ◌*◌, ◌/◌, ◌%◌, ◌<◌, ◌≤◌, ◌==◌, Bool, true, false, cond, List, [], ◌∷◌, length, set, get_or, refl, sym, ap, subst, ◌∙◌, ⊎_elim, inl, inr, arith}
+use Rattle.std.proofs.Common.{get_or-set_other, eq-eqb}
+use Rattle.std.specs.List.{filter}
+use Rattle.std.specs.Prelude.{◌&&◌, Option, Some, None, slice_index, slice_set}
+use Rattle.std.proofs.lemmas.Bool.{and_from, cond-true, cond-false}
+use Rattle.control_word.proofs.lists.Tallies.{num, num_cons}
+use Rattle.control_word.proofs.packing.Cells.{block_fits, field_fits, owned_fits, same_block as one_block, same_place as one_place}
+use Rattle.control_word.proofs.packing.Fields.{same_parts}
+use Rattle.control_word.specs.declared.cell.CellWord.{CellWord}
+use Rattle.control_word.specs.declared.place.Block.{Block}
+use Rattle.control_word.specs.declared.place.Place.{Place}
+use Rattle.control_word.specs.Handles.{same_place}
+use Rattle.control_word.specs.Layout.{cell_place, spot}
+use Rattle.control_word.specs.Packing.{IsCellWord, block_number, cell_bits, place_block, place_field}
+use Rattle.control_word.specs.State.{InShape}
+use Rattle.step_threads.specs.declared.half.Half.{Half}
+use Rattle.step_threads.specs.declared.half.Half.TheVariants.{Rest, Making, Locking, Giving, Brought, Saw, Matched, Refill, Returning}
+use Rattle.step_table.specs.CellDeeds.{word_of}
+use Rattle.step_table.specs.Contents.{same_block, same_value}
+use Rattle.step_table.specs.Openings.{opening}
+use Rattle.step_table.specs.Refills.{is_low, more_taken}
+use Rattle.step_table.specs.Stories.{Story}
+use Rattle.step_core.specs.Watching.{content, is_watching, watchers}
+
+-- a thread counts once, where it has funds of the cell to put back
+abbrev pub bit : ℕ → ℕ → ℕ → Half → ℕ
+bit blocks place word h = cond (is_watching blocks place word h) 1 0
+
+flag : (b : Bool) → cond b 1 0 ≤ 1
+flag true = omega arith
+flag false = omega arith
+
+one_of : (p : Half → Bool) (h : Half) → num p (h ∷ []) ≡ cond (p h) 1 0
+one_of p h = go (p h)
+  where
+    go : (b : Bool) → length (cond b (h ∷ []) []) ≡ cond b 1 0
+    go true = refl
+    go false = refl
+
+-- one thread has another half
+num_set : (p : Half → Bool) (l : List Half) (d : ℕ) (h : Half) → d < length l → num p (set l d h) + num p (get_or l d Rest ∷ []) ≡ num p l + num p (h ∷ [])
+num_set p [] d h lt = absurd (omega arith)
+num_set p (x ∷ xs) zero h lt = let a = num_cons p h xs in let b = num_cons p x xs in omega (arith, a, b)
+num_set p (x ∷ xs) (suc d) h lt =
+    let t = num_set p xs d h (omega arith) in
+    let a = num_cons p x (set xs d h) in let b = num_cons p x xs in omega (arith, t, a, b)
+
+-- only the value that a word tells says who has funds of it
+watching_same : (blocks place a b : ℕ) → content a ≡ content b → (h : Half) → is_watching blocks place a h ≡ is_watching blocks place b h
+watching_same blocks place a b e Rest = refl
+watching_same blocks place a b e (Making c i differs) = refl
+watching_same blocks place a b e (Locking word) = refl
+watching_same blocks place a b e (Giving i kind x) = refl
+watching_same blocks place a b e Brought = refl
+watching_same blocks place a b e (Saw x) = refl
+watching_same blocks place a b e (Matched x) = refl
+watching_same blocks place a b e (Refill stage c x k) = ap (λ (n : ℕ). word_of blocks c == place && is_low x && content (cell_bits x) == n) e
+watching_same blocks place a b e (Returning kind c funds k) = refl
+
+watchers_same : (blocks place a b : ℕ) (l : List Half) → content a ≡ content b → watchers blocks place a l ≡ watchers blocks place b l
+watchers_same blocks place a b l e = λ i. length (filter (λ (h : Half). watching_same blocks place a b e h i) l)
+
+-- a step of a thread leaves the cell's word, and the thread counts as it did, or does now; or few of the cell's funds are taken; or
+-- one more is, and the thread counts now, and didn't
+abbrev pub Watch : ℕ → ℕ → ℕ → ℕ → Half → Half → Type 0
+Watch blocks place a b h g =
+    ((b ≡ a) × (bit blocks place a h ≤ bit blocks place a g))
+    ⊎ ((b / 17179869184 ≤ 127) ⊎ ((b ≡ a + 17179869184) × (bit blocks place a h ≡ 0) × (bit blocks place b g ≡ 1)))
+
+pub watch : (blocks place a b d : ℕ) (h g : Half) (l : List Half) → d < length l → get_or l d Rest ≡ h → Watch blocks place a b h g
+    → a / 17179869184 ≤ 127 + watchers blocks place a l → b / 17179869184 ≤ 127 + watchers blocks place b (set l d g)
+watch blocks place a b d h g l lt at w was = ⊎_elim same (λ r. ⊎_elim (λ few. omega (arith, few)) more r) w
+  where
+    counts : (n : ℕ) → watchers blocks place n (set l d g) + bit blocks place n h ≡ watchers blocks place n l + bit blocks place n g
+    counts n =
+        let p = is_watching blocks place n in
+        let t = num_set p l d g lt in
+        let x = one_of p (get_or l d Rest) ∙ ap (bit blocks place n) at in
+        let y = one_of p g in
+        omega (arith, t, x, y)
+
+    same : (b ≡ a) × (bit blocks place a h ≤ bit blocks place a g) → b / 17179869184 ≤ 127 + watchers blocks place b (set l d g)
+    same s =
+        subst (λ (n : ℕ). n / 17179869184 ≤ 127 + watchers blocks place n (set l d g)) (sym s.0)
+        (let c = counts a in let m = s.1 in omega (arith, was, c, m))
+
+    more : (b ≡ a + 17179869184) × (bit blocks place a h ≡ 0) × (bit blocks place b g ≡ 1) → b / 17179869184 ≤ 127 + watchers blocks place b (set l d g)
+    more s =
+        let e = s.0 in
+        let alike : content b ≡ content a = omega (arith, e) in
+        let c = counts b in
+        let o = watchers_same blocks place b a l alike in
+        let z = ap {B = ℕ} (λ (t : Bool). cond t 1 0) (watching_same blocks place b a alike h) in
+        let m = s.1 in
+        let n = s.2 in
+        omega (arith, was, e, c, o, z, m, n)
+
+-- a word of a block is none of a free cell
+pub spot_off : (v : Story) (b j n : ℕ) → InShape (opening v.extent) b → j < 16 → cell_place v.extent.shape.blocks n ≢ spot b j
+spot_off v b j n is lt e = let low = is.0 in let high = is.1 in omega (arith, low, high, lt, e)
+
+pub block_off : (v : Story) (b j n word : ℕ) → InShape (opening v.extent) b → j < 16
+    → slice_index (slice_set v.words (spot b j) word) (cell_place v.extent.shape.blocks n) ≡ slice_index v.words (cell_place v.extent.shape.blocks n)
+block_off v b j n word is lt = get_or-set_other v.words (spot b j) (cell_place v.extent.shape.blocks n) word 0 (spot_off v b j n is lt)
+
+-- what a cell's word tells, in numbers
+pub taken_told : (x : CellWord) → IsCellWord x → cell_bits x / 17179869184 ≡ x.taken
+taken_told x valid =
+    let o = owned_fits x.owned valid.owned in let b = block_fits x.place valid.place in let f = field_fits x.place valid.place in omega (arith, o, b, f)
+
+pub content_told : (x : CellWord) → IsCellWord x
+    → content (cell_bits x) ≡ block_number x.owned + 65536 * place_block x.place + 4294967296 * place_field x.place
+content_told x valid =
+    let o = owned_fits x.owned valid.owned in let b = block_fits x.place valid.place in let f = field_fits x.place valid.place in omega (arith, o, b, f)
+
+place_self : (p : Option Place) → same_place p p ≡ true
+place_self None = refl
+place_self (Some x) = and_from _ _ (eq-eqb x.block.0 x.block.0 refl) (eq-eqb x.field x.field refl)
+
+block_self : (o : Option Block) → same_block o o ≡ true
+block_self None = refl
+block_self (Some b) = eq-eqb b.0 b.0 refl
+
+-- words that tell the same tell one value
+pub same_told : (x y : CellWord) → IsCellWord x → IsCellWord y → content (cell_bits x) ≡ content (cell_bits y) → same_value x y ≡ true
+same_told x y hx hy e =
+    let a = content_told x hx in
+    let b = content_told y hy in
+    let p = same_parts (block_number x.owned) (place_block x.place) (place_field x.place) 0 (block_number y.owned) (place_block y.place)
+    (place_field y.place) 0 (owned_fits x.owned hx.owned) (block_fits x.place hx.place) (field_fits x.place hx.place)
+    (owned_fits y.owned hy.owned) (block_fits y.place hy.place) (field_fits y.place hy.place) (omega (arith, a, b, e)) in
+    let o = one_block x.owned y.owned hx.owned hy.owned p.0 in
+    let q = one_place x.place y.place hx.place hy.place p.1 p.2 in
+    and_from _ _ (subst (λ (z : Option Block). same_block x.owned z ≡ true) o (block_self x.owned))
+    (subst (λ (z : Option Place). same_place x.place z ≡ true) q (place_self x.place))
+
+-- one fund more
+pub more_told : (x : CellWord) → cell_bits (more_taken x) ≡ cell_bits x + 17179869184
+more_told x = omega arith
