@@ -1,29 +1,44 @@
 -- A step of one thread keeps all of them fitting the table.
-use Rattle.std.proofs.Common.{◌≡◌, ◌≢◌, ◌⊎◌, inl, inr, false, All, ◌≤◌, ℕ, zero, suc, ◌<◌, List, [], ◌∷◌, length, set, get_or, refl, sym, ap, subst, ◌∙◌, ⊎_elim, arith}
-use Rattle.std.specs.Prelude.{Option, None, Some, slice_get, map}
-use Rattle.std.proofs.lemmas.List.{get_or-map, length-map, map-set}
-use Rattle.std.proofs.lemmas.Bool.{cases_eq}
+use Rattle.std.proofs.Common.{◌≡◌, ◌≢◌, ◌⊎◌, ◌==◌, inl, inr, false, All, ◌≤◌, ℕ, zero, suc, ◌<◌, List, [], ◌∷◌, length, set, get_or, refl, sym, ap, subst, ◌∙◌, ⊎_elim, arith}
+use Rattle.std.specs.Prelude.{Option, None, Some, is_some, slice_get, map}
+use Rattle.std.proofs.Math.ListN.{drop_of_length-le}
+use Rattle.std.proofs.lemmas.List.{get_or-map, get_or_past, length-map, map-set}
+use Rattle.std.proofs.lemmas.Bool.{cases_eq, cases_lt, cond_both, false≢true}
 use Rattle.std.proofs.lemmas.List.Elements.{All-drop, All-head}
 use Rattle.control_word.specs.declared.shape.Shape.{Shape}
-use Rattle.std.proofs.lemmas.Option.{same_Some, slice_get-get_or}
+use Rattle.std.proofs.lemmas.Option.{same_Some, slice_get-get_or, slice_get_cases}
 use Rattle.step_threads.specs.declared.act.Task.{Task}
 use Rattle.step_threads.specs.declared.course.Course.{Course}
 use Rattle.step_threads.specs.declared.ending.Ending.{Ending}
 use Rattle.step_table.specs.declared.slot.Slot.{Slot}
-use Rattle.step_table.specs.Holdings.{is_full, pointer_of, slot}
+use Rattle.step_table.specs.declared.slot.Slot.TheVariants.{Empty, Full}
+use Rattle.step_table.specs.declared.refill.Stage.TheVariants.{Turning, Checking, Lacking, Refilling, Failing}
+use Rattle.control_word.specs.declared.handle.Kind.{Kind}
+use Rattle.control_word.specs.declared.place.Block.{Block}
+use Rattle.control_word.specs.declared.place.Place.{Place}
+use Rattle.control_word.specs.declared.view.Pending.{Pending}
+use Rattle.control_word.specs.declared.view.Pending.TheVariants.{Idle}
+use Rattle.control_word.specs.declared.view.View.{View}
+use Rattle.control_word.specs.Layout.{spot}
+use Rattle.control_word.specs.Views.{owes, used_up}
+use Rattle.control_word.specs.Words.{slot as word_slot}
+use Rattle.step_threads.specs.declared.act.Act.{Act}
+use Rattle.step_table.specs.CellDeeds.{kind_in, owing}
+use Rattle.step_table.specs.Contents.{owing_for}
+use Rattle.step_table.specs.Holdings.{Holds, Slots, is_full, pointer_of, slot}
 use Rattle.step_table.specs.declared.past.Deed.{Deed}
 use Rattle.step_threads.specs.declared.said.Stepped.{Stepped}
 use Rattle.step_threads.specs.declared.half.Half.{Half}
 use Rattle.step_threads.specs.declared.half.Half.TheVariants.{Rest, Making, Locking, Giving, Brought, Saw, Matched, Refill, Returning}
 use Rattle.step_threads.specs.declared.thread.Thread.{Thread}
 use Rattle.step_threads.specs.Actors.{HalfFits}
-use Rattle.step_threads.specs.Courses.{HasCell, Walk, hand, task_at, todo, walk}
+use Rattle.step_threads.specs.Courses.{CourseStill, HasCell, Walk, hand, new_of, task_at, todo, walk}
 use Rattle.step_threads.specs.Scenes.{nowhere, walk_of}
-use Rattle.step_threads.specs.Steps.{Step, half_by, step_at, stepped, story_after, story_by, walk_by}
-use Rattle.step_table.specs.Stories.{AllBare, Kept, Story, after, state}
+use Rattle.step_threads.specs.Steps.{Step, answered, half_by, step_at, story_after, story_by, walk_by}
+use Rattle.step_table.specs.Stories.{AllBare, Kept, Nothing, Story, after, pending, state}
 use Rattle.step_threads.specs.Threads.{Fits, HasStepped, IsNext}
-use Rattle.step_core.specs.Turning.{HasBegun, IsAlone, IsInShape, IsLock, IsSwap, IsTried, IsUnderWay}
-use Rattle.step_core.specs.Worlds.{AllFit, Sight, Steps, half_of, scene, step_of, thread_half, thread_walk}
+use Rattle.step_core.specs.Turning.{HasBegun, IsAlone, IsInShape, IsLock, IsMatched, IsOut, IsProper, IsSeen, IsStill, IsSwap, IsTried, IsUnderWay, OthersOwe}
+use Rattle.step_core.specs.Worlds.{AllFit, Sight, Steps, answer_at, half_of, is_loading, scene, step_of, thread_half, thread_walk}
 use Rattle.step_threads.proofs.Courses.{todo_at}
 use Rattle.step_threads.proofs.holding.Halves.{half_others}
 use Rattle.step_threads.proofs.holding.Others.{ends_others, stocks_others}
@@ -106,7 +121,7 @@ steps v v' threads n t t' r lt read moved =
     let h : half_of u n ≡ t.half = get_or-map thread_half threads n t Rest lt ∙ ap thread_half (sym read) in
     let w : walk_of (scene u) n ≡ walk t.course = get_or-map thread_walk threads n t nowhere lt ∙ ap thread_walk (sym read) in
     let e : step_of n u ≡ s = ap (λ (k : Half). step_at v n k (walk_of (scene u) n)) h ∙ ap (λ (k : Walk). step_at v n t.half k) w in (
-      moved.answer ∙ ap (stepped v) (sym e),
+      moved.answer ∙ ap (λ (k : Half). answered v n k (walk t.course)) (sym h) ∙ ap (λ (k : Walk). answered v n (half_of u n) k) (sym w),
       seen (moved.story ∙ ap (story_by v n) (sym e))
           (map-set thread_walk threads n t' ∙ ap (λ (k : Walk). set (map thread_walk threads) n k) (moved.place
           ∙ ap (λ (k : Walk). walk_by k s) (sym w)
@@ -125,6 +140,9 @@ begun_of d (Locking word) c v fits next = tt
 begun_of d (Giving i kind x) c v fits next =
     subst (λ (ts : List Task). IsUnderWay d v (Giving i kind x) ts) (sym (todo_at c next.0)) (next.1, fits.enabled)
 begun_of d Brought c v fits next = tt
+begun_of d (Saw x) c v fits next = tt
+begun_of d (Matched x) c v fits next = tt
+begun_of d (Refill stage cell x k) c v fits next = tt
 begun_of d (Returning kind b funds k) c v fits next = tt
 
 tried_of : (h : Half) (c : Course) → IsNext h c → IsTried h (walk c)
@@ -133,6 +151,9 @@ tried_of (Making b i differs) c next = tt
 tried_of (Locking word) c next = subst (λ (ts : List Task). IsLock c.holdings.slots.items ts) (sym (todo_at c next.0)) next.1
 tried_of (Giving i kind x) c next = next.2
 tried_of Brought c next = subst (λ (ts : List Task). IsSwap c.holdings.slots.items ts) (sym (todo_at c next.0)) next.1
+tried_of (Saw x) c next = subst (λ (ts : List Task). IsSeen c.holdings.slots.items x ts) (sym (todo_at c next.0)) next.1
+tried_of (Matched x) c next = subst (λ (ts : List Task). IsMatched c.holdings.slots.items x ts) (sym (todo_at c next.0)) next.1
+tried_of (Refill stage cell x k) c next = tt
 tried_of (Returning kind b funds k) c next = tt
 
 alone_of : (h : Half) (c : Course) → IsNext h c → IsAlone h c.endings.list
@@ -141,6 +162,9 @@ alone_of (Making b i differs) c next = next.2
 alone_of (Locking word) c next = next.2
 alone_of (Giving i kind x) c next = next.3
 alone_of Brought c next = next.2
+alone_of (Saw x) c next = next.2
+alone_of (Matched x) c next = next.2
+alone_of (Refill stage cell x k) c next = tt
 alone_of (Returning kind b funds k) c next = tt
 
 -- the shape has the cells of the tasks that are left
@@ -155,10 +179,84 @@ free_of d t v fits =
     ⊎_elim (λ (e : t.course.endings.list ≡ []). inl e)
     (λ (e : t.course.taken ≡ false). inr (ap (λ (x : Slot). is_full (pointer_of x)) (fits.ready.free e))) fits.endings.empty
 
+-- the next task is an act
+still_of : (c : Course) → CourseStill c → IsStill (walk c) (todo c)
+still_of c still =
+    ⊎_elim (λ (lt : c.at < length c.tasks.items). subst (λ (ts : List Task). IsStill (walk c) ts) (sym (todo_at c lt)) (still lt))
+    (λ (le : length c.tasks.items ≤ c.at). subst (λ (ts : List Task). IsStill (walk c) ts) (sym (drop_of_length-le c.tasks.items le)) tt)
+    (cases_lt c.at (length c.tasks.items))
+
+proper_of : (d : ℕ) (h : Half) (c : Course) (v : Story) → HalfFits d h c.holdings.slots.items (task_at c).act v → IsProper d v h
+proper_of d Rest c v fits = fits
+proper_of d (Making b i differs) c v fits = tt
+proper_of d (Locking word) c v fits = tt
+proper_of d (Giving i kind x) c v fits = tt
+proper_of d Brought c v fits = tt
+proper_of d (Saw x) c v fits = fits.1
+proper_of d (Matched x) c v fits = fits.1
+proper_of d (Refill stage cell x k) c v fits = ap is_some fits.owned
+proper_of d (Returning kind b funds k) c v fits = tt
+
+out_of : (d : ℕ) (h : Half) (c : Course) (v : Story) → HalfFits d h c.holdings.slots.items (task_at c).act v → IsOut d v h
+out_of d Rest c v fits = tt
+out_of d (Making b i differs) c v fits = tt
+out_of d (Locking word) c v fits = tt
+out_of d (Giving i kind x) c v fits = tt
+out_of d Brought c v fits = tt
+out_of d (Saw x) c v fits = tt
+out_of d (Matched x) c v fits = tt
+out_of d (Refill stage cell x k) c v fits = fits
+out_of d (Returning kind b funds k) c v fits = fits
+
+none_idle : (v : Story) (d i : ℕ) → pending v d ≡ Idle → owes (pending v d) i ≡ 0
+none_idle v d i idle = ap (λ (p : Pending Nothing). owes p i) idle
+
+-- funds alone are no load
+none_paying : (v : Story) (d i : ℕ) (k : Kind) (b : Block) (p : Option Place) (n : ℕ) → pending v d ≡ owing (state v) k (Some b) p n 0
+    → owes (pending v d) i ≡ 0
+none_paying v d i k b p n is =
+    ap (λ (q : Pending Nothing). owes q i) is ∙ cond_both (i == spot b.0 (word_slot k)) 0 0 (λ (n : ℕ). n ≡ 0) (λ t. refl) (λ t. refl)
+
+none_brought : (v : Story) (d i : ℕ) (a : Slot) → pending v d ≡ owing_for (state v) a 256 → owes (pending v d) i ≡ 0
+none_brought v d i (Empty p) is = none_idle v d i is
+none_brought v d i (Full x) is = none_paying v d i x.kind x.block x.place 256 is
+
+-- what a half owes that is no load
+pub half_owes : (d : ℕ) (h : Half) (slots : Slots) (a : Act) (v : Story) (i : ℕ) → HalfFits d h slots a v → is_loading h ≡ false → owes (pending v d) i ≡ 0
+half_owes d Rest slots a v i fits none = none_idle v d i fits
+half_owes d (Making b at differs) slots a v i fits none = ap (λ (p : Pending Nothing). owes p i) fits.making.making
+half_owes d (Locking word) slots a v i fits none = none_idle v d i fits.0
+half_owes d (Giving j kind x) slots a v i fits none = none_idle v d i fits.idle
+half_owes d Brought slots a v i fits none = none_brought v d i (new_of slots a) fits
+half_owes d (Saw x) slots a v i fits none = none_idle v d i fits.0
+half_owes d (Matched x) slots a v i fits none = none_brought v d i (new_of slots a) fits.0
+half_owes d (Refill Turning c x k) slots a v i fits none = absurd (false≢true (sym none))
+half_owes d (Refill Checking c x k) slots a v i fits none = none_idle v d i fits.pays
+half_owes d (Refill Lacking c x k) slots a v i fits none = none_idle v d i fits.pays
+half_owes d (Refill Refilling c x k) slots a v i fits none = none_paying v d i (kind_in (state v) c) fits.block x.place x.taken fits.pays
+half_owes d (Refill Failing c x k) slots a v i fits none = none_paying v d i (kind_in (state v) c) fits.block x.place x.taken fits.pays
+half_owes d (Returning kind b funds k) slots a v i fits none = none_paying v d i kind b fits.0 funds fits.1
+
+-- another thread's half is a load, or none is under way; beyond the threads nobody has a call half done
+others_owe : (v : Story) (threads : List Thread) (n : ℕ) → AllFit v threads → length (map thread_walk threads) ≡ v.extent.actors → Kept v
+    → OthersOwe n (sight v threads)
+others_owe v threads n all many kept e ne quiet i =
+    ⊎_elim
+    (λ (p : (t : Thread) × (e < length threads) × (slice_get threads e ≡ Some t) × (get_or threads e t ≡ t)).
+    let t = p.0 in
+    let fits = all.each e t p.2 in
+    let h : get_or (map thread_half threads) e Rest ≡ t.half = get_or-map thread_half threads e t Rest p.1 ∙ ap thread_half p.3 in
+    half_owes e t.half t.course.holdings.slots.items (task_at t.course).act v i fits.half (ap is_loading (sym h) ∙ quiet))
+    (λ (q : (length threads ≤ e) × (slice_get threads e ≡ None)).
+    let le = q.0 in
+    none_idle v e i (ap (λ (w : View Nothing). w.pending)
+    (get_or_past v.views e used_up (let s = kept.seats.size in let m = length-map threads thread_walk in omega (arith, s, le, many, m)))))
+    (slice_get_cases threads e).1
+
 pub has_begun : (v : Story) (threads : List Thread) (n : ℕ) (t : Thread) → n < length threads → t ≡ get_or threads n t → Fits n t v → AllBare (state v)
-    → Kept v
+    → Kept v → AllFit v threads → length (map thread_walk threads) ≡ v.extent.actors
     → HasBegun n (sight v threads)
-has_begun v threads n t lt read fits bare kept =
+has_begun v threads n t lt read fits bare kept all many =
     let h : get_or (map thread_half threads) n Rest ≡ t.half = get_or-map thread_half threads n t Rest lt ∙ ap thread_half (sym read) in
     let w : get_or (map thread_walk threads) n nowhere ≡ walk t.course = get_or-map thread_walk threads n t nowhere lt ∙ ap thread_walk (sym read) in
     record {
@@ -184,4 +282,9 @@ has_begun v threads n t lt read fits bare kept =
       cell =
           subst (λ (k : Walk). IsInShape v.extent.shape k.todo) (sym w)
           (in_shape v.extent.shape (todo t.course) (All-drop (λ (x : Task). HasCell v.extent.shape x.act) t.course.at t.course.tasks.items fits.cells));
+      holds = subst (λ (k : Walk). Holds n k.slots v) (sym w) fits.holds;
+      still = subst (λ (k : Walk). IsStill k k.todo) (sym w) (still_of t.course fits.still);
+      proper = subst (λ (k : Half). IsProper n v k) (sym h) (proper_of n t.half t.course v fits.half);
+      others = others_owe v threads n all many kept;
+      out = subst (λ (k : Half). IsOut n v k) (sym h) (out_of n t.half t.course v fits.half);
     }

@@ -16,6 +16,9 @@ use Rattle.control_word.specs.declared.view.Pending.TheVariants.{Idle}
 use Rattle.control_word.specs.Packing.{IsCellWord}
 use Rattle.control_word.specs.Views.{owes}
 use Rattle.step_threads.specs.Courses.{HasCell, Walk, form_of, going, hand, idle, locked}
+use Rattle.control_word.specs.declared.place.Place.{Place}
+use Rattle.step_table.specs.CellDeeds.{owing}
+use Rattle.step_table.specs.Refills.{RefillFits}
 use Rattle.step_table.specs.Deeds.{Telling, is_enabled}
 use Rattle.step_threads.specs.Endings.{first_of}
 use Rattle.step_table.specs.Holdings.{Holds, Slots, inside, is_full, slot}
@@ -98,6 +101,12 @@ IsProper d v (Matched x) = IsCellWord x
 IsProper d v (Refill stage c x k) = is_some x.owned ≡ true
 IsProper d v _ = Unit {0}
 
+-- funds that are out, or were taken of a cell, are of an object that the thread has a pointer to
+abbrev pub IsOut : ℕ → Story → Half → Type 0
+IsOut d v (Refill stage c x k) = RefillFits d stage c x v
+IsOut d v (Returning kind b funds k) = (p : Option Place) × (pending v d ≡ owing (state v) kind (Some b) p funds 0)
+IsOut d v _ = Unit {0}
+
 -- what another thread has half done is a load only where its half says so
 abbrev pub OthersOwe : ℕ → Sight → Type 0
 OthersOwe d u = (e : ℕ) → e ≢ d → is_loading (half_of u e) ≡ false → (i : ℕ) → owes (pending u.story e) i ≡ 0
@@ -119,6 +128,7 @@ pub record HasBegun (d : ℕ) (u : Sight) : Type 0 where
   pub still : IsStill (walk_of (scene u) d) (walk_of (scene u) d).todo
   pub proper : IsProper d u.story (half_of u d)
   pub others : OthersOwe d u
+  pub out : IsOut d u.story (half_of u d)
 
 -- the thread's endings go on by themselves
 abbrev pub is_ending : Sight → ℕ → Bool

@@ -28,7 +28,8 @@ invariant_of-self c =
           c.step-stepped.result c.self.inside.made c.self.inside.ended c.makes.result c.ends.result c.known.ensures c.known-2.ensures
           (has_begun c.self.inside.table c.self.inside.threads.items c.args.number c.index_mut-thread.result.now lt c.index_mut-thread.ensures.value
           (c.self.invariant.0.each c.args.number c.index_mut-thread.result.now
-          (thread_at c.self.inside.threads.items c.args.number c.index_mut-thread.result.now lt c.index_mut-thread.ensures.value)) c.self.invariant.1.plain.bare c.known.ensures) lt
+          (thread_at c.self.inside.threads.items c.args.number c.index_mut-thread.result.now lt c.index_mut-thread.ensures.value)) c.self.invariant.1.plain.bare c.known.ensures c.self.invariant.0
+          c.self.invariant.1.threads) lt
           c.index_mut-thread.ensures.value c.step-stepped.ensures.stepped c.self.invariant.1 c.makes.ensures c.ends.ensures,
     )
 
@@ -40,7 +41,8 @@ returns-clause-was c =
     subst (λ (u : Sight). HasBegun c.args.number u) c.self.view_is
     (has_begun c.self.inside.table c.self.inside.threads.items c.args.number c.index_mut-thread.result.now lt c.index_mut-thread.ensures.value
     (c.self.invariant.0.each c.args.number c.index_mut-thread.result.now
-    (thread_at c.self.inside.threads.items c.args.number c.index_mut-thread.result.now lt c.index_mut-thread.ensures.value)) c.self.invariant.1.plain.bare c.known.ensures)
+    (thread_at c.self.inside.threads.items c.args.number c.index_mut-thread.result.now lt c.index_mut-thread.ensures.value)) c.self.invariant.1.plain.bare c.known.ensures c.self.invariant.0
+          c.self.invariant.1.threads)
 
 pub returns-clause-steps : goal.returns-clause-steps
 returns-clause-steps c =
