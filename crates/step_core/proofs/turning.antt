@@ -11,5 +11,6 @@ pub mod Looking
 pub mod Playing
 pub mod Swapping
 pub mod Trials
+pub mod Outcomes
 pub mod Trying
 pub mod Turns

@@ -15,7 +15,7 @@ use Rattle.step_table.specs.declared.holdings.Pointer.{Pointer}
 use Rattle.step_table.specs.declared.past.Deed.TheVariants.{OnCell}
 use Rattle.step_table.specs.CellDeeds.{kind_in}
 use Rattle.step_table.specs.Cells.{word_at}
-use Rattle.step_table.specs.Contents.{as_word, compared_in, is_spent, same_value, seen}
+use Rattle.step_table.specs.Contents.{as_word, compared_in, is_spent, same_value}
 use Rattle.step_table.specs.Deeds.{on}
 use Rattle.step_table.specs.Holdings.{Slots, slot, value}
 use Rattle.step_table.specs.Refills.{more_taken}
@@ -48,7 +48,8 @@ use Rattle.step_core.proofs.turning.Resting.{scene_stays}
 use Rattle.step_core.proofs.turning.Saying.{Acts, plays_as}
 use Rattle.step_core.proofs.turning.Swapping.{no_more}
 use Rattle.step_core.proofs.turning.Telling.{awake, tells_unless}
-use Rattle.step_core.proofs.turning.Trials.{Done, Next, Outcome, Tried, is_looking, is_trial, left_on, matched_out, rest_out, saw_out}
+use Rattle.step_core.proofs.turning.Outcomes.{matched_out, rest_out, saw_out}
+use Rattle.step_core.proofs.turning.Trials.{Done, Outcome, Tried, is_looking, is_trial, left_on}
 use Rattle.step_core.proofs.turning.Turns.{plays_on}
 
 abbrev pub LooksNext : List Task → Type 0
@@ -63,7 +64,7 @@ Tries (Matched x) w = Unit {0}
 Tries (Returning kind b funds k) w = LooksNext w.todo × (w.endings ≡ [])
 Tries _ w = ⊥
 
-left_of : Story → Half → List Task → ℕ
+abbrev pub left_of : Story → Half → List Task → ℕ
 left_of v h [] = 0
 left_of v h (t ∷ ts) = left_on v t.act h
 
@@ -172,11 +173,11 @@ trial_of d u (Refill stage c x k) e tries awake begun = absurd tries
 
 -- how far it has come
 pub record IsTrying (d : ℕ) (u u' : Sight) : Type 0 where
-  pub scene : scene u' ≡ scene u
   pub tries : Tries (half_of u' d) (walk_of (scene u') d)
   pub halves : u'.halves ≡ set u.halves d (half_of u' d)
   pub actors : length u'.walks ≡ length u.walks
   pub goes : GoesTo d u u'
+  pub scene : scene u' ≡ scene u
 
 tries_start : (h : Half) (w : Walk) → is_trying h ≡ true → Tries h w
 tries_start Rest w is = absurd (false≢true is)
@@ -245,12 +246,12 @@ trying_done d u v w r trying begun steps never event =
 
 -- a step on the way
 record Onward (d : ℕ) (v w : Sight) : Type 0 where
-  scene : scene w ≡ scene v
   half : is_trial (half_of w d) ≡ true
   looks : LooksNext (walk_of (scene v) d).todo
   none : (walk_of (scene v) d).endings ≡ []
   halves : w.halves ≡ set v.halves d (half_of w d)
   less : tries_left d w < tries_left d v
+  scene : scene w ≡ scene v
 
 onward : (d : ℕ) (v : Sight) (t : Trial d v) → is_done v.story t.step.deed ≡ false → HasBegun d v → Onward d v (sight_by d v (Some t.step))
 onward d v t is begun =
@@ -261,7 +262,7 @@ onward d v t is begun =
     let half : half_of s d ≡ x.half = half_after d v (Some x) begun.within in
     let walk : walk_of (scene s) d ≡ w = walk_after d v (Some x) begun.walks ∙ q.walk in
     let before : tries_left d v ≡ left_on v.story t.task.act (half_of v d) = ap (left_of v.story (half_of v d)) t.todo in
-    let behind : tries_left d s ≡ left_on s.story t.task.act x.half =
+    let behind : tries_left d s ≡ left_on (story_after v.story d x.deed) t.task.act x.half =
     ap (λ (k : Walk). left_of s.story (half_of s d) k.todo) walk ∙ ap (left_of s.story (half_of s d)) t.todo ∙ ap (left_on s.story t.task.act) half in
     let less = q.less in
     record {
