@@ -1,10 +1,16 @@
 pub mod Chains
 pub mod Ending
+pub mod Telling
+pub mod Refilling
 pub mod Resting
 pub mod Giving
 pub mod Locking
 pub mod Making
 pub mod Saying
+pub mod Looking
 pub mod Playing
 pub mod Swapping
+pub mod Trials
+pub mod Outcomes
+pub mod Trying
 pub mod Turns

@@ -26,6 +26,9 @@ words_left (Making b i differs) = 2 * (5 - i) + cond differs 0 1
 words_left (Locking word) = 0
 words_left (Giving i kind x) = 0
 words_left Brought = 0
+words_left (Saw wd) = 0
+words_left (Matched wd) = 0
+words_left (Refill stage cell wd line) = 0
 words_left (Returning kind b funds k) = 0
 
 -- a make in the same block
@@ -47,6 +50,9 @@ same_start (Making b i differs) is = refl
 same_start (Locking word) is = absurd (false≢true is)
 same_start (Giving i kind x) is = absurd (false≢true is)
 same_start Brought is = absurd (false≢true is)
+same_start (Saw wd) is = absurd (false≢true is)
+same_start (Matched wd) is = absurd (false≢true is)
+same_start (Refill stage cell wd line) is = absurd (false≢true is)
 same_start (Returning kind b funds k) is = absurd (false≢true is)
 
 pub at_start : (d : ℕ) (u : Sight) → is_making (half_of u d) ≡ true → IsAt d u u
@@ -113,6 +119,9 @@ prepared d u (Making b i g) e begun is =
 prepared d u (Locking word) e begun is = absurd (false≢true is)
 prepared d u (Giving i kind x) e begun is = absurd (false≢true is)
 prepared d u Brought e begun is = absurd (false≢true is)
+prepared d u (Saw wd) e begun is = absurd (false≢true is)
+prepared d u (Matched wd) e begun is = absurd (false≢true is)
+prepared d u (Refill stage cell wd line) e begun is = absurd (false≢true is)
 prepared d u (Returning kind b funds k) e begun is = absurd (false≢true is)
 
 same_make : (a b c : Half) → SameMake a b → SameMake b c → SameMake a c
@@ -121,16 +130,25 @@ same_make (Making b i f) (Making c j g) Rest p q = absurd q
 same_make (Making b i f) (Making c j g) (Locking word) p q = absurd q
 same_make (Making b i f) (Making c j g) (Giving n kind x) p q = absurd q
 same_make (Making b i f) (Making c j g) Brought p q = absurd q
+same_make (Making b i f) (Making c j g) (Saw wd) p q = absurd q
+same_make (Making b i f) (Making c j g) (Matched wd) p q = absurd q
+same_make (Making b i f) (Making c j g) (Refill stage cell wd line) p q = absurd q
 same_make (Making b i f) (Making c j g) (Returning kind n funds k) p q = absurd q
 same_make (Making b i f) (Locking word) c p q = absurd p
 same_make (Making b i f) (Giving n kind x) c p q = absurd p
 same_make (Making b i f) Brought c p q = absurd p
+same_make (Making b i f) (Saw wd) c p q = absurd p
+same_make (Making b i f) (Matched wd) c p q = absurd p
+same_make (Making b i f) (Refill stage cell wd line) c p q = absurd p
 same_make (Making b i f) (Returning kind n funds k) c p q = absurd p
 same_make (Making b i f) Rest c p q = absurd p
 same_make Rest b c p q = absurd p
 same_make (Locking word) b c p q = absurd p
 same_make (Giving n kind x) b c p q = absurd p
 same_make Brought b c p q = absurd p
+same_make (Saw wd) b c p q = absurd p
+same_make (Matched wd) b c p q = absurd p
+same_make (Refill stage cell wd line) b c p q = absurd p
 same_make (Returning kind n funds k) b c p q = absurd p
 
 -- a step of a make that has words left
@@ -167,11 +185,17 @@ ready_half (Making b i f) Rest same is = absurd same
 ready_half (Making b i f) (Locking word) same is = absurd same
 ready_half (Making b i f) (Giving n kind x) same is = absurd same
 ready_half (Making b i f) Brought same is = absurd same
+ready_half (Making b i f) (Saw wd) same is = absurd same
+ready_half (Making b i f) (Matched wd) same is = absurd same
+ready_half (Making b i f) (Refill stage cell wd line) same is = absurd same
 ready_half (Making b i f) (Returning kind n funds k) same is = absurd same
 ready_half Rest h same is = absurd same
 ready_half (Locking word) h same is = absurd same
 ready_half (Giving n kind x) h same is = absurd same
 ready_half Brought h same is = absurd same
+ready_half (Saw wd) h same is = absurd same
+ready_half (Matched wd) h same is = absurd same
+ready_half (Refill stage cell wd line) h same is = absurd same
 ready_half (Returning kind n funds k) h same is = absurd same
 
 pub ready : (d : ℕ) (u v : Sight) → IsAt d u v → is_preparing (half_of v d) ≡ false → Prepares d u v

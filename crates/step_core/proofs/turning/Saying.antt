@@ -19,16 +19,17 @@ use Rattle.control_word.specs.declared.handle.Kind.{Kind}
 use Rattle.control_word.specs.declared.handle.Kind.TheVariants.{Owner, Weak}
 use Rattle.control_word.specs.Histories.{entry}
 use Rattle.step_threads.specs.Courses.{Walk, locked, settled}
-use Rattle.step_table.specs.Deeds.{downgrade, is_enabled, is_last, leave, leave_as, lock, owner_word, read, share, share_as, tell, tell_expired, alias, on}
+use Rattle.step_table.specs.Deeds.{downgrade, is_enabled, is_last, leave, leave_as, lock, by_word, owner_word, read, share, share_as, tell, tell_expired, alias, on}
 use Rattle.step_table.specs.Holdings.{inside, slot}
 use Rattle.step_table.specs.Openings.{opening}
 use Rattle.step_threads.specs.Entries.{History, acted, least, leaves, left_as, made, shared_as, counts, downgrades, expires, gives, giving, locks, reads, shares, aliases}
-use Rattle.step_threads.specs.Scenes.{Scene, full_answer, holding, next, next_of, play, play_from, put_walk, rest_of, rested, rested_walk, said_from, said_of, walk_of, went}
+use Rattle.step_threads.specs.Scenes.{Scene, full_answer, holding, next, next_of, play_from, play_with, put_walk, rest_of, rested, rested_walk, said_from, said_of, walk_of, went}
 use Rattle.step_threads.specs.Steps.{Step, acts, asks, begins, is_event, looks, silent, stepped, story_after, trying}
 use Rattle.step_table.specs.Stories.{Story, after, state}
 use Rattle.step_core.specs.Turning.{Plays, is_acting, turned, turned_by}
-use Rattle.step_core.specs.Worlds.{Sight, scene, sight_by, step_of}
+use Rattle.step_core.specs.Worlds.{Sight, TellsAll, scene, sight_by, step_of}
 use Rattle.step_core.proofs.turning.Ending.{half_after, halves_after, moved, rested_moved}
+use Rattle.step_core.proofs.turning.Telling.{tell_of}
 
 -- what a step of an act says is what the turn says
 said_on : (b : Bool) (x : Said) → turned_by (cond b (Event x) (Quiet x)) ≡ Acted x
@@ -39,10 +40,10 @@ said_on false x = refl
 abbrev pub acted_scene : ℕ → Sight → ℕ → List Task → Act → Scene
 acted_scene d u k ts a =
     let w = walk_of (scene u) d in
-    moved (scene u) d (went (state u.story) d w k ts a) (acted (opening u.story.extent) d w.slots u.story.history a)
+    moved (scene u) d (went (state u.story) d w k ts a) (acted (tell_of u.story a) (opening u.story.extent) d w.slots u.story.history a)
 
 abbrev pub acted_said : ℕ → Sight → ℕ → Act → Said
-acted_said d u k a = said_of (state u.story) d (walk_of (scene u) d).slots (record { statement = k; act = a })
+acted_said d u k a = said_of (tell_of u.story a) (state u.story) d (walk_of (scene u) d).slots (record { statement = k; act = a })
 
 -- a step of an act that is none of a make says what the act says, and leaves what the act makes
 abbrev pub Acts : ℕ → Sight → ℕ → List Task → Act → Step → Type 0
@@ -90,7 +91,7 @@ pub downgraded : (d : ℕ) (v : Story) (o : Option Pointer) → Told d v downgra
 downgraded d v None w = refl
 downgraded d v (Some x) w = refl
 
-pub counted : (d : ℕ) (v : Story) (o : Option Pointer) → Told d v (tell (state v)) (counts (opening v.extent) d v.history) o
+pub counted : (d : ℕ) (v : Story) (o : Option Pointer) → Told d v (tell v) (counts (by_word v) (opening v.extent) d v.history) o
 counted d v None w = refl
 counted d v (Some x) w = refl
 
@@ -141,6 +142,8 @@ lock_so d u k ts (Ask q) x e = cc
 lock_so d u k ts (Offer i c) x e = cc
 lock_so d u k ts (Swap c) x e = cc
 lock_so d u k ts (Exchange i c) x e = cc
+lock_so d u k ts (Load cell) x e = cc
+lock_so d u k ts (Compare name cell weak) x e = cc
 lock_so d u k ts Drop x e = cc
 
 -- a lock of nothing
@@ -202,28 +205,32 @@ pub rest_tasks : (w : Walk) (t : Task) (ts : List Task) → w.endings ≡ [] →
 rest_tasks w t ts none todo = ap (λ (es : List Ending). rest_of es w.todo) none ∙ ap (rest_of []) todo
 
 played : (d : ℕ) (u : Sight) (t : Task) (ts : List Task) → (walk_of (scene u) d).endings ≡ [] → (walk_of (scene u) d).todo ≡ t ∷ ts → d < length u.walks
-    → rested d (acted_scene d u t.statement ts t.act) ≡ play d (scene u)
+    → rested d (acted_scene d u t.statement ts t.act) ≡ play_with (tell_of u.story t.act) d (scene u)
 played d u t ts none todo lt =
     let w = walk_of (scene u) d in
     let z = opening u.story.extent in
-    let h = acted z d w.slots u.story.history t.act in
+    let tell = tell_of u.story t.act in
+    let h = acted tell z d w.slots u.story.history t.act in
     rested_moved (scene u) d (went (state u.story) d w t.statement ts t.act) h lt
     ∙ ap (λ (l : List Task). let w' = went (state u.story) d w t.statement l t.act in put_walk (scene u) d w' (rested_walk z d h w'))
     (sym (rest_tasks w t ts none todo))
-    ∙ ap (play_from (scene u) d w) (sym (next_task w t ts none todo))
+    ∙ ap (play_from tell (scene u) d w) (sym (next_task w t ts none todo))
 
 -- what a thread does whose next act is this
 pub plays_as : (d : ℕ) (u : Sight) (t : Task) (ts : List Task) (x : Step) (r : Stepped) → (walk_of (scene u) d).endings ≡ []
     → (walk_of (scene u) d).todo ≡ t ∷ ts → step_of d u ≡ Some x
-    → r ≡ stepped u.story (step_of d u) → Acts d u t.statement ts t.act x → is_acting x.half ≡ false → d < length u.halves → d < length u.walks
+    → r ≡ stepped u.story (step_of d u) → Acts d u t.statement ts t.act x → TellsAll d u (scene u) (tell_of u.story t.act)
+    → is_acting x.half ≡ false → d < length u.halves → d < length u.walks
     → Plays d u (turned_by r) (sight_by d u (step_of d u))
-plays_as d u t ts x r none todo is answer so rest lt walks =
+plays_as d u t ts x r none todo is answer so tells rest lt walks =
     let w = walk_of (scene u) d in
     let h = half_after d u (Some x) lt in
     subst (λ (o : Option Step). r ≡ stepped u.story o → Plays d u (turned_by r) (sight_by d u o)) (sym is)
     (λ e. record {
+      tell = tell_of u.story t.act;
+      tells = tells;
       answer = ap turned_by e ∙ said_on (is_event u.story x.deed) x.said ∙ ap Acted so.0
-          ∙ ap (λ (o : Option Task). turned (said_from (scene u) d w.slots o)) (sym (next_task w t ts none todo));
+          ∙ ap (λ (o : Option Task). turned (said_from (tell_of u.story t.act) (scene u) d w.slots o)) (sym (next_task w t ts none todo));
       scene = ap (rested d) so.1 ∙ played d u t ts none todo walks;
       done = ap is_acting h ∙ rest;
       halves = halves_after d u (Some x) lt;

@@ -1,5 +1,5 @@
 -- A swap of a cell, step by step.
-use Rattle.std.proofs.Common.{◌≡◌, ℕ, ◌<◌, Bool, true, false, List, [], ◌∷◌, set, refl, sym, ap, subst, ◌∙◌}
+use Rattle.std.proofs.Common.{◌≡◌, ◌≢◌, ℕ, ◌<◌, Bool, true, false, List, [], ◌∷◌, set, refl, sym, ap, subst, ◌∙◌}
 use Rattle.std.specs.Prelude.{Option, Some, None, is_some, option_map}
 use Rattle.std.proofs.lemmas.Bool.{cond-true, cond-false, false≢true}
 use Rattle.std.proofs.lemmas.Option.{same_Some}
@@ -20,16 +20,18 @@ use Rattle.step_threads.specs.declared.half.Half.{Half}
 use Rattle.step_threads.specs.declared.half.Half.TheVariants.{Rest, Making, Locking, Giving, Brought, Saw, Matched, Refill, Returning}
 use Rattle.step_table.specs.declared.holdings.Pointer.{Pointer}
 use Rattle.step_table.specs.declared.past.Deed.TheVariants as deed
+use Rattle.step_threads.specs.declared.said.Answer.{Answer}
 use Rattle.step_threads.specs.declared.said.Stepped.{Stepped}
+use Rattle.step_threads.specs.declared.said.Stepped.TheVariants.{Waited}
 use Rattle.step_table.specs.CellDeeds.{cell_in}
 use Rattle.step_table.specs.Contents.{as_word, held_in, is_of, seen, told}
 use Rattle.step_threads.specs.Courses.{Going, HasCell, cell_at, going, going_from, hand, kind_at, on_going}
 use Rattle.step_threads.specs.Entries.{History, acted, swaps as swaps_in}
-use Rattle.step_table.specs.Deeds.{on}
+use Rattle.step_table.specs.Deeds.{Telling, on}
 use Rattle.step_table.specs.Holdings.{Slots, slot, value}
 use Rattle.step_table.specs.Openings.{opening}
 use Rattle.step_threads.specs.Programs.{IsIn}
-use Rattle.step_threads.specs.Scenes.{walk_of, went}
+use Rattle.step_threads.specs.Scenes.{ended_of, walk_of, went}
 use Rattle.step_threads.specs.Steps.{acts, brings, gives_back, sends, sent, step_at, stepped, swaps}
 use Rattle.step_table.specs.Stories.{Kept, Nothing, Story, added, history_after, state}
 use Rattle.step_core.specs.Turning.{HasBegun, IsAlone, IsInShape, IsSwap, IsTried, Plays, is_acting, is_brought, turned_by}
@@ -39,6 +41,7 @@ use Rattle.step_table.proofs.contained.Coming.{seen_found}
 use Rattle.step_table.proofs.contained.Telling.{swap_tells}
 use Rattle.step_core.proofs.turning.Ending.{same_walks, scene_as}
 use Rattle.step_core.proofs.turning.Saying.{Acts, plays_as}
+use Rattle.step_core.proofs.turning.Telling.{awake, tell_of, tells_unless, told_answer}
 
 -- the event of a swap tells what goes in and what comes out
 swap_told : (v : Story) (d : ℕ) (slots : Slots) (c : CellName) (i : ℕ) → Kept v → d < v.extent.actors → IsIn v.extent.shape c
@@ -67,33 +70,35 @@ goes_from z slots x k c i e is = go (is_of (kind_at x) (value slots k)) refl
         let f : ◌≡◌ {A = Option Going} None (Some (c, i)) = sym (cond-false (is_of (kind_at x) (value slots k)) (Some (x, k)) None q) ∙ e in cc
 
 -- an act that puts a value into a cell
-abbrev Puts : Opening → ℕ → Slots → History → Shape → Act → CellName → ℕ → Type 0
-Puts o d slots h z a c i = (acted o d slots h a ≡ swaps_in o d slots h c i) × Goes z slots c i
+abbrev Puts : Telling → Opening → ℕ → Slots → History → Shape → Act → CellName → ℕ → Type 0
+Puts tell o d slots h z a c i = (acted tell o d slots h a ≡ swaps_in o d slots h c i) × Goes z slots c i
 
-puts_as : (o : Opening) (d : ℕ) (slots : Slots) (h : History) (z : Shape) (a : Act) (c : CellName) (i : ℕ) → going slots a ≡ Some (c, i) → HasCell z a
-    → Puts o d slots h z a c i
-puts_as o d slots h z (Swap x) c i e is =
+puts_as : (tell : Telling) (o : Opening) (d : ℕ) (slots : Slots) (h : History) (z : Shape) (a : Act) (c : CellName) (i : ℕ) → going slots a ≡ Some (c, i) → HasCell z a
+    → Puts tell o d slots h z a c i
+puts_as tell o d slots h z (Swap x) c i e is =
     (ap (on_going (swaps_in o d slots h) h) e, goes_from z slots x (hand slots) c i e is)
-puts_as o d slots h z (Exchange k x) c i e is = (ap (on_going (swaps_in o d slots h) h) e, goes_from z slots x k c i e is)
-puts_as o d slots h z (Make form) c i e is = cc
-puts_as o d slots h z (Share k) c i e is = cc
-puts_as o d slots h z (Downgrade k) c i e is = cc
-puts_as o d slots h z (Lock k must) c i e is = cc
-puts_as o d slots h z (Put k) c i e is = cc
-puts_as o d slots h z (Leave k) c i e is = cc
-puts_as o d slots h z (Clear k) c i e is = cc
-puts_as o d slots h z (Count k) c i e is = cc
-puts_as o d slots h z (Expired k) c i e is = cc
-puts_as o d slots h z (Read k) c i e is = cc
-puts_as o d slots h z (FromThis k kind) c i e is = cc
-puts_as o d slots h z (Alias k j field) c i e is = cc
-puts_as o d slots h z (Move k) c i e is = cc
-puts_as o d slots h z (Ask q) c i e is = cc
-puts_as o d slots h z (Offer k x) c i e is = cc
-puts_as o d slots h z Drop c i e is = cc
+puts_as tell o d slots h z (Exchange k x) c i e is = (ap (on_going (swaps_in o d slots h) h) e, goes_from z slots x k c i e is)
+puts_as tell o d slots h z (Make form) c i e is = cc
+puts_as tell o d slots h z (Share k) c i e is = cc
+puts_as tell o d slots h z (Downgrade k) c i e is = cc
+puts_as tell o d slots h z (Lock k must) c i e is = cc
+puts_as tell o d slots h z (Put k) c i e is = cc
+puts_as tell o d slots h z (Leave k) c i e is = cc
+puts_as tell o d slots h z (Clear k) c i e is = cc
+puts_as tell o d slots h z (Count k) c i e is = cc
+puts_as tell o d slots h z (Expired k) c i e is = cc
+puts_as tell o d slots h z (Read k) c i e is = cc
+puts_as tell o d slots h z (FromThis k kind) c i e is = cc
+puts_as tell o d slots h z (Alias k j field) c i e is = cc
+puts_as tell o d slots h z (Move k) c i e is = cc
+puts_as tell o d slots h z (Ask q) c i e is = cc
+puts_as tell o d slots h z (Offer k x) c i e is = cc
+puts_as tell o d slots h z (Load cell) c i e is = cc
+puts_as tell o d slots h z (Compare name cell weak) c i e is = cc
+puts_as tell o d slots h z Drop c i e is = cc
 
 -- after the swap no act is under way
-no_more : (q : Kind) (k : ℕ) (x : CellWord) (o : Option Block) → is_acting (gives_back q k x o) ≡ false
+pub no_more : (q : Kind) (k : ℕ) (x : CellWord) (o : Option Block) → is_acting (gives_back q k x o) ≡ false
 no_more q k x None = refl
 no_more q k x (Some b) = refl
 
@@ -110,8 +115,8 @@ swaps_so : (d : ℕ) (u : Sight) (k : ℕ) (ts : List Task) (a : Act) (c : CellN
 swaps_so d u k ts a c i can e =
     let w = walk_of (scene u) d in
     let v = u.story in
-    let p = puts_as (opening v.extent) d w.slots v.history v.extent.shape a c i e can.2 in (
-      refl,
+    let p = puts_as (tell_of v a) (opening v.extent) d w.slots v.history v.extent.shape a c i e can.2 in (
+      ap (λ (q : Option Answer). record { statement = k; answer = q; ended = ended_of (state v) w.slots a }) (told_answer v (state v) d w.slots a),
       ap (λ (h : History). record { extent = v.extent; history = h; walks = set u.walks d (went (state v) d w k ts a) })
           (swap_told v d w.slots c i can.1 can.0 p.1.0 p.1.1 ∙ sym p.0),
     )
@@ -125,14 +130,14 @@ sends_so d u k ts a c i None can e is = swaps_so d u k ts a c i can e
 sends_so d u k ts a c i (Some p) can e is = absurd (false≢true (sym is))
 
 pub goes_so : (d : ℕ) (u : Sight) (k : ℕ) (ts : List Task) (a : Act) (g : Option Going) → CanPut d u a → going (walk_of (scene u) d).slots a ≡ g
-    → acted (opening u.story.extent) d (walk_of (scene u) d).slots u.story.history a
+    → acted (tell_of u.story a) (opening u.story.extent) d (walk_of (scene u) d).slots u.story.history a
     ≡ on_going (swaps_in (opening u.story.extent) d (walk_of (scene u) d).slots u.story.history) u.story.history (going (walk_of (scene u) d).slots a)
     → let w = walk_of (scene u) d in
     let x = on_going (sends u.story d w k ts a) (acts u.story d w k ts a None Rest) g in is_acting x.half ≡ false → Acts d u k ts a x
 goes_so d u k ts a None can e by is =
     let w = walk_of (scene u) d in
     let v = u.story in (
-      refl,
+      ap (λ (q : Option Answer). record { statement = k; answer = q; ended = ended_of (state v) w.slots a }) (told_answer v (state v) d w.slots a),
       ap (λ (h : History). record { extent = v.extent; history = h; walks = set u.walks d (went (state v) d w k ts a) })
           (sym (by ∙ ap (on_going (swaps_in (opening v.extent) d w.slots v.history) v.history) e)),
     )
@@ -168,7 +173,7 @@ puts_by d u r (t ∷ ts) e todo way begun answer =
     let none = subst (λ (h : Half). IsAlone h w.endings) e begun.alone in
     let cell = subst (λ (l : List Task). IsInShape u.story.extent.shape l) todo begun.cell in
     plays_as d u t ts y r none todo is answer (swaps_so d u t.statement ts t.act g.0.0 g.0.1 (begun.seat, begun.kept, cell) g.1)
-    (swap_over d u t.statement ts t.act g.0.0 g.0.1) begun.within begun.walks
+    (tells_unless d u (λ (a : Act). going w.slots a ≡ Some g.0) t.act (λ i q. cc) g.1) (swap_over d u t.statement ts t.act g.0.0 g.0.1) begun.within begun.walks
 
 puts_so : (d : ℕ) (u : Sight) (r : Stepped) (h : Half) → half_of u d ≡ h → is_brought h ≡ true → HasBegun d u → r ≡ stepped u.story (step_of d u)
     → Plays d u (turned_by r) (sight_by d u (step_of d u))
@@ -177,10 +182,13 @@ puts_so d u r (Making b i f) e is begun answer = absurd (false≢true is)
 puts_so d u r (Locking word) e is begun answer = absurd (false≢true is)
 puts_so d u r (Giving i kind x) e is begun answer = absurd (false≢true is)
 puts_so d u r (Returning kind b funds k) e is begun answer = absurd (false≢true is)
+puts_so d u r (Saw wd) e is begun answer = absurd (false≢true is)
+puts_so d u r (Matched wd) e is begun answer = absurd (false≢true is)
+puts_so d u r (Refill stage cell wd line) e is begun answer = absurd (false≢true is)
 puts_so d u r Brought e is begun answer =
     let w = walk_of (scene u) d in puts_by d u r w.todo e refl (subst (λ (h : Half). IsTried h w) e begun.tried) begun answer
 
 -- a swap whose funds are brought is done
-pub puts : (d : ℕ) (u v : Sight) (r : Stepped) → is_brought (half_of u d) ≡ true → HasBegun d u → Steps d u r v → Plays d u (turned_by r) v
-puts d u v r is begun steps =
-    subst (λ (w : Sight). Plays d u (turned_by r) w) (sym steps.1) (puts_so d u r (half_of u d) refl is begun steps.0)
+pub puts : (d : ℕ) (u v : Sight) (r : Stepped) → is_brought (half_of u d) ≡ true → HasBegun d u → Steps d u r v → r ≢ Waited → Plays d u (turned_by r) v
+puts d u v r is begun steps never =
+    subst (λ (w : Sight). Plays d u (turned_by r) w) (sym steps.1) (puts_so d u r (half_of u d) refl is begun (awake d u v r steps never).1)

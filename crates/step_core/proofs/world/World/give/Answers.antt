@@ -9,7 +9,7 @@ pub returns-clause-plays : goal.returns-clause-plays
 returns-clause-plays c =
     let s = c.advance.ensures in
     subst (λ (t : Turned). Plays c.args.number c.args.self.now t c.advance.new.self) (sym c.turned.ensures)
-    (gives c.args.number c.args.self.now c.advance.new.self c.advance.result c.requires.giving s.was s.steps)
+    (gives c.args.number c.args.self.now c.advance.new.self c.advance.result c.requires.giving s.was s.steps s.never)
 
 pub returns-clause-goes : goal.returns-clause-goes
 returns-clause-goes c =

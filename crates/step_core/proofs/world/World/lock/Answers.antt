@@ -9,15 +9,15 @@ pub returns-then-is_event-clause-plays : goal.returns-then-is_event-clause-plays
 returns-then-is_event-clause-plays c =
     let s = c.advance-stepped.ensures in
     subst (λ (t : Turned). Plays c.args.number c.args.self.now t c.advance-stepped.new.self) (sym c.turned.ensures)
-    (lock_first c.args.number c.args.self.now c.advance-stepped.new.self c.advance-stepped.result c.requires.locking s.was s.steps
+    (lock_first c.args.number c.args.self.now c.advance-stepped.new.self c.advance-stepped.result c.requires.locking s.was s.steps s.never
     (sym c.is_event.ensures ∙ c.if-is_event.true))
 
 pub returns-clause-plays : goal.returns-clause-plays
 returns-clause-plays c =
     let s = c.advance-stepped.ensures in
     subst (λ (t : Turned). Plays c.args.number c.args.self.now t c.advance.new.self) (sym c.turned-2.ensures)
-    (lock_second c.args.number c.args.self.now c.advance-stepped.new.self c.advance.new.self c.advance-stepped.result c.advance.result c.requires.locking s.was s.steps
-    (sym c.is_event.ensures ∙ c.if-is_event.false) c.advance.ensures.was c.advance.ensures.steps)
+    (lock_second c.args.number c.args.self.now c.advance-stepped.new.self c.advance.new.self c.advance-stepped.result c.advance.result c.requires.locking s.was s.steps s.never
+    (sym c.is_event.ensures ∙ c.if-is_event.false) c.advance.ensures.was c.advance.ensures.steps c.advance.ensures.never)
 
 pub returns-then-is_event-clause-goes : goal.returns-then-is_event-clause-goes
 returns-then-is_event-clause-goes c =

@@ -8,7 +8,8 @@ use Rattle.step_core.proofs.world.World.make.Goals as goal
 pub returns-clause-plays : goal.returns-clause-plays
 returns-clause-plays c =
     subst (λ (t : Turned). Plays c.args.number c.args.self.now t c.advance.new.self) (sym c.turned.ensures)
-    (makes c.args.number c.args.self.now c.prepare.new.self c.advance.new.self c.advance.result c.prepare.ensures.prepares c.advance.ensures.was c.advance.ensures.steps)
+    (makes c.args.number c.args.self.now c.prepare.new.self c.advance.new.self c.advance.result c.prepare.ensures.goes
+    c.prepare.ensures.prepares c.advance.ensures.was c.advance.ensures.steps c.advance.ensures.never)
 
 pub returns-clause-goes : goal.returns-clause-goes
 returns-clause-goes c =

@@ -7,7 +7,7 @@ use Rattle.step_core.proofs.world.World.turn.Goals as goal
 pub returns-clause-turns : goal.returns-clause-turns
 returns-clause-turns c =
     subst (λ (n : ℕ). Turns (n - 1) c.args.self.now c.act-turned.result c.rest-2.new.self) c.from-number.ensures
-    (turns _ c.args.self.now c.rest.new.self c.act-turned.new.self c.rest-2.new.self c.act-turned.result c.rest.ensures.rests c.act-turned.ensures.plays
+    (turns _ c.args.self.now c.rest.new.self c.act-turned.new.self c.rest-2.new.self c.act-turned.result c.rest.ensures.goes c.rest.ensures.rests c.act-turned.ensures.plays
     c.rest-2.ensures.rests)
 
 pub returns-clause-steps : goal.returns-clause-steps

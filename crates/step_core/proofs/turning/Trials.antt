@@ -1,0 +1,145 @@
+-- What a step of a load or a compare does: it is the act, or one on its way.
+use Rattle.std.proofs.Common.{◌≡◌, ◌≢◌, ◌⊎◌, inl, inr, ℕ, ◌<◌, ◌==◌, Bool, true, false, cond, not, ◌&&◌, List, [], ◌∷◌, length, set, refl, sym, ap, subst, ◌∙◌, ⊎_elim, arith}
+use Rattle.std.proofs.Common.{eq-eqb}
+use Rattle.std.specs.Prelude.{Option, Some, None, is_some}
+use Rattle.std.proofs.lemmas.Bool.{cond_both, eqb-true, false≢true}
+use Rattle.std.proofs.lemmas.List.{set-get_or, set-set}
+use Rattle.control_word.specs.declared.cell.CellWord.{CellWord}
+use Rattle.control_word.specs.declared.handle.Kind.{Kind}
+use Rattle.control_word.specs.declared.place.Block.{Block}
+use Rattle.control_word.specs.Packing.{IsCellWord, cell_bits}
+use Rattle.step_table.specs.declared.cell_deed.Cell.{Cell}
+use Rattle.step_table.specs.declared.cell_deed.CellDeed.TheVariants.{Bring, CompareSwap, Look, Take}
+use Rattle.step_table.specs.declared.cell_deed.Compared.{Compared}
+use Rattle.step_table.specs.declared.holdings.Pointer.{Pointer}
+use Rattle.step_table.specs.declared.past.Deed.TheVariants.{OnCell}
+use Rattle.step_table.specs.CellDeeds.{kind_in}
+use Rattle.step_table.specs.Cells.{word_at}
+use Rattle.step_table.specs.Contents.{as_word, compared_in, is_spent, same_value, seen}
+use Rattle.step_table.specs.Deeds.{on}
+use Rattle.step_table.specs.Holdings.{Slots, slot, value}
+use Rattle.step_table.specs.declared.refill.Stage.TheVariants.{Turning}
+use Rattle.step_table.specs.Refills.{more_taken}
+use Rattle.step_table.specs.Stories.{Kept, Story, after, state}
+use Rattle.step_table.proofs.contained.Coming.{open_found}
+use Rattle.step_table.proofs.contained.Telling.{compare_swap_tells, differing_tells, look_tells, take_tells}
+use Rattle.step_table.proofs.holding.Owning.{slot_held}
+use Rattle.step_threads.specs.declared.act.Act.{Act}
+use Rattle.step_threads.specs.declared.act.Act.TheVariants.{Make, Share, Downgrade, Lock, Put, Leave, Clear, Count, Expired, Read, FromThis, Alias, Move, Ask, Offer, Swap, Exchange, Load, Compare, Drop}
+use Rattle.step_threads.specs.declared.act.Task.{Task}
+use Rattle.step_threads.specs.declared.call.CellName.{CellName}
+use Rattle.step_threads.specs.declared.ending.Ending.{Ending}
+use Rattle.step_threads.specs.declared.half.Half.{Half}
+use Rattle.step_threads.specs.declared.half.Half.TheVariants.{Rest, Making, Locking, Giving, Brought, Saw, Matched, Refill, Returning}
+use Rattle.step_threads.specs.declared.said.Said.{Said}
+use Rattle.step_threads.specs.declared.said.Stepped.{Stepped}
+use Rattle.step_threads.specs.declared.said.Stepped.TheVariants.{Event, Quiet, Waited}
+use Rattle.step_threads.specs.Courses.{HasCell, Walk, cell_at, comparing, hand}
+use Rattle.step_threads.specs.Scenes.{Scene, walk_of}
+use Rattle.step_threads.specs.Steps.{Step, acts, at_rest, begun, fetches, first, gives_back, is_event as is_done, matched, matched_on, matches, missed, returns, saw, saw_on, sees, settles, step_at, stepped, story_after, takes, waits_on, within}
+use Rattle.step_threads.specs.Threads.{IsMatchedBy, IsSeenBy}
+use Rattle.step_core.specs.Turning.{HasBegun, IsAlone, IsMatched, IsProper, IsSeen, IsTried, Plays, is_acting, is_event, is_trying, turned_by}
+use Rattle.step_core.specs.Worlds.{GoesTo, Sight, Steps, half_of, scene, sight_by, step_of}
+use Rattle.step_threads.proofs.CellNames.{cell_open}
+use Rattle.step_core.proofs.turning.Looking.{CanLook, awake_on, can_look, compare_so, found_now, load_so, may_compare, unlike_so}
+use Rattle.step_core.proofs.turning.Refilling.{brought_word, kept_block}
+use Rattle.step_core.proofs.turning.Saying.{Acts}
+use Rattle.step_core.proofs.turning.Swapping.{no_more}
+
+-- an act that looks at a cell before it does anything
+abbrev pub is_looking : Act → Bool
+is_looking (Load c) = true
+is_looking (Compare k c weak) = true
+is_looking _ = false
+
+-- its cell shows what was seen
+abbrev pub shows_on : Story → CellWord → Act → Bool
+shows_on v x (Load c) = word_at v (cell_at (state v) c) == cell_bits x
+shows_on v x (Compare k c weak) = word_at v (cell_at (state v) c) == cell_bits x
+shows_on v x _ = false
+
+-- the steps that it has left, where nobody else steps: what was seen and is so still is done next, and else it begins again
+abbrev pub left_on : Story → Act → Half → ℕ
+left_on v a Rest = 4
+left_on v a (Saw x) = cond (shows_on v x a) 3 7
+left_on v a (Matched x) = cond (shows_on v x a) 2 6
+left_on v a (Returning kind b funds k) = 5
+left_on v a _ = 0
+
+-- on the way, or back at the beginning
+abbrev pub is_trial : Half → Bool
+is_trial Rest = true
+is_trial (Saw x) = true
+is_trial (Matched x) = true
+is_trial (Returning kind b funds k) = true
+is_trial _ = false
+
+-- a step on the way, which is no event
+pub record Tried (d : ℕ) (v : Story) (w : Walk) (a : Act) (h : Half) (x : Step) : Type 0 where
+  pub quiet : is_done v x.deed ≡ false
+  pub walk : x.walk ≡ w
+  pub history : (story_after v d x.deed).history ≡ v.history
+  pub extent : (story_after v d x.deed).extent ≡ v.extent
+  pub half : is_trial x.half ≡ true
+  pub less : left_on (story_after v d x.deed) a x.half < left_on v a h
+
+-- the step that is the act
+pub record Done (d : ℕ) (u : Sight) (k : ℕ) (ts : List Task) (a : Act) (x : Step) : Type 0 where
+  pub event : is_done u.story x.deed ≡ true
+  pub so : Acts d u k ts a x
+  pub over : is_acting x.half ≡ false
+
+abbrev pub Outcome : ℕ → Sight → ℕ → List Task → Act → Half → Step → Type 0
+Outcome d u k ts a h x = Done d u k ts a x ⊎ Tried d u.story (walk_of (scene u) d) a h x
+
+module _ (d : ℕ) (u : Sight) (k : ℕ) (ts : List Task) (a : Act) (c : Cell) (x : CellWord) where
+  -- what a look does that doesn't wait
+  pub sees_out : (y : Option Compared) → is_spent x ≡ false → shows_on u.story x a ≡ true
+      → Acts d u k ts a (acts u.story d (walk_of (scene u) d) k ts a (Some (OnCell (Look c x y))) Rest)
+      → Outcome d u k ts a Rest (sees u.story d (walk_of (scene u) d) k ts a c y x)
+  sees_out y spent shows so =
+      let w = walk_of (scene u) d in
+      let look = acts u.story d w k ts a (Some (OnCell (Look c x y))) Rest in
+      cond_both (is_spent x) (within w k None Rest) (cond (is_some x.owned) (within w k None (Saw x)) look) (Outcome d u k ts a Rest)
+      (λ t. absurd (false≢true (sym spent ∙ t)))
+      (λ f. cond_both (is_some x.owned) (within w k None (Saw x)) look (Outcome d u k ts a Rest) (λ t. inr saw_now)
+      (λ f. inl (record { event = refl; so = so; over = refl })))
+    where
+      saw_now : Tried d u.story (walk_of (scene u) d) a Rest (within (walk_of (scene u) d) k None (Saw x))
+      saw_now =
+          let n : left_on u.story a (Saw x) ≡ 3 = ap (λ (b : Bool). cond b 3 7) shows in
+          record { quiet = refl; walk = refl; history = refl; extent = refl; half = refl; less = omega (arith, n) }
+
+  -- a fund is taken, or the act begins again
+  pub takes_out : (y : Option Compared) → shows_on u.story x a ≡ (word_at u.story c == cell_bits x)
+      → ((word_at u.story c == cell_bits x) ≡ true
+      → Acts d u k ts a (acts u.story d (walk_of (scene u) d) k ts a (Some (OnCell (Take c x y))) (Refill Turning c (more_taken x) k)))
+      → Outcome d u k ts a (Saw x) (takes u.story d (walk_of (scene u) d) k ts a c y x)
+  takes_out y shows so =
+      let v = u.story in
+      let w = walk_of (scene u) d in
+      cond_both (word_at v c == cell_bits x) (acts v d w k ts a (Some (OnCell (Take c x y))) (Refill Turning c (more_taken x) k)) (within w k None Rest)
+      (Outcome d u k ts a (Saw x)) (λ t. inl (record { event = refl; so = so t; over = refl }))
+      (λ f. let n : left_on v a (Saw x) ≡ 7 = ap (λ (b : Bool). cond b 3 7) (shows ∙ f) in
+      inr (record { quiet = refl; walk = refl; history = refl; extent = refl; half = refl; less = omega (arith, n) }))
+
+  missed_trial : (o : Option Pointer) → (is_trial (missed k o) ≡ true) × (left_on u.story a (missed k o) < 6)
+  missed_trial None = (refl, omega arith)
+  missed_trial (Some p) = (refl, omega arith)
+
+  -- the cell is swapped, or what was brought is given back and the act begins again
+  pub matches_out : (y : Compared) (h : Half) → ((word_at u.story c == cell_bits x) ≡ false → 5 < left_on u.story a h)
+      → ((word_at u.story c == cell_bits x) ≡ true → Acts d u k ts a (acts u.story d (walk_of (scene u) d) k ts a (Some (OnCell (CompareSwap c x y)))
+      (gives_back (kind_in (state u.story) c) k x x.owned)))
+      → Outcome d u k ts a h (matches u.story d (walk_of (scene u) d) k ts a c y x)
+  matches_out y h much so =
+      let v = u.story in
+      let w = walk_of (scene u) d in
+      let g = gives_back (kind_in (state v) c) k x x.owned in
+      let m = missed k (slot w.slots (hand w.slots)) in
+      cond_both (word_at v c == cell_bits x) (acts v d w k ts a (Some (OnCell (CompareSwap c x y))) g) (within w k None m) (Outcome d u k ts a h)
+      (λ t. inl (record { event = refl; so = so t; over = no_more (kind_in (state v) c) k x x.owned }))
+      (λ f. let p = missed_trial (slot w.slots (hand w.slots)) in
+      let low = p.1 in
+      let n = much f in
+      inr (record { quiet = refl; walk = refl; history = refl; extent = refl; half = p.0; less = omega (arith, low, n) }))
