@@ -6,18 +6,18 @@ use Rattle.std.proofs.lemmas.Bool.{cases_eq, cases_lt, cond_both}
 use Rattle.std.proofs.lemmas.List.{get_or_past, length-set}
 use Rattle.control_word.specs.State.{State}
 use Rattle.step_threads.specs.declared.act.Act.{Act}
-use Rattle.step_threads.specs.declared.act.Act.TheVariants.{Make, Share, Downgrade, Alias, Move, FromThis, Lock, Put, Leave, Clear, Count, Expired, Read, Ask, Offer, Swap, Exchange, Drop}
+use Rattle.step_threads.specs.declared.act.Act.TheVariants.{Make, Share, Downgrade, Alias, Move, FromThis, Lock, Put, Leave, Clear, Count, Expired, Read, Ask, Offer, Swap, Exchange, Load, Compare, Drop}
 use Rattle.step_threads.specs.declared.act.Task.{Task}
 use Rattle.step_threads.specs.declared.ending.Ending.{Ending}
 use Rattle.step_table.specs.declared.holdings.Pointer.{Pointer}
 use Rattle.step_threads.specs.declared.call.CellName.{CellName}
 use Rattle.step_table.specs.declared.slot.Slot.{Slot}
-use Rattle.step_table.specs.Contents.{swapped}
+use Rattle.step_table.specs.Contents.{differed, swapped}
 use Rattle.step_threads.specs.Courses.{Going, Walk, going, hand, idle, locked, on_going, other, placed, settled, slots_idle, taken_idle}
 use Rattle.step_table.specs.Deeds.{this_as}
 use Rattle.step_table.specs.Holdings.{Slots, inside, plain, slot, value}
-use Rattle.step_threads.specs.Entries.{giving, least}
-use Rattle.step_threads.specs.Scenes.{came, endings_by, found, hands, holding, taking, went}
+use Rattle.step_threads.specs.Entries.{giving, is_expected, least}
+use Rattle.step_threads.specs.Scenes.{came, compared, endings_by, found, hands, holding, taking, went}
 
 -- ---- the tasks and endings of a settled thread
 
@@ -62,6 +62,9 @@ idle_size (Offer k c) slots taken = refl
 idle_size (Swap c) slots true = placed_size (other slots) slots
 idle_size (Swap c) slots false = refl
 idle_size (Exchange k c) slots taken = refl
+idle_size (Load c) slots taken = refl
+idle_size (Compare k c weak) slots true = placed_size (other slots) slots
+idle_size (Compare k c weak) slots false = refl
 idle_size Drop slots taken = length-set slots (other slots) plain
 
 pub settled_size : (ts : List Task) (slots : Slots) (taken : Bool) (es : List Ending) → length (settled slots taken es ts).slots ≡ length slots
@@ -83,10 +86,17 @@ taking_size slots must (Some x) = length-set slots (hand slots) _
 swapped_size : (i k : ℕ) (slots : Slots) (x : Slot) → length (swapped i k slots x) ≡ length slots
 swapped_size i k slots x = length-set (slice_set slots k x) i plain ∙ length-set slots k x
 
+differed_size : (i k : ℕ) (slots : Slots) (x : Slot) → length (differed i k slots x) ≡ length slots
+differed_size i k slots x = length-set (slice_set slots k (value slots i)) i x ∙ length-set slots k (value slots i)
+
 going_size : (f : CellName → ℕ → Slots) (slots : Slots) (o : Option Going) → ((c : CellName) (k : ℕ) → length (f c k) ≡ length slots)
     → length (on_going f slots o) ≡ length slots
 going_size f slots None size = refl
 going_size f slots (Some x) size = size x.0 x.1
+
+compared_size : (slots : Slots) (x : Slot) (yes : Bool) → length (compared slots x yes).0 ≡ length slots
+compared_size slots x true = swapped_size (hand slots) (other slots) slots x
+compared_size slots x false = differed_size (hand slots) (other slots) slots x
 
 hands_size : (s : State) (d : ℕ) (slots : Slots) (taken : Bool) (a : Act) → length (hands s d slots taken a).0 ≡ length slots
 hands_size s d slots taken (Make form) = holding_size slots form.null (least d s.stores)
@@ -109,6 +119,8 @@ hands_size s d slots taken (Swap c) =
     (λ x i. swapped_size i (other slots) slots (came s x))
 hands_size s d slots taken (Exchange k c) =
     going_size (λ x i. slice_set slots i (came s x)) slots (going slots (Exchange k c)) (λ x i. length-set slots i (came s x))
+hands_size s d slots taken (Load c) = length-set slots (hand slots) _
+hands_size s d slots taken (Compare k c weak) = compared_size slots (came s c) (is_expected s slots k c)
 hands_size s d slots taken Drop = length-set slots (other slots) plain
 
 -- ---- a thread after an act alone
@@ -180,6 +192,9 @@ free_idle (Offer k c) slots taken h = h
 free_idle (Swap c) slots true h = free_placed (other slots) slots
 free_idle (Swap c) slots false h = h
 free_idle (Exchange k c) slots taken h = h
+free_idle (Load c) slots taken h = h
+free_idle (Compare k c weak) slots true h = free_placed (other slots) slots
+free_idle (Compare k c weak) slots false h = h
 free_idle Drop slots taken h = free_dropped slots h
 
 free_settled : (ts : List Task) (slots : Slots) (taken : Bool) (es : List Ending) → IsFree slots → IsFree (settled slots taken es ts).slots

@@ -3,6 +3,7 @@ pub mod Beginning
 pub mod Answering
 pub mod ClosingLemmas
 pub mod EndLemmas
+pub mod Exact
 pub mod LineLemmas
 pub mod OneTurn
 pub mod Overs

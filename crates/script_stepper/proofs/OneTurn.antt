@@ -10,6 +10,7 @@ use Rattle.step_threads.specs.declared.half.Half.TheVariants.{Rest}
 use Rattle.step_threads.specs.declared.said.Said.{Said}
 use Rattle.step_threads.specs.declared.said.Turned.TheVariants.{Acted, Done}
 use Rattle.step_threads.specs.Courses.{Walk}
+use Rattle.step_table.specs.Deeds.{exact}
 use Rattle.step_table.specs.Openings.{opening}
 use Rattle.step_threads.specs.Entries.{acted}
 use Rattle.step_threads.specs.Scenes.{Scene, next, nowhere, play, play_from, put_walk, rest_of, rested, said, state_in, walk_of}
@@ -21,6 +22,7 @@ use Rattle.script_stepper.specs.Lines.{item_lines, said_lines}
 use Rattle.script_stepper.specs.Running.{AllRest, HasRun, Waits, turns_left}
 use Rattle.script_stepper.specs.Traces.{Item, heard, told}
 use Rattle.script_stepper.proofs.Acting.{went_size}
+use Rattle.script_stepper.proofs.Exact.{play_exact, said_exact}
 use Rattle.script_stepper.proofs.LineLemmas.{flat_map-one}
 use Rattle.script_stepper.proofs.TraceLemmas.{play_done, play_other, play_size, said_done}
 use Rattle.script_stepper.proofs.TurnsLeft.{InOrder, next_walk, next_wound, play_less, play_most, put}
@@ -37,17 +39,17 @@ at_rest u d rests lt = rested_same (scene u) d (rests.walks d lt)
 
 -- ---- after it the world is at rest
 
-waits_at : (c : Scene) (d : ℕ) (o : Option Task) → d < length c.walks → Waits (walk_of c d) → Waits (walk_of (play_from c d (walk_of c d) o) d)
+waits_at : (c : Scene) (d : ℕ) (o : Option Task) → d < length c.walks → Waits (walk_of c d) → Waits (walk_of (play_from exact c d (walk_of c d) o) d)
 waits_at c d None lt h = h
 waits_at c d (Some t) lt h =
     let w = next_walk c d (walk_of c d) t in
     let x = next_wound c d (walk_of c d) t in
     let z = opening c.extent in
-    let after = acted z d (walk_of c d).slots c.history t.act in
+    let after = acted exact z d (walk_of c d).slots c.history t.act in
     let size = went_size (state_in c) d (walk_of c d) t.statement (rest_of (walk_of c d).endings (walk_of c d).todo) t.act in
     let more = rested_size z d after w in
     let some = h.some in
-    let here : walk_of (play_from c d (walk_of c d) (Some t)) d ≡ put w x = get_or-set_same c.walks d (put w x) nowhere lt in
+    let here : walk_of (play_from exact c d (walk_of c d) (Some t)) d ≡ put w x = get_or-set_same c.walks d (put w x) nowhere lt in
     subst Waits (sym here) (record { some = omega (arith, size, more, some); endings = rested_waits z d after w (omega (arith, size, some)) })
 
 play_waits : (c : Scene) (d e : ℕ) → d < length c.walks → e < length c.walks → ((i : ℕ) → i < length c.walks → Waits (walk_of c i))
@@ -93,10 +95,11 @@ pub record Turn (d : ℕ) (u u' : Sight) (x : Option Said) : Type 0 where
 pub acted_turn : (d : ℕ) (u u' : Sight) (x : Said) → AllRest u → d < length u.walks → Kept u'.story → Turns d u (Acted x) u' → Turn d u u' (Some x)
 acted_turn d u u' x rests lt kept t =
     let same = at_rest u d rests lt in
-    let is : scene u' ≡ play d (scene u) = t.1 ∙ ap (play d) same in
+    let c = rested d (scene u) in
+    let is : scene u' ≡ play d (scene u) = t.3 ∙ play_exact u d c t.0 rests t.1 ∙ ap (play d) same in
     record {
-      rests = rests_on u u' d rests lt is t.2;
-      says = t.0 ∙ ap (said d) same;
+      rests = rests_on u u' d rests lt is t.4;
+      says = t.2 ∙ said_exact u d c t.0 rests t.1 ∙ ap (said d) same;
       scene_is = is;
       order = in_order u' (play d (scene u)) kept is;
     }

@@ -6,14 +6,14 @@ use Rattle.control_word.specs.declared.handle.Kind.TheVariants.{Owner, Weak}
 use Rattle.control_word.specs.Histories.{entry, leads}
 use Rattle.control_word.specs.State.{Opening, State}
 use Rattle.step_threads.specs.declared.act.Act.{Act}
-use Rattle.step_threads.specs.declared.act.Act.TheVariants.{Make, Share, Downgrade, Alias, Move, FromThis, Lock, Put, Leave, Clear, Count, Expired, Read, Ask, Offer, Swap, Exchange, Drop}
+use Rattle.step_threads.specs.declared.act.Act.TheVariants.{Make, Share, Downgrade, Alias, Move, FromThis, Lock, Put, Leave, Clear, Count, Expired, Read, Ask, Offer, Swap, Exchange, Load, Compare, Drop}
 use Rattle.step_table.specs.declared.form.Form.{Form}
 use Rattle.step_threads.specs.declared.ending.Ending.{Ending}
 use Rattle.step_table.specs.declared.holdings.Pointer.{Pointer}
 use Rattle.step_threads.specs.Courses.{Going, going, locked, offered, on_going, other}
-use Rattle.step_table.specs.Deeds.{aliased, is_last, on}
+use Rattle.step_table.specs.Deeds.{aliased, exact, is_last, on}
 use Rattle.step_table.specs.Holdings.{Slots, inside, owner_slot, place_in, slot}
-use Rattle.step_threads.specs.Entries.{History, acted, aliases, counts, downgrades, expires, given_as, gives, giving, least, leaves, left_as, locks, made, reads, shared_as, shares, swaps}
+use Rattle.step_threads.specs.Entries.{History, acted, aliases, counts, downgrades, compares, expires, given_as, gives, giving, least, leaves, left_as, loads, locks, made, reads, shared_as, shares, swaps}
 use Rattle.step_threads.specs.Scenes.{begins_end, begins_end_as, endings_by}
 use Rattle.step_core.specs.Totals.{ended_in, made_in}
 use Rattle.script_stepper.specs.Running.{parts_left}
@@ -79,14 +79,14 @@ swapped z d slots h es None = same 0 h h es refl refl
 swapped z d slots h es (Some x) = same 0 h (swaps z d slots h x.0 x.1) es refl refl
 
 pub tally : (z : Opening) (d k : ℕ) (slots : Slots) (h : History) (es : List Ending) (a : Act)
-    → Tally (may_make a) h es (acted z d slots h a) (endings_by (leads z h) k slots es a)
+    → Tally (may_make a) h es (acted exact z d slots h a) (endings_by (leads z h) k slots es a)
 tally z d k slots h es (Make form) = make_tally d form h es (least d (leads z h).stores)
 tally z d k slots h es (Share i) =
     same_on (shares z d h) h es (slot slots i) (λ p. shared_made d h (leads z h) p p.kind) (λ p. shared_ended d h (leads z h) p p.kind)
 tally z d k slots h es (Put i) = left_tally z d k h es (slot slots i)
 tally z d k slots h es (Leave i) = left_tally z d k h es (slot slots i)
 tally z d k slots h es (Clear i) = left_tally z d k h es (slot slots i)
-tally z d k slots h es (Count i) = same_on (counts z d h) h es (slot slots i) (λ p. refl) (λ p. refl)
+tally z d k slots h es (Count i) = same_on (counts exact z d h) h es (slot slots i) (λ p. refl) (λ p. refl)
 tally z d k slots h es (Downgrade i) = same_on (downgrades z d h) h es (slot slots i) (λ p. refl) (λ p. refl)
 tally z d k slots h es (Lock i must) = same_on (locks z d h) h es (locked slots (Lock i must)) (λ p. refl) (λ p. refl)
 tally z d k slots h es (Expired i) = same_on (expires z d h) h es (slot slots i) (λ p. refl) (λ p. refl)
@@ -102,4 +102,6 @@ tally z d k slots h es (Offer i c) =
     same_on (shares z d h) h es (offered slots i c) (λ p. shared_made d h (leads z h) p p.kind) (λ p. shared_ended d h (leads z h) p p.kind)
 tally z d k slots h es (Swap c) = swapped z d slots h es (going slots (Swap c))
 tally z d k slots h es (Exchange i c) = swapped z d slots h es (going slots (Exchange i c))
+tally z d k slots h es (Load c) = same 0 h (loads z d h c) es refl refl
+tally z d k slots h es (Compare i c weak) = same 0 h (compares z d slots h i c weak) es refl refl
 tally z d k slots h es Drop = left_tally z d k h es (slot slots (other slots))

@@ -8,6 +8,7 @@ use Rattle.step_threads.specs.declared.act.Task.{Task}
 use Rattle.step_threads.specs.declared.ending.Ending.{Ending}
 use Rattle.step_threads.specs.declared.said.Said.{Said}
 use Rattle.step_threads.specs.Courses.{Walk}
+use Rattle.step_table.specs.Deeds.{exact}
 use Rattle.step_table.specs.Holdings.{Slots}
 use Rattle.step_threads.specs.Scenes.{Scene, next, next_of, nowhere, play, play_from, said, said_from, walk_of}
 use Rattle.script_stepper.specs.Traces.{Item, heard, plays, told}
@@ -40,12 +41,12 @@ pub none_endings : (w : Walk) → next w ≡ None → w.endings ≡ []
 none_endings w e = none_endings_of w.slots w.endings w.todo e
 
 pub play_done : (d : ℕ) (c : Scene) → next (walk_of c d) ≡ None → play d c ≡ c
-play_done d c e = ap (play_from c d (walk_of c d)) e
+play_done d c e = ap (play_from exact c d (walk_of c d)) e
 
 pub said_done : (d : ℕ) (c : Scene) → next (walk_of c d) ≡ None → said d c ≡ None
-said_done d c e = ap (said_from c d (walk_of c d).slots) e
+said_done d c e = ap (said_from exact c d (walk_of c d).slots) e
 
-done_at : (c : Scene) (d : ℕ) (slots : Slots) (o : Option Task) → said_from c d slots o ≡ None → o ≡ None
+done_at : (c : Scene) (d : ℕ) (slots : Slots) (o : Option Task) → said_from exact c d slots o ≡ None → o ≡ None
 done_at c d slots None e = refl
 done_at c d slots (Some t) e = absurd cc
 
@@ -64,21 +65,21 @@ idle_told (suc j) thread c e =
 
 -- ---- what a turn leaves alone
 
-other_at : (c : Scene) (d e : ℕ) (w : Walk) (o : Option Task) → e ≢ d → walk_of (play_from c d w o) e ≡ walk_of c e
+other_at : (c : Scene) (d e : ℕ) (w : Walk) (o : Option Task) → e ≢ d → walk_of (play_from exact c d w o) e ≡ walk_of c e
 other_at c d e w None ne = refl
 other_at c d e w (Some t) ne = get_or-set_other c.walks d e _ nowhere ne
 
 pub play_other : (d e : ℕ) (c : Scene) → e ≢ d → walk_of (play d c) e ≡ walk_of c e
 play_other d e c ne = other_at c d e (walk_of c d) (next (walk_of c d)) ne
 
-size_at : (c : Scene) (d : ℕ) (w : Walk) (o : Option Task) → length (play_from c d w o).walks ≡ length c.walks
+size_at : (c : Scene) (d : ℕ) (w : Walk) (o : Option Task) → length (play_from exact c d w o).walks ≡ length c.walks
 size_at c d w None = refl
 size_at c d w (Some t) = length-set c.walks d _
 
 pub play_size : (d : ℕ) (c : Scene) → length (play d c).walks ≡ length c.walks
 play_size d c = size_at c d (walk_of c d) (next (walk_of c d))
 
-extent_at : (c : Scene) (d : ℕ) (w : Walk) (o : Option Task) → (play_from c d w o).extent ≡ c.extent
+extent_at : (c : Scene) (d : ℕ) (w : Walk) (o : Option Task) → (play_from exact c d w o).extent ≡ c.extent
 extent_at c d w None = refl
 extent_at c d w (Some t) = refl
 

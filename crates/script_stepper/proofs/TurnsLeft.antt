@@ -11,6 +11,7 @@ use Rattle.step_threads.specs.declared.act.Task.{Task}
 use Rattle.step_threads.specs.declared.ending.Ending.{Ending}
 use Rattle.step_threads.specs.declared.said.Said.{Said}
 use Rattle.step_threads.specs.Courses.{Walk, hand}
+use Rattle.step_table.specs.Deeds.{exact}
 use Rattle.step_table.specs.Openings.{opening}
 use Rattle.step_threads.specs.Entries.{acted}
 use Rattle.step_threads.specs.Scenes.{Scene, Wound, next, next_of, nowhere, play, play_from, rest_of, rested_walk, said, said_from}
@@ -27,7 +28,7 @@ abbrev pub by_act : Scene → ℕ → Walk → ℕ → List Task → Act → Wal
 by_act c d w k ts a = went (state_in c) d w k ts a
 
 abbrev pub wound_by : Scene → ℕ → Walk → ℕ → List Task → Act → Wound
-wound_by c d w k ts a = rested_walk (opening c.extent) d (acted (opening c.extent) d w.slots c.history a) (by_act c d w k ts a)
+wound_by c d w k ts a = rested_walk (opening c.extent) d (acted exact (opening c.extent) d w.slots c.history a) (by_act c d w k ts a)
 
 -- at most so many objects were made and so many last owners left; of the tasks at most these are left, and of the endings' parts
 -- so many fewer or more
@@ -39,11 +40,11 @@ pub record Goes (most fewer : ℕ) (c : Scene) (w w' : Walk) (ts : List Task) (x
   pub todo : length w'.todo ≤ length ts
 
 by_tally : (c : Scene) (d : ℕ) (w : Walk) (k : ℕ) (ts : List Task) (a : Act) (fewer : ℕ)
-    → Tally (may_make a) c.history w.endings (acted (opening c.extent) d w.slots c.history a) (by_act c d w k ts a).endings
+    → Tally (may_make a) c.history w.endings (acted exact (opening c.extent) d w.slots c.history a) (by_act c d w k ts a).endings
     → parts_left (wound_by c d w k ts a).endings + fewer ≤ parts_left (by_act c d w k ts a).endings
     → Goes (may_make a) fewer c w (by_act c d w k ts a) ts (wound_by c d w k ts a)
 by_tally c d w k ts a fewer t p =
-    let q = rested_totals (opening c.extent) d (acted (opening c.extent) d w.slots c.history a) (by_act c d w k ts a) in
+    let q = rested_totals (opening c.extent) d (acted exact (opening c.extent) d w.slots c.history a) (by_act c d w k ts a) in
     let q0 = q.0 in
     let q1 = q.1 in
     let m = t.made in
@@ -58,15 +59,15 @@ by_tally c d w k ts a fewer t p =
     }
 
 tallied : (c : Scene) (d : ℕ) (w : Walk) (k : ℕ) (ts : List Task) (a : Act)
-    → Tally (may_make a) c.history w.endings (acted (opening c.extent) d w.slots c.history a) (by_act c d w k ts a).endings
+    → Tally (may_make a) c.history w.endings (acted exact (opening c.extent) d w.slots c.history a) (by_act c d w k ts a).endings
 tallied c d w k ts a =
-    subst (λ (es : List Ending). Tally (may_make a) c.history w.endings (acted (opening c.extent) d w.slots c.history a) es)
+    subst (λ (es : List Ending). Tally (may_make a) c.history w.endings (acted exact (opening c.extent) d w.slots c.history a) es)
     (sym (went_endings (state_in c) d w k ts a)) (tally (opening c.extent) d k w.slots c.history w.endings a)
 
 goes : (c : Scene) (d : ℕ) (w : Walk) (k : ℕ) (ts : List Task) (a : Act)
     → Goes (may_make a) 0 c w (by_act c d w k ts a) ts (wound_by c d w k ts a)
 goes c d w k ts a =
-    let p = rested_parts (opening c.extent) d (acted (opening c.extent) d w.slots c.history a) (by_act c d w k ts a) in
+    let p = rested_parts (opening c.extent) d (acted exact (opening c.extent) d w.slots c.history a) (by_act c d w k ts a) in
     by_tally c d w k ts a 0 (tallied c d w k ts a) (omega (arith, p))
 
 -- what was in hand leaves, and the endings get on
@@ -76,7 +77,7 @@ goes_less c d w k ts some =
     let a : Act = Leave (hand w.slots) in
     let t = tallied c d w k ts a in
     let b = t.parts in
-    let p = rested_less (opening c.extent) d (acted (opening c.extent) d w.slots c.history a) (by_act c d w k ts a)
+    let p = rested_less (opening c.extent) d (acted exact (opening c.extent) d w.slots c.history a) (by_act c d w k ts a)
     (went_free (state_in c) d w k ts) (omega (arith, some, b)) in
     by_tally c d w k ts a 1 t (omega (arith, p))
 
@@ -138,12 +139,12 @@ tasks_put : (c : Scene) (d : ℕ) (w : Walk) → d < length c.walks
 tasks_put c d w lt = sum_by-set (λ (u : Walk). length u.todo) c.walks d w nowhere lt
 
 own_less : (c : Scene) (d : ℕ) (t : Task) → d < length c.walks → GoesNext c d (walk_of c d) t
-    → ended_in (play_from c d (walk_of c d) (Some t)).history ≤ made_in (play_from c d (walk_of c d) (Some t)).history
-    → turns_left d (play_from c d (walk_of c d) (Some t)) < turns_left d c
+    → ended_in (play_from exact c d (walk_of c d) (Some t)).history ≤ made_in (play_from exact c d (walk_of c d) (Some t)).history
+    → turns_left d (play_from exact c d (walk_of c d) (Some t)) < turns_left d c
 own_less c d t lt g sound =
     let w = next_walk c d (walk_of c d) t in
     let x = next_wound c d (walk_of c d) t in
-    let here : walk_of (play_from c d (walk_of c d) (Some t)) d ≡ put w x = get_or-set_same c.walks d (put w x) nowhere lt in
+    let here : walk_of (play_from exact c d (walk_of c d) (Some t)) d ≡ put w x = get_or-set_same c.walks d (put w x) nowhere lt in
     let n = ap (λ (z : Walk). length z.todo) here in
     let p = ap (λ (z : Walk). parts_left z.endings) here in
     let s = tasks_put c d (put w x) lt in
@@ -155,11 +156,11 @@ own_less c d t lt g sound =
     omega (arith, n, p, s, a, b, e, f, o, sound)
 
 others_most : (c : Scene) (d e : ℕ) (t : Task) → e ≢ d → d < length c.walks → GoesNext c d (walk_of c d) t
-    → turns_left e (play_from c d (walk_of c d) (Some t)) ≤ turns_left e c
+    → turns_left e (play_from exact c d (walk_of c d) (Some t)) ≤ turns_left e c
 others_most c d e t ne lt g =
     let w = next_walk c d (walk_of c d) t in
     let x = next_wound c d (walk_of c d) t in
-    let there : walk_of (play_from c d (walk_of c d) (Some t)) e ≡ walk_of c e = get_or-set_other c.walks d e (put w x) nowhere ne in
+    let there : walk_of (play_from exact c d (walk_of c d) (Some t)) e ≡ walk_of c e = get_or-set_other c.walks d e (put w x) nowhere ne in
     let n = ap (λ (z : Walk). length z.todo) there in
     let p = ap (λ (z : Walk). parts_left z.endings) there in
     let s = tasks_put c d (put w x) lt in
@@ -173,21 +174,21 @@ others_most c d e t ne lt g =
 abbrev pub InOrder : Scene → Type 0
 InOrder c = ended_in c.history ≤ made_in c.history
 
-most_at : (c : Scene) (d e : ℕ) (o : Option Task) → o ≡ next (walk_of c d) → d < length c.walks → InOrder (play_from c d (walk_of c d) o)
-    → turns_left e (play_from c d (walk_of c d) o) ≤ turns_left e c
+most_at : (c : Scene) (d e : ℕ) (o : Option Task) → o ≡ next (walk_of c d) → d < length c.walks → InOrder (play_from exact c d (walk_of c d) o)
+    → turns_left e (play_from exact c d (walk_of c d) o) ≤ turns_left e c
 most_at c d e None q lt sound = omega arith
 most_at c d e (Some t) q lt sound =
     let g = goes_next c d (walk_of c d) t (walk_of c d).endings (walk_of c d).todo refl refl (sym q) in
     elim (cases_eq e d) [
       | inl same ↦ (let l = own_less c d t lt g sound in
-          let m : turns_left d (play_from c d (walk_of c d) (Some t)) ≤ turns_left d c = omega (arith, l) in
-          subst (λ (i : ℕ). turns_left i (play_from c d (walk_of c d) (Some t)) ≤ turns_left i c) (sym same) m)
+          let m : turns_left d (play_from exact c d (walk_of c d) (Some t)) ≤ turns_left d c = omega (arith, l) in
+          subst (λ (i : ℕ). turns_left i (play_from exact c d (walk_of c d) (Some t)) ≤ turns_left i c) (sym same) m)
       | inr ne ↦ others_most c d e t ne lt g
     ]
 
 less_at : (c : Scene) (d : ℕ) (o : Option Task) (x : Said) → o ≡ next (walk_of c d) → d < length c.walks
-    → Some x ≡ said_from c d (walk_of c d).slots o → InOrder (play_from c d (walk_of c d) o)
-    → turns_left d (play_from c d (walk_of c d) o) < turns_left d c
+    → Some x ≡ said_from exact c d (walk_of c d).slots o → InOrder (play_from exact c d (walk_of c d) o)
+    → turns_left d (play_from exact c d (walk_of c d) o) < turns_left d c
 less_at c d None x q lt e sound = absurd cc
 less_at c d (Some t) x q lt e sound =
     own_less c d t lt (goes_next c d (walk_of c d) t (walk_of c d).endings (walk_of c d).todo refl refl (sym q)) sound
@@ -197,7 +198,7 @@ pub play_less : (d : ℕ) (c : Scene) (x : Said) → d < length c.walks → Some
 play_less d c x lt e sound = less_at c d (next (walk_of c d)) x refl lt e sound
 
 none_past : (c : Scene) (d : ℕ) → length c.walks ≤ d → play d c ≡ c
-none_past c d le = ap (λ (w : Walk). play_from c d w (next w)) (get_or_past c.walks d nowhere le)
+none_past c d le = ap (λ (w : Walk). play_from exact c d w (next w)) (get_or_past c.walks d nowhere le)
 
 -- no turn gives a thread more to do
 pub play_most : (d e : ℕ) (c : Scene) → InOrder (play d c) → turns_left e (play d c) ≤ turns_left e c

@@ -1,6 +1,8 @@
 //! Scripts from bytes to bytes: what a run is given, and what it writes.
 #![tactic(auto)]
 
+#[cfg(test)]
+mod cell_tests;
 mod closing;
 mod lines;
 pub mod listing;

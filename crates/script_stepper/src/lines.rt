@@ -93,6 +93,7 @@ fn put_answer(text: &mut String, answer: Answer) -> Result<(), AllocError>
         }
         Answer::Same(is_same) => put_test(text, "same", is_same)?,
         Answer::Before(is_before) => put_test(text, "before", is_before)?,
+        Answer::Compared(is_equivalent) => put_test(text, "compare", is_equivalent)?,
         Answer::Refused(why) => {
             let number = why.number();
             writeln!(text, "refused {number}")?;

@@ -12,7 +12,7 @@ fn lines_of_answers_on_places(rt: HostRuntime) -> Result<(), Fail> {
         block: Block(65_535),
         field: 3,
     };
-    let cases: [(Answer, &[u8]); 7] = [
+    let cases: [(Answer, &[u8]); 9] = [
         (
             Answer::Read(18_446_744_073_709_551_615),
             b"2.7 read 18446744073709551615\n",
@@ -23,6 +23,8 @@ fn lines_of_answers_on_places(rt: HostRuntime) -> Result<(), Fail> {
         (Answer::Same(false), b"2.7 same no\n"),
         (Answer::Before(true), b"2.7 before yes\n"),
         (Answer::Before(false), b"2.7 before no\n"),
+        (Answer::Compared(true), b"2.7 compare yes\n"),
+        (Answer::Compared(false), b"2.7 compare no\n"),
     ];
     for (answer, line) in cases {
         let mut taken = Vec::new(rt.alloc());

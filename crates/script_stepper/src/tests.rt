@@ -41,9 +41,9 @@ fn faulty_lists_of_turns(rt: HostRuntime) -> Result<(), Fail> {
 
 /// A writer that takes two bytes a write, and fails at the write after the last that it is given.
 #[derive(Drop)]
-struct Short {
-    taken: Vec<u8>,
-    writes: usize,
+pub(crate) struct Short {
+    pub(crate) taken: Vec<u8>,
+    pub(crate) writes: usize,
 }
 
 impl io::Write for Short {

@@ -2,6 +2,8 @@
 #![tactic(auto)]
 
 mod census;
+#[cfg(test)]
+mod compare_tests;
 mod limits;
 #[cfg(test)]
 mod load_tests;

@@ -16,7 +16,7 @@ const B: Name = Name(1);
 const W: Name = Name(2);
 
 /// What a step answers, and the object that ended by it, after the number of its actor and statement.
-type Line = (u8, u32, Option<Answer>, Option<Ended>);
+pub(crate) type Line = (u8, u32, Option<Answer>, Option<Ended>);
 
 fn make(field: u64) -> Call {
     Call::Make {
@@ -86,7 +86,7 @@ fn run(rt: &impl Abort, alloc: Global, world: &mut World, turns: &[u8]) -> Trace
 }
 
 /// The lines of a trace: what its steps answer and end.
-fn lines(alloc: Global, trace: &Trace) -> Result<Vec<Line>, AllocError> {
+pub(crate) fn lines(alloc: Global, trace: &Trace) -> Result<Vec<Line>, AllocError> {
     let mut lines = Vec::new(alloc);
     for step in &trace.steps {
         if let Stepped::Event(said) | Stepped::Quiet(said) = step.stepped {

@@ -61,7 +61,6 @@ impl Table {
     }
 
     /// How many blocks there are.
-    #[cfg(test)]
     pub fn blocks(&self) -> u32
         ensures { result ≡ self.now.extent.shape.blocks }
     {

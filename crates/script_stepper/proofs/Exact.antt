@@ -1,0 +1,107 @@
+-- Turns that tell counts exactly: no other thread has a load under way.
+use Rattle.std.proofs.Common.{◌≡◌, ℕ, ◌∷◌, refl, ap}
+use Rattle.std.specs.Prelude.{Option, Some, None}
+use Rattle.control_word.specs.declared.event.Event.TheVariants as event
+use Rattle.control_word.specs.Histories.{entry, leads}
+use Rattle.control_word.specs.State.{Opening, State}
+use Rattle.step_threads.specs.declared.act.Act.{Act}
+use Rattle.step_threads.specs.declared.act.Act.TheVariants.{Make, Share, Downgrade, Alias, Move, FromThis, Lock, Put, Leave, Clear, Count, Expired, Read, Ask, Offer, Swap, Exchange, Load, Compare, Drop}
+use Rattle.step_threads.specs.declared.act.Task.{Task}
+use Rattle.step_threads.specs.declared.said.Answer.{Answer}
+use Rattle.step_threads.specs.declared.said.Answer.TheVariants as answer
+use Rattle.step_table.specs.declared.holdings.Pointer.{Pointer}
+use Rattle.step_threads.specs.Courses.{Walk}
+use Rattle.step_table.specs.Deeds.{Telling, exact, handle_of, on}
+use Rattle.step_table.specs.Holdings.{Slots, slot}
+use Rattle.step_table.specs.Openings.{opening}
+use Rattle.step_threads.specs.Entries.{History, acted, counts}
+use Rattle.step_threads.specs.Scenes.{Scene, answer_of, ended_of, next, play, play_from, play_with, put_walk, rest_of, rested_walk, said, said_from, said_with, state_in, walk_of, went}
+use Rattle.step_core.specs.Worlds.{NoneLoads, Sight, TellsAll, is_loading}
+use Rattle.script_stepper.specs.Running.{AllRest}
+
+-- counts of what these slots hold are told exactly
+abbrev pub IsExact : Telling → State → Slots → Type 0
+IsExact tell s slots = (i : ℕ) (x : Pointer) → slot slots i ≡ Some x → tell s x ≡ exact s x
+
+number_exact : (tell : Telling) (s : State) (o : Option Pointer) → ((x : Pointer) → o ≡ Some x → tell s x ≡ exact s x)
+    → on (tell s) 0 o ≡ on (exact s) 0 o
+number_exact tell s None h = refl
+number_exact tell s (Some x) h = h x refl
+
+counts_exact : (tell : Telling) (z : Opening) (d : ℕ) (h : History) (o : Option Pointer)
+    → ((x : Pointer) → o ≡ Some x → tell (leads z h) x ≡ exact (leads z h) x) → on (counts tell z d h) h o ≡ on (counts exact z d h) h o
+counts_exact tell z d h None e = refl
+counts_exact tell z d h (Some x) e = ap (λ (n : ℕ). entry d (event.Count (handle_of (leads z h) x) n) ∷ h) (e x refl)
+
+-- what an act of these slots adds to the history and answers
+acted_exact : (tell : Telling) (z : Opening) (d : ℕ) (slots : Slots) (h : History) (a : Act) → IsExact tell (leads z h) slots
+    → acted tell z d slots h a ≡ acted exact z d slots h a
+acted_exact tell z d slots h (Make form) e = refl
+acted_exact tell z d slots h (Share k) e = refl
+acted_exact tell z d slots h (Put k) e = refl
+acted_exact tell z d slots h (Leave k) e = refl
+acted_exact tell z d slots h (Clear k) e = refl
+acted_exact tell z d slots h (Count k) e = counts_exact tell z d h (slot slots k) (e k)
+acted_exact tell z d slots h (Downgrade k) e = refl
+acted_exact tell z d slots h (Lock k must) e = refl
+acted_exact tell z d slots h (Expired k) e = refl
+acted_exact tell z d slots h (Read k) e = refl
+acted_exact tell z d slots h (FromThis k kind) e = refl
+acted_exact tell z d slots h (Alias k j field) e = refl
+acted_exact tell z d slots h (Move k) e = refl
+acted_exact tell z d slots h (Ask q) e = refl
+acted_exact tell z d slots h (Offer k c) e = refl
+acted_exact tell z d slots h (Swap c) e = refl
+acted_exact tell z d slots h (Exchange k c) e = refl
+acted_exact tell z d slots h (Load c) e = refl
+acted_exact tell z d slots h (Compare k c weak) e = refl
+acted_exact tell z d slots h Drop e = refl
+
+answer_exact : (tell : Telling) (s : State) (d : ℕ) (slots : Slots) (a : Act) → IsExact tell s slots
+    → answer_of tell s d slots a ≡ answer_of exact s d slots a
+answer_exact tell s d slots (Make form) e = refl
+answer_exact tell s d slots (Share k) e = refl
+answer_exact tell s d slots (Put k) e = refl
+answer_exact tell s d slots (Leave k) e = refl
+answer_exact tell s d slots (Clear k) e = refl
+answer_exact tell s d slots (Count k) e = ap (λ (n : ℕ). Some (answer.Count n)) (number_exact tell s (slot slots k) (e k))
+answer_exact tell s d slots (Downgrade k) e = refl
+answer_exact tell s d slots (Lock k must) e = refl
+answer_exact tell s d slots (Expired k) e = refl
+answer_exact tell s d slots (Read k) e = refl
+answer_exact tell s d slots (FromThis k kind) e = refl
+answer_exact tell s d slots (Alias k j field) e = refl
+answer_exact tell s d slots (Move k) e = refl
+answer_exact tell s d slots (Ask q) e = refl
+answer_exact tell s d slots (Offer k c) e = refl
+answer_exact tell s d slots (Swap c) e = refl
+answer_exact tell s d slots (Exchange k c) e = refl
+answer_exact tell s d slots (Load c) e = refl
+answer_exact tell s d slots (Compare k c weak) e = refl
+answer_exact tell s d slots Drop e = refl
+
+play_at : (tell : Telling) (c : Scene) (d : ℕ) (w : Walk) (o : Option Task) → IsExact tell (state_in c) w.slots
+    → play_from tell c d w o ≡ play_from exact c d w o
+play_at tell c d w None e = refl
+play_at tell c d w (Some t) e =
+    let w' = went (state_in c) d w t.statement (rest_of w.endings w.todo) t.act in
+    ap (λ (h : History). put_walk c d w' (rested_walk (opening c.extent) d h w')) (acted_exact tell (opening c.extent) d w.slots c.history t.act e)
+
+said_at : (tell : Telling) (c : Scene) (d : ℕ) (slots : Slots) (o : Option Task) → IsExact tell (state_in c) slots
+    → said_from tell c d slots o ≡ said_from exact c d slots o
+said_at tell c d slots None e = refl
+said_at tell c d slots (Some t) e =
+    ap (λ (a : Option Answer). Some (record { statement = t.statement; answer = a; ended = ended_of (state_in c) slots t.act }))
+    (answer_exact tell (state_in c) d slots t.act e)
+
+none_loads : (u : Sight) (d : ℕ) → AllRest u → NoneLoads d u
+none_loads u d rests = λ e ne. ap is_loading (rests.halves e)
+
+is_exact : (u : Sight) (d : ℕ) (c : Scene) (tell : Telling) → AllRest u → TellsAll d u c tell → IsExact tell (state_in c) (walk_of c d).slots
+is_exact u d c tell rests t = t.settled (none_loads u d rests)
+
+pub play_exact : (u : Sight) (d : ℕ) (c : Scene) (tell : Telling) → AllRest u → TellsAll d u c tell → play_with tell d c ≡ play d c
+play_exact u d c tell rests t = play_at tell c d (walk_of c d) (next (walk_of c d)) (is_exact u d c tell rests t)
+
+pub said_exact : (u : Sight) (d : ℕ) (c : Scene) (tell : Telling) → AllRest u → TellsAll d u c tell → said_with tell d c ≡ said d c
+said_exact u d c tell rests t = said_at tell c d (walk_of c d).slots (next (walk_of c d)) (is_exact u d c tell rests t)
