@@ -1,6 +1,6 @@
 -- A thread that compares a cell fits the table.
 use Rattle.std.proofs.Common.{◌≡◌, ◌⊎◌, ℕ, ◌-◌, ◌<◌, Bool, true, false, [], length, refl, sym, ap, subst, ◌∙◌, ⊎_elim}
-use Rattle.std.specs.Prelude.{Option, Some, None}
+use Rattle.std.specs.Prelude.{Some}
 use Rattle.control_word.specs.declared.cell.CellWord.{CellWord}
 use Rattle.control_word.specs.declared.handle.Kind.{Kind}
 use Rattle.control_word.specs.Packing.{IsCellWord}
@@ -8,7 +8,6 @@ use Rattle.step_threads.specs.declared.act.Act.{Act}
 use Rattle.step_threads.specs.declared.act.Act.TheVariants.{Compare}
 use Rattle.step_threads.specs.declared.call.CellName.{CellName}
 use Rattle.step_threads.specs.declared.call.CellName.TheVariants as name
-use Rattle.step_table.specs.declared.cell_deed.Cell.{Cell}
 use Rattle.step_table.specs.declared.cell_deed.CellDeed.TheVariants.{Bring, CompareSwap, Look, Take}
 use Rattle.step_table.specs.declared.cell_deed.Compared.{Compared}
 use Rattle.step_threads.specs.declared.course.Course.{Course}
@@ -25,11 +24,10 @@ use Rattle.step_table.specs.Contents.{as_word, owing_for, same_value}
 use Rattle.step_table.specs.Holdings.{pointer_of, slot, value}
 use Rattle.step_table.specs.Refills.{more_taken}
 use Rattle.step_table.specs.Stories.{Kept, Story, after, pending, state}
-use Rattle.step_threads.specs.Actors.{HalfFits}
 use Rattle.step_threads.specs.Courses.{HasCell, HasGoneOn, cell_at, hand, new_of, task_at}
 use Rattle.step_threads.specs.Programs.{IsIn}
 use Rattle.step_threads.specs.Steps.{gives_back, missed}
-use Rattle.step_threads.specs.Threads.{Fits, IsLoaded, IsMatchedBy, IsNext, IsSeenBy}
+use Rattle.step_threads.specs.Threads.{Fits, IsLoaded, IsMatchedBy, IsSeenBy}
 use Rattle.step_threads.proofs.CellNames.{cell_open}
 use Rattle.step_threads.proofs.LoadFits.{owned_some, saw_next}
 use Rattle.step_threads.proofs.LookFits.{ClaimsNone, fits_gone, fits_half, fits_quiet}

@@ -1,7 +1,7 @@
 -- What the steps of a thread are that compares a cell.
-use Rattle.std.proofs.Common.{◌≡◌, ℕ, ◌<◌, ◌==◌, Bool, true, false, cond, not, ◌&&◌, List, [], length, refl, sym, ap, ◌∙◌}
+use Rattle.std.proofs.Common.{◌≡◌, ℕ, ◌<◌, ◌==◌, Bool, true, false, not, ◌&&◌, List, [], length, refl, sym, ap, ◌∙◌}
 use Rattle.std.proofs.lemmas.Bool.{cond-false, cond-true}
-use Rattle.std.specs.Prelude.{Option, Some, None, is_some, slice_set}
+use Rattle.std.specs.Prelude.{Option, Some, None, is_some}
 use Rattle.control_word.specs.declared.cell.CellWord.{CellWord}
 use Rattle.control_word.specs.declared.handle.Kind.{Kind}
 use Rattle.control_word.specs.Handles.{equivalent}
@@ -13,7 +13,6 @@ use Rattle.step_threads.specs.declared.call.CellName.{CellName}
 use Rattle.step_table.specs.declared.cell_deed.Cell.{Cell}
 use Rattle.step_table.specs.declared.cell_deed.CellDeed.TheVariants.{CompareSwap, Look, Take}
 use Rattle.step_table.specs.declared.cell_deed.Compared.{Compared}
-use Rattle.step_threads.specs.declared.ending.Ending.{Ending}
 use Rattle.step_threads.specs.declared.half.Half.{Half}
 use Rattle.step_threads.specs.declared.half.Half.TheVariants.{Rest, Saw, Matched, Refill}
 use Rattle.step_table.specs.declared.holdings.Pointer.{Pointer}
@@ -32,10 +31,10 @@ use Rattle.step_table.specs.Deeds.{on}
 use Rattle.step_table.specs.Holdings.{Holds, Slots, slot, value}
 use Rattle.step_table.specs.Refills.{more_taken}
 use Rattle.step_table.specs.Stories.{Kept, Story, after, event_of, state}
-use Rattle.step_threads.specs.Courses.{CourseStill, Walk, cell_at, comparing, hand, kind_at, rest, settled, task_at, walk}
+use Rattle.step_threads.specs.Courses.{Walk, cell_at, comparing, hand, kind_at, rest, settled, task_at, walk}
 use Rattle.step_threads.specs.Entries.{is_expected}
 use Rattle.step_threads.specs.Programs.{IsIn}
-use Rattle.step_threads.specs.Scenes.{Hands, came, compared}
+use Rattle.step_threads.specs.Scenes.{came, compared}
 use Rattle.step_threads.specs.Steps.{Step, acts, compares, fetches, gives_back, matched, matched_on, matches, missed, saw, saw_on, sees, settles, silent, step_at, takes, waits, within}
 use Rattle.step_threads.specs.Threads.{HasStepped}
 use Rattle.step_threads.proofs.CellNames.{cell_kind, cell_open, goes_in}

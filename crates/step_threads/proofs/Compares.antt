@@ -9,7 +9,7 @@ use Rattle.step_threads.specs.declared.course.Course.{Course}
 use Rattle.step_table.specs.declared.slot.Slot.{Slot}
 use Rattle.step_table.specs.CellDeeds.{kind_in}
 use Rattle.step_table.specs.Contents.{CanCompare, is_of, swapped}
-use Rattle.step_table.specs.Holdings.{Slots, plain, pointer_of, value}
+use Rattle.step_table.specs.Holdings.{plain, pointer_of, value}
 use Rattle.step_table.specs.Stories.{Story, state}
 use Rattle.step_threads.specs.Courses.{Begins, CourseReady, CourseStill, Drops, Follows, HasCell, IsReady, Ready, cell_at, comparing, dropping, hand, idle, kind_at, other, rest, taken_after, task_at}
 use Rattle.step_threads.specs.Programs.{IsIn}

@@ -1,8 +1,7 @@
-use Rattle.std.proofs.Common.{◌≡◌, sym, ap, subst}
+use Rattle.std.proofs.Common.{sym, ap, subst}
 use Rattle.step_table.specs.declared.cell_deed.Cell.{Cell}
 use Rattle.step_table.specs.declared.holdings.Holdings.{Holdings}
 use Rattle.step_table.specs.Cells.{IsOpenTo}
-use Rattle.step_table.specs.Stories.{state}
 use Rattle.step_threads.specs.Courses.{HasCell}
 use Rattle.step_threads.specs.Programs.{IsIn}
 use Rattle.step_threads.proofs.CellNames.{cell_open}

@@ -1,9 +1,7 @@
 use Rattle.std.proofs.Common.{◌≡◌, ℕ, refl, sym, ap, subst, ◌∙◌}
-use Rattle.step_table.specs.declared.cell_deed.CellDeed.TheVariants.{Bring}
-use Rattle.step_table.specs.declared.past.Deed.TheVariants.{OnCell}
 use Rattle.step_table.specs.Contents.{owing_for}
 use Rattle.step_table.specs.Holdings.{slot, value}
-use Rattle.step_table.specs.Stories.{Story, after, pending, state}
+use Rattle.step_table.specs.Stories.{Story, pending, state}
 use Rattle.step_threads.specs.declared.half.Half.{Half}
 use Rattle.step_threads.specs.declared.half.Half.TheVariants.{Matched}
 use Rattle.step_threads.specs.declared.said.Said.{Said}

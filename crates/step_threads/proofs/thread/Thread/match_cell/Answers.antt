@@ -1,9 +1,6 @@
-use Rattle.std.proofs.Common.{◌≡◌, ℕ, true, sym, ap, subst, ◌∙◌}
+use Rattle.std.proofs.Common.{ℕ, true, sym, ap, subst, ◌∙◌}
 use Rattle.std.proofs.lemmas.Bool.{cond-false, cond-true}
-use Rattle.std.specs.Prelude.{Option}
 use Rattle.control_word.specs.declared.handle.Kind.{Kind}
-use Rattle.step_table.specs.declared.cell_deed.Cell.{Cell}
-use Rattle.step_table.specs.declared.holdings.Pointer.{Pointer}
 use Rattle.step_table.specs.CellDeeds.{kind_in}
 use Rattle.step_table.specs.Contents.{compared_in}
 use Rattle.step_table.specs.Holdings.{slot}
@@ -12,7 +9,7 @@ use Rattle.step_threads.specs.declared.course.Course.{Course}
 use Rattle.step_threads.specs.declared.half.Half.{Half}
 use Rattle.step_threads.specs.declared.said.Said.{Said}
 use Rattle.step_threads.specs.declared.said.Stepped.TheVariants.{Event, Quiet}
-use Rattle.step_threads.specs.Courses.{HasGoneOn, cell_at, comparing, hand, task_at, walk}
+use Rattle.step_threads.specs.Courses.{HasGoneOn, cell_at, comparing, hand, walk}
 use Rattle.step_threads.specs.Steps.{gives_back, missed, silent}
 use Rattle.step_threads.specs.Threads.{Fits}
 use Rattle.step_threads.proofs.CompareFits.{compare_missed, compare_swapped, looking_claims}
