@@ -156,7 +156,7 @@ module _ (v : Story) (d : ℕ) (w : Walk) (kept : Kept v) (seat : d < v.extent.a
       → IsLess v d (Refill s c x k) w (option_map (refills_on v w s c x k) o)
   refill_less s c x k None e fits = absurd (some_none (sym fits.owned ∙ e))
     where
-      some_none : {A : Type 0} {y : A} → ◌≡◌ {A = Option A} (Some y) None → ⊥
+      some_none : {y : Block} → ◌≡◌ {A = Option Block} (Some y) None → ⊥
       some_none q = cc
   refill_less s c x k (Some b) e fits =
       refills_less v d w c x k b s (shows_seen v d c kept seat fits.opens)

@@ -138,11 +138,11 @@ module _ (v : Story) (d k : ℕ) (w : Walk) (t : Task) (ts : List Task) (a : Act
       next = story_after v d (fetches w k x p).deed
 
       go : (b : Bool) → shows_next v x w.todo ≡ b → IsLess v d (Saw x) w (Some (fetches w k x p))
-      go true is =
-          let a = alone_saw v w x true is in let b = alone_matched next w x true (keeps p e ∙ is) in
+      go true shows =
+          let a = alone_saw v w x true shows in let b = alone_matched next w x true (keeps p e ∙ shows) in
           record { own = omega (arith, a, b); most = omega arith }
-      go false is =
-          let a = alone_saw v w x false is in let b = alone_matched next w x false (keeps p e ∙ is) in
+      go false other =
+          let a = alone_saw v w x false other in let b = alone_matched next w x false (keeps p e ∙ other) in
           record { own = omega (arith, a, b); most = omega arith }
 
   settles_less : (c : Cell) (y : Compared) (x : CellWord) → shows_on v x a ≡ (word_at v c == cell_bits x)

@@ -96,25 +96,24 @@ module _ (v : Story) (d : ℕ) (w : Walk) (kept : Kept v) (seat : d < v.extent.a
   trying_watch : (h : Half) (k word : ℕ) → IsQuiet v h → Watches v d h None (trying w k word).half
   trying_watch h k word quiet = still v d h None (trying w k word).half quiet (λ n. refl)
 
-  locks_watch : (h : Half) (k : ℕ) (ts : List Task) (a : Act) (x : Pointer) (b : Bool) (g : Half) → IsQuiet v h → locked w.slots a ≡ Some x
-      → Watches v d h (Some (lock (state v) x)) g
-  locks_watch h k ts a x b g quiet e =
-      let l = locked_is w a x e in still v d h (Some (lock (state v) x)) g quiet (lock_off v d x (weak_there v d w.slots kept holds l.0 x l.1))
+  locks_watch : (h : Half) (a : Act) (x : Pointer) → IsQuiet v h → locked w.slots a ≡ Some x → Watches v d h (Some (lock (state v) x)) Rest
+  locks_watch h a x quiet e =
+      let l = locked_is w a x e in still v d h (Some (lock (state v) x)) Rest quiet (lock_off v d x (weak_there v d w.slots kept holds l.0 x l.1))
 
   looks_watch : (k : ℕ) (ts : List Task) (a : Act) (o : Option Pointer) → locked w.slots a ≡ o
       → IsWatch v d Rest (Some (on (looks v d w k ts a) (acts v d w k ts a None Rest) o))
   looks_watch k ts a None e = still v d Rest None Rest (λ p a. refl) (λ n. refl)
   looks_watch k ts a (Some x) e =
       cond_both (owner_word v x == 0) (acts v d w k ts a (Some (lock (state v) x)) Rest) (trying w k (owner_word v x))
-      (λ (y : Step). IsWatch v d Rest (Some y)) (λ t. locks_watch Rest k ts a x true Rest (λ p q. refl) e)
+      (λ (y : Step). IsWatch v d Rest (Some y)) (λ t. locks_watch Rest a x (λ p q. refl) e)
       (λ t. trying_watch Rest k (owner_word v x) (λ p q. refl))
 
-  tries_watch : (k word : ℕ) (ts : List Task) (a : Act) (o : Option Pointer) → locked w.slots a ≡ o
+  pub tries_watch : (k word : ℕ) (ts : List Task) (a : Act) (o : Option Pointer) → locked w.slots a ≡ o
       → IsWatch v d (Locking word) (option_map (tries v d w k ts a word) o)
   tries_watch k word ts a None e = tt
   tries_watch k word ts a (Some x) e =
       cond_both (owner_word v x == word) (acts v d w k ts a (Some (lock (state v) x)) Rest) (trying w k (owner_word v x))
-      (λ (y : Step). IsWatch v d (Locking word) (Some y)) (λ t. locks_watch (Locking word) k ts a x true Rest (λ p q. refl) e)
+      (λ (y : Step). IsWatch v d (Locking word) (Some y)) (λ t. locks_watch (Locking word) a x (λ p q. refl) e)
       (λ t. trying_watch (Locking word) k (owner_word v x) (λ p q. refl))
 
   asks_watch : (k : ℕ) (ts : List Task) (i : ℕ) (q : Kind) (o : Option Pointer)
@@ -144,7 +143,7 @@ module _ (v : Story) (d : ℕ) (w : Walk) (kept : Kept v) (seat : d < v.extent.a
   going_watch k ts a None = still v d Rest None Rest (λ p q. refl) (λ n. refl)
   going_watch k ts a (Some x) = sends_watch k ts a x.0 x.1 (slot w.slots x.1) refl
 
-  sent_watch : (k : ℕ) (ts : List Task) (a : Act) (o : Option Going)
+  pub sent_watch : (k : ℕ) (ts : List Task) (a : Act) (o : Option Going)
       → IsWatch v d Brought (option_map (λ (x : Going). swaps v d w k ts a x.0 x.1) o)
   sent_watch k ts a None = tt
   sent_watch k ts a (Some x) = swaps_watch Brought k ts a x.0 x.1 (λ p q. refl)
@@ -165,7 +164,7 @@ module _ (v : Story) (d : ℕ) (w : Walk) (kept : Kept v) (seat : d < v.extent.a
       cond_both (same_value x y.expected) (within w k None (Saw x)) (sees v d w k ts a c (Some y) x) (λ (s : Step). IsWatch v d Rest (Some s))
       (λ t. still v d Rest None (Saw x) (λ p q. refl) (λ n. refl)) (λ t. sees_watch k ts a c (Some y) x)
 
-  takes_watch : (k : ℕ) (ts : List Task) (a : Act) (c : Cell) (y : Option Compared) (x : CellWord) → IsCellWord x
+  pub takes_watch : (k : ℕ) (ts : List Task) (a : Act) (c : Cell) (y : Option Compared) (x : CellWord) → IsCellWord x
       → IsWatch v d (Saw x) (Some (takes v d w k ts a c y x))
   takes_watch k ts a c y x valid =
       cond_both (word_at v c == cell_bits x)
@@ -173,7 +172,7 @@ module _ (v : Story) (d : ℕ) (w : Walk) (kept : Kept v) (seat : d < v.extent.a
       (λ (s : Step). IsWatch v d (Saw x) (Some s)) (λ t. taken v c x k kept valid (eqb-true _ _ t))
       (λ t. still v d (Saw x) None Rest (λ p q. refl) (λ n. refl))
 
-  matches_watch : (h : Half) (k : ℕ) (ts : List Task) (a : Act) (c : Cell) (i : ℕ) (weak : Bool) (x : CellWord) → IsQuiet v h
+  pub matches_watch : (h : Half) (k : ℕ) (ts : List Task) (a : Act) (c : Cell) (i : ℕ) (weak : Bool) (x : CellWord) → IsQuiet v h
       → IsWatch v d h (Some (matches v d w k ts a c (compared_in w.slots (comparing w.slots i weak)) x))
   matches_watch h k ts a c i weak x quiet =
       let y = compared_in w.slots (comparing w.slots i weak) in
@@ -192,7 +191,7 @@ module _ (v : Story) (d : ℕ) (w : Walk) (kept : Kept v) (seat : d < v.extent.a
       still v d (Saw x) (Some (deed.OnCell (cell_deed.Bring y.kind y.block y.place 256))) (Matched x) (λ p q. refl)
       (bring_off v d y.kind y.block y.place 256 (in_slot (hand w.slots) y e))
 
-  settles_watch : (k : ℕ) (ts : List Task) (a : Act) (c : Cell) (i : ℕ) (weak : Bool) (x : CellWord) → IsCellWord x
+  pub settles_watch : (k : ℕ) (ts : List Task) (a : Act) (c : Cell) (i : ℕ) (weak : Bool) (x : CellWord) → IsCellWord x
       → IsWatch v d (Saw x) (Some (settles v d w k ts a c (compared_in w.slots (comparing w.slots i weak)) x))
   settles_watch k ts a c i weak x valid =
       let y = compared_in w.slots (comparing w.slots i weak) in
@@ -200,7 +199,7 @@ module _ (v : Story) (d : ℕ) (w : Walk) (kept : Kept v) (seat : d < v.extent.a
       (takes v d w k ts a c (Some y) x) (λ (s : Step). IsWatch v d (Saw x) (Some s))
       (λ t. fetched_watch k ts a c i weak x (slot w.slots (hand w.slots)) refl) (λ t. takes_watch k ts a c (Some y) x valid)
 
-  first_watch : (k : ℕ) (ts : List Task) (a : Act) → IsWatch v d Rest (Some (first v d w k ts a))
+  pub first_watch : (k : ℕ) (ts : List Task) (a : Act) → IsWatch v d Rest (Some (first v d w k ts a))
   first_watch k ts (Make form) = begins_watch k ts (least d (state v).stores) refl
   first_watch k ts (Share i) =
       still v d Rest (option_map share (slot w.slots i)) Rest (λ p q. refl)
