@@ -1,38 +1,33 @@
 -- How many steps a load and a compare have left, step by step.
-use Rattle.std.proofs.Common.{◌≡◌, ℕ, ◌+◌, ◌<◌, ◌≤◌, ◌==◌, Bool, true, false, cond, List, [], ◌∷◌, refl, sym, ap, subst, ◌∙◌, arith}
-use Rattle.std.proofs.Common.{eq-eqb, eqb-true}
-use Rattle.std.specs.Prelude.{◌&&◌, not, Option, Some, None, is_some, option_map, slice_index}
+use Rattle.std.proofs.Common.{◌≡◌, ℕ, ◌+◌, ◌<◌, ◌≤◌, ◌==◌, Bool, true, false, cond, List, [], ◌∷◌, refl, sym, ap, ◌∙◌, arith}
+use Rattle.std.proofs.Common.{eq-eqb}
+use Rattle.std.specs.Prelude.{◌&&◌, not, Option, Some, None, is_some}
 use Rattle.std.proofs.lemmas.Bool.{cond_both, false≢true}
 use Rattle.control_word.specs.declared.cell.CellWord.{CellWord}
 use Rattle.control_word.specs.declared.place.Block.{Block}
-use Rattle.control_word.specs.declared.shape.Shape.{Shape}
 use Rattle.control_word.specs.Packing.{cell_bits}
 use Rattle.step_threads.specs.declared.act.Act.{Act}
-use Rattle.step_threads.specs.declared.act.Act.TheVariants.{Make, Share, Downgrade, Lock, Put, Leave, Clear, Count, Expired, Read, FromThis, Alias, Move, Ask, Offer, Swap, Exchange, Load, Compare, Drop}
 use Rattle.step_threads.specs.declared.act.Task.{Task}
-use Rattle.step_threads.specs.declared.call.CellName.{CellName}
-use Rattle.step_threads.specs.declared.call.CellName.TheVariants as cell
 use Rattle.step_threads.specs.declared.half.Half.{Half}
 use Rattle.step_threads.specs.declared.half.Half.TheVariants.{Rest, Saw, Matched, Refill}
 use Rattle.step_table.specs.declared.cell_deed.Cell.{Cell}
 use Rattle.step_table.specs.declared.cell_deed.CellDeed.TheVariants as cell_deed
 use Rattle.step_table.specs.declared.cell_deed.Compared.{Compared}
 use Rattle.step_table.specs.declared.holdings.Pointer.{Pointer}
-use Rattle.step_table.specs.declared.past.Deed.{Deed}
 use Rattle.step_table.specs.declared.past.Deed.TheVariants as deed
 use Rattle.step_table.specs.declared.refill.Stage.{Stage}
 use Rattle.step_table.specs.declared.refill.Stage.TheVariants.{Turning, Checking, Lacking, Refilling, Failing}
 use Rattle.step_table.specs.CellDeeds.{kind_in}
 use Rattle.control_word.specs.declared.handle.Kind.{Kind}
 use Rattle.step_table.specs.Cells.{IsOpenTo, word_at}
-use Rattle.step_table.specs.Contents.{compared_in, is_spent, same_value, seen}
+use Rattle.step_table.specs.Contents.{is_spent, same_value, seen}
 use Rattle.step_table.specs.Deeds.{on}
-use Rattle.step_table.specs.Holdings.{Holds, slot}
+use Rattle.step_table.specs.Holdings.{slot}
 use Rattle.step_table.specs.Refills.{is_drained, is_low, more_taken}
 use Rattle.step_table.specs.Stories.{Kept, Story, state}
-use Rattle.step_threads.specs.Courses.{HasCell, Walk, cell_at, comparing, hand}
+use Rattle.step_threads.specs.Courses.{Walk, hand}
 use Rattle.step_threads.specs.Scenes.{left as leaves_by, went}
-use Rattle.step_threads.specs.Steps.{Step, acts, compares, fetches, gives_back, matches, missed, refills_on, saw, sees, settles, stepped as stepped_by, story_after, takes, within}
+use Rattle.step_threads.specs.Steps.{Step, acts, compares, fetches, gives_back, matches, missed, refills_on, sees, settles, stepped as stepped_by, story_after, takes, within}
 use Rattle.step_table.proofs.contained.Coming.{seen_found}
 use Rattle.step_core.specs.Bounds.{alone, refill_steps, shows_next, shows_on, spare, walk_steps, weight}
 use Rattle.step_core.proofs.runs.Alone.{IsLess, Lessens, alone_matched, alone_saw, none_made, plain_less}
