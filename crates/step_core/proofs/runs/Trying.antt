@@ -64,7 +64,7 @@ module _ (v : Story) (d k : ℕ) (w : Walk) (t : Task) (ts : List Task) (a : Act
   tries_next c x on_act shows =
       let s = alone_saw v w x true (shown x c on_act ∙ shows) in record { own = omega (arith, s); most = omega arith }
 
-  sees_less : (c : Cell) (y : Option Compared) (x : CellWord) → is_spent x ≡ false → shows_on v x a ≡ (word_at v c == cell_bits x)
+  pub sees_less : (c : Cell) (y : Option Compared) (x : CellWord) → is_spent x ≡ false → shows_on v x a ≡ (word_at v c == cell_bits x)
       → (word_at v c == cell_bits x) ≡ true → IsLess v d Rest w (Some (sees v d w k ts a c y x))
   sees_less c y x left on_act shows =
       cond_both (is_spent x) (within w k None Rest)
@@ -74,7 +74,7 @@ module _ (v : Story) (d k : ℕ) (w : Walk) (t : Task) (ts : List Task) (a : Act
       (λ (s : Step). IsLess v d Rest w (Some s)) (λ e. tries_next c x on_act shows)
       (λ e. plain_less v d k Rest w t ts a (Some (deed.OnCell (cell_deed.Look c x y))) refl stays none is (omega arith) (omega arith)))
 
-  compares_less : (c : Cell) (y : Compared) (x : CellWord) → (not (same_value x y.expected) && is_spent x) ≡ false
+  pub compares_less : (c : Cell) (y : Compared) (x : CellWord) → (not (same_value x y.expected) && is_spent x) ≡ false
       → shows_on v x a ≡ (word_at v c == cell_bits x) → (word_at v c == cell_bits x) ≡ true
       → IsLess v d Rest w (Some (compares v d w k ts a c y x))
   compares_less c y x left on_act shows =
@@ -83,7 +83,7 @@ module _ (v : Story) (d k : ℕ) (w : Walk) (t : Task) (ts : List Task) (a : Act
       (λ e. sees_less c (Some y) x (ap (λ (b : Bool). not b && is_spent x) (sym e) ∙ left) on_act shows)
 
   -- a fund is taken, where the cell shows the same still
-  takes_less : (c : Cell) (y : Option Compared) (x : CellWord) → shows_on v x a ≡ (word_at v c == cell_bits x)
+  pub takes_less : (c : Cell) (y : Option Compared) (x : CellWord) → shows_on v x a ≡ (word_at v c == cell_bits x)
       → IsLess v d (Saw x) w (Some (takes v d w k ts a c y x))
   takes_less c y x on_act =
       let done = acts v d w k ts a (Some (deed.OnCell (cell_deed.Take c x y))) (Refill Turning c (more_taken x) k) in
@@ -140,7 +140,7 @@ module _ (v : Story) (d k : ℕ) (w : Walk) (t : Task) (ts : List Task) (a : Act
           let a = alone_saw v w x false other in let b = alone_matched next w x false (keeps p e ∙ other) in
           record { own = omega (arith, a, b); most = omega arith }
 
-  settles_less : (c : Cell) (y : Compared) (x : CellWord) → shows_on v x a ≡ (word_at v c == cell_bits x)
+  pub settles_less : (c : Cell) (y : Compared) (x : CellWord) → shows_on v x a ≡ (word_at v c == cell_bits x)
       → ((p : Pointer) → slot w.slots (hand w.slots) ≡ Some p
       → shows_next (story_after v d (fetches w k x p).deed) x w.todo ≡ shows_next v x w.todo)
       → IsLess v d (Saw x) w (Some (settles v d w k ts a c y x))
@@ -149,7 +149,7 @@ module _ (v : Story) (d k : ℕ) (w : Walk) (t : Task) (ts : List Task) (a : Act
       (takes v d w k ts a c (Some y) x) (λ (s : Step). IsLess v d (Saw x) w (Some s))
       (λ e. fetches_less c y x on_act keeps (slot w.slots (hand w.slots)) refl) (λ e. takes_less c (Some y) x on_act)
 
-  matched_less : (c : Cell) (y : Compared) (x : CellWord) → shows_on v x a ≡ (word_at v c == cell_bits x)
+  pub matched_less : (c : Cell) (y : Compared) (x : CellWord) → shows_on v x a ≡ (word_at v c == cell_bits x)
       → IsLess v d (Matched x) w (Some (matches v d w k ts a c y x))
   matched_less c y x on_act =
       matches_less (Matched x) c y x refl refl
@@ -158,7 +158,7 @@ module _ (v : Story) (d k : ℕ) (w : Walk) (t : Task) (ts : List Task) (a : Act
 
 -- a refill goes on
 module _ (v : Story) (d : ℕ) (w : Walk) (c : Cell) (x : CellWord) (k : ℕ) (b : Block) where
-  refills_less : (s : Stage)
+  pub refills_less : (s : Stage)
       → (word_at v c == cell_bits (seen v c)) ≡ true
       → (word_at (story_after v d (refills_on v w Lacking c x k b).deed) c ≡ word_at v c)
       → IsLess v d (Refill s c x k) w (Some (refills_on v w s c x k b))
