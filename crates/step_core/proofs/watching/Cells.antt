@@ -99,9 +99,13 @@ taken v c x k kept valid shows =
         → Watch blocks (word_of blocks c) (word_at v c) (word_at v c + 17179869184) (Saw x) (Refill Turning c (more_taken x) k)
     go true low =
         let same : cell_bits (more_taken x) ≡ word_at v c + 17179869184 = more_told x ∙ ap (λ (n : ℕ). n + 17179869184) (sym shows) in
-        inr (inr (refl, refl, ap (λ (t : Bool). cond t 1 0)
-        (and_from _ _ (and_from _ _ (eq-eqb (word_of blocks c) (word_of blocks c) refl) low)
-        (eq-eqb (content (cell_bits (more_taken x))) (content (word_at v c + 17179869184)) (ap content same)))))
+        inr (inr (
+          refl,
+          refl,
+          ap (λ (t : Bool). cond t 1 0)
+              (and_from _ _ (and_from _ _ (eq-eqb (word_of blocks c) (word_of blocks c) refl) low)
+              (eq-eqb (content (cell_bits (more_taken x))) (content (word_at v c + 17179869184)) (ap content same))),
+        ))
     go false high =
         let few : suc x.taken ≤ 127 = ltb-false 127 (suc x.taken) high in
         let t = taken_told x valid in
