@@ -3,6 +3,7 @@ pub mod Answers
 pub mod Chains
 pub mod Ends
 pub mod Headline
+pub mod Leaving
 pub mod Lessening
 pub mod Looking
 pub mod Measures

@@ -18,8 +18,8 @@ use Rattle.step_table.specs.declared.refill.Stage.{Stage}
 use Rattle.step_table.specs.declared.refill.Stage.TheVariants.{Turning, Checking, Lacking, Refilling, Failing}
 use Rattle.step_table.specs.Cells.{word_at}
 use Rattle.step_core.specs.Bounds.{alone, lock_word, refill_steps, shows_next, spare, walk_steps}
-use Rattle.step_threads.specs.Courses.{Walk, locked}
-use Rattle.step_table.specs.Deeds.{is_last, leave, leave_as, owned, owner_word, on}
+use Rattle.step_threads.specs.Courses.{Walk}
+use Rattle.step_table.specs.Deeds.{is_last, leave, leave_as, owned}
 use Rattle.step_threads.specs.Scenes.{ended_by, left as leaves_by, remains_as}
 use Rattle.step_threads.specs.Steps.{Step, acts, stepped as stepped_by, story_after}
 use Rattle.step_table.specs.Stories.{Story, state}

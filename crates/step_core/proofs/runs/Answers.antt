@@ -257,12 +257,6 @@ tells_locks u x u' step = λ w gave was.
     no_event : (w : Handle) (gave : Bool) → Was (event.Lock w gave) u x u' → u'.story.history ≡ u.story.history → ⊥
     no_event w gave was same = let n = ap (λ (h : List (Entry Nothing)). length h) (sym same ∙ was) in omega (arith, n)
 
-    by_answer : (w : Handle) (gave : Bool) → Was (event.Lock w gave) u x u' → IsTold (x.actor - 1) u x.stepped u'
-        → (must : Bool) × (answer_by x.stepped ≡ Some (lock_answer must gave))
-    by_answer w gave was (inl still) = absurd (no_event w gave was still.1)
-    by_answer w gave was (inr said) =
-        go w gave was (step_of (x.actor - 1) u) said.1 said.0 (step_tells u.story (x.actor - 1) (half_of u (x.actor - 1)) (walk_of (scene u) (x.actor - 1)))
-
     go : (w : Handle) (gave : Bool) → Was (event.Lock w gave) u x u' → (y : Option Step)
         → u'.story.history ≡ (story_by u.story (x.actor - 1) y).history → x.stepped ≡ stepped_by u.story y → Tells y
         → (must : Bool) × (answer_by x.stepped ≡ Some (lock_answer must gave))
@@ -275,3 +269,9 @@ tells_locks u x u' step = λ w gave was.
         at (Some z) here answers =
             let s = subst (λ (l : Option Bool). Says l y.said.answer) (by_deed u.story (x.actor - 1) z w gave (sym here ∙ was)) answers in
             (s.0, ap answer_by is ∙ as_answered u.story y ∙ s.1)
+
+    by_answer : (w : Handle) (gave : Bool) → Was (event.Lock w gave) u x u' → IsTold (x.actor - 1) u x.stepped u'
+        → (must : Bool) × (answer_by x.stepped ≡ Some (lock_answer must gave))
+    by_answer w gave was (inl still) = absurd (no_event w gave was still.1)
+    by_answer w gave was (inr said) =
+        go w gave was (step_of (x.actor - 1) u) said.1 said.0 (step_tells u.story (x.actor - 1) (half_of u (x.actor - 1)) (walk_of (scene u) (x.actor - 1)))

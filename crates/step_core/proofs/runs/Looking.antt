@@ -1,7 +1,7 @@
 -- How many steps a thread has left that has looked at a cell, or took a fund of it.
-use Rattle.std.proofs.Common.{◌≡◌, ◌≢◌, ℕ, ◌+◌, ◌-◌, ◌*◌, ◌<◌, ◌≤◌, ◌==◌, Bool, true, false, List, [], ◌∷◌, refl, sym, ap, subst, ◌∙◌, arith}
+use Rattle.std.proofs.Common.{◌≡◌, ◌≢◌, ℕ, ◌+◌, ◌-◌, ◌*◌, ◌<◌, ◌==◌, Bool, false, List, [], ◌∷◌, refl, sym, ap, subst, ◌∙◌, arith}
 use Rattle.std.proofs.Common.{get_or-set_other}
-use Rattle.std.specs.Prelude.{Option, Some, None, option_map, slice_index, slice_set}
+use Rattle.std.specs.Prelude.{Option, Some, None, option_map, slice_index}
 use Rattle.control_word.specs.declared.cell.CellWord.{CellWord}
 use Rattle.control_word.specs.declared.handle.Kind.{Kind}
 use Rattle.control_word.specs.declared.handle.Kind.TheVariants.{Owner, Weak}
@@ -20,17 +20,15 @@ use Rattle.step_table.specs.declared.cell_deed.Cell.{Cell}
 use Rattle.step_table.specs.declared.cell_deed.Cell.TheVariants.{Free, Member}
 use Rattle.step_table.specs.declared.cell_deed.CellDeed.TheVariants as cell_deed
 use Rattle.step_table.specs.declared.holdings.Pointer.{Pointer}
-use Rattle.step_table.specs.declared.past.Deed.{Deed}
 use Rattle.step_table.specs.declared.past.Deed.TheVariants as deed
 use Rattle.step_table.specs.declared.refill.Stage.{Stage}
-use Rattle.step_table.specs.declared.refill.Stage.TheVariants.{Lacking}
 use Rattle.step_table.specs.CellDeeds.{kind_in}
 use Rattle.step_table.specs.Cells.{IsOpenTo, word_at}
 use Rattle.step_table.specs.Contents.{compared_in, seen}
 use Rattle.step_table.specs.Holdings.{Holds, slot}
 use Rattle.step_table.specs.Refills.{RefillFits}
 use Rattle.step_table.specs.Stories.{Kept, Story, state}
-use Rattle.step_threads.specs.Courses.{HasCell, Walk, cell_at, comparing, hand}
+use Rattle.step_threads.specs.Courses.{Walk, cell_at, comparing, hand}
 use Rattle.step_threads.specs.Programs.{IsIn}
 use Rattle.step_threads.specs.Steps.{fetches, first, matched, matched_on, refills_on, saw, saw_on, story_after, waits_on}
 use Rattle.step_threads.proofs.CellNames.{cell_open}
@@ -156,7 +154,7 @@ module _ (v : Story) (d : ℕ) (w : Walk) (kept : Kept v) (seat : d < v.extent.a
       → IsLess v d (Refill s c x k) w (option_map (refills_on v w s c x k) o)
   refill_less s c x k None e fits = absurd (some_none (sym fits.owned ∙ e))
     where
-      some_none : {A : Type 0} {y : A} → ◌≡◌ {A = Option A} (Some y) None → ⊥
+      some_none : {y : Block} → ◌≡◌ {A = Option Block} (Some y) None → ⊥
       some_none q = cc
   refill_less s c x k (Some b) e fits =
       refills_less v d w c x k b s (shows_seen v d c kept seat fits.opens)

@@ -1,38 +1,33 @@
 -- How many steps a load and a compare have left, step by step.
-use Rattle.std.proofs.Common.{◌≡◌, ℕ, ◌+◌, ◌<◌, ◌≤◌, ◌==◌, Bool, true, false, cond, List, [], ◌∷◌, refl, sym, ap, subst, ◌∙◌, arith}
-use Rattle.std.proofs.Common.{eq-eqb, eqb-true}
-use Rattle.std.specs.Prelude.{◌&&◌, not, Option, Some, None, is_some, option_map, slice_index}
+use Rattle.std.proofs.Common.{◌≡◌, ℕ, ◌+◌, ◌<◌, ◌≤◌, ◌==◌, Bool, true, false, cond, List, [], ◌∷◌, refl, sym, ap, ◌∙◌, arith}
+use Rattle.std.proofs.Common.{eq-eqb}
+use Rattle.std.specs.Prelude.{◌&&◌, not, Option, Some, None, is_some}
 use Rattle.std.proofs.lemmas.Bool.{cond_both, false≢true}
 use Rattle.control_word.specs.declared.cell.CellWord.{CellWord}
 use Rattle.control_word.specs.declared.place.Block.{Block}
-use Rattle.control_word.specs.declared.shape.Shape.{Shape}
 use Rattle.control_word.specs.Packing.{cell_bits}
 use Rattle.step_threads.specs.declared.act.Act.{Act}
-use Rattle.step_threads.specs.declared.act.Act.TheVariants.{Make, Share, Downgrade, Lock, Put, Leave, Clear, Count, Expired, Read, FromThis, Alias, Move, Ask, Offer, Swap, Exchange, Load, Compare, Drop}
 use Rattle.step_threads.specs.declared.act.Task.{Task}
-use Rattle.step_threads.specs.declared.call.CellName.{CellName}
-use Rattle.step_threads.specs.declared.call.CellName.TheVariants as cell
 use Rattle.step_threads.specs.declared.half.Half.{Half}
 use Rattle.step_threads.specs.declared.half.Half.TheVariants.{Rest, Saw, Matched, Refill}
 use Rattle.step_table.specs.declared.cell_deed.Cell.{Cell}
 use Rattle.step_table.specs.declared.cell_deed.CellDeed.TheVariants as cell_deed
 use Rattle.step_table.specs.declared.cell_deed.Compared.{Compared}
 use Rattle.step_table.specs.declared.holdings.Pointer.{Pointer}
-use Rattle.step_table.specs.declared.past.Deed.{Deed}
 use Rattle.step_table.specs.declared.past.Deed.TheVariants as deed
 use Rattle.step_table.specs.declared.refill.Stage.{Stage}
 use Rattle.step_table.specs.declared.refill.Stage.TheVariants.{Turning, Checking, Lacking, Refilling, Failing}
 use Rattle.step_table.specs.CellDeeds.{kind_in}
 use Rattle.control_word.specs.declared.handle.Kind.{Kind}
 use Rattle.step_table.specs.Cells.{IsOpenTo, word_at}
-use Rattle.step_table.specs.Contents.{compared_in, is_spent, same_value, seen}
+use Rattle.step_table.specs.Contents.{is_spent, same_value, seen}
 use Rattle.step_table.specs.Deeds.{on}
-use Rattle.step_table.specs.Holdings.{Holds, slot}
+use Rattle.step_table.specs.Holdings.{slot}
 use Rattle.step_table.specs.Refills.{is_drained, is_low, more_taken}
 use Rattle.step_table.specs.Stories.{Kept, Story, state}
-use Rattle.step_threads.specs.Courses.{HasCell, Walk, cell_at, comparing, hand}
+use Rattle.step_threads.specs.Courses.{Walk, hand}
 use Rattle.step_threads.specs.Scenes.{left as leaves_by, went}
-use Rattle.step_threads.specs.Steps.{Step, acts, compares, fetches, gives_back, matches, missed, refills_on, saw, sees, settles, stepped as stepped_by, story_after, takes, within}
+use Rattle.step_threads.specs.Steps.{Step, acts, compares, fetches, gives_back, matches, missed, refills_on, sees, settles, stepped as stepped_by, story_after, takes, within}
 use Rattle.step_table.proofs.contained.Coming.{seen_found}
 use Rattle.step_core.specs.Bounds.{alone, refill_steps, shows_next, shows_on, spare, walk_steps, weight}
 use Rattle.step_core.proofs.runs.Alone.{IsLess, Lessens, alone_matched, alone_saw, none_made, plain_less}
@@ -69,7 +64,7 @@ module _ (v : Story) (d k : ℕ) (w : Walk) (t : Task) (ts : List Task) (a : Act
   tries_next c x on_act shows =
       let s = alone_saw v w x true (shown x c on_act ∙ shows) in record { own = omega (arith, s); most = omega arith }
 
-  sees_less : (c : Cell) (y : Option Compared) (x : CellWord) → is_spent x ≡ false → shows_on v x a ≡ (word_at v c == cell_bits x)
+  pub sees_less : (c : Cell) (y : Option Compared) (x : CellWord) → is_spent x ≡ false → shows_on v x a ≡ (word_at v c == cell_bits x)
       → (word_at v c == cell_bits x) ≡ true → IsLess v d Rest w (Some (sees v d w k ts a c y x))
   sees_less c y x left on_act shows =
       cond_both (is_spent x) (within w k None Rest)
@@ -79,7 +74,7 @@ module _ (v : Story) (d k : ℕ) (w : Walk) (t : Task) (ts : List Task) (a : Act
       (λ (s : Step). IsLess v d Rest w (Some s)) (λ e. tries_next c x on_act shows)
       (λ e. plain_less v d k Rest w t ts a (Some (deed.OnCell (cell_deed.Look c x y))) refl stays none is (omega arith) (omega arith)))
 
-  compares_less : (c : Cell) (y : Compared) (x : CellWord) → (not (same_value x y.expected) && is_spent x) ≡ false
+  pub compares_less : (c : Cell) (y : Compared) (x : CellWord) → (not (same_value x y.expected) && is_spent x) ≡ false
       → shows_on v x a ≡ (word_at v c == cell_bits x) → (word_at v c == cell_bits x) ≡ true
       → IsLess v d Rest w (Some (compares v d w k ts a c y x))
   compares_less c y x left on_act shows =
@@ -88,7 +83,7 @@ module _ (v : Story) (d k : ℕ) (w : Walk) (t : Task) (ts : List Task) (a : Act
       (λ e. sees_less c (Some y) x (ap (λ (b : Bool). not b && is_spent x) (sym e) ∙ left) on_act shows)
 
   -- a fund is taken, where the cell shows the same still
-  takes_less : (c : Cell) (y : Option Compared) (x : CellWord) → shows_on v x a ≡ (word_at v c == cell_bits x)
+  pub takes_less : (c : Cell) (y : Option Compared) (x : CellWord) → shows_on v x a ≡ (word_at v c == cell_bits x)
       → IsLess v d (Saw x) w (Some (takes v d w k ts a c y x))
   takes_less c y x on_act =
       let done = acts v d w k ts a (Some (deed.OnCell (cell_deed.Take c x y))) (Refill Turning c (more_taken x) k) in
@@ -138,14 +133,14 @@ module _ (v : Story) (d k : ℕ) (w : Walk) (t : Task) (ts : List Task) (a : Act
       next = story_after v d (fetches w k x p).deed
 
       go : (b : Bool) → shows_next v x w.todo ≡ b → IsLess v d (Saw x) w (Some (fetches w k x p))
-      go true is =
-          let a = alone_saw v w x true is in let b = alone_matched next w x true (keeps p e ∙ is) in
+      go true shows =
+          let a = alone_saw v w x true shows in let b = alone_matched next w x true (keeps p e ∙ shows) in
           record { own = omega (arith, a, b); most = omega arith }
-      go false is =
-          let a = alone_saw v w x false is in let b = alone_matched next w x false (keeps p e ∙ is) in
+      go false other =
+          let a = alone_saw v w x false other in let b = alone_matched next w x false (keeps p e ∙ other) in
           record { own = omega (arith, a, b); most = omega arith }
 
-  settles_less : (c : Cell) (y : Compared) (x : CellWord) → shows_on v x a ≡ (word_at v c == cell_bits x)
+  pub settles_less : (c : Cell) (y : Compared) (x : CellWord) → shows_on v x a ≡ (word_at v c == cell_bits x)
       → ((p : Pointer) → slot w.slots (hand w.slots) ≡ Some p
       → shows_next (story_after v d (fetches w k x p).deed) x w.todo ≡ shows_next v x w.todo)
       → IsLess v d (Saw x) w (Some (settles v d w k ts a c y x))
@@ -154,7 +149,7 @@ module _ (v : Story) (d k : ℕ) (w : Walk) (t : Task) (ts : List Task) (a : Act
       (takes v d w k ts a c (Some y) x) (λ (s : Step). IsLess v d (Saw x) w (Some s))
       (λ e. fetches_less c y x on_act keeps (slot w.slots (hand w.slots)) refl) (λ e. takes_less c (Some y) x on_act)
 
-  matched_less : (c : Cell) (y : Compared) (x : CellWord) → shows_on v x a ≡ (word_at v c == cell_bits x)
+  pub matched_less : (c : Cell) (y : Compared) (x : CellWord) → shows_on v x a ≡ (word_at v c == cell_bits x)
       → IsLess v d (Matched x) w (Some (matches v d w k ts a c y x))
   matched_less c y x on_act =
       matches_less (Matched x) c y x refl refl
@@ -163,7 +158,7 @@ module _ (v : Story) (d k : ℕ) (w : Walk) (t : Task) (ts : List Task) (a : Act
 
 -- a refill goes on
 module _ (v : Story) (d : ℕ) (w : Walk) (c : Cell) (x : CellWord) (k : ℕ) (b : Block) where
-  refills_less : (s : Stage)
+  pub refills_less : (s : Stage)
       → (word_at v c == cell_bits (seen v c)) ≡ true
       → (word_at (story_after v d (refills_on v w Lacking c x k b).deed) c ≡ word_at v c)
       → IsLess v d (Refill s c x k) w (Some (refills_on v w s c x k b))

@@ -1,5 +1,5 @@
 -- Steps on the words of blocks leave the words of free cells.
-use Rattle.std.proofs.Common.{◌≡◌, ◌⊎◌, ℕ, suc, ◌+◌, ◌-◌, ◌*◌, ◌<◌, ◌≤◌, ◌==◌, Bool, true, false, cond, List, [], ◌∷◌, refl, sym, ap, subst, ◌∙◌, inl, inr, arith}
+use Rattle.std.proofs.Common.{◌≡◌, ◌⊎◌, ℕ, suc, ◌+◌, ◌-◌, ◌*◌, ◌<◌, ◌≤◌, ◌==◌, Bool, true, false, cond, List, [], ◌∷◌, refl, sym, subst, inl, inr, arith}
 use Rattle.std.proofs.Math.Nat.{min-eq_left, min-eq_right}
 use Rattle.std.specs.Prelude.{Option, Some, None, option_map, min, not, slice_index, slice_set}
 use Rattle.std.proofs.lemmas.Bool.{cases_lt, cond_both}
@@ -9,25 +9,22 @@ use Rattle.control_word.specs.declared.handle.Kind.TheVariants.{Owner, Weak}
 use Rattle.control_word.specs.declared.place.Block.{Block}
 use Rattle.control_word.specs.declared.place.Place.{Place}
 use Rattle.control_word.specs.Layout.{cell_place, spot}
-use Rattle.control_word.specs.State.{Has, InShape, State, Stored, stored}
+use Rattle.control_word.specs.State.{Has, InShape, Stored, stored}
 use Rattle.control_word.specs.Words.{slot as slot_of_kind}
 use Rattle.step_table.specs.declared.cell_deed.CellDeed.TheVariants as cell_deed
 use Rattle.step_table.specs.declared.holdings.Pointer.{Pointer}
 use Rattle.step_table.specs.declared.past.Deed.{Deed}
 use Rattle.step_table.specs.declared.past.Deed.TheVariants as deed
-use Rattle.step_table.specs.declared.slot.Slot.{Slot}
 use Rattle.step_table.specs.Contents.{is_of}
-use Rattle.step_table.specs.Deeds.{alias, downgrade, give, is_expired, leave_as, lock, read, share_as, tell, tell_expired}
+use Rattle.step_table.specs.Deeds.{alias, downgrade, give, is_expired, leave_as, lock, share_as}
 use Rattle.step_table.specs.Holdings.{Holds, Slots, inside, owner_as, owner_slot, plain, pointer_of, slot, value, weak_as, weak_slot}
 use Rattle.step_table.specs.Openings.{opening}
 use Rattle.step_table.specs.Stories.{Kept, Story, state}
 use Rattle.step_table.proofs.holding.Inside.{inside_is}
 use Rattle.step_table.proofs.holding.Owning.{slot_held}
 use Rattle.step_table.proofs.tables.Places.{handle_busy, there, vacant_place}
-use Rattle.step_threads.specs.declared.act.Act.{Act}
-use Rattle.step_threads.specs.declared.act.Act.TheVariants.{Lock}
 use Rattle.step_threads.specs.declared.call.CellName.{CellName}
-use Rattle.step_threads.specs.Courses.{fitting, kind_at, offered}
+use Rattle.step_threads.specs.Courses.{kind_at, offered}
 use Rattle.step_threads.specs.Entries.{least, lesser}
 use Rattle.step_threads.specs.Steps.{story_after}
 use Rattle.step_core.proofs.watching.Words.{block_off}

@@ -1,5 +1,5 @@
 -- Steps on free cells: where half of a cell's funds or more are taken, threads count that put them back.
-use Rattle.std.proofs.Common.{◌≡◌, ◌≢◌, ℕ, suc, ◌+◌, ◌-◌, ◌*◌, ◌/◌, ◌<◌, ◌≤◌, ◌==◌, Bool, true, false, cond, length, set, refl, sym, ap, subst, ◌∙◌, ⊎_elim, inl, inr, arith}
+use Rattle.std.proofs.Common.{◌≡◌, ◌≢◌, ℕ, suc, ◌+◌, ◌-◌, ◌*◌, ◌<◌, ◌≤◌, ◌==◌, Bool, true, false, cond, length, refl, sym, ap, subst, ◌∙◌, ⊎_elim, inl, inr, arith}
 use Rattle.std.proofs.Common.{get_or-set_other, get_or-set_same, eq-eqb, ne_eqb, eqb-true}
 use Rattle.std.specs.Prelude.{◌&&◌, Option, Some, None, slice_index, slice_set}
 use Rattle.std.proofs.lemmas.Bool.{and_from, and_parts, cases_eq, cond_both, false≢true, ltb-false}
@@ -20,7 +20,6 @@ use Rattle.step_table.specs.declared.refill.Stage.TheVariants.{Turning, Checking
 use Rattle.step_table.specs.CellDeeds.{kind_in, word_of}
 use Rattle.step_table.specs.Cells.{word_at}
 use Rattle.step_table.specs.Contents.{same_value, seen}
-use Rattle.step_table.specs.Openings.{opening}
 use Rattle.step_table.specs.Refills.{RefillFits, is_drained, is_low, more_taken}
 use Rattle.step_table.specs.Stories.{Kept, Story, state}
 use Rattle.step_table.proofs.contained.Coming.{seen_found}
@@ -100,9 +99,13 @@ taken v c x k kept valid shows =
         → Watch blocks (word_of blocks c) (word_at v c) (word_at v c + 17179869184) (Saw x) (Refill Turning c (more_taken x) k)
     go true low =
         let same : cell_bits (more_taken x) ≡ word_at v c + 17179869184 = more_told x ∙ ap (λ (n : ℕ). n + 17179869184) (sym shows) in
-        inr (inr (refl, refl, ap (λ (t : Bool). cond t 1 0)
-        (and_from _ _ (and_from _ _ (eq-eqb (word_of blocks c) (word_of blocks c) refl) low)
-        (eq-eqb (content (cell_bits (more_taken x))) (content (word_at v c + 17179869184)) (ap content same)))))
+        inr (inr (
+          refl,
+          refl,
+          ap (λ (t : Bool). cond t 1 0)
+              (and_from _ _ (and_from _ _ (eq-eqb (word_of blocks c) (word_of blocks c) refl) low)
+              (eq-eqb (content (cell_bits (more_taken x))) (content (word_at v c + 17179869184)) (ap content same))),
+        ))
     go false high =
         let few : suc x.taken ≤ 127 = ltb-false 127 (suc x.taken) high in
         let t = taken_told x valid in

@@ -1,54 +1,42 @@
 -- The next step of a thread, by what it has begun, and the funds that are taken of cells.
-use Rattle.std.proofs.Common.{◌≡◌, ℕ, ◌+◌, ◌<◌, ◌≤◌, ◌==◌, Bool, true, false, cond, List, [], ◌∷◌, get_or, refl, sym, ap, subst, ◌∙◌, arith}
-use Rattle.std.proofs.Common.{eqb-true}
-use Rattle.std.specs.Prelude.{Option, Some, None, is_some, option_map}
+use Rattle.std.proofs.Common.{◌≡◌, ℕ, ◌+◌, ◌<◌, ◌==◌, Bool, true, false, cond, List, [], ◌∷◌, get_or, refl, subst, arith}
+use Rattle.std.specs.Prelude.{Option, Some, None, option_map}
 use Rattle.std.proofs.lemmas.Bool.{cond_both, eqb-false}
 use Rattle.control_word.specs.declared.cell.CellWord.{CellWord}
 use Rattle.control_word.specs.declared.handle.Kind.{Kind}
 use Rattle.control_word.specs.declared.place.Block.{Block}
 use Rattle.control_word.specs.declared.place.Place.{Place}
 use Rattle.control_word.specs.declared.view.Pending.{Pending}
-use Rattle.control_word.specs.declared.view.Pending.TheVariants.{Paying}
 use Rattle.control_word.specs.Histories.{value as value_of}
-use Rattle.control_word.specs.Packing.{IsCellWord, cell_bits}
+use Rattle.control_word.specs.Packing.{IsCellWord}
 use Rattle.control_word.specs.State.{weak}
 use Rattle.control_word.specs.Steps.{me}
 use Rattle.control_word.specs.Views.{Fits}
 use Rattle.step_threads.specs.declared.act.Act.{Act}
-use Rattle.step_table.specs.declared.form.Form.{Form}
 use Rattle.step_threads.specs.declared.act.Act.TheVariants.{Make, Share, Downgrade, Lock, Put, Leave, Clear, Count, Expired, Read, FromThis, Alias, Move, Ask, Offer, Swap, Exchange, Load, Compare, Drop}
 use Rattle.step_threads.specs.declared.act.Task.{Task}
-use Rattle.step_threads.specs.declared.call.CellName.{CellName}
 use Rattle.step_threads.specs.declared.ending.Ending.{Ending}
 use Rattle.step_threads.specs.declared.half.Half.{Half}
 use Rattle.step_threads.specs.declared.half.Half.TheVariants.{Rest, Making, Locking, Giving, Brought, Saw, Matched, Refill, Returning}
 use Rattle.step_table.specs.declared.cell_deed.Cell.{Cell}
 use Rattle.step_table.specs.declared.cell_deed.CellDeed.TheVariants as cell_deed
-use Rattle.step_table.specs.declared.cell_deed.Compared.{Compared}
 use Rattle.step_table.specs.declared.holdings.Pointer.{Pointer}
-use Rattle.step_table.specs.declared.past.Deed.{Deed}
 use Rattle.step_table.specs.declared.past.Deed.TheVariants as deed
 use Rattle.step_table.specs.declared.refill.Stage.{Stage}
-use Rattle.step_table.specs.declared.refill.Stage.TheVariants.{Turning}
 use Rattle.step_threads.specs.Actors.{wanted}
-use Rattle.step_table.specs.CellDeeds.{kind_in, owing}
-use Rattle.step_table.specs.Cells.{word_at}
-use Rattle.step_table.specs.Contents.{as_word, compared_in, is_spent, same_value, seen}
-use Rattle.step_table.specs.Refills.{more_taken}
-use Rattle.step_threads.specs.Courses.{Going, Walk, cell_at, comparing, form_of, going, hand, kind_at, locked, offered, on_going, other}
-use Rattle.step_table.specs.Deeds.{alias, aliased, downgrade, give, is_enabled, is_last, leave, lock, owner_word, read, share, tell, tell_expired, on}
+use Rattle.step_table.specs.CellDeeds.{owing}
+use Rattle.step_threads.specs.Courses.{Walk, cell_at, form_of, going, hand, locked}
+use Rattle.step_table.specs.Deeds.{give}
 use Rattle.step_threads.specs.Endings.{staged}
-use Rattle.step_threads.specs.Entries.{least}
-use Rattle.step_table.specs.Holdings.{Holds, inside, is_full, owner_slot, place_in, slot, value, weak_slot}
+use Rattle.step_table.specs.Holdings.{Holds, inside, is_full, slot}
 use Rattle.step_table.specs.Openings.{opening}
-use Rattle.step_threads.specs.Steps.{Step, acts, asks, at_rest, begins, begun, brings, claims, compares, ends_on, fetches, first, given, gives_back, looks, made_on, matched, matched_on, matches, missed, prepares, refills_on, returns, saw, saw_on, sees, sends, sent, settles, silent, step_at, story_after, story_by, swaps, takes, tried, tries, trying, with_endings, within}
+use Rattle.step_threads.specs.Steps.{Step, asks, at_rest, begun, claims, ends_on, first, given, made_on, matched, matched_on, prepares, refills_on, saw, saw_on, sent, silent, step_at, story_after, story_by, tried, with_endings}
 use Rattle.step_table.specs.Stories.{Kept, Nothing, Story, known, object_in, pending, state, view_in}
-use Rattle.step_table.proofs.contained.Told.{word_valid}
 use Rattle.step_table.proofs.tables.Places.{ending_busy, handle_busy, there}
 use Rattle.step_table.proofs.tables.Standing.{point, ready}
 use Rattle.step_core.specs.Turning.{IsOut, IsProper, IsTried, IsUnderWay}
-use Rattle.step_core.proofs.watching.Blocks.{IsThere, alias_off, bring_off, claim_off, downgrade_off, each_off, finish_off, give_back_off, give_off, inside_there, leave_off, least_there, lock_off, offered_there, owner_there, prepare_off, share_off, slot_there, weak_there, write_off}
-use Rattle.step_core.proofs.watching.Cells.{IsQuiet, Watches, put_in, refilled, still, taken}
+use Rattle.step_core.proofs.watching.Blocks.{IsThere, claim_off, finish_off, give_back_off, give_off, inside_there, least_there, write_off}
+use Rattle.step_core.proofs.watching.Cells.{refilled, still}
 use Rattle.step_core.proofs.watching.Steps.{IsWatch, first_watch, matches_watch, sent_watch, settles_watch, takes_watch, tries_watch}
 
 module _ (v : Story) (d : ℕ) (w : Walk) (kept : Kept v) (seat : d < v.extent.actors) (holds : Holds d w.slots v) where

@@ -1,54 +1,38 @@
 -- What each step does to the funds that are taken of cells.
-use Rattle.std.proofs.Common.{◌≡◌, ℕ, ◌+◌, ◌<◌, ◌≤◌, ◌==◌, Bool, true, false, cond, List, [], ◌∷◌, get_or, refl, sym, ap, subst, ◌∙◌, arith}
+use Rattle.std.proofs.Common.{◌≡◌, ℕ, ◌<◌, ◌==◌, Bool, false, cond, List, refl}
 use Rattle.std.proofs.Common.{eqb-true}
 use Rattle.std.specs.Prelude.{Option, Some, None, is_some, option_map}
-use Rattle.std.proofs.lemmas.Bool.{cond_both, eqb-false}
+use Rattle.std.proofs.lemmas.Bool.{cond_both}
 use Rattle.control_word.specs.declared.cell.CellWord.{CellWord}
 use Rattle.control_word.specs.declared.handle.Kind.{Kind}
 use Rattle.control_word.specs.declared.place.Block.{Block}
-use Rattle.control_word.specs.declared.place.Place.{Place}
-use Rattle.control_word.specs.declared.view.Pending.{Pending}
-use Rattle.control_word.specs.declared.view.Pending.TheVariants.{Paying}
-use Rattle.control_word.specs.Histories.{value as value_of}
 use Rattle.control_word.specs.Packing.{IsCellWord, cell_bits}
 use Rattle.control_word.specs.State.{weak}
-use Rattle.control_word.specs.Steps.{me}
-use Rattle.control_word.specs.Views.{Fits}
 use Rattle.step_threads.specs.declared.act.Act.{Act}
-use Rattle.step_table.specs.declared.form.Form.{Form}
 use Rattle.step_threads.specs.declared.act.Act.TheVariants.{Make, Share, Downgrade, Lock, Put, Leave, Clear, Count, Expired, Read, FromThis, Alias, Move, Ask, Offer, Swap, Exchange, Load, Compare, Drop}
 use Rattle.step_threads.specs.declared.act.Task.{Task}
 use Rattle.step_threads.specs.declared.call.CellName.{CellName}
-use Rattle.step_threads.specs.declared.ending.Ending.{Ending}
 use Rattle.step_threads.specs.declared.half.Half.{Half}
-use Rattle.step_threads.specs.declared.half.Half.TheVariants.{Rest, Making, Locking, Giving, Brought, Saw, Matched, Refill, Returning}
+use Rattle.step_threads.specs.declared.half.Half.TheVariants.{Rest, Making, Locking, Giving, Brought, Saw, Matched, Refill}
 use Rattle.step_table.specs.declared.cell_deed.Cell.{Cell}
 use Rattle.step_table.specs.declared.cell_deed.CellDeed.TheVariants as cell_deed
 use Rattle.step_table.specs.declared.cell_deed.Compared.{Compared}
 use Rattle.step_table.specs.declared.holdings.Pointer.{Pointer}
-use Rattle.step_table.specs.declared.past.Deed.{Deed}
 use Rattle.step_table.specs.declared.past.Deed.TheVariants as deed
-use Rattle.step_table.specs.declared.refill.Stage.{Stage}
 use Rattle.step_table.specs.declared.refill.Stage.TheVariants.{Turning}
-use Rattle.step_threads.specs.Actors.{wanted}
-use Rattle.step_table.specs.CellDeeds.{kind_in, owing}
+use Rattle.step_table.specs.CellDeeds.{kind_in}
 use Rattle.step_table.specs.Cells.{word_at}
 use Rattle.step_table.specs.Contents.{as_word, compared_in, is_spent, same_value, seen}
 use Rattle.step_table.specs.Refills.{more_taken}
-use Rattle.step_threads.specs.Courses.{Going, Walk, cell_at, comparing, form_of, going, hand, kind_at, locked, offered, on_going, other}
-use Rattle.step_table.specs.Deeds.{alias, aliased, downgrade, give, is_enabled, is_last, leave, lock, owner_word, read, share, tell, tell_expired, on}
-use Rattle.step_threads.specs.Endings.{staged}
+use Rattle.step_threads.specs.Courses.{Going, Walk, cell_at, comparing, going, hand, kind_at, locked, offered, on_going, other}
+use Rattle.step_table.specs.Deeds.{alias, aliased, downgrade, is_enabled, is_last, leave, lock, owner_word, read, share, tell, tell_expired, on}
 use Rattle.step_threads.specs.Entries.{least}
-use Rattle.step_table.specs.Holdings.{Holds, inside, is_full, owner_slot, place_in, slot, value, weak_slot}
-use Rattle.step_table.specs.Openings.{opening}
-use Rattle.step_threads.specs.Steps.{Step, acts, asks, at_rest, begins, begun, brings, claims, compares, ends_on, fetches, first, given, gives_back, looks, made_on, matched, matched_on, matches, missed, prepares, refills_on, returns, saw, saw_on, sees, sends, sent, settles, silent, step_at, story_after, story_by, swaps, takes, tried, tries, trying, with_endings, within}
-use Rattle.step_table.specs.Stories.{Kept, Nothing, Story, known, object_in, pending, state, view_in}
+use Rattle.step_table.specs.Holdings.{Holds, inside, owner_slot, place_in, slot, value, weak_slot}
+use Rattle.step_threads.specs.Steps.{Step, acts, asks, begins, brings, compares, fetches, first, gives_back, looks, matches, missed, sees, sends, settles, silent, swaps, takes, tries, trying, within}
+use Rattle.step_table.specs.Stories.{Kept, Story, state}
 use Rattle.step_table.proofs.contained.Told.{word_valid}
-use Rattle.step_table.proofs.tables.Places.{ending_busy, handle_busy, there}
-use Rattle.step_table.proofs.tables.Standing.{point, ready}
-use Rattle.step_core.specs.Turning.{IsOut, IsProper, IsTried, IsUnderWay}
-use Rattle.step_core.proofs.watching.Blocks.{IsThere, alias_off, bring_off, claim_off, downgrade_off, each_off, finish_off, give_back_off, give_off, inside_there, leave_off, least_there, lock_off, offered_there, owner_there, prepare_off, share_off, slot_there, weak_there, write_off}
-use Rattle.step_core.proofs.watching.Cells.{IsQuiet, Watches, put_in, refilled, still, taken}
+use Rattle.step_core.proofs.watching.Blocks.{IsThere, alias_off, bring_off, downgrade_off, each_off, leave_off, least_there, lock_off, offered_there, owner_there, prepare_off, share_off, slot_there, weak_there}
+use Rattle.step_core.proofs.watching.Cells.{IsQuiet, Watches, put_in, still, taken}
 
 -- so it is with a thread that has begun h
 abbrev pub IsWatch : Story → ℕ → Half → Option Step → Type 0
@@ -96,25 +80,24 @@ module _ (v : Story) (d : ℕ) (w : Walk) (kept : Kept v) (seat : d < v.extent.a
   trying_watch : (h : Half) (k word : ℕ) → IsQuiet v h → Watches v d h None (trying w k word).half
   trying_watch h k word quiet = still v d h None (trying w k word).half quiet (λ n. refl)
 
-  locks_watch : (h : Half) (k : ℕ) (ts : List Task) (a : Act) (x : Pointer) (b : Bool) (g : Half) → IsQuiet v h → locked w.slots a ≡ Some x
-      → Watches v d h (Some (lock (state v) x)) g
-  locks_watch h k ts a x b g quiet e =
-      let l = locked_is w a x e in still v d h (Some (lock (state v) x)) g quiet (lock_off v d x (weak_there v d w.slots kept holds l.0 x l.1))
+  locks_watch : (h : Half) (a : Act) (x : Pointer) → IsQuiet v h → locked w.slots a ≡ Some x → Watches v d h (Some (lock (state v) x)) Rest
+  locks_watch h a x quiet e =
+      let l = locked_is w a x e in still v d h (Some (lock (state v) x)) Rest quiet (lock_off v d x (weak_there v d w.slots kept holds l.0 x l.1))
 
   looks_watch : (k : ℕ) (ts : List Task) (a : Act) (o : Option Pointer) → locked w.slots a ≡ o
       → IsWatch v d Rest (Some (on (looks v d w k ts a) (acts v d w k ts a None Rest) o))
   looks_watch k ts a None e = still v d Rest None Rest (λ p a. refl) (λ n. refl)
   looks_watch k ts a (Some x) e =
       cond_both (owner_word v x == 0) (acts v d w k ts a (Some (lock (state v) x)) Rest) (trying w k (owner_word v x))
-      (λ (y : Step). IsWatch v d Rest (Some y)) (λ t. locks_watch Rest k ts a x true Rest (λ p q. refl) e)
+      (λ (y : Step). IsWatch v d Rest (Some y)) (λ t. locks_watch Rest a x (λ p q. refl) e)
       (λ t. trying_watch Rest k (owner_word v x) (λ p q. refl))
 
-  tries_watch : (k word : ℕ) (ts : List Task) (a : Act) (o : Option Pointer) → locked w.slots a ≡ o
+  pub tries_watch : (k word : ℕ) (ts : List Task) (a : Act) (o : Option Pointer) → locked w.slots a ≡ o
       → IsWatch v d (Locking word) (option_map (tries v d w k ts a word) o)
   tries_watch k word ts a None e = tt
   tries_watch k word ts a (Some x) e =
       cond_both (owner_word v x == word) (acts v d w k ts a (Some (lock (state v) x)) Rest) (trying w k (owner_word v x))
-      (λ (y : Step). IsWatch v d (Locking word) (Some y)) (λ t. locks_watch (Locking word) k ts a x true Rest (λ p q. refl) e)
+      (λ (y : Step). IsWatch v d (Locking word) (Some y)) (λ t. locks_watch (Locking word) a x (λ p q. refl) e)
       (λ t. trying_watch (Locking word) k (owner_word v x) (λ p q. refl))
 
   asks_watch : (k : ℕ) (ts : List Task) (i : ℕ) (q : Kind) (o : Option Pointer)
@@ -144,7 +127,7 @@ module _ (v : Story) (d : ℕ) (w : Walk) (kept : Kept v) (seat : d < v.extent.a
   going_watch k ts a None = still v d Rest None Rest (λ p q. refl) (λ n. refl)
   going_watch k ts a (Some x) = sends_watch k ts a x.0 x.1 (slot w.slots x.1) refl
 
-  sent_watch : (k : ℕ) (ts : List Task) (a : Act) (o : Option Going)
+  pub sent_watch : (k : ℕ) (ts : List Task) (a : Act) (o : Option Going)
       → IsWatch v d Brought (option_map (λ (x : Going). swaps v d w k ts a x.0 x.1) o)
   sent_watch k ts a None = tt
   sent_watch k ts a (Some x) = swaps_watch Brought k ts a x.0 x.1 (λ p q. refl)
@@ -165,7 +148,7 @@ module _ (v : Story) (d : ℕ) (w : Walk) (kept : Kept v) (seat : d < v.extent.a
       cond_both (same_value x y.expected) (within w k None (Saw x)) (sees v d w k ts a c (Some y) x) (λ (s : Step). IsWatch v d Rest (Some s))
       (λ t. still v d Rest None (Saw x) (λ p q. refl) (λ n. refl)) (λ t. sees_watch k ts a c (Some y) x)
 
-  takes_watch : (k : ℕ) (ts : List Task) (a : Act) (c : Cell) (y : Option Compared) (x : CellWord) → IsCellWord x
+  pub takes_watch : (k : ℕ) (ts : List Task) (a : Act) (c : Cell) (y : Option Compared) (x : CellWord) → IsCellWord x
       → IsWatch v d (Saw x) (Some (takes v d w k ts a c y x))
   takes_watch k ts a c y x valid =
       cond_both (word_at v c == cell_bits x)
@@ -173,7 +156,7 @@ module _ (v : Story) (d : ℕ) (w : Walk) (kept : Kept v) (seat : d < v.extent.a
       (λ (s : Step). IsWatch v d (Saw x) (Some s)) (λ t. taken v c x k kept valid (eqb-true _ _ t))
       (λ t. still v d (Saw x) None Rest (λ p q. refl) (λ n. refl))
 
-  matches_watch : (h : Half) (k : ℕ) (ts : List Task) (a : Act) (c : Cell) (i : ℕ) (weak : Bool) (x : CellWord) → IsQuiet v h
+  pub matches_watch : (h : Half) (k : ℕ) (ts : List Task) (a : Act) (c : Cell) (i : ℕ) (weak : Bool) (x : CellWord) → IsQuiet v h
       → IsWatch v d h (Some (matches v d w k ts a c (compared_in w.slots (comparing w.slots i weak)) x))
   matches_watch h k ts a c i weak x quiet =
       let y = compared_in w.slots (comparing w.slots i weak) in
@@ -192,7 +175,7 @@ module _ (v : Story) (d : ℕ) (w : Walk) (kept : Kept v) (seat : d < v.extent.a
       still v d (Saw x) (Some (deed.OnCell (cell_deed.Bring y.kind y.block y.place 256))) (Matched x) (λ p q. refl)
       (bring_off v d y.kind y.block y.place 256 (in_slot (hand w.slots) y e))
 
-  settles_watch : (k : ℕ) (ts : List Task) (a : Act) (c : Cell) (i : ℕ) (weak : Bool) (x : CellWord) → IsCellWord x
+  pub settles_watch : (k : ℕ) (ts : List Task) (a : Act) (c : Cell) (i : ℕ) (weak : Bool) (x : CellWord) → IsCellWord x
       → IsWatch v d (Saw x) (Some (settles v d w k ts a c (compared_in w.slots (comparing w.slots i weak)) x))
   settles_watch k ts a c i weak x valid =
       let y = compared_in w.slots (comparing w.slots i weak) in
@@ -200,7 +183,7 @@ module _ (v : Story) (d : ℕ) (w : Walk) (kept : Kept v) (seat : d < v.extent.a
       (takes v d w k ts a c (Some y) x) (λ (s : Step). IsWatch v d (Saw x) (Some s))
       (λ t. fetched_watch k ts a c i weak x (slot w.slots (hand w.slots)) refl) (λ t. takes_watch k ts a c (Some y) x valid)
 
-  first_watch : (k : ℕ) (ts : List Task) (a : Act) → IsWatch v d Rest (Some (first v d w k ts a))
+  pub first_watch : (k : ℕ) (ts : List Task) (a : Act) → IsWatch v d Rest (Some (first v d w k ts a))
   first_watch k ts (Make form) = begins_watch k ts (least d (state v).stores) refl
   first_watch k ts (Share i) =
       still v d Rest (option_map share (slot w.slots i)) Rest (λ p q. refl)

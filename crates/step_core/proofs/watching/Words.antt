@@ -1,9 +1,9 @@
 -- Words of free cells, and the threads that have funds to put back into them.
-use Rattle.std.proofs.Common.{◌≡◌, ◌≢◌, ◌⊎◌, ℕ, zero, suc, ◌+◌, ◌-◌, ◌*◌, ◌/◌, ◌%◌, ◌<◌, ◌≤◌, ◌==◌, Bool, true, false, cond, List, [], ◌∷◌, length, set, get_or, refl, sym, ap, subst, ◌∙◌, ⊎_elim, inl, inr, arith}
+use Rattle.std.proofs.Common.{◌≡◌, ◌≢◌, ◌⊎◌, ℕ, zero, suc, ◌+◌, ◌-◌, ◌*◌, ◌/◌, ◌<◌, ◌≤◌, ◌==◌, Bool, true, false, cond, List, [], ◌∷◌, length, set, get_or, refl, sym, ap, subst, ◌∙◌, ⊎_elim, arith}
 use Rattle.std.proofs.Common.{get_or-set_other, eq-eqb}
 use Rattle.std.specs.List.{filter}
 use Rattle.std.specs.Prelude.{◌&&◌, Option, Some, None, slice_index, slice_set}
-use Rattle.std.proofs.lemmas.Bool.{and_from, cond-true, cond-false}
+use Rattle.std.proofs.lemmas.Bool.{and_from}
 use Rattle.control_word.proofs.lists.Tallies.{num, num_cons}
 use Rattle.control_word.proofs.packing.Cells.{block_fits, field_fits, owned_fits, same_block as one_block, same_place as one_place}
 use Rattle.control_word.proofs.packing.Fields.{same_parts}

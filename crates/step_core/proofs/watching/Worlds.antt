@@ -5,8 +5,6 @@ use Rattle.std.specs.Prelude.{◌&&◌, Option, Some, None, is_some, not}
 use Rattle.std.specs.List.{filter}
 use Rattle.std.proofs.lemmas.Bool.{cond_both}
 use Rattle.std.proofs.lemmas.List.{set-get_or}
-use Rattle.control_word.specs.declared.cell.CellWord.{CellWord}
-use Rattle.control_word.specs.declared.shape.Shape.{Shape}
 use Rattle.control_word.specs.Layout.{cell_place}
 use Rattle.step_threads.specs.declared.act.Act.{Act}
 use Rattle.step_threads.specs.declared.act.Act.TheVariants.{Make, Share, Downgrade, Lock, Put, Leave, Clear, Count, Expired, Read, FromThis, Alias, Move, Ask, Offer, Swap, Exchange, Load, Compare, Drop}
@@ -17,7 +15,6 @@ use Rattle.step_threads.specs.declared.ending.Ending.{Ending}
 use Rattle.step_threads.specs.declared.half.Half.{Half}
 use Rattle.step_threads.specs.declared.half.Half.TheVariants.{Rest, Making, Locking, Giving, Brought, Saw, Matched, Refill, Returning}
 use Rattle.step_table.specs.declared.cell_deed.Cell.TheVariants.{Free}
-use Rattle.step_table.specs.declared.extent.Extent.{Extent}
 use Rattle.step_table.specs.declared.past.Deed.{Deed}
 use Rattle.step_table.specs.Contents.{as_word, is_spent, same_value, seen}
 use Rattle.step_table.specs.Holdings.{value}
@@ -26,10 +23,9 @@ use Rattle.step_table.proofs.contained.Told.{shared_is}
 use Rattle.step_threads.specs.Courses.{HasCell, Walk, cell_at}
 use Rattle.step_threads.specs.Programs.{IsIn}
 use Rattle.step_threads.specs.Scenes.{walk_of}
-use Rattle.step_threads.specs.Steps.{Step, half_by, step_at, story_after, story_by, waits, waits_at, waits_on}
-use Rattle.step_threads.proofs.CellNames.{cell_open}
+use Rattle.step_threads.specs.Steps.{Step, half_by, story_after, story_by, waits, waits_at, waits_on}
 use Rattle.step_core.specs.Turning.{HasBegun, IsInShape}
-use Rattle.step_core.specs.Watching.{IsWatched, is_watching, watchers}
+use Rattle.step_core.specs.Watching.{IsWatched, is_watching}
 use Rattle.step_core.specs.Worlds.{Sight, half_of, scene, sight_by, step_of}
 use Rattle.step_core.proofs.watching.Cells.{Watches}
 use Rattle.step_core.proofs.watching.Halves.{each_watch}
