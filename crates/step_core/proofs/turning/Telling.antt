@@ -141,7 +141,7 @@ tells_back d u v tell h c goes halves is all =
         exactly = λ s. t.exactly (λ k ne. ap (λ (p : Pending Nothing). owes p (spot x.block.0 0)) (stay k ne) ∙ s k ne);
       };
       settled = λ n i x e. all.settled (λ k ne. ap (λ (l : List Half). is_loading (get_or l k Rest)) halves
-      ∙ ap is_loading (get_or-set_other u.halves d k h Rest ne) ∙ n k ne) i x e;
+          ∙ ap is_loading (get_or-set_other u.halves d k h Rest ne) ∙ n k ne) i x e;
     })
 
 -- a step that doesn't wait

@@ -71,7 +71,6 @@ left_of v h (t ∷ ts) = left_on v t.act h
 abbrev pub tries_left : ℕ → Sight → ℕ
 tries_left d u = left_of u.story (half_of u d) (walk_of (scene u) d).todo
 
-
 -- a thread on the way of a load or a compare, and its next step
 record Trial (d : ℕ) (u : Sight) : Type 0 where
   task : Task

@@ -42,7 +42,7 @@ returns-clause-was c =
     (has_begun c.self.inside.table c.self.inside.threads.items c.args.number c.index_mut-thread.result.now lt c.index_mut-thread.ensures.value
     (c.self.invariant.0.each c.args.number c.index_mut-thread.result.now
     (thread_at c.self.inside.threads.items c.args.number c.index_mut-thread.result.now lt c.index_mut-thread.ensures.value)) c.self.invariant.1.plain.bare c.known.ensures c.self.invariant.0
-          c.self.invariant.1.threads)
+    c.self.invariant.1.threads)
 
 pub returns-clause-steps : goal.returns-clause-steps
 returns-clause-steps c =
