@@ -38,7 +38,7 @@ use Rattle.step_threads.specs.Steps.{Step, answered, half_by, step_at, story_aft
 use Rattle.step_table.specs.Stories.{AllBare, Kept, Nothing, Story, after, pending, state}
 use Rattle.step_threads.specs.Threads.{Fits, HasStepped, IsNext}
 use Rattle.step_core.specs.Turning.{HasBegun, IsAlone, IsInShape, IsLock, IsMatched, IsOut, IsProper, IsSeen, IsStill, IsSwap, IsTried, IsUnderWay, OthersOwe}
-use Rattle.step_core.specs.Worlds.{AllFit, Sight, Steps, answer_at, half_of, is_loading, scene, step_of, thread_half, thread_walk}
+use Rattle.step_core.specs.Worlds.{AllFit, Sight, Steps, half_of, is_loading, scene, step_of, thread_half, thread_walk}
 use Rattle.step_threads.proofs.Courses.{todo_at}
 use Rattle.step_threads.proofs.holding.Halves.{half_others}
 use Rattle.step_threads.proofs.holding.Others.{ends_others, stocks_others}

@@ -15,7 +15,7 @@ use Rattle.step_table.specs.declared.past.Deed.{Deed}
 use Rattle.step_table.specs.declared.past.Deed.TheVariants.{OnCell}
 use Rattle.step_table.specs.CellDeeds.{cell_in, kind_in}
 use Rattle.step_table.specs.Contents.{as_word, compare_of, compared_in, held_in, is_of, is_spent, load_of, same_value, seen, told}
-use Rattle.step_table.specs.Holdings.{Holds, Slots, value}
+use Rattle.step_table.specs.Holdings.{Holds, value}
 use Rattle.step_table.specs.Stories.{Kept, Nothing, added, event_of, state}
 use Rattle.step_table.proofs.contained.Coming.{seen_found}
 use Rattle.step_table.proofs.contained.Telling.{look_tells, unlike_tells}
@@ -28,7 +28,6 @@ use Rattle.step_threads.specs.declared.ending.Ending.{Ending}
 use Rattle.step_threads.specs.declared.half.Half.{Half}
 use Rattle.step_threads.specs.declared.half.Half.TheVariants.{Rest, Saw}
 use Rattle.step_threads.specs.Courses.{HasCell, cell_at, comparing, hand, idle, kind_at}
-use Rattle.step_threads.specs.Entries.{History}
 use Rattle.step_threads.specs.Scenes.{walk_of, went}
 use Rattle.step_threads.specs.Steps.{Step, acts, first, sees, waits, waits_at, waits_on, within}
 use Rattle.step_core.specs.Turning.{HasBegun, IsInShape, IsStill, is_acting}

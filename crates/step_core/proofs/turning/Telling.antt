@@ -10,7 +10,7 @@ use Rattle.control_word.specs.State.{State}
 use Rattle.control_word.specs.Views.{owes}
 use Rattle.step_table.specs.declared.holdings.Pointer.{Pointer}
 use Rattle.step_table.specs.declared.past.Deed.{Deed}
-use Rattle.step_table.specs.Deeds.{Telling, Tells, by_word, exact}
+use Rattle.step_table.specs.Deeds.{Telling, by_word, exact}
 use Rattle.step_table.specs.Holdings.{Slots, slot}
 use Rattle.step_table.specs.Stories.{Nothing, Story, pending}
 use Rattle.step_table.proofs.holding.Counting.{tells}
@@ -24,7 +24,7 @@ use Rattle.step_threads.specs.declared.said.Stepped.TheVariants.{Waited}
 use Rattle.step_threads.specs.Scenes.{Scene, answer_of, walk_of}
 use Rattle.step_threads.specs.Steps.{Step, stepped, story_after, story_by, waits}
 use Rattle.step_core.specs.Turning.{HasBegun, IsProper}
-use Rattle.step_core.specs.Worlds.{GoesTo, NoneLoads, Sight, Steps, StepsBy, TellsAll, half_of, is_loading, scene, step_of}
+use Rattle.step_core.specs.Worlds.{GoesTo, Sight, Steps, StepsBy, TellsAll, half_of, is_loading, scene, step_of}
 
 -- a count is told by the word, and no other act tells any
 abbrev pub tell_of : Story → Act → Telling
@@ -141,7 +141,7 @@ tells_back d u v tell h c goes halves is all =
         exactly = λ s. t.exactly (λ k ne. ap (λ (p : Pending Nothing). owes p (spot x.block.0 0)) (stay k ne) ∙ s k ne);
       };
       settled = λ n i x e. all.settled (λ k ne. ap (λ (l : List Half). is_loading (get_or l k Rest)) halves
-      ∙ ap is_loading (get_or-set_other u.halves d k h Rest ne) ∙ n k ne) i x e;
+          ∙ ap is_loading (get_or-set_other u.halves d k h Rest ne) ∙ n k ne) i x e;
     })
 
 -- a step that doesn't wait

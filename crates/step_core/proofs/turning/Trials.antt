@@ -1,48 +1,32 @@
 -- What a step of a load or a compare does: it is the act, or one on its way.
-use Rattle.std.proofs.Common.{◌≡◌, ◌≢◌, ◌⊎◌, inl, inr, ℕ, ◌<◌, ◌==◌, Bool, true, false, cond, not, ◌&&◌, List, [], ◌∷◌, length, set, refl, sym, ap, subst, ◌∙◌, ⊎_elim, arith}
-use Rattle.std.proofs.Common.{eq-eqb}
+use Rattle.std.proofs.Common.{◌≡◌, ◌⊎◌, inl, inr, ℕ, ◌<◌, ◌==◌, Bool, true, false, cond, List, refl, sym, ap, ◌∙◌, arith}
 use Rattle.std.specs.Prelude.{Option, Some, None, is_some}
-use Rattle.std.proofs.lemmas.Bool.{cond_both, eqb-true, false≢true}
-use Rattle.std.proofs.lemmas.List.{set-get_or, set-set}
+use Rattle.std.proofs.lemmas.Bool.{cond_both, false≢true}
 use Rattle.control_word.specs.declared.cell.CellWord.{CellWord}
-use Rattle.control_word.specs.declared.handle.Kind.{Kind}
-use Rattle.control_word.specs.declared.place.Block.{Block}
-use Rattle.control_word.specs.Packing.{IsCellWord, cell_bits}
+use Rattle.control_word.specs.Packing.{cell_bits}
 use Rattle.step_table.specs.declared.cell_deed.Cell.{Cell}
-use Rattle.step_table.specs.declared.cell_deed.CellDeed.TheVariants.{Bring, CompareSwap, Look, Take}
+use Rattle.step_table.specs.declared.cell_deed.CellDeed.TheVariants.{CompareSwap, Look, Take}
 use Rattle.step_table.specs.declared.cell_deed.Compared.{Compared}
 use Rattle.step_table.specs.declared.holdings.Pointer.{Pointer}
 use Rattle.step_table.specs.declared.past.Deed.TheVariants.{OnCell}
 use Rattle.step_table.specs.CellDeeds.{kind_in}
 use Rattle.step_table.specs.Cells.{word_at}
-use Rattle.step_table.specs.Contents.{as_word, compared_in, is_spent, same_value, seen}
+use Rattle.step_table.specs.Contents.{is_spent, seen}
 use Rattle.step_table.specs.Deeds.{on}
-use Rattle.step_table.specs.Holdings.{Slots, slot, value}
+use Rattle.step_table.specs.Holdings.{slot}
 use Rattle.step_table.specs.declared.refill.Stage.TheVariants.{Turning}
 use Rattle.step_table.specs.Refills.{more_taken}
-use Rattle.step_table.specs.Stories.{Kept, Story, after, state}
-use Rattle.step_table.proofs.contained.Coming.{open_found}
-use Rattle.step_table.proofs.contained.Telling.{compare_swap_tells, differing_tells, look_tells, take_tells}
-use Rattle.step_table.proofs.holding.Owning.{slot_held}
+use Rattle.step_table.specs.Stories.{Story, state}
 use Rattle.step_threads.specs.declared.act.Act.{Act}
-use Rattle.step_threads.specs.declared.act.Act.TheVariants.{Make, Share, Downgrade, Lock, Put, Leave, Clear, Count, Expired, Read, FromThis, Alias, Move, Ask, Offer, Swap, Exchange, Load, Compare, Drop}
+use Rattle.step_threads.specs.declared.act.Act.TheVariants.{Load, Compare}
 use Rattle.step_threads.specs.declared.act.Task.{Task}
-use Rattle.step_threads.specs.declared.call.CellName.{CellName}
-use Rattle.step_threads.specs.declared.ending.Ending.{Ending}
 use Rattle.step_threads.specs.declared.half.Half.{Half}
-use Rattle.step_threads.specs.declared.half.Half.TheVariants.{Rest, Making, Locking, Giving, Brought, Saw, Matched, Refill, Returning}
-use Rattle.step_threads.specs.declared.said.Said.{Said}
-use Rattle.step_threads.specs.declared.said.Stepped.{Stepped}
-use Rattle.step_threads.specs.declared.said.Stepped.TheVariants.{Event, Quiet, Waited}
-use Rattle.step_threads.specs.Courses.{HasCell, Walk, cell_at, comparing, hand}
-use Rattle.step_threads.specs.Scenes.{Scene, walk_of}
-use Rattle.step_threads.specs.Steps.{Step, acts, at_rest, begun, fetches, first, gives_back, is_event as is_done, matched, matched_on, matches, missed, returns, saw, saw_on, sees, settles, step_at, stepped, story_after, takes, waits_on, within}
-use Rattle.step_threads.specs.Threads.{IsMatchedBy, IsSeenBy}
-use Rattle.step_core.specs.Turning.{HasBegun, IsAlone, IsMatched, IsProper, IsSeen, IsTried, Plays, is_acting, is_event, is_trying, turned_by}
-use Rattle.step_core.specs.Worlds.{GoesTo, Sight, Steps, half_of, scene, sight_by, step_of}
-use Rattle.step_threads.proofs.CellNames.{cell_open}
-use Rattle.step_core.proofs.turning.Looking.{CanLook, awake_on, can_look, compare_so, found_now, load_so, may_compare, unlike_so}
-use Rattle.step_core.proofs.turning.Refilling.{brought_word, kept_block}
+use Rattle.step_threads.specs.declared.half.Half.TheVariants.{Rest, Saw, Matched, Refill, Returning}
+use Rattle.step_threads.specs.Courses.{Walk, cell_at, hand}
+use Rattle.step_threads.specs.Scenes.{walk_of}
+use Rattle.step_threads.specs.Steps.{Step, acts, gives_back, is_event as is_done, matches, missed, sees, story_after, takes, within}
+use Rattle.step_core.specs.Turning.{is_acting}
+use Rattle.step_core.specs.Worlds.{Sight, scene}
 use Rattle.step_core.proofs.turning.Saying.{Acts}
 use Rattle.step_core.proofs.turning.Swapping.{no_more}
 

@@ -1,52 +1,31 @@
 -- A load or a compare that is tried, step by step.
-use Rattle.std.proofs.Common.{◌≡◌, ◌≢◌, ◌⊎◌, inl, inr, ℕ, ◌<◌, ◌==◌, Bool, true, false, cond, not, ◌&&◌, List, [], ◌∷◌, length, set, refl, sym, ap, subst, ◌∙◌, ⊎_elim, arith}
-use Rattle.std.proofs.Common.{eq-eqb}
-use Rattle.std.specs.Prelude.{Option, Some, None, is_some}
-use Rattle.std.proofs.lemmas.Bool.{cond_both, eqb-true, false≢true}
+use Rattle.std.proofs.Common.{◌≡◌, ◌≢◌, inr, ℕ, ◌<◌, Bool, true, false, cond, List, [], ◌∷◌, length, set, refl, sym, ap, subst, ◌∙◌, ⊎_elim, arith}
+use Rattle.std.specs.Prelude.{Some}
+use Rattle.std.proofs.lemmas.Bool.{false≢true}
 use Rattle.std.proofs.lemmas.List.{set-get_or, set-set}
 use Rattle.control_word.specs.declared.cell.CellWord.{CellWord}
 use Rattle.control_word.specs.declared.handle.Kind.{Kind}
 use Rattle.control_word.specs.declared.place.Block.{Block}
-use Rattle.control_word.specs.Packing.{IsCellWord, cell_bits}
-use Rattle.step_table.specs.declared.cell_deed.Cell.{Cell}
-use Rattle.step_table.specs.declared.cell_deed.CellDeed.TheVariants.{Bring, CompareSwap, Look, Take}
-use Rattle.step_table.specs.declared.cell_deed.Compared.{Compared}
-use Rattle.step_table.specs.declared.holdings.Pointer.{Pointer}
-use Rattle.step_table.specs.declared.past.Deed.TheVariants.{OnCell}
-use Rattle.step_table.specs.CellDeeds.{kind_in}
-use Rattle.step_table.specs.Cells.{word_at}
-use Rattle.step_table.specs.Contents.{as_word, compared_in, is_spent, same_value}
 use Rattle.step_table.specs.Deeds.{on}
-use Rattle.step_table.specs.Holdings.{Slots, slot, value}
-use Rattle.step_table.specs.Refills.{more_taken}
-use Rattle.step_table.specs.Stories.{Kept, Story, after, state}
-use Rattle.step_table.proofs.contained.Coming.{open_found}
-use Rattle.step_table.proofs.contained.Telling.{compare_swap_tells, differing_tells, take_tells}
-use Rattle.step_table.proofs.holding.Owning.{slot_held}
+use Rattle.step_table.specs.Stories.{Kept, Story}
 use Rattle.step_threads.specs.declared.act.Act.{Act}
-use Rattle.step_threads.specs.declared.act.Act.TheVariants.{Make, Share, Downgrade, Lock, Put, Leave, Clear, Count, Expired, Read, FromThis, Alias, Move, Ask, Offer, Swap, Exchange, Load, Compare, Drop}
 use Rattle.step_threads.specs.declared.act.Task.{Task}
-use Rattle.step_threads.specs.declared.call.CellName.{CellName}
 use Rattle.step_threads.specs.declared.ending.Ending.{Ending}
 use Rattle.step_threads.specs.declared.half.Half.{Half}
 use Rattle.step_threads.specs.declared.half.Half.TheVariants.{Rest, Making, Locking, Giving, Brought, Saw, Matched, Refill, Returning}
 use Rattle.step_threads.specs.declared.said.Said.{Said}
 use Rattle.step_threads.specs.declared.said.Stepped.{Stepped}
 use Rattle.step_threads.specs.declared.said.Stepped.TheVariants.{Event, Quiet, Waited}
-use Rattle.step_threads.specs.Courses.{HasCell, Walk, cell_at, comparing, hand}
+use Rattle.step_threads.specs.Courses.{Walk}
 use Rattle.step_threads.specs.Scenes.{Scene, walk_of}
-use Rattle.step_threads.specs.Steps.{Step, acts, at_rest, begun as begun_at, fetches, first, gives_back, is_event as is_done, matched, matched_on, matches, missed, returns, saw, saw_on, sees, settles, step_at, stepped, story_after, takes, waits, within}
-use Rattle.step_threads.specs.Threads.{IsMatchedBy, IsSeenBy}
-use Rattle.step_core.specs.Turning.{HasBegun, IsAlone, IsMatched, IsProper, IsSeen, IsTried, Plays, is_acting, is_event, is_trying, turned_by}
+use Rattle.step_threads.specs.Steps.{Step, at_rest, begun as begun_at, first, is_event as is_done, matched, returns, saw, step_at, stepped, story_after, waits, within}
+use Rattle.step_core.specs.Turning.{HasBegun, IsAlone, IsMatched, IsProper, IsSeen, IsTried, Plays, is_event, is_trying, turned_by}
 use Rattle.step_core.specs.Worlds.{GoesTo, Sight, Steps, half_of, scene, sight_by, step_of}
-use Rattle.step_threads.proofs.CellNames.{cell_open}
 use Rattle.step_core.proofs.turning.Chains.{more_steps, no_step, one_step}
 use Rattle.step_core.proofs.turning.Ending.{half_after, halves_after, same_walks, walk_after}
-use Rattle.step_core.proofs.turning.Looking.{CanLook, awake_on, can_look, compare_so, found_now, load_so, may_compare, unlike_so}
-use Rattle.step_core.proofs.turning.Refilling.{brought_word, kept_block}
+use Rattle.step_core.proofs.turning.Looking.{awake_on, can_look}
 use Rattle.step_core.proofs.turning.Resting.{scene_stays}
-use Rattle.step_core.proofs.turning.Saying.{Acts, plays_as}
-use Rattle.step_core.proofs.turning.Swapping.{no_more}
+use Rattle.step_core.proofs.turning.Saying.{plays_as}
 use Rattle.step_core.proofs.turning.Telling.{awake, tells_unless}
 use Rattle.step_core.proofs.turning.Outcomes.{matched_out, rest_out, saw_out}
 use Rattle.step_core.proofs.turning.Trials.{Done, Outcome, Tried, is_looking, is_trial, left_on}
@@ -70,7 +49,6 @@ left_of v h (t ∷ ts) = left_on v t.act h
 
 abbrev pub tries_left : ℕ → Sight → ℕ
 tries_left d u = left_of u.story (half_of u d) (walk_of (scene u) d).todo
-
 
 -- a thread on the way of a load or a compare, and its next step
 record Trial (d : ℕ) (u : Sight) : Type 0 where
