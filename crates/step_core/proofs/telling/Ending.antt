@@ -28,7 +28,7 @@ use Rattle.step_table.specs.Holdings.{inside, is_full, owner_slot, place_in, slo
 use Rattle.step_table.specs.Openings.{opening}
 use Rattle.step_threads.specs.Entries.{least}
 use Rattle.step_threads.specs.Scenes.{begins_end, begins_end_as, endings_by, hands, holding, went}
-use Rattle.step_threads.specs.Steps.{Step, asks, at_rest, begins, begun, claims, ends_on, first, made_on, prepares, silent, step_at, story_by, with_endings}
+use Rattle.step_threads.specs.Steps.{Step, at_rest, begins, begun, claims, ends_on, first, made_on, prepares, silent, step_at, story_by, with_endings}
 use Rattle.step_table.specs.Stories.{Kept, Story, known, object_in, pending, state}
 use Rattle.step_core.specs.Told.{AllEnd}
 use Rattle.step_table.proofs.tables.Places.{owner_busy, there}
