@@ -32,7 +32,8 @@ use Rattle.step_core.specs.Headline.{TellsLocks, Was, answer_by}
 use Rattle.step_table.specs.Holdings.{inside, is_full, slot, owner_slot, place_in}
 use Rattle.step_threads.specs.Entries.{least}
 use Rattle.step_threads.specs.Scenes.{found, lock_answer, walk_of}
-use Rattle.step_threads.specs.Steps.{asks, at_rest, brings, given as given_by, Step, acts, begins, begun, claims, ends_on, first, is_event, looks, made_on, prepares, sends, sent, silent, step_at, stepped as stepped_by, story_after, story_by, swaps, tried, tries, trying, with_endings}
+use Rattle.step_threads.specs.Steps.{asks, at_rest, brings, given as given_by, Step, acts, begins, begun, claims, ends_on, first, is_event, looks, made_on}
+use Rattle.step_threads.specs.Steps.{prepares, sends, sent, silent, step_at, stepped as stepped_by, story_after, story_by, swaps, tried, tries, trying, with_endings}
 use Rattle.step_table.specs.Stories.{Nothing, Story, added, event_of, known, object_in, pending, state}
 use Rattle.step_core.specs.Worlds.{Sight, half_of, scene, step_of}
 use Rattle.step_table.proofs.tables.CellDeeds.{by_event}

@@ -25,7 +25,8 @@ use Rattle.step_threads.specs.Endings.{staged}
 use Rattle.step_table.specs.Holdings.{Holds, inside, is_full, owner_slot, place_in, slot}
 use Rattle.step_threads.specs.Entries.{least}
 use Rattle.step_threads.specs.Scenes.{holding, left as leaves_by, went}
-use Rattle.step_threads.specs.Steps.{Step, acts, asks, at_rest, begins, begun, brings, claims, ends_on, first, given, gives_back, looks, made_on, prepares, sends, sent, silent, step_at, stepped as stepped_by, story_after, swaps, tried, tries, trying, waits, waits_at, waits_on, with_endings}
+use Rattle.step_threads.specs.Steps.{Step, acts, asks, at_rest, begins, begun, brings, claims, ends_on, first, given, gives_back, looks, made_on, prepares}
+use Rattle.step_threads.specs.Steps.{sends, sent, silent, step_at, stepped as stepped_by, story_after, swaps, tried, tries, trying, waits, waits_at, waits_on, with_endings}
 use Rattle.step_table.specs.Stories.{Kept, Story, known, object_in, pending, state}
 use Rattle.step_core.specs.Told.{is_prepared}
 use Rattle.step_core.specs.Turning.{IsAlone, IsInShape, IsLock, IsOut, IsSwap, IsTried, IsUnderWay}
