@@ -12,7 +12,7 @@ use Rattle.control_word.specs.declared.handle.Kind.{Kind}
 use Rattle.control_word.specs.declared.place.Block.{Block}
 use Rattle.step_threads.specs.declared.said.Stepped.{Stepped}
 use Rattle.step_threads.specs.Courses.{Walk, hand}
-use Rattle.step_threads.specs.Endings.{first_of, staged}
+use Rattle.step_threads.specs.Endings.{first_of}
 use Rattle.step_table.specs.Holdings.{is_full, slot}
 use Rattle.step_threads.specs.Scenes.{Scene, rested, walk_of}
 use Rattle.step_threads.specs.Steps.{Step, at_rest, ends_on, refills_on, returns, step_at, story_after}

@@ -11,8 +11,7 @@ use Rattle.step_table.specs.declared.holdings.Pointer.{Pointer}
 use Rattle.step_table.specs.declared.past.Deed.TheVariants.{OnCell}
 use Rattle.step_table.specs.CellDeeds.{kind_in}
 use Rattle.step_table.specs.Cells.{word_at}
-use Rattle.step_table.specs.Contents.{is_spent, seen}
-use Rattle.step_table.specs.Deeds.{on}
+use Rattle.step_table.specs.Contents.{is_spent}
 use Rattle.step_table.specs.Holdings.{slot}
 use Rattle.step_table.specs.declared.refill.Stage.TheVariants.{Turning}
 use Rattle.step_table.specs.Refills.{more_taken}

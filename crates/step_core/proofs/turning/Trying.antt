@@ -6,7 +6,6 @@ use Rattle.std.proofs.lemmas.List.{set-get_or, set-set}
 use Rattle.control_word.specs.declared.cell.CellWord.{CellWord}
 use Rattle.control_word.specs.declared.handle.Kind.{Kind}
 use Rattle.control_word.specs.declared.place.Block.{Block}
-use Rattle.step_table.specs.Deeds.{on}
 use Rattle.step_table.specs.Stories.{Kept, Story}
 use Rattle.step_threads.specs.declared.act.Act.{Act}
 use Rattle.step_threads.specs.declared.act.Task.{Task}
@@ -18,7 +17,7 @@ use Rattle.step_threads.specs.declared.said.Stepped.{Stepped}
 use Rattle.step_threads.specs.declared.said.Stepped.TheVariants.{Event, Quiet, Waited}
 use Rattle.step_threads.specs.Courses.{Walk}
 use Rattle.step_threads.specs.Scenes.{Scene, walk_of}
-use Rattle.step_threads.specs.Steps.{Step, at_rest, begun as begun_at, first, is_event as is_done, matched, returns, saw, step_at, stepped, story_after, waits, within}
+use Rattle.step_threads.specs.Steps.{Step, at_rest, begun as begun_at, first, is_event as is_done, matched, returns, saw, step_at, stepped, story_after, waits}
 use Rattle.step_core.specs.Turning.{HasBegun, IsAlone, IsMatched, IsProper, IsSeen, IsTried, Plays, is_event, is_trying, turned_by}
 use Rattle.step_core.specs.Worlds.{GoesTo, Sight, Steps, half_of, scene, sight_by, step_of}
 use Rattle.step_core.proofs.turning.Chains.{more_steps, no_step, one_step}
