@@ -1,5 +1,5 @@
 -- The cells of names are there, and of their kinds.
-use Rattle.std.proofs.Common.{◌≡◌, ℕ, ◌+◌, ◌<◌, Bool, true, sym, ap, subst, ◌∙◌, arith, le-ltb, lt-ltb}
+use Rattle.std.proofs.Common.{◌≡◌, ℕ, ◌+◌, true, sym, subst, arith, le-ltb, lt-ltb}
 use Rattle.std.proofs.lemmas.Bool.{cond-true, cond-false}
 use Rattle.std.specs.Prelude.{nat_lt}
 use Rattle.control_word.proofs.history.Kept.{cells_led}

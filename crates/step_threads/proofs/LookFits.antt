@@ -1,5 +1,5 @@
 -- A thread within an act on a cell fits the table after a step.
-use Rattle.std.proofs.Common.{◌≡◌, ℕ, List, [], length, refl, sym, ap, subst, ◌∙◌, arith}
+use Rattle.std.proofs.Common.{◌≡◌, ℕ, [], length, refl, sym, ap, subst, ◌∙◌, arith}
 use Rattle.std.specs.List.{filter}
 use Rattle.std.specs.Prelude.{Option, None}
 use Rattle.control_word.specs.declared.event.Event.{Event}

@@ -1,5 +1,5 @@
 -- What the steps of threads are that look at cells, and of those that took a fund of one.
-use Rattle.std.proofs.Common.{◌≡◌, ℕ, ◌<◌, ◌==◌, ◌&&◌, true, false, cond, List, [], ◌∷◌, length, sym, ap, subst, ◌∙◌}
+use Rattle.std.proofs.Common.{◌≡◌, ℕ, ◌<◌, ◌==◌, ◌&&◌, true, false, cond, List, [], length, sym, ap, subst, ◌∙◌}
 use Rattle.std.proofs.lemmas.Bool.{cond-false, cond-true}
 use Rattle.std.specs.Prelude.{Option, Some, None, option_map, is_some, slice_set}
 use Rattle.control_word.specs.declared.cell.CellWord.{CellWord}
@@ -12,7 +12,6 @@ use Rattle.step_threads.specs.declared.call.CellName.{CellName}
 use Rattle.step_table.specs.declared.cell_deed.Cell.{Cell}
 use Rattle.step_table.specs.declared.cell_deed.CellDeed.TheVariants.{Look, Take}
 use Rattle.step_table.specs.declared.cell_deed.Compared.{Compared}
-use Rattle.step_threads.specs.declared.ending.Ending.{Ending}
 use Rattle.step_threads.specs.declared.half.Half.{Half}
 use Rattle.step_threads.specs.declared.half.Half.TheVariants.{Rest, Saw, Refill}
 use Rattle.step_table.specs.declared.past.Deed.TheVariants.{OnCell}
@@ -26,7 +25,7 @@ use Rattle.step_table.specs.Contents.{is_spent, seen}
 use Rattle.step_table.specs.Refills.{more_taken}
 use Rattle.step_threads.specs.Courses.{Walk, cell_at, hand, rest, settled, task_at, walk}
 use Rattle.step_threads.specs.Scenes.{came}
-use Rattle.step_threads.specs.Steps.{Step, acts, first, half_by, refills_on, saw, saw_on, sees, silent, step_at, stepped, story_after, story_by, takes, waits, waits_at, waits_on, walk_by, within}
+use Rattle.step_threads.specs.Steps.{Step, acts, half_by, refills_on, saw, saw_on, sees, silent, step_at, stepped, story_after, story_by, takes, waits, walk_by, within}
 use Rattle.step_table.specs.Stories.{Story, after, state}
 use Rattle.step_threads.specs.Threads.{HasStepped}
 use Rattle.step_threads.proofs.Courses.{todo_at}

@@ -1,10 +1,9 @@
 -- A thread that refills a cell fits the table.
-use Rattle.std.proofs.Common.{◌≡◌, ℕ, ◌&&◌, Bool, true, false, cond, refl, sym, ap, subst, ◌∙◌}
+use Rattle.std.proofs.Common.{◌≡◌, ℕ, Bool, true, false, cond, refl, sym, subst}
 use Rattle.std.proofs.lemmas.Bool.{and_parts}
-use Rattle.std.specs.Prelude.{Option, Some, None}
+use Rattle.std.specs.Prelude.{Some}
 use Rattle.control_word.specs.declared.cell.CellWord.{CellWord}
 use Rattle.control_word.specs.declared.place.Block.{Block}
-use Rattle.control_word.specs.declared.view.Pending.TheVariants.{Idle}
 use Rattle.step_table.specs.declared.cell_deed.Cell.{Cell}
 use Rattle.step_table.specs.declared.cell_deed.CellDeed.TheVariants.{Turn, Bring, GiveBack, Refill as Refills}
 use Rattle.step_threads.specs.declared.half.Half.{Half}
@@ -15,9 +14,9 @@ use Rattle.step_table.specs.declared.refill.Stage.TheVariants.{Turning, Checking
 use Rattle.step_threads.specs.declared.thread.Thread.{Thread}
 use Rattle.control_word.specs.Packing.{IsCellWord}
 use Rattle.step_table.specs.CellDeeds.{kind_in}
-use Rattle.step_table.specs.Contents.{same_value, seen}
+use Rattle.step_table.specs.Contents.{same_value}
 use Rattle.step_table.specs.Refills.{RefillFits, is_drained, is_low}
-use Rattle.step_table.specs.Stories.{Kept, Story, after, pending, state}
+use Rattle.step_table.specs.Stories.{Kept, Story, after, state}
 use Rattle.step_threads.specs.Threads.{Fits}
 use Rattle.step_threads.proofs.LookFits.{fits_half, fits_quiet}
 use Rattle.step_threads.proofs.StoreFits.{half_here}
@@ -28,6 +27,7 @@ pub refill_here : (d : ℕ) (t : Thread) (v : Story) (stage : Stage) (c : Cell) 
     → RefillFits d stage c x v
 refill_here d t v stage c x k fits e = half_here d t v (Refill stage c x k) fits e
 
+-- the thread at the same act, with this half done
 abbrev pub At : Thread → Half → Thread
 At t h = record { course = t.course; stock = t.stock; half = h }
 

@@ -8,7 +8,6 @@ use Rattle.step_threads.specs.declared.act.Tail.{Tail}
 use Rattle.step_threads.specs.declared.act.Tail.TheVariants.{Nothing, Named, Into, IntoAs}
 use Rattle.step_threads.specs.declared.act.Task.{Task}
 use Rattle.step_threads.specs.declared.call.Call.{Call}
-use Rattle.step_threads.specs.declared.call.Name.{Name}
 use Rattle.step_threads.specs.declared.call.Call.TheVariants.{Make, Empty, Reset, Copy, Count}
 use Rattle.step_threads.specs.declared.call.Call.TheVariants.{MakeThis, Null, Move, Alias, AliasNull, This, WeakThis, Read, Place, Same, Before}
 use Rattle.step_threads.specs.declared.call.Call.TheVariants.{Store, Exchange, Load, Compare, Weak, WeakCopy, WeakEmpty, WeakReset, Lock, Upgrade, WeakCount, Expired}

@@ -1,5 +1,5 @@
 -- What the acts of threads add to the history. All of it is own but the events, which name their sections.
-use Rattle.std.specs.Prelude.{ℕ, ◌-◌, ◌==◌, min, Bool, not, cond, List, [], ◌∷◌, Option, Some, None}
+use Rattle.std.specs.Prelude.{ℕ, ◌==◌, min, Bool, not, cond, List, [], ◌∷◌, Option, Some, None}
 use Rattle.control_word.specs.declared.event.Entry.{Entry}
 use Rattle.control_word.specs.declared.event.Event.TheVariants as event
 use Rattle.control_word.specs.declared.event.Event.{Event}
@@ -13,13 +13,10 @@ use Rattle.control_word.specs.State.{Opening, State, Stored, weak}
 use Rattle.step_threads.specs.declared.act.Act.{Act}
 use Rattle.step_table.specs.declared.form.Form.{Form}
 use Rattle.step_threads.specs.declared.act.Act.TheVariants.{Make, Share, Downgrade, Lock, Put, Leave, Clear, Count, Expired, Read, FromThis, Alias, Move, Ask, Offer, Swap, Exchange, Load, Compare, Drop}
-use Rattle.step_threads.specs.declared.act.Question.TheVariants as question
 use Rattle.step_threads.specs.declared.call.CellName.{CellName}
 use Rattle.step_table.specs.CellDeeds.{cell_in}
 use Rattle.step_table.specs.Contents.{held_in, told}
 use Rattle.step_table.specs.declared.holdings.Pointer.{Pointer}
-use Rattle.step_threads.specs.declared.said.Answer.TheVariants as answer
-use Rattle.step_table.specs.declared.ended.Ended.TheVariants as ended
 use Rattle.step_threads.specs.Courses.{cell_at, going, hand, kind_at, locked, offered, on_going, other}
 use Rattle.step_table.specs.Deeds.{Telling, field_of, is_enabled, is_expired, is_last, owned, aliased, handle_of, on}
 use Rattle.step_table.specs.Holdings.{Slots, inside, place_in, slot, value, owner_slot}

@@ -6,9 +6,9 @@ use Rattle.control_word.specs.declared.handle.Kind.TheVariants.{Owner, Weak}
 use Rattle.control_word.specs.declared.place.Place.{Place}
 use Rattle.control_word.specs.declared.refusal.Refusal.TheVariants.{BadWeak, Full, NotEnabled, Null, Outside}
 use Rattle.control_word.specs.Events.{origin}
-use Rattle.control_word.specs.Handles.{empty, handle, has_object, owner, same_place}
+use Rattle.control_word.specs.Handles.{has_object, same_place}
 use Rattle.control_word.specs.Histories.{entry, leads}
-use Rattle.control_word.specs.State.{Object, Opening, State, count, weak}
+use Rattle.control_word.specs.State.{Object, Opening, State, weak}
 use Rattle.step_threads.specs.declared.act.Act.{Act}
 use Rattle.step_threads.specs.declared.act.Act.TheVariants.{Make, Share, Downgrade, Lock, Put, Leave, Clear, Count, Expired, Read, FromThis, Alias, Move, Ask, Offer, Swap, Exchange, Load, Compare, Drop}
 use Rattle.step_threads.specs.declared.act.Question.{Question}
@@ -23,7 +23,6 @@ use Rattle.step_table.specs.declared.holdings.Pointer.{Pointer}
 use Rattle.step_threads.specs.declared.said.Answer.{Answer}
 use Rattle.step_threads.specs.declared.said.Answer.TheVariants as answer
 use Rattle.step_table.specs.declared.ended.Ended.{Ended}
-use Rattle.step_table.specs.declared.ended.Ended.TheVariants as ended
 use Rattle.step_threads.specs.declared.said.Said.{Said}
 use Rattle.step_table.specs.declared.slot.Slot.TheVariants.{Full, Empty}
 use Rattle.step_threads.specs.Courses.{Walk, cell_at, fitting, going, hand, kind_at, locked, on_going, other, placed, settled, passed}
@@ -31,7 +30,7 @@ use Rattle.step_table.specs.Deeds.{Telling, exact, as_weak, field_of, is_enabled
 use Rattle.step_table.specs.Holdings.{Slots, filled, inside, is_full, place_in, plain, slot, value, owner_slot}
 use Rattle.step_table.specs.declared.slot.Slot.{Slot}
 use Rattle.step_table.specs.Openings.{opening}
-use Rattle.step_threads.specs.Entries.{History, least, is_expected, leaves, giving, acted}
+use Rattle.step_threads.specs.Entries.{History, least, is_expected, giving, acted}
 
 -- the history so far, and where each thread is
 pub record Scene : Type 0 where

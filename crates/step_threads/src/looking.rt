@@ -1,6 +1,5 @@
 //! How a thread loads and compares what cells hold, step by step.
-ghost use Rattle.std.specs.Prelude.{◌≡◌, ◌≢◌, ◌⊎◌, ◌<◌, cond, true, false, length, Option, Some, None, []};
-ghost use Rattle.control_word.specs.Packing.{IsCellWord};
+ghost use Rattle.std.specs.Prelude.{◌≡◌, ◌⊎◌, ◌<◌, true, false, length, Some, None, []};
 ghost use Rattle.step_table.specs.Contents.{as_word, owing_for, same_value};
 ghost use Rattle.step_threads.specs.Courses.{hand};
 ghost use Rattle.step_table.specs.Holdings.{value};
@@ -26,7 +25,7 @@ use step_table::table::Table;
 
 impl Thread {
     ghost use Rattle.step_threads.specs.Courses.{task_at};
-    ghost use Rattle.step_threads.specs.Threads.{Fits, HasStepped, IsLoaded};
+    ghost use Rattle.step_threads.specs.Threads.{Fits, HasStepped};
 
     /// The first step of a load: a look at the cell. A value without an object is loaded at once, and one of which all funds were
     /// taken has to wait.

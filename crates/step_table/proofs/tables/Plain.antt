@@ -1,5 +1,5 @@
 -- Deeds that fill no member.
-use Rattle.std.proofs.Common.{◌≡◌, ℕ, suc, ◌-◌, ◌<◌, ◌==◌, Bool, true, false, cond, length, refl, sym, ap}
+use Rattle.std.proofs.Common.{◌≡◌, ℕ, suc, refl, sym, ap}
 use Rattle.std.proofs.lemmas.Bool.{cond_both}
 use Rattle.control_word.proofs.lists.Tallies.{put_cases}
 use Rattle.control_word.specs.declared.handle.Handle.{Handle}

@@ -1,10 +1,9 @@
 -- What other desks do changes nothing of what a desk has.
-use Rattle.std.proofs.Common.{◌≡◌, ◌≢◌, ℕ, suc, ◌<◌, true, List, refl, sym, ap, subst, ◌∙◌, arith}
+use Rattle.std.proofs.Common.{◌≡◌, ◌≢◌, ℕ, suc, ◌<◌, List, refl, sym, ap, subst, ◌∙◌, arith}
 use Rattle.std.proofs.lemmas.Bool.{eqb-true, and_parts}
 use Rattle.control_word.proofs.history.Kept.{Same}
 use Rattle.control_word.proofs.history.Legal.{sound}
 use Rattle.control_word.proofs.lists.Tallies.{num, put_cases}
-use Rattle.control_word.specs.declared.event.Event.TheVariants as event
 use Rattle.control_word.proofs.history.Moving.{counted_live, owner_counted}
 use Rattle.control_word.specs.State.{Object, Phase, State, Stored, common, ending, live, same_stored, stock, stored, unmade, weak_number}
 use Rattle.step_threads.specs.declared.ending.Ending.{Ending}
@@ -19,7 +18,7 @@ use Rattle.step_table.specs.Stories.{Kept, Story, after, object_in, state}
 use Rattle.step_threads.proofs.holding.Ends.{each_end}
 use Rattle.step_threads.proofs.holding.Least.{least_part}
 use Rattle.step_table.proofs.tables.CellDeeds.{framed}
-use Rattle.step_table.proofs.tables.Places.{ending_busy, there}
+use Rattle.step_table.proofs.tables.Places.{ending_busy}
 use Rattle.step_table.proofs.holding.Keeping.{num_part, same_deed, kept_object}
 
 stores_stock : (s : State) (d b : ℕ) → in_store s d b ≡ num (same_stored (stored d b)) (stock s d)

@@ -1,5 +1,4 @@
 use Rattle.std.proofs.Common.{◌≡◌, ℕ, true, sym, subst}
-use Rattle.step_threads.specs.declared.act.Act.{Act}
 use Rattle.step_table.specs.declared.cell_deed.Cell.{Cell}
 use Rattle.step_table.specs.CellDeeds.{kind_in}
 use Rattle.step_table.specs.Cells.{IsOpenTo}
