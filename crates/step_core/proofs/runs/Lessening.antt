@@ -20,7 +20,7 @@ use Rattle.step_core.specs.Bounds.{alone, lock_word, spare, walk_steps, weight}
 use Rattle.control_word.specs.declared.cell.CellWord.{CellWord}
 use Rattle.step_table.specs.Contents.{seen}
 use Rattle.step_threads.specs.Courses.{Going, HasCell, Walk, cell_at, form_of, going, hand, kind_at, locked, offered, on_going, other, settled}
-use Rattle.step_table.specs.Deeds.{alias, aliased, downgrade, give, is_enabled, lock, owned, owner_word, read, share, tell, tell_expired, on}
+use Rattle.step_table.specs.Deeds.{alias, aliased, downgrade, give, is_enabled, lock, owner_word, read, share, tell, tell_expired, on}
 use Rattle.step_threads.specs.Endings.{staged}
 use Rattle.step_table.specs.Holdings.{Holds, inside, is_full, owner_slot, place_in, slot}
 use Rattle.step_threads.specs.Entries.{least}

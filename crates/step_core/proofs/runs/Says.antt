@@ -7,7 +7,6 @@ use Rattle.control_word.specs.declared.event.Event.{Event}
 use Rattle.control_word.specs.declared.event.Event.TheVariants as event
 use Rattle.control_word.specs.declared.place.Block.{Block}
 use Rattle.control_word.specs.declared.place.Place.{Place}
-use Rattle.step_threads.specs.declared.act.Act.TheVariants.{Leave}
 use Rattle.step_table.specs.declared.past.Deed.{Deed}
 use Rattle.step_table.specs.declared.past.Deed.TheVariants as deed
 use Rattle.step_table.specs.declared.ended.Ended.{Ended}
@@ -17,7 +16,7 @@ use Rattle.step_core.specs.declared.trace.TraceStep.{TraceStep}
 use Rattle.step_table.specs.Deeds.{remains}
 use Rattle.step_core.specs.Headline.{LastLeft, TellsWhatIsLeft, ended_by}
 use Rattle.step_threads.specs.Scenes.{walk_of}
-use Rattle.step_threads.specs.Steps.{asks, Step, is_event, stepped as stepped_by, story_after, story_by}
+use Rattle.step_threads.specs.Steps.{Step, is_event, stepped as stepped_by, story_after, story_by}
 use Rattle.step_table.specs.Stories.{Nothing, Story, added, event_of, object_in, owner_in, state}
 use Rattle.step_core.specs.Totals.{is_last}
 use Rattle.step_core.specs.Worlds.{Sight, half_of, scene, step_of}
