@@ -9,6 +9,7 @@ use control_word::{Refusal, Shape};
 use std::alloc::{AllocError, Global};
 use std::test::Fail;
 use step_table::ended::Ended;
+use step_table::field::Field;
 use step_threads::call::{Actor, Call, CellName, Kind, Name, Program};
 use step_threads::said::{Answer, Stepped, Turned};
 
@@ -36,6 +37,95 @@ fn compare(expected: Name, desired: Name) -> Call {
         desired,
         weak: false,
     }
+}
+
+/// What was expected ends, and its name gets what the cell holds.
+#[test]
+fn a_compare_hands_out_what_differs(rt: HostRuntime) -> Result<(), Fail> {
+    let alloc = rt.alloc();
+    let calls = [
+        make(A, 1),
+        store(A),
+        make(B, 2),
+        compare(B, A),
+        Call::Read { name: B },
+        Call::Count { name: B },
+    ];
+    let mut world = world(&rt, alloc, calls.as_slice())?;
+    for statement in [1, 2, 2, 3, 4] {
+        let acted = said(statement, None, None);
+        assert_eq!(rt; turn(&rt, &mut world, 1), Turned::Acted(acted));
+    }
+    let no = said(4, Some(Answer::Compared(false)), None);
+    assert_eq!(rt; turn(&rt, &mut world, 1), Turned::Acted(no));
+    let ends = said(4, None, Some(Ended::Fields([2, 0, 0, 0])));
+    assert_eq!(rt; turn(&rt, &mut world, 1), Turned::Acted(ends));
+    let drops = said(4, None, None);
+    assert_eq!(rt; turn(&rt, &mut world, 1), Turned::Acted(drops));
+    let read = said(5, Some(Answer::Read(1)), None);
+    assert_eq!(rt; turn(&rt, &mut world, 1), Turned::Acted(read));
+    let three = said(6, Some(Answer::Count(3)), None);
+    assert_eq!(rt; turn(&rt, &mut world, 1), Turned::Acted(three));
+    Ok(())
+}
+
+#[test]
+fn a_compare_swaps_what_is_expected(rt: HostRuntime) -> Result<(), Fail> {
+    let alloc = rt.alloc();
+    let calls = [
+        make(A, 4),
+        store(A),
+        make(B, 5),
+        compare(A, B),
+        Call::Count { name: A },
+        Call::Count { name: B },
+    ];
+    let mut world = world(&rt, alloc, calls.as_slice())?;
+    for statement in [1, 2, 2, 3, 4] {
+        let acted = said(statement, None, None);
+        assert_eq!(rt; turn(&rt, &mut world, 1), Turned::Acted(acted));
+    }
+    let quiet = said(4, None, None);
+    let yes = said(4, Some(Answer::Compared(true)), None);
+    assert_eq!(rt; step(&rt, &mut world, 1), Stepped::Quiet(quiet));
+    assert_eq!(rt; step(&rt, &mut world, 1), Stepped::Quiet(quiet));
+    assert_eq!(rt; step(&rt, &mut world, 1), Stepped::Event(yes));
+    assert_eq!(rt; step(&rt, &mut world, 1), Stepped::Quiet(quiet));
+    assert_eq!(rt; turn(&rt, &mut world, 1), Turned::Acted(quiet));
+    let one = said(5, Some(Answer::Count(1)), None);
+    assert_eq!(rt; turn(&rt, &mut world, 1), Turned::Acted(one));
+    let two = said(6, Some(Answer::Count(2)), None);
+    assert_eq!(rt; turn(&rt, &mut world, 1), Turned::Acted(two));
+    Ok(())
+}
+
+/// Neither owns anything, but they store different places.
+#[test]
+fn a_compare_looks_at_places(rt: HostRuntime) -> Result<(), Fail> {
+    let alloc = rt.alloc();
+    let calls = [
+        make(A, 1),
+        Call::Alias {
+            target: B,
+            source: B,
+            of: A,
+            field: Field::Zero,
+        },
+        compare(B, A),
+        Call::Place { name: B },
+    ];
+    let mut world = world(&rt, alloc, calls.as_slice())?;
+    for statement in [1, 2, 3] {
+        let acted = said(statement, None, None);
+        assert_eq!(rt; turn(&rt, &mut world, 1), Turned::Acted(acted));
+    }
+    let no = said(3, Some(Answer::Compared(false)), None);
+    assert_eq!(rt; turn(&rt, &mut world, 1), Turned::Acted(no));
+    let drops = said(3, None, None);
+    assert_eq!(rt; turn(&rt, &mut world, 1), Turned::Acted(drops));
+    let null = said(4, Some(Answer::Place(None)), None);
+    assert_eq!(rt; turn(&rt, &mut world, 1), Turned::Acted(null));
+    Ok(())
 }
 
 /// An empty cell holds what an empty name does.
