@@ -5,7 +5,7 @@ use Rattle.step_threads.specs.declared.act.Act.TheVariants.{Make, Swap, Exchange
 use Rattle.step_threads.specs.declared.act.Task.{Task}
 use Rattle.step_threads.specs.declared.ending.Ending.{Ending}
 use Rattle.step_threads.specs.declared.half.Half.{Half}
-use Rattle.step_threads.specs.declared.half.Half.TheVariants.{Rest, Making, Locking, Giving, Brought, Saw, Matched, Refill, Returning}
+use Rattle.step_threads.specs.declared.half.Half.TheVariants.{Rest, Making, Locking, Giving, Brought, Saw, Matched, Refill, Returning, Clearing}
 use Rattle.step_table.specs.declared.refill.Stage.{Stage}
 use Rattle.step_table.specs.declared.refill.Stage.TheVariants.{Turning, Checking, Lacking, Refilling, Failing}
 use Rattle.step_threads.specs.declared.thread.Thread.{Thread}
@@ -44,6 +44,7 @@ spare (Saw x) = 15
 spare (Matched x) = 15
 spare (Refill stage c x k) = 22
 spare (Returning kind b funds k) = 15
+spare Clearing = 14
 
 -- what came out of a member has to leave
 abbrev pub carried : List Ending → Slots → ℕ
@@ -70,14 +71,14 @@ lock_word v slots [] = 0
 lock_word v slots (t ∷ ts) = on (owner_word v) 0 (locked slots t.act)
 
 -- the cell of the next act, where it is one that is looked at first, shows this
-abbrev pub shows_on : Story → CellWord → Act → Bool
-shows_on v x (Load c) = word_at v (cell_at (state v) c) == cell_bits x
-shows_on v x (Compare k c weak) = word_at v (cell_at (state v) c) == cell_bits x
-shows_on v x _ = false
+abbrev pub shows_on : Story → Slots → CellWord → Act → Bool
+shows_on v slots x (Load c) = word_at v (cell_at (state v) slots c) == cell_bits x
+shows_on v slots x (Compare k c weak) = word_at v (cell_at (state v) slots c) == cell_bits x
+shows_on v slots x _ = false
 
-abbrev pub shows_next : Story → CellWord → List Task → Bool
-shows_next v x [] = false
-shows_next v x (t ∷ ts) = shows_on v x t.act
+abbrev pub shows_next : Story → Slots → CellWord → List Task → Bool
+shows_next v slots x [] = false
+shows_next v slots x (t ∷ ts) = shows_on v slots x t.act
 
 -- the steps of a refill, by how far it is and whether the cell shows what is to be refilled
 abbrev pub refill_steps : Bool → Stage → ℕ
@@ -95,10 +96,11 @@ alone v w (Making b i differs) = spare (Making b i differs)
 alone v w (Locking word) = cond (lock_word v w.slots w.todo == word) 14 16
 alone v w (Giving i kind x) = spare (Giving i kind x)
 alone v w Brought = 14
-alone v w (Saw x) = cond (shows_next v x w.todo) 14 18
-alone v w (Matched x) = cond (shows_next v x w.todo) 13 17
+alone v w (Saw x) = cond (shows_next v w.slots x w.todo) 14 18
+alone v w (Matched x) = cond (shows_next v w.slots x w.todo) 13 17
 alone v w (Refill stage c x k) = refill_steps (word_at v c == cell_bits x) stage
 alone v w (Returning kind b funds k) = 16
+alone v w Clearing = spare Clearing
 
 -- the objects whose last owner hasn't left: each may have to end
 abbrev pub living : Sight → ℕ

@@ -3,14 +3,14 @@ use Rattle.std.specs.Prelude.{◌≡◌, ℕ, ◌+◌, ◌*◌, ◌<◌, ◌≤�
 use Rattle.control_word.specs.State.{State, ending}
 use Rattle.step_threads.specs.declared.ending.Ending.{Ending}
 use Rattle.step_threads.specs.declared.half.Half.{Half}
-use Rattle.step_threads.specs.declared.half.Half.TheVariants.{Rest, Making, Locking, Giving, Brought, Saw, Matched, Refill, Returning}
+use Rattle.step_threads.specs.declared.half.Half.TheVariants.{Rest, Making, Locking, Giving, Brought, Saw, Matched, Refill, Returning, Clearing}
 use Rattle.step_threads.specs.declared.said.Stepped.{Stepped}
 use Rattle.step_threads.specs.declared.said.Stepped.TheVariants.{Event, Quiet, Waited, Done}
 use Rattle.step_threads.specs.declared.thread.Thread.{Thread}
 use Rattle.step_core.specs.Bounds.{left_to_do}
 use Rattle.step_threads.specs.Endings.{endings_of}
 use Rattle.step_threads.specs.Scenes.{walk_of}
-use Rattle.step_table.specs.Stories.{Plain, Story, state}
+use Rattle.step_table.specs.Stories.{Story, state}
 use Rattle.step_core.specs.Totals.{ended_in, made_in}
 use Rattle.step_core.specs.Watching.{IsWatched}
 use Rattle.step_core.specs.Worlds.{Sight, scene, thread_half, thread_walk}
@@ -23,7 +23,7 @@ abbrev pub AllEnd : State → (ℕ → List Ending) → Type 0
 AllEnd s f = (o e : ℕ) → (s.object o).phase ≡ ending e → 0 < endings_of (s.object o).block (f e)
 
 -- the totals are those of the history, and small: an object is made by a task that has the steps of its end, and no more are left
--- than were made. No member was filled, and no cell has lost all of its funds
+-- than were made. No cell has lost all of its funds
 pub record IsTold (u : Sight) (m e : ℕ) : Type 0 where
   pub threads : length u.walks ≡ u.story.extent.actors
   pub halves : length u.halves ≡ length u.walks
@@ -32,7 +32,6 @@ pub record IsTold (u : Sight) (m e : ℕ) : Type 0 where
   pub order : e ≤ m
   pub few : 28 * m + left_to_do u.walks ≤ 13 * e + 1970176
   pub endings : AllEnd (state u.story) (λ d. (walk_of (scene u) d).endings)
-  pub plain : Plain u.story
   pub watched : IsWatched u.story u.halves
 
 -- the next step of a make is the one that makes the object
@@ -46,6 +45,7 @@ is_prepared (Saw x) = false
 is_prepared (Matched x) = false
 is_prepared (Refill stage c x k) = false
 is_prepared (Returning kind b funds k) = false
+is_prepared Clearing = false
 
 -- how many objects a step made, of a thread that had begun this, and of how many the last owner left by it
 abbrev pub makes : Half → Stepped → ℕ

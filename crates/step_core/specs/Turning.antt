@@ -1,10 +1,10 @@
 -- The parts of a turn. All of it is own.
-use Rattle.std.specs.Prelude.{◌≡◌, ◌≢◌, ◌⊎◌, ℕ, ◌<◌, ◌≤◌, Bool, true, false, not, ◌||◌, ◌==◌, List, [], ◌∷◌, length, slice_set, is_some, All, Option, Some, None}
+use Rattle.std.specs.Prelude.{◌≡◌, ◌≢◌, ◌⊎◌, ℕ, ◌<◌, ◌≤◌, Bool, true, false, not, ◌&&◌, ◌||◌, ◌==◌, List, [], ◌∷◌, length, slice_set, is_some, All, Option, Some, None}
 use Rattle.step_threads.specs.declared.act.Act.TheVariants.{Make, FromThis}
 use Rattle.step_threads.specs.declared.act.Task.{Task}
 use Rattle.step_threads.specs.declared.ending.Ending.{Ending}
 use Rattle.step_threads.specs.declared.half.Half.{Half}
-use Rattle.step_threads.specs.declared.half.Half.TheVariants.{Rest, Making, Locking, Giving, Brought, Saw, Matched, Refill, Returning}
+use Rattle.step_threads.specs.declared.half.Half.TheVariants.{Rest, Making, Locking, Giving, Brought, Saw, Matched, Refill, Returning, Clearing}
 use Rattle.step_threads.specs.declared.said.Said.{Said}
 use Rattle.step_threads.specs.declared.said.Stepped.{Stepped}
 use Rattle.step_threads.specs.declared.said.Stepped.TheVariants as stepped
@@ -20,12 +20,12 @@ use Rattle.control_word.specs.declared.place.Place.{Place}
 use Rattle.step_table.specs.CellDeeds.{owing}
 use Rattle.step_table.specs.Refills.{RefillFits}
 use Rattle.step_table.specs.Deeds.{Telling, is_enabled}
-use Rattle.step_threads.specs.Endings.{first_of}
+use Rattle.step_threads.specs.Endings.{EndsAll, first_of}
 use Rattle.step_table.specs.Holdings.{Holds, Slots, inside, is_full, slot}
 use Rattle.step_threads.specs.Entries.{least}
 use Rattle.step_threads.specs.Scenes.{play_with, rested, said_with, walk_of}
-use Rattle.step_table.specs.Stories.{AllBare, Kept, Story, pending, state}
-use Rattle.step_threads.specs.Threads.{IsMatchedBy, IsSeenBy}
+use Rattle.step_table.specs.Stories.{Kept, Story, pending, state}
+use Rattle.step_threads.specs.Threads.{IsClearing, IsMatchedBy, IsSeenBy}
 use Rattle.step_core.specs.Worlds.{Sight, TellsAll, half_of, is_loading, scene}
 
 -- a make that is under way is the next act, in the least block of the store
@@ -41,6 +41,7 @@ IsUnderWay d v (Saw x) ts = Unit {0}
 IsUnderWay d v (Matched x) ts = Unit {0}
 IsUnderWay d v (Refill stage c x k) ts = Unit {0}
 IsUnderWay d v (Returning kind b funds k) ts = Unit {0}
+IsUnderWay d v Clearing ts = Unit {0}
 
 -- the next act locks a weak pointer
 abbrev pub IsLock : Slots → List Task → Type 0
@@ -62,13 +63,14 @@ abbrev pub IsMatched : Slots → CellWord → List Task → Type 0
 IsMatched slots x [] = ⊥
 IsMatched slots x (t ∷ ts) = IsMatchedBy slots x t.act
 
--- a lock, a swap, a load or a compare that is under way is the next act
+-- a lock, a swap, a load or a compare that is under way is the next act, and a member that is to be taken out is there
 abbrev pub IsTried : Half → Walk → Type 0
 IsTried (Locking word) w = IsLock w.slots w.todo
 IsTried (Giving i kind x) w = inside (slot w.slots i) ≡ Some x
 IsTried Brought w = IsSwap w.slots w.todo
 IsTried (Saw x) w = IsSeen w.slots x w.todo
 IsTried (Matched x) w = IsMatched w.slots x w.todo
+IsTried Clearing w = IsClearing w.slots w.endings
 IsTried _ w = Unit {0}
 
 -- an act that is half done is one of a statement: no object ends in the thread's hands
@@ -82,6 +84,7 @@ IsAlone (Saw x) es = es ≡ []
 IsAlone (Matched x) es = es ≡ []
 IsAlone (Refill stage c x k) es = Unit {0}
 IsAlone (Returning kind b funds k) es = Unit {0}
+IsAlone Clearing es = Unit {0}
 
 -- the shape has the cell of the next act
 abbrev pub IsInShape : Shape → List Task → Type 0
@@ -111,16 +114,14 @@ IsOut d v _ = Unit {0}
 abbrev pub OthersOwe : ℕ → Sight → Type 0
 OthersOwe d u = (e : ℕ) → e ≢ d → is_loading (half_of u e) ≡ false → (i : ℕ) → owes (pending u.story e) i ≡ 0
 
--- between two steps of thread d: where objects end nothing is in hand, and no member of an object holds anything
+-- between two steps of thread d
 pub record HasBegun (d : ℕ) (u : Sight) : Type 0 where
   pub within : d < length u.halves
   pub walks : d < length u.walks
   pub half : IsUnderWay d u.story (half_of u d) (walk_of (scene u) d).todo
   pub tried : IsTried (half_of u d) (walk_of (scene u) d)
   pub alone : IsAlone (half_of u d) (walk_of (scene u) d).endings
-  pub staged : All (λ (e : Ending). e.stage ≤ 3) (walk_of (scene u) d).endings
-  pub free : ((walk_of (scene u) d).endings ≡ []) ⊎ (is_full (slot (walk_of (scene u) d).slots (hand (walk_of (scene u) d).slots)) ≡ false)
-  pub bare : AllBare (state u.story)
+  pub ends : EndsAll d (walk_of (scene u) d).endings u.story
   pub seat : d < u.story.extent.actors
   pub kept : Kept u.story
   pub cell : IsInShape u.story.extent.shape (walk_of (scene u) d).todo
@@ -130,9 +131,9 @@ pub record HasBegun (d : ℕ) (u : Sight) : Type 0 where
   pub others : OthersOwe d u
   pub out : IsOut d u.story (half_of u d)
 
--- the thread's endings go on by themselves
+-- the thread's endings go on by themselves: what came out of a member isn't in hand
 abbrev pub is_ending : Sight → ℕ → Bool
-is_ending u d = is_some (first_of (walk_of (scene u) d).endings)
+is_ending u d = let w = walk_of (scene u) d in is_some (first_of w.endings) && not (is_full (slot w.slots (hand w.slots)))
 
 abbrev pub is_making : Half → Bool
 is_making (Making b i differs) = true
@@ -164,14 +165,20 @@ abbrev pub is_returning : Half → Bool
 is_returning (Returning kind b funds k) = true
 is_returning _ = false
 
+-- what a member of an ending object holds is to be taken out
+abbrev pub is_clearing : Half → Bool
+is_clearing Clearing = true
+is_clearing _ = false
+
 -- the rest of an act goes on by itself: funds are given back, a fund is turned and others are put back, or an object ends
 abbrev pub has_rest : Sight → ℕ → Bool
-has_rest u d = is_returning (half_of u d) || is_refilling (half_of u d) || is_ending u d
+has_rest u d = is_returning (half_of u d) || is_refilling (half_of u d) || is_clearing (half_of u d) || is_ending u d
 
 -- what a thread has begun, once no funds are out for what it did
 abbrev pub returned : Half → Half
 returned (Returning kind b funds k) = Rest
 returned (Refill stage c x k) = Rest
+returned Clearing = Rest
 returned h = h
 
 -- an act that is under way

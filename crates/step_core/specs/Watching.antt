@@ -2,7 +2,9 @@
 use Rattle.std.specs.Prelude.{ℕ, ◌+◌, ◌/◌, ◌%◌, ◌<◌, ◌≤◌, ◌==◌, ◌&&◌, Bool, false, List, length}
 use Rattle.std.specs.List.{filter}
 use Rattle.control_word.specs.Packing.{cell_bits}
-use Rattle.step_table.specs.declared.cell_deed.Cell.TheVariants.{Free}
+use Rattle.control_word.specs.declared.shape.Shape.{Shape}
+use Rattle.step_table.specs.declared.cell_deed.Cell.{Cell}
+use Rattle.step_table.specs.declared.cell_deed.Cell.TheVariants.{Free, Member}
 use Rattle.step_threads.specs.declared.half.Half.{Half}
 use Rattle.step_threads.specs.declared.half.Half.TheVariants.{Refill}
 use Rattle.step_table.specs.CellDeeds.{word_of}
@@ -22,9 +24,13 @@ is_watching blocks place word _ = false
 abbrev pub watchers : ℕ → ℕ → ℕ → List Half → ℕ
 watchers blocks place word halves = length (filter (is_watching blocks place word) halves)
 
+-- a free cell of the shape, or a member of a block: no other words of a table are cells
+abbrev pub IsCellOf : Shape → Cell → Type 0
+IsCellOf z (Free n) = n < z.shared_cells + z.weak_cells
+IsCellOf z (Member b m) = (0 < b.0) × (b.0 ≤ z.blocks) × (m < 3)
+
 -- of no cell of the shape more funds are taken than 127, and one for each thread that has them to put back
 abbrev pub IsWatched : Story → List Half → Type 0
 IsWatched v halves =
     let z = v.extent.shape in
-    (n : ℕ) → n < z.shared_cells + z.weak_cells
-    → word_at v (Free n) / 17179869184 ≤ 127 + watchers z.blocks (word_of z.blocks (Free n)) (word_at v (Free n)) halves
+    (c : Cell) → IsCellOf z c → word_at v c / 17179869184 ≤ 127 + watchers z.blocks (word_of z.blocks c) (word_at v c) halves

@@ -1,6 +1,6 @@
 //! Which programs a world may run.
 ghost use Rattle.std.specs.Prelude.{◌≡◌, ◌↔◌, ◌&&◌, ◌≤◌, ◌∷◌, ◌++◌, Some, None, All, IsTrue, map};
-ghost use Rattle.step_threads.specs.Programs.{AllHaveCells, HasCells, IsDeclared, IsIn, IsPart, IsProgram, IsWellNamed, as_in, call_count, listed, names_of, owner, part_of, weak};
+ghost use Rattle.step_threads.specs.Programs.{AllHaveCells, HasCells, IsApart, IsDeclared, IsIn, IsPart, IsProgram, IsWellNamed, as_in, call_count, listed, names_of, owner, part_of, through, weak};
 ghost use Rattle.step_core.specs.Starts.{AllHaveFields, CanBegin, HasFields};
 
 use control_word::Shape;
@@ -60,8 +60,18 @@ fn as_in(cell: CellName, name: Name) -> Asked
     ensures { result ≡ as_in cell name }
 {
     match cell {
-        CellName::Shared(_) => owner(name),
-        CellName::Weak(_) => weak(name),
+        CellName::Weak(_) | CellName::Member { member: 2, .. } => weak(name),
+        CellName::Shared(_) | CellName::Member { .. } => owner(name),
+    }
+}
+
+/// The name whose object a cell is a member of.
+fn through(cell: CellName) -> Option<Asked>
+    ensures { listed result ≡ through cell }
+{
+    match cell {
+        CellName::Member { name, .. } => Some(owner(name)),
+        _ => None,
     }
 }
 
@@ -111,13 +121,17 @@ fn names_of(call: Call) -> Names
         } => (owner(target), Some(owner(source)), Some(owner(of))),
         Call::Store { cell, source: name }
         | Call::Exchange { cell, name }
-        | Call::Load { target: name, cell } => (as_in(cell, name), None, None),
+        | Call::Load { target: name, cell } => (as_in(cell, name), through(cell), None),
         Call::Compare {
             cell,
             expected,
             desired,
             ..
-        } => two(as_in(cell, expected), as_in(cell, desired)),
+        } => (
+            as_in(cell, expected),
+            Some(as_in(cell, desired)),
+            through(cell),
+        ),
     }
 }
 
@@ -139,7 +153,20 @@ fn is_well_named(kinds: &[Kind], call: Call) -> bool
     all_three(one, two, three)
 }
 
-/// Whether an actor's names are few enough, and its calls well named.
+/// Whether a call exchanges no name with a member of its own object.
+fn is_apart(call: Call) -> bool
+    ensures { IsTrue result ↔ IsApart call }
+{
+    match call {
+        Call::Exchange {
+            cell: CellName::Member { name: of, .. },
+            name,
+        } => of != name,
+        _ => true,
+    }
+}
+
+/// Whether an actor's names are few enough, and its calls well named and apart.
 fn is_part(actor: &Actor) -> bool
     ensures part { IsTrue result ↔ IsPart (part_of actor.now) }
     ensures fields { IsTrue result → All HasFields actor.now.calls.items }
@@ -148,7 +175,7 @@ fn is_part(actor: &Actor) -> bool
         return false;
     }
     for call in &actor.calls {
-        if !is_well_named(actor.kinds.as_slice(), *call) {
+        if !(is_well_named(actor.kinds.as_slice(), *call) && is_apart(*call)) {
             return false;
         }
     }
@@ -197,6 +224,7 @@ fn is_in(shape: &Shape, cell: CellName) -> bool
     match cell {
         CellName::Shared(number) => u32::from(number) < shape.shared_cells,
         CellName::Weak(number) => u32::from(number) < shape.weak_cells,
+        CellName::Member { member, .. } => member < 3,
     }
 }
 

@@ -1,7 +1,7 @@
 //! The machine: a table and the threads over it.
 ghost use Rattle.std.specs.Prelude.{◌≡◌, ◌≢◌, ◌<◌, ◌≤◌, ◌-◌, length, true, false};
 ghost use Rattle.step_table.specs.Stories.{Kept};
-ghost use Rattle.step_core.specs.Turning.{HasBegun, Plays, Prepares, Rests, has_rest, is_brought, is_ending, is_event, is_giving, is_locking, is_making, is_preparing, is_refilling, is_returning, is_trying, turned_by};
+ghost use Rattle.step_core.specs.Turning.{HasBegun, Plays, Prepares, Rests, has_rest, is_brought, is_clearing, is_ending, is_event, is_giving, is_locking, is_making, is_preparing, is_refilling, is_returning, is_trying, turned_by};
 ghost use Rattle.step_core.specs.Worlds.{GoesTo, Steps, Turns, half_of};
 
 use crate::told::{ends, makes};
@@ -51,9 +51,10 @@ impl World {
     }
 
     /// One act of an actor, with all of its steps: first the rest of what its last step began, and at the end what its last
-    /// owner's leave, its swap or its load began, so that no end of an object and no load is left under way and no funds are out. It
-    /// answers what the act says, and `Done` just at the actor's end, but never `Waited`. A count leaves out at most the loads that
-    /// other actors have under way. Condition: the actor is one of the world's, from 1 (own).
+    /// owner's leave, its swap or its load began, so that no load is left under way, no funds are out, and an object's end has come to
+    /// its last step, or to a member's pointer, whose leave is the actor's next act. It answers what the act says, and `Done` just at
+    /// the actor's end, but never `Waited`. A count leaves out at most the loads that other actors have under way. Condition: the
+    /// actor is one of the world's, from 1 (own).
     pub fn turn(&mut self, actor: u8) -> Turned
         requires some { 0 < actor }
         requires within { actor ≤ length self.old.walks }
@@ -208,15 +209,19 @@ impl World {
         requires { number < length self.now.walks }
         ensures { result ≡ has_rest self.now number }
     {
-        self.is_returning(number) || self.is_refilling(number) || self.is_ending(number)
+        self.is_returning(number)
+            || self.is_refilling(number)
+            || self.is_clearing(number)
+            || self.is_ending(number)
     }
 
-    /// Whether a thread ends an object.
+    /// Whether a thread ends an object, and nothing came out of a member that is in hand.
     fn is_ending(&self, number: usize) -> bool
         requires { number < length self.now.walks }
         ensures { result ≡ is_ending self.now number }
     {
-        self.threads[number].course.endings.first().is_some()
+        let course = &self.threads[number].course;
+        course.endings.first().is_some() && !course.holdings.is_full(course.holdings.hand())
     }
 
     /// Whether a thread makes an object.
@@ -276,6 +281,14 @@ impl World {
         ensures { result ≡ is_returning (half_of self.now number) }
     {
         matches!(self.threads[number].half, Half::Returning { .. })
+    }
+
+    /// Whether a thread is to take out what a member of an ending object holds.
+    fn is_clearing(&self, number: usize) -> bool
+        requires { number < length self.now.walks }
+        ensures { result ≡ is_clearing (half_of self.now number) }
+    {
+        matches!(self.threads[number].half, Half::Clearing)
     }
 
     /// Whether a thread makes an object, and has words of its block left to look at or to write.

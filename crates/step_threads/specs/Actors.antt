@@ -9,7 +9,7 @@ use Rattle.step_threads.specs.declared.act.Act.{Act}
 use Rattle.step_table.specs.declared.form.Form.{Form}
 use Rattle.control_word.specs.Words.{flags_of}
 use Rattle.step_threads.specs.declared.half.Half.{Half}
-use Rattle.step_threads.specs.declared.half.Half.TheVariants.{Rest, Making, Locking, Giving, Brought, Saw, Matched, Refill, Returning}
+use Rattle.step_threads.specs.declared.half.Half.TheVariants.{Rest, Making, Locking, Giving, Brought, Saw, Matched, Refill, Returning, Clearing}
 use Rattle.step_table.specs.declared.holdings.Pointer.{Pointer}
 use Rattle.step_table.specs.CellDeeds.{owing}
 use Rattle.step_table.specs.Contents.{owing_for}
@@ -39,6 +39,7 @@ claimed (Saw x) b = 0
 claimed (Matched x) b = 0
 claimed (Refill stage c x k) b = 0
 claimed (Returning kind c funds k) b = 0
+claimed Clearing b = 0
 
 -- The stock has just the desk's vacant blocks, but for the one that a making took
 pub record Stocks (d : ℕ) (blocks : List ℕ) (room : ℕ) (half : Half) (v : Story) : Type 0 where
@@ -72,4 +73,5 @@ HalfFits d Brought slots a v = pending v d ≡ owing_for (state v) (new_of slots
 HalfFits d (Saw x) slots a v = (pending v d ≡ Idle) × IsCellWord x
 HalfFits d (Matched x) slots a v = (pending v d ≡ owing_for (state v) (new_of slots a) 256) × IsCellWord x
 HalfFits d (Refill stage c x k) slots a v = RefillFits d stage c x v
+HalfFits d Clearing slots a v = pending v d ≡ Idle
 HalfFits d (Returning kind b funds k) slots a v = (p : Option Place) × (pending v d ≡ owing (state v) kind (Some b) p funds 0)

@@ -3,7 +3,8 @@ use Rattle.std.specs.Prelude.{◌≡◌, ℕ, ◌+◌, ◌-◌, ◌<◌, ◌≤�
 use Rattle.control_word.specs.declared.handle.Kind.{Kind}
 use Rattle.control_word.specs.declared.handle.Kind.TheVariants.{Owner, Weak}
 use Rattle.control_word.specs.declared.shape.Shape.{Shape}
-use Rattle.control_word.specs.State.{State}
+use Rattle.control_word.specs.declared.place.Block.{Block}
+use Rattle.control_word.specs.State.{State, kind_of_member}
 use Rattle.step_threads.specs.declared.act.Act.{Act}
 use Rattle.step_table.specs.declared.form.Form.{Form}
 use Rattle.step_threads.specs.declared.act.Act.TheVariants.{Make, Share, Downgrade, Lock, Put, Leave, Clear, Count, Expired, Read, FromThis, Alias, Move, Ask, Offer, Swap, Exchange, Load, Compare, Drop}
@@ -13,12 +14,13 @@ use Rattle.step_threads.specs.declared.act.Task.{Task}
 use Rattle.step_threads.specs.declared.call.CellName.{CellName}
 use Rattle.step_threads.specs.declared.call.CellName.TheVariants as cell
 use Rattle.step_table.specs.declared.cell_deed.Cell.{Cell}
-use Rattle.step_table.specs.declared.cell_deed.Cell.TheVariants.{Free}
+use Rattle.step_table.specs.declared.cell_deed.Cell.TheVariants.{Free, Member}
 use Rattle.step_threads.specs.declared.course.Course.{Course}
 use Rattle.step_table.specs.declared.comparing.Comparing.{Comparing}
 use Rattle.step_table.specs.Contents.{is_of}
 use Rattle.step_threads.specs.declared.ending.Ending.{Ending}
-use Rattle.step_table.specs.Holdings.{Holds, Slots, is_full, plain, pointer_of, slot, value, weak_slot}
+use Rattle.step_table.specs.Deeds.{on}
+use Rattle.step_table.specs.Holdings.{Holds, Slots, inside, is_full, plain, pointer_of, slot, value, weak_slot}
 use Rattle.control_word.specs.declared.view.Pending.TheVariants.{Idle}
 use Rattle.step_table.specs.declared.holdings.Pointer.{Pointer}
 use Rattle.step_table.specs.declared.past.Deed.{Deed}
@@ -38,28 +40,39 @@ other slots = length slots - 2
 abbrev pub kind_at : CellName → Kind
 kind_at (cell.Shared n) = Owner
 kind_at (cell.Weak n) = Weak
+kind_at (cell.Member k m) = kind_of_member m
+
+-- the object is there whose member the cell is: the name owns it and points into it
+abbrev pub is_there : Slots → CellName → Bool
+is_there slots (cell.Member k m) = is_full (inside (slot slots k.0))
+is_there slots _ = true
+
+-- the block of that object; 0, which no object is in, where there is none
+abbrev pub block_at : Slots → ℕ → Block
+block_at slots k = on (λ (x : Pointer). x.block) (record { 0 = 0 }) (inside (slot slots k))
 
 -- the cell in the table: the weak ones stand behind the shared ones
-abbrev pub cell_at : State → CellName → Cell
-cell_at s (cell.Shared n) = Free n
-cell_at s (cell.Weak n) = Free (s.shared + n)
+abbrev pub cell_at : State → Slots → CellName → Cell
+cell_at s slots (cell.Shared n) = Free n
+cell_at s slots (cell.Weak n) = Free (s.shared + n)
+cell_at s slots (cell.Member k m) = Member (block_at slots k.0) m
 
 -- what is taken of a value for a cell of a kind
 abbrev pub fitting : Kind → Slot → Slot
 fitting k x = cond (is_of k x) x plain
 
--- the pointer that is taken of a name for a cell
+-- the pointer that is taken of a name for a cell that is there
 abbrev pub offered : Slots → ℕ → CellName → Option Pointer
-offered slots k c = pointer_of (fitting (kind_at c) (value slots k))
+offered slots k c = cond (is_there slots c) (pointer_of (fitting (kind_at c) (value slots k))) None
 
 -- a cell that is swapped, and the slot whose value goes in
 abbrev pub Going : Type 0
 Going = CellName × ℕ
 
 abbrev pub going_from : Slots → CellName → ℕ → Option Going
-going_from slots c k = cond (is_of (kind_at c) (value slots k)) (Some (c, k)) None
+going_from slots c k = cond (is_there slots c && is_of (kind_at c) (value slots k)) (Some (c, k)) None
 
--- those of an act, where the value may go in
+-- those of an act, where the cell is there and the value may go in
 abbrev pub going : Slots → Act → Option Going
 going slots (Swap c) = going_from slots c (hand slots)
 going slots (Exchange k c) = going_from slots c k
@@ -93,15 +106,19 @@ abbrev pub locked : Slots → Act → Option Pointer
 locked slots (Lock k must) = weak_slot (slot slots k)
 locked slots _ = None
 
--- what was taken may go into the cell, and so may what it is compared with
+-- the cell is there, and what was taken may go in
+abbrev pub is_offered : Slots → Bool → CellName → Bool
+is_offered slots taken c = taken && is_there slots c && is_of (kind_at c) (value slots (hand slots))
+
+-- and so may what it is compared with
 abbrev pub is_compared : Slots → Bool → ℕ → CellName → Bool
-is_compared slots taken k c = taken && is_of (kind_at c) (value slots (hand slots)) && is_of (kind_at c) (value slots k)
+is_compared slots taken k c = is_offered slots taken c && is_of (kind_at c) (value slots k)
 
 -- a task that is no act where it comes
 abbrev pub idle : Act → Slots → Bool → Bool
 idle (Put k) slots taken = not (taken && is_full (slot slots k))
 idle (Clear k) slots taken = not (is_full (slot slots k))
-idle (Swap c) slots taken = not (taken && is_of (kind_at c) (value slots (hand slots)))
+idle (Swap c) slots taken = not (is_offered slots taken c)
 idle (Compare k c weak) slots taken = not (is_compared slots taken k c)
 idle Drop slots taken = not (is_full (slot slots (other slots)))
 idle _ slots taken = false
@@ -148,6 +165,11 @@ IsAbout n (question.Place k) = k < n
 IsAbout n (question.Same i j) = (i < n) × (j < n)
 IsAbout n (question.Before i j) = (i < n) × (j < n)
 
+-- the cell is free, or a member of the object of one of n names
+abbrev pub IsNamed : ℕ → CellName → Type 0
+IsNamed n (cell.Member k m) = k.0 < n
+IsNamed n _ = Unit {0}
+
 -- an act that may come with n names, where something was taken or not
 abbrev pub Begins : ℕ → Bool → Act → Type 0
 Begins n taken (Make form) = (taken ≡ false) × (length form.fields ≡ 4)
@@ -164,11 +186,11 @@ Begins n taken (FromThis k kind) = (k < n) × (taken ≡ false)
 Begins n taken (Alias k j field) = (k < n) × (j < n) × (taken ≡ false)
 Begins n taken (Move k) = (k < n) × (taken ≡ false)
 Begins n taken (Ask q) = IsAbout n q
-Begins n taken (Offer k c) = (k < n) × (taken ≡ false)
-Begins n taken (Swap c) = Unit {0}
-Begins n taken (Exchange k c) = (k < n) × (taken ≡ false)
-Begins n taken (Load c) = taken ≡ false
-Begins n taken (Compare k c weak) = k < n
+Begins n taken (Offer k c) = (k < n) × IsNamed n c × (taken ≡ false)
+Begins n taken (Swap c) = IsNamed n c
+Begins n taken (Exchange k c) = (k < n) × IsNamed n c × (taken ≡ false)
+Begins n taken (Load c) = IsNamed n c × (taken ≡ false)
+Begins n taken (Compare k c weak) = (k < n) × IsNamed n c
 Begins n taken Drop = taken ≡ false
 
 abbrev pub taken_after : Act → Bool → Bool
@@ -215,10 +237,15 @@ HasCell z (Load c) = IsIn z c
 HasCell z (Compare k c weak) = IsIn z c
 HasCell z _ = Unit {0}
 
+-- an object ends, and what came out of one of its members is in hand
+abbrev pub IsCarried : Slots → List Ending → Type 0
+IsCarried slots [] = ⊥
+IsCarried slots (e ∷ es) = is_full (slot slots (hand slots)) ≡ true
+
 -- what a thread relies on
-pub record IsReady (slots : Slots) (taken : Bool) (todo : List Task) : Type 0 where
+pub record IsReady (slots : Slots) (taken : Bool) (endings : List Ending) (todo : List Task) : Type 0 where
   pub some : 1 < length slots
-  pub free : taken ≡ false → value slots (hand slots) ≡ plain
+  pub free : taken ≡ false → (value slots (hand slots) ≡ plain) ⊎ IsCarried slots endings
   pub owes : (value slots (other slots) ≡ plain) ⊎ Drops todo
   pub ready : Ready (other slots) taken todo
 
@@ -235,7 +262,7 @@ abbrev pub walk : Course → Walk
 walk c = record { slots = c.holdings.slots.items; taken = c.taken; endings = c.endings.list; todo = todo c }
 
 abbrev pub CourseReady : Course → Type 0
-CourseReady c = IsReady c.holdings.slots.items c.taken (todo c)
+CourseReady c = IsReady c.holdings.slots.items c.taken c.endings.list (todo c)
 
 -- past an idle task
 pub record IsPassed (a b : Course) : Type 0 where

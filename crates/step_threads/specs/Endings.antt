@@ -1,6 +1,7 @@
 -- The objects that end in a thread's hands. All of it is own.
-use Rattle.std.specs.Prelude.{◌≡◌, ℕ, ◌+◌, ◌≤◌, ◌==◌, cond, List, [], ◌∷◌, All, Option, Some, None, sum_by, ◌*◌, ◌-◌}
-use Rattle.control_word.specs.State.{ending}
+use Rattle.std.specs.Prelude.{◌≡◌, ℕ, ◌+◌, ◌<◌, ◌≤◌, ◌==◌, cond, List, [], ◌∷◌, All, Option, Some, None, sum_by, ◌*◌, ◌-◌}
+use Rattle.control_word.specs.Handles.{empty}
+use Rattle.control_word.specs.State.{ending, kind_of_member}
 use Rattle.step_threads.specs.declared.ending.Ending.{Ending}
 use Rattle.step_table.specs.Stories.{Story, object_in, state}
 
@@ -25,10 +26,11 @@ staged_first (e ∷ es) = staged e ∷ es
 abbrev pub endings_of : ℕ → List Ending → ℕ
 endings_of b es = sum_by (λ (e : Ending). cond (e.block.0 == b) 1 0) es
 
--- the object ends in the desk's hands
+-- the object ends in the desk's hands, and its members before the stage are cleared
 pub record IsEnding (d : ℕ) (e : Ending) (v : Story) : Type 0 where
   pub ending : ((state v).object (object_in v e.block)).phase ≡ ending d
   pub within : e.stage ≤ 3
+  pub cleared : (m : ℕ) → m < e.stage → ((state v).object (object_in v e.block)).member m ≡ empty (kind_of_member m)
 
 -- each object is in one ending at most
 pub record EndsAll (d : ℕ) (es : List Ending) (v : Story) : Type 0 where

@@ -17,7 +17,7 @@ use Rattle.step_threads.specs.declared.call.CellName.{CellName}
 use Rattle.step_table.specs.CellDeeds.{cell_in}
 use Rattle.step_table.specs.Contents.{held_in, told}
 use Rattle.step_table.specs.declared.holdings.Pointer.{Pointer}
-use Rattle.step_threads.specs.Courses.{cell_at, going, hand, kind_at, locked, offered, on_going, other}
+use Rattle.step_threads.specs.Courses.{cell_at, going, hand, is_there, kind_at, locked, offered, on_going, other}
 use Rattle.step_table.specs.Deeds.{Telling, field_of, is_enabled, is_expired, is_last, owned, aliased, handle_of, on}
 use Rattle.step_table.specs.Holdings.{Slots, inside, place_in, slot, value, owner_slot}
 use Rattle.step_table.specs.Stories.{Nothing}
@@ -88,23 +88,23 @@ giving s (Some x) = cond (is_enabled s x) (Some x) None
 abbrev pub swaps : Opening → ℕ → Slots → History → CellName → ℕ → History
 swaps z d slots h c k =
     let s = leads z h in
-    let x = cell_at s c in
+    let x = cell_at s slots c in
     entry d (event.Swap (cell_in s x) (told s (kind_at c) (value slots k)) (held_in s x)) ∷ h
 
 -- what a cell holds is loaded ([util.smartptr.atomic.shared], `load`)
-abbrev pub loads : Opening → ℕ → History → CellName → History
-loads z d h c = let s = leads z h in let x = cell_at s c in entry d (event.Load (cell_in s x) (held_in s x)) ∷ h
+abbrev pub loads : Opening → ℕ → Slots → History → CellName → History
+loads z d slots h c = let s = leads z h in let x = cell_at s slots c in entry d (event.Load (cell_in s x) (held_in s x)) ∷ h
 
 -- a cell holds what a slot does: both own or share the same object, or none, and store the same place
 abbrev pub is_expected : State → Slots → ℕ → CellName → Bool
-is_expected s slots k c = equivalent (held_in s (cell_at s c)) (told s (kind_at c) (value slots k))
+is_expected s slots k c = equivalent (held_in s (cell_at s slots c)) (told s (kind_at c) (value slots k))
 
 -- a cell is compared with slot k, and what is in hand goes in where it is equivalent ([util.smartptr.atomic.shared],
 -- `compare_exchange_strong`)
 abbrev pub compares : Opening → ℕ → Slots → History → ℕ → CellName → Bool → History
 compares z d slots h k c weak =
     let s = leads z h in
-    let x = cell_at s c in
+    let x = cell_at s slots c in
     let expected = told s (kind_at c) (value slots k) in
     let new = told s (kind_at c) (value slots (hand slots)) in
     entry d (event.Compare (cell_in s x) expected new (held_in s x) (is_expected s slots k c) weak) ∷ h
@@ -128,6 +128,6 @@ acted tell z d slots h (Ask q) = h
 acted tell z d slots h (Offer k c) = on (shares z d h) h (offered slots k c)
 acted tell z d slots h (Swap c) = on_going (swaps z d slots h) h (going slots (Swap c))
 acted tell z d slots h (Exchange k c) = on_going (swaps z d slots h) h (going slots (Exchange k c))
-acted tell z d slots h (Load c) = loads z d h c
+acted tell z d slots h (Load c) = cond (is_there slots c) (loads z d slots h c) h
 acted tell z d slots h (Compare k c weak) = compares z d slots h k c weak
 acted tell z d slots h Drop = on (leaves z d h) h (slot slots (other slots))

@@ -1,5 +1,5 @@
 -- Programs, without where they lie in memory.
-use Rattle.std.specs.Prelude.{◌≡◌, ℕ, ◌<◌, ◌≤◌, List, [], ◌∷◌, Option, Some, None, All, IsTrue, is_some, length, map, sum_by, slice_get}
+use Rattle.std.specs.Prelude.{◌≡◌, ℕ, ◌≢◌, ◌<◌, ◌≤◌, ◌==◌, ◌++◌, cond, List, [], ◌∷◌, Option, Some, None, All, IsTrue, is_some, length, map, sum_by, slice_get}
 use Rattle.control_word.specs.declared.shape.Shape.{Shape}
 use Rattle.step_threads.specs.declared.call.Actor.{Actor}
 use Rattle.step_threads.specs.declared.call.Call.{Call}
@@ -43,6 +43,16 @@ either name = (name, None)
 abbrev pub as_in : CellName → Name → Asked
 as_in (cell.Shared n) name = owner name
 as_in (cell.Weak n) name = weak name
+as_in (cell.Member k m) name = cond (m == 2) (weak name) (owner name)
+
+-- the name whose object a cell is a member of
+abbrev pub member_of : CellName → Option Name
+member_of (cell.Member k m) = Some k
+member_of _ = None
+
+abbrev pub through : CellName → List Asked
+through (cell.Member k m) = owner k ∷ []
+through _ = []
 
 -- the names of a call
 abbrev pub names_of : Call → List Asked
@@ -70,10 +80,10 @@ names_of (Read name) = owner name ∷ []
 names_of (Place name) = owner name ∷ []
 names_of (Same first second) = owner first ∷ owner second ∷ []
 names_of (Before first second) = either first ∷ either second ∷ []
-names_of (Store cell source) = as_in cell source ∷ []
-names_of (Exchange cell name) = as_in cell name ∷ []
-names_of (Load target cell) = as_in cell target ∷ []
-names_of (Compare cell expected desired weak) = as_in cell expected ∷ as_in cell desired ∷ []
+names_of (Store cell source) = as_in cell source ∷ through cell
+names_of (Exchange cell name) = as_in cell name ∷ through cell
+names_of (Load target cell) = as_in cell target ∷ through cell
+names_of (Compare cell expected desired weak) = as_in cell expected ∷ as_in cell desired ∷ through cell
 
 -- the cells of a call
 abbrev pub cells_of : Call → List CellName
@@ -83,10 +93,11 @@ cells_of (Load target cell) = cell ∷ []
 cells_of (Compare cell expected desired weak) = cell ∷ []
 cells_of _ = []
 
--- a shape has the cell
+-- a shape has the cell, and an object three members
 abbrev pub IsIn : Shape → CellName → Type 0
 IsIn shape (cell.Shared n) = n < shape.shared_cells
 IsIn shape (cell.Weak n) = n < shape.weak_cells
+IsIn shape (cell.Member k m) = m < 3
 
 -- it has each cell of a call, and of a part's calls
 abbrev pub HasCells : Shape → Call → Type 0
@@ -94,6 +105,11 @@ HasCells shape call = All (IsIn shape) (cells_of call)
 
 abbrev pub AllHaveCells : Shape → Part → Type 0
 AllHaveCells shape part = All (HasCells shape) part.calls
+
+-- a name isn't exchanged with a member of its own object
+abbrev pub IsApart : Call → Type 0
+IsApart (Exchange cell name) = member_of cell ≢ Some name
+IsApart _ = Unit {0}
 
 abbrev pub listed : Option Asked → List Asked
 listed None = []
@@ -112,10 +128,11 @@ IsDeclared kinds asked = IsFound asked.1 (slice_get kinds asked.0.0)
 abbrev pub IsWellNamed : List Kind → Call → Type 0
 IsWellNamed kinds call = All (IsDeclared kinds) (names_of call)
 
--- a part with at most 32 names, whose calls are well named
+-- a part with at most 32 names, whose calls are well named, and exchange no name with a member of its own object
 pub record IsPart (part : Part) : Type 0 where
   pub few : length part.kinds ≤ 32
   pub named : All (IsWellNamed part.kinds) part.calls
+  pub apart : All IsApart part.calls
 
 -- how many calls the parts have together
 abbrev pub call_count : List Part → ℕ

@@ -15,6 +15,7 @@ use Rattle.step_threads.specs.declared.act.Question.{Question}
 use Rattle.step_threads.specs.declared.act.Question.TheVariants as question
 use Rattle.step_threads.specs.declared.act.Task.{Task}
 use Rattle.step_threads.specs.declared.call.CellName.{CellName}
+use Rattle.step_threads.specs.declared.call.CellName.TheVariants.{Member}
 use Rattle.step_table.specs.declared.field.Field.{Field}
 use Rattle.step_table.specs.Contents.{differed, held_in, slot_of, swapped}
 use Rattle.step_threads.specs.declared.ending.Ending.{Ending}
@@ -25,7 +26,7 @@ use Rattle.step_threads.specs.declared.said.Answer.TheVariants as answer
 use Rattle.step_table.specs.declared.ended.Ended.{Ended}
 use Rattle.step_threads.specs.declared.said.Said.{Said}
 use Rattle.step_table.specs.declared.slot.Slot.TheVariants.{Full, Empty}
-use Rattle.step_threads.specs.Courses.{Walk, cell_at, fitting, going, hand, kind_at, locked, on_going, other, placed, settled, passed}
+use Rattle.step_threads.specs.Courses.{Walk, cell_at, fitting, going, hand, is_there, kind_at, locked, on_going, other, placed, settled, passed}
 use Rattle.step_table.specs.Deeds.{Telling, exact, as_weak, field_of, is_enabled, is_expired, is_last, owned, owner_left, this_as, aliased, at_place, on, remains, before}
 use Rattle.step_table.specs.Holdings.{Slots, filled, inside, is_full, place_in, plain, slot, value, owner_slot}
 use Rattle.step_table.specs.declared.slot.Slot.{Slot}
@@ -65,8 +66,8 @@ abbrev pub alias_in : Slots → ℕ → ℕ → Option Field → Slot
 alias_in slots k j field = alias_of (aliased field (place_in slots j)) (owner_slot (slot slots k))
 
 -- what comes out of a cell
-abbrev pub came : State → CellName → Slot
-came s c = slot_of s (held_in s (cell_at s c))
+abbrev pub came : State → Slots → CellName → Slot
+came s slots c = slot_of s (held_in s (cell_at s slots c))
 
 -- what was in hand is in the cell, and what comes out is to be dropped; or what was in hand is, and what the cell holds is taken
 abbrev pub compared : Slots → Slot → Bool → Hands
@@ -89,11 +90,11 @@ hands s d slots taken (FromThis k kind) = taking slots true (option_map (this_as
 hands s d slots taken (Alias k j field) = (slice_set slots (hand slots) (alias_in slots k j field), true)
 hands s d slots taken (Move k) = (passed k (hand slots) slots, true)
 hands s d slots taken (Ask q) = (slots, taken)
-hands s d slots taken (Offer k c) = (slice_set slots (hand slots) (fitting (kind_at c) (value slots k)), true)
-hands s d slots taken (Swap c) = (on_going (λ x k. swapped k (other slots) slots (came s x)) slots (going slots (Swap c)), false)
-hands s d slots taken (Exchange k c) = (on_going (λ x i. slice_set slots i (came s x)) slots (going slots (Exchange k c)), taken)
-hands s d slots taken (Load c) = (slice_set slots (hand slots) (came s c), true)
-hands s d slots taken (Compare k c weak) = compared slots (came s c) (is_expected s slots k c)
+hands s d slots taken (Offer k c) = cond (is_there slots c) (slice_set slots (hand slots) (fitting (kind_at c) (value slots k)), true) (slots, taken)
+hands s d slots taken (Swap c) = (on_going (λ x k. swapped k (other slots) slots (came s slots x)) slots (going slots (Swap c)), false)
+hands s d slots taken (Exchange k c) = (on_going (λ x i. slice_set slots i (came s slots x)) slots (going slots (Exchange k c)), taken)
+hands s d slots taken (Load c) = cond (is_there slots c) (slice_set slots (hand slots) (came s slots c), true) (slots, taken)
+hands s d slots taken (Compare k c weak) = compared slots (came s slots c) (is_expected s slots k c)
 hands s d slots taken Drop = (slice_set slots (other slots) plain, taken)
 
 -- the pointer that leaves by an act
@@ -204,6 +205,11 @@ reply s slots (question.Place k) = answer.Place (place_in slots k)
 reply s slots (question.Same i j) = answer.Same (same_place (place_in slots i) (place_in slots j))
 reply s slots (question.Before i j) = answer.Before (before s (slot slots i) (slot slots j))
 
+-- an act on a member of no object is refused, by where the name points
+abbrev pub refusal : Slots → CellName → Option Answer
+refusal slots (Member k m) = cond (is_there slots (Member k m)) None (Some (outside (place_in slots k.0)))
+refusal slots _ = None
+
 -- what an act answers: a make is refused where the store is empty, and a count is the number of owners that is told
 abbrev pub answer_of : Telling → State → ℕ → Slots → Act → Option Answer
 answer_of tell s d slots (Make form) = full_answer (least d s.stores)
@@ -213,6 +219,9 @@ answer_of tell s d slots (Expired k) = Some (answer.Expired (on (is_expired s) t
 answer_of tell s d slots (Read k) = Some (read_answer s (place_in slots k) (inside (slot slots k)))
 answer_of tell s d slots (FromThis k kind) = this_answer s (place_in slots k) (inside (slot slots k))
 answer_of tell s d slots (Ask q) = Some (reply s slots q)
+answer_of tell s d slots (Offer k c) = refusal slots c
+answer_of tell s d slots (Exchange k c) = refusal slots c
+answer_of tell s d slots (Load c) = refusal slots c
 answer_of tell s d slots (Compare k c weak) = Some (answer.Compared (is_expected s slots k c))
 answer_of tell s d slots _ = None
 

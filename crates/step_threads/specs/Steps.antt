@@ -1,8 +1,8 @@
 -- What one step of a thread does, by what it has begun and by its next act. All of it is own.
-use Rattle.std.specs.Prelude.{ℕ, ◌+◌, ◌-◌, ◌==◌, Bool, true, false, not, ◌&&◌, cond, List, [], ◌∷◌, get_or, is_some, Option, Some, None, option_map}
+use Rattle.std.specs.Prelude.{ℕ, ◌+◌, ◌-◌, ◌==◌, Bool, true, false, not, ◌&&◌, cond, List, [], ◌∷◌, get_or, slice_set, is_some, Option, Some, None, option_map}
 use Rattle.control_word.specs.declared.cell.CellWord.{CellWord}
 use Rattle.control_word.specs.declared.place.Block.{Block}
-use Rattle.control_word.specs.State.{weak}
+use Rattle.control_word.specs.State.{kind_of_member, weak}
 use Rattle.control_word.specs.declared.handle.Kind.{Kind}
 use Rattle.step_threads.specs.declared.act.Act.{Act}
 use Rattle.step_table.specs.declared.form.Form.{Form}
@@ -12,7 +12,7 @@ use Rattle.step_threads.specs.declared.call.CellName.{CellName}
 use Rattle.step_table.specs.declared.cell_deed.CellDeed.TheVariants as cell_deed
 use Rattle.step_threads.specs.declared.ending.Ending.{Ending}
 use Rattle.step_threads.specs.declared.half.Half.{Half}
-use Rattle.step_threads.specs.declared.half.Half.TheVariants.{Rest, Making, Locking, Giving, Brought, Saw, Matched, Refill, Returning}
+use Rattle.step_threads.specs.declared.half.Half.TheVariants.{Rest, Making, Locking, Giving, Brought, Saw, Matched, Refill, Returning, Clearing}
 use Rattle.step_table.specs.declared.holdings.Pointer.{Pointer}
 use Rattle.step_table.specs.declared.past.Deed.{Deed}
 use Rattle.step_table.specs.declared.past.Deed.TheVariants as deed
@@ -20,15 +20,16 @@ use Rattle.step_threads.specs.declared.said.Said.{Said}
 use Rattle.step_threads.specs.declared.said.Stepped.{Stepped}
 use Rattle.step_threads.specs.declared.said.Stepped.TheVariants.{Event, Quiet, Waited, Done}
 use Rattle.step_threads.specs.Actors.{wanted}
-use Rattle.step_threads.specs.Courses.{Going, Walk, cell_at, comparing, form_of, going, hand, kind_at, locked, offered, on_going, other, settled}
+use Rattle.step_threads.specs.Courses.{Going, Walk, cell_at, comparing, form_of, going, hand, is_there, kind_at, locked, offered, on_going, other, settled}
 use Rattle.control_word.specs.Packing.{cell_bits}
 use Rattle.step_table.specs.declared.cell_deed.Cell.{Cell}
+use Rattle.step_table.specs.declared.cell_deed.Cell.TheVariants.{Member}
 use Rattle.step_table.specs.declared.cell_deed.Compared.{Compared}
 use Rattle.step_table.specs.declared.refill.Stage.{Stage}
 use Rattle.step_table.specs.declared.refill.Stage.TheVariants.{Turning, Checking, Lacking, Refilling, Failing}
 use Rattle.step_table.specs.CellDeeds.{kind_in}
 use Rattle.step_table.specs.Cells.{word_at}
-use Rattle.step_table.specs.Contents.{as_word, compared_in, is_spent, same_value, seen}
+use Rattle.step_table.specs.Contents.{as_word, compared_in, held_in, is_spent, same_value, seen, slot_of}
 use Rattle.step_table.specs.Refills.{is_drained, is_low, more_taken}
 use Rattle.step_table.specs.Deeds.{by_word, downgrade, give, is_enabled, leave, lock, owner_word, read, share, tell, tell_expired, alias, aliased, on}
 use Rattle.step_threads.specs.Endings.{staged}
@@ -98,7 +99,7 @@ gives_back kind k x (Some b) = Returning kind b (256 - x.taken) k
 -- a slot's value goes into a cell, and what that held comes out
 abbrev pub swaps : Story → ℕ → Walk → ℕ → List Task → Act → CellName → ℕ → Step
 swaps v d w k ts a c i =
-    let x = cell_at (state v) c in
+    let x = cell_at (state v) w.slots c in
     let found = seen v x in
     acts v d w k ts a (Some (deed.OnCell (cell_deed.Swap x (as_word (value w.slots i)) found))) (gives_back (kind_at c) k found found.owned)
 
@@ -166,9 +167,11 @@ first v d w k ts (Ask q) = acts v d w k ts (Ask q) None Rest
 first v d w k ts (Offer i c) = acts v d w k ts (Offer i c) (option_map share (offered w.slots i c)) Rest
 first v d w k ts (Swap c) = let a = Swap c in on_going (sends v d w k ts a) (acts v d w k ts a None Rest) (going w.slots a)
 first v d w k ts (Exchange i c) = let a = Exchange i c in on_going (sends v d w k ts a) (acts v d w k ts a None Rest) (going w.slots a)
-first v d w k ts (Load c) = let x = cell_at (state v) c in sees v d w k ts (Load c) x None (seen v x)
+first v d w k ts (Load c) =
+    let x = cell_at (state v) w.slots c in
+    cond (is_there w.slots c) (sees v d w k ts (Load c) x None (seen v x)) (acts v d w k ts (Load c) None Rest)
 first v d w k ts (Compare i c weak) =
-    let x = cell_at (state v) c in
+    let x = cell_at (state v) w.slots c in
     compares v d w k ts (Compare i c weak) x (compared_in w.slots (comparing w.slots i weak)) (seen v x)
 first v d w k ts Drop = acts v d w k ts Drop (option_map (leave (state v)) (slot w.slots (other w.slots))) Rest
 
@@ -192,9 +195,9 @@ sent v d w (t ∷ ts) = option_map (λ (x : Going). swaps v d w t.statement ts t
 
 -- the next step of an act on a cell that was seen to hold this
 abbrev pub saw_on : Story → ℕ → Walk → ℕ → List Task → CellWord → Act → Option Step
-saw_on v d w k ts x (Load c) = Some (takes v d w k ts (Load c) (cell_at (state v) c) None x)
+saw_on v d w k ts x (Load c) = Some (takes v d w k ts (Load c) (cell_at (state v) w.slots c) None x)
 saw_on v d w k ts x (Compare i c weak) =
-    Some (settles v d w k ts (Compare i c weak) (cell_at (state v) c) (compared_in w.slots (comparing w.slots i weak)) x)
+    Some (settles v d w k ts (Compare i c weak) (cell_at (state v) w.slots c) (compared_in w.slots (comparing w.slots i weak)) x)
 saw_on v d w k ts x _ = None
 
 abbrev pub saw : Story → ℕ → Walk → CellWord → List Task → Option Step
@@ -204,7 +207,7 @@ saw v d w x (t ∷ ts) = saw_on v d w t.statement ts x t.act
 -- the next step of a compare whose cell was seen to hold what is expected, and which has brought the funds of what is to go in
 abbrev pub matched_on : Story → ℕ → Walk → ℕ → List Task → CellWord → Act → Option Step
 matched_on v d w k ts x (Compare i c weak) =
-    Some (matches v d w k ts (Compare i c weak) (cell_at (state v) c) (compared_in w.slots (comparing w.slots i weak)) x)
+    Some (matches v d w k ts (Compare i c weak) (cell_at (state v) w.slots c) (compared_in w.slots (comparing w.slots i weak)) x)
 matched_on v d w k ts x _ = None
 
 abbrev pub matched : Story → ℕ → Walk → CellWord → List Task → Option Step
@@ -249,12 +252,27 @@ made_on v d w b i differs (t ∷ ts) =
 abbrev pub with_endings : Walk → List Ending → Walk
 with_endings w es = record { slots = w.slots; taken = w.taken; endings = es; todo = w.todo }
 
--- an object ends: its members are cleared in order, and then it is finished
+-- an object ends: its members are cleared in order, and then it is finished. A member is looked at: a word of 0 is empty, and
+-- cleared by that look; one that holds something is taken out next
 abbrev pub ends_on : Story → Walk → Ending → List Ending → Step
 ends_on v w e es =
     cond (e.stage == 3)
     (record { deed = Some (deed.Finish e.block (weak (state v) (object_in v e.block) == 0)); half = Rest; walk = with_endings w es; said = silent e.statement })
-    (record { deed = Some (deed.Clear e.block e.stage); half = Rest; walk = with_endings w (staged e ∷ es); said = silent e.statement })
+    (cond (word_at v (Member e.block e.stage) == 0) (within (with_endings w (staged e ∷ es)) e.statement (Some (deed.Clear e.block e.stage)) Rest)
+    (within w e.statement None Clearing))
+
+-- what a member holds comes out, into the hand if it has an object, and its funds that were not taken are given back
+abbrev pub empties : Story → Walk → Ending → List Ending → Step
+empties v w e es =
+    let c = Member e.block e.stage in
+    let x = seen v c in
+    let slots = cond (is_some x.owned) (slice_set w.slots (hand w.slots) (slot_of (state v) (held_in (state v) c))) w.slots in
+    within (record { slots = slots; taken = w.taken; endings = staged e ∷ es; todo = w.todo }) e.statement
+    (Some (deed.OnCell (cell_deed.TakeOut e.block e.stage x))) (gives_back (kind_of_member e.stage) e.statement x x.owned)
+
+abbrev pub emptied : Story → Walk → List Ending → Option Step
+emptied v w [] = None
+emptied v w (e ∷ es) = Some (empties v w e es)
 
 -- within no act: what came out of a member leaves, or else the ending begun last goes on; without endings the next task comes
 abbrev pub at_rest : Story → ℕ → Walk → List Ending → Option Step
@@ -273,6 +291,7 @@ step_at v d (Saw x) w = saw v d w x w.todo
 step_at v d (Matched x) w = matched v d w x w.todo
 step_at v d (Refill stage c x k) w = option_map (refills_on v w stage c x k) x.owned
 step_at v d (Returning kind b funds k) w = Some (returns w kind b funds k)
+step_at v d Clearing w = emptied v w w.endings
 
 -- what it makes of the table
 abbrev pub story_after : Story → ℕ → Option Deed → Story
@@ -298,9 +317,9 @@ is_event v (Some x) = is_some (event_of v x)
 -- the next act looks at a cell of whose value all funds were taken, and which it loads, or finds to differ: it waits until some are put
 -- back
 abbrev pub waits_on : Story → Walk → Act → Bool
-waits_on v w (Load c) = is_spent (seen v (cell_at (state v) c))
+waits_on v w (Load c) = is_there w.slots c && is_spent (seen v (cell_at (state v) w.slots c))
 waits_on v w (Compare i c weak) =
-    let x = seen v (cell_at (state v) c) in not (same_value x (as_word (value w.slots i))) && is_spent x
+    let x = seen v (cell_at (state v) w.slots c) in not (same_value x (as_word (value w.slots i))) && is_spent x
 waits_on v w _ = false
 
 abbrev pub waits_at : Story → Walk → List Ending → List Task → Bool

@@ -1,5 +1,5 @@
 -- A thread of the machine, and how it fits the table. All of it is own.
-use Rattle.std.specs.Prelude.{◌≡◌, ◌≢◌, ℕ, ◌<◌, ◌≤◌, ◌⊎◌, [], ◌∷◌, Bool, true, false, length, is_some, All, Option, Some, None}
+use Rattle.std.specs.Prelude.{◌≡◌, ◌≢◌, ℕ, ◌<◌, ◌≤◌, ◌⊎◌, List, [], ◌∷◌, Bool, true, false, length, is_some, All, Option, Some, None}
 use Rattle.std.specs.List.Sorted.{IsPermutation}
 use Rattle.control_word.specs.declared.handle.Kind.{Kind}
 use Rattle.control_word.specs.declared.handle.Kind.TheVariants.{Weak}
@@ -10,12 +10,13 @@ use Rattle.step_threads.specs.declared.act.Act.TheVariants.{Make, FromThis, Load
 use Rattle.step_threads.specs.declared.act.Task.{Task}
 use Rattle.step_threads.specs.declared.course.Course.{Course}
 use Rattle.step_threads.specs.declared.half.Half.{Half}
-use Rattle.step_threads.specs.declared.half.Half.TheVariants.{Rest, Making, Locking, Giving, Brought, Saw, Matched, Refill, Returning}
+use Rattle.step_threads.specs.declared.half.Half.TheVariants.{Rest, Making, Locking, Giving, Brought, Saw, Matched, Refill, Returning, Clearing}
 use Rattle.step_threads.specs.declared.said.Stepped.{Stepped}
 use Rattle.step_threads.specs.declared.thread.Thread.{Thread}
 use Rattle.step_threads.specs.Actors.{HalfFits, Stocks}
-use Rattle.step_threads.specs.Courses.{CourseReady, CourseStill, HasCell, form_of, going, locked, task_at, walk}
+use Rattle.step_threads.specs.Courses.{CourseReady, CourseStill, HasCell, form_of, going, hand, is_there, locked, task_at, walk}
 use Rattle.step_table.specs.declared.holdings.Pointer.{Pointer}
+use Rattle.step_threads.specs.declared.ending.Ending.{Ending}
 use Rattle.step_threads.specs.Endings.{EndsAll}
 use Rattle.step_table.specs.Contents.{as_word, same_value}
 use Rattle.step_table.specs.Holdings.{Holds, Slots, inside, is_full, slot, value}
@@ -33,7 +34,7 @@ IsLoaded x = (x.owned ≢ None) × (x.taken < 256)
 
 -- the next act loads what was seen, or compares it
 abbrev pub IsSeenBy : Slots → CellWord → Act → Type 0
-IsSeenBy slots x (Load c) = IsLoaded x
+IsSeenBy slots x (Load c) = (is_there slots c ≡ true) × IsLoaded x
 IsSeenBy slots x (Compare k c weak) = (same_value x (as_word (value slots k)) ≡ true) ⊎ IsLoaded x
 IsSeenBy slots x _ = ⊥
 
@@ -41,6 +42,11 @@ IsSeenBy slots x _ = ⊥
 abbrev pub IsMatchedBy : Slots → CellWord → Act → Type 0
 IsMatchedBy slots x (Compare k c weak) = same_value x (as_word (value slots k)) ≡ true
 IsMatchedBy slots x _ = ⊥
+
+-- the object that ends first has a member left, and nothing came out of one that is in hand
+abbrev pub IsClearing : Slots → List Ending → Type 0
+IsClearing slots [] = ⊥
+IsClearing slots (e ∷ es) = (e.stage < 3) × (is_full (slot slots (hand slots)) ≡ false)
 
 -- a make, a lock, a pointer from this or an act on a cell that is under way is the next act, and no object ends
 abbrev pub IsNext : Half → Course → Type 0
@@ -54,6 +60,7 @@ IsNext (Saw x) c = (c.at < length c.tasks.items) × IsSeenBy c.holdings.slots.it
 IsNext (Matched x) c = (c.at < length c.tasks.items) × IsMatchedBy c.holdings.slots.items x (task_at c).act × (c.endings.list ≡ [])
 IsNext (Refill stage cell x k) c = Unit {0}
 IsNext (Returning kind b funds k) c = Unit {0}
+IsNext Clearing c = IsClearing c.holdings.slots.items c.endings.list
 
 -- the objects that end in a thread's hands are those of its endings; there is room for more, and nothing was taken meanwhile
 pub record EndsFit (d : ℕ) (c : Course) (v : Story) : Type 0 where

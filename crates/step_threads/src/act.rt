@@ -73,7 +73,8 @@ pub enum Act {
     Ask {
         question: Question,
     },
-    /// Takes a copy of what a name holds, which is to go into a cell.
+    /// Takes a copy of what a name holds, which is to go into a cell. It is refused where the cell is a member, and its name owns
+    /// no object that it points into, as `Exchange` and `Load` are.
     Offer {
         name: u8,
         cell: CellName,

@@ -15,11 +15,13 @@ pub enum Kind {
 #[derive(Clone, Copy, Debug, PartialEq, Eq)]
 pub struct Name(pub u8);
 
-/// A free cell: an `atomic<shared_ptr>` or an `atomic<weak_ptr>`, by its number from 0 among those of its kind.
+/// A cell: an `atomic<shared_ptr>` or an `atomic<weak_ptr>`. A free one has its number, from 0, among those of its kind; a member is
+/// one of the object that a name owns and points into: 0 and 1 are shared, 2 is weak.
 #[derive(Clone, Copy, Debug, PartialEq, Eq)]
 pub enum CellName {
     Shared(u8),
     Weak(u8),
+    Member { name: Name, member: u8 },
 }
 
 /// What one statement asks for.

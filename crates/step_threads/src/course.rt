@@ -43,7 +43,7 @@ impl Course {
         match self.tasks[self.at].act {
             Act::Put { name } => !(self.taken && self.holdings.is_full(usize::from(name))),
             Act::Clear { name } => !self.holdings.is_full(usize::from(name)),
-            Act::Swap { cell } => !(self.taken && self.may_go_in(self.holdings.hand(), cell)),
+            Act::Swap { cell } => !self.is_offered(cell),
             Act::Compare { name, cell, .. } => !self.is_compared(name, cell),
             Act::Drop => !self.holdings.is_full(self.holdings.other()),
             _ => false,
@@ -112,7 +112,7 @@ impl Course {
     /// Goes on after the next task.
     pub fn go_on(&mut self)
         requires within { self.old.at < length self.old.tasks.items }
-        requires ready { IsReady self.old.holdings.slots.items self.old.taken (rest self.old) }
+        requires ready { IsReady self.old.holdings.slots.items self.old.taken self.old.endings.list (rest self.old) }
         ensures walk { walk self.new ≡ settled self.old.holdings.slots.items self.old.taken self.old.endings.list (rest self.old) }
         ensures on { (d : ℕ) (v : Story) → Holds d self.old.holdings.slots.items v → HasGoneOn d self.old self.new v }
     {
@@ -123,7 +123,7 @@ impl Course {
     /// Goes on after the next task, which took what is in hand or took nothing.
     pub fn take(&mut self, taken: bool)
         requires within { self.old.at < length self.old.tasks.items }
-        requires ready { IsReady self.old.holdings.slots.items taken (rest self.old) }
+        requires ready { IsReady self.old.holdings.slots.items taken self.old.endings.list (rest self.old) }
         ensures walk { walk self.new ≡ settled self.old.holdings.slots.items taken self.old.endings.list (rest self.old) }
         ensures on { (d : ℕ) (v : Story) → Holds d self.old.holdings.slots.items v → HasGoneOn d self.old self.new v }
     {

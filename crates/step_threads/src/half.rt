@@ -65,6 +65,8 @@ pub enum Half {
         funds: u32,
         statement: u32,
     },
+    /// A member of the object that ends was seen to hold something: it is taken out next.
+    Clearing,
 }
 
 /// What other desks do changes nothing of what a desk has.

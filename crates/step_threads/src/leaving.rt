@@ -3,6 +3,9 @@ ghost use Rattle.std.specs.Prelude.{◌≡◌, ◌<◌, ◌≤◌, ◌⊎◌, []
 ghost use Rattle.control_word.specs.State.{ending};
 ghost use Rattle.control_word.specs.declared.handle.Kind.TheVariants.{Owner, Weak};
 ghost use Rattle.step_table.specs.Deeds.{on};
+ghost use Rattle.step_table.specs.Holdings.{is_full, slot};
+ghost use Rattle.step_threads.specs.Courses.{hand};
+ghost use Rattle.step_threads.specs.Endings.{first_of};
 ghost use Rattle.step_threads.specs.Scenes.{begins_end_as, remains_as};
 ghost use Rattle.step_table.specs.Stories.{object_in, state};
 ghost use Rattle.step_threads.specs.declared.act.Act.{Act};
@@ -72,6 +75,31 @@ impl Thread {
                 ended,
             },
         )
+    }
+
+    /// What came out of a member of an ending object leaves. Where it was the last owner, the end of its object begins.
+    pub fn leave_carried(&mut self, desk: usize, table: &mut Table, ending: Ending) -> Stepped
+        requires fits { Fits desk self.old table.old }
+        requires rest { self.old.half ≡ Half.Rest }
+        requires first { first_of self.old.course.endings.list ≡ Some ending }
+        requires carried { is_full (slot self.old.course.holdings.slots.items (hand self.old.course.holdings.slots.items)) ≡ true }
+        ensures stepped { HasStepped desk self.old table.old result self.new table.new }
+        ensures fits { Fits desk self.new table.new }
+    {
+        table.known();
+        let hand = self.course.holdings.hand();
+        let Some(pointer) = self.course.holdings.get(hand) else {
+            unreachable!()
+        };
+        let last = self.course.holdings.leave(desk, table, hand, pointer);
+        table.known();
+        let statement = ending.statement;
+        let ended = self.left(desk, table, Some(pointer), last, statement);
+        Stepped::Event(Said {
+            statement,
+            answer: None,
+            ended,
+        })
     }
 
     /// After a leave that was the last: of an owner, the end of its object begins; of a weak pointer, its block comes into the

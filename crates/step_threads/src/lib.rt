@@ -13,6 +13,7 @@ pub mod making;
 pub mod offering;
 pub mod reading;
 pub mod refilling;
+pub mod refusing;
 pub mod said;
 pub mod stock;
 pub mod storing;

@@ -27,8 +27,8 @@ impl Thread {
     ghost use Rattle.step_threads.specs.Courses.{task_at};
     ghost use Rattle.step_threads.specs.Threads.{Fits, HasStepped};
 
-    /// The first step of a load: a look at the cell. A value without an object is loaded at once, and one of which all funds were
-    /// taken has to wait.
+    /// The first step of a load: a look at the cell, where it is there; else it is refused. A value without an object is loaded at
+    /// once, and one of which all funds were taken has to wait.
     pub fn load(&mut self, desk: usize, table: &mut Table, cell: CellName) -> Stepped
         requires fits { Fits desk self.old table.old }
         requires rest { self.old.half ≡ Half.Rest }
@@ -39,6 +39,9 @@ impl Thread {
         ensures fits { Fits desk self.new table.new }
     {
         table.known();
+        if !self.course.is_there(cell) {
+            return self.refuse(desk, table, cell);
+        }
         let statement = self.course.statement();
         let found = self.course.look_to_load(desk, table, cell);
         if found.owned.is_none() {
@@ -115,7 +118,7 @@ impl Thread {
     {
         table.known();
         let statement = self.course.statement();
-        let at = cell.cell(table);
+        let at = self.course.cell(table, cell);
         if !self.course.take_fund(desk, table, cell, found) {
             self.half = Half::Rest;
             return Stepped::Quiet(silent(statement));
@@ -143,7 +146,7 @@ impl Thread {
     {
         table.known();
         let statement = self.course.statement();
-        let at = cell.cell(table);
+        let at = self.course.cell(table, cell);
         if !self
             .course
             .take_differing(desk, table, name, cell, weak, found)
@@ -218,7 +221,7 @@ impl Thread {
         table.known();
         let statement = self.course.statement();
         let brought = self.course.holdings.get(self.course.holdings.hand());
-        let at = cell.cell(table);
+        let at = self.course.cell(table, cell);
         let kind = table.kind_in(at);
         if !self
             .course

@@ -1,7 +1,7 @@
 //! How a thread puts values into cells, act by act.
 ghost use Rattle.std.specs.Prelude.{◌≡◌, ◌<◌, ◌≤◌, true, false, length, slice_set};
 ghost use Rattle.step_table.specs.Contents.{as_word, is_of, owing_for, seen, swapped};
-ghost use Rattle.step_threads.specs.Courses.{CanAct, CourseReady, HasCell, HasGoneOn, cell_at, done_on, fitting, hand, kind_at, offered, other, rest, settled, task_at, walk};
+ghost use Rattle.step_threads.specs.Courses.{CanAct, CourseReady, HasCell, HasGoneOn, IsNamed, cell_at, done_on, fitting, hand, is_offered, is_there, kind_at, offered, other, rest, settled, task_at, walk};
 ghost use Rattle.step_table.specs.Deeds.{is_last, leave, share, on};
 ghost use Rattle.step_table.specs.Holdings.{Holds, is_full, plain, slot, value};
 ghost use Rattle.step_threads.specs.Scenes.{came};
@@ -22,25 +22,59 @@ impl CellName {
         ensures { result ≡ kind_at self }
     {
         match self {
-            CellName::Shared(_) => Kind::Owner,
-            CellName::Weak(_) => Kind::Weak,
+            CellName::Weak(_) | CellName::Member { member: 2, .. } => Kind::Weak,
+            CellName::Shared(_) | CellName::Member { .. } => Kind::Owner,
         }
-    }
-
-    /// The cell of a name: the weak ones stand behind the shared ones.
-    pub fn cell(self, table: &Table) -> Cell
-        ensures { result ≡ cell_at (state table.now) self }
-    {
-        table.known();
-        let number = match self {
-            CellName::Shared(number) => u32::from(number),
-            CellName::Weak(number) => table.shared_cells() + u32::from(number),
-        };
-        Cell::Free { number }
     }
 }
 
 impl Course {
+    /// Whether the object is there whose member the cell is: the name owns it and points into it.
+    pub fn is_there(&self, cell: CellName) -> bool
+        requires named { IsNamed (length self.now.holdings.slots.items) cell }
+        ensures { result ≡ is_there self.now.holdings.slots.items cell }
+    {
+        match cell {
+            CellName::Member { name, .. } => self.holdings.inside(usize::from(name.0)).is_some(),
+            _ => true,
+        }
+    }
+
+    /// The cell in the table: the weak ones stand behind the shared ones.
+    pub fn cell(&self, table: &Table, cell: CellName) -> Cell
+        requires named { IsNamed (length self.now.holdings.slots.items) cell }
+        requires there { is_there self.now.holdings.slots.items cell ≡ true }
+        ensures { result ≡ cell_at (state table.now) self.now.holdings.slots.items cell }
+    {
+        table.known();
+        match cell {
+            CellName::Shared(number) => Cell::Free {
+                number: u32::from(number),
+            },
+            CellName::Weak(number) => Cell::Free {
+                number: table.shared_cells() + u32::from(number),
+            },
+            CellName::Member { name, member } => {
+                let Some(owner) = self.holdings.inside(usize::from(name.0)) else {
+                    unreachable!()
+                };
+                Cell::Member {
+                    block: owner.block,
+                    member,
+                }
+            }
+        }
+    }
+
+    /// Whether the cell is there, and what was taken may go in.
+    pub fn is_offered(&self, cell: CellName) -> bool
+        requires some { 1 < length self.now.holdings.slots.items }
+        requires named { IsNamed (length self.now.holdings.slots.items) cell }
+        ensures { result ≡ is_offered self.now.holdings.slots.items self.now.taken cell }
+    {
+        self.taken && self.is_there(cell) && self.may_go_in(self.holdings.hand(), cell)
+    }
+
     /// Whether a slot's value may go into a cell.
     pub fn may_go_in(&self, at: usize, cell: CellName) -> bool
         requires { at < length self.now.holdings.slots.items }
@@ -53,6 +87,7 @@ impl Course {
     pub fn offer(&mut self, desk: usize, table: &mut Table, name: u8, cell: CellName) -> bool
         requires can { CanAct desk self.old table.old }
         requires act { (task_at self.old).act ≡ Act.Offer name cell }
+        requires there { is_there self.old.holdings.slots.items cell ≡ true }
         ensures event { result ≡ is_full (offered self.old.holdings.slots.items name cell) }
         ensures table { table.new ≡ done_on share table.old desk (offered self.old.holdings.slots.items name cell) }
         ensures walk { walk self.new ≡ settled (slice_set self.old.holdings.slots.items (hand self.old.holdings.slots.items) (fitting (kind_at cell) (value self.old.holdings.slots.items name))) true self.old.endings.list (rest self.old) }
@@ -87,19 +122,20 @@ impl Course {
         requires within { self.old.at < length self.old.tasks.items }
         requires ready { CourseReady self.old }
         requires act { (task_at self.old).act ≡ Act.Swap cell }
+        requires there { is_there self.old.holdings.slots.items cell ≡ true }
         requires cell { HasCell table.old.extent.shape (task_at self.old).act }
         requires kind { is_of (kind_at cell) (value self.old.holdings.slots.items (hand self.old.holdings.slots.items)) ≡ true }
         requires owes { pending table.old desk ≡ owing_for (state table.old) (value self.old.holdings.slots.items (hand self.old.holdings.slots.items)) 256 }
-        ensures found { result ≡ seen table.old (cell_at (state table.old) cell) }
+        ensures found { result ≡ seen table.old (cell_at (state table.old) self.old.holdings.slots.items cell) }
         ensures few { result.taken ≤ 256 }
-        ensures table { table.new ≡ after table.old desk (Deed.OnCell (CellDeed.Swap (cell_at (state table.old) cell) (as_word (value self.old.holdings.slots.items (hand self.old.holdings.slots.items))) result)) }
+        ensures table { table.new ≡ after table.old desk (Deed.OnCell (CellDeed.Swap (cell_at (state table.old) self.old.holdings.slots.items cell) (as_word (value self.old.holdings.slots.items (hand self.old.holdings.slots.items))) result)) }
         ensures walk { walk self.new
-            ≡ settled (swapped (hand self.old.holdings.slots.items) (other self.old.holdings.slots.items) self.old.holdings.slots.items (came (state table.old) cell)) false self.old.endings.list (rest self.old) }
+            ≡ settled (swapped (hand self.old.holdings.slots.items) (other self.old.holdings.slots.items) self.old.holdings.slots.items (came (state table.old) self.old.holdings.slots.items cell)) false self.old.endings.list (rest self.old) }
         ensures on { HasGoneOn desk self.old self.new table.new }
     {
         let hand = self.holdings.hand();
         let other = self.holdings.other();
-        let cell = cell.cell(table);
+        let cell = self.cell(table, cell);
         let found = self.holdings.swap(desk, table, cell, hand, other);
         self.take(false);
         found
@@ -112,17 +148,18 @@ impl Course {
         requires within { self.old.at < length self.old.tasks.items }
         requires ready { CourseReady self.old }
         requires act { (task_at self.old).act ≡ Act.Exchange name cell }
+        requires there { is_there self.old.holdings.slots.items cell ≡ true }
         requires cell { HasCell table.old.extent.shape (task_at self.old).act }
         requires kind { is_of (kind_at cell) (value self.old.holdings.slots.items name) ≡ true }
         requires owes { pending table.old desk ≡ owing_for (state table.old) (value self.old.holdings.slots.items name) 256 }
-        ensures found { result ≡ seen table.old (cell_at (state table.old) cell) }
+        ensures found { result ≡ seen table.old (cell_at (state table.old) self.old.holdings.slots.items cell) }
         ensures few { result.taken ≤ 256 }
-        ensures table { table.new ≡ after table.old desk (Deed.OnCell (CellDeed.Swap (cell_at (state table.old) cell) (as_word (value self.old.holdings.slots.items name)) result)) }
+        ensures table { table.new ≡ after table.old desk (Deed.OnCell (CellDeed.Swap (cell_at (state table.old) self.old.holdings.slots.items cell) (as_word (value self.old.holdings.slots.items name)) result)) }
         ensures walk { walk self.new
-            ≡ settled (slice_set self.old.holdings.slots.items name (came (state table.old) cell)) self.old.taken self.old.endings.list (rest self.old) }
+            ≡ settled (slice_set self.old.holdings.slots.items name (came (state table.old) self.old.holdings.slots.items cell)) self.old.taken self.old.endings.list (rest self.old) }
         ensures on { HasGoneOn desk self.old self.new table.new }
     {
-        let cell = cell.cell(table);
+        let cell = self.cell(table, cell);
         let found = self.holdings.exchange(desk, table, cell, usize::from(name));
         self.go_on();
         found

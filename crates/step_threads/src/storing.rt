@@ -24,7 +24,7 @@ impl Thread {
     ghost use Rattle.step_threads.specs.Courses.{task_at};
     ghost use Rattle.step_threads.specs.Threads.{Fits, HasStepped};
 
-    /// Takes a copy of what a name holds, for a cell.
+    /// Takes a copy of what a name holds, for a cell that is there; else it is refused.
     pub fn offer(&mut self, desk: usize, table: &mut Table, name: u8, cell: CellName) -> Stepped
         requires fits { Fits desk self.old table.old }
         requires rest { self.old.half ≡ Half.Rest }
@@ -35,6 +35,9 @@ impl Thread {
         ensures fits { Fits desk self.new table.new }
     {
         table.known();
+        if !self.course.is_there(cell) {
+            return self.refuse(desk, table, cell);
+        }
         let statement = self.course.statement();
         let event = self.course.offer(desk, table, name, cell);
         says(event, silent(statement))
@@ -62,7 +65,7 @@ impl Thread {
     }
 
     /// The first step of an exchange: the funds of what a name holds are brought. A name without an object is exchanged at once,
-    /// and one that may not go into the cell not at all.
+    /// and one that may not go into the cell not at all. Where the cell isn't there it is refused.
     pub fn send(&mut self, desk: usize, table: &mut Table, name: u8, cell: CellName) -> Stepped
         requires fits { Fits desk self.old table.old }
         requires rest { self.old.half ≡ Half.Rest }
@@ -73,6 +76,9 @@ impl Thread {
         ensures fits { Fits desk self.new table.new }
     {
         table.known();
+        if !self.course.is_there(cell) {
+            return self.refuse(desk, table, cell);
+        }
         let statement = self.course.statement();
         let from = usize::from(name);
         if !self.course.may_go_in(from, cell) {

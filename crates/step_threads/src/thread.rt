@@ -1,7 +1,6 @@
 //! A thread of the machine: its course, its store, and the act that it has begun.
 ghost use Rattle.std.specs.Prelude.{◌≡◌, ◌<◌, [], length, cond};
 ghost use Rattle.step_threads.specs.Steps.{silent};
-ghost use Rattle.step_table.specs.Stories.{Plain};
 
 use crate::act::Act;
 use crate::course::Course;
@@ -25,7 +24,6 @@ impl Thread {
     /// The next atomic step, or the next act that touches no word.
     pub fn step(&mut self, desk: usize, table: &mut Table) -> Stepped
         requires fits { Fits desk self.old table.old }
-        requires plain { Plain table.old }
         ensures stepped { HasStepped desk self.old table.old result self.new table.new }
         ensures fits { Fits desk self.new table.new }
     {
@@ -57,18 +55,21 @@ impl Thread {
                 funds,
                 statement,
             } => self.give_back(desk, table, kind, block, funds, statement),
+            Half::Clearing => self.empty_on(desk, table),
         }
     }
 
-    /// Within no act: the ending begun last goes on, or else the next act comes.
+    /// Within no act: what came out of a member leaves, or the ending begun last goes on, or else the next act comes.
     fn go(&mut self, desk: usize, table: &mut Table) -> Stepped
         requires fits { Fits desk self.old table.old }
-        requires plain { Plain table.old }
         requires rest { self.old.half ≡ Half.Rest }
         ensures stepped { HasStepped desk self.old table.old result self.new table.new }
         ensures fits { Fits desk self.new table.new }
     {
         match self.course.endings.first() {
+            Some(ending) if self.course.holdings.is_full(self.course.holdings.hand()) => {
+                self.leave_carried(desk, table, ending)
+            }
             Some(ending) => self.end_on(desk, table, ending),
             None => self.act(desk, table),
         }

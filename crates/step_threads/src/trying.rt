@@ -3,7 +3,7 @@ ghost use Rattle.std.specs.Prelude.{◌≡◌, ◌≢◌, ◌<◌, ◌==◌, ◌
 ghost use Rattle.control_word.specs.Packing.{IsCellWord, cell_bits};
 ghost use Rattle.step_table.specs.Cells.{word_at};
 ghost use Rattle.step_table.specs.Contents.{as_word, compared_in, owing_for, same_value, seen};
-ghost use Rattle.step_threads.specs.Courses.{CanAct, CourseReady, CourseStill, HasCell, HasGoneOn, cell_at, comparing, hand, is_compared, rest, settled, task_at, walk};
+ghost use Rattle.step_threads.specs.Courses.{CanAct, CourseReady, CourseStill, HasCell, HasGoneOn, IsNamed, cell_at, comparing, hand, is_compared, is_there, rest, settled, task_at, walk};
 ghost use Rattle.step_table.specs.Holdings.{Holds, value};
 ghost use Rattle.step_threads.specs.Scenes.{came, compared};
 ghost use Rattle.step_table.specs.Stories.{after, pending, state};
@@ -31,15 +31,14 @@ impl Course {
         }
     }
 
-    /// Whether what was taken may go into a cell, and what a name holds may be compared with it.
+    /// Whether what was taken may go into a cell that is there, and what a name holds may be compared with it.
     pub fn is_compared(&self, name: u8, cell: CellName) -> bool
         requires some { 1 < length self.now.holdings.slots.items }
         requires name { name < length self.now.holdings.slots.items }
+        requires named { IsNamed (length self.now.holdings.slots.items) cell }
         ensures { result ≡ is_compared self.now.holdings.slots.items self.now.taken name cell }
     {
-        self.taken
-            && self.may_go_in(self.holdings.hand(), cell)
-            && self.may_go_in(usize::from(name), cell)
+        self.is_offered(cell) && self.may_go_in(usize::from(name), cell)
     }
 
     /// What a name holds, as a cell's word tells it.
@@ -62,16 +61,17 @@ impl Course {
     pub fn look_to_load(&mut self, desk: usize, table: &mut Table, cell: CellName) -> CellWord
         requires can { CanAct desk self.old table.old }
         requires act { (task_at self.old).act ≡ Act.Load cell }
+        requires there { is_there self.old.holdings.slots.items cell ≡ true }
         ensures valid { IsCellWord result }
-        ensures found { result ≡ seen table.old (cell_at (state table.old) cell) }
-        ensures table { table.new ≡ cond (is_some result.owned) table.old (after table.old desk (Deed.OnCell (CellDeed.Look (cell_at (state table.old) cell) result None))) }
+        ensures found { result ≡ seen table.old (cell_at (state table.old) self.old.holdings.slots.items cell) }
+        ensures table { table.new ≡ cond (is_some result.owned) table.old (after table.old desk (Deed.OnCell (CellDeed.Look (cell_at (state table.old) self.old.holdings.slots.items cell) result None))) }
         ensures stays { is_some result.owned ≡ true → self.new ≡ self.old }
         ensures walk { is_some result.owned ≡ false → walk self.new
-            ≡ settled (slice_set self.old.holdings.slots.items (hand self.old.holdings.slots.items) (came (state table.old) cell)) true self.old.endings.list (rest self.old) }
+            ≡ settled (slice_set self.old.holdings.slots.items (hand self.old.holdings.slots.items) (came (state table.old) self.old.holdings.slots.items cell)) true self.old.endings.list (rest self.old) }
         ensures on { is_some result.owned ≡ false → HasGoneOn desk self.old self.new table.new }
     {
         let hand = self.holdings.hand();
-        let cell = cell.cell(table);
+        let cell = self.cell(table, cell);
         let found = self.holdings.look_to_load(desk, table, cell, hand);
         if found.owned.is_none() {
             self.take(true);
@@ -90,16 +90,17 @@ impl Course {
     ) -> bool
         requires can { CanAct desk self.old table.old }
         requires act { (task_at self.old).act ≡ Act.Load cell }
+        requires there { is_there self.old.holdings.slots.items cell ≡ true }
         requires seen { IsCellWord seen × (seen.owned ≢ None) × (seen.taken < 256) }
-        ensures same { result ≡ (word_at table.old (cell_at (state table.old) cell) == cell_bits seen) }
-        ensures table { table.new ≡ cond result (after table.old desk (Deed.OnCell (CellDeed.Take (cell_at (state table.old) cell) seen None))) table.old }
+        ensures same { result ≡ (word_at table.old (cell_at (state table.old) self.old.holdings.slots.items cell) == cell_bits seen) }
+        ensures table { table.new ≡ cond result (after table.old desk (Deed.OnCell (CellDeed.Take (cell_at (state table.old) self.old.holdings.slots.items cell) seen None))) table.old }
         ensures stays { result ≡ false → self.new ≡ self.old }
         ensures walk { result ≡ true → walk self.new
-            ≡ settled (slice_set self.old.holdings.slots.items (hand self.old.holdings.slots.items) (came (state table.old) cell)) true self.old.endings.list (rest self.old) }
+            ≡ settled (slice_set self.old.holdings.slots.items (hand self.old.holdings.slots.items) (came (state table.old) self.old.holdings.slots.items cell)) true self.old.endings.list (rest self.old) }
         ensures on { result ≡ true → HasGoneOn desk self.old self.new table.new }
     {
         let hand = self.holdings.hand();
-        let cell = cell.cell(table);
+        let cell = self.cell(table, cell);
         let took = self.holdings.take_fund(desk, table, cell, seen, hand);
         if took {
             self.take(true);
@@ -120,17 +121,17 @@ impl Course {
         requires can { CanAct desk self.old table.old }
         requires act { (task_at self.old).act ≡ Act.Compare name cell weak }
         ensures valid { IsCellWord result }
-        ensures found { result ≡ seen table.old (cell_at (state table.old) cell) }
+        ensures found { result ≡ seen table.old (cell_at (state table.old) self.old.holdings.slots.items cell) }
         ensures table { table.new
             ≡ cond (is_some result.owned || same_value result (as_word (value self.old.holdings.slots.items name))) table.old
-            (after table.old desk (Deed.OnCell (CellDeed.Look (cell_at (state table.old) cell) result (Some (compared_in self.old.holdings.slots.items (comparing self.old.holdings.slots.items name weak)))))) }
+            (after table.old desk (Deed.OnCell (CellDeed.Look (cell_at (state table.old) self.old.holdings.slots.items cell) result (Some (compared_in self.old.holdings.slots.items (comparing self.old.holdings.slots.items name weak)))))) }
         ensures stays { (is_some result.owned || same_value result (as_word (value self.old.holdings.slots.items name))) ≡ true → self.new ≡ self.old }
         ensures walk { (is_some result.owned || same_value result (as_word (value self.old.holdings.slots.items name))) ≡ false → walk self.new
-            ≡ settled (compared self.old.holdings.slots.items (came (state table.old) cell) false).0 true self.old.endings.list (rest self.old) }
+            ≡ settled (compared self.old.holdings.slots.items (came (state table.old) self.old.holdings.slots.items cell) false).0 true self.old.endings.list (rest self.old) }
         ensures on { (is_some result.owned || same_value result (as_word (value self.old.holdings.slots.items name))) ≡ false → HasGoneOn desk self.old self.new table.new }
     {
         let comparing = self.comparing(name, weak);
-        let cell = cell.cell(table);
+        let cell = self.cell(table, cell);
         let expected = self.word(name);
         let found = self.holdings.look_to_compare(desk, table, cell, comparing);
         if found.owned.is_none() && !is_same_value(found, expected) {
@@ -154,15 +155,15 @@ impl Course {
         requires act { (task_at self.old).act ≡ Act.Compare name cell weak }
         requires seen { IsCellWord seen × (seen.owned ≢ None) × (seen.taken < 256) }
         requires differs { same_value seen (as_word (value self.old.holdings.slots.items name)) ≡ false }
-        ensures same { result ≡ (word_at table.old (cell_at (state table.old) cell) == cell_bits seen) }
+        ensures same { result ≡ (word_at table.old (cell_at (state table.old) self.old.holdings.slots.items cell) == cell_bits seen) }
         ensures table { table.new
-            ≡ cond result (after table.old desk (Deed.OnCell (CellDeed.Take (cell_at (state table.old) cell) seen (Some (compared_in self.old.holdings.slots.items (comparing self.old.holdings.slots.items name weak)))))) table.old }
+            ≡ cond result (after table.old desk (Deed.OnCell (CellDeed.Take (cell_at (state table.old) self.old.holdings.slots.items cell) seen (Some (compared_in self.old.holdings.slots.items (comparing self.old.holdings.slots.items name weak)))))) table.old }
         ensures stays { result ≡ false → self.new ≡ self.old }
-        ensures walk { result ≡ true → walk self.new ≡ settled (compared self.old.holdings.slots.items (came (state table.old) cell) false).0 true self.old.endings.list (rest self.old) }
+        ensures walk { result ≡ true → walk self.new ≡ settled (compared self.old.holdings.slots.items (came (state table.old) self.old.holdings.slots.items cell) false).0 true self.old.endings.list (rest self.old) }
         ensures on { result ≡ true → HasGoneOn desk self.old self.new table.new }
     {
         let comparing = self.comparing(name, weak);
-        let cell = cell.cell(table);
+        let cell = self.cell(table, cell);
         let took = self
             .holdings
             .take_differing(desk, table, cell, seen, comparing);
@@ -193,15 +194,15 @@ impl Course {
         requires seen { IsCellWord seen }
         requires alike { same_value seen (as_word (value self.old.holdings.slots.items name)) ≡ true }
         requires owes { pending table.old desk ≡ owing_for (state table.old) (value self.old.holdings.slots.items (hand self.old.holdings.slots.items)) 256 }
-        ensures same { result ≡ (word_at table.old (cell_at (state table.old) cell) == cell_bits seen) }
+        ensures same { result ≡ (word_at table.old (cell_at (state table.old) self.old.holdings.slots.items cell) == cell_bits seen) }
         ensures table { table.new
-            ≡ cond result (after table.old desk (Deed.OnCell (CellDeed.CompareSwap (cell_at (state table.old) cell) seen (compared_in self.old.holdings.slots.items (comparing self.old.holdings.slots.items name weak))))) table.old }
+            ≡ cond result (after table.old desk (Deed.OnCell (CellDeed.CompareSwap (cell_at (state table.old) self.old.holdings.slots.items cell) seen (compared_in self.old.holdings.slots.items (comparing self.old.holdings.slots.items name weak))))) table.old }
         ensures stays { result ≡ false → self.new ≡ self.old }
-        ensures walk { result ≡ true → walk self.new ≡ settled (compared self.old.holdings.slots.items (came (state table.old) cell) true).0 false self.old.endings.list (rest self.old) }
+        ensures walk { result ≡ true → walk self.new ≡ settled (compared self.old.holdings.slots.items (came (state table.old) self.old.holdings.slots.items cell) true).0 false self.old.endings.list (rest self.old) }
         ensures on { result ≡ true → HasGoneOn desk self.old self.new table.new }
     {
         let comparing = self.comparing(name, weak);
-        let cell = cell.cell(table);
+        let cell = self.cell(table, cell);
         let swapped = self
             .holdings
             .compare_and_swap(desk, table, cell, seen, comparing);
