@@ -68,7 +68,7 @@ pub enum Half {
 }
 
 /// What other desks do changes nothing of what a desk has.
-pub fn others_keep()
+pub(crate) fn others_keep()
     ensures { (d e : ℕ) (slots : Slots) (blocks : List ℕ) (act : Act) (room : ℕ) (half : Half) (es : List Ending) (v : Story) (x : Deed) → e ≢ d → Kept v → Kept (after v e x)
         → Holds d slots v × Stocks d blocks room half v × HalfFits d half slots act v × EndsAll d es v
         → Holds d slots (after v e x) × Stocks d blocks room half (after v e x) × HalfFits d half slots act (after v e x) × EndsAll d es (after v e x) }
