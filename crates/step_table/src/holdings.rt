@@ -71,7 +71,7 @@ impl Holdings {
     }
 
     /// Puts a pointer into a slot.
-    pub(crate) fn fill(&mut self, at: usize, pointer: Pointer)
+    pub fn fill(&mut self, at: usize, pointer: Pointer)
         requires { at < length self.old.slots.items }
         ensures { self.new.slots.items ≡ slice_set self.old.slots.items at (Full pointer) }
     {

@@ -151,7 +151,7 @@ impl Thread {
         Stepped::Event(silent(statement))
     }
 
-    /// The funds of what came out of a cell are given back.
+    /// Funds that came out of a cell, or that a compare had brought in vain, are given back.
     pub(crate) fn give_back(
         &mut self,
         desk: usize,
