@@ -275,7 +275,7 @@ impl World {
         matches!(self.threads[number].half, Half::Refill { .. })
     }
 
-    /// Whether a thread has funds to give back of what came out of a cell.
+    /// Whether a thread has funds to give back.
     fn is_returning(&self, number: usize) -> bool
         requires { number < length self.now.walks }
         ensures { result ≡ is_returning (half_of self.now number) }

@@ -30,7 +30,7 @@ fn place_of(cell: Cell, blocks: u32) -> usize
 }
 
 /// Whether two places are one.
-pub fn is_same_place(one: Option<Place>, other: Option<Place>) -> bool
+pub(crate) fn is_same_place(one: Option<Place>, other: Option<Place>) -> bool
     ensures { result ≡ same_place one other }
 {
     match (one, other) {
@@ -70,7 +70,7 @@ impl Table {
 
     /// Swaps a cell: the new value goes in, for which 256 funds were brought if it has an object, and what the cell held comes out.
     /// The funds of that which were not taken are out then, to be given back.
-    pub fn swap_cell(&mut self, desk: usize, cell: Cell, new: CellWord) -> CellWord
+    pub(crate) fn swap_cell(&mut self, desk: usize, cell: Cell, new: CellWord) -> CellWord
         requires seat { desk < self.old.extent.actors }
         requires open { IsOpenTo self.old desk cell }
         requires new { IsCellWord new × (new.taken ≡ 0) }
@@ -114,7 +114,7 @@ impl Table {
     }
 
     /// The look of a load, which answers what the cell holds. Where that has no object it is the load; else nothing is done.
-    pub fn look_cell(&mut self, desk: usize, cell: Cell) -> CellWord
+    pub(crate) fn look_cell(&mut self, desk: usize, cell: Cell) -> CellWord
         requires seat { desk < self.old.extent.actors }
         requires idle { pending self.old desk ≡ Idle }
         requires open { IsOpenTo self.old desk cell }

@@ -66,7 +66,7 @@ impl Slot {
 }
 
 /// A value of this kind that a cell's word tells.
-pub fn slot_in(kind: Kind, found: CellWord) -> Slot
+pub(crate) fn slot_in(kind: Kind, found: CellWord) -> Slot
     ensures { result ≡ slot_in kind found }
 {
     let place = found.place;
@@ -77,25 +77,25 @@ pub fn slot_in(kind: Kind, found: CellWord) -> Slot
 }
 
 /// What a cell shows is what it holds, with the funds that were taken, and that is how it comes into a slot.
-pub fn shows_what_is_held()
+pub(crate) fn shows_what_is_held()
     ensures { (d : ℕ) (c : At) (x : Word) (v : Story) → Kept v → d < v.extent.actors → IsOpenTo v d c → IsCellWord x
         → word_at v c ≡ cell_bits x → (x ≡ seen v c) × (slot_in (kind_in (state v) c) x ≡ slot_of (state v) (held_in (state v) c)) }
 {}
 
 /// A cell's word tells the value of a slot just where the handle in the cell is equivalent to that of the slot.
-pub fn words_tell_handles()
+pub(crate) fn words_tell_handles()
     ensures { (d i : ℕ) (slots : Slots) (c : At) (v : Story) → Kept v → d < v.extent.actors → IsOpenTo v d c → Holds d slots v
         → is_of (kind_in (state v) c) (value slots i) ≡ true
         → same_value (seen v c) (as_word (value slots i)) ≡ equivalent (held_in (state v) c) (told (state v) (kind_in (state v) c) (value slots i)) }
 {}
 
 /// The free cells of the shape are open to every desk.
-pub fn free_cells_are_open()
+pub(crate) fn free_cells_are_open()
     ensures { (d n : ℕ) (v : Story) → n < v.extent.shape.shared_cells + v.extent.shape.weak_cells → IsOpenTo v d (At.Free n) }
 {}
 
 /// The members of an object are open to a desk of which a slot owns the object and points into it.
-pub fn own_members_are_open()
+pub(crate) fn own_members_are_open()
     ensures { (d i m : ℕ) (slots : Slots) (x : Pointed) (v : Story) → Holds d slots v → inside (slot slots i) ≡ Some x → m < 3
         → IsOpenTo v d (At.Member x.block m) }
 {}

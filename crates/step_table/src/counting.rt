@@ -7,7 +7,7 @@ ghost use Rattle.step_table.specs.Stories.{Kept, Story, pending, state};
 ghost use Rattle.step_table.specs.declared.holdings.Pointer.{Pointer};
 
 /// The word of an object of which a desk has a handle tells its owners, but for loads that others have under way.
-pub fn words_tell_counts()
+pub(crate) fn words_tell_counts()
     ensures { (d i : ℕ) (slots : Slots) (x : Pointer) (v : Story) → Kept v → d < v.extent.actors → pending v d ≡ Idle → Holds d slots v
         → slot slots i ≡ Some x → Tells v d (state v) (by_word v) x }
 {}

@@ -19,7 +19,7 @@ use control_word::layout::{OWNERS, WEAKS, block_word};
 use control_word::place::Block;
 
 /// Where handles of this kind on the block's object are counted.
-pub fn count_word(block: Block, kind: Kind) -> usize
+pub(crate) fn count_word(block: Block, kind: Kind) -> usize
     requires { 0 < block.0 }
     ensures { result ≡ spot block.0 (slot kind) }
 {

@@ -118,14 +118,14 @@ impl Model for Past {
 
 impl Past {
     /// Nothing happened yet.
-    pub fn start(_extent: &Extent) -> Past
+    pub(crate) fn start(_extent: &Extent) -> Past
         ensures { (result.history ≡ []) × (result.views ≡ fresh 0 _extent.now.actors) }
     {
         Past {}
     }
 
     /// What is known after one more deed.
-    pub fn next(_table: &Table, _done: &Done) -> Past
+    pub(crate) fn next(_table: &Table, _done: &Done) -> Past
         ensures { (result.history ≡ history_after _table.now _done.now.desk _done.now.deed) × (result.views ≡ views_after _table.now _done.now.desk _done.now.deed) }
     {
         Past {}

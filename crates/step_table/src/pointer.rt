@@ -12,7 +12,7 @@ use control_word::handle::Kind;
 
 impl Table {
     /// A copy of a pointer.
-    pub fn copy_pointer(&mut self, desk: usize, pointer: Pointer)
+    pub(crate) fn copy_pointer(&mut self, desk: usize, pointer: Pointer)
         requires seat { desk < self.old.extent.actors }
         requires idle { pending self.old desk ≡ Idle }
         requires held { Has (held desk (handle_in self.old pointer.kind pointer.block pointer.place)) (state self.old).hands }
@@ -28,7 +28,7 @@ impl Table {
 
     /// Ends a pointer. Answers whether it was the last: of an owner, that no other owner is left; of a weak pointer, that its
     /// block is vacant.
-    pub fn leave_pointer(&mut self, desk: usize, pointer: Pointer) -> bool
+    pub(crate) fn leave_pointer(&mut self, desk: usize, pointer: Pointer) -> bool
         requires seat { desk < self.old.extent.actors }
         requires idle { pending self.old desk ≡ Idle }
         requires held { Has (held desk (handle_in self.old pointer.kind pointer.block pointer.place)) (state self.old).hands }

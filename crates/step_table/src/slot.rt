@@ -19,7 +19,7 @@ pub enum Slot {
 
 impl Slot {
     /// The pointer, if it has an object.
-    pub fn pointer(self) -> Option<Pointer>
+    pub(crate) fn pointer(self) -> Option<Pointer>
         ensures { result ≡ pointer_of self }
     {
         match self {

@@ -87,7 +87,7 @@ impl Table {
     }
 
     /// What the table knows after a deed.
-    pub fn then(&self, desk: usize, deed: Deed) -> Past
+    pub(crate) fn then(&self, desk: usize, deed: Deed) -> Past
         ensures { (result.history ≡ history_after self.now desk deed) × (result.views ≡ views_after self.now desk deed) }
     {
         Past::next(self, &Done { desk, deed })

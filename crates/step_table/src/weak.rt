@@ -16,7 +16,7 @@ use control_word::place::{Block, Place};
 impl Table {
     /// A weak handle more, with the place of a handle or of its object itself. That handle keeps the block while the word goes
     /// up.
-    pub fn weak_share(&mut self, desk: usize, pointer: Pointer, place: Option<Place>)
+    pub(crate) fn weak_share(&mut self, desk: usize, pointer: Pointer, place: Option<Place>)
         requires seat { desk < self.old.extent.actors }
         requires idle { pending self.old desk ≡ Idle }
         requires held { Has (held desk (handle_in self.old pointer.kind pointer.block pointer.place)) (state self.old).hands }
@@ -32,7 +32,7 @@ impl Table {
 
     /// Ends a weak handle. Answers whether the block is vacant: just where the whole word was 1, as the owners of an object
     /// that isn't gone count as one more.
-    pub fn weak_leave(&mut self, desk: usize, block: Block, place: Option<Place>) -> bool
+    pub(crate) fn weak_leave(&mut self, desk: usize, block: Block, place: Option<Place>) -> bool
         requires seat { desk < self.old.extent.actors }
         requires idle { pending self.old desk ≡ Idle }
         requires held { Has (held desk (weak_in self.old block place)) (state self.old).hands }

@@ -84,23 +84,25 @@ abbrev pub giving : State → Option Pointer → Option Pointer
 giving s None = None
 giving s (Some x) = cond (is_enabled s x) (Some x) None
 
--- a slot's value goes into a cell, and what that held comes out ([util.smartptr.atomic.shared], `exchange`)
+-- a slot's value goes into a cell, and what that held comes out ([util.smartptr.atomic.shared], [util.smartptr.atomic.weak],
+-- `exchange`)
 abbrev pub swaps : Opening → ℕ → Slots → History → CellName → ℕ → History
 swaps z d slots h c k =
     let s = leads z h in
     let x = cell_at s slots c in
     entry d (event.Swap (cell_in s x) (told s (kind_at c) (value slots k)) (held_in s x)) ∷ h
 
--- what a cell holds is loaded ([util.smartptr.atomic.shared], `load`)
+-- what a cell holds is loaded ([util.smartptr.atomic.shared], [util.smartptr.atomic.weak], `load`)
 abbrev pub loads : Opening → ℕ → Slots → History → CellName → History
 loads z d slots h c = let s = leads z h in let x = cell_at s slots c in entry d (event.Load (cell_in s x) (held_in s x)) ∷ h
 
--- a cell holds what a slot does: both own or share the same object, or none, and store the same place
+-- equivalent: both store the same place, and own or share the same object or none ([util.smartptr.atomic.shared],
+-- [util.smartptr.atomic.weak], `compare_exchange_strong`)
 abbrev pub is_expected : State → Slots → ℕ → CellName → Bool
 is_expected s slots k c = equivalent (held_in s (cell_at s slots c)) (told s (kind_at c) (value slots k))
 
 -- a cell is compared with slot k, and what is in hand goes in where it is equivalent ([util.smartptr.atomic.shared],
--- `compare_exchange_strong`)
+-- [util.smartptr.atomic.weak], `compare_exchange_strong`, `compare_exchange_weak`)
 abbrev pub compares : Opening → ℕ → Slots → History → ℕ → CellName → Bool → History
 compares z d slots h k c weak =
     let s = leads z h in

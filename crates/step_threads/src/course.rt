@@ -102,7 +102,7 @@ impl Course {
     }
 
     /// The number of the next task's statement.
-    pub fn statement(&self) -> u32
+    pub(crate) fn statement(&self) -> u32
         requires { self.now.at < length self.now.tasks.items }
         ensures { result ≡ (task_at self.now).statement }
     {
@@ -110,7 +110,7 @@ impl Course {
     }
 
     /// Goes on after the next task.
-    pub fn go_on(&mut self)
+    pub(crate) fn go_on(&mut self)
         requires within { self.old.at < length self.old.tasks.items }
         requires ready { IsReady self.old.holdings.slots.items self.old.taken self.old.endings.list (rest self.old) }
         ensures walk { walk self.new ≡ settled self.old.holdings.slots.items self.old.taken self.old.endings.list (rest self.old) }
@@ -121,7 +121,7 @@ impl Course {
     }
 
     /// Goes on after the next task, which took what is in hand or took nothing.
-    pub fn take(&mut self, taken: bool)
+    pub(crate) fn take(&mut self, taken: bool)
         requires within { self.old.at < length self.old.tasks.items }
         requires ready { IsReady self.old.holdings.slots.items taken self.old.endings.list (rest self.old) }
         ensures walk { walk self.new ≡ settled self.old.holdings.slots.items taken self.old.endings.list (rest self.old) }
@@ -132,7 +132,7 @@ impl Course {
     }
 
     /// Takes a copy of what a name holds. Answers whether that touched a block.
-    pub fn share(&mut self, desk: usize, table: &mut Table, name: u8) -> bool
+    pub(crate) fn share(&mut self, desk: usize, table: &mut Table, name: u8) -> bool
         requires can { CanAct desk self.old table.old }
         requires act { (task_at self.old).act ≡ Act.Share name }
         ensures event { result ≡ is_full (slot self.old.holdings.slots.items name) }
@@ -159,7 +159,7 @@ impl Course {
     }
 
     /// Takes a weak pointer to the object of what a name holds. Answers whether that touched a block.
-    pub fn downgrade(&mut self, desk: usize, table: &mut Table, name: u8) -> bool
+    pub(crate) fn downgrade(&mut self, desk: usize, table: &mut Table, name: u8) -> bool
         requires can { CanAct desk self.old table.old }
         requires act { (task_at self.old).act ≡ Act.Downgrade name }
         ensures event { result ≡ is_full (slot self.old.holdings.slots.items name) }
@@ -185,7 +185,7 @@ impl Course {
     }
 
     /// Leaves what a name holds, if anything. Answers whether that was the last.
-    pub fn leave(&mut self, desk: usize, table: &mut Table, name: u8) -> bool
+    pub(crate) fn leave(&mut self, desk: usize, table: &mut Table, name: u8) -> bool
         requires can { CanAct desk self.old table.old }
         requires act { ((task_at self.old).act ≡ Act.Leave name) ⊎ ((task_at self.old).act ≡ Act.Clear name) }
         ensures last { result ≡ on (is_last (state table.old)) false (slot self.old.holdings.slots.items name) }
@@ -233,7 +233,7 @@ impl Course {
     }
 
     /// How many owners the object has that a name holds, as its word tells; 0 where it is empty.
-    pub fn count(&mut self, desk: usize, table: &mut Table, name: u8) -> u32
+    pub(crate) fn count(&mut self, desk: usize, table: &mut Table, name: u8) -> u32
         requires can { CanAct desk self.old table.old }
         requires act { (task_at self.old).act ≡ Act.Count name }
         ensures told { result ≡ on (by_word table.old (state table.old)) 0 (slot self.old.holdings.slots.items name) }
@@ -256,7 +256,7 @@ impl Course {
     }
 
     /// Whether no owner is left of the object of what a name holds; also where it is empty.
-    pub fn is_expired(&mut self, desk: usize, table: &mut Table, name: u8) -> bool
+    pub(crate) fn is_expired(&mut self, desk: usize, table: &mut Table, name: u8) -> bool
         requires can { CanAct desk self.old table.old }
         requires act { (task_at self.old).act ≡ Act.Expired name }
         ensures exact { result ≡ on (is_expired (state table.old)) true (slot self.old.holdings.slots.items name) }
@@ -279,7 +279,7 @@ impl Course {
     }
 
     /// The prepared object is made; its owner comes into the hand.
-    pub fn claim(&mut self, desk: usize, table: &mut Table, block: Block, form: Form)
+    pub(crate) fn claim(&mut self, desk: usize, table: &mut Table, block: Block, form: Form)
         requires seat { desk < table.old.extent.actors }
         requires making { IsMaking table.old desk block }
         requires known { known (pending table.old desk) ≡ flags_of form.enabled form.null ∷ form.fields }

@@ -51,7 +51,7 @@ impl Endings {
     }
 
     /// An ending begins.
-    pub fn begin(&mut self, ending: Ending)
+    pub(crate) fn begin(&mut self, ending: Ending)
         requires { length self.old.list < self.old.room }
         ensures list { self.new.list ≡ ending ∷ self.old.list }
         ensures room { self.old.room ≤ self.new.room }

@@ -40,8 +40,8 @@ pub enum Half {
     },
     /// The funds of what goes into a cell are brought: the swap is next.
     Brought,
-    /// A cell that is loaded or compared was seen to hold this: where it shows that still, it is loaded next, or found to differ, or
-    /// swapped.
+    /// A cell that is loaded or compared was seen to hold this: where it shows that still, it is loaded next, or found to differ; where
+    /// it is what is expected, the funds of what is to go in are brought, or it is swapped where that has no object.
     Saw {
         found: CellWord,
     },
@@ -50,7 +50,7 @@ pub enum Half {
     Matched {
         found: CellWord,
     },
-    /// A fund of a cell, which showed this since, was taken by this statement: it is turned next, and many that were taken are put
+    /// A fund of a cell, which showed this since, was taken by this statement: how far it is turned, and many that were taken are put
     /// back.
     Refill {
         stage: Stage,
@@ -58,7 +58,8 @@ pub enum Half {
         found: CellWord,
         statement: u32,
     },
-    /// The funds of what came out of a cell by this statement, but for those that were taken, are given back next.
+    /// Funds are given back next by this statement: those of what came out of a cell that were not taken, or those that a compare
+    /// had brought in vain.
     Returning {
         kind: Kind,
         block: Block,
@@ -70,7 +71,7 @@ pub enum Half {
 }
 
 /// What other desks do changes nothing of what a desk has.
-pub fn others_keep()
+pub(crate) fn others_keep()
     ensures { (d e : ℕ) (slots : Slots) (blocks : List ℕ) (act : Act) (room : ℕ) (half : Half) (es : List Ending) (v : Story) (x : Deed) → e ≢ d → Kept v → Kept (after v e x)
         → Holds d slots v × Stocks d blocks room half v × HalfFits d half slots act v × EndsAll d es v
         → Holds d slots (after v e x) × Stocks d blocks room half (after v e x) × HalfFits d half slots act (after v e x) × EndsAll d es (after v e x) }

@@ -25,7 +25,7 @@ impl Thread {
     ghost use Rattle.step_threads.specs.Threads.{Fits, HasStepped, IsStocked, IsStockedBy};
 
     /// Leaves what a name holds, if anything. Where that was the last owner, the end of its object begins.
-    pub fn leave(&mut self, desk: usize, table: &mut Table, name: u8) -> Stepped
+    pub(crate) fn leave(&mut self, desk: usize, table: &mut Table, name: u8) -> Stepped
         requires fits { Fits desk self.old table.old }
         requires rest { self.old.half ≡ Half.Rest }
         requires none { self.old.course.endings.list ≡ [] }
@@ -104,7 +104,7 @@ impl Thread {
 
     /// After a leave that was the last: of an owner, the end of its object begins; of a weak pointer, its block comes into the
     /// store. Answers what an object leaves that ends.
-    pub fn left(
+    pub(crate) fn left(
         &mut self,
         desk: usize,
         table: &Table,

@@ -40,7 +40,7 @@ impl Thread {
     }
 
     /// The next step of a lock that is under way.
-    pub fn lock_on(&mut self, desk: usize, table: &mut Table, word: u64) -> Stepped
+    pub(crate) fn lock_on(&mut self, desk: usize, table: &mut Table, word: u64) -> Stepped
         requires fits { Fits desk self.old table.old }
         requires half { self.old.half ≡ Half.Locking word }
         ensures stepped { HasStepped desk self.old table.old result self.new table.new }

@@ -29,7 +29,7 @@ impl Thread {
 
     /// The first step of a load: a look at the cell, where it is there; else it is refused. A value without an object is loaded at
     /// once, and one of which all funds were taken has to wait.
-    pub fn load(&mut self, desk: usize, table: &mut Table, cell: CellName) -> Stepped
+    pub(crate) fn load(&mut self, desk: usize, table: &mut Table, cell: CellName) -> Stepped
         requires fits { Fits desk self.old table.old }
         requires rest { self.old.half ≡ Half.Rest }
         requires none { self.old.course.endings.list ≡ [] }
@@ -89,7 +89,7 @@ impl Thread {
     }
 
     /// The next step of a load or a compare that has seen this.
-    pub fn look_on(&mut self, desk: usize, table: &mut Table, found: CellWord) -> Stepped
+    pub(crate) fn look_on(&mut self, desk: usize, table: &mut Table, found: CellWord) -> Stepped
         requires fits { Fits desk self.old table.old }
         requires half { self.old.half ≡ Half.Saw found }
         ensures stepped { HasStepped desk self.old table.old result self.new table.new }
@@ -187,7 +187,7 @@ impl Thread {
     }
 
     /// The funds are brought: the cell is swapped, where it shows the same still.
-    pub fn match_on(&mut self, desk: usize, table: &mut Table, found: CellWord) -> Stepped
+    pub(crate) fn match_on(&mut self, desk: usize, table: &mut Table, found: CellWord) -> Stepped
         requires fits { Fits desk self.old table.old }
         requires half { self.old.half ≡ Half.Matched found }
         ensures stepped { HasStepped desk self.old table.old result self.new table.new }

@@ -18,7 +18,7 @@ impl Thread {
     ghost use Rattle.step_threads.specs.Threads.{Fits, HasStepped};
 
     /// Begins a make in the least block. Where there is none the statement is refused.
-    pub fn begin(&mut self, desk: usize, table: &mut Table, form: Form) -> Stepped
+    pub(crate) fn begin(&mut self, desk: usize, table: &mut Table, form: Form) -> Stepped
         requires fits { Fits desk self.old table.old }
         requires rest { self.old.half ≡ Half.Rest }
         requires none { self.old.course.endings.list ≡ [] }
@@ -52,7 +52,7 @@ impl Thread {
     }
 
     /// The next step of a make that is under way.
-    pub fn make_on(
+    pub(crate) fn make_on(
         &mut self,
         desk: usize,
         table: &mut Table,

@@ -18,7 +18,7 @@ use step_table::table::Table;
 
 impl CellName {
     /// The kind of what the cell holds.
-    pub fn kind(self) -> Kind
+    pub(crate) fn kind(self) -> Kind
         ensures { result ≡ kind_at self }
     {
         match self {
@@ -76,7 +76,7 @@ impl Course {
     }
 
     /// Whether a slot's value may go into a cell.
-    pub fn may_go_in(&self, at: usize, cell: CellName) -> bool
+    pub(crate) fn may_go_in(&self, at: usize, cell: CellName) -> bool
         requires { at < length self.now.holdings.slots.items }
         ensures { result ≡ is_of (kind_at cell) (value self.now.holdings.slots.items at) }
     {
@@ -84,7 +84,7 @@ impl Course {
     }
 
     /// Takes a copy of what a name holds, where it may go into the cell. Answers whether that touched a block.
-    pub fn offer(&mut self, desk: usize, table: &mut Table, name: u8, cell: CellName) -> bool
+    pub(crate) fn offer(&mut self, desk: usize, table: &mut Table, name: u8, cell: CellName) -> bool
         requires can { CanAct desk self.old table.old }
         requires act { (task_at self.old).act ≡ Act.Offer name cell }
         requires there { is_there self.old.holdings.slots.items cell ≡ true }
@@ -142,7 +142,13 @@ impl Course {
     }
 
     /// Exchanges what a name holds, for which its funds were brought, for what a cell holds.
-    pub fn exchange(&mut self, desk: usize, table: &mut Table, name: u8, cell: CellName) -> CellWord
+    pub(crate) fn exchange(
+        &mut self,
+        desk: usize,
+        table: &mut Table,
+        name: u8,
+        cell: CellName,
+    ) -> CellWord
         requires seat { desk < table.old.extent.actors }
         requires holds { Holds desk self.old.holdings.slots.items table.old }
         requires within { self.old.at < length self.old.tasks.items }
@@ -166,7 +172,7 @@ impl Course {
     }
 
     /// Leaves what is to be dropped. Answers whether that was the last.
-    pub fn drop_other(&mut self, desk: usize, table: &mut Table) -> bool
+    pub(crate) fn drop_other(&mut self, desk: usize, table: &mut Table) -> bool
         requires can { CanAct desk self.old table.old }
         requires act { (task_at self.old).act ≡ Act.Drop }
         ensures full { is_full (slot self.old.holdings.slots.items (other self.old.holdings.slots.items)) ≡ true }

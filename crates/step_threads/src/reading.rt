@@ -15,7 +15,7 @@ impl Thread {
     ghost use Rattle.step_threads.specs.Threads.{Fits, HasStepped};
 
     /// Tells the field that a name points at. It touches no word where that isn't in the object that the name owns.
-    pub fn read(&mut self, desk: usize, table: &mut Table, name: u8) -> Stepped
+    pub(crate) fn read(&mut self, desk: usize, table: &mut Table, name: u8) -> Stepped
         requires fits { Fits desk self.old table.old }
         requires rest { self.old.half ≡ Half.Rest }
         requires none { self.old.course.endings.list ≡ [] }
@@ -39,7 +39,7 @@ impl Thread {
 }
 
 /// Why a pointer with this place, which isn't in its object, is refused.
-pub fn outside(place: Option<Place>) -> Answer
+pub(crate) fn outside(place: Option<Place>) -> Answer
     ensures { result ≡ outside place }
 {
     match place {
@@ -49,7 +49,7 @@ pub fn outside(place: Option<Place>) -> Answer
 }
 
 /// What a step says that answers.
-pub fn tells(statement: u32, answer: Answer) -> Said
+pub(crate) fn tells(statement: u32, answer: Answer) -> Said
     ensures { result ≡ record { statement = statement; answer = Some answer; ended = None } }
 {
     Said {

@@ -22,7 +22,7 @@ impl Thread {
     ghost use Rattle.step_threads.specs.Threads.{Fits, HasStepped};
 
     /// The next step of a thread that took a fund of a cell.
-    pub fn refill_on(
+    pub(crate) fn refill_on(
         &mut self,
         desk: usize,
         table: &mut Table,

@@ -43,7 +43,7 @@ pub struct Said {
 pub enum Stepped {
     /// One event.
     Event(Said),
-    /// An act that touches no word, or a step on the way to an event.
+    /// An act that touches no word, or a step on the way to an event or after it.
     Quiet(Said),
     /// All funds of the value in a cell were taken, which it would load; nothing changed.
     Waited,

@@ -52,7 +52,7 @@ impl Stock {
     }
 
     /// The least block goes out, if there is one.
-    pub fn take_least(&mut self) -> Option<Block>
+    pub(crate) fn take_least(&mut self) -> Option<Block>
         ensures least { MatchOption result (self.old.blocks ≡ [])
             (λ b. IsPermutation self.old.blocks (b.0 ∷ self.new.blocks) × All (λ c. b.0 ≤ c) self.old.blocks) }
         ensures none { MatchOption result (self.new.blocks ≡ self.old.blocks) (λ _. Unit {0}) }

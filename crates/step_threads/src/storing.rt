@@ -25,7 +25,7 @@ impl Thread {
     ghost use Rattle.step_threads.specs.Threads.{Fits, HasStepped};
 
     /// Takes a copy of what a name holds, for a cell that is there; else it is refused.
-    pub fn offer(&mut self, desk: usize, table: &mut Table, name: u8, cell: CellName) -> Stepped
+    pub(crate) fn offer(&mut self, desk: usize, table: &mut Table, name: u8, cell: CellName) -> Stepped
         requires fits { Fits desk self.old table.old }
         requires rest { self.old.half ≡ Half.Rest }
         requires none { self.old.course.endings.list ≡ [] }
@@ -66,7 +66,7 @@ impl Thread {
 
     /// The first step of an exchange: the funds of what a name holds are brought. A name without an object is exchanged at once,
     /// and one that may not go into the cell not at all. Where the cell isn't there it is refused.
-    pub fn send(&mut self, desk: usize, table: &mut Table, name: u8, cell: CellName) -> Stepped
+    pub(crate) fn send(&mut self, desk: usize, table: &mut Table, name: u8, cell: CellName) -> Stepped
         requires fits { Fits desk self.old table.old }
         requires rest { self.old.half ≡ Half.Rest }
         requires none { self.old.course.endings.list ≡ [] }
@@ -94,7 +94,7 @@ impl Thread {
     }
 
     /// The funds are brought: the value goes into the cell.
-    pub fn put_in(&mut self, desk: usize, table: &mut Table) -> Stepped
+    pub(crate) fn put_in(&mut self, desk: usize, table: &mut Table) -> Stepped
         requires fits { Fits desk self.old table.old }
         requires half { self.old.half ≡ Half.Brought }
         ensures stepped { HasStepped desk self.old table.old result self.new table.new }
@@ -145,8 +145,8 @@ impl Thread {
         Stepped::Event(silent(statement))
     }
 
-    /// The funds of what came out of a cell are given back.
-    pub fn give_back(
+    /// Funds that came out of a cell, or that a compare had brought in vain, are given back.
+    pub(crate) fn give_back(
         &mut self,
         desk: usize,
         table: &mut Table,
@@ -167,7 +167,7 @@ impl Thread {
     }
 
     /// Leaves what is to be dropped. Where that was the last owner, the end of its object begins.
-    pub fn drop_other(&mut self, desk: usize, table: &mut Table) -> Stepped
+    pub(crate) fn drop_other(&mut self, desk: usize, table: &mut Table) -> Stepped
         requires fits { Fits desk self.old table.old }
         requires rest { self.old.half ≡ Half.Rest }
         requires none { self.old.course.endings.list ≡ [] }
@@ -194,7 +194,7 @@ impl Thread {
 }
 
 /// The funds of what came out of a cell that were not taken are given back, where it has an object.
-pub fn returning(kind: Kind, statement: u32, found: CellWord) -> Half
+pub(crate) fn returning(kind: Kind, statement: u32, found: CellWord) -> Half
     requires { found.taken ≤ 256 }
     ensures { result ≡ gives_back kind statement found found.owned }
 {

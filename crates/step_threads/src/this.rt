@@ -18,7 +18,7 @@ impl Thread {
 
     /// The first step of a pointer from this: it looks whether the object gives any. It touches no word where the name
     /// doesn't point into the object that it owns.
-    pub fn from_this(&mut self, desk: usize, table: &Table, name: u8, kind: Kind) -> Stepped
+    pub(crate) fn from_this(&mut self, desk: usize, table: &Table, name: u8, kind: Kind) -> Stepped
         requires fits { Fits desk self.old table.now }
         requires rest { self.old.half ≡ Half.Rest }
         requires none { self.old.course.endings.list ≡ [] }

@@ -193,7 +193,7 @@ impl Thread {
 }
 
 /// What a step says that says nothing but its statement.
-pub fn silent(statement: u32) -> Said
+pub(crate) fn silent(statement: u32) -> Said
     ensures { result ≡ silent statement }
 {
     Said {

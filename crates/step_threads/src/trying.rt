@@ -32,7 +32,7 @@ impl Course {
     }
 
     /// Whether what was taken may go into a cell that is there, and what a name holds may be compared with it.
-    pub fn is_compared(&self, name: u8, cell: CellName) -> bool
+    pub(crate) fn is_compared(&self, name: u8, cell: CellName) -> bool
         requires some { 1 < length self.now.holdings.slots.items }
         requires name { name < length self.now.holdings.slots.items }
         requires named { IsNamed (length self.now.holdings.slots.items) cell }
@@ -50,7 +50,7 @@ impl Course {
     }
 
     /// Whether a word tells the value of a name, however many funds were taken.
-    pub fn is_alike(&self, name: u8, found: CellWord) -> bool
+    pub(crate) fn is_alike(&self, name: u8, found: CellWord) -> bool
         requires { name < length self.now.holdings.slots.items }
         ensures { result ≡ same_value found (as_word (value self.now.holdings.slots.items name)) }
     {
@@ -58,7 +58,12 @@ impl Course {
     }
 
     /// The look of a load: a value without an object comes into the hand, and the thread goes on. Else nothing is done.
-    pub fn look_to_load(&mut self, desk: usize, table: &mut Table, cell: CellName) -> CellWord
+    pub(crate) fn look_to_load(
+        &mut self,
+        desk: usize,
+        table: &mut Table,
+        cell: CellName,
+    ) -> CellWord
         requires can { CanAct desk self.old table.old }
         requires act { (task_at self.old).act ≡ Act.Load cell }
         requires there { is_there self.old.holdings.slots.items cell ≡ true }
@@ -81,7 +86,7 @@ impl Course {
 
     /// Takes a fund of a cell, where it shows what was seen: its value comes into the hand, and the thread goes on. Else nothing is
     /// done.
-    pub fn take_fund(
+    pub(crate) fn take_fund(
         &mut self,
         desk: usize,
         table: &mut Table,
@@ -110,7 +115,7 @@ impl Course {
 
     /// The look of a compare: where the cell has no object and isn't what is expected, its value comes into the hand, what was there
     /// is to be dropped, and the thread goes on. Else nothing is done.
-    pub fn look_to_compare(
+    pub(crate) fn look_to_compare(
         &mut self,
         desk: usize,
         table: &mut Table,
@@ -142,7 +147,7 @@ impl Course {
 
     /// Takes a fund of a cell that isn't what is expected, where it shows what was seen: its value comes into the hand, what was there
     /// is to be dropped, and the thread goes on. Else nothing is done.
-    pub fn take_differing(
+    pub(crate) fn take_differing(
         &mut self,
         desk: usize,
         table: &mut Table,
@@ -175,7 +180,7 @@ impl Course {
 
     /// Compares and swaps a cell, where it shows what was seen, which is what is expected: what is in hand goes in, what comes out is
     /// to be dropped, and the thread goes on. Else nothing is done.
-    pub fn compare_and_swap(
+    pub(crate) fn compare_and_swap(
         &mut self,
         desk: usize,
         table: &mut Table,

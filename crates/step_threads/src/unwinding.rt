@@ -17,7 +17,7 @@ impl Thread {
     ghost use Rattle.step_threads.specs.Threads.{Fits, HasStepped};
 
     /// The next step of the ending begun last.
-    pub fn end_on(&mut self, desk: usize, table: &mut Table, ending: Ending) -> Stepped
+    pub(crate) fn end_on(&mut self, desk: usize, table: &mut Table, ending: Ending) -> Stepped
         requires fits { Fits desk self.old table.old }
         requires rest { self.old.half ≡ Half.Rest }
         requires first { first_of self.old.course.endings.list ≡ Some ending }

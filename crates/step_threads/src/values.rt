@@ -20,7 +20,7 @@ impl Question {
     ghost use Rattle.step_threads.specs.Courses.{IsAbout};
 
     /// What is told of slots.
-    pub fn reply(self, desk: usize, table: &Table, holdings: &Holdings) -> Answer
+    pub(crate) fn reply(self, desk: usize, table: &Table, holdings: &Holdings) -> Answer
         requires holds { Holds desk holdings.now.slots.items table.now }
         requires about { IsAbout (length holdings.now.slots.items) self }
         ensures { result ≡ reply (state table.now) holdings.now.slots.items self }
@@ -77,7 +77,7 @@ impl Course {
     }
 
     /// Takes what a name holds, which becomes empty.
-    pub fn pull(&mut self, name: u8)
+    pub(crate) fn pull(&mut self, name: u8)
         requires within { self.old.at < length self.old.tasks.items }
         requires ready { CourseReady self.old }
         requires act { (task_at self.old).act ≡ Act.Move name }
@@ -90,7 +90,7 @@ impl Course {
     }
 
     /// Tells what is asked of names.
-    pub fn reply(&mut self, desk: usize, table: &Table, question: Question) -> Answer
+    pub(crate) fn reply(&mut self, desk: usize, table: &Table, question: Question) -> Answer
         requires can { CanAct desk self.old table.now }
         requires act { (task_at self.old).act ≡ Act.Ask question }
         ensures answer { result ≡ reply (state table.now) self.old.holdings.slots.items question }
@@ -131,7 +131,7 @@ impl Thread {
     }
 
     /// Takes what a name holds, which becomes empty: no word is touched.
-    pub fn pull(&mut self, desk: usize, table: &Table, name: u8) -> Stepped
+    pub(crate) fn pull(&mut self, desk: usize, table: &Table, name: u8) -> Stepped
         requires fits { Fits desk self.old table.now }
         requires rest { self.old.half ≡ Half.Rest }
         requires none { self.old.course.endings.list ≡ [] }
@@ -147,7 +147,7 @@ impl Thread {
     }
 
     /// Tells what is asked of names: no word is touched.
-    pub fn reply(&mut self, desk: usize, table: &Table, question: Question) -> Stepped
+    pub(crate) fn reply(&mut self, desk: usize, table: &Table, question: Question) -> Stepped
         requires fits { Fits desk self.old table.now }
         requires rest { self.old.half ≡ Half.Rest }
         requires none { self.old.course.endings.list ≡ [] }
