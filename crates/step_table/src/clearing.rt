@@ -18,7 +18,7 @@ use control_word::place::Block;
 impl Table {
     /// Looks at a member of an ending object, and answers its word. Where that is 0 the member is empty, and cleared by this
     /// look.
-    pub(crate) fn look_member(&mut self, desk: usize, block: Block, member: u8) -> u64
+    pub fn look_member(&mut self, desk: usize, block: Block, member: u8) -> u64
         requires seat { desk < self.old.extent.actors }
         requires idle { pending self.old desk ≡ Idle }
         requires ending { ((state self.old).object (object_in self.old block)).phase ≡ ending desk }
@@ -60,7 +60,7 @@ impl Table {
 
     /// Takes out what a member of an ending object holds: the member is swapped for nothing. The funds of what came out that were
     /// not taken are out then, to be given back.
-    pub(crate) fn take_out(&mut self, desk: usize, block: Block, member: u8) -> CellWord
+    pub fn take_out(&mut self, desk: usize, block: Block, member: u8) -> CellWord
         requires seat { desk < self.old.extent.actors }
         requires idle { pending self.old desk ≡ Idle }
         requires ending { ((state self.old).object (object_in self.old block)).phase ≡ ending desk }

@@ -84,7 +84,7 @@ impl Holdings {
 
     /// Takes out what a member of an ending object holds, as `Table::take_out` says: where that has an object, it comes into a
     /// slot that has none.
-    pub(crate) fn take_out(
+    pub fn take_out(
         &mut self,
         desk: usize,
         table: &mut Table,

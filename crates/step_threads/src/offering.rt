@@ -30,7 +30,7 @@ impl CellName {
 
 impl Course {
     /// Whether the object is there whose member the cell is: the name owns it and points into it.
-    pub fn is_there(&self, cell: CellName) -> bool
+    pub(crate) fn is_there(&self, cell: CellName) -> bool
         requires named { IsNamed (length self.now.holdings.slots.items) cell }
         ensures { result ≡ is_there self.now.holdings.slots.items cell }
     {
@@ -41,7 +41,7 @@ impl Course {
     }
 
     /// The cell in the table: the weak ones stand behind the shared ones.
-    pub fn cell(&self, table: &Table, cell: CellName) -> Cell
+    pub(crate) fn cell(&self, table: &Table, cell: CellName) -> Cell
         requires named { IsNamed (length self.now.holdings.slots.items) cell }
         requires there { is_there self.now.holdings.slots.items cell ≡ true }
         ensures { result ≡ cell_at (state table.now) self.now.holdings.slots.items cell }
@@ -67,7 +67,7 @@ impl Course {
     }
 
     /// Whether the cell is there, and what was taken may go in.
-    pub fn is_offered(&self, cell: CellName) -> bool
+    pub(crate) fn is_offered(&self, cell: CellName) -> bool
         requires some { 1 < length self.now.holdings.slots.items }
         requires named { IsNamed (length self.now.holdings.slots.items) cell }
         ensures { result ≡ is_offered self.now.holdings.slots.items self.now.taken cell }

@@ -15,7 +15,7 @@ impl Thread {
     ghost use Rattle.step_threads.specs.Threads.{Fits, HasStepped};
 
     /// The first act of a statement on a member is refused, by where the name points whose object isn't there.
-    pub fn refuse(&mut self, desk: usize, table: &Table, cell: CellName) -> Stepped
+    pub(crate) fn refuse(&mut self, desk: usize, table: &Table, cell: CellName) -> Stepped
         requires fits { Fits desk self.old table.now }
         requires rest { self.old.half ≡ Half.Rest }
         requires none { self.old.course.endings.list ≡ [] }

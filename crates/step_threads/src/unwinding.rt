@@ -53,7 +53,7 @@ impl Thread {
 
     /// What a member of the object that ends holds comes out, into the hand if it has an object. Its funds that were not taken are
     /// given back next.
-    pub fn empty_on(&mut self, desk: usize, table: &mut Table) -> Stepped
+    pub(crate) fn empty_on(&mut self, desk: usize, table: &mut Table) -> Stepped
         requires fits { Fits desk self.old table.old }
         requires half { self.old.half ≡ Half.Clearing }
         ensures stepped { HasStepped desk self.old table.old result self.new table.new }
