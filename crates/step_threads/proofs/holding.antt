@@ -1,5 +1,6 @@
 pub mod Ends
 pub mod Halves
 pub mod Least
+pub mod Members
 pub mod Others
 pub mod Storing
