@@ -1,5 +1,6 @@
 pub mod Stocks
 pub mod Courses
+pub mod Hands
 pub mod CellNames
 pub mod Threads
 pub mod Endings
