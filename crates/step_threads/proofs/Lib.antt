@@ -5,6 +5,8 @@ pub mod CellNames
 pub mod Threads
 pub mod Endings
 pub mod EndSteps
+pub mod EndTells
+pub mod Carrying
 pub mod LeaveSteps
 pub mod Giving
 pub mod Steps
