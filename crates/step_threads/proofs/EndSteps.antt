@@ -69,7 +69,7 @@ finished_ends d t v e r vacant kept fits list room is =
     }
 
 -- with nothing in hand the endings may change
-ready_bare : (c : Course) (es : List Ending) → CourseReady c → is_full (slot c.holdings.slots.items (hand c.holdings.slots.items)) ≡ false
+pub ready_bare : (c : Course) (es : List Ending) → CourseReady c → is_full (slot c.holdings.slots.items (hand c.holdings.slots.items)) ≡ false
     → IsReady c.holdings.slots.items c.taken es (todo c)
 ready_bare c es ready bare =
     record {

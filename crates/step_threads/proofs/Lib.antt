@@ -7,6 +7,7 @@ pub mod Endings
 pub mod EndSteps
 pub mod EndTells
 pub mod Carrying
+pub mod CarrySteps
 pub mod LeaveSteps
 pub mod Giving
 pub mod Steps

@@ -1,5 +1,5 @@
 use Rattle.std.proofs.Common.{◌≡◌, ◌∙◌, ℕ, ◌==◌, true, drop, sym, subst, arith, eq-eqb}
-use Rattle.std.proofs.lemmas.Bool.{cond-true, ltb-false}
+use Rattle.std.proofs.lemmas.Bool.{cond-true}
 use Rattle.step_table.specs.declared.past.Deed.TheVariants as deed
 use Rattle.step_table.specs.Stories.{Story, after}
 use Rattle.step_threads.specs.Threads.{Fits}
@@ -21,7 +21,7 @@ returns-clause-fits c =
     let d = c.args.desk in
     let e = c.args.ending in
     let is = ending_here d v t.course.endings.list e c.requires.fits.endings.all c.requires.first in
-    let low = ltb-false 0 c.look_member.result c.if-look_member-gt0.false in
+    let low = c.if-look_member-gt0.false in
     let zero : (c.look_member.result == 0) ≡ true = eq-eqb c.look_member.result 0 (omega (arith, low)) in
     subst (λ (u : Story). Fits d (record { course = record t.course { endings = c.advance.new.self }; stock = t.stock; half = t.half }) u)
     (sym (c.look_member.ensures.after ∙ cond-true (c.look_member.result == 0) (after v d (deed.Clear e.block e.stage)) v zero))
