@@ -1,5 +1,6 @@
 pub mod Stocks
 pub mod Courses
+pub mod Hands
 pub mod CellNames
 pub mod Named
 pub mod Threads
