@@ -6,20 +6,24 @@ use Rattle.step_threads.specs.declared.act.Act.{Act}
 use Rattle.step_threads.specs.declared.act.Act.TheVariants.{Offer, Exchange, Load}
 use Rattle.step_threads.specs.declared.act.Task.{Task}
 use Rattle.step_threads.specs.declared.call.CellName.{CellName}
+use Rattle.step_threads.specs.declared.call.CellName.TheVariants.{Member}
+use Rattle.step_threads.specs.declared.call.Name.{Name}
 use Rattle.step_threads.specs.declared.course.Course.{Course}
 use Rattle.step_threads.specs.declared.half.Half.TheVariants.{Rest}
 use Rattle.step_threads.specs.declared.said.Stepped.{Stepped}
 use Rattle.step_threads.specs.declared.said.Stepped.TheVariants.{Quiet}
 use Rattle.step_threads.specs.declared.thread.Thread.{Thread}
+use Rattle.step_table.specs.declared.past.Deed.{Deed}
 use Rattle.step_table.specs.Contents.{is_of, is_spent, seen}
 use Rattle.step_table.specs.Deeds.{share}
-use Rattle.step_table.specs.Holdings.{pointer_of, value}
+use Rattle.step_table.specs.Holdings.{Slots, place_in, pointer_of, value}
 use Rattle.step_table.specs.Stories.{Kept, Story, state}
-use Rattle.step_threads.specs.Courses.{Begins, CourseReady, Drops, Going, HasGoneOn, IsReady, Ready, Walk, cell_at, dropping, fitting, going_from, hand, is_there, kind_at, on_going, other, rest, settled, taken_after, task_at, walk}
-use Rattle.step_threads.specs.Scenes.{Hands, came, refusal}
+use Rattle.step_threads.specs.Courses.{Begins, CourseReady, Drops, Going, HasGoneOn, IsNamed, IsReady, Ready, Walk, cell_at, dropping, fitting, going_from, hand, is_there, kind_at, on_going, other, rest, settled, taken_after, task_at, walk}
+use Rattle.step_threads.specs.Scenes.{Hands, came, outside, refusal}
 use Rattle.step_threads.specs.Steps.{Step, acts, first, sees, sends, step_at, waits, waits_on}
 use Rattle.step_threads.specs.Threads.{Fits, HasStepped}
 use Rattle.step_threads.proofs.Courses.{owed_by, ready_any, ready_head}
+use Rattle.step_threads.proofs.Named.{named_exchange, named_load, named_offer}
 use Rattle.step_threads.proofs.Steps.{at_act, stepped_as, waits_act}
 use Rattle.step_threads.proofs.StoreFits.{fits_done, share_calm, share_stores}
 
@@ -27,51 +31,37 @@ use Rattle.step_threads.proofs.StoreFits.{fits_done, share_calm, share_stores}
 abbrev pub IsOn : Act → CellName → Type 0
 IsOn a c = (a ≡ Load c) ⊎ ((k : ℕ) × ((a ≡ Offer k c) ⊎ (a ≡ Exchange k c)))
 
--- one that is refused is passed over, and answers why
-abbrev pub refuses : Walk → ℕ → List Task → CellName → Step
-refuses w n ts c =
+-- a step of statement n that has this in its slots then, and answers whether it is refused
+abbrev pub goes_by : Walk → ℕ → List Task → CellName → Option Deed → Hands → Step
+goes_by w n ts c x y =
     record {
-      deed = None;
+      deed = x;
       half = Rest;
-      walk = settled w.slots w.taken w.endings ts;
+      walk = settled y.0 y.1 w.endings ts;
       said = record { statement = n; answer = refusal w.slots c; ended = None };
     }
+
+-- one that is refused does nothing else
+abbrev pub refuses : Walk → ℕ → List Task → CellName → Step
+refuses w n ts c = goes_by w n ts c None (w.slots, w.taken)
 
 module _ (v : Story) (d : ℕ) (w : Walk) (n : ℕ) (ts : List Task) (c : CellName) (there : is_there w.slots c ≡ false) where
   load_refused : first v d w n ts (Load c) ≡ refuses w n ts c
   load_refused =
       let at = cell_at (state v) w.slots c in
       cond-false (is_there w.slots c) (sees v d w n ts (Load c) at None (seen v at)) (acts v d w n ts (Load c) None Rest) there
-      ∙ ap (λ (b : Bool).
-      let x : Hands = cond b (slice_set w.slots (hand w.slots) (came (state v) w.slots c), true) (w.slots, w.taken) in
-      record {
-        deed = None;
-        half = Rest;
-        walk = settled x.0 x.1 w.endings ts;
-        said = record { statement = n; answer = refusal w.slots c; ended = None };
-      }) there
+      ∙ ap (λ (b : Bool). goes_by w n ts c None (cond b (slice_set w.slots (hand w.slots) (came (state v) w.slots c), true) (w.slots, w.taken))) there
 
   offer_refused : (k : ℕ) → first v d w n ts (Offer k c) ≡ refuses w n ts c
   offer_refused k =
-      ap (λ (b : Bool).
-      let x : Hands = cond b (slice_set w.slots (hand w.slots) (fitting (kind_at c) (value w.slots k)), true) (w.slots, w.taken) in
-      record {
-        deed = option_map share (cond b (pointer_of (fitting (kind_at c) (value w.slots k))) None);
-        half = Rest;
-        walk = settled x.0 x.1 w.endings ts;
-        said = record { statement = n; answer = refusal w.slots c; ended = None };
-      }) there
+      let x = fitting (kind_at c) (value w.slots k) in
+      ap (λ (b : Bool). goes_by w n ts c (option_map share (cond b (pointer_of x) None)) (cond b (slice_set w.slots (hand w.slots) x, true) (w.slots, w.taken))) there
 
   exchange_refused : (k : ℕ) → first v d w n ts (Exchange k c) ≡ refuses w n ts c
   exchange_refused k =
-      let a = Exchange k c in
       let none : going_from w.slots c k ≡ None = ap (λ (b : Bool). cond {A = Option Going} (b && is_of (kind_at c) (value w.slots k)) (Some (c, k)) None) there in
-      ap (λ (g : Option Going). on_going (sends v d w n ts a) (record {
-        deed = None;
-        half = Rest;
-        walk = settled (on_going (λ x i. slice_set w.slots i (came (state v) w.slots x)) w.slots g) w.taken w.endings ts;
-        said = record { statement = n; answer = refusal w.slots c; ended = None };
-      }) g) none
+      ap (λ (g : Option Going). on_going (sends v d w n ts (Exchange k c))
+      (goes_by w n ts c None (on_going (λ x i. slice_set w.slots i (came (state v) w.slots x)) w.slots g, w.taken)) g) none
 
   first_refused : (a : Act) → IsOn a c → first v d w n ts a ≡ refuses w n ts c
   first_refused a on =
@@ -112,6 +102,18 @@ module _ (c : Course) (x : CellName) (lt : c.at < length c.tasks.items) (ready :
         owes = inl (owed_by c (task_at c).act lt ready refl o.0);
         ready = o.1 h.0 h.2;
       }
+
+  -- its name is one of the slots
+  pub named_on : IsOn (task_at c).act x → IsNamed (length c.holdings.slots.items) x
+  named_on on =
+      ⊎_elim (λ (e : (task_at c).act ≡ Load x). named_load c x lt ready e)
+      (λ (q : (k : ℕ) × (((task_at c).act ≡ Offer k x) ⊎ ((task_at c).act ≡ Exchange k x))).
+      ⊎_elim (λ (e : (task_at c).act ≡ Offer q.0 x). named_offer c x lt ready q.0 e)
+      (λ (e : (task_at c).act ≡ Exchange q.0 x). named_exchange c x lt ready q.0 e) q.1) on
+
+-- by where the name points it is told why
+pub refusal_is : (slots : Slots) (k : Name) (m : ℕ) → is_there slots (Member k m) ≡ false → refusal slots (Member k m) ≡ Some (outside (place_in slots k.0))
+refusal_is slots k m there = cond-false (is_there slots (Member k m)) None (Some (outside (place_in slots k.0))) there
 
 module _ (d : ℕ) (t : Thread) (v : Story) (c : CellName) (rests : t.half ≡ Rest) (none : t.course.endings.list ≡ [])
     (lt : t.course.at < length t.course.tasks.items) (on : IsOn (task_at t.course).act c) (there : is_there t.course.holdings.slots.items c ≡ false) where
