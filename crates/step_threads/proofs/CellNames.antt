@@ -65,7 +65,7 @@ cell_open v d slots (cell.Shared n) lt holds is = let e = cells_led (opening v.e
 cell_open v d slots (cell.Weak n) lt holds is =
     let e = cells_led (opening v.extent) v.history in let s = shared_is v in omega (arith, e, s, lt)
 cell_open v d slots (cell.Member k m) lt holds is =
-    let o = there_owned v d slots k m holds is in (lt, owner_in v (block_at slots k.0) o.0.place, (o.1, refl, refl), refl)
+    let o = there_owned v d slots k m holds is in (lt, (owner_in v (block_at slots k.0) o.0.place, (o.1, refl, refl), refl))
 
 -- what may go into the cell of a name may go into the cell
 pub goes_in : (v : Story) (slots : Slots) (c : CellName) (x : Slot) → IsIn v.extent.shape c → is_of (kind_at c) x ≡ true

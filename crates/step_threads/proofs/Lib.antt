@@ -2,6 +2,7 @@ pub mod Stocks
 pub mod Courses
 pub mod Hands
 pub mod CellNames
+pub mod Named
 pub mod Threads
 pub mod Endings
 pub mod EndSteps
@@ -13,6 +14,7 @@ pub mod Giving
 pub mod Steps
 pub mod StoreFits
 pub mod StoreSteps
+pub mod Refusals
 pub mod Compares
 pub mod CompareFits
 pub mod CompareSteps
