@@ -1,4 +1,5 @@
 pub mod Ends
+pub mod Few
 pub mod Halves
 pub mod Least
 pub mod Members
