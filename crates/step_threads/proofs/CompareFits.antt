@@ -29,6 +29,7 @@ use Rattle.step_threads.specs.Programs.{IsIn}
 use Rattle.step_threads.specs.Steps.{gives_back, missed}
 use Rattle.step_threads.specs.Threads.{Fits, IsLoaded, IsMatchedBy, IsSeenBy}
 use Rattle.step_threads.proofs.CellNames.{cell_open}
+use Rattle.step_threads.proofs.Compares.{may_compare}
 use Rattle.step_threads.proofs.LoadFits.{owned_some, saw_next}
 use Rattle.step_threads.proofs.LookFits.{ClaimsNone, fits_gone, fits_half, fits_quiet}
 use Rattle.step_threads.proofs.RefillFits.{At}
@@ -72,30 +73,30 @@ module _ (d : ℕ) (t : Thread) (v : Story) (k : ℕ) (c : CellName) (weak : Boo
 
   module _ (c' : Course) (y : Compared) (kept : Kept v) where
     -- a value without an object was found to differ
-    pub compare_looked : t.half ≡ Rest → t.course.endings.list ≡ [] → HasGoneOn d t.course c' (after v d (OnCell (Look (cell_at (state v) c) x (Some y))))
-        → Fits d (record { course = c'; stock = t.stock; half = Rest }) (after v d (OnCell (Look (cell_at (state v) c) x (Some y))))
+    pub compare_looked : t.half ≡ Rest → t.course.endings.list ≡ [] → HasGoneOn d t.course c' (after v d (OnCell (Look (cell_at (state v) t.course.holdings.slots.items c) x (Some y))))
+        → Fits d (record { course = c'; stock = t.stock; half = Rest }) (after v d (OnCell (Look (cell_at (state v) t.course.holdings.slots.items c) x (Some y))))
     compare_looked e none on =
-        let z = OnCell (Look (cell_at (state v) c) x (Some y)) in
+        let z = OnCell (Look (cell_at (state v) t.course.holdings.slots.items c) x (Some y)) in
         fits_gone d t v Rest Rest fits e (λ b. refl) (λ b. refl) z c' none refl on (own_pending v d z kept fits.seat) tt
 
     -- one with an object was, and a fund of it is taken
-    pub compare_taken : (n : ℕ) → t.half ≡ Saw x → IsLoaded x → HasGoneOn d t.course c' (after v d (OnCell (Take (cell_at (state v) c) x (Some y))))
-        → Fits d (record { course = c'; stock = t.stock; half = Refill Turning (cell_at (state v) c) (more_taken x) n })
-        (after v d (OnCell (Take (cell_at (state v) c) x (Some y))))
+    pub compare_taken : (n : ℕ) → t.half ≡ Saw x → IsLoaded x → HasGoneOn d t.course c' (after v d (OnCell (Take (cell_at (state v) t.course.holdings.slots.items c) x (Some y))))
+        → Fits d (record { course = c'; stock = t.stock; half = Refill Turning (cell_at (state v) t.course.holdings.slots.items c) (more_taken x) n })
+        (after v d (OnCell (Take (cell_at (state v) t.course.holdings.slots.items c) x (Some y))))
     compare_taken n e loaded on =
-        let at = cell_at (state v) c in
+        let at = cell_at (state v) t.course.holdings.slots.items c in
         let next = saw_next d t v x fits e in
         let b = owned_some x.owned loaded.0 in
         let valid = (half_here d t v (Saw x) fits e).1 in
         fits_gone d t v (Saw x) (Refill Turning at (more_taken x) n) fits e (λ b. refl) (λ b. refl) (OnCell (Take at x (Some y))) c' next.2 refl on
-        (begins_refill d v kept fits.seat at x (Some y) b.0 (cell_open v d c (cell_of_compare next.0)) valid b.1 loaded.1) tt
+        (begins_refill d v kept fits.seat at x (Some y) b.0 (cell_open v d t.course.holdings.slots.items c (cell_of_compare next.0) fits.holds (may_compare t.course k c weak next.0 fits.ready act fits.still).0) valid b.1 loaded.1) tt
 
     -- the cell is swapped
-    pub compare_swapped : (n : ℕ) → ClaimsNone t.half → t.course.endings.list ≡ [] → HasGoneOn d t.course c' (after v d (OnCell (CompareSwap (cell_at (state v) c) x y)))
-        → Fits d (record { course = c'; stock = t.stock; half = gives_back (kind_in (state v) (cell_at (state v) c)) n x x.owned })
-        (after v d (OnCell (CompareSwap (cell_at (state v) c) x y)))
+    pub compare_swapped : (n : ℕ) → ClaimsNone t.half → t.course.endings.list ≡ [] → HasGoneOn d t.course c' (after v d (OnCell (CompareSwap (cell_at (state v) t.course.holdings.slots.items c) x y)))
+        → Fits d (record { course = c'; stock = t.stock; half = gives_back (kind_in (state v) (cell_at (state v) t.course.holdings.slots.items c)) n x x.owned })
+        (after v d (OnCell (CompareSwap (cell_at (state v) t.course.holdings.slots.items c) x y)))
     compare_swapped n claims none on =
-        let at = cell_at (state v) c in
+        let at = cell_at (state v) t.course.holdings.slots.items c in
         let z = OnCell (CompareSwap at x y) in
         let w = after v d z in
         let kind = kind_in (state v) at in
@@ -104,9 +105,10 @@ module _ (d : ℕ) (t : Thread) (v : Story) (k : ℕ) (c : CellName) (weak : Boo
         fits_gone d t v t.half (gives_back kind n x x.owned) fits refl claims (claims_none kind n x x.owned) z c' none (same_stores c) on
         (half_back d c'.holdings.slots.items (task_at c').act w kind n x x.owned refl owes) (next_back kind n x x.owned c')
       where
-        same_stores : (c : CellName) → (state (after v d (OnCell (CompareSwap (cell_at (state v) c) x y)))).stores ≡ (state v).stores
+        same_stores : (c : CellName) → (state (after v d (OnCell (CompareSwap (cell_at (state v) t.course.holdings.slots.items c) x y)))).stores ≡ (state v).stores
         same_stores (name.Shared m) = refl
         same_stores (name.Weak m) = refl
+        same_stores (name.Member i m) = refl
 
   -- the funds are brought
   pub compare_brought : (p : Pointer) → t.half ≡ Saw x → same_value x (as_word (value t.course.holdings.slots.items k)) ≡ true

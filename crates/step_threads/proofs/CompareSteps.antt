@@ -31,7 +31,7 @@ use Rattle.step_table.specs.Deeds.{on}
 use Rattle.step_table.specs.Holdings.{Holds, Slots, slot, value}
 use Rattle.step_table.specs.Refills.{more_taken}
 use Rattle.step_table.specs.Stories.{Kept, Story, after, event_of, state}
-use Rattle.step_threads.specs.Courses.{Walk, cell_at, comparing, hand, kind_at, rest, settled, task_at, walk}
+use Rattle.step_threads.specs.Courses.{Walk, cell_at, comparing, hand, is_there, kind_at, rest, settled, task_at, walk}
 use Rattle.step_threads.specs.Entries.{is_expected}
 use Rattle.step_threads.specs.Programs.{IsIn}
 use Rattle.step_threads.specs.Scenes.{came, compared}
@@ -51,21 +51,25 @@ answers n b = record { statement = n; answer = Some (Answered b); ended = None }
 -- where a thread is by a compare
 abbrev pub compared_walk : Thread → Story → CellName → Bool → Walk
 compared_walk t v c b =
-    let x = compared t.course.holdings.slots.items (came (state v) c) b in settled x.0 x.1 t.course.endings.list (rest t.course)
+    let x = compared t.course.holdings.slots.items (came (state v) t.course.holdings.slots.items c) b in settled x.0 x.1 t.course.endings.list (rest t.course)
 
 -- words tell whether a cell holds what is expected
 pub expected_told : (d : ℕ) (slots : Slots) (v : Story) (k : ℕ) (c : CellName) → Kept v → d < v.extent.actors → Holds d slots v → IsIn v.extent.shape c
-    → is_of (kind_at c) (value slots k) ≡ true → same_value (seen v (cell_at (state v) c)) (as_word (value slots k)) ≡ is_expected (state v) slots k c
-expected_told d slots v k c kept lt holds inside is =
-    let at = cell_at (state v) c in
-    alike_seen d slots v k kept holds at (seen v at) (seen_found v d at kept lt (cell_open v d c inside)) (goes_in v c (value slots k) inside is)
-    ∙ ap (λ (q : Kind). equivalent (held_in (state v) at) (told (state v) q (value slots k))) (cell_kind v c inside)
+    → is_there slots c ≡ true → is_of (kind_at c) (value slots k) ≡ true
+    → same_value (seen v (cell_at (state v) slots c)) (as_word (value slots k)) ≡ is_expected (state v) slots k c
+expected_told d slots v k c kept lt holds inside there is =
+    let at = cell_at (state v) slots c in
+    alike_seen d slots v k kept holds at (seen v at) (seen_found v d at kept lt (cell_open v d slots c inside holds there))
+    (goes_in v slots c (value slots k) inside is)
+    ∙ ap (λ (q : Kind). equivalent (held_in (state v) at) (told (state v) q (value slots k))) (cell_kind v slots c inside)
 
 -- what a cell shows still is what it holds
-pub shown_still : (d : ℕ) (v : Story) (c : CellName) (x : CellWord) → Kept v → d < v.extent.actors → IsIn v.extent.shape c → IsCellWord x
-    → word_at v (cell_at (state v) c) ≡ cell_bits x → x ≡ seen v (cell_at (state v) c)
-shown_still d v c x kept lt inside valid bits =
-    let at = cell_at (state v) c in shows_seen v d at x (open_found v d at x kept lt (cell_open v d c inside) valid bits)
+pub shown_still : (d : ℕ) (slots : Slots) (v : Story) (c : CellName) (x : CellWord) → Kept v → d < v.extent.actors → Holds d slots v
+    → IsIn v.extent.shape c → is_there slots c ≡ true → IsCellWord x → word_at v (cell_at (state v) slots c) ≡ cell_bits x
+    → x ≡ seen v (cell_at (state v) slots c)
+shown_still d slots v c x kept lt holds inside there valid bits =
+    let at = cell_at (state v) slots c in
+    shows_seen v d at x (open_found v d at x kept lt (cell_open v d slots c inside holds there) valid bits)
 
 module _ (d : ℕ) (t : Thread) (v : Story) (k : ℕ) (c : CellName) (weak : Bool) (x : CellWord) (lt : t.course.at < length t.course.tasks.items)
     (act : (task_at t.course).act ≡ Compare k c weak) where
@@ -73,7 +77,7 @@ module _ (d : ℕ) (t : Thread) (v : Story) (k : ℕ) (c : CellName) (weak : Boo
   slots = t.course.holdings.slots.items
 
   abbrev place : Cell
-  place = cell_at (state v) c
+  place = cell_at (state v) slots c
 
   abbrev wanted : Compared
   wanted = compared_in slots (comparing slots k weak)

@@ -1,5 +1,5 @@
 -- What a thread relies on that is at a compare.
-use Rattle.std.proofs.Common.{◌≡◌, ℕ, ◌-◌, ◌<◌, ◌⊎◌, Bool, true, false, not, ◌&&◌, List, length, set, refl, sym, ap, subst, ◌∙◌, ⊎_elim, inr, arith}
+use Rattle.std.proofs.Common.{◌≡◌, ℕ, ◌-◌, ◌<◌, ◌⊎◌, Bool, true, false, not, ◌&&◌, List, length, set, refl, sym, ap, subst, ◌∙◌, ⊎_elim, inl, inr, arith}
 use Rattle.std.proofs.Common.{get_or-set_same, length-set}
 use Rattle.step_threads.specs.declared.act.Act.{Act}
 use Rattle.step_threads.specs.declared.act.Act.TheVariants.{Compare}
@@ -11,23 +11,24 @@ use Rattle.step_table.specs.CellDeeds.{kind_in}
 use Rattle.step_table.specs.Contents.{CanCompare, is_of, swapped}
 use Rattle.step_table.specs.Holdings.{plain, pointer_of, value}
 use Rattle.step_table.specs.Stories.{Story, state}
-use Rattle.step_threads.specs.Courses.{Begins, CourseReady, CourseStill, Drops, Follows, HasCell, IsReady, Ready, cell_at, comparing, dropping, hand, idle, kind_at, other, rest, taken_after, task_at}
+use Rattle.step_threads.specs.Courses.{Begins, CourseReady, CourseStill, Drops, Follows, HasCell, IsReady, Ready, cell_at, comparing, dropping, hand, idle, is_there, kind_at, other, rest, taken_after, task_at}
 use Rattle.step_threads.specs.Programs.{IsIn}
 use Rattle.step_threads.proofs.CellNames.{goes_in}
 use Rattle.step_threads.proofs.Courses.{ready_any, ready_head, todo_at}
 
-three : (a b c : Bool) → not (a && b && c) ≡ false → (b ≡ true) × (c ≡ true)
-three true true true e = (refl, refl)
-three true true false e = cc
-three true false c e = cc
-three false b c e = cc
+four : (a b c d : Bool) → not (a && b && c && d) ≡ false → (b ≡ true) × (c ≡ true) × (d ≡ true)
+four true true true true e = (refl, refl, refl)
+four true true true false e = cc
+four true true false d e = cc
+four true false c d e = cc
+four false b c d e = cc
 
 module _ (c : Course) (k : ℕ) (x : CellName) (weak : Bool) (lt : c.at < length c.tasks.items) (ready : CourseReady c) (act : (task_at c).act ≡ Compare k x weak) where
   -- what is expected is a name's
   pub expects_name : k < other c.holdings.slots.items
   expects_name =
       let n = other c.holdings.slots.items in
-      let b : Begins n c.taken (Compare k x weak) = subst (Begins n c.taken) act (ready_head c lt ready).0 in b
+      let b : Begins n c.taken (Compare k x weak) = subst (Begins n c.taken) act (ready_head c lt ready).0 in b.0
 
   -- what comes out is dropped
   pub drops_after : Drops (rest c)
@@ -42,13 +43,14 @@ module _ (c : Course) (k : ℕ) (x : CellName) (weak : Bool) (lt : c.at < length
       (λ (q : dropping (Drops (rest c)) (task_at c).act). let z : dropping (Drops (rest c)) (Compare k x weak) = subst (dropping (Drops (rest c))) act q in absurd z)
       (subst P (todo_at c lt) ready.owes)
 
-  -- what goes in, and what is expected, may be in the cell
+  -- the cell is there, and what goes in, and what is expected, may be in it
   pub may_compare : CourseStill c
-      → (is_of (kind_at x) (value c.holdings.slots.items (hand c.holdings.slots.items)) ≡ true) × (is_of (kind_at x) (value c.holdings.slots.items k) ≡ true)
-  may_compare still = three c.taken _ _ (subst (λ (a : Act). idle a c.holdings.slots.items c.taken ≡ false) act (still lt))
+      → (is_there c.holdings.slots.items x ≡ true) × (is_of (kind_at x) (value c.holdings.slots.items (hand c.holdings.slots.items)) ≡ true)
+      × (is_of (kind_at x) (value c.holdings.slots.items k) ≡ true)
+  may_compare still = four c.taken _ _ _ (subst (λ (a : Act). idle a c.holdings.slots.items c.taken ≡ false) act (still lt))
 
   pub can_compare : (v : Story) → CourseStill c → HasCell v.extent.shape (task_at c).act
-      → CanCompare (kind_in (state v) (cell_at (state v) x)) c.holdings.slots.items (comparing c.holdings.slots.items k weak)
+      → CanCompare (kind_in (state v) (cell_at (state v) c.holdings.slots.items x)) c.holdings.slots.items (comparing c.holdings.slots.items k weak)
   can_compare v still cell =
       let slots = c.holdings.slots.items in
       let inside : IsIn v.extent.shape x = subst (HasCell v.extent.shape) act cell in
@@ -61,12 +63,12 @@ module _ (c : Course) (k : ℕ) (x : CellName) (weak : Bool) (lt : c.at < length
         other = omega (arith, some);
         apart = omega (arith, some);
         empty = ap pointer_of nothing_owed;
-        kinds = (goes_in v x (value slots k) inside may.1, goes_in v x (value slots (hand slots)) inside may.0);
+        kinds = (goes_in v slots x (value slots k) inside may.2, goes_in v slots x (value slots (hand slots)) inside may.1);
       }
 
   -- the cell is swapped: what comes out is to be dropped
   pub swapped_ready : (y : Slot)
-      → IsReady (swapped (hand c.holdings.slots.items) (other c.holdings.slots.items) c.holdings.slots.items y) false (rest c)
+      → IsReady (swapped (hand c.holdings.slots.items) (other c.holdings.slots.items) c.holdings.slots.items y) false c.endings.list (rest c)
   swapped_ready y =
       let slots = c.holdings.slots.items in
       let n = other slots in
@@ -78,7 +80,7 @@ module _ (c : Course) (k : ℕ) (x : CellName) (weak : Bool) (lt : c.at < length
       record {
         some = omega (arith, e, some);
         free = λ t.
-            ap (λ (i : ℕ). value l (i - 1)) e ∙ get_or-set_same (set slots n y) (hand slots) plain plain (omega (arith, m, some));
+            inl (ap (λ (i : ℕ). value l (i - 1)) e ∙ get_or-set_same (set slots n y) (hand slots) plain plain (omega (arith, m, some)));
         owes = inr drops_after;
         ready = subst (λ (i : ℕ). Ready (i - 2) false (rest c)) (sym e) (ready_any n (rest c) r);
       }

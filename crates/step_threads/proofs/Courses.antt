@@ -8,10 +8,11 @@ use Rattle.step_threads.specs.declared.act.Act.TheVariants.{Make, Share, Downgra
 use Rattle.step_threads.specs.declared.act.Task.{Task}
 use Rattle.step_threads.specs.declared.course.Course.{Course}
 use Rattle.step_threads.specs.declared.ending.Ending.{Ending}
-use Rattle.step_threads.specs.Courses.{Begins, CourseReady, Drops, Follows, IsPassed, IsReady, Ready, Walk, dropping, hand, idle, no_task, other, placed, rest, settled, slots_idle, taken_after}
+use Rattle.step_threads.specs.Courses.{Begins, CourseReady, Drops, Follows, IsCarried, IsPassed, IsReady, Ready, Walk, dropping, hand, idle, no_task, other, placed, rest, settled, slots_idle, taken_after}
 use Rattle.step_threads.specs.Courses.{taken_idle, task_at, todo}
 use Rattle.step_threads.specs.Endings.{Stack}
-use Rattle.step_table.specs.Holdings.{Slots, plain, value}
+use Rattle.step_table.specs.declared.slot.Slot.{Slot}
+use Rattle.step_table.specs.Holdings.{Slots, is_full, plain, pointer_of, value}
 use Rattle.step_threads.specs.Steps.{with_endings}
 
 pub todo_at : (c : Course) → c.at < length c.tasks.items → todo c ≡ task_at c ∷ drop (c.at + 1) c.tasks.items
@@ -21,7 +22,7 @@ settled_idle : (slots : Slots) (taken : Bool) (es : List Ending) (t : Task) (ts 
     → settled slots taken es (t ∷ ts) ≡ settled (slots_idle t.act slots taken) (taken_idle t.act taken) es ts
 settled_idle slots taken es t ts e = cond-true (idle t.act slots taken) _ _ e
 
-settled_still : (slots : Slots) (taken : Bool) (es : List Ending) (t : Task) (ts : List Task) → idle t.act slots taken ≡ false
+pub settled_still : (slots : Slots) (taken : Bool) (es : List Ending) (t : Task) (ts : List Task) → idle t.act slots taken ≡ false
     → settled slots taken es (t ∷ ts) ≡ record { slots = slots; taken = taken; endings = es; todo = t ∷ ts }
 settled_still slots taken es t ts e = cond-false (idle t.act slots taken) _ _ e
 
@@ -113,42 +114,63 @@ ready_same : (slots slots' : Slots) (taken : Bool) (ts : List Task) → length s
     → Ready (other slots') taken ts
 ready_same slots slots' taken ts e r = subst (λ (n : ℕ). Ready n taken ts) (sym (other_same slots slots' e)) r
 
+-- with nothing taken the hand is plain, or carries what came out of a member
+abbrev pub IsFree : Slots → List Ending → Type 0
+IsFree slots es = (value slots (hand slots) ≡ plain) ⊎ IsCarried slots es
+
+carried_same : (slots slots' : Slots) (es : List Ending) → value slots' (hand slots') ≡ value slots (hand slots) → IsCarried slots es → IsCarried slots' es
+carried_same slots slots' [] e c = c
+carried_same slots slots' (x ∷ es) e c = ap (λ (y : Slot). is_full (pointer_of y)) e ∙ c
+
+free_same : (slots slots' : Slots) (es : List Ending) → value slots' (hand slots') ≡ value slots (hand slots) → IsFree slots es → IsFree slots' es
+free_same slots slots' es e (inl f) = inl (e ∙ f)
+free_same slots slots' es e (inr c) = inr (carried_same slots slots' es e c)
+
+-- where no object ends nothing is carried
+pub free_plain : (slots : Slots) (taken : Bool) (es : List Ending) → (taken ≡ false → (value slots (hand slots) ≡ plain) ⊎ IsCarried slots es) → es ≡ []
+    → taken ≡ false → value slots (hand slots) ≡ plain
+free_plain slots taken es free none e =
+    ⊎_elim (λ (f : value slots (hand slots) ≡ plain). f) (λ (c : IsCarried slots es). absurd (subst (IsCarried slots) none c)) (free e)
+
+pub hand_plain : (c : Course) → CourseReady c → c.endings.list ≡ [] → c.taken ≡ false
+    → value c.holdings.slots.items (hand c.holdings.slots.items) ≡ plain
+hand_plain c ready none e = free_plain c.holdings.slots.items c.taken c.endings.list ready.free none e
+
 -- what was taken goes to a slot below the hand
-placed_ready : (k : ℕ) (slots : Slots) (ts : List Task) → 1 < length slots → Ready (other slots) false ts
-    → (value (placed k slots) (other (placed k slots)) ≡ plain) ⊎ Drops ts → IsReady (placed k slots) false ts
-placed_ready k slots ts lt r owes =
+placed_ready : (k : ℕ) (slots : Slots) (es : List Ending) (ts : List Task) → 1 < length slots → Ready (other slots) false ts
+    → (value (placed k slots) (other (placed k slots)) ≡ plain) ⊎ Drops ts → IsReady (placed k slots) false es ts
+placed_ready k slots es ts lt r owes =
     let e = placed_length k slots in
     record {
       some = omega (arith, e);
-      free = λ t. placed_hand k slots lt;
+      free = λ t. inl (placed_hand k slots lt);
       owes = owes;
       ready = ready_same slots (placed k slots) false ts e r;
     }
 
-put_ready : (k : ℕ) (slots : Slots) (taken : Bool) (ts : List Task) → 1 < length slots → k < other slots
-    → (taken ≡ false → value slots (hand slots) ≡ plain) → (value slots (other slots) ≡ plain) ⊎ Drops ts → Ready (other slots) false ts
-    → IsReady (cond taken (placed k slots) slots) false ts
-put_ready k slots true ts lt below free (inl e) r = placed_ready k slots ts lt r (inl (placed_other k slots lt below e))
-put_ready k slots true ts lt below free (inr e) r = placed_ready k slots ts lt r (inr e)
-put_ready k slots false ts lt below free owes r = record { some = lt; free = free; owes = owes; ready = r }
+put_ready : (k : ℕ) (slots : Slots) (taken : Bool) (es : List Ending) (ts : List Task) → 1 < length slots → k < other slots
+    → (taken ≡ false → IsFree slots es) → (value slots (other slots) ≡ plain) ⊎ Drops ts → Ready (other slots) false ts
+    → IsReady (cond taken (placed k slots) slots) false es ts
+put_ready k slots true es ts lt below free (inl e) r = placed_ready k slots es ts lt r (inl (placed_other k slots lt below e))
+put_ready k slots true es ts lt below free (inr e) r = placed_ready k slots es ts lt r (inr e)
+put_ready k slots false es ts lt below free owes r = record { some = lt; free = free; owes = owes; ready = r }
 
 -- what is in hand, and goes nowhere, is to be dropped
-swap_ready : (slots : Slots) (taken : Bool) (ts : List Task) → 1 < length slots → (taken ≡ false → value slots (hand slots) ≡ plain) → Drops ts
-    → Ready (other slots) false ts → IsReady (cond taken (placed (other slots) slots) slots) false ts
-swap_ready slots true ts lt free drops r = placed_ready (other slots) slots ts lt r (inr drops)
-swap_ready slots false ts lt free drops r = record { some = lt; free = free; owes = inr drops; ready = r }
+swap_ready : (slots : Slots) (taken : Bool) (es : List Ending) (ts : List Task) → 1 < length slots → (taken ≡ false → IsFree slots es) → Drops ts
+    → Ready (other slots) false ts → IsReady (cond taken (placed (other slots) slots) slots) false es ts
+swap_ready slots true es ts lt free drops r = placed_ready (other slots) slots es ts lt r (inr drops)
+swap_ready slots false es ts lt free drops r = record { some = lt; free = free; owes = inr drops; ready = r }
 
-drop_ready : (slots : Slots) (taken : Bool) (ts : List Task) → 1 < length slots → (taken ≡ false → value slots (hand slots) ≡ plain)
-    → Ready (other slots) taken ts → IsReady (set slots (other slots) plain) taken ts
-drop_ready slots taken ts lt free r =
+drop_ready : (slots : Slots) (taken : Bool) (es : List Ending) (ts : List Task) → 1 < length slots → (taken ≡ false → IsFree slots es)
+    → Ready (other slots) taken ts → IsReady (set slots (other slots) plain) taken es ts
+drop_ready slots taken es ts lt free r =
     let x = set slots (other slots) plain in
     let e : length x ≡ length slots = length-set slots (other slots) plain in
     record {
       some = omega (arith, e, lt);
       free = λ t.
-          ap (λ (n : ℕ). value x (n - 1)) e
-          ∙ get_or-set_other slots (other slots) (hand slots) plain plain (omega (arith, lt))
-          ∙ free t;
+          free_same slots x es (ap (λ (n : ℕ). value x (n - 1)) e
+          ∙ get_or-set_other slots (other slots) (hand slots) plain plain (omega (arith, lt))) (free t);
       owes =
           inl (ap (λ (n : ℕ). value x n) (other_same slots x e) ∙ get_or-set_same slots (other slots) plain plain (omega (arith, lt)));
       ready = ready_same slots x taken ts e r;
@@ -169,10 +191,10 @@ weaker n (FromThis k kind) b = (b.0, refl)
 weaker n (Alias k j field) b = (b.0, b.1, refl)
 weaker n (Move k) b = (b.0, refl)
 weaker n (Ask q) b = b
-weaker n (Offer k c) b = (b.0, refl)
+weaker n (Offer k c) b = (b.0, b.1, refl)
 weaker n (Swap c) b = b
-weaker n (Exchange k c) b = (b.0, refl)
-weaker n (Load c) b = refl
+weaker n (Exchange k c) b = (b.0, b.1, refl)
+weaker n (Load c) b = (b.0, refl)
 weaker n (Compare k c weak) b = b
 weaker n Drop b = refl
 
@@ -204,31 +226,31 @@ pub ready_any : (n : ℕ) (ts : List Task) → Ready n true ts → Ready n false
 ready_any n [] r = r
 ready_any n (t ∷ ts) r = (weaker n t.act r.0, r.1, ready_more n t.act ts (ready_any n ts) r.2)
 
-ready_past : (act : Act) (slots : Slots) (taken : Bool) (ts : List Task) → idle act slots taken ≡ true → 1 < length slots
-    → (taken ≡ false → value slots (hand slots) ≡ plain) → (value slots (other slots) ≡ plain) ⊎ dropping (Drops ts) act
+ready_past : (act : Act) (slots : Slots) (taken : Bool) (es : List Ending) (ts : List Task) → idle act slots taken ≡ true → 1 < length slots
+    → (taken ≡ false → IsFree slots es) → (value slots (other slots) ≡ plain) ⊎ dropping (Drops ts) act
     → Begins (other slots) taken act → Follows act ts → Ready (other slots) (taken_after act taken) ts
-    → IsReady (slots_idle act slots taken) (taken_idle act taken) ts
-ready_past (Make form) slots taken ts i lt free owes b f r = absurd (false≢true i)
-ready_past (Share k) slots taken ts i lt free owes b f r = absurd (false≢true i)
-ready_past (Put k) slots taken ts i lt free owes b f r = put_ready k slots taken ts lt b free owes r
-ready_past (Leave k) slots taken ts i lt free owes b f r = absurd (false≢true i)
-ready_past (Clear k) slots taken ts i lt free owes b f r =
+    → IsReady (slots_idle act slots taken) (taken_idle act taken) es ts
+ready_past (Make form) slots taken es ts i lt free owes b f r = absurd (false≢true i)
+ready_past (Share k) slots taken es ts i lt free owes b f r = absurd (false≢true i)
+ready_past (Put k) slots taken es ts i lt free owes b f r = put_ready k slots taken es ts lt b free owes r
+ready_past (Leave k) slots taken es ts i lt free owes b f r = absurd (false≢true i)
+ready_past (Clear k) slots taken es ts i lt free owes b f r =
     record { some = lt; free = free; owes = ⊎_elim inl (λ (e : ⊥). absurd e) owes; ready = r }
-ready_past (Count k) slots taken ts i lt free owes b f r = absurd (false≢true i)
-ready_past (Downgrade k) slots taken ts i lt free owes b f r = absurd (false≢true i)
-ready_past (Lock k must) slots taken ts i lt free owes b f r = absurd (false≢true i)
-ready_past (Expired k) slots taken ts i lt free owes b f r = absurd (false≢true i)
-ready_past (Read k) slots taken ts i lt free owes b f r = absurd (false≢true i)
-ready_past (FromThis k kind) slots taken ts i lt free owes b f r = absurd (false≢true i)
-ready_past (Alias k j field) slots taken ts i lt free owes b f r = absurd (false≢true i)
-ready_past (Move k) slots taken ts i lt free owes b f r = absurd (false≢true i)
-ready_past (Ask q) slots taken ts i lt free owes b f r = absurd (false≢true i)
-ready_past (Offer k c) slots taken ts i lt free owes b f r = absurd (false≢true i)
-ready_past (Swap c) slots taken ts i lt free owes b f r = swap_ready slots taken ts lt free f r
-ready_past (Exchange k c) slots taken ts i lt free owes b f r = absurd (false≢true i)
-ready_past (Load c) slots taken ts i lt free owes b f r = absurd (false≢true i)
-ready_past (Compare k c weak) slots taken ts i lt free owes b f r = swap_ready slots taken ts lt free f (ready_any (other slots) ts r)
-ready_past Drop slots taken ts i lt free owes b f r = drop_ready slots taken ts lt free r
+ready_past (Count k) slots taken es ts i lt free owes b f r = absurd (false≢true i)
+ready_past (Downgrade k) slots taken es ts i lt free owes b f r = absurd (false≢true i)
+ready_past (Lock k must) slots taken es ts i lt free owes b f r = absurd (false≢true i)
+ready_past (Expired k) slots taken es ts i lt free owes b f r = absurd (false≢true i)
+ready_past (Read k) slots taken es ts i lt free owes b f r = absurd (false≢true i)
+ready_past (FromThis k kind) slots taken es ts i lt free owes b f r = absurd (false≢true i)
+ready_past (Alias k j field) slots taken es ts i lt free owes b f r = absurd (false≢true i)
+ready_past (Move k) slots taken es ts i lt free owes b f r = absurd (false≢true i)
+ready_past (Ask q) slots taken es ts i lt free owes b f r = absurd (false≢true i)
+ready_past (Offer k c) slots taken es ts i lt free owes b f r = absurd (false≢true i)
+ready_past (Swap c) slots taken es ts i lt free owes b f r = swap_ready slots taken es ts lt free f r
+ready_past (Exchange k c) slots taken es ts i lt free owes b f r = absurd (false≢true i)
+ready_past (Load c) slots taken es ts i lt free owes b f r = absurd (false≢true i)
+ready_past (Compare k c weak) slots taken es ts i lt free owes b f r = swap_ready slots taken es ts lt free f (ready_any (other slots) ts r)
+ready_past Drop slots taken es ts i lt free owes b f r = drop_ready slots taken es ts lt free r
 
 -- what the next act may rely on, and what is left to do after it
 pub ready_head : (c : Course) → c.at < length c.tasks.items → CourseReady c
@@ -252,11 +274,14 @@ pub passed_ready : (a b : Course) → a.at < length a.tasks.items → idle (task
     → CourseReady a → CourseReady b
 passed_ready a b lt e p r =
     let h = ready_head a lt r in
-    let k = ready_past (task_at a).act a.holdings.slots.items a.taken (rest a) e r.some r.free (owes_head a lt r) h.0 h.1 h.2 in
-    subst (λ (z : Slots). IsReady z b.taken (todo b)) (sym p.slots)
-    (subst (λ (z : Bool). IsReady (slots_idle (task_at a).act a.holdings.slots.items a.taken) z (todo b)) (sym p.taken)
-    (subst (λ (z : List Task). IsReady (slots_idle (task_at a).act a.holdings.slots.items a.taken) (taken_idle (task_at a).act a.taken) z)
-    (sym (passed_todo a b p)) k))
+    let k = ready_past (task_at a).act a.holdings.slots.items a.taken a.endings.list (rest a) e r.some r.free (owes_head a lt r) h.0 h.1 h.2 in
+    let slots = slots_idle (task_at a).act a.holdings.slots.items a.taken in
+    let taken = taken_idle (task_at a).act a.taken in
+    let es : b.endings.list ≡ a.endings.list = ap (λ (x : Stack). x.list) p.endings in
+    subst (λ (z : Slots). IsReady z b.taken b.endings.list (todo b)) (sym p.slots)
+    (subst (λ (z : Bool). IsReady slots z b.endings.list (todo b)) (sym p.taken)
+    (subst (λ (z : List Ending). IsReady slots taken z (todo b)) (sym es)
+    (subst (λ (z : List Task). IsReady slots taken a.endings.list z) (sym (passed_todo a b p)) k)))
 
 pub passed_within : (a b : Course) → a.at < length a.tasks.items → IsPassed a b → b.at ≤ length b.tasks.items
 passed_within a b lt p = subst

@@ -21,7 +21,7 @@ use Rattle.step_table.proofs.holding.Inside.{inside_held}
 
 -- a pointer from this that is refused takes nothing
 pub refused_this : (c : Course) (k : ℕ) (q : Kind) → c.at < length c.tasks.items → CourseReady c → (task_at c).act ≡ FromThis k q
-    → IsReady c.holdings.slots.items false (rest c)
+    → IsReady c.holdings.slots.items false c.endings.list (rest c)
 refused_this c k q lt ready act =
     let h = ready_head c lt ready in
     let n = other c.holdings.slots.items in

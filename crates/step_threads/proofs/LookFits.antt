@@ -4,7 +4,8 @@ use Rattle.std.specs.List.{filter}
 use Rattle.std.specs.Prelude.{Option, None}
 use Rattle.control_word.specs.declared.event.Event.{Event}
 use Rattle.control_word.specs.Histories.{leads}
-use Rattle.control_word.specs.State.{State, ending, same_stored, stored}
+use Rattle.control_word.specs.Handles.{empty}
+use Rattle.control_word.specs.State.{State, ending, kind_of_member, same_stored, stored}
 use Rattle.step_threads.specs.declared.course.Course.{Course}
 use Rattle.step_threads.specs.declared.half.Half.{Half}
 use Rattle.step_table.specs.declared.past.Deed.{Deed}
@@ -74,6 +75,7 @@ module _ (d : ℕ) (t : Thread) (v : Story) (h h' : Half) (fits : Fits d t v) (w
                     each = each_end d v w t.course.endings.list (λ e is. record {
                       ending = subst (λ (s : State). (s.object (s.latest e.block.0)).phase ≡ ending d) (sym same) is.ending;
                       within = is.within;
+                      cleared = λ m l. subst (λ (s : State). (s.object (s.latest e.block.0)).member m ≡ empty (kind_of_member m)) (sym same) (is.cleared m l);
                     }) fits.endings.all.each;
                     once = fits.endings.all.once;
                   };

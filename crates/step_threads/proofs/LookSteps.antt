@@ -1,5 +1,5 @@
 -- What the steps of threads are that look at cells, and of those that took a fund of one.
-use Rattle.std.proofs.Common.{◌≡◌, ℕ, ◌<◌, ◌==◌, ◌&&◌, true, false, cond, List, [], length, sym, ap, subst, ◌∙◌}
+use Rattle.std.proofs.Common.{◌≡◌, ℕ, ◌<◌, ◌==◌, ◌&&◌, Bool, true, false, cond, List, [], length, sym, ap, subst, ◌∙◌}
 use Rattle.std.proofs.lemmas.Bool.{cond-false, cond-true}
 use Rattle.std.specs.Prelude.{Option, Some, None, option_map, is_some, slice_set}
 use Rattle.control_word.specs.declared.cell.CellWord.{CellWord}
@@ -23,7 +23,7 @@ use Rattle.step_threads.specs.declared.thread.Thread.{Thread}
 use Rattle.step_table.specs.Cells.{word_at}
 use Rattle.step_table.specs.Contents.{is_spent, seen}
 use Rattle.step_table.specs.Refills.{more_taken}
-use Rattle.step_threads.specs.Courses.{Walk, cell_at, hand, rest, settled, task_at, walk}
+use Rattle.step_threads.specs.Courses.{Walk, cell_at, hand, is_there, rest, settled, task_at, walk}
 use Rattle.step_threads.specs.Scenes.{came}
 use Rattle.step_threads.specs.Steps.{Step, acts, half_by, refills_on, saw, saw_on, sees, silent, step_at, stepped, story_after, story_by, takes, waits, walk_by, within}
 use Rattle.step_table.specs.Stories.{Story, after, state}
@@ -82,27 +82,35 @@ module _ (v : Story) (d : ℕ) (w : Walk) (k : ℕ) (ts : List Task) (a : Act) (
   takes_none same = cond-false (word_at v c == cell_bits x) (acts v d w k ts a (Some (OnCell (Take c x y))) (Refill Turning c (more_taken x) k)) (within w k None Rest) same
 
 -- the first step of a load
-module _ (d : ℕ) (t : Thread) (v : Story) (c : CellName) (x : CellWord) (is : x ≡ seen v (cell_at (state v) c)) (rests : t.half ≡ Rest)
-    (none : t.course.endings.list ≡ []) (lt : t.course.at < length t.course.tasks.items) (act : (task_at t.course).act ≡ Load c) where
+module _ (d : ℕ) (t : Thread) (v : Story) (c : CellName) (x : CellWord) (is : x ≡ seen v (cell_at (state v) t.course.holdings.slots.items c)) (rests : t.half ≡ Rest)
+    (none : t.course.endings.list ≡ []) (lt : t.course.at < length t.course.tasks.items) (act : (task_at t.course).act ≡ Load c)
+    (there : is_there t.course.holdings.slots.items c ≡ true) where
   looks_at : step_at v d t.half (walk t.course)
-      ≡ Some (sees v d (walk t.course) (task_at t.course).statement (rest t.course) (Load c) (cell_at (state v) c) None x)
+      ≡ Some (sees v d (walk t.course) (task_at t.course).statement (rest t.course) (Load c) (cell_at (state v) t.course.holdings.slots.items c) None x)
   looks_at =
+      let w = walk t.course in
+      let n = (task_at t.course).statement in
+      let ts = rest t.course in
+      let at = cell_at (state v) t.course.holdings.slots.items c in
       at_act d t v (Load c) rests none lt act
-      ∙ ap (λ (z : CellWord). Some (sees v d (walk t.course) (task_at t.course).statement (rest t.course) (Load c) (cell_at (state v) c) None z)) (sym is)
+      ∙ ap (λ (s : Step). Some s) (cond-true (is_there t.course.holdings.slots.items c) (sees v d w n ts (Load c) at None (seen v at)) (acts v d w n ts (Load c) None Rest) there)
+      ∙ ap (λ (z : CellWord). Some (sees v d w n ts (Load c) at None z)) (sym is)
 
   waiting : waits v t.half (walk t.course) ≡ is_spent x
-  waiting = waits_act t v (Load c) rests none lt act ∙ ap is_spent (sym is)
+  waiting =
+      waits_act t v (Load c) rests none lt act
+      ∙ ap (λ (b : Bool). b && is_spent (seen v (cell_at (state v) t.course.holdings.slots.items c))) there ∙ ap is_spent (sym is)
 
   -- a value without an object is loaded
   pub loads_bare : (r : Stepped) (t' : Thread) (v' : Story) → x.owned ≡ None → r ≡ Event (silent (task_at t.course).statement)
-      → v' ≡ after v d (OnCell (Look (cell_at (state v) c) x None))
-      → walk t'.course ≡ settled (slice_set t.course.holdings.slots.items (hand t.course.holdings.slots.items) (came (state v) c)) true t.course.endings.list (rest t.course)
+      → v' ≡ after v d (OnCell (Look (cell_at (state v) t.course.holdings.slots.items c) x None))
+      → walk t'.course ≡ settled (slice_set t.course.holdings.slots.items (hand t.course.holdings.slots.items) (came (state v) t.course.holdings.slots.items c)) true t.course.endings.list (rest t.course)
       → t'.half ≡ Rest → HasStepped d t v r t' v'
   loads_bare r t' v' bare answer story walked half =
       let w = walk t.course in
       let n = (task_at t.course).statement in
       let ts = rest t.course in
-      let at = cell_at (state v) c in
+      let at = cell_at (state v) t.course.holdings.slots.items c in
       stepped_as d t v (acts v d w n ts (Load c) (Some (OnCell (Look at x None))) Rest) r t' v' (waiting ∙ spent_bare x bare)
       (looks_at ∙ ap (λ (s : Step). Some s) (sees_bare v d w n ts (Load c) at None x bare)) answer story walked half
 
@@ -112,7 +120,7 @@ module _ (d : ℕ) (t : Thread) (v : Story) (c : CellName) (x : CellWord) (is : 
   loads_spent r t' v' spent answer story walked half =
       let n = (task_at t.course).statement in
       stepped_waiting d t v n r t' v' (waiting ∙ spent)
-      (looks_at ∙ ap (λ (s : Step). Some s) (sees_spent v d (walk t.course) n (rest t.course) (Load c) (cell_at (state v) c) None x spent)) rests answer story walked half
+      (looks_at ∙ ap (λ (s : Step). Some s) (sees_spent v d (walk t.course) n (rest t.course) (Load c) (cell_at (state v) t.course.holdings.slots.items c) None x spent)) rests answer story walked half
 
   -- another is loaded next
   pub loads_full : (r : Stepped) (t' : Thread) (v' : Story) → is_spent x ≡ false → is_some x.owned ≡ true
@@ -121,13 +129,13 @@ module _ (d : ℕ) (t : Thread) (v : Story) (c : CellName) (x : CellWord) (is : 
       let n = (task_at t.course).statement in
       let w = walk t.course in
       stepped_as d t v (within w n None (Saw x)) r t' v' (waiting ∙ left)
-      (looks_at ∙ ap (λ (s : Step). Some s) (sees_full v d w n (rest t.course) (Load c) (cell_at (state v) c) None x left full)) answer story walked half
+      (looks_at ∙ ap (λ (s : Step). Some s) (sees_full v d w n (rest t.course) (Load c) (cell_at (state v) t.course.holdings.slots.items c) None x left full)) answer story walked half
 
 -- the next step of a load that has seen its cell
 module _ (d : ℕ) (t : Thread) (v : Story) (c : CellName) (x : CellWord) (saws : t.half ≡ Saw x) (lt : t.course.at < length t.course.tasks.items)
     (act : (task_at t.course).act ≡ Load c) where
   seen_on : step_at v d t.half (walk t.course)
-      ≡ Some (takes v d (walk t.course) (task_at t.course).statement (rest t.course) (Load c) (cell_at (state v) c) None x)
+      ≡ Some (takes v d (walk t.course) (task_at t.course).statement (rest t.course) (Load c) (cell_at (state v) t.course.holdings.slots.items c) None x)
   seen_on =
       let w = walk t.course in
       ap (λ (h : Half). step_at v d h w) saws ∙ ap (λ (ts : List Task). saw v d w x ts) (todo_at t.course lt)
@@ -137,23 +145,23 @@ module _ (d : ℕ) (t : Thread) (v : Story) (c : CellName) (x : CellWord) (saws 
   still_on = let w = walk t.course in ap (λ (h : Half). waits v h w) saws
 
   -- a fund is taken
-  pub takes_fund : (r : Stepped) (t' : Thread) (v' : Story) → (word_at v (cell_at (state v) c) == cell_bits x) ≡ true
-      → r ≡ Event (silent (task_at t.course).statement) → v' ≡ after v d (OnCell (Take (cell_at (state v) c) x None))
-      → walk t'.course ≡ settled (slice_set t.course.holdings.slots.items (hand t.course.holdings.slots.items) (came (state v) c)) true t.course.endings.list (rest t.course)
-      → t'.half ≡ Refill Turning (cell_at (state v) c) (more_taken x) (task_at t.course).statement → HasStepped d t v r t' v'
+  pub takes_fund : (r : Stepped) (t' : Thread) (v' : Story) → (word_at v (cell_at (state v) t.course.holdings.slots.items c) == cell_bits x) ≡ true
+      → r ≡ Event (silent (task_at t.course).statement) → v' ≡ after v d (OnCell (Take (cell_at (state v) t.course.holdings.slots.items c) x None))
+      → walk t'.course ≡ settled (slice_set t.course.holdings.slots.items (hand t.course.holdings.slots.items) (came (state v) t.course.holdings.slots.items c)) true t.course.endings.list (rest t.course)
+      → t'.half ≡ Refill Turning (cell_at (state v) t.course.holdings.slots.items c) (more_taken x) (task_at t.course).statement → HasStepped d t v r t' v'
   takes_fund r t' v' same answer story walked half =
       let w = walk t.course in
       let n = (task_at t.course).statement in
       let ts = rest t.course in
-      let at = cell_at (state v) c in
+      let at = cell_at (state v) t.course.holdings.slots.items c in
       stepped_as d t v (acts v d w n ts (Load c) (Some (OnCell (Take at x None))) (Refill Turning at (more_taken x) n)) r t' v' still_on
       (seen_on ∙ ap (λ (s : Step). Some s) (takes_it v d w n ts (Load c) at None x same)) answer story walked half
 
   -- the cell shows something else: the load begins again
-  pub takes_nothing : (r : Stepped) (t' : Thread) (v' : Story) → (word_at v (cell_at (state v) c) == cell_bits x) ≡ false
+  pub takes_nothing : (r : Stepped) (t' : Thread) (v' : Story) → (word_at v (cell_at (state v) t.course.holdings.slots.items c) == cell_bits x) ≡ false
       → r ≡ Quiet (silent (task_at t.course).statement) → v' ≡ v → walk t'.course ≡ walk t.course → t'.half ≡ Rest → HasStepped d t v r t' v'
   takes_nothing r t' v' same answer story walked half =
       let w = walk t.course in
       let n = (task_at t.course).statement in
       stepped_as d t v (within w n None Rest) r t' v' still_on
-      (seen_on ∙ ap (λ (s : Step). Some s) (takes_none v d w n (rest t.course) (Load c) (cell_at (state v) c) None x same)) answer story walked half
+      (seen_on ∙ ap (λ (s : Step). Some s) (takes_none v d w n (rest t.course) (Load c) (cell_at (state v) t.course.holdings.slots.items c) None x same)) answer story walked half

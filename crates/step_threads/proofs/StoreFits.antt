@@ -1,6 +1,6 @@
 -- A thread that puts values into cells fits the table, and its steps are as they are said.
 use Rattle.std.proofs.Common.{◌≡◌, ℕ, ◌-◌, ◌<◌, ◌⊎◌, Bool, true, false, cond, not, ◌&&◌, [], length, refl, sym, ap, subst, ◌∙◌, ⊎_elim, arith}
-use Rattle.std.specs.Prelude.{Option, Some, None}
+use Rattle.std.specs.Prelude.{Option, Some, None, is_some}
 use Rattle.control_word.specs.declared.cell.CellWord.{CellWord}
 use Rattle.control_word.specs.declared.handle.Kind.{Kind}
 use Rattle.control_word.specs.declared.handle.Kind.TheVariants.{Owner, Weak}
@@ -24,7 +24,7 @@ use Rattle.step_threads.specs.declared.thread.Thread.{Thread}
 use Rattle.step_threads.specs.Actors.{HalfFits, Stocks, claimed, in_store}
 use Rattle.step_table.specs.CellDeeds.{owing}
 use Rattle.step_table.specs.Contents.{is_of}
-use Rattle.step_threads.specs.Courses.{Begins, CourseReady, Going, HasCell, HasGoneOn, cell_at, going_from, hand, idle, kind_at, done_on, other, task_at}
+use Rattle.step_threads.specs.Courses.{Begins, CourseReady, Going, HasCell, HasGoneOn, cell_at, going_from, hand, idle, is_there, kind_at, done_on, other, task_at}
 use Rattle.step_table.specs.Deeds.{share_as, on}
 use Rattle.step_table.specs.Holdings.{Slots, value}
 use Rattle.step_threads.specs.Programs.{IsIn}
@@ -53,22 +53,35 @@ pub cell_of_exchange : (d : ℕ) (t : Thread) (v : Story) (k : ℕ) (c : CellNam
     → (task_at t.course).act ≡ Exchange k c → IsIn v.extent.shape c
 cell_of_exchange d t v k c fits lt act = subst (λ (a : Act). HasCell v.extent.shape a) act (cell_here t.course v lt fits.cells)
 
--- a swap that comes is one: what is in hand may go into the cell
+-- a swap that comes is one: the cell is there, and what is in hand may go in
 pub swap_goes : (c : Course) (x : CellName) → c.at < length c.tasks.items
     → (c.at < length c.tasks.items → idle (task_at c).act c.holdings.slots.items c.taken ≡ false) → (task_at c).act ≡ Swap x
-    → is_of (kind_at x) (value c.holdings.slots.items (hand c.holdings.slots.items)) ≡ true
+    → (is_there c.holdings.slots.items x ≡ true) × (is_of (kind_at x) (value c.holdings.slots.items (hand c.holdings.slots.items)) ≡ true)
 swap_goes c x lt still act =
-    go c.taken (is_of (kind_at x) (value c.holdings.slots.items (hand c.holdings.slots.items)))
+    go c.taken (is_there c.holdings.slots.items x) (is_of (kind_at x) (value c.holdings.slots.items (hand c.holdings.slots.items)))
     (subst (λ (a : Act). idle a c.holdings.slots.items c.taken ≡ false) act (still lt))
   where
-    go : (a b : Bool) → not (a && b) ≡ false → b ≡ true
-    go true true e = refl
-    go true false e = cc
-    go false b e = cc
+    go : (a b c : Bool) → not (a && b && c) ≡ false → (b ≡ true) × (c ≡ true)
+    go true true true e = (refl, refl)
+    go true true false e = cc
+    go true false c e = cc
+    go false b c e = cc
 
 -- where it goes
-pub going_is : (slots : Slots) (c : CellName) (i : ℕ) → is_of (kind_at c) (value slots i) ≡ true → going_from slots c i ≡ Some (c, i)
-going_is slots c i is = ap (λ (b : Bool). cond {A = Option Going} b (Some (c, i)) None) is
+pub going_is : (slots : Slots) (c : CellName) (i : ℕ) → is_there slots c ≡ true → is_of (kind_at c) (value slots i) ≡ true → going_from slots c i ≡ Some (c, i)
+going_is slots c i there is =
+    ap (λ (b : Bool). cond {A = Option Going} (b && is_of (kind_at c) (value slots i)) (Some (c, i)) None) there
+    ∙ ap (λ (b : Bool). cond {A = Option Going} b (Some (c, i)) None) is
+
+-- what goes is there, and may go in
+pub going_there : (slots : Slots) (c : CellName) (i : ℕ) → is_some (going_from slots c i) ≡ true
+    → (is_there slots c ≡ true) × (is_of (kind_at c) (value slots i) ≡ true)
+going_there slots c i = go (is_there slots c) (is_of (kind_at c) (value slots i))
+  where
+    go : (a b : Bool) → is_some (cond {A = Option Going} (a && b) (Some (c, i)) None) ≡ true → (a ≡ true) × (b ≡ true)
+    go true true e = (refl, refl)
+    go true false e = cc
+    go false b e = cc
 
 pub drop_empty : (c : Course) → c.at < length c.tasks.items → CourseReady c → (task_at c).act ≡ Drop → c.taken ≡ false
 drop_empty c lt ready act =
@@ -99,13 +112,13 @@ half_back d slots a w k n x (Some b) e is = (x.place, is ∙ ap (λ (b : Option 
 -- the swap is made
 pub fits_swapped : (d : ℕ) (t : Thread) (v : Story) (c : CellName) (new x : CellWord) (n : ℕ) (h : Half) (c' : Course) → Kept v → Fits d t v
     → (t.half ≡ Rest) ⊎ (t.half ≡ Brought) → t.course.endings.list ≡ [] → IsIn v.extent.shape c
-    → HasGoneOn d t.course c' (after v d (OnCell (cell_deed.Swap (cell_at (state v) c) new x)))
+    → HasGoneOn d t.course c' (after v d (OnCell (cell_deed.Swap (cell_at (state v) t.course.holdings.slots.items c) new x)))
     → h ≡ gives_back (kind_at c) n x x.owned
-    → Fits d (record { course = c'; stock = t.stock; half = h }) (after v d (OnCell (cell_deed.Swap (cell_at (state v) c) new x)))
+    → Fits d (record { course = c'; stock = t.stock; half = h }) (after v d (OnCell (cell_deed.Swap (cell_at (state v) t.course.holdings.slots.items c) new x)))
 fits_swapped d t v c new x n h c' kept fits was none lt on e =
-    let at = cell_at (state v) c in
+    let at = cell_at (state v) t.course.holdings.slots.items c in
     let w = after v d (OnCell (cell_deed.Swap at new x)) in
-    let k = cell_kind v c lt in
+    let k = cell_kind v t.course.holdings.slots.items c lt in
     let s = fits.stocks in
     let owes : pending w d ≡ owing (state w) (kind_at c) x.owned x.place (256 - x.taken) 0 =
     owes_after v d (cell_deed.Swap at new x) kept fits.seat ∙ ap (λ (q : Kind). owing (state w) q x.owned x.place (256 - x.taken) 0) (kind_stays v w at refl ∙ k) in
@@ -151,7 +164,7 @@ fits_returned d t v k b f n kept fits e =
           record {
             all =
                 record {
-                  each = each_end d v w t.course.endings.list (λ y is. record { ending = is.ending; within = is.within }) fits.endings.all.each;
+                  each = each_end d v w t.course.endings.list (λ y is. record { ending = is.ending; within = is.within; cleared = is.cleared }) fits.endings.all.each;
                   once = fits.endings.all.once;
                 };
             roomy = fits.endings.roomy;

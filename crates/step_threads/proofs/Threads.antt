@@ -48,7 +48,7 @@ make_empty c form lt ready act =
 
 -- a lock that gives no owner takes an empty value, or nothing where it is refused
 pub lost_ready : (c : Course) (k : ℕ) (must : Bool) → c.at < length c.tasks.items → CourseReady c → (task_at c).act ≡ Lock k must
-    → IsReady c.holdings.slots.items (not must) (rest c)
+    → IsReady c.holdings.slots.items (not must) c.endings.list (rest c)
 lost_ready c k must lt ready act =
     let h = ready_head c lt ready in
     let n = other c.holdings.slots.items in
@@ -82,7 +82,7 @@ leave_empty c k lt ready act =
 
 -- a make that is refused takes nothing
 pub refused_ready : (c : Course) (form : Form) → c.at < length c.tasks.items → CourseReady c → (task_at c).act ≡ Make form
-    → IsReady c.holdings.slots.items c.taken (rest c)
+    → IsReady c.holdings.slots.items c.taken c.endings.list (rest c)
 refused_ready c form lt ready act =
     let h = ready_head c lt ready in
     let n = other c.holdings.slots.items in

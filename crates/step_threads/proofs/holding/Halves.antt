@@ -19,7 +19,7 @@ use Rattle.control_word.specs.State.{Has, Held, held}
 use Rattle.control_word.specs.Views.{used_up}
 use Rattle.step_threads.specs.declared.act.Act.{Act}
 use Rattle.step_threads.specs.declared.half.Half.{Half}
-use Rattle.step_threads.specs.declared.half.Half.TheVariants.{Rest, Making, Locking, Giving, Brought, Saw, Matched, Refill, Returning}
+use Rattle.step_threads.specs.declared.half.Half.TheVariants.{Rest, Making, Locking, Giving, Brought, Saw, Matched, Refill, Returning, Clearing}
 use Rattle.step_table.specs.declared.past.Deed.{Deed}
 use Rattle.step_table.specs.declared.slot.Slot.{Slot}
 use Rattle.step_table.specs.declared.slot.Slot.TheVariants.{Empty, Full}
@@ -101,3 +101,4 @@ module _ (d e : ℕ) (v : Story) (x : Deed) (n : e ≢ d) (kept : Kept v) (kept'
   half_others (Matched y) slots act fits = (brought_stays (new_of slots act) fits.0, fits.1)
   half_others (Refill stage c y k) slots act fits = refill_others d e v x n kept kept' stage c y (held_seat v d _ kept fits.has) fits
   half_others (Returning kind b funds k) slots act fits = (fits.0, funds_stay kind b fits.0 funds fits.1)
+  half_others Clearing slots act fits = same_pending v e d x n ∙ fits

@@ -11,14 +11,17 @@ use Rattle.step_table.specs.Stories.{state}
 use Rattle.step_threads.specs.Courses.{HasCell, IsReady, cell_at, comparing, rest}
 use Rattle.step_threads.specs.Programs.{IsIn}
 use Rattle.step_threads.proofs.CellNames.{cell_open}
-use Rattle.step_threads.proofs.Compares.{can_compare, swapped_ready}
+use Rattle.step_threads.proofs.Compares.{can_compare, may_compare, swapped_ready}
 use Rattle.step_threads.proofs.course.Course.compare_and_swap.Goals as goal
 
 pub compare_and_swap-swapped-requires-clause-open : goal.compare_and_swap-swapped-requires-clause-open
 compare_and_swap-swapped-requires-clause-open c =
     let v = c.args.table.now in
-    let h : IsIn v.extent.shape c.args.cell = subst (HasCell v.extent.shape) c.requires.act c.requires.cell in
-    subst (λ (x : Cell). IsOpenTo v c.args.desk x) (sym c.cell-cell.ensures) (cell_open v c.args.desk c.args.cell h)
+    let t = c.args.self.now in
+    let r = c.requires in
+    let h : IsIn v.extent.shape c.args.cell = subst (HasCell v.extent.shape) r.act r.cell in
+    let there = (may_compare t c.args.name c.args.cell c.args.weak r.within r.ready r.act r.still).0 in
+    subst (λ (x : Cell). IsOpenTo v c.args.desk x) (sym c.cell-cell.ensures) (cell_open v c.args.desk t.holdings.slots.items c.args.cell h r.holds there)
 
 pub compare_and_swap-swapped-requires-clause-compare : goal.compare_and_swap-swapped-requires-clause-compare
 compare_and_swap-swapped-requires-clause-compare c =
@@ -27,7 +30,7 @@ compare_and_swap-swapped-requires-clause-compare c =
     let slots = t.holdings.slots.items in
     let m = comparing slots c.args.name c.args.weak in
     subst (λ (x : Cell). CanCompare (kind_in (state v) x) slots c.comparing-comparing.result) (sym c.cell-cell.ensures)
-    (subst (λ (y : Comparing). CanCompare (kind_in (state v) (cell_at (state v) c.args.cell)) slots y) (sym c.comparing-comparing.ensures)
+    (subst (λ (y : Comparing). CanCompare (kind_in (state v) (cell_at (state v) slots c.args.cell)) slots y) (sym c.comparing-comparing.ensures)
     (can_compare t c.args.name c.args.cell c.args.weak c.requires.within c.requires.ready c.requires.act v c.requires.still c.requires.cell))
 
 pub take-requires-clause-ready : goal.take-requires-clause-ready
@@ -39,7 +42,7 @@ take-requires-clause-ready c =
     let e =
     c.compare_and_swap-swapped.ensures.slots ∙ cond-true c.compare_and_swap-swapped.result _ _ c.if-swapped.true
     ∙ ap (λ (y : Comparing). swapped y.new y.other slots x) c.comparing-comparing.ensures in
-    subst (λ (l : Slots). IsReady l false (rest t)) (sym e)
+    subst (λ (l : Slots). IsReady l false t.endings.list (rest t)) (sym e)
     (swapped_ready t c.args.name c.args.cell c.args.weak c.requires.within c.requires.ready c.requires.act x)
 
 pub returns-else-swapped-clause-stays : goal.returns-else-swapped-clause-stays

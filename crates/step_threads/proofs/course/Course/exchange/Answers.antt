@@ -14,12 +14,12 @@ pub exchange-found-requires-clause-open : goal.exchange-found-requires-clause-op
 exchange-found-requires-clause-open c =
     let v = c.args.table.now in
     let h : IsIn v.extent.shape c.args.cell = subst (HasCell v.extent.shape) c.requires.act c.requires.cell in
-    subst (λ (x : Cell). IsOpenTo v c.args.desk x) (sym c.cell-cell.ensures) (cell_open v c.args.desk c.args.cell h)
+    subst (λ (x : Cell). IsOpenTo v c.args.desk x) (sym c.cell-cell.ensures) (cell_open v c.args.desk c.args.self.now.holdings.slots.items c.args.cell h c.requires.holds c.requires.there)
 
 pub exchange-found-requires-clause-kind : goal.exchange-found-requires-clause-kind
 exchange-found-requires-clause-kind c =
     let v = c.args.table.now in
     let x = value c.args.self.now.holdings.slots.items c.from.result in
     let h : IsIn v.extent.shape c.args.cell = subst (HasCell v.extent.shape) c.requires.act c.requires.cell in
-    subst (λ (y : Cell). is_of (kind_in (state v) y) x ≡ true) (sym c.cell-cell.ensures) (goes_in v c.args.cell x h
+    subst (λ (y : Cell). is_of (kind_in (state v) y) x ≡ true) (sym c.cell-cell.ensures) (goes_in v c.args.self.now.holdings.slots.items c.args.cell x h
     (subst (λ (n : ℕ). is_of (kind_at c.args.cell) (value c.args.self.now.holdings.slots.items n) ≡ true) (sym c.from.ensures) c.requires.kind))

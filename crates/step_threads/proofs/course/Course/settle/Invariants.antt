@@ -9,7 +9,7 @@ invariant-loop-self l = record {
   same : settled l.self.holdings.slots.items l.self.taken l.self.endings.list (drop l.self.at l.self.tasks.items)
       ≡ settled l.initial.self.holdings.slots.items l.initial.self.taken l.initial.self.endings.list (drop l.initial.self.at l.initial.self.tasks.items);
   holds : (d : ℕ) (v : Story) → Holds d l.initial.self.holdings.slots.items v → Holds d l.self.holdings.slots.items v;
-  ready : IsReady l.self.holdings.slots.items l.self.taken (drop l.self.at l.self.tasks.items);
+  ready : IsReady l.self.holdings.slots.items l.self.taken l.self.endings.list (drop l.self.at l.self.tasks.items);
   within : l.self.at ≤ length l.self.tasks.items;
   onward : l.initial.self.at ≤ l.self.at;
   tasks : l.self.tasks ≡ l.initial.self.tasks;

@@ -18,7 +18,8 @@ returns-clause-stepped c =
     let slots = t.course.holdings.slots.items in
     let n = (task_at t.course).statement in
     let x = c.in-Some.pointer in
-    let goes = going_is slots c.args.cell (hand slots) (swap_goes t.course c.args.cell c.requires.within c.requires.fits.still c.requires.act) in
+    let may = swap_goes t.course c.args.cell c.requires.within c.requires.fits.still c.requires.act in
+    let goes = going_is slots c.args.cell (hand slots) may.0 may.1 in
     let at = sym (c.get.ensures ∙ ap (slot slots) c.hand-hand.ensures) ∙ c.in-Some.is in
     stepped_as d t v (brings (walk t.course) n x) _ _ _
     (waits_act t v (Swap c.args.cell) c.requires.rest c.requires.none c.requires.within c.requires.act)

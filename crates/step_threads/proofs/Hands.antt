@@ -1,0 +1,108 @@
+-- What is in hand has no part in the next task, where nothing was taken.
+use Rattle.std.proofs.Common.{◌≡◌, ℕ, ◌+◌, ◌-◌, ◌<◌, ◌≤◌, ◌⊎◌, Bool, false, not, List, [], ◌∷◌, length, set, drop, refl, sym, ap, subst, ◌∙◌, arith}
+use Rattle.std.proofs.Common.{⊎_elim, inl, inr, get_or-set_same, get_or-set_other, length-set}
+use Rattle.std.proofs.lemmas.Bool.{cases_lt}
+use Rattle.std.proofs.lemmas.List.{drop_all}
+use Rattle.step_threads.specs.declared.act.Act.{Act}
+use Rattle.step_threads.specs.declared.act.Act.TheVariants.{Make, Share, Downgrade, Lock, Put, Leave, Clear, Count, Expired, Read, FromThis, Alias, Move, Ask, Offer, Swap, Exchange, Load, Compare, Drop}
+use Rattle.step_threads.specs.declared.act.Task.{Task}
+use Rattle.step_threads.specs.declared.course.Course.{Course}
+use Rattle.step_threads.specs.declared.ending.Ending.{Ending}
+use Rattle.step_table.specs.declared.slot.Slot.{Slot}
+use Rattle.step_table.specs.Holdings.{Slots, is_full, plain, pointer_of, slot, value}
+use Rattle.step_threads.specs.Courses.{Begins, CourseReady, CourseStill, Drops, IsCarried, IsReady, Ready, Walk, hand, idle, other, settled, task_at, todo}
+use Rattle.step_threads.proofs.Courses.{ready_head, settled_still, todo_at}
+
+-- a course that is at an act with these slots, or at its end, stays there
+settled_at : (c : Course) (slots : Slots) (es : List Ending) → (c.at < length c.tasks.items → idle (task_at c).act slots c.taken ≡ false)
+    → settled slots c.taken es (todo c) ≡ record { slots = slots; taken = c.taken; endings = es; todo = todo c }
+settled_at c slots es still =
+    ⊎_elim (λ (lt : c.at < length c.tasks.items). subst Same (sym (todo_at c lt)) (settled_still slots c.taken es (task_at c) (drop (c.at + 1) c.tasks.items) (still lt)))
+    (λ (le : length c.tasks.items ≤ c.at). subst Same (sym (drop_all c.at c.tasks.items le)) refl) (cases_lt c.at (length c.tasks.items))
+  where
+    Same : List Task → Type 0
+    Same ts = settled slots c.taken es ts ≡ record { slots = slots; taken = c.taken; endings = es; todo = ts }
+
+pub settled_same : (c : Course) (es : List Ending) → c.at ≤ length c.tasks.items → CourseStill c
+    → settled c.holdings.slots.items c.taken es (todo c)
+    ≡ record { slots = c.holdings.slots.items; taken = c.taken; endings = es; todo = todo c }
+settled_same c es within still = settled_at c c.holdings.slots.items es still
+
+module _ (slots : Slots) (x : Slot) where
+  pub held_length : length (set slots (hand slots) x) ≡ length slots
+  held_length = length-set slots (hand slots) x
+
+  pub held_hand : 1 < length slots → value (set slots (hand slots) x) (hand (set slots (hand slots) x)) ≡ x
+  held_hand lt =
+      ap (λ (n : ℕ). value (set slots (hand slots) x) (n - 1)) held_length ∙ get_or-set_same slots (hand slots) x plain (omega (arith, lt))
+
+  pub held_below : (k : ℕ) → k < hand slots → value (set slots (hand slots) x) k ≡ value slots k
+  held_below k lt = get_or-set_other slots (hand slots) k x plain (omega (arith, lt))
+
+  pub held_owed : 1 < length slots → value (set slots (hand slots) x) (other (set slots (hand slots) x)) ≡ value slots (other slots)
+  held_owed lt = ap (λ (n : ℕ). value (set slots (hand slots) x) (n - 2)) held_length ∙ held_below (other slots) (omega (arith, lt))
+
+  empty_same : (i j : ℕ) → value (set slots (hand slots) x) i ≡ value slots j
+      → not (is_full (slot (set slots (hand slots) x) i)) ≡ not (is_full (slot slots j))
+  empty_same i j e = ap (λ (y : Slot). not (is_full (pointer_of y))) e
+
+  -- the next task is an act or none, whatever is in hand
+  pub idle_hand : (a : Act) → 1 < length slots → Begins (other slots) false a → idle a (set slots (hand slots) x) false ≡ idle a slots false
+  idle_hand (Make form) lt b = refl
+  idle_hand (Share k) lt b = refl
+  idle_hand (Put k) lt b = refl
+  idle_hand (Leave k) lt b = refl
+  idle_hand (Clear k) lt b = empty_same k k (held_below k (let l = b.0 in omega (arith, lt, l)))
+  idle_hand (Count k) lt b = refl
+  idle_hand (Downgrade k) lt b = refl
+  idle_hand (Lock k must) lt b = refl
+  idle_hand (Expired k) lt b = refl
+  idle_hand (Read k) lt b = refl
+  idle_hand (FromThis k kind) lt b = refl
+  idle_hand (Alias k j field) lt b = refl
+  idle_hand (Move k) lt b = refl
+  idle_hand (Ask q) lt b = refl
+  idle_hand (Offer k c) lt b = refl
+  idle_hand (Swap c) lt b = refl
+  idle_hand (Exchange k c) lt b = refl
+  idle_hand (Load c) lt b = refl
+  idle_hand (Compare k c weak) lt b = refl
+  idle_hand Drop lt b = empty_same (other (set slots (hand slots) x)) (other slots) (held_owed lt)
+
+  -- what a thread relies on, with this in hand
+  pub hand_ready : (taken : Bool) (es es' : List Ending) (ts : List Task) → IsReady slots taken es ts
+      → (taken ≡ false → (x ≡ plain) ⊎ IsCarried (set slots (hand slots) x) es') → IsReady (set slots (hand slots) x) taken es' ts
+  hand_ready taken es es' ts ready free =
+      let some = ready.some in
+      let e = held_length in
+      record {
+        some = omega (arith, e, some);
+        free = λ t. ⊎_elim (λ (p : x ≡ plain). inl (held_hand some ∙ p)) inr (free t);
+        owes = ⊎_elim (λ (p : value slots (other slots) ≡ plain). inl (held_owed some ∙ p)) inr ready.owes;
+        ready = subst (λ (n : ℕ). Ready (n - 2) taken ts) (sym e) ready.ready;
+      }
+
+-- it is the same act, where nothing was taken
+act_still : (c : Course) (x : Slot) → CourseReady c → CourseStill c → c.taken ≡ false → c.at < length c.tasks.items
+    → idle (task_at c).act (set c.holdings.slots.items (hand c.holdings.slots.items) x) c.taken ≡ false
+act_still c x ready still e lt =
+    let slots = c.holdings.slots.items in
+    let a = (task_at c).act in
+    let b : Begins (other slots) false a = subst (λ (t : Bool). Begins (other slots) t a) e (ready_head c lt ready).0 in
+    ap (idle a (set slots (hand slots) x)) e ∙ idle_hand slots x a ready.some b ∙ ap (idle a slots) (sym e) ∙ still lt
+
+pub settled_hand : (c : Course) (x : Slot) (es : List Ending) → c.at ≤ length c.tasks.items → CourseReady c → CourseStill c → c.taken ≡ false
+    → settled (set c.holdings.slots.items (hand c.holdings.slots.items) x) c.taken es (todo c)
+    ≡ record { slots = set c.holdings.slots.items (hand c.holdings.slots.items) x; taken = c.taken; endings = es; todo = todo c }
+settled_hand c x es within ready still e = settled_at c (set c.holdings.slots.items (hand c.holdings.slots.items) x) es (act_still c x ready still e)
+
+pub still_hand : (c c' : Course) (x : Slot) → CourseReady c → CourseStill c → c.taken ≡ false
+    → c'.holdings.slots.items ≡ set c.holdings.slots.items (hand c.holdings.slots.items) x → c'.taken ≡ c.taken → c'.at ≡ c.at
+    → c'.tasks ≡ c.tasks → CourseStill c'
+still_hand c c' x ready still e slots taken at tasks lt =
+    let same : ◌≡◌ {A = Task} (task_at c') (task_at c) = cc in
+    let n : ◌≡◌ {A = ℕ} (length c'.tasks.items) (length c.tasks.items) = cc in
+    let l : c.at < length c.tasks.items = omega (arith, lt, at, n) in
+    ap (λ (t : Task). idle t.act c'.holdings.slots.items c'.taken) same
+    ∙ ap (λ (y : Slots). idle (task_at c).act y c'.taken) slots
+    ∙ ap (idle (task_at c).act (set c.holdings.slots.items (hand c.holdings.slots.items) x)) taken ∙ act_still c x ready still e l

@@ -1,0 +1,28 @@
+-- The names of the cells of acts are slots.
+use Rattle.std.proofs.Common.{◌≡◌, ◌<◌, ℕ, Bool, length, subst}
+use Rattle.step_threads.specs.declared.act.Act.{Act}
+use Rattle.step_threads.specs.declared.act.Act.TheVariants.{Compare, Exchange, Load, Offer, Swap}
+use Rattle.step_threads.specs.declared.call.CellName.{CellName}
+use Rattle.step_threads.specs.declared.course.Course.{Course}
+use Rattle.step_threads.specs.Courses.{Begins, CourseReady, IsNamed, other, task_at}
+use Rattle.step_threads.proofs.CellNames.{cell_named}
+use Rattle.step_threads.proofs.Courses.{ready_head}
+
+module _ (c : Course) (x : CellName) (lt : c.at < length c.tasks.items) (ready : CourseReady c) where
+  begins : (a : Act) → (task_at c).act ≡ a → Begins (other c.holdings.slots.items) c.taken a
+  begins a act = subst (Begins (other c.holdings.slots.items) c.taken) act (ready_head c lt ready).0
+
+  pub named_load : (task_at c).act ≡ Load x → IsNamed (length c.holdings.slots.items) x
+  named_load act = cell_named c.holdings.slots.items x (begins (Load x) act).0
+
+  pub named_swap : (task_at c).act ≡ Swap x → IsNamed (length c.holdings.slots.items) x
+  named_swap act = cell_named c.holdings.slots.items x (begins (Swap x) act)
+
+  pub named_offer : (k : ℕ) → (task_at c).act ≡ Offer k x → IsNamed (length c.holdings.slots.items) x
+  named_offer k act = cell_named c.holdings.slots.items x (begins (Offer k x) act).1
+
+  pub named_exchange : (k : ℕ) → (task_at c).act ≡ Exchange k x → IsNamed (length c.holdings.slots.items) x
+  named_exchange k act = cell_named c.holdings.slots.items x (begins (Exchange k x) act).1
+
+  pub named_compare : (k : ℕ) (weak : Bool) → (task_at c).act ≡ Compare k x weak → IsNamed (length c.holdings.slots.items) x
+  named_compare k weak act = cell_named c.holdings.slots.items x (begins (Compare k x weak) act).1
