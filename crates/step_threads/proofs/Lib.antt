@@ -13,6 +13,7 @@ pub mod LeaveSteps
 pub mod Giving
 pub mod Steps
 pub mod StoreFits
+pub mod Emptying
 pub mod StoreSteps
 pub mod Refusals
 pub mod Compares

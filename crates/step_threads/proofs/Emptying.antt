@@ -1,0 +1,152 @@
+-- What a member of an ending object holds comes out.
+use Rattle.std.proofs.Common.{◌≡◌, ℕ, ◌+◌, ◌<◌, ◌≤◌, Bool, true, false, cond, List, [], ◌∷◌, length, set, refl, sym, ap, subst, ◌∙◌, arith, inr}
+use Rattle.std.proofs.lemmas.Option.{same_Some}
+use Rattle.std.specs.Prelude.{Option, Some, None, is_some}
+use Rattle.control_word.specs.declared.cell.CellWord.{CellWord}
+use Rattle.control_word.specs.declared.handle.Handle.{Handle}
+use Rattle.control_word.specs.declared.place.Block.{Block}
+use Rattle.control_word.specs.declared.view.Pending.TheVariants.{Idle}
+use Rattle.control_word.specs.State.{State, kind_of_member}
+use Rattle.control_word.specs.Words.{block_of, blocks_of}
+use Rattle.step_threads.specs.declared.course.Course.{Course}
+use Rattle.step_threads.specs.declared.ending.Ending.{Ending}
+use Rattle.step_threads.specs.declared.half.Half.{Half}
+use Rattle.step_threads.specs.declared.half.Half.TheVariants.{Clearing}
+use Rattle.step_table.specs.declared.cell_deed.Cell.TheVariants.{Member}
+use Rattle.step_table.specs.declared.cell_deed.CellDeed.TheVariants.{TakeOut}
+use Rattle.step_table.specs.declared.holdings.Holdings.{Holdings}
+use Rattle.step_table.specs.declared.holdings.Pointer.{Pointer}
+use Rattle.step_table.specs.declared.past.Deed.TheVariants.{OnCell}
+use Rattle.step_table.specs.declared.slot.Slot.{Slot}
+use Rattle.step_threads.specs.declared.said.Stepped.{Stepped}
+use Rattle.step_threads.specs.declared.said.Stepped.TheVariants.{Event}
+use Rattle.step_threads.specs.declared.thread.Thread.{Thread}
+use Rattle.step_table.specs.CellDeeds.{handle_as}
+use Rattle.step_table.specs.Contents.{held_in, seen, slot_as, slot_of}
+use Rattle.step_table.specs.Holdings.{Holds, Slots, is_full, pointer_of, slot}
+use Rattle.step_table.specs.Stories.{Kept, Story, after, pending, state}
+use Rattle.step_threads.specs.Actors.{HalfFits, Stocks}
+use Rattle.step_threads.specs.Courses.{CourseReady, CourseStill, IsCarried, IsReady, hand, idle, task_at, todo, walk}
+use Rattle.step_threads.specs.Endings.{EndsAll, IsEnding, Stack, first_of, staged, staged_first}
+use Rattle.step_threads.specs.Steps.{empties, gives_back, silent}
+use Rattle.step_threads.specs.Threads.{Fits, HasStepped, IsClearing, IsNext}
+use Rattle.step_threads.proofs.Carrying.{none_taken}
+use Rattle.step_threads.proofs.EndSteps.{cleared_ends, ready_bare}
+use Rattle.step_threads.proofs.Hands.{hand_ready, held_hand, still_hand}
+use Rattle.step_threads.proofs.Steps.{at_clearing, stepped_as, waits_clearing}
+use Rattle.step_threads.proofs.StoreFits.{claims_none, half_back, next_back}
+use Rattle.step_table.proofs.contained.Refilling.{owes_after}
+
+pub none_full : (o : Option Pointer) → is_full o ≡ false → o ≡ None
+none_full None e = refl
+none_full (Some x) e = cc
+
+-- an object ends, where one of its members is taken out
+pub clearing_first : (slots : Slots) (es : List Ending) → IsClearing slots es → first_of es ≡ None → ⊥
+clearing_first slots [] clear e = clear
+clearing_first slots (x ∷ xs) clear e = cc
+
+pub clearing_here : (slots : Slots) (es : List Ending) (e : Ending) → IsClearing slots es → first_of es ≡ Some e
+    → (e.stage < 3) × (is_full (slot slots (hand slots)) ≡ false)
+clearing_here slots [] e clear is = absurd clear
+clearing_here slots (x ∷ xs) e clear is = subst (λ (y : Ending). (y.stage < 3) × (is_full (slot slots (hand slots)) ≡ false)) (same_Some x e is) clear
+
+pub is_clearing : (d : ℕ) (t : Thread) (v : Story) → Fits d t v → t.half ≡ Clearing → IsClearing t.course.holdings.slots.items t.course.endings.list
+is_clearing d t v fits half = subst (λ (h : Half). IsNext h t.course) half fits.next
+
+pub idle_clearing : (d : ℕ) (t : Thread) (v : Story) → Fits d t v → t.half ≡ Clearing → pending v d ≡ Idle
+idle_clearing d t v fits half = subst (λ (h : Half). HalfFits d h t.course.holdings.slots.items (task_at t.course).act v) half fits.half
+
+-- what has an object fills a slot
+full_as : (s : State) (block : ℕ → ℕ) (h : Handle) (o : Option ℕ) → is_some (block_of block o) ≡ true → is_full (pointer_of (slot_as s h o)) ≡ true
+full_as s block h None e = cc
+full_as s block h (Some o) e = refl
+
+-- where it has an object it is carried, and else nothing is in hand as before
+module _ (c : Course) (h : Holdings) (y : Slot) (e : Ending) (es l : List Ending) (ready : CourseReady c)
+    (bare : is_full (slot c.holdings.slots.items (hand c.holdings.slots.items)) ≡ false) (is : l ≡ e ∷ es) where
+  emptied_ready : (o : Option Block) → (is_some o ≡ true → is_full (pointer_of y) ≡ true)
+      → h.slots.items ≡ cond (is_some o) (set c.holdings.slots.items (hand c.holdings.slots.items) y) c.holdings.slots.items
+      → IsReady h.slots.items c.taken l (todo c)
+  emptied_ready None full slots = subst (λ (z : Slots). IsReady z c.taken l (todo c)) (sym slots) (ready_bare c l ready bare)
+  emptied_ready (Some b) full slots =
+      let new = set c.holdings.slots.items (hand c.holdings.slots.items) y in
+      let carried : is_full (slot new (hand new)) ≡ true =
+      ap (λ (z : Slot). is_full (pointer_of z)) (held_hand c.holdings.slots.items y ready.some) ∙ full refl in
+      subst (λ (z : Slots). IsReady z c.taken l (todo c)) (sym slots)
+      (hand_ready c.holdings.slots.items y c.taken c.endings.list l (todo c) ready
+      (λ q. inr (subst (λ (r : List Ending). IsCarried new r) (sym is) carried)))
+
+  emptied_still : (r : Stack) (o : Option Block) → CourseStill c → c.taken ≡ false
+      → h.slots.items ≡ cond (is_some o) (set c.holdings.slots.items (hand c.holdings.slots.items) y) c.holdings.slots.items
+      → CourseStill (record c { holdings = h; endings = r })
+  emptied_still r None still none slots = λ lt. ap (λ (z : Slots). idle (task_at c).act z c.taken) slots ∙ still lt
+  emptied_still r (Some b) still none slots = still_hand c (record c { holdings = h; endings = r }) y ready still none slots refl refl refl
+
+pub fits_emptied : (d : ℕ) (t : Thread) (v : Story) (e : Ending) (es : List Ending) (h : Holdings) (r : Stack) (q : Half) (n : ℕ) (x : CellWord) → Kept v
+    → Fits d t v → t.half ≡ Clearing → t.course.endings.list ≡ e ∷ es → IsEnding d e v → x ≡ seen v (Member e.block e.stage)
+    → h.slots.items
+    ≡ cond (is_some x.owned)
+    (set t.course.holdings.slots.items (hand t.course.holdings.slots.items) (slot_of (state v) (held_in (state v) (Member e.block e.stage))))
+    t.course.holdings.slots.items
+    → Holds d h.slots.items (after v d (OnCell (TakeOut e.block e.stage x))) → r.list ≡ staged_first t.course.endings.list
+    → t.course.endings.room ≤ r.room → q ≡ gives_back (kind_of_member e.stage) n x x.owned
+    → Fits d (record { course = record t.course { holdings = h; endings = r }; stock = t.stock; half = q }) (after v d (OnCell (TakeOut e.block e.stage x)))
+fits_emptied d t v e es h r q n x kept fits was list is found slots holds new room back =
+    let w = after v d (OnCell (TakeOut e.block e.stage x)) in
+    let c = t.course in
+    let k = kind_of_member e.stage in
+    let y = slot_of (state v) (held_in (state v) (Member e.block e.stage)) in
+    let handle = held_in (state v) (Member e.block e.stage) in
+    let clear = subst (λ (l : List Ending). IsClearing c.holdings.slots.items l) list (is_clearing d t v fits was) in
+    let staged_list : r.list ≡ staged e ∷ es = new ∙ ap staged_first list in
+    let none = none_taken d c v e es fits.endings list in
+    let full : is_some x.owned ≡ true → is_full (pointer_of y) ≡ true =
+    (λ some. full_as (state v) (blocks_of (state v)) handle handle.object (ap (λ (z : CellWord). is_some z.owned) (sym found) ∙ some)) in
+    let s : Stocks d t.stock.blocks t.stock.room Clearing v = subst (λ (z : Half). Stocks d t.stock.blocks t.stock.room z v) was fits.stocks in
+    subst (λ (z : Half). Fits d (record { course = record c { holdings = h; endings = r }; stock = t.stock; half = z }) w) (sym back)
+    (record {
+      seat = fits.seat;
+      holds = holds;
+      within = fits.within;
+      ready = emptied_ready c h y (staged e) es r.list fits.ready clear.1 staged_list x.owned full slots;
+      still = emptied_still c h y (staged e) es r.list fits.ready clear.1 staged_list r x.owned fits.still none slots;
+      half = half_back d h.slots.items (task_at c).act w k n x x.owned refl (owes_after v d (TakeOut e.block e.stage x) kept fits.seat);
+      next = next_back k n x x.owned (record c { holdings = h; endings = r });
+      stocks =
+          record {
+            stocked = λ b. let a = s.stocked b in let behind = claims_none k n x x.owned b in omega (arith, a, behind);
+            roomy = s.roomy;
+          };
+      endings =
+          record {
+            all = subst (λ (l : List Ending). EndsAll d l w) (sym staged_list)
+                (cleared_ends d v e es (handle_as (state v) k x) w.words w.views (subst (λ (l : List Ending). EndsAll d l v) list fits.endings.all) is clear.0);
+            roomy = (let q = fits.endings.roomy in omega (arith, q, room));
+            empty = inr none;
+          };
+      cells = fits.cells;
+    })
+
+-- what the step was
+pub stepped_emptied : (d : ℕ) (t : Thread) (v w : Story) (e : Ending) (es : List Ending) (h : Holdings) (r : Stack) (q : Half) (x : CellWord)
+    → t.half ≡ Clearing → t.course.endings.list ≡ e ∷ es → x ≡ seen v (Member e.block e.stage)
+    → h.slots.items
+    ≡ cond (is_some x.owned)
+    (set t.course.holdings.slots.items (hand t.course.holdings.slots.items) (slot_of (state v) (held_in (state v) (Member e.block e.stage))))
+    t.course.holdings.slots.items
+    → w ≡ after v d (OnCell (TakeOut e.block e.stage x)) → r.list ≡ staged_first t.course.endings.list
+    → q ≡ gives_back (kind_of_member e.stage) e.statement x x.owned
+    → HasStepped d t v (Event (silent e.statement)) (record { course = record t.course { holdings = h; endings = r }; stock = t.stock; half = q }) w
+stepped_emptied d t v w e es h r q x was list found slots story new back =
+    let c = t.course in
+    let old = c.holdings.slots.items in
+    let full = set old (hand old) (slot_of (state v) (held_in (state v) (Member e.block e.stage))) in
+    stepped_as d t v (empties v (walk c) e es) (Event (silent e.statement))
+    (record { course = record c { holdings = h; endings = r }; stock = t.stock; half = q }) w (waits_clearing d t v e es list was)
+    (at_clearing d t v e es list was) refl (story ∙ ap (λ (z : CellWord). after v d (OnCell (TakeOut e.block e.stage z))) found)
+    (ap (λ (z : Slots). record { slots = z; taken = c.taken; endings = r.list; todo = todo c })
+    (slots ∙ ap (λ (z : CellWord). cond (is_some z.owned) full old) found)
+    ∙ ap (λ (l : List Ending). record { slots = cond (is_some (seen v (Member e.block e.stage)).owned) full old; taken = c.taken; endings = l; todo = todo c })
+    (new ∙ ap staged_first list))
+    (back ∙ ap (λ (z : CellWord). gives_back (kind_of_member e.stage) e.statement z z.owned) found)

@@ -1,0 +1,85 @@
+use Rattle.std.proofs.Common.{◌≡◌, ◌∙◌, ℕ, Some, arith, drop, set, cond, sym, ap, subst}
+use Rattle.std.specs.Prelude.{is_some}
+use Rattle.control_word.specs.declared.handle.Kind.{Kind}
+use Rattle.step_table.specs.declared.cell_deed.Cell.TheVariants.{Member}
+use Rattle.step_table.specs.Contents.{held_in, slot_of}
+use Rattle.step_table.specs.Holdings.{Holds, slot}
+use Rattle.step_table.specs.Stories.{Story, state}
+use Rattle.step_threads.specs.Steps.{gives_back}
+use Rattle.step_threads.specs.Threads.{Fits, HasStepped}
+use Rattle.step_threads.proofs.Emptying.{clearing_here, fits_emptied, idle_clearing, is_clearing, none_full, stepped_emptied}
+use Rattle.step_threads.proofs.holding.Ends.{ending_here, first_is}
+use Rattle.step_threads.proofs.thread.Thread.empty_on.Goals as goal
+
+pub take_out-found-requires-clause-idle : goal.take_out-found-requires-clause-idle
+take_out-found-requires-clause-idle c = idle_clearing c.args.desk c.args.self.now c.args.table.now c.requires.fits c.requires.half
+
+pub take_out-found-requires-clause-ending : goal.take_out-found-requires-clause-ending
+take_out-found-requires-clause-ending c =
+    (ending_here c.args.desk c.args.table.now c.args.self.now.course.endings.list c.in-Some.ending c.requires.fits.endings.all
+    (sym c.first.ensures ∙ c.in-Some.is)).ending
+
+pub take_out-found-requires-clause-member : goal.take_out-found-requires-clause-member
+take_out-found-requires-clause-member c =
+    let t = c.args.self.now in
+    (clearing_here t.course.holdings.slots.items t.course.endings.list c.in-Some.ending
+    (is_clearing c.args.desk t c.args.table.now c.requires.fits c.requires.half) (sym c.first.ensures ∙ c.in-Some.is)).0
+
+pub take_out-found-requires-clause-inside : goal.take_out-found-requires-clause-inside
+take_out-found-requires-clause-inside c =
+    let some = c.requires.fits.ready.some in let hand = c.hand-hand.ensures in omega (arith, some, hand)
+
+pub take_out-found-requires-clause-empty : goal.take_out-found-requires-clause-empty
+take_out-found-requires-clause-empty c =
+    let t = c.args.self.now in
+    let slots = t.course.holdings.slots.items in
+    ap (slot slots) c.hand-hand.ensures
+    ∙ none_full _ (clearing_here slots t.course.endings.list c.in-Some.ending
+    (is_clearing c.args.desk t c.args.table.now c.requires.fits c.requires.half) (sym c.first.ensures ∙ c.in-Some.is)).1
+
+pub advance-requires-clause-first : goal.advance-requires-clause-first
+advance-requires-clause-first c = sym c.first.ensures ∙ c.in-Some.is
+
+pub advance-requires-clause-inside : goal.advance-requires-clause-inside
+advance-requires-clause-inside c =
+    let t = c.args.self.now in
+    (clearing_here t.course.holdings.slots.items t.course.endings.list c.in-Some.ending
+    (is_clearing c.args.desk t c.args.table.now c.requires.fits c.requires.half) (sym c.first.ensures ∙ c.in-Some.is)).0
+
+pub returns-clause-fits : goal.returns-clause-fits
+returns-clause-fits c =
+    let t = c.args.self.now in
+    let v = c.args.table.now in
+    let d = c.args.desk in
+    let e = c.in-Some.ending in
+    let slots = t.course.holdings.slots.items in
+    let first = sym c.first.ensures ∙ c.in-Some.is in
+    let x = c.take_out-found.result in
+    let h = c.take_out-found.new.self in
+    subst (λ (u : Story). Fits d (record { course = record t.course { holdings = h; endings = c.advance.new.self }; stock = t.stock; half = c.returning-self.result }) u)
+    (sym c.take_out-found.ensures.table)
+    (fits_emptied d t v e (drop 1 t.course.endings.list) h c.advance.new.self c.returning-self.result e.statement x c.known.ensures c.requires.fits c.requires.half
+    (first_is t.course.endings.list e first) (ending_here d v t.course.endings.list e c.requires.fits.endings.all first)
+    c.take_out-found.ensures.found
+    (c.take_out-found.ensures.slots
+    ∙ ap (λ (i : ℕ). cond (is_some x.owned) (set slots i (slot_of (state v) (held_in (state v) (Member e.block e.stage)))) slots) c.hand-hand.ensures)
+    (subst (λ (u : Story). Holds d h.slots.items u) c.take_out-found.ensures.table c.take_out-found.ensures.holds)
+    c.advance.ensures.list c.advance.ensures.room
+    (c.returning-self.ensures ∙ ap (λ (k : Kind). gives_back k e.statement x x.owned) c.kind_in-kind.ensures))
+
+pub returns-clause-stepped : goal.returns-clause-stepped
+returns-clause-stepped c =
+    let t = c.args.self.now in
+    let v = c.args.table.now in
+    let d = c.args.desk in
+    let e = c.in-Some.ending in
+    let slots = t.course.holdings.slots.items in
+    let first = sym c.first.ensures ∙ c.in-Some.is in
+    let x = c.take_out-found.result in
+    let h = c.take_out-found.new.self in
+    stepped_emptied d t v c.take_out-found.new.table e (drop 1 t.course.endings.list) h c.advance.new.self c.returning-self.result x c.requires.half
+    (first_is t.course.endings.list e first) c.take_out-found.ensures.found
+    (c.take_out-found.ensures.slots
+    ∙ ap (λ (i : ℕ). cond (is_some x.owned) (set slots i (slot_of (state v) (held_in (state v) (Member e.block e.stage)))) slots) c.hand-hand.ensures)
+    c.take_out-found.ensures.table c.advance.ensures.list
+    (c.returning-self.ensures ∙ ap (λ (k : Kind). gives_back k e.statement x x.owned) c.kind_in-kind.ensures)
