@@ -1,25 +1,36 @@
 -- The steps of an object's end keep a thread fitting the table.
-use Rattle.std.proofs.Common.{◌≡◌, ℕ, ◌<◌, ◌≤◌, ◌==◌, Bool, true, false, cond, List, [], ◌∷◌, refl, sym, ap}
-use Rattle.std.proofs.Common.{subst, ◌∙◌}
-use Rattle.std.proofs.Common.{⊎_elim, inr, arith}
-use Rattle.std.proofs.lemmas.List.Sorted.{sum_by_pushed}
+use Rattle.std.proofs.Common.{◌≡◌, ◌≢◌, ℕ, ◌+◌, ◌<◌, ◌≤◌, ◌==◌, ◌⊎◌, Bool, true, false, cond, List, [], ◌∷◌, refl, sym, ap, subst, ◌∙◌}
+use Rattle.std.proofs.Common.{⊎_elim, inl, inr, arith, eq-eqb, ne_eqb}
+use Rattle.std.proofs.lemmas.Bool.{cases_eq, cond-true, cond-false, false≢true}
 use Rattle.std.proofs.lemmas.List.Elements.{All-tail, All-cons}
+use Rattle.std.proofs.lemmas.List.Sorted.{sum_by_pushed}
 use Rattle.std.specs.List.Sorted.{IsPermutation}
+use Rattle.std.specs.Prelude.{Some, None}
 use Rattle.control_word.proofs.lists.Tallies.{put_cases}
+use Rattle.control_word.specs.declared.event.Event.TheVariants.{ClearMember}
+use Rattle.control_word.specs.declared.handle.Handle.{Handle}
 use Rattle.control_word.specs.declared.place.Block.{Block}
 use Rattle.control_word.specs.declared.view.Pending.TheVariants.{Idle}
-use Rattle.control_word.specs.State.{Object, ending}
+use Rattle.control_word.specs.declared.view.View.{View}
+use Rattle.control_word.specs.Handles.{empty}
+use Rattle.control_word.specs.Histories.{entry}
+use Rattle.control_word.specs.State.{Object, ending, kind_of_member, weak}
+use Rattle.step_threads.specs.declared.course.Course.{Course}
 use Rattle.step_threads.specs.declared.ending.Ending.{Ending}
 use Rattle.step_threads.specs.declared.half.Half.{Half}
-use Rattle.step_threads.specs.declared.half.Half.TheVariants.{Rest}
+use Rattle.step_threads.specs.declared.half.Half.TheVariants.{Rest, Clearing}
+use Rattle.step_table.specs.declared.cell_deed.Cell.TheVariants.{Member}
 use Rattle.step_table.specs.declared.past.Deed.TheVariants.{Clear, Finish}
 use Rattle.step_threads.specs.declared.thread.Thread.{Thread}
 use Rattle.step_threads.specs.Actors.{HalfFits}
-use Rattle.step_threads.specs.Courses.{task_at}
+use Rattle.step_threads.specs.Courses.{CourseReady, IsCarried, IsReady, Walk, hand, task_at, todo}
 use Rattle.step_threads.specs.Endings.{EndsAll, IsEnding, Stack, staged, staged_first}
+use Rattle.step_threads.specs.Steps.{ends_on, silent, with_endings, within}
 use Rattle.step_threads.specs.Stocks.{Stored}
-use Rattle.step_table.specs.Stories.{Kept, Story, after, object_in, pending, state}
-use Rattle.step_threads.specs.Threads.{EndsFit, Fits}
+use Rattle.step_table.specs.Cells.{word_at}
+use Rattle.step_table.specs.Holdings.{is_full, plain, slot, value}
+use Rattle.step_table.specs.Stories.{Kept, Nothing, Story, after, object_in, pending, state}
+use Rattle.step_threads.specs.Threads.{EndsFit, Fits, IsClearing}
 use Rattle.step_threads.proofs.Endings.{finished_store}
 use Rattle.step_threads.proofs.Threads.{own_pending, resting}
 use Rattle.step_threads.proofs.holding.Ends.{each_end, once_first, once_rest, once_staged, others_end}
@@ -41,6 +52,9 @@ finished_others d v e es vacant kept ends is =
                 (λ q. absurd (n (sym (there v y.block kept (ending_busy v d y.block i.ending)).0 ∙ ap (λ (k : ℕ). ((state v).object k).block) q ∙ at)))
                 (λ q. i.ending);
             within = i.within;
+            cleared = λ m lt.
+                put_cases (λ j (z : Object). z.member m ≡ empty (kind_of_member m)) (state v).object o _ (object_in v y.block)
+                (λ q. ap (λ (k : ℕ). ((state v).object k).member m) (sym q) ∙ i.cleared m lt) (λ q. i.cleared m lt);
           }) (once_first d v e es ends) (All-tail (λ y. IsEnding d y v) e es ends.each);
       once = λ b. once_rest d v e es b ends;
     }
@@ -54,11 +68,28 @@ finished_ends d t v e r vacant kept fits list room is =
       empty = ⊎_elim (λ (n : t.course.endings.list ≡ []). absurd cc) (λ (n : t.course.taken ≡ false). inr n) fits.endings.empty;
     }
 
+-- with nothing in hand the endings may change
+pub ready_bare : (c : Course) (es : List Ending) → CourseReady c → is_full (slot c.holdings.slots.items (hand c.holdings.slots.items)) ≡ false
+    → IsReady c.holdings.slots.items c.taken es (todo c)
+ready_bare c es ready bare =
+    record {
+      some = ready.some;
+      free = λ t. inl (⊎_elim (λ (p : value c.holdings.slots.items (hand c.holdings.slots.items) ≡ plain). p)
+          (λ (k : IsCarried c.holdings.slots.items c.endings.list). absurd (go c.endings.list k)) (ready.free t));
+      owes = ready.owes;
+      ready = ready.ready;
+    }
+  where
+    go : (l : List Ending) → IsCarried c.holdings.slots.items l → ⊥
+    go [] k = k
+    go (e ∷ l) k = false≢true (sym bare ∙ k)
+
 pub fits_finish : (d : ℕ) (t : Thread) (v : Story) (e : Ending) (r : Stack) (s : Stored) → Kept v → Fits d t v → t.half ≡ Rest
     → t.course.endings.list ≡ e ∷ r.list → r.room ≡ t.course.endings.room → IsEnding d e v
+    → is_full (slot t.course.holdings.slots.items (hand t.course.holdings.slots.items)) ≡ false
     → IsPermutation (e.block.0 ∷ t.stock.blocks) s.blocks → t.stock.room ≤ s.room
     → Fits d (record { course = record t.course { endings = r }; stock = s; half = t.half }) (after v d (Finish e.block true))
-fits_finish d t v e r s kept fits rests list same is p room =
+fits_finish d t v e r s kept fits rests list same is bare p room =
     let b = e.block in
     let at = (there v b kept (ending_busy v d b is.ending)).0 in
     let x = resting d t v fits rests in
@@ -67,7 +98,7 @@ fits_finish d t v e r s kept fits rests list same is p room =
       seat = fits.seat;
       holds = record { owned = fits.holds.owned; size = fits.holds.size; formed = fits.holds.formed };
       within = fits.within;
-      ready = fits.ready;
+      ready = ready_bare t.course r.list fits.ready bare;
       still = fits.still;
       half = own_pending v d (Finish b true) kept fits.seat;
       next = tt;
@@ -85,8 +116,9 @@ fits_finish d t v e r s kept fits rests list same is p room =
 
 pub fits_finish_not : (d : ℕ) (t : Thread) (v : Story) (e : Ending) (r : Stack) → Kept v → Fits d t v → t.half ≡ Rest
     → t.course.endings.list ≡ e ∷ r.list → r.room ≡ t.course.endings.room → IsEnding d e v
+    → is_full (slot t.course.holdings.slots.items (hand t.course.holdings.slots.items)) ≡ false
     → Fits d (record { course = record t.course { endings = r }; stock = t.stock; half = t.half }) (after v d (Finish e.block false))
-fits_finish_not d t v e r kept fits rests list same is =
+fits_finish_not d t v e r kept fits rests list same is bare =
     let b = e.block in
     let x = resting d t v fits rests in
     subst (λ (h : Half). Fits d (record { course = record t.course { endings = r }; stock = t.stock; half = h }) (after v d (Finish b false))) (sym rests)
@@ -94,7 +126,7 @@ fits_finish_not d t v e r kept fits rests list same is =
       seat = fits.seat;
       holds = record { owned = fits.holds.owned; size = fits.holds.size; formed = fits.holds.formed };
       within = fits.within;
-      ready = fits.ready;
+      ready = ready_bare t.course r.list fits.ready bare;
       still = fits.still;
       half = own_pending v d (Finish b false) kept fits.seat;
       next = tt;
@@ -103,28 +135,60 @@ fits_finish_not d t v e r kept fits rests list same is =
       endings = finished_ends d t v e r false kept fits list same is;
     })
 
-cleared_each : (d : ℕ) (v : Story) (b : Block) (i : ℕ) (y : Ending) → IsEnding d y v → IsEnding d y (after v d (Clear b i))
-cleared_each d v b i y is =
-    record {
-      ending = put_cases (λ j (z : Object). z.phase ≡ ending d) (state v).object (object_in v b) _ (object_in v y.block)
-          (λ q. ap (λ (j : ℕ). ((state v).object j).phase) (sym q) ∙ is.ending) (λ q. is.ending);
-      within = is.within;
-    }
+-- a member of an ending object is empty: the story after that, whatever its words and views are
+abbrev pub cleared_story : Story → ℕ → Block → ℕ → Handle → List ℕ → List (View Nothing) → Story
+cleared_story v d b i h words views =
+    record { extent = v.extent; words = words; views = views; history = entry d (ClearMember (object_in v b) i h) ∷ v.history }
 
-cleared_ends : (d : ℕ) (v : Story) (e : Ending) (es : List Ending) → EndsAll d (e ∷ es) v → IsEnding d e v → e.stage < 3
-    → EndsAll d (staged e ∷ es) (after v d (Clear e.block e.stage))
-cleared_ends d v e es ends is lt =
-    let w = after v d (Clear e.block e.stage) in
+module _ (d : ℕ) (v : Story) (b : Block) (i : ℕ) (h : Handle) (words : List ℕ) (views : List (View Nothing)) where
+  is_cleared : (j m : ℕ) → (((state v).object j).member m ≡ empty (kind_of_member m)) ⊎ ((j ≡ object_in v b) × (m ≡ i))
+      → ((state (cleared_story v d b i h words views)).object j).member m ≡ empty (kind_of_member m)
+  is_cleared j m was =
+      put_cases (λ k (z : Object). k ≡ j → z.member m ≡ empty (kind_of_member m)) (state v).object (object_in v b) _ j
+      (λ q r. put_cases (λ k (y : Handle). k ≡ m → y ≡ empty (kind_of_member m)) ((state v).object (object_in v b)).member i _ m
+      (λ a e. ap (λ (k : ℕ). empty (kind_of_member k)) (sym a))
+      (λ a e. ⊎_elim (λ (f : ((state v).object j).member m ≡ empty (kind_of_member m)). ap (λ (k : ℕ). ((state v).object k).member m) (sym q) ∙ f)
+      (λ (f : (j ≡ object_in v b) × (m ≡ i)). absurd (a f.1)) was) refl)
+      (λ q r. ⊎_elim (λ (f : ((state v).object j).member m ≡ empty (kind_of_member m)). f)
+      (λ (f : (j ≡ object_in v b) × (m ≡ i)). absurd (q f.0)) was) refl
+
+  still_ends : (j : ℕ) → ((state v).object j).phase ≡ ending d → ((state (cleared_story v d b i h words views)).object j).phase ≡ ending d
+  still_ends j end =
+      put_cases (λ k (z : Object). z.phase ≡ ending d) (state v).object (object_in v b) _ j
+      (λ q. ap (λ (k : ℕ). ((state v).object k).phase) (sym q) ∙ end) (λ q. end)
+
+  cleared_each : (y : Ending) → IsEnding d y v → IsEnding d y (cleared_story v d b i h words views)
+  cleared_each y is =
+      record {
+        ending = still_ends (object_in v y.block) is.ending;
+        within = is.within;
+        cleared = λ m lt. is_cleared (object_in v y.block) m (inl (is.cleared m lt));
+      }
+
+pub cleared_ends : (d : ℕ) (v : Story) (e : Ending) (es : List Ending) (h : Handle) (words : List ℕ) (views : List (View Nothing))
+    → EndsAll d (e ∷ es) v → IsEnding d e v → e.stage < 3
+    → EndsAll d (staged e ∷ es) (cleared_story v d e.block e.stage h words views)
+cleared_ends d v e es h words views ends is lt =
+    let w = cleared_story v d e.block e.stage h words views in
     record {
-      each = All-cons (λ y. IsEnding d y w) (staged e) es (record { ending = (cleared_each d v e.block e.stage e is).ending; within = omega arith })
-          (each_end d v w es (λ y i. cleared_each d v e.block e.stage y i) (All-tail (λ y. IsEnding d y v) e es ends.each));
+      each = All-cons (λ y. IsEnding d y w) (staged e) es
+          (record {
+            ending = still_ends d v e.block e.stage h words views (object_in v e.block) is.ending;
+            within = omega arith;
+            cleared = λ m few.
+                is_cleared d v e.block e.stage h words views (object_in v e.block) m
+                (⊎_elim (λ (q : m ≡ e.stage). inr (refl, q)) (λ (q : m ≢ e.stage). inl (is.cleared m (omega (arith, few, q)))) (cases_eq m e.stage));
+          })
+          (each_end d v w es (λ y i. cleared_each d v e.block e.stage h words views y i) (All-tail (λ y. IsEnding d y v) e es ends.each));
       once = λ b. once_staged d v e (staged e) es b refl ends;
     }
 
+-- a member was cleared
 pub fits_clear : (d : ℕ) (t : Thread) (v : Story) (e : Ending) (r : Stack) (es : List Ending) → Kept v → Fits d t v → t.half ≡ Rest
     → t.course.endings.list ≡ e ∷ es → r.list ≡ staged_first t.course.endings.list → t.course.endings.room ≤ r.room → IsEnding d e v → e.stage < 3
+    → is_full (slot t.course.holdings.slots.items (hand t.course.holdings.slots.items)) ≡ false
     → Fits d (record { course = record t.course { endings = r }; stock = t.stock; half = t.half }) (after v d (Clear e.block e.stage))
-fits_clear d t v e r es kept fits rests list new room is lt =
+fits_clear d t v e r es kept fits rests list new room is lt bare =
     let w = after v d (Clear e.block e.stage) in
     let x = resting d t v fits rests in
     subst (λ (h : Half). Fits d (record { course = record t.course { endings = r }; stock = t.stock; half = h }) w) (sym rests)
@@ -132,7 +196,7 @@ fits_clear d t v e r es kept fits rests list new room is lt =
       seat = fits.seat;
       holds = record { owned = fits.holds.owned; size = fits.holds.size; formed = fits.holds.formed };
       within = fits.within;
-      ready = fits.ready;
+      ready = ready_bare t.course r.list fits.ready bare;
       still = fits.still;
       half = own_pending v d (Clear e.block e.stage) kept fits.seat;
       next = tt;
@@ -140,9 +204,49 @@ fits_clear d t v e r es kept fits rests list new room is lt =
       endings =
           record {
             all = subst (λ (l : List Ending). EndsAll d l w) (sym (new ∙ ap staged_first list))
-                (cleared_ends d v e es (subst (λ (l : List Ending). EndsAll d l v) list fits.endings.all) is lt);
+                (cleared_ends d v e es (empty (kind_of_member e.stage)) w.words w.views
+                (subst (λ (l : List Ending). EndsAll d l v) list fits.endings.all) is lt);
             roomy = (let q = fits.endings.roomy in omega (arith, q, room));
             empty = ⊎_elim (λ (n : t.course.endings.list ≡ []). absurd cc) (λ (n : t.course.taken ≡ false). inr n) fits.endings.empty;
           };
       cells = fits.cells;
     })
+
+-- a member was seen to hold something
+pub fits_look_member : (d : ℕ) (t : Thread) (v : Story) (e : Ending) (es : List Ending) → Fits d t v → t.half ≡ Rest → t.course.endings.list ≡ e ∷ es → e.stage < 3
+    → is_full (slot t.course.holdings.slots.items (hand t.course.holdings.slots.items)) ≡ false
+    → Fits d (record { course = t.course; stock = t.stock; half = Clearing }) v
+fits_look_member d t v e es fits rests list lt bare =
+    let x = resting d t v fits rests in
+    record {
+      seat = fits.seat;
+      holds = fits.holds;
+      within = fits.within;
+      ready = fits.ready;
+      still = fits.still;
+      half = idle_here d t v fits rests;
+      next = subst (λ (l : List Ending). IsClearing t.course.holdings.slots.items l) (sym list) (lt, bare);
+      stocks = record { stocked = x.stocked; roomy = x.roomy };
+      endings = fits.endings;
+      cells = fits.cells;
+    }
+
+-- how an ending goes on, by its stage and by what the member's word is
+module _ (v : Story) (w : Walk) (e : Ending) (es : List Ending) where
+  pub ends_finish : e.stage ≡ 3
+      → ends_on v w e es
+      ≡ record { deed = Some (Finish e.block (weak (state v) (object_in v e.block) == 0)); half = Rest; walk = with_endings w es; said = silent e.statement }
+  ends_finish is = cond-true (e.stage == 3) _ _ (eq-eqb e.stage 3 is)
+
+  ends_member : e.stage < 3
+      → ends_on v w e es
+      ≡ cond (word_at v (Member e.block e.stage) == 0) (within (with_endings w (staged e ∷ es)) e.statement (Some (Clear e.block e.stage)) Rest)
+      (within w e.statement None Clearing)
+  ends_member lt = cond-false (e.stage == 3) _ _ (ne_eqb e.stage 3 (λ q. omega (arith, q, lt)))
+
+  pub ends_clear : e.stage < 3 → (word_at v (Member e.block e.stage) == 0) ≡ true
+      → ends_on v w e es ≡ within (with_endings w (staged e ∷ es)) e.statement (Some (Clear e.block e.stage)) Rest
+  ends_clear lt z = ends_member lt ∙ cond-true (word_at v (Member e.block e.stage) == 0) _ _ z
+
+  pub ends_look : e.stage < 3 → (word_at v (Member e.block e.stage) == 0) ≡ false → ends_on v w e es ≡ within w e.statement None Clearing
+  ends_look lt z = ends_member lt ∙ cond-false (word_at v (Member e.block e.stage) == 0) _ _ z

@@ -1,5 +1,5 @@
 -- What a leave makes of a thread's store and endings, so that it fits the table.
-use Rattle.std.proofs.Common.{◌≡◌, ◌≢◌, ℕ, zero, suc, ◌+◌, ◌<◌, ◌≤◌, ◌==◌, Bool, true, false, cond, not, List, [], ◌∷◌, length, refl, sym, ap, subst, ◌∙◌, ⊎_elim, inr, arith, eq-eqb, ne_eqb}
+use Rattle.std.proofs.Common.{◌≡◌, ◌≢◌, ℕ, zero, suc, ◌+◌, ◌<◌, ◌≤◌, ◌==◌, Bool, true, false, cond, not, List, [], ◌∷◌, length, refl, sym, ap, subst, ◌∙◌, ⊎_elim, inl, inr, arith, eq-eqb, ne_eqb}
 use Rattle.std.proofs.lemmas.Bool.{cases_eq, cond_both, cond-true, cond-false, eqb-true, and_parts}
 use Rattle.std.proofs.lemmas.List.Sorted.{sum_by_pushed}
 use Rattle.std.proofs.lemmas.List.Sums.{sum_by-cons}
@@ -26,83 +26,19 @@ use Rattle.step_table.specs.Deeds.{is_last, leave, leave_as, on}
 use Rattle.step_threads.specs.Scenes.{begins_end_as}
 use Rattle.step_threads.specs.declared.thread.Thread.{Thread}
 use Rattle.step_threads.specs.Actors.{HalfFits, Stocks, in_list, in_store}
-use Rattle.step_threads.specs.Courses.{HasGoneOn, done_on, task_at}
+use Rattle.step_threads.specs.Courses.{CourseReady, HasGoneOn, IsReady, done_on, task_at, todo}
 use Rattle.step_threads.specs.Endings.{EndsAll, IsEnding, Stack}
 use Rattle.step_table.specs.Holdings.{Holds}
 use Rattle.step_table.specs.Openings.{opening}
 use Rattle.step_threads.specs.Stocks.{Stored}
 use Rattle.step_table.specs.Stories.{Kept, Story, after, object_in, pending, state}
 use Rattle.step_threads.specs.Threads.{Fits, IsStocked, IsStockedBy}
+use Rattle.step_threads.proofs.Courses.{hand_plain}
+use Rattle.step_threads.proofs.holding.Few.{store_few}
 use Rattle.step_threads.proofs.Threads.{cells_on, own_pending, resting}
 use Rattle.step_threads.proofs.holding.Ends.{ends_none, ends_nothing, ends_one}
-use Rattle.step_threads.proofs.holding.Storing.{counted_stored, one_stored}
+use Rattle.step_threads.proofs.holding.Storing.{one_stored}
 use Rattle.step_table.proofs.tables.Places.{ending_busy, handle_busy, there}
-
--- numbers from 1 to n, each once at most, are n or fewer
-without_number : (b c : ℕ) (l : List ℕ) → in_list c (filter (λ x. not (x == b)) l) ≤ in_list c l
-without_number b c [] = omega arith
-without_number b c (x ∷ xs) =
-    let i = without_number b c xs in
-    let a = sum_by-cons (λ (y : ℕ). cond (y == c) 1 0) x xs in
-    cond_both (not (x == b)) (x ∷ filter (λ y. not (y == b)) xs) (filter (λ y. not (y == b)) xs) (λ r. in_list c r ≤ in_list c (x ∷ xs))
-    (λ t. let k = sum_by-cons (λ (y : ℕ). cond (y == c) 1 0) x (filter (λ y. not (y == b)) xs) in omega (arith, i, a, k))
-    (λ t. omega (arith, i, a))
-
-none_left : (b : ℕ) (l : List ℕ) → in_list b (filter (λ x. not (x == b)) l) ≡ 0
-none_left b [] = refl
-none_left b (x ∷ xs) =
-    let i = none_left b xs in
-    ⊎_elim
-    (λ (e : x ≡ b). let n : not (x == b) ≡ false = ap not (eq-eqb x b e) in ap (in_list b) (cond-false (not (x == b)) (x ∷ filter
-    (λ y. not (y == b)) xs) (filter (λ y. not (y == b)) xs) n) ∙ i)
-    (λ (e : x ≢ b). let n : not (x == b) ≡ true = ap not (ne_eqb x b e) in
-    let a = sum_by-cons (λ (y : ℕ). cond (y == b) 1 0) x (filter (λ y. not (y == b)) xs) in
-    let z = cond-false {A = ℕ} (x == b) 1 0 (ne_eqb x b e) in
-    ap (in_list b) (cond-true (not (x == b)) (x ∷ filter (λ y. not (y == b)) xs) (filter (λ y. not (y == b)) xs) n)
-    ∙ omega (arith, i, a, z)) (cases_eq x b)
-
-parted : (b : ℕ) (l : List ℕ) → length l ≡ in_list b l + length (filter (λ x. not (x == b)) l)
-parted b [] = refl
-parted b (x ∷ xs) =
-    let i = parted b xs in
-    let a = sum_by-cons (λ (y : ℕ). cond (y == b) 1 0) x xs in
-    ⊎_elim
-    (λ (e : x ≡ b). let n : not (x == b) ≡ false = ap not (eq-eqb x b e) in
-    let f = ap (length {A = ℕ}) (cond-false (not (x == b)) (x ∷ filter (λ y. not (y == b)) xs) (filter (λ y. not (y == b)) xs) n) in
-    let z = cond-true {A = ℕ} (x == b) 1 0 (eq-eqb x b e) in omega (arith, i, a, f, z))
-    (λ (e : x ≢ b). let n : not (x == b) ≡ true = ap not (ne_eqb x b e) in
-    let f = ap (length {A = ℕ}) (cond-true (not (x == b)) (x ∷ filter (λ y. not (y == b)) xs) (filter (λ y. not (y == b)) xs) n) in
-    let z = cond-false {A = ℕ} (x == b) 1 0 (ne_eqb x b e) in omega (arith, i, a, f, z)) (cases_eq x b)
-
-few : (n : ℕ) (l : List ℕ) → ((b : ℕ) → in_list b l ≤ 1) → ((b : ℕ) → 0 < in_list b l → (1 ≤ b) × (b ≤ n)) → length l ≤ n
-few zero [] once low = omega arith
-few zero (x ∷ xs) once low =
-    let a = sum_by-cons (λ (y : ℕ). cond (y == x) 1 0) x xs in
-    let z = cond-true {A = ℕ} (x == x) 1 0 (eq-eqb x x refl) in
-    let t = low x (omega (arith, a, z)) in absurd (let p = t.0 in let q = t.1 in omega (arith, p, q))
-few (suc n) l once low =
-    let r = filter (λ x. not (x == suc n)) l in
-    let i = few n r (λ b. let w = without_number (suc n) b l in let o = once b in omega (arith, w, o))
-    (λ b lt.
-    let w = without_number (suc n) b l in
-    let t = low b (omega (arith, w, lt)) in
-    let p = t.0 in let q = t.1 in
-    ⊎_elim (λ (e : b ≡ suc n). absurd (let z : in_list b r ≡ 0 = ap (λ (k : ℕ). in_list k r) e ∙ none_left (suc n) l in omega (arith, z, lt)))
-    (λ (e : b ≢ suc n). (p, omega (arith, q, e))) (cases_eq b (suc n))) in
-    let p = parted (suc n) l in let o = once (suc n) in omega (arith, i, p, o)
-
-most_once : (d b : ℕ) (s : State) → in_store s d b ≤ how_often b s.stores
-most_once d b s =
-    num_le (same_stored (stored d b)) (λ (x : Kept_in). x.block == b) s.stores
-    (λ x t. eq-eqb x.block b (sym (eqb-true _ _ (and_parts _ _ t).1)))
-
--- the store of a desk has each block of the shape once at most
-store_few : (d : ℕ) (v : Story) (l : List ℕ) → Kept v → ((b : ℕ) → in_store (state v) d b ≡ in_list b l) → length l ≤ v.extent.shape.blocks
-store_few d v l kept same =
-    let fine = sound (opening v.extent) v.history kept.stands.legal in
-    few v.extent.shape.blocks l
-    (λ b. let m = most_once d b (state v) in let o = fine.once b in let s = same b in omega (arith, m, o, s))
-    (λ b lt. (fine.stores d b (counted_stored (stored d b) (state v).stores (let s = same b in omega (arith, s, lt)))).1)
 
 pub finished_store : (d : ℕ) (v : Story) (b : Block) (c : ℕ) → ((state v).object (object_in v b)).block ≡ b.0
     → in_store (state (after v d (Finish b true))) d c ≡ cond (b.0 == c) 1 0 + in_store (state v) d c
@@ -196,7 +132,7 @@ begins_room v w d t c o last x kept' fits none same is said at kind ended =
     same_extent v d (Some x) = refl
 
 -- the stock after a pointer left
-stocks_left : (d : ℕ) (t : Thread) (v : Story) (x : Pointer) (s : Stored) (k : Kind) (b : Bool) → Kept v → Fits d t v → t.half ≡ Rest
+pub stocks_left : (d : ℕ) (t : Thread) (v : Story) (x : Pointer) (s : Stored) (k : Kind) (b : Bool) → Kept v → Fits d t v → t.half ≡ Rest
     → Kept (after v d (leave_as k x b)) → IsStocked k x.block.0 b t.stock s → Stocks d s.blocks s.room Rest (after v d (leave_as k x b))
 stocks_left d t v x s Owner b kept fits e kept' is =
     let y = resting d t v fits e in subst (λ (z : Stored). Stocks d z.blocks z.room Rest (after v d (leave_as Owner x b))) (sym is)
@@ -214,7 +150,7 @@ stocks_left d t v x s Weak false kept fits e kept' is =
     let y = resting d t v fits e in subst (λ (z : Stored). Stocks d z.blocks z.room Rest (after v d (leave_as Weak x false))) (sym is)
     (record { stocked = y.stocked; roomy = y.roomy })
 
-idle_left : (d : ℕ) (t : Thread) (v : Story) (x : Pointer) (k : Kind) (b : Bool) → Kept v → Fits d t v → pending (after v d (leave_as k x b)) d ≡ Idle
+pub idle_left : (d : ℕ) (t : Thread) (v : Story) (x : Pointer) (k : Kind) (b : Bool) → Kept v → Fits d t v → pending (after v d (leave_as k x b)) d ≡ Idle
 idle_left d t v x Owner b kept fits = own_pending v d (Leave x.block x.place b) kept fits.seat
 idle_left d t v x Weak b kept fits = own_pending v d (WeakLeave x.block x.place b) kept fits.seat
 
@@ -222,10 +158,14 @@ idle_left d t v x Weak b kept fits = own_pending v d (WeakLeave x.block x.place 
 ends_left : (d : ℕ) (v : Story) (x : Pointer) (k : Kind) (b : Bool) (n : ℕ) → EndsAll d (cond b (begins_end_as k n x []) []) (after v d (leave_as k x b))
 ends_left d v x Owner true n =
     ends_one d (after v d (Leave x.block x.place true)) (record { block = x.block; stage = 0; statement = n })
-    (record { ending = left_ending v d x true refl; within = omega arith })
+    (record { ending = left_ending v d x true refl; within = omega arith; cleared = λ m lt. absurd (omega arith) })
 ends_left d v x Owner false n = ends_nothing d (after v d (Leave x.block x.place false))
 ends_left d v x Weak true n = ends_nothing d (after v d (WeakLeave x.block x.place true))
 ends_left d v x Weak false n = ends_nothing d (after v d (WeakLeave x.block x.place false))
+
+-- with no endings the hand is plain, so others may come
+ready_ends : (c : Course) (es : List Ending) → CourseReady c → c.endings.list ≡ [] → IsReady c.holdings.slots.items c.taken es (todo c)
+ready_ends c es ready none = record { some = ready.some; free = λ e. inl (hand_plain c ready none e); owes = ready.owes; ready = ready.ready }
 
 -- what a leave made of the course: it went on, and an ending begins perhaps
 pub record HasLeft (d : ℕ) (c c' c'' : Course) (w : Story) (n : ℕ) (o : Option Pointer) (last : Bool) : Type 0 where
@@ -247,7 +187,7 @@ fits_leaving d t v c r s n x k b kept fits e none kept' on empty list room is =
       seat = fits.seat;
       holds = on.holds;
       within = on.within;
-      ready = on.ready;
+      ready = ready_ends c r.list on.ready nothing;
       still = on.still;
       half = idle_left d t v x k b kept fits;
       next = tt;
@@ -278,7 +218,7 @@ fits_left d t t' v w c n None last kept kept' fits e none is said left half stoc
       seat = fits.seat;
       holds = subst (λ (u : Story). Holds d c.holdings.slots.items u) is left.gone.holds;
       within = left.gone.within;
-      ready = left.gone.ready;
+      ready = ready_ends c r.list left.gone.ready (ap (λ (z : Stack). z.list) left.gone.endings ∙ none);
       still = left.gone.still;
       half = idle;
       next = tt;

@@ -40,7 +40,7 @@ same_remains v d x Owner false = refl
 same_remains v d x Weak true = refl
 same_remains v d x Weak false = refl
 
-left_event : (v : Story) (x : Pointer) (k : Kind) (b : Bool) → is_some (event_of v (leave_as k x b)) ≡ true
+pub left_event : (v : Story) (x : Pointer) (k : Kind) (b : Bool) → is_some (event_of v (leave_as k x b)) ≡ true
 left_event v x Owner b = refl
 left_event v x Weak b = refl
 
@@ -48,7 +48,7 @@ some_full : (o : Option Pointer) → is_some o ≡ is_full o
 some_full None = refl
 some_full (Some x) = refl
 
-ended_left : (v w : Story) (d : ℕ) (o : Option Pointer) (last : Bool) → w ≡ done_on (leave (state v)) v d o → last ≡ on (is_last (state v)) false o
+pub ended_left : (v w : Story) (d : ℕ) (o : Option Pointer) (last : Bool) → w ≡ done_on (leave (state v)) v d o → last ≡ on (is_last (state v)) false o
     → on (λ x. cond last (remains_as x.kind ((state w).object (object_in w x.block))) None) None o ≡ ended_by (state v) o
 ended_left v w d None last is said = refl
 ended_left v w d (Some x) last is said =
@@ -56,7 +56,7 @@ ended_left v w d (Some x) last is said =
     ∙ ap (λ (b : Bool). let u = after v d (leave (state v) x) in cond b (remains_as x.kind ((state u).object (object_in u x.block))) None) said
     ∙ same_remains v d x x.kind (is_last (state v) x)
 
-begun_left : (s : State) (k : ℕ) (es : List Ending) (o : Option Pointer) (last : Bool) → last ≡ on (is_last s) false o
+pub begun_left : (s : State) (k : ℕ) (es : List Ending) (o : Option Pointer) (last : Bool) → last ≡ on (is_last s) false o
     → on (λ x. cond last (begins_end_as x.kind k x es) es) es o ≡ on (λ x. begins_end s k x es) es o
 begun_left s k es None last said = refl
 begun_left s k es (Some x) last said = ap (λ (b : Bool). cond b (begins_end_as x.kind k x es) es) said

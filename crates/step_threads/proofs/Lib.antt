@@ -6,6 +6,9 @@ pub mod Named
 pub mod Threads
 pub mod Endings
 pub mod EndSteps
+pub mod EndTells
+pub mod Carrying
+pub mod CarrySteps
 pub mod LeaveSteps
 pub mod Giving
 pub mod Steps

@@ -1,24 +1,24 @@
 -- What a step of a thread was, by what the thread had begun.
-use Rattle.std.proofs.Common.{◌≡◌, ℕ, ◌<◌, Bool, true, false, cond, List, [], ◌∷◌, length, refl, sym, ap, subst, ◌∙◌, ⊎_elim}
-use Rattle.std.proofs.lemmas.Bool.{cond-false}
+use Rattle.std.proofs.Common.{◌≡◌, ℕ, ◌<◌, Bool, true, false, cond, List, [], ◌∷◌, length, refl, sym, ap, subst, ◌∙◌}
+use Rattle.std.proofs.lemmas.Bool.{cond-true, cond-false}
 use Rattle.std.specs.Prelude.{Option, Some, None, is_some, option_map}
 use Rattle.step_threads.specs.declared.act.Act.{Act}
 use Rattle.step_threads.specs.declared.act.Act.TheVariants.{Leave}
 use Rattle.step_threads.specs.declared.act.Task.{Task}
 use Rattle.step_threads.specs.declared.ending.Ending.{Ending}
 use Rattle.step_threads.specs.declared.half.Half.{Half}
-use Rattle.step_threads.specs.declared.half.Half.TheVariants.{Rest}
+use Rattle.step_threads.specs.declared.half.Half.TheVariants.{Rest, Clearing}
 use Rattle.step_table.specs.declared.holdings.Pointer.{Pointer}
 use Rattle.step_table.specs.declared.past.Deed.{Deed}
 use Rattle.step_threads.specs.declared.said.Said.{Said}
 use Rattle.step_threads.specs.declared.said.Stepped.{Stepped}
 use Rattle.step_threads.specs.declared.said.Stepped.TheVariants.{Event, Quiet, Waited}
 use Rattle.step_threads.specs.declared.thread.Thread.{Thread}
-use Rattle.step_threads.specs.Courses.{done_on, hand, rest, task_at, walk}
-use Rattle.step_table.specs.Holdings.{is_full, pointer_of, slot}
-use Rattle.step_threads.specs.Steps.{Step, at_rest, begun, ends_on, first, half_by, is_event, step_at, stepped, story_after, story_by, waits, waits_at, waits_on, walk_by}
+use Rattle.step_threads.specs.Courses.{done_on, hand, rest, task_at, todo, walk}
+use Rattle.step_table.specs.Holdings.{is_full, slot}
+use Rattle.step_threads.specs.Steps.{Step, at_rest, begun, emptied, empties, ends_on, first, half_by, is_event, step_at, stepped, story_after, story_by, waits, waits_at, waits_on, walk_by}
 use Rattle.step_table.specs.Stories.{Story, event_of}
-use Rattle.step_threads.specs.Threads.{Fits, HasStepped}
+use Rattle.step_threads.specs.Threads.{HasStepped}
 use Rattle.step_threads.proofs.Courses.{todo_at}
 
 -- a step that is known, and doesn't wait
@@ -52,20 +52,33 @@ waits_act t v a e none lt act =
     ap (λ (h : Half). waits v h w) e ∙ ap (λ (es : List Ending). waits_at v w es w.todo) none ∙ ap (λ (ts : List Task). waits_at v w [] ts) (todo_at t.course lt)
     ∙ ap (λ (b : Act). waits_on v w b) act
 
--- what a thread has in hand while an object ends
-none_here : (d : ℕ) (t : Thread) (v : Story) (e : Ending) (es : List Ending) → Fits d t v → t.course.endings.list ≡ e ∷ es
-    → is_full (slot t.course.holdings.slots.items (hand t.course.holdings.slots.items)) ≡ false
-none_here d t v e es fits is =
-    ⊎_elim (λ (n : t.course.endings.list ≡ []). absurd cc)
-    (λ (n : t.course.taken ≡ false). ap (λ x. is_full (pointer_of x)) (fits.ready.free n)) fits.endings.empty
+-- within no act, what came out of a member leaves, and with nothing in hand the ending begun last goes on
+module _ (d : ℕ) (t : Thread) (v : Story) (e : Ending) (es : List Ending) (is : t.course.endings.list ≡ e ∷ es) where
+  at_rest_here : t.half ≡ Rest → step_at v d t.half (walk t.course) ≡ at_rest v d (walk t.course) (e ∷ es)
+  at_rest_here r = ap (λ (h : Half). step_at v d h (walk t.course)) r ∙ ap (λ (l : List Ending). at_rest v d (walk t.course) l) is
 
--- within no act the ending begun last goes on
-pub at_ending : (d : ℕ) (t : Thread) (v : Story) (e : Ending) (es : List Ending) → Fits d t v → t.half ≡ Rest → t.course.endings.list ≡ e ∷ es
-    → step_at v d t.half (walk t.course) ≡ Some (ends_on v (walk t.course) e es)
-at_ending d t v e es fits r is =
-    let w = walk t.course in
-    ap (λ (h : Half). step_at v d h w) r ∙ ap (λ (l : List Ending). at_rest v d w l) is
-    ∙ ap (λ (x : Step). Some x) (cond-false _ (first v d w e.statement w.todo (Leave (hand w.slots))) (ends_on v w e es) (none_here d t v e es fits is))
+  pub at_ending : t.half ≡ Rest → is_full (slot t.course.holdings.slots.items (hand t.course.holdings.slots.items)) ≡ false
+      → step_at v d t.half (walk t.course) ≡ Some (ends_on v (walk t.course) e es)
+  at_ending r empty =
+      let w = walk t.course in
+      at_rest_here r ∙ ap (λ (x : Step). Some x) (cond-false _ (first v d w e.statement w.todo (Leave (hand w.slots))) (ends_on v w e es) empty)
+
+  pub at_carried : t.half ≡ Rest → is_full (slot t.course.holdings.slots.items (hand t.course.holdings.slots.items)) ≡ true
+      → step_at v d t.half (walk t.course)
+      ≡ Some (first v d (walk t.course) e.statement (todo t.course) (Leave (hand t.course.holdings.slots.items)))
+  at_carried r full =
+      let w = walk t.course in
+      at_rest_here r ∙ ap (λ (x : Step). Some x) (cond-true _ (first v d w e.statement w.todo (Leave (hand w.slots))) (ends_on v w e es) full)
+
+  pub at_clearing : t.half ≡ Clearing → step_at v d t.half (walk t.course) ≡ Some (empties v (walk t.course) e es)
+  at_clearing r = ap (λ (h : Half). step_at v d h (walk t.course)) r ∙ ap (λ (l : List Ending). emptied v (walk t.course) l) is
+
+  -- and doesn't wait
+  pub waits_ending : t.half ≡ Rest → waits v t.half (walk t.course) ≡ false
+  waits_ending r = ap (λ (h : Half). waits v h (walk t.course)) r ∙ ap (λ (l : List Ending). waits_at v (walk t.course) l (todo t.course)) is
+
+  pub waits_clearing : t.half ≡ Clearing → waits v t.half (walk t.course) ≡ false
+  waits_clearing r = ap (λ (h : Half). waits v h (walk t.course)) r
 
 -- a deed on what a slot holds is an event where the slot is full
 pub on_slot : (f : Pointer → Deed) (v : Story) (d : ℕ) (o : Option Pointer) → done_on f v d o ≡ story_after v d (option_map f o)

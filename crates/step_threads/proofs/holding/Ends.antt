@@ -20,7 +20,7 @@ each_end d v w [] keep all = All-nil (λ e. IsEnding d e w)
 each_end d v w (x ∷ xs) keep all =
     All-cons (λ e. IsEnding d e w) x xs (keep x (All-head (λ e. IsEnding d e v) x xs all)) (each_end d v w xs keep (All-tail (λ e. IsEnding d e v) x xs all))
 
-one_more : (b : ℕ) (x : Ending) (xs : List Ending) → endings_of b (x ∷ xs) ≡ cond (x.block.0 == b) 1 0 + endings_of b xs
+pub one_more : (b : ℕ) (x : Ending) (xs : List Ending) → endings_of b (x ∷ xs) ≡ cond (x.block.0 == b) 1 0 + endings_of b xs
 one_more b x xs = sum_by-cons (λ (e : Ending). cond (e.block.0 == b) 1 0) x xs
 
 -- also what keeps those of other blocks, where none is of this one

@@ -5,7 +5,7 @@ use Rattle.control_word.proofs.history.Kept.{Same}
 use Rattle.control_word.proofs.history.Legal.{sound}
 use Rattle.control_word.proofs.lists.Tallies.{num, put_cases}
 use Rattle.control_word.proofs.history.Moving.{counted_live, owner_counted}
-use Rattle.control_word.specs.State.{Object, Phase, State, Stored, common, ending, live, same_stored, stock, stored, unmade, weak_number}
+use Rattle.control_word.specs.State.{Object, State, Stored, common, ending, live, same_stored, stock, stored, unmade, weak_number}
 use Rattle.step_threads.specs.declared.ending.Ending.{Ending}
 use Rattle.step_threads.specs.declared.half.Half.{Half}
 use Rattle.step_table.specs.declared.past.Deed.{Deed}
@@ -17,6 +17,7 @@ use Rattle.step_threads.specs.Entries.{least}
 use Rattle.step_table.specs.Stories.{Kept, Story, after, object_in, state}
 use Rattle.step_threads.proofs.holding.Ends.{each_end}
 use Rattle.step_threads.proofs.holding.Least.{least_part}
+use Rattle.step_threads.proofs.holding.Members.{member_kept, phase_differs}
 use Rattle.step_table.proofs.tables.CellDeeds.{framed}
 use Rattle.step_table.proofs.tables.Places.{ending_busy}
 use Rattle.step_table.proofs.holding.Keeping.{num_part, same_deed, kept_object}
@@ -36,9 +37,6 @@ stocks_others d blocks room half v e x n stocks =
           ∙ stocks.stocked b;
       roomy = stocks.roomy;
     }
-
-phase_differs : (d e : ℕ) (p : Phase) → p ≡ ending d → p ≡ ending e → e ≡ d
-phase_differs d e p a b = let k : ending e ≡ ending d = sym b ∙ a in cc
 
 -- an object that ends in a desk's hands goes on to end there
 ends_on : (v : Story) (e d o : ℕ) (x : Deed) → e ≢ d → Kept v → Kept (after v e x) → ((state v).object o).phase ≡ ending d
@@ -86,6 +84,13 @@ ends_others d es v e x n kept kept' ends =
           let busy : 0 < weak_number (state (after v e x)) (object_in v y.block) = let c : common ((state (after v e x)).object
           (object_in v y.block)).phase ≡ 1 = ap common end in omega arith in
           let o = kept_object v e y.block x kept kept' (ending_busy v d y.block is.ending) busy in
-          record { ending = subst (λ (k : ℕ). ((state (after v e x)).object k).phase ≡ ending d) (sym o) end; within = is.within }) ends.each;
+          record {
+            ending = subst (λ (k : ℕ). ((state (after v e x)).object k).phase ≡ ending d) (sym o) end;
+            within = is.within;
+            cleared = λ m lt.
+                ap (λ (k : ℕ). ((state (after v e x)).object k).member m) o
+                ∙ member_kept v e d (object_in v y.block) m x n kept kept' is.ending
+                ∙ is.cleared m lt;
+          }) ends.each;
       once = ends.once;
     }

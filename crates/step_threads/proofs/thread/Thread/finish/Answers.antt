@@ -1,4 +1,4 @@
-use Rattle.std.proofs.Common.{◌∙◌, Bool, sym, ap, subst}
+use Rattle.std.proofs.Common.{◌∙◌, ℕ, ◌<◌, Bool, sym, ap, subst}
 use Rattle.step_table.specs.declared.past.Deed.TheVariants as deed
 use Rattle.step_table.specs.Stories.{Kept, Story, after}
 use Rattle.step_threads.specs.Threads.{Fits}
@@ -14,7 +14,9 @@ pub finish-vacant-requires-clause-ending : goal.finish-vacant-requires-clause-en
 finish-vacant-requires-clause-ending c = (ending_here _ c.args.table.now _ c.args.ending c.requires.fits.endings.all c.requires.first).ending
 
 pub finish-vacant-requires-clause-cleared : goal.finish-vacant-requires-clause-cleared
-finish-vacant-requires-clause-cleared c = λ m few. c.requires.plain.bare _ m
+finish-vacant-requires-clause-cleared c = λ m few.
+    (ending_here _ c.args.table.now _ c.args.ending c.requires.fits.endings.all c.requires.first).cleared m
+    (subst (λ (n : ℕ). m < n) (sym c.requires.behind) few)
 
 pub put-requires : goal.put-requires
 put-requires c =
@@ -31,7 +33,7 @@ returns-clause-fits c =
     let is = ending_here c.args.desk v t.course.endings.list c.args.ending c.requires.fits.endings.all c.requires.first in
     subst (λ (u : Story). Fits c.args.desk (record { course = record t.course { endings = c.finish.new.self }; stock = c.put.new.self; half = t.half }) u) (sym e)
     (fits_finish c.args.desk t v c.args.ending c.finish.new.self c.put.new.self c.known.ensures c.requires.fits c.requires.rest c.finish.ensures.list
-    c.finish.ensures.room is c.put.ensures.blocks c.put.ensures.room)
+    c.finish.ensures.room is c.requires.empty c.put.ensures.blocks c.put.ensures.room)
 
 pub returns-then-not-vacant-clause-fits : goal.returns-then-not-vacant-clause-fits
 returns-then-not-vacant-clause-fits c =
@@ -41,4 +43,4 @@ returns-then-not-vacant-clause-fits c =
     let is = ending_here c.args.desk v t.course.endings.list c.args.ending c.requires.fits.endings.all c.requires.first in
     subst (λ (u : Story). Fits c.args.desk (record { course = record t.course { endings = c.finish.new.self }; stock = t.stock; half = t.half }) u) (sym e)
     (fits_finish_not c.args.desk t v c.args.ending c.finish.new.self c.known.ensures c.requires.fits c.requires.rest c.finish.ensures.list
-    c.finish.ensures.room is)
+    c.finish.ensures.room is c.requires.empty)

@@ -1,0 +1,61 @@
+-- What a step was that left what came out of a member.
+use Rattle.std.proofs.Common.{◌≡◌, ℕ, Bool, true, cond, List, ◌∷◌, set, refl, sym, ap, ◌∙◌}
+use Rattle.std.proofs.lemmas.Bool.{cond-true}
+use Rattle.std.specs.Prelude.{Option, Some, None, option_map}
+use Rattle.step_threads.specs.declared.act.Act.TheVariants.{Leave}
+use Rattle.step_threads.specs.declared.ending.Ending.{Ending}
+use Rattle.step_threads.specs.declared.half.Half.TheVariants.{Rest}
+use Rattle.step_table.specs.declared.ended.Ended.{Ended}
+use Rattle.step_table.specs.declared.holdings.Holdings.{Holdings}
+use Rattle.step_table.specs.declared.holdings.Pointer.{Pointer}
+use Rattle.step_threads.specs.declared.said.Said.{Said}
+use Rattle.step_threads.specs.declared.said.Stepped.{Stepped}
+use Rattle.step_threads.specs.declared.said.Stepped.TheVariants.{Event, Quiet}
+use Rattle.step_threads.specs.declared.thread.Thread.{Thread}
+use Rattle.step_threads.specs.Courses.{hand, settled, todo, walk}
+use Rattle.step_table.specs.Deeds.{is_last, leave, on}
+use Rattle.step_table.specs.Holdings.{Slots, is_full, plain, slot}
+use Rattle.step_threads.specs.Scenes.{begins_end, begins_end_as, ended_by, remains_as, went}
+use Rattle.step_threads.specs.Steps.{acts, is_event}
+use Rattle.step_table.specs.Stories.{Story, after, object_in, state}
+use Rattle.step_threads.specs.Threads.{Fits, HasStepped}
+use Rattle.step_threads.proofs.Carrying.{none_taken}
+use Rattle.step_threads.proofs.Hands.{settled_hand}
+use Rattle.step_threads.proofs.LeaveSteps.{begun_left, ended_left, left_event}
+use Rattle.step_threads.proofs.Steps.{at_carried, stepped_as, waits_ending}
+
+module _ (d : ℕ) (t t' : Thread) (v w : Story) (h : Holdings) (x : Pointer) (last : Bool) (e : Ending) (es : List Ending) (fits : Fits d t v)
+    (is : t.course.endings.list ≡ e ∷ es) (at : slot t.course.holdings.slots.items (hand t.course.holdings.slots.items) ≡ Some x)
+    (said : last ≡ is_last (state v) x) (same : t'.course ≡ record t.course { holdings = h; endings = t'.course.endings })
+    (slots : h.slots.items ≡ set t.course.holdings.slots.items (hand t.course.holdings.slots.items) plain)
+    (list : t'.course.endings.list ≡ cond last (begins_end_as x.kind e.statement x t.course.endings.list) t.course.endings.list) where
+  went_carried : walk t'.course ≡ went (state v) d (walk t.course) e.statement (todo t.course) (Leave (hand t.course.holdings.slots.items))
+  went_carried =
+      let c = t.course in
+      let i = hand c.holdings.slots.items in
+      let empty = set c.holdings.slots.items i plain in
+      let l = t'.course.endings.list in
+      let begun : l ≡ on (λ y. begins_end (state v) e.statement y c.endings.list) c.endings.list (slot c.holdings.slots.items i) =
+      list ∙ begun_left (state v) e.statement c.endings.list (Some x) last said
+      ∙ ap (λ (o : Option Pointer). on (λ y. begins_end (state v) e.statement y c.endings.list) c.endings.list o) (sym at) in
+      ap walk same
+      ∙ ap (λ (z : Slots). record { slots = z; taken = c.taken; endings = l; todo = todo c }) slots
+      ∙ sym (settled_hand c plain l fits.within fits.ready fits.still (none_taken d c v e es fits.endings is))
+      ∙ ap (λ (r : List Ending). settled empty c.taken r (todo c)) begun
+
+  pub stepped_carried : (ended : Option Ended) (r : Stepped) → t.half ≡ Rest
+      → is_full (slot t.course.holdings.slots.items (hand t.course.holdings.slots.items)) ≡ true → w ≡ after v d (leave (state v) x)
+      → ended ≡ cond last (remains_as x.kind ((state w).object (object_in w x.block))) None → t'.half ≡ t.half
+      → r ≡ Event (record { statement = e.statement; answer = None; ended = ended }) → HasStepped d t v r t' w
+  stepped_carried ended r rests full story left half says =
+      let c = t.course in
+      let i = hand c.holdings.slots.items in
+      let deed = leave (state v) x in
+      let y : Said = record { statement = e.statement; answer = None; ended = ended_by (state v) (slot c.holdings.slots.items i) } in
+      let remains : ended ≡ ended_by (state v) (slot c.holdings.slots.items i) =
+      left ∙ ended_left v w d (Some x) last story said ∙ ap (ended_by (state v)) (sym at) in
+      stepped_as d t v (acts v d (walk c) e.statement (todo c) (Leave i) (Some deed) Rest) r t' w (waits_ending d t v e es is rests)
+      (at_carried d t v e es is rests full
+      ∙ ap (λ (o : Option Pointer). Some (acts v d (walk c) e.statement (todo c) (Leave i) (option_map (leave (state v)) o) Rest)) at)
+      (says ∙ ap (λ (z : Option Ended). Event (record { statement = e.statement; answer = None; ended = z })) remains
+      ∙ sym (cond-true (is_event v (Some deed)) (Event y) (Quiet y) (left_event v x x.kind (is_last (state v) x)))) story went_carried (half ∙ rests)
