@@ -11,8 +11,10 @@ step-stepped-requires c =
     let l = ap (λ (u : Sight). length u.walks) c.self.view_is in
     let m = length-map c.self.inside.threads.items thread_walk in
     let lt : c.args.number < length c.self.inside.threads.items = omega (arith, l, m, c.requires) in
-    record { fits = c.self.invariant.0.each c.args.number c.index_mut-thread.result.now
-    (thread_at c.self.inside.threads.items c.args.number c.index_mut-thread.result.now lt c.index_mut-thread.ensures.value) }
+    record {
+      fits = c.self.invariant.0.each c.args.number c.index_mut-thread.result.now
+          (thread_at c.self.inside.threads.items c.args.number c.index_mut-thread.result.now lt c.index_mut-thread.ensures.value);
+    }
 
 pub invariant_of-self : goal.invariant_of-self
 invariant_of-self c =
