@@ -1,7 +1,8 @@
 -- A thread at its start fits the table.
-use Rattle.std.proofs.Common.{◌≡◌, ℕ, zero, suc, ◌+◌, ◌<◌, ◌≤◌, false, List, [], ◌∷◌, ◌++◌, length, Option}
+use Rattle.std.proofs.Common.{◌≡◌, ℕ, zero, suc, ◌+◌, ◌<◌, ◌≤◌, ◌==◌, false, List, [], ◌∷◌, ◌++◌, length, Option}
 use Rattle.std.proofs.Common.{get_or, replicate, refl, sym, ap, subst, ◌∙◌, inl, arith}
 use Rattle.std.specs.Prelude.{All, Some, None, slice_get}
+use Rattle.std.proofs.lemmas.Bool.{cond_both}
 use Rattle.std.proofs.lemmas.List.{length-replicate}
 use Rattle.std.proofs.lemmas.List.Elements.{All-append, All-cons, All-head, All-nil, All-tail}
 use Rattle.control_word.specs.declared.handle.Handle.{Handle}
@@ -14,12 +15,14 @@ use Rattle.step_threads.specs.declared.call.Call.TheVariants as call
 use Rattle.step_threads.specs.declared.call.CellName.{CellName}
 use Rattle.step_threads.specs.declared.call.CellName.TheVariants as cell
 use Rattle.step_threads.specs.declared.call.Kind.{Kind}
+use Rattle.step_threads.specs.declared.call.Name.{Name}
+use Rattle.step_threads.specs.declared.ending.Ending.{Ending}
 use Rattle.step_table.specs.declared.extent.Extent.{Extent}
 use Rattle.step_table.specs.declared.slot.Slot.{Slot}
 use Rattle.step_threads.specs.Acts.{acts, clearing, numbered, tasks_from}
-use Rattle.step_threads.specs.Courses.{HasCell, IsReady, Ready, hand, other}
+use Rattle.step_threads.specs.Courses.{HasCell, IsNamed, IsReady, Ready, hand, other}
 use Rattle.step_table.specs.Holdings.{Holds, IsSlot, Slots, full, owns, plain, value}
-use Rattle.step_threads.specs.Programs.{Asked, HasCells, IsDeclared, IsFound, IsIn, IsPart, IsWellNamed, Part, either, names_of, owner, weak}
+use Rattle.step_threads.specs.Programs.{Asked, HasCells, IsDeclared, IsFound, IsIn, IsPart, IsWellNamed, Part, as_in, either, names_of, owner, through, weak}
 use Rattle.step_core.specs.Starts.{HasFields, first_story}
 use Rattle.step_table.specs.Stories.{Nothing, Story, pending}
 use Rattle.step_table.proofs.tables.Start.{fresh_at}
@@ -64,6 +67,18 @@ clearing_ready n (suc k) le = ((omega arith, refl), tt, clearing_ready n k (omeg
 name_within : (kinds : List Kind) (c : Call) (i : ℕ) (x : Asked) → i < length (names_of c) → x ≡ get_or (names_of c) i x → IsWellNamed kinds c
     → x.0.0 < length kinds
 name_within kinds c i x lt e named = within kinds x.0.0 x.1 (subst (IsDeclared kinds) (sym e) (named i x lt))
+
+-- the name of a value for a cell, and the name before the dot
+in_within : (kinds : List Kind) (c : CellName) (t : Name) → IsDeclared kinds (as_in c t) → t.0 < length kinds
+in_within kinds (cell.Shared n) t h = within kinds t.0 _ h
+in_within kinds (cell.Weak n) t h = within kinds t.0 _ h
+in_within kinds (cell.Member k m) t h =
+    cond_both (m == 2) (weak t) (owner t) (λ (x : Asked). IsDeclared kinds x → t.0 < length kinds) (λ e. within kinds t.0 _) (λ e. within kinds t.0 _) h
+
+cell_within : (kinds : List Kind) (c : CellName) → All (IsDeclared kinds) (through c) → IsNamed (length kinds) c
+cell_within kinds (cell.Shared n) all = tt
+cell_within kinds (cell.Weak n) all = tt
+cell_within kinds (cell.Member k m) all = within kinds k.0 _ (All-head (IsDeclared kinds) (owner k) [] all)
 
 call_ready : (kinds : List Kind) (k : ℕ) (c : Call) (ts : List Task) → IsWellNamed kinds c → HasFields c → Ready (length kinds) false ts
     → Ready (length kinds) false (numbered k (acts c) ++ ts)
@@ -131,26 +146,21 @@ call_ready kinds k (call.Upgrade t s) ts named four r = (
   tt,
   (name_within kinds (call.Upgrade t s) 0 (owner t) (omega arith) refl named, tt, r),
 )
-call_ready kinds k (call.Store (cell.Shared n) t) ts named four r =
-    ((name_within kinds (call.Store (cell.Shared n) t) 0 (owner t) (omega arith) refl named, refl), tt, (tt, tt, (refl, tt, r)))
-call_ready kinds k (call.Store (cell.Weak n) t) ts named four r =
-    ((name_within kinds (call.Store (cell.Weak n) t) 0 (weak t) (omega arith) refl named, refl), tt, (tt, tt, (refl, tt, r)))
-call_ready kinds k (call.Exchange (cell.Shared n) t) ts named four r =
-    ((name_within kinds (call.Exchange (cell.Shared n) t) 0 (owner t) (omega arith) refl named, refl), tt, r)
-call_ready kinds k (call.Exchange (cell.Weak n) t) ts named four r =
-    ((name_within kinds (call.Exchange (cell.Weak n) t) 0 (weak t) (omega arith) refl named, refl), tt, r)
-call_ready kinds k (call.Load t (cell.Shared n)) ts named four r =
-    (refl, tt, (name_within kinds (call.Load t (cell.Shared n)) 0 (owner t) (omega arith) refl named, tt, r))
-call_ready kinds k (call.Load t (cell.Weak n)) ts named four r =
-    (refl, tt, (name_within kinds (call.Load t (cell.Weak n)) 0 (weak t) (omega arith) refl named, tt, r))
-call_ready kinds k (call.Compare (cell.Shared n) x y b) ts named four r =
-    let i = name_within kinds (call.Compare (cell.Shared n) x y b) 0 (owner x) (omega arith) refl named in
-    let j = name_within kinds (call.Compare (cell.Shared n) x y b) 1 (owner y) (omega arith) refl named in
-    ((j, refl), tt, (i, tt, (i, tt, (refl, tt, r))))
-call_ready kinds k (call.Compare (cell.Weak n) x y b) ts named four r =
-    let i = name_within kinds (call.Compare (cell.Weak n) x y b) 0 (weak x) (omega arith) refl named in
-    let j = name_within kinds (call.Compare (cell.Weak n) x y b) 1 (weak y) (omega arith) refl named in
-    ((j, refl), tt, (i, tt, (i, tt, (refl, tt, r))))
+call_ready kinds k (call.Store c t) ts named four r =
+    let n = cell_within kinds c (All-tail (IsDeclared kinds) (as_in c t) (through c) named) in
+    ((in_within kinds c t (All-head (IsDeclared kinds) (as_in c t) (through c) named), n, refl), tt, (n, tt, (refl, tt, r)))
+call_ready kinds k (call.Exchange c t) ts named four r =
+    let n = cell_within kinds c (All-tail (IsDeclared kinds) (as_in c t) (through c) named) in
+    ((in_within kinds c t (All-head (IsDeclared kinds) (as_in c t) (through c) named), n, refl), tt, r)
+call_ready kinds k (call.Load t c) ts named four r =
+    let n = cell_within kinds c (All-tail (IsDeclared kinds) (as_in c t) (through c) named) in
+    ((n, refl), tt, (in_within kinds c t (All-head (IsDeclared kinds) (as_in c t) (through c) named), tt, r))
+call_ready kinds k (call.Compare c x y b) ts named four r =
+    let more = All-tail (IsDeclared kinds) (as_in c x) (as_in c y ∷ through c) named in
+    let i = in_within kinds c x (All-head (IsDeclared kinds) (as_in c x) (as_in c y ∷ through c) named) in
+    let j = in_within kinds c y (All-head (IsDeclared kinds) (as_in c y) (through c) more) in
+    let n = cell_within kinds c (All-tail (IsDeclared kinds) (as_in c y) (through c) more) in
+    ((j, n, refl), tt, ((i, n), tt, (i, tt, (refl, tt, r))))
 
 tasks_ready : (kinds : List Kind) (k : ℕ) (calls : List Call) → All (IsWellNamed kinds) calls → All HasFields calls
     → Ready (length kinds) false (tasks_from k calls (length kinds))
@@ -159,15 +169,15 @@ tasks_ready kinds k (c ∷ cs) named four =
     call_ready kinds k c (tasks_from (k + 1) cs (length kinds)) (All-head (IsWellNamed kinds) c cs named) (All-head HasFields c cs four)
     (tasks_ready kinds (k + 1) cs (All-tail (IsWellNamed kinds) c cs named) (All-tail HasFields c cs four))
 
-pub ready_start : (part : Part) (tasks : List Task) (slots : Slots) → IsPart part → All HasFields part.calls
-    → tasks ≡ tasks_from 1 part.calls (length part.kinds) → slots ≡ replicate (length part.kinds + 2) plain → IsReady slots false tasks
-ready_start part tasks slots fine four is empty =
+pub ready_start : (part : Part) (tasks : List Task) (slots : Slots) (es : List Ending) → IsPart part → All HasFields part.calls
+    → tasks ≡ tasks_from 1 part.calls (length part.kinds) → slots ≡ replicate (length part.kinds + 2) plain → IsReady slots false es tasks
+ready_start part tasks slots es fine four is empty =
     let l = length-replicate {A = Slot} (length part.kinds + 2) plain in
     let s : length slots ≡ length part.kinds + 2 = ap (λ (z : Slots). length z) empty ∙ l in
     let h : other slots ≡ length part.kinds = omega (arith, s) in
     record {
       some = omega (arith, s);
-      free = λ t. ap (λ (z : Slots). value z (hand slots)) empty ∙ slot_none (length part.kinds + 2) (hand slots);
+      free = λ t. inl (ap (λ (z : Slots). value z (hand slots)) empty ∙ slot_none (length part.kinds + 2) (hand slots));
       owes = inl (ap (λ (z : Slots). value z (other slots)) empty ∙ slot_none (length part.kinds + 2) (other slots));
       ready = subst (λ (n : ℕ). Ready n false tasks) (sym h) (subst (λ (z : List Task). Ready (length part.kinds) false z) (sym is)
           (tasks_ready part.kinds 1 part.calls fine.named four));

@@ -10,6 +10,7 @@ pub mod Locking
 pub mod Making
 pub mod Saying
 pub mod Looking
+pub mod Firsts
 pub mod Playing
 pub mod Swapping
 pub mod Trials

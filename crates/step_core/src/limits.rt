@@ -175,7 +175,10 @@ fn is_part(actor: &Actor) -> bool
         return false;
     }
     for call in &actor.calls {
-        if !(is_well_named(actor.kinds.as_slice(), *call) && is_apart(*call)) {
+        if !is_well_named(actor.kinds.as_slice(), *call) {
+            return false;
+        }
+        if !is_apart(*call) {
             return false;
         }
     }

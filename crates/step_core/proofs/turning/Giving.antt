@@ -8,7 +8,7 @@ use Rattle.step_threads.specs.declared.act.Act.{Act}
 use Rattle.step_threads.specs.declared.act.Act.TheVariants.{FromThis}
 use Rattle.step_threads.specs.declared.act.Task.{Task}
 use Rattle.step_threads.specs.declared.half.Half.{Half}
-use Rattle.step_threads.specs.declared.half.Half.TheVariants.{Rest, Making, Locking, Giving, Brought, Saw, Matched, Refill, Returning}
+use Rattle.step_threads.specs.declared.half.Half.TheVariants.{Rest, Making, Locking, Giving, Brought, Saw, Matched, Refill, Returning, Clearing}
 use Rattle.step_table.specs.declared.holdings.Pointer.{Pointer}
 use Rattle.step_threads.specs.declared.said.Stepped.{Stepped}
 use Rattle.step_threads.specs.declared.said.Stepped.TheVariants.{Waited}
@@ -69,6 +69,7 @@ gives_so d u r (Saw wd) e is begun answer = absurd (false≢true is)
 gives_so d u r (Matched wd) e is begun answer = absurd (false≢true is)
 gives_so d u r (Refill stage cell wd line) e is begun answer = absurd (false≢true is)
 gives_so d u r (Returning kind b funds k) e is begun answer = absurd (false≢true is)
+gives_so d u r Clearing e is begun answer = absurd (false≢true is)
 gives_so d u r (Giving i q x) e is begun answer =
     let w = walk_of (scene u) d in
     gives_by d u r i q x w.todo e refl (subst (λ (h : Half). IsUnderWay d u.story h w.todo) e begun.half)

@@ -7,7 +7,7 @@ use Rattle.step_threads.specs.declared.act.Act.TheVariants.{Make, Share, Downgra
 use Rattle.step_threads.specs.declared.act.Task.{Task}
 use Rattle.step_threads.specs.declared.ending.Ending.{Ending}
 use Rattle.step_threads.specs.declared.half.Half.{Half}
-use Rattle.step_threads.specs.declared.half.Half.TheVariants.{Rest, Making, Locking, Giving, Brought, Saw, Matched, Refill, Returning}
+use Rattle.step_threads.specs.declared.half.Half.TheVariants.{Rest, Making, Locking, Giving, Brought, Saw, Matched, Refill, Returning, Clearing}
 use Rattle.step_table.specs.declared.holdings.Pointer.{Pointer}
 use Rattle.step_threads.specs.declared.said.Stepped.{Stepped}
 use Rattle.step_threads.specs.declared.said.Stepped.TheVariants.{Waited}
@@ -139,6 +139,7 @@ locks_now d u (Saw wd) e is begun = absurd (false≢true is)
 locks_now d u (Matched wd) e is begun = absurd (false≢true is)
 locks_now d u (Refill stage cell wd line) e is begun = absurd (false≢true is)
 locks_now d u (Returning kind b funds k) e is begun = absurd (false≢true is)
+locks_now d u Clearing e is begun = absurd (false≢true is)
 locks_now d u (Locking word) e is begun =
     let w = walk_of (scene u) d in (word, locks_by d u word w.todo e (subst (λ (h : Half). IsAlone h w.endings) e begun.alone) refl (subst (λ (h : Half). IsTried h w) e begun.tried))
 

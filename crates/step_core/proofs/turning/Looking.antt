@@ -14,8 +14,10 @@ use Rattle.step_table.specs.declared.cell_deed.Compared.{Compared}
 use Rattle.step_table.specs.declared.past.Deed.{Deed}
 use Rattle.step_table.specs.declared.past.Deed.TheVariants.{OnCell}
 use Rattle.step_table.specs.CellDeeds.{cell_in, kind_in}
+use Rattle.step_table.specs.Cells.{IsOpenTo}
 use Rattle.step_table.specs.Contents.{as_word, compare_of, compared_in, held_in, is_of, is_spent, load_of, same_value, seen, told}
 use Rattle.step_table.specs.Holdings.{Holds, value}
+use Rattle.step_table.specs.Openings.{opening}
 use Rattle.step_table.specs.Stories.{Kept, Nothing, added, event_of, state}
 use Rattle.step_table.proofs.contained.Coming.{seen_found}
 use Rattle.step_table.proofs.contained.Telling.{look_tells, unlike_tells}
@@ -27,8 +29,9 @@ use Rattle.step_threads.specs.declared.call.CellName.{CellName}
 use Rattle.step_threads.specs.declared.ending.Ending.{Ending}
 use Rattle.step_threads.specs.declared.half.Half.{Half}
 use Rattle.step_threads.specs.declared.half.Half.TheVariants.{Rest, Saw}
-use Rattle.step_threads.specs.Courses.{HasCell, cell_at, comparing, hand, idle, kind_at}
-use Rattle.step_threads.specs.Scenes.{walk_of, went}
+use Rattle.step_threads.specs.Courses.{HasCell, cell_at, comparing, hand, idle, is_offered, is_there, kind_at}
+use Rattle.step_threads.specs.Entries.{loads}
+use Rattle.step_threads.specs.Scenes.{Scene, walk_of, went}
 use Rattle.step_threads.specs.Steps.{Step, acts, first, sees, waits, waits_at, waits_on, within}
 use Rattle.step_core.specs.Turning.{HasBegun, IsInShape, IsStill, is_acting}
 use Rattle.step_core.specs.Worlds.{Sight, half_of, scene, sight_by}
@@ -63,11 +66,22 @@ awake_on d u t ts rest none todo awake =
     let v = u.story in
     sym (ap (λ (h : Half). waits v h w) rest ∙ ap (λ (es : List Ending). waits_at v w es w.todo) none ∙ ap (waits_at v w []) todo) ∙ awake
 
+-- the scene after a load, by whether the cell is there
+abbrev load_scene : ℕ → Sight → ℕ → List Task → CellName → Bool → Scene
+load_scene d u k ts c is =
+    let w = walk_of (scene u) d in
+    let v = u.story in
+    record {
+      extent = v.extent;
+      history = cond is (loads (opening v.extent) d w.slots v.history c) v.history;
+      walks = set u.walks d (went (state v) d w k ts (Load c));
+    }
+
 -- the event of a load
-pub load_so : (d : ℕ) (u : Sight) (k : ℕ) (ts : List Task) (c : CellName) (y : Deed) (h : Half)
-    → ◌≡◌ {A = Option (Event Nothing)} (event_of u.story y) (Some (load_of (state u.story) (cell_at (state u.story) c)))
+pub load_so : (d : ℕ) (u : Sight) (k : ℕ) (ts : List Task) (c : CellName) (y : Deed) (h : Half) → is_there (walk_of (scene u) d).slots c ≡ true
+    → ◌≡◌ {A = Option (Event Nothing)} (event_of u.story y) (Some (load_of (state u.story) (cell_at (state u.story) (walk_of (scene u) d).slots c)))
     → Acts d u k ts (Load c) (acts u.story d (walk_of (scene u) d) k ts (Load c) (Some y) h)
-load_so d u k ts c y h e =
+load_so d u k ts c y h there e =
     let w = walk_of (scene u) d in
     let v = u.story in (
       refl,
@@ -75,21 +89,26 @@ load_so d u k ts c y h e =
         extent = v.extent;
         history = added d o v.history;
         walks = set u.walks d (went (state v) d w k ts (Load c));
-      }) e,
+      }) e ∙ ap (load_scene d u k ts c) (sym there),
     )
+
+-- a load of a member of no object
+unloaded : (d : ℕ) (u : Sight) (k : ℕ) (ts : List Task) (c : CellName) → is_there (walk_of (scene u) d).slots c ≡ false
+    → Acts d u k ts (Load c) (acts u.story d (walk_of (scene u) d) k ts (Load c) None Rest)
+unloaded d u k ts c out = (refl, ap (load_scene d u k ts c) (sym out))
 
 -- the event of a compare
 pub compare_so : (d : ℕ) (u : Sight) (k : ℕ) (ts : List Task) (i : ℕ) (c : CellName) (weak : Bool) (y : Deed) (h : Half)
     → HasCell u.story.extent.shape (Compare i c weak)
     → let slots = (walk_of (scene u) d).slots in
     ◌≡◌ {A = Option (Event Nothing)} (event_of u.story y)
-    (Some (compare_of (state u.story) (cell_at (state u.story) c) (value slots i) (value slots (hand slots)) weak))
+    (Some (compare_of (state u.story) (cell_at (state u.story) slots c) (value slots i) (value slots (hand slots)) weak))
     → Acts d u k ts (Compare i c weak) (acts u.story d (walk_of (scene u) d) k ts (Compare i c weak) (Some y) h)
 compare_so d u k ts i c weak y h is e =
     let w = walk_of (scene u) d in
     let v = u.story in
     let s = state v in
-    let x = cell_at s c in
+    let x = cell_at s w.slots c in
     let a = value w.slots i in
     let b = value w.slots (hand w.slots) in
     let walks = set u.walks d (went s d w k ts (Compare i c weak)) in (
@@ -99,34 +118,44 @@ compare_so d u k ts i c weak y h is e =
             extent = v.extent;
             history = entry d (event.Compare (cell_in s x) (told s q a) (told s q b) (held_in s x) (equivalent (held_in s x) (told s q a)) weak) ∷ v.history;
             walks = walks;
-          }) (cell_kind v c is),
+          }) (cell_kind v w.slots c is),
     )
 
 not_false : (b : Bool) → not b ≡ false → b ≡ true
 not_false true e = refl
 not_false false e = absurd (false≢true (sym e))
 
--- the values of a compare may go into its cell
+-- the cell of a compare is there, and its values may go in
 pub record MayCompare (d : ℕ) (u : Sight) (i : ℕ) (c : CellName) : Type 0 where
-  pub expected : let v = u.story in is_of (kind_in (state v) (cell_at (state v) c)) (value (walk_of (scene u) d).slots i) ≡ true
+  pub there : is_there (walk_of (scene u) d).slots c ≡ true
+  pub expected : let v = u.story in let slots = (walk_of (scene u) d).slots in
+      is_of (kind_in (state v) (cell_at (state v) slots c)) (value slots i) ≡ true
   pub new : let v = u.story in let slots = (walk_of (scene u) d).slots in
-      is_of (kind_in (state v) (cell_at (state v) c)) (value slots (hand slots)) ≡ true
+      is_of (kind_in (state v) (cell_at (state v) slots c)) (value slots (hand slots)) ≡ true
 
 pub may_compare : (d : ℕ) (u : Sight) (i : ℕ) (c : CellName) (weak : Bool) → CanLook d u (Compare i c weak) → MayCompare d u i c
 may_compare d u i c weak can =
     let w = walk_of (scene u) d in
     let slots = w.slots in
     let n = not_false _ can.still in
-    let p = and_parts (w.taken && is_of (kind_at c) (value slots (hand slots))) (is_of (kind_at c) (value slots i)) n in
-    let q = and_parts w.taken (is_of (kind_at c) (value slots (hand slots))) p.0 in
+    let p = and_parts (is_offered slots w.taken c) (is_of (kind_at c) (value slots i)) n in
+    let q = and_parts (w.taken && is_there slots c) (is_of (kind_at c) (value slots (hand slots))) p.0 in
     record {
-      expected = goes_in u.story c (value slots i) can.cell p.1;
-      new = goes_in u.story c (value slots (hand slots)) can.cell q.1;
+      there = (and_parts w.taken (is_there slots c) q.0).1;
+      expected = goes_in u.story slots c (value slots i) can.cell p.1;
+      new = goes_in u.story slots c (value slots (hand slots)) can.cell q.1;
     }
 
+-- the cell that it looks at
+pub cell_now : (d : ℕ) (u : Sight) (c : CellName) (a : Act) → CanLook d u a → HasCell u.story.extent.shape (Load c)
+    → is_there (walk_of (scene u) d).slots c ≡ true → IsOpenTo u.story d (cell_at (state u.story) (walk_of (scene u) d).slots c)
+cell_now d u c a can is there = cell_open u.story d (walk_of (scene u) d).slots c is can.holds there
+
 pub found_now : (d : ℕ) (u : Sight) (c : CellName) (a : Act) → CanLook d u a → HasCell u.story.extent.shape (Load c)
-    → Found u.story (cell_at (state u.story) c) (seen u.story (cell_at (state u.story) c))
-found_now d u c a can is = seen_found u.story d (cell_at (state u.story) c) can.kept can.seat (cell_open u.story d c is)
+    → is_there (walk_of (scene u) d).slots c ≡ true
+    → let x = cell_at (state u.story) (walk_of (scene u) d).slots c in Found u.story x (seen u.story x)
+found_now d u c a can is there =
+    seen_found u.story d (cell_at (state u.story) (walk_of (scene u) d).slots c) can.kept can.seat (cell_now d u c a can is there)
 
 -- what a look does: all funds were taken, there is an object, or there is none
 sees_so : (d : ℕ) (u : Sight) (k : ℕ) (ts : List Task) (a : Act) (c : Cell) (y : Option Compared) (x : CellWord) → is_spent x ≡ false
@@ -153,30 +182,41 @@ sees_same d u k ts a c y x =
 
 pub load_first : (d : ℕ) (u : Sight) (k : ℕ) (ts : List Task) (c : CellName) → CanLook d u (Load c) → waits_on u.story (walk_of (scene u) d) (Load c) ≡ false
     → let x = first u.story d (walk_of (scene u) d) k ts (Load c) in is_acting x.half ≡ false → Acts d u k ts (Load c) x
-load_first d u k ts c can none is =
+load_first d u k ts c can none =
     let v = u.story in
-    let x = cell_at (state v) c in
-    sees_so d u k ts (Load c) x None (seen v x) none
-    (load_so d u k ts c (OnCell (Look x (seen v x) None)) Rest (look_tells v x (seen v x) (found_now d u c (Load c) can can.cell))) is
+    let w = walk_of (scene u) d in
+    let x = cell_at (state v) w.slots c in
+    let is = is_there w.slots c in
+    cond_both is (sees v d w k ts (Load c) x None (seen v x)) (acts v d w k ts (Load c) None Rest)
+    (λ (s : Step). is_acting s.half ≡ false → Acts d u k ts (Load c) s)
+    (λ t. sees_so d u k ts (Load c) x None (seen v x) (sym (ap (λ (b : Bool). b && is_spent (seen v x)) t) ∙ none)
+    (load_so d u k ts c (OnCell (Look x (seen v x) None)) Rest t (look_tells v x (seen v x) (found_now d u c (Load c) can can.cell t))))
+    (λ f q. unloaded d u k ts c f)
 
 pub load_same : (d : ℕ) (u : Sight) (k : ℕ) (ts : List Task) (c : CellName)
     → let x = first u.story d (walk_of (scene u) d) k ts (Load c) in is_acting x.half ≡ true → scene (sight_by d u (Some x)) ≡ scene u
-load_same d u k ts c is = let x = cell_at (state u.story) c in sees_same d u k ts (Load c) x None (seen u.story x) is
+load_same d u k ts c =
+    let v = u.story in
+    let w = walk_of (scene u) d in
+    let x = cell_at (state v) w.slots c in
+    cond_both (is_there w.slots c) (sees v d w k ts (Load c) x None (seen v x)) (acts v d w k ts (Load c) None Rest)
+    (λ (s : Step). is_acting s.half ≡ true → scene (sight_by d u (Some s)) ≡ scene u)
+    (λ t. sees_same d u k ts (Load c) x None (seen v x)) (λ f q. absurd (false≢true q))
 
 -- a compare that finds no object, and so differs
 pub unlike_so : (d : ℕ) (u : Sight) (k : ℕ) (ts : List Task) (i : ℕ) (c : CellName) (weak : Bool) → CanLook d u (Compare i c weak)
-    → let v = u.story in let w = walk_of (scene u) d in let x = cell_at (state v) c in
+    → let v = u.story in let w = walk_of (scene u) d in let x = cell_at (state v) w.slots c in
     same_value (seen v x) (as_word (value w.slots i)) ≡ false
     → Acts d u k ts (Compare i c weak)
     (acts v d w k ts (Compare i c weak) (Some (OnCell (Look x (seen v x) (Some (compared_in w.slots (comparing w.slots i weak)))))) Rest)
 unlike_so d u k ts i c weak can differs =
     let v = u.story in
     let w = walk_of (scene u) d in
-    let x = cell_at (state v) c in
+    let x = cell_at (state v) w.slots c in
     let y = comparing w.slots i weak in
     let may = may_compare d u i c weak can in
     compare_so d u k ts i c weak (OnCell (Look x (seen v x) (Some (compared_in w.slots y)))) Rest can.cell
-    (unlike_tells v x (seen v x) (found_now d u c (Compare i c weak) can can.cell) d w.slots y can.kept can.holds may.expected may.new differs)
+    (unlike_tells v x (seen v x) (found_now d u c (Compare i c weak) can can.cell may.there) d w.slots y can.kept can.holds may.expected may.new differs)
 
 pub compare_first : (d : ℕ) (u : Sight) (k : ℕ) (ts : List Task) (i : ℕ) (c : CellName) (weak : Bool) → CanLook d u (Compare i c weak)
     → waits_on u.story (walk_of (scene u) d) (Compare i c weak) ≡ false
@@ -184,7 +224,7 @@ pub compare_first : (d : ℕ) (u : Sight) (k : ℕ) (ts : List Task) (i : ℕ) (
 compare_first d u k ts i c weak can none =
     let v = u.story in
     let w = walk_of (scene u) d in
-    let x = cell_at (state v) c in
+    let x = cell_at (state v) w.slots c in
     let a = Compare i c weak in
     let q = compared_in w.slots (comparing w.slots i weak) in
     let same = same_value (seen v x) (as_word (value w.slots i)) in
@@ -198,7 +238,7 @@ pub compare_same : (d : ℕ) (u : Sight) (k : ℕ) (ts : List Task) (i : ℕ) (c
 compare_same d u k ts i c weak =
     let v = u.story in
     let w = walk_of (scene u) d in
-    let x = cell_at (state v) c in
+    let x = cell_at (state v) w.slots c in
     let a = Compare i c weak in
     let q = compared_in w.slots (comparing w.slots i weak) in
     cond_both (same_value (seen v x) (as_word (value w.slots i))) (within w k None (Saw (seen v x))) (sees v d w k ts a x (Some q) (seen v x))

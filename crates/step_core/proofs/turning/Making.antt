@@ -7,7 +7,7 @@ use Rattle.std.proofs.lemmas.List.{set-get_or, set-set}
 use Rattle.control_word.specs.declared.place.Block.{Block}
 use Rattle.step_threads.specs.declared.act.Task.{Task}
 use Rattle.step_threads.specs.declared.half.Half.{Half}
-use Rattle.step_threads.specs.declared.half.Half.TheVariants.{Rest, Making, Locking, Giving, Brought, Saw, Matched, Refill, Returning}
+use Rattle.step_threads.specs.declared.half.Half.TheVariants.{Rest, Making, Locking, Giving, Brought, Saw, Matched, Refill, Returning, Clearing}
 use Rattle.step_threads.specs.declared.said.Stepped.{Stepped}
 use Rattle.step_threads.specs.Actors.{wanted}
 use Rattle.step_threads.specs.Courses.{Walk, form_of}
@@ -30,6 +30,7 @@ words_left (Saw wd) = 0
 words_left (Matched wd) = 0
 words_left (Refill stage cell wd line) = 0
 words_left (Returning kind b funds k) = 0
+words_left Clearing = 0
 
 -- a make in the same block
 abbrev pub SameMake : Half → Half → Type 0
@@ -54,6 +55,7 @@ same_start (Saw wd) is = absurd (false≢true is)
 same_start (Matched wd) is = absurd (false≢true is)
 same_start (Refill stage cell wd line) is = absurd (false≢true is)
 same_start (Returning kind b funds k) is = absurd (false≢true is)
+same_start Clearing is = absurd (false≢true is)
 
 pub at_start : (d : ℕ) (u : Sight) → is_making (half_of u d) ≡ true → IsAt d u u
 at_start d u is = record {
@@ -123,6 +125,7 @@ prepared d u (Saw wd) e begun is = absurd (false≢true is)
 prepared d u (Matched wd) e begun is = absurd (false≢true is)
 prepared d u (Refill stage cell wd line) e begun is = absurd (false≢true is)
 prepared d u (Returning kind b funds k) e begun is = absurd (false≢true is)
+prepared d u Clearing e begun is = absurd (false≢true is)
 
 same_make : (a b c : Half) → SameMake a b → SameMake b c → SameMake a c
 same_make (Making b i f) (Making c j g) (Making e k h) p q = q ∙ p
@@ -134,6 +137,7 @@ same_make (Making b i f) (Making c j g) (Saw wd) p q = absurd q
 same_make (Making b i f) (Making c j g) (Matched wd) p q = absurd q
 same_make (Making b i f) (Making c j g) (Refill stage cell wd line) p q = absurd q
 same_make (Making b i f) (Making c j g) (Returning kind n funds k) p q = absurd q
+same_make (Making b i f) (Making c j g) Clearing p q = absurd q
 same_make (Making b i f) (Locking word) c p q = absurd p
 same_make (Making b i f) (Giving n kind x) c p q = absurd p
 same_make (Making b i f) Brought c p q = absurd p
@@ -141,6 +145,7 @@ same_make (Making b i f) (Saw wd) c p q = absurd p
 same_make (Making b i f) (Matched wd) c p q = absurd p
 same_make (Making b i f) (Refill stage cell wd line) c p q = absurd p
 same_make (Making b i f) (Returning kind n funds k) c p q = absurd p
+same_make (Making b i f) Clearing c p q = absurd p
 same_make (Making b i f) Rest c p q = absurd p
 same_make Rest b c p q = absurd p
 same_make (Locking word) b c p q = absurd p
@@ -150,6 +155,7 @@ same_make (Saw wd) b c p q = absurd p
 same_make (Matched wd) b c p q = absurd p
 same_make (Refill stage cell wd line) b c p q = absurd p
 same_make (Returning kind n funds k) b c p q = absurd p
+same_make Clearing b c p q = absurd p
 
 -- a step of a make that has words left
 pub at_step : (d : ℕ) (u v v' : Sight) (r : Stepped) → IsAt d u v → HasBegun d v → is_preparing (half_of v d) ≡ true → Steps d v r v'
@@ -189,6 +195,7 @@ ready_half (Making b i f) (Saw wd) same is = absurd same
 ready_half (Making b i f) (Matched wd) same is = absurd same
 ready_half (Making b i f) (Refill stage cell wd line) same is = absurd same
 ready_half (Making b i f) (Returning kind n funds k) same is = absurd same
+ready_half (Making b i f) Clearing same is = absurd same
 ready_half Rest h same is = absurd same
 ready_half (Locking word) h same is = absurd same
 ready_half (Giving n kind x) h same is = absurd same
@@ -197,6 +204,7 @@ ready_half (Saw wd) h same is = absurd same
 ready_half (Matched wd) h same is = absurd same
 ready_half (Refill stage cell wd line) h same is = absurd same
 ready_half (Returning kind n funds k) h same is = absurd same
+ready_half Clearing h same is = absurd same
 
 pub ready : (d : ℕ) (u v : Sight) → IsAt d u v → is_preparing (half_of v d) ≡ false → Prepares d u v
 ready d u v at is = record { scene = at.scene; ready = ready_half (half_of u d) (half_of v d) at.same is; halves = at.halves }

@@ -2,7 +2,7 @@
 use Rattle.std.proofs.Common.{◌≡◌, inr, ℕ, ◌<◌, ◌==◌, Bool, true, false, cond, not, ◌&&◌, List, refl, sym, ap, subst, ◌∙◌, arith}
 use Rattle.std.proofs.Common.{eq-eqb}
 use Rattle.std.specs.Prelude.{Option, Some, None}
-use Rattle.std.proofs.lemmas.Bool.{cond_both, eqb-true, false≢true}
+use Rattle.std.proofs.lemmas.Bool.{cond-true, cond_both, eqb-true, false≢true}
 use Rattle.control_word.specs.declared.cell.CellWord.{CellWord}
 use Rattle.control_word.specs.Packing.{IsCellWord, cell_bits}
 use Rattle.step_table.specs.declared.cell_deed.CellDeed.TheVariants.{CompareSwap, Look, Take}
@@ -25,39 +25,42 @@ use Rattle.step_threads.specs.declared.act.Task.{Task}
 use Rattle.step_threads.specs.declared.call.CellName.{CellName}
 use Rattle.step_threads.specs.declared.half.Half.{Half}
 use Rattle.step_threads.specs.declared.half.Half.TheVariants.{Rest, Saw, Matched, Refill}
-use Rattle.step_threads.specs.Courses.{cell_at, comparing, hand}
+use Rattle.step_threads.specs.Courses.{cell_at, comparing, hand, is_there}
 use Rattle.step_threads.specs.Scenes.{walk_of}
 use Rattle.step_threads.specs.Steps.{Step, acts, fetches, first, gives_back, matched_on, matches, saw_on, sees, settles, takes, waits_on, within}
 use Rattle.step_threads.specs.Threads.{IsMatchedBy, IsSeenBy}
+use Rattle.step_core.specs.Bounds.{shows_on}
 use Rattle.step_core.specs.Worlds.{Sight, scene}
-use Rattle.step_threads.proofs.CellNames.{cell_open}
-use Rattle.step_core.proofs.turning.Looking.{CanLook, compare_so, found_now, load_so, may_compare, unlike_so}
+use Rattle.step_core.proofs.turning.Looking.{CanLook, cell_now, compare_so, found_now, load_so, may_compare, unlike_so}
 use Rattle.step_core.proofs.turning.Refilling.{brought_word, kept_block}
 use Rattle.step_core.proofs.turning.Saying.{Acts}
-use Rattle.step_core.proofs.turning.Trials.{Outcome, Tried, is_looking, left_on, matches_out, sees_out, shows_on, takes_out}
+use Rattle.step_core.proofs.turning.Trials.{Outcome, Tried, is_looking, left_on, matches_out, sees_out, takes_out}
 
 less_matched : (b : Bool) → cond b 2 6 < cond b 3 7
 less_matched true = omega arith
 less_matched false = omega arith
 
 module _ (d : ℕ) (u : Sight) (k : ℕ) (ts : List Task) (c : CellName) where
-  load_rest : CanLook d u (Load c) → waits_on u.story (walk_of (scene u) d) (Load c) ≡ false
-      → Outcome d u k ts (Load c) Rest (first u.story d (walk_of (scene u) d) k ts (Load c))
-  load_rest can none =
+  load_rest : CanLook d u (Load c) → waits_on u.story (walk_of (scene u) d) (Load c) ≡ false → is_there (walk_of (scene u) d).slots c ≡ true
+      → let v = u.story in let w = walk_of (scene u) d in let x = cell_at (state v) w.slots c in
+      Outcome d u k ts (Load c) Rest (sees v d w k ts (Load c) x None (seen v x))
+  load_rest can none there =
       let v = u.story in
-      let x = cell_at (state v) c in
-      let found = found_now d u c (Load c) can can.cell in
-      sees_out d u k ts (Load c) x (seen v x) None none (eq-eqb _ _ found.shows.bits)
-      (load_so d u k ts c (OnCell (Look x (seen v x) None)) Rest (look_tells v x (seen v x) found))
+      let w = walk_of (scene u) d in
+      let x = cell_at (state v) w.slots c in
+      let found = found_now d u c (Load c) can can.cell there in
+      sees_out d u k ts (Load c) x (seen v x) None (sym (ap (λ (b : Bool). b && is_spent (seen v x)) there) ∙ none) (eq-eqb _ _ found.shows.bits)
+      (load_so d u k ts c (OnCell (Look x (seen v x) None)) Rest there (look_tells v x (seen v x) found))
 
-  load_saw : (x : CellWord) → IsCellWord x → CanLook d u (Load c)
-      → Outcome d u k ts (Load c) (Saw x) (takes u.story d (walk_of (scene u) d) k ts (Load c) (cell_at (state u.story) c) None x)
-  load_saw x valid can =
+  load_saw : (x : CellWord) → IsCellWord x → CanLook d u (Load c) → is_there (walk_of (scene u) d).slots c ≡ true
+      → let v = u.story in let w = walk_of (scene u) d in
+      Outcome d u k ts (Load c) (Saw x) (takes v d w k ts (Load c) (cell_at (state v) w.slots c) None x)
+  load_saw x valid can there =
       let v = u.story in
-      let y = cell_at (state v) c in
+      let y = cell_at (state v) (walk_of (scene u) d).slots c in
       takes_out d u k ts (Load c) y x None refl
-      (λ t. load_so d u k ts c (OnCell (Take y x None)) (Refill Turning y (more_taken x) k)
-      (take_tells v y x (open_found v d y x can.kept can.seat (cell_open v d c can.cell) valid (eqb-true _ _ t))))
+      (λ t. load_so d u k ts c (OnCell (Take y x None)) (Refill Turning y (more_taken x) k) there
+      (take_tells v y x (open_found v d y x can.kept can.seat (cell_now d u c (Load c) can can.cell there) valid (eqb-true _ _ t))))
 
   module _ (i : ℕ) (weak : Bool) (can : CanLook d u (Compare i c weak)) where
     compare_rest : waits_on u.story (walk_of (scene u) d) (Compare i c weak) ≡ false
@@ -65,12 +68,13 @@ module _ (d : ℕ) (u : Sight) (k : ℕ) (ts : List Task) (c : CellName) where
     compare_rest none =
         let v = u.story in
         let w = walk_of (scene u) d in
-        let x = cell_at (state v) c in
+        let x = cell_at (state v) w.slots c in
         let a = Compare i c weak in
         let q = compared_in w.slots (comparing w.slots i weak) in
-        let found = found_now d u c a can can.cell in
-        let shows : shows_on v (seen v x) a ≡ true = eq-eqb _ _ found.shows.bits in
-        let n : left_on v a (Saw (seen v x)) ≡ 3 = ap (λ (b : Bool). cond b 3 7) shows in
+        let there = (may_compare d u i c weak can).there in
+        let found = found_now d u c a can can.cell there in
+        let shows : shows_on v w.slots (seen v x) a ≡ true = eq-eqb _ _ found.shows.bits in
+        let n : left_on v w.slots a (Saw (seen v x)) ≡ 3 = ap (λ (b : Bool). cond b 3 7) shows in
         cond_both (same_value (seen v x) (as_word (value w.slots i))) (within w k None (Saw (seen v x))) (sees v d w k ts a x (Some q) (seen v x))
         (Outcome d u k ts a Rest)
         (λ t. inr (record { quiet = refl; walk = refl; history = refl; extent = refl; half = refl; less = omega (arith, n) }))
@@ -78,32 +82,32 @@ module _ (d : ℕ) (u : Sight) (k : ℕ) (ts : List Task) (c : CellName) where
         (unlike_so d u k ts i c weak can f))
 
     swapped_so : (x : CellWord) → IsCellWord x → same_value x (as_word (value (walk_of (scene u) d).slots i)) ≡ true
-        → let v = u.story in let w = walk_of (scene u) d in let y = cell_at (state v) c in
+        → let v = u.story in let w = walk_of (scene u) d in let y = cell_at (state v) w.slots c in
         (word_at v y == cell_bits x) ≡ true
         → Acts d u k ts (Compare i c weak) (acts v d w k ts (Compare i c weak)
         (Some (OnCell (CompareSwap y x (compared_in w.slots (comparing w.slots i weak))))) (gives_back (kind_in (state v) y) k x x.owned))
     swapped_so x valid same t =
         let v = u.story in
         let w = walk_of (scene u) d in
-        let y = cell_at (state v) c in
+        let y = cell_at (state v) w.slots c in
         let q = comparing w.slots i weak in
         let may = may_compare d u i c weak can in
-        let found = open_found v d y x can.kept can.seat (cell_open v d c can.cell) valid (eqb-true _ _ t) in
+        let found = open_found v d y x can.kept can.seat (cell_now d u c (Compare i c weak) can can.cell may.there) valid (eqb-true _ _ t) in
         compare_so d u k ts i c weak (OnCell (CompareSwap y x (compared_in w.slots q))) (gives_back (kind_in (state v) y) k x x.owned) can.cell
         (compare_swap_tells v y x found d w.slots q can.kept can.holds may.expected may.new same)
 
     differs_so : (x : CellWord) → IsCellWord x → same_value x (as_word (value (walk_of (scene u) d).slots i)) ≡ false
-        → let v = u.story in let w = walk_of (scene u) d in let y = cell_at (state v) c in
+        → let v = u.story in let w = walk_of (scene u) d in let y = cell_at (state v) w.slots c in
         (word_at v y == cell_bits x) ≡ true
         → Acts d u k ts (Compare i c weak) (acts v d w k ts (Compare i c weak)
         (Some (OnCell (Take y x (Some (compared_in w.slots (comparing w.slots i weak)))))) (Refill Turning y (more_taken x) k))
     differs_so x valid differs t =
         let v = u.story in
         let w = walk_of (scene u) d in
-        let y = cell_at (state v) c in
+        let y = cell_at (state v) w.slots c in
         let q = comparing w.slots i weak in
         let may = may_compare d u i c weak can in
-        let found = open_found v d y x can.kept can.seat (cell_open v d c can.cell) valid (eqb-true _ _ t) in
+        let found = open_found v d y x can.kept can.seat (cell_now d u c (Compare i c weak) can can.cell may.there) valid (eqb-true _ _ t) in
         compare_so d u k ts i c weak (OnCell (Take y x (Some (compared_in w.slots q)))) (Refill Turning y (more_taken x) k) can.cell
         (differing_tells v y x found d w.slots q can.kept can.holds may.expected may.new differs)
 
@@ -113,9 +117,9 @@ module _ (d : ℕ) (u : Sight) (k : ℕ) (ts : List Task) (c : CellName) where
     fetches_out x p e =
         let v = u.story in
         let w = walk_of (scene u) d in
-        let y = cell_at (state v) c in
+        let y = cell_at (state v) w.slots c in
         let b = kept_block d v p.kind p.block p.place can.kept (slot_held d w.slots v (hand w.slots) p can.holds e) in
-        let same = brought_word d v y p.kind p.block p.place 256 (cell_open v d c can.cell) b.0 b.1 in
+        let same = brought_word d v y p.kind p.block p.place 256 (cell_now d u c (Compare i c weak) can can.cell (may_compare d u i c weak can).there) b.0 b.1 in
         record {
           quiet = refl;
           walk = refl;
@@ -131,24 +135,24 @@ module _ (d : ℕ) (u : Sight) (k : ℕ) (ts : List Task) (c : CellName) where
         → let v = u.story in let w = walk_of (scene u) d in let a = Compare i c weak in
         slot w.slots (hand w.slots) ≡ o
         → Outcome d u k ts a (Saw x)
-        (on (fetches w k x) (matches v d w k ts a (cell_at (state v) c) (compared_in w.slots (comparing w.slots i weak)) x) o)
+        (on (fetches w k x) (matches v d w k ts a (cell_at (state v) w.slots c) (compared_in w.slots (comparing w.slots i weak)) x) o)
     settles_so x valid same None e =
         let v = u.story in
         let w = walk_of (scene u) d in
         let a = Compare i c weak in
-        matches_out d u k ts a (cell_at (state v) c) x (compared_in w.slots (comparing w.slots i weak)) (Saw x)
-        (λ f. let n : left_on v a (Saw x) ≡ 7 = ap (λ (b : Bool). cond b 3 7) f in omega (arith, n)) (swapped_so x valid same)
+        matches_out d u k ts a (cell_at (state v) w.slots c) x (compared_in w.slots (comparing w.slots i weak)) (Saw x)
+        (λ f. let n : left_on v w.slots a (Saw x) ≡ 7 = ap (λ (b : Bool). cond b 3 7) f in omega (arith, n)) (swapped_so x valid same)
     settles_so x valid same (Some p) e = inr (fetches_out x p e)
 
     compare_saw : (x : CellWord) → IsCellWord x
         → let v = u.story in let w = walk_of (scene u) d in
         Outcome d u k ts (Compare i c weak) (Saw x)
-        (settles v d w k ts (Compare i c weak) (cell_at (state v) c) (compared_in w.slots (comparing w.slots i weak)) x)
+        (settles v d w k ts (Compare i c weak) (cell_at (state v) w.slots c) (compared_in w.slots (comparing w.slots i weak)) x)
     compare_saw x valid =
         let v = u.story in
         let w = walk_of (scene u) d in
         let a = Compare i c weak in
-        let y = cell_at (state v) c in
+        let y = cell_at (state v) w.slots c in
         let q = compared_in w.slots (comparing w.slots i weak) in
         cond_both (same_value x (as_word (value w.slots i))) (on (fetches w k x) (matches v d w k ts a y q x) (slot w.slots (hand w.slots)))
         (takes v d w k ts a y (Some q) x) (Outcome d u k ts a (Saw x)) (λ t. settles_so x valid t (slot w.slots (hand w.slots)) refl)
@@ -157,18 +161,24 @@ module _ (d : ℕ) (u : Sight) (k : ℕ) (ts : List Task) (c : CellName) where
     compare_matched : (x : CellWord) → IsCellWord x → same_value x (as_word (value (walk_of (scene u) d).slots i)) ≡ true
         → let v = u.story in let w = walk_of (scene u) d in
         Outcome d u k ts (Compare i c weak) (Matched x)
-        (matches v d w k ts (Compare i c weak) (cell_at (state v) c) (compared_in w.slots (comparing w.slots i weak)) x)
+        (matches v d w k ts (Compare i c weak) (cell_at (state v) w.slots c) (compared_in w.slots (comparing w.slots i weak)) x)
     compare_matched x valid same =
         let v = u.story in
         let w = walk_of (scene u) d in
         let a = Compare i c weak in
-        matches_out d u k ts a (cell_at (state v) c) x (compared_in w.slots (comparing w.slots i weak)) (Matched x)
-        (λ f. let n : left_on v a (Matched x) ≡ 6 = ap (λ (b : Bool). cond b 2 6) f in omega (arith, n)) (swapped_so x valid same)
+        matches_out d u k ts a (cell_at (state v) w.slots c) x (compared_in w.slots (comparing w.slots i weak)) (Matched x)
+        (λ f. let n : left_on v w.slots a (Matched x) ≡ 6 = ap (λ (b : Bool). cond b 2 6) f in omega (arith, n)) (swapped_so x valid same)
 
 -- the first step of an act that looks
-pub rest_out : (d : ℕ) (u : Sight) (k : ℕ) (ts : List Task) (a : Act) → is_looking a ≡ true → CanLook d u a → waits_on u.story (walk_of (scene u) d) a ≡ false
+pub rest_out : (d : ℕ) (u : Sight) (k : ℕ) (ts : List Task) (a : Act) → is_looking (walk_of (scene u) d).slots a ≡ true → CanLook d u a → waits_on u.story (walk_of (scene u) d) a ≡ false
     → Outcome d u k ts a Rest (first u.story d (walk_of (scene u) d) k ts a)
-rest_out d u k ts (Load c) is can none = load_rest d u k ts c can none
+rest_out d u k ts (Load c) is can none =
+    let v = u.story in
+    let w = walk_of (scene u) d in
+    let x = cell_at (state v) w.slots c in
+    subst (Outcome d u k ts (Load c) Rest)
+    (sym (cond-true (is_there w.slots c) (sees v d w k ts (Load c) x None (seen v x)) (acts v d w k ts (Load c) None Rest) is))
+    (load_rest d u k ts c can none is)
 rest_out d u k ts (Compare i c weak) is can none = compare_rest d u k ts c i weak can none
 rest_out d u k ts (Make form) is can none = absurd (false≢true is)
 rest_out d u k ts (Share j) is can none = absurd (false≢true is)
@@ -191,15 +201,16 @@ rest_out d u k ts Drop is can none = absurd (false≢true is)
 
 -- a step of an act that looks, and what it does
 abbrev pub Next : ℕ → Sight → ℕ → List Task → Act → Half → Option Step → Type 0
-Next d u k ts a h o = (x : Step) × (o ≡ Some x) × Outcome d u k ts a h x × (is_looking a ≡ true)
+Next d u k ts a h o = (x : Step) × (o ≡ Some x) × Outcome d u k ts a h x × (is_looking (walk_of (scene u) d).slots a ≡ true)
 
 pub saw_out : (d : ℕ) (u : Sight) (k : ℕ) (ts : List Task) (x : CellWord) (a : Act) → IsSeenBy (walk_of (scene u) d).slots x a → IsCellWord x → CanLook d u a
     → Next d u k ts a (Saw x) (saw_on u.story d (walk_of (scene u) d) k ts x a)
 saw_out d u k ts x (Load c) is valid can =
-    let v = u.story in (takes v d (walk_of (scene u) d) k ts (Load c) (cell_at (state v) c) None x, refl, load_saw d u k ts c x valid can, refl)
+    let v = u.story in let w = walk_of (scene u) d in
+    (takes v d w k ts (Load c) (cell_at (state v) w.slots c) None x, refl, load_saw d u k ts c x valid can is.0, is.0)
 saw_out d u k ts x (Compare i c weak) is valid can =
     let v = u.story in let w = walk_of (scene u) d in
-    (settles v d w k ts (Compare i c weak) (cell_at (state v) c) (compared_in w.slots (comparing w.slots i weak)) x, refl, compare_saw d u k ts c i weak can x valid, refl)
+    (settles v d w k ts (Compare i c weak) (cell_at (state v) w.slots c) (compared_in w.slots (comparing w.slots i weak)) x, refl, compare_saw d u k ts c i weak can x valid, refl)
 saw_out d u k ts x (Make form) is valid can = absurd is
 saw_out d u k ts x (Share j) is valid can = absurd is
 saw_out d u k ts x (Downgrade j) is valid can = absurd is
@@ -223,7 +234,7 @@ pub matched_out : (d : ℕ) (u : Sight) (k : ℕ) (ts : List Task) (x : CellWord
     → CanLook d u a → Next d u k ts a (Matched x) (matched_on u.story d (walk_of (scene u) d) k ts x a)
 matched_out d u k ts x (Compare i c weak) is valid can =
     let v = u.story in let w = walk_of (scene u) d in
-    (matches v d w k ts (Compare i c weak) (cell_at (state v) c) (compared_in w.slots (comparing w.slots i weak)) x, refl, compare_matched d u k ts c i weak can x valid is, refl)
+    (matches v d w k ts (Compare i c weak) (cell_at (state v) w.slots c) (compared_in w.slots (comparing w.slots i weak)) x, refl, compare_matched d u k ts c i weak can x valid is, refl)
 matched_out d u k ts x (Load c) is valid can = absurd is
 matched_out d u k ts x (Make form) is valid can = absurd is
 matched_out d u k ts x (Share j) is valid can = absurd is

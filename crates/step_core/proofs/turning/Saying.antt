@@ -204,25 +204,26 @@ next_task w t ts none todo = ap (λ (es : List Ending). next_of w.slots es w.tod
 pub rest_tasks : (w : Walk) (t : Task) (ts : List Task) → w.endings ≡ [] → w.todo ≡ t ∷ ts → rest_of w.endings w.todo ≡ ts
 rest_tasks w t ts none todo = ap (λ (es : List Ending). rest_of es w.todo) none ∙ ap (rest_of []) todo
 
-played : (d : ℕ) (u : Sight) (t : Task) (ts : List Task) → (walk_of (scene u) d).endings ≡ [] → (walk_of (scene u) d).todo ≡ t ∷ ts → d < length u.walks
+played : (d : ℕ) (u : Sight) (t : Task) (ts : List Task) → next (walk_of (scene u) d) ≡ Some t
+    → rest_of (walk_of (scene u) d).endings (walk_of (scene u) d).todo ≡ ts → d < length u.walks
     → rested d (acted_scene d u t.statement ts t.act) ≡ play_with (tell_of u.story t.act) d (scene u)
-played d u t ts none todo lt =
+played d u t ts is rest lt =
     let w = walk_of (scene u) d in
     let z = opening u.story.extent in
     let tell = tell_of u.story t.act in
     let h = acted tell z d w.slots u.story.history t.act in
     rested_moved (scene u) d (went (state u.story) d w t.statement ts t.act) h lt
     ∙ ap (λ (l : List Task). let w' = went (state u.story) d w t.statement l t.act in put_walk (scene u) d w' (rested_walk z d h w'))
-    (sym (rest_tasks w t ts none todo))
-    ∙ ap (play_from tell (scene u) d w) (sym (next_task w t ts none todo))
+    (sym rest)
+    ∙ ap (play_from tell (scene u) d w) (sym is)
 
--- what a thread does whose next act is this
-pub plays_as : (d : ℕ) (u : Sight) (t : Task) (ts : List Task) (x : Step) (r : Stepped) → (walk_of (scene u) d).endings ≡ []
-    → (walk_of (scene u) d).todo ≡ t ∷ ts → step_of d u ≡ Some x
+-- what a thread does whose next act is this, with these tasks after it
+pub plays_next : (d : ℕ) (u : Sight) (t : Task) (ts : List Task) (x : Step) (r : Stepped) → next (walk_of (scene u) d) ≡ Some t
+    → rest_of (walk_of (scene u) d).endings (walk_of (scene u) d).todo ≡ ts → step_of d u ≡ Some x
     → r ≡ stepped u.story (step_of d u) → Acts d u t.statement ts t.act x → TellsAll d u (scene u) (tell_of u.story t.act)
     → is_acting x.half ≡ false → d < length u.halves → d < length u.walks
     → Plays d u (turned_by r) (sight_by d u (step_of d u))
-plays_as d u t ts x r none todo is answer so tells rest lt walks =
+plays_next d u t ts x r now after is answer so tells rest lt walks =
     let w = walk_of (scene u) d in
     let h = half_after d u (Some x) lt in
     subst (λ (o : Option Step). r ≡ stepped u.story o → Plays d u (turned_by r) (sight_by d u o)) (sym is)
@@ -230,8 +231,17 @@ plays_as d u t ts x r none todo is answer so tells rest lt walks =
       tell = tell_of u.story t.act;
       tells = tells;
       answer = ap turned_by e ∙ said_on (is_event u.story x.deed) x.said ∙ ap Acted so.0
-          ∙ ap (λ (o : Option Task). turned (said_from (tell_of u.story t.act) (scene u) d w.slots o)) (sym (next_task w t ts none todo));
-      scene = ap (rested d) so.1 ∙ played d u t ts none todo walks;
+          ∙ ap (λ (o : Option Task). turned (said_from (tell_of u.story t.act) (scene u) d w.slots o)) (sym now);
+      scene = ap (rested d) so.1 ∙ played d u t ts now after walks;
       done = ap is_acting h ∙ rest;
       halves = halves_after d u (Some x) lt;
     }) answer
+
+-- what it does where no object ends in its hands
+pub plays_as : (d : ℕ) (u : Sight) (t : Task) (ts : List Task) (x : Step) (r : Stepped) → (walk_of (scene u) d).endings ≡ []
+    → (walk_of (scene u) d).todo ≡ t ∷ ts → step_of d u ≡ Some x
+    → r ≡ stepped u.story (step_of d u) → Acts d u t.statement ts t.act x → TellsAll d u (scene u) (tell_of u.story t.act)
+    → is_acting x.half ≡ false → d < length u.halves → d < length u.walks
+    → Plays d u (turned_by r) (sight_by d u (step_of d u))
+plays_as d u t ts x r none todo =
+    let w = walk_of (scene u) d in plays_next d u t ts x r (next_task w t ts none todo) (rest_tasks w t ts none todo)

@@ -1,7 +1,7 @@
 -- A swap of a cell, step by step.
-use Rattle.std.proofs.Common.{◌≡◌, ◌≢◌, ℕ, ◌<◌, Bool, true, false, List, [], ◌∷◌, set, refl, sym, ap, subst, ◌∙◌}
+use Rattle.std.proofs.Common.{◌≡◌, ◌≢◌, ℕ, ◌<◌, ◌&&◌, Bool, true, false, List, [], ◌∷◌, set, refl, sym, ap, subst, ◌∙◌}
 use Rattle.std.specs.Prelude.{Option, Some, None, is_some, option_map}
-use Rattle.std.proofs.lemmas.Bool.{cond-true, cond-false, false≢true}
+use Rattle.std.proofs.lemmas.Bool.{and_parts, cond-true, cond-false, false≢true}
 use Rattle.std.proofs.lemmas.Option.{same_Some}
 use Rattle.control_word.specs.declared.cell.CellWord.{CellWord}
 use Rattle.control_word.specs.declared.event.Event.{Event}
@@ -17,7 +17,7 @@ use Rattle.step_threads.specs.declared.act.Task.{Task}
 use Rattle.step_threads.specs.declared.call.CellName.{CellName}
 use Rattle.step_table.specs.declared.cell_deed.CellDeed.TheVariants as cell_deed
 use Rattle.step_threads.specs.declared.half.Half.{Half}
-use Rattle.step_threads.specs.declared.half.Half.TheVariants.{Rest, Making, Locking, Giving, Brought, Saw, Matched, Refill, Returning}
+use Rattle.step_threads.specs.declared.half.Half.TheVariants.{Rest, Making, Locking, Giving, Brought, Saw, Matched, Refill, Returning, Clearing}
 use Rattle.step_table.specs.declared.holdings.Pointer.{Pointer}
 use Rattle.step_table.specs.declared.past.Deed.TheVariants as deed
 use Rattle.step_threads.specs.declared.said.Answer.{Answer}
@@ -25,10 +25,10 @@ use Rattle.step_threads.specs.declared.said.Stepped.{Stepped}
 use Rattle.step_threads.specs.declared.said.Stepped.TheVariants.{Waited}
 use Rattle.step_table.specs.CellDeeds.{cell_in}
 use Rattle.step_table.specs.Contents.{as_word, held_in, is_of, seen, told}
-use Rattle.step_threads.specs.Courses.{Going, HasCell, cell_at, going, going_from, hand, kind_at, on_going}
+use Rattle.step_threads.specs.Courses.{Going, HasCell, cell_at, going, going_from, hand, is_there, kind_at, on_going}
 use Rattle.step_threads.specs.Entries.{History, acted, swaps as swaps_in}
 use Rattle.step_table.specs.Deeds.{Telling, on}
-use Rattle.step_table.specs.Holdings.{Slots, slot, value}
+use Rattle.step_table.specs.Holdings.{Holds, Slots, slot, value}
 use Rattle.step_table.specs.Openings.{opening}
 use Rattle.step_threads.specs.Programs.{IsIn}
 use Rattle.step_threads.specs.Scenes.{ended_of, walk_of, went}
@@ -43,31 +43,34 @@ use Rattle.step_core.proofs.turning.Ending.{same_walks, scene_as}
 use Rattle.step_core.proofs.turning.Saying.{Acts, plays_as}
 use Rattle.step_core.proofs.turning.Telling.{awake, tell_of, tells_unless, told_answer}
 
--- the event of a swap tells what goes in and what comes out
-swap_told : (v : Story) (d : ℕ) (slots : Slots) (c : CellName) (i : ℕ) → Kept v → d < v.extent.actors → IsIn v.extent.shape c
-    → is_of (kind_at c) (value slots i) ≡ true
-    → let x = cell_at (state v) c in
-    history_after v d (deed.OnCell (cell_deed.Swap x (as_word (value slots i)) (seen v x))) ≡ swaps_in (opening v.extent) d slots v.history c i
-swap_told v d slots c i kept lt is may =
-    let s = state v in
-    let x = cell_at s c in
-    let found = seen_found v d x kept lt (cell_open v d c is) in
-    ap (λ (o : Option (Event Nothing)). added d o v.history) (swap_tells v x (seen v x) found (value slots i) (goes_in v c (value slots i) is may))
-    ∙ ap (λ (k : Kind). entry d (event.Swap (cell_in s x) (told s k (value slots i)) (held_in s x)) ∷ v.history) (cell_kind v c is)
-
 -- the cell is there, and the value may go into it
 abbrev Goes : Shape → Slots → CellName → ℕ → Type 0
-Goes z slots c i = IsIn z c × (is_of (kind_at c) (value slots i) ≡ true)
+Goes z slots c i = IsIn z c × (is_there slots c ≡ true) × (is_of (kind_at c) (value slots i) ≡ true)
+
+-- the event of a swap tells what goes in and what comes out
+swap_told : (v : Story) (d : ℕ) (slots : Slots) (c : CellName) (i : ℕ) → Kept v → d < v.extent.actors → Holds d slots v → Goes v.extent.shape slots c i
+    → let x = cell_at (state v) slots c in
+    history_after v d (deed.OnCell (cell_deed.Swap x (as_word (value slots i)) (seen v x))) ≡ swaps_in (opening v.extent) d slots v.history c i
+swap_told v d slots c i kept lt holds goes =
+    let s = state v in
+    let x = cell_at s slots c in
+    let found = seen_found v d x kept lt (cell_open v d slots c goes.0 holds goes.1) in
+    ap (λ (o : Option (Event Nothing)). added d o v.history)
+    (swap_tells v x (seen v x) found (value slots i) (goes_in v slots c (value slots i) goes.0 goes.2))
+    ∙ ap (λ (k : Kind). entry d (event.Swap (cell_in s x) (told s k (value slots i)) (held_in s x)) ∷ v.history) (cell_kind v slots c goes.0)
 
 goes_from : (z : Shape) (slots : Slots) (x : CellName) (k : ℕ) (c : CellName) (i : ℕ) → going_from slots x k ≡ Some (c, i) → IsIn z x → Goes z slots c i
-goes_from z slots x k c i e is = go (is_of (kind_at x) (value slots k)) refl
+goes_from z slots x k c i e is = go (is_there slots x && is_of (kind_at x) (value slots k)) refl
   where
-    go : (b : Bool) → is_of (kind_at x) (value slots k) ≡ b → Goes z slots c i
+    go : (b : Bool) → (is_there slots x && is_of (kind_at x) (value slots k)) ≡ b → Goes z slots c i
     go true q =
-        let f : ◌≡◌ {A = Option Going} (Some (x, k)) (Some (c, i)) = sym (cond-true (is_of (kind_at x) (value slots k)) (Some (x, k)) None q) ∙ e in
-        subst (λ (g : Going). Goes z slots g.0 g.1) (same_Some _ _ f) (is, q)
+        let p = and_parts (is_there slots x) (is_of (kind_at x) (value slots k)) q in
+        let f : ◌≡◌ {A = Option Going} (Some (x, k)) (Some (c, i)) =
+        sym (cond-true (is_there slots x && is_of (kind_at x) (value slots k)) (Some (x, k)) None q) ∙ e in
+        subst (λ (g : Going). Goes z slots g.0 g.1) (same_Some _ _ f) (is, p.0, p.1)
     go false q =
-        let f : ◌≡◌ {A = Option Going} None (Some (c, i)) = sym (cond-false (is_of (kind_at x) (value slots k)) (Some (x, k)) None q) ∙ e in cc
+        let f : ◌≡◌ {A = Option Going} None (Some (c, i)) =
+        sym (cond-false (is_there slots x && is_of (kind_at x) (value slots k)) (Some (x, k)) None q) ∙ e in cc
 
 -- an act that puts a value into a cell
 abbrev Puts : Telling → Opening → ℕ → Slots → History → Shape → Act → CellName → ℕ → Type 0
@@ -104,11 +107,11 @@ no_more q k x (Some b) = refl
 
 swap_over : (d : ℕ) (u : Sight) (k : ℕ) (ts : List Task) (a : Act) (c : CellName) (i : ℕ)
     → is_acting (swaps u.story d (walk_of (scene u) d) k ts a c i).half ≡ false
-swap_over d u k ts a c i = let found = seen u.story (cell_at (state u.story) c) in no_more (kind_at c) k found found.owned
+swap_over d u k ts a c i = let found = seen u.story (cell_at (state u.story) (walk_of (scene u) d).slots c) in no_more (kind_at c) k found found.owned
 
--- the thread's desk is there, and so is the cell of its act
+-- the thread's desk is there and has what its slots tell, and the shape has the cell of its act
 abbrev pub CanPut : ℕ → Sight → Act → Type 0
-CanPut d u a = (d < u.story.extent.actors) × Kept u.story × HasCell u.story.extent.shape a
+CanPut d u a = (d < u.story.extent.actors) × Kept u.story × HasCell u.story.extent.shape a × Holds d (walk_of (scene u) d).slots u.story
 
 swaps_so : (d : ℕ) (u : Sight) (k : ℕ) (ts : List Task) (a : Act) (c : CellName) (i : ℕ) → CanPut d u a
     → going (walk_of (scene u) d).slots a ≡ Some (c, i) → Acts d u k ts a (swaps u.story d (walk_of (scene u) d) k ts a c i)
@@ -118,7 +121,7 @@ swaps_so d u k ts a c i can e =
     let p = puts_as (tell_of v a) (opening v.extent) d w.slots v.history v.extent.shape a c i e can.2 in (
       ap (λ (q : Option Answer). record { statement = k; answer = q; ended = ended_of (state v) w.slots a }) (told_answer v (state v) d w.slots a),
       ap (λ (h : History). record { extent = v.extent; history = h; walks = set u.walks d (went (state v) d w k ts a) })
-          (swap_told v d w.slots c i can.1 can.0 p.1.0 p.1.1 ∙ sym p.0),
+          (swap_told v d w.slots c i can.1 can.0 can.3 p.1 ∙ sym p.0),
     )
 
 -- the funds are brought first, where the value has an object
@@ -172,7 +175,7 @@ puts_by d u r (t ∷ ts) e todo way begun answer =
     ∙ ap (option_map (λ (x : Going). swaps u.story d w t.statement ts t.act x.0 x.1)) g.1 in
     let none = subst (λ (h : Half). IsAlone h w.endings) e begun.alone in
     let cell = subst (λ (l : List Task). IsInShape u.story.extent.shape l) todo begun.cell in
-    plays_as d u t ts y r none todo is answer (swaps_so d u t.statement ts t.act g.0.0 g.0.1 (begun.seat, begun.kept, cell) g.1)
+    plays_as d u t ts y r none todo is answer (swaps_so d u t.statement ts t.act g.0.0 g.0.1 (begun.seat, begun.kept, cell, begun.holds) g.1)
     (tells_unless d u (λ (a : Act). going w.slots a ≡ Some g.0) t.act (λ i q. cc) g.1) (swap_over d u t.statement ts t.act g.0.0 g.0.1) begun.within begun.walks
 
 puts_so : (d : ℕ) (u : Sight) (r : Stepped) (h : Half) → half_of u d ≡ h → is_brought h ≡ true → HasBegun d u → r ≡ stepped u.story (step_of d u)
@@ -182,6 +185,7 @@ puts_so d u r (Making b i f) e is begun answer = absurd (false≢true is)
 puts_so d u r (Locking word) e is begun answer = absurd (false≢true is)
 puts_so d u r (Giving i kind x) e is begun answer = absurd (false≢true is)
 puts_so d u r (Returning kind b funds k) e is begun answer = absurd (false≢true is)
+puts_so d u r Clearing e is begun answer = absurd (false≢true is)
 puts_so d u r (Saw wd) e is begun answer = absurd (false≢true is)
 puts_so d u r (Matched wd) e is begun answer = absurd (false≢true is)
 puts_so d u r (Refill stage cell wd line) e is begun answer = absurd (false≢true is)

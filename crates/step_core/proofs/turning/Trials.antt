@@ -12,7 +12,7 @@ use Rattle.step_table.specs.declared.past.Deed.TheVariants.{OnCell}
 use Rattle.step_table.specs.CellDeeds.{kind_in}
 use Rattle.step_table.specs.Cells.{word_at}
 use Rattle.step_table.specs.Contents.{is_spent}
-use Rattle.step_table.specs.Holdings.{slot}
+use Rattle.step_table.specs.Holdings.{Slots, slot}
 use Rattle.step_table.specs.declared.refill.Stage.TheVariants.{Turning}
 use Rattle.step_table.specs.Refills.{more_taken}
 use Rattle.step_table.specs.Stories.{Story, state}
@@ -21,33 +21,28 @@ use Rattle.step_threads.specs.declared.act.Act.TheVariants.{Load, Compare}
 use Rattle.step_threads.specs.declared.act.Task.{Task}
 use Rattle.step_threads.specs.declared.half.Half.{Half}
 use Rattle.step_threads.specs.declared.half.Half.TheVariants.{Rest, Saw, Matched, Refill, Returning}
-use Rattle.step_threads.specs.Courses.{Walk, cell_at, hand}
+use Rattle.step_threads.specs.Courses.{Walk, hand, is_there}
 use Rattle.step_threads.specs.Scenes.{walk_of}
 use Rattle.step_threads.specs.Steps.{Step, acts, gives_back, is_event as is_done, matches, missed, sees, story_after, takes, within}
+use Rattle.step_core.specs.Bounds.{shows_on}
 use Rattle.step_core.specs.Turning.{is_acting}
 use Rattle.step_core.specs.Worlds.{Sight, scene}
 use Rattle.step_core.proofs.turning.Saying.{Acts}
 use Rattle.step_core.proofs.turning.Swapping.{no_more}
 
--- an act that looks at a cell before it does anything
-abbrev pub is_looking : Act → Bool
-is_looking (Load c) = true
-is_looking (Compare k c weak) = true
-is_looking _ = false
-
--- its cell shows what was seen
-abbrev pub shows_on : Story → CellWord → Act → Bool
-shows_on v x (Load c) = word_at v (cell_at (state v) c) == cell_bits x
-shows_on v x (Compare k c weak) = word_at v (cell_at (state v) c) == cell_bits x
-shows_on v x _ = false
+-- an act that looks at a cell that is there before it does anything
+abbrev pub is_looking : Slots → Act → Bool
+is_looking slots (Load c) = is_there slots c
+is_looking slots (Compare k c weak) = true
+is_looking slots _ = false
 
 -- the steps that it has left, where nobody else steps: what was seen and is so still is done next, and else it begins again
-abbrev pub left_on : Story → Act → Half → ℕ
-left_on v a Rest = 4
-left_on v a (Saw x) = cond (shows_on v x a) 3 7
-left_on v a (Matched x) = cond (shows_on v x a) 2 6
-left_on v a (Returning kind b funds k) = 5
-left_on v a _ = 0
+abbrev pub left_on : Story → Slots → Act → Half → ℕ
+left_on v slots a Rest = 4
+left_on v slots a (Saw x) = cond (shows_on v slots x a) 3 7
+left_on v slots a (Matched x) = cond (shows_on v slots x a) 2 6
+left_on v slots a (Returning kind b funds k) = 5
+left_on v slots a _ = 0
 
 -- on the way, or back at the beginning
 abbrev pub is_trial : Half → Bool
@@ -64,7 +59,7 @@ pub record Tried (d : ℕ) (v : Story) (w : Walk) (a : Act) (h : Half) (x : Step
   pub history : (story_after v d x.deed).history ≡ v.history
   pub extent : (story_after v d x.deed).extent ≡ v.extent
   pub half : is_trial x.half ≡ true
-  pub less : left_on (story_after v d x.deed) a x.half < left_on v a h
+  pub less : left_on (story_after v d x.deed) w.slots a x.half < left_on v w.slots a h
 
 -- the step that is the act
 pub record Done (d : ℕ) (u : Sight) (k : ℕ) (ts : List Task) (a : Act) (x : Step) : Type 0 where
@@ -77,7 +72,7 @@ Outcome d u k ts a h x = Done d u k ts a x ⊎ Tried d u.story (walk_of (scene u
 
 module _ (d : ℕ) (u : Sight) (k : ℕ) (ts : List Task) (a : Act) (c : Cell) (x : CellWord) where
   -- what a look does that doesn't wait
-  pub sees_out : (y : Option Compared) → is_spent x ≡ false → shows_on u.story x a ≡ true
+  pub sees_out : (y : Option Compared) → is_spent x ≡ false → shows_on u.story (walk_of (scene u) d).slots x a ≡ true
       → Acts d u k ts a (acts u.story d (walk_of (scene u) d) k ts a (Some (OnCell (Look c x y))) Rest)
       → Outcome d u k ts a Rest (sees u.story d (walk_of (scene u) d) k ts a c y x)
   sees_out y spent shows so =
@@ -90,11 +85,11 @@ module _ (d : ℕ) (u : Sight) (k : ℕ) (ts : List Task) (a : Act) (c : Cell) (
     where
       saw_now : Tried d u.story (walk_of (scene u) d) a Rest (within (walk_of (scene u) d) k None (Saw x))
       saw_now =
-          let n : left_on u.story a (Saw x) ≡ 3 = ap (λ (b : Bool). cond b 3 7) shows in
+          let n : left_on u.story (walk_of (scene u) d).slots a (Saw x) ≡ 3 = ap (λ (b : Bool). cond b 3 7) shows in
           record { quiet = refl; walk = refl; history = refl; extent = refl; half = refl; less = omega (arith, n) }
 
   -- a fund is taken, or the act begins again
-  pub takes_out : (y : Option Compared) → shows_on u.story x a ≡ (word_at u.story c == cell_bits x)
+  pub takes_out : (y : Option Compared) → shows_on u.story (walk_of (scene u) d).slots x a ≡ (word_at u.story c == cell_bits x)
       → ((word_at u.story c == cell_bits x) ≡ true
       → Acts d u k ts a (acts u.story d (walk_of (scene u) d) k ts a (Some (OnCell (Take c x y))) (Refill Turning c (more_taken x) k)))
       → Outcome d u k ts a (Saw x) (takes u.story d (walk_of (scene u) d) k ts a c y x)
@@ -103,15 +98,15 @@ module _ (d : ℕ) (u : Sight) (k : ℕ) (ts : List Task) (a : Act) (c : Cell) (
       let w = walk_of (scene u) d in
       cond_both (word_at v c == cell_bits x) (acts v d w k ts a (Some (OnCell (Take c x y))) (Refill Turning c (more_taken x) k)) (within w k None Rest)
       (Outcome d u k ts a (Saw x)) (λ t. inl (record { event = refl; so = so t; over = refl }))
-      (λ f. let n : left_on v a (Saw x) ≡ 7 = ap (λ (b : Bool). cond b 3 7) (shows ∙ f) in
+      (λ f. let n : left_on v w.slots a (Saw x) ≡ 7 = ap (λ (b : Bool). cond b 3 7) (shows ∙ f) in
       inr (record { quiet = refl; walk = refl; history = refl; extent = refl; half = refl; less = omega (arith, n) }))
 
-  missed_trial : (o : Option Pointer) → (is_trial (missed k o) ≡ true) × (left_on u.story a (missed k o) < 6)
+  missed_trial : (o : Option Pointer) → (is_trial (missed k o) ≡ true) × (left_on u.story (walk_of (scene u) d).slots a (missed k o) < 6)
   missed_trial None = (refl, omega arith)
   missed_trial (Some p) = (refl, omega arith)
 
   -- the cell is swapped, or what was brought is given back and the act begins again
-  pub matches_out : (y : Compared) (h : Half) → ((word_at u.story c == cell_bits x) ≡ false → 5 < left_on u.story a h)
+  pub matches_out : (y : Compared) (h : Half) → ((word_at u.story c == cell_bits x) ≡ false → 5 < left_on u.story (walk_of (scene u) d).slots a h)
       → ((word_at u.story c == cell_bits x) ≡ true → Acts d u k ts a (acts u.story d (walk_of (scene u) d) k ts a (Some (OnCell (CompareSwap c x y)))
       (gives_back (kind_in (state u.story) c) k x x.owned)))
       → Outcome d u k ts a h (matches u.story d (walk_of (scene u) d) k ts a c y x)

@@ -6,12 +6,13 @@ use Rattle.std.proofs.lemmas.List.{set-get_or, set-set}
 use Rattle.control_word.specs.declared.cell.CellWord.{CellWord}
 use Rattle.control_word.specs.declared.handle.Kind.{Kind}
 use Rattle.control_word.specs.declared.place.Block.{Block}
+use Rattle.step_table.specs.Holdings.{Slots}
 use Rattle.step_table.specs.Stories.{Kept, Story}
 use Rattle.step_threads.specs.declared.act.Act.{Act}
 use Rattle.step_threads.specs.declared.act.Task.{Task}
 use Rattle.step_threads.specs.declared.ending.Ending.{Ending}
 use Rattle.step_threads.specs.declared.half.Half.{Half}
-use Rattle.step_threads.specs.declared.half.Half.TheVariants.{Rest, Making, Locking, Giving, Brought, Saw, Matched, Refill, Returning}
+use Rattle.step_threads.specs.declared.half.Half.TheVariants.{Rest, Making, Locking, Giving, Brought, Saw, Matched, Refill, Returning, Clearing}
 use Rattle.step_threads.specs.declared.said.Said.{Said}
 use Rattle.step_threads.specs.declared.said.Stepped.{Stepped}
 use Rattle.step_threads.specs.declared.said.Stepped.TheVariants.{Event, Quiet, Waited}
@@ -30,24 +31,24 @@ use Rattle.step_core.proofs.turning.Outcomes.{matched_out, rest_out, saw_out}
 use Rattle.step_core.proofs.turning.Trials.{Done, Outcome, Tried, is_looking, is_trial, left_on}
 use Rattle.step_core.proofs.turning.Turns.{plays_on}
 
-abbrev pub LooksNext : List Task → Type 0
-LooksNext [] = ⊥
-LooksNext (t ∷ ts) = is_looking t.act ≡ true
+abbrev pub LooksNext : Slots → List Task → Type 0
+LooksNext slots [] = ⊥
+LooksNext slots (t ∷ ts) = is_looking slots t.act ≡ true
 
 -- a half on the way of a load or a compare
 abbrev pub Tries : Half → Walk → Type 0
-Tries Rest w = LooksNext w.todo × (w.endings ≡ [])
+Tries Rest w = LooksNext w.slots w.todo × (w.endings ≡ [])
 Tries (Saw x) w = Unit {0}
 Tries (Matched x) w = Unit {0}
-Tries (Returning kind b funds k) w = LooksNext w.todo × (w.endings ≡ [])
+Tries (Returning kind b funds k) w = LooksNext w.slots w.todo × (w.endings ≡ [])
 Tries _ w = ⊥
 
-abbrev pub left_of : Story → Half → List Task → ℕ
-left_of v h [] = 0
-left_of v h (t ∷ ts) = left_on v t.act h
+abbrev pub left_of : Story → Slots → Half → List Task → ℕ
+left_of v slots h [] = 0
+left_of v slots h (t ∷ ts) = left_on v slots t.act h
 
 abbrev pub tries_left : ℕ → Sight → ℕ
-tries_left d u = left_of u.story (half_of u d) (walk_of (scene u) d).todo
+tries_left d u = let w = walk_of (scene u) d in left_of u.story w.slots (half_of u d) w.todo
 
 -- a thread on the way of a load or a compare, and its next step
 record Trial (d : ℕ) (u : Sight) : Type 0 where
@@ -56,11 +57,12 @@ record Trial (d : ℕ) (u : Sight) : Type 0 where
   step : Step
   none : (walk_of (scene u) d).endings ≡ []
   todo : (walk_of (scene u) d).todo ≡ task ∷ tasks
-  looking : is_looking task.act ≡ true
+  looking : is_looking (walk_of (scene u) d).slots task.act ≡ true
   is : step_of d u ≡ Some step
   out : Outcome d u task.statement tasks task.act (half_of u d) step
 
-trial_rest : (d : ℕ) (u : Sight) (ts : List Task) → half_of u d ≡ Rest → (walk_of (scene u) d).todo ≡ ts → LooksNext ts → (walk_of (scene u) d).endings ≡ []
+trial_rest : (d : ℕ) (u : Sight) (ts : List Task) → half_of u d ≡ Rest → (walk_of (scene u) d).todo ≡ ts
+    → LooksNext (walk_of (scene u) d).slots ts → (walk_of (scene u) d).endings ≡ []
     → waits u.story (half_of u d) (walk_of (scene u) d) ≡ false → HasBegun d u → Trial d u
 trial_rest d u [] e todo looks none awake begun = absurd looks
 trial_rest d u (t ∷ ts) e todo looks none awake begun =
@@ -79,7 +81,7 @@ trial_rest d u (t ∷ ts) e todo looks none awake begun =
     }
 
 trial_back : (d : ℕ) (u : Sight) (ts : List Task) (kind : Kind) (b : Block) (f k : ℕ) → half_of u d ≡ Returning kind b f k → (walk_of (scene u) d).todo ≡ ts
-    → LooksNext ts → (walk_of (scene u) d).endings ≡ [] → Trial d u
+    → LooksNext (walk_of (scene u) d).slots ts → (walk_of (scene u) d).endings ≡ [] → Trial d u
 trial_back d u [] kind b f k e todo looks none = absurd looks
 trial_back d u (t ∷ ts) kind b f k e todo looks none =
     let w = walk_of (scene u) d in
@@ -147,6 +149,7 @@ trial_of d u (Locking word) e tries awake begun = absurd tries
 trial_of d u (Giving i kind x) e tries awake begun = absurd tries
 trial_of d u Brought e tries awake begun = absurd tries
 trial_of d u (Refill stage c x k) e tries awake begun = absurd tries
+trial_of d u Clearing e tries awake begun = absurd tries
 
 -- how far it has come
 pub record IsTrying (d : ℕ) (u u' : Sight) : Type 0 where
@@ -166,6 +169,7 @@ tries_start (Saw x) w is = tt
 tries_start (Matched x) w is = tt
 tries_start (Refill stage c x k) w is = absurd (false≢true is)
 tries_start (Returning kind b f k) w is = absurd (false≢true is)
+tries_start Clearing w is = absurd (false≢true is)
 
 pub trying_start : (d : ℕ) (u : Sight) → is_trying (half_of u d) ≡ true → IsTrying d u u
 trying_start d u is =
@@ -177,7 +181,7 @@ trying_start d u is =
       goes = no_step d u;
     }
 
-tries_by : (h : Half) (w : Walk) → is_trial h ≡ true → LooksNext w.todo → w.endings ≡ [] → Tries h w
+tries_by : (h : Half) (w : Walk) → is_trial h ≡ true → LooksNext w.slots w.todo → w.endings ≡ [] → Tries h w
 tries_by Rest w is looks none = (looks, none)
 tries_by (Making b i f) w is looks none = absurd (false≢true is)
 tries_by (Locking word) w is looks none = absurd (false≢true is)
@@ -187,6 +191,7 @@ tries_by (Saw x) w is looks none = tt
 tries_by (Matched x) w is looks none = tt
 tries_by (Refill stage c x k) w is looks none = absurd (false≢true is)
 tries_by (Returning kind b f k) w is looks none = (looks, none)
+tries_by Clearing w is looks none = absurd (false≢true is)
 
 event_on : (b : Bool) (x : Said) → is_event (cond b (Event x) (Quiet x)) ≡ b
 event_on true x = refl
@@ -218,13 +223,13 @@ trying_done d u v w r trying begun steps never event =
     let q = done_of d v t (sym (event_of_step d v r t a) ∙ event) in
     plays_on d u v w (turned_by r) trying.goes trying.scene trying.halves
     (subst (λ (x : Sight). Plays d v (turned_by r) x) (sym steps.1)
-    (plays_as d v t.task t.tasks t.step r t.none t.todo t.is a q.so (tells_unless d v (λ (b : Act). is_looking b ≡ true) t.task.act (λ i e. false≢true e) t.looking)
+    (plays_as d v t.task t.tasks t.step r t.none t.todo t.is a q.so (tells_unless d v (λ (b : Act). is_looking (walk_of (scene v) d).slots b ≡ true) t.task.act (λ i e. false≢true e) t.looking)
     q.over begun.within begun.walks))
 
 -- a step on the way
 record Onward (d : ℕ) (v w : Sight) : Type 0 where
   half : is_trial (half_of w d) ≡ true
-  looks : LooksNext (walk_of (scene v) d).todo
+  looks : LooksNext (walk_of (scene v) d).slots (walk_of (scene v) d).todo
   none : (walk_of (scene v) d).endings ≡ []
   halves : w.halves ≡ set v.halves d (half_of w d)
   less : tries_left d w < tries_left d v
@@ -238,14 +243,15 @@ onward d v t is begun =
     let s = sight_by d v (Some x) in
     let half : half_of s d ≡ x.half = half_after d v (Some x) begun.within in
     let walk : walk_of (scene s) d ≡ w = walk_after d v (Some x) begun.walks ∙ q.walk in
-    let before : tries_left d v ≡ left_on v.story t.task.act (half_of v d) = ap (left_of v.story (half_of v d)) t.todo in
-    let behind : tries_left d s ≡ left_on (story_after v.story d x.deed) t.task.act x.half =
-    ap (λ (k : Walk). left_of s.story (half_of s d) k.todo) walk ∙ ap (left_of s.story (half_of s d)) t.todo ∙ ap (left_on s.story t.task.act) half in
+    let before : tries_left d v ≡ left_on v.story w.slots t.task.act (half_of v d) = ap (left_of v.story w.slots (half_of v d)) t.todo in
+    let behind : tries_left d s ≡ left_on (story_after v.story d x.deed) w.slots t.task.act x.half =
+    ap (λ (k : Walk). left_of s.story k.slots (half_of s d) k.todo) walk ∙ ap (left_of s.story w.slots (half_of s d)) t.todo
+    ∙ ap (left_on s.story w.slots t.task.act) half in
     let less = q.less in
     record {
       scene = scene_stays v (story_after v.story d x.deed) (set v.walks d x.walk) q.extent q.history (ap (set v.walks d) q.walk ∙ same_walks d v);
       half = ap is_trial half ∙ q.half;
-      looks = subst LooksNext (sym t.todo) t.looking;
+      looks = subst (LooksNext w.slots) (sym t.todo) t.looking;
       none = t.none;
       halves = halves_after d v (Some x) begun.within;
       less = omega (arith, before, behind, less);
@@ -264,7 +270,7 @@ trying_on d u v w r trying begun steps never event actors kept =
     let same : walk_of (scene w) d ≡ walk_of (scene v) d = ap (λ (c : Scene). walk_of c d) o.scene in
     record {
       scene = o.scene ∙ trying.scene;
-      tries = tries_by (half_of w d) (walk_of (scene w) d) o.half (subst (λ (k : Walk). LooksNext k.todo) (sym same) o.looks)
+      tries = tries_by (half_of w d) (walk_of (scene w) d) o.half (subst (λ (k : Walk). LooksNext k.slots k.todo) (sym same) o.looks)
           (ap (λ (k : Walk). k.endings) same ∙ o.none);
       halves = o.halves ∙ ap (λ (l : List Half). set l d (half_of w d)) trying.halves ∙ set-set u.halves d (half_of v d) (half_of w d);
       actors = actors ∙ trying.actors;

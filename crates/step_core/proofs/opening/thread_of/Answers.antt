@@ -15,7 +15,7 @@ use Rattle.step_core.proofs.opening.thread_of.Goals as goal
 pub settle-requires-clause-ready : goal.settle-requires-clause-ready
 settle-requires-clause-ready c =
     let n : c.len-names.result ≡ length c.args.actor.now.kinds.items = omega arith in
-    ready_start (part_of c.args.actor.now) c.in_ok-tasks.tasks.items c.in_ok-holdings.holdings.slots.items c.requires.part c.requires.fields
+    ready_start (part_of c.args.actor.now) c.in_ok-tasks.tasks.items c.in_ok-holdings.holdings.slots.items _ c.requires.part c.requires.fields
     (c.in_ok-tasks.ensures ∙ ap (λ (l : List Call). tasks_from 1 l c.len-names.result) c.as_slice.ensures.value
     ∙ ap (λ (m : ℕ). tasks_from 1 c.args.actor.now.calls.items m) n)
     (c.in_ok-holdings.ensures ∙ ap no_slots n)
