@@ -13,4 +13,3 @@ pub mod Stepping
 pub mod Worlds
 pub mod Starting
 pub mod Census
-pub mod Plain

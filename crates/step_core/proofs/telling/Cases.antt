@@ -27,8 +27,8 @@ use Rattle.step_table.specs.Deeds.{on}
 use Rattle.step_table.specs.Holdings.{slot}
 use Rattle.step_table.specs.Refills.{is_drained, is_low, more_taken}
 use Rattle.step_table.specs.Stories.{Story, state}
-use Rattle.step_threads.specs.Courses.{Walk, cell_at, comparing, hand}
-use Rattle.step_threads.specs.Steps.{Step, acts, compares, fetches, gives_back, matched, matched_on, matches, missed, refills_on, saw, saw_on, sees, settles, takes, within}
+use Rattle.step_threads.specs.Courses.{Walk, cell_at, comparing, hand, is_there}
+use Rattle.step_threads.specs.Steps.{Step, acts, compares, fetches, first, gives_back, matched, matched_on, matches, missed, refills_on, saw, saw_on, sees, settles, takes, within}
 
 -- steps of a thread that rests or is within an act, so that nothing is done; that look at a cell, take a fund of it, or swap it; and
 -- those on funds
@@ -51,6 +51,14 @@ pub each_compares : (v : Story) (d : ℕ) (w : Walk) (k : ℕ) (ts : List Task) 
 each_compares v d w k ts a c P each y x =
     cond_both (same_value x y.expected) (within w k None (Saw x)) (sees v d w k ts a c (Some y) x) P (λ e. each.quiet (Saw x))
     (λ e. each_sees v d w k ts a c P each (Some y) x)
+
+-- a load, which is refused where its cell isn't there
+pub each_load : (v : Story) (d : ℕ) (w : Walk) (k : ℕ) (ts : List Task) (c : CellName) (P : Step → Type 0)
+    → IsEach v d w k ts (Load c) (cell_at (state v) w.slots c) P → P (acts v d w k ts (Load c) None Rest) → P (first v d w k ts (Load c))
+each_load v d w k ts c P each refused =
+    let x = cell_at (state v) w.slots c in
+    cond_both (is_there w.slots c) (sees v d w k ts (Load c) x None (seen v x)) (acts v d w k ts (Load c) None Rest) P
+    (λ e. each_sees v d w k ts (Load c) x P each None (seen v x)) (λ e. refused)
 
 each_takes : (v : Story) (d : ℕ) (w : Walk) (k : ℕ) (ts : List Task) (a : Act) (c : Cell) (P : Step → Type 0) → IsEach v d w k ts a c P
     → (y : Option Compared) (x : CellWord) → P (takes v d w k ts a c y x)
@@ -80,14 +88,14 @@ each_settles v d w k ts a c P each y x =
 -- each act that may be half done
 pub record IsEachAct (v : Story) (d : ℕ) (w : Walk) (k : ℕ) (ts : List Task) (P : Option Step → Type 0) : Type 0 where
   pub none : P None
-  pub load : (c : CellName) → IsEach v d w k ts (Load c) (cell_at (state v) c) (λ (x : Step). P (Some x))
-  pub compare : (i : ℕ) (c : CellName) (weak : Bool) → IsEach v d w k ts (Compare i c weak) (cell_at (state v) c) (λ (x : Step). P (Some x))
+  pub load : (c : CellName) → IsEach v d w k ts (Load c) (cell_at (state v) w.slots c) (λ (x : Step). P (Some x))
+  pub compare : (i : ℕ) (c : CellName) (weak : Bool) → IsEach v d w k ts (Compare i c weak) (cell_at (state v) w.slots c) (λ (x : Step). P (Some x))
 
 saw_act : (v : Story) (d : ℕ) (w : Walk) (k : ℕ) (ts : List Task) (P : Option Step → Type 0) → IsEachAct v d w k ts P → (x : CellWord) (a : Act)
     → P (saw_on v d w k ts x a)
-saw_act v d w k ts P each x (Load c) = each_takes v d w k ts (Load c) (cell_at (state v) c) (λ (s : Step). P (Some s)) (each.load c) None x
+saw_act v d w k ts P each x (Load c) = each_takes v d w k ts (Load c) (cell_at (state v) w.slots c) (λ (s : Step). P (Some s)) (each.load c) None x
 saw_act v d w k ts P each x (Compare i c weak) =
-    each_settles v d w k ts (Compare i c weak) (cell_at (state v) c) (λ (s : Step). P (Some s)) (each.compare i c weak)
+    each_settles v d w k ts (Compare i c weak) (cell_at (state v) w.slots c) (λ (s : Step). P (Some s)) (each.compare i c weak)
     (compared_in w.slots (comparing w.slots i weak)) x
 saw_act v d w k ts P each x (Make form) = each.none
 saw_act v d w k ts P each x (Share i) = each.none
@@ -111,7 +119,7 @@ saw_act v d w k ts P each x Drop = each.none
 matched_act : (v : Story) (d : ℕ) (w : Walk) (k : ℕ) (ts : List Task) (P : Option Step → Type 0) → IsEachAct v d w k ts P → (x : CellWord) (a : Act)
     → P (matched_on v d w k ts x a)
 matched_act v d w k ts P each x (Compare i c weak) =
-    each_matches v d w k ts (Compare i c weak) (cell_at (state v) c) (λ (s : Step). P (Some s)) (each.compare i c weak)
+    each_matches v d w k ts (Compare i c weak) (cell_at (state v) w.slots c) (λ (s : Step). P (Some s)) (each.compare i c weak)
     (compared_in w.slots (comparing w.slots i weak)) x
 matched_act v d w k ts P each x (Load c) = each.none
 matched_act v d w k ts P each x (Make form) = each.none

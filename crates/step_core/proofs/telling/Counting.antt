@@ -9,7 +9,7 @@ use Rattle.step_table.specs.declared.form.Form.{Form}
 use Rattle.step_threads.specs.declared.act.Act.TheVariants.{Make, Share, Downgrade, Lock, Put, Leave, Clear, Count, Expired, Read, FromThis, Alias, Move, Ask, Offer, Swap, Exchange, Load, Compare, Drop}
 use Rattle.step_threads.specs.declared.act.Task.{Task}
 use Rattle.step_threads.specs.declared.half.Half.{Half}
-use Rattle.step_threads.specs.declared.half.Half.TheVariants.{Rest, Making, Locking, Giving, Brought, Saw, Matched, Refill, Returning}
+use Rattle.step_threads.specs.declared.half.Half.TheVariants.{Rest, Making, Locking, Giving, Brought, Saw, Matched, Refill, Returning, Clearing}
 use Rattle.step_table.specs.declared.holdings.Pointer.{Pointer}
 use Rattle.step_table.specs.declared.past.Deed.TheVariants as deed
 use Rattle.step_threads.specs.declared.said.Answer.{Answer}
@@ -19,21 +19,24 @@ use Rattle.step_threads.specs.declared.ending.Ending.{Ending}
 use Rattle.step_core.specs.Bounds.{walk_steps, weight}
 use Rattle.step_threads.specs.Courses.{Going, Walk, cell_at, comparing, form_of, going, hand, locked, offered, on_going, other, settled}
 use Rattle.step_threads.specs.Endings.{staged}
+use Rattle.step_table.specs.declared.cell_deed.Cell.TheVariants.{Member}
+use Rattle.step_table.specs.Cells.{word_at}
 use Rattle.step_table.specs.Contents.{compared_in, seen}
 use Rattle.step_table.specs.Holdings.{inside, is_full, owner_slot, place_in, slot}
 use Rattle.step_threads.specs.Entries.{least}
 use Rattle.step_table.specs.Deeds.{by_word, on, give, is_enabled, lock, owner_word, aliased}
 use Rattle.step_threads.specs.Scenes.{answer_of, ended_of, holding, left as leaves_by, went}
-use Rattle.step_threads.specs.Steps.{asks, at_rest, brings, given, Step, acts, begins, begun, claims, ends_on, first, looks, made_on, prepares, sends, sent, swaps, tried, tries, trying, with_endings, silent, step_at}
+use Rattle.step_threads.specs.Steps.{Step, acts, asks, at_rest, begins, begun, brings, claims, emptied, empties, ends_on, first, given, looks, made_on, prepares, sends, sent, silent, step_at, swaps, tried, tries, trying, with_endings, within}
 use Rattle.control_word.specs.declared.handle.Kind.{Kind}
 use Rattle.control_word.specs.declared.handle.Kind.TheVariants.{Owner, Weak}
 use Rattle.step_table.specs.Stories.{Story, known, object_in, pending, state}
+use Rattle.step_threads.specs.Threads.{IsClearing}
 use Rattle.step_core.specs.Told.{is_prepared}
 use Rattle.step_core.specs.Totals.{made_in}
-use Rattle.step_core.specs.Turning.{IsAlone, IsUnderWay}
-use Rattle.step_core.proofs.telling.Walking.{IsFree, carried_leaves, over_less, settled_alone, staged_most, walk_alone, went_less, went_plain}
+use Rattle.step_core.specs.Turning.{IsAlone, IsTried, IsUnderWay}
+use Rattle.step_core.proofs.telling.Walking.{IsFree, carried_leaves, carried_most, over_less, settled_alone, staged_most, taken_out, walk_alone, went_less, went_plain}
 use Rattle.step_core.proofs.telling.Swapping.{swapping, went_swap}
-use Rattle.step_core.proofs.telling.Looking.{compares_one, counted_match, counted_refill, counted_saw, sees_one}
+use Rattle.step_core.proofs.telling.Looking.{compares_one, counted_match, counted_refill, counted_saw, load_one}
 use Rattle.step_core.proofs.telling.Deeds.{IsCounted, aliased_by, downgraded, expired, left, locked_by, plus_none, quiet, read_one, shared, told}
 
 made_one : (v : Story) (d i k : ℕ) (w : Walk) (t : Task) (ts : List Task) (b : Block) (f : Bool) (form : Form) → (i == 5) ≡ true
@@ -162,7 +165,7 @@ counted_act : (v : Story) (d k : ℕ) (w : Walk) (t : Task) (ts : List Task) (a 
     → IsCounted v d Rest w (Some (first v d w k ts a))
 counted_act v d k w t ts (Make form) none is same = begun_in v d k w t ts (least d (state v).stores) none is
 counted_act v d k w t ts (Share i) none is same =
-    shared v d k w (went (state v) d w k ts (Share i)) (plain v d k w t ts (Share i) none is refl) (slot w.slots i)
+    shared v d k w (went (state v) d w k ts (Share i)) None (plain v d k w t ts (Share i) none is refl) (slot w.slots i)
 counted_act v d k w t ts (Put i) none is same =
     left v d k w (went (state v) d w k ts (Put i)) (slot w.slots i) (went_less (state v) d k w t ts (Put i) none is)
 counted_act v d k w t ts (Leave i) none is same =
@@ -190,17 +193,18 @@ counted_act v d k w t ts (Read i) none is same =
     (inside (slot w.slots i))
 counted_act v d k w t ts (FromThis i kind) none is same = asked_one v d k w t ts i kind (inside (slot w.slots i)) none is
 counted_act v d k w t ts (Offer i c) none is same =
-    shared v d k w (went (state v) d w k ts (Offer i c)) (plain v d k w t ts (Offer i c) none is refl) (offered w.slots i c)
+    shared v d k w (went (state v) d w k ts (Offer i c)) (answer_of (by_word v) (state v) d w.slots (Offer i c))
+    (plain v d k w t ts (Offer i c) none is refl) (offered w.slots i c)
 counted_act v d k w t ts (Swap c) none is same =
     going_in v d k w t ts (Swap c) (going w.slots (Swap c)) none is same refl
     (quiet v d k Rest Rest w (went (state v) d w k ts (Swap c)) None (plain v d k w t ts (Swap c) none is refl))
 counted_act v d k w t ts (Exchange i c) none is same =
     going_in v d k w t ts (Exchange i c) (going w.slots (Exchange i c)) none is same refl
-    (quiet v d k Rest Rest w (went (state v) d w k ts (Exchange i c)) None (plain v d k w t ts (Exchange i c) none is refl))
-counted_act v d k w t ts (Load c) none is same =
-    sees_one v d k w t ts (Load c) (cell_at (state v) c) None (seen v (cell_at (state v) c)) none is refl refl
+    (quiet v d k Rest Rest w (went (state v) d w k ts (Exchange i c)) (answer_of (by_word v) (state v) d w.slots (Exchange i c))
+    (plain v d k w t ts (Exchange i c) none is refl))
+counted_act v d k w t ts (Load c) none is same = load_one v d k w t ts c none is
 counted_act v d k w t ts (Compare i c weak) none is same =
-    compares_one v d k w t ts (Compare i c weak) (cell_at (state v) c) (compared_in w.slots (comparing w.slots i weak)) (seen v (cell_at (state v) c))
+    compares_one v d k w t ts (Compare i c weak) (cell_at (state v) w.slots c) (compared_in w.slots (comparing w.slots i weak)) (seen v (cell_at (state v) w.slots c))
     none is refl refl
 counted_act v d k w t ts Drop none is same =
     left v d k w (went (state v) d w k ts Drop) (slot w.slots (other w.slots)) (went_less (state v) d k w t ts Drop none is)
@@ -214,16 +218,30 @@ counted_end : (v : Story) (d : ℕ) (w : Walk) (e : Ending) (es : List Ending) �
 counted_end v d w e es is free =
     let a = over_less w e es is free in
     let b = staged_most w e es is free in
-    cond_both (e.stage == 3)
-    (record {
+    let finished : Step = record {
       deed = Some (deed.Finish e.block (weak (state v) (object_in v e.block) == 0));
       half = Rest;
       walk = with_endings w es;
       said = silent e.statement;
-    })
-    (record { deed = Some (deed.Clear e.block e.stage); half = Rest; walk = with_endings w (staged e ∷ es); said = silent e.statement })
-    (λ (x : Step). IsCounted v d Rest w (Some x)) (λ _. record { made = plus_none _; ended = plus_none _; few = omega (arith, a) })
+    } in
+    let cleared = within (with_endings w (staged e ∷ es)) e.statement (Some (deed.Clear e.block e.stage)) Rest in
+    let looked = within w e.statement None Clearing in
+    let P : Step → Type 0 = λ x. IsCounted v d Rest w (Some x) in
+    cond_both (e.stage == 3) finished (cond (word_at v (Member e.block e.stage) == 0) cleared looked) P
+    (λ _. record { made = plus_none _; ended = plus_none _; few = omega (arith, a) })
+    (λ _. cond_both (word_at v (Member e.block e.stage) == 0) cleared looked P
     (λ _. record { made = plus_none _; ended = plus_none _; few = omega (arith, b) })
+    (λ _. record { made = plus_none _; ended = plus_none _; few = omega arith }))
+
+-- what a member holds comes out
+counted_out : (v : Story) (d : ℕ) (w : Walk) (es : List Ending) → w.endings ≡ es → IsClearing w.slots es
+    → IsCounted v d Clearing w (emptied v w es)
+counted_out v d w [] is held = record { made = plus_none _; ended = plus_none _; few = omega arith }
+counted_out v d w (e ∷ es) is held =
+    let x = empties v w e es in
+    let a = taken_out w x.walk.slots e es is held.0 in
+    let b = carried_most (staged e ∷ es) x.walk.slots in
+    record { made = plus_none _; ended = plus_none _; few = omega (arith, a, b) }
 
 counted_rest : (v : Story) (d : ℕ) (w : Walk) (es : List Ending) → w.endings ≡ es → IsCounted v d Rest w (at_rest v d w es)
 counted_rest v d w [] is = counted_task v d w w.todo is refl
@@ -265,13 +283,15 @@ counted_lock v d word w [] none is = record { made = plus_none _; ended = plus_n
 counted_lock v d word w (t ∷ ts) none is = counted_try v d word w t ts t.act (locked w.slots t.act) none is refl
 
 -- each step is counted
-pub counted : (v : Story) (d : ℕ) (h : Half) (w : Walk) → IsUnderWay d v h w.todo → IsAlone h w.endings → IsCounted v d h w (step_at v d h w)
-counted v d Rest w way alone = counted_rest v d w w.endings refl
-counted v d (Making b i f) w way alone = counted_make v d i w b f w.todo refl alone way
-counted v d (Locking word) w way alone = counted_lock v d word w w.todo alone refl
-counted v d (Giving i kind x) w way alone = counted_give v d i kind x w w.todo refl alone
-counted v d Brought w way alone = counted_send v d w w.todo alone refl
-counted v d (Saw x) w way alone = counted_saw v d w x w.todo alone refl
-counted v d (Matched x) w way alone = counted_match v d w x w.todo alone refl
-counted v d (Refill stage c x k) w way alone = counted_refill v d stage c x k w
-counted v d (Returning kind b funds k) w way alone = record { made = plus_none _; ended = plus_none _; few = omega arith }
+pub counted : (v : Story) (d : ℕ) (h : Half) (w : Walk) → IsUnderWay d v h w.todo → IsTried h w → IsAlone h w.endings
+    → IsCounted v d h w (step_at v d h w)
+counted v d Rest w way held alone = counted_rest v d w w.endings refl
+counted v d (Making b i f) w way held alone = counted_make v d i w b f w.todo refl alone way
+counted v d (Locking word) w way held alone = counted_lock v d word w w.todo alone refl
+counted v d (Giving i kind x) w way held alone = counted_give v d i kind x w w.todo refl alone
+counted v d Brought w way held alone = counted_send v d w w.todo alone refl
+counted v d (Saw x) w way held alone = counted_saw v d w x w.todo alone refl
+counted v d (Matched x) w way held alone = counted_match v d w x w.todo alone refl
+counted v d (Refill stage c x k) w way held alone = counted_refill v d stage c x k w
+counted v d (Returning kind b funds k) w way held alone = record { made = plus_none _; ended = plus_none _; few = omega arith }
+counted v d Clearing w way held alone = counted_out v d w w.endings refl held

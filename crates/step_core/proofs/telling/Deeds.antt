@@ -39,12 +39,22 @@ pub quiet : (v : Story) (d k : ℕ) (h h' : Half) (w x : Walk) (a : Option Answe
     → IsCounted v d h w (Some (record { deed = None; half = h'; walk = x; said = record { statement = k; answer = a; ended = None } }))
 quiet v d k h h' w x a le = record { made = plus_none _; ended = plus_none _; few = omega (arith, le) }
 
-pub shared : (v : Story) (d k : ℕ) (w x : Walk) → walk_steps x ≤ walk_steps w → (y : Option Pointer)
-    → IsCounted v d Rest w (Some (record { deed = option_map share y; half = Rest; walk = x; said = silent k }))
-shared v d k w x le None = record { made = plus_none _; ended = plus_none _; few = omega (arith, le) }
-shared v d k w x le (Some y) = go y.kind
+pub shared : (v : Story) (d k : ℕ) (w x : Walk) (a : Option Answer) → walk_steps x ≤ walk_steps w → (y : Option Pointer)
+    → IsCounted v d Rest w (Some (record {
+      deed = option_map share y;
+      half = Rest;
+      walk = x;
+      said = record { statement = k; answer = a; ended = None };
+    }))
+shared v d k w x a le None = record { made = plus_none _; ended = plus_none _; few = omega (arith, le) }
+shared v d k w x a le (Some y) = go y.kind
   where
-    go : (q : Kind) → IsCounted v d Rest w (Some (record { deed = Some (share_as q y); half = Rest; walk = x; said = silent k }))
+    go : (q : Kind) → IsCounted v d Rest w (Some (record {
+      deed = Some (share_as q y);
+      half = Rest;
+      walk = x;
+      said = record { statement = k; answer = a; ended = None };
+    }))
     go Owner = record { made = plus_none _; ended = plus_none _; few = omega (arith, le) }
     go Weak = record { made = plus_none _; ended = plus_none _; few = omega (arith, le) }
 

@@ -7,19 +7,24 @@ use Rattle.control_word.proofs.history.Legal.{sound}
 use Rattle.control_word.specs.declared.handle.Kind.{Kind}
 use Rattle.control_word.specs.declared.handle.Kind.TheVariants.{Owner, Weak}
 use Rattle.control_word.specs.declared.place.Block.{Block}
-use Rattle.control_word.specs.State.{common, ending, gone, live, weak}
+use Rattle.control_word.specs.declared.handle.Handle.{Handle}
+use Rattle.control_word.specs.Handles.{empty}
+use Rattle.control_word.specs.State.{Object, common, ending, gone, kind_of_member, live, put, weak}
 use Rattle.step_threads.specs.declared.act.Act.{Act}
 use Rattle.step_table.specs.declared.form.Form.{Form}
 use Rattle.step_threads.specs.declared.act.Act.TheVariants.{Make, Share, Downgrade, Lock, Put, Leave, Clear, Count, Expired, Read, FromThis, Alias, Move, Ask, Offer, Swap, Exchange, Load, Compare, Drop}
 use Rattle.step_threads.specs.declared.act.Task.{Task}
 use Rattle.step_threads.specs.declared.ending.Ending.{Ending}
 use Rattle.step_threads.specs.declared.half.Half.{Half}
-use Rattle.step_threads.specs.declared.half.Half.TheVariants.{Rest, Making, Locking, Giving, Brought, Saw, Matched, Refill, Returning}
+use Rattle.step_threads.specs.declared.half.Half.TheVariants.{Rest, Making, Locking, Giving, Brought, Saw, Matched, Refill, Returning, Clearing}
 use Rattle.step_table.specs.declared.holdings.Pointer.{Pointer}
+use Rattle.step_table.specs.declared.cell_deed.Cell.TheVariants.{Member}
+use Rattle.step_table.specs.declared.past.Deed.{Deed}
 use Rattle.step_table.specs.declared.past.Deed.TheVariants as deed
 use Rattle.step_threads.specs.declared.said.Said.{Said}
 use Rattle.step_threads.specs.Actors.{wanted}
 use Rattle.step_table.specs.declared.cell_deed.CellDeed.TheVariants as cell_deed
+use Rattle.step_table.specs.Cells.{word_at}
 use Rattle.step_table.specs.Contents.{compared_in, seen}
 use Rattle.step_threads.specs.Courses.{Walk, cell_at, comparing, form_of, going, hand, locked, offered, other}
 use Rattle.step_table.specs.Deeds.{alias, aliased, downgrade, is_last, leave, leave_as, read, share, tell, tell_expired, on}
@@ -28,13 +33,14 @@ use Rattle.step_table.specs.Holdings.{inside, is_full, owner_slot, place_in, slo
 use Rattle.step_table.specs.Openings.{opening}
 use Rattle.step_threads.specs.Entries.{least}
 use Rattle.step_threads.specs.Scenes.{begins_end, begins_end_as, endings_by, hands, holding, went}
-use Rattle.step_threads.specs.Steps.{Step, at_rest, begins, begun, claims, ends_on, first, made_on, prepares, silent, step_at, story_by, with_endings}
-use Rattle.step_table.specs.Stories.{Kept, Story, known, object_in, pending, state}
+use Rattle.step_threads.specs.Steps.{Step, at_rest, begins, begun, claims, emptied, empties, ends_on, first, made_on, prepares, silent, step_at, story_by, with_endings, within}
+use Rattle.step_table.specs.Stories.{Kept, Story, after, known, object_in, pending, state}
 use Rattle.step_core.specs.Told.{AllEnd}
 use Rattle.step_table.proofs.tables.Places.{owner_busy, there}
-use Rattle.step_core.proofs.telling.Trying.{compares_on, matched_on, refill_on, saw_on, sees_on}
+use Rattle.step_core.proofs.telling.Trying.{compares_on, load_on, matched_on, refill_on, saw_on}
 use Rattle.step_core.proofs.telling.Walking.{settled_endings}
-use Rattle.step_core.proofs.telling.Still.{Follows, Lists, Right, asked, done_on, end_put, given_on, going_in, looked, passes, plain, same, sent_on, shared, tried_on, within}
+use Rattle.step_core.proofs.telling.Still.{IsAlike, Lists, Right, alike, asked, done_on, end_put, given_on, going_in, looked, passes, plain, put_alike, same, sent_on, shared, tried_on}
+use Rattle.step_core.proofs.telling.Still.{within as on_the_way}
 
 -- an owner leaves
 left_by : (v : Story) (d k : ℕ) (w x : Walk) (a : Said) (f : Lists) → f d ≡ w.endings → AllEnd (state v) f → Kept v → (y : Pointer) (last : Bool)
@@ -121,10 +127,9 @@ acted v d k w ts f at all kept (Offer i c) =
     plain v d k w ts (Offer i c) _ Rest f refl (done_on v d share (offered w.slots i c) (λ x. shared v d x.kind x)) at all
 acted v d k w ts f at all kept (Swap c) = going_in v d k w ts (Swap c) (going w.slots (Swap c)) f at all refl refl
 acted v d k w ts f at all kept (Exchange i c) = going_in v d k w ts (Exchange i c) (going w.slots (Exchange i c)) f at all refl refl
-acted v d k w ts f at all kept (Load c) =
-    sees_on v d k w ts (Load c) c None (seen v (cell_at (state v) c)) f refl at all
+acted v d k w ts f at all kept (Load c) = load_on v d k w ts c f at all
 acted v d k w ts f at all kept (Compare i c weak) =
-    compares_on v d k w ts (Compare i c weak) c (compared_in w.slots (comparing w.slots i weak)) (seen v (cell_at (state v) c)) f refl at all
+    compares_on v d k w ts (Compare i c weak) c (compared_in w.slots (comparing w.slots i weak)) (seen v (cell_at (state v) w.slots c)) f refl at all
 acted v d k w ts f at all kept Drop =
     left v d k w (went (state v) d w k ts Drop) _ f at all kept (slot w.slots (other w.slots)) (act_endings v d k w ts Drop)
 
@@ -133,31 +138,22 @@ begun_task : (v : Story) (d : ℕ) (w : Walk) (f : Lists) → f d ≡ w.endings 
 begun_task v d w f at all kept [] = same v d w f None refl refl at all
 begun_task v d w f at all kept (t ∷ ts) = acted v d t.statement w ts f at all kept t.act
 
--- a member is cleared
-cleared : (v : Story) (d : ℕ) (w : Walk) (e : Ending) (es : List Ending) (f : Lists) → f d ≡ e ∷ es → AllEnd (state v) f
-    → Right v d w f (Some (record {
-      deed = Some (deed.Clear e.block e.stage);
-      half = Rest;
-      walk = with_endings w (staged e ∷ es);
-      said = silent e.statement;
-    }))
-cleared v d w e es f at all = record {
-  right = λ g after now else.
-      let s = state v in
-      let o = object_in v e.block in
-      let own : Follows (e ∷ es) (staged e ∷ es) = λ b has.
-      let m = sum_by-cons (λ (x : Ending). cond (x.block.0 == b) 1 0) e es in
-      let n = sum_by-cons (λ (x : Ending). cond (x.block.0 == b) 1 0) (staged e) es in
-      omega (arith, m, n, has) in
-      let keep = passes d f g (e ∷ es) (staged e ∷ es) at now else own in
-      end_put s (state (story_by v d (Some (record {
-        deed = Some (deed.Clear e.block e.stage);
-        half = Rest;
-        walk = with_endings w (staged e ∷ es);
-        said = silent e.statement;
-      })))) g o
-      _ refl (λ i p. keep (s.object o).block i (all o i p)) (λ r i n p. keep (s.object r).block i (all r i p));
-}
+-- a member is cleared, or what it held is out
+staged_right : (v : Story) (d m : ℕ) (w x : Walk) (e : Ending) (es : List Ending) (a : Deed) (h : Half) (c : Handle) (f : Lists) → w.endings ≡ e ∷ es
+    → x.endings ≡ staged e ∷ es → (let o = (state v).object in let p = object_in v e.block in
+    (state (after v d a)).object ≡ put o p (record (o p) { member = put (o p).member m c })) → f d ≡ w.endings → AllEnd (state v) f
+    → Right v d w f (Some (within x e.statement (Some a) h))
+staged_right v d m w x e es a h c f was becomes is at all =
+    let o = (state v).object in
+    let p = object_in v e.block in
+    alike v d w f (Some (within x e.statement (Some a) h))
+    (subst (λ (g : ℕ → Object). IsAlike o g) (sym is) (put_alike o p m c))
+    (λ b has.
+    let n = sum_by-cons (λ (y : Ending). cond (y.block.0 == b) 1 0) e es in
+    let q = sum_by-cons (λ (y : Ending). cond (y.block.0 == b) 1 0) (staged e) es in
+    let old = ap (endings_of b) was in
+    let new = ap (endings_of b) becomes in
+    omega (arith, n, q, old, new, has)) at all
 
 -- the object is gone: no other ends in its block
 finished : (v : Story) (d : ℕ) (w : Walk) (e : Ending) (es : List Ending) (vacant : Bool) (f : Lists) → f d ≡ e ∷ es → AllEnd (state v) f → Kept v
@@ -187,19 +183,29 @@ finished v d w e es vacant f at all kept = record {
     gone_ends : (i : ℕ) → gone ≡ ending i → ⊥
     gone_ends i p = cc
 
-ended : (v : Story) (d : ℕ) (w : Walk) (e : Ending) (es : List Ending) (f : Lists) → f d ≡ e ∷ es → AllEnd (state v) f → Kept v
-    → Right v d w f (Some (ends_on v w e es))
-ended v d w e es f at all kept =
-    cond_both (e.stage == 3)
-    (record {
-      deed = Some (deed.Finish e.block (weak (state v) (object_in v e.block) == 0));
-      half = Rest;
-      walk = with_endings w es;
-      said = silent e.statement;
-    })
-    (record { deed = Some (deed.Clear e.block e.stage); half = Rest; walk = with_endings w (staged e ∷ es); said = silent e.statement })
-    (λ (x : Step). Right v d w f (Some x))
-    (λ c. finished v d w e es (weak (state v) (object_in v e.block) == 0) f at all kept) (λ c. cleared v d w e es f at all)
+ended : (v : Story) (d : ℕ) (w : Walk) (e : Ending) (es : List Ending) (f : Lists) → f d ≡ w.endings → w.endings ≡ e ∷ es → AllEnd (state v) f
+    → Kept v → Right v d w f (Some (ends_on v w e es))
+ended v d w e es f at was all kept =
+    let vacant = weak (state v) (object_in v e.block) == 0 in
+    let done : Step = record { deed = Some (deed.Finish e.block vacant); half = Rest; walk = with_endings w es; said = silent e.statement } in
+    let cleared = within (with_endings w (staged e ∷ es)) e.statement (Some (deed.Clear e.block e.stage)) Rest in
+    let looked = within w e.statement None Clearing in
+    let P : Step → Type 0 = λ x. Right v d w f (Some x) in
+    cond_both (e.stage == 3) done (cond (word_at v (Member e.block e.stage) == 0) cleared looked) P
+    (λ c. finished v d w e es vacant f (at ∙ was) all kept)
+    (λ c. cond_both (word_at v (Member e.block e.stage) == 0) cleared looked P
+    (λ z. staged_right v d e.stage w (with_endings w (staged e ∷ es)) e es (deed.Clear e.block e.stage) Rest (empty (kind_of_member e.stage)) f was refl refl at
+    all)
+    (λ z. on_the_way v d e.statement w None Clearing f refl at all))
+
+emptying : (v : Story) (d : ℕ) (w : Walk) (f : Lists) → f d ≡ w.endings → AllEnd (state v) f → (es : List Ending) → w.endings ≡ es
+    → Right v d w f (emptied v w es)
+emptying v d w f at all [] was = same v d w f None refl refl at all
+emptying v d w f at all (e ∷ es) was =
+    let x = empties v w e es in
+    let found = seen v (Member e.block e.stage) in
+    staged_right v d e.stage w x.walk e es (deed.OnCell (cell_deed.TakeOut e.block e.stage found)) x.half (empty (kind_of_member e.stage)) f was refl refl
+    at all
 
 rested : (v : Story) (d : ℕ) (w : Walk) (f : Lists) → f d ≡ w.endings → AllEnd (state v) f → Kept v → (es : List Ending) → w.endings ≡ es
     → Right v d w f (at_rest v d w es)
@@ -207,7 +213,7 @@ rested v d w f at all kept [] is = begun_task v d w f at all kept w.todo
 rested v d w f at all kept (e ∷ es) is =
     cond_both (is_full (slot w.slots (hand w.slots))) (first v d w e.statement w.todo (Leave (hand w.slots))) (ends_on v w e es)
     (λ (x : Step). Right v d w f (Some x)) (λ c. acted v d e.statement w w.todo f at all kept (Leave (hand w.slots)))
-    (λ c. ended v d w e es f (at ∙ is) all kept)
+    (λ c. ended v d w e es f at is all kept)
 
 -- an object is made
 claimed : (v : Story) (d k : ℕ) (w : Walk) (ts : List Task) (b : Block) (form : Form) (f : Lists) → f d ≡ w.endings → AllEnd (state v) f
@@ -250,4 +256,5 @@ ends_right v d (Saw x) w f at all kept = saw_on v d x w f at all w.todo
 ends_right v d (Matched x) w f at all kept = matched_on v d x w f at all w.todo
 ends_right v d (Refill stage c x k) w f at all kept = refill_on v d stage c x k w f at all
 ends_right v d (Returning kind b funds k) w f at all kept =
-    within v d k w (Some (deed.OnCell (cell_deed.GiveBack kind b funds))) Rest f refl at all
+    on_the_way v d k w (Some (deed.OnCell (cell_deed.GiveBack kind b funds))) Rest f refl at all
+ends_right v d Clearing w f at all kept = emptying v d w f at all w.endings refl

@@ -6,20 +6,22 @@ use Rattle.step_table.specs.declared.cell_deed.Cell.{Cell}
 use Rattle.step_table.specs.declared.cell_deed.CellDeed.TheVariants as cell_deed
 use Rattle.step_table.specs.declared.cell_deed.Compared.{Compared}
 use Rattle.step_table.specs.declared.ended.Ended.{Ended}
+use Rattle.step_table.specs.Deeds.{by_word}
 use Rattle.step_table.specs.declared.past.Deed.TheVariants as deed
 use Rattle.step_table.specs.declared.refill.Stage.{Stage}
 use Rattle.step_threads.specs.declared.act.Act.{Act}
 use Rattle.step_threads.specs.declared.act.Act.TheVariants.{Load, Compare}
 use Rattle.step_threads.specs.declared.act.Task.{Task}
+use Rattle.step_threads.specs.declared.call.CellName.{CellName}
 use Rattle.step_threads.specs.declared.half.Half.{Half}
 use Rattle.step_threads.specs.declared.half.Half.TheVariants.{Rest, Saw, Matched, Refill}
 use Rattle.step_core.specs.Bounds.{walk_steps}
 use Rattle.step_core.specs.Told.{is_prepared}
 use Rattle.step_table.specs.Stories.{Story, state}
 use Rattle.step_threads.specs.Courses.{Walk, cell_at}
-use Rattle.step_threads.specs.Scenes.{ended_of, left, went}
-use Rattle.step_threads.specs.Steps.{Step, acts, compares, matched, saw, sees, step_at}
-use Rattle.step_core.proofs.telling.Cases.{IsEach, IsEachAct, each_compares, each_matched, each_refill, each_saw, each_sees}
+use Rattle.step_threads.specs.Scenes.{answer_of, ended_of, left, went}
+use Rattle.step_threads.specs.Steps.{Step, acts, compares, first, matched, saw, step_at}
+use Rattle.step_core.proofs.telling.Cases.{IsEach, IsEachAct, each_compares, each_load, each_matched, each_refill, each_saw}
 use Rattle.step_core.proofs.telling.Deeds.{IsCounted, plus_none, quiet}
 use Rattle.step_core.proofs.telling.Walking.{went_plain}
 
@@ -51,11 +53,13 @@ each_counted v d k h w t ts a c e none is stays ends =
     taken z n l x None h' = record { made = omega (arith, z); ended = omega (arith, n); few = omega (arith, l, z, n) }
     taken z n l x (Some y) h' = record { made = omega (arith, z); ended = omega (arith, n); few = omega (arith, l, z, n) }
 
-pub sees_one : (v : Story) (d k : ℕ) (w : Walk) (t : Task) (ts : List Task) (a : Act) (c : Cell) (y : Option Compared) (x : CellWord)
-    → w.endings ≡ [] → w.todo ≡ t ∷ ts → left w.slots a ≡ None → ended_of (state v) w.slots a ≡ None
-    → IsCounted v d Rest w (Some (sees v d w k ts a c y x))
-sees_one v d k w t ts a c y x none is stays ends =
-    each_sees v d w k ts a c (λ (s : Step). IsCounted v d Rest w (Some s)) (each_counted v d k Rest w t ts a c refl none is stays ends) y x
+pub load_one : (v : Story) (d k : ℕ) (w : Walk) (t : Task) (ts : List Task) (c : CellName) → w.endings ≡ [] → w.todo ≡ t ∷ ts
+    → IsCounted v d Rest w (Some (first v d w k ts (Load c)))
+load_one v d k w t ts c none is =
+    let l = went_plain (state v) d k w t ts (Load c) none is refl in
+    each_load v d w k ts c (λ (s : Step). IsCounted v d Rest w (Some s))
+    (each_counted v d k Rest w t ts (Load c) (cell_at (state v) w.slots c) refl none is refl refl)
+    (quiet v d k Rest Rest w (went (state v) d w k ts (Load c)) (answer_of (by_word v) (state v) d w.slots (Load c)) (omega (arith, l)))
 
 pub compares_one : (v : Story) (d k : ℕ) (w : Walk) (t : Task) (ts : List Task) (a : Act) (c : Cell) (y : Compared) (x : CellWord)
     → w.endings ≡ [] → w.todo ≡ t ∷ ts → left w.slots a ≡ None → ended_of (state v) w.slots a ≡ None
@@ -71,8 +75,8 @@ act_counted : (v : Story) (d : ℕ) (h : Half) (w : Walk) (t : Task) (ts : List 
     → IsEachAct v d w t.statement ts (λ (o : Option Step). IsCounted v d h w o)
 act_counted v d h w t ts e none is = record {
   none = none_counted v d h w;
-  load = λ c. each_counted v d t.statement h w t ts (Load c) (cell_at (state v) c) e none is refl refl;
-  compare = λ i c weak. each_counted v d t.statement h w t ts (Compare i c weak) (cell_at (state v) c) e none is refl refl;
+  load = λ c. each_counted v d t.statement h w t ts (Load c) (cell_at (state v) w.slots c) e none is refl refl;
+  compare = λ i c weak. each_counted v d t.statement h w t ts (Compare i c weak) (cell_at (state v) w.slots c) e none is refl refl;
 }
 
 pub counted_saw : (v : Story) (d : ℕ) (w : Walk) (x : CellWord) (ts : List Task) → w.endings ≡ [] → w.todo ≡ ts

@@ -11,20 +11,16 @@ use Rattle.step_threads.specs.declared.act.Act.TheVariants as act
 use Rattle.step_threads.specs.declared.act.Task.{Task}
 use Rattle.step_threads.specs.declared.call.Call.{Call}
 use Rattle.step_threads.specs.declared.call.Call.TheVariants as call
-use Rattle.step_table.specs.declared.cell_deed.Cell.TheVariants.{Free}
 use Rattle.step_table.specs.declared.extent.Extent.{Extent}
-use Rattle.step_threads.specs.declared.half.Half.{Half}
 use Rattle.step_threads.specs.declared.thread.Thread.{Thread}
 use Rattle.step_threads.specs.Acts.{acts, clearing, numbered, tasks_from}
 use Rattle.step_core.specs.Bounds.{left_to_do, task_steps, walk_steps, weight}
 use Rattle.step_threads.specs.Courses.{Walk}
-use Rattle.step_table.specs.CellDeeds.{word_of}
 use Rattle.step_threads.specs.Programs.{IsPart, IsProgram, Part, call_count}
 use Rattle.step_core.specs.Starts.{first_story, first_walk, no_slots}
 use Rattle.step_core.specs.Told.{IsTold, sight}
-use Rattle.step_core.specs.Watching.{IsWatched}
 use Rattle.step_core.specs.Worlds.{thread_half, thread_walk}
-use Rattle.step_table.proofs.tables.Start.{plain_start}
+use Rattle.step_core.proofs.watching.Worlds.{watched_start}
 use Rattle.step_core.proofs.telling.Walking.{settled_alone}
 
 clearing_steps : (n : ℕ) → task_steps (clearing n) ≡ 2 * n
@@ -109,11 +105,6 @@ zero_at zero i = refl
 zero_at (suc n) zero = refl
 zero_at (suc n) (suc i) = zero_at n i
 
-watched_start : (x : Extent) (halves : List Half) → IsWatched (first_story x) halves
-watched_start x halves n lt =
-    let z = zero_at (table_size x.shape) (word_of x.shape.blocks (Free n)) in
-    omega (arith, z)
-
 pub told_start : (x : Extent) (parts : List Part) (threads : List Thread) → x.actors ≡ length parts → IsProgram parts
     → map thread_walk threads ≡ map first_walk parts → IsTold (sight (first_story x) threads) 0 0
 told_start x parts threads size fine walks =
@@ -132,6 +123,5 @@ told_start x parts threads size fine walks =
       order = omega arith;
       few = omega (arith, same, a, calls, actors);
       endings = λ o e p. absurd (not_ending e p);
-      plain = plain_start x (first_story x).words;
-      watched = watched_start x (map thread_half threads);
+      watched = watched_start (first_story x) (map thread_half threads) (zero_at (table_size x.shape));
     }

@@ -16,7 +16,6 @@ use Rattle.step_core.specs.Turning.{HasBegun}
 use Rattle.step_core.specs.Worlds.{Sight, Steps, half_of, scene, sight_by, step_of}
 use Rattle.step_core.proofs.watching.Worlds.{watched_step}
 use Rattle.step_core.proofs.telling.Waiting.{answered_adds}
-use Rattle.step_core.proofs.telling.Plain.{plain_by, plain_step}
 use Rattle.step_core.proofs.telling.Counting.{counted}
 use Rattle.step_core.proofs.telling.Order.{ended_few}
 use Rattle.step_core.proofs.telling.Ending.{ends_right}
@@ -35,7 +34,7 @@ told_step d u m e kept after begun lt told =
     let x = step_of d u in
     let w = walk_of (scene u) d in
     let h = half_of u d in
-    let c = counted u.story d h w begun.half begun.alone in
+    let c = counted u.story d h w begun.half begun.tried begun.alone in
     let small = told.few in
     let law = ended_few (opening (story_by u.story d x).extent) (story_by u.story d x).history after.stands.legal in
     let l = length-set u.walks d (walk_by w x) in
@@ -52,7 +51,6 @@ told_step d u m e kept after begun lt told =
           (λ i. (walk_of (scene (sight_by d u x)) i).endings) after
           (ap (λ (y : Walk). y.endings) (get_or-set_same u.walks d (walk_by w x) nowhere lt))
           (λ i n. ap (λ (y : Walk). y.endings) (get_or-set_other u.walks d i (walk_by w x) nowhere n));
-      plain = plain_by u.story d x (plain_step u.story d h w) told.plain;
       watched = watched_step d u kept after begun told.watched;
     }
 

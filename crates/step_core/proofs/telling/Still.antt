@@ -3,9 +3,14 @@ use Rattle.std.proofs.Common.{◌≡◌, ◌≢◌, ℕ, ◌<◌, ◌==◌, Bool
 use Rattle.std.specs.Prelude.{Option, Some, None, option_map}
 use Rattle.std.proofs.lemmas.Bool.{cases_eq, cond_both}
 use Rattle.control_word.proofs.lists.Tallies.{put_cases}
+use Rattle.control_word.specs.declared.event.Cell.{Cell as Named}
+use Rattle.control_word.specs.declared.event.Cell.TheVariants.{Free, Member}
+use Rattle.control_word.specs.declared.handle.Handle.{Handle}
 use Rattle.control_word.specs.declared.handle.Kind.{Kind}
 use Rattle.control_word.specs.declared.handle.Kind.TheVariants.{Owner, Weak}
+use Rattle.control_word.specs.Events.{swaps as event_swaps}
 use Rattle.control_word.specs.State.{Object, State, ending, put}
+use Rattle.step_table.specs.CellDeeds.{cell_in, handle_told}
 use Rattle.step_threads.specs.declared.act.Act.{Act}
 use Rattle.step_threads.specs.declared.act.Act.TheVariants.{Make, Share, Downgrade, Lock, Put, Leave, Clear, Count, Expired, Read, FromThis, Alias, Move, Ask, Offer, Swap, Exchange, Load, Compare, Drop}
 use Rattle.step_threads.specs.declared.act.Task.{Task}
@@ -15,16 +20,13 @@ use Rattle.step_threads.specs.declared.half.Half.TheVariants.{Rest, Locking, Giv
 use Rattle.step_table.specs.declared.holdings.Pointer.{Pointer}
 use Rattle.step_table.specs.declared.past.Deed.{Deed}
 use Rattle.step_table.specs.declared.past.Deed.TheVariants as deed
-use Rattle.step_threads.specs.declared.call.CellName.{CellName}
-use Rattle.step_threads.specs.declared.call.CellName.TheVariants as cell
 use Rattle.step_table.specs.declared.cell_deed.CellDeed.TheVariants as cell_deed
-use Rattle.control_word.specs.declared.cell.CellWord.{CellWord}
 use Rattle.step_table.specs.Contents.{as_word, seen}
 use Rattle.step_threads.specs.Courses.{Going, Walk, cell_at, going, kind_at, locked, on_going}
 use Rattle.step_table.specs.Deeds.{give, is_enabled, lock, owner_word, share_as, on}
 use Rattle.step_threads.specs.Endings.{endings_of}
 use Rattle.step_table.specs.Holdings.{slot, value}
-use Rattle.step_threads.specs.Scenes.{begins_end, endings_by, hands, left as leaves_by}
+use Rattle.step_threads.specs.Scenes.{begins_end, endings_by, hands, left as leaves_by, went}
 use Rattle.step_threads.specs.Steps.{Step, acts, asks, brings, given, gives_back, looks, sends, sent, silent, swaps, story_after, story_by, tried, tries, trying, walk_by}
 use Rattle.step_table.specs.Stories.{Kept, Story, state}
 use Rattle.step_core.specs.Told.{AllEnd}
@@ -66,16 +68,39 @@ end_put s t g o x is here else p e =
 pub record Right (v : Story) (d : ℕ) (w : Walk) (f : Lists) (x : Option Step) : Type 0 where
   pub right : (g : Lists) → Kept (story_by v d x) → g d ≡ (walk_by w x).endings → IsElse d f g → AllEnd (state (story_by v d x)) g
 
+-- each object is in the block that it was in, and ends in whose hands it did
+abbrev pub IsAlike : (ℕ → Object) → (ℕ → Object) → Type 0
+IsAlike f g = (o : ℕ) → ((g o).phase ≡ (f o).phase) × ((g o).block ≡ (f o).block)
+
+-- another member alone
+pub put_alike : (f : ℕ → Object) (p m : ℕ) (h : Handle) → IsAlike f (put f p (record (f p) { member = put (f p).member m h }))
+put_alike f p m h o =
+    put_cases (λ k y. (y.phase ≡ (f k).phase) × (y.block ≡ (f k).block)) f p (record (f p) { member = put (f p).member m h }) o
+    (λ q. (ap (λ k. (f k).phase) (sym q), ap (λ k. (f k).block) (sym q))) (λ n. (refl, refl))
+
+-- a cell is a member of an object or of none
+pub fills_alike : (s : State) (d : ℕ) (c : Named) (new old : Handle) → IsAlike s.object (event_swaps d c new old s).object
+fills_alike s d (Free n) new old o = (refl, refl)
+fills_alike s d (Member p m) new old o = put_alike s.object p m new o
+
+-- where no object begins to end or comes to its end
+pub alike : (v : Story) (d : ℕ) (w : Walk) (f : Lists) (x : Option Step) → IsAlike (state v).object (state (story_by v d x)).object
+    → Follows w.endings (walk_by w x).endings → f d ≡ w.endings → AllEnd (state v) f → Right v d w f x
+alike v d w f x is own at all = record {
+  right = λ g kept now else o e p.
+      let i = is o in
+      subst (λ (b : ℕ). 0 < endings_of b (g e)) (sym i.1)
+      (passes d f g w.endings (walk_by w x).endings at now else own ((state v).object o).block e (all o e (sym i.0 ∙ p)));
+}
+
 -- where no object changes
+same_alike : (f g : ℕ → Object) → g ≡ f → IsAlike f g
+same_alike f g is o = (ap (λ (k : ℕ → Object). (k o).phase) is, ap (λ (k : ℕ → Object). (k o).block) is)
+
 pub same : (v : Story) (d : ℕ) (w : Walk) (f : Lists) (x : Option Step) → (state (story_by v d x)).object ≡ (state v).object
     → (walk_by w x).endings ≡ w.endings → f d ≡ w.endings → AllEnd (state v) f → Right v d w f x
-same v d w f x is own at all = record {
-  right = λ g kept now else o e.
-      let P : Object → Type 0 = λ y. y.phase ≡ ending e → 0 < endings_of y.block (g e) in
-      subst P (sym (ap (λ (k : ℕ → Object). k o) is))
-      (λ p. passes d f g w.endings (walk_by w x).endings at now else (follows_same w.endings (walk_by w x).endings own) ((state v).object o).block e
-      (all o e p));
-}
+same v d w f x is own at all =
+    alike v d w f x (same_alike (state v).object (state (story_by v d x)).object is) (follows_same w.endings (walk_by w x).endings own) at all
 
 -- an act on what a slot holds
 pub done_on : (v : Story) (d : ℕ) (f : Pointer → Deed) (o : Option Pointer)
@@ -93,14 +118,20 @@ gave v d Owner x = refl
 gave v d Weak x = refl
 
 -- an act by which nothing leaves
+pub plain_alike : (v : Story) (d k : ℕ) (w : Walk) (ts : List Task) (a : Act) (x : Option Deed) (h : Half) (f : Lists) → leaves_by w.slots a ≡ None
+    → IsAlike (state v).object (state (story_after v d x)).object → f d ≡ w.endings → AllEnd (state v) f
+    → Right v d w f (Some (acts v d w k ts a x h))
+plain_alike v d k w ts a x h f stays is at all =
+    let y = hands (state v) d w.slots w.taken a in
+    let e = settled_endings y.0 y.1 (endings_by (state v) k w.slots w.endings a) ts in
+    let n = ap (λ (o : Option Pointer). on (λ z. begins_end (state v) k z w.endings) w.endings o) stays in
+    alike v d w f (Some (acts v d w k ts a x h)) is (follows_same w.endings (went (state v) d w k ts a).endings (e ∙ n)) at all
+
 pub plain : (v : Story) (d k : ℕ) (w : Walk) (ts : List Task) (a : Act) (x : Option Deed) (h : Half) (f : Lists) → leaves_by w.slots a ≡ None
     → (state (story_after v d x)).object ≡ (state v).object → f d ≡ w.endings → AllEnd (state v) f
     → Right v d w f (Some (acts v d w k ts a x h))
 plain v d k w ts a x h f stays is at all =
-    let y = hands (state v) d w.slots w.taken a in
-    let e = settled_endings y.0 y.1 (endings_by (state v) k w.slots w.endings a) ts in
-    let n = ap (λ (o : Option Pointer). on (λ z. begins_end (state v) k z w.endings) w.endings o) stays in
-    same v d w f (Some (acts v d w k ts a x h)) is (e ∙ n) at all
+    plain_alike v d k w ts a x h f stays (same_alike (state v).object (state (story_after v d x)).object is) at all
 
 -- a step within an act
 pub within : (v : Story) (d k : ℕ) (w : Walk) (x : Option Deed) (h : Half) (f : Lists) → (state (story_after v d x)).object ≡ (state v).object
@@ -163,20 +194,16 @@ pub tried_on : (v : Story) (d word : ℕ) (w : Walk) (f : Lists) → f d ≡ w.e
 tried_on v d word w f at all [] = same v d w f None refl refl at all
 tried_on v d word w f at all (t ∷ ts) = tried_by v d word t.statement w ts t.act f at all (locked w.slots t.act) refl
 
--- a cell is none of an object
-still_swapped : (v : Story) (d : ℕ) (c : CellName) (new x : CellWord)
-    → (state (story_after v d (Some (deed.OnCell (cell_deed.Swap (cell_at (state v) c) new x))))).object ≡ (state v).object
-still_swapped v d (cell.Shared n) new x = refl
-still_swapped v d (cell.Weak n) new x = refl
-
 -- a value goes into a cell
 swapped : (v : Story) (d k : ℕ) (w : Walk) (ts : List Task) (a : Act) (x : Going) (f : Lists) → f d ≡ w.endings → AllEnd (state v) f
     → going w.slots a ≡ Some x → Right v d w f (Some (swaps v d w k ts a x.0 x.1))
 swapped v d k w ts a x f at all goes =
-    let found = seen v (cell_at (state v) x.0) in
-    plain v d k w ts a (Some (deed.OnCell (cell_deed.Swap (cell_at (state v) x.0) (as_word (value w.slots x.1)) found)))
-    (gives_back (kind_at x.0) k found found.owned) f (swapping (state v) w.slots a x goes).stays
-    (still_swapped v d x.0 (as_word (value w.slots x.1)) found) at all
+    let c = cell_at (state v) w.slots x.0 in
+    let found = seen v c in
+    let new = as_word (value w.slots x.1) in
+    plain_alike v d k w ts a (Some (deed.OnCell (cell_deed.Swap c new found))) (gives_back (kind_at x.0) k found found.owned) f
+    (swapping (state v) w.slots a x goes).stays
+    (fills_alike (state v) d (cell_in (state v) c) (handle_told (state v) c new) (handle_told (state v) c found)) at all
 
 -- its funds are brought first, where it has an object
 brought : (v : Story) (d k : ℕ) (w : Walk) (ts : List Task) (a : Act) (x : Going) (f : Lists) → f d ≡ w.endings → AllEnd (state v) f

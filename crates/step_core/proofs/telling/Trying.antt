@@ -1,4 +1,4 @@
--- Loads and compares change no object.
+-- By loads and compares no object begins to end.
 use Rattle.std.proofs.Common.{◌≡◌, ℕ, List, refl}
 use Rattle.std.specs.Prelude.{Option, Some, None}
 use Rattle.control_word.specs.declared.cell.CellWord.{CellWord}
@@ -11,15 +11,15 @@ use Rattle.step_threads.specs.declared.act.Act.{Act}
 use Rattle.step_threads.specs.declared.act.Act.TheVariants.{Load, Compare}
 use Rattle.step_threads.specs.declared.act.Task.{Task}
 use Rattle.step_threads.specs.declared.call.CellName.{CellName}
-use Rattle.step_threads.specs.declared.call.CellName.TheVariants as cell
 use Rattle.step_threads.specs.declared.half.Half.TheVariants.{Rest, Matched, Refill}
+use Rattle.step_table.specs.CellDeeds.{cell_in, handle_told}
 use Rattle.step_table.specs.Stories.{Story, state}
 use Rattle.step_threads.specs.Courses.{Walk, cell_at}
 use Rattle.step_threads.specs.Scenes.{left}
-use Rattle.step_threads.specs.Steps.{Step, compares, matched, saw, sees, step_at, story_after}
+use Rattle.step_threads.specs.Steps.{Step, compares, first, matched, saw, step_at, story_after}
 use Rattle.step_core.specs.Told.{AllEnd}
-use Rattle.step_core.proofs.telling.Cases.{IsEach, IsEachAct, each_compares, each_matched, each_refill, each_saw, each_sees}
-use Rattle.step_core.proofs.telling.Still.{Lists, Right, plain, same, within}
+use Rattle.step_core.proofs.telling.Cases.{IsEach, IsEachAct, each_compares, each_load, each_matched, each_refill, each_saw}
+use Rattle.step_core.proofs.telling.Still.{Lists, Right, fills_alike, plain, plain_alike, same, within}
 
 still_looked : (v : Story) (d : ℕ) (c : Cell) (x : CellWord) (y : Option Compared)
     → (state (story_after v d (Some (deed.OnCell (cell_deed.Look c x y))))).object ≡ (state v).object
@@ -31,33 +31,30 @@ still_taken : (v : Story) (d : ℕ) (c : Cell) (x : CellWord) (y : Option Compar
 still_taken v d c x None = refl
 still_taken v d c x (Some y) = refl
 
--- a free cell is none of an object
-still_matched : (v : Story) (d : ℕ) (c : CellName) (x : CellWord) (y : Compared)
-    → (state (story_after v d (Some (deed.OnCell (cell_deed.CompareSwap (cell_at (state v) c) x y))))).object ≡ (state v).object
-still_matched v d (cell.Shared n) x y = refl
-still_matched v d (cell.Weak n) x y = refl
-
 each_right : (v : Story) (d k : ℕ) (w : Walk) (ts : List Task) (a : Act) (c : CellName) (f : Lists) → left w.slots a ≡ None → f d ≡ w.endings
-    → AllEnd (state v) f → IsEach v d w k ts a (cell_at (state v) c) (λ (x : Step). Right v d w f (Some x))
+    → AllEnd (state v) f → IsEach v d w k ts a (cell_at (state v) w.slots c) (λ (x : Step). Right v d w f (Some x))
 each_right v d k w ts a c f stays at all =
-    let z = cell_at (state v) c in
+    let z = cell_at (state v) w.slots c in
     record {
       quiet = λ h. within v d k w None h f refl at all;
       look = λ x y. plain v d k w ts a (Some (deed.OnCell (cell_deed.Look z x y))) Rest f stays (still_looked v d z x y) at all;
       take = λ x y h. plain v d k w ts a (Some (deed.OnCell (cell_deed.Take z x y))) h f stays (still_taken v d z x y) at all;
-      swap = λ x y h. plain v d k w ts a (Some (deed.OnCell (cell_deed.CompareSwap z x y))) h f stays (still_matched v d c x y) at all;
+      swap = λ x y h.
+          plain_alike v d k w ts a (Some (deed.OnCell (cell_deed.CompareSwap z x y))) h f stays
+          (fills_alike (state v) d (cell_in (state v) z) (handle_told (state v) z y.new) (handle_told (state v) z x)) at all;
       bring = λ x p. within v d k w (Some (deed.OnCell (cell_deed.Bring p.kind p.block p.place 256))) (Matched x) f refl at all;
     }
 
-pub sees_on : (v : Story) (d k : ℕ) (w : Walk) (ts : List Task) (a : Act) (c : CellName) (y : Option Compared) (x : CellWord) (f : Lists)
-    → left w.slots a ≡ None → f d ≡ w.endings → AllEnd (state v) f → Right v d w f (Some (sees v d w k ts a (cell_at (state v) c) y x))
-sees_on v d k w ts a c y x f stays at all =
-    each_sees v d w k ts a (cell_at (state v) c) (λ (s : Step). Right v d w f (Some s)) (each_right v d k w ts a c f stays at all) y x
+pub load_on : (v : Story) (d k : ℕ) (w : Walk) (ts : List Task) (c : CellName) (f : Lists) → f d ≡ w.endings → AllEnd (state v) f
+    → Right v d w f (Some (first v d w k ts (Load c)))
+load_on v d k w ts c f at all =
+    each_load v d w k ts c (λ (s : Step). Right v d w f (Some s)) (each_right v d k w ts (Load c) c f refl at all)
+    (plain v d k w ts (Load c) None Rest f refl refl at all)
 
 pub compares_on : (v : Story) (d k : ℕ) (w : Walk) (ts : List Task) (a : Act) (c : CellName) (y : Compared) (x : CellWord) (f : Lists)
-    → left w.slots a ≡ None → f d ≡ w.endings → AllEnd (state v) f → Right v d w f (Some (compares v d w k ts a (cell_at (state v) c) y x))
+    → left w.slots a ≡ None → f d ≡ w.endings → AllEnd (state v) f → Right v d w f (Some (compares v d w k ts a (cell_at (state v) w.slots c) y x))
 compares_on v d k w ts a c y x f stays at all =
-    each_compares v d w k ts a (cell_at (state v) c) (λ (s : Step). Right v d w f (Some s)) (each_right v d k w ts a c f stays at all) y x
+    each_compares v d w k ts a (cell_at (state v) w.slots c) (λ (s : Step). Right v d w f (Some s)) (each_right v d k w ts a c f stays at all) y x
 
 act_right : (v : Story) (d k : ℕ) (w : Walk) (ts : List Task) (f : Lists) → f d ≡ w.endings → AllEnd (state v) f
     → IsEachAct v d w k ts (λ (o : Option Step). Right v d w f o)

@@ -8,13 +8,13 @@ use Rattle.step_threads.specs.declared.act.Act.TheVariants.{Make, Share, Downgra
 use Rattle.step_threads.specs.declared.act.Task.{Task}
 use Rattle.step_threads.specs.declared.ending.Ending.{Ending}
 use Rattle.step_threads.specs.declared.half.Half.{Half}
-use Rattle.step_threads.specs.declared.half.Half.TheVariants.{Rest, Making, Locking, Giving, Brought, Saw, Matched, Refill, Returning}
+use Rattle.step_threads.specs.declared.half.Half.TheVariants.{Rest, Making, Locking, Giving, Brought, Saw, Matched, Refill, Returning, Clearing}
 use Rattle.step_threads.specs.declared.said.Stepped.{Stepped}
 use Rattle.step_threads.specs.declared.said.Stepped.TheVariants.{Event, Quiet, Waited}
 use Rattle.step_table.specs.Contents.{as_word, compared_in, is_spent, same_value, seen}
 use Rattle.step_table.specs.Holdings.{value}
 use Rattle.step_table.specs.Stories.{Story, state}
-use Rattle.step_threads.specs.Courses.{Walk, cell_at, comparing}
+use Rattle.step_threads.specs.Courses.{Walk, cell_at, comparing, is_there}
 use Rattle.step_threads.specs.Steps.{Step, acts, answered, at_rest, begun, first, is_event, step_at, stepped, waits, waits_at, waits_on, within}
 use Rattle.step_core.specs.Told.{ends_by, makes}
 
@@ -28,6 +28,12 @@ spent : (v : Story) (k : ℕ) (w : Walk) (x : Step) (b : Bool)
 spent v k w x true = (refl, refl)
 spent v k w x false = (refl, refl)
 
+-- one whose cell isn't there is refused
+there : (v : Story) (k : ℕ) (w : Walk) (x y : Step) (is b : Bool)
+    → let s = cond is (cond b (within w k None Rest) x) y in Adds (cond (is && b) Waited (stepped v (Some s))) (stepped v (Some s))
+there v k w x y true b = spent v k w x b
+there v k w x y false b = (refl, refl)
+
 differs : (v : Story) (k : ℕ) (w : Walk) (x y : Step) (same b : Bool)
     → let s = cond same y (cond b (within w k None Rest) x) in Adds (cond (not same && b) Waited (stepped v (Some s))) (stepped v (Some s))
 differs v k w x y true b = (refl, refl)
@@ -37,12 +43,13 @@ differs v k w x y false false = (refl, refl)
 act_adds : (v : Story) (d k : ℕ) (w : Walk) (ts : List Task) (a : Act)
     → let r = stepped v (Some (first v d w k ts a)) in Adds (cond (waits_on v w a) Waited r) r
 act_adds v d k w ts (Load c) =
-    let z = cell_at (state v) c in
+    let z = cell_at (state v) w.slots c in
     let x = seen v z in
-    spent v k w
-    (cond (is_some x.owned) (within w k None (Saw x)) (acts v d w k ts (Load c) (Some (deed.OnCell (cell_deed.Look z x None))) Rest)) (is_spent x)
+    there v k w
+    (cond (is_some x.owned) (within w k None (Saw x)) (acts v d w k ts (Load c) (Some (deed.OnCell (cell_deed.Look z x None))) Rest))
+    (acts v d w k ts (Load c) None Rest) (is_there w.slots c) (is_spent x)
 act_adds v d k w ts (Compare i c weak) =
-    let z = cell_at (state v) c in
+    let z = cell_at (state v) w.slots c in
     let x = seen v z in
     let y = compared_in w.slots (comparing w.slots i weak) in
     let look = acts v d w k ts (Compare i c weak) (Some (deed.OnCell (cell_deed.Look z x (Some y)))) Rest in
@@ -87,6 +94,7 @@ answered_adds v d (Saw x) w = (refl, refl)
 answered_adds v d (Matched x) w = (refl, refl)
 answered_adds v d (Refill stage c x k) w = (refl, refl)
 answered_adds v d (Returning kind b funds k) w = (refl, refl)
+answered_adds v d Clearing w = (refl, refl)
 
 -- a step that doesn't wait says so
 stepped_on : (v : Story) (x : Option Step) → stepped v x ≢ Waited

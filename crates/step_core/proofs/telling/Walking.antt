@@ -265,3 +265,12 @@ staged_less w e es is free lt =
 pub carried_most : (es : List Ending) (slots : Slots) → carried es slots ≤ 1
 carried_most [] slots = omega arith
 carried_most (e ∷ es) slots = carried_one (is_full (slot slots (hand slots)))
+
+-- what a member held is out
+pub taken_out : (w : Walk) (slots : Slots) (e : Ending) (es : List Ending) → w.endings ≡ e ∷ es → e.stage < 3
+    → walk_steps (record { slots = slots; taken = w.taken; endings = staged e ∷ es; todo = w.todo }) + 4 ≤ walk_steps w + carried (staged e ∷ es) slots
+taken_out w slots e es is lt =
+    let a = ap (λ (l : List Ending). sum_by ending_steps l) is in
+    let b = sum_by-cons ending_steps e es in
+    let c = sum_by-cons ending_steps (staged e) es in
+    omega (arith, a, b, c, lt)

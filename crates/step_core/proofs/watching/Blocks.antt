@@ -1,4 +1,4 @@
--- Steps on the words of blocks leave the words of free cells.
+-- Steps on the first words of blocks leave the words of cells.
 use Rattle.std.proofs.Common.{◌≡◌, ◌⊎◌, ℕ, suc, ◌+◌, ◌-◌, ◌*◌, ◌<◌, ◌≤◌, ◌==◌, Bool, true, false, cond, List, [], ◌∷◌, refl, sym, subst, inl, inr, arith}
 use Rattle.std.proofs.Math.Nat.{min-eq_left, min-eq_right}
 use Rattle.std.specs.Prelude.{Option, Some, None, option_map, min, not, slice_index, slice_set}
@@ -8,13 +8,16 @@ use Rattle.control_word.specs.declared.handle.Kind.{Kind}
 use Rattle.control_word.specs.declared.handle.Kind.TheVariants.{Owner, Weak}
 use Rattle.control_word.specs.declared.place.Block.{Block}
 use Rattle.control_word.specs.declared.place.Place.{Place}
-use Rattle.control_word.specs.Layout.{cell_place, spot}
+use Rattle.control_word.specs.Layout.{spot}
 use Rattle.control_word.specs.State.{Has, InShape, Stored, stored}
 use Rattle.control_word.specs.Words.{slot as slot_of_kind}
+use Rattle.step_table.specs.declared.cell_deed.Cell.{Cell}
 use Rattle.step_table.specs.declared.cell_deed.CellDeed.TheVariants as cell_deed
 use Rattle.step_table.specs.declared.holdings.Pointer.{Pointer}
 use Rattle.step_table.specs.declared.past.Deed.{Deed}
 use Rattle.step_table.specs.declared.past.Deed.TheVariants as deed
+use Rattle.step_table.specs.CellDeeds.{word_of}
+use Rattle.step_table.specs.Cells.{IsSomewhere, word_at}
 use Rattle.step_table.specs.Contents.{is_of}
 use Rattle.step_table.specs.Deeds.{alias, downgrade, give, is_expired, leave_as, lock, share_as}
 use Rattle.step_table.specs.Holdings.{Holds, Slots, inside, owner_as, owner_slot, plain, pointer_of, slot, value, weak_as, weak_slot}
@@ -24,15 +27,14 @@ use Rattle.step_table.proofs.holding.Inside.{inside_is}
 use Rattle.step_table.proofs.holding.Owning.{slot_held}
 use Rattle.step_table.proofs.tables.Places.{handle_busy, there, vacant_place}
 use Rattle.step_threads.specs.declared.call.CellName.{CellName}
-use Rattle.step_threads.specs.Courses.{kind_at, offered}
+use Rattle.step_threads.specs.Courses.{is_there, kind_at, offered}
 use Rattle.step_threads.specs.Entries.{least, lesser}
 use Rattle.step_threads.specs.Steps.{story_after}
 use Rattle.step_core.proofs.watching.Words.{block_off}
 
--- the deed leaves the words of free cells
+-- the deed leaves the words of cells
 abbrev pub StaysOff : Story → ℕ → Option Deed → Type 0
-StaysOff v d x =
-    (n : ℕ) → slice_index (story_after v d x).words (cell_place v.extent.shape.blocks n) ≡ slice_index v.words (cell_place v.extent.shape.blocks n)
+StaysOff v d x = (c : Cell) → IsSomewhere c → slice_index (story_after v d x).words (word_of v.extent.shape.blocks c) ≡ word_at v c
 
 abbrev pub IsThere : Story → Block → Type 0
 IsThere v b = InShape (opening v.extent) b.0
@@ -68,11 +70,12 @@ module _ (v : Story) (d : ℕ) (slots : Slots) (kept : Kept v) (holds : Holds d 
           go Weak e = e
 
   pub offered_there : (c : CellName) → offered slots i c ≡ Some x → IsThere v x.block
-  offered_there c e = slot_there (offered_is (is_of (kind_at c) (value slots i)) e)
+  offered_there c e = slot_there (offered_is (is_there slots c) (is_of (kind_at c) (value slots i)) e)
     where
-      offered_is : (b : Bool) → pointer_of (cond b (value slots i) plain) ≡ Some x → slot slots i ≡ Some x
-      offered_is true e = e
-      offered_is false e = cc
+      offered_is : (b t : Bool) → cond b (pointer_of (cond t (value slots i) plain)) None ≡ Some x → slot slots i ≡ Some x
+      offered_is true true e = e
+      offered_is true false e = cc
+      offered_is false t e = cc
 
 -- the least block of a store is one of the table
 least_shape : (v : Story) (d b : ℕ) (l : List Stored) → ((e c : ℕ) → Has (stored e c) l → InShape (opening v.extent) c) → least d l ≡ Some b
@@ -97,28 +100,28 @@ least_shape v d b (x ∷ xs) all e =
 pub least_there : (v : Story) (d : ℕ) (b : Block) → Kept v → least d (state v).stores ≡ Some b.0 → IsThere v b
 least_there v d b kept e = least_shape v d b.0 (state v).stores (λ f c h. vacant_place v f (record { 0 = c }) kept h) e
 
-slot_few : (k : Kind) → slot_of_kind k < 16
+slot_few : (k : Kind) → slot_of_kind k < 7
 slot_few Owner = omega arith
 slot_few Weak = omega arith
 
 module _ (v : Story) (d : ℕ) where
   pub prepare_off : (b : Block) → IsThere v b → StaysOff v d (Some (deed.Prepare b))
-  prepare_off b is n = block_off v b.0 1 n 1 is (omega arith)
+  prepare_off b is = block_off v b.0 1 1 is (omega arith)
 
   pub write_off : (b : Block) (j word : ℕ) → j < 5 → IsThere v b → StaysOff v d (Some (deed.Write b j word))
-  write_off b j word lt is n = block_off v b.0 (2 + j) n word is (omega (arith, lt))
+  write_off b j word lt is = block_off v b.0 (2 + j) word is (omega (arith, lt))
 
   pub claim_off : (b : Block) (enabled null : Bool) (fields : List ℕ) → IsThere v b → StaysOff v d (Some (deed.Claim b enabled null fields))
-  claim_off b enabled null fields is n = block_off v b.0 0 n 1 is (omega arith)
+  claim_off b enabled null fields is = block_off v b.0 0 1 is (omega arith)
 
   pub finish_off : (b : Block) (vacant : Bool) → IsThere v b → StaysOff v d (Some (deed.Finish b vacant))
-  finish_off b vacant is n = block_off v b.0 1 n (slice_index v.words (spot b.0 1) - 1) is (omega arith)
+  finish_off b vacant is = block_off v b.0 1 (slice_index v.words (spot b.0 1) - 1) is (omega arith)
 
   strong_off : (b : Block) (p q : Option Place) → IsThere v b → StaysOff v d (Some (deed.Share b p q))
-  strong_off b p q is n = block_off v b.0 0 n (suc (slice_index v.words (spot b.0 0))) is (omega arith)
+  strong_off b p q is = block_off v b.0 0 (suc (slice_index v.words (spot b.0 0))) is (omega arith)
 
   weak_off : (b : Block) (p : Option Place) → IsThere v b → StaysOff v d (Some (deed.WeakShare b p))
-  weak_off b p is n = block_off v b.0 1 n (suc (slice_index v.words (spot b.0 1))) is (omega arith)
+  weak_off b p is = block_off v b.0 1 (suc (slice_index v.words (spot b.0 1))) is (omega arith)
 
   pub share_off : (q : Kind) (x : Pointer) → IsThere v x.block → StaysOff v d (Some (share_as q x))
   share_off Owner x is = strong_off x.block x.place x.place is
@@ -131,34 +134,34 @@ module _ (v : Story) (d : ℕ) where
   downgrade_off x is = weak_off x.block x.place is
 
   pub give_off : (q : Kind) (x : Pointer) → IsThere v x.block → StaysOff v d (Some (give q x))
-  give_off Owner x is = λ n. block_off v x.block.0 0 n (suc (slice_index v.words (spot x.block.0 0))) is (omega arith)
-  give_off Weak x is = λ n. block_off v x.block.0 1 n (suc (slice_index v.words (spot x.block.0 1))) is (omega arith)
+  give_off Owner x is = block_off v x.block.0 0 (suc (slice_index v.words (spot x.block.0 0))) is (omega arith)
+  give_off Weak x is = block_off v x.block.0 1 (suc (slice_index v.words (spot x.block.0 1))) is (omega arith)
 
   pub leave_off : (q : Kind) (x : Pointer) (last : Bool) → IsThere v x.block → StaysOff v d (Some (leave_as q x last))
-  leave_off Owner x last is = λ n. block_off v x.block.0 0 n (slice_index v.words (spot x.block.0 0) - 1) is (omega arith)
-  leave_off Weak x last is = λ n. block_off v x.block.0 1 n (slice_index v.words (spot x.block.0 1) - 1) is (omega arith)
+  leave_off Owner x last is = block_off v x.block.0 0 (slice_index v.words (spot x.block.0 0) - 1) is (omega arith)
+  leave_off Weak x last is = block_off v x.block.0 1 (slice_index v.words (spot x.block.0 1) - 1) is (omega arith)
 
   pub lock_off : (x : Pointer) → IsThere v x.block → StaysOff v d (Some (lock (state v) x))
-  lock_off x is n = go (not (is_expired (state v) x))
+  lock_off x is c valid = go (not (is_expired (state v) x))
     where
       go : (b : Bool) → slice_index (cond b (slice_set v.words (spot x.block.0 0) (suc (slice_index v.words (spot x.block.0 0)))) v.words)
-          (cell_place v.extent.shape.blocks n) ≡ slice_index v.words (cell_place v.extent.shape.blocks n)
-      go true = block_off v x.block.0 0 n (suc (slice_index v.words (spot x.block.0 0))) is (omega arith)
+          (word_of v.extent.shape.blocks c) ≡ word_at v c
+      go true = block_off v x.block.0 0 (suc (slice_index v.words (spot x.block.0 0))) is (omega arith) c valid
       go false = refl
 
   pub bring_off : (k : Kind) (b : Block) (p : Option Place) (f : ℕ) → IsThere v b → StaysOff v d (Some (deed.OnCell (cell_deed.Bring k b p f)))
-  bring_off k b p f is n =
-      block_off v b.0 (slot_of_kind k) n (slice_index v.words (spot b.0 (slot_of_kind k)) + 4294967296 * f) is (slot_few k)
+  bring_off k b p f is =
+      block_off v b.0 (slot_of_kind k) (slice_index v.words (spot b.0 (slot_of_kind k)) + 4294967296 * f) is (slot_few k)
 
   pub give_back_off : (k : Kind) (b : Block) (f : ℕ) → IsThere v b → StaysOff v d (Some (deed.OnCell (cell_deed.GiveBack k b f)))
-  give_back_off k b f is n =
-      block_off v b.0 (slot_of_kind k) n (slice_index v.words (spot b.0 (slot_of_kind k)) - 4294967296 * f) is (slot_few k)
+  give_back_off k b f is =
+      block_off v b.0 (slot_of_kind k) (slice_index v.words (spot b.0 (slot_of_kind k)) - 4294967296 * f) is (slot_few k)
 
   pub turn_off : (k : Kind) (b : Block) → IsThere v b → StaysOff v d (Some (deed.OnCell (cell_deed.Turn k b)))
-  turn_off k b is n =
-      block_off v b.0 (slot_of_kind k) n (slice_index v.words (spot b.0 (slot_of_kind k)) - 4294967295) is (slot_few k)
+  turn_off k b is =
+      block_off v b.0 (slot_of_kind k) (slice_index v.words (spot b.0 (slot_of_kind k)) - 4294967295) is (slot_few k)
 
   -- a step on what a slot holds
   pub each_off : (f : Pointer → Deed) (o : Option Pointer) → ((x : Pointer) → o ≡ Some x → StaysOff v d (Some (f x))) → StaysOff v d (option_map f o)
-  each_off f None off = λ n. refl
+  each_off f None off = λ c valid. refl
   each_off f (Some x) off = off x refl

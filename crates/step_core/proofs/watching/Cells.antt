@@ -1,24 +1,24 @@
--- Steps on free cells: where half of a cell's funds or more are taken, threads count that put them back.
-use Rattle.std.proofs.Common.{◌≡◌, ◌≢◌, ℕ, suc, ◌+◌, ◌-◌, ◌*◌, ◌<◌, ◌≤◌, ◌==◌, Bool, true, false, cond, length, refl, sym, ap, subst, ◌∙◌, ⊎_elim, inl, inr, arith}
+-- Steps on cells: where half of a cell's funds or more are taken, threads count that put them back.
+use Rattle.std.proofs.Common.{◌≡◌, ◌≢◌, ℕ, suc, ◌+◌, ◌-◌, ◌*◌, ◌<◌, ◌≤◌, ◌==◌, Bool, true, false, cond, List, length, refl, sym, ap, subst, ◌∙◌, ⊎_elim, inl, inr, arith}
 use Rattle.std.proofs.Common.{get_or-set_other, get_or-set_same, eq-eqb, ne_eqb, eqb-true}
 use Rattle.std.specs.Prelude.{◌&&◌, Option, Some, None, slice_index, slice_set}
 use Rattle.std.proofs.lemmas.Bool.{and_from, and_parts, cases_eq, cond_both, false≢true, ltb-false}
 use Rattle.std.proofs.lemmas.Option.{same_Some}
 use Rattle.control_word.specs.declared.cell.CellWord.{CellWord}
 use Rattle.control_word.specs.declared.place.Block.{Block}
-use Rattle.control_word.specs.Layout.{cell_place}
+use Rattle.control_word.specs.declared.shape.Shape.{Shape}
 use Rattle.control_word.specs.Packing.{IsCellWord, cell_bits}
 use Rattle.step_threads.specs.declared.half.Half.{Half}
 use Rattle.step_threads.specs.declared.half.Half.TheVariants.{Rest, Saw, Refill}
 use Rattle.step_table.specs.declared.cell_deed.Cell.{Cell}
-use Rattle.step_table.specs.declared.cell_deed.Cell.TheVariants.{Free}
+use Rattle.step_table.specs.declared.cell_deed.Cell.TheVariants.{Free, Member}
 use Rattle.step_table.specs.declared.cell_deed.CellDeed.TheVariants as cell_deed
 use Rattle.step_table.specs.declared.past.Deed.{Deed}
 use Rattle.step_table.specs.declared.past.Deed.TheVariants as deed
 use Rattle.step_table.specs.declared.refill.Stage.{Stage}
 use Rattle.step_table.specs.declared.refill.Stage.TheVariants.{Turning, Checking, Lacking, Refilling, Failing}
 use Rattle.step_table.specs.CellDeeds.{kind_in, word_of}
-use Rattle.step_table.specs.Cells.{word_at}
+use Rattle.step_table.specs.Cells.{IsSomewhere, word_at}
 use Rattle.step_table.specs.Contents.{same_value, seen}
 use Rattle.step_table.specs.Refills.{RefillFits, is_drained, is_low, more_taken}
 use Rattle.step_table.specs.Stories.{Kept, Story, state}
@@ -26,28 +26,45 @@ use Rattle.step_table.proofs.contained.Coming.{seen_found}
 use Rattle.step_table.proofs.tables.Places.{handle_busy, there}
 use Rattle.step_threads.specs.Courses.{Walk}
 use Rattle.step_threads.specs.Steps.{Step, refills_on, story_after, within}
-use Rattle.step_core.specs.Watching.{content, is_watching}
+use Rattle.step_core.specs.Watching.{IsCellOf, content, is_watching}
 use Rattle.step_core.proofs.watching.Blocks.{IsThere, StaysOff, bring_off, give_back_off, turn_off}
 use Rattle.step_core.proofs.watching.Words.{Watch, bit, more_told, same_told, taken_told}
 
--- so it is for each free cell of the shape
-abbrev pub Watches : Story → ℕ → Half → Option Deed → Half → Type 0
-Watches v d h x g =
+-- a cell of the shape has a place
+pub somewhere : (z : Shape) (c : Cell) → IsCellOf z c → IsSomewhere c
+somewhere z (Free n) is = tt
+somewhere z (Member b m) is = (is.0, is.2)
+
+in_words : (v : Story) (c : Cell) → Kept v → IsCellOf v.extent.shape c → word_of v.extent.shape.blocks c < length v.words
+in_words v (Free n) kept lt = let s = kept.stands.shows.sized in omega (arith, s, lt)
+in_words v (Member b m) kept is =
+    let s = kept.stands.shows.sized in
+    let from = is.0 in
+    let high = is.1 in
+    let few = is.2 in
+    omega (arith, s, from, high, few)
+
+-- one word is another, or none is: so it is for each cell of the shape
+abbrev pub WatchesWord : Story → Half → List ℕ → Half → Type 0
+WatchesWord v h words g =
     let z = v.extent.shape in
-    (n : ℕ) → n < z.shared_cells + z.weak_cells
-    → Watch z.blocks (cell_place z.blocks n) (word_at v (Free n)) (slice_index (story_after v d x).words (cell_place z.blocks n)) h g
+    (c : Cell) → IsCellOf z c → Watch z.blocks (word_of z.blocks c) (word_at v c) (slice_index words (word_of z.blocks c)) h g
+
+abbrev pub Watches : Story → ℕ → Half → Option Deed → Half → Type 0
+Watches v d h x g = WatchesWord v h (story_after v d x).words g
 
 -- the half has no funds of a cell
 abbrev pub IsQuiet : Story → Half → Type 0
 IsQuiet v h = (p a : ℕ) → bit v.extent.shape.blocks p a h ≡ 0
 
 pub still : (v : Story) (d : ℕ) (h : Half) (x : Option Deed) (g : Half) → IsQuiet v h → StaysOff v d x → Watches v d h x g
-still v d h x g quiet off n lt = inl (off n, (let q = quiet (cell_place v.extent.shape.blocks n) (word_at v (Free n)) in omega (arith, q)))
+still v d h x g quiet off c is =
+    inl (off c (somewhere v.extent.shape c is), (let q = quiet (word_of v.extent.shape.blocks c) (word_at v c) in omega (arith, q)))
 
 -- the thread has the same funds to put back
 pub going_on : (v : Story) (d : ℕ) (s r : Stage) (c : Cell) (y : CellWord) (k : ℕ) (x : Option Deed) → StaysOff v d x
     → Watches v d (Refill s c y k) x (Refill r c y k)
-going_on v d s r c y k x off n lt = inl (off n, omega arith)
+going_on v d s r c y k x off e is = inl (off e (somewhere v.extent.shape e is), omega arith)
 
 elsewhere : (v : Story) (s : Stage) (c : Cell) (x : CellWord) (k p a : ℕ) → p ≢ word_of v.extent.shape.blocks c
     → bit v.extent.shape.blocks p a (Refill s c x k) ≡ 0
@@ -58,37 +75,30 @@ elsewhere v s c x k p a ne =
 module _ (v : Story) (c : Cell) (word : ℕ) (h g : Half) (kept : Kept v)
     (here : Watch v.extent.shape.blocks (word_of v.extent.shape.blocks c) (word_at v c) word h g)
     (else : (p a : ℕ) → p ≢ word_of v.extent.shape.blocks c → bit v.extent.shape.blocks p a h ≡ 0) where
-  pub changed : (n : ℕ) → n < v.extent.shape.shared_cells + v.extent.shape.weak_cells
-      → Watch v.extent.shape.blocks (cell_place v.extent.shape.blocks n) (word_at v (Free n))
-      (slice_index (slice_set v.words (word_of v.extent.shape.blocks c) word) (cell_place v.extent.shape.blocks n)) h g
-  changed n lt =
+  pub changed : WatchesWord v h (slice_set v.words (word_of v.extent.shape.blocks c) word) g
+  changed e is =
       let z = v.extent.shape in
-      let p = cell_place z.blocks n in
+      let p = word_of z.blocks e in
       let q = word_of z.blocks c in
-      let size : p < length v.words = let s = kept.stands.shows.sized in omega (arith, s, lt) in
+      let size : p < length v.words = in_words v e kept is in
       ⊎_elim
-      (λ (e : p ≡ q).
+      (λ (t : p ≡ q).
       let b : slice_index (slice_set v.words p word) p ≡ word = get_or-set_same v.words p word 0 size in
-      let w : Watch z.blocks p (word_at v (Free n)) word h g = subst (λ (i : ℕ). Watch z.blocks i (slice_index v.words i) word h g) (sym e) here in
-      subst (λ (i : ℕ). Watch z.blocks p (word_at v (Free n)) (slice_index (slice_set v.words i word) p) h g) e
-      (subst (λ (i : ℕ). Watch z.blocks p (word_at v (Free n)) i h g) (sym b) w))
+      let w : Watch z.blocks p (word_at v e) word h g = subst (λ (i : ℕ). Watch z.blocks i (slice_index v.words i) word h g) (sym t) here in
+      subst (λ (i : ℕ). Watch z.blocks p (word_at v e) (slice_index (slice_set v.words i word) p) h g) t
+      (subst (λ (i : ℕ). Watch z.blocks p (word_at v e) i h g) (sym b) w))
       (λ (ne : p ≢ q).
-      inl (get_or-set_other v.words q p word 0 ne, (let o = else p (word_at v (Free n)) ne in omega (arith, o)))) (cases_eq p q)
+      inl (get_or-set_other v.words q p word 0 ne, (let o = else p (word_at v e) ne in omega (arith, o)))) (cases_eq p q)
 
 -- a value goes into the cell, of which no fund was taken
 pub put_in : (v : Story) (d : ℕ) (c : Cell) (x : CellWord) (h g : Half) → Kept v → IsQuiet v h → IsCellWord x → x.taken ≡ 0
-    → (n : ℕ) → n < v.extent.shape.shared_cells + v.extent.shape.weak_cells
-    → Watch v.extent.shape.blocks (cell_place v.extent.shape.blocks n) (word_at v (Free n))
-    (slice_index (slice_set v.words (word_of v.extent.shape.blocks c) (cell_bits x)) (cell_place v.extent.shape.blocks n)) h g
+    → WatchesWord v h (slice_set v.words (word_of v.extent.shape.blocks c) (cell_bits x)) g
 put_in v d c x h g kept quiet valid none =
     changed v c (cell_bits x) h g kept (inr (inl (let t = taken_told x valid in omega (arith, t, none)))) (λ p a ne. quiet p a)
 
 -- a fund is taken
 pub taken : (v : Story) (c : Cell) (x : CellWord) (k : ℕ) → Kept v → IsCellWord x → word_at v c ≡ cell_bits x
-    → (n : ℕ) → n < v.extent.shape.shared_cells + v.extent.shape.weak_cells
-    → Watch v.extent.shape.blocks (cell_place v.extent.shape.blocks n) (word_at v (Free n))
-    (slice_index (slice_set v.words (word_of v.extent.shape.blocks c) (word_at v c + 17179869184)) (cell_place v.extent.shape.blocks n))
-    (Saw x) (Refill Turning c (more_taken x) k)
+    → WatchesWord v (Saw x) (slice_set v.words (word_of v.extent.shape.blocks c) (word_at v c + 17179869184)) (Refill Turning c (more_taken x) k)
 taken v c x k kept valid shows =
     changed v c (word_at v c + 17179869184) (Saw x) (Refill Turning c (more_taken x) k) kept (go (is_low (more_taken x)) refl) (λ p a ne. refl)
   where
@@ -138,13 +148,13 @@ block_there v d s c x kept fits b own =
 module _ (v : Story) (d : ℕ) (c : Cell) (x : CellWord) (k : ℕ) (w : Walk) (kept : Kept v) (seat : d < v.extent.actors) where
   -- the cell is looked at
   checked : RefillFits d Checking c x v → Watches v d (Refill Checking c x k) None (cond (is_drained x (seen v c)) (Refill Lacking c (seen v c) k) Rest)
-  checked fits n lt = ⊎_elim (λ (e : p ≡ q). at_cell e (is_drained x y) refl) away (cases_eq p q)
+  checked fits other is = ⊎_elim (λ (e : p ≡ q). at_cell e (is_drained x y) refl) away (cases_eq p q)
     where
       blocks : ℕ
       blocks = v.extent.shape.blocks
 
       p : ℕ
-      p = cell_place blocks n
+      p = word_of blocks other
 
       q : ℕ
       q = word_of blocks c
@@ -153,7 +163,7 @@ module _ (v : Story) (d : ℕ) (c : Cell) (x : CellWord) (k : ℕ) (w : Walk) (k
       y = seen v c
 
       here : ℕ
-      here = word_at v (Free n)
+      here = word_at v other
 
       away : p ≢ q → Watch blocks p here here (Refill Checking c x k) (cond (is_drained x y) (Refill Lacking c y k) Rest)
       away ne = inl (refl, (let o = elsewhere v Checking c x k p here ne in omega (arith, o)))
@@ -208,7 +218,7 @@ module _ (v : Story) (d : ℕ) (c : Cell) (x : CellWord) (k : ℕ) (w : Walk) (k
       (λ (y : Step). Watches v d (Refill Refilling c x k) y.deed y.half)
       (λ e. changed v c (word_at v c - 17179869184 * x.taken) (Refill Refilling c x k) Rest kept
       (inr (inl (let s = eqb-true _ _ e in let t = taken_told x fits.valid in omega (arith, s, t)))) (λ p a ne. elsewhere v Refilling c x k p a ne))
-      (λ e. going_on v d Refilling Failing c x k None (λ n. refl))
+      (λ e. going_on v d Refilling Failing c x k None (λ n valid. refl))
   refilled Failing fits b own =
       going_on v d Failing Checking c x k (Some (deed.OnCell (cell_deed.GiveBack (kind_in (state v) c) b x.taken)))
       (give_back_off v d (kind_in (state v) c) b x.taken (block_there v d Failing c x kept fits b own))

@@ -1,5 +1,5 @@
 -- The next step of a thread, by what it has begun, and the funds that are taken of cells.
-use Rattle.std.proofs.Common.{◌≡◌, ℕ, ◌+◌, ◌<◌, ◌==◌, Bool, true, false, cond, List, [], ◌∷◌, get_or, refl, subst, arith}
+use Rattle.std.proofs.Common.{◌≡◌, ℕ, ◌+◌, ◌<◌, ◌==◌, Bool, true, false, cond, List, [], ◌∷◌, get_or, refl, subst, inl, inr, arith}
 use Rattle.std.specs.Prelude.{Option, Some, None, option_map}
 use Rattle.std.proofs.lemmas.Bool.{cond_both, eqb-false}
 use Rattle.control_word.specs.declared.cell.CellWord.{CellWord}
@@ -9,7 +9,7 @@ use Rattle.control_word.specs.declared.place.Place.{Place}
 use Rattle.control_word.specs.declared.view.Pending.{Pending}
 use Rattle.control_word.specs.Histories.{value as value_of}
 use Rattle.control_word.specs.Packing.{IsCellWord}
-use Rattle.control_word.specs.State.{weak}
+use Rattle.control_word.specs.State.{kind_of_member, weak}
 use Rattle.control_word.specs.Steps.{me}
 use Rattle.control_word.specs.Views.{Fits}
 use Rattle.step_threads.specs.declared.act.Act.{Act}
@@ -17,26 +17,29 @@ use Rattle.step_threads.specs.declared.act.Act.TheVariants.{Make, Share, Downgra
 use Rattle.step_threads.specs.declared.act.Task.{Task}
 use Rattle.step_threads.specs.declared.ending.Ending.{Ending}
 use Rattle.step_threads.specs.declared.half.Half.{Half}
-use Rattle.step_threads.specs.declared.half.Half.TheVariants.{Rest, Making, Locking, Giving, Brought, Saw, Matched, Refill, Returning}
+use Rattle.step_threads.specs.declared.half.Half.TheVariants.{Rest, Making, Locking, Giving, Brought, Saw, Matched, Refill, Returning, Clearing}
 use Rattle.step_table.specs.declared.cell_deed.Cell.{Cell}
+use Rattle.step_table.specs.declared.cell_deed.Cell.TheVariants.{Member}
 use Rattle.step_table.specs.declared.cell_deed.CellDeed.TheVariants as cell_deed
 use Rattle.step_table.specs.declared.holdings.Pointer.{Pointer}
 use Rattle.step_table.specs.declared.past.Deed.TheVariants as deed
 use Rattle.step_table.specs.declared.refill.Stage.{Stage}
 use Rattle.step_threads.specs.Actors.{wanted}
 use Rattle.step_table.specs.CellDeeds.{owing}
+use Rattle.step_table.specs.Cells.{word_at}
+use Rattle.step_table.specs.Contents.{seen}
 use Rattle.step_threads.specs.Courses.{Walk, cell_at, form_of, going, hand, locked}
 use Rattle.step_table.specs.Deeds.{give}
 use Rattle.step_threads.specs.Endings.{staged}
 use Rattle.step_table.specs.Holdings.{Holds, inside, is_full, slot}
 use Rattle.step_table.specs.Openings.{opening}
-use Rattle.step_threads.specs.Steps.{Step, at_rest, begun, claims, ends_on, first, given, made_on, matched, matched_on, prepares, refills_on, saw, saw_on, sent, silent, step_at, story_after, story_by, tried, with_endings}
+use Rattle.step_threads.specs.Steps.{Step, at_rest, begun, claims, emptied, ends_on, first, given, gives_back, made_on, matched, matched_on, prepares, refills_on, saw, saw_on, sent, silent, step_at, story_after, story_by, tried, with_endings, within}
 use Rattle.step_table.specs.Stories.{Kept, Nothing, Story, known, object_in, pending, state, view_in}
 use Rattle.step_table.proofs.tables.Places.{ending_busy, handle_busy, there}
 use Rattle.step_table.proofs.tables.Standing.{point, ready}
 use Rattle.step_core.specs.Turning.{IsOut, IsProper, IsTried, IsUnderWay}
 use Rattle.step_core.proofs.watching.Blocks.{IsThere, claim_off, finish_off, give_back_off, give_off, inside_there, least_there, write_off}
-use Rattle.step_core.proofs.watching.Cells.{refilled, still}
+use Rattle.step_core.proofs.watching.Cells.{changed, refilled, still}
 use Rattle.step_core.proofs.watching.Steps.{IsWatch, first_watch, matches_watch, sent_watch, settles_watch, takes_watch, tries_watch}
 
 module _ (v : Story) (d : ℕ) (w : Walk) (kept : Kept v) (seat : d < v.extent.actors) (holds : Holds d w.slots v) where
@@ -57,7 +60,7 @@ module _ (v : Story) (d : ℕ) (w : Walk) (kept : Kept v) (seat : d < v.extent.a
       → IsWatch v d (Making b i f) (Some (prepares found want w k b i f))
   prepares_watch found want k b i true lt is = still v d (Making b i true) (Some (deed.Write b i want)) (Making b (i + 1) false) (λ p a. refl) (write_off v d b i want lt is)
   prepares_watch found want k b i false lt is =
-      still v d (Making b i false) None (cond (found == want) (Making b (i + 1) false) (Making b i true)) (λ p a. refl) (λ n. refl)
+      still v d (Making b i false) None (cond (found == want) (Making b (i + 1) false) (Making b i true)) (λ p a. refl) (λ n valid. refl)
 
   made_watch : (b : Block) (i : ℕ) (f : Bool) (ts : List Task) → IsUnderWay d v (Making b i f) ts → IsWatch v d (Making b i f) (made_on v d w b i f ts)
   made_watch b i f [] way = tt
@@ -71,8 +74,8 @@ module _ (v : Story) (d : ℕ) (w : Walk) (kept : Kept v) (seat : d < v.extent.a
       (λ ne. prepares_watch found want t.statement b i f (let l = way.0 in let n = eqb-false i 5 ne in omega (arith, l, n)) is)
 
   saw_watch : (k : ℕ) (ts : List Task) (x : CellWord) (a : Act) → IsCellWord x → IsWatch v d (Saw x) (saw_on v d w k ts x a)
-  saw_watch k ts x (Load c) valid = takes_watch v d w kept seat holds k ts (Load c) (cell_at (state v) c) None x valid
-  saw_watch k ts x (Compare i c weak) valid = settles_watch v d w kept seat holds k ts (Compare i c weak) (cell_at (state v) c) i weak x valid
+  saw_watch k ts x (Load c) valid = takes_watch v d w kept seat holds k ts (Load c) (cell_at (state v) w.slots c) None x valid
+  saw_watch k ts x (Compare i c weak) valid = settles_watch v d w kept seat holds k ts (Compare i c weak) (cell_at (state v) w.slots c) i weak x valid
   saw_watch k ts x (Make form) valid = tt
   saw_watch k ts x (Share i) valid = tt
   saw_watch k ts x (Downgrade i) valid = tt
@@ -94,7 +97,7 @@ module _ (v : Story) (d : ℕ) (w : Walk) (kept : Kept v) (seat : d < v.extent.a
 
   matched_watch : (k : ℕ) (ts : List Task) (x : CellWord) (a : Act) → IsWatch v d (Matched x) (matched_on v d w k ts x a)
   matched_watch k ts x (Compare i c weak) =
-      matches_watch v d w kept seat holds (Matched x) k ts (Compare i c weak) (cell_at (state v) c) i weak x (λ p q. refl)
+      matches_watch v d w kept seat holds (Matched x) k ts (Compare i c weak) (cell_at (state v) w.slots c) i weak x (λ p q. refl)
   matched_watch k ts x (Load c) = tt
   matched_watch k ts x (Make form) = tt
   matched_watch k ts x (Share i) = tt
@@ -140,19 +143,26 @@ module _ (v : Story) (d : ℕ) (w : Walk) (kept : Kept v) (seat : d < v.extent.a
   -- an object that ends is one of the table
   ends_watch : (e : Ending) (es : List Ending) → Kept (story_after v d (ends_on v w e es).deed) → IsWatch v d Rest (Some (ends_on v w e es))
   ends_watch e es =
-      cond_both (e.stage == 3)
-      (record {
-        deed = Some (deed.Finish e.block (weak (state v) (object_in v e.block) == 0));
-        half = Rest;
-        walk = with_endings w es;
-        said = silent e.statement;
-      })
-      (record { deed = Some (deed.Clear e.block e.stage); half = Rest; walk = with_endings w (staged e ∷ es); said = silent e.statement })
-      (λ (s : Step). Kept (story_after v d s.deed) → IsWatch v d Rest (Some s))
-      (λ t after. still v d Rest (Some (deed.Finish e.block (weak (state v) (object_in v e.block) == 0))) Rest (λ p a. refl)
+      let finish = deed.Finish e.block (weak (state v) (object_in v e.block) == 0) in
+      let cleared = within (with_endings w (staged e ∷ es)) e.statement (Some (deed.Clear e.block e.stage)) Rest in
+      let looked = within w e.statement None Clearing in
+      let P : Step → Type 0 = λ s. Kept (story_after v d s.deed) → IsWatch v d Rest (Some s) in
+      cond_both (e.stage == 3) (record { deed = Some finish; half = Rest; walk = with_endings w es; said = silent e.statement })
+      (cond (word_at v (Member e.block e.stage) == 0) cleared looked) P
+      (λ t after. still v d Rest (Some finish) Rest (λ p a. refl)
       (finish_off v d e.block (weak (state v) (object_in v e.block) == 0)
       (there v e.block kept (ending_busy v d e.block after.stands.legal.1.asks.0)).1))
-      (λ t after. still v d Rest (Some (deed.Clear e.block e.stage)) Rest (λ p a. refl) (λ n. refl))
+      (λ t. cond_both (word_at v (Member e.block e.stage) == 0) cleared looked P
+      (λ z after. still v d Rest (Some (deed.Clear e.block e.stage)) Rest (λ p a. refl) (λ n valid. refl))
+      (λ z after. still v d Rest None Clearing (λ p a. refl) (λ n valid. refl)))
+
+  -- what a member of it holds comes out: no fund of the empty member is taken
+  emptied_watch : (es : List Ending) → IsWatch v d Clearing (emptied v w es)
+  emptied_watch [] = tt
+  emptied_watch (e ∷ es) =
+      let c = Member e.block e.stage in
+      let x = seen v c in
+      changed v c 0 Clearing (gives_back (kind_of_member e.stage) e.statement x x.owned) kept (inr (inl (omega arith))) (λ p a ne. refl)
 
   begun_watch : (ts : List Task) → IsWatch v d Rest (begun v d w ts)
   begun_watch [] = tt
@@ -178,3 +188,4 @@ module _ (v : Story) (d : ℕ) (w : Walk) (kept : Kept v) (seat : d < v.extent.a
   each_watch (Returning q b f k) way held proper out after =
       still v d (Returning q b f k) (Some (deed.OnCell (cell_deed.GiveBack q b f))) Rest (λ p a. refl)
       (give_back_off v d q b f (paid_there q b out.0 f out.1))
+  each_watch Clearing way held proper out after = emptied_watch w.endings

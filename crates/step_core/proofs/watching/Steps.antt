@@ -24,7 +24,7 @@ use Rattle.step_table.specs.CellDeeds.{kind_in}
 use Rattle.step_table.specs.Cells.{word_at}
 use Rattle.step_table.specs.Contents.{as_word, compared_in, is_spent, same_value, seen}
 use Rattle.step_table.specs.Refills.{more_taken}
-use Rattle.step_threads.specs.Courses.{Going, Walk, cell_at, comparing, going, hand, kind_at, locked, offered, on_going, other}
+use Rattle.step_threads.specs.Courses.{Going, Walk, cell_at, comparing, going, hand, is_there, kind_at, locked, offered, on_going, other}
 use Rattle.step_table.specs.Deeds.{alias, aliased, downgrade, is_enabled, is_last, leave, lock, owner_word, read, share, tell, tell_expired, on}
 use Rattle.step_threads.specs.Entries.{least}
 use Rattle.step_table.specs.Holdings.{Holds, inside, owner_slot, place_in, slot, value, weak_slot}
@@ -72,13 +72,13 @@ module _ (v : Story) (d : ℕ) (w : Walk) (kept : Kept v) (seat : d < v.extent.a
       (each_off v d (leave (state v)) (slot w.slots i) (λ x e. leave_off v d x.kind x (is_last (state v) x) (in_slot i x e)))
 
   begins_watch : (k : ℕ) (ts : List Task) (o : Option ℕ) → least d (state v).stores ≡ o → Watches v d Rest (begins w k ts o).deed (begins w k ts o).half
-  begins_watch k ts None e = still v d Rest None Rest (λ p a. refl) (λ n. refl)
+  begins_watch k ts None e = still v d Rest None Rest (λ p a. refl) (λ n valid. refl)
   begins_watch k ts (Some b) e =
       let block : Block = record { 0 = b } in
       still v d Rest (Some (deed.Prepare block)) (Making block 0 false) (λ p a. refl) (prepare_off v d block (least_there v d block kept e))
 
   trying_watch : (h : Half) (k word : ℕ) → IsQuiet v h → Watches v d h None (trying w k word).half
-  trying_watch h k word quiet = still v d h None (trying w k word).half quiet (λ n. refl)
+  trying_watch h k word quiet = still v d h None (trying w k word).half quiet (λ n valid. refl)
 
   locks_watch : (h : Half) (a : Act) (x : Pointer) → IsQuiet v h → locked w.slots a ≡ Some x → Watches v d h (Some (lock (state v) x)) Rest
   locks_watch h a x quiet e =
@@ -86,7 +86,7 @@ module _ (v : Story) (d : ℕ) (w : Walk) (kept : Kept v) (seat : d < v.extent.a
 
   looks_watch : (k : ℕ) (ts : List Task) (a : Act) (o : Option Pointer) → locked w.slots a ≡ o
       → IsWatch v d Rest (Some (on (looks v d w k ts a) (acts v d w k ts a None Rest) o))
-  looks_watch k ts a None e = still v d Rest None Rest (λ p a. refl) (λ n. refl)
+  looks_watch k ts a None e = still v d Rest None Rest (λ p a. refl) (λ n valid. refl)
   looks_watch k ts a (Some x) e =
       cond_both (owner_word v x == 0) (acts v d w k ts a (Some (lock (state v) x)) Rest) (trying w k (owner_word v x))
       (λ (y : Step). IsWatch v d Rest (Some y)) (λ t. locks_watch Rest a x (λ p q. refl) e)
@@ -102,17 +102,17 @@ module _ (v : Story) (d : ℕ) (w : Walk) (kept : Kept v) (seat : d < v.extent.a
 
   asks_watch : (k : ℕ) (ts : List Task) (i : ℕ) (q : Kind) (o : Option Pointer)
       → IsWatch v d Rest (Some (on (asks v d w k ts i q) (acts v d w k ts (FromThis i q) None Rest) o))
-  asks_watch k ts i q None = still v d Rest None Rest (λ p a. refl) (λ n. refl)
+  asks_watch k ts i q None = still v d Rest None Rest (λ p a. refl) (λ n valid. refl)
   asks_watch k ts i q (Some x) =
       cond_both (is_enabled (state v) x) (record { deed = None; half = Giving i q x; walk = w; said = silent k })
       (acts v d w k ts (FromThis i q) None Rest) (λ (y : Step). IsWatch v d Rest (Some y))
-      (λ t. still v d Rest None (Giving i q x) (λ p a. refl) (λ n. refl)) (λ t. still v d Rest None Rest (λ p a. refl) (λ n. refl))
+      (λ t. still v d Rest None (Giving i q x) (λ p a. refl) (λ n valid. refl)) (λ t. still v d Rest None Rest (λ p a. refl) (λ n valid. refl))
 
   -- a value goes into a cell
   swaps_watch : (h : Half) (k : ℕ) (ts : List Task) (a : Act) (c : CellName) (i : ℕ) → IsQuiet v h → IsWatch v d h (Some (swaps v d w k ts a c i))
   swaps_watch h k ts a c i quiet =
-      let found = seen v (cell_at (state v) c) in
-      put_in v d (cell_at (state v) c) (as_word (value w.slots i)) h (gives_back (kind_at c) k found found.owned) kept quiet
+      let found = seen v (cell_at (state v) w.slots c) in
+      put_in v d (cell_at (state v) w.slots c) (as_word (value w.slots i)) h (gives_back (kind_at c) k found found.owned) kept quiet
       (word_valid d w.slots v i kept holds) refl
 
   sends_watch : (k : ℕ) (ts : List Task) (a : Act) (c : CellName) (i : ℕ) (o : Option Pointer) → slot w.slots i ≡ o
@@ -124,7 +124,7 @@ module _ (v : Story) (d : ℕ) (w : Walk) (kept : Kept v) (seat : d < v.extent.a
 
   going_watch : (k : ℕ) (ts : List Task) (a : Act) (o : Option Going)
       → IsWatch v d Rest (Some (on_going (sends v d w k ts a) (acts v d w k ts a None Rest) o))
-  going_watch k ts a None = still v d Rest None Rest (λ p q. refl) (λ n. refl)
+  going_watch k ts a None = still v d Rest None Rest (λ p q. refl) (λ n valid. refl)
   going_watch k ts a (Some x) = sends_watch k ts a x.0 x.1 (slot w.slots x.1) refl
 
   pub sent_watch : (k : ℕ) (ts : List Task) (a : Act) (o : Option Going)
@@ -138,15 +138,15 @@ module _ (v : Story) (d : ℕ) (w : Walk) (kept : Kept v) (seat : d < v.extent.a
       let quiet : IsQuiet v Rest = λ p q. refl in
       cond_both (is_spent x) (within w k None Rest)
       (cond (is_some x.owned) (within w k None (Saw x)) (acts v d w k ts a (Some (deed.OnCell (cell_deed.Look c x y))) Rest))
-      (λ (s : Step). IsWatch v d Rest (Some s)) (λ t. still v d Rest None Rest quiet (λ n. refl))
+      (λ (s : Step). IsWatch v d Rest (Some s)) (λ t. still v d Rest None Rest quiet (λ n valid. refl))
       (λ t. cond_both (is_some x.owned) (within w k None (Saw x)) (acts v d w k ts a (Some (deed.OnCell (cell_deed.Look c x y))) Rest)
-      (λ (s : Step). IsWatch v d Rest (Some s)) (λ t. still v d Rest None (Saw x) quiet (λ n. refl))
-      (λ t. still v d Rest (Some (deed.OnCell (cell_deed.Look c x y))) Rest quiet (λ n. refl)))
+      (λ (s : Step). IsWatch v d Rest (Some s)) (λ t. still v d Rest None (Saw x) quiet (λ n valid. refl))
+      (λ t. still v d Rest (Some (deed.OnCell (cell_deed.Look c x y))) Rest quiet (λ n valid. refl)))
 
   compares_watch : (k : ℕ) (ts : List Task) (a : Act) (c : Cell) (y : Compared) (x : CellWord) → IsWatch v d Rest (Some (compares v d w k ts a c y x))
   compares_watch k ts a c y x =
       cond_both (same_value x y.expected) (within w k None (Saw x)) (sees v d w k ts a c (Some y) x) (λ (s : Step). IsWatch v d Rest (Some s))
-      (λ t. still v d Rest None (Saw x) (λ p q. refl) (λ n. refl)) (λ t. sees_watch k ts a c (Some y) x)
+      (λ t. still v d Rest None (Saw x) (λ p q. refl) (λ n valid. refl)) (λ t. sees_watch k ts a c (Some y) x)
 
   pub takes_watch : (k : ℕ) (ts : List Task) (a : Act) (c : Cell) (y : Option Compared) (x : CellWord) → IsCellWord x
       → IsWatch v d (Saw x) (Some (takes v d w k ts a c y x))
@@ -154,7 +154,7 @@ module _ (v : Story) (d : ℕ) (w : Walk) (kept : Kept v) (seat : d < v.extent.a
       cond_both (word_at v c == cell_bits x)
       (acts v d w k ts a (Some (deed.OnCell (cell_deed.Take c x y))) (Refill Turning c (more_taken x) k)) (within w k None Rest)
       (λ (s : Step). IsWatch v d (Saw x) (Some s)) (λ t. taken v c x k kept valid (eqb-true _ _ t))
-      (λ t. still v d (Saw x) None Rest (λ p q. refl) (λ n. refl))
+      (λ t. still v d (Saw x) None Rest (λ p q. refl) (λ n valid. refl))
 
   pub matches_watch : (h : Half) (k : ℕ) (ts : List Task) (a : Act) (c : Cell) (i : ℕ) (weak : Bool) (x : CellWord) → IsQuiet v h
       → IsWatch v d h (Some (matches v d w k ts a c (compared_in w.slots (comparing w.slots i weak)) x))
@@ -165,7 +165,7 @@ module _ (v : Story) (d : ℕ) (w : Walk) (kept : Kept v) (seat : d < v.extent.a
       (within w k None (missed k (slot w.slots (hand w.slots)))) (λ (s : Step). IsWatch v d h (Some s))
       (λ t. put_in v d c (as_word (value w.slots (hand w.slots))) h (gives_back (kind_in (state v) c) k x x.owned) kept quiet
       (word_valid d w.slots v (hand w.slots) kept holds) refl)
-      (λ t. still v d h None (missed k (slot w.slots (hand w.slots))) quiet (λ n. refl))
+      (λ t. still v d h None (missed k (slot w.slots (hand w.slots))) quiet (λ n valid. refl))
 
   fetched_watch : (k : ℕ) (ts : List Task) (a : Act) (c : Cell) (i : ℕ) (weak : Bool) (x : CellWord) (o : Option Pointer)
       → slot w.slots (hand w.slots) ≡ o
@@ -192,31 +192,35 @@ module _ (v : Story) (d : ℕ) (w : Walk) (kept : Kept v) (seat : d < v.extent.a
   first_watch k ts (Leave i) = leaves i
   first_watch k ts (Clear i) = leaves i
   first_watch k ts (Count i) =
-      still v d Rest (option_map (tell v) (slot w.slots i)) Rest (λ p q. refl) (each_off v d (tell v) (slot w.slots i) (λ x e n. refl))
+      still v d Rest (option_map (tell v) (slot w.slots i)) Rest (λ p q. refl) (each_off v d (tell v) (slot w.slots i) (λ x e n valid. refl))
   first_watch k ts (Downgrade i) =
       still v d Rest (option_map downgrade (slot w.slots i)) Rest (λ p q. refl)
       (each_off v d downgrade (slot w.slots i) (λ x e. downgrade_off v d x (in_slot i x e)))
   first_watch k ts (Lock i must) = looks_watch k ts (Lock i must) (locked w.slots (Lock i must)) refl
   first_watch k ts (Expired i) =
       still v d Rest (option_map (tell_expired (state v)) (slot w.slots i)) Rest (λ p q. refl)
-      (each_off v d (tell_expired (state v)) (slot w.slots i) (λ x e n. refl))
+      (each_off v d (tell_expired (state v)) (slot w.slots i) (λ x e n valid. refl))
   first_watch k ts (Read i) =
       still v d Rest (option_map (read (state v)) (inside (slot w.slots i))) Rest (λ p q. refl)
-      (each_off v d (read (state v)) (inside (slot w.slots i)) (λ x e n. refl))
+      (each_off v d (read (state v)) (inside (slot w.slots i)) (λ x e n valid. refl))
   first_watch k ts (FromThis i q) = asks_watch k ts i q (inside (slot w.slots i))
   first_watch k ts (Alias i j field) =
       let f = alias (aliased field (place_in w.slots j)) in
       still v d Rest (option_map f (owner_slot (slot w.slots i))) Rest (λ p q. refl)
       (each_off v d f (owner_slot (slot w.slots i))
       (λ x e. alias_off v d (aliased field (place_in w.slots j)) x (owner_there v d w.slots kept holds i x e)))
-  first_watch k ts (Move i) = still v d Rest None Rest (λ p q. refl) (λ n. refl)
-  first_watch k ts (Ask q) = still v d Rest None Rest (λ p q. refl) (λ n. refl)
+  first_watch k ts (Move i) = still v d Rest None Rest (λ p q. refl) (λ n valid. refl)
+  first_watch k ts (Ask q) = still v d Rest None Rest (λ p q. refl) (λ n valid. refl)
   first_watch k ts (Offer i c) =
       still v d Rest (option_map share (offered w.slots i c)) Rest (λ p q. refl)
       (each_off v d share (offered w.slots i c) (λ x e. share_off v d x.kind x (offered_there v d w.slots kept holds i x c e)))
   first_watch k ts (Swap c) = going_watch k ts (Swap c) (going w.slots (Swap c))
   first_watch k ts (Exchange i c) = going_watch k ts (Exchange i c) (going w.slots (Exchange i c))
-  first_watch k ts (Load c) = sees_watch k ts (Load c) (cell_at (state v) c) None (seen v (cell_at (state v) c))
+  first_watch k ts (Load c) =
+      let x = cell_at (state v) w.slots c in
+      cond_both (is_there w.slots c) (sees v d w k ts (Load c) x None (seen v x)) (acts v d w k ts (Load c) None Rest)
+      (λ (s : Step). IsWatch v d Rest (Some s)) (λ t. sees_watch k ts (Load c) x None (seen v x))
+      (λ t. still v d Rest None Rest (λ p q. refl) (λ n valid. refl))
   first_watch k ts (Compare i c weak) =
-      compares_watch k ts (Compare i c weak) (cell_at (state v) c) (compared_in w.slots (comparing w.slots i weak)) (seen v (cell_at (state v) c))
+      compares_watch k ts (Compare i c weak) (cell_at (state v) w.slots c) (compared_in w.slots (comparing w.slots i weak)) (seen v (cell_at (state v) w.slots c))
   first_watch k ts Drop = leaves (other w.slots)

@@ -1,4 +1,4 @@
--- Words of free cells, and the threads that have funds to put back into them.
+-- Words of cells, and the threads that have funds to put back into them.
 use Rattle.std.proofs.Common.{◌≡◌, ◌≢◌, ◌⊎◌, ℕ, zero, suc, ◌+◌, ◌*◌, ◌/◌, ◌<◌, ◌≤◌, ◌==◌, Bool, true, false, cond, List, [], ◌∷◌, length, set}
 use Rattle.std.proofs.Common.{get_or, refl, sym, ap, subst, ◌∙◌, ⊎_elim, arith}
 use Rattle.std.proofs.Common.{get_or-set_other, eq-eqb}
@@ -12,12 +12,15 @@ use Rattle.control_word.specs.declared.cell.CellWord.{CellWord}
 use Rattle.control_word.specs.declared.place.Block.{Block}
 use Rattle.control_word.specs.declared.place.Place.{Place}
 use Rattle.control_word.specs.Handles.{same_place}
-use Rattle.control_word.specs.Layout.{cell_place, spot}
+use Rattle.control_word.specs.Layout.{spot}
 use Rattle.control_word.specs.Packing.{IsCellWord, block_number, cell_bits, place_block, place_field}
 use Rattle.control_word.specs.State.{InShape}
 use Rattle.step_threads.specs.declared.half.Half.{Half}
-use Rattle.step_threads.specs.declared.half.Half.TheVariants.{Rest, Making, Locking, Giving, Brought, Saw, Matched, Refill, Returning}
+use Rattle.step_threads.specs.declared.half.Half.TheVariants.{Rest, Making, Locking, Giving, Brought, Saw, Matched, Refill, Returning, Clearing}
+use Rattle.step_table.specs.declared.cell_deed.Cell.{Cell}
+use Rattle.step_table.specs.declared.cell_deed.Cell.TheVariants.{Free, Member}
 use Rattle.step_table.specs.CellDeeds.{word_of}
+use Rattle.step_table.specs.Cells.{IsSomewhere, word_at}
 use Rattle.step_table.specs.Contents.{same_block, same_value}
 use Rattle.step_table.specs.Openings.{opening}
 use Rattle.step_table.specs.Refills.{is_low, more_taken}
@@ -58,6 +61,7 @@ watching_same blocks place a b e (Saw x) = refl
 watching_same blocks place a b e (Matched x) = refl
 watching_same blocks place a b e (Refill stage c x k) = ap (λ (n : ℕ). word_of blocks c == place && is_low x && content (cell_bits x) == n) e
 watching_same blocks place a b e (Returning kind c funds k) = refl
+watching_same blocks place a b e Clearing = refl
 
 watchers_same : (blocks place a b : ℕ) (l : List Half) → content a ≡ content b → watchers blocks place a l ≡ watchers blocks place b l
 watchers_same blocks place a b l e = λ i. length (filter (λ (h : Half). watching_same blocks place a b e h i) l)
@@ -97,13 +101,15 @@ watch blocks place a b d h g l lt at w was = ⊎_elim same (λ r. ⊎_elim (λ f
         let n = s.2 in
         omega (arith, was, e, c, o, z, m, n)
 
--- a word of a block is none of a free cell
-pub spot_off : (v : Story) (b j n : ℕ) → InShape (opening v.extent) b → j < 16 → cell_place v.extent.shape.blocks n ≢ spot b j
-spot_off v b j n is lt e = let low = is.0 in let high = is.1 in omega (arith, low, high, lt, e)
+-- the first seven words of a block are none of a cell: its members are behind them
+pub spot_off : (v : Story) (b j : ℕ) (c : Cell) → InShape (opening v.extent) b → j < 7 → IsSomewhere c → word_of v.extent.shape.blocks c ≢ spot b j
+spot_off v b j (Free n) is lt there e = let low = is.0 in let high = is.1 in omega (arith, low, high, lt, e)
+spot_off v b j (Member a m) is lt there e =
+    let low = is.0 in let from = there.0 in let few = there.1 in omega (arith, low, lt, from, few, e)
 
-pub block_off : (v : Story) (b j n word : ℕ) → InShape (opening v.extent) b → j < 16
-    → slice_index (slice_set v.words (spot b j) word) (cell_place v.extent.shape.blocks n) ≡ slice_index v.words (cell_place v.extent.shape.blocks n)
-block_off v b j n word is lt = get_or-set_other v.words (spot b j) (cell_place v.extent.shape.blocks n) word 0 (spot_off v b j n is lt)
+pub block_off : (v : Story) (b j word : ℕ) → InShape (opening v.extent) b → j < 7 → (c : Cell) → IsSomewhere c
+    → slice_index (slice_set v.words (spot b j) word) (word_of v.extent.shape.blocks c) ≡ word_at v c
+block_off v b j word is lt c there = get_or-set_other v.words (spot b j) (word_of v.extent.shape.blocks c) word 0 (spot_off v b j c is lt there)
 
 -- what a cell's word tells, in numbers
 pub taken_told : (x : CellWord) → IsCellWord x → cell_bits x / 17179869184 ≡ x.taken

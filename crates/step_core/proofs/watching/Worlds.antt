@@ -1,11 +1,10 @@
 -- No step ever finds all funds of a cell taken.
 use Rattle.std.proofs.Common.{◌≡◌, ℕ, ◌+◌, ◌/◌, ◌<◌, ◌≤◌, ◌==◌, Bool, true, false, List, [], ◌∷◌, length, set, get_or, refl, sym, ap, subst, ◌∙◌, arith}
 use Rattle.std.proofs.Common.{ne_eqb}
-use Rattle.std.specs.Prelude.{◌&&◌, Option, Some, None, is_some, not}
+use Rattle.std.specs.Prelude.{◌&&◌, Option, Some, None, is_some, not, slice_index}
 use Rattle.std.specs.List.{filter}
-use Rattle.std.proofs.lemmas.Bool.{cond_both}
+use Rattle.std.proofs.lemmas.Bool.{and_parts, cond_both}
 use Rattle.std.proofs.lemmas.List.{set-get_or}
-use Rattle.control_word.specs.Layout.{cell_place}
 use Rattle.step_threads.specs.declared.act.Act.{Act}
 use Rattle.step_threads.specs.declared.act.Act.TheVariants.{Make, Share, Downgrade, Lock, Put, Leave, Clear, Count, Expired, Read, FromThis, Alias, Move, Ask, Offer, Swap, Exchange, Load, Compare, Drop}
 use Rattle.step_threads.specs.declared.act.Task.{Task}
@@ -13,20 +12,26 @@ use Rattle.step_threads.specs.declared.call.CellName.{CellName}
 use Rattle.step_threads.specs.declared.call.CellName.TheVariants as cell
 use Rattle.step_threads.specs.declared.ending.Ending.{Ending}
 use Rattle.step_threads.specs.declared.half.Half.{Half}
-use Rattle.step_threads.specs.declared.half.Half.TheVariants.{Rest, Making, Locking, Giving, Brought, Saw, Matched, Refill, Returning}
-use Rattle.step_table.specs.declared.cell_deed.Cell.TheVariants.{Free}
+use Rattle.step_threads.specs.declared.half.Half.TheVariants.{Rest, Making, Locking, Giving, Brought, Saw, Matched, Refill, Returning, Clearing}
+use Rattle.step_table.specs.declared.cell_deed.Cell.{Cell}
+use Rattle.step_table.specs.declared.cell_deed.Cell.TheVariants.{Member}
+use Rattle.step_table.specs.declared.holdings.Pointer.{Pointer}
 use Rattle.step_table.specs.declared.past.Deed.{Deed}
-use Rattle.step_table.specs.Contents.{as_word, is_spent, same_value, seen}
-use Rattle.step_table.specs.Holdings.{value}
+use Rattle.step_table.specs.CellDeeds.{word_of}
+use Rattle.step_table.specs.Cells.{word_at}
+use Rattle.step_table.specs.Contents.{as_word, is_of, is_spent, same_value, seen}
+use Rattle.step_table.specs.Deeds.{on}
+use Rattle.step_table.specs.Holdings.{Holds, Slots, inside, is_full, slot, value}
 use Rattle.step_table.specs.Stories.{Kept, Story, state}
 use Rattle.step_table.proofs.contained.Told.{shared_is}
-use Rattle.step_threads.specs.Courses.{HasCell, Walk, cell_at}
+use Rattle.step_threads.specs.Courses.{HasCell, Walk, cell_at, hand, idle, is_compared, is_offered, is_there, kind_at}
 use Rattle.step_threads.specs.Programs.{IsIn}
 use Rattle.step_threads.specs.Scenes.{walk_of}
 use Rattle.step_threads.specs.Steps.{Step, half_by, story_after, story_by, waits, waits_at, waits_on}
-use Rattle.step_core.specs.Turning.{HasBegun, IsInShape}
-use Rattle.step_core.specs.Watching.{IsWatched, is_watching}
+use Rattle.step_core.specs.Turning.{HasBegun, IsInShape, IsStill}
+use Rattle.step_core.specs.Watching.{IsCellOf, IsWatched, is_watching}
 use Rattle.step_core.specs.Worlds.{Sight, half_of, scene, sight_by, step_of}
+use Rattle.step_core.proofs.watching.Blocks.{inside_there}
 use Rattle.step_core.proofs.watching.Cells.{Watches}
 use Rattle.step_core.proofs.watching.Halves.{each_watch}
 use Rattle.step_core.proofs.watching.Steps.{IsWatch}
@@ -34,10 +39,8 @@ use Rattle.step_core.proofs.watching.Words.{watch}
 
 by_deed : (v : Story) (d : ℕ) (h g : Half) (x : Option Deed) (l : List Half) → d < length l → get_or l d Rest ≡ h
     → Watches v d h x g → IsWatched v l → IsWatched (story_after v d x) (set l d g)
-by_deed v d h g None l lt at w was n few =
-    watch v.extent.shape.blocks (cell_place v.extent.shape.blocks n) _ _ d h g l lt at (w n few) (was n few)
-by_deed v d h g (Some x) l lt at w was n few =
-    watch v.extent.shape.blocks (cell_place v.extent.shape.blocks n) _ _ d h g l lt at (w n few) (was n few)
+by_deed v d h g None l lt at w was c is = watch v.extent.shape.blocks (word_of v.extent.shape.blocks c) _ _ d h g l lt at (w c is) (was c is)
+by_deed v d h g (Some x) l lt at w was c is = watch v.extent.shape.blocks (word_of v.extent.shape.blocks c) _ _ d h g l lt at (w c is) (was c is)
 
 -- after a step of a thread few funds of each cell are taken, or they are to be put back
 pub watched_step : (d : ℕ) (u : Sight) → Kept u.story → Kept (story_by u.story d (step_of d u)) → HasBegun d u → IsWatched u.story u.halves
@@ -60,66 +63,96 @@ filter_few p (x ∷ xs) =
     let i = filter_few p xs in
     cond_both (p x) (x ∷ filter p xs) (filter p xs) (λ (l : List Half). length l ≤ length (x ∷ xs)) (λ t. omega (arith, i)) (λ t. omega (arith, i))
 
+-- the cell that is named is one of the shape, where it is there
+pub named_cell : (v : Story) (d : ℕ) (slots : Slots) → Kept v → Holds d slots v → (c : CellName) → IsIn v.extent.shape c → is_there slots c ≡ true
+    → IsCellOf v.extent.shape (cell_at (state v) slots c)
+named_cell v d slots kept holds (cell.Shared n) lt is = omega (arith, lt)
+named_cell v d slots kept holds (cell.Weak n) lt is = let s = shared_is v in omega (arith, s, lt)
+named_cell v d slots kept holds (cell.Member k m) lt is = go (inside (slot slots k.0)) refl is
+  where
+    go : (o : Option Pointer) → inside (slot slots k.0) ≡ o → is_full o ≡ true
+        → IsCellOf v.extent.shape (Member (on (λ (x : Pointer). x.block) (record { 0 = 0 }) o) m)
+    go None e full = cc
+    go (Some x) e full = let t = inside_there v d slots kept holds k.0 x e in (t.0, t.1, lt)
+
+not_false : (b : Bool) → not b ≡ false → b ≡ true
+not_false true e = refl
+not_false false e = cc
+
+-- a cell that is compared is there
+compared_there : (slots : Slots) (taken : Bool) (k : ℕ) (c : CellName) → is_compared slots taken k c ≡ true → is_there slots c ≡ true
+compared_there slots taken k c is =
+    let a = and_parts (is_offered slots taken c) (is_of (kind_at c) (value slots k)) is in
+    let b = and_parts (taken && is_there slots c) (is_of (kind_at c) (value slots (hand slots))) a.0 in
+    (and_parts taken (is_there slots c) b.0).1
+
 module _ (v : Story) (l : List Half) (few : length l ≤ 64) (was : IsWatched v l) where
-  -- of no free cell all funds are taken
-  free_spent : (n : ℕ) → n < v.extent.shape.shared_cells + v.extent.shape.weak_cells → is_spent (seen v (Free n)) ≡ false
-  free_spent n lt =
+  -- of no cell all funds are taken
+  not_spent : (c : Cell) → IsCellOf v.extent.shape c → is_spent (seen v c) ≡ false
+  not_spent c is =
       let z = v.extent.shape in
-      let a = was n lt in
-      let m = filter_few (is_watching z.blocks (cell_place z.blocks n) (get_or v.words (cell_place z.blocks n) 0)) l in
-      let ne : (get_or v.words (cell_place z.blocks n) 0 / 17179869184 == 256) ≡ false = ne_eqb _ 256 (λ e. omega (arith, a, m, few, e)) in
-      ap (λ (t : Bool). is_some (seen v (Free n)).owned && t) ne ∙ last_false (is_some (seen v (Free n)).owned)
+      let a = was c is in
+      let m = filter_few (is_watching z.blocks (word_of z.blocks c) (word_at v c)) l in
+      let ne : (word_at v c / 17179869184 == 256) ≡ false = ne_eqb _ 256 (λ e. omega (arith, a, m, few, e)) in
+      ap (λ (t : Bool). is_some (seen v c).owned && t) ne ∙ last_false (is_some (seen v c).owned)
 
-  cell_spent : (c : CellName) → IsIn v.extent.shape c → is_spent (seen v (cell_at (state v) c)) ≡ false
-  cell_spent (cell.Shared n) lt = free_spent n (omega (arith, lt))
-  cell_spent (cell.Weak n) lt = free_spent ((state v).shared + n) (let s = shared_is v in omega (arith, s, lt))
+  module _ (d : ℕ) (w : Walk) (kept : Kept v) (holds : Holds d w.slots v) where
+    cell_spent : (c : CellName) → IsIn v.extent.shape c → is_there w.slots c ≡ true → is_spent (seen v (cell_at (state v) w.slots c)) ≡ false
+    cell_spent c has is = not_spent (cell_at (state v) w.slots c) (named_cell v d w.slots kept holds c has is)
 
-  act_waits : (w : Walk) (a : Act) → HasCell v.extent.shape a → waits_on v w a ≡ false
-  act_waits w (Load c) has = cell_spent c has
-  act_waits w (Compare i c weak) has =
-      let x = seen v (cell_at (state v) c) in
-      let b = not (same_value x (as_word (value w.slots i))) in
-      ap (λ (t : Bool). b && t) (cell_spent c has) ∙ last_false b
-  act_waits w (Make form) has = refl
-  act_waits w (Share i) has = refl
-  act_waits w (Downgrade i) has = refl
-  act_waits w (Lock i must) has = refl
-  act_waits w (Put i) has = refl
-  act_waits w (Leave i) has = refl
-  act_waits w (Clear i) has = refl
-  act_waits w (Count i) has = refl
-  act_waits w (Expired i) has = refl
-  act_waits w (Read i) has = refl
-  act_waits w (FromThis i kind) has = refl
-  act_waits w (Alias i j field) has = refl
-  act_waits w (Move i) has = refl
-  act_waits w (Ask q) has = refl
-  act_waits w (Offer i c) has = refl
-  act_waits w (Swap c) has = refl
-  act_waits w (Exchange i c) has = refl
-  act_waits w Drop has = refl
+    load_waits : (c : CellName) → IsIn v.extent.shape c → (b : Bool) → is_there w.slots c ≡ b
+        → (b && is_spent (seen v (cell_at (state v) w.slots c))) ≡ false
+    load_waits c has false is = refl
+    load_waits c has true is = cell_spent c has is
 
-  waits_none : (w : Walk) (es : List Ending) (ts : List Task) → IsInShape v.extent.shape ts → waits_at v w es ts ≡ false
-  waits_none w [] [] has = refl
-  waits_none w [] (t ∷ ts) has = act_waits w t.act has
-  waits_none w (e ∷ es) ts has = refl
+    act_waits : (a : Act) → HasCell v.extent.shape a → idle a w.slots w.taken ≡ false → waits_on v w a ≡ false
+    act_waits (Load c) has still = load_waits c has (is_there w.slots c) refl
+    act_waits (Compare i c weak) has still =
+        let x = seen v (cell_at (state v) w.slots c) in
+        let b = not (same_value x (as_word (value w.slots i))) in
+        ap (λ (t : Bool). b && t) (cell_spent c has (compared_there w.slots w.taken i c (not_false _ still))) ∙ last_false b
+    act_waits (Make form) has still = refl
+    act_waits (Share i) has still = refl
+    act_waits (Downgrade i) has still = refl
+    act_waits (Lock i must) has still = refl
+    act_waits (Put i) has still = refl
+    act_waits (Leave i) has still = refl
+    act_waits (Clear i) has still = refl
+    act_waits (Count i) has still = refl
+    act_waits (Expired i) has still = refl
+    act_waits (Read i) has still = refl
+    act_waits (FromThis i kind) has still = refl
+    act_waits (Alias i j field) has still = refl
+    act_waits (Move i) has still = refl
+    act_waits (Ask q) has still = refl
+    act_waits (Offer i c) has still = refl
+    act_waits (Swap c) has still = refl
+    act_waits (Exchange i c) has still = refl
+    act_waits Drop has still = refl
 
-  half_waits : (h : Half) (w : Walk) → IsInShape v.extent.shape w.todo → waits v h w ≡ false
-  half_waits Rest w has = waits_none w w.endings w.todo has
-  half_waits (Making b i f) w has = refl
-  half_waits (Locking word) w has = refl
-  half_waits (Giving i q x) w has = refl
-  half_waits Brought w has = refl
-  half_waits (Saw x) w has = refl
-  half_waits (Matched x) w has = refl
-  half_waits (Refill s c x k) w has = refl
-  half_waits (Returning q b f k) w has = refl
+    waits_none : (es : List Ending) (ts : List Task) → IsInShape v.extent.shape ts → IsStill w ts → waits_at v w es ts ≡ false
+    waits_none [] [] has still = refl
+    waits_none [] (t ∷ ts) has still = act_waits t.act has still
+    waits_none (e ∷ es) ts has still = refl
+
+    half_waits : (h : Half) → IsInShape v.extent.shape w.todo → IsStill w w.todo → waits v h w ≡ false
+    half_waits Rest has still = waits_none w.endings w.todo has still
+    half_waits (Making b i f) has still = refl
+    half_waits (Locking word) has still = refl
+    half_waits (Giving i q x) has still = refl
+    half_waits Brought has still = refl
+    half_waits (Saw x) has still = refl
+    half_waits (Matched x) has still = refl
+    half_waits (Refill s c x k) has still = refl
+    half_waits (Returning q b f k) has still = refl
+    half_waits Clearing has still = refl
 
 -- so no thread has to wait
 pub unwatched : (d : ℕ) (u : Sight) → HasBegun d u → length u.halves ≤ 64 → IsWatched u.story u.halves
     → waits u.story (half_of u d) (walk_of (scene u) d) ≡ false
-unwatched d u begun few was = half_waits u.story u.halves few was (half_of u d) (walk_of (scene u) d) begun.cell
+unwatched d u begun few was =
+    half_waits u.story u.halves few was d (walk_of (scene u) d) begun.kept begun.holds (half_of u d) begun.cell begun.still
 
 -- a world begins with no funds taken
-pub watched_start : (v : Story) (l : List Half) → ((i : ℕ) → get_or v.words i 0 ≡ 0) → IsWatched v l
-watched_start v l zero n lt = let z = zero (cell_place v.extent.shape.blocks n) in omega (arith, z)
+pub watched_start : (v : Story) (l : List Half) → ((i : ℕ) → slice_index v.words i ≡ 0) → IsWatched v l
+watched_start v l zero c is = let z = zero (word_of v.extent.shape.blocks c) in omega (arith, z)

@@ -6,9 +6,6 @@ use Rattle.step_core.proofs.Worlds.{all_fit, has_begun, sight, steps, thread_at}
 use Rattle.step_core.proofs.telling.Worlds.{never_now, told_now}
 use Rattle.step_core.proofs.world.World.advance.Goals as goal
 
-pub step-stepped-requires-clause-plain : goal.step-stepped-requires-clause-plain
-step-stepped-requires-clause-plain c = c.self.invariant.1.plain
-
 pub step-stepped-requires-clause-fits : goal.step-stepped-requires-clause-fits
 step-stepped-requires-clause-fits c =
     let l = ap (λ (u : Sight). length u.walks) c.self.view_is in
@@ -28,7 +25,7 @@ invariant_of-self c =
           c.step-stepped.result c.self.inside.made c.self.inside.ended c.makes.result c.ends.result c.known.ensures c.known-2.ensures
           (has_begun c.self.inside.table c.self.inside.threads.items c.args.number c.index_mut-thread.result.now lt c.index_mut-thread.ensures.value
           (c.self.invariant.0.each c.args.number c.index_mut-thread.result.now
-          (thread_at c.self.inside.threads.items c.args.number c.index_mut-thread.result.now lt c.index_mut-thread.ensures.value)) c.self.invariant.1.plain.bare c.known.ensures c.self.invariant.0
+          (thread_at c.self.inside.threads.items c.args.number c.index_mut-thread.result.now lt c.index_mut-thread.ensures.value)) c.known.ensures c.self.invariant.0
           c.self.invariant.1.threads) lt
           c.index_mut-thread.ensures.value c.step-stepped.ensures.stepped c.self.invariant.1 c.makes.ensures c.ends.ensures,
     )
@@ -41,7 +38,7 @@ returns-clause-was c =
     subst (λ (u : Sight). HasBegun c.args.number u) c.self.view_is
     (has_begun c.self.inside.table c.self.inside.threads.items c.args.number c.index_mut-thread.result.now lt c.index_mut-thread.ensures.value
     (c.self.invariant.0.each c.args.number c.index_mut-thread.result.now
-    (thread_at c.self.inside.threads.items c.args.number c.index_mut-thread.result.now lt c.index_mut-thread.ensures.value)) c.self.invariant.1.plain.bare c.known.ensures c.self.invariant.0
+    (thread_at c.self.inside.threads.items c.args.number c.index_mut-thread.result.now lt c.index_mut-thread.ensures.value)) c.known.ensures c.self.invariant.0
     c.self.invariant.1.threads)
 
 pub returns-clause-never : goal.returns-clause-never
@@ -53,7 +50,7 @@ returns-clause-never c =
     c.step-stepped.result c.self.inside.made c.self.inside.ended c.known.ensures
     (has_begun c.self.inside.table c.self.inside.threads.items c.args.number c.index_mut-thread.result.now lt c.index_mut-thread.ensures.value
     (c.self.invariant.0.each c.args.number c.index_mut-thread.result.now
-    (thread_at c.self.inside.threads.items c.args.number c.index_mut-thread.result.now lt c.index_mut-thread.ensures.value)) c.self.invariant.1.plain.bare c.known.ensures c.self.invariant.0
+    (thread_at c.self.inside.threads.items c.args.number c.index_mut-thread.result.now lt c.index_mut-thread.ensures.value)) c.known.ensures c.self.invariant.0
     c.self.invariant.1.threads)
     lt c.index_mut-thread.ensures.value c.step-stepped.ensures.stepped c.self.invariant.1
 
