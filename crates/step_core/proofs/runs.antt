@@ -1,6 +1,8 @@
 pub mod Alone
 pub mod Answers
+pub mod Calls
 pub mod Chains
+pub mod Clearing
 pub mod Ends
 pub mod Headline
 pub mod Leaving

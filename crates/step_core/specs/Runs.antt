@@ -1,9 +1,15 @@
 -- Runs of a world: steps of any actors, one after another. All of it is own.
-use Rattle.std.specs.Prelude.{◌≡◌, ◌≢◌, ℕ, zero, suc, ◌+◌, ◌-◌, ◌<◌, ◌≤◌, List, [], ◌∷◌, ◌++◌, All, length, map, slice_index}
+use Rattle.std.specs.Prelude.{◌≡◌, ◌≢◌, ℕ, zero, suc, ◌+◌, ◌-◌, ◌<◌, ◌≤◌, Bool, true, false, List, [], ◌∷◌, ◌++◌, All, length, map, slice_index}
 use Rattle.control_word.specs.declared.refusal.Refusal.{Refusal}
 use Rattle.control_word.specs.declared.refusal.Refusal.TheVariants as refusal
-use Rattle.step_threads.specs.declared.half.Half.TheVariants.{Rest}
-use Rattle.step_threads.specs.declared.said.Stepped.TheVariants.{Done}
+use Rattle.step_threads.specs.declared.act.Act.{Act}
+use Rattle.step_threads.specs.declared.act.Act.TheVariants.{Compare}
+use Rattle.step_threads.specs.declared.act.Task.{Task}
+use Rattle.step_threads.specs.declared.half.Half.{Half}
+use Rattle.step_threads.specs.declared.half.Half.TheVariants.{Rest, Brought, Matched, Refill, Returning}
+use Rattle.step_threads.specs.declared.said.Stepped.TheVariants.{Waited, Done}
+use Rattle.step_table.specs.declared.refill.Stage.{Stage}
+use Rattle.step_table.specs.declared.refill.Stage.TheVariants.{Turning, Checking, Lacking, Refilling, Failing}
 use Rattle.step_core.specs.declared.trace.RunRefusal.{RunRefusal}
 use Rattle.step_core.specs.declared.trace.RunRefusal.TheVariants.{Memory, BadTurn}
 use Rattle.step_core.specs.declared.trace.TraceStep.{TraceStep}
@@ -37,22 +43,88 @@ pub record RunsToEnd (d : ℕ) (u : Sight) (xs : List TraceStep) (u' : Sight) : 
   pub alone : All (IsStepOf d) xs
   pub over : IsOver d u'
 
--- the first n threads ran, in number order, each alone to its end
-abbrev pub RunInOrder : ℕ → Sight → List TraceStep → Sight → Type 0
-RunInOrder zero u xs u' = (xs ≡ []) × (u' ≡ u)
-RunInOrder (suc n) u xs u' =
-    (before : List TraceStep) × (mine : List TraceStep) × (m : Sight)
-    × (xs ≡ before ++ mine) × RunInOrder n u before m × RunsToEnd n m mine u'
+-- a load's fund is taken and not turned yet, or as many funds are brought as were taken, to be put in their place or given back
+abbrev pub is_out : Stage → Bool
+is_out Turning = true
+is_out Checking = false
+is_out Lacking = false
+is_out Refilling = true
+is_out Failing = true
 
--- one step for each number, and then each thread alone to its end, in number order
+-- a load is under way, or funds are brought or are to be given back
+abbrev pub is_owing : Half → Bool
+is_owing Brought = true
+is_owing (Matched x) = true
+is_owing (Refill stage c x k) = is_out stage
+is_owing (Returning kind b funds k) = true
+is_owing _ = false
+
+-- the next act is a compare
+abbrev pub is_compare : Act → Bool
+is_compare (Compare k c weak) = true
+is_compare _ = false
+
+abbrev pub compares_next : List Task → Bool
+compares_next [] = false
+compares_next (t ∷ ts) = is_compare t.act
+
+-- A call that owed funds goes on while its thread has begun something. A compare that missed begins again, once it has given back
+-- what it had brought; behind any other call no compare is next, as each comes after its own copy
+abbrev pub goes_on : Half → List Task → Bool
+goes_on Rest ts = compares_next ts
+goes_on _ ts = true
+
+abbrev pub is_calling : Sight → ℕ → Bool
+is_calling u d = goes_on (half_of u d) (walk_of (scene u) d).todo
+
+-- thread d went on with its call, which wasn't done before any of these steps
+abbrev pub CallsOn : ℕ → Sight → List TraceStep → Sight → Type 0
+CallsOn d u [] u' = u' ≡ u
+CallsOn d u (x ∷ xs) u' =
+    (is_calling u d ≡ true) × (x.actor ≡ d + 1) × ((m : Sight) × Steps d u x.stepped m × Kept m.story × CallsOn d m xs u')
+
+-- thread d finished its call
+pub record FinishesCall (d : ℕ) (u : Sight) (xs : List TraceStep) (u' : Sight) : Type 0 where
+  pub calls : CallsOn d u xs u'
+  pub done : is_calling u' d ≡ false
+
+-- thread d finished the call that owed funds, if it had one
+pub record Settles (d : ℕ) (u : Sight) (xs : List TraceStep) (u' : Sight) : Type 0 where
+  pub owing : is_owing (half_of u d) ≡ true → FinishesCall d u xs u'
+  pub none : is_owing (half_of u d) ≡ false → (xs ≡ []) × (u' ≡ u)
+
+-- the first n threads ran, in number order, each in this way
+abbrev pub InOrder : (ℕ → Sight → List TraceStep → Sight → Type 0) → ℕ → Sight → List TraceStep → Sight → Type 0
+InOrder R zero u xs u' = (xs ≡ []) × (u' ≡ u)
+InOrder R (suc n) u xs u' =
+    (before : List TraceStep) × (mine : List TraceStep) × (m : Sight)
+    × (xs ≡ before ++ mine) × InOrder R n u before m × R n m mine u'
+
+-- each finished the call that owed funds
+abbrev pub SettleInOrder : ℕ → Sight → List TraceStep → Sight → Type 0
+SettleInOrder n u xs u' = InOrder Settles n u xs u'
+
+-- each alone to its end
+abbrev pub RunInOrder : ℕ → Sight → List TraceStep → Sight → Type 0
+RunInOrder n u xs u' = InOrder RunsToEnd n u xs u'
+
+-- one step for each number; then each thread that had a load under way, or funds that it brought or was to give back, finished that
+-- call, in number order; and then each ran alone to its end, in number order
 pub record IsScheduled (turns : List ℕ) (u : Sight) (xs : List TraceStep) (u' : Sight) : Type 0 where
   pub first : List TraceStep
+  pub settled : List TraceStep
   pub alone : List TraceStep
   pub middle : Sight
-  pub parts : xs ≡ first ++ alone
+  pub calm : Sight
+  pub parts : xs ≡ (first ++ settled) ++ alone
   pub numbers : map (λ (x : TraceStep). x.actor) first ≡ turns
   pub run : IsRun u first middle
-  pub ends : RunInOrder (length u.walks) middle alone u'
+  pub settles : SettleInOrder (length u.walks) middle settled calm
+  pub ends : RunInOrder (length u.walks) calm alone u'
+
+-- the step didn't wait
+abbrev pub Moves : TraceStep → Type 0
+Moves x = x.stepped ≢ Waited
 
 -- the number names one of n actors, from 1
 abbrev pub Names : ℕ → ℕ → Type 0

@@ -1,22 +1,26 @@
-//! Runs: one step for each number of a list, and then each actor alone to its end.
-ghost use Rattle.std.specs.Prelude.{◌≡◌, ◌+◌, ◌-◌, ◌*◌, ◌<◌, ◌≤◌, ◌∷◌, ◌++◌, ℕ, [], All, IfErr, IfOk, MatchOption, length, map, slice_get, sum_by, vec_capacity, vec_len};
+//! Runs: one step for each number of a list; then each actor finishes a call that owes funds, and then runs alone to its end.
+ghost use Rattle.std.specs.Prelude.{◌≡◌, ◌≢◌, ◌+◌, ◌-◌, ◌*◌, ◌<◌, ◌≤◌, ◌∷◌, ◌++◌, ℕ, [], All, IfErr, IfOk, MatchOption, length, map, slice_get, sum_by, vec_capacity, vec_len};
 ghost use Rattle.step_core.specs.Bounds.{most_steps, steps_of, task_steps, weight};
 ghost use Rattle.step_core.specs.Headline.{AfterEach, AllAtRest, CountsAtRest, LocksWhereOwned, OfEach, TellsLocks, TellsWhatIsLeft, ValuesAtLastLeave, ValuesOnce};
-ghost use Rattle.step_core.specs.Runs.{Adds, IsFirstBad, IsRefusedFor, IsRun, IsScheduled, Names, RunInOrder, RunsToEnd};
+ghost use Rattle.step_core.specs.Runs.{Adds, FinishesCall, IsFirstBad, IsRefusedFor, IsRun, IsScheduled, Moves, Names, RunInOrder, RunsToEnd, SettleInOrder, compares_next, is_calling, is_compare, is_out, is_owing};
 ghost use Rattle.step_table.specs.Stories.{Kept};
 ghost use Rattle.step_core.specs.Totals.{IsAtEnd};
+ghost use Rattle.step_core.specs.Worlds.{half_of};
 
 use crate::trace::{RunRefusal, Trace, TraceStep};
 use crate::world::World;
 use std::alloc::Global;
+use step_table::refill::Stage;
 use step_threads::act::{Act, Task};
+use step_threads::half::Half;
 use step_threads::said::Stepped;
 use step_threads::thread::Thread;
 
 impl World {
-    /// Runs the world to its end: one step for each number, and then each actor alone to its end, in number order. The trace
-    /// has all these steps in order; a number for an actor at its end is a step, `Done`, and no other step of the trace is.
-    /// All memory is asked for before the first step.
+    /// Runs the world to its end: one step for each number; then each actor that has a load under way, or funds that it brought or is
+    /// to give back, finishes that call, in number order; and then each runs alone to its end, in number order. The trace has all
+    /// these steps in order; a number for an actor at its end is a step, `Done`, and no other step of the trace is. None waits. All
+    /// memory is asked for before the first step.
     ///
     /// Refused `BadTurn` just where some number names no actor, with the position of the first one, from 1. Refused `Memory`
     /// where a growth was really refused. The world is then as it was (own).
@@ -26,6 +30,7 @@ impl World {
         ensures unchanged { IfErr result (λ why. self.new ≡ self.old) }
         ensures run { IfOk result (λ t. IsRun self.old t.steps.items self.new) }
         ensures scheduled { IfOk result (λ t. IsScheduled turns.now self.old t.steps.items self.new) }
+        ensures moves { IfOk result (λ t. All Moves t.steps.items) }
         ensures counts { IfOk result (λ t. AfterEach CountsAtRest self.old t.steps.items) }
         ensures locks { IfOk result (λ t. OfEach LocksWhereOwned self.old t.steps.items) }
         ensures answers { IfOk result (λ t. OfEach TellsLocks self.old t.steps.items) }
@@ -44,6 +49,7 @@ impl World {
         let room = turns.len() + self.most_steps();
         let mut steps = Vec::with_capacity(alloc, room)?;
         self.follow(turns, &mut steps);
+        self.settle(&mut steps);
         self.finish(&mut steps);
         self.table.known();
         Ok(Trace { steps })
@@ -51,12 +57,12 @@ impl World {
 
     /// More steps than the world has left.
     fn most_steps(&self) -> usize
-        ensures enough { most_steps self.now + 3 * length self.now.walks ≤ result }
+        ensures enough { most_steps self.now + 6 * length self.now.walks ≤ result }
         ensures few { result ≤ 2000000 }
     {
         self.table.known();
         let living = (self.made - self.ended) as usize;
-        steps_left(self.threads.as_slice()) + 26 * self.threads.len() + 13 * living
+        steps_left(self.threads.as_slice()) + 29 * self.threads.len() + 13 * living
     }
 
     /// One step for each number.
@@ -64,10 +70,11 @@ impl World {
         requires named { All (Names (length self.old.walks)) turns.now }
         requires empty { steps.old.items ≡ [] }
         requires none { vec_len steps.old ≡ 0 }
-        requires room { length turns.now + most_steps self.old + 3 * length self.old.walks ≤ vec_capacity steps.old }
+        requires room { length turns.now + most_steps self.old + 6 * length self.old.walks ≤ vec_capacity steps.old }
         ensures run { IsRun self.old steps.new.items self.new }
         ensures numbers { map (λ x. x.actor) steps.new.items ≡ turns.now }
-        ensures room { vec_len steps.new + most_steps self.new + 3 * length self.new.walks ≤ vec_capacity steps.new }
+        ensures moves { All Moves steps.new.items }
+        ensures room { vec_len steps.new + most_steps self.new + 6 * length self.new.walks ≤ vec_capacity steps.new }
         ensures actors { length self.new.walks ≡ length self.old.walks }
     {
         for turn in turns {
@@ -76,11 +83,72 @@ impl World {
         }
     }
 
+    /// Each actor that has a load under way, or funds that it brought or is to give back, finishes that call, in number order.
+    fn settle(&mut self, steps: &mut Vec<TraceStep>)
+        requires few { length self.old.walks ≤ 64 }
+        requires moves { All Moves steps.old.items }
+        requires room { vec_len steps.old + most_steps self.old + 6 * length self.old.walks ≤ vec_capacity steps.old }
+        ensures adds { Adds (SettleInOrder (length self.old.walks)) self.old steps.old.items self.new steps.new.items }
+        ensures moves { All Moves steps.new.items }
+        ensures room { vec_len steps.new + most_steps self.new + 3 * length self.new.walks ≤ vec_capacity steps.new }
+        ensures actors { length self.new.walks ≡ length self.old.walks }
+    {
+        for number in 0..self.threads.len() {
+            if self.is_owing(number) {
+                self.finish_call(number, steps);
+            }
+        }
+    }
+
+    /// An actor finishes its call.
+    fn finish_call(&mut self, number: usize, steps: &mut Vec<TraceStep>)
+        requires within { number < length self.old.walks }
+        requires few { length self.old.walks ≤ 64 }
+        requires moves { All Moves steps.old.items }
+        requires room { vec_len steps.old + most_steps self.old + 3 ≤ vec_capacity steps.old }
+        ensures adds { Adds (FinishesCall number) self.old steps.old.items self.new steps.new.items }
+        ensures moves { All Moves steps.new.items }
+        ensures room { vec_len steps.new + most_steps self.new ≤ vec_len steps.old + most_steps self.old + 3 }
+        ensures capacity { vec_capacity steps.old ≤ vec_capacity steps.new }
+        ensures actors { length self.new.walks ≡ length self.old.walks }
+    {
+        while self.is_calling(number) {
+            let stepped = self.advance(number);
+            add(steps, number as u8 + 1, stepped);
+        }
+    }
+
+    /// Whether an actor has a load under way, or funds that it brought or is to give back.
+    fn is_owing(&self, number: usize) -> bool
+        requires { number < length self.now.walks }
+        ensures { result ≡ is_owing (half_of self.now number) }
+    {
+        match self.threads[number].half {
+            Half::Brought | Half::Matched { .. } | Half::Returning { .. } => true,
+            Half::Refill { stage, .. } => is_out(stage),
+            _ => false,
+        }
+    }
+
+    /// Whether an actor's call, which owed funds, isn't done: it has begun something, or is a compare that begins again.
+    fn is_calling(&self, number: usize) -> bool
+        requires { number < length self.now.walks }
+        ensures { result ≡ is_calling self.now number }
+    {
+        let thread = &self.threads[number];
+        match thread.half {
+            Half::Rest => compares_next(&thread.course.tasks[thread.course.at..]),
+            _ => true,
+        }
+    }
+
     /// Each actor runs alone to its end, in number order.
     fn finish(&mut self, steps: &mut Vec<TraceStep>)
         requires few { length self.old.walks ≤ 64 }
+        requires moves { All Moves steps.old.items }
         requires room { vec_len steps.old + most_steps self.old + 3 * length self.old.walks ≤ vec_capacity steps.old }
         ensures adds { Adds (RunInOrder (length self.old.walks)) self.old steps.old.items self.new steps.new.items }
+        ensures moves { All Moves steps.new.items }
         ensures actors { length self.new.walks ≡ length self.old.walks }
     {
         for number in 0..self.threads.len() {
@@ -92,8 +160,10 @@ impl World {
     fn finish_one(&mut self, number: usize, steps: &mut Vec<TraceStep>)
         requires within { number < length self.old.walks }
         requires few { length self.old.walks ≤ 64 }
+        requires moves { All Moves steps.old.items }
         requires room { vec_len steps.old + most_steps self.old + 3 ≤ vec_capacity steps.old }
         ensures adds { Adds (RunsToEnd number) self.old steps.old.items self.new steps.new.items }
+        ensures moves { All Moves steps.new.items }
         ensures room { vec_len steps.new + most_steps self.new ≤ vec_len steps.old + most_steps self.old + 3 }
         ensures capacity { vec_capacity steps.old ≤ vec_capacity steps.new }
         ensures actors { length self.new.walks ≡ length self.old.walks }
@@ -105,6 +175,33 @@ impl World {
             }
         }
     }
+}
+
+/// Whether a refill has a fund that isn't turned yet, or funds that were brought.
+fn is_out(stage: Stage) -> bool
+    ensures { result ≡ is_out stage }
+{
+    match stage {
+        Stage::Turning | Stage::Refilling | Stage::Failing => true,
+        Stage::Checking | Stage::Lacking => false,
+    }
+}
+
+/// Whether a compare is next.
+fn compares_next(tasks: &[Task]) -> bool
+    ensures { result ≡ compares_next tasks.now }
+{
+    match tasks.first() {
+        Some(task) => is_compare(task.act),
+        None => false,
+    }
+}
+
+/// Whether an act is a compare.
+fn is_compare(act: Act) -> bool
+    ensures { result ≡ is_compare act }
+{
+    matches!(act, Act::Compare { .. })
 }
 
 /// The steps that threads' tasks and endings have left.

@@ -7,7 +7,7 @@ use Rattle.control_word.specs.declared.handle.Kind.TheVariants.{Owner, Weak}
 use Rattle.step_threads.specs.declared.act.Act.{Act}
 use Rattle.step_threads.specs.declared.act.Task.{Task}
 use Rattle.step_threads.specs.declared.half.Half.{Half}
-use Rattle.step_threads.specs.declared.half.Half.TheVariants.{Rest, Making, Locking, Giving, Brought, Saw, Matched, Refill, Returning}
+use Rattle.step_threads.specs.declared.half.Half.TheVariants.{Rest, Making, Locking, Giving, Brought, Saw, Matched, Refill, Returning, Clearing}
 use Rattle.step_table.specs.declared.holdings.Pointer.{Pointer}
 use Rattle.step_table.specs.declared.past.Deed.{Deed}
 use Rattle.step_threads.specs.declared.said.Stepped.{Stepped}
@@ -40,10 +40,10 @@ pub alone_other : (v : Story) (w : Walk) (word : ℕ) → (lock_word v w.slots w
 alone_other v w word is = ap {B = ℕ} (λ (b : Bool). cond b 14 16) is
 
 -- what was seen is shown still, or isn't
-pub alone_saw : (v : Story) (w : Walk) (x : CellWord) (b : Bool) → shows_next v x w.todo ≡ b → alone v w (Saw x) ≡ cond b 14 18
+pub alone_saw : (v : Story) (w : Walk) (x : CellWord) (b : Bool) → shows_next v w.slots x w.todo ≡ b → alone v w (Saw x) ≡ cond b 14 18
 alone_saw v w x b is = ap {B = ℕ} (λ (t : Bool). cond t 14 18) is
 
-pub alone_matched : (v : Story) (w : Walk) (x : CellWord) (b : Bool) → shows_next v x w.todo ≡ b → alone v w (Matched x) ≡ cond b 13 17
+pub alone_matched : (v : Story) (w : Walk) (x : CellWord) (b : Bool) → shows_next v w.slots x w.todo ≡ b → alone v w (Matched x) ≡ cond b 13 17
 alone_matched v w x b is = ap {B = ℕ} (λ (t : Bool). cond t 13 17) is
 
 saw_most : (b : Bool) → cond b 14 18 ≤ 18
@@ -69,10 +69,11 @@ alone_most v w (Making b i differs) = omega arith
 alone_most v w (Locking word) = let l = (alone_of_lock v w word).1 in omega (arith, l)
 alone_most v w (Giving i kind x) = omega arith
 alone_most v w Brought = omega arith
-alone_most v w (Saw x) = let m = saw_most (shows_next v x w.todo) in omega (arith, m)
-alone_most v w (Matched x) = let m = matched_most (shows_next v x w.todo) in omega (arith, m)
+alone_most v w (Saw x) = let m = saw_most (shows_next v w.slots x w.todo) in omega (arith, m)
+alone_most v w (Matched x) = let m = matched_most (shows_next v w.slots x w.todo) in omega (arith, m)
 alone_most v w (Refill s c x k) = let m = refill_most (word_at v c == cell_bits x) s in omega (arith, m)
 alone_most v w (Returning kind b funds k) = omega arith
+alone_most v w Clearing = omega arith
 
 -- A step leaves the thread with fewer steps, where it runs alone, and never with more. An object that is made has the steps of
 -- its end, and one whose last owner left gives them to its ending

@@ -15,7 +15,7 @@ use Rattle.step_threads.specs.declared.act.Act.{Act}
 use Rattle.step_threads.specs.declared.act.Act.TheVariants.{Make, Share, Downgrade, Lock, Put, Leave, Clear, Count, Expired, Read, FromThis, Alias, Move, Ask, Offer, Swap, Exchange, Load, Compare, Drop}
 use Rattle.step_threads.specs.declared.act.Task.{Task}
 use Rattle.step_threads.specs.declared.half.Half.{Half}
-use Rattle.step_threads.specs.declared.half.Half.TheVariants.{Rest, Making, Locking, Giving, Brought, Saw, Matched, Refill, Returning}
+use Rattle.step_threads.specs.declared.half.Half.TheVariants.{Rest, Making, Locking, Giving, Brought, Saw, Matched, Refill, Returning, Clearing}
 use Rattle.step_table.specs.declared.holdings.Pointer.{Pointer}
 use Rattle.step_table.specs.declared.past.Deed.{Deed}
 use Rattle.step_table.specs.declared.past.Deed.TheVariants as deed
@@ -32,14 +32,16 @@ use Rattle.step_core.specs.Headline.{TellsLocks, Was, answer_by}
 use Rattle.step_table.specs.Holdings.{inside, is_full, slot, owner_slot, place_in}
 use Rattle.step_threads.specs.Entries.{least}
 use Rattle.step_threads.specs.Scenes.{found, lock_answer, walk_of}
-use Rattle.step_threads.specs.Steps.{asks, at_rest, brings, given as given_by, Step, acts, begins, begun, claims, ends_on, first, is_event, looks, made_on}
-use Rattle.step_threads.specs.Steps.{prepares, sends, sent, silent, step_at, stepped as stepped_by, story_after, story_by, swaps, tried, tries, trying, with_endings}
+use Rattle.step_threads.specs.Steps.{asks, at_rest, brings, emptied, given as given_by, Step, acts, begins, begun, claims, ends_on, first, is_event, looks, made_on}
+use Rattle.step_threads.specs.Steps.{prepares, sends, sent, silent, step_at, stepped as stepped_by, story_after, story_by, swaps, tried, tries, trying, with_endings, within}
 use Rattle.step_table.specs.Stories.{Nothing, Story, added, event_of, known, object_in, pending, state}
 use Rattle.step_core.specs.Worlds.{Sight, half_of, scene, step_of}
 use Rattle.step_table.proofs.tables.CellDeeds.{by_event}
 use Rattle.step_table.specs.declared.cell_deed.Cell.{Cell}
+use Rattle.step_table.specs.declared.cell_deed.Cell.TheVariants.{Member}
+use Rattle.step_table.specs.Cells.{word_at}
 use Rattle.step_table.specs.Contents.{compared_in, seen}
-use Rattle.step_core.proofs.telling.Cases.{IsEach, IsEachAct, IsEachRefill, each_compares, each_matched, each_refill, each_saw, each_sees}
+use Rattle.step_core.proofs.telling.Cases.{IsEach, IsEachAct, IsEachRefill, each_compares, each_load, each_matched, each_refill, each_saw}
 use Rattle.step_core.proofs.runs.Waiting.{IsTold, told_at}
 use Rattle.step_core.proofs.runs.Headline.{IsStep}
 
@@ -132,8 +134,8 @@ each_act : (v : Story) (d : ℕ) (w : Walk) (k : ℕ) (ts : List Task) → IsEac
 each_act v d w k ts =
     record {
       none = tt;
-      load = λ c. each_cell v d w k ts (Load c) (cell_at (state v) c);
-      compare = λ i c weak. each_cell v d w k ts (Compare i c weak) (cell_at (state v) c);
+      load = λ c. each_cell v d w k ts (Load c) (cell_at (state v) w.slots c);
+      compare = λ i c weak. each_cell v d w k ts (Compare i c weak) (cell_at (state v) w.slots c);
     }
 
 each_stage : (v : Story) (w : Walk) (k : ℕ) → IsEachRefill v w k (λ (x : Step). Tells (Some x))
@@ -158,11 +160,10 @@ first_tells v d k w ts (Offer i c) = plain share _ (λ x. share_plain x.kind x) 
 first_tells v d k w ts (Swap c) = going_tells v d k w ts (Swap c) (going w.slots (Swap c))
 first_tells v d k w ts (Exchange i c) = going_tells v d k w ts (Exchange i c) (going w.slots (Exchange i c))
 first_tells v d k w ts (Load c) =
-    each_sees v d w k ts (Load c) (cell_at (state v) c) (λ (x : Step). Tells (Some x)) (each_cell v d w k ts (Load c) (cell_at (state v) c)) None
-    (seen v (cell_at (state v) c))
+    each_load v d w k ts c (λ (x : Step). Tells (Some x)) (each_cell v d w k ts (Load c) (cell_at (state v) w.slots c)) tt
 first_tells v d k w ts (Compare i c weak) =
-    each_compares v d w k ts (Compare i c weak) (cell_at (state v) c) (λ (x : Step). Tells (Some x))
-    (each_cell v d w k ts (Compare i c weak) (cell_at (state v) c)) (compared_in w.slots (comparing w.slots i weak)) (seen v (cell_at (state v) c))
+    each_compares v d w k ts (Compare i c weak) (cell_at (state v) w.slots c) (λ (x : Step). Tells (Some x))
+    (each_cell v d w k ts (Compare i c weak) (cell_at (state v) w.slots c)) (compared_in w.slots (comparing w.slots i weak)) (seen v (cell_at (state v) w.slots c))
 first_tells v d k w ts Drop = plain (leave (state v)) _ (λ x. leave_plain x.kind x (is_last (state v) x)) (slot w.slots (other w.slots))
 first_tells v d k w ts (Lock i must) = lock_tells v d k i w ts must (locked w.slots (Lock i must)) refl
 
@@ -184,15 +185,21 @@ make_tells v d i w b f (t ∷ ts) =
 
 end_tells : (v : Story) (w : Walk) (e : Ending) (es : List Ending) → Tells (Some (ends_on v w e es))
 end_tells v w e es =
-    cond_both (e.stage == 3)
-    (record {
+    let finished : Step = record {
       deed = Some (deed.Finish e.block (weak (state v) (object_in v e.block) == 0));
       half = Rest;
       walk = with_endings w es;
       said = silent e.statement;
-    })
-    (record { deed = Some (deed.Clear e.block e.stage); half = Rest; walk = with_endings w (staged e ∷ es); said = silent e.statement })
-    (λ (x : Step). Tells (Some x)) (λ c. tt) (λ c. tt)
+    } in
+    let cleared = within (with_endings w (staged e ∷ es)) e.statement (Some (deed.Clear e.block e.stage)) Rest in
+    let looked = within w e.statement None Clearing in
+    cond_both (e.stage == 3) finished (cond (word_at v (Member e.block e.stage) == 0) cleared looked) (λ (x : Step). Tells (Some x)) (λ c. tt)
+    (λ c. cond_both (word_at v (Member e.block e.stage) == 0) cleared looked (λ (x : Step). Tells (Some x)) (λ b. tt) (λ b. tt))
+
+-- what comes out of a member leaves later
+out_tells : (v : Story) (w : Walk) (es : List Ending) → Tells (emptied v w es)
+out_tells v w [] = tt
+out_tells v w (e ∷ es) = tt
 
 rest_tells : (v : Story) (d : ℕ) (w : Walk) (es : List Ending) → Tells (at_rest v d w es)
 rest_tells v d w [] = task_tells v d w w.todo
@@ -224,6 +231,7 @@ step_tells v d (Saw x) w = each_saw v d w Tells x w.todo tt (λ t us e. each_act
 step_tells v d (Matched x) w = each_matched v d w Tells x w.todo tt (λ t us e. each_act v d w t.statement us)
 step_tells v d (Refill stage c x k) w = each_refill v w k Tells tt (each_stage v w k) stage c x x.owned
 step_tells v d (Returning kind b funds k) w = tt
+step_tells v d Clearing w = out_tells v w w.endings
 
 as_answered : (v : Story) (x : Step) → answer_by (stepped_by v (Some x)) ≡ x.said.answer
 as_answered v x =

@@ -4,9 +4,9 @@ use Rattle.std.specs.Prelude.{All}
 use Rattle.std.proofs.lemmas.List.{append-nil, map_push, take_more}
 use Rattle.std.proofs.lemmas.List.Elements.{All-append, All-cons, All-nil}
 use Rattle.step_threads.specs.declared.said.Stepped.{Stepped}
-use Rattle.step_threads.specs.declared.said.Stepped.TheVariants.{Done}
+use Rattle.step_threads.specs.declared.said.Stepped.TheVariants.{Waited, Done}
 use Rattle.step_core.specs.declared.trace.TraceStep.{TraceStep}
-use Rattle.step_core.specs.Runs.{Adds, IsOver, IsRun, IsStepOf, RunInOrder, RunsToEnd}
+use Rattle.step_core.specs.Runs.{Adds, InOrder, IsOver, IsRun, IsStepOf, Moves, RunsToEnd}
 use Rattle.step_table.specs.Stories.{Kept}
 use Rattle.step_core.specs.Worlds.{Sight, Steps}
 
@@ -59,15 +59,40 @@ on_end d u m w xs ys on same over =
     }
 
 -- the runs of threads in order are one run
-pub in_order : (n : ℕ) (u u' : Sight) (xs : List TraceStep) → RunInOrder n u xs u' → IsRun u xs u'
-in_order zero u u' xs runs = subst (λ (l : List TraceStep). IsRun u l u') (sym runs.0) runs.1
-in_order (suc n) u u' xs runs =
+in_order : (R : ℕ → Sight → List TraceStep → Sight → Type 0)
+    → ((d : ℕ) (m w : Sight) (ys : List TraceStep) → R d m ys w → IsRun m ys w) → (n : ℕ) (u u' : Sight) (xs : List TraceStep)
+    → InOrder R n u xs u' → IsRun u xs u'
+in_order R each zero u u' xs runs = subst (λ (l : List TraceStep). IsRun u l u') (sym runs.0) runs.1
+in_order R each (suc n) u u' xs runs =
     subst (λ (l : List TraceStep). IsRun u l u') (sym runs.3)
-    (run_joined u runs.2 u' runs.0 runs.1 (in_order n u runs.2 runs.0 runs.4) runs.5.run)
+    (run_joined u runs.2 u' runs.0 runs.1 (in_order R each n u runs.2 runs.0 runs.4) (each n runs.2 u' runs.1 runs.5))
 
-pub whole : (n : ℕ) (u m u' : Sight) (xs ys : List TraceStep) → IsRun u xs m → Adds (RunInOrder n) m xs u' ys → IsRun u ys u'
-whole n u m u' xs ys run adds =
-    subst (λ (l : List TraceStep). IsRun u l u') (sym adds.items) (run_joined u m u' xs adds.added run (in_order n m u' adds.added adds.run))
+pub whole : (R : ℕ → Sight → List TraceStep → Sight → Type 0)
+    → ((d : ℕ) (m w : Sight) (ys : List TraceStep) → R d m ys w → IsRun m ys w) → (n : ℕ) (u m u' : Sight) (xs ys : List TraceStep)
+    → IsRun u xs m → Adds (InOrder R n) m xs u' ys → IsRun u ys u'
+whole R each n u m u' xs ys run adds =
+    subst (λ (l : List TraceStep). IsRun u l u') (sym adds.items)
+    (run_joined u m u' xs adds.added run (in_order R each n m u' adds.added adds.run))
+
+-- so many threads ran in this way, and then the next
+pub adds_more : (R : ℕ → Sight → List TraceStep → Sight → Type 0) (n : ℕ) (u m u' : Sight) (xs ys zs : List TraceStep)
+    → Adds (InOrder R n) u xs m ys → Adds (R n) m ys u' zs → Adds (InOrder R (n + 1)) u xs u' zs
+adds_more R n u m u' xs ys zs a b =
+    record {
+      added = a.added ++ b.added;
+      items = b.items ∙ ap (λ (l : List TraceStep). l ++ b.added) a.items ∙ append_assoc xs a.added b.added;
+      run = subst (λ (k : ℕ). InOrder R k u (a.added ++ b.added) u') (suc_more n) (a.added, b.added, m, refl, a.run, b.run);
+    }
+  where
+    suc_more : (k : ℕ) → suc k ≡ k + 1
+    suc_more k = omega arith
+
+-- no step of a longer list waits, where the last doesn't
+pub moves_more : (xs ys : List TraceStep) (n : ℕ) (r : Stepped) → All Moves xs → r ≢ Waited → ys ≡ xs ++ record { actor = n; stepped = r } ∷ []
+    → All Moves ys
+moves_more xs ys n r all never is =
+    let x : TraceStep = record { actor = n; stepped = r } in
+    subst (All Moves) (sym is) (All-append Moves xs (x ∷ []) all (All-cons Moves x [] never (All-nil Moves)))
 
 -- one more number, and its step
 pub number_more : (xs ys : List TraceStep) (turns : List ℕ) (i : ℕ) (r : Stepped) → i < length turns

@@ -1,5 +1,5 @@
 -- What has come to its end stays there.
-use Rattle.std.proofs.Common.{◌≡◌, ◌≢◌, ℕ, zero, suc, ◌+◌, ◌-◌, ◌<◌, List, [], ◌∷◌, ◌++◌, length, refl, sym, ap, subst, ◌∙◌, ⊎_elim, append_assoc, arith}
+use Rattle.std.proofs.Common.{◌≡◌, ◌≢◌, ℕ, zero, suc, ◌+◌, ◌-◌, ◌<◌, List, [], ◌∷◌, length, sym, ap, subst, ◌∙◌, ⊎_elim, arith}
 use Rattle.std.proofs.Common.{get_or-set_other}
 use Rattle.std.specs.Prelude.{All}
 use Rattle.std.proofs.lemmas.Bool.{cases_eq}
@@ -9,7 +9,7 @@ use Rattle.step_threads.specs.declared.half.Half.TheVariants.{Rest}
 use Rattle.step_threads.specs.declared.said.Stepped.{Stepped}
 use Rattle.step_core.specs.declared.trace.TraceStep.{TraceStep}
 use Rattle.step_threads.specs.Courses.{Walk}
-use Rattle.step_core.specs.Runs.{Adds, IsOver, IsRun, IsStepOf, RunInOrder, RunsToEnd}
+use Rattle.step_core.specs.Runs.{IsOver, IsRun, IsStepOf, RunInOrder, RunsToEnd}
 use Rattle.step_threads.specs.Scenes.{nowhere, walk_of}
 use Rattle.step_threads.specs.Steps.{half_by, walk_by}
 use Rattle.step_core.specs.Totals.{IsAtEnd}
@@ -52,16 +52,3 @@ at_end n u u' xs runs walks halves =
           All-from_get_or (λ (w : Walk). w.endings ≡ []) u'.walks nowhere (λ i lt. (all_over n u u' xs runs i (omega (arith, lt, walks))).endings);
       halves = All-from_get_or (λ (h : Half). h ≡ Rest) u'.halves Rest (λ i lt. (all_over n u u' xs runs i (omega (arith, lt, halves))).half);
     }
-
--- so many threads ran, and then the next
-pub adds_more : (n : ℕ) (u m u' : Sight) (xs ys zs : List TraceStep) → Adds (RunInOrder n) u xs m ys → Adds (RunsToEnd n) m ys u' zs
-    → Adds (RunInOrder (n + 1)) u xs u' zs
-adds_more n u m u' xs ys zs a b =
-    record {
-      added = a.added ++ b.added;
-      items = b.items ∙ ap (λ (l : List TraceStep). l ++ b.added) a.items ∙ append_assoc xs a.added b.added;
-      run = subst (λ (k : ℕ). RunInOrder k u (a.added ++ b.added) u') (suc_more n) (a.added, b.added, m, refl, a.run, b.run);
-    }
-  where
-    suc_more : (k : ℕ) → suc k ≡ k + 1
-    suc_more k = omega arith

@@ -11,7 +11,7 @@ use Rattle.step_threads.specs.declared.act.Act.{Act}
 use Rattle.step_threads.specs.declared.act.Act.TheVariants.{Make, Share, Downgrade, Lock, Put, Leave, Clear, Count, Expired, Read, FromThis, Alias, Move, Ask, Offer, Swap, Exchange, Load, Compare, Drop}
 use Rattle.step_threads.specs.declared.act.Task.{Task}
 use Rattle.step_threads.specs.declared.half.Half.{Half}
-use Rattle.step_threads.specs.declared.half.Half.TheVariants.{Rest, Making, Locking, Giving, Brought, Saw, Matched, Refill, Returning}
+use Rattle.step_threads.specs.declared.half.Half.TheVariants.{Rest, Making, Locking, Giving, Brought, Saw, Matched, Refill, Returning, Clearing}
 use Rattle.step_table.specs.declared.holdings.Pointer.{Pointer}
 use Rattle.step_table.specs.declared.past.Deed.{Deed}
 use Rattle.step_table.specs.declared.past.Deed.TheVariants as deed
@@ -24,11 +24,13 @@ use Rattle.step_threads.specs.Endings.{staged}
 use Rattle.step_table.specs.Holdings.{inside, is_full, slot, owner_slot, place_in}
 use Rattle.step_threads.specs.Entries.{least}
 use Rattle.step_threads.specs.Scenes.{ended_by as ended_of, ended_of as ends_of, remains_as}
-use Rattle.step_threads.specs.Steps.{asks, at_rest, brings, given, Step, acts, begins, begun, claims, ends_on, first, looks, made_on, prepares, sends, sent, silent, step_at, swaps, tried, tries, trying, with_endings}
+use Rattle.step_threads.specs.Steps.{Step, acts, asks, at_rest, begins, begun, brings, claims, emptied, ends_on, first, given, looks, made_on, prepares, sends, sent, silent, step_at, swaps, tried, tries, trying, with_endings, within}
 use Rattle.step_table.specs.Stories.{Story, known, object_in, pending, state}
 use Rattle.step_table.specs.declared.cell_deed.Cell.{Cell}
+use Rattle.step_table.specs.declared.cell_deed.Cell.TheVariants.{Member}
+use Rattle.step_table.specs.Cells.{word_at}
 use Rattle.step_table.specs.Contents.{compared_in, seen}
-use Rattle.step_core.proofs.telling.Cases.{IsEach, IsEachAct, IsEachRefill, each_compares, each_matched, each_refill, each_saw, each_sees}
+use Rattle.step_core.proofs.telling.Cases.{IsEach, IsEachAct, IsEachRefill, each_compares, each_load, each_matched, each_refill, each_saw}
 use Rattle.step_core.proofs.telling.Swapping.{swapping}
 
 -- what is left by a deed: it is the last owner's leave, or nothing
@@ -163,8 +165,8 @@ each_act : (v : Story) (d : ℕ) (w : Walk) (k : ℕ) (ts : List Task) → IsEac
 each_act v d w k ts =
     record {
       none = tt;
-      load = λ c. each_cell v d w k ts (Load c) (cell_at (state v) c) refl;
-      compare = λ i c weak. each_cell v d w k ts (Compare i c weak) (cell_at (state v) c) refl;
+      load = λ c. each_cell v d w k ts (Load c) (cell_at (state v) w.slots c) refl;
+      compare = λ i c weak. each_cell v d w k ts (Compare i c weak) (cell_at (state v) w.slots c) refl;
     }
 
 each_stage : (v : Story) (w : Walk) (k : ℕ) → IsEachRefill v w k (λ (x : Step). Tells v (Some x))
@@ -190,12 +192,11 @@ first_tells v d k w ts (Offer i c) = share_tells v (offered w.slots i c)
 first_tells v d k w ts (Swap c) = going_tells v d k w ts (Swap c) (going w.slots (Swap c)) refl refl
 first_tells v d k w ts (Exchange i c) = going_tells v d k w ts (Exchange i c) (going w.slots (Exchange i c)) refl refl
 first_tells v d k w ts (Load c) =
-    each_sees v d w k ts (Load c) (cell_at (state v) c) (λ (x : Step). Tells v (Some x)) (each_cell v d w k ts (Load c) (cell_at (state v) c) refl) None
-    (seen v (cell_at (state v) c))
+    each_load v d w k ts c (λ (x : Step). Tells v (Some x)) (each_cell v d w k ts (Load c) (cell_at (state v) w.slots c) refl) refl
 first_tells v d k w ts (Compare i c weak) =
-    each_compares v d w k ts (Compare i c weak) (cell_at (state v) c) (λ (x : Step). Tells v (Some x))
-    (each_cell v d w k ts (Compare i c weak) (cell_at (state v) c) refl) (compared_in w.slots (comparing w.slots i weak))
-    (seen v (cell_at (state v) c))
+    each_compares v d w k ts (Compare i c weak) (cell_at (state v) w.slots c) (λ (x : Step). Tells v (Some x))
+    (each_cell v d w k ts (Compare i c weak) (cell_at (state v) w.slots c) refl) (compared_in w.slots (comparing w.slots i weak))
+    (seen v (cell_at (state v) w.slots c))
 first_tells v d k w ts Drop = leave_tells v (slot w.slots (other w.slots))
 
 task_tells : (v : Story) (d : ℕ) (w : Walk) (ts : List Task) → Tells v (begun v d w ts)
@@ -216,15 +217,21 @@ make_tells v d i w b f (t ∷ ts) =
 
 end_tells : (v : Story) (w : Walk) (e : Ending) (es : List Ending) → Tells v (Some (ends_on v w e es))
 end_tells v w e es =
-    cond_both (e.stage == 3)
-    (record {
+    let finished : Step = record {
       deed = Some (deed.Finish e.block (weak (state v) (object_in v e.block) == 0));
       half = Rest;
       walk = with_endings w es;
       said = silent e.statement;
-    })
-    (record { deed = Some (deed.Clear e.block e.stage); half = Rest; walk = with_endings w (staged e ∷ es); said = silent e.statement })
-    (λ (x : Step). Tells v (Some x)) (λ c. refl) (λ c. refl)
+    } in
+    let cleared = within (with_endings w (staged e ∷ es)) e.statement (Some (deed.Clear e.block e.stage)) Rest in
+    let looked = within w e.statement None Clearing in
+    cond_both (e.stage == 3) finished (cond (word_at v (Member e.block e.stage) == 0) cleared looked) (λ (x : Step). Tells v (Some x)) (λ c. refl)
+    (λ c. cond_both (word_at v (Member e.block e.stage) == 0) cleared looked (λ (x : Step). Tells v (Some x)) (λ b. refl) (λ b. refl))
+
+-- what comes out of a member leaves later
+out_tells : (v : Story) (w : Walk) (es : List Ending) → Tells v (emptied v w es)
+out_tells v w [] = tt
+out_tells v w (e ∷ es) = refl
 
 rest_tells : (v : Story) (d : ℕ) (w : Walk) (es : List Ending) → Tells v (at_rest v d w es)
 rest_tells v d w [] = task_tells v d w w.todo
@@ -242,3 +249,4 @@ step_tells v d (Saw x) w = each_saw v d w (Tells v) x w.todo tt (λ t us e. each
 step_tells v d (Matched x) w = each_matched v d w (Tells v) x w.todo tt (λ t us e. each_act v d w t.statement us)
 step_tells v d (Refill stage c x k) w = each_refill v w k (Tells v) tt (each_stage v w k) stage c x x.owned
 step_tells v d (Returning kind b funds k) w = refl
+step_tells v d Clearing w = out_tells v w w.endings

@@ -1,36 +1,37 @@
 -- How many steps a thread has left, step by step.
 use Rattle.std.proofs.Common.{◌≡◌, ℕ, ◌+◌, ◌<◌, ◌≤◌, ◌==◌, Bool, true, false, cond, List, [], ◌∷◌, get_or, refl, sym, ap, ◌∙◌, arith}
-use Rattle.std.specs.Prelude.{All, Option, Some, None, is_some, option_map}
+use Rattle.std.specs.Prelude.{Option, Some, None, is_some, option_map}
 use Rattle.std.proofs.lemmas.Bool.{cond_both, eqb-false, false≢true}
 use Rattle.std.proofs.lemmas.List.Elements.{All-head}
 use Rattle.control_word.specs.declared.handle.Kind.{Kind}
 use Rattle.control_word.specs.declared.place.Block.{Block}
-use Rattle.control_word.specs.State.{weak}
 use Rattle.step_threads.specs.declared.act.Act.{Act}
 use Rattle.step_table.specs.declared.form.Form.{Form}
 use Rattle.step_threads.specs.declared.act.Act.TheVariants.{Make, Share, Downgrade, Lock, Put, Leave, Clear, Count, Expired, Read, FromThis, Alias, Move, Ask, Offer, Swap, Exchange, Load, Compare, Drop}
 use Rattle.step_threads.specs.declared.act.Task.{Task}
 use Rattle.step_threads.specs.declared.ending.Ending.{Ending}
 use Rattle.step_threads.specs.declared.half.Half.{Half}
-use Rattle.step_threads.specs.declared.half.Half.TheVariants.{Rest, Making, Locking, Giving, Brought, Saw, Matched, Refill, Returning}
+use Rattle.step_threads.specs.declared.half.Half.TheVariants.{Rest, Making, Locking, Giving, Brought, Saw, Matched, Refill, Returning, Clearing}
 use Rattle.step_table.specs.declared.holdings.Pointer.{Pointer}
 use Rattle.step_table.specs.declared.past.Deed.TheVariants as deed
 use Rattle.step_threads.specs.Actors.{wanted}
 use Rattle.step_core.specs.Bounds.{alone, lock_word, spare, walk_steps, weight}
 use Rattle.control_word.specs.declared.cell.CellWord.{CellWord}
 use Rattle.step_table.specs.Contents.{seen}
-use Rattle.step_threads.specs.Courses.{Going, HasCell, Walk, cell_at, form_of, going, hand, kind_at, locked, offered, on_going, other, settled}
+use Rattle.step_threads.specs.Courses.{Going, HasCell, Walk, cell_at, form_of, going, hand, idle, kind_at, locked, offered, on_going, other, settled}
 use Rattle.step_table.specs.Deeds.{alias, aliased, downgrade, give, is_enabled, lock, owner_word, read, share, tell, tell_expired, on}
-use Rattle.step_threads.specs.Endings.{staged}
+use Rattle.step_threads.specs.Endings.{EndsAll, IsEnding}
 use Rattle.step_table.specs.Holdings.{Holds, inside, is_full, owner_slot, place_in, slot}
 use Rattle.step_threads.specs.Entries.{least}
 use Rattle.step_threads.specs.Scenes.{holding, left as leaves_by, went}
 use Rattle.step_threads.specs.Steps.{Step, acts, asks, at_rest, begins, begun, brings, claims, ends_on, first, given, gives_back, looks, made_on, prepares}
-use Rattle.step_threads.specs.Steps.{sends, sent, silent, step_at, stepped as stepped_by, story_after, swaps, tried, tries, trying, waits, waits_at, waits_on, with_endings}
+use Rattle.step_threads.specs.Steps.{sends, sent, silent, step_at, stepped as stepped_by, story_after, swaps, tried, tries, trying, waits, waits_at, waits_on}
 use Rattle.step_table.specs.Stories.{Kept, Story, known, object_in, pending, state}
 use Rattle.step_core.specs.Told.{is_prepared}
-use Rattle.step_core.specs.Turning.{IsAlone, IsInShape, IsLock, IsOut, IsSwap, IsTried, IsUnderWay}
-use Rattle.step_core.proofs.telling.Walking.{IsFree, carried_leaves, over_less, settled_alone, staged_less, walk_alone, weight_two, went_less}
+use Rattle.step_core.specs.Turning.{IsAlone, IsInShape, IsLock, IsOut, IsStill, IsSwap, IsTried, IsUnderWay}
+use Rattle.step_core.proofs.runs.Clearing.{end_less, out_less}
+use Rattle.step_core.proofs.runs.Trying.{alone_back}
+use Rattle.step_core.proofs.telling.Walking.{carried_leaves, settled_alone, walk_alone, weight_two, went_less}
 use Rattle.step_core.proofs.telling.Swapping.{went_swap}
 use Rattle.step_core.proofs.runs.Alone.{IsLess, Lessens, alone_of_lock, alone_other, alone_same, left_less, none_made, one_made, plain_less}
 use Rattle.step_core.proofs.runs.Looking.{compare_less, load_less, refill_less, seen_less, swapping_less}
@@ -84,27 +85,19 @@ give_less v d i q x w [] none is way = absurd way
 give_less v d i q x w (t ∷ ts) none is way =
     plain_less v d t.statement (Giving i q x) w t ts (FromThis i q) (Some (give q x)) refl refl none is (omega arith) (omega arith)
 
--- what comes out of a cell is given back, or nothing is
-spare_back : (q : Kind) (k : ℕ) (x : CellWord) (o : Option Block) → spare (gives_back q k x o) ≡ 15
-spare_back q k x None = refl
-spare_back q k x (Some b) = refl
-
-alone_back : (v : Story) (w : Walk) (q : Kind) (k : ℕ) (x : CellWord) (o : Option Block) → alone v w (gives_back q k x o) ≤ 16
-alone_back v w q k x None = omega arith
-alone_back v w q k x (Some b) = omega arith
-
 -- a value goes into a cell
 swapped_less : (v : Story) (d k : ℕ) (h : Half) (w : Walk) (t : Task) (ts : List Task) (a : Act) (x : Going) → is_prepared h ≡ false
     → w.endings ≡ [] → w.todo ≡ t ∷ ts → t.act ≡ a → going w.slots a ≡ Some x → 14 ≤ alone v w h → 15 ≤ spare h
     → IsLess v d h w (Some (swaps v d w k ts a x.0 x.1))
 swapped_less v d k h w t ts a x unmade none is same goes own most =
     let y = swaps v d w k ts a x.0 x.1 in
-    let found = seen v (cell_at (state v) x.0) in
+    let found = seen v (cell_at (state v) w.slots x.0) in
     let l = went_swap (state v) d k w t ts a x none is same goes in
     let m = none_made h (stepped_by v (Some y)) unmade in
     let r = alone_back (story_after v d y.deed) y.walk (kind_at x.0) k found found.owned in
-    let s = spare_back (kind_at x.0) k found found.owned in
-    record { own = omega (arith, l, m, own, r); most = omega (arith, l, m, most, s) }
+    let b = r.0 in
+    let s = r.1 in
+    record { own = omega (arith, l, m, own, b); most = omega (arith, l, m, most, s) }
 
 -- its funds are brought first, where it has an object
 brought_less : (v : Story) (d k : ℕ) (w : Walk) (t : Task) (ts : List Task) (a : Act) (x : Going) → w.endings ≡ [] → w.todo ≡ t ∷ ts
@@ -129,75 +122,58 @@ sent_less v d w (t ∷ ts) none is held = go (going w.slots t.act) refl held
     go (Some x) goes some = swapped_less v d t.statement Brought w t ts t.act x refl none is refl goes (omega arith) (omega arith)
 
 first_less : (v : Story) (d k : ℕ) (w : Walk) (t : Task) (ts : List Task) (a : Act) → Kept v → d < v.extent.actors → Holds d w.slots v
-    → w.endings ≡ [] → w.todo ≡ t ∷ ts → t.act ≡ a → HasCell v.extent.shape a → waits_on v w a ≡ false
+    → w.endings ≡ [] → w.todo ≡ t ∷ ts → t.act ≡ a → HasCell v.extent.shape a → idle a w.slots w.taken ≡ false → waits_on v w a ≡ false
     → IsLess v d Rest w (Some (first v d w k ts a))
-first_less v d k w t ts (Make form) kept seat holds none is same has calm = begun_less v d k w t ts (least d (state v).stores) none is
-first_less v d k w t ts (Put i) kept seat holds none is same has calm =
+first_less v d k w t ts (Make form) kept seat holds none is same has still calm = begun_less v d k w t ts (least d (state v).stores) none is
+first_less v d k w t ts (Put i) kept seat holds none is same has still calm =
     left_less v d k w (went (state v) d w k ts (Put i)) (slot w.slots i) (went_less (state v) d k w t ts (Put i) none is)
-first_less v d k w t ts (Leave i) kept seat holds none is same has calm =
+first_less v d k w t ts (Leave i) kept seat holds none is same has still calm =
     left_less v d k w (went (state v) d w k ts (Leave i)) (slot w.slots i) (went_less (state v) d k w t ts (Leave i) none is)
-first_less v d k w t ts (Clear i) kept seat holds none is same has calm =
+first_less v d k w t ts (Clear i) kept seat holds none is same has still calm =
     left_less v d k w (went (state v) d w k ts (Clear i)) (slot w.slots i) (went_less (state v) d k w t ts (Clear i) none is)
-first_less v d k w t ts (Lock i must) kept seat holds none is same has calm = looked_less v d k w t ts i must (locked w.slots (Lock i must)) none is same refl
-first_less v d k w t ts (FromThis i kind) kept seat holds none is same has calm = asked_less v d k w t ts i kind (inside (slot w.slots i)) none is
-first_less v d k w t ts (Share i) kept seat holds none is same has calm =
+first_less v d k w t ts (Lock i must) kept seat holds none is same has still calm = looked_less v d k w t ts i must (locked w.slots (Lock i must)) none is same refl
+first_less v d k w t ts (FromThis i kind) kept seat holds none is same has still calm = asked_less v d k w t ts i kind (inside (slot w.slots i)) none is
+first_less v d k w t ts (Share i) kept seat holds none is same has still calm =
     plain_less v d k Rest w t ts (Share i) (option_map share (slot w.slots i)) refl refl none is (omega arith) (omega arith)
-first_less v d k w t ts (Downgrade i) kept seat holds none is same has calm =
+first_less v d k w t ts (Downgrade i) kept seat holds none is same has still calm =
     plain_less v d k Rest w t ts (Downgrade i) (option_map downgrade (slot w.slots i)) refl refl none is (omega arith) (omega arith)
-first_less v d k w t ts (Count i) kept seat holds none is same has calm =
+first_less v d k w t ts (Count i) kept seat holds none is same has still calm =
     plain_less v d k Rest w t ts (Count i) (option_map (tell v) (slot w.slots i)) refl refl none is (omega arith) (omega arith)
-first_less v d k w t ts (Expired i) kept seat holds none is same has calm =
+first_less v d k w t ts (Expired i) kept seat holds none is same has still calm =
     plain_less v d k Rest w t ts (Expired i) (option_map (tell_expired (state v)) (slot w.slots i)) refl refl none is (omega arith) (omega arith)
-first_less v d k w t ts (Read i) kept seat holds none is same has calm =
+first_less v d k w t ts (Read i) kept seat holds none is same has still calm =
     plain_less v d k Rest w t ts (Read i) (option_map (read (state v)) (inside (slot w.slots i))) refl refl none is (omega arith) (omega arith)
-first_less v d k w t ts (Alias i j field) kept seat holds none is same has calm =
+first_less v d k w t ts (Alias i j field) kept seat holds none is same has still calm =
     plain_less v d k Rest w t ts (Alias i j field) (option_map (alias (aliased field (place_in w.slots j))) (owner_slot (slot w.slots i))) refl refl none is (omega arith) (omega arith)
-first_less v d k w t ts (Move i) kept seat holds none is same has calm =
+first_less v d k w t ts (Move i) kept seat holds none is same has still calm =
     plain_less v d k Rest w t ts (Move i) None refl refl none is (omega arith) (omega arith)
-first_less v d k w t ts (Ask q) kept seat holds none is same has calm =
+first_less v d k w t ts (Ask q) kept seat holds none is same has still calm =
     plain_less v d k Rest w t ts (Ask q) None refl refl none is (omega arith) (omega arith)
-first_less v d k w t ts (Offer i c) kept seat holds none is same has calm =
+first_less v d k w t ts (Offer i c) kept seat holds none is same has still calm =
     plain_less v d k Rest w t ts (Offer i c) (option_map share (offered w.slots i c)) refl refl none is (omega arith) (omega arith)
-first_less v d k w t ts (Swap c) kept seat holds none is same has calm = going_less v d k w t ts (Swap c) (going w.slots (Swap c)) none is same refl refl
-first_less v d k w t ts (Exchange i c) kept seat holds none is same has calm = going_less v d k w t ts (Exchange i c) (going w.slots (Exchange i c)) none is same refl refl
-first_less v d k w t ts (Load c) kept seat holds none is same has calm = load_less v d w kept seat holds k t ts c none is same has calm
-first_less v d k w t ts (Compare i c weak) kept seat holds none is same has calm =
-    compare_less v d w kept seat holds k t ts i c weak none is same has calm
-first_less v d k w t ts Drop kept seat holds none is same has calm =
+first_less v d k w t ts (Swap c) kept seat holds none is same has still calm = going_less v d k w t ts (Swap c) (going w.slots (Swap c)) none is same refl refl
+first_less v d k w t ts (Exchange i c) kept seat holds none is same has still calm = going_less v d k w t ts (Exchange i c) (going w.slots (Exchange i c)) none is same refl refl
+first_less v d k w t ts (Load c) kept seat holds none is same has still calm = load_less v d w kept seat holds k t ts c none is same has calm
+first_less v d k w t ts (Compare i c weak) kept seat holds none is same has still calm =
+    compare_less v d w kept seat holds k t ts i c weak none is same has still calm
+first_less v d k w t ts Drop kept seat holds none is same has still calm =
     left_less v d k w (went (state v) d w k ts Drop) (slot w.slots (other w.slots)) (went_less (state v) d k w t ts Drop none is)
 
 task_less : (v : Story) (d : ℕ) (w : Walk) (ts : List Task) → Kept v → d < v.extent.actors → Holds d w.slots v → w.endings ≡ [] → w.todo ≡ ts
-    → IsInShape v.extent.shape ts → waits_at v w [] ts ≡ false → IsLess v d Rest w (begun v d w ts)
-task_less v d w [] kept seat holds none is has calm = (is, none, refl)
-task_less v d w (t ∷ ts) kept seat holds none is has calm = first_less v d t.statement w t ts t.act kept seat holds none is refl has calm
-
--- the ending begun last goes on
-end_less : (v : Story) (d : ℕ) (w : Walk) (e : Ending) (es : List Ending) → w.endings ≡ e ∷ es → IsFree w.slots → e.stage ≤ 3
-    → IsLess v d Rest w (Some (ends_on v w e es))
-end_less v d w e es is free le =
-    cond_both (e.stage == 3)
-    (record {
-      deed = Some (deed.Finish e.block (weak (state v) (object_in v e.block) == 0));
-      half = Rest;
-      walk = with_endings w es;
-      said = silent e.statement;
-    })
-    (record { deed = Some (deed.Clear e.block e.stage); half = Rest; walk = with_endings w (staged e ∷ es); said = silent e.statement })
-    (λ (x : Step). IsLess v d Rest w (Some x)) (λ _. let a = over_less w e es is free in record { own = omega (arith, a); most = omega (arith, a) })
-    (λ ne.
-    let n = eqb-false e.stage 3 ne in
-    let a = staged_less w e es is free (omega (arith, le, n)) in
-    record { own = omega (arith, a); most = omega (arith, a) })
+    → IsInShape v.extent.shape ts → IsStill w ts → waits_at v w [] ts ≡ false → IsLess v d Rest w (begun v d w ts)
+task_less v d w [] kept seat holds none is has still calm = (is, none, refl)
+task_less v d w (t ∷ ts) kept seat holds none is has still calm =
+    first_less v d t.statement w t ts t.act kept seat holds none is refl has still calm
 
 rest_less : (v : Story) (d : ℕ) (w : Walk) (es : List Ending) → Kept v → d < v.extent.actors → Holds d w.slots v → w.endings ≡ es
-    → All (λ (e : Ending). e.stage ≤ 3) es → IsInShape v.extent.shape w.todo → waits_at v w es w.todo ≡ false → IsLess v d Rest w (at_rest v d w es)
-rest_less v d w [] kept seat holds is staged has calm = task_less v d w w.todo kept seat holds is refl has calm
-rest_less v d w (e ∷ es) kept seat holds is staged has calm =
+    → EndsAll d es v → IsInShape v.extent.shape w.todo → IsStill w w.todo → waits_at v w es w.todo ≡ false → IsLess v d Rest w (at_rest v d w es)
+rest_less v d w [] kept seat holds is ends has still calm = task_less v d w w.todo kept seat holds is refl has still calm
+rest_less v d w (e ∷ es) kept seat holds is ends has still calm =
     cond_both (is_full (slot w.slots (hand w.slots))) (first v d w e.statement w.todo (Leave (hand w.slots))) (ends_on v w e es)
     (λ (x : Step). IsLess v d Rest w (Some x))
     (λ full. left_less v d e.statement w (went (state v) d w e.statement w.todo (Leave (hand w.slots))) (slot w.slots (hand w.slots))
     (carried_leaves (state v) d e.statement w e es is full))
-    (λ free. end_less v d w e es is free (All-head (λ (x : Ending). x.stage ≤ 3) e es staged))
+    (λ free. end_less v d w e es is free (All-head (λ (x : Ending). IsEnding d x v) e es ends.each).within)
 
 prepared_less : (v : Story) (d found want k i : ℕ) (w : Walk) (b : Block) (f : Bool) → i ≤ 5 → (i ≡ 5 → ⊥)
     → IsLess v d (Making b i f) w (Some (prepares found want w k b i f))
@@ -272,14 +248,15 @@ lock_less v d word w (t ∷ ts) none is full = tried_less v d word w t ts t.act 
 
 -- each step that isn't the last is one less, where the thread hasn't to wait
 module _ (v : Story) (d : ℕ) (w : Walk) (kept : Kept v) (seat : d < v.extent.actors) (holds : Holds d w.slots v) where
-  pub less : (h : Half) → IsUnderWay d v h w.todo → IsTried h w → IsAlone h w.endings → All (λ (e : Ending). e.stage ≤ 3) w.endings
-      → IsInShape v.extent.shape w.todo → IsOut d v h → waits v h w ≡ false → IsLess v d h w (step_at v d h w)
-  less Rest way held none staged has out calm = rest_less v d w w.endings kept seat holds refl staged has calm
-  less (Making b i f) way held none staged has out calm = make_less v d i w b f w.todo none refl way
-  less (Locking word) way held none staged has out calm = lock_less v d word w w.todo none refl held
-  less (Giving i kind x) way held none staged has out calm = give_less v d i kind x w w.todo none refl way
-  less Brought way held none staged has out calm = sent_less v d w w.todo none refl held
-  less (Saw x) way held none staged has out calm = seen_less v d w kept seat holds x w.todo none refl held
-  less (Matched x) way held none staged has out calm = swapping_less v d w kept seat holds x w.todo none refl held
-  less (Refill s c x k) way held none staged has out calm = refill_less v d w kept seat holds s c x k x.owned refl out
-  less (Returning kind b funds k) way held none staged has out calm = record { own = omega arith; most = omega arith }
+  pub less : (h : Half) → IsUnderWay d v h w.todo → IsTried h w → IsAlone h w.endings → EndsAll d w.endings v
+      → IsInShape v.extent.shape w.todo → IsStill w w.todo → IsOut d v h → waits v h w ≡ false → IsLess v d h w (step_at v d h w)
+  less Rest way held none ends has still out calm = rest_less v d w w.endings kept seat holds refl ends has still calm
+  less (Making b i f) way held none ends has still out calm = make_less v d i w b f w.todo none refl way
+  less (Locking word) way held none ends has still out calm = lock_less v d word w w.todo none refl held
+  less (Giving i kind x) way held none ends has still out calm = give_less v d i kind x w w.todo none refl way
+  less Brought way held none ends has still out calm = sent_less v d w w.todo none refl held
+  less (Saw x) way held none ends has still out calm = seen_less v d w kept seat holds x w.todo none refl has still held
+  less (Matched x) way held none ends has still out calm = swapping_less v d w kept seat holds x w.todo none refl held
+  less (Refill s c x k) way held none ends has still out calm = refill_less v d w kept seat holds s c x k x.owned refl out
+  less (Returning kind b funds k) way held none ends has still out calm = record { own = omega arith; most = omega arith }
+  less Clearing way held none ends has still out calm = out_less v d w w.endings refl held

@@ -47,7 +47,7 @@ living_by : (d : ℕ) (u : Sight) → HasBegun d u → Kept (story_by u.story d 
     → living (sight_by d u (step_of d u)) + ends_by (stepped u.story (step_of d u)) ≤ living u + makes (half_of u d) (stepped u.story (step_of d u))
 living_by d u begun kept =
     let x = step_of d u in
-    let c = counted u.story d (half_of u d) (walk_of (scene u) d) begun.half begun.alone in
+    let c = counted u.story d (half_of u d) (walk_of (scene u) d) begun.half begun.tried begun.alone in
     let law = ended_few (opening (story_by u.story d x).extent) (story_by u.story d x).history kept.stands.legal in
     let m = c.made in
     let e = c.ended in
@@ -107,8 +107,8 @@ calm_by d u r e never = go (waits u.story (half_of u d) (walk_of (scene u) d)) r
 left : (d : ℕ) (u : Sight) → HasBegun d u → waits u.story (half_of u d) (walk_of (scene u) d) ≡ false
     → IsLess u.story d (half_of u d) (walk_of (scene u) d) (step_of d u)
 left d u begun calm =
-    less u.story d (walk_of (scene u) d) begun.kept begun.seat begun.holds (half_of u d) begun.half begun.tried begun.alone begun.staged
-    begun.cell begun.out calm
+    less u.story d (walk_of (scene u) d) begun.kept begun.seat begun.holds (half_of u d) begun.half begun.tried begun.alone begun.ends begun.cell
+    begun.still begun.out calm
 
 -- a step at the end changes nothing
 pub at_end : (d : ℕ) (u u' : Sight) → HasBegun d u → Steps d u Done u' → (u' ≡ u) × IsOver d u

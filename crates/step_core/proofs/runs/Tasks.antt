@@ -4,7 +4,7 @@ use Rattle.std.specs.Prelude.{Some, slice_get, sum_by}
 use Rattle.std.proofs.lemmas.List.{length-map}
 use Rattle.std.proofs.lemmas.List.Sums.{sum_by-cons}
 use Rattle.step_threads.specs.declared.half.Half.{Half}
-use Rattle.step_threads.specs.declared.half.Half.TheVariants.{Rest, Making, Locking, Giving, Brought, Saw, Matched, Refill, Returning}
+use Rattle.step_threads.specs.declared.half.Half.TheVariants.{Rest, Making, Locking, Giving, Brought, Saw, Matched, Refill, Returning, Clearing}
 use Rattle.step_threads.specs.declared.thread.Thread.{Thread}
 use Rattle.step_core.specs.Bounds.{left_to_do, living, most_steps, spare, steps_of, walk_steps}
 use Rattle.step_table.specs.Stories.{Kept, Story}
@@ -37,13 +37,14 @@ spare_most (Saw x) = omega arith
 spare_most (Matched x) = omega arith
 spare_most (Refill stage c x k) = omega arith
 spare_most (Returning kind b funds k) = omega arith
+spare_most Clearing = omega arith
 
 spares : (halves : List Half) → sum_by spare halves ≤ 22 * length halves
 spares [] = omega arith
 spares (h ∷ hs) = let a = sum_by-cons spare h hs in let m = spare_most h in let i = spares hs in omega (arith, a, m, i)
 
 pub enough : (v : Story) (threads : List Thread)
-    → most_steps (sight v threads) + 3 * length (map thread_walk threads) ≤ sum_by steps_of threads + 26 * length threads + 13 * living (sight v threads)
+    → most_steps (sight v threads) + 6 * length (map thread_walk threads) ≤ sum_by steps_of threads + 29 * length threads + 13 * living (sight v threads)
 enough v threads =
     let a = (all_steps threads).0 in
     let b = spares (map thread_half threads) in

@@ -42,7 +42,7 @@ alone_missed : (v : Story) (w : Walk) (k : ℕ) (o : Option Pointer) → (alone 
 alone_missed v w k None = (omega arith, omega arith)
 alone_missed v w k (Some x) = (omega arith, omega arith)
 
-alone_back : (v : Story) (w : Walk) (q : Kind) (k : ℕ) (x : CellWord) (o : Option Block) → (alone v w (gives_back q k x o) ≤ 16) × (spare (gives_back q k x o) ≤ 15)
+pub alone_back : (v : Story) (w : Walk) (q : Kind) (k : ℕ) (x : CellWord) (o : Option Block) → (alone v w (gives_back q k x o) ≤ 16) × (spare (gives_back q k x o) ≤ 15)
 alone_back v w q k x None = (omega arith, omega arith)
 alone_back v w q k x (Some b) = (omega arith, omega arith)
 
@@ -55,16 +55,16 @@ module _ (v : Story) (d k : ℕ) (w : Walk) (t : Task) (ts : List Task) (a : Act
       let j : weight t.act ≡ 7 = ap weight same ∙ heavy in
       omega (arith, l, j)
 
-  shown : (x : CellWord) (c : Cell) → shows_on v x a ≡ (word_at v c == cell_bits x) → shows_next v x w.todo ≡ (word_at v c == cell_bits x)
-  shown x c e = ap (shows_next v x) is ∙ ap (shows_on v x) same ∙ e
+  shown : (x : CellWord) (c : Cell) → shows_on v w.slots x a ≡ (word_at v c == cell_bits x) → shows_next v w.slots x w.todo ≡ (word_at v c == cell_bits x)
+  shown x c e = ap (shows_next v w.slots x) is ∙ ap (shows_on v w.slots x) same ∙ e
 
   -- a cell is looked at, and what it shows is tried next
-  tries_next : (c : Cell) (x : CellWord) → shows_on v x a ≡ (word_at v c == cell_bits x) → (word_at v c == cell_bits x) ≡ true
+  tries_next : (c : Cell) (x : CellWord) → shows_on v w.slots x a ≡ (word_at v c == cell_bits x) → (word_at v c == cell_bits x) ≡ true
       → IsLess v d Rest w (Some (within w k None (Saw x)))
   tries_next c x on_act shows =
       let s = alone_saw v w x true (shown x c on_act ∙ shows) in record { own = omega (arith, s); most = omega arith }
 
-  pub sees_less : (c : Cell) (y : Option Compared) (x : CellWord) → is_spent x ≡ false → shows_on v x a ≡ (word_at v c == cell_bits x)
+  pub sees_less : (c : Cell) (y : Option Compared) (x : CellWord) → is_spent x ≡ false → shows_on v w.slots x a ≡ (word_at v c == cell_bits x)
       → (word_at v c == cell_bits x) ≡ true → IsLess v d Rest w (Some (sees v d w k ts a c y x))
   sees_less c y x left on_act shows =
       cond_both (is_spent x) (within w k None Rest)
@@ -75,7 +75,7 @@ module _ (v : Story) (d k : ℕ) (w : Walk) (t : Task) (ts : List Task) (a : Act
       (λ e. plain_less v d k Rest w t ts a (Some (deed.OnCell (cell_deed.Look c x y))) refl stays none is (omega arith) (omega arith)))
 
   pub compares_less : (c : Cell) (y : Compared) (x : CellWord) → (not (same_value x y.expected) && is_spent x) ≡ false
-      → shows_on v x a ≡ (word_at v c == cell_bits x) → (word_at v c == cell_bits x) ≡ true
+      → shows_on v w.slots x a ≡ (word_at v c == cell_bits x) → (word_at v c == cell_bits x) ≡ true
       → IsLess v d Rest w (Some (compares v d w k ts a c y x))
   compares_less c y x left on_act shows =
       cond_both (same_value x y.expected) (within w k None (Saw x)) (sees v d w k ts a c (Some y) x)
@@ -83,7 +83,7 @@ module _ (v : Story) (d k : ℕ) (w : Walk) (t : Task) (ts : List Task) (a : Act
       (λ e. sees_less c (Some y) x (ap (λ (b : Bool). not b && is_spent x) (sym e) ∙ left) on_act shows)
 
   -- a fund is taken, where the cell shows the same still
-  pub takes_less : (c : Cell) (y : Option Compared) (x : CellWord) → shows_on v x a ≡ (word_at v c == cell_bits x)
+  pub takes_less : (c : Cell) (y : Option Compared) (x : CellWord) → shows_on v w.slots x a ≡ (word_at v c == cell_bits x)
       → IsLess v d (Saw x) w (Some (takes v d w k ts a c y x))
   takes_less c y x on_act =
       let done = acts v d w k ts a (Some (deed.OnCell (cell_deed.Take c x y))) (Refill Turning c (more_taken x) k) in
@@ -119,20 +119,20 @@ module _ (v : Story) (d k : ℕ) (w : Walk) (t : Task) (ts : List Task) (a : Act
       record { own = omega (arith, b, high); most = omega (arith, f, keeps) })
 
   -- what is to go in has its funds brought first, and what the cell showed is shown still
-  fetches_less : (c : Cell) (y : Compared) (x : CellWord) → shows_on v x a ≡ (word_at v c == cell_bits x)
+  fetches_less : (c : Cell) (y : Compared) (x : CellWord) → shows_on v w.slots x a ≡ (word_at v c == cell_bits x)
       → ((p : Pointer) → slot w.slots (hand w.slots) ≡ Some p
-      → shows_next (story_after v d (fetches w k x p).deed) x w.todo ≡ shows_next v x w.todo)
+      → shows_next (story_after v d (fetches w k x p).deed) w.slots x w.todo ≡ shows_next v w.slots x w.todo)
       → (o : Option Pointer) → slot w.slots (hand w.slots) ≡ o → IsLess v d (Saw x) w (Some (on (fetches w k x) (matches v d w k ts a c y x) o))
   fetches_less c y x on_act keeps None e =
       matches_less (Saw x) c y x refl refl
       (λ s. let z = alone_saw v w x true (shown x c on_act ∙ s) in omega (arith, z))
       (λ s. let z = alone_saw v w x false (shown x c on_act ∙ s) in omega (arith, z))
-  fetches_less c y x on_act keeps (Some p) e = go (shows_next v x w.todo) refl
+  fetches_less c y x on_act keeps (Some p) e = go (shows_next v w.slots x w.todo) refl
     where
       next : Story
       next = story_after v d (fetches w k x p).deed
 
-      go : (b : Bool) → shows_next v x w.todo ≡ b → IsLess v d (Saw x) w (Some (fetches w k x p))
+      go : (b : Bool) → shows_next v w.slots x w.todo ≡ b → IsLess v d (Saw x) w (Some (fetches w k x p))
       go true shows =
           let a = alone_saw v w x true shows in let b = alone_matched next w x true (keeps p e ∙ shows) in
           record { own = omega (arith, a, b); most = omega arith }
@@ -140,16 +140,16 @@ module _ (v : Story) (d k : ℕ) (w : Walk) (t : Task) (ts : List Task) (a : Act
           let a = alone_saw v w x false other in let b = alone_matched next w x false (keeps p e ∙ other) in
           record { own = omega (arith, a, b); most = omega arith }
 
-  pub settles_less : (c : Cell) (y : Compared) (x : CellWord) → shows_on v x a ≡ (word_at v c == cell_bits x)
+  pub settles_less : (c : Cell) (y : Compared) (x : CellWord) → shows_on v w.slots x a ≡ (word_at v c == cell_bits x)
       → ((p : Pointer) → slot w.slots (hand w.slots) ≡ Some p
-      → shows_next (story_after v d (fetches w k x p).deed) x w.todo ≡ shows_next v x w.todo)
+      → shows_next (story_after v d (fetches w k x p).deed) w.slots x w.todo ≡ shows_next v w.slots x w.todo)
       → IsLess v d (Saw x) w (Some (settles v d w k ts a c y x))
   settles_less c y x on_act keeps =
       cond_both (same_value x y.expected) (on (fetches w k x) (matches v d w k ts a c y x) (slot w.slots (hand w.slots)))
       (takes v d w k ts a c (Some y) x) (λ (s : Step). IsLess v d (Saw x) w (Some s))
       (λ e. fetches_less c y x on_act keeps (slot w.slots (hand w.slots)) refl) (λ e. takes_less c (Some y) x on_act)
 
-  pub matched_less : (c : Cell) (y : Compared) (x : CellWord) → shows_on v x a ≡ (word_at v c == cell_bits x)
+  pub matched_less : (c : Cell) (y : Compared) (x : CellWord) → shows_on v w.slots x a ≡ (word_at v c == cell_bits x)
       → IsLess v d (Matched x) w (Some (matches v d w k ts a c y x))
   matched_less c y x on_act =
       matches_less (Matched x) c y x refl refl

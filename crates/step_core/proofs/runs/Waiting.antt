@@ -7,7 +7,7 @@ use Rattle.step_threads.specs.declared.act.Act.TheVariants.{Make, Share, Downgra
 use Rattle.step_threads.specs.declared.act.Task.{Task}
 use Rattle.step_threads.specs.declared.ending.Ending.{Ending}
 use Rattle.step_threads.specs.declared.half.Half.{Half}
-use Rattle.step_threads.specs.declared.half.Half.TheVariants.{Rest, Making, Locking, Giving, Brought, Saw, Matched, Refill, Returning}
+use Rattle.step_threads.specs.declared.half.Half.TheVariants.{Rest, Making, Locking, Giving, Brought, Saw, Matched, Refill, Returning, Clearing}
 use Rattle.step_threads.specs.declared.said.Stepped.{Stepped}
 use Rattle.step_threads.specs.declared.said.Stepped.TheVariants.{Waited}
 use Rattle.step_table.specs.declared.cell_deed.CellDeed.TheVariants as cell_deed
@@ -15,7 +15,7 @@ use Rattle.step_table.specs.declared.past.Deed.TheVariants as deed
 use Rattle.step_table.specs.Contents.{as_word, compared_in, is_spent, same_value, seen}
 use Rattle.step_table.specs.Holdings.{value}
 use Rattle.step_table.specs.Stories.{Story, state}
-use Rattle.step_threads.specs.Courses.{Walk, cell_at, comparing}
+use Rattle.step_threads.specs.Courses.{Walk, cell_at, comparing, is_there}
 use Rattle.step_threads.specs.Scenes.{walk_of}
 use Rattle.step_threads.specs.Steps.{Step, acts, at_rest, begun, first, step_at, stepped, story_after, story_by, waits, waits_at, waits_on, within}
 use Rattle.step_core.specs.Worlds.{Sight, Steps, half_of, scene, step_of}
@@ -28,6 +28,11 @@ spent : (v : Story) (d k : ℕ) (w : Walk) (x : Step) (b : Bool) → Quiet v d b
 spent v d k w x true e = refl
 spent v d k w x false e = absurd (false≢true e)
 
+guarded : (v : Story) (d k : ℕ) (w : Walk) (x y : Step) (there b : Bool)
+    → Quiet v d (there && b) (story_after v d (cond there (cond b (within w k None Rest) x) y).deed)
+guarded v d k w x y true b e = spent v d k w x b e
+guarded v d k w x y false b e = absurd (false≢true e)
+
 differs : (v : Story) (d k : ℕ) (w : Walk) (x y : Step) (same b : Bool)
     → Quiet v d (not same && b) (story_after v d (cond same y (cond b (within w k None Rest) x)).deed)
 differs v d k w x y true b e = absurd (false≢true e)
@@ -35,12 +40,12 @@ differs v d k w x y false b e = spent v d k w x b e
 
 act_quiet : (v : Story) (d k : ℕ) (w : Walk) (ts : List Task) (a : Act) → Quiet v d (waits_on v w a) (story_after v d (first v d w k ts a).deed)
 act_quiet v d k w ts (Load c) e =
-    let z = cell_at (state v) c in
+    let z = cell_at (state v) w.slots c in
     let x = seen v z in
-    spent v d k w (cond (is_some x.owned) (within w k None (Saw x)) (acts v d w k ts (Load c) (Some (deed.OnCell (cell_deed.Look z x None))) Rest))
-    (is_spent x) e
+    guarded v d k w (cond (is_some x.owned) (within w k None (Saw x)) (acts v d w k ts (Load c) (Some (deed.OnCell (cell_deed.Look z x None))) Rest))
+    (acts v d w k ts (Load c) None Rest) (is_there w.slots c) (is_spent x) e
 act_quiet v d k w ts (Compare i c weak) e =
-    let z = cell_at (state v) c in
+    let z = cell_at (state v) w.slots c in
     let x = seen v z in
     let y = compared_in w.slots (comparing w.slots i weak) in
     let look = acts v d w k ts (Compare i c weak) (Some (deed.OnCell (cell_deed.Look z x (Some y)))) Rest in
@@ -81,6 +86,7 @@ quiet v d (Saw x) w e = absurd (false≢true e)
 quiet v d (Matched x) w e = absurd (false≢true e)
 quiet v d (Refill stage c x k) w e = absurd (false≢true e)
 quiet v d (Returning kind b funds k) w e = absurd (false≢true e)
+quiet v d Clearing w e = absurd (false≢true e)
 
 -- a step waited and did nothing, or answered as it is
 abbrev pub IsTold : ℕ → Sight → Stepped → Sight → Type 0

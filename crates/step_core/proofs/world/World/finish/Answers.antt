@@ -1,5 +1,6 @@
 use Rattle.std.proofs.Common.{◌∙◌, arith}
-use Rattle.step_core.proofs.runs.Ends.{adds_more}
+use Rattle.step_core.specs.Runs.{RunsToEnd}
+use Rattle.step_core.proofs.runs.Chains.{adds_more}
 use Rattle.step_core.proofs.world.World.finish.Goals as goal
 
 pub loop-number-preserved : goal.loop-number-preserved
@@ -7,8 +8,9 @@ loop-number-preserved c =
     let i = c.loop-number.invariant in
     let f = c.finish_one.ensures in
     record {
-      adds = adds_more c.loop-number.number c.args.self.now c.loop-number.self c.finish_one.new.self c.args.steps.now.items c.loop-number.steps.items
+      adds = adds_more RunsToEnd c.loop-number.number c.args.self.now c.loop-number.self c.finish_one.new.self c.args.steps.now.items c.loop-number.steps.items
           c.finish_one.new.steps.items i.adds f.adds;
       room = (let before = i.room in let more = f.room in let capacity = f.capacity in omega (arith, before, more, capacity));
+      moves = f.moves;
       actors = f.actors ∙ i.actors;
     }

@@ -3,7 +3,7 @@ use Rattle.std.proofs.lemmas.List.Elements.{All-get_or}
 use Rattle.step_core.specs.declared.trace.TraceStep.{TraceStep}
 use Rattle.step_core.specs.Runs.{IsRun, Names}
 use Rattle.step_core.specs.Worlds.{Steps}
-use Rattle.step_core.proofs.runs.Chains.{number_more, run_more}
+use Rattle.step_core.proofs.runs.Chains.{moves_more, number_more, run_more}
 use Rattle.step_core.proofs.runs.Measures.{never_more}
 use Rattle.step_core.proofs.world.World.follow.Goals as goal
 
@@ -31,6 +31,7 @@ loop-turn-preserved c =
       run = subst (λ (l : List TraceStep). IsRun c.args.self.now l c.advance-stepped.new.self) (sym e.items)
           (run_more c.args.self.now c.loop-turn.self c.advance-stepped.new.self c.loop-turn.steps.items x i.run steps s.kept);
       numbers = number_more c.loop-turn.steps.items c.add.new.steps.items c.args.turns.now c.loop-turn.turn-index c.advance-stepped.result lt i.numbers e.items;
+      moves = moves_more c.loop-turn.steps.items c.add.new.steps.items turn c.advance-stepped.result i.moves s.never e.items;
       len = omega (arith, len, was);
       room = (let still = s.actors in omega (arith, most, before, room, still));
       actors = s.actors ∙ i.actors;

@@ -24,7 +24,7 @@ module _ (c : goal.After-len) where
       sym (ap living c.self.view_is)
       ∙ (few_steps c.self.inside.table c.self.inside.threads.items c.self.inside.made c.self.inside.ended c.self.invariant.1).1
 
-  few : c.steps_left.result + 26 * c.len.result + 13 * (c.self.inside.made - c.self.inside.ended) ≤ 2000000
+  few : c.steps_left.result + 29 * c.len.result + 13 * (c.self.inside.made - c.self.inside.ended) ≤ 2000000
   few =
       let f = (few_steps c.self.inside.table c.self.inside.threads.items c.self.inside.made c.self.inside.ended c.self.invariant.1).0 in
       let s = ap (sum_by steps_of) c.as_slice.ensures.value in
@@ -44,7 +44,7 @@ overflow_add-result-2 c = let f = few c in omega (arith, f)
 pub returns-clause-enough : goal.returns-clause-enough
 returns-clause-enough c =
     let e = enough c.self.inside.table c.self.inside.threads.items in
-    let v = ap (λ (u : Sight). most_steps u + 3 * length u.walks) c.self.view_is in
+    let v = ap (λ (u : Sight). most_steps u + 6 * length u.walks) c.self.view_is in
     let w = ap living c.self.view_is in
     let y = lives c in
     let t = c.steps_left.ensures in

@@ -1,9 +1,11 @@
-use Rattle.std.proofs.Common.{length, ap, subst, arith}
+use Rattle.std.proofs.Common.{ℕ, List, ◌++◌, length, ap, subst, ◌∙◌, arith}
+use Rattle.step_core.specs.declared.trace.TraceStep.{TraceStep}
 use Rattle.step_core.specs.Worlds.{Sight}
+use Rattle.step_core.proofs.runs.Calls.{settled_run}
 use Rattle.step_core.proofs.runs.Chains.{whole}
 use Rattle.step_core.proofs.runs.Ends.{at_end}
 use Rattle.step_core.specs.Headline.{CountsAtRest, LocksWhereOwned, TellsLocks, TellsWhatIsLeft, ValuesAtLastLeave, ValuesOnce}
-use Rattle.step_core.specs.Runs.{IsRun}
+use Rattle.step_core.specs.Runs.{IsRun, RunInOrder, RunsToEnd, SettleInOrder, Settles}
 use Rattle.step_table.specs.Stories.{Kept}
 use Rattle.step_core.specs.Totals.{IsAtEnd}
 use Rattle.step_core.proofs.runs.Answers.{tells_locks}
@@ -15,8 +17,9 @@ use Rattle.step_core.proofs.world.World.run.Goals as goal
 module _ (c : goal.After-known-2) where
   all : IsRun c.args.self.now c.finish.new.steps.items c.finish.new.self
   all =
-      whole _ c.args.self.now c.follow.new.self c.finish.new.self c.follow.new.steps.items c.finish.new.steps.items c.follow.ensures.run
-      c.finish.ensures.adds
+      whole RunsToEnd (λ d m w ys runs. runs.run) _ c.args.self.now c.settle.new.self c.finish.new.self c.settle.new.steps.items c.finish.new.steps.items
+      (whole Settles settled_run _ c.args.self.now c.follow.new.self c.settle.new.self c.follow.new.steps.items c.settle.new.steps.items c.follow.ensures.run
+      c.settle.ensures.adds) c.finish.ensures.adds
 
   start : Kept c.args.self.now.story
   start = subst (λ (u : Sight). Kept u.story) c.self.view_is c.known.ensures
@@ -28,11 +31,31 @@ module _ (c : goal.After-known-2) where
       let told = c.self-2.invariant.1.halves in
       let walks = ap (λ (u : Sight). length u.walks) c.self-2.view_is in
       let halves = ap (λ (u : Sight). length u.halves) c.self-2.view_is in
-      at_end (length c.follow.new.self.walks) c.follow.new.self c.finish.new.self c.finish.ensures.adds.added c.finish.ensures.adds.run actors
+      at_end (length c.settle.new.self.walks) c.settle.new.self c.finish.new.self c.finish.ensures.adds.added c.finish.ensures.adds.run actors
       (omega (arith, actors, told, walks, halves))
 
 pub returns-clause-run : goal.returns-clause-run
 returns-clause-run c = all c
+
+-- the three parts follow one another
+pub returns-clause-scheduled : goal.returns-clause-scheduled
+returns-clause-scheduled c =
+    let f = c.follow.ensures in
+    let s = c.settle.ensures in
+    let e = c.finish.ensures in
+    let first = c.follow.new.steps.items in
+    record {
+      first = first;
+      settled = s.adds.added;
+      alone = e.adds.added;
+      middle = c.follow.new.self;
+      calm = c.settle.new.self;
+      parts = e.adds.items ∙ ap (λ (l : List TraceStep). l ++ e.adds.added) s.adds.items;
+      numbers = f.numbers;
+      run = f.run;
+      settles = subst (λ (n : ℕ). SettleInOrder n c.follow.new.self s.adds.added c.settle.new.self) f.actors s.adds.run;
+      ends = subst (λ (n : ℕ). RunInOrder n c.settle.new.self e.adds.added c.finish.new.self) (s.actors ∙ f.actors) e.adds.run;
+    }
 
 pub returns-clause-counts : goal.returns-clause-counts
 returns-clause-counts c = after_each CountsAtRest c.args.self.now c.finish.new.self c.finish.new.steps.items (all c) (start c) counts

@@ -1,0 +1,108 @@
+-- Threads that finish their calls.
+use Rattle.std.proofs.Common.{◌≡◌, ◌≢◌, ℕ, ◌+◌, ◌-◌, ◌<◌, ◌≤◌, Bool, true, false, List, [], ◌∷◌, ◌++◌, length, refl, sym, ap, subst, ◌∙◌, append_assoc, arith}
+use Rattle.std.proofs.lemmas.Bool.{false≢true}
+use Rattle.std.proofs.lemmas.List.{append-nil}
+use Rattle.step_threads.specs.declared.act.Task.{Task}
+use Rattle.step_threads.specs.declared.half.Half.{Half}
+use Rattle.step_threads.specs.declared.half.Half.TheVariants.{Rest, Making, Locking, Giving, Brought, Saw, Matched, Refill, Returning, Clearing}
+use Rattle.step_threads.specs.declared.said.Stepped.{Stepped}
+use Rattle.step_threads.specs.declared.said.Stepped.TheVariants.{Done}
+use Rattle.step_core.specs.declared.trace.TraceStep.{TraceStep}
+use Rattle.step_table.specs.Stories.{Kept}
+use Rattle.step_threads.specs.Scenes.{walk_of}
+use Rattle.step_core.specs.Bounds.{alone, most_steps, spare}
+use Rattle.step_core.specs.Runs.{Adds, CallsOn, FinishesCall, IsOver, IsRun, Settles, compares_next, goes_on, is_calling, is_owing}
+use Rattle.step_core.specs.Turning.{HasBegun}
+use Rattle.step_core.specs.Worlds.{Sight, Steps, half_of, scene}
+use Rattle.step_core.proofs.runs.Measures.{alone_of, at_end, spare_of}
+
+same_number : (d n : ℕ) → n ≡ d + 1 → n - 1 ≡ d
+same_number d n e = omega (arith, e)
+
+calls_run : (d : ℕ) (u u' : Sight) (xs : List TraceStep) → CallsOn d u xs u' → IsRun u xs u'
+calls_run d u u' [] on = on
+calls_run d u u' (x ∷ xs) on =
+    (on.2, subst (λ (n : ℕ). Steps n u x.stepped on.2) (sym (same_number d x.actor on.1)) on.3, on.4, calls_run d on.2 u' xs on.5)
+
+-- what a thread did to finish its call is a run
+pub settled_run : (d : ℕ) (u u' : Sight) (xs : List TraceStep) → Settles d u xs u' → IsRun u xs u'
+settled_run d u u' xs settles = go (is_owing (half_of u d)) refl
+  where
+    go : (b : Bool) → is_owing (half_of u d) ≡ b → IsRun u xs u'
+    go true is = calls_run d u u' xs (settles.owing is).calls
+    go false is = let n = settles.none is in subst (λ (l : List TraceStep). IsRun u l u') (sym n.0) n.1
+
+calls_more : (d : ℕ) (u m w : Sight) (xs : List TraceStep) (r : Stepped) → CallsOn d u xs m → is_calling m d ≡ true → Steps d m r w
+    → Kept w.story → CallsOn d u (xs ++ record { actor = d + 1; stepped = r } ∷ []) w
+calls_more d u m w [] r on goes steps kept =
+    subst (λ (z : Sight). CallsOn d z (record { actor = d + 1; stepped = r } ∷ []) w) on (goes, refl, w, steps, kept, refl)
+calls_more d u m w (x ∷ xs) r on goes steps kept = (on.0, on.1, on.2, on.3, on.4, calls_more d on.2 m w xs r on.5 goes steps kept)
+
+-- how far thread d has gone on with its call
+pub record IsGoing (d : ℕ) (u : Sight) (xs : List TraceStep) (m : Sight) (ys : List TraceStep) : Type 0 where
+  pub added : List TraceStep
+  pub items : ys ≡ xs ++ added
+  pub calls : CallsOn d u added m
+  pub actors : length m.walks ≡ length u.walks
+
+pub going_start : (d : ℕ) (u : Sight) (xs : List TraceStep) → IsGoing d u xs u xs
+going_start d u xs = record { added = []; items = sym (append-nil xs); calls = refl; actors = refl }
+
+pub going_more : (d : ℕ) (u m w : Sight) (xs ys zs : List TraceStep) (r : Stepped) → IsGoing d u xs m ys → is_calling m d ≡ true → Steps d m r w
+    → Kept w.story → length w.walks ≡ length m.walks → zs ≡ ys ++ record { actor = d + 1; stepped = r } ∷ [] → IsGoing d u xs w zs
+going_more d u m w xs ys zs r on goes steps kept actors is =
+    let x : TraceStep = record { actor = d + 1; stepped = r } in
+    record {
+      added = on.added ++ x ∷ [];
+      items = is ∙ ap (λ (l : List TraceStep). l ++ x ∷ []) on.items ∙ append_assoc xs on.added (x ∷ []);
+      calls = calls_more d u m w on.added r on.calls goes steps kept;
+      actors = actors ∙ on.actors;
+    }
+
+pub going_end : (d : ℕ) (u m : Sight) (xs ys : List TraceStep) → IsGoing d u xs m ys → is_calling m d ≡ false → Adds (FinishesCall d) u xs m ys
+going_end d u m xs ys on done = record { added = on.added; items = on.items; run = record { calls = on.calls; done = done } }
+
+-- a call that goes on isn't at the thread's end
+pub calling_on : (d : ℕ) (u u' : Sight) (r : Stepped) → HasBegun d u → Steps d u r u' → is_calling u d ≡ true → r ≢ Done
+calling_on d u u' r begun steps goes done =
+    let over = (at_end d u u' begun (subst (λ (s : Stepped). Steps d u s u') done steps)).1 in
+    false≢true (sym (ended (half_of u d) (walk_of (scene u) d).todo over.half over.walk) ∙ goes)
+  where
+    ended : (h : Half) (ts : List Task) → h ≡ Rest → ts ≡ [] → goes_on h ts ≡ false
+    ended h ts rests none = ap (λ (x : Half). goes_on x ts) rests ∙ ap compares_next none
+
+-- once its call is done, a thread has no more to spare than another
+rests : (h : Half) (ts : List Task) → goes_on h ts ≡ false → h ≡ Rest
+rests Rest ts e = refl
+rests (Making b i f) ts e = absurd (false≢true (sym e))
+rests (Locking word) ts e = absurd (false≢true (sym e))
+rests (Giving i kind x) ts e = absurd (false≢true (sym e))
+rests Brought ts e = absurd (false≢true (sym e))
+rests (Saw x) ts e = absurd (false≢true (sym e))
+rests (Matched x) ts e = absurd (false≢true (sym e))
+rests (Refill stage c x k) ts e = absurd (false≢true (sym e))
+rests (Returning kind b funds k) ts e = absurd (false≢true (sym e))
+rests Clearing ts e = absurd (false≢true (sym e))
+
+pub done_spares : (d : ℕ) (u : Sight) → is_calling u d ≡ false → alone_of d u ≡ spare_of d u
+done_spares d u done =
+    let e = rests (half_of u d) (walk_of (scene u) d).todo done in
+    ap (λ (h : Half). alone u.story (walk_of (scene u) d) h) e ∙ sym (ap spare e)
+
+-- one thread more, which had a call to finish or none
+pub settled_one : (d : ℕ) (u u' : Sight) (xs ys : List TraceStep) → is_owing (half_of u d) ≡ true → Adds (FinishesCall d) u xs u' ys
+    → Adds (Settles d) u xs u' ys
+settled_one d u u' xs ys is adds =
+    record {
+      added = adds.added;
+      items = adds.items;
+      run = record { owing = λ _. adds.run; none = λ no. absurd (false≢true (sym no ∙ is)) };
+    }
+
+pub settled_none : (d : ℕ) (u : Sight) (xs : List TraceStep) → is_owing (half_of u d) ≡ false → Adds (Settles d) u xs u xs
+settled_none d u xs is =
+    record {
+      added = [];
+      items = sym (append-nil xs);
+      run = record { owing = λ yes. absurd (false≢true (sym is ∙ yes)); none = λ _. (refl, refl) };
+    }
