@@ -68,4 +68,4 @@ member_text m = cond (m == 0) (codes "first") (cond (m == 1) (codes "next") (cod
 abbrev pub cell_text : NameList → CellName → List ℕ
 cell_text names (cell.Shared n) = codes "s" ++ decimal n
 cell_text names (cell.Weak n) = codes "w" ++ decimal n
-cell_text names (cell.Member k m) = name_text names k ++ codes "." ++ member_text m
+cell_text names (cell.Member k m) = name_text names k ++ (codes "." ++ member_text m)
