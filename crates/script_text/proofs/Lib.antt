@@ -12,6 +12,7 @@ pub mod Aliases
 pub mod CellWords
 pub mod Cells
 pub mod CellShapes
+pub mod CellCompares
 pub mod Rewrites
 pub mod Changes
 pub mod RoundTrip

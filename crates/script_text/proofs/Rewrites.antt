@@ -26,7 +26,7 @@ use Rattle.script_text.proofs.Reversible.{Reader, Writer, Asker, Sizer, IsRevers
 use Rattle.script_text.proofs.Reversible.{source_reversible, write_two, asks_two, target_and_source_reversible, asks_both, two_sources_reversible}
 use Rattle.script_text.proofs.Aliases.{Parts, write_alias, asks_alias, alias_size, alias_reversible}
 use Rattle.script_text.proofs.CellShapes.{Fits, asks_cell, cell_reversible, store_fits, other_reversible, exchange_fits, write_cell, asks_load, load_reversible, load_fits, write_load}
-use Rattle.script_text.proofs.CellShapes.{asks_compare, compare_reversible, compare_fits, write_compare}
+use Rattle.script_text.proofs.CellCompares.{asks_compare, compare_reversible, compare_fits, write_compare}
 use Rattle.script_text.proofs.Reversible.{write_fields, asks_first, target_and_fields_reversible}
 
 -- later names change no word of the statement
