@@ -1,7 +1,7 @@
 -- What an act alone does to where a thread is: its tasks, its slots and its endings.
 use Rattle.std.proofs.Common.{◌≡◌, ℕ, suc, ◌≤◌, Bool, true, false, List, [], ◌∷◌, inl, inr, length, refl, sym, ◌∙◌, subst, arith, get_or-set_same}
 use Rattle.std.proofs.Common.{get_or-set_other}
-use Rattle.std.specs.Prelude.{Option, Some, None, option_map, slice_set}
+use Rattle.std.specs.Prelude.{Option, Some, None, cond, option_map, slice_set}
 use Rattle.std.proofs.lemmas.Bool.{cases_eq, cases_lt, cond_both}
 use Rattle.std.proofs.lemmas.List.{get_or_past, length-set}
 use Rattle.control_word.specs.State.{State}
@@ -13,7 +13,7 @@ use Rattle.step_table.specs.declared.holdings.Pointer.{Pointer}
 use Rattle.step_threads.specs.declared.call.CellName.{CellName}
 use Rattle.step_table.specs.declared.slot.Slot.{Slot}
 use Rattle.step_table.specs.Contents.{differed, swapped}
-use Rattle.step_threads.specs.Courses.{Going, Walk, going, hand, idle, locked, on_going, other, placed, settled, slots_idle, taken_idle}
+use Rattle.step_threads.specs.Courses.{Going, Walk, fitting, going, hand, idle, is_there, kind_at, locked, on_going, other, placed, settled, slots_idle, taken_idle}
 use Rattle.step_table.specs.Deeds.{this_as}
 use Rattle.step_table.specs.Holdings.{Slots, inside, plain, slot, value}
 use Rattle.step_threads.specs.Entries.{giving, is_expected, least}
@@ -98,6 +98,15 @@ compared_size : (slots : Slots) (x : Slot) (yes : Bool) → length (compared slo
 compared_size slots x true = swapped_size (hand slots) (other slots) slots x
 compared_size slots x false = differed_size (hand slots) (other slots) slots x
 
+abbrev with_taken : Slots → Bool → Slots × Bool
+with_taken slots taken = (slots, taken)
+
+-- new slots where a test holds, and else those from before
+if_size : (b : Bool) (slots new : Slots) (yes no : Bool) → length new ≡ length slots
+    → length (cond b (with_taken new yes) (with_taken slots no)).0 ≡ length slots
+if_size true slots new yes no e = e
+if_size false slots new yes no e = refl
+
 hands_size : (s : State) (d : ℕ) (slots : Slots) (taken : Bool) (a : Act) → length (hands s d slots taken a).0 ≡ length slots
 hands_size s d slots taken (Make form) = holding_size slots form.null (least d s.stores)
 hands_size s d slots taken (Share k) = length-set slots (hand slots) _
@@ -113,14 +122,19 @@ hands_size s d slots taken (FromThis k kind) = taking_size slots true (option_ma
 hands_size s d slots taken (Alias k j field) = length-set slots (hand slots) _
 hands_size s d slots taken (Move k) = length-set (slice_set slots (hand slots) (value slots k)) k plain ∙ length-set slots (hand slots) (value slots k)
 hands_size s d slots taken (Ask q) = refl
-hands_size s d slots taken (Offer k c) = length-set slots (hand slots) _
+hands_size s d slots taken (Offer k c) =
+    let x = fitting (kind_at c) (value slots k) in
+    if_size (is_there slots c) slots (slice_set slots (hand slots) x) true taken (length-set slots (hand slots) x)
 hands_size s d slots taken (Swap c) =
-    going_size (λ x i. swapped i (other slots) slots (came s x)) slots (going slots (Swap c))
-    (λ x i. swapped_size i (other slots) slots (came s x))
+    going_size (λ x i. swapped i (other slots) slots (came s slots x)) slots (going slots (Swap c))
+    (λ x i. swapped_size i (other slots) slots (came s slots x))
 hands_size s d slots taken (Exchange k c) =
-    going_size (λ x i. slice_set slots i (came s x)) slots (going slots (Exchange k c)) (λ x i. length-set slots i (came s x))
-hands_size s d slots taken (Load c) = length-set slots (hand slots) _
-hands_size s d slots taken (Compare k c weak) = compared_size slots (came s c) (is_expected s slots k c)
+    going_size (λ x i. slice_set slots i (came s slots x)) slots (going slots (Exchange k c))
+    (λ x i. length-set slots i (came s slots x))
+hands_size s d slots taken (Load c) =
+    let x = came s slots c in
+    if_size (is_there slots c) slots (slice_set slots (hand slots) x) true taken (length-set slots (hand slots) x)
+hands_size s d slots taken (Compare k c weak) = compared_size slots (came s slots c) (is_expected s slots k c)
 hands_size s d slots taken Drop = length-set slots (other slots) plain
 
 -- ---- a thread after an act alone

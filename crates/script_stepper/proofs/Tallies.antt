@@ -10,7 +10,7 @@ use Rattle.step_threads.specs.declared.act.Act.TheVariants.{Make, Share, Downgra
 use Rattle.step_table.specs.declared.form.Form.{Form}
 use Rattle.step_threads.specs.declared.ending.Ending.{Ending}
 use Rattle.step_table.specs.declared.holdings.Pointer.{Pointer}
-use Rattle.step_threads.specs.Courses.{Going, going, locked, offered, on_going, other}
+use Rattle.step_threads.specs.Courses.{Going, going, is_there, locked, offered, on_going, other}
 use Rattle.step_table.specs.Deeds.{aliased, exact, is_last, on}
 use Rattle.step_table.specs.Holdings.{Slots, inside, owner_slot, place_in, slot}
 use Rattle.step_threads.specs.Entries.{History, acted, aliases, counts, downgrades, compares, expires, given_as, gives, giving, least, leaves, left_as, loads, locks, made, reads, shared_as, shares, swaps}
@@ -33,6 +33,11 @@ pub record Tally (most : ℕ) (h : History) (es : List Ending) (h' : History) (e
 same : (most : ℕ) (h h' : History) (es : List Ending) → made_in h' ≡ made_in h → ended_in h' ≡ ended_in h → Tally most h es h' es
 same most h h' es m e =
     record { made = omega (arith, m); last = 0; ended = omega (arith, e); parts = omega arith }
+
+same_if : (b : Bool) (h h' : History) (es : List Ending) → made_in h' ≡ made_in h → ended_in h' ≡ ended_in h
+    → Tally 0 h es (cond b h' h) es
+same_if true h h' es m e = same 0 h h' es m e
+same_if false h h' es m e = same 0 h h es refl refl
 
 same_on : (f : Pointer → History) (h : History) (es : List Ending) (x : Option Pointer) → ((p : Pointer) → made_in (f p) ≡ made_in h)
     → ((p : Pointer) → ended_in (f p) ≡ ended_in h) → Tally 0 h es (on f h x) es
@@ -102,6 +107,6 @@ tally z d k slots h es (Offer i c) =
     same_on (shares z d h) h es (offered slots i c) (λ p. shared_made d h (leads z h) p p.kind) (λ p. shared_ended d h (leads z h) p p.kind)
 tally z d k slots h es (Swap c) = swapped z d slots h es (going slots (Swap c))
 tally z d k slots h es (Exchange i c) = swapped z d slots h es (going slots (Exchange i c))
-tally z d k slots h es (Load c) = same 0 h (loads z d h c) es refl refl
+tally z d k slots h es (Load c) = same_if (is_there slots c) h (loads z d slots h c) es refl refl
 tally z d k slots h es (Compare i c weak) = same 0 h (compares z d slots h i c weak) es refl refl
 tally z d k slots h es Drop = left_tally z d k h es (slot slots (other slots))

@@ -7,6 +7,8 @@ mod closing;
 mod lines;
 pub mod listing;
 #[cfg(test)]
+mod member_tests;
+#[cfg(test)]
 mod row_tests;
 mod running;
 pub mod sink;

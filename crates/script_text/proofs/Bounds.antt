@@ -1,20 +1,23 @@
--- A script that was read is within the limits, and its calls are well named.
+-- A script that was read is within the limits, its calls are well named, and their cells are among those that texts name.
 use Rattle.std.proofs.Common.{◌≡◌, ℕ, zero, suc, Option, None, Some, ◌+◌, ◌<◌, ◌≤◌, List, [], ◌∷◌, ◌++◌, length, refl, ap, subst, ◌∙◌, arith, length-append}
-use Rattle.std.specs.Prelude.{slice_get, sum_by}
+use Rattle.std.specs.Prelude.{All, slice_get, sum_by}
 use Rattle.std.specs.List.{AllByRecursion}
 use Rattle.std.proofs.lemmas.List.{map-append, length-map}
 use Rattle.std.proofs.lemmas.List.Elements.{All-from_recursion}
 use Rattle.std.proofs.lemmas.List.Sums.{sum_by-append, sum_by-cons}
 use Rattle.step_threads.specs.declared.call.Call.{Call}
 use Rattle.step_threads.specs.declared.call.Kind.{Kind}
-use Rattle.step_threads.specs.Programs.{Asked, IsFound, Part, names_of, IsDeclared, IsWellNamed, IsPart}
+use Rattle.control_word.specs.declared.shape.Shape.{Shape}
+use Rattle.step_threads.specs.declared.call.CellName.{CellName}
+use Rattle.step_threads.specs.Programs.{AllHaveCells, Asked, HasCells, IsApart, IsFound, IsIn, Part, names_of, IsDeclared, IsWellNamed, IsPart, cells_of}
 use Rattle.script_text.specs.Names.{NameList}
 use Rattle.script_text.specs.Drafts.{Section, Draft, new_draft, sections, no_section, with_call}
 use Rattle.script_text.specs.Grammar.{Leads, Begins}
-use Rattle.script_text.specs.Scripts.{kinds_in, part_in, program_in, statement_count, IsScript}
+use Rattle.script_text.specs.Scripts.{HasTextCells, kinds_in, part_in, program_in, statement_count, IsScript}
 use Rattle.script_text.proofs.ReadNames.{slice_get-more, Grows}
 use Rattle.script_text.proofs.Changes.{with_thread, IsAdded, Change, skipped, began, added, line_change}
-use Rattle.script_text.proofs.CellBounds.{script_cells}
+use Rattle.script_text.proofs.Cells.{IsTextCell, text_cell_in}
+use Rattle.script_text.proofs.CellShapes.{Fits}
 use Rattle.script_text.proofs.RoundTrip.{round_trip}
 
 -- each name of the call is declared, by recursion
@@ -29,19 +32,36 @@ each_named kinds [] h = tt
 each_named kinds (c ∷ calls) h =
     (All-from_recursion (IsDeclared kinds) (names_of c) h.0, each_named kinds calls h.1)
 
-part_is : (s : Section) → length s.names ≤ 32 → AllByRecursion (AreDeclared (kinds_in s.names)) s.calls
-    → IsPart (part_in s)
-part_is s few named = record {
-  few = omega (arith, few, length-map s.names (λ (name : List ℕ × Kind). name.1));
-  named =
-      All-from_recursion (IsWellNamed (kinds_in s.names)) s.calls
-      (each_named (kinds_in s.names) s.calls named);
+each_apart : (calls : List Call) → AllByRecursion Fits calls → AllByRecursion IsApart calls
+each_apart [] h = tt
+each_apart (c ∷ calls) h = (h.0.1, each_apart calls h.1)
+
+-- a thread that is a part of a program, with calls that texts spell
+record IsSection (s : Section) : Type 0 where
+  part : IsPart (part_in s)
+  fits : AllByRecursion Fits s.calls
+
+section_is : (s : Section) → length s.names ≤ 32 → AllByRecursion (AreDeclared (kinds_in s.names)) s.calls
+    → AllByRecursion Fits s.calls → IsSection s
+section_is s few named fits = record {
+  part = record {
+    few = omega (arith, few, length-map s.names (λ (name : List ℕ × Kind). name.1));
+    named =
+        All-from_recursion (IsWellNamed (kinds_in s.names)) s.calls
+        (each_named (kinds_in s.names) s.calls named);
+    apart = All-from_recursion IsApart s.calls (each_apart s.calls fits);
+  };
+  fits = fits;
 }
 
-parts-last : (ss : List Section) (s : Section) → AllByRecursion IsPart (program_in ss) → IsPart (part_in s)
-    → AllByRecursion IsPart (program_in (ss ++ s ∷ []))
-parts-last [] s h k = (k, tt)
-parts-last (x ∷ ss) s h k = (h.0, parts-last ss s h.1 k)
+all-last : {A : Type 0} (P : A → Type 0) (xs : List A) (x : A) → AllByRecursion P xs → P x
+    → AllByRecursion P (xs ++ x ∷ [])
+all-last P [] x h k = (k, tt)
+all-last P (y ∷ xs) x h k = (h.0, all-last P xs x h.1 k)
+
+all_parts : (ss : List Section) → AllByRecursion IsSection ss → AllByRecursion IsPart (program_in ss)
+all_parts [] h = tt
+all_parts (s ∷ ss) h = (h.0.part, all_parts ss h.1)
 
 count-last : (ss : List Section) (s : Section)
     → statement_count (ss ++ s ∷ []) ≡ statement_count ss + length s.calls
@@ -81,30 +101,30 @@ named_grown names new calls g h =
     ap kinds_in g.grown ∙ map-append (λ (name : List ℕ × Kind). name.1) names g.more in
     rw kinds (named_more (kinds_in names) (kinds_in g.more) calls h)
 
-named-last : (kinds : List Kind) (calls : List Call) (c : Call) → AllByRecursion (AreDeclared kinds) calls
-    → AreDeclared kinds c → AllByRecursion (AreDeclared kinds) (calls ++ c ∷ [])
-named-last kinds [] c h k = (k, tt)
-named-last kinds (x ∷ calls) c h k = (h.0, named-last kinds calls c h.1 k)
-
 -- ---- what stays true from line to line
 
--- the script so far is within the limits, and its calls are well named
+-- the script so far is within the limits, its calls are well named, and texts spell them
 record IsBounded (d : Draft) : Type 0 where
   count : d.count ≡ statement_count (sections d)
   calls : d.count ≤ 65536
   threads : length d.done ≤ 15
-  parts : AllByRecursion IsPart (program_in d.done)
+  parts : AllByRecursion IsSection d.done
   few : length d.current.names ≤ 32
   named : AllByRecursion (AreDeclared (kinds_in d.current.names)) d.current.calls
+  fits : AllByRecursion Fits d.current.calls
+
+all_sections : (d : Draft) → IsBounded d → AllByRecursion IsSection (sections d)
+all_sections d b = all-last IsSection d.done d.current b.parts (section_is d.current b.few b.named b.fits)
 
 begun_bounded : (d : Draft) → length d.done < 15 → IsBounded d → IsBounded (with_thread d)
 begun_bounded d room b = record {
   count = omega (arith, b.count, count-last (d.done ++ d.current ∷ []) no_section);
   calls = b.calls;
   threads = omega (arith, room, length-append d.done (d.current ∷ []));
-  parts = parts-last d.done d.current b.parts (part_is d.current b.few b.named);
+  parts = all_sections d b;
   few = omega arith;
   named = tt;
+  fits = tt;
 }
 
 added_bounded : (d e : Draft) (a : IsAdded d e) → IsBounded d → IsBounded (with_call d (a.call, a.names))
@@ -122,8 +142,9 @@ added_bounded d e a b = record {
   parts = b.parts;
   few = a.rewrites.grows.few b.few;
   named =
-      named-last (kinds_in a.names) d.current.calls a.call
+      all-last (AreDeclared (kinds_in a.names)) d.current.calls a.call
       (named_grown d.current.names a.names d.current.calls a.rewrites.grows b.named) a.rewrites.named;
+  fits = all-last Fits d.current.calls a.call b.fits a.rewrites.fits;
 }
 
 change_bounded : (d e : Draft) → Change d e → IsBounded d → IsBounded e
@@ -139,7 +160,26 @@ lines_bounded (line ∷ lines) d e h b =
 start : IsBounded new_draft
 start =
     record
-    { count = refl; calls = omega arith; threads = omega arith; parts = tt; few = omega arith; named = tt }
+    { count = refl; calls = omega arith; threads = omega arith; parts = tt; few = omega arith; named = tt; fits = tt }
+
+-- ---- a shape has the cells
+
+cells_in : (shape : Shape) → HasTextCells shape → (cells : List CellName) → AllByRecursion IsTextCell cells
+    → AllByRecursion (IsIn shape) cells
+cells_in shape has [] h = tt
+cells_in shape has (c ∷ cells) h = (text_cell_in shape has c h.0, cells_in shape has cells h.1)
+
+calls_in : (shape : Shape) → HasTextCells shape → (calls : List Call) → AllByRecursion Fits calls
+    → AllByRecursion (HasCells shape) calls
+calls_in shape has [] h = tt
+calls_in shape has (c ∷ calls) h =
+    (All-from_recursion (IsIn shape) (cells_of c) (cells_in shape has (cells_of c) h.0.0), calls_in shape has calls h.1)
+
+parts_in : (shape : Shape) → HasTextCells shape → (ss : List Section) → AllByRecursion IsSection ss
+    → AllByRecursion (AllHaveCells shape) (program_in ss)
+parts_in shape has [] h = tt
+parts_in shape has (s ∷ ss) h =
+    (All-from_recursion (HasCells shape) s.calls (calls_in shape has s.calls h.0.fits), parts_in shape has ss h.1)
 
 pub script_is : (bytes : List ℕ) (d : Draft) (number : ℕ) → Begins bytes d number []
     → IsScript (sections d) d.count
@@ -156,8 +196,9 @@ script_is bytes d number h =
         actors = omega (arith, threads, parts, b.threads);
         calls = omega (arith, b.count, b.calls);
         each =
-            All-from_recursion IsPart (program_in (sections d))
-            (parts-last d.done d.current b.parts (part_is d.current b.few b.named));
+            All-from_recursion IsPart (program_in (sections d)) (all_parts (sections d) (all_sections d b));
       };
-      cells = script_cells bytes d number h;
+      cells = λ shape has.
+          All-from_recursion (AllHaveCells shape) (program_in (sections d))
+          (parts_in shape has (sections d) (all_sections d b));
     }

@@ -9,10 +9,12 @@ pub mod ReadNames
 pub mod ReadNumbers
 pub mod Reversible
 pub mod Aliases
+pub mod CellWords
 pub mod Cells
+pub mod CellShapes
+pub mod CellCompares
 pub mod Rewrites
 pub mod Changes
 pub mod RoundTrip
-pub mod CellBounds
 pub mod Bounds
 pub mod PrintLemmas

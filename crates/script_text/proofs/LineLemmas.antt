@@ -7,11 +7,11 @@ use Rattle.script_text.specs.Grammar.{is_feed, HasNoFeed, IsCut}
 
 -- ---- where the first line feed is
 
-none_by : (b : Bool) (m : ℕ) → cond b (Some m) None ≡ None → b ≡ false
+pub none_by : (b : Bool) (m : ℕ) → cond b (Some m) None ≡ None → b ≡ false
 none_by true m h = absurd cc
 none_by false m h = refl
 
-some_by : (b : Bool) (m i : ℕ) → cond b (Some m) None ≡ Some i → (b ≡ true) × (m ≡ i)
+pub some_by : (b : Bool) (m i : ℕ) → cond b (Some m) None ≡ Some i → (b ≡ true) × (m ≡ i)
 some_by true m i h = (refl, cc)
 some_by false m i h = absurd cc
 

@@ -15,7 +15,7 @@ use Rattle.script_text.specs.declared.keyword.WeakKeyword.{WeakKeyword}
 use Rattle.script_text.specs.declared.keyword.WeakKeyword.TheVariants as weak
 use Rattle.script_text.specs.Reading.{◌>>=◌}
 use Rattle.script_text.specs.Names.{NameList}
-use Rattle.script_text.specs.Shapes.{Aim, alias_at, cell_and_source, cell_and_sources, target_and_cell, one_target, one_source, target_and_source, two_sources, target_and_fields}
+use Rattle.script_text.specs.Shapes.{Aim, alias_at, cell_and_other, cell_and_source, cell_and_sources, target_and_cell, one_target, one_source, target_and_source, two_sources, target_and_fields}
 
 -- what was read, as a call
 abbrev pub as_call : {A : Type 0} → (A → Call) → Result (A × NameList) Cause → Result (Call × NameList) Cause
@@ -41,7 +41,7 @@ place_call_at names place.Before words = as_call (λ p. call.Before p.0 p.1) (tw
 unfoldable pub cell_call_at : NameList → CellKeyword → List (List ℕ) → Result (Call × NameList) Cause
 cell_call_at names cell.Load words = as_call (λ p. call.Load p.0 p.1) (target_and_cell names words)
 cell_call_at names cell.Store words = as_call (λ p. call.Store p.0 p.1) (cell_and_source names words)
-cell_call_at names cell.Exchange words = as_call (λ p. call.Exchange p.0 p.1) (cell_and_source names words)
+cell_call_at names cell.Exchange words = as_call (λ p. call.Exchange p.0 p.1) (cell_and_other names words)
 cell_call_at names cell.Compare words = as_call (λ p. call.Compare p.0 p.1 p.2 false) (cell_and_sources names words)
 cell_call_at names cell.CompareWeak words = as_call (λ p. call.Compare p.0 p.1 p.2 true) (cell_and_sources names words)
 

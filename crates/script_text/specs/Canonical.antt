@@ -3,19 +3,13 @@ use Rattle.std.specs.Prelude.{◌≡◌, ℕ, ◌++◌, true, false, String, Lis
 use Rattle.std.specs.List.{flat_map, join_with_byte}
 use Rattle.step_threads.specs.declared.call.Call.{Call}
 use Rattle.step_threads.specs.declared.call.Call.TheVariants as call
-use Rattle.step_threads.specs.declared.call.CellName.{CellName}
-use Rattle.step_threads.specs.declared.call.CellName.TheVariants as free
 use Rattle.step_table.specs.Deeds.{field_number}
 use Rattle.script_text.specs.declared.line.Line.{Line}
 use Rattle.script_text.specs.declared.line.Line.TheVariants as line
 use Rattle.script_text.specs.Names.{NameList, name_text}
+use Rattle.script_text.specs.Cells.{cell_text}
 use Rattle.script_text.specs.Drafts.{Section}
 use Rattle.script_text.specs.Grammar.{ended}
-
--- how a cell is spelled
-abbrev pub cell_text : CellName → List ℕ
-cell_text (free.Shared n) = codes "s" ++ decimal n
-cell_text (free.Weak n) = codes "w" ++ decimal n
 
 -- the words of a statement
 abbrev pub call_words : NameList → Call → List (List ℕ)
@@ -36,13 +30,13 @@ call_words names (call.Read name) = codes "read" ∷ name_text names name ∷ []
 call_words names (call.Place name) = codes "place" ∷ name_text names name ∷ []
 call_words names (call.Same first second) = codes "same" ∷ name_text names first ∷ name_text names second ∷ []
 call_words names (call.Before first second) = codes "before" ∷ name_text names first ∷ name_text names second ∷ []
-call_words names (call.Store cell source) = codes "store" ∷ cell_text cell ∷ name_text names source ∷ []
-call_words names (call.Exchange cell name) = codes "exchange" ∷ cell_text cell ∷ name_text names name ∷ []
-call_words names (call.Load target cell) = codes "load" ∷ name_text names target ∷ cell_text cell ∷ []
+call_words names (call.Store cell source) = codes "store" ∷ cell_text names cell ∷ name_text names source ∷ []
+call_words names (call.Exchange cell name) = codes "exchange" ∷ cell_text names cell ∷ name_text names name ∷ []
+call_words names (call.Load target cell) = codes "load" ∷ name_text names target ∷ cell_text names cell ∷ []
 call_words names (call.Compare cell expected desired false) =
-    codes "compare" ∷ cell_text cell ∷ name_text names expected ∷ name_text names desired ∷ []
+    codes "compare" ∷ cell_text names cell ∷ name_text names expected ∷ name_text names desired ∷ []
 call_words names (call.Compare cell expected desired true) =
-    codes "compare_weak" ∷ cell_text cell ∷ name_text names expected ∷ name_text names desired ∷ []
+    codes "compare_weak" ∷ cell_text names cell ∷ name_text names expected ∷ name_text names desired ∷ []
 call_words names (call.Count name) = codes "count" ∷ name_text names name ∷ []
 call_words names (call.Weak target source) = codes "weak" ∷ name_text names target ∷ name_text names source ∷ []
 call_words names (call.WeakCopy target source) = codes "wcopy" ∷ name_text names target ∷ name_text names source ∷ []
@@ -62,10 +56,10 @@ line_words names (line.Alias target source of field) =
     codes "alias" ∷ name_text names target ∷ name_text names source ∷ name_text names of ∷ decimal (field_number field) ∷ []
 line_words names (line.AliasNull target source) =
     codes "alias" ∷ name_text names target ∷ name_text names source ∷ codes "null" ∷ []
-line_words names (line.Cell word cell name) = word.now ∷ cell_text cell ∷ name_text names name ∷ []
-line_words names (line.Load target cell) = codes "load" ∷ name_text names target ∷ cell_text cell ∷ []
+line_words names (line.Cell word cell name) = word.now ∷ cell_text names cell ∷ name_text names name ∷ []
+line_words names (line.Load target cell) = codes "load" ∷ name_text names target ∷ cell_text names cell ∷ []
 line_words names (line.Compare word cell expected desired) =
-    word.now ∷ cell_text cell ∷ name_text names expected ∷ name_text names desired ∷ []
+    word.now ∷ cell_text names cell ∷ name_text names expected ∷ name_text names desired ∷ []
 
 -- a number after a space
 abbrev pub number_after : ℕ → List ℕ

@@ -1,6 +1,7 @@
 pub mod Reading
 pub mod Words
 pub mod Names
+pub mod Cells
 pub mod Keywords
 pub mod Shapes
 pub mod Calls

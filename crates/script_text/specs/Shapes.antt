@@ -5,16 +5,16 @@ use Rattle.std.specs.Prelude.{ℕ, List, [], ◌∷◌, map, Option, Some, None,
 use Rattle.std.specs.Str.{bytes_eq}
 use Rattle.std.specs.Borrow.{Bor}
 use Rattle.step_threads.specs.declared.call.CellName.{CellName}
-use Rattle.step_threads.specs.declared.call.CellName.TheVariants as free
 use Rattle.step_table.specs.declared.field.Field.{Field}
 use Rattle.step_threads.specs.declared.call.Kind.{Kind}
-use Rattle.step_threads.specs.declared.call.Kind.TheVariants.{Owner, Weak}
+use Rattle.step_threads.specs.declared.call.Kind.TheVariants.{Owner}
 use Rattle.step_threads.specs.declared.call.Name.{Name}
 use Rattle.script_text.specs.declared.fault.Cause.{Cause}
 use Rattle.script_text.specs.declared.fault.Cause.TheVariants.{WrongNumberOfWords}
 use Rattle.script_text.specs.Reading.{◌>>=◌}
-use Rattle.script_text.specs.Words.{number_at, cell_at, field_at}
+use Rattle.script_text.specs.Words.{number_at, field_at}
 use Rattle.script_text.specs.Names.{NameList, asked_source_at, source_at, target_at, declared}
+use Rattle.script_text.specs.Cells.{apart, cell_at, cell_kind}
 
 -- the words, without where they lie in memory
 abbrev pub texts : List (Bor (List ℕ)) → List (List ℕ)
@@ -52,23 +52,22 @@ two_sources names asked (one ∷ other ∷ []) = do
   Ok ((first, second), names)
 two_sources names asked _ = Err WrongNumberOfWords
 
--- the kind of the names whose values go into a cell ([util.smartptr.atomic.shared], [util.smartptr.atomic.weak])
-abbrev pub cell_kind : CellName → Kind
-cell_kind (free.Shared n) = Owner
-cell_kind (free.Weak n) = Weak
-
 -- `C X`
 unfoldable pub cell_and_source : NameList → List (List ℕ) → Result ((CellName × Name) × NameList) Cause
 cell_and_source names (one ∷ other ∷ []) = do
-  cell ← cell_at one
+  cell ← cell_at names one
   source ← source_at names (cell_kind cell) other
   Ok ((cell, source), names)
 cell_and_source names _ = Err WrongNumberOfWords
 
+-- `C X`, where the cell is no member of what X owns
+unfoldable pub cell_and_other : NameList → List (List ℕ) → Result ((CellName × Name) × NameList) Cause
+cell_and_other names words = cell_and_source names words >>= apart
+
 -- `T C`: the target has the cell's kind
 unfoldable pub target_and_cell : NameList → List (List ℕ) → Result ((Name × CellName) × NameList) Cause
 target_and_cell names (target ∷ one ∷ []) = do
-  cell ← cell_at one
+  cell ← cell_at names one
   name ← target_at names (cell_kind cell) target
   new ← declared names (cell_kind cell) name
   Ok ((new.0, cell), new.1)
@@ -77,7 +76,7 @@ target_and_cell names _ = Err WrongNumberOfWords
 -- `C X X`
 unfoldable pub cell_and_sources : NameList → List (List ℕ) → Result ((CellName × Name × Name) × NameList) Cause
 cell_and_sources names (one ∷ other ∷ last ∷ []) = do
-  cell ← cell_at one
+  cell ← cell_at names one
   expected ← source_at names (cell_kind cell) other
   desired ← source_at names (cell_kind cell) last
   Ok ((cell, expected, desired), names)

@@ -92,8 +92,8 @@ cell_of_kind kind number = do
   Ok (kind n)
 
 -- the free cell that a word is: `s` or `w`, and its number
-unfoldable pub cell_at : List ℕ → Result CellName Cause
-cell_at [] = Err BadCell
-cell_at (letter ∷ number) =
+unfoldable pub free_cell_at : List ℕ → Result CellName Cause
+free_cell_at [] = Err BadCell
+free_cell_at (letter ∷ number) =
     if letter == 115 then cell_of_kind free.Shared number
     else (if letter == 119 then cell_of_kind free.Weak number else Err BadCell)

@@ -1,22 +1,78 @@
 //! The words of a statement on a cell.
 
-ghost use Rattle.std.specs.Prelude.{◌≡◌};
+ghost use Rattle.std.specs.Prelude.{◌≡◌, MatchOption, None, Some, position};
 ghost use Rattle.script_text.specs.Reading.{Gives};
-ghost use Rattle.script_text.specs.Shapes.{cell_kind, target_and_cell, cell_and_source, cell_and_sources, texts};
+ghost use Rattle.script_text.specs.Cells.{cell_at, cell_kind, is_dot, is_own, member_at, member_number_at, split_dot};
+ghost use Rattle.script_text.specs.Shapes.{target_and_cell, cell_and_source, cell_and_other, cell_and_sources, texts};
 
 use crate::fault::{Cause, Stop};
 use crate::names::Names;
-use crate::word::cell_of;
+use crate::word::{free_cell_of, is_name_word};
 use std::alloc::Global;
 use step_core::{CellName, Kind, Name};
+
+fn dot_place(word: &[u8]) -> Option<usize>
+    ensures { result ≡ position is_dot word.now }
+{
+    word.iter().position(|b| *b == b'.')
+}
+
+/// What stands before the first dot, and what after it.
+fn split_at_dot(word: &[u8]) -> Option<(&[u8], &[u8])>
+    ensures { MatchOption result (split_dot word.now ≡ None)
+        (λ parts. split_dot word.now ≡ Some (parts.0.now, parts.1.now)) }
+{
+    let dot = dot_place(word)?;
+    Some((&word[..dot], &word[dot + 1..]))
+}
+
+/// The number of a member by its name.
+#[tactic(auto, unfolding(crate::specs::Cells::member_number_at))]
+fn member_number(word: &[u8]) -> Result<u8, Stop>
+    ensures { Gives (λ m. m) result (member_number_at word.now) }
+{
+    if word == b"first".as_slice() {
+        Ok(0)
+    } else if word == b"next".as_slice() {
+        Ok(1)
+    } else if word == b"up".as_slice() {
+        Ok(2)
+    } else {
+        Err(Stop::Cause(Cause::BadCell))
+    }
+}
+
+/// A member of what an owner name owns. Both words are well formed before the name is looked up.
+#[tactic(auto, unfolding(crate::specs::Cells::member_at))]
+fn member_of(names: &Names, name: &[u8], word: &[u8]) -> Result<CellName, Stop>
+    ensures { Gives (λ c. c) result (member_at names.now name.now word.now) }
+{
+    if !is_name_word(name) {
+        return Err(Stop::Cause(Cause::BadCell));
+    }
+    let member = member_number(word)?;
+    let name = names.source(Kind::Owner, name)?;
+    Ok(CellName::Member { name, member })
+}
+
+/// The cell that a word is.
+#[tactic(auto, unfolding(crate::specs::Cells::cell_at))]
+fn cell_of(names: &Names, word: &[u8]) -> Result<CellName, Stop>
+    ensures { Gives (λ c. c) result (cell_at names.now word.now) }
+{
+    match split_at_dot(word) {
+        Some((name, member)) => member_of(names, name, member),
+        None => free_cell_of(word),
+    }
+}
 
 /// The kind of the names whose values go into a cell.
 fn kind_of(cell: CellName) -> Kind
     ensures { result ≡ cell_kind cell }
 {
     match cell {
-        CellName::Shared(_) => Kind::Owner,
-        CellName::Weak(_) => Kind::Weak,
+        CellName::Weak(_) | CellName::Member { member: 2, .. } => Kind::Weak,
+        CellName::Shared(_) | CellName::Member { .. } => Kind::Owner,
     }
 }
 
@@ -32,7 +88,7 @@ pub(crate) fn target_and_cell(
     let [written, one] = words else {
         return Err(Stop::Cause(Cause::WrongNumberOfWords));
     };
-    let cell = cell_of(one)?;
+    let cell = cell_of(names, one)?;
     let kind = kind_of(cell);
     let name = names.target(kind, written)?;
     let target = names.declare(alloc, kind, name)?;
@@ -47,9 +103,31 @@ pub(crate) fn cell_and_source(names: &Names, words: &[&[u8]]) -> Result<(CellNam
     let [one, other] = words else {
         return Err(Stop::Cause(Cause::WrongNumberOfWords));
     };
-    let cell = cell_of(one)?;
+    let cell = cell_of(names, one)?;
     let source = names.source(kind_of(cell), other)?;
     Ok((cell, source))
+}
+
+/// Whether the cell is a member of what the name owns.
+fn is_own(cell: CellName, name: Name) -> bool
+    ensures { result ≡ is_own cell name }
+{
+    match cell {
+        CellName::Member { name: of, .. } => of == name,
+        CellName::Shared(_) | CellName::Weak(_) => false,
+    }
+}
+
+/// A cell, and a source of its kind, of which the cell is no member.
+#[tactic(auto, unfolding(crate::specs::Shapes::cell_and_other))]
+pub(crate) fn cell_and_other(names: &Names, words: &[&[u8]]) -> Result<(CellName, Name), Stop>
+    ensures { Gives (λ n. (n, names.now)) result (cell_and_other names.now (texts words.now)) }
+{
+    let (cell, name) = cell_and_source(names, words)?;
+    if is_own(cell, name) {
+        return Err(Stop::Cause(Cause::NameUsedTwice));
+    }
+    Ok((cell, name))
 }
 
 /// A cell, and two sources of its kind.
@@ -63,7 +141,7 @@ pub(crate) fn cell_and_sources(
     let [one, other, last] = words else {
         return Err(Stop::Cause(Cause::WrongNumberOfWords));
     };
-    let cell = cell_of(one)?;
+    let cell = cell_of(names, one)?;
     let kind = kind_of(cell);
     let expected = names.source(kind, other)?;
     let desired = names.source(kind, last)?;

@@ -36,16 +36,17 @@
 //! | `before Y Y` | `Before`; each name of either kind | |
 //! | `load T C` | `Load` | of the kind of the cell |
 //! | `store C X` | `Store`; X of the kind of the cell | |
-//! | `exchange C X` | `Exchange`; the same | |
+//! | `exchange C X` | `Exchange`; the same, and C no member of X | |
 //! | `compare C X X` | `Compare`; the same | |
 //! | `compare_weak C X X` | `Compare`, weak; the same | |
 //!
 //! A number is at most 18446744073709551615, a field (`F`) a number from 0 to 3; leading zeros are read, and not written.
-//! A cell (`C`) is `s` ([util.smartptr.atomic.shared]) or `w` ([util.smartptr.atomic.weak]) and a number from 0 to 127.
+//! A cell (`C`) is `s` ([util.smartptr.atomic.shared]) or `w` ([util.smartptr.atomic.weak]) and a number from 0 to 127, or an owner
+//! name, a dot and a member: `first` and `next` are shared, `up` is weak.
 //!
 //! On one line causes are looked for in the order in which [`Cause`] lists them, except that the words
-//! after the first are looked at from left to right (those of `load` from right to left): each by its form, then whether a source is
-//! declared, then whether it is declared with the other kind, be it a source or a target.
+//! after the first are looked at from left to right (those of `load` from right to left): each by its form, then whether a source, or
+//! the name before a dot, is declared, then whether it is declared with the other kind, be it one of these or a target.
 //!
 //! A further statement is a variant of `step_core::Call` with its names in `names_of`, a row in
 //! `keyword.rt`, an arm in `statement.rt` and one in `line.rt`, the same three in `specs/Keywords`,
@@ -80,6 +81,8 @@ mod cell_tests;
 mod compare_tests;
 #[cfg(test)]
 mod load_tests;
+#[cfg(test)]
+mod member_tests;
 #[cfg(test)]
 mod place_tests;
 #[cfg(test)]

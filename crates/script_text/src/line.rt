@@ -3,7 +3,8 @@
 ghost use Rattle.std.specs.Prelude.{◌≡◌, ◌∷◌, [], ◌++◌, map, OnOk, codes, string_bytes, decimal};
 ghost use Rattle.std.specs.List.{flat_map};
 ghost use Rattle.script_text.specs.Names.{NameList};
-ghost use Rattle.script_text.specs.Canonical.{AddsLines, cell_text, spaced, number_after, call_words, line_words, call_line};
+ghost use Rattle.script_text.specs.Cells.{cell_text, member_text};
+ghost use Rattle.script_text.specs.Canonical.{AddsLines, spaced, number_after, call_words, line_words, call_line};
 
 use crate::names::Names;
 use std::alloc::AllocError;
@@ -143,45 +144,80 @@ fn put_alias(
     Ok(())
 }
 
-/// Adds a line of a word, a cell and a name.
-fn put_cell(text: &mut String, first: &str, cell: CellName, name: &str) -> Result<(), AllocError>
+/// How a member is spelled.
+fn member_text(member: u8) -> &'static str
+    ensures { result.now ≡ member_text member }
+{
+    match member {
+        0 => "first",
+        1 => "next",
+        _ => "up",
+    }
+}
+
+/// Adds a space and a cell.
+fn put_cell_word(text: &mut String, names: &Names, cell: CellName) -> Result<(), AllocError>
     ensures { OnOk result
-        (AddsLines text.old text.new (spaced (first.now ∷ cell_text cell ∷ name.now ∷ []) ∷ [])) }
+        (string_bytes text.new ≡ string_bytes text.old ++ codes " " ++ cell_text names.now cell) }
 {
     match cell {
-        CellName::Shared(number) => writeln!(text, "{first} s{number} {name}")?,
-        CellName::Weak(number) => writeln!(text, "{first} w{number} {name}")?,
+        CellName::Shared(number) => write!(text, " s{number}")?,
+        CellName::Weak(number) => write!(text, " w{number}")?,
+        CellName::Member { name, member } => {
+            let (of, member) = (names.text(name), member_text(member));
+            write!(text, " {of}.{member}")?;
+        }
     }
+    Ok(())
+}
+
+/// Adds a line of a word, a cell and a name.
+fn put_cell(
+    text: &mut String,
+    names: &Names,
+    first: &str,
+    cell: CellName,
+    name: &str,
+) -> Result<(), AllocError>
+    ensures { OnOk result (AddsLines text.old text.new
+        (spaced (first.now ∷ cell_text names.now cell ∷ name.now ∷ []) ∷ [])) }
+{
+    text.push_str(first)?;
+    put_cell_word(text, names, cell)?;
+    writeln!(text, " {name}")?;
     Ok(())
 }
 
 /// Adds the line of a load.
-fn put_load(text: &mut String, target: &str, cell: CellName) -> Result<(), AllocError>
-    ensures { OnOk result
-        (AddsLines text.old text.new (spaced (codes "load" ∷ target.now ∷ cell_text cell ∷ []) ∷ [])) }
+fn put_load(
+    text: &mut String,
+    names: &Names,
+    target: &str,
+    cell: CellName,
+) -> Result<(), AllocError>
+    ensures { OnOk result (AddsLines text.old text.new
+        (spaced (codes "load" ∷ target.now ∷ cell_text names.now cell ∷ []) ∷ [])) }
 {
-    match cell {
-        CellName::Shared(number) => writeln!(text, "load {target} s{number}")?,
-        CellName::Weak(number) => writeln!(text, "load {target} w{number}")?,
-    }
+    write!(text, "load {target}")?;
+    put_cell_word(text, names, cell)?;
+    text.push_str("\n")?;
     Ok(())
 }
 
-/// Adds the line of a word, a cell and two names.
+/// Adds a line of a word, a cell and two names.
 fn put_compare(
     text: &mut String,
+    names: &Names,
     first: &str,
     cell: CellName,
     expected: &str,
     desired: &str,
 ) -> Result<(), AllocError>
     ensures { OnOk result (AddsLines text.old text.new
-        (spaced (first.now ∷ cell_text cell ∷ expected.now ∷ desired.now ∷ []) ∷ [])) }
+        (spaced (first.now ∷ cell_text names.now cell ∷ expected.now ∷ desired.now ∷ []) ∷ [])) }
 {
-    match cell {
-        CellName::Shared(number) => write!(text, "{first} s{number}")?,
-        CellName::Weak(number) => write!(text, "{first} w{number}")?,
-    }
+    text.push_str(first)?;
+    put_cell_word(text, names, cell)?;
     writeln!(text, " {expected} {desired}")?;
     Ok(())
 }
@@ -203,11 +239,11 @@ pub(crate) fn put_call(text: &mut String, names: &Names, call: &Call) -> Result<
         Line::AliasNull(target, source) => {
             put_alias_null(text, names.text(target), names.text(source))
         }
-        Line::Cell(word, cell, name) => put_cell(text, word, cell, names.text(name)),
-        Line::Load(target, cell) => put_load(text, names.text(target), cell),
+        Line::Cell(word, cell, name) => put_cell(text, names, word, cell, names.text(name)),
+        Line::Load(target, cell) => put_load(text, names, names.text(target), cell),
         Line::Compare(word, cell, expected, desired) => {
             let (expected, desired) = (names.text(expected), names.text(desired));
-            put_compare(text, word, cell, expected, desired)
+            put_compare(text, names, word, cell, expected, desired)
         }
     }
 }

@@ -51,8 +51,8 @@ impl Script {
     }
 
     /// The program of the script (own): for each thread, in order, an actor with the kinds of its names
-    /// and its calls in order. It is within the limits of a program, its calls are well named, and a shape with 128 cells of
-    /// each kind has their cells.
+    /// and its calls in order. It is within the limits of a program, its calls are well named and exchange no name with a
+    /// member of its own object, and a shape with 128 cells of each kind has their cells.
     ///
     /// Refused by 1 alone, where a growth is refused; the script is as it was.
     pub fn program(&self, alloc: Global) -> Result<Program, Refusal>

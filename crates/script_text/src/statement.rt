@@ -6,7 +6,7 @@ ghost use Rattle.script_text.specs.Shapes.{cell_and_sources, texts};
 ghost use Rattle.script_text.specs.Calls.{as_call, call_at, cell_call_at, place_call_at, weak_call_at};
 
 use crate::alias::alias;
-use crate::cell::{cell_and_source, cell_and_sources, target_and_cell};
+use crate::cell::{cell_and_other, cell_and_source, cell_and_sources, target_and_cell};
 use crate::fault::Stop;
 use crate::keyword::{CellKeyword, Keyword, PlaceKeyword, WeakKeyword};
 use crate::names::Names;
@@ -126,7 +126,7 @@ fn cell_call_of(
             Ok(Call::Store { cell, source })
         }
         CellKeyword::Exchange => {
-            let (cell, name) = cell_and_source(names, words)?;
+            let (cell, name) = cell_and_other(names, words)?;
             Ok(Call::Exchange { cell, name })
         }
         CellKeyword::Compare => compare(names, words, false),

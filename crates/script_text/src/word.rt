@@ -3,7 +3,7 @@
 ghost use Rattle.std.specs.Prelude.{◌≡◌, ◌||◌, map, IfOk};
 ghost use Rattle.std.specs.List.{list_all};
 ghost use Rattle.script_text.specs.Reading.{Gives};
-ghost use Rattle.script_text.specs.Words.{is_space, is_clean_byte, is_name_byte, is_digit, words_of, line_content, is_name, name_at, number_at, cell_number_at, cell_at, field_at};
+ghost use Rattle.script_text.specs.Words.{is_space, is_clean_byte, is_name_byte, is_digit, words_of, line_content, is_name, name_at, number_at, cell_number_at, free_cell_at, field_at};
 
 use crate::fault::{Cause, Stop};
 use std::alloc::{AllocError, Global};
@@ -63,7 +63,7 @@ fn is_name_tail(bytes: &[u8]) -> bool
     bytes.iter().all(|b| is_name_code(*b))
 }
 
-fn is_name_word(word: &[u8]) -> bool
+pub(crate) fn is_name_word(word: &[u8]) -> bool
     ensures { result ≡ is_name word.now }
 {
     match word {
@@ -140,9 +140,9 @@ fn cell_number(word: &[u8]) -> Result<u8, Stop>
 }
 
 /// The free cell that a word is.
-#[tactic(auto, unfolding(crate::specs::Words::cell_at))]
-pub(crate) fn cell_of(word: &[u8]) -> Result<CellName, Stop>
-    ensures { Gives (λ c. c) result (cell_at word.now) }
+#[tactic(auto, unfolding(crate::specs::Words::free_cell_at))]
+pub(crate) fn free_cell_of(word: &[u8]) -> Result<CellName, Stop>
+    ensures { Gives (λ c. c) result (free_cell_at word.now) }
 {
     match word {
         [b's', number @ ..] => Ok(CellName::Shared(cell_number(number)?)),

@@ -8,6 +8,8 @@ mod command;
 #[cfg(test)]
 mod fine_tests;
 #[cfg(test)]
+mod member_tests;
+#[cfg(test)]
 mod place_tests;
 mod serve;
 #[cfg(test)]
