@@ -1,5 +1,5 @@
 //! How a thread goes on from act to act.
-ghost use Rattle.std.specs.Prelude.{◌≡◌, ◌⊎◌, ◌+◌, ◌<◌, ◌≤◌, ◌==◌, ◌∷◌, ℕ, length, drop, true, false, cond, slice_set, Option, Some, None, option_map};
+ghost use Rattle.std.specs.Prelude.{◌≡◌, ◌⊎◌, ◌+◌, ◌<◌, ◌≤◌, ◌==◌, ◌∷◌, [], ℕ, length, drop, true, false, cond, slice_set, Option, Some, None, option_map};
 ghost use Rattle.control_word.specs.declared.handle.Kind.TheVariants.{Owner};
 ghost use Rattle.control_word.specs.Words.{flags_of};
 ghost use Rattle.step_table.specs.Deeds.{as_weak, by_word, downgrade, is_expired, is_last, leave, share, tell, tell_expired};
@@ -286,6 +286,7 @@ impl Course {
         requires holds { Holds desk self.old.holdings.slots.items table.old }
         requires within { self.old.at < length self.old.tasks.items }
         requires ready { CourseReady self.old }
+        requires none { self.old.endings.list ≡ [] }
         requires act { (task_at self.old).act ≡ Act.Make form }
         ensures table { table.new ≡ after table.old desk (Deed.Claim block form.enabled form.null form.fields) }
         ensures walk { walk self.new

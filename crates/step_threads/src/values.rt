@@ -80,6 +80,7 @@ impl Course {
     pub(crate) fn pull(&mut self, name: u8)
         requires within { self.old.at < length self.old.tasks.items }
         requires ready { CourseReady self.old }
+        requires none { self.old.endings.list ≡ [] }
         requires act { (task_at self.old).act ≡ Act.Move name }
         ensures walk { walk self.new ≡ settled (passed name (hand self.old.holdings.slots.items) self.old.holdings.slots.items) true self.old.endings.list (rest self.old) }
         ensures on { (d : ℕ) (v : Story) → Holds d self.old.holdings.slots.items v → HasGoneOn d self.old self.new v }

@@ -1,10 +1,16 @@
-use Rattle.step_threads.specs.declared.half.Half.TheVariants.{Rest}
+use Rattle.step_threads.specs.declared.half.Half.TheVariants.{Making, Rest}
 use Rattle.std.proofs.Common.{sym, subst}
 use Rattle.step_threads.specs.Courses.{HasGoneOn}
 use Rattle.step_table.specs.Stories.{Story}
-use Rattle.step_threads.specs.Threads.{Fits}
+use Rattle.step_threads.specs.declared.half.Half.{Half}
+use Rattle.step_threads.specs.Threads.{Fits, IsNext}
 use Rattle.step_threads.proofs.Threads.{fits_claim}
 use Rattle.step_threads.proofs.thread.Thread.claim.Goals as goal
+
+pub claim-requires-clause-none : goal.claim-requires-clause-none
+claim-requires-clause-none c =
+    let n : IsNext (Making c.args.block 5 c.args.differs) c.args.self.now.course =
+    subst (λ (h : Half). IsNext h c.args.self.now.course) c.requires.half c.requires.fits.next in n.2
 
 pub returns-clause-fits : goal.returns-clause-fits
 returns-clause-fits c =
