@@ -6,7 +6,6 @@ pub mod Named
 pub mod Threads
 pub mod Endings
 pub mod EndSteps
-pub mod EndTells
 pub mod Carrying
 pub mod CarrySteps
 pub mod LeaveSteps

@@ -5,6 +5,8 @@ use Rattle.step_table.specs.declared.cell_deed.Cell.TheVariants.{Member}
 use Rattle.step_table.specs.Contents.{held_in, slot_of}
 use Rattle.step_table.specs.Holdings.{Holds, slot}
 use Rattle.step_table.specs.Stories.{Story, state}
+use Rattle.step_threads.specs.declared.said.Said.{Said}
+use Rattle.step_threads.specs.declared.said.Stepped.TheVariants.{Event}
 use Rattle.step_threads.specs.Steps.{gives_back}
 use Rattle.step_threads.specs.Threads.{Fits, HasStepped}
 use Rattle.step_threads.proofs.Emptying.{clearing_here, fits_emptied, idle_clearing, is_clearing, none_full, stepped_emptied}
@@ -77,9 +79,12 @@ returns-clause-stepped c =
     let first = sym c.first.ensures ∙ c.in-Some.is in
     let x = c.take_out-found.result in
     let h = c.take_out-found.new.self in
-    stepped_emptied d t v c.take_out-found.new.table e (drop 1 t.course.endings.list) h c.advance.new.self c.returning-self.result x c.requires.half
+    subst (λ (y : Said). HasStepped d t v (Event y)
+    (record { course = record t.course { holdings = h; endings = c.advance.new.self }; stock = t.stock; half = c.returning-self.result })
+    c.take_out-found.new.table) (sym c.silent.ensures)
+    (stepped_emptied d t v c.take_out-found.new.table e (drop 1 t.course.endings.list) h c.advance.new.self c.returning-self.result x c.requires.half
     (first_is t.course.endings.list e first) c.take_out-found.ensures.found
     (c.take_out-found.ensures.slots
     ∙ ap (λ (i : ℕ). cond (is_some x.owned) (set slots i (slot_of (state v) (held_in (state v) (Member e.block e.stage)))) slots) c.hand-hand.ensures)
     c.take_out-found.ensures.table c.advance.ensures.list
-    (c.returning-self.ensures ∙ ap (λ (k : Kind). gives_back k e.statement x x.owned) c.kind_in-kind.ensures)
+    (c.returning-self.ensures ∙ ap (λ (k : Kind). gives_back k e.statement x x.owned) c.kind_in-kind.ensures))
