@@ -57,6 +57,10 @@ saw_load d t v c x fits e act = subst (λ (a : Act). IsSeenBy t.course.holdings.
 pub saw_loads : (d : ℕ) (t : Thread) (v : Story) (c : CellName) (x : CellWord) → Fits d t v → t.half ≡ Saw x → (task_at t.course).act ≡ Load c → IsLoaded x
 saw_loads d t v c x fits e act = (saw_load d t v c x fits e act).1
 
+pub saw_there : (d : ℕ) (t : Thread) (v : Story) (c : CellName) (x : CellWord) → Fits d t v → t.half ≡ Saw x → (task_at t.course).act ≡ Load c
+    → is_there t.course.holdings.slots.items c ≡ true
+saw_there d t v c x fits e act = (saw_load d t v c x fits e act).0
+
 -- it can act
 pub saw_acts : (d : ℕ) (t : Thread) (v : Story) (x : CellWord) → Fits d t v → t.half ≡ Saw x → CanAct d t.course v
 saw_acts d t v x fits e =
@@ -85,7 +89,7 @@ module _ (d : ℕ) (t : Thread) (v : Story) (c : CellName) (x : CellWord) (fits 
       → is_there t.course.holdings.slots.items c ≡ true → IsCellWord x → is_some x.owned ≡ true → is_spent x ≡ false → Fits d (At t (Saw x)) v
   fits_saw e none lt act there valid full left =
       let seen : IsSeenBy t.course.holdings.slots.items x (task_at t.course).act =
-      subst (λ (a : Act). IsSeenBy t.course.holdings.slots.items x a) (sym act) (there, some_owned x.owned full, few_taken x valid full left) in
+      subst (λ (a : Act). IsSeenBy t.course.holdings.slots.items x a) (sym act) (there, (some_owned x.owned full, few_taken x valid full left)) in
       fits_half d t v Rest (Saw x) fits e (λ b. refl) (λ b. refl) (half_here d t v Rest fits e, valid) (lt, seen, none)
 
   -- a fund is taken

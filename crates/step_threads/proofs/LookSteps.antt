@@ -28,7 +28,9 @@ use Rattle.step_threads.specs.Scenes.{came}
 use Rattle.step_threads.specs.Steps.{Step, acts, half_by, refills_on, saw, saw_on, sees, silent, step_at, stepped, story_after, story_by, takes, waits, walk_by, within}
 use Rattle.step_table.specs.Stories.{Story, after, state}
 use Rattle.step_threads.specs.Threads.{HasStepped}
+use Rattle.step_threads.specs.declared.said.Answer.{Answer}
 use Rattle.step_threads.proofs.Courses.{todo_at}
+use Rattle.step_threads.proofs.Named.{refusal_none, told_as, walked_by}
 use Rattle.step_threads.proofs.Steps.{at_act, stepped_as, waits_act}
 
 -- a thread that waits does nothing
@@ -112,7 +114,9 @@ module _ (d : ℕ) (t : Thread) (v : Story) (c : CellName) (x : CellWord) (is : 
       let ts = rest t.course in
       let at = cell_at (state v) t.course.holdings.slots.items c in
       stepped_as d t v (acts v d w n ts (Load c) (Some (OnCell (Look at x None))) Rest) r t' v' (waiting ∙ spent_bare x bare)
-      (looks_at ∙ ap (λ (s : Step). Some s) (sees_bare v d w n ts (Load c) at None x bare)) answer story walked half
+      (looks_at ∙ ap (λ (s : Step). Some s) (sees_bare v d w n ts (Load c) at None x bare))
+      (answer ∙ ap (λ (o : Option Answer). Event (told_as n o)) (sym (refusal_none t.course.holdings.slots.items c there)))
+      story (walked ∙ sym (ap (λ (b : Bool). walked_by w ts (cond b (slice_set w.slots (hand w.slots) (came (state v) w.slots c), true) (w.slots, w.taken))) there)) half
 
   -- one of which all funds were taken waits
   pub loads_spent : (r : Stepped) (t' : Thread) (v' : Story) → is_spent x ≡ true → r ≡ Waited → v' ≡ v → walk t'.course ≡ walk t.course → t'.half ≡ Rest
@@ -145,17 +149,19 @@ module _ (d : ℕ) (t : Thread) (v : Story) (c : CellName) (x : CellWord) (saws 
   still_on = let w = walk t.course in ap (λ (h : Half). waits v h w) saws
 
   -- a fund is taken
-  pub takes_fund : (r : Stepped) (t' : Thread) (v' : Story) → (word_at v (cell_at (state v) t.course.holdings.slots.items c) == cell_bits x) ≡ true
+  pub takes_fund : (r : Stepped) (t' : Thread) (v' : Story) → is_there t.course.holdings.slots.items c ≡ true → (word_at v (cell_at (state v) t.course.holdings.slots.items c) == cell_bits x) ≡ true
       → r ≡ Event (silent (task_at t.course).statement) → v' ≡ after v d (OnCell (Take (cell_at (state v) t.course.holdings.slots.items c) x None))
       → walk t'.course ≡ settled (slice_set t.course.holdings.slots.items (hand t.course.holdings.slots.items) (came (state v) t.course.holdings.slots.items c)) true t.course.endings.list (rest t.course)
       → t'.half ≡ Refill Turning (cell_at (state v) t.course.holdings.slots.items c) (more_taken x) (task_at t.course).statement → HasStepped d t v r t' v'
-  takes_fund r t' v' same answer story walked half =
+  takes_fund r t' v' there same answer story walked half =
       let w = walk t.course in
       let n = (task_at t.course).statement in
       let ts = rest t.course in
       let at = cell_at (state v) t.course.holdings.slots.items c in
       stepped_as d t v (acts v d w n ts (Load c) (Some (OnCell (Take at x None))) (Refill Turning at (more_taken x) n)) r t' v' still_on
-      (seen_on ∙ ap (λ (s : Step). Some s) (takes_it v d w n ts (Load c) at None x same)) answer story walked half
+      (seen_on ∙ ap (λ (s : Step). Some s) (takes_it v d w n ts (Load c) at None x same))
+      (answer ∙ ap (λ (o : Option Answer). Event (told_as n o)) (sym (refusal_none t.course.holdings.slots.items c there)))
+      story (walked ∙ sym (ap (λ (b : Bool). walked_by w ts (cond b (slice_set w.slots (hand w.slots) (came (state v) w.slots c), true) (w.slots, w.taken))) there)) half
 
   -- the cell shows something else: the load begins again
   pub takes_nothing : (r : Stepped) (t' : Thread) (v' : Story) → (word_at v (cell_at (state v) t.course.holdings.slots.items c) == cell_bits x) ≡ false

@@ -1,10 +1,18 @@
--- The names of the cells of acts are slots.
-use Rattle.std.proofs.Common.{◌≡◌, ◌<◌, ℕ, Bool, length, subst}
+-- The names of the cells of acts are slots, and an act on a cell that is there isn't refused.
+use Rattle.std.proofs.Common.{◌≡◌, ◌<◌, ℕ, Bool, true, List, length, refl, subst}
+use Rattle.std.proofs.lemmas.Bool.{cond-true}
+use Rattle.std.specs.Prelude.{Option, Some, None}
 use Rattle.step_threads.specs.declared.act.Act.{Act}
 use Rattle.step_threads.specs.declared.act.Act.TheVariants.{Compare, Exchange, Load, Offer, Swap}
+use Rattle.step_threads.specs.declared.act.Task.{Task}
 use Rattle.step_threads.specs.declared.call.CellName.{CellName}
+use Rattle.step_threads.specs.declared.call.CellName.TheVariants.{Shared, Weak, Member}
 use Rattle.step_threads.specs.declared.course.Course.{Course}
-use Rattle.step_threads.specs.Courses.{Begins, CourseReady, IsNamed, other, task_at}
+use Rattle.step_threads.specs.declared.said.Answer.{Answer}
+use Rattle.step_threads.specs.declared.said.Said.{Said}
+use Rattle.step_table.specs.Holdings.{Slots, place_in}
+use Rattle.step_threads.specs.Courses.{Begins, CourseReady, IsNamed, Walk, is_there, other, settled, task_at}
+use Rattle.step_threads.specs.Scenes.{Hands, outside, refusal}
 use Rattle.step_threads.proofs.CellNames.{cell_named}
 use Rattle.step_threads.proofs.Courses.{ready_head}
 
@@ -26,3 +34,15 @@ module _ (c : Course) (x : CellName) (lt : c.at < length c.tasks.items) (ready :
 
   pub named_compare : (k : ℕ) (weak : Bool) → (task_at c).act ≡ Compare k x weak → IsNamed (length c.holdings.slots.items) x
   named_compare k weak act = cell_named c.holdings.slots.items x (begins (Compare k x weak) act).1
+
+abbrev pub told_as : ℕ → Option Answer → Said
+told_as n a = record { statement = n; answer = a; ended = None }
+
+-- where a thread is that has this in its slots
+abbrev pub walked_by : Walk → List Task → Hands → Walk
+walked_by w ts y = settled y.0 y.1 w.endings ts
+
+pub refusal_none : (slots : Slots) (c : CellName) → is_there slots c ≡ true → refusal slots c ≡ None
+refusal_none slots (Shared n) there = refl
+refusal_none slots (Weak n) there = refl
+refusal_none slots (Member k m) there = cond-true (is_there slots (Member k m)) None (Some (outside (place_in slots k.0))) there

@@ -1,17 +1,25 @@
 -- What the steps of a thread are that puts values into cells.
-use Rattle.std.proofs.Common.{◌≡◌, ℕ, ◌<◌, [], length, ap, ◌∙◌}
-use Rattle.std.specs.Prelude.{Option, Some, None}
+use Rattle.std.proofs.Common.{◌≡◌, ℕ, ◌<◌, Bool, true, cond, [], length, refl, sym, ap, ◌∙◌}
+use Rattle.std.specs.Prelude.{Option, Some, None, is_some, option_map, slice_set}
+use Rattle.control_word.specs.declared.handle.Kind.{Kind}
+use Rattle.control_word.specs.declared.handle.Kind.TheVariants.{Owner, Weak}
+use Rattle.step_threads.specs.declared.act.Act.TheVariants.{Offer}
+use Rattle.step_threads.specs.declared.said.Stepped.{Stepped}
+use Rattle.step_threads.specs.declared.said.Stepped.TheVariants.{Event, Quiet}
 use Rattle.step_threads.specs.declared.act.Act.{Act}
 use Rattle.step_threads.specs.declared.call.CellName.{CellName}
 use Rattle.step_threads.specs.declared.half.Half.TheVariants.{Rest}
 use Rattle.step_table.specs.declared.holdings.Pointer.{Pointer}
 use Rattle.step_threads.specs.declared.thread.Thread.{Thread}
-use Rattle.step_threads.specs.Courses.{Going, going, on_going, rest, task_at, walk}
-use Rattle.step_table.specs.Deeds.{on}
-use Rattle.step_table.specs.Holdings.{slot}
-use Rattle.step_threads.specs.Steps.{Step, acts, brings, first, sends, step_at, swaps}
-use Rattle.step_table.specs.Stories.{Story}
-use Rattle.step_threads.proofs.Steps.{at_act}
+use Rattle.step_threads.specs.Courses.{Going, done_on, fitting, going, hand, is_there, kind_at, offered, on_going, rest, settled, task_at, walk}
+use Rattle.step_table.specs.Deeds.{on, share, share_as}
+use Rattle.step_table.specs.Holdings.{is_full, slot, value}
+use Rattle.step_threads.specs.Scenes.{refusal}
+use Rattle.step_threads.specs.Steps.{Step, acts, brings, first, sends, silent, step_at, swaps}
+use Rattle.step_table.specs.Stories.{Story, event_of}
+use Rattle.step_threads.specs.Threads.{HasStepped}
+use Rattle.step_threads.proofs.Named.{refusal_none, told_as, walked_by}
+use Rattle.step_threads.proofs.Steps.{at_act, on_slot, says_on, stepped_as, waits_act}
 
 module _ (d : ℕ) (t : Thread) (v : Story) (a : Act) (c : CellName) (i : ℕ) (none : t.course.endings.list ≡ [])
     (lt : t.course.at < length t.course.tasks.items) (act : (task_at t.course).act ≡ a)
@@ -35,3 +43,27 @@ module _ (d : ℕ) (t : Thread) (v : Story) (a : Act) (c : CellName) (i : ℕ) (
       let n = (task_at t.course).statement in
       let ts = rest t.course in
       step_sends e goes ∙ ap (λ (o : Option Pointer). Some (on (brings w n) (swaps v d w n ts a c i) o)) at
+
+share_event : (v : Story) (x : Pointer) (k : Kind) → is_some (event_of v (share_as k x)) ≡ true
+share_event v x Owner = refl
+share_event v x Weak = refl
+
+-- a copy is taken for a cell that is there
+pub step_offers : (d : ℕ) (t : Thread) (v : Story) (k : ℕ) (c : CellName) → t.half ≡ Rest → t.course.endings.list ≡ []
+    → t.course.at < length t.course.tasks.items → (task_at t.course).act ≡ Offer k c → is_there t.course.holdings.slots.items c ≡ true
+    → (b : Bool) (r : Stepped) (t' : Thread) (v' : Story)
+    → r ≡ cond b (Event (silent (task_at t.course).statement)) (Quiet (silent (task_at t.course).statement))
+    → b ≡ is_full (offered t.course.holdings.slots.items k c) → v' ≡ done_on share v d (offered t.course.holdings.slots.items k c)
+    → walk t'.course ≡ settled (slice_set t.course.holdings.slots.items (hand t.course.holdings.slots.items) (fitting (kind_at c) (value t.course.holdings.slots.items k)))
+    true t.course.endings.list (rest t.course)
+    → t'.half ≡ Rest → HasStepped d t v r t' v'
+step_offers d t v k c rests none lt act there b r t' v' answer is story walked half =
+    let w = walk t.course in
+    let n = (task_at t.course).statement in
+    let ts = rest t.course in
+    let o = offered w.slots k c in
+    stepped_as d t v (acts v d w n ts (Offer k c) (option_map share o) Rest) r t' v' (waits_act t v (Offer k c) rests none lt act)
+    (at_act d t v (Offer k c) rests none lt act)
+    (says_on share v o r (silent n) (told_as n (refusal w.slots c)) b (λ p. share_event v p p.kind) answer is (ap (told_as n) (sym (refusal_none w.slots c there))))
+    (story ∙ on_slot share v d o)
+    (walked ∙ sym (ap (λ (q : Bool). walked_by w ts (cond q (slice_set w.slots (hand w.slots) (fitting (kind_at c) (value w.slots k)), true) (w.slots, w.taken))) there)) half

@@ -66,6 +66,7 @@ impl Thread {
 
     /// The first step of an exchange: the funds of what a name holds are brought. A name without an object is exchanged at once,
     /// and one that may not go into the cell not at all. Where the cell isn't there it is refused.
+    #[tactic(auto, using(crate::proofs::Named::refusal_none))]
     pub(crate) fn send(&mut self, desk: usize, table: &mut Table, name: u8, cell: CellName) -> Stepped
         requires fits { Fits desk self.old table.old }
         requires rest { self.old.half ≡ Half.Rest }
@@ -127,6 +128,7 @@ impl Thread {
     }
 
     /// What a name holds goes into the cell, and what comes out into the name.
+    #[tactic(auto, using(crate::proofs::Named::refusal_none))]
     fn exchange(&mut self, desk: usize, table: &mut Table, name: u8, cell: CellName) -> Stepped
         requires fits { Fits desk self.old table.old }
         requires half { (self.old.half ≡ Half.Rest) ⊎ (self.old.half ≡ Half.Brought) }

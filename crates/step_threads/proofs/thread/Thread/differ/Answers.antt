@@ -17,6 +17,8 @@ use Rattle.step_threads.proofs.CompareTells.{tells_still}
 use Rattle.step_threads.proofs.LoadFits.{saw_next}
 use Rattle.step_threads.proofs.StoreFits.{half_here}
 use Rattle.step_threads.proofs.thread.Thread.differ.Goals as goal
+use Rattle.step_threads.proofs.Compares.{may_compare}
+use Rattle.step_threads.proofs.Named.{named_compare}
 
 pub returns-clause-stepped : goal.returns-clause-stepped
 returns-clause-stepped c =
@@ -55,3 +57,16 @@ returns-clause-fits c =
     (compare_taken d t v c.args.name c.args.cell c.args.weak x r.fits r.act took.new.self (compared_in slots (comparing slots c.args.name c.args.weak)) c.known.ensures m r.half
     (saw_other d t v c.args.name c.args.cell c.args.weak x r.fits r.act r.half r.differs)
     (subst (λ (u : Story). HasGoneOn d t.course took.new.self u) table (took.ensures.on yes))))
+
+pub cell-at-requires-clause-named : goal.cell-at-requires-clause-named
+cell-at-requires-clause-named c =
+    let t = c.args.self.now in
+    let r = c.requires in
+    named_compare t.course c.args.cell (saw_next c.args.desk t c.args.table.now c.args.found r.fits r.half).0 r.fits.ready c.args.name c.args.weak r.act
+
+pub cell-at-requires-clause-there : goal.cell-at-requires-clause-there
+cell-at-requires-clause-there c =
+    let t = c.args.self.now in
+    let r = c.requires in
+    let within = (saw_next c.args.desk t c.args.table.now c.args.found r.fits r.half).0 in
+    (may_compare t.course c.args.name c.args.cell c.args.weak within r.fits.ready r.act r.fits.still).0

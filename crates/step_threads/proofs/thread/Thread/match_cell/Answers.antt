@@ -16,6 +16,8 @@ use Rattle.step_threads.proofs.CompareFits.{compare_missed, compare_swapped, loo
 use Rattle.step_threads.proofs.CompareSteps.{answers, swaps_it, swaps_none}
 use Rattle.step_threads.proofs.CompareTells.{match_at, match_goes, match_none, match_valid, match_within, tells_still}
 use Rattle.step_threads.proofs.thread.Thread.match_cell.Goals as goal
+use Rattle.step_threads.proofs.Compares.{may_compare}
+use Rattle.step_threads.proofs.Named.{named_compare}
 
 pub returns-then-not-compare_and_swap-clause-stepped : goal.returns-then-not-compare_and_swap-clause-stepped
 returns-then-not-compare_and_swap-clause-stepped c =
@@ -97,3 +99,17 @@ returns-clause-fits c =
     (compare_swapped d t v k n c.args.weak x r.fits r.act swap.new.self (compared_in slots (comparing slots k c.args.weak)) c.known.ensures m
     (looking_claims t x r.half) (match_none d t v k n c.args.weak x r.fits r.act r.half)
     (subst (λ (u : Story). HasGoneOn d t.course swap.new.self u) table (swap.ensures.on hit))))
+
+pub cell-at-requires-clause-named : goal.cell-at-requires-clause-named
+cell-at-requires-clause-named c =
+    let t = c.args.self.now in
+    let r = c.requires in
+    let within = match_within c.args.desk t c.args.table.now c.args.name c.args.cell c.args.weak c.args.found r.fits r.act r.half in
+    named_compare t.course c.args.cell within r.fits.ready c.args.name c.args.weak r.act
+
+pub cell-at-requires-clause-there : goal.cell-at-requires-clause-there
+cell-at-requires-clause-there c =
+    let t = c.args.self.now in
+    let r = c.requires in
+    let within = match_within c.args.desk t c.args.table.now c.args.name c.args.cell c.args.weak c.args.found r.fits r.act r.half in
+    (may_compare t.course c.args.name c.args.cell c.args.weak within r.fits.ready r.act r.fits.still).0

@@ -1,9 +1,14 @@
-use Rattle.std.proofs.Common.{sym, subst}
+use Rattle.std.proofs.Common.{cond, inl, inr, sym, ap, subst, ◌∙◌}
 use Rattle.step_threads.specs.Courses.{offered}
 use Rattle.step_table.specs.Deeds.{share}
 use Rattle.step_threads.specs.Threads.{Fits}
 use Rattle.step_threads.specs.declared.half.Half.{Half}
 use Rattle.step_threads.proofs.StoreFits.{fits_done, share_calm, share_stores}
+use Rattle.step_threads.specs.declared.said.Said.{Said}
+use Rattle.step_threads.specs.declared.said.Stepped.TheVariants.{Event, Quiet}
+use Rattle.step_threads.specs.declared.said.Stepped.{Stepped}
+use Rattle.step_threads.specs.Steps.{silent}
+use Rattle.step_threads.proofs.StoreSteps.{step_offers}
 use Rattle.step_threads.proofs.thread.Thread.offer.Goals as goal
 
 pub returns-clause-fits : goal.returns-clause-fits
@@ -15,3 +20,15 @@ returns-clause-fits c =
     subst (λ (h : Half). Fits d (record { course = c.offer-event.new.self; stock = t.stock; half = h }) c.offer-event.new.table) (sym c.requires.rest)
     (fits_done share d t v c.offer-event.new.table (offered t.course.holdings.slots.items c.args.name c.args.cell) c.offer-event.new.self
     c.known.ensures c.requires.fits c.requires.rest c.requires.none (λ x. share_calm v d x x.kind) (λ x. share_stores v d x x.kind) on.table on.on)
+
+pub returns-clause-stepped : goal.returns-clause-stepped
+returns-clause-stepped c =
+    let t = c.args.self.now in
+    let r = c.requires in
+    let b = c.offer-event.result in
+    let on = c.offer-event.ensures in
+    step_offers c.args.desk t c.args.table.now c.args.name c.args.cell r.rest r.none r.within r.act (sym c.is_there.ensures ∙ c.if-not-is_there.false) b _ _ _
+    (c.says.ensures ∙ ap (λ (s : Said). cond {A = Stepped} b (Event s) (Quiet s)) (c.silent.ensures ∙ ap silent c.statement-statement.ensures)) on.event on.table on.walk r.rest
+
+pub refuse-requires-clause-act : goal.refuse-requires-clause-act
+refuse-requires-clause-act c = inr (c.args.name, inl c.requires.act)

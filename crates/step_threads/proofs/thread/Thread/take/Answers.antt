@@ -10,8 +10,9 @@ use Rattle.step_table.specs.Refills.{more_taken}
 use Rattle.step_threads.specs.Courses.{HasGoneOn, cell_at}
 use Rattle.step_table.specs.Stories.{Story, after, state}
 use Rattle.step_threads.specs.Threads.{Fits}
-use Rattle.step_threads.proofs.LoadFits.{fits_taken}
+use Rattle.step_threads.proofs.LoadFits.{fits_taken, saw_next, saw_there}
 use Rattle.step_threads.proofs.thread.Thread.take.Goals as goal
+use Rattle.step_threads.proofs.Named.{named_load}
 
 pub returns-clause-fits : goal.returns-clause-fits
 returns-clause-fits c =
@@ -29,3 +30,13 @@ returns-clause-fits c =
     (subst (λ (u : Story). Fits d (record { course = c'; stock = t.stock; half = Refill Turning (cell_at (state v) t.course.holdings.slots.items c.args.cell) (more_taken x) n }) u) (sym is)
     (fits_taken d t v c.args.cell x c.requires.fits c' n c.known.ensures c.requires.half c.requires.act
     (subst (λ (u : Story). HasGoneOn d t.course c' u) is (c.take_fund.ensures.on c.if-not-take_fund.false))))
+
+pub cell-at-requires-clause-named : goal.cell-at-requires-clause-named
+cell-at-requires-clause-named c =
+    let t = c.args.self.now in
+    let r = c.requires in
+    named_load t.course c.args.cell (saw_next c.args.desk t c.args.table.now c.args.found r.fits r.half).0 r.fits.ready r.act
+
+pub cell-at-requires-clause-there : goal.cell-at-requires-clause-there
+cell-at-requires-clause-there c =
+    let r = c.requires in saw_there c.args.desk c.args.self.now c.args.table.now c.args.cell c.args.found r.fits r.half r.act
