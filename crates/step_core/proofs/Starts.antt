@@ -70,15 +70,16 @@ name_within kinds c i x lt e named = within kinds x.0.0 x.1 (subst (IsDeclared k
 
 -- the name of a value for a cell, and the name before the dot
 in_within : (kinds : List Kind) (c : CellName) (t : Name) → IsDeclared kinds (as_in c t) → t.0 < length kinds
-in_within kinds (cell.Shared n) t h = within kinds t.0 _ h
-in_within kinds (cell.Weak n) t h = within kinds t.0 _ h
+in_within kinds (cell.Shared n) t h = within kinds t.0 (owner t).1 h
+in_within kinds (cell.Weak n) t h = within kinds t.0 (weak t).1 h
 in_within kinds (cell.Member k m) t h =
-    cond_both (m == 2) (weak t) (owner t) (λ (x : Asked). IsDeclared kinds x → t.0 < length kinds) (λ e. within kinds t.0 _) (λ e. within kinds t.0 _) h
+    cond_both (m == 2) (weak t) (owner t) (λ (x : Asked). IsDeclared kinds x → t.0 < length kinds) (λ e. within kinds t.0 (weak t).1)
+    (λ e. within kinds t.0 (owner t).1) h
 
 cell_within : (kinds : List Kind) (c : CellName) → All (IsDeclared kinds) (through c) → IsNamed (length kinds) c
 cell_within kinds (cell.Shared n) all = tt
 cell_within kinds (cell.Weak n) all = tt
-cell_within kinds (cell.Member k m) all = within kinds k.0 _ (All-head (IsDeclared kinds) (owner k) [] all)
+cell_within kinds (cell.Member k m) all = within kinds k.0 (owner k).1 (All-head (IsDeclared kinds) (owner k) [] all)
 
 call_ready : (kinds : List Kind) (k : ℕ) (c : Call) (ts : List Task) → IsWellNamed kinds c → HasFields c → Ready (length kinds) false ts
     → Ready (length kinds) false (numbered k (acts c) ++ ts)
