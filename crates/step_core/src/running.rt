@@ -6,6 +6,7 @@ ghost use Rattle.step_core.specs.Runs.{Adds, FinishesCall, IsFirstBad, IsRefused
 ghost use Rattle.step_table.specs.Stories.{Kept};
 ghost use Rattle.step_core.specs.Totals.{IsAtEnd};
 ghost use Rattle.step_core.specs.Worlds.{half_of};
+ghost use Rattle.step_threads.specs.Courses.{todo};
 
 use crate::trace::{RunRefusal, Trace, TraceStep};
 use crate::world::World;
@@ -93,7 +94,8 @@ impl World {
         ensures room { vec_len steps.new + most_steps self.new + 3 * length self.new.walks ≤ vec_capacity steps.new }
         ensures actors { length self.new.walks ≡ length self.old.walks }
     {
-        for number in 0..self.threads.len() {
+        let actors = self.threads.len();
+        for number in 0..actors {
             if self.is_owing(number) {
                 self.finish_call(number, steps);
             }
@@ -137,7 +139,7 @@ impl World {
     {
         let thread = &self.threads[number];
         match thread.half {
-            Half::Rest => compares_next(&thread.course.tasks[thread.course.at..]),
+            Half::Rest => compares_next(thread),
             _ => true,
         }
     }
@@ -187,10 +189,12 @@ fn is_out(stage: Stage) -> bool
     }
 }
 
-/// Whether a compare is next.
-fn compares_next(tasks: &[Task]) -> bool
-    ensures { result ≡ compares_next tasks.now }
+/// Whether a thread's next act is a compare.
+fn compares_next(thread: &Thread) -> bool
+    requires { thread.now.course.at ≤ length thread.now.course.tasks.items }
+    ensures { result ≡ compares_next (todo thread.now.course) }
 {
+    let tasks = &thread.course.tasks[thread.course.at..];
     match tasks.first() {
         Some(task) => is_compare(task.act),
         None => false,
