@@ -28,7 +28,7 @@ use Rattle.step_threads.specs.Courses.{Walk}
 use Rattle.step_threads.specs.Steps.{Step, refills_on, story_after, within}
 use Rattle.step_core.specs.Watching.{IsCellOf, content, is_watching}
 use Rattle.step_core.proofs.watching.Blocks.{IsThere, StaysOff, bring_off, give_back_off, turn_off}
-use Rattle.step_core.proofs.watching.Words.{Watch, bit, more_told, same_told, taken_told}
+use Rattle.step_core.proofs.watching.Words.{Watch, bit, flag, more_told, same_told, taken_told}
 
 -- a cell of the shape has a place
 pub somewhere : (z : Shape) (c : Cell) → IsCellOf z c → IsSomewhere c
@@ -125,7 +125,7 @@ middle_false : (a b : Bool) → (a && false && b) ≡ false
 middle_false true b = refl
 middle_false false b = refl
 
-last_false : (a : Bool) → (a && false) ≡ false
+pub last_false : (a : Bool) → (a && false) ≡ false
 last_false true = refl
 last_false false = refl
 
@@ -134,10 +134,6 @@ few_quiet : (v : Story) (s : Stage) (c : Cell) (x : CellWord) (k : ℕ) → is_l
 few_quiet v s c x k few p a =
     ap (λ (t : Bool). cond (word_of v.extent.shape.blocks c == p && t && content (cell_bits x) == content a) 1 0) few
     ∙ ap (λ (t : Bool). cond t 1 0) (middle_false (word_of v.extent.shape.blocks c == p) (content (cell_bits x) == content a))
-
-flag : (b : Bool) → cond b 1 0 ≤ 1
-flag true = omega arith
-flag false = omega arith
 
 -- the block of what is put back is one of the table
 pub block_there : (v : Story) (d : ℕ) (s : Stage) (c : Cell) (x : CellWord) → Kept v → RefillFits d s c x v → (b : Block) → x.owned ≡ Some b → IsThere v b

@@ -31,7 +31,7 @@ use Rattle.step_core.specs.Watching.{content, is_watching, watchers}
 abbrev pub bit : ℕ → ℕ → ℕ → Half → ℕ
 bit blocks place word h = cond (is_watching blocks place word h) 1 0
 
-flag : (b : Bool) → cond b 1 0 ≤ 1
+pub flag : (b : Bool) → cond b 1 0 ≤ 1
 flag true = omega arith
 flag false = omega arith
 

@@ -1,9 +1,9 @@
 -- No step ever finds all funds of a cell taken.
-use Rattle.std.proofs.Common.{◌≡◌, ℕ, ◌+◌, ◌/◌, ◌<◌, ◌≤◌, ◌==◌, Bool, true, false, List, [], ◌∷◌, length, set, get_or, refl, sym, ap, subst, ◌∙◌, arith}
+use Rattle.std.proofs.Common.{◌≡◌, ℕ, ◌/◌, ◌<◌, ◌≤◌, ◌==◌, Bool, true, false, List, [], ◌∷◌, length, set, get_or, refl, sym, ap, subst, ◌∙◌, arith}
 use Rattle.std.proofs.Common.{ne_eqb}
 use Rattle.std.specs.Prelude.{◌&&◌, Option, Some, None, is_some, not, slice_index}
 use Rattle.std.specs.List.{filter}
-use Rattle.std.proofs.lemmas.Bool.{and_parts, cond_both}
+use Rattle.std.proofs.lemmas.Bool.{and_parts, cond_both, not-false}
 use Rattle.std.proofs.lemmas.List.{set-get_or}
 use Rattle.step_threads.specs.declared.act.Act.{Act}
 use Rattle.step_threads.specs.declared.act.Act.TheVariants.{Make, Share, Downgrade, Lock, Put, Leave, Clear, Count, Expired, Read, FromThis, Alias, Move, Ask, Offer, Swap, Exchange, Load, Compare, Drop}
@@ -32,7 +32,7 @@ use Rattle.step_core.specs.Turning.{HasBegun, IsInShape, IsStill}
 use Rattle.step_core.specs.Watching.{IsCellOf, IsWatched, is_watching}
 use Rattle.step_core.specs.Worlds.{Sight, half_of, scene, sight_by, step_of}
 use Rattle.step_core.proofs.watching.Blocks.{inside_there}
-use Rattle.step_core.proofs.watching.Cells.{Watches}
+use Rattle.step_core.proofs.watching.Cells.{Watches, last_false}
 use Rattle.step_core.proofs.watching.Halves.{each_watch}
 use Rattle.step_core.proofs.watching.Steps.{IsWatch}
 use Rattle.step_core.proofs.watching.Words.{watch}
@@ -53,10 +53,6 @@ watched_step d u kept after begun was =
     go None w = subst (λ (l : List Half). IsWatched u.story l) (sym (set-get_or u.halves d Rest)) was
     go (Some x) w = by_deed u.story d (half_of u d) x.half x.deed u.halves begun.within refl w was
 
-last_false : (a : Bool) → (a && false) ≡ false
-last_false true = refl
-last_false false = refl
-
 filter_few : (p : Half → Bool) (l : List Half) → length (filter p l) ≤ length l
 filter_few p [] = omega arith
 filter_few p (x ∷ xs) =
@@ -74,10 +70,6 @@ named_cell v d slots kept holds (cell.Member k m) lt is = go (inside (slot slots
         → IsCellOf v.extent.shape (Member (on (λ (x : Pointer). x.block) (record { 0 = 0 }) o) m)
     go None e full = cc
     go (Some x) e full = let t = inside_there v d slots kept holds k.0 x e in (t.0, t.1, lt)
-
-not_false : (b : Bool) → not b ≡ false → b ≡ true
-not_false true e = refl
-not_false false e = cc
 
 -- a cell that is compared is there
 compared_there : (slots : Slots) (taken : Bool) (k : ℕ) (c : CellName) → is_compared slots taken k c ≡ true → is_there slots c ≡ true
@@ -110,7 +102,7 @@ module _ (v : Story) (l : List Half) (few : length l ≤ 64) (was : IsWatched v 
     act_waits (Compare i c weak) has still =
         let x = seen v (cell_at (state v) w.slots c) in
         let b = not (same_value x (as_word (value w.slots i))) in
-        ap (λ (t : Bool). b && t) (cell_spent c has (compared_there w.slots w.taken i c (not_false _ still))) ∙ last_false b
+        ap (λ (t : Bool). b && t) (cell_spent c has (compared_there w.slots w.taken i c (not-false _ still))) ∙ last_false b
     act_waits (Make form) has still = refl
     act_waits (Share i) has still = refl
     act_waits (Downgrade i) has still = refl

@@ -6,13 +6,15 @@ use Rattle.step_core.proofs.Worlds.{all_fit, has_begun, sight, steps, thread_at}
 use Rattle.step_core.proofs.telling.Worlds.{never_now, told_now}
 use Rattle.step_core.proofs.world.World.advance.Goals as goal
 
-pub step-stepped-requires-clause-fits : goal.step-stepped-requires-clause-fits
-step-stepped-requires-clause-fits c =
+pub step-stepped-requires : goal.step-stepped-requires
+step-stepped-requires c =
     let l = ap (λ (u : Sight). length u.walks) c.self.view_is in
     let m = length-map c.self.inside.threads.items thread_walk in
     let lt : c.args.number < length c.self.inside.threads.items = omega (arith, l, m, c.requires) in
-    c.self.invariant.0.each c.args.number c.index_mut-thread.result.now
-    (thread_at c.self.inside.threads.items c.args.number c.index_mut-thread.result.now lt c.index_mut-thread.ensures.value)
+    record {
+      fits = c.self.invariant.0.each c.args.number c.index_mut-thread.result.now
+          (thread_at c.self.inside.threads.items c.args.number c.index_mut-thread.result.now lt c.index_mut-thread.ensures.value);
+    }
 
 pub invariant_of-self : goal.invariant_of-self
 invariant_of-self c =
