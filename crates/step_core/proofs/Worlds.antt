@@ -29,13 +29,14 @@ use Rattle.step_table.specs.Holdings.{Holds, Slots, is_full, pointer_of, slot}
 use Rattle.step_table.specs.declared.past.Deed.{Deed}
 use Rattle.step_threads.specs.declared.said.Stepped.{Stepped}
 use Rattle.step_threads.specs.declared.half.Half.{Half}
-use Rattle.step_threads.specs.declared.half.Half.TheVariants.{Rest, Making, Locking, Giving, Brought, Saw, Matched, Refill, Returning}
+use Rattle.step_threads.specs.declared.half.Half.TheVariants.{Rest, Making, Locking, Giving, Brought, Saw, Matched, Refill, Returning, Clearing}
 use Rattle.step_threads.specs.declared.thread.Thread.{Thread}
 use Rattle.step_threads.specs.Actors.{HalfFits}
 use Rattle.step_threads.specs.Courses.{CourseStill, HasCell, Walk, hand, new_of, task_at, todo, walk}
 use Rattle.step_threads.specs.Scenes.{nowhere, walk_of}
 use Rattle.step_threads.specs.Steps.{Step, answered, half_by, step_at, story_after, story_by, walk_by}
-use Rattle.step_table.specs.Stories.{AllBare, Kept, Nothing, Story, after, pending, state}
+use Rattle.step_table.specs.Stories.{Kept, Nothing, Story, after, pending, state}
+use Rattle.step_threads.specs.Endings.{EndsAll}
 use Rattle.step_threads.specs.Threads.{Fits, HasStepped, IsNext}
 use Rattle.step_core.specs.Turning.{HasBegun, IsAlone, IsInShape, IsLock, IsMatched, IsOut, IsProper, IsSeen, IsStill, IsSwap, IsTried, IsUnderWay, OthersOwe}
 use Rattle.step_core.specs.Worlds.{AllFit, Sight, Steps, half_of, is_loading, scene, step_of, thread_half, thread_walk}
@@ -105,6 +106,11 @@ all_fit v v' threads n t t' r kept kept' all lt moved fits =
 pub thread_at : (threads : List Thread) (n : ℕ) (t : Thread) → n < length threads → t ≡ get_or threads n t → slice_get threads n ≡ Some t
 thread_at threads n t lt read = slice_get-get_or threads n t lt ∙ ap (λ (x : Thread). Some x) (sym read)
 
+-- it has a hand
+pub some_slots : (v : Story) (threads : List Thread) (n : ℕ) (t : Thread) → AllFit v threads → n < length threads → t ≡ get_or threads n t
+    → 0 < length t.course.holdings.slots.items
+some_slots v threads n t all lt read = let s = (all.each n t (thread_at threads n t lt read)).ready.some in omega (arith, s)
+
 -- what clauses see of a table and threads
 abbrev pub sight : Story → List Thread → Sight
 sight v threads = record { story = v; walks = map thread_walk threads; halves = map thread_half threads }
@@ -144,6 +150,7 @@ begun_of d (Saw x) c v fits next = tt
 begun_of d (Matched x) c v fits next = tt
 begun_of d (Refill stage cell x k) c v fits next = tt
 begun_of d (Returning kind b funds k) c v fits next = tt
+begun_of d Clearing c v fits next = tt
 
 tried_of : (h : Half) (c : Course) → IsNext h c → IsTried h (walk c)
 tried_of Rest c next = tt
@@ -155,6 +162,7 @@ tried_of (Saw x) c next = subst (λ (ts : List Task). IsSeen c.holdings.slots.it
 tried_of (Matched x) c next = subst (λ (ts : List Task). IsMatched c.holdings.slots.items x ts) (sym (todo_at c next.0)) next.1
 tried_of (Refill stage cell x k) c next = tt
 tried_of (Returning kind b funds k) c next = tt
+tried_of Clearing c next = next
 
 alone_of : (h : Half) (c : Course) → IsNext h c → IsAlone h c.endings.list
 alone_of Rest c next = tt
@@ -166,18 +174,12 @@ alone_of (Saw x) c next = next.2
 alone_of (Matched x) c next = next.2
 alone_of (Refill stage cell x k) c next = tt
 alone_of (Returning kind b funds k) c next = tt
+alone_of Clearing c next = tt
 
 -- the shape has the cells of the tasks that are left
 in_shape : (z : Shape) (ts : List Task) → All (λ (t : Task). HasCell z t.act) ts → IsInShape z ts
 in_shape z [] all = tt
 in_shape z (t ∷ ts) all = All-head (λ (t : Task). HasCell z t.act) t ts all
-
--- where an object ends nothing is in hand
-free_of : (d : ℕ) (t : Thread) (v : Story) → Fits d t v
-    → ((walk t.course).endings ≡ []) ⊎ (is_full (slot (walk t.course).slots (hand (walk t.course).slots)) ≡ false)
-free_of d t v fits =
-    ⊎_elim (λ (e : t.course.endings.list ≡ []). inl e)
-    (λ (e : t.course.taken ≡ false). inr (ap (λ (x : Slot). is_full (pointer_of x)) (fits.ready.free e))) fits.endings.empty
 
 -- the next task is an act
 still_of : (c : Course) → CourseStill c → IsStill (walk c) (todo c)
@@ -196,6 +198,7 @@ proper_of d (Saw x) c v fits = fits.1
 proper_of d (Matched x) c v fits = fits.1
 proper_of d (Refill stage cell x k) c v fits = ap is_some fits.owned
 proper_of d (Returning kind b funds k) c v fits = tt
+proper_of d Clearing c v fits = tt
 
 out_of : (d : ℕ) (h : Half) (c : Course) (v : Story) → HalfFits d h c.holdings.slots.items (task_at c).act v → IsOut d v h
 out_of d Rest c v fits = tt
@@ -207,6 +210,7 @@ out_of d (Saw x) c v fits = tt
 out_of d (Matched x) c v fits = tt
 out_of d (Refill stage cell x k) c v fits = fits
 out_of d (Returning kind b funds k) c v fits = fits
+out_of d Clearing c v fits = tt
 
 none_idle : (v : Story) (d i : ℕ) → pending v d ≡ Idle → owes (pending v d) i ≡ 0
 none_idle v d i idle = ap (λ (p : Pending Nothing). owes p i) idle
@@ -236,6 +240,7 @@ half_owes d (Refill Lacking c x k) slots a v i fits none = none_idle v d i fits.
 half_owes d (Refill Refilling c x k) slots a v i fits none = none_paying v d i (kind_in (state v) c) fits.block x.place x.taken fits.pays
 half_owes d (Refill Failing c x k) slots a v i fits none = none_paying v d i (kind_in (state v) c) fits.block x.place x.taken fits.pays
 half_owes d (Returning kind b funds k) slots a v i fits none = none_paying v d i kind b fits.0 funds fits.1
+half_owes d Clearing slots a v i fits none = none_idle v d i fits
 
 -- another thread's half is a load, or none is under way; beyond the threads nobody has a call half done
 others_owe : (v : Story) (threads : List Thread) (n : ℕ) → AllFit v threads → length (map thread_walk threads) ≡ v.extent.actors → Kept v
@@ -253,10 +258,9 @@ others_owe v threads n all many kept e ne quiet i =
     (get_or_past v.views e used_up (let s = kept.seats.size in let m = length-map threads thread_walk in omega (arith, s, le, many, m)))))
     (slice_get_cases threads e).1
 
-pub has_begun : (v : Story) (threads : List Thread) (n : ℕ) (t : Thread) → n < length threads → t ≡ get_or threads n t → Fits n t v → AllBare (state v)
-    → Kept v → AllFit v threads → length (map thread_walk threads) ≡ v.extent.actors
+pub has_begun : (v : Story) (threads : List Thread) (n : ℕ) (t : Thread) → n < length threads → t ≡ get_or threads n t → Fits n t v → Kept v → AllFit v threads → length (map thread_walk threads) ≡ v.extent.actors
     → HasBegun n (sight v threads)
-has_begun v threads n t lt read fits bare kept all many =
+has_begun v threads n t lt read fits kept all many =
     let h : get_or (map thread_half threads) n Rest ≡ t.half = get_or-map thread_half threads n t Rest lt ∙ ap thread_half (sym read) in
     let w : get_or (map thread_walk threads) n nowhere ≡ walk t.course = get_or-map thread_walk threads n t nowhere lt ∙ ap thread_walk (sym read) in
     record {
@@ -271,12 +275,8 @@ has_begun v threads n t lt read fits bare kept all many =
       alone =
           subst (λ (k : Walk). IsAlone (get_or (map thread_half threads) n Rest) k.endings) (sym w)
           (subst (λ (k : Half). IsAlone k t.course.endings.list) (sym h) (alone_of t.half t.course fits.next));
-      staged =
-          subst (λ (k : Walk). All (λ (e : Ending). e.stage ≤ 3) k.endings) (sym w)
-          (λ i e less. (fits.endings.all.each i e less).within);
-      free =
-          subst (λ (k : Walk). (k.endings ≡ []) ⊎ (is_full (slot k.slots (hand k.slots)) ≡ false)) (sym w) (free_of n t v fits);
-      bare = bare;
+      ends = subst (λ (k : Walk). EndsAll n k.endings v) (sym w) fits.endings.all;
+      some = subst (λ (k : Walk). 1 < length k.slots) (sym w) fits.ready.some;
       seat = fits.seat;
       kept = kept;
       cell =

@@ -1,4 +1,6 @@
 pub mod Chains
+pub mod Members
+pub mod Unwinding
 pub mod Ending
 pub mod Telling
 pub mod Refilling

@@ -122,6 +122,7 @@ pub record HasBegun (d : ℕ) (u : Sight) : Type 0 where
   pub tried : IsTried (half_of u d) (walk_of (scene u) d)
   pub alone : IsAlone (half_of u d) (walk_of (scene u) d).endings
   pub ends : EndsAll d (walk_of (scene u) d).endings u.story
+  pub some : 1 < length (walk_of (scene u) d).slots
   pub seat : d < u.story.extent.actors
   pub kept : Kept u.story
   pub cell : IsInShape u.story.extent.shape (walk_of (scene u) d).todo

@@ -1,34 +1,52 @@
 -- The endings of a thread, step by step.
-use Rattle.std.proofs.Common.{◌≡◌, ℕ, suc, ◌+◌, ◌-◌, ◌<◌, ◌≤◌, ◌==◌, false, List, [], ◌∷◌}
+use Rattle.std.proofs.Common.{◌≡◌, ◌⊎◌, inl, inr, ℕ, ◌+◌, ◌-◌, ◌*◌, ◌<◌, ◌==◌, true, false, cond, List, [], ◌∷◌, ⊎_elim}
 use Rattle.std.proofs.Common.{length, set, refl, sym, ap, ◌∙◌, arith}
 use Rattle.std.proofs.Common.{get_or-set_same}
-use Rattle.std.specs.Prelude.{Option, Some, None}
-use Rattle.std.proofs.lemmas.Bool.{cond-false, cond_both, eqb-true, eqb-false}
+use Rattle.std.specs.Prelude.{Option, Some, None, is_some}
+use Rattle.std.proofs.lemmas.Bool.{cond-false, cond-true, cond_both, eqb-true, eqb-false}
 use Rattle.std.proofs.lemmas.List.{set-get_or, set-set}
+use Rattle.control_word.specs.declared.cell.CellWord.{CellWord}
 use Rattle.control_word.specs.declared.event.Event.TheVariants as event
 use Rattle.control_word.specs.declared.handle.Handle.{Handle}
-use Rattle.control_word.specs.Handles.{empty, has_object}
+use Rattle.control_word.specs.declared.place.Block.{Block}
+use Rattle.control_word.specs.Handles.{has_object}
 use Rattle.control_word.specs.Histories.{entry, leads}
 use Rattle.control_word.specs.State.{Opening, kind_of_member, weak}
 use Rattle.step_threads.specs.declared.ending.Ending.{Ending}
 use Rattle.step_threads.specs.declared.half.Half.{Half}
-use Rattle.step_threads.specs.declared.half.Half.TheVariants.{Rest}
+use Rattle.step_threads.specs.declared.half.Half.TheVariants.{Rest, Clearing}
+use Rattle.step_table.specs.declared.cell_deed.Cell.TheVariants.{Member}
+use Rattle.step_table.specs.declared.cell_deed.CellDeed.TheVariants as cell_deed
 use Rattle.step_table.specs.declared.past.Deed.TheVariants as deed
-use Rattle.step_table.specs.declared.slot.Slot.{Slot}
 use Rattle.step_threads.specs.Courses.{Walk, hand}
-use Rattle.step_threads.specs.Endings.{staged}
-use Rattle.step_table.specs.Holdings.{Slots, is_full, slot}
+use Rattle.step_threads.specs.Endings.{IsEnding, staged}
+use Rattle.step_table.specs.CellDeeds.{handle_as}
+use Rattle.step_table.specs.Cells.{word_at}
+use Rattle.step_table.specs.Contents.{held_in, seen, slot_of}
+use Rattle.step_table.specs.Holdings.{is_full, slot}
 use Rattle.step_table.specs.Openings.{opening}
 use Rattle.step_threads.specs.Entries.{History}
-use Rattle.step_threads.specs.Scenes.{Scene, Stop, Wound, goes_on, nowhere, put_walk, rested, rested_walk, stops, unwound, walk_of}
-use Rattle.step_threads.specs.Steps.{Step, ends_on, half_by, silent, walk_by, with_endings}
-use Rattle.step_table.specs.Stories.{AllBare, object_in, state}
+use Rattle.step_threads.specs.Scenes.{Scene, Wound, clears, nowhere, put_walk, rested, rested_walk, unwound, walk_of}
+use Rattle.step_threads.specs.Steps.{Step, empties, ends_on, gives_back, half_by, silent, walk_by, with_endings, within}
+use Rattle.step_table.specs.Stories.{Kept, Story, object_in, state}
+use Rattle.step_core.specs.Turning.{returned}
 use Rattle.step_core.specs.Worlds.{Sight, half_of, scene, sight_by}
+use Rattle.step_core.proofs.turning.Members.{seen_object, told_member, zero_member}
+use Rattle.step_core.proofs.turning.Refilling.{funds_left}
+use Rattle.step_core.proofs.turning.Unwinding.{hand_out, unwound_empty, unwound_finish, unwound_full}
 
--- the steps that are left of endings
+-- the steps that are left of endings: a member is looked at, taken out, and its funds are given back
 abbrev pub left : List Ending → ℕ
 left [] = 0
-left (e ∷ es) = (4 - e.stage) + left es
+left (e ∷ es) = 3 * (4 - e.stage) + left es
+
+-- a look at a member is one of them
+abbrev pub look_left : Half → ℕ
+look_left Clearing = 0
+look_left h = 1
+
+abbrev pub steps_left : Story → Half → List Ending → ℕ
+steps_left v h es = funds_left v h + look_left h + left es
 
 -- what the thread has begun after its step
 pub half_after : (d : ℕ) (u : Sight) (x : Option Step) → d < length u.halves → half_of (sight_by d u x) d ≡ half_by (half_of u d) x
@@ -61,99 +79,152 @@ rested_moved c d w h lt =
     ap (λ (k : Walk). put_walk (moved c d w h) d k (x k)) (get_or-set_same c.walks d w nowhere lt)
     ∙ ap (λ (l : List Walk). record { extent = c.extent; history = (x w).history; walks = l }) (set-set c.walks d w _)
 
--- where no object ends the scene is as it is
-still : (z : Opening) (d : ℕ) (h : History) (w : Walk) → w.endings ≡ []
+-- endings that have come as far as they do by themselves: none is left, or what came out of a member is in hand
+abbrev pub IsRested : Walk → Type 0
+IsRested w = (w.endings ≡ []) ⊎ (is_full (slot w.slots (hand w.slots)) ≡ true)
+
+-- then the scene is as it is
+still_none : (z : Opening) (d : ℕ) (h : History) (w : Walk) → w.endings ≡ []
     → rested_walk z d h w ≡ record { history = h; slots = w.slots; endings = w.endings }
-still z d h w none =
+still_none z d h w none =
     cond_both (is_full (slot w.slots (hand w.slots))) (record { history = h; slots = w.slots; endings = w.endings }) (unwound z d w.slots w.endings h)
     (λ (x : Wound). x ≡ record { history = h; slots = w.slots; endings = w.endings }) (λ t. refl)
     (λ t. ap (λ (es : List Ending). unwound z d w.slots es h) none
     ∙ ap (λ (es : List Ending). record { history = h; slots = w.slots; endings = es }) (sym none))
 
-pub rested_none : (c : Scene) (d : ℕ) → (walk_of c d).endings ≡ [] → rested d c ≡ c
-rested_none c d none =
+still : (z : Opening) (d : ℕ) (h : History) (w : Walk) → IsRested w
+    → rested_walk z d h w ≡ record { history = h; slots = w.slots; endings = w.endings }
+still z d h w is =
+    ⊎_elim (λ (none : w.endings ≡ []). still_none z d h w none)
+    (λ (full : is_full (slot w.slots (hand w.slots)) ≡ true). cond-true (is_full (slot w.slots (hand w.slots))) _ _ full) is
+
+pub rested_same : (c : Scene) (d : ℕ) → IsRested (walk_of c d) → rested d c ≡ c
+rested_same c d is =
     let w = walk_of c d in
-    ap (put_walk c d w) (still (opening c.extent) d c.history w none)
+    ap (put_walk c d w) (still (opening c.extent) d c.history w is)
     ∙ ap (λ (l : List Walk). record { extent = c.extent; history = c.history; walks = l }) (set-get_or c.walks d nowhere)
 
--- how the endings go on, by how far the first comes
-abbrev goes : Opening → ℕ → Slots → Ending → List Ending → Stop → Wound
-goes z d slots e es c = goes_on e es c.history slots (unwound z d slots es c.history) c.out
+pub rested_none : (c : Scene) (d : ℕ) → (walk_of c d).endings ≡ [] → rested d c ≡ c
+rested_none c d none = rested_same c d (inl none)
 
-goes_staged : (e : Ending) (es : List Ending) (h : History) (slots : Slots) (others : Wound) (out : Option (ℕ × Slot))
-    → goes_on (staged e) es h slots others out ≡ goes_on e es h slots others out
-goes_staged e es h slots others None = refl
-goes_staged e es h slots others (Some p) = refl
+pub rested_full : (c : Scene) (d : ℕ) → let w = walk_of c d in is_full (slot w.slots (hand w.slots)) ≡ true → rested d c ≡ c
+rested_full c d full = rested_same c d (inr full)
 
--- a member that holds nothing is cleared, and the object goes on to end
-clears_bare : (z : Opening) (d o k : ℕ) (h : History) → AllBare (leads z h)
-    → stops z d o (suc k) h ≡ stops z d o k (entry d (event.ClearMember o (2 - k) (empty (kind_of_member (2 - k)))) ∷ h)
-clears_bare z d o k h bare =
-    let x : Handle = ((leads z h).object o).member (2 - k) in
-    let b : x ≡ empty (kind_of_member (2 - k)) = bare o (2 - k) in
-    cond-false (has_object x) _ _ (ap has_object b) ∙ ap (λ (y : Handle). stops z d o k (entry d (event.ClearMember o (2 - k) y) ∷ h)) b
+-- the scene that the endings come to is the same after a step of the first, and less is left
+abbrev pub Same : ℕ → ℕ → Sight → Step → Type 0
+Same n d u x =
+    let u' = sight_by d u (Some x) in
+    (rested d (scene u') ≡ rested d (scene u)) × (returned x.half ≡ Rest)
+    × (steps_left u'.story x.half x.walk.endings < n + left (walk_of (scene u) d).endings)
 
-unwound_clear : (z : Opening) (d : ℕ) (slots : Slots) (e : Ending) (es : List Ending) (h : History) → AllBare (leads z h) → e.stage < 3
-    → unwound z d slots (staged e ∷ es) (entry d (event.ClearMember ((leads z h).latest e.block.0) e.stage (empty (kind_of_member e.stage))) ∷ h)
-    ≡ unwound z d slots (e ∷ es) h
-unwound_clear z d slots e es h bare lt =
-    let o = (leads z h).latest e.block.0 in
-    let g : ℕ → History = λ (m : ℕ). entry d (event.ClearMember o m (empty (kind_of_member m))) ∷ h in
-    let n = 2 - e.stage in
-    let more : ◌≡◌ {A = ℕ} (3 - e.stage) (suc n) = omega (arith, lt) in
-    let less : ◌≡◌ {A = ℕ} (3 - (e.stage + 1)) n = omega (arith, lt) in
-    let same : ◌≡◌ {A = ℕ} (2 - n) e.stage = omega (arith, lt) in
-    let c = stops z d o n (g e.stage) in
-    ap (λ (j : ℕ). goes z d slots (staged e) es (stops z d o j (g e.stage))) less
-    ∙ goes_staged e es c.history slots (unwound z d slots es c.history) c.out
-    ∙ ap (λ (m : ℕ). goes z d slots e es (stops z d o n (g m))) (sym same)
-    ∙ ap (goes z d slots e es) (sym (clears_bare z d o n h bare))
-    ∙ ap (λ (j : ℕ). goes z d slots e es (stops z d o j h)) (sym more)
+-- an object that ends in the thread's hands, where nothing is in hand
+module _ (d : ℕ) (u : Sight) (e : Ending) (es : List Ending) (lt : d < length u.walks) (is : (walk_of (scene u) d).endings ≡ e ∷ es)
+    (free : let w = walk_of (scene u) d in is_full (slot w.slots (hand w.slots)) ≡ false) where
+  -- the endings go on from here
+  unwound_now : let w = walk_of (scene u) d in
+      rested_walk (opening u.story.extent) d u.story.history w ≡ unwound (opening u.story.extent) d w.slots (e ∷ es) u.story.history
+  unwound_now =
+      let w = walk_of (scene u) d in
+      cond-false (is_full (slot w.slots (hand w.slots))) _ _ free
+      ∙ ap (λ (l : List Ending). unwound (opening u.story.extent) d w.slots l u.story.history) is
 
-unwound_finish : (z : Opening) (d : ℕ) (slots : Slots) (e : Ending) (es : List Ending) (h : History) → e.stage ≡ 3
-    → let o = (leads z h).latest e.block.0 in
-    unwound z d slots es (entry d (event.Finish o (weak (leads z h) o == 0) tt) ∷ h) ≡ unwound z d slots (e ∷ es) h
-unwound_finish z d slots e es h is =
-    ap (λ (j : ℕ). goes z d slots e es (stops z d ((leads z h).latest e.block.0) (3 - j) h)) (sym is)
+  -- and where they come to the same from there
+  wound_on : (l : List Ending) (h : History) → let w = walk_of (scene u) d in
+      let z = opening u.story.extent in
+      unwound z d w.slots l h ≡ unwound z d w.slots (e ∷ es) u.story.history → rested d (moved (scene u) d (with_endings w l) h) ≡ rested d (scene u)
+  wound_on l h same =
+      let w = walk_of (scene u) d in
+      rested_moved (scene u) d (with_endings w l) h lt
+      ∙ ap (put_walk (scene u) d w) (cond-false (is_full (slot w.slots (hand w.slots))) _ _ free ∙ same ∙ sym unwound_now)
 
--- the scene that the endings come to is the same after a step of the first
-abbrev pub Same : ℕ → Sight → Step → Type 0
-Same d u x = (rested d (scene (sight_by d u (Some x))) ≡ rested d (scene u)) × (x.half ≡ Rest) × (left x.walk.endings < left (walk_of (scene u) d).endings)
+  finish_so : e.stage ≡ 3
+      → let w = walk_of (scene u) d in
+      let f = deed.Finish e.block (weak (state u.story) (object_in u.story e.block) == 0) in
+      Same 1 d u (record { deed = Some f; half = Rest; walk = with_endings w es; said = silent e.statement })
+  finish_so three = (
+    wound_on es _ (unwound_finish (opening u.story.extent) d (walk_of (scene u) d).slots e es u.story.history three),
+    refl,
+    (let n = ap left is in omega (arith, n, three)),
+  )
 
-wound_on : (d : ℕ) (u : Sight) (es : List Ending) (h : History) → d < length u.walks
-    → let w = walk_of (scene u) d in
-    let z = opening u.story.extent in
-    is_full (slot w.slots (hand w.slots)) ≡ false → unwound z d w.slots es h ≡ unwound z d w.slots w.endings u.story.history
-    → rested d (moved (scene u) d (with_endings w es) h) ≡ rested d (scene u)
-wound_on d u es h lt free same =
-    let w = walk_of (scene u) d in
-    let z = opening u.story.extent in
-    rested_moved (scene u) d (with_endings w es) h lt
-    ∙ ap (put_walk (scene u) d w) (cond-false (is_full (slot w.slots (hand w.slots))) _ _ free ∙ same
-    ∙ sym (cond-false (is_full (slot w.slots (hand w.slots))) (record { history = u.story.history; slots = w.slots; endings = w.endings }) _ free))
+  look_so : Same 1 d u (within (walk_of (scene u) d) e.statement None Clearing)
+  look_so =
+      let same : scene (sight_by d u (Some (within (walk_of (scene u) d) e.statement None Clearing))) ≡ scene u =
+      scene_as u _ _ _ _ refl (same_walks d u) in
+      (ap (rested d) same, refl, omega arith)
 
-pub end_step : (d : ℕ) (u : Sight) (e : Ending) (es : List Ending) → d < length u.walks → (walk_of (scene u) d).endings ≡ e ∷ es → e.stage ≤ 3
-    → AllBare (state u.story) → is_full (slot (walk_of (scene u) d).slots (hand (walk_of (scene u) d).slots)) ≡ false
-    → Same d u (ends_on u.story (walk_of (scene u) d) e es)
-end_step d u e es lt is within bare free =
-    let w = walk_of (scene u) d in
-    let v = u.story in
-    let z = opening v.extent in
-    let o = object_in v e.block in
-    cond_both (e.stage == 3)
-    (record { deed = Some (deed.Finish e.block (weak (state v) o == 0)); half = Rest; walk = with_endings w es; said = silent e.statement })
-    (record { deed = Some (deed.Clear e.block e.stage); half = Rest; walk = with_endings w (staged e ∷ es); said = silent e.statement })
-    (Same d u)
-    (λ t. let three = eqb-true e.stage 3 t in (
-      wound_on d u es _ lt free
-          (unwound_finish z d w.slots e es v.history three ∙ ap (λ (l : List Ending). unwound z d w.slots l v.history) (sym is)),
-      refl,
-      (let n = ap left is in omega (arith, n, three)),
-    ))
-    (λ t. let ne = eqb-false e.stage 3 t in
-    let less : e.stage < 3 = omega (arith, within, ne) in (
-      wound_on d u (staged e ∷ es) _ lt free
-          (unwound_clear z d w.slots e es v.history bare less ∙ ap (λ (l : List Ending). unwound z d w.slots l v.history) (sym is)),
+  module _ (less : e.stage < 3) where
+    -- a member without an object goes out of it
+    empty_so : (h : Handle) → h ≡ ((state u.story).object (object_in u.story e.block)).member e.stage → has_object h ≡ false
+        → rested d (moved (scene u) d (with_endings (walk_of (scene u) d) (staged e ∷ es))
+        (entry d (event.ClearMember (object_in u.story e.block) e.stage h) ∷ u.story.history)) ≡ rested d (scene u)
+    empty_so h told bare =
+        let w = walk_of (scene u) d in
+        let z = opening u.story.extent in
+        let f : Handle → History = λ (y : Handle). entry d (event.ClearMember (object_in u.story e.block) e.stage y) ∷ u.story.history in
+        wound_on (staged e ∷ es) (f h)
+        (ap (λ (y : Handle). unwound z d w.slots (staged e ∷ es) (f y)) told
+        ∙ unwound_empty z d w.slots e es u.story.history less (ap has_object (sym told) ∙ bare))
+
+    clear_so : (word_at u.story (Member e.block e.stage) == 0) ≡ true → Kept u.story → d < u.story.extent.actors → IsEnding d e u.story
+        → Same 1 d u (within (with_endings (walk_of (scene u) d) (staged e ∷ es)) e.statement (Some (deed.Clear e.block e.stage)) Rest)
+    clear_so zero kept seat end = (
+      empty_so _ (sym (zero_member u.story d e.block e.stage kept seat end.ending less zero)) refl,
       refl,
       (let n = ap left is in omega (arith, n, less)),
-    ))
+    )
+
+    -- what a member holds is taken out, by whether it has an object
+    abbrev taken : CellWord → Option Block → Step
+    taken x o =
+        let w = walk_of (scene u) d in
+        let s = state u.story in
+        let slots = cond (is_some o) (set w.slots (hand w.slots) (slot_of s (held_in s (Member e.block e.stage)))) w.slots in
+        within (record { slots = slots; taken = w.taken; endings = staged e ∷ es; todo = w.todo }) e.statement
+        (Some (deed.OnCell (cell_deed.TakeOut e.block e.stage x))) (gives_back (kind_of_member e.stage) e.statement x o)
+
+    module _ (x : CellWord)
+        (told : handle_as (state u.story) (kind_of_member e.stage) x ≡ ((state u.story).object (object_in u.story e.block)).member e.stage) where
+      taken_bare : has_object (((state u.story).object (object_in u.story e.block)).member e.stage) ≡ false → Same 0 d u (taken x None)
+      taken_bare bare = (empty_so _ told (ap has_object told ∙ bare), refl, (let n = ap left is in omega (arith, n, less)))
+
+      taken_full : (b : Block) → 0 < length (walk_of (scene u) d).slots
+          → has_object (((state u.story).object (object_in u.story e.block)).member e.stage) ≡ true → Same 0 d u (taken x (Some b))
+      taken_full b some full =
+          let w = walk_of (scene u) d in
+          let s = state u.story in
+          let z = opening u.story.extent in
+          let f : Handle → History = λ (y : Handle). entry d (event.ClearMember (object_in u.story e.block) e.stage y) ∷ u.story.history in
+          let l = set w.slots (hand w.slots) (slot_of s ((s.object (object_in u.story e.block)).member e.stage)) in
+          let w' : Walk = record { slots = l; taken = w.taken; endings = staged e ∷ es; todo = w.todo } in
+          (
+            rested_moved (scene u) d w' (f (handle_as s (kind_of_member e.stage) x)) lt
+                ∙ ap (put_walk (scene u) d w) (cond-true (is_full (slot l (hand l))) _ _ (hand_out s w.slots _ some full)
+                ∙ ap (λ (y : Handle). record { history = f y; slots = l; endings = staged e ∷ es }) told
+                ∙ sym (unwound_full z d w.slots e es u.story.history less full) ∙ sym unwound_now),
+            refl,
+            (let n = ap left is in omega (arith, n, less)),
+          )
+
+    pub take_step : Kept u.story → d < u.story.extent.actors → IsEnding d e u.story → 0 < length (walk_of (scene u) d).slots
+        → Same 0 d u (empties u.story (walk_of (scene u) d) e es)
+    take_step kept seat end some = go (seen u.story (Member e.block e.stage)).owned refl
+      where
+        go : (o : Option Block) → (seen u.story (Member e.block e.stage)).owned ≡ o → Same 0 d u (taken (seen u.story (Member e.block e.stage)) o)
+        go None q =
+            taken_bare (seen u.story (Member e.block e.stage)) (told_member u.story d e.block e.stage kept seat end.ending less) (seen_object u.story e.block e.stage ∙ ap is_some q)
+        go (Some b) q =
+            taken_full (seen u.story (Member e.block e.stage)) (told_member u.story d e.block e.stage kept seat end.ending less) b some
+            (seen_object u.story e.block e.stage ∙ ap is_some q)
+
+  pub end_step : Kept u.story → d < u.story.extent.actors → IsEnding d e u.story → Same 1 d u (ends_on u.story (walk_of (scene u) d) e es)
+  end_step kept seat end =
+      let w = walk_of (scene u) d in
+      let m = within (with_endings w (staged e ∷ es)) e.statement (Some (deed.Clear e.block e.stage)) Rest in
+      let l = within w e.statement None Clearing in
+      cond_both (e.stage == 3) _ (cond (word_at u.story (Member e.block e.stage) == 0) m l) (Same 1 d u)
+      (λ t. finish_so (eqb-true e.stage 3 t))
+      (λ t. let ne = eqb-false e.stage 3 t in
+      let most = end.within in
+      let less : e.stage < 3 = omega (arith, most, ne) in
+      cond_both (word_at u.story (Member e.block e.stage) == 0) m l (Same 1 d u) (λ z. clear_so less z kept seat end) (λ z. look_so))

@@ -8,7 +8,7 @@ use Rattle.step_threads.specs.declared.act.Act.{Act}
 use Rattle.step_threads.specs.declared.act.Act.TheVariants.{Make}
 use Rattle.step_threads.specs.declared.act.Task.{Task}
 use Rattle.step_threads.specs.declared.half.Half.{Half}
-use Rattle.step_threads.specs.declared.half.Half.TheVariants.{Rest, Making, Locking, Giving, Brought, Saw, Matched, Refill, Returning}
+use Rattle.step_threads.specs.declared.half.Half.TheVariants.{Rest, Making, Locking, Giving, Brought, Saw, Matched, Refill, Returning, Clearing}
 use Rattle.step_threads.specs.declared.said.Said.{Said}
 use Rattle.step_threads.specs.declared.said.Stepped.{Stepped}
 use Rattle.step_threads.specs.declared.said.Stepped.TheVariants.{Waited}
@@ -70,6 +70,7 @@ claimed d u r (Making c j f) (Saw wd) e ready begun answer = absurd ready
 claimed d u r (Making c j f) (Matched wd) e ready begun answer = absurd ready
 claimed d u r (Making c j f) (Refill stage cell wd line) e ready begun answer = absurd ready
 claimed d u r (Making c j f) (Returning kind b funds k) e ready begun answer = absurd ready
+claimed d u r (Making c j f) Clearing e ready begun answer = absurd ready
 claimed d u r (Locking word) h e ready begun answer = absurd ready
 claimed d u r (Giving i kind x) h e ready begun answer = absurd ready
 claimed d u r Brought h e ready begun answer = absurd ready
@@ -77,6 +78,7 @@ claimed d u r (Saw wd) h e ready begun answer = absurd ready
 claimed d u r (Matched wd) h e ready begun answer = absurd ready
 claimed d u r (Refill stage cell wd line) h e ready begun answer = absurd ready
 claimed d u r (Returning kind b funds k) h e ready begun answer = absurd ready
+claimed d u r Clearing h e ready begun answer = absurd ready
 claimed d u r Rest h e ready begun answer = absurd ready
 
 -- what is done from the same scene, after steps of the thread's own
