@@ -81,7 +81,7 @@ is_calling u d = goes_on (half_of u d) (walk_of (scene u) d).todo
 abbrev pub CallsOn : ℕ → Sight → List TraceStep → Sight → Type 0
 CallsOn d u [] u' = u' ≡ u
 CallsOn d u (x ∷ xs) u' =
-    (is_calling u d ≡ true) × (x.actor ≡ d + 1) × ((m : Sight) × Steps d u x.stepped m × Kept m.story × CallsOn d m xs u')
+    (is_calling u d ≡ true) × (x.actor ≡ d + 1) × (m : Sight) × Steps d u x.stepped m × Kept m.story × CallsOn d m xs u'
 
 -- thread d finished its call
 pub record FinishesCall (d : ℕ) (u : Sight) (xs : List TraceStep) (u' : Sight) : Type 0 where

@@ -18,6 +18,8 @@ mod reading_tests;
 mod run_tests;
 mod running;
 #[cfg(test)]
+mod settling_tests;
+#[cfg(test)]
 mod step_tests;
 #[cfg(test)]
 mod store_tests;

@@ -81,7 +81,12 @@ fn world_of(rt: &impl Abort, alloc: Global, actors: Vec<Actor>) -> World {
         .expect(rt, "a world within the limits")
 }
 
-fn run(rt: &impl Abort, alloc: Global, world: &mut World, turns: &[u8]) -> Trace {
+pub(crate) fn run(
+    rt: &impl Abort,
+    alloc: Global,
+    world: &mut World,
+    turns: &[u8],
+) -> Trace {
     world.run(alloc, turns).ok().expect(rt, "a run")
 }
 
@@ -99,7 +104,7 @@ pub(crate) fn lines(alloc: Global, trace: &Trace) -> Result<Vec<Line>, AllocErro
 }
 
 /// The numbers of a trace's actors.
-fn actors(alloc: Global, trace: &Trace) -> Result<Vec<u8>, AllocError> {
+pub(crate) fn actors(alloc: Global, trace: &Trace) -> Result<Vec<u8>, AllocError> {
     let mut actors = Vec::new(alloc);
     for step in &trace.steps {
         actors.push(step.actor)?;

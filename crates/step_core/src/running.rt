@@ -2,10 +2,11 @@
 ghost use Rattle.std.specs.Prelude.{◌≡◌, ◌≢◌, ◌+◌, ◌-◌, ◌*◌, ◌<◌, ◌≤◌, ◌∷◌, ◌++◌, ℕ, [], All, IfErr, IfOk, MatchOption, length, map, slice_get, sum_by, vec_capacity, vec_len};
 ghost use Rattle.step_core.specs.Bounds.{most_steps, steps_of, task_steps, weight};
 ghost use Rattle.step_core.specs.Headline.{AfterEach, AllAtRest, CountsAtRest, LocksWhereOwned, OfEach, TellsLocks, TellsWhatIsLeft, ValuesAtLastLeave, ValuesOnce};
-ghost use Rattle.step_core.specs.Runs.{Adds, FinishesCall, IsFirstBad, IsRefusedFor, IsRun, IsScheduled, Moves, Names, RunInOrder, RunsToEnd, SettleInOrder, compares_next, is_calling, is_compare, is_out, is_owing};
+ghost use Rattle.step_core.specs.Runs.{Adds, FinishesCall, IsFirstBad, IsRefusedFor, IsRun, IsScheduled, Moves, Names, RunInOrder, RunsToEnd, SettleInOrder, Settles, compares_next, is_calling, is_compare, is_out, is_owing};
 ghost use Rattle.step_table.specs.Stories.{Kept};
 ghost use Rattle.step_core.specs.Totals.{IsAtEnd};
 ghost use Rattle.step_core.specs.Worlds.{half_of};
+ghost use Rattle.step_threads.specs.Courses.{todo};
 
 use crate::trace::{RunRefusal, Trace, TraceStep};
 use crate::world::World;
@@ -93,10 +94,26 @@ impl World {
         ensures room { vec_len steps.new + most_steps self.new + 3 * length self.new.walks ≤ vec_capacity steps.new }
         ensures actors { length self.new.walks ≡ length self.old.walks }
     {
-        for number in 0..self.threads.len() {
-            if self.is_owing(number) {
-                self.finish_call(number, steps);
-            }
+        let actors = self.threads.len();
+        for number in 0..actors {
+            self.settle_one(number, steps);
+        }
+    }
+
+    /// An actor that has a load under way, or funds that it brought or is to give back, finishes that call.
+    fn settle_one(&mut self, number: usize, steps: &mut Vec<TraceStep>)
+        requires within { number < length self.old.walks }
+        requires few { length self.old.walks ≤ 64 }
+        requires moves { All Moves steps.old.items }
+        requires room { vec_len steps.old + most_steps self.old + 3 ≤ vec_capacity steps.old }
+        ensures adds { Adds (Settles number) self.old steps.old.items self.new steps.new.items }
+        ensures moves { All Moves steps.new.items }
+        ensures room { vec_len steps.new + most_steps self.new ≤ vec_len steps.old + most_steps self.old + 3 }
+        ensures capacity { vec_capacity steps.old ≤ vec_capacity steps.new }
+        ensures actors { length self.new.walks ≡ length self.old.walks }
+    {
+        if self.is_owing(number) {
+            self.finish_call(number, steps);
         }
     }
 
@@ -137,7 +154,7 @@ impl World {
     {
         let thread = &self.threads[number];
         match thread.half {
-            Half::Rest => compares_next(&thread.course.tasks[thread.course.at..]),
+            Half::Rest => compares_next(thread),
             _ => true,
         }
     }
@@ -187,10 +204,12 @@ fn is_out(stage: Stage) -> bool
     }
 }
 
-/// Whether a compare is next.
-fn compares_next(tasks: &[Task]) -> bool
-    ensures { result ≡ compares_next tasks.now }
+/// Whether a thread's next act is a compare.
+fn compares_next(thread: &Thread) -> bool
+    requires { thread.now.course.at ≤ length thread.now.course.tasks.items }
+    ensures { result ≡ compares_next (todo thread.now.course) }
 {
+    let tasks = &thread.course.tasks[thread.course.at..];
     match tasks.first() {
         Some(task) => is_compare(task.act),
         None => false,

@@ -1,4 +1,4 @@
-use Rattle.std.proofs.Common.{◌<◌, length, ap, arith}
+use Rattle.std.proofs.Common.{◌+◌, ◌<◌, length, ap, arith}
 use Rattle.step_threads.specs.declared.half.Half.{Half}
 use Rattle.step_core.specs.Bounds.{alone, most_steps, spare}
 use Rattle.step_threads.specs.Scenes.{walk_of}
