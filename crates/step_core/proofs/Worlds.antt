@@ -1,5 +1,5 @@
 -- A step of one thread keeps all of them fitting the table.
-use Rattle.std.proofs.Common.{◌≡◌, ◌≢◌, ◌⊎◌, ◌==◌, inl, inr, false, All, ◌≤◌, ℕ, zero, suc, ◌<◌, List, [], ◌∷◌, length, set, get_or, refl, sym, ap, subst, ◌∙◌, ⊎_elim, arith}
+use Rattle.std.proofs.Common.{◌≡◌, ◌≢◌, ◌==◌, false, All, ◌≤◌, ℕ, zero, suc, ◌<◌, List, [], ◌∷◌, length, set, get_or, refl, sym, ap, subst, ◌∙◌, ⊎_elim, arith}
 use Rattle.std.specs.Prelude.{Option, None, Some, is_some, slice_get, map}
 use Rattle.std.proofs.Math.ListN.{drop_of_length-le}
 use Rattle.std.proofs.lemmas.List.{get_or-map, get_or_past, length-map, map-set}
@@ -9,7 +9,6 @@ use Rattle.control_word.specs.declared.shape.Shape.{Shape}
 use Rattle.std.proofs.lemmas.Option.{same_Some, slice_get-get_or, slice_get_cases}
 use Rattle.step_threads.specs.declared.act.Task.{Task}
 use Rattle.step_threads.specs.declared.course.Course.{Course}
-use Rattle.step_threads.specs.declared.ending.Ending.{Ending}
 use Rattle.step_table.specs.declared.slot.Slot.{Slot}
 use Rattle.step_table.specs.declared.slot.Slot.TheVariants.{Empty, Full}
 use Rattle.step_table.specs.declared.refill.Stage.TheVariants.{Turning, Checking, Lacking, Refilling, Failing}
@@ -25,14 +24,14 @@ use Rattle.control_word.specs.Words.{slot as word_slot}
 use Rattle.step_threads.specs.declared.act.Act.{Act}
 use Rattle.step_table.specs.CellDeeds.{kind_in, owing}
 use Rattle.step_table.specs.Contents.{owing_for}
-use Rattle.step_table.specs.Holdings.{Holds, Slots, is_full, pointer_of, slot}
+use Rattle.step_table.specs.Holdings.{Holds, Slots}
 use Rattle.step_table.specs.declared.past.Deed.{Deed}
 use Rattle.step_threads.specs.declared.said.Stepped.{Stepped}
 use Rattle.step_threads.specs.declared.half.Half.{Half}
 use Rattle.step_threads.specs.declared.half.Half.TheVariants.{Rest, Making, Locking, Giving, Brought, Saw, Matched, Refill, Returning, Clearing}
 use Rattle.step_threads.specs.declared.thread.Thread.{Thread}
 use Rattle.step_threads.specs.Actors.{HalfFits}
-use Rattle.step_threads.specs.Courses.{CourseStill, HasCell, Walk, hand, new_of, task_at, todo, walk}
+use Rattle.step_threads.specs.Courses.{CourseStill, HasCell, Walk, new_of, task_at, todo, walk}
 use Rattle.step_threads.specs.Scenes.{nowhere, walk_of}
 use Rattle.step_threads.specs.Steps.{Step, answered, half_by, step_at, story_after, story_by, walk_by}
 use Rattle.step_table.specs.Stories.{Kept, Nothing, Story, after, pending, state}

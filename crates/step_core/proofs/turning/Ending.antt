@@ -10,7 +10,7 @@ use Rattle.control_word.specs.declared.event.Event.TheVariants as event
 use Rattle.control_word.specs.declared.handle.Handle.{Handle}
 use Rattle.control_word.specs.declared.place.Block.{Block}
 use Rattle.control_word.specs.Handles.{has_object}
-use Rattle.control_word.specs.Histories.{entry, leads}
+use Rattle.control_word.specs.Histories.{entry}
 use Rattle.control_word.specs.State.{Opening, kind_of_member, weak}
 use Rattle.step_threads.specs.declared.ending.Ending.{Ending}
 use Rattle.step_threads.specs.declared.half.Half.{Half}
@@ -26,7 +26,7 @@ use Rattle.step_table.specs.Contents.{held_in, seen, slot_of}
 use Rattle.step_table.specs.Holdings.{is_full, slot}
 use Rattle.step_table.specs.Openings.{opening}
 use Rattle.step_threads.specs.Entries.{History}
-use Rattle.step_threads.specs.Scenes.{Scene, Wound, clears, nowhere, put_walk, rested, rested_walk, unwound, walk_of}
+use Rattle.step_threads.specs.Scenes.{Scene, Wound, nowhere, put_walk, rested, rested_walk, unwound, walk_of}
 use Rattle.step_threads.specs.Steps.{Step, empties, ends_on, gives_back, half_by, silent, walk_by, with_endings, within}
 use Rattle.step_table.specs.Stories.{Kept, Story, object_in, state}
 use Rattle.step_core.specs.Turning.{returned}
@@ -196,8 +196,7 @@ module _ (d : ℕ) (u : Sight) (e : Ending) (es : List Ending) (lt : d < length 
           let z = opening u.story.extent in
           let f : Handle → History = λ (y : Handle). entry d (event.ClearMember (object_in u.story e.block) e.stage y) ∷ u.story.history in
           let l = set w.slots (hand w.slots) (slot_of s ((s.object (object_in u.story e.block)).member e.stage)) in
-          let w' : Walk = record { slots = l; taken = w.taken; endings = staged e ∷ es; todo = w.todo } in
-          (
+          let w' : Walk = record { slots = l; taken = w.taken; endings = staged e ∷ es; todo = w.todo } in (
             rested_moved (scene u) d w' (f (handle_as s (kind_of_member e.stage) x)) lt
                 ∙ ap (put_walk (scene u) d w) (cond-true (is_full (slot l (hand l))) _ _ (hand_out s w.slots _ some full)
                 ∙ ap (λ (y : Handle). record { history = f y; slots = l; endings = staged e ∷ es }) told

@@ -1,8 +1,8 @@
 -- The rest of an act, step by step: funds are given back, and objects end.
-use Rattle.std.proofs.Common.{◌≡◌, ◌≢◌, ◌⊎◌, inl, inr, ℕ, ◌+◌, ◌<◌, ◌≤◌, ◌||◌, ◌&&◌, not, Bool, true, false, List, [], ◌∷◌}
+use Rattle.std.proofs.Common.{◌≡◌, inl, inr, ℕ, ◌+◌, ◌<◌, ◌≤◌, ◌||◌, ◌&&◌, not, Bool, true, false, List, [], ◌∷◌}
 use Rattle.std.proofs.Common.{length, set, refl, sym, ap, subst, ◌∙◌, arith, ⊎_elim}
-use Rattle.std.specs.Prelude.{Option, Some, None, is_some, option_map}
-use Rattle.std.proofs.lemmas.Bool.{and_parts, cond-false, false≢true}
+use Rattle.std.specs.Prelude.{Option, Some, is_some, option_map}
+use Rattle.std.proofs.lemmas.Bool.{cond-false, false≢true}
 use Rattle.std.proofs.lemmas.List.{set-get_or, set-set}
 use Rattle.std.proofs.lemmas.List.Elements.{All-head}
 use Rattle.step_threads.specs.declared.ending.Ending.{Ending}
@@ -13,7 +13,7 @@ use Rattle.control_word.specs.declared.place.Block.{Block}
 use Rattle.step_threads.specs.declared.said.Stepped.{Stepped}
 use Rattle.step_threads.specs.Courses.{Walk, hand}
 use Rattle.step_threads.specs.Endings.{EndsAll, IsEnding, first_of}
-use Rattle.step_table.specs.Holdings.{Slots, is_full, slot}
+use Rattle.step_table.specs.Holdings.{is_full, slot}
 use Rattle.step_threads.specs.Scenes.{Scene, rested, walk_of}
 use Rattle.step_threads.specs.Steps.{Step, at_rest, emptied, empties, ends_on, refills_on, returns, step_at, story_after}
 use Rattle.step_threads.specs.Threads.{IsClearing}
