@@ -3,7 +3,7 @@ ghost use Rattle.std.specs.Prelude.{◌≡◌, ◌⊎◌, ◌<◌, ◌≤◌, le
 ghost use Rattle.control_word.specs.declared.place.Place.{Place};
 ghost use Rattle.step_table.specs.CellDeeds.{owing};
 ghost use Rattle.step_table.specs.Contents.{is_of, owing_for};
-ghost use Rattle.step_threads.specs.Courses.{hand, kind_at};
+ghost use Rattle.step_threads.specs.Courses.{hand, is_there, kind_at};
 ghost use Rattle.step_table.specs.Holdings.{value};
 ghost use Rattle.step_threads.specs.Steps.{gives_back};
 ghost use Rattle.step_table.specs.Stories.{pending, state};
@@ -115,6 +115,7 @@ impl Thread {
         requires none { self.old.course.endings.list ≡ [] }
         requires within { self.old.course.at < length self.old.course.tasks.items }
         requires act { (task_at self.old.course).act ≡ Act.Swap cell }
+        requires there { is_there self.old.course.holdings.slots.items cell ≡ true }
         requires kind { is_of (kind_at cell) (value self.old.course.holdings.slots.items (hand self.old.course.holdings.slots.items)) ≡ true }
         requires owes { pending table.old desk ≡ owing_for (state table.old) (value self.old.course.holdings.slots.items (hand self.old.course.holdings.slots.items)) 256 }
         ensures stepped { HasStepped desk self.old table.old result self.new table.new }
@@ -135,6 +136,7 @@ impl Thread {
         requires none { self.old.course.endings.list ≡ [] }
         requires within { self.old.course.at < length self.old.course.tasks.items }
         requires act { (task_at self.old.course).act ≡ Act.Exchange name cell }
+        requires there { is_there self.old.course.holdings.slots.items cell ≡ true }
         requires kind { is_of (kind_at cell) (value self.old.course.holdings.slots.items name) ≡ true }
         requires owes { pending table.old desk ≡ owing_for (state table.old) (value self.old.course.holdings.slots.items name) 256 }
         ensures stepped { HasStepped desk self.old table.old result self.new table.new }
