@@ -138,9 +138,8 @@ pub dotted_tidy : (w : List ℕ) (m : ℕ) → is_name w ≡ true → m < 3 → 
 dotted_tidy [] m name below = absurd cc
 dotted_tidy (b ∷ bs) m name below =
     let w : List ℕ = b ∷ bs in
-    let tidy = name_is_tidy w name in
-    (
+    let tidy = name_is_tidy w name in (
       omega arith,
       list_all-append is_tidy_byte w (46 ∷ member_text m)
-      ∙ both_true (list_all is_tidy_byte w) (list_all is_tidy_byte (46 ∷ member_text m)) tidy.1 (member_tidy m below),
+          ∙ both_true (list_all is_tidy_byte w) (list_all is_tidy_byte (46 ∷ member_text m)) tidy.1 (member_tidy m below),
     )

@@ -78,7 +78,10 @@ fn a_load_past_the_last_name(rt: HostRuntime) -> Result<(), Fail> {
         ("load n31 n0.first", "ok threads 1 statements 33"),
         ("load more n0.first", "refused 10: line 33: too many names"),
         ("load more none.first", "refused 10: line 33: unknown name"),
-        ("exchange n0.next n0", "refused 10: line 33: name used twice"),
+        (
+            "exchange n0.next n0",
+            "refused 10: line 33: name used twice",
+        ),
     ];
     for (line, message) in cases {
         let mut text = names(alloc, 32)?;
@@ -102,7 +105,10 @@ fn every_beginning(rt: HostRuntime) -> Result<(), Fail> {
         let Some(text) = CYCLE.get(..bytes) else {
             return Err(Fail::from("50 bytes"));
         };
-        let lines = ENDS.iter().filter(|end| 0 < **end && **end <= bytes).count();
+        let lines = ENDS
+            .iter()
+            .filter(|end| 0 < **end && **end <= bytes)
+            .count();
         let message = if ENDS.contains(&bytes) {
             format!(in rt.alloc(); "ok threads 1 statements {lines}")?
         } else {
@@ -115,7 +121,8 @@ fn every_beginning(rt: HostRuntime) -> Result<(), Fail> {
     Ok(())
 }
 
-const TEXT: &[u8] = b"make s\nmake a\nmake b\nstore\ta.first  b\r\nexchange b.next a\nload c a.next\n\
+const TEXT: &[u8] =
+    b"make s\nmake a\nmake b\nstore\ta.first  b\r\nexchange b.next a\nload c a.next\n\
 weak w a\nstore b.up w\nload v b.up\ncompare a.first c b\ncompare_weak s.first c b\n";
 
 #[test]

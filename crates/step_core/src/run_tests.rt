@@ -81,12 +81,7 @@ fn world_of(rt: &impl Abort, alloc: Global, actors: Vec<Actor>) -> World {
         .expect(rt, "a world within the limits")
 }
 
-pub(crate) fn run(
-    rt: &impl Abort,
-    alloc: Global,
-    world: &mut World,
-    turns: &[u8],
-) -> Trace {
+pub(crate) fn run(rt: &impl Abort, alloc: Global, world: &mut World, turns: &[u8]) -> Trace {
     world.run(alloc, turns).ok().expect(rt, "a run")
 }
 

@@ -47,9 +47,11 @@ module _ (v : Story) (d : ℕ) (slots : Slots) (k : Name) (m : ℕ) (holds : Hol
   there_owned =
       let t = there_inside slots k m is in
       let p = t.0 in
-      let kind = (inside_is (slot slots k.0) p t.1).1.kind in
-      (p, subst (λ (b : Block). Has (held d (owner_in v b p.place)) (state v).hands) (sym t.2)
-      (subst (λ (q : Kind). Has (held d (handle_in v q p.block p.place)) (state v).hands) kind (inside_held d slots v k.0 p holds t.1)))
+      let kind = (inside_is (slot slots k.0) p t.1).1.kind in (
+        p,
+        subst (λ (b : Block). Has (held d (owner_in v b p.place)) (state v).hands) (sym t.2)
+            (subst (λ (q : Kind). Has (held d (handle_in v q p.block p.place)) (state v).hands) kind (inside_held d slots v k.0 p holds t.1)),
+      )
 
   -- which is one of the table's
   pub block_there : Kept v → (0 < (block_at slots k.0).0) × ((block_at slots k.0).0 ≤ v.extent.shape.blocks)

@@ -78,7 +78,12 @@ impl Thread {
     }
 
     /// What came out of a member of an ending object leaves. Where it was the last owner, the end of its object begins.
-    pub(crate) fn leave_carried(&mut self, desk: usize, table: &mut Table, ending: Ending) -> Stepped
+    pub(crate) fn leave_carried(
+        &mut self,
+        desk: usize,
+        table: &mut Table,
+        ending: Ending,
+    ) -> Stepped
         requires fits { Fits desk self.old table.old }
         requires rest { self.old.half ≡ Half.Rest }
         requires first { first_of self.old.course.endings.list ≡ Some ending }

@@ -25,7 +25,13 @@ impl Thread {
     ghost use Rattle.step_threads.specs.Threads.{Fits, HasStepped};
 
     /// Takes a copy of what a name holds, for a cell that is there; else it is refused.
-    pub(crate) fn offer(&mut self, desk: usize, table: &mut Table, name: u8, cell: CellName) -> Stepped
+    pub(crate) fn offer(
+        &mut self,
+        desk: usize,
+        table: &mut Table,
+        name: u8,
+        cell: CellName,
+    ) -> Stepped
         requires fits { Fits desk self.old table.old }
         requires rest { self.old.half ≡ Half.Rest }
         requires none { self.old.course.endings.list ≡ [] }
@@ -67,7 +73,13 @@ impl Thread {
     /// The first step of an exchange: the funds of what a name holds are brought. A name without an object is exchanged at once,
     /// and one that may not go into the cell not at all. Where the cell isn't there it is refused.
     #[tactic(auto, using(crate::proofs::Named::refusal_none))]
-    pub(crate) fn send(&mut self, desk: usize, table: &mut Table, name: u8, cell: CellName) -> Stepped
+    pub(crate) fn send(
+        &mut self,
+        desk: usize,
+        table: &mut Table,
+        name: u8,
+        cell: CellName,
+    ) -> Stepped
         requires fits { Fits desk self.old table.old }
         requires rest { self.old.half ≡ Half.Rest }
         requires none { self.old.course.endings.list ≡ [] }
