@@ -1,5 +1,5 @@
 -- The cells of names are there, and of their kinds.
-use Rattle.std.proofs.Common.{◌≡◌, ℕ, ◌+◌, ◌<◌, ◌≤◌, Bool, true, Option, Some, None, refl, sym, ap, subst, inl, arith, le-ltb, lt-ltb, length}
+use Rattle.std.proofs.Common.{◌≡◌, ℕ, ◌+◌, ◌<◌, ◌≤◌, true, Option, Some, None, refl, sym, ap, subst, arith, le-ltb, lt-ltb, length}
 use Rattle.std.proofs.lemmas.Bool.{cond-true, cond-false}
 use Rattle.std.specs.Prelude.{nat_lt}
 use Rattle.control_word.proofs.history.Kept.{cells_led}
@@ -15,7 +15,7 @@ use Rattle.step_table.specs.Contents.{is_of}
 use Rattle.step_table.specs.Deeds.{on}
 use Rattle.step_table.specs.Holdings.{Holds, Slots, inside, is_full, slot}
 use Rattle.step_table.specs.Openings.{opening}
-use Rattle.step_table.specs.Stories.{Kept, Story, handle_in, object_in, owner_in, state}
+use Rattle.step_table.specs.Stories.{Kept, Story, handle_in, owner_in, state}
 use Rattle.step_table.proofs.contained.Told.{shared_is}
 use Rattle.step_table.proofs.holding.Inside.{inside_held, inside_is}
 use Rattle.step_table.proofs.tables.Places.{handle_busy, there}

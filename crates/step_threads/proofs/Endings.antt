@@ -1,17 +1,13 @@
 -- What a leave makes of a thread's store and endings, so that it fits the table.
-use Rattle.std.proofs.Common.{◌≡◌, ◌≢◌, ℕ, zero, suc, ◌+◌, ◌<◌, ◌≤◌, ◌==◌, Bool, true, false, cond, not, List, [], ◌∷◌, length, refl, sym, ap, subst, ◌∙◌, ⊎_elim, inl, inr, arith, eq-eqb, ne_eqb}
-use Rattle.std.proofs.lemmas.Bool.{cases_eq, cond_both, cond-true, cond-false, eqb-true, and_parts}
+use Rattle.std.proofs.Common.{◌≡◌, ℕ, ◌+◌, ◌<◌, ◌≤◌, ◌==◌, Bool, true, false, cond, List, [], ◌∷◌, length, refl, sym, ap, subst, ◌∙◌, inl, inr, arith}
+use Rattle.std.proofs.lemmas.Bool.{cond-true}
 use Rattle.std.proofs.lemmas.List.Sorted.{sum_by_pushed}
 use Rattle.std.proofs.lemmas.List.Sums.{sum_by-cons}
-use Rattle.std.specs.List.{filter}
-use Rattle.control_word.proofs.history.Legal.{sound}
-use Rattle.control_word.proofs.lists.Sums.{num_le}
 use Rattle.control_word.proofs.lists.Tallies.{num_cons, put_cases}
 use Rattle.control_word.specs.Events.{moved_to}
 use Rattle.control_word.specs.declared.place.Block.{Block}
 use Rattle.control_word.specs.declared.view.Pending.TheVariants.{Idle}
-use Rattle.control_word.specs.Laws.{how_often}
-use Rattle.control_word.specs.State.{State, Object, Stored as Kept_in, ending, same_stored, stored}
+use Rattle.control_word.specs.State.{Object, ending, same_stored, stored}
 use Rattle.step_threads.specs.declared.course.Course.{Course}
 use Rattle.step_threads.specs.declared.ending.Ending.{Ending}
 use Rattle.step_threads.specs.declared.half.Half.{Half}
@@ -25,11 +21,10 @@ use Rattle.step_table.specs.declared.past.Deed.TheVariants.{Finish, Leave, WeakL
 use Rattle.step_table.specs.Deeds.{is_last, leave, leave_as, on}
 use Rattle.step_threads.specs.Scenes.{begins_end_as}
 use Rattle.step_threads.specs.declared.thread.Thread.{Thread}
-use Rattle.step_threads.specs.Actors.{HalfFits, Stocks, in_list, in_store}
+use Rattle.step_threads.specs.Actors.{HalfFits, Stocks, in_store}
 use Rattle.step_threads.specs.Courses.{CourseReady, HasGoneOn, IsReady, done_on, task_at, todo}
 use Rattle.step_threads.specs.Endings.{EndsAll, IsEnding, Stack}
 use Rattle.step_table.specs.Holdings.{Holds}
-use Rattle.step_table.specs.Openings.{opening}
 use Rattle.step_threads.specs.Stocks.{Stored}
 use Rattle.step_table.specs.Stories.{Kept, Story, after, object_in, pending, state}
 use Rattle.step_threads.specs.Threads.{Fits, IsStocked, IsStockedBy}

@@ -1,5 +1,5 @@
 -- What is in hand has no part in the next task, where nothing was taken.
-use Rattle.std.proofs.Common.{◌≡◌, ℕ, ◌+◌, ◌-◌, ◌<◌, ◌≤◌, ◌⊎◌, Bool, false, not, List, [], ◌∷◌, length, set, drop, refl, sym, ap, subst, ◌∙◌, arith}
+use Rattle.std.proofs.Common.{◌≡◌, ℕ, ◌+◌, ◌-◌, ◌<◌, ◌≤◌, ◌⊎◌, Bool, false, not, List, length, set, drop, refl, sym, ap, subst, ◌∙◌, arith}
 use Rattle.std.proofs.Common.{⊎_elim, inl, inr, get_or-set_same, get_or-set_other, length-set}
 use Rattle.std.proofs.lemmas.Bool.{cases_lt}
 use Rattle.std.proofs.lemmas.List.{drop_all}
@@ -10,7 +10,7 @@ use Rattle.step_threads.specs.declared.course.Course.{Course}
 use Rattle.step_threads.specs.declared.ending.Ending.{Ending}
 use Rattle.step_table.specs.declared.slot.Slot.{Slot}
 use Rattle.step_table.specs.Holdings.{Slots, is_full, plain, pointer_of, slot, value}
-use Rattle.step_threads.specs.Courses.{Begins, CourseReady, CourseStill, Drops, IsCarried, IsReady, Ready, Walk, hand, idle, other, settled, task_at, todo}
+use Rattle.step_threads.specs.Courses.{Begins, CourseReady, CourseStill, IsCarried, IsReady, Ready, hand, idle, other, settled, task_at, todo}
 use Rattle.step_threads.proofs.Courses.{ready_head, settled_still, todo_at}
 
 -- a course that is at an act with these slots, or at its end, stays there

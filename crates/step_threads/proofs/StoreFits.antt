@@ -9,7 +9,7 @@ use Rattle.control_word.specs.declared.view.Pending.TheVariants.{Idle}
 use Rattle.std.specs.List.{filter}
 use Rattle.control_word.specs.State.{same_stored, stored}
 use Rattle.step_threads.specs.declared.act.Act.{Act}
-use Rattle.step_threads.specs.declared.act.Act.TheVariants.{Swap, Exchange, Load, Compare, Drop}
+use Rattle.step_threads.specs.declared.act.Act.TheVariants.{Swap, Exchange, Drop}
 use Rattle.step_threads.specs.declared.call.CellName.{CellName}
 use Rattle.step_table.specs.declared.cell_deed.Cell.{Cell}
 use Rattle.step_table.specs.declared.cell_deed.Cell.TheVariants.{Free, Member}

@@ -15,7 +15,7 @@ use Rattle.control_word.specs.Steps.{known_of}
 use Rattle.control_word.specs.Views.{used_up}
 use Rattle.step_threads.specs.declared.act.Act.{Act}
 use Rattle.step_table.specs.declared.form.Form.{Form}
-use Rattle.step_threads.specs.declared.act.Act.TheVariants.{Make, Share, Downgrade, Lock, Put, Leave, Clear, Count, Expired, Read, FromThis, Alias, Move, Ask, Offer, Swap, Exchange, Load, Compare, Drop}
+use Rattle.step_threads.specs.declared.act.Act.TheVariants.{Make, Lock, Leave, Clear}
 use Rattle.step_threads.specs.declared.act.Task.{Task}
 use Rattle.step_threads.specs.declared.course.Course.{Course}
 use Rattle.step_threads.specs.declared.half.Half.{Half}

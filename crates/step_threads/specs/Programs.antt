@@ -1,5 +1,5 @@
 -- Programs, without where they lie in memory.
-use Rattle.std.specs.Prelude.{◌≡◌, ℕ, ◌≢◌, ◌<◌, ◌≤◌, ◌==◌, ◌++◌, cond, List, [], ◌∷◌, Option, Some, None, All, IsTrue, is_some, length, map, sum_by, slice_get}
+use Rattle.std.specs.Prelude.{◌≡◌, ℕ, ◌≢◌, ◌<◌, ◌≤◌, ◌==◌, cond, List, [], ◌∷◌, Option, Some, None, All, IsTrue, is_some, length, map, sum_by, slice_get}
 use Rattle.control_word.specs.declared.shape.Shape.{Shape}
 use Rattle.step_threads.specs.declared.call.Actor.{Actor}
 use Rattle.step_threads.specs.declared.call.Call.{Call}

@@ -1,5 +1,5 @@
 -- What the members of an object hold that ends in a desk's hands stays, whatever other desks do.
-use Rattle.std.proofs.Common.{◌≡◌, ◌≢◌, ℕ, suc, cond, Some, None, refl, sym, ap, ◌∙◌, arith}
+use Rattle.std.proofs.Common.{◌≡◌, ◌≢◌, ℕ, suc, Some, None, refl, sym, ap, ◌∙◌, arith}
 use Rattle.std.proofs.lemmas.Bool.{cond_both}
 use Rattle.control_word.proofs.history.Cells.{open_live}
 use Rattle.control_word.proofs.history.Legal.{sound}

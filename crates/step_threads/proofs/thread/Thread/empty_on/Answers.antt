@@ -1,4 +1,4 @@
-use Rattle.std.proofs.Common.{◌≡◌, ◌∙◌, ℕ, Some, arith, drop, set, cond, sym, ap, subst}
+use Rattle.std.proofs.Common.{◌∙◌, ℕ, arith, drop, set, cond, sym, ap, subst}
 use Rattle.std.specs.Prelude.{is_some}
 use Rattle.control_word.specs.declared.handle.Kind.{Kind}
 use Rattle.step_table.specs.declared.cell_deed.Cell.TheVariants.{Member}

@@ -1,9 +1,9 @@
-use Rattle.std.proofs.Common.{◌≡◌, ◌∙◌, ℕ, ◌==◌, true, drop, sym, subst, arith, eq-eqb}
+use Rattle.std.proofs.Common.{◌≡◌, ◌∙◌, ◌==◌, true, drop, sym, subst, arith, eq-eqb}
 use Rattle.std.proofs.lemmas.Bool.{cond-true}
 use Rattle.step_table.specs.declared.past.Deed.TheVariants as deed
 use Rattle.step_table.specs.Stories.{Story, after}
 use Rattle.step_threads.specs.Threads.{Fits}
-use Rattle.step_threads.proofs.EndSteps.{fits_clear, fits_look_member, idle_here}
+use Rattle.step_threads.proofs.EndSteps.{fits_clear, idle_here}
 use Rattle.step_threads.proofs.holding.Ends.{ending_here, first_is}
 use Rattle.step_threads.proofs.thread.Thread.look_at_member.Goals as goal
 
