@@ -1,6 +1,8 @@
 //! The pure machine: programs of calls on shared and weak pointers.
 #![tactic(auto)]
 
+#[cfg(test)]
+mod cascade_tests;
 mod census;
 #[cfg(test)]
 mod compare_tests;
@@ -8,12 +10,16 @@ mod limits;
 #[cfg(test)]
 mod load_tests;
 #[cfg(test)]
+mod member_tests;
+#[cfg(test)]
 mod naming_tests;
 mod opening;
 #[cfg(test)]
 mod opening_tests;
 #[cfg(test)]
 mod reading_tests;
+#[cfg(test)]
+mod refill_tests;
 #[cfg(test)]
 mod run_tests;
 mod running;

@@ -11,24 +11,24 @@ use std::test::Fail;
 use step_threads::call::{Actor, Call, CellName, Kind, Name, Program};
 use step_threads::said::{Answer, Stepped, Turned};
 
-const A: Name = Name(0);
+pub(crate) const A: Name = Name(0);
 
-const B: Name = Name(1);
+pub(crate) const B: Name = Name(1);
 
 const W: Name = Name(2);
 
-const CELL: CellName = CellName::Shared(0);
+pub(crate) const CELL: CellName = CellName::Shared(0);
 
 const WEAK_CELL: CellName = CellName::Weak(0);
 
-fn make(target: Name, field: u64) -> Call {
+pub(crate) fn make(target: Name, field: u64) -> Call {
     Call::Make {
         target,
         fields: [field, 0, 0, 0],
     }
 }
 
-fn store(source: Name) -> Call {
+pub(crate) fn store(source: Name) -> Call {
     Call::Store { cell: CELL, source }
 }
 
@@ -129,36 +129,6 @@ fn a_weak_cell_is_loaded_and_compared(rt: HostRuntime) -> Result<(), Fail> {
     assert_eq!(rt; turn(&rt, &mut world, 1), Turned::Acted(drops));
     let one = said(7, Some(Answer::Count(1)), None);
     assert_eq!(rt; turn(&rt, &mut world, 1), Turned::Acted(one));
-    Ok(())
-}
-
-/// The 128th load turns its fund, looks, brings 128 funds, and puts them into the cell.
-#[test]
-fn funds_are_put_back(rt: HostRuntime) -> Result<(), Fail> {
-    let alloc = rt.alloc();
-    let load = Call::Load {
-        target: B,
-        cell: CELL,
-    };
-    let mut calls = vec![in alloc; load; 130]?;
-    calls[0] = make(A, 1);
-    calls[1] = store(A);
-    let mut world = world(&rt, alloc, calls.as_slice())?;
-    for _ in 0..4 {
-        let _turned = turn(&rt, &mut world, 1);
-    }
-    for statement in 4..130 {
-        let acted = said(statement, None, None);
-        assert_eq!(rt; turn(&rt, &mut world, 1), Turned::Acted(acted));
-        assert_eq!(rt; turn(&rt, &mut world, 1), Turned::Acted(acted));
-    }
-    let quiet = said(130, None, None);
-    assert_eq!(rt; step(&rt, &mut world, 1), Stepped::Quiet(quiet));
-    assert_eq!(rt; step(&rt, &mut world, 1), Stepped::Event(quiet));
-    for _ in 0..4 {
-        assert_eq!(rt; step(&rt, &mut world, 1), Stepped::Quiet(quiet));
-    }
-    assert_eq!(rt; step(&rt, &mut world, 1), Stepped::Event(quiet));
     Ok(())
 }
 

@@ -1,4 +1,5 @@
 //! Which names a call may have.
+use crate::member_tests::{compare, exchange, load, member, store};
 use crate::world::World;
 use control_word::{Refusal, Shape};
 use std::alloc::Global;
@@ -86,5 +87,41 @@ fn an_order_has_names_of_either_kind(rt: HostRuntime) -> Result<(), Fail> {
         second: W,
     };
     assert_eq!(rt; refusal(rt.alloc(), same)?, Some(Refusal::Shape));
+    Ok(())
+}
+
+/// A name isn't exchanged with a member of its own object.
+#[test]
+fn names_of_members_are_there(rt: HostRuntime) -> Result<(), Fail> {
+    let alloc = rt.alloc();
+    let no = Some(Refusal::Shape);
+    for (cell, name, refused) in [
+        (member(A, 0), A, None),
+        (member(A, 1), A, None),
+        (member(A, 2), W, None),
+        (member(A, 0), W, no),
+        (member(A, 1), W, no),
+        (member(A, 2), A, no),
+        (member(A, 3), A, no),
+        (member(A, 3), W, no),
+        (member(W, 0), A, no),
+        (member(W, 2), W, no),
+        (member(NOBODY, 0), A, no),
+        (member(NOBODY, 2), W, no),
+    ] {
+        for call in [
+            store(cell, name),
+            load(name, cell),
+            compare(cell, name, name, false),
+        ] {
+            assert_eq!(rt; refusal(alloc, call)?, refused, "{cell:?} {name:?}");
+        }
+        let own = if name == A { no } else { refused };
+        assert_eq!(rt;
+            refusal(alloc, exchange(cell, name))?,
+            own,
+            "{cell:?} {name:?}"
+        );
+    }
     Ok(())
 }

@@ -4,7 +4,7 @@ ghost use Rattle.step_core.specs.Told.{HasEnded};
 ghost use Rattle.step_core.specs.Totals.{IsAtEnd};
 
 use crate::world::World;
-use control_word::{Block, Refusal, Shape};
+use control_word::{Block, Counts, Refusal, Shape};
 use std::alloc::{AllocError, Global};
 use std::process::Abort;
 use std::test::Fail;
@@ -113,6 +113,13 @@ pub(crate) fn nothing_is_left(rt: &impl Abort, world: &World, made: u32) {
             assert_eq!(rt; world.census(Block(block)), None);
         }
     }
+}
+
+/// The counts of one of the blocks of a world at its end.
+pub(crate) fn census(rt: &impl Abort, world: &World, block: u16) -> Option<Counts> {
+    assert!(rt; is_at_end(world));
+    assert!(rt; block > 0 && u32::from(block) <= blocks(world));
+    world.census(Block(block))
 }
 
 #[test]
