@@ -96,7 +96,7 @@ fn a_compare_that_missed_is_finished_first(rt: HostRuntime) -> Result<(), Fail> 
     Ok(())
 }
 
-/// Both have taken a fund: the first actor turns its own first. A look alone isn't finished.
+/// Both have taken a fund: the first actor turns its own first.
 #[test]
 fn calls_are_finished_in_number_order(rt: HostRuntime) -> Result<(), Fail> {
     let alloc = rt.alloc();
@@ -106,9 +106,17 @@ fn calls_are_finished_in_number_order(rt: HostRuntime) -> Result<(), Fail> {
     let trace = run(&rt, alloc, &mut world, [2, 2, 1, 1].as_slice());
     let numbers = actors(alloc, &trace)?;
     assert_eq!(rt; numbers.get(..7), Some([2, 2, 1, 1, 1, 2, 1].as_slice()));
-    let mut other = world_of_two(&rt, alloc, first.as_slice(), [LOAD].as_slice())?;
-    turns(&rt, &mut other, [1, 2, 2].as_slice());
-    let trace = run(&rt, alloc, &mut other, [2].as_slice());
+    Ok(())
+}
+
+/// The second actor has only looked at the cell when the list ends: nothing of it is to be finished.
+#[test]
+fn a_look_alone_is_left(rt: HostRuntime) -> Result<(), Fail> {
+    let alloc = rt.alloc();
+    let first = [make(A, 1), store(A), LOAD];
+    let mut world = world_of_two(&rt, alloc, first.as_slice(), [LOAD].as_slice())?;
+    turns(&rt, &mut world, [1, 2, 2].as_slice());
+    let trace = run(&rt, alloc, &mut world, [2].as_slice());
     let numbers = actors(alloc, &trace)?;
     assert_eq!(rt; numbers.get(..2), Some([2, 1].as_slice()));
     Ok(())
