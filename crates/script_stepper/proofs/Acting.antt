@@ -102,10 +102,10 @@ abbrev with_taken : Slots → Bool → Slots × Bool
 with_taken slots taken = (slots, taken)
 
 -- new slots where a test holds, and else those from before
-if_size : (b : Bool) (slots new : Slots) (yes no : Bool) → length new ≡ length slots
-    → length (cond b (with_taken new yes) (with_taken slots no)).0 ≡ length slots
-if_size true slots new yes no e = e
-if_size false slots new yes no e = refl
+if_size : (b : Bool) (slots new : Slots) (took kept : Bool) → length new ≡ length slots
+    → length (cond b (with_taken new took) (with_taken slots kept)).0 ≡ length slots
+if_size true slots new took kept e = e
+if_size false slots new took kept e = refl
 
 hands_size : (s : State) (d : ℕ) (slots : Slots) (taken : Bool) (a : Act) → length (hands s d slots taken a).0 ≡ length slots
 hands_size s d slots taken (Make form) = holding_size slots form.null (least d s.stores)
