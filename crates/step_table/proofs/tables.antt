@@ -8,7 +8,6 @@ pub mod Loads
 pub mod Making
 pub mod Owners
 pub mod Places
-pub mod Plain
 pub mod Reading
 pub mod Shown
 pub mod Standing

@@ -16,9 +16,6 @@ use Rattle.control_word.specs.Layout.{spot}
 use Rattle.control_word.specs.State.{State, kind_of_member}
 use Rattle.control_word.specs.Steps.{known_of}
 use Rattle.control_word.specs.Views.{Stands, sees_as, used_up}
-use Rattle.step_table.specs.declared.cell_deed.Cell.TheVariants.{Free}
-use Rattle.step_table.specs.declared.cell_deed.CellDeed.{CellDeed}
-use Rattle.step_table.specs.declared.cell_deed.CellDeed.TheVariants as cell_deed
 use Rattle.step_table.specs.declared.extent.Extent.{Extent}
 use Rattle.step_table.specs.declared.past.Deed.{Deed}
 use Rattle.step_table.specs.declared.past.Deed.TheVariants.{Prepare, Write, Claim, Share, WeakShare, Leave, WeakLeave, Lock, Count, Expired, Read, Clear, Finish, OnCell}
@@ -149,27 +146,3 @@ pub record Kept (v : Story) : Type 0 where
   pub whole : AllWhole (state v)
   pub proper : IsExtent v.extent
   pub allowed : (state v).allowance ≡ share_of v.extent
-
--- no member of an object holds a handle
-abbrev pub AllBare : State → Type 0
-AllBare s = (o m : ℕ) → (s.object o).member m ≡ empty (kind_of_member m)
-
--- no member was filled
-pub record Plain (v : Story) : Type 0 where
-  pub bare : AllBare (state v)
-
--- a step that fills no member: funds, looks and loads don't, and swaps of free cells don't
-abbrev pub IsPlainOn : CellDeed → Type 0
-IsPlainOn (cell_deed.Look c x y) = Unit {0}
-IsPlainOn (cell_deed.Bring k b p f) = Unit {0}
-IsPlainOn (cell_deed.GiveBack k b f) = Unit {0}
-IsPlainOn (cell_deed.Take c x y) = Unit {0}
-IsPlainOn (cell_deed.Turn k b) = Unit {0}
-IsPlainOn (cell_deed.Refill c t) = Unit {0}
-IsPlainOn (cell_deed.Swap (Free n) new x) = Unit {0}
-IsPlainOn (cell_deed.CompareSwap (Free n) x y) = Unit {0}
-IsPlainOn _ = ⊥
-
-abbrev pub IsPlain : Deed → Type 0
-IsPlain (OnCell x) = IsPlainOn x
-IsPlain _ = Unit {0}

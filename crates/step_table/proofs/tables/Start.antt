@@ -12,7 +12,7 @@ use Rattle.control_word.specs.State.{IsOpening, sum_below}
 use Rattle.control_word.specs.Views.{Stands, fresh, used_up}
 use Rattle.step_table.specs.declared.extent.Extent.{Extent}
 use Rattle.step_table.specs.Openings.{IsExtent, each_stock, holder_of, opening, share_of}
-use Rattle.step_table.specs.Stories.{Kept, Nothing, Plain, ShutsNoDoor}
+use Rattle.step_table.specs.Stories.{Kept, Nothing, ShutsNoDoor}
 
 -- of so many actors each has its share, and the first has the rest too
 sums : (q r a n : ℕ) → 1 ≤ n → n ≤ a → sum_below n (λ d. cond (nat_lt d a) (q + cond (d == 0) r 0) 0) ≡ n * q + r
@@ -99,6 +99,3 @@ kept_start x words fine is =
       proper = fine;
       allowed = refl;
     }
-
-pub plain_start : (x : Extent) (words : List ℕ) → Plain (record { extent = x; words = words; views = fresh 0 x.actors; history = [] })
-plain_start x words = record { bare = λ o m. refl }
