@@ -128,9 +128,12 @@ impl Course {
         requires owes { pending table.old desk ≡ owing_for (state table.old) (value self.old.holdings.slots.items (hand self.old.holdings.slots.items)) 256 }
         ensures found { result ≡ seen table.old (cell_at (state table.old) self.old.holdings.slots.items cell) }
         ensures few { result.taken ≤ 256 }
-        ensures table { table.new ≡ after table.old desk (Deed.OnCell (CellDeed.Swap (cell_at (state table.old) self.old.holdings.slots.items cell) (as_word (value self.old.holdings.slots.items (hand self.old.holdings.slots.items))) result)) }
+        ensures table { table.new
+            ≡ after table.old desk (Deed.OnCell (CellDeed.Swap (cell_at (state table.old) self.old.holdings.slots.items cell)
+            (as_word (value self.old.holdings.slots.items (hand self.old.holdings.slots.items))) result)) }
         ensures walk { walk self.new
-            ≡ settled (swapped (hand self.old.holdings.slots.items) (other self.old.holdings.slots.items) self.old.holdings.slots.items (came (state table.old) self.old.holdings.slots.items cell)) false self.old.endings.list (rest self.old) }
+            ≡ settled (swapped (hand self.old.holdings.slots.items) (other self.old.holdings.slots.items) self.old.holdings.slots.items
+            (came (state table.old) self.old.holdings.slots.items cell)) false self.old.endings.list (rest self.old) }
         ensures on { HasGoneOn desk self.old self.new table.new }
     {
         let hand = self.holdings.hand();

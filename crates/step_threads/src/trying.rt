@@ -162,7 +162,8 @@ impl Course {
         requires differs { same_value seen (as_word (value self.old.holdings.slots.items name)) ≡ false }
         ensures same { result ≡ (word_at table.old (cell_at (state table.old) self.old.holdings.slots.items cell) == cell_bits seen) }
         ensures table { table.new
-            ≡ cond result (after table.old desk (Deed.OnCell (CellDeed.Take (cell_at (state table.old) self.old.holdings.slots.items cell) seen (Some (compared_in self.old.holdings.slots.items (comparing self.old.holdings.slots.items name weak)))))) table.old }
+            ≡ cond result (after table.old desk (Deed.OnCell (CellDeed.Take (cell_at (state table.old) self.old.holdings.slots.items cell) seen
+            (Some (compared_in self.old.holdings.slots.items (comparing self.old.holdings.slots.items name weak)))))) table.old }
         ensures stays { result ≡ false → self.new ≡ self.old }
         ensures walk { result ≡ true → walk self.new ≡ settled (compared self.old.holdings.slots.items (came (state table.old) self.old.holdings.slots.items cell) false).0 true self.old.endings.list (rest self.old) }
         ensures on { result ≡ true → HasGoneOn desk self.old self.new table.new }
@@ -201,7 +202,8 @@ impl Course {
         requires owes { pending table.old desk ≡ owing_for (state table.old) (value self.old.holdings.slots.items (hand self.old.holdings.slots.items)) 256 }
         ensures same { result ≡ (word_at table.old (cell_at (state table.old) self.old.holdings.slots.items cell) == cell_bits seen) }
         ensures table { table.new
-            ≡ cond result (after table.old desk (Deed.OnCell (CellDeed.CompareSwap (cell_at (state table.old) self.old.holdings.slots.items cell) seen (compared_in self.old.holdings.slots.items (comparing self.old.holdings.slots.items name weak))))) table.old }
+            ≡ cond result (after table.old desk (Deed.OnCell (CellDeed.CompareSwap (cell_at (state table.old) self.old.holdings.slots.items cell) seen
+            (compared_in self.old.holdings.slots.items (comparing self.old.holdings.slots.items name weak))))) table.old }
         ensures stays { result ≡ false → self.new ≡ self.old }
         ensures walk { result ≡ true → walk self.new ≡ settled (compared self.old.holdings.slots.items (came (state table.old) self.old.holdings.slots.items cell) true).0 false self.old.endings.list (rest self.old) }
         ensures on { result ≡ true → HasGoneOn desk self.old self.new table.new }

@@ -33,7 +33,8 @@ use Rattle.step_table.specs.Deeds.{give}
 use Rattle.step_threads.specs.Endings.{staged}
 use Rattle.step_table.specs.Holdings.{Holds, inside, is_full, slot}
 use Rattle.step_table.specs.Openings.{opening}
-use Rattle.step_threads.specs.Steps.{Step, at_rest, begun, claims, emptied, ends_on, first, given, gives_back, made_on, matched, matched_on, prepares, refills_on, saw, saw_on, sent, silent, step_at, story_after, story_by, tried, with_endings, within}
+use Rattle.step_threads.specs.Steps.{Step, at_rest, begun, claims, emptied, ends_on, first, given, gives_back}
+use Rattle.step_threads.specs.Steps.{made_on, matched, matched_on, prepares, refills_on, saw, saw_on, sent, silent, step_at, story_after, story_by, tried, with_endings, within}
 use Rattle.step_table.specs.Stories.{Kept, Nothing, Story, known, object_in, pending, state, view_in}
 use Rattle.step_table.proofs.tables.Places.{ending_busy, handle_busy, there}
 use Rattle.step_table.proofs.tables.Standing.{point, ready}
