@@ -146,9 +146,10 @@ abbrev pub refusal_of : RunRefusal → Refusal
 refusal_of Memory = refusal.Memory
 refusal_of (BadTurn position) = refusal.BadTurn
 
--- a list got longer by steps that are such a run
+-- a list got longer by steps that are such a run, and none of them waited
 pub record Adds (R : Sight → List TraceStep → Sight → Type 0) (u : Sight) (xs : List TraceStep) (u' : Sight) (xs' : List TraceStep)
     : Type 0 where
   pub added : List TraceStep
   pub items : xs' ≡ xs ++ added
   pub run : R u added u'
+  pub moves : All Moves added

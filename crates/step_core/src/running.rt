@@ -86,11 +86,8 @@ impl World {
 
     /// Each actor that has a load under way, or funds that it brought or is to give back, finishes that call, in number order.
     fn settle(&mut self, steps: &mut Vec<TraceStep>)
-        requires few { length self.old.walks ≤ 64 }
-        requires moves { All Moves steps.old.items }
         requires room { vec_len steps.old + most_steps self.old + 6 * length self.old.walks ≤ vec_capacity steps.old }
         ensures adds { Adds (SettleInOrder (length self.old.walks)) self.old steps.old.items self.new steps.new.items }
-        ensures moves { All Moves steps.new.items }
         ensures room { vec_len steps.new + most_steps self.new + 3 * length self.new.walks ≤ vec_capacity steps.new }
         ensures actors { length self.new.walks ≡ length self.old.walks }
     {
@@ -103,11 +100,8 @@ impl World {
     /// An actor that has a load under way, or funds that it brought or is to give back, finishes that call.
     fn settle_one(&mut self, number: usize, steps: &mut Vec<TraceStep>)
         requires within { number < length self.old.walks }
-        requires few { length self.old.walks ≤ 64 }
-        requires moves { All Moves steps.old.items }
         requires room { vec_len steps.old + most_steps self.old + 3 ≤ vec_capacity steps.old }
         ensures adds { Adds (Settles number) self.old steps.old.items self.new steps.new.items }
-        ensures moves { All Moves steps.new.items }
         ensures room { vec_len steps.new + most_steps self.new ≤ vec_len steps.old + most_steps self.old + 3 }
         ensures capacity { vec_capacity steps.old ≤ vec_capacity steps.new }
         ensures actors { length self.new.walks ≡ length self.old.walks }
@@ -120,15 +114,13 @@ impl World {
     /// An actor finishes its call.
     fn finish_call(&mut self, number: usize, steps: &mut Vec<TraceStep>)
         requires within { number < length self.old.walks }
-        requires few { length self.old.walks ≤ 64 }
-        requires moves { All Moves steps.old.items }
         requires room { vec_len steps.old + most_steps self.old + 3 ≤ vec_capacity steps.old }
         ensures adds { Adds (FinishesCall number) self.old steps.old.items self.new steps.new.items }
-        ensures moves { All Moves steps.new.items }
         ensures room { vec_len steps.new + most_steps self.new ≤ vec_len steps.old + most_steps self.old + 3 }
         ensures capacity { vec_capacity steps.old ≤ vec_capacity steps.new }
         ensures actors { length self.new.walks ≡ length self.old.walks }
     {
+        self.table.known();
         while self.is_calling(number) {
             let stepped = self.advance(number);
             add(steps, number as u8 + 1, stepped);
@@ -161,11 +153,8 @@ impl World {
 
     /// Each actor runs alone to its end, in number order.
     fn finish(&mut self, steps: &mut Vec<TraceStep>)
-        requires few { length self.old.walks ≤ 64 }
-        requires moves { All Moves steps.old.items }
         requires room { vec_len steps.old + most_steps self.old + 3 * length self.old.walks ≤ vec_capacity steps.old }
         ensures adds { Adds (RunInOrder (length self.old.walks)) self.old steps.old.items self.new steps.new.items }
-        ensures moves { All Moves steps.new.items }
         ensures actors { length self.new.walks ≡ length self.old.walks }
     {
         for number in 0..self.threads.len() {
@@ -176,15 +165,13 @@ impl World {
     /// An actor runs alone to its end.
     fn finish_one(&mut self, number: usize, steps: &mut Vec<TraceStep>)
         requires within { number < length self.old.walks }
-        requires few { length self.old.walks ≤ 64 }
-        requires moves { All Moves steps.old.items }
         requires room { vec_len steps.old + most_steps self.old + 3 ≤ vec_capacity steps.old }
         ensures adds { Adds (RunsToEnd number) self.old steps.old.items self.new steps.new.items }
-        ensures moves { All Moves steps.new.items }
         ensures room { vec_len steps.new + most_steps self.new ≤ vec_len steps.old + most_steps self.old + 3 }
         ensures capacity { vec_capacity steps.old ≤ vec_capacity steps.new }
         ensures actors { length self.new.walks ≡ length self.old.walks }
     {
+        self.table.known();
         loop {
             match self.advance(number) {
                 Stepped::Done => return,

@@ -1,19 +1,22 @@
 -- Threads that finish their calls.
-use Rattle.std.proofs.Common.{◌≡◌, ◌≢◌, ℕ, ◌+◌, ◌-◌, ◌<◌, ◌≤◌, Bool, true, false, List, [], ◌∷◌, ◌++◌, length, refl, sym, ap, subst, ◌∙◌, append_assoc, arith}
+use Rattle.std.proofs.Common.{◌≡◌, ◌≢◌, ℕ, ◌+◌, ◌-◌, Bool, true, false, List, [], ◌∷◌, ◌++◌, length, refl, sym, ap, subst, ◌∙◌, append_assoc, arith}
 use Rattle.std.proofs.lemmas.Bool.{false≢true}
+use Rattle.std.specs.Prelude.{All}
 use Rattle.std.proofs.lemmas.List.{append-nil}
+use Rattle.std.proofs.lemmas.List.Elements.{All-nil}
 use Rattle.step_threads.specs.declared.act.Task.{Task}
 use Rattle.step_threads.specs.declared.half.Half.{Half}
 use Rattle.step_threads.specs.declared.half.Half.TheVariants.{Rest, Making, Locking, Giving, Brought, Saw, Matched, Refill, Returning, Clearing}
 use Rattle.step_threads.specs.declared.said.Stepped.{Stepped}
-use Rattle.step_threads.specs.declared.said.Stepped.TheVariants.{Done}
+use Rattle.step_threads.specs.declared.said.Stepped.TheVariants.{Waited, Done}
 use Rattle.step_core.specs.declared.trace.TraceStep.{TraceStep}
 use Rattle.step_table.specs.Stories.{Kept}
 use Rattle.step_threads.specs.Scenes.{walk_of}
-use Rattle.step_core.specs.Bounds.{alone, most_steps, spare}
-use Rattle.step_core.specs.Runs.{Adds, CallsOn, FinishesCall, IsOver, IsRun, Settles, compares_next, goes_on, is_calling, is_owing}
+use Rattle.step_core.specs.Bounds.{alone, spare}
+use Rattle.step_core.specs.Runs.{Adds, CallsOn, FinishesCall, IsRun, Moves, Settles, compares_next, goes_on, is_calling, is_owing}
 use Rattle.step_core.specs.Turning.{HasBegun}
 use Rattle.step_core.specs.Worlds.{Sight, Steps, half_of, scene}
+use Rattle.step_core.proofs.runs.Chains.{moves_more}
 use Rattle.step_core.proofs.runs.Measures.{alone_of, at_end, spare_of}
 
 same_number : (d n : ℕ) → n ≡ d + 1 → n - 1 ≡ d
@@ -43,24 +46,26 @@ pub record IsGoing (d : ℕ) (u : Sight) (xs : List TraceStep) (m : Sight) (ys :
   pub added : List TraceStep
   pub items : ys ≡ xs ++ added
   pub calls : CallsOn d u added m
+  pub moves : All Moves added
   pub actors : length m.walks ≡ length u.walks
 
 pub going_start : (d : ℕ) (u : Sight) (xs : List TraceStep) → IsGoing d u xs u xs
-going_start d u xs = record { added = []; items = sym (append-nil xs); calls = refl; actors = refl }
+going_start d u xs = record { added = []; items = sym (append-nil xs); calls = refl; moves = All-nil Moves; actors = refl }
 
 pub going_more : (d : ℕ) (u m w : Sight) (xs ys zs : List TraceStep) (r : Stepped) → IsGoing d u xs m ys → is_calling m d ≡ true → Steps d m r w
-    → Kept w.story → length w.walks ≡ length m.walks → zs ≡ ys ++ record { actor = d + 1; stepped = r } ∷ [] → IsGoing d u xs w zs
-going_more d u m w xs ys zs r on goes steps kept actors is =
+    → Kept w.story → length w.walks ≡ length m.walks → r ≢ Waited → zs ≡ ys ++ record { actor = d + 1; stepped = r } ∷ [] → IsGoing d u xs w zs
+going_more d u m w xs ys zs r on goes steps kept actors never is =
     let x : TraceStep = record { actor = d + 1; stepped = r } in
     record {
       added = on.added ++ x ∷ [];
       items = is ∙ ap (λ (l : List TraceStep). l ++ x ∷ []) on.items ∙ append_assoc xs on.added (x ∷ []);
       calls = calls_more d u m w on.added r on.calls goes steps kept;
+      moves = moves_more on.added (on.added ++ x ∷ []) (d + 1) r on.moves never refl;
       actors = actors ∙ on.actors;
     }
 
 pub going_end : (d : ℕ) (u m : Sight) (xs ys : List TraceStep) → IsGoing d u xs m ys → is_calling m d ≡ false → Adds (FinishesCall d) u xs m ys
-going_end d u m xs ys on done = record { added = on.added; items = on.items; run = record { calls = on.calls; done = done } }
+going_end d u m xs ys on done = record { added = on.added; items = on.items; run = record { calls = on.calls; done = done }; moves = on.moves }
 
 -- a call that goes on isn't at the thread's end
 pub calling_on : (d : ℕ) (u u' : Sight) (r : Stepped) → HasBegun d u → Steps d u r u' → is_calling u d ≡ true → r ≢ Done
@@ -71,7 +76,7 @@ calling_on d u u' r begun steps goes done =
     ended : (h : Half) (ts : List Task) → h ≡ Rest → ts ≡ [] → goes_on h ts ≡ false
     ended h ts rests none = ap (λ (x : Half). goes_on x ts) rests ∙ ap compares_next none
 
--- once its call is done, a thread has no more to spare than another
+-- a thread whose call is done rests
 rests : (h : Half) (ts : List Task) → goes_on h ts ≡ false → h ≡ Rest
 rests Rest ts e = refl
 rests (Making b i f) ts e = absurd (false≢true (sym e))
@@ -97,6 +102,7 @@ settled_one d u u' xs ys is adds =
       added = adds.added;
       items = adds.items;
       run = record { owing = λ _. adds.run; none = λ no. absurd (false≢true (sym no ∙ is)) };
+      moves = adds.moves;
     }
 
 pub settled_none : (d : ℕ) (u : Sight) (xs : List TraceStep) → is_owing (half_of u d) ≡ false → Adds (Settles d) u xs u xs
@@ -105,4 +111,5 @@ settled_none d u xs is =
       added = [];
       items = sym (append-nil xs);
       run = record { owing = λ yes. absurd (false≢true (sym is ∙ yes)); none = λ _. (refl, refl) };
+      moves = All-nil Moves;
     }

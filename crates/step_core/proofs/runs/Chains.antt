@@ -22,27 +22,36 @@ run_more u m w xs x run steps kept = run_joined u m w xs (x ∷ []) run (w, step
 pub number_of : (n : ℕ) → (n + 1) - 1 ≡ n
 number_of n = omega arith
 
+-- no step of a longer list waits, where the last doesn't
+pub moves_more : (xs ys : List TraceStep) (n : ℕ) (r : Stepped) → All Moves xs → r ≢ Waited → ys ≡ xs ++ record { actor = n; stepped = r } ∷ []
+    → All Moves ys
+moves_more xs ys n r all never is =
+    let x : TraceStep = record { actor = n; stepped = r } in
+    subst (All Moves) (sym is) (All-append Moves xs (x ∷ []) all (All-cons Moves x [] never (All-nil Moves)))
+
 -- how far thread d has run alone
 pub record IsOn (d : ℕ) (u : Sight) (xs : List TraceStep) (m : Sight) (ys : List TraceStep) : Type 0 where
   pub added : List TraceStep
   pub items : ys ≡ xs ++ added
   pub run : IsRun u added m
   pub alone : All (IsStepOf d) added
+  pub moves : All Moves added
   pub actors : length m.walks ≡ length u.walks
 
 pub on_start : (d : ℕ) (u : Sight) (xs : List TraceStep) → IsOn d u xs u xs
 on_start d u xs =
-    record { added = []; items = sym (append-nil xs); run = refl; alone = All-nil (IsStepOf d); actors = refl }
+    record { added = []; items = sym (append-nil xs); run = refl; alone = All-nil (IsStepOf d); moves = All-nil Moves; actors = refl }
 
 pub on_more : (d : ℕ) (u m w : Sight) (xs ys zs : List TraceStep) (r : Stepped) → IsOn d u xs m ys → Steps d m r w → Kept w.story
-    → length w.walks ≡ length m.walks → r ≢ Done → zs ≡ ys ++ record { actor = d + 1; stepped = r } ∷ [] → IsOn d u xs w zs
-on_more d u m w xs ys zs r on steps kept actors ne is =
+    → length w.walks ≡ length m.walks → r ≢ Done → r ≢ Waited → zs ≡ ys ++ record { actor = d + 1; stepped = r } ∷ [] → IsOn d u xs w zs
+on_more d u m w xs ys zs r on steps kept actors ne never is =
     let x : TraceStep = record { actor = d + 1; stepped = r } in
     record {
       added = on.added ++ x ∷ [];
       items = is ∙ ap (λ (l : List TraceStep). l ++ x ∷ []) on.items ∙ append_assoc xs on.added (x ∷ []);
       run = run_more u m w on.added x on.run (subst (λ (n : ℕ). Steps n m r w) (sym (number_of d)) steps) kept;
       alone = All-append (IsStepOf d) on.added (x ∷ []) on.alone (All-cons (IsStepOf d) x [] (refl, ne) (All-nil (IsStepOf d)));
+      moves = moves_more on.added (on.added ++ x ∷ []) (d + 1) r on.moves never refl;
       actors = actors ∙ on.actors;
     }
 
@@ -56,6 +65,7 @@ on_end d u m w xs ys on same over =
         alone = on.alone;
         over = subst (λ (z : Sight). IsOver d z) (sym same) over;
       };
+      moves = on.moves;
     }
 
 -- the runs of threads in order are one run
@@ -82,17 +92,15 @@ adds_more R n u m u' xs ys zs a b =
       added = a.added ++ b.added;
       items = b.items ∙ ap (λ (l : List TraceStep). l ++ b.added) a.items ∙ append_assoc xs a.added b.added;
       run = subst (λ (k : ℕ). InOrder R k u (a.added ++ b.added) u') (suc_more n) (a.added, b.added, m, refl, a.run, b.run);
+      moves = All-append Moves a.added b.added a.moves b.moves;
     }
   where
     suc_more : (k : ℕ) → suc k ≡ k + 1
     suc_more k = omega arith
 
--- no step of a longer list waits, where the last doesn't
-pub moves_more : (xs ys : List TraceStep) (n : ℕ) (r : Stepped) → All Moves xs → r ≢ Waited → ys ≡ xs ++ record { actor = n; stepped = r } ∷ []
-    → All Moves ys
-moves_more xs ys n r all never is =
-    let x : TraceStep = record { actor = n; stepped = r } in
-    subst (All Moves) (sym is) (All-append Moves xs (x ∷ []) all (All-cons Moves x [] never (All-nil Moves)))
+-- nor one of a list that a part made longer
+pub moves_on : (R : Sight → List TraceStep → Sight → Type 0) (u u' : Sight) (xs ys : List TraceStep) → All Moves xs → Adds R u xs u' ys → All Moves ys
+moves_on R u u' xs ys all adds = subst (All Moves) (sym adds.items) (All-append Moves xs adds.added all adds.moves)
 
 -- one more number, and its step
 pub number_more : (xs ys : List TraceStep) (turns : List ℕ) (i : ℕ) (r : Stepped) → i < length turns

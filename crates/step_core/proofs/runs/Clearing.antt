@@ -1,5 +1,5 @@
 -- How many steps the end of an object has left, step by step.
-use Rattle.std.proofs.Common.{◌≡◌, ℕ, ◌+◌, ◌≤◌, ◌==◌, Bool, cond, List, [], ◌∷◌, arith}
+use Rattle.std.proofs.Common.{◌≡◌, ℕ, ◌≤◌, ◌==◌, cond, List, [], ◌∷◌, arith}
 use Rattle.std.specs.Prelude.{Some, None}
 use Rattle.std.proofs.lemmas.Bool.{cond_both, eqb-false}
 use Rattle.control_word.specs.State.{kind_of_member, weak}
@@ -14,7 +14,6 @@ use Rattle.step_threads.specs.Courses.{Walk}
 use Rattle.step_threads.specs.Endings.{staged}
 use Rattle.step_threads.specs.Steps.{Step, emptied, empties, ends_on, silent, story_after, with_endings, within}
 use Rattle.step_threads.specs.Threads.{IsClearing}
-use Rattle.step_core.specs.Bounds.{alone, spare, walk_steps}
 use Rattle.step_core.proofs.runs.Alone.{IsLess}
 use Rattle.step_core.proofs.runs.Trying.{alone_back}
 use Rattle.step_core.proofs.telling.Walking.{IsFree, carried_most, over_less, staged_less, taken_out}

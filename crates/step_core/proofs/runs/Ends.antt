@@ -9,7 +9,7 @@ use Rattle.step_threads.specs.declared.half.Half.TheVariants.{Rest}
 use Rattle.step_threads.specs.declared.said.Stepped.{Stepped}
 use Rattle.step_core.specs.declared.trace.TraceStep.{TraceStep}
 use Rattle.step_threads.specs.Courses.{Walk}
-use Rattle.step_core.specs.Runs.{IsOver, IsRun, IsStepOf, RunInOrder, RunsToEnd}
+use Rattle.step_core.specs.Runs.{IsOver, IsRun, IsStepOf, RunInOrder}
 use Rattle.step_threads.specs.Scenes.{nowhere, walk_of}
 use Rattle.step_threads.specs.Steps.{half_by, walk_by}
 use Rattle.step_core.specs.Totals.{IsAtEnd}

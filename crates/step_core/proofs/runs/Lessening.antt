@@ -13,10 +13,8 @@ use Rattle.step_threads.specs.declared.ending.Ending.{Ending}
 use Rattle.step_threads.specs.declared.half.Half.{Half}
 use Rattle.step_threads.specs.declared.half.Half.TheVariants.{Rest, Making, Locking, Giving, Brought, Saw, Matched, Refill, Returning, Clearing}
 use Rattle.step_table.specs.declared.holdings.Pointer.{Pointer}
-use Rattle.step_table.specs.declared.past.Deed.TheVariants as deed
 use Rattle.step_threads.specs.Actors.{wanted}
 use Rattle.step_core.specs.Bounds.{alone, lock_word, spare, walk_steps, weight}
-use Rattle.control_word.specs.declared.cell.CellWord.{CellWord}
 use Rattle.step_table.specs.Contents.{seen}
 use Rattle.step_threads.specs.Courses.{Going, HasCell, Walk, cell_at, form_of, going, hand, idle, kind_at, locked, offered, on_going, other, settled}
 use Rattle.step_table.specs.Deeds.{alias, aliased, downgrade, give, is_enabled, lock, owner_word, read, share, tell, tell_expired, on}
@@ -24,9 +22,9 @@ use Rattle.step_threads.specs.Endings.{EndsAll, IsEnding}
 use Rattle.step_table.specs.Holdings.{Holds, inside, is_full, owner_slot, place_in, slot}
 use Rattle.step_threads.specs.Entries.{least}
 use Rattle.step_threads.specs.Scenes.{holding, left as leaves_by, went}
-use Rattle.step_threads.specs.Steps.{Step, acts, asks, at_rest, begins, begun, brings, claims, ends_on, first, given, gives_back, looks, made_on, prepares}
+use Rattle.step_threads.specs.Steps.{Step, acts, asks, at_rest, begins, begun, brings, claims, ends_on, first, given, looks, made_on, prepares}
 use Rattle.step_threads.specs.Steps.{sends, sent, silent, step_at, stepped as stepped_by, story_after, swaps, tried, tries, trying, waits, waits_at, waits_on}
-use Rattle.step_table.specs.Stories.{Kept, Story, known, object_in, pending, state}
+use Rattle.step_table.specs.Stories.{Kept, Story, known, pending, state}
 use Rattle.step_core.specs.Told.{is_prepared}
 use Rattle.step_core.specs.Turning.{IsAlone, IsInShape, IsLock, IsOut, IsStill, IsSwap, IsTried, IsUnderWay}
 use Rattle.step_core.proofs.runs.Clearing.{end_less, out_less}

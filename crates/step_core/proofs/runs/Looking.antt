@@ -1,5 +1,5 @@
 -- How many steps a thread has left that has looked at a cell, or took a fund of it.
-use Rattle.std.proofs.Common.{◌≡◌, ℕ, ◌<◌, ◌==◌, Bool, true, false, cond, List, [], ◌∷◌, refl, sym, ap, subst, ◌∙◌, arith}
+use Rattle.std.proofs.Common.{◌≡◌, ℕ, ◌<◌, ◌==◌, Bool, true, false, List, [], ◌∷◌, refl, sym, ap, subst, ◌∙◌, arith}
 use Rattle.std.specs.Prelude.{◌&&◌, not, Option, Some, None, option_map}
 use Rattle.std.proofs.lemmas.Bool.{cond_both, false≢true}
 use Rattle.control_word.specs.declared.cell.CellWord.{CellWord}

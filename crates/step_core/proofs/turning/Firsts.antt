@@ -1,5 +1,5 @@
 -- The first step of each act: it is the act, or it only begins it.
-use Rattle.std.proofs.Common.{◌≡◌, ◌≢◌, ℕ, ◌==◌, true, false, List, refl}
+use Rattle.std.proofs.Common.{◌≡◌, ℕ, ◌==◌, true, false, List, refl}
 use Rattle.std.specs.Prelude.{Option, Some, None}
 use Rattle.std.proofs.lemmas.Bool.{cond_both, false≢true}
 use Rattle.step_threads.specs.declared.act.Act.{Act}
@@ -13,7 +13,7 @@ use Rattle.step_table.specs.Deeds.{aliased, is_enabled, lock, owner_word, on}
 use Rattle.step_table.specs.Holdings.{inside, owner_slot, place_in, slot}
 use Rattle.step_threads.specs.Entries.{least}
 use Rattle.step_threads.specs.Scenes.{walk_of}
-use Rattle.step_threads.specs.Steps.{Step, acts, asks, begins, begun, first, looks, silent, trying, waits_on}
+use Rattle.step_threads.specs.Steps.{Step, acts, asks, begins, first, looks, silent, trying, waits_on}
 use Rattle.step_table.specs.Stories.{state}
 use Rattle.step_core.specs.Turning.{is_acting}
 use Rattle.step_core.specs.Worlds.{Sight, scene, sight_by}

@@ -10,7 +10,7 @@ use Rattle.step_threads.specs.declared.half.Half.TheVariants.{Rest, Making, Lock
 use Rattle.step_threads.specs.declared.said.Stepped.{Stepped}
 use Rattle.step_threads.specs.declared.said.Stepped.TheVariants.{Waited}
 use Rattle.step_threads.specs.Courses.{hand}
-use Rattle.step_table.specs.Deeds.{exact, on}
+use Rattle.step_table.specs.Deeds.{exact}
 use Rattle.step_table.specs.Holdings.{is_full, slot}
 use Rattle.step_threads.specs.Scenes.{next, next_of, play_from, rest_of, rested, said_from, walk_of}
 use Rattle.step_threads.specs.Steps.{Step, acts, at_rest, begun, ends_on, first, step_at, stepped, waits}

@@ -11,6 +11,5 @@ loop-number-preserved c =
       adds = adds_more RunsToEnd c.loop-number.number c.args.self.now c.loop-number.self c.finish_one.new.self c.args.steps.now.items c.loop-number.steps.items
           c.finish_one.new.steps.items i.adds f.adds;
       room = (let before = i.room in let more = f.room in let capacity = f.capacity in omega (arith, before, more, capacity));
-      moves = f.moves;
       actors = f.actors ∙ i.actors;
     }

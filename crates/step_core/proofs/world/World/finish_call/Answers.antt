@@ -1,7 +1,6 @@
-use Rattle.std.proofs.Common.{◌≡◌, ◌+◌, ◌<◌, true, length, sym, ◌∙◌, arith}
+use Rattle.std.proofs.Common.{◌≡◌, ◌<◌, true, length, sym, ◌∙◌, arith}
 use Rattle.step_core.specs.Runs.{is_calling}
 use Rattle.step_core.proofs.runs.Calls.{calling_on, going_more}
-use Rattle.step_core.proofs.runs.Chains.{moves_more}
 use Rattle.step_core.proofs.runs.Measures.{Falls, before_end}
 use Rattle.step_core.proofs.world.World.finish_call.Goals as goal
 
@@ -47,8 +46,7 @@ loop-self-preserved c =
     let before = c.loop-self.invariant.room in
     record {
       on = going_more c.args.number c.args.self.now c.loop-self.self c.advance-stepped.new.self c.args.steps.now.items c.loop-self.steps.items
-          c.add.new.steps.items c.advance-stepped.result c.loop-self.invariant.on (goes c) s.steps s.kept s.actors e.items;
-      moves = moves_more c.loop-self.steps.items c.add.new.steps.items (c.args.number + 1) c.advance-stepped.result c.loop-self.invariant.moves s.never e.items;
+          c.add.new.steps.items c.advance-stepped.result c.loop-self.invariant.on (goes c) s.steps s.kept s.actors s.never e.items;
       room = omega (arith, l, less, before);
       capacity = (let first = c.loop-self.invariant.capacity in omega (arith, room, first));
     }

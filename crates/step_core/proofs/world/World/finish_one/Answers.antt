@@ -1,9 +1,9 @@
-use Rattle.std.proofs.Common.{◌+◌, ◌<◌, length, ap, arith}
+use Rattle.std.proofs.Common.{◌<◌, length, ap, arith}
 use Rattle.step_threads.specs.declared.half.Half.{Half}
 use Rattle.step_core.specs.Bounds.{alone, most_steps, spare}
 use Rattle.step_threads.specs.Scenes.{walk_of}
 use Rattle.step_core.specs.Worlds.{scene}
-use Rattle.step_core.proofs.runs.Chains.{moves_more, on_end, on_more}
+use Rattle.step_core.proofs.runs.Chains.{on_end, on_more}
 use Rattle.step_core.proofs.runs.Measures.{Falls, at_end, before_end}
 use Rattle.step_core.proofs.world.World.finish_one.Goals as goal
 
@@ -45,8 +45,7 @@ loop-stepped-preserved c =
     record {
       on = on_more c.args.number c.args.self.now c.loop-stepped.self c.advance.new.self c.args.steps.now.items c.loop-stepped.steps.items
           c.add.new.steps.items c.advance.result c.loop-stepped.invariant.on s.steps s.kept s.actors c.in_default.not-Done
-          e.items;
-      moves = moves_more c.loop-stepped.steps.items c.add.new.steps.items (c.args.number + 1) c.advance.result c.loop-stepped.invariant.moves s.never e.items;
+          s.never e.items;
       room = omega (arith, l, less, before);
       capacity = (let first = c.loop-stepped.invariant.capacity in omega (arith, room, first));
     }

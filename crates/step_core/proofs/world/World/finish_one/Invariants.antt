@@ -1,7 +1,5 @@
 use Rattle.std.proofs.Common.{◌+◌, ◌≤◌, vec_capacity, vec_len}
-use Rattle.std.specs.Prelude.{All}
 use Rattle.step_core.specs.Bounds.{most_steps}
-use Rattle.step_core.specs.Runs.{Moves}
 use Rattle.step_core.proofs.runs.Chains.{IsOn}
 use Rattle.step_core.proofs.runs.Measures.{alone_of, left_of, spare_of}
 use Rattle.step_core.proofs.world.World.finish_one.Given as goal
@@ -9,7 +7,6 @@ use Rattle.step_core.proofs.world.World.finish_one.Given as goal
 abbrev pub invariant-loop-stepped : goal.invariant-loop-stepped
 invariant-loop-stepped l = record {
   on : IsOn l.number l.initial.self l.initial.steps.items l.self l.steps.items;
-  moves : All Moves l.steps.items;
   room :
       vec_len l.steps + most_steps l.self + alone_of l.number l.self
       ≤ vec_len l.initial.steps + most_steps l.initial.self + 3 + spare_of l.number l.self;

@@ -2,7 +2,7 @@ use Rattle.std.proofs.Common.{ℕ, List, ◌++◌, length, ap, subst, ◌∙◌,
 use Rattle.step_core.specs.declared.trace.TraceStep.{TraceStep}
 use Rattle.step_core.specs.Worlds.{Sight}
 use Rattle.step_core.proofs.runs.Calls.{settled_run}
-use Rattle.step_core.proofs.runs.Chains.{whole}
+use Rattle.step_core.proofs.runs.Chains.{moves_on, whole}
 use Rattle.step_core.proofs.runs.Ends.{at_end}
 use Rattle.step_core.specs.Headline.{CountsAtRest, LocksWhereOwned, TellsLocks, TellsWhatIsLeft, ValuesAtLastLeave, ValuesOnce}
 use Rattle.step_core.specs.Runs.{IsRun, RunInOrder, RunsToEnd, SettleInOrder, Settles}
@@ -56,6 +56,12 @@ returns-clause-scheduled c =
       settles = subst (λ (n : ℕ). SettleInOrder n c.follow.new.self s.adds.added c.settle.new.self) f.actors s.adds.run;
       ends = subst (λ (n : ℕ). RunInOrder n c.settle.new.self e.adds.added c.finish.new.self) (s.actors ∙ f.actors) e.adds.run;
     }
+
+pub returns-clause-moves : goal.returns-clause-moves
+returns-clause-moves c =
+    moves_on (RunInOrder (length c.settle.new.self.walks)) c.settle.new.self c.finish.new.self c.settle.new.steps.items c.finish.new.steps.items
+    (moves_on (SettleInOrder (length c.follow.new.self.walks)) c.follow.new.self c.settle.new.self c.follow.new.steps.items c.settle.new.steps.items
+    c.follow.ensures.moves c.settle.ensures.adds) c.finish.ensures.adds
 
 pub returns-clause-counts : goal.returns-clause-counts
 returns-clause-counts c = after_each CountsAtRest c.args.self.now c.finish.new.self c.finish.new.steps.items (all c) (start c) counts

@@ -10,7 +10,6 @@ loop-number-preserved c =
     record {
       adds = adds_more Settles c.loop-number.number c.args.self.now c.loop-number.self c.settle_one.new.self c.args.steps.now.items c.loop-number.steps.items
           c.settle_one.new.steps.items i.adds f.adds;
-      moves = f.moves;
       room = (let before = i.room in let more = f.room in let capacity = f.capacity in omega (arith, before, more, capacity));
       actors = f.actors ∙ i.actors;
     }
