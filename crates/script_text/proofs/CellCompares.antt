@@ -3,10 +3,10 @@ use Rattle.std.proofs.Common.{◌≡◌, ℕ, Bool, List, [], ◌∷◌, Ok, ref
 use Rattle.step_threads.specs.declared.call.Call.TheVariants as call
 use Rattle.step_threads.specs.declared.call.CellName.{CellName}
 use Rattle.step_threads.specs.declared.call.Name.{Name}
-use Rattle.step_threads.specs.Programs.{as_in, through}
+use Rattle.step_threads.specs.Programs.{as_in, cell_kind, through}
 use Rattle.script_text.specs.Reading.{◌>>=◌}
 use Rattle.script_text.specs.Names.{NameList, name_text, source_at}
-use Rattle.script_text.specs.Cells.{cell_at, cell_kind, cell_text}
+use Rattle.script_text.specs.Cells.{cell_at, cell_text}
 use Rattle.script_text.specs.Shapes.{cell_and_sources}
 use Rattle.script_text.proofs.Cells.{as_kind, cell_again, cell_entry, cell_is, cell_still, cell_tidy, through_named}
 use Rattle.script_text.proofs.CellShapes.{Fits}

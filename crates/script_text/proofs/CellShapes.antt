@@ -8,12 +8,12 @@ use Rattle.step_threads.specs.declared.call.Call.TheVariants as call
 use Rattle.step_threads.specs.declared.call.CellName.{CellName}
 use Rattle.step_threads.specs.declared.call.CellName.TheVariants as free
 use Rattle.step_threads.specs.declared.call.Name.{Name}
-use Rattle.step_threads.specs.Programs.{IsApart, as_in, cells_of, through}
+use Rattle.step_threads.specs.Programs.{IsApart, as_in, cell_kind, cells_of, is_member_of, through}
 use Rattle.script_text.specs.declared.fault.Cause.{Cause}
 use Rattle.script_text.specs.declared.fault.Cause.TheVariants.{NameUsedTwice}
 use Rattle.script_text.specs.Reading.{◌>>=◌}
 use Rattle.script_text.specs.Names.{NameList, declared, name_text, source_at, target_at}
-use Rattle.script_text.specs.Cells.{apart, cell_at, cell_kind, cell_text, is_own}
+use Rattle.script_text.specs.Cells.{apart, cell_at, cell_text}
 use Rattle.script_text.specs.Shapes.{cell_and_other, cell_and_source, target_and_cell}
 use Rattle.script_text.proofs.Cells.{IsTextCell, as_kind, cell_again, cell_entry, cell_grown, cell_is, cell_still, cell_tidy, through_named}
 use Rattle.script_text.proofs.TidyWords.{name_is_tidy}
@@ -106,14 +106,14 @@ refused_or false d x y e = (refl, same_given x y e)
 -- it was read as a cell and a name
 record IsOther (names new : NameList) (words : List (List ℕ)) (p : CellName × Name) : Type 0 where
   read : cell_and_source names words ≡ Ok (with_names p new)
-  other : is_own p.0 p.1 ≡ false
+  other : is_member_of p.0 p.1 ≡ false
 
 other_read : (names new : NameList) (words : List (List ℕ)) (p : CellName × Name)
     → cell_and_other names words ≡ Ok (with_names p new) → IsOther names new words p
 unfolding cell_and_other
 other_read names new words p h =
     let b = both_give (cell_and_source names words) (λ r. apart r) (with_names p new) h in
-    let g = refused_or (is_own b.value.0.0 b.value.0.1) NameUsedTwice b.value (with_names p new) b.second in
+    let g = refused_or (is_member_of b.value.0.0 b.value.0.1) NameUsedTwice b.value (with_names p new) b.second in
     subst (λ (q : (CellName × Name) × NameList). IsOther names q.1 words q.0) g.1 (record { read = b.first; other = g.0 })
 
 pub other_reversible : (names new : NameList) (words : List (List ℕ)) (p : CellName × Name)
@@ -132,16 +132,11 @@ other_reversible names new words p h =
       named = r.named;
     }
 
-apart_is : (c : CellName) (name : Name) → is_own c name ≡ false → IsApart (call.Exchange c name)
-apart_is (free.Shared n) name h = λ e. absurd cc
-apart_is (free.Weak n) name h = λ e. absurd cc
-apart_is (free.Member k m) name h = λ e. eqb-false k.0 name.0 h (ap (λ (n : Name). n.0) (same_Some _ _ e))
-
 pub exchange_fits : (names new : NameList) (words : List (List ℕ)) (p : CellName × Name)
     → cell_and_other names words ≡ Ok (with_names p new) → Fits (call.Exchange p.0 p.1)
 exchange_fits names new words p h =
     let o = other_read names new words p h in
-    ((pair_cell names new words p o.read, tt), apart_is p.0 p.1 o.other)
+    ((pair_cell names new words p o.read, tt), o.other)
 
 -- ---- a name and a cell
 

@@ -10,13 +10,13 @@ use Rattle.step_threads.specs.declared.call.CellName.TheVariants as free
 use Rattle.step_threads.specs.declared.call.Kind.{Kind}
 use Rattle.step_threads.specs.declared.call.Kind.TheVariants.{Owner, Weak}
 use Rattle.step_threads.specs.declared.call.Name.{Name}
-use Rattle.step_threads.specs.Programs.{Asked, IsDeclared, IsIn, as_in, owner, through, weak}
+use Rattle.step_threads.specs.Programs.{IsDeclared, IsIn, as_in, cell_kind, through}
 use Rattle.script_text.specs.declared.fault.Cause.{Cause}
 use Rattle.script_text.specs.declared.fault.Cause.TheVariants.{BadCell}
 use Rattle.script_text.specs.Reading.{◌>>=◌}
 use Rattle.script_text.specs.Words.{cell_number_at, cell_of_kind, free_cell_at, is_digit, is_name, number_at, numbered_cell}
 use Rattle.script_text.specs.Names.{NameList, name_text, source_at}
-use Rattle.script_text.specs.Cells.{cell_at, cell_by, cell_kind, cell_text, member_at, member_number_at, member_text, split_dot}
+use Rattle.script_text.specs.Cells.{cell_at, cell_by, cell_text, member_at, member_number_at, member_text, split_dot}
 use Rattle.script_text.specs.Scripts.{HasTextCells, kinds_in}
 use Rattle.script_text.proofs.CellWords.{digit_dot, dotted_tidy, member_again, member_below, name_cut, uncut}
 use Rattle.script_text.proofs.TidyWords.{IsTidy, both_true, is_tidy_byte}
@@ -168,22 +168,9 @@ through_named names (free.Shared n) e = tt
 through_named names (free.Weak n) e = tt
 through_named names (free.Member k m) e = (IsDeclared-Entry names k e.0 Owner e.1, tt)
 
-abbrev asked : Name → Kind → Asked
-asked name kind = (name, Some kind)
-
-as_by : (b : Bool) (name : Name) → cond b (weak name) (owner name) ≡ asked name (cond b Weak Owner)
-as_by true name = refl
-as_by false name = refl
-
-as_is : (c : CellName) (name : Name) → as_in c name ≡ asked name (cell_kind c)
-as_is (free.Shared n) name = refl
-as_is (free.Weak n) name = refl
-as_is (free.Member k m) name = as_by (eqb m 2) name
-
 pub as_kind : (names : NameList) (c : CellName) (name : Name) (word : List ℕ) → Entry names name word (cell_kind c)
     → IsDeclared (kinds_in names) (as_in c name)
-as_kind names c name word e =
-    subst (IsDeclared (kinds_in names)) (sym (as_is c name)) (IsDeclared-Entry names name word (cell_kind c) e)
+as_kind names c name word e = IsDeclared-Entry names name word (cell_kind c) e
 
 -- a shape with 128 cells of each kind has it
 pub text_cell_in : (shape : Shape) → HasTextCells shape → (c : CellName) → IsTextCell c → IsIn shape c

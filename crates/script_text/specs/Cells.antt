@@ -1,14 +1,14 @@
 -- The cells that words are: free ones, and members of what a name owns.
-use Rattle.std.specs.Prelude.{ℕ, ◌==◌, ◌++◌, Bool, false, List, [], ◌∷◌, Option, Some, None, Result, Ok, Err, codes, cond, decimal, if◌then◌else◌}
+use Rattle.std.specs.Prelude.{ℕ, ◌==◌, ◌++◌, Bool, List, [], ◌∷◌, Option, Some, None, Result, Ok, Err, codes, cond, decimal, if◌then◌else◌}
 use Rattle.std.specs.Option.{option_map}
 use Rattle.std.specs.Str.{bytes_eq}
 use Rattle.step_threads.specs.declared.call.CellName.{CellName}
 use Rattle.step_threads.specs.declared.call.CellName.TheVariants as cell
-use Rattle.step_threads.specs.declared.call.Kind.{Kind}
-use Rattle.step_threads.specs.declared.call.Kind.TheVariants.{Owner, Weak}
+use Rattle.step_threads.specs.declared.call.Kind.TheVariants.{Owner}
 use Rattle.step_threads.specs.declared.call.Name.{Name}
 use Rattle.script_text.specs.declared.fault.Cause.{Cause}
 use Rattle.script_text.specs.declared.fault.Cause.TheVariants.{BadCell, NameUsedTwice}
+use Rattle.step_threads.specs.Programs.{is_member_of}
 use Rattle.script_text.specs.Reading.{◌>>=◌}
 use Rattle.script_text.specs.Words.{free_cell_at, is_name}
 use Rattle.script_text.specs.Names.{NameList, name_text, source_at}
@@ -44,21 +44,9 @@ cell_by names word (Some parts) = member_at names parts.0 parts.1
 unfoldable pub cell_at : NameList → List ℕ → Result CellName Cause
 cell_at names word = cell_by names word (split_dot word)
 
--- the kind of the names whose values go into a cell ([util.smartptr.atomic.shared], [util.smartptr.atomic.weak])
-abbrev pub cell_kind : CellName → Kind
-cell_kind (cell.Shared n) = Owner
-cell_kind (cell.Weak n) = Weak
-cell_kind (cell.Member k m) = cond (m == 2) Weak Owner
-
--- whether the cell is a member of what the name owns
-abbrev pub is_own : CellName → Name → Bool
-is_own (cell.Shared n) name = false
-is_own (cell.Weak n) name = false
-is_own (cell.Member k m) name = k.0 == name.0
-
 -- a name isn't exchanged with a member of what it owns
 abbrev pub apart : (CellName × Name) × NameList → Result ((CellName × Name) × NameList) Cause
-apart read = if is_own read.0.0 read.0.1 then Err NameUsedTwice else Ok read
+apart read = if is_member_of read.0.0 read.0.1 then Err NameUsedTwice else Ok read
 
 -- how a member is spelled
 abbrev pub member_text : ℕ → List ℕ

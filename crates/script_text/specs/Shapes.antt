@@ -14,7 +14,8 @@ use Rattle.script_text.specs.declared.fault.Cause.TheVariants.{WrongNumberOfWord
 use Rattle.script_text.specs.Reading.{◌>>=◌}
 use Rattle.script_text.specs.Words.{number_at, field_at}
 use Rattle.script_text.specs.Names.{NameList, asked_source_at, source_at, target_at, declared}
-use Rattle.script_text.specs.Cells.{apart, cell_at, cell_kind}
+use Rattle.step_threads.specs.Programs.{cell_kind}
+use Rattle.script_text.specs.Cells.{apart, cell_at}
 
 -- the words, without where they lie in memory
 abbrev pub texts : List (Bor (List ℕ)) → List (List ℕ)

@@ -2,7 +2,7 @@
 
 ghost use Rattle.std.specs.Prelude.{◌≡◌, MatchOption, None, Some, position};
 ghost use Rattle.script_text.specs.Reading.{Gives};
-ghost use Rattle.script_text.specs.Cells.{cell_at, cell_kind, is_dot, is_own, member_at, member_number_at, split_dot};
+ghost use Rattle.script_text.specs.Cells.{cell_at, is_dot, member_at, member_number_at, split_dot};
 ghost use Rattle.script_text.specs.Shapes.{target_and_cell, cell_and_source, cell_and_other, cell_and_sources, texts};
 
 use crate::fault::{Cause, Stop};
@@ -66,16 +66,6 @@ fn cell_of(names: &Names, word: &[u8]) -> Result<CellName, Stop>
     }
 }
 
-/// The kind of the names whose values go into a cell.
-fn kind_of(cell: CellName) -> Kind
-    ensures { result ≡ cell_kind cell }
-{
-    match cell {
-        CellName::Weak(_) | CellName::Member { member: 2, .. } => Kind::Weak,
-        CellName::Shared(_) | CellName::Member { .. } => Kind::Owner,
-    }
-}
-
 /// A target of the kind of the cell after it, which is looked at first.
 #[tactic(auto, unfolding(crate::specs::Shapes::target_and_cell))]
 pub(crate) fn target_and_cell(
@@ -89,7 +79,7 @@ pub(crate) fn target_and_cell(
         return Err(Stop::Cause(Cause::WrongNumberOfWords));
     };
     let cell = cell_of(names, one)?;
-    let kind = kind_of(cell);
+    let kind = cell.name_kind();
     let name = names.target(kind, written)?;
     let target = names.declare(alloc, kind, name)?;
     Ok((target, cell))
@@ -104,18 +94,8 @@ pub(crate) fn cell_and_source(names: &Names, words: &[&[u8]]) -> Result<(CellNam
         return Err(Stop::Cause(Cause::WrongNumberOfWords));
     };
     let cell = cell_of(names, one)?;
-    let source = names.source(kind_of(cell), other)?;
+    let source = names.source(cell.name_kind(), other)?;
     Ok((cell, source))
-}
-
-/// Whether the cell is a member of what the name owns.
-fn is_own(cell: CellName, name: Name) -> bool
-    ensures { result ≡ is_own cell name }
-{
-    match cell {
-        CellName::Member { name: of, .. } => of == name,
-        CellName::Shared(_) | CellName::Weak(_) => false,
-    }
 }
 
 /// A cell, and a source of its kind, of which the cell is no member.
@@ -124,7 +104,7 @@ pub(crate) fn cell_and_other(names: &Names, words: &[&[u8]]) -> Result<(CellName
     ensures { Gives (λ n. (n, names.now)) result (cell_and_other names.now (texts words.now)) }
 {
     let (cell, name) = cell_and_source(names, words)?;
-    if is_own(cell, name) {
+    if cell.is_member_of(name) {
         return Err(Stop::Cause(Cause::NameUsedTwice));
     }
     Ok((cell, name))
@@ -142,7 +122,7 @@ pub(crate) fn cell_and_sources(
         return Err(Stop::Cause(Cause::WrongNumberOfWords));
     };
     let cell = cell_of(names, one)?;
-    let kind = kind_of(cell);
+    let kind = cell.name_kind();
     let expected = names.source(kind, other)?;
     let desired = names.source(kind, last)?;
     Ok((cell, expected, desired))

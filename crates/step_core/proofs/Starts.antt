@@ -1,8 +1,7 @@
 -- A thread at its start fits the table.
-use Rattle.std.proofs.Common.{◌≡◌, ℕ, zero, suc, ◌+◌, ◌<◌, ◌≤◌, ◌==◌, false, List, [], ◌∷◌, ◌++◌, length, Option}
+use Rattle.std.proofs.Common.{◌≡◌, ℕ, zero, suc, ◌+◌, ◌<◌, ◌≤◌, false, List, [], ◌∷◌, ◌++◌, length, Option}
 use Rattle.std.proofs.Common.{get_or, replicate, refl, sym, ap, subst, ◌∙◌, inl, arith}
 use Rattle.std.specs.Prelude.{All, Some, None, slice_get}
-use Rattle.std.proofs.lemmas.Bool.{cond_both}
 use Rattle.std.proofs.lemmas.List.{length-replicate}
 use Rattle.std.proofs.lemmas.List.Elements.{All-append, All-cons, All-head, All-nil, All-tail}
 use Rattle.control_word.specs.declared.handle.Handle.{Handle}
@@ -70,11 +69,7 @@ name_within kinds c i x lt e named = within kinds x.0.0 x.1 (subst (IsDeclared k
 
 -- the name of a value for a cell, and the name before the dot
 in_within : (kinds : List Kind) (c : CellName) (t : Name) → IsDeclared kinds (as_in c t) → t.0 < length kinds
-in_within kinds (cell.Shared n) t h = within kinds t.0 (owner t).1 h
-in_within kinds (cell.Weak n) t h = within kinds t.0 (weak t).1 h
-in_within kinds (cell.Member k m) t h =
-    cond_both (m == 2) (weak t) (owner t) (λ (x : Asked). IsDeclared kinds x → t.0 < length kinds) (λ e. within kinds t.0 (weak t).1)
-    (λ e. within kinds t.0 (owner t).1) h
+in_within kinds c t h = within kinds t.0 (as_in c t).1 h
 
 cell_within : (kinds : List Kind) (c : CellName) → All (IsDeclared kinds) (through c) → IsNamed (length kinds) c
 cell_within kinds (cell.Shared n) all = tt

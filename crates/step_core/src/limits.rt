@@ -59,10 +59,7 @@ fn weak(name: Name) -> Asked
 fn as_in(cell: CellName, name: Name) -> Asked
     ensures { result ≡ as_in cell name }
 {
-    match cell {
-        CellName::Weak(_) | CellName::Member { member: 2, .. } => weak(name),
-        CellName::Shared(_) | CellName::Member { .. } => owner(name),
-    }
+    (name, Some(cell.name_kind()))
 }
 
 /// The name whose object a cell is a member of.
@@ -158,10 +155,7 @@ fn is_apart(call: Call) -> bool
     ensures { IsTrue result ↔ IsApart call }
 {
     match call {
-        Call::Exchange {
-            cell: CellName::Member { name: of, .. },
-            name,
-        } => of != name,
+        Call::Exchange { cell, name } => !cell.is_member_of(name),
         _ => true,
     }
 }

@@ -1,5 +1,5 @@
 -- Programs, without where they lie in memory.
-use Rattle.std.specs.Prelude.{◌≡◌, ℕ, ◌≢◌, ◌<◌, ◌≤◌, ◌==◌, cond, List, [], ◌∷◌, Option, Some, None, All, IsTrue, is_some, length, map, sum_by, slice_get}
+use Rattle.std.specs.Prelude.{◌≡◌, ℕ, ◌<◌, ◌≤◌, ◌==◌, Bool, false, cond, List, [], ◌∷◌, Option, Some, None, All, IsTrue, is_some, length, map, sum_by, slice_get}
 use Rattle.control_word.specs.declared.shape.Shape.{Shape}
 use Rattle.step_threads.specs.declared.call.Actor.{Actor}
 use Rattle.step_threads.specs.declared.call.Call.{Call}
@@ -39,16 +39,20 @@ weak name = (name, Some kind.Weak)
 abbrev pub either : Name → Asked
 either name = (name, None)
 
--- a name of the kind of what a cell holds
-abbrev pub as_in : CellName → Name → Asked
-as_in (cell.Shared n) name = owner name
-as_in (cell.Weak n) name = weak name
-as_in (cell.Member k m) name = cond (m == 2) (weak name) (owner name)
+-- the kind of the names whose values go into a cell ([util.smartptr.atomic.shared], [util.smartptr.atomic.weak])
+abbrev pub cell_kind : CellName → Kind
+cell_kind (cell.Shared n) = Owner
+cell_kind (cell.Weak n) = kind.Weak
+cell_kind (cell.Member k m) = cond (m == 2) kind.Weak Owner
 
--- the name whose object a cell is a member of
-abbrev pub member_of : CellName → Option Name
-member_of (cell.Member k m) = Some k
-member_of _ = None
+-- a name of that kind
+abbrev pub as_in : CellName → Name → Asked
+as_in cell name = (name, Some (cell_kind cell))
+
+-- the cell is a member of what the name owns
+abbrev pub is_member_of : CellName → Name → Bool
+is_member_of (cell.Member k m) name = k.0 == name.0
+is_member_of _ name = false
 
 abbrev pub through : CellName → List Asked
 through (cell.Member k m) = owner k ∷ []
@@ -108,7 +112,7 @@ AllHaveCells shape part = All (HasCells shape) part.calls
 
 -- a name isn't exchanged with a member of its own object
 abbrev pub IsApart : Call → Type 0
-IsApart (Exchange cell name) = member_of cell ≢ Some name
+IsApart (Exchange cell name) = is_member_of cell name ≡ false
 IsApart _ = Unit {0}
 
 abbrev pub listed : Option Asked → List Asked

@@ -1,4 +1,6 @@
 //! Calls over numbered names, and the programs that they make.
+ghost use Rattle.std.specs.Prelude.{◌≡◌};
+ghost use Rattle.step_threads.specs.Programs.{cell_kind, is_member_of};
 
 use step_table::field::Field;
 
@@ -22,6 +24,30 @@ pub enum CellName {
     Shared(u8),
     Weak(u8),
     Member { name: Name, member: u8 },
+}
+
+impl CellName {
+    /// The kind of the names whose values go into the cell.
+    ///
+    /// ISO/IEC 14882:2020 [util.smartptr.atomic.shared], [util.smartptr.atomic.weak].
+    pub fn name_kind(self) -> Kind
+        ensures { result ≡ cell_kind self }
+    {
+        match self {
+            CellName::Weak(_) | CellName::Member { member: 2, .. } => Kind::Weak,
+            CellName::Shared(_) | CellName::Member { .. } => Kind::Owner,
+        }
+    }
+
+    /// Whether the cell is a member of what the name owns (own).
+    pub fn is_member_of(self, owner: Name) -> bool
+        ensures { result ≡ is_member_of self owner }
+    {
+        match self {
+            CellName::Member { name, .. } => name == owner,
+            CellName::Shared(_) | CellName::Weak(_) => false,
+        }
+    }
 }
 
 /// What one statement asks for.

@@ -1,6 +1,6 @@
 //! An object's life, step by step.
 use crate::act::{Act, tasks};
-use crate::call::{Call, CellName, Name};
+use crate::call::{Call, CellName, Kind, Name};
 use crate::half::others_keep;
 use crate::stock::Stock;
 use control_word::{Block, Place};
@@ -74,5 +74,26 @@ fn a_compare_is_four_acts(rt: HostRuntime) -> Result<(), Fail> {
     assert_eq!(rt; acts[3].act, Act::Drop);
     assert_eq!(rt; acts[4].act, Act::Load { cell });
     assert_eq!(rt; acts[5].act, Act::Put { name: 1 });
+    Ok(())
+}
+
+#[test]
+fn a_member_is_of_its_name_and_up_takes_weak_ones(rt: HostRuntime) -> Result<(), Fail> {
+    let free = [CellName::Shared(2), CellName::Weak(2)];
+    let kinds = [Kind::Owner, Kind::Weak];
+    for (cell, kind) in free.into_iter().zip(kinds) {
+        assert_eq!(rt; cell.name_kind(), kind);
+        assert!(rt; !cell.is_member_of(Name(2)));
+    }
+    let kinds = [Kind::Owner, Kind::Owner, Kind::Weak];
+    for (member, kind) in kinds.into_iter().enumerate() {
+        let cell = CellName::Member {
+            name: Name(1),
+            member: member as u8,
+        };
+        assert_eq!(rt; cell.name_kind(), kind);
+        assert!(rt; cell.is_member_of(Name(1)));
+        assert!(rt; !cell.is_member_of(Name(2)));
+    }
     Ok(())
 }
