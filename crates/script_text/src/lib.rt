@@ -74,18 +74,3 @@ pub use fault::{Cause, Fault};
 pub use printing::print;
 pub use script::Script;
 pub use text::parse;
-
-#[cfg(test)]
-mod cell_tests;
-#[cfg(test)]
-mod compare_tests;
-#[cfg(test)]
-mod load_tests;
-#[cfg(test)]
-mod member_tests;
-#[cfg(test)]
-mod place_tests;
-#[cfg(test)]
-mod tests;
-#[cfg(test)]
-mod weak_tests;

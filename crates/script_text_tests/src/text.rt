@@ -1,4 +1,4 @@
-use super::*;
+use script_text::{Cause, Fault, parse, print};
 use std::alloc::Global;
 use std::test::*;
 use step_core::{Call, Kind, Name};

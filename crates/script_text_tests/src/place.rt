@@ -1,5 +1,5 @@
-use crate::tests::said;
-use crate::{parse, print};
+use crate::text::said;
+use script_text::{parse, print};
 use std::test::Fail;
 use step_core::{Call, Field, Kind, Name};
 

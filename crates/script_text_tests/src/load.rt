@@ -1,5 +1,5 @@
-use crate::tests::{names, repeated, said};
-use crate::{parse, print};
+use crate::text::{names, repeated, said};
+use script_text::{parse, print};
 use std::test::Fail;
 use step_core::{Call, CellName, Kind, Name};
 
