@@ -5,6 +5,7 @@
 mod cell;
 #[cfg(test)]
 mod compare;
+pub mod expected;
 #[cfg(test)]
 mod load;
 #[cfg(test)]

@@ -1,7 +1,8 @@
+use crate::expected::member;
 use crate::text::{names, said};
 use script_text::{parse, print};
 use std::test::Fail;
-use step_core::{Call, CellName, Name};
+use step_core::{Call, Name};
 
 /// Lines after the declarations of two owners `a` and `b` and a weak name `w`, and what is wrong with them.
 #[test]
@@ -150,7 +151,6 @@ fn calls(rt: HostRuntime) -> Result<(), Fail> {
         return Err(Fail::from("one actor"));
     };
     let [a, b, w] = [Name(0), Name(1), Name(2)];
-    let member = |name, member| CellName::Member { name, member };
     let empty = Call::Empty { target: a };
     let load = Call::Load {
         target: b,
