@@ -1,18 +1,13 @@
 //! Short programs, act by act, and what their worlds tell at the end.
-ghost use Rattle.std.specs.Prelude.{◌≡◌, All, IsTrue, length};
-ghost use Rattle.step_core.specs.Told.{HasEnded};
-ghost use Rattle.step_core.specs.Totals.{IsAtEnd};
 
-use crate::world::World;
-use control_word::{Block, Counts, Refusal, Shape};
+use crate::worlds::TestWorld;
+use control_word::{Counts, Refusal, Shape};
 use std::alloc::{AllocError, Global};
 use std::process::Abort;
 use std::test::Fail;
 use step_table::ended::Ended;
-use step_threads::call::{Actor, Call, Kind, Name, Program};
-use step_threads::half::Half;
+use step_threads::call::{Actor, Call, Kind, Name};
 use step_threads::said::{Answer, Turned};
-use step_threads::thread::Thread;
 
 const A: Name = Name(0);
 
@@ -36,66 +31,26 @@ fn actor(alloc: Global, calls: &[Call]) -> Result<Actor, AllocError> {
     })
 }
 
-pub(crate) fn world(rt: &impl Abort, alloc: Global, blocks: u32, actors: Vec<Actor>) -> World {
+pub(crate) fn world(rt: &impl Abort, alloc: Global, blocks: u32, actors: Vec<Actor>) -> TestWorld {
     let shape = Shape {
         blocks,
         shared_cells: 0,
         weak_cells: 0,
         allowance: 80,
     };
-    World::new(alloc, shape, Program { actors })
-        .ok()
-        .expect(rt, "a world within the limits")
-}
-
-fn actors(world: &World) -> usize
-    ensures { result ≡ length world.now.walks }
-{
-    world.threads.len()
-}
-
-fn blocks(world: &World) -> u32
-    ensures { result ≡ world.now.story.extent.shape.blocks }
-{
-    world.table.blocks()
-}
-
-fn has_ended(thread: &Thread) -> bool
-    ensures { IsTrue result → HasEnded thread.now }
-{
-    thread.half == Half::Rest
-        && thread.course.endings.first().is_none()
-        && thread.course.at == thread.course.tasks.len()
-}
-
-fn have_ended(threads: &[Thread]) -> bool
-    ensures { IsTrue result → All HasEnded threads.now }
-{
-    for thread in threads {
-        if !has_ended(thread) {
-            return false;
-        }
-    }
-    true
-}
-
-fn is_at_end(world: &World) -> bool
-    ensures { IsTrue result → IsAtEnd world.now }
-{
-    have_ended(world.threads.as_slice())
+    TestWorld::new(rt, alloc, shape, actors)
 }
 
 /// So many turns of an actor, and their lines. Turns of an actor that is at its end say nothing.
 pub(crate) fn turns(
     rt: &impl Abort,
-    world: &mut World,
+    world: &mut TestWorld,
     actor: u8,
     count: u32,
     lines: &mut Vec<Line>,
 ) -> Result<(), AllocError> {
     for _ in 0..count {
-        assert!(rt; actor > 0 && usize::from(actor) <= actors(world));
-        if let Turned::Acted(said) = world.turn(actor) {
+        if let Turned::Acted(said) = world.turn(rt, actor) {
             if said.answer.is_some() || said.ended.is_some() {
                 lines.push((actor, said.statement, said.answer, said.ended))?;
             }
@@ -105,21 +60,26 @@ pub(crate) fn turns(
 }
 
 /// Nothing is left: so many objects were made and ended, and no block has one.
-pub(crate) fn nothing_is_left(rt: &impl Abort, world: &World, made: u32) {
-    assert!(rt; is_at_end(world));
+pub(crate) fn nothing_is_left(rt: &impl Abort, alloc: Global, world: &mut TestWorld, made: u32) {
+    assert!(rt; world.is_at_end(rt, alloc));
     assert_eq!(rt; (world.made(), world.ended()), (made, made));
     for block in 1..10 {
-        if u32::from(block) <= blocks(world) {
-            assert_eq!(rt; world.census(Block(block)), None);
+        if world.has_block(block) {
+            assert_eq!(rt; world.census(block), None);
         }
     }
 }
 
 /// The counts of one of the blocks of a world at its end.
-pub(crate) fn census(rt: &impl Abort, world: &World, block: u16) -> Option<Counts> {
-    assert!(rt; is_at_end(world));
-    assert!(rt; block > 0 && u32::from(block) <= blocks(world));
-    world.census(Block(block))
+pub(crate) fn census(
+    rt: &impl Abort,
+    alloc: Global,
+    world: &mut TestWorld,
+    block: u16,
+) -> Option<Counts> {
+    assert!(rt; world.is_at_end(rt, alloc));
+    assert!(rt; world.has_block(block));
+    world.census(block)
 }
 
 #[test]
@@ -145,7 +105,7 @@ fn a_copy_is_a_second_owner(rt: HostRuntime) -> Result<(), Fail> {
         (1, 0, None, Some(Ended::Fields([1, 2, 0, 0]))),
     ];
     assert_eq!(rt; lines.as_slice(), wanted.as_slice());
-    nothing_is_left(&rt, &world, 1);
+    nothing_is_left(&rt, alloc, &mut world, 1);
     Ok(())
 }
 
@@ -177,7 +137,7 @@ fn a_name_is_used_again(rt: HostRuntime) -> Result<(), Fail> {
         (1, 7, Some(Answer::Count(0)), None),
     ];
     assert_eq!(rt; lines.as_slice(), wanted.as_slice());
-    nothing_is_left(&rt, &world, 1);
+    nothing_is_left(&rt, alloc, &mut world, 1);
     Ok(())
 }
 
@@ -201,7 +161,7 @@ fn actors_take_turns(rt: HostRuntime) -> Result<(), Fail> {
         (2, 0, None, Some(Ended::Fields([2, 0, 0, 0]))),
     ];
     assert_eq!(rt; lines.as_slice(), wanted.as_slice());
-    nothing_is_left(&rt, &world, 2);
+    nothing_is_left(&rt, alloc, &mut world, 2);
     Ok(())
 }
 
@@ -219,6 +179,6 @@ fn a_full_store_refuses(rt: HostRuntime) -> Result<(), Fail> {
         (1, 0, None, Some(Ended::Fields([3, 0, 0, 0]))),
     ];
     assert_eq!(rt; lines.as_slice(), wanted.as_slice());
-    nothing_is_left(&rt, &world, 2);
+    nothing_is_left(&rt, alloc, &mut world, 2);
     Ok(())
 }

@@ -1,9 +1,9 @@
 //! Worlds whose cells have many of their funds taken.
 
-use crate::load_tests::{A, B, CELL, make, store, turns, world_of_two};
-use crate::reading_tests::world;
-use crate::step_tests::{said, step, turn};
-use crate::world_tests::nothing_is_left;
+use crate::load::{A, B, CELL, make, store, turns, world_of_two};
+use crate::reading::world;
+use crate::step::{said, step, turn};
+use crate::world::nothing_is_left;
 use std::test::Fail;
 use step_threads::call::Call;
 use step_threads::said::{Stepped, Turned};
@@ -80,7 +80,7 @@ fn a_refill_that_fails_gives_back(rt: HostRuntime) -> Result<(), Fail> {
                 let _turned = turn(&rt, &mut world, actor);
             }
         }
-        nothing_is_left(&rt, &world, 1);
+        nothing_is_left(&rt, alloc, &mut world, 1);
     }
     Ok(())
 }

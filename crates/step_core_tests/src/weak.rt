@@ -1,7 +1,7 @@
 //! Short programs with weak pointers.
 
-use crate::step_tests::{makes, said, step, turn};
-use crate::world_tests::{nothing_is_left, turns, world};
+use crate::step::{makes, said, step, turn};
+use crate::world::{nothing_is_left, turns, world};
 use control_word::Refusal;
 use std::alloc::{AllocError, Global};
 use std::test::Fail;
@@ -65,7 +65,7 @@ fn an_empty_weak_pointer_locks_nothing(rt: HostRuntime) -> Result<(), Fail> {
         (1, 5, Some(Answer::Locked(false)), None),
     ];
     assert_eq!(rt; lines.as_slice(), wanted.as_slice());
-    nothing_is_left(&rt, &world, 0);
+    nothing_is_left(&rt, alloc, &mut world, 0);
     Ok(())
 }
 
@@ -97,7 +97,7 @@ fn an_expired_weak_pointer_is_refused_or_empty(rt: HostRuntime) -> Result<(), Fa
         (1, 6, Some(Answer::Count(0)), None),
     ];
     assert_eq!(rt; lines.as_slice(), wanted.as_slice());
-    nothing_is_left(&rt, &world, 1);
+    nothing_is_left(&rt, alloc, &mut world, 1);
     Ok(())
 }
 
@@ -134,7 +134,7 @@ fn an_upgrade_that_is_refused_keeps_its_target(rt: HostRuntime) -> Result<(), Fa
         (1, 0, None, Some(Ended::Fields([5, 0, 0, 0]))),
     ];
     assert_eq!(rt; lines.as_slice(), wanted.as_slice());
-    nothing_is_left(&rt, &world, 1);
+    nothing_is_left(&rt, alloc, &mut world, 1);
     Ok(())
 }
 
@@ -167,7 +167,7 @@ fn the_last_weak_pointer_frees_the_block(rt: HostRuntime) -> Result<(), Fail> {
         (1, 0, None, Some(Ended::Fields([8, 0, 0, 0]))),
     ];
     assert_eq!(rt; lines.as_slice(), wanted.as_slice());
-    nothing_is_left(&rt, &world, 2);
+    nothing_is_left(&rt, alloc, &mut world, 2);
     Ok(())
 }
 
@@ -224,6 +224,6 @@ fn a_lock_looks_and_then_tries(rt: HostRuntime) -> Result<(), Fail> {
     let ends = said(0, None, Some(Ended::Fields([1, 0, 0, 0])));
     assert_eq!(rt; turn(&rt, &mut world, 1), Turned::Acted(ends));
     assert_eq!(rt; turn(&rt, &mut world, 1), Turned::Done);
-    nothing_is_left(&rt, &world, 1);
+    nothing_is_left(&rt, alloc, &mut world, 1);
     Ok(())
 }

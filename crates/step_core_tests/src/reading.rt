@@ -1,14 +1,14 @@
 //! Worlds whose names read fields, and own null pointers.
 
-use crate::step_tests::{said, step, turn};
-use crate::world::World;
+use crate::step::{said, step, turn};
+use crate::worlds::TestWorld;
 use control_word::{Block, Place, Refusal, Shape};
 use std::alloc::{AllocError, Global};
 use std::process::Abort;
 use std::test::Fail;
 use step_table::ended::Ended;
 use step_table::field::Field;
-use step_threads::call::{Actor, Call, Kind, Name, Program};
+use step_threads::call::{Actor, Call, Kind, Name};
 use step_threads::said::{Answer, Said, Stepped, Turned};
 
 const A: Name = Name(0);
@@ -21,7 +21,11 @@ const C: Name = Name(3);
 
 /// A world of one actor with the owners `A` and `B`, the weak name `W` and the owners `C` and `D`, with two blocks and a cell of
 /// each kind.
-pub(crate) fn world(rt: &impl Abort, alloc: Global, calls: &[Call]) -> Result<World, AllocError> {
+pub(crate) fn world(
+    rt: &impl Abort,
+    alloc: Global,
+    calls: &[Call],
+) -> Result<TestWorld, AllocError> {
     let actor = Actor {
         kinds: [
             Kind::Owner,
@@ -41,11 +45,7 @@ pub(crate) fn world(rt: &impl Abort, alloc: Global, calls: &[Call]) -> Result<Wo
         weak_cells: 1,
         allowance: 40,
     };
-    Ok(
-        World::new(alloc, shape, Program { actors })
-            .ok()
-            .expect(rt, "a world within the limits"),
-    )
+    Ok(TestWorld::new(rt, alloc, shape, actors))
 }
 
 #[test]
@@ -102,7 +102,7 @@ fn a_null_pointer_is_owned(rt: HostRuntime) -> Result<(), Fail> {
 }
 
 /// The turns of an actor say this, one after another, and then it is at its end.
-pub(crate) fn says(rt: &impl Abort, world: &mut World, all: &[Said]) {
+pub(crate) fn says(rt: &impl Abort, world: &mut TestWorld, all: &[Said]) {
     for each in all {
         assert_eq!(rt; turn(rt, world, 1), Turned::Acted(*each));
     }

@@ -1,13 +1,11 @@
 //! Worlds, step by step.
-ghost use Rattle.std.specs.Prelude.{◌≡◌, length};
-
-use crate::world::World;
+use crate::worlds::TestWorld;
 use control_word::Shape;
 use std::alloc::{AllocError, Global};
 use std::process::Abort;
 use std::test::Fail;
 use step_table::ended::Ended;
-use step_threads::call::{Actor, Call, Kind, Name, Program};
+use step_threads::call::{Actor, Call, Kind, Name};
 use step_threads::said::{Answer, Said, Stepped, Turned};
 
 const A: Name = Name(0);
@@ -22,32 +20,22 @@ fn actor(alloc: Global, calls: &[Call]) -> Result<Actor, AllocError> {
     })
 }
 
-fn world(rt: &impl Abort, alloc: Global, actors: Vec<Actor>) -> World {
+fn world(rt: &impl Abort, alloc: Global, actors: Vec<Actor>) -> TestWorld {
     let shape = Shape {
         blocks: 2,
         shared_cells: 0,
         weak_cells: 0,
         allowance: 80,
     };
-    World::new(alloc, shape, Program { actors })
-        .ok()
-        .expect(rt, "a world within the limits")
+    TestWorld::new(rt, alloc, shape, actors)
 }
 
-fn actors(world: &World) -> usize
-    ensures { result ≡ length world.now.walks }
-{
-    world.threads.len()
+pub(crate) fn step(rt: &impl Abort, world: &mut TestWorld, actor: u8) -> Stepped {
+    world.step(rt, actor)
 }
 
-pub(crate) fn step(rt: &impl Abort, world: &mut World, actor: u8) -> Stepped {
-    assert!(rt; actor > 0 && usize::from(actor) <= actors(world));
-    world.step(actor)
-}
-
-pub(crate) fn turn(rt: &impl Abort, world: &mut World, actor: u8) -> Turned {
-    assert!(rt; actor > 0 && usize::from(actor) <= actors(world));
-    world.turn(actor)
+pub(crate) fn turn(rt: &impl Abort, world: &mut TestWorld, actor: u8) -> Turned {
+    world.turn(rt, actor)
 }
 
 pub(crate) fn said(statement: u32, answer: Option<Answer>, ended: Option<Ended>) -> Said {
@@ -59,7 +47,7 @@ pub(crate) fn said(statement: u32, answer: Option<Answer>, ended: Option<Ended>)
 }
 
 /// The weak word, the flags, field 0 twice since it differs, and fields 1 to 3; then the claim is the Make.
-pub(crate) fn makes(rt: &impl Abort, world: &mut World, actor: u8) {
+pub(crate) fn makes(rt: &impl Abort, world: &mut TestWorld, actor: u8) {
     for _ in 0..7 {
         assert_eq!(rt; step(rt, world, actor), Stepped::Quiet(said(1, None, None)));
     }

@@ -1,8 +1,8 @@
 //! How worlds begin, and what they refuse.
-use crate::world::World;
 use control_word::{Refusal, Shape};
 use std::alloc::{AllocError, Global};
 use std::test::Fail;
+use step_core::World;
 use step_threads::call::{Actor, Call, Kind, Name, Program};
 
 const COUNT: Call = Call::Count { name: Name(0) };

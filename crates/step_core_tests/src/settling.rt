@@ -1,8 +1,8 @@
 //! Runs that begin, or whose list ends, within calls that owe funds.
 
-use crate::load_tests::{turns, world_of_two};
-use crate::run_tests::{actors, lines, run};
-use crate::step_tests::{said, step, turn};
+use crate::load::{turns, world_of_two};
+use crate::run::{actors, lines, run};
+use crate::step::{said, step, turn};
 use std::test::Fail;
 use step_threads::call::{Call, CellName, Name};
 use step_threads::said::{Answer, Stepped, Turned};

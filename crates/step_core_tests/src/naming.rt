@@ -1,9 +1,9 @@
 //! Which names a call may have.
-use crate::member_tests::{compare, exchange, load, member, store};
-use crate::world::World;
+use crate::member::{compare, exchange, load, member, store};
 use control_word::{Refusal, Shape};
 use std::alloc::Global;
 use std::test::Fail;
+use step_core::World;
 use step_table::field::Field;
 use step_threads::call::{Actor, Call, Kind, Name, Program};
 

@@ -1,10 +1,10 @@
 //! Worlds whose cells are members of objects.
 
-use crate::load_tests::turns;
-use crate::reading_tests::says;
-use crate::step_tests::{said, step, turn};
-use crate::world::World;
-use crate::world_tests::nothing_is_left;
+use crate::load::turns;
+use crate::reading::says;
+use crate::step::{said, step, turn};
+use crate::world::nothing_is_left;
+use crate::worlds::TestWorld;
 use control_word::Refusal;
 use std::alloc::{AllocError, Global};
 use std::process::Abort;
@@ -87,7 +87,11 @@ pub(crate) fn ends(statement: u32, field: u64) -> Said {
 }
 
 /// A world with five blocks, of one actor with the owners `A` and `B`, the weak name `W` and the owners `C` and `D`.
-pub(crate) fn world(rt: &impl Abort, alloc: Global, calls: &[Call]) -> Result<World, AllocError> {
+pub(crate) fn world(
+    rt: &impl Abort,
+    alloc: Global,
+    calls: &[Call],
+) -> Result<TestWorld, AllocError> {
     let kinds = [
         Kind::Owner,
         Kind::Owner,
@@ -100,7 +104,7 @@ pub(crate) fn world(rt: &impl Abort, alloc: Global, calls: &[Call]) -> Result<Wo
         calls: calls.to_vec(alloc)?,
     };
     let actors = vec![in alloc; actor]?;
-    Ok(crate::world_tests::world(rt, alloc, 5, actors))
+    Ok(crate::world::world(rt, alloc, 5, actors))
 }
 
 /// Each call on a member of the object of `A`, which `D` owns too and points at another field of.
@@ -150,7 +154,7 @@ fn a_member_is_a_cell(rt: HostRuntime) -> Result<(), Fail> {
             ends(0, 2),
         ];
         says(&rt, &mut world, all.as_slice());
-        nothing_is_left(&rt, &world, 3);
+        nothing_is_left(&rt, alloc, &mut world, 3);
     }
     Ok(())
 }
@@ -191,7 +195,7 @@ fn the_member_up_is_weak(rt: HostRuntime) -> Result<(), Fail> {
         silent(0),
     ];
     says(&rt, &mut world, all.as_slice());
-    nothing_is_left(&rt, &world, 2);
+    nothing_is_left(&rt, alloc, &mut world, 2);
     Ok(())
 }
 

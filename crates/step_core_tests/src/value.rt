@@ -1,6 +1,6 @@
 //! Short programs of aliases, moves, places and owner order.
 
-use crate::world_tests::{Line, nothing_is_left, turns, world};
+use crate::world::{Line, nothing_is_left, turns, world};
 use control_word::{Block, Place};
 use std::alloc::{AllocError, Global};
 use std::process::Abort;
@@ -59,7 +59,7 @@ fn lines(
     let mut world = world(rt, alloc, 3, vec![in alloc; actor]?);
     let mut lines = Vec::new(alloc);
     turns(rt, &mut world, 1, 30, &mut lines)?;
-    nothing_is_left(rt, &world, made);
+    nothing_is_left(rt, alloc, &mut world, made);
     Ok(lines)
 }
 

@@ -1,12 +1,12 @@
 //! Runs by given numbers, step by step.
-use crate::trace::{RunRefusal, Trace};
-use crate::world::World;
+use crate::worlds::TestWorld;
 use control_word::{Refusal, Shape};
 use std::alloc::{AllocError, Global};
 use std::process::Abort;
 use std::test::Fail;
+use step_core::{RunRefusal, Trace};
 use step_table::ended::Ended;
-use step_threads::call::{Actor, Call, Kind, Name, Program};
+use step_threads::call::{Actor, Call, Kind, Name};
 use step_threads::said::{Answer, Said, Stepped};
 
 const A: Name = Name(0);
@@ -64,24 +64,22 @@ fn locker(alloc: Global, field: u64) -> Result<Actor, AllocError> {
     })
 }
 
-fn world(rt: &impl Abort, alloc: Global) -> Result<World, AllocError> {
+fn world(rt: &impl Abort, alloc: Global) -> Result<TestWorld, AllocError> {
     let actors = vec![in alloc; actor(alloc, 1)?, actor(alloc, 2)?]?;
     Ok(world_of(rt, alloc, actors))
 }
 
-fn world_of(rt: &impl Abort, alloc: Global, actors: Vec<Actor>) -> World {
+fn world_of(rt: &impl Abort, alloc: Global, actors: Vec<Actor>) -> TestWorld {
     let shape = Shape {
         blocks: 2,
         shared_cells: 0,
         weak_cells: 0,
         allowance: 80,
     };
-    World::new(alloc, shape, Program { actors })
-        .ok()
-        .expect(rt, "a world within the limits")
+    TestWorld::new(rt, alloc, shape, actors)
 }
 
-pub(crate) fn run(rt: &impl Abort, alloc: Global, world: &mut World, turns: &[u8]) -> Trace {
+pub(crate) fn run(rt: &impl Abort, alloc: Global, world: &mut TestWorld, turns: &[u8]) -> Trace {
     world.run(alloc, turns).ok().expect(rt, "a run")
 }
 

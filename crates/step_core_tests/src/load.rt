@@ -1,14 +1,14 @@
 //! Worlds whose names load and compare what cells hold.
 
-use crate::reading_tests::world;
-use crate::run_tests::lines;
-use crate::step_tests::{said, step, turn};
-use crate::world::World;
+use crate::reading::world;
+use crate::run::lines;
+use crate::step::{said, step, turn};
+use crate::worlds::TestWorld;
 use control_word::Shape;
 use std::alloc::{AllocError, Global};
 use std::process::Abort;
 use std::test::Fail;
-use step_threads::call::{Actor, Call, CellName, Kind, Name, Program};
+use step_threads::call::{Actor, Call, CellName, Kind, Name};
 use step_threads::said::{Answer, Stepped, Turned};
 
 pub(crate) const A: Name = Name(0);
@@ -46,7 +46,7 @@ pub(crate) fn world_of_two(
     alloc: Global,
     first: &[Call],
     second: &[Call],
-) -> Result<World, AllocError> {
+) -> Result<TestWorld, AllocError> {
     let actors = vec![in alloc; actor(alloc, first)?, actor(alloc, second)?]?;
     let shape = Shape {
         blocks: 4,
@@ -54,15 +54,11 @@ pub(crate) fn world_of_two(
         weak_cells: 1,
         allowance: 80,
     };
-    Ok(
-        World::new(alloc, shape, Program { actors })
-            .ok()
-            .expect(rt, "a world within the limits"),
-    )
+    Ok(TestWorld::new(rt, alloc, shape, actors))
 }
 
 /// Turns of the first actor that answer nothing.
-pub(crate) fn turns(rt: &impl Abort, world: &mut World, statements: &[u32]) {
+pub(crate) fn turns(rt: &impl Abort, world: &mut TestWorld, statements: &[u32]) {
     for statement in statements {
         let acted = said(*statement, None, None);
         assert_eq!(rt; turn(rt, world, 1), Turned::Acted(acted));

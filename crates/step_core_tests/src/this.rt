@@ -1,7 +1,7 @@
 //! Worlds whose objects give pointers to themselves.
 
-use crate::reading_tests::{says, world};
-use crate::step_tests::{said, step, turn};
+use crate::reading::{says, world};
+use crate::step::{said, step, turn};
 use control_word::Refusal;
 use std::test::Fail;
 use step_table::ended::Ended;

@@ -1,14 +1,14 @@
 //! Worlds whose objects end by what members of other objects hold.
 
-use crate::load_tests::{turns, world_of_two};
-use crate::member_tests::{
+use crate::load::{turns, world_of_two};
+use crate::member::{
     A, B, C, D, FIRST, W, alias, answers, compare, ends, exchange, load, make, member, silent,
     store, weak, world,
 };
-use crate::reading_tests::says;
-use crate::run_tests::lines;
-use crate::step_tests::{said, step};
-use crate::world_tests::{census, nothing_is_left};
+use crate::reading::says;
+use crate::run::lines;
+use crate::step::{said, step};
+use crate::world::{census, nothing_is_left};
 use control_word::Counts;
 use std::test::Fail;
 use step_table::ended::Ended;
@@ -64,7 +64,7 @@ fn an_object_ends_with_its_members(rt: HostRuntime) -> Result<(), Fail> {
         ends(0, 5),
     ];
     says(&rt, &mut world, all.as_slice());
-    nothing_is_left(&rt, &world, 5);
+    nothing_is_left(&rt, alloc, &mut world, 5);
     Ok(())
 }
 
@@ -93,7 +93,7 @@ fn an_end_comes_before_the_rest_of_its_statement(rt: HostRuntime) -> Result<(), 
         ends(0, 3),
     ];
     says(&rt, &mut world, all.as_slice());
-    nothing_is_left(&rt, &world, 4);
+    nothing_is_left(&rt, alloc, &mut world, 4);
     Ok(())
 }
 
@@ -117,7 +117,7 @@ fn a_cycle_stays(rt: HostRuntime) -> Result<(), Fail> {
         says(&rt, &mut world, [silent(0), silent(0)].as_slice());
         assert_eq!(rt; (world.made(), world.ended()), (2, 0));
         for (block, left) in [(1, ONE_OWNER), (2, ONE_OWNER), (3, None)] {
-            assert_eq!(rt; census(&rt, &world, block), left);
+            assert_eq!(rt; census(&rt, alloc, &mut world, block), left);
         }
     }
     Ok(())
@@ -150,7 +150,7 @@ fn what_a_member_holds_is_taken_out(rt: HostRuntime) -> Result<(), Fail> {
         assert_eq!(rt; step(&rt, &mut world, 1), Stepped::Event(silent(5)));
     }
     assert_eq!(rt; step(&rt, &mut world, 1), Stepped::Done);
-    nothing_is_left(&rt, &world, 2);
+    nothing_is_left(&rt, alloc, &mut world, 2);
     Ok(())
 }
 
@@ -179,7 +179,7 @@ fn an_empty_pointer_with_a_place_is_no_act(rt: HostRuntime) -> Result<(), Fail> 
         } else {
             says(&rt, &mut world, [ends(4, 1)].as_slice());
         }
-        nothing_is_left(&rt, &world, 1);
+        nothing_is_left(&rt, alloc, &mut world, 1);
     }
     Ok(())
 }
@@ -211,7 +211,7 @@ fn a_run_goes_through_members(rt: HostRuntime) -> Result<(), Fail> {
         assert_eq!(rt; lines(alloc, &trace)?.as_slice(), wanted.as_slice());
         assert_eq!(rt; (world.made(), world.ended()), (2, ended));
         for (block, owned) in [(1, left), (2, left), (3, None)] {
-            assert_eq!(rt; census(&rt, &world, block), owned);
+            assert_eq!(rt; census(&rt, alloc, &mut world, block), owned);
         }
     }
     Ok(())

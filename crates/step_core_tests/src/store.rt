@@ -1,11 +1,11 @@
 //! Worlds whose names go into cells and come out of them.
 
-use crate::reading_tests::world;
-use crate::step_tests::{said, step, turn};
-use crate::world::World;
+use crate::reading::world;
+use crate::step::{said, step, turn};
 use control_word::{Refusal, Shape};
 use std::alloc::{AllocError, Global};
 use std::test::Fail;
+use step_core::World;
 use step_table::ended::Ended;
 use step_threads::call::{Actor, Call, CellName, Kind, Name, Program};
 use step_threads::said::{Answer, Stepped, Turned};

@@ -1,13 +1,13 @@
 //! Worlds whose actors compare what cells hold.
 
-use crate::load_tests::{turns, world_of_two};
-use crate::reading_tests::world;
-use crate::run_tests::lines;
-use crate::step_tests::{said, step, turn};
-use crate::world::World;
+use crate::load::{turns, world_of_two};
+use crate::reading::world;
+use crate::run::lines;
+use crate::step::{said, step, turn};
 use control_word::{Refusal, Shape};
 use std::alloc::{AllocError, Global};
 use std::test::Fail;
+use step_core::World;
 use step_table::ended::Ended;
 use step_table::field::Field;
 use step_threads::call::{Actor, Call, CellName, Kind, Name, Program};
