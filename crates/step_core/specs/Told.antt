@@ -59,7 +59,3 @@ ends_by (Event x) = cond (is_some x.ended) 1 0
 ends_by (Quiet x) = 0
 ends_by Waited = 0
 ends_by Done = 0
-
--- the thread has no task and no ending left, and rests
-abbrev pub HasEnded : Thread → Type 0
-HasEnded t = (t.half ≡ Rest) × (t.course.endings.list ≡ []) × (t.course.at ≡ length t.course.tasks.items)

@@ -1,10 +1,8 @@
 //! Worlds whose objects end by what members of other objects hold.
 
+use crate::calls::{alias, compare, exchange, load, member, store};
 use crate::load::{turns, world_of_two};
-use crate::member::{
-    A, B, C, D, FIRST, W, alias, answers, compare, ends, exchange, load, make, member, silent,
-    store, weak, world,
-};
+use crate::member::{A, B, C, D, FIRST, W, answers, ends, make, silent, weak, world};
 use crate::reading::says;
 use crate::run::lines;
 use crate::step::{said, step};

@@ -1,6 +1,7 @@
 //! Tests of worlds, over the public functions of step_core alone.
 #![tactic(auto)]
 
+pub mod calls;
 #[cfg(test)]
 mod cascade;
 #[cfg(test)]

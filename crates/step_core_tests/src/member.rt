@@ -1,5 +1,6 @@
 //! Worlds whose cells are members of objects.
 
+use crate::calls::{alias, compare, exchange, load, member, store};
 use crate::load::turns;
 use crate::reading::says;
 use crate::step::{said, step, turn};
@@ -27,10 +28,6 @@ pub(crate) const D: Name = Name(4);
 /// The member `first` of the object of `A`.
 pub(crate) const FIRST: CellName = CellName::Member { name: A, member: 0 };
 
-pub(crate) fn member(name: Name, member: u8) -> CellName {
-    CellName::Member { name, member }
-}
-
 pub(crate) fn make(target: Name, field: u64) -> Call {
     Call::Make {
         target,
@@ -38,38 +35,8 @@ pub(crate) fn make(target: Name, field: u64) -> Call {
     }
 }
 
-pub(crate) fn alias(target: Name, source: Name, of: Name, field: Field) -> Call {
-    Call::Alias {
-        target,
-        source,
-        of,
-        field,
-    }
-}
-
 pub(crate) fn weak(source: Name) -> Call {
     Call::Weak { target: W, source }
-}
-
-pub(crate) fn load(target: Name, cell: CellName) -> Call {
-    Call::Load { target, cell }
-}
-
-pub(crate) fn store(cell: CellName, source: Name) -> Call {
-    Call::Store { cell, source }
-}
-
-pub(crate) fn exchange(cell: CellName, name: Name) -> Call {
-    Call::Exchange { cell, name }
-}
-
-pub(crate) fn compare(cell: CellName, expected: Name, desired: Name, weak: bool) -> Call {
-    Call::Compare {
-        cell,
-        expected,
-        desired,
-        weak,
-    }
 }
 
 /// An act of a statement says nothing more.

@@ -1,5 +1,5 @@
 //! Which names a call may have.
-use crate::member::{compare, exchange, load, member, store};
+use crate::calls::{compare, exchange, load, member, store};
 use control_word::{Refusal, Shape};
 use std::alloc::Global;
 use std::test::Fail;

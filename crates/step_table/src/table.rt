@@ -60,13 +60,6 @@ impl Table {
         let _ = &self.words;
     }
 
-    /// How many blocks there are.
-    pub fn blocks(&self) -> u32
-        ensures { result ≡ self.now.extent.shape.blocks }
-    {
-        self.extent.shape.blocks
-    }
-
     /// How many cells for shared pointers there are: the weak ones stand behind them.
     pub fn shared_cells(&self) -> u32
         ensures shared { result ≡ (state self.now).shared }
