@@ -2,6 +2,7 @@
 ghost use Rattle.std.specs.Prelude.{◌≡◌, All, IfOk, OnOk, string_bytes};
 ghost use Rattle.std.specs.List.{flat_map};
 ghost use Rattle.script_text.specs.Canonical.{AddsLines};
+ghost use Rattle.step_core.specs.Worlds.{IsAsLarge};
 ghost use Rattle.script_stepper.specs.Running.{IsThread};
 ghost use Rattle.script_stepper.specs.StepRuns.{IsStepRun, IsStepText, step_lines};
 
@@ -33,7 +34,8 @@ fn put_steps(text: &mut String, steps: &[TraceStep]) -> Result<(), AllocError>
 /// The steps of a run.
 fn trace_of(alloc: Global, world: &mut World, turns: &[u8]) -> Result<Trace, AllocError>
     requires threads { All (IsThread world.old) turns.now }
-    ensures { IfOk result (λ trace. IsStepRun turns.now world.old trace.steps.items world.new) }
+    ensures run { IfOk result (λ trace. IsStepRun turns.now world.old trace.steps.items world.new) }
+    ensures extent { IsAsLarge world.old world.new }
 {
     match world.run(alloc, turns) {
         Ok(trace) => Ok(trace),

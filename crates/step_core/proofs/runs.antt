@@ -4,6 +4,7 @@ pub mod Calls
 pub mod Chains
 pub mod Clearing
 pub mod Ends
+pub mod Extents
 pub mod Headline
 pub mod Leaving
 pub mod Lessening

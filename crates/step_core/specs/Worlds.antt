@@ -54,6 +54,10 @@ sight_by d u x =
 abbrev pub answer_at : ℕ → Sight → Stepped
 answer_at d u = answered u.story d (half_of u d) (walk_of (scene u) d)
 
+-- the world is as large as it was: threads, blocks, cells and allowance
+abbrev pub IsAsLarge : Sight → Sight → Type 0
+IsAsLarge u u' = u'.story.extent ≡ u.story.extent
+
 -- thread d made its next step, and the others are where they were
 abbrev pub Steps : ℕ → Sight → Stepped → Sight → Type 0
 Steps d u r u' = (r ≡ answer_at d u) × (u' ≡ sight_by d u (step_of d u))

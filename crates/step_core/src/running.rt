@@ -5,7 +5,7 @@ ghost use Rattle.step_core.specs.Headline.{AfterEach, AllAtRest, CountsAtRest, L
 ghost use Rattle.step_core.specs.Runs.{Adds, FinishesCall, IsFirstBad, IsRefusedFor, IsRun, IsScheduled, Moves, Names, RunInOrder, RunsToEnd, SettleInOrder, Settles, compares_next, is_calling, is_compare, is_out, is_owing};
 ghost use Rattle.step_table.specs.Stories.{Kept};
 ghost use Rattle.step_core.specs.Totals.{IsAtEnd};
-ghost use Rattle.step_core.specs.Worlds.{half_of};
+ghost use Rattle.step_core.specs.Worlds.{IsAsLarge, half_of};
 ghost use Rattle.step_threads.specs.Courses.{todo};
 
 use crate::trace::{RunRefusal, Trace, TraceStep};
@@ -42,6 +42,7 @@ impl World {
         ensures rest { IfOk result (λ t. AllAtRest self.new) }
         ensures kept { Kept self.new.story }
         ensures actors { length self.new.walks ≡ length self.old.walks }
+        ensures extent { IsAsLarge self.old self.new }
     {
         self.table.known();
         if let Some(position) = bad_turn(turns, self.threads.len()) {

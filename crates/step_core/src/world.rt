@@ -2,7 +2,7 @@
 ghost use Rattle.std.specs.Prelude.{◌≡◌, ◌≢◌, ◌<◌, ◌≤◌, ◌-◌, length, true, false};
 ghost use Rattle.step_table.specs.Stories.{Kept};
 ghost use Rattle.step_core.specs.Turning.{HasBegun, Plays, Prepares, Rests, has_rest, is_brought, is_clearing, is_ending, is_event, is_giving, is_locking, is_making, is_preparing, is_refilling, is_returning, is_trying, turned_by};
-ghost use Rattle.step_core.specs.Worlds.{GoesTo, Steps, Turns, half_of};
+ghost use Rattle.step_core.specs.Worlds.{GoesTo, IsAsLarge, Steps, Turns, half_of};
 
 use crate::told::{ends, makes};
 use std::marker::Model;
@@ -46,6 +46,7 @@ impl World {
         ensures never { result ≢ Stepped.Waited }
         ensures kept { Kept self.new.story }
         ensures actors { length self.new.walks ≡ length self.old.walks }
+        ensures extent { IsAsLarge self.old self.new }
     {
         self.advance(usize::from(actor) - 1)
     }
@@ -62,6 +63,7 @@ impl World {
         ensures steps { GoesTo (actor - 1) self.old self.new }
         ensures kept { Kept self.new.story }
         ensures actors { length self.new.walks ≡ length self.old.walks }
+        ensures extent { IsAsLarge self.old self.new }
     {
         let number = usize::from(actor) - 1;
         self.rest(number);

@@ -4,6 +4,7 @@ use Rattle.step_core.specs.Worlds.{Sight}
 use Rattle.step_core.proofs.runs.Calls.{settled_run}
 use Rattle.step_core.proofs.runs.Chains.{moves_on, whole}
 use Rattle.step_core.proofs.runs.Ends.{at_end}
+use Rattle.step_core.proofs.runs.Extents.{extent_run}
 use Rattle.step_core.specs.Headline.{CountsAtRest, LocksWhereOwned, TellsLocks, TellsWhatIsLeft, ValuesAtLastLeave, ValuesOnce}
 use Rattle.step_core.specs.Runs.{IsRun, RunInOrder, RunsToEnd, SettleInOrder, Settles}
 use Rattle.step_table.specs.Stories.{Kept}
@@ -33,6 +34,9 @@ module _ (c : goal.After-known-2) where
       let halves = ap (λ (u : Sight). length u.halves) c.self-2.view_is in
       at_end (length c.settle.new.self.walks) c.settle.new.self c.finish.new.self c.finish.ensures.adds.added c.finish.ensures.adds.run actors
       (omega (arith, actors, told, walks, halves))
+
+pub returns-clause-extent : goal.returns-clause-extent
+returns-clause-extent c = extent_run c.args.self.now c.finish.new.self c.finish.new.steps.items (all c)
 
 pub returns-clause-run : goal.returns-clause-run
 returns-clause-run c = all c

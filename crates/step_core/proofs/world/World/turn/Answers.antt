@@ -1,5 +1,6 @@
 use Rattle.std.proofs.Common.{◌-◌, ℕ, subst}
 use Rattle.step_core.specs.Worlds.{GoesTo, Turns}
+use Rattle.step_core.proofs.runs.Extents.{extent_goes}
 use Rattle.step_core.proofs.turning.Chains.{more_steps}
 use Rattle.step_core.proofs.turning.Turns.{turns}
 use Rattle.step_core.proofs.world.World.turn.Goals as goal
@@ -15,3 +16,6 @@ returns-clause-steps c =
     subst (λ (n : ℕ). GoesTo (n - 1) c.args.self.now c.rest-2.new.self) c.from-number.ensures
     (more_steps _ c.args.self.now c.rest.new.self c.rest-2.new.self c.rest.ensures.goes
     (more_steps _ c.rest.new.self c.act-turned.new.self c.rest-2.new.self c.act-turned.ensures.goes c.rest-2.ensures.goes))
+
+pub returns-clause-extent : goal.returns-clause-extent
+returns-clause-extent c = let g = returns-clause-steps c in extent_goes (c.args.actor - 1) c.args.self.now c.rest-2.new.self g
