@@ -1,7 +1,7 @@
 //! An object that ends within another's end, as the last owner of it was a member of that.
 ghost use Rattle.std.specs.Prelude.{◌≡◌, ◌+◌};
 ghost use Rattle.control_word.specs.declared.handle.Kind.TheVariants.{Owner};
-ghost use Rattle.control_block.specs.CellCalls.{Belongs};
+ghost use Rattle.control_block.specs.Desks.{Belongs};
 ghost use Rattle.control_block.specs.Desks.{IsSameDesk, bag_of};
 ghost use Rattle.shared_handle.specs.Calls.{Holds, without_handle};
 ghost use Rattle.shared_handle.specs.Endings.{Ends};
@@ -19,7 +19,7 @@ pub(crate) type Both = (Found, Found);
 
 // The end of an object whose first member is the last owner of another. That ends first, while this one has a member left.
 fn end_both(domain: &Domain<u64>, desk: &mut Desk<u64>, around: Ending<u64>) -> Option<Both>
-    requires domain { desk.old.domain ≡ domain.now.id }
+    requires domain { Belongs desk.old domain.now }
     requires ends { Ends desk.old around }
     ensures desk { IsSameDesk desk.old desk.new }
     ensures bag { bag_of desk.new ≡ bag_of desk.old }
@@ -43,7 +43,7 @@ fn end_both(domain: &Domain<u64>, desk: &mut Desk<u64>, around: Ending<u64>) -> 
 
 // The last owner leaves of an object that has the last owner of another in its first member.
 pub(crate) fn leave_both(domain: &Domain<u64>, desk: &mut Desk<u64>, owner: Shared) -> Option<Both>
-    requires domain { desk.old.domain ≡ domain.now.id }
+    requires domain { Belongs desk.old domain.now }
     requires held { Holds desk.old Owner owner.block owner.place }
     ensures desk { IsSameDesk desk.old desk.new }
     ensures bag { bag_of desk.new ≡ without_handle Owner owner.block owner.place (bag_of desk.old) }

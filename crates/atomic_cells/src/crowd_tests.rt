@@ -1,7 +1,7 @@
 //! Four threads that load, store and exchange one cell, and what is left then.
 ghost use Rattle.std.specs.Prelude.{◌≡◌, ◌<◌, ◌≤◌, length};
 ghost use denote.Param.Send.{IsSync};
-ghost use Rattle.control_block.specs.CellCalls.{Belongs};
+ghost use Rattle.control_block.specs.Desks.{Belongs};
 ghost use Rattle.control_block.specs.Desks.{IsSameDesk, stock_of};
 
 use crate::race_tests::{pair, part};

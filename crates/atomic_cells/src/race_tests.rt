@@ -2,7 +2,7 @@
 ghost use Rattle.std.specs.Prelude.{◌≡◌, ◌+◌, ◌<◌, ◌≤◌, [], IfSome, MatchOption, Some, length};
 ghost use Rattle.control_word.specs.declared.place.Block.{Block};
 ghost use Rattle.control_word.specs.declared.handle.Kind.TheVariants.{Owner};
-ghost use Rattle.control_block.specs.CellCalls.{Belongs};
+ghost use Rattle.control_block.specs.Desks.{Belongs};
 ghost use Rattle.control_block.specs.Desks.{IsSameDesk, allowance_of, bag_of, stock_of};
 ghost use Rattle.shared_handle.specs.Calls.{Holds};
 
@@ -113,7 +113,7 @@ pub(crate) fn part(
     allowance: u32,
     blocks: u32,
 ) -> Option<Desk<u64>>
-    requires domain { desk.old.domain ≡ domain.now.id }
+    requires domain { Belongs desk.old domain.now }
     requires blocks { blocks ≤ length (stock_of desk.old) }
     ensures one { (desk.new.domain ≡ desk.old.domain) × (desk.new.shape ≡ desk.old.shape) × (desk.new.name ≡ desk.old.name) }
     ensures two { IfSome result (λ r. (r.domain ≡ desk.old.domain) × (r.shape ≡ desk.old.shape)) }

@@ -2,7 +2,7 @@
 ghost use Rattle.std.specs.Prelude.{◌≡◌, ◌+◌, ◌<◌, ◌≤◌, None};
 ghost use Rattle.control_word.specs.Handles.{IsPointer};
 ghost use Rattle.control_word.specs.declared.handle.Kind.TheVariants.{Owner};
-ghost use Rattle.control_block.specs.CellCalls.{Belongs};
+ghost use Rattle.control_block.specs.Desks.{Belongs};
 ghost use Rattle.control_block.specs.Desks.{IsSameDesk, bag_of};
 ghost use Rattle.shared_handle.specs.Calls.{Holds};
 

@@ -2,7 +2,7 @@
 ghost use Rattle.std.specs.Prelude.{◌≡◌, ◌+◌, ◌<◌, ◌≤◌, [], IfSome, MatchOption, None, Some, length};
 ghost use Rattle.control_word.specs.declared.place.Block.{Block};
 ghost use Rattle.control_word.specs.declared.handle.Kind.TheVariants.{Owner};
-ghost use Rattle.control_block.specs.CellCalls.{Belongs};
+ghost use Rattle.control_block.specs.Desks.{Belongs};
 ghost use Rattle.control_block.specs.Desks.{IsSameDesk, bag_of};
 ghost use Rattle.shared_handle.specs.Calls.{with_handle};
 
@@ -24,7 +24,7 @@ const FIRST: Place = Place {
 // An empty pointer to the first object's place.
 #[tactic(auto, using(crate::proofs::Taken::nothing_in, crate::proofs::Taken::nothing_out))]
 fn point_at_first(domain: &Domain<u64>, desk: &mut Desk<u64>) -> Option<Shared>
-    requires domain { desk.old.domain ≡ domain.now.id }
+    requires domain { Belongs desk.old domain.now }
     requires few { length (bag_of desk.old) ≤ desk.old.held }
     ensures desk { IsSameDesk desk.old desk.new }
     ensures handle { IfSome result (λ e. e.block ≡ None) }
@@ -42,7 +42,7 @@ fn point_at_first(domain: &Domain<u64>, desk: &mut Desk<u64>) -> Option<Shared>
 // An object ends, and an empty pointer to its place is left: whether both pointed there, and what was left of the object.
 #[tactic(auto, using(shared_handle::proofs::Taken::first_out))]
 fn dangle(domain: &Domain<u64>, desk: &mut Desk<u64>) -> Option<(Shared, bool, Was)>
-    requires domain { desk.old.domain ≡ domain.now.id }
+    requires domain { Belongs desk.old domain.now }
     requires fresh { (bag_of desk.old ≡ []) × (desk.old.held ≡ 0) }
     ensures desk { IsSameDesk desk.old desk.new }
     ensures handle { IfSome result (λ r. r.0.block ≡ None) }
@@ -71,7 +71,7 @@ fn count_between(
     copy: Shared,
     b: &Shared,
 ) -> (bool, u32)
-    requires domain { desk.old.domain ≡ domain.now.id }
+    requires domain { Belongs desk.old domain.now }
     requires copy { (copy.block ≡ b.now.block) × (copy.place ≡ b.now.place) × ((x : Block) × (b.now.block ≡ Some x)) }
     requires bag { bag_of desk.old ≡ with_handle Owner held.block held.place (with_handle Owner b.now.block b.now.place (with_handle Owner b.now.block b.now.place [])) }
     requires held { desk.old.held ≡ 4 }

@@ -1,7 +1,8 @@
 //! Compare-and-swap of cells of shared pointers ([util.smartptr.atomic.shared]).
 ghost use Rattle.std.specs.Prelude.{◌≡◌, ◌↔◌, ◌+◌, cond, true, false, IfErr, IfOk, IsErr, OnOk};
 ghost use Rattle.control_word.specs.declared.handle.Kind.TheVariants.{Owner};
-ghost use Rattle.control_block.specs.CellCalls.{Belongs, handle_in};
+ghost use Rattle.control_block.specs.Desks.{Belongs};
+ghost use Rattle.control_block.specs.CellCalls.{handle_in};
 ghost use Rattle.control_block.specs.Desks.{Keeps, allowance_of, bag_of, held_of};
 ghost use Rattle.shared_handle.specs.Calls.{Holds};
 ghost use Rattle.atomic_cells.specs.Compares.{Compares, GivesBack, bag_compared, came_out, has_swapped};

@@ -2,7 +2,7 @@
 ghost use Rattle.std.specs.Prelude.{◌≡◌, ◌+◌, ◌<◌, IfSome, MatchOption, Some};
 ghost use Rattle.control_word.specs.declared.place.Block.{Block};
 ghost use Rattle.control_word.specs.declared.handle.Kind.TheVariants.{Owner, Weak};
-ghost use Rattle.control_block.specs.CellCalls.{Belongs};
+ghost use Rattle.control_block.specs.Desks.{Belongs};
 ghost use Rattle.control_block.specs.Desks.{IsSameDesk, KeepsOtherEndings, allowance_of, bag_of};
 ghost use Rattle.shared_handle.specs.Calls.{Holds, with_handle, without_handle};
 ghost use Rattle.shared_handle.specs.Endings.{Ends};
@@ -52,7 +52,7 @@ pub(crate) type Found = (Was, Was, Was, u64);
 
 // The end of an object whose members are the last owners of none.
 pub(crate) fn end_of(domain: &Domain<u64>, desk: &mut Desk<u64>, ending: Ending<u64>) -> Found
-    requires domain { desk.old.domain ≡ domain.now.id }
+    requires domain { Belongs desk.old domain.now }
     requires ends { Ends desk.old ending }
     ensures desk { IsSameDesk desk.old desk.new }
     ensures bag { bag_of desk.new ≡ bag_of desk.old }
@@ -69,7 +69,7 @@ pub(crate) fn end_of(domain: &Domain<u64>, desk: &mut Desk<u64>, ending: Ending<
 
 // An owner leaves.
 pub(crate) fn drop_owner(domain: &Domain<u64>, desk: &mut Desk<u64>, owner: Shared) -> Was
-    requires domain { desk.old.domain ≡ domain.now.id }
+    requires domain { Belongs desk.old domain.now }
     requires held { Holds desk.old Owner owner.block owner.place }
     ensures desk { IsSameDesk desk.old desk.new }
     ensures bag { bag_of desk.new ≡ without_handle Owner owner.block owner.place (bag_of desk.old) }
@@ -127,7 +127,7 @@ pub(crate) fn put_weak(
 
 // A sole desk closes its domain.
 pub(crate) fn shut(domain: Domain<u64>, desk: Desk<u64>) -> u32
-    requires domain { desk.domain ≡ domain.id }
+    requires domain { Belongs desk domain }
     requires sole { allowance_of desk ≡ domain.shape.allowance }
 {
     let stock = desk.stock();
@@ -211,7 +211,7 @@ pub(crate) fn exchange_copy(
 
 // A new object, or none.
 pub(crate) fn object(domain: &Domain<u64>, desk: &mut Desk<u64>, field: u64) -> Option<Shared>
-    requires domain { desk.old.domain ≡ domain.now.id }
+    requires domain { Belongs desk.old domain.now }
     ensures desk { IsSameDesk desk.old desk.new }
     ensures real { IfSome result (λ h. (b : Block) × (h.block ≡ Some b)) }
     ensures bag { MatchOption result (bag_of desk.new ≡ bag_of desk.old) (λ h. bag_of desk.new ≡ with_handle Owner h.block h.place (bag_of desk.old)) }

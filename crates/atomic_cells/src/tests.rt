@@ -1,6 +1,6 @@
 //! Cells on a sole desk.
 ghost use Rattle.std.specs.Prelude.{◌≡◌, ◌<◌};
-ghost use Rattle.control_block.specs.CellCalls.{Belongs};
+ghost use Rattle.control_block.specs.Desks.{Belongs};
 ghost use Rattle.control_block.specs.Desks.{IsSameDesk, bag_of};
 
 use crate::WeakAt;

@@ -1,7 +1,7 @@
 //! Cells of weak pointers ([util.smartptr.atomic.weak]).
 ghost use Rattle.std.specs.Prelude.{◌≡◌, ◌↔◌, ◌+◌, IfErr, IfOk, IsErr, OnOk};
 ghost use Rattle.control_word.specs.declared.handle.Kind.TheVariants.{Weak};
-ghost use Rattle.control_block.specs.CellCalls.{Belongs};
+ghost use Rattle.control_block.specs.Desks.{Belongs};
 ghost use Rattle.control_block.specs.Desks.{IsSameDesk, Keeps, KeepsEndings, allowance_of, bag_of, endings_of, held_of};
 ghost use Rattle.shared_handle.specs.Calls.{Holds, with_handle, without_handle};
 ghost use Rattle.atomic_cells.specs.Cells.{Exchanges, Loads, StoresWeakly};

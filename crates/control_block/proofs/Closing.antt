@@ -7,20 +7,27 @@ use mathlib.Core.Option.{some, some-injective, some-ne-none}
 use lib.ListN.{get_elem?}
 use Rattle.atomic_table.specs.Table as Table
 use Rattle.atomic_table.proofs.Lists.{at_map}
+use Rattle.control_word.proofs.history.Allowances.{allowed}
+use Rattle.control_word.proofs.history.Legal.{sound}
 use Rattle.control_word.proofs.history.Soundness.{OwnersFit, Sound}
 use Rattle.control_word.proofs.views.Resting.{rests_exactly, sole_has_seen_all}
-use Rattle.control_word.specs.Histories.{leads}
+use Rattle.control_word.specs.Histories.{IsLegal, leads}
 use Rattle.control_word.specs.Layout.{spot}
 use Rattle.control_word.specs.Packing.{number_of}
 use Rattle.control_word.specs.State.{InShape, IsVacant, Opening, Phase, State, common, count, ending, gone, live, unmade, weak, weak_number}
 use Rattle.control_word.specs.Views.{NamesBlock}
+use Rattle.control_word.specs.declared.event.Entry.{Entry}
 use Rattle.control_word.specs.declared.shape.Shape.{Shape}
 use Rattle.control_word.specs.declared.view.Pending.TheVariants.{Idle}
 use Rattle.control_word.specs.declared.view.View.{View}
 use Rattle.control_block.specs.Census.{CensusNow, EndsNot, Tells, owners_in}
+use Rattle.control_block.specs.Desks.{many_ending}
 use Rattle.control_block.specs.Plays.{known}
 use Rattle.control_block.specs.Rule.{Ruled, opening_of, view_of}
 use Rattle.control_block.specs.declared.board.Sight.{Sight}
+use Rattle.control_block.proofs.EndingCounts.{some_ending}
+use Rattle.control_block.proofs.EndingNames.{all_named}
+use Rattle.control_block.proofs.Sole.{acts_alone}
 use Rattle.control_block.proofs.kept.Look.{alone}
 
 pub index_at : (l : List ℕ) (i x : ℕ) → get_elem? l i ≡ some x → x ≡ slice_index l i
@@ -77,6 +84,16 @@ module _ {V : Type 0} where
           still = subst (λ (y : State). (o d : ℕ) → (y.object o).block ≡ b → (y.object o).phase ≡ ending d → ⊥) all_seen still;
           unnamed = nobody_names b;
         })
+
+  -- where nothing ends with a sole desk, nothing ends at all
+  pub nothing_ends : (z : Opening) (h : List (Entry V)) → IsLegal z h → (n : ℕ) → (leads z h).allowance n ≡ z.allowance
+      → many_ending z.blocks (leads z h) n ≡ 0 → (b : ℕ) → InShape z b → EndsNot (leads z h) b
+  nothing_ends z h legal n whole none b inside o d here ends =
+      let s = leads z h in let named = all_named z h legal o d ends in
+      let mine = acts_alone z h legal n d whole (named.0, named.1, (allowed z h legal).acts d named.0 named.1) in
+      let one : common (s.object o).phase ≡ 1 = ap common ends in
+      let last : s.latest b ≡ o = ap s.latest (sym here) ∙ ((sound z h legal).placed o (omega arith)).0 in
+      let some' = some_ending z.blocks s n b inside.0 inside.1 (ap (λ q. (s.object q).phase) last ∙ (ends ∙ ap ending mine)) in omega arith
 
 one_live : (p : Phase) (n : ℕ) → OwnersFit p n → ((d : ℕ) → p ≡ ending d → ⊥) → ◌≡◌ {A = ℕ} (cond (n == 0) 0 1) (common p)
 one_live unmade n fit not = cond-true (n == 0) 0 1 (eq-eqb n 0 fit)

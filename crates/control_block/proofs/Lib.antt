@@ -47,4 +47,5 @@ pub mod kept
 pub mod Own
 pub mod Sole
 pub mod Latest
+pub mod SlotLists
 pub mod HandleLists

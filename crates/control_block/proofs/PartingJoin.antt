@@ -19,7 +19,7 @@ use Rattle.control_word.specs.declared.event.Entry.{Entry}
 use Rattle.control_word.specs.declared.event.Event.TheVariants.{Join}
 use Rattle.control_word.specs.declared.handle.Handle.{Handle}
 use Rattle.control_word.specs.declared.shape.Shape.{Shape}
-use Rattle.control_block.specs.Desks.{bag_of, by_block, ends_with, many_ending}
+use Rattle.control_block.specs.Desks.{Belongs, DeskNow, DomainNow, bag_of, by_block, ends_with, many_ending}
 use Rattle.control_block.specs.Inside.{IsDesk, desk_now}
 use Rattle.control_block.specs.Plays.{JoinsUp, known}
 use Rattle.control_block.specs.Rule.{opening_of}
@@ -35,6 +35,11 @@ use Rattle.control_block.proofs.PartingStates.{own_tally}
 use Rattle.control_block.proofs.Stores.{stock_few}
 
 module _ {V : Type 0} where
+  -- two desks of a domain have its shape
+  pub same_shapes : (a b y x : DeskNow V) (k : DomainNow) → a ≡ y → b ≡ x → Belongs y k × Belongs x k → b.shape ≡ a.shape
+  same_shapes a b y x k is was here =
+      ap (λ (z : DeskNow V). z.shape) was ∙ ((here.1.shape ∙ sym here.0.shape) ∙ sym (ap (λ (z : DeskNow V). z.shape) is))
+
   -- What one of the two has in the state to which the history before the join led
   pub record Side (x : Sight V) (k : Shape) (h : List (Entry V)) : Type 0 where
     pub same : Same (known x) (leads (opening_of k) h) x.view.name

@@ -11,7 +11,7 @@ use Rattle.control_word.specs.declared.handle.Kind.TheVariants.{Owner}
 use Rattle.control_word.specs.declared.place.Block.{Block}
 use Rattle.control_word.specs.declared.place.Place.{Place}
 use Rattle.control_word.specs.declared.shape.Shape.{Shape}
-use Rattle.control_block.specs.Desks.{DeskNow, DomainNow, HasHandle, bag_of, latest_of}
+use Rattle.control_block.specs.Desks.{DeskNow, HasHandle, bag_of, latest_of}
 use Rattle.control_block.specs.declared.cell_calls.Site.{Site}
 use Rattle.control_block.specs.declared.cell_calls.Site.TheVariants as site
 
@@ -44,11 +44,6 @@ word_at blocks (site.Free n) = cell_place blocks n
 word_at blocks (site.Member b m) = spot b.0 (7 + m)
 
 module _ {V : Type 0} where
-  -- the desk is one of the domain's
-  pub record Belongs (d : DeskNow V) (domain : DomainNow) : Type 0 where
-    pub table : d.domain ≡ domain.id
-    pub shape : d.shape ≡ domain.shape
-
   -- the handle in a block is on the object last made there
   abbrev pub handle_in : DeskNow V → Kind → Option Block → Option Place → Handle
   handle_in d k b p = handle k (object_by (latest_of d) b) p

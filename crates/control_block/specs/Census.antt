@@ -33,3 +33,7 @@ pub record Tells (s : State) (b : ℕ) (c : CensusNow) : Type 0 where
 pub record IsCensus (s : State) (n : ℕ) (c : CensusNow) : Type 0 where
   pub sized : c.blocks ≡ n
   pub tells : (b : ℕ) → 0 < b → b ≤ n → EndsNot s b → Tells s b c
+
+-- the census tells of all blocks
+abbrev pub TellsAll : State → ℕ → CensusNow → Type 0
+TellsAll s n c = (b : ℕ) → 0 < b → b ≤ n → Tells s b c

@@ -81,6 +81,11 @@ module _ {V : Type 0} where
   abbrev pub bag_of : DeskNow V → List Handle
   bag_of d = map (λ (x : Held). by_block (blocks_of (state_of d)) x.handle) (bag (state_of d) d.name)
 
+  -- the desk is one of the domain's
+  pub record Belongs (d : DeskNow V) (domain : DomainNow) : Type 0 where
+    pub table : d.domain ≡ domain.id
+    pub shape : d.shape ≡ domain.shape
+
   -- a domain's first desk
   pub record Begins (domain : DomainNow) (d : DeskNow V) : Type 0 where
     pub here : d.domain ≡ domain.id

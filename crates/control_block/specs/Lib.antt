@@ -17,4 +17,5 @@ pub mod Parting
 pub mod Standing
 pub mod Own
 pub mod Laws
+pub mod SlotLists
 pub mod HandleLists

@@ -1,7 +1,7 @@
 ghost use Rattle.std.specs.Prelude.{◌≡◌, ◌∷◌, ◌+◌, [], IfSome, Some};
 ghost use Rattle.control_word.specs.Handles.{handle};
 ghost use Rattle.control_word.specs.declared.handle.Kind.TheVariants.{Owner, Weak};
-ghost use Rattle.control_block.specs.Desks.{HasHandle, IsEnding, IsSameDesk, allowance_of, bag_of};
+ghost use Rattle.control_block.specs.Desks.{Belongs, HasHandle, IsEnding, IsSameDesk, allowance_of, bag_of};
 
 use crate::census::close;
 use crate::desk::Desk;
@@ -21,7 +21,7 @@ fn share_and_leave(
     owner: Pointer,
     place: Place,
 ) -> Option<(u32, u64, bool, bool, bool)>
-    requires domain { desk.old.domain ≡ domain.now.id }
+    requires domain { Belongs desk.old domain.now }
     requires owner { (owner.kind ≡ Owner) × (owner.place ≡ Some place) × (owner.block ≡ place.block) }
     requires holds { bag_of desk.old ≡ handle Owner (Some owner.block.0) owner.place ∷ [] }
     ensures desk { IsSameDesk desk.old desk.new }
@@ -47,7 +47,7 @@ fn end_under_a_weak_handle(
     desk: &mut Desk<u64>,
     owner: Pointer,
 ) -> Option<((bool, bool), [u64; 4], u64, (bool, bool))>
-    requires domain { desk.old.domain ≡ domain.now.id }
+    requires domain { Belongs desk.old domain.now }
     requires owner { owner.kind ≡ Owner }
     requires holds { bag_of desk.old ≡ handle Owner (Some owner.block.0) owner.place ∷ [] }
     ensures desk { IsSameDesk desk.old desk.new }
@@ -86,7 +86,7 @@ fn live(
         ((bool, bool), [u64; 4], u64, (bool, bool)),
     ),
 >
-    requires domain { desk.old.domain ≡ domain.now.id }
+    requires domain { Belongs desk.old domain.now }
     requires fresh { bag_of desk.old ≡ [] }
     ensures desk { IsSameDesk desk.old desk.new }
 {
@@ -119,7 +119,7 @@ fn count_one_empty(desk: &mut Desk<u64>) -> Option<(bool, u32, u32)>
 
 // A sole desk closes its domain.
 pub(crate) fn shut(domain: Domain<u64>, desk: Desk<u64>)
-    requires domain { desk.domain ≡ domain.id }
+    requires domain { Belongs desk domain }
     requires sole { allowance_of desk ≡ domain.shape.allowance }
 {
     match close(domain, desk) {

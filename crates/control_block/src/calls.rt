@@ -8,7 +8,7 @@ ghost use Rattle.control_word.specs.declared.handle.Kind.TheVariants.{Owner, Wea
 ghost use Rattle.control_word.specs.declared.place.Place.{Place};
 ghost use Rattle.control_word.specs.State.{count, without};
 ghost use Rattle.control_block.specs.Refusals.{IsFullOrLimit};
-ghost use Rattle.control_block.specs.Desks.{Adds, HasHandle, IsCleared, IsEnding, IsNear, IsSameDesk, Keeps, KeepsEndings, KeepsOtherEndings, KeepsStock};
+ghost use Rattle.control_block.specs.Desks.{Belongs, Adds, HasHandle, IsCleared, IsEnding, IsNear, IsSameDesk, Keeps, KeepsEndings, KeepsOtherEndings, KeepsStock};
 ghost use Rattle.control_block.specs.Desks.{MayGiveWeak, MayPoint, allowance_of, bag_of, endings_of, held_of, latest_of, object_in, on_latest, state_of, stock_of};
 ghost use Rattle.control_block.specs.Plays.{IsTold};
 
@@ -50,7 +50,7 @@ pub fn share<V: Drop + Send, A: About>(
     of: Pointer,
     wanted: Option<Place>,
 ) -> Result<Shared, Refusal>
-    requires domain { desk.old.domain ≡ domain.now.id }
+    requires domain { Belongs desk.old domain.now }
     requires meant { (A.kind ≡ of.kind) × (A.place ≡ of.place) × (A.wanted ≡ wanted) }
     requires holds { HasHandle desk.old Owner A.place of.block.0 }
     requires wanted { MayPoint A.place of.block.0 A.wanted }
@@ -76,7 +76,7 @@ pub fn share<V: Drop + Send, A: About>(
 /// How many owners the object in the block has ([util.smartptr.shared.obs]): for a desk that has the whole allowance
 /// the count itself.
 pub fn count<V: Drop + Send, A: About>(domain: &Domain<V>, desk: &mut Desk<V>, of: Pointer) -> u32
-    requires domain { desk.old.domain ≡ domain.now.id }
+    requires domain { Belongs desk.old domain.now }
     requires meant { (A.kind ≡ of.kind) × (A.place ≡ of.place) }
     requires holds { HasHandle desk.old A.kind A.place of.block.0 }
     ensures event { Adds desk.old (Count (on_latest desk.old A.kind A.place of.block.0) result) desk.new }
@@ -94,7 +94,7 @@ pub fn is_expired<V: Drop + Send, A: About>(
     desk: &mut Desk<V>,
     of: Pointer,
 ) -> bool
-    requires domain { desk.old.domain ≡ domain.now.id }
+    requires domain { Belongs desk.old domain.now }
     requires meant { (A.kind ≡ of.kind) × (A.place ≡ of.place) }
     requires holds { HasHandle desk.old Weak A.place of.block.0 }
     ensures event { Adds desk.old (Expired (on_latest desk.old Weak A.place of.block.0) result) desk.new }
@@ -107,7 +107,7 @@ pub fn is_expired<V: Drop + Send, A: About>(
 
 /// The field at a place in the object that an owner owns (own).
 pub fn read<V: Drop + Send>(domain: &Domain<V>, desk: &mut Desk<V>, place: Place) -> u64
-    requires domain { desk.old.domain ≡ domain.now.id }
+    requires domain { Belongs desk.old domain.now }
     requires holds { HasHandle desk.old Owner (Some place) place.block.0 }
     ensures event { Adds desk.old (Read (on_latest desk.old Owner (Some place) place.block.0) result) desk.new }
     ensures bag { bag_of desk.new ≡ bag_of desk.old }
@@ -124,7 +124,7 @@ pub fn leave<V: Drop + Send, A: About>(
     desk: &mut Desk<V>,
     of: Pointer,
 ) -> Option<V>
-    requires domain { desk.old.domain ≡ domain.now.id }
+    requires domain { Belongs desk.old domain.now }
     requires meant { (A.kind ≡ of.kind) × (A.place ≡ of.place) }
     requires holds { HasHandle desk.old Owner A.place of.block.0 }
     ensures event { Adds desk.old (Leave (on_latest desk.old Owner A.place of.block.0) (is_some result)) desk.new }
@@ -149,7 +149,7 @@ pub fn share_weak<V: Drop + Send, A: About>(
     block: Block,
     wanted: Option<Place>,
 ) -> Result<handles::Weak, Refusal>
-    requires domain { desk.old.domain ≡ domain.now.id }
+    requires domain { Belongs desk.old domain.now }
     requires meant { A.wanted ≡ wanted }
     requires may { MayGiveWeak desk.old block.0 A.wanted }
     ensures limit { IsErr result ↔ (held_of desk.old ≡ allowance_of desk.old) }
@@ -188,7 +188,7 @@ pub fn leave_weak<V: Drop + Send, A: About>(
     desk: &mut Desk<V>,
     of: Pointer,
 ) -> bool
-    requires domain { desk.old.domain ≡ domain.now.id }
+    requires domain { Belongs desk.old domain.now }
     requires meant { (A.kind ≡ of.kind) × (A.place ≡ of.place) }
     requires holds { HasHandle desk.old Weak A.place of.block.0 }
     ensures event { Adds desk.old (WeakLeave (on_latest desk.old Weak A.place of.block.0) result) desk.new }
@@ -208,7 +208,7 @@ pub fn leave_weak<V: Drop + Send, A: About>(
 /// An object that ends in the desk's hands is gone (own). It says whether the block is vacant now, and in the desk's
 /// store.
 pub fn finish<V: Drop + Send>(domain: &Domain<V>, desk: &mut Desk<V>, block: Block) -> bool
-    requires domain { desk.old.domain ≡ domain.now.id }
+    requires domain { Belongs desk.old domain.now }
     requires ending { (x : V) × IsEnding desk.old block.0 x }
     requires clear { (m : ℕ) → m < 3 → IsCleared desk.old block.0 m }
     ensures event { (x : V) → IsEnding desk.old block.0 x → Adds desk.old (Finish (latest_of desk.old block.0) result x) desk.new }
@@ -248,7 +248,7 @@ pub fn make<V: Drop + Send>(
     fields: [u64; 4],
     value: V,
 ) -> Result<Pointer, Refused<V>>
-    requires domain { desk.old.domain ≡ domain.now.id }
+    requires domain { Belongs desk.old domain.now }
     ensures refusals { IsFullOrLimit (held_of desk.old ≡ allowance_of desk.old) (stock_of desk.old ≡ []) result }
     ensures refused { IfErr result (λ r. (r.back ≡ value) × (desk.new ≡ desk.old)) }
     ensures handle { IfOk result (λ h. (h.kind ≡ Owner) × (h.place ≡ origin h.block.0 null)) }
@@ -284,7 +284,7 @@ pub fn make<V: Drop + Send>(
 
 /// A word of the flags and fields of the object in the block: the flags are word 0, the fields words 1 to 4.
 fn peek<V: Drop + Send>(domain: &Domain<V>, desk: &mut Desk<V>, block: Block, word: usize) -> u64
-    requires domain { desk.old.domain ≡ domain.now.id }
+    requires domain { Belongs desk.old domain.now }
     requires near { IsNear desk.old block.0 }
     requires word { word < 5 }
     ensures told { IsTold word (object_in desk.old block.0) result }
@@ -296,7 +296,7 @@ fn peek<V: Drop + Send>(domain: &Domain<V>, desk: &mut Desk<V>, block: Block, wo
 /// Whether the object in the block gives pointers to itself ([util.smartptr.enab]). The desk has a handle of it, or it
 /// ends in its hands.
 pub fn is_enabled<V: Drop + Send>(domain: &Domain<V>, desk: &mut Desk<V>, block: Block) -> bool
-    requires domain { desk.old.domain ≡ domain.now.id }
+    requires domain { Belongs desk.old domain.now }
     requires near { IsNear desk.old block.0 }
     ensures flag { result ≡ (object_in desk.old block.0).enabled }
     ensures same { desk.new ≡ desk.old }
@@ -307,7 +307,7 @@ pub fn is_enabled<V: Drop + Send>(domain: &Domain<V>, desk: &mut Desk<V>, block:
 /// Whether the pointer that the object in the block owns is null (own). The desk has a handle of it, or it ends in its
 /// hands.
 pub fn is_null<V: Drop + Send>(domain: &Domain<V>, desk: &mut Desk<V>, block: Block) -> bool
-    requires domain { desk.old.domain ≡ domain.now.id }
+    requires domain { Belongs desk.old domain.now }
     requires near { IsNear desk.old block.0 }
     ensures flag { result ≡ (object_in desk.old block.0).null }
     ensures same { desk.new ≡ desk.old }
@@ -317,7 +317,7 @@ pub fn is_null<V: Drop + Send>(domain: &Domain<V>, desk: &mut Desk<V>, block: Bl
 
 /// The fields of the object in the block (own). The desk has a handle of it, or it ends in its hands.
 pub fn fields<V: Drop + Send>(domain: &Domain<V>, desk: &mut Desk<V>, block: Block) -> [u64; 4]
-    requires domain { desk.old.domain ≡ domain.now.id }
+    requires domain { Belongs desk.old domain.now }
     requires near { IsNear desk.old block.0 }
     ensures fields { (k : ℕ) → k < 4 → slice_index result k ≡ slice_index (object_in desk.old block.0).fields k }
     ensures same { desk.new ≡ desk.old }

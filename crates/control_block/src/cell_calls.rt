@@ -3,7 +3,8 @@
 ghost use Rattle.std.specs.Coded.{Coded-set};
 ghost use Rattle.std.specs.Prelude.{◌≡◌, ◌↔◌, ◌+◌, IfErr, IfOk, IsErr, OnOk};
 ghost use Rattle.control_word.specs.declared.event.Event.TheVariants.{Load, Swap};
-ghost use Rattle.control_block.specs.CellCalls.{Belongs, Holds, IsOpenAt, IsSite, cell_at, handle_in, with_handle, without_handle, word_at};
+ghost use Rattle.control_block.specs.Desks.{Belongs};
+ghost use Rattle.control_block.specs.CellCalls.{Holds, IsOpenAt, IsSite, cell_at, handle_in, with_handle, without_handle, word_at};
 ghost use Rattle.control_block.specs.Desks.{Adds, Keeps, allowance_of, bag_of, held_of};
 ghost use Rattle.control_block.specs.Handles.{IsProper, IsProper-prop};
 

@@ -1,7 +1,8 @@
 //! The compare-and-swap of a cell as a call of a desk.
 ghost use Rattle.std.specs.Prelude.{◌≡◌, ◌↔◌, ◌+◌, cond, IfErr, IfOk, IsErr, OnOk};
 ghost use Rattle.control_word.specs.declared.event.Event.TheVariants.{Compare};
-ghost use Rattle.control_block.specs.CellCalls.{Belongs, Holds, IsOpenAt, cell_at, handle_in, with_handle, without_handle};
+ghost use Rattle.control_block.specs.Desks.{Belongs};
+ghost use Rattle.control_block.specs.CellCalls.{Holds, IsOpenAt, cell_at, handle_in, with_handle, without_handle};
 ghost use Rattle.control_block.specs.Desks.{Adds, Keeps, allowance_of, bag_of, held_of};
 
 use crate::cell_calls::{CellAt, Content, word_of};

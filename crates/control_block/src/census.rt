@@ -1,7 +1,7 @@
 //! What is left of a domain once its sole desk closes it.
 ghost use Rattle.std.specs.Prelude.{◌≡◌, ℕ, ◌<◌, ◌≤◌, ◌↔◌, length, slice_index, IfOk, IfErr, IsOk, IsTrue};
-ghost use Rattle.control_block.specs.Census.{owners_in, weaks_in, IsFree, IsCensus};
-ghost use Rattle.control_block.specs.Desks.{allowance_of, state_of};
+ghost use Rattle.control_block.specs.Census.{owners_in, weaks_in, IsFree, IsCensus, TellsAll};
+ghost use Rattle.control_block.specs.Desks.{Belongs, allowance_of, endings_of, state_of};
 
 use crate::desk::Desk;
 use crate::domain::Domain;
@@ -30,14 +30,16 @@ impl<V: Drop + Send> Model for Census<V> {
     ghost invariant = { λ c. IsFull c.closed.words × IsFull c.closed.slots × (16 * c.blocks ≤ slots_len c.closed.words) };
 }
 
-/// A sole desk closes its domain (own). Else it is refused `NotSole`, and both come back.
+/// A sole desk closes its domain (own). Else it is refused `NotSole`, and both come back. The census tells of each block in
+/// which no object is ending: of all where none ends with the desk.
 pub fn close<V: Drop + Send>(
     domain: Domain<V>,
     desk: Desk<V>,
 ) -> Result<Census<V>, Refused<(Domain<V>, Desk<V>)>>
-    requires domain { desk.domain ≡ domain.id }
+    requires domain { Belongs desk domain }
     ensures sole { IsOk result ↔ (allowance_of desk ≡ domain.shape.allowance) }
     ensures census { IfOk result (λ c. IsCensus (state_of desk) domain.shape.blocks c) }
+    ensures whole { endings_of desk ≡ 0 → IfOk result (λ c. TellsAll (state_of desk) domain.shape.blocks c) }
     ensures refused { IfErr result (λ r. (r.why ≡ Refusal.NotSole) × (r.back ≡ (domain, desk))) }
 {
     if !desk.is_sole(&domain) {

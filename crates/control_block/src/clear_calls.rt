@@ -2,7 +2,7 @@
 //! and leaves: the place that the desk keeps free while an object ends there is for it.
 ghost use Rattle.std.specs.Prelude.{◌≡◌, ◌≢◌, ℕ, ◌+◌, ◌<◌, cond, is_some, length};
 ghost use Rattle.control_block.specs.Clearing.{Empties, EmptiesWeakly};
-ghost use Rattle.control_block.specs.Desks.{IsCleared, IsEnding, IsSameDesk, KeepsOtherEndings, bag_of, endings_of, member_in, stock_of};
+ghost use Rattle.control_block.specs.Desks.{Belongs, IsCleared, IsEnding, IsSameDesk, KeepsOtherEndings, bag_of, endings_of, member_in, stock_of};
 
 use crate::calls::put_by;
 use crate::cell_calls::Content;
@@ -23,7 +23,7 @@ pub fn clear_shared<V: Drop + Send>(
     block: Block,
     member: u32,
 ) -> (Content, Option<V>)
-    requires domain { desk.old.domain ≡ domain.now.id }
+    requires domain { Belongs desk.old domain.now }
     requires ending { (x : V) × IsEnding desk.old block.0 x }
     requires member { member < 2 }
     ensures emptied { Empties desk.old block.0 member result.0.block result.0.place result.1 desk.new }
@@ -65,7 +65,7 @@ pub fn clear_weak<V: Drop + Send>(
     desk: &mut Desk<V>,
     block: Block,
 ) -> (Content, bool)
-    requires domain { desk.old.domain ≡ domain.now.id }
+    requires domain { Belongs desk.old domain.now }
     requires ending { (x : V) × IsEnding desk.old block.0 x }
     ensures emptied { EmptiesWeakly desk.old block.0 2 result.0.block result.0.place result.1 desk.new }
     ensures bag { bag_of desk.new ≡ bag_of desk.old }

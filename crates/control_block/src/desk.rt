@@ -1,6 +1,6 @@
 //! A desk: one thread's part of a domain.
 ghost use Rattle.std.specs.Prelude.{◌≡◌, ◌↔◌, ℕ, length, IsTrue};
-ghost use Rattle.control_block.specs.Desks.{allowance_of, held_of, stock_of};
+ghost use Rattle.control_block.specs.Desks.{Belongs, allowance_of, held_of, stock_of};
 ghost use Rattle.control_block.specs.Standing.{Standing};
 
 use crate::board::Chair;
@@ -84,7 +84,7 @@ impl<V: Drop + Send> Desk<V> {
 
     /// Whether it has the whole allowance: then every other desk is joined, and it has seen all (own).
     pub fn is_sole(&self, domain: &Domain<V>) -> bool
-        requires { self.now.domain ≡ domain.now.id }
+        requires { Belongs self.now domain.now }
         ensures { IsTrue result ↔ (allowance_of self.now ≡ domain.now.shape.allowance) }
     {
         domain.shape.allowance == self.allowance

@@ -2,7 +2,7 @@
 ghost use Rattle.std.specs.Prelude.{◌≡◌, ◌+◌, List, ◌++◌, length};
 ghost use Rattle.std.specs.List.Sorted.{IsPermutation};
 ghost use Rattle.control_word.specs.declared.handle.Handle.{Handle};
-ghost use Rattle.control_block.specs.Desks.{KeepsEndings, allowance_of, bag_of, endings_of, stock_of};
+ghost use Rattle.control_block.specs.Desks.{Belongs, KeepsEndings, allowance_of, bag_of, endings_of, stock_of};
 ghost use Rattle.control_block.specs.Parting.{AreIn, JoinsWith};
 
 use crate::desk::Desk;
@@ -14,7 +14,7 @@ impl<V: Drop + Send> Desk<V> {
     /// The other desk's blocks, allowance, handles and endings become this one's, which has then seen all that either
     /// had (own). It takes no memory. Condition: both desks are the domain's.
     pub fn join(&mut self, domain: &Domain<V>, other: Desk<V>)
-        requires domain { (self.old.domain ≡ domain.now.id) × (other.domain ≡ domain.now.id) × (other.shape ≡ self.old.shape) }
+        requires domain { Belongs self.old domain.now × Belongs other domain.now }
         ensures event { JoinsWith self.old other self.new }
         ensures allowance { allowance_of self.new ≡ allowance_of self.old + allowance_of other }
         ensures held { self.new.held ≡ self.old.held + other.held }

@@ -4,7 +4,7 @@ ghost use Rattle.control_word.specs.Handles.{handle};
 ghost use Rattle.control_word.specs.State.{count};
 ghost use Rattle.control_word.specs.declared.event.Event.TheVariants.{Lock};
 ghost use Rattle.control_word.specs.declared.handle.Kind.TheVariants.{Owner, Weak};
-ghost use Rattle.control_block.specs.Desks.{Adds, HasHandle, Keeps, allowance_of, bag_of, held_of, latest_of, on_latest, state_of};
+ghost use Rattle.control_block.specs.Desks.{Belongs, Adds, HasHandle, Keeps, allowance_of, bag_of, held_of, latest_of, on_latest, state_of};
 ghost use Rattle.control_block.specs.LockCalls.{state_before};
 
 use crate::calls::About;
@@ -26,7 +26,7 @@ pub fn lock<V: Drop + Send, A: About, R: Wait>(
     desk: &mut Desk<V>,
     of: Pointer,
 ) -> Result<Option<Shared>, Refusal>
-    requires domain { desk.old.domain ≡ domain.now.id }
+    requires domain { Belongs desk.old domain.now }
     requires meant { (A.kind ≡ of.kind) × (A.place ≡ of.place) }
     requires holds { HasHandle desk.old Weak A.place of.block.0 }
     ensures limit { IsErr result ↔ (held_of desk.old ≡ allowance_of desk.old) }

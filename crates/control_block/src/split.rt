@@ -1,11 +1,12 @@
 //! A desk is cut in two.
-ghost use Rattle.std.specs.Prelude.{◌≡◌, ◌⊎◌, ◌↔◌, ℕ, ◌+◌, ◌≤◌, ◌<◌, ◌==◌, [], ◌++◌, length, vec_capacity, IfOk, IfErr};
+ghost use Rattle.std.specs.Prelude.{◌≡◌, ◌⊎◌, ◌↔◌, ℕ, ◌+◌, ◌≤◌, ◌<◌, ◌==◌, [], ◌++◌, length, vec_capacity, List, Option, IfOk, IfErr};
 ghost use Rattle.std.specs.List.{filter};
 ghost use Rattle.control_word.specs.State.{Has};
 ghost use Rattle.control_word.specs.declared.place.Block.{Block};
-ghost use Rattle.control_block.specs.Desks.{stock_of};
+ghost use Rattle.control_block.specs.Desks.{Belongs, stock_of};
 ghost use Rattle.control_block.specs.Parting.{HoldsAll, IsTooMuch, Parted, SplitsOff, in_history, times};
 ghost use Rattle.control_block.specs.Plays.{MaySplit, Rests, known};
+ghost use Rattle.control_block.specs.SlotLists.{handles_in};
 
 use crate::board::{Board, Chair};
 use crate::desk::Desk;
@@ -42,29 +43,102 @@ fn pass_least(store: &mut Vec<Block>, count: usize, to: &mut Vec<Block>)
     store.truncate(left);
 }
 
+/// What lists of handles are made of: handles, or slots that have one each or none.
+trait Lent {
+    ghost use Rattle.control_block.specs.declared.handles.Held.{Held};
+
+    /// The handles in a list.
+    ghost handles: { List Self → List Held };
+}
+
+impl Lent for Held {
+    ghost handles = { λ l. l };
+}
+
+impl Lent for Option<Held> {
+    ghost handles = { handles_in };
+}
+
+/// How many slots have a handle.
+fn count_filled(slots: &[Option<Held>]) -> usize
+    ensures { result ≡ length (handles_in slots.now) }
+{
+    let mut count = 0;
+    for slot in slots {
+        if slot.is_some() {
+            count += 1;
+        }
+    }
+    count
+}
+
 /// The two steps of a split: a look at which the new desk gets its name, and the cut that gives its chair. The proof of
 /// each call picks what G gives.
-fn part<V, G: Given>(
+fn part<V, T: Lent, G: Given>(
     board: &Board<V>,
     chair: &mut Chair<V>,
     allowance: u32,
-    handles: &[Held],
+    handles: &[T],
     blocks: &[Block],
 ) -> Chair<V>
     requires board { chair.old.table_id ≡ board.now.table_id }
     requires rests { Rests chair.old.me }
     requires word { 0 < board.now.table_id.words }
-    requires picked { (G.allowance ≡ allowance) × (G.handles ≡ in_history (known chair.old.me.0) handles.now) × (G.blocks ≡ blocks.now) }
-    requires may { MaySplit chair.old.me.0 allowance (in_history (known chair.old.me.0) handles.now) blocks.now }
+    requires picked { (G.allowance ≡ allowance) × (G.handles ≡ in_history (known chair.old.me.0) (T.handles handles.now)) × (G.blocks ≡ blocks.now) }
+    requires may { MaySplit chair.old.me.0 allowance (in_history (known chair.old.me.0) (T.handles handles.now)) blocks.now }
     ensures chair { (chair.new.table_id ≡ chair.old.table_id) × (chair.new.me.1 ≡ []) }
     ensures other { (result.table_id ≡ chair.old.table_id) × (result.me.1 ≡ []) }
-    ensures event { Parted chair.old.me.0 allowance (in_history (known chair.old.me.0) handles.now) blocks.now chair.new.me.0 result.me.0 }
+    ensures event { Parted chair.old.me.0 allowance (in_history (known chair.old.me.0) (T.handles handles.now)) blocks.now chair.new.me.0 result.me.0 }
 {
     steps::note_split::<V, G>(board, chair);
     steps::cut(board, chair)
 }
 
 impl<V: Drop + Send> Desk<V> {
+    /// A second desk gets a part of the allowance, the `blocks` least vacant blocks and these handles, `count` of them.
+    fn cut_off<T: Lent>(
+        &mut self,
+        alloc: Global,
+        domain: &Domain<V>,
+        allowance: u32,
+        blocks: u32,
+        handles: &[T],
+        count: usize,
+    ) -> Result<Desk<V>, Refusal>
+        requires domain { Belongs self.old domain.now }
+        requires held { HoldsAll self.old (T.handles handles.now) × (length (T.handles handles.now) ≡ count) }
+        requires blocks { blocks ≤ length (stock_of self.old) }
+        ensures parts { IfOk result (λ d. SplitsOff self.old allowance blocks (T.handles handles.now) self.new d) }
+        ensures fits { IfOk result (λ _. IsTooMuch self.old allowance count → ⊥) }
+        ensures limit { IfErr result (λ why. why ≡ Refusal.Limit ↔ IsTooMuch self.old allowance count) }
+        ensures refused { IfErr result (λ why. (why ≡ Refusal.Limit) ⊎ (why ≡ Refusal.Memory)) }
+        ensures same { IfErr result (λ _. self.new ≡ self.old) }
+    {
+        let held = self.held + self.endings.min(1);
+        let given = count as u32;
+        let stay = held - given;
+        let keep = stay.max(1);
+        if allowance == 0 || allowance < given || self.allowance.saturating_sub(keep) < allowance {
+            return Err(Refusal::Limit);
+        }
+        let Ok(mut store) = Vec::with_capacity(alloc, domain.shape.blocks as usize) else {
+            return Err(Refusal::Memory);
+        };
+        pass_least(&mut self.store, blocks as usize, &mut store);
+        let board = &domain.table.shared;
+        let seat = part::<V, T, Brand>(board, &mut self.seat, allowance, handles, store.as_slice());
+        self.held -= given;
+        self.allowance -= allowance;
+        let other = Desk {
+            seat,
+            allowance,
+            held: given,
+            endings: 0,
+            store,
+        };
+        Ok(other)
+    }
+
     /// A second desk gets a part of the allowance, the `blocks` least vacant blocks and these handles, which come back
     /// in their order (own). It is refused `Limit` just where the allowance is 0, less than the number of handles or
     /// more than is free here, and else `Memory` only where a growth was really refused. Then nothing changes, and the
@@ -77,7 +151,7 @@ impl<V: Drop + Send> Desk<V> {
         blocks: u32,
         handles: Vec<Held>,
     ) -> Result<(Desk<V>, Vec<Held>), Refused<Vec<Held>>>
-        requires domain { self.old.domain ≡ domain.now.id }
+        requires domain { Belongs self.old domain.now }
         requires held { HoldsAll self.old handles.items }
         requires blocks { blocks ≤ length (stock_of self.old) }
         ensures parts { IfOk result (λ r. SplitsOff self.old allowance blocks handles.items self.new r.0) }
@@ -87,39 +161,33 @@ impl<V: Drop + Send> Desk<V> {
         ensures refused { IfErr result (λ r. (r.why ≡ Refusal.Limit) ⊎ (r.why ≡ Refusal.Memory)) }
         ensures same { IfErr result (λ r. (r.back.items ≡ handles.items) × (self.new ≡ self.old)) }
     {
-        let held = self.held + self.endings.min(1);
-        let count = handles.len() as u32;
-        let stay = held - count;
-        let keep = stay.max(1);
-        if allowance == 0 || allowance < count || self.allowance.saturating_sub(keep) < allowance {
-            return Err(Refused {
-                why: Refusal::Limit,
-                back: handles,
-            });
+        let count = handles.len();
+        match self.cut_off(alloc, domain, allowance, blocks, handles.as_slice(), count) {
+            Ok(other) => Ok((other, handles)),
+            Err(why) => Err(Refused { why, back: handles }),
         }
-        let Ok(mut store) = Vec::with_capacity(alloc, domain.shape.blocks as usize) else {
-            return Err(Refused {
-                why: Refusal::Memory,
-                back: handles,
-            });
-        };
-        pass_least(&mut self.store, blocks as usize, &mut store);
-        let seat = part::<V, Brand>(
-            &domain.table.shared,
-            &mut self.seat,
-            allowance,
-            handles.as_slice(),
-            store.as_slice(),
-        );
-        self.held -= count;
-        self.allowance -= allowance;
-        let other = Desk {
-            seat,
-            allowance,
-            held: count,
-            endings: 0,
-            store,
-        };
-        Ok((other, handles))
+    }
+
+    /// The same for the handles in slots, which stay where they lie: they are the second desk's from then on (own). It takes no
+    /// memory for them. It is refused as `split` is, and then nothing changes. Conditions: the handles are held by this desk,
+    /// and there are as many vacant blocks.
+    pub fn split_slots(
+        &mut self,
+        alloc: Global,
+        domain: &Domain<V>,
+        allowance: u32,
+        blocks: u32,
+        slots: &[Option<Held>],
+    ) -> Result<Desk<V>, Refusal>
+        requires domain { Belongs self.old domain.now }
+        requires held { HoldsAll self.old (handles_in slots.now) }
+        requires blocks { blocks ≤ length (stock_of self.old) }
+        ensures parts { IfOk result (λ d. SplitsOff self.old allowance blocks (handles_in slots.now) self.new d) }
+        ensures fits { IfOk result (λ _. IsTooMuch self.old allowance (length (handles_in slots.now)) → ⊥) }
+        ensures limit { IfErr result (λ why. why ≡ Refusal.Limit ↔ IsTooMuch self.old allowance (length (handles_in slots.now))) }
+        ensures refused { IfErr result (λ why. (why ≡ Refusal.Limit) ⊎ (why ≡ Refusal.Memory)) }
+        ensures same { IfErr result (λ _. self.new ≡ self.old) }
+    {
+        self.cut_off(alloc, domain, allowance, blocks, slots, count_filled(slots))
     }
 }

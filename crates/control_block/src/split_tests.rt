@@ -1,5 +1,5 @@
 ghost use Rattle.std.specs.Prelude.{◌≡◌, ◌+◌, ◌-◌, ◌<◌, ◌≤◌, [], ◌∷◌, length, IfOk, IfErr, IfSome, IsTrue, None, Some};
-ghost use Rattle.control_block.specs.Desks.{allowance_of, bag_of, stock_of};
+ghost use Rattle.control_block.specs.Desks.{Belongs, allowance_of, bag_of, stock_of};
 ghost use Rattle.control_block.specs.Parting.{listed};
 
 use crate::census::close;
@@ -30,7 +30,7 @@ fn cut(
     allowance: u32,
     blocks: u32,
 ) -> Result<Desk<u64>, Refusal>
-    requires domain { desk.old.domain ≡ domain.now.id }
+    requires domain { Belongs desk.old domain.now }
     requires blocks { blocks ≤ length (stock_of desk.old) }
     ensures desk { (desk.new.domain ≡ desk.old.domain) × (desk.new.shape ≡ desk.old.shape) }
     ensures stock { IfOk result (λ d. length (stock_of desk.new) + length (stock_of d) ≡ length (stock_of desk.old)) }
@@ -63,7 +63,7 @@ fn refusal(
     allowance: u32,
     blocks: u32,
 ) -> u8
-    requires domain { desk.old.domain ≡ domain.now.id }
+    requires domain { Belongs desk.old domain.now }
     requires blocks { blocks ≤ length (stock_of desk.old) }
     ensures desk { (desk.new.domain ≡ desk.old.domain) × (desk.new.shape ≡ desk.old.shape) }
     ensures stock { length (stock_of desk.new) ≡ length (stock_of desk.old) }
@@ -94,7 +94,7 @@ fn a_split_keeps_one_and_gives_one(rt: HostRuntime) -> Result<(), Fail> {
 
 // Whether all blocks are vacant once the desk closes its domain; none where it is not sole.
 fn all_vacant(domain: Domain<u64>, desk: Desk<u64>) -> Option<bool>
-    requires { (desk.domain ≡ domain.id) × (domain.shape.blocks ≡ 4) }
+    requires { Belongs desk domain × (domain.shape.blocks ≡ 4) }
 {
     match close(domain, desk) {
         Ok(census) => {
@@ -195,7 +195,7 @@ fn give_two(
     desk: &mut Desk<u64>,
     alloc: Global,
 ) -> Option<(Desk<u64>, Option<u8>, Option<u8>)>
-    requires domain { desk.old.domain ≡ domain.now.id }
+    requires domain { Belongs desk.old domain.now }
     requires holds { length (bag_of desk.old) + 2 ≤ desk.old.held }
     ensures desk { (desk.new.domain ≡ desk.old.domain) × (desk.new.shape ≡ desk.old.shape) }
     ensures other { IfSome result (λ r. (r.0.domain ≡ desk.old.domain) × (r.0.shape ≡ desk.old.shape)) }
@@ -238,6 +238,54 @@ fn handles_go_along_in_their_order(rt: HostRuntime) -> Result<(), Fail> {
     let together = numbers(&desk);
     abandon(domain, desk);
     assert_eq!(rt; (first, last), (Some(2), Some(3)));
+    assert_eq!(rt; apart, ((5, 0, 4), (3, 2, 0)));
+    assert_eq!(rt; together, (8, 2, 4));
+    Ok(())
+}
+
+// The field that a handle in a slot stores a pointer to. The handle is gone.
+fn field_in(slot: Option<Held>) -> Option<u8> {
+    match slot {
+        Some(handle) => field_of(handle),
+        None => None,
+    }
+}
+
+// A desk that holds two empty handles gives those in slots away.
+fn give_slots(
+    domain: &Domain<u64>,
+    desk: &mut Desk<u64>,
+    alloc: Global,
+) -> (Result<Desk<u64>, Refusal>, [Option<u8>; 3])
+    requires domain { Belongs desk.old domain.now }
+    requires holds { length (bag_of desk.old) + 2 ≤ desk.old.held }
+    ensures desk { Belongs desk.new domain.now }
+    ensures other { IfOk result.0 (λ d. Belongs d domain.now) }
+{
+    let slots = [Some(empty_at(2)), None, Some(empty_at(3))];
+    let child = desk.split_slots(alloc, domain, 3, 0, &slots);
+    let [first, next, last] = slots;
+    (child, [field_in(first), field_in(next), field_in(last)])
+}
+
+#[test]
+fn handles_in_slots_stay_there(rt: HostRuntime) -> Result<(), Fail> {
+    let alloc = rt.alloc();
+    let (domain, mut desk) = open::<u64>(alloc, SHAPE).ok().ok_or("memory")?;
+    if !count_two(&mut desk) {
+        abandon(domain, desk);
+        return Err("no room".into());
+    }
+    let (child, fields) = give_slots(&domain, &mut desk, alloc);
+    let Ok(child) = child else {
+        abandon(domain, desk);
+        return Err("memory".into());
+    };
+    let apart = (numbers(&desk), numbers(&child));
+    desk.join(&domain, child);
+    let together = numbers(&desk);
+    abandon(domain, desk);
+    assert_eq!(rt; fields, [Some(2), None, Some(3)]);
     assert_eq!(rt; apart, ((5, 0, 4), (3, 2, 0)));
     assert_eq!(rt; together, (8, 2, 4));
     Ok(())

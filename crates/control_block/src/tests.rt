@@ -1,4 +1,5 @@
 ghost use Rattle.std.specs.Prelude.{◌≡◌};
+ghost use Rattle.control_block.specs.Desks.{Belongs};
 
 use crate::census::close;
 use crate::desk::Desk;
@@ -8,7 +9,7 @@ use std::test::Fail;
 
 // What is left of a domain of two blocks that is closed, or not.
 fn is_empty(domain: Domain<u64>, desk: Desk<u64>) -> bool
-    requires { desk.domain ≡ domain.id }
+    requires { Belongs desk domain }
 {
     match close(domain, desk) {
         Ok(census) => {
@@ -38,6 +39,7 @@ fn a_domain_opens_and_closes(rt: HostRuntime) -> Result<(), Fail> {
     let (domain, desk) = open::<u64>(rt.alloc(), shape).ok().ok_or("memory")?;
     let numbers = (domain.blocks(), desk.stock(), desk.allowance(), desk.held());
     let sole = desk.is_sole(&domain);
+    desk.stands();
     assert_eq!(rt; is_empty(domain, desk), true);
     assert_eq!(rt; numbers, (2, 2, 8, 0));
     assert_eq!(rt; sole, true);

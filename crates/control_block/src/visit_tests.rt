@@ -1,7 +1,7 @@
 ghost use Rattle.std.specs.Prelude.{◌≡◌, ◌∷◌, [], Some};
 ghost use Rattle.control_word.specs.Handles.{handle};
 ghost use Rattle.control_word.specs.declared.handle.Kind.TheVariants.{Owner};
-ghost use Rattle.control_block.specs.Desks.{HasHandle, IsSameDesk, bag_of};
+ghost use Rattle.control_block.specs.Desks.{Belongs, HasHandle, IsSameDesk, bag_of};
 
 use crate::call_tests::{shape, shut};
 use crate::calls;
@@ -21,7 +21,7 @@ fn visit_twice<W: Wait>(
     desk: &mut Desk<u64>,
     owner: Pointer,
 ) -> (u64, u64, Option<u64>)
-    requires domain { desk.old.domain ≡ domain.now.id }
+    requires domain { Belongs desk.old domain.now }
     requires owner { owner.kind ≡ Owner }
     requires holds { bag_of desk.old ≡ handle Owner (Some owner.block.0) owner.place ∷ [] }
     ensures desk { IsSameDesk desk.old desk.new }

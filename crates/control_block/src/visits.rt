@@ -3,7 +3,7 @@ ghost use Rattle.std.specs.Prelude.{◌≡◌};
 ghost use Rattle.std.specs.Fn.{FnOnceReturnsAtMut};
 ghost use Rattle.control_word.specs.declared.event.Event.TheVariants.{Visit};
 ghost use Rattle.control_word.specs.declared.handle.Kind.TheVariants.{Owner};
-ghost use Rattle.control_block.specs.Desks.{Adds, HasHandle, Keeps, bag_of, on_latest};
+ghost use Rattle.control_block.specs.Desks.{Belongs, Adds, HasHandle, Keeps, bag_of, on_latest};
 
 use crate::calls::About;
 use crate::desk::Desk;
@@ -21,7 +21,7 @@ pub fn visit<V: Drop + Send, A: About, R, F: FnOnce(&mut V) -> R, W: Wait>(
     of: Pointer,
     f: F,
 ) -> R
-    requires domain { desk.old.domain ≡ domain.now.id }
+    requires domain { Belongs desk.old domain.now }
     requires meant { (A.kind ≡ of.kind) × (A.place ≡ of.place) }
     requires holds { HasHandle desk.old Owner A.place of.block.0 }
     requires callable { F.IsAlwaysCallable f }

@@ -1,7 +1,7 @@
 //! The rows of one thread alone, which works on longer lists.
 ghost use Rattle.std.specs.Prelude.{◌≡◌};
 ghost use Rattle.std.specs.List.{All};
-ghost use Rattle.control_block.specs.CellCalls.{Belongs};
+ghost use Rattle.control_block.specs.Desks.{Belongs};
 ghost use Rattle.control_block.specs.Desks.{IsSameDesk, bag_of};
 ghost use Rattle.measure.specs.Observers.{IsWatched};
 
@@ -25,7 +25,7 @@ fn time<R: Clock + CpuClock + Wait>(
     desk: &mut Desk<()>,
     observers: &[Observer],
 ) -> io::Result<Spent>
-    requires domain { desk.old.domain ≡ domain.now.id }
+    requires domain { Belongs desk.old domain.now }
     requires watched { All (IsWatched (bag_of desk.old)) observers.now }
     ensures desk { IsSameDesk desk.old desk.new }
     ensures bag { bag_of desk.new ≡ bag_of desk.old }
@@ -59,7 +59,7 @@ fn notifications<R: Clock + CpuClock + Wait + Print>(
     observers: &[Observer],
     passes: u32,
 ) -> io::Result<()>
-    requires domain { desk.old.domain ≡ domain.now.id }
+    requires domain { Belongs desk.old domain.now }
     requires watched { All (IsWatched (bag_of desk.old)) observers.now }
     ensures desk { IsSameDesk desk.old desk.new }
     ensures bag { bag_of desk.new ≡ bag_of desk.old }

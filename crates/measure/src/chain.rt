@@ -1,7 +1,7 @@
 //! Chains of objects, each the owner of the next, and their ends.
 ghost use Rattle.std.specs.Prelude.{◌≡◌, ◌<◌, ◌+◌, MatchOption, IfSome};
 ghost use Rattle.control_word.specs.declared.handle.Kind.TheVariants.{Owner};
-ghost use Rattle.control_block.specs.CellCalls.{Belongs};
+ghost use Rattle.control_block.specs.Desks.{Belongs};
 ghost use Rattle.control_block.specs.Desks.{IsSameDesk, bag_of};
 ghost use Rattle.shared_handle.specs.Calls.{Holds, with_handle, without_handle};
 ghost use Rattle.measure.specs.Nodes.{CanEnd};

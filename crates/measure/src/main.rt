@@ -4,7 +4,7 @@
 #![tactic(auto)]
 
 ghost use Rattle.std.specs.Prelude.{◌≡◌, ◌+◌, ◌<◌};
-ghost use Rattle.control_block.specs.Desks.{allowance_of};
+ghost use Rattle.control_block.specs.Desks.{Belongs, allowance_of};
 ghost use Rattle.measure.specs.Workers.{IsManaged, IsTeamReady};
 
 mod alone;
@@ -75,9 +75,9 @@ fn with_team<R: Clock + CpuClock + Threads + Wait + Sync + Print>(
     domain: &Domain<()>,
     desk: &mut Desk<()>,
 ) -> io::Result<()>
-    requires domain { (desk.old.domain ≡ domain.now.id) × (desk.old.shape ≡ domain.now.shape) }
+    requires domain { Belongs desk.old domain.now }
     requires cells { 8 < domain.now.shape.shared_cells }
-    ensures domain { (desk.new.domain ≡ domain.now.id) × (desk.new.shape ≡ domain.now.shape) }
+    ensures domain { Belongs desk.new domain.now }
     ensures sum { allowance_of desk.new ≡ allowance_of desk.old }
 {
     let Ok(common) = make(domain, desk, FIELDS, false, ()) else {

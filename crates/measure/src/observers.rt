@@ -2,7 +2,7 @@
 ghost use Rattle.std.specs.Prelude.{◌≡◌, ◌+◌, ◌≤◌, IfOk, IfSome, List, MatchOption, length};
 ghost use Rattle.std.specs.List.{All};
 ghost use Rattle.control_word.specs.declared.handle.Handle.{Handle};
-ghost use Rattle.control_block.specs.Desks.{IsSameDesk, bag_of};
+ghost use Rattle.control_block.specs.Desks.{Belongs, IsSameDesk, bag_of};
 ghost use Rattle.measure.specs.Observers.{IsOfObject, IsWatched, with_observer, with_observers};
 
 use crate::rounds::{FIELDS, end};
@@ -24,7 +24,7 @@ pub(crate) struct Observer {
 
 /// A new observer, which lives or has ended.
 fn observe(domain: &Domain<()>, desk: &mut Desk<()>, lives: bool) -> Option<Observer>
-    requires domain { desk.old.domain ≡ domain.now.id }
+    requires domain { Belongs desk.old domain.now }
     ensures desk { IsSameDesk desk.old desk.new }
     ensures bag { MatchOption result (bag_of desk.new ≡ bag_of desk.old) (λ o. bag_of desk.new ≡ with_observer (bag_of desk.old) o) }
     ensures real { IfSome result IsOfObject }
@@ -52,7 +52,7 @@ pub(crate) fn recruit(
     desk: &mut Desk<()>,
     alloc: Global,
 ) -> Result<Vec<Observer>, AllocError>
-    requires domain { desk.old.domain ≡ domain.now.id }
+    requires domain { Belongs desk.old domain.now }
     ensures desk { IsSameDesk desk.old desk.new }
     ensures bag { IfOk result (λ v. bag_of desk.new ≡ with_observers v.items (bag_of desk.old)) }
     ensures real { IfOk result (λ v. All IsOfObject v.items) }
@@ -74,7 +74,7 @@ pub(crate) fn notify<R: Wait>(
     desk: &mut Desk<()>,
     observers: &[Observer],
 ) -> Option<usize>
-    requires domain { desk.old.domain ≡ domain.now.id }
+    requires domain { Belongs desk.old domain.now }
     requires watched { All (IsWatched (bag_of desk.old)) observers.now }
     ensures desk { IsSameDesk desk.old desk.new }
     ensures bag { bag_of desk.new ≡ bag_of desk.old }
@@ -97,7 +97,7 @@ pub(crate) fn notify<R: Wait>(
 /// An observer's handles leave.
 #[tactic(auto, using(crate::proofs::Taken::first_out, crate::proofs::Observed::first_held))]
 fn leave(domain: &Domain<()>, desk: &mut Desk<()>, observer: Observer)
-    requires domain { desk.old.domain ≡ domain.now.id }
+    requires domain { Belongs desk.old domain.now }
     requires real { IsOfObject observer }
     requires bag { (l : List Handle) × (bag_of desk.old ≡ with_observer l observer) }
     ensures desk { IsSameDesk desk.old desk.new }
@@ -113,7 +113,7 @@ fn leave(domain: &Domain<()>, desk: &mut Desk<()>, observer: Observer)
 
 /// All observers' handles leave.
 pub(crate) fn retire(domain: &Domain<()>, desk: &mut Desk<()>, observers: Vec<Observer>)
-    requires domain { desk.old.domain ≡ domain.now.id }
+    requires domain { Belongs desk.old domain.now }
     requires real { All IsOfObject observers.items }
     requires bag { (l : List Handle) × (bag_of desk.old ≡ with_observers observers.items l) }
     ensures desk { IsSameDesk desk.old desk.new }

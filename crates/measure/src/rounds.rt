@@ -1,7 +1,7 @@
 //! The work of each row, on one desk: a user's own calls, `count` times, and whether none was refused.
 ghost use Rattle.std.specs.Prelude.{◌≡◌, ◌+◌};
 ghost use Rattle.control_word.specs.declared.handle.Kind.TheVariants.{Owner, Weak};
-ghost use Rattle.control_block.specs.Desks.{IsSameDesk, bag_of};
+ghost use Rattle.control_block.specs.Desks.{Belongs, IsSameDesk, bag_of};
 ghost use Rattle.shared_handle.specs.Calls.{Holds, without_handle};
 ghost use Rattle.shared_handle.specs.Endings.{Ends};
 
@@ -30,7 +30,7 @@ pub(crate) fn lose(left: Left<()>) {
 /// An object ends: its members are cleared, and it is finished.
 #[inline(always)]
 pub(crate) fn bury(domain: &Domain<()>, desk: &mut Desk<()>, ending: Ending<()>)
-    requires domain { desk.old.domain ≡ domain.now.id }
+    requires domain { Belongs desk.old domain.now }
     requires ends { Ends desk.old ending }
     ensures desk { IsSameDesk desk.old desk.new }
     ensures bag { bag_of desk.new ≡ bag_of desk.old }
@@ -49,7 +49,7 @@ pub(crate) fn bury(domain: &Domain<()>, desk: &mut Desk<()>, ending: Ending<()>)
 /// An owner leaves, and its object ends where it was the last.
 #[inline(always)]
 pub(crate) fn end(domain: &Domain<()>, desk: &mut Desk<()>, owner: Shared)
-    requires domain { desk.old.domain ≡ domain.now.id }
+    requires domain { Belongs desk.old domain.now }
     requires holds { Holds desk.old Owner owner.block owner.place }
     ensures desk { IsSameDesk desk.old desk.new }
     ensures bag { bag_of desk.new ≡ without_handle Owner owner.block owner.place (bag_of desk.old) }
@@ -64,7 +64,7 @@ pub(crate) fn end(domain: &Domain<()>, desk: &mut Desk<()>, owner: Shared)
 /// Objects that are made and end.
 #[tactic(auto, using(crate::proofs::Taken::first_out))]
 pub(crate) fn make_and_end(domain: &Domain<()>, desk: &mut Desk<()>, count: u32) -> bool
-    requires domain { desk.old.domain ≡ domain.now.id }
+    requires domain { Belongs desk.old domain.now }
     ensures desk { IsSameDesk desk.old desk.new }
     ensures bag { bag_of desk.new ≡ bag_of desk.old }
     ensures held { desk.new.held ≡ desk.old.held }
@@ -86,7 +86,7 @@ pub(crate) fn share_and_release(
     owner: &Shared,
     count: u32,
 ) -> bool
-    requires domain { desk.old.domain ≡ domain.now.id }
+    requires domain { Belongs desk.old domain.now }
     requires holds { Holds desk.old Owner owner.now.block owner.now.place }
     ensures desk { IsSameDesk desk.old desk.new }
     ensures bag { bag_of desk.new ≡ bag_of desk.old }
@@ -109,7 +109,7 @@ pub(crate) fn downgrade_and_release(
     owner: &Shared,
     count: u32,
 ) -> bool
-    requires domain { desk.old.domain ≡ domain.now.id }
+    requires domain { Belongs desk.old domain.now }
     requires holds { Holds desk.old Owner owner.now.block owner.now.place }
     ensures desk { IsSameDesk desk.old desk.new }
     ensures bag { bag_of desk.new ≡ bag_of desk.old }
@@ -131,7 +131,7 @@ pub(crate) fn count_owners(
     owner: &Shared,
     count: u32,
 ) -> bool
-    requires domain { desk.old.domain ≡ domain.now.id }
+    requires domain { Belongs desk.old domain.now }
     requires holds { Holds desk.old Owner owner.now.block owner.now.place }
     ensures desk { IsSameDesk desk.old desk.new }
     ensures bag { bag_of desk.new ≡ bag_of desk.old }
@@ -152,7 +152,7 @@ fn lock_weak<R: Wait>(
     weak: &handles::Weak,
     count: u32,
 ) -> bool
-    requires domain { desk.old.domain ≡ domain.now.id }
+    requires domain { Belongs desk.old domain.now }
     requires holds { Holds desk.old Weak weak.now.block weak.now.place }
     ensures desk { IsSameDesk desk.old desk.new }
     ensures bag { bag_of desk.new ≡ bag_of desk.old }
@@ -178,7 +178,7 @@ pub(crate) fn lock_and_release<R: Wait>(
     owner: &Shared,
     count: u32,
 ) -> bool
-    requires domain { desk.old.domain ≡ domain.now.id }
+    requires domain { Belongs desk.old domain.now }
     requires holds { Holds desk.old Owner owner.now.block owner.now.place }
     ensures desk { IsSameDesk desk.old desk.new }
     ensures bag { bag_of desk.new ≡ bag_of desk.old }

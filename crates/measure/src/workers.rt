@@ -2,7 +2,7 @@
 ghost use Rattle.std.specs.Prelude.{◌≡◌, ◌+◌, ◌∷◌, ◌≤◌, ◌<◌, [], IfErr, IfOk, IfSome, MatchOption, Some, length};
 ghost use Rattle.control_word.specs.declared.handle.Kind.TheVariants.{Owner};
 ghost use Rattle.control_word.specs.declared.place.Block.{Block};
-ghost use Rattle.control_block.specs.Desks.{allowance_of, bag_of, stock_of};
+ghost use Rattle.control_block.specs.Desks.{Belongs, allowance_of, bag_of, stock_of};
 ghost use Rattle.shared_handle.specs.Calls.{Holds, with_handle, without_handle};
 ghost use Rattle.measure.specs.Workers.{IsManaged, IsPairReady, IsReady, IsTeamReady};
 
@@ -79,11 +79,11 @@ fn hand_over(
     alloc: Global,
     owner: Shared,
 ) -> Result<(Desk<()>, Shared), Shared>
-    requires domain { (desk.old.domain ≡ domain.now.id) × (desk.old.shape ≡ domain.now.shape) }
+    requires domain { Belongs desk.old domain.now }
     requires holds { Holds desk.old Owner owner.block owner.place }
     requires blocks { BLOCKS ≤ length (stock_of desk.old) }
     ensures desk { (desk.new.domain ≡ desk.old.domain) × (desk.new.shape ≡ desk.old.shape) }
-    ensures other { IfOk result (λ r. (r.0.domain ≡ domain.now.id) × (r.0.shape ≡ domain.now.shape)) }
+    ensures other { IfOk result (λ r. Belongs r.0 domain.now) }
     ensures sum { IfOk result (λ r. (allowance_of r.0 ≡ ALLOWANCE) × (allowance_of desk.new + ALLOWANCE ≡ allowance_of desk.old)) }
     ensures bag { IfOk result (λ r. bag_of desk.new ≡ without_handle Owner owner.block owner.place (bag_of desk.old)) }
     ensures owner { IfOk result (λ r. (r.1.block ≡ owner.block) × (r.1.place ≡ owner.place)) }
@@ -142,7 +142,7 @@ pub(crate) fn hire(
 /// A worker of a new desk, which makes an object of its own.
 fn equip(domain: &Domain<()>, desk: Desk<()>, common: Shared, cell: u32) -> Worker
     requires cell { cell < domain.now.shape.shared_cells }
-    requires desk { (desk.domain ≡ domain.now.id) × (desk.shape ≡ domain.now.shape) }
+    requires desk { Belongs desk domain.now }
     requires free { (allowance_of desk ≡ 8) × (desk.held ≡ 1) × (length (stock_of desk) ≡ BLOCKS) }
     requires common { (b : Block) × (common.block ≡ Some b) }
     requires bag { bag_of desk ≡ with_handle Owner common.block common.place [] }

@@ -1,6 +1,6 @@
 //! The members of an object that ends are emptied before its end.
 ghost use Rattle.std.specs.Prelude.{◌≡◌, ℕ, ◌+◌, ◌<◌, Bool, cond, length};
-ghost use Rattle.control_block.specs.Desks.{IsCleared, IsSameDesk, KeepsOtherEndings, bag_of, endings_of, stock_of};
+ghost use Rattle.control_block.specs.Desks.{Belongs, IsCleared, IsSameDesk, KeepsOtherEndings, bag_of, endings_of, stock_of};
 ghost use Rattle.shared_handle.specs.Endings.{Clears, ClearsUp, Ends, IsBeside, IsClearing, more_ending, with_clear};
 
 use crate::endings::{Ending, Left, Member};
@@ -11,7 +11,7 @@ use control_block::domain::Domain;
 impl<V: Drop + Send> Ending<V> {
     // A shared member is emptied; which one is cleared by then is noted by the caller.
     fn clear_shared(&self, domain: &Domain<V>, desk: &mut Desk<V>, member: u32) -> Left<V>
-        requires domain { desk.old.domain ≡ domain.now.id }
+        requires domain { Belongs desk.old domain.now }
         requires ends { Ends desk.old self.now }
         requires member { member < 2 }
         ensures clears { Clears desk.old self.now member result desk.new }
@@ -38,7 +38,7 @@ impl<V: Drop + Send> Ending<V> {
     // The weak member is emptied.
     #[tactic(auto, using(crate::proofs::Beside::up_beside))]
     fn clear_up(&self, domain: &Domain<V>, desk: &mut Desk<V>) -> Left<V>
-        requires domain { desk.old.domain ≡ domain.now.id }
+        requires domain { Belongs desk.old domain.now }
         requires ends { Ends desk.old self.now }
         ensures clears { ClearsUp desk.old self.now result desk.new }
         ensures ends { Ends desk.new self.now }
@@ -66,7 +66,7 @@ impl<V: Drop + Send> Ending<V> {
         desk: &mut Desk<V>,
         member: Member,
     ) -> Left<V>
-        requires domain { desk.old.domain ≡ domain.now.id }
+        requires domain { Belongs desk.old domain.now }
         requires ends { Ends desk.old self.old }
         ensures clears { IsClearing desk.old self.old member result desk.new }
         ensures noted { self.new ≡ with_clear member self.old }

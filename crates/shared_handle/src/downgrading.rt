@@ -1,7 +1,7 @@
 //! Weak pointers from shared ones ([util.smartptr.weak.const]).
 ghost use Rattle.std.specs.Prelude.{◌≡◌, ◌↔◌, ◌+◌, IfErr, IfOk, IsErr, OnOk};
 ghost use Rattle.control_word.specs.declared.handle.Kind.TheVariants.{Owner, Weak};
-ghost use Rattle.control_block.specs.Desks.{Keeps, allowance_of, bag_of, held_of};
+ghost use Rattle.control_block.specs.Desks.{Belongs, Keeps, allowance_of, bag_of, held_of};
 ghost use Rattle.shared_handle.specs.Calls.{Holds, SharesWeakly, weak_place, with_handle};
 
 use control_block::desk::Desk;
@@ -19,7 +19,7 @@ pub fn downgrade<V: Drop + Send>(
     desk: &mut Desk<V>,
     handle: &Shared,
 ) -> Result<handles::Weak, Refusal>
-    requires domain { desk.old.domain ≡ domain.now.id }
+    requires domain { Belongs desk.old domain.now }
     requires holds { Holds desk.old Owner handle.now.block handle.now.place }
     ensures limit { IsErr result ↔ (held_of desk.old ≡ allowance_of desk.old) }
     ensures refused { IfErr result (λ why. (why ≡ Refusal.Limit) × (desk.new ≡ desk.old)) }

@@ -1,5 +1,5 @@
 ghost use Rattle.std.specs.Prelude.{◌≡◌};
-ghost use Rattle.control_block.specs.Desks.{IsSameDesk};
+ghost use Rattle.control_block.specs.Desks.{Belongs, IsSameDesk};
 
 use crate::make;
 use crate::test_parts::{end, shape, shut};
@@ -26,7 +26,7 @@ fn drop_by_finish<'a>(
     desk: &mut Desk<Counted<'a>>,
     drops: &'a AtomicU64,
 ) -> u64
-    requires domain { desk.old.domain ≡ domain.now.id }
+    requires domain { Belongs desk.old domain.now }
     ensures desk { IsSameDesk desk.old desk.new }
 {
     let Ok(owner) = make(domain, desk, [0; 4], false, Counted { drops }) else {
@@ -56,7 +56,7 @@ fn leave_behind<'a>(
     desk: &mut Desk<Counted<'a>>,
     drops: &'a AtomicU64,
 ) -> bool
-    requires domain { desk.old.domain ≡ domain.now.id }
+    requires domain { Belongs desk.old domain.now }
     ensures desk { IsSameDesk desk.old desk.new }
 {
     match make(domain, desk, [0; 4], false, Counted { drops }) {

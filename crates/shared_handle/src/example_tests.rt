@@ -2,7 +2,7 @@
 ghost use Rattle.std.specs.Prelude.{◌≡◌, ◌<◌, [], IfSome, None, Some, length};
 ghost use Rattle.control_word.specs.declared.handle.Kind.TheVariants.{Owner, Weak};
 ghost use Rattle.control_word.specs.declared.place.Block.{Block};
-ghost use Rattle.control_block.specs.Desks.{IsSameDesk, allowance_of, bag_of, stock_of};
+ghost use Rattle.control_block.specs.Desks.{Belongs, IsSameDesk, allowance_of, bag_of, stock_of};
 ghost use Rattle.shared_handle.specs.Calls.{Holds, with_handle, without_handle};
 
 use crate::test_parts::{end, hand_over, shape, shut, spent};
@@ -16,7 +16,7 @@ use std::thread::{Threads, join_mut};
 
 // `std::shared_ptr::reset`.
 fn reset(domain: &Domain<u64>, desk: &mut Desk<u64>, handle: &mut Option<Shared>)
-    requires domain { desk.old.domain ≡ domain.now.id }
+    requires domain { Belongs desk.old domain.now }
     requires holds { IfSome handle.old (λ h. Holds desk.old Owner h.block h.place) }
     ensures desk { IsSameDesk desk.old desk.new }
     ensures bag { IfSome handle.old (λ h. bag_of desk.new ≡ without_handle Owner h.block h.place (bag_of desk.old)) }
@@ -36,10 +36,10 @@ fn give_up(
     b: Shared,
     w: handles::Weak,
 ) -> Option<(u32, bool)>
-    requires domain { desk.old.domain ≡ domain.now.id }
+    requires domain { Belongs desk.old domain.now }
     requires same { (b.block ≡ a.block) × (b.place ≡ a.place) × (w.block ≡ a.block) × (x : Block) × (a.block ≡ Some x) }
     requires bag { bag_of desk.old ≡ with_handle Owner b.block b.place (with_handle Weak w.block w.place (with_handle Owner a.block a.place [])) }
-    ensures desk { (desk.new.domain ≡ desk.old.domain) × (allowance_of desk.new ≡ allowance_of desk.old) }
+    ensures desk { (desk.new.domain ≡ desk.old.domain) × (desk.new.shape ≡ desk.old.shape) × (allowance_of desk.new ≡ allowance_of desk.old) }
     ensures none { result ≡ None }
 {
     end(domain, desk, b);
@@ -56,9 +56,9 @@ fn two_threads<R: Threads>(
     domain: &Domain<u64>,
     desk: &mut Desk<u64>,
 ) -> Option<(u32, bool)>
-    requires domain { desk.old.domain ≡ domain.now.id }
+    requires domain { Belongs desk.old domain.now }
     requires fresh { (bag_of desk.old ≡ []) × (desk.old.held ≡ 0) × (allowance_of desk.old ≡ 8) × (0 < length (stock_of desk.old)) }
-    ensures desk { (desk.new.domain ≡ desk.old.domain) × (allowance_of desk.new ≡ allowance_of desk.old) }
+    ensures desk { (desk.new.domain ≡ desk.old.domain) × (desk.new.shape ≡ desk.old.shape) × (allowance_of desk.new ≡ allowance_of desk.old) }
 {
     // auto a = std::make_shared<Node>(1, 2, 3, 4);
     let a = make(domain, desk, [1, 2, 3, 4], false, 7).unwrap();

@@ -4,7 +4,7 @@ ghost use Rattle.control_word.specs.declared.event.Event.TheVariants.{Finish};
 ghost use Rattle.control_word.specs.declared.handle.Kind.TheVariants.{Weak};
 ghost use Rattle.control_word.specs.Histories.{value};
 ghost use Rattle.control_block.specs.Rule.{opening_of};
-ghost use Rattle.control_block.specs.Desks.{Adds, IsEnding, IsSameDesk, Keeps, KeepsOtherEndings, allowance_of, bag_of, endings_of, held_of, latest_of, object_in, stock_of};
+ghost use Rattle.control_block.specs.Desks.{Belongs, Adds, IsEnding, IsSameDesk, Keeps, KeepsOtherEndings, allowance_of, bag_of, endings_of, held_of, latest_of, object_in, stock_of};
 ghost use Rattle.shared_handle.specs.Calls.{IsOfThis, SharesWeakly, with_handle};
 ghost use Rattle.shared_handle.specs.Endings.{Ends, IsAllClear, IsUncleared, WhyNoWeakThis};
 
@@ -20,7 +20,7 @@ use std::mem::forget;
 impl<V: Drop + Send> Ending<V> {
     /// The object's four fields (own).
     pub fn fields(&self, domain: &Domain<V>, desk: &mut Desk<V>) -> [u64; 4]
-        requires domain { desk.old.domain ≡ domain.now.id }
+        requires domain { Belongs desk.old domain.now }
         requires ends { Ends desk.old self.now }
         ensures fields { (k : ℕ) → k < 4 → slice_index result k ≡ slice_index (object_in desk.old self.now.block.0).fields k }
         ensures same { desk.new ≡ desk.old }
@@ -30,7 +30,7 @@ impl<V: Drop + Send> Ending<V> {
 
     /// Whether it is the end of an owned null pointer ([util.smartptr.shared.const]).
     pub fn is_null(&self, domain: &Domain<V>, desk: &mut Desk<V>) -> bool
-        requires domain { desk.old.domain ≡ domain.now.id }
+        requires domain { Belongs desk.old domain.now }
         requires ends { Ends desk.old self.now }
         ensures null { result ≡ (object_in desk.old self.now.block.0).null }
         ensures same { desk.new ≡ desk.old }
@@ -65,7 +65,7 @@ impl<V: Drop + Send> Ending<V> {
         domain: &Domain<V>,
         desk: &mut Desk<V>,
     ) -> Result<Shared, Refusal>
-        requires domain { desk.old.domain ≡ domain.now.id }
+        requires domain { Belongs desk.old domain.now }
         requires ends { Ends desk.old self.now }
         ensures refused { result ≡ Err (cond (object_in desk.old self.now.block.0).enabled Refusal.BadWeak Refusal.NotEnabled) }
         ensures same { desk.new ≡ desk.old }
@@ -85,7 +85,7 @@ impl<V: Drop + Send> Ending<V> {
         domain: &Domain<V>,
         desk: &mut Desk<V>,
     ) -> Result<handles::Weak, Refusal>
-        requires domain { desk.old.domain ≡ domain.now.id }
+        requires domain { Belongs desk.old domain.now }
         requires ends { Ends desk.old self.now }
         ensures refused { IfErr result (λ why. WhyNoWeakThis desk.old self.now.block why × (desk.new ≡ desk.old)) }
         ensures may { OnOk result ((held_of desk.old ≢ allowance_of desk.old) × ((object_in desk.old self.now.block.0).enabled ≡ true)) }
@@ -109,7 +109,7 @@ impl<V: Drop + Send> Ending<V> {
     /// that the object was made with, as the visits left it, and dropping it is the deleter's call. Where no weak handle is
     /// left, the block is vacant, and in the desk's store. It refuses nothing.
     pub fn finish(self, domain: &Domain<V>, desk: &mut Desk<V>) -> V
-        requires domain { desk.old.domain ≡ domain.now.id }
+        requires domain { Belongs desk.old domain.now }
         requires ends { Ends desk.old self }
         requires clear { IsAllClear self }
         ensures value { (result ≡ self.value) × (value (opening_of desk.old.shape) desk.old.seen (latest_of desk.old self.block.0) ≡ Some result) }

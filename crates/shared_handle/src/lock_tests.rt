@@ -2,7 +2,7 @@
 ghost use Rattle.std.specs.Prelude.{◌≡◌, ◌+◌, IfSome, MatchOption, None, Some, []};
 ghost use Rattle.control_word.specs.declared.place.Block.{Block};
 ghost use Rattle.control_word.specs.declared.handle.Kind.TheVariants.{Owner, Weak};
-ghost use Rattle.control_block.specs.Desks.{IsSameDesk, allowance_of, bag_of};
+ghost use Rattle.control_block.specs.Desks.{Belongs, IsSameDesk, allowance_of, bag_of};
 ghost use Rattle.shared_handle.specs.Calls.{Holds, with_handle};
 
 use crate::test_parts::{end, hand_over, leave, shape, shut, spent};
@@ -27,7 +27,7 @@ fn owners_after_lock<R: Wait>(
     desk: &mut Desk<u64>,
     weak: &handles::Weak,
 ) -> Option<u32>
-    requires domain { desk.old.domain ≡ domain.now.id }
+    requires domain { Belongs desk.old domain.now }
     requires holds { Holds desk.old Weak weak.now.block weak.now.place }
     ensures desk { IsSameDesk desk.old desk.new }
     ensures bag { bag_of desk.new ≡ bag_of desk.old }
@@ -50,7 +50,7 @@ fn why_not<R: Wait>(
     desk: &mut Desk<u64>,
     weak: &handles::Weak,
 ) -> Option<Refusal>
-    requires domain { desk.old.domain ≡ domain.now.id }
+    requires domain { Belongs desk.old domain.now }
     requires holds { Holds desk.old Weak weak.now.block weak.now.place }
     ensures desk { IsSameDesk desk.old desk.new }
     ensures bag { bag_of desk.new ≡ bag_of desk.old }
@@ -71,7 +71,7 @@ fn of_nothing<R: Wait>(
     domain: &Domain<u64>,
     desk: &mut Desk<u64>,
 ) -> Option<(bool, u32, Option<u32>)>
-    requires domain { desk.old.domain ≡ domain.now.id }
+    requires domain { Belongs desk.old domain.now }
     requires fresh { (bag_of desk.old ≡ []) × (desk.old.held ≡ 0) }
     ensures desk { IsSameDesk desk.old desk.new }
 {
@@ -115,7 +115,7 @@ fn before_and_after_the_end<R: Wait>(
         Option<u32>,
     ),
 >
-    requires domain { desk.old.domain ≡ domain.now.id }
+    requires domain { Belongs desk.old domain.now }
     ensures desk { IsSameDesk desk.old desk.new }
 {
     let Ok(owner) = make(domain, desk, [5, 0, 0, 0], false, 5) else {
@@ -154,7 +154,7 @@ fn seek<R: Wait>(
     weak: &handles::Weak,
     found: &mut Option<Shared>,
 ) -> u64
-    requires domain { desk.old.domain ≡ domain.now.id }
+    requires domain { Belongs desk.old domain.now }
     requires holds { Holds desk.old Weak weak.now.block weak.now.place }
     requires nothing { found.old ≡ None }
     ensures desk { IsSameDesk desk.old desk.new }
@@ -179,7 +179,7 @@ fn seek_beside_leave<R: Threads + Wait + Sync>(
     two: &mut Desk<u64>,
     owner: Shared,
 ) -> (u64, u64)
-    requires domain { (one.old.domain ≡ domain.now.id) × (two.old.domain ≡ domain.now.id) }
+    requires domain { Belongs one.old domain.now × Belongs two.old domain.now }
     requires weak { Holds one.old Weak weak.block weak.place × (b : Block) × (weak.block ≡ Some b) }
     requires owner { Holds two.old Owner owner.block owner.place }
     ensures one { IsSameDesk one.old one.new }
@@ -209,7 +209,7 @@ fn owner_apart(
     one: &mut Desk<u64>,
     alloc: Global,
 ) -> Option<(Desk<u64>, handles::Weak, Shared)>
-    requires domain { one.old.domain ≡ domain.now.id }
+    requires domain { Belongs one.old domain.now }
     ensures one { (one.new.domain ≡ one.old.domain) × (one.new.shape ≡ one.old.shape) × (one.new.name ≡ one.old.name) }
     ensures two { IfSome result (λ r. (r.0.domain ≡ one.old.domain) × (r.0.shape ≡ one.old.shape)) }
     ensures sum { MatchOption result (allowance_of one.new ≡ allowance_of one.old) (λ r. allowance_of one.new + allowance_of r.0 ≡ allowance_of one.old) }
@@ -239,7 +239,7 @@ fn round<R: Threads + Wait + Sync>(
     domain: &Domain<u64>,
     one: &mut Desk<u64>,
 ) -> Option<(u64, u64)>
-    requires domain { one.old.domain ≡ domain.now.id }
+    requires domain { Belongs one.old domain.now }
     ensures one { IsSameDesk one.old one.new }
 {
     let (mut two, weak, owner) = owner_apart(domain, one, alloc)?;

@@ -1,7 +1,7 @@
 //! Owners from weak pointers.
 ghost use Rattle.std.specs.Prelude.{◌≡◌, ◌↔◌, ◌+◌, is_some, IfErr, IfOk, IsErr, OnOk, None};
 ghost use Rattle.control_word.specs.declared.handle.Kind.TheVariants.{Owner, Weak};
-ghost use Rattle.control_block.specs.Desks.{Keeps, allowance_of, bag_of, held_of};
+ghost use Rattle.control_block.specs.Desks.{Belongs, Keeps, allowance_of, bag_of, held_of};
 ghost use Rattle.shared_handle.specs.Calls.{Holds, with_handle};
 ghost use Rattle.shared_handle.specs.Locks.{IsOwnerOf, IsUpgrade, Locks, SawNoOwner};
 
@@ -25,7 +25,7 @@ pub fn lock<V: Drop + Send, R: Wait>(
     desk: &mut Desk<V>,
     handle: &handles::Weak,
 ) -> Result<Shared, Refusal>
-    requires domain { desk.old.domain ≡ domain.now.id }
+    requires domain { Belongs desk.old domain.now }
     requires holds { Holds desk.old Weak handle.now.block handle.now.place }
     ensures limit { IsErr result ↔ (held_of desk.old ≡ allowance_of desk.old) }
     ensures refused { IfErr result (λ why. (why ≡ Refusal.Limit) × (desk.new ≡ desk.old)) }
@@ -59,7 +59,7 @@ pub fn upgrade<V: Drop + Send, R: Wait>(
     desk: &mut Desk<V>,
     handle: &handles::Weak,
 ) -> Result<Shared, Refusal>
-    requires domain { desk.old.domain ≡ domain.now.id }
+    requires domain { Belongs desk.old domain.now }
     requires holds { Holds desk.old Weak handle.now.block handle.now.place }
     ensures upgrade { IsUpgrade desk.old handle.now.block handle.now.place result desk.new }
     ensures expired { SawNoOwner desk.old handle.now.block → IsErr result }

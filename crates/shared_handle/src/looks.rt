@@ -2,7 +2,7 @@
 ghost use Rattle.std.specs.Prelude.{◌≡◌};
 ghost use Rattle.control_word.specs.Handles as Handles;
 ghost use Rattle.control_word.specs.declared.handle.Kind.TheVariants.{Owner};
-ghost use Rattle.control_block.specs.Desks.{Keeps, bag_of};
+ghost use Rattle.control_block.specs.Desks.{Belongs, Keeps, bag_of};
 ghost use Rattle.shared_handle.specs.Calls.{Holds, IsCount};
 ghost use Rattle.shared_handle.specs.Endings.{IsPlaced, IsRead};
 
@@ -18,7 +18,7 @@ use std::marker::Brand;
 /// ([util.smartptr.shared.obs]). For a desk that has the whole allowance it is the count itself; else it is 0 just where
 /// there is no owner, and at most the count. An empty handle touches no word.
 pub fn use_count<V: Drop + Send>(domain: &Domain<V>, desk: &mut Desk<V>, handle: &Shared) -> u32
-    requires domain { desk.old.domain ≡ domain.now.id }
+    requires domain { Belongs desk.old domain.now }
     requires holds { Holds desk.old Owner handle.now.block handle.now.place }
     ensures count { IsCount desk.old Owner handle.now.block handle.now.place result desk.new }
     ensures bag { bag_of desk.new ≡ bag_of desk.old }
@@ -52,7 +52,7 @@ pub fn read<V: Drop + Send>(
     desk: &mut Desk<V>,
     handle: &Shared,
 ) -> Result<u64, Refusal>
-    requires domain { desk.old.domain ≡ domain.now.id }
+    requires domain { Belongs desk.old domain.now }
     requires holds { Holds desk.old Owner handle.now.block handle.now.place }
     ensures read { IsRead desk.old handle.now.block handle.now.place result desk.new }
     ensures bag { bag_of desk.new ≡ bag_of desk.old }

@@ -1,7 +1,7 @@
 //! Empty handles, and owners of new objects.
 ghost use Rattle.std.specs.Prelude.{◌≡◌, ◌↔◌, ◌+◌, [], ◌∷◌, false, length, true, IfErr, IfOk, IsErr, OnOk, None};
 ghost use Rattle.control_word.specs.declared.handle.Kind.TheVariants.{Owner};
-ghost use Rattle.control_block.specs.Desks.{IsSameDesk, KeepsEndings, allowance_of, bag_of, endings_of, held_of, stock_of};
+ghost use Rattle.control_block.specs.Desks.{Belongs, IsSameDesk, KeepsEndings, allowance_of, bag_of, endings_of, held_of, stock_of};
 ghost use Rattle.control_block.specs.Refusals.{IsFullOrLimit};
 ghost use Rattle.shared_handle.specs.Calls.{Makes, counting, with_handle};
 
@@ -14,7 +14,7 @@ use control_word::{Refusal, Refused};
 /// An empty shared pointer with a null place ([util.smartptr.shared.const]). It touches no word. It is refused `Limit`
 /// just where the desk is at its allowance, and then nothing changes.
 pub fn empty<V: Drop + Send>(_domain: &Domain<V>, desk: &mut Desk<V>) -> Result<Shared, Refusal>
-    requires domain { desk.old.domain ≡ _domain.now.id }
+    requires domain { Belongs desk.old _domain.now }
     ensures limit { IsErr result ↔ (held_of desk.old ≡ allowance_of desk.old) }
     ensures refused { IfErr result (λ why. (why ≡ Refusal.Limit) × (desk.new ≡ desk.old)) }
     ensures handle { IfOk result (λ h. (h.block ≡ None) × (h.place ≡ None)) }
@@ -27,7 +27,7 @@ pub fn empty<V: Drop + Send>(_domain: &Domain<V>, desk: &mut Desk<V>) -> Result<
 /// An empty weak pointer ([util.smartptr.weak.const]). It touches no word. It is refused `Limit` just where the desk is
 /// at its allowance, and then nothing changes.
 pub fn empty_weak<V: Drop + Send>(_domain: &Domain<V>, desk: &mut Desk<V>) -> Result<Weak, Refusal>
-    requires domain { desk.old.domain ≡ _domain.now.id }
+    requires domain { Belongs desk.old _domain.now }
     ensures limit { IsErr result ↔ (held_of desk.old ≡ allowance_of desk.old) }
     ensures refused { IfErr result (λ why. (why ≡ Refusal.Limit) × (desk.new ≡ desk.old)) }
     ensures handle { IfOk result (λ h. (h.block ≡ None) × (h.place ≡ None)) }
@@ -47,7 +47,7 @@ fn make_as<V: Drop + Send>(
     enabled: bool,
     value: V,
 ) -> Result<Shared, Refused<V>>
-    requires domain { desk.old.domain ≡ domain.now.id }
+    requires domain { Belongs desk.old domain.now }
     ensures refusals { IsFullOrLimit (held_of desk.old ≡ allowance_of desk.old) (stock_of desk.old ≡ []) result }
     ensures refused { IfErr result (λ r. (r.back ≡ value) × (desk.new ≡ desk.old)) }
     ensures event { IfOk result (λ h. Makes desk.old enabled null fields value h.block h.place desk.new) }
@@ -76,7 +76,7 @@ pub fn make<V: Drop + Send>(
     enabled: bool,
     value: V,
 ) -> Result<Shared, Refused<V>>
-    requires domain { desk.old.domain ≡ domain.now.id }
+    requires domain { Belongs desk.old domain.now }
     ensures refusals { IsFullOrLimit (held_of desk.old ≡ allowance_of desk.old) (stock_of desk.old ≡ []) result }
     ensures refused { IfErr result (λ r. (r.back ≡ value) × (desk.new ≡ desk.old)) }
     ensures event { IfOk result (λ h. Makes desk.old enabled false fields value h.block h.place desk.new) }
@@ -97,7 +97,7 @@ pub fn make_null<V: Drop + Send>(
     desk: &mut Desk<V>,
     value: V,
 ) -> Result<Shared, Refused<V>>
-    requires domain { desk.old.domain ≡ domain.now.id }
+    requires domain { Belongs desk.old domain.now }
     ensures refusals { IsFullOrLimit (held_of desk.old ≡ allowance_of desk.old) (stock_of desk.old ≡ []) result }
     ensures refused { IfErr result (λ r. (r.back ≡ value) × (desk.new ≡ desk.old)) }
     ensures event { IfOk result (λ h. Makes desk.old false true (0 ∷ 0 ∷ 0 ∷ 0 ∷ []) value h.block h.place desk.new) }

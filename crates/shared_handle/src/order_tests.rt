@@ -1,6 +1,6 @@
 ghost use Rattle.std.specs.Prelude.{◌≡◌, []};
 ghost use Rattle.control_word.specs.declared.handle.Kind.TheVariants.{Owner};
-ghost use Rattle.control_block.specs.Desks.{IsSameDesk, bag_of};
+ghost use Rattle.control_block.specs.Desks.{Belongs, IsSameDesk, bag_of};
 ghost use Rattle.shared_handle.specs.Calls.{Holds, with_handle};
 
 use crate::test_parts::{end, shape, shut};
@@ -22,7 +22,7 @@ fn order(domain: &Domain<u64>, desk: &mut Desk<u64>, a: &Shared, b: &Shared) -> 
 // An owner and a weak handle of its object are equal in owner order.
 #[tactic(auto, using(crate::proofs::Taken::first_out))]
 fn order_of_weak(domain: &Domain<u64>, desk: &mut Desk<u64>, owner: &Shared) -> Option<(bool, bool)>
-    requires domain { desk.old.domain ≡ domain.now.id }
+    requires domain { Belongs desk.old domain.now }
     requires holds { Holds desk.old Owner owner.now.block owner.now.place }
     ensures desk { IsSameDesk desk.old desk.new }
     ensures bag { bag_of desk.new ≡ bag_of desk.old }
@@ -44,7 +44,7 @@ fn order_of_empty(
     desk: &mut Desk<u64>,
     owner: &Shared,
 ) -> Option<(bool, bool)>
-    requires domain { desk.old.domain ≡ domain.now.id }
+    requires domain { Belongs desk.old domain.now }
     requires holds { bag_of desk.old ≡ with_handle Owner owner.now.block owner.now.place [] }
     requires held { desk.old.held ≡ 1 }
     ensures desk { IsSameDesk desk.old desk.new }
@@ -64,7 +64,7 @@ fn order_of_three(
     domain: &Domain<u64>,
     desk: &mut Desk<u64>,
 ) -> Option<(Option<(bool, bool)>, Option<(bool, bool)>)>
-    requires domain { desk.old.domain ≡ domain.now.id }
+    requires domain { Belongs desk.old domain.now }
     requires fresh { (bag_of desk.old ≡ []) × (desk.old.held ≡ 0) }
     ensures desk { IsSameDesk desk.old desk.new }
 {

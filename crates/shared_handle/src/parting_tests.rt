@@ -2,7 +2,7 @@
 ghost use Rattle.std.specs.Prelude.{◌≡◌, ℕ, ◌+◌, ◌<◌, ◌≤◌, [], IfSome, MatchOption, is_some, Some, length};
 ghost use Rattle.control_word.specs.declared.handle.Kind.TheVariants.{Owner};
 ghost use Rattle.control_word.specs.declared.place.Block.{Block};
-ghost use Rattle.control_block.specs.Desks.{DeskNow, IsSameDesk, allowance_of, bag_of, stock_of};
+ghost use Rattle.control_block.specs.Desks.{Belongs, DeskNow, IsSameDesk, allowance_of, bag_of, stock_of};
 ghost use Rattle.control_block.specs.Parting.{IsTooMuch};
 ghost use Rattle.shared_handle.specs.Calls.{Holds, with_handle, without_handle};
 
@@ -32,7 +32,7 @@ fn refusal(
     allowance: u32,
     blocks: u32,
 ) -> Refusal
-    requires domain { desk.old.domain ≡ domain.now.id }
+    requires domain { Belongs desk.old domain.now }
     requires blocks { blocks ≤ length (stock_of desk.old) }
     requires much { IsTooMuch desk.old allowance 0 }
     ensures { desk.new ≡ desk.old }
@@ -53,7 +53,7 @@ fn refusal(
 
 // Why a domain isn't closed while another desk is out.
 fn unclosed(domain: Domain<u64>, desk: Desk<u64>) -> (Domain<u64>, Desk<u64>, Refusal)
-    requires domain { desk.domain ≡ domain.id }
+    requires domain { Belongs desk domain }
     requires sole { allowance_of desk < domain.shape.allowance }
     ensures { (result.0 ≡ domain) × (result.1 ≡ desk) }
 {
@@ -79,7 +79,7 @@ fn change_owner(
     desk: &mut Desk<u64>,
     handle: &mut Option<Shared>,
 ) -> (bool, u32)
-    requires domain { desk.old.domain ≡ domain.now.id }
+    requires domain { Belongs desk.old domain.now }
     requires held { IfSome handle.old (λ h. (bag_of desk.old ≡ with_handle Owner h.block h.place []) × (b : Block) × (h.block ≡ Some b)) }
     ensures desk { IsSameDesk desk.old desk.new }
     ensures kept { is_some handle.new ≡ is_some handle.old }
@@ -108,7 +108,7 @@ fn part(
     one: &mut Desk<u64>,
     alloc: Global,
 ) -> Option<(Desk<u64>, Shared, Shared, Before)>
-    requires domain { one.old.domain ≡ domain.now.id }
+    requires domain { Belongs one.old domain.now }
     requires fresh { (bag_of one.old ≡ []) × (one.old.held ≡ 0) × (allowance_of one.old ≡ 8) }
     requires stock { 2 ≤ length (stock_of one.old) }
     ensures one { (one.new.domain ≡ one.old.domain) × (one.new.shape ≡ one.old.shape) × (one.new.name ≡ one.old.name) }
@@ -135,7 +135,7 @@ fn part(
 
 // The second desk joins the first: the owners of both are this one's.
 fn reunite(domain: &Domain<u64>, one: &mut Desk<u64>, two: Desk<u64>, _x: &Shared, _z: &Shared)
-    requires domain { (one.old.domain ≡ domain.now.id) × (two.domain ≡ domain.now.id) × (two.shape ≡ one.old.shape) }
+    requires domain { Belongs one.old domain.now × Belongs two domain.now }
     requires mine { (bag_of one.old ≡ with_handle Owner _x.now.block _x.now.place []) × (b : Block) × (_x.now.block ≡ Some b) }
     requires others { (bag_of two ≡ with_handle Owner _z.now.block _z.now.place []) × (b : Block) × (_z.now.block ≡ Some b) }
     ensures one { (one.new.domain ≡ one.old.domain) × (one.new.shape ≡ one.old.shape) × (one.new.name ≡ one.old.name) }
@@ -152,7 +152,7 @@ type After = (Numbers, bool, bool, Option<u64>, Numbers);
 
 // Both owners leave.
 fn leave_both(domain: &Domain<u64>, desk: &mut Desk<u64>, x: Shared, z: Shared) -> After
-    requires domain { desk.old.domain ≡ domain.now.id }
+    requires domain { Belongs desk.old domain.now }
     requires both { Holds desk.old Owner x.block x.place
         × ((e : DeskNow ℕ) → bag_of e ≡ without_handle Owner x.block x.place (bag_of desk.old) → Holds e Owner z.block z.place) }
     ensures desk { IsSameDesk desk.old desk.new }
@@ -175,10 +175,10 @@ fn whole_story<R: Threads>(
     Desk<u64>,
     Option<(Before, Refusal, (bool, u32), After)>,
 )
-    requires domain { one.domain ≡ domain.id }
+    requires domain { Belongs one domain }
     requires fresh { (bag_of one ≡ []) × (one.held ≡ 0) × (allowance_of one ≡ 8) × (domain.shape.allowance ≡ 8) }
     requires stock { 2 ≤ length (stock_of one) }
-    ensures domain { (result.0 ≡ domain) × (result.1.domain ≡ domain.id) }
+    ensures domain { (result.0 ≡ domain) × Belongs result.1 domain }
     ensures sole { allowance_of result.1 ≡ 8 }
 {
     let mut one = one;

@@ -1,7 +1,7 @@
 //! Desks in threads of their own.
 ghost use Rattle.std.specs.Prelude.{◌≡◌, ◌+◌, IfSome, MatchOption};
 ghost use Rattle.control_word.specs.declared.handle.Kind.TheVariants.{Owner};
-ghost use Rattle.control_block.specs.Desks.{IsSameDesk, allowance_of};
+ghost use Rattle.control_block.specs.Desks.{Belongs, IsSameDesk, allowance_of};
 ghost use Rattle.shared_handle.specs.Calls.{Holds};
 
 use crate::Shared;
@@ -21,7 +21,7 @@ fn both_leave<R: Threads>(
     two: &mut Desk<u64>,
     y: Shared,
 ) -> (u64, u64)
-    requires domain { (one.old.domain ≡ domain.now.id) × (two.old.domain ≡ domain.now.id) }
+    requires domain { Belongs one.old domain.now × Belongs two.old domain.now }
     requires held { Holds one.old Owner x.block x.place × Holds two.old Owner y.block y.place }
     ensures one { IsSameDesk one.old one.new }
     ensures two { IsSameDesk two.old two.new }
@@ -45,7 +45,7 @@ pub(crate) fn two_desks(
     one: &mut Desk<u64>,
     alloc: Global,
 ) -> Option<(Desk<u64>, Shared, Shared)>
-    requires domain { one.old.domain ≡ domain.now.id }
+    requires domain { Belongs one.old domain.now }
     ensures one { (one.new.domain ≡ one.old.domain) × (one.new.shape ≡ one.old.shape) × (one.new.name ≡ one.old.name) }
     ensures two { IfSome result (λ r. (r.0.domain ≡ one.old.domain) × (r.0.shape ≡ one.old.shape)) }
     ensures sum { MatchOption result (allowance_of one.new ≡ allowance_of one.old) (λ r. allowance_of one.new + allowance_of r.0 ≡ allowance_of one.old) }
@@ -69,7 +69,7 @@ fn round<R: Threads>(
     domain: &Domain<u64>,
     one: &mut Desk<u64>,
 ) -> Option<(u64, u64)>
-    requires domain { one.old.domain ≡ domain.now.id }
+    requires domain { Belongs one.old domain.now }
     ensures one { IsSameDesk one.old one.new }
 {
     let (mut two, x, y) = two_desks(domain, one, alloc)?;

@@ -1,6 +1,6 @@
 ghost use Rattle.std.specs.Prelude.{◌≡◌, ◌+◌, []};
 ghost use Rattle.control_word.specs.declared.handle.Kind.TheVariants.{Owner, Weak};
-ghost use Rattle.control_block.specs.Desks.{IsSameDesk, bag_of};
+ghost use Rattle.control_block.specs.Desks.{Belongs, IsSameDesk, bag_of};
 ghost use Rattle.shared_handle.specs.Calls.{Holds, with_handle, without_handle};
 
 use crate::test_parts::{end, shape, shut};
@@ -26,7 +26,7 @@ fn tell(
     desk: &mut Desk<u64>,
     owner: &Shared,
 ) -> (u32, Option<Place>, Result<u64, Refusal>)
-    requires domain { desk.old.domain ≡ domain.now.id }
+    requires domain { Belongs desk.old domain.now }
     requires holds { Holds desk.old Owner owner.now.block owner.now.place }
     ensures desk { IsSameDesk desk.old desk.new }
     ensures bag { bag_of desk.new ≡ bag_of desk.old }
@@ -52,7 +52,7 @@ fn alias_alone(
         Option<u64>,
     ),
 >
-    requires domain { desk.old.domain ≡ domain.now.id }
+    requires domain { Belongs desk.old domain.now }
     requires holds { Holds desk.old Owner owner.block owner.place }
     ensures desk { IsSameDesk desk.old desk.new }
 {
@@ -77,7 +77,7 @@ fn alias_of_empty(
     domain: &Domain<u64>,
     desk: &mut Desk<u64>,
 ) -> Option<((u32, Option<Place>, Result<u64, Refusal>), Option<u64>)>
-    requires domain { desk.old.domain ≡ domain.now.id }
+    requires domain { Belongs desk.old domain.now }
     requires fresh { (bag_of desk.old ≡ []) × (desk.old.held ≡ 0) }
     ensures desk { IsSameDesk desk.old desk.new }
 {
@@ -117,7 +117,7 @@ fn tell_nulls(
     domain: &Domain<u64>,
     desk: &mut Desk<u64>,
 ) -> Option<((u32, Option<Place>, Result<u64, Refusal>), Option<u64>)>
-    requires domain { desk.old.domain ≡ domain.now.id }
+    requires domain { Belongs desk.old domain.now }
     ensures desk { IsSameDesk desk.old desk.new }
 {
     match make_null(domain, desk, 6) {
@@ -140,7 +140,7 @@ fn an_owned_null_counts(rt: HostRuntime) -> Result<(), Fail> {
 
 // Whether a weak handle is expired, and its count; then it leaves.
 fn tell_weak(domain: &Domain<u64>, desk: &mut Desk<u64>, weak: handles::Weak) -> (bool, u32)
-    requires domain { desk.old.domain ≡ domain.now.id }
+    requires domain { Belongs desk.old domain.now }
     requires holds { Holds desk.old Weak weak.block weak.place }
     ensures desk { IsSameDesk desk.old desk.new }
     ensures bag { bag_of desk.new ≡ without_handle Weak weak.block weak.place (bag_of desk.old) }
@@ -159,7 +159,7 @@ fn watch(
     desk: &mut Desk<u64>,
     owner: Shared,
 ) -> Option<((bool, u32), (bool, u32))>
-    requires domain { desk.old.domain ≡ domain.now.id }
+    requires domain { Belongs desk.old domain.now }
     requires holds { bag_of desk.old ≡ with_handle Owner owner.block owner.place [] }
     requires held { desk.old.held ≡ 1 }
     ensures desk { IsSameDesk desk.old desk.new }
@@ -203,7 +203,7 @@ fn this_of(
     desk: &mut Desk<u64>,
     owner: Shared,
 ) -> (Result<u32, Refusal>, Result<(bool, u32), Refusal>)
-    requires domain { desk.old.domain ≡ domain.now.id }
+    requires domain { Belongs desk.old domain.now }
     requires holds { bag_of desk.old ≡ with_handle Owner owner.block owner.place [] }
     requires held { desk.old.held ≡ 1 }
     ensures desk { IsSameDesk desk.old desk.new }

@@ -2,7 +2,7 @@
 ghost use Rattle.std.specs.Prelude.{◌≡◌, ◌⊎◌, ◌↔◌, ◌+◌, IfErr, IfOk, IsErr, OnOk};
 ghost use Rattle.control_word.specs.Handles.{IsPointer};
 ghost use Rattle.control_word.specs.declared.handle.Kind.TheVariants.{Owner};
-ghost use Rattle.control_block.specs.Desks.{Keeps, KeepsStock, allowance_of, bag_of, endings_of, held_of};
+ghost use Rattle.control_block.specs.Desks.{Belongs, Keeps, KeepsStock, allowance_of, bag_of, endings_of, held_of};
 ghost use Rattle.shared_handle.specs.Calls.{Holds, IsOfThis, Shares, with_handle, without_handle};
 ghost use Rattle.shared_handle.specs.Endings.{IsLeft, more_ending};
 
@@ -23,7 +23,7 @@ pub(crate) fn share_to<V: Drop + Send>(
     handle: &Shared,
     place: Option<Place>,
 ) -> Result<Shared, Refusal>
-    requires domain { desk.old.domain ≡ domain.now.id }
+    requires domain { Belongs desk.old domain.now }
     requires holds { Holds desk.old Owner handle.now.block handle.now.place }
     requires place { (place ≡ handle.now.place) ⊎ (IsOfThis handle.now.block place ⊎ IsPointer place) }
     ensures limit { IsErr result ↔ (held_of desk.old ≡ allowance_of desk.old) }
@@ -49,7 +49,7 @@ pub fn share<V: Drop + Send>(
     desk: &mut Desk<V>,
     handle: &Shared,
 ) -> Result<Shared, Refusal>
-    requires domain { desk.old.domain ≡ domain.now.id }
+    requires domain { Belongs desk.old domain.now }
     requires holds { Holds desk.old Owner handle.now.block handle.now.place }
     ensures limit { IsErr result ↔ (held_of desk.old ≡ allowance_of desk.old) }
     ensures refused { IfErr result (λ why. (why ≡ Refusal.Limit) × (desk.new ≡ desk.old)) }
@@ -71,7 +71,7 @@ pub fn alias<V: Drop + Send>(
     handle: &Shared,
     place: Option<Place>,
 ) -> Result<Shared, Refusal>
-    requires domain { desk.old.domain ≡ domain.now.id }
+    requires domain { Belongs desk.old domain.now }
     requires holds { Holds desk.old Owner handle.now.block handle.now.place }
     requires place { IsPointer place }
     ensures limit { IsErr result ↔ (held_of desk.old ≡ allowance_of desk.old) }
@@ -88,7 +88,7 @@ pub fn alias<V: Drop + Send>(
 /// An owner leaves ([util.smartptr.shared.dest]): it was `Empty`, `Others` own the object still, or it was the `Last`, and
 /// the object ends in the desk's hands.
 pub fn release<V: Drop + Send>(domain: &Domain<V>, desk: &mut Desk<V>, handle: Shared) -> Left<V>
-    requires domain { desk.old.domain ≡ domain.now.id }
+    requires domain { Belongs desk.old domain.now }
     requires holds { Holds desk.old Owner handle.block handle.place }
     ensures left { IsLeft desk.old handle.block handle.place result desk.new }
     ensures bag { bag_of desk.new ≡ without_handle Owner handle.block handle.place (bag_of desk.old) }

@@ -2,7 +2,7 @@
 ghost use Rattle.std.specs.Prelude.{◌≡◌, ◌+◌, ◌≤◌, ◌∷◌, [], IfErr, IfOk, IfSome, None, Some, length};
 ghost use Rattle.control_word.specs.declared.place.Block.{Block};
 ghost use Rattle.control_word.specs.declared.handle.Kind.TheVariants.{Owner};
-ghost use Rattle.control_block.specs.Desks.{IsSameDesk, allowance_of, bag_of, stock_of};
+ghost use Rattle.control_block.specs.Desks.{Belongs, IsSameDesk, allowance_of, bag_of, stock_of};
 ghost use Rattle.shared_handle.specs.Calls.{Holds, with_handle, without_handle};
 ghost use Rattle.shared_handle.specs.Endings.{Ends};
 
@@ -26,7 +26,7 @@ pub(crate) fn shape(blocks: u32, allowance: u32) -> Shape
 
 // A sole desk closes its domain.
 pub(crate) fn shut<V: Drop + Send>(domain: Domain<V>, desk: Desk<V>)
-    requires domain { desk.domain ≡ domain.id }
+    requires domain { Belongs desk domain }
     requires sole { allowance_of desk ≡ domain.shape.allowance }
 {
     match close(domain, desk) {
@@ -47,7 +47,7 @@ fn lose<V: Drop + Send>(left: Left<V>) {
 
 // The end of an object whose members were the last owners of none.
 pub(crate) fn bury<V: Drop + Send>(domain: &Domain<V>, desk: &mut Desk<V>, ending: Ending<V>) -> V
-    requires domain { desk.old.domain ≡ domain.now.id }
+    requires domain { Belongs desk.old domain.now }
     requires ends { Ends desk.old ending }
     ensures value { result ≡ ending.value }
     ensures desk { IsSameDesk desk.old desk.new }
@@ -70,7 +70,7 @@ pub(crate) fn end<V: Drop + Send>(
     desk: &mut Desk<V>,
     handle: Shared,
 ) -> Option<V>
-    requires domain { desk.old.domain ≡ domain.now.id }
+    requires domain { Belongs desk.old domain.now }
     requires holds { Holds desk.old Owner handle.block handle.place }
     ensures desk { IsSameDesk desk.old desk.new }
     ensures bag { bag_of desk.new ≡ without_handle Owner handle.block handle.place (bag_of desk.old) }
@@ -88,7 +88,7 @@ pub(crate) fn leave_others<V: Drop + Send>(
     desk: &mut Desk<V>,
     handle: Shared,
 ) -> bool
-    requires domain { desk.old.domain ≡ domain.now.id }
+    requires domain { Belongs desk.old domain.now }
     requires holds { Holds desk.old Owner handle.block handle.place }
     ensures desk { IsSameDesk desk.old desk.new }
     ensures bag { bag_of desk.new ≡ without_handle Owner handle.block handle.place (bag_of desk.old) }
@@ -106,7 +106,7 @@ pub(crate) fn leave_others<V: Drop + Send>(
 
 // An owner leaves, and its object ends where it was the last. 1 where it was.
 pub(crate) fn leave(domain: &Domain<u64>, desk: &mut Desk<u64>, handle: &mut Option<Shared>) -> u64
-    requires domain { desk.old.domain ≡ domain.now.id }
+    requires domain { Belongs desk.old domain.now }
     requires held { IfSome handle.old (λ h. Holds desk.old Owner h.block h.place) }
     ensures desk { IsSameDesk desk.old desk.new }
     ensures spent { handle.new ≡ None }
@@ -126,7 +126,7 @@ pub(crate) fn leave(domain: &Domain<u64>, desk: &mut Desk<u64>, handle: &mut Opt
 // A new object with two owners, or none.
 #[tactic(auto, using(crate::proofs::Taken::first_out))]
 pub(crate) fn two_owners(domain: &Domain<u64>, desk: &mut Desk<u64>) -> Option<(Shared, Shared)>
-    requires domain { desk.old.domain ≡ domain.now.id }
+    requires domain { Belongs desk.old domain.now }
     ensures desk { IsSameDesk desk.old desk.new }
     ensures bag { IfSome result (λ r. bag_of desk.new ≡ with_handle Owner r.1.block r.1.place (with_handle Owner r.0.block r.0.place (bag_of desk.old))) }
     ensures real { IfSome result (λ r. (b : Block) × (r.0.block ≡ Some b)) }
@@ -155,7 +155,7 @@ pub(crate) fn hand_over(
     blocks: u32,
     handle: Shared,
 ) -> Result<(Desk<u64>, Shared), Shared>
-    requires domain { desk.old.domain ≡ domain.now.id }
+    requires domain { Belongs desk.old domain.now }
     requires held { Holds desk.old Owner handle.block handle.place }
     requires blocks { blocks ≤ length (stock_of desk.old) }
     ensures one { (desk.new.domain ≡ desk.old.domain) × (desk.new.shape ≡ desk.old.shape) × (desk.new.name ≡ desk.old.name) }

@@ -1,6 +1,6 @@
 ghost use Rattle.std.specs.Prelude.{◌≡◌, []};
 ghost use Rattle.control_word.specs.declared.handle.Kind.TheVariants.{Owner};
-ghost use Rattle.control_block.specs.Desks.{IsSameDesk, bag_of};
+ghost use Rattle.control_block.specs.Desks.{Belongs, IsSameDesk, bag_of};
 ghost use Rattle.shared_handle.specs.Calls.{Holds, with_handle};
 ghost use Rattle.shared_handle.specs.Endings.{Ends};
 
@@ -18,7 +18,7 @@ fn at_the_allowance(
     desk: &mut Desk<u64>,
     owner: &Shared,
 ) -> (Option<Refusal>, u32, Option<(Refusal, u64)>)
-    requires domain { desk.old.domain ≡ domain.now.id }
+    requires domain { Belongs desk.old domain.now }
     requires holds { Holds desk.old Owner owner.now.block owner.now.place }
     ensures desk { IsSameDesk desk.old desk.new }
     ensures bag { bag_of desk.new ≡ bag_of desk.old }
@@ -51,7 +51,7 @@ fn below_the_allowance(
     owner: &Shared,
     other: Shared,
 ) -> (bool, Option<(Refusal, u64)>, bool)
-    requires domain { desk.old.domain ≡ domain.now.id }
+    requires domain { Belongs desk.old domain.now }
     requires holds { bag_of desk.old ≡ with_handle Owner other.block other.place (with_handle Owner owner.now.block owner.now.place []) }
     requires held { desk.old.held ≡ 2 }
     ensures desk { IsSameDesk desk.old desk.new }
@@ -83,7 +83,7 @@ type BelowAllowance = (bool, Option<(Refusal, u64)>, bool);
 // One block and an allowance of 2, both used up.
 #[tactic(auto, using(crate::proofs::Taken::first_out))]
 fn use_all(domain: &Domain<u64>, desk: &mut Desk<u64>) -> Option<(AtAllowance, BelowAllowance)>
-    requires domain { desk.old.domain ≡ domain.now.id }
+    requires domain { Belongs desk.old domain.now }
     requires fresh { (bag_of desk.old ≡ []) × (desk.old.held ≡ 0) }
     ensures desk { IsSameDesk desk.old desk.new }
 {
@@ -119,7 +119,7 @@ fn last_words(
     desk: &mut Desk<u64>,
     ending: &Ending<u64>,
 ) -> ([u64; 4], bool, bool, Option<Refusal>)
-    requires domain { desk.old.domain ≡ domain.now.id }
+    requires domain { Belongs desk.old domain.now }
     requires ends { Ends desk.old ending.now }
     ensures same { desk.new ≡ desk.old }
 {
@@ -139,7 +139,7 @@ fn end_with_a_weak_handle(
     desk: &mut Desk<u64>,
     owner: Shared,
 ) -> Option<([u64; 4], bool, Option<Refusal>, bool, u64, u32, u32)>
-    requires domain { desk.old.domain ≡ domain.now.id }
+    requires domain { Belongs desk.old domain.now }
     requires holds { Holds desk.old Owner owner.block owner.place }
     ensures desk { IsSameDesk desk.old desk.new }
 {

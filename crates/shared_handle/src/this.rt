@@ -1,7 +1,7 @@
 //! Pointers that an object gives to itself ([util.smartptr.enab]).
 ghost use Rattle.std.specs.Prelude.{◌≡◌, ◌+◌, IfErr, IfOk, OnOk};
 ghost use Rattle.control_word.specs.declared.handle.Kind.TheVariants.{Owner, Weak};
-ghost use Rattle.control_block.specs.Desks.{Keeps, bag_of};
+ghost use Rattle.control_block.specs.Desks.{Belongs, Keeps, bag_of};
 ghost use Rattle.shared_handle.specs.Calls.{Holds, IsOfThis, Shares, SharesWeakly, with_handle};
 ghost use Rattle.shared_handle.specs.Endings.{IsThis, MayGiveThis, WhyNotThis};
 
@@ -21,7 +21,7 @@ fn this_block<V: Drop + Send>(
     desk: &mut Desk<V>,
     handle: &Shared,
 ) -> Result<Block, Refusal>
-    requires domain { desk.old.domain ≡ domain.now.id }
+    requires domain { Belongs desk.old domain.now }
     requires holds { Holds desk.old Owner handle.now.block handle.now.place }
     ensures this { IsThis desk.old handle.now.block handle.now.place result }
     ensures same { desk.new ≡ desk.old }
@@ -45,7 +45,7 @@ pub fn shared_from_this<V: Drop + Send>(
     desk: &mut Desk<V>,
     handle: &Shared,
 ) -> Result<Shared, Refusal>
-    requires domain { desk.old.domain ≡ domain.now.id }
+    requires domain { Belongs desk.old domain.now }
     requires holds { Holds desk.old Owner handle.now.block handle.now.place }
     ensures refused { IfErr result (λ why. WhyNotThis desk.old handle.now.block handle.now.place why × (desk.new ≡ desk.old)) }
     ensures may { OnOk result (MayGiveThis desk.old handle.now.block handle.now.place) }
@@ -66,7 +66,7 @@ pub fn weak_from_this<V: Drop + Send>(
     desk: &mut Desk<V>,
     handle: &Shared,
 ) -> Result<handles::Weak, Refusal>
-    requires domain { desk.old.domain ≡ domain.now.id }
+    requires domain { Belongs desk.old domain.now }
     requires holds { Holds desk.old Owner handle.now.block handle.now.place }
     ensures refused { IfErr result (λ why. WhyNotThis desk.old handle.now.block handle.now.place why × (desk.new ≡ desk.old)) }
     ensures may { OnOk result (MayGiveThis desk.old handle.now.block handle.now.place) }

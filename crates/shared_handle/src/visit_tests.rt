@@ -1,6 +1,6 @@
 ghost use Rattle.std.specs.Prelude.{◌≡◌};
 ghost use Rattle.control_word.specs.declared.handle.Kind.TheVariants.{Owner};
-ghost use Rattle.control_block.specs.Desks.{IsSameDesk, bag_of};
+ghost use Rattle.control_block.specs.Desks.{Belongs, IsSameDesk, bag_of};
 ghost use Rattle.shared_handle.specs.Calls.{Holds};
 
 use crate::race_tests::two_desks;
@@ -21,7 +21,7 @@ fn visit_twice<W: Wait>(
     desk: &mut Desk<u64>,
     owner: Shared,
 ) -> (Option<Refusal>, Option<u64>, Option<u64>)
-    requires domain { desk.old.domain ≡ domain.now.id }
+    requires domain { Belongs desk.old domain.now }
     requires holds { Holds desk.old Owner owner.block owner.place }
     ensures desk { IsSameDesk desk.old desk.new }
 {
@@ -35,7 +35,7 @@ fn visit_twice<W: Wait>(
 
 // A thousand visits, each of which adds 1: how many were answered.
 fn visit_often<W: Wait>(rt: &W, domain: &Domain<u64>, desk: &mut Desk<u64>, owner: &Shared) -> u32
-    requires domain { desk.old.domain ≡ domain.now.id }
+    requires domain { Belongs desk.old domain.now }
     requires holds { Holds desk.old Owner owner.now.block owner.now.place }
     ensures desk { IsSameDesk desk.old desk.new }
     ensures bag { bag_of desk.new ≡ bag_of desk.old }
@@ -62,7 +62,7 @@ fn both_visit<R: Threads + Wait + Sync>(
     two: &mut Desk<u64>,
     y: &Shared,
 ) -> (u32, u32)
-    requires domain { (one.old.domain ≡ domain.now.id) × (two.old.domain ≡ domain.now.id) }
+    requires domain { Belongs one.old domain.now × Belongs two.old domain.now }
     requires held { Holds one.old Owner x.now.block x.now.place × Holds two.old Owner y.now.block y.now.place }
     ensures one { IsSameDesk one.old one.new }
     ensures one_bag { bag_of one.new ≡ bag_of one.old }
@@ -85,7 +85,7 @@ fn round<R: Threads + Wait + Sync>(
     domain: &Domain<u64>,
     one: &mut Desk<u64>,
 ) -> Option<((u32, u32), bool, Option<u64>)>
-    requires domain { one.old.domain ≡ domain.now.id }
+    requires domain { Belongs one.old domain.now }
     ensures one { IsSameDesk one.old one.new }
 {
     let (mut two, x, y) = two_desks(domain, one, alloc)?;

@@ -2,7 +2,7 @@
 ghost use Rattle.std.specs.Prelude.{◌≡◌};
 ghost use Rattle.std.specs.Fn.{FnOnceReturnsAtMut};
 ghost use Rattle.control_word.specs.declared.handle.Kind.TheVariants.{Owner};
-ghost use Rattle.control_block.specs.Desks.{Keeps, bag_of};
+ghost use Rattle.control_block.specs.Desks.{Belongs, Keeps, bag_of};
 ghost use Rattle.shared_handle.specs.Calls.{Holds};
 ghost use Rattle.shared_handle.specs.Visits.{IsVisit};
 
@@ -25,7 +25,7 @@ pub fn visit<V: Drop + Send, R, F: FnOnce(&mut V) -> R, W: Wait>(
     handle: &Shared,
     f: F,
 ) -> Result<R, Refused<F>>
-    requires domain { desk.old.domain ≡ domain.now.id }
+    requires domain { Belongs desk.old domain.now }
     requires holds { Holds desk.old Owner handle.now.block handle.now.place }
     requires callable { F.IsAlwaysCallable f }
     ensures visit { IsVisit (λ was r becomes. FnOnceReturnsAtMut F.FnOnce f was r becomes) f desk.old handle.now.block handle.now.place result desk.new }

@@ -1,7 +1,7 @@
 //! What a weak handle tells.
 ghost use Rattle.std.specs.Prelude.{◌≡◌};
 ghost use Rattle.control_word.specs.declared.handle.Kind.TheVariants.{Weak};
-ghost use Rattle.control_block.specs.Desks.{Keeps, bag_of};
+ghost use Rattle.control_block.specs.Desks.{Belongs, Keeps, bag_of};
 ghost use Rattle.shared_handle.specs.Calls.{Holds, IsCount, IsExpiry};
 
 use crate::ordering::HasOwner;
@@ -26,7 +26,7 @@ pub fn use_count_weak<V: Drop + Send>(
     desk: &mut Desk<V>,
     handle: &handles::Weak,
 ) -> u32
-    requires domain { desk.old.domain ≡ domain.now.id }
+    requires domain { Belongs desk.old domain.now }
     requires holds { Holds desk.old Weak handle.now.block handle.now.place }
     ensures count { IsCount desk.old Weak handle.now.block handle.now.place result desk.new }
     ensures bag { bag_of desk.new ≡ bag_of desk.old }
@@ -46,7 +46,7 @@ pub fn expired<V: Drop + Send>(
     desk: &mut Desk<V>,
     handle: &handles::Weak,
 ) -> bool
-    requires domain { desk.old.domain ≡ domain.now.id }
+    requires domain { Belongs desk.old domain.now }
     requires holds { Holds desk.old Weak handle.now.block handle.now.place }
     ensures expired { IsExpiry desk.old handle.now.block handle.now.place result desk.new }
     ensures bag { bag_of desk.new ≡ bag_of desk.old }

@@ -1,7 +1,7 @@
 //! Weak pointers ([util.smartptr.weak]).
 ghost use Rattle.std.specs.Prelude.{◌≡◌, ◌↔◌, ◌+◌, Bool, cond, length, IfErr, IfOk, IsErr, OnOk};
 ghost use Rattle.control_word.specs.declared.handle.Kind.TheVariants.{Weak};
-ghost use Rattle.control_block.specs.Desks.{IsSameDesk, Keeps, KeepsEndings, allowance_of, bag_of, endings_of, held_of, stock_of};
+ghost use Rattle.control_block.specs.Desks.{Belongs, IsSameDesk, Keeps, KeepsEndings, allowance_of, bag_of, endings_of, held_of, stock_of};
 ghost use Rattle.shared_handle.specs.Calls.{Holds, LeavesWeakly, SharesWeakly, weak_place, with_handle, without_handle};
 
 use control_block::desk::Desk;
@@ -20,7 +20,7 @@ pub fn share_weak<V: Drop + Send>(
     desk: &mut Desk<V>,
     handle: &handles::Weak,
 ) -> Result<handles::Weak, Refusal>
-    requires domain { desk.old.domain ≡ domain.now.id }
+    requires domain { Belongs desk.old domain.now }
     requires holds { Holds desk.old Weak handle.now.block handle.now.place }
     ensures limit { IsErr result ↔ (held_of desk.old ≡ allowance_of desk.old) }
     ensures refused { IfErr result (λ why. (why ≡ Refusal.Limit) × (desk.new ≡ desk.old)) }
@@ -40,7 +40,7 @@ pub fn share_weak<V: Drop + Send>(
 /// A weak pointer leaves ([util.smartptr.weak.dest]). Where it was the last handle of an object that is gone, its block
 /// is vacant, and in the desk's store.
 pub fn release_weak<V: Drop + Send>(domain: &Domain<V>, desk: &mut Desk<V>, handle: handles::Weak)
-    requires domain { desk.old.domain ≡ domain.now.id }
+    requires domain { Belongs desk.old domain.now }
     requires holds { Holds desk.old Weak handle.block handle.place }
     ensures event { (vacant : Bool) × LeavesWeakly desk.old handle.block handle.place vacant desk.new × (length (stock_of desk.new) ≡ length (stock_of desk.old) + cond vacant 1 0) }
     ensures bag { bag_of desk.new ≡ without_handle Weak handle.block handle.place (bag_of desk.old) }

@@ -15,7 +15,7 @@ count-requires-clause-holds g c =
 pub count-requires-clause-word : goal.count-requires-clause-word
 count-requires-clause-word g c =
     word_inside c.desk.inside c.domain.inside.table.shared.table_id g.A.About.kind _ g.A.About.place c.args.of.block.0 0 c.desk.invariant
-    (ap (λ z. z.domain) c.desk.view_is ∙ (c.requires.domain ∙ sym (ap (λ z. z.id) c.domain.view_is)))
+    (ap (λ z. z.domain) c.desk.view_is ∙ (c.requires.domain.table ∙ sym (ap (λ z. z.id) c.domain.view_is)))
     (holding_in c.desk.inside c.args.desk.now g.A.About.kind g.A.About.place c.args.of.block.0 c.desk.invariant c.desk.view_is c.requires.holds)
     (omega arith)
 

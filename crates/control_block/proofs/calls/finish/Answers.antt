@@ -28,7 +28,7 @@ finish-vacant-requires-clause-clear g c = clear_in c.desk.inside c.args.desk.now
 pub finish-vacant-requires-clause-word : goal.finish-vacant-requires-clause-word
 finish-vacant-requires-clause-word g c =
     ending_word c.desk.inside c.domain.inside.table.shared.table_id c.args.block.0 1 c.desk.invariant
-    (ap (λ z. z.domain) c.desk.view_is ∙ (c.requires.domain ∙ sym (ap (λ z. z.id) c.domain.view_is)))
+    (ap (λ z. z.domain) c.desk.view_is ∙ (c.requires.domain.table ∙ sym (ap (λ z. z.id) c.domain.view_is)))
     (ends_in c.desk.inside c.args.desk.now c.args.block.0 c.requires.ending.0 c.desk.view_is c.requires.ending.1) (omega arith)
 
 pub put_by-requires : goal.put_by-requires

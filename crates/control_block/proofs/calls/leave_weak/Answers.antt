@@ -23,7 +23,7 @@ leave_weak-vacant-requires-clause-holds g c = holding_in c.desk.inside c.args.de
 pub leave_weak-vacant-requires-clause-word : goal.leave_weak-vacant-requires-clause-word
 leave_weak-vacant-requires-clause-word g c =
     word_inside c.desk.inside c.domain.inside.table.shared.table_id Weak _ g.A.About.place c.args.of.block.0 1 c.desk.invariant
-    (ap (λ z. z.domain) c.desk.view_is ∙ (c.requires.domain ∙ sym (ap (λ z. z.id) c.domain.view_is)))
+    (ap (λ z. z.domain) c.desk.view_is ∙ (c.requires.domain.table ∙ sym (ap (λ z. z.id) c.domain.view_is)))
     (holding_in c.desk.inside c.args.desk.now Weak g.A.About.place c.args.of.block.0 c.desk.invariant c.desk.view_is c.requires.holds) (omega arith)
 
 pub overflow_sub-desk : goal.overflow_sub-desk

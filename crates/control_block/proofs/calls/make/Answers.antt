@@ -25,7 +25,7 @@ make-requires-clause-stored g c = λ _ _. last_stored c.desk.inside c.desk.invar
 pub make-requires-clause-word : goal.make-requires-clause-word
 make-requires-clause-word g c = λ _ _.
     stored_word c.desk.inside c.desk.invariant c.domain.inside.table.shared.table_id c.in-Some.block.0
-    (ap (λ z. z.domain) c.desk.view_is ∙ (c.requires.domain ∙ sym (ap (λ z. z.id) c.domain.view_is)))
+    (ap (λ z. z.domain) c.desk.view_is ∙ (c.requires.domain.table ∙ sym (ap (λ z. z.id) c.domain.view_is)))
     (last_stored c.desk.inside c.desk.invariant c.pop.new.self.items c.in-Some.block c.in-Some.ensures.items)
 
 pub make-requires-clause-room : goal.make-requires-clause-room

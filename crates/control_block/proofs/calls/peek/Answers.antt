@@ -11,7 +11,7 @@ pub peek-requires-clause-word : goal.peek-requires-clause-word
 peek-requires-clause-word g c =
     let low = c.requires.word in
     let w = near_word c.desk.inside c.domain.inside.table.shared.table_id c.args.block.0 (2 + c.args.word) c.desk.invariant
-    (ap (λ z. z.domain) c.desk.view_is ∙ (c.requires.domain ∙ sym (ap (λ z. z.id) c.domain.view_is)))
+    (ap (λ z. z.domain) c.desk.view_is ∙ (c.requires.domain.table ∙ sym (ap (λ z. z.id) c.domain.view_is)))
     (near_in c.desk.inside c.args.desk.now c.args.block.0 c.desk.invariant c.desk.view_is c.requires.near) (omega arith) in
     (w.0, low, refl, w.1)
 

@@ -18,7 +18,7 @@ read-requires-clause-word g c =
     let low = field_low c.desk.inside c.args.desk.now c.args.place c.desk.invariant c.desk.view_is c.requires.holds in
     let w = word_inside c.desk.inside c.domain.inside.table.shared.table_id Owner _ (Some c.args.place) c.args.place.block.0
     (3 + c.args.place.field) c.desk.invariant
-    (ap (λ z. z.domain) c.desk.view_is ∙ (c.requires.domain ∙ sym (ap (λ z. z.id) c.domain.view_is)))
+    (ap (λ z. z.domain) c.desk.view_is ∙ (c.requires.domain.table ∙ sym (ap (λ z. z.id) c.domain.view_is)))
     (holding_in c.desk.inside c.args.desk.now Owner (Some c.args.place) c.args.place.block.0 c.desk.invariant c.desk.view_is c.requires.holds)
     (omega arith) in
     (w.0, low, w.1)

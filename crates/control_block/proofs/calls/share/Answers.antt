@@ -18,7 +18,7 @@ share-requires-clause-holds g c =
 pub share-requires-clause-word : goal.share-requires-clause-word
 share-requires-clause-word g c =
     word_inside c.desk.inside c.domain.inside.table.shared.table_id Owner _ g.A.About.place c.args.of.block.0 0 c.desk.invariant
-    (ap (λ z. z.domain) c.desk.view_is ∙ (c.requires.domain ∙ sym (ap (λ z. z.id) c.domain.view_is)))
+    (ap (λ z. z.domain) c.desk.view_is ∙ (c.requires.domain.table ∙ sym (ap (λ z. z.id) c.domain.view_is)))
     (holding_in c.desk.inside c.args.desk.now Owner g.A.About.place c.args.of.block.0 c.desk.invariant c.desk.view_is c.requires.holds) (omega arith)
 
 pub share-requires-clause-wanted : goal.share-requires-clause-wanted

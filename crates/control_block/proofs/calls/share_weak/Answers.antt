@@ -18,7 +18,7 @@ share_weak-requires-clause-may g c = may_in c.desk.inside c.args.desk.now c.args
 pub share_weak-requires-clause-word : goal.share_weak-requires-clause-word
 share_weak-requires-clause-word g c =
     may_word c.desk.inside c.domain.inside.table.shared.table_id c.args.block.0 g.A.About.wanted c.desk.invariant
-    (ap (λ z. z.domain) c.desk.view_is ∙ (c.requires.domain ∙ sym (ap (λ z. z.id) c.domain.view_is)))
+    (ap (λ z. z.domain) c.desk.view_is ∙ (c.requires.domain.table ∙ sym (ap (λ z. z.id) c.domain.view_is)))
     (may_in c.desk.inside c.args.desk.now c.args.block.0 g.A.About.wanted c.desk.invariant c.desk.view_is c.requires.may)
 
 pub share_weak-requires-clause-room : goal.share_weak-requires-clause-room

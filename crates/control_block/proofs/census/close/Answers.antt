@@ -5,10 +5,10 @@ use Rattle.control_word.specs.Layout.{spot}
 use Rattle.control_word.specs.Packing.{number_of}
 use Rattle.control_word.specs.State.{InShape}
 use Rattle.control_block.specs.Census.{CensusNow, EndsNot, Tells}
-use Rattle.control_block.specs.Desks.{DeskNow, allowance_of, state_of}
+use Rattle.control_block.specs.Desks.{DeskNow, allowance_of, endings_of, state_of}
 use Rattle.control_block.specs.Plays.{known}
 use Rattle.control_block.specs.Rule.{opening_of}
-use Rattle.control_block.proofs.Closing.{exact_counts, tells_of}
+use Rattle.control_block.proofs.Closing.{exact_counts, nothing_ends, tells_of}
 use Rattle.control_block.proofs.census.close.Goals as goal
 
 pub returns-clause-census : goal.returns-clause-census
@@ -30,3 +30,16 @@ returns-clause-census g c =
           (tells_of (opening_of v.shape) (known v) b n (sound (opening_of v.shape) v.view.seen h.legal) still'
           (ap (λ l. number_of (slice_index l (spot b 0))) (sym f.2) ∙ e.0) (ap (λ l. number_of (slice_index l (spot b 1))) (sym f.2) ∙ e.1));
     }
+
+pub returns-clause-whole : goal.returns-clause-whole
+returns-clause-whole g c = λ none b lo hi.
+    let d = c.desk.inside in let v = d.seat.me.0 in let f = c.close_with.ensures.values.2 in
+    let told = c.domain.invariant.told ∙ ap (λ z. z.shape) c.domain.view_is in
+    let shape = f.1.0.shapes d.seat.id v f.1.1 c.desk.invariant.rests.awake ∙ told in
+    let whole : (known v).allowance v.view.name ≡ v.shape.allowance =
+    ap (allowance_of {V = g.row.V.Denot}) c.desk.view_is ∙ (c.if-not-is_sole.ensures.0 refl ∙ ap (λ y. y.allowance) (sym shape)) in
+    let none' = ap (endings_of {V = g.row.V.Denot}) c.desk.view_is ∙ none in
+    let still : EndsNot (known v) b =
+    nothing_ends (opening_of v.shape) v.view.seen c.desk.invariant.legal v.view.name whole none' b
+    (lo, subst (λ y. b ≤ y.blocks) (sym shape) hi) in
+    (returns-clause-census g c).tells b lo hi (subst (λ (y : DeskNow g.row.V.Denot). EndsNot (state_of y) b) c.desk.view_is still)

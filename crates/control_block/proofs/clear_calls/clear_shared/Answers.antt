@@ -24,7 +24,7 @@ use Rattle.control_block.proofs.clear_calls.clear_shared.Goals as goal
 
 pub clear-out-requires-clause-word : goal.clear-out-requires-clause-word
 clear-out-requires-clause-word g c =
-    let w = ending_word c.desk.inside c.domain.inside.table.shared.table_id c.args.block.0 (7 + c.args.member) c.desk.invariant (ap (λ z. z.domain) c.desk.view_is ∙ (c.requires.domain ∙ sym (ap (λ z. z.id) c.domain.view_is)))
+    let w = ending_word c.desk.inside c.domain.inside.table.shared.table_id c.args.block.0 (7 + c.args.member) c.desk.invariant (ap (λ z. z.domain) c.desk.view_is ∙ (c.requires.domain.table ∙ sym (ap (λ z. z.id) c.domain.view_is)))
     (ends_in c.desk.inside c.args.desk.now c.args.block.0 c.requires.ending.0 c.desk.view_is c.requires.ending.1) (let lt = c.requires.member in omega arith) in
     (w.0, (let lt = c.requires.member in omega arith), refl, w.1)
 
@@ -125,7 +125,7 @@ leave_out-value-requires-clause-word g c = λ _ _.
     let mid : IsDeskWith 1 t = clear.desk_out d h b m ends Owner t x n.cleared n.chair.0 1 n.chair.2.none refl refl refl (omega (arith, h.holding, few)) (omega (arith, h.within)) in
     let holds = (came_object (λ y. ClearMember (clear.o d h b m ends Owner t x n.cleared n.chair.0) m y) Owner d.seat.me.0 w x (empty Owner) a
     (clear_trades g.row.V.Denot (clear.o d h b m ends Owner t x n.cleared n.chair.0) m Owner) n.cleared c.in-Some.is).1 in
-    let id = c.domain.inside.table.shared.table_id in let table = n.chair.0 ∙ (ap (λ z. z.domain) c.desk.view_is ∙ (c.requires.domain ∙ sym (ap (λ z. z.id) c.domain.view_is))) in
+    let id = c.domain.inside.table.shared.table_id in let table = n.chair.0 ∙ (ap (λ z. z.domain) c.desk.view_is ∙ (c.requires.domain.table ∙ sym (ap (λ z. z.id) c.domain.view_is))) in
     let i = c.domain.invariant in let k = ap (λ y. y.blocks) i.told in
     let q = word_inside t id Owner _ p a.0 0 mid table holds (omega arith) in let s = slot_inside t id Owner _ p a.0 mid table holds in
     (q.0, omega (arith, i.sized.slots), q.1)

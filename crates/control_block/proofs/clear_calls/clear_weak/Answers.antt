@@ -19,7 +19,7 @@ use Rattle.control_block.proofs.clear_calls.clear_weak.Goals as goal
 
 pub clear-out-requires-clause-word : goal.clear-out-requires-clause-word
 clear-out-requires-clause-word g c =
-    let w = ending_word c.desk.inside c.domain.inside.table.shared.table_id c.args.block.0 9 c.desk.invariant (ap (λ z. z.domain) c.desk.view_is ∙ (c.requires.domain ∙ sym (ap (λ z. z.id) c.domain.view_is)))
+    let w = ending_word c.desk.inside c.domain.inside.table.shared.table_id c.args.block.0 9 c.desk.invariant (ap (λ z. z.domain) c.desk.view_is ∙ (c.requires.domain.table ∙ sym (ap (λ z. z.id) c.domain.view_is)))
     (ends_in c.desk.inside c.args.desk.now c.args.block.0 c.requires.ending.0 c.desk.view_is c.requires.ending.1) (omega arith) in
     (w.0, (omega arith), refl, w.1)
 
@@ -120,7 +120,7 @@ leave_weak_out-vacant-requires-clause-word g c = λ _ _.
     let mid : IsDeskWith 1 t = clear.desk_out d h b m ends Weak t x n.cleared n.chair.0 1 n.chair.2.none refl refl refl (omega (arith, h.holding, few)) (omega (arith, h.within)) in
     let holds = (came_object (λ y. ClearMember (clear.o d h b m ends Weak t x n.cleared n.chair.0) m y) Weak d.seat.me.0 w x (empty Weak) a
     (clear_trades g.row.V.Denot (clear.o d h b m ends Weak t x n.cleared n.chair.0) m Weak) n.cleared c.in-Some.is).1 in
-    word_inside t c.domain.inside.table.shared.table_id Weak _ p a.0 1 mid (n.chair.0 ∙ (ap (λ z. z.domain) c.desk.view_is ∙ (c.requires.domain ∙ sym (ap (λ z. z.id) c.domain.view_is)))) holds (omega arith)
+    word_inside t c.domain.inside.table.shared.table_id Weak _ p a.0 1 mid (n.chair.0 ∙ (ap (λ z. z.domain) c.desk.view_is ∙ (c.requires.domain.table ∙ sym (ap (λ z. z.id) c.domain.view_is)))) holds (omega arith)
 
 pub leave_weak_out-vacant-requires-clause-holds : goal.leave_weak_out-vacant-requires-clause-holds
 leave_weak_out-vacant-requires-clause-holds g c = λ _ _.

@@ -18,7 +18,7 @@ lock-requires-clause-holds g c =
 pub lock-requires-clause-word : goal.lock-requires-clause-word
 lock-requires-clause-word g c =
     word_inside c.desk.inside c.domain.inside.table.shared.table_id Weak _ g.A.About.place c.args.of.block.0 0 c.desk.invariant
-    (ap (λ z. z.domain) c.desk.view_is ∙ (c.requires.domain ∙ sym (ap (λ z. z.id) c.domain.view_is)))
+    (ap (λ z. z.domain) c.desk.view_is ∙ (c.requires.domain.table ∙ sym (ap (λ z. z.id) c.domain.view_is)))
     (holding_in c.desk.inside c.args.desk.now Weak g.A.About.place c.args.of.block.0 c.desk.invariant c.desk.view_is c.requires.holds) (omega arith)
 
 pub invariant_of-desk : goal.invariant_of-desk

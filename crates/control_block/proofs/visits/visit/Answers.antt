@@ -18,7 +18,7 @@ use Rattle.control_block.proofs.visits.visit.Goals as goal
 pub shut-value-requires-clause-word : goal.shut-value-requires-clause-word
 shut-value-requires-clause-word g c = λ _ _.
     word_inside c.desk.inside c.domain.inside.table.shared.table_id Owner _ g.A.About.place c.args.of.block.0 2 c.desk.invariant
-    (ap (λ z. z.domain) c.desk.view_is ∙ (c.requires.domain ∙ sym (ap (λ z. z.id) c.domain.view_is)))
+    (ap (λ z. z.domain) c.desk.view_is ∙ (c.requires.domain.table ∙ sym (ap (λ z. z.id) c.domain.view_is)))
     (holding_in c.desk.inside c.args.desk.now Owner g.A.About.place c.args.of.block.0 c.desk.invariant c.desk.view_is c.requires.holds) (omega arith)
 
 pub shut-value-requires-clause-holds : goal.shut-value-requires-clause-holds
@@ -31,7 +31,7 @@ shut-value-requires-clause-holds g c = λ _ _. (
 pub open-requires-clause-word : goal.open-requires-clause-word
 open-requires-clause-word g c = λ _ _.
     let w = word_inside c.desk.inside c.domain.inside.table.shared.table_id Owner _ g.A.About.place c.args.of.block.0 2 c.desk.invariant
-    (ap (λ z. z.domain) c.desk.view_is ∙ (c.requires.domain ∙ sym (ap (λ z. z.id) c.domain.view_is)))
+    (ap (λ z. z.domain) c.desk.view_is ∙ (c.requires.domain.table ∙ sym (ap (λ z. z.id) c.domain.view_is)))
     (holding_in c.desk.inside c.args.desk.now Owner g.A.About.place c.args.of.block.0 c.desk.invariant c.desk.view_is c.requires.holds) (omega arith) in
     (w.0, refl, w.1)
 

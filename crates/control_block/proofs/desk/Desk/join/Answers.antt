@@ -24,34 +24,34 @@ use Rattle.control_block.proofs.desk.Desk.join.Goals as goal
 pub append_all-requires : goal.append_all-requires
 append_all-requires g c =
     let d = c.self.inside in let o = c.other.inside in let h = c.self.invariant in let k = c.other.invariant in
-    let shapes = ap (λ z. z.shape) c.other.view_is ∙ (c.requires.domain.2 ∙ sym (ap (λ z. z.shape) c.self.view_is)) in
+    let shapes = joining.same_shapes _ _ _ _ _ c.self.view_is c.other.view_is c.requires.domain in
     let u = c.join.new.chair.me.0 in let j = c.join.ensures.event in
     let few = joining.stock_most d o h k shapes u j in let sum = joining.stock_sum d o h k shapes u j in
     omega (arith, h.room, h.many, k.many, ap length c.as_slice.ensures.value)
 
 pub overflow_add-self : goal.overflow_add-self
 overflow_add-self g c =
-    let shapes = ap (λ z. z.shape) c.other.view_is ∙ (c.requires.domain.2 ∙ sym (ap (λ z. z.shape) c.self.view_is)) in
+    let shapes = joining.same_shapes _ _ _ _ _ c.self.view_is c.other.view_is c.requires.domain in
     let u = c.join.new.chair.me.0 in let j = c.join.ensures.event in
     let few = joining.allowance_few c.self.inside c.other.inside c.self.invariant c.other.invariant shapes u j in omega arith
 
 pub overflow_add-self-2 : goal.overflow_add-self-2
 overflow_add-self-2 g c =
-    let shapes = ap (λ z. z.shape) c.other.view_is ∙ (c.requires.domain.2 ∙ sym (ap (λ z. z.shape) c.self.view_is)) in
+    let shapes = joining.same_shapes _ _ _ _ _ c.self.view_is c.other.view_is c.requires.domain in
     let u = c.join.new.chair.me.0 in let j = c.join.ensures.event in
     let few = joining.allowance_few c.self.inside c.other.inside c.self.invariant c.other.invariant shapes u j in
     omega (arith, c.self.invariant.within, c.other.invariant.within)
 
 pub overflow_add-self-3 : goal.overflow_add-self-3
 overflow_add-self-3 g c =
-    let shapes = ap (λ z. z.shape) c.other.view_is ∙ (c.requires.domain.2 ∙ sym (ap (λ z. z.shape) c.self.view_is)) in
+    let shapes = joining.same_shapes _ _ _ _ _ c.self.view_is c.other.view_is c.requires.domain in
     let u = c.join.new.chair.me.0 in let j = c.join.ensures.event in
     let few = joining.endings_few c.self.inside c.other.inside c.self.invariant c.other.invariant shapes u j in omega arith
 
 pub returns-clause-count : goal.returns-clause-count
 returns-clause-count g c =
     let d = c.self.inside in let o = c.other.inside in let h = c.self.invariant in let k = c.other.invariant in
-    let shapes = ap (λ z. z.shape) c.other.view_is ∙ (c.requires.domain.2 ∙ sym (ap (λ z. z.shape) c.self.view_is)) in
+    let shapes = joining.same_shapes _ _ _ _ _ c.self.view_is c.other.view_is c.requires.domain in
     let u = c.join.new.chair.me.0 in let j = c.join.ensures.event in
     ap (many_ending u.shape.blocks (known u)) (joining.name d o h k shapes u j) ∙ (joining.endings_after d o h k shapes u j
     ∙ ((λ i. h.ended i + k.ended i) ∙ (λ i. endings_of (c.self.view_is i) + endings_of (c.other.view_is i))))
@@ -59,7 +59,7 @@ returns-clause-count g c =
 pub invariant_of-self : goal.invariant_of-self
 invariant_of-self g c =
     let d = c.self.inside in let o = c.other.inside in let h = c.self.invariant in let k = c.other.invariant in
-    let shapes = ap (λ z. z.shape) c.other.view_is ∙ (c.requires.domain.2 ∙ sym (ap (λ z. z.shape) c.self.view_is)) in
+    let shapes = joining.same_shapes _ _ _ _ _ c.self.view_is c.other.view_is c.requires.domain in
     let u = c.join.new.chair.me.0 in let j = c.join.ensures.event in let n = d.seat.me.0.view.name in
     let shape = joining.shape d o h k shapes u j in let name = joining.name d o h k shapes u j in
     let allowance = joining.allowance_after d o h k shapes u j in let bags = joining.bag_sum d o h k shapes u j in
@@ -87,7 +87,7 @@ invariant_of-self g c =
 pub returns-clause-event : goal.returns-clause-event
 returns-clause-event g c =
     let d = c.self.inside in let o = c.other.inside in let h = c.self.invariant in let k = c.other.invariant in
-    let shapes = ap (λ z. z.shape) c.other.view_is ∙ (c.requires.domain.2 ∙ sym (ap (λ z. z.shape) c.self.view_is)) in
+    let shapes = joining.same_shapes _ _ _ _ _ c.self.view_is c.other.view_is c.requires.domain in
     let u = c.join.new.chair.me.0 in let j = c.join.ensures.event in
     let e : DeskNow g.row.V.Denot = record {
       domain = c.join.new.chair.table_id;
@@ -108,7 +108,7 @@ returns-clause-event g c =
 pub returns-clause-allowance : goal.returns-clause-allowance
 returns-clause-allowance g c =
     let d = c.self.inside in let o = c.other.inside in let h = c.self.invariant in let k = c.other.invariant in
-    let shapes = ap (λ z. z.shape) c.other.view_is ∙ (c.requires.domain.2 ∙ sym (ap (λ z. z.shape) c.self.view_is)) in
+    let shapes = joining.same_shapes _ _ _ _ _ c.self.view_is c.other.view_is c.requires.domain in
     let u = c.join.new.chair.me.0 in let j = c.join.ensures.event in
     ap (λ y. (known u).allowance y) (joining.name d o h k shapes u j) ∙ (joining.allowance_after d o h k shapes u j
     ∙ (λ i. allowance_of (c.self.view_is i) + allowance_of (c.other.view_is i)))
@@ -116,7 +116,7 @@ returns-clause-allowance g c =
 pub returns-clause-stock : goal.returns-clause-stock
 returns-clause-stock g c =
     let d = c.self.inside in let o = c.other.inside in let h = c.self.invariant in let k = c.other.invariant in
-    let shapes = ap (λ z. z.shape) c.other.view_is ∙ (c.requires.domain.2 ∙ sym (ap (λ z. z.shape) c.self.view_is)) in
+    let shapes = joining.same_shapes _ _ _ _ _ c.self.view_is c.other.view_is c.requires.domain in
     let u = c.join.new.chair.me.0 in let j = c.join.ensures.event in
     ap (λ y. length (stock (known u) y)) (joining.name d o h k shapes u j) ∙ (joining.stock_sum d o h k shapes u j
     ∙ (λ i. length (stock_of (c.self.view_is i)) + length (stock_of (c.other.view_is i))))
@@ -124,7 +124,7 @@ returns-clause-stock g c =
 pub returns-clause-bag : goal.returns-clause-bag
 returns-clause-bag g c =
     let d = c.self.inside in let o = c.other.inside in let h = c.self.invariant in let k = c.other.invariant in
-    let shapes = ap (λ z. z.shape) c.other.view_is ∙ (c.requires.domain.2 ∙ sym (ap (λ z. z.shape) c.self.view_is)) in
+    let shapes = joining.same_shapes _ _ _ _ _ c.self.view_is c.other.view_is c.requires.domain in
     let u = c.join.new.chair.me.0 in let j = c.join.ensures.event in
     let shown : ℕ → List Handle = λ y. Rattle.std.proofs.Common.map (λ (x : Held). by_block (blocks_of (known u)) x.handle) (bag (known u) y) in
     subst (λ (y : List Handle × List Handle). IsPermutation y.0 y.1)
@@ -138,7 +138,7 @@ returns-clause-handles g c = λ hs ks one two.
 pub returns-clause-endings : goal.returns-clause-endings
 returns-clause-endings g c =
     let d = c.self.inside in let o = c.other.inside in let h = c.self.invariant in let k = c.other.invariant in
-    let shapes = ap (λ z. z.shape) c.other.view_is ∙ (c.requires.domain.2 ∙ sym (ap (λ z. z.shape) c.self.view_is)) in
+    let shapes = joining.same_shapes _ _ _ _ _ c.self.view_is c.other.view_is c.requires.domain in
     let u = c.join.new.chair.me.0 in let j = c.join.ensures.event in let name = joining.name d o h k shapes u j in (
       (λ b x e.
           let is = subst (λ (y : DeskNow g.row.V.Denot). IsEnding y b x) (sym c.self.view_is) e in

@@ -7,30 +7,32 @@ use Rattle.control_block.specs.Parting.{HoldsAll, Parted, SplitsOff, in_history}
 use Rattle.control_block.specs.Plays.{MaySplit, known}
 use Rattle.control_block.specs.Rule.{opening_of}
 use Rattle.control_block.specs.declared.desk.Desk.TheInside.{Inside}
-use Rattle.control_block.specs.declared.handles.Held.{Held as HeldValue}
 use Rattle.control_block.proofs.PartingDesks.{allowance_most}
 use Rattle.control_block.proofs.PartingSplit.{may_split, sizes}
 use Rattle.control_block.proofs.PartingSplitDesks.{new_desk, old_desk, splits}
 use Rattle.control_block.proofs.Stores.{stock_few}
-use Rattle.control_block.proofs.desk.Desk.split.Goals as goal
+use Rattle.control_block.proofs.desk.Desk.cut_off.Goals as goal
 
-pub overflow_cast-count : goal.overflow_cast-count
-overflow_cast-count g c =
+pub overflow_cast-given : goal.overflow_cast-given
+overflow_cast-given g c =
     let d = c.self.inside in
-    let s = sizes d c.self.invariant c.args.handles.items (subst (λ z. HoldsAll z c.args.handles.items) (sym c.self.view_is) c.requires.held) in
-    let m = allowance_most d c.self.invariant in omega (arith, s.1, c.len-count.ensures, c.args.handles.ok, c.self.invariant.within)
+    let hs = g.T.Lent.handles c.args.handles.now in let size : length hs ≡ c.args.count = c.requires.held.1 in
+    let s = sizes d c.self.invariant hs (subst (λ z. HoldsAll z hs) (sym c.self.view_is) c.requires.held.0) in
+    let m = allowance_most d c.self.invariant in omega (arith, s.1, size, c.self.invariant.within)
 
 pub overflow_sub-stay : goal.overflow_sub-stay
 overflow_sub-stay g c =
     let d = c.self.inside in
-    let s = sizes d c.self.invariant c.args.handles.items (subst (λ z. HoldsAll z c.args.handles.items) (sym c.self.view_is) c.requires.held) in
-    omega (arith, s.1, c.len-count.ensures, c.args.handles.ok)
+    let hs = g.T.Lent.handles c.args.handles.now in let size : length hs ≡ c.args.count = c.requires.held.1 in
+    let s = sizes d c.self.invariant hs (subst (λ z. HoldsAll z hs) (sym c.self.view_is) c.requires.held.0) in
+    omega (arith, s.1, size)
 
 pub overflow_sub-self : goal.overflow_sub-self
 overflow_sub-self g c =
     let d = c.self.inside in
-    let s = sizes d c.self.invariant c.args.handles.items (subst (λ z. HoldsAll z c.args.handles.items) (sym c.self.view_is) c.requires.held) in
-    omega (arith, s.1, c.len-count.ensures, c.args.handles.ok)
+    let hs = g.T.Lent.handles c.args.handles.now in let size : length hs ≡ c.args.count = c.requires.held.1 in
+    let s = sizes d c.self.invariant hs (subst (λ z. HoldsAll z hs) (sym c.self.view_is) c.requires.held.0) in
+    omega (arith, s.1, size)
 
 pub pass_least-requires-clause-count : goal.pass_least-requires-clause-count
 pass_least-requires-clause-count g c =
@@ -41,7 +43,7 @@ pub pass_least-requires-clause-room : goal.pass_least-requires-clause-room
 pass_least-requires-clause-room g c =
     let d = c.self.inside in
     let few = subst (λ z. c.args.blocks ≤ length (stock_of z)) (sym c.self.view_is) c.requires.blocks in
-    let id = ap (λ z. z.domain) c.self.view_is ∙ (c.requires.domain ∙ sym (ap (λ z. z.id) c.domain.view_is)) in
+    let id = ap (λ z. z.domain) c.self.view_is ∙ (c.requires.domain.table ∙ sym (ap (λ z. z.id) c.domain.view_is)) in
     let slots : d.seat.table_id.slots ≡ c.domain.inside.table.shared.table_id.slots = ap (λ z. z.slots) id in
     let n = d.seat.me.0.view.name in let z = opening_of d.seat.me.0.shape in
     let most = stock_few z (known d.seat.me.0) n (sound z d.seat.me.0.view.seen c.self.invariant.legal) in
@@ -49,26 +51,25 @@ pass_least-requires-clause-room g c =
 
 pub part-seat-requires-clause-may : goal.part-seat-requires-clause-may
 part-seat-requires-clause-may g c =
-    let d = c.self.inside in let hs = c.args.handles.items in
-    let holds = subst (λ z. HoldsAll z hs) (sym c.self.view_is) c.requires.held in
-    let size : length hs ≡ c.len-count.result = omega (arith, c.len-count.ensures, c.args.handles.ok) in
+    let d = c.self.inside in let hs = g.T.Lent.handles c.args.handles.now in
+    let holds = subst (λ z. HoldsAll z hs) (sym c.self.view_is) c.requires.held.0 in
+    let size : length hs ≡ c.args.count = c.requires.held.1 in
     let m = may_split d c.self.invariant hs holds c.args.allowance c.max-keep.result c.pass_least.new.to.items (omega arith) (omega arith)
     (omega (arith, c.saturating_sub.ensures)) (omega (arith, c.max-keep.ensures))
     (omega (arith, c.max-keep.ensures, c.min.ensures))
     (λ b. let t = c.pass_least.ensures.same b in omega arith) in
-    subst (λ (y : List HeldValue × List Block). MaySplit d.seat.me.0 c.args.allowance (in_history (known d.seat.me.0) y.0) y.1)
-    (λ i. (sym c.as_slice.ensures.value i, sym c.as_slice-2.ensures.value i)) m
+    subst (λ (y : List Block). MaySplit d.seat.me.0 c.args.allowance (in_history (known d.seat.me.0) hs) y) (sym c.as_slice.ensures.value) m
 
 pub invariant_of-other : goal.invariant_of-other
 invariant_of-other g c =
-    let d = c.self.inside in let hs = c.args.handles.items in let bs = c.pass_least.new.to.items in
-    let holds = subst (λ z. HoldsAll z hs) (sym c.self.view_is) c.requires.held in
-    let size : length hs ≡ c.len-count.result = omega (arith, c.len-count.ensures, c.args.handles.ok) in
+    let d = c.self.inside in let hs = g.T.Lent.handles c.args.handles.now in let bs = c.pass_least.new.to.items in
+    let holds = subst (λ z. HoldsAll z hs) (sym c.self.view_is) c.requires.held.0 in
+    let size : length hs ≡ c.args.count = c.requires.held.1 in
     let w = c.part-seat.new.chair.me.0 in let u = c.part-seat.result.me.0 in
     let p : Parted d.seat.me.0 c.args.allowance (in_history (known d.seat.me.0) hs) bs w u =
-    subst (λ (y : List HeldValue × List Block). Parted d.seat.me.0 c.args.allowance (in_history (known d.seat.me.0) y.0) y.1 w u)
-    (λ i. (c.as_slice.ensures.value i, c.as_slice-2.ensures.value i)) c.part-seat.ensures.event in
-    let id = ap (λ z. z.domain) c.self.view_is ∙ (c.requires.domain ∙ sym (ap (λ z. z.id) c.domain.view_is)) in
+    subst (λ (y : List Block). Parted d.seat.me.0 c.args.allowance (in_history (known d.seat.me.0) hs) y w u) c.as_slice.ensures.value
+    c.part-seat.ensures.event in
+    let id = ap (λ z. z.domain) c.self.view_is ∙ (c.requires.domain.table ∙ sym (ap (λ z. z.id) c.domain.view_is)) in
     let slots : d.seat.table_id.slots ≡ c.domain.inside.table.shared.table_id.slots = ap (λ z. z.slots) id in
     new_desk d c.self.invariant hs holds c.args.allowance bs w u p _ c.part-seat.ensures.other.0
     (λ i. (u, c.part-seat.ensures.other.1 i)) refl (sym size) refl (omega arith) refl
@@ -76,13 +77,13 @@ invariant_of-other g c =
 
 pub invariant_of-self : goal.invariant_of-self
 invariant_of-self g c =
-    let d = c.self.inside in let hs = c.args.handles.items in let bs = c.pass_least.new.to.items in
-    let holds = subst (λ z. HoldsAll z hs) (sym c.self.view_is) c.requires.held in
-    let size : length hs ≡ c.len-count.result = omega (arith, c.len-count.ensures, c.args.handles.ok) in
+    let d = c.self.inside in let hs = g.T.Lent.handles c.args.handles.now in let bs = c.pass_least.new.to.items in
+    let holds = subst (λ z. HoldsAll z hs) (sym c.self.view_is) c.requires.held.0 in
+    let size : length hs ≡ c.args.count = c.requires.held.1 in
     let w = c.part-seat.new.chair.me.0 in let u = c.part-seat.result.me.0 in
     let p : Parted d.seat.me.0 c.args.allowance (in_history (known d.seat.me.0) hs) bs w u =
-    subst (λ (y : List HeldValue × List Block). Parted d.seat.me.0 c.args.allowance (in_history (known d.seat.me.0) y.0) y.1 w u)
-    (λ i. (c.as_slice.ensures.value i, c.as_slice-2.ensures.value i)) c.part-seat.ensures.event in
+    subst (λ (y : List Block). Parted d.seat.me.0 c.args.allowance (in_history (known d.seat.me.0) hs) y w u) c.as_slice.ensures.value
+    c.part-seat.ensures.event in
     old_desk d c.self.invariant hs holds c.args.allowance bs w u p _ c.part-seat.ensures.chair.0
     (λ i. (w, c.part-seat.ensures.chair.1 i)) refl (ap (λ x. d.held - x) (sym size)) refl
     (omega (arith, c.saturating_sub.ensures, c.max-keep.ensures, c.min.ensures))
@@ -90,24 +91,24 @@ invariant_of-self g c =
 
 pub returns-clause-parts : goal.returns-clause-parts
 returns-clause-parts g c =
-    let d = c.self.inside in let hs = c.args.handles.items in let bs = c.pass_least.new.to.items in
-    let holds = subst (λ z. HoldsAll z hs) (sym c.self.view_is) c.requires.held in
-    let size : length hs ≡ c.len-count.result = omega (arith, c.len-count.ensures, c.args.handles.ok) in
+    let d = c.self.inside in let hs = g.T.Lent.handles c.args.handles.now in let bs = c.pass_least.new.to.items in
+    let holds = subst (λ z. HoldsAll z hs) (sym c.self.view_is) c.requires.held.0 in
+    let size : length hs ≡ c.args.count = c.requires.held.1 in
     let w = c.part-seat.new.chair.me.0 in let u = c.part-seat.result.me.0 in
     let p : Parted d.seat.me.0 c.args.allowance (in_history (known d.seat.me.0) hs) bs w u =
-    subst (λ (y : List HeldValue × List Block). Parted d.seat.me.0 c.args.allowance (in_history (known d.seat.me.0) y.0) y.1 w u)
-    (λ i. (c.as_slice.ensures.value i, c.as_slice-2.ensures.value i)) c.part-seat.ensures.event in
+    subst (λ (y : List Block). Parted d.seat.me.0 c.args.allowance (in_history (known d.seat.me.0) hs) y w u) c.as_slice.ensures.value
+    c.part-seat.ensures.event in
     let e : Inside g.row.V.Denot = record {
       seat = c.part-seat.new.chair;
       allowance = d.allowance - c.args.allowance;
-      held = d.held - c.len-count.result;
+      held = d.held - c.args.count;
       endings = d.endings;
       store = c.pass_least.new.store;
     } in
     let new : Inside g.row.V.Denot = record {
       seat = c.part-seat.result;
       allowance = c.args.allowance;
-      held = c.len-count.result;
+      held = c.args.count;
       endings = 0;
       store = c.pass_least.new.to;
     } in
