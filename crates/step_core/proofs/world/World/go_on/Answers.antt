@@ -3,7 +3,7 @@ use Rattle.step_threads.specs.declared.said.Turned.{Turned}
 use Rattle.step_core.specs.Turning.{Plays}
 use Rattle.step_core.proofs.turning.Chains.{more_steps, one_step}
 use Rattle.step_core.proofs.turning.Trying.{trying_done, trying_less, trying_on}
-use Rattle.step_core.proofs.world.World.try_on.Goals as goal
+use Rattle.step_core.proofs.world.World.go_on.Goals as goal
 
 pub loop-stepped-preserved : goal.loop-stepped-preserved
 loop-stepped-preserved c =

@@ -1,5 +1,6 @@
-use Rattle.step_core.proofs.turning.Trying.{IsTrying, tries_left}
-use Rattle.step_core.proofs.world.World.try_on.Given as goal
+use Rattle.step_core.proofs.turning.Trying.{IsTrying}
+use Rattle.step_core.proofs.turning.Ways.{tries_left}
+use Rattle.step_core.proofs.world.World.go_on.Given as goal
 
 abbrev pub invariant-loop-stepped : goal.invariant-loop-stepped
 invariant-loop-stepped l = IsTrying l.number l.initial.self l.self
