@@ -2,7 +2,7 @@
 use Rattle.std.specs.Prelude.{◌≡◌, ◌<◌, [], Some}
 use Rattle.control_word.specs.declared.handle.Kind.TheVariants.{Owner}
 use Rattle.control_word.specs.declared.place.Block.{Block}
-use Rattle.control_block.specs.Desks.{DeskNow, DomainNow, allowance_of, bag_of}
+use Rattle.control_block.specs.Desks.{Belongs, DeskNow, DomainNow, allowance_of, bag_of}
 use Rattle.control_block.specs.declared.handles.Shared.{Shared}
 use Rattle.shared_handle.specs.Calls.{Holds, with_handle}
 use Rattle.measure.specs.declared.workers.Pair.{Pair}
@@ -15,13 +15,12 @@ IsReal h = (b : Block) × (h.block ≡ Some b)
 
 -- the desk is the domain's, and has an owner of the common object
 abbrev pub IsManaged : DomainNow → DeskNow (Unit {0}) → Shared → Type 0
-IsManaged d e h = (e.domain ≡ d.id) × (e.shape ≡ d.shape) × IsReal h × Holds e Owner h.block h.place
+IsManaged d e h = Belongs e d × IsReal h × Holds e Owner h.block h.place
 
 -- a worker's desk is the domain's, may hold 8 handles, and holds an owner of its own object and one of the common one; it
 -- has a cell of the domain's
 pub record IsReady (d : DomainNow) (w : Worker) : Type 0 where
-  pub domain : w.desk.domain ≡ d.id
-  pub shape : w.desk.shape ≡ d.shape
+  pub domain : Belongs w.desk d
   pub allowance : allowance_of w.desk ≡ 8
   pub cell : w.cell < d.shape.shared_cells
   pub own : IsReal w.own
