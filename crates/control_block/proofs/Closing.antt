@@ -7,8 +7,8 @@ use mathlib.Core.Option.{some, some-injective, some-ne-none}
 use lib.ListN.{get_elem?}
 use Rattle.atomic_table.specs.Table as Table
 use Rattle.atomic_table.proofs.Lists.{at_map}
-use Rattle.control_word.proofs.history.Allowances.{allowed}
-use Rattle.control_word.proofs.history.Legal.{sound}
+use Rattle.control_word.proofs.history.Endings.{ends_in_hands}
+use Rattle.control_word.proofs.history.Sole.{alone}
 use Rattle.control_word.proofs.history.Soundness.{OwnersFit, Sound}
 use Rattle.control_word.proofs.views.Resting.{rests_exactly, sole_has_seen_all}
 use Rattle.control_word.specs.Histories.{IsLegal, leads}
@@ -26,9 +26,7 @@ use Rattle.control_block.specs.Plays.{known}
 use Rattle.control_block.specs.Rule.{Ruled, opening_of, view_of}
 use Rattle.control_block.specs.declared.board.Sight.{Sight}
 use Rattle.control_block.proofs.EndingCounts.{some_ending}
-use Rattle.control_block.proofs.EndingNames.{all_named}
-use Rattle.control_block.proofs.Sole.{acts_alone}
-use Rattle.control_block.proofs.kept.Look.{alone}
+use Rattle.control_block.proofs.kept.Look as looks
 
 pub index_at : (l : List ℕ) (i x : ℕ) → get_elem? l i ≡ some x → x ≡ slice_index l i
 index_at [] i x e = absurd (some-ne-none x (sym e))
@@ -68,7 +66,7 @@ module _ {V : Type 0} where
             let w = subst (λ y. (leads (opening_of y) v.view.seen).allowance v.view.name ≡ y.allowance) same_shape whole in
             let whole' : (leads (opening_of k) r.history).allowance v.view.name ≡ k.allowance = ap
             (λ (y : State). y.allowance v.view.name) (sym all_seen) ∙ (whole ∙ ap (λ y. y.allowance) same_shape) in
-            let same = alone (opening_of k) s.words (map view_of s.views) r.history r.stands id v.view
+            let same = looks.alone (opening_of k) s.words (map view_of s.views) r.history r.stands id v.view
             (at_map view_of s.views id v at) awake whole' j u there t in
             let e = some-injective u v.view (sym there ∙ (ap (get_elem? (map view_of s.views)) same ∙ at_map view_of s.views id v at)) in
             subst (λ p. NamesBlock (leads (opening_of k) r.history) p b) (ap (λ (y : View V). y.pending) e ∙ idle) names
@@ -89,10 +87,8 @@ module _ {V : Type 0} where
   pub nothing_ends : (z : Opening) (h : List (Entry V)) → IsLegal z h → (n : ℕ) → (leads z h).allowance n ≡ z.allowance
       → many_ending z.blocks (leads z h) n ≡ 0 → (b : ℕ) → InShape z b → EndsNot (leads z h) b
   nothing_ends z h legal n whole none b inside o d here ends =
-      let s = leads z h in let named = all_named z h legal o d ends in
-      let mine = acts_alone z h legal n d whole (named.0, named.1, (allowed z h legal).acts d named.0 named.1) in
-      let one : common (s.object o).phase ≡ 1 = ap common ends in
-      let last : s.latest b ≡ o = ap s.latest (sym here) ∙ ((sound z h legal).placed o (omega arith)).0 in
+      let s = leads z h in let in_hands = ends_in_hands z h legal o d ends in
+      let mine = alone z h legal n d whole in_hands.0 in let last : s.latest b ≡ o = ap s.latest (sym here) ∙ in_hands.3 in
       let some' = some_ending z.blocks s n b inside.0 inside.1 (ap (λ q. (s.object q).phase) last ∙ (ends ∙ ap ending mine)) in omega arith
 
 one_live : (p : Phase) (n : ℕ) → OwnersFit p n → ((d : ℕ) → p ≡ ending d → ⊥) → ◌≡◌ {A = ℕ} (cond (n == 0) 0 1) (common p)

@@ -1,12 +1,12 @@
--- Objects end in the hands of desks that act.
-use Rattle.std.proofs.Common.{◌≡◌, ◌≢◌, ℕ, suc, ◌<◌, ◌≤◌, ◌==◌, Bool, true, false, cond, List, [], ◌∷◌, refl, sym, ap, subst, ◌∙◌}
-use Rattle.std.proofs.Common.{arith, eq-eqb}
+-- Objects end in the hands of desks that there are.
+use Rattle.std.proofs.Common.{◌≡◌, ℕ, suc, ◌<◌, ◌≤◌, true, false, cond, List, [], ◌∷◌, refl, sym, subst, ◌∙◌}
+use Rattle.std.proofs.Common.{arith}
 use Rattle.std.proofs.lemmas.Bool.{cond_both}
-use Rattle.control_word.proofs.lists.Tallies.{put_cases, put_other}
-use Rattle.control_word.specs.Events.{Asks, after, handed, moved_to, new_object, renamed}
+use Rattle.control_word.proofs.lists.Tallies.{put_cases}
+use Rattle.control_word.specs.Events.{after, handed, moved_to, new_object, renamed}
 use Rattle.control_word.specs.Handles.{object_of}
 use Rattle.control_word.specs.Histories.{IsLegal, leads}
-use Rattle.control_word.specs.State.{IsActing, Object, Opening, Phase, State, ending, gone, live, put, unmade}
+use Rattle.control_word.specs.State.{IsActing, Object, Opening, Phase, State, ending, gone, live, unmade}
 use Rattle.control_word.specs.declared.event.Cell.TheVariants.{Free, Member}
 use Rattle.control_word.specs.declared.event.Entry.{Entry}
 use Rattle.control_word.specs.declared.event.Event.{Event}
@@ -16,9 +16,9 @@ use Rattle.control_block.specs.Desks.{many_ending}
 use Rattle.control_block.proofs.EndingCounts.{ends_there, sum_none}
 use Rattle.control_block.proofs.Endings.{fills_phase}
 
--- a phase names a desk below k that isn't joined
-abbrev pub IsNamed : ℕ → (ℕ → Bool) → Phase → Type 0
-IsNamed k joined p = (d : ℕ) → p ≡ ending d → (d < k) × (joined d ≡ false)
+-- a phase names a desk below k
+abbrev pub IsNamed : ℕ → Phase → Type 0
+IsNamed k p = (d : ℕ) → p ≡ ending d → d < k
 
 unmade_ends : (d : ℕ) → unmade ≡ ending d → ⊥
 unmade_ends d e = cc
@@ -32,71 +32,58 @@ gone_ends d e = cc
 same_end : (d e : ℕ) → ending d ≡ ending e → d ≡ e
 same_end d e q = cc
 
-clash : (b : Bool) → b ≡ true → b ≡ false → ⊥
-clash b t f = cc
+renamed_named : (k other d e : ℕ) → d < k → e < k → renamed other d e < k
+renamed_named k other d e a b = cond_both _ d e (λ x. x < k) (λ _. a) (λ _. b)
 
--- a desk with a name below k that isn't joined
-abbrev IsThere : ℕ → (ℕ → Bool) → ℕ → Type 0
-IsThere k joined d = (d < k) × (joined d ≡ false)
-
-renamed_named : (k : ℕ) (joined : ℕ → Bool) (other d e : ℕ) → other ≢ d → IsThere k joined d → IsThere k joined e
-    → IsThere k (put joined other true) (renamed other d e)
-renamed_named k joined other d e ne a b =
-    cond_both (e == other) d e (λ x. IsThere k (put joined other true) x)
-    (λ _. (a.0, put_other joined other true d (λ q. ne (sym q)) ∙ a.1))
-    (λ f. (b.0, put_other joined other true e (λ q. clash (e == other) (eq-eqb e other q) f) ∙ b.1))
-
-handed_named : (k : ℕ) (joined : ℕ → Bool) (other d : ℕ) (p : Phase) → other ≢ d → IsThere k joined d → IsNamed k joined p
-    → IsNamed k (put joined other true) (handed other d p)
-handed_named k joined other d unmade ne acts named e is = absurd (unmade_ends e is)
-handed_named k joined other d live ne acts named e is = absurd (live_ends e is)
-handed_named k joined other d gone ne acts named e is = absurd (gone_ends e is)
-handed_named k joined other d (ending x) ne acts named e is =
-    subst (IsThere k (put joined other true)) (same_end (renamed other d x) e is) (renamed_named k joined other d x ne acts (named x refl))
+handed_named : (k other d : ℕ) (p : Phase) → d < k → IsNamed k p → IsNamed k (handed other d p)
+handed_named k other d unmade acts named e is = absurd (unmade_ends e is)
+handed_named k other d live acts named e is = absurd (live_ends e is)
+handed_named k other d gone acts named e is = absurd (gone_ends e is)
+handed_named k other d (ending x) acts named e is =
+    subst (λ n. n < k) (same_end (renamed other d x) e is) (renamed_named k other d x acts (named x refl))
 
 abbrev pub AllNamed : State → Type 0
-AllNamed s = (o : ℕ) → IsNamed s.names s.joined (s.object o).phase
+AllNamed s = (o : ℕ) → IsNamed s.names (s.object o).phase
 
-named_put : (s : State) (q : ℕ) (x : Object) → AllNamed s → IsNamed s.names s.joined x.phase → (o : ℕ)
-    → IsNamed s.names s.joined (put s.object q x o).phase
-named_put s q x all one o = put_cases (λ i (y : Object). IsNamed s.names s.joined y.phase) s.object q x o (λ _. one) (λ _. all o)
+named_put : (s : State) (q : ℕ) (x : Object) → AllNamed s → IsNamed s.names x.phase → (o : ℕ)
+    → IsNamed s.names (Rattle.control_word.specs.State.put s.object q x o).phase
+named_put s q x all one o = put_cases (λ i (y : Object). IsNamed s.names y.phase) s.object q x o (λ _. one) (λ _. all o)
 
 module _ {V : Type 0} where
-  named_after : (s : State) (d : ℕ) (e : Event V) → IsActing s d → Asks s d e → AllNamed s → AllNamed (after s d e)
-  named_after s d (Make b enabled null fields val) acts asks all =
+  named_after : (s : State) (d : ℕ) (e : Event V) → IsActing s d → AllNamed s → AllNamed (after s d e)
+  named_after s d (Make b enabled null fields val) acts all =
       named_put s (suc s.made) (new_object b.0 enabled null fields) all (λ n is. absurd (live_ends n is))
-  named_after s d (Share y p) acts asks all = all
-  named_after s d (Leave y last) acts asks all =
+  named_after s d (Share y p) acts all = all
+  named_after s d (Leave y last) acts all =
       let x = s.object (object_of y) in
       named_put s (object_of y) (cond last (moved_to (ending d) x) x) all
-      (cond_both last (moved_to (ending d) x) x (λ (u : Object). IsNamed s.names s.joined u.phase)
-      (λ _. λ n is. subst (IsThere s.names s.joined) (same_end d n is) (acts.0, acts.1)) (λ _. all (object_of y)))
-  named_after s d (Count y c) acts asks all = all
-  named_after s d (Expired y c) acts asks all = all
-  named_after s d (Read y c) acts asks all = all
-  named_after s d (WeakShare o p) acts asks all = all
-  named_after s d (WeakLeave y v) acts asks all = all
-  named_after s d (Lock y g) acts asks all = all
-  named_after s d (Load c y) acts asks all = all
-  named_after s d (Swap (Free c) y w) acts asks all = all
-  named_after s d (Swap (Member o m) y w) acts asks all = λ q n is. all q n (sym (fills_phase s (Member o m) y q) ∙ is)
-  named_after s d (Compare (Free c) u y w true k) acts asks all = all
-  named_after s d (Compare (Member o m) u y w true k) acts asks all = λ q n is. all q n (sym (fills_phase s (Member o m) y q) ∙ is)
-  named_after s d (Compare c u y w false k) acts asks all = all
-  named_after s d (ClearMember o m y) acts asks all =
+      (cond_both last (moved_to (ending d) x) x (λ (u : Object). IsNamed s.names u.phase)
+      (λ _. λ n is. subst (λ i. i < s.names) (same_end d n is) acts.0) (λ _. all (object_of y)))
+  named_after s d (Count y c) acts all = all
+  named_after s d (Expired y c) acts all = all
+  named_after s d (Read y c) acts all = all
+  named_after s d (WeakShare o p) acts all = all
+  named_after s d (WeakLeave y v) acts all = all
+  named_after s d (Lock y g) acts all = all
+  named_after s d (Load c y) acts all = all
+  named_after s d (Swap (Free c) y w) acts all = all
+  named_after s d (Swap (Member o m) y w) acts all = λ q n is. all q n (sym (fills_phase s (Member o m) y q) ∙ is)
+  named_after s d (Compare (Free c) u y w true k) acts all = all
+  named_after s d (Compare (Member o m) u y w true k) acts all = λ q n is. all q n (sym (fills_phase s (Member o m) y q) ∙ is)
+  named_after s d (Compare c u y w false k) acts all = all
+  named_after s d (ClearMember o m y) acts all =
       λ q n is. all q n (sym (fills_phase s (Member o m) (Rattle.control_word.specs.Handles.empty (Rattle.control_word.specs.State.kind_of_member m)) q) ∙ is)
-  named_after s d (Finish o v val) acts asks all = named_put s o (moved_to gone (s.object o)) all (λ n is. absurd (gone_ends n is))
-  named_after s d (Visit y c w) acts asks all = all
-  named_after s d (Split to n hs bs) acts asks all = λ o i is. let a = all o i is in (omega arith, a.1)
-  named_after s d (Join other) acts asks all =
-      λ o. handed_named s.names s.joined other d (s.object o).phase asks.0 (acts.0, acts.1) (all o)
+  named_after s d (Finish o v val) acts all = named_put s o (moved_to gone (s.object o)) all (λ n is. absurd (gone_ends n is))
+  named_after s d (Visit y c w) acts all = all
+  named_after s d (Split to n hs bs) acts all = λ o i is. let a = all o i is in omega arith
+  named_after s d (Join other) acts all = λ o. handed_named s.names other d (s.object o).phase acts.0 (all o)
 
-  pub all_named : (z : Opening) (h : List (Entry V)) → IsLegal z h → AllNamed (leads z h)
+  all_named : (z : Opening) (h : List (Entry V)) → IsLegal z h → AllNamed (leads z h)
   all_named z [] legal = λ o d is. absurd (unmade_ends d is)
-  all_named z (e ∷ h) legal = named_after (leads z h) e.desk e.event legal.1.acting legal.1.asks (all_named z h legal.0)
+  all_named z (e ∷ h) legal = named_after (leads z h) e.desk e.event legal.1.acting (all_named z h legal.0)
 
   -- nothing ends with a desk that isn't there yet
   pub none_named : (z : Opening) (h : List (Entry V)) (blocks n : ℕ) → IsLegal z h → (leads z h).names ≤ n → many_ending blocks (leads z h) n ≡ 0
   none_named z h blocks n legal few =
       let s = leads z h in
-      sum_none blocks _ (λ j. ends_there n (s.object (s.latest (suc j))).phase s.names (λ d is. (all_named z h legal (s.latest (suc j)) d is).0) few)
+      sum_none blocks _ (λ j. ends_there n (s.object (s.latest (suc j))).phase s.names (all_named z h legal (s.latest (suc j))) few)

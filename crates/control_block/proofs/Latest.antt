@@ -1,12 +1,14 @@
 -- A block in which a desk has a handle isn't used again.
-use Rattle.std.proofs.Common.{◌≡◌, ℕ, suc, true, false, List, [], ◌∷◌, ◌++◌, Some, refl, sym, ap, subst, ◌∙◌}
-use Rattle.control_word.proofs.history.Given.{names_an_object}
+use Rattle.std.proofs.Common.{◌≡◌, ℕ, suc, true, false, List, [], ◌∷◌, ◌++◌, Some, refl, sym, ap, subst, ◌∙◌, inl}
+use Rattle.control_word.proofs.history.Endings.{stays_the_latest}
+use Rattle.control_word.proofs.history.Given.{legal_seen, names_an_object}
 use Rattle.control_word.proofs.history.Kept.{block_kept, has_same, same_kept}
 use Rattle.control_word.proofs.history.Legal.{sound}
 use Rattle.control_word.proofs.lists.Tallies.{put_other}
 use Rattle.control_word.specs.Events.{Asks, after}
 use Rattle.control_word.specs.Handles.{handle}
 use Rattle.control_word.specs.Histories.{IsLegal, entry, leads}
+use Rattle.control_word.specs.Laws.{IsInHands}
 use Rattle.control_word.specs.State.{Has, IsVacant, Opening, held}
 use Rattle.control_word.specs.Views.{Knows, NoneBy}
 use Rattle.control_word.specs.declared.event.Cell.TheVariants.{Free, Member}
@@ -51,25 +53,20 @@ module _ {V : Type 0} where
   latest_after z h n d (Load c got) k o b p legal asks has there = refl
   latest_after z h n d (Visit y c w) k o b p legal asks has there = refl
 
-  seen_legal : (z : Opening) (later seen : List (Entry V)) → IsLegal z (later ++ seen) → IsLegal z seen
-  seen_legal z [] seen legal = legal
-  seen_legal z (x ∷ later) seen legal = seen_legal z later seen legal.0
-
   -- after others' events, and then one of any desk
   latest_kept : (z : Opening) (later seen : List (Entry V)) (n d : ℕ) (x : Event V) (k : Kind) (p : Option Place) (b : ℕ)
       → IsLegal z (entry d x ∷ (later ++ seen)) → NoneBy n later → Has (handle k (Some b) p) (shown (leads z seen) n)
       → (leads z (entry d x ∷ (later ++ seen))).latest b ≡ (leads z seen).latest b
   latest_kept z later seen n d x k p b legal quiet has =
       let h = later ++ seen in
-      let before = seen_legal z later seen legal.0 in
-      let s = leads z seen in let t = leads z h in
+      let before = legal_seen z later seen legal.0 in
+      let s = leads z seen in let t = leads z h in let o = s.latest b in
       let mine = shown_held z seen n k p b before has in
-      let o = s.latest b in
       let there = has_same s t n (handle k (Some o) p) (same_kept z later seen n quiet) mine.0 in
-      let was = names_an_object z seen before n k (handle k (Some o) p) (mine.0, refl, refl) in
-      let named = names_an_object z h legal.0 n k (handle k (Some o) p) (there, refl, refl) in
-      let block = (block_kept z later seen o was.1).0 ∙ mine.1 in
-      latest_after z h n d x k o b p legal.0 legal.1.asks there block ∙ (ap t.latest (sym block) ∙ named.2)
+      let was = (names_an_object z seen before n k (handle k (Some o) p) (mine.0, refl, refl)).1 in
+      let in_hands : IsInHands s n o = inl (k, handle k (Some o) p, (mine.0, refl, refl), refl) in
+      let latest = (stays_the_latest z later seen legal.0 n quiet o in_hands).1 in
+      latest_after z h n d x k o b p legal.0 legal.1.asks there ((block_kept z later seen o was).0 ∙ mine.1) ∙ (ap t.latest (sym mine.1) ∙ latest)
 
   pub calls_keep_latest : CallsKeepLatest V
   calls_keep_latest d x e adds k p b has =

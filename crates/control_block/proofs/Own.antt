@@ -1,24 +1,19 @@
--- What the records of calls add to a desk's own events, and that a joined name makes none.
-use Rattle.std.proofs.Common.{◌≡◌, ◌≢◌, ℕ, ◌≤◌, ◌==◌, Bool, true, false, cond, List, [], ◌∷◌, ◌++◌, refl, sym, ap, subst, ◌∙◌, append_assoc, arith, eq-eqb, ne_eqb}
+-- What the records of calls add to a desk's own events.
+use Rattle.std.proofs.Common.{◌≡◌, ◌≢◌, ℕ, ◌==◌, true, cond, List, [], ◌∷◌, ◌++◌, refl, sym, ap, subst, ◌∙◌, append_assoc, arith, eq-eqb, ne_eqb}
 use Rattle.std.proofs.lemmas.Bool.{cond-false, cond-true, cond_both}
-use Rattle.control_word.specs.Events.{after}
+use Rattle.control_word.proofs.history.Kept.{same_kept}
+use Rattle.control_word.proofs.history.Names.{joined_is_quiet, unnamed_is_quiet}
 use Rattle.control_word.specs.Histories.{IsLegal, entry, leads}
-use Rattle.control_word.specs.State.{Opening, State}
 use Rattle.control_word.specs.Views.{Knows, NoneBy}
-use Rattle.control_word.specs.declared.event.Cell.TheVariants.{Free, Member}
 use Rattle.control_word.specs.declared.event.Entry.{Entry}
 use Rattle.control_word.specs.declared.event.Event.{Event}
-use Rattle.control_word.specs.declared.event.Event.TheVariants.{ClearMember, Compare, Count, Expired, Finish, Join, Leave, Load, Lock, Make, Read}
-use Rattle.control_word.specs.declared.event.Event.TheVariants.{Share, Split, Swap, Visit, WeakLeave, WeakShare}
+use Rattle.control_word.specs.declared.event.Event.TheVariants.{Join, Split}
 use Rattle.control_word.specs.declared.shape.Shape.{Shape}
 use Rattle.control_block.specs.Desks.{Adds, DeskNow, state_of}
 use Rattle.control_block.specs.Laws.{CallsAdd, GoesAdd, GoesByCall, GoesByJoin, GoesByNone, GoesInTurn, JoinedRest, JoinsAdd, SplitsAdd}
 use Rattle.control_block.specs.Own.{Goes, events_of, own_of}
 use Rattle.control_block.specs.Parting.{JoinsWith, SplitsOff, in_history}
 use Rattle.control_block.specs.Rule.{opening_of}
-
-clash : (b : Bool) → b ≡ true → b ≡ false → ⊥
-clash b t f = cc
 
 module _ {V : Type 0} where
   -- the newest event is the name's own, or another's
@@ -92,80 +87,14 @@ module _ {V : Type 0} where
   pub calls_add : CallsAdd V
   calls_add d x e adds = goes_add d (x ∷ []) e (goes_by_call d x e adds)
 
-  -- no event takes a name away, or makes a joined one free
-  names_grow : (s : State) (e : ℕ) (a : Event V) → s.names ≤ (after s e a).names
-  names_grow s e (Make b enabled null fields val) = omega arith
-  names_grow s e (Share y p) = omega arith
-  names_grow s e (Leave y last) = omega arith
-  names_grow s e (Count y c) = omega arith
-  names_grow s e (Expired y c) = omega arith
-  names_grow s e (Read y c) = omega arith
-  names_grow s e (WeakShare o p) = omega arith
-  names_grow s e (WeakLeave y v) = omega arith
-  names_grow s e (Lock y g) = omega arith
-  names_grow s e (Load c y) = omega arith
-  names_grow s e (Swap (Free c) y w) = omega arith
-  names_grow s e (Swap (Member o m) y w) = omega arith
-  names_grow s e (Compare (Free c) u y w true k) = omega arith
-  names_grow s e (Compare (Member o m) u y w true k) = omega arith
-  names_grow s e (Compare c u y w false k) = omega arith
-  names_grow s e (ClearMember o m y) = omega arith
-  names_grow s e (Finish o v val) = omega arith
-  names_grow s e (Visit y c w) = omega arith
-  names_grow s e (Split to amount hs bs) = omega arith
-  names_grow s e (Join other) = omega arith
-
-  joined_grows : (s : State) (e : ℕ) (a : Event V) (n : ℕ) → s.joined n ≡ true → (after s e a).joined n ≡ true
-  joined_grows s e (Make b enabled null fields val) i j = j
-  joined_grows s e (Share y p) i j = j
-  joined_grows s e (Leave y last) i j = j
-  joined_grows s e (Count y c) i j = j
-  joined_grows s e (Expired y c) i j = j
-  joined_grows s e (Read y c) i j = j
-  joined_grows s e (WeakShare o p) i j = j
-  joined_grows s e (WeakLeave y v) i j = j
-  joined_grows s e (Lock y g) i j = j
-  joined_grows s e (Load c y) i j = j
-  joined_grows s e (Swap (Free c) y w) i j = j
-  joined_grows s e (Swap (Member o m) y w) i j = j
-  joined_grows s e (Compare (Free c) u y w true k) i j = j
-  joined_grows s e (Compare (Member o m) u y w true k) i j = j
-  joined_grows s e (Compare c u y w false k) i j = j
-  joined_grows s e (ClearMember o m y) i j = j
-  joined_grows s e (Finish o v val) i j = j
-  joined_grows s e (Visit y c w) i j = j
-  joined_grows s e (Split to amount hs bs) i j = j
-  joined_grows s e (Join other) i j = cond_both (i == other) true (s.joined i) (λ b. b ≡ true) (λ _. refl) (λ _. j)
-
-  joined_stays : (z : Opening) (later seen : List (Entry V)) (n : ℕ) → (leads z seen).joined n ≡ true → (leads z (later ++ seen)).joined n ≡ true
-  joined_stays z [] seen n j = j
-  joined_stays z (e ∷ later) seen n j = joined_grows (leads z (later ++ seen)) e.desk e.event n (joined_stays z later seen n j)
-
-  joined_quiet : (z : Opening) (later seen : List (Entry V)) → IsLegal z (later ++ seen) → (n : ℕ) → (leads z seen).joined n ≡ true
-      → events_of n (later ++ seen) ≡ events_of n seen
-  joined_quiet z [] seen legal n j = refl
-  joined_quiet z (e ∷ later) seen legal n j =
-      let s = leads z (later ++ seen) in
-      let stays = joined_stays z later seen n j in
-      others_first n e (later ++ seen) (λ q. clash (s.joined n) stays (subst (λ m. s.joined m ≡ false) q legal.1.acting.1))
-      ∙ joined_quiet z later seen legal.0 n j
-
   pub joined_rest : JoinedRest V
-  joined_rest d own e n goes legal j =
-      let z = opening_of d.shape in let all = subst (IsLegal z) goes.seen (goes.legal legal) in (
-        ap (events_of n) goes.seen ∙ joined_quiet z goes.later d.seen all n j,
+  joined_rest d own e n goes legal joined =
+      let z = opening_of d.shape in
+      let quiet = joined_is_quiet z goes.later d.seen (subst (IsLegal z) goes.seen (goes.legal legal)) n joined in (
+        ap (events_of n) goes.seen ∙ none_by n goes.later d.seen quiet,
         ap (λ (k : Shape). (leads (opening_of k) e.seen).joined n) goes.same.1
-            ∙ (ap (λ l. (leads z l).joined n) goes.seen ∙ joined_stays z goes.later d.seen n j),
+            ∙ (ap (λ l. (leads z l).joined n) goes.seen ∙ ((same_kept z goes.later d.seen n quiet).is_joined ∙ joined)),
       )
-
-  -- a name that isn't given yet has no event
-  unnamed_none : (z : Opening) (h : List (Entry V)) → IsLegal z h → (n : ℕ) → (leads z h).names ≤ n → events_of n h ≡ []
-  unnamed_none z [] legal n le = refl
-  unnamed_none z (e ∷ h) legal n le =
-      let s = leads z h in
-      let grow = names_grow s e.desk e.event in
-      let low = legal.1.acting.0 in
-      others_first n e h (λ q. omega arith) ∙ unnamed_none z h legal.0 n (omega arith)
 
   pub splits_add : SplitsAdd V
   splits_add d a k hs e new splits =
@@ -178,7 +107,7 @@ module _ {V : Type 0} where
         calls_add d x e adds,
         ap (events_of new.name) (splits.beside.2 ∙ adds.seen)
             ∙ (others_first new.name (entry d.name x) (adds.between ++ d.seen) (λ q. omega arith)
-            ∙ unnamed_none z (adds.between ++ d.seen) legal.0 new.name (omega arith)),
+            ∙ quiet_none new.name (adds.between ++ d.seen) (unnamed_is_quiet z (adds.between ++ d.seen) legal.0 new.name (omega arith))),
       )
 
   pub joins_add : JoinsAdd V
