@@ -1,4 +1,5 @@
-//! Tests of the machine of scripts, over the public functions of its crates alone: what no script reaches.
+//! Tests of scripts, from their texts to the machine's steps, over the public functions of their crates alone: what no
+//! script that runs reaches.
 #![tactic(auto)]
 
 #[cfg(test)]
@@ -17,4 +18,8 @@ mod steps;
 #[cfg(test)]
 mod table;
 #[cfg(test)]
+mod texts;
+#[cfg(test)]
 mod worlds;
+#[cfg(test)]
+mod writing;
