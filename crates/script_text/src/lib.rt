@@ -66,6 +66,8 @@ mod program;
 mod script;
 mod shape;
 mod statement;
+#[cfg(test)]
+mod tests;
 mod text;
 mod thread;
 mod word;
