@@ -14,3 +14,4 @@ pub mod Handles
 pub mod Inside
 pub mod Census
 pub mod Parting
+pub mod Standing

@@ -132,7 +132,8 @@ pub fn leave<V: Drop + Send, M: Meant>(
     ensures value { IfSome result (λ x. value (opening_of chair.old.me.0.shape) chair.new.me.0.view.seen M.object ≡ Some x) }
 {
     let word = block_word(block, OWNERS);
-    if board.fetch_sub::<Leaves<M>>(chair, word, 1) != 1 {
+    let found = board.fetch_sub::<Leaves<M>>(chair, word, 1);
+    if found != 1 {
         return None;
     }
     let Some(value) = board.exchange(chair, usize::from(block.0) - 1, None) else {

@@ -12,8 +12,8 @@ use Rattle.control_block.proofs.Chairs.{added_as, in_hand, same_value}
 use Rattle.control_block.proofs.kept.Leave.{allows_leave, allows_give_back}
 use Rattle.control_block.proofs.steps.leave.Goals as goal
 
-pub fetch_sub-requires : goal.fetch_sub-requires
-fetch_sub-requires g c =
+pub fetch_sub-found-requires : goal.fetch_sub-found-requires
+fetch_sub-found-requires g c =
     let r = c.requires in let i = c.block_word-word.result in let e = c.block_word-word.ensures in let board = c.args.board.now in
     let chair = c.args.chair.now in (
       r.board,
@@ -26,11 +26,11 @@ fetch_sub-requires g c =
 
 pub exchange-requires : goal.exchange-requires
 exchange-requires g c =
-    let l = c.fetch_sub.ensures.2.1 c.if-fetch_sub-ne1.false in (
-      c.fetch_sub.ensures.0 ∙ c.requires.board,
+    let l = c.fetch_sub-found.ensures.2.1 c.if-found-ne1.false in (
+      c.fetch_sub-found.ensures.0 ∙ c.requires.board,
       (
         Some l.1.0,
-        in_hand c.fetch_sub.new.seat.me.1 _ (Some l.1.0) _ (l.1.2
+        in_hand c.fetch_sub-found.new.seat.me.1 _ (Some l.1.0) _ (l.1.2
             ∙ ap (λ (b : ℕ). (b - 1, Some l.1.0) ∷ c.args.chair.now.me.1) (ap (λ (b : Block). b.0) c.requires.holds.0 ∙ sym c.from.ensures)),
       ),
     )
@@ -38,9 +38,9 @@ exchange-requires g c =
 pub load-requires : goal.load-requires
 load-requires g c =
     let r = c.requires in let i = c.block_word-word.result in let board = c.args.board.now in
-    let l = c.fetch_sub.ensures.2.1 c.if-fetch_sub-ne1.false in
+    let l = c.fetch_sub-found.ensures.2.1 c.if-found-ne1.false in
     let x = c.exchange.ensures in (
-      x.0 ∙ (c.fetch_sub.ensures.0 ∙ r.board),
+      x.0 ∙ (c.fetch_sub-found.ensures.0 ∙ r.board),
       subst (λ y. y < board.table_id.words) (sym c.block_word-word.ensures) r.word.2,
       allows_give_back board.key board.table_id.slots c.exchange.new.seat.id i c.args.block c.exchange.new.seat.me
           (ap (λ m. m.0.view.spent) x.3 ∙ (ap (λ w. w.view.spent) l.0.now ∙ r.rests.awake))
@@ -51,16 +51,16 @@ load-requires g c =
 
 pub returns-clause-event : goal.returns-clause-event
 returns-clause-event g c =
-    let v = c.args.chair.now.me.0 in let l = c.fetch_sub.ensures.2.1 c.if-fetch_sub-ne1.false in let x = c.exchange.ensures in
-    added_as v c.fetch_sub.new.seat.me.0 c.load.new.seat.me.0 Idle Idle (Some g.M.Meant.block) None (Leave
+    let v = c.args.chair.now.me.0 in let l = c.fetch_sub-found.ensures.2.1 c.if-found-ne1.false in let x = c.exchange.ensures in
+    added_as v c.fetch_sub-found.new.seat.me.0 c.load.new.seat.me.0 Idle Idle (Some g.M.Meant.block) None (Leave
     (owner g.M.Meant.object g.M.Meant.place) true) l.0
     (c.load.ensures.2.0 ∙ ap (λ m. seeing m.0 Idle None m.0.view.seen) x.3)
 
 pub returns-clause-value : goal.returns-clause-value
 returns-clause-value g c =
-    let v = c.args.chair.now.me.0 in let l = c.fetch_sub.ensures.2.1 c.if-fetch_sub-ne1.false in let x = c.exchange.ensures in
+    let v = c.args.chair.now.me.0 in let l = c.fetch_sub-found.ensures.2.1 c.if-found-ne1.false in let x = c.exchange.ensures in
     let seen = ap (λ w. w.view.seen) (c.load.ensures.2.0 ∙ ap (λ m. seeing m.0 Idle None m.0.view.seen) x.3) in
     let b : g.M.Meant.block.0 - 1 ≡ c.from.result - 1 = ap (λ (b : ℕ). b - 1) (ap (λ (b : Block). b.0) c.requires.holds.0 ∙ sym c.from.ensures) in
     ap (λ h. value (opening_of v.shape) h g.M.Meant.object) seen
-    ∙ (l.1.1 ∙ ap Some (same_value c.fetch_sub.new.seat.me _ l.1.0 c.in-Some.value c.exchange.result _ (l.1.2
+    ∙ (l.1.1 ∙ ap Some (same_value c.fetch_sub-found.new.seat.me _ l.1.0 c.in-Some.value c.exchange.result _ (l.1.2
     ∙ ap (λ (y : ℕ). (y, Some l.1.0) ∷ c.args.chair.now.me.1) b) x.2 c.in-Some.is))

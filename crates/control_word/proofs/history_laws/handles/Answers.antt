@@ -1,0 +1,11 @@
+use Rattle.control_word.proofs.history.Given as given
+use Rattle.control_word.proofs.history.Formation as formation
+use Rattle.control_word.proofs.history.Storing as storing
+use Rattle.control_word.proofs.history_laws.handles.Goals as goal
+
+pub returns : goal.returns
+returns g c = record {
+  names_an_object = given.names_an_object;
+  are_formed = formation.are_formed;
+  stored_once = storing.stored_once;
+}
