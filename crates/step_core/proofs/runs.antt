@@ -11,6 +11,8 @@ pub mod Lessening
 pub mod Looking
 pub mod Measures
 pub mod Says
+pub mod Taking
 pub mod Tasks
+pub mod Through
 pub mod Trying
 pub mod Waiting

@@ -14,24 +14,13 @@ use Rattle.step_core.specs.declared.trace.RunRefusal.{RunRefusal}
 use Rattle.step_core.specs.declared.trace.RunRefusal.TheVariants.{Memory, BadTurn}
 use Rattle.step_core.specs.declared.trace.TraceStep.{TraceStep}
 use Rattle.step_threads.specs.Scenes.{walk_of}
-use Rattle.step_table.specs.Stories.{Kept}
-use Rattle.step_core.specs.Worlds.{Sight, Steps, half_of, scene, sight_by, step_of}
+use Rattle.step_core.specs.Sights.{IsOver, Sight, half_of, scene}
+use Rattle.step_core.specs.Worlds.{Advances}
 
--- the steps came one after another, each of its actor, and after each the words stood for the history
+-- the steps came one after another, each of its actor
 abbrev pub IsRun : Sight → List TraceStep → Sight → Type 0
 IsRun u [] u' = u' ≡ u
-IsRun u (x ∷ xs) u' = (m : Sight) × Steps (x.actor - 1) u x.stepped m × Kept m.story × IsRun m xs u'
-
--- where as many steps of the same actors lead
-abbrev pub reached : Sight → List TraceStep → Sight
-reached u [] = u
-reached u (x ∷ xs) = reached (sight_by (x.actor - 1) u (step_of (x.actor - 1) u)) xs
-
--- thread d has made its last act, and ended its last object
-pub record IsOver (d : ℕ) (u : Sight) : Type 0 where
-  pub walk : (walk_of (scene u) d).todo ≡ []
-  pub endings : (walk_of (scene u) d).endings ≡ []
-  pub half : half_of u d ≡ Rest
+IsRun u (x ∷ xs) u' = (m : Sight) × Advances (x.actor - 1) u x.stepped m × IsRun m xs u'
 
 -- the step is one of thread d, which wasn't at its end
 abbrev pub IsStepOf : ℕ → TraceStep → Type 0
@@ -81,7 +70,7 @@ is_calling u d = goes_on (half_of u d) (walk_of (scene u) d).todo
 abbrev pub CallsOn : ℕ → Sight → List TraceStep → Sight → Type 0
 CallsOn d u [] u' = u' ≡ u
 CallsOn d u (x ∷ xs) u' =
-    (is_calling u d ≡ true) × (x.actor ≡ d + 1) × (m : Sight) × Steps d u x.stepped m × Kept m.story × CallsOn d m xs u'
+    (is_calling u d ≡ true) × (x.actor ≡ d + 1) × (m : Sight) × Advances d u x.stepped m × CallsOn d m xs u'
 
 -- thread d finished its call
 pub record FinishesCall (d : ℕ) (u : Sight) (xs : List TraceStep) (u' : Sight) : Type 0 where

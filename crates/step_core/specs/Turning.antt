@@ -182,10 +182,6 @@ turned_by (stepped.Quiet x) = Acted x
 turned_by stepped.Waited = Waited
 turned_by stepped.Done = Done
 
-abbrev pub is_event : Stepped → Bool
-is_event (stepped.Event x) = true
-is_event _ = false
-
 abbrev pub turned : Option Said → Turned
 turned None = Done
 turned (Some x) = Acted x

@@ -6,17 +6,17 @@ use Rattle.std.proofs.lemmas.List.Elements.{All-append, All-cons, All-nil}
 use Rattle.step_threads.specs.declared.said.Stepped.{Stepped}
 use Rattle.step_threads.specs.declared.said.Stepped.TheVariants.{Waited, Done}
 use Rattle.step_core.specs.declared.trace.TraceStep.{TraceStep}
-use Rattle.step_core.specs.Runs.{Adds, InOrder, IsOver, IsRun, IsStepOf, Moves, RunsToEnd}
-use Rattle.step_table.specs.Stories.{Kept}
-use Rattle.step_core.specs.Worlds.{Sight, Steps}
+use Rattle.step_core.specs.Runs.{Adds, InOrder, IsRun, IsStepOf, Moves, RunsToEnd}
+use Rattle.step_core.specs.Sights.{IsOver}
+use Rattle.step_core.specs.Worlds.{Advances, Sight}
 
 pub run_joined : (u m w : Sight) (xs ys : List TraceStep) → IsRun u xs m → IsRun m ys w → IsRun u (xs ++ ys) w
 run_joined u m w [] ys run on = subst (λ (z : Sight). IsRun z ys w) run on
-run_joined u m w (x ∷ xs) ys run on = (run.0, run.1, run.2, run_joined run.0 m w xs ys run.3 on)
+run_joined u m w (x ∷ xs) ys run on = (run.0, run.1, run_joined run.0 m w xs ys run.2 on)
 
-pub run_more : (u m w : Sight) (xs : List TraceStep) (x : TraceStep) → IsRun u xs m → Steps (x.actor - 1) m x.stepped w → Kept w.story
+pub run_more : (u m w : Sight) (xs : List TraceStep) (x : TraceStep) → IsRun u xs m → Advances (x.actor - 1) m x.stepped w
     → IsRun u (xs ++ x ∷ []) w
-run_more u m w xs x run steps kept = run_joined u m w xs (x ∷ []) run (w, steps, kept, refl)
+run_more u m w xs x run advances = run_joined u m w xs (x ∷ []) run (w, advances, refl)
 
 -- the number of a thread's actor
 pub number_of : (n : ℕ) → (n + 1) - 1 ≡ n
@@ -42,14 +42,14 @@ pub on_start : (d : ℕ) (u : Sight) (xs : List TraceStep) → IsOn d u xs u xs
 on_start d u xs =
     record { added = []; items = sym (append-nil xs); run = refl; alone = All-nil (IsStepOf d); moves = All-nil Moves; actors = refl }
 
-pub on_more : (d : ℕ) (u m w : Sight) (xs ys zs : List TraceStep) (r : Stepped) → IsOn d u xs m ys → Steps d m r w → Kept w.story
+pub on_more : (d : ℕ) (u m w : Sight) (xs ys zs : List TraceStep) (r : Stepped) → IsOn d u xs m ys → Advances d m r w
     → length w.walks ≡ length m.walks → r ≢ Done → r ≢ Waited → zs ≡ ys ++ record { actor = d + 1; stepped = r } ∷ [] → IsOn d u xs w zs
-on_more d u m w xs ys zs r on steps kept actors ne never is =
+on_more d u m w xs ys zs r on advances actors ne never is =
     let x : TraceStep = record { actor = d + 1; stepped = r } in
     record {
       added = on.added ++ x ∷ [];
       items = is ∙ ap (λ (l : List TraceStep). l ++ x ∷ []) on.items ∙ append_assoc xs on.added (x ∷ []);
-      run = run_more u m w on.added x on.run (subst (λ (n : ℕ). Steps n m r w) (sym (number_of d)) steps) kept;
+      run = run_more u m w on.added x on.run (subst (λ (n : ℕ). Advances n m r w) (sym (number_of d)) advances);
       alone = All-append (IsStepOf d) on.added (x ∷ []) on.alone (All-cons (IsStepOf d) x [] (refl, ne) (All-nil (IsStepOf d)));
       moves = moves_more on.added (on.added ++ x ∷ []) (d + 1) r on.moves never refl;
       actors = actors ∙ on.actors;

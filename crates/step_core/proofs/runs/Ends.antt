@@ -9,7 +9,8 @@ use Rattle.step_threads.specs.declared.half.Half.TheVariants.{Rest}
 use Rattle.step_threads.specs.declared.said.Stepped.{Stepped}
 use Rattle.step_core.specs.declared.trace.TraceStep.{TraceStep}
 use Rattle.step_threads.specs.Courses.{Walk}
-use Rattle.step_core.specs.Runs.{IsOver, IsRun, IsStepOf, RunInOrder}
+use Rattle.step_core.specs.Runs.{IsRun, IsStepOf, RunInOrder}
+use Rattle.step_core.specs.Sights.{IsOver}
 use Rattle.step_threads.specs.Scenes.{nowhere, walk_of}
 use Rattle.step_threads.specs.Steps.{half_by, walk_by}
 use Rattle.step_core.specs.Totals.{IsAtEnd}
@@ -33,8 +34,8 @@ all_still : (d e : ℕ) (u u' : Sight) (xs : List TraceStep) → e ≢ d → IsR
 all_still d e u u' [] ne run all over = subst (λ (w : Sight). IsOver e w) (sym run) over
 all_still d e u u' (x ∷ xs) ne run all over =
     let a = All-head (IsStepOf d) x xs all in
-    let s = subst (λ (n : ℕ). Steps n u x.stepped run.0) (same_number d x.actor a.0) run.1 in
-    all_still d e run.0 u' xs ne run.3 (All-tail (IsStepOf d) x xs all) (still_over d e u run.0 x.stepped ne s over)
+    let s = subst (λ (n : ℕ). Steps n u x.stepped run.0) (same_number d x.actor a.0) run.1.steps in
+    all_still d e run.0 u' xs ne run.2 (All-tail (IsStepOf d) x xs all) (still_over d e u run.0 x.stepped ne s over)
 
 -- after the runs of the first n threads these are at their ends
 pub all_over : (n : ℕ) (u u' : Sight) (xs : List TraceStep) → RunInOrder n u xs u' → (e : ℕ) → e < n → IsOver e u'

@@ -12,7 +12,7 @@ use Rattle.step_threads.specs.declared.said.Stepped.TheVariants.{Event, Quiet, W
 use Rattle.step_core.specs.Bounds.{alone, living, most_steps, spare, walk_steps}
 use Rattle.step_threads.specs.Courses.{Walk}
 use Rattle.step_table.specs.Openings.{opening}
-use Rattle.step_core.specs.Runs.{IsOver}
+use Rattle.step_core.specs.Sights.{IsOver}
 use Rattle.step_threads.specs.Scenes.{nowhere, walk_of}
 use Rattle.step_threads.specs.Steps.{Step, is_event, story_after, story_by, stepped, waits}
 use Rattle.step_table.specs.Stories.{Kept, Story}

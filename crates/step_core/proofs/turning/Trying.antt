@@ -3,7 +3,6 @@ use Rattle.std.proofs.Common.{◌≡◌, ◌≢◌, ℕ, ◌<◌, Bool, true, fa
 use Rattle.std.specs.Prelude.{Some}
 use Rattle.std.proofs.lemmas.Bool.{false≢true}
 use Rattle.std.proofs.lemmas.List.{set-get_or, set-set}
-use Rattle.step_table.specs.Stories.{Kept}
 use Rattle.step_threads.specs.declared.act.Act.{Act}
 use Rattle.step_threads.specs.declared.act.Task.{Task}
 use Rattle.step_threads.specs.declared.half.Half.{Half}
@@ -14,8 +13,9 @@ use Rattle.step_threads.specs.declared.said.Stepped.TheVariants.{Event, Quiet, W
 use Rattle.step_threads.specs.Courses.{Walk}
 use Rattle.step_threads.specs.Scenes.{Scene, walk_of}
 use Rattle.step_threads.specs.Steps.{is_event as is_done, stepped, story_after}
-use Rattle.step_core.specs.Turning.{HasBegun, Plays, is_acting, is_event, turned_by}
-use Rattle.step_core.specs.Worlds.{GoesTo, Sight, Steps, half_of, scene, sight_by, step_of}
+use Rattle.step_core.specs.Sights.{is_event}
+use Rattle.step_core.specs.Turning.{HasBegun, Plays, is_acting, turned_by}
+use Rattle.step_core.specs.Worlds.{Advances, GoesTo, Sight, Steps, half_of, scene, sight_by, step_of}
 use Rattle.step_core.proofs.turning.Chains.{more_steps, no_step, one_step}
 use Rattle.step_core.proofs.turning.Ending.{half_after, halves_after, same_walks, walk_after}
 use Rattle.step_core.proofs.turning.Resting.{scene_stays}
@@ -134,8 +134,8 @@ onward_now d u v w r trying begun steps never event =
     subst (λ (x : Sight). Onward d v x) (sym (steps.1 ∙ ap (sight_by d v) t.is)) o
 
 pub trying_on : (d : ℕ) (u v w : Sight) (r : Stepped) → IsTrying d u v → HasBegun d v → Steps d v r w → r ≢ Waited → is_event r ≡ false
-    → length w.walks ≡ length v.walks → Kept w.story → IsTrying d u w
-trying_on d u v w r trying begun steps never event actors kept =
+    → length w.walks ≡ length v.walks → Advances d v r w → IsTrying d u w
+trying_on d u v w r trying begun steps never event actors advances =
     let o = onward_now d u v w r trying begun steps never event in
     let same : walk_of (scene w) d ≡ walk_of (scene v) d = ap (λ (c : Scene). walk_of c d) o.scene in
     record {
@@ -143,7 +143,7 @@ trying_on d u v w r trying begun steps never event actors kept =
       tries = subst (λ (k : Walk). Tries (half_of w d) k) (sym same) o.tries;
       halves = o.halves ∙ ap (λ (l : List Half). set l d (half_of w d)) trying.halves ∙ set-set u.halves d (half_of v d) (half_of w d);
       actors = actors ∙ trying.actors;
-      goes = more_steps d u v w trying.goes (one_step d v w r steps kept);
+      goes = more_steps d u v w trying.goes (one_step d v w r advances);
     }
 
 pub trying_less : (d : ℕ) (u v w : Sight) (r : Stepped) → IsTrying d u v → HasBegun d v → Steps d v r w → r ≢ Waited → is_event r ≡ false

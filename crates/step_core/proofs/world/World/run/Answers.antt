@@ -1,18 +1,16 @@
 use Rattle.std.proofs.Common.{ℕ, List, ◌++◌, length, ap, subst, ◌∙◌, arith}
 use Rattle.step_core.specs.declared.trace.TraceStep.{TraceStep}
-use Rattle.step_core.specs.Worlds.{Sight}
+use Rattle.step_core.specs.Sights.{AllHold, Sight}
 use Rattle.step_core.proofs.runs.Calls.{settled_run}
 use Rattle.step_core.proofs.runs.Chains.{moves_on, whole}
 use Rattle.step_core.proofs.runs.Ends.{at_end}
 use Rattle.step_core.proofs.runs.Extents.{extent_run}
-use Rattle.step_core.specs.Headline.{CountsAtRest, LocksWhereOwned, TellsLocks, TellsWhatIsLeft, ValuesAtLastLeave, ValuesOnce}
 use Rattle.step_core.specs.Runs.{IsRun, RunInOrder, RunsToEnd, SettleInOrder, Settles}
 use Rattle.step_table.specs.Stories.{Kept}
 use Rattle.step_core.specs.Totals.{IsAtEnd}
-use Rattle.step_core.proofs.runs.Answers.{tells_locks}
-use Rattle.step_core.proofs.runs.Says.{tells}
+use Rattle.step_core.proofs.runs.Taking.{all_hold}
+use Rattle.step_core.proofs.runs.Through.{through}
 use Rattle.step_core.proofs.telling.Census.{at_rest, still_now}
-use Rattle.step_core.proofs.runs.Headline.{after_each, counts, last_leaves, locks, of_each, values}
 use Rattle.step_core.proofs.world.World.run.Goals as goal
 
 module _ (c : goal.After-known-2) where
@@ -24,6 +22,9 @@ module _ (c : goal.After-known-2) where
 
   start : Kept c.args.self.now.story
   start = subst (λ (u : Sight). Kept u.story) c.self.view_is c.known.ensures
+
+  hands : AllHold c.args.self.now
+  hands = subst AllHold c.self.view_is (all_hold c.self.inside.table c.self.inside.threads.items c.self.invariant.0)
 
   -- each thread is at its end
   ends : IsAtEnd c.finish.new.self
@@ -67,23 +68,8 @@ returns-clause-moves c =
     (moves_on (SettleInOrder (length c.follow.new.self.walks)) c.follow.new.self c.settle.new.self c.follow.new.steps.items c.settle.new.steps.items
     c.follow.ensures.moves c.settle.ensures.adds) c.finish.ensures.adds
 
-pub returns-clause-counts : goal.returns-clause-counts
-returns-clause-counts c = after_each CountsAtRest c.args.self.now c.finish.new.self c.finish.new.steps.items (all c) (start c) counts
-
-pub returns-clause-locks : goal.returns-clause-locks
-returns-clause-locks c = of_each LocksWhereOwned c.args.self.now c.finish.new.self c.finish.new.steps.items (all c) (start c) locks
-
-pub returns-clause-answers : goal.returns-clause-answers
-returns-clause-answers c = of_each TellsLocks c.args.self.now c.finish.new.self c.finish.new.steps.items (all c) (start c) tells_locks
-
-pub returns-clause-once : goal.returns-clause-once
-returns-clause-once c = after_each ValuesOnce c.args.self.now c.finish.new.self c.finish.new.steps.items (all c) (start c) values
-
-pub returns-clause-values : goal.returns-clause-values
-returns-clause-values c = of_each ValuesAtLastLeave c.args.self.now c.finish.new.self c.finish.new.steps.items (all c) (start c) last_leaves
-
-pub returns-clause-told : goal.returns-clause-told
-returns-clause-told c = of_each TellsWhatIsLeft c.args.self.now c.finish.new.self c.finish.new.steps.items (all c) (start c) tells
+pub returns-clause-headline : goal.returns-clause-headline
+returns-clause-headline c = through c.args.self.now c.finish.new.self c.finish.new.steps.items (all c) (start c) (hands c)
 
 pub returns-clause-rest : goal.returns-clause-rest
 returns-clause-rest c = λ b inside.

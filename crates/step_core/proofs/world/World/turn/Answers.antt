@@ -1,6 +1,8 @@
 use Rattle.std.proofs.Common.{◌-◌, ℕ, subst}
+use Rattle.step_core.specs.Sights.{AllHold}
 use Rattle.step_core.specs.Worlds.{GoesTo, Turns}
 use Rattle.step_core.proofs.runs.Extents.{extent_goes}
+use Rattle.step_core.proofs.runs.Taking.{all_hold}
 use Rattle.step_core.proofs.turning.Chains.{more_steps}
 use Rattle.step_core.proofs.turning.Turns.{turns}
 use Rattle.step_core.proofs.world.World.turn.Goals as goal
@@ -19,3 +21,6 @@ returns-clause-steps c =
 
 pub returns-clause-extent : goal.returns-clause-extent
 returns-clause-extent c = let g = returns-clause-steps c in extent_goes (c.args.actor - 1) c.args.self.now c.rest-2.new.self g
+
+pub returns-clause-hands : goal.returns-clause-hands
+returns-clause-hands c = subst AllHold c.self.view_is (all_hold c.self.inside.table c.self.inside.threads.items c.self.invariant.0)

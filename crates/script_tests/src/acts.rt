@@ -1,26 +1,7 @@
-//! An object's life, step by step.
-use crate::act::{Act, tasks};
-use crate::call::{Call, CellName, Kind, Name};
-use crate::stock::Stock;
-use control_word::{Block, Place};
+//! The acts of a call, and whose a cell is.
 use std::test::Fail;
-
-const BLOCK: Block = Block(1);
-
-const ORIGIN: Option<Place> = Some(Place {
-    block: BLOCK,
-    field: 0,
-});
-
-#[test]
-fn the_least_block_comes_first(rt: HostRuntime) -> Result<(), Fail> {
-    let mut stock = Stock::new(rt.alloc(), 3, 3, 3)?;
-    let least = stock.take_least();
-    assert_eq!(rt; least, Some(Block(3)));
-    let next = stock.take_least();
-    assert_eq!(rt; next, Some(Block(4)));
-    Ok(())
-}
+use step_threads::act::{Act, tasks};
+use step_threads::call::{Call, CellName, Kind, Name};
 
 #[test]
 fn a_copy_is_two_acts(rt: HostRuntime) -> Result<(), Fail> {

@@ -1,15 +1,15 @@
 //! Values go between the slots of an actor and a cell, step by step.
-use crate::cell_deed::Cell;
-use crate::comparing::Comparing;
-use crate::extent::Extent;
-use crate::form::Form;
-use crate::holdings::{Holdings, Pointer};
-use crate::table::Table;
 use control_word::cell::pack;
 use control_word::handle::Kind;
 use control_word::layout::OWNERS;
 use control_word::{Block, CellWord, Place, Shape};
 use std::test::Fail;
+use step_table::cell_deed::Cell;
+use step_table::comparing::Comparing;
+use step_table::extent::Extent;
+use step_table::form::Form;
+use step_table::holdings::{Holdings, Pointer};
+use step_table::table::Table;
 
 const BLOCK: Block = Block(1);
 

@@ -1,11 +1,11 @@
 //! An object's life, step by step.
-use crate::ended::Ended;
-use crate::extent::Extent;
-use crate::holdings::Pointer;
-use crate::table::Table;
 use control_word::handle::Kind;
 use control_word::{Block, Place, Shape};
 use std::test::Fail;
+use step_table::ended::Ended;
+use step_table::extent::Extent;
+use step_table::holdings::Pointer;
+use step_table::table::Table;
 
 const BLOCK: Block = Block(1);
 

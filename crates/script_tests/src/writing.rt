@@ -1,9 +1,9 @@
 //! What no script that runs says: writers that fail, lines that no run of one writes, and lists of turns by themselves.
-use crate::listing::{write_lines, write_text};
-use crate::sink::{Output, Sink, WriteFailed, write_all};
-use crate::stepping::{fine_text, step_text};
-use crate::turns::turns_of;
 use control_word::{Block, Place, Refusal};
+use script_stepper::turns::turns_of;
+use script_stepper::{
+    Output, Sink, WriteFailed, fine_text, step_text, write_all, write_lines, write_text,
+};
 use script_text::Fault;
 use std::alloc::Global;
 use std::io;

@@ -2,7 +2,7 @@ use Rattle.std.proofs.Common.{rules, arith}
 use Rattle.std.specs.Prelude.{Some}
 use Rattle.control_word.specs.Events.{place_at}
 use Rattle.control_word.specs.Handles.{owner}
-use Rattle.step_table.proofs.holding_tests.a_member_is_taken_out.Goals as goal
+use Rattle.script_tests.proofs.holdings.a_member_is_taken_out.Goals as goal
 
 pub exchange-requires-clause-open : goal.exchange-requires-clause-open
 exchange-requires-clause-open g c = (omega arith, (owner 1 (place_at 1), search rules, search rules))

@@ -1,5 +1,5 @@
 //! What no script that runs says: texts that are written, calls that are handed on, and what faults print.
-use crate::{Cause, Fault, parse, print};
+use script_text::{Cause, Fault, parse, print};
 use std::test::Fail;
 use step_core::{Call, CellName, Field, Kind, Name};
 
