@@ -1,6 +1,7 @@
 pub mod Alone
 pub mod Answers
 pub mod Calls
+pub mod Calming
 pub mod Chains
 pub mod Clearing
 pub mod Ends

@@ -1,4 +1,6 @@
 pub mod Walking
+pub mod Tidying
+pub mod Names
 pub mod Order
 pub mod Deeds
 pub mod Counting

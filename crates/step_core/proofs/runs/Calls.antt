@@ -75,7 +75,7 @@ calling_on d u u' r begun steps goes done =
     ended h ts rests none = ap (λ (x : Half). goes_on x ts) rests ∙ ap compares_next none
 
 -- a thread whose call is done rests
-rests : (h : Half) (ts : List Task) → goes_on h ts ≡ false → h ≡ Rest
+pub rests : (h : Half) (ts : List Task) → goes_on h ts ≡ false → h ≡ Rest
 rests Rest ts e = refl
 rests (Making b i f) ts e = absurd (false≢true (sym e))
 rests (Locking word) ts e = absurd (false≢true (sym e))

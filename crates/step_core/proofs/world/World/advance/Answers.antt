@@ -30,7 +30,7 @@ invariant_of-self c =
           (has_begun c.self.inside.table c.self.inside.threads.items c.args.number c.index_mut-thread.result.now lt c.index_mut-thread.ensures.value
           (c.self.invariant.0.each c.args.number c.index_mut-thread.result.now
           (thread_at c.self.inside.threads.items c.args.number c.index_mut-thread.result.now lt c.index_mut-thread.ensures.value)) c.known.ensures c.self.invariant.0
-          c.self.invariant.1.threads) lt
+          c.self.invariant.1.threads (c.self.invariant.1.tidy c.args.number)) lt
           c.index_mut-thread.ensures.value c.step-stepped.ensures.stepped c.self.invariant.1 c.makes.ensures c.ends.ensures,
     )
 
@@ -47,7 +47,7 @@ module _ (c : goal.After-self-3-1) where
       has_begun c.self.inside.table c.self.inside.threads.items c.args.number c.index_mut-thread.result.now within c.index_mut-thread.ensures.value
       (c.self.invariant.0.each c.args.number c.index_mut-thread.result.now
       (thread_at c.self.inside.threads.items c.args.number c.index_mut-thread.result.now within c.index_mut-thread.ensures.value)) c.known.ensures
-      c.self.invariant.0 c.self.invariant.1.threads
+      c.self.invariant.0 c.self.invariant.1.threads (c.self.invariant.1.tidy c.args.number)
 
   all : AllFit c.step-stepped.new.table (set c.self.inside.threads.items c.args.number c.step-stepped.new.self)
   all =
