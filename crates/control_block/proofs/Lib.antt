@@ -44,3 +44,7 @@ pub mod WeakGifts
 pub mod Near
 pub mod DeskStores
 pub mod kept
+pub mod Own
+pub mod Sole
+pub mod Latest
+pub mod HandleLists

@@ -15,3 +15,6 @@ pub mod Inside
 pub mod Census
 pub mod Parting
 pub mod Standing
+pub mod Own
+pub mod Laws
+pub mod HandleLists

@@ -3,7 +3,9 @@
 ghost use Rattle.control_word.specs.Laws.{GivesOnce, LiveWhileOwned, NamesAnObject, StoredOnce};
 ghost use Rattle.control_word.specs.Laws.{AreFormed, AllowancesAddUp, NumbersFit, StaysExpired};
 ghost use Rattle.control_word.specs.Laws.{OrdersByOwner, SoleHasSeenAll, RestsExactly};
-ghost use Rattle.control_word.specs.Laws.{IsStrictWeakOrder, IsEquivalence};
+ghost use Rattle.control_word.specs.Laws.{EndsInHands, EndsStill, StaysAsMade, StaysTheLatest};
+ghost use Rattle.control_word.specs.Laws.{FewAtOnce, NothingUnseen, JoinedIsQuiet, UnnamedIsQuiet};
+ghost use Rattle.control_word.specs.Laws.{CountsExactly, IsStrictWeakOrder, IsEquivalence};
 ghost use Rattle.control_word.specs.Worked.{CountAfterCopy, LockKeepsAlive};
 ghost use Rattle.control_word.specs.Worked.{FailedCompareHandsOutHeld, BlockUsedAgain, CycleStays};
 
@@ -17,6 +19,16 @@ pub fn objects<V>()
     // An object that a desk with a weak handle saw expired stays expired
     // ([util.smartptr.weak.obs]).
     ensures stays_expired { StaysExpired V }
+    // An object that ends was made, is in the hands of a desk that acts, and is the latest in its
+    // block (own).
+    ensures ends_in_hands { EndsInHands V }
+    // What ends in a desk's hands ends there still, until the desk itself goes on with it (own).
+    ensures ends_still { EndsStill V }
+    // An object that was made stays in its block, with the fields and the flags that it was made
+    // with (own).
+    ensures stays_as_made { StaysAsMade V }
+    // Live objects and ending ones are no more than there are blocks (own).
+    ensures few_at_once { FewAtOnce V }
 {}
 
 /// Of every legal history: what handles name, and where vacant blocks are.
@@ -26,6 +38,9 @@ pub fn handles<V>()
     ensures names_an_object { NamesAnObject V }
     // Handles in bags and in cells are well formed, and those in cells of the cells' kinds (own).
     ensures are_formed { AreFormed V }
+    // The object that was last made in a block is so still while a desk has a handle of it, or has
+    // its ending in hand (own).
+    ensures stays_the_latest { StaysTheLatest V }
     // A vacant block is in just one store, and no other block is in any (own).
     ensures stored_once { StoredOnce V }
 {}
@@ -38,6 +53,9 @@ pub fn counts<V>()
     // Between any two steps: whenever a block is at rest, its owner and weak counts are exactly the
     // handles on it, in desks and cells together (own).
     ensures rests_exactly { RestsExactly V }
+    // Between any two steps: wherever no load of an object is under way, its owner word tells
+    // exactly how many owners it has ([util.smartptr.shared.obs]).
+    ensures counts_exactly { CountsExactly V }
 {}
 
 /// Of every legal history: what desks may hold, and what they know.
@@ -47,6 +65,13 @@ pub fn desks<V>()
     ensures allowances_add_up { AllowancesAddUp V }
     // Between any two steps: a desk that has the whole allowance has seen all (own).
     ensures sole_has_seen_all { SoleHasSeenAll V }
+    // Of two histories of which one is a beginning of the other: what comes after all that a desk
+    // with the whole allowance has seen is its own (own).
+    ensures nothing_unseen { NothingUnseen V }
+    // A desk that was joined makes no later event, and none names it (own).
+    ensures joined_is_quiet { JoinedIsQuiet V }
+    // A name that isn't given yet has made no event, and none names it (own).
+    ensures unnamed_is_quiet { UnnamedIsQuiet V }
 {}
 
 /// Owner order, and what compares go by.

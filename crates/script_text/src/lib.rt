@@ -66,8 +66,6 @@ mod program;
 mod script;
 mod shape;
 mod statement;
-#[cfg(test)]
-mod tests;
 mod text;
 mod thread;
 mod word;

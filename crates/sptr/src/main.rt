@@ -4,8 +4,6 @@
 mod answers;
 mod command;
 mod serve;
-#[cfg(test)]
-mod tests;
 
 use script_stepper::Output;
 use serve::serve;

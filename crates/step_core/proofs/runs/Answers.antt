@@ -259,7 +259,7 @@ newest_gave [] = None
 newest_gave (e ∷ h) = gave_by e.event
 
 -- an event that is a lock comes by a deed that is one
-by_deed : (v : Story) (d : ℕ) (y : Deed) (w : Handle) (gave : Bool) → added d (event_of v y) v.history ≡ entry d (event.Lock w gave) ∷ v.history
+by_deed : (v : Story) (d : ℕ) (y : Deed) (w : Handle) (gave : Bool) → added d (event_of (state v) y) v.history ≡ entry d (event.Lock w gave) ∷ v.history
     → lock_of (Some y) ≡ Some gave
 by_deed v d (deed.Lock b p got) w gave e = ap newest_gave e
 by_deed v d (deed.Prepare b) w gave e = absurd (let n = ap (λ (h : List (Entry Nothing)). length h) e in omega (arith, n))

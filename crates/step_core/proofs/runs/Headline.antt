@@ -78,7 +78,7 @@ told v d (Some x) = go x.deed
 
     go : (y : Option Deed) → ((story_after v d y).history ≡ v.history) ⊎ ((e : Event Nothing) × ((story_after v d y).history ≡ entry d e ∷ v.history))
     go None = inl refl
-    go (Some y) = one (event_of v y)
+    go (Some y) = one (event_of (state v) y)
 
 -- what the newest event is
 abbrev pub newest_is_last : List (Entry Nothing) → Bool

@@ -1,6 +1,6 @@
 -- What a step of a make does.
 use Rattle.std.proofs.Common.{◌≡◌, ℕ, ◌+◌, ◌<◌, ◌==◌, Bool, true, false, cond, List, ◌∷◌, inl, inr, get_or, set, refl, sym, ap, ◌∙◌, arith}
-use Rattle.std.specs.Prelude.{Option, Some, None}
+use Rattle.std.specs.Prelude.{Option, Some, None, option_map}
 use Rattle.std.proofs.lemmas.Bool.{cond_both, eqb-false}
 use Rattle.control_word.specs.declared.place.Block.{Block}
 use Rattle.step_threads.specs.declared.act.Act.{Act}
@@ -8,9 +8,10 @@ use Rattle.step_threads.specs.declared.act.Act.TheVariants.{Make}
 use Rattle.step_threads.specs.declared.act.Task.{Task}
 use Rattle.step_threads.specs.declared.half.Half.{Half}
 use Rattle.step_threads.specs.declared.half.Half.TheVariants.{Making}
+use Rattle.step_table.specs.Openings.{opening}
 use Rattle.step_threads.specs.Actors.{wanted}
 use Rattle.step_threads.specs.Courses.{form_of, settled}
-use Rattle.step_threads.specs.Entries.{least, made}
+use Rattle.step_threads.specs.Entries.{does, least, makes}
 use Rattle.step_threads.specs.Scenes.{full_answer, holding, walk_of}
 use Rattle.step_threads.specs.Steps.{claims, made_on, prepares}
 use Rattle.step_table.specs.Stories.{known, pending, state}
@@ -28,7 +29,7 @@ claims_so d u k ts b a is low =
       ap (λ (q : Option ℕ). record { statement = k; answer = full_answer q; ended = None }) (sym low) ∙ ap (acted_said d u k) (sym is),
       ap (λ (q : Option ℕ). record {
         extent = u.story.extent;
-        history = made d f u.story.history q;
+        history = does (opening u.story.extent) d u.story.history (option_map (makes f) q);
         walks = set u.walks d (let y = holding w.slots f.null q in settled y.0 y.1 w.endings ts);
       }) (sym low)
           ∙ ap (acted_scene d u k ts) (sym is),
