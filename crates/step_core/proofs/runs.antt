@@ -8,6 +8,7 @@ pub mod Ends
 pub mod Extents
 pub mod Headline
 pub mod Leaving
+pub mod Locks
 pub mod Lessening
 pub mod Looking
 pub mod Measures

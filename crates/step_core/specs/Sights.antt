@@ -43,9 +43,10 @@ abbrev pub is_event : Stepped → Bool
 is_event (stepped.Event x) = true
 is_event _ = false
 
--- what any step of thread d does, by what it answers: an event is one more entry of this thread's desk in the history, and any other
--- step leaves the history as it was; the answer is `Done` just at the thread's end, and then nothing changes; the other threads are
--- where they were; and after it the slots of all threads have just what the history says
+-- what any step of thread d does, by what it answers: an event is one more entry of this thread's desk in the
+-- history, and any other step leaves the history as it was; the answer is `Done` just at the thread's end, and then
+-- nothing changes; the other threads are where they were; and after it the slots of all threads have just what the
+-- history says
 pub record Takes (d : ℕ) (u : Sight) (r : Stepped) (u' : Sight) : Type 0 where
   pub event : is_event r ≡ true → (e : Event Nothing) × (u'.story.history ≡ entry d e ∷ u.story.history)
   pub quiet : is_event r ≡ false → u'.story.history ≡ u.story.history

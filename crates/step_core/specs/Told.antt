@@ -41,8 +41,8 @@ pub record IsTidy (w : Walk) : Type 0 where
   pub names : (i : ℕ) → i < other w.slots → is_full (slot w.slots i) ≡ true → Leaves i w.todo
   pub all : LeavesAll (other w.slots) w.todo
 
--- the totals are those of the history, and small: an object is made by a task that has the steps of its end, and no more are left
--- than were made. No cell has lost all of its funds. What a name holds is left before its thread's end
+-- the totals are those of the history, and small: an object is made by a task that has the steps of its end, and no
+-- more are left than were made. No cell has lost all of its funds. What a name holds is left before its thread's end
 pub record IsTold (u : Sight) (m e : ℕ) : Type 0 where
   pub threads : length u.walks ≡ u.story.extent.actors
   pub halves : length u.halves ≡ length u.walks

@@ -27,7 +27,8 @@ abbrev Call : Type 0
 Call = Pending Nothing
 
 -- what a half has pending that owes nothing
-half_calm : (d : ℕ) (h : Half) (slots : Slots) (a : Act) (v : Story) → HalfFits d h slots a v → is_owing h ≡ false → is_paying (pending v d) ≡ false
+half_calm : (d : ℕ) (h : Half) (slots : Slots) (a : Act) (v : Story) → HalfFits d h slots a v → is_owing h ≡ false
+    → is_paying (pending v d) ≡ false
 half_calm d Rest slots a v fits calm = ap is_paying fits
 half_calm d (Making b i f) slots a v fits calm = ap is_paying fits.making.making
 half_calm d (Locking word) slots a v fits calm = ap is_paying fits.0
@@ -47,21 +48,25 @@ half_calm d Clearing slots a v fits calm = ap is_paying fits
 abbrev pub AllCalm : ℕ → Sight → Type 0
 AllCalm n u = (e : ℕ) → e < n → is_owing (half_of u e) ≡ false
 
-pub none_pays : (v : Story) (threads : List Thread) → AllFit v threads → length (map thread_walk threads) ≡ v.extent.actors → Kept v
+pub none_pays : (v : Story) (threads : List Thread) → AllFit v threads
+    → length (map thread_walk threads) ≡ v.extent.actors → Kept v
     → AllCalm (length (map thread_walk threads)) (sight v threads) → NonePays (sight v threads)
 none_pays v threads all many kept calm e =
     ⊎_elim
     (λ (p : (t : Thread) × (e < length threads) × (slice_get threads e ≡ Some t) × (get_or threads e t ≡ t)).
     let t = p.0 in
     let fits = all.each e t p.2 in
-    let h : get_or (map thread_half threads) e Rest ≡ t.half = get_or-map thread_half threads e t Rest p.1 ∙ ap thread_half p.3 in
+    let h : get_or (map thread_half threads) e Rest ≡ t.half = get_or-map thread_half threads e t Rest p.1 ∙
+    ap thread_half p.3 in
     let lt = p.1 in
     let m = length-map threads thread_walk in
-    half_calm e t.half t.course.holdings.slots.items (task_at t.course).act v fits.half (ap is_owing (sym h) ∙ calm e (omega (arith, lt, m))))
+    half_calm e t.half t.course.holdings.slots.items (task_at t.course).act v fits.half
+    (ap is_owing (sym h) ∙ calm e (omega (arith, lt, m))))
     (λ (q : (length threads ≤ e) × (slice_get threads e ≡ None)).
     let le = q.0 in
     ap (λ (w : View Nothing). is_paying w.pending)
-    (get_or_past v.views e used_up (let s = kept.seats.size in let m = length-map threads thread_walk in omega (arith, s, le, many, m))))
+    (get_or_past v.views e used_up (let s = kept.seats.size in let m = length-map threads thread_walk in omega
+    (arith, s, le, many, m))))
     (slice_get_cases threads e).1
 
 -- a thread that goes on with its call leaves the others as they were
@@ -88,5 +93,7 @@ pub all_calm : (n : ℕ) (u u' : Sight) (xs : List TraceStep) → SettleInOrder 
 all_calm zero u u' xs runs e lt = absurd (omega (arith, lt))
 all_calm (suc n) u u' xs runs e lt =
     let mine = runs.5 in
-    ⊎_elim (λ (is : e ≡ n). subst (λ (i : ℕ). is_owing (half_of u' i) ≡ false) (sym is) (settled_calm n runs.2 u' runs.1 mine))
-    (λ (ne : e ≢ n). ap is_owing (settled_stay n e runs.2 u' runs.1 ne mine) ∙ all_calm n u runs.2 runs.0 runs.4 e (omega (arith, lt, ne))) (cases_eq e n)
+    ⊎_elim (λ (is : e ≡ n). subst (λ (i : ℕ). is_owing (half_of u' i) ≡ false) (sym is)
+    (settled_calm n runs.2 u' runs.1 mine))
+    (λ (ne : e ≢ n). ap is_owing (settled_stay n e runs.2 u' runs.1 ne mine) ∙ all_calm n u runs.2 runs.0 runs.4 e
+    (omega (arith, lt, ne))) (cases_eq e n)

@@ -1,5 +1,5 @@
 -- Names that hold something are left by a task to come, after each step.
-use Rattle.std.proofs.Common.{◌≡◌, ◌≢◌, ◌⊎◌, inl, inr, ℕ, zero, suc, ◌+◌, ◌<◌, ◌==◌, Bool, true, false, cond, List, [], ◌∷◌, ◌++◌, length, get_or, map, replicate, refl, sym, ap, subst, ⊎_elim, arith}
+use Rattle.std.proofs.Common.{◌≡◌, ◌≢◌, ◌⊎◌, inl, inr, ℕ, ◌<◌, ◌==◌, Bool, true, false, cond, List, [], ◌∷◌, length, get_or, refl, sym, subst, ⊎_elim}
 use Rattle.std.proofs.Common.{get_or-set_other, get_or-set_same, length-set}
 use Rattle.std.specs.Prelude.{Option, Some, None, is_some, option_map, slice_set}
 use Rattle.std.proofs.lemmas.Bool.{cases_eq, cond_both}
@@ -8,7 +8,6 @@ use Rattle.control_word.specs.declared.place.Block.{Block}
 use Rattle.step_threads.specs.declared.act.Act.{Act}
 use Rattle.step_threads.specs.declared.act.Act.TheVariants.{Make, Lock, Clear, FromThis, Swap, Exchange, Load, Compare, Leave}
 use Rattle.step_threads.specs.declared.act.Task.{Task}
-use Rattle.step_threads.specs.declared.call.Call.{Call}
 use Rattle.step_threads.specs.declared.ending.Ending.{Ending}
 use Rattle.step_threads.specs.declared.half.Half.{Half}
 use Rattle.step_threads.specs.declared.half.Half.TheVariants.{Rest, Making, Locking, Giving, Brought, Saw, Matched, Refill, Returning, Clearing}
@@ -21,28 +20,33 @@ use Rattle.step_table.specs.declared.past.Deed.TheVariants as deed
 use Rattle.step_table.specs.Cells.{word_at}
 use Rattle.step_table.specs.Contents.{compared_in, held_in, seen, slot_of}
 use Rattle.step_table.specs.Deeds.{is_enabled, lock, on, owner_word}
-use Rattle.step_table.specs.Holdings.{Slots, inside, is_full, plain, pointer_of, slot}
+use Rattle.step_table.specs.Holdings.{Slots, inside, is_full, slot}
 use Rattle.step_table.specs.Stories.{Story, known, object_in, pending, state}
 use Rattle.control_word.specs.State.{weak}
 use Rattle.step_threads.specs.Actors.{wanted}
-use Rattle.step_threads.specs.Acts.{acts as acts_of, clearing, numbered, tasks_from}
 use Rattle.step_threads.specs.Courses.{Going, Walk, cell_at, comparing, form_of, going, hand, locked, on_going, other, settled}
 use Rattle.step_threads.specs.Endings.{staged}
 use Rattle.step_threads.specs.Entries.{least}
-use Rattle.step_threads.specs.Programs.{Part}
 use Rattle.step_threads.specs.Scenes.{holding, nowhere, walk_of, went}
 use Rattle.step_threads.specs.Steps.{Step, acts, asks, at_rest, begins, begun, brings, claims, emptied, ends_on, first, given, looks, made_on, matched, matched_on, prepares, saw, saw_on, sends, sent, silent, step_at, swaps, tried, tries, trying, walk_by, with_endings, within}
-use Rattle.step_core.specs.Starts.{first_walk, no_slots}
 use Rattle.step_core.specs.Told.{IsTidy, Leaves, LeavesAll}
 use Rattle.step_core.specs.Turning.{IsUnderWay}
 use Rattle.step_core.specs.Worlds.{Sight, half_of, scene, sight_by, step_of}
 use Rattle.step_core.proofs.telling.Cases.{IsEach, IsEachAct, each_compares, each_load, each_matched, each_refill, each_saw}
-use Rattle.step_core.proofs.telling.Tidying.{any_tidy, fresh_tidy, hand_tidy, left_tidy, make_tidy, went_tidy}
+use Rattle.step_core.proofs.telling.Tidying.{any_tidy, hand_tidy, left_tidy, make_tidy, went_tidy}
 
 -- the first step of an act leaves the walk as it is, is the act, or is refused
 module _ (v : Story) (d k : ℕ) (w : Walk) (ts : List Task) (P : Walk → Type 0) (same : P w) where
   each_cell : (a : Act) (c : Cell) → P (went (state v) d w k ts a) → IsEach v d w k ts a c (λ (x : Step). P x.walk)
-  each_cell a c done = record { quiet = λ h. same; look = λ x y. done; take = λ x y h. done; swap = λ x y h. done; bring = λ x p. same }
+  each_cell a c done =
+      record {
+        quiet = λ h. same;
+        look = λ x y. done;
+        take = λ x y h. done;
+        swap = λ x y h. done;
+        bring = λ x p.
+            same;
+      }
 
   going_by : (a : Act) (o : Option Going) → P (went (state v) d w k ts a)
       → P (on_going (sends v d w k ts a) (acts v d w k ts a None Rest) o).walk
@@ -53,17 +57,20 @@ module _ (v : Story) (d k : ℕ) (w : Walk) (ts : List Task) (P : Walk → Type 
       go None = done
       go (Some p) = same
 
-  looks_by : (a : Act) (o : Option Pointer) → P (went (state v) d w k ts a) → P (on (looks v d w k ts a) (acts v d w k ts a None Rest) o).walk
+  looks_by : (a : Act) (o : Option Pointer) → P (went (state v) d w k ts a)
+      → P (on (looks v d w k ts a) (acts v d w k ts a None Rest) o).walk
   looks_by a None done = done
   looks_by a (Some x) done =
-      cond_both (owner_word v x == 0) (acts v d w k ts a (Some (lock (state v) x)) Rest) (trying w k (owner_word v x)) (λ (s : Step). P s.walk)
+      cond_both (owner_word v x == 0) (acts v d w k ts a (Some (lock (state v) x)) Rest) (trying w k (owner_word v x))
+      (λ (s : Step). P s.walk)
       (λ e. done) (λ e. same)
 
   begins_by : (o : Option ℕ) → P (settled w.slots false w.endings ts) → P (begins w k ts o).walk
   begins_by None made = made
   begins_by (Some b) made = same
 
-  first_by : (a : Act) → P (went (state v) d w k ts a) → ((form : Form) → a ≡ Make form → P (settled w.slots false w.endings ts))
+  first_by : (a : Act) → P (went (state v) d w k ts a)
+      → ((form : Form) → a ≡ Make form → P (settled w.slots false w.endings ts))
       → P (first v d w k ts a).walk
   first_by (Make form) done made = begins_by (least d (state v).stores) (made form refl)
   first_by (Lock i must) done made = looks_by (Lock i must) (locked w.slots (Lock i must)) done
@@ -80,7 +87,8 @@ module _ (v : Story) (d k : ℕ) (w : Walk) (ts : List Task) (P : Walk → Type 
       each_load v d w k ts c (λ (x : Step). P x.walk) (each_cell (Load c) (cell_at (state v) w.slots c) done) done
   first_by (Compare i c weak) done made =
       each_compares v d w k ts (Compare i c weak) (cell_at (state v) w.slots c) (λ (x : Step). P x.walk)
-      (each_cell (Compare i c weak) (cell_at (state v) w.slots c) done) (compared_in w.slots (comparing w.slots i weak)) (seen v (cell_at (state v) w.slots c))
+      (each_cell (Compare i c weak) (cell_at (state v) w.slots c) done)
+      (compared_in w.slots (comparing w.slots i weak)) (seen v (cell_at (state v) w.slots c))
   first_by _ done made = done
 
 -- the thread is tidy after its step
@@ -107,27 +115,32 @@ module _ (v : Story) (d : ℕ) (w : Walk) (tidy : IsTidy w) where
       } in
       let cleared = within (with_endings w (staged e ∷ es)) e.statement (Some (deed.Clear e.block e.stage)) Rest in
       let looked = within w e.statement None Clearing in
-      cond_both (e.stage == 3) finished (cond (word_at v (Member e.block e.stage) == 0) cleared looked) (λ (x : Step). IsTidy x.walk)
+      cond_both (e.stage == 3) finished (cond (word_at v (Member e.block e.stage) == 0) cleared looked)
+      (λ (x : Step). IsTidy x.walk)
       (λ c. with_tidy es)
-      (λ c. cond_both (word_at v (Member e.block e.stage) == 0) cleared looked (λ (x : Step). IsTidy x.walk) (λ b. with_tidy (staged e ∷ es)) (λ b. tidy))
+      (λ c. cond_both (word_at v (Member e.block e.stage) == 0) cleared looked (λ (x : Step). IsTidy x.walk)
+      (λ b. with_tidy (staged e ∷ es)) (λ b. tidy))
 
   rest_tidy : (es : List Ending) → Tidy (at_rest v d w es)
   rest_tidy [] = task_tidy w.todo refl
   rest_tidy (e ∷ es) =
-      cond_both (is_full (slot w.slots (hand w.slots))) (first v d w e.statement w.todo (Leave (hand w.slots))) (ends_on v w e es)
+      cond_both (is_full (slot w.slots (hand w.slots))) (first v d w e.statement w.todo (Leave (hand w.slots)))
+      (ends_on v w e es)
       (λ (x : Step). IsTidy x.walk) (λ c. left_tidy (state v) d e.statement w tidy) (λ c. end_tidy e es)
 
   prepared_tidy : (found want k i : ℕ) (b : Block) (f : Bool) → IsTidy (prepares found want w k b i f).walk
   prepared_tidy found want k i b true = tidy
   prepared_tidy found want k i b false = tidy
 
-  making_tidy : (b : Block) (i : ℕ) (f : Bool) (ts : List Task) → w.todo ≡ ts → IsUnderWay d v (Making b i f) ts → Tidy (made_on v d w b i f ts)
+  making_tidy : (b : Block) (i : ℕ) (f : Bool) (ts : List Task) → w.todo ≡ ts → IsUnderWay d v (Making b i f) ts
+      → Tidy (made_on v d w b i f ts)
   making_tidy b i f [] is way = tidy
   making_tidy b i f (t ∷ ts) is way =
       let found = get_or (known (pending v d)) i 0 in
       let want = get_or (wanted (form_of t.act)) i 0 in
       let x = holding w.slots (form_of t.act).null (Some b.0) in
-      cond_both (i == 5) (claims w t.statement ts b (form_of t.act)) (prepares found want w t.statement b i f) (λ (s : Step). IsTidy s.walk)
+      cond_both (i == 5) (claims w t.statement ts b (form_of t.act)) (prepares found want w t.statement b i f)
+      (λ (s : Step). IsTidy s.walk)
       (λ e. make_tidy w t ts (form_of t.act) x.0 x.1 is way.2 (length-set w.slots (hand w.slots) _) tidy)
       (λ e. prepared_tidy found want t.statement i b f)
 
@@ -138,14 +151,16 @@ module _ (v : Story) (d : ℕ) (w : Walk) (tidy : IsTidy w) where
       go : (o : Option Pointer) → Tidy (option_map (tries v d w t.statement ts t.act word) o)
       go None = tidy
       go (Some x) =
-          cond_both (owner_word v x == word) (acts v d w t.statement ts t.act (Some (lock (state v) x)) Rest) (trying w t.statement (owner_word v x))
+          cond_both (owner_word v x == word) (acts v d w t.statement ts t.act (Some (lock (state v) x)) Rest)
+          (trying w t.statement (owner_word v x))
           (λ (s : Step). IsTidy s.walk) (λ e. went_tidy (state v) d t.statement w t ts is tidy) (λ e. tidy)
 
   giving_tidy : (i : ℕ) (kind : Kind) (x : Pointer) (ts : List Task) → w.todo ≡ ts → IsUnderWay d v (Giving i kind x) ts
       → Tidy (given v d w i kind x ts)
   giving_tidy i kind x [] is way = tidy
   giving_tidy i kind x (t ∷ ts) is way =
-      subst (λ (a : Act). IsTidy (went (state v) d w t.statement ts a)) way.0 (went_tidy (state v) d t.statement w t ts is tidy)
+      subst (λ (a : Act). IsTidy (went (state v) d w t.statement ts a)) way.0
+      (went_tidy (state v) d t.statement w t ts is tidy)
 
   brought_tidy : (ts : List Task) → w.todo ≡ ts → Tidy (sent v d w ts)
   brought_tidy [] is = tidy
@@ -166,7 +181,8 @@ module _ (v : Story) (d : ℕ) (w : Walk) (tidy : IsTidy w) where
         none = tidy;
         load = λ c. each_cell v d t.statement w ts IsTidy tidy (Load c) (cell_at (state v) w.slots c)
             (any_tidy (state v) d t.statement w ts (Load c) left.0 left.1);
-        compare = λ i c weak. each_cell v d t.statement w ts IsTidy tidy (Compare i c weak) (cell_at (state v) w.slots c)
+        compare =
+            λ i c weak. each_cell v d t.statement w ts IsTidy tidy (Compare i c weak) (cell_at (state v) w.slots c)
             (any_tidy (state v) d t.statement w ts (Compare i c weak) left.0 left.1);
       }
 
@@ -183,7 +199,8 @@ module _ (v : Story) (d : ℕ) (w : Walk) (tidy : IsTidy w) where
     where
       go : Heads t ts → Tidy (saw_on v d w t.statement ts x t.act)
       go (inl p) = subst (λ (a : Act). Tidy (saw_on v d w t.statement ts x a)) (sym p.1) tidy
-      go (inr f) = each_saw v d w Tidy x (t ∷ ts) tidy (λ u us e. each_tidy u us (subst AllLeft e (f, (heads t ts is).1)))
+      go (inr f) =
+          each_saw v d w Tidy x (t ∷ ts) tidy (λ u us e. each_tidy u us (subst AllLeft e (f, (heads t ts is).1)))
 
   matched_tidy : (x : CellWord) (ts : List Task) → w.todo ≡ ts → Tidy (matched v d w x ts)
   matched_tidy x [] is = tidy
@@ -191,7 +208,8 @@ module _ (v : Story) (d : ℕ) (w : Walk) (tidy : IsTidy w) where
     where
       go : Heads t ts → Tidy (matched_on v d w t.statement ts x t.act)
       go (inl p) = subst (λ (a : Act). Tidy (matched_on v d w t.statement ts x a)) (sym p.1) tidy
-      go (inr f) = each_matched v d w Tidy x (t ∷ ts) tidy (λ u us e. each_tidy u us (subst AllLeft e (f, (heads t ts is).1)))
+      go (inr f) =
+          each_matched v d w Tidy x (t ∷ ts) tidy (λ u us e. each_tidy u us (subst AllLeft e (f, (heads t ts is).1)))
 
   out_tidy : (es : List Ending) → Tidy (emptied v w es)
   out_tidy [] = tidy
@@ -212,66 +230,27 @@ module _ (v : Story) (d : ℕ) (w : Walk) (tidy : IsTidy w) where
   step_tidy (Matched x) way = matched_tidy x w.todo refl
   step_tidy (Refill stage c x k) way =
       each_refill v w k Tidy tidy
-      (record { quiet = λ h. tidy; turn = λ q b h. tidy; bring = λ q b p n h. tidy; back = λ q b n h. tidy; refill = λ c n h. tidy })
+      (record {
+        quiet = λ h. tidy;
+        turn = λ q b h. tidy;
+        bring = λ q b p n h. tidy;
+        back = λ q b n h. tidy;
+        refill =
+            λ c n h. tidy;
+      })
       stage c x x.owned
   step_tidy (Returning kind b funds k) way = tidy
   step_tidy Clearing way = out_tidy w.endings
 
 -- all threads are, after a step of one
-pub tidy_after : (d : ℕ) (u : Sight) → IsUnderWay d u.story (half_of u d) (walk_of (scene u) d).todo → d < length u.walks
+pub tidy_after : (d : ℕ) (u : Sight) → IsUnderWay d u.story (half_of u d) (walk_of (scene u) d).todo
+    → d < length u.walks
     → ((e : ℕ) → IsTidy (walk_of (scene u) e)) → (e : ℕ) → IsTidy (walk_of (scene (sight_by d u (step_of d u))) e)
 tidy_after d u way lt all e =
     let w = walk_by (walk_of (scene u) d) (step_of d u) in
     ⊎_elim
     (λ (same : e ≡ d). subst (λ (n : ℕ). IsTidy (walk_of (scene (sight_by d u (step_of d u))) n)) (sym same)
-    (subst IsTidy (sym (get_or-set_same u.walks d w nowhere lt)) (step_tidy u.story d (walk_of (scene u) d) (all d) (half_of u d) way)))
+    (subst IsTidy (sym (get_or-set_same u.walks d w nowhere lt))
+    (step_tidy u.story d (walk_of (scene u) d) (all d) (half_of u d) way)))
     (λ (ne : e ≢ d). subst IsTidy (sym (get_or-set_other u.walks d e w nowhere ne)) (all e))
     (cases_eq e d)
-
-leaves_clearing : (n i : ℕ) → i < n → Leaves i (clearing n)
-leaves_clearing zero i lt = absurd (omega (arith, lt))
-leaves_clearing (suc n) i lt =
-    ⊎_elim (λ (e : i ≡ n). inl (ap Clear (sym e))) (λ (ne : i ≢ n). inr (leaves_clearing n i (omega (arith, lt, ne)))) (cases_eq i n)
-
-clearing_all : (m n : ℕ) → LeavesAll m (clearing n)
-clearing_all m zero = tt
-clearing_all m (suc n) = (inl (n, refl), clearing_all m n)
-
-numbered_leaves : (k : ℕ) (l : List Act) (ts : List Task) (i : ℕ) → Leaves i ts → Leaves i (numbered k l ++ ts)
-numbered_leaves k [] ts i left = left
-numbered_leaves k (a ∷ rest) ts i left = inr (numbered_leaves k rest ts i left)
-
-numbered_all : (m k : ℕ) (l : List Act) (ts : List Task) → ((i : ℕ) → i < m → Leaves i ts) → LeavesAll m ts → LeavesAll m (numbered k l ++ ts)
-numbered_all m k [] ts left all = all
-numbered_all m k (a ∷ rest) ts left all = (inr (λ i lt. numbered_leaves k rest ts i (left i lt)), numbered_all m k rest ts left all)
-
-tasks_leave : (k : ℕ) (calls : List Call) (n i : ℕ) → i < n → Leaves i (tasks_from k calls n)
-tasks_leave k [] n i lt = leaves_clearing n i lt
-tasks_leave k (c ∷ cs) n i lt = numbered_leaves k (acts_of c) (tasks_from (k + 1) cs n) i (tasks_leave (k + 1) cs n i lt)
-
-tasks_all : (k : ℕ) (calls : List Call) (n : ℕ) → LeavesAll n (tasks_from k calls n)
-tasks_all k [] n = clearing_all n n
-tasks_all k (c ∷ cs) n =
-    numbered_all n k (acts_of c) (tasks_from (k + 1) cs n) (λ i lt. tasks_leave (k + 1) cs n i lt) (tasks_all (k + 1) cs n)
-
-plain_at : (m i : ℕ) → get_or (replicate m plain) i plain ≡ plain
-plain_at zero i = refl
-plain_at (suc m) zero = refl
-plain_at (suc m) (suc i) = plain_at m i
-
-plain_size : (m : ℕ) → length (replicate m plain) ≡ m
-plain_size zero = refl
-plain_size (suc m) = let i = plain_size m in omega (arith, i)
-
-first_tidy : (part : Part) → IsTidy (first_walk part)
-first_tidy part =
-    let n = length part.kinds in
-    let size = plain_size (n + 2) in
-    fresh_tidy (no_slots n) (tasks_from 1 part.calls n) (λ i. ap pointer_of (plain_at (n + 2) i))
-    (subst (λ (m : ℕ). LeavesAll m (tasks_from 1 part.calls n)) (omega (arith, size)) (tasks_all 1 part.calls n))
-
--- and at the start
-pub tidy_first : (parts : List Part) (d : ℕ) → IsTidy (get_or (map first_walk parts) d nowhere)
-tidy_first [] d = record { names = λ i lt full. absurd (omega (arith, lt)); all = tt }
-tidy_first (p ∷ ps) zero = first_tidy p
-tidy_first (p ∷ ps) (suc d) = tidy_first ps d

@@ -22,7 +22,7 @@ use Rattle.step_core.specs.Starts.{first_story, first_walk, no_slots}
 use Rattle.step_core.specs.Told.{IsTidy, IsTold, sight}
 use Rattle.step_core.specs.Worlds.{thread_half, thread_walk}
 use Rattle.step_core.proofs.watching.Worlds.{watched_start}
-use Rattle.step_core.proofs.telling.Names.{tidy_first}
+use Rattle.step_core.proofs.telling.Firsts.{tidy_first}
 use Rattle.step_core.proofs.telling.Walking.{settled_alone}
 
 clearing_steps : (n : ℕ) → task_steps (clearing n) ≡ 2 * n
