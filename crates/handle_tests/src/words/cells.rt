@@ -2,8 +2,8 @@
 ghost use Rattle.std.specs.Prelude.{◌<◌, ◌≤◌, IfSome};
 ghost use Rattle.control_word.specs.Packing.{IsCellWord, IsPlace};
 
-use crate::cell::{CellWord, ONE_TAKEN, pack, packing_is_one_to_one, unpack};
-use crate::place::{Block, Place};
+use control_word::cell::{CellWord, ONE_TAKEN, pack, packing_is_one_to_one, unpack};
+use control_word::place::{Block, Place};
 use std::process::Abort;
 
 fn at(block: u16, field: u8) -> Option<Place>

@@ -1,5 +1,6 @@
 //! The functions that carry laws have no work to do; each can be called.
-use crate::{history_laws, step_laws};
+use control_block::laws;
+use control_word::{history_laws, step_laws};
 
 #[test]
 fn laws_of_histories_can_be_called() {
@@ -21,4 +22,13 @@ fn laws_of_steps_can_be_called() {
     step_laws::doors::<u64>();
     step_laws::desks::<u64>();
     step_laws::words::<u64>();
+}
+
+#[test]
+fn laws_of_desks_can_be_called() {
+    laws::own_events::<u64>();
+    laws::own_rows::<u64>();
+    laws::sole_desks::<u64>();
+    laws::held_blocks::<u64>();
+    laws::handle_lists::<u64>();
 }

@@ -1,7 +1,7 @@
 //! What refusals are called, and what they hand back.
 ghost use Rattle.std.specs.Prelude.{IsOkUnless};
 
-use crate::refusal::{Refusal, Refused};
+use control_word::refusal::{Refusal, Refused};
 use std::alloc::{AllocError, Global};
 use std::test::Fail;
 

@@ -1,11 +1,11 @@
 //! Rows of the layout, and the limits.
-use crate::layout::{
+use control_word::layout::{
     DOOR, ENABLED, FIELDS, FLAGS, MEMBERS, NULL, OWNERS, WEAKS, block_word, cell_word, table_words,
     words_lie_apart,
 };
-use crate::limits;
-use crate::place::Block;
-use crate::shape::{self, Shape};
+use control_word::limits;
+use control_word::place::Block;
+use control_word::shape::{self, Shape};
 
 #[test]
 fn words_lie_where_the_layout_says(rt: HostRuntime) {
