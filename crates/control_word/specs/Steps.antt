@@ -200,6 +200,18 @@ module _ (V : Type 0) where
       (at : Point V) (k : Kind) (o f : ℕ) (p : Option Place) → let i = counts at k o in Ready at (Paying k o p i f 0)
       → (4294967296 * f ≤ word at i) × Moves at i (word at i - 4294967296 * f) Idle
 
+  -- leave with funds: the handle that came out of a cell goes by the step that gives its funds back; the last, or vacant, just where
+  -- the whole word was that one and those funds
+  abbrev pub LeavesWithFunds : Type 0
+  LeavesWithFunds =
+      (at : Point V) (o f : ℕ) (p : Option Place) → let i = counts at Owner o in let n = 4294967296 * f + 1 in Ready at (Paying Owner o p i f 0)
+      → (n ≤ word at i) × Adds at i (word at i - n) (Leave (owner o p) (word at i == n)) Idle
+
+  abbrev pub WeakLeavesWithFunds : Type 0
+  WeakLeavesWithFunds =
+      (at : Point V) (o f : ℕ) (p : Option Place) → let i = counts at Weak o in let n = 4294967296 * f + 1 in Ready at (Paying Weak o p i f 0)
+      → (n ≤ word at i) × Adds at i (word at i - n) (WeakLeave (weak_of o p) (word at i == n)) Idle
+
   -- take a fund: a load, or a compare that differs, of a cell with an object of which not all funds are taken
   abbrev pub Takes : Type 0
   Takes =

@@ -38,6 +38,8 @@ fn laws_of_steps_can_be_called() {
     step_laws::differ_empty::<u64>();
     step_laws::bring::<u64>();
     step_laws::give_back::<u64>();
+    step_laws::leave_with_funds::<u64>();
+    step_laws::leave_weak_with_funds::<u64>();
     step_laws::take::<u64>();
     step_laws::turn::<u64>();
     step_laws::refill::<u64>();

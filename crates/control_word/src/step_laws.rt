@@ -3,7 +3,7 @@
 //! `V` is the type of the objects' values. The kinds are the project's own; what an event asks and makes of the state
 //! restates ISO/IEC 14882:2020 as the definitions of events say.
 ghost use Rattle.control_word.specs.Steps.{WritesWeakWord, WritesWord, Claims, Shares, Leaves, WeakShares, WeakLeaves, Finishes, Locks, TellsCount};
-ghost use Rattle.control_word.specs.Steps.{TellsExpired, Reads, LooksOn, LoadsEmpty, DiffersEmpty, Brings, GivesBack, Takes, Turns, Refills, Swaps};
+ghost use Rattle.control_word.specs.Steps.{TellsExpired, Reads, LooksOn, LoadsEmpty, DiffersEmpty, Brings, GivesBack, LeavesWithFunds, WeakLeavesWithFunds, Takes, Turns, Refills, Swaps};
 ghost use Rattle.control_word.specs.Steps.{CompareSwaps, Clears, Shuts, Opens, Splits, CutsView, MergesViews, Joins, Begins, CellsShow, HasHeadroom};
 
 /// Write, the first: the weak word of an own vacant block becomes 1.
@@ -89,6 +89,16 @@ pub fn bring<V>()
 /// Give funds back.
 pub fn give_back<V>()
     ensures { GivesBack V }
+{}
+
+/// Leave with funds: an owner that came out of a cell leaves, and its funds are given back, by one step.
+pub fn leave_with_funds<V>()
+    ensures { LeavesWithFunds V }
+{}
+
+/// Weak leave with funds: a weak handle that came out of a cell, likewise.
+pub fn leave_weak_with_funds<V>()
+    ensures { WeakLeavesWithFunds V }
 {}
 
 /// Take a fund: a load, or a compare that differs, of a cell with an object.
