@@ -14,3 +14,5 @@ pub mod Handles
 pub mod Inside
 pub mod Census
 pub mod Parting
+pub mod Leaving
+pub mod Storing

@@ -23,6 +23,7 @@ mod fund_plays;
 mod funds;
 pub mod handles;
 mod join;
+mod leaving;
 pub mod lock_calls;
 mod lock_plays;
 mod locks;
@@ -33,6 +34,8 @@ mod split;
 #[cfg(test)]
 mod split_tests;
 mod steps;
+pub mod store_calls;
+mod store_rounds;
 #[cfg(test)]
 mod tests;
 #[cfg(test)]
