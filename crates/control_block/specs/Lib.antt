@@ -16,3 +16,4 @@ pub mod Census
 pub mod Parting
 pub mod Leaving
 pub mod Storing
+pub mod Standing

@@ -17,22 +17,9 @@ const SHAPE: Shape = Shape {
     allowance: 8,
 };
 
-// A desk is given up.
-fn spend(desk: Desk<u64>) {
-    let Desk {
-        seat,
-        allowance: _,
-        held: _,
-        endings: _,
-        store,
-    } = desk;
-    drop(seat);
-    drop(store);
-}
-
 fn abandon(domain: Domain<u64>, desk: Desk<u64>) {
     drop(domain);
-    spend(desk);
+    desk.give_up();
 }
 
 // What a split without handles answers.
@@ -140,7 +127,7 @@ fn a_desk_is_cut_and_joined(rt: HostRuntime) -> Result<(), Fail> {
     let (domain, mut desk, why) = match close(domain, desk) {
         Ok(census) => {
             drop(census);
-            spend(child);
+            child.give_up();
             return Err("closed".into());
         }
         Err(refused) => {

@@ -21,15 +21,7 @@ fn is_empty(domain: Domain<u64>, desk: Desk<u64>) -> bool
                 back: (domain, desk),
             } = refused;
             drop(domain);
-            let Desk {
-                seat,
-                allowance: _,
-                held: _,
-                endings: _,
-                store,
-            } = desk;
-            drop(seat);
-            drop(store);
+            desk.give_up();
             false
         }
     }

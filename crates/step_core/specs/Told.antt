@@ -1,5 +1,5 @@
 -- What a world keeps beside its threads, so that it can tell its totals and its census. All of it is own.
-use Rattle.std.specs.Prelude.{◌≡◌, ℕ, ◌+◌, ◌*◌, ◌<◌, ◌≤◌, ◌==◌, Bool, false, cond, List, [], length, map, is_some}
+use Rattle.std.specs.Prelude.{◌≡◌, ℕ, ◌+◌, ◌*◌, ◌<◌, ◌≤◌, ◌==◌, Bool, false, cond, List, length, map, is_some}
 use Rattle.control_word.specs.State.{State, ending}
 use Rattle.step_threads.specs.declared.ending.Ending.{Ending}
 use Rattle.step_threads.specs.declared.half.Half.{Half}

@@ -1,5 +1,5 @@
 -- The parts of a turn. All of it is own.
-use Rattle.std.specs.Prelude.{◌≡◌, ◌≢◌, ℕ, ◌<◌, ◌≤◌, Bool, true, false, not, ◌&&◌, ◌||◌, ◌==◌, List, [], ◌∷◌, length, slice_set, is_some, Option, Some, None}
+use Rattle.std.specs.Prelude.{◌≡◌, ◌≢◌, ℕ, ◌<◌, ◌≤◌, Bool, true, false, not, ◌&&◌, ◌||◌, List, [], ◌∷◌, length, slice_set, is_some, Option, Some, None}
 use Rattle.step_threads.specs.declared.act.Act.TheVariants.{Make, FromThis}
 use Rattle.step_threads.specs.declared.act.Task.{Task}
 use Rattle.step_threads.specs.declared.ending.Ending.{Ending}
@@ -136,28 +136,6 @@ pub record HasBegun (d : ℕ) (u : Sight) : Type 0 where
 abbrev pub is_ending : Sight → ℕ → Bool
 is_ending u d = let w = walk_of (scene u) d in is_some (first_of w.endings) && not (is_full (slot w.slots (hand w.slots)))
 
-abbrev pub is_making : Half → Bool
-is_making (Making b i differs) = true
-is_making _ = false
-
-abbrev pub is_locking : Half → Bool
-is_locking (Locking word) = true
-is_locking _ = false
-
-abbrev pub is_giving : Half → Bool
-is_giving (Giving i kind x) = true
-is_giving _ = false
-
-abbrev pub is_brought : Half → Bool
-is_brought Brought = true
-is_brought _ = false
-
--- a load or a compare whose cell was looked at
-abbrev pub is_trying : Half → Bool
-is_trying (Saw x) = true
-is_trying (Matched x) = true
-is_trying _ = false
-
 abbrev pub is_refilling : Half → Bool
 is_refilling (Refill stage c x k) = true
 is_refilling _ = false
@@ -192,26 +170,11 @@ is_acting (Saw x) = true
 is_acting (Matched x) = true
 is_acting _ = false
 
--- a make that has words left to look at or to write
-abbrev pub is_preparing : Half → Bool
-is_preparing (Making b i differs) = not (i == 5)
-is_preparing _ = false
-
 -- the rest of thread d's act has gone on by itself
 pub record Rests (d : ℕ) (u u' : Sight) : Type 0 where
   pub scene : scene u' ≡ rested d (scene u)
   pub over : has_rest u' d ≡ false
   pub halves : u'.halves ≡ slice_set u.halves d (returned (half_of u d))
-
--- the same make, with its words prepared
-abbrev pub IsReady : Half → Half → Type 0
-IsReady (Making b i differs) (Making c j found) = (c ≡ b) × (j ≡ 5)
-IsReady _ _ = ⊥
-
-pub record Prepares (d : ℕ) (u u' : Sight) : Type 0 where
-  pub scene : scene u' ≡ scene u
-  pub ready : IsReady (half_of u d) (half_of u' d)
-  pub halves : u'.halves ≡ slice_set u.halves d (half_of u' d)
 
 abbrev pub turned_by : Stepped → Turned
 turned_by (stepped.Event x) = Acted x

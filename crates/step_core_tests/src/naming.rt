@@ -1,11 +1,9 @@
-//! Which names a call may have.
-use crate::calls::{compare, exchange, load, member, store};
+//! Which names and cells a call may have.
+use crate::calls::{alias, compare, exchange, load, member, store};
 use control_word::{Refusal, Shape};
 use std::alloc::Global;
 use std::test::Fail;
-use step_core::World;
-use step_table::field::Field;
-use step_threads::call::{Actor, Call, Kind, Name, Program};
+use step_core::{Actor, Call, CellName, Field, Kind, Name, Program, World};
 
 const A: Name = Name(0);
 
@@ -13,12 +11,16 @@ const W: Name = Name(1);
 
 const NOBODY: Name = Name(2);
 
-/// Why a world is refused whose actor has an owner `A`, a weak `W` and this call.
+const CELL: CellName = CellName::Shared(0);
+
+const WEAK_CELL: CellName = CellName::Weak(0);
+
+/// Why a world with a cell of each kind is refused whose actor has an owner `A`, a weak `W` and this call.
 fn refusal(alloc: Global, call: Call) -> Result<Option<Refusal>, Fail> {
     let shape = Shape {
         blocks: 1,
-        shared_cells: 0,
-        weak_cells: 0,
+        shared_cells: 1,
+        weak_cells: 1,
         allowance: 40,
     };
     let actor = Actor {
@@ -34,15 +36,6 @@ fn refusal(alloc: Global, call: Call) -> Result<Option<Refusal>, Fail> {
     }
 }
 
-fn alias(target: Name, source: Name, of: Name) -> Call {
-    Call::Alias {
-        target,
-        source,
-        of,
-        field: Field::Three,
-    }
-}
-
 #[test]
 fn fields_have_their_numbers(rt: HostRuntime) -> Result<(), Fail> {
     let fields = [Field::Zero, Field::One, Field::Two, Field::Three];
@@ -53,75 +46,91 @@ fn fields_have_their_numbers(rt: HostRuntime) -> Result<(), Fail> {
 }
 
 #[test]
-fn an_alias_has_three_owners(rt: HostRuntime) -> Result<(), Fail> {
-    for (target, source, of, taken) in [
-        (A, A, A, true),
-        (W, A, A, false),
-        (A, W, A, false),
-        (A, A, W, false),
-        (A, A, NOBODY, false),
+fn a_call_has_names_of_its_kinds(rt: HostRuntime) -> Result<(), Fail> {
+    for (call, taken) in [
+        (alias(A, A, A, Field::Three), true),
+        (alias(W, A, A, Field::Three), false),
+        (alias(A, W, A, Field::Three), false),
+        (alias(A, A, W, Field::Three), false),
+        (alias(A, A, NOBODY, Field::Three), false),
+        (Call::Count { name: W }, false),
+        (
+            Call::Same {
+                first: A,
+                second: W,
+            },
+            false,
+        ),
+        (
+            Call::Before {
+                first: A,
+                second: W,
+            },
+            true,
+        ),
+        (
+            Call::Before {
+                first: W,
+                second: A,
+            },
+            true,
+        ),
+        (
+            Call::Before {
+                first: NOBODY,
+                second: A,
+            },
+            false,
+        ),
+        (
+            Call::Before {
+                first: W,
+                second: NOBODY,
+            },
+            false,
+        ),
+        (compare(CELL, A, W, true), false),
+        (compare(WEAK_CELL, A, W, true), false),
+        // A name isn't exchanged with a member of its own object.
+        (exchange(member(A, 0), A), false),
     ] {
         let wanted = if taken { None } else { Some(Refusal::Shape) };
-        let found = refusal(rt.alloc(), alias(target, source, of))?;
-        assert_eq!(rt; found, wanted, "{target:?} {source:?} {of:?}");
+        assert_eq!(rt; refusal(rt.alloc(), call)?, wanted, "{call:?}");
     }
     Ok(())
 }
 
 #[test]
-fn an_order_has_names_of_either_kind(rt: HostRuntime) -> Result<(), Fail> {
-    for (first, second, taken) in [
-        (A, A, true),
-        (A, W, true),
-        (W, A, true),
-        (W, W, true),
-        (W, NOBODY, false),
-        (NOBODY, A, false),
+fn a_cell_is_there_and_holds_names_of_its_kind(rt: HostRuntime) -> Result<(), Fail> {
+    for (cell, name, taken) in [
+        (CELL, A, true),
+        (WEAK_CELL, W, true),
+        (member(A, 0), A, true),
+        (member(A, 1), A, true),
+        (member(A, 2), W, true),
+        (CELL, W, false),
+        (WEAK_CELL, A, false),
+        (CELL, NOBODY, false),
+        (CellName::Shared(1), A, false),
+        (CellName::Weak(1), W, false),
+        (member(A, 0), W, false),
+        (member(A, 1), W, false),
+        (member(A, 2), A, false),
+        (member(A, 3), A, false),
+        (member(A, 3), W, false),
+        (member(W, 0), A, false),
+        (member(W, 2), W, false),
+        (member(NOBODY, 0), A, false),
+        (member(NOBODY, 2), W, false),
     ] {
         let wanted = if taken { None } else { Some(Refusal::Shape) };
-        let found = refusal(rt.alloc(), Call::Before { first, second })?;
-        assert_eq!(rt; found, wanted, "{first:?} {second:?}");
-    }
-    let same = Call::Same {
-        first: A,
-        second: W,
-    };
-    assert_eq!(rt; refusal(rt.alloc(), same)?, Some(Refusal::Shape));
-    Ok(())
-}
-
-/// A name isn't exchanged with a member of its own object.
-#[test]
-fn names_of_members_are_there(rt: HostRuntime) -> Result<(), Fail> {
-    let alloc = rt.alloc();
-    let no = Some(Refusal::Shape);
-    for (cell, name, refused) in [
-        (member(A, 0), A, None),
-        (member(A, 1), A, None),
-        (member(A, 2), W, None),
-        (member(A, 0), W, no),
-        (member(A, 1), W, no),
-        (member(A, 2), A, no),
-        (member(A, 3), A, no),
-        (member(A, 3), W, no),
-        (member(W, 0), A, no),
-        (member(W, 2), W, no),
-        (member(NOBODY, 0), A, no),
-        (member(NOBODY, 2), W, no),
-    ] {
         for call in [
             store(cell, name),
             load(name, cell),
             compare(cell, name, name, false),
         ] {
-            assert_eq!(rt; refusal(alloc, call)?, refused, "{cell:?} {name:?}");
+            assert_eq!(rt; refusal(rt.alloc(), call)?, wanted, "{call:?}");
         }
-        let own = if name == A { no } else { refused };
-        assert_eq!(rt;
-            refusal(alloc, exchange(cell, name))?,
-            own,
-            "{cell:?} {name:?}"
-        );
     }
     Ok(())
 }

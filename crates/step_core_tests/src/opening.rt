@@ -2,8 +2,7 @@
 use control_word::{Refusal, Shape};
 use std::alloc::{AllocError, Global};
 use std::test::Fail;
-use step_core::World;
-use step_threads::call::{Actor, Call, Kind, Name, Program};
+use step_core::{Actor, Call, Kind, Name, Program, World};
 
 const COUNT: Call = Call::Count { name: Name(0) };
 
@@ -110,22 +109,6 @@ fn shapes_have_limits(rt: HostRuntime) -> Result<(), Fail> {
             wanted,
             "{blocks} {cells} {allowance}"
         );
-    }
-    Ok(())
-}
-
-#[test]
-fn a_weak_name_is_no_owner(rt: HostRuntime) -> Result<(), Fail> {
-    let alloc = rt.alloc();
-    for (kind, wanted) in [(Kind::Owner, None), (Kind::Weak, Some((Refusal::Shape, 1)))] {
-        let actor = Actor {
-            kinds: vec![in alloc; kind; 1]?,
-            calls: vec![in alloc; COUNT; 1]?,
-        };
-        let program = Program {
-            actors: vec![in alloc; actor]?,
-        };
-        assert_eq!(rt; refusal(alloc, shape(1, 40), program), wanted);
     }
     Ok(())
 }

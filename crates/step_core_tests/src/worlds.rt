@@ -3,9 +3,16 @@ ghost use Rattle.std.specs.Prelude.{◌≡◌, ◌<◌, ◌≤◌, IfOk, IsTrue,
 ghost use Rattle.step_core.specs.Totals.{IsAtEnd};
 
 use control_word::{Block, Counts, Shape};
-use std::alloc::Global;
+use std::alloc::{AllocError, Global};
 use std::process::Abort;
-use step_core::{Actor, Program, RunRefusal, Stepped, Trace, Turned, World};
+use step_core::{Actor, Call, Kind, Name, Program, RunRefusal, Stepped, Trace, Turned, World};
+
+/// The names of each actor: two owners and a weak one.
+pub(crate) const A: Name = Name(0);
+
+pub(crate) const B: Name = Name(1);
+
+pub(crate) const W: Name = Name(2);
 
 /// A world, and how many actors and blocks it has.
 #[derive(Drop)]
@@ -18,17 +25,29 @@ pub(crate) struct TestWorld {
 }
 
 impl TestWorld {
-    /// A world of a shape and of actors that are within the limits.
-    pub(crate) fn new(rt: &impl Abort, alloc: Global, shape: Shape, actors: Vec<Actor>) -> Self {
+    /// A world of two actors that make these calls, with two blocks each and a cell of each kind.
+    pub(crate) fn new(
+        rt: &impl Abort,
+        alloc: Global,
+        first: &[Call],
+        second: &[Call],
+    ) -> Result<Self, AllocError> {
+        let actors = vec![in alloc; actor(alloc, first)?, actor(alloc, second)?]?;
+        let shape = Shape {
+            blocks: 4,
+            shared_cells: 1,
+            weak_cells: 1,
+            allowance: 80,
+        };
         let number = actors.len();
         let world = World::new(alloc, shape, Program { actors })
             .ok()
             .expect(rt, "a world within the limits");
-        TestWorld {
+        Ok(TestWorld {
             world,
             actors: number,
             blocks: shape.blocks,
-        }
+        })
     }
 
     pub(crate) fn step(&mut self, rt: &impl Abort, actor: u8) -> Stepped {
@@ -39,6 +58,20 @@ impl TestWorld {
     pub(crate) fn turn(&mut self, rt: &impl Abort, actor: u8) -> Turned {
         assert!(rt; actor > 0 && usize::from(actor) <= self.actors);
         self.world.turn(actor)
+    }
+
+    /// So many turns of an actor.
+    pub(crate) fn turns(&mut self, rt: &impl Abort, actor: u8, count: u32) {
+        for _ in 0..count {
+            let _turned = self.turn(rt, actor);
+        }
+    }
+
+    /// The next steps of an actor are these.
+    pub(crate) fn follows(&mut self, rt: &impl Abort, actor: u8, steps: &[Stepped]) {
+        for stepped in steps {
+            assert_eq!(rt; self.step(rt, actor), *stepped);
+        }
     }
 
     pub(crate) fn run(&mut self, alloc: Global, turns: &[u8]) -> Result<Trace, RunRefusal>
@@ -55,12 +88,9 @@ impl TestWorld {
         trace.steps.is_empty()
     }
 
-    pub(crate) fn made(&self) -> u32 {
-        self.world.made()
-    }
-
-    pub(crate) fn ended(&self) -> u32 {
-        self.world.ended()
+    /// How many objects were made, and how many of them ended.
+    pub(crate) fn totals(&self) -> (u32, u32) {
+        (self.world.made(), self.world.ended())
     }
 
     pub(crate) fn has_block(&self, block: u16) -> bool
@@ -77,4 +107,12 @@ impl TestWorld {
     {
         self.world.census(Block(block))
     }
+}
+
+/// An actor with the owners `A` and `B` and the weak name `W`.
+fn actor(alloc: Global, calls: &[Call]) -> Result<Actor, AllocError> {
+    Ok(Actor {
+        kinds: vec![in alloc; Kind::Owner, Kind::Owner, Kind::Weak]?,
+        calls: calls.to_vec(alloc)?,
+    })
 }

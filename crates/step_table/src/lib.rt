@@ -2,14 +2,12 @@
 #![tactic(auto)]
 
 pub mod cell_deed;
-pub mod cell_events;
 #[cfg(test)]
 mod cell_tests;
 pub mod cells;
 pub mod clearing;
 pub mod comparing;
 pub mod contents;
-pub mod counting;
 pub mod ended;
 pub mod extent;
 pub mod field;
@@ -21,7 +19,6 @@ pub mod funds;
 mod holding_tests;
 pub mod holdings;
 pub mod loading;
-pub mod others;
 pub mod past;
 pub mod pointer;
 pub mod reading;
