@@ -51,3 +51,7 @@ pub mod WeakGifts
 pub mod Near
 pub mod DeskStores
 pub mod kept
+pub mod Own
+pub mod Sole
+pub mod Latest
+pub mod HandleLists

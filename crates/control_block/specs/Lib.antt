@@ -17,3 +17,6 @@ pub mod Parting
 pub mod Leaving
 pub mod Storing
 pub mod Standing
+pub mod Own
+pub mod Laws
+pub mod HandleLists

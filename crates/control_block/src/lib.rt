@@ -23,6 +23,9 @@ mod fund_plays;
 mod funds;
 pub mod handles;
 mod join;
+#[cfg(test)]
+mod law_tests;
+pub mod laws;
 mod leaving;
 pub mod lock_calls;
 mod lock_plays;
