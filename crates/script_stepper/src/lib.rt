@@ -8,8 +8,6 @@ mod running;
 pub mod sink;
 pub mod stepping;
 mod steps;
-#[cfg(test)]
-mod tests;
 pub mod turns;
 
 pub use listing::{write_lines, write_text};

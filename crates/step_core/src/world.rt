@@ -1,8 +1,9 @@
 //! The machine: a table and the threads over it.
 ghost use Rattle.std.specs.Prelude.{◌≡◌, ◌≢◌, ◌<◌, ◌≤◌, ◌-◌, length, true, false};
+ghost use Rattle.step_core.specs.Sights.{AllHold, IsAsLarge, Takes, half_of, is_event};
 ghost use Rattle.step_table.specs.Stories.{Kept};
-ghost use Rattle.step_core.specs.Turning.{HasBegun, Plays, Rests, has_rest, is_acting, is_clearing, is_ending, is_event, is_refilling, is_returning, turned_by};
-ghost use Rattle.step_core.specs.Worlds.{GoesTo, IsAsLarge, Steps, Turns, half_of};
+ghost use Rattle.step_core.specs.Turning.{HasBegun, Plays, Rests, has_rest, is_acting, is_clearing, is_ending, is_refilling, is_returning, turned_by};
+ghost use Rattle.step_core.specs.Worlds.{Advances, GoesTo, Steps, Turns};
 
 use crate::told::{ends, makes};
 use std::marker::Model;
@@ -25,7 +26,8 @@ pub struct World {
 impl Model for World {
     ghost use Rattle.std.specs.Prelude.{map};
     ghost use Rattle.step_core.specs.Told.{IsTold, sight};
-    ghost use Rattle.step_core.specs.Worlds.{Sight, AllFit, thread_half, thread_walk};
+    ghost use Rattle.step_core.specs.Sights.{Sight};
+    ghost use Rattle.step_core.specs.Worlds.{AllFit, thread_half, thread_walk};
 
     ghost Value = { Sight };
 
@@ -36,13 +38,16 @@ impl Model for World {
 
 impl World {
     /// One step of an actor: one atomic step on one word, or one act that touches none. It answers `Event` just where the
-    /// step is an event, with what that says, and `Done` just at the actor's end. It would answer `Waited` just where all 256 funds of
+    /// step is an event, which is then one more in the history, with what that says; no other step changes the history. It
+    /// answers `Done` just at the actor's end, and then nothing changes. After it what each actor's slots hold is just what the
+    /// history says. It would answer `Waited` just where all 256 funds of
     /// a cell's value were taken, which so few actors never leave: each that finds half of them taken puts them back. Condition: the
     /// actor is one of the world's, from 1 (own).
     pub fn step(&mut self, actor: u8) -> Stepped
         requires some { 0 < actor }
         requires within { actor ≤ length self.old.walks }
         ensures steps { Steps (actor - 1) self.old result self.new }
+        ensures takes { Takes (actor - 1) self.old result self.new }
         ensures never { result ≢ Stepped.Waited }
         ensures kept { Kept self.new.story }
         ensures actors { length self.new.walks ≡ length self.old.walks }
@@ -62,6 +67,7 @@ impl World {
         ensures turns { Turns (actor - 1) self.old result self.new }
         ensures steps { GoesTo (actor - 1) self.old self.new }
         ensures kept { Kept self.new.story }
+        ensures hands { AllHold self.new }
         ensures actors { length self.new.walks ≡ length self.old.walks }
         ensures extent { IsAsLarge self.old self.new }
     {
@@ -184,6 +190,7 @@ impl World {
     pub(crate) fn advance(&mut self, number: usize) -> Stepped
         requires { number < length self.old.walks }
         ensures was { HasBegun number self.old }
+        ensures advances { Advances number self.old result self.new }
         ensures steps { Steps number self.old result self.new }
         ensures never { result ≢ Stepped.Waited }
         ensures kept { Kept self.new.story }

@@ -1,6 +1,6 @@
 -- What the step does by which an object gives a pointer to itself.
 use Rattle.std.proofs.Common.{◌≡◌, ℕ, true, List, ◌∷◌, inl, set, refl, sym, ap, subst, ◌∙◌}
-use Rattle.std.specs.Prelude.{Option, Some, None}
+use Rattle.std.specs.Prelude.{Option, Some, None, option_map}
 use Rattle.std.proofs.lemmas.Bool.{cond-true}
 use Rattle.control_word.specs.declared.handle.Kind.{Kind}
 use Rattle.control_word.specs.declared.handle.Kind.TheVariants.{Owner, Weak}
@@ -9,42 +9,36 @@ use Rattle.step_threads.specs.declared.act.Act.TheVariants.{FromThis}
 use Rattle.step_threads.specs.declared.act.Task.{Task}
 use Rattle.step_threads.specs.declared.half.Half.TheVariants.{Rest, Giving}
 use Rattle.step_table.specs.declared.holdings.Pointer.{Pointer}
-use Rattle.step_threads.specs.Courses.{Walk}
-use Rattle.step_table.specs.Deeds.{give, is_enabled, on}
+use Rattle.step_table.specs.Deeds.{give, is_enabled}
 use Rattle.step_table.specs.Holdings.{inside, slot}
 use Rattle.step_table.specs.Openings.{opening}
-use Rattle.step_threads.specs.Entries.{giving, gives as gives_in}
-use Rattle.step_threads.specs.Scenes.{Scene, walk_of, went}
+use Rattle.step_threads.specs.Entries.{does, giving}
+use Rattle.step_threads.specs.Scenes.{walk_of, went}
 use Rattle.step_threads.specs.Steps.{acts, given, is_event as is_done}
-use Rattle.step_table.specs.Stories.{Story, after, state}
+use Rattle.step_table.specs.Stories.{state}
 use Rattle.step_core.specs.Turning.{IsUnderWay}
 use Rattle.step_core.specs.Worlds.{Sight, scene}
 use Rattle.step_core.proofs.turning.Saying.{Acts}
 use Rattle.step_core.proofs.turning.Trials.{Next, Outcome}
 
--- what is given is the event of the act
-given_as : (d : ℕ) (v : Story) (q : Kind) (x : Pointer) (w : List Walk)
-    → ◌≡◌ {A = Scene} (record { extent = (after v d (give q x)).extent; history = (after v d (give q x)).history; walks = w })
-    (record { extent = v.extent; history = gives_in q (opening v.extent) d v.history x; walks = w })
-given_as d v Owner x w = refl
-given_as d v Weak x w = refl
-
-give_so : (d : ℕ) (u : Sight) (k : ℕ) (ts : List Task) (i : ℕ) (q : Kind) (x : Pointer) → inside (slot (walk_of (scene u) d).slots i) ≡ Some x
+give_so : (d : ℕ) (u : Sight) (k : ℕ) (ts : List Task) (i : ℕ) (q : Kind) (x : Pointer)
+    → inside (slot (walk_of (scene u) d).slots i) ≡ Some x
     → is_enabled (state u.story) x ≡ true
     → Acts d u k ts (FromThis i q) (acts u.story d (walk_of (scene u) d) k ts (FromThis i q) (Some (give q x)) Rest)
 give_so d u k ts i q x e is =
     let w = walk_of (scene u) d in
-    let g : giving (state u.story) (inside (slot w.slots i)) ≡ Some x = ap (giving (state u.story)) e ∙ cond-true (is_enabled (state u.story) x) (Some x) None is in (
+    let g : giving (state u.story) (inside (slot w.slots i)) ≡ Some x = ap (giving (state u.story)) e ∙ cond-true
+    (is_enabled (state u.story) x) (Some x) None is in (
       refl,
-      given_as d u.story q x (set u.walks d (went (state u.story) d w k ts (FromThis i q)))
-          ∙ ap (λ (o : Option Pointer). record {
-            extent = u.story.extent;
-            history = on (gives_in q (opening u.story.extent) d u.story.history) u.story.history o;
-            walks = set u.walks d (went (state u.story) d w k ts (FromThis i q));
-          }) (sym g),
+      ap (λ (o : Option Pointer). record {
+        extent = u.story.extent;
+        history = does (opening u.story.extent) d u.story.history (option_map (give q) o);
+        walks = set u.walks d (went (state u.story) d w k ts (FromThis i q));
+      }) (sym g),
     )
 
-pub giving_out : (d : ℕ) (u : Sight) (i : ℕ) (q : Kind) (x : Pointer) (t : Task) (ts : List Task) → IsUnderWay d u.story (Giving i q x) (t ∷ ts)
+pub giving_out : (d : ℕ) (u : Sight) (i : ℕ) (q : Kind) (x : Pointer) (t : Task) (ts : List Task)
+    → IsUnderWay d u.story (Giving i q x) (t ∷ ts)
     → inside (slot (walk_of (scene u) d).slots i) ≡ Some x
     → Next d u t.statement ts t.act (Giving i q x) (given u.story d (walk_of (scene u) d) i q x (t ∷ ts))
 giving_out d u i q x t ts way at =

@@ -93,7 +93,7 @@ module _ (d : ℕ) (u : Sight) (k : ℕ) (ts : List Task) (c : CellName) where
         let q = comparing w.slots i weak in
         let may = may_compare d u i c weak can in
         let found = open_found v d y x can.kept can.seat (cell_now d u c (Compare i c weak) can can.cell may.there) valid (eqb-true _ _ t) in
-        compare_so d u k ts i c weak (OnCell (CompareSwap y x (compared_in w.slots q))) (gives_back (kind_in (state v) y) k x x.owned) can.cell
+        compare_so d u k ts i c weak (OnCell (CompareSwap y x (compared_in w.slots q))) (gives_back (kind_in (state v) y) k x x.owned)
         (compare_swap_tells v y x found d w.slots q can.kept can.holds may.expected may.new same)
 
     differs_so : (x : CellWord) → IsCellWord x → same_value x (as_word (value (walk_of (scene u) d).slots i)) ≡ false
@@ -108,7 +108,7 @@ module _ (d : ℕ) (u : Sight) (k : ℕ) (ts : List Task) (c : CellName) where
         let q = comparing w.slots i weak in
         let may = may_compare d u i c weak can in
         let found = open_found v d y x can.kept can.seat (cell_now d u c (Compare i c weak) can can.cell may.there) valid (eqb-true _ _ t) in
-        compare_so d u k ts i c weak (OnCell (Take y x (Some (compared_in w.slots q)))) (Refill Turning y (more_taken x) k) can.cell
+        compare_so d u k ts i c weak (OnCell (Take y x (Some (compared_in w.slots q)))) (Refill Turning y (more_taken x) k)
         (differing_tells v y x found d w.slots q can.kept can.holds may.expected may.new differs)
 
     -- the funds of what goes in are brought

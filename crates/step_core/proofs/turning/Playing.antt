@@ -19,7 +19,7 @@ use Rattle.step_core.specs.Worlds.{Sight, Steps, half_of, scene, sight_by, step_
 use Rattle.step_core.proofs.turning.Ending.{half_after, halves_after, rested_none, same_walks, scene_as}
 use Rattle.step_core.proofs.turning.Resting.{carried, none_left}
 use Rattle.step_core.proofs.turning.Firsts.{acts_so, first_same}
-use Rattle.step_core.proofs.turning.Saying.{left, plays_as, plays_next}
+use Rattle.step_core.proofs.turning.Saying.{does_so, plays_as, plays_next}
 use Rattle.step_core.proofs.turning.Looking.{awake_on, can_look}
 use Rattle.step_core.proofs.turning.Telling.{awake, exact_told, tells_rest}
 
@@ -121,7 +121,7 @@ plays_carried d u r e es rest is full answer begun =
     let t : Task = record { statement = e.statement; act = Leave (hand w.slots) } in
     plays_next d u t w.todo (first u.story d w e.statement w.todo t.act) r (ap (λ (l : List Ending). next_of w.slots l w.todo) is)
     (ap (λ (l : List Ending). rest_of l w.todo) is) (carried_step d u e es rest is full) answer
-    (refl, left d u.story (slot w.slots (hand w.slots)) _) (tells_rest d u t.act begun rest) refl begun.within begun.walks
+    (refl, does_so d u.story _ _) (tells_rest d u t.act begun rest) refl begun.within begun.walks
 
 -- a thread at rest, whose endings have gone on as far as they go by themselves
 plays_rest : (d : ℕ) (u : Sight) (r : Stepped) (es : List Ending) → half_of u d ≡ Rest → (walk_of (scene u) d).endings ≡ es → is_ending u d ≡ false

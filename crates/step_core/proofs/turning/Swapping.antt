@@ -1,15 +1,13 @@
 -- A swap of a cell.
-use Rattle.std.proofs.Common.{◌≡◌, ℕ, ◌<◌, ◌&&◌, Bool, true, false, List, ◌∷◌, set, refl, sym, ap, subst, ◌∙◌}
+use Rattle.std.proofs.Common.{◌≡◌, ℕ, ◌<◌, ◌&&◌, Bool, true, false, List, set, refl, sym, ap, subst, ◌∙◌}
 use Rattle.std.specs.Prelude.{Option, Some, None, is_some}
 use Rattle.std.proofs.lemmas.Bool.{and_parts, cond-true, cond-false, false≢true}
 use Rattle.std.proofs.lemmas.Option.{same_Some}
 use Rattle.control_word.specs.declared.cell.CellWord.{CellWord}
 use Rattle.control_word.specs.declared.event.Event.{Event}
-use Rattle.control_word.specs.declared.event.Event.TheVariants as event
 use Rattle.control_word.specs.declared.handle.Kind.{Kind}
 use Rattle.control_word.specs.declared.place.Block.{Block}
 use Rattle.control_word.specs.declared.shape.Shape.{Shape}
-use Rattle.control_word.specs.Histories.{entry}
 use Rattle.control_word.specs.State.{Opening}
 use Rattle.step_threads.specs.declared.act.Act.{Act}
 use Rattle.step_threads.specs.declared.act.Act.TheVariants.{Make, Share, Downgrade, Lock, Put, Leave, Clear, Count, Expired, Read, FromThis, Alias, Move, Ask, Offer, Swap, Exchange, Load, Compare, Drop}
@@ -20,8 +18,7 @@ use Rattle.step_threads.specs.declared.half.Half.TheVariants.{Rest}
 use Rattle.step_table.specs.declared.holdings.Pointer.{Pointer}
 use Rattle.step_table.specs.declared.past.Deed.TheVariants as deed
 use Rattle.step_threads.specs.declared.said.Answer.{Answer}
-use Rattle.step_table.specs.CellDeeds.{cell_in}
-use Rattle.step_table.specs.Contents.{as_word, held_in, is_of, seen, told}
+use Rattle.step_table.specs.Contents.{as_word, is_of, seen}
 use Rattle.step_threads.specs.Courses.{Going, HasCell, cell_at, going, going_from, hand, is_there, kind_at, on_going}
 use Rattle.step_threads.specs.Entries.{History, acted, swaps as swaps_in}
 use Rattle.step_table.specs.Deeds.{Telling, on}
@@ -33,7 +30,7 @@ use Rattle.step_threads.specs.Steps.{acts, brings, gives_back, sends, swaps}
 use Rattle.step_table.specs.Stories.{Kept, Nothing, Story, added, history_after, state}
 use Rattle.step_core.specs.Turning.{is_acting}
 use Rattle.step_core.specs.Worlds.{Sight, scene, sight_by}
-use Rattle.step_threads.proofs.CellNames.{cell_kind, cell_open, goes_in}
+use Rattle.step_threads.proofs.CellNames.{cell_open, goes_in}
 use Rattle.step_table.proofs.contained.Coming.{seen_found}
 use Rattle.step_table.proofs.contained.Telling.{swap_tells}
 use Rattle.step_core.proofs.turning.Ending.{same_walks, scene_as}
@@ -54,7 +51,6 @@ swap_told v d slots c i kept lt holds goes =
     let found = seen_found v d x kept lt (cell_open v d slots c goes.0 holds goes.1) in
     ap (λ (o : Option (Event Nothing)). added d o v.history)
     (swap_tells v x (seen v x) found (value slots i) (goes_in v slots c (value slots i) goes.0 goes.2))
-    ∙ ap (λ (k : Kind). entry d (event.Swap (cell_in s x) (told s k (value slots i)) (held_in s x)) ∷ v.history) (cell_kind v slots c goes.0)
 
 goes_from : (z : Shape) (slots : Slots) (x : CellName) (k : ℕ) (c : CellName) (i : ℕ) → going_from slots x k ≡ Some (c, i) → IsIn z x → Goes z slots c i
 goes_from z slots x k c i e is = go (is_there slots x && is_of (kind_at x) (value slots k)) refl
