@@ -1,3 +1,4 @@
 pub mod Kept
 pub mod Members
 pub mod Taken
+pub mod Stored

@@ -14,9 +14,10 @@ use crate::sites::{self, SharedMember, SharedSite};
 use control_block::cell_calls::{self, CellAt, Content};
 use control_block::desk::Desk;
 use control_block::domain::Domain;
+use control_block::store_calls;
 use control_word::Refusal;
 use control_word::handle::Kind;
-use shared_handle::{Left, Shared, release};
+use shared_handle::{Left, Shared};
 use std::marker::{Brand, PhantomData};
 use std::sync::Wait;
 
@@ -112,7 +113,6 @@ impl<'a> SharedAt<'a> {
     /// The pointer goes into the cell, and what the cell held leaves ([util.smartptr.atomic.shared]); where that was an
     /// object's last owner, the object ends in the desk's hands. It waits for nobody, and refuses nothing.
     #[inline]
-    #[tactic(auto, using(shared_handle::proofs::Taken::first_out))]
     pub fn store<V: Drop + Send>(
         &self,
         domain: &Domain<V>,
@@ -128,7 +128,14 @@ impl<'a> SharedAt<'a> {
         ensures keeps { KeepsStock desk.old desk.new }
         ensures count { endings_of desk.new ≡ endings_of desk.old + more_ending result }
     {
-        let old = self.exchange(domain, desk, handle);
-        release(domain, desk, old)
+        let (block, place) = handle.into_parts();
+        let new = Content {
+            kind: Kind::Owner,
+            block,
+            place,
+        };
+        let site = self.cell().site;
+        let (old, value) = store_calls::store_shared::<V, Brand>(domain, desk, site, new);
+        Left::of_parts(old.block, value)
     }
 }

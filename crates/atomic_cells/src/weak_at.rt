@@ -13,10 +13,10 @@ use crate::sites::{WeakSite, block_within};
 use control_block::cell_calls::{self, CellAt, Content, Site};
 use control_block::desk::Desk;
 use control_block::domain::Domain;
-use control_block::handles;
+use control_block::{handles, store_calls};
 use control_word::Refusal;
 use control_word::handle::Kind;
-use shared_handle::{Left, Shared, release_weak};
+use shared_handle::{Left, Shared};
 use std::marker::{Brand, PhantomData};
 use std::sync::Wait;
 
@@ -121,7 +121,6 @@ impl<'a> WeakAt<'a> {
     /// that was an empty one, and else `Others` (own). Where that was the last handle of an object that is gone, its block is
     /// vacant, and in the desk's store. It waits for nobody, and refuses nothing.
     #[inline]
-    #[tactic(auto, using(shared_handle::proofs::Taken::first_out))]
     pub fn store<V: Drop + Send>(
         &self,
         domain: &Domain<V>,
@@ -138,13 +137,17 @@ impl<'a> WeakAt<'a> {
         ensures endings { KeepsEndings desk.old desk.new }
         ensures count { endings_of desk.new ≡ endings_of desk.old }
     {
-        let old = self.exchange(domain, desk, handle);
-        let left = if old.block().is_some() {
-            Left::Others
-        } else {
-            Left::Empty
+        let (block, place) = handle.into_parts();
+        let new = Content {
+            kind: Kind::Weak,
+            block,
+            place,
         };
-        release_weak(domain, desk, old);
-        left
+        let site = self.cell(domain).site;
+        let (old, _) = store_calls::store_weak::<V, Brand>(domain, desk, site, new);
+        match old.block {
+            None => Left::Empty,
+            Some(_) => Left::Others,
+        }
     }
 }

@@ -1,6 +1,25 @@
-use Rattle.atomic_cells.proofs.Kept.{keeps_both}
+use Rattle.std.proofs.Common.{◌+◌, Option, ap, subst, ◌∙◌}
+use Rattle.control_word.specs.declared.handle.Kind.TheVariants.{Owner}
+use Rattle.control_word.specs.declared.place.Block.{Block}
+use Rattle.control_word.specs.declared.place.Place.{Place}
+use Rattle.control_block.specs.CellCalls.{cell_at, handle_in}
+use Rattle.control_block.specs.Desks.{endings_of}
+use Rattle.control_block.specs.Storing.{Replaces}
+use Rattle.control_block.specs.declared.cell_calls.Site.{Site}
+use Rattle.atomic_cells.specs.Sites.{shared_cell}
+use Rattle.atomic_cells.proofs.Stored.{more_is, stores}
 use Rattle.atomic_cells.proofs.shared_at.SharedAt.store.Goals as goal
 
-pub returns-clause-keeps : goal.returns-clause-keeps
-returns-clause-keeps g c =
-    keeps_both c.args.desk.now c.exchange-old.new.desk c.release.new.desk c.exchange-old.ensures.keeps c.release.ensures.keeps
+pub returns-clause-stored : goal.returns-clause-stored
+returns-clause-stored g c =
+    let t = c.store_shared-value in let d = c.args.desk.now in let h = c.args.handle in let x = t.result.0 in
+    stores d t.new.desk (shared_cell d c.args.self.now.site) h.block h.place x.block x.place t.result.1 c.of_parts.result
+    (subst (λ (y : Site). Replaces d (cell_at d y) (handle_in d Owner h.block h.place) x.block x.place t.result.1 t.new.desk) c.cell-site.ensures.0
+    (subst (λ (y : Option Block × Option Place). Replaces d (cell_at d c.cell-site.result.site) (handle_in d Owner y.0 y.1) x.block x.place
+    t.result.1 t.new.desk) c.into_parts-block.ensures t.ensures.stored)) c.of_parts.ensures
+
+pub returns-clause-count : goal.returns-clause-count
+returns-clause-count g c =
+    let t = c.store_shared-value in let s = t.ensures.stored in let x = t.result.0 in
+    t.ensures.count ∙ ap (λ n. endings_of c.args.desk.now + n) (more_is s.between t.new.desk x.block x.place t.result.1 c.of_parts.result
+    c.of_parts.ensures s.lets)
