@@ -14,6 +14,8 @@ pub mod Handles
 pub mod Inside
 pub mod Census
 pub mod Parting
+pub mod Leaving
+pub mod Storing
 pub mod Standing
 pub mod Own
 pub mod Laws

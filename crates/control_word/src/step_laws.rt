@@ -6,7 +6,8 @@
 ghost use Rattle.control_word.specs.Steps.{WritesWeakWord, WritesWord, Claims, Shares, Leaves};
 ghost use Rattle.control_word.specs.Steps.{WeakShares, WeakLeaves, Finishes, Locks, TellsCount};
 ghost use Rattle.control_word.specs.Steps.{TellsExpired, Reads, LooksOn, LoadsEmpty, DiffersEmpty};
-ghost use Rattle.control_word.specs.Steps.{Brings, GivesBack, Takes, Turns, Refills, Swaps};
+ghost use Rattle.control_word.specs.Steps.{Brings, GivesBack, LeavesWithFunds};
+ghost use Rattle.control_word.specs.Steps.{WeakLeavesWithFunds, Takes, Turns, Refills, Swaps};
 ghost use Rattle.control_word.specs.Steps.{CompareSwaps, Clears, Shuts, Opens, Splits, CutsView};
 ghost use Rattle.control_word.specs.Steps.{MergesViews, Joins, Begins, CellsShow, HasHeadroom};
 
@@ -58,6 +59,10 @@ pub fn funds<V>()
     ensures bring { Brings V }
     // Give funds back.
     ensures give_back { GivesBack V }
+    // Leave with funds: an owner that came out of a cell leaves, and its funds are given back, by one step.
+    ensures leave_with_funds { LeavesWithFunds V }
+    // Weak leave with funds: a weak handle that came out of a cell, likewise.
+    ensures weak_leave_with_funds { WeakLeavesWithFunds V }
     // Take a fund: a load, or a compare that differs, of a cell with an object.
     ensures take { Takes V }
     // Turn a fund into a handle.

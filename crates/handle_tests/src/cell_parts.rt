@@ -7,29 +7,13 @@ ghost use Rattle.control_block.specs.Desks.{IsSameDesk, bag_of};
 ghost use Rattle.shared_handle.specs.Calls.{Holds, with_handle, without_handle};
 
 use crate::parts::{Was, drop_owner, end_of};
+pub(crate) use crate::shapes::shape_with_cells;
 use atomic_cells::{SharedAt, WeakAt};
 use control_block::desk::Desk;
 use control_block::domain::Domain;
 use control_block::handles;
-use control_word::Shape;
 use shared_handle::{Left, Shared, make, read, share, use_count};
 use std::sync::Wait;
-
-pub(crate) fn shape_with_cells(
-    blocks: u32,
-    shared_cells: u32,
-    weak_cells: u32,
-    allowance: u32,
-) -> Shape
-    ensures { result ≡ record { blocks = blocks; shared_cells = shared_cells; weak_cells = weak_cells; allowance = allowance } }
-{
-    Shape {
-        blocks,
-        shared_cells,
-        weak_cells,
-        allowance,
-    }
-}
 
 // An owner goes into a cell.
 pub(crate) fn put(domain: &Domain<u64>, desk: &mut Desk<u64>, at: u32, owner: Shared) -> Was

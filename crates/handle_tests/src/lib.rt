@@ -1,4 +1,4 @@
-//! Tests of handles and cells, over the public functions of shared_handle and atomic_cells alone.
+//! Tests of the runtime, from its words to handles and cells, over the public functions of its crates alone.
 #![tactic(auto)]
 
 #[cfg(test)]
@@ -20,6 +20,8 @@ mod drops;
 #[cfg(test)]
 mod example;
 #[cfg(test)]
+mod laws;
+#[cfg(test)]
 mod leaves;
 #[cfg(test)]
 mod locks;
@@ -35,9 +37,14 @@ mod parts;
 mod replacing;
 #[cfg(test)]
 mod reuse;
+pub mod shapes;
+#[cfg(test)]
+mod splits;
 #[cfg(test)]
 mod this;
 #[cfg(test)]
 mod visits;
 #[cfg(test)]
 mod watching;
+#[cfg(test)]
+mod words;

@@ -6,24 +6,13 @@ ghost use Rattle.control_block.specs.Desks.{IsSameDesk, KeepsOtherEndings, allow
 ghost use Rattle.shared_handle.specs.Calls.{Holds, with_handle, without_handle};
 ghost use Rattle.shared_handle.specs.Endings.{Ends};
 
+pub(crate) use crate::shapes::shape;
 use control_block::census::close;
 use control_block::desk::Desk;
 use control_block::domain::Domain;
-use control_word::{Refused, Shape};
+use control_word::Refused;
 use shared_handle::{Ending, Held, Left, Member, Shared, make, release, share};
 use std::alloc::{AllocFailed, Global};
-
-// A shape without cells.
-pub(crate) fn shape(blocks: u32, allowance: u32) -> Shape
-    ensures { result ≡ record { blocks = blocks; shared_cells = 0; weak_cells = 0; allowance = allowance } }
-{
-    Shape {
-        blocks,
-        shared_cells: 0,
-        weak_cells: 0,
-        allowance,
-    }
-}
 
 // A sole desk closes its domain: how many vacant blocks it had.
 pub(crate) fn shut<V: Drop + Send>(domain: Domain<V>, desk: Desk<V>) -> u32

@@ -22,8 +22,8 @@ use Rattle.step_table.specs.Deeds.{remains}
 use Rattle.step_table.specs.Stories.{Nothing, state}
 use Rattle.step_core.specs.Sights.{AllHold, Sight, scene}
 
--- the numbers in a block's words are those of the handles on it, in bags and cells together; the weak word has one more while
--- there are owners ([util.smartptr.shared.obs], and own)
+-- the numbers in a block's words are those of the handles on it, in bags and cells together; the weak word has one
+-- more while there are owners ([util.smartptr.shared.obs], and own)
 pub record TellsHandles (words : List ℕ) (s : State) (b : ℕ) : Type 0 where
   pub owners : number_of (slice_index words (spot b 0)) ≡ count s (s.latest b)
   pub weaks : number_of (slice_index words (spot b 1)) ≡ weak s (s.latest b) + common (s.object (s.latest b)).phase
@@ -43,7 +43,8 @@ abbrev pub LocksWhereOwned : Sight → TraceStep → Sight → Type 0
 LocksWhereOwned u x u' =
     (w : Handle) (gave : Bool) → Was (Lock w gave) u x u' → (gave ≡ true) ↔ (0 < count (state u.story) (object_of w))
 
--- each object's value came out at most once, and exactly when the object is no longer live ([util.smartptr.shared.dest])
+-- each object's value came out at most once, and exactly when the object is no longer live
+-- ([util.smartptr.shared.dest])
 abbrev pub ValuesOnce : Sight → Type 0
 ValuesOnce u =
     (o : ℕ) → 1 ≤ o → o ≤ (state u.story).made
@@ -98,8 +99,8 @@ abbrev pub LocksNext : ℕ → Bool → List Task → Type 0
 LocksNext k must [] = ⊥
 LocksNext k must (t ∷ ts) = (t.statement ≡ k) × ((i : ℕ) × (t.act ≡ act.Lock i must))
 
--- a lock says whether it gave an owner, by an answer of its statement; one that must give an owner is refused where it did not
--- ([util.smartptr.weak.obs], [util.smartptr.shared.const])
+-- a lock says whether it gave an owner, by an answer of its statement; one that must give an owner is refused where
+-- it did not ([util.smartptr.weak.obs], [util.smartptr.shared.const])
 abbrev pub TellsLocks : Sight → TraceStep → Sight → Type 0
 TellsLocks u x u' =
     (w : Handle) (gave : Bool) → Was (Lock w gave) u x u'

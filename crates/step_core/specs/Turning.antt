@@ -26,6 +26,7 @@ use Rattle.step_threads.specs.Entries.{least}
 use Rattle.step_threads.specs.Scenes.{play_with, rested, said_with, walk_of}
 use Rattle.step_table.specs.Stories.{Kept, Story, pending, state}
 use Rattle.step_threads.specs.Threads.{IsClearing, IsMatchedBy, IsSeenBy}
+use Rattle.step_core.specs.Told.{IsTidy}
 use Rattle.step_core.specs.Worlds.{Sight, TellsAll, half_of, is_loading, scene}
 
 -- a make that is under way is the next act, in the least block of the store
@@ -131,6 +132,7 @@ pub record HasBegun (d : ℕ) (u : Sight) : Type 0 where
   pub proper : IsProper d u.story (half_of u d)
   pub others : OthersOwe d u
   pub out : IsOut d u.story (half_of u d)
+  pub tidy : IsTidy (walk_of (scene u) d)
 
 -- the thread's endings go on by themselves: what came out of a member isn't in hand
 abbrev pub is_ending : Sight → ℕ → Bool

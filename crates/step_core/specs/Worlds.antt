@@ -48,7 +48,8 @@ answer_at d u = answered u.story d (half_of u d) (walk_of (scene u) d)
 abbrev pub Steps : ℕ → Sight → Stepped → Sight → Type 0
 Steps d u r u' = (r ≡ answer_at d u) × (u' ≡ sight_by d u (step_of d u))
 
--- thread d made its next step, with this answer: it is the table's, and such as any step is, and the words stand for the history
+-- thread d made its next step, with this answer: it is the table's, and such as any step is, and the words stand for
+-- the history
 pub record Advances (d : ℕ) (u : Sight) (r : Stepped) (u' : Sight) : Type 0 where
   pub steps : Steps d u r u'
   pub takes : Takes d u r u'
@@ -75,14 +76,16 @@ NoneLoads d u = (e : ℕ) → e ≢ d → is_loading (half_of u e) ≡ false
 -- counts are told so of what thread d has in its slots, and exactly where no other thread has a load under way
 pub record TellsAll (d : ℕ) (u : Sight) (c : Scene) (tell : Telling) : Type 0 where
   pub each : (i : ℕ) (x : Pointer) → slot (walk_of c d).slots i ≡ Some x → Tells u.story d (state_in c) tell x
-  pub settled : NoneLoads d u → (i : ℕ) (x : Pointer) → slot (walk_of c d).slots i ≡ Some x → tell (state_in c) x ≡ exact (state_in c) x
+  pub settled : NoneLoads d u → (i : ℕ) (x : Pointer) → slot (walk_of c d).slots i ≡ Some x
+      → tell (state_in c) x ≡ exact (state_in c) x
 
--- a whole turn of thread d: its endings go on by themselves, then its next act comes, if it has one, and what that says, where a
--- count may leave out the loads that others have under way; others are where they were
+-- a whole turn of thread d: its endings go on by themselves, then its next act comes, if it has one, and what that
+-- says, where a count may leave out the loads that others have under way; others are where they were
 abbrev pub Turns : ℕ → Sight → Turned → Sight → Type 0
 Turns d u (Acted x) u' =
     let c = rested d (scene u) in
-    (tell : Telling) × TellsAll d u c tell × (Some x ≡ said_with tell d c) × (scene u' ≡ play_with tell d c) × (u'.halves ≡ slice_set u.halves d Rest)
+    (tell : Telling) × TellsAll d u c tell × (Some x ≡ said_with tell d c) × (scene u' ≡ play_with tell d c)
+    × (u'.halves ≡ slice_set u.halves d Rest)
 Turns d u Waited u' = ⊥
 Turns d u Done u' =
     let c = rested d (scene u) in (next (walk_of c d) ≡ None) × (scene u' ≡ c) × (u'.halves ≡ slice_set u.halves d Rest)

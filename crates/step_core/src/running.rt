@@ -21,7 +21,8 @@ use step_threads::thread::Thread;
 
 impl World {
     /// Runs the world to its end: one step for each number; then each actor that has a load under way, or funds that it brought or is
-    /// to give back, finishes that call, in number order; and then each runs alone to its end, in number order. The trace has all
+    /// to give back, finishes that call, in number order, so that no call owes anything; and then each runs alone to its end, in
+    /// number order. The trace has all
     /// these steps in order; a number for an actor at its end is a step, `Done`, and no other step of the trace is. None waits. All
     /// memory is asked for before the first step.
     ///
@@ -50,6 +51,7 @@ impl World {
         let mut steps = Vec::with_capacity(alloc, room)?;
         self.follow(turns, &mut steps);
         self.settle(&mut steps);
+        self.table.known();
         self.finish(&mut steps);
         self.table.known();
         Ok(Trace { steps })

@@ -1,15 +1,11 @@
--- What locks answer.
-use Rattle.std.proofs.Common.{◌≡◌, ℕ, ◌-◌, ◌==◌, Bool, true, false, cond, List, [], ◌∷◌, length, get_or, refl, sym, ap, subst, ◌∙◌, inl, inr, arith}
+-- What a step answers that is a lock.
+use Rattle.std.proofs.Common.{◌≡◌, ℕ, ◌-◌, ◌==◌, Bool, true, false, cond, List, [], ◌∷◌, get_or, refl, sym, ap, subst, ◌∙◌}
 use Rattle.std.specs.Prelude.{Option, Some, None, not, option_map}
 use Rattle.std.proofs.lemmas.Bool.{cond_both}
-use Rattle.control_word.specs.declared.event.Entry.{Entry}
-use Rattle.control_word.specs.declared.event.Event.{Event}
 use Rattle.control_word.specs.declared.event.Event.TheVariants as event
-use Rattle.control_word.specs.declared.handle.Handle.{Handle}
 use Rattle.control_word.specs.declared.handle.Kind.{Kind}
 use Rattle.control_word.specs.declared.handle.Kind.TheVariants.{Owner, Weak}
 use Rattle.control_word.specs.declared.place.Block.{Block}
-use Rattle.control_word.specs.Histories.{entry}
 use Rattle.control_word.specs.State.{State, weak}
 use Rattle.step_threads.specs.declared.act.Act.{Act}
 use Rattle.step_threads.specs.declared.act.Act.TheVariants.{Make, Share, Downgrade, Lock, Put, Leave, Clear, Count, Expired, Read, FromThis, Alias, Move, Ask, Offer, Swap, Exchange, Load, Compare, Drop}
@@ -20,43 +16,37 @@ use Rattle.step_table.specs.declared.holdings.Pointer.{Pointer}
 use Rattle.step_table.specs.declared.past.Deed.{Deed}
 use Rattle.step_table.specs.declared.past.Deed.TheVariants as deed
 use Rattle.step_threads.specs.declared.said.Said.{Said}
-use Rattle.step_threads.specs.declared.said.Stepped.{Stepped}
 use Rattle.step_threads.specs.declared.said.Stepped.TheVariants as stepped
-use Rattle.step_core.specs.declared.trace.TraceStep.{TraceStep}
 use Rattle.step_threads.specs.Actors.{wanted}
 use Rattle.step_threads.specs.declared.ending.Ending.{Ending}
 use Rattle.step_threads.specs.Courses.{Going, Walk, cell_at, comparing, form_of, going, hand, locked, offered, on_going, other}
 use Rattle.step_table.specs.Deeds.{is_enabled, read, as_owner, downgrade, is_expired, is_last, leave, leave_as, lock, owner_word, share, share_as, tell, tell_expired, alias, aliased, on}
 use Rattle.step_threads.specs.Endings.{staged}
-use Rattle.step_core.specs.Headline.{LocksNext, TellsLocks, Was, answer_by, statement_by}
+use Rattle.step_core.specs.Headline.{LocksNext}
 use Rattle.step_table.specs.Holdings.{inside, is_full, slot, owner_slot, place_in}
 use Rattle.step_threads.specs.Entries.{least}
-use Rattle.step_threads.specs.Scenes.{found, lock_answer, walk_of}
-use Rattle.step_threads.specs.Steps.{asks, at_rest, brings, emptied, given as given_by, Step, acts, begins, begun, claims, ends_on, first, is_event, looks, made_on}
-use Rattle.step_threads.specs.Steps.{prepares, sends, sent, silent, step_at, stepped as stepped_by, story_after, story_by, swaps, tried, tries, trying, with_endings, within}
-use Rattle.step_table.specs.Stories.{Nothing, Story, added, event_of, known, object_in, pending, state}
-use Rattle.step_core.specs.Worlds.{Sight, half_of, scene, step_of}
-use Rattle.step_table.proofs.tables.CellDeeds.{by_event}
+use Rattle.step_threads.specs.Scenes.{found, lock_answer}
+use Rattle.step_threads.specs.Steps.{asks, at_rest, brings, emptied, given as given_by, Step, acts, begins, begun, claims, ends_on, first, looks, made_on}
+use Rattle.step_threads.specs.Steps.{prepares, sends, sent, silent, step_at, swaps, tried, tries, trying, with_endings, within}
+use Rattle.step_table.specs.Stories.{Story, known, object_in, pending, state}
 use Rattle.step_table.specs.declared.cell_deed.Cell.{Cell}
 use Rattle.step_table.specs.declared.cell_deed.Cell.TheVariants.{Member}
 use Rattle.step_table.specs.Cells.{word_at}
 use Rattle.step_table.specs.Contents.{compared_in, seen}
 use Rattle.step_core.proofs.telling.Cases.{IsEach, IsEachAct, IsEachRefill, each_compares, each_load, each_matched, each_refill, each_saw}
-use Rattle.step_core.proofs.runs.Waiting.{IsTold, told_at}
-use Rattle.step_core.proofs.runs.Headline.{IsStep}
 
 -- what a deed gave that is a lock
-abbrev lock_of : Option Deed → Option Bool
+abbrev pub lock_of : Option Deed → Option Bool
 lock_of None = None
 lock_of (Some (deed.Lock b p got)) = Some got
 lock_of (Some _) = None
 
 -- a lock that is done is the next of these tasks, and what is said answers it
-abbrev Says : List Task → Option Bool → Said → Type 0
+abbrev pub Says : List Task → Option Bool → Said → Type 0
 Says l None said = Unit {0}
 Says l (Some got) said = (must : Bool) × LocksNext said.statement must l × (said.answer ≡ Some (lock_answer must got))
 
-abbrev Tells : List Task → Option Step → Type 0
+abbrev pub Tells : List Task → Option Step → Type 0
 Tells l None = Unit {0}
 Tells l (Some x) = Says l (lock_of x.deed) x.said
 
@@ -87,16 +77,24 @@ module _ (l : List Task) where
       go true = refl
       go false = refl
 
-  lock_done : (v : Story) (d k i : ℕ) (w : Walk) (ts : List Task) (must : Bool) (x : Pointer) → locked w.slots (Lock i must) ≡ Some x
+  lock_done : (v : Story) (d k i : ℕ) (w : Walk) (ts : List Task) (must : Bool) (x : Pointer)
+      → locked w.slots (Lock i must) ≡ Some x
       → LocksNext k must l → Tells l (Some (acts v d w k ts (Lock i must) (Some (lock (state v) x)) Rest))
-  lock_done v d k i w ts must x at next =
-      (must, next, ap (λ (o : Option Pointer). Some (lock_answer must (is_full (found (state v) o)))) at ∙ ap (λ (b : Bool). Some (lock_answer must b)) (given (state v) x))
+  lock_done v d k i w ts must x at next = (
+    must,
+    next,
+    ap (λ (o : Option Pointer). Some (lock_answer must (is_full (found (state v) o)))) at ∙
+        ap (λ (b : Bool). Some (lock_answer must b)) (given (state v) x),
+  )
 
-  lock_tells : (v : Story) (d k i : ℕ) (w : Walk) (ts : List Task) (must : Bool) (o : Option Pointer) → locked w.slots (Lock i must) ≡ o
-      → LocksNext k must l → Tells l (Some (on (looks v d w k ts (Lock i must)) (acts v d w k ts (Lock i must) None Rest) o))
+  lock_tells : (v : Story) (d k i : ℕ) (w : Walk) (ts : List Task) (must : Bool) (o : Option Pointer)
+      → locked w.slots (Lock i must) ≡ o
+      → LocksNext k must l → Tells l (Some (on (looks v d w k ts (Lock i must))
+      (acts v d w k ts (Lock i must) None Rest) o))
   lock_tells v d k i w ts must None at next = tt
   lock_tells v d k i w ts must (Some x) at next =
-      cond_both (owner_word v x == 0) (acts v d w k ts (Lock i must) (Some (lock (state v) x)) Rest) (trying w k (owner_word v x))
+      cond_both (owner_word v x == 0) (acts v d w k ts (Lock i must) (Some (lock (state v) x)) Rest)
+      (trying w k (owner_word v x))
       (λ (s : Step). Tells l (Some s)) (λ e. lock_done v d k i w ts must x at next) (λ e. tt)
 
   ask_tells : (v : Story) (d k i : ℕ) (q : Kind) (w : Walk) (ts : List Task) (o : Option Pointer)
@@ -106,7 +104,8 @@ module _ (l : List Task) where
       cond_both (is_enabled (state v) x) (record { deed = None; half = Giving i q x; walk = w; said = silent k })
       (acts v d w k ts (FromThis i q) None Rest) (λ (y : Step). Tells l (Some y)) (λ e. tt) (λ e. tt)
 
-  given_tells : (v : Story) (d i : ℕ) (q : Kind) (x : Pointer) (w : Walk) (ts : List Task) → Tells l (given_by v d w i q x ts)
+  given_tells : (v : Story) (d i : ℕ) (q : Kind) (x : Pointer) (w : Walk) (ts : List Task)
+      → Tells l (given_by v d w i q x ts)
   given_tells v d i q x w [] = tt
   given_tells v d i Owner x w (t ∷ ts) = tt
   given_tells v d i Weak x w (t ∷ ts) = tt
@@ -130,8 +129,10 @@ module _ (l : List Task) where
       go (Some x) = tt
 
   -- a cell that is looked at, tried or refilled is no lock
-  each_cell : (v : Story) (d : ℕ) (w : Walk) (k : ℕ) (ts : List Task) (a : Act) (c : Cell) → IsEach v d w k ts a c (λ (x : Step). Tells l (Some x))
-  each_cell v d w k ts a c = record { quiet = λ h. tt; look = λ x y. tt; take = λ x y h. tt; swap = λ x y h. tt; bring = λ x p. tt }
+  each_cell : (v : Story) (d : ℕ) (w : Walk) (k : ℕ) (ts : List Task) (a : Act) (c : Cell)
+      → IsEach v d w k ts a c (λ (x : Step). Tells l (Some x))
+  each_cell v d w k ts a c =
+      record { quiet = λ h. tt; look = λ x y. tt; take = λ x y h. tt; swap = λ x y h. tt; bring = λ x p. tt }
 
   each_act : (v : Story) (d : ℕ) (w : Walk) (k : ℕ) (ts : List Task) → IsEachAct v d w k ts (Tells l)
   each_act v d w k ts =
@@ -143,49 +144,68 @@ module _ (l : List Task) where
 
   each_stage : (v : Story) (w : Walk) (k : ℕ) → IsEachRefill v w k (λ (x : Step). Tells l (Some x))
   each_stage v w k =
-      record { quiet = λ h. tt; turn = λ q b h. tt; bring = λ q b p n h. tt; back = λ q b n h. tt; refill = λ c n h. tt }
+      record {
+        quiet = λ h. tt;
+        turn = λ q b h. tt;
+        bring = λ q b p n h. tt;
+        back = λ q b n h. tt;
+        refill = λ c n h.
+            tt;
+      }
 
-  first_tells : (v : Story) (d k : ℕ) (w : Walk) (ts : List Task) (a : Act) → ((i : ℕ) (must : Bool) → a ≡ Lock i must → LocksNext k must l)
+  first_tells : (v : Story) (d k : ℕ) (w : Walk) (ts : List Task) (a : Act)
+      → ((i : ℕ) (must : Bool) → a ≡ Lock i must → LocksNext k must l)
       → Tells l (Some (first v d w k ts a))
   first_tells v d k w ts (Make form) next = begin_tells w k ts (least d (state v).stores)
   first_tells v d k w ts (Share i) next = plain share _ (λ x. share_plain x.kind x) (slot w.slots i)
-  first_tells v d k w ts (Put i) next = plain (leave (state v)) _ (λ x. leave_plain x.kind x (is_last (state v) x)) (slot w.slots i)
-  first_tells v d k w ts (Leave i) next = plain (leave (state v)) _ (λ x. leave_plain x.kind x (is_last (state v) x)) (slot w.slots i)
-  first_tells v d k w ts (Clear i) next = plain (leave (state v)) _ (λ x. leave_plain x.kind x (is_last (state v) x)) (slot w.slots i)
+  first_tells v d k w ts (Put i) next =
+      plain (leave (state v)) _ (λ x. leave_plain x.kind x (is_last (state v) x)) (slot w.slots i)
+  first_tells v d k w ts (Leave i) next =
+      plain (leave (state v)) _ (λ x. leave_plain x.kind x (is_last (state v) x)) (slot w.slots i)
+  first_tells v d k w ts (Clear i) next =
+      plain (leave (state v)) _ (λ x. leave_plain x.kind x (is_last (state v) x)) (slot w.slots i)
   first_tells v d k w ts (Count i) next = plain (tell v) _ (λ x. refl) (slot w.slots i)
   first_tells v d k w ts (Downgrade i) next = plain downgrade _ (λ x. refl) (slot w.slots i)
   first_tells v d k w ts (Expired i) next = plain (tell_expired (state v)) _ (λ x. refl) (slot w.slots i)
   first_tells v d k w ts (Read i) next = plain (read (state v)) _ (λ x. refl) (inside (slot w.slots i))
   first_tells v d k w ts (FromThis i kind) next = ask_tells v d k i kind w ts (inside (slot w.slots i))
-  first_tells v d k w ts (Alias i j field) next = plain (alias (aliased field (place_in w.slots j))) _ (λ x. refl) (owner_slot (slot w.slots i))
+  first_tells v d k w ts (Alias i j field) next =
+      plain (alias (aliased field (place_in w.slots j))) _ (λ x. refl) (owner_slot (slot w.slots i))
   first_tells v d k w ts (Move i) next = tt
   first_tells v d k w ts (Ask q) next = tt
   first_tells v d k w ts (Offer i c) next = plain share _ (λ x. share_plain x.kind x) (offered w.slots i c)
   first_tells v d k w ts (Swap c) next = going_tells v d k w ts (Swap c) (going w.slots (Swap c))
   first_tells v d k w ts (Exchange i c) next = going_tells v d k w ts (Exchange i c) (going w.slots (Exchange i c))
   first_tells v d k w ts (Load c) next =
-      each_load v d w k ts c (λ (x : Step). Tells l (Some x)) (each_cell v d w k ts (Load c) (cell_at (state v) w.slots c)) tt
+      each_load v d w k ts c (λ (x : Step). Tells l (Some x))
+      (each_cell v d w k ts (Load c) (cell_at (state v) w.slots c)) tt
   first_tells v d k w ts (Compare i c weak) next =
       each_compares v d w k ts (Compare i c weak) (cell_at (state v) w.slots c) (λ (x : Step). Tells l (Some x))
-      (each_cell v d w k ts (Compare i c weak) (cell_at (state v) w.slots c)) (compared_in w.slots (comparing w.slots i weak)) (seen v (cell_at (state v) w.slots c))
-  first_tells v d k w ts Drop next = plain (leave (state v)) _ (λ x. leave_plain x.kind x (is_last (state v) x)) (slot w.slots (other w.slots))
-  first_tells v d k w ts (Lock i must) next = lock_tells v d k i w ts must (locked w.slots (Lock i must)) refl (next i must refl)
+      (each_cell v d w k ts (Compare i c weak) (cell_at (state v) w.slots c))
+      (compared_in w.slots (comparing w.slots i weak)) (seen v (cell_at (state v) w.slots c))
+  first_tells v d k w ts Drop next =
+      plain (leave (state v)) _ (λ x. leave_plain x.kind x (is_last (state v) x)) (slot w.slots (other w.slots))
+  first_tells v d k w ts (Lock i must) next =
+      lock_tells v d k i w ts must (locked w.slots (Lock i must)) refl (next i must refl)
 
   task_tells : (v : Story) (d : ℕ) (w : Walk) (ts : List Task) → l ≡ ts → Tells l (begun v d w ts)
   task_tells v d w [] is = tt
   task_tells v d w (t ∷ ts) is =
       first_tells v d t.statement w ts t.act (λ i must e. subst (LocksNext t.statement must) (sym is) (refl, (i, e)))
 
-  prepared_tells : (found want k i : ℕ) (w : Walk) (b : Block) (f : Bool) → Tells l (Some (prepares found want w k b i f))
+  prepared_tells : (found want k i : ℕ) (w : Walk) (b : Block) (f : Bool)
+      → Tells l (Some (prepares found want w k b i f))
   prepared_tells found want k i w b true = tt
   prepared_tells found want k i w b false = tt
 
-  make_tells : (v : Story) (d i : ℕ) (w : Walk) (b : Block) (f : Bool) (ts : List Task) → Tells l (made_on v d w b i f ts)
+  make_tells : (v : Story) (d i : ℕ) (w : Walk) (b : Block) (f : Bool) (ts : List Task)
+      → Tells l (made_on v d w b i f ts)
   make_tells v d i w b f [] = tt
   make_tells v d i w b f (t ∷ ts) =
       let found = get_or (known (pending v d)) i 0 in
       let want = get_or (wanted (form_of t.act)) i 0 in
-      cond_both (i == 5) (claims w t.statement ts b (form_of t.act)) (prepares found want w t.statement b i f) (λ (x : Step). Tells l (Some x))
+      cond_both (i == 5) (claims w t.statement ts b (form_of t.act)) (prepares found want w t.statement b i f)
+      (λ (x : Step). Tells l (Some x))
       (λ e. tt) (λ e. prepared_tells found want t.statement i w b f)
 
   end_tells : (v : Story) (w : Walk) (e : Ending) (es : List Ending) → Tells l (Some (ends_on v w e es))
@@ -198,8 +218,10 @@ module _ (l : List Task) where
       } in
       let cleared = within (with_endings w (staged e ∷ es)) e.statement (Some (deed.Clear e.block e.stage)) Rest in
       let looked = within w e.statement None Clearing in
-      cond_both (e.stage == 3) finished (cond (word_at v (Member e.block e.stage) == 0) cleared looked) (λ (x : Step). Tells l (Some x)) (λ c. tt)
-      (λ c. cond_both (word_at v (Member e.block e.stage) == 0) cleared looked (λ (x : Step). Tells l (Some x)) (λ b. tt) (λ b. tt))
+      cond_both (e.stage == 3) finished (cond (word_at v (Member e.block e.stage) == 0) cleared looked)
+      (λ (x : Step). Tells l (Some x)) (λ c. tt)
+      (λ c. cond_both (word_at v (Member e.block e.stage) == 0) cleared looked (λ (x : Step). Tells l (Some x))
+      (λ b. tt) (λ b. tt))
 
   -- what comes out of a member leaves later
   out_tells : (v : Story) (w : Walk) (es : List Ending) → Tells l (emptied v w es)
@@ -209,8 +231,10 @@ module _ (l : List Task) where
   rest_tells : (v : Story) (d : ℕ) (w : Walk) (es : List Ending) → l ≡ w.todo → Tells l (at_rest v d w es)
   rest_tells v d w [] is = task_tells v d w w.todo is
   rest_tells v d w (e ∷ es) is =
-      cond_both (is_full (slot w.slots (hand w.slots))) (first v d w e.statement w.todo (Leave (hand w.slots))) (ends_on v w e es)
-      (λ (x : Step). Tells l (Some x)) (λ c. first_tells v d e.statement w w.todo (Leave (hand w.slots)) (λ i must q. cc)) (λ c. end_tells v w e es)
+      cond_both (is_full (slot w.slots (hand w.slots))) (first v d w e.statement w.todo (Leave (hand w.slots)))
+      (ends_on v w e es)
+      (λ (x : Step). Tells l (Some x)) (λ c. first_tells v d e.statement w w.todo (Leave (hand w.slots))
+      (λ i must q. cc)) (λ c. end_tells v w e es)
 
   tried_tells : (v : Story) (d word : ℕ) (w : Walk) (ts : List Task) → l ≡ ts → Tells l (tried v d w word ts)
   tried_tells v d word w [] is = tt
@@ -221,13 +245,15 @@ module _ (l : List Task) where
       one i must None at next = tt
       one i must (Some x) at next =
           cond_both (owner_word v x == word) (acts v d w t.statement ts (Lock i must) (Some (lock (state v) x)) Rest)
-          (trying w t.statement (owner_word v x)) (λ (s : Step). Tells l (Some s)) (λ e. lock_done v d t.statement i w ts must x at next) (λ e. tt)
+          (trying w t.statement (owner_word v x)) (λ (s : Step). Tells l (Some s))
+          (λ e. lock_done v d t.statement i w ts must x at next) (λ e. tt)
 
       go : (a : Act) → t.act ≡ a → Tells l (option_map (tries v d w t.statement ts a word) (locked w.slots a))
-      go (Lock i must) e = one i must (locked w.slots (Lock i must)) refl (subst (LocksNext t.statement must) (sym is) (refl, (i, e)))
+      go (Lock i must) e =
+          one i must (locked w.slots (Lock i must)) refl (subst (LocksNext t.statement must) (sym is) (refl, (i, e)))
       go _ e = tt
 
-  step_tells : (v : Story) (d : ℕ) (h : Half) (w : Walk) → l ≡ w.todo → Tells l (step_at v d h w)
+  pub step_tells : (v : Story) (d : ℕ) (h : Half) (w : Walk) → l ≡ w.todo → Tells l (step_at v d h w)
   step_tells v d Rest w is = rest_tells v d w w.endings is
   step_tells v d (Making b i f) w is = make_tells v d i w b f w.todo
   step_tells v d (Locking word) w is = tried_tells v d word w w.todo is
@@ -238,67 +264,3 @@ module _ (l : List Task) where
   step_tells v d (Refill stage c x k) w is = each_refill v w k (Tells l) tt (each_stage v w k) stage c x x.owned
   step_tells v d (Returning kind b funds k) w is = tt
   step_tells v d Clearing w is = out_tells v w w.endings
-
-as_answered : (v : Story) (x : Step) → answer_by (stepped_by v (Some x)) ≡ x.said.answer
-as_answered v x =
-    cond_both (is_event v x.deed) (stepped.Event x.said) (stepped.Quiet x.said) (λ (r : Stepped). answer_by r ≡ x.said.answer) (λ e. refl)
-    (λ e. refl)
-
-as_stated : (v : Story) (x : Step) → statement_by (stepped_by v (Some x)) ≡ Some x.said.statement
-as_stated v x =
-    cond_both (is_event v x.deed) (stepped.Event x.said) (stepped.Quiet x.said)
-    (λ (r : Stepped). ◌≡◌ {A = Option ℕ} (statement_by r) (Some x.said.statement)) (λ e. refl) (λ e. refl)
-
--- what the newest event gave, if it is a lock
-abbrev gave_by : Event Nothing → Option Bool
-gave_by (event.Lock w got) = Some got
-gave_by _ = None
-
-abbrev newest_gave : List (Entry Nothing) → Option Bool
-newest_gave [] = None
-newest_gave (e ∷ h) = gave_by e.event
-
--- an event that is a lock comes by a deed that is one
-by_deed : (v : Story) (d : ℕ) (y : Deed) (w : Handle) (gave : Bool) → added d (event_of (state v) y) v.history ≡ entry d (event.Lock w gave) ∷ v.history
-    → lock_of (Some y) ≡ Some gave
-by_deed v d (deed.Lock b p got) w gave e = ap newest_gave e
-by_deed v d (deed.Prepare b) w gave e = absurd (let n = ap (λ (h : List (Entry Nothing)). length h) e in omega (arith, n))
-by_deed v d (deed.Write b j n) w gave e = absurd (let m = ap (λ (h : List (Entry Nothing)). length h) e in omega (arith, m))
-by_deed v d (deed.OnCell x) w gave e =
-    by_event (λ (a : Option (Event Nothing)). added d a v.history ≡ entry d (event.Lock w gave) ∷ v.history → None ≡ Some gave)
-    (λ q. absurd (let n = ap (λ (h : List (Entry Nothing)). length h) q in omega (arith, n))) (λ c h q. ap newest_gave q) (λ c x n h b f q. ap newest_gave q)
-    (λ c n h q. ap newest_gave q) (λ o m h q. ap newest_gave q) (state v) x e
-by_deed v d _ w gave e = ap newest_gave e
-
--- what a step tells of a lock that gave this
-abbrev Told : Sight → TraceStep → Bool → Type 0
-Told u x gave =
-    (k : ℕ) × (must : Bool) × LocksNext k must (walk_of (scene u) (x.actor - 1)).todo
-    × (statement_by x.stepped ≡ Some k) × (answer_by x.stepped ≡ Some (lock_answer must gave))
-
-pub tells_locks : (u : Sight) (x : TraceStep) (u' : Sight) → IsStep u x u' → TellsLocks u x u'
-tells_locks u x u' step = λ w gave was.
-    by_answer w gave was (told_at (x.actor - 1) u x.stepped u' step.steps)
-  where
-    no_event : (w : Handle) (gave : Bool) → Was (event.Lock w gave) u x u' → u'.story.history ≡ u.story.history → ⊥
-    no_event w gave was same = let n = ap (λ (h : List (Entry Nothing)). length h) (sym same ∙ was) in omega (arith, n)
-
-    go : (w : Handle) (gave : Bool) → Was (event.Lock w gave) u x u' → (y : Option Step)
-        → u'.story.history ≡ (story_by u.story (x.actor - 1) y).history → x.stepped ≡ stepped_by u.story y → Tells (walk_of (scene u) (x.actor - 1)).todo y
-        → Told u x gave
-    go w gave was None now is says = absurd (no_event w gave was now)
-    go w gave was (Some y) now is says = at y.deed now says
-      where
-        at : (z : Option Deed) → u'.story.history ≡ (story_after u.story (x.actor - 1) z).history
-            → Says (walk_of (scene u) (x.actor - 1)).todo (lock_of z) y.said → Told u x gave
-        at None here answers = absurd (no_event w gave was here)
-        at (Some z) here answers =
-            let s = subst (λ (q : Option Bool). Says (walk_of (scene u) (x.actor - 1)).todo q y.said)
-            (by_deed u.story (x.actor - 1) z w gave (sym here ∙ was)) answers in
-            (y.said.statement, s.0, s.1, ap statement_by is ∙ as_stated u.story y, ap answer_by is ∙ as_answered u.story y ∙ s.2)
-
-    by_answer : (w : Handle) (gave : Bool) → Was (event.Lock w gave) u x u' → IsTold (x.actor - 1) u x.stepped u' → Told u x gave
-    by_answer w gave was (inl still) = absurd (no_event w gave was still.1)
-    by_answer w gave was (inr said) =
-        let w' = walk_of (scene u) (x.actor - 1) in
-        go w gave was (step_of (x.actor - 1) u) said.1 said.0 (step_tells w'.todo u.story (x.actor - 1) (half_of u (x.actor - 1)) w' refl)

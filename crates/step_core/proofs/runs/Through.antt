@@ -7,7 +7,7 @@ use Rattle.step_core.specs.Headline.{AfterEach, OfEach}
 use Rattle.step_core.specs.Runs.{IsRun}
 use Rattle.step_core.specs.Sights.{AllHold, Sight}
 use Rattle.step_core.specs.Worlds.{Advances}
-use Rattle.step_core.proofs.runs.Answers.{tells_locks}
+use Rattle.step_core.proofs.runs.Locks.{tells_locks}
 use Rattle.step_core.proofs.runs.Headline.{IsStep, counts, last_leaves, locks, values}
 use Rattle.step_core.proofs.runs.Says.{tells}
 
@@ -16,7 +16,13 @@ after_each u kept hands = record { counts = counts u kept; once = values u kept;
 
 of_each : (u : Sight) (x : TraceStep) (m : Sight) → IsStep u x m → OfEach u x m
 of_each u x m step =
-    record { locks = locks u x m step; answers = tells_locks u x m step; values = last_leaves u x m step; told = tells u x m step }
+    record {
+      locks = locks u x m step;
+      answers = tells_locks u x m step;
+      values = last_leaves u x m step;
+      told = tells
+          u x m step;
+    }
 
 pub through : (u u' : Sight) (xs : List TraceStep) → IsRun u xs u' → Kept u.story → AllHold u
     → Through AfterEach (λ m x w. OfEach m x w × Advances (x.actor - 1) m x.stepped w) u xs u'

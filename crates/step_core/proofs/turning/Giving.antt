@@ -21,12 +21,14 @@ use Rattle.step_core.specs.Worlds.{Sight, scene}
 use Rattle.step_core.proofs.turning.Saying.{Acts}
 use Rattle.step_core.proofs.turning.Trials.{Next, Outcome}
 
-give_so : (d : ℕ) (u : Sight) (k : ℕ) (ts : List Task) (i : ℕ) (q : Kind) (x : Pointer) → inside (slot (walk_of (scene u) d).slots i) ≡ Some x
+give_so : (d : ℕ) (u : Sight) (k : ℕ) (ts : List Task) (i : ℕ) (q : Kind) (x : Pointer)
+    → inside (slot (walk_of (scene u) d).slots i) ≡ Some x
     → is_enabled (state u.story) x ≡ true
     → Acts d u k ts (FromThis i q) (acts u.story d (walk_of (scene u) d) k ts (FromThis i q) (Some (give q x)) Rest)
 give_so d u k ts i q x e is =
     let w = walk_of (scene u) d in
-    let g : giving (state u.story) (inside (slot w.slots i)) ≡ Some x = ap (giving (state u.story)) e ∙ cond-true (is_enabled (state u.story) x) (Some x) None is in (
+    let g : giving (state u.story) (inside (slot w.slots i)) ≡ Some x = ap (giving (state u.story)) e ∙ cond-true
+    (is_enabled (state u.story) x) (Some x) None is in (
       refl,
       ap (λ (o : Option Pointer). record {
         extent = u.story.extent;
@@ -35,7 +37,8 @@ give_so d u k ts i q x e is =
       }) (sym g),
     )
 
-pub giving_out : (d : ℕ) (u : Sight) (i : ℕ) (q : Kind) (x : Pointer) (t : Task) (ts : List Task) → IsUnderWay d u.story (Giving i q x) (t ∷ ts)
+pub giving_out : (d : ℕ) (u : Sight) (i : ℕ) (q : Kind) (x : Pointer) (t : Task) (ts : List Task)
+    → IsUnderWay d u.story (Giving i q x) (t ∷ ts)
     → inside (slot (walk_of (scene u) d).slots i) ≡ Some x
     → Next d u t.statement ts t.act (Giving i q x) (given u.story d (walk_of (scene u) d) i q x (t ∷ ts))
 giving_out d u i q x t ts way at =

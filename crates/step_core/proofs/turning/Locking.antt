@@ -28,12 +28,14 @@ module _ (d : ℕ) (u : Sight) (k : ℕ) (ts : List Task) (a : Act) (y : Pointer
   looking = ap (λ (o : Option Pointer). is_full o || is_at_cell (walk_of (scene u) d).slots a) locks
 
   -- a try that finds another word goes on with that one, and one that finds 0 begins again
-  trying_on : (h : Half) → 4 < left_on u.story (walk_of (scene u) d).slots a h → Outcome d u k ts a h (trying (walk_of (scene u) d) k (owner_word u.story y))
+  trying_on : (h : Half) → 4 < left_on u.story (walk_of (scene u) d).slots a h
+      → Outcome d u k ts a h (trying (walk_of (scene u) d) k (owner_word u.story y))
   trying_on h much =
       let w = walk_of (scene u) d in
       let n = owner_word u.story y in
       let now : left_on u.story w.slots a (Locking n) ≡ 3 =
-      ap (λ (o : Option Pointer). cond (on (owner_word u.story) 0 o == n) 3 5) locks ∙ ap (λ (b : Bool). cond b 3 5) (eq-eqb n n refl) in
+      ap (λ (o : Option Pointer). cond (on (owner_word u.story) 0 o == n) 3 5) locks ∙ ap (λ (b : Bool). cond b 3 5)
+      (eq-eqb n n refl) in
       let p = cond_both (n == 0) Rest (Locking n)
       (λ (q : Half). (is_on w.slots a q ≡ true) × (left_on u.story w.slots a q < left_on u.story w.slots a h))
       (λ e. (looking, much)) (λ e. (refl, omega (arith, much, now))) in
@@ -44,28 +46,34 @@ module _ (d : ℕ) (u : Sight) (k : ℕ) (ts : List Task) (a : Act) (y : Pointer
   tries_out word =
       let w = walk_of (scene u) d in
       let n = owner_word u.story y in
-      cond_both (n == word) (acts u.story d w k ts a (Some (lock (state u.story) y)) Rest) (trying w k n) (Outcome d u k ts a (Locking word))
+      cond_both (n == word) (acts u.story d w k ts a (Some (lock (state u.story) y)) Rest) (trying w k n)
+      (Outcome d u k ts a (Locking word))
       (λ t. inl (record { event = refl; so = lock_so d u k ts a y locks; over = refl }))
       (λ f. trying_on (Locking word)
       (let m : left_on u.story w.slots a (Locking word) ≡ 5 =
-      ap (λ (o : Option Pointer). cond (on (owner_word u.story) 0 o == word) 3 5) locks ∙ ap (λ (b : Bool). cond b 3 5) f in omega (arith, m)))
+      ap (λ (o : Option Pointer). cond (on (owner_word u.story) 0 o == word) 3 5) locks ∙
+      ap (λ (b : Bool). cond b 3 5) f in omega (arith, m)))
 
   -- the first look: where no owner is left that is all
   looks_out : Outcome d u k ts a Rest (looks u.story d (walk_of (scene u) d) k ts a y)
   looks_out =
       let w = walk_of (scene u) d in
       let n = owner_word u.story y in
-      cond_both (n == 0) (acts u.story d w k ts a (Some (lock (state u.story) y)) Rest) (trying w k n) (Outcome d u k ts a Rest)
+      cond_both (n == 0) (acts u.story d w k ts a (Some (lock (state u.story) y)) Rest) (trying w k n)
+      (Outcome d u k ts a Rest)
       (λ t. inl (record { event = refl; so = lock_so d u k ts a y locks; over = refl }))
       (λ f. seen f)
     where
-      seen : (owner_word u.story y == 0) ≡ false → Outcome d u k ts a Rest (trying (walk_of (scene u) d) k (owner_word u.story y))
+      seen : (owner_word u.story y == 0) ≡ false
+          → Outcome d u k ts a Rest (trying (walk_of (scene u) d) k (owner_word u.story y))
       seen f =
           let w = walk_of (scene u) d in
           let n = owner_word u.story y in
           let now : left_on u.story w.slots a (Locking n) ≡ 3 =
-          ap (λ (o : Option Pointer). cond (on (owner_word u.story) 0 o == n) 3 5) locks ∙ ap (λ (b : Bool). cond b 3 5) (eq-eqb n n refl) in
-          let p = cond_both (n == 0) Rest (Locking n) (λ (q : Half). (is_on w.slots a q ≡ true) × (left_on u.story w.slots a q < 4))
+          ap (λ (o : Option Pointer). cond (on (owner_word u.story) 0 o == n) 3 5) locks ∙
+          ap (λ (b : Bool). cond b 3 5) (eq-eqb n n refl) in
+          let p = cond_both (n == 0) Rest (Locking n)
+          (λ (q : Half). (is_on w.slots a q ≡ true) × (left_on u.story w.slots a q < 4))
           (λ e. absurd (false≢true (sym f ∙ e))) (λ e. (refl, omega (arith, now))) in
           inr (record { quiet = refl; walk = refl; history = refl; extent = refl; half = p.0; less = p.1 })
 

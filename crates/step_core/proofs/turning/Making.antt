@@ -21,12 +21,14 @@ use Rattle.step_core.proofs.turning.Saying.{Acts, acted_said, acted_scene}
 use Rattle.step_core.proofs.turning.Trials.{Next, Outcome, Tried, is_on, left_on}
 
 -- a claim is what the make says and makes
-claims_so : (d : ℕ) (u : Sight) (k : ℕ) (ts : List Task) (b : Block) (a : Act) → a ≡ Make (form_of a) → least d (state u.story).stores ≡ Some b.0
+claims_so : (d : ℕ) (u : Sight) (k : ℕ) (ts : List Task) (b : Block) (a : Act) → a ≡ Make (form_of a)
+    → least d (state u.story).stores ≡ Some b.0
     → Acts d u k ts a (claims (walk_of (scene u) d) k ts b (form_of a))
 claims_so d u k ts b a is low =
     let w = walk_of (scene u) d in
     let f = form_of a in (
-      ap (λ (q : Option ℕ). record { statement = k; answer = full_answer q; ended = None }) (sym low) ∙ ap (acted_said d u k) (sym is),
+      ap (λ (q : Option ℕ). record { statement = k; answer = full_answer q; ended = None }) (sym low) ∙
+          ap (acted_said d u k) (sym is),
       ap (λ (q : Option ℕ). record {
         extent = u.story.extent;
         history = does (opening u.story.extent) d u.story.history (option_map (makes f) q);
@@ -38,7 +40,8 @@ claims_so d u k ts b a is low =
 -- a word of the block is looked at, or written
 prepared : (d : ℕ) (u : Sight) (k : ℕ) (a : Act) (b : Block) (i f n : ℕ) (g : Bool) → i < 5
     → let w = walk_of (scene u) d in Tried d u.story w a (Making b i g) (prepares f n w k b i g)
-prepared d u k a b i f n true lt = record { quiet = refl; walk = refl; history = refl; extent = refl; half = refl; less = omega (arith, lt) }
+prepared d u k a b i f n true lt =
+    record { quiet = refl; walk = refl; history = refl; extent = refl; half = refl; less = omega (arith, lt) }
 prepared d u k a b i f n false lt =
     let slots = (walk_of (scene u) d).slots in
     let p = cond_both (f == n) (Making b (i + 1) false) (Making b i true)
@@ -46,7 +49,8 @@ prepared d u k a b i f n false lt =
     (λ t. (refl, omega (arith, lt))) (λ t. (refl, omega (arith, lt))) in
     record { quiet = refl; walk = refl; history = refl; extent = refl; half = p.0; less = p.1 }
 
-pub making_out : (d : ℕ) (u : Sight) (b : Block) (i : ℕ) (g : Bool) (t : Task) (ts : List Task) → IsUnderWay d u.story (Making b i g) (t ∷ ts)
+pub making_out : (d : ℕ) (u : Sight) (b : Block) (i : ℕ) (g : Bool) (t : Task) (ts : List Task)
+    → IsUnderWay d u.story (Making b i g) (t ∷ ts)
     → Next d u t.statement ts t.act (Making b i g) (made_on u.story d (walk_of (scene u) d) b i g (t ∷ ts))
 making_out d u b i g t ts way =
     let w = walk_of (scene u) d in

@@ -10,7 +10,8 @@ use Rattle.step_core.specs.Worlds.{Sight, scene}
 use Rattle.step_core.proofs.turning.Swapping.{CanPut, some_of, swap_over, swaps_so}
 use Rattle.step_core.proofs.turning.Trials.{Next}
 
-pub putting_out : (d : ℕ) (u : Sight) (t : Task) (ts : List Task) → CanPut d u t.act → is_some (going (walk_of (scene u) d).slots t.act) ≡ true
+pub putting_out : (d : ℕ) (u : Sight) (t : Task) (ts : List Task) → CanPut d u t.act
+    → is_some (going (walk_of (scene u) d).slots t.act) ≡ true
     → Next d u t.statement ts t.act Brought (sent u.story d (walk_of (scene u) d) (t ∷ ts))
 putting_out d u t ts can is =
     let w = walk_of (scene u) d in

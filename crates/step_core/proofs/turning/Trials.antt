@@ -41,7 +41,8 @@ is_at_cell slots _ = false
 abbrev pub is_looking : Slots → Act → Bool
 is_looking slots a = is_full (locked slots a) || is_at_cell slots a
 
--- the steps that it has left, where nobody else steps: what was seen and is so still is done next, and else it begins again
+-- the steps that it has left, where nobody else steps: what was seen and is so still is done next, and else it begins
+-- again
 abbrev pub left_on : Story → Slots → Act → Half → ℕ
 left_on v slots a Rest = 4
 left_on v slots a (Making b i differs) = 2 * (5 - i) + cond differs 0 1
@@ -90,7 +91,8 @@ module _ (d : ℕ) (u : Sight) (k : ℕ) (ts : List Task) (a : Act) (c : Cell) (
   sees_out y spent shows so =
       let w = walk_of (scene u) d in
       let look = acts u.story d w k ts a (Some (OnCell (Look c x y))) Rest in
-      cond_both (is_spent x) (within w k None Rest) (cond (is_some x.owned) (within w k None (Saw x)) look) (Outcome d u k ts a Rest)
+      cond_both (is_spent x) (within w k None Rest) (cond (is_some x.owned) (within w k None (Saw x)) look)
+      (Outcome d u k ts a Rest)
       (λ t. absurd (false≢true (sym spent ∙ t)))
       (λ f. cond_both (is_some x.owned) (within w k None (Saw x)) look (Outcome d u k ts a Rest) (λ t. inr saw_now)
       (λ f. inl (record { event = refl; so = so; over = refl })))
@@ -101,25 +103,40 @@ module _ (d : ℕ) (u : Sight) (k : ℕ) (ts : List Task) (a : Act) (c : Cell) (
           record { quiet = refl; walk = refl; history = refl; extent = refl; half = refl; less = omega (arith, n) }
 
   -- a fund is taken, or the act begins again
-  pub takes_out : (y : Option Compared) → shows_on u.story (walk_of (scene u) d).slots x a ≡ (word_at u.story c == cell_bits x)
+  pub takes_out : (y : Option Compared)
+      → shows_on u.story (walk_of (scene u) d).slots x a ≡ (word_at u.story c == cell_bits x)
       → ((word_at u.story c == cell_bits x) ≡ true
-      → Acts d u k ts a (acts u.story d (walk_of (scene u) d) k ts a (Some (OnCell (Take c x y))) (Refill Turning c (more_taken x) k)))
+      → Acts d u k ts a (acts u.story d (walk_of (scene u) d) k ts a (Some (OnCell (Take c x y)))
+      (Refill Turning c (more_taken x) k)))
       → Outcome d u k ts a (Saw x) (takes u.story d (walk_of (scene u) d) k ts a c y x)
   takes_out y shows so =
       let v = u.story in
       let w = walk_of (scene u) d in
-      cond_both (word_at v c == cell_bits x) (acts v d w k ts a (Some (OnCell (Take c x y))) (Refill Turning c (more_taken x) k)) (within w k None Rest)
+      cond_both (word_at v c == cell_bits x) (acts v d w k ts a (Some (OnCell (Take c x y)))
+      (Refill Turning c (more_taken x) k)) (within w k None Rest)
       (Outcome d u k ts a (Saw x)) (λ t. inl (record { event = refl; so = so t; over = refl }))
       (λ f. let n : left_on v w.slots a (Saw x) ≡ 7 = ap (λ (b : Bool). cond b 3 7) (shows ∙ f) in
-      inr (record { quiet = refl; walk = refl; history = refl; extent = refl; half = looking; less = omega (arith, n) }))
+      inr (record {
+        quiet = refl;
+        walk = refl;
+        history = refl;
+        extent = refl;
+        half = looking;
+        less = omega
+            (arith, n);
+      }))
 
-  missed_trial : (o : Option Pointer) → (is_on (walk_of (scene u) d).slots a (missed k o) ≡ true) × (left_on u.story (walk_of (scene u) d).slots a (missed k o) < 6)
+  missed_trial : (o : Option Pointer)
+      → (is_on (walk_of (scene u) d).slots a (missed k o) ≡ true)
+      × (left_on u.story (walk_of (scene u) d).slots a (missed k o) < 6)
   missed_trial None = (looking, omega arith)
   missed_trial (Some p) = (looking, omega arith)
 
   -- the cell is swapped, or what was brought is given back and the act begins again
-  pub matches_out : (y : Compared) (h : Half) → ((word_at u.story c == cell_bits x) ≡ false → 5 < left_on u.story (walk_of (scene u) d).slots a h)
-      → ((word_at u.story c == cell_bits x) ≡ true → Acts d u k ts a (acts u.story d (walk_of (scene u) d) k ts a (Some (OnCell (CompareSwap c x y)))
+  pub matches_out : (y : Compared) (h : Half)
+      → ((word_at u.story c == cell_bits x) ≡ false → 5 < left_on u.story (walk_of (scene u) d).slots a h)
+      → ((word_at u.story c == cell_bits x) ≡ true → Acts d u k ts a
+      (acts u.story d (walk_of (scene u) d) k ts a (Some (OnCell (CompareSwap c x y)))
       (gives_back (kind_in (state u.story) c) k x x.owned)))
       → Outcome d u k ts a h (matches u.story d (walk_of (scene u) d) k ts a c y x)
   matches_out y h much so =
@@ -127,9 +144,18 @@ module _ (d : ℕ) (u : Sight) (k : ℕ) (ts : List Task) (a : Act) (c : Cell) (
       let w = walk_of (scene u) d in
       let g = gives_back (kind_in (state v) c) k x x.owned in
       let m = missed k (slot w.slots (hand w.slots)) in
-      cond_both (word_at v c == cell_bits x) (acts v d w k ts a (Some (OnCell (CompareSwap c x y))) g) (within w k None m) (Outcome d u k ts a h)
+      cond_both (word_at v c == cell_bits x) (acts v d w k ts a (Some (OnCell (CompareSwap c x y))) g)
+      (within w k None m) (Outcome d u k ts a h)
       (λ t. inl (record { event = refl; so = so t; over = no_more (kind_in (state v) c) k x x.owned }))
       (λ f. let p = missed_trial (slot w.slots (hand w.slots)) in
       let low = p.1 in
       let n = much f in
-      inr (record { quiet = refl; walk = refl; history = refl; extent = refl; half = p.0; less = omega (arith, low, n) }))
+      inr (record {
+        quiet = refl;
+        walk = refl;
+        history = refl;
+        extent = refl;
+        half = p.0;
+        less = omega
+            (arith, low, n);
+      }))

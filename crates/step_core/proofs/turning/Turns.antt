@@ -15,7 +15,8 @@ use Rattle.step_core.proofs.turning.Playing.{over_returned}
 use Rattle.step_core.proofs.turning.Telling.{tells_back}
 
 -- what is done from the same scene, after steps of the thread's own
-pub plays_on : (d : ℕ) (u v w : Sight) (r : Turned) → GoesTo d u v → scene v ≡ scene u → v.halves ≡ set u.halves d (half_of v d) → Plays d v r w
+pub plays_on : (d : ℕ) (u v w : Sight) (r : Turned) → GoesTo d u v → scene v ≡ scene u
+    → v.halves ≡ set u.halves d (half_of v d) → Plays d v r w
     → Plays d u r w
 plays_on d u v w r goes same halves plays =
     record {
@@ -27,20 +28,25 @@ plays_on d u v w r goes same halves plays =
       halves = plays.halves ∙ ap (λ (l : List Half). set l d (half_of w d)) halves ∙ set-set u.halves d (half_of v d) _;
     }
 
-no_next : (tell : Telling) (c : Scene) (d : ℕ) (o : Option Task) → said_from tell c d (walk_of c d).slots o ≡ None → o ≡ None
+no_next : (tell : Telling) (c : Scene) (d : ℕ) (o : Option Task) → said_from tell c d (walk_of c d).slots o ≡ None
+    → o ≡ None
 no_next tell c d None e = refl
 no_next tell c d (Some t) e = cc
 
-turns_by : (d : ℕ) (u u' : Sight) (r : Turned) (tell : Telling) (o : Option Said) → let c = rested d (scene u) in TellsAll d u c tell
-    → said_with tell d c ≡ o → r ≡ turned o → scene u' ≡ play_with tell d c → u'.halves ≡ set u.halves d Rest → Turns d u r u'
-turns_by d u u' r tell (Some x) tells is answer played halves = subst (λ (t : Turned). Turns d u t u') (sym answer) (tell, tells, sym is, played, halves)
+turns_by : (d : ℕ) (u u' : Sight) (r : Turned) (tell : Telling) (o : Option Said)
+    → let c = rested d (scene u) in TellsAll d u c tell
+    → said_with tell d c ≡ o → r ≡ turned o → scene u' ≡ play_with tell d c → u'.halves ≡ set u.halves d Rest
+    → Turns d u r u'
+turns_by d u u' r tell (Some x) tells is answer played halves =
+    subst (λ (t : Turned). Turns d u t u') (sym answer) (tell, tells, sym is, played, halves)
 turns_by d u u' r tell None tells is answer played halves =
     let c = rested d (scene u) in
     let t = no_next tell c d (next (walk_of c d)) is in
     subst (λ (t : Turned). Turns d u t u') (sym answer) (t, played ∙ ap (play_from tell c d (walk_of c d)) t, halves)
 
 -- the rest that was under way, the act, and the rest that goes on after it
-pub turns : (d : ℕ) (u v w u' : Sight) (r : Turned) → GoesTo d u v → Rests d u v → Plays d v r w → Rests d w u' → Turns d u r u'
+pub turns : (d : ℕ) (u v w u' : Sight) (r : Turned) → GoesTo d u v → Rests d u v → Plays d v r w → Rests d w u'
+    → Turns d u r u'
 turns d u v w u' r goes before plays behind =
     let tell = plays.tell in
     let c = rested d (scene u) in

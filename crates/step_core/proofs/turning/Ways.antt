@@ -57,8 +57,10 @@ pub record Trial (d : ℕ) (u : Sight) : Type 0 where
   pub out : Outcome d u task.statement tasks task.act (half_of u d) step
 
 module _ (d : ℕ) (u : Sight) where
-  trial_by : (h : Half) (t : Task) (ts : List Task) (o : Option Step) → half_of u d ≡ h → (walk_of (scene u) d).endings ≡ []
-      → (walk_of (scene u) d).todo ≡ t ∷ ts → step_at u.story d h (walk_of (scene u) d) ≡ o → Next d u t.statement ts t.act h o → Trial d u
+  trial_by : (h : Half) (t : Task) (ts : List Task) (o : Option Step) → half_of u d ≡ h
+      → (walk_of (scene u) d).endings ≡ []
+      → (walk_of (scene u) d).todo ≡ t ∷ ts → step_at u.story d h (walk_of (scene u) d) ≡ o
+      → Next d u t.statement ts t.act h o → Trial d u
   trial_by h t ts o e none todo is n =
       record {
         task = t;
@@ -71,8 +73,10 @@ module _ (d : ℕ) (u : Sight) where
         out = subst (λ (h : Half). Outcome d u t.statement ts t.act h n.0) (sym e) n.2;
       }
 
-  trial_rest : (ts : List Task) → half_of u d ≡ Rest → (walk_of (scene u) d).todo ≡ ts → LooksNext (walk_of (scene u) d).slots ts
-      → (walk_of (scene u) d).endings ≡ [] → waits u.story (half_of u d) (walk_of (scene u) d) ≡ false → HasBegun d u → Trial d u
+  trial_rest : (ts : List Task) → half_of u d ≡ Rest → (walk_of (scene u) d).todo ≡ ts
+      → LooksNext (walk_of (scene u) d).slots ts
+      → (walk_of (scene u) d).endings ≡ [] → waits u.story (half_of u d) (walk_of (scene u) d) ≡ false → HasBegun d u
+      → Trial d u
   trial_rest [] e todo looks none awake begun = absurd looks
   trial_rest (t ∷ ts) e todo looks none awake begun =
       let w = walk_of (scene u) d in
@@ -86,7 +90,8 @@ module _ (d : ℕ) (u : Sight) where
         λ i q. false≢true (sym (ap (is_looking w.slots) q) ∙ looks),
       )
 
-  trial_back : (ts : List Task) (kind : Kind) (b : Block) (f k : ℕ) → half_of u d ≡ Returning kind b f k → (walk_of (scene u) d).todo ≡ ts
+  trial_back : (ts : List Task) (kind : Kind) (b : Block) (f k : ℕ) → half_of u d ≡ Returning kind b f k
+      → (walk_of (scene u) d).todo ≡ ts
       → LooksNext (walk_of (scene u) d).slots ts → (walk_of (scene u) d).endings ≡ [] → Trial d u
   trial_back [] kind b f k e todo looks none = absurd looks
   trial_back (t ∷ ts) kind b f k e todo looks none =
@@ -115,7 +120,8 @@ module _ (d : ℕ) (u : Sight) where
         let w = walk_of (scene u) d in
         let v = u.story in
         trial_by (Saw x) t ts (saw_on v d w t.statement ts x t.act) e (alone_now (Saw x) e) todo (ap (saw v d w x) todo)
-        (saw_out d u t.statement ts x t.act seen (subst (λ (h : Half). IsProper d v h) e begun.proper) (can_look d u t ts todo begun))
+        (saw_out d u t.statement ts x t.act seen (subst (λ (h : Half). IsProper d v h) e begun.proper)
+        (can_look d u t ts todo begun))
 
     trial_matched : (ts : List Task) (x : CellWord) → half_of u d ≡ Matched x → (walk_of (scene u) d).todo ≡ ts
         → IsMatched (walk_of (scene u) d).slots x ts → Trial d u
@@ -123,10 +129,13 @@ module _ (d : ℕ) (u : Sight) where
     trial_matched (t ∷ ts) x e todo seen =
         let w = walk_of (scene u) d in
         let v = u.story in
-        trial_by (Matched x) t ts (matched_on v d w t.statement ts x t.act) e (alone_now (Matched x) e) todo (ap (matched v d w x) todo)
-        (matched_out d u t.statement ts x t.act seen (subst (λ (h : Half). IsProper d v h) e begun.proper) (can_look d u t ts todo begun))
+        trial_by (Matched x) t ts (matched_on v d w t.statement ts x t.act) e (alone_now (Matched x) e) todo
+        (ap (matched v d w x) todo)
+        (matched_out d u t.statement ts x t.act seen (subst (λ (h : Half). IsProper d v h) e begun.proper)
+        (can_look d u t ts todo begun))
 
-    trial_making : (ts : List Task) (b : Block) (i : ℕ) (f : Bool) → half_of u d ≡ Making b i f → (walk_of (scene u) d).todo ≡ ts
+    trial_making : (ts : List Task) (b : Block) (i : ℕ) (f : Bool) → half_of u d ≡ Making b i f
+        → (walk_of (scene u) d).todo ≡ ts
         → IsUnderWay d u.story (Making b i f) ts → Trial d u
     trial_making [] b i f e todo way = absurd way
     trial_making (t ∷ ts) b i f e todo way =
@@ -142,10 +151,16 @@ module _ (d : ℕ) (u : Sight) where
         let y = full_some (locked w.slots t.act) is in
         let x = tries u.story d w t.statement ts t.act word y.0 in
         trial_by (Locking word) t ts (Some x) e (alone_now (Locking word) e) todo
-        (ap (tried u.story d w word) todo ∙ ap (option_map (tries u.story d w t.statement ts t.act word)) y.1)
-        (x, refl, tries_out d u t.statement ts t.act y.0 y.1 word, λ i q. (let p = y.1 in let z = ap (locked w.slots) q in cc))
+        (ap (tried u.story d w word) todo ∙ ap (option_map (tries u.story d w t.statement ts t.act word)) y.1) (
+          x,
+          refl,
+          tries_out d u t.statement ts t.act y.0 y.1 word,
+          λ i q.
+              (let p = y.1 in let z = ap (locked w.slots) q in cc),
+        )
 
-    trial_giving : (ts : List Task) (i : ℕ) (kind : Kind) (x : Pointer) → half_of u d ≡ Giving i kind x → (walk_of (scene u) d).todo ≡ ts
+    trial_giving : (ts : List Task) (i : ℕ) (kind : Kind) (x : Pointer) → half_of u d ≡ Giving i kind x
+        → (walk_of (scene u) d).todo ≡ ts
         → IsUnderWay d u.story (Giving i kind x) ts → Trial d u
     trial_giving [] i kind x e todo way = absurd way
     trial_giving (t ∷ ts) i kind x e todo way =
@@ -153,7 +168,8 @@ module _ (d : ℕ) (u : Sight) where
         trial_by (Giving i kind x) t ts (given u.story d w i kind x (t ∷ ts)) e (alone_now (Giving i kind x) e) todo
         (ap (given u.story d w i kind x) todo) (giving_out d u i kind x t ts way (tried_now (Giving i kind x) e))
 
-    trial_brought : (ts : List Task) → half_of u d ≡ Brought → (walk_of (scene u) d).todo ≡ ts → IsSwap (walk_of (scene u) d).slots ts → Trial d u
+    trial_brought : (ts : List Task) → half_of u d ≡ Brought → (walk_of (scene u) d).todo ≡ ts
+        → IsSwap (walk_of (scene u) d).slots ts → Trial d u
     trial_brought [] e todo is = absurd is
     trial_brought (t ∷ ts) e todo is =
         let w = walk_of (scene u) d in
@@ -164,12 +180,16 @@ module _ (d : ℕ) (u : Sight) where
     pub trial_of : (h : Half) → half_of u d ≡ h → Tries h (walk_of (scene u) d)
         → waits u.story (half_of u d) (walk_of (scene u) d) ≡ false → Trial d u
     trial_of Rest e tries awake = trial_rest (walk_of (scene u) d).todo e refl tries.0 tries.1 awake begun
-    trial_of (Making b i f) e tries awake = trial_making (walk_of (scene u) d).todo b i f e refl (under_way (Making b i f) e)
-    trial_of (Locking word) e tries awake = trial_locking (walk_of (scene u) d).todo word e refl (tried_now (Locking word) e)
-    trial_of (Giving i kind x) e tries awake = trial_giving (walk_of (scene u) d).todo i kind x e refl (under_way (Giving i kind x) e)
+    trial_of (Making b i f) e tries awake =
+        trial_making (walk_of (scene u) d).todo b i f e refl (under_way (Making b i f) e)
+    trial_of (Locking word) e tries awake =
+        trial_locking (walk_of (scene u) d).todo word e refl (tried_now (Locking word) e)
+    trial_of (Giving i kind x) e tries awake =
+        trial_giving (walk_of (scene u) d).todo i kind x e refl (under_way (Giving i kind x) e)
     trial_of Brought e tries awake = trial_brought (walk_of (scene u) d).todo e refl (tried_now Brought e)
     trial_of (Saw x) e tries awake = trial_saw (walk_of (scene u) d).todo x e refl (tried_now (Saw x) e)
     trial_of (Matched x) e tries awake = trial_matched (walk_of (scene u) d).todo x e refl (tried_now (Matched x) e)
-    trial_of (Returning kind b f k) e tries awake = trial_back (walk_of (scene u) d).todo kind b f k e refl tries.0 tries.1
+    trial_of (Returning kind b f k) e tries awake =
+        trial_back (walk_of (scene u) d).todo kind b f k e refl tries.0 tries.1
     trial_of (Refill stage c x k) e tries awake = absurd tries
     trial_of Clearing e tries awake = absurd tries

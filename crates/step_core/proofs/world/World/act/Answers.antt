@@ -9,7 +9,8 @@ use Rattle.step_core.proofs.world.World.act.Goals as goal
 pub returns-then-is_acting-2-clause-plays : goal.returns-then-is_acting-2-clause-plays
 returns-then-is_acting-2-clause-plays c =
     let s = c.advance-stepped in
-    let b = begins_act c.args.number c.args.self.now s.new.self s.result (sym c.is_acting.ensures ∙ c.if-is_acting.false) c.requires.rested s.ensures.was
+    let b = begins_act c.args.number c.args.self.now s.new.self s.result
+    (sym c.is_acting.ensures ∙ c.if-is_acting.false) c.requires.rested s.ensures.was
     s.ensures.steps (sym c.is_acting-2.ensures ∙ c.if-is_acting-2.true) in
     let g = c.go_on-then-is_acting-2 in
     plays_on c.args.number c.args.self.now s.new.self g.new.self g.result
@@ -26,7 +27,8 @@ pub returns-clause-plays : goal.returns-clause-plays
 returns-clause-plays c =
     let s = c.advance-stepped in
     subst (λ (t : Turned). Plays c.args.number c.args.self.now t s.new.self) (sym c.turned.ensures)
-    (plays c.args.number c.args.self.now s.new.self s.result (sym c.is_acting.ensures ∙ c.if-is_acting.false) c.requires.rested s.ensures.was
+    (plays c.args.number c.args.self.now s.new.self s.result (sym c.is_acting.ensures ∙ c.if-is_acting.false)
+    c.requires.rested s.ensures.was
     s.ensures.steps s.ensures.never (sym c.is_acting-2.ensures ∙ c.if-is_acting-2.false))
 
 pub returns-clause-goes : goal.returns-clause-goes

@@ -15,7 +15,8 @@ step-stepped-requires c =
     let lt : c.args.number < length c.self.inside.threads.items = omega (arith, l, m, c.requires) in
     record {
       fits = c.self.invariant.0.each c.args.number c.index_mut-thread.result.now
-          (thread_at c.self.inside.threads.items c.args.number c.index_mut-thread.result.now lt c.index_mut-thread.ensures.value);
+          (thread_at c.self.inside.threads.items c.args.number c.index_mut-thread.result.now lt
+          c.index_mut-thread.ensures.value);
     }
 
 pub invariant_of-self : goal.invariant_of-self
@@ -23,15 +24,22 @@ invariant_of-self c =
     let l = ap (λ (u : Sight). length u.walks) c.self.view_is in
     let m = length-map c.self.inside.threads.items thread_walk in
     let lt : c.args.number < length c.self.inside.threads.items = omega (arith, l, m, c.requires) in (
-      all_fit c.self.inside.table c.step-stepped.new.table c.self.inside.threads.items c.args.number c.index_mut-thread.result.now c.step-stepped.new.self
-          c.step-stepped.result c.known.ensures c.known-2.ensures c.self.invariant.0 lt c.step-stepped.ensures.stepped c.step-stepped.ensures.fits,
-      told_now c.self.inside.table c.step-stepped.new.table c.self.inside.threads.items c.args.number c.index_mut-thread.result.now c.step-stepped.new.self
-          c.step-stepped.result c.self.inside.made c.self.inside.ended c.makes.result c.ends.result c.known.ensures c.known-2.ensures
-          (has_begun c.self.inside.table c.self.inside.threads.items c.args.number c.index_mut-thread.result.now lt c.index_mut-thread.ensures.value
+      all_fit c.self.inside.table c.step-stepped.new.table c.self.inside.threads.items c.args.number
+          c.index_mut-thread.result.now c.step-stepped.new.self
+          c.step-stepped.result c.known.ensures c.known-2.ensures c.self.invariant.0 lt c.step-stepped.ensures.stepped
+          c.step-stepped.ensures.fits,
+      told_now c.self.inside.table c.step-stepped.new.table c.self.inside.threads.items c.args.number
+          c.index_mut-thread.result.now c.step-stepped.new.self
+          c.step-stepped.result c.self.inside.made c.self.inside.ended c.makes.result c.ends.result c.known.ensures
+          c.known-2.ensures
+          (has_begun c.self.inside.table c.self.inside.threads.items c.args.number c.index_mut-thread.result.now lt
+          c.index_mut-thread.ensures.value
           (c.self.invariant.0.each c.args.number c.index_mut-thread.result.now
-          (thread_at c.self.inside.threads.items c.args.number c.index_mut-thread.result.now lt c.index_mut-thread.ensures.value)) c.known.ensures c.self.invariant.0
-          c.self.invariant.1.threads) lt
-          c.index_mut-thread.ensures.value c.step-stepped.ensures.stepped c.self.invariant.1 c.makes.ensures c.ends.ensures,
+          (thread_at c.self.inside.threads.items c.args.number c.index_mut-thread.result.now lt
+          c.index_mut-thread.ensures.value)) c.known.ensures c.self.invariant.0
+          c.self.invariant.1.threads (c.self.invariant.1.tidy c.args.number)) lt
+          c.index_mut-thread.ensures.value c.step-stepped.ensures.stepped c.self.invariant.1 c.makes.ensures
+          c.ends.ensures,
     )
 
 -- the thread that was read, and all threads, once it made its step
@@ -44,23 +52,29 @@ module _ (c : goal.After-self-3-1) where
 
   begun : HasBegun c.args.number (sight c.self.inside.table c.self.inside.threads.items)
   begun =
-      has_begun c.self.inside.table c.self.inside.threads.items c.args.number c.index_mut-thread.result.now within c.index_mut-thread.ensures.value
+      has_begun c.self.inside.table c.self.inside.threads.items c.args.number c.index_mut-thread.result.now within
+      c.index_mut-thread.ensures.value
       (c.self.invariant.0.each c.args.number c.index_mut-thread.result.now
-      (thread_at c.self.inside.threads.items c.args.number c.index_mut-thread.result.now within c.index_mut-thread.ensures.value)) c.known.ensures
-      c.self.invariant.0 c.self.invariant.1.threads
+      (thread_at c.self.inside.threads.items c.args.number c.index_mut-thread.result.now within
+      c.index_mut-thread.ensures.value)) c.known.ensures
+      c.self.invariant.0 c.self.invariant.1.threads (c.self.invariant.1.tidy c.args.number)
 
   all : AllFit c.step-stepped.new.table (set c.self.inside.threads.items c.args.number c.step-stepped.new.self)
   all =
-      all_fit c.self.inside.table c.step-stepped.new.table c.self.inside.threads.items c.args.number c.index_mut-thread.result.now c.step-stepped.new.self
-      c.step-stepped.result c.known.ensures c.known-2.ensures c.self.invariant.0 within c.step-stepped.ensures.stepped c.step-stepped.ensures.fits
+      all_fit c.self.inside.table c.step-stepped.new.table c.self.inside.threads.items c.args.number
+      c.index_mut-thread.result.now c.step-stepped.new.self
+      c.step-stepped.result c.known.ensures c.known-2.ensures c.self.invariant.0 within c.step-stepped.ensures.stepped
+      c.step-stepped.ensures.fits
 
   went : Steps c.args.number (sight c.self.inside.table c.self.inside.threads.items) c.step-stepped.result
       (sight c.step-stepped.new.table (set c.self.inside.threads.items c.args.number c.step-stepped.new.self))
   went =
-      steps c.self.inside.table c.step-stepped.new.table c.self.inside.threads.items c.args.number c.index_mut-thread.result.now c.step-stepped.new.self
+      steps c.self.inside.table c.step-stepped.new.table c.self.inside.threads.items c.args.number
+      c.index_mut-thread.result.now c.step-stepped.new.self
       c.step-stepped.result within c.index_mut-thread.ensures.value c.step-stepped.ensures.stepped
 
-  as_many : length (sight c.step-stepped.new.table (set c.self.inside.threads.items c.args.number c.step-stepped.new.self)).walks
+  as_many : length (sight c.step-stepped.new.table
+      (set c.self.inside.threads.items c.args.number c.step-stepped.new.self)).walks
       ≡ length (sight c.self.inside.table c.self.inside.threads.items).walks
   as_many =
       let m = length-map c.self.inside.threads.items thread_walk in
@@ -73,8 +87,10 @@ returns-clause-was c = subst (λ (u : Sight). HasBegun c.args.number u) c.self.v
 
 pub returns-clause-never : goal.returns-clause-never
 returns-clause-never c =
-    never_now c.self.inside.table c.step-stepped.new.table c.self.inside.threads.items c.args.number c.index_mut-thread.result.now c.step-stepped.new.self
-    c.step-stepped.result c.self.inside.made c.self.inside.ended c.known.ensures (begun c) (within c) c.index_mut-thread.ensures.value
+    never_now c.self.inside.table c.step-stepped.new.table c.self.inside.threads.items c.args.number
+    c.index_mut-thread.result.now c.step-stepped.new.self
+    c.step-stepped.result c.self.inside.made c.self.inside.ended c.known.ensures (begun c) (within c)
+    c.index_mut-thread.ensures.value
     c.step-stepped.ensures.stepped c.self.invariant.1
 
 pub returns-clause-steps : goal.returns-clause-steps
@@ -86,9 +102,12 @@ returns-clause-steps c =
 pub returns-clause-advances : goal.returns-clause-advances
 returns-clause-advances c =
     let threads = set c.self.inside.threads.items c.args.number c.step-stepped.new.self in
-    subst (λ (u : Sight). Advances c.args.number u c.step-stepped.result (sight c.step-stepped.new.table threads)) c.self.view_is
-    (advances c.args.number (sight c.self.inside.table c.self.inside.threads.items) (sight c.step-stepped.new.table threads) c.step-stepped.result
+    subst (λ (u : Sight). Advances c.args.number u c.step-stepped.result (sight c.step-stepped.new.table threads))
+    c.self.view_is
+    (advances c.args.number (sight c.self.inside.table c.self.inside.threads.items)
+    (sight c.step-stepped.new.table threads) c.step-stepped.result
     (begun c) (went c) (as_many c) c.known-2.ensures (all_hold c.step-stepped.new.table threads (all c)))
 
 pub returns-clause-actors : goal.returns-clause-actors
-returns-clause-actors c = let l = ap (λ (u : Sight). length u.walks) c.self.view_is in let m = as_many c in omega (arith, l, m)
+returns-clause-actors c =
+    let l = ap (λ (u : Sight). length u.walks) c.self.view_is in let m = as_many c in omega (arith, l, m)

@@ -8,20 +8,23 @@ use Rattle.step_core.proofs.world.World.go_on.Goals as goal
 pub loop-stepped-preserved : goal.loop-stepped-preserved
 loop-stepped-preserved c =
     let s = c.advance-stepped in
-    trying_on c.args.number c.args.self.now c.loop-stepped.self s.new.self s.result c.loop-stepped.invariant s.ensures.was s.ensures.steps s.ensures.never
+    trying_on c.args.number c.args.self.now c.loop-stepped.self s.new.self s.result c.loop-stepped.invariant
+    s.ensures.was s.ensures.steps s.ensures.never
     (sym c.is_event.ensures ∙ c.if-is_event.false) s.ensures.actors s.ensures.advances
 
 pub loop-stepped-smaller : goal.loop-stepped-smaller
 loop-stepped-smaller c =
     let s = c.advance-stepped in
-    trying_less c.args.number c.args.self.now c.loop-stepped.self s.new.self s.result c.loop-stepped.invariant s.ensures.was s.ensures.steps s.ensures.never
+    trying_less c.args.number c.args.self.now c.loop-stepped.self s.new.self s.result c.loop-stepped.invariant
+    s.ensures.was s.ensures.steps s.ensures.never
     (sym c.is_event.ensures ∙ c.if-is_event.false)
 
 pub returns-then-is_event-clause-plays : goal.returns-then-is_event-clause-plays
 returns-then-is_event-clause-plays c =
     let s = c.advance-stepped in
     subst (λ (t : Turned). Plays c.args.number c.args.self.now t s.new.self) (sym c.turned.ensures)
-    (trying_done c.args.number c.args.self.now c.loop-stepped.self s.new.self s.result c.loop-stepped.invariant s.ensures.was s.ensures.steps s.ensures.never
+    (trying_done c.args.number c.args.self.now c.loop-stepped.self s.new.self s.result c.loop-stepped.invariant
+    s.ensures.was s.ensures.steps s.ensures.never
     (sym c.is_event.ensures ∙ c.if-is_event.true))
 
 pub returns-then-is_event-clause-goes : goal.returns-then-is_event-clause-goes
