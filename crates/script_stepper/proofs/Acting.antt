@@ -13,7 +13,8 @@ use Rattle.step_table.specs.declared.holdings.Pointer.{Pointer}
 use Rattle.step_threads.specs.declared.call.CellName.{CellName}
 use Rattle.step_table.specs.declared.slot.Slot.{Slot}
 use Rattle.step_table.specs.Contents.{differed, swapped}
-use Rattle.step_threads.specs.Courses.{Going, Walk, fitting, going, hand, idle, is_there, kind_at, locked, on_going, other, placed, settled, slots_idle, taken_idle}
+use Rattle.step_threads.specs.Programs.{kind_at}
+use Rattle.step_threads.specs.Courses.{Going, Walk, fitting, going, hand, idle, is_there, locked, on_going, other, placed, settled, slots_idle, taken_idle}
 use Rattle.step_table.specs.Deeds.{this_as}
 use Rattle.step_table.specs.Holdings.{Slots, inside, plain, slot, value}
 use Rattle.step_threads.specs.Entries.{giving, is_expected, least}

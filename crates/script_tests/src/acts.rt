@@ -80,7 +80,7 @@ fn a_member_is_of_its_name_and_up_takes_weak_ones(rt: HostRuntime) -> Result<(),
     let free = [CellName::Shared(2), CellName::Weak(2)];
     let kinds = [Kind::Owner, Kind::Weak];
     for (cell, kind) in free.into_iter().zip(kinds) {
-        assert_eq!(rt; cell.name_kind(), kind);
+        assert_eq!(rt; cell.kind(), kind);
         assert!(rt; !cell.is_member_of(Name(2)));
     }
     let kinds = [Kind::Owner, Kind::Owner, Kind::Weak];
@@ -89,7 +89,7 @@ fn a_member_is_of_its_name_and_up_takes_weak_ones(rt: HostRuntime) -> Result<(),
             name: Name(1),
             member: member as u8,
         };
-        assert_eq!(rt; cell.name_kind(), kind);
+        assert_eq!(rt; cell.kind(), kind);
         assert!(rt; cell.is_member_of(Name(1)));
         assert!(rt; !cell.is_member_of(Name(2)));
     }

@@ -5,7 +5,7 @@ use Rattle.std.specs.List.{AllByRecursion}
 use Rattle.std.specs.Str.{bytes_eq}
 use Rattle.step_table.specs.declared.field.Field.{Field}
 use Rattle.step_table.specs.declared.field.Field.TheVariants.{Zero, One, Two, Three}
-use Rattle.step_threads.specs.declared.call.Kind.TheVariants.{Owner}
+use Rattle.control_word.specs.declared.handle.Kind.TheVariants.{Owner}
 use Rattle.step_threads.specs.declared.call.Name.{Name}
 use Rattle.step_threads.specs.Programs.{Asked, IsDeclared, owner}
 use Rattle.step_table.specs.Deeds.{field_number}

@@ -3,7 +3,7 @@ use Rattle.std.proofs.Common.{◌≡◌, ℕ, Bool, List, [], ◌∷◌, Ok, ref
 use Rattle.step_threads.specs.declared.call.Call.TheVariants as call
 use Rattle.step_threads.specs.declared.call.CellName.{CellName}
 use Rattle.step_threads.specs.declared.call.Name.{Name}
-use Rattle.step_threads.specs.Programs.{as_in, cell_kind, through}
+use Rattle.step_threads.specs.Programs.{as_in, kind_at, through}
 use Rattle.script_text.specs.Reading.{◌>>=◌}
 use Rattle.script_text.specs.Names.{NameList, name_text, source_at}
 use Rattle.script_text.specs.Cells.{cell_at, cell_text}
@@ -26,8 +26,8 @@ cell_and_two cell expected desired = (cell, expected, desired)
 -- the words of a compare that was read, which declares nothing
 record IsCompare (names new : NameList) (word other last : List ℕ) (p : CellName × Name × Name) : Type 0 where
   cell : cell_at names word ≡ Ok p.0
-  expected : source_at names (cell_kind p.0) other ≡ Ok p.1
-  desired : source_at names (cell_kind p.0) last ≡ Ok p.2
+  expected : source_at names (kind_at p.0) other ≡ Ok p.1
+  desired : source_at names (kind_at p.0) last ≡ Ok p.2
   none : names ≡ new
 
 compare_is : (names new : NameList) (word other last : List ℕ) (p : CellName × Name × Name)
@@ -36,16 +36,16 @@ unfolding cell_and_sources
 compare_is names new word other last p h =
     let a =
     both_give (cell_at names word)
-    (λ c. source_at names (cell_kind c) other >>= λ expected. source_at names (cell_kind c) last
+    (λ c. source_at names (kind_at c) other >>= λ expected. source_at names (kind_at c) last
     >>= λ desired. given (with_names (cell_and_two c expected desired) names))
     (with_names p new) h in
     let b =
-    both_give (source_at names (cell_kind a.value) other)
-    (λ expected. source_at names (cell_kind a.value) last
+    both_give (source_at names (kind_at a.value) other)
+    (λ expected. source_at names (kind_at a.value) last
     >>= λ desired. given (with_names (cell_and_two a.value expected desired) names))
     (with_names p new) a.second in
     let c =
-    both_give (source_at names (cell_kind a.value) last)
+    both_give (source_at names (kind_at a.value) last)
     (λ desired. given (with_names (cell_and_two a.value b.value desired) names))
     (with_names p new) b.second in
     let same = same_given (with_names (cell_and_two a.value b.value c.value) names) (with_names p new) c.second in
@@ -59,10 +59,10 @@ unfolding cell_and_sources
 compare_from names word other last p l =
     let is = cell_is names word p.0 l.cell in
     let here = cell_entry names names p.0 (grows_by_none names) is in
-    let s = source_is names (cell_kind p.0) other p.1 l.expected in
-    let t = source_is names (cell_kind p.0) last p.2 l.desired in
-    let text : name_text names p.1 ≡ other = name_text-Entry names p.1 other (cell_kind p.0) s.entry in
-    let also : name_text names p.2 ≡ last = name_text-Entry names p.2 last (cell_kind p.0) t.entry in
+    let s = source_is names (kind_at p.0) other p.1 l.expected in
+    let t = source_is names (kind_at p.0) last p.2 l.desired in
+    let text : name_text names p.1 ≡ other = name_text-Entry names p.1 other (kind_at p.0) s.entry in
+    let also : name_text names p.2 ≡ last = name_text-Entry names p.2 last (kind_at p.0) t.entry in
     record {
       tidy = rw (text, also) (cell_tidy names p.0 is, (name_is_tidy other s.name_ok, (name_is_tidy last t.name_ok, tt)));
       size_is = refl;
@@ -71,8 +71,8 @@ compare_from names word other last p l =
       settled = λ more.
           rw (
             cell_still names more p.0 here,
-            still names more p.1 other (cell_kind p.0) s.entry,
-            still names more p.2 last (cell_kind p.0) t.entry,
+            still names more p.1 other (kind_at p.0) s.entry,
+            still names more p.2 last (kind_at p.0) t.entry,
           ) refl;
       named = (as_kind names p.0 p.1 other s.entry, (as_kind names p.0 p.2 last t.entry, through_named names p.0 here));
     }

@@ -8,7 +8,7 @@ use Rattle.step_threads.specs.declared.call.Call.TheVariants as call
 use Rattle.step_threads.specs.declared.call.CellName.{CellName}
 use Rattle.step_threads.specs.declared.call.CellName.TheVariants as free
 use Rattle.step_threads.specs.declared.call.Name.{Name}
-use Rattle.step_threads.specs.Programs.{IsApart, as_in, cell_kind, cells_of, is_member_of, through}
+use Rattle.step_threads.specs.Programs.{IsApart, as_in, kind_at, cells_of, is_member_of, through}
 use Rattle.script_text.specs.declared.fault.Cause.{Cause}
 use Rattle.script_text.specs.declared.fault.Cause.TheVariants.{NameUsedTwice}
 use Rattle.script_text.specs.Reading.{◌>>=◌}
@@ -38,7 +38,7 @@ cell_pair cell name = (cell, name)
 -- the words of a cell and a source that were read, which declare nothing
 record IsPair (names new : NameList) (word other : List ℕ) (p : CellName × Name) : Type 0 where
   cell : cell_at names word ≡ Ok p.0
-  source : source_at names (cell_kind p.0) other ≡ Ok p.1
+  source : source_at names (kind_at p.0) other ≡ Ok p.1
   none : names ≡ new
 
 pair_read : (names new : NameList) (word other : List ℕ) (p : CellName × Name)
@@ -47,10 +47,10 @@ unfolding cell_and_source
 pair_read names new word other p h =
     let a =
     both_give (cell_at names word)
-    (λ c. source_at names (cell_kind c) other >>= λ source. given (with_names (cell_pair c source) names))
+    (λ c. source_at names (kind_at c) other >>= λ source. given (with_names (cell_pair c source) names))
     (with_names p new) h in
     let b =
-    both_give (source_at names (cell_kind a.value) other) (λ source. given (with_names (cell_pair a.value source) names))
+    both_give (source_at names (kind_at a.value) other) (λ source. given (with_names (cell_pair a.value source) names))
     (with_names p new) a.second in
     let same = same_given (with_names (cell_pair a.value b.value) names) (with_names p new) b.second in
     subst (λ (q : (CellName × Name) × NameList). IsPair names q.1 word other q.0) same
@@ -62,14 +62,14 @@ unfolding cell_and_source
 pair_from names word other p l =
     let is = cell_is names word p.0 l.cell in
     let here = cell_entry names names p.0 (grows_by_none names) is in
-    let s = source_is names (cell_kind p.0) other p.1 l.source in
-    let text : name_text names p.1 ≡ other = name_text-Entry names p.1 other (cell_kind p.0) s.entry in
+    let s = source_is names (kind_at p.0) other p.1 l.source in
+    let text : name_text names p.1 ≡ other = name_text-Entry names p.1 other (kind_at p.0) s.entry in
     record {
       tidy = rw text (cell_tidy names p.0 is, (name_is_tidy other s.name_ok, tt));
       size_is = refl;
       again = rw (cell_again names p.0 is, text, l.source) refl;
       grows = grows_by_none names;
-      settled = λ more. rw (cell_still names more p.0 here, still names more p.1 other (cell_kind p.0) s.entry) refl;
+      settled = λ more. rw (cell_still names more p.0 here, still names more p.1 other (kind_at p.0) s.entry) refl;
       named = (as_kind names p.0 p.1 other s.entry, through_named names p.0 here);
     }
 
@@ -153,8 +153,8 @@ name_cell target cell = (target, cell)
 record IsLoad (names new : NameList) (word other : List ℕ) (p : Name × CellName) : Type 0 where
   written : List ℕ
   cell : cell_at names other ≡ Ok p.1
-  target : target_at names (cell_kind p.1) word ≡ Ok written
-  made : declared names (cell_kind p.1) written ≡ Ok (with_names p.0 new)
+  target : target_at names (kind_at p.1) word ≡ Ok written
+  made : declared names (kind_at p.1) written ≡ Ok (with_names p.0 new)
 
 load_is : (names new : NameList) (word other : List ℕ) (p : Name × CellName)
     → target_and_cell names (word ∷ other ∷ []) ≡ Ok (with_names p new) → IsLoad names new word other p
@@ -162,15 +162,15 @@ unfolding target_and_cell
 load_is names new word other p h =
     let a =
     both_give (cell_at names other)
-    (λ c. target_at names (cell_kind c) word >>= λ written. declared names (cell_kind c) written
+    (λ c. target_at names (kind_at c) word >>= λ written. declared names (kind_at c) written
     >>= λ d. given (with_names (name_cell d.0 c) d.1))
     (with_names p new) h in
     let b =
-    both_give (target_at names (cell_kind a.value) word)
-    (λ written. declared names (cell_kind a.value) written >>= λ d. given (with_names (name_cell d.0 a.value) d.1))
+    both_give (target_at names (kind_at a.value) word)
+    (λ written. declared names (kind_at a.value) written >>= λ d. given (with_names (name_cell d.0 a.value) d.1))
     (with_names p new) a.second in
     let c =
-    both_give (declared names (cell_kind a.value) b.value) (λ d. given (with_names (name_cell d.0 a.value) d.1))
+    both_give (declared names (kind_at a.value) b.value) (λ d. given (with_names (name_cell d.0 a.value) d.1))
     (with_names p new) b.second in
     let same = same_given (with_names (name_cell c.value.0 a.value) c.value.1) (with_names p new) c.second in
     subst (λ (q : (Name × CellName) × NameList). IsLoad names q.1 word other q.0) same
@@ -186,16 +186,16 @@ load_reversible names new (word ∷ other ∷ third ∷ words) p h = absurd cc
 load_reversible names new (word ∷ other ∷ []) p h =
     let l = load_is names new word other p h in
     let is = cell_is names other p.1 l.cell in
-    let t = target_is names new (cell_kind p.1) word l.written p.0 l.target l.made in
+    let t = target_is names new (kind_at p.1) word l.written p.0 l.target l.made in
     let here = cell_entry names new p.1 t.grows is in
     let same : cell_text new p.1 ≡ cell_text names p.1 = cell_grown names new p.1 t.grows is in
-    let text : name_text new p.0 ≡ word = name_text-Entry new p.0 word (cell_kind p.1) t.entry in
+    let text : name_text new p.0 ≡ word = name_text-Entry new p.0 word (kind_at p.1) t.entry in
     record {
       tidy = rw (text, same) (name_is_tidy word t.name_ok, (cell_tidy names p.1 is, tt));
       size_is = refl;
       again = rw (text, same, cell_again names p.1 is, l.target, l.made) refl;
       grows = t.grows;
-      settled = λ more. rw (still new more p.0 word (cell_kind p.1) t.entry, cell_still new more p.1 here) refl;
+      settled = λ more. rw (still new more p.0 word (kind_at p.1) t.entry, cell_still new more p.1 here) refl;
       named = (as_kind new p.1 p.0 word t.entry, through_named new p.1 here);
     }
 

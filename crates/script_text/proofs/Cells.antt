@@ -7,10 +7,10 @@ use Rattle.std.proofs.lemmas.Fmt.{digits_decimal}
 use Rattle.control_word.specs.declared.shape.Shape.{Shape}
 use Rattle.step_threads.specs.declared.call.CellName.{CellName}
 use Rattle.step_threads.specs.declared.call.CellName.TheVariants as free
-use Rattle.step_threads.specs.declared.call.Kind.{Kind}
-use Rattle.step_threads.specs.declared.call.Kind.TheVariants.{Owner, Weak}
+use Rattle.control_word.specs.declared.handle.Kind.{Kind}
+use Rattle.control_word.specs.declared.handle.Kind.TheVariants.{Owner, Weak}
 use Rattle.step_threads.specs.declared.call.Name.{Name}
-use Rattle.step_threads.specs.Programs.{IsDeclared, IsIn, as_in, cell_kind, through}
+use Rattle.step_threads.specs.Programs.{IsDeclared, IsIn, as_in, kind_at, through}
 use Rattle.script_text.specs.declared.fault.Cause.{Cause}
 use Rattle.script_text.specs.declared.fault.Cause.TheVariants.{BadCell}
 use Rattle.script_text.specs.Reading.{◌>>=◌}
@@ -168,9 +168,9 @@ through_named names (free.Shared n) e = tt
 through_named names (free.Weak n) e = tt
 through_named names (free.Member k m) e = (IsDeclared-Entry names k e.0 Owner e.1, tt)
 
-pub as_kind : (names : NameList) (c : CellName) (name : Name) (word : List ℕ) → Entry names name word (cell_kind c)
+pub as_kind : (names : NameList) (c : CellName) (name : Name) (word : List ℕ) → Entry names name word (kind_at c)
     → IsDeclared (kinds_in names) (as_in c name)
-as_kind names c name word e = IsDeclared-Entry names name word (cell_kind c) e
+as_kind names c name word e = IsDeclared-Entry names name word (kind_at c) e
 
 -- a shape with 128 cells of each kind has it
 pub text_cell_in : (shape : Shape) → HasTextCells shape → (c : CellName) → IsTextCell c → IsIn shape c

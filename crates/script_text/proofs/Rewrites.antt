@@ -4,7 +4,7 @@ use Rattle.std.specs.Prelude.{codes}
 use Rattle.std.specs.List.{AllByRecursion}
 use Rattle.step_threads.specs.declared.call.Call.{Call}
 use Rattle.step_threads.specs.declared.call.Call.TheVariants as call
-use Rattle.step_threads.specs.declared.call.Kind.TheVariants.{Owner, Weak}
+use Rattle.control_word.specs.declared.handle.Kind.TheVariants.{Owner, Weak}
 use Rattle.step_threads.specs.Programs.{IsDeclared, names_of}
 use Rattle.script_text.specs.declared.keyword.Keyword.{Keyword}
 use Rattle.script_text.specs.declared.keyword.Keyword.TheVariants as key

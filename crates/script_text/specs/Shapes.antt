@@ -6,15 +6,15 @@ use Rattle.std.specs.Str.{bytes_eq}
 use Rattle.std.specs.Borrow.{Bor}
 use Rattle.step_threads.specs.declared.call.CellName.{CellName}
 use Rattle.step_table.specs.declared.field.Field.{Field}
-use Rattle.step_threads.specs.declared.call.Kind.{Kind}
-use Rattle.step_threads.specs.declared.call.Kind.TheVariants.{Owner}
+use Rattle.control_word.specs.declared.handle.Kind.{Kind}
+use Rattle.control_word.specs.declared.handle.Kind.TheVariants.{Owner}
 use Rattle.step_threads.specs.declared.call.Name.{Name}
 use Rattle.script_text.specs.declared.fault.Cause.{Cause}
 use Rattle.script_text.specs.declared.fault.Cause.TheVariants.{WrongNumberOfWords}
 use Rattle.script_text.specs.Reading.{◌>>=◌}
 use Rattle.script_text.specs.Words.{number_at, field_at}
 use Rattle.script_text.specs.Names.{NameList, asked_source_at, source_at, target_at, declared}
-use Rattle.step_threads.specs.Programs.{cell_kind}
+use Rattle.step_threads.specs.Programs.{kind_at}
 use Rattle.script_text.specs.Cells.{apart, cell_at}
 
 -- the words, without where they lie in memory
@@ -57,7 +57,7 @@ two_sources names asked _ = Err WrongNumberOfWords
 unfoldable pub cell_and_source : NameList → List (List ℕ) → Result ((CellName × Name) × NameList) Cause
 cell_and_source names (one ∷ other ∷ []) = do
   cell ← cell_at names one
-  source ← source_at names (cell_kind cell) other
+  source ← source_at names (kind_at cell) other
   Ok ((cell, source), names)
 cell_and_source names _ = Err WrongNumberOfWords
 
@@ -69,8 +69,8 @@ cell_and_other names words = cell_and_source names words >>= apart
 unfoldable pub target_and_cell : NameList → List (List ℕ) → Result ((Name × CellName) × NameList) Cause
 target_and_cell names (target ∷ one ∷ []) = do
   cell ← cell_at names one
-  name ← target_at names (cell_kind cell) target
-  new ← declared names (cell_kind cell) name
+  name ← target_at names (kind_at cell) target
+  new ← declared names (kind_at cell) name
   Ok ((new.0, cell), new.1)
 target_and_cell names _ = Err WrongNumberOfWords
 
@@ -78,8 +78,8 @@ target_and_cell names _ = Err WrongNumberOfWords
 unfoldable pub cell_and_sources : NameList → List (List ℕ) → Result ((CellName × Name × Name) × NameList) Cause
 cell_and_sources names (one ∷ other ∷ last ∷ []) = do
   cell ← cell_at names one
-  expected ← source_at names (cell_kind cell) other
-  desired ← source_at names (cell_kind cell) last
+  expected ← source_at names (kind_at cell) other
+  desired ← source_at names (kind_at cell) last
   Ok ((cell, expected, desired), names)
 cell_and_sources names _ = Err WrongNumberOfWords
 

@@ -79,7 +79,7 @@ pub(crate) fn target_and_cell(
         return Err(Stop::Cause(Cause::WrongNumberOfWords));
     };
     let cell = cell_of(names, one)?;
-    let kind = cell.name_kind();
+    let kind = cell.kind();
     let name = names.target(kind, written)?;
     let target = names.declare(alloc, kind, name)?;
     Ok((target, cell))
@@ -94,7 +94,7 @@ pub(crate) fn cell_and_source(names: &Names, words: &[&[u8]]) -> Result<(CellNam
         return Err(Stop::Cause(Cause::WrongNumberOfWords));
     };
     let cell = cell_of(names, one)?;
-    let source = names.source(cell.name_kind(), other)?;
+    let source = names.source(cell.kind(), other)?;
     Ok((cell, source))
 }
 
@@ -122,7 +122,7 @@ pub(crate) fn cell_and_sources(
         return Err(Stop::Cause(Cause::WrongNumberOfWords));
     };
     let cell = cell_of(names, one)?;
-    let kind = cell.name_kind();
+    let kind = cell.kind();
     let expected = names.source(kind, other)?;
     let desired = names.source(kind, last)?;
     Ok((cell, expected, desired))

@@ -7,7 +7,7 @@ use Rattle.std.proofs.lemmas.List.Sums.{sum_by-take-le, sum_by_push}
 use Rattle.std.proofs.lemmas.List.Elements.{All-append, All-cons, All-head, All-nil, All-tail}
 use Rattle.step_threads.specs.declared.call.Actor.{Actor}
 use Rattle.step_threads.specs.declared.call.Call.{Call}
-use Rattle.step_threads.specs.declared.call.Kind.{Kind}
+use Rattle.control_word.specs.declared.handle.Kind.{Kind}
 use Rattle.step_threads.specs.Programs.{Asked, IsDeclared, IsWellNamed, Part, call_count, listed, names_of, part_of}
 
 not_true : IsTrue false → ⊥

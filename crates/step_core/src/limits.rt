@@ -59,7 +59,7 @@ fn weak(name: Name) -> Asked
 fn as_in(cell: CellName, name: Name) -> Asked
     ensures { result ≡ as_in cell name }
 {
-    (name, Some(cell.name_kind()))
+    (name, Some(cell.kind()))
 }
 
 /// The name whose object a cell is a member of.

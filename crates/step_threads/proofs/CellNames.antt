@@ -22,8 +22,8 @@ use Rattle.step_table.proofs.tables.Places.{handle_busy, there}
 use Rattle.step_threads.specs.declared.call.CellName.{CellName}
 use Rattle.step_threads.specs.declared.call.CellName.TheVariants as cell
 use Rattle.step_threads.specs.declared.call.Name.{Name}
-use Rattle.step_threads.specs.Courses.{IsNamed, block_at, cell_at, is_there, kind_at, other}
-use Rattle.step_threads.specs.Programs.{IsIn}
+use Rattle.step_threads.specs.Courses.{IsNamed, block_at, cell_at, is_there, other}
+use Rattle.step_threads.specs.Programs.{IsIn, kind_at}
 
 pub cell_kind : (v : Story) (slots : Slots) (c : CellName) → IsIn v.extent.shape c → kind_in (state v) (cell_at (state v) slots c) ≡ kind_at c
 cell_kind v slots (cell.Shared n) lt =

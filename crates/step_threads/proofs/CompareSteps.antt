@@ -29,9 +29,9 @@ use Rattle.step_table.specs.Deeds.{on}
 use Rattle.step_table.specs.Holdings.{Holds, Slots, slot, value}
 use Rattle.step_table.specs.Refills.{more_taken}
 use Rattle.step_table.specs.Stories.{Kept, Story, after, event_of, state}
-use Rattle.step_threads.specs.Courses.{Walk, cell_at, comparing, hand, is_there, kind_at, rest, settled, task_at, walk}
+use Rattle.step_threads.specs.Courses.{Walk, cell_at, comparing, hand, is_there, rest, settled, task_at, walk}
 use Rattle.step_threads.specs.Entries.{is_expected}
-use Rattle.step_threads.specs.Programs.{IsIn}
+use Rattle.step_threads.specs.Programs.{IsIn, kind_at}
 use Rattle.step_threads.specs.Scenes.{came, compared}
 use Rattle.step_threads.specs.Steps.{Step, acts, compares, fetches, gives_back, matched, matched_on, matches, missed, saw, saw_on, sees, settles, silent, step_at, takes, waits, within}
 use Rattle.step_threads.specs.Threads.{HasStepped}

@@ -11,8 +11,8 @@ use Rattle.step_table.specs.CellDeeds.{kind_in}
 use Rattle.step_table.specs.Contents.{CanCompare, is_of, swapped}
 use Rattle.step_table.specs.Holdings.{plain, pointer_of, value}
 use Rattle.step_table.specs.Stories.{Story, state}
-use Rattle.step_threads.specs.Courses.{Begins, CourseReady, CourseStill, Drops, Follows, HasCell, IsReady, Ready, cell_at, comparing, dropping, hand, idle, is_there, kind_at, other, rest, taken_after, task_at}
-use Rattle.step_threads.specs.Programs.{IsIn}
+use Rattle.step_threads.specs.Courses.{Begins, CourseReady, CourseStill, Drops, Follows, HasCell, IsReady, Ready, cell_at, comparing, dropping, hand, idle, is_there, other, rest, taken_after, task_at}
+use Rattle.step_threads.specs.Programs.{IsIn, kind_at}
 use Rattle.step_threads.proofs.CellNames.{goes_in}
 use Rattle.step_threads.proofs.Courses.{ready_any, ready_head, todo_at}
 

@@ -18,7 +18,8 @@ use Rattle.step_table.specs.Contents.{is_of, is_spent, seen}
 use Rattle.step_table.specs.Deeds.{share}
 use Rattle.step_table.specs.Holdings.{Slots, place_in, pointer_of, value}
 use Rattle.step_table.specs.Stories.{Kept, Story, state}
-use Rattle.step_threads.specs.Courses.{Begins, CourseReady, Drops, Going, HasGoneOn, IsNamed, IsReady, Ready, Walk, cell_at, dropping, fitting, going_from, hand, is_there, kind_at, on_going, other, rest, settled, taken_after, task_at, walk}
+use Rattle.step_threads.specs.Programs.{kind_at}
+use Rattle.step_threads.specs.Courses.{Begins, CourseReady, Drops, Going, HasGoneOn, IsNamed, IsReady, Ready, Walk, cell_at, dropping, fitting, going_from, hand, is_there, on_going, other, rest, settled, taken_after, task_at, walk}
 use Rattle.step_threads.specs.Scenes.{Hands, came, outside, refusal}
 use Rattle.step_threads.specs.Steps.{Step, acts, first, sees, sends, waits_on}
 use Rattle.step_threads.specs.Threads.{Fits, HasStepped}

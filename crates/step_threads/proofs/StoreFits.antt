@@ -24,10 +24,10 @@ use Rattle.step_threads.specs.declared.thread.Thread.{Thread}
 use Rattle.step_threads.specs.Actors.{HalfFits, Stocks, claimed, in_store}
 use Rattle.step_table.specs.CellDeeds.{owing}
 use Rattle.step_table.specs.Contents.{is_of}
-use Rattle.step_threads.specs.Courses.{Begins, CourseReady, Going, HasCell, HasGoneOn, cell_at, going_from, hand, idle, is_there, kind_at, done_on, other, task_at}
+use Rattle.step_threads.specs.Courses.{Begins, CourseReady, Going, HasCell, HasGoneOn, cell_at, going_from, hand, idle, is_there, done_on, other, task_at}
 use Rattle.step_table.specs.Deeds.{share_as, on}
 use Rattle.step_table.specs.Holdings.{Slots, value}
-use Rattle.step_threads.specs.Programs.{IsIn}
+use Rattle.step_threads.specs.Programs.{IsIn, kind_at}
 use Rattle.step_threads.specs.Steps.{gives_back}
 use Rattle.step_table.specs.Stories.{Kept, Story, after, pending, pending_after, state}
 use Rattle.step_threads.specs.Threads.{Fits, IsNext}

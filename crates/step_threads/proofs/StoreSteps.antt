@@ -11,7 +11,8 @@ use Rattle.step_threads.specs.declared.call.CellName.{CellName}
 use Rattle.step_threads.specs.declared.half.Half.TheVariants.{Rest}
 use Rattle.step_table.specs.declared.holdings.Pointer.{Pointer}
 use Rattle.step_threads.specs.declared.thread.Thread.{Thread}
-use Rattle.step_threads.specs.Courses.{Going, done_on, fitting, going, hand, is_there, kind_at, offered, on_going, rest, settled, task_at, walk}
+use Rattle.step_threads.specs.Programs.{kind_at}
+use Rattle.step_threads.specs.Courses.{Going, done_on, fitting, going, hand, is_there, offered, on_going, rest, settled, task_at, walk}
 use Rattle.step_table.specs.Deeds.{on, share, share_as}
 use Rattle.step_table.specs.Holdings.{is_full, slot, value}
 use Rattle.step_threads.specs.Scenes.{refusal}

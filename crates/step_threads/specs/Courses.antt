@@ -1,10 +1,9 @@
 -- How a thread goes on from act to act. All of it is own.
 use Rattle.std.specs.Prelude.{◌≡◌, ℕ, ◌+◌, ◌-◌, ◌<◌, ◌≤◌, ◌⊎◌, Bool, true, false, cond, not, ◌&&◌, List, [], ◌∷◌, length, drop, get_or, slice_set, Option, Some, None}
 use Rattle.control_word.specs.declared.handle.Kind.{Kind}
-use Rattle.control_word.specs.declared.handle.Kind.TheVariants.{Owner, Weak}
 use Rattle.control_word.specs.declared.shape.Shape.{Shape}
 use Rattle.control_word.specs.declared.place.Block.{Block}
-use Rattle.control_word.specs.State.{State, kind_of_member}
+use Rattle.control_word.specs.State.{State}
 use Rattle.step_threads.specs.declared.act.Act.{Act}
 use Rattle.step_table.specs.declared.form.Form.{Form}
 use Rattle.step_threads.specs.declared.act.Act.TheVariants.{Make, Share, Downgrade, Lock, Put, Leave, Clear, Count, Expired, Read, FromThis, Alias, Move, Ask, Offer, Swap, Exchange, Load, Compare, Drop}
@@ -25,7 +24,7 @@ use Rattle.control_word.specs.declared.view.Pending.TheVariants.{Idle}
 use Rattle.step_table.specs.declared.holdings.Pointer.{Pointer}
 use Rattle.step_table.specs.declared.past.Deed.{Deed}
 use Rattle.step_table.specs.declared.slot.Slot.{Slot}
-use Rattle.step_threads.specs.Programs.{IsIn}
+use Rattle.step_threads.specs.Programs.{IsIn, kind_at}
 use Rattle.step_table.specs.Stories.{Story, after, pending}
 
 -- the last slot, for what an act takes
@@ -35,12 +34,6 @@ hand slots = length slots - 1
 -- the one before it, behind those of the names, for what is to be dropped at the end of its statement
 abbrev pub other : Slots → ℕ
 other slots = length slots - 2
-
--- the kind of what a cell holds
-abbrev pub kind_at : CellName → Kind
-kind_at (cell.Shared n) = Owner
-kind_at (cell.Weak n) = Weak
-kind_at (cell.Member k m) = kind_of_member m
 
 -- the object is there whose member the cell is: the name owns it and points into it
 abbrev pub is_there : Slots → CellName → Bool

@@ -1,6 +1,7 @@
 -- Programs, without where they lie in memory.
-use Rattle.std.specs.Prelude.{◌≡◌, ℕ, ◌<◌, ◌≤◌, ◌==◌, Bool, false, cond, List, [], ◌∷◌, Option, Some, None, All, IsTrue, is_some, length, map, sum_by, slice_get}
+use Rattle.std.specs.Prelude.{◌≡◌, ℕ, ◌<◌, ◌≤◌, ◌==◌, Bool, false, List, [], ◌∷◌, Option, Some, None, All, IsTrue, is_some, length, map, sum_by, slice_get}
 use Rattle.control_word.specs.declared.shape.Shape.{Shape}
+use Rattle.control_word.specs.State.{kind_of_member}
 use Rattle.step_threads.specs.declared.call.Actor.{Actor}
 use Rattle.step_threads.specs.declared.call.Call.{Call}
 use Rattle.step_threads.specs.declared.call.Call.TheVariants.{Make, Empty, Reset, Copy, Count}
@@ -9,9 +10,9 @@ use Rattle.step_threads.specs.declared.call.Call.TheVariants.{Store, Exchange, L
 use Rattle.step_threads.specs.declared.call.Call.TheVariants as call
 use Rattle.step_threads.specs.declared.call.CellName.{CellName}
 use Rattle.step_threads.specs.declared.call.CellName.TheVariants as cell
-use Rattle.step_threads.specs.declared.call.Kind.{Kind}
-use Rattle.step_threads.specs.declared.call.Kind.TheVariants.{Owner}
-use Rattle.step_threads.specs.declared.call.Kind.TheVariants as kind
+use Rattle.control_word.specs.declared.handle.Kind.{Kind}
+use Rattle.control_word.specs.declared.handle.Kind.TheVariants.{Owner}
+use Rattle.control_word.specs.declared.handle.Kind.TheVariants as kind
 use Rattle.step_threads.specs.declared.call.Name.{Name}
 use Rattle.step_threads.specs.declared.call.Program.{Program}
 
@@ -39,15 +40,16 @@ weak name = (name, Some kind.Weak)
 abbrev pub either : Name → Asked
 either name = (name, None)
 
--- the kind of the names whose values go into a cell ([util.smartptr.atomic.shared], [util.smartptr.atomic.weak])
-abbrev pub cell_kind : CellName → Kind
-cell_kind (cell.Shared n) = Owner
-cell_kind (cell.Weak n) = kind.Weak
-cell_kind (cell.Member k m) = cond (m == 2) kind.Weak Owner
+-- the kind of what a cell holds, and of the names whose values go into it ([util.smartptr.atomic.shared],
+-- [util.smartptr.atomic.weak])
+abbrev pub kind_at : CellName → Kind
+kind_at (cell.Shared n) = Owner
+kind_at (cell.Weak n) = kind.Weak
+kind_at (cell.Member k m) = kind_of_member m
 
 -- a name of that kind
 abbrev pub as_in : CellName → Name → Asked
-as_in cell name = (name, Some (cell_kind cell))
+as_in cell name = (name, Some (kind_at cell))
 
 -- the cell is a member of what the name owns
 abbrev pub is_member_of : CellName → Name → Bool

@@ -26,7 +26,8 @@ use Rattle.step_threads.specs.declared.said.Answer.TheVariants as answer
 use Rattle.step_table.specs.declared.ended.Ended.{Ended}
 use Rattle.step_threads.specs.declared.said.Said.{Said}
 use Rattle.step_table.specs.declared.slot.Slot.TheVariants.{Full, Empty}
-use Rattle.step_threads.specs.Courses.{Walk, cell_at, fitting, going, hand, is_there, kind_at, locked, on_going, other, placed, settled, passed}
+use Rattle.step_threads.specs.Programs.{kind_at}
+use Rattle.step_threads.specs.Courses.{Walk, cell_at, fitting, going, hand, is_there, locked, on_going, other, placed, settled, passed}
 use Rattle.step_table.specs.Deeds.{Telling, exact, as_weak, field_of, is_enabled, is_expired, is_last, owned, owner_left, this_as, aliased, at_place, on, remains, before}
 use Rattle.step_table.specs.Holdings.{Slots, filled, inside, is_full, place_in, plain, slot, value, owner_slot}
 use Rattle.step_table.specs.declared.slot.Slot.{Slot}

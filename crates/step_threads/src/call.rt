@@ -1,17 +1,9 @@
 //! Calls over numbered names, and the programs that they make.
 ghost use Rattle.std.specs.Prelude.{◌≡◌};
-ghost use Rattle.step_threads.specs.Programs.{cell_kind, is_member_of};
+ghost use Rattle.step_threads.specs.Programs.{is_member_of, kind_at};
 
+pub use control_word::handle::Kind;
 use step_table::field::Field;
-
-/// What a name stands for, for good.
-#[derive(Clone, Copy, Debug, PartialEq, Eq)]
-pub enum Kind {
-    /// A shared pointer.
-    Owner,
-    /// A weak pointer.
-    Weak,
-}
 
 /// A name of an actor by its number: its place, from 0, in the order of the declarations.
 #[derive(Clone, Copy, Debug, PartialEq, Eq)]
@@ -27,11 +19,11 @@ pub enum CellName {
 }
 
 impl CellName {
-    /// The kind of the names whose values go into the cell.
+    /// The kind of what the cell holds, and of the names whose values go into it.
     ///
     /// ISO/IEC 14882:2020 [util.smartptr.atomic.shared], [util.smartptr.atomic.weak].
-    pub fn name_kind(self) -> Kind
-        ensures { result ≡ cell_kind self }
+    pub fn kind(self) -> Kind
+        ensures { result ≡ kind_at self }
     {
         match self {
             CellName::Weak(_) | CellName::Member { member: 2, .. } => Kind::Weak,

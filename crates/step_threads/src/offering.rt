@@ -1,7 +1,8 @@
 //! How a thread puts values into cells, act by act.
 ghost use Rattle.std.specs.Prelude.{◌≡◌, ◌<◌, ◌≤◌, true, false, length, slice_set};
 ghost use Rattle.step_table.specs.Contents.{as_word, is_of, owing_for, seen, swapped};
-ghost use Rattle.step_threads.specs.Courses.{CanAct, CourseReady, HasCell, HasGoneOn, IsNamed, cell_at, done_on, fitting, hand, is_offered, is_there, kind_at, offered, other, rest, settled, task_at, walk};
+ghost use Rattle.step_threads.specs.Programs.{kind_at};
+ghost use Rattle.step_threads.specs.Courses.{CanAct, CourseReady, HasCell, HasGoneOn, IsNamed, cell_at, done_on, fitting, hand, is_offered, is_there, offered, other, rest, settled, task_at, walk};
 ghost use Rattle.step_table.specs.Deeds.{is_last, leave, share, on};
 ghost use Rattle.step_table.specs.Holdings.{Holds, is_full, plain, slot, value};
 ghost use Rattle.step_threads.specs.Scenes.{came};
@@ -11,22 +12,9 @@ use crate::act::Act;
 use crate::call::CellName;
 use crate::course::Course;
 use control_word::CellWord;
-use control_word::handle::Kind;
 use step_table::cell_deed::{Cell, CellDeed};
 use step_table::past::Deed;
 use step_table::table::Table;
-
-impl CellName {
-    /// The kind of what the cell holds.
-    pub(crate) fn kind(self) -> Kind
-        ensures { result ≡ kind_at self }
-    {
-        match self {
-            CellName::Weak(_) | CellName::Member { member: 2, .. } => Kind::Weak,
-            CellName::Shared(_) | CellName::Member { .. } => Kind::Owner,
-        }
-    }
-}
 
 impl Course {
     /// Whether the object is there whose member the cell is: the name owns it and points into it.

@@ -3,7 +3,8 @@ ghost use Rattle.std.specs.Prelude.{◌≡◌, ◌⊎◌, ◌<◌, ◌≤◌, le
 ghost use Rattle.control_word.specs.declared.place.Place.{Place};
 ghost use Rattle.step_table.specs.CellDeeds.{owing};
 ghost use Rattle.step_table.specs.Contents.{is_of, owing_for};
-ghost use Rattle.step_threads.specs.Courses.{hand, is_there, kind_at};
+ghost use Rattle.step_threads.specs.Programs.{kind_at};
+ghost use Rattle.step_threads.specs.Courses.{hand, is_there};
 ghost use Rattle.step_table.specs.Holdings.{value};
 ghost use Rattle.step_threads.specs.Steps.{gives_back};
 ghost use Rattle.step_table.specs.Stories.{pending, state};

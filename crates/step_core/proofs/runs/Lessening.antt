@@ -16,7 +16,8 @@ use Rattle.step_table.specs.declared.holdings.Pointer.{Pointer}
 use Rattle.step_threads.specs.Actors.{wanted}
 use Rattle.step_core.specs.Bounds.{alone, lock_word, spare, walk_steps, weight}
 use Rattle.step_table.specs.Contents.{seen}
-use Rattle.step_threads.specs.Courses.{Going, HasCell, Walk, cell_at, form_of, going, hand, idle, kind_at, locked, offered, on_going, other, settled}
+use Rattle.step_threads.specs.Programs.{kind_at}
+use Rattle.step_threads.specs.Courses.{Going, HasCell, Walk, cell_at, form_of, going, hand, idle, locked, offered, on_going, other, settled}
 use Rattle.step_table.specs.Deeds.{alias, aliased, downgrade, give, is_enabled, lock, owner_word, read, share, tell, tell_expired, on}
 use Rattle.step_threads.specs.Endings.{EndsAll, IsEnding}
 use Rattle.step_table.specs.Holdings.{Holds, inside, is_full, owner_slot, place_in, slot}

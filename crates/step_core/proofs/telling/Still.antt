@@ -22,7 +22,8 @@ use Rattle.step_table.specs.declared.past.Deed.{Deed}
 use Rattle.step_table.specs.declared.past.Deed.TheVariants as deed
 use Rattle.step_table.specs.declared.cell_deed.CellDeed.TheVariants as cell_deed
 use Rattle.step_table.specs.Contents.{as_word, seen}
-use Rattle.step_threads.specs.Courses.{Going, Walk, cell_at, going, kind_at, locked, on_going}
+use Rattle.step_threads.specs.Programs.{kind_at}
+use Rattle.step_threads.specs.Courses.{Going, Walk, cell_at, going, locked, on_going}
 use Rattle.step_table.specs.Deeds.{give, is_enabled, lock, owner_word, share_as, on}
 use Rattle.step_threads.specs.Endings.{endings_of}
 use Rattle.step_table.specs.Holdings.{slot, value}

@@ -25,7 +25,8 @@ use Rattle.step_threads.specs.declared.call.CellName.{CellName}
 use Rattle.step_threads.specs.declared.ending.Ending.{Ending}
 use Rattle.step_threads.specs.declared.half.Half.{Half}
 use Rattle.step_threads.specs.declared.half.Half.TheVariants.{Rest, Saw}
-use Rattle.step_threads.specs.Courses.{HasCell, cell_at, comparing, hand, idle, is_offered, is_there, kind_at}
+use Rattle.step_threads.specs.Programs.{kind_at}
+use Rattle.step_threads.specs.Courses.{HasCell, cell_at, comparing, hand, idle, is_offered, is_there}
 use Rattle.step_threads.specs.Entries.{loads}
 use Rattle.step_threads.specs.Scenes.{Scene, walk_of, went}
 use Rattle.step_threads.specs.Steps.{Step, acts, first, sees, waits, waits_at, waits_on, within}

@@ -19,12 +19,12 @@ use Rattle.step_table.specs.declared.holdings.Pointer.{Pointer}
 use Rattle.step_table.specs.declared.past.Deed.TheVariants as deed
 use Rattle.step_threads.specs.declared.said.Answer.{Answer}
 use Rattle.step_table.specs.Contents.{as_word, is_of, seen}
-use Rattle.step_threads.specs.Courses.{Going, HasCell, cell_at, going, going_from, hand, is_there, kind_at, on_going}
+use Rattle.step_threads.specs.Courses.{Going, HasCell, cell_at, going, going_from, hand, is_there, on_going}
 use Rattle.step_threads.specs.Entries.{History, acted, swaps as swaps_in}
 use Rattle.step_table.specs.Deeds.{Telling, on}
 use Rattle.step_table.specs.Holdings.{Holds, Slots, slot, value}
 use Rattle.step_table.specs.Openings.{opening}
-use Rattle.step_threads.specs.Programs.{IsIn}
+use Rattle.step_threads.specs.Programs.{IsIn, kind_at}
 use Rattle.step_threads.specs.Scenes.{ended_of, walk_of, went}
 use Rattle.step_threads.specs.Steps.{acts, brings, gives_back, sends, swaps}
 use Rattle.step_table.specs.Stories.{Kept, Nothing, Story, added, history_after, state}

@@ -27,7 +27,8 @@ use Rattle.step_table.proofs.holding.Inside.{inside_is}
 use Rattle.step_table.proofs.holding.Owning.{slot_held}
 use Rattle.step_table.proofs.tables.Places.{handle_busy, there, vacant_place}
 use Rattle.step_threads.specs.declared.call.CellName.{CellName}
-use Rattle.step_threads.specs.Courses.{is_there, kind_at, offered}
+use Rattle.step_threads.specs.Programs.{kind_at}
+use Rattle.step_threads.specs.Courses.{is_there, offered}
 use Rattle.step_threads.specs.Entries.{least, lesser}
 use Rattle.step_threads.specs.Steps.{story_after}
 use Rattle.step_core.proofs.watching.Words.{block_off}

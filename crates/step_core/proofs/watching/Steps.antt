@@ -24,7 +24,8 @@ use Rattle.step_table.specs.CellDeeds.{kind_in}
 use Rattle.step_table.specs.Cells.{word_at}
 use Rattle.step_table.specs.Contents.{as_word, compared_in, is_spent, same_value, seen}
 use Rattle.step_table.specs.Refills.{more_taken}
-use Rattle.step_threads.specs.Courses.{Going, Walk, cell_at, comparing, going, hand, is_there, kind_at, locked, offered, on_going, other}
+use Rattle.step_threads.specs.Programs.{kind_at}
+use Rattle.step_threads.specs.Courses.{Going, Walk, cell_at, comparing, going, hand, is_there, locked, offered, on_going, other}
 use Rattle.step_table.specs.Deeds.{alias, aliased, downgrade, is_enabled, is_last, leave, lock, owner_word, read, share, tell, tell_expired, on}
 use Rattle.step_threads.specs.Entries.{least}
 use Rattle.step_table.specs.Holdings.{Holds, inside, owner_slot, place_in, slot, value, weak_slot}

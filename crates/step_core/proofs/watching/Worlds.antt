@@ -24,8 +24,8 @@ use Rattle.step_table.specs.Deeds.{on}
 use Rattle.step_table.specs.Holdings.{Holds, Slots, inside, is_full, slot, value}
 use Rattle.step_table.specs.Stories.{Kept, Story, state}
 use Rattle.step_table.proofs.contained.Told.{shared_is}
-use Rattle.step_threads.specs.Courses.{HasCell, Walk, cell_at, hand, idle, is_compared, is_offered, is_there, kind_at}
-use Rattle.step_threads.specs.Programs.{IsIn}
+use Rattle.step_threads.specs.Courses.{HasCell, Walk, cell_at, hand, idle, is_compared, is_offered, is_there}
+use Rattle.step_threads.specs.Programs.{IsIn, kind_at}
 use Rattle.step_threads.specs.Scenes.{walk_of}
 use Rattle.step_threads.specs.Steps.{Step, half_by, story_after, story_by, waits, waits_at, waits_on}
 use Rattle.step_core.specs.Turning.{HasBegun, IsInShape, IsStill}

@@ -3,9 +3,9 @@ use Rattle.step_table.specs.declared.cell_deed.Cell.{Cell}
 use Rattle.step_table.specs.CellDeeds.{kind_in}
 use Rattle.step_table.specs.Cells.{IsOpenTo}
 use Rattle.step_table.specs.Contents.{is_of}
-use Rattle.step_threads.specs.Courses.{HasCell, kind_at}
+use Rattle.step_threads.specs.Courses.{HasCell}
 use Rattle.step_table.specs.Holdings.{value}
-use Rattle.step_threads.specs.Programs.{IsIn}
+use Rattle.step_threads.specs.Programs.{IsIn, kind_at}
 use Rattle.step_table.specs.Stories.{state}
 use Rattle.step_threads.proofs.CellNames.{cell_open, goes_in}
 use Rattle.step_threads.proofs.course.Course.swap.Goals as goal
