@@ -67,6 +67,7 @@ module _ (E : Bx) {M : Type 1} {𝓤 : Ura M} (𝓛 : Logic 𝓤) (b o : ℕ) wh
       rewrite ! 0 (λ (n : ℕ). ‵ (froom (bare (τ E)) b n)) (first-at (align (bare (τ E))) o) refl $
       move ! (1 ∷ 3 ∷ 0 ∷ []) $ use2 𝓛 (‵ way) rejoins $ keep ! (1 ∷ 0 ∷ []) $ done !
 
-  pub joins : ent 𝓤 (sep 𝓤 (H.room (bare (τ E)) b o) (sem 𝓛 (fwand (froom (bare (τ E)) b o) (froom (block_type (R E)) b o))))
+  pub joins : ent 𝓤 (sep 𝓤 (H.room (bare (τ E)) b o) (sem 𝓛 (fwand (froom (bare (τ E)) b o) (froom (block_type
+      (R E)) b o))))
       (H.room (block_type (R E)) b o)
   joins = apply∗ 𝓤 (H.room (bare (τ E)) b o) (H.room (block_type (R E)) b o)

@@ -30,7 +30,8 @@ use Rattle.slot_arena.proofs.Cells.{D, Empty, Full, block, empty, full, word}
 module _ (E : Bx) {M : Type 1} {𝓤 : Ura M} {𝓛 : Logic 𝓤} {K : Type 0} {Γ : List (Item 𝓤)} {G : Goal 𝓤 𝓛.H} where
   pub full_out : K → (d : D E) (vs : List Val)
       → ((b o : ℕ) (hv : Val) → d.at ≡ block_ptr b o → vs ≡ word E hv b o ∷ [] → Fits E.al hv
-      → Seq K 𝓛 (‵ (part_at (R E) full_share d.value b o) ∷ ‵ (block E d.alloc (block_ptr b o)) ∷ ‵ (handle E d.alloc hv) ∷ Γ) G)
+      → Seq K 𝓛 (‵ (part_at (R E) full_share d.value b o) ∷ ‵ (block E d.alloc (block_ptr b o))
+      ∷ ‵ (handle E d.alloc hv) ∷ Γ) G)
       → Seq K 𝓛 (‵ ((Full E).own_val d vs) ∷ Γ) G
   full_out t d vs k =
       fsplit t $ fpick t (λ vss. fsplit t $ feq_l t (λ ev. fsplit t $ feq_l t (λ ep. fsplit t $
@@ -80,7 +81,8 @@ module _ (E : Bx) {M : Type 1} {𝓤 : Ura M} {𝓛 : Logic 𝓤} {K : Type 0} {
 module _ (E : Bx) {M : Type 1} {𝓤 : Ura M} {𝓛 : Logic 𝓤} {K : Type 0} {Γ : List (Item 𝓤)} {G : Goal 𝓤 𝓛.H} where
   pub full_opens : K → Soaks G → {κ : Lft} {q : Share} {γ : GName} (d : D E) (rb ro : ℕ)
       → ((b o : ℕ) (hv : Val) → d.at ≡ block_ptr b o
-      → Seq K 𝓛 (‵ (part_at (R E) full_share d.value b o) ∷ ‵ (fsep (block E d.alloc (block_ptr b o)) (handle E d.alloc hv))
+      → Seq K 𝓛 (‵ (part_at (R E) full_share d.value b o)
+      ∷ ‵ (fsep (block E d.alloc (block_ptr b o)) (handle E d.alloc hv))
       ∷ ‵ (cell_at full_share (Full E).mir (word E hv b o ∷ []) rb ro) ∷ ‵ (fobor κ q (Borrowed (mem (Full E)) rb ro γ))
       ∷ ‵ (fobs γ ((Full E).coded.code d)) ∷ ‵ (fauth γ ((Full E).coded.code d)) ∷ Γ) G)
       → Seq K 𝓛 (‵ (fobs γ ((Full E).coded.code d)) ∷ ‵ (fbor κ (Borrowed (mem (Full E)) rb ro γ)) ∷ ‵ (flft κ q) ∷ Γ) G

@@ -7,7 +7,8 @@ use mir.Raw.{raw}
 use mir.Syntax.{Ty}
 use denote.Builtin.{RawPtr}
 use denote.Memory.{lone}
-use denote.Param.Send.{IsSend, IsSync, Frees, Common, Quiet, part_keyless, owning_send, struct_send, struct_sync, sendable}
+use denote.Param.Send.{IsSend, IsSync, Frees, Common, Quiet, part_keyless, owning_send, struct_send, struct_sync}
+use denote.Param.Send.{sendable}
 use denote.RattleType.{RattleType}
 use denote.RawPtr.{Ptr, block_ptr, null_ptr, block_of, count_of, lies_at, room_for, in_block}
 use denote.Struct.Lending.{lent_at}

@@ -11,7 +11,8 @@ abbrev pub with_value : {X Z : Type 0} → FullCell X Z → X → FullCell X Z
 with_value c w = record { at = c.at; alloc = c.alloc; value = w }
 
 -- once the borrow of the value ends, the cell has what was last written through it
-abbrev pub lends_value : (R Z : RattleType) (g : Ghosts Z.Denot) → MutBor (FullCell R.Denot Z.Denot) → MutBor R.Denot → Fml
+abbrev pub lends_value : (R Z : RattleType) (g : Ghosts Z.Denot) → MutBor (FullCell R.Denot Z.Denot)
+    → MutBor R.Denot → Fml
 lends_value R Z g c r = Lends (the_row R Z g) R c r (with_value c.now)
 
 -- the same of a token, which is seen as its value

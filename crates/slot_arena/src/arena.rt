@@ -10,8 +10,8 @@ use std::alloc::Global;
 pub enum Arena {}
 
 impl Arena {
-    /// So many vacant cells (own). It is refused `Memory` where a growth was really refused; the cells that it got go back
-    /// then.
+    /// So many vacant cells (own). It is refused `Memory` where a growth was really refused; the
+    /// cells that it got go back then.
     pub fn new<V>(alloc: Global, count: u32) -> Result<Vec<Vacant<V>>, Refusal>
         ensures count { IfOk result (λ tokens. vec_len tokens ≡ count) }
         ensures refused { IfErr result (λ why. why ≡ Refusal.Memory) }

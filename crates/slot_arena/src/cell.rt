@@ -7,7 +7,8 @@ use std::alloc::Allocator;
 use std::marker::{Model, Send, Sync};
 use std::mem::{align_of, size_of};
 
-/// How a cell lies in memory. No value of it is made.
+/// How a cell lies in memory: behind the value are 64 bytes that nobody uses, so at any address the
+/// values of two cells share no cache line of 64 bytes. No value of it is made.
 #[repr(C)]
 struct Spaced<V> {
     value: V,

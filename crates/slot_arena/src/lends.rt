@@ -1,5 +1,5 @@
-//! The value of a cell, to be changed where it is. The clauses name the rows of `FullCell` and `Filled`, which the files that
-//! declare them cannot import.
+//! The value of a cell, to be changed where it is. The clauses name the rows of `FullCell` and
+//! `Filled`, which the files that declare them cannot import.
 ghost use Rattle.std.specs.Prelude.{◌≡◌};
 ghost use Rattle.std.specs.Borrow.{sem};
 ghost use Rattle.slot_arena.specs.Lending.{lends_value, LendsContent};

@@ -11,7 +11,8 @@ pub struct Vacant<V> {
     pub(crate) cell: EmptyCell<V, Global>,
 }
 
-/// A cell with a value, which it is seen as. Where it ends, the value is dropped, and then the cell's memory goes back.
+/// A cell with a value, which it is seen as. Where it ends, the value is dropped, and then the
+/// cell's memory goes back.
 #[derive(Drop)]
 pub struct Filled<V> {
     pub(crate) cell: FullCell<V, Global>,

@@ -17,12 +17,15 @@ use prog.RawLaws.{size-raw, align-raw}
 use prog.Routine.{Routine}
 use prog.Wp.{Env, Calls, Loops, WpFn, Tables, Wp, after_seq, at_return}
 use types.Logic.{Logic, sem}
-use types.Kit.{Post as After, any_q, ‵, raw, ◌⊛◌, some, later, given, at_ret, ◌$◌, ◌∵◌, !, qed, by, move, keep, use1, use2}
+use types.Kit.{Post as After, any_q, ‵, raw, ◌⊛◌, some, later, given, at_ret, ◌$◌, ◌∵◌, !, qed, by, move, keep, use1}
+use types.Kit.{use2}
 use types.Kit.{pick, learn, split, split3, join, fsplit, fjoin, suffices, await, done}
 use types.Part.{whole, agg}
 use types.Match.{live, vrt, in_variant}
-use types.Run.{stop, fld, from, addr, lit, size_word, align_word, no_more, and_then, of_opd, first, switches_on, exec, returns, enter}
-use types.ByLocal.{alloc_all, pass_all, free_all, look_at, take_at, give_at, get, get_in, get_tag, sets, sets_last, lands_as, env}
+use types.Run.{stop, fld, from, addr, lit, size_word, align_word, no_more, and_then, of_opd, first, switches_on, exec}
+use types.Run.{returns, enter}
+use types.ByLocal.{alloc_all, pass_all, free_all, look_at, take_at, give_at, get, get_in, get_tag, sets, sets_last}
+use types.ByLocal.{lands_as, env}
 use contract.Monad.{Fun}
 use contract.BorrowLft.{◌⊑◌, meet_⊑_right}
 use contract.Running.{tables, tables_of}
@@ -44,7 +47,8 @@ use denote.Triple.Table.{entered}
 use denote.Triple.Walked.{says, Stays, stay_dropped, walk_of, ends_at, Goes-dropped, walk_Meets}
 use Rattle.std.specs.Prelude.{MatchResult, Ok, Err}
 use Rattle.std.specs.contracts.result.Result as RS
-use Rattle.std.proofs.alloc.Calls.{second, Answer-typed, α, Fits, seen, Lent, lends, handle_tells, takes_key, Takes, at_takes}
+use Rattle.std.proofs.alloc.Calls.{second, Answer-typed, α, Fits, seen, Lent, lends, handle_tells, takes_key, Takes}
+use Rattle.std.proofs.alloc.Calls.{at_takes}
 use Rattle.std.proofs.alloc.Calls.{Answered, Takes-goes, Takes-gives, answers}
 use Rattle.std.proofs.BoxSteps.Form.{Bx, args, P, R, τ}
 use Rattle.std.proofs.RcSteps.{first_Good, some_Good}
@@ -140,7 +144,8 @@ module _ (E : Bx) {M : Type 1} {𝓤 : Ura M} (𝓛 : Logic 𝓤) (at_mem : Memo
       let way : Fml = fwand (froom (bare (τ E)) b o) (froom (block_type (R E)) b o) in
       lands_as ! e refl (Answer-typed true b o) $ first ! $
       switches_on ! (get_tag ! (vrt ! refl (fld ! refl (stop !))) (whole !)) $ exec ! C Λ En (arm_body 0 both) Then $
-      sets ! (of_opd ! (get_in ! (vrt ! refl (fld ! refl (stop !))) (in_variant ! 0 0 refl refl (whole !)))) refl (tt, tt) $
+      sets ! (of_opd ! (get_in ! (vrt ! refl (fld ! refl (stop !))) (in_variant ! 0 0 refl refl (whole !)))) refl
+      (tt, tt) $
       sets ! (of_opd ! (get ! refl)) refl (tt, tt) $ sets ! (of_opd ! (get ! refl)) refl fa' $
       sets ! (agg ! (and_then ! (get ! refl) (and_then ! (get ! refl) (no_more !)))) refl made $
       sets_last ! (agg ! (and_then ! (lit ! tt) (and_then ! (get ! refl) (no_more !)))) refl ok $
@@ -168,11 +173,13 @@ module _ (E : Bx) {M : Type 1} {𝓤 : Ura M} (𝓛 : Logic 𝓤) (at_mem : Memo
       split3 ! $ move ! (3 ∷ []) $ fsplit ! $ handle_tells E.al ! a vs (λ hv is fa. keep ! (0 ∷ 3 ∷ 2 ∷ []) $
       by ! (subst (λ (ws : List Val). ent 𝓤 (Had hv) (WpFn 𝓤 H C Λ (fn' E) (ws ++ []) Post)) (sym is) (walk hv fa)))
 
-meets : (E : Bx) {M : Type 1} {𝓤 : Ura M} (𝓛 : Logic 𝓤) (at_mem : Memory → SProp 𝓤) (run : Routine → Fun 𝓤) (𝓣 : Tables 𝓤 𝓛.H)
+meets : (E : Bx) {M : Type 1} {𝓤 : Ura M} (𝓛 : Logic 𝓤) (at_mem : Memory → SProp 𝓤) (run : Routine
+    → Fun 𝓤) (𝓣 : Tables 𝓤 𝓛.H)
     → Triple 𝓤 (𝓣.C (takes_key E.al)) (Takes E.al 𝓛 at_mem run)
     → Meets 𝓛 (ended E).signature (WpFn 𝓤 𝓛.H 𝓣.C 𝓣.Λ (fn' E)) (closing 𝓛 (ended E) (clauses E 𝓛 at_mem run))
 meets E {𝓤 = 𝓤} 𝓛 at_mem run 𝓣 callee =
-    walk_Meets 𝓛 (ended E) (stayed E) (Goes-dropped 𝓛 2 (plain (λ _. P E)) no (λ κs x f. refl), tt) (clauses E 𝓛 at_mem run)
+    walk_Meets 𝓛 (ended E) (stayed E) (Goes-dropped 𝓛 2 (plain (λ _. P E)) no (λ κs x f. refl), tt)
+    (clauses E 𝓛 at_mem run)
     (WpFn 𝓤 𝓛.H 𝓣.C 𝓣.Λ (fn' E)) (WpFn-mono 𝓤 𝓛.H 𝓛.laws 𝓣 (fn' E))
     (λ z. let κs = z.0.0 in let qs = z.0.1 in
     let On : SProp 𝓤 = on_entry 𝓛 (ended E).signature κs qs z.0.3 z.0.4 in

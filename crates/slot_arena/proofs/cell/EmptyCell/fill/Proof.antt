@@ -99,7 +99,8 @@ module _ (E : Bx) {M : Type 1} {𝓤 : Ura M} (𝓛 : Logic 𝓤) (C : Calls �
       sets ! (agg ! (and_then ! (get ! refl) (and_then ! (get ! refl) (no_more !)))) refl (full_typed E hv b o fa) $
       returns ! (look_at ! 0 refl) $ free_all ! refl $
       use2 𝓛 (‵ (part_at (R E) full_share x b o)) (el_in E 𝓛 x b o v) $ full_in E ! new b o x refl refl $
-      suffices ! _ (ends_at 𝓛 (ended E) (stayed E) (spec E 𝓤) bound (word E hv b o) new ((tt, (tt, tt)), (tt, tt)) (tt, (tt, tt))) $
+      suffices ! _ (ends_at 𝓛 (ended E) (stayed E) (spec E 𝓤) bound (word E hv b o) new ((tt, (tt, tt)), (tt, tt))
+      (tt, (tt, tt))) $
       says ! refl $ nothing ! $ nothing ! $ fjoin ! $ nothing ! $ fjoin ! $ join ! $ nothing ! $ join ! $ done !)
 
   entry : ent 𝓤 (on_entry 𝓛 (ended E).signature tt tt (d, (x, tt)) (us, (vs, tt)))
@@ -108,14 +109,21 @@ module _ (E : Bx) {M : Type 1} {𝓤 : Ura M} (𝓛 : Logic 𝓤) (C : Calls �
       qed 𝓛 ((‵ ftrue ⊛ ‵ (owns (Empty E ∷ R E ∷ []) (d, (x, tt)) (us, (vs, tt)))) ∷ []) ∵
       split ! $ drop ! $ fsplit ! $ empty_out E ! d us (λ b o hv e is fa.
       move ! (3 ∷ []) $ fsplit ! $ el_tells E ! x vs (λ v ev t. keep ! (2 ∷ 0 ∷ 3 ∷ 4 ∷ []) $
-      by ! (subst (λ (ws : List Val × List Val). ent 𝓤 (Had b o hv v) (WpFn 𝓤 H C Λ (fn' E) (ws.0 ++ (ws.1 ++ [])) Post))
+      by ! (subst (λ (ws : List Val × List Val). ent 𝓤 (Had b o hv v) (WpFn 𝓤 H C Λ (fn' E) (ws.0 ++
+      (ws.1 ++ [])) Post))
       (λ i. (sym is i, sym ev i)) (walk b o hv v fa t))))
 
 meets : (E : Bx) {M : Type 1} {𝓤 : Ura M} (𝓛 : Logic 𝓤) (𝓣 : Tables 𝓤 𝓛.H)
     → Meets 𝓛 (ended E).signature (WpFn 𝓤 𝓛.H 𝓣.C 𝓣.Λ (fn' E)) (closing 𝓛 (ended E) (spec E 𝓤))
 meets E {𝓤 = 𝓤} 𝓛 𝓣 =
-    walk_Meets 𝓛 (ended E) (stayed E)
-    (Goes-blank 𝓛 0 (plain (λ _. Empty E)) no (λ κs x f. tt), (Goes-dropped 𝓛 0 (plain (λ _. R E)) no (λ κs x f. refl), tt))
+    walk_Meets 𝓛 (ended E) (stayed E) (
+      Goes-blank 𝓛 0 (plain (λ _. Empty E)) no (λ κs x f. tt),
+      (
+        Goes-dropped 𝓛 0 (plain (λ _. R E)) no
+            (λ κs x f. refl),
+        tt,
+      ),
+    )
     (spec E 𝓤) (WpFn 𝓤 𝓛.H 𝓣.C 𝓣.Λ (fn' E)) (WpFn-mono 𝓤 𝓛.H 𝓛.laws 𝓣 (fn' E))
     (λ z. via 𝓤 _ (fst∗ 𝓤 _ (emp 𝓤)) (entry E 𝓛 𝓣.C 𝓣.Λ z.0.3.0 z.0.3.1.0 z.0.4.0 z.0.4.1.0))
 

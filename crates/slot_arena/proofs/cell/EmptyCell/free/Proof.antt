@@ -16,10 +16,12 @@ use prog.RawLaws.{size-raw, align-raw}
 use prog.Routine.{Routine}
 use prog.Wp.{Env, Calls, Loops, WpFn, Tables}
 use types.Logic.{Logic, sem}
-use types.Kit.{‵, raw, ◌⊛◌, later, given, at_ret, ◌$◌, ◌∵◌, !, qed, by, move, keep, use1, use2, use3, learn, split3, join}
+use types.Kit.{‵, raw, ◌⊛◌, later, given, at_ret, ◌$◌, ◌∵◌, !, qed, by, move, keep, use1, use2, use3, learn, split3}
+use types.Kit.{join}
 use types.Kit.{fsplit, fjoin, suffices, await, done}
 use types.Part.{whole, sub}
-use types.Run.{stop, fld, from, addr, size_word, align_word, no_more, and_then, of_opd, first, blocks, exec, returns, enter}
+use types.Run.{stop, fld, from, addr, size_word, align_word, no_more, and_then, of_opd, first, blocks, exec, returns}
+use types.Run.{enter}
 use types.ByLocal.{alloc_all, pass_all, free_all, look_at, take_at, give_at, get, get_in, sets, lands_last, env}
 use contract.Monad.{Fun}
 use contract.BorrowLft.{◌⊑◌, meet_⊑_right}
@@ -105,7 +107,8 @@ module _ (E : Bx) {M : Type 1} {𝓤 : Ura M} (𝓛 : Logic 𝓤) (at_mem : Memo
       let at : ℕ = up (align (α E.al)) 8 in
       let words : Vals = vcons (vptr b o) (vcons hv vnil) in
       let fields : Tys = tcons ty_ptr (tcons (α E.al) tnil) in
-      sets ! (of_opd ! (get ! refl)) refl typed $ first ! $ blocks ! $ sets ! (addr ! (from ! (fld ! refl (stop !)))) refl (tt, tt) $
+      sets ! (of_opd ! (get ! refl)) refl typed $ first ! $ blocks ! $
+      sets ! (addr ! (from ! (fld ! refl (stop !)))) refl (tt, tt) $
       sets ! (of_opd ! (get_in ! (fld ! refl (stop !)) (sub ! 0 refl (whole !)))) refl (tt, tt) $
       sets ! (of_opd ! (get ! refl)) refl (tt, tt) $
       take_at ! 2 $ move ! (0 ∷ 3 ∷ 4 ∷ []) $
@@ -117,8 +120,10 @@ module _ (E : Bx) {M : Type 1} {𝓤 : Ura M} (𝓛 : Logic 𝓤) (at_mem : Memo
       (Gives-goes E.al 𝓛 at_mem run κ m.1 hp a (Incl-trans (meet_⊑_right (m.0 ∷ []) ρ) within) b o s al (bare σ)
       (ap capped (size-raw σ)) (ap capped (align-raw σ)) (capped_fits (size σ)) (capped_fits (align σ))) $
       calls_at_last ! fm (Gives E.al 𝓛 at_mem run) callee y
-      (and_then ! (get ! refl) (and_then ! (get ! refl) (and_then ! (size_word !) (and_then ! (align_word !) (no_more !))))) (λ v.
-      use1 𝓛 (later (given (v ≡ vunit) (‵ (flft κ m.1)))) (Gives-Gives E.al 𝓛 at_mem run κ m.1 hp a b o s al (bare σ) v) $
+      (and_then ! (get ! refl) (and_then ! (get ! refl) (and_then ! (size_word !) (and_then ! (align_word !)
+      (no_more !))))) (λ v.
+      use1 𝓛 (later (given (v ≡ vunit) (‵ (flft κ m.1)))) (Gives-Gives E.al 𝓛 at_mem run κ m.1 hp a b o s al
+      (bare σ) v) $
       await ! tt $ learn ! (λ e.
       takes_back E.al (empty E).name fields 1 at (l 2) 0 words a ρ qρ ! tt m (λ hv' fa'. give_at ! 2 $
       lands_last ! refl (subst (λ (z : Val). T (has_ty ty_unit z) × WT z) (sym e) (tt, tt)) $
@@ -132,13 +137,16 @@ module _ (E : Bx) {M : Type 1} {𝓤 : Ura M} (𝓛 : Logic 𝓤) (at_mem : Memo
   entry =
       qed 𝓛 ((‵ (flft κT qT) ⊛ ‵ (flft ρ qρ) ⊛ ‵ ftrue) ∷ ‵ (owns (Empty E ∷ []) (d, tt) (vs, tt)) ∷ []) ∵
       split3 ! $ move ! (3 ∷ []) $ fsplit ! $ empty_out E ! d vs (λ b o hv e is fa. keep ! (0 ∷ 1 ∷ 2 ∷ 5 ∷ 4 ∷ []) $
-      by ! (subst (λ (ws : List Val). ent 𝓤 (Had hv b o) (WpFn 𝓤 H C Λ (fn' E) (ws ++ []) Post)) (sym is) (walk hv b o fa)))
+      by ! (subst (λ (ws : List Val). ent 𝓤 (Had hv b o) (WpFn 𝓤 H C Λ (fn' E) (ws ++ []) Post)) (sym is)
+      (walk hv b o fa)))
 
-meets : (E : Bx) {M : Type 1} {𝓤 : Ura M} (𝓛 : Logic 𝓤) (at_mem : Memory → SProp 𝓤) (run : Routine → Fun 𝓤) (𝓣 : Tables 𝓤 𝓛.H)
+meets : (E : Bx) {M : Type 1} {𝓤 : Ura M} (𝓛 : Logic 𝓤) (at_mem : Memory → SProp 𝓤) (run : Routine
+    → Fun 𝓤) (𝓣 : Tables 𝓤 𝓛.H)
     → Triple 𝓤 (𝓣.C (gives_key E.al)) (Gives E.al 𝓛 at_mem run)
     → Meets 𝓛 (ended E).signature (WpFn 𝓤 𝓛.H 𝓣.C 𝓣.Λ (fn' E)) (closing 𝓛 (ended E) (clauses E 𝓛 at_mem run))
 meets E {𝓤 = 𝓤} 𝓛 at_mem run 𝓣 callee =
-    walk_Meets 𝓛 (ended E) (stayed E) (Goes-blank 𝓛 2 (plain (λ _. Empty E)) no (λ κs x f. tt), tt) (clauses E 𝓛 at_mem run)
+    walk_Meets 𝓛 (ended E) (stayed E) (Goes-blank 𝓛 2 (plain (λ _. Empty E)) no (λ κs x f. tt), tt)
+    (clauses E 𝓛 at_mem run)
     (WpFn 𝓤 𝓛.H 𝓣.C 𝓣.Λ (fn' E)) (WpFn-mono 𝓤 𝓛.H 𝓛.laws 𝓣 (fn' E))
     (λ z. let κs = z.0.0 in let qs = z.0.1 in
     let On : SProp 𝓤 = on_entry 𝓛 (ended E).signature κs qs z.0.3 z.0.4 in

@@ -24,5 +24,6 @@ shares V A g L K =
     (λ M 𝓤 𝓛 c p.
     let l = (C.the_row V A g).lives in
     let within = Incl-trans (meet_⊑_left (V.lives ++ (A.lives ++ [])) _) (meet_⊑_left V.lives (A.lives ++ [])) in
-    Lends-first 𝓛 (lies_at V full_share c.at c.value) (block_owns V c.at (g.dealloc_token c.alloc)) (lent_at V c.at c.value) l
+    Lends-first 𝓛 (lies_at V full_share c.at c.value) (block_owns V c.at (g.dealloc_token c.alloc))
+    (lent_at V c.at c.value) l
     (Lends-lies 𝓛 V l c.at c.value (Shares-less 𝓛 V V.lives l within (L.shares 𝓛) c.value)))

@@ -3,7 +3,8 @@ use mathlib.Core.Path.{◌≡◌, refl}
 use Prim.Native.Nat.{ℕ, ◌+◌}
 use mathlib.Core.List.{List, [], ◌∷◌}
 use seplogic.Ra.Ura.{Ura}
-use mir.Syntax.{Body, Fn, named, erased, imm, ty_ref, ty_param, ty_named, tnil, tcons, place, copy, assign, rv_opd, seq, return}
+use mir.Syntax.{Body, Fn, named, erased, imm, ty_ref, ty_param, ty_named, tnil, tcons, place, copy, assign, rv_opd}
+use mir.Syntax.{seq, return}
 use mir.MapTy.{inst_fn}
 use mir.Val.{Val, vptr}
 use base.Logic.{SProp, ent, sep, emp, via, fst∗}
@@ -117,9 +118,14 @@ module _ (E : Bx) {M : Type 1} {𝓤 : Ura M} (𝓛 : Logic 𝓤) where
       walk : ent 𝓤 (on_entry 𝓛 (ended E).signature (κ, tt) (q, tt) (self, tt) (vptr b o ∷ [], tt))
           (WpFn 𝓤 H C Λ (fn' E) (vptr b o ∷ []) Post)
       walk =
-          qed 𝓛 ((‵ (flft κ q) ⊛ ‵ ftrue) ∷ ‵ (owns (ShrRef (named 0) κ (Full E) ∷ []) (self, tt) (vptr b o ∷ [], tt)) ∷ []) ∵
+          qed 𝓛 ((‵ (flft κ q) ⊛ ‵ ftrue) ∷ ‵ (owns (ShrRef (named 0) κ (Full E) ∷ []) (self, tt) (
+            vptr b o
+                ∷ [],
+            tt,
+          )) ∷ []) ∵
           enter ! C Λ (fn' E) (vptr b o ∷ []) _ $
-          alloc1 ! (λ l₀. alloc1 ! (λ l₁. alloc1 ! (λ l₂. alloc0 ! $ params1 ! $ pass1 ! (init ! 2 refl (tt, tt)) $ pass0 ! $
+          alloc1 ! (λ l₀. alloc1 ! (λ l₁. alloc1 ! (λ l₂. alloc0 ! $ params1 ! $ pass1 ! (init ! 2 refl (tt, tt)) $
+          pass0 ! $
           let En : Env 𝓤 H =
           ((ty_ref (named 0) imm (ty_param 0), l₀)
           ∷ (ty_ref (named 0) imm (ty_named ((full E).name, []) (tcons (ty_param 0) (tcons (ty_param 1) tnil))), l₁)

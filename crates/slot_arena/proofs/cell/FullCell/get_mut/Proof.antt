@@ -12,7 +12,8 @@ use base.Fml.{Lft, GName, Share, Fml, ftrue, flft, fsep}
 use prog.Wp.{Env, Calls, Loops, WpFn, Tables}
 use types.Logic.{Logic, sem}
 use sound.WpLaws.{WpFn-mono}
-use types.Kit.{‵, ◌⊛◌, some, at_ret, ◌$◌, ◌∵◌, !, qed, by, move, keep, use1, drop, split, join, pick, fsplit, fsplit3, fjoin}
+use types.Kit.{‵, ◌⊛◌, some, at_ret, ◌$◌, ◌∵◌, !, qed, by, move, keep, use1, drop, split, join, pick, fsplit, fsplit3}
+use types.Kit.{fjoin}
 use types.Kit.{suffices, frame, done, raw, later, await, group, fpack}
 use types.Part.{whole, sub, look_in}
 use types.Run.{stop, fld, load, of_opd, first, blocks, exec, returns, enter, addr}
@@ -77,7 +78,20 @@ module _ (E : Bx) {M : Type 1} {𝓤 : Ura M} (𝓛 : Logic 𝓤) (κ : Lft) (q 
   open 𝓛 use {H, A}
 
   abbrev bound : (walk_of 𝓛 (ended E) (stayed E) (spec E 𝓛)).Ghost
-  bound = (((κ, tt), (q, tt), tt, (record { ref_ptr = (rb, ro); ghost_name = γ; now = h }, tt), (vptr rb ro ∷ [], tt)), tt)
+  bound = (
+    (
+      (κ, tt),
+      (q, tt),
+      tt,
+      (record { ref_ptr = (rb, ro); ghost_name = γ; now = h }, tt),
+      (
+        vptr rb ro
+            ∷ [],
+        tt,
+      ),
+    ),
+    tt,
+  )
 
   abbrev Post : Val → SProp 𝓤
   Post = (walk_of 𝓛 (ended E) (stayed E) (spec E 𝓛)).post bound
@@ -90,13 +104,15 @@ module _ (E : Bx) {M : Type 1} {𝓤 : Ura M} (𝓛 : Logic 𝓤) (κ : Lft) (q 
         (cell_at full_share (Full E).mir (word E hv b o ∷ []) rb ro)
 
     back : h.at ≡ block_ptr b o → (w : X E)
-        → ent 𝓤 (sep 𝓤 (sem 𝓛 ((mem (R E)).own_at w b o)) (sem 𝓛 Rest)) (sem 𝓛 ((mem (Full E)).own_at (with_value h w) rb ro))
+        → ent 𝓤 (sep 𝓤 (sem 𝓛 ((mem (R E)).own_at w b o)) (sem 𝓛 Rest)) (sem 𝓛 ((mem (Full E)).own_at
+        (with_value h w) rb ro))
     unfolding part_of
     back at_b w =
         qed 𝓛 (‵ (part_at (R E) full_share w b o) ∷ ‵ Rest ∷ []) ∵
         move ! (1 ∷ []) $ fsplit ! $ fsplit ! $ move ! (3 ∷ []) $
         full_in E ! (with_value h w) b o w at_b refl $ move ! (1 ∷ 0 ∷ []) $ fjoin ! $
-        fpack ! (List Val) (λ us. fsep (cell_at full_share (Full E).mir us rb ro) ((Full E).own_val (with_value h w) us))
+        fpack ! (List Val) (λ us. fsep (cell_at full_share (Full E).mir us rb ro) ((Full E).own_val
+        (with_value h w) us))
         (word E hv b o ∷ []) $ done !
 
     exits : (γ' : GName)
@@ -125,13 +141,15 @@ module _ (E : Bx) {M : Type 1} {𝓤 : Ura M} (𝓛 : Logic 𝓤) (κ : Lft) (q 
         move ! (1 ∷ []) $ fsplit ! $ fsplit3 ! $ drop ! $ move ! (3 ∷ []) $ split ! $ move ! (2 ∷ 3 ∷ 0 ∷ []) $
         full_opens E ! tt h rb ro (λ b o hv at_b.
         first ! $ blocks ! $
-        sets ! (of_opd ! (load ! (through ! refl (fld ! refl (stop !))) (look_in ! 2 (sub ! 0 refl (whole !))))) refl (tt, tt) $
+        sets ! (of_opd ! (load ! (through ! refl (fld ! refl (stop !))) (look_in ! 2 (sub ! 0 refl (whole !))))) refl
+        (tt, tt) $
         sets_last ! (addr ! (through ! refl (stop !))) refl (tt, tt) $
         exec ! C Λ En (after 1 (fn' E).body) (at_ret En Post) $
         sets ! (of_opd ! (get ! refl)) refl (tt, tt) $
         move ! (1 ∷ 2 ∷ []) $ fjoin ! $ move ! (2 ∷ 3 ∷ 4 ∷ 1 ∷ 0 ∷ []) $ group ! 5 $
         use1 𝓛 (later (some (λ (γ' : GName).
-        raw (Part 𝓛 (Full E) (R E) (with_value h) (named 0) κ q rb ro b o γ (sem 𝓛 (Rest b o hv)) (back b o hv at_b) h.value γ'))))
+        raw (Part 𝓛 (Full E) (R E) (with_value h) (named 0) κ q rb ro b o γ (sem 𝓛 (Rest b o hv))
+        (back b o hv at_b) h.value γ'))))
         (lends_Part 𝓛 (Full E) (R E) (with_value h) (named 0) κ q rb ro b o γ (sem 𝓛 (Rest b o hv)) (back b o hv at_b)
         code_of code_of h.value) $ await ! tt $ pick ! (λ γ'.
         returns ! (look_at ! 0 refl) $ free_all ! refl $

@@ -25,7 +25,8 @@ use denote.Triple.Entry.{on_entry}
 use denote.Triple.Spec.{Meets, triple_of}
 use denote.Triple.Table.{entered, run_framed}
 use base.Fml.{ftrue, fat, froom}
-use types.Kit.{‵, ◌⊛◌, some, given, at_ret, ◌$◌, ◌∵◌, !, qed, by, move, keep, use1, use2, drop, pick, learn, split, join}
+use types.Kit.{‵, ◌⊛◌, some, given, at_ret, ◌$◌, ◌∵◌, !, qed, by, move, keep, use1, use2, drop, pick, learn, split}
+use types.Kit.{join}
 use types.Kit.{fsplit, fjoin, suffices, done}
 use types.Part.{whole, sub, agg}
 use types.Run.{look, load, stop, fld, of_opd, and_then, no_more, first, blocks, exec, returns, enter}
@@ -67,7 +68,8 @@ module _ (E : Bx) where
   abbrev spec : {M : Type 1} (𝓤 : Ura M) → Clauses 𝓤 ended
   spec 𝓤 κs a = record { ghost = Unit {0}; requires = λ _. emp 𝓤; ensures = λ _ r _. fact 𝓤 (r.0 ≡ a.0.value) }
 
-module _ (E : Bx) {M : Type 1} {𝓤 : Ura M} (𝓛 : Logic 𝓤) (C : Calls 𝓤 𝓛.H) (Λ : Loops 𝓤 𝓛.H) (d : D E) (vs : List Val) where
+module _ (E : Bx) {M : Type 1} {𝓤 : Ura M} (𝓛 : Logic 𝓤) (C : Calls 𝓤 𝓛.H) (Λ : Loops 𝓤 𝓛.H) (d : D E)
+    (vs : List Val) where
   open 𝓛 use {H}
 
   abbrev bound : (walk_of 𝓛 (ended E) (stayed E) (spec E 𝓤)).Ghost
@@ -97,22 +99,26 @@ module _ (E : Bx) {M : Type 1} {𝓤 : Ura M} (𝓛 : Logic 𝓤) (C : Calls �
       sets ! (of_opd ! (get ! refl)) refl (tt, tt) $ first ! $ blocks ! $
       sets_last ! (of_opd ! (load ! (through ! refl (stop !)) (look ! 0 refl))) refl t $
       exec ! C Λ En (after 4 (fn' E).body) (at_ret En Post) $
-      sets ! (of_opd ! (get ! refl)) refl t $ sets ! (of_opd ! (get ! refl)) refl t $ sets ! (of_opd ! (get ! refl)) refl fa $
+      sets ! (of_opd ! (get ! refl)) refl t $ sets ! (of_opd ! (get ! refl)) refl t $
+      sets ! (of_opd ! (get ! refl)) refl fa $
       sets ! (agg ! (and_then ! (get ! refl) (and_then ! (get ! refl) (no_more !)))) refl made $
       sets ! (agg ! (and_then ! (get ! refl) (and_then ! (get ! refl) (no_more !)))) refl
       (pair_Typed (τ E) (empty_ty E) v u t made) $
       returns ! (look_at ! 0 refl) $ free_all ! refl $
       use1 𝓛 (‵ (froom (τ E) b o)) (𝓛.laws.at_room (τ E) b o v) $ as_raw ! (τ E) b o $
       move ! (0 ∷ 2 ∷ 3 ∷ []) $ empty_in E ! a b o $ move ! (1 ∷ []) $
-      use2 𝓛 (‵ ((Tuple (R E ∷ Empty E ∷ [])).own_val (x, room) (pair_val v u ∷ []))) (pair_of 𝓛 (R E) (Empty E) x room v u) $
-      suffices ! _ (ends_at 𝓛 (ended E) (stayed E) (spec E 𝓤) bound (pair_val v u) (x, room) ((tt, (tt, tt)), tt) (tt, tt)) $
+      use2 𝓛 (‵ ((Tuple (R E ∷ Empty E ∷ [])).own_val (x, room) (pair_val v u
+      ∷ []))) (pair_of 𝓛 (R E) (Empty E) x room v u) $
+      suffices ! _ (ends_at 𝓛 (ended E) (stayed E) (spec E 𝓤) bound (pair_val v u) (x, room) ((tt, (tt, tt)), tt)
+      (tt, tt)) $
       says ! refl $ nothing ! $ nothing ! $ fjoin ! $ join ! $ nothing ! $ join ! $ done !)))
 
   entry : ent 𝓤 (on_entry 𝓛 (ended E).signature tt tt (d, tt) (vs, tt)) (WpFn 𝓤 H C Λ (fn' E) (vs ++ []) Post)
   entry =
       qed 𝓛 ((‵ ftrue ⊛ ‵ (owns (Full E ∷ []) (d, tt) (vs, tt))) ∷ []) ∵
       split ! $ drop ! $ fsplit ! $ full_out E ! d vs (λ b o hv e is fa. keep ! (0 ∷ 1 ∷ 2 ∷ []) $
-      by ! (subst (λ (ws : List Val). ent 𝓤 (Had b o hv) (WpFn 𝓤 H C Λ (fn' E) (ws ++ []) Post)) (sym is) (walk b o hv fa)))
+      by ! (subst (λ (ws : List Val). ent 𝓤 (Had b o hv) (WpFn 𝓤 H C Λ (fn' E) (ws ++ []) Post)) (sym is)
+      (walk b o hv fa)))
 
 meets : (E : Bx) {M : Type 1} {𝓤 : Ura M} (𝓛 : Logic 𝓤) (𝓣 : Tables 𝓤 𝓛.H)
     → Meets 𝓛 (ended E).signature (WpFn 𝓤 𝓛.H 𝓣.C 𝓣.Λ (fn' E)) (closing 𝓛 (ended E) (spec E 𝓤))
