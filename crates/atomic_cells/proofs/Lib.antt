@@ -1,4 +1,3 @@
-pub mod Joined
 pub mod Kept
 pub mod Members
 pub mod Taken

@@ -41,7 +41,7 @@ use Rattle.control_block.proofs.Bags.{alone_there, map_without, seen_as, shown, 
 use Rattle.control_block.proofs.CellRounds.{came_holding, came_object, no_block}
 use Rattle.control_block.proofs.CellTrades.{Trades, slot_low}
 use Rattle.control_block.proofs.DeskBags.{holding_in}
-use Rattle.control_block.proofs.DeskSteps.{word_inside}
+use Rattle.control_block.proofs.DeskSteps.{holds_some, word_inside}
 use Rattle.control_block.proofs.Parts.{part_without_mine}
 
 abbrev pub one : Option Block → ℕ
@@ -125,6 +125,11 @@ module _ {V : Type 0} where
   fits d k p None h has =
       let v = d.seat.me.0 in let n = length-map (bag (known v) v.view.name) (seen_as (known v)) in omega (arith, n, has)
   fits d k p (Some b) h has = omega (arith, h.holding)
+
+  -- who has a handle, an empty one too, holds at least one
+  pub lost_some : (d : Inside V) (k : Kind) (p : Option Place) (b : Option Block) → IsDesk d → Holds (desk_now d) k b p → 0 < d.held
+  lost_some d k p None h has = omega arith
+  lost_some d k p (Some b) h has = holds_some d k _ p b.0 h (holding_in d (desk_now d) k p b.0 h refl has)
 
   -- the bag after an event that takes a handle in and hands one out
   module _ (d : Inside V) (h : IsDesk d) (e : Event V) (between : List (Rattle.control_word.specs.declared.event.Entry.Entry V))

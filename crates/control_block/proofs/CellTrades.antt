@@ -50,19 +50,25 @@ module _ {V : Type 0} where
       subst (λ y. Has (held n (handle h.kind y h.place)) (gets n (handle h.kind y h.place) s).hands) (sym is) (inl refl) in
       subst (λ (u : Sight V). Has (held n h) (known u).hands) (sym a.now) (subst (Has (held n h)) (sym (trades t n h)) got)
 
-  -- so its block is the table's
-  pub came_inside : (v w : Sight V) (p : Pending V) (e : Handle → Event V) (lost h : Handle) (k : Kind) (o : ℕ) (b : Block) (id : TableId)
-      → Trades e lost → Added v p None (e h) w → h.kind ≡ k → h.object ≡ Some o → ((known w).object o).block ≡ b.0 → IsSized id v.shape
-      → (0 < b.0) × (spot b.0 (slot k) < id.words)
-  came_inside v w p e lost h k o b id trades a kind is there sized =
+  -- so its block is one of the shape
+  pub came_in_shape : (v w : Sight V) (p : Pending V) (e : Handle → Event V) (lost h : Handle) (k : Kind) (o : ℕ) (b : Block)
+      → Trades e lost → Added v p None (e h) w → h.kind ≡ k → h.object ≡ Some o → ((known w).object o).block ≡ b.0 → InShape (opening_of v.shape) b.0
+  came_in_shape v w p e lost h k o b trades a kind is there =
       let has = in_bag v w p e lost h o trades a is in
       let shape : w.shape ≡ v.shape = ap (λ (u : Sight V). u.shape) a.now in
       let legal = subst (λ y. IsLegal (opening_of y) w.view.seen) (sym shape) a.legal in
       let has' = subst (λ y. Has (held v.view.name (handle k y h.place)) (known w).hands) is
       (subst (λ y. Has (held v.view.name (handle y h.object h.place)) (known w).hands) kind has) in
       let n = names_an_object (opening_of w.shape) w.view.seen legal v.view.name k (handle k (Some o) h.place) (has', refl, refl) in
-      let inside = subst (InShape (opening_of w.shape)) there n.3 in let l0 = inside.0 in let l1 = inside.1 in
-      let blocks : w.shape.blocks ≡ v.shape.blocks = ap (λ y. y.blocks) shape in let low = slot_low k in let words = sized.words in (omega arith, omega arith)
+      subst (λ y. InShape (opening_of y) b.0) shape (subst (InShape (opening_of w.shape)) there n.3)
+
+  -- and the table's
+  pub came_inside : (v w : Sight V) (p : Pending V) (e : Handle → Event V) (lost h : Handle) (k : Kind) (o : ℕ) (b : Block) (id : TableId)
+      → Trades e lost → Added v p None (e h) w → h.kind ≡ k → h.object ≡ Some o → ((known w).object o).block ≡ b.0 → IsSized id v.shape
+      → (0 < b.0) × (spot b.0 (slot k) < id.words)
+  came_inside v w p e lost h k o b id trades a kind is there sized =
+      let inside = came_in_shape v w p e lost h k o b trades a kind is there in let l0 = inside.0 in let l1 = inside.1 in
+      let low = slot_low k in let words = sized.words in (omega arith, omega arith)
 
   -- an event by which the desk loses no handle leaves it those that it has, in their blocks
   still_holding : (v w : Sight V) (e : Event V) (k : Kind) (o : ℕ) (p : Option Place) (b : ℕ)

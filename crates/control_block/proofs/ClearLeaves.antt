@@ -1,5 +1,5 @@
--- What a desk has when an owner that came out of a member has left.
-use Rattle.std.proofs.Common.{◌≡◌, ℕ, ◌+◌, ◌<◌, cond, [], ◌∷◌, List, length, Option, Some, None, refl, ap, subst, ◌∙◌, arith}
+-- What a desk has when an owner that came out of a cell has left.
+use Rattle.std.proofs.Common.{◌≡◌, ℕ, ◌+◌, ◌≤◌, min, cond, [], ◌∷◌, List, length, Option, Some, None, refl, ap, subst, ◌∙◌, arith}
 use Rattle.std.specs.Prelude.{IfSome, is_some}
 use Rattle.std.proofs.lemmas.Bool.{cond-true}
 use mir.Val.{bool_byte}
@@ -54,9 +54,9 @@ module _ {V : Type 0} (t f : Inside V) (g : IsDeskWith 1 t) (c : Block) (p : Opt
   ev = Leave x (is_some r)
 
   pub desk_left : f.seat.me.1 ≡ [] → f.store ≡ t.store → f.allowance ≡ t.allowance → (n : ℕ) → n ≡ bool_byte (is_some r) → f.endings ≡ t.endings + n
-      → f.held + 1 ≡ t.held → 0 < t.endings → IsDesk f
-  desk_left none store allowance n byte endings held some' =
-      let s = came w u Idle None ev a in let size = one_fewer w u ev s x s.asks.0.0 refl in let b = g.holding in let l = g.within in
+      → f.held + 1 ≡ t.held → f.held + min 1 f.endings ≤ f.allowance → IsDesk f
+  desk_left none store allowance n byte endings held within =
+      let s = came w u Idle None ev a in let size = one_fewer w u ev s x s.asks.0.0 refl in let b = g.holding in
       quiet_desk t f ev g a table none (λ y i. refl) (λ y i. refl) store allowance (omega arith) (omega arith) (endings ∙ grown t u x (is_some r) n g a byte)
 
   pub adds_left : Adds (desk_now t) (Leave (on_latest (desk_now t) Owner p c.0) (is_some r)) (desk_now f)

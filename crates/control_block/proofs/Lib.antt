@@ -4,6 +4,12 @@ pub mod Opening
 pub mod ClearDesks
 pub mod ClearLeaves
 pub mod ClearWeakLeaves
+pub mod GoneDesks
+pub mod GoneWeakDesks
+pub mod ClearGone
+pub mod ClearGoneWeakly
+pub mod StoreGone
+pub mod StoreGoneWeakly
 pub mod Closing
 pub mod EndingCounts
 pub mod EndingNames
@@ -13,6 +19,7 @@ pub mod Unseen
 pub mod CellRounds
 pub mod CellSites
 pub mod CellTrades
+pub mod LetGo
 pub mod Still
 pub mod CellWords
 pub mod Hands
@@ -44,3 +51,7 @@ pub mod WeakGifts
 pub mod Near
 pub mod DeskStores
 pub mod kept
+pub mod Own
+pub mod Sole
+pub mod Latest
+pub mod HandleLists

@@ -13,7 +13,7 @@ use Rattle.control_word.specs.State.{Has, without}
 use Rattle.control_word.specs.declared.handle.Handle.{Handle}
 use Rattle.control_block.specs.Parting.{AreIn}
 
-counted : (hs l : List Handle) → AreIn hs l → (h : Handle) → num (same_handle h) hs ≤ num (same_handle h) l
+pub counted : (hs l : List Handle) → AreIn hs l → (h : Handle) → num (same_handle h) hs ≤ num (same_handle h) l
 counted [] l all h = omega arith
 counted (x ∷ hs) l all h =
     let t = counted hs (without same_handle x l) all.1 h in let a = num_cons (same_handle h) x hs in
@@ -25,7 +25,7 @@ found x (y ∷ l) lt =
     cond_both (same_handle x y) (y ∷ filter (same_handle x) l) (filter (same_handle x) l) (λ r. 0 < length r → Has x (y ∷ l))
     (λ e q. inl (same_handle_true x y e)) (λ e q. inr (found x l q)) lt
 
-are_in : (hs l : List Handle) → ((h : Handle) → num (same_handle h) hs ≤ num (same_handle h) l) → AreIn hs l
+pub are_in : (hs l : List Handle) → ((h : Handle) → num (same_handle h) hs ≤ num (same_handle h) l) → AreIn hs l
 are_in [] l le = tt
 are_in (x ∷ hs) l le =
     let one : num (same_handle x) (x ∷ hs) ≡ Rattle.std.proofs.Common.suc (num (same_handle x) hs) =

@@ -11,6 +11,7 @@ pub mod Door
 pub mod Swap
 pub mod CompareSwap
 pub mod WeakShare
+pub mod MayLeave
 pub mod WeakLeave
 pub mod Look
 pub mod Leave

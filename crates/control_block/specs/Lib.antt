@@ -14,3 +14,9 @@ pub mod Handles
 pub mod Inside
 pub mod Census
 pub mod Parting
+pub mod Leaving
+pub mod Storing
+pub mod Standing
+pub mod Own
+pub mod Laws
+pub mod HandleLists

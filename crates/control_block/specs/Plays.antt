@@ -97,8 +97,9 @@ module _ {V : Type 0} where
   abbrev pub weakly_shared : ℕ → Option Place → Step (Option V) → At V → ℕ → At V → Type 0
   weakly_shared o q st m n m' = tells (WeakShare o q) m.0 m'.0 × (m'.1 ≡ m.1)
 
+  -- the weak handle left; its block is vacant where the word was all that was taken from it
   abbrev pub weakly_left : ℕ → Option Place → Step (Option V) → At V → ℕ → At V → Type 0
-  weakly_left o p st m n m' = tells (WeakLeave (weak_of o p) (n == 1)) m.0 m'.0 × (m'.1 ≡ m.1)
+  weakly_left o p st m n m' = tells (WeakLeave (weak_of o p) (n == st.first)) m.0 m'.0 × (m'.1 ≡ m.1)
 
   -- a desk that has the whole allowance is told the count itself
   abbrev pub counted : Kind → ℕ → Option Place → Step (Option V) → At V → ℕ → At V → Type 0
@@ -116,11 +117,12 @@ module _ {V : Type 0} where
   abbrev pub peeked : ℕ → ℕ → Step (Option V) → At V → ℕ → At V → Type 0
   peeked o j st m n m' = (m' ≡ m) × IsTold j ((known m.0).object o) n
 
-  -- the owner left; where it was the last, its object ends here, and the slot with the value is in hand
+  -- the owner left; where it was the last, as the word was all that was taken from it, its object ends here, and the slot with the
+  -- value is in hand
   abbrev pub left : Block → ℕ → Option Place → Step (Option V) → At V → ℕ → At V → Type 0
   left b o p st m n m' =
-      (n ≢ 1 → tells (Leave (owner o p) false) m.0 m'.0 × (m'.1 ≡ m.1))
-      × (n ≡ 1 → Added m.0 Idle (Some b) (Leave (owner o p) true) m'.0
+      (n ≢ st.first → tells (Leave (owner o p) false) m.0 m'.0 × (m'.1 ≡ m.1))
+      × (n ≡ st.first → Added m.0 Idle (Some b) (Leave (owner o p) true) m'.0
       × ((x : V) × (value (opening_of m.0.shape) m'.0.view.seen o ≡ Some x) × (m'.1 ≡ (b.0 - 1, Some x) ∷ m.1)))
 
   -- the empty slot of an object that ends goes home, and the desk has seen no more

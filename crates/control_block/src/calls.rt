@@ -10,6 +10,7 @@ ghost use Rattle.control_word.specs.State.{count, without};
 ghost use Rattle.control_block.specs.Refusals.{IsFullOrLimit};
 ghost use Rattle.control_block.specs.Desks.{Adds, HasHandle, IsCleared, IsEnding, IsNear, IsSameDesk, Keeps, KeepsEndings, KeepsOtherEndings, KeepsStock};
 ghost use Rattle.control_block.specs.Desks.{MayGiveWeak, MayPoint, allowance_of, bag_of, endings_of, held_of, latest_of, object_in, on_latest, state_of, stock_of};
+ghost use Rattle.control_block.specs.Leaving.{freed};
 ghost use Rattle.control_block.specs.Plays.{IsTold};
 
 use crate::desk::Desk;
@@ -180,6 +181,18 @@ pub(crate) fn put_by(store: &mut Vec<Block, Global>, block: Block, vacant: bool)
     if vacant {
         store.push_reserved(block);
     }
+}
+
+/// The same of the block of a handle that came out of a cell, if it has one.
+pub(crate) fn put_by_out(store: &mut Vec<Block, Global>, block: Option<Block>, vacant: bool)
+    requires room { vacant ≡ true → IfSome block (λ _. vec_len store.old < vec_capacity store.old) }
+    ensures items { store.new.items ≡ store.old.items ++ freed block vacant }
+    ensures capacity { vec_capacity store.new ≡ vec_capacity store.old }
+{
+    let Some(block) = block else {
+        return;
+    };
+    put_by(store, block, vacant);
 }
 
 /// A weak handle leaves ([util.smartptr.weak.dest]). It says whether the block is vacant now, and in the desk's store.

@@ -6,7 +6,7 @@ ghost use Rattle.control_word.specs.declared.handle.Handle.{Handle};
 ghost use Rattle.control_word.specs.Events.{InHand};
 ghost use Rattle.control_word.specs.Packing.{IsCellWord};
 ghost use Rattle.control_word.specs.declared.event.Event.TheVariants.{Compare, Load, Swap};
-ghost use Rattle.control_block.specs.CellPlays.{IsCellAt, IsWordOf, debt, kind_in};
+ghost use Rattle.control_block.specs.CellPlays.{Gave, IsCellAt, IsWordOf, debt, kind_in};
 ghost use Rattle.control_block.specs.CellRounds.{CameOut, IsCounted};
 ghost use Rattle.control_block.specs.FundPlays.{Owes};
 ghost use Rattle.control_block.specs.Inside.{IsSized};
@@ -200,7 +200,32 @@ pub(crate) fn settle<V>(
 }
 
 /// Swap: a handle that the desk holds goes into a cell, and what the cell held comes out
-/// ([util.smartptr.atomic.shared], [util.smartptr.atomic.weak]).
+/// ([util.smartptr.atomic.shared], [util.smartptr.atomic.weak]). Its funds that were not taken are to be given back.
+pub(crate) fn swap_in<V, A: Aimed>(
+    board: &Board<V>,
+    chair: &mut Chair<V>,
+    word: usize,
+    kind: Kind,
+    new: CellWord,
+) -> CellWord
+    requires board { chair.old.table_id ≡ board.now.table_id }
+    requires rests { Rests chair.old.me }
+    requires word { word < board.now.table_id.words }
+    requires cell { IsCellAt chair.old.me.0 A.cell word × (kind ≡ kind_in chair.old.me.0.shape A.cell) }
+    requires new { IsCellWord new × (new.taken ≡ 0) × IsWordOf chair.old.me.0 A.new new }
+    requires hand { InHand (known chair.old.me.0) chair.old.me.0.view.name kind A.new }
+    requires holds { IfSome new.owned (λ b. Holding chair.old.me.0 A.new.kind (object_of A.new) A.new.place b.0) }
+    requires count { IfSome new.owned (λ b. IsCounted kind b board.now.table_id) }
+    requires room { A.new.object ≡ None → HasRoomFor chair.old.me.0 }
+    ensures chair { (chair.new.table_id ≡ chair.old.table_id) × (chair.new.id ≡ chair.old.id) × (chair.new.me.1 ≡ []) }
+    ensures cell { IsCellWord result }
+    ensures gave { Gave (λ h. Swap A.cell A.new h) kind chair.old.me.0 result chair.new.me.0 }
+{
+    bring_for::<V, A>(board, chair, kind, new.owned);
+    cells::swap::<V, A>(board, chair, word, new)
+}
+
+/// Swap, and what came out is in hand: its funds that were not taken are given back.
 #[inline]
 pub fn swap<V, A: Aimed>(
     board: &Board<V>,
@@ -222,8 +247,7 @@ pub fn swap<V, A: Aimed>(
     ensures cell { IsCellWord result }
     ensures swapped { CameOut (λ h. Swap A.cell A.new h) kind chair.old.me.0 result chair.new.me.0 }
 {
-    bring_for::<V, A>(board, chair, kind, new.owned);
-    let old = cells::swap::<V, A>(board, chair, word, new);
+    let old = swap_in::<V, A>(board, chair, word, kind, new);
     let left = CELL_FUNDS - u32::from(old.taken);
     settle(board, chair, kind, old.owned, left);
     old

@@ -4,12 +4,11 @@ ghost use Rattle.std.specs.Prelude.{◌≡◌, ◌≢◌, ℕ, ◌+◌, ◌<◌,
 ghost use Rattle.control_block.specs.Clearing.{Empties, EmptiesWeakly};
 ghost use Rattle.control_block.specs.Desks.{IsCleared, IsEnding, IsSameDesk, KeepsOtherEndings, bag_of, endings_of, member_in, stock_of};
 
-use crate::calls::put_by;
+use crate::calls::put_by_out;
 use crate::cell_calls::Content;
 use crate::clears;
 use crate::desk::Desk;
 use crate::domain::Domain;
-use crate::handles::Pointer;
 use control_word::Block;
 use control_word::handle::Kind;
 use std::marker::Brand;
@@ -38,23 +37,13 @@ pub fn clear_shared<V: Drop + Send>(
     ensures count { endings_of desk.new ≡ endings_of desk.old + cond (is_some result.1) 1 0 }
 {
     let board = &domain.table.shared;
-    let seat = &mut desk.seat;
-    let out = clears::clear::<V, Brand>(board, seat, block, member, Kind::Owner);
+    let (out, value) = clears::clear_shared::<V, Brand>(board, &mut desk.seat, block, member);
+    desk.endings += u32::from(value.is_some());
     let content = Content {
         kind: Kind::Owner,
         block: out.owned,
         place: out.place,
     };
-    let Some(held) = out.owned else {
-        return (content, None);
-    };
-    let of = Pointer {
-        kind: Kind::Owner,
-        block: held,
-        place: out.place,
-    };
-    let value = clears::leave_out::<V, Brand>(board, seat, of);
-    desk.endings += u32::from(value.is_some());
     (content, value)
 }
 
@@ -79,22 +68,12 @@ pub fn clear_weak<V: Drop + Send>(
     ensures count { endings_of desk.new ≡ endings_of desk.old }
 {
     let board = &domain.table.shared;
-    let seat = &mut desk.seat;
-    let out = clears::clear::<V, Brand>(board, seat, block, 2, Kind::Weak);
+    let (out, vacant) = clears::clear_weak::<V, Brand>(board, &mut desk.seat, block, 2);
+    put_by_out(&mut desk.store, out.owned, vacant);
     let content = Content {
         kind: Kind::Weak,
         block: out.owned,
         place: out.place,
     };
-    let Some(held) = out.owned else {
-        return (content, false);
-    };
-    let of = Pointer {
-        kind: Kind::Weak,
-        block: held,
-        place: out.place,
-    };
-    let vacant = clears::leave_weak_out::<V, Brand>(board, seat, of);
-    put_by(&mut desk.store, held, vacant);
     (content, vacant)
 }

@@ -1,6 +1,7 @@
 //! A desk: one thread's part of a domain.
 ghost use Rattle.std.specs.Prelude.{◌≡◌, ◌↔◌, ℕ, length, IsTrue};
 ghost use Rattle.control_block.specs.Desks.{allowance_of, held_of, stock_of};
+ghost use Rattle.control_block.specs.Standing.{Standing};
 
 use crate::board::Chair;
 use crate::domain::Domain;
@@ -59,6 +60,26 @@ impl<V: Drop + Send> Desk<V> {
         ensures { IsTrue result ↔ (held_of self.now ≡ allowance_of self.now) }
     {
         self.held() == self.allowance
+    }
+
+    /// What is true of every desk (own): for the proof of a caller that needs it.
+    pub fn stands(&self)
+        ensures { Standing self.now }
+    {
+        let _held = self.held;
+    }
+
+    /// Gives the desk up (own): its part of the domain isn't used again, and no desk is sole after that.
+    pub fn give_up(self) {
+        let Self {
+            seat,
+            allowance: _,
+            held: _,
+            endings: _,
+            store,
+        } = self;
+        drop(seat);
+        drop(store);
     }
 
     /// Whether it has the whole allowance: then every other desk is joined, and it has seen all (own).

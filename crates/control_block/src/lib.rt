@@ -2,8 +2,6 @@
 #![tactic(auto)]
 
 mod board;
-#[cfg(test)]
-mod call_tests;
 pub mod calls;
 pub mod cell_calls;
 pub mod cell_compare_calls;
@@ -23,6 +21,8 @@ mod fund_plays;
 mod funds;
 pub mod handles;
 mod join;
+pub mod laws;
+mod leaving;
 pub mod lock_calls;
 mod lock_plays;
 mod locks;
@@ -30,12 +30,8 @@ mod pause;
 mod plays;
 mod shared_parts;
 mod split;
-#[cfg(test)]
-mod split_tests;
 mod steps;
-#[cfg(test)]
-mod tests;
-#[cfg(test)]
-mod visit_tests;
+pub mod store_calls;
+mod store_rounds;
 pub mod visits;
 mod weak_parts;

@@ -14,9 +14,10 @@ ghost use Rattle.control_block.specs.Plays.{tells, goes_on, comes_off, known, Ad
 ghost use Rattle.control_block.specs.declared.board.Sight.{Sight};
 
 use crate::board::{Board, Chair};
+use crate::leaving;
 use crate::plays::{
-    Begins, Claims, Counts, Cut, FindsExpired, Finishes, Given, GivesBack, Glue, Joins, Leaves,
-    Meant, Peeks, Planned, Reads, Shares, Splits, WeakLeaves, WeakShares, Writes,
+    Begins, Claims, Counts, Cut, FindsExpired, Finishes, Given, Glue, Joins, Meant, Peeks, Planned,
+    Reads, Shares, Splits, WeakShares, Writes,
 };
 use control_word::counts::told_count;
 use control_word::layout::{ENABLED, FIELDS, FLAGS, NULL, OWNERS, WEAKS, block_word};
@@ -60,7 +61,7 @@ pub fn leave_weak<V, M: Meant>(board: &Board<V>, chair: &mut Chair<V>, block: Bl
     ensures chair { (chair.new.table_id ≡ chair.old.table_id) × (chair.new.id ≡ chair.old.id) × (chair.new.me.1 ≡ chair.old.me.1) }
     ensures event { tells (WeakLeave (weak_of M.object M.place) result) chair.old.me.0 chair.new.me.0 }
 {
-    board.fetch_sub::<WeakLeaves<M>>(chair, block_word(block, WEAKS), 1) == 1
+    leaving::leave_weak::<V, M>(board, chair, block, 0)
 }
 
 /// Look: `use_count` ([util.smartptr.shared.obs]). A desk that has the whole allowance is told the count itself; else
@@ -125,21 +126,13 @@ pub fn leave<V: Drop + Send, M: Meant>(
 ) -> Option<V>
     requires board { chair.old.table_id ≡ board.now.table_id }
     requires rests { Rests chair.old.me }
-    requires word { (0 < block.0) × (block.0 ≤ board.now.key.blocks) × (spot block.0 0 < board.now.table_id.words) }
+    requires word { (0 < block.0) × (block.0 ≤ board.now.table_id.slots) × (spot block.0 0 < board.now.table_id.words) }
     requires holds { (M.block ≡ block) × Holding chair.old.me.0 Owner M.object M.place block.0 }
     ensures chair { (chair.new.table_id ≡ chair.old.table_id) × (chair.new.id ≡ chair.old.id) × (chair.new.me.1 ≡ []) }
     ensures event { tells (Leave (owner M.object M.place) (is_some result)) chair.old.me.0 chair.new.me.0 }
     ensures value { IfSome result (λ x. value (opening_of chair.old.me.0.shape) chair.new.me.0.view.seen M.object ≡ Some x) }
 {
-    let word = block_word(block, OWNERS);
-    if board.fetch_sub::<Leaves<M>>(chair, word, 1) != 1 {
-        return None;
-    }
-    let Some(value) = board.exchange(chair, usize::from(block.0) - 1, None) else {
-        unreachable!()
-    };
-    board.load::<GivesBack>(chair, word);
-    Some(value)
+    leaving::leave::<V, M>(board, chair, block, 0)
 }
 
 /// The first write of a make: the weak word of an own vacant block becomes 1, and its empty slot is in hand.

@@ -21,3 +21,6 @@ pub mod Orders
 pub mod Others
 pub mod Names
 pub mod Values
+pub mod Sole
+pub mod Endings
+pub mod Blocks

@@ -8,6 +8,7 @@ pub mod WeakShare
 pub mod WeakLeave
 pub mod Bring
 pub mod GiveBack
+pub mod LeaveWithFunds
 pub mod Turn
 pub mod Take
 pub mod Refill

@@ -6,6 +6,7 @@ pub mod Changes
 pub mod Rooms
 pub mod Body
 pub mod Payments
+pub mod Debts
 pub mod Members
 pub mod CellWords
 pub mod Decoding

@@ -1,5 +1,6 @@
 -- What each event asks of the state, and what it makes of it.
-use Rattle.std.specs.Prelude.{◌≡◌, ℕ, suc, ◌+◌, ◌-◌, ◌<◌, ◌≤◌, ◌≢◌, Bool, true, false, cond, ◌&&◌, not, ◌==◌, ◌⊎◌, List, ◌∷◌, map, length, slice_index}
+use Rattle.std.specs.Prelude.{◌≡◌, ℕ, suc, ◌+◌, ◌-◌, ◌<◌, ◌≤◌, ◌≢◌, Bool, true, false, cond, ◌&&◌, not, ◌==◌, ◌⊎◌}
+use Rattle.std.specs.Prelude.{List, ◌∷◌, map, length, slice_index}
 use Rattle.std.specs.Prelude.{Option, Some, None}
 use Rattle.control_word.specs.declared.handle.Handle.{Handle}
 use Rattle.control_word.specs.declared.place.Place.{Place}
@@ -7,13 +8,16 @@ use Rattle.control_word.specs.declared.place.Block.{Block}
 use Rattle.control_word.specs.declared.handle.Kind.{Kind}
 use Rattle.control_word.specs.declared.handle.Kind.TheVariants.{Owner, Weak}
 use Rattle.control_word.specs.declared.event.Event.{Event}
-use Rattle.control_word.specs.declared.event.Event.TheVariants.{Make, Share, Leave, Count, Expired, Read, WeakShare, WeakLeave, Lock, Load, Swap}
+use Rattle.control_word.specs.declared.event.Event.TheVariants.{Make, Share, Leave, Count, Expired, Read, WeakShare}
+use Rattle.control_word.specs.declared.event.Event.TheVariants.{WeakLeave, Lock, Load, Swap}
 use Rattle.control_word.specs.declared.event.Event.TheVariants.{Compare, ClearMember, Finish, Visit, Split, Join}
 use Rattle.control_word.specs.declared.event.Cell.{Cell}
 use Rattle.control_word.specs.declared.event.Cell.TheVariants.{Free, Member}
 use Rattle.control_word.specs.Handles.{handle, empty, object_of, has_object, equivalent, IsPointer, IsFormed}
-use Rattle.control_word.specs.State.{put, Phase, unmade, live, ending, gone, Object, Held, Stored, State, held, stored, kind_of_free, kind_of_member}
+use Rattle.control_word.specs.State.{put, Phase, unmade, live, ending, gone, Object, Held, Stored, State, held, stored}
+use Rattle.control_word.specs.State.{kind_of_free, kind_of_member}
 use Rattle.control_word.specs.State.{passed, HasAll, count, weak, Has, without, same_held, same_stored, IsActing}
+use Rattle.control_word.specs.State.{HasWhole}
 
 abbrev pub is_gone : Phase → Bool
 is_gone unmade = false
@@ -58,20 +62,25 @@ module _ {V : Type 0} where
   Asks s d (Share h p) = Holds s d Owner h × IsPointer p
   -- ending an owner: the last one's leave is `last` ([util.smartptr.shared.dest])
   Asks s d (Leave h last) = Holds s d Owner h × (last ≡ (count s (object_of h) == 1))
-  -- use_count ([util.smartptr.shared.obs], [util.smartptr.weak.obs]); 0 exactly where there is no owner
-  Asks s d (Count h n) = Holds s d h.kind h × ((n == 0) ≡ (count s (object_of h) == 0)) × (n ≤ count s (object_of h))
+  -- use_count ([util.smartptr.shared.obs], [util.smartptr.weak.obs]): 0 exactly where there is no owner, never more
+  -- than there are, and just as many to a desk that has the whole allowance; other desks' loads may be under way
+  Asks s d (Count h n) =
+      let owners = count s (object_of h) in
+      Holds s d h.kind h × ((n == 0) ≡ (owners == 0)) × (n ≤ owners) × (HasWhole s d → n ≡ owners)
   -- expired ([util.smartptr.weak.obs])
   Asks s d (Expired h expired) = Holds s d h.kind h × (expired ≡ (count s (object_of h) == 0))
   -- a field of the owned object at the handle's place (own)
   Asks s d (Read h field) =
       Holds s d Owner h
-      × ((p : Place) × (h.place ≡ Some p) × (p.block.0 ≡ (s.object (object_of h)).block) × (field ≡ slice_index (s.object (object_of h)).fields p.field))
+      × ((p : Place) × (h.place ≡ Some p) × (p.block.0 ≡ (s.object (object_of h)).block)
+      × (field ≡ slice_index (s.object (object_of h)).fields p.field))
   -- a weak handle from a handle of the object, with its place or the object's own, or from-this in an ending object
   Asks s d (WeakShare o p) =
       ((h : Handle) × Holds s d h.kind h × (h.object ≡ Some o) × ((p ≡ h.place) ⊎ (p ≡ place_at (s.object o).block)))
       ⊎ (((s.object o).phase ≡ ending d) × ((s.object o).enabled ≡ true) × (p ≡ place_at (s.object o).block))
   -- ending a weak handle ([util.smartptr.weak.dest]); `vacant` where the block is free again (own)
-  Asks s d (WeakLeave h vacant) = Holds s d Weak h × (vacant ≡ (weak s (object_of h) == 1 && is_gone (s.object (object_of h)).phase))
+  Asks s d (WeakLeave h vacant) =
+      Holds s d Weak h × (vacant ≡ (weak s (object_of h) == 1 && is_gone (s.object (object_of h)).phase))
   -- lock, which is one atomic operation ([util.smartptr.weak.obs])
   Asks s d (Lock h got) = Holds s d Weak h × (got ≡ not (count s (object_of h) == 0))
   -- load, store or exchange, and compare_exchange ([util.smartptr.atomic.shared], [util.smartptr.atomic.weak])
@@ -84,13 +93,15 @@ module _ {V : Type 0} where
   Asks s d (ClearMember o m h) = ((s.object o).phase ≡ ending d) × (m < 3) × (h ≡ (s.object o).member m)
   -- the object is gone and its value comes out; `vacant` where no weak handle is left (own)
   Asks s d (Finish o vacant value) =
-      ((s.object o).phase ≡ ending d) × ((m : ℕ) → m < 3 → (s.object o).member m ≡ empty (kind_of_member m)) × (vacant ≡ (weak s o == 0))
+      ((s.object o).phase ≡ ending d) × ((m : ℕ) → m < 3 → (s.object o).member m ≡ empty (kind_of_member m))
+      × (vacant ≡ (weak s o == 0))
   -- work on the value through an owner (own)
   Asks s d (Visit h was becomes) = Holds s d Owner h
   -- a new desk gets an allowance, handles and blocks; each of the two keeps an allowance (own)
   Asks s d (Split to n hs bs) =
       (to ≡ s.names) × (0 < n) × (n < s.allowance d) × (length hs ≤ n)
-      × HasAll same_held (λ (h : Handle). held d h) hs s.hands × HasAll same_stored (λ (b : Block). stored d b.0) bs s.stores
+      × HasAll same_held (λ (h : Handle). held d h) hs s.hands
+      × HasAll same_stored (λ (b : Block). stored d b.0) bs s.stores
   Asks s d (Join other) = (other ≢ d) × IsActing s other
 
 -- d gets the handle, if it has an object
@@ -131,14 +142,18 @@ vacates v d b s = record s { stores = cond v (stored d b ∷ s.stores) s.stores 
 abbrev pub leaves : ℕ → Handle → Bool → State → State
 leaves d h last s =
     let x = s.object (object_of h) in
-    record s { hands = without same_held (held d h) s.hands; object = put s.object (object_of h) (cond last (moved_to (ending d) x) x) }
+    record s {
+      hands = without same_held (held d h) s.hands;
+      object = put s.object (object_of h) (cond last (moved_to (ending d) x) x);
+    }
 
 abbrev pub weak_leaves : ℕ → Handle → Bool → State → State
 weak_leaves d h vacant s = vacates vacant d (s.object (object_of h)).block (loses d h s)
 
 -- the member is empty, and d gets what it held
 abbrev pub clears : ℕ → ℕ → ℕ → Handle → State → State
-clears d o m h s = let x = s.object o in gets d h (changes o (record x { member = put x.member m (empty (kind_of_member m)) }) s)
+clears d o m h s =
+    let x = s.object o in gets d h (changes o (record x { member = put x.member m (empty (kind_of_member m)) }) s)
 
 abbrev pub finishes : ℕ → ℕ → Bool → State → State
 finishes d o vacant s = let x = s.object o in vacates vacant d x.block (changes o (moved_to gone x) s)
@@ -166,7 +181,14 @@ joins_up d other s =
 
 abbrev pub new_object : ℕ → Bool → Bool → List ℕ → Object
 new_object b enabled null fields =
-    record { block = b; fields = fields; enabled = enabled; null = null; phase = live; member = λ m. empty (kind_of_member m) }
+    record {
+      block = b;
+      fields = fields;
+      enabled = enabled;
+      null = null;
+      phase = live;
+      member = λ m. empty (kind_of_member m);
+    }
 
 module _ {V : Type 0} where
   -- what desk d's event makes of the state

@@ -1,5 +1,5 @@
 -- What holds of every legal history, each said by itself.
-use Rattle.std.specs.Prelude.{◌≡◌, ◌≢◌, ℕ, ◌+◌, ◌<◌, ◌≤◌, ◌↔◌, ◌⊎◌, ◌++◌, true, false, List, length, ◌==◌}
+use Rattle.std.specs.Prelude.{◌≡◌, ◌≢◌, ℕ, suc, ◌+◌, ◌<◌, ◌≤◌, ◌↔◌, ◌⊎◌, ◌++◌, true, false, List, [], length, ◌==◌}
 use Rattle.std.specs.List.{filter}
 use mathlib.Core.Option.{some}
 use lib.ListN.{get_elem?}
@@ -9,16 +9,18 @@ use Rattle.control_word.specs.declared.event.Cell.{Cell}
 use Rattle.control_word.specs.declared.event.Cell.TheVariants.{Free, Member}
 use Rattle.control_word.specs.declared.handle.Handle.{Handle}
 use Rattle.control_word.specs.declared.handle.Kind.{Kind}
-use Rattle.control_word.specs.declared.handle.Kind.TheVariants.{Weak}
+use Rattle.control_word.specs.declared.handle.Kind.TheVariants.{Owner, Weak}
 use Rattle.control_word.specs.declared.view.View.{View}
 use Rattle.control_word.specs.Handles.{object_of, equivalent, owner_before, IsFormed}
 use Rattle.control_word.specs.Layout.{spot}
-use Rattle.control_word.specs.State.{sum_below, Opening, State, Stored, live, count, weak, weak_number, common, Has, held, bag_size, IsVacant, InShape}
+use Rattle.control_word.specs.State.{sum_below, Opening, State, Stored, live, ending, count, weak, weak_number, common}
+use Rattle.control_word.specs.State.{Has, held, bag_size}
+use Rattle.control_word.specs.State.{IsActing, IsVacant, InShape}
 use Rattle.control_word.specs.Events.{Holds, InHand, cell_of, kind_of}
 use Rattle.control_word.specs.Histories.{leads, IsLegal, given}
-use Rattle.control_word.specs.Packing.{number_of}
-use Rattle.control_word.specs.Words.{blocks_of}
-use Rattle.control_word.specs.Views.{Stands, IsAtRest}
+use Rattle.control_word.specs.Packing.{number_of, told}
+use Rattle.control_word.specs.Words.{blocks_of, counts_at}
+use Rattle.control_word.specs.Views.{NoneBy, Stands, IsAtRest, owed}
 
 -- how often a block is in stores
 abbrev pub how_often : ℕ → List Stored → ℕ
@@ -29,6 +31,10 @@ abbrev pub IsCell : State → Cell → Type 0
 IsCell s (Free c) = c < s.cells
 IsCell s (Member o m) = m < 3
 
+-- the desk has a handle of the object, or the object ends in its hands
+abbrev pub IsInHands : State → ℕ → ℕ → Type 0
+IsInHands s d o = ((k : Kind) × (x : Handle) × Holds s d k x × (object_of x ≡ o)) ⊎ ((s.object o).phase ≡ ending d)
+
 module _ (V : Type 0) where
   -- the value of an object comes out at most once, and has come out exactly when the object is no longer live
   abbrev pub GivesOnce : Type 0
@@ -38,14 +44,52 @@ module _ (V : Type 0) where
 
   -- an object is live exactly while it has an owner
   abbrev pub LiveWhileOwned : Type 0
-  LiveWhileOwned = (z : Opening) (h : List (Entry V)) → IsLegal z h → (o : ℕ) → ((leads z h).object o).phase ≡ live ↔ (0 < count (leads z h) o)
+  LiveWhileOwned =
+      (z : Opening) (h : List (Entry V)) → IsLegal z h
+      → (o : ℕ) → ((leads z h).object o).phase ≡ live ↔ (0 < count (leads z h) o)
 
-  -- a handle that a desk holds names an object that was made, is the latest in its block, and keeps the block from being vacant
+  -- an object that ends was made, is in the hands of a desk that acts, and is the latest in its block
+  abbrev pub EndsInHands : Type 0
+  EndsInHands =
+      (z : Opening) (h : List (Entry V)) → IsLegal z h → (o d : ℕ) → ((leads z h).object o).phase ≡ ending d
+      → let s = leads z h in
+      IsActing s d × (1 ≤ o) × (o ≤ s.made) × (s.latest (s.object o).block ≡ o) × InShape z (s.object o).block
+
+  -- what ends in a desk's hands ends there still, until the desk itself goes on with it
+  abbrev pub EndsStill : Type 0
+  EndsStill =
+      (z : Opening) (later seen : List (Entry V)) → IsLegal z (later ++ seen) → (d : ℕ) → NoneBy d later
+      → (o : ℕ) → ((leads z seen).object o).phase ≡ ending d → ((leads z (later ++ seen)).object o).phase ≡ ending d
+
+  -- an object that was made stays in its block, with the fields and the flags that it was made with
+  abbrev pub StaysAsMade : Type 0
+  StaysAsMade =
+      (z : Opening) (later seen : List (Entry V)) (o : ℕ) → o ≤ (leads z seen).made
+      → let x = (leads z seen).object o in let y = (leads z (later ++ seen)).object o in
+      (y.block ≡ x.block) × (y.fields ≡ x.fields) × (y.enabled ≡ x.enabled) × (y.null ≡ x.null)
+
+  -- live objects and ending ones are no more than there are blocks
+  abbrev pub FewAtOnce : Type 0
+  FewAtOnce =
+      (z : Opening) (h : List (Entry V)) → IsLegal z h
+      → let s = leads z h in sum_below (suc s.made) (λ o. common (s.object o).phase) ≤ z.blocks
+
+  -- a handle that a desk holds names an object that was made, is the latest in its block, and keeps the block from
+  -- being vacant
   abbrev pub NamesAnObject : Type 0
   NamesAnObject =
       (z : Opening) (h : List (Entry V)) → IsLegal z h → (d : ℕ) (k : Kind) (x : Handle) → Holds (leads z h) d k x
       → let s = leads z h in let o = object_of x in
-      (1 ≤ o) × (o ≤ s.made) × (s.latest (s.object o).block ≡ o) × InShape z (s.object o).block × (IsVacant s (s.object o).block → ⊥)
+      (1 ≤ o) × (o ≤ s.made) × (s.latest (s.object o).block ≡ o) × InShape z (s.object o).block
+      × (IsVacant s (s.object o).block → ⊥)
+
+  -- the object that was last made in a block is so still while a desk has a handle of it, or has its ending in hand
+  abbrev pub StaysTheLatest : Type 0
+  StaysTheLatest =
+      (z : Opening) (later seen : List (Entry V)) → IsLegal z (later ++ seen) → (d : ℕ) → NoneBy d later
+      → (o : ℕ) → IsInHands (leads z seen) d o
+      → let b = ((leads z seen).object o).block in
+      ((leads z seen).latest b ≡ o) × ((leads z (later ++ seen)).latest b ≡ o)
 
   -- a vacant block is in just one store, and no other block is in any
   abbrev pub StoredOnce : Type 0
@@ -79,13 +123,15 @@ module _ (V : Type 0) where
   -- an object that was once seen without an owner, by a desk with a weak handle of it, never has one again
   abbrev pub StaysExpired : Type 0
   StaysExpired =
-      (z : Opening) (later seen : List (Entry V)) → IsLegal z (later ++ seen) → (d : ℕ) (x : Handle) → Holds (leads z seen) d Weak x
+      (z : Opening) (later seen : List (Entry V)) → IsLegal z (later ++ seen)
+      → (d : ℕ) (x : Handle) → Holds (leads z seen) d Weak x
       → count (leads z seen) (object_of x) ≡ 0 → count (leads z (later ++ seen)) (object_of x) ≡ 0
 
   -- two handles that desks have are equivalent in owner order exactly where they share ownership or are both empty
   abbrev pub OrdersByOwner : Type 0
   OrdersByOwner =
-      (z : Opening) (h : List (Entry V)) → IsLegal z h → (d e : ℕ) (k l : Kind) (x y : Handle) → InHand (leads z h) d k x → InHand (leads z h) e l y
+      (z : Opening) (h : List (Entry V)) → IsLegal z h
+      → (d e : ℕ) (k l : Kind) (x y : Handle) → InHand (leads z h) d k x → InHand (leads z h) e l y
       → let block = blocks_of (leads z h) in
       ((owner_before block x y ≡ false) × (owner_before block y x ≡ false)) ↔ (x.object ≡ y.object)
 
@@ -93,7 +139,32 @@ module _ (V : Type 0) where
   abbrev pub SoleHasSeenAll : Type 0
   SoleHasSeenAll =
       (z : Opening) (words : List ℕ) (views : List (View V)) (h : List (Entry V)) → Stands z words views h
-      → (i : ℕ) (v : View V) → get_elem? views i ≡ some v → v.spent ≡ false → (leads z v.seen).allowance v.name ≡ z.allowance → v.seen ≡ h
+      → (i : ℕ) (v : View V) → get_elem? views i ≡ some v → v.spent ≡ false
+      → (leads z v.seen).allowance v.name ≡ z.allowance → v.seen ≡ h
+
+  -- nothing comes after what a desk with the whole allowance has seen, but for its own events
+  abbrev pub NothingUnseen : Type 0
+  NothingUnseen =
+      (z : Opening) (later seen : List (Entry V)) → IsLegal z (later ++ seen) → (d : ℕ) → NoneBy d later
+      → (leads z seen).allowance d ≡ z.allowance → later ≡ []
+
+  -- a desk that was joined makes no later event, and none names it
+  abbrev pub JoinedIsQuiet : Type 0
+  JoinedIsQuiet =
+      (z : Opening) (later seen : List (Entry V)) → IsLegal z (later ++ seen)
+      → (d : ℕ) → (leads z seen).joined d ≡ true → NoneBy d later
+
+  -- a name that isn't given yet has made no event, and none names it
+  abbrev pub UnnamedIsQuiet : Type 0
+  UnnamedIsQuiet = (z : Opening) (h : List (Entry V)) → IsLegal z h → (d : ℕ) → (leads z h).names ≤ d → NoneBy d h
+
+  -- wherever no load of an object is under way, its owner word tells exactly how many owners it has
+  abbrev pub CountsExactly : Type 0
+  CountsExactly =
+      (z : Opening) (words : List ℕ) (views : List (View V)) (h : List (Entry V)) → Stands z words views h
+      → (o : ℕ) → 0 < weak_number (leads z h) o
+      → let i = counts_at (blocks_of (leads z h)) Owner o in
+      owed views i ≡ 0 → told (slice_index words i) ≡ count (leads z h) o
 
   -- whenever a block is at rest, its owner and weak counts are exactly the handles on it, in desks and cells together
   abbrev pub RestsExactly : Type 0
@@ -101,15 +172,18 @@ module _ (V : Type 0) where
       (z : Opening) (words : List ℕ) (views : List (View V)) (h : List (Entry V)) → Stands z words views h
       → (b : ℕ) → InShape z b → IsAtRest (leads z h) views b
       → let s = leads z h in let o = s.latest b in
-      (number_of (slice_index words (spot b 0)) ≡ count s o) × (number_of (slice_index words (spot b 1)) ≡ weak s o + common (s.object o).phase)
+      (number_of (slice_index words (spot b 0)) ≡ count s o)
+      × (number_of (slice_index words (spot b 1)) ≡ weak s o + common (s.object o).phase)
 
 -- owner order is a strict weak order, wherever the objects lie
 abbrev pub IsStrictWeakOrder : Type 0
 IsStrictWeakOrder =
     (block : ℕ → ℕ)
     → ((x : Handle) → owner_before block x x ≡ false)
-    × ((x y w : Handle) → owner_before block x y ≡ true → owner_before block y w ≡ true → owner_before block x w ≡ true)
-    × ((x y w : Handle) → owner_before block x w ≡ true → (owner_before block x y ≡ true) ⊎ (owner_before block y w ≡ true))
+    × ((x y w : Handle) → owner_before block x y ≡ true → owner_before block y w ≡ true
+    → owner_before block x w ≡ true)
+    × ((x y w : Handle) → owner_before block x w ≡ true
+    → (owner_before block x y ≡ true) ⊎ (owner_before block y w ≡ true))
 
 -- equivalence of handles is an equivalence relation
 abbrev pub IsEquivalence : Type 0

@@ -1,5 +1,5 @@
 -- The layout of packed words, as plain arithmetic (own).
-use Rattle.std.specs.Prelude.{◌≡◌, ℕ, ◌+◌, ◌*◌, ◌/◌, ◌%◌, ◌<◌, ◌≤◌, Option, Some, None, IfSome}
+use Rattle.std.specs.Prelude.{◌≡◌, ◌==◌, cond, ℕ, ◌+◌, ◌*◌, ◌/◌, ◌%◌, ◌<◌, ◌≤◌, Option, Some, None, IfSome}
 use Rattle.control_word.specs.declared.place.Block.{Block}
 use Rattle.control_word.specs.declared.place.Place.{Place}
 use Rattle.control_word.specs.declared.cell.CellWord.{CellWord}
@@ -68,3 +68,7 @@ number_of word = word % 4294967296
 -- the funds in a count's word
 abbrev pub funds_of : ℕ → ℕ
 funds_of word = word / 4294967296
+
+-- what use_count tells of an owner word: the number, but 1 where only loads under way hold the object
+abbrev pub told : ℕ → ℕ
+told word = cond (number_of word == 0) (cond (funds_of word == 0) 0 1) (number_of word)

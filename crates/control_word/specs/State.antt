@@ -1,5 +1,6 @@
 -- The state: who holds which handle, and what became of each object.
-use Rattle.std.specs.Prelude.{◌≡◌, ℕ, zero, suc, ◌+◌, ◌<◌, ◌≤◌, Bool, false, cond, ◌&&◌, ◌==◌, nat_lt, ◌⊎◌, List, [], ◌∷◌, ◌++◌, map, length}
+use Rattle.std.specs.Prelude.{◌≡◌, ℕ, zero, suc, ◌+◌, ◌<◌, ◌≤◌, Bool, false, cond, ◌&&◌, ◌==◌, nat_lt, ◌⊎◌, List, []}
+use Rattle.std.specs.Prelude.{◌∷◌, ◌++◌, map, length}
 use Rattle.std.specs.List.{filter}
 use Rattle.control_word.specs.declared.handle.Handle.{Handle}
 use Rattle.control_word.specs.declared.handle.Kind.{Kind}
@@ -83,7 +84,15 @@ abbrev pub kind_of_free : ℕ → ℕ → Kind
 kind_of_free shared c = cond (nat_lt c shared) Owner Weak
 
 abbrev pub nobody : Object
-nobody = record { block = 0; fields = []; enabled = false; null = false; phase = unmade; member = λ m. empty (kind_of_member m) }
+nobody =
+    record {
+      block = 0;
+      fields = [];
+      enabled = false;
+      null = false;
+      phase = unmade;
+      member = λ m. empty (kind_of_member m);
+    }
 
 -- f 0 to f (n - 1), one after another
 abbrev pub upto : ℕ → (ℕ → List Handle) → List Handle
@@ -126,6 +135,10 @@ IsActing s d = (d < s.names) × (s.joined d ≡ false) × (0 < s.allowance d)
 
 abbrev pub HasRoom : State → ℕ → Type 0
 HasRoom s d = bag_size s d ≤ s.allowance d
+
+-- the desk has the whole allowance, so that no other may act (own)
+abbrev pub HasWhole : State → ℕ → Type 0
+HasWhole s d = s.allowance d ≡ sum_below s.names s.allowance
 
 abbrev pub Has : {A : Type 0} → A → List A → Type 0
 Has x [] = ⊥

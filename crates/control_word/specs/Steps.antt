@@ -157,13 +157,11 @@ module _ (V : Type 0) where
       Tells at (Count (handle k (Some o) p) n) Idle × (owed at.views (counts at Owner o) ≡ 0 → n ≡ count (state at) o)
 
   abbrev pub TellsExpired : Type 0
-  TellsExpired =
-      (at : Point V) (o : ℕ) (p : Option Place) → Ready at Idle → Holding at Weak o p
+  TellsExpired = (at : Point V) (o : ℕ) (p : Option Place) → Ready at Idle → Holding at Weak o p
       → Tells at (Expired (weak_of o p) (word at (counts at Owner o) == 0)) Idle
 
   abbrev pub Reads : Type 0
-  Reads =
-      (at : Point V) (o : ℕ) (p : Place) → Ready at Idle → Holding at Owner o (Some p) → p.block.0 ≡ ((state at).object o).block → p.field < 4
+  Reads = (at : Point V) (o : ℕ) (p : Place) → Ready at Idle → Holding at Owner o (Some p) → p.block.0 ≡ ((state at).object o).block → p.field < 4
       → Tells at (Read (owner o (Some p)) (word at (spot p.block.0 (3 + p.field)))) Idle
 
   abbrev pub LooksOn : Type 0
@@ -199,6 +197,15 @@ module _ (V : Type 0) where
   GivesBack =
       (at : Point V) (k : Kind) (o f : ℕ) (p : Option Place) → let i = counts at k o in Ready at (Paying k o p i f 0)
       → (4294967296 * f ≤ word at i) × Moves at i (word at i - 4294967296 * f) Idle
+
+  -- leave with funds: the handle that came out of a cell goes with its funds; the last, or vacant, just where the whole word was these
+  abbrev pub LeavesWithFunds : Type 0
+  LeavesWithFunds = (at : Point V) (o f : ℕ) (p : Option Place) → let i = counts at Owner o in let n = 4294967296 * f + 1 in Ready at (Paying Owner o p i f 0)
+      → (n ≤ word at i) × Adds at i (word at i - n) (Leave (owner o p) (word at i == n)) Idle
+
+  abbrev pub WeakLeavesWithFunds : Type 0
+  WeakLeavesWithFunds = (at : Point V) (o f : ℕ) (p : Option Place) → let i = counts at Weak o in let n = 4294967296 * f + 1 in Ready at (Paying Weak o p i f 0)
+      → (n ≤ word at i) × Adds at i (word at i - n) (WeakLeave (weak_of o p) (word at i == n)) Idle
 
   -- take a fund: a load, or a compare that differs, of a cell with an object of which not all funds are taken
   abbrev pub Takes : Type 0
@@ -267,8 +274,7 @@ module _ (V : Type 0) where
       → HasRoom (after {V = V} (state at) (me at) (Split to n hs bs)) (me at) → Tells at (Split to n hs bs) (Parting to)
 
   abbrev pub CutsView : Type 0
-  CutsView =
-      (at : Point V) (to : ℕ) → Ready at (Parting to)
+  CutsView = (at : Point V) (to : ℕ) → Ready at (Parting to)
       → Stands at.opening at.words (slice_set at.views at.seat (stays at.view) ++ comes at.view to ∷ []) at.history
 
   -- two views become one, and the look of a join that follows
@@ -278,8 +284,7 @@ module _ (V : Type 0) where
       → Stands at.opening at.words (slice_set (slice_set at.views at.seat (together at.view w)) j used_up) at.history
 
   abbrev pub Joins : Type 0
-  Joins =
-      (at : Point V) (other : ℕ) (mine others : List (Entry V)) → Ready at (Merging other mine others) → Tells at (Join other) Idle
+  Joins = (at : Point V) (other : ℕ) (mine others : List (Entry V)) → Ready at (Merging other mine others) → Tells at (Join other) Idle
 
   -- at the start all words are 0
   abbrev pub Begins : Type 0

@@ -69,7 +69,7 @@ abbrev pub CountAfterCopy : Type 0
 CountAfterCopy =
     let s = reached copy_ended in
     IsLegal four_blocks copy_ended
-    × Counts copy_held 1 2 0
+    × Counts copy_held 1 2 0 × OnlyReply copy_held (Count (owner_at 1 1)) 2
     × (s.made ≡ 1) × ((s.object 1).phase ≡ gone) × ((s.object 1).fields ≡ 1 ∷ 2 ∷ 0 ∷ 0 ∷ []) × IsVacant s 1
 
 -- A lock is an owner more, and keeps the object while the first owner goes. The block waits for the weak handle
@@ -95,7 +95,7 @@ LockKeepsAlive =
     let s = reached lock_ended in
     IsLegal four_blocks lock_ended
     × Counts lock_watched 1 1 1 × OnlyReply lock_watched (Lock (weak_at 1 1)) true
-    × Counts lock_got 1 2 1
+    × Counts lock_got 1 2 1 × OnlyReply lock_got (Count (weak_at 1 1)) 2
     × Counts lock_kept 1 1 1 × OnlyReply lock_kept (Expired (weak_at 1 1)) false
     × (((reached lock_kept).object 1).phase ≡ live)
     × Counts lock_expired 1 0 1 × OnlyReply lock_expired (Expired (weak_at 1 1)) true

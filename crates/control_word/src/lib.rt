@@ -2,24 +2,14 @@
 #![tactic(auto)]
 
 pub mod cell;
-#[cfg(test)]
-mod cell_tests;
-#[cfg(test)]
-mod count_tests;
 pub mod counts;
 pub mod event;
 pub mod handle;
 pub mod history_laws;
-#[cfg(test)]
-mod law_tests;
 pub mod layout;
-#[cfg(test)]
-mod layout_tests;
 pub mod limits;
 pub mod place;
 pub mod refusal;
-#[cfg(test)]
-mod refusal_tests;
 pub mod shape;
 pub mod step_laws;
 pub mod view;

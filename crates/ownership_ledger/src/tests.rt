@@ -92,24 +92,6 @@ fn four_threads_gather_to_their_sums(rt: HostRuntime) -> Result<(), Fail> {
     Ok(())
 }
 
-#[test]
-fn one_share_shows_its_own_numbers(rt: HostRuntime) -> Result<(), Fail> {
-    let (book, mut shares) = Book::open(rt.alloc(), 1)?;
-    let Some(mut share) = shares.pop() else {
-        unreachable!()
-    };
-    book.add_made(&mut share);
-    book.add_made(&mut share);
-    book.add_ended(&mut share);
-    let shown = book.so_far(&mut share);
-    shares.push_reserved(share);
-    let totals = book.gather(shares);
-    let want = Totals { made: 2, ended: 1 };
-    assert_eq!(rt; shown, want);
-    assert_eq!(rt; totals, want);
-    Ok(())
-}
-
 // `rt try --test --fail-alloc N` refuses the Nth allocation, and an opening has three. Then it answers
 // `Memory`, and the next one is as if it had never been.
 #[test]

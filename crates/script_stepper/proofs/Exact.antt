@@ -1,6 +1,6 @@
 -- Turns that tell counts exactly: no other thread has a load under way.
 use Rattle.std.proofs.Common.{◌≡◌, ℕ, ◌∷◌, refl, ap}
-use Rattle.std.specs.Prelude.{Option, Some, None}
+use Rattle.std.specs.Prelude.{Option, Some, None, option_map}
 use Rattle.control_word.specs.declared.event.Event.TheVariants as event
 use Rattle.control_word.specs.Histories.{entry, leads}
 use Rattle.control_word.specs.State.{Opening, State}
@@ -11,10 +11,10 @@ use Rattle.step_threads.specs.declared.said.Answer.{Answer}
 use Rattle.step_threads.specs.declared.said.Answer.TheVariants as answer
 use Rattle.step_table.specs.declared.holdings.Pointer.{Pointer}
 use Rattle.step_threads.specs.Courses.{Walk}
-use Rattle.step_table.specs.Deeds.{Telling, exact, handle_of, on}
+use Rattle.step_table.specs.Deeds.{Telling, exact, handle_of, on, tell_count}
 use Rattle.step_table.specs.Holdings.{Slots, slot}
 use Rattle.step_table.specs.Openings.{opening}
-use Rattle.step_threads.specs.Entries.{History, acted, counts}
+use Rattle.step_threads.specs.Entries.{History, acted, does}
 use Rattle.step_threads.specs.Scenes.{Scene, answer_of, ended_of, next, play, play_from, play_with, put_walk, rest_of, rested_walk, said, said_from, said_with, state_in, walk_of, went}
 use Rattle.step_core.specs.Worlds.{NoneLoads, Sight, TellsAll, is_loading}
 use Rattle.script_stepper.specs.Running.{AllRest}
@@ -29,7 +29,8 @@ number_exact tell s None h = refl
 number_exact tell s (Some x) h = h x refl
 
 counts_exact : (tell : Telling) (z : Opening) (d : ℕ) (h : History) (o : Option Pointer)
-    → ((x : Pointer) → o ≡ Some x → tell (leads z h) x ≡ exact (leads z h) x) → on (counts tell z d h) h o ≡ on (counts exact z d h) h o
+    → ((x : Pointer) → o ≡ Some x → tell (leads z h) x ≡ exact (leads z h) x)
+    → does z d h (option_map (tell_count tell (leads z h)) o) ≡ does z d h (option_map (tell_count exact (leads z h)) o)
 counts_exact tell z d h None e = refl
 counts_exact tell z d h (Some x) e = ap (λ (n : ℕ). entry d (event.Count (handle_of (leads z h) x) n) ∷ h) (e x refl)
 

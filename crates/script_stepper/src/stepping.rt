@@ -20,6 +20,9 @@ use crate::running::run_turns;
 use crate::sink::Sink;
 use crate::steps::steps_text;
 use crate::turns::turns_of;
+use control_word::limits::{
+    SCRIPT_ALLOWANCE, SCRIPT_BLOCKS, SCRIPT_SHARED_CELLS, SCRIPT_WEAK_CELLS,
+};
 use control_word::{Refusal, Shape};
 use script_text::{Fault, Script, parse};
 use std::alloc::{AllocError, Global};
@@ -34,9 +37,6 @@ pub(crate) enum Pace {
     Steps,
 }
 
-/// How many blocks all threads have at most.
-const BLOCKS: u32 = 4_095;
-
 /// The shape of a script's world: each thread has the same number of blocks.
 fn shape_of(threads: u32) -> Shape
     requires some { 1 ≤ threads }
@@ -44,10 +44,10 @@ fn shape_of(threads: u32) -> Shape
     ensures { result ≡ script_shape threads }
 {
     Shape {
-        blocks: BLOCKS / threads * threads,
-        shared_cells: 128,
-        weak_cells: 128,
-        allowance: 1_048_576,
+        blocks: SCRIPT_BLOCKS / threads * threads,
+        shared_cells: SCRIPT_SHARED_CELLS,
+        weak_cells: SCRIPT_WEAK_CELLS,
+        allowance: SCRIPT_ALLOWANCE,
     }
 }
 

@@ -10,14 +10,12 @@ use crate::keyword::{Keyword, keyword_of, takes};
 use crate::statement::call_of;
 use crate::thread::{Thread, empty_thread};
 use crate::word::{content, is_clean, words_in};
+use control_word::limits::{SCRIPT_STATEMENTS, SCRIPT_THREADS};
 use std::alloc::Global;
 use std::mem;
 
 /// How many threads a script has at most.
-pub(crate) const THREADS: usize = 16;
-
-/// How many statements a script has at most, all threads together.
-pub(crate) const STATEMENTS: u32 = 65_536;
+const THREADS: usize = SCRIPT_THREADS as usize;
 
 /// The threads before the current one, that one, and how many statements all have.
 #[derive(Drop)]
@@ -52,7 +50,7 @@ fn add_call(alloc: Global, draft: &mut Draft, keyword: Keyword, words: &[&[u8]])
     ensures { Gives (λ _. draft_of draft.new) result
         (next_call (draft_of draft.old) keyword (texts words.now)) }
 {
-    if draft.count >= STATEMENTS {
+    if draft.count >= SCRIPT_STATEMENTS {
         return Err(Stop::Cause(Cause::TooManyStatements));
     }
     let call = call_of(alloc, &mut draft.current.names, keyword, words)?;

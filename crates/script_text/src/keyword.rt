@@ -8,7 +8,7 @@ ghost use Rattle.script_text.specs.Keywords.{spelling_of, keyword_at, takes_word
 use crate::fault::{Cause, Stop};
 
 /// A statement by its first word.
-#[derive(Clone, Copy, Debug, PartialEq, Eq)]
+#[derive(Clone, Copy)]
 pub(crate) enum Keyword {
     Make,
     MakeThis,
@@ -26,7 +26,7 @@ pub(crate) enum Keyword {
 }
 
 /// A statement on where owners point, or on what they own, by its first word.
-#[derive(Clone, Copy, Debug, PartialEq, Eq)]
+#[derive(Clone, Copy)]
 pub(crate) enum PlaceKeyword {
     Move,
     Alias,
@@ -39,7 +39,7 @@ pub(crate) enum PlaceKeyword {
 }
 
 /// A statement on a cell by its first word.
-#[derive(Clone, Copy, Debug, PartialEq, Eq)]
+#[derive(Clone, Copy)]
 pub(crate) enum CellKeyword {
     Load,
     Store,
@@ -49,7 +49,7 @@ pub(crate) enum CellKeyword {
 }
 
 /// A statement on weak names by its first word.
-#[derive(Clone, Copy, Debug, PartialEq, Eq)]
+#[derive(Clone, Copy)]
 pub(crate) enum WeakKeyword {
     Weak,
     Copy,

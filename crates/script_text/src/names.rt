@@ -2,13 +2,14 @@
 
 use crate::fault::{Cause, Stop};
 use crate::word::name_of;
+use control_word::limits::SCRIPT_NAMES;
 use indexmap::IndexMap;
 use std::alloc::{AllocError, Global};
 use std::marker::Model;
 use step_core::{Kind, Name};
 
 /// How many names a thread has at most.
-pub(crate) const NAMES: usize = 32;
+const NAMES: usize = SCRIPT_NAMES as usize;
 
 /// The names of a thread with their kinds.
 /// A clause sees a list of them, in which a name's place is its number.

@@ -6,12 +6,10 @@ ghost use Rattle.script_text.specs.Reading.{Gives};
 ghost use Rattle.script_text.specs.Words.{is_space, is_clean_byte, is_name_byte, is_digit, words_of, line_content, is_name, name_at, number_at, cell_number_at, free_cell_at, field_at};
 
 use crate::fault::{Cause, Stop};
+use control_word::limits::{NAME_BYTES, SCRIPT_SHARED_CELLS};
 use std::alloc::{AllocError, Global};
 use std::str;
 use step_core::{CellName, Field};
-
-/// How many bytes a name has at most.
-pub(crate) const NAME_BYTES: usize = 16;
 
 fn is_space_code(b: u8) -> bool
     ensures { result ≡ is_space b }
@@ -124,8 +122,8 @@ pub(crate) fn field_of(word: &[u8]) -> Result<Field, Stop>
     }
 }
 
-/// How many cells of each kind texts name.
-const CELLS: u64 = 128;
+/// How many shared cells texts name, and as many weak ones.
+const CELLS: u64 = SCRIPT_SHARED_CELLS as u64;
 
 /// The number of a cell that a word is.
 #[tactic(auto, unfolding(crate::specs::Words::cell_number_at))]

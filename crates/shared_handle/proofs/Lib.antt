@@ -1,4 +1,3 @@
 pub mod Taken
-pub mod Joined
 pub mod Kept
 pub mod Beside

@@ -50,6 +50,12 @@ module _ {V : Type 0} where
   IsLeft d b p Others e = (c : Block) × (b ≡ Some c) × Adds d (Leave (on_latest d Owner p c.0) false) e
   IsLeft d b p (Last x) e = (b ≡ Some x.block) × Adds d (Leave (on_latest d Owner p x.block.0) true) e × Ends e x × IsUncleared x
 
+  -- what it says of an owner that left, by the block of what it owned, and by the value that came out where it was the last
+  abbrev pub IsLeftOf : Option Block → Option V → Left V → Type 0
+  IsLeftOf b r Empty = b ≡ None
+  IsLeftOf b r Others = (c : Block) × (b ≡ Some c) × (r ≡ None)
+  IsLeftOf b r (Last x) = (b ≡ Some x.block) × (r ≡ Some x.value) × IsUncleared x
+
   -- what ends for it, if an object does, is not the one in the block
   abbrev pub IsBeside : ℕ → Left V → Type 0
   IsBeside b Empty = Unit {0}

@@ -1,4 +1,6 @@
 //! What comes of a release, and an object whose last owner has left ([util.smartptr.shared.dest]).
+ghost use Rattle.shared_handle.specs.Endings.{IsLeftOf};
+
 use control_word::Block;
 
 /// An object whose last owner has left: its deleter runs with whoever has this. Its members must be cleared, and it must be
@@ -28,4 +30,20 @@ pub enum Left<V> {
     Others,
     /// It was the last, and the object ends.
     Last(Ending<V>),
+}
+
+impl<V: Drop + Send> Left<V> {
+    /// What an owner was that has left, by the block of what it owned, and by the value that came out where it was the last
+    /// (own). It is for the crates whose calls end handles.
+    pub fn of_parts(block: Option<Block>, value: Option<V>) -> Left<V>
+        ensures { IsLeftOf block value result }
+    {
+        let Some(block) = block else {
+            return Left::Empty;
+        };
+        match value {
+            None => Left::Others,
+            Some(value) => Left::Last(Ending::begin(block, value)),
+        }
+    }
 }

@@ -4,35 +4,15 @@
 
 mod clearing;
 mod downgrading;
-#[cfg(test)]
-mod drop_tests;
 mod endings;
-#[cfg(test)]
-mod example_tests;
 mod finishing;
-#[cfg(test)]
-mod lock_tests;
 mod locking;
 mod looks;
 mod making;
-#[cfg(test)]
-mod order_tests;
 mod ordering;
-#[cfg(test)]
-mod parting_tests;
 mod pointers;
-#[cfg(test)]
-mod race_tests;
-#[cfg(test)]
-mod row_tests;
 mod sharing;
-#[cfg(test)]
-mod test_parts;
-#[cfg(test)]
-mod tests;
 mod this;
-#[cfg(test)]
-mod visit_tests;
 mod visiting;
 mod weak_looks;
 mod weaks;

@@ -2,20 +2,8 @@
 #![tactic(auto)]
 
 mod answers;
-#[cfg(test)]
-mod cell_tests;
 mod command;
-#[cfg(test)]
-mod fine_tests;
-#[cfg(test)]
-mod member_tests;
-#[cfg(test)]
-mod place_tests;
 mod serve;
-#[cfg(test)]
-mod tests;
-#[cfg(test)]
-mod weak_tests;
 
 use script_stepper::Output;
 use serve::serve;

@@ -38,6 +38,7 @@ use Rattle.step_table.specs.Stories.{Kept, Nothing, Story, after, pending, state
 use Rattle.step_threads.specs.Endings.{EndsAll}
 use Rattle.step_threads.specs.Threads.{Fits, HasStepped, IsNext}
 use Rattle.step_core.specs.Turning.{HasBegun, IsAlone, IsInShape, IsLock, IsMatched, IsOut, IsProper, IsSeen, IsStill, IsSwap, IsTried, IsUnderWay, OthersOwe}
+use Rattle.step_core.specs.Told.{IsTidy}
 use Rattle.step_core.specs.Worlds.{AllFit, Sight, Steps, half_of, is_loading, scene, step_of, thread_half, thread_walk}
 use Rattle.step_threads.proofs.Courses.{todo_at}
 use Rattle.step_threads.proofs.holding.Halves.{half_others}
@@ -258,8 +259,8 @@ others_owe v threads n all many kept e ne quiet i =
     (slice_get_cases threads e).1
 
 pub has_begun : (v : Story) (threads : List Thread) (n : ℕ) (t : Thread) → n < length threads → t ≡ get_or threads n t → Fits n t v → Kept v → AllFit v threads → length (map thread_walk threads) ≡ v.extent.actors
-    → HasBegun n (sight v threads)
-has_begun v threads n t lt read fits kept all many =
+    → IsTidy (walk_of (scene (sight v threads)) n) → HasBegun n (sight v threads)
+has_begun v threads n t lt read fits kept all many tidy =
     let h : get_or (map thread_half threads) n Rest ≡ t.half = get_or-map thread_half threads n t Rest lt ∙ ap thread_half (sym read) in
     let w : get_or (map thread_walk threads) n nowhere ≡ walk t.course = get_or-map thread_walk threads n t nowhere lt ∙ ap thread_walk (sym read) in
     record {
@@ -285,5 +286,6 @@ has_begun v threads n t lt read fits kept all many =
       still = subst (λ (k : Walk). IsStill k k.todo) (sym w) (still_of t.course fits.still);
       proper = subst (λ (k : Half). IsProper n v k) (sym h) (proper_of n t.half t.course v fits.half);
       others = others_owe v threads n all many kept;
+      tidy = tidy;
       out = subst (λ (k : Half). IsOut n v k) (sym h) (out_of n t.half t.course v fits.half);
     }

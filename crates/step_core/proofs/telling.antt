@@ -1,4 +1,7 @@
 pub mod Walking
+pub mod Tidying
+pub mod Names
+pub mod Firsts
 pub mod Order
 pub mod Deeds
 pub mod Counting

@@ -14,6 +14,8 @@ pub mod Firsts
 pub mod Playing
 pub mod Swapping
 pub mod Trials
+pub mod Putting
 pub mod Outcomes
+pub mod Ways
 pub mod Trying
 pub mod Turns

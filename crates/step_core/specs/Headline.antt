@@ -1,5 +1,5 @@
 -- What holds after each step of a run, and of each of its steps.
-use Rattle.std.specs.Prelude.{◌≡◌, ◌≢◌, ◌↔◌, ◌⊎◌, ℕ, ◌+◌, ◌-◌, ◌<◌, ◌≤◌, Bool, true, List, [], ◌∷◌, ◌++◌, slice_index, Option, Some, None, MatchOption}
+use Rattle.std.specs.Prelude.{◌≡◌, ◌≢◌, ◌↔◌, ◌⊎◌, ℕ, ◌+◌, ◌-◌, ◌<◌, ◌≤◌, Bool, true, List, [], ◌∷◌, slice_index, Option, Some, None, MatchOption}
 use Rattle.control_word.specs.declared.event.Event.{Event}
 use Rattle.control_word.specs.declared.event.Event.TheVariants.{Leave, Lock}
 use Rattle.control_word.specs.declared.handle.Handle.{Handle}
@@ -15,24 +15,15 @@ use Rattle.step_threads.specs.declared.said.Stepped.{Stepped}
 use Rattle.step_threads.specs.declared.said.Stepped.TheVariants.{Event as Step, Quiet, Waited, Done}
 use Rattle.step_core.specs.declared.trace.TraceStep.{TraceStep}
 use Rattle.step_table.specs.Openings.{opening}
-use Rattle.step_core.specs.Runs.{reached}
-use Rattle.step_threads.specs.Scenes.{lock_answer}
+use Rattle.step_threads.specs.declared.act.Act.TheVariants as act
+use Rattle.step_threads.specs.declared.act.Task.{Task}
+use Rattle.step_threads.specs.Scenes.{lock_answer, walk_of}
 use Rattle.step_table.specs.Deeds.{remains}
 use Rattle.step_table.specs.Stories.{Nothing, state}
-use Rattle.step_core.specs.Worlds.{Sight}
+use Rattle.step_core.specs.Sights.{AllHold, Sight, scene}
 
--- P holds before the first step, and after each: of what each beginning of the steps leads to (own)
-abbrev pub AfterEach : (Sight → Type 0) → Sight → List TraceStep → Type 0
-AfterEach P u steps = (before after : List TraceStep) → steps ≡ before ++ after → P (reached u before)
-
--- R holds of each step: of what was before it, and of what is after it (own)
-abbrev pub OfEach : (Sight → TraceStep → Sight → Type 0) → Sight → List TraceStep → Type 0
-OfEach R u steps =
-    (before : List TraceStep) (x : TraceStep) (after : List TraceStep) → steps ≡ before ++ x ∷ after
-    → R (reached u before) x (reached u (before ++ x ∷ []))
-
--- the numbers in a block's words are those of the handles on it, in bags and cells together; the weak word has one more while
--- there are owners ([util.smartptr.shared.obs], and own)
+-- the numbers in a block's words are those of the handles on it, in bags and cells together; the weak word has one
+-- more while there are owners ([util.smartptr.shared.obs], and own)
 pub record TellsHandles (words : List ℕ) (s : State) (b : ℕ) : Type 0 where
   pub owners : number_of (slice_index words (spot b 0)) ≡ count s (s.latest b)
   pub weaks : number_of (slice_index words (spot b 1)) ≡ weak s (s.latest b) + common (s.object (s.latest b)).phase
@@ -52,7 +43,8 @@ abbrev pub LocksWhereOwned : Sight → TraceStep → Sight → Type 0
 LocksWhereOwned u x u' =
     (w : Handle) (gave : Bool) → Was (Lock w gave) u x u' → (gave ≡ true) ↔ (0 < count (state u.story) (object_of w))
 
--- each object's value came out at most once, and exactly when the object is no longer live ([util.smartptr.shared.dest])
+-- each object's value came out at most once, and exactly when the object is no longer live
+-- ([util.smartptr.shared.dest])
 abbrev pub ValuesOnce : Sight → Type 0
 ValuesOnce u =
     (o : ℕ) → 1 ≤ o → o ≤ (state u.story).made
@@ -96,12 +88,38 @@ answer_by (Quiet x) = x.answer
 answer_by Waited = None
 answer_by Done = None
 
--- a lock says whether it gave an owner; one that must give an owner is refused where it did not ([util.smartptr.weak.obs],
--- [util.smartptr.shared.const])
+abbrev pub statement_by : Stepped → Option ℕ
+statement_by (Step x) = Some x.statement
+statement_by (Quiet x) = Some x.statement
+statement_by Waited = None
+statement_by Done = None
+
+-- the next act is a lock of statement k, which must give an owner or need not
+abbrev pub LocksNext : ℕ → Bool → List Task → Type 0
+LocksNext k must [] = ⊥
+LocksNext k must (t ∷ ts) = (t.statement ≡ k) × ((i : ℕ) × (t.act ≡ act.Lock i must))
+
+-- a lock says whether it gave an owner, by an answer of its statement; one that must give an owner is refused where
+-- it did not ([util.smartptr.weak.obs], [util.smartptr.shared.const])
 abbrev pub TellsLocks : Sight → TraceStep → Sight → Type 0
 TellsLocks u x u' =
-    (w : Handle) (gave : Bool) → Was (Lock w gave) u x u' → (must : Bool) × (answer_by x.stepped ≡ Some (lock_answer must gave))
+    (w : Handle) (gave : Bool) → Was (Lock w gave) u x u'
+    → (k : ℕ) × (must : Bool) × LocksNext k must (walk_of (scene u) (x.actor - 1)).todo
+    × (statement_by x.stepped ≡ Some k) × (answer_by x.stepped ≡ Some (lock_answer must gave))
 
 -- no block is in the midst of anything
 abbrev pub AllAtRest : Sight → Type 0
 AllAtRest u = (b : ℕ) → InShape (opening u.story.extent) b → IsAtRest (state u.story) u.story.views b
+
+-- what holds before the first step of a run, and after each
+pub record AfterEach (u : Sight) : Type 0 where
+  pub counts : CountsAtRest u
+  pub once : ValuesOnce u
+  pub hands : AllHold u
+
+-- what holds of each step
+pub record OfEach (u : Sight) (x : TraceStep) (u' : Sight) : Type 0 where
+  pub locks : LocksWhereOwned u x u'
+  pub answers : TellsLocks u x u'
+  pub values : ValuesAtLastLeave u x u'
+  pub told : TellsWhatIsLeft u x u'

@@ -1,6 +1,8 @@
 pub mod Bounds
+pub mod Chains
 pub mod Headline
 pub mod Runs
+pub mod Sights
 pub mod Starts
 pub mod Told
 pub mod Totals

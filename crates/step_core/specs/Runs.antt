@@ -2,6 +2,9 @@
 use Rattle.std.specs.Prelude.{◌≡◌, ◌≢◌, ℕ, zero, suc, ◌+◌, ◌-◌, ◌<◌, ◌≤◌, Bool, true, false, List, [], ◌∷◌, ◌++◌, All, length, map, slice_index}
 use Rattle.control_word.specs.declared.refusal.Refusal.{Refusal}
 use Rattle.control_word.specs.declared.refusal.Refusal.TheVariants as refusal
+use Rattle.control_word.specs.declared.view.Pending.{Pending}
+use Rattle.control_word.specs.declared.view.Pending.TheVariants.{Paying}
+use Rattle.step_table.specs.Stories.{Nothing, pending}
 use Rattle.step_threads.specs.declared.act.Act.{Act}
 use Rattle.step_threads.specs.declared.act.Act.TheVariants.{Compare}
 use Rattle.step_threads.specs.declared.act.Task.{Task}
@@ -14,24 +17,13 @@ use Rattle.step_core.specs.declared.trace.RunRefusal.{RunRefusal}
 use Rattle.step_core.specs.declared.trace.RunRefusal.TheVariants.{Memory, BadTurn}
 use Rattle.step_core.specs.declared.trace.TraceStep.{TraceStep}
 use Rattle.step_threads.specs.Scenes.{walk_of}
-use Rattle.step_table.specs.Stories.{Kept}
-use Rattle.step_core.specs.Worlds.{Sight, Steps, half_of, scene, sight_by, step_of}
+use Rattle.step_core.specs.Sights.{IsOver, Sight, half_of, scene}
+use Rattle.step_core.specs.Worlds.{Advances}
 
--- the steps came one after another, each of its actor, and after each the words stood for the history
+-- the steps came one after another, each of its actor
 abbrev pub IsRun : Sight → List TraceStep → Sight → Type 0
 IsRun u [] u' = u' ≡ u
-IsRun u (x ∷ xs) u' = (m : Sight) × Steps (x.actor - 1) u x.stepped m × Kept m.story × IsRun m xs u'
-
--- where as many steps of the same actors lead
-abbrev pub reached : Sight → List TraceStep → Sight
-reached u [] = u
-reached u (x ∷ xs) = reached (sight_by (x.actor - 1) u (step_of (x.actor - 1) u)) xs
-
--- thread d has made its last act, and ended its last object
-pub record IsOver (d : ℕ) (u : Sight) : Type 0 where
-  pub walk : (walk_of (scene u) d).todo ≡ []
-  pub endings : (walk_of (scene u) d).endings ≡ []
-  pub half : half_of u d ≡ Rest
+IsRun u (x ∷ xs) u' = (m : Sight) × Advances (x.actor - 1) u x.stepped m × IsRun m xs u'
 
 -- the step is one of thread d, which wasn't at its end
 abbrev pub IsStepOf : ℕ → TraceStep → Type 0
@@ -43,7 +35,8 @@ pub record RunsToEnd (d : ℕ) (u : Sight) (xs : List TraceStep) (u' : Sight) : 
   pub alone : All (IsStepOf d) xs
   pub over : IsOver d u'
 
--- a load's fund is taken and not turned yet, or as many funds are brought as were taken, to be put in their place or given back
+-- a load's fund is taken and not turned yet, or as many funds are brought as were taken, to be put in their place or
+-- given back
 abbrev pub is_out : Stage → Bool
 is_out Turning = true
 is_out Checking = false
@@ -68,8 +61,8 @@ abbrev pub compares_next : List Task → Bool
 compares_next [] = false
 compares_next (t ∷ ts) = is_compare t.act
 
--- A call that owed funds goes on while its thread has begun something. A compare that missed begins again, once it has given back
--- what it had brought; behind any other call no compare is next, as each comes after its own copy
+-- A call that owed funds goes on while its thread has begun something. A compare that missed begins again, once it
+-- has given back what it had brought; behind any other call no compare is next, as each comes after its own copy
 abbrev pub goes_on : Half → List Task → Bool
 goes_on Rest ts = compares_next ts
 goes_on _ ts = true
@@ -81,7 +74,7 @@ is_calling u d = goes_on (half_of u d) (walk_of (scene u) d).todo
 abbrev pub CallsOn : ℕ → Sight → List TraceStep → Sight → Type 0
 CallsOn d u [] u' = u' ≡ u
 CallsOn d u (x ∷ xs) u' =
-    (is_calling u d ≡ true) × (x.actor ≡ d + 1) × (m : Sight) × Steps d u x.stepped m × Kept m.story × CallsOn d m xs u'
+    (is_calling u d ≡ true) × (x.actor ≡ d + 1) × (m : Sight) × Advances d u x.stepped m × CallsOn d m xs u'
 
 -- thread d finished its call
 pub record FinishesCall (d : ℕ) (u : Sight) (xs : List TraceStep) (u' : Sight) : Type 0 where
@@ -108,8 +101,18 @@ SettleInOrder n u xs u' = InOrder Settles n u xs u'
 abbrev pub RunInOrder : ℕ → Sight → List TraceStep → Sight → Type 0
 RunInOrder n u xs u' = InOrder RunsToEnd n u xs u'
 
--- one step for each number; then each thread that had a load under way, or funds that it brought or was to give back, finished that
--- call, in number order; and then each ran alone to its end, in number order
+-- a desk's half-done call owes what it took or brought: a load is under way, or funds are out
+abbrev pub is_paying : Pending Nothing → Bool
+is_paying (Paying k o p word funds loads) = true
+is_paying _ = false
+
+-- no desk's call owes anything
+abbrev pub NonePays : Sight → Type 0
+NonePays u = (d : ℕ) → is_paying (pending u.story d) ≡ false
+
+-- one step for each number; then each thread that had a load under way, or funds that it brought or was to give back,
+-- finished that call, in number order, so that no call owes anything; and then each ran alone to its end, in number
+-- order
 pub record IsScheduled (turns : List ℕ) (u : Sight) (xs : List TraceStep) (u' : Sight) : Type 0 where
   pub first : List TraceStep
   pub settled : List TraceStep
@@ -120,6 +123,7 @@ pub record IsScheduled (turns : List ℕ) (u : Sight) (xs : List TraceStep) (u' 
   pub numbers : map (λ (x : TraceStep). x.actor) first ≡ turns
   pub run : IsRun u first middle
   pub settles : SettleInOrder (length u.walks) middle settled calm
+  pub none : NonePays calm
   pub ends : RunInOrder (length u.walks) calm alone u'
 
 -- the step didn't wait
@@ -147,7 +151,8 @@ refusal_of Memory = refusal.Memory
 refusal_of (BadTurn position) = refusal.BadTurn
 
 -- a list got longer by steps that are such a run, and none of them waited
-pub record Adds (R : Sight → List TraceStep → Sight → Type 0) (u : Sight) (xs : List TraceStep) (u' : Sight) (xs' : List TraceStep)
+pub record Adds (R : Sight → List TraceStep → Sight → Type 0) (u : Sight) (xs : List TraceStep) (u' : Sight)
+    (xs' : List TraceStep)
     : Type 0 where
   pub added : List TraceStep
   pub items : xs' ≡ xs ++ added

@@ -1,6 +1,8 @@
 -- What a world keeps beside its threads, so that it can tell its totals and its census. All of it is own.
-use Rattle.std.specs.Prelude.{◌≡◌, ℕ, ◌+◌, ◌*◌, ◌<◌, ◌≤◌, ◌==◌, Bool, false, cond, List, [], length, map, is_some}
+use Rattle.std.specs.Prelude.{◌≡◌, ◌⊎◌, ℕ, ◌+◌, ◌*◌, ◌<◌, ◌≤◌, ◌==◌, Bool, true, false, cond, List, [], ◌∷◌, length, map, is_some}
 use Rattle.control_word.specs.State.{State, ending}
+use Rattle.step_threads.specs.declared.act.Act.TheVariants.{Clear}
+use Rattle.step_threads.specs.declared.act.Task.{Task}
 use Rattle.step_threads.specs.declared.ending.Ending.{Ending}
 use Rattle.step_threads.specs.declared.half.Half.{Half}
 use Rattle.step_threads.specs.declared.half.Half.TheVariants.{Rest, Making, Locking, Giving, Brought, Saw, Matched, Refill, Returning, Clearing}
@@ -8,6 +10,8 @@ use Rattle.step_threads.specs.declared.said.Stepped.{Stepped}
 use Rattle.step_threads.specs.declared.said.Stepped.TheVariants.{Event, Quiet, Waited, Done}
 use Rattle.step_threads.specs.declared.thread.Thread.{Thread}
 use Rattle.step_core.specs.Bounds.{left_to_do}
+use Rattle.step_table.specs.Holdings.{is_full, slot}
+use Rattle.step_threads.specs.Courses.{Walk, other}
 use Rattle.step_threads.specs.Endings.{endings_of}
 use Rattle.step_threads.specs.Scenes.{walk_of}
 use Rattle.step_table.specs.Stories.{Story, state}
@@ -22,8 +26,23 @@ sight v threads = record { story = v; walks = map thread_walk threads; halves = 
 abbrev pub AllEnd : State → (ℕ → List Ending) → Type 0
 AllEnd s f = (o e : ℕ) → (s.object o).phase ≡ ending e → 0 < endings_of (s.object o).block (f e)
 
--- the totals are those of the history, and small: an object is made by a task that has the steps of its end, and no more are left
--- than were made. No cell has lost all of its funds
+-- one of these tasks leaves name i
+abbrev pub Leaves : ℕ → List Task → Type 0
+Leaves i [] = ⊥
+Leaves i (t ∷ ts) = (t.act ≡ Clear i) ⊎ Leaves i ts
+
+-- each task leaves a name at the thread's end, or has tasks behind it that leave all n names
+abbrev pub LeavesAll : ℕ → List Task → Type 0
+LeavesAll n [] = Unit {0}
+LeavesAll n (t ∷ ts) = (((j : ℕ) × (t.act ≡ Clear j)) ⊎ ((i : ℕ) → i < n → Leaves i ts)) × LeavesAll n ts
+
+-- each name that holds something is left by a task to come
+pub record IsTidy (w : Walk) : Type 0 where
+  pub names : (i : ℕ) → i < other w.slots → is_full (slot w.slots i) ≡ true → Leaves i w.todo
+  pub all : LeavesAll (other w.slots) w.todo
+
+-- the totals are those of the history, and small: an object is made by a task that has the steps of its end, and no
+-- more are left than were made. No cell has lost all of its funds. What a name holds is left before its thread's end
 pub record IsTold (u : Sight) (m e : ℕ) : Type 0 where
   pub threads : length u.walks ≡ u.story.extent.actors
   pub halves : length u.halves ≡ length u.walks
@@ -33,6 +52,7 @@ pub record IsTold (u : Sight) (m e : ℕ) : Type 0 where
   pub few : 28 * m + left_to_do u.walks ≤ 13 * e + 1970176
   pub endings : AllEnd (state u.story) (λ d. (walk_of (scene u) d).endings)
   pub watched : IsWatched u.story u.halves
+  pub tidy : (d : ℕ) → IsTidy (walk_of (scene u) d)
 
 -- the next step of a make is the one that makes the object
 abbrev pub is_prepared : Half → Bool

@@ -1,5 +1,5 @@
 -- The parts of a turn. All of it is own.
-use Rattle.std.specs.Prelude.{◌≡◌, ◌≢◌, ℕ, ◌<◌, ◌≤◌, Bool, true, false, not, ◌&&◌, ◌||◌, ◌==◌, List, [], ◌∷◌, length, slice_set, is_some, Option, Some, None}
+use Rattle.std.specs.Prelude.{◌≡◌, ◌≢◌, ℕ, ◌<◌, ◌≤◌, Bool, true, false, not, ◌&&◌, ◌||◌, List, [], ◌∷◌, length, slice_set, is_some, Option, Some, None}
 use Rattle.step_threads.specs.declared.act.Act.TheVariants.{Make, FromThis}
 use Rattle.step_threads.specs.declared.act.Task.{Task}
 use Rattle.step_threads.specs.declared.ending.Ending.{Ending}
@@ -26,6 +26,7 @@ use Rattle.step_threads.specs.Entries.{least}
 use Rattle.step_threads.specs.Scenes.{play_with, rested, said_with, walk_of}
 use Rattle.step_table.specs.Stories.{Kept, Story, pending, state}
 use Rattle.step_threads.specs.Threads.{IsClearing, IsMatchedBy, IsSeenBy}
+use Rattle.step_core.specs.Told.{IsTidy}
 use Rattle.step_core.specs.Worlds.{Sight, TellsAll, half_of, is_loading, scene}
 
 -- a make that is under way is the next act, in the least block of the store
@@ -131,32 +132,11 @@ pub record HasBegun (d : ℕ) (u : Sight) : Type 0 where
   pub proper : IsProper d u.story (half_of u d)
   pub others : OthersOwe d u
   pub out : IsOut d u.story (half_of u d)
+  pub tidy : IsTidy (walk_of (scene u) d)
 
 -- the thread's endings go on by themselves: what came out of a member isn't in hand
 abbrev pub is_ending : Sight → ℕ → Bool
 is_ending u d = let w = walk_of (scene u) d in is_some (first_of w.endings) && not (is_full (slot w.slots (hand w.slots)))
-
-abbrev pub is_making : Half → Bool
-is_making (Making b i differs) = true
-is_making _ = false
-
-abbrev pub is_locking : Half → Bool
-is_locking (Locking word) = true
-is_locking _ = false
-
-abbrev pub is_giving : Half → Bool
-is_giving (Giving i kind x) = true
-is_giving _ = false
-
-abbrev pub is_brought : Half → Bool
-is_brought Brought = true
-is_brought _ = false
-
--- a load or a compare whose cell was looked at
-abbrev pub is_trying : Half → Bool
-is_trying (Saw x) = true
-is_trying (Matched x) = true
-is_trying _ = false
 
 abbrev pub is_refilling : Half → Bool
 is_refilling (Refill stage c x k) = true
@@ -192,36 +172,17 @@ is_acting (Saw x) = true
 is_acting (Matched x) = true
 is_acting _ = false
 
--- a make that has words left to look at or to write
-abbrev pub is_preparing : Half → Bool
-is_preparing (Making b i differs) = not (i == 5)
-is_preparing _ = false
-
 -- the rest of thread d's act has gone on by itself
 pub record Rests (d : ℕ) (u u' : Sight) : Type 0 where
   pub scene : scene u' ≡ rested d (scene u)
   pub over : has_rest u' d ≡ false
   pub halves : u'.halves ≡ slice_set u.halves d (returned (half_of u d))
 
--- the same make, with its words prepared
-abbrev pub IsReady : Half → Half → Type 0
-IsReady (Making b i differs) (Making c j found) = (c ≡ b) × (j ≡ 5)
-IsReady _ _ = ⊥
-
-pub record Prepares (d : ℕ) (u u' : Sight) : Type 0 where
-  pub scene : scene u' ≡ scene u
-  pub ready : IsReady (half_of u d) (half_of u' d)
-  pub halves : u'.halves ≡ slice_set u.halves d (half_of u' d)
-
 abbrev pub turned_by : Stepped → Turned
 turned_by (stepped.Event x) = Acted x
 turned_by (stepped.Quiet x) = Acted x
 turned_by stepped.Waited = Waited
 turned_by stepped.Done = Done
-
-abbrev pub is_event : Stepped → Bool
-is_event (stepped.Event x) = true
-is_event _ = false
 
 abbrev pub turned : Option Said → Turned
 turned None = Done

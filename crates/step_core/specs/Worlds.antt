@@ -1,5 +1,6 @@
--- What clauses see of a world, and what steps and turns of a thread do to it. All of it is own.
-use Rattle.std.specs.Prelude.{◌≡◌, ◌≢◌, ℕ, Bool, true, false, List, [], ◌∷◌, get_or, slice_get, slice_set, Option, Some, None}
+-- What steps and turns of a thread do to a world, by the table. All of it is own.
+pub use Rattle.step_core.specs.Sights.{IsAsLarge, Sight, half_of, scene}
+use Rattle.std.specs.Prelude.{◌≡◌, ◌≢◌, ℕ, Bool, true, false, List, [], ◌∷◌, slice_get, slice_set, Option, Some, None}
 use Rattle.step_threads.specs.declared.half.Half.{Half}
 use Rattle.step_threads.specs.declared.half.Half.TheVariants.{Rest, Refill}
 use Rattle.step_table.specs.declared.refill.Stage.TheVariants.{Turning}
@@ -15,12 +16,7 @@ use Rattle.step_threads.specs.Scenes.{Scene, next, play_with, rested, said_with,
 use Rattle.step_threads.specs.Steps.{Step, answered, half_by, step_at, story_by, walk_by}
 use Rattle.step_table.specs.Stories.{Kept, Story}
 use Rattle.step_threads.specs.Threads.{Fits}
-
--- the table, where each thread is, and what it has begun
-pub record Sight : Type 0 where
-  pub story : Story
-  pub walks : List Walk
-  pub halves : List Half
+use Rattle.step_core.specs.Sights.{Takes}
 
 abbrev pub thread_walk : Thread → Walk
 thread_walk t = walk t.course
@@ -31,12 +27,6 @@ thread_half t = t.half
 -- each thread has what its desk has
 pub record AllFit (v : Story) (threads : List Thread) : Type 0 where
   pub each : (d : ℕ) (t : Thread) → slice_get threads d ≡ Some t → Fits d t v
-
-abbrev pub scene : Sight → Scene
-scene u = record { extent = u.story.extent; history = u.story.history; walks = u.walks }
-
-abbrev pub half_of : Sight → ℕ → Half
-half_of u d = get_or u.halves d Rest
 
 -- the next step of thread d, if it isn't at its end
 abbrev pub step_of : ℕ → Sight → Option Step
@@ -54,18 +44,21 @@ sight_by d u x =
 abbrev pub answer_at : ℕ → Sight → Stepped
 answer_at d u = answered u.story d (half_of u d) (walk_of (scene u) d)
 
--- the world is as large as it was: threads, blocks, cells and allowance
-abbrev pub IsAsLarge : Sight → Sight → Type 0
-IsAsLarge u u' = u'.story.extent ≡ u.story.extent
-
 -- thread d made its next step, and the others are where they were
 abbrev pub Steps : ℕ → Sight → Stepped → Sight → Type 0
 Steps d u r u' = (r ≡ answer_at d u) × (u' ≡ sight_by d u (step_of d u))
 
--- thread d made these steps, one after another, and after each the words stood for the history
+-- thread d made its next step, with this answer: it is the table's, and such as any step is, and the words stand for
+-- the history
+pub record Advances (d : ℕ) (u : Sight) (r : Stepped) (u' : Sight) : Type 0 where
+  pub steps : Steps d u r u'
+  pub takes : Takes d u r u'
+  pub kept : Kept u'.story
+
+-- thread d made these steps, one after another
 abbrev pub StepsBy : ℕ → Sight → List Stepped → Sight → Type 0
 StepsBy d u [] u' = u' ≡ u
-StepsBy d u (r ∷ rs) u' = (m : Sight) × Steps d u r m × Kept m.story × StepsBy d m rs u'
+StepsBy d u (r ∷ rs) u' = (m : Sight) × Advances d u r m × StepsBy d m rs u'
 
 -- thread d made some steps
 abbrev pub GoesTo : ℕ → Sight → Sight → Type 0
@@ -83,14 +76,16 @@ NoneLoads d u = (e : ℕ) → e ≢ d → is_loading (half_of u e) ≡ false
 -- counts are told so of what thread d has in its slots, and exactly where no other thread has a load under way
 pub record TellsAll (d : ℕ) (u : Sight) (c : Scene) (tell : Telling) : Type 0 where
   pub each : (i : ℕ) (x : Pointer) → slot (walk_of c d).slots i ≡ Some x → Tells u.story d (state_in c) tell x
-  pub settled : NoneLoads d u → (i : ℕ) (x : Pointer) → slot (walk_of c d).slots i ≡ Some x → tell (state_in c) x ≡ exact (state_in c) x
+  pub settled : NoneLoads d u → (i : ℕ) (x : Pointer) → slot (walk_of c d).slots i ≡ Some x
+      → tell (state_in c) x ≡ exact (state_in c) x
 
--- a whole turn of thread d: its endings go on by themselves, then its next act comes, if it has one, and what that says, where a
--- count may leave out the loads that others have under way; others are where they were
+-- a whole turn of thread d: its endings go on by themselves, then its next act comes, if it has one, and what that
+-- says, where a count may leave out the loads that others have under way; others are where they were
 abbrev pub Turns : ℕ → Sight → Turned → Sight → Type 0
 Turns d u (Acted x) u' =
     let c = rested d (scene u) in
-    (tell : Telling) × TellsAll d u c tell × (Some x ≡ said_with tell d c) × (scene u' ≡ play_with tell d c) × (u'.halves ≡ slice_set u.halves d Rest)
+    (tell : Telling) × TellsAll d u c tell × (Some x ≡ said_with tell d c) × (scene u' ≡ play_with tell d c)
+    × (u'.halves ≡ slice_set u.halves d Rest)
 Turns d u Waited u' = ⊥
 Turns d u Done u' =
     let c = rested d (scene u) in (next (walk_of c d) ≡ None) × (scene u' ≡ c) × (u'.halves ≡ slice_set u.halves d Rest)

@@ -1,11 +1,13 @@
 //! Runs: one step for each number of a list; then each actor finishes a call that owes funds, and then runs alone to its end.
 ghost use Rattle.std.specs.Prelude.{◌≡◌, ◌≢◌, ◌+◌, ◌-◌, ◌*◌, ◌<◌, ◌≤◌, ◌∷◌, ◌++◌, ℕ, [], All, IfErr, IfOk, MatchOption, length, map, slice_get, sum_by, vec_capacity, vec_len};
 ghost use Rattle.step_core.specs.Bounds.{most_steps, steps_of, task_steps, weight};
-ghost use Rattle.step_core.specs.Headline.{AfterEach, AllAtRest, CountsAtRest, LocksWhereOwned, OfEach, TellsLocks, TellsWhatIsLeft, ValuesAtLastLeave, ValuesOnce};
+ghost use Rattle.step_core.specs.Chains.{Through};
+ghost use Rattle.step_core.specs.Headline.{AfterEach, AllAtRest, OfEach};
 ghost use Rattle.step_core.specs.Runs.{Adds, FinishesCall, IsFirstBad, IsRefusedFor, IsRun, IsScheduled, Moves, Names, RunInOrder, RunsToEnd, SettleInOrder, Settles, compares_next, is_calling, is_compare, is_out, is_owing};
 ghost use Rattle.step_table.specs.Stories.{Kept};
 ghost use Rattle.step_core.specs.Totals.{IsAtEnd};
-ghost use Rattle.step_core.specs.Worlds.{IsAsLarge, half_of};
+ghost use Rattle.step_core.specs.Sights.{IsAsLarge, half_of};
+ghost use Rattle.step_core.specs.Worlds.{Advances};
 ghost use Rattle.step_threads.specs.Courses.{todo};
 
 use crate::trace::{RunRefusal, Trace, TraceStep};
@@ -19,7 +21,8 @@ use step_threads::thread::Thread;
 
 impl World {
     /// Runs the world to its end: one step for each number; then each actor that has a load under way, or funds that it brought or is
-    /// to give back, finishes that call, in number order; and then each runs alone to its end, in number order. The trace has all
+    /// to give back, finishes that call, in number order, so that no call owes anything; and then each runs alone to its end, in
+    /// number order. The trace has all
     /// these steps in order; a number for an actor at its end is a step, `Done`, and no other step of the trace is. None waits. All
     /// memory is asked for before the first step.
     ///
@@ -32,12 +35,8 @@ impl World {
         ensures run { IfOk result (λ t. IsRun self.old t.steps.items self.new) }
         ensures scheduled { IfOk result (λ t. IsScheduled turns.now self.old t.steps.items self.new) }
         ensures moves { IfOk result (λ t. All Moves t.steps.items) }
-        ensures counts { IfOk result (λ t. AfterEach CountsAtRest self.old t.steps.items) }
-        ensures locks { IfOk result (λ t. OfEach LocksWhereOwned self.old t.steps.items) }
-        ensures answers { IfOk result (λ t. OfEach TellsLocks self.old t.steps.items) }
-        ensures once { IfOk result (λ t. AfterEach ValuesOnce self.old t.steps.items) }
-        ensures values { IfOk result (λ t. OfEach ValuesAtLastLeave self.old t.steps.items) }
-        ensures told { IfOk result (λ t. OfEach TellsWhatIsLeft self.old t.steps.items) }
+        ensures headline { IfOk result (λ t. Through AfterEach
+            (λ u x u'. OfEach u x u' × Advances (x.actor - 1) u x.stepped u') self.old t.steps.items self.new) }
         ensures end { IfOk result (λ t. IsAtEnd self.new) }
         ensures rest { IfOk result (λ t. AllAtRest self.new) }
         ensures kept { Kept self.new.story }
@@ -52,6 +51,7 @@ impl World {
         let mut steps = Vec::with_capacity(alloc, room)?;
         self.follow(turns, &mut steps);
         self.settle(&mut steps);
+        self.table.known();
         self.finish(&mut steps);
         self.table.known();
         Ok(Trace { steps })

@@ -1,8 +1,9 @@
 //! The machine: a table and the threads over it.
 ghost use Rattle.std.specs.Prelude.{◌≡◌, ◌≢◌, ◌<◌, ◌≤◌, ◌-◌, length, true, false};
+ghost use Rattle.step_core.specs.Sights.{AllHold, IsAsLarge, Takes, half_of, is_event};
 ghost use Rattle.step_table.specs.Stories.{Kept};
-ghost use Rattle.step_core.specs.Turning.{HasBegun, Plays, Prepares, Rests, has_rest, is_brought, is_clearing, is_ending, is_event, is_giving, is_locking, is_making, is_preparing, is_refilling, is_returning, is_trying, turned_by};
-ghost use Rattle.step_core.specs.Worlds.{GoesTo, IsAsLarge, Steps, Turns, half_of};
+ghost use Rattle.step_core.specs.Turning.{HasBegun, Plays, Rests, has_rest, is_acting, is_clearing, is_ending, is_refilling, is_returning, turned_by};
+ghost use Rattle.step_core.specs.Worlds.{Advances, GoesTo, Steps, Turns};
 
 use crate::told::{ends, makes};
 use std::marker::Model;
@@ -25,7 +26,8 @@ pub struct World {
 impl Model for World {
     ghost use Rattle.std.specs.Prelude.{map};
     ghost use Rattle.step_core.specs.Told.{IsTold, sight};
-    ghost use Rattle.step_core.specs.Worlds.{Sight, AllFit, thread_half, thread_walk};
+    ghost use Rattle.step_core.specs.Sights.{Sight};
+    ghost use Rattle.step_core.specs.Worlds.{AllFit, thread_half, thread_walk};
 
     ghost Value = { Sight };
 
@@ -36,13 +38,16 @@ impl Model for World {
 
 impl World {
     /// One step of an actor: one atomic step on one word, or one act that touches none. It answers `Event` just where the
-    /// step is an event, with what that says, and `Done` just at the actor's end. It would answer `Waited` just where all 256 funds of
+    /// step is an event, which is then one more in the history, with what that says; no other step changes the history. It
+    /// answers `Done` just at the actor's end, and then nothing changes. After it what each actor's slots hold is just what the
+    /// history says. It would answer `Waited` just where all 256 funds of
     /// a cell's value were taken, which so few actors never leave: each that finds half of them taken puts them back. Condition: the
     /// actor is one of the world's, from 1 (own).
     pub fn step(&mut self, actor: u8) -> Stepped
         requires some { 0 < actor }
         requires within { actor ≤ length self.old.walks }
         ensures steps { Steps (actor - 1) self.old result self.new }
+        ensures takes { Takes (actor - 1) self.old result self.new }
         ensures never { result ≢ Stepped.Waited }
         ensures kept { Kept self.new.story }
         ensures actors { length self.new.walks ≡ length self.old.walks }
@@ -62,6 +67,7 @@ impl World {
         ensures turns { Turns (actor - 1) self.old result self.new }
         ensures steps { GoesTo (actor - 1) self.old self.new }
         ensures kept { Kept self.new.story }
+        ensures hands { AllHold self.new }
         ensures actors { length self.new.walks ≡ length self.old.walks }
         ensures extent { IsAsLarge self.old self.new }
     {
@@ -85,7 +91,7 @@ impl World {
         }
     }
 
-    /// The steps through the next act.
+    /// The steps through the next act: one, and the rest of it where that only begins it.
     fn act(&mut self, number: usize) -> Turned
         requires within { number < length self.old.walks }
         requires rested { has_rest self.old number ≡ false }
@@ -93,82 +99,21 @@ impl World {
         ensures goes { GoesTo number self.old self.new }
         ensures actors { length self.new.walks ≡ length self.old.walks }
     {
-        if self.is_making(number) {
-            return self.make(number);
-        }
-        if self.is_locking(number) {
-            return self.lock(number);
-        }
-        if self.is_giving(number) {
-            return self.give(number);
-        }
-        if self.is_brought(number) {
-            return self.swap(number);
-        }
-        if self.is_trying(number) {
-            return self.try_on(number);
+        if self.is_acting(number) {
+            return self.go_on(number);
         }
         let stepped = self.advance(number);
-        if self.is_making(number) {
-            return self.make(number);
-        }
-        if self.is_locking(number) {
-            return self.lock(number);
-        }
-        if self.is_giving(number) {
-            return self.give(number);
-        }
-        if self.is_brought(number) {
-            return self.swap(number);
-        }
-        if self.is_trying(number) {
-            return self.try_on(number);
+        if self.is_acting(number) {
+            return self.go_on(number);
         }
         turned(stepped)
     }
 
-    /// The rest of a lock that is under way. Nobody steps between, so a second step finds the word that the first left.
-    fn lock(&mut self, number: usize) -> Turned
+    /// The rest of an act that is under way, through its event. Nobody steps between, so what is looked at again is as it was
+    /// left, and the act is made.
+    fn go_on(&mut self, number: usize) -> Turned
         requires within { number < length self.old.walks }
-        requires locking { is_locking (half_of self.old number) ≡ true }
-        ensures plays { Plays number self.old result self.new }
-        ensures goes { GoesTo number self.old self.new }
-        ensures actors { length self.new.walks ≡ length self.old.walks }
-    {
-        let stepped = self.advance(number);
-        if is_event(stepped) {
-            return turned(stepped);
-        }
-        turned(self.advance(number))
-    }
-
-    /// The rest of a pointer from this that is under way.
-    fn give(&mut self, number: usize) -> Turned
-        requires within { number < length self.old.walks }
-        requires giving { is_giving (half_of self.old number) ≡ true }
-        ensures plays { Plays number self.old result self.new }
-        ensures goes { GoesTo number self.old self.new }
-        ensures actors { length self.new.walks ≡ length self.old.walks }
-    {
-        turned(self.advance(number))
-    }
-
-    /// The swap, where its funds are brought.
-    fn swap(&mut self, number: usize) -> Turned
-        requires within { number < length self.old.walks }
-        requires brought { is_brought (half_of self.old number) ≡ true }
-        ensures plays { Plays number self.old result self.new }
-        ensures goes { GoesTo number self.old self.new }
-        ensures actors { length self.new.walks ≡ length self.old.walks }
-    {
-        turned(self.advance(number))
-    }
-
-    /// The rest of a load or a compare whose cell was looked at, through its event. Nobody steps between, so a second look sees what
-    /// the cell shows where it is tried.
-    fn try_on(&mut self, number: usize) -> Turned
-        requires within { number < length self.old.walks }
-        requires trying { is_trying (half_of self.old number) ≡ true }
+        requires acting { is_acting (half_of self.old number) ≡ true }
         ensures plays { Plays number self.old result self.new }
         ensures goes { GoesTo number self.old self.new }
         ensures actors { length self.new.walks ≡ length self.old.walks }
@@ -178,31 +123,6 @@ impl World {
             if is_event(stepped) {
                 return turned(stepped);
             }
-        }
-    }
-
-    /// The rest of a make that is under way.
-    fn make(&mut self, number: usize) -> Turned
-        requires within { number < length self.old.walks }
-        requires making { is_making (half_of self.old number) ≡ true }
-        ensures plays { Plays number self.old result self.new }
-        ensures goes { GoesTo number self.old self.new }
-        ensures actors { length self.new.walks ≡ length self.old.walks }
-    {
-        self.prepare(number);
-        turned(self.advance(number))
-    }
-
-    /// The steps of a make through its last word.
-    fn prepare(&mut self, number: usize)
-        requires within { number < length self.old.walks }
-        requires making { is_making (half_of self.old number) ≡ true }
-        ensures prepares { Prepares number self.old self.new }
-        ensures goes { GoesTo number self.old self.new }
-        ensures actors { length self.new.walks ≡ length self.old.walks }
-    {
-        while self.is_preparing(number) {
-            self.advance(number);
         }
     }
 
@@ -226,47 +146,20 @@ impl World {
         course.endings.first().is_some() && !course.holdings.is_full(course.holdings.hand())
     }
 
-    /// Whether a thread makes an object.
-    fn is_making(&self, number: usize) -> bool
+    /// Whether a thread has an act under way.
+    fn is_acting(&self, number: usize) -> bool
         requires { number < length self.now.walks }
-        ensures { result ≡ is_making (half_of self.now number) }
+        ensures { result ≡ is_acting (half_of self.now number) }
     {
-        matches!(self.threads[number].half, Half::Making { .. })
-    }
-
-    /// Whether a thread locks a weak pointer.
-    fn is_locking(&self, number: usize) -> bool
-        requires { number < length self.now.walks }
-        ensures { result ≡ is_locking (half_of self.now number) }
-    {
-        matches!(self.threads[number].half, Half::Locking { .. })
-    }
-
-    /// Whether a thread takes a pointer from this.
-    fn is_giving(&self, number: usize) -> bool
-        requires { number < length self.now.walks }
-        ensures { result ≡ is_giving (half_of self.now number) }
-    {
-        matches!(self.threads[number].half, Half::Giving { .. })
-    }
-
-    /// Whether a thread has brought the funds of what goes into a cell.
-    fn is_brought(&self, number: usize) -> bool
-        requires { number < length self.now.walks }
-        ensures { result ≡ is_brought (half_of self.now number) }
-    {
-        matches!(self.threads[number].half, Half::Brought)
-    }
-
-    /// Whether a thread has looked at a cell that it loads or compares.
-    fn is_trying(&self, number: usize) -> bool
-        requires { number < length self.now.walks }
-        ensures { result ≡ is_trying (half_of self.now number) }
-    {
-        matches!(
-            self.threads[number].half,
-            Half::Saw { .. } | Half::Matched { .. }
-        )
+        match self.threads[number].half {
+            Half::Rest | Half::Refill { .. } | Half::Returning { .. } | Half::Clearing => false,
+            Half::Making { .. }
+            | Half::Locking { .. }
+            | Half::Giving { .. }
+            | Half::Brought
+            | Half::Saw { .. }
+            | Half::Matched { .. } => true,
+        }
     }
 
     /// Whether a thread has a fund of a cell to turn, or funds to put back.
@@ -293,21 +186,11 @@ impl World {
         matches!(self.threads[number].half, Half::Clearing)
     }
 
-    /// Whether a thread makes an object, and has words of its block left to look at or to write.
-    fn is_preparing(&self, number: usize) -> bool
-        requires { number < length self.now.walks }
-        ensures { result ≡ is_preparing (half_of self.now number) }
-    {
-        match self.threads[number].half {
-            Half::Making { index, .. } => index != 5,
-            _ => false,
-        }
-    }
-
     /// The next step of a thread.
     pub(crate) fn advance(&mut self, number: usize) -> Stepped
         requires { number < length self.old.walks }
         ensures was { HasBegun number self.old }
+        ensures advances { Advances number self.old result self.new }
         ensures steps { Steps number self.old result self.new }
         ensures never { result ≢ Stepped.Waited }
         ensures kept { Kept self.new.story }

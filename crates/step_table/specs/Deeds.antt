@@ -12,7 +12,7 @@ use Rattle.step_table.specs.declared.field.Field.{Field}
 use Rattle.step_table.specs.declared.holdings.Pointer.{Pointer}
 use Rattle.step_table.specs.declared.past.Deed.{Deed}
 use Rattle.step_table.specs.declared.past.Deed.TheVariants as deed
-use Rattle.step_table.specs.Stories.{Story, pending}
+use Rattle.step_table.specs.Stories.{Story, pending, state}
 use Rattle.step_table.specs.declared.field.Field.TheVariants.{Zero, One, Two, Three}
 use Rattle.control_word.specs.declared.handle.Handle.{Handle}
 use Rattle.control_word.specs.Handles.{handle, empty, owner_before}
@@ -111,8 +111,11 @@ pub record Tells (v : Story) (d : ℕ) (s : State) (tell : Telling) (x : Pointer
   pub most : tell s x ≤ exact s x
   pub exactly : IsSettled v d x → tell s x ≡ exact s x
 
+abbrev pub tell_count : Telling → State → Pointer → Deed
+tell_count tell s x = deed.Count x.kind x.block x.place (tell s x)
+
 abbrev pub tell : Story → Pointer → Deed
-tell v x = deed.Count x.kind x.block x.place (told_number (owner_word v x))
+tell v = tell_count (by_word v) (state v)
 
 abbrev pub tell_expired : State → Pointer → Deed
 tell_expired s x = deed.Expired x.kind x.block x.place (is_expired s x)

@@ -56,22 +56,22 @@ weak_in v b p = weak_of (object_in v b) p
 abbrev pub handle_in : Story → Kind → Block → Option Place → Handle
 handle_in v k b p = handle k (Some (object_in v b)) p
 
--- the event of a deed; a write of a vacant block is none
-abbrev pub event_of : Story → Deed → Option (Event Nothing)
-event_of v (Prepare b) = None
-event_of v (Write b j n) = None
-event_of v (Claim b enabled null fields) = Some (event.Make b enabled null fields tt)
-event_of v (Share b p q) = Some (event.Share (owner_in v b p) q)
-event_of v (WeakShare b p) = Some (event.WeakShare (object_in v b) p)
-event_of v (Leave b p last) = Some (event.Leave (owner_in v b p) last)
-event_of v (WeakLeave b p vacant) = Some (event.WeakLeave (weak_in v b p) vacant)
-event_of v (Lock b p got) = Some (event.Lock (weak_in v b p) got)
-event_of v (Count k b p n) = Some (event.Count (handle_in v k b p) n)
-event_of v (Expired k b p expired) = Some (event.Expired (handle_in v k b p) expired)
-event_of v (Read b p n) = Some (event.Read (owner_in v b p) n)
-event_of v (Clear b m) = Some (event.ClearMember (object_in v b) m (empty (kind_of_member m)))
-event_of v (Finish b vacant) = Some (event.Finish (object_in v b) vacant tt)
-event_of v (OnCell x) = cell_event (state v) x
+-- the event of a deed in a state; a write of a vacant block is none
+abbrev pub event_of : State → Deed → Option (Event Nothing)
+event_of s (Prepare b) = None
+event_of s (Write b j n) = None
+event_of s (Claim b enabled null fields) = Some (event.Make b enabled null fields tt)
+event_of s (Share b p q) = Some (event.Share (owner (s.latest b.0) p) q)
+event_of s (WeakShare b p) = Some (event.WeakShare (s.latest b.0) p)
+event_of s (Leave b p last) = Some (event.Leave (owner (s.latest b.0) p) last)
+event_of s (WeakLeave b p vacant) = Some (event.WeakLeave (weak_of (s.latest b.0) p) vacant)
+event_of s (Lock b p got) = Some (event.Lock (weak_of (s.latest b.0) p) got)
+event_of s (Count k b p n) = Some (event.Count (handle k (Some (s.latest b.0)) p) n)
+event_of s (Expired k b p expired) = Some (event.Expired (handle k (Some (s.latest b.0)) p) expired)
+event_of s (Read b p n) = Some (event.Read (owner (s.latest b.0) p) n)
+event_of s (Clear b m) = Some (event.ClearMember (s.latest b.0) m (empty (kind_of_member m)))
+event_of s (Finish b vacant) = Some (event.Finish (s.latest b.0) vacant tt)
+event_of s (OnCell x) = cell_event s x
 
 -- the words after it: one of them is written, or none
 abbrev pub words_after : Story → Deed → List ℕ
@@ -112,7 +112,7 @@ added d None h = h
 added d (Some e) h = entry d e ∷ h
 
 abbrev pub history_after : Story → ℕ → Deed → List (Entry Nothing)
-history_after v d x = added d (event_of v x) v.history
+history_after v d x = added d (event_of (state v) x) v.history
 
 abbrev pub views_after : Story → ℕ → Deed → List (View Nothing)
 views_after v d x = slice_set v.views d (sees_as (view_in v.views d) (pending_after v d x) (history_after v d x))

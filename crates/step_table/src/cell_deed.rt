@@ -5,7 +5,7 @@ use control_word::handle::Kind;
 use control_word::place::{Block, Place};
 
 /// A cell: free-standing, by its number from 0, or a member of the object in a block (0 first, 1 next, 2 up).
-#[derive(Clone, Copy, Debug, PartialEq, Eq)]
+#[derive(Clone, Copy)]
 pub enum Cell {
     Free { number: u32 },
     Member { block: Block, member: u8 },

@@ -3,7 +3,7 @@
 use control_word::Shape;
 
 /// The shape of a world's table, and how many actors share it.
-#[derive(Clone, Copy, Debug, PartialEq, Eq, Drop)]
+#[derive(Clone, Copy, Drop)]
 pub struct Extent {
     pub shape: Shape,
     /// 1 to 64.

@@ -1,7 +1,7 @@
 //! What a make wants its object to be.
 
 /// What a make wants its object to be.
-#[derive(Clone, Copy, Debug, PartialEq, Eq)]
+#[derive(Clone, Copy)]
 pub struct Form {
     /// Fields 0 to 3.
     pub fields: [u64; 4],

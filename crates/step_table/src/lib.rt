@@ -2,26 +2,17 @@
 #![tactic(auto)]
 
 pub mod cell_deed;
-pub mod cell_events;
-#[cfg(test)]
-mod cell_tests;
 pub mod cells;
 pub mod clearing;
 pub mod comparing;
 pub mod contents;
-pub mod counting;
 pub mod ended;
 pub mod extent;
 pub mod field;
 pub mod form;
-#[cfg(test)]
-mod fund_tests;
 pub mod funds;
-#[cfg(test)]
-mod holding_tests;
 pub mod holdings;
 pub mod loading;
-pub mod others;
 pub mod past;
 pub mod pointer;
 pub mod reading;
@@ -30,8 +21,6 @@ pub mod slot;
 pub mod swapping;
 pub mod table;
 pub mod taking;
-#[cfg(test)]
-mod tests;
 pub mod this;
 pub mod values;
 pub mod weak;

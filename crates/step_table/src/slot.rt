@@ -8,7 +8,7 @@ use control_word::handle::Kind;
 use control_word::place::Place;
 
 /// The value of a name, or the one that is in hand.
-#[derive(Clone, Copy, Debug, PartialEq, Eq, Drop)]
+#[derive(Clone, Copy, Drop)]
 pub enum Slot {
     /// A pointer without an object. A shared one may store a place all the same ([util.smartptr.shared.const], the aliasing
     /// constructor).

@@ -14,9 +14,7 @@ use crate::past::Deed;
 use crate::slot::Slot;
 use crate::table::Table;
 use control_word::CellWord;
-
-/// The funds of a value that is in a cell.
-pub const FUNDS: u32 = 256;
+use control_word::shape::CELL_FUNDS;
 
 impl Holdings {
     /// Brings the funds of a slot's pointer, which is to go into a cell.
@@ -30,7 +28,7 @@ impl Holdings {
         ensures holds { Holds desk self.now.slots.items table.new }
     {
         table.known();
-        table.bring(desk, pointer, FUNDS);
+        table.bring(desk, pointer, CELL_FUNDS);
     }
 
     /// Exchanges a slot's value for what a cell holds.

@@ -3,8 +3,6 @@ use Rattle.std.proofs.Common.{◌≡◌, ℕ, ◌<◌, ◌==◌, Bool, true, fal
 use Rattle.std.proofs.lemmas.Bool.{cond-false, cond-true}
 use Rattle.std.specs.Prelude.{Option, Some, None, is_some}
 use Rattle.control_word.specs.declared.cell.CellWord.{CellWord}
-use Rattle.control_word.specs.declared.handle.Kind.{Kind}
-use Rattle.control_word.specs.Handles.{equivalent}
 use Rattle.control_word.specs.Packing.{IsCellWord, cell_bits}
 use Rattle.step_threads.specs.declared.act.Act.{Act}
 use Rattle.step_threads.specs.declared.act.Act.TheVariants.{Compare}
@@ -26,7 +24,7 @@ use Rattle.step_threads.specs.declared.said.Stepped.TheVariants.{Event, Quiet, W
 use Rattle.step_threads.specs.declared.thread.Thread.{Thread}
 use Rattle.step_table.specs.CellDeeds.{kind_in}
 use Rattle.step_table.specs.Cells.{word_at}
-use Rattle.step_table.specs.Contents.{as_word, compared_in, held_in, is_of, is_spent, same_value, seen, told}
+use Rattle.step_table.specs.Contents.{as_word, compared_in, is_of, is_spent, same_value, seen}
 use Rattle.step_table.specs.Deeds.{on}
 use Rattle.step_table.specs.Holdings.{Holds, Slots, slot, value}
 use Rattle.step_table.specs.Refills.{more_taken}
@@ -37,7 +35,7 @@ use Rattle.step_threads.specs.Programs.{IsIn}
 use Rattle.step_threads.specs.Scenes.{came, compared}
 use Rattle.step_threads.specs.Steps.{Step, acts, compares, fetches, gives_back, matched, matched_on, matches, missed, saw, saw_on, sees, settles, silent, step_at, takes, waits, within}
 use Rattle.step_threads.specs.Threads.{HasStepped}
-use Rattle.step_threads.proofs.CellNames.{cell_kind, cell_open, goes_in}
+use Rattle.step_threads.proofs.CellNames.{cell_open, goes_in}
 use Rattle.step_threads.proofs.Courses.{todo_at}
 use Rattle.step_threads.proofs.LookSteps.{sees_bare, sees_full, sees_spent, spent_bare, stepped_waiting, takes_it, takes_none}
 use Rattle.step_threads.proofs.Steps.{at_act, stepped_as, waits_act}
@@ -61,7 +59,6 @@ expected_told d slots v k c kept lt holds inside there is =
     let at = cell_at (state v) slots c in
     alike_seen d slots v k kept holds at (seen v at) (seen_found v d at kept lt (cell_open v d slots c inside holds there))
     (goes_in v slots c (value slots k) inside is)
-    ∙ ap (λ (q : Kind). equivalent (held_in (state v) at) (told (state v) q (value slots k))) (cell_kind v slots c inside)
 
 -- what a cell shows still is what it holds
 pub shown_still : (d : ℕ) (slots : Slots) (v : Story) (c : CellName) (x : CellWord) → Kept v → d < v.extent.actors → Holds d slots v
@@ -86,7 +83,7 @@ module _ (d : ℕ) (t : Thread) (v : Story) (k : ℕ) (c : CellName) (weak : Boo
   number = (task_at t.course).statement
 
   -- a compare that is done, by an event that tells it
-  done : (b : Bool) (y : Deed) (h : Half) (r : Stepped) (t' : Thread) (v' : Story) → waits v t.half (walk t.course) ≡ false → is_some (event_of v y) ≡ true
+  done : (b : Bool) (y : Deed) (h : Half) (r : Stepped) (t' : Thread) (v' : Story) → waits v t.half (walk t.course) ≡ false → is_some (event_of (state v) y) ≡ true
       → step_at v d t.half (walk t.course) ≡ Some (acts v d (walk t.course) number (rest t.course) (Compare k c weak) (Some y) h)
       → is_expected (state v) slots k c ≡ b → r ≡ Event (answers number b) → v' ≡ after v d y → walk t'.course ≡ compared_walk t v c b → t'.half ≡ h
       → HasStepped d t v r t' v'
@@ -94,7 +91,7 @@ module _ (d : ℕ) (t : Thread) (v : Story) (k : ℕ) (c : CellName) (weak : Boo
       let w = walk t.course in
       stepped_as d t v (acts v d w number (rest t.course) (Compare k c weak) (Some y) h) r t' v' goes is
       (answer ∙ ap (λ (q : Bool). Event (answers number q)) (sym tells)
-      ∙ sym (cond-true (is_some (event_of v y)) (Event (answers number (is_expected (state v) slots k c))) (Quiet (answers number (is_expected (state v) slots k c))) event))
+      ∙ sym (cond-true (is_some (event_of (state v) y)) (Event (answers number (is_expected (state v) slots k c))) (Quiet (answers number (is_expected (state v) slots k c))) event))
       story (walked ∙ ap (λ (q : Bool). compared_walk t v c q) (sym tells)) half
 
   -- the first step of a compare

@@ -40,7 +40,7 @@ same_remains v d x Owner false = refl
 same_remains v d x Weak true = refl
 same_remains v d x Weak false = refl
 
-pub left_event : (v : Story) (x : Pointer) (k : Kind) (b : Bool) → is_some (event_of v (leave_as k x b)) ≡ true
+pub left_event : (v : Story) (x : Pointer) (k : Kind) (b : Bool) → is_some (event_of (state v) (leave_as k x b)) ≡ true
 left_event v x Owner b = refl
 left_event v x Weak b = refl
 

@@ -54,7 +54,7 @@ module _ (d : ℕ) (t : Thread) (v : Story) (h h' : Half) (fits : Fits d t v) (w
       }
 
   -- a step that is no event was made, and the thread is at the same act
-  pub fits_quiet : (x : Deed) → event_of v x ≡ None → HalfFits d h' t.course.holdings.slots.items (task_at t.course).act (after v d x) → IsNext h' t.course
+  pub fits_quiet : (x : Deed) → event_of (state v) x ≡ None → HalfFits d h' t.course.holdings.slots.items (task_at t.course).act (after v d x) → IsNext h' t.course
       → Fits d (record { course = t.course; stock = t.stock; half = h' }) (after v d x)
   fits_quiet x quiet half next =
       let w = after v d x in

@@ -17,7 +17,7 @@ use Rattle.step_threads.specs.declared.thread.Thread.{Thread}
 use Rattle.step_threads.specs.Courses.{done_on, hand, rest, task_at, todo, walk}
 use Rattle.step_table.specs.Holdings.{is_full, slot}
 use Rattle.step_threads.specs.Steps.{Step, at_rest, begun, emptied, empties, ends_on, first, half_by, is_event, step_at, stepped, story_after, story_by, waits, waits_at, waits_on, walk_by}
-use Rattle.step_table.specs.Stories.{Story, event_of}
+use Rattle.step_table.specs.Stories.{Story, event_of, state}
 use Rattle.step_threads.specs.Threads.{HasStepped}
 use Rattle.step_threads.proofs.Courses.{todo_at}
 
@@ -85,12 +85,12 @@ pub on_slot : (f : Pointer → Deed) (v : Story) (d : ℕ) (o : Option Pointer) 
 on_slot f v d None = refl
 on_slot f v d (Some x) = refl
 
-pub event_on : (f : Pointer → Deed) (v : Story) (o : Option Pointer) → ((x : Pointer) → is_some (event_of v (f x)) ≡ true)
+pub event_on : (f : Pointer → Deed) (v : Story) (o : Option Pointer) → ((x : Pointer) → is_some (event_of (state v) (f x)) ≡ true)
     → is_full o ≡ is_event v (option_map f o)
 event_on f v None event = refl
 event_on f v (Some x) event = sym (event x)
 
 pub says_on : (f : Pointer → Deed) (v : Story) (o : Option Pointer) (r : Stepped) (x y : Said) (b : Bool)
-    → ((p : Pointer) → is_some (event_of v (f p)) ≡ true) → r ≡ cond b (Event x) (Quiet x) → b ≡ is_full o → x ≡ y
+    → ((p : Pointer) → is_some (event_of (state v) (f p)) ≡ true) → r ≡ cond b (Event x) (Quiet x) → b ≡ is_full o → x ≡ y
     → r ≡ cond (is_event v (option_map f o)) (Event y) (Quiet y)
 says_on f v o r x y b event is e same = let k = event_on f v o event in cc

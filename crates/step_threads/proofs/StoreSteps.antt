@@ -16,7 +16,7 @@ use Rattle.step_table.specs.Deeds.{on, share, share_as}
 use Rattle.step_table.specs.Holdings.{is_full, slot, value}
 use Rattle.step_threads.specs.Scenes.{refusal}
 use Rattle.step_threads.specs.Steps.{Step, acts, brings, first, sends, silent, step_at, swaps}
-use Rattle.step_table.specs.Stories.{Story, event_of}
+use Rattle.step_table.specs.Stories.{Story, event_of, state}
 use Rattle.step_threads.specs.Threads.{HasStepped}
 use Rattle.step_threads.proofs.Named.{refusal_none, told_as, walked_by}
 use Rattle.step_threads.proofs.Steps.{at_act, on_slot, says_on, stepped_as, waits_act}
@@ -44,7 +44,7 @@ module _ (d : ℕ) (t : Thread) (v : Story) (a : Act) (c : CellName) (i : ℕ) (
       let ts = rest t.course in
       step_sends e goes ∙ ap (λ (o : Option Pointer). Some (on (brings w n) (swaps v d w n ts a c i) o)) at
 
-share_event : (v : Story) (x : Pointer) (k : Kind) → is_some (event_of v (share_as k x)) ≡ true
+share_event : (v : Story) (x : Pointer) (k : Kind) → is_some (event_of (state v) (share_as k x)) ≡ true
 share_event v x Owner = refl
 share_event v x Weak = refl
 

@@ -312,7 +312,7 @@ half_by h (Some x) = x.half
 
 abbrev pub is_event : Story → Option Deed → Bool
 is_event v None = false
-is_event v (Some x) = is_some (event_of v x)
+is_event v (Some x) = is_some (event_of (state v) x)
 
 -- the next act looks at a cell of whose value all funds were taken, and which it loads, or finds to differ: it waits until some are put
 -- back

@@ -9,7 +9,7 @@ use step_table::field::Field;
 use step_table::form::Form;
 
 /// A primitive act. What is taken comes into the hand, and `Put` moves it into a name and leaves what the name held.
-#[derive(Clone, Copy, Debug, PartialEq, Eq)]
+#[derive(Clone, Copy)]
 pub enum Act {
     /// Makes an object of this form.
     Make {
@@ -106,7 +106,7 @@ pub enum Act {
 }
 
 /// What is told of the pointers of names, by their values alone.
-#[derive(Clone, Copy, Debug, PartialEq, Eq)]
+#[derive(Clone, Copy)]
 pub enum Question {
     /// Where a name points.
     Place { name: u8 },
@@ -117,7 +117,7 @@ pub enum Question {
 }
 
 /// An act, with the number of its statement from 1, or 0 at the end of its thread.
-#[derive(Clone, Copy, Debug, PartialEq, Eq)]
+#[derive(Clone, Copy)]
 pub struct Task {
     pub statement: u32,
     pub act: Act,
@@ -144,7 +144,7 @@ pub fn tasks(alloc: Global, calls: &[Call], names: u8) -> Result<Vec<Task>, Allo
 }
 
 /// How a call goes on after its first act.
-#[derive(Clone, Copy, Debug, PartialEq, Eq)]
+#[derive(Clone, Copy)]
 pub enum Tail {
     /// It doesn't.
     Nothing,

@@ -8,7 +8,7 @@ use std::marker::Model;
 
 /// An object that ends: its members before `stage` are cleared, and behind the last it is finished. Its last owner left by
 /// this statement.
-#[derive(Clone, Copy, Debug, PartialEq, Eq)]
+#[derive(Clone, Copy)]
 pub struct Ending {
     pub block: Block,
     pub stage: u8,

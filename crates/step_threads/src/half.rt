@@ -1,12 +1,4 @@
 //! Where a thread is within an act.
-ghost use Rattle.std.specs.Prelude.{◌≢◌, ℕ, List};
-ghost use Rattle.step_threads.specs.Actors.{HalfFits, Stocks};
-ghost use Rattle.step_threads.specs.Endings.{EndsAll};
-ghost use Rattle.step_table.specs.Holdings.{Holds, Slots};
-ghost use Rattle.step_table.specs.Stories.{Kept, Story, after};
-ghost use Rattle.step_threads.specs.declared.act.Act.{Act};
-ghost use Rattle.step_threads.specs.declared.ending.Ending.{Ending};
-ghost use Rattle.step_table.specs.declared.past.Deed.{Deed};
 
 use control_word::CellWord;
 use control_word::handle::Kind;
@@ -16,7 +8,7 @@ use step_table::holdings::Pointer;
 use step_table::refill::Stage;
 
 /// What a thread has begun and not ended.
-#[derive(Clone, Copy, Debug, PartialEq, Eq)]
+#[derive(Clone, Copy)]
 pub enum Half {
     /// Nothing.
     Rest,
@@ -69,10 +61,3 @@ pub enum Half {
     /// A member of the object that ends was seen to hold something: it is taken out next.
     Clearing,
 }
-
-/// What other desks do changes nothing of what a desk has.
-pub(crate) fn others_keep()
-    ensures { (d e : ℕ) (slots : Slots) (blocks : List ℕ) (act : Act) (room : ℕ) (half : Half) (es : List Ending) (v : Story) (x : Deed) → e ≢ d → Kept v → Kept (after v e x)
-        → Holds d slots v × Stocks d blocks room half v × HalfFits d half slots act v × EndsAll d es v
-        → Holds d slots (after v e x) × Stocks d blocks room half (after v e x) × HalfFits d half slots act (after v e x) × EndsAll d es (after v e x) }
-{}

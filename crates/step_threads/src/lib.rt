@@ -17,8 +17,6 @@ pub mod refusing;
 pub mod said;
 pub mod stock;
 pub mod storing;
-#[cfg(test)]
-mod tests;
 pub mod this;
 pub mod thread;
 pub mod trying;

@@ -16,11 +16,11 @@ use crate::said::{Answer, Said, Stepped};
 use crate::storing::returning;
 use crate::thread::{Thread, silent};
 use control_word::CellWord;
+use control_word::shape::CELL_FUNDS;
 use step_table::cell_deed::Cell;
 use step_table::comparing::is_same_value;
 use step_table::holdings::Pointer;
 use step_table::refill::Stage;
-use step_table::swapping::FUNDS;
 use step_table::table::Table;
 
 impl Thread {
@@ -47,7 +47,7 @@ impl Thread {
         if found.owned.is_none() {
             return Stepped::Event(silent(statement));
         }
-        if found.taken == 256 {
+        if u32::from(found.taken) == CELL_FUNDS {
             return Stepped::Waited;
         }
         self.half = Half::Saw { found };
@@ -80,7 +80,7 @@ impl Thread {
             if found.owned.is_none() {
                 return Stepped::Event(compared(statement, false));
             }
-            if found.taken == 256 {
+            if u32::from(found.taken) == CELL_FUNDS {
                 return Stepped::Waited;
             }
         }
@@ -260,7 +260,7 @@ fn missed(statement: u32, brought: Option<Pointer>) -> Half
         Some(pointer) => Half::Returning {
             kind: pointer.kind,
             block: pointer.block,
-            funds: FUNDS,
+            funds: CELL_FUNDS,
             statement,
         },
     }

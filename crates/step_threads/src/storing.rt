@@ -17,7 +17,7 @@ use crate::thread::{Thread, says, silent};
 use control_word::CellWord;
 use control_word::handle::Kind;
 use control_word::place::Block;
-use step_table::swapping::FUNDS;
+use control_word::shape::CELL_FUNDS;
 use step_table::table::Table;
 
 impl Thread {
@@ -219,7 +219,7 @@ pub(crate) fn returning(kind: Kind, statement: u32, found: CellWord) -> Half
         Some(block) => Half::Returning {
             kind,
             block,
-            funds: FUNDS - u32::from(found.taken),
+            funds: CELL_FUNDS - u32::from(found.taken),
             statement,
         },
     }

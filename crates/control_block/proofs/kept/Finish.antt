@@ -22,7 +22,7 @@ use Rattle.control_block.specs.Plays.{At, Ends, IsClear, Rests, finished}
 use Rattle.control_block.proofs.Endings.{ends_here}
 use Rattle.control_block.proofs.Passage.{adds, next, point, ready, still_ending}
 use Rattle.control_block.proofs.Slots.{kept_else, others_still}
-use Rattle.control_block.proofs.kept.WeakLeave.{falls}
+use Rattle.control_block.proofs.kept.MayLeave.{falls}
 
 module _ {V : Type 0} where
   ends_kept : (p : Phase) (d : ℕ) (x : Option V) → p ≡ ending d → while_live gone x ≡ while_live p x
@@ -41,7 +41,7 @@ module _ {V : Type 0} where
       let ev : Event V = Finish o (get_or s.words i 0 == 1) x in
       let h : ℕ → List (Entry V) = λ y. entry d (Finish o (get_or s.words y 0 == 1) x) ∷ r.history in
       let some' : 0 < get_or s.words i 0 = subst (λ y. 0 < get_or s.words y 0) same l.0 in
-      let now = subst (λ m. Stands z (set s.words i m) (set (map view_of s.views) id (sees_as v.view Idle (h i))) (h i)) (sym (falls _ some' small))
+      let now = subst (λ m. Stands z (set s.words i m) (set (map view_of s.views) id (sees_as v.view Idle (h i))) (h i)) (sym (falls _ 1 some' small))
       (subst (λ y. Stands z (set s.words y (get_or s.words y 0 - 1)) (set (map view_of s.views) id (sees_as v.view Idle (h y))) (h y)) same l.1) in
       let gone_now = moved_to gone (t.object o) in (
         seeing v Idle None (h i),

@@ -1,5 +1,5 @@
 -- Leave: one owner less is allowed; the last one's leave takes the slot with the value.
-use Rattle.std.proofs.Common.{◌≡◌, ◌≢◌, ℕ, ◌+◌, ◌-◌, ◌%◌, ◌^◌, ◌<◌, ◌≤◌, ◌==◌, Bool, true, false, List, [], ◌∷◌, get_or, set, map, length-set, Option}
+use Rattle.std.proofs.Common.{◌≡◌, ◌≢◌, ℕ, ◌+◌, ◌-◌, ◌*◌, ◌%◌, ◌^◌, ◌<◌, ◌≤◌, ◌==◌, Bool, true, false, List, [], ◌∷◌, get_or, set, map, length-set, Option}
 use Rattle.std.proofs.Common.{Some, None, refl, sym, ap, subst, ◌∙◌, inl, inr, ⊎_elim, arith, eq-eqb, ne_eqb}
 use Rattle.std.proofs.lemmas.Bool.{cases_eq}
 use Rattle.atomic_table.specs.Table as Table
@@ -12,10 +12,9 @@ use Rattle.control_word.proofs.history.Legal.{sound}
 use Rattle.control_word.proofs.history.Moving.{counted_live, owner_counted}
 use Rattle.control_word.proofs.history.Values.{has_value}
 use Rattle.control_word.proofs.lists.Tallies.{put_again, put_same}
-use Rattle.control_word.proofs.steps.Leave as law
 use Rattle.control_word.specs.Events.{moved_to}
 use Rattle.control_word.specs.Handles.{owner}
-use Rattle.control_word.specs.State.{InShape, ending, kind_of_member, live, unmade}
+use Rattle.control_word.specs.State.{Has, InShape, held, ending, kind_of_member, live, unmade}
 use Rattle.control_word.specs.declared.event.Entry.{Entry}
 use Rattle.control_word.specs.declared.event.Event.{Event}
 use Rattle.control_word.specs.declared.event.Event.TheVariants.{Leave}
@@ -29,25 +28,27 @@ use Rattle.control_word.specs.declared.shape.Shape.{Shape}
 use Rattle.control_word.specs.declared.view.Pending.{Pending}
 use Rattle.control_word.specs.declared.view.Pending.TheVariants.{Idle}
 use Rattle.control_block.specs.Rule.{IsBacked, IsSlotOf, Ruled, kept, opening_of, seeing, view_of, while_live}
-use Rattle.control_block.specs.Plays.{At, Holding, Rests, gave_back, left}
+use Rattle.control_block.specs.Plays.{At, gave_back, left}
+use Rattle.control_block.specs.Leaving.{MayLeave}
 use Rattle.control_block.specs.declared.board.Sight.{Sight}
-use Rattle.control_block.proofs.Passage.{adds, held_there, next, plain, point, quiet_next, ready}
+use Rattle.control_block.proofs.Passage.{adds, next, plain, quiet_next}
 use Rattle.control_block.proofs.Slots.{kept_else, live_home, live_unmade, others_still, slots_apart}
 use Rattle.control_block.proofs.LastOwners.{unvisited}
 use Rattle.control_block.proofs.kept.Look.{looked}
-use Rattle.control_block.proofs.kept.WeakLeave.{falls}
+use Rattle.control_block.proofs.kept.MayLeave.{may_awake, may_empty, may_have, may_stand}
 
 module _ {V : Type 0} where
   module _ (k : Shape) (s : Table.State (Option V) (Sight V)) (r : Ruled k s) (id : ℕ) (v : Sight V) (at : get_elem? s.views id ≡ some v)
-      (awake : v.view.spent ≡ false) (free : v.hand ≡ None) (o : ℕ) (p : Option Place) (b : Block) (holds : Holding v Owner o p b.0) where
+      (awake : v.view.spent ≡ false) (free : v.hand ≡ None) (o : ℕ) (p : Option Place) (b : Block)
+      (mine : Has (held v.view.name (owner o p)) (leads (opening_of k) r.history).hands × (((leads (opening_of k) r.history).object o).block ≡ b.0)) where
     alive : ((leads (opening_of k) r.history).object o).phase ≡ live
     alive =
         let z = opening_of k in let t = leads z r.history in
-        counted_live z t o (sound z r.history r.stands.legal) (owner_counted t v.view.name o p (held_there k s r id v at awake Owner o p b.0 holds).0)
+        counted_live z t o (sound z r.history r.stands.legal) (owner_counted t v.view.name o p mine.0)
 
     named : (1 ≤ o) × (o ≤ (leads (opening_of k) r.history).made) × ((leads (opening_of k) r.history).latest b.0 ≡ o) × InShape (opening_of k) b.0
     named =
-        let z = opening_of k in let t = leads z r.history in let mine = held_there k s r id v at awake Owner o p b.0 holds in
+        let z = opening_of k in let t = leads z r.history in
         let n = names_an_object z r.history r.stands.legal v.view.name Owner (owner o p) (mine.0, refl, refl) in
         (n.0, n.1, ap t.latest (sym mine.1) ∙ n.2, subst (InShape z) mine.1 n.3)
 
@@ -59,7 +60,7 @@ module _ {V : Type 0} where
         let z = opening_of k in let t = leads z r.history in let d = v.view.name in let e : Event V = Leave (owner o p) true in
         let h = entry d e ∷ r.history in
         let x = moved_to (ending d) (t.object o) in let n = named in let fine = sound z r.history r.stands.legal in
-        let there = (held_there k s r id v at awake Owner o p b.0 holds).1 in
+        let there = mine.1 in
         next k s r id v (seeing v Idle (Some b) h) words (set s.homes (b.0 - 1) none) h at awake (r.shapes id v at awake) stands
         (length-set s.homes (b.0 - 1) none)
         (inr (ap (λ q. (Rattle.control_word.specs.State.put t.object o x q).phase) n.2 ∙ ap (λ y. y.phase) (put_same t.object o x o refl)))
@@ -73,64 +74,54 @@ module _ {V : Type 0} where
           λ y. subst (λ w. IsSlotOf w c) free y,
         ))) (cases_eq c b.0))
 
-  pub allows_leave : (k : Shape) (slots id o i : ℕ) (b : Block) (p : Option Place) (me : At V) → Rests me → Holding me.0 Owner o p b.0
-      → i ≡ spot b.0 0
-      → Allows (Ruled k) slots id me i (λ n. (n + (2 ^ 64 - 1)) % 2 ^ 64) (left b o p (step slots i 1 0 none) me)
-  allows_leave k slots id o i b p me rests holds e s r sized at small = ⊎_elim last others (cases_eq (get_or s.words i 0) 1)
+  pub allows_leave : (k : Shape) (slots id o i a f : ℕ) (b : Block) (p : Option Place) (me : At V) → 0 < b.0 → MayLeave me Owner o p b.0 f
+      → i ≡ spot b.0 0 → a ≡ f * 4294967296 + 1
+      → Allows (Ruled k) slots id me i (λ n. (n + (2 ^ 64 - a)) % 2 ^ 64) (left b o p (step slots i a 0 none) me)
+  allows_leave k slots id o i a f b p me pos may e amount s r sized at small = ⊎_elim last others (cases_eq (get_or s.words i 0) a)
     where
-      stands : (c : Bool) → (get_or s.words i 0 == 1) ≡ c → let h = entry me.0.view.name (Leave (owner o p) c) ∷ r.history in
-          Stands (opening_of k) (set s.words i ((get_or s.words i 0 + (2 ^ 64 - 1)) % 2 ^ 64)) (set (map view_of s.views) id
-          (sees_as me.0.view Idle h)) h
-      stands c is =
-          let v = me.0 in let z = opening_of k in let views = map view_of s.views in
-          let mine = held_there k s r id v at rests.awake Owner o p b.0 holds in
-          let t = law.leaves' (point k s r id v) o p (ready k s r id v at rests.awake Idle rests.idle) mine.0 in
-          let same = ap (λ x. spot x 0) mine.1 ∙ sym e in
-          let h : Bool → List (Entry V) = λ y. entry v.view.name (Leave (owner o p) y) ∷ r.history in
-          let some' : 0 < get_or s.words i 0 = subst (λ x. 0 < get_or s.words x 0) same t.0 in
-          subst (λ m. Stands z (set s.words i m) (set views id (sees_as v.view Idle (h c))) (h c)) (sym (falls _ some' small))
-          (subst (λ y. Stands z (set s.words i (get_or s.words i 0 - 1)) (set views id (sees_as v.view Idle (h y))) (h y)) is
-          (subst (λ x. Stands z (set s.words x (get_or s.words x 0 - 1)) (set views id (sees_as v.view Idle (h (get_or s.words x 0 == 1)))) (h
-          (get_or s.words x 0 == 1))) same t.1))
+      awake : me.0.view.spent ≡ false
+      awake = may_awake me Owner o p b.0 f may
 
-      others : get_or s.words i 0 ≢ 1
-          → (w : Sight V) × (a : Act (Option V)) × Valid s.homes me.1 a
-          × Ruled k (stepped s i ((get_or s.words i 0 + (2 ^ 64 - 1)) % 2 ^ 64) id me.1 w a)
-          × left b o p (step slots i 1 0 none) me (get_or s.words i 0) (w, carried_after me.1 a)
+      free : me.0.hand ≡ None
+      free = may_empty me Owner o p b.0 f may
+
+      others : get_or s.words i 0 ≢ a
+          → (w : Sight V) × (c : Act (Option V)) × Valid s.homes me.1 c
+          × Ruled k (stepped s i ((get_or s.words i 0 + (2 ^ 64 - a)) % 2 ^ 64) id me.1 w c)
+          × left b o p (step slots i a 0 none) me (get_or s.words i 0) (w, carried_after me.1 c)
       others n =
           let v = me.0 in let ev : Event V = Leave (owner o p) false in let h = entry v.view.name ev ∷ r.history in
-          let now = stands false (ne_eqb (get_or s.words i 0) 1 n) in (
+          let now = may_stand k s r id me at Owner o b.0 f p i a false pos may e amount small (ne_eqb (get_or s.words i 0) a n) in (
             seeing v Idle None h,
             keeps,
             tt,
-            quiet_next k s r id v _ ev Idle at rests.awake rests.empty
-                (plain (λ t d. put_again t.object o) (λ t d. refl) (λ t f. refl)) now,
-            (λ _. (adds k s r id v at rests.awake Idle None ev now.legal, refl), λ q. absurd (n q)),
+            quiet_next k s r id v _ ev Idle at awake free (plain (λ t d. put_again t.object o) (λ t d. refl) (λ t f. refl)) now,
+            (λ _. (adds k s r id v at awake Idle None ev now.legal, refl), λ q. absurd (n q)),
           )
 
-      last : get_or s.words i 0 ≡ 1
-          → (w : Sight V) × (a : Act (Option V)) × Valid s.homes me.1 a
-          × Ruled k (stepped s i ((get_or s.words i 0 + (2 ^ 64 - 1)) % 2 ^ 64) id me.1 w a)
-          × left b o p (step slots i 1 0 none) me (get_or s.words i 0) (w, carried_after me.1 a)
+      last : get_or s.words i 0 ≡ a
+          → (w : Sight V) × (c : Act (Option V)) × Valid s.homes me.1 c
+          × Ruled k (stepped s i ((get_or s.words i 0 + (2 ^ 64 - a)) % 2 ^ 64) id me.1 w c)
+          × left b o p (step slots i a 0 none) me (get_or s.words i 0) (w, carried_after me.1 c)
       last q =
           let v = me.0 in let z = opening_of k in let ev : Event V = Leave (owner o p) true in let h = entry v.view.name ev ∷ r.history in
-          let now = stands true (eq-eqb (get_or s.words i 0) 1 q) in let n = named k s r id v at rests.awake rests.empty o p b holds in
+          let now = may_stand k s r id me at Owner o b.0 f p i a true pos may e amount small (eq-eqb (get_or s.words i 0) a q) in
+          let mine = may_have k s r id me at Owner o b.0 f p pos may in
+          let n = named k s r id v at awake free o p b mine in
           let x = has_value z r.history o n.0 n.1 in (
             seeing v Idle (Some b) h,
             takes (b.0 - 1) (Some x.0),
-            live_home k s r b.0 o n.3 n.2 (held_there k s r id v at rests.awake Owner o p b.0 holds).1
-                (alive k s r id v at rests.awake rests.empty o p b holds)
-                (unvisited k s r id v at rests.awake rests.empty o b.0 p (held_there k s r id v at rests.awake Owner o p b.0 holds).0 n.2 now.legal.1.asks.1)
+            live_home k s r b.0 o n.3 n.2 mine.1 (alive k s r id v at awake free o p b mine)
+                (unvisited k s r id v at awake free o b.0 p mine.0 n.2 now.legal.1.asks.1)
                 ∙ ap (λ y. some (some y)) x.1,
-            leaves_last k s r id v at rests.awake rests.empty o p b holds _ now,
+            leaves_last k s r id v at awake free o p b mine _ now,
             (
               λ m. absurd (m q),
               λ _. (
-                adds k s r id v at rests.awake Idle (Some b) ev now.legal,
+                adds k s r id v at awake Idle (Some b) ev now.legal,
                 (
                   x.0,
-                  ap
-                      (λ y. value (opening_of y) h o) (r.shapes id v at rests.awake) ∙ x.1,
+                  ap (λ y. value (opening_of y) h o) (r.shapes id v at awake) ∙ x.1,
                   refl,
                 ),
               ),
@@ -140,7 +131,7 @@ module _ {V : Type 0} where
   -- the empty slot of an ending goes home at the next look
   pub allows_give_back : (k : Shape) (slots id i : ℕ) (b : Block) (me : At V) → me.0.view.spent ≡ false → me.0.view.pending ≡ Idle
       → me.0.hand ≡ Some b
-      → me.1 ≡ (b.0 - 1, None) ∷ [] → (1 ≤ b.0) × (b.0 ≤ k.blocks)
+      → me.1 ≡ (b.0 - 1, None) ∷ [] → (1 ≤ b.0) × (b.0 ≤ slots)
       → Allows (Ruled k) slots id me i (λ n. n) (gave_back (step slots i 0 0 none) me)
   allows_give_back k slots id i b me awake idle hand carried inside s r sized at small =
       let v = me.0 in let z = opening_of k in let w = seeing v Idle None v.view.seen in (
@@ -153,8 +144,7 @@ module _ {V : Type 0} where
             (length-set s.homes (b.0 - 1) (some None)) tt (λ j u ne there un back. back)
             (λ c within. ⊎_elim
             (λ (q : c ≡ b.0). inl (subst (λ y. get_elem? (set s.homes (b.0 - 1) (some None)) (y - 1) ≡ some (some (kept z r.history y))) (sym q)
-            (set_here s.homes (b.0 - 1) (some None) (let l = r.sized in let l0 = inside.0 in
-            let l1 = inside.1 in omega arith) ∙ ap (λ y. some (some y)) (sym empty_there))))
+            (set_here s.homes (b.0 - 1) (some None) (let l0 = inside.0 in let l1 = inside.1 in omega arith) ∙ ap (λ y. some (some y)) (sym empty_there))))
             (λ (q : c ≢ b.0). inr (inr (
               set_else s.homes (b.0 - 1) (c - 1) (some None) (slots_apart b.0 c inside.0 within.0 q),
               refl,

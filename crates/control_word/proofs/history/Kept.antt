@@ -1,20 +1,25 @@
 -- What an event leaves to the desks that it isn't of and doesn't name.
-use Rattle.std.proofs.Common.{◌≡◌, ◌≢◌, ℕ, suc, ◌+◌, ◌-◌, ◌≤◌, true, false, cond, List, [], ◌∷◌, ◌++◌, Some, refl, sym, ap, subst, ◌∙◌, arith}
-use Rattle.std.proofs.lemmas.Bool.{cond_both}
-use Rattle.control_word.proofs.history.Bags.{bag_gets, bag_loses, bag_renamed, desk_of, keeper, stock_renamed, stock_vacates}
-use Rattle.control_word.proofs.history.Clearing.{emptied}
+use Rattle.std.proofs.Common.{◌≡◌, ◌≢◌, ℕ, suc, ◌+◌, ◌-◌, ◌≤◌, true, false, List, [], ◌∷◌, ◌++◌, Some, refl, sym}
+use Rattle.std.proofs.Common.{ap, subst, ◌∙◌, arith}
+use Rattle.control_word.proofs.history.Bags.{bag_gets, bag_loses, bag_renamed, desk_of, keeper, stock_renamed}
+use Rattle.control_word.proofs.history.Bags.{stock_vacates}
 use Rattle.control_word.proofs.lists.Parts.{has_part, part, part_has, part_other, part_passed, part_without}
 use Rattle.control_word.proofs.lists.Tallies.{held_true, put_cases, put_other, stored_true}
-use Rattle.control_word.specs.Events.{after, fills, joins_up, loses, moved_to, new_object, origin, splits_off, swaps}
-use Rattle.control_word.specs.Handles.{handle, object_of}
+use Rattle.control_word.specs.Events.{after, fills, handed, joins_up, loses, moved_to, new_object, origin, splits_off}
+use Rattle.control_word.specs.Events.{swaps}
+use Rattle.control_word.specs.Handles.{empty, handle, object_of}
 use Rattle.control_word.specs.Histories.{leads}
-use Rattle.control_word.specs.State.{Has, Held, IsActing, Object, Opening, State, bag, ending, gone, held, put, same_held, same_stored, stock, stored}
+use Rattle.control_word.specs.Laws.{StaysAsMade}
+use Rattle.control_word.specs.State.{Has, Held, IsActing, Object, Opening, Phase, State, bag, ending, gone, held, put}
+use Rattle.control_word.specs.State.{kind_of_member}
+use Rattle.control_word.specs.State.{same_held, same_stored, stock, stored}
 use Rattle.control_word.specs.Views.{Names, NoneBy}
 use Rattle.control_word.specs.declared.event.Cell.{Cell}
 use Rattle.control_word.specs.declared.event.Cell.TheVariants.{Free, Member}
 use Rattle.control_word.specs.declared.event.Entry.{Entry}
 use Rattle.control_word.specs.declared.event.Event.{Event}
-use Rattle.control_word.specs.declared.event.Event.TheVariants.{ClearMember, Compare, Count, Expired, Finish, Join, Leave, Load, Lock, Make, Read}
+use Rattle.control_word.specs.declared.event.Event.TheVariants.{ClearMember, Compare, Count, Expired, Finish, Join}
+use Rattle.control_word.specs.declared.event.Event.TheVariants.{Leave, Load, Lock, Make, Read}
 use Rattle.control_word.specs.declared.event.Event.TheVariants.{Share, Split, Swap, Visit, WeakLeave, WeakShare}
 use Rattle.control_word.specs.declared.handle.Handle.{Handle}
 use Rattle.control_word.specs.declared.handle.Kind.TheVariants.{Owner, Weak}
@@ -156,57 +161,105 @@ pub acting_same : (s t : State) (d : ℕ) → Same s t d → IsActing s d → Is
 acting_same s t d same acts = let k = same.known in let a = same.may_hold in let n = acts.0 in
     let m = acts.2 in (omega arith, same.is_joined ∙ acts.1, omega arith)
 
-block_member : (s : State) (q m : ℕ) (x : Handle) (o : ℕ)
-    → (put s.object q (record (s.object q) { member = put (s.object q).member m x }) o).block ≡ (s.object o).block
-block_member s q m x o = put_cases (λ j u. u.block ≡ (s.object j).block) s.object q (record (s.object q) { member = put (s.object q).member m x }) o
-    (λ e. ap (λ n. (s.object n).block) (sym e)) (λ n. refl)
+module _ {V : Type 0} where
+  -- no object is unmade again
+  made_after : (s : State) (d : ℕ) (a : Event V) → s.made ≤ (after s d a).made
+  made_after s d (Make b enabled null fields val) = omega arith
+  made_after s d (Share y p) = omega arith
+  made_after s d (Leave y last) = omega arith
+  made_after s d (Count y c) = omega arith
+  made_after s d (Expired y c) = omega arith
+  made_after s d (Read y c) = omega arith
+  made_after s d (WeakShare q p) = omega arith
+  made_after s d (WeakLeave y c) = omega arith
+  made_after s d (Lock y got) = omega arith
+  made_after s d (ClearMember q m y) = omega arith
+  made_after s d (Finish q c val) = omega arith
+  made_after s d (Load c x) = omega arith
+  made_after s d (Swap (Free c) x y) = omega arith
+  made_after s d (Swap (Member q m) x y) = omega arith
+  made_after s d (Compare (Free c) e x y true w) = omega arith
+  made_after s d (Compare (Member q m) e x y true w) = omega arith
+  made_after s d (Compare c e x y false w) = omega arith
+  made_after s d (Visit y c w) = omega arith
+  made_after s d (Split e amount x y) = omega arith
+  made_after s d (Join e) = omega arith
+
+  made_kept : (z : Opening) (later seen : List (Entry V)) → (leads z seen).made ≤ (leads z (later ++ seen)).made
+  made_kept z [] seen = omega arith
+  made_kept z (e ∷ later) seen =
+      let a = made_kept z later seen in let b = made_after (leads z (later ++ seen)) e.desk e.event in omega arith
+
+module _ {A : Type 0} (f : Object → A) (members : (x : Object) (m : ℕ → Handle) → f (record x { member = m }) ≡ f x)
+    (phases : (x : Object) (p : Phase) → f (moved_to p x) ≡ f x) where
+  -- another object in o's place, of which the same is so
+  put_alike : (s : State) (q o : ℕ) (x : Object) → f x ≡ f (s.object q) → f (put s.object q x o) ≡ f (s.object o)
+  put_alike s q o x e =
+      put_cases (λ j u. f u ≡ f (s.object j)) s.object q x o (λ i. e ∙ ap (λ n. f (s.object n)) (sym i)) (λ n. refl)
+
+  -- one of its members becomes another
+  member_alike : (s : State) (q o m : ℕ) (x : Handle)
+      → f (put s.object q (record (s.object q) { member = put (s.object q).member m x }) o) ≡ f (s.object o)
+  member_alike s q o m x =
+      let u = put (s.object q).member m x in
+      put_alike s q o (record (s.object q) { member = u }) (members (s.object q) u)
+
+  module _ {V : Type 0} where
+    -- what neither members nor phase tell of an object stays as the object was made
+    alike_after : (s : State) (d o : ℕ) (a : Event V) → o ≤ s.made → f ((after s d a).object o) ≡ f (s.object o)
+    alike_after s d o (Make b enabled null fields val) le =
+        ap f (put_other s.object (suc s.made) (new_object b.0 enabled null fields) o (λ e. omega arith))
+    alike_after s d o (Share y p) le = refl
+    alike_after s d o (Leave y true) le =
+        let q = object_of y in put_alike s q o (moved_to (ending d) (s.object q)) (phases (s.object q) (ending d))
+    alike_after s d o (Leave y false) le = put_alike s (object_of y) o (s.object (object_of y)) refl
+    alike_after s d o (Count y c) le = refl
+    alike_after s d o (Expired y c) le = refl
+    alike_after s d o (Read y c) le = refl
+    alike_after s d o (WeakShare q p) le = refl
+    alike_after s d o (WeakLeave y c) le = refl
+    alike_after s d o (Lock y got) le = refl
+    alike_after s d o (ClearMember q m y) le = member_alike s q o m (empty (kind_of_member m))
+    alike_after s d o (Finish q c val) le = put_alike s q o (moved_to gone (s.object q)) (phases (s.object q) gone)
+    alike_after s d o (Load c x) le = refl
+    alike_after s d o (Swap (Free c) x y) le = refl
+    alike_after s d o (Swap (Member q m) x y) le = member_alike s q o m x
+    alike_after s d o (Compare (Free c) e x y true w) le = refl
+    alike_after s d o (Compare (Member q m) e x y true w) le = member_alike s q o m x
+    alike_after s d o (Compare c e x y false w) le = refl
+    alike_after s d o (Visit y c w) le = refl
+    alike_after s d o (Split e amount x y) le = refl
+    alike_after s d o (Join e) le = phases (s.object o) (handed e d (s.object o).phase)
+
+    pub alike_kept : (z : Opening) (later seen : List (Entry V)) (o : ℕ) → o ≤ (leads z seen).made
+        → f ((leads z (later ++ seen)).object o) ≡ f ((leads z seen).object o)
+    alike_kept z [] seen o le = refl
+    alike_kept z (e ∷ later) seen o le =
+        let made = made_kept z later seen in
+        alike_after (leads z (later ++ seen)) e.desk o e.event (omega arith) ∙ alike_kept z later seen o le
 
 module _ {V : Type 0} where
   -- an object that was made stays in its block
-  pub block_after : (s : State) (d o : ℕ) (a : Event V) → o ≤ s.made → (((after s d a).object o).block ≡ (s.object o).block) × (o ≤ (after s d a).made)
-  block_after s d o (Make b enabled null fields val) le = (
-    ap
-        (λ (x : Object). x.block) (put_other s.object (suc s.made) (new_object b.0 enabled null fields) o (λ e. omega arith)),
-    omega arith,
-  )
-  block_after s d o (Share y p) le = (refl, le)
-  block_after s d o (Leave y last) le = let x = s.object (object_of y) in (
-    put_cases (λ j u. u.block ≡ (s.object j).block) s.object (object_of y) (cond last (moved_to (ending d) x) x) o
-        (λ e. cond_both last (moved_to (ending d) x) x (λ u. u.block ≡ (s.object o).block) (λ t. ap (λ n. (s.object n).block) (sym e)) (λ t. ap
-        (λ n. (s.object n).block) (sym e))) (λ n. refl),
-    le,
-  )
-  block_after s d o (Count y c) le = (refl, le)
-  block_after s d o (Expired y c) le = (refl, le)
-  block_after s d o (Read y c) le = (refl, le)
-  block_after s d o (WeakShare q p) le = (refl, le)
-  block_after s d o (WeakLeave y c) le = (refl, le)
-  block_after s d o (Lock y got) le = (refl, le)
-  block_after s d o (ClearMember q m y) le = (
-    put_cases (λ j u. u.block ≡ (s.object j).block) s.object q (emptied (s.object q) m) o (λ e. ap
-        (λ n. (s.object n).block) (sym e)) (λ n. refl),
-    le,
-  )
-  block_after s d o (Finish q c val) le = (
-    put_cases (λ j u. u.block ≡ (s.object j).block) s.object q (moved_to gone (s.object q)) o (λ e. ap
-        (λ n. (s.object n).block) (sym e)) (λ n. refl),
-    le,
-  )
-  block_after s d o (Load c x) le = (refl, le)
-  block_after s d o (Swap (Free c) x y) le = (refl, le)
-  block_after s d o (Swap (Member q m) x y) le = (block_member s q m x o, le)
-  block_after s d o (Compare (Free c) e x y true w) le = (refl, le)
-  block_after s d o (Compare (Member q m) e x y true w) le = (block_member s q m x o, le)
-  block_after s d o (Compare c e x y false w) le = (refl, le)
-  block_after s d o (Visit y c w) le = (refl, le)
-  block_after s d o (Split e amount x y) le = (refl, le)
-  block_after s d o (Join e) le = (refl, le)
+  pub block_after : (s : State) (d o : ℕ) (a : Event V) → o ≤ s.made
+      → (((after s d a).object o).block ≡ (s.object o).block) × (o ≤ (after s d a).made)
+  block_after s d o a le =
+      let more = made_after s d a in (alike_after (λ x. x.block) (λ x m. refl) (λ x p. refl) s d o a le, omega arith)
 
   pub block_kept : (z : Opening) (later seen : List (Entry V)) (o : ℕ) → o ≤ (leads z seen).made
-      → (((leads z (later ++ seen)).object o).block ≡ ((leads z seen).object o).block) × (o ≤ (leads z (later ++ seen)).made)
-  block_kept z [] seen o le = (refl, le)
-  block_kept z (e ∷ later) seen o le =
-      let t = block_kept z later seen o le in let u = block_after (leads z (later ++ seen)) e.desk o e.event t.1 in (u.0 ∙ t.0, u.1)
+      → (((leads z (later ++ seen)).object o).block ≡ ((leads z seen).object o).block)
+      × (o ≤ (leads z (later ++ seen)).made)
+  block_kept z later seen o le =
+      let more = made_kept z later seen in
+      (alike_kept (λ x. x.block) (λ x m. refl) (λ x p. refl) z later seen o le, omega arith)
+
+  -- the fields and the flags too
+  pub stays_as_made : StaysAsMade V
+  stays_as_made z later seen o le = (
+    alike_kept (λ x. x.block) (λ x m. refl) (λ x p. refl) z later seen o le,
+    alike_kept (λ x. x.fields) (λ x m. refl) (λ x p. refl) z later seen o le,
+    alike_kept (λ x. x.enabled) (λ x m. refl) (λ x p. refl) z later seen o le,
+    alike_kept (λ x. x.null) (λ x m. refl) (λ x p. refl) z later seen o le,
+  )
 
   pub cells_after : (s : State) (d : ℕ) (a : Event V) → (after s d a).cells ≡ s.cells
   cells_after s d (Make b enabled null fields val) = refl

@@ -1,14 +1,16 @@
 -- Which names desks have.
-use Rattle.std.proofs.Common.{◌≡◌, ℕ, ◌<◌, ◌≤◌, true, false, List, [], ◌∷◌, refl, ◌∙◌, arith}
-use Rattle.control_word.proofs.history.Kept.{same_after}
+use Rattle.std.proofs.Common.{◌≡◌, ℕ, ◌<◌, ◌≤◌, true, false, List, [], ◌∷◌, ◌++◌, refl, subst, ◌∙◌, arith}
+use Rattle.control_word.proofs.history.Kept.{same_after, same_kept}
 use Rattle.control_word.specs.Events.{Asks, after}
 use Rattle.control_word.specs.Histories.{IsLegal, leads}
+use Rattle.control_word.specs.Laws.{JoinedIsQuiet, UnnamedIsQuiet}
 use Rattle.control_word.specs.State.{Opening, State}
 use Rattle.control_word.specs.Views.{Names}
 use Rattle.control_word.specs.declared.event.Cell.TheVariants.{Free, Member}
 use Rattle.control_word.specs.declared.event.Entry.{Entry}
 use Rattle.control_word.specs.declared.event.Event.{Event}
-use Rattle.control_word.specs.declared.event.Event.TheVariants.{ClearMember, Compare, Count, Expired, Finish, Join, Leave, Load, Lock, Make, Read}
+use Rattle.control_word.specs.declared.event.Event.TheVariants.{ClearMember, Compare, Count, Expired, Finish, Join}
+use Rattle.control_word.specs.declared.event.Event.TheVariants.{Leave, Load, Lock, Make, Read}
 use Rattle.control_word.specs.declared.event.Event.TheVariants.{Share, Split, Swap, Visit, WeakLeave, WeakShare}
 
 module _ {V : Type 0} where
@@ -63,3 +65,49 @@ module _ {V : Type 0} where
       let low = legal.1.acting.0 in
       let same = same_after s d e.desk e.event (λ q. omega arith) (λ n. let t = named_low s e.desk d e.event legal.1.asks n in omega arith) in
       same.is_joined ∙ unknown_free z h legal.0 d (omega arith)
+
+  -- a name that isn't given yet has made no event
+  pub unnamed_is_quiet : UnnamedIsQuiet V
+  unnamed_is_quiet z [] legal d le = tt
+  unnamed_is_quiet z (e ∷ h) legal d le =
+      let s = leads z h in
+      let grow = names_grow s e.desk e.event in
+      let low = legal.1.acting.0 in (
+        (λ q. omega arith),
+        (λ n. let t = named_low s e.desk d e.event legal.1.asks n in omega arith),
+        unnamed_is_quiet z h legal.0 d (omega arith),
+      )
+
+  -- an event names no desk that is joined
+  named_free : (z : Opening) (h : List (Entry V)) → IsLegal z h → (e d : ℕ) (a : Event V) → Asks (leads z h) e a
+      → Names a d → (leads z h).joined d ≡ false
+  named_free z h legal e d (Make b enabled null fields val) asks n = absurd n
+  named_free z h legal e d (Share y p) asks n = absurd n
+  named_free z h legal e d (Leave y last) asks n = absurd n
+  named_free z h legal e d (Count y c) asks n = absurd n
+  named_free z h legal e d (Expired y c) asks n = absurd n
+  named_free z h legal e d (Read y c) asks n = absurd n
+  named_free z h legal e d (WeakShare o p) asks n = absurd n
+  named_free z h legal e d (WeakLeave y v) asks n = absurd n
+  named_free z h legal e d (Lock y g) asks n = absurd n
+  named_free z h legal e d (Load c y) asks n = absurd n
+  named_free z h legal e d (Swap c y w) asks n = absurd n
+  named_free z h legal e d (Compare c u y w b k) asks n = absurd n
+  named_free z h legal e d (ClearMember o m y) asks n = absurd n
+  named_free z h legal e d (Finish o v val) asks n = absurd n
+  named_free z h legal e d (Visit y c w) asks n = absurd n
+  named_free z h legal e d (Split to amount hs bs) asks n =
+      let to_is = asks.0 in let is : to ≡ d = n in unknown_free z h legal d (omega arith)
+  named_free z h legal e d (Join other) asks n = subst (λ j. (leads z h).joined j ≡ false) n asks.1.1
+
+  -- a desk that was joined makes no later event
+  pub joined_is_quiet : JoinedIsQuiet V
+  joined_is_quiet z [] seen legal d joined = tt
+  joined_is_quiet z (e ∷ later) seen legal d joined =
+      let s = leads z (later ++ seen) in
+      let quiet = joined_is_quiet z later seen legal.0 d joined in
+      let still = (same_kept z later seen d quiet).is_joined ∙ joined in (
+        (λ q. let free = subst (λ j. s.joined j ≡ false) q legal.1.acting.1 in cc),
+        (λ n. let free = named_free z (later ++ seen) legal.0 e.desk d e.event legal.1.asks n in cc),
+        quiet,
+      )

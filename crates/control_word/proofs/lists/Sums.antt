@@ -1,6 +1,6 @@
 -- Sums of numbers, and how many elements of a list pass a test.
 use Rattle.std.proofs.Common.{◌≡◌, ◌≢◌, ℕ, zero, suc, ◌+◌, ◌<◌, ◌≤◌, Bool, true, false, List, [], ◌∷◌, map, length}
-use Rattle.std.proofs.Common.{refl, ap, ◌∙◌, ⊎_elim, arith}
+use Rattle.std.proofs.Common.{refl, sym, ap, ◌∙◌, ⊎_elim, arith}
 use Rattle.std.specs.List.{filter}
 use Rattle.std.proofs.lemmas.Bool.{cases_eq, cond_both, cond-true, cond-false}
 use Rattle.control_word.proofs.lists.Tallies.{num, num_cons, num_without, put_other, put_same}
@@ -37,6 +37,30 @@ sum_put (suc n) i x f =
           (cases_eq n i)),
       (λ le. let a = put_other f i x n (λ e. omega arith) in let b = ih.1 (omega arith) in omega arith),
     )
+
+-- a term of a sum, and two of them
+pub sum_at : (n p : ℕ) (f : ℕ → ℕ) → p < n → f p ≤ sum_below n f
+sum_at n p f lt = let a = (sum_put n p 0 f).0 lt in omega arith
+
+pub sum_two : (n p q : ℕ) (f : ℕ → ℕ) → p < n → q < n → p ≢ q → f p + f q ≤ sum_below n f
+sum_two n p q f lp lq ne =
+    let a = (sum_put n p 0 f).0 lp in
+    let b = sum_at n q (put f p 0) lq in
+    let c = put_other f p 0 q (λ e. ne (sym e)) in omega arith
+
+-- what is nowhere less, and at one place more by k, is more by k
+pub sum_more : (n p k : ℕ) (f g : ℕ → ℕ) → ((i : ℕ) → f i ≤ g i) → p < n → f p + k ≤ g p
+    → sum_below n f + k ≤ sum_below n g
+sum_more zero p k f g le lt more = absurd (omega arith)
+sum_more (suc n) p k f g le lt more =
+    ⊎_elim
+    (λ (e : p ≡ n). let a = ap f e in let b = ap g e in let c = sum_le n f g le in omega arith)
+    (λ (ne : p ≢ n). let a = le n in let b = sum_more n p k f g le (omega arith) more in omega arith)
+    (cases_eq p n)
+
+pub sum_ones : (n : ℕ) (f : ℕ → ℕ) → ((i : ℕ) → f i ≤ 1) → sum_below n f ≤ n
+sum_ones zero f low = omega arith
+sum_ones (suc n) f low = let a = low n in let b = sum_ones n f low in omega arith
 
 -- how many elements pass a test
 module _ {A : Type 0} where

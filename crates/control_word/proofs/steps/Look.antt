@@ -1,16 +1,10 @@
 -- Looks: loads that change nothing, and may be an event.
-use Rattle.std.proofs.Common.{not, ◌-◌, ◌≡◌, ◌≢◌, ℕ, ◌+◌, ◌*◌, ◌<◌, false, cond, ◌==◌, List, ◌∷◌, get_or, set, Option, Some, refl, sym, ap, subst, ◌∙◌}
-use Rattle.std.proofs.Common.{⊎_elim, ne_eqb, arith, ◌≤◌, eq-eqb}
-use Rattle.std.proofs.Common.{◌≡◌, ◌≢◌, ℕ, ◌+◌, ◌-◌, ◌*◌, ◌<◌, ◌≤◌, Bool, false, cond, ◌==◌, None, List, ◌∷◌, get_or, set, Option, Some, refl, sym, ap}
-use Rattle.std.proofs.Common.{◌∙◌, inl, ⊎_elim, eq-eqb, ne_eqb, arith}
-use Rattle.std.proofs.Common.{◌≡◌, ◌≢◌, ℕ, ◌+◌, ◌-◌, ◌*◌, ◌<◌, ◌≤◌, ◌==◌, Bool, false, cond, List, ◌∷◌, get_or, set, slice_index, Option, Some, None}
-use Rattle.std.proofs.Common.{refl, sym, ap, subst, ◌∙◌, inl, ⊎_elim, eq-eqb, ne_eqb, arith}
+use Rattle.std.proofs.Common.{not, ◌-◌, ◌≡◌, ◌≢◌, ℕ, ◌+◌, ◌*◌, ◌<◌, false, cond, ◌==◌, List, ◌∷◌, get_or, set, Option}
+use Rattle.std.proofs.Common.{Some, refl, sym, ap, subst, ◌∙◌, ⊎_elim, ne_eqb, arith, ◌≤◌, eq-eqb, Bool, None, inl}
+use Rattle.std.proofs.Common.{slice_index}
 use Rattle.std.proofs.lemmas.Bool.{cases_eq, cond-true, cond-false}
-use Rattle.std.proofs.lemmas.Bool.{cases_eq, cond-true, cond-false}
-use Rattle.std.proofs.lemmas.Bool.{cases_eq}
 use Rattle.std.proofs.lemmas.List.{set-get_or}
 use lib.ListN.{get_elem?}
-use mathlib.Core.Option.{some}
 use mathlib.Core.Option.{some}
 use mathlib.Core.Path.{fun_ext}
 use Rattle.control_word.proofs.history.Allowances.{allowed}
@@ -19,17 +13,21 @@ use Rattle.control_word.proofs.history.Others.{IsPlain}
 use Rattle.control_word.proofs.history.Soundness.{IsBusy}
 use Rattle.control_word.proofs.lists.Tallies.{differs}
 use Rattle.control_word.proofs.views.Teams.{plain_step, still_step}
+use Rattle.control_word.proofs.views.Resting.{sole_owes}
 use Rattle.control_word.proofs.words.Body.{body_more, body_read, words_field}
 use Rattle.control_word.proofs.words.Counting.{calm, funds_mean, number, number_tally, some_word, word_some}
 use Rattle.control_word.proofs.words.Rooms.{halves}
 use Rattle.control_word.specs.Events.{Asks, InHand, IsOpen, after, cell_of, kind_of}
 use Rattle.control_word.specs.Handles.{equivalent, handle, owner, weak_of}
 use Rattle.control_word.specs.Histories.{Values, entry, leads, value, valued}
+use Rattle.control_word.specs.Laws.{CountsExactly}
 use Rattle.control_word.specs.Layout.{spot}
-use Rattle.control_word.specs.State.{Has, Opening, bag_size, count, held}
-use Rattle.control_word.specs.Steps.{DiffersEmpty, LoadsEmpty, LooksOn, Reads, Tells, TellsCount, TellsExpired, counts, me, state, word}
+use Rattle.control_word.specs.Packing.{funds_of, number_of}
+use Rattle.control_word.specs.State.{Has, HasWhole, Opening, bag_size, count, held}
+use Rattle.control_word.specs.Steps.{DiffersEmpty, LoadsEmpty, LooksOn, Reads, Tells, TellsCount, TellsExpired}
+use Rattle.control_word.specs.Steps.{me, state, word}
 use Rattle.control_word.specs.Views.{Bare, Fits, Stands, more, owed, paid, sees}
-use Rattle.control_word.specs.Words.{Shows, bank, blocks_of, object_words, slot}
+use Rattle.control_word.specs.Words.{Shows, bank, blocks_of, counts_at, object_words, slot}
 use Rattle.control_word.specs.declared.event.Cell.{Cell}
 use Rattle.control_word.specs.declared.event.Entry.{Entry}
 use Rattle.control_word.specs.declared.event.Event.{Event}
@@ -91,15 +89,15 @@ module _ {V : Type 0} where
     -- a number that fits what the count may be told as
     pub count_as_step : (k : Kind) (n : ℕ) → Has (held v.name (handle k (Some o) p)) (leads z h).hands
         → (n ≡ 0 → get_or words (spot ((leads z h).object o).block 0) 0 ≡ 0) → (get_or words (spot ((leads z h).object o).block 0) 0 ≡ 0 → n ≡ 0)
-        → n ≤ count (leads z h) o
+        → n ≤ count (leads z h) o → (HasWhole (leads z h) v.name → n ≡ count (leads z h) o)
         → let e = entry v.name (Count (handle k (Some o) p) n) in Stands z words (set views i (sees v (e ∷ h))) (e ∷ h)
-    count_as_step k n holds to from low =
+    count_as_step k n holds to from low whole =
         let s = leads z h in
         let busy = held_busy z s v.name o k p (sound z h stands.legal) holds in
         let w = get_or words (spot (s.object o).block 0) 0 in
         let same : (n == 0) ≡ (w == 0) = ⊎_elim (λ (e : n ≡ 0). eq-eqb n 0 e ∙ sym (eq-eqb w 0 (to e))) (λ (ne : n ≢ 0). ne_eqb n 0 ne
         ∙ sym (ne_eqb w 0 (λ t. ne (from t)))) (cases_eq n 0) in
-        look_event (Count (handle k (Some o) p) n) tt ((holds, refl, refl), same ∙ zero_test Owner busy, low) tt refl refl
+        look_event (Count (handle k (Some o) p) n) tt ((holds, refl, refl), same ∙ zero_test Owner busy, low, whole) tt refl refl
 
   -- a load that makes no event: the desk has seen what happened so far
   pub look_step : (z : Opening) (words : List ℕ) (views : List (View V)) (h : List (Entry V)) (i : ℕ) (v : View V)
@@ -122,6 +120,28 @@ load_is_write words k = set-get_or words k 0
 
 module _ {V : Type 0} where
   module _ (z : Opening) (words : List ℕ) (views : List (View V)) (h : List (Entry V)) (stands : Stands z words views h) where
+    -- exactly the owners where no load of the object is under way
+    count_exact : (o low high : ℕ) → IsBusy (leads z h) o
+        → let i = counts_at (blocks_of (leads z h)) Owner o in
+        get_or words i 0 ≡ low + 4294967296 * high → low < 4294967296 → owed views i ≡ 0
+        → cond (low == 0) (cond (high == 0) 0 1) low ≡ count (leads z h) o
+    count_exact o low high busy is small none =
+        let s = leads z h in
+        let i = counts_at (blocks_of s) Owner o in
+        let t = halves z words views h stands Owner o busy low high is small in let t0 = t.0 in
+        let f : paid views i + bank z s stands.taken i ≡ high = sym t.1 in
+        ⊎_elim
+        (λ (a : low ≡ 0).
+        let none' : number s Owner o ≡ 0 = omega arith in
+        let no : high ≡ 0 = ⊎_elim (λ (q : high ≡ 0). q) (λ (q : high ≢ 0).
+        let m = funds_mean z words views h stands Owner o busy (omega arith) in
+        let u = number_tally s Owner o in absurd (omega arith)) (cases_eq high 0) in
+        let c0 : cond (low == 0) (cond (high == 0) 0 1) low ≡ cond (high == 0) 0 1 =
+        cond-true (low == 0) (cond (high == 0) 0 1) low (eq-eqb low 0 a) in
+        let c1 : ◌≡◌ {A = ℕ} (cond (high == 0) 0 1) 0 = cond-true (high == 0) 0 1 (eq-eqb high 0 no) in omega arith)
+        (λ (a : low ≢ 0). let c = cond-false (low == 0) (cond (high == 0) 0 1) low (ne_eqb low 0 a) in omega arith)
+        (cases_eq low 0)
+
     -- Count: the low half, or 1 where that is 0 and funds are there
     pub count_step : (i : ℕ) (v : View V) → get_elem? views i ≡ some v → v.spent ≡ false → v.pending ≡ Idle
         → (k : Kind) (o : ℕ) (p : Option Place) (low high : ℕ)
@@ -141,14 +161,25 @@ module _ {V : Type 0} where
           (λ a. cond-false (low == 0) _ low (ne_eqb low 0 a)),
         ) in
         let w = get_or words (spot (s.object o).block 0) 0 in
+        let shares = (allowed z h stands.legal).shares in
+        let whole : HasWhole s v.name → n ≡ count s o = λ all.
+        count_exact o low high busy is small
+        (sole_owes z words views h stands i v at awake idle (omega arith) (spot (s.object o).block 0)) in
         ⊎_elim
         (λ (a : low ≡ 0). ⊎_elim
-        (λ (b : high ≡ 0). let m = c.0 a b in count_as_step z words views h stands i v at awake idle o p k n holds (λ q. omega arith) (λ q. m) (omega arith))
+        (λ (b : high ≡ 0). let m = c.0 a b in
+        count_as_step z words views h stands i v at awake idle o p k n holds (λ q. omega arith) (λ q. m) (omega arith) whole)
         (λ (b : high ≢ 0). let m = c.1 a b in
         let x = some_word z words views h stands Owner o busy (omega arith) in count_as_step z words views h stands i v at awake idle o p k n holds
-        (λ q. absurd (omega arith)) (λ q. absurd (omega arith)) (omega arith)) (cases_eq high 0))
+        (λ q. absurd (omega arith)) (λ q. absurd (omega arith)) (omega arith) whole) (cases_eq high 0))
         (λ (a : low ≢ 0). let m = c.2 a in count_as_step z words views h stands i v at awake idle o p k n holds (λ q. absurd (omega arith))
-        (λ q. absurd (omega arith)) (omega arith)) (cases_eq low 0)
+        (λ q. absurd (omega arith)) (omega arith) whole) (cases_eq low 0)
+
+  pub counts_exactly : CountsExactly V
+  counts_exactly z words views h stands o busy none =
+      let i = counts_at (blocks_of (leads z h)) Owner o in
+      let word = get_or words i 0 in
+      count_exact z words views h stands o (number_of word) (funds_of word) busy (omega arith) (omega arith) none
 
 module _ {V : Type 0} where
   module _ (z : Opening) (words : List ℕ) (views : List (View V)) (h : List (Entry V)) (stands : Stands z words views h)
@@ -198,20 +229,10 @@ module _ {V : Type 0} where
 module _ {V : Type 0} where
   pub tells_count : TellsCount V
   tells_count at k o p low high ready holds is small =
-      let busy = held_busy at.opening (state at) (me at) o k p (sound at.opening at.history ready.stands.legal) holds in
-      let n = cond (low == 0) (cond (high == 0) 0 1) low in (
-        count_step at.opening at.words at.views at.history ready.stands at.seat at.view ready.seated ready.awake ready.pending k o p low high holds is small,
-        λ none.
-            let t = halves at.opening at.words at.views at.history ready.stands Owner o busy low high is small in let t0 = t.0 in
-            let f : paid at.views (counts at Owner o) + bank at.opening (state at) ready.stands.taken (counts at Owner o) ≡ high = sym t.1 in
-            ⊎_elim
-            (λ (a : low ≡ 0).
-            let none' : number (state at) Owner o ≡ 0 = omega arith in
-            let no : high ≡ 0 = ⊎_elim (λ (q : high ≡ 0). q) (λ (q : high ≢ 0). let m = funds_mean at.opening at.words at.views at.history ready.stands Owner o busy (omega arith) in
-            let u = number_tally (state at) Owner o in absurd (omega arith)) (cases_eq high 0) in
-            let c0 : cond (low == 0) (cond (high == 0) 0 1) low ≡ cond (high == 0) 0 1 = cond-true (low == 0) (cond (high == 0) 0 1) low (eq-eqb low 0 a) in
-            let c1 : ◌≡◌ {A = ℕ} (cond (high == 0) 0 1) 0 = cond-true (high == 0) 0 1 (eq-eqb high 0 no) in omega arith)
-            (λ (a : low ≢ 0). let c = cond-false (low == 0) (cond (high == 0) 0 1) low (ne_eqb low 0 a) in omega arith) (cases_eq low 0),
+      let busy = held_busy at.opening (state at) (me at) o k p (sound at.opening at.history ready.stands.legal) holds in (
+        count_step at.opening at.words at.views at.history ready.stands at.seat at.view ready.seated ready.awake
+            ready.pending k o p low high holds is small,
+        count_exact at.opening at.words at.views at.history ready.stands o low high busy is small,
       )
 
   pub tells_expired : TellsExpired V

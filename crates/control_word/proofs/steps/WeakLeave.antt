@@ -1,5 +1,5 @@
 -- One weak handle less, or the owners' common count; the block is vacant where the whole word was 1.
-use Rattle.std.proofs.Common.{None, ◌&&◌, ◌-◌, ◌≡◌, ◌≢◌, ℕ, suc, ◌+◌, ◌<◌, true, false, cond, ◌==◌, List, ◌∷◌, get_or, set, Option, Some, refl, sym, ap}
+use Rattle.std.proofs.Common.{None, ◌&&◌, ◌-◌, ◌≡◌, ◌≢◌, ℕ, suc, ◌+◌, ◌*◌, ◌<◌, ◌≤◌, true, false, cond, ◌==◌, List, ◌∷◌, get_or, set, Option, Some, refl, sym, ap}
 use Rattle.std.proofs.Common.{◌∙◌, ⊎_elim, ne_eqb, arith, eq-eqb}
 use Rattle.std.proofs.lemmas.Bool.{cases_eq}
 use mathlib.Core.Option.{some}
@@ -11,15 +11,16 @@ use Rattle.control_word.proofs.history.Legal.{sound}
 use Rattle.control_word.proofs.history.Moving.{count_same, less_weaks, weak_counted, weak_same}
 use Rattle.control_word.proofs.history.Soundness.{IsBusy}
 use Rattle.control_word.proofs.lists.Tallies.{put_cases, put_other}
-use Rattle.control_word.proofs.words.Changes.{number_stores}
-use Rattle.control_word.proofs.words.Counting.{bag_fewer, funds_mean, no_funds, number_read, one_test, owed_paid, word_some}
+use Rattle.control_word.proofs.words.Changes.{settled_stores}
+use Rattle.control_word.proofs.words.Counting.{bag_fewer, funds_mean, number_read, one_test, owed_paid, word_some}
+use Rattle.control_word.proofs.words.Debts.{HasOut, idle_out, last_test}
 use Rattle.control_word.specs.Events.{is_gone, moved_to}
 use Rattle.control_word.specs.Handles.{empty, weak_of}
 use Rattle.control_word.specs.Histories.{entry, leads, value}
 use Rattle.control_word.specs.Layout.{spot}
 use Rattle.control_word.specs.State.{Has, Object, Opening, Phase, common, ending, gone, held, kind_of_member, live, members, put, same_held, stored}
 use Rattle.control_word.specs.State.{unmade, weak, weak_number, without}
-use Rattle.control_word.specs.Steps.{Finishes, WeakLeaves, me, state}
+use Rattle.control_word.specs.Steps.{Finishes, WeakLeaves, counts, me, state}
 use Rattle.control_word.specs.Views.{Stands, owed, paid, sees}
 use Rattle.control_word.specs.Words.{bank}
 use Rattle.control_word.specs.declared.event.Entry.{Entry}
@@ -55,38 +56,41 @@ vacant_test p w n h =
     ∙ ap (λ t. w == 1 && t) (sym (busy_not_gone p (omega arith))))) (cases_eq (common p) 0)
 
 module _ {V : Type 0} where
+  -- One weak handle less, and with it the funds that the desk had out on its count. The block is vacant just where the whole word
+  -- was that
+  pub settled_weak_leave : (z : Opening) (words : List ℕ) (views : List (View V)) (h : List (Entry V)) (stands : Stands z words views h)
+      (i : ℕ) (v : View V) (at : get_elem? views i ≡ some v) (awake : v.spent ≡ false) (o f : ℕ) (p : Option Place)
+      → let k = spot ((leads z h).object o).block 1 in HasOut v.pending k f → Has (held v.name (weak_of o p)) (leads z h).hands
+      → let a = 4294967296 * f + 1 in let e = entry v.name (WeakLeave (weak_of o p) (get_or words k 0 == a)) in
+      (a ≤ get_or words k 0) × Stands z (set words k (get_or words k 0 - a)) (set views i (sees v (e ∷ h))) (e ∷ h)
+  unfolding weak
+  settled_weak_leave z words views h stands i v at awake o f p out holds =
+      let s = leads z h in
+      let d = v.name in
+      let fine = sound z h stands.legal in
+      let there = weak_counted s d o p holds in
+      let busy : IsBusy s o = omega arith in
+      let hs = without same_held (held d (weak_of o p)) s.hands in
+      let b = (s.object o).block in
+      let k = spot b 1 in
+      let a = 4294967296 * f + 1 in
+      let vacant = get_or words k 0 == a in
+      let made : (s.object o).phase ≢ unmade = λ e. let t = fine.unmade_free o e in omega arith in
+      let rest = cond vacant (stored d b ∷ s.stores) s.stores in
+      let test = last_test z words views h stands i v at awake Weak o f p out holds (omega arith) (λ e. omega arith) in
+      let enough = test.0 in (
+        enough,
+        settled_stores z words views h stands i v at awake (WeakLeave (weak_of o p) vacant) hs s.object rest Weak o (get_or words k 0 - a) f tt out
+            ((holds, refl, refl), test.1 ∙ vacant_test (s.object o).phase (weak s o) made there) tt busy refl
+            (λ q t. sym ((less_weaks s d o p holds q).2))
+            (λ q t. ap (λ m. m + common (s.object q).phase) (sym ((less_weaks s d o p holds q).1 (⊎_elim (λ n. absurd (n refl)) (λ n. n) t)))) (λ q. refl)
+            (let u = (less_weaks s d o p holds o).0 refl in omega arith)
+            (let t = bag_fewer d (weak_of o p) s.hands holds in let u = (allowed z h stands.legal).rooms v.name in omega arith),
+      )
+
+module _ {V : Type 0} where
   module _ (z : Opening) (words : List ℕ) (views : List (View V)) (h : List (Entry V)) (stands : Stands z words views h)
       (i : ℕ) (v : View V) (at : get_elem? views i ≡ some v) (awake : v.spent ≡ false) (idle : v.pending ≡ Idle) (o : ℕ) (p : Option Place) where
-    -- one weak handle less, and the block is vacant just where the whole word was 1
-    pub weak_leave_step : Has (held v.name (weak_of o p)) (leads z h).hands
-        → let k = spot ((leads z h).object o).block 1 in let e = entry v.name (WeakLeave (weak_of o p) (get_or words k 0 == 1)) in
-        Stands z (set words k (get_or words k 0 - 1)) (set views i (sees v (e ∷ h))) (e ∷ h)
-    unfolding weak
-    weak_leave_step holds =
-        let s = leads z h in
-        let d = v.name in
-        let fine = sound z h stands.legal in
-        let there = weak_counted s d o p holds in
-        let busy : IsBusy s o = omega arith in
-        let hs = without same_held (held d (weak_of o p)) s.hands in
-        let b = (s.object o).block in
-        let k = spot b 1 in
-        let r = number_read z words views h stands Weak o busy in
-        let vacant = get_or words k 0 == 1 in
-        let n = get_or words k 0 - 1 in
-        let made : (s.object o).phase ≢ unmade = λ e. let t = fine.unmade_free o e in omega arith in
-        let rest = cond vacant (stored d b ∷ s.stores) s.stores in
-        let test = one_test (get_or words k 0) (owed views k) (weak_number s o) (paid views k + bank z s stands.taken k) r
-        (let l = owed_paid z words views h stands k in omega arith) (omega arith)
-        (λ e. no_funds z words views h stands i v at awake idle Weak o p holds (let u : weak s o ≡ 1 = omega arith in u)) in
-        let word = word_some z words views h stands Weak o busy (omega arith) in
-        number_stores z words views h stands i v at awake idle (WeakLeave (weak_of o p) vacant) hs s.object rest Weak o n tt
-        ((holds, refl, refl), test ∙ vacant_test (s.object o).phase (weak s o) made there) tt busy refl
-        (λ q t. sym ((less_weaks s d o p holds q).2))
-        (λ q t. ap (λ m. m + common (s.object q).phase) (sym ((less_weaks s d o p holds q).1 (⊎_elim (λ n. absurd (n refl)) (λ n. n) t)))) (λ q. refl)
-        (let u = (less_weaks s d o p holds o).0 refl in omega arith)
-        (let t = bag_fewer d (weak_of o p) s.hands holds in let u = (allowed z h stands.legal).rooms v.name in omega arith)
-
     -- the owners' common count goes, and the block is vacant just where the whole word was 1
     pub finish_step : (val : V) → value z h o ≡ Some val → ((leads z h).object o).phase ≡ ending v.name → ((m : ℕ) → m < 3
         → ((leads z h).object o).member m ≡ empty (kind_of_member m))
@@ -122,7 +126,7 @@ module _ {V : Type 0} where
         λ q. put_cases (λ j u. moved_to unmade u ≡ moved_to unmade (s.object j)) s.object o (moved_to gone x) q (λ e. ap
         (λ n. moved_to unmade (s.object n)) (sym e)) (λ n. refl) in
         let other : (q : ℕ) → q ≢ o → f q ≡ s.object q = λ q n. put_other s.object o (moved_to gone x) q n in
-        number_stores z words views h stands i v at awake idle (Finish o vacant val) s.hands f rest Weak o n tt (
+        settled_stores z words views h stands i v at awake (Finish o vacant val) s.hands f rest Weak o n 0 tt (idle_out v.pending k idle) (
           end,
           cleared,
           (let e : (get_or words k 0 == 1) ≡ (weak s o == 0) = test
@@ -136,12 +140,8 @@ module _ {V : Type 0} where
 
 module _ {V : Type 0} where
   pub weak_leaves' : WeakLeaves V
-  weak_leaves' at o p ready holds =
-      let there = weak_counted (state at) (me at) o p holds in
-      let busy : IsBusy (state at) o = omega arith in (
-        word_some at.opening at.words at.views at.history ready.stands Weak o busy (omega arith),
-        weak_leave_step at.opening at.words at.views at.history ready.stands at.seat at.view ready.seated ready.awake ready.pending o p holds,
-      )
+  weak_leaves' at o p ready holds = settled_weak_leave at.opening at.words at.views at.history ready.stands at.seat at.view ready.seated ready.awake o 0 p
+      (idle_out at.view.pending (counts at Weak o) ready.pending) holds
 
   pub finishes' : Finishes V
   finishes' at o v ready is end cleared =

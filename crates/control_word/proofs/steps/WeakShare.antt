@@ -4,8 +4,9 @@ use mathlib.Core.Option.{some}
 use lib.ListN.{get_elem?}
 use Rattle.control_word.proofs.history.Moving.{more_weaks, weak_no_owner}
 use Rattle.control_word.proofs.history.Soundness.{IsBusy}
-use Rattle.control_word.proofs.words.Changes.{number_step}
+use Rattle.control_word.proofs.words.Changes.{settled_step}
 use Rattle.control_word.proofs.words.Counting.{bag_one}
+use Rattle.control_word.proofs.words.Debts.{idle_out}
 use Rattle.control_word.specs.Events.{Asks}
 use Rattle.control_word.specs.Handles.{weak_of}
 use Rattle.control_word.specs.Histories.{entry, leads}
@@ -30,8 +31,9 @@ module _ {V : Type 0} where
     weak_share_step more busy asks =
         let s = leads z h in
         let hs = held v.name (weak_of o p) ∷ s.hands in
-        number_step z words views h stands i v at awake idle (WeakShare o p) hs s.object Weak o (suc (get_or words (spot
-        (s.object o).block 1) 0)) tt asks tt busy refl
+        let k = spot (s.object o).block 1 in
+        settled_step z words views h stands i v at awake (WeakShare o p) hs s.object Weak o (suc (get_or words k 0)) 0 tt
+        (idle_out v.pending k idle) asks tt busy refl
         (λ r t. weak_no_owner s v.name (Some o) p r)
         (λ r t. ap (λ m. m + common (s.object r).phase) ((more_weaks s v.name o p r).1 (⊎_elim (λ n. absurd (n refl)) (λ n. n) t))) (λ r. refl)
         (let u = (more_weaks s v.name o p o).0 refl in omega arith)

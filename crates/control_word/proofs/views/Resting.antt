@@ -1,12 +1,15 @@
 -- A sole desk has seen all, and the counts of a block at rest are exactly the handles on it.
-use Rattle.std.proofs.Common.{◌≡◌, ◌≢◌, ℕ, zero, suc, ◌+◌, ◌*◌, ◌<◌, ◌≤◌, Bool, true, false, List, get_or, refl, sym, ap, subst, ◌∙◌, inl, ⊎_elim}
+use Rattle.std.proofs.Common.{◌≡◌, ◌≢◌, ℕ, ◌+◌, ◌*◌, ◌<◌, Bool, true, false, List, get_or, refl, sym}
+use Rattle.std.proofs.Common.{ap, subst, ◌∙◌, inl, ⊎_elim}
 use Rattle.std.proofs.Common.{ne_eqb, arith}
-use Rattle.std.proofs.lemmas.Bool.{cases_eq, cond-false}
+use Rattle.std.proofs.lemmas.Bool.{cond-false}
 use mathlib.Core.Option.{some, some-injective}
 use lib.ListN.{get_elem?}
-use Rattle.control_word.proofs.history.Allowances.{allowed, opened}
+use Rattle.control_word.proofs.history.Allowances.{opened}
 use Rattle.control_word.proofs.history.Kept.{Same, same_kept}
 use Rattle.control_word.proofs.history.Legal.{held_busy, sound}
+use Rattle.control_word.proofs.history.Sole.{alone}
+pub use Rattle.control_word.proofs.lists.Sums.{sum_at}
 use Rattle.control_word.proofs.words.Frames.{spot_apart, total_none}
 use Rattle.control_word.proofs.words.Funds.{slot_low}
 use Rattle.control_word.proofs.words.Rooms.{number_room}
@@ -14,7 +17,7 @@ use Rattle.control_word.specs.Histories.{leads, value}
 use Rattle.control_word.specs.Laws.{RestsExactly, SoleHasSeenAll}
 use Rattle.control_word.specs.Layout.{spot}
 use Rattle.control_word.specs.Packing.{number_of}
-use Rattle.control_word.specs.State.{InShape, Opening, count, sum_below, weak_number}
+use Rattle.control_word.specs.State.{InShape, Opening, count, weak_number}
 use Rattle.control_word.specs.Views.{Fits, IsAtRest, NamesBlock, Stands, added, adds, owed, owes, paid, pays}
 use Rattle.control_word.specs.Words.{bank, block_words, slot}
 use Rattle.control_word.specs.declared.event.Entry.{Entry}
@@ -22,19 +25,6 @@ use Rattle.control_word.specs.declared.handle.Kind.TheVariants.{Owner, Weak}
 use Rattle.control_word.specs.declared.view.Pending.{Pending}
 use Rattle.control_word.specs.declared.view.Pending.TheVariants.{Idle, Making, Merging, Parting, Paying, Visiting}
 use Rattle.control_word.specs.declared.view.View.{View}
-
-pub sum_at : (n p : ℕ) (f : ℕ → ℕ) → p < n → f p ≤ sum_below n f
-sum_at zero p f lt = absurd (omega arith)
-sum_at (suc n) p f lt =
-    ⊎_elim (λ (e : p ≡ n). let t = ap f e in omega arith) (λ (ne : p ≢ n). let t = sum_at n p f (omega arith) in omega arith) (cases_eq p n)
-
--- two terms of a sum
-sum_two : (n p q : ℕ) (f : ℕ → ℕ) → p < n → q < n → p ≢ q → f p + f q ≤ sum_below n f
-sum_two zero p q f lp lq ne = absurd (omega arith)
-sum_two (suc n) p q f lp lq ne =
-    ⊎_elim (λ (e : p ≡ n). let t = ap f e in let u = sum_at n q f (omega arith) in omega arith)
-    (λ (np : p ≢ n). ⊎_elim (λ (e : q ≡ n). let t = ap f e in let u = sum_at n p f (omega arith) in omega arith)
-    (λ (nq : q ≢ n). let t = sum_two n p q f (omega arith) (omega arith) ne in omega arith) (cases_eq q n)) (cases_eq p n)
 
 module _ {V : Type 0} where
   -- what a desk has by what it has seen, it has
@@ -45,20 +35,37 @@ module _ {V : Type 0} where
       let t = (stands.team.seated i v at awake).knows v.name (inl refl) in
       subst (λ l. Same (leads z v.seen) (leads z l) v.name) (sym t.1) (same_kept z t.0 v.seen v.name t.2)
 
+  -- a desk that has the whole allowance has the only view that isn't spent
+  sole_seat : (z : Opening) (words : List ℕ) (views : List (View V)) (h : List (Entry V)) → Stands z words views h
+      → (i j : ℕ) (v w : View V) → get_elem? views i ≡ some v → get_elem? views j ≡ some w
+      → v.spent ≡ false → w.spent ≡ false
+      → (leads z h).allowance v.name ≡ z.allowance → w ≡ v
+  sole_seat z words views h stands i j v w at there awake up whole =
+      let acts = (stands.team.seated j w there up).acts w.name (inl refl) in
+      let same = alone z h stands.legal v.name w.name whole acts in
+      let seat = stands.team.names j i w v there at up awake v.name (inl same) (inl refl) in
+      some-injective w v (sym there ∙ (ap (get_elem? views) seat ∙ at))
+
   pub sole_has_seen_all : SoleHasSeenAll V
   sole_has_seen_all z words views h stands i v at awake whole =
-      let s = leads z h in
       let w = stands.team.whole in
-      let fine = allowed z h stands.legal in
       let same = as_seen z words views h stands i v at awake in
-      let acts = (stands.team.seated i v at awake).acts v.name (inl refl) in
-      ⊎_elim
-      (λ (e : w.0 ≡ i). let q = some-injective w.1 v (sym w.2 ∙ (ap (get_elem? views) e ∙ at)) in ap (λ (y : View V). y.seen) (sym q) ∙ w.4)
-      (λ (n : w.0 ≢ i).
-      let other = (stands.team.seated w.0 w.1 w.2 w.3).acts w.1.name (inl refl) in
-      let apart : w.1.name ≢ v.name = λ e. n (stands.team.names w.0 i w.1 v w.2 at w.3 awake v.name (inl e) (inl refl)) in
-      let t = sum_two s.names w.1.name v.name s.allowance other.0 acts.0 apart in
-      let a = same.may_hold in let b = fine.shares in let c = other.2 in absurd (omega arith)) (cases_eq w.0 i)
+      ap (λ (y : View V). y.seen)
+      (sym (sole_seat z words views h stands i w.0 v w.1 at w.2 awake w.3 (same.may_hold ∙ whole)))
+      ∙ w.4
+
+  -- where such a desk has no half-done call, no load is under way
+  pub sole_owes : (z : Opening) (words : List ℕ) (views : List (View V)) (h : List (Entry V)) → Stands z words views h
+      → (i : ℕ) (v : View V) → get_elem? views i ≡ some v → v.spent ≡ false → v.pending ≡ Idle
+      → (leads z h).allowance v.name ≡ z.allowance → (k : ℕ) → owed views k ≡ 0
+  sole_owes z words views h stands i v at awake idle whole k =
+      total_none (λ (w : View V). owes w.pending k) views (λ j w there. go j w there w.spent refl)
+    where
+      go : (j : ℕ) (w : View V) → get_elem? views j ≡ some w → (t : Bool) → w.spent ≡ t → owes w.pending k ≡ 0
+      go j w there true up = ap (λ q. owes q k) (stands.team.rests j w there up)
+      go j w there false up =
+          ap (λ (y : View V). owes y.pending k) (sole_seat z words views h stands i j v w at there awake up whole)
+          ∙ ap (λ q. owes q k) idle
 
   module _ (z : Opening) (words : List ℕ) (views : List (View V)) (h : List (Entry V)) (stands : Stands z words views h) (b : ℕ) (inside : InShape z b)
       (rest : IsAtRest (leads z h) views b) where

@@ -229,30 +229,6 @@ module _ {V : Type 0} where
         (λ n. omega arith) (cases_eq (number s k o) 0)
 
     module _ (i : ℕ) (v : View V) (at : get_elem? views i ≡ some v) (awake : v.spent ≡ false) (idle : v.pending ≡ Idle) where
-      -- where a resting desk has the only handle of a kind, nobody has funds on its word
-      pub no_funds : (k : Kind) (o : ℕ) (p : Option Place) → Has (held v.name (handle k (Some o) p)) (leads z h).hands → tally k o (handles (leads z h)) ≡ 1
-          → let j = counts_at (blocks_of (leads z h)) k o in paid views j + bank z (leads z h) stands.taken j ≡ 0
-      no_funds k o p has only =
-          let s = leads z h in
-          let fine = sound z h stands.legal in
-          let busy = held_busy z s v.name o k p fine has in
-          let j = counts_at (blocks_of s) k o in
-          let one = one_of k o (handle k (Some o) p) refl refl in
-          let a = tally_without k o (held v.name (handle k (Some o) p)) s.hands (in_cells s) has in
-          let b = tally_append k o (map (λ y. y.handle) (without same_held (held v.name (handle k (Some o) p)) s.hands)) (in_cells s) in
-          let c = bank_few z s fine k o busy stands.taken in
-          let d : paid views j ≡ 0 = ⊎_elim (λ e. e)
-          (λ (n : paid views j ≢ 0).
-          let t = paid_held k o busy (omega arith) in
-          ⊎_elim
-          (λ (e : t.1.name ≡ v.name).
-          let q = stands.team.names t.0 i t.1 v t.3 at t.4 awake v.name (inl e) (inl refl) in
-          let w : some t.1 ≡ some v = sym t.3 ∙ (ap (get_elem? views) q ∙ at) in
-          let x = ap (λ (y : View V). pays y.pending j) (same_view t.1 v w) in
-          let y = ap (λ r. pays r j) idle in absurd (let m = t.6 in omega arith))
-          (λ ne. let m = two_held s k o t.1.name v.name t.2 p ne t.5 has in absurd (omega arith)) (cases_eq t.1.name v.name)) (cases_eq (paid views j) 0) in
-          omega arith
-
       -- a step of a desk that rests before and after it leaves what is owed and paid
       pub calm : (seen : List (Entry V)) (m : ℕ) → let w = sees v seen in
           (owed views m ≡ owed (set views i w) m) × (paid views m ≡ paid (set views i w) m) × (added views m ≡ added (set views i w) m)

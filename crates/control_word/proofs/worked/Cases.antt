@@ -71,7 +71,7 @@ copy_legal =
     opening_fits
     ▸ comes refl (inr (inr (inr (inl refl))), refl) tt
     ▸ comes refl ((inl refl, refl, refl), (omega arith, omega arith, omega arith)) tt
-    ▸ comes refl ((inl refl, refl, refl), refl, omega arith) tt
+    ▸ comes refl ((inl refl, refl, refl), refl, omega arith, λ whole. refl) tt
     ▸ comes refl ((inl refl, refl, refl), refl) tt
     ▸ comes refl ((inl refl, refl, refl), refl) tt
     ▸ comes refl (refl, (λ m lt. refl), refl) refl
@@ -81,6 +81,7 @@ unfolding count weak
 count_after_copy = (
   copy_legal,
   (refl, refl),
+  (λ other next. next.asks.3 refl),
   refl,
   refl,
   refl,
@@ -93,9 +94,9 @@ lock_expired_legal =
     opening_fits
     ▸ comes refl (inr (inr (inr (inl refl))), refl) tt
     ▸ comes refl (inl (owner_at 1 1, (inl refl, refl, refl), refl, inl refl)) tt
-    ▸ comes refl ((inl refl, refl, refl), refl, omega arith) tt
+    ▸ comes refl ((inl refl, refl, refl), refl, omega arith, λ whole. refl) tt
     ▸ comes refl ((inl refl, refl, refl), refl) tt
-    ▸ comes refl ((inr (inl refl), refl, refl), refl, omega arith) tt
+    ▸ comes refl ((inr (inl refl), refl, refl), refl, omega arith, λ whole. refl) tt
     ▸ comes refl ((inl refl, refl, refl), refl) tt
     ▸ comes refl ((inl refl, refl, refl), refl) tt
     ▸ comes refl ((inr (inl refl), refl, refl), refl) tt
@@ -113,6 +114,7 @@ lock_keeps_alive = (
   (refl, refl),
   (λ other next. next.asks.1),
   (refl, refl),
+  (λ other next. next.asks.3 refl),
   (refl, refl),
   (λ other next. next.asks.1),
   refl,
@@ -196,7 +198,7 @@ reuse_legal =
       inl refl,
     ) tt
     ▸ comes refl ((inl refl, refl, refl), refl) tt
-    ▸ comes refl ((inl refl, refl, refl), refl, omega arith) tt
+    ▸ comes refl ((inl refl, refl, refl), refl, omega arith, λ whole. refl) tt
     ▸ comes refl ((inl refl, refl, refl), refl) tt
     ▸ comes refl ((inl refl, refl, refl), refl) tt
 

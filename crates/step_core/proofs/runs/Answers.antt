@@ -1,15 +1,11 @@
--- What locks answer.
-use Rattle.std.proofs.Common.{◌≡◌, ℕ, ◌-◌, ◌==◌, Bool, true, false, cond, List, [], ◌∷◌, length, get_or, refl, sym, ap, subst, ◌∙◌, inl, inr, arith}
+-- What a step answers that is a lock.
+use Rattle.std.proofs.Common.{◌≡◌, ℕ, ◌-◌, ◌==◌, Bool, true, false, cond, List, [], ◌∷◌, get_or, refl, sym, ap, subst, ◌∙◌}
 use Rattle.std.specs.Prelude.{Option, Some, None, not, option_map}
 use Rattle.std.proofs.lemmas.Bool.{cond_both}
-use Rattle.control_word.specs.declared.event.Entry.{Entry}
-use Rattle.control_word.specs.declared.event.Event.{Event}
 use Rattle.control_word.specs.declared.event.Event.TheVariants as event
-use Rattle.control_word.specs.declared.handle.Handle.{Handle}
 use Rattle.control_word.specs.declared.handle.Kind.{Kind}
 use Rattle.control_word.specs.declared.handle.Kind.TheVariants.{Owner, Weak}
 use Rattle.control_word.specs.declared.place.Block.{Block}
-use Rattle.control_word.specs.Histories.{entry}
 use Rattle.control_word.specs.State.{State, weak}
 use Rattle.step_threads.specs.declared.act.Act.{Act}
 use Rattle.step_threads.specs.declared.act.Act.TheVariants.{Make, Share, Downgrade, Lock, Put, Leave, Clear, Count, Expired, Read, FromThis, Alias, Move, Ask, Offer, Swap, Exchange, Load, Compare, Drop}
@@ -19,268 +15,252 @@ use Rattle.step_threads.specs.declared.half.Half.TheVariants.{Rest, Making, Lock
 use Rattle.step_table.specs.declared.holdings.Pointer.{Pointer}
 use Rattle.step_table.specs.declared.past.Deed.{Deed}
 use Rattle.step_table.specs.declared.past.Deed.TheVariants as deed
-use Rattle.step_threads.specs.declared.said.Answer.{Answer}
-use Rattle.step_threads.specs.declared.said.Stepped.{Stepped}
+use Rattle.step_threads.specs.declared.said.Said.{Said}
 use Rattle.step_threads.specs.declared.said.Stepped.TheVariants as stepped
-use Rattle.step_core.specs.declared.trace.TraceStep.{TraceStep}
 use Rattle.step_threads.specs.Actors.{wanted}
 use Rattle.step_threads.specs.declared.ending.Ending.{Ending}
 use Rattle.step_threads.specs.Courses.{Going, Walk, cell_at, comparing, form_of, going, hand, locked, offered, on_going, other}
 use Rattle.step_table.specs.Deeds.{is_enabled, read, as_owner, downgrade, is_expired, is_last, leave, leave_as, lock, owner_word, share, share_as, tell, tell_expired, alias, aliased, on}
 use Rattle.step_threads.specs.Endings.{staged}
-use Rattle.step_core.specs.Headline.{TellsLocks, Was, answer_by}
+use Rattle.step_core.specs.Headline.{LocksNext}
 use Rattle.step_table.specs.Holdings.{inside, is_full, slot, owner_slot, place_in}
 use Rattle.step_threads.specs.Entries.{least}
-use Rattle.step_threads.specs.Scenes.{found, lock_answer, walk_of}
-use Rattle.step_threads.specs.Steps.{asks, at_rest, brings, emptied, given as given_by, Step, acts, begins, begun, claims, ends_on, first, is_event, looks, made_on}
-use Rattle.step_threads.specs.Steps.{prepares, sends, sent, silent, step_at, stepped as stepped_by, story_after, story_by, swaps, tried, tries, trying, with_endings, within}
-use Rattle.step_table.specs.Stories.{Nothing, Story, added, event_of, known, object_in, pending, state}
-use Rattle.step_core.specs.Worlds.{Sight, half_of, scene, step_of}
-use Rattle.step_table.proofs.tables.CellDeeds.{by_event}
+use Rattle.step_threads.specs.Scenes.{found, lock_answer}
+use Rattle.step_threads.specs.Steps.{asks, at_rest, brings, emptied, given as given_by, Step, acts, begins, begun, claims, ends_on, first, looks, made_on}
+use Rattle.step_threads.specs.Steps.{prepares, sends, sent, silent, step_at, swaps, tried, tries, trying, with_endings, within}
+use Rattle.step_table.specs.Stories.{Story, known, object_in, pending, state}
 use Rattle.step_table.specs.declared.cell_deed.Cell.{Cell}
 use Rattle.step_table.specs.declared.cell_deed.Cell.TheVariants.{Member}
 use Rattle.step_table.specs.Cells.{word_at}
 use Rattle.step_table.specs.Contents.{compared_in, seen}
 use Rattle.step_core.proofs.telling.Cases.{IsEach, IsEachAct, IsEachRefill, each_compares, each_load, each_matched, each_refill, each_saw}
-use Rattle.step_core.proofs.runs.Waiting.{IsTold, told_at}
-use Rattle.step_core.proofs.runs.Headline.{IsStep}
 
 -- what a deed gave that is a lock
-abbrev lock_of : Option Deed → Option Bool
+abbrev pub lock_of : Option Deed → Option Bool
 lock_of None = None
 lock_of (Some (deed.Lock b p got)) = Some got
 lock_of (Some _) = None
 
-abbrev Says : Option Bool → Option Answer → Type 0
-Says None answer = Unit {0}
-Says (Some got) answer = (must : Bool) × (answer ≡ Some (lock_answer must got))
+-- a lock that is done is the next of these tasks, and what is said answers it
+abbrev pub Says : List Task → Option Bool → Said → Type 0
+Says l None said = Unit {0}
+Says l (Some got) said = (must : Bool) × LocksNext said.statement must l × (said.answer ≡ Some (lock_answer must got))
 
-abbrev Tells : Option Step → Type 0
-Tells None = Unit {0}
-Tells (Some x) = Says (lock_of x.deed) x.said.answer
+abbrev pub Tells : List Task → Option Step → Type 0
+Tells l None = Unit {0}
+Tells l (Some x) = Says l (lock_of x.deed) x.said
 
-plain : (f : Pointer → Deed) (answer : Option Answer) → ((x : Pointer) → lock_of (Some (f x)) ≡ None) → (o : Option Pointer)
-    → Says (lock_of (option_map f o)) answer
-plain f answer none None = tt
-plain f answer none (Some x) = subst (λ (l : Option Bool). Says l answer) (sym (none x)) tt
+-- the tasks that the thread has left
+module _ (l : List Task) where
+  plain : (f : Pointer → Deed) (said : Said) → ((x : Pointer) → lock_of (Some (f x)) ≡ None) → (o : Option Pointer)
+      → Says l (lock_of (option_map f o)) said
+  plain f said none None = tt
+  plain f said none (Some x) = subst (λ (q : Option Bool). Says l q said) (sym (none x)) tt
 
-share_plain : (k : Kind) (x : Pointer) → lock_of (Some (share_as k x)) ≡ None
-share_plain Owner x = refl
-share_plain Weak x = refl
+  share_plain : (k : Kind) (x : Pointer) → lock_of (Some (share_as k x)) ≡ None
+  share_plain Owner x = refl
+  share_plain Weak x = refl
 
-leave_plain : (k : Kind) (x : Pointer) (last : Bool) → lock_of (Some (leave_as k x last)) ≡ None
-leave_plain Owner x last = refl
-leave_plain Weak x last = refl
+  leave_plain : (k : Kind) (x : Pointer) (last : Bool) → lock_of (Some (leave_as k x last)) ≡ None
+  leave_plain Owner x last = refl
+  leave_plain Weak x last = refl
 
-begin_tells : (w : Walk) (k : ℕ) (ts : List Task) (o : Option ℕ) → Tells (Some (begins w k ts o))
-begin_tells w k ts None = tt
-begin_tells w k ts (Some b) = tt
+  begin_tells : (w : Walk) (k : ℕ) (ts : List Task) (o : Option ℕ) → Tells l (Some (begins w k ts o))
+  begin_tells w k ts None = tt
+  begin_tells w k ts (Some b) = tt
 
--- an owner is given where one is left
-given : (s : State) (x : Pointer) → is_full (found s (Some x)) ≡ not (is_expired s x)
-given s x = go (is_expired s x)
-  where
-    go : (b : Bool) → is_full (cond b None (Some (as_owner x))) ≡ not b
-    go true = refl
-    go false = refl
+  -- an owner is given where one is left
+  given : (s : State) (x : Pointer) → is_full (found s (Some x)) ≡ not (is_expired s x)
+  given s x = go (is_expired s x)
+    where
+      go : (b : Bool) → is_full (cond b None (Some (as_owner x))) ≡ not b
+      go true = refl
+      go false = refl
 
-lock_done : (v : Story) (d k i : ℕ) (w : Walk) (ts : List Task) (must : Bool) (x : Pointer) → locked w.slots (Lock i must) ≡ Some x
-    → Tells (Some (acts v d w k ts (Lock i must) (Some (lock (state v) x)) Rest))
-lock_done v d k i w ts must x at =
-    (must, ap (λ (o : Option Pointer). Some (lock_answer must (is_full (found (state v) o)))) at ∙ ap (λ (b : Bool). Some (lock_answer must b)) (given (state v) x))
+  lock_done : (v : Story) (d k i : ℕ) (w : Walk) (ts : List Task) (must : Bool) (x : Pointer)
+      → locked w.slots (Lock i must) ≡ Some x
+      → LocksNext k must l → Tells l (Some (acts v d w k ts (Lock i must) (Some (lock (state v) x)) Rest))
+  lock_done v d k i w ts must x at next = (
+    must,
+    next,
+    ap (λ (o : Option Pointer). Some (lock_answer must (is_full (found (state v) o)))) at ∙
+        ap (λ (b : Bool). Some (lock_answer must b)) (given (state v) x),
+  )
 
-lock_tells : (v : Story) (d k i : ℕ) (w : Walk) (ts : List Task) (must : Bool) (o : Option Pointer) → locked w.slots (Lock i must) ≡ o
-    → Tells (Some (on (looks v d w k ts (Lock i must)) (acts v d w k ts (Lock i must) None Rest) o))
-lock_tells v d k i w ts must None at = tt
-lock_tells v d k i w ts must (Some x) at =
-    cond_both (owner_word v x == 0) (acts v d w k ts (Lock i must) (Some (lock (state v) x)) Rest) (trying w k (owner_word v x))
-    (λ (s : Step). Tells (Some s)) (λ e. lock_done v d k i w ts must x at) (λ e. tt)
+  lock_tells : (v : Story) (d k i : ℕ) (w : Walk) (ts : List Task) (must : Bool) (o : Option Pointer)
+      → locked w.slots (Lock i must) ≡ o
+      → LocksNext k must l → Tells l (Some (on (looks v d w k ts (Lock i must))
+      (acts v d w k ts (Lock i must) None Rest) o))
+  lock_tells v d k i w ts must None at next = tt
+  lock_tells v d k i w ts must (Some x) at next =
+      cond_both (owner_word v x == 0) (acts v d w k ts (Lock i must) (Some (lock (state v) x)) Rest)
+      (trying w k (owner_word v x))
+      (λ (s : Step). Tells l (Some s)) (λ e. lock_done v d k i w ts must x at next) (λ e. tt)
 
-ask_tells : (v : Story) (d k i : ℕ) (q : Kind) (w : Walk) (ts : List Task) (o : Option Pointer)
-    → Tells (Some (on (asks v d w k ts i q) (acts v d w k ts (FromThis i q) None Rest) o))
-ask_tells v d k i q w ts None = tt
-ask_tells v d k i q w ts (Some x) =
-    cond_both (is_enabled (state v) x) (record { deed = None; half = Giving i q x; walk = w; said = silent k })
-    (acts v d w k ts (FromThis i q) None Rest) (λ (y : Step). Tells (Some y)) (λ e. tt) (λ e. tt)
+  ask_tells : (v : Story) (d k i : ℕ) (q : Kind) (w : Walk) (ts : List Task) (o : Option Pointer)
+      → Tells l (Some (on (asks v d w k ts i q) (acts v d w k ts (FromThis i q) None Rest) o))
+  ask_tells v d k i q w ts None = tt
+  ask_tells v d k i q w ts (Some x) =
+      cond_both (is_enabled (state v) x) (record { deed = None; half = Giving i q x; walk = w; said = silent k })
+      (acts v d w k ts (FromThis i q) None Rest) (λ (y : Step). Tells l (Some y)) (λ e. tt) (λ e. tt)
 
-given_tells : (v : Story) (d i : ℕ) (q : Kind) (x : Pointer) (w : Walk) (ts : List Task) → Tells (given_by v d w i q x ts)
-given_tells v d i q x w [] = tt
-given_tells v d i Owner x w (t ∷ ts) = tt
-given_tells v d i Weak x w (t ∷ ts) = tt
+  given_tells : (v : Story) (d i : ℕ) (q : Kind) (x : Pointer) (w : Walk) (ts : List Task)
+      → Tells l (given_by v d w i q x ts)
+  given_tells v d i q x w [] = tt
+  given_tells v d i Owner x w (t ∷ ts) = tt
+  given_tells v d i Weak x w (t ∷ ts) = tt
 
--- a value goes into a cell, or its funds are brought first
-going_tells : (v : Story) (d k : ℕ) (w : Walk) (ts : List Task) (a : Act) (o : Option Going)
-    → Tells (Some (on_going (sends v d w k ts a) (acts v d w k ts a None Rest) o))
-going_tells v d k w ts a None = tt
-going_tells v d k w ts a (Some x) = go (slot w.slots x.1)
-  where
-    go : (o : Option Pointer) → Tells (Some (on (brings w k) (swaps v d w k ts a x.0 x.1) o))
-    go None = tt
-    go (Some y) = tt
+  -- a value goes into a cell, or its funds are brought first
+  going_tells : (v : Story) (d k : ℕ) (w : Walk) (ts : List Task) (a : Act) (o : Option Going)
+      → Tells l (Some (on_going (sends v d w k ts a) (acts v d w k ts a None Rest) o))
+  going_tells v d k w ts a None = tt
+  going_tells v d k w ts a (Some x) = go (slot w.slots x.1)
+    where
+      go : (o : Option Pointer) → Tells l (Some (on (brings w k) (swaps v d w k ts a x.0 x.1) o))
+      go None = tt
+      go (Some y) = tt
 
-sent_tells : (v : Story) (d : ℕ) (w : Walk) (ts : List Task) → Tells (sent v d w ts)
-sent_tells v d w [] = tt
-sent_tells v d w (t ∷ ts) = go (going w.slots t.act)
-  where
-    go : (o : Option Going) → Tells (option_map (λ (x : Going). swaps v d w t.statement ts t.act x.0 x.1) o)
-    go None = tt
-    go (Some x) = tt
+  sent_tells : (v : Story) (d : ℕ) (w : Walk) (ts : List Task) → Tells l (sent v d w ts)
+  sent_tells v d w [] = tt
+  sent_tells v d w (t ∷ ts) = go (going w.slots t.act)
+    where
+      go : (o : Option Going) → Tells l (option_map (λ (x : Going). swaps v d w t.statement ts t.act x.0 x.1) o)
+      go None = tt
+      go (Some x) = tt
 
--- a cell that is looked at, tried or refilled is no lock
-each_cell : (v : Story) (d : ℕ) (w : Walk) (k : ℕ) (ts : List Task) (a : Act) (c : Cell) → IsEach v d w k ts a c (λ (x : Step). Tells (Some x))
-each_cell v d w k ts a c = record { quiet = λ h. tt; look = λ x y. tt; take = λ x y h. tt; swap = λ x y h. tt; bring = λ x p. tt }
+  -- a cell that is looked at, tried or refilled is no lock
+  each_cell : (v : Story) (d : ℕ) (w : Walk) (k : ℕ) (ts : List Task) (a : Act) (c : Cell)
+      → IsEach v d w k ts a c (λ (x : Step). Tells l (Some x))
+  each_cell v d w k ts a c =
+      record { quiet = λ h. tt; look = λ x y. tt; take = λ x y h. tt; swap = λ x y h. tt; bring = λ x p. tt }
 
-each_act : (v : Story) (d : ℕ) (w : Walk) (k : ℕ) (ts : List Task) → IsEachAct v d w k ts Tells
-each_act v d w k ts =
-    record {
-      none = tt;
-      load = λ c. each_cell v d w k ts (Load c) (cell_at (state v) w.slots c);
-      compare = λ i c weak. each_cell v d w k ts (Compare i c weak) (cell_at (state v) w.slots c);
-    }
+  each_act : (v : Story) (d : ℕ) (w : Walk) (k : ℕ) (ts : List Task) → IsEachAct v d w k ts (Tells l)
+  each_act v d w k ts =
+      record {
+        none = tt;
+        load = λ c. each_cell v d w k ts (Load c) (cell_at (state v) w.slots c);
+        compare = λ i c weak. each_cell v d w k ts (Compare i c weak) (cell_at (state v) w.slots c);
+      }
 
-each_stage : (v : Story) (w : Walk) (k : ℕ) → IsEachRefill v w k (λ (x : Step). Tells (Some x))
-each_stage v w k =
-    record { quiet = λ h. tt; turn = λ q b h. tt; bring = λ q b p n h. tt; back = λ q b n h. tt; refill = λ c n h. tt }
+  each_stage : (v : Story) (w : Walk) (k : ℕ) → IsEachRefill v w k (λ (x : Step). Tells l (Some x))
+  each_stage v w k =
+      record {
+        quiet = λ h. tt;
+        turn = λ q b h. tt;
+        bring = λ q b p n h. tt;
+        back = λ q b n h. tt;
+        refill = λ c n h.
+            tt;
+      }
 
-first_tells : (v : Story) (d k : ℕ) (w : Walk) (ts : List Task) (a : Act) → Tells (Some (first v d w k ts a))
-first_tells v d k w ts (Make form) = begin_tells w k ts (least d (state v).stores)
-first_tells v d k w ts (Share i) = plain share _ (λ x. share_plain x.kind x) (slot w.slots i)
-first_tells v d k w ts (Put i) = plain (leave (state v)) _ (λ x. leave_plain x.kind x (is_last (state v) x)) (slot w.slots i)
-first_tells v d k w ts (Leave i) = plain (leave (state v)) _ (λ x. leave_plain x.kind x (is_last (state v) x)) (slot w.slots i)
-first_tells v d k w ts (Clear i) = plain (leave (state v)) _ (λ x. leave_plain x.kind x (is_last (state v) x)) (slot w.slots i)
-first_tells v d k w ts (Count i) = plain (tell v) _ (λ x. refl) (slot w.slots i)
-first_tells v d k w ts (Downgrade i) = plain downgrade _ (λ x. refl) (slot w.slots i)
-first_tells v d k w ts (Expired i) = plain (tell_expired (state v)) _ (λ x. refl) (slot w.slots i)
-first_tells v d k w ts (Read i) = plain (read (state v)) _ (λ x. refl) (inside (slot w.slots i))
-first_tells v d k w ts (FromThis i kind) = ask_tells v d k i kind w ts (inside (slot w.slots i))
-first_tells v d k w ts (Alias i j field) = plain (alias (aliased field (place_in w.slots j))) _ (λ x. refl) (owner_slot (slot w.slots i))
-first_tells v d k w ts (Move i) = tt
-first_tells v d k w ts (Ask q) = tt
-first_tells v d k w ts (Offer i c) = plain share _ (λ x. share_plain x.kind x) (offered w.slots i c)
-first_tells v d k w ts (Swap c) = going_tells v d k w ts (Swap c) (going w.slots (Swap c))
-first_tells v d k w ts (Exchange i c) = going_tells v d k w ts (Exchange i c) (going w.slots (Exchange i c))
-first_tells v d k w ts (Load c) =
-    each_load v d w k ts c (λ (x : Step). Tells (Some x)) (each_cell v d w k ts (Load c) (cell_at (state v) w.slots c)) tt
-first_tells v d k w ts (Compare i c weak) =
-    each_compares v d w k ts (Compare i c weak) (cell_at (state v) w.slots c) (λ (x : Step). Tells (Some x))
-    (each_cell v d w k ts (Compare i c weak) (cell_at (state v) w.slots c)) (compared_in w.slots (comparing w.slots i weak)) (seen v (cell_at (state v) w.slots c))
-first_tells v d k w ts Drop = plain (leave (state v)) _ (λ x. leave_plain x.kind x (is_last (state v) x)) (slot w.slots (other w.slots))
-first_tells v d k w ts (Lock i must) = lock_tells v d k i w ts must (locked w.slots (Lock i must)) refl
+  first_tells : (v : Story) (d k : ℕ) (w : Walk) (ts : List Task) (a : Act)
+      → ((i : ℕ) (must : Bool) → a ≡ Lock i must → LocksNext k must l)
+      → Tells l (Some (first v d w k ts a))
+  first_tells v d k w ts (Make form) next = begin_tells w k ts (least d (state v).stores)
+  first_tells v d k w ts (Share i) next = plain share _ (λ x. share_plain x.kind x) (slot w.slots i)
+  first_tells v d k w ts (Put i) next =
+      plain (leave (state v)) _ (λ x. leave_plain x.kind x (is_last (state v) x)) (slot w.slots i)
+  first_tells v d k w ts (Leave i) next =
+      plain (leave (state v)) _ (λ x. leave_plain x.kind x (is_last (state v) x)) (slot w.slots i)
+  first_tells v d k w ts (Clear i) next =
+      plain (leave (state v)) _ (λ x. leave_plain x.kind x (is_last (state v) x)) (slot w.slots i)
+  first_tells v d k w ts (Count i) next = plain (tell v) _ (λ x. refl) (slot w.slots i)
+  first_tells v d k w ts (Downgrade i) next = plain downgrade _ (λ x. refl) (slot w.slots i)
+  first_tells v d k w ts (Expired i) next = plain (tell_expired (state v)) _ (λ x. refl) (slot w.slots i)
+  first_tells v d k w ts (Read i) next = plain (read (state v)) _ (λ x. refl) (inside (slot w.slots i))
+  first_tells v d k w ts (FromThis i kind) next = ask_tells v d k i kind w ts (inside (slot w.slots i))
+  first_tells v d k w ts (Alias i j field) next =
+      plain (alias (aliased field (place_in w.slots j))) _ (λ x. refl) (owner_slot (slot w.slots i))
+  first_tells v d k w ts (Move i) next = tt
+  first_tells v d k w ts (Ask q) next = tt
+  first_tells v d k w ts (Offer i c) next = plain share _ (λ x. share_plain x.kind x) (offered w.slots i c)
+  first_tells v d k w ts (Swap c) next = going_tells v d k w ts (Swap c) (going w.slots (Swap c))
+  first_tells v d k w ts (Exchange i c) next = going_tells v d k w ts (Exchange i c) (going w.slots (Exchange i c))
+  first_tells v d k w ts (Load c) next =
+      each_load v d w k ts c (λ (x : Step). Tells l (Some x))
+      (each_cell v d w k ts (Load c) (cell_at (state v) w.slots c)) tt
+  first_tells v d k w ts (Compare i c weak) next =
+      each_compares v d w k ts (Compare i c weak) (cell_at (state v) w.slots c) (λ (x : Step). Tells l (Some x))
+      (each_cell v d w k ts (Compare i c weak) (cell_at (state v) w.slots c))
+      (compared_in w.slots (comparing w.slots i weak)) (seen v (cell_at (state v) w.slots c))
+  first_tells v d k w ts Drop next =
+      plain (leave (state v)) _ (λ x. leave_plain x.kind x (is_last (state v) x)) (slot w.slots (other w.slots))
+  first_tells v d k w ts (Lock i must) next =
+      lock_tells v d k i w ts must (locked w.slots (Lock i must)) refl (next i must refl)
 
-task_tells : (v : Story) (d : ℕ) (w : Walk) (ts : List Task) → Tells (begun v d w ts)
-task_tells v d w [] = tt
-task_tells v d w (t ∷ ts) = first_tells v d t.statement w ts t.act
+  task_tells : (v : Story) (d : ℕ) (w : Walk) (ts : List Task) → l ≡ ts → Tells l (begun v d w ts)
+  task_tells v d w [] is = tt
+  task_tells v d w (t ∷ ts) is =
+      first_tells v d t.statement w ts t.act (λ i must e. subst (LocksNext t.statement must) (sym is) (refl, (i, e)))
 
-prepared_tells : (found want k i : ℕ) (w : Walk) (b : Block) (f : Bool) → Tells (Some (prepares found want w k b i f))
-prepared_tells found want k i w b true = tt
-prepared_tells found want k i w b false = tt
+  prepared_tells : (found want k i : ℕ) (w : Walk) (b : Block) (f : Bool)
+      → Tells l (Some (prepares found want w k b i f))
+  prepared_tells found want k i w b true = tt
+  prepared_tells found want k i w b false = tt
 
-make_tells : (v : Story) (d i : ℕ) (w : Walk) (b : Block) (f : Bool) (ts : List Task) → Tells (made_on v d w b i f ts)
-make_tells v d i w b f [] = tt
-make_tells v d i w b f (t ∷ ts) =
-    let found = get_or (known (pending v d)) i 0 in
-    let want = get_or (wanted (form_of t.act)) i 0 in
-    cond_both (i == 5) (claims w t.statement ts b (form_of t.act)) (prepares found want w t.statement b i f) (λ (x : Step). Tells (Some x))
-    (λ e. tt) (λ e. prepared_tells found want t.statement i w b f)
+  make_tells : (v : Story) (d i : ℕ) (w : Walk) (b : Block) (f : Bool) (ts : List Task)
+      → Tells l (made_on v d w b i f ts)
+  make_tells v d i w b f [] = tt
+  make_tells v d i w b f (t ∷ ts) =
+      let found = get_or (known (pending v d)) i 0 in
+      let want = get_or (wanted (form_of t.act)) i 0 in
+      cond_both (i == 5) (claims w t.statement ts b (form_of t.act)) (prepares found want w t.statement b i f)
+      (λ (x : Step). Tells l (Some x))
+      (λ e. tt) (λ e. prepared_tells found want t.statement i w b f)
 
-end_tells : (v : Story) (w : Walk) (e : Ending) (es : List Ending) → Tells (Some (ends_on v w e es))
-end_tells v w e es =
-    let finished : Step = record {
-      deed = Some (deed.Finish e.block (weak (state v) (object_in v e.block) == 0));
-      half = Rest;
-      walk = with_endings w es;
-      said = silent e.statement;
-    } in
-    let cleared = within (with_endings w (staged e ∷ es)) e.statement (Some (deed.Clear e.block e.stage)) Rest in
-    let looked = within w e.statement None Clearing in
-    cond_both (e.stage == 3) finished (cond (word_at v (Member e.block e.stage) == 0) cleared looked) (λ (x : Step). Tells (Some x)) (λ c. tt)
-    (λ c. cond_both (word_at v (Member e.block e.stage) == 0) cleared looked (λ (x : Step). Tells (Some x)) (λ b. tt) (λ b. tt))
+  end_tells : (v : Story) (w : Walk) (e : Ending) (es : List Ending) → Tells l (Some (ends_on v w e es))
+  end_tells v w e es =
+      let finished : Step = record {
+        deed = Some (deed.Finish e.block (weak (state v) (object_in v e.block) == 0));
+        half = Rest;
+        walk = with_endings w es;
+        said = silent e.statement;
+      } in
+      let cleared = within (with_endings w (staged e ∷ es)) e.statement (Some (deed.Clear e.block e.stage)) Rest in
+      let looked = within w e.statement None Clearing in
+      cond_both (e.stage == 3) finished (cond (word_at v (Member e.block e.stage) == 0) cleared looked)
+      (λ (x : Step). Tells l (Some x)) (λ c. tt)
+      (λ c. cond_both (word_at v (Member e.block e.stage) == 0) cleared looked (λ (x : Step). Tells l (Some x))
+      (λ b. tt) (λ b. tt))
 
--- what comes out of a member leaves later
-out_tells : (v : Story) (w : Walk) (es : List Ending) → Tells (emptied v w es)
-out_tells v w [] = tt
-out_tells v w (e ∷ es) = tt
+  -- what comes out of a member leaves later
+  out_tells : (v : Story) (w : Walk) (es : List Ending) → Tells l (emptied v w es)
+  out_tells v w [] = tt
+  out_tells v w (e ∷ es) = tt
 
-rest_tells : (v : Story) (d : ℕ) (w : Walk) (es : List Ending) → Tells (at_rest v d w es)
-rest_tells v d w [] = task_tells v d w w.todo
-rest_tells v d w (e ∷ es) =
-    cond_both (is_full (slot w.slots (hand w.slots))) (first v d w e.statement w.todo (Leave (hand w.slots))) (ends_on v w e es)
-    (λ (x : Step). Tells (Some x)) (λ c. first_tells v d e.statement w w.todo (Leave (hand w.slots))) (λ c. end_tells v w e es)
+  rest_tells : (v : Story) (d : ℕ) (w : Walk) (es : List Ending) → l ≡ w.todo → Tells l (at_rest v d w es)
+  rest_tells v d w [] is = task_tells v d w w.todo is
+  rest_tells v d w (e ∷ es) is =
+      cond_both (is_full (slot w.slots (hand w.slots))) (first v d w e.statement w.todo (Leave (hand w.slots)))
+      (ends_on v w e es)
+      (λ (x : Step). Tells l (Some x)) (λ c. first_tells v d e.statement w w.todo (Leave (hand w.slots))
+      (λ i must q. cc)) (λ c. end_tells v w e es)
 
-tried_tells : (v : Story) (d word : ℕ) (w : Walk) (ts : List Task) → Tells (tried v d w word ts)
-tried_tells v d word w [] = tt
-tried_tells v d word w (t ∷ ts) = go t.act
-  where
-    one : (i : ℕ) (must : Bool) (o : Option Pointer) → locked w.slots (Lock i must) ≡ o → Tells (option_map (tries v d w t.statement ts (Lock i must) word) o)
-    one i must None at = tt
-    one i must (Some x) at =
-        cond_both (owner_word v x == word) (acts v d w t.statement ts (Lock i must) (Some (lock (state v) x)) Rest)
-        (trying w t.statement (owner_word v x)) (λ (s : Step). Tells (Some s)) (λ e. lock_done v d t.statement i w ts must x at) (λ e. tt)
+  tried_tells : (v : Story) (d word : ℕ) (w : Walk) (ts : List Task) → l ≡ ts → Tells l (tried v d w word ts)
+  tried_tells v d word w [] is = tt
+  tried_tells v d word w (t ∷ ts) is = go t.act refl
+    where
+      one : (i : ℕ) (must : Bool) (o : Option Pointer) → locked w.slots (Lock i must) ≡ o → LocksNext t.statement must l
+          → Tells l (option_map (tries v d w t.statement ts (Lock i must) word) o)
+      one i must None at next = tt
+      one i must (Some x) at next =
+          cond_both (owner_word v x == word) (acts v d w t.statement ts (Lock i must) (Some (lock (state v) x)) Rest)
+          (trying w t.statement (owner_word v x)) (λ (s : Step). Tells l (Some s))
+          (λ e. lock_done v d t.statement i w ts must x at next) (λ e. tt)
 
-    go : (a : Act) → Tells (option_map (tries v d w t.statement ts a word) (locked w.slots a))
-    go (Lock i must) = one i must (locked w.slots (Lock i must)) refl
-    go _ = tt
+      go : (a : Act) → t.act ≡ a → Tells l (option_map (tries v d w t.statement ts a word) (locked w.slots a))
+      go (Lock i must) e =
+          one i must (locked w.slots (Lock i must)) refl (subst (LocksNext t.statement must) (sym is) (refl, (i, e)))
+      go _ e = tt
 
-step_tells : (v : Story) (d : ℕ) (h : Half) (w : Walk) → Tells (step_at v d h w)
-step_tells v d Rest w = rest_tells v d w w.endings
-step_tells v d (Making b i f) w = make_tells v d i w b f w.todo
-step_tells v d (Locking word) w = tried_tells v d word w w.todo
-step_tells v d (Giving i kind x) w = given_tells v d i kind x w w.todo
-step_tells v d Brought w = sent_tells v d w w.todo
-step_tells v d (Saw x) w = each_saw v d w Tells x w.todo tt (λ t us e. each_act v d w t.statement us)
-step_tells v d (Matched x) w = each_matched v d w Tells x w.todo tt (λ t us e. each_act v d w t.statement us)
-step_tells v d (Refill stage c x k) w = each_refill v w k Tells tt (each_stage v w k) stage c x x.owned
-step_tells v d (Returning kind b funds k) w = tt
-step_tells v d Clearing w = out_tells v w w.endings
-
-as_answered : (v : Story) (x : Step) → answer_by (stepped_by v (Some x)) ≡ x.said.answer
-as_answered v x =
-    cond_both (is_event v x.deed) (stepped.Event x.said) (stepped.Quiet x.said) (λ (r : Stepped). answer_by r ≡ x.said.answer) (λ e. refl)
-    (λ e. refl)
-
--- what the newest event gave, if it is a lock
-abbrev gave_by : Event Nothing → Option Bool
-gave_by (event.Lock w got) = Some got
-gave_by _ = None
-
-abbrev newest_gave : List (Entry Nothing) → Option Bool
-newest_gave [] = None
-newest_gave (e ∷ h) = gave_by e.event
-
--- an event that is a lock comes by a deed that is one
-by_deed : (v : Story) (d : ℕ) (y : Deed) (w : Handle) (gave : Bool) → added d (event_of v y) v.history ≡ entry d (event.Lock w gave) ∷ v.history
-    → lock_of (Some y) ≡ Some gave
-by_deed v d (deed.Lock b p got) w gave e = ap newest_gave e
-by_deed v d (deed.Prepare b) w gave e = absurd (let n = ap (λ (h : List (Entry Nothing)). length h) e in omega (arith, n))
-by_deed v d (deed.Write b j n) w gave e = absurd (let m = ap (λ (h : List (Entry Nothing)). length h) e in omega (arith, m))
-by_deed v d (deed.OnCell x) w gave e =
-    by_event (λ (a : Option (Event Nothing)). added d a v.history ≡ entry d (event.Lock w gave) ∷ v.history → None ≡ Some gave)
-    (λ q. absurd (let n = ap (λ (h : List (Entry Nothing)). length h) q in omega (arith, n))) (λ c h q. ap newest_gave q) (λ c x n h b f q. ap newest_gave q)
-    (λ c n h q. ap newest_gave q) (λ o m h q. ap newest_gave q) (state v) x e
-by_deed v d _ w gave e = ap newest_gave e
-
-pub tells_locks : (u : Sight) (x : TraceStep) (u' : Sight) → IsStep u x u' → TellsLocks u x u'
-tells_locks u x u' step = λ w gave was.
-    by_answer w gave was (told_at (x.actor - 1) u x.stepped u' step.steps)
-  where
-    no_event : (w : Handle) (gave : Bool) → Was (event.Lock w gave) u x u' → u'.story.history ≡ u.story.history → ⊥
-    no_event w gave was same = let n = ap (λ (h : List (Entry Nothing)). length h) (sym same ∙ was) in omega (arith, n)
-
-    go : (w : Handle) (gave : Bool) → Was (event.Lock w gave) u x u' → (y : Option Step)
-        → u'.story.history ≡ (story_by u.story (x.actor - 1) y).history → x.stepped ≡ stepped_by u.story y → Tells y
-        → (must : Bool) × (answer_by x.stepped ≡ Some (lock_answer must gave))
-    go w gave was None now is says = absurd (no_event w gave was now)
-    go w gave was (Some y) now is says = at y.deed now says
-      where
-        at : (z : Option Deed) → u'.story.history ≡ (story_after u.story (x.actor - 1) z).history → Says (lock_of z) y.said.answer
-            → (must : Bool) × (answer_by x.stepped ≡ Some (lock_answer must gave))
-        at None here answers = absurd (no_event w gave was here)
-        at (Some z) here answers =
-            let s = subst (λ (l : Option Bool). Says l y.said.answer) (by_deed u.story (x.actor - 1) z w gave (sym here ∙ was)) answers in
-            (s.0, ap answer_by is ∙ as_answered u.story y ∙ s.1)
-
-    by_answer : (w : Handle) (gave : Bool) → Was (event.Lock w gave) u x u' → IsTold (x.actor - 1) u x.stepped u'
-        → (must : Bool) × (answer_by x.stepped ≡ Some (lock_answer must gave))
-    by_answer w gave was (inl still) = absurd (no_event w gave was still.1)
-    by_answer w gave was (inr said) =
-        go w gave was (step_of (x.actor - 1) u) said.1 said.0 (step_tells u.story (x.actor - 1) (half_of u (x.actor - 1)) (walk_of (scene u) (x.actor - 1)))
+  pub step_tells : (v : Story) (d : ℕ) (h : Half) (w : Walk) → l ≡ w.todo → Tells l (step_at v d h w)
+  step_tells v d Rest w is = rest_tells v d w w.endings is
+  step_tells v d (Making b i f) w is = make_tells v d i w b f w.todo
+  step_tells v d (Locking word) w is = tried_tells v d word w w.todo is
+  step_tells v d (Giving i kind x) w is = given_tells v d i kind x w w.todo
+  step_tells v d Brought w is = sent_tells v d w w.todo
+  step_tells v d (Saw x) w is = each_saw v d w (Tells l) x w.todo tt (λ t us e. each_act v d w t.statement us)
+  step_tells v d (Matched x) w is = each_matched v d w (Tells l) x w.todo tt (λ t us e. each_act v d w t.statement us)
+  step_tells v d (Refill stage c x k) w is = each_refill v w k (Tells l) tt (each_stage v w k) stage c x x.owned
+  step_tells v d (Returning kind b funds k) w is = tt
+  step_tells v d Clearing w is = out_tells v w w.endings

@@ -10,12 +10,11 @@ use Rattle.step_threads.specs.declared.half.Half.TheVariants.{Rest, Making, Lock
 use Rattle.step_threads.specs.declared.said.Stepped.{Stepped}
 use Rattle.step_threads.specs.declared.said.Stepped.TheVariants.{Waited, Done}
 use Rattle.step_core.specs.declared.trace.TraceStep.{TraceStep}
-use Rattle.step_table.specs.Stories.{Kept}
 use Rattle.step_threads.specs.Scenes.{walk_of}
 use Rattle.step_core.specs.Bounds.{alone, spare}
 use Rattle.step_core.specs.Runs.{Adds, CallsOn, FinishesCall, IsRun, Moves, Settles, compares_next, goes_on, is_calling, is_owing}
 use Rattle.step_core.specs.Turning.{HasBegun}
-use Rattle.step_core.specs.Worlds.{Sight, Steps, half_of, scene}
+use Rattle.step_core.specs.Worlds.{Advances, Sight, Steps, half_of, scene}
 use Rattle.step_core.proofs.runs.Chains.{moves_more}
 use Rattle.step_core.proofs.runs.Measures.{alone_of, at_end, spare_of}
 
@@ -24,8 +23,12 @@ same_number d n e = omega (arith, e)
 
 calls_run : (d : ℕ) (u u' : Sight) (xs : List TraceStep) → CallsOn d u xs u' → IsRun u xs u'
 calls_run d u u' [] on = on
-calls_run d u u' (x ∷ xs) on =
-    (on.2, subst (λ (n : ℕ). Steps n u x.stepped on.2) (sym (same_number d x.actor on.1)) on.3, on.4, calls_run d on.2 u' xs on.5)
+calls_run d u u' (x ∷ xs) on = (
+  on.2,
+  subst (λ (n : ℕ). Advances n u x.stepped on.2) (sym (same_number d x.actor on.1)) on.3,
+  calls_run d on.2 u'
+      xs on.4,
+)
 
 -- what a thread did to finish its call is a run
 pub settled_run : (d : ℕ) (u u' : Sight) (xs : List TraceStep) → Settles d u xs u' → IsRun u xs u'
@@ -35,11 +38,11 @@ settled_run d u u' xs settles = go (is_owing (half_of u d)) refl
     go true is = calls_run d u u' xs (settles.owing is).calls
     go false is = let n = settles.none is in subst (λ (l : List TraceStep). IsRun u l u') (sym n.0) n.1
 
-calls_more : (d : ℕ) (u m w : Sight) (xs : List TraceStep) (r : Stepped) → CallsOn d u xs m → is_calling m d ≡ true → Steps d m r w
-    → Kept w.story → CallsOn d u (xs ++ record { actor = d + 1; stepped = r } ∷ []) w
-calls_more d u m w [] r on goes steps kept =
-    subst (λ (z : Sight). CallsOn d z (record { actor = d + 1; stepped = r } ∷ []) w) on (goes, refl, w, steps, kept, refl)
-calls_more d u m w (x ∷ xs) r on goes steps kept = (on.0, on.1, on.2, on.3, on.4, calls_more d on.2 m w xs r on.5 goes steps kept)
+calls_more : (d : ℕ) (u m w : Sight) (xs : List TraceStep) (r : Stepped) → CallsOn d u xs m → is_calling m d ≡ true
+    → Advances d m r w → CallsOn d u (xs ++ record { actor = d + 1; stepped = r } ∷ []) w
+calls_more d u m w [] r on goes advances =
+    subst (λ (z : Sight). CallsOn d z (record { actor = d + 1; stepped = r } ∷ []) w) on (goes, refl, w, advances, refl)
+calls_more d u m w (x ∷ xs) r on goes advances = (on.0, on.1, on.2, on.3, calls_more d on.2 m w xs r on.4 goes advances)
 
 -- how far thread d has gone on with its call
 pub record IsGoing (d : ℕ) (u : Sight) (xs : List TraceStep) (m : Sight) (ys : List TraceStep) : Type 0 where
@@ -50,22 +53,27 @@ pub record IsGoing (d : ℕ) (u : Sight) (xs : List TraceStep) (m : Sight) (ys :
   pub actors : length m.walks ≡ length u.walks
 
 pub going_start : (d : ℕ) (u : Sight) (xs : List TraceStep) → IsGoing d u xs u xs
-going_start d u xs = record { added = []; items = sym (append-nil xs); calls = refl; moves = All-nil Moves; actors = refl }
+going_start d u xs =
+    record { added = []; items = sym (append-nil xs); calls = refl; moves = All-nil Moves; actors = refl }
 
-pub going_more : (d : ℕ) (u m w : Sight) (xs ys zs : List TraceStep) (r : Stepped) → IsGoing d u xs m ys → is_calling m d ≡ true → Steps d m r w
-    → Kept w.story → length w.walks ≡ length m.walks → r ≢ Waited → zs ≡ ys ++ record { actor = d + 1; stepped = r } ∷ [] → IsGoing d u xs w zs
-going_more d u m w xs ys zs r on goes steps kept actors never is =
+pub going_more : (d : ℕ) (u m w : Sight) (xs ys zs : List TraceStep) (r : Stepped) → IsGoing d u xs m ys
+    → is_calling m d ≡ true → Advances d m r w
+    → length w.walks ≡ length m.walks → r ≢ Waited → zs ≡ ys ++ record { actor = d + 1; stepped = r } ∷ []
+    → IsGoing d u xs w zs
+going_more d u m w xs ys zs r on goes advances actors never is =
     let x : TraceStep = record { actor = d + 1; stepped = r } in
     record {
       added = on.added ++ x ∷ [];
       items = is ∙ ap (λ (l : List TraceStep). l ++ x ∷ []) on.items ∙ append_assoc xs on.added (x ∷ []);
-      calls = calls_more d u m w on.added r on.calls goes steps kept;
+      calls = calls_more d u m w on.added r on.calls goes advances;
       moves = moves_more on.added (on.added ++ x ∷ []) (d + 1) r on.moves never refl;
       actors = actors ∙ on.actors;
     }
 
-pub going_end : (d : ℕ) (u m : Sight) (xs ys : List TraceStep) → IsGoing d u xs m ys → is_calling m d ≡ false → Adds (FinishesCall d) u xs m ys
-going_end d u m xs ys on done = record { added = on.added; items = on.items; run = record { calls = on.calls; done = done }; moves = on.moves }
+pub going_end : (d : ℕ) (u m : Sight) (xs ys : List TraceStep) → IsGoing d u xs m ys → is_calling m d ≡ false
+    → Adds (FinishesCall d) u xs m ys
+going_end d u m xs ys on done =
+    record { added = on.added; items = on.items; run = record { calls = on.calls; done = done }; moves = on.moves }
 
 -- a call that goes on isn't at the thread's end
 pub calling_on : (d : ℕ) (u u' : Sight) (r : Stepped) → HasBegun d u → Steps d u r u' → is_calling u d ≡ true → r ≢ Done
@@ -77,7 +85,7 @@ calling_on d u u' r begun steps goes done =
     ended h ts rests none = ap (λ (x : Half). goes_on x ts) rests ∙ ap compares_next none
 
 -- a thread whose call is done rests
-rests : (h : Half) (ts : List Task) → goes_on h ts ≡ false → h ≡ Rest
+pub rests : (h : Half) (ts : List Task) → goes_on h ts ≡ false → h ≡ Rest
 rests Rest ts e = refl
 rests (Making b i f) ts e = absurd (false≢true (sym e))
 rests (Locking word) ts e = absurd (false≢true (sym e))
@@ -95,7 +103,8 @@ done_spares d u done =
     ap (λ (h : Half). alone u.story (walk_of (scene u) d) h) e ∙ sym (ap spare e)
 
 -- one thread more, which had a call to finish or none
-pub settled_one : (d : ℕ) (u u' : Sight) (xs ys : List TraceStep) → is_owing (half_of u d) ≡ true → Adds (FinishesCall d) u xs u' ys
+pub settled_one : (d : ℕ) (u u' : Sight) (xs ys : List TraceStep) → is_owing (half_of u d) ≡ true
+    → Adds (FinishesCall d) u xs u' ys
     → Adds (Settles d) u xs u' ys
 settled_one d u u' xs ys is adds =
     record {
@@ -105,7 +114,8 @@ settled_one d u u' xs ys is adds =
       moves = adds.moves;
     }
 
-pub settled_none : (d : ℕ) (u : Sight) (xs : List TraceStep) → is_owing (half_of u d) ≡ false → Adds (Settles d) u xs u xs
+pub settled_none : (d : ℕ) (u : Sight) (xs : List TraceStep) → is_owing (half_of u d) ≡ false
+    → Adds (Settles d) u xs u xs
 settled_none d u xs is =
     record {
       added = [];

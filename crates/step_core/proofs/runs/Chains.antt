@@ -6,24 +6,26 @@ use Rattle.std.proofs.lemmas.List.Elements.{All-append, All-cons, All-nil}
 use Rattle.step_threads.specs.declared.said.Stepped.{Stepped}
 use Rattle.step_threads.specs.declared.said.Stepped.TheVariants.{Waited, Done}
 use Rattle.step_core.specs.declared.trace.TraceStep.{TraceStep}
-use Rattle.step_core.specs.Runs.{Adds, InOrder, IsOver, IsRun, IsStepOf, Moves, RunsToEnd}
-use Rattle.step_table.specs.Stories.{Kept}
-use Rattle.step_core.specs.Worlds.{Sight, Steps}
+use Rattle.step_core.specs.Runs.{Adds, InOrder, IsRun, IsStepOf, Moves, RunsToEnd}
+use Rattle.step_core.specs.Sights.{IsOver}
+use Rattle.step_core.specs.Worlds.{Advances, Sight}
 
 pub run_joined : (u m w : Sight) (xs ys : List TraceStep) → IsRun u xs m → IsRun m ys w → IsRun u (xs ++ ys) w
 run_joined u m w [] ys run on = subst (λ (z : Sight). IsRun z ys w) run on
-run_joined u m w (x ∷ xs) ys run on = (run.0, run.1, run.2, run_joined run.0 m w xs ys run.3 on)
+run_joined u m w (x ∷ xs) ys run on = (run.0, run.1, run_joined run.0 m w xs ys run.2 on)
 
-pub run_more : (u m w : Sight) (xs : List TraceStep) (x : TraceStep) → IsRun u xs m → Steps (x.actor - 1) m x.stepped w → Kept w.story
+pub run_more : (u m w : Sight) (xs : List TraceStep) (x : TraceStep) → IsRun u xs m
+    → Advances (x.actor - 1) m x.stepped w
     → IsRun u (xs ++ x ∷ []) w
-run_more u m w xs x run steps kept = run_joined u m w xs (x ∷ []) run (w, steps, kept, refl)
+run_more u m w xs x run advances = run_joined u m w xs (x ∷ []) run (w, advances, refl)
 
 -- the number of a thread's actor
 pub number_of : (n : ℕ) → (n + 1) - 1 ≡ n
 number_of n = omega arith
 
 -- no step of a longer list waits, where the last doesn't
-pub moves_more : (xs ys : List TraceStep) (n : ℕ) (r : Stepped) → All Moves xs → r ≢ Waited → ys ≡ xs ++ record { actor = n; stepped = r } ∷ []
+pub moves_more : (xs ys : List TraceStep) (n : ℕ) (r : Stepped) → All Moves xs → r ≢ Waited
+    → ys ≡ xs ++ record { actor = n; stepped = r } ∷ []
     → All Moves ys
 moves_more xs ys n r all never is =
     let x : TraceStep = record { actor = n; stepped = r } in
@@ -40,22 +42,33 @@ pub record IsOn (d : ℕ) (u : Sight) (xs : List TraceStep) (m : Sight) (ys : Li
 
 pub on_start : (d : ℕ) (u : Sight) (xs : List TraceStep) → IsOn d u xs u xs
 on_start d u xs =
-    record { added = []; items = sym (append-nil xs); run = refl; alone = All-nil (IsStepOf d); moves = All-nil Moves; actors = refl }
+    record {
+      added = [];
+      items = sym (append-nil xs);
+      run = refl;
+      alone = All-nil (IsStepOf d);
+      moves = All-nil Moves;
+      actors = refl;
+    }
 
-pub on_more : (d : ℕ) (u m w : Sight) (xs ys zs : List TraceStep) (r : Stepped) → IsOn d u xs m ys → Steps d m r w → Kept w.story
-    → length w.walks ≡ length m.walks → r ≢ Done → r ≢ Waited → zs ≡ ys ++ record { actor = d + 1; stepped = r } ∷ [] → IsOn d u xs w zs
-on_more d u m w xs ys zs r on steps kept actors ne never is =
+pub on_more : (d : ℕ) (u m w : Sight) (xs ys zs : List TraceStep) (r : Stepped) → IsOn d u xs m ys → Advances d m r w
+    → length w.walks ≡ length m.walks → r ≢ Done → r ≢ Waited → zs ≡ ys ++ record { actor = d + 1; stepped = r } ∷ []
+    → IsOn d u xs w zs
+on_more d u m w xs ys zs r on advances actors ne never is =
     let x : TraceStep = record { actor = d + 1; stepped = r } in
     record {
       added = on.added ++ x ∷ [];
       items = is ∙ ap (λ (l : List TraceStep). l ++ x ∷ []) on.items ∙ append_assoc xs on.added (x ∷ []);
-      run = run_more u m w on.added x on.run (subst (λ (n : ℕ). Steps n m r w) (sym (number_of d)) steps) kept;
-      alone = All-append (IsStepOf d) on.added (x ∷ []) on.alone (All-cons (IsStepOf d) x [] (refl, ne) (All-nil (IsStepOf d)));
+      run = run_more u m w on.added x on.run (subst (λ (n : ℕ). Advances n m r w) (sym (number_of d)) advances);
+      alone =
+          All-append (IsStepOf d) on.added (x ∷ []) on.alone
+          (All-cons (IsStepOf d) x [] (refl, ne) (All-nil (IsStepOf d)));
       moves = moves_more on.added (on.added ++ x ∷ []) (d + 1) r on.moves never refl;
       actors = actors ∙ on.actors;
     }
 
-pub on_end : (d : ℕ) (u m w : Sight) (xs ys : List TraceStep) → IsOn d u xs m ys → w ≡ m → IsOver d m → Adds (RunsToEnd d) u xs w ys
+pub on_end : (d : ℕ) (u m w : Sight) (xs ys : List TraceStep) → IsOn d u xs m ys → w ≡ m → IsOver d m
+    → Adds (RunsToEnd d) u xs w ys
 on_end d u m w xs ys on same over =
     record {
       added = on.added;
@@ -70,7 +83,8 @@ on_end d u m w xs ys on same over =
 
 -- the runs of threads in order are one run
 in_order : (R : ℕ → Sight → List TraceStep → Sight → Type 0)
-    → ((d : ℕ) (m w : Sight) (ys : List TraceStep) → R d m ys w → IsRun m ys w) → (n : ℕ) (u u' : Sight) (xs : List TraceStep)
+    → ((d : ℕ) (m w : Sight) (ys : List TraceStep) → R d m ys w → IsRun m ys w)
+    → (n : ℕ) (u u' : Sight) (xs : List TraceStep)
     → InOrder R n u xs u' → IsRun u xs u'
 in_order R each zero u u' xs runs = subst (λ (l : List TraceStep). IsRun u l u') (sym runs.0) runs.1
 in_order R each (suc n) u u' xs runs =
@@ -78,7 +92,8 @@ in_order R each (suc n) u u' xs runs =
     (run_joined u runs.2 u' runs.0 runs.1 (in_order R each n u runs.2 runs.0 runs.4) (each n runs.2 u' runs.1 runs.5))
 
 pub whole : (R : ℕ → Sight → List TraceStep → Sight → Type 0)
-    → ((d : ℕ) (m w : Sight) (ys : List TraceStep) → R d m ys w → IsRun m ys w) → (n : ℕ) (u m u' : Sight) (xs ys : List TraceStep)
+    → ((d : ℕ) (m w : Sight) (ys : List TraceStep) → R d m ys w → IsRun m ys w)
+    → (n : ℕ) (u m u' : Sight) (xs ys : List TraceStep)
     → IsRun u xs m → Adds (InOrder R n) m xs u' ys → IsRun u ys u'
 whole R each n u m u' xs ys run adds =
     subst (λ (l : List TraceStep). IsRun u l u') (sym adds.items)
@@ -91,7 +106,9 @@ adds_more R n u m u' xs ys zs a b =
     record {
       added = a.added ++ b.added;
       items = b.items ∙ ap (λ (l : List TraceStep). l ++ b.added) a.items ∙ append_assoc xs a.added b.added;
-      run = subst (λ (k : ℕ). InOrder R k u (a.added ++ b.added) u') (suc_more n) (a.added, b.added, m, refl, a.run, b.run);
+      run =
+          subst (λ (k : ℕ). InOrder R k u (a.added ++ b.added) u') (suc_more n)
+          (a.added, b.added, m, refl, a.run, b.run);
       moves = All-append Moves a.added b.added a.moves b.moves;
     }
   where
@@ -99,14 +116,17 @@ adds_more R n u m u' xs ys zs a b =
     suc_more k = omega arith
 
 -- nor one of a list that a part made longer
-pub moves_on : (R : Sight → List TraceStep → Sight → Type 0) (u u' : Sight) (xs ys : List TraceStep) → All Moves xs → Adds R u xs u' ys → All Moves ys
+pub moves_on : (R : Sight → List TraceStep → Sight → Type 0) (u u' : Sight) (xs ys : List TraceStep) → All Moves xs
+    → Adds R u xs u' ys → All Moves ys
 moves_on R u u' xs ys all adds = subst (All Moves) (sym adds.items) (All-append Moves xs adds.added all adds.moves)
 
 -- one more number, and its step
 pub number_more : (xs ys : List TraceStep) (turns : List ℕ) (i : ℕ) (r : Stepped) → i < length turns
-    → map (λ (x : TraceStep). x.actor) xs ≡ take i turns → ys ≡ xs ++ record { actor = get_or turns i 0; stepped = r } ∷ []
+    → map (λ (x : TraceStep). x.actor) xs ≡ take i turns
+    → ys ≡ xs ++ record { actor = get_or turns i 0; stepped = r } ∷ []
     → map (λ (x : TraceStep). x.actor) ys ≡ take (i + 1) turns
 number_more xs ys turns i r lt e is =
     let x : TraceStep = record { actor = get_or turns i 0; stepped = r } in
-    ap (map (λ (y : TraceStep). y.actor)) is ∙ map_push (λ (y : TraceStep). y.actor) xs x ∙ ap (λ (l : List ℕ). l ++ get_or turns i 0 ∷ []) e
+    ap (map (λ (y : TraceStep). y.actor)) is ∙ map_push (λ (y : TraceStep). y.actor) xs x ∙
+    ap (λ (l : List ℕ). l ++ get_or turns i 0 ∷ []) e
     ∙ sym (take_more turns i 0 lt)

@@ -1,15 +1,17 @@
 -- What has come to its end stays there.
 use Rattle.std.proofs.Common.{◌≡◌, ◌≢◌, ℕ, zero, suc, ◌+◌, ◌-◌, ◌<◌, List, [], ◌∷◌, length, sym, ap, subst, ◌∙◌, ⊎_elim, arith}
 use Rattle.std.proofs.Common.{get_or-set_other}
-use Rattle.std.specs.Prelude.{All}
+use Rattle.std.specs.Prelude.{All, None}
 use Rattle.std.proofs.lemmas.Bool.{cases_eq}
 use Rattle.std.proofs.lemmas.List.Elements.{All-from_get_or, All-head, All-tail}
 use Rattle.step_threads.specs.declared.half.Half.{Half}
 use Rattle.step_threads.specs.declared.half.Half.TheVariants.{Rest}
 use Rattle.step_threads.specs.declared.said.Stepped.{Stepped}
 use Rattle.step_core.specs.declared.trace.TraceStep.{TraceStep}
-use Rattle.step_threads.specs.Courses.{Walk}
-use Rattle.step_core.specs.Runs.{IsOver, IsRun, IsStepOf, RunInOrder}
+use Rattle.step_table.specs.Holdings.{slot}
+use Rattle.step_threads.specs.Courses.{Walk, other}
+use Rattle.step_core.specs.Runs.{IsRun, IsStepOf, RunInOrder}
+use Rattle.step_core.specs.Sights.{IsOver}
 use Rattle.step_threads.specs.Scenes.{nowhere, walk_of}
 use Rattle.step_threads.specs.Steps.{half_by, walk_by}
 use Rattle.step_core.specs.Totals.{IsAtEnd}
@@ -23,6 +25,8 @@ still_over d e u u' r ne steps over =
       walk = ap (λ (w : Walk). w.todo) (get_or-set_other u.walks d e (walk_by (walk_of (scene u) d) x) nowhere ne) ∙ over.walk;
       endings = ap (λ (w : Walk). w.endings) (get_or-set_other u.walks d e (walk_by (walk_of (scene u) d) x) nowhere ne) ∙ over.endings;
       half = get_or-set_other u.halves d e (half_by (half_of u d) x) Rest ne ∙ over.half;
+      names = subst (λ (w : Walk). (i : ℕ) → i < other w.slots → slot w.slots i ≡ None)
+          (sym (get_or-set_other u.walks d e (walk_by (walk_of (scene u) d) x) nowhere ne)) over.names;
     })
 
 same_number : (d n : ℕ) → n ≡ d + 1 → n - 1 ≡ d
@@ -33,8 +37,8 @@ all_still : (d e : ℕ) (u u' : Sight) (xs : List TraceStep) → e ≢ d → IsR
 all_still d e u u' [] ne run all over = subst (λ (w : Sight). IsOver e w) (sym run) over
 all_still d e u u' (x ∷ xs) ne run all over =
     let a = All-head (IsStepOf d) x xs all in
-    let s = subst (λ (n : ℕ). Steps n u x.stepped run.0) (same_number d x.actor a.0) run.1 in
-    all_still d e run.0 u' xs ne run.3 (All-tail (IsStepOf d) x xs all) (still_over d e u run.0 x.stepped ne s over)
+    let s = subst (λ (n : ℕ). Steps n u x.stepped run.0) (same_number d x.actor a.0) run.1.steps in
+    all_still d e run.0 u' xs ne run.2 (All-tail (IsStepOf d) x xs all) (still_over d e u run.0 x.stepped ne s over)
 
 -- after the runs of the first n threads these are at their ends
 pub all_over : (n : ℕ) (u u' : Sight) (xs : List TraceStep) → RunInOrder n u xs u' → (e : ℕ) → e < n → IsOver e u'

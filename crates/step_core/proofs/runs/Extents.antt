@@ -21,11 +21,11 @@ extent_step d u m r step = ap (λ (v : Sight). v.story.extent) step.1 ∙ extent
 
 extent_steps : (d : ℕ) (u u' : Sight) (rs : List Stepped) → StepsBy d u rs u' → IsAsLarge u u'
 extent_steps d u u' [] by = ap (λ (v : Sight). v.story.extent) by
-extent_steps d u u' (r ∷ rs) by = extent_steps d by.0 u' rs by.3 ∙ extent_step d u by.0 r by.1
+extent_steps d u u' (r ∷ rs) by = extent_steps d by.0 u' rs by.2 ∙ extent_step d u by.0 r by.1.steps
 
 pub extent_goes : (d : ℕ) (u u' : Sight) → GoesTo d u u' → IsAsLarge u u'
 extent_goes d u u' goes = extent_steps d u u' goes.0 goes.1
 
 pub extent_run : (u u' : Sight) (steps : List TraceStep) → IsRun u steps u' → IsAsLarge u u'
 extent_run u u' [] run = ap (λ (v : Sight). v.story.extent) run
-extent_run u u' (x ∷ xs) run = extent_run run.0 u' xs run.3 ∙ extent_step (x.actor - 1) u run.0 x.stepped run.1
+extent_run u u' (x ∷ xs) run = extent_run run.0 u' xs run.2 ∙ extent_step (x.actor - 1) u run.0 x.stepped run.1.steps

@@ -1,5 +1,5 @@
 -- What holds after each step of a run, and of each of its steps.
-use Rattle.std.proofs.Common.{◌≡◌, ℕ, ◌-◌, ◌<◌, ◌==◌, Bool, true, false, cond, List, [], ◌∷◌, ◌++◌, length, refl, sym, ap, subst, ◌∙◌, inl, inr, arith}
+use Rattle.std.proofs.Common.{◌≡◌, ℕ, ◌-◌, ◌<◌, ◌==◌, Bool, true, false, cond, List, [], ◌∷◌, length, refl, sym, ap, subst, ◌∙◌, inl, inr, arith}
 use Rattle.std.specs.Prelude.{Option, Some, None, not, ◌&&◌, ◌⊎◌, ◌↔◌}
 use Rattle.std.proofs.lemmas.Bool.{eqb-true, eqb-false, false≢true}
 use Rattle.control_word.specs.declared.event.Entry.{Entry}
@@ -16,9 +16,8 @@ use Rattle.control_word.proofs.views.Resting.{rests_exactly}
 use Rattle.step_table.specs.declared.extent.Extent.{Extent}
 use Rattle.step_table.specs.declared.past.Deed.{Deed}
 use Rattle.step_core.specs.declared.trace.TraceStep.{TraceStep}
-use Rattle.step_core.specs.Headline.{AfterEach, CameOut, CountsAtRest, LastLeft, LocksWhereOwned, OfEach, ValuesAtLastLeave, ValuesOnce, Was}
+use Rattle.step_core.specs.Headline.{CameOut, CountsAtRest, LastLeft, LocksWhereOwned, ValuesAtLastLeave, ValuesOnce, Was}
 use Rattle.step_table.specs.Openings.{opening}
-use Rattle.step_core.specs.Runs.{IsRun, reached}
 use Rattle.step_threads.specs.Steps.{Step, story_after, story_by}
 use Rattle.step_table.specs.Stories.{Kept, Nothing, Story, added, event_of, state}
 use Rattle.step_core.specs.Totals.{is_last}
@@ -29,29 +28,6 @@ pub record IsStep (u : Sight) (x : TraceStep) (u' : Sight) : Type 0 where
   pub steps : Steps (x.actor - 1) u x.stepped u'
   pub before : Kept u.story
   pub after : Kept u'.story
-
--- what each beginning leads to stands
-stands_after : (xs ys : List TraceStep) (u u' : Sight) → IsRun u (xs ++ ys) u' → Kept u.story → Kept (reached u xs).story
-stands_after [] ys u u' run kept = kept
-stands_after (x ∷ xs) ys u u' run kept =
-    subst (λ (m : Sight). Kept (reached m xs).story) run.1.1 (stands_after xs ys run.0 u' run.3 run.2)
-
-is_step : (xs : List TraceStep) (x : TraceStep) (ys : List TraceStep) (u u' : Sight) → IsRun u (xs ++ x ∷ ys) u' → Kept u.story
-    → IsStep (reached u xs) x (reached u (xs ++ x ∷ []))
-is_step [] x ys u u' run kept =
-    record { steps = (run.1.0, refl); before = kept; after = subst (λ (m : Sight). Kept m.story) run.1.1 run.2 }
-is_step (y ∷ xs) x ys u u' run kept =
-    subst (λ (m : Sight). IsStep (reached m xs) x (reached m (xs ++ x ∷ []))) run.1.1 (is_step xs x ys run.0 u' run.3 run.2)
-
-pub after_each : (P : Sight → Type 0) (u u' : Sight) (steps : List TraceStep) → IsRun u steps u' → Kept u.story
-    → ((m : Sight) → Kept m.story → P m) → AfterEach P u steps
-after_each P u u' steps run kept law = λ before rest e.
-    law (reached u before) (stands_after before rest u u' (subst (λ (l : List TraceStep). IsRun u l u') e run) kept)
-
-pub of_each : (R : Sight → TraceStep → Sight → Type 0) (u u' : Sight) (steps : List TraceStep) → IsRun u steps u' → Kept u.story
-    → ((m : Sight) (x : TraceStep) (m' : Sight) → IsStep m x m' → R m x m') → OfEach R u steps
-of_each R u u' steps run kept law = λ before x rest e.
-    law (reached u before) x (reached u (before ++ x ∷ [])) (is_step before x rest u u' (subst (λ (l : List TraceStep). IsRun u l u') e run) kept)
 
 pub counts : (u : Sight) → Kept u.story → CountsAtRest u
 counts u kept = λ b inside rest.
@@ -102,7 +78,7 @@ told v d (Some x) = go x.deed
 
     go : (y : Option Deed) → ((story_after v d y).history ≡ v.history) ⊎ ((e : Event Nothing) × ((story_after v d y).history ≡ entry d e ∷ v.history))
     go None = inl refl
-    go (Some y) = one (event_of v y)
+    go (Some y) = one (event_of (state v) y)
 
 -- what the newest event is
 abbrev pub newest_is_last : List (Entry Nothing) → Bool

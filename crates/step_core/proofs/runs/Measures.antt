@@ -1,5 +1,5 @@
 -- Each step that isn't `Done` takes one from the steps that are left.
-use Rattle.std.proofs.Common.{◌≡◌, ◌≢◌, ℕ, ◌+◌, ◌*◌, ◌<◌, ◌≤◌, Bool, true, false, cond, List, length, refl, sym, ap, subst, ◌∙◌, arith}
+use Rattle.std.proofs.Common.{◌≡◌, ◌≢◌, ℕ, ◌+◌, ◌*◌, ◌<◌, ◌≤◌, Bool, true, false, cond, List, [], length, refl, sym, ap, subst, ◌∙◌, arith}
 use Rattle.std.proofs.Common.{get_or-set_same, length-set}
 use Rattle.std.specs.Prelude.{Option, Some, None, slice_set}
 use Rattle.std.proofs.lemmas.Bool.{cond_both}
@@ -10,13 +10,15 @@ use Rattle.step_threads.specs.declared.half.Half.TheVariants.{Rest}
 use Rattle.step_threads.specs.declared.said.Stepped.{Stepped}
 use Rattle.step_threads.specs.declared.said.Stepped.TheVariants.{Event, Quiet, Waited, Done}
 use Rattle.step_core.specs.Bounds.{alone, living, most_steps, spare, walk_steps}
-use Rattle.step_threads.specs.Courses.{Walk}
+use Rattle.step_table.specs.declared.holdings.Pointer.{Pointer}
+use Rattle.step_table.specs.Holdings.{is_full, slot}
+use Rattle.step_threads.specs.Courses.{Walk, other}
 use Rattle.step_table.specs.Openings.{opening}
-use Rattle.step_core.specs.Runs.{IsOver}
+use Rattle.step_core.specs.Sights.{IsOver}
 use Rattle.step_threads.specs.Scenes.{nowhere, walk_of}
 use Rattle.step_threads.specs.Steps.{Step, is_event, story_after, story_by, stepped, waits}
 use Rattle.step_table.specs.Stories.{Kept, Story}
-use Rattle.step_core.specs.Told.{ends_by, makes}
+use Rattle.step_core.specs.Told.{IsTidy, Leaves, ends_by, makes}
 use Rattle.step_core.specs.Turning.{HasBegun}
 use Rattle.step_core.specs.Worlds.{Sight, Steps, answer_at, half_of, scene, sight_by, step_of}
 use Rattle.step_core.proofs.runs.Alone.{IsLess}
@@ -110,6 +112,14 @@ left d u begun calm =
     less u.story d (walk_of (scene u) d) begun.kept begun.seat begun.holds (half_of u d) begun.half begun.tried begun.alone begun.ends begun.cell
     begun.still begun.out calm
 
+-- what a name holds is left by a task to come, so that all are empty where none is
+empty_names : (w : Walk) → IsTidy w → w.todo ≡ [] → (i : ℕ) → i < other w.slots → slot w.slots i ≡ None
+empty_names w tidy none i lt = go (slot w.slots i) refl
+  where
+    go : (o : Option Pointer) → slot w.slots i ≡ o → o ≡ None
+    go None e = refl
+    go (Some x) e = absurd (subst (Leaves i) none (tidy.names i lt (ap is_full e)))
+
 -- a step at the end changes nothing
 pub at_end : (d : ℕ) (u u' : Sight) → HasBegun d u → Steps d u Done u' → (u' ≡ u) × IsOver d u
 at_end d u u' begun steps =
@@ -121,7 +131,7 @@ at_end d u u' begun steps =
     go : (o : Option Step) → Done ≡ stepped u.story o → u' ≡ sight_by d u o
         → IsLess u.story d (half_of u d) (walk_of (scene u) d) o → (u' ≡ u) × IsOver d u
     go None r e l =
-        (e ∙ same_sight u _ _ (set-get_or u.walks d nowhere) (set-get_or u.halves d Rest), record { walk = l.0; endings = l.1; half = l.2 })
+        (e ∙ same_sight u _ _ (set-get_or u.walks d nowhere) (set-get_or u.halves d Rest), record { walk = l.0; endings = l.1; half = l.2; names = empty_names (walk_of (scene u) d) begun.tidy l.0 })
     go (Some x) r e l = absurd (never_done u.story x (sym r))
 
 -- any other step is one less

@@ -52,7 +52,7 @@ module _ (u : Sight) (x : TraceStep) (u' : Sight) (step : IsStep u x u') where
       never None not_last is o l = let n = ap (λ (h : List (Entry Nothing)). length h) (sym is ∙ l.left) in omega (arith, n)
       never (Some y) not_last is o l = false≢true (sym not_last ∙ ap newest_is_last (sym is ∙ l.left))
 
-  one_left : (b : Block) (p : Option Place) → u'.story.history ≡ added (x.actor - 1) (event_of u.story (deed.Leave b p true)) history
+  one_left : (b : Block) (p : Option Place) → u'.story.history ≡ added (x.actor - 1) (event_of (state u.story) (deed.Leave b p true)) history
       → ended_by x.stepped ≡ Some (remains ((state u.story).object (object_in u.story b))) → TellsWhatIsLeft u x u'
   one_left b p now says =
       let o = object_in u.story b in
@@ -65,12 +65,12 @@ module _ (u : Sight) (x : TraceStep) (u' : Sight) (step : IsStep u x u') where
       → TellsWhatIsLeft u x u'
   by_deed None now says = none_left None refl now says
   by_deed (Some (deed.Leave b p true)) now says = one_left b p now says
-  by_deed (Some (deed.Leave b p false)) now says = none_left (event_of u.story (deed.Leave b p false)) refl now says
+  by_deed (Some (deed.Leave b p false)) now says = none_left (event_of (state u.story) (deed.Leave b p false)) refl now says
   by_deed (Some (deed.OnCell z)) now says =
       none_left (cell_event (state u.story) z)
       (by_event (λ (a : Option (Event Nothing)). is_last_in a ≡ false) refl (λ c h. refl) (λ c e n h b f. refl) (λ c n h. refl) (λ o m h. refl) (state u.story) z)
       now says
-  by_deed (Some y) now says = none_left (event_of u.story y) refl now says
+  by_deed (Some y) now says = none_left (event_of (state u.story) y) refl now says
 
   by_step : (y : Option Step) → u'.story.history ≡ (story_by u.story (x.actor - 1) y).history → x.stepped ≡ stepped_by u.story y → Tells u.story y
       → TellsWhatIsLeft u x u'

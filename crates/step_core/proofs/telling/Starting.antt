@@ -1,5 +1,5 @@
 -- What a world keeps, at its start.
-use Rattle.std.proofs.Common.{◌≡◌, ℕ, zero, suc, ◌+◌, ◌*◌, ◌≤◌, List, [], ◌∷◌, ◌++◌, length, map, replicate, refl, sym, ap, ◌∙◌, arith}
+use Rattle.std.proofs.Common.{◌≡◌, ℕ, zero, suc, ◌+◌, ◌*◌, ◌≤◌, List, [], ◌∷◌, ◌++◌, length, get_or, map, replicate, refl, sym, ap, subst, ◌∙◌, arith}
 use Rattle.std.specs.Prelude.{All, false, slice_index}
 use Rattle.std.proofs.lemmas.List.{length-map}
 use Rattle.std.proofs.lemmas.List.Elements.{All-head, All-tail}
@@ -16,11 +16,13 @@ use Rattle.step_threads.specs.declared.thread.Thread.{Thread}
 use Rattle.step_threads.specs.Acts.{acts, clearing, numbered, tasks_from}
 use Rattle.step_core.specs.Bounds.{left_to_do, task_steps, walk_steps, weight}
 use Rattle.step_threads.specs.Courses.{Walk}
+use Rattle.step_threads.specs.Scenes.{nowhere}
 use Rattle.step_threads.specs.Programs.{IsPart, IsProgram, Part, call_count}
 use Rattle.step_core.specs.Starts.{first_story, first_walk, no_slots}
-use Rattle.step_core.specs.Told.{IsTold, sight}
+use Rattle.step_core.specs.Told.{IsTidy, IsTold, sight}
 use Rattle.step_core.specs.Worlds.{thread_half, thread_walk}
 use Rattle.step_core.proofs.watching.Worlds.{watched_start}
+use Rattle.step_core.proofs.telling.Firsts.{tidy_first}
 use Rattle.step_core.proofs.telling.Walking.{settled_alone}
 
 clearing_steps : (n : ℕ) → task_steps (clearing n) ≡ 2 * n
@@ -124,4 +126,5 @@ told_start x parts threads size fine walks =
       few = omega (arith, same, a, calls, actors);
       endings = λ o e p. absurd (not_ending e p);
       watched = watched_start (first_story x) (map thread_half threads) (zero_at (table_size x.shape));
+      tidy = λ d. subst (λ (ws : List Walk). IsTidy (get_or ws d nowhere)) (sym walks) (tidy_first parts d);
     }

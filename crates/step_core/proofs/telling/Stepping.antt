@@ -19,6 +19,7 @@ use Rattle.step_core.proofs.telling.Waiting.{answered_adds}
 use Rattle.step_core.proofs.telling.Counting.{counted}
 use Rattle.step_core.proofs.telling.Order.{ended_few}
 use Rattle.step_core.proofs.telling.Ending.{ends_right}
+use Rattle.step_core.proofs.telling.Names.{tidy_after}
 
 same_extent : (v : Story) (d : ℕ) (x : Option Step) → (story_by v d x).extent ≡ v.extent
 same_extent v d None = refl
@@ -52,6 +53,7 @@ told_step d u m e kept after begun lt told =
           (ap (λ (y : Walk). y.endings) (get_or-set_same u.walks d (walk_by w x) nowhere lt))
           (λ i n. ap (λ (y : Walk). y.endings) (get_or-set_other u.walks d i (walk_by w x) nowhere n));
       watched = watched_step d u kept after begun told.watched;
+      tidy = tidy_after d u begun.half lt told.tidy;
     }
 
 pub told_by : (d : ℕ) (u v : Sight) (r : Stepped) (m e : ℕ) → Kept u.story → Kept v.story → HasBegun d u → d < length u.walks → IsTold u m e

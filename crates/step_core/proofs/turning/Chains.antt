@@ -1,18 +1,17 @@
 -- Steps of a thread, one after another.
 use Rattle.std.proofs.Common.{ℕ, List, [], ◌∷◌, refl, subst}
 use Rattle.step_threads.specs.declared.said.Stepped.{Stepped}
-use Rattle.step_table.specs.Stories.{Kept}
-use Rattle.step_core.specs.Worlds.{GoesTo, Sight, Steps, StepsBy}
+use Rattle.step_core.specs.Worlds.{Advances, GoesTo, Sight, StepsBy}
 
 pub no_step : (d : ℕ) (u : Sight) → GoesTo d u u
 no_step d u = ([], refl)
 
-pub one_step : (d : ℕ) (u v : Sight) (r : Stepped) → Steps d u r v → Kept v.story → GoesTo d u v
-one_step d u v r steps kept = (r ∷ [], (v, steps, kept, refl))
+pub one_step : (d : ℕ) (u v : Sight) (r : Stepped) → Advances d u r v → GoesTo d u v
+one_step d u v r advances = (r ∷ [], (v, advances, refl))
 
 pub more_steps : (d : ℕ) (u v w : Sight) → GoesTo d u v → GoesTo d v w → GoesTo d u w
 more_steps d u v w goes on = joined goes.0 u goes.1
   where
     joined : (rs : List Stepped) (a : Sight) → StepsBy d a rs v → GoesTo d a w
     joined [] a e = subst (λ (x : Sight). GoesTo d x w) e on
-    joined (r ∷ rs) a by = let i = joined rs by.0 by.3 in (r ∷ i.0, (by.0, by.1, by.2, i.1))
+    joined (r ∷ rs) a by = let i = joined rs by.0 by.2 in (r ∷ i.0, (by.0, by.1, i.1))

@@ -8,9 +8,9 @@ use Rattle.step_threads.specs.declared.act.Task.{Task}
 use Rattle.step_threads.specs.declared.half.Half.TheVariants.{Rest, Giving}
 use Rattle.step_table.specs.declared.holdings.Pointer.{Pointer}
 use Rattle.control_word.specs.declared.handle.Kind.{Kind}
-use Rattle.step_threads.specs.Courses.{going, locked, offered, other}
-use Rattle.step_table.specs.Deeds.{aliased, is_enabled, lock, owner_word, on}
-use Rattle.step_table.specs.Holdings.{inside, owner_slot, place_in, slot}
+use Rattle.step_threads.specs.Courses.{going, locked}
+use Rattle.step_table.specs.Deeds.{is_enabled, lock, owner_word, on}
+use Rattle.step_table.specs.Holdings.{inside, slot}
 use Rattle.step_threads.specs.Entries.{least}
 use Rattle.step_threads.specs.Scenes.{walk_of}
 use Rattle.step_threads.specs.Steps.{Step, acts, asks, begins, first, looks, silent, trying, waits_on}
@@ -18,7 +18,7 @@ use Rattle.step_table.specs.Stories.{state}
 use Rattle.step_core.specs.Turning.{is_acting}
 use Rattle.step_core.specs.Worlds.{Sight, scene, sight_by}
 use Rattle.step_core.proofs.turning.Ending.{same_walks, scene_as}
-use Rattle.step_core.proofs.turning.Saying.{Acts, asks_so, begins_so, counted, downgraded, expired, left, looks_so, read_so, shared, shared_at}
+use Rattle.step_core.proofs.turning.Saying.{Acts, asks_so, begins_so, does_so, looks_so}
 use Rattle.step_core.proofs.turning.Swapping.{goes_same, goes_so}
 use Rattle.step_core.proofs.turning.Looking.{CanLook, compare_first, compare_same, load_first, load_same}
 
@@ -26,26 +26,25 @@ use Rattle.step_core.proofs.turning.Looking.{CanLook, compare_first, compare_sam
 pub acts_so : (d : ℕ) (u : Sight) (k : ℕ) (ts : List Task) (a : Act) → CanLook d u a → waits_on u.story (walk_of (scene u) d) a ≡ false
     → let x = first u.story d (walk_of (scene u) d) k ts a in is_acting x.half ≡ false → Acts d u k ts a x
 acts_so d u k ts (Make form) can none is = begins_so d u k ts form (least d (state u.story).stores) refl is
-acts_so d u k ts (Share i) can none is = (refl, shared d u.story (slot (walk_of (scene u) d).slots i) _)
-acts_so d u k ts (Put i) can none is = (refl, left d u.story (slot (walk_of (scene u) d).slots i) _)
-acts_so d u k ts (Leave i) can none is = (refl, left d u.story (slot (walk_of (scene u) d).slots i) _)
-acts_so d u k ts (Clear i) can none is = (refl, left d u.story (slot (walk_of (scene u) d).slots i) _)
-acts_so d u k ts (Count i) can none is = (refl, counted d u.story (slot (walk_of (scene u) d).slots i) _)
-acts_so d u k ts (Downgrade i) can none is = (refl, downgraded d u.story (slot (walk_of (scene u) d).slots i) _)
+acts_so d u k ts (Share i) can none is = (refl, does_so d u.story _ _)
+acts_so d u k ts (Put i) can none is = (refl, does_so d u.story _ _)
+acts_so d u k ts (Leave i) can none is = (refl, does_so d u.story _ _)
+acts_so d u k ts (Clear i) can none is = (refl, does_so d u.story _ _)
+acts_so d u k ts (Count i) can none is = (refl, does_so d u.story _ _)
+acts_so d u k ts (Downgrade i) can none is = (refl, does_so d u.story _ _)
 acts_so d u k ts (Lock i must) can none is = looks_so d u k ts i must (locked (walk_of (scene u) d).slots (Lock i must)) refl is
-acts_so d u k ts (Expired i) can none is = (refl, expired d u.story (slot (walk_of (scene u) d).slots i) _)
-acts_so d u k ts (Read i) can none is = (refl, read_so d u.story (inside (slot (walk_of (scene u) d).slots i)) _)
+acts_so d u k ts (Expired i) can none is = (refl, does_so d u.story _ _)
+acts_so d u k ts (Read i) can none is = (refl, does_so d u.story _ _)
 acts_so d u k ts (FromThis i kind) can none is = asks_so d u k ts i kind (inside (slot (walk_of (scene u) d).slots i)) refl is
-acts_so d u k ts (Alias i j field) can none is =
-    let w = walk_of (scene u) d in (refl, shared_at d u.story (aliased field (place_in w.slots j)) (owner_slot (slot w.slots i)) _)
+acts_so d u k ts (Alias i j field) can none is = (refl, does_so d u.story _ _)
 acts_so d u k ts (Move i) can none is = (refl, refl)
 acts_so d u k ts (Ask q) can none is = (refl, refl)
-acts_so d u k ts (Offer i c) can none is = (refl, shared d u.story (offered (walk_of (scene u) d).slots i c) _)
+acts_so d u k ts (Offer i c) can none is = (refl, does_so d u.story _ _)
 acts_so d u k ts (Swap c) can none is = goes_so d u k ts (Swap c) (going (walk_of (scene u) d).slots (Swap c)) (can.seat, can.kept, can.cell, can.holds) refl refl is
 acts_so d u k ts (Exchange i c) can none is = goes_so d u k ts (Exchange i c) (going (walk_of (scene u) d).slots (Exchange i c)) (can.seat, can.kept, can.cell, can.holds) refl refl is
 acts_so d u k ts (Load c) can none is = load_first d u k ts c can none is
 acts_so d u k ts (Compare i c weak) can none is = compare_first d u k ts i c weak can none is
-acts_so d u k ts Drop can none is = let w = walk_of (scene u) d in (refl, left d u.story (slot w.slots (other w.slots)) _)
+acts_so d u k ts Drop can none is = (refl, does_so d u.story _ _)
 
 begins_same : (d : ℕ) (u : Sight) (k : ℕ) (ts : List Task) (o : Option ℕ) → is_acting (begins (walk_of (scene u) d) k ts o).half ≡ true
     → scene (sight_by d u (Some (begins (walk_of (scene u) d) k ts o))) ≡ scene u

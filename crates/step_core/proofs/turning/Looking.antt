@@ -4,18 +4,14 @@ use Rattle.std.specs.Prelude.{Option, Some, None, is_some}
 use Rattle.std.proofs.lemmas.Bool.{and_parts, cond_both, false≢true}
 use Rattle.control_word.specs.declared.cell.CellWord.{CellWord}
 use Rattle.control_word.specs.declared.event.Event.{Event}
-use Rattle.control_word.specs.declared.event.Event.TheVariants as event
-use Rattle.control_word.specs.declared.handle.Kind.{Kind}
-use Rattle.control_word.specs.Handles.{equivalent}
-use Rattle.control_word.specs.Histories.{entry}
 use Rattle.step_table.specs.declared.cell_deed.Cell.{Cell}
 use Rattle.step_table.specs.declared.cell_deed.CellDeed.TheVariants.{Look}
 use Rattle.step_table.specs.declared.cell_deed.Compared.{Compared}
 use Rattle.step_table.specs.declared.past.Deed.{Deed}
 use Rattle.step_table.specs.declared.past.Deed.TheVariants.{OnCell}
-use Rattle.step_table.specs.CellDeeds.{cell_in, kind_in}
+use Rattle.step_table.specs.CellDeeds.{kind_in}
 use Rattle.step_table.specs.Cells.{IsOpenTo}
-use Rattle.step_table.specs.Contents.{as_word, compare_of, compared_in, held_in, is_of, is_spent, load_of, same_value, seen, told}
+use Rattle.step_table.specs.Contents.{as_word, compare_of, compared_in, is_of, is_spent, load_of, same_value, seen}
 use Rattle.step_table.specs.Holdings.{Holds, value}
 use Rattle.step_table.specs.Openings.{opening}
 use Rattle.step_table.specs.Stories.{Kept, Nothing, added, event_of, state}
@@ -35,7 +31,7 @@ use Rattle.step_threads.specs.Scenes.{Scene, walk_of, went}
 use Rattle.step_threads.specs.Steps.{Step, acts, first, sees, waits, waits_at, waits_on, within}
 use Rattle.step_core.specs.Turning.{HasBegun, IsInShape, IsStill, is_acting}
 use Rattle.step_core.specs.Worlds.{Sight, half_of, scene, sight_by}
-use Rattle.step_threads.proofs.CellNames.{cell_kind, cell_open, goes_in}
+use Rattle.step_threads.proofs.CellNames.{cell_open, goes_in}
 use Rattle.step_core.proofs.turning.Ending.{same_walks, scene_as}
 use Rattle.step_core.proofs.turning.Saying.{Acts}
 
@@ -79,7 +75,7 @@ load_scene d u k ts c is =
 
 -- the event of a load
 pub load_so : (d : ℕ) (u : Sight) (k : ℕ) (ts : List Task) (c : CellName) (y : Deed) (h : Half) → is_there (walk_of (scene u) d).slots c ≡ true
-    → ◌≡◌ {A = Option (Event Nothing)} (event_of u.story y) (Some (load_of (state u.story) (cell_at (state u.story) (walk_of (scene u) d).slots c)))
+    → ◌≡◌ {A = Option (Event Nothing)} (event_of (state u.story) y) (Some (load_of (state u.story) (cell_at (state u.story) (walk_of (scene u) d).slots c)))
     → Acts d u k ts (Load c) (acts u.story d (walk_of (scene u) d) k ts (Load c) (Some y) h)
 load_so d u k ts c y h there e =
     let w = walk_of (scene u) d in
@@ -99,26 +95,17 @@ unloaded d u k ts c out = (refl, ap (load_scene d u k ts c) (sym out))
 
 -- the event of a compare
 pub compare_so : (d : ℕ) (u : Sight) (k : ℕ) (ts : List Task) (i : ℕ) (c : CellName) (weak : Bool) (y : Deed) (h : Half)
-    → HasCell u.story.extent.shape (Compare i c weak)
     → let slots = (walk_of (scene u) d).slots in
-    ◌≡◌ {A = Option (Event Nothing)} (event_of u.story y)
+    ◌≡◌ {A = Option (Event Nothing)} (event_of (state u.story) y)
     (Some (compare_of (state u.story) (cell_at (state u.story) slots c) (value slots i) (value slots (hand slots)) weak))
     → Acts d u k ts (Compare i c weak) (acts u.story d (walk_of (scene u) d) k ts (Compare i c weak) (Some y) h)
-compare_so d u k ts i c weak y h is e =
+compare_so d u k ts i c weak y h e =
     let w = walk_of (scene u) d in
     let v = u.story in
     let s = state v in
-    let x = cell_at s w.slots c in
-    let a = value w.slots i in
-    let b = value w.slots (hand w.slots) in
     let walks = set u.walks d (went s d w k ts (Compare i c weak)) in (
       refl,
-      ap (λ (o : Option (Event Nothing)). record { extent = v.extent; history = added d o v.history; walks = walks }) e
-          ∙ ap (λ (q : Kind). record {
-            extent = v.extent;
-            history = entry d (event.Compare (cell_in s x) (told s q a) (told s q b) (held_in s x) (equivalent (held_in s x) (told s q a)) weak) ∷ v.history;
-            walks = walks;
-          }) (cell_kind v w.slots c is),
+      ap (λ (o : Option (Event Nothing)). record { extent = v.extent; history = added d o v.history; walks = walks }) e,
     )
 
 not_false : (b : Bool) → not b ≡ false → b ≡ true
@@ -215,7 +202,7 @@ unlike_so d u k ts i c weak can differs =
     let x = cell_at (state v) w.slots c in
     let y = comparing w.slots i weak in
     let may = may_compare d u i c weak can in
-    compare_so d u k ts i c weak (OnCell (Look x (seen v x) (Some (compared_in w.slots y)))) Rest can.cell
+    compare_so d u k ts i c weak (OnCell (Look x (seen v x) (Some (compared_in w.slots y)))) Rest
     (unlike_tells v x (seen v x) (found_now d u c (Compare i c weak) can can.cell may.there) d w.slots y can.kept can.holds may.expected may.new differs)
 
 pub compare_first : (d : ℕ) (u : Sight) (k : ℕ) (ts : List Task) (i : ℕ) (c : CellName) (weak : Bool) → CanLook d u (Compare i c weak)

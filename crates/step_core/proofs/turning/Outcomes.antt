@@ -1,4 +1,4 @@
--- What each step of a load or a compare does.
+-- What each step of a load or a compare does, and the first of a lock.
 use Rattle.std.proofs.Common.{◌≡◌, inr, ℕ, ◌<◌, ◌==◌, Bool, true, false, cond, not, ◌&&◌, List, refl, sym, ap, subst, ◌∙◌, arith}
 use Rattle.std.proofs.Common.{eq-eqb}
 use Rattle.std.specs.Prelude.{Option, Some, None}
@@ -23,18 +23,18 @@ use Rattle.step_threads.specs.declared.act.Act.{Act}
 use Rattle.step_threads.specs.declared.act.Act.TheVariants.{Make, Share, Downgrade, Lock, Put, Leave, Clear, Count, Expired, Read, FromThis, Alias, Move, Ask, Offer, Swap, Exchange, Load, Compare, Drop}
 use Rattle.step_threads.specs.declared.act.Task.{Task}
 use Rattle.step_threads.specs.declared.call.CellName.{CellName}
-use Rattle.step_threads.specs.declared.half.Half.{Half}
 use Rattle.step_threads.specs.declared.half.Half.TheVariants.{Rest, Saw, Matched, Refill}
-use Rattle.step_threads.specs.Courses.{cell_at, comparing, hand, is_there}
+use Rattle.step_threads.specs.Courses.{cell_at, comparing, hand, is_there, locked}
 use Rattle.step_threads.specs.Scenes.{walk_of}
-use Rattle.step_threads.specs.Steps.{Step, acts, fetches, first, gives_back, matched_on, matches, saw_on, sees, settles, takes, waits_on, within}
+use Rattle.step_threads.specs.Steps.{acts, fetches, first, gives_back, matched_on, matches, saw_on, sees, settles, takes, waits_on, within}
 use Rattle.step_threads.specs.Threads.{IsMatchedBy, IsSeenBy}
 use Rattle.step_core.specs.Bounds.{shows_on}
 use Rattle.step_core.specs.Worlds.{Sight, scene}
 use Rattle.step_core.proofs.turning.Looking.{CanLook, cell_now, compare_so, found_now, load_so, may_compare, unlike_so}
 use Rattle.step_core.proofs.turning.Refilling.{brought_word, kept_block}
 use Rattle.step_core.proofs.turning.Saying.{Acts}
-use Rattle.step_core.proofs.turning.Trials.{Outcome, Tried, is_looking, left_on, matches_out, sees_out, takes_out}
+use Rattle.step_core.proofs.turning.Trials.{Next, Outcome, Tried, is_looking, left_on, matches_out, sees_out, takes_out}
+use Rattle.step_core.proofs.turning.Locking.{lock_rest}
 
 less_matched : (b : Bool) → cond b 2 6 < cond b 3 7
 less_matched true = omega arith
@@ -49,7 +49,7 @@ module _ (d : ℕ) (u : Sight) (k : ℕ) (ts : List Task) (c : CellName) where
       let w = walk_of (scene u) d in
       let x = cell_at (state v) w.slots c in
       let found = found_now d u c (Load c) can can.cell there in
-      sees_out d u k ts (Load c) x (seen v x) None (sym (ap (λ (b : Bool). b && is_spent (seen v x)) there) ∙ none) (eq-eqb _ _ found.shows.bits)
+      sees_out d u k ts (Load c) x (seen v x) there None (sym (ap (λ (b : Bool). b && is_spent (seen v x)) there) ∙ none) (eq-eqb _ _ found.shows.bits)
       (load_so d u k ts c (OnCell (Look x (seen v x) None)) Rest there (look_tells v x (seen v x) found))
 
   load_saw : (x : CellWord) → IsCellWord x → CanLook d u (Load c) → is_there (walk_of (scene u) d).slots c ≡ true
@@ -58,7 +58,7 @@ module _ (d : ℕ) (u : Sight) (k : ℕ) (ts : List Task) (c : CellName) where
   load_saw x valid can there =
       let v = u.story in
       let y = cell_at (state v) (walk_of (scene u) d).slots c in
-      takes_out d u k ts (Load c) y x None refl
+      takes_out d u k ts (Load c) y x there None refl
       (λ t. load_so d u k ts c (OnCell (Take y x None)) (Refill Turning y (more_taken x) k) there
       (take_tells v y x (open_found v d y x can.kept can.seat (cell_now d u c (Load c) can can.cell there) valid (eqb-true _ _ t))))
 
@@ -78,7 +78,7 @@ module _ (d : ℕ) (u : Sight) (k : ℕ) (ts : List Task) (c : CellName) where
         cond_both (same_value (seen v x) (as_word (value w.slots i))) (within w k None (Saw (seen v x))) (sees v d w k ts a x (Some q) (seen v x))
         (Outcome d u k ts a Rest)
         (λ t. inr (record { quiet = refl; walk = refl; history = refl; extent = refl; half = refl; less = omega (arith, n) }))
-        (λ f. sees_out d u k ts a x (seen v x) (Some q) (sym (ap (λ (b : Bool). not b && is_spent (seen v x)) f) ∙ none) shows
+        (λ f. sees_out d u k ts a x (seen v x) refl (Some q) (sym (ap (λ (b : Bool). not b && is_spent (seen v x)) f) ∙ none) shows
         (unlike_so d u k ts i c weak can f))
 
     swapped_so : (x : CellWord) → IsCellWord x → same_value x (as_word (value (walk_of (scene u) d).slots i)) ≡ true
@@ -93,7 +93,7 @@ module _ (d : ℕ) (u : Sight) (k : ℕ) (ts : List Task) (c : CellName) where
         let q = comparing w.slots i weak in
         let may = may_compare d u i c weak can in
         let found = open_found v d y x can.kept can.seat (cell_now d u c (Compare i c weak) can can.cell may.there) valid (eqb-true _ _ t) in
-        compare_so d u k ts i c weak (OnCell (CompareSwap y x (compared_in w.slots q))) (gives_back (kind_in (state v) y) k x x.owned) can.cell
+        compare_so d u k ts i c weak (OnCell (CompareSwap y x (compared_in w.slots q))) (gives_back (kind_in (state v) y) k x x.owned)
         (compare_swap_tells v y x found d w.slots q can.kept can.holds may.expected may.new same)
 
     differs_so : (x : CellWord) → IsCellWord x → same_value x (as_word (value (walk_of (scene u) d).slots i)) ≡ false
@@ -108,7 +108,7 @@ module _ (d : ℕ) (u : Sight) (k : ℕ) (ts : List Task) (c : CellName) where
         let q = comparing w.slots i weak in
         let may = may_compare d u i c weak can in
         let found = open_found v d y x can.kept can.seat (cell_now d u c (Compare i c weak) can can.cell may.there) valid (eqb-true _ _ t) in
-        compare_so d u k ts i c weak (OnCell (Take y x (Some (compared_in w.slots q)))) (Refill Turning y (more_taken x) k) can.cell
+        compare_so d u k ts i c weak (OnCell (Take y x (Some (compared_in w.slots q)))) (Refill Turning y (more_taken x) k)
         (differing_tells v y x found d w.slots q can.kept can.holds may.expected may.new differs)
 
     -- the funds of what goes in are brought
@@ -140,7 +140,7 @@ module _ (d : ℕ) (u : Sight) (k : ℕ) (ts : List Task) (c : CellName) where
         let v = u.story in
         let w = walk_of (scene u) d in
         let a = Compare i c weak in
-        matches_out d u k ts a (cell_at (state v) w.slots c) x (compared_in w.slots (comparing w.slots i weak)) (Saw x)
+        matches_out d u k ts a (cell_at (state v) w.slots c) x refl (compared_in w.slots (comparing w.slots i weak)) (Saw x)
         (λ f. let n : left_on v w.slots a (Saw x) ≡ 7 = ap (λ (b : Bool). cond b 3 7) f in omega (arith, n)) (swapped_so x valid same)
     settles_so x valid same (Some p) e = inr (fetches_out x p e)
 
@@ -156,7 +156,7 @@ module _ (d : ℕ) (u : Sight) (k : ℕ) (ts : List Task) (c : CellName) where
         let q = compared_in w.slots (comparing w.slots i weak) in
         cond_both (same_value x (as_word (value w.slots i))) (on (fetches w k x) (matches v d w k ts a y q x) (slot w.slots (hand w.slots)))
         (takes v d w k ts a y (Some q) x) (Outcome d u k ts a (Saw x)) (λ t. settles_so x valid t (slot w.slots (hand w.slots)) refl)
-        (λ f. takes_out d u k ts a y x (Some q) refl (differs_so x valid f))
+        (λ f. takes_out d u k ts a y x refl (Some q) refl (differs_so x valid f))
 
     compare_matched : (x : CellWord) → IsCellWord x → same_value x (as_word (value (walk_of (scene u) d).slots i)) ≡ true
         → let v = u.story in let w = walk_of (scene u) d in
@@ -166,7 +166,7 @@ module _ (d : ℕ) (u : Sight) (k : ℕ) (ts : List Task) (c : CellName) where
         let v = u.story in
         let w = walk_of (scene u) d in
         let a = Compare i c weak in
-        matches_out d u k ts a (cell_at (state v) w.slots c) x (compared_in w.slots (comparing w.slots i weak)) (Matched x)
+        matches_out d u k ts a (cell_at (state v) w.slots c) x refl (compared_in w.slots (comparing w.slots i weak)) (Matched x)
         (λ f. let n : left_on v w.slots a (Matched x) ≡ 6 = ap (λ (b : Bool). cond b 2 6) f in omega (arith, n)) (swapped_so x valid same)
 
 -- the first step of an act that looks
@@ -183,7 +183,7 @@ rest_out d u k ts (Compare i c weak) is can none = compare_rest d u k ts c i wea
 rest_out d u k ts (Make form) is can none = absurd (false≢true is)
 rest_out d u k ts (Share j) is can none = absurd (false≢true is)
 rest_out d u k ts (Downgrade j) is can none = absurd (false≢true is)
-rest_out d u k ts (Lock j must) is can none = absurd (false≢true is)
+rest_out d u k ts (Lock j must) is can none = lock_rest d u k ts j must (locked (walk_of (scene u) d).slots (Lock j must)) refl is
 rest_out d u k ts (Put j) is can none = absurd (false≢true is)
 rest_out d u k ts (Leave j) is can none = absurd (false≢true is)
 rest_out d u k ts (Clear j) is can none = absurd (false≢true is)
@@ -199,18 +199,14 @@ rest_out d u k ts (Swap c) is can none = absurd (false≢true is)
 rest_out d u k ts (Exchange j c) is can none = absurd (false≢true is)
 rest_out d u k ts Drop is can none = absurd (false≢true is)
 
--- a step of an act that looks, and what it does
-abbrev pub Next : ℕ → Sight → ℕ → List Task → Act → Half → Option Step → Type 0
-Next d u k ts a h o = (x : Step) × (o ≡ Some x) × Outcome d u k ts a h x × (is_looking (walk_of (scene u) d).slots a ≡ true)
-
 pub saw_out : (d : ℕ) (u : Sight) (k : ℕ) (ts : List Task) (x : CellWord) (a : Act) → IsSeenBy (walk_of (scene u) d).slots x a → IsCellWord x → CanLook d u a
     → Next d u k ts a (Saw x) (saw_on u.story d (walk_of (scene u) d) k ts x a)
 saw_out d u k ts x (Load c) is valid can =
     let v = u.story in let w = walk_of (scene u) d in
-    (takes v d w k ts (Load c) (cell_at (state v) w.slots c) None x, refl, load_saw d u k ts c x valid can is.0, is.0)
+    (takes v d w k ts (Load c) (cell_at (state v) w.slots c) None x, refl, load_saw d u k ts c x valid can is.0, λ j e. cc)
 saw_out d u k ts x (Compare i c weak) is valid can =
     let v = u.story in let w = walk_of (scene u) d in
-    (settles v d w k ts (Compare i c weak) (cell_at (state v) w.slots c) (compared_in w.slots (comparing w.slots i weak)) x, refl, compare_saw d u k ts c i weak can x valid, refl)
+    (settles v d w k ts (Compare i c weak) (cell_at (state v) w.slots c) (compared_in w.slots (comparing w.slots i weak)) x, refl, compare_saw d u k ts c i weak can x valid, λ j e. cc)
 saw_out d u k ts x (Make form) is valid can = absurd is
 saw_out d u k ts x (Share j) is valid can = absurd is
 saw_out d u k ts x (Downgrade j) is valid can = absurd is
@@ -234,7 +230,7 @@ pub matched_out : (d : ℕ) (u : Sight) (k : ℕ) (ts : List Task) (x : CellWord
     → CanLook d u a → Next d u k ts a (Matched x) (matched_on u.story d (walk_of (scene u) d) k ts x a)
 matched_out d u k ts x (Compare i c weak) is valid can =
     let v = u.story in let w = walk_of (scene u) d in
-    (matches v d w k ts (Compare i c weak) (cell_at (state v) w.slots c) (compared_in w.slots (comparing w.slots i weak)) x, refl, compare_matched d u k ts c i weak can x valid is, refl)
+    (matches v d w k ts (Compare i c weak) (cell_at (state v) w.slots c) (compared_in w.slots (comparing w.slots i weak)) x, refl, compare_matched d u k ts c i weak can x valid is, λ j e. cc)
 matched_out d u k ts x (Load c) is valid can = absurd is
 matched_out d u k ts x (Make form) is valid can = absurd is
 matched_out d u k ts x (Share j) is valid can = absurd is

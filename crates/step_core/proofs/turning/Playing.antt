@@ -14,12 +14,12 @@ use Rattle.step_table.specs.Deeds.{exact}
 use Rattle.step_table.specs.Holdings.{is_full, slot}
 use Rattle.step_threads.specs.Scenes.{next, next_of, play_from, rest_of, rested, said_from, walk_of}
 use Rattle.step_threads.specs.Steps.{Step, acts, at_rest, begun, ends_on, first, step_at, stepped, waits}
-use Rattle.step_core.specs.Turning.{HasBegun, Plays, has_rest, is_acting, is_brought, is_clearing, is_ending, is_giving, is_locking, is_making, is_refilling, is_returning, is_trying, returned, turned, turned_by}
+use Rattle.step_core.specs.Turning.{HasBegun, Plays, has_rest, is_acting, is_clearing, is_ending, is_refilling, is_returning, returned, turned, turned_by}
 use Rattle.step_core.specs.Worlds.{Sight, Steps, half_of, scene, sight_by, step_of}
 use Rattle.step_core.proofs.turning.Ending.{half_after, halves_after, rested_none, same_walks, scene_as}
 use Rattle.step_core.proofs.turning.Resting.{carried, none_left}
 use Rattle.step_core.proofs.turning.Firsts.{acts_so, first_same}
-use Rattle.step_core.proofs.turning.Saying.{left, plays_as, plays_next}
+use Rattle.step_core.proofs.turning.Saying.{does_so, plays_as, plays_next}
 use Rattle.step_core.proofs.turning.Looking.{awake_on, can_look}
 use Rattle.step_core.proofs.turning.Telling.{awake, exact_told, tells_rest}
 
@@ -64,7 +64,7 @@ plays_first d u r (t ∷ ts) rest none todo awake answer now over =
     let q = awake_on d u t ts rest none todo awake in
     plays_as d u t ts x r none todo is answer (acts_so d u t.statement ts t.act can q n) (tells_rest d u t.act now rest) n now.within now.walks
 
--- a make that has just begun
+-- an act that has just begun
 begun_same : (d : ℕ) (u : Sight) (ts : List Task) → half_of u d ≡ Rest → (walk_of (scene u) d).endings ≡ [] → (walk_of (scene u) d).todo ≡ ts
     → d < length u.halves → is_acting (half_of (sight_by d u (step_of d u)) d) ≡ true → scene (sight_by d u (step_of d u)) ≡ scene u
 begun_same d u [] rest none todo lt is =
@@ -121,7 +121,7 @@ plays_carried d u r e es rest is full answer begun =
     let t : Task = record { statement = e.statement; act = Leave (hand w.slots) } in
     plays_next d u t w.todo (first u.story d w e.statement w.todo t.act) r (ap (λ (l : List Ending). next_of w.slots l w.todo) is)
     (ap (λ (l : List Ending). rest_of l w.todo) is) (carried_step d u e es rest is full) answer
-    (refl, left d u.story (slot w.slots (hand w.slots)) _) (tells_rest d u t.act begun rest) refl begun.within begun.walks
+    (refl, does_so d u.story _ _) (tells_rest d u t.act begun rest) refl begun.within begun.walks
 
 -- a thread at rest, whose endings have gone on as far as they go by themselves
 plays_rest : (d : ℕ) (u : Sight) (r : Stepped) (es : List Ending) → half_of u d ≡ Rest → (walk_of (scene u) d).endings ≡ es → is_ending u d ≡ false
@@ -149,86 +149,13 @@ same_rest d u (e ∷ es) rest is ended lt acts =
     let h : half_of (sight_by d u (step_of d u)) d ≡ Rest = ap (λ (o : Option Step). half_of (sight_by d u o) d) s ∙ half_after d u (Some x) lt in
     absurd (false≢true (sym (ap is_acting h) ∙ acts))
 
-pub begins_make : (d : ℕ) (u v : Sight) (r : Stepped) → is_acting (half_of u d) ≡ false → has_rest u d ≡ false → HasBegun d u
+pub begins_act : (d : ℕ) (u v : Sight) (r : Stepped) → is_acting (half_of u d) ≡ false → has_rest u d ≡ false → HasBegun d u
     → Steps d u r v
     → is_acting (half_of v d) ≡ true → (scene v ≡ scene u) × (v.halves ≡ set u.halves d (half_of v d))
-begins_make d u v r m e begun steps some =
+begins_act d u v r m e begun steps some =
     let n = none_left d u e in
     subst (λ (w : Sight). is_acting (half_of w d) ≡ true → (scene w ≡ scene u) × (w.halves ≡ set u.halves d (half_of w d))) (sym steps.1)
     (λ t. (
       same_rest d u (walk_of (scene u) d).endings (resting (half_of u d) m n.0 n.1 n.2) refl n.3 begun.within t,
       halves_after d u (step_of d u) begun.within,
     )) some
-
-pub making_acts : (h : Half) → is_making h ≡ true → is_acting h ≡ true
-making_acts Rest m = m
-making_acts (Making b i f) m = refl
-making_acts (Locking word) m = refl
-making_acts (Giving i kind x) m = refl
-making_acts Brought m = refl
-making_acts (Saw wd) m = refl
-making_acts (Matched wd) m = refl
-making_acts (Refill stage cell wd line) m = m
-making_acts (Returning kind b funds k) m = m
-making_acts Clearing m = m
-
-pub locking_acts : (h : Half) → is_locking h ≡ true → is_acting h ≡ true
-locking_acts Rest m = m
-locking_acts (Making b i f) m = refl
-locking_acts (Locking word) m = refl
-locking_acts (Giving i kind x) m = refl
-locking_acts Brought m = refl
-locking_acts (Saw wd) m = refl
-locking_acts (Matched wd) m = refl
-locking_acts (Refill stage cell wd line) m = m
-locking_acts (Returning kind b funds k) m = m
-locking_acts Clearing m = m
-
-pub giving_acts : (h : Half) → is_giving h ≡ true → is_acting h ≡ true
-giving_acts Rest m = m
-giving_acts (Making b i f) m = refl
-giving_acts (Locking word) m = refl
-giving_acts (Giving i kind x) m = refl
-giving_acts Brought m = refl
-giving_acts (Saw wd) m = refl
-giving_acts (Matched wd) m = refl
-giving_acts (Refill stage cell wd line) m = m
-giving_acts (Returning kind b funds k) m = m
-giving_acts Clearing m = m
-
-pub brought_acts : (h : Half) → is_brought h ≡ true → is_acting h ≡ true
-brought_acts Rest m = m
-brought_acts (Making b i f) m = refl
-brought_acts (Locking word) m = refl
-brought_acts (Giving i kind x) m = refl
-brought_acts Brought m = refl
-brought_acts (Saw wd) m = refl
-brought_acts (Matched wd) m = refl
-brought_acts (Refill stage cell wd line) m = m
-brought_acts (Returning kind b funds k) m = m
-brought_acts Clearing m = m
-
-pub trying_acts : (h : Half) → is_trying h ≡ true → is_acting h ≡ true
-trying_acts Rest m = m
-trying_acts (Making b i f) m = refl
-trying_acts (Locking word) m = refl
-trying_acts (Giving i kind x) m = refl
-trying_acts Brought m = refl
-trying_acts (Saw x) m = refl
-trying_acts (Matched x) m = refl
-trying_acts (Refill stage c x k) m = m
-trying_acts (Returning kind b funds k) m = m
-trying_acts Clearing m = m
-
-pub none_acts : (h : Half) → is_making h ≡ false → is_locking h ≡ false → is_giving h ≡ false → is_brought h ≡ false → is_trying h ≡ false
-    → is_acting h ≡ false
-none_acts Rest m l g b t = refl
-none_acts (Making c i f) m l g b t = m
-none_acts (Locking word) m l g b t = l
-none_acts (Giving i kind x) m l g b t = g
-none_acts Brought m l g b t = b
-none_acts (Saw x) m l g b t = t
-none_acts (Matched x) m l g b t = t
-none_acts (Refill stage c x k) m l g b t = refl
-none_acts (Returning kind c funds k) m l g b t = refl
-none_acts Clearing m l g b t = refl

@@ -21,9 +21,9 @@ use Rattle.control_word.specs.declared.cell.CellWord.{CellWord}
 use Rattle.step_table.specs.declared.cell_deed.Cell.{Cell}
 use Rattle.step_table.specs.declared.refill.Stage.{Stage}
 use Rattle.step_table.specs.Refills.{RefillFits}
-use Rattle.step_table.specs.Stories.{Kept, Story}
+use Rattle.step_table.specs.Stories.{Story}
 use Rattle.step_core.specs.Turning.{HasBegun, IsAlone, IsOut, IsTried, Rests, has_rest, is_clearing, is_ending, is_refilling, is_returning, returned}
-use Rattle.step_core.specs.Worlds.{GoesTo, Sight, Steps, half_of, scene, sight_by, step_of}
+use Rattle.step_core.specs.Worlds.{Advances, GoesTo, Sight, Steps, half_of, scene, sight_by, step_of}
 use Rattle.step_core.proofs.turning.Refilling.{Pays, funds_left, refills_so, returns_so}
 use Rattle.step_core.proofs.turning.Chains.{more_steps, no_step, one_step}
 use Rattle.step_core.proofs.turning.Ending.{IsRested, Same, end_step, half_after, halves_after, left, look_left, rested_same, same_walks, steps_left, take_step, walk_after}
@@ -193,9 +193,9 @@ stepped_rest d u (Matched x) e begun is =
     stepped_end d u (walk_of (scene u) d).endings refl begun is (ap is_returning e) (ap is_refilling e) (ap is_clearing e)
 
 pub on_step : (d : ℕ) (u v v' : Sight) (r : Stepped) → IsOn d u v → HasBegun d v → has_rest v d ≡ true → Steps d v r v'
-    → length v'.walks ≡ length v.walks → Kept v'.story → IsOn d u v'
-on_step d u v v' r on begun is steps actors kept =
-    let all : GoesTo d u v' = more_steps d u v v' on.goes (one_step d v v' r steps kept) in
+    → length v'.walks ≡ length v.walks → Advances d v r v' → IsOn d u v'
+on_step d u v v' r on begun is steps actors advances =
+    let all : GoesTo d u v' = more_steps d u v v' on.goes (one_step d v v' r advances) in
     let s = stepped_rest d v (half_of v d) refl begun is in
     let h = half_of (sight_by d v (step_of d v)) d in
     subst (λ (w : Sight). length w.walks ≡ length v.walks → GoesTo d u w → IsOn d u w) (sym steps.1)

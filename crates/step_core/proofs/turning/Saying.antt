@@ -2,7 +2,6 @@
 use Rattle.std.proofs.Common.{◌≡◌, ℕ, ◌<◌, ◌==◌, Bool, true, false, cond, List, [], ◌∷◌, length, set, refl, sym, ap, subst, ◌∙◌}
 use Rattle.std.specs.Prelude.{Option, Some, None, option_map}
 use Rattle.std.proofs.lemmas.Bool.{cond_both, cond-false, false≢true}
-use Rattle.control_word.specs.declared.place.Place.{Place}
 use Rattle.step_threads.specs.declared.act.Act.{Act}
 use Rattle.step_table.specs.declared.form.Form.{Form}
 use Rattle.step_threads.specs.declared.act.Act.TheVariants.{Make, Share, Downgrade, Lock, Put, Leave, Clear, Count, Expired, Read, FromThis, Alias, Move, Ask, Offer, Swap, Exchange, Load, Compare, Drop}
@@ -16,16 +15,14 @@ use Rattle.step_threads.specs.declared.said.Stepped.{Stepped}
 use Rattle.step_threads.specs.declared.said.Stepped.TheVariants.{Event, Quiet}
 use Rattle.step_threads.specs.declared.said.Turned.TheVariants.{Acted}
 use Rattle.control_word.specs.declared.handle.Kind.{Kind}
-use Rattle.control_word.specs.declared.handle.Kind.TheVariants.{Owner, Weak}
-use Rattle.control_word.specs.Histories.{entry}
 use Rattle.step_threads.specs.Courses.{Walk, locked, settled}
-use Rattle.step_table.specs.Deeds.{downgrade, is_enabled, is_last, leave, leave_as, lock, by_word, owner_word, read, share, share_as, tell, tell_expired, alias, on}
+use Rattle.step_table.specs.Deeds.{give, is_enabled, lock, on, owner_word}
 use Rattle.step_table.specs.Holdings.{inside, slot}
 use Rattle.step_table.specs.Openings.{opening}
-use Rattle.step_threads.specs.Entries.{History, acted, least, leaves, left_as, made, shared_as, counts, downgrades, expires, gives, giving, locks, reads, shares, aliases}
+use Rattle.step_threads.specs.Entries.{acted, does, giving, least, makes}
 use Rattle.step_threads.specs.Scenes.{Scene, full_answer, holding, next, next_of, play_from, play_with, put_walk, rest_of, rested, rested_walk, said_from, said_of, walk_of, went}
 use Rattle.step_threads.specs.Steps.{Step, acts, asks, begins, is_event, looks, silent, stepped, story_after, trying}
-use Rattle.step_table.specs.Stories.{Story, after, state}
+use Rattle.step_table.specs.Stories.{Story, state}
 use Rattle.step_core.specs.Turning.{Plays, is_acting, turned, turned_by}
 use Rattle.step_core.specs.Worlds.{Sight, TellsAll, scene, sight_by, step_of}
 use Rattle.step_core.proofs.turning.Ending.{half_after, halves_after, moved, rested_moved}
@@ -56,63 +53,18 @@ begins_so d u k ts form None e is =
       ap (λ (q : Option ℕ). record { statement = k; answer = full_answer q; ended = None }) (sym e),
       ap (λ (q : Option ℕ). record {
         extent = u.story.extent;
-        history = made d form u.story.history q;
+        history = does (opening u.story.extent) d u.story.history (option_map (makes form) q);
         walks = set u.walks d (let y = holding w.slots form.null q in settled y.0 y.1 w.endings ts);
       }) (sym e),
     )
 begins_so d u k ts form (Some b) e is = absurd (false≢true (sym is))
 
--- what is done on a full slot
-abbrev pub Told : ℕ → Story → (Pointer → Deed) → (Pointer → History) → Option Pointer → Type 0
-Told d v f g o =
-    (w : List Walk) → ◌≡◌ {A = Scene} (record {
-      extent = (story_after v d (option_map f o)).extent;
-      history = (story_after v d
-          (option_map f o)).history;
-      walks = w;
-    })
-    (record { extent = v.extent; history = on g v.history o; walks = w })
-
-pub shared : (d : ℕ) (v : Story) (o : Option Pointer) → Told d v share (shares (opening v.extent) d v.history) o
-shared d v None w = refl
-shared d v (Some x) w = go x.kind
-  where
-    go : (k : Kind)
-        → ◌≡◌ {A = Scene} (record { extent = (after v d (share_as k x)).extent; history = (after v d (share_as k x)).history; walks = w })
-        (record { extent = v.extent; history = entry d (shared_as k (state v) x) ∷ v.history; walks = w })
-    go Owner = refl
-    go Weak = refl
-
-pub shared_at : (d : ℕ) (v : Story) (p : Option Place) (o : Option Pointer) → Told d v (alias p) (aliases p (opening v.extent) d v.history) o
-shared_at d v p None w = refl
-shared_at d v p (Some x) w = refl
-
-pub downgraded : (d : ℕ) (v : Story) (o : Option Pointer) → Told d v downgrade (downgrades (opening v.extent) d v.history) o
-downgraded d v None w = refl
-downgraded d v (Some x) w = refl
-
-pub counted : (d : ℕ) (v : Story) (o : Option Pointer) → Told d v (tell v) (counts (by_word v) (opening v.extent) d v.history) o
-counted d v None w = refl
-counted d v (Some x) w = refl
-
-pub expired : (d : ℕ) (v : Story) (o : Option Pointer) → Told d v (tell_expired (state v)) (expires (opening v.extent) d v.history) o
-expired d v None w = refl
-expired d v (Some x) w = refl
-
-pub read_so : (d : ℕ) (v : Story) (o : Option Pointer) → Told d v (read (state v)) (reads (opening v.extent) d v.history) o
-read_so d v None w = refl
-read_so d v (Some x) w = refl
-
--- a leave
-pub left : (d : ℕ) (v : Story) (o : Option Pointer) → Told d v (leave (state v)) (leaves (opening v.extent) d v.history) o
-left d v None w = refl
-left d v (Some x) w = go x.kind (is_last (state v) x)
-  where
-    go : (k : Kind) (last : Bool)
-        → ◌≡◌ {A = Scene} (record { extent = (after v d (leave_as k x last)).extent; history = (after v d (leave_as k x last)).history; walks = w })
-        (record { extent = v.extent; history = entry d (left_as k (state v) x last) ∷ v.history; walks = w })
-    go Owner last = refl
-    go Weak last = refl
+-- what is done, if anything
+pub does_so : (d : ℕ) (v : Story) (o : Option Deed) (w : List Walk)
+    → ◌≡◌ {A = Scene} (record { extent = (story_after v d o).extent; history = (story_after v d o).history; walks = w })
+    (record { extent = v.extent; history = does (opening v.extent) d v.history o; walks = w })
+does_so d v None w = refl
+does_so d v (Some x) w = refl
 
 -- a lock that is done
 pub lock_so : (d : ℕ) (u : Sight) (k : ℕ) (ts : List Task) (a : Act) (x : Pointer) → locked (walk_of (scene u) d).slots a ≡ Some x
@@ -122,7 +74,7 @@ lock_so d u k ts (Lock i must) x e =
       refl,
       ap (λ (o : Option Pointer). record {
         extent = u.story.extent;
-        history = on (locks (opening u.story.extent) d u.story.history) u.story.history o;
+        history = does (opening u.story.extent) d u.story.history (option_map (lock (state u.story)) o);
         walks = set u.walks d (went (state u.story) d w k ts (Lock i must));
       }) (sym e),
     )
@@ -154,7 +106,7 @@ lose_so d u k ts i must e =
       refl,
       ap (λ (o : Option Pointer). record {
         extent = u.story.extent;
-        history = on (locks (opening u.story.extent) d u.story.history) u.story.history o;
+        history = does (opening u.story.extent) d u.story.history (option_map (lock (state u.story)) o);
         walks = set u.walks d (went (state u.story) d w k ts (Lock i must));
       }) (sym e),
     )
@@ -180,7 +132,7 @@ unasked_so d u k ts i q e =
       refl,
       ap (λ (o : Option Pointer). record {
         extent = u.story.extent;
-        history = on (gives q (opening u.story.extent) d u.story.history) u.story.history o;
+        history = does (opening u.story.extent) d u.story.history (option_map (give q) o);
         walks = set u.walks d (went (state u.story) d w k ts (FromThis i q));
       }) (sym e),
     )

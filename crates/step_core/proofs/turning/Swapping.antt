@@ -1,30 +1,24 @@
--- A swap of a cell, step by step.
-use Rattle.std.proofs.Common.{◌≡◌, ◌≢◌, ℕ, ◌<◌, ◌&&◌, Bool, true, false, List, [], ◌∷◌, set, refl, sym, ap, subst, ◌∙◌}
-use Rattle.std.specs.Prelude.{Option, Some, None, is_some, option_map}
+-- A swap of a cell.
+use Rattle.std.proofs.Common.{◌≡◌, ℕ, ◌<◌, ◌&&◌, Bool, true, false, List, set, refl, sym, ap, subst, ◌∙◌}
+use Rattle.std.specs.Prelude.{Option, Some, None, is_some}
 use Rattle.std.proofs.lemmas.Bool.{and_parts, cond-true, cond-false, false≢true}
 use Rattle.std.proofs.lemmas.Option.{same_Some}
 use Rattle.control_word.specs.declared.cell.CellWord.{CellWord}
 use Rattle.control_word.specs.declared.event.Event.{Event}
-use Rattle.control_word.specs.declared.event.Event.TheVariants as event
 use Rattle.control_word.specs.declared.handle.Kind.{Kind}
 use Rattle.control_word.specs.declared.place.Block.{Block}
 use Rattle.control_word.specs.declared.shape.Shape.{Shape}
-use Rattle.control_word.specs.Histories.{entry}
 use Rattle.control_word.specs.State.{Opening}
 use Rattle.step_threads.specs.declared.act.Act.{Act}
 use Rattle.step_threads.specs.declared.act.Act.TheVariants.{Make, Share, Downgrade, Lock, Put, Leave, Clear, Count, Expired, Read, FromThis, Alias, Move, Ask, Offer, Swap, Exchange, Load, Compare, Drop}
 use Rattle.step_threads.specs.declared.act.Task.{Task}
 use Rattle.step_threads.specs.declared.call.CellName.{CellName}
 use Rattle.step_table.specs.declared.cell_deed.CellDeed.TheVariants as cell_deed
-use Rattle.step_threads.specs.declared.half.Half.{Half}
-use Rattle.step_threads.specs.declared.half.Half.TheVariants.{Rest, Making, Locking, Giving, Brought, Saw, Matched, Refill, Returning, Clearing}
+use Rattle.step_threads.specs.declared.half.Half.TheVariants.{Rest}
 use Rattle.step_table.specs.declared.holdings.Pointer.{Pointer}
 use Rattle.step_table.specs.declared.past.Deed.TheVariants as deed
 use Rattle.step_threads.specs.declared.said.Answer.{Answer}
-use Rattle.step_threads.specs.declared.said.Stepped.{Stepped}
-use Rattle.step_threads.specs.declared.said.Stepped.TheVariants.{Waited}
-use Rattle.step_table.specs.CellDeeds.{cell_in}
-use Rattle.step_table.specs.Contents.{as_word, held_in, is_of, seen, told}
+use Rattle.step_table.specs.Contents.{as_word, is_of, seen}
 use Rattle.step_threads.specs.Courses.{Going, HasCell, cell_at, going, going_from, hand, is_there, kind_at, on_going}
 use Rattle.step_threads.specs.Entries.{History, acted, swaps as swaps_in}
 use Rattle.step_table.specs.Deeds.{Telling, on}
@@ -32,16 +26,16 @@ use Rattle.step_table.specs.Holdings.{Holds, Slots, slot, value}
 use Rattle.step_table.specs.Openings.{opening}
 use Rattle.step_threads.specs.Programs.{IsIn}
 use Rattle.step_threads.specs.Scenes.{ended_of, walk_of, went}
-use Rattle.step_threads.specs.Steps.{acts, brings, gives_back, sends, sent, step_at, stepped, swaps}
+use Rattle.step_threads.specs.Steps.{acts, brings, gives_back, sends, swaps}
 use Rattle.step_table.specs.Stories.{Kept, Nothing, Story, added, history_after, state}
-use Rattle.step_core.specs.Turning.{HasBegun, IsAlone, IsInShape, IsSwap, IsTried, Plays, is_acting, is_brought, turned_by}
-use Rattle.step_core.specs.Worlds.{Sight, Steps, half_of, scene, sight_by, step_of}
-use Rattle.step_threads.proofs.CellNames.{cell_kind, cell_open, goes_in}
+use Rattle.step_core.specs.Turning.{is_acting}
+use Rattle.step_core.specs.Worlds.{Sight, scene, sight_by}
+use Rattle.step_threads.proofs.CellNames.{cell_open, goes_in}
 use Rattle.step_table.proofs.contained.Coming.{seen_found}
 use Rattle.step_table.proofs.contained.Telling.{swap_tells}
 use Rattle.step_core.proofs.turning.Ending.{same_walks, scene_as}
-use Rattle.step_core.proofs.turning.Saying.{Acts, plays_as}
-use Rattle.step_core.proofs.turning.Telling.{awake, tell_of, tells_unless, told_answer}
+use Rattle.step_core.proofs.turning.Saying.{Acts}
+use Rattle.step_core.proofs.turning.Telling.{tell_of, told_answer}
 
 -- the cell is there, and the value may go into it
 abbrev Goes : Shape → Slots → CellName → ℕ → Type 0
@@ -57,7 +51,6 @@ swap_told v d slots c i kept lt holds goes =
     let found = seen_found v d x kept lt (cell_open v d slots c goes.0 holds goes.1) in
     ap (λ (o : Option (Event Nothing)). added d o v.history)
     (swap_tells v x (seen v x) found (value slots i) (goes_in v slots c (value slots i) goes.0 goes.2))
-    ∙ ap (λ (k : Kind). entry d (event.Swap (cell_in s x) (told s k (value slots i)) (held_in s x)) ∷ v.history) (cell_kind v slots c goes.0)
 
 goes_from : (z : Shape) (slots : Slots) (x : CellName) (k : ℕ) (c : CellName) (i : ℕ) → going_from slots x k ≡ Some (c, i) → IsIn z x → Goes z slots c i
 goes_from z slots x k c i e is = go (is_there slots x && is_of (kind_at x) (value slots k)) refl
@@ -105,7 +98,7 @@ pub no_more : (q : Kind) (k : ℕ) (x : CellWord) (o : Option Block) → is_acti
 no_more q k x None = refl
 no_more q k x (Some b) = refl
 
-swap_over : (d : ℕ) (u : Sight) (k : ℕ) (ts : List Task) (a : Act) (c : CellName) (i : ℕ)
+pub swap_over : (d : ℕ) (u : Sight) (k : ℕ) (ts : List Task) (a : Act) (c : CellName) (i : ℕ)
     → is_acting (swaps u.story d (walk_of (scene u) d) k ts a c i).half ≡ false
 swap_over d u k ts a c i = let found = seen u.story (cell_at (state u.story) (walk_of (scene u) d).slots c) in no_more (kind_at c) k found found.owned
 
@@ -113,7 +106,7 @@ swap_over d u k ts a c i = let found = seen u.story (cell_at (state u.story) (wa
 abbrev pub CanPut : ℕ → Sight → Act → Type 0
 CanPut d u a = (d < u.story.extent.actors) × Kept u.story × HasCell u.story.extent.shape a × Holds d (walk_of (scene u) d).slots u.story
 
-swaps_so : (d : ℕ) (u : Sight) (k : ℕ) (ts : List Task) (a : Act) (c : CellName) (i : ℕ) → CanPut d u a
+pub swaps_so : (d : ℕ) (u : Sight) (k : ℕ) (ts : List Task) (a : Act) (c : CellName) (i : ℕ) → CanPut d u a
     → going (walk_of (scene u) d).slots a ≡ Some (c, i) → Acts d u k ts a (swaps u.story d (walk_of (scene u) d) k ts a c i)
 swaps_so d u k ts a c i can e =
     let w = walk_of (scene u) d in
@@ -160,39 +153,6 @@ pub goes_same : (d : ℕ) (u : Sight) (k : ℕ) (ts : List Task) (a : Act) (g : 
 goes_same d u k ts a None is = absurd (false≢true is)
 goes_same d u k ts a (Some g) is = sends_same d u k ts a g.0 g.1 (slot (walk_of (scene u) d).slots g.1) is
 
-some_of : (o : Option Going) → is_some o ≡ true → (g : Going) × (o ≡ Some g)
+pub some_of : (o : Option Going) → is_some o ≡ true → (g : Going) × (o ≡ Some g)
 some_of None e = absurd (false≢true e)
 some_of (Some g) e = (g, refl)
-
-puts_by : (d : ℕ) (u : Sight) (r : Stepped) (ts : List Task) → half_of u d ≡ Brought → (walk_of (scene u) d).todo ≡ ts
-    → IsSwap (walk_of (scene u) d).slots ts → HasBegun d u → r ≡ stepped u.story (step_of d u) → Plays d u (turned_by r) (sight_by d u (step_of d u))
-puts_by d u r [] e todo way begun answer = absurd way
-puts_by d u r (t ∷ ts) e todo way begun answer =
-    let w = walk_of (scene u) d in
-    let g = some_of (going w.slots t.act) way in
-    let y = swaps u.story d w t.statement ts t.act g.0.0 g.0.1 in
-    let is : step_of d u ≡ Some y = ap (λ (h : Half). step_at u.story d h w) e ∙ ap (λ (l : List Task). sent u.story d w l) todo
-    ∙ ap (option_map (λ (x : Going). swaps u.story d w t.statement ts t.act x.0 x.1)) g.1 in
-    let none = subst (λ (h : Half). IsAlone h w.endings) e begun.alone in
-    let cell = subst (λ (l : List Task). IsInShape u.story.extent.shape l) todo begun.cell in
-    plays_as d u t ts y r none todo is answer (swaps_so d u t.statement ts t.act g.0.0 g.0.1 (begun.seat, begun.kept, cell, begun.holds) g.1)
-    (tells_unless d u (λ (a : Act). going w.slots a ≡ Some g.0) t.act (λ i q. cc) g.1) (swap_over d u t.statement ts t.act g.0.0 g.0.1) begun.within begun.walks
-
-puts_so : (d : ℕ) (u : Sight) (r : Stepped) (h : Half) → half_of u d ≡ h → is_brought h ≡ true → HasBegun d u → r ≡ stepped u.story (step_of d u)
-    → Plays d u (turned_by r) (sight_by d u (step_of d u))
-puts_so d u r Rest e is begun answer = absurd (false≢true is)
-puts_so d u r (Making b i f) e is begun answer = absurd (false≢true is)
-puts_so d u r (Locking word) e is begun answer = absurd (false≢true is)
-puts_so d u r (Giving i kind x) e is begun answer = absurd (false≢true is)
-puts_so d u r (Returning kind b funds k) e is begun answer = absurd (false≢true is)
-puts_so d u r Clearing e is begun answer = absurd (false≢true is)
-puts_so d u r (Saw wd) e is begun answer = absurd (false≢true is)
-puts_so d u r (Matched wd) e is begun answer = absurd (false≢true is)
-puts_so d u r (Refill stage cell wd line) e is begun answer = absurd (false≢true is)
-puts_so d u r Brought e is begun answer =
-    let w = walk_of (scene u) d in puts_by d u r w.todo e refl (subst (λ (h : Half). IsTried h w) e begun.tried) begun answer
-
--- a swap whose funds are brought is done
-pub puts : (d : ℕ) (u v : Sight) (r : Stepped) → is_brought (half_of u d) ≡ true → HasBegun d u → Steps d u r v → r ≢ Waited → Plays d u (turned_by r) v
-puts d u v r is begun steps never =
-    subst (λ (w : Sight). Plays d u (turned_by r) w) (sym steps.1) (puts_so d u r (half_of u d) refl is begun (awake d u v r steps never).1)

@@ -127,7 +127,7 @@ goes_stays d u v goes = go goes.0 u goes.1
     go : (rs : List Stepped) (a : Sight) → StepsBy d a rs v → OthersStay d a v
     go [] a e = subst (λ (x : Sight). OthersStay d a x) (sym e) (λ k ne. refl)
     go (r ∷ rs) a by =
-        λ k ne. go rs by.0 by.3 k ne ∙ ap (λ (x : Sight). pending x.story k) by.1.1 ∙ step_stays d a.story (step_of d a) k ne
+        λ k ne. go rs by.0 by.2 k ne ∙ ap (λ (x : Sight). pending x.story k) by.1.steps.1 ∙ step_stays d a.story (step_of d a) k ne
 
 -- what is told after steps of the thread's own is told before them
 pub tells_back : (d : ℕ) (u v : Sight) (tell : Telling) (h : Half) (c : Scene) → GoesTo d u v → v.halves ≡ set u.halves d h → scene v ≡ c

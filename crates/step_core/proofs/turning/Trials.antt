@@ -1,5 +1,5 @@
--- What a step of a load or a compare does: it is the act, or one on its way.
-use Rattle.std.proofs.Common.{◌≡◌, ◌⊎◌, inl, inr, ℕ, ◌<◌, ◌==◌, Bool, true, false, cond, List, refl, sym, ap, ◌∙◌, arith}
+-- What a step of an act that takes more than one does: it is the act, or one on its way.
+use Rattle.std.proofs.Common.{◌≡◌, ◌⊎◌, inl, inr, ℕ, ◌+◌, ◌-◌, ◌*◌, ◌<◌, ◌==◌, ◌||◌, Bool, true, false, cond, List, refl, sym, ap, ◌∙◌, arith}
 use Rattle.std.specs.Prelude.{Option, Some, None, is_some}
 use Rattle.std.proofs.lemmas.Bool.{cond_both, false≢true}
 use Rattle.control_word.specs.declared.cell.CellWord.{CellWord}
@@ -12,16 +12,17 @@ use Rattle.step_table.specs.declared.past.Deed.TheVariants.{OnCell}
 use Rattle.step_table.specs.CellDeeds.{kind_in}
 use Rattle.step_table.specs.Cells.{word_at}
 use Rattle.step_table.specs.Contents.{is_spent}
-use Rattle.step_table.specs.Holdings.{Slots, slot}
+use Rattle.step_table.specs.Holdings.{Slots, is_full, slot}
 use Rattle.step_table.specs.declared.refill.Stage.TheVariants.{Turning}
 use Rattle.step_table.specs.Refills.{more_taken}
 use Rattle.step_table.specs.Stories.{Story, state}
 use Rattle.step_threads.specs.declared.act.Act.{Act}
-use Rattle.step_threads.specs.declared.act.Act.TheVariants.{Load, Compare}
+use Rattle.step_threads.specs.declared.act.Act.TheVariants.{Count, Load, Compare}
 use Rattle.step_threads.specs.declared.act.Task.{Task}
 use Rattle.step_threads.specs.declared.half.Half.{Half}
-use Rattle.step_threads.specs.declared.half.Half.TheVariants.{Rest, Saw, Matched, Refill, Returning}
-use Rattle.step_threads.specs.Courses.{Walk, hand, is_there}
+use Rattle.step_threads.specs.declared.half.Half.TheVariants.{Rest, Making, Locking, Saw, Matched, Refill, Returning, Clearing}
+use Rattle.step_table.specs.Deeds.{on, owner_word}
+use Rattle.step_threads.specs.Courses.{Walk, hand, is_there, locked}
 use Rattle.step_threads.specs.Scenes.{walk_of}
 use Rattle.step_threads.specs.Steps.{Step, acts, gives_back, is_event as is_done, matches, missed, sees, story_after, takes, within}
 use Rattle.step_core.specs.Bounds.{shows_on}
@@ -31,26 +32,33 @@ use Rattle.step_core.proofs.turning.Saying.{Acts}
 use Rattle.step_core.proofs.turning.Swapping.{no_more}
 
 -- an act that looks at a cell that is there before it does anything
-abbrev pub is_looking : Slots → Act → Bool
-is_looking slots (Load c) = is_there slots c
-is_looking slots (Compare k c weak) = true
-is_looking slots _ = false
+abbrev pub is_at_cell : Slots → Act → Bool
+is_at_cell slots (Load c) = is_there slots c
+is_at_cell slots (Compare k c weak) = true
+is_at_cell slots _ = false
 
--- the steps that it has left, where nobody else steps: what was seen and is so still is done next, and else it begins again
+-- or at the count of what it locks
+abbrev pub is_looking : Slots → Act → Bool
+is_looking slots a = is_full (locked slots a) || is_at_cell slots a
+
+-- the steps that it has left, where nobody else steps: what was seen and is so still is done next, and else it begins
+-- again
 abbrev pub left_on : Story → Slots → Act → Half → ℕ
 left_on v slots a Rest = 4
+left_on v slots a (Making b i differs) = 2 * (5 - i) + cond differs 0 1
+left_on v slots a (Locking word) = cond (on (owner_word v) 0 (locked slots a) == word) 3 5
 left_on v slots a (Saw x) = cond (shows_on v slots x a) 3 7
 left_on v slots a (Matched x) = cond (shows_on v slots x a) 2 6
 left_on v slots a (Returning kind b funds k) = 5
 left_on v slots a _ = 0
 
--- on the way, or back at the beginning
-abbrev pub is_trial : Half → Bool
-is_trial Rest = true
-is_trial (Saw x) = true
-is_trial (Matched x) = true
-is_trial (Returning kind b funds k) = true
-is_trial _ = false
+-- on the way, or back at the beginning of an act that looks
+abbrev pub is_on : Slots → Act → Half → Bool
+is_on slots a Rest = is_looking slots a
+is_on slots a (Returning kind b funds k) = is_looking slots a
+is_on slots a (Refill stage c x k) = false
+is_on slots a Clearing = false
+is_on slots a _ = true
 
 -- a step on the way, which is no event
 pub record Tried (d : ℕ) (v : Story) (w : Walk) (a : Act) (h : Half) (x : Step) : Type 0 where
@@ -58,7 +66,7 @@ pub record Tried (d : ℕ) (v : Story) (w : Walk) (a : Act) (h : Half) (x : Step
   pub walk : x.walk ≡ w
   pub history : (story_after v d x.deed).history ≡ v.history
   pub extent : (story_after v d x.deed).extent ≡ v.extent
-  pub half : is_trial x.half ≡ true
+  pub half : is_on w.slots a x.half ≡ true
   pub less : left_on (story_after v d x.deed) w.slots a x.half < left_on v w.slots a h
 
 -- the step that is the act
@@ -70,7 +78,12 @@ pub record Done (d : ℕ) (u : Sight) (k : ℕ) (ts : List Task) (a : Act) (x : 
 abbrev pub Outcome : ℕ → Sight → ℕ → List Task → Act → Half → Step → Type 0
 Outcome d u k ts a h x = Done d u k ts a x ⊎ Tried d u.story (walk_of (scene u) d) a h x
 
-module _ (d : ℕ) (u : Sight) (k : ℕ) (ts : List Task) (a : Act) (c : Cell) (x : CellWord) where
+-- a step of half h: it is the act, or one on its way; and the act is no count
+abbrev pub Next : ℕ → Sight → ℕ → List Task → Act → Half → Option Step → Type 0
+Next d u k ts a h o = (x : Step) × (o ≡ Some x) × Outcome d u k ts a h x × ((i : ℕ) → a ≡ Count i → ⊥)
+
+module _ (d : ℕ) (u : Sight) (k : ℕ) (ts : List Task) (a : Act) (c : Cell) (x : CellWord)
+    (looking : is_looking (walk_of (scene u) d).slots a ≡ true) where
   -- what a look does that doesn't wait
   pub sees_out : (y : Option Compared) → is_spent x ≡ false → shows_on u.story (walk_of (scene u) d).slots x a ≡ true
       → Acts d u k ts a (acts u.story d (walk_of (scene u) d) k ts a (Some (OnCell (Look c x y))) Rest)
@@ -78,7 +91,8 @@ module _ (d : ℕ) (u : Sight) (k : ℕ) (ts : List Task) (a : Act) (c : Cell) (
   sees_out y spent shows so =
       let w = walk_of (scene u) d in
       let look = acts u.story d w k ts a (Some (OnCell (Look c x y))) Rest in
-      cond_both (is_spent x) (within w k None Rest) (cond (is_some x.owned) (within w k None (Saw x)) look) (Outcome d u k ts a Rest)
+      cond_both (is_spent x) (within w k None Rest) (cond (is_some x.owned) (within w k None (Saw x)) look)
+      (Outcome d u k ts a Rest)
       (λ t. absurd (false≢true (sym spent ∙ t)))
       (λ f. cond_both (is_some x.owned) (within w k None (Saw x)) look (Outcome d u k ts a Rest) (λ t. inr saw_now)
       (λ f. inl (record { event = refl; so = so; over = refl })))
@@ -89,25 +103,40 @@ module _ (d : ℕ) (u : Sight) (k : ℕ) (ts : List Task) (a : Act) (c : Cell) (
           record { quiet = refl; walk = refl; history = refl; extent = refl; half = refl; less = omega (arith, n) }
 
   -- a fund is taken, or the act begins again
-  pub takes_out : (y : Option Compared) → shows_on u.story (walk_of (scene u) d).slots x a ≡ (word_at u.story c == cell_bits x)
+  pub takes_out : (y : Option Compared)
+      → shows_on u.story (walk_of (scene u) d).slots x a ≡ (word_at u.story c == cell_bits x)
       → ((word_at u.story c == cell_bits x) ≡ true
-      → Acts d u k ts a (acts u.story d (walk_of (scene u) d) k ts a (Some (OnCell (Take c x y))) (Refill Turning c (more_taken x) k)))
+      → Acts d u k ts a (acts u.story d (walk_of (scene u) d) k ts a (Some (OnCell (Take c x y)))
+      (Refill Turning c (more_taken x) k)))
       → Outcome d u k ts a (Saw x) (takes u.story d (walk_of (scene u) d) k ts a c y x)
   takes_out y shows so =
       let v = u.story in
       let w = walk_of (scene u) d in
-      cond_both (word_at v c == cell_bits x) (acts v d w k ts a (Some (OnCell (Take c x y))) (Refill Turning c (more_taken x) k)) (within w k None Rest)
+      cond_both (word_at v c == cell_bits x) (acts v d w k ts a (Some (OnCell (Take c x y)))
+      (Refill Turning c (more_taken x) k)) (within w k None Rest)
       (Outcome d u k ts a (Saw x)) (λ t. inl (record { event = refl; so = so t; over = refl }))
       (λ f. let n : left_on v w.slots a (Saw x) ≡ 7 = ap (λ (b : Bool). cond b 3 7) (shows ∙ f) in
-      inr (record { quiet = refl; walk = refl; history = refl; extent = refl; half = refl; less = omega (arith, n) }))
+      inr (record {
+        quiet = refl;
+        walk = refl;
+        history = refl;
+        extent = refl;
+        half = looking;
+        less = omega
+            (arith, n);
+      }))
 
-  missed_trial : (o : Option Pointer) → (is_trial (missed k o) ≡ true) × (left_on u.story (walk_of (scene u) d).slots a (missed k o) < 6)
-  missed_trial None = (refl, omega arith)
-  missed_trial (Some p) = (refl, omega arith)
+  missed_trial : (o : Option Pointer)
+      → (is_on (walk_of (scene u) d).slots a (missed k o) ≡ true)
+      × (left_on u.story (walk_of (scene u) d).slots a (missed k o) < 6)
+  missed_trial None = (looking, omega arith)
+  missed_trial (Some p) = (looking, omega arith)
 
   -- the cell is swapped, or what was brought is given back and the act begins again
-  pub matches_out : (y : Compared) (h : Half) → ((word_at u.story c == cell_bits x) ≡ false → 5 < left_on u.story (walk_of (scene u) d).slots a h)
-      → ((word_at u.story c == cell_bits x) ≡ true → Acts d u k ts a (acts u.story d (walk_of (scene u) d) k ts a (Some (OnCell (CompareSwap c x y)))
+  pub matches_out : (y : Compared) (h : Half)
+      → ((word_at u.story c == cell_bits x) ≡ false → 5 < left_on u.story (walk_of (scene u) d).slots a h)
+      → ((word_at u.story c == cell_bits x) ≡ true → Acts d u k ts a
+      (acts u.story d (walk_of (scene u) d) k ts a (Some (OnCell (CompareSwap c x y)))
       (gives_back (kind_in (state u.story) c) k x x.owned)))
       → Outcome d u k ts a h (matches u.story d (walk_of (scene u) d) k ts a c y x)
   matches_out y h much so =
@@ -115,9 +144,18 @@ module _ (d : ℕ) (u : Sight) (k : ℕ) (ts : List Task) (a : Act) (c : Cell) (
       let w = walk_of (scene u) d in
       let g = gives_back (kind_in (state v) c) k x x.owned in
       let m = missed k (slot w.slots (hand w.slots)) in
-      cond_both (word_at v c == cell_bits x) (acts v d w k ts a (Some (OnCell (CompareSwap c x y))) g) (within w k None m) (Outcome d u k ts a h)
+      cond_both (word_at v c == cell_bits x) (acts v d w k ts a (Some (OnCell (CompareSwap c x y))) g)
+      (within w k None m) (Outcome d u k ts a h)
       (λ t. inl (record { event = refl; so = so t; over = no_more (kind_in (state v) c) k x x.owned }))
       (λ f. let p = missed_trial (slot w.slots (hand w.slots)) in
       let low = p.1 in
       let n = much f in
-      inr (record { quiet = refl; walk = refl; history = refl; extent = refl; half = p.0; less = omega (arith, low, n) }))
+      inr (record {
+        quiet = refl;
+        walk = refl;
+        history = refl;
+        extent = refl;
+        half = p.0;
+        less = omega
+            (arith, low, n);
+      }))

@@ -39,7 +39,7 @@ use Rattle.step_table.proofs.tables.Places.{handle_busy, named}
 use Rattle.step_table.proofs.tables.Standing.{point, ready}
 
 -- a step that is no event leaves what any desk holds
-pub holds_quiet : (d e : ℕ) (slots : Slots) (v : Story) (x : Deed) → event_of v x ≡ None → Holds d slots v → Holds d slots (after v e x)
+pub holds_quiet : (d e : ℕ) (slots : Slots) (v : Story) (x : Deed) → event_of (state v) x ≡ None → Holds d slots v → Holds d slots (after v e x)
 holds_quiet d e slots v x none holds =
     let same : state (after v e x) ≡ state v = ap (λ (o : Option (Event Nothing)). leads (opening v.extent) (added e o v.history)) none in
     holds_look d slots v (after v e x) (ap (λ (s : State). s.hands) same) (ap (λ (s : State). s.latest) same) holds

@@ -18,14 +18,14 @@ use Rattle.step_table.proofs.contained.Told.{alike_told, word_told}
 use Rattle.step_table.proofs.tables.Shown.{Found}
 
 module _ (v : Story) (c : Cell) (x : CellWord) (found : Found v c x) where
-  pub take_tells : ◌≡◌ {A = Option (Event Nothing)} (event_of v (OnCell (Take c x None))) (Some (load_of (state v) c))
+  pub take_tells : ◌≡◌ {A = Option (Event Nothing)} (event_of (state v) (OnCell (Take c x None))) (Some (load_of (state v) c))
   take_tells = ap (λ (h : Handle). Some (event.Load (cell_in (state v) c) h)) found.shows.holds
 
-  pub look_tells : ◌≡◌ {A = Option (Event Nothing)} (event_of v (OnCell (Look c x None))) (Some (load_of (state v) c))
+  pub look_tells : ◌≡◌ {A = Option (Event Nothing)} (event_of (state v) (OnCell (Look c x None))) (Some (load_of (state v) c))
   look_tells = ap (λ (h : Handle). Some (event.Load (cell_in (state v) c) h)) found.shows.holds
 
   pub swap_tells : (a : Slot) → is_of (kind_in (state v) c) a ≡ true
-      → ◌≡◌ {A = Option (Event Nothing)} (event_of v (OnCell (Swap c (as_word a) x))) (Some (swap_of (state v) c a))
+      → ◌≡◌ {A = Option (Event Nothing)} (event_of (state v) (OnCell (Swap c (as_word a) x))) (Some (swap_of (state v) c a))
   swap_tells a is =
       let s = state v in
       ap (λ (h : Handle). Some (event.Swap (cell_in s c) (handle_told s c (as_word a)) h)) found.shows.holds
@@ -54,16 +54,16 @@ module _ (v : Story) (c : Cell) (x : CellWord) (found : Found v c x) where
         ∙ ap (λ (r : Bool). Some (event.Compare n e w (held_in s c) r y.weak)) t
 
     pub compare_swap_tells : same_value x (as_word (value slots y.expected)) ≡ true
-        → ◌≡◌ {A = Option (Event Nothing)} (event_of v (OnCell (CompareSwap c x (compared_in slots y))))
+        → ◌≡◌ {A = Option (Event Nothing)} (event_of (state v) (OnCell (CompareSwap c x (compared_in slots y))))
         (Some (compare_of (state v) c (value slots y.expected) (value slots y.new) y.weak))
     compare_swap_tells same = compared true same
 
     pub differing_tells : same_value x (as_word (value slots y.expected)) ≡ false
-        → ◌≡◌ {A = Option (Event Nothing)} (event_of v (OnCell (Take c x (Some (compared_in slots y)))))
+        → ◌≡◌ {A = Option (Event Nothing)} (event_of (state v) (OnCell (Take c x (Some (compared_in slots y)))))
         (Some (compare_of (state v) c (value slots y.expected) (value slots y.new) y.weak))
     differing_tells same = compared false same
 
     pub unlike_tells : same_value x (as_word (value slots y.expected)) ≡ false
-        → ◌≡◌ {A = Option (Event Nothing)} (event_of v (OnCell (Look c x (Some (compared_in slots y)))))
+        → ◌≡◌ {A = Option (Event Nothing)} (event_of (state v) (OnCell (Look c x (Some (compared_in slots y)))))
         (Some (compare_of (state v) c (value slots y.expected) (value slots y.new) y.weak))
     unlike_tells same = compared false same

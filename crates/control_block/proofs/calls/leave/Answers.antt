@@ -28,12 +28,12 @@ leave-value-requires-clause-holds g c = λ _ _. (
 
 pub leave-value-requires-clause-word : goal.leave-value-requires-clause-word
 leave-value-requires-clause-word g c = λ _ _.
-    let d = c.desk.inside in let i = c.domain.invariant in let id = c.domain.inside.table.shared.table_id in
+    let d = c.desk.inside in let id = c.domain.inside.table.shared.table_id in
     let holds = holding_in c.desk.inside c.args.desk.now Owner g.A.About.place c.args.of.block.0 c.desk.invariant c.desk.view_is c.requires.holds in
     let table = (ap (λ z. z.domain) c.desk.view_is ∙ (c.requires.domain ∙ sym (ap (λ z. z.id) c.domain.view_is))) in
     let w = word_inside d id Owner _ g.A.About.place c.args.of.block.0 0 c.desk.invariant table holds (omega arith) in
     let s = slot_inside d id Owner _ g.A.About.place c.args.of.block.0 c.desk.invariant table holds in
-    let k = ap (λ y. y.blocks) i.told in (w.0, omega (arith, i.sized.slots), w.1)
+    (w.0, s, w.1)
 
 pub overflow_sub-desk : goal.overflow_sub-desk
 overflow_sub-desk g c =

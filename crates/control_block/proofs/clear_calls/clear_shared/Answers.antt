@@ -1,309 +1,129 @@
-use Rattle.std.proofs.Common.{◌≡◌, ℕ, ◌+◌, ◌-◌, cond, refl, sym, ap, subst, ◌∙◌, arith, None, length}
+use Rattle.std.proofs.Common.{◌≡◌, ℕ, ◌+◌, ◌<◌, cond, refl, sym, ap, subst, ◌∙◌, arith, length, eq-eqb, ne_eqb}
+use Rattle.std.proofs.lemmas.Bool.{cond-false}
 use Rattle.std.specs.Prelude.{is_some}
 use mir.Val.{bool_byte}
-use Rattle.control_word.specs.Handles.{empty}
-use Rattle.control_block.specs.CellCalls.{with_handle}
-use Rattle.control_word.specs.declared.event.Event.TheVariants.{ClearMember}
-use Rattle.control_word.specs.declared.handle.Kind.TheVariants.{Owner}
-use Rattle.control_block.specs.Clearing.{Lets, TakesOut}
+use Rattle.control_word.specs.declared.handle.Kind.TheVariants.{Owner, Weak}
+use Rattle.control_block.specs.Clearing.{Empties}
 use Rattle.control_block.specs.Desks.{DeskNow, EndsStill, IsEnding, IsSameDesk, bag_of, endings_of, member_in, stock_of}
-use Rattle.control_block.specs.Inside.{IsDeskWith, desk_now}
+use Rattle.control_block.specs.Inside.{desk_now}
 use Rattle.control_block.specs.Plays.{known}
 use Rattle.control_block.specs.declared.desk.Desk.TheInside.{Inside}
-use Rattle.control_block.proofs.CellDesks.{one}
-use Rattle.control_block.proofs.CellRounds.{came_object}
-use Rattle.control_block.proofs.CellTrades.{clear_trades}
-use Rattle.control_block.proofs.ClearDesks as clear
-use Rattle.control_block.proofs.ClearLeaves as leave
-use Rattle.control_block.proofs.DeskSteps.{slot_inside, word_inside}
+use Rattle.control_block.proofs.ClearDesks.{room_out}
+use Rattle.control_block.proofs.ClearGone as gone
 use Rattle.control_block.proofs.EndingCounts.{few_ending}
 use Rattle.control_block.proofs.OwnCounts.{byte_few}
 use Rattle.control_block.proofs.OwnEndings.{ends_in}
 use Rattle.control_block.proofs.StoreBlocks.{ending_word}
 use Rattle.control_block.proofs.clear_calls.clear_shared.Goals as goal
 
-pub clear-out-requires-clause-word : goal.clear-out-requires-clause-word
-clear-out-requires-clause-word g c =
-    let w = ending_word c.desk.inside c.domain.inside.table.shared.table_id c.args.block.0 (7 + c.args.member) c.desk.invariant (ap (λ z. z.domain) c.desk.view_is ∙ (c.requires.domain ∙ sym (ap (λ z. z.id) c.domain.view_is)))
+pub clear_shared-value-requires-clause-word : goal.clear_shared-value-requires-clause-word
+clear_shared-value-requires-clause-word g c = λ _ _.
+    let w = ending_word c.desk.inside c.domain.inside.table.shared.table_id c.args.block.0 (7 + c.args.member) c.desk.invariant
+    (ap (λ z. z.domain) c.desk.view_is ∙ (c.requires.domain ∙ sym (ap (λ z. z.id) c.domain.view_is)))
     (ends_in c.desk.inside c.args.desk.now c.args.block.0 c.requires.ending.0 c.desk.view_is c.requires.ending.1) (let lt = c.requires.member in omega arith) in
     (w.0, (let lt = c.requires.member in omega arith), refl, w.1)
 
-pub clear-out-requires-clause-ends : goal.clear-out-requires-clause-ends
-clear-out-requires-clause-ends g c = (ends_in c.desk.inside c.args.desk.now c.args.block.0 c.requires.ending.0 c.desk.view_is c.requires.ending.1)
+pub clear_shared-value-requires-clause-ends : goal.clear_shared-value-requires-clause-ends
+clear_shared-value-requires-clause-ends g c = λ _ _. ends_in c.desk.inside c.args.desk.now c.args.block.0 c.requires.ending.0 c.desk.view_is c.requires.ending.1
 
-pub clear-out-requires-clause-room : goal.clear-out-requires-clause-room
-clear-out-requires-clause-room g c = clear.room_out c.desk.inside c.args.block.0 c.desk.invariant (ends_in c.desk.inside c.args.desk.now c.args.block.0 c.requires.ending.0 c.desk.view_is c.requires.ending.1)
+pub clear_shared-value-requires-clause-room : goal.clear_shared-value-requires-clause-room
+clear_shared-value-requires-clause-room g c = λ _ _. room_out c.desk.inside c.args.block.0 c.desk.invariant
+    (ends_in c.desk.inside c.args.desk.now c.args.block.0 c.requires.ending.0 c.desk.view_is c.requires.ending.1)
 
-pub invariant_of-desk : goal.invariant_of-desk
-invariant_of-desk g c =
-    let d = c.desk.inside in let h = c.desk.invariant in let b = c.args.block.0 in let m = c.args.member in let x = c.clear-out.result in
-    let ends = ends_in d c.args.desk.now b c.requires.ending.0 c.desk.view_is c.requires.ending.1 in let n = c.clear-out.ensures in
-    let t : Inside g.row.V.Denot = record { seat = c.clear-out.new.chair; allowance = d.allowance; held = d.held; endings = d.endings; store = d.store } in
-    let few = ap one c.in_default.is in
-    clear.desk_out d h b m ends Owner t x n.cleared n.chair.0 0 n.chair.2.none refl refl refl (omega (arith, h.holding, few)) (omega (arith, h.within))
-
-pub returns-in_default-clause-emptied : goal.returns-in_default-clause-emptied
-returns-in_default-clause-emptied g c =
-    let d = c.desk.inside in let h = c.desk.invariant in let b = c.args.block.0 in let m = c.args.member in let x = c.clear-out.result in
-    let ends = ends_in d c.args.desk.now b c.requires.ending.0 c.desk.view_is c.requires.ending.1 in let n = c.clear-out.ensures in
-    let t : Inside g.row.V.Denot = record { seat = c.clear-out.new.chair; allowance = d.allowance; held = d.held + 1; endings = d.endings; store = d.store } in
-    let q : Inside g.row.V.Denot = record { seat = c.clear-out.new.chair; allowance = d.allowance; held = d.held; endings = d.endings; store = d.store } in
-    record {
-      between = desk_now t;
-      takes = subst (λ (z : DeskNow g.row.V.Denot). TakesOut z b m Owner x.owned x.place (desk_now t)) c.desk.view_is record { event = clear.adds_out d h b m ends Owner t x n.cleared n.chair.0; held = refl };
-      lets = subst (λ y. Lets (desk_now t) y x.place None (desk_now q)) (sym c.in_default.is) (refl, λ i. record (desk_now q) { held = back d.held i });
-    }
-  where
-    back : (k : ℕ) → k ≡ k + 1 - 1
-    back k = omega arith
-
-pub returns-in_default-clause-bag : goal.returns-in_default-clause-bag
-returns-in_default-clause-bag g c =
-    let d = c.desk.inside in let h = c.desk.invariant in let b = c.args.block.0 in let m = c.args.member in let x = c.clear-out.result in
-    let ends = ends_in d c.args.desk.now b c.requires.ending.0 c.desk.view_is c.requires.ending.1 in let n = c.clear-out.ensures in
-    let t : Inside g.row.V.Denot = record { seat = c.clear-out.new.chair; allowance = d.allowance; held = d.held; endings = d.endings; store = d.store } in
-    clear.bag_out d h b m ends Owner t x n.cleared n.chair.0 ∙ (ap (λ y. with_handle Owner y x.place (bag_of (desk_now d))) c.in_default.is ∙ ap bag_of c.desk.view_is)
-
-pub returns-in_default-clause-cleared : goal.returns-in_default-clause-cleared
-returns-in_default-clause-cleared g c =
-    let d = c.desk.inside in let h = c.desk.invariant in let b = c.args.block.0 in let m = c.args.member in let x = c.clear-out.result in
-    let ends = ends_in d c.args.desk.now b c.requires.ending.0 c.desk.view_is c.requires.ending.1 in let n = c.clear-out.ensures in
-    let t : Inside g.row.V.Denot = record { seat = c.clear-out.new.chair; allowance = d.allowance; held = d.held; endings = d.endings; store = d.store } in
-    clear.cleared_out d h b m ends Owner t x n.cleared n.chair.0 c.requires.ending.0 (subst (λ (z : DeskNow g.row.V.Denot). IsEnding z b c.requires.ending.0) (sym c.desk.view_is) c.requires.ending.1)
-
-pub returns-in_default-clause-kept : goal.returns-in_default-clause-kept
-returns-in_default-clause-kept g c =
-    let d = c.desk.inside in let h = c.desk.invariant in let b = c.args.block.0 in let m = c.args.member in let x = c.clear-out.result in
-    let ends = ends_in d c.args.desk.now b c.requires.ending.0 c.desk.view_is c.requires.ending.1 in let n = c.clear-out.ensures in
-    let t : Inside g.row.V.Denot = record { seat = c.clear-out.new.chair; allowance = d.allowance; held = d.held; endings = d.endings; store = d.store } in
-    λ q ne. clear.kept_out d h b m ends Owner t x n.cleared n.chair.0 c.requires.ending.0 (subst (λ (z : DeskNow g.row.V.Denot). IsEnding z b c.requires.ending.0) (sym c.desk.view_is)
-    c.requires.ending.1) q ne ∙ ap (λ (z : DeskNow g.row.V.Denot). member_in z b q) c.desk.view_is
-
-pub returns-in_default-clause-ending : goal.returns-in_default-clause-ending
-returns-in_default-clause-ending g c =
-    let d = c.desk.inside in let h = c.desk.invariant in let b = c.args.block.0 in let m = c.args.member in let x = c.clear-out.result in
-    let ends = ends_in d c.args.desk.now b c.requires.ending.0 c.desk.view_is c.requires.ending.1 in let n = c.clear-out.ensures in
-    let t : Inside g.row.V.Denot = record { seat = c.clear-out.new.chair; allowance = d.allowance; held = d.held; endings = d.endings; store = d.store } in
-    λ y was. clear.ends_out d h b m ends Owner t x n.cleared n.chair.0 y (subst (λ (z : DeskNow g.row.V.Denot). IsEnding z b y) (sym c.desk.view_is) was)
-
-pub returns-in_default-clause-endings : goal.returns-in_default-clause-endings
-returns-in_default-clause-endings g c =
-    let d = c.desk.inside in let h = c.desk.invariant in let b = c.args.block.0 in let m = c.args.member in let x = c.clear-out.result in
-    let ends = ends_in d c.args.desk.now b c.requires.ending.0 c.desk.view_is c.requires.ending.1 in let n = c.clear-out.ensures in
-    let t : Inside g.row.V.Denot = record { seat = c.clear-out.new.chair; allowance = d.allowance; held = d.held; endings = d.endings; store = d.store } in
-    λ r y ne was. subst (λ (z : DeskNow g.row.V.Denot). EndsStill z (desk_now t) r y) c.desk.view_is
-    (clear.others_out d h b m ends Owner t x n.cleared n.chair.0 r y ne (subst (λ (z : DeskNow g.row.V.Denot). IsEnding z r y) (sym c.desk.view_is) was))
-
-pub returns-in_default-clause-desk : goal.returns-in_default-clause-desk
-returns-in_default-clause-desk g c =
-    let d = c.desk.inside in let h = c.desk.invariant in let b = c.args.block.0 in let m = c.args.member in let x = c.clear-out.result in
-    let ends = ends_in d c.args.desk.now b c.requires.ending.0 c.desk.view_is c.requires.ending.1 in let n = c.clear-out.ensures in
-    let t : Inside g.row.V.Denot = record { seat = c.clear-out.new.chair; allowance = d.allowance; held = d.held; endings = d.endings; store = d.store } in
-    subst (λ (z : DeskNow g.row.V.Denot). IsSameDesk z (desk_now t)) c.desk.view_is (clear.same_out d h b m ends Owner t x n.cleared n.chair.0)
-
-pub returns-in_default-clause-stock : goal.returns-in_default-clause-stock
-returns-in_default-clause-stock g c =
-    let d = c.desk.inside in let h = c.desk.invariant in let b = c.args.block.0 in let m = c.args.member in let x = c.clear-out.result in
-    let ends = ends_in d c.args.desk.now b c.requires.ending.0 c.desk.view_is c.requires.ending.1 in let n = c.clear-out.ensures in
-    let t : Inside g.row.V.Denot = record { seat = c.clear-out.new.chair; allowance = d.allowance; held = d.held; endings = d.endings; store = d.store } in
-    clear.stock_out d h b m ends Owner t x n.cleared n.chair.0 ∙ ap (λ z. length (stock_of z)) c.desk.view_is
-
-pub returns-in_default-clause-count : goal.returns-in_default-clause-count
-returns-in_default-clause-count g c =
-    let d = c.desk.inside in let h = c.desk.invariant in let b = c.args.block.0 in let m = c.args.member in let x = c.clear-out.result in
-    let ends = ends_in d c.args.desk.now b c.requires.ending.0 c.desk.view_is c.requires.ending.1 in let n = c.clear-out.ensures in
-    let t : Inside g.row.V.Denot = record { seat = c.clear-out.new.chair; allowance = d.allowance; held = d.held; endings = d.endings; store = d.store } in
-    let e = clear.count_out d h b m ends Owner t x n.cleared n.chair.0 in let y = ap endings_of c.desk.view_is in omega arith
-
-pub leave_out-value-requires-clause-word : goal.leave_out-value-requires-clause-word
-leave_out-value-requires-clause-word g c = λ _ _.
-    let d = c.desk.inside in let h = c.desk.invariant in let b = c.args.block.0 in let m = c.args.member in let x = c.clear-out.result in
-    let ends = ends_in d c.args.desk.now b c.requires.ending.0 c.desk.view_is c.requires.ending.1 in let n = c.clear-out.ensures in
-    let t : Inside g.row.V.Denot = record { seat = c.clear-out.new.chair; allowance = d.allowance; held = d.held + 1; endings = d.endings; store = d.store } in
-    let p = x.place in let a = c.in-Some.held in let w = c.clear-out.new.chair.me.0 in
-    let few = ap one c.in-Some.is in
-    let mid : IsDeskWith 1 t = clear.desk_out d h b m ends Owner t x n.cleared n.chair.0 1 n.chair.2.none refl refl refl (omega (arith, h.holding, few)) (omega (arith, h.within)) in
-    let holds = (came_object (λ y. ClearMember (clear.o d h b m ends Owner t x n.cleared n.chair.0) m y) Owner d.seat.me.0 w x (empty Owner) a
-    (clear_trades g.row.V.Denot (clear.o d h b m ends Owner t x n.cleared n.chair.0) m Owner) n.cleared c.in-Some.is).1 in
-    let id = c.domain.inside.table.shared.table_id in let table = n.chair.0 ∙ (ap (λ z. z.domain) c.desk.view_is ∙ (c.requires.domain ∙ sym (ap (λ z. z.id) c.domain.view_is))) in
-    let i = c.domain.invariant in let k = ap (λ y. y.blocks) i.told in
-    let q = word_inside t id Owner _ p a.0 0 mid table holds (omega arith) in let s = slot_inside t id Owner _ p a.0 mid table holds in
-    (q.0, omega (arith, i.sized.slots), q.1)
-
-pub leave_out-value-requires-clause-holds : goal.leave_out-value-requires-clause-holds
-leave_out-value-requires-clause-holds g c = λ _ _.
-    let d = c.desk.inside in let h = c.desk.invariant in let b = c.args.block.0 in let m = c.args.member in let x = c.clear-out.result in
-    let ends = ends_in d c.args.desk.now b c.requires.ending.0 c.desk.view_is c.requires.ending.1 in let n = c.clear-out.ensures in
-    let t : Inside g.row.V.Denot = record { seat = c.clear-out.new.chair; allowance = d.allowance; held = d.held + 1; endings = d.endings; store = d.store } in
-    let p = x.place in let a = c.in-Some.held in let w = c.clear-out.new.chair.me.0 in
-    let few = ap one c.in-Some.is in
-    let mid : IsDeskWith 1 t = clear.desk_out d h b m ends Owner t x n.cleared n.chair.0 1 n.chair.2.none refl refl refl (omega (arith, h.holding, few)) (omega (arith, h.within)) in
-    let holds = (came_object (λ y. ClearMember (clear.o d h b m ends Owner t x n.cleared n.chair.0) m y) Owner d.seat.me.0 w x (empty Owner) a
-    (clear_trades g.row.V.Denot (clear.o d h b m ends Owner t x n.cleared n.chair.0) m Owner) n.cleared c.in-Some.is).1 in
-    (refl, holds)
+pub clear_shared-value-requires-clause-kind : goal.clear_shared-value-requires-clause-kind
+clear_shared-value-requires-clause-kind g c = λ _ _. let lt = c.requires.member in cond-false _ Weak Owner (ne_eqb c.args.member 2 (λ e. omega arith))
 
 pub overflow_add-desk : goal.overflow_add-desk
 overflow_add-desk g c =
     let d = c.desk.inside in let h = c.desk.invariant in let v = d.seat.me.0 in let few = few_ending v.shape.blocks (known v) v.view.name in
     let most = h.limits.blocks in let one = byte_few c.is_some.result in omega (arith, h.ended, c.from.ensures)
 
-pub invariant_of-desk-2 : goal.invariant_of-desk-2
-invariant_of-desk-2 g c =
-    let d = c.desk.inside in let h = c.desk.invariant in let b = c.args.block.0 in let m = c.args.member in let x = c.clear-out.result in
-    let ends = ends_in d c.args.desk.now b c.requires.ending.0 c.desk.view_is c.requires.ending.1 in let n = c.clear-out.ensures in
-    let t : Inside g.row.V.Denot = record { seat = c.clear-out.new.chair; allowance = d.allowance; held = d.held + 1; endings = d.endings; store = d.store } in
-    let p = x.place in let a = c.in-Some.held in let w = c.clear-out.new.chair.me.0 in
-    let few = ap one c.in-Some.is in
-    let mid : IsDeskWith 1 t = clear.desk_out d h b m ends Owner t x n.cleared n.chair.0 1 n.chair.2.none refl refl refl (omega (arith, h.holding, few)) (omega (arith, h.within)) in
-    let holds = (came_object (λ y. ClearMember (clear.o d h b m ends Owner t x n.cleared n.chair.0) m y) Owner d.seat.me.0 w x (empty Owner) a
-    (clear_trades g.row.V.Denot (clear.o d h b m ends Owner t x n.cleared n.chair.0) m Owner) n.cleared c.in-Some.is).1 in
-    let l = c.leave_out-value.ensures in let r = c.leave_out-value.result in
-    let f : Inside g.row.V.Denot = record { seat = c.leave_out-value.new.chair; allowance = d.allowance; held = d.held; endings = d.endings + c.from.result; store = d.store } in
-    leave.desk_left t f mid a p r l.event holds l.chair.0 l.chair.2 refl refl c.from.result (c.from.ensures ∙ ap bool_byte c.is_some.ensures) refl refl
-    (clear.one_ends d h b m ends Owner t x n.cleared n.chair.0)
+pub invariant_of-desk : goal.invariant_of-desk
+invariant_of-desk g c =
+    let d = c.desk.inside in let h = c.desk.invariant in let b = c.args.block.0 in let m = c.args.member in
+    let n = c.clear_shared-value.ensures in let x = c.clear_shared-value.result.0 in let r = c.clear_shared-value.result.1 in
+    let ends = ends_in d c.args.desk.now b c.requires.ending.0 c.desk.view_is c.requires.ending.1 in
+    let f : Inside g.row.V.Denot = record { seat = c.clear_shared-value.new.chair; allowance = d.allowance; held = d.held; endings = d.endings + c.from.result; store = d.store } in
+    gone.desk_is d f h b m ends x r n.cleared n.chair.0 refl n.chair.2.none refl refl c.from.result (c.from.ensures ∙ ap bool_byte c.is_some.ensures) refl
 
 pub returns-clause-emptied : goal.returns-clause-emptied
 returns-clause-emptied g c =
-    let d = c.desk.inside in let h = c.desk.invariant in let b = c.args.block.0 in let m = c.args.member in let x = c.clear-out.result in
-    let ends = ends_in d c.args.desk.now b c.requires.ending.0 c.desk.view_is c.requires.ending.1 in let n = c.clear-out.ensures in
-    let t : Inside g.row.V.Denot = record { seat = c.clear-out.new.chair; allowance = d.allowance; held = d.held + 1; endings = d.endings; store = d.store } in
-    let p = x.place in let a = c.in-Some.held in let w = c.clear-out.new.chair.me.0 in
-    let few = ap one c.in-Some.is in
-    let mid : IsDeskWith 1 t = clear.desk_out d h b m ends Owner t x n.cleared n.chair.0 1 n.chair.2.none refl refl refl (omega (arith, h.holding, few)) (omega (arith, h.within)) in
-    let holds = (came_object (λ y. ClearMember (clear.o d h b m ends Owner t x n.cleared n.chair.0) m y) Owner d.seat.me.0 w x (empty Owner) a
-    (clear_trades g.row.V.Denot (clear.o d h b m ends Owner t x n.cleared n.chair.0) m Owner) n.cleared c.in-Some.is).1 in
-    let l = c.leave_out-value.ensures in let r = c.leave_out-value.result in
-    let f : Inside g.row.V.Denot = record { seat = c.leave_out-value.new.chair; allowance = d.allowance; held = d.held; endings = d.endings + c.from.result; store = d.store } in
-    record {
-      between = desk_now t;
-      takes = subst (λ (z : DeskNow g.row.V.Denot). TakesOut z b m Owner x.owned p (desk_now t)) c.desk.view_is record { event = clear.adds_out d h b m ends Owner t x n.cleared n.chair.0; held = refl };
-      lets = subst (λ y. Lets (desk_now t) y p r (desk_now f)) (sym c.in-Some.is) (leave.adds_left t f mid a p r l.event holds l.chair.0, leave.ended_left t f mid a p r l.event holds l.chair.0 l.value);
-    }
+    let d = c.desk.inside in let h = c.desk.invariant in let b = c.args.block.0 in let m = c.args.member in
+    let n = c.clear_shared-value.ensures in let x = c.clear_shared-value.result.0 in let r = c.clear_shared-value.result.1 in
+    let ends = ends_in d c.args.desk.now b c.requires.ending.0 c.desk.view_is c.requires.ending.1 in
+    let f : Inside g.row.V.Denot = record { seat = c.clear_shared-value.new.chair; allowance = d.allowance; held = d.held; endings = d.endings + c.from.result; store = d.store } in
+    subst (λ (z : DeskNow g.row.V.Denot). Empties z b m x.owned x.place r (desk_now f)) c.desk.view_is (gone.empties d f h b m ends x r n.cleared n.chair.0 refl)
 
 pub returns-clause-bag : goal.returns-clause-bag
 returns-clause-bag g c =
-    let d = c.desk.inside in let h = c.desk.invariant in let b = c.args.block.0 in let m = c.args.member in let x = c.clear-out.result in
-    let ends = ends_in d c.args.desk.now b c.requires.ending.0 c.desk.view_is c.requires.ending.1 in let n = c.clear-out.ensures in
-    let t : Inside g.row.V.Denot = record { seat = c.clear-out.new.chair; allowance = d.allowance; held = d.held + 1; endings = d.endings; store = d.store } in
-    let p = x.place in let a = c.in-Some.held in let w = c.clear-out.new.chair.me.0 in
-    let few = ap one c.in-Some.is in
-    let mid : IsDeskWith 1 t = clear.desk_out d h b m ends Owner t x n.cleared n.chair.0 1 n.chair.2.none refl refl refl (omega (arith, h.holding, few)) (omega (arith, h.within)) in
-    let holds = (came_object (λ y. ClearMember (clear.o d h b m ends Owner t x n.cleared n.chair.0) m y) Owner d.seat.me.0 w x (empty Owner) a
-    (clear_trades g.row.V.Denot (clear.o d h b m ends Owner t x n.cleared n.chair.0) m Owner) n.cleared c.in-Some.is).1 in
-    let l = c.leave_out-value.ensures in let r = c.leave_out-value.result in
-    let f : Inside g.row.V.Denot = record { seat = c.leave_out-value.new.chair; allowance = d.allowance; held = d.held; endings = d.endings + c.from.result; store = d.store } in
-    leave.bag_left t f mid a p r l.event holds l.chair.0 x.owned (bag_of (desk_now d)) c.in-Some.is (clear.bag_out d h b m ends Owner t x n.cleared n.chair.0) ∙ ap bag_of c.desk.view_is
+    let d = c.desk.inside in let h = c.desk.invariant in let b = c.args.block.0 in let m = c.args.member in
+    let n = c.clear_shared-value.ensures in let x = c.clear_shared-value.result.0 in let r = c.clear_shared-value.result.1 in
+    let ends = ends_in d c.args.desk.now b c.requires.ending.0 c.desk.view_is c.requires.ending.1 in
+    let f : Inside g.row.V.Denot = record { seat = c.clear_shared-value.new.chair; allowance = d.allowance; held = d.held; endings = d.endings + c.from.result; store = d.store } in
+    gone.bag_is d f h b m ends x r n.cleared n.chair.0 refl ∙ ap bag_of c.desk.view_is
 
 pub returns-clause-cleared : goal.returns-clause-cleared
 returns-clause-cleared g c =
-    let d = c.desk.inside in let h = c.desk.invariant in let b = c.args.block.0 in let m = c.args.member in let x = c.clear-out.result in
-    let ends = ends_in d c.args.desk.now b c.requires.ending.0 c.desk.view_is c.requires.ending.1 in let n = c.clear-out.ensures in
-    let t : Inside g.row.V.Denot = record { seat = c.clear-out.new.chair; allowance = d.allowance; held = d.held + 1; endings = d.endings; store = d.store } in
-    let p = x.place in let a = c.in-Some.held in let w = c.clear-out.new.chair.me.0 in
-    let few = ap one c.in-Some.is in
-    let mid : IsDeskWith 1 t = clear.desk_out d h b m ends Owner t x n.cleared n.chair.0 1 n.chair.2.none refl refl refl (omega (arith, h.holding, few)) (omega (arith, h.within)) in
-    let holds = (came_object (λ y. ClearMember (clear.o d h b m ends Owner t x n.cleared n.chair.0) m y) Owner d.seat.me.0 w x (empty Owner) a
-    (clear_trades g.row.V.Denot (clear.o d h b m ends Owner t x n.cleared n.chair.0) m Owner) n.cleared c.in-Some.is).1 in
-    let l = c.leave_out-value.ensures in let r = c.leave_out-value.result in
-    let f : Inside g.row.V.Denot = record { seat = c.leave_out-value.new.chair; allowance = d.allowance; held = d.held; endings = d.endings + c.from.result; store = d.store } in
-    let e = clear.ends_out d h b m ends Owner t x n.cleared n.chair.0 c.requires.ending.0 (subst (λ (z : DeskNow g.row.V.Denot). IsEnding z b c.requires.ending.0) (sym c.desk.view_is)
-    c.requires.ending.1) in let s = leave.still_left t f mid a p r l.event holds l.chair.0 b c.requires.ending.0 e in
-    s.members m ∙ clear.cleared_out d h b m ends Owner t x n.cleared n.chair.0 c.requires.ending.0 (subst (λ (z : DeskNow g.row.V.Denot). IsEnding z b c.requires.ending.0) (sym c.desk.view_is) c.requires.ending.1)
+    let d = c.desk.inside in let h = c.desk.invariant in let b = c.args.block.0 in let m = c.args.member in
+    let n = c.clear_shared-value.ensures in let x = c.clear_shared-value.result.0 in let r = c.clear_shared-value.result.1 in
+    let ends = ends_in d c.args.desk.now b c.requires.ending.0 c.desk.view_is c.requires.ending.1 in
+    let f : Inside g.row.V.Denot = record { seat = c.clear_shared-value.new.chair; allowance = d.allowance; held = d.held; endings = d.endings + c.from.result; store = d.store } in
+    gone.cleared_is d f h b m ends x r n.cleared n.chair.0 refl c.requires.ending.0 (subst (λ (z : DeskNow g.row.V.Denot). IsEnding z b c.requires.ending.0) (sym c.desk.view_is) c.requires.ending.1)
 
 pub returns-clause-kept : goal.returns-clause-kept
 returns-clause-kept g c =
-    let d = c.desk.inside in let h = c.desk.invariant in let b = c.args.block.0 in let m = c.args.member in let x = c.clear-out.result in
-    let ends = ends_in d c.args.desk.now b c.requires.ending.0 c.desk.view_is c.requires.ending.1 in let n = c.clear-out.ensures in
-    let t : Inside g.row.V.Denot = record { seat = c.clear-out.new.chair; allowance = d.allowance; held = d.held + 1; endings = d.endings; store = d.store } in
-    let p = x.place in let a = c.in-Some.held in let w = c.clear-out.new.chair.me.0 in
-    let few = ap one c.in-Some.is in
-    let mid : IsDeskWith 1 t = clear.desk_out d h b m ends Owner t x n.cleared n.chair.0 1 n.chair.2.none refl refl refl (omega (arith, h.holding, few)) (omega (arith, h.within)) in
-    let holds = (came_object (λ y. ClearMember (clear.o d h b m ends Owner t x n.cleared n.chair.0) m y) Owner d.seat.me.0 w x (empty Owner) a
-    (clear_trades g.row.V.Denot (clear.o d h b m ends Owner t x n.cleared n.chair.0) m Owner) n.cleared c.in-Some.is).1 in
-    let l = c.leave_out-value.ensures in let r = c.leave_out-value.result in
-    let f : Inside g.row.V.Denot = record { seat = c.leave_out-value.new.chair; allowance = d.allowance; held = d.held; endings = d.endings + c.from.result; store = d.store } in
-    λ q ne. let e = clear.ends_out d h b m ends Owner t x n.cleared n.chair.0 c.requires.ending.0
-    (subst (λ (z : DeskNow g.row.V.Denot). IsEnding z b c.requires.ending.0) (sym c.desk.view_is) c.requires.ending.1) in let s = leave.still_left t f mid a p r l.event holds l.chair.0 b c.requires.ending.0 e in
-    s.members q ∙ (clear.kept_out d h b m ends Owner t x n.cleared n.chair.0 c.requires.ending.0
-    (subst (λ (z : DeskNow g.row.V.Denot). IsEnding z b c.requires.ending.0) (sym c.desk.view_is) c.requires.ending.1) q ne ∙ ap (λ (z : DeskNow g.row.V.Denot). member_in z b q) c.desk.view_is)
+    let d = c.desk.inside in let h = c.desk.invariant in let b = c.args.block.0 in let m = c.args.member in
+    let n = c.clear_shared-value.ensures in let x = c.clear_shared-value.result.0 in let r = c.clear_shared-value.result.1 in
+    let ends = ends_in d c.args.desk.now b c.requires.ending.0 c.desk.view_is c.requires.ending.1 in
+    let f : Inside g.row.V.Denot = record { seat = c.clear_shared-value.new.chair; allowance = d.allowance; held = d.held; endings = d.endings + c.from.result; store = d.store } in
+    λ q ne. gone.kept_is d f h b m ends x r n.cleared n.chair.0 refl c.requires.ending.0 (subst (λ (z : DeskNow g.row.V.Denot). IsEnding z b c.requires.ending.0) (sym c.desk.view_is) c.requires.ending.1) q ne
+    ∙ ap (λ (z : DeskNow g.row.V.Denot). member_in z b q) c.desk.view_is
 
 pub returns-clause-ending : goal.returns-clause-ending
 returns-clause-ending g c =
-    let d = c.desk.inside in let h = c.desk.invariant in let b = c.args.block.0 in let m = c.args.member in let x = c.clear-out.result in
-    let ends = ends_in d c.args.desk.now b c.requires.ending.0 c.desk.view_is c.requires.ending.1 in let n = c.clear-out.ensures in
-    let t : Inside g.row.V.Denot = record { seat = c.clear-out.new.chair; allowance = d.allowance; held = d.held + 1; endings = d.endings; store = d.store } in
-    let p = x.place in let a = c.in-Some.held in let w = c.clear-out.new.chair.me.0 in
-    let few = ap one c.in-Some.is in
-    let mid : IsDeskWith 1 t = clear.desk_out d h b m ends Owner t x n.cleared n.chair.0 1 n.chair.2.none refl refl refl (omega (arith, h.holding, few)) (omega (arith, h.within)) in
-    let holds = (came_object (λ y. ClearMember (clear.o d h b m ends Owner t x n.cleared n.chair.0) m y) Owner d.seat.me.0 w x (empty Owner) a
-    (clear_trades g.row.V.Denot (clear.o d h b m ends Owner t x n.cleared n.chair.0) m Owner) n.cleared c.in-Some.is).1 in
-    let l = c.leave_out-value.ensures in let r = c.leave_out-value.result in
-    let f : Inside g.row.V.Denot = record { seat = c.leave_out-value.new.chair; allowance = d.allowance; held = d.held; endings = d.endings + c.from.result; store = d.store } in
-    λ y was. (leave.still_left t f mid a p r l.event holds l.chair.0 b y (clear.ends_out d h b m ends Owner t x n.cleared n.chair.0 y (subst (λ (z : DeskNow g.row.V.Denot). IsEnding z b y) (sym c.desk.view_is) was))).ends
+    let d = c.desk.inside in let h = c.desk.invariant in let b = c.args.block.0 in let m = c.args.member in
+    let n = c.clear_shared-value.ensures in let x = c.clear_shared-value.result.0 in let r = c.clear_shared-value.result.1 in
+    let ends = ends_in d c.args.desk.now b c.requires.ending.0 c.desk.view_is c.requires.ending.1 in
+    let f : Inside g.row.V.Denot = record { seat = c.clear_shared-value.new.chair; allowance = d.allowance; held = d.held; endings = d.endings + c.from.result; store = d.store } in
+    λ y was. gone.ends_is d f h b m ends x r n.cleared n.chair.0 refl y (subst (λ (z : DeskNow g.row.V.Denot). IsEnding z b y) (sym c.desk.view_is) was)
 
 pub returns-clause-endings : goal.returns-clause-endings
 returns-clause-endings g c =
-    let d = c.desk.inside in let h = c.desk.invariant in let b = c.args.block.0 in let m = c.args.member in let x = c.clear-out.result in
-    let ends = ends_in d c.args.desk.now b c.requires.ending.0 c.desk.view_is c.requires.ending.1 in let n = c.clear-out.ensures in
-    let t : Inside g.row.V.Denot = record { seat = c.clear-out.new.chair; allowance = d.allowance; held = d.held + 1; endings = d.endings; store = d.store } in
-    let p = x.place in let a = c.in-Some.held in let w = c.clear-out.new.chair.me.0 in
-    let few = ap one c.in-Some.is in
-    let mid : IsDeskWith 1 t = clear.desk_out d h b m ends Owner t x n.cleared n.chair.0 1 n.chair.2.none refl refl refl (omega (arith, h.holding, few)) (omega (arith, h.within)) in
-    let holds = (came_object (λ y. ClearMember (clear.o d h b m ends Owner t x n.cleared n.chair.0) m y) Owner d.seat.me.0 w x (empty Owner) a
-    (clear_trades g.row.V.Denot (clear.o d h b m ends Owner t x n.cleared n.chair.0) m Owner) n.cleared c.in-Some.is).1 in
-    let l = c.leave_out-value.ensures in let r = c.leave_out-value.result in
-    let f : Inside g.row.V.Denot = record { seat = c.leave_out-value.new.chair; allowance = d.allowance; held = d.held; endings = d.endings + c.from.result; store = d.store } in
+    let d = c.desk.inside in let h = c.desk.invariant in let b = c.args.block.0 in let m = c.args.member in
+    let n = c.clear_shared-value.ensures in let x = c.clear_shared-value.result.0 in let r = c.clear_shared-value.result.1 in
+    let ends = ends_in d c.args.desk.now b c.requires.ending.0 c.desk.view_is c.requires.ending.1 in
+    let f : Inside g.row.V.Denot = record { seat = c.clear_shared-value.new.chair; allowance = d.allowance; held = d.held; endings = d.endings + c.from.result; store = d.store } in
     λ i y ne was. subst (λ (z : DeskNow g.row.V.Denot). EndsStill z (desk_now f) i y) c.desk.view_is
-    (let s = clear.others_out d h b m ends Owner t x n.cleared n.chair.0 i y ne (subst (λ (z : DeskNow g.row.V.Denot). IsEnding z i y) (sym c.desk.view_is) was) in
-    let u = leave.still_left t f mid a p r l.event holds l.chair.0 i y s.ends in record { ends = u.ends; members = λ q. u.members q ∙ s.members q })
+    (gone.others_are d f h b m ends x r n.cleared n.chair.0 refl i y ne (subst (λ (z : DeskNow g.row.V.Denot). IsEnding z i y) (sym c.desk.view_is) was))
 
 pub returns-clause-desk : goal.returns-clause-desk
 returns-clause-desk g c =
-    let d = c.desk.inside in let h = c.desk.invariant in let b = c.args.block.0 in let m = c.args.member in let x = c.clear-out.result in
-    let ends = ends_in d c.args.desk.now b c.requires.ending.0 c.desk.view_is c.requires.ending.1 in let n = c.clear-out.ensures in
-    let t : Inside g.row.V.Denot = record { seat = c.clear-out.new.chair; allowance = d.allowance; held = d.held + 1; endings = d.endings; store = d.store } in
-    let p = x.place in let a = c.in-Some.held in let w = c.clear-out.new.chair.me.0 in
-    let few = ap one c.in-Some.is in
-    let mid : IsDeskWith 1 t = clear.desk_out d h b m ends Owner t x n.cleared n.chair.0 1 n.chair.2.none refl refl refl (omega (arith, h.holding, few)) (omega (arith, h.within)) in
-    let holds = (came_object (λ y. ClearMember (clear.o d h b m ends Owner t x n.cleared n.chair.0) m y) Owner d.seat.me.0 w x (empty Owner) a
-    (clear_trades g.row.V.Denot (clear.o d h b m ends Owner t x n.cleared n.chair.0) m Owner) n.cleared c.in-Some.is).1 in
-    let l = c.leave_out-value.ensures in let r = c.leave_out-value.result in
-    let f : Inside g.row.V.Denot = record { seat = c.leave_out-value.new.chair; allowance = d.allowance; held = d.held; endings = d.endings + c.from.result; store = d.store } in
-    subst (λ (z : DeskNow g.row.V.Denot). IsSameDesk z (desk_now f)) c.desk.view_is
-    (let s = clear.same_out d h b m ends Owner t x n.cleared n.chair.0 in let u = leave.same_left t f mid a p r l.event holds l.chair.0 in
-    record { domain = u.domain ∙ s.domain; shape = u.shape ∙ s.shape; name = u.name ∙ s.name; allowance = u.allowance ∙ s.allowance })
+    let d = c.desk.inside in let h = c.desk.invariant in let b = c.args.block.0 in let m = c.args.member in
+    let n = c.clear_shared-value.ensures in let x = c.clear_shared-value.result.0 in let r = c.clear_shared-value.result.1 in
+    let ends = ends_in d c.args.desk.now b c.requires.ending.0 c.desk.view_is c.requires.ending.1 in
+    let f : Inside g.row.V.Denot = record { seat = c.clear_shared-value.new.chair; allowance = d.allowance; held = d.held; endings = d.endings + c.from.result; store = d.store } in
+    subst (λ (z : DeskNow g.row.V.Denot). IsSameDesk z (desk_now f)) c.desk.view_is (gone.same_is d f h b m ends x r n.cleared n.chair.0 refl)
 
 pub returns-clause-stock : goal.returns-clause-stock
 returns-clause-stock g c =
-    let d = c.desk.inside in let h = c.desk.invariant in let b = c.args.block.0 in let m = c.args.member in let x = c.clear-out.result in
-    let ends = ends_in d c.args.desk.now b c.requires.ending.0 c.desk.view_is c.requires.ending.1 in let n = c.clear-out.ensures in
-    let t : Inside g.row.V.Denot = record { seat = c.clear-out.new.chair; allowance = d.allowance; held = d.held + 1; endings = d.endings; store = d.store } in
-    let p = x.place in let a = c.in-Some.held in let w = c.clear-out.new.chair.me.0 in
-    let few = ap one c.in-Some.is in
-    let mid : IsDeskWith 1 t = clear.desk_out d h b m ends Owner t x n.cleared n.chair.0 1 n.chair.2.none refl refl refl (omega (arith, h.holding, few)) (omega (arith, h.within)) in
-    let holds = (came_object (λ y. ClearMember (clear.o d h b m ends Owner t x n.cleared n.chair.0) m y) Owner d.seat.me.0 w x (empty Owner) a
-    (clear_trades g.row.V.Denot (clear.o d h b m ends Owner t x n.cleared n.chair.0) m Owner) n.cleared c.in-Some.is).1 in
-    let l = c.leave_out-value.ensures in let r = c.leave_out-value.result in
-    let f : Inside g.row.V.Denot = record { seat = c.leave_out-value.new.chair; allowance = d.allowance; held = d.held; endings = d.endings + c.from.result; store = d.store } in
-    leave.stock_gone t f mid a p r l.event holds l.chair.0 ∙ (clear.stock_out d h b m ends Owner t x n.cleared n.chair.0 ∙ ap (λ z. length (stock_of z)) c.desk.view_is)
+    let d = c.desk.inside in let h = c.desk.invariant in let b = c.args.block.0 in let m = c.args.member in
+    let n = c.clear_shared-value.ensures in let x = c.clear_shared-value.result.0 in let r = c.clear_shared-value.result.1 in
+    let ends = ends_in d c.args.desk.now b c.requires.ending.0 c.desk.view_is c.requires.ending.1 in
+    let f : Inside g.row.V.Denot = record { seat = c.clear_shared-value.new.chair; allowance = d.allowance; held = d.held; endings = d.endings + c.from.result; store = d.store } in
+    gone.stock_is d f h b m ends x r n.cleared n.chair.0 refl ∙ ap (λ z. length (stock_of z)) c.desk.view_is
 
 pub returns-clause-count : goal.returns-clause-count
 returns-clause-count g c =
-    let d = c.desk.inside in let h = c.desk.invariant in let b = c.args.block.0 in let m = c.args.member in let x = c.clear-out.result in
-    let ends = ends_in d c.args.desk.now b c.requires.ending.0 c.desk.view_is c.requires.ending.1 in let n = c.clear-out.ensures in
-    let t : Inside g.row.V.Denot = record { seat = c.clear-out.new.chair; allowance = d.allowance; held = d.held + 1; endings = d.endings; store = d.store } in
-    let p = x.place in let a = c.in-Some.held in let w = c.clear-out.new.chair.me.0 in
-    let few = ap one c.in-Some.is in
-    let mid : IsDeskWith 1 t = clear.desk_out d h b m ends Owner t x n.cleared n.chair.0 1 n.chair.2.none refl refl refl (omega (arith, h.holding, few)) (omega (arith, h.within)) in
-    let holds = (came_object (λ y. ClearMember (clear.o d h b m ends Owner t x n.cleared n.chair.0) m y) Owner d.seat.me.0 w x (empty Owner) a
-    (clear_trades g.row.V.Denot (clear.o d h b m ends Owner t x n.cleared n.chair.0) m Owner) n.cleared c.in-Some.is).1 in
-    let l = c.leave_out-value.ensures in let r = c.leave_out-value.result in
-    let f : Inside g.row.V.Denot = record { seat = c.leave_out-value.new.chair; allowance = d.allowance; held = d.held; endings = d.endings + c.from.result; store = d.store } in
-    leave.count_left t f mid a p r l.event holds l.chair.0 ∙ ap (λ k. k + cond (is_some r) 1 0) (clear.count_out d h b m ends Owner t x n.cleared n.chair.0 ∙ ap endings_of c.desk.view_is)
+    let d = c.desk.inside in let h = c.desk.invariant in let b = c.args.block.0 in let m = c.args.member in
+    let n = c.clear_shared-value.ensures in let x = c.clear_shared-value.result.0 in let r = c.clear_shared-value.result.1 in
+    let ends = ends_in d c.args.desk.now b c.requires.ending.0 c.desk.view_is c.requires.ending.1 in
+    let f : Inside g.row.V.Denot = record { seat = c.clear_shared-value.new.chair; allowance = d.allowance; held = d.held; endings = d.endings + c.from.result; store = d.store } in
+    gone.count_is d f h b m ends x r n.cleared n.chair.0 refl ∙ ap (λ z. endings_of z + cond (is_some r) 1 0) c.desk.view_is
 
 pub invariant_of-content : goal.invariant_of-content
 invariant_of-content g c =
-    let d = c.desk.inside in let h = c.desk.invariant in let b = c.args.block.0 in let m = c.args.member in let x = c.clear-out.result in
-    let ends = ends_in d c.args.desk.now b c.requires.ending.0 c.desk.view_is c.requires.ending.1 in let n = c.clear-out.ensures in
-    let t : Inside g.row.V.Denot = record { seat = c.clear-out.new.chair; allowance = d.allowance; held = d.held; endings = d.endings; store = d.store } in
-    record { proper = clear.proper_out d h b m ends Owner t x n.cleared n.chair.0 }
+    let d = c.desk.inside in let h = c.desk.invariant in let b = c.args.block.0 in let m = c.args.member in
+    let n = c.clear_shared-value.ensures in let x = c.clear_shared-value.result.0 in let r = c.clear_shared-value.result.1 in
+    let ends = ends_in d c.args.desk.now b c.requires.ending.0 c.desk.view_is c.requires.ending.1 in
+    let f : Inside g.row.V.Denot = record { seat = c.clear_shared-value.new.chair; allowance = d.allowance; held = d.held; endings = d.endings + c.from.result; store = d.store } in
+    record { proper = gone.proper_is d f h b m ends x r n.cleared n.chair.0 refl }

@@ -1,8 +1,10 @@
-use Rattle.std.proofs.Common.{◌<◌, length, set, ap, subst, arith}
+use Rattle.std.proofs.Common.{◌≡◌, ◌<◌, length, set, ap, subst, arith}
 use Rattle.std.proofs.lemmas.List.{length-map, length-set}
+use Rattle.step_core.specs.Sights.{Sight}
 use Rattle.step_core.specs.Turning.{HasBegun}
-use Rattle.step_core.specs.Worlds.{Sight, Steps, thread_walk}
+use Rattle.step_core.specs.Worlds.{Advances, AllFit, Steps, thread_walk}
 use Rattle.step_core.proofs.Worlds.{all_fit, has_begun, sight, steps, thread_at}
+use Rattle.step_core.proofs.runs.Taking.{advances, all_hold}
 use Rattle.step_core.proofs.telling.Worlds.{never_now, told_now}
 use Rattle.step_core.proofs.world.World.advance.Goals as goal
 
@@ -13,7 +15,8 @@ step-stepped-requires c =
     let lt : c.args.number < length c.self.inside.threads.items = omega (arith, l, m, c.requires) in
     record {
       fits = c.self.invariant.0.each c.args.number c.index_mut-thread.result.now
-          (thread_at c.self.inside.threads.items c.args.number c.index_mut-thread.result.now lt c.index_mut-thread.ensures.value);
+          (thread_at c.self.inside.threads.items c.args.number c.index_mut-thread.result.now lt
+          c.index_mut-thread.ensures.value);
     }
 
 pub invariant_of-self : goal.invariant_of-self
@@ -21,56 +24,90 @@ invariant_of-self c =
     let l = ap (λ (u : Sight). length u.walks) c.self.view_is in
     let m = length-map c.self.inside.threads.items thread_walk in
     let lt : c.args.number < length c.self.inside.threads.items = omega (arith, l, m, c.requires) in (
-      all_fit c.self.inside.table c.step-stepped.new.table c.self.inside.threads.items c.args.number c.index_mut-thread.result.now c.step-stepped.new.self
-          c.step-stepped.result c.known.ensures c.known-2.ensures c.self.invariant.0 lt c.step-stepped.ensures.stepped c.step-stepped.ensures.fits,
-      told_now c.self.inside.table c.step-stepped.new.table c.self.inside.threads.items c.args.number c.index_mut-thread.result.now c.step-stepped.new.self
-          c.step-stepped.result c.self.inside.made c.self.inside.ended c.makes.result c.ends.result c.known.ensures c.known-2.ensures
-          (has_begun c.self.inside.table c.self.inside.threads.items c.args.number c.index_mut-thread.result.now lt c.index_mut-thread.ensures.value
+      all_fit c.self.inside.table c.step-stepped.new.table c.self.inside.threads.items c.args.number
+          c.index_mut-thread.result.now c.step-stepped.new.self
+          c.step-stepped.result c.known.ensures c.known-2.ensures c.self.invariant.0 lt c.step-stepped.ensures.stepped
+          c.step-stepped.ensures.fits,
+      told_now c.self.inside.table c.step-stepped.new.table c.self.inside.threads.items c.args.number
+          c.index_mut-thread.result.now c.step-stepped.new.self
+          c.step-stepped.result c.self.inside.made c.self.inside.ended c.makes.result c.ends.result c.known.ensures
+          c.known-2.ensures
+          (has_begun c.self.inside.table c.self.inside.threads.items c.args.number c.index_mut-thread.result.now lt
+          c.index_mut-thread.ensures.value
           (c.self.invariant.0.each c.args.number c.index_mut-thread.result.now
-          (thread_at c.self.inside.threads.items c.args.number c.index_mut-thread.result.now lt c.index_mut-thread.ensures.value)) c.known.ensures c.self.invariant.0
-          c.self.invariant.1.threads) lt
-          c.index_mut-thread.ensures.value c.step-stepped.ensures.stepped c.self.invariant.1 c.makes.ensures c.ends.ensures,
+          (thread_at c.self.inside.threads.items c.args.number c.index_mut-thread.result.now lt
+          c.index_mut-thread.ensures.value)) c.known.ensures c.self.invariant.0
+          c.self.invariant.1.threads (c.self.invariant.1.tidy c.args.number)) lt
+          c.index_mut-thread.ensures.value c.step-stepped.ensures.stepped c.self.invariant.1 c.makes.ensures
+          c.ends.ensures,
     )
 
+-- the thread that was read, and all threads, once it made its step
+module _ (c : goal.After-self-3-1) where
+  within : c.args.number < length c.self.inside.threads.items
+  within =
+      let l = ap (λ (u : Sight). length u.walks) c.self.view_is in
+      let m = length-map c.self.inside.threads.items thread_walk in
+      omega (arith, l, m, c.requires)
+
+  begun : HasBegun c.args.number (sight c.self.inside.table c.self.inside.threads.items)
+  begun =
+      has_begun c.self.inside.table c.self.inside.threads.items c.args.number c.index_mut-thread.result.now within
+      c.index_mut-thread.ensures.value
+      (c.self.invariant.0.each c.args.number c.index_mut-thread.result.now
+      (thread_at c.self.inside.threads.items c.args.number c.index_mut-thread.result.now within
+      c.index_mut-thread.ensures.value)) c.known.ensures
+      c.self.invariant.0 c.self.invariant.1.threads (c.self.invariant.1.tidy c.args.number)
+
+  all : AllFit c.step-stepped.new.table (set c.self.inside.threads.items c.args.number c.step-stepped.new.self)
+  all =
+      all_fit c.self.inside.table c.step-stepped.new.table c.self.inside.threads.items c.args.number
+      c.index_mut-thread.result.now c.step-stepped.new.self
+      c.step-stepped.result c.known.ensures c.known-2.ensures c.self.invariant.0 within c.step-stepped.ensures.stepped
+      c.step-stepped.ensures.fits
+
+  went : Steps c.args.number (sight c.self.inside.table c.self.inside.threads.items) c.step-stepped.result
+      (sight c.step-stepped.new.table (set c.self.inside.threads.items c.args.number c.step-stepped.new.self))
+  went =
+      steps c.self.inside.table c.step-stepped.new.table c.self.inside.threads.items c.args.number
+      c.index_mut-thread.result.now c.step-stepped.new.self
+      c.step-stepped.result within c.index_mut-thread.ensures.value c.step-stepped.ensures.stepped
+
+  as_many : length (sight c.step-stepped.new.table
+      (set c.self.inside.threads.items c.args.number c.step-stepped.new.self)).walks
+      ≡ length (sight c.self.inside.table c.self.inside.threads.items).walks
+  as_many =
+      let m = length-map c.self.inside.threads.items thread_walk in
+      let n = length-map (set c.self.inside.threads.items c.args.number c.step-stepped.new.self) thread_walk in
+      let k = length-set c.self.inside.threads.items c.args.number c.step-stepped.new.self in
+      omega (arith, m, n, k)
+
 pub returns-clause-was : goal.returns-clause-was
-returns-clause-was c =
-    let l = ap (λ (u : Sight). length u.walks) c.self.view_is in
-    let m = length-map c.self.inside.threads.items thread_walk in
-    let lt : c.args.number < length c.self.inside.threads.items = omega (arith, l, m, c.requires) in
-    subst (λ (u : Sight). HasBegun c.args.number u) c.self.view_is
-    (has_begun c.self.inside.table c.self.inside.threads.items c.args.number c.index_mut-thread.result.now lt c.index_mut-thread.ensures.value
-    (c.self.invariant.0.each c.args.number c.index_mut-thread.result.now
-    (thread_at c.self.inside.threads.items c.args.number c.index_mut-thread.result.now lt c.index_mut-thread.ensures.value)) c.known.ensures c.self.invariant.0
-    c.self.invariant.1.threads)
+returns-clause-was c = subst (λ (u : Sight). HasBegun c.args.number u) c.self.view_is (begun c)
 
 pub returns-clause-never : goal.returns-clause-never
 returns-clause-never c =
-    let l = ap (λ (u : Sight). length u.walks) c.self.view_is in
-    let m = length-map c.self.inside.threads.items thread_walk in
-    let lt : c.args.number < length c.self.inside.threads.items = omega (arith, l, m, c.requires) in
-    never_now c.self.inside.table c.step-stepped.new.table c.self.inside.threads.items c.args.number c.index_mut-thread.result.now c.step-stepped.new.self
-    c.step-stepped.result c.self.inside.made c.self.inside.ended c.known.ensures
-    (has_begun c.self.inside.table c.self.inside.threads.items c.args.number c.index_mut-thread.result.now lt c.index_mut-thread.ensures.value
-    (c.self.invariant.0.each c.args.number c.index_mut-thread.result.now
-    (thread_at c.self.inside.threads.items c.args.number c.index_mut-thread.result.now lt c.index_mut-thread.ensures.value)) c.known.ensures c.self.invariant.0
-    c.self.invariant.1.threads)
-    lt c.index_mut-thread.ensures.value c.step-stepped.ensures.stepped c.self.invariant.1
+    never_now c.self.inside.table c.step-stepped.new.table c.self.inside.threads.items c.args.number
+    c.index_mut-thread.result.now c.step-stepped.new.self
+    c.step-stepped.result c.self.inside.made c.self.inside.ended c.known.ensures (begun c) (within c)
+    c.index_mut-thread.ensures.value
+    c.step-stepped.ensures.stepped c.self.invariant.1
 
 pub returns-clause-steps : goal.returns-clause-steps
 returns-clause-steps c =
-    let l = ap (λ (u : Sight). length u.walks) c.self.view_is in
-    let m = length-map c.self.inside.threads.items thread_walk in
-    let lt : c.args.number < length c.self.inside.threads.items = omega (arith, l, m, c.requires) in
     subst (λ (u : Sight). Steps c.args.number u c.step-stepped.result (sight c.step-stepped.new.table
     (set c.self.inside.threads.items c.args.number c.step-stepped.new.self)))
+    c.self.view_is (went c)
+
+pub returns-clause-advances : goal.returns-clause-advances
+returns-clause-advances c =
+    let threads = set c.self.inside.threads.items c.args.number c.step-stepped.new.self in
+    subst (λ (u : Sight). Advances c.args.number u c.step-stepped.result (sight c.step-stepped.new.table threads))
     c.self.view_is
-    (steps c.self.inside.table c.step-stepped.new.table c.self.inside.threads.items c.args.number c.index_mut-thread.result.now c.step-stepped.new.self
-    c.step-stepped.result lt c.index_mut-thread.ensures.value c.step-stepped.ensures.stepped)
+    (advances c.args.number (sight c.self.inside.table c.self.inside.threads.items)
+    (sight c.step-stepped.new.table threads) c.step-stepped.result
+    (begun c) (went c) (as_many c) c.known-2.ensures (all_hold c.step-stepped.new.table threads (all c)))
 
 pub returns-clause-actors : goal.returns-clause-actors
 returns-clause-actors c =
-    let l = ap (λ (u : Sight). length u.walks) c.self.view_is in
-    let m = length-map c.self.inside.threads.items thread_walk in
-    let n = length-map (set c.self.inside.threads.items c.args.number c.step-stepped.new.self) thread_walk in
-    let k = length-set c.self.inside.threads.items c.args.number c.step-stepped.new.self in
-    omega (arith, l, m, n, k)
+    let l = ap (λ (u : Sight). length u.walks) c.self.view_is in let m = as_many c in omega (arith, l, m)

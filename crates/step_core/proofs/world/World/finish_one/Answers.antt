@@ -44,7 +44,7 @@ loop-stepped-preserved c =
     let before = c.loop-stepped.invariant.room in
     record {
       on = on_more c.args.number c.args.self.now c.loop-stepped.self c.advance.new.self c.args.steps.now.items c.loop-stepped.steps.items
-          c.add.new.steps.items c.advance.result c.loop-stepped.invariant.on s.steps s.kept s.actors c.in_default.not-Done
+          c.add.new.steps.items c.advance.result c.loop-stepped.invariant.on s.advances s.actors c.in_default.not-Done
           s.never e.items;
       room = omega (arith, l, less, before);
       capacity = (let first = c.loop-stepped.invariant.capacity in omega (arith, room, first));

@@ -2,7 +2,7 @@ use Rattle.std.proofs.Common.{◌-◌, ℕ, List, get_or, length, subst, sym, �
 use Rattle.std.proofs.lemmas.List.Elements.{All-get_or}
 use Rattle.step_core.specs.declared.trace.TraceStep.{TraceStep}
 use Rattle.step_core.specs.Runs.{IsRun, Names}
-use Rattle.step_core.specs.Worlds.{Steps}
+use Rattle.step_core.specs.Worlds.{Advances}
 use Rattle.step_core.proofs.runs.Chains.{moves_more, number_more, run_more}
 use Rattle.step_core.proofs.runs.Measures.{never_more}
 use Rattle.step_core.proofs.world.World.follow.Goals as goal
@@ -16,7 +16,7 @@ loop-turn-preserved c =
     let turn = get_or c.args.turns.now c.loop-turn.turn-index 0 in
     let x : TraceStep = record { actor = turn; stepped = c.advance-stepped.result } in
     let named = All-get_or (Names (length c.args.self.now.walks)) c.args.turns.now c.loop-turn.turn-index 0 lt c.requires.named in
-    let steps = subst (λ (n : ℕ). Steps (n - 1) c.loop-turn.self c.advance-stepped.result c.advance-stepped.new.self) c.from.ensures s.steps in
+    let advances = subst (λ (n : ℕ). Advances (n - 1) c.loop-turn.self c.advance-stepped.result c.advance-stepped.new.self) c.from.ensures s.advances in
     let low = named.0 in
     let high = named.1 in
     let same = i.actors in
@@ -29,7 +29,7 @@ loop-turn-preserved c =
     let room = e.room in
     record {
       run = subst (λ (l : List TraceStep). IsRun c.args.self.now l c.advance-stepped.new.self) (sym e.items)
-          (run_more c.args.self.now c.loop-turn.self c.advance-stepped.new.self c.loop-turn.steps.items x i.run steps s.kept);
+          (run_more c.args.self.now c.loop-turn.self c.advance-stepped.new.self c.loop-turn.steps.items x i.run advances);
       numbers = number_more c.loop-turn.steps.items c.add.new.steps.items c.args.turns.now c.loop-turn.turn-index c.advance-stepped.result lt i.numbers e.items;
       moves = moves_more c.loop-turn.steps.items c.add.new.steps.items turn c.advance-stepped.result i.moves s.never e.items;
       len = omega (arith, len, was);

@@ -6,7 +6,7 @@ pub loop-self-preserved : goal.loop-self-preserved
 loop-self-preserved c =
     on_step c.args.number c.args.self.now c.loop-self.self c.advance.new.self c.advance.result c.loop-self.invariant c.advance.ensures.was
     (sym c.has_rest.ensures ∙ c.loop-self-test.true) c.advance.ensures.steps c.advance.ensures.actors
-    c.advance.ensures.kept
+    c.advance.ensures.advances
 
 pub loop-self-smaller : goal.loop-self-smaller
 loop-self-smaller c =

@@ -1,38 +1,55 @@
-use Rattle.std.proofs.Common.{ℕ, List, ◌++◌, length, ap, subst, ◌∙◌, arith}
+use Rattle.std.proofs.Common.{ℕ, List, ◌++◌, length, ap, subst, sym, ◌∙◌, arith}
 use Rattle.step_core.specs.declared.trace.TraceStep.{TraceStep}
-use Rattle.step_core.specs.Worlds.{Sight}
+use Rattle.step_core.specs.Sights.{AllHold, Sight}
 use Rattle.step_core.proofs.runs.Calls.{settled_run}
+use Rattle.step_core.proofs.runs.Calming.{AllCalm, all_calm, none_pays}
 use Rattle.step_core.proofs.runs.Chains.{moves_on, whole}
 use Rattle.step_core.proofs.runs.Ends.{at_end}
 use Rattle.step_core.proofs.runs.Extents.{extent_run}
-use Rattle.step_core.specs.Headline.{CountsAtRest, LocksWhereOwned, TellsLocks, TellsWhatIsLeft, ValuesAtLastLeave, ValuesOnce}
-use Rattle.step_core.specs.Runs.{IsRun, RunInOrder, RunsToEnd, SettleInOrder, Settles}
+use Rattle.step_core.specs.Runs.{IsRun, NonePays, RunInOrder, RunsToEnd, SettleInOrder, Settles}
 use Rattle.step_table.specs.Stories.{Kept}
 use Rattle.step_core.specs.Totals.{IsAtEnd}
-use Rattle.step_core.proofs.runs.Answers.{tells_locks}
-use Rattle.step_core.proofs.runs.Says.{tells}
+use Rattle.step_core.proofs.runs.Taking.{all_hold}
+use Rattle.step_core.proofs.runs.Through.{through}
 use Rattle.step_core.proofs.telling.Census.{at_rest, still_now}
-use Rattle.step_core.proofs.runs.Headline.{after_each, counts, last_leaves, locks, of_each, values}
 use Rattle.step_core.proofs.world.World.run.Goals as goal
 
-module _ (c : goal.After-known-2) where
+module _ (c : goal.After-known-3) where
   all : IsRun c.args.self.now c.finish.new.steps.items c.finish.new.self
   all =
-      whole RunsToEnd (λ d m w ys runs. runs.run) _ c.args.self.now c.settle.new.self c.finish.new.self c.settle.new.steps.items c.finish.new.steps.items
-      (whole Settles settled_run _ c.args.self.now c.follow.new.self c.settle.new.self c.follow.new.steps.items c.settle.new.steps.items c.follow.ensures.run
+      whole RunsToEnd (λ d m w ys runs. runs.run) _ c.args.self.now c.settle.new.self c.finish.new.self
+      c.settle.new.steps.items c.finish.new.steps.items
+      (whole Settles settled_run _ c.args.self.now c.follow.new.self c.settle.new.self c.follow.new.steps.items
+      c.settle.new.steps.items c.follow.ensures.run
       c.settle.ensures.adds) c.finish.ensures.adds
 
   start : Kept c.args.self.now.story
   start = subst (λ (u : Sight). Kept u.story) c.self.view_is c.known.ensures
 
+  hands : AllHold c.args.self.now
+  hands = subst AllHold c.self.view_is (all_hold c.self.inside.table c.self.inside.threads.items c.self.invariant.0)
+
+  -- nobody owes anything once all have finished their calls
+  calm : NonePays c.settle.new.self
+  calm =
+      let threads = c.self-2.inside.threads.items in
+      let adds = c.settle.ensures.adds in
+      let actors = c.settle.ensures.actors in
+      let each = all_calm (length c.follow.new.self.walks) c.follow.new.self c.settle.new.self adds.added adds.run in
+      subst NonePays c.self-2.view_is
+      (none_pays c.self-2.inside.table threads c.self-2.invariant.0 c.self-2.invariant.1.threads c.known-2.ensures
+      (subst (λ (u : Sight). AllCalm (length u.walks) u) (sym c.self-2.view_is)
+      (λ e lt. each e (omega (arith, lt, actors)))))
+
   -- each thread is at its end
   ends : IsAtEnd c.finish.new.self
   ends =
       let actors = c.finish.ensures.actors in
-      let told = c.self-2.invariant.1.halves in
-      let walks = ap (λ (u : Sight). length u.walks) c.self-2.view_is in
-      let halves = ap (λ (u : Sight). length u.halves) c.self-2.view_is in
-      at_end (length c.settle.new.self.walks) c.settle.new.self c.finish.new.self c.finish.ensures.adds.added c.finish.ensures.adds.run actors
+      let told = c.self-3.invariant.1.halves in
+      let walks = ap (λ (u : Sight). length u.walks) c.self-3.view_is in
+      let halves = ap (λ (u : Sight). length u.halves) c.self-3.view_is in
+      at_end (length c.settle.new.self.walks) c.settle.new.self c.finish.new.self c.finish.ensures.adds.added
+      c.finish.ensures.adds.run actors
       (omega (arith, actors, told, walks, halves))
 
 pub returns-clause-extent : goal.returns-clause-extent
@@ -57,39 +74,31 @@ returns-clause-scheduled c =
       parts = e.adds.items ∙ ap (λ (l : List TraceStep). l ++ e.adds.added) s.adds.items;
       numbers = f.numbers;
       run = f.run;
+      none = calm c;
       settles = subst (λ (n : ℕ). SettleInOrder n c.follow.new.self s.adds.added c.settle.new.self) f.actors s.adds.run;
-      ends = subst (λ (n : ℕ). RunInOrder n c.settle.new.self e.adds.added c.finish.new.self) (s.actors ∙ f.actors) e.adds.run;
+      ends =
+          subst (λ (n : ℕ). RunInOrder n c.settle.new.self e.adds.added c.finish.new.self) (s.actors ∙ f.actors)
+          e.adds.run;
     }
 
 pub returns-clause-moves : goal.returns-clause-moves
 returns-clause-moves c =
-    moves_on (RunInOrder (length c.settle.new.self.walks)) c.settle.new.self c.finish.new.self c.settle.new.steps.items c.finish.new.steps.items
-    (moves_on (SettleInOrder (length c.follow.new.self.walks)) c.follow.new.self c.settle.new.self c.follow.new.steps.items c.settle.new.steps.items
+    moves_on (RunInOrder (length c.settle.new.self.walks)) c.settle.new.self c.finish.new.self
+    c.settle.new.steps.items c.finish.new.steps.items
+    (moves_on (SettleInOrder (length c.follow.new.self.walks)) c.follow.new.self c.settle.new.self
+    c.follow.new.steps.items c.settle.new.steps.items
     c.follow.ensures.moves c.settle.ensures.adds) c.finish.ensures.adds
 
-pub returns-clause-counts : goal.returns-clause-counts
-returns-clause-counts c = after_each CountsAtRest c.args.self.now c.finish.new.self c.finish.new.steps.items (all c) (start c) counts
-
-pub returns-clause-locks : goal.returns-clause-locks
-returns-clause-locks c = of_each LocksWhereOwned c.args.self.now c.finish.new.self c.finish.new.steps.items (all c) (start c) locks
-
-pub returns-clause-answers : goal.returns-clause-answers
-returns-clause-answers c = of_each TellsLocks c.args.self.now c.finish.new.self c.finish.new.steps.items (all c) (start c) tells_locks
-
-pub returns-clause-once : goal.returns-clause-once
-returns-clause-once c = after_each ValuesOnce c.args.self.now c.finish.new.self c.finish.new.steps.items (all c) (start c) values
-
-pub returns-clause-values : goal.returns-clause-values
-returns-clause-values c = of_each ValuesAtLastLeave c.args.self.now c.finish.new.self c.finish.new.steps.items (all c) (start c) last_leaves
-
-pub returns-clause-told : goal.returns-clause-told
-returns-clause-told c = of_each TellsWhatIsLeft c.args.self.now c.finish.new.self c.finish.new.steps.items (all c) (start c) tells
+pub returns-clause-headline : goal.returns-clause-headline
+returns-clause-headline c =
+    through c.args.self.now c.finish.new.self c.finish.new.steps.items (all c) (start c) (hands c)
 
 pub returns-clause-rest : goal.returns-clause-rest
 returns-clause-rest c = λ b inside.
-    at_rest c.finish.new.self.story b (subst (λ (u : Sight). Kept u.story) c.self-2.view_is c.known-2.ensures)
-    (still_now c.finish.new.self c.self-2.inside.table c.self-2.inside.threads.items c.self-2.inside.made c.self-2.inside.ended c.self-2.view_is
-    c.self-2.invariant.0 c.self-2.invariant.1 (ends c))
+    at_rest c.finish.new.self.story b (subst (λ (u : Sight). Kept u.story) c.self-3.view_is c.known-3.ensures)
+    (still_now c.finish.new.self c.self-3.inside.table c.self-3.inside.threads.items c.self-3.inside.made
+    c.self-3.inside.ended c.self-3.view_is
+    c.self-3.invariant.0 c.self-3.invariant.1 (ends c))
 
 pub returns-clause-end : goal.returns-clause-end
 returns-clause-end c = ends c

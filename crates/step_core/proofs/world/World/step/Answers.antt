@@ -1,6 +1,11 @@
-use Rattle.std.proofs.Common.{◌-◌}
+use Rattle.std.proofs.Common.{◌-◌, ℕ, subst}
+use Rattle.step_core.specs.Sights.{Takes}
 use Rattle.step_core.proofs.runs.Extents.{extent_step}
 use Rattle.step_core.proofs.world.World.step.Goals as goal
 
 pub returns-clause-extent : goal.returns-clause-extent
 returns-clause-extent c = extent_step (c.from.result - 1) c.args.self.now c.advance.new.self c.advance.result c.advance.ensures.steps
+
+pub returns-clause-takes : goal.returns-clause-takes
+returns-clause-takes c =
+    subst (λ (n : ℕ). Takes (n - 1) c.args.self.now c.advance.result c.advance.new.self) c.from.ensures c.advance.ensures.advances.takes

@@ -1,0 +1,97 @@
+-- A block in which a desk has a handle isn't used again.
+use Rattle.std.proofs.Common.{◌≡◌, ℕ, suc, true, false, List, [], ◌∷◌, ◌++◌, Some, refl, sym, ap, subst, ◌∙◌}
+use Rattle.control_word.proofs.history.Given.{names_an_object}
+use Rattle.control_word.proofs.history.Kept.{block_kept, has_same, same_kept}
+use Rattle.control_word.proofs.history.Legal.{sound}
+use Rattle.control_word.proofs.lists.Tallies.{put_other}
+use Rattle.control_word.specs.Events.{Asks, after}
+use Rattle.control_word.specs.Handles.{handle}
+use Rattle.control_word.specs.Histories.{IsLegal, entry, leads}
+use Rattle.control_word.specs.State.{Has, IsVacant, Opening, held}
+use Rattle.control_word.specs.Views.{Knows, NoneBy}
+use Rattle.control_word.specs.declared.event.Cell.TheVariants.{Free, Member}
+use Rattle.control_word.specs.declared.event.Entry.{Entry}
+use Rattle.control_word.specs.declared.event.Event.{Event}
+use Rattle.control_word.specs.declared.event.Event.TheVariants.{ClearMember, Compare, Count, Expired, Finish, Join, Leave, Load, Lock, Make, Read}
+use Rattle.control_word.specs.declared.event.Event.TheVariants.{Share, Split, Swap, Visit, WeakLeave, WeakShare}
+use Rattle.control_word.specs.declared.handle.Kind.{Kind}
+use Rattle.control_word.specs.declared.place.Place.{Place}
+use Rattle.control_word.specs.declared.shape.Shape.{Shape}
+use Rattle.std.proofs.Common.{Option}
+use Rattle.control_block.proofs.Bags.{shown, shown_held}
+use Rattle.control_block.specs.Laws.{CallsKeepLatest, JoinsKeepLatest}
+use Rattle.control_block.specs.Rule.{opening_of}
+
+module _ {V : Type 0} where
+  -- an event of any desk leaves what is latest in a block where some desk has a handle
+  latest_after : (z : Opening) (h : List (Entry V)) (n d : ℕ) (x : Event V) (k : Kind) (o b : ℕ) (p : Option Place) → IsLegal z h
+      → Asks (leads z h) d x → Has (held n (handle k (Some o) p)) (leads z h).hands → ((leads z h).object o).block ≡ b
+      → (after (leads z h) d x).latest b ≡ (leads z h).latest b
+  latest_after z h n d (Make c enabled null fields val) k o b p legal asks has there =
+      let s = leads z h in
+      let named = names_an_object z h legal n k (handle k (Some o) p) (has, refl, refl) in
+      put_other s.latest c.0 (suc s.made) b (λ e. named.4 (subst (IsVacant s) (sym (there ∙ e)) ((sound z h legal).stores d c.0 asks.0).0))
+  latest_after z h n d (Swap (Free c) new old) k o b p legal asks has there = refl
+  latest_after z h n d (Swap (Member q m) new old) k o b p legal asks has there = refl
+  latest_after z h n d (Compare (Free c) ex new y true w) k o b p legal asks has there = refl
+  latest_after z h n d (Compare (Member q m) ex new y true w) k o b p legal asks has there = refl
+  latest_after z h n d (Compare c ex new y false w) k o b p legal asks has there = refl
+  latest_after z h n d (Leave y last) k o b p legal asks has there = refl
+  latest_after z h n d (ClearMember q m y) k o b p legal asks has there = refl
+  latest_after z h n d (Finish q v y) k o b p legal asks has there = refl
+  latest_after z h n d (Split to a hs bs) k o b p legal asks has there = refl
+  latest_after z h n d (Join other) k o b p legal asks has there = refl
+  latest_after z h n d (Share y q) k o b p legal asks has there = refl
+  latest_after z h n d (Count y c) k o b p legal asks has there = refl
+  latest_after z h n d (Expired y c) k o b p legal asks has there = refl
+  latest_after z h n d (Read y c) k o b p legal asks has there = refl
+  latest_after z h n d (WeakShare q y) k o b p legal asks has there = refl
+  latest_after z h n d (WeakLeave y v) k o b p legal asks has there = refl
+  latest_after z h n d (Lock y got) k o b p legal asks has there = refl
+  latest_after z h n d (Load c got) k o b p legal asks has there = refl
+  latest_after z h n d (Visit y c w) k o b p legal asks has there = refl
+
+  seen_legal : (z : Opening) (later seen : List (Entry V)) → IsLegal z (later ++ seen) → IsLegal z seen
+  seen_legal z [] seen legal = legal
+  seen_legal z (x ∷ later) seen legal = seen_legal z later seen legal.0
+
+  -- after others' events, and then one of any desk
+  latest_kept : (z : Opening) (later seen : List (Entry V)) (n d : ℕ) (x : Event V) (k : Kind) (p : Option Place) (b : ℕ)
+      → IsLegal z (entry d x ∷ (later ++ seen)) → NoneBy n later → Has (handle k (Some b) p) (shown (leads z seen) n)
+      → (leads z (entry d x ∷ (later ++ seen))).latest b ≡ (leads z seen).latest b
+  latest_kept z later seen n d x k p b legal quiet has =
+      let h = later ++ seen in
+      let before = seen_legal z later seen legal.0 in
+      let s = leads z seen in let t = leads z h in
+      let mine = shown_held z seen n k p b before has in
+      let o = s.latest b in
+      let there = has_same s t n (handle k (Some o) p) (same_kept z later seen n quiet) mine.0 in
+      let was = names_an_object z seen before n k (handle k (Some o) p) (mine.0, refl, refl) in
+      let named = names_an_object z h legal.0 n k (handle k (Some o) p) (there, refl, refl) in
+      let block = (block_kept z later seen o was.1).0 ∙ mine.1 in
+      latest_after z h n d x k o b p legal.0 legal.1.asks there block ∙ (ap t.latest (sym block) ∙ named.2)
+
+  pub calls_keep_latest : CallsKeepLatest V
+  calls_keep_latest d x e adds k p b has =
+      let z = opening_of d.shape in
+      ap (λ (k : Shape). (leads (opening_of k) e.seen).latest b) adds.same.1
+      ∙ (ap (λ l. (leads z l).latest b) adds.seen
+      ∙ latest_kept z adds.between d.seen d.name d.name x k p b (subst (IsLegal z) adds.seen adds.legal) adds.quiet has)
+
+  pub joins_keep_latest : JoinsKeepLatest V
+  joins_keep_latest d other e shape joins =
+      let z = opening_of d.shape in
+      let now : (b : ℕ) → (leads (opening_of e.shape) e.seen).latest b ≡ (leads z (entry d.name (Join other.name) ∷ joins.before)).latest b =
+      λ b. ap (λ (k : Shape). (leads (opening_of k) e.seen).latest b) joins.same.1 ∙ ap (λ l. (leads z l).latest b) joins.seen in
+      let legal = subst (IsLegal z) joins.seen joins.legal in
+      let kept : (n : ℕ) (seen : List (Entry V)) → Knows n joins.before seen → (k : Kind) (p : Option Place) (b : ℕ)
+      → Has (handle k (Some b) p) (shown (leads z seen) n)
+      → (leads z (entry d.name (Join other.name) ∷ joins.before)).latest b ≡ (leads z seen).latest b =
+      λ n seen knows k p b has.
+      ap (λ l. (leads z (entry d.name (Join other.name) ∷ l)).latest b) knows.1
+      ∙ latest_kept z knows.0 seen n d.name (Join other.name) k p b (subst (λ l. IsLegal z (entry d.name (Join other.name) ∷ l)) knows.1 legal) knows.2 has in (
+        λ k p b has. now b ∙ kept d.name d.seen joins.mine k p b has,
+        λ k p b has.
+            let has' = subst (λ (y : Shape). Has (handle k (Some b) p) (shown (leads (opening_of y) other.seen) other.name)) shape has in
+            now b ∙ (kept other.name other.seen joins.others k p b has' ∙ ap (λ (y : Shape). (leads (opening_of y) other.seen).latest b) (sym shape)),
+      )

@@ -1,0 +1,71 @@
+use Rattle.std.proofs.Common.{◌≡◌, ℕ, ◌+◌, ◌-◌, ◌*◌, ◌%◌, ◌^◌, ◌<◌, arith, true, Some, None, sym, ap, subst, ◌∙◌, ◌∷◌}
+use Rattle.atomic_table.specs.Table.{Allows, rest, step}
+use mathlib.Core.Option.{none}
+use Rattle.control_word.specs.Handles.{owner}
+use Rattle.control_word.specs.Histories.{value}
+use Rattle.control_word.specs.declared.event.Event.TheVariants.{Leave}
+use Rattle.control_word.specs.declared.handle.Kind.TheVariants.{Owner}
+use Rattle.control_word.specs.declared.place.Block.{Block}
+use Rattle.control_word.specs.declared.view.Pending.TheVariants.{Idle}
+use Rattle.control_block.specs.Plays.{left}
+use Rattle.control_block.specs.Rule.{Ruled, opening_of, seeing}
+use Rattle.control_block.proofs.Chairs.{added_as, in_hand, same_value}
+use Rattle.control_block.proofs.kept.Leave.{allows_leave, allows_give_back}
+use Rattle.control_block.proofs.kept.MayLeave.{may_awake, may_none}
+use Rattle.control_block.proofs.leaving.leave.Goals as goal
+
+pub fetch_sub-found-requires : goal.fetch_sub-found-requires
+fetch_sub-found-requires g c =
+    let r = c.requires in let i = c.block_word-word.result in let e = c.block_word-word.ensures in let board = c.args.board.now in
+    let chair = c.args.chair.now in let m = g.M.Meant in let a = c.from.result * 4294967296 + 1 in
+    let amount : a ≡ c.args.funds * 4294967296 + 1 = ap (λ (n : ℕ). n * 4294967296 + 1) c.from.ensures in (
+      r.board,
+      subst (λ x. x < board.table_id.words) (sym e) r.word.2,
+      subst (λ (b : Block). Allows (Ruled board.key) board.table_id.slots chair.id chair.me i
+          (λ n. (n + (2 ^ 64 - a)) % 2 ^ 64) (left b m.object m.place (step board.table_id.slots i a 0 none) chair.me))
+          (sym r.may.0) (allows_leave board.key board.table_id.slots chair.id m.object i a c.args.funds c.args.block m.place chair.me
+          r.word.0 r.may.1 e amount),
+    )
+
+pub exchange-requires : goal.exchange-requires
+exchange-requires g c =
+    let l = c.fetch_sub-found.ensures.2.1 c.if-found-all.false in (
+      c.fetch_sub-found.ensures.0 ∙ c.requires.board,
+      (
+        Some l.1.0,
+        in_hand c.fetch_sub-found.new.seat.me.1 _ (Some l.1.0) _ (l.1.2
+            ∙ ap (λ (b : ℕ). (b - 1, Some l.1.0) ∷ c.args.chair.now.me.1) (ap (λ (b : Block). b.0) c.requires.may.0 ∙ sym c.from-2.ensures)),
+      ),
+    )
+
+pub load-requires : goal.load-requires
+load-requires g c =
+    let r = c.requires in let i = c.block_word-word.result in let board = c.args.board.now in let m = g.M.Meant in
+    let l = c.fetch_sub-found.ensures.2.1 c.if-found-all.false in
+    let awake = may_awake c.args.chair.now.me Owner m.object m.place c.args.block.0 c.args.funds r.may.1 in
+    let none = may_none c.args.chair.now.me Owner m.object m.place c.args.block.0 c.args.funds r.may.1 in
+    let x = c.exchange.ensures in (
+      x.0 ∙ (c.fetch_sub-found.ensures.0 ∙ r.board),
+      subst (λ y. y < board.table_id.words) (sym c.block_word-word.ensures) r.word.2,
+      allows_give_back board.key board.table_id.slots c.exchange.new.seat.id i c.args.block c.exchange.new.seat.me
+          (ap (λ m. m.0.view.spent) x.3 ∙ (ap (λ w. w.view.spent) l.0.now ∙ awake))
+          (ap (λ m. m.0.view.pending) x.3 ∙ ap (λ w. w.view.pending) l.0.now)
+          (ap (λ m. m.0.hand) x.3 ∙ (ap (λ w. w.hand) l.0.now ∙ ap Some r.may.0))
+          (ap (λ m. m.1) x.3 ∙ (λ j. (c.from-2.ensures j - 1, None) ∷ (ap rest l.1.2 ∙ none) j)) (omega arith, r.word.1),
+    )
+
+pub returns-clause-event : goal.returns-clause-event
+returns-clause-event g c =
+    let v = c.args.chair.now.me.0 in let l = c.fetch_sub-found.ensures.2.1 c.if-found-all.false in let x = c.exchange.ensures in
+    added_as v c.fetch_sub-found.new.seat.me.0 c.load.new.seat.me.0 Idle Idle (Some g.M.Meant.block) None (Leave
+    (owner g.M.Meant.object g.M.Meant.place) true) l.0
+    (c.load.ensures.2.0 ∙ ap (λ m. seeing m.0 Idle None m.0.view.seen) x.3)
+
+pub returns-clause-value : goal.returns-clause-value
+returns-clause-value g c =
+    let v = c.args.chair.now.me.0 in let l = c.fetch_sub-found.ensures.2.1 c.if-found-all.false in let x = c.exchange.ensures in
+    let seen = ap (λ w. w.view.seen) (c.load.ensures.2.0 ∙ ap (λ m. seeing m.0 Idle None m.0.view.seen) x.3) in
+    let b : g.M.Meant.block.0 - 1 ≡ c.from-2.result - 1 = ap (λ (b : ℕ). b - 1) (ap (λ (b : Block). b.0) c.requires.may.0 ∙ sym c.from-2.ensures) in
+    ap (λ h. value (opening_of v.shape) h g.M.Meant.object) seen
+    ∙ (l.1.1 ∙ ap Some (same_value c.fetch_sub-found.new.seat.me _ l.1.0 c.in-Some.value c.exchange.result _ (l.1.2
+    ∙ ap (λ (y : ℕ). (y, Some l.1.0) ∷ c.args.chair.now.me.1) b) x.2 c.in-Some.is))

@@ -1,0 +1,186 @@
+use Rattle.std.proofs.Common.{◌≡◌, ℕ, ◌+◌, ◌-◌, ◌<◌, cond, refl, sym, ap, subst, ◌∙◌, arith, length}
+use Rattle.std.specs.Prelude.{IfSome, is_some}
+use mir.Val.{bool_byte}
+use Rattle.control_word.specs.Events.{InHand}
+use Rattle.control_word.specs.Handles.{object_of}
+use Rattle.control_word.specs.declared.handle.Handle.{Handle}
+use Rattle.control_word.specs.declared.handle.Kind.TheVariants.{Weak}
+use Rattle.control_block.specs.CellCalls.{Holds, handle_in, without_handle, word_at}
+use Rattle.control_block.specs.CellPlays.{IsWordOf}
+use Rattle.control_block.specs.Desks.{DeskNow, IsSameDesk, KeepsEndings, bag_of, endings_of, stock_of}
+use Rattle.control_block.specs.Handles.{IsProper}
+use Rattle.control_block.specs.Inside.{desk_now}
+use Rattle.control_block.specs.Plays.{Holding, known}
+use Rattle.control_block.specs.Storing.{ReplacesWeakly}
+use Rattle.control_block.specs.declared.desk.Desk.TheInside.{Inside}
+use Rattle.control_block.proofs.CellDesks.{in_seat, lost_counted, lost_hand, lost_holding, lost_room, lost_shows, lost_some, lost_word}
+use Rattle.control_block.proofs.CellSites.{cell_there, word_there}
+use Rattle.control_block.proofs.EndingCounts.{few_ending}
+use Rattle.control_block.proofs.OwnCounts.{byte_few}
+use Rattle.control_block.proofs.StoreGoneWeakly as gone
+use Rattle.control_block.proofs.store_calls.store_weak.Goals as goal
+
+pub word_of-word-requires : goal.word_of-word-requires
+word_of-word-requires g c =
+    let r = c.requires in
+    (word_there c.desk.inside c.desk.invariant Weak (word_at c.domain.inside.shape.blocks c.args.site) c.args.desk.now
+    c.domain.inside.table.shared.table_id c.domain.inside.shape c.args.site c.desk.view_is (ap (λ z. z.domain) c.desk.view_is ∙ (r.domain.table ∙ sym (ap (λ z. z.id) c.domain.view_is)))
+    (ap (λ z. z.shape) c.desk.view_is ∙ (r.domain.shape ∙ sym (ap (λ z. z.shape) c.domain.view_is))) r.cell.0 refl).0
+
+pub overflow_sub-desk : goal.overflow_sub-desk
+overflow_sub-desk g c =
+    let some' = lost_some c.desk.inside Weak c.args.new.place c.args.new.block c.desk.invariant
+    (subst (λ (z : DeskNow g.row.V.Denot). Holds z Weak c.args.new.block c.args.new.place) (sym c.desk.view_is) c.requires.holds) in omega arith
+
+pub store_weak-vacant-requires-clause-word : goal.store_weak-vacant-requires-clause-word
+store_weak-vacant-requires-clause-word g c =
+    let r = c.requires in
+    (word_there c.desk.inside c.desk.invariant Weak c.word_of-word.result c.args.desk.now
+    c.domain.inside.table.shared.table_id c.domain.inside.shape c.args.site c.desk.view_is (ap (λ z. z.domain) c.desk.view_is ∙ (r.domain.table ∙ sym (ap (λ z. z.id) c.domain.view_is)))
+    (ap (λ z. z.shape) c.desk.view_is ∙ (r.domain.shape ∙ sym (ap (λ z. z.shape) c.domain.view_is))) r.cell.0 c.word_of-word.ensures).1
+
+pub store_weak-vacant-requires-clause-cell : goal.store_weak-vacant-requires-clause-cell
+store_weak-vacant-requires-clause-cell g c =
+    let r = c.requires in
+    cell_there c.desk.inside c.desk.invariant Weak c.word_of-word.result c.args.desk.now c.domain.inside.shape c.args.site
+    g.A.Aimed.cell c.desk.view_is (ap (λ z. z.shape) c.desk.view_is ∙ (r.domain.shape ∙ sym (ap (λ z. z.shape) c.domain.view_is))) r.cell.0 r.cell.1
+    c.word_of-word.ensures
+
+pub store_weak-vacant-requires-clause-new : goal.store_weak-vacant-requires-clause-new
+store_weak-vacant-requires-clause-new g c =
+    let r = c.requires in let d = c.desk.inside in let h = c.desk.invariant in let v = d.seat.me.0 in
+    let b = c.args.new.block in let p = c.args.new.place in let y = c.args.desk.now in let lost = g.A.Aimed.new in
+    let new_is : lost ≡ in_seat v Weak b p = r.new ∙ ap (λ (z : DeskNow g.row.V.Denot). handle_in z Weak b p) (sym c.desk.view_is) in (
+      lost_word d y Weak p h c.desk.view_is b r.holds (subst (λ z. IsProper z b p) r.kind c.args.new.proper),
+      refl,
+      subst (λ (z : Handle). IsWordOf v z record { owned = b; place = p; taken = 0 }) (sym new_is) (lost_shows d y Weak p h c.desk.view_is b r.holds),
+    )
+
+pub store_weak-vacant-requires-clause-hand : goal.store_weak-vacant-requires-clause-hand
+store_weak-vacant-requires-clause-hand g c =
+    let r = c.requires in let d = c.desk.inside in let h = c.desk.invariant in let v = d.seat.me.0 in
+    let b = c.args.new.block in let p = c.args.new.place in let y = c.args.desk.now in let lost = g.A.Aimed.new in
+    let new_is : lost ≡ in_seat v Weak b p = r.new ∙ ap (λ (z : DeskNow g.row.V.Denot). handle_in z Weak b p) (sym c.desk.view_is) in
+    subst (λ (z : Handle). InHand (known v) v.view.name Weak z) (sym new_is)
+    (lost_hand d y Weak p h c.desk.view_is b r.holds (subst (λ z. IsProper z b p) r.kind c.args.new.proper))
+
+pub store_weak-vacant-requires-clause-holds : goal.store_weak-vacant-requires-clause-holds
+store_weak-vacant-requires-clause-holds g c =
+    let r = c.requires in let d = c.desk.inside in let h = c.desk.invariant in let v = d.seat.me.0 in
+    let b = c.args.new.block in let p = c.args.new.place in let y = c.args.desk.now in let lost = g.A.Aimed.new in
+    let new_is : lost ≡ in_seat v Weak b p = r.new ∙ ap (λ (z : DeskNow g.row.V.Denot). handle_in z Weak b p) (sym c.desk.view_is) in
+    subst (λ (z : Handle). IfSome b (λ a. Holding v z.kind (object_of z) z.place a.0)) (sym new_is)
+    (lost_holding d y Weak p h c.desk.view_is b r.holds)
+
+pub store_weak-vacant-requires-clause-count : goal.store_weak-vacant-requires-clause-count
+store_weak-vacant-requires-clause-count g c =
+    let r = c.requires in
+    lost_counted c.desk.inside c.args.desk.now Weak c.args.new.place c.desk.invariant c.desk.view_is c.args.new.block
+    c.domain.inside.table.shared.table_id (ap (λ z. z.domain) c.desk.view_is ∙ (r.domain.table ∙ sym (ap (λ z. z.id) c.domain.view_is))) r.holds
+
+pub store_weak-vacant-requires-clause-room : goal.store_weak-vacant-requires-clause-room
+store_weak-vacant-requires-clause-room g c = λ none.
+    let r = c.requires in let d = c.desk.inside in let h = c.desk.invariant in let v = d.seat.me.0 in
+    let b = c.args.new.block in let p = c.args.new.place in let y = c.args.desk.now in let lost = g.A.Aimed.new in
+    let new_is : lost ≡ in_seat v Weak b p = r.new ∙ ap (λ (z : DeskNow g.row.V.Denot). handle_in z Weak b p) (sym c.desk.view_is) in
+    lost_room d y Weak p h c.desk.view_is b r.holds (ap (λ z. z.object) (sym new_is) ∙ none)
+
+pub put_by_out-requires : goal.put_by_out-requires
+put_by_out-requires g c =
+    let r = c.requires in let d = c.desk.inside in let h = c.desk.invariant in let v = d.seat.me.0 in
+    let b = c.args.new.block in let p = c.args.new.place in let y = c.args.desk.now in let lost = g.A.Aimed.new in
+    let new_is : lost ≡ in_seat v Weak b p = r.new ∙ ap (λ (z : DeskNow g.row.V.Denot). handle_in z Weak b p) (sym c.desk.view_is) in
+    let has = subst (λ (z : DeskNow g.row.V.Denot). Holds z Weak b p) (sym c.desk.view_is) r.holds in let some' = lost_some d Weak p b h has in
+    let n = c.store_weak-vacant.ensures in let x = c.store_weak-vacant.result.0 in let q = c.store_weak-vacant.result.1 in
+    let f : Inside g.row.V.Denot = record { seat = c.store_weak-vacant.new.chair; allowance = d.allowance; held = d.held - 1; endings = d.endings; store = d.store } in
+    record { room = gone.room_is d f h g.A.Aimed.cell lost b p x q new_is has n.stored n.chair.0 (omega arith) }
+
+pub invariant_of-desk : goal.invariant_of-desk
+invariant_of-desk g c =
+    let r = c.requires in let d = c.desk.inside in let h = c.desk.invariant in let v = d.seat.me.0 in
+    let b = c.args.new.block in let p = c.args.new.place in let y = c.args.desk.now in let lost = g.A.Aimed.new in
+    let new_is : lost ≡ in_seat v Weak b p = r.new ∙ ap (λ (z : DeskNow g.row.V.Denot). handle_in z Weak b p) (sym c.desk.view_is) in
+    let has = subst (λ (z : DeskNow g.row.V.Denot). Holds z Weak b p) (sym c.desk.view_is) r.holds in let some' = lost_some d Weak p b h has in
+    let n = c.store_weak-vacant.ensures in let x = c.store_weak-vacant.result.0 in let q = c.store_weak-vacant.result.1 in
+    let f : Inside g.row.V.Denot = record { seat = c.store_weak-vacant.new.chair; allowance = d.allowance; held = d.held - 1; endings = d.endings; store = c.put_by_out.new.store } in
+    gone.desk_is d f h g.A.Aimed.cell lost b p x q new_is has n.stored n.chair.0 (omega arith) n.chair.2.none c.put_by_out.ensures.items c.put_by_out.ensures.capacity refl refl (omega (arith, h.within))
+
+pub returns-clause-stored : goal.returns-clause-stored
+returns-clause-stored g c =
+    let r = c.requires in let d = c.desk.inside in let h = c.desk.invariant in let v = d.seat.me.0 in
+    let b = c.args.new.block in let p = c.args.new.place in let y = c.args.desk.now in let lost = g.A.Aimed.new in
+    let new_is : lost ≡ in_seat v Weak b p = r.new ∙ ap (λ (z : DeskNow g.row.V.Denot). handle_in z Weak b p) (sym c.desk.view_is) in
+    let has = subst (λ (z : DeskNow g.row.V.Denot). Holds z Weak b p) (sym c.desk.view_is) r.holds in let some' = lost_some d Weak p b h has in
+    let n = c.store_weak-vacant.ensures in let x = c.store_weak-vacant.result.0 in let q = c.store_weak-vacant.result.1 in
+    let f : Inside g.row.V.Denot = record { seat = c.store_weak-vacant.new.chair; allowance = d.allowance; held = d.held - 1; endings = d.endings; store = c.put_by_out.new.store } in
+    subst (λ (z : DeskNow g.row.V.Denot). ReplacesWeakly z g.A.Aimed.cell lost x.owned x.place q (desk_now f)) c.desk.view_is (gone.replaces d f h g.A.Aimed.cell lost b p x q new_is has n.stored n.chair.0 (omega arith))
+
+pub returns-clause-bag : goal.returns-clause-bag
+returns-clause-bag g c =
+    let r = c.requires in let d = c.desk.inside in let h = c.desk.invariant in let v = d.seat.me.0 in
+    let b = c.args.new.block in let p = c.args.new.place in let y = c.args.desk.now in let lost = g.A.Aimed.new in
+    let new_is : lost ≡ in_seat v Weak b p = r.new ∙ ap (λ (z : DeskNow g.row.V.Denot). handle_in z Weak b p) (sym c.desk.view_is) in
+    let has = subst (λ (z : DeskNow g.row.V.Denot). Holds z Weak b p) (sym c.desk.view_is) r.holds in let some' = lost_some d Weak p b h has in
+    let n = c.store_weak-vacant.ensures in let x = c.store_weak-vacant.result.0 in let q = c.store_weak-vacant.result.1 in
+    let f : Inside g.row.V.Denot = record { seat = c.store_weak-vacant.new.chair; allowance = d.allowance; held = d.held - 1; endings = d.endings; store = c.put_by_out.new.store } in
+    gone.bag_left d f h g.A.Aimed.cell lost b p x q new_is has n.stored n.chair.0 (omega arith) ∙ ap (λ z. without_handle Weak b p (bag_of z)) c.desk.view_is
+
+pub returns-clause-held : goal.returns-clause-held
+returns-clause-held g c =
+    let r = c.requires in let d = c.desk.inside in let h = c.desk.invariant in let v = d.seat.me.0 in
+    let b = c.args.new.block in let p = c.args.new.place in let y = c.args.desk.now in let lost = g.A.Aimed.new in
+    let new_is : lost ≡ in_seat v Weak b p = r.new ∙ ap (λ (z : DeskNow g.row.V.Denot). handle_in z Weak b p) (sym c.desk.view_is) in
+    let has = subst (λ (z : DeskNow g.row.V.Denot). Holds z Weak b p) (sym c.desk.view_is) r.holds in let some' = lost_some d Weak p b h has in
+    let n = c.store_weak-vacant.ensures in let x = c.store_weak-vacant.result.0 in let q = c.store_weak-vacant.result.1 in
+    let f : Inside g.row.V.Denot = record { seat = c.store_weak-vacant.new.chair; allowance = d.allowance; held = d.held - 1; endings = d.endings; store = c.put_by_out.new.store } in
+    let e = ap (λ z. z.held) c.desk.view_is in omega arith
+
+pub returns-clause-desk : goal.returns-clause-desk
+returns-clause-desk g c =
+    let r = c.requires in let d = c.desk.inside in let h = c.desk.invariant in let v = d.seat.me.0 in
+    let b = c.args.new.block in let p = c.args.new.place in let y = c.args.desk.now in let lost = g.A.Aimed.new in
+    let new_is : lost ≡ in_seat v Weak b p = r.new ∙ ap (λ (z : DeskNow g.row.V.Denot). handle_in z Weak b p) (sym c.desk.view_is) in
+    let has = subst (λ (z : DeskNow g.row.V.Denot). Holds z Weak b p) (sym c.desk.view_is) r.holds in let some' = lost_some d Weak p b h has in
+    let n = c.store_weak-vacant.ensures in let x = c.store_weak-vacant.result.0 in let q = c.store_weak-vacant.result.1 in
+    let f : Inside g.row.V.Denot = record { seat = c.store_weak-vacant.new.chair; allowance = d.allowance; held = d.held - 1; endings = d.endings; store = c.put_by_out.new.store } in
+    subst (λ (z : DeskNow g.row.V.Denot). IsSameDesk z (desk_now f)) c.desk.view_is (gone.same_is d f h g.A.Aimed.cell lost b p x q new_is has n.stored n.chair.0 (omega arith))
+
+pub returns-clause-stock : goal.returns-clause-stock
+returns-clause-stock g c =
+    let r = c.requires in let d = c.desk.inside in let h = c.desk.invariant in let v = d.seat.me.0 in
+    let b = c.args.new.block in let p = c.args.new.place in let y = c.args.desk.now in let lost = g.A.Aimed.new in
+    let new_is : lost ≡ in_seat v Weak b p = r.new ∙ ap (λ (z : DeskNow g.row.V.Denot). handle_in z Weak b p) (sym c.desk.view_is) in
+    let has = subst (λ (z : DeskNow g.row.V.Denot). Holds z Weak b p) (sym c.desk.view_is) r.holds in let some' = lost_some d Weak p b h has in
+    let n = c.store_weak-vacant.ensures in let x = c.store_weak-vacant.result.0 in let q = c.store_weak-vacant.result.1 in
+    let f : Inside g.row.V.Denot = record { seat = c.store_weak-vacant.new.chair; allowance = d.allowance; held = d.held - 1; endings = d.endings; store = c.put_by_out.new.store } in
+    gone.stock_is d f h g.A.Aimed.cell lost b p x q new_is has n.stored n.chair.0 (omega arith) ∙ ap (λ z. length (stock_of z) + cond q 1 0) c.desk.view_is
+
+pub returns-clause-endings : goal.returns-clause-endings
+returns-clause-endings g c =
+    let r = c.requires in let d = c.desk.inside in let h = c.desk.invariant in let v = d.seat.me.0 in
+    let b = c.args.new.block in let p = c.args.new.place in let y = c.args.desk.now in let lost = g.A.Aimed.new in
+    let new_is : lost ≡ in_seat v Weak b p = r.new ∙ ap (λ (z : DeskNow g.row.V.Denot). handle_in z Weak b p) (sym c.desk.view_is) in
+    let has = subst (λ (z : DeskNow g.row.V.Denot). Holds z Weak b p) (sym c.desk.view_is) r.holds in let some' = lost_some d Weak p b h has in
+    let n = c.store_weak-vacant.ensures in let x = c.store_weak-vacant.result.0 in let q = c.store_weak-vacant.result.1 in
+    let f : Inside g.row.V.Denot = record { seat = c.store_weak-vacant.new.chair; allowance = d.allowance; held = d.held - 1; endings = d.endings; store = c.put_by_out.new.store } in
+    subst (λ (z : DeskNow g.row.V.Denot). KeepsEndings z (desk_now f)) c.desk.view_is (gone.ends_both d f h g.A.Aimed.cell lost b p x q new_is has n.stored n.chair.0 (omega arith))
+
+pub returns-clause-count : goal.returns-clause-count
+returns-clause-count g c =
+    let r = c.requires in let d = c.desk.inside in let h = c.desk.invariant in let v = d.seat.me.0 in
+    let b = c.args.new.block in let p = c.args.new.place in let y = c.args.desk.now in let lost = g.A.Aimed.new in
+    let new_is : lost ≡ in_seat v Weak b p = r.new ∙ ap (λ (z : DeskNow g.row.V.Denot). handle_in z Weak b p) (sym c.desk.view_is) in
+    let has = subst (λ (z : DeskNow g.row.V.Denot). Holds z Weak b p) (sym c.desk.view_is) r.holds in let some' = lost_some d Weak p b h has in
+    let n = c.store_weak-vacant.ensures in let x = c.store_weak-vacant.result.0 in let q = c.store_weak-vacant.result.1 in
+    let f : Inside g.row.V.Denot = record { seat = c.store_weak-vacant.new.chair; allowance = d.allowance; held = d.held - 1; endings = d.endings; store = c.put_by_out.new.store } in
+    gone.count_is d f h g.A.Aimed.cell lost b p x q new_is has n.stored n.chair.0 (omega arith) ∙ ap endings_of c.desk.view_is
+
+pub invariant_of-content : goal.invariant_of-content
+invariant_of-content g c =
+    let r = c.requires in let d = c.desk.inside in let h = c.desk.invariant in let v = d.seat.me.0 in
+    let b = c.args.new.block in let p = c.args.new.place in let y = c.args.desk.now in let lost = g.A.Aimed.new in
+    let new_is : lost ≡ in_seat v Weak b p = r.new ∙ ap (λ (z : DeskNow g.row.V.Denot). handle_in z Weak b p) (sym c.desk.view_is) in
+    let has = subst (λ (z : DeskNow g.row.V.Denot). Holds z Weak b p) (sym c.desk.view_is) r.holds in let some' = lost_some d Weak p b h has in
+    let n = c.store_weak-vacant.ensures in let x = c.store_weak-vacant.result.0 in let q = c.store_weak-vacant.result.1 in
+    let f : Inside g.row.V.Denot = record { seat = c.store_weak-vacant.new.chair; allowance = d.allowance; held = d.held - 1; endings = d.endings; store = c.put_by_out.new.store } in
+    record { proper = gone.proper_is d f h g.A.Aimed.cell lost b p x q new_is has n.stored n.chair.0 (omega arith) }

@@ -1,5 +1,0 @@
-use Rattle.control_word.proofs.steps.WeakLeave as law
-use Rattle.control_word.proofs.step_laws.finish.Goals as goal
-
-pub returns : goal.returns
-returns g c = law.finishes'

@@ -1,5 +1,0 @@
-use Rattle.control_word.proofs.steps.Standing as law
-use Rattle.control_word.proofs.step_laws.have_headroom.Goals as goal
-
-pub returns : goal.returns
-returns g c = law.has_headroom

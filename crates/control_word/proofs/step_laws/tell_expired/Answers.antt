@@ -1,5 +1,0 @@
-use Rattle.control_word.proofs.steps.Look as law
-use Rattle.control_word.proofs.step_laws.tell_expired.Goals as goal
-
-pub returns : goal.returns
-returns g c = law.tells_expired

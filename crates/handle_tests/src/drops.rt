@@ -1,0 +1,78 @@
+ghost use Rattle.std.specs.Prelude.{◌≡◌};
+ghost use Rattle.control_block.specs.Desks.{IsSameDesk};
+
+use crate::parts::{end, shape, shut};
+use control_block::desk::Desk;
+use control_block::domain::{Domain, open};
+use shared_handle::make;
+use std::sync::atomic::{AtomicU64, Ordering};
+use std::test::Fail;
+
+// A value that counts its drops.
+struct Counted<'a> {
+    drops: &'a AtomicU64,
+}
+
+impl Drop for Counted<'_> {
+    fn drop(self) {
+        let Self { drops } = self;
+        drops.fetch_add(1, Ordering::SeqCst);
+    }
+}
+
+// Makes an object and ends it: how often its value was dropped before its finish.
+fn drop_by_finish<'a>(
+    domain: &Domain<Counted<'a>>,
+    desk: &mut Desk<Counted<'a>>,
+    drops: &'a AtomicU64,
+) -> u64
+    requires domain { desk.old.domain ≡ domain.now.id }
+    ensures desk { IsSameDesk desk.old desk.new }
+{
+    let Ok(owner) = make(domain, desk, [0; 4], false, Counted { drops }) else {
+        return 9;
+    };
+    let value = end(domain, desk, owner);
+    let before = drops.load(Ordering::SeqCst);
+    drop(value);
+    before
+}
+
+#[test]
+fn a_value_is_dropped_once(rt: HostRuntime) -> Result<(), Fail> {
+    let drops = AtomicU64::new(0);
+    let opened = open::<Counted>(rt.alloc(), shape(2, 8));
+    let (domain, mut desk) = opened.ok().ok_or("memory")?;
+    let before = drop_by_finish(&domain, &mut desk, &drops);
+    let after = drops.load(Ordering::SeqCst);
+    shut(domain, desk);
+    assert_eq!(rt; (before, after, drops.load(Ordering::SeqCst)), (0, 1, 1));
+    Ok(())
+}
+
+// Makes an object whose owner is never released.
+fn leave_behind<'a>(
+    domain: &Domain<Counted<'a>>,
+    desk: &mut Desk<Counted<'a>>,
+    drops: &'a AtomicU64,
+) -> bool
+    requires domain { desk.old.domain ≡ domain.now.id }
+    ensures desk { IsSameDesk desk.old desk.new }
+{
+    match make(domain, desk, [0; 4], false, Counted { drops }) {
+        Ok(owner) => owner.into_parts().0.is_some(),
+        Err(_) => false,
+    }
+}
+
+#[test]
+fn a_value_left_is_dropped_with_the_census(rt: HostRuntime) -> Result<(), Fail> {
+    let drops = AtomicU64::new(0);
+    let opened = open::<Counted>(rt.alloc(), shape(2, 8));
+    let (domain, mut desk) = opened.ok().ok_or("memory")?;
+    let made = leave_behind(&domain, &mut desk, &drops);
+    let before = drops.load(Ordering::SeqCst);
+    shut(domain, desk);
+    assert_eq!(rt; (made, before, drops.load(Ordering::SeqCst)), (true, 0, 1));
+    Ok(())
+}

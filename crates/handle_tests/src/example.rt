@@ -1,0 +1,100 @@
+//! The example of the README: an object that two threads own, watched by a weak pointer.
+ghost use Rattle.std.specs.Prelude.{◌≡◌, ◌<◌, [], IfSome, None, Some, length};
+ghost use Rattle.control_word.specs.declared.handle.Kind.TheVariants.{Owner, Weak};
+ghost use Rattle.control_word.specs.declared.place.Block.{Block};
+ghost use Rattle.control_block.specs.Desks.{IsSameDesk, allowance_of, bag_of, stock_of};
+ghost use Rattle.shared_handle.specs.Calls.{Holds, with_handle, without_handle};
+
+use crate::parts::{end, hand_over, shape, shut, spent};
+use control_block::desk::Desk;
+use control_block::domain::{Domain, open};
+use control_block::handles;
+use shared_handle::{Shared, downgrade, expired, make, release_weak, share, use_count};
+use std::alloc::Global;
+use std::test::Fail;
+use std::thread::{Threads, join_mut};
+
+// `std::shared_ptr::reset`.
+fn reset(domain: &Domain<u64>, desk: &mut Desk<u64>, handle: &mut Option<Shared>)
+    requires domain { desk.old.domain ≡ domain.now.id }
+    requires holds { IfSome handle.old (λ h. Holds desk.old Owner h.block h.place) }
+    ensures desk { IsSameDesk desk.old desk.new }
+    ensures bag { IfSome handle.old (λ h. bag_of desk.new ≡ without_handle Owner h.block h.place (bag_of desk.old)) }
+    ensures spent { handle.new ≡ None }
+{
+    if let Some(owner) = handle.take() {
+        end(domain, desk, owner);
+    }
+}
+
+// No memory for a thread's part.
+#[tactic(auto, using(shared_handle::proofs::Taken::first_out, shared_handle::proofs::Taken::second_out))]
+fn give_up(
+    domain: &Domain<u64>,
+    desk: &mut Desk<u64>,
+    a: Shared,
+    b: Shared,
+    w: handles::Weak,
+) -> Option<(u32, bool)>
+    requires domain { desk.old.domain ≡ domain.now.id }
+    requires same { (b.block ≡ a.block) × (b.place ≡ a.place) × (w.block ≡ a.block) × (x : Block) × (a.block ≡ Some x) }
+    requires bag { bag_of desk.old ≡ with_handle Owner b.block b.place (with_handle Weak w.block w.place (with_handle Owner a.block a.place [])) }
+    ensures desk { (desk.new.domain ≡ desk.old.domain) × (allowance_of desk.new ≡ allowance_of desk.old) }
+    ensures none { result ≡ None }
+{
+    end(domain, desk, b);
+    end(domain, desk, a);
+    release_weak(domain, desk, w);
+    None
+}
+
+// How many owners there were, and whether the weak pointer saw them all leave.
+#[tactic(auto, using(shared_handle::proofs::Taken::first_out, shared_handle::proofs::Taken::second_out))]
+fn two_threads<R: Threads>(
+    rt: &R,
+    alloc: Global,
+    domain: &Domain<u64>,
+    desk: &mut Desk<u64>,
+) -> Option<(u32, bool)>
+    requires domain { desk.old.domain ≡ domain.now.id }
+    requires fresh { (bag_of desk.old ≡ []) × (desk.old.held ≡ 0) × (allowance_of desk.old ≡ 8) × (0 < length (stock_of desk.old)) }
+    ensures desk { (desk.new.domain ≡ desk.old.domain) × (allowance_of desk.new ≡ allowance_of desk.old) }
+{
+    // auto a = std::make_shared<Node>(1, 2, 3, 4);
+    let a = make(domain, desk, [1, 2, 3, 4], false, 7).unwrap();
+    // std::weak_ptr<Node> w = a;
+    let w = downgrade(domain, desk, &a).unwrap();
+    // auto b = a;
+    let b = share(domain, desk, &a).unwrap();
+    // long owners = a.use_count();
+    let owners = use_count(domain, desk, &a);
+    let (mut other, b) = match hand_over(domain, desk, alloc, 1, 0, b) {
+        Ok(parted) => parted,
+        Err(b) => return give_up(domain, desk, a, b, w),
+    };
+    let (mut a, mut b) = (Some(a), Some(b));
+    // std::thread t([b = std::move(b)]() mutable { b.reset(); }); a.reset(); t.join();
+    join_mut(
+        rt,
+        &mut || reset(domain, &mut other, &mut b),
+        &mut || reset(domain, desk, &mut a),
+    );
+    // (a and b are empty now)
+    spent(a);
+    spent(b);
+    // bool gone = w.expired();
+    let gone = expired(domain, desk, &w);
+    release_weak(domain, desk, w);
+    desk.join(domain, other);
+    Some((owners, gone))
+}
+
+#[test]
+fn an_object_of_two_threads(rt: HostRuntime) -> Result<(), Fail> {
+    let (domain, mut desk) = open::<u64>(rt.alloc(), shape(4, 8)).ok().ok_or("memory")?;
+    let seen = two_threads(&rt, rt.alloc(), &domain, &mut desk);
+    let stock = shut(domain, desk);
+    assert_eq!(rt; seen, Some((2, true)));
+    assert_eq!(rt; stock, 4);
+    Ok(())
+}

@@ -1,0 +1,50 @@
+//! Tests of the runtime, from its words to handles and cells, over the public functions of its crates alone.
+#![tactic(auto)]
+
+#[cfg(test)]
+mod aliases;
+#[cfg(test)]
+mod allowance;
+#[cfg(test)]
+mod cascade;
+#[cfg(test)]
+mod cell_parts;
+#[cfg(test)]
+mod cells;
+#[cfg(test)]
+mod compares;
+#[cfg(test)]
+mod crowd;
+#[cfg(test)]
+mod drops;
+#[cfg(test)]
+mod example;
+#[cfg(test)]
+mod laws;
+#[cfg(test)]
+mod leaves;
+#[cfg(test)]
+mod locks;
+#[cfg(test)]
+mod member_swaps;
+#[cfg(test)]
+mod members;
+#[cfg(test)]
+mod parting;
+#[cfg(test)]
+mod parts;
+#[cfg(test)]
+mod replacing;
+#[cfg(test)]
+mod reuse;
+pub mod shapes;
+#[cfg(test)]
+mod splits;
+#[cfg(test)]
+mod this;
+#[cfg(test)]
+mod visits;
+#[cfg(test)]
+mod watching;
+#[cfg(test)]
+mod words;

@@ -1,0 +1,253 @@
+//! What the tests have in common: shapes, ends, and handles that go from one desk to another.
+ghost use Rattle.std.specs.Prelude.{◌≡◌, ◌+◌, ◌≤◌, ◌∷◌, [], IfErr, IfOk, IfSome, None, Some, length};
+ghost use Rattle.control_word.specs.declared.place.Block.{Block};
+ghost use Rattle.control_word.specs.declared.handle.Kind.TheVariants.{Owner};
+ghost use Rattle.control_block.specs.Desks.{IsSameDesk, KeepsOtherEndings, allowance_of, bag_of, stock_of};
+ghost use Rattle.shared_handle.specs.Calls.{Holds, with_handle, without_handle};
+ghost use Rattle.shared_handle.specs.Endings.{Ends};
+
+pub(crate) use crate::shapes::shape;
+use control_block::census::close;
+use control_block::desk::Desk;
+use control_block::domain::Domain;
+use control_word::Refused;
+use shared_handle::{Ending, Held, Left, Member, Shared, make, release, share};
+use std::alloc::{AllocFailed, Global};
+
+// A sole desk closes its domain: how many vacant blocks it had.
+pub(crate) fn shut<V: Drop + Send>(domain: Domain<V>, desk: Desk<V>) -> u32
+    requires domain { desk.domain ≡ domain.id }
+    requires sole { allowance_of desk ≡ domain.shape.allowance }
+{
+    let stock = desk.stock();
+    match close(domain, desk) {
+        Ok(census) => drop(census),
+        Err(_) => unreachable!(),
+    }
+    stock
+}
+
+// What a member held was an object's last owner: no test that asks for a burial has such members.
+fn lose<V: Drop + Send>(left: Left<V>) {
+    match left {
+        Left::Empty | Left::Others => {}
+        Left::Last(ending) => {
+            ending.forget();
+        }
+    }
+}
+
+// The end of an object whose members were the last owners of none.
+pub(crate) fn bury<V: Drop + Send>(domain: &Domain<V>, desk: &mut Desk<V>, ending: Ending<V>) -> V
+    requires domain { desk.old.domain ≡ domain.now.id }
+    requires ends { Ends desk.old ending }
+    ensures value { result ≡ ending.value }
+    ensures desk { IsSameDesk desk.old desk.new }
+    ensures bag { bag_of desk.new ≡ bag_of desk.old }
+    ensures held { desk.new.held ≡ desk.old.held }
+{
+    let mut ending = ending;
+    let first = ending.clear_member(domain, desk, Member::First);
+    let next = ending.clear_member(domain, desk, Member::Next);
+    let up = ending.clear_member(domain, desk, Member::Up);
+    lose(first);
+    lose(next);
+    lose(up);
+    ending.finish(domain, desk)
+}
+
+// The value of the object that the handle was the last owner of.
+pub(crate) fn end<V: Drop + Send>(
+    domain: &Domain<V>,
+    desk: &mut Desk<V>,
+    handle: Shared,
+) -> Option<V>
+    requires domain { desk.old.domain ≡ domain.now.id }
+    requires holds { Holds desk.old Owner handle.block handle.place }
+    ensures desk { IsSameDesk desk.old desk.new }
+    ensures bag { bag_of desk.new ≡ without_handle Owner handle.block handle.place (bag_of desk.old) }
+    ensures held { desk.new.held + 1 ≡ desk.old.held }
+{
+    match release(domain, desk, handle) {
+        Left::Empty | Left::Others => None,
+        Left::Last(ending) => Some(bury(domain, desk, ending)),
+    }
+}
+
+// What was left of an object when an owner left.
+#[derive(Clone, Copy, PartialEq, Eq, Debug, Drop)]
+pub(crate) enum Was {
+    Empty,
+    Others,
+    Last,
+}
+
+// What was left of what a cell held: where that was an object's last owner, the object is given up.
+pub(crate) fn told(left: Left<u64>) -> Was {
+    match left {
+        Left::Empty => Was::Empty,
+        Left::Others => Was::Others,
+        Left::Last(ending) => {
+            ending.forget();
+            Was::Last
+        }
+    }
+}
+
+// What an object's end finds: in first, next and up, and its value.
+pub(crate) type Found = (Was, Was, Was, u64);
+
+// The end of an object whose members are the last owners of none.
+pub(crate) fn end_of(domain: &Domain<u64>, desk: &mut Desk<u64>, ending: Ending<u64>) -> Found
+    requires domain { desk.old.domain ≡ domain.now.id }
+    requires ends { Ends desk.old ending }
+    ensures desk { IsSameDesk desk.old desk.new }
+    ensures bag { bag_of desk.new ≡ bag_of desk.old }
+    ensures held { desk.new.held ≡ desk.old.held }
+    ensures endings { KeepsOtherEndings desk.old ending.block.0 desk.new }
+{
+    let mut ending = ending;
+    let first = ending.clear_member(domain, desk, Member::First);
+    let next = ending.clear_member(domain, desk, Member::Next);
+    let up = ending.clear_member(domain, desk, Member::Up);
+    let value = ending.finish(domain, desk);
+    (told(first), told(next), told(up), value)
+}
+
+// An owner leaves.
+pub(crate) fn drop_owner(domain: &Domain<u64>, desk: &mut Desk<u64>, owner: Shared) -> Was
+    requires domain { desk.old.domain ≡ domain.now.id }
+    requires held { Holds desk.old Owner owner.block owner.place }
+    ensures desk { IsSameDesk desk.old desk.new }
+    ensures bag { bag_of desk.new ≡ without_handle Owner owner.block owner.place (bag_of desk.old) }
+    ensures held { desk.new.held + 1 ≡ desk.old.held }
+{
+    match release(domain, desk, owner) {
+        Left::Empty => Was::Empty,
+        Left::Others => Was::Others,
+        Left::Last(ending) => {
+            end_of(domain, desk, ending);
+            Was::Last
+        }
+    }
+}
+
+// An owner leaves, and its object ends where it was the last. 1 where it was.
+pub(crate) fn leave(domain: &Domain<u64>, desk: &mut Desk<u64>, handle: &mut Option<Shared>) -> u64
+    requires domain { desk.old.domain ≡ domain.now.id }
+    requires held { IfSome handle.old (λ h. Holds desk.old Owner h.block h.place) }
+    ensures desk { IsSameDesk desk.old desk.new }
+    ensures spent { handle.new ≡ None }
+{
+    let Some(owner) = handle.take() else {
+        return 0;
+    };
+    match release(domain, desk, owner) {
+        Left::Empty | Left::Others => 0,
+        Left::Last(ending) => {
+            bury(domain, desk, ending);
+            1
+        }
+    }
+}
+
+// A new object with two owners, or none.
+#[tactic(auto, using(shared_handle::proofs::Taken::first_out))]
+pub(crate) fn two_owners(domain: &Domain<u64>, desk: &mut Desk<u64>) -> Option<(Shared, Shared)>
+    requires domain { desk.old.domain ≡ domain.now.id }
+    ensures desk { IsSameDesk desk.old desk.new }
+    ensures bag { IfSome result (λ r. bag_of desk.new ≡ with_handle Owner r.1.block r.1.place (with_handle Owner r.0.block r.0.place (bag_of desk.old))) }
+    ensures real { IfSome result (λ r. (b : Block) × (r.0.block ≡ Some b)) }
+    ensures owners { IfSome result (λ r. (r.1.block ≡ r.0.block) × (r.1.place ≡ r.0.place) × Holds desk.new Owner r.0.block r.0.place × Holds desk.new Owner r.1.block r.1.place) }
+    ensures held { IfSome result (λ _. desk.new.held ≡ desk.old.held + 2) }
+    ensures stock { IfSome result (λ _. length (stock_of desk.new) + 1 ≡ length (stock_of desk.old)) }
+{
+    let Ok(x) = make(domain, desk, [0; 4], false, 7) else {
+        return None;
+    };
+    match share(domain, desk, &x) {
+        Ok(y) => Some((x, y)),
+        Err(_) => {
+            end(domain, desk, x);
+            None
+        }
+    }
+}
+
+// A second desk that has this handle.
+pub(crate) fn hand_over(
+    domain: &Domain<u64>,
+    desk: &mut Desk<u64>,
+    alloc: Global,
+    allowance: u32,
+    blocks: u32,
+    handle: Shared,
+) -> Result<(Desk<u64>, Shared), Shared>
+    requires domain { desk.old.domain ≡ domain.now.id }
+    requires held { Holds desk.old Owner handle.block handle.place }
+    requires blocks { blocks ≤ length (stock_of desk.old) }
+    ensures one { (desk.new.domain ≡ desk.old.domain) × (desk.new.shape ≡ desk.old.shape) × (desk.new.name ≡ desk.old.name) }
+    ensures two { IfOk result (λ r. (r.0.domain ≡ desk.old.domain) × (r.0.shape ≡ desk.old.shape)) }
+    ensures sum { IfOk result (λ r. (allowance_of r.0 ≡ allowance) × (allowance_of desk.new + allowance ≡ allowance_of desk.old)) }
+    ensures bag { IfOk result (λ r. bag_of desk.new ≡ without_handle Owner handle.block handle.place (bag_of desk.old)) }
+    ensures other { IfOk result (λ r. (r.1.block ≡ handle.block) × (r.1.place ≡ handle.place)) }
+    ensures given { IfOk result (λ r. bag_of r.0 ≡ with_handle Owner r.1.block r.1.place []) }
+    ensures held { IfOk result (λ r. Holds r.0 Owner r.1.block r.1.place) }
+    ensures same { IfErr result (λ h. (h ≡ handle) × (desk.new ≡ desk.old)) }
+{
+    let mut handles = Vec::new(alloc);
+    match handles.push(Held::Owner(handle)) {
+        Ok(()) => {}
+        Err(failed) => {
+            let AllocFailed { value } = failed;
+            handles.destroy_empty();
+            return Err(owner_of(value));
+        }
+    }
+    match desk.split(alloc, domain, allowance, blocks, handles) {
+        Ok((two, handles)) => Ok((two, only_owner(handles))),
+        Err(refused) => {
+            let Refused { why: _, back } = refused;
+            Err(only_owner(back))
+        }
+    }
+}
+
+fn owner_of(held: Held) -> Shared
+    requires { (h : Shared) × (held ≡ Held.Owner h) }
+    ensures { held ≡ Held.Owner result }
+{
+    match held {
+        Held::Owner(owner) => owner,
+        Held::Weak(weak) => {
+            weak.into_parts();
+            unreachable!()
+        }
+    }
+}
+
+// The one handle of a list.
+fn only_owner(handles: Vec<Held>) -> Shared
+    requires { (h : Shared) × (handles.items ≡ Held.Owner h ∷ []) }
+    ensures { handles.items ≡ Held.Owner result ∷ [] }
+{
+    let mut handles = handles;
+    let Some(held) = handles.pop() else {
+        unreachable!()
+    };
+    handles.destroy_empty();
+    owner_of(held)
+}
+
+// A handle that was given away.
+pub(crate) fn spent(handle: Option<Shared>)
+    requires { handle ≡ None }
+{
+    match handle {
+        None => {}
+        Some(owner) => {
+            owner.into_parts();
+            unreachable!()
+        }
+    }
+}

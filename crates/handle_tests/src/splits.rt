@@ -1,0 +1,142 @@
+//! What a split gives and keeps.
+ghost use Rattle.std.specs.Prelude.{◌≡◌, ◌+◌, ◌-◌, ◌<◌, ◌≤◌, [], ◌∷◌, length, IfOk, IfErr, IfSome, IsTrue, None, Some};
+ghost use Rattle.control_block.specs.Desks.{allowance_of, bag_of, stock_of};
+ghost use Rattle.control_block.specs.Parting.{listed};
+
+use crate::shapes::shape;
+use control_block::census::close;
+use control_block::desk::Desk;
+use control_block::domain::{Domain, open};
+use control_word::{Block, Refusal, Refused};
+use std::alloc::Global;
+use std::test::Fail;
+
+fn abandon(domain: Domain<u64>, desk: Desk<u64>) {
+    drop(domain);
+    desk.give_up();
+}
+
+// What a split without handles answers.
+fn cut(
+    domain: &Domain<u64>,
+    desk: &mut Desk<u64>,
+    alloc: Global,
+    allowance: u32,
+    blocks: u32,
+) -> Result<Desk<u64>, Refusal>
+    requires domain { desk.old.domain ≡ domain.now.id }
+    requires blocks { blocks ≤ length (stock_of desk.old) }
+    ensures desk { (desk.new.domain ≡ desk.old.domain) × (desk.new.shape ≡ desk.old.shape) }
+    ensures stock { IfOk result (λ d. length (stock_of desk.new) + length (stock_of d) ≡ length (stock_of desk.old)) }
+    ensures same { IfErr result (λ _. desk.new ≡ desk.old) }
+    ensures other { IfOk result (λ d. (d.domain ≡ desk.old.domain) × (d.shape ≡ desk.old.shape)) }
+{
+    match desk.split(alloc, domain, allowance, blocks, Vec::new(alloc)) {
+        Ok((other, handles)) => {
+            handles.destroy_empty();
+            Ok(other)
+        }
+        Err(refused) => {
+            let Refused { why, back } = refused;
+            back.destroy_empty();
+            Err(why)
+        }
+    }
+}
+
+// Allowance, handles, vacant blocks.
+fn numbers(desk: &Desk<u64>) -> (u32, u32, u32) {
+    (desk.allowance(), desk.held(), desk.stock())
+}
+
+// The number of the refusal of a split without handles; 0 where it is given, and joined again.
+fn refusal(
+    domain: &Domain<u64>,
+    desk: &mut Desk<u64>,
+    alloc: Global,
+    allowance: u32,
+    blocks: u32,
+) -> u8
+    requires domain { desk.old.domain ≡ domain.now.id }
+    requires blocks { blocks ≤ length (stock_of desk.old) }
+    ensures desk { (desk.new.domain ≡ desk.old.domain) × (desk.new.shape ≡ desk.old.shape) }
+    ensures stock { length (stock_of desk.new) ≡ length (stock_of desk.old) }
+{
+    match cut(domain, desk, alloc, allowance, blocks) {
+        Ok(other) => {
+            desk.join(domain, other);
+            0
+        }
+        Err(why) => why.number(),
+    }
+}
+
+#[test]
+fn a_split_keeps_one_and_gives_one(rt: HostRuntime) -> Result<(), Fail> {
+    let alloc = rt.alloc();
+    let (domain, mut desk) = open::<u64>(alloc, shape(4, 8)).ok().ok_or("memory")?;
+    let most = refusal(&domain, &mut desk, alloc, 7, 0);
+    let all = refusal(&domain, &mut desk, alloc, 8, 0);
+    let none = refusal(&domain, &mut desk, alloc, 0, 1);
+    let more = refusal(&domain, &mut desk, alloc, u32::MAX, 0);
+    let after = numbers(&desk);
+    abandon(domain, desk);
+    assert_eq!(rt; (most, all, none, more), (0, 4, 4, 4));
+    assert_eq!(rt; after, (8, 0, 4));
+    Ok(())
+}
+
+// Whether all blocks are vacant once the desk closes its domain; none where it is not sole.
+fn all_vacant(domain: Domain<u64>, desk: Desk<u64>) -> Option<bool>
+    requires { (desk.domain ≡ domain.id) × (domain.shape.blocks ≡ 4) }
+{
+    match close(domain, desk) {
+        Ok(census) => {
+            let ends = census.is_vacant(Block(1)) && census.is_vacant(Block(4));
+            let all = ends && census.is_vacant(Block(2)) && census.is_vacant(Block(3));
+            drop(census);
+            Some(all)
+        }
+        Err(refused) => {
+            let Refused {
+                why: _,
+                back: (domain, desk),
+            } = refused;
+            abandon(domain, desk);
+            None
+        }
+    }
+}
+
+#[test]
+fn a_desk_is_cut_and_joined(rt: HostRuntime) -> Result<(), Fail> {
+    let alloc = rt.alloc();
+    let (domain, mut desk) = open::<u64>(alloc, shape(4, 8)).ok().ok_or("memory")?;
+    let Ok(child) = cut(&domain, &mut desk, alloc, 3, 1) else {
+        abandon(domain, desk);
+        return Err("memory".into());
+    };
+    let apart = (numbers(&desk), numbers(&child));
+    let (domain, mut desk, why) = match close(domain, desk) {
+        Ok(census) => {
+            drop(census);
+            child.give_up();
+            return Err("closed".into());
+        }
+        Err(refused) => {
+            let Refused {
+                why,
+                back: (domain, desk),
+            } = refused;
+            (domain, desk, why.number())
+        }
+    };
+    desk.join(&domain, child);
+    let together = (numbers(&desk), desk.is_sole(&domain));
+    let vacant = all_vacant(domain, desk);
+    assert_eq!(rt; apart, ((5, 0, 3), (3, 0, 1)));
+    assert_eq!(rt; why, 9);
+    assert_eq!(rt; together, ((8, 0, 4), true));
+    assert_eq!(rt; vacant, Some(true));
+    Ok(())
+}

@@ -1,0 +1,124 @@
+//! Pointers that an object gives to itself, and the end of one.
+ghost use Rattle.std.specs.Prelude.{◌≡◌, []};
+ghost use Rattle.control_word.specs.declared.handle.Kind.TheVariants.{Owner};
+ghost use Rattle.control_block.specs.Desks.{IsSameDesk, bag_of};
+ghost use Rattle.shared_handle.specs.Calls.{Holds, with_handle};
+ghost use Rattle.shared_handle.specs.Endings.{Ends};
+
+use crate::parts::{bury, end, shape, shut};
+use crate::watching::tell_weak;
+use control_block::desk::Desk;
+use control_block::domain::{Domain, open};
+use control_word::Refusal;
+use shared_handle::{
+    Ending, Left, Shared, expired, make, release, release_weak, shared_from_this, use_count,
+    weak_from_this,
+};
+use std::test::Fail;
+
+// From-this of an owner: the count with a further owner, and what a weak handle tells.
+#[tactic(auto, using(shared_handle::proofs::Taken::first_out))]
+fn this_of(
+    domain: &Domain<u64>,
+    desk: &mut Desk<u64>,
+    owner: &Shared,
+) -> (Result<u32, Refusal>, Result<(bool, u32), Refusal>)
+    requires domain { desk.old.domain ≡ domain.now.id }
+    requires holds { bag_of desk.old ≡ with_handle Owner owner.now.block owner.now.place [] }
+    requires held { desk.old.held ≡ 1 }
+    ensures desk { IsSameDesk desk.old desk.new }
+    ensures bag { bag_of desk.new ≡ bag_of desk.old }
+    ensures held { desk.new.held ≡ desk.old.held }
+{
+    let strong = match shared_from_this(domain, desk, owner) {
+        Ok(other) => {
+            let count = use_count(domain, desk, owner);
+            end(domain, desk, other);
+            Ok(count)
+        }
+        Err(why) => Err(why),
+    };
+    let weak = match weak_from_this(domain, desk, owner) {
+        Ok(weak) => Ok(tell_weak(domain, desk, weak)),
+        Err(why) => Err(why),
+    };
+    (strong, weak)
+}
+
+// What an object that ends says of itself: its fields, whether it is null, and clear before its clears, and why it gives no owner.
+fn last_words(
+    domain: &Domain<u64>,
+    desk: &mut Desk<u64>,
+    ending: &Ending<u64>,
+) -> ([u64; 4], bool, bool, Option<Refusal>)
+    requires domain { desk.old.domain ≡ domain.now.id }
+    requires ends { Ends desk.old ending.now }
+    ensures same { desk.new ≡ desk.old }
+{
+    let fields = ending.fields(domain, desk);
+    let null = ending.is_null(domain, desk);
+    let why = match ending.shared_from_this(domain, desk) {
+        Ok(_) => unreachable!(),
+        Err(why) => why,
+    };
+    (fields, null, ending.is_clear(), Some(why))
+}
+
+type Words = ([u64; 4], bool, Option<Refusal>, bool, u64, u32, u32);
+
+// An object with one owner ends: its last words, whether a weak handle that it gave is expired, its value, and the stock
+// after its end and after the weak handle's.
+fn end_with_a_weak_handle(
+    domain: &Domain<u64>,
+    desk: &mut Desk<u64>,
+    owner: Shared,
+) -> Option<Words>
+    requires domain { desk.old.domain ≡ domain.now.id }
+    requires holds { Holds desk.old Owner owner.block owner.place }
+    ensures desk { IsSameDesk desk.old desk.new }
+{
+    let ending = match release(domain, desk, owner) {
+        Left::Empty | Left::Others => return None,
+        Left::Last(ending) => ending,
+    };
+    let (fields, _, clear, why) = last_words(domain, desk, &ending);
+    let Ok(weak) = ending.weak_from_this(domain, desk) else {
+        bury(domain, desk, ending);
+        return None;
+    };
+    let expired = expired(domain, desk, &weak);
+    let value = bury(domain, desk, ending);
+    let before = desk.stock();
+    release_weak(domain, desk, weak);
+    Some((fields, clear, why, expired, value, before, desk.stock()))
+}
+
+// An enabled object, and its end.
+type Story = (
+    (Result<u32, Refusal>, Result<(bool, u32), Refusal>),
+    Option<Words>,
+);
+
+fn live_and_end(domain: &Domain<u64>, desk: &mut Desk<u64>) -> Option<Story>
+    requires domain { desk.old.domain ≡ domain.now.id }
+    requires fresh { (bag_of desk.old ≡ []) × (desk.old.held ≡ 0) }
+    ensures desk { IsSameDesk desk.old desk.new }
+{
+    let Ok(owner) = make(domain, desk, [1, 2, 3, 4], true, 9) else {
+        return None;
+    };
+    let this = this_of(domain, desk, &owner);
+    Some((this, end_with_a_weak_handle(domain, desk, owner)))
+}
+
+#[test]
+fn an_enabled_object_gives_itself(rt: HostRuntime) -> Result<(), Fail> {
+    let (domain, mut desk) = open::<u64>(rt.alloc(), shape(2, 8)).ok().ok_or("memory")?;
+    let seen = live_and_end(&domain, &mut desk);
+    shut(domain, desk);
+    let this = (Ok(2), Ok((false, 1)));
+    let why = Some(Refusal::BadWeak);
+    let words = ([1, 2, 3, 4], false, why, true, 9, 1, 2);
+    assert_eq!(rt; seen, Some((this, Some(words))));
+    Ok(())
+}

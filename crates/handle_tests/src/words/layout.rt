@@ -1,0 +1,93 @@
+//! Rows of the layout, and the limits.
+use control_word::layout::{
+    DOOR, ENABLED, FIELDS, FLAGS, MEMBERS, NULL, OWNERS, WEAKS, block_word, cell_word, table_words,
+    words_lie_apart,
+};
+use control_word::limits;
+use control_word::place::Block;
+use control_word::shape::{self, Shape};
+
+#[test]
+fn words_lie_where_the_layout_says(rt: HostRuntime) {
+    let first = Block(1);
+    let words = [OWNERS, WEAKS, FLAGS, FIELDS, MEMBERS];
+    assert_eq!(rt; words, [0, 1, 2, 3, 7]);
+    assert_eq!(rt; [ENABLED, NULL, DOOR], [1, 2, 4]);
+    assert_eq!(rt; block_word(first, OWNERS), 0);
+    assert_eq!(rt; block_word(first, MEMBERS + 2), 9);
+    assert_eq!(rt; block_word(Block(2), WEAKS), 17);
+    assert_eq!(rt; block_word(Block(65_535), MEMBERS + 2), 1_048_553);
+    assert_eq!(rt; cell_word(65_535, 0), 1_048_560);
+    assert_eq!(rt; cell_word(4, 0), 64);
+    assert_eq!(rt; cell_word(4, 2), 80);
+    let shape = Shape {
+        blocks: 4,
+        shared_cells: 1,
+        weak_cells: 2,
+        allowance: 8,
+    };
+    assert_eq!(rt; table_words(&shape), 88);
+    words_lie_apart();
+}
+
+fn shape_of(blocks: u32, shared_cells: u32, weak_cells: u32, allowance: u32) -> Shape {
+    Shape {
+        blocks,
+        shared_cells,
+        weak_cells,
+        allowance,
+    }
+}
+
+#[test]
+fn a_shape_has_limits(rt: HostRuntime) {
+    for (shape, within) in [
+        (shape_of(1, 0, 0, 1), true),
+        (shape_of(65_535, 256, 0, 4_194_304), true),
+        (shape_of(65_535, 0, 256, 4_194_304), true),
+        (shape_of(4, 128, 128, 8), true),
+        (shape_of(0, 0, 0, 1), false),
+        (shape_of(65_536, 0, 0, 1), false),
+        (shape_of(1, 257, 0, 1), false),
+        (shape_of(1, 0, 257, 1), false),
+        (shape_of(1, 128, 129, 1), false),
+        (shape_of(1, u32::MAX, 1, 1), false),
+        (shape_of(1, u32::MAX, u32::MAX, 1), false),
+        (shape_of(1, 0, 0, 0), false),
+        (shape_of(1, 0, 0, 4_194_305), false),
+    ] {
+        assert_eq!(rt; shape.is_within_limits(), within, "of {shape:?}");
+    }
+}
+
+#[test]
+fn limits_have_their_numbers(rt: HostRuntime) {
+    let of_domains = [
+        shape::MOST_BLOCKS,
+        shape::MOST_FREE_CELLS,
+        shape::MOST_ALLOWANCE,
+        shape::MOST_OWNERS,
+        shape::MOST_WEAKS,
+        shape::CELL_FUNDS,
+    ];
+    assert_eq!(rt;
+        of_domains,
+        [65_535, 256, 4_194_304, 4_325_630, 4_260_096, 256]
+    );
+    let of_scripts = [
+        limits::SCRIPT_BLOCKS,
+        limits::SCRIPT_THREADS,
+        limits::SCRIPT_NAMES,
+        limits::SCRIPT_STATEMENTS,
+        limits::SCRIPT_SHARED_CELLS,
+        limits::SCRIPT_WEAK_CELLS,
+        limits::SCRIPT_ALLOWANCE,
+        limits::WORKER_ALLOWANCE,
+        limits::MOST_ACTORS,
+    ];
+    assert_eq!(rt;
+        of_scripts,
+        [4_095, 16, 32, 65_536, 128, 128, 1_048_576, 65_535, 64]
+    );
+    assert_eq!(rt; limits::NAME_BYTES, 16);
+}

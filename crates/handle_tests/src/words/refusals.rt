@@ -1,0 +1,79 @@
+//! What refusals are called, and what they hand back.
+ghost use Rattle.std.specs.Prelude.{IsOkUnless};
+
+use control_word::refusal::{Refusal, Refused};
+use std::alloc::{AllocError, Global};
+use std::test::Fail;
+
+#[test]
+fn refusals_have_numbers_and_words(rt: HostRuntime) -> Result<(), Fail> {
+    for (why, shown) in [
+        (Refusal::Memory, "1: memory"),
+        (Refusal::Shape, "2: shape"),
+        (Refusal::Full, "3: full"),
+        (Refusal::Limit, "4: limit"),
+        (Refusal::BadWeak, "5: bad weak"),
+        (Refusal::Null, "6: null"),
+        (Refusal::Outside, "7: outside"),
+        (Refusal::NotEnabled, "8: not enabled"),
+        (Refusal::NotSole, "9: not sole"),
+        (Refusal::Syntax, "10: syntax"),
+        (Refusal::BadTurn, "11: bad turn"),
+        (Refusal::Output, "12: output"),
+        (Refusal::Input, "13: input"),
+    ] {
+        let number = why.number();
+        let message = format!(in rt.alloc(); "{number}: {why}")?;
+        assert_eq!(rt; message.as_str(), shown);
+    }
+    Ok(())
+}
+
+#[test]
+fn a_refusal_hands_back(rt: HostRuntime) {
+    let refused = Refused {
+        why: Refusal::Full,
+        back: 7u64,
+    };
+    assert_eq!(rt;
+        refused,
+        Refused {
+            why: Refusal::Full,
+            back: 7
+        }
+    );
+    let Refused { why, back } = refused;
+    assert_eq!(rt; (why, back), (Refusal::Full, 7));
+}
+
+fn grown(alloc: Global) -> Result<Vec<u8>, Refusal>
+    ensures { IsOkUnless result Refusal.Memory }
+{
+    let mut bytes = Vec::with_capacity(alloc, 1)?;
+    bytes.push(7)?;
+    bytes.push(8)?;
+    Ok(bytes)
+}
+
+/// Must be spent.
+struct Token(u8);
+
+#[test]
+fn a_refusal_hands_back_what_must_be_spent(rt: HostRuntime) {
+    let refused = Refused {
+        why: Refusal::Limit,
+        back: Token(9),
+    };
+    let Refused {
+        why,
+        back: Token(number),
+    } = refused;
+    assert_eq!(rt; (why, number), (Refusal::Limit, 9));
+}
+
+#[test]
+fn a_growth_is_refused_for_memory_alone(rt: HostRuntime) -> Result<(), Fail> {
+    assert_eq!(rt; Refusal::from(AllocError), Refusal::Memory);
+    assert_eq!(rt; grown(rt.alloc())?.as_slice(), [7, 8].as_slice());
+    Ok(())
+}

@@ -1,0 +1,25 @@
+//! Tests of scripts, from their texts to the machine's steps, over the public functions of their crates alone: what no
+//! script that runs reaches.
+#![tactic(auto)]
+
+#[cfg(test)]
+mod acts;
+pub mod calls;
+#[cfg(test)]
+mod holdings;
+#[cfg(test)]
+mod naming;
+#[cfg(test)]
+mod opening;
+#[cfg(test)]
+mod run;
+#[cfg(test)]
+mod steps;
+#[cfg(test)]
+mod table;
+#[cfg(test)]
+mod texts;
+#[cfg(test)]
+mod worlds;
+#[cfg(test)]
+mod writing;

@@ -1,0 +1,168 @@
+//! What no script that runs says: writers that fail, lines that no run of one writes, and lists of turns by themselves.
+use control_word::{Block, Place, Refusal};
+use script_stepper::turns::turns_of;
+use script_stepper::{
+    Output, Sink, WriteFailed, fine_text, step_text, write_all, write_lines, write_text,
+};
+use script_text::Fault;
+use std::alloc::Global;
+use std::io;
+use std::io::Write;
+use std::test::Fail;
+use step_core::{Answer, Ended, Said};
+
+#[test]
+fn lists_of_turns(rt: HostRuntime) -> Result<(), Fail> {
+    let none = turns_of(rt.alloc(), b"", 1)?;
+    assert!(rt; none.is_empty());
+    let some = turns_of(rt.alloc(), b"2,1,16", 16)?;
+    assert_eq!(rt; some.as_slice(), [2, 1, 16].as_slice());
+    let refused = turns_of(rt.alloc(), b"1,17", 16).err();
+    assert_eq!(rt; refused, Some(Fault::BadTurn { position: 2 }));
+    Ok(())
+}
+
+/// A writer that takes two bytes a write. It fails at the write after the last that it is given, and at a flush then.
+#[derive(Drop)]
+struct Short {
+    taken: Vec<u8>,
+    writes: usize,
+    flushed: bool,
+}
+
+impl Short {
+    fn new(alloc: Global, writes: usize) -> Short {
+        Short {
+            taken: Vec::new(alloc),
+            writes,
+            flushed: false,
+        }
+    }
+}
+
+impl io::Write for Short {
+    fn write(&mut self, bytes: &[u8]) -> io::Result<usize> {
+        if self.writes == 0 {
+            return Err(io::ErrorKind::BrokenPipe.into());
+        }
+        self.writes -= 1;
+        let n = bytes.len().min(2);
+        self.taken.write(&bytes[..n])
+    }
+
+    fn flush(&mut self) -> io::Result<()> {
+        if self.writes == 0 {
+            return Err(io::ErrorKind::BrokenPipe.into());
+        }
+        self.flushed = true;
+        Ok(())
+    }
+}
+
+#[test]
+fn a_flush_reaches_the_writer(rt: HostRuntime) {
+    let mut sink = Output::new(Short::new(rt.alloc(), 1));
+    assert_eq!(rt; sink.flush(), Ok(()));
+    assert!(rt; !sink.failed());
+    assert!(rt; sink.into_inner().flushed);
+    let mut broken = Output::new(Short::new(rt.alloc(), 0));
+    assert_eq!(rt; broken.flush(), Err(WriteFailed));
+    assert!(rt; broken.failed());
+}
+
+#[test]
+fn a_writer_that_fails_took_a_beginning(rt: HostRuntime) -> Result<(), Fail> {
+    for writes in 0..4 {
+        let mut short = Short::new(rt.alloc(), writes);
+        let mut sink = Output::new(&mut short);
+        let written = write_all(&mut sink, b"abcde");
+        assert_eq!(rt; sink.failed(), writes < 3);
+        assert_eq!(rt; written.is_err(), writes < 3);
+        assert_eq!(rt;
+            Some(short.taken.as_slice()),
+            b"abcde".get(..5.min(2 * writes))
+        );
+    }
+    Ok(())
+}
+
+const ACTS: [Said; 4] = [
+    Said {
+        statement: 3,
+        answer: Some(Answer::Place(Some(Place {
+            block: Block(65_535),
+            field: 3,
+        }))),
+        ended: None,
+    },
+    Said {
+        statement: 4,
+        answer: Some(Answer::Refused(Refusal::Full)),
+        ended: None,
+    },
+    Said {
+        statement: 5,
+        answer: None,
+        ended: Some(Ended::Fields([1, 2, 0, 18_446_744_073_709_551_615])),
+    },
+    Said {
+        statement: 0,
+        answer: None,
+        ended: Some(Ended::Null),
+    },
+];
+
+#[test]
+fn lines_of_a_thread(rt: HostRuntime) -> Result<(), Fail> {
+    let mut taken = Vec::new(rt.alloc());
+    let mut sink = Output::new(&mut taken);
+    write_lines(rt.alloc(), 16, &ACTS, &mut sink)?;
+    write_text(b"end\n", &mut sink)?;
+    let expected: &[u8] =
+        b"16.3 place 65535.3\n16.4 refused 3\n16.5 end 1 2 0 18446744073709551615\n16.end end null\nend\n";
+    assert_eq!(rt; taken.as_slice(), expected);
+    Ok(())
+}
+
+#[test]
+fn lines_that_a_writer_does_not_take(rt: HostRuntime) -> Result<(), Fail> {
+    let mut short = Short::new(rt.alloc(), 1);
+    let mut sink = Output::new(&mut short);
+    let written = write_lines(rt.alloc(), 1, &ACTS, &mut sink);
+    assert_eq!(rt; written, Err(Fault::Output));
+    assert!(rt; sink.failed());
+    assert_eq!(rt; short.taken.as_slice(), b"1.".as_slice());
+    Ok(())
+}
+
+/// A weak pointer that is loaded by one thread outlives what it shares, which the other owns.
+const SCRIPT: &[u8] =
+    b"make a 3\nweak v a\nstore w0 v\ncount a\nreset a\nthread\nload x w0\nlock b x\n";
+
+/// Lists of turns and of steps with which the lock comes before the last owner leaves.
+const TURNS: &[u8] = b"1,1,1,1,2,1,2,1";
+
+const STEPS: &[u8] = b"1,1,1,1,1,1,1,1,1,1,1,1,1,2,2,2,2,2,1";
+
+const LINES: &[u8] =
+    b"1.4 count 1\n2.2 lock owner\n2.end end 3 0 0 0\nblock 1 owners 0 weaks 1\nmade 1 ended 1 left 0\n";
+
+/// The text has 46 writes: after each number of them but the last the run is refused, with a beginning of the text.
+#[test]
+fn a_writer_that_fails_at_some_write(rt: HostRuntime) -> Result<(), Fail> {
+    for writes in 0..47 {
+        for by_steps in [false, true] {
+            let mut short = Short::new(rt.alloc(), writes);
+            let mut sink = Output::new(&mut short);
+            let written = if by_steps {
+                fine_text(rt.alloc(), SCRIPT, STEPS, &mut sink)
+            } else {
+                step_text(rt.alloc(), SCRIPT, TURNS, &mut sink)
+            };
+            assert_eq!(rt; written.is_ok(), writes == 46);
+            assert_eq!(rt; sink.failed(), writes < 46);
+            assert_eq!(rt; Some(short.taken.as_slice()), LINES.get(..2 * writes));
+        }
+    }
+    Ok(())
+}

@@ -1,6 +1,0 @@
-use Rattle.std.proofs.Common.{sym, ◌∙◌}
-use Rattle.shared_handle.proofs.Taken.{last_of_one}
-use Rattle.shared_handle.proofs.test_parts.only_owner.Goals as goal
-
-pub owner_of-requires : goal.owner_of-requires
-owner_of-requires c = (c.requires.0, last_of_one _ _ _ (sym c.requires.1 ∙ c.in-Some.ensures.items))

@@ -1,0 +1,116 @@
+-- What any step does to a world.
+use Rattle.std.proofs.Common.{◌≡◌, ℕ, ◌<◌, ◌≤◌, Bool, true, false, cond, List, [], ◌∷◌, length, get_or, map, refl, sym, ap, subst, ◌∙◌, ⊎_elim, inl, inr, arith}
+use Rattle.std.proofs.Common.{get_or-set_other}
+use Rattle.std.specs.Prelude.{Option, Some, None, is_some, slice_get}
+use Rattle.std.proofs.lemmas.Bool.{false≢true}
+use Rattle.std.proofs.lemmas.List.{get_or-map, length-map}
+use Rattle.std.proofs.lemmas.Option.{slice_get_cases}
+use Rattle.control_word.specs.declared.event.Entry.{Entry}
+use Rattle.control_word.specs.declared.event.Event.{Event}
+use Rattle.control_word.specs.Histories.{entry}
+use Rattle.step_table.specs.declared.past.Deed.{Deed}
+use Rattle.step_table.specs.Holdings.{Holds}
+use Rattle.step_table.specs.Stories.{Kept, Nothing, Story, added, event_of, state}
+use Rattle.step_threads.specs.declared.ending.Ending.{Ending}
+use Rattle.step_threads.specs.declared.act.Task.{Task}
+use Rattle.step_threads.specs.declared.half.Half.{Half}
+use Rattle.step_threads.specs.declared.half.Half.TheVariants.{Rest}
+use Rattle.step_threads.specs.declared.said.Said.{Said}
+use Rattle.step_threads.specs.declared.said.Stepped.{Stepped}
+use Rattle.step_threads.specs.declared.said.Stepped.TheVariants.{Event as Happened, Quiet, Waited, Done}
+use Rattle.step_threads.specs.declared.thread.Thread.{Thread}
+use Rattle.step_threads.specs.Courses.{Walk, walk}
+use Rattle.step_threads.specs.Scenes.{nowhere, walk_of}
+use Rattle.step_threads.specs.Steps.{Step, answered, at_rest, begun, half_by, is_event as is_done, stepped, story_after, story_by, waits_at, walk_by}
+use Rattle.step_core.specs.Sights.{AllHold, Sight, Takes, half_of, is_event, scene}
+use Rattle.step_core.specs.Turning.{HasBegun}
+use Rattle.step_core.specs.Worlds.{Advances, AllFit, Steps, step_of, thread_walk}
+use Rattle.step_core.proofs.Worlds.{sight}
+use Rattle.step_core.proofs.runs.Extents.{extent_step}
+use Rattle.step_core.proofs.runs.Measures.{at_end}
+use Rattle.step_core.proofs.runs.Waiting.{IsTold, told_at}
+
+abbrev History : Type 0
+History = List (Entry Nothing)
+
+-- a history has one entry more of desk d, or it is the same
+abbrev OneMore : ℕ → History → Bool → History → Type 0
+OneMore d h b h' = (b ≡ true → (e : Event Nothing) × (h' ≡ entry d e ∷ h)) × (b ≡ false → h' ≡ h)
+
+same_history : (d : ℕ) (h : History) → OneMore d h false h
+same_history d h = (λ t. absurd (false≢true t), λ f. refl)
+
+by_event : (d : ℕ) (h : History) (y : Option (Event Nothing)) → OneMore d h (is_some y) (added d y h)
+by_event d h None = same_history d h
+by_event d h (Some e) = (λ t. (e, refl), λ f. absurd (false≢true (sym f)))
+
+by_deed : (d : ℕ) (v : Story) (z : Option Deed) → OneMore d v.history (is_done v z) (story_after v d z).history
+by_deed d v None = same_history d v.history
+by_deed d v (Some x) = by_event d v.history (event_of (state v) x)
+
+event_on : (b : Bool) (x : Said) → is_event (cond b (Happened x) (Quiet x)) ≡ b
+event_on true x = refl
+event_on false x = refl
+
+by_step : (d : ℕ) (v : Story) (o : Option Step) → OneMore d v.history (is_event (stepped v o)) (story_by v d o).history
+by_step d v None = same_history d v.history
+by_step d v (Some x) =
+    subst (λ (b : Bool). OneMore d v.history b (story_after v d x.deed).history)
+    (sym (event_on (is_done v x.deed) x.said)) (by_deed d v x.deed)
+
+by_answer : (d : ℕ) (u : Sight) (r : Stepped) (u' : Sight) → IsTold d u r u'
+    → OneMore d u.story.history (is_event r) u'.story.history
+by_answer d u r u' (inl still) =
+    subst (λ (h : History). OneMore d u.story.history (is_event r) h) (sym still.1)
+    (subst (λ (s : Stepped). OneMore d u.story.history (is_event s) u.story.history) (sym still.0)
+    (same_history d u.story.history))
+by_answer d u r u' (inr said) =
+    subst (λ (h : History). OneMore d u.story.history (is_event r) h) (sym said.1)
+    (subst (λ (s : Stepped). OneMore d u.story.history (is_event s) (story_by u.story d (step_of d u)).history)
+    (sym said.0)
+    (by_step d u.story (step_of d u)))
+
+-- a thread at its end answers so
+over_answer : (v : Story) (d : ℕ) (h : Half) (w : Walk) → h ≡ Rest → w.endings ≡ [] → w.todo ≡ []
+    → answered v d h w ≡ Done
+over_answer v d h w rests none done =
+    ap (λ (k : Half). answered v d k w) rests
+    ∙ ap (λ (es : List Ending). cond (waits_at v w es w.todo) Waited (stepped v (at_rest v d w es))) none
+    ∙ ap (λ (ts : List Task). cond (waits_at v w [] ts) Waited (stepped v (begun v d w ts))) done
+
+-- the slots of threads that have what their desks have
+pub all_hold : (v : Story) (threads : List Thread) → AllFit v threads → AllHold (sight v threads)
+all_hold v threads all d lt =
+    ⊎_elim
+    (λ (p : (t : Thread) × (d < length threads) × (slice_get threads d ≡ Some t) × (get_or threads d t ≡ t)).
+    let w : get_or (map thread_walk threads) d nowhere ≡ walk p.0.course = get_or-map thread_walk threads d p.0
+    nowhere p.1 ∙ ap thread_walk p.3 in
+    subst (λ (k : Walk). Holds d k.slots v) (sym w) (all.each d p.0 p.2).holds)
+    (λ (q : (length threads ≤ d) × (slice_get threads d ≡ None)). absurd
+    (let le = q.0 in let m = length-map threads thread_walk in omega (arith, le, m, lt)))
+    (slice_get_cases threads d).1
+
+pub advances : (d : ℕ) (u u' : Sight) (r : Stepped) → HasBegun d u → Steps d u r u' → length u'.walks ≡ length u.walks
+    → Kept u'.story → AllHold u'
+    → Advances d u r u'
+advances d u u' r begun steps actors kept hands =
+    let x = step_of d u in
+    let one = by_answer d u r u' (told_at d u r u' steps) in
+    let t : Takes d u r u' = record {
+      event = one.0;
+      quiet = one.1;
+      over = (
+        λ e. (at_end d u u' begun (subst (λ (s : Stepped). Steps d u s u') e steps)).1,
+        λ over. steps.0 ∙ over_answer u.story d (half_of u d) (walk_of (scene u) d) over.half over.endings over.walk,
+      );
+      stays = λ e. (at_end d u u' begun (subst (λ (s : Stepped). Steps d u s u') e steps)).0;
+      walks = λ e ne. ap (λ (w : Sight). walk_of (scene w) e) steps.1
+          ∙ get_or-set_other u.walks d e (walk_by (walk_of (scene u) d) x) nowhere ne;
+      halves =
+          λ e ne. ap (λ (w : Sight). half_of w e) steps.1 ∙ get_or-set_other u.halves d e (half_by (half_of u d) x)
+          Rest ne;
+      actors = actors;
+      extent = extent_step d u u' r steps;
+      hands = hands;
+    } in
+    record { steps = steps; takes = t; kept = kept }

@@ -1,0 +1,27 @@
+-- What the step does by which a value goes into a cell.
+use Rattle.std.proofs.Common.{◌≡◌, ℕ, List, ◌∷◌, true, inl, refl, ap}
+use Rattle.std.specs.Prelude.{is_some, option_map}
+use Rattle.step_threads.specs.declared.act.Task.{Task}
+use Rattle.step_threads.specs.declared.half.Half.TheVariants.{Brought}
+use Rattle.step_threads.specs.Courses.{Going, going}
+use Rattle.step_threads.specs.Scenes.{walk_of}
+use Rattle.step_threads.specs.Steps.{sent, swaps}
+use Rattle.step_core.specs.Worlds.{Sight, scene}
+use Rattle.step_core.proofs.turning.Swapping.{CanPut, some_of, swap_over, swaps_so}
+use Rattle.step_core.proofs.turning.Trials.{Next}
+
+pub putting_out : (d : ℕ) (u : Sight) (t : Task) (ts : List Task) → CanPut d u t.act
+    → is_some (going (walk_of (scene u) d).slots t.act) ≡ true
+    → Next d u t.statement ts t.act Brought (sent u.story d (walk_of (scene u) d) (t ∷ ts))
+putting_out d u t ts can is =
+    let w = walk_of (scene u) d in
+    let g = some_of (going w.slots t.act) is in (
+      swaps u.story d w t.statement ts t.act g.0.0 g.0.1,
+      ap (option_map (λ (x : Going). swaps u.story d w t.statement ts t.act x.0 x.1)) g.1,
+      inl (record {
+        event = refl;
+        so = swaps_so d u t.statement ts t.act g.0.0 g.0.1 can g.1;
+        over = swap_over d u t.statement ts t.act g.0.0 g.0.1;
+      }),
+      λ j e. (let q = g.1 in let p = ap (going w.slots) e in cc),
+    )

@@ -1,0 +1,34 @@
+use Rattle.std.proofs.Common.{◌∙◌, sym, subst}
+use Rattle.step_threads.specs.declared.said.Turned.{Turned}
+use Rattle.step_core.specs.Turning.{Plays}
+use Rattle.step_core.proofs.turning.Chains.{more_steps, one_step}
+use Rattle.step_core.proofs.turning.Trying.{trying_done, trying_less, trying_on}
+use Rattle.step_core.proofs.world.World.go_on.Goals as goal
+
+pub loop-stepped-preserved : goal.loop-stepped-preserved
+loop-stepped-preserved c =
+    let s = c.advance-stepped in
+    trying_on c.args.number c.args.self.now c.loop-stepped.self s.new.self s.result c.loop-stepped.invariant
+    s.ensures.was s.ensures.steps s.ensures.never
+    (sym c.is_event.ensures ∙ c.if-is_event.false) s.ensures.actors s.ensures.advances
+
+pub loop-stepped-smaller : goal.loop-stepped-smaller
+loop-stepped-smaller c =
+    let s = c.advance-stepped in
+    trying_less c.args.number c.args.self.now c.loop-stepped.self s.new.self s.result c.loop-stepped.invariant
+    s.ensures.was s.ensures.steps s.ensures.never
+    (sym c.is_event.ensures ∙ c.if-is_event.false)
+
+pub returns-then-is_event-clause-plays : goal.returns-then-is_event-clause-plays
+returns-then-is_event-clause-plays c =
+    let s = c.advance-stepped in
+    subst (λ (t : Turned). Plays c.args.number c.args.self.now t s.new.self) (sym c.turned.ensures)
+    (trying_done c.args.number c.args.self.now c.loop-stepped.self s.new.self s.result c.loop-stepped.invariant
+    s.ensures.was s.ensures.steps s.ensures.never
+    (sym c.is_event.ensures ∙ c.if-is_event.true))
+
+pub returns-then-is_event-clause-goes : goal.returns-then-is_event-clause-goes
+returns-then-is_event-clause-goes c =
+    let s = c.advance-stepped in
+    more_steps c.args.number c.args.self.now c.loop-stepped.self s.new.self c.loop-stepped.invariant.goes
+    (one_step c.args.number c.loop-stepped.self s.new.self s.result s.ensures.advances)

@@ -1,9 +1,0 @@
-use Rattle.std.proofs.Common.{sym, ◌∙◌}
-use Rattle.step_core.proofs.turning.Making.{at_step}
-use Rattle.step_core.proofs.world.World.prepare.Goals as goal
-
-pub loop-self-preserved : goal.loop-self-preserved
-loop-self-preserved c =
-    at_step c.args.number c.args.self.now c.loop-self.self c.advance.new.self c.advance.result c.loop-self.invariant c.advance.ensures.was
-    (sym c.is_preparing.ensures ∙ c.loop-self-test.true) c.advance.ensures.steps c.advance.ensures.actors
-    c.advance.ensures.kept

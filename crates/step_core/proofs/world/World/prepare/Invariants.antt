@@ -1,9 +1,0 @@
-use Rattle.step_core.specs.Worlds.{half_of}
-use Rattle.step_core.proofs.turning.Making.{IsAt, words_left}
-use Rattle.step_core.proofs.world.World.prepare.Given as goal
-
-abbrev pub invariant-loop-self : goal.invariant-loop-self
-invariant-loop-self l = IsAt l.number l.initial.self l.self
-
-abbrev pub decreases-loop-self : goal.decreases-loop-self
-decreases-loop-self l = words_left (half_of l.self l.number)
