@@ -1,0 +1,5 @@
+use Rattle.std.proofs.Common.{◌≡◌, vec_capacity, vec_len}
+use Rattle.slot_arena.proofs.arena.Arena.new.Given as goal
+
+abbrev pub invariant-loop : goal.invariant-loop
+invariant-loop g l = (vec_len l.tokens ≡ l.counter) × (vec_capacity l.tokens ≡ l.count)

@@ -1,0 +1,178 @@
+-- `get` reads through a `&`, at any type of value. Assumes `Logic`.
+use mathlib.Core.Path.{◌≡◌, refl}
+use Prim.Native.Nat.{ℕ, ◌+◌}
+use mathlib.Core.List.{List, [], ◌∷◌}
+use seplogic.Ra.Ura.{Ura}
+use mir.Syntax.{Body, Fn, named, erased, imm, ty_ref, ty_param, ty_named, tnil, tcons, place, copy, assign, rv_opd}
+use mir.Syntax.{seq, return}
+use mir.MapTy.{inst_fn}
+use mir.Val.{Val, vptr}
+use base.Logic.{SProp, ent, sep, emp, via, fst∗}
+use base.Fml.{Fml, Lft, Share, ftrue, fhide, flft}
+use prog.Wp.{Env, Calls, Loops, WpFn, Tables}
+use types.Logic.{Logic, sem}
+use sound.WpLaws.{WpFn-mono}
+use types.Kit.{at_ret, ‵, ◌⊛◌, ◌$◌, ◌∵◌, !, qed, by, move, keep, use1, drop, split, join, fsplit, fjoin, feq_i, raw}
+use types.Kit.{suffices, frame, done}
+use types.Run.{look, init, forget, stop, hop, fld, from, load, of_opd, assigns, assigns_last, first, blocks, exec}
+use types.Run.{returns, enter, alloc1, alloc0, params1, pass1, pass0, free1, free0, addr}
+use contract.Monad.{fact}
+use contract.Running.{tables, tables_of}
+use denote.Builtin.{RefOf}
+use denote.Exit.{yes}
+use denote.RattleType.{RattleType, owns}
+use denote.Memory.{hidden_shr}
+use denote.Opens.{shr_dup, unhide, hide}
+use denote.RawPtr.{RawPtr, block_of, count_of, InBlock, ptr_row_laws}
+use denote.Ref.{Bor, ShrRef, shr_vals, shr_Tells}
+use denote.Signature.{plain}
+use denote.Steps.{heard, nothing}
+use denote.Struct.Struct.{Struct, Struct-row_laws}
+use denote.Struct.Owning.{shape}
+use denote.Struct.Lending.{in_block_says, lent_out}
+use denote.Triple.Carry.{spared}
+use denote.Triple.Clauses.{Clauses, Ended, closing}
+use denote.Triple.Entry.{on_entry}
+use denote.Triple.Spec.{Meets, triple_of}
+use denote.Triple.Table.{entered, run_framed}
+use denote.Triple.Walked.{says, Stays, stay_none_ref, walk_of, ends_at, walked, Goes-none_ref, walk_Meets}
+use Rattle.std.proofs.BoxSteps.Form.{Bx, args, P, R, X}
+use Rattle.std.proofs.Words.{pointer_in, pointer_out}
+use Rattle.slot_arena.proofs.Cells.{D, Full, full, full_row_laws}
+use Rattle.slot_arena.specs.contracts.cell.FullCell as F-type
+use Rattle.slot_arena.specs.contracts.cell.FullCell.get.Key.{name as #self}
+use Rattle.slot_arena.proofs.cell.FullCell.get.Statement as stated
+use Rattle.slot_arena.proofs.cell.FullCell.get.Code as code
+
+module _ (E : Bx) where
+  abbrev fn' : Fn
+  fn' = inst_fn (args E) code.function
+
+  abbrev ended : Ended
+  ended =
+      record {
+        signature =
+            record {
+              lifetimes = 1;
+              outlives = [];
+              params = RefOf (0 ∷ []) tt (plain (λ _. Full E)) (λ _. tt) ∷ [];
+              result = RefOf (0 ∷ []) tt (plain (λ _. R E)) (λ _. tt);
+            };
+        kept = (yes, tt);
+      }
+
+  abbrev stayed : Stays ended.signature.params ended.kept
+  stayed = (stay_none_ref (0 ∷ []) tt (plain (λ _. Full E)) yes, tt)
+
+  abbrev spec : {M : Type 1} (𝓤 : Ura M) → Clauses 𝓤 ended
+  spec 𝓤 κs a = record { ghost = Unit {0}; requires = λ _. emp 𝓤; ensures = λ _ r _. fact 𝓤 (r.now ≡ a.0.now.value) }
+
+abbrev rest : Body
+rest = seq (assign (place 0 []) (rv_opd (copy (place 2 [])))) return
+
+module _ (E : Bx) {M : Type 1} {𝓤 : Ura M} (𝓛 : Logic 𝓤) where
+  open 𝓛 use {H, A}
+
+  abbrev Words : RattleType
+  Words = Struct (shape (full E))
+
+  module _ (κ : Lft) (q : Share) (b o : ℕ) (d : D E) where
+    abbrev self : Bor (D E)
+    self = record { ref_ptr = (b, o); now = d }
+
+    abbrev bound : (walk_of 𝓛 (ended E) (stayed E) (spec E 𝓤)).Ghost
+    bound = (((κ, tt), (q, tt), tt, (self, tt), (vptr b o ∷ [], tt)), tt)
+
+    abbrev Post : Val → SProp 𝓤
+    Post = (walk_of 𝓛 (ended E) (stayed E) (spec E 𝓤)).post bound
+
+    abbrev at : ℕ × ℕ
+    at = (block_of d.at, count_of d.at)
+
+    abbrev fields : Words.Denot
+    fields = (d.at, (d.alloc, tt))
+
+    abbrev Lent : Fml
+    Lent = F-type.the_lent (R E) (P E) E.al.g d d.at κ
+
+    -- a `&` to the fields shows the pointer
+    shows_ptr : ent 𝓤 (sem 𝓛 (hidden_shr Words κ fields b o))
+        (sep 𝓤 (sem 𝓛 (hidden_shr RawPtr κ d.at b (o + 0))) (sem 𝓛 (hidden_shr Words κ fields b o)))
+    shows_ptr =
+        qed 𝓛 (‵ (hidden_shr Words κ fields b o) ∷ []) ∵
+        shr_dup ! Words (Struct-row_laws (shape (full E)) (ptr_row_laws, (E.al.laws.shr_laws, tt))) fields b o κ $
+        unhide ! $ fsplit ! $ fsplit ! $ hide ! $ keep ! (0 ∷ 3 ∷ []) $ done !
+
+    exits : ent 𝓤 (sep 𝓤 (A.lft κ q) (sep 𝓤 (sem 𝓛 (hidden_shr (Full E) κ d b o))
+        (sem 𝓛 (hidden_shr (R E) κ d.value at.0 at.1)))) (Post (vptr at.0 at.1))
+    exits =
+        qed 𝓛 (‵ (flft κ q) ∷ ‵ (hidden_shr (Full E) κ d b o) ∷ ‵ (hidden_shr (R E) κ d.value at.0 at.1) ∷ []) ∵
+        suffices ! _ (ends_at 𝓛 (ended E) (stayed E) (spec E 𝓤) bound (vptr at.0 at.1)
+        (record { ref_ptr = at; now = d.value }) (tt, tt) (tt, tt)) $ says ! refl $
+        nothing ! $ move ! (1 ∷ 0 ∷ []) $ join ! $ frame ! $
+        feq_i ! (List Val) (vptr b o ∷ []) (vptr b o ∷ []) refl $ fjoin ! $
+        nothing ! $ move ! (1 ∷ 0 ∷ []) $ fjoin ! $ frame ! $
+        feq_i ! (List Val) (vptr at.0 at.1 ∷ []) (vptr at.0 at.1 ∷ []) refl $ fjoin ! $ done !
+
+    module _ (C : Calls 𝓤 H) (Λ : Loops 𝓤 H) where
+      walk : ent 𝓤 (on_entry 𝓛 (ended E).signature (κ, tt) (q, tt) (self, tt) (vptr b o ∷ [], tt))
+          (WpFn 𝓤 H C Λ (fn' E) (vptr b o ∷ []) Post)
+      walk =
+          qed 𝓛 ((‵ (flft κ q) ⊛ ‵ ftrue) ∷ ‵ (owns (ShrRef (named 0) κ (Full E) ∷ []) (self, tt) (
+            vptr b o
+                ∷ [],
+            tt,
+          )) ∷ []) ∵
+          enter ! C Λ (fn' E) (vptr b o ∷ []) _ $
+          alloc1 ! (λ l₀. alloc1 ! (λ l₁. alloc1 ! (λ l₂. alloc0 ! $ params1 ! $ pass1 ! (init ! 2 refl (tt, tt)) $
+          pass0 ! $
+          let En : Env 𝓤 H =
+          ((ty_ref (named 0) imm (ty_param 0), l₀)
+          ∷ (ty_ref (named 0) imm (ty_named ((full E).name, []) (tcons (ty_param 0) (tcons (ty_param 1) tnil))), l₁)
+          ∷ (ty_ref erased imm (ty_param 0), l₂) ∷ []) in
+          move ! (7 ∷ []) $
+          fsplit ! $ fsplit ! $ drop ! $ shr_dup ! (Full E) (full_row_laws E) d b o κ $
+          use1 𝓛 (‵ (hidden_shr Words κ fields b o) ⊛ ‵ (fhide Lent))
+          (lent_out 𝓛 (F-type.struct (R E) (P E) E.al.g) (F-type.the_codes (X E) (P E).Denot (R E).coded (P E).coded)
+          (F-type.the_heap (R E) (P E) E.al.g) (F-type.the_lent (R E) (P E) E.al.g) κ d b o) $ split ! $
+          move ! (1 ∷ []) $
+          unhide ! $ fsplit ! $ use1 𝓛 (raw (fact 𝓤 (InBlock d.at))) (in_block_says 𝓛 d.at) $
+          heard ! (InBlock d.at) (λ inb. hide ! $
+          move ! (10 ∷ []) $
+          split ! $
+          move ! (3 ∷ 0 ∷ []) $
+          first ! $ blocks ! $
+          pointer_in ! tt d.at inb b (o + 0) shows_ptr (λ q'.
+          assigns_last ! (addr ! (from ! (hop ! (look ! 10 refl) (fld ! refl (hop ! (look ! 1 refl) (stop !))))))
+          (from ! (stop !)) (init ! 8 refl (tt, tt)) $
+          exec ! C Λ En rest (at_ret En Post) $
+          pointer_out ! tt d.at inb b (o + 0) $
+          assigns ! (of_opd ! (load ! (from ! (stop !)) (look ! 6 refl))) (from ! (stop !)) (init ! 10 refl (tt, tt)) $
+          returns ! (look ! 10 refl) $
+          forget ! 6 refl $ forget ! 8 refl $ forget ! 10 refl $
+          move ! (10 ∷ 11 ∷ []) $ free1 ! $ move ! (8 ∷ 9 ∷ []) $ free1 ! $ move ! (6 ∷ 7 ∷ []) $ free1 ! $ free0 ! $
+          keep ! (0 ∷ 4 ∷ 3 ∷ []) $
+          by ! exits)))))
+
+  meets : (𝓣 : Tables 𝓤 H) → Meets 𝓛 (ended E).signature (WpFn 𝓤 H 𝓣.C 𝓣.Λ (fn' E)) (closing 𝓛 (ended E) (spec E 𝓤))
+  meets 𝓣 =
+      walk_Meets 𝓛 (ended E) (stayed E) (Goes-none_ref 𝓛 1 (0 ∷ []) tt (plain (λ _. Full E)) yes, tt)
+      (spec E 𝓤) (WpFn 𝓤 H 𝓣.C 𝓣.Λ (fn' E)) (WpFn-mono 𝓤 H 𝓛.laws 𝓣 (fn' E))
+      (walked 𝓛 (ended E) (stayed E) (spec E 𝓤) (WpFn 𝓤 H 𝓣.C 𝓣.Λ (fn' E))
+      (λ κs. (shr_vals, tt)) (λ κs. (shr_Tells (named 0) κs.0 (Full E), tt))
+      (λ κs qs bounds a g are. via 𝓤 _ (fst∗ 𝓤 _ (emp 𝓤))
+      (walk κs.0 qs.0 a.0.ref_ptr.0 a.0.ref_ptr.1 a.0.now 𝓣.C 𝓣.Λ)))
+
+pub get_spec : {M : Type 1} → stated.statement M
+unfolding tables_of
+get_spec 𝓤 𝓛 𝓜 𝓡 wired Y Z L LZ g d dd met md y =
+    let E : Bx = record { row = Y; laws = L; al = record { row = Z; laws = LZ; g = g; d = d; drops = dd } } in
+    let A = 𝓛.A in
+    let 𝓣 : Tables 𝓤 𝓛.H = tables_of 𝓤 𝓛.H 𝓜 (tables 𝓤 𝓛.H 𝓜 𝓡 𝓡.env) in
+    let clauses = closing 𝓛 (ended E) (spec E 𝓤) in
+    let run = 𝓡.run (𝓡.env (#self (args E))) in
+    let framed = run_framed 𝓤 𝓛.H 𝓜 𝓡 (𝓡.env (#self (args E))) in
+    let unfolded = code.unfolded 𝓤 𝓛.H 𝓜 𝓡 wired (Y, (Z, tt)) d dd in
+    spared 𝓛 (ended E).signature run framed 2 (Y.lives, (Z.lives, tt)) clauses
+    (entered 𝓤 𝓛.H (triple_of 𝓛 (ended E).signature clauses) 𝓣.C 𝓣.Λ (#self (args E)) (fn' E) unfolded (meets E 𝓛 𝓣))
+    ((y.0.0, y.0.1, tt, y.0.3, y.0.4), y.1)
