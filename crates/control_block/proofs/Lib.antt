@@ -26,7 +26,6 @@ pub mod Hands
 pub mod Slots
 pub mod LastOwners
 pub mod Visiting
-pub mod Fixed
 pub mod Chairs
 pub mod Parts
 pub mod Bags

@@ -2,7 +2,7 @@
 use Rattle.control_block.specs.Desks.{many_ending}
 use Rattle.std.proofs.Common.{◌≡◌, ℕ, ◌+◌, ◌≤◌, min, true, false, List, [], ◌++◌, length, Option, Some, None, ◌<◌, refl, sym, ap, subst, ◌∙◌, ⊎_elim, arith}
 use Rattle.std.proofs.lemmas.Bool.{cases_lt}
-use Rattle.control_word.proofs.views.Resting.{sum_at}
+use Rattle.control_word.proofs.lists.Sums.{sum_at}
 use Rattle.std.specs.List.{filter}
 use Rattle.std.specs.Prelude.{vec_capacity}
 use Rattle.control_word.proofs.history.Allowances.{allowed}

@@ -6,7 +6,7 @@ use Rattle.control_word.proofs.history.Soundness.{Sound}
 use Rattle.control_word.proofs.lists.Parts.{part_has}
 use Rattle.control_word.proofs.lists.Sums.{sum_le}
 use Rattle.control_word.proofs.lists.Tallies.{num_cons}
-use Rattle.control_word.proofs.views.Resting.{sum_at}
+use Rattle.control_word.proofs.lists.Sums.{sum_at}
 use Rattle.control_word.specs.Laws.{how_often}
 use Rattle.control_word.specs.State.{Has, Opening, State, Stored, stock, sum_below}
 

@@ -1,6 +1,6 @@
 -- What each kind of step tells.
 use Rattle.std.specs.Prelude.{◌≡◌, ◌≢◌, ◌⊎◌, ◌-◌, ◌%◌, Bool, length, slice_index, slice_set, ℕ, zero, suc, ◌+◌, ◌<◌, ◌≤◌, ◌==◌}
-use Rattle.std.specs.Prelude.{cond, true, false, List, [], ◌∷◌, ◌++◌, Option, Some, None}
+use Rattle.std.specs.Prelude.{true, false, List, [], ◌∷◌, ◌++◌, Option, Some, None}
 use Rattle.atomic_table.specs.Table.{Me, Step}
 use Rattle.control_word.specs.declared.event.Entry.{Entry}
 use Rattle.control_word.specs.declared.event.Event.{Event}
@@ -14,16 +14,12 @@ use Rattle.control_word.specs.declared.view.Pending.TheVariants.{Idle, Making, P
 use Rattle.control_word.specs.Events.{place_at}
 use Rattle.control_word.specs.Handles.{empty, handle, owner, weak_of}
 use Rattle.control_word.specs.Histories.{entry, leads, value, IsLegal}
-use Rattle.control_word.specs.Packing.{number_of, funds_of}
+use Rattle.control_word.specs.Packing.{told}
 use Rattle.control_word.specs.Words.{flags_of}
 use Rattle.control_word.specs.State.{Object, State, Has, HasAll, ending, kind_of_member, same_held, same_stored, stored, held, bag_size, count}
 use Rattle.control_word.specs.Views.{NoneBy, Knows, comes, together, used_up}
 use Rattle.control_block.specs.Rule.{opening_of, seeing}
 use Rattle.control_block.specs.declared.board.Sight.{Sight}
-
--- the number that an owner word tells
-abbrev pub told : ℕ → ℕ
-told n = cond (number_of n == 0) (cond (funds_of n == 0) 0 1) (number_of n)
 
 -- what word j of an object's flags and fields tells: word 0 the flags, which may have a shut door beside them
 abbrev pub IsTold : ℕ → Object → ℕ → Type 0

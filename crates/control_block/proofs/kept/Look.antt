@@ -1,18 +1,15 @@
 -- Looks, which change no word: use_count, expired, and a field.
 use Rattle.std.proofs.Common.{◌≡◌, ◌≢◌, ℕ, zero, suc, ◌+◌, ◌*◌, ◌%◌, ◌/◌, ◌<◌, ◌≤◌, ◌==◌, Bool, true, false, List, ◌∷◌, get_or, set, map, Option, Some}
 use Rattle.std.proofs.Common.{refl, sym, ap, subst, ◌∙◌, inl, ⊎_elim, arith}
-use Rattle.std.proofs.lemmas.Bool.{cases_eq}
 use Rattle.atomic_table.specs.Table.{Allows, step}
-use mathlib.Core.Option.{none, some, some-injective}
+use mathlib.Core.Option.{none, some}
 use lib.ListN.{get_elem?}
-use Rattle.control_word.proofs.history.Allowances.{allowed}
+use Rattle.control_word.proofs.history.Sole.{alone as acts_alone}
 use Rattle.control_word.proofs.steps.Look as law
 use Rattle.control_word.proofs.steps.Look.{load_is_write}
-use Rattle.control_word.proofs.views.Resting.{sum_at}
-use Rattle.control_word.proofs.words.Frames.{total_none}
+use Rattle.control_word.proofs.views.Resting.{sole_owes}
 use Rattle.control_word.specs.Handles.{handle, owner, weak_of}
-use Rattle.control_word.specs.State.{Opening, sum_below, count}
-use Rattle.control_word.specs.Views.{owed, owes}
+use Rattle.control_word.specs.State.{Opening, count}
 use Rattle.control_word.specs.declared.event.Entry.{Entry}
 use Rattle.control_word.specs.declared.event.Event.TheVariants.{Count, Expired, Read}
 use Rattle.control_word.specs.declared.handle.Kind.{Kind}
@@ -20,21 +17,14 @@ use Rattle.control_word.specs.declared.handle.Kind.TheVariants.{Owner, Weak}
 use Rattle.control_word.specs.declared.view.View.{View}
 use Rattle.control_word.specs.Histories.{entry, leads}
 use Rattle.control_word.specs.Layout.{spot}
+use Rattle.control_word.specs.Packing.{told}
 use Rattle.control_word.specs.Views.{Stands, sees_as}
 use Rattle.control_word.specs.declared.place.Place.{Place}
 use Rattle.control_word.specs.declared.shape.Shape.{Shape}
 use Rattle.control_word.specs.declared.view.Pending.TheVariants.{Idle}
 use Rattle.control_block.specs.Rule.{Ruled, opening_of, view_of}
-use Rattle.control_block.specs.Plays.{At, Holding, Rests, counted, found_expired, read, told}
+use Rattle.control_block.specs.Plays.{At, Holding, Rests, counted, found_expired, read}
 use Rattle.control_block.proofs.Passage.{allows_event, allows_telling, held_there, plain, point, ready}
-
--- two terms of a sum
-sum_two : (n p q : ℕ) (f : ℕ → ℕ) → p < n → q < n → p ≢ q → f p + f q ≤ sum_below n f
-sum_two zero p q f lp lq ne = absurd (omega arith)
-sum_two (suc n) p q f lp lq ne =
-    ⊎_elim (λ (e : p ≡ n). let t = ap f e in let u = sum_at n q f (omega arith) in omega arith)
-    (λ (np : p ≢ n). ⊎_elim (λ (e : q ≡ n). let t = ap f e in let u = sum_at n p f (omega arith) in omega arith)
-    (λ (nq : q ≢ n). let t = sum_two n p q f (omega arith) (omega arith) ne in omega arith) (cases_eq q n)) (cases_eq p n)
 
 halved : (n : ℕ) → n ≡ n % 4294967296 + 4294967296 * (n / 4294967296)
 halved n = omega arith
@@ -48,25 +38,9 @@ module _ {V : Type 0} where
       → get_elem? views i ≡ some v → v.spent ≡ false → (leads z h).allowance v.name ≡ z.allowance → (j : ℕ) (u : View V) → get_elem? views j ≡ some u
       → u.spent ≡ false → j ≡ i
   alone z words views h stands i v at awake whole j u there un =
-      let s = leads z h in let fine = allowed z h stands.legal in
-      let mine = (stands.team.seated i v at awake).acts v.name (inl refl) in
-      let other = (stands.team.seated j u there un).acts u.name (inl refl) in
-      ⊎_elim (λ (e : u.name ≡ v.name). stands.team.names j i u v there at un awake v.name (inl e) (inl refl))
-      (λ (n : u.name ≢ v.name).
-      let t = sum_two s.names u.name v.name s.allowance other.0 mine.0 n in let b = fine.shares in let c = other.2 in absurd (omega arith))
-      (cases_eq u.name v.name)
-
-  -- then no load is under way
-  pub nothing_owed : (z : Opening) (words : List ℕ) (views : List (View V)) (h : List (Entry V)) → Stands z words views h → (i : ℕ) (v : View V)
-      → get_elem? views i ≡ some v → v.spent ≡ false → v.pending ≡ Idle → (leads z h).allowance v.name ≡ z.allowance → (w : ℕ) → owed views w ≡ 0
-  nothing_owed z words views h stands i v at awake idle whole w =
-      total_none (λ (u : View V). owes u.pending w) views (λ j u e. go j u e u.spent refl)
-    where
-      go : (j : ℕ) (u : View V) → get_elem? views j ≡ some u → (t : Bool) → u.spent ≡ t → owes u.pending w ≡ 0
-      go j u e true t = ap (λ p. owes p w) (stands.team.rests j u e t)
-      go j u e false t =
-          let q : some u ≡ some v = sym e ∙ (ap (get_elem? views) (alone z words views h stands i v at awake whole j u e t) ∙ at) in
-          ap (λ (y : View V). owes y.pending w) (some-injective u v q) ∙ ap (λ p. owes p w) idle
+      let acts = (stands.team.seated j u there un).acts u.name (inl refl) in
+      stands.team.names j i u v there at un awake v.name
+      (inl (acts_alone z h stands.legal v.name u.name whole acts)) (inl refl)
 
   -- a load is a write of what is there
   pub looked : (z : Opening) (words : List ℕ) (i : ℕ) (views : List (View V)) (h : List (Entry V)) → Stands z words views h
@@ -91,7 +65,7 @@ module _ {V : Type 0} where
         λ a. (
           a,
           refl,
-          λ whole. t.1 (nothing_owed z s.words views r.history r.stands id v.view now.seated rests.awake rests.idle
+          λ whole. t.1 (sole_owes z s.words views r.history r.stands id v.view now.seated rests.awake rests.idle
               (subst (λ y. (leads (opening_of y) r.history).allowance v.view.name ≡ y.allowance) (r.shapes id v at rests.awake) whole) j)
               ∙ ap (λ y. count (leads (opening_of y) r.history) o) (sym (r.shapes id v at rests.awake)),
         ),

@@ -7,6 +7,7 @@ use Rattle.atomic_table.specs.Table as Table
 use Rattle.atomic_table.specs.Table.{Allows, keeps, step}
 use mathlib.Core.Option.{none, some}
 use lib.ListN.{get_elem?}
+use Rattle.control_word.proofs.history.Kept.{stays_as_made}
 use Rattle.control_word.proofs.history.Legal.{held_busy, sound}
 use Rattle.control_word.proofs.history.Soundness.{IsBusy}
 use Rattle.control_word.proofs.words.Body.{body_more, body_read, words_field, words_flags}
@@ -27,7 +28,6 @@ use Rattle.control_block.specs.Rule.{Ruled, opening_of, view_of}
 use Rattle.control_block.specs.Plays.{At, Ends, Holding, IsNear, IsTold, known, peeked}
 use Rattle.control_block.specs.declared.board.Sight.{Sight}
 use Rattle.control_block.proofs.Endings.{ends_busy, ends_here}
-use Rattle.control_block.proofs.Fixed.{Fixed, fixed_kept}
 use Rattle.control_block.proofs.Lists.{set_same}
 use Rattle.control_block.proofs.Passage.{held_there, known_as, knows, legal_known, still_ending}
 use Rattle.control_word.proofs.history.Others.{held_made}
@@ -36,9 +36,13 @@ times_four : {A : Type 0} (f g : A → ℕ) (l : List A) → ((i : ℕ) (a : A) 
 times_four f g [] h = omega arith
 times_four f g (x ∷ xs) h = let t = h 0 x refl in let u = times_four f g xs (λ i a e. h (suc i) a e) in omega arith
 
-told_as : (j : ℕ) (x y : Object) (n : ℕ) → Fixed x y → IsTold j y n → IsTold j x n
-told_as zero x y n f t = t ∙ (λ i. flags_of (f.enabled i) (f.null i))
-told_as (suc k) x y n f t = t ∙ ap (λ l. slice_index l k) f.fields
+-- the one has what the other was made with
+abbrev IsAsMade : Object → Object → Type 0
+IsAsMade x y = (y.block ≡ x.block) × (y.fields ≡ x.fields) × (y.enabled ≡ x.enabled) × (y.null ≡ x.null)
+
+told_as : (j : ℕ) (x y : Object) (n : ℕ) → IsAsMade x y → IsTold j y n → IsTold j x n
+told_as zero x y n f t = t ∙ (λ i. flags_of (f.2 i) (f.3 i))
+told_as (suc k) x y n f t = t ∙ ap (λ l. slice_index l k) f.1
 
 module _ {V : Type 0} where
   -- the doors that a half-done call has shut at word i
@@ -113,10 +117,10 @@ module _ {V : Type 0} where
       let same_words : set s.words i (get_or s.words i 0) ≡ s.words = set-get_or s.words i 0 in
       let same_views : set s.views id v ≡ s.views = set_same s.views id v at in
       let told = told_now z s.words (map view_of s.views) r.history r.stands o j there.1 low in
-      let kept : Fixed ((known v).object o) (h.object o) = subst (λ (y : Rattle.control_word.specs.State.State). Fixed (y.object o) (h.object o))
-      (sym (known_as k s r id v at awake))
-      (subst (λ l. Fixed ((leads z v.view.seen).object o) ((leads z l).object o)) (sym (knows k s r id v at awake).1)
-      (fixed_kept z (knows k s r id v at awake).0 v.view.seen o there.2)) in (
+      let kept : IsAsMade ((known v).object o) (h.object o) =
+      subst (λ (y : Rattle.control_word.specs.State.State). IsAsMade (y.object o) (h.object o)) (sym (known_as k s r id v at awake))
+      (subst (λ l. IsAsMade ((leads z v.view.seen).object o) ((leads z l).object o)) (sym (knows k s r id v at awake).1)
+      (stays_as_made z (knows k s r id v at awake).0 v.view.seen o there.2)) in (
         v,
         keeps,
         tt,
