@@ -9,5 +9,5 @@ returns-clause-desk c =
       record { table = same.0 ∙ desk.0.table; shape = same.1 ∙ desk.0.shape },
       owned,
       held_still c.args.desk.now c.end-2.new.desk c.join.new.self c.args._common.now.block
-      c.args._common.now.place owned.0 owned.1 desk.2 c.join.ensures.handles,
+          c.args._common.now.place owned.0 owned.1 desk.2 c.join.ensures.handles,
     )
