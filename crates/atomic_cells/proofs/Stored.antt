@@ -10,8 +10,9 @@ use Rattle.control_block.specs.CellCalls.{handle_in}
 use Rattle.control_block.specs.Clearing.{Lets, LetsWeakly}
 use Rattle.control_block.specs.Desks.{Adds, DeskNow, IsEnding, on_latest, stock_of}
 use Rattle.control_block.specs.Storing.{Replaces, ReplacesWeakly}
+use Rattle.shared_handle.proofs.Beside.{ends_through_swap, left_apart}
 use Rattle.shared_handle.specs.Calls.{LeavesWeakly}
-use Rattle.shared_handle.specs.Endings.{Ends, IsGone, IsLeft, IsLeftOf, IsUncleared, more_ending}
+use Rattle.shared_handle.specs.Endings.{Ends, IsApart, IsGone, IsLeft, IsLeftOf, IsUncleared, more_ending}
 use Rattle.shared_handle.specs.declared.endings.Ending.{Ending}
 use Rattle.shared_handle.specs.declared.endings.Left.{Left}
 use Rattle.shared_handle.specs.declared.endings.Left.TheVariants.{Empty, Last, Others}
@@ -48,6 +49,11 @@ module _ {V : Type 0} where
       → Replaces d cell (handle_in d Owner b p) c q r e → IsLeftOf c r left → Stores d cell b p left e
   stores d e cell b p c q r left t is =
       record { block = c; place = q; between = t.between; exchanges = t.swaps; leaves = is_left t.between e c q r left is t.lets }
+
+  -- what ends by it lies in no block in which something was ending in the desk's hands
+  pub stores_apart : (d e : DeskNow V) (cell : Cell) (b : Option Block) (p : Option Place) (left : Left V) → Stores d cell b p left e → IsApart d left
+  stores_apart d e cell b p left t k ends =
+      left_apart t.between e t.block t.place left t.leaves k (ends_through_swap d t.between k cell _ _ ends t.exchanges)
 
   -- the same of a weak one
   leaves_weakly : (d e : DeskNow V) (c : Option Block) (p : Option Place) (vacant : Bool) → LetsWeakly d c p vacant e → LeavesWeakly d c p vacant e

@@ -4,7 +4,7 @@ ghost use Rattle.control_word.specs.declared.handle.Kind.TheVariants.{Owner};
 ghost use Rattle.control_block.specs.Desks.{Belongs};
 ghost use Rattle.control_block.specs.Desks.{Keeps, KeepsStock, allowance_of, bag_of, endings_of, held_of};
 ghost use Rattle.shared_handle.specs.Calls.{Holds, with_handle, without_handle};
-ghost use Rattle.shared_handle.specs.Endings.{more_ending};
+ghost use Rattle.shared_handle.specs.Endings.{IsApart, more_ending};
 ghost use Rattle.atomic_cells.specs.Cells.{Exchanges, Loads, Stores};
 ghost use Rattle.atomic_cells.specs.Sites.{IsMember, IsOpen, shared_cell, shared_site};
 ghost use Rattle.atomic_cells.specs.declared.shared_at.SharedAt.{SharedAt};
@@ -111,7 +111,8 @@ impl<'a> SharedAt<'a> {
     }
 
     /// The pointer goes into the cell, and what the cell held leaves ([util.smartptr.atomic.shared]); where that was an
-    /// object's last owner, the object ends in the desk's hands. It waits for nobody, and refuses nothing.
+    /// object's last owner, the object ends in the desk's hands, in another block than all that ended there before. It waits
+    /// for nobody, and refuses nothing.
     #[inline]
     pub fn store<V: Drop + Send>(
         &self,
@@ -127,6 +128,7 @@ impl<'a> SharedAt<'a> {
         ensures held { desk.new.held + 1 ≡ desk.old.held }
         ensures keeps { KeepsStock desk.old desk.new }
         ensures count { endings_of desk.new ≡ endings_of desk.old + more_ending result }
+        ensures apart { IsApart desk.old result }
     {
         let (block, place) = handle.into_parts();
         let new = Content {

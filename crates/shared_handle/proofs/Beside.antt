@@ -1,27 +1,30 @@
 -- Objects that end beside each other in a desk's hands, one out of the other's member.
-use Rattle.std.proofs.Common.{◌≡◌, ◌≢◌, ◌++◌, ◌∷◌, ℕ, true, Option, None, Some, refl, sym, ap, subst, ◌∙◌}
+use Rattle.std.proofs.Common.{◌≡◌, ◌≢◌, ◌++◌, ℕ, true, Option, None, Some, refl, sym, ap, subst, ◌∙◌}
 use Rattle.control_word.proofs.history.Legal.{sound}
-use Rattle.control_word.proofs.lists.Tallies.{put_same}
+use Rattle.control_word.proofs.lists.Tallies.{put_cases}
+use Rattle.control_word.specs.Events.{after, loses}
 use Rattle.control_word.specs.Handles.{empty}
-use Rattle.control_word.specs.Histories.{IsLegal, entry, leads}
+use Rattle.control_word.specs.Histories.{IsLegal, leads}
 use Rattle.control_word.specs.State.{Object, State, ending, kind_of_member, put}
-use Rattle.control_word.specs.declared.event.Event.TheVariants.{ClearMember, Leave}
+use Rattle.control_word.specs.declared.event.Cell.{Cell}
+use Rattle.control_word.specs.declared.event.Event.{Event}
+use Rattle.control_word.specs.declared.event.Event.TheVariants.{ClearMember, Leave, Swap}
 use Rattle.control_word.specs.declared.handle.Handle.{Handle}
 use Rattle.control_word.specs.declared.handle.Kind.TheVariants.{Owner}
 use Rattle.control_word.specs.declared.place.Block.{Block}
 use Rattle.control_word.specs.declared.place.Place.{Place}
-use Rattle.control_block.proofs.Endings.{not_live, still_ends}
+use Rattle.control_block.proofs.Endings.{fills_latest, fills_phase, not_live, still_ends}
 use Rattle.control_block.specs.Clearing.{Empties}
 use Rattle.control_block.specs.Desks.{Adds, DeskNow, KeepsOtherEndings, latest_of, object_in, on_latest, state_of}
 use Rattle.control_block.specs.Rule.{opening_of}
-use Rattle.shared_handle.specs.Endings.{ClearsUp, Ends, IsBeside}
+use Rattle.shared_handle.specs.Endings.{ClearsUp, Ends, IsApart, IsBeside, IsLeft}
 use Rattle.shared_handle.specs.declared.endings.Ending.{Ending}
 use Rattle.shared_handle.specs.declared.endings.Left.{Left}
 use Rattle.shared_handle.specs.declared.endings.Left.TheVariants.{Empty, Last, Others}
 
 module _ {V : Type 0} where
   -- an owner that was the last had a live object, which isn't one that ended before
-  apart : (d e : DeskNow V) (b c : ℕ) (p : Option Place) → (object_in d b).phase ≡ ending d.name
+  pub apart : (d e : DeskNow V) (b c : ℕ) (p : Option Place) → (object_in d b).phase ≡ ending d.name
       → Adds d (Leave (on_latest d Owner p c) true) e → b ≢ c
   apart d e b c p ends adds same =
       let z = opening_of d.shape in let h = on_latest d Owner p c in
@@ -33,37 +36,54 @@ module _ {V : Type 0} where
       not_live z (leads z hist) b d.name (sound z hist legal.0) now h d.name legal.1.asks.0
       (still.latest ∙ ap (latest_of d) same)
 
-  -- an object ends still, when a member of its was cleared
-  ends_still : (d e : DeskNow V) (b m : ℕ) (h : Handle) → (object_in d b).phase ≡ ending d.name
-      → Adds d (ClearMember (latest_of d b) m h) e → (object_in e b).phase ≡ ending e.name
-  ends_still d e b m h ends adds =
-      let z = opening_of d.shape in let o = latest_of d b in
+  -- an object ends still after a call on which its block and its phase hang nowhere
+  through : (d e : DeskNow V) (b : ℕ) (x : Event V) → ((s : State) → (after s d.name x).latest b ≡ s.latest b)
+      → ((s : State) (o : ℕ) → ((after s d.name x).object o).phase ≡ (s.object o).phase)
+      → (object_in d b).phase ≡ ending d.name → Adds d x e → (object_in e b).phase ≡ ending e.name
+  through d e b x block phase ends adds =
+      let z = opening_of d.shape in
       let legal = subst (IsLegal z) adds.seen adds.legal in
-      let hist = adds.between ++ d.seen in
+      let s = leads z (adds.between ++ d.seen) in
       let still = still_ends z adds.between d.seen b d.name legal.0 adds.quiet ends in
-      let s = leads z hist in
-      let x = s.object o in
-      let after : Object = record x { member = put x.member m (empty (kind_of_member m)) } in
-      let now : state_of e ≡ leads z (entry d.name (ClearMember o m h) ∷ hist) =
-      (λ i. leads (opening_of (adds.same.1 i)) (adds.seen i)) in
+      let now : state_of e ≡ after s d.name x = (λ i. leads (opening_of (adds.same.1 i)) (adds.seen i)) in
       ap (λ (u : State). (u.object (u.latest b)).phase) now
-      ∙ (ap (λ q. (put s.object o after q).phase) still.latest
-      ∙ (ap (λ (y : Object). y.phase) (put_same s.object o after o refl) ∙ (still.object.phase ∙ (ends ∙ ap ending (sym adds.same.2)))))
+      ∙ (ap (λ o. ((after s d.name x).object o).phase) (block s ∙ still.latest)
+      ∙ (phase s (latest_of d b) ∙ (still.object.phase ∙ (ends ∙ ap ending (sym adds.same.2)))))
 
-  -- what came out of a member and was an object's last owner, was that of another object
-  pub out_beside : (d e : DeskNow V) (b m : ℕ) (h : Option Block) (p : Option Place) (r : Option V) (c y : Block) (v : V)
-      → (object_in d b).phase ≡ ending d.name → Empties d b m h p r e → h ≡ Some c → r ≡ Some v → y ≡ c → y.0 ≢ b
-  out_beside d e b m None p r c y v ends out is last same = absurd (cc is)
-  out_beside d e b m (Some a) p None c y v ends out is last same = absurd (cc last)
-  out_beside d e b m (Some a) p (Some w) c y v ends out is last same =
+  -- so after a clear of a member of any object
+  pub ends_through_clear : (d e : DeskNow V) (b o m : ℕ) (h : Handle) → (object_in d b).phase ≡ ending d.name → Adds d (ClearMember o m h) e
+      → (object_in e b).phase ≡ ending e.name
+  ends_through_clear d e b o m h = through d e b (ClearMember o m h) (λ s. refl)
+      (λ s i. put_cases (λ j (y : Object). y.phase ≡ (s.object j).phase) s.object o
+      (record (s.object o) { member = put (s.object o).member m (empty (kind_of_member m)) }) i (λ q. ap (λ j. (s.object j).phase) (sym q)) (λ n. refl))
+
+  -- and after a handle went into a cell
+  pub ends_through_swap : (d e : DeskNow V) (b : ℕ) (c : Cell) (new old : Handle) → (object_in d b).phase ≡ ending d.name → Adds d (Swap c new old) e
+      → (object_in e b).phase ≡ ending e.name
+  ends_through_swap d e b c new old = through d e b (Swap c new old)
+      (λ s. ap (λ (f : ℕ → ℕ). f b) (fills_latest (loses d.name new s) c new)) (λ s i. fills_phase (loses d.name new s) c new i)
+
+  -- what ends by an owner's leave lies in no block in which something was ending in the desk's hands
+  pub left_apart : (d e : DeskNow V) (h : Option Block) (p : Option Place) (left : Left V) → IsLeft d h p left e → IsApart d left
+  left_apart d e h p Empty is b ends = _
+  left_apart d e h p Others is b ends = _
+  left_apart d e h p (Last x) is b ends = λ same. apart d e b x.block.0 p ends is.1 (sym same)
+
+  -- nor does what ends when a member is cleared
+  pub out_apart : (d e : DeskNow V) (b m : ℕ) (h : Option Block) (p : Option Place) (r : Option V) (c y : Block) (v : V)
+      → Empties d b m h p r e → h ≡ Some c → r ≡ Some v → y ≡ c → (k : ℕ) → (object_in d k).phase ≡ ending d.name → y.0 ≢ k
+  out_apart d e b m None p r c y v out is last same k ends = absurd (cc is)
+  out_apart d e b m (Some a) p None c y v out is last same k ends = absurd (cc last)
+  out_apart d e b m (Some a) p (Some w) c y v out is last same k ends =
       let between = out.between in let one : y ≡ a = same ∙ sym (cc is) in
-      λ here. apart between e b a.0 p (ends_still d between b m _ ends out.takes.event) out.lets.0 (sym here ∙ ap (λ (k : Block). k.0) one)
+      λ here. apart between e k a.0 p (ends_through_clear d between k _ m _ ends out.takes.event) out.lets.0
+      (sym here ∙ ap (λ (i : Block). i.0) one)
 
   -- and a weak pointer was no owner
-  pub up_beside : (d e : DeskNow V) (x : Ending V) (left : Left V) → ClearsUp d x left e → IsBeside x.block.0 left
-  up_beside d e x Empty clears = _
-  up_beside d e x Others clears = _
-  up_beside d e x (Last y) clears = absurd clears.told
+  pub up_beside : (d e : DeskNow V) (x : Ending V) (left : Left V) → ClearsUp d x left e → (b : ℕ) → IsBeside b left
+  up_beside d e x Empty clears b = _
+  up_beside d e x Others clears b = _
+  up_beside d e x (Last y) clears b = absurd clears.told
 
   -- what ends beside another ends still, whatever becomes of the other
   pub ends_beside : (d e : DeskNow V) (x : Ending V) (b : ℕ) → KeepsOtherEndings d b e → x.block.0 ≢ b → Ends d x → Ends e x

@@ -1,5 +1,6 @@
 -- What a release says, and which calls are refused.
 use Rattle.std.specs.Prelude.{◌≡◌, ◌≢◌, ℕ, ◌+◌, ◌-◌, Bool, true, false, cond, length, Option, None, Some, Result, Ok, Err}
+use Rattle.control_word.specs.State.{ending}
 use Rattle.control_word.specs.declared.event.Event.TheVariants.{Leave, Read}
 use Rattle.control_word.specs.declared.handle.Kind.TheVariants.{Owner, Weak}
 use Rattle.control_word.specs.declared.place.Block.{Block}
@@ -61,6 +62,10 @@ module _ {V : Type 0} where
   IsBeside b Empty = Unit {0}
   IsBeside b Others = Unit {0}
   IsBeside b (Last x) = x.block.0 ≢ b
+
+  -- it is in no block in which something was ending in the desk's hands before
+  abbrev pub IsApart : DeskNow V → Left V → Type 0
+  IsApart d left = (b : ℕ) → (object_in d b).phase ≡ ending d.name → IsBeside b left
 
   -- how many more objects end for it
   abbrev pub more_ending : Left V → ℕ

@@ -1,7 +1,7 @@
 //! The members of an object that ends are emptied before its end.
 ghost use Rattle.std.specs.Prelude.{◌≡◌, ℕ, ◌+◌, ◌<◌, Bool, cond, length};
 ghost use Rattle.control_block.specs.Desks.{Belongs, IsCleared, IsSameDesk, KeepsOtherEndings, bag_of, endings_of, stock_of};
-ghost use Rattle.shared_handle.specs.Endings.{Clears, ClearsUp, Ends, IsBeside, IsClearing, more_ending, with_clear};
+ghost use Rattle.shared_handle.specs.Endings.{Clears, ClearsUp, Ends, IsApart, IsBeside, IsClearing, more_ending, with_clear};
 
 use crate::endings::{Ending, Left, Member};
 use control_block::clear_calls;
@@ -24,6 +24,7 @@ impl<V: Drop + Send> Ending<V> {
         ensures endings { KeepsOtherEndings desk.old self.now.block.0 desk.new }
         ensures count { endings_of desk.new ≡ endings_of desk.old + more_ending result }
         ensures beside { IsBeside self.now.block.0 result }
+        ensures apart { IsApart desk.old result }
     {
         let (held, value) = clear_calls::clear_shared(domain, desk, self.block, member);
         let Some(block) = held.block else {
@@ -49,6 +50,7 @@ impl<V: Drop + Send> Ending<V> {
         ensures endings { KeepsOtherEndings desk.old self.now.block.0 desk.new }
         ensures count { endings_of desk.new ≡ endings_of desk.old + more_ending result }
         ensures beside { IsBeside self.now.block.0 result }
+        ensures apart { IsApart desk.old result }
     {
         let (held, _) = clear_calls::clear_weak(domain, desk, self.block);
         match held.block {
@@ -58,7 +60,8 @@ impl<V: Drop + Send> Ending<V> {
     }
 
     /// A member is emptied, and what it held leaves (own): it answers what a release of that answers, and for `up` never
-    /// `Last`. An object that ends for it is another than this one, and the two may be finished in either order. It refuses
+    /// `Last`. An object that ends for it is another than this one and than all that end in the desk's hands, and they may
+    /// be finished in any order. It refuses
     /// nothing, at the allowance too: the desk keeps one place of its allowance free while an object ends in its hands.
     pub fn clear_member(
         &mut self,
@@ -78,6 +81,7 @@ impl<V: Drop + Send> Ending<V> {
         ensures endings { KeepsOtherEndings desk.old self.old.block.0 desk.new }
         ensures count { endings_of desk.new ≡ endings_of desk.old + more_ending result }
         ensures beside { IsBeside self.old.block.0 result }
+        ensures apart { IsApart desk.old result }
     {
         match member {
             Member::First => {

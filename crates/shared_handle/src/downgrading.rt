@@ -27,6 +27,7 @@ pub fn downgrade<V: Drop + Send>(
     ensures event { OnOk result (SharesWeakly desk.old handle.now.block handle.now.place desk.new) }
     ensures bag { OnOk result (bag_of desk.new ≡ with_handle Weak handle.now.block handle.now.place (bag_of desk.old)) }
     ensures held { OnOk result (desk.new.held ≡ desk.old.held + 1) }
+    ensures holds { IfOk result (λ h. Holds desk.new Weak h.block h.place) }
     ensures keeps { OnOk result (Keeps desk.old desk.new) }
 {
     let Some(block) = handle.block() else {

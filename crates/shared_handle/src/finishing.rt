@@ -5,7 +5,7 @@ ghost use Rattle.control_word.specs.declared.handle.Kind.TheVariants.{Weak};
 ghost use Rattle.control_word.specs.Histories.{value};
 ghost use Rattle.control_block.specs.Rule.{opening_of};
 ghost use Rattle.control_block.specs.Desks.{Belongs, Adds, IsEnding, IsSameDesk, Keeps, KeepsOtherEndings, allowance_of, bag_of, endings_of, held_of, latest_of, object_in, stock_of};
-ghost use Rattle.shared_handle.specs.Calls.{IsOfThis, SharesWeakly, with_handle};
+ghost use Rattle.shared_handle.specs.Calls.{Holds, IsOfThis, SharesWeakly, with_handle};
 ghost use Rattle.shared_handle.specs.Endings.{Ends, IsAllClear, IsUncleared, WhyNoWeakThis};
 
 use crate::endings::Ending;
@@ -93,6 +93,7 @@ impl<V: Drop + Send> Ending<V> {
         ensures event { IfOk result (λ h. SharesWeakly desk.old h.block h.place desk.new) }
         ensures bag { IfOk result (λ h. bag_of desk.new ≡ with_handle Weak h.block h.place (bag_of desk.old)) }
         ensures held { OnOk result (desk.new.held ≡ desk.old.held + 1) }
+        ensures holds { IfOk result (λ h. Holds desk.new Weak h.block h.place) }
         ensures keeps { OnOk result (Keeps desk.old desk.new) }
     {
         if desk.held() == desk.allowance() {

@@ -4,7 +4,7 @@ ghost use Rattle.control_word.specs.Handles.{IsPointer};
 ghost use Rattle.control_word.specs.declared.handle.Kind.TheVariants.{Owner};
 ghost use Rattle.control_block.specs.Desks.{Belongs, Keeps, KeepsStock, allowance_of, bag_of, endings_of, held_of};
 ghost use Rattle.shared_handle.specs.Calls.{Holds, IsOfThis, Shares, with_handle, without_handle};
-ghost use Rattle.shared_handle.specs.Endings.{IsLeft, more_ending};
+ghost use Rattle.shared_handle.specs.Endings.{IsApart, IsLeft, more_ending};
 
 use crate::endings::{Ending, Left};
 use crate::pointers::owner_pointer;
@@ -32,6 +32,7 @@ pub(crate) fn share_to<V: Drop + Send>(
     ensures event { OnOk result (Shares desk.old handle.now.block handle.now.place place desk.new) }
     ensures bag { OnOk result (bag_of desk.new ≡ with_handle Owner handle.now.block place (bag_of desk.old)) }
     ensures held { OnOk result (desk.new.held ≡ desk.old.held + 1) }
+    ensures holds { IfOk result (λ h. Holds desk.new Owner h.block h.place) }
     ensures keeps { OnOk result (Keeps desk.old desk.new) }
 {
     let Some(of) = owner_pointer(handle) else {
@@ -57,6 +58,7 @@ pub fn share<V: Drop + Send>(
     ensures event { OnOk result (Shares desk.old handle.now.block handle.now.place handle.now.place desk.new) }
     ensures bag { OnOk result (bag_of desk.new ≡ with_handle Owner handle.now.block handle.now.place (bag_of desk.old)) }
     ensures held { OnOk result (desk.new.held ≡ desk.old.held + 1) }
+    ensures holds { IfOk result (λ h. Holds desk.new Owner h.block h.place) }
     ensures keeps { OnOk result (Keeps desk.old desk.new) }
 {
     share_to(domain, desk, handle, handle.place())
@@ -80,13 +82,14 @@ pub fn alias<V: Drop + Send>(
     ensures event { OnOk result (Shares desk.old handle.now.block handle.now.place place desk.new) }
     ensures bag { OnOk result (bag_of desk.new ≡ with_handle Owner handle.now.block place (bag_of desk.old)) }
     ensures held { OnOk result (desk.new.held ≡ desk.old.held + 1) }
+    ensures holds { IfOk result (λ h. Holds desk.new Owner h.block h.place) }
     ensures keeps { OnOk result (Keeps desk.old desk.new) }
 {
     share_to(domain, desk, handle, place)
 }
 
 /// An owner leaves ([util.smartptr.shared.dest]): it was `Empty`, `Others` own the object still, or it was the `Last`, and
-/// the object ends in the desk's hands.
+/// the object ends in the desk's hands, in another block than all that ended there before.
 pub fn release<V: Drop + Send>(domain: &Domain<V>, desk: &mut Desk<V>, handle: Shared) -> Left<V>
     requires domain { Belongs desk.old domain.now }
     requires holds { Holds desk.old Owner handle.block handle.place }
@@ -95,6 +98,7 @@ pub fn release<V: Drop + Send>(domain: &Domain<V>, desk: &mut Desk<V>, handle: S
     ensures held { desk.new.held + 1 ≡ desk.old.held }
     ensures keeps { KeepsStock desk.old desk.new }
     ensures count { endings_of desk.new ≡ endings_of desk.old + more_ending result }
+    ensures apart { IsApart desk.old result }
 {
     let (block, place) = handle.into_parts();
     let Some(block) = block else {

@@ -53,6 +53,7 @@ pub fn shared_from_this<V: Drop + Send>(
     ensures event { IfOk result (λ h. Shares desk.old handle.now.block handle.now.place h.place desk.new) }
     ensures bag { IfOk result (λ h. bag_of desk.new ≡ with_handle Owner h.block h.place (bag_of desk.old)) }
     ensures held { OnOk result (desk.new.held ≡ desk.old.held + 1) }
+    ensures holds { IfOk result (λ h. Holds desk.new Owner h.block h.place) }
     ensures keeps { OnOk result (Keeps desk.old desk.new) }
 {
     let block = this_block(domain, desk, handle)?;
@@ -74,6 +75,7 @@ pub fn weak_from_this<V: Drop + Send>(
     ensures event { IfOk result (λ h. SharesWeakly desk.old h.block h.place desk.new) }
     ensures bag { IfOk result (λ h. bag_of desk.new ≡ with_handle Weak h.block h.place (bag_of desk.old)) }
     ensures held { OnOk result (desk.new.held ≡ desk.old.held + 1) }
+    ensures holds { IfOk result (λ h. Holds desk.new Weak h.block h.place) }
     ensures keeps { OnOk result (Keeps desk.old desk.new) }
 {
     let block = this_block(domain, desk, handle)?;
