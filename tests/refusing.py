@@ -6,6 +6,7 @@ import subprocess
 import sys
 import tempfile
 
+ALONE = 'REFUSE_AT'
 SOURCE = pathlib.Path(__file__).resolve().with_name('refuse.c')
 
 
@@ -27,8 +28,8 @@ class Refusing:
         """A run for each allocation of the words' own run: with that one refused, and with it and all later ones."""
         _, asked = self.run(words, script)
         for number in range(1, asked + 1):
-            yield f'allocation {number} refused', self.run(words, script, REFUSE_AT=number)[0]
-            yield f'allocations from {number} on refused', self.run(words, script, REFUSE_FROM=number)[0]
+            for how in (ALONE, 'REFUSE_FROM'):
+                yield how, number, self.run(words, script, **{how: number})[0]
 
 
 @contextlib.contextmanager
