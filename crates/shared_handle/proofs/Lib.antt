@@ -2,3 +2,4 @@ pub mod Taken
 pub mod Kept
 pub mod Beside
 pub mod Piles
+pub mod Goings

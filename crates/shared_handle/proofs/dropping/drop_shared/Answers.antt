@@ -1,4 +1,5 @@
-use Rattle.shared_handle.proofs.Piles.{bears_left, left_does, room_piled}
+use Rattle.shared_handle.proofs.Goings.{left_does}
+use Rattle.shared_handle.proofs.Piles.{bears_left, room_piled}
 use Rattle.shared_handle.proofs.dropping.drop_shared.Goals as goal
 
 pub put-requires-clause-room : goal.put-requires-clause-room

@@ -1,5 +1,5 @@
 use Rattle.shared_handle.specs.Piles.{IsParting}
-use Rattle.shared_handle.proofs.Piles.{does_none}
+use Rattle.shared_handle.proofs.Goings.{does_none}
 use Rattle.shared_handle.proofs.dropping.reset.Goals as goal
 
 pub returns-in-None-clause-parting : goal.returns-in-None-clause-parting

@@ -1,4 +1,5 @@
-use Rattle.shared_handle.proofs.Piles.{clearing_does, room_left, stacked_on}
+use Rattle.shared_handle.proofs.Goings.{clearing_does}
+use Rattle.shared_handle.proofs.Piles.{room_left, stacked_on}
 use Rattle.shared_handle.proofs.pile.Pile.clear_once.Goals as goal
 
 pub put-requires-clause-room : goal.put-requires-clause-room

@@ -3,7 +3,8 @@ use Rattle.shared_handle.specs.Endings.{IsAllClear, with_clear}
 use Rattle.shared_handle.specs.Piles.{ClearsOnce, IsFinish, IsParting, piled}
 use Rattle.shared_handle.specs.declared.endings.Ending.{Ending}
 use Rattle.shared_handle.specs.declared.endings.Member.TheVariants.{First, Next, Up}
-use Rattle.shared_handle.proofs.Piles.{does_both, does_one, finished, popped}
+use Rattle.shared_handle.proofs.Goings.{does_both, does_one}
+use Rattle.shared_handle.proofs.Piles.{finished, popped}
 use Rattle.shared_handle.proofs.pile.Pile.end_next.Goals as goal
 
 pub clear_once-requires-clause-stacked : goal.clear_once-requires-clause-stacked

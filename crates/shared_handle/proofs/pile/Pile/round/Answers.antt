@@ -1,7 +1,8 @@
 use Rattle.std.proofs.Common.{◌∙◌, ◌++◌, ◌∷◌, [], ap, sym}
 use Rattle.shared_handle.specs.Piles.{IsParting, piled}
 use Rattle.shared_handle.specs.declared.endings.Ending.{Ending}
-use Rattle.shared_handle.proofs.Piles.{clear_all, clearing_does, does_one, finished, popped, put_back, room_above}
+use Rattle.shared_handle.proofs.Goings.{clearing_does, does_one}
+use Rattle.shared_handle.proofs.Piles.{clear_all, finished, popped, put_back, room_above}
 use Rattle.shared_handle.proofs.pile.Pile.round.Goals as goal
 
 pub finish-requires-clause-ends : goal.finish-requires-clause-ends

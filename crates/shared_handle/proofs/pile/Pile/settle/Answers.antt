@@ -1,6 +1,7 @@
 use Rattle.std.proofs.Common.{[], ◌∷◌, ◌∙◌, refl}
 use Rattle.shared_handle.specs.Piles.{IsParting}
-use Rattle.shared_handle.proofs.Piles.{does_both, does_none, same_both, same_desk}
+use Rattle.shared_handle.proofs.Goings.{does_both, does_none}
+use Rattle.shared_handle.proofs.Piles.{same_both, same_desk}
 use Rattle.shared_handle.proofs.pile.Pile.settle.Goals as goal
 
 pub loop-init : goal.loop-init

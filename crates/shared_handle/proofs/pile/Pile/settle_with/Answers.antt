@@ -1,7 +1,8 @@
 use Rattle.std.proofs.Common.{[], ◌∷◌, ◌∙◌, refl, of_calls}
 use Rattle.shared_handle.specs.Piles.{IsParting}
 use Rattle.shared_handle.specs.declared.pile.Round.TheVariants.{Cleared, Ended}
-use Rattle.shared_handle.proofs.Piles.{does_both, does_none, same_both, same_desk}
+use Rattle.shared_handle.proofs.Goings.{does_both, does_none}
+use Rattle.shared_handle.proofs.Piles.{same_both, same_desk}
 use Rattle.shared_handle.proofs.pile.Pile.settle_with.Goals as goal
 
 pub loop-init : goal.loop-init
