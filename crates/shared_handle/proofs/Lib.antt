@@ -1,3 +1,5 @@
 pub mod Taken
 pub mod Kept
 pub mod Beside
+pub mod Piles
+pub mod Goings

@@ -2,3 +2,4 @@ pub mod Calls
 pub mod Endings
 pub mod Locks
 pub mod Visits
+pub mod Piles

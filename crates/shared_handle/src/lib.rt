@@ -4,13 +4,17 @@
 
 mod clearing;
 mod downgrading;
+mod dropping;
 mod endings;
 mod finishing;
 mod locking;
 mod looks;
 mod making;
 mod ordering;
+mod pile;
+mod pile_rounds;
 mod pointers;
+mod settling;
 mod sharing;
 mod this;
 mod visiting;
@@ -19,11 +23,13 @@ mod weaks;
 
 pub use control_block::handles::{Held, Shared, Weak};
 pub use downgrading::downgrade;
+pub use dropping::{drop_shared, reset};
 pub use endings::{Ending, Left, Member};
 pub use locking::{lock, upgrade};
 pub use looks::{place, read, same_place, use_count};
 pub use making::{empty, empty_weak, make, make_null};
 pub use ordering::{HasOwner, owner_before};
+pub use pile::{Gone, Pile, Round};
 pub use sharing::{alias, release, share};
 pub use this::{shared_from_this, weak_from_this};
 pub use visiting::visit;

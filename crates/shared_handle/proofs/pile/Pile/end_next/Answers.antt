@@ -1,0 +1,48 @@
+use Rattle.std.proofs.Common.{◌≡◌, ◌∙◌, ap, refl, subst, sym}
+use Rattle.shared_handle.specs.Endings.{IsAllClear, with_clear}
+use Rattle.shared_handle.specs.Piles.{ClearsOnce, IsFinish, IsParting, piled}
+use Rattle.shared_handle.specs.declared.endings.Ending.{Ending}
+use Rattle.shared_handle.specs.declared.endings.Member.TheVariants.{First, Next, Up}
+use Rattle.shared_handle.proofs.Goings.{does_both, does_one}
+use Rattle.shared_handle.proofs.Piles.{finished, popped}
+use Rattle.shared_handle.proofs.pile.Pile.end_next.Goals as goal
+
+pub clear_once-requires-clause-stacked : goal.clear_once-requires-clause-stacked
+clear_once-requires-clause-stacked g c κs within =
+    popped c.args.domain.now c.args.desk.now c.args.self.now record { endings = c.pop.new.self } c.in_ok-ending.ending c.requires.bears c.in_ok-ending.ensures.items c.pop.ensures.capacity
+
+pub returns-clause-bears : goal.returns-clause-bears
+returns-clause-bears g c =
+    let t = c.clear_once-3 in let e = c.finish.ensures in
+    finished c.args.domain.now t.new.desk c.finish.new.desk t.new.self t.new.ending t.ensures.stacked e.endings e.count e.desk
+
+pub returns-clause-ended : goal.returns-clause-ended
+returns-clause-ended g c =
+    let a = c.clear_once in let b = c.clear_once-2 in let d = c.clear_once-3 in let e = c.finish.ensures in let top = c.in_ok-ending.ending in
+    let one = a.ensures.once in let two = b.ensures.once in let three = d.ensures.once in
+    let second : b.new.ending ≡ with_clear Next (with_clear First top) = b.ensures.noted ∙ ap (with_clear Next) a.ensures.noted in
+    let third : d.new.ending ≡ with_clear Up (with_clear Next (with_clear First top)) = d.ensures.noted ∙ ap (with_clear Up) second in
+    record {
+      below = c.pop.new.self.items;
+      top = top;
+      were = c.in_ok-ending.ensures.items;
+      first = one.0;
+      after_first = a.new.desk;
+      clears_first = one.1;
+      next = two.0;
+      after_next = b.new.desk;
+      clears_next = subst (λ (y : Ending g.row.V.Denot). ClearsOnce a.new.desk y Next two.0 b.new.desk) a.ensures.noted two.1;
+      up = three.0;
+      after_up = d.new.desk;
+      clears_up = subst (λ (y : Ending g.row.V.Denot). ClearsOnce b.new.desk y Up three.0 d.new.desk) second three.1;
+      finish = subst (λ (y : Ending g.row.V.Denot). IsFinish d.new.desk y c.finish.result c.finish.new.desk) third
+          record { clear = subst IsAllClear (sym third) (refl, refl, refl); value = e.value.0; vacant = e.event.0; event = e.event.1; stock = e.event.2 };
+      are = three.2 ∙ ap (λ l. piled l three.0) (two.2 ∙ ap (λ l. piled l two.0) one.2);
+    }
+
+pub returns-clause-parting : goal.returns-clause-parting
+returns-clause-parting g c =
+    let a = c.clear_once in let b = c.clear_once-2 in let d = c.clear_once-3 in let from = c.args.desk.now in
+    does_both IsParting from d.new.desk c.finish.new.desk
+    (does_both IsParting from b.new.desk d.new.desk (does_both IsParting from a.new.desk b.new.desk a.ensures.parting b.ensures.parting) d.ensures.parting)
+    (does_one IsParting d.new.desk c.finish.new.desk _ c.finish.ensures.event.1 tt)

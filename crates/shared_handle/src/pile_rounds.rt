@@ -1,0 +1,110 @@
+//! Objects of a pile end, the top first, and what ends for an object before it is finished.
+ghost use Rattle.std.specs.Prelude.{◌≡◌, [], IfNone, IfSome};
+ghost use Rattle.control_block.specs.Desks.{IsSameDesk, bag_of};
+ghost use Rattle.control_block.specs.Own.{Does};
+ghost use Rattle.shared_handle.specs.Endings.{with_clear};
+ghost use Rattle.shared_handle.specs.Piles.{Bears, ClearsOnce, EndsTop, IsParting, IsRound, Stacked, is_cleared, next_member, piled};
+
+use crate::endings::{Ending, Left, Member};
+use crate::pile::{Gone, Pile, Round};
+use control_block::desk::Desk;
+use control_block::domain::Domain;
+
+impl<V: Drop + Send> Ending<V> {
+    /// The first member that isn't cleared yet (own).
+    fn next_member(&self) -> Option<Member>
+        ensures { result ≡ next_member self.now }
+    {
+        if !self.first {
+            Some(Member::First)
+        } else if !self.next {
+            Some(Member::Next)
+        } else if !self.up {
+            Some(Member::Up)
+        } else {
+            None
+        }
+    }
+
+    /// Whether a member is cleared (own).
+    fn is_cleared(&self, member: Member) -> bool
+        ensures { result ≡ is_cleared self.now member }
+    {
+        match member {
+            Member::First => self.first,
+            Member::Next => self.next,
+            Member::Up => self.up,
+        }
+    }
+}
+
+impl<V: Drop + Send> Pile<V> {
+    /// One round (own): the first member of the top that isn't cleared is emptied, and what ends for it lies above the top; or
+    /// the top is finished, where all three are clear, and its value comes out. So an object is finished after what its
+    /// members alone owned.
+    pub fn round(&mut self, domain: &Domain<V>, desk: &mut Desk<V>) -> Round<V>
+        requires bears { Bears domain.now desk.old self.old }
+        ensures bears { Bears domain.now desk.new self.new }
+        ensures round { IsRound desk.old self.old.endings.items result desk.new self.new.endings.items }
+        ensures parting { Does IsParting desk.old desk.new }
+        ensures bag { bag_of desk.new ≡ bag_of desk.old }
+        ensures held { desk.new.held ≡ desk.old.held }
+        ensures desk { IsSameDesk desk.old desk.new }
+    {
+        let Some(top) = self.endings.pop() else {
+            return Round::Settled;
+        };
+        let Some(member) = top.next_member() else {
+            return Round::Ended(top.finish(domain, desk));
+        };
+        let mut top = top;
+        let left = top.clear_member(domain, desk, member);
+        let gone = Gone::of(&left);
+        self.endings.push_reserved(top);
+        self.put(left);
+        Round::Cleared(member, gone)
+    }
+
+    /// A member of the one in hand is emptied, unless it is clear already.
+    fn clear_once(
+        &mut self,
+        domain: &Domain<V>,
+        desk: &mut Desk<V>,
+        ending: &mut Ending<V>,
+        member: Member,
+    )
+        requires stacked { Stacked domain.now desk.old self.old ending.old }
+        ensures stacked { Stacked domain.now desk.new self.new ending.new }
+        ensures noted { ending.new ≡ with_clear member ending.old }
+        ensures once { (left : Left V) × ClearsOnce desk.old ending.old member left desk.new × (self.new.endings.items ≡ piled self.old.endings.items left) }
+        ensures parting { Does IsParting desk.old desk.new }
+        ensures bag { bag_of desk.new ≡ bag_of desk.old }
+        ensures held { desk.new.held ≡ desk.old.held }
+        ensures desk { IsSameDesk desk.old desk.new }
+    {
+        if ending.is_cleared(member) {
+            return;
+        }
+        let left = ending.clear_member(domain, desk, member);
+        self.put(left);
+    }
+
+    /// The object on top ends (own): its members are emptied, what ends for it goes onto the pile, and its value comes out.
+    /// `None` just where the pile was empty. It waits for nobody: what goes onto the pile is left there.
+    pub fn end_next(&mut self, domain: &Domain<V>, desk: &mut Desk<V>) -> Option<V>
+        requires bears { Bears domain.now desk.old self.old }
+        ensures bears { Bears domain.now desk.new self.new }
+        ensures none { IfNone result ((self.old.endings.items ≡ []) × (self.new.endings.items ≡ []) × (desk.new ≡ desk.old)) }
+        ensures ended { IfSome result (λ v. EndsTop desk.old self.old.endings.items v desk.new self.new.endings.items) }
+        ensures parting { Does IsParting desk.old desk.new }
+        ensures bag { bag_of desk.new ≡ bag_of desk.old }
+        ensures held { desk.new.held ≡ desk.old.held }
+        ensures desk { IsSameDesk desk.old desk.new }
+    {
+        let mut ending = self.endings.pop()?;
+        self.clear_once(domain, desk, &mut ending, Member::First);
+        self.clear_once(domain, desk, &mut ending, Member::Next);
+        self.clear_once(domain, desk, &mut ending, Member::Up);
+        Some(ending.finish(domain, desk))
+    }
+}

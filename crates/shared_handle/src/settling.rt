@@ -1,0 +1,62 @@
+//! All that ends with a desk does so.
+ghost use Rattle.std.specs.Prelude.{◌≡◌, [], List};
+ghost use Rattle.control_block.specs.Desks.{DeskNow, IsSameDesk, bag_of};
+ghost use Rattle.control_block.specs.Own.{Does};
+ghost use Rattle.shared_handle.specs.Piles.{AreRounds, Bears, FoldsBack, IsParting, Past, values_of};
+
+use crate::pile::{Pile, Round};
+use control_block::desk::Desk;
+use control_block::domain::Domain;
+use std::sync::Wait;
+
+impl<V: Drop + Send> Pile<V> {
+    /// Rounds until nothing is left to end (own); the values are dropped as they come out, which is the deleters' calls. It
+    /// waits, since other desks may lengthen a chain that ends meanwhile.
+    pub fn settle<R: Wait>(&mut self, rt: &R, domain: &Domain<V>, desk: &mut Desk<V>)
+        requires bears { Bears domain.now desk.old self.old }
+        ensures bears { Bears domain.now desk.new self.new }
+        ensures none { self.new.endings.items ≡ [] }
+        ensures rounds { (rs : List (Past V)) × AreRounds desk.old self.old.endings.items rs desk.new self.new.endings.items }
+        ensures parting { Does IsParting desk.old desk.new }
+        ensures bag { bag_of desk.new ≡ bag_of desk.old }
+        ensures held { desk.new.held ≡ desk.old.held }
+        ensures desk { IsSameDesk desk.old desk.new }
+    {
+        for _ in rt.forever() {
+            match self.round(domain, desk) {
+                Round::Settled => return,
+                Round::Cleared(_, _) => {}
+                Round::Ended(value) => drop(value),
+            }
+        }
+        unreachable!()
+    }
+
+    /// The same, and `take` gets each value as it comes out (own).
+    pub fn settle_with<R: Wait, F: FnMut(V)>(
+        &mut self,
+        rt: &R,
+        domain: &Domain<V>,
+        desk: &mut Desk<V>,
+        mut take: F,
+    )
+        requires bears { Bears domain.now desk.old self.old }
+        requires callable { F.IsAlwaysCallable take }
+        ensures bears { Bears domain.now desk.new self.new }
+        ensures none { self.new.endings.items ≡ [] }
+        ensures rounds { (rs : List (Past V)) × AreRounds desk.old self.old.endings.items rs desk.new self.new.endings.items × ((last : F) × FoldsBack (λ p x q. F.step p x tt q) take (values_of rs) last) }
+        ensures parting { Does IsParting desk.old desk.new }
+        ensures bag { bag_of desk.new ≡ bag_of desk.old }
+        ensures held { desk.new.held ≡ desk.old.held }
+        ensures desk { IsSameDesk desk.old desk.new }
+    {
+        for _ in rt.forever() {
+            match self.round(domain, desk) {
+                Round::Settled => return,
+                Round::Cleared(_, _) => {}
+                Round::Ended(value) => take(value),
+            }
+        }
+        unreachable!()
+    }
+}
