@@ -5,7 +5,8 @@ use Rattle.control_word.specs.declared.place.Block.{Block}
 use Rattle.control_word.specs.declared.place.Place.{Place}
 use Rattle.control_block.specs.Desks.{DeskNow, HasHandle}
 use Rattle.shared_handle.specs.Calls.{Holds}
-use Rattle.atomic_cells.specs.Sites.{IsOpen, IsOpenWeakly, IsOwned}
+use Rattle.shared_handle.specs.Locks.{HasOwner}
+use Rattle.atomic_cells.specs.Sites.{IsOpen, IsOpenWeakly}
 use Rattle.atomic_cells.specs.declared.sites.SharedMember.{SharedMember}
 use Rattle.atomic_cells.specs.declared.sites.SharedSite.{SharedSite}
 use Rattle.atomic_cells.specs.declared.sites.SharedSite.TheVariants as shared
@@ -13,7 +14,7 @@ use Rattle.atomic_cells.specs.declared.sites.WeakSite.{WeakSite}
 use Rattle.atomic_cells.specs.declared.sites.WeakSite.TheVariants as weak
 
 module _ {V : Type 0} where
-  owned : (d : DeskNow V) (b : Option Block) (p : Option Place) (c : Block) → b ≡ Some c → Holds d Owner b p → IsOwned d c
+  owned : (d : DeskNow V) (b : Option Block) (p : Option Place) (c : Block) → b ≡ Some c → Holds d Owner b p → HasOwner d (Some c)
   owned d None p c is had = absurd (cc is)
   owned d (Some a) p c is had = (p, subst (λ (x : Block). HasHandle d Owner p x.0) (cc is) had)
 

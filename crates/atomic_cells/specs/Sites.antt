@@ -1,16 +1,16 @@
 -- Which cell a call is on ([util.smartptr.atomic.shared], [util.smartptr.atomic.weak]; members of objects: own).
 use Rattle.std.specs.Prelude.{◌≡◌, ℕ, ◌+◌, ◌<◌, Option, None, Some, Result, Ok, Err}
 use Rattle.control_word.specs.declared.event.Cell.{Cell}
-use Rattle.control_word.specs.declared.handle.Kind.TheVariants.{Owner}
 use Rattle.control_word.specs.declared.place.Block.{Block}
 use Rattle.control_word.specs.declared.place.Place.{Place}
 use Rattle.control_word.specs.declared.refusal.Refusal.{Refusal}
 use Rattle.control_word.specs.declared.refusal.Refusal.TheVariants.{Null, Outside}
 use Rattle.control_block.specs.CellCalls.{cell_at}
-use Rattle.control_block.specs.Desks.{DeskNow, HasHandle}
+use Rattle.control_block.specs.Desks.{DeskNow}
 use Rattle.control_block.specs.declared.cell_calls.Site.{Site}
 use Rattle.control_block.specs.declared.cell_calls.Site.TheVariants as inner
 use Rattle.shared_handle.specs.Endings.{IsOutside}
+use Rattle.shared_handle.specs.Locks.{HasOwner}
 use Rattle.atomic_cells.specs.declared.sites.SharedMember.{SharedMember}
 use Rattle.atomic_cells.specs.declared.sites.SharedMember.TheVariants.{First, Next}
 use Rattle.atomic_cells.specs.declared.sites.SharedSite.{SharedSite}
@@ -45,18 +45,14 @@ IsMember is b p (Err Outside) = IsOutside b p
 IsMember is b p (Err why) = ⊥
 
 module _ {V : Type 0} where
-  -- the desk has an owner of the object in the block
-  abbrev pub IsOwned : DeskNow V → Block → Type 0
-  IsOwned d b = (p : Option Place) × HasHandle d Owner p b.0
-
   -- the cell is open to the desk: it is a free one of the shape, or a member of an object that the desk has an owner of
   abbrev pub IsOpen : DeskNow V → SharedSite → Type 0
   IsOpen d (shared.Free n) = n < d.shape.shared_cells
-  IsOpen d (shared.Of b m) = IsOwned d b
+  IsOpen d (shared.Of b m) = HasOwner d (Some b)
 
   abbrev pub IsOpenWeakly : DeskNow V → WeakSite → Type 0
   IsOpenWeakly d (weak.Free n) = n < d.shape.weak_cells
-  IsOpenWeakly d (weak.Up b) = IsOwned d b
+  IsOpenWeakly d (weak.Up b) = HasOwner d (Some b)
 
   -- the cell by the desk's history: a member is that of the object last made in the block
   abbrev pub shared_cell : DeskNow V → SharedSite → Cell

@@ -3,3 +3,4 @@ pub mod Kept
 pub mod Beside
 pub mod Piles
 pub mod Goings
+pub mod Owned

@@ -1,7 +1,7 @@
 -- What the calls on handles say. An empty handle has no object: it touches no word and makes no event, and is only counted.
-use Rattle.std.specs.Prelude.{◌≡◌, ℕ, ◌+◌, ◌-◌, Bool, true, false, List, Option, None, Some}
+use Rattle.std.specs.Prelude.{◌≡◌, ◌⊎◌, ℕ, ◌+◌, ◌-◌, Bool, true, false, List, Option, None, Some}
 use Rattle.control_word.specs.Events.{origin, place_at}
-use Rattle.control_word.specs.Handles.{handle, owner_before}
+use Rattle.control_word.specs.Handles.{IsPointer, handle, owner_before}
 use Rattle.control_word.specs.State.{count}
 use Rattle.control_word.specs.declared.event.Event.TheVariants.{Count, Expired, Make, Share, WeakLeave, WeakShare}
 use Rattle.control_word.specs.declared.handle.Handle.{Handle}
@@ -34,6 +34,11 @@ weak_place (Some b) p = p
 abbrev pub IsOfThis : Option Block → Option Place → Type 0
 IsOfThis None q = ⊥
 IsOfThis (Some b) q = q ≡ place_at b.0
+
+-- an owner with this block and place may give one with place q: its own place, the first field of its object, or any proper
+-- place ([util.smartptr.shared.const])
+abbrev pub MayGive : Option Block → Option Place → Option Place → Type 0
+MayGive b p q = (q ≡ p) ⊎ (IsOfThis b q ⊎ IsPointer q)
 
 -- owner order goes by blocks, empty first ([util.smartptr.shared.obs], [util.smartptr.weak.obs]; by block: own)
 abbrev pub by_number : Option Block → Handle

@@ -2,12 +2,12 @@
 use Rattle.std.specs.Prelude.{◌≡◌, ◌≢◌, ◌+◌, ◌==◌, Bool, true, false, not, Option, None, Some, Result, Ok, Err}
 use Rattle.control_word.specs.State.{count}
 use Rattle.control_word.specs.declared.event.Event.TheVariants.{Lock}
-use Rattle.control_word.specs.declared.handle.Kind.TheVariants.{Weak}
+use Rattle.control_word.specs.declared.handle.Kind.TheVariants.{Owner, Weak}
 use Rattle.control_word.specs.declared.place.Block.{Block}
 use Rattle.control_word.specs.declared.place.Place.{Place}
 use Rattle.control_word.specs.declared.refusal.Refusal.{Refusal}
 use Rattle.control_word.specs.declared.refusal.Refusal.TheVariants.{BadWeak, Limit}
-use Rattle.control_block.specs.Desks.{Adds, DeskNow, allowance_of, held_of, latest_of, on_latest, state_of}
+use Rattle.control_block.specs.Desks.{Adds, DeskNow, HasHandle, allowance_of, held_of, latest_of, on_latest, state_of}
 use Rattle.control_block.specs.LockCalls.{state_before}
 use Rattle.control_block.specs.declared.handles.Shared.{Shared}
 use Rattle.shared_handle.specs.Calls.{counting}
@@ -26,6 +26,11 @@ module _ {V : Type 0} where
   abbrev pub Locks : DeskNow V → Option Block → Option Place → Bool → DeskNow V → Type 0
   Locks d None p got e = (got ≡ false) × (e ≡ counting (d.held + 1) d)
   Locks d (Some b) p got e = IsLock d b p got e
+
+  -- the desk has an owner of the object in the block
+  abbrev pub HasOwner : DeskNow V → Option Block → Type 0
+  HasOwner d None = ⊥
+  HasOwner d (Some b) = (p : Option Place) × HasHandle d Owner p b.0
 
   -- the desk has seen the object without owner, or there is none
   abbrev pub SawNoOwner : DeskNow V → Option Block → Type 0

@@ -15,7 +15,6 @@ use control_block::handles::Shared;
 use control_block::{calls, handles};
 use control_word::{Block, Place, Refusal};
 use std::marker::Brand;
-use std::mem::forget;
 
 impl<V: Drop + Send> Ending<V> {
     /// The object's four fields (own).
@@ -132,13 +131,13 @@ impl<V: Drop + Send> Ending<V> {
         value
     }
 
-    /// Gives the ending up (own), as `std::mem::forget` does a value that need not be spent. A clear may hand out one ending
-    /// more, and how long a chain is that ends so isn't known before, since other desks may lengthen it meanwhile: a caller
-    /// whose loop is counted, so that it ends without a wait, can be left with an ending after its last round. The object
-    /// stays ending in its desk's hands, and its place of the allowance taken, as a handle that is forgotten stays counted:
-    /// its value is neither handed out nor dropped, and its block, which it answers, isn't used again.
-    pub fn forget(self) -> Block
-        ensures { result ≡ self.block }
+    /// Gives the ending up (own): its block and its value come out. A clear may hand out one ending more, and how long a chain
+    /// is that ends so isn't known before, since other desks may lengthen it meanwhile: a caller whose loop is counted, so
+    /// that it ends without a wait, can be left with an ending after its last round. The object stays ending in its desk's
+    /// hands, and its place of the allowance taken, as a handle that is forgotten stays counted; its block isn't used again,
+    /// and the census lists it.
+    pub fn forget(self) -> (Block, V)
+        ensures { (result.0 ≡ self.block) × (result.1 ≡ self.value) }
     {
         let Self {
             block,
@@ -147,7 +146,6 @@ impl<V: Drop + Send> Ending<V> {
             next: _,
             up: _,
         } = self;
-        forget(value);
-        block
+        (block, value)
     }
 }

@@ -3,7 +3,7 @@ ghost use Rattle.std.specs.Prelude.{◌≡◌, ◌↔◌, ◌+◌, is_some, IfEr
 ghost use Rattle.control_word.specs.declared.handle.Kind.TheVariants.{Owner, Weak};
 ghost use Rattle.control_block.specs.Desks.{Belongs, Keeps, allowance_of, bag_of, held_of};
 ghost use Rattle.shared_handle.specs.Calls.{Holds, with_handle};
-ghost use Rattle.shared_handle.specs.Locks.{IsOwnerOf, IsUpgrade, Locks, SawNoOwner};
+ghost use Rattle.shared_handle.specs.Locks.{HasOwner, IsOwnerOf, IsUpgrade, Locks, SawNoOwner};
 
 use crate::pointers::weak_pointer;
 use control_block::desk::Desk;
@@ -16,7 +16,7 @@ use std::sync::Wait;
 
 /// `lock` ([util.smartptr.weak.obs]): a shared pointer that owns, just where an owner remains at its step, and points
 /// where the handle does; else an empty one. Of an empty handle it is empty, and touches no word. Once the desk has seen
-/// the object without owner, every later lock of its is empty. It tries again while others change the count. It is refused
+/// the object without owner, every later lock of its is empty, and while the desk has an owner of it none is. It tries again while others change the count. It is refused
 /// `Limit` just where the desk is at its allowance, and then nothing changes.
 #[inline(always)]
 pub fn lock<V: Drop + Send, R: Wait>(
@@ -32,6 +32,7 @@ pub fn lock<V: Drop + Send, R: Wait>(
     ensures handle { IfOk result (λ h. IsOwnerOf handle.now.block handle.now.place (is_some h.block) h) }
     ensures lock { IfOk result (λ h. Locks desk.old handle.now.block handle.now.place (is_some h.block) desk.new) }
     ensures expired { SawNoOwner desk.old handle.now.block → IfOk result (λ h. h.block ≡ None) }
+    ensures owned { HasOwner desk.old handle.now.block → IfOk result (λ h. h.block ≡ handle.now.block) }
     ensures bag { IfOk result (λ h. bag_of desk.new ≡ with_handle Owner h.block h.place (bag_of desk.old)) }
     ensures held { OnOk result (desk.new.held ≡ desk.old.held + 1) }
     ensures holds { IfOk result (λ h. Holds desk.new Owner h.block h.place) }
@@ -63,6 +64,7 @@ pub fn upgrade<V: Drop + Send, R: Wait>(
     requires holds { Holds desk.old Weak handle.now.block handle.now.place }
     ensures upgrade { IsUpgrade desk.old handle.now.block handle.now.place result desk.new }
     ensures expired { SawNoOwner desk.old handle.now.block → IsErr result }
+    ensures owned { HasOwner desk.old handle.now.block → IfErr result (λ why. why ≡ Refusal.Limit) }
     ensures bag { IfOk result (λ h. bag_of desk.new ≡ with_handle Owner h.block h.place (bag_of desk.old)) }
     ensures held { OnOk result (desk.new.held ≡ desk.old.held + 1) }
     ensures holds { IfOk result (λ h. Holds desk.new Owner h.block h.place) }

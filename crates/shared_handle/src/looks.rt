@@ -1,6 +1,7 @@
 //! What a handle tells: counts, fields and places.
 ghost use Rattle.std.specs.Prelude.{◌≡◌};
 ghost use Rattle.control_word.specs.Handles as Handles;
+ghost use Rattle.control_word.specs.Handles.{IsPointer};
 ghost use Rattle.control_word.specs.declared.handle.Kind.TheVariants.{Owner};
 ghost use Rattle.control_block.specs.Desks.{Belongs, Keeps, bag_of};
 ghost use Rattle.shared_handle.specs.Calls.{Holds, IsCount};
@@ -63,15 +64,18 @@ pub fn read<V: Drop + Send>(
     Ok(calls::read(domain, desk, place))
 }
 
-/// Where the handle points: the stored pointer ([util.smartptr.shared.obs]). It touches no word.
+/// Where the handle points: the stored pointer ([util.smartptr.shared.obs]). It is null, or one of the four fields of a block,
+/// whatever became of the object there. It touches no word.
 pub fn place<V: Drop + Send>(
     _domain: &Domain<V>,
     _desk: &mut Desk<V>,
     handle: &Shared,
 ) -> Option<Place>
     ensures place { result ≡ handle.now.place }
+    ensures proper { Holds _desk.old Owner handle.now.block handle.now.place → IsPointer result }
     ensures same { _desk.new ≡ _desk.old }
 {
+    _desk.stands();
     handle.place()
 }
 

@@ -1,9 +1,8 @@
 //! Further owners, and owners that leave.
-ghost use Rattle.std.specs.Prelude.{◌≡◌, ◌⊎◌, ◌↔◌, ◌+◌, IfErr, IfOk, IsErr, OnOk};
-ghost use Rattle.control_word.specs.Handles.{IsPointer};
+ghost use Rattle.std.specs.Prelude.{◌≡◌, ◌↔◌, ◌+◌, IfErr, IfOk, IsErr, OnOk};
 ghost use Rattle.control_word.specs.declared.handle.Kind.TheVariants.{Owner};
 ghost use Rattle.control_block.specs.Desks.{Belongs, Keeps, KeepsStock, allowance_of, bag_of, endings_of, held_of};
-ghost use Rattle.shared_handle.specs.Calls.{Holds, IsOfThis, Shares, with_handle, without_handle};
+ghost use Rattle.shared_handle.specs.Calls.{Holds, MayGive, Shares, with_handle, without_handle};
 ghost use Rattle.shared_handle.specs.Endings.{IsApart, IsLeft, more_ending};
 
 use crate::endings::{Ending, Left};
@@ -25,7 +24,7 @@ pub(crate) fn share_to<V: Drop + Send>(
 ) -> Result<Shared, Refusal>
     requires domain { Belongs desk.old domain.now }
     requires holds { Holds desk.old Owner handle.now.block handle.now.place }
-    requires place { (place ≡ handle.now.place) ⊎ (IsOfThis handle.now.block place ⊎ IsPointer place) }
+    requires place { MayGive handle.now.block handle.now.place place }
     ensures limit { IsErr result ↔ (held_of desk.old ≡ allowance_of desk.old) }
     ensures refused { IfErr result (λ why. (why ≡ Refusal.Limit) × (desk.new ≡ desk.old)) }
     ensures handle { IfOk result (λ h. (h.block ≡ handle.now.block) × (h.place ≡ place)) }
@@ -65,8 +64,8 @@ pub fn share<V: Drop + Send>(
 }
 
 /// The aliasing constructor ([util.smartptr.shared.const]): one owner more of what the handle owns, which points at a
-/// place. Of an empty handle it is empty, and points there all the same. Condition: a place is in a block from 1 on, at
-/// one of its fields. It is refused `Limit` just where the desk is at its allowance, and then nothing changes.
+/// place. Of an empty handle it is empty, and points there all the same. Condition: the place is the handle's own, field 0 of
+/// its object, what `place` told of a handle, or else in a block from 1 on, at one of its four fields. It is refused `Limit` just where the desk is at its allowance, and then nothing changes.
 pub fn alias<V: Drop + Send>(
     domain: &Domain<V>,
     desk: &mut Desk<V>,
@@ -75,7 +74,7 @@ pub fn alias<V: Drop + Send>(
 ) -> Result<Shared, Refusal>
     requires domain { Belongs desk.old domain.now }
     requires holds { Holds desk.old Owner handle.now.block handle.now.place }
-    requires place { IsPointer place }
+    requires place { MayGive handle.now.block handle.now.place place }
     ensures limit { IsErr result ↔ (held_of desk.old ≡ allowance_of desk.old) }
     ensures refused { IfErr result (λ why. (why ≡ Refusal.Limit) × (desk.new ≡ desk.old)) }
     ensures handle { IfOk result (λ h. (h.block ≡ handle.now.block) × (h.place ≡ place)) }

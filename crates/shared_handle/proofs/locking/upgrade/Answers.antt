@@ -1,0 +1,15 @@
+use Rattle.std.proofs.Common.{Option, true≢false, sym, ap, subst, ◌∙◌}
+use Rattle.std.specs.Prelude.{is_some}
+use Rattle.control_word.specs.declared.place.Block.{Block}
+use Rattle.control_block.specs.declared.handles.Shared.{Shared}
+use Rattle.shared_handle.proofs.Owned.{owner_found}
+use Rattle.shared_handle.specs.Locks.{HasOwner}
+use Rattle.shared_handle.proofs.locking.upgrade.Goals as goal
+
+pub returns-in-None-clause-owned : goal.returns-in-None-clause-owned
+returns-in-None-clause-owned g c = λ own.
+    let d = c.args.desk.now in
+    let there = subst (λ (b : Option Block). HasOwner d b) c.in-Some.ensures.1 own in
+    absurd (true≢false
+    (sym (owner_found d c.lock.new.desk c.in-Some.of.block _ _ c.in_ok-owner.ensures.event there)
+    ∙ ap (λ (r : Option Shared). is_some r) c.in-None.is))

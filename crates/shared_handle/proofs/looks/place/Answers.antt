@@ -1,0 +1,10 @@
+use Rattle.std.proofs.Common.{Option, sym, subst}
+use Rattle.control_word.specs.Handles.{IsPointer}
+use Rattle.control_word.specs.declared.place.Place.{Place}
+use Rattle.shared_handle.proofs.Owned.{points_well}
+use Rattle.shared_handle.proofs.looks.place.Goals as goal
+
+pub returns-clause-proper : goal.returns-clause-proper
+returns-clause-proper g c = λ has.
+    let h = c.args.handle.now in
+    subst (λ (p : Option Place). IsPointer p) (sym c.place.ensures) (points_well c.args._desk.now h.block h.place c.stands.ensures h.proper has)
