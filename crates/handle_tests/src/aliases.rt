@@ -66,6 +66,12 @@ fn an_alias_keeps_the_object(rt: HostRuntime) -> Result<(), Fail> {
         Err(_) => None,
     };
     shut(domain, desk);
-    assert_eq!(rt; seen, Some((2, false, (1, FIELD_2, Ok(0)), Some(5))));
+    let (both, same, (alone, at, field), value) = seen.ok_or("no alias")?;
+    assert_eq!(rt; both, 2);
+    assert!(rt; !same);
+    assert_eq!(rt; alone, 1);
+    assert!(rt; at == FIELD_2);
+    assert!(rt; field == Ok(0));
+    assert!(rt; value == Some(5));
     Ok(())
 }

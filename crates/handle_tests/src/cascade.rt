@@ -5,13 +5,17 @@ ghost use Rattle.control_block.specs.Desks.{Belongs, IsSameDesk, bag_of};
 ghost use Rattle.shared_handle.specs.Calls.{Holds, without_handle};
 ghost use Rattle.shared_handle.specs.Endings.{Ends};
 
-use crate::parts::{Found, Was, end_of, told};
+use crate::cell_parts::object;
+use crate::members::put_in;
+use crate::parts::{Found, Was, drop_owner, end_of, shape, shut, told};
+use atomic_cells::SharedMember;
 use control_block::desk::Desk;
-use control_block::domain::Domain;
+use control_block::domain::{Domain, open};
 use shared_handle::{Ending, Left, Member, Shared, release};
+use std::test::Fail;
 
 // What two ends find: that within and that around it.
-pub(crate) type Both = (Found, Found);
+type Both = (Found, Found);
 
 // The end of an object whose first member is the last owner of another. That ends first, while this one has a member left.
 fn end_both(domain: &Domain<u64>, desk: &mut Desk<u64>, around: Ending<u64>) -> Option<Both>
@@ -38,7 +42,7 @@ fn end_both(domain: &Domain<u64>, desk: &mut Desk<u64>, around: Ending<u64>) -> 
 }
 
 // The last owner leaves of an object that has the last owner of another in its first member.
-pub(crate) fn leave_both(domain: &Domain<u64>, desk: &mut Desk<u64>, owner: Shared) -> Option<Both>
+fn leave_both(domain: &Domain<u64>, desk: &mut Desk<u64>, owner: Shared) -> Option<Both>
     requires domain { Belongs desk.old domain.now }
     requires held { Holds desk.old Owner owner.block owner.place }
     ensures desk { IsSameDesk desk.old desk.new }
@@ -49,4 +53,31 @@ pub(crate) fn leave_both(domain: &Domain<u64>, desk: &mut Desk<u64>, owner: Shar
         Left::Empty | Left::Others => None,
         Left::Last(around) => end_both(domain, desk, around),
     }
+}
+
+// An object goes into the first member of another, whose only owner leaves.
+#[tactic(auto, using(shared_handle::proofs::Taken::first_out))]
+fn nest(domain: &Domain<u64>, desk: &mut Desk<u64>) -> Option<Both>
+    requires domain { Belongs desk.old domain.now }
+    ensures desk { IsSameDesk desk.old desk.new }
+{
+    let whole = object(domain, desk, 1)?;
+    let Some(part) = object(domain, desk, 2) else {
+        drop_owner(domain, desk, whole);
+        return None;
+    };
+    put_in(domain, desk, &whole, SharedMember::First, part);
+    leave_both(domain, desk, whole)
+}
+
+#[test]
+fn an_object_ends_within_anothers_end(rt: HostRuntime) -> Result<(), Fail> {
+    let (domain, mut desk) = open::<u64>(rt.alloc(), shape(2, 4)).ok().ok_or("memory")?;
+    let seen = nest(&domain, &mut desk);
+    let vacant = shut(domain, desk);
+    let (inner, outer) = seen.ok_or("no two ends")?;
+    assert_eq!(rt; inner.3, 2);
+    assert_eq!(rt; outer.3, 1);
+    assert_eq!(rt; vacant, 2);
+    Ok(())
 }

@@ -67,8 +67,67 @@ fn compare<R: Wait>(
     }
 }
 
-// The cell has an object's owner. Compares with an alias of it and with the owner itself, each with a new object: what they
-// found, and the field and owners of what the cell holds then.
+// The same with a new object desired.
+#[tactic(auto, using(shared_handle::proofs::Taken::first_out))]
+fn compare_new<R: Wait>(
+    rt: &R,
+    domain: &Domain<u64>,
+    desk: &mut Desk<u64>,
+    at: u32,
+    weak: bool,
+    expected: &Shared,
+) -> Option<Found>
+    requires domain { Belongs desk.old domain.now }
+    requires cell { at < desk.old.shape.shared_cells }
+    requires expected { Holds desk.old Owner expected.now.block expected.now.place }
+    requires real { (b : Block) × (expected.now.block ≡ Some b) }
+    ensures desk { IsSameDesk desk.old desk.new }
+    ensures bag { bag_of desk.new ≡ bag_of desk.old }
+{
+    let desired = object(domain, desk, 6)?;
+    compare(rt, domain, desk, at, weak, expected, desired)
+}
+
+// The same with an alias of the owner expected.
+#[tactic(auto, using(shared_handle::proofs::Taken::first_out))]
+fn compare_aside<R: Wait>(
+    rt: &R,
+    domain: &Domain<u64>,
+    desk: &mut Desk<u64>,
+    at: u32,
+    weak: bool,
+    owner: &Shared,
+) -> Option<Found>
+    requires domain { Belongs desk.old domain.now }
+    requires cell { at < desk.old.shape.shared_cells }
+    requires holds { Holds desk.old Owner owner.now.block owner.now.place }
+    requires real { (b : Block) × (owner.now.block ≡ Some b) }
+    ensures desk { IsSameDesk desk.old desk.new }
+    ensures bag { bag_of desk.new ≡ bag_of desk.old }
+{
+    let aside = Place {
+        block: Block(1),
+        field: 1,
+    };
+    match alias(domain, desk, owner, Some(aside)) {
+        Ok(other) => {
+            let found = compare_new(rt, domain, desk, at, weak, &other);
+            drop_owner(domain, desk, other);
+            found
+        }
+        Err(_) => None,
+    }
+}
+
+// What two compares found, the place of the owner that the cell had before, and the field and owners of what it holds then.
+type Compares = (
+    Option<Found>,
+    Option<Found>,
+    Option<Place>,
+    Option<(Option<u64>, u32)>,
+);
+
+// The cell has an object's owner. Compares with an alias of it and with the owner itself, each with a new object.
 #[tactic(auto, using(shared_handle::proofs::Taken::first_out))]
 fn compare_twice<R: Wait>(
     rt: &R,
@@ -76,40 +135,18 @@ fn compare_twice<R: Wait>(
     desk: &mut Desk<u64>,
     at: u32,
     weak: bool,
-) -> Option<
-    (
-        Option<Place>,
-        Option<Found>,
-        Option<Found>,
-        Option<(Option<u64>, u32)>,
-    ),
->
+) -> Option<Compares>
     requires domain { Belongs desk.old domain.now }
     requires cell { at < desk.old.shape.shared_cells }
     ensures desk { IsSameDesk desk.old desk.new }
 {
     let x = object(domain, desk, 5)?;
     put_copy(domain, desk, at, &x);
-    let aside = Place {
-        block: Block(1),
-        field: 1,
-    };
-    let Ok(other) = alias(domain, desk, &x, Some(aside)) else {
-        drop_owner(domain, desk, x);
-        return None;
-    };
-    let first = match object(domain, desk, 6) {
-        Some(d) => compare(rt, domain, desk, at, weak, &other, d),
-        None => None,
-    };
-    drop_owner(domain, desk, other);
-    let second = match object(domain, desk, 6) {
-        Some(d) => compare(rt, domain, desk, at, weak, &x, d),
-        None => None,
-    };
+    let first = compare_aside(rt, domain, desk, at, weak, &x);
+    let second = compare_new(rt, domain, desk, at, weak, &x);
     let place = x.place();
     drop_owner(domain, desk, x);
-    Some((place, first, second, tell(rt, domain, desk, at)))
+    Some((first, second, place, tell(rt, domain, desk, at)))
 }
 
 // A compare-and-swap of a weak cell, after which what comes out of it leaves: whether it swapped.
@@ -153,6 +190,50 @@ fn compare_weakly<R: Wait>(
     }
 }
 
+// The same with a weak pointer to an object desired.
+#[tactic(auto, using(shared_handle::proofs::Taken::first_out))]
+fn compare_watcher<R: Wait>(
+    rt: &R,
+    domain: &Domain<u64>,
+    desk: &mut Desk<u64>,
+    at: u32,
+    weak: bool,
+    expected: &handles::Weak,
+    owner: &Shared,
+) -> Option<bool>
+    requires domain { Belongs desk.old domain.now }
+    requires cell { at < desk.old.shape.weak_cells }
+    requires expected { Holds desk.old Weak expected.now.block expected.now.place }
+    requires watches { (b : Block) × (expected.now.block ≡ Some b) }
+    requires owner { Holds desk.old Owner owner.now.block owner.now.place }
+    requires real { (b : Block) × (owner.now.block ≡ Some b) }
+    ensures desk { IsSameDesk desk.old desk.new }
+    ensures bag { bag_of desk.new ≡ bag_of desk.old }
+{
+    match downgrade(domain, desk, owner) {
+        Ok(desired) => compare_weakly(rt, domain, desk, at, weak, expected, desired),
+        Err(_) => None,
+    }
+}
+
+// A weak pointer to an object goes into a cell.
+#[tactic(auto, using(shared_handle::proofs::Taken::first_out))]
+fn put_watcher(domain: &Domain<u64>, desk: &mut Desk<u64>, at: u32, owner: &Shared)
+    requires domain { Belongs desk.old domain.now }
+    requires cell { at < desk.old.shape.weak_cells }
+    requires owner { Holds desk.old Owner owner.now.block owner.now.place }
+    requires real { (b : Block) × (owner.now.block ≡ Some b) }
+    ensures desk { IsSameDesk desk.old desk.new }
+    ensures bag { bag_of desk.new ≡ bag_of desk.old }
+{
+    match downgrade(domain, desk, owner) {
+        Ok(weak) => {
+            put_weak(domain, desk, at, weak);
+        }
+        Err(_) => {}
+    }
+}
+
 // Weak pointers to an object are compared with what a cell holds: nothing at first, and then such a pointer.
 #[tactic(auto, using(shared_handle::proofs::Taken::first_out))]
 fn compare_watchers<R: Wait>(
@@ -170,17 +251,9 @@ fn compare_watchers<R: Wait>(
         drop_owner(domain, desk, x);
         return None;
     };
-    let first = match downgrade(domain, desk, &x) {
-        Ok(w) => compare_weakly(rt, domain, desk, at, false, &watcher, w),
-        Err(_) => None,
-    };
-    if let Ok(w) = downgrade(domain, desk, &x) {
-        put_weak(domain, desk, at, w);
-    }
-    let second = match downgrade(domain, desk, &x) {
-        Ok(w) => compare_weakly(rt, domain, desk, at, true, &watcher, w),
-        Err(_) => None,
-    };
+    let first = compare_watcher(rt, domain, desk, at, false, &watcher, &x);
+    put_watcher(domain, desk, at, &x);
+    let second = compare_watcher(rt, domain, desk, at, true, &watcher, &x);
     release_weak(domain, desk, watcher);
     drop_owner(domain, desk, x);
     Some((first, second))
@@ -193,8 +266,28 @@ fn a_weak_cell_is_compared(rt: HostRuntime) -> Result<(), Fail> {
         .ok_or("memory")?;
     let seen = compare_watchers(&rt, &domain, &mut desk, 0);
     shut(domain, desk);
-    assert_eq!(rt; seen, Some((Some(false), Some(true))));
+    let (first, second) = seen.ok_or("no object")?;
+    assert!(rt; first == Some(false));
+    assert!(rt; second == Some(true));
     Ok(())
+}
+
+// Whether the first compare differed and handed out what the cell held, of 4 owners, and the second swapped the new object in.
+fn are_right(seen: Option<Compares>) -> bool {
+    match seen {
+        Some(
+            (Some((false, held, true, 4)), Some((true, old, false, 0)), place, Some((Some(6), 2))),
+        ) => { held == place && old == place }
+        _ => false,
+    }
+}
+
+// Whether the second compare swapped.
+fn is_swapped(seen: Option<Compares>) -> bool {
+    match seen {
+        Some((_, Some((swapped, _, _, _)), _, _)) => swapped,
+        _ => false,
+    }
 }
 
 #[test]
@@ -202,15 +295,10 @@ fn a_compare_goes_by_place_and_object(rt: HostRuntime) -> Result<(), Fail> {
     let (domain, mut desk) = open::<u64>(rt.alloc(), shape_with_cells(2, 1, 1, 8))
         .ok()
         .ok_or("memory")?;
-    let at: u32 = 0;
-    let strong = compare_twice(&rt, &domain, &mut desk, at, false);
-    let weak = compare_twice(&rt, &domain, &mut desk, at, true);
+    let strong = compare_twice(&rt, &domain, &mut desk, 0, false);
+    let weak = compare_twice(&rt, &domain, &mut desk, 0, true);
     shut(domain, desk);
-    let (place, first, second, told) = strong.ok_or("memory")?;
-    let (spot, _, swapped, _) = weak.ok_or("memory")?;
-    assert_eq!(rt; first, Some((false, place, true, 4)));
-    assert_eq!(rt; second, Some((true, place, false, 0)));
-    assert_eq!(rt; told, Some((Some(6), 2)));
-    assert_eq!(rt; swapped, Some((true, spot, false, 0)));
+    assert!(rt; are_right(strong));
+    assert!(rt; is_swapped(weak));
     Ok(())
 }

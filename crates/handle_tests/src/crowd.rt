@@ -232,6 +232,8 @@ fn four_threads_leave_one_owner(rt: HostRuntime) -> Result<(), Fail> {
         Err(_) => unreachable!(),
     }
     assert_eq!(rt; answered, 40_000);
-    assert_eq!(rt; (taken, owners, weaks), (1, 1, 0));
+    assert_eq!(rt; taken, 1);
+    assert_eq!(rt; owners, 1);
+    assert_eq!(rt; weaks, 0);
     Ok(())
 }

@@ -46,7 +46,9 @@ fn a_value_is_dropped_once(rt: HostRuntime) -> Result<(), Fail> {
     let before = drop_by_finish(&domain, &mut desk, &drops);
     let after = drops.load(Ordering::SeqCst);
     shut(domain, desk);
-    assert_eq!(rt; (before, after, drops.load(Ordering::SeqCst)), (0, 1, 1));
+    assert_eq!(rt; before, 0);
+    assert_eq!(rt; after, 1);
+    assert_eq!(rt; drops.load(Ordering::SeqCst), 1);
     Ok(())
 }
 
@@ -73,6 +75,8 @@ fn a_value_left_is_dropped_with_the_census(rt: HostRuntime) -> Result<(), Fail> 
     let made = leave_behind(&domain, &mut desk, &drops);
     let before = drops.load(Ordering::SeqCst);
     shut(domain, desk);
-    assert_eq!(rt; (made, before, drops.load(Ordering::SeqCst)), (true, 0, 1));
+    assert!(rt; made);
+    assert_eq!(rt; before, 0);
+    assert_eq!(rt; drops.load(Ordering::SeqCst), 1);
     Ok(())
 }

@@ -94,7 +94,9 @@ fn an_object_of_two_threads(rt: HostRuntime) -> Result<(), Fail> {
     let (domain, mut desk) = open::<u64>(rt.alloc(), shape(4, 8)).ok().ok_or("memory")?;
     let seen = two_threads(&rt, rt.alloc(), &domain, &mut desk);
     let stock = shut(domain, desk);
-    assert_eq!(rt; seen, Some((2, true)));
+    let (owners, gone) = seen.ok_or("memory")?;
+    assert_eq!(rt; owners, 2);
+    assert!(rt; gone);
     assert_eq!(rt; stock, 4);
     Ok(())
 }

@@ -4,8 +4,6 @@
 #[cfg(test)]
 mod aliases;
 #[cfg(test)]
-mod allowance;
-#[cfg(test)]
 mod cascade;
 #[cfg(test)]
 mod cell_parts;
@@ -26,17 +24,9 @@ mod leaves;
 #[cfg(test)]
 mod locks;
 #[cfg(test)]
-mod member_swaps;
-#[cfg(test)]
 mod members;
 #[cfg(test)]
-mod parting;
-#[cfg(test)]
 mod parts;
-#[cfg(test)]
-mod replacing;
-#[cfg(test)]
-mod reuse;
 pub mod shapes;
 #[cfg(test)]
 mod splits;

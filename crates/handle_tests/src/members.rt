@@ -185,10 +185,17 @@ fn two_tied_objects_end(rt: HostRuntime) -> Result<(), Fail> {
     let seen = tie(&rt, &domain, &mut desk);
     let left = shut(domain, desk);
     let (first, up, inside, one, two) = seen.ok_or("memory")?;
-    assert_eq!(rt; (first, up), (Some(Was::Empty), Some(Was::Empty)));
-    assert_eq!(rt; inside, Some((Some(2), 3)));
-    assert_eq!(rt; one, Some((Was::Others, Was::Empty, Was::Empty, 1)));
-    assert_eq!(rt; two, Some((Was::Empty, Was::Empty, Was::Others, 2)));
+    assert!(rt; first == Some(Was::Empty));
+    assert!(rt; up == Some(Was::Empty));
+    let (field, owners) = inside.ok_or("nothing inside")?;
+    assert!(rt; field == Some(2));
+    assert_eq!(rt; owners, 3);
+    let (member, _, _, value) = one.ok_or("no end")?;
+    assert!(rt; member == Was::Others);
+    assert_eq!(rt; value, 1);
+    let (_, _, member, value) = two.ok_or("no end")?;
+    assert!(rt; member == Was::Others);
+    assert_eq!(rt; value, 2);
     assert_eq!(rt; left, 2);
     Ok(())
 }

@@ -116,9 +116,16 @@ fn an_enabled_object_gives_itself(rt: HostRuntime) -> Result<(), Fail> {
     let (domain, mut desk) = open::<u64>(rt.alloc(), shape(2, 8)).ok().ok_or("memory")?;
     let seen = live_and_end(&domain, &mut desk);
     shut(domain, desk);
-    let this = (Ok(2), Ok((false, 1)));
-    let why = Some(Refusal::BadWeak);
-    let words = ([1, 2, 3, 4], false, why, true, 9, 1, 2);
-    assert_eq!(rt; seen, Some((this, Some(words))));
+    let ((owners, weak), words) = seen.ok_or("no object")?;
+    assert!(rt; owners == Ok(2));
+    assert!(rt; weak == Ok((false, 1)));
+    let (fields, clear, why, expired, value, before, after) = words.ok_or("no end")?;
+    assert_eq!(rt; fields, [1, 2, 3, 4]);
+    assert!(rt; !clear);
+    assert!(rt; why == Some(Refusal::BadWeak));
+    assert!(rt; expired);
+    assert_eq!(rt; value, 9);
+    assert_eq!(rt; before, 1);
+    assert_eq!(rt; after, 2);
     Ok(())
 }

@@ -104,7 +104,11 @@ fn no_visit_of_two_threads_is_lost(rt: HostRuntime) -> Result<(), Fail> {
     let (domain, mut desk) = open::<u64>(rt.alloc(), shape(1, 4)).ok().ok_or("memory")?;
     let seen = round(&rt, rt.alloc(), &domain, &mut desk);
     shut(domain, desk);
-    assert_eq!(rt; seen, Some(((1_000, 1_000), true, Some(7 + 2_000))));
+    let ((one, two), others, value) = seen.ok_or("memory")?;
+    assert_eq!(rt; one, 1_000);
+    assert_eq!(rt; two, 1_000);
+    assert!(rt; others);
+    assert!(rt; value == Some(2_007));
     Ok(())
 }
 
@@ -116,8 +120,12 @@ fn the_value_of_an_owned_null_is_visited(rt: HostRuntime) -> Result<(), Fail> {
         Err(_) => None,
     };
     shut(domain, desk);
-    let (told, why, found, value) = seen.ok_or("no object")?;
-    assert_eq!(rt; told, (1, None, Err(Refusal::Null)));
-    assert_eq!(rt; (why, found, value), (None, Some(7), Some(7)));
+    let ((owners, at, field), why, found, value) = seen.ok_or("no object")?;
+    assert_eq!(rt; owners, 1);
+    assert!(rt; at.is_none());
+    assert!(rt; field == Err(Refusal::Null));
+    assert!(rt; why.is_none());
+    assert!(rt; found == Some(7));
+    assert!(rt; value == Some(7));
     Ok(())
 }

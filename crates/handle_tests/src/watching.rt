@@ -9,8 +9,8 @@ use control_block::desk::Desk;
 use control_block::domain::{Domain, open};
 use control_block::handles;
 use shared_handle::{
-    Shared, downgrade, empty_weak, expired, make, owner_before, release_weak, share_weak,
-    use_count_weak,
+    Shared, downgrade, empty, empty_weak, expired, make, owner_before, release_weak, share_weak,
+    use_count, use_count_weak,
 };
 use std::test::Fail;
 
@@ -62,20 +62,44 @@ fn watch(
 }
 
 #[test]
-fn a_weak_handle_watches(rt: HostRuntime) -> Result<(), Fail> {
+fn an_empty_weak_handle_is_expired(rt: HostRuntime) -> Result<(), Fail> {
     let (domain, mut desk) = open::<u64>(rt.alloc(), shape(1, 8)).ok().ok_or("memory")?;
-    let empties = match empty_weak(&domain, &mut desk) {
+    let seen = match empty_weak(&domain, &mut desk) {
         Ok(weak) => Some(tell_weak(&domain, &mut desk, weak)),
         Err(_) => None,
     };
     shut(domain, desk);
+    assert!(rt; seen == Some((true, 0)));
+    Ok(())
+}
+
+#[test]
+fn an_empty_handle_has_no_owner(rt: HostRuntime) -> Result<(), Fail> {
+    let (domain, mut desk) = open::<u64>(rt.alloc(), shape(1, 8)).ok().ok_or("memory")?;
+    let seen = match empty(&domain, &mut desk) {
+        Ok(handle) => {
+            let owners = use_count(&domain, &mut desk, &handle);
+            end(&domain, &mut desk, handle);
+            Some(owners)
+        }
+        Err(_) => None,
+    };
+    shut(domain, desk);
+    assert!(rt; seen == Some(0));
+    Ok(())
+}
+
+#[test]
+fn a_weak_handle_watches(rt: HostRuntime) -> Result<(), Fail> {
     let (domain, mut desk) = open::<u64>(rt.alloc(), shape(1, 8)).ok().ok_or("memory")?;
     let seen = match make(&domain, &mut desk, [5, 0, 0, 0], false, 4) {
         Ok(owner) => watch(&domain, &mut desk, owner),
         Err(_) => None,
     };
     shut(domain, desk);
-    assert_eq!(rt; empties, Some((true, 0)));
-    assert_eq!(rt; seen, Some(((false, 1), (false, false), (true, 0))));
+    let (before, order, after) = seen.ok_or("no object")?;
+    assert!(rt; before == (false, 1));
+    assert!(rt; order == (false, false));
+    assert!(rt; after == (true, 0));
     Ok(())
 }

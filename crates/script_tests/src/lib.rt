@@ -2,21 +2,13 @@
 //! script that runs reaches.
 #![tactic(auto)]
 
-#[cfg(test)]
-mod acts;
 pub mod calls;
-#[cfg(test)]
-mod holdings;
 #[cfg(test)]
 mod naming;
 #[cfg(test)]
 mod opening;
 #[cfg(test)]
-mod run;
-#[cfg(test)]
 mod steps;
-#[cfg(test)]
-mod table;
 #[cfg(test)]
 mod texts;
 #[cfg(test)]

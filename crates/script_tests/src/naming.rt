@@ -37,15 +37,6 @@ fn refusal(alloc: Global, call: Call) -> Result<Option<Refusal>, Fail> {
 }
 
 #[test]
-fn fields_have_their_numbers(rt: HostRuntime) -> Result<(), Fail> {
-    let fields = [Field::Zero, Field::One, Field::Two, Field::Three];
-    for (number, field) in fields.iter().enumerate() {
-        assert_eq!(rt; usize::from(field.number()), number);
-    }
-    Ok(())
-}
-
-#[test]
 fn a_call_has_names_of_its_kinds(rt: HostRuntime) -> Result<(), Fail> {
     for (call, taken) in [
         (alias(A, A, A, Field::Three), true),

@@ -1,7 +1,6 @@
-//! What no script that runs says: texts that are written, calls that are handed on, and what faults print.
+//! What no script that runs says: texts that are written, and what faults print.
 use script_text::{Cause, Fault, parse, print};
 use std::test::Fail;
-use step_core::{Call, CellName, Field, Kind, Name};
 
 #[test]
 fn canonical_texts(rt: HostRuntime) -> Result<(), Fail> {
@@ -62,73 +61,6 @@ weak w a\nstore s.up w\nload v s.up\ncompare a.first c s\ncompare_weak s.first c
         let reprinted = print(rt.alloc(), &again).map_err(|_| Fail::from("memory"))?;
         assert_eq!(rt; reprinted.as_str(), canonical);
     }
-    Ok(())
-}
-
-const A: Name = Name(0);
-
-const B: Name = Name(1);
-
-const W: Name = Name(2);
-
-const UP: CellName = CellName::Member { name: A, member: 2 };
-
-/// The calls of the second thread below.
-const CALLS: [Call; 7] = [
-    Call::MakeThis {
-        target: A,
-        fields: [7, 8, 0, 0],
-    },
-    Call::Alias {
-        target: B,
-        source: A,
-        of: A,
-        field: Field::Two,
-    },
-    Call::WeakThis {
-        target: W,
-        source: A,
-    },
-    Call::Load {
-        target: W,
-        cell: UP,
-    },
-    Call::Exchange {
-        cell: CellName::Weak(7),
-        name: W,
-    },
-    Call::Compare {
-        cell: CellName::Shared(127),
-        expected: A,
-        desired: B,
-        weak: true,
-    },
-    Call::Before {
-        first: W,
-        second: B,
-    },
-];
-
-#[test]
-fn calls_of_a_script(rt: HostRuntime) -> Result<(), Fail> {
-    let text = b"empty e\nthread\nmakethis a 7 8\nalias b a 2\nwthis w a\nload w a.up\n\
-exchange w7 w\ncompare_weak s127 a b\nbefore w b\n";
-    let script = parse(rt.alloc(), text)?;
-    assert_eq!(rt; (script.threads(), script.statements()), (2, 8));
-    let program = script
-        .program(rt.alloc())
-        .map_err(|_| Fail::from("memory"))?;
-    let [first, second] = program.actors.as_slice() else {
-        return Err(Fail::from("two actors"));
-    };
-    assert_eq!(rt; first.kinds.as_slice(), [Kind::Owner].as_slice());
-    assert_eq!(rt;
-        first.calls.as_slice(),
-        [Call::Empty { target: A }].as_slice()
-    );
-    let kinds = [Kind::Owner, Kind::Owner, Kind::Weak];
-    assert_eq!(rt; second.kinds.as_slice(), kinds.as_slice());
-    assert_eq!(rt; second.calls.as_slice(), CALLS.as_slice());
     Ok(())
 }
 

@@ -1,26 +1,11 @@
-//! What no script that runs says: writers that fail, lines that no run of one writes, and lists of turns by themselves.
+//! What no script that runs says: writers that fail, and lines that no run of one writes.
 use control_word::{Block, Place, Refusal};
-use script_stepper::turns::turns_of;
-use script_stepper::{
-    Output, Sink, WriteFailed, fine_text, step_text, write_all, write_lines, write_text,
-};
-use script_text::Fault;
+use script_stepper::{Output, Sink, WriteFailed, fine_text, step_text, write_lines, write_text};
 use std::alloc::Global;
 use std::io;
 use std::io::Write;
 use std::test::Fail;
 use step_core::{Answer, Ended, Said};
-
-#[test]
-fn lists_of_turns(rt: HostRuntime) -> Result<(), Fail> {
-    let none = turns_of(rt.alloc(), b"", 1)?;
-    assert!(rt; none.is_empty());
-    let some = turns_of(rt.alloc(), b"2,1,16", 16)?;
-    assert_eq!(rt; some.as_slice(), [2, 1, 16].as_slice());
-    let refused = turns_of(rt.alloc(), b"1,17", 16).err();
-    assert_eq!(rt; refused, Some(Fault::BadTurn { position: 2 }));
-    Ok(())
-}
 
 /// A writer that takes two bytes a write. It fails at the write after the last that it is given, and at a flush then.
 #[derive(Drop)]
@@ -70,22 +55,6 @@ fn a_flush_reaches_the_writer(rt: HostRuntime) {
     assert!(rt; broken.failed());
 }
 
-#[test]
-fn a_writer_that_fails_took_a_beginning(rt: HostRuntime) -> Result<(), Fail> {
-    for writes in 0..4 {
-        let mut short = Short::new(rt.alloc(), writes);
-        let mut sink = Output::new(&mut short);
-        let written = write_all(&mut sink, b"abcde");
-        assert_eq!(rt; sink.failed(), writes < 3);
-        assert_eq!(rt; written.is_err(), writes < 3);
-        assert_eq!(rt;
-            Some(short.taken.as_slice()),
-            b"abcde".get(..5.min(2 * writes))
-        );
-    }
-    Ok(())
-}
-
 const ACTS: [Said; 4] = [
     Said {
         statement: 3,
@@ -121,17 +90,6 @@ fn lines_of_a_thread(rt: HostRuntime) -> Result<(), Fail> {
     let expected: &[u8] =
         b"16.3 place 65535.3\n16.4 refused 3\n16.5 end 1 2 0 18446744073709551615\n16.end end null\nend\n";
     assert_eq!(rt; taken.as_slice(), expected);
-    Ok(())
-}
-
-#[test]
-fn lines_that_a_writer_does_not_take(rt: HostRuntime) -> Result<(), Fail> {
-    let mut short = Short::new(rt.alloc(), 1);
-    let mut sink = Output::new(&mut short);
-    let written = write_lines(rt.alloc(), 1, &ACTS, &mut sink);
-    assert_eq!(rt; written, Err(Fault::Output));
-    assert!(rt; sink.failed());
-    assert_eq!(rt; short.taken.as_slice(), b"1.".as_slice());
     Ok(())
 }
 

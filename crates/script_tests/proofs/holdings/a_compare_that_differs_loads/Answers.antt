@@ -1,6 +1,0 @@
-use Rattle.std.proofs.Common.{rules}
-use Rattle.std.specs.Prelude.{Some}
-use Rattle.script_tests.proofs.holdings.a_compare_that_differs_loads.Goals as goal
-
-pub turn_fund-requires-clause-owes : goal.turn_fund-requires-clause-owes
-turn_fund-requires-clause-owes g c = (Some (record { block = record { 0 = 1 }; field = 0 }), search rules)
