@@ -1,7 +1,6 @@
 -- What a desk has when a shared member of an object that ends in its hands was emptied.
-use Rattle.std.proofs.Common.{◌≡◌, ◌≢◌, ℕ, ◌+◌, ◌≤◌, min, cond, [], length, Option, None, refl, ap, ◌∙◌, arith}
+use Rattle.std.proofs.Common.{◌≡◌, ◌≢◌, ℕ, ◌+◌, cond, [], length, Option, refl, ap, ◌∙◌, arith}
 use Rattle.std.specs.Prelude.{IfSome, is_some}
-use Rattle.atomic_table.specs.Seated.{TableId}
 use mir.Val.{bool_byte}
 use Rattle.control_word.specs.Handles.{empty}
 use Rattle.control_word.specs.declared.cell.CellWord.{CellWord}

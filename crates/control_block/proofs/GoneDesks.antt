@@ -11,7 +11,6 @@ use Rattle.control_word.specs.declared.handle.Handle.{Handle}
 use Rattle.control_word.specs.declared.handle.Kind.TheVariants.{Owner}
 use Rattle.control_word.specs.declared.place.Block.{Block}
 use Rattle.control_word.specs.declared.place.Place.{Place}
-use Rattle.control_word.specs.declared.shape.Shape.{Shape}
 use Rattle.control_block.specs.CellCalls.{with_handle}
 use Rattle.control_block.specs.Clearing.{Lets}
 use Rattle.control_block.specs.Desks.{EndsStill, IsEnding, IsSameDesk, bag_of, endings_of, many_ending, stock_of}

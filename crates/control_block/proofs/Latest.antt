@@ -1,5 +1,5 @@
 -- A block in which a desk has a handle isn't used again.
-use Rattle.std.proofs.Common.{◌≡◌, ℕ, suc, true, false, List, [], ◌∷◌, ◌++◌, Some, refl, sym, ap, subst, ◌∙◌, inl}
+use Rattle.std.proofs.Common.{◌≡◌, ℕ, suc, true, false, List, ◌∷◌, ◌++◌, Some, refl, sym, ap, subst, ◌∙◌, inl}
 use Rattle.control_word.proofs.history.Endings.{stays_the_latest}
 use Rattle.control_word.proofs.history.Given.{legal_seen, names_an_object}
 use Rattle.control_word.proofs.history.Kept.{block_kept, has_same, same_kept}

@@ -1,5 +1,5 @@
 -- What the steps of a call come to by which a handle comes out of a cell and leaves.
-use Rattle.std.proofs.Common.{◌≡◌, ℕ, ◌-◌, ◌<◌, ◌≤◌, Bool, false, [], Option, Some, None, refl, sym, ap, subst, ◌∙◌, inr, arith}
+use Rattle.std.proofs.Common.{◌≡◌, ℕ, ◌-◌, ◌≤◌, Bool, false, [], Option, Some, None, refl, sym, ap, subst, ◌∙◌, inr, arith}
 use Rattle.std.specs.Prelude.{IfSome, is_some}
 use Rattle.atomic_table.specs.Seated.{TableId}
 use Rattle.control_word.specs.Handles.{handle, object_of, owner, weak_of}

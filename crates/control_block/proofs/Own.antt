@@ -1,5 +1,5 @@
 -- What the records of calls add to a desk's own events.
-use Rattle.std.proofs.Common.{◌≡◌, ◌≢◌, ℕ, ◌==◌, true, cond, List, [], ◌∷◌, ◌++◌, refl, sym, ap, subst, ◌∙◌, append_assoc, arith, eq-eqb, ne_eqb}
+use Rattle.std.proofs.Common.{◌≡◌, ◌≢◌, ℕ, ◌==◌, true, List, [], ◌∷◌, ◌++◌, refl, sym, ap, subst, ◌∙◌, append_assoc, arith, eq-eqb, ne_eqb}
 use Rattle.std.proofs.lemmas.Bool.{cond-false, cond-true, cond_both}
 use Rattle.control_word.proofs.history.Kept.{same_kept}
 use Rattle.control_word.proofs.history.Names.{joined_is_quiet, unnamed_is_quiet}
@@ -9,10 +9,10 @@ use Rattle.control_word.specs.declared.event.Entry.{Entry}
 use Rattle.control_word.specs.declared.event.Event.{Event}
 use Rattle.control_word.specs.declared.event.Event.TheVariants.{Join, Split}
 use Rattle.control_word.specs.declared.shape.Shape.{Shape}
-use Rattle.control_block.specs.Desks.{Adds, DeskNow, state_of}
+use Rattle.control_block.specs.Desks.{state_of}
 use Rattle.control_block.specs.Laws.{CallsAdd, GoesAdd, GoesByCall, GoesByJoin, GoesByNone, GoesInTurn, JoinedRest, JoinsAdd, SplitsAdd}
-use Rattle.control_block.specs.Own.{Goes, events_of, own_of}
-use Rattle.control_block.specs.Parting.{JoinsWith, SplitsOff, in_history}
+use Rattle.control_block.specs.Own.{events_of, own_of}
+use Rattle.control_block.specs.Parting.{in_history}
 use Rattle.control_block.specs.Rule.{opening_of}
 
 module _ {V : Type 0} where

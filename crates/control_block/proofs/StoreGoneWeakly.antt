@@ -1,7 +1,6 @@
 -- What a desk has when a handle was stored into a weak cell.
 use Rattle.std.proofs.Common.{◌≡◌, ℕ, ◌+◌, ◌<◌, ◌≤◌, min, cond, Bool, true, [], ◌++◌, length, Option, None, refl, sym, ap, subst, ◌∙◌, inl, arith}
-use Rattle.std.specs.Prelude.{IfSome, is_some, vec_capacity, vec_len}
-use mir.Val.{bool_byte}
+use Rattle.std.specs.Prelude.{IfSome, vec_capacity, vec_len}
 use Rattle.control_word.specs.State.{bag_size}
 use Rattle.control_word.specs.declared.cell.CellWord.{CellWord}
 use Rattle.control_word.specs.declared.event.Cell.{Cell}
@@ -12,14 +11,13 @@ use Rattle.control_word.specs.declared.handle.Kind.TheVariants.{Weak}
 use Rattle.control_word.specs.declared.place.Block.{Block}
 use Rattle.control_word.specs.declared.place.Place.{Place}
 use Rattle.control_word.specs.declared.view.Pending.TheVariants.{Idle}
-use Rattle.control_block.specs.CellCalls.{Holds, with_handle, without_handle}
-use Rattle.control_block.specs.Desks.{EndsStill, IsEnding, IsSameDesk, Keeps, KeepsEndings, bag_of, endings_of, stock_of}
+use Rattle.control_block.specs.CellCalls.{Holds, without_handle}
+use Rattle.control_block.specs.Desks.{IsSameDesk, Keeps, KeepsEndings, bag_of, endings_of, stock_of}
 use Rattle.control_block.specs.Handles.{IsProper}
 use Rattle.control_block.specs.Inside.{IsDesk, IsDeskWith, desk_now}
 use Rattle.control_block.specs.Leaving.{OutAndGoneWeakly, freed}
 use Rattle.control_block.specs.Plays.{Added, Holding, known}
 use Rattle.control_block.specs.Storing.{ReplacesWeakly}
-use Rattle.control_block.specs.declared.board.Sight.{Sight}
 use Rattle.control_block.specs.declared.desk.Desk.TheInside.{Inside}
 use Rattle.control_block.proofs.CellChoices.{swap_allowances, swap_stores}
 use Rattle.control_block.proofs.CellDesks.{bag_is, event_is, fits, formed_out, got_holding, in_seat, lost_holding, lost_mine, one, one_few, size_is}

@@ -1,8 +1,8 @@
 -- What is left of a domain.
-use Rattle.std.specs.Prelude.{◌≡◌, ℕ, ◌-◌, ◌<◌, ◌≤◌, ◌↔◌, ◌==◌, cond, List, slice_index}
+use Rattle.std.specs.Prelude.{◌≡◌, ℕ, suc, Bool, ◌-◌, ◌<◌, ◌≤◌, ◌↔◌, ◌==◌, cond, List, slice_index}
 use Rattle.control_word.specs.Layout.{spot}
 use Rattle.control_word.specs.Packing.{number_of}
-use Rattle.control_word.specs.State.{State, IsVacant, count, ending, weak}
+use Rattle.control_word.specs.State.{State, IsVacant, count, ending, sum_below, weak}
 
 -- the words, and how many blocks there were
 pub record CensusNow : Type 0 where
@@ -18,6 +18,20 @@ weaks_in c b = number_of (slice_index c.words (spot b 1)) - cond (owners_in c b 
 
 abbrev pub IsFree : CensusNow → ℕ → Type 0
 IsFree c b = number_of (slice_index c.words (spot b 1)) ≡ 0
+
+abbrev pub is_free : CensusNow → ℕ → Bool
+is_free c b = number_of (slice_index c.words (spot b 1)) == 0
+
+-- the block is one of the domain's
+abbrev pub HasBlock : CensusNow → ℕ → Type 0
+HasBlock c b = (0 < b) × (b ≤ c.blocks)
+
+-- how many of the first n blocks are vacant, and how many of all
+abbrev pub vacant_among : CensusNow → ℕ → ℕ
+vacant_among c n = sum_below n (λ j. cond (is_free c (suc j)) 1 0)
+
+abbrev pub vacant_in : CensusNow → ℕ
+vacant_in c = vacant_among c c.blocks
 
 -- no object in the block is ending
 abbrev pub EndsNot : State → ℕ → Type 0

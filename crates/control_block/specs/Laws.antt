@@ -3,7 +3,6 @@ use Rattle.std.specs.Prelude.{◌≡◌, ℕ, true, All, List, [], ◌∷◌, �
 use Rattle.control_word.specs.declared.event.Event.{Event}
 use Rattle.control_word.specs.declared.event.Event.TheVariants.{Join, Split}
 use Rattle.control_word.specs.Histories.{IsLegal, entry}
-use Rattle.control_word.specs.declared.place.Block.{Block}
 use Rattle.control_block.specs.Desks.{Adds, DeskNow, state_of}
 use Rattle.control_block.specs.Own.{Goes, IsSole, KeepsDesks, KeepsLatest, events_of, own_of}
 use Rattle.control_block.specs.Parting.{JoinsWith, SplitsOff, in_history}

@@ -1,6 +1,6 @@
 //! What is left of a domain once its sole desk closes it.
 ghost use Rattle.std.specs.Prelude.{◌≡◌, ℕ, ◌<◌, ◌≤◌, ◌↔◌, length, slice_index, IfOk, IfErr, IsOk, IsTrue};
-ghost use Rattle.control_block.specs.Census.{owners_in, weaks_in, IsFree, IsCensus, TellsAll};
+ghost use Rattle.control_block.specs.Census.{is_free, owners_in, vacant_in, weaks_in, HasBlock, IsFree, IsCensus, TellsAll};
 ghost use Rattle.control_block.specs.Desks.{Belongs, allowance_of, endings_of, state_of};
 
 use crate::desk::Desk;
@@ -27,7 +27,7 @@ impl<V: Drop + Send> Model for Census<V> {
 
     ghost view = { λ c. record { blocks = c.blocks; words = slots_items c.closed.words } };
 
-    ghost invariant = { λ c. IsFull c.closed.words × IsFull c.closed.slots × (16 * c.blocks ≤ slots_len c.closed.words) };
+    ghost invariant = { λ c. IsFull c.closed.words × IsFull c.closed.slots × (16 * c.blocks ≤ slots_len c.closed.words) × (c.blocks ≤ 65535) };
 }
 
 /// A sole desk closes its domain (own). Else it is refused `NotSole`, and both come back. The census tells of each block in
@@ -63,9 +63,56 @@ pub fn close<V: Drop + Send>(
 }
 
 impl<V: Drop + Send> Census<V> {
-    /// How many owners and weak handles the block's object has (own). Condition: the block is one of the domain's.
+    /// How many blocks the domain had (own).
+    pub fn blocks(&self) -> u32
+        ensures { result ≡ self.now.blocks }
+    {
+        self.blocks
+    }
+
+    /// How many owners and weak handles the block's object has (own): none where the domain had no such block.
     pub fn counts(&self, block: Block) -> Counts
-        requires { (0 < block.0) × (block.0 ≤ self.now.blocks) }
+        ensures there { HasBlock self.now block.0 → (result.owners ≡ owners_in self.now block.0) × (result.weaks ≡ weaks_in self.now block.0) }
+        ensures none { (HasBlock self.now block.0 → ⊥) → (result.owners ≡ 0) × (result.weaks ≡ 0) }
+    {
+        if self.has(block) {
+            self.counts_in(block)
+        } else {
+            Counts {
+                owners: 0,
+                weaks: 0,
+            }
+        }
+    }
+
+    /// Whether the domain had this block, and it is vacant (own).
+    pub fn is_vacant(&self, block: Block) -> bool
+        ensures { IsTrue result ↔ (HasBlock self.now block.0 × IsFree self.now block.0) }
+    {
+        self.has(block) && self.is_free(block)
+    }
+
+    /// How many blocks are vacant (own).
+    pub fn vacant(&self) -> u32
+        ensures { result ≡ vacant_in self.now }
+    {
+        let mut vacant = 0;
+        for number in 0..self.blocks {
+            if self.is_free(Block((number + 1) as u16)) {
+                vacant += 1;
+            }
+        }
+        vacant
+    }
+
+    fn has(&self, block: Block) -> bool
+        ensures { IsTrue result ↔ HasBlock self.now block.0 }
+    {
+        block.0 > 0 && u32::from(block.0) <= self.blocks
+    }
+
+    fn counts_in(&self, block: Block) -> Counts
+        requires { HasBlock self.now block.0 }
         ensures { (result.owners ≡ owners_in self.now block.0) × (result.weaks ≡ weaks_in self.now block.0) }
     {
         let owners = unpack_count(self.closed.word(block_word(block, OWNERS))).number;
@@ -78,10 +125,9 @@ impl<V: Drop + Send> Census<V> {
         Counts { owners, weaks }
     }
 
-    /// Whether the block is vacant (own). Condition: the block is one of the domain's.
-    pub fn is_vacant(&self, block: Block) -> bool
-        requires { (0 < block.0) × (block.0 ≤ self.now.blocks) }
-        ensures { IsTrue result ↔ IsFree self.now block.0 }
+    fn is_free(&self, block: Block) -> bool
+        requires { HasBlock self.now block.0 }
+        ensures { result ≡ is_free self.now block.0 }
     {
         unpack_count(self.closed.word(block_word(block, WEAKS))).number == 0
     }

@@ -1,5 +1,5 @@
 -- Leave: one owner less is allowed; the last one's leave takes the slot with the value.
-use Rattle.std.proofs.Common.{◌≡◌, ◌≢◌, ℕ, ◌+◌, ◌-◌, ◌*◌, ◌%◌, ◌^◌, ◌<◌, ◌≤◌, ◌==◌, Bool, true, false, List, [], ◌∷◌, get_or, set, map, length-set, Option}
+use Rattle.std.proofs.Common.{◌≡◌, ◌≢◌, ℕ, ◌+◌, ◌-◌, ◌*◌, ◌%◌, ◌^◌, ◌<◌, ◌≤◌, true, false, List, [], ◌∷◌, get_or, set, map, length-set, Option}
 use Rattle.std.proofs.Common.{Some, None, refl, sym, ap, subst, ◌∙◌, inl, inr, ⊎_elim, arith, eq-eqb, ne_eqb}
 use Rattle.std.proofs.lemmas.Bool.{cases_eq}
 use Rattle.atomic_table.specs.Table as Table
@@ -15,7 +15,6 @@ use Rattle.control_word.proofs.lists.Tallies.{put_again, put_same}
 use Rattle.control_word.specs.Events.{moved_to}
 use Rattle.control_word.specs.Handles.{owner}
 use Rattle.control_word.specs.State.{Has, InShape, held, ending, kind_of_member, live, unmade}
-use Rattle.control_word.specs.declared.event.Entry.{Entry}
 use Rattle.control_word.specs.declared.event.Event.{Event}
 use Rattle.control_word.specs.declared.event.Event.TheVariants.{Leave}
 use Rattle.control_word.specs.declared.handle.Kind.TheVariants.{Owner}

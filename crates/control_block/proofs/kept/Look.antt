@@ -1,6 +1,6 @@
 -- Looks, which change no word: use_count, expired, and a field.
-use Rattle.std.proofs.Common.{◌≡◌, ◌≢◌, ℕ, zero, suc, ◌+◌, ◌*◌, ◌%◌, ◌/◌, ◌<◌, ◌≤◌, ◌==◌, Bool, true, false, List, ◌∷◌, get_or, set, map, Option, Some}
-use Rattle.std.proofs.Common.{refl, sym, ap, subst, ◌∙◌, inl, ⊎_elim, arith}
+use Rattle.std.proofs.Common.{◌≡◌, ℕ, ◌+◌, ◌*◌, ◌%◌, ◌/◌, ◌<◌, ◌==◌, false, List, ◌∷◌, get_or, set, map, Option, Some}
+use Rattle.std.proofs.Common.{refl, sym, ap, subst, ◌∙◌, inl, arith}
 use Rattle.atomic_table.specs.Table.{Allows, step}
 use mathlib.Core.Option.{none, some}
 use lib.ListN.{get_elem?}

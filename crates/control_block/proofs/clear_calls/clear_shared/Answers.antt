@@ -1,4 +1,4 @@
-use Rattle.std.proofs.Common.{◌≡◌, ℕ, ◌+◌, ◌<◌, cond, refl, sym, ap, subst, ◌∙◌, arith, length, eq-eqb, ne_eqb}
+use Rattle.std.proofs.Common.{◌+◌, cond, refl, sym, ap, subst, ◌∙◌, arith, length, ne_eqb}
 use Rattle.std.proofs.lemmas.Bool.{cond-false}
 use Rattle.std.specs.Prelude.{is_some}
 use mir.Val.{bool_byte}

@@ -1,10 +1,7 @@
-use Rattle.std.proofs.Common.{◌≡◌, ℕ, ◌+◌, ◌<◌, cond, refl, sym, ap, subst, ◌∙◌, arith, length, eq-eqb, ne_eqb}
-use Rattle.std.proofs.lemmas.Bool.{cond-false}
-use Rattle.control_word.specs.declared.handle.Kind.TheVariants.{Owner, Weak}
+use Rattle.std.proofs.Common.{ℕ, ◌+◌, cond, refl, sym, ap, subst, ◌∙◌, arith, length}
 use Rattle.control_block.specs.Clearing.{EmptiesWeakly}
 use Rattle.control_block.specs.Desks.{DeskNow, EndsStill, IsEnding, IsSameDesk, bag_of, endings_of, member_in, stock_of}
 use Rattle.control_block.specs.Inside.{desk_now}
-use Rattle.control_block.specs.Plays.{known}
 use Rattle.control_block.specs.declared.desk.Desk.TheInside.{Inside}
 use Rattle.control_block.proofs.ClearDesks.{room_out}
 use Rattle.control_block.proofs.ClearGoneWeakly as gone

@@ -1,4 +1,4 @@
-use Rattle.std.proofs.Common.{None, refl, sym, subst, ◌∙◌}
+use Rattle.std.proofs.Common.{refl, subst}
 use Rattle.atomic_table.specs.Seated.{TableId}
 use Rattle.control_word.specs.Handles.{empty}
 use Rattle.control_word.specs.State.{kind_of_member}
@@ -7,10 +7,10 @@ use Rattle.control_word.specs.declared.handle.Kind.{Kind}
 use Rattle.control_word.specs.declared.handle.Kind.TheVariants.{Weak}
 use Rattle.control_block.specs.CellPlays.{Gave}
 use Rattle.control_block.specs.Inside.{IsSized}
-use Rattle.control_block.specs.Plays.{At, tells}
+use Rattle.control_block.specs.Plays.{At}
 use Rattle.control_block.proofs.CellRounds.{gave_counted}
 use Rattle.control_block.proofs.CellTrades.{clear_trades}
-use Rattle.control_block.proofs.LetGo.{empty_gone_weakly, gave_owes, meant_out_weakly, out_and_gone_weakly}
+use Rattle.control_block.proofs.LetGo.{gave_owes, meant_out_weakly, out_and_gone_weakly}
 use Rattle.control_block.proofs.clears.clear_weak.Goals as goal
 
 pub let_go_weakly-vacant-requires-clause-meant : goal.let_go_weakly-vacant-requires-clause-meant

@@ -1,4 +1,4 @@
-use Rattle.std.proofs.Common.{◌≡◌, ◌≤◌, length, take, arith, ◌∙◌, sym}
+use Rattle.std.proofs.Common.{take, arith, ◌∙◌, sym}
 use Rattle.std.proofs.lemmas.List.{length-take}
 use Rattle.control_block.proofs.SlotLists.{filled_few, next_filled, next_vacant}
 use Rattle.control_block.proofs.split.count_filled.Goals as goal

@@ -1,4 +1,4 @@
-use Rattle.std.proofs.Common.{◌≡◌, ℕ, ◌+◌, ◌-◌, ◌<◌, cond, refl, sym, ap, subst, ◌∙◌, arith, length}
+use Rattle.std.proofs.Common.{◌≡◌, ◌+◌, ◌-◌, cond, refl, sym, ap, subst, ◌∙◌, arith}
 use Rattle.std.specs.Prelude.{IfSome, is_some}
 use mir.Val.{bool_byte}
 use Rattle.control_word.specs.Events.{InHand}
@@ -7,7 +7,7 @@ use Rattle.control_word.specs.declared.handle.Handle.{Handle}
 use Rattle.control_word.specs.declared.handle.Kind.TheVariants.{Owner}
 use Rattle.control_block.specs.CellCalls.{Holds, handle_in, without_handle, word_at}
 use Rattle.control_block.specs.CellPlays.{IsWordOf}
-use Rattle.control_block.specs.Desks.{DeskNow, KeepsStock, bag_of, endings_of, stock_of}
+use Rattle.control_block.specs.Desks.{DeskNow, KeepsStock, bag_of, endings_of}
 use Rattle.control_block.specs.Handles.{IsProper}
 use Rattle.control_block.specs.Inside.{desk_now}
 use Rattle.control_block.specs.Plays.{Holding, known}

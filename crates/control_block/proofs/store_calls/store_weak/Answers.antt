@@ -1,6 +1,5 @@
-use Rattle.std.proofs.Common.{◌≡◌, ℕ, ◌+◌, ◌-◌, ◌<◌, cond, refl, sym, ap, subst, ◌∙◌, arith, length}
-use Rattle.std.specs.Prelude.{IfSome, is_some}
-use mir.Val.{bool_byte}
+use Rattle.std.proofs.Common.{◌≡◌, ◌+◌, ◌-◌, cond, refl, sym, ap, subst, ◌∙◌, arith, length}
+use Rattle.std.specs.Prelude.{IfSome}
 use Rattle.control_word.specs.Events.{InHand}
 use Rattle.control_word.specs.Handles.{object_of}
 use Rattle.control_word.specs.declared.handle.Handle.{Handle}
@@ -15,8 +14,6 @@ use Rattle.control_block.specs.Storing.{ReplacesWeakly}
 use Rattle.control_block.specs.declared.desk.Desk.TheInside.{Inside}
 use Rattle.control_block.proofs.CellDesks.{in_seat, lost_counted, lost_hand, lost_holding, lost_room, lost_shows, lost_some, lost_word}
 use Rattle.control_block.proofs.CellSites.{cell_there, word_there}
-use Rattle.control_block.proofs.EndingCounts.{few_ending}
-use Rattle.control_block.proofs.OwnCounts.{byte_few}
 use Rattle.control_block.proofs.StoreGoneWeakly as gone
 use Rattle.control_block.proofs.store_calls.store_weak.Goals as goal
 

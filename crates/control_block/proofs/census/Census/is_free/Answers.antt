@@ -1,11 +1,11 @@
-use Rattle.std.proofs.Common.{◌≡◌, sym, ap, ◌∙◌, rules}
+use Rattle.std.proofs.Common.{◌≡◌, ◌==◌, ℕ, ap, ◌∙◌}
 use Rattle.std.specs.Prelude.{slice_index}
 use Rattle.std.specs.Slots.{slots_items}
 use Rattle.control_word.specs.Layout.{spot}
 use Rattle.control_word.specs.Packing.{number_of}
 use Rattle.control_block.specs.Census.{CensusNow}
 use Rattle.control_block.proofs.Closing.{index_at}
-use Rattle.control_block.proofs.census.Census.is_vacant.Goals as goal
+use Rattle.control_block.proofs.census.Census.is_free.Goals as goal
 
 pub returns : goal.returns
 returns g c =
@@ -14,4 +14,4 @@ returns g c =
     c.unpack_count.ensures.number
     ∙ (ap number_of (index_at l _ c.word.result c.word.ensures ∙ ap (slice_index l) c.block_word.ensures)
     ∙ ap (λ (z : CensusNow). number_of (slice_index z.words (spot c.args.block.0 1))) c.self.view_is) in
-    (λ t. let q : c.unpack_count.result.number ≡ 0 = search rules in sym e ∙ q, λ f. let q : c.unpack_count.result.number ≡ 0 = e ∙ f in search rules)
+    ap (λ (n : ℕ). n == 0) e

@@ -5,7 +5,7 @@ use Rattle.control_word.specs.Layout.{spot}
 use Rattle.control_word.specs.Packing.{number_of}
 use Rattle.control_block.specs.Census.{CensusNow, owners_in}
 use Rattle.control_block.proofs.Closing.{index_at, none_less, one_less}
-use Rattle.control_block.proofs.census.Census.counts.Goals as goal
+use Rattle.control_block.proofs.census.Census.counts_in.Goals as goal
 
 pub returns-then-owners-eq0 : goal.returns-then-owners-eq0
 returns-then-owners-eq0 g c =
