@@ -30,18 +30,24 @@ module _ {V : Type 0} where
   pub same_first : (l : List (ℕ × Option V)) (b c : ℕ) (x y : V) → l ≡ (b, Some x) ∷ [] → l ≡ (c, Some y) ∷ [] → x ≡ y
   same_first l b c x y e f = some_same x y (ap first_slot (sym e ∙ f))
 
-  -- after the door was shut and the value came out
-  pub visits_now : (v : Sight V) (m n me : At V) (c b : Block) (o : ℕ) (p : Option Place) (i : ℕ) (x y : V) → m.0 ≡ v → c ≡ b → i ≡ spot b.0 2 → x ≡ y
-      → Moved m.0 (Visiting o p i x) (Some c) n.0 → value (opening_of m.0.shape) n.0.view.seen o ≡ Some x → me ≡ (n.0, (b.0 - 1, None) ∷ [])
-      → IsVisiting v b o p (spot b.0 2) y None me
-  visits_now v m n me c b o p i x y is block word same moved val now =
-      subst (λ (z : At V). IsVisiting v b o p (spot b.0 2) y None z) (sym now)
+  -- after the door was shut, with the value in the slot that came with it
+  pub visits_now : (v : Sight V) (m n : At V) (c b : Block) (o : ℕ) (p : Option Place) (i : ℕ) (x : V) → m.0 ≡ v → c ≡ b → i ≡ spot b.0 2
+      → Moved m.0 (Visiting o p i x) (Some c) n.0 → value (opening_of m.0.shape) n.0.view.seen o ≡ Some x → n.1 ≡ (c.0 - 1, Some x) ∷ []
+      → IsVisiting v b o p (spot b.0 2) x (Some x) n
+  visits_now v m n c b o p i x is block word moved val carried =
       record {
-        moved = subst (λ (z : Block × (ℕ × (V × Sight V))). Moved z.1.1.1 (Visiting o p z.1.0 z.1.1.0) (Some z.0) n.0)
-            (λ j. (block j, (word j, (same j, is j)))) moved;
-        valued = subst (λ (z : Sight V). value (opening_of z.shape) n.0.view.seen o ≡ Some y) is (val ∙ ap Some same);
-        carried = refl;
+        moved = subst (λ (z : Block × (ℕ × Sight V)). Moved z.1.1 (Visiting o p z.1.0 x) (Some z.0) n.0) (λ j. (block j, (word j, is j))) moved;
+        valued = subst (λ (z : Sight V). value (opening_of z.shape) n.0.view.seen o ≡ Some x) is val;
+        carried = carried ∙ ap (λ (z : Block). (z.0 - 1, Some x) ∷ []) block;
       }
+
+  -- and after its value was worked on
+  pub worked_on : (v : Sight V) (b : Block) (o : ℕ) (p : Option Place) (i : ℕ) (x was becomes : V) (me me' : At V) → IsVisiting v b o p i x (Some x) me
+      → me.1 ≡ (b.0 - 1, Some was) ∷ [] → me' ≡ (me.0, (b.0 - 1, Some becomes) ∷ []) → IsVisiting v b o p i was (Some becomes) me'
+  worked_on v b o p i x was becomes me me' t has now =
+      let same : x ≡ was = same_first me.1 (b.0 - 1) (b.0 - 1) x was t.carried has in
+      subst (λ (z : V × At V). IsVisiting v b o p i z.0 (Some becomes) z.1) (λ j. (same j, sym now j))
+      record { moved = t.moved; valued = t.valued; carried = refl }
 
   -- the owner by which a chair visits
   abbrev pub visited : Pending V → ℕ

@@ -1,3 +1,4 @@
+pub mod Tokens
 pub mod Rule
 pub mod Plays
 pub mod LockPlays

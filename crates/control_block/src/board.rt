@@ -1,7 +1,9 @@
 //! The table that the desks share: its words, its slots, what a seat sees, and the rule.
 //!
-//! The words are those of `control_word::layout`. Slot `b - 1` keeps the value of the object in block `b`: it is
-//! at home but for two short moments, in a make before its claim and in the last owner's leave after its step.
+//! The words are those of `control_word::layout`. Slot `b - 1` has the token of the cell in which the value of the object
+//! in block `b` lies: it is at home but while a make fills the cell, while a visit works on the value, and while the
+//! last owner's leave takes it out.
+use crate::slot::Slot;
 use atomic_table::{Seat, Shared, TableRule};
 use control_word::view::View;
 use control_word::{Block, Shape};
@@ -17,7 +19,7 @@ pub struct Sight<V> {
 /// Between any two steps the words stand for one legal history, and each slot is where it belongs.
 pub struct Ruling;
 
-impl<V> TableRule<Option<V>, Sight<V>, Shape> for Ruling {
+impl<V> TableRule<Slot<V>, Sight<V>, Shape> for Ruling {
     ghost use Rattle.control_block.specs.Rule.{Ruled, opens_with};
 
     ghost holds = { Ruled };
@@ -25,6 +27,6 @@ impl<V> TableRule<Option<V>, Sight<V>, Shape> for Ruling {
     ghost first = { opens_with };
 }
 
-pub type Board<V> = Shared<Option<V>, Sight<V>, Shape, Ruling>;
+pub type Board<V> = Shared<Slot<V>, Sight<V>, Shape, Ruling>;
 
-pub type Chair<V> = Seat<Option<V>, Sight<V>>;
+pub type Chair<V> = Seat<Slot<V>, Sight<V>>;

@@ -9,6 +9,7 @@ ghost use Rattle.control_word.specs.Handles.{empty};
 ghost use Rattle.control_block.specs.CellPlays.{compare_swapped, differed_empty, loaded_empty, peeked, refilled, swapped, took};
 
 use crate::board::Sight;
+use crate::slot::Slot;
 use atomic_table::Play;
 use std::marker::{Brand, PhantomData};
 
@@ -37,55 +38,55 @@ impl Aimed for Brand {
 /// A look without an event.
 pub struct Peeks<A>(PhantomData<A>);
 
-impl<V, A: Aimed> Play<Option<V>, Sight<V>> for Peeks<A> {
+impl<V, A: Aimed> Play<Slot<V>, Sight<V>> for Peeks<A> {
     ghost then = { peeked A.cell };
 }
 
 /// A look, which is the load of a cell without an object.
 pub struct LoadsEmpty<A>(PhantomData<A>);
 
-impl<V, A: Aimed> Play<Option<V>, Sight<V>> for LoadsEmpty<A> {
+impl<V, A: Aimed> Play<Slot<V>, Sight<V>> for LoadsEmpty<A> {
     ghost then = { loaded_empty A.cell };
 }
 
 /// A look, which is a compare that differs, of a cell without an object.
 pub struct DiffersEmpty<A>(PhantomData<A>);
 
-impl<V, A: Aimed> Play<Option<V>, Sight<V>> for DiffersEmpty<A> {
+impl<V, A: Aimed> Play<Slot<V>, Sight<V>> for DiffersEmpty<A> {
     ghost then = { differed_empty A.cell A.expected A.new A.weak };
 }
 
 /// A fund is taken, by a load.
 pub struct TakesToLoad<A>(PhantomData<A>);
 
-impl<V, A: Aimed> Play<Option<V>, Sight<V>> for TakesToLoad<A> {
+impl<V, A: Aimed> Play<Slot<V>, Sight<V>> for TakesToLoad<A> {
     ghost then = { took A.cell (λ h. Load A.cell h) };
 }
 
 /// A fund is taken, by a compare that differs.
 pub struct TakesToCompare<A>(PhantomData<A>);
 
-impl<V, A: Aimed> Play<Option<V>, Sight<V>> for TakesToCompare<A> {
+impl<V, A: Aimed> Play<Slot<V>, Sight<V>> for TakesToCompare<A> {
     ghost then = { took A.cell (λ h. Compare A.cell A.expected A.new h false A.weak) };
 }
 
 /// The funds taken are put into the cell again.
 pub struct Refills;
 
-impl<V> Play<Option<V>, Sight<V>> for Refills {
+impl<V> Play<Slot<V>, Sight<V>> for Refills {
     ghost then = { refilled };
 }
 
 /// The new handle goes in, and what the cell held comes out.
 pub struct Swaps<A>(PhantomData<A>);
 
-impl<V, A: Aimed> Play<Option<V>, Sight<V>> for Swaps<A> {
+impl<V, A: Aimed> Play<Slot<V>, Sight<V>> for Swaps<A> {
     ghost then = { swapped A.cell (λ h. Swap A.cell A.new h) };
 }
 
 /// The same, where the cell holds what is expected.
 pub struct CompareSwaps<A>(PhantomData<A>);
 
-impl<V, A: Aimed> Play<Option<V>, Sight<V>> for CompareSwaps<A> {
+impl<V, A: Aimed> Play<Slot<V>, Sight<V>> for CompareSwaps<A> {
     ghost then = { compare_swapped A.cell (λ h. Compare A.cell A.expected A.new h true A.weak) };
 }

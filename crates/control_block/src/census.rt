@@ -5,6 +5,7 @@ ghost use Rattle.control_block.specs.Desks.{Belongs, allowance_of, endings_of, s
 
 use crate::desk::Desk;
 use crate::domain::Domain;
+use crate::slot::Slot;
 use atomic_table::Closed;
 use control_word::counts::unpack_count;
 use control_word::layout::{OWNERS, WEAKS, block_word};
@@ -14,7 +15,7 @@ use std::marker::Model;
 
 /// The counts of each block. The values that are left are dropped with it.
 pub struct Census<V: Drop + Send> {
-    closed: Closed<Option<V>, Global>,
+    closed: Closed<Slot<V>, Global>,
     blocks: u32,
 }
 

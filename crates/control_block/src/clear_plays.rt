@@ -3,19 +3,20 @@ ghost use Rattle.control_block.specs.CellPlays.{cleared, looked_clear};
 
 use crate::board::Sight;
 use crate::plays::Meant;
+use crate::slot::Slot;
 use atomic_table::Play;
 use std::marker::PhantomData;
 
 /// A look, which clears a member that holds nothing.
 pub struct LooksClear<M>(PhantomData<M>);
 
-impl<V, M: Meant> Play<Option<V>, Sight<V>> for LooksClear<M> {
+impl<V, M: Meant> Play<Slot<V>, Sight<V>> for LooksClear<M> {
     ghost then = { looked_clear M.object M.word };
 }
 
 /// The member is swapped for nothing.
 pub struct Clears<M>(PhantomData<M>);
 
-impl<V, M: Meant> Play<Option<V>, Sight<V>> for Clears<M> {
+impl<V, M: Meant> Play<Slot<V>, Sight<V>> for Clears<M> {
     ghost then = { cleared M.object M.word };
 }

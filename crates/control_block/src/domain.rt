@@ -1,20 +1,22 @@
 //! A domain: blocks and cells that desks share.
-ghost use Rattle.std.specs.Prelude.{◌≡◌, ◌⊎◌, ◌↔◌, ℕ, ◌+◌, ◌<◌, ◌≤◌, [], length, vec_capacity, IfOk, IfErr, IsTrue};
+ghost use Rattle.std.specs.Prelude.{◌≡◌, ◌⊎◌, ◌↔◌, ℕ, ◌+◌, ◌<◌, ◌≤◌, [], length, replicate, vec_capacity, vec_len, None, IfOk, IfErr, IsTrue};
 ghost use Rattle.control_word.specs.Layout.{IsWithinLimits};
 ghost use Rattle.control_block.specs.Desks.{Begins, all_blocks};
 
 use crate::board::{Ruling, Sight};
 use crate::desk::Desk;
+use crate::slot::Slot;
 use atomic_table::Table;
 use control_word::layout::table_words;
 use control_word::{Block, Refusal, Shape};
+use slot_arena::{Arena, Vacant};
 use std::alloc::{AllocError, Global};
 use std::marker::Model;
 
 /// Blocks and cells that desks share between threads, without a lock.
 #[derive(Drop)]
 pub struct Domain<V: Drop + Send> {
-    pub(crate) table: Table<Option<V>, Sight<V>, Shape, Ruling, Global>,
+    pub(crate) table: Table<Slot<V>, Sight<V>, Shape, Ruling, Global>,
     pub(crate) shape: Shape,
 }
 
@@ -57,6 +59,17 @@ fn all_stored(alloc: Global, blocks: u32) -> Result<Vec<Block, Global>, AllocErr
     Ok(store)
 }
 
+/// A slot for each token.
+fn slots_of<V: Drop>(alloc: Global, mut tokens: Vec<Vacant<V>>) -> Result<Vec<Slot<V>>, AllocError>
+    ensures { IfOk result (λ slots. slots.items ≡ replicate (vec_len tokens) None) }
+{
+    let mut slots = Vec::with_capacity(alloc, tokens.len())?;
+    while let Some(token) = tokens.pop() {
+        slots.push_reserved(Slot::of(token));
+    }
+    Ok(slots)
+}
+
 /// A new domain, and its first desk, which has all blocks and the whole allowance (own). It is refused `Memory` where a
 /// growth was really refused, and `Shape` just where the shape is outside the limits.
 pub fn open<V: Drop + Send>(alloc: Global, shape: Shape) -> Result<(Domain<V>, Desk<V>), Refusal>
@@ -70,7 +83,11 @@ pub fn open<V: Drop + Send>(alloc: Global, shape: Shape) -> Result<(Domain<V>, D
     }
     let words = Vec::from_elem(alloc, 0u64, table_words(&shape))?;
     let store = all_stored(alloc, shape.blocks)?;
-    let (table, seat) = Table::vacant(alloc, words.as_slice(), shape.blocks as usize, &shape)?;
+    let slots = slots_of(alloc, Arena::new(alloc, shape.blocks)?)?;
+    let (table, seat) = match Table::new(alloc, words.as_slice(), slots, &shape) {
+        Ok(made) => made,
+        Err(_) => return Err(Refusal::Memory),
+    };
     let desk = Desk {
         seat,
         allowance: shape.allowance,

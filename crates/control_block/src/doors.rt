@@ -1,5 +1,5 @@
 //! The door of a visit: while it is shut the value of an object is in the hands of one desk.
-ghost use Rattle.std.specs.Prelude.{◌≡◌, ◌<◌, [], false, None};
+ghost use Rattle.std.specs.Prelude.{◌≡◌, ◌<◌, [], false, Some};
 ghost use Rattle.control_word.specs.Handles.{owner};
 ghost use Rattle.control_word.specs.Layout.{spot};
 ghost use Rattle.control_word.specs.declared.event.Event.TheVariants.{Visit};
@@ -16,20 +16,20 @@ use control_word::Block;
 use control_word::layout::{DOOR, FLAGS, block_word};
 use std::sync::Wait;
 
-/// Shut: the door of an object that the desk has an owner of is shut, and its value comes out (own). It tries again while
-/// the door is another's.
+/// Shut: the door of an object that the desk has an owner of is shut, and the slot with its value is in hand (own). It tries
+/// again while the door is another's.
 pub fn shut<V: Drop + Send, M: Meant, R: Wait>(
     rt: &R,
     board: &Board<V>,
     chair: &mut Chair<V>,
     block: Block,
-) -> V
+)
     requires board { chair.old.table_id ≡ board.now.table_id }
     requires rests { Rests chair.old.me }
     requires word { (0 < block.0) × (spot block.0 2 < board.now.table_id.words) }
     requires holds { (M.block ≡ block) × (M.word ≡ 0) × Holding chair.old.me.0 Owner M.object M.place block.0 }
     ensures chair { (chair.new.table_id ≡ chair.old.table_id) × (chair.new.id ≡ chair.old.id) }
-    ensures visiting { IsVisiting chair.old.me.0 block M.object M.place (spot block.0 2) result None chair.new.me }
+    ensures visiting { (x : V) × IsVisiting chair.old.me.0 block M.object M.place (spot block.0 2) x (Some x) chair.new.me }
 {
     let word = block_word(block, FLAGS);
     let mut pause = Pause::new();
@@ -38,10 +38,7 @@ pub fn shut<V: Drop + Send, M: Meant, R: Wait>(
         if found < DOOR {
             let shut = found + DOOR;
             if board.compare_exchange::<Shuts<M>>(chair, word, found, shut) == found {
-                let Some(value) = board.exchange(chair, usize::from(block.0) - 1, None) else {
-                    unreachable!()
-                };
-                return value;
+                return;
             }
         }
         pause.wait();
@@ -49,19 +46,13 @@ pub fn shut<V: Drop + Send, M: Meant, R: Wait>(
     unreachable!()
 }
 
-/// Open: the value that a visit left goes home, and the door is open again (own). The visit is over.
-pub fn open<V: Drop + Send, M: Meant>(
-    board: &Board<V>,
-    chair: &mut Chair<V>,
-    block: Block,
-    value: V,
-)
+/// Open: the slot goes home with the value that a visit left, and the door is open again (own). The visit is over.
+pub fn open<V: Drop + Send, M: Meant>(board: &Board<V>, chair: &mut Chair<V>, block: Block)
     requires board { chair.old.table_id ≡ board.now.table_id }
     requires word { (0 < block.0) × (M.block ≡ block) × (spot block.0 2 < board.now.table_id.words) }
-    requires visiting { (v : Sight V) × (was : V) × (v.view.spent ≡ false) × IsVisiting v block M.object M.place (spot block.0 2) was None chair.old.me }
+    requires visiting { (v : Sight V) × (was : V) × (becomes : V) × (v.view.spent ≡ false) × IsVisiting v block M.object M.place (spot block.0 2) was (Some becomes) chair.old.me }
     ensures chair { (chair.new.table_id ≡ chair.old.table_id) × (chair.new.id ≡ chair.old.id) × (chair.new.me.1 ≡ []) }
-    ensures event { (v : Sight V) (was : V) → IsVisiting v block M.object M.place (spot block.0 2) was None chair.old.me → tells (Visit (owner M.object M.place) was value) v chair.new.me.0 }
+    ensures event { (v : Sight V) (was becomes : V) → IsVisiting v block M.object M.place (spot block.0 2) was (Some becomes) chair.old.me → tells (Visit (owner M.object M.place) was becomes) v chair.new.me.0 }
 {
-    board.exchange(chair, usize::from(block.0) - 1, Some(value));
     board.fetch_sub::<Opens<M>>(chair, block_word(block, FLAGS), DOOR);
 }

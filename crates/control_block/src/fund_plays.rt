@@ -3,19 +3,20 @@ ghost use Rattle.control_block.specs.FundPlays.{brought, settled};
 
 use crate::board::Sight;
 use crate::plays::Meant;
+use crate::slot::Slot;
 use atomic_table::Play;
 use std::marker::PhantomData;
 
 /// Funds are brought.
 pub struct Brings<M>(PhantomData<M>);
 
-impl<V, M: Meant> Play<Option<V>, Sight<V>> for Brings<M> {
+impl<V, M: Meant> Play<Slot<V>, Sight<V>> for Brings<M> {
     ghost then = { brought M.kind M.object M.place };
 }
 
 /// Funds are given back, or one is turned into a handle.
 pub struct Settles;
 
-impl<V> Play<Option<V>, Sight<V>> for Settles {
+impl<V> Play<Slot<V>, Sight<V>> for Settles {
     ghost then = { settled };
 }

@@ -13,6 +13,7 @@ ghost use Rattle.control_block.specs.Plays.{Rests, known, tells};
 ghost use Rattle.control_block.specs.Rule.{opening_of};
 
 use crate::board::{Board, Chair};
+use crate::in_hand;
 use crate::plays::{GivesBack, Leaves, Meant, WeakLeaves};
 use control_word::counts::ONE_FUND;
 use control_word::layout::{OWNERS, WEAKS, block_word};
@@ -41,9 +42,7 @@ pub fn leave<V: Drop + Send, M: Meant>(
     if found != all {
         return None;
     }
-    let Some(value) = board.exchange(chair, usize::from(block.0) - 1, None) else {
-        unreachable!()
-    };
+    let value = in_hand::take(board, chair, block);
     board.load::<GivesBack>(chair, word);
     Some(value)
 }

@@ -4,19 +4,20 @@ ghost use Rattle.control_block.specs.LockPlays.{sought_owner, locked};
 
 use crate::board::Sight;
 use crate::plays::Meant;
+use crate::slot::Slot;
 use atomic_table::Play;
 use std::marker::PhantomData;
 
 /// A look for an owner, which is the event of a lock where there is none.
 pub struct SeeksOwner<M>(PhantomData<M>);
 
-impl<V, M: Meant> Play<Option<V>, Sight<V>> for SeeksOwner<M> {
+impl<V, M: Meant> Play<Slot<V>, Sight<V>> for SeeksOwner<M> {
     ghost then = { sought_owner M.object M.place };
 }
 
 /// One owner more, where one was found.
 pub struct Locks<M>(PhantomData<M>);
 
-impl<V, M: Meant> Play<Option<V>, Sight<V>> for Locks<M> {
+impl<V, M: Meant> Play<Slot<V>, Sight<V>> for Locks<M> {
     ghost then = { locked M.object M.place };
 }

@@ -8,6 +8,7 @@ ghost use Rattle.control_word.specs.declared.place.Place.{Place};
 ghost use Rattle.control_block.specs.Plays.{shared, weakly_shared, weakly_left, counted, found_expired, peeked, read, left, gave_back, began, wrote, made, finished, parted, goes_on, comes_off, grown, over, joined};
 
 use crate::board::Sight;
+use crate::slot::Slot;
 use atomic_table::{Join, Play, Split};
 use std::marker::{Brand, PhantomData};
 
@@ -66,91 +67,91 @@ impl Planned for Brand {
 /// One owner more.
 pub struct Shares<M>(PhantomData<M>);
 
-impl<V, M: Meant> Play<Option<V>, Sight<V>> for Shares<M> {
+impl<V, M: Meant> Play<Slot<V>, Sight<V>> for Shares<M> {
     ghost then = { shared M.object M.place M.wanted };
 }
 
 /// One weak handle more.
 pub struct WeakShares<M>(PhantomData<M>);
 
-impl<V, M: Meant> Play<Option<V>, Sight<V>> for WeakShares<M> {
+impl<V, M: Meant> Play<Slot<V>, Sight<V>> for WeakShares<M> {
     ghost then = { weakly_shared M.object M.wanted };
 }
 
 /// One weak handle less.
 pub struct WeakLeaves<M>(PhantomData<M>);
 
-impl<V, M: Meant> Play<Option<V>, Sight<V>> for WeakLeaves<M> {
+impl<V, M: Meant> Play<Slot<V>, Sight<V>> for WeakLeaves<M> {
     ghost then = { weakly_left M.object M.place };
 }
 
 /// A look at the owners, for `use_count`.
 pub struct Counts<M>(PhantomData<M>);
 
-impl<V, M: Meant> Play<Option<V>, Sight<V>> for Counts<M> {
+impl<V, M: Meant> Play<Slot<V>, Sight<V>> for Counts<M> {
     ghost then = { counted M.kind M.object M.place };
 }
 
 /// A look at the owners, for `expired`.
 pub struct FindsExpired<M>(PhantomData<M>);
 
-impl<V, M: Meant> Play<Option<V>, Sight<V>> for FindsExpired<M> {
+impl<V, M: Meant> Play<Slot<V>, Sight<V>> for FindsExpired<M> {
     ghost then = { found_expired M.object M.place };
 }
 
 /// A look at a field.
 pub struct Reads<M>(PhantomData<M>);
 
-impl<V, M: Meant> Play<Option<V>, Sight<V>> for Reads<M> {
+impl<V, M: Meant> Play<Slot<V>, Sight<V>> for Reads<M> {
     ghost then = { read M.object M.place };
 }
 
 /// A look at what is fixed of an object, which is no event.
 pub struct Peeks<M>(PhantomData<M>);
 
-impl<V, M: Meant> Play<Option<V>, Sight<V>> for Peeks<M> {
+impl<V, M: Meant> Play<Slot<V>, Sight<V>> for Peeks<M> {
     ghost then = { peeked M.object M.word };
 }
 
 /// One owner less.
 pub struct Leaves<M>(PhantomData<M>);
 
-impl<V, M: Meant> Play<Option<V>, Sight<V>> for Leaves<M> {
+impl<V, M: Meant> Play<Slot<V>, Sight<V>> for Leaves<M> {
     ghost then = { left M.block M.object M.place };
 }
 
 /// A look that gives the slot in hand back.
 pub struct GivesBack;
 
-impl<V> Play<Option<V>, Sight<V>> for GivesBack {
+impl<V> Play<Slot<V>, Sight<V>> for GivesBack {
     ghost then = { gave_back };
 }
 
 /// The first write of a make: the weak word.
 pub struct Begins<M>(PhantomData<M>);
 
-impl<V, M: Meant> Play<Option<V>, Sight<V>> for Begins<M> {
+impl<V, M: Meant> Play<Slot<V>, Sight<V>> for Begins<M> {
     ghost then = { began M.block };
 }
 
 /// A further write of a make, or a look at a word that need not be written.
 pub struct Writes<M>(PhantomData<M>);
 
-impl<V, M: Meant> Play<Option<V>, Sight<V>> for Writes<M> {
+impl<V, M: Meant> Play<Slot<V>, Sight<V>> for Writes<M> {
     ghost then = { wrote M.block M.word };
 }
 
 /// The claim of a prepared block.
 pub struct Claims<M>(PhantomData<M>);
 
-impl<V, M: Planned> Play<Option<V>, Sight<V>> for Claims<M> {
+impl<V, M: Planned> Play<Slot<V>, Sight<V>> for Claims<M> {
     ghost then = { made M.block M.enabled M.null M.fields };
 }
 
 /// The weak leave that ends an ending.
 pub struct Finishes<M>(PhantomData<M>);
 
-impl<V, M: Meant> Play<Option<V>, Sight<V>> for Finishes<M> {
+impl<V, M: Meant> Play<Slot<V>, Sight<V>> for Finishes<M> {
     ghost then = { finished M.object };
 }
 
@@ -174,7 +175,7 @@ impl Given for Brand {
 /// The look that makes a split.
 pub struct Splits<G>(PhantomData<G>);
 
-impl<V, G: Given> Play<Option<V>, Sight<V>> for Splits<G> {
+impl<V, G: Given> Play<Slot<V>, Sight<V>> for Splits<G> {
     ghost then = { parted G.allowance G.handles G.blocks };
 }
 
@@ -199,6 +200,6 @@ impl<V> Join<Sight<V>> for Glue {
 /// The look that makes a join, after it.
 pub struct Joins;
 
-impl<V> Play<Option<V>, Sight<V>> for Joins {
+impl<V> Play<Slot<V>, Sight<V>> for Joins {
     ghost then = { joined };
 }

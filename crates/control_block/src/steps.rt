@@ -14,11 +14,11 @@ ghost use Rattle.control_block.specs.Plays.{tells, goes_on, comes_off, known, Ad
 ghost use Rattle.control_block.specs.declared.board.Sight.{Sight};
 
 use crate::board::{Board, Chair};
-use crate::leaving;
 use crate::plays::{
     Begins, Claims, Counts, Cut, FindsExpired, Finishes, Given, Glue, Joins, Meant, Peeks, Planned,
     Reads, Shares, Splits, WeakShares, Writes,
 };
+use crate::{in_hand, leaving};
 use control_word::counts::told_count;
 use control_word::layout::{ENABLED, FIELDS, FLAGS, NULL, OWNERS, WEAKS, block_word};
 use control_word::{Block, Place};
@@ -219,7 +219,7 @@ pub fn make<V: Drop + Send, M: Planned>(
 {
     let flags = u64::from(enabled) * ENABLED + u64::from(null) * NULL;
     prepare(board, chair, block, flags, fields);
-    board.exchange(chair, usize::from(block.0) - 1, Some(value));
+    in_hand::fill(board, chair, block, value);
     claim::<V, M>(board, chair, block);
 }
 

@@ -8,8 +8,8 @@ ghost use Rattle.control_block.specs.Desks.{Belongs, Adds, HasHandle, Keeps, bag
 use crate::calls::About;
 use crate::desk::Desk;
 use crate::domain::Domain;
-use crate::doors;
 use crate::handles::Pointer;
+use crate::{doors, in_hand};
 use std::marker::Brand;
 use std::sync::Wait;
 
@@ -32,8 +32,8 @@ pub fn visit<V: Drop + Send, A: About, R, F: FnOnce(&mut V) -> R, W: Wait>(
     ensures keeps { Keeps desk.old desk.new }
 {
     let board = &domain.table.shared;
-    let mut value = doors::shut::<V, Brand, W>(rt, board, &mut desk.seat, of.block);
-    let answer = f(&mut value);
-    doors::open::<V, Brand>(board, &mut desk.seat, of.block, value);
+    doors::shut::<V, Brand, W>(rt, board, &mut desk.seat, of.block);
+    let answer = in_hand::visit(board, &mut desk.seat, of.block, f);
+    doors::open::<V, Brand>(board, &mut desk.seat, of.block);
     answer
 }

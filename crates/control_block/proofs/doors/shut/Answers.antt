@@ -36,25 +36,13 @@ compare_exchange-requires g c =
           (allows_shut board.key slots id o i found c.args.block p c.args.chair.now.me r.rests r.holds.2 e c.if-found-lt-DOOR.true),
     )
 
-pub exchange-requires : goal.exchange-requires
-exchange-requires g c =
-    let r = c.requires in let l = c.loop.invariant in let t = c.load-found.ensures in let q = c.compare_exchange.ensures in
-    let h = q.2.0 c.if-compare_exchange-found.true in (
-      q.0 ∙ (t.0 ∙ (l.2 ∙ r.board)),
-      (
-        Some h.0,
-        in_hand c.compare_exchange.new.seat.me.1 _ (Some h.0) _ (h.3
-            ∙ ap (λ (b : ℕ). (b - 1, Some h.0) ∷ c.load-found.new.seat.me.1) (ap (λ (b : Block). b.0) r.holds.0 ∙ sym c.from.ensures)),
-      ),
-    )
-
 pub returns-then-compare_exchange-found-clause-visiting : goal.returns-then-compare_exchange-found-clause-visiting
 returns-then-compare_exchange-found-clause-visiting g c =
     let r = c.requires in let l = c.loop.invariant in let t = c.load-found.ensures in let q = c.compare_exchange.ensures in
-    let h = q.2.0 c.if-compare_exchange-found.true in let x = c.exchange.ensures in let o = g.M.Meant.object in let p = g.M.Meant.place in
-    let me = t.2.0 ∙ l.4 in let b = ap (λ (b : Block). b.0) r.holds.0 ∙ sym c.from.ensures in
-    let same = same_value c.compare_exchange.new.seat.me (c.from.result - 1) h.0 c.in-Some-exchange.value c.exchange.result _
-    (h.3 ∙ ap (λ (y : ℕ). (y - 1, Some h.0) ∷ c.load-found.new.seat.me.1) b) x.2 c.in-Some-exchange.is in
-    visits_now c.args.chair.now.me.0 c.load-found.new.seat.me c.compare_exchange.new.seat.me c.exchange.new.seat.me g.M.Meant.block c.args.block o p
-    c.block_word-word.result h.0 c.in-Some-exchange.value (ap (λ m. m.0) me) r.holds.0 c.block_word-word.ensures same h.1 h.2
-    (x.3 ∙ (λ j. (c.compare_exchange.new.seat.me.0, (c.from.ensures j - 1, None) ∷ (ap rest h.3 ∙ (ap (λ m. m.1) me ∙ r.rests.none)) j)))
+    let h = q.2.0 c.if-compare_exchange-found.true in let o = g.M.Meant.object in let p = g.M.Meant.place in
+    let me = t.2.0 ∙ l.4 in (
+      h.0,
+      visits_now c.args.chair.now.me.0 c.load-found.new.seat.me c.compare_exchange.new.seat.me g.M.Meant.block c.args.block o p
+          c.block_word-word.result h.0 (ap (λ m. m.0) me) r.holds.0 c.block_word-word.ensures h.1 h.2
+          (h.3 ∙ ap (λ l. (g.M.Meant.block.0 - 1, Some h.0) ∷ l) (ap (λ m. m.1) me ∙ r.rests.none)),
+    )

@@ -9,7 +9,7 @@ use Rattle.control_word.specs.declared.place.Block.{Block}
 use Rattle.control_word.specs.declared.view.Pending.TheVariants.{Idle}
 use Rattle.control_block.specs.Plays.{left}
 use Rattle.control_block.specs.Rule.{Ruled, opening_of, seeing}
-use Rattle.control_block.proofs.Chairs.{added_as, in_hand, same_value}
+use Rattle.control_block.proofs.Chairs.{added_as, first_slot}
 use Rattle.control_block.proofs.kept.Leave.{allows_leave, allows_give_back}
 use Rattle.control_block.proofs.kept.MayLeave.{may_awake, may_none}
 use Rattle.control_block.proofs.leaving.leave.Goals as goal
@@ -27,45 +27,37 @@ fetch_sub-found-requires g c =
           r.word.0 r.may.1 e amount),
     )
 
-pub exchange-requires : goal.exchange-requires
-exchange-requires g c =
-    let l = c.fetch_sub-found.ensures.2.1 c.if-found-all.false in (
-      c.fetch_sub-found.ensures.0 ∙ c.requires.board,
-      (
-        Some l.1.0,
-        in_hand c.fetch_sub-found.new.seat.me.1 _ (Some l.1.0) _ (l.1.2
-            ∙ ap (λ (b : ℕ). (b - 1, Some l.1.0) ∷ c.args.chair.now.me.1) (ap (λ (b : Block). b.0) c.requires.may.0 ∙ sym c.from-2.ensures)),
-      ),
-    )
+pub take-value-requires-clause-hand : goal.take-value-requires-clause-hand
+take-value-requires-clause-hand g c = λ _ _.
+    let r = c.requires in let l = c.fetch_sub-found.ensures.2.1 c.if-found-all.false in
+    let none = may_none c.args.chair.now.me Owner g.M.Meant.object g.M.Meant.place c.args.block.0 c.args.funds r.may.1 in
+    (r.word.0, l.1.0, l.1.2 ∙ (λ j. ((r.may.0 j).0 - 1, Some l.1.0) ∷ none j))
 
 pub load-requires : goal.load-requires
 load-requires g c =
     let r = c.requires in let i = c.block_word-word.result in let board = c.args.board.now in let m = g.M.Meant in
     let l = c.fetch_sub-found.ensures.2.1 c.if-found-all.false in
     let awake = may_awake c.args.chair.now.me Owner m.object m.place c.args.block.0 c.args.funds r.may.1 in
-    let none = may_none c.args.chair.now.me Owner m.object m.place c.args.block.0 c.args.funds r.may.1 in
-    let x = c.exchange.ensures in (
-      x.0 ∙ (c.fetch_sub-found.ensures.0 ∙ r.board),
+    let x = c.take-value.ensures in (
+      x.chair.0 ∙ (c.fetch_sub-found.ensures.0 ∙ r.board),
       subst (λ y. y < board.table_id.words) (sym c.block_word-word.ensures) r.word.2,
-      allows_give_back board.key board.table_id.slots c.exchange.new.seat.id i c.args.block c.exchange.new.seat.me
-          (ap (λ m. m.0.view.spent) x.3 ∙ (ap (λ w. w.view.spent) l.0.now ∙ awake))
-          (ap (λ m. m.0.view.pending) x.3 ∙ ap (λ w. w.view.pending) l.0.now)
-          (ap (λ m. m.0.hand) x.3 ∙ (ap (λ w. w.hand) l.0.now ∙ ap Some r.may.0))
-          (ap (λ m. m.1) x.3 ∙ (λ j. (c.from-2.ensures j - 1, None) ∷ (ap rest l.1.2 ∙ none) j)) (omega arith, r.word.1),
+      allows_give_back board.key board.table_id.slots c.take-value.new.chair.id i c.args.block c.take-value.new.chair.me
+          (ap (λ m. m.0.view.spent) x.emptied ∙ (ap (λ w. w.view.spent) l.0.now ∙ awake))
+          (ap (λ m. m.0.view.pending) x.emptied ∙ ap (λ w. w.view.pending) l.0.now)
+          (ap (λ m. m.0.hand) x.emptied ∙ (ap (λ w. w.hand) l.0.now ∙ ap Some r.may.0))
+          (ap (λ m. m.1) x.emptied) (omega arith, r.word.1),
     )
 
 pub returns-clause-event : goal.returns-clause-event
 returns-clause-event g c =
-    let v = c.args.chair.now.me.0 in let l = c.fetch_sub-found.ensures.2.1 c.if-found-all.false in let x = c.exchange.ensures in
+    let v = c.args.chair.now.me.0 in let l = c.fetch_sub-found.ensures.2.1 c.if-found-all.false in let x = c.take-value.ensures in
     added_as v c.fetch_sub-found.new.seat.me.0 c.load.new.seat.me.0 Idle Idle (Some g.M.Meant.block) None (Leave
     (owner g.M.Meant.object g.M.Meant.place) true) l.0
-    (c.load.ensures.2.0 ∙ ap (λ m. seeing m.0 Idle None m.0.view.seen) x.3)
+    (c.load.ensures.2.0 ∙ ap (λ m. seeing m.0 Idle None m.0.view.seen) x.emptied)
 
 pub returns-clause-value : goal.returns-clause-value
 returns-clause-value g c =
-    let v = c.args.chair.now.me.0 in let l = c.fetch_sub-found.ensures.2.1 c.if-found-all.false in let x = c.exchange.ensures in
-    let seen = ap (λ w. w.view.seen) (c.load.ensures.2.0 ∙ ap (λ m. seeing m.0 Idle None m.0.view.seen) x.3) in
-    let b : g.M.Meant.block.0 - 1 ≡ c.from-2.result - 1 = ap (λ (b : ℕ). b - 1) (ap (λ (b : Block). b.0) c.requires.may.0 ∙ sym c.from-2.ensures) in
+    let v = c.args.chair.now.me.0 in let l = c.fetch_sub-found.ensures.2.1 c.if-found-all.false in let x = c.take-value.ensures in
+    let seen = ap (λ w. w.view.seen) (c.load.ensures.2.0 ∙ ap (λ m. seeing m.0 Idle None m.0.view.seen) x.emptied) in
     ap (λ h. value (opening_of v.shape) h g.M.Meant.object) seen
-    ∙ (l.1.1 ∙ ap Some (same_value c.fetch_sub-found.new.seat.me _ l.1.0 c.in-Some.value c.exchange.result _ (l.1.2
-    ∙ ap (λ (y : ℕ). (y, Some l.1.0) ∷ c.args.chair.now.me.1) b) x.2 c.in-Some.is))
+    ∙ (l.1.1 ∙ ap first_slot (sym l.1.2 ∙ x.value))

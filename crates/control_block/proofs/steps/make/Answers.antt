@@ -14,14 +14,12 @@ claim-requires-clause-planned g c =
 pub claim-requires-clause-prepared : goal.claim-requires-clause-prepared
 claim-requires-clause-prepared g c =
     let r = c.requires in let p = r.planned in let t = c.prepare.ensures.prepared in let v = c.args.chair.now.me.0 in let b = c.args.block in
-    let x = c.exchange.ensures in
-    let f = fills v b c.prepare.new.chair.me _ None t c.exchange.new.seat.me (Some c.args.value)
-    (x.3 ∙ (λ i. (c.prepare.new.chair.me.0, (c.from-3.ensures i - 1, Some c.args.value) ∷ ap rest t.carried i))) in (
+    let f = fills v b c.prepare.new.chair.me _ None t c.fill.new.chair.me (Some c.args.value) c.fill.ensures.filled in (
       v,
       c.args.value,
       r.rests.awake,
       r.room,
-      subst (λ l. IsPrepared v b c.exchange.new.seat.me l (Some c.args.value))
+      subst (λ l. IsPrepared v b c.fill.new.chair.me l (Some c.args.value))
           (λ i. (flag_bits c.args.enabled c.args.null c.from.result c.from-2.result c.from.ensures c.from-2.ensures
           ∙ (λ j. flags_of (sym p.1 j) (sym p.2 j))) i ∷ sym p.3 i) f,
     )
@@ -29,11 +27,9 @@ claim-requires-clause-prepared g c =
 pub returns-clause-event : goal.returns-clause-event
 returns-clause-event g c =
     let p = c.requires.planned in let t = c.prepare.ensures.prepared in let v = c.args.chair.now.me.0 in let b = c.args.block in
-    let x = c.exchange.ensures in let m = g.M.Planned in
-    let f = fills v b c.prepare.new.chair.me _ None t c.exchange.new.seat.me (Some c.args.value)
-    (x.3 ∙ (λ i. (c.prepare.new.chair.me.0, (c.from-3.ensures i - 1, Some c.args.value) ∷ ap rest t.carried i))) in
+    let m = g.M.Planned in let f = fills v b c.prepare.new.chair.me _ None t c.fill.new.chair.me (Some c.args.value) c.fill.ensures.filled in
     subst (λ (y : Bool × Bool × List ℕ). tells (Make b y.0 y.1 y.2 c.args.value) v c.claim.new.chair.me.0) (λ i. (p.1 i, p.2 i, p.3 i))
     (c.claim.ensures.event v c.args.value
-    (subst (λ l. IsPrepared v b c.exchange.new.seat.me l (Some c.args.value))
+    (subst (λ l. IsPrepared v b c.fill.new.chair.me l (Some c.args.value))
     (λ i. (flag_bits c.args.enabled c.args.null c.from.result c.from-2.result c.from.ensures c.from-2.ensures
     ∙ (λ j. flags_of (sym p.1 j) (sym p.2 j))) i ∷ sym p.3 i) f))
