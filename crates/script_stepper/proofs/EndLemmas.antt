@@ -11,7 +11,7 @@ use Rattle.step_threads.specs.Scenes.{Scene, next, nowhere, walk_of}
 use Rattle.step_core.specs.Totals.{ended_in, made_in}
 use Rattle.step_core.specs.Worlds.{Sight, scene}
 use Rattle.script_stepper.specs.Running.{AllOver, HasRun, IsNew, parts_left, turns_left}
-use Rattle.script_stepper.specs.Traces.{tasks_in, to_the_end}
+use Rattle.script_text.specs.Traces.{tasks_in, to_the_end}
 use Rattle.script_stepper.proofs.TraceLemmas.{done_past, plays_over}
 use Rattle.script_stepper.proofs.RunLemmas.{run_same, run_size, run_then}
 

@@ -20,7 +20,7 @@ use Rattle.step_core.proofs.telling.Order.{ended_few}
 use Rattle.script_text.specs.Grammar.{ended}
 use Rattle.script_stepper.specs.Lines.{item_lines, said_lines}
 use Rattle.script_stepper.specs.Running.{AllRest, HasRun, Waits, turns_left}
-use Rattle.script_stepper.specs.Traces.{Item, heard, told}
+use Rattle.script_text.specs.Traces.{Item, heard, told}
 use Rattle.script_stepper.proofs.Acting.{went_size}
 use Rattle.script_stepper.proofs.Exact.{play_exact, said_exact}
 use Rattle.script_stepper.proofs.LineLemmas.{flat_map-one}

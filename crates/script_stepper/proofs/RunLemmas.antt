@@ -13,7 +13,7 @@ use Rattle.step_threads.specs.Scenes.{Scene, next, said, walk_of}
 use Rattle.step_core.specs.Worlds.{Sight, scene}
 use Rattle.script_stepper.specs.Lines.{item_lines}
 use Rattle.script_stepper.specs.Running.{AllRest, HasRun, IsThread, turns_left}
-use Rattle.script_stepper.specs.Traces.{Item, plays, told}
+use Rattle.script_text.specs.Traces.{Item, plays, told}
 use Rattle.script_stepper.proofs.TraceLemmas.{idle_plays, idle_told, plays-append, plays_size}
 use Rattle.script_stepper.proofs.TraceLemmas.{said_none, told-append}
 

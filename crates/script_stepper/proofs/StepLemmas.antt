@@ -5,7 +5,7 @@ use Rattle.std.specs.List.{flat_map}
 use Rattle.script_text.specs.Grammar.{ended}
 use Rattle.script_text.proofs.PrintLemmas.{ended-append}
 use Rattle.control_word.specs.declared.shape.Shape.{Shape}
-use Rattle.script_text.specs.Drafts.{Section}
+use Rattle.script_text.specs.Drafts.{ScriptView}
 use Rattle.script_text.specs.Scripts.{program_in}
 use Rattle.step_threads.specs.declared.half.Half.{Half}
 use Rattle.step_threads.specs.declared.half.Half.TheVariants.{Rest}
@@ -16,12 +16,13 @@ use Rattle.step_core.specs.Starts.{first_sight, first_walk, no_slots}
 use Rattle.step_table.specs.declared.extent.Extent.{Extent}
 use Rattle.step_threads.specs.Scenes.{Scene, nowhere}
 use Rattle.step_core.specs.Worlds.{Sight, scene}
-use Rattle.script_stepper.specs.Beginnings.{script_shape}
+use Rattle.script_text.specs.Beginnings.{shape_for}
+use Rattle.script_text.specs.Versions.{blocks_in}
 use Rattle.script_stepper.specs.declared.stepping.Pace.{Pace}
 use Rattle.script_stepper.specs.Runs.{IsShown, IsTextBy}
 use Rattle.script_stepper.specs.Lines.{closing_lines, item_lines, shown}
 use Rattle.script_stepper.specs.Running.{AllRest, HasRun, IsNew, Waits}
-use Rattle.script_stepper.specs.Traces.{outcome, schedule, trace}
+use Rattle.script_text.specs.Traces.{outcome, schedule, trace}
 use Rattle.script_stepper.proofs.Acting.{settled_endings, settled_size}
 use Rattle.script_stepper.proofs.TraceLemmas.{plays_extent}
 
@@ -69,8 +70,10 @@ first_rests shape parts u e =
 pub first_new : (shape : Shape) (parts : List Part) (u : Sight) → u ≡ first_sight shape parts → IsNew u
 first_new shape parts u e = subst IsNew (sym e) (record { history = refl; endings = first_endings parts })
 
-pub run_is : (pace : Pace) (script : List Section) (turns text : List ℕ) (threads : ℕ) (shape : Shape) (u : Sight) → threads ≡ length script
-    → shape ≡ script_shape threads
-    → u ≡ first_sight shape (program_in script) → IsShown pace turns u text → IsTextBy pace script turns text
-run_is pace script turns text threads shape u n s e h =
-    subst (λ (v : Sight). IsShown pace turns v text) (e ∙ ap (λ (x : Shape). first_sight x (program_in script)) (s ∙ ap script_shape n)) h
+pub run_is : (pace : Pace) (script : ScriptView) (turns text : List ℕ) (blocks threads : ℕ) (shape : Shape) (u : Sight)
+    → blocks ≡ blocks_in script.version → threads ≡ length script.threads → shape ≡ shape_for blocks threads
+    → u ≡ first_sight shape (program_in script.threads) → IsShown pace turns u text → IsTextBy pace script turns text
+run_is pace script turns text blocks threads shape u b n s e h =
+    let same : shape ≡ shape_for (blocks_in script.version) (length script.threads) =
+    s ∙ ap (λ (k : ℕ). shape_for k threads) b ∙ ap (shape_for (blocks_in script.version)) n in
+    subst (λ (v : Sight). IsShown pace turns v text) (e ∙ ap (λ (x : Shape). first_sight x (program_in script.threads)) same) h

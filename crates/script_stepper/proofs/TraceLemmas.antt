@@ -11,7 +11,7 @@ use Rattle.step_threads.specs.Courses.{Walk}
 use Rattle.step_table.specs.Deeds.{exact}
 use Rattle.step_table.specs.Holdings.{Slots}
 use Rattle.step_threads.specs.Scenes.{Scene, next, next_of, nowhere, play, play_from, said, said_from, walk_of}
-use Rattle.script_stepper.specs.Traces.{Item, heard, plays, told}
+use Rattle.script_text.specs.Traces.{Item, heard, plays, told}
 
 pub plays-append : (xs ys : List ℕ) (c : Scene) → plays (xs ++ ys) c ≡ plays ys (plays xs c)
 plays-append [] ys c = refl

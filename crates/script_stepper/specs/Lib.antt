@@ -1,8 +1,6 @@
-pub mod Beginnings
 pub mod Lines
 pub mod Running
 pub mod Runs
 pub mod Sinks
 pub mod StepRuns
-pub mod Traces
 pub mod TurnLists

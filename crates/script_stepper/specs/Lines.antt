@@ -15,7 +15,7 @@ use Rattle.step_threads.specs.Scenes.{Scene, state_in}
 use Rattle.step_threads.specs.Stocks.{from}
 use Rattle.step_core.specs.Totals.{census_of, ended_in, made_in}
 use Rattle.script_text.specs.Canonical.{number_after}
-use Rattle.script_stepper.specs.Traces.{Item, outcome, trace}
+use Rattle.script_text.specs.Traces.{Item, outcome, trace}
 
 -- the number of a statement, from 1; a thread's end has none
 abbrev pub statement_text : ℕ → List ℕ

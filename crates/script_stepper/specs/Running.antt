@@ -10,7 +10,7 @@ use Rattle.step_threads.specs.Scenes.{Scene, next, walk_of}
 use Rattle.step_core.specs.Totals.{ended_in, made_in}
 use Rattle.step_core.specs.Worlds.{Sight, half_of, scene}
 use Rattle.script_stepper.specs.Lines.{item_lines}
-use Rattle.script_stepper.specs.Traces.{plays, tasks_in, told}
+use Rattle.script_text.specs.Traces.{plays, tasks_in, told}
 
 -- no object ends in the thread's hands, or what came out of a member of one is in hand and has to leave first
 pub record Waits (w : Walk) : Type 0 where

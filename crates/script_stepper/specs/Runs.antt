@@ -3,12 +3,12 @@ use Rattle.std.specs.Prelude.{◌≡◌, ℕ, Bool, true, false, List, length, O
 use Rattle.std.specs.Io.KnownBytes.{Appends}
 use Rattle.script_text.specs.declared.fault.Fault.{Fault}
 use Rattle.script_text.specs.declared.fault.Fault.TheVariants.{Memory, Syntax, BadTurn, Output, Input}
-use Rattle.script_text.specs.Drafts.{Section}
+use Rattle.script_text.specs.Drafts.{ScriptView}
 use Rattle.script_text.specs.Grammar.{Faulty, Reads, ended}
 use Rattle.script_stepper.specs.declared.stepping.Pace.{Pace}
 use Rattle.script_stepper.specs.declared.stepping.Pace.TheVariants as pace
 use Rattle.step_core.specs.Worlds.{Sight, scene}
-use Rattle.script_stepper.specs.Beginnings.{script_scene, script_sight}
+use Rattle.script_text.specs.Beginnings.{script_scene, script_sight}
 use Rattle.script_stepper.specs.Lines.{shown}
 use Rattle.script_stepper.specs.Sinks.{AppendsBeginning}
 use Rattle.script_stepper.specs.StepRuns.{IsStepText}
@@ -42,14 +42,14 @@ WritesOne P (Err Output) old new = (text : List ℕ) × P text × AppendsBeginni
 WritesOne P (Err Input) old new = ⊥
 
 -- what a script's run with these turns writes
-abbrev pub run_text : List Section → List ℕ → List ℕ
+abbrev pub run_text : ScriptView → List ℕ → List ℕ
 run_text script turns = ended (shown turns (script_scene script))
 
-abbrev pub IsRunText : List Section → List ℕ → List ℕ → Type 0
+abbrev pub IsRunText : ScriptView → List ℕ → List ℕ → Type 0
 IsRunText script turns text = text ≡ run_text script turns
 
 -- what its run by single steps writes
-abbrev pub IsFineText : List Section → List ℕ → List ℕ → Type 0
+abbrev pub IsFineText : ScriptView → List ℕ → List ℕ → Type 0
 IsFineText script turns text = IsStepText turns (script_sight script) text
 
 -- the text of a run from u, by turns or by single steps
@@ -58,22 +58,22 @@ IsShown pace.Turns turns u text = text ≡ ended (shown turns (scene u))
 IsShown pace.Steps turns u text = IsStepText turns u text
 
 -- the same of a script's run
-abbrev pub IsTextBy : Pace → List Section → List ℕ → List ℕ → Type 0
+abbrev pub IsTextBy : Pace → ScriptView → List ℕ → List ℕ → Type 0
 IsTextBy pace script turns text = IsShown pace turns (script_sight script) text
 
 -- the bytes read as a script, the list names turns of it, and this is a text that they have
-pub record IsRun (IsText : List Section → List ℕ → List ℕ → Type 0) (bytes list text : List ℕ) : Type 0 where
-  pub script : List Section
+pub record IsRun (IsText : ScriptView → List ℕ → List ℕ → Type 0) (bytes list text : List ℕ) : Type 0 where
+  pub script : ScriptView
   pub turns : List ℕ
   pub reads : Reads bytes script
-  pub listed : list_at (length script) list ≡ Ok turns
+  pub listed : list_at (length script.threads) list ≡ Ok turns
   pub says : IsText script turns text
 
 -- the bytes read as a script, and the list's number at this position, from 1, is the first that names no thread of it
 pub record IsBadTurn (bytes list : List ℕ) (position : ℕ) : Type 0 where
-  pub script : List Section
+  pub script : ScriptView
   pub reads : Reads bytes script
-  pub faulty : list_at (length script) list ≡ Err position
+  pub faulty : list_at (length script.threads) list ≡ Err position
 
 -- a text, without where it lies in memory
 abbrev pub text_in : {A : Type 0} → Result (String A) Fault → Result (List ℕ) Fault
@@ -81,7 +81,7 @@ text_in (Ok text) = Ok (string_bytes text)
 text_in (Err fault) = Err fault
 
 -- the text of the run, or the refusal that script and list have; a fault of the script comes first
-abbrev pub Tells : (List Section → List ℕ → List ℕ → Type 0) → List ℕ → List ℕ → Result (List ℕ) Fault → Type 0
+abbrev pub Tells : (ScriptView → List ℕ → List ℕ → Type 0) → List ℕ → List ℕ → Result (List ℕ) Fault → Type 0
 Tells IsText bytes list (Ok text) = IsRun IsText bytes list text
 Tells IsText bytes list (Err Memory) = Unit {0}
 Tells IsText bytes list (Err (Syntax line cause)) = Faulty bytes line cause

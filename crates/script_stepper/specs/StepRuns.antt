@@ -10,7 +10,7 @@ use Rattle.step_core.specs.Runs.{IsRun, IsScheduled}
 use Rattle.step_core.specs.Totals.{IsAtEnd}
 use Rattle.step_core.specs.Worlds.{Sight, scene}
 use Rattle.script_stepper.specs.Lines.{closing_lines, item_lines}
-use Rattle.script_stepper.specs.Traces.{heard}
+use Rattle.script_text.specs.Traces.{heard}
 
 -- what a step said; one that waited, or of a thread at its end, said nothing
 abbrev pub said_by : Stepped → Option Said

@@ -4,7 +4,7 @@ ghost use Rattle.std.specs.Prelude.{is_some, length, replicate, string_bytes};
 ghost use Rattle.step_threads.specs.Scenes.{next, said, walk_of};
 ghost use Rattle.step_core.specs.Worlds.{scene};
 ghost use Rattle.script_stepper.specs.Running.{AllOver, AllRest, HasRun, IsNew, IsThread, turns_left};
-ghost use Rattle.script_stepper.specs.Traces.{schedule};
+ghost use Rattle.script_text.specs.Traces.{schedule};
 
 use crate::lines::put_said;
 use std::alloc::AllocError;

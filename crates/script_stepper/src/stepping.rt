@@ -2,12 +2,13 @@
 ghost use Rattle.std.specs.Prelude.{◌≡◌, ℕ, ◌≤◌, false, List, All, IfOk, IfErr, length, string_bytes};
 ghost use Rattle.script_text.specs.declared.fault.Fault.TheVariants.{BadTurn, Memory, Syntax};
 ghost use Rattle.script_text.specs.declared.fault.Cause.{Cause};
-ghost use Rattle.script_text.specs.Drafts.{Section};
+ghost use Rattle.control_word.specs.Layout.{IsWithinLimits};
+ghost use Rattle.script_text.specs.Drafts.{ScriptView};
 ghost use Rattle.script_text.specs.Grammar.{Faulty, IsUnlessMemory, Reads, ended};
 ghost use Rattle.script_text.specs.Scripts.{program_in};
 ghost use Rattle.step_core.specs.Worlds.{scene};
 ghost use Rattle.step_core.specs.Starts.{first_sight};
-ghost use Rattle.script_stepper.specs.Beginnings.{script_shape};
+ghost use Rattle.script_text.specs.Beginnings.{script_shape, shape_for};
 ghost use Rattle.script_stepper.specs.Lines.{shown};
 ghost use Rattle.script_stepper.specs.Running.{AllRest, IsNew, IsThread};
 ghost use Rattle.script_stepper.specs.Runs.{Delivers, IsFineText, IsRunText, IsShown, IsTextBy, Tells};
@@ -20,9 +21,7 @@ use crate::running::run_turns;
 use crate::sink::Sink;
 use crate::steps::steps_text;
 use crate::turns::turns_of;
-use control_word::limits::{
-    SCRIPT_ALLOWANCE, SCRIPT_BLOCKS, SCRIPT_SHARED_CELLS, SCRIPT_WEAK_CELLS,
-};
+use control_word::limits::{SCRIPT_ALLOWANCE, SCRIPT_SHARED_CELLS, SCRIPT_WEAK_CELLS};
 use control_word::{Refusal, Shape};
 use script_text::{Fault, Script, parse};
 use std::alloc::{AllocError, Global};
@@ -38,13 +37,16 @@ pub(crate) enum Pace {
 }
 
 /// The shape of a script's world: each thread has the same number of blocks.
-fn shape_of(threads: u32) -> Shape
+fn shape_of(blocks: u32, threads: u32) -> Shape
+    requires least { 64 ≤ blocks }
+    requires most { blocks ≤ 65535 }
     requires some { 1 ≤ threads }
-    requires few { threads ≤ 16 }
-    ensures { result ≡ script_shape threads }
+    requires few { threads ≤ 64 }
+    ensures shape { result ≡ shape_for blocks threads }
+    ensures within { IsWithinLimits result }
 {
     Shape {
-        blocks: SCRIPT_BLOCKS / threads * threads,
+        blocks: blocks / threads * threads,
         shared_cells: SCRIPT_SHARED_CELLS,
         weak_cells: SCRIPT_WEAK_CELLS,
         allowance: SCRIPT_ALLOWANCE,
@@ -53,8 +55,9 @@ fn shape_of(threads: u32) -> Shape
 
 /// The world in which a script's run begins. It is within the limits, so that only memory may be wanting.
 fn world_of(alloc: Global, script: &Script, shape: Shape) -> Result<World, Fault>
-    requires { shape ≡ script_shape (length script.now) }
-    ensures ok { IfOk result (λ w. w ≡ first_sight shape (program_in script.now)) }
+    requires shape { shape ≡ script_shape script.now }
+    requires within { IsWithinLimits shape }
+    ensures ok { IfOk result (λ w. w ≡ first_sight shape (program_in script.now.threads)) }
     ensures memory { IfErr result (λ fault. fault ≡ Memory) }
 {
     let Ok(program) = script.program(alloc) else {
@@ -114,12 +117,13 @@ fn text_of(
 
 /// The text of a script's run with these turns, each of which names a thread.
 fn run(alloc: Global, script: &Script, turns: &[u8], pace: Pace) -> Result<String, Fault>
-    requires { All (λ thread. (1 ≤ thread) × (thread ≤ length script.now)) turns.now }
+    requires { All (λ thread. (1 ≤ thread) × (thread ≤ length script.now.threads)) turns.now }
     ensures ok { IfOk result (λ text. IsTextBy pace script.now turns.now (string_bytes text)) }
     ensures memory { IfErr result (λ fault. fault ≡ Memory) }
 {
     let threads = script.threads();
-    let shape = shape_of(threads);
+    let shared = script.blocks();
+    let shape = shape_of(shared, threads);
     let blocks = shape.blocks as u16;
     let mut world = world_of(alloc, script, shape)?;
     match text_of(alloc, &mut world, threads as u8, blocks, turns, pace) {
@@ -180,12 +184,12 @@ pub fn step_text<S: Sink>(
     // Want of memory aside, a fault of the script is answered, then one of the list, and else the run is told.
     ensures syntax { (line : ℕ) (cause : Cause) → Faulty script.now line cause
         → IsUnlessMemory result (Err (Syntax line cause)) }
-    ensures turns { (threads : List Section) (position : ℕ) → Reads script.now threads
-        → list_at (length threads) turns.now ≡ Err position
+    ensures turns { (read : ScriptView) (position : ℕ) → Reads script.now read
+        → list_at (length read.threads) turns.now ≡ Err position
         → IsUnlessMemory result (Err (BadTurn position)) }
-    ensures runs { (threads : List Section) (listed : List ℕ) → Reads script.now threads
-        → list_at (length threads) turns.now ≡ Ok listed
-        → Writes (run_text threads listed) result (S.taken writer.old) (S.taken writer.new) }
+    ensures runs { (read : ScriptView) (listed : List ℕ) → Reads script.now read
+        → list_at (length read.threads) turns.now ≡ Ok listed
+        → Writes (run_text read listed) result (S.taken writer.old) (S.taken writer.new) }
 {
     deliver(alloc, script, turns, Pace::Turns, writer)
 }
@@ -211,12 +215,12 @@ pub fn fine_text<S: Sink>(
     // Want of memory aside, a fault of the script is answered, then one of the list, and else the run is told.
     ensures syntax { (line : ℕ) (cause : Cause) → Faulty script.now line cause
         → IsUnlessMemory result (Err (Syntax line cause)) }
-    ensures turns { (threads : List Section) (position : ℕ) → Reads script.now threads
-        → list_at (length threads) turns.now ≡ Err position
+    ensures turns { (read : ScriptView) (position : ℕ) → Reads script.now read
+        → list_at (length read.threads) turns.now ≡ Err position
         → IsUnlessMemory result (Err (BadTurn position)) }
-    ensures runs { (threads : List Section) (listed : List ℕ) → Reads script.now threads
-        → list_at (length threads) turns.now ≡ Ok listed
-        → WritesOne (IsFineText threads listed) result (S.taken writer.old) (S.taken writer.new) }
+    ensures runs { (read : ScriptView) (listed : List ℕ) → Reads script.now read
+        → list_at (length read.threads) turns.now ≡ Ok listed
+        → WritesOne (IsFineText read listed) result (S.taken writer.old) (S.taken writer.new) }
 {
     deliver(alloc, script, turns, Pace::Steps, writer)
 }

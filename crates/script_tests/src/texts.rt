@@ -1,5 +1,5 @@
 //! What no script that runs says: texts that are written, and what faults print.
-use script_text::{Cause, Fault, parse, print};
+use script_text::{Cause, Fault, convert, parse, print};
 use std::test::Fail;
 
 #[test]

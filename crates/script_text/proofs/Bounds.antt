@@ -11,11 +11,15 @@ use Rattle.control_word.specs.declared.shape.Shape.{Shape}
 use Rattle.step_threads.specs.declared.call.CellName.{CellName}
 use Rattle.step_threads.specs.Programs.{AllHaveCells, Asked, HasCells, IsApart, IsFound, IsIn, Part, names_of, IsDeclared, IsWellNamed, IsPart, cells_of}
 use Rattle.script_text.specs.Names.{NameList}
-use Rattle.script_text.specs.Drafts.{Section, Draft, new_draft, sections, no_section, with_call}
+use Rattle.script_text.specs.Drafts.{Section, ScriptView, Draft, draft_in, new_draft, sections, script_of, no_section, with_call}
 use Rattle.script_text.specs.Grammar.{Leads, Begins}
-use Rattle.script_text.specs.Scripts.{HasTextCells, kinds_in, part_in, program_in, statement_count, IsScript}
+use Rattle.script_text.specs.Scripts.{HasTextCells, converted, kinds_in, part_in, program_in, statement_count, IsScript}
 use Rattle.script_text.proofs.ReadNames.{slice_get-more, Grows}
-use Rattle.script_text.proofs.Changes.{with_thread, IsAdded, Change, skipped, began, added, line_change}
+use Rattle.script_text.specs.declared.version.Version.{Version}
+use Rattle.script_text.specs.declared.version.Version.TheVariants.{One, Two}
+use Rattle.script_text.specs.Versions.{blocks_in, most_threads}
+use Rattle.script_text.proofs.Headers.{IsHeader, most_allow}
+use Rattle.script_text.proofs.Changes.{with_thread, IsAdded, Change, skipped, headed, began, added, line_change}
 use Rattle.script_text.proofs.Cells.{IsTextCell, text_cell_in}
 use Rattle.script_text.proofs.CellShapes.{Fits}
 use Rattle.script_text.proofs.RoundTrip.{round_trip}
@@ -107,7 +111,9 @@ named_grown names new calls g h =
 record IsBounded (d : Draft) : Type 0 where
   count : d.count ≡ statement_count (sections d)
   calls : d.count ≤ 65536
-  threads : length d.done ≤ 15
+  threads : length d.done + 1 ≤ most_threads d.version
+  some_block : 64 ≤ blocks_in d.version
+  blocks : blocks_in d.version ≤ 65535
   parts : AllByRecursion IsSection d.done
   few : length d.current.names ≤ 32
   named : AllByRecursion (AreDeclared (kinds_in d.current.names)) d.current.calls
@@ -116,11 +122,13 @@ record IsBounded (d : Draft) : Type 0 where
 all_sections : (d : Draft) → IsBounded d → AllByRecursion IsSection (sections d)
 all_sections d b = all-last IsSection d.done d.current b.parts (section_is d.current b.few b.named b.fits)
 
-begun_bounded : (d : Draft) → length d.done < 15 → IsBounded d → IsBounded (with_thread d)
+begun_bounded : (d : Draft) → length d.done + 1 < most_threads d.version → IsBounded d → IsBounded (with_thread d)
 begun_bounded d room b = record {
   count = omega (arith, b.count, count-last (d.done ++ d.current ∷ []) no_section);
   calls = b.calls;
   threads = omega (arith, room, length-append d.done (d.current ∷ []));
+  some_block = b.some_block;
+  blocks = b.blocks;
   parts = all_sections d b;
   few = omega arith;
   named = tt;
@@ -139,6 +147,8 @@ added_bounded d e a b = record {
       );
   calls = omega (arith, a.room);
   threads = b.threads;
+  some_block = b.some_block;
+  blocks = b.blocks;
   parts = b.parts;
   few = a.rewrites.grows.few b.few;
   named =
@@ -147,8 +157,28 @@ added_bounded d e a b = record {
   fits = all-last Fits d.current.calls a.call b.fits a.rewrites.fits;
 }
 
+-- before the first line of the threads
+first_bounded : (version : Version) → 1 ≤ most_threads version → 64 ≤ blocks_in version → blocks_in version ≤ 65535
+    → IsBounded (draft_in version)
+first_bounded version threads least most = record {
+  count = refl;
+  calls = omega arith;
+  threads = threads;
+  some_block = least;
+  blocks = most;
+  parts = tt;
+  few = omega arith;
+  named = tt;
+  fits = tt;
+}
+
+headed_bounded : (version : Version) → IsHeader version → IsBounded (draft_in version)
+headed_bounded version h =
+    subst (λ (v : Version). IsBounded (draft_in v)) h.is (first_bounded (Two h.blocks) (omega arith) h.least h.most)
+
 change_bounded : (d e : Draft) → Change d e → IsBounded d → IsBounded e
 change_bounded d e (skipped same) b = subst IsBounded same b
+change_bounded d e (headed h) b = subst IsBounded h.now (headed_bounded h.version h.header)
 change_bounded d e (began room same) b = subst IsBounded same (begun_bounded d room b)
 change_bounded d e (added a) b = subst IsBounded a.now (added_bounded d e a b)
 
@@ -158,9 +188,7 @@ lines_bounded (line ∷ lines) d e h b =
     lines_bounded lines h.0 e h.2 (change_bounded d h.0 (line_change d h.0 line h.1) b)
 
 start : IsBounded new_draft
-start =
-    record
-    { count = refl; calls = omega arith; threads = omega arith; parts = tt; few = omega arith; named = tt; fits = tt }
+start = first_bounded One (omega arith) (omega arith) (omega arith)
 
 -- ---- a shape has the cells
 
@@ -182,18 +210,24 @@ parts_in shape has (s ∷ ss) h =
     (All-from_recursion (HasCells shape) s.calls (calls_in shape has s.calls h.0.fits), parts_in shape has ss h.1)
 
 pub script_is : (bytes : List ℕ) (d : Draft) (number : ℕ) → Begins bytes d number []
-    → IsScript (sections d) d.count
+    → IsScript (script_of d) d.count
 script_is bytes d number h =
     let b = lines_bounded h.lines new_draft d h.leads start in
+    let again = round_trip bytes d number h in
     let threads : length (sections d) ≡ length d.done + 1 = length-append d.done (d.current ∷ []) in
     let parts : length (program_in (sections d)) ≡ length (sections d) = length-map (sections d) part_in in
+    let few : length (sections d) ≤ 64 = omega (arith, threads, b.threads, most_allow d.version) in
     record {
-      reads = round_trip bytes d number h;
+      reads = again.same;
+      converts = again.two;
       counted = b.count;
       threads = omega (arith, threads, b.threads);
+      few = few;
+      some_block = b.some_block;
+      blocks = b.blocks;
       program = record {
         some = omega (arith, threads, parts);
-        actors = omega (arith, threads, parts, b.threads);
+        actors = omega (arith, parts, few);
         calls = omega (arith, b.count, b.calls);
         each =
             All-from_recursion IsPart (program_in (sections d)) (all_parts (sections d) (all_sections d b));
@@ -202,3 +236,17 @@ script_is bytes d number h =
           All-from_recursion (AllHaveCells shape) (program_in (sections d))
           (parts_in shape has (sections d) (all_sections d b));
     }
+
+-- in version 2 it is a script too
+pub converted_is : (script : ScriptView) (count : ℕ) → IsScript script count → IsScript (converted script) count
+converted_is script count s = record {
+  reads = s.converts;
+  converts = s.converts;
+  counted = s.counted;
+  threads = s.few;
+  few = s.few;
+  some_block = s.some_block;
+  blocks = s.blocks;
+  program = s.program;
+  cells = s.cells;
+}

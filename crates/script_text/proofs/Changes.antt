@@ -1,35 +1,38 @@
--- What a good line changes: nothing, or a thread begins, or a statement is added.
-use Rattle.std.proofs.Common.{◌≡◌, ℕ, ◌<◌, Bool, true, false, cond, ltb, eqb, List, [], ◌∷◌, ◌++◌, length, Option, Some, None, Result, Ok, Err, find, refl, subst}
-use Rattle.std.specs.Prelude.{codes, nat_eq}
+-- What a good line changes: nothing, or the version by a header, or a thread begins, or a statement is added.
+use Rattle.std.proofs.Common.{◌≡◌, ℕ, ◌+◌, ◌<◌, Bool, true, false, cond, ltb, eqb, List, [], ◌∷◌, ◌++◌, length, Option, Some, None, Result, Ok, Err, find, refl, subst}
+use Rattle.std.specs.Prelude.{codes, nat_eq, ◌&&◌}
 use Rattle.std.specs.List.{list_all, starts_with, AllByRecursion}
 use Rattle.std.specs.Str.{bytes_eq}
 use Rattle.std.proofs.lemmas.Bool.{ltb-true}
 use Rattle.std.proofs.lemmas.Slice.Eq.{bytes_eq-Decides}
 use Rattle.step_threads.specs.declared.call.Call.{Call}
 use Rattle.script_text.specs.declared.fault.Cause.{Cause}
-use Rattle.script_text.specs.declared.fault.Cause.TheVariants.{BadByte, WrongNumberOfWords, TooManyThreads, TooManyStatements}
+use Rattle.script_text.specs.declared.fault.Cause.TheVariants.{BadByte, UnknownStatement, WrongNumberOfWords, TooManyThreads, TooManyStatements}
 use Rattle.script_text.specs.declared.keyword.Keyword.{Keyword}
 use Rattle.script_text.specs.Reading.{◌>>=◌}
 use Rattle.script_text.specs.Words.{is_clean_byte, line_content, words_of}
 use Rattle.script_text.specs.Names.{NameList}
 use Rattle.script_text.specs.Keywords.{spelling_of, keywords, find_keyword, known, keyword_at, takes_words}
 use Rattle.script_text.specs.Calls.{call_at}
-use Rattle.script_text.specs.Drafts.{Draft, no_section, next_thread, with_call, next_call, thread_line, statement_line, after_words, after_line}
+use Rattle.script_text.specs.Versions.{most_threads}
+use Rattle.script_text.specs.Drafts.{Draft, no_section, next_thread, with_call, next_call, is_new, header_line, thread_line, statement_line, other_line, after_words, after_line}
 use Rattle.script_text.proofs.TidyWords.{IsTidy, words_tidy}
 use Rattle.script_text.proofs.ReadNames.{both_give, given, same_given, if_given}
 use Rattle.script_text.proofs.Rewrites.{Rewrites, rewrites}
+use Rattle.script_text.proofs.Headers.{IsHeaded, guarded, line_headed}
 
 -- a first word that begins this statement
 pub record IsFirstWord (first : List ℕ) (k : Keyword) : Type 0 where
   pub tidy : IsTidy first
   pub comment : starts_with nat_eq first (codes "#") ≡ false
+  pub version : bytes_eq first (codes "version") ≡ false
   pub thread : bytes_eq first (codes "thread") ≡ false
   pub reads : keyword_at first ≡ Ok k
   pub word : first ≡ (spelling_of k).word
 
 -- the draft in which the next thread has begun
 abbrev pub with_thread : Draft → Draft
-with_thread d = record { done = d.done ++ d.current ∷ []; current = no_section; count = d.count }
+with_thread d = record { version = d.version; done = d.done ++ d.current ∷ []; current = no_section; count = d.count }
 
 -- a statement that was added
 pub record IsAdded (d e : Draft) : Type 0 where
@@ -45,7 +48,8 @@ pub record IsAdded (d e : Draft) : Type 0 where
 -- what became of a draft by one good line
 pub data Change (d e : Draft) : Type 0 where
   skipped : d ≡ e → Change d e
-  began : length d.done < 15 → with_thread d ≡ e → Change d e
+  headed : IsHeaded e → Change d e
+  began : length d.done + 1 < most_threads d.version → with_thread d ≡ e → Change d e
   added : IsAdded d e → Change d e
 
 -- ---- the first word
@@ -73,17 +77,32 @@ word_is : (word : List ℕ) (k : Keyword) → keyword_at word ≡ Ok k → word 
 unfolding keyword_at
 word_is word k h = found_word word keywords k (known_is (find_keyword word) k h)
 
--- ---- any line
+-- `version` begins no statement
+version_by : (b : Bool) (first : List ℕ) (k : Keyword) → bytes_eq first (codes "version") ≡ b → keyword_at first ≡ Ok k → b ≡ false
+unfolding keyword_at
+version_by true first k is reads =
+    let bad : Err UnknownStatement ≡ Ok k =
+    subst (λ (w : List ℕ). keyword_at w ≡ Ok k) ((bytes_eq-Decides first (codes "version")).0 is) reads in
+    absurd cc
+version_by false first k is reads = refl
 
-guarded : (b : Bool) (r : Result Draft Cause) (e : Draft) (cause : Cause) → cond b r (Err cause) ≡ Ok e
-    → (b ≡ true) × (r ≡ Ok e)
-guarded true r e cause h = (refl, h)
-guarded false r e cause h = absurd cc
+and_false : (a b : Bool) → b ≡ false → (a && b) ≡ false
+and_false true b h = h
+and_false false b h = refl
+
+-- a line that is no comment and no header
+pub other_words : (d : Draft) (first : List ℕ) (words : List (List ℕ)) → starts_with nat_eq first (codes "#") ≡ false
+    → bytes_eq first (codes "version") ≡ false → after_words d (first ∷ words) ≡ other_line d first words
+other_words d first words comment version =
+    let none : (is_new d && bytes_eq first (codes "version")) ≡ false = and_false (is_new d) (bytes_eq first (codes "version")) version in
+    rw (comment, none) refl
+
+-- ---- any line
 
 thread_change : (d e : Draft) (words : List (List ℕ)) → thread_line d words ≡ Ok e → Change d e
 thread_change d e words h =
     let alone = guarded (eqb (length words) 0) (next_thread d) e WrongNumberOfWords h in
-    let room = if_given (ltb (length d.done) 15) TooManyThreads (with_thread d) e alone.1 in
+    let room = if_given (ltb (length d.done + 1) (most_threads d.version)) TooManyThreads (with_thread d) e alone.1 in
     began (ltb-true _ _ room.0) room.1
 
 statement_change : (d e : Draft) (first : List ℕ) (words : List (List ℕ)) → IsTidy first
@@ -110,6 +129,7 @@ statement_change d e first words tidy comment thread h =
           record {
             tidy = tidy;
             comment = comment;
+            version = version_by (bytes_eq first (codes "version")) first k.value refl k.first;
             thread = thread;
             reads = k.first;
             word = word_is first k.value k.first;
@@ -125,14 +145,20 @@ thread_or : (b : Bool) (d e : Draft) (first : List ℕ) (words : List (List ℕ)
 thread_or true d e first words tidy comment is h = thread_change d e words h
 thread_or false d e first words tidy comment is h = statement_change d e first words tidy comment is h
 
+header_or : (b : Bool) (d e : Draft) (first : List ℕ) (words : List (List ℕ)) → IsTidy first
+    → starts_with nat_eq first (codes "#") ≡ false → cond b (header_line words) (other_line d first words) ≡ Ok e → Change d e
+header_or true d e first words tidy comment h = headed (line_headed words e h)
+header_or false d e first words tidy comment h =
+    thread_or (bytes_eq first (codes "thread")) d e first words tidy comment refl h
+
 comment_or : (b : Bool) (d e : Draft) (first : List ℕ) (words : List (List ℕ)) → IsTidy first
     → starts_with nat_eq first (codes "#") ≡ b
     → cond b (Ok d)
-    (cond (bytes_eq first (codes "thread")) (thread_line d words) (statement_line d first words)) ≡ Ok e
+    (cond (is_new d && bytes_eq first (codes "version")) (header_line words) (other_line d first words)) ≡ Ok e
     → Change d e
 comment_or true d e first words tidy is h = skipped (same_given d e h)
 comment_or false d e first words tidy is h =
-    thread_or (bytes_eq first (codes "thread")) d e first words tidy is refl h
+    header_or (is_new d && bytes_eq first (codes "version")) d e first words tidy is h
 
 words_change : (d e : Draft) (words : List (List ℕ)) → AllByRecursion IsTidy words
     → after_words d words ≡ Ok e → Change d e

@@ -14,6 +14,7 @@ pub mod Cells
 pub mod CellShapes
 pub mod CellCompares
 pub mod Rewrites
+pub mod Headers
 pub mod Changes
 pub mod RoundTrip
 pub mod Bounds

@@ -2,7 +2,7 @@
 use Rattle.std.proofs.Common.{◌≡◌, ℕ, suc, ◌+◌, ◌<◌, Bool, true, false, not, cond, ltb, List, [], ◌∷◌, ◌++◌, length, map, Option, Some, None, Ok, refl, sym, ap, ◌∙◌, arith, rules}
 use Rattle.std.specs.Prelude.{String}
 use Rattle.std.specs.Option.{option_map}
-use Rattle.std.specs.List.{position, position_or_len}
+use Rattle.std.specs.List.{AllZip, position, position_or_len}
 use Rattle.std.specs.Map.{lookup, keys_of, values_of}
 use Rattle.std.specs.Str.{bytes_eq}
 use Rattle.std.specs.String.{string_bytes, string_eq}
@@ -123,3 +123,21 @@ pub values_of-names_in : {A : Type 0} (es : List (String A × Kind))
     → values_of es ≡ map (λ name. name.1) (names_in es)
 values_of-names_in [] = refl
 values_of-names_in (e ∷ es) = ap (λ (kinds : List Kind). e.1 ∷ kinds) (values_of-names_in es)
+
+-- ---- a copy
+
+abbrev entry : List ℕ → Kind → List ℕ × Kind
+entry word kind = (word, kind)
+
+same_entry : (name word : List ℕ) (kind other : Kind) → word ≡ name → other ≡ kind → entry word other ≡ entry name kind
+same_entry name word kind other h k = rw (h, k) refl
+
+-- a table whose names and kinds are copies has the same names
+pub names_copied : {A : Type 0} (xs ys : List (String A × Kind))
+    → AllZip (λ p q. (string_bytes q.0 ≡ string_bytes p.0) × (q.1 ≡ p.1)) xs ys → names_in ys ≡ names_in xs
+names_copied [] [] h = refl
+names_copied [] (y ∷ ys) h = absurd h
+names_copied (x ∷ xs) [] h = absurd h
+names_copied (x ∷ xs) (y ∷ ys) h =
+    ap (λ (ns : NameList). entry (string_bytes y.0) y.1 ∷ ns) (names_copied xs ys h.1)
+    ∙ ap (λ (n : List ℕ × Kind). n ∷ names_in xs) (same_entry (string_bytes x.0) (string_bytes y.0) x.1 y.1 h.0.0 h.0.1)

@@ -4,12 +4,12 @@ use Rattle.std.specs.List.{AllByRecursion}
 use Rattle.script_text.specs.declared.fault.Cause.{Cause}
 use Rattle.script_text.specs.declared.fault.Fault.{Fault}
 use Rattle.script_text.specs.declared.fault.Fault.TheVariants as fault
-use Rattle.script_text.specs.Drafts.{Section, Draft, new_draft, sections, after_line}
+use Rattle.script_text.specs.Drafts.{Draft, ScriptView, new_draft, script_of, after_line}
 use Rattle.script_text.specs.Grammar.{is_feed, HasNoFeed, ended, Leads, Begins, Reads, IsUnfinished, IsFaultyLine, Faulty, Answers, IsUnlessMemory}
 
 -- a script, or the number of a line and a cause
 abbrev Reading : Type 0
-Reading = Result (List Section) (ℕ × Cause)
+Reading = Result ScriptView (ℕ × Cause)
 
 -- ---- one cut
 
@@ -52,7 +52,7 @@ no_cut (x ∷ xs) rest h = no_cut xs rest h.1
 
 -- the rest ends the text, or its first line is faulty
 abbrev Ends : Draft → ℕ → List ℕ → Reading → Type 0
-Ends d n rest (Ok script) = (rest ≡ []) × (script ≡ sections d)
+Ends d n rest (Ok script) = (rest ≡ []) × (script ≡ script_of d)
 Ends d n rest (Err f) = (f.0 ≡ n) × (IsUnfinished rest f.1 ⊎ IsFaultyLine d rest f.1)
 
 -- a line is not good and faulty at once
@@ -84,7 +84,7 @@ faults_agree f g n c a b x y =
     rw (first, second) refl
 
 one_end : (d : Draft) (n : ℕ) (rest : List ℕ) (r s : Reading) → Ends d n rest r → Ends d n rest s → r ≡ s
-one_end d n rest (Ok a) (Ok b) h k = ap (λ (t : List Section). Ok t) (h.1 ∙ sym k.1)
+one_end d n rest (Ok a) (Ok b) h k = ap (λ (t : ScriptView). Ok t) (h.1 ∙ sym k.1)
 one_end d n rest (Ok a) (Err g) h (k, inl v) = absurd (omega (arith, v.some, ap length h.0))
 one_end d n rest (Ok a) (Err g) h (k, inr v) =
     absurd (omega (arith, ap length h.0, ap length v.cut.text, length-append v.line (10 ∷ v.more)))
@@ -173,14 +173,14 @@ one_reading bytes r s h k =
 -- ---- answers
 
 -- the two readings of a text
-abbrev script_is : List Section → Reading
+abbrev script_is : ScriptView → Reading
 script_is script = Ok script
 
 abbrev fault_is : ℕ → Cause → Reading
 fault_is line cause = Err (line, cause)
 
 -- an answer that is true of a text with a script is that script, want of memory aside
-pub reads_answer : (r : Result (List Section) Fault) (bytes : List ℕ) (script : List Section)
+pub reads_answer : (r : Result ScriptView Fault) (bytes : List ℕ) (script : ScriptView)
     → Answers r bytes → Reads bytes script → IsUnlessMemory r (Ok script)
 reads_answer (Ok s) bytes script a h =
     let same = one_reading bytes (script_is s) (script_is script) a h in inl cc
@@ -192,7 +192,7 @@ reads_answer (Err fault.Output) bytes script a h = absurd a
 reads_answer (Err fault.Input) bytes script a h = absurd a
 
 -- an answer that is true of a faulty text is its fault, want of memory aside
-pub faulty_answer : (r : Result (List Section) Fault) (bytes : List ℕ) (line : ℕ) (cause : Cause)
+pub faulty_answer : (r : Result ScriptView Fault) (bytes : List ℕ) (line : ℕ) (cause : Cause)
     → Answers r bytes → Faulty bytes line cause
     → IsUnlessMemory r (Err (fault.Syntax line cause))
 faulty_answer (Ok s) bytes line cause a h =

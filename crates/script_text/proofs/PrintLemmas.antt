@@ -7,7 +7,7 @@ use Rattle.std.proofs.lemmas.List.Concat.{flat_map-cons}
 use Rattle.script_text.specs.declared.thread.Thread.{Thread}
 use Rattle.script_text.specs.Drafts.{section_of}
 use Rattle.script_text.specs.Grammar.{ended}
-use Rattle.script_text.specs.Canonical.{number_after, spaced, section_lines, begun_lines, canonical}
+use Rattle.script_text.specs.Canonical.{number_after, spaced, section_lines, begun_lines, thread_lines}
 
 -- a line with its line feed
 abbrev pub with_feed : List ℕ → List ℕ
@@ -73,17 +73,30 @@ parts_done {A} f view xs i text out all h =
     ∙ ap (λ (t : List ℕ). text ++ t) (sym (ended-flat_map f (map view xs)))
 
 -- the first thread and the others, one after the other
-pub canonical_done : (threads : List Thread) (first : Thread) (mid out : List ℕ) → 1 ≤ length threads
+pub threads_done : (threads : List Thread) (first : Thread) (text mid out : List ℕ) → 1 ≤ length threads
     → first ≡ get_or threads 0 first
-    → mid ≡ ended (section_lines (section_of first))
+    → mid ≡ text ++ ended (section_lines (section_of first))
     → out ≡ mid ++ ended (flat_map begun_lines (map section_of (take (length threads - 1) (drop 1 threads))))
-    → out ≡ canonical (map section_of threads)
-canonical_done [] first mid out some is one all = absurd (omega arith)
-canonical_done (t ∷ threads) first mid out some is one all =
+    → out ≡ text ++ ended (thread_lines (map section_of threads))
+threads_done [] first text mid out some is one all = absurd (omega arith)
+threads_done (t ∷ threads) first text mid out some is one all =
     let others : List (List ℕ) = flat_map begun_lines (map section_of threads) in
     all
     ∙ ap (λ (ts : List Thread). mid ++ ended (flat_map begun_lines (map section_of ts)))
     (take_rest (t ∷ threads) 1)
     ∙ ap (λ (u : List ℕ). u ++ ended others)
-    (one ∙ ap (λ (u : Thread). ended (section_lines (section_of u))) is)
-    ∙ sym (ended-append (section_lines (section_of t)) others)
+    (one ∙ ap (λ (u : Thread). text ++ ended (section_lines (section_of u))) is)
+    ∙ append_assoc text (ended (section_lines (section_of t))) (ended others)
+    ∙ ap (λ (u : List ℕ). text ++ u) (sym (ended-append (section_lines (section_of t)) others))
+
+-- no line is added
+pub none_added : (text : List ℕ) (lines : List (List ℕ)) → lines ≡ [] → text ≡ text ++ ended lines
+none_added text lines none = rw none (sym (append-nil text))
+
+-- the header and then the threads
+pub script_done : (text head all : List ℕ) (header threads : List (List ℕ)) → text ≡ []
+    → head ≡ text ++ ended header → all ≡ head ++ ended threads → all ≡ ended (header ++ threads)
+script_done text head all header threads none first rest =
+    rest
+    ∙ ap (λ (t : List ℕ). t ++ ended threads) (first ∙ ap (λ (t : List ℕ). t ++ ended header) none)
+    ∙ sym (ended-append header threads)

@@ -1,5 +1,5 @@
 -- The canonical text of a script that was read is read as the same script.
-use Rattle.std.proofs.Common.{◌≡◌, ℕ, ◌+◌, ◌<◌, true, List, [], ◌∷◌, ◌++◌, length, map, Ok, refl, sym, ap, subst, ◌∙◌, lit<, lt-ltb, append_assoc}
+use Rattle.std.proofs.Common.{◌≡◌, ℕ, ◌+◌, ◌<◌, ◌≤◌, true, List, [], ◌∷◌, ◌++◌, length, map, Ok, refl, sym, ap, subst, ◌∙◌, lit<, lt-ltb, append_assoc, arith}
 use Rattle.std.specs.Prelude.{codes, ltb}
 use Rattle.std.specs.List.{flat_map, AllByRecursion}
 use Rattle.std.proofs.lemmas.List.{append-nil}
@@ -9,20 +9,25 @@ use Rattle.script_text.specs.declared.keyword.Keyword.{Keyword}
 use Rattle.script_text.specs.Names.{NameList}
 use Rattle.script_text.specs.Keywords.{takes_words}
 use Rattle.script_text.specs.Calls.{call_at}
-use Rattle.script_text.specs.Drafts.{Section, Draft, new_draft, sections, no_section, with_call, next_call, after_line}
+use Rattle.script_text.specs.Drafts.{Section, ScriptView, Draft, draft_in, new_draft, sections, script_of, no_section, with_call, next_call, after_line}
 use Rattle.script_text.specs.Grammar.{HasNoFeed, ended, Leads, Begins, Reads}
-use Rattle.script_text.specs.Canonical.{call_words, spaced, call_line, section_lines, begun_lines, script_lines, canonical}
+use Rattle.script_text.specs.Canonical.{call_words, spaced, call_line, section_lines, begun_lines, thread_lines, header_words, header_lines, script_lines, canonical}
 use Rattle.script_text.proofs.TidyWords.{IsTidy, after_tidy_line, no_feed_in}
 use Rattle.script_text.proofs.GrammarLemmas.{clean-last, Leads-last}
 use Rattle.script_text.proofs.Rewrites.{IsSettled, Rewrites}
-use Rattle.script_text.proofs.Changes.{IsFirstWord, with_thread, Change, skipped, began, added, line_change}
+use Rattle.script_text.specs.declared.version.Version.{Version}
+use Rattle.script_text.specs.declared.version.Version.TheVariants.{One, Two}
+use Rattle.script_text.specs.Versions.{as_two, most_threads}
+use Rattle.script_text.specs.Scripts.{converted}
+use Rattle.script_text.proofs.Headers.{IsHeader, header_again, header_tidy}
+use Rattle.script_text.proofs.Changes.{IsFirstWord, with_thread, Change, skipped, headed, began, added, line_change, other_words}
 
 -- ---- the lines of a script
 
 -- the lines before those of the last thread
 lines_before : List Section → List (List ℕ)
 lines_before [] = []
-lines_before (s ∷ ss) = script_lines (s ∷ ss) ++ codes "thread" ∷ []
+lines_before (s ∷ ss) = thread_lines (s ∷ ss) ++ codes "thread" ∷ []
 
 begun-last : (ss : List Section) (c : Section)
     → flat_map begun_lines (ss ++ c ∷ []) ≡ flat_map begun_lines ss ++ begun_lines c
@@ -32,16 +37,16 @@ begun-last ss c =
     (flat_map-cons begun_lines c [] ∙ append-nil (begun_lines c))
 
 lines-last : (ss : List Section) (c : Section)
-    → script_lines (ss ++ c ∷ []) ≡ lines_before ss ++ section_lines c
+    → thread_lines (ss ++ c ∷ []) ≡ lines_before ss ++ section_lines c
 unfolding lines_before
 lines-last [] c = append-nil (section_lines c)
 lines-last (s ∷ ss) c =
     ap (λ (t : List (List ℕ)). section_lines s ++ t) (begun-last ss c)
     ∙ sym (append_assoc (section_lines s) (flat_map begun_lines ss) (begun_lines c))
-    ∙ sym (append_assoc (script_lines (s ∷ ss)) (codes "thread" ∷ []) (section_lines c))
+    ∙ sym (append_assoc (thread_lines (s ∷ ss)) (codes "thread" ∷ []) (section_lines c))
 
 before-last : (ss : List Section) (c : Section)
-    → lines_before (ss ++ c ∷ []) ≡ script_lines (ss ++ c ∷ []) ++ codes "thread" ∷ []
+    → lines_before (ss ++ c ∷ []) ≡ thread_lines (ss ++ c ∷ []) ++ codes "thread" ∷ []
 unfolding lines_before
 before-last [] c = refl
 before-last (s ∷ ss) c = refl
@@ -50,34 +55,39 @@ before-last (s ∷ ss) c = refl
 
 -- the lines of the script so far lead to it, and no later name changes one of them
 record IsCanonical (d : Draft) : Type 0 where
-  clean : AllByRecursion HasNoFeed (script_lines (sections d))
-  leads : Leads new_draft (script_lines (sections d)) d
+  clean : AllByRecursion HasNoFeed (script_lines (script_of d))
+  leads : Leads new_draft (script_lines (script_of d)) d
   settled : AllByRecursion (IsSettled d.current.names) d.current.calls
 
 one_more : (d e : Draft) (line : List ℕ) → IsCanonical d → after_line d line ≡ Ok e → HasNoFeed line
-    → script_lines (sections e) ≡ script_lines (sections d) ++ line ∷ []
+    → e.version ≡ d.version → thread_lines (sections e) ≡ thread_lines (sections d) ++ line ∷ []
     → AllByRecursion (IsSettled e.current.names) e.current.calls → IsCanonical e
-one_more d e line c reads clean more settled = record {
-  clean = rw more (clean-last (script_lines (sections d)) line c.clean clean);
-  leads = rw more (Leads-last (script_lines (sections d)) line new_draft d e c.leads reads);
-  settled = settled;
-}
+one_more d e line c reads clean version more settled =
+    let all : script_lines (script_of e) ≡ script_lines (script_of d) ++ line ∷ [] =
+    ap (λ (v : Version). header_lines v ++ thread_lines (sections e)) version
+    ∙ ap (λ (ls : List (List ℕ)). header_lines d.version ++ ls) more
+    ∙ sym (append_assoc (header_lines d.version) (thread_lines (sections d)) (line ∷ [])) in
+    record {
+      clean = rw all (clean-last (script_lines (script_of d)) line c.clean clean);
+      leads = rw all (Leads-last (script_lines (script_of d)) line new_draft d e c.leads reads);
+      settled = settled;
+    }
 
 -- ---- a thread begins
 
 thread_word : IsTidy (codes "thread")
 thread_word = (lit< tt, refl)
 
-begun_kept : (d : Draft) → length d.done < 15 → IsCanonical d → IsCanonical (with_thread d)
+begun_kept : (d : Draft) → length d.done + 1 < most_threads d.version → IsCanonical d → IsCanonical (with_thread d)
 begun_kept d room c =
     let e : Draft = with_thread d in
-    let free : ltb (length d.done) 15 ≡ true = lt-ltb (length d.done) 15 room in
+    let free : ltb (length d.done + 1) (most_threads d.version) ≡ true = lt-ltb (length d.done + 1) (most_threads d.version) room in
     let reads : after_line d (codes "thread") ≡ Ok e =
-    after_tidy_line d (codes "thread" ∷ []) (thread_word, tt) ∙ rw free refl in
-    let lines : script_lines (sections e) ≡ script_lines (sections d) ++ codes "thread" ∷ [] =
+    after_tidy_line d (codes "thread" ∷ []) (thread_word, tt) ∙ other_words d (codes "thread") [] refl refl ∙ rw free refl in
+    let lines : thread_lines (sections e) ≡ thread_lines (sections d) ++ codes "thread" ∷ [] =
     lines-last (d.done ++ d.current ∷ []) no_section ∙ append-nil (lines_before (d.done ++ d.current ∷ []))
     ∙ before-last d.done d.current in
-    one_more d e (codes "thread") c reads (no_feed_in (codes "thread" ∷ []) (thread_word, tt)) lines tt
+    one_more d e (codes "thread") c reads (no_feed_in (codes "thread" ∷ []) (thread_word, tt)) refl lines tt
 
 -- ---- a statement is added
 
@@ -112,7 +122,8 @@ said : (d e : Draft) (first : List ℕ) (k : Keyword) (words : List (List ℕ)) 
     → AllByRecursion IsTidy words → takes_words k (length words) ≡ true
     → next_call d k words ≡ Ok e → after_line d (spaced (first ∷ words)) ≡ Ok e
 said d e first k words w tidy takes says =
-    after_tidy_line d (first ∷ words) (w.tidy, tidy) ∙ rw (w.comment, w.thread, w.reads, takes) says
+    after_tidy_line d (first ∷ words) (w.tidy, tidy) ∙ other_words d first words w.comment w.version
+    ∙ rw (w.thread, w.reads, takes) says
 
 called : (d : Draft) (k : Keyword) (words : List (List ℕ)) (c : Call) (new : NameList) → d.count < 65536
     → call_at d.current.names k words ≡ Ok (c, new) → next_call d k words ≡ Ok (with_call d (c, new))
@@ -135,33 +146,74 @@ added_kept d first k c new w room r canon =
     rw r.grows.grown (lines_more old r.grows.more calls canon.settled) in
     let now : section_lines e.current ≡ section_lines d.current ++ call_line new c ∷ [] =
     map-last (call_line new) calls c ∙ ap (λ (ls : List (List ℕ)). ls ++ call_line new c ∷ []) same in
-    let lines : script_lines (sections e) ≡ script_lines (sections d) ++ call_line new c ∷ [] =
+    let lines : thread_lines (sections e) ≡ thread_lines (sections d) ++ call_line new c ∷ [] =
     lines-last d.done e.current ∙ ap (λ (ls : List (List ℕ)). lines_before d.done ++ ls) now
     ∙ sym (append_assoc (lines_before d.done) (section_lines d.current) (call_line new c ∷ []))
     ∙ ap (λ (ls : List (List ℕ)). ls ++ call_line new c ∷ []) (sym (lines-last d.done d.current)) in
     one_more d e (call_line new c) canon (subst (λ (l : List ℕ). after_line d l ≡ Ok e) line_is reads)
-    (subst HasNoFeed line_is (no_feed_in (first ∷ r.words) (w.tidy, r.tidy))) lines
+    (subst HasNoFeed line_is (no_feed_in (first ∷ r.words) (w.tidy, r.tidy))) refl lines
     (settled-last new calls c kept r.settled)
+
+-- ---- a header
+
+headed_kept : (blocks : ℕ) → 64 ≤ blocks → blocks ≤ 65535 → IsCanonical (draft_in (Two blocks))
+headed_kept blocks least most = record {
+  clean = (no_feed_in (header_words blocks) (header_tidy blocks most), tt);
+  leads = (draft_in (Two blocks), header_again blocks least most, refl);
+  settled = tt;
+}
 
 -- ---- any line
 
-change_kept : (d e : Draft) → Change d e → IsCanonical d → IsCanonical e
-change_kept d e (skipped same) c = subst IsCanonical same c
-change_kept d e (began room same) c = subst IsCanonical same (begun_kept d room c)
-change_kept d e (added a) c =
-    subst IsCanonical a.now (added_kept d a.first a.keyword a.call a.names a.word a.room a.rewrites c)
+-- the same draft in version 2
+in_two : Draft → Draft
+in_two d = record { version = as_two d.version; done = d.done; current = d.current; count = d.count }
 
-lines_kept : (lines : List (List ℕ)) (d e : Draft) → Leads d lines e → IsCanonical d → IsCanonical e
-lines_kept [] d e h c = subst IsCanonical h c
+-- what stays true, of the draft and of the same in version 2
+record IsKept (d : Draft) : Type 0 where
+  same : IsCanonical d
+  two : IsCanonical (in_two d)
+
+room_in_two : (version : Version) (n : ℕ) → n < most_threads version → n < most_threads (as_two version)
+room_in_two One n h = omega (arith, h)
+room_in_two (Two blocks) n h = h
+
+in_header : (version : Version) → IsHeader version → IsKept (draft_in version)
+unfolding in_two
+in_header version h =
+    let is = headed_kept h.blocks h.least h.most in
+    subst (λ (v : Version). IsKept (draft_in v)) h.is (record { same = is; two = is })
+
+change_kept : (d e : Draft) → Change d e → IsKept d → IsKept e
+unfolding in_two
+change_kept d e (skipped same) c = subst IsKept same c
+change_kept d e (headed h) c = subst IsKept h.now (in_header h.version h.header)
+change_kept d e (began room same) c =
+    subst IsKept same (record {
+      same = begun_kept d room c.same;
+      two = begun_kept (in_two d) (room_in_two d.version (length d.done + 1) room) c.two;
+    })
+change_kept d e (added a) c =
+    subst IsKept a.now (record {
+      same = added_kept d a.first a.keyword a.call a.names a.word a.room a.rewrites c.same;
+      two = added_kept (in_two d) a.first a.keyword a.call a.names a.word a.room a.rewrites c.two;
+    })
+
+lines_kept : (lines : List (List ℕ)) (d e : Draft) → Leads d lines e → IsKept d → IsKept e
+lines_kept [] d e h c = subst IsKept h c
 lines_kept (line ∷ lines) d e h c =
     lines_kept lines h.0 e h.2 (change_kept d h.0 (line_change d h.0 line h.1) c)
 
-start : IsCanonical new_draft
-start = record { clean = tt; leads = refl; settled = tt }
+start : IsKept new_draft
+unfolding in_two
+start = record {
+  same = record { clean = tt; leads = refl; settled = tt };
+  two = headed_kept 4095 (omega arith) (omega arith);
+}
 
-canonical_reads : (d : Draft) → IsCanonical d → Reads (canonical (sections d)) (sections d)
+canonical_reads : (d : Draft) → IsCanonical d → Reads (canonical (script_of d)) (script_of d)
 canonical_reads d c =
-    let lines : List (List ℕ) = script_lines (sections d) in
+    let lines : List (List ℕ) = script_lines (script_of d) in
     record {
       draft = d;
       number = 1 + length lines;
@@ -176,6 +228,14 @@ canonical_reads d c =
       says = refl;
     }
 
+-- a script's canonical text reads as it, and so does that of the same script in version 2
+pub record IsReadAgain (script : ScriptView) : Type 0 where
+  pub same : Reads (canonical script) script
+  pub two : Reads (canonical (converted script)) (converted script)
+
 pub round_trip : (bytes : List ℕ) (d : Draft) (number : ℕ) → Begins bytes d number []
-    → Reads (canonical (sections d)) (sections d)
-round_trip bytes d number b = canonical_reads d (lines_kept b.lines new_draft d b.leads start)
+    → IsReadAgain (script_of d)
+unfolding in_two
+round_trip bytes d number b =
+    let kept = lines_kept b.lines new_draft d b.leads start in
+    record { same = canonical_reads d kept.same; two = canonical_reads (in_two d) kept.two }

@@ -6,9 +6,11 @@ use Rattle.step_threads.specs.declared.call.Call.TheVariants as call
 use Rattle.step_table.specs.Deeds.{field_number}
 use Rattle.script_text.specs.declared.line.Line.{Line}
 use Rattle.script_text.specs.declared.line.Line.TheVariants as line
+use Rattle.script_text.specs.declared.version.Version.{Version}
+use Rattle.script_text.specs.declared.version.Version.TheVariants.{One, Two}
 use Rattle.script_text.specs.Names.{NameList, name_text}
 use Rattle.script_text.specs.Cells.{cell_text}
-use Rattle.script_text.specs.Drafts.{Section}
+use Rattle.script_text.specs.Drafts.{ScriptView, Section}
 use Rattle.script_text.specs.Grammar.{ended}
 
 -- the words of a statement
@@ -82,12 +84,25 @@ abbrev pub begun_lines : Section → List (List ℕ)
 begun_lines section = codes "thread" ∷ section_lines section
 
 -- a line `thread` stands before each thread but the first
-abbrev pub script_lines : List Section → List (List ℕ)
-script_lines [] = []
-script_lines (first ∷ others) = section_lines first ++ flat_map begun_lines others
+abbrev pub thread_lines : List Section → List (List ℕ)
+thread_lines [] = []
+thread_lines (first ∷ others) = section_lines first ++ flat_map begun_lines others
+
+-- the words of the header of version 2
+abbrev pub header_words : ℕ → List (List ℕ)
+header_words blocks = codes "version" ∷ codes "2" ∷ codes "blocks" ∷ decimal blocks ∷ []
+
+-- version 1 has no header
+abbrev pub header_lines : Version → List (List ℕ)
+header_lines One = []
+header_lines (Two blocks) = spaced (header_words blocks) ∷ []
+
+-- the header, if there is one, and then the threads
+abbrev pub script_lines : ScriptView → List (List ℕ)
+script_lines script = header_lines script.version ++ thread_lines script.threads
 
 -- each line with its line feed
-abbrev pub canonical : List Section → List ℕ
+abbrev pub canonical : ScriptView → List ℕ
 canonical script = ended (script_lines script)
 
 -- the text goes on with these lines

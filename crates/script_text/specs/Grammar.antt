@@ -5,7 +5,7 @@ use Rattle.script_text.specs.declared.fault.Cause.{Cause}
 use Rattle.script_text.specs.declared.fault.Cause.TheVariants.{UnfinishedLine}
 use Rattle.script_text.specs.declared.fault.Fault.{Fault}
 use Rattle.script_text.specs.declared.fault.Fault.TheVariants as fault
-use Rattle.script_text.specs.Drafts.{Section, Draft, new_draft, sections, after_line}
+use Rattle.script_text.specs.Drafts.{Draft, ScriptView, new_draft, script_of, after_line}
 
 -- a line feed
 abbrev pub is_feed : ℕ → Bool
@@ -39,11 +39,11 @@ pub record Begins (bytes : List ℕ) (draft : Draft) (number : ℕ) (rest : List
   pub next : number ≡ 1 + length lines
 
 -- the text is good lines that lead to the script
-pub record Reads (bytes : List ℕ) (script : List Section) : Type 0 where
+pub record Reads (bytes : List ℕ) (script : ScriptView) : Type 0 where
   pub draft : Draft
   pub number : ℕ
   pub begins : Begins bytes draft number []
-  pub says : script ≡ sections draft
+  pub says : script ≡ script_of draft
 
 -- a rest that no line feed ends
 pub record IsUnfinished (rest : List ℕ) (cause : Cause) : Type 0 where
@@ -74,7 +74,7 @@ Refuses fault.Output bytes = ⊥
 Refuses fault.Input bytes = ⊥
 
 -- an answer to a text that is true of it
-abbrev pub Answers : Result (List Section) Fault → List ℕ → Type 0
+abbrev pub Answers : Result ScriptView Fault → List ℕ → Type 0
 Answers (Ok script) bytes = Reads bytes script
 Answers (Err f) bytes = Refuses f bytes
 

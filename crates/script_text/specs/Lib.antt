@@ -5,8 +5,11 @@ pub mod Cells
 pub mod Keywords
 pub mod Shapes
 pub mod Calls
+pub mod Versions
 pub mod Drafts
 pub mod Grammar
 pub mod Reach
 pub mod Canonical
 pub mod Scripts
+pub mod Beginnings
+pub mod Traces

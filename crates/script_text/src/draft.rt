@@ -1,34 +1,36 @@
 //! A script while its lines come in.
 
-ghost use Rattle.std.specs.Prelude.{◌≡◌};
+ghost use Rattle.std.specs.Prelude.{◌≡◌, ◌&&◌, codes};
+ghost use Rattle.std.specs.Str.{bytes_eq};
 ghost use Rattle.script_text.specs.Reading.{Gives};
 ghost use Rattle.script_text.specs.Shapes.{texts};
-ghost use Rattle.script_text.specs.Drafts.{draft_of, new_draft, next_thread, next_call, thread_line, statement_line, after_words, after_line};
+ghost use Rattle.script_text.specs.Drafts.{draft_of, draft_in, is_new, next_thread, next_call, header_line, thread_line, statement_line, after_words, after_line};
 
 use crate::fault::{Cause, Stop};
 use crate::keyword::{Keyword, keyword_of, takes};
 use crate::statement::call_of;
 use crate::thread::{Thread, empty_thread};
+use crate::version::{Version, version_of};
 use crate::word::{content, is_clean, words_in};
-use control_word::limits::{SCRIPT_STATEMENTS, SCRIPT_THREADS};
+use control_word::limits::SCRIPT_STATEMENTS;
 use std::alloc::Global;
 use std::mem;
 
-/// How many threads a script has at most.
-const THREADS: usize = SCRIPT_THREADS as usize;
-
-/// The threads before the current one, that one, and how many statements all have.
+/// The version, the threads before the current one, that one, and how many statements all have.
 #[derive(Drop)]
 pub(crate) struct Draft {
+    pub version: Version,
     pub done: Vec<Thread>,
     pub current: Thread,
     pub count: u32,
 }
 
-pub(crate) fn empty_draft(alloc: Global) -> Draft
-    ensures { draft_of result ≡ new_draft }
+/// The draft of a version before the first line of its threads.
+pub(crate) fn empty_draft(alloc: Global, version: Version) -> Draft
+    ensures { draft_of result ≡ draft_in version }
 {
     Draft {
+        version,
         done: Vec::new(alloc),
         current: empty_thread(alloc),
         count: 0,
@@ -38,7 +40,7 @@ pub(crate) fn empty_draft(alloc: Global) -> Draft
 fn begin_thread(alloc: Global, draft: &mut Draft) -> Result<(), Stop>
     ensures { Gives (λ _. draft_of draft.new) result (next_thread (draft_of draft.old)) }
 {
-    if draft.done.len() >= THREADS - 1 {
+    if draft.done.len() + 1 >= draft.version.most_threads() {
         return Err(Stop::Cause(Cause::TooManyThreads));
     }
     let full = mem::replace(&mut draft.current, empty_thread(alloc));
@@ -56,6 +58,28 @@ fn add_call(alloc: Global, draft: &mut Draft, keyword: Keyword, words: &[&[u8]])
     let call = call_of(alloc, &mut draft.current.names, keyword, words)?;
     draft.current.calls.push(call)?;
     draft.count += 1;
+    Ok(())
+}
+
+/// Whether all lines so far were skipped.
+fn is_new(draft: &Draft) -> bool
+    ensures { result ≡ is_new (draft_of draft.now) }
+{
+    matches!(draft.version, Version::One) && draft.done.is_empty() && draft.count == 0
+}
+
+/// Whether a line that begins so is a header, which is the first line that isn't skipped.
+fn is_header(draft: &Draft, first: &[u8]) -> bool
+    ensures { result ≡ (is_new (draft_of draft.now) && bytes_eq first.now (codes "version")) }
+{
+    is_new(draft) && first == b"version".as_slice()
+}
+
+fn add_header_line(alloc: Global, draft: &mut Draft, words: &[&[u8]]) -> Result<(), Stop>
+    ensures { Gives (λ _. draft_of draft.new) result (header_line (texts words.now)) }
+{
+    let version = version_of(words)?;
+    *draft = empty_draft(alloc, version);
     Ok(())
 }
 
@@ -95,7 +119,9 @@ fn add_words(alloc: Global, draft: &mut Draft, words: &[&[u8]]) -> Result<(), St
     if first.starts_with(b"#".as_slice()) {
         return Ok(());
     }
-    if *first == b"thread".as_slice() {
+    if is_header(draft, first) {
+        add_header_line(alloc, draft, rest)
+    } else if *first == b"thread".as_slice() {
         add_thread_line(alloc, draft, rest)
     } else {
         add_statement_line(alloc, draft, first, rest)

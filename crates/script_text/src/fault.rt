@@ -21,16 +21,19 @@ pub enum Cause {
     /// The statement takes fewer words, or more.
     #[error("wrong number of words")]
     WrongNumberOfWords,
-    /// The 17th thread would begin.
+    /// The 17th thread would begin, or the 65th in version 2.
     #[error("too many threads")]
     TooManyThreads,
     /// The 65,537th statement.
     #[error("too many statements")]
     TooManyStatements,
+    /// The words after `version` are not `2`, `blocks` and another.
+    #[error("bad version")]
+    BadVersion,
     /// No letter `a` to `z` followed by at most 15 letters, digits or `_`.
     #[error("bad name")]
     BadName,
-    /// No decimal number below 2^64.
+    /// No decimal number below 2^64; in a header none from 64 to 65,535.
     #[error("bad number")]
     BadNumber,
     /// No number from 0 to 3.

@@ -1,8 +1,10 @@
-//! The script language of version 1: its text, read and written.
+//! The script language: its text, read and written.
 //!
 //! A script is a list of lines, each with a line feed; a carriage return just before it is ignored.
 //! Words are parted by spaces and tabs. A line without words, or whose first word begins with `#`, is
-//! skipped. A line `thread` begins the next of at most 16 threads; thread 1 begins with the text. Every
+//! skipped. The first line that isn't skipped may be `version 2 blocks N` with N from 64 to 65535: then the script has N
+//! blocks and at most 64 threads. Without this header it is of version 1, with 4,095 blocks and at most 16 threads. The
+//! rest is the same in both. A line `thread` begins the next thread; thread 1 begins with the text. Every
 //! other line is a statement, of which a script has at most 65,536. A name is a letter `a` to `z`, then
 //! letters, digits or `_`, 1 to 16 bytes; names are each thread's own, at most 32. A name is declared by
 //! the first statement that has it as its target (`T`), and for good: an owner name (`O`) is a
@@ -56,6 +58,7 @@
 
 mod alias;
 mod cell;
+mod converting;
 mod draft;
 mod fault;
 mod keyword;
@@ -68,8 +71,10 @@ mod shape;
 mod statement;
 mod text;
 mod thread;
+mod version;
 mod word;
 
+pub use converting::convert;
 pub use fault::{Cause, Fault};
 pub use printing::print;
 pub use script::Script;

@@ -118,6 +118,13 @@ impl Names {
         Ok(Name(number as u8))
     }
 
+    pub(crate) fn copy(&self) -> Result<Names, AllocError>
+        ensures { IfOk result (λ names. names ≡ self.now) }
+    {
+        let table = self.table.clone()?;
+        Ok(Names { table })
+    }
+
     /// How a name is spelled.
     pub(crate) fn text(&self, name: Name) -> &str
         ensures { result.now ≡ name_text self.now name }

@@ -2,28 +2,30 @@
 
 use crate::program::program_of;
 use crate::thread::Thread;
+use crate::version::Version;
 use control_word::Refusal;
 use std::alloc::Global;
 use std::marker::Model;
 use step_core::Program;
 
-/// A script that some text spells. A clause sees its threads in order, each with its names and its calls.
+/// A script that some text spells. A clause sees its version, and its threads in order, each with its names and its calls.
 #[derive(Drop)]
 pub struct Script {
+    pub(crate) version: Version,
     pub(crate) threads: Vec<Thread>,
     pub(crate) statements: u32,
 }
 
 impl Model for Script {
-    ghost use Rattle.std.specs.Prelude.{List, map};
-    ghost use Rattle.script_text.specs.Drafts.{Section, section_of};
+    ghost use Rattle.std.specs.Prelude.{map};
+    ghost use Rattle.script_text.specs.Drafts.{ScriptView, section_of};
     ghost use Rattle.script_text.specs.Scripts.{IsScript};
 
-    ghost Value = { List Section };
+    ghost Value = { ScriptView };
 
-    ghost view = { λ s. map section_of s.threads.items };
+    ghost view = { λ s. record { version = s.version; threads = map section_of s.threads.items } };
 
-    ghost invariant = { λ s. IsScript (map section_of s.threads.items) s.statements };
+    ghost invariant = { λ s. IsScript (record { version = s.version; threads = map section_of s.threads.items }) s.statements };
 }
 
 impl Script {
@@ -32,19 +34,30 @@ impl Script {
     ghost use Rattle.control_word.specs.declared.refusal.Refusal.TheVariants.{Memory};
     ghost use Rattle.step_threads.specs.Programs.{AllHaveCells, parts_of, IsProgram};
     ghost use Rattle.script_text.specs.Scripts.{HasTextCells, program_in, statement_count};
+    ghost use Rattle.script_text.specs.Versions.{blocks_in, most_threads};
 
-    /// How many threads the script has, from 1 to 16 (own).
+    /// How many blocks the threads share (own): 4,095 in version 1, and in version 2 as many as the header says.
+    pub fn blocks(&self) -> u32
+        ensures number { result ≡ blocks_in self.now.version }
+        ensures some { 64 ≤ result }
+        ensures few { result ≤ 65535 }
+    {
+        self.version.blocks()
+    }
+
+    /// How many threads the script has, from 1 to 16, or to 64 in version 2 (own).
     pub fn threads(&self) -> u32
-        ensures number { result ≡ length self.now }
+        ensures number { result ≡ length self.now.threads }
         ensures some { 1 ≤ result }
-        ensures few { result ≤ 16 }
+        ensures few { result ≤ most_threads self.now.version }
+        ensures within { result ≤ 64 }
     {
         self.threads.len() as u32
     }
 
     /// How many statements all threads have together (own).
     pub fn statements(&self) -> u32
-        ensures number { result ≡ statement_count self.now }
+        ensures number { result ≡ statement_count self.now.threads }
         ensures few { result ≤ 65536 }
     {
         self.statements
@@ -56,7 +69,7 @@ impl Script {
     ///
     /// Refused by 1 alone, where a growth is refused; the script is as it was.
     pub fn program(&self, alloc: Global) -> Result<Program, Refusal>
-        ensures calls { IfOk result (λ p. parts_of p ≡ program_in self.now) }
+        ensures calls { IfOk result (λ p. parts_of p ≡ program_in self.now.threads) }
         ensures sound { IfOk result (λ p. IsProgram (parts_of p)) }
         ensures cells { IfOk result (λ p. (shape : Shape) → HasTextCells shape → All (AllHaveCells shape) (parts_of p)) }
         ensures memory { IsOkUnless result Memory }

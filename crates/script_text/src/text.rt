@@ -1,9 +1,9 @@
 //! A script from its text.
 
-ghost use Rattle.std.specs.Prelude.{◌≡◌, ℕ, List, MatchOption, IfOk, map, position};
+ghost use Rattle.std.specs.Prelude.{◌≡◌, ℕ, MatchOption, IfOk, map, position};
 ghost use Rattle.script_text.specs.declared.fault.Cause.{Cause};
 ghost use Rattle.script_text.specs.declared.fault.Fault.TheVariants.{Syntax};
-ghost use Rattle.script_text.specs.Drafts.{Section, section_of, draft_of, sections};
+ghost use Rattle.script_text.specs.Drafts.{ScriptView, section_of, draft_of, sections};
 ghost use Rattle.script_text.specs.Grammar.{is_feed, HasNoFeed, IsCut, Reads, Faulty, Answers, IsUnlessMemory};
 ghost use Rattle.script_text.specs.Reach.{Reaches};
 
@@ -11,6 +11,7 @@ use crate::draft::{Draft, add_line, empty_draft};
 use crate::fault::{Cause, Fault, Stop};
 use crate::script::Script;
 use crate::thread::Thread;
+use crate::version::Version;
 use std::alloc::{AllocError, Global};
 
 fn line_end(bytes: &[u8]) -> Option<usize>
@@ -32,7 +33,7 @@ fn split_line(bytes: &[u8]) -> Option<(&[u8], &[u8])>
 fn read_lines(alloc: Global, bytes: &[u8]) -> Result<Draft, Fault>
     ensures { Reaches result bytes.now }
 {
-    let mut draft = empty_draft(alloc);
+    let mut draft = empty_draft(alloc, Version::One);
     let mut rest = bytes;
     let mut line = 1;
     while let Some((text, after)) = split_line(rest) {
@@ -66,7 +67,7 @@ fn threads_of(draft: Draft) -> Result<Vec<Thread>, AllocError>
     Ok(done)
 }
 
-/// The script that a text of version 1 spells (own): lines of statements, as the crate's page says.
+/// The script that a text spells (own): lines of statements, of version 1 or, after its header, of version 2, as the crate's page says.
 ///
 /// Refused by 10, with the number of the first faulty line, from 1, and its cause, just where a line is
 /// faulty; by 1 where a growth is refused. Linear in the text.
@@ -76,15 +77,17 @@ pub fn parse(alloc: Global, bytes: &[u8]) -> Result<Script, Fault>
 
     // A text that spells a script is read as that script, and a faulty one is refused with its fault,
     // want of memory aside.
-    ensures reads { (script : List Section) → Reads bytes.now script
+    ensures reads { (script : ScriptView) → Reads bytes.now script
         → IsUnlessMemory result (Ok script) }
     ensures faulty { (line : ℕ) (cause : Cause) → Faulty bytes.now line cause
         → IsUnlessMemory result (Err (Syntax line cause)) }
 {
     let draft = read_lines(alloc, bytes)?;
+    let version = draft.version;
     let statements = draft.count;
     match threads_of(draft) {
         Ok(threads) => Ok(Script {
+            version,
             threads,
             statements,
         }),

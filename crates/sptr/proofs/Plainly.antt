@@ -1,6 +1,7 @@
 -- What is asked for plainly is answered.
-use Rattle.std.proofs.Common.{◌≡◌, ◌⊎◌, ◌∙◌, ℕ, Bool, true≢false, refl, sym, ap, subst, List, [], ◌∷◌, Option, Some, None, Err, Result, codes, inl, inr}
+use Rattle.std.proofs.Common.{◌≡◌, ◌⊎◌, ◌∙◌, ℕ, Bool, false, true≢false, refl, sym, ap, subst, List, [], ◌∷◌, Option, Some, None, Err, Result, codes, inl, inr}
 use Rattle.std.specs.Prelude.{IfSome}
+use Rattle.std.specs.Str.{bytes_eq}
 use Rattle.std.proofs.lemmas.Slice.Eq.{bytes_eq-Decides}
 use Rattle.clap.specs.Words.{IsAmong, Kinds, Text, fault_of}
 use Rattle.clap.specs.declared.error.kind.ErrorKind.{ErrorKind}
@@ -11,7 +12,7 @@ use Rattle.script_stepper.specs.Runs.{Delivers, IsFineText, IsRunText, Tells}
 use Rattle.sptr.specs.CommandLine.{Asks, AsksHelp, AsksPlainly, NamesNoCommand, program}
 use Rattle.sptr.specs.Serving.{Answers, IsAnswered, IsMistaken, IsReason, IsShown, IsTurnedAway, UnlessInput}
 use Rattle.sptr.specs.declared.command.Asked.{Asked}
-use Rattle.sptr.specs.declared.command.Asked.TheVariants.{Check, Fine, Step}
+use Rattle.sptr.specs.declared.command.Asked.TheVariants.{Check, Convert, Fine, Step}
 use Rattle.std.proofs.lemmas.Option.{same_Some}
 use Rattle.sptr.proofs.PlainLines.{help_asked, no_command, plainly_asks}
 
@@ -23,6 +24,18 @@ check_fine e = cc
 
 step_fine : codes "step" ≡ codes "fine" → ⊥
 step_fine e = true≢false (sym ((bytes_eq-Decides (codes "step") (codes "fine")).1 e))
+
+differ : (a b : Text) → bytes_eq a b ≡ false → a ≡ b → ⊥
+differ a b other e = true≢false (sym ((bytes_eq-Decides a b).1 e) ∙ other)
+
+convert_check : codes "convert" ≡ codes "check" → ⊥
+convert_check e = differ (codes "convert") (codes "check") refl e
+
+convert_step : codes "convert" ≡ codes "step" → ⊥
+convert_step e = differ (codes "convert") (codes "step") refl e
+
+convert_fine : codes "convert" ≡ codes "fine" → ⊥
+convert_fine e = differ (codes "convert") (codes "fine") refl e
 
 none_one : (one : ErrorKind) → one ∷ [] ≡ [] → ⊥
 none_one one e = cc
@@ -38,6 +51,13 @@ same_answers : (words : List Text) (a b : Asked) (bytes : List ℕ) → Asks wor
 same_answers words Check Check bytes x y = refl
 same_answers words Check (Step turns) bytes x y = absurd (check_step (same_Some _ _ (sym x ∙ y.0)))
 same_answers words Check (Fine turns) bytes x y = absurd (check_fine (same_Some _ _ (sym x ∙ y.0)))
+same_answers words Check Convert bytes x y = absurd (convert_check (same_Some _ _ (sym y ∙ x)))
+same_answers words Convert Check bytes x y = absurd (convert_check (same_Some _ _ (sym x ∙ y)))
+same_answers words Convert Convert bytes x y = refl
+same_answers words Convert (Step turns) bytes x y = absurd (convert_step (same_Some _ _ (sym x ∙ y.0)))
+same_answers words Convert (Fine turns) bytes x y = absurd (convert_fine (same_Some _ _ (sym x ∙ y.0)))
+same_answers words (Step turns) Convert bytes x y = absurd (convert_step (same_Some _ _ (sym y ∙ x.0)))
+same_answers words (Fine turns) Convert bytes x y = absurd (convert_fine (same_Some _ _ (sym y ∙ x.0)))
 same_answers words (Step turns) Check bytes x y = absurd (check_step (same_Some _ _ (sym y ∙ x.0)))
 same_answers words (Step turns) (Step others) bytes x y = ap (λ list. UnlessInput (Tells IsRunText bytes list)) (x.1 ∙ sym y.1)
 same_answers words (Step turns) (Fine others) bytes x y = absurd (step_fine (same_Some _ _ (sym x.0 ∙ y.0)))

@@ -10,44 +10,50 @@ use Rattle.clap.specs.declared.parser.matches.ArgMatches.TheViews.{out-ArgMatche
 use Rattle.clap.specs.declared.parser.matches.SubCommand.{SubCommand}
 use Rattle.clap.proofs.OnLiterals.{clap_on_literals}
 use Rattle.sptr.proofs.Walks.{enters_own}
-use Rattle.sptr.specs.CommandLine.{check_line, command_named, fine_line, program, step_line, turns_given, turns_option}
+use Rattle.sptr.specs.CommandLine.{check_line, command_named, convert_line, fine_line, program, step_line, turns_given, turns_option}
 
 pub program_is_simple : is_simple program ≡ true
-unfolding program check_line step_line fine_line turns_option clap_on_literals
+unfolding program check_line convert_line step_line fine_line turns_option clap_on_literals
 program_is_simple = refl
 
 pub program_is_free : is_simple_and_free program ≡ true
-unfolding program check_line step_line fine_line turns_option clap_on_literals
+unfolding program check_line convert_line step_line fine_line turns_option clap_on_literals
 program_is_free = refl
 
 abbrev built_line : Shape → Shape
 built_line line = built_leaf (inherited (with_leaf_noted (marked_built program.top)) line)
 
--- words with no fault name one of the three commands
+-- words with no fault name one of the four commands
 one_of_all : (words : List Text) → fault_of program words ≡ []
-    → (command_named words ≡ Some (codes "check")) ⊎ ((command_named words ≡ Some (codes "step")) ⊎ (command_named words ≡ Some (codes "fine")))
-unfolding program check_line step_line fine_line
+    → (command_named words ≡ Some (codes "check")) ⊎ ((command_named words ≡ Some (codes "convert")) ⊎ ((command_named words ≡ Some (codes "step")) ⊎ (command_named words ≡ Some (codes "fine"))))
+unfolding program check_line convert_line step_line fine_line
 one_of_all words e =
-    let found = enters_own (built program) (argument_words program words) (built_line check_line ∷ built_line step_line ∷ built_line fine_line ∷ [])
+    let found = enters_own (built program) (argument_words program words) (built_line check_line ∷ built_line convert_line ∷ built_line step_line ∷ built_line fine_line ∷ [])
     (built_leaf help_shape) refl refl refl refl refl e in
     elim found.2 [
       | inl is ↦ inl (found.1 ∙ ap Some is)
       | inr rest ↦ elim rest [
         | inl is ↦ inr (inl (found.1 ∙ ap Some is))
-        | inr last ↦ elim last [
-          | inl is ↦ inr (inr (found.1 ∙ ap Some is))
-          | inr none ↦ absurd none
+        | inr others ↦ elim others [
+          | inl is ↦ inr (inr (inl (found.1 ∙ ap Some is)))
+          | inr last ↦ elim last [
+            | inl is ↦ inr (inr (inr (found.1 ∙ ap Some is)))
+            | inr none ↦ absurd none
+          ]
         ]
       ]
     ]
 
 pub only_check : (words : List Text) → fault_of program words ≡ [] → command_named words ≢ Some (codes "step")
-    → command_named words ≢ Some (codes "fine") → command_named words ≡ Some (codes "check")
-only_check words e not_step not_fine = elim (one_of_all words e) [
+    → command_named words ≢ Some (codes "fine") → command_named words ≢ Some (codes "convert") → command_named words ≡ Some (codes "check")
+only_check words e not_step not_fine not_convert = elim (one_of_all words e) [
   | inl is ↦ is
   | inr rest ↦ elim rest [
-    | inl is ↦ absurd (not_step is)
-    | inr is ↦ absurd (not_fine is)
+    | inl is ↦ absurd (not_convert is)
+    | inr others ↦ elim others [
+      | inl is ↦ absurd (not_step is)
+      | inr is ↦ absurd (not_fine is)
+    ]
   ]
 ]
 
@@ -75,3 +81,9 @@ asks_with_turns words m command list name rows is n r named given =
       ap (option_map (λ (p : Text × List Row). p.0)) found ∙ ap Some named,
       given ∙ sym (ap (λ (o : Option (Text × List Row)). unwrap_or (option_and_then (λ p. first_of (codes "turns") p.1) o) []) found),
     )
+
+-- a subcommand that was met is the command that the words name
+pub asks_named : (words : List Text) (m : ArgMatches) (command name : Text) → subcommand_rows_of m ≡ subcommand_of program words
+    → Some name ≡ subcommand_name_of m → name ≡ command → command_named words ≡ Some command
+asks_named words m command name is n named =
+    sym (ap (option_map (λ (p : Text × List Row). p.0)) is) ∙ sym (name_in_rows (out-ArgMatches m).subcommand) ∙ sym n ∙ ap Some named

@@ -3,7 +3,7 @@ use Rattle.std.specs.Prelude.{◌≡◌, ◌≢◌, ◌⊎◌, true, false, List
 use Rattle.clap.specs.Words.{App, Rule, Shape, Text, first_of, new_rule, subcommand_of}
 use Rattle.clap.specs.Simple.{new_shape}
 use Rattle.sptr.specs.declared.command.Asked.{Asked}
-use Rattle.sptr.specs.declared.command.Asked.TheVariants.{Check, Fine, Step}
+use Rattle.sptr.specs.declared.command.Asked.TheVariants.{Check, Convert, Fine, Step}
 
 -- `--turns LIST`
 unfoldable pub turns_option : Rule
@@ -13,6 +13,10 @@ turns_option = record (new_rule (codes "turns")) { long = Some (codes "turns"); 
 unfoldable pub check_line : Shape
 check_line = new_shape (codes "check")
 
+-- `convert`, which takes no words
+unfoldable pub convert_line : Shape
+convert_line = new_shape (codes "convert")
+
 -- `step`, which takes a list of turns
 unfoldable pub step_line : Shape
 step_line = record (new_shape (codes "step")) { rules = turns_option ∷ [] }
@@ -21,11 +25,11 @@ step_line = record (new_shape (codes "step")) { rules = turns_option ∷ [] }
 unfoldable pub fine_line : Shape
 fine_line = record (new_shape (codes "fine")) { rules = turns_option ∷ [] }
 
--- the program's name, and then one of the three
+-- the program's name, and then one of the four
 unfoldable pub program : App
 program = record {
   top = record (new_shape (codes "sptr")) { is_leaf = false; subcommand_required = true };
-  subs = check_line ∷ step_line ∷ fine_line ∷ [];
+  subs = check_line ∷ convert_line ∷ step_line ∷ fine_line ∷ [];
 }
 
 -- the command that the words name
@@ -39,6 +43,7 @@ turns_given words = unwrap_or (option_and_then (λ found. first_of (codes "turns
 -- the words ask for this
 abbrev pub Asks : List Text → Asked → Type 0
 Asks words Check = command_named words ≡ Some (codes "check")
+Asks words Convert = command_named words ≡ Some (codes "convert")
 Asks words (Step turns) = (command_named words ≡ Some (codes "step")) × (turns.now ≡ turns_given words)
 Asks words (Fine turns) = (command_named words ≡ Some (codes "fine")) × (turns.now ≡ turns_given words)
 
@@ -52,6 +57,7 @@ IsLine command name list words = ((words ≡ name ∷ command ∷ []) × (list �
 -- the words ask for this in the manner of the program's page
 abbrev pub AsksPlainly : List Text → Asked → Type 0
 AsksPlainly words Check = (name : Text) × (words ≡ name ∷ codes "check" ∷ [])
+AsksPlainly words Convert = (name : Text) × (words ≡ name ∷ codes "convert" ∷ [])
 AsksPlainly words (Step turns) = (name : Text) × IsLine (codes "step") name turns.now words
 AsksPlainly words (Fine turns) = (name : Text) × IsLine (codes "fine") name turns.now words
 

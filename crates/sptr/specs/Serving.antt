@@ -6,18 +6,24 @@ use Rattle.clap.specs.declared.error.kind.ErrorKind.TheVariants as kind
 use Rattle.script_stepper.specs.Runs.{Delivers, IsFineText, IsRunText, Tells, Writes, is_output}
 use Rattle.script_text.specs.declared.fault.Fault.{Fault}
 use Rattle.script_text.specs.declared.fault.Fault.TheVariants.{Memory, Syntax, BadTurn, Output, Input}
-use Rattle.script_text.specs.Drafts.{Section}
+use Rattle.script_text.specs.Drafts.{ScriptView}
 use Rattle.script_text.specs.Grammar.{Reads, Refuses}
-use Rattle.script_text.specs.Scripts.{statement_count}
+use Rattle.script_text.specs.Scripts.{converted, statement_count}
+use Rattle.script_text.specs.Canonical.{canonical}
 use Rattle.sptr.specs.CommandLine.{Asks, program}
 use Rattle.sptr.specs.Lines.{ok_line}
 use Rattle.sptr.specs.declared.command.Asked.{Asked}
-use Rattle.sptr.specs.declared.command.Asked.TheVariants.{Check, Fine, Step}
+use Rattle.sptr.specs.declared.command.Asked.TheVariants.{Check, Convert, Fine, Step}
 
 -- the line that counts the script which the text reads as, or the refusal that the text has
 abbrev pub Counts : List ℕ → Result (List ℕ) Fault → Type 0
-Counts bytes (Ok text) = (script : List Section) × Reads bytes script × (text ≡ ok_line (length script) (statement_count script))
+Counts bytes (Ok text) = (script : ScriptView) × Reads bytes script × (text ≡ ok_line (length script.threads) (statement_count script.threads))
 Counts bytes (Err fault) = Refuses fault bytes
+
+-- the canonical text in version 2 of the script which the text reads as, or the refusal that the text has
+abbrev pub Converts : List ℕ → Result (List ℕ) Fault → Type 0
+Converts bytes (Ok text) = (script : ScriptView) × Reads bytes script × (text ≡ canonical (converted script)) × Reads text (converted script)
+Converts bytes (Err fault) = Refuses fault bytes
 
 -- the same where the input may have failed
 abbrev pub UnlessInput : (Result (List ℕ) Fault → Type 0) → Result (List ℕ) Fault → Type 0
@@ -31,6 +37,7 @@ UnlessInput told (Err Input) = Unit {0}
 -- what a command answers to the bytes on the input
 abbrev pub Answers : Asked → List ℕ → Result (List ℕ) Fault → Type 0
 Answers Check bytes = UnlessInput (Counts bytes)
+Answers Convert bytes = UnlessInput (Converts bytes)
 Answers (Step turns) bytes = UnlessInput (Tells IsRunText bytes turns.now)
 Answers (Fine turns) bytes = UnlessInput (Tells IsFineText bytes turns.now)
 

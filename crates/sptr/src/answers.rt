@@ -5,10 +5,14 @@ ghost use Rattle.script_text.specs.declared.fault.Fault.TheVariants.{Input, Memo
 ghost use Rattle.script_stepper.specs.Runs.{Delivers, IsFineText, IsRunText, Tells, Writes, is_output, text_in};
 ghost use Rattle.std.specs.Io.KnownBytes.{Keeps};
 ghost use Rattle.sptr.specs.Lines.{ok_line};
-ghost use Rattle.sptr.specs.Serving.{Counts, UnlessInput};
+ghost use Rattle.script_text.specs.Canonical.{canonical};
+ghost use Rattle.script_text.specs.Grammar.{Reads};
+ghost use Rattle.script_text.specs.Scripts.{converted};
+ghost use Rattle.sptr.specs.Serving.{Converts, Counts, UnlessInput};
 
+use control_word::Refusal;
 use script_stepper::{Output, fine_text, step_text, write_text};
-use script_text::{Fault, parse};
+use script_text::{Fault, Script, parse, print};
 use std::alloc::{AllocError, Global};
 use std::fmt::Write as _;
 use std::io::{ErrorKind, Read, Write};
@@ -45,6 +49,26 @@ fn counted(alloc: Global, text: &[u8]) -> Result<String, Fault>
     let script = parse(alloc, text)?;
     match ok_text(alloc, script.threads(), script.statements()) {
         Ok(line) => Ok(line),
+        Err(_) => Err(Fault::Memory),
+    }
+}
+
+/// The canonical text of a script in version 2.
+fn version_two(alloc: Global, script: &Script) -> Result<String, Refusal>
+    ensures canonical { IfOk result (λ text. string_bytes text ≡ canonical (converted script.now)) }
+    ensures reads { IfOk result (λ text. Reads (string_bytes text) (converted script.now)) }
+{
+    let script = script_text::convert(alloc, script)?;
+    print(alloc, &script)
+}
+
+/// The answer of `convert` on a script's text.
+fn converted(alloc: Global, text: &[u8]) -> Result<String, Fault>
+    ensures { Converts text.now (text_in result) }
+{
+    let script = parse(alloc, text)?;
+    match version_two(alloc, &script) {
+        Ok(text) => Ok(text),
         Err(_) => Err(Fault::Memory),
     }
 }
@@ -116,6 +140,22 @@ pub(crate) fn check<I: Read, O: Write>(
 {
     let bytes = bytes_of(alloc, input)?;
     let text = counted(alloc, bytes.as_slice())?;
+    written(text.as_bytes(), output)
+}
+
+/// Answers `convert`: the canonical text in version 2 of the script on the input.
+pub(crate) fn convert<I: Read, O: Write>(
+    alloc: Global,
+    input: &mut I,
+    output: &mut Output<O>,
+) -> Result<(), Fault>
+    requires { output.old.has_failed ≡ false }
+    ensures converts { IfSome (I.remaining input.old) (λ bytes.
+        Delivers (UnlessInput (Converts bytes)) result (O.contents output.old.writer) (O.contents output.new.writer)) }
+    ensures failed { output.new.has_failed ≡ is_output result }
+{
+    let bytes = bytes_of(alloc, input)?;
+    let text = converted(alloc, bytes.as_slice())?;
     written(text.as_bytes(), output)
 }
 

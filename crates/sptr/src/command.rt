@@ -3,7 +3,7 @@
 ghost use Rattle.std.specs.Prelude.{◌≡◌, IfOk, [], codes, false, map, unwrap_or};
 ghost use Rattle.clap.specs.Words.{FailsBy, app_of, fault_of, first_of, found_of, rows_of, rule_of, shape_of, subcommand_rows_of, subcommand_of};
 ghost use Rattle.clap.specs.declared.builder.command.Command.TheViews.{out-Command};
-ghost use Rattle.sptr.specs.CommandLine.{Asks, check_line, fine_line, program, step_line, turns_option};
+ghost use Rattle.sptr.specs.CommandLine.{Asks, check_line, convert_line, fine_line, program, step_line, turns_option};
 
 use clap::{Arg, ArgMatches, Command, Error};
 use std::alloc::{AllocError, Global};
@@ -13,6 +13,8 @@ use std::convert::AsStr;
 pub(crate) enum Asked<'a> {
     /// How many threads and statements a script has.
     Check,
+    /// The script in version 2.
+    Convert,
     /// The lines of a script's run, with this list of turns.
     Step { turns: &'a str },
     /// The same by single atomic steps.
@@ -25,6 +27,15 @@ fn check_command<'a>(alloc: Global) -> Command<'a>
 {
     Command::new(alloc, "check").about(
         "Reads a script, and says how many threads and statements it has",
+    )
+}
+
+fn convert_command<'a>(alloc: Global) -> Command<'a>
+    ensures shape { shape_of result ≡ convert_line }
+    ensures local { (out-Command result).has_globals ≡ false }
+{
+    Command::new(alloc, "convert").about(
+        "Reads a script, and writes the same in version 2, in canonical form",
     )
 }
 
@@ -65,6 +76,7 @@ fn command<'a>(alloc: Global) -> Result<Command<'a>, AllocError>
         .about("Runs scripts of shared and weak pointers, from standard input")
         .subcommand_required(true)
         .subcommand(check_command(alloc))?
+        .subcommand(convert_command(alloc))?
         .subcommand(step)?
         .subcommand(fine)
 }
@@ -97,6 +109,7 @@ pub(crate) fn asked_of<'a, S: AsStr>(alloc: Global, words: &'a [S]) -> Result<As
         Some(("fine", inner)) => Ok(Asked::Fine {
             turns: turns_of(inner),
         }),
+        Some(("convert", _)) => Ok(Asked::Convert),
         _ => Ok(Asked::Check),
     }
 }

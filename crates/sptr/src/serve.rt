@@ -6,7 +6,7 @@ ghost use Rattle.script_stepper.specs.Runs.{Delivers, is_output};
 ghost use Rattle.sptr.specs.CommandLine.{AsksHelp, AsksPlainly, NamesNoCommand};
 ghost use Rattle.sptr.specs.Serving.{Answers, IsAnswered, IsMistaken, IsShown, IsTurnedAway, Serves};
 
-use crate::answers::{check, fine, step, written};
+use crate::answers::{check, convert, fine, step, written};
 use crate::command::{Asked, asked_of};
 use clap::error::ErrorKind;
 use script_stepper::Output;
@@ -75,6 +75,7 @@ fn answer<I: Read, O: Write>(
 {
     match asked {
         Asked::Check => check(alloc, input, output),
+        Asked::Convert => convert(alloc, input, output),
         Asked::Step { turns } => step(alloc, turns, input, output),
         Asked::Fine { turns } => fine(alloc, turns, input, output),
     }

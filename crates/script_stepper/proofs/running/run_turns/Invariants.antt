@@ -3,7 +3,7 @@ use Rattle.std.specs.Prelude.{None, string_bytes}
 use Rattle.step_threads.specs.Scenes.{next, walk_of}
 use Rattle.step_core.specs.Worlds.{scene}
 use Rattle.script_stepper.specs.Running.{HasRun}
-use Rattle.script_stepper.specs.Traces.{tasks_in, to_the_end}
+use Rattle.script_text.specs.Traces.{tasks_in, to_the_end}
 use Rattle.script_stepper.proofs.running.run_turns.Given as goal
 
 abbrev pub invariant-loop-index : goal.invariant-loop-index

@@ -6,7 +6,7 @@ use Rattle.script_stepper.proofs.stepping.answer.Goals as goal
 
 pub run-requires : goal.run-requires
 run-requires c =
-    items_named c.threads.result (length c.in_ok-script.script) c.args.turns.now c.in_ok-turns.turns.items c.as_slice.result.now
+    items_named c.threads.result (length c.in_ok-script.script.threads) c.args.turns.now c.in_ok-turns.turns.items c.as_slice.result.now
     c.threads.ensures.number c.as_slice.ensures.value c.in_ok-turns.ensures
 
 pub returns : goal.returns

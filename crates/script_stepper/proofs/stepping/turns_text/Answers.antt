@@ -1,7 +1,7 @@
 use Rattle.std.proofs.Common.{sym, ◌∙◌}
 use Rattle.std.specs.Prelude.{string_bytes}
 use Rattle.step_core.specs.Worlds.{scene}
-use Rattle.script_stepper.specs.Traces.{schedule}
+use Rattle.script_text.specs.Traces.{schedule}
 use Rattle.script_stepper.proofs.Overs.{at_end}
 use Rattle.script_stepper.proofs.StepLemmas.{same_blocks, shown_text}
 use Rattle.script_stepper.proofs.stepping.turns_text.Goals as goal

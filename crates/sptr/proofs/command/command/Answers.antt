@@ -2,7 +2,7 @@ use Rattle.std.proofs.Common.{◌≡◌, ◌∙◌, ap, ap₂, codes, true}
 use Rattle.std.proofs.lemmas.Result.{IfOk-weaker}
 use Rattle.clap.specs.Words.{App, app_of, new_app, with_subcommand}
 use Rattle.clap.specs.Simple.{app_of_fields, on_top}
-use Rattle.sptr.specs.CommandLine.{check_line, program, step_line}
+use Rattle.sptr.specs.CommandLine.{check_line, convert_line, program, step_line}
 use Rattle.sptr.proofs.command.command.Goals as goal
 
 abbrev wanting : App → App
@@ -13,9 +13,12 @@ unfolding program
 returns c =
     let bare : app_of c.subcommand_required.result ≡ wanting (new_app (codes "sptr")) =
     ap app_of_fields c.subcommand_required.ensures ∙ ap wanting (ap app_of_fields c.about.ensures ∙ c.new.ensures.app) in
-    let one : app_of c.in_ok-subcommand.field-0 ≡ with_subcommand (wanting (new_app (codes "sptr"))) check_line =
+    let start = wanting (new_app (codes "sptr")) in
+    let one : app_of c.in_ok-subcommand.field-0 ≡ with_subcommand start check_line =
     c.in_ok-subcommand.ensures.shape c.check_command.ensures.local ∙ ap₂ with_subcommand bare c.check_command.ensures.shape in
-    let two : app_of c.in_ok-subcommand-2.field-0 ≡ with_subcommand (with_subcommand (wanting (new_app (codes "sptr"))) check_line) step_line =
-    c.in_ok-subcommand-2.ensures.shape c.in_ok-step.ensures.local ∙ ap₂ with_subcommand one c.in_ok-step.ensures.shape in
-    IfOk-weaker c.subcommand-3.result _ _ (λ r h.
-    h.shape c.in_ok-fine.ensures.local ∙ ap₂ with_subcommand two c.in_ok-fine.ensures.shape) c.subcommand-3.ensures
+    let two : app_of c.in_ok-subcommand-2.field-0 ≡ with_subcommand (with_subcommand start check_line) convert_line =
+    c.in_ok-subcommand-2.ensures.shape c.convert_command.ensures.local ∙ ap₂ with_subcommand one c.convert_command.ensures.shape in
+    let three : app_of c.in_ok-subcommand-3.field-0 ≡ with_subcommand (with_subcommand (with_subcommand start check_line) convert_line) step_line =
+    c.in_ok-subcommand-3.ensures.shape c.in_ok-step.ensures.local ∙ ap₂ with_subcommand two c.in_ok-step.ensures.shape in
+    IfOk-weaker c.subcommand-4.result _ _ (λ r h.
+    h.shape c.in_ok-fine.ensures.local ∙ ap₂ with_subcommand three c.in_ok-fine.ensures.shape) c.subcommand-4.ensures

@@ -1,0 +1,47 @@
+//! Scripts carried over to version 2.
+
+ghost use Rattle.std.specs.Prelude.{◌≡◌, ℕ, List, map, IfOk, IsOkUnless};
+ghost use Rattle.control_word.specs.declared.refusal.Refusal.TheVariants.{Memory};
+ghost use Rattle.script_text.specs.Drafts.{section_of};
+ghost use Rattle.script_text.specs.Scripts.{converted};
+ghost use Rattle.script_text.specs.Beginnings.{script_scene};
+ghost use Rattle.script_text.specs.Traces.{outcome, trace};
+
+use crate::script::Script;
+use crate::thread::{Thread, copy_of};
+use crate::version::Version;
+use control_word::Refusal;
+use std::alloc::{AllocError, Global};
+
+fn copies_of(alloc: Global, threads: &[Thread]) -> Result<Vec<Thread>, AllocError>
+    ensures { IfOk result (λ copies. map section_of copies.items ≡ map section_of threads.now) }
+{
+    let mut copies = Vec::new(alloc);
+    for thread in threads {
+        let copy = copy_of(alloc, thread)?;
+        copies.push(copy)?;
+    }
+    Ok(copies)
+}
+
+/// The same script in version 2 (own): its blocks are those that it had, and its threads the same. Every list of turns
+/// makes of both the same run, said by said, and the same end.
+///
+/// Refused by 1 alone, where a growth is refused.
+pub fn convert(alloc: Global, script: &Script) -> Result<Script, Refusal>
+    ensures converted { IfOk result (λ s. s ≡ converted script.now) }
+    ensures trace { IfOk result (λ s. (turns : List ℕ) → trace turns (script_scene s) ≡ trace turns (script_scene script.now)) }
+    ensures outcome { IfOk result (λ s. (turns : List ℕ) → outcome turns (script_scene s) ≡ outcome turns (script_scene script.now)) }
+    ensures memory { IsOkUnless result Memory }
+{
+    let blocks = script.version.blocks();
+    let statements = script.statements;
+    match copies_of(alloc, script.threads.as_slice()) {
+        Ok(threads) => Ok(Script {
+            version: Version::Two { blocks },
+            threads,
+            statements,
+        }),
+        Err(_) => Err(Refusal::Memory),
+    }
+}
