@@ -4,6 +4,7 @@ pub mod Answering
 pub mod ClosingLemmas
 pub mod EndLemmas
 pub mod Exact
+pub mod Following
 pub mod LineLemmas
 pub mod OneTurn
 pub mod Overs

@@ -52,7 +52,7 @@ waits_at c d (Some t) lt h =
     let here : walk_of (play_from exact c d (walk_of c d) (Some t)) d ≡ put w x = get_or-set_same c.walks d (put w x) nowhere lt in
     subst Waits (sym here) (record { some = omega (arith, size, more, some); endings = rested_waits z d after w (omega (arith, size, some)) })
 
-play_waits : (c : Scene) (d e : ℕ) → d < length c.walks → e < length c.walks → ((i : ℕ) → i < length c.walks → Waits (walk_of c i))
+pub play_waits : (c : Scene) (d e : ℕ) → d < length c.walks → e < length c.walks → ((i : ℕ) → i < length c.walks → Waits (walk_of c i))
     → Waits (walk_of (play d c) e)
 play_waits c d e here lt h =
     elim (cases_eq e d) [

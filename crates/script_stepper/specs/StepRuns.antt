@@ -1,33 +1,25 @@
 -- Runs by single steps, and what they show. All of it is own.
-use Rattle.std.specs.Prelude.{◌≡◌, ℕ, ◌++◌, List, Option, Some, None}
+use Rattle.std.specs.Prelude.{◌≡◌, ℕ, ◌++◌, List}
 use Rattle.std.specs.List.{flat_map}
 use Rattle.script_text.specs.Grammar.{ended}
-use Rattle.step_threads.specs.declared.said.Said.{Said}
-use Rattle.step_threads.specs.declared.said.Stepped.{Stepped}
-use Rattle.step_threads.specs.declared.said.Stepped.TheVariants.{Event, Quiet, Waited, Done}
 use Rattle.step_core.specs.declared.trace.TraceStep.{TraceStep}
+use Rattle.step_core.specs.Following.{Follows, said_by}
 use Rattle.step_core.specs.Runs.{IsRun, IsScheduled}
 use Rattle.step_core.specs.Totals.{IsAtEnd}
 use Rattle.step_core.specs.Worlds.{Sight, scene}
 use Rattle.script_stepper.specs.Lines.{closing_lines, item_lines}
 use Rattle.script_text.specs.Traces.{heard}
 
--- what a step said; one that waited, or of a thread at its end, said nothing
-abbrev pub said_by : Stepped → Option Said
-said_by (Event x) = Some x
-said_by (Quiet x) = Some x
-said_by Waited = None
-said_by Done = None
-
 -- the lines of a step
 abbrev pub step_lines : TraceStep → List (List ℕ)
 step_lines x = flat_map item_lines (heard x.actor (said_by x.stepped))
 
 -- these are the steps of a run with these turns, from u to u': a step for each number, and then each thread alone to
--- its end, in number order
+-- its end, in number order. What they do and say is what the threads' statements ask for, act by act
 pub record IsStepRun (turns : List ℕ) (u : Sight) (steps : List TraceStep) (u' : Sight) : Type 0 where
   pub run : IsRun u steps u'
   pub scheduled : IsScheduled turns u steps u'
+  pub follows : Follows u steps u'
   pub over : IsAtEnd u'
 
 -- all lines of a run by single steps: those of its steps, and then the census and the totals of where it ends

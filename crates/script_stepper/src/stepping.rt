@@ -8,7 +8,8 @@ ghost use Rattle.script_text.specs.Grammar.{Faulty, IsUnlessMemory, Reads, ended
 ghost use Rattle.script_text.specs.Scripts.{program_in};
 ghost use Rattle.step_core.specs.Worlds.{scene};
 ghost use Rattle.step_core.specs.Starts.{first_sight};
-ghost use Rattle.script_text.specs.Beginnings.{script_shape, shape_for};
+ghost use Rattle.script_text.specs.Beginnings.{script_scene, script_shape, shape_for};
+ghost use Rattle.script_stepper.specs.Followed.{TurnsFollow};
 ghost use Rattle.script_stepper.specs.Lines.{shown};
 ghost use Rattle.script_stepper.specs.Running.{AllRest, IsNew, IsThread};
 ghost use Rattle.script_stepper.specs.Runs.{Delivers, IsFineText, IsRunText, IsShown, IsTextBy, Tells};
@@ -190,6 +191,10 @@ pub fn step_text<S: Sink>(
     ensures runs { (read : ScriptView) (listed : List ℕ) → Reads script.now read
         → list_at (length read.threads) turns.now ≡ Ok listed
         → Writes (run_text read listed) result (S.taken writer.old) (S.taken writer.new) }
+
+    // What this text tells is what the threads' statements and their ends ask for, act by act.
+    ensures acts { (read : ScriptView) (listed : List ℕ) → Reads script.now read
+        → list_at (length read.threads) turns.now ≡ Ok listed → TurnsFollow listed (script_scene read) }
 {
     deliver(alloc, script, turns, Pace::Turns, writer)
 }

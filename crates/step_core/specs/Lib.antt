@@ -1,5 +1,6 @@
 pub mod Bounds
 pub mod Chains
+pub mod Following
 pub mod Headline
 pub mod Runs
 pub mod Sights

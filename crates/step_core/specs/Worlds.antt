@@ -16,6 +16,7 @@ use Rattle.step_threads.specs.Scenes.{Scene, next, play_with, rested, said_with,
 use Rattle.step_threads.specs.Steps.{Step, answered, half_by, step_at, story_by, walk_by}
 use Rattle.step_table.specs.Stories.{Kept, Story}
 use Rattle.step_threads.specs.Threads.{Fits}
+use Rattle.step_core.specs.Following.{Performs}
 use Rattle.step_core.specs.Sights.{Takes}
 
 abbrev pub thread_walk : Thread → Walk
@@ -48,11 +49,12 @@ answer_at d u = answered u.story d (half_of u d) (walk_of (scene u) d)
 abbrev pub Steps : ℕ → Sight → Stepped → Sight → Type 0
 Steps d u r u' = (r ≡ answer_at d u) × (u' ≡ sight_by d u (step_of d u))
 
--- thread d made its next step, with this answer: it is the table's, and such as any step is, and the words stand for
--- the history
+-- thread d made its next step, with this answer: it is the table's, and such as any step is; it is the thread's next
+-- act, or on the way of it; and the words stand for the history
 pub record Advances (d : ℕ) (u : Sight) (r : Stepped) (u' : Sight) : Type 0 where
   pub steps : Steps d u r u'
   pub takes : Takes d u r u'
+  pub performs : Performs d u r u'
   pub kept : Kept u'.story
 
 -- thread d made these steps, one after another

@@ -2,6 +2,7 @@
 ghost use Rattle.std.specs.Prelude.{◌≡◌, ◌≢◌, ◌+◌, ◌-◌, ◌*◌, ◌<◌, ◌≤◌, ◌∷◌, ◌++◌, ℕ, [], All, IfErr, IfOk, MatchOption, length, map, slice_get, sum_by, vec_capacity, vec_len};
 ghost use Rattle.step_core.specs.Bounds.{most_steps, steps_of, task_steps, weight};
 ghost use Rattle.step_core.specs.Chains.{Through};
+ghost use Rattle.step_core.specs.Following.{Follows};
 ghost use Rattle.step_core.specs.Headline.{AfterEach, AllAtRest, OfEach};
 ghost use Rattle.step_core.specs.Runs.{Adds, FinishesCall, IsFirstBad, IsRefusedFor, IsRun, IsScheduled, Moves, Names, RunInOrder, RunsToEnd, SettleInOrder, Settles, compares_next, is_calling, is_compare, is_out, is_owing};
 ghost use Rattle.step_table.specs.Stories.{Kept};
@@ -37,6 +38,7 @@ impl World {
         ensures moves { IfOk result (λ t. All Moves t.steps.items) }
         ensures headline { IfOk result (λ t. Through AfterEach
             (λ u x u'. OfEach u x u' × Advances (x.actor - 1) u x.stepped u') self.old t.steps.items self.new) }
+        ensures follows { IfOk result (λ t. Follows self.old t.steps.items self.new) }
         ensures end { IfOk result (λ t. IsAtEnd self.new) }
         ensures rest { IfOk result (λ t. AllAtRest self.new) }
         ensures kept { Kept self.new.story }

@@ -1,6 +1,7 @@
 //! The machine: a table and the threads over it.
 ghost use Rattle.std.specs.Prelude.{◌≡◌, ◌≢◌, ◌<◌, ◌≤◌, ◌-◌, length, true, false};
 ghost use Rattle.step_core.specs.Sights.{AllHold, IsAsLarge, Takes, half_of, is_event};
+ghost use Rattle.step_core.specs.Following.{Performs};
 ghost use Rattle.step_table.specs.Stories.{Kept};
 ghost use Rattle.step_core.specs.Turning.{HasBegun, Plays, Rests, has_rest, is_acting, is_clearing, is_ending, is_refilling, is_returning, turned_by};
 ghost use Rattle.step_core.specs.Worlds.{Advances, GoesTo, Steps, Turns};
@@ -39,7 +40,8 @@ impl Model for World {
 impl World {
     /// One step of an actor: one atomic step on one word, or one act that touches none. It answers `Event` just where the
     /// step is an event, which is then one more in the history, with what that says; no other step changes the history. It
-    /// answers `Done` just at the actor's end, and then nothing changes. After it what each actor's slots hold is just what the
+    /// answers `Done` just at the actor's end, and then nothing changes. The step is the actor's next act, or on the way of it: by what the
+    /// act was replied follows what the actor has then, says, and does next. After it what each actor's slots hold is just what the
     /// history says. It would answer `Waited` just where all 256 funds of
     /// a cell's value were taken, which so few actors never leave: each that finds half of them taken puts them back. Condition: the
     /// actor is one of the world's, from 1 (own).
@@ -48,6 +50,7 @@ impl World {
         requires within { actor ≤ length self.old.walks }
         ensures steps { Steps (actor - 1) self.old result self.new }
         ensures takes { Takes (actor - 1) self.old result self.new }
+        ensures performs { Performs (actor - 1) self.old result self.new }
         ensures never { result ≢ Stepped.Waited }
         ensures kept { Kept self.new.story }
         ensures actors { length self.new.walks ≡ length self.old.walks }

@@ -1,9 +1,11 @@
 pub mod Actors
 pub mod Acts
 pub mod Courses
+pub mod Doings
 pub mod Endings
 pub mod Entries
 pub mod Programs
+pub mod Rows
 pub mod Scenes
 pub mod Steps
 pub mod Stocks

@@ -7,13 +7,11 @@ use Rattle.control_word.specs.declared.event.Event.{Event}
 use Rattle.control_word.specs.declared.event.Event.TheVariants as event
 use Rattle.control_word.specs.declared.handle.Handle.{Handle}
 use Rattle.control_word.specs.Histories.{entry}
-use Rattle.step_threads.specs.declared.act.Act.TheVariants.{Lock}
 use Rattle.step_table.specs.declared.past.Deed.{Deed}
 use Rattle.step_table.specs.declared.past.Deed.TheVariants as deed
 use Rattle.step_threads.specs.declared.said.Stepped.{Stepped}
 use Rattle.step_threads.specs.declared.said.Stepped.TheVariants as stepped
 use Rattle.step_core.specs.declared.trace.TraceStep.{TraceStep}
-use Rattle.step_table.specs.Deeds.{lock}
 use Rattle.step_core.specs.Headline.{LocksNext, TellsLocks, Was, answer_by, statement_by}
 use Rattle.step_threads.specs.Scenes.{lock_answer, walk_of}
 use Rattle.step_threads.specs.Steps.{Step, is_event}

@@ -1,5 +1,5 @@
 -- What any step does to a world.
-use Rattle.std.proofs.Common.{◌≡◌, ℕ, ◌<◌, ◌≤◌, Bool, true, false, cond, List, [], ◌∷◌, length, get_or, map, refl, sym, ap, subst, ◌∙◌, ⊎_elim, inl, inr, arith}
+use Rattle.std.proofs.Common.{◌≡◌, ◌≢◌, ℕ, ◌<◌, ◌≤◌, Bool, true, false, cond, List, [], ◌∷◌, length, get_or, map, refl, sym, ap, subst, ◌∙◌, ⊎_elim, inl, inr, arith}
 use Rattle.std.proofs.Common.{get_or-set_other}
 use Rattle.std.specs.Prelude.{Option, Some, None, is_some, slice_get}
 use Rattle.std.proofs.lemmas.Bool.{false≢true}
@@ -26,6 +26,7 @@ use Rattle.step_core.specs.Sights.{AllHold, Sight, Takes, half_of, is_event, sce
 use Rattle.step_core.specs.Turning.{HasBegun}
 use Rattle.step_core.specs.Worlds.{Advances, AllFit, Steps, step_of, thread_walk}
 use Rattle.step_core.proofs.Worlds.{sight}
+use Rattle.step_core.proofs.following.Steps.{performs}
 use Rattle.step_core.proofs.runs.Extents.{extent_step}
 use Rattle.step_core.proofs.runs.Measures.{at_end}
 use Rattle.step_core.proofs.runs.Waiting.{IsTold, told_at}
@@ -90,10 +91,10 @@ all_hold v threads all d lt =
     (let le = q.0 in let m = length-map threads thread_walk in omega (arith, le, m, lt)))
     (slice_get_cases threads d).1
 
-pub advances : (d : ℕ) (u u' : Sight) (r : Stepped) → HasBegun d u → Steps d u r u' → length u'.walks ≡ length u.walks
+pub advances : (d : ℕ) (u u' : Sight) (r : Stepped) → HasBegun d u → Steps d u r u' → r ≢ Waited → length u'.walks ≡ length u.walks
     → Kept u'.story → AllHold u'
     → Advances d u r u'
-advances d u u' r begun steps actors kept hands =
+advances d u u' r begun steps never actors kept hands =
     let x = step_of d u in
     let one = by_answer d u r u' (told_at d u r u' steps) in
     let t : Takes d u r u' = record {
@@ -113,4 +114,4 @@ advances d u u' r begun steps actors kept hands =
       extent = extent_step d u u' r steps;
       hands = hands;
     } in
-    record { steps = steps; takes = t; kept = kept }
+    record { steps = steps; takes = t; performs = performs d u u' r begun steps never; kept = kept }

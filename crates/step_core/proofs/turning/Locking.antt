@@ -39,7 +39,7 @@ module _ (d : ℕ) (u : Sight) (k : ℕ) (ts : List Task) (a : Act) (y : Pointer
       let p = cond_both (n == 0) Rest (Locking n)
       (λ (q : Half). (is_on w.slots a q ≡ true) × (left_on u.story w.slots a q < left_on u.story w.slots a h))
       (λ e. (looking, much)) (λ e. (refl, omega (arith, much, now))) in
-      inr (record { quiet = refl; walk = refl; history = refl; extent = refl; half = p.0; less = p.1 })
+      inr (record { quiet = refl; said = refl; walk = refl; history = refl; extent = refl; half = p.0; less = p.1 })
 
   -- a try with this word
   pub tries_out : (word : ℕ) → Outcome d u k ts a (Locking word) (tries u.story d (walk_of (scene u) d) k ts a word y)
@@ -75,7 +75,7 @@ module _ (d : ℕ) (u : Sight) (k : ℕ) (ts : List Task) (a : Act) (y : Pointer
           let p = cond_both (n == 0) Rest (Locking n)
           (λ (q : Half). (is_on w.slots a q ≡ true) × (left_on u.story w.slots a q < 4))
           (λ e. absurd (false≢true (sym f ∙ e))) (λ e. (refl, omega (arith, now))) in
-          inr (record { quiet = refl; walk = refl; history = refl; extent = refl; half = p.0; less = p.1 })
+          inr (record { quiet = refl; said = refl; walk = refl; history = refl; extent = refl; half = p.0; less = p.1 })
 
 pub lock_rest : (d : ℕ) (u : Sight) (k : ℕ) (ts : List Task) (i : ℕ) (must : Bool) (o : Option Pointer)
     → locked (walk_of (scene u) d).slots (Lock i must) ≡ o → is_looking (walk_of (scene u) d).slots (Lock i must) ≡ true

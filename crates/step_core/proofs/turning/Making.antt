@@ -41,13 +41,13 @@ claims_so d u k ts b a is low =
 prepared : (d : ℕ) (u : Sight) (k : ℕ) (a : Act) (b : Block) (i f n : ℕ) (g : Bool) → i < 5
     → let w = walk_of (scene u) d in Tried d u.story w a (Making b i g) (prepares f n w k b i g)
 prepared d u k a b i f n true lt =
-    record { quiet = refl; walk = refl; history = refl; extent = refl; half = refl; less = omega (arith, lt) }
+    record { quiet = refl; said = refl; walk = refl; history = refl; extent = refl; half = refl; less = omega (arith, lt) }
 prepared d u k a b i f n false lt =
     let slots = (walk_of (scene u) d).slots in
     let p = cond_both (f == n) (Making b (i + 1) false) (Making b i true)
     (λ (h : Half). (is_on slots a h ≡ true) × (left_on u.story slots a h < left_on u.story slots a (Making b i false)))
     (λ t. (refl, omega (arith, lt))) (λ t. (refl, omega (arith, lt))) in
-    record { quiet = refl; walk = refl; history = refl; extent = refl; half = p.0; less = p.1 }
+    record { quiet = refl; said = refl; walk = refl; history = refl; extent = refl; half = p.0; less = p.1 }
 
 pub making_out : (d : ℕ) (u : Sight) (b : Block) (i : ℕ) (g : Bool) (t : Task) (ts : List Task)
     → IsUnderWay d u.story (Making b i g) (t ∷ ts)

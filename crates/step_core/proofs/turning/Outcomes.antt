@@ -77,7 +77,7 @@ module _ (d : ℕ) (u : Sight) (k : ℕ) (ts : List Task) (c : CellName) where
         let n : left_on v w.slots a (Saw (seen v x)) ≡ 3 = ap (λ (b : Bool). cond b 3 7) shows in
         cond_both (same_value (seen v x) (as_word (value w.slots i))) (within w k None (Saw (seen v x))) (sees v d w k ts a x (Some q) (seen v x))
         (Outcome d u k ts a Rest)
-        (λ t. inr (record { quiet = refl; walk = refl; history = refl; extent = refl; half = refl; less = omega (arith, n) }))
+        (λ t. inr (record { quiet = refl; said = refl; walk = refl; history = refl; extent = refl; half = refl; less = omega (arith, n) }))
         (λ f. sees_out d u k ts a x (seen v x) refl (Some q) (sym (ap (λ (b : Bool). not b && is_spent (seen v x)) f) ∙ none) shows
         (unlike_so d u k ts i c weak can f))
 
@@ -122,6 +122,7 @@ module _ (d : ℕ) (u : Sight) (k : ℕ) (ts : List Task) (c : CellName) where
         let same = brought_word d v y p.kind p.block p.place 256 (cell_now d u c (Compare i c weak) can can.cell (may_compare d u i c weak can).there) b.0 b.1 in
         record {
           quiet = refl;
+          said = refl;
           walk = refl;
           history = refl;
           extent = refl;

@@ -42,7 +42,7 @@ plays_none d u r none todo rest is answer lt =
       halves = halves_after d u None lt;
     }) answer
 
-begun_step : (d : ℕ) (u : Sight) (ts : List Task) → half_of u d ≡ Rest → (walk_of (scene u) d).endings ≡ [] → (walk_of (scene u) d).todo ≡ ts
+pub begun_step : (d : ℕ) (u : Sight) (ts : List Task) → half_of u d ≡ Rest → (walk_of (scene u) d).endings ≡ [] → (walk_of (scene u) d).todo ≡ ts
     → step_of d u ≡ begun u.story d (walk_of (scene u) d) ts
 begun_step d u ts rest none todo =
     let w = walk_of (scene u) d in
@@ -103,7 +103,7 @@ over_returned (Returning kind b funds k) m = refl
 over_returned Clearing m = refl
 
 -- what came out of a member is in hand, and leaves
-carried_step : (d : ℕ) (u : Sight) (e : Ending) (es : List Ending) → half_of u d ≡ Rest → (walk_of (scene u) d).endings ≡ e ∷ es
+pub carried_step : (d : ℕ) (u : Sight) (e : Ending) (es : List Ending) → half_of u d ≡ Rest → (walk_of (scene u) d).endings ≡ e ∷ es
     → let w = walk_of (scene u) d in is_full (slot w.slots (hand w.slots)) ≡ true
     → step_of d u ≡ Some (first u.story d w e.statement w.todo (Leave (hand w.slots)))
 carried_step d u e es rest is full =

@@ -56,7 +56,7 @@ within_none (Refill stage cell wd line) e es alone n m c = absurd (false≢true 
 within_none (Returning kind b funds k) e es alone n m c = absurd (false≢true (sym n))
 within_none Clearing e es alone n m c = absurd (false≢true (sym c))
 
-first_ends : (d : ℕ) (v : Story) (e : Ending) (es : List Ending) → EndsAll d (e ∷ es) v → IsEnding d e v
+pub first_ends : (d : ℕ) (v : Story) (e : Ending) (es : List Ending) → EndsAll d (e ∷ es) v → IsEnding d e v
 first_ends d v e es ends = All-head (λ (x : Ending). IsEnding d x v) e es ends.each
 
 abbrev Onward : ℕ → Sight → Sight → Type 0

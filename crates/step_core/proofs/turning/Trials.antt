@@ -24,7 +24,7 @@ use Rattle.step_threads.specs.declared.half.Half.TheVariants.{Rest, Making, Lock
 use Rattle.step_table.specs.Deeds.{on, owner_word}
 use Rattle.step_threads.specs.Courses.{Walk, hand, is_there, locked}
 use Rattle.step_threads.specs.Scenes.{walk_of}
-use Rattle.step_threads.specs.Steps.{Step, acts, gives_back, is_event as is_done, matches, missed, sees, story_after, takes, within}
+use Rattle.step_threads.specs.Steps.{Step, acts, gives_back, is_event as is_done, matches, missed, sees, silent, story_after, takes, within}
 use Rattle.step_core.specs.Bounds.{shows_on}
 use Rattle.step_core.specs.Turning.{is_acting}
 use Rattle.step_core.specs.Worlds.{Sight, scene}
@@ -63,6 +63,7 @@ is_on slots a _ = true
 -- a step on the way, which is no event
 pub record Tried (d : ℕ) (v : Story) (w : Walk) (a : Act) (h : Half) (x : Step) : Type 0 where
   pub quiet : is_done v x.deed ≡ false
+  pub said : x.said ≡ silent x.said.statement
   pub walk : x.walk ≡ w
   pub history : (story_after v d x.deed).history ≡ v.history
   pub extent : (story_after v d x.deed).extent ≡ v.extent
@@ -100,7 +101,7 @@ module _ (d : ℕ) (u : Sight) (k : ℕ) (ts : List Task) (a : Act) (c : Cell) (
       saw_now : Tried d u.story (walk_of (scene u) d) a Rest (within (walk_of (scene u) d) k None (Saw x))
       saw_now =
           let n : left_on u.story (walk_of (scene u) d).slots a (Saw x) ≡ 3 = ap (λ (b : Bool). cond b 3 7) shows in
-          record { quiet = refl; walk = refl; history = refl; extent = refl; half = refl; less = omega (arith, n) }
+          record { quiet = refl; said = refl; walk = refl; history = refl; extent = refl; half = refl; less = omega (arith, n) }
 
   -- a fund is taken, or the act begins again
   pub takes_out : (y : Option Compared)
@@ -118,6 +119,7 @@ module _ (d : ℕ) (u : Sight) (k : ℕ) (ts : List Task) (a : Act) (c : Cell) (
       (λ f. let n : left_on v w.slots a (Saw x) ≡ 7 = ap (λ (b : Bool). cond b 3 7) (shows ∙ f) in
       inr (record {
         quiet = refl;
+        said = refl;
         walk = refl;
         history = refl;
         extent = refl;
@@ -152,6 +154,7 @@ module _ (d : ℕ) (u : Sight) (k : ℕ) (ts : List Task) (a : Act) (c : Cell) (
       let n = much f in
       inr (record {
         quiet = refl;
+        said = refl;
         walk = refl;
         history = refl;
         extent = refl;

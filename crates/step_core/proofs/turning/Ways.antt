@@ -99,7 +99,7 @@ module _ (d : ℕ) (u : Sight) where
       trial_by (Returning kind b f k) t ts (Some (returns w kind b f k)) e none todo refl (
         returns w kind b f k,
         refl,
-        inr (record { quiet = refl; walk = refl; history = refl; extent = refl; half = looks; less = omega arith }),
+        inr (record { quiet = refl; said = refl; walk = refl; history = refl; extent = refl; half = looks; less = omega arith }),
         λ i q. false≢true (sym (ap (is_looking w.slots) q) ∙ looks),
       )
 

@@ -1,5 +1,6 @@
 use Rattle.script_stepper.specs.Runs.{IsRunText}
 use Rattle.script_stepper.proofs.Answering.{steps_syntax, steps_turns, steps_runs, writes_run}
+use Rattle.script_stepper.proofs.Following.{turns_follow}
 use Rattle.script_stepper.proofs.stepping.step_text.Goals as goal
 
 pub returns-clause-syntax : goal.returns-clause-syntax
@@ -14,3 +15,6 @@ pub returns-clause-runs : goal.returns-clause-runs
 returns-clause-runs g c =
     λ threads listed h l. writes_run c.deliver.result _ _ threads listed
     (steps_runs IsRunText c.args.script.now c.args.turns.now c.deliver.result _ _ threads listed c.deliver.ensures.holds h l)
+
+pub returns-clause-acts : goal.returns-clause-acts
+returns-clause-acts g c = λ threads listed h l. turns_follow threads listed

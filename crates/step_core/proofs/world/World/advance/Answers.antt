@@ -1,5 +1,6 @@
-use Rattle.std.proofs.Common.{◌≡◌, ◌<◌, length, set, ap, subst, arith}
+use Rattle.std.proofs.Common.{◌≡◌, ◌≢◌, ◌<◌, length, set, ap, subst, arith}
 use Rattle.std.proofs.lemmas.List.{length-map, length-set}
+use Rattle.step_threads.specs.declared.said.Stepped.TheVariants.{Waited}
 use Rattle.step_core.specs.Sights.{Sight}
 use Rattle.step_core.specs.Turning.{HasBegun}
 use Rattle.step_core.specs.Worlds.{Advances, AllFit, Steps, thread_walk}
@@ -82,16 +83,19 @@ module _ (c : goal.After-self-3-1) where
       let k = length-set c.self.inside.threads.items c.args.number c.step-stepped.new.self in
       omega (arith, m, n, k)
 
+  never : c.step-stepped.result ≢ Waited
+  never =
+      never_now c.self.inside.table c.step-stepped.new.table c.self.inside.threads.items c.args.number
+      c.index_mut-thread.result.now c.step-stepped.new.self
+      c.step-stepped.result c.self.inside.made c.self.inside.ended c.known.ensures begun within
+      c.index_mut-thread.ensures.value
+      c.step-stepped.ensures.stepped c.self.invariant.1
+
 pub returns-clause-was : goal.returns-clause-was
 returns-clause-was c = subst (λ (u : Sight). HasBegun c.args.number u) c.self.view_is (begun c)
 
 pub returns-clause-never : goal.returns-clause-never
-returns-clause-never c =
-    never_now c.self.inside.table c.step-stepped.new.table c.self.inside.threads.items c.args.number
-    c.index_mut-thread.result.now c.step-stepped.new.self
-    c.step-stepped.result c.self.inside.made c.self.inside.ended c.known.ensures (begun c) (within c)
-    c.index_mut-thread.ensures.value
-    c.step-stepped.ensures.stepped c.self.invariant.1
+returns-clause-never c = never c
 
 pub returns-clause-steps : goal.returns-clause-steps
 returns-clause-steps c =
@@ -106,7 +110,7 @@ returns-clause-advances c =
     c.self.view_is
     (advances c.args.number (sight c.self.inside.table c.self.inside.threads.items)
     (sight c.step-stepped.new.table threads) c.step-stepped.result
-    (begun c) (went c) (as_many c) c.known-2.ensures (all_hold c.step-stepped.new.table threads (all c)))
+    (begun c) (went c) (never c) (as_many c) c.known-2.ensures (all_hold c.step-stepped.new.table threads (all c)))
 
 pub returns-clause-actors : goal.returns-clause-actors
 returns-clause-actors c =

@@ -1,6 +1,7 @@
 use Rattle.std.proofs.Common.{ℕ, List, ◌++◌, length, ap, subst, sym, ◌∙◌, arith}
 use Rattle.step_core.specs.declared.trace.TraceStep.{TraceStep}
 use Rattle.step_core.specs.Sights.{AllHold, Sight}
+use Rattle.step_core.proofs.following.Chains.{follows}
 use Rattle.step_core.proofs.runs.Calls.{settled_run}
 use Rattle.step_core.proofs.runs.Calming.{AllCalm, all_calm, none_pays}
 use Rattle.step_core.proofs.runs.Chains.{moves_on, whole}
@@ -102,3 +103,7 @@ returns-clause-rest c = λ b inside.
 
 pub returns-clause-end : goal.returns-clause-end
 returns-clause-end c = ends c
+
+-- what the threads do is what their statements ask for
+pub returns-clause-follows : goal.returns-clause-follows
+returns-clause-follows c = follows c.args.self.now c.finish.new.self c.finish.new.steps.items (all c)

@@ -1,0 +1,295 @@
+-- Turns follow the statements of all threads.
+use Rattle.std.proofs.Common.{◌≡◌, ℕ, zero, suc, ◌+◌, ◌-◌, ◌<◌, ◌==◌, Bool, true, false, cond, List, [], ◌∷◌, ◌++◌, length, get_or, set, refl, sym, ap, subst, ◌∙◌, inl, inr, arith}
+use Rattle.std.proofs.Common.{append_assoc, get_or-set_same, get_or-set_other}
+use Rattle.std.specs.Prelude.{◌⊎◌, Option, Some, None}
+use Rattle.std.specs.List.{flat_map}
+use Rattle.std.proofs.lemmas.Bool.{cases_eq, cases_lt, cond-false, cond-true, cond_both}
+use Rattle.std.proofs.lemmas.Grind.{flat_map-append}
+use Rattle.std.proofs.lemmas.List.{append-nil, get_or_past, set-get_or}
+use Rattle.std.proofs.lemmas.Option.{same_Some}
+use Rattle.control_word.specs.declared.event.Event.{Event}
+use Rattle.control_word.specs.declared.event.Event.TheVariants as event
+use Rattle.control_word.specs.Handles.{has_object}
+use Rattle.control_word.specs.Histories.{entry, leads}
+use Rattle.control_word.specs.State.{Opening, weak}
+use Rattle.step_table.specs.declared.slot.Slot.{Slot}
+use Rattle.step_table.specs.Contents.{slot_of}
+use Rattle.step_table.specs.Deeds.{exact}
+use Rattle.step_table.specs.Holdings.{Slots, is_full, slot}
+use Rattle.step_table.specs.Openings.{opening}
+use Rattle.step_table.specs.Stories.{Nothing}
+use Rattle.step_threads.specs.declared.act.Act.TheVariants.{Leave}
+use Rattle.step_threads.specs.declared.act.Task.{Task}
+use Rattle.step_threads.specs.declared.ending.Ending.{Ending}
+use Rattle.step_threads.specs.declared.said.Said.{Said}
+use Rattle.step_threads.specs.Courses.{Walk, hand}
+use Rattle.step_threads.specs.Doings.{Ahead, AnAct, AnEnd, Does, DoesAhead, Doing, Goes, ahead, ahead_of, lines, onto, put_on, spoken}
+use Rattle.step_threads.specs.Endings.{staged}
+use Rattle.step_threads.specs.Entries.{History, acted}
+use Rattle.step_threads.specs.Scenes.{Scene, Stop, Wound, clears, goes_on, next, next_of, nowhere, play, play_from, rest_of, rested_walk, said, said_from, said_of, state_in, stops, unwound, walk_of, went}
+use Rattle.step_threads.specs.Steps.{silent}
+use Rattle.step_core.specs.Following.{no_worth}
+use Rattle.step_core.proofs.following.Replies.{replied}
+use Rattle.script_text.specs.Drafts.{Section}
+use Rattle.script_text.specs.Scripts.{program_in}
+use Rattle.script_stepper.specs.Beginnings.{script_scene, script_shape, script_sight}
+use Rattle.script_stepper.specs.Followed.{TurnsFollow, spoken_of}
+use Rattle.script_stepper.specs.Running.{Waits}
+use Rattle.script_stepper.specs.Traces.{heard, plays, schedule, told}
+use Rattle.script_stepper.proofs.LineLemmas.{flat_map-one}
+use Rattle.script_stepper.proofs.OneTurn.{play_waits}
+use Rattle.script_stepper.proofs.StepLemmas.{first_rests}
+use Rattle.script_stepper.proofs.TraceLemmas.{play_done, play_size, plays_extent, said_done}
+use Rattle.script_stepper.proofs.Unwinding.{still}
+
+-- how far threads have come from where they were: the history, where each is, and what they said
+pub record Far (z : Opening) (b : Scene) (h : History) (ws : List Walk) (out : List (ℕ × Said)) : Type 0 where
+  pub doings : List (Doing Nothing)
+  pub history : h ≡ onto b.history doings
+  pub each : (d : ℕ) → Goes no_worth z b.history d (walk_of b d) doings (get_or ws d nowhere)
+  pub says : lines doings ≡ out
+
+abbrev done_by : ℕ → Option (Event Nothing) → Said → Doing Nothing
+done_by d e x = record { desk = d; event = e; said = x }
+
+module _ (z : Opening) (b : Scene) (d : ℕ) (ws : List Walk) (lt : d < length ws) where
+  -- thread d is here, and the others where they were
+  abbrev At : History → Walk → List (ℕ × Said) → Type 0
+  At h u out = Far z b h (set ws d u) out
+
+  -- one more doing
+  more : (h : History) (u u' : Walk) (out : List (ℕ × Said)) (e : Option (Event Nothing)) (x : Said) → At h u out
+      → Does no_worth (leads z h) u (done_by d e x) u' → At (put_on d e h) u' (out ++ spoken d x)
+  more h u u' out e x f does =
+      let y = done_by d e x in
+      let was = get_or-set_same ws d u nowhere lt in
+      let is = get_or-set_same ws d u' nowhere lt in
+      let own : Does no_worth (leads z (onto b.history f.doings)) (get_or (set ws d u) d nowhere) y (get_or (set ws d u') d nowhere) =
+      subst (λ (q : History). Does no_worth (leads z q) (get_or (set ws d u) d nowhere) y (get_or (set ws d u') d nowhere)) f.history
+      (subst (λ (w : Walk). Does no_worth (leads z h) w y (get_or (set ws d u') d nowhere)) (sym was)
+      (subst (λ (w : Walk). Does no_worth (leads z h) u y w) (sym is) does)) in
+      let mine : Goes no_worth z b.history d (walk_of b d) (y ∷ f.doings) (get_or (set ws d u') d nowhere) =
+      inr (refl, (get_or (set ws d u) d nowhere, f.each d, own)) in
+      record {
+        doings = y ∷ f.doings;
+        history = ap (put_on d e) f.history;
+        each = λ k. elim (cases_eq k d) [
+          | inl same ↦ subst (λ (i : ℕ). Goes no_worth z b.history i (walk_of b i) (y ∷ f.doings) (get_or (set ws d u') i nowhere)) (sym same) mine
+          | inr ne ↦ inl (
+            λ q. ne (sym q),
+            subst (λ (w : Walk). Goes no_worth z b.history k (walk_of b k) f.doings w)
+                (get_or-set_other ws d k u nowhere ne ∙ sym (get_or-set_other ws d k u' nowhere ne)) (f.each k),
+          )
+        ];
+        says = ap (λ (l : List (ℕ × Said)). l ++ spoken d x) f.says;
+      }
+
+  -- one that says nothing
+  quietly : (h : History) (u u' : Walk) (out : List (ℕ × Said)) (e : Option (Event Nothing)) (k : ℕ) → At h u out
+      → Does no_worth (leads z h) u (done_by d e (silent k)) u' → At (put_on d e h) u' out
+  quietly h u u' out e k f does =
+      subst (λ (l : List (ℕ × Said)). At (put_on d e h) u' l) (append-nil out) (more h u u' out e (silent k) f does)
+
+  module _ (taken : Bool) (todo : List Task) (slots : Slots) (out : List (ℕ × Said))
+      (free : is_full (slot slots (hand slots)) ≡ false) where
+    abbrev here : Slots → List Ending → Walk
+    here l es = record { slots = l; taken = taken; endings = es; todo = todo }
+
+    abbrev Wounds : Wound → Type 0
+    Wounds x = At x.history (here x.slots x.endings) out
+
+    next_end : (e : Ending) (es : List Ending) → ahead (here slots (e ∷ es)) ≡ AnEnd e es
+    next_end e es = cond-false (is_full (slot slots (hand slots))) _ _ free
+
+    -- an object without a member left is finished
+    finished : (h : History) (e : Ending) (es : List Ending) (o : ℕ) → 3 - e.stage ≡ 0 → (leads z h).latest e.block.0 ≡ o
+        → At h (here slots (e ∷ es)) out → At (entry d (event.Finish o (weak (leads z h) o == 0) tt) ∷ h) (here slots es) out
+    finished h e es o none is at =
+        let v = weak (leads z h) o == 0 in
+        let y = done_by d (Some (event.Finish o v tt)) (silent e.statement) in
+        quietly h (here slots (e ∷ es)) (here slots es) out (Some (event.Finish o v tt)) e.statement at
+        (subst (λ (a : Ahead). DoesAhead no_worth (leads z h) (here slots (e ∷ es)) y (here slots es) a) (sym (next_end e es))
+        (inr (record {
+          vacant = v;
+          value = tt;
+          none = omega (arith, none);
+          makes = ap (λ (n : ℕ). Some (event.Finish n v tt)) (sym is);
+          says = refl;
+          goes = refl;
+        })))
+
+    -- a member is cleared
+    cleared : (h : History) (e : Ending) (es : List Ending) (o k : ℕ) → 3 - e.stage ≡ suc k → (leads z h).latest e.block.0 ≡ o
+        → At h (here slots (e ∷ es)) out
+        → let s = leads z h in
+        let x = (s.object o).member (2 - k) in
+        At (clears z d o (2 - k) h) (here (cond (has_object x) (set slots (hand slots) (slot_of s x)) slots) (staged e ∷ es)) out
+    cleared h e es o k left is at =
+        let s = leads z h in
+        let x = (s.object o).member (2 - k) in
+        let u = here (cond (has_object x) (set slots (hand slots) (slot_of s x)) slots) (staged e ∷ es) in
+        let m : 2 - k ≡ e.stage = omega (arith, left) in
+        let y = done_by d (Some (event.ClearMember o (2 - k) x)) (silent e.statement) in
+        quietly h (here slots (e ∷ es)) u out (Some (event.ClearMember o (2 - k) x)) e.statement at
+        (subst (λ (a : Ahead). DoesAhead no_worth s (here slots (e ∷ es)) y u a) (sym (next_end e es))
+        (inl (record {
+          held = x;
+          some = omega (arith, left);
+          makes = ap (λ (n : ℕ). Some (event.ClearMember n (2 - k) x)) (sym is) ∙ ap (λ (n : ℕ). Some (event.ClearMember (s.latest e.block.0) n x)) m;
+          says = refl;
+          goes = refl;
+        })))
+
+    goes_same : (e : Ending) (es : List Ending) (h : History) (x : Wound) (o : Option (ℕ × Slot))
+        → goes_on (staged e) es h slots x o ≡ goes_on e es h slots x o
+    goes_same e es h x None = refl
+    goes_same e es h x (Some p) = refl
+
+    -- an object ends, as far as it does by itself
+    ended : (es : List Ending) → ((h : History) → At h (here slots es) out → Wounds (unwound z d slots es h))
+        → (k : ℕ) (e : Ending) (h : History) (o : ℕ) → 3 - e.stage ≡ k → (leads z h).latest e.block.0 ≡ o
+        → At h (here slots (e ∷ es)) out
+        → let c = stops z d o k h in Wounds (goes_on e es c.history slots (unwound z d slots es c.history) c.out)
+    ended es rest zero e h o left is at =
+        rest (entry d (event.Finish o (weak (leads z h) o == 0) tt) ∷ h) (finished h e es o left is at)
+    ended es rest (suc k) e h o left is at =
+        let s = leads z h in
+        let x = (s.object o).member (2 - k) in
+        let h' = clears z d o (2 - k) h in
+        let now = cleared h e es o k left is at in
+        cond_both (has_object x) (record { history = h'; out = Some (k, slot_of s x) }) (stops z d o k h')
+        (λ (c : Stop). Wounds (goes_on e es c.history slots (unwound z d slots es c.history) c.out))
+        (λ t. let n : e.stage + 1 ≡ 3 - k = omega (arith, left) in
+        subst (λ (i : ℕ). At h' (here (set slots (hand slots) (slot_of s x)) (record { block = e.block; stage = i; statement = e.statement } ∷ es)) out) n
+        (subst (λ (q : Bool). At h' (here (cond q (set slots (hand slots) (slot_of s x)) slots) (staged e ∷ es)) out) t now))
+        (λ f. let c = stops z d o k h' in
+        subst Wounds (goes_same e es c.history (unwound z d slots es c.history) c.out)
+        (ended es rest k (staged e) h' o (omega (arith, left)) is
+        (subst (λ (q : Bool). At h' (here (cond q (set slots (hand slots) (slot_of s x)) slots) (staged e ∷ es)) out) f now)))
+
+    all_ended : (es : List Ending) (h : History) → At h (here slots es) out → Wounds (unwound z d slots es h)
+    all_ended [] h at = at
+    all_ended (e ∷ es) h at = ended es (all_ended es) (3 - e.stage) e h ((leads z h).latest e.block.0) refl refl at
+
+  -- the endings go on by themselves
+  wound : (h : History) (w : Walk) (out : List (ℕ × Said)) → At h w out
+      → let x = rested_walk z d h w in At x.history (record { slots = x.slots; taken = w.taken; endings = x.endings; todo = w.todo }) out
+  wound h w out at =
+      cond_both (is_full (slot w.slots (hand w.slots))) (still h w) (unwound z d w.slots w.endings h)
+      (λ (x : Wound). At x.history (record { slots = x.slots; taken = w.taken; endings = x.endings; todo = w.todo }) out)
+      (λ t. at) (λ f. all_ended w.taken w.todo w.slots out f w.endings h at)
+
+-- the next act of a thread whose endings wait
+ahead_next : (l : Slots) (es : List Ending) (ts : List Task) (t : Task) → (es ≡ []) ⊎ (is_full (slot l (hand l)) ≡ true)
+    → next_of l es ts ≡ Some t → ahead_of l es ts ≡ AnAct t (rest_of es ts)
+ahead_next l [] [] t waits e = absurd cc
+ahead_next l [] (y ∷ ts) t waits e = ap (λ (q : Task). AnAct q ts) (same_Some _ _ e)
+ahead_next l (x ∷ es) ts t (inl none) e = absurd cc
+ahead_next l (x ∷ es) ts t (inr full) e =
+    cond-true (is_full (slot l (hand l))) (AnAct (record { statement = x.statement; act = Leave (hand l) }) ts) (AnEnd x es) full
+    ∙ ap (λ (q : Task). AnAct q ts) (same_Some _ _ e)
+
+-- a turn of thread d that has this to do next
+act_on : (b c : Scene) (d : ℕ) (out : List (ℕ × Said)) (t : Task) → d < length c.walks → Waits (walk_of c d) → next (walk_of c d) ≡ Some t
+    → Far (opening c.extent) b c.history c.walks out
+    → let p = play_from exact c d (walk_of c d) (Some t) in
+    Far (opening c.extent) b p.history p.walks (out ++ spoken d (said_of exact (state_in c) d (walk_of c d).slots t))
+act_on b c d out t lt waits is far =
+    let w = walk_of c d in
+    let z = opening c.extent in
+    let ts = rest_of w.endings w.todo in
+    let q = replied exact z d c.history t.statement w ts t.act in
+    let x = said_of exact (state_in c) d w.slots t in
+    let u = went (state_in c) d w t.statement ts t.act in
+    let begun : Far z b c.history (set c.walks d w) out =
+    subst (λ (l : List Walk). Far z b c.history l out) (sym (set-get_or c.walks d nowhere)) far in
+    let does : Does no_worth (leads z c.history) w (done_by d q.event x) u =
+    subst (λ (a : Ahead). DoesAhead no_worth (leads z c.history) w (done_by d q.event x) u a)
+    (sym (ahead_next w.slots w.endings w.todo t waits.endings is))
+    (record { reply = q.reply; makes = q.makes; says = q.says; goes = q.goes }) in
+    let h = acted exact z d w.slots c.history t.act in
+    let made : Far z b h (set c.walks d u) (out ++ spoken d x) =
+    subst (λ (k : History). Far z b k (set c.walks d u) (out ++ spoken d x)) (sym q.history)
+    (more z b d c.walks lt c.history w u out q.event x begun does) in
+    wound z b d c.walks lt h u (out ++ spoken d x) made
+
+-- what a thread that is there has to do next
+there : (c : Scene) (d : ℕ) (t : Task) → next (walk_of c d) ≡ Some t → d < length c.walks
+there c d t e =
+    elim (cases_lt d (length c.walks)) [
+      | inl lt ↦ lt
+      | inr le ↦ absurd (let n : next (walk_of c d) ≡ None = ap next (get_or_past c.walks d nowhere le) in some_none t (sym e ∙ n))
+    ]
+  where
+    some_none : (t : Task) → Some t ≡ None → ⊥
+    some_none t q = cc
+
+abbrev AllWait : Scene → Type 0
+AllWait c = (i : ℕ) → i < length c.walks → Waits (walk_of c i)
+
+-- a turn
+turn_on : (b c : Scene) (thread : ℕ) (out : List (ℕ × Said)) → AllWait c → Far (opening c.extent) b c.history c.walks out
+    → let p = play (thread - 1) c in
+    Far (opening c.extent) b p.history p.walks (out ++ flat_map spoken_of (heard thread (said (thread - 1) c)))
+turn_on b c thread out waits far = go (next (walk_of c (thread - 1))) refl
+  where
+    go : (o : Option Task) → next (walk_of c (thread - 1)) ≡ o
+        → let p = play (thread - 1) c in
+        Far (opening c.extent) b p.history p.walks (out ++ flat_map spoken_of (heard thread (said (thread - 1) c)))
+    go None e =
+        let d = thread - 1 in
+        subst (λ (s : Option Said). Far (opening c.extent) b (play d c).history (play d c).walks (out ++ flat_map spoken_of (heard thread s)))
+        (sym (said_done d c e))
+        (subst (λ (p : Scene). Far (opening c.extent) b p.history p.walks (out ++ [])) (sym (play_done d c e))
+        (subst (λ (l : List (ℕ × Said)). Far (opening c.extent) b c.history c.walks l) (sym (append-nil out)) far))
+    go (Some t) e =
+        let d = thread - 1 in
+        let w = walk_of c d in
+        let lt = there c d t e in
+        let x = said_of exact (state_in c) d w.slots t in
+        let goes = act_on b c d out t lt (waits d lt) e far in
+        let one : spoken d x ≡ flat_map spoken_of (heard thread (said d c)) =
+        sym (flat_map-one spoken_of (thread, x))
+        ∙ ap (λ (o : Option Task). flat_map spoken_of (heard thread (said_from exact c d w.slots o))) (sym e) in
+        subst (λ (o : Option Task). let p = play_from exact c d w o in
+        Far (opening c.extent) b p.history p.walks (out ++ flat_map spoken_of (heard thread (said d c)))) (sym e)
+        (let p = play_from exact c d w (Some t) in
+        subst (λ (l : List (ℕ × Said)). Far (opening c.extent) b p.history p.walks (out ++ l)) one goes)
+
+waits_on : (c : Scene) (d : ℕ) → AllWait c → AllWait (play d c)
+waits_on c d waits = λ i here.
+    let n = play_size d c in
+    elim (cases_lt d (length c.walks)) [
+      | inl lt ↦ play_waits c d i lt (omega (arith, n, here)) waits
+      | inr le ↦ subst (λ (p : Scene). Waits (walk_of p i)) (sym (play_done d c (ap next (get_or_past c.walks d nowhere le))))
+          (waits i (omega (arith, n, here)))
+    ]
+
+-- turns, one after another
+turns_on : (b c : Scene) (turns : List ℕ) (out : List (ℕ × Said)) → opening c.extent ≡ opening b.extent → AllWait c
+    → Far (opening b.extent) b c.history c.walks out
+    → let p = plays turns c in Far (opening b.extent) b p.history p.walks (out ++ flat_map spoken_of (told turns c))
+turns_on b c [] out same waits far =
+    subst (λ (l : List (ℕ × Said)). Far (opening b.extent) b c.history c.walks l) (sym (append-nil out)) far
+turns_on b c (thread ∷ turns) out same waits far =
+    let d = thread - 1 in
+    let p = play d c in
+    let says = heard thread (said d c) in
+    let extent = ap opening (plays_extent (thread ∷ []) c) in
+    let now : Far (opening b.extent) b p.history p.walks (out ++ flat_map spoken_of says) =
+    subst (λ (z : Opening). Far z b p.history p.walks (out ++ flat_map spoken_of says)) same
+    (turn_on b c thread out waits (subst (λ (z : Opening). Far z b c.history c.walks out) (sym same) far)) in
+    let q = plays turns p in
+    subst (λ (l : List (ℕ × Said)). Far (opening b.extent) b q.history q.walks l)
+    (append_assoc out (flat_map spoken_of says) (flat_map spoken_of (told turns p))
+    ∙ ap (λ (l : List (ℕ × Said)). out ++ l) (sym (flat_map-append spoken_of says (told turns p))))
+    (turns_on b p turns (out ++ flat_map spoken_of says) (extent ∙ same) (waits_on c d waits) now)
+
+-- a whole run of a script
+pub turns_follow : (script : List Section) (turns : List ℕ) → TurnsFollow turns (script_scene script)
+turns_follow script turns =
+    let c = script_scene script in
+    let rests = first_rests (script_shape (length script)) (program_in script) (script_sight script) refl in
+    let far = turns_on c c (schedule turns c) [] refl rests.walks
+    (record { doings = []; history = refl; each = λ d. refl; says = refl }) in
+    record { doings = far.doings; history = far.history; each = far.each; says = far.says }

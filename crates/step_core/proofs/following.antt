@@ -1,0 +1,6 @@
+pub mod Chains
+pub mod Ending
+pub mod Parts
+pub mod Replies
+pub mod Silence
+pub mod Steps

@@ -1,0 +1,320 @@
+-- What acts make and leave is what their replies say.
+use Rattle.std.proofs.Common.{◌≡◌, ℕ, Bool, true, false, cond, List, ◌∷◌, refl, sym, ap}
+use Rattle.std.specs.Prelude.{Option, Some, None, option_map, slice_set}
+use Rattle.control_word.specs.declared.event.Event.{Event}
+use Rattle.control_word.specs.declared.event.Event.TheVariants as event
+use Rattle.control_word.specs.declared.handle.Kind.TheVariants.{Owner, Weak}
+use Rattle.control_word.specs.Events.{place_at}
+use Rattle.control_word.specs.Handles.{owner, weak_of}
+use Rattle.control_word.specs.Histories.{entry, leads}
+use Rattle.control_word.specs.State.{Opening, State}
+use Rattle.step_table.specs.declared.form.Form.{Form}
+use Rattle.step_table.specs.declared.holdings.Pointer.{Pointer}
+use Rattle.step_table.specs.declared.past.Deed.{Deed}
+use Rattle.step_table.specs.Contents.{compare_of, held_in, load_of, swap_of, swapped}
+use Rattle.step_table.specs.Deeds.{Telling, alias, aliased, downgrade, field_of, give, handle_of, is_expired, is_last, leave, lock, on, owned, read, share, tell_count, tell_expired, this_as}
+use Rattle.step_table.specs.Holdings.{Slots, inside, is_full, owner_slot, place_in, plain, slot, value, weak_slot}
+use Rattle.step_table.specs.Stories.{Nothing, added, event_of}
+use Rattle.step_threads.specs.declared.act.Act.{Act}
+use Rattle.step_threads.specs.declared.act.Act.TheVariants.{Make, Share, Downgrade, Lock, Put, Leave, Clear, Count, Expired, Read, FromThis, Alias, Move, Ask, Offer, Swap, Exchange, Load, Compare, Drop}
+use Rattle.step_threads.specs.declared.act.Task.{Task}
+use Rattle.step_threads.specs.declared.call.CellName.{CellName}
+use Rattle.step_threads.specs.declared.ending.Ending.{Ending}
+use Rattle.step_threads.specs.declared.said.Answer.{Answer}
+use Rattle.step_threads.specs.Courses.{Walk, cell_at, hand, is_there, offered, on_going, other, placed, settled}
+use Rattle.step_threads.specs.Doings.{Loads, Makes, On, Swaps, Where, comes_before, copies, copy, put_on}
+use Rattle.step_threads.specs.Entries.{History, acted, does, giving, is_expected, least, loads, makes, swaps}
+use Rattle.step_threads.specs.Rows.{Reply, Plain, Found, Got, Told, Came, Compared, Left, gone, may_go, row, said_by_row}
+use Rattle.step_threads.specs.Scenes.{came, ended_by, found, said_of, taking, went}
+use Rattle.step_core.specs.Following.{no_worth}
+use Rattle.step_core.proofs.following.Parts.{asks, gave, gives, leave_ends, leave_makes, leaving_event, left, lock_found, none_stored, on_pointer, read_says, shared, this_answers, this_found, this_makes}
+
+-- what an act of statement n makes, with these tasks after it, by a reply
+pub record Replied (tell : Telling) (z : Opening) (d : ℕ) (h : History) (n : ℕ) (w : Walk) (ts : List Task) (a : Act) : Type 0 where
+  pub reply : Reply
+  pub event : Option (Event Nothing)
+  pub makes : Makes no_worth (leads z h) d w.slots a reply event
+  pub history : acted tell z d w.slots h a ≡ put_on d event h
+  pub says : said_of tell (leads z h) d w.slots (record { statement = n; act = a }) ≡ said_by_row n (row a w.slots w.taken reply)
+  pub goes : went (leads z h) d w n ts a ≡ gone w n ts (row a w.slots w.taken reply)
+
+module _ (tell : Telling) (z : Opening) (d : ℕ) (h : History) (n : ℕ) (w : Walk) (ts : List Task) where
+  abbrev now : State
+  now = leads z h
+
+  doing : (f : Pointer → Deed) (g : Pointer → Event Nothing) → ((x : Pointer) → event_of now (f x) ≡ Some (g x)) → (o : Option Pointer)
+      → does z d h (option_map f o) ≡ put_on d (option_map g o) h
+  doing f g same None = refl
+  doing f g same (Some x) = ap (λ (e : Option (Event Nothing)). added d e h) (same x)
+
+  -- a pointer leaves
+  left_at : (o : Option Pointer) → does z d h (option_map (leave now) o) ≡ put_on d (option_map (leaving_event now) o) h
+  left_at o = doing (leave now) (leaving_event now) (λ x. left now x.kind (is_last now x) x) o
+
+  abbrev locking : Bool → Pointer → Event Nothing
+  locking got x = event.Lock (weak_of (owned now x) x.place) got
+
+  lock_history : (o : Option Pointer) → does z d h (option_map (lock now) o) ≡ put_on d (option_map (locking (is_full (found now o))) o) h
+  lock_history None = refl
+  lock_history (Some x) = ap (λ (b : Bool). entry d (locking b x) ∷ h) (sym (gave now x))
+
+  lock_makes : (o : Option Pointer) → let got = is_full (found now o) in
+      let e = option_map (locking got) o in
+      On (λ x. e ≡ Some (locking got x)) ((got ≡ false) × (e ≡ None)) o
+  lock_makes None = (refl, refl)
+  lock_makes (Some x) = refl
+
+  abbrev made_of : Form → ℕ → Event Nothing
+  made_of form b = event.Make (record { 0 = b }) form.enabled form.null form.fields tt
+
+  make_history : (form : Form) (o : Option ℕ) → does z d h (option_map (makes form) o) ≡ put_on d (option_map (made_of form) o) h
+  make_history form None = refl
+  make_history form (Some b) = refl
+
+  make_makes : (form : Form) (o : Option ℕ) → least d now.stores ≡ o
+      → Makes no_worth now d w.slots (Make form) (Found o) (option_map (made_of form) o)
+  make_makes form None e = (none_stored d now.stores e, refl)
+  make_makes form (Some b) e = refl
+
+  abbrev swap_event : CellName → ℕ → Event Nothing
+  swap_event c i = swap_of now (cell_at now w.slots c) (value w.slots i)
+
+  swap_history : (c : CellName) (i : ℕ) (b : Bool)
+      → on_going (swaps z d w.slots h) h (cond b (Some (c, i)) None) ≡ put_on d (cond b (Some (swap_event c i)) None) h
+  swap_history c i true = refl
+  swap_history c i false = refl
+
+  swap_makes : (c : CellName) (i : ℕ) (b : Bool)
+      → let e = cond b (Some (swap_event c i)) None in Where b (Swaps now w.slots c i (came now w.slots c) e) (e ≡ None)
+  swap_makes c i true = (held_in now (cell_at now w.slots c), refl, refl)
+  swap_makes c i false = refl
+
+  swap_slots : (c : CellName) (i : ℕ) (f : CellName → ℕ → Slots) (b : Bool)
+      → on_going f w.slots (cond b (Some (c, i)) None) ≡ cond b (f c i) w.slots
+  swap_slots c i f true = refl
+  swap_slots c i f false = refl
+
+  load_history : (c : CellName) (b : Bool)
+      → cond b (loads z d w.slots h c) h ≡ put_on d (cond b (Some (load_of now (cell_at now w.slots c))) None) h
+  load_history c true = refl
+  load_history c false = refl
+
+  load_makes : (c : CellName) (b : Bool)
+      → let e = cond b (Some (load_of now (cell_at now w.slots c))) None in Where b (Loads now w.slots c (came now w.slots c) e) (e ≡ None)
+  load_makes c true = (held_in now (cell_at now w.slots c), refl, refl)
+  load_makes c false = refl
+
+  abbrev reading : ℕ → Pointer → Event Nothing
+  reading m x = event.Read (owner (owned now x) x.place) m
+
+  abbrev counting : Pointer → ℕ → Event Nothing
+  counting x m = event.Count (handle_of now x) m
+
+  abbrev expiring : Pointer → Bool → Event Nothing
+  expiring x b = event.Expired (handle_of now x) b
+
+  read_makes : (o : Option Pointer)
+      → let e = option_map (λ (x : Pointer). reading (field_of now x) x) o in
+      On (λ x. e ≡ Some (reading (on (field_of now) 0 o) x)) (e ≡ None) o
+  read_makes None = refl
+  read_makes (Some x) = refl
+
+  -- each act
+  pub replied : (a : Act) → Replied tell z d h n w ts a
+  replied (Make form) =
+      let o = least d now.stores in
+      record {
+        reply = Found o;
+        event = option_map (made_of form) o;
+        makes = make_makes form o refl;
+        history = make_history form o;
+        says = refl;
+        goes = refl;
+      }
+  replied (Share i) =
+      record {
+        reply = Plain;
+        event = option_map (copy now) (slot w.slots i);
+        makes = refl;
+        history = doing share (copy now) (λ x. shared now x.kind x) (slot w.slots i);
+        says = refl;
+        goes = refl;
+      }
+  replied (Put i) =
+      let o = slot w.slots i in
+      record {
+        reply = Left (on (is_last now) false o) (ended_by now o);
+        event = option_map (leaving_event now) o;
+        makes = leave_makes now o;
+        history = left_at o;
+        says = refl;
+        goes = ap (λ (es : List Ending). settled (placed i (slice_set w.slots i plain)) false es ts) (leave_ends now n w.endings o);
+      }
+  replied (Leave i) =
+      let o = slot w.slots i in
+      record {
+        reply = Left (on (is_last now) false o) (ended_by now o);
+        event = option_map (leaving_event now) o;
+        makes = leave_makes now o;
+        history = left_at o;
+        says = refl;
+        goes = ap (λ (es : List Ending). settled (slice_set w.slots i plain) w.taken es ts) (leave_ends now n w.endings o);
+      }
+  replied (Clear i) =
+      let o = slot w.slots i in
+      record {
+        reply = Left (on (is_last now) false o) (ended_by now o);
+        event = option_map (leaving_event now) o;
+        makes = leave_makes now o;
+        history = left_at o;
+        says = refl;
+        goes = ap (λ (es : List Ending). settled (slice_set w.slots i plain) w.taken es ts) (leave_ends now n w.endings o);
+      }
+  replied Drop =
+      let i = other w.slots in
+      let o = slot w.slots i in
+      record {
+        reply = Left (on (is_last now) false o) (ended_by now o);
+        event = option_map (leaving_event now) o;
+        makes = leave_makes now o;
+        history = left_at o;
+        says = refl;
+        goes = ap (λ (es : List Ending). settled (slice_set w.slots i plain) w.taken es ts) (leave_ends now n w.endings o);
+      }
+  replied (Count i) =
+      let o = slot w.slots i in
+      record {
+        reply = Told (on (tell now) 0 o);
+        event = option_map (λ (x : Pointer). counting x (tell now x)) o;
+        makes = on_pointer now (tell now) 0 counting o;
+        history = doing (tell_count tell now) (λ x. counting x (tell now x)) (λ x. refl) o;
+        says = refl;
+        goes = refl;
+      }
+  replied (Downgrade i) =
+      let o = slot w.slots i in
+      let g = λ (x : Pointer). copies {V = Nothing} now Weak x.place x in
+      record {
+        reply = Plain;
+        event = option_map g o;
+        makes = refl;
+        history = doing downgrade g (λ x. refl) o;
+        says = refl;
+        goes = refl;
+      }
+  replied (Lock i must) =
+      let o = weak_slot (slot w.slots i) in
+      record {
+        reply = Got (is_full (found now o));
+        event = option_map (locking (is_full (found now o))) o;
+        makes = lock_makes o;
+        history = lock_history o;
+        says = refl;
+        goes = ap (λ (q : Option Pointer). let x = taking w.slots must q in settled x.0 x.1 w.endings ts) (lock_found now o);
+      }
+  replied (Expired i) =
+      let o = slot w.slots i in
+      record {
+        reply = Got (on (is_expired now) true o);
+        event = option_map (λ (x : Pointer). expiring x (is_expired now x)) o;
+        makes = on_pointer now (is_expired now) true expiring o;
+        history = doing (tell_expired now) (λ x. expiring x (is_expired now x)) (λ x. refl) o;
+        says = refl;
+        goes = refl;
+      }
+  replied (Read i) =
+      let o = inside (slot w.slots i) in
+      let g : Pointer → Event Nothing = λ x. reading (field_of now x) x in
+      record {
+        reply = Told (on (field_of now) 0 o);
+        event = option_map g o;
+        makes = read_makes o;
+        history = doing (read now) g (λ x. refl) o;
+        says = ap (λ (a : Answer). record { statement = n; answer = Some a; ended = None }) (read_says now (place_in w.slots i) o);
+        goes = refl;
+      }
+  replied (FromThis i q) =
+      let o = inside (slot w.slots i) in
+      let g = λ (x : Pointer). copies {V = Nothing} now q (place_at x.block.0) x in
+      record {
+        reply = Got (is_full (giving now o));
+        event = option_map g (giving now o);
+        makes = this_makes now q o;
+        history = doing (give q) g (λ x. gives now q x) (giving now o);
+        says = ap (λ (a : Option Answer). record { statement = n; answer = a; ended = None }) (this_answers now (place_in w.slots i) o);
+        goes = ap (λ (y : Option Pointer). let x = taking w.slots true (option_map (this_as q) y) in settled x.0 x.1 w.endings ts) (this_found now o);
+      }
+  replied (Alias i j field) =
+      let o = owner_slot (slot w.slots i) in
+      let p = aliased field (place_in w.slots j) in
+      record {
+        reply = Plain;
+        event = option_map (copies now Owner p) o;
+        makes = refl;
+        history = doing (alias p) (copies now Owner p) (λ x. refl) o;
+        says = refl;
+        goes = refl;
+      }
+  replied (Move i) = record { reply = Plain; event = None; makes = refl; history = refl; says = refl; goes = refl }
+  replied (Ask q) =
+      record {
+        reply = Got (comes_before now w.slots q);
+        event = None;
+        makes = (refl, refl);
+        history = refl;
+        says = ap (λ (a : Answer). record { statement = n; answer = Some a; ended = None }) (asks now w.slots q);
+        goes = refl;
+      }
+  replied (Offer i c) =
+      let o = offered w.slots i c in
+      record {
+        reply = Plain;
+        event = option_map (copy now) o;
+        makes = refl;
+        history = doing share (copy now) (λ x. shared now x.kind x) o;
+        says = refl;
+        goes = refl;
+      }
+  replied (Swap c) =
+      let i = hand w.slots in
+      let b = may_go w.slots c i in
+      let f = λ (x : CellName) (k : ℕ). swapped k (other w.slots) w.slots (came now w.slots x) in
+      record {
+        reply = Came (came now w.slots c);
+        event = cond b (Some (swap_event c i)) None;
+        makes = swap_makes c i b;
+        history = swap_history c i b;
+        says = refl;
+        goes = ap (λ (l : Slots). settled l false w.endings ts) (swap_slots c i f b);
+      }
+  replied (Exchange i c) =
+      let b = may_go w.slots c i in
+      let f = λ (x : CellName) (k : ℕ). slice_set w.slots k (came now w.slots x) in
+      record {
+        reply = Came (came now w.slots c);
+        event = cond b (Some (swap_event c i)) None;
+        makes = swap_makes c i b;
+        history = swap_history c i b;
+        says = refl;
+        goes = ap (λ (l : Slots). settled l w.taken w.endings ts) (swap_slots c i f b);
+      }
+  replied (Load c) =
+      let b = is_there w.slots c in
+      record {
+        reply = Came (came now w.slots c);
+        event = cond b (Some (load_of now (cell_at now w.slots c))) None;
+        makes = load_makes c b;
+        history = load_history c b;
+        says = refl;
+        goes = refl;
+      }
+  replied (Compare i c weak) =
+      let y = cell_at now w.slots c in
+      record {
+        reply = Compared (is_expected now w.slots i c) (came now w.slots c);
+        event = Some (compare_of now y (value w.slots i) (value w.slots (hand w.slots)) weak);
+        makes = (held_in now y, refl, refl);
+        history = refl;
+        says = refl;
+        goes = refl;
+      }

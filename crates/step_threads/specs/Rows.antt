@@ -1,0 +1,115 @@
+-- What a thread has, says and ends by an act, from what the act is replied. All of it is own.
+use Rattle.std.specs.Prelude.{ℕ, Bool, true, false, cond, ◌&&◌, List, ◌∷◌, slice_set, Option, Some, None, option_map}
+use Rattle.control_word.specs.declared.handle.Kind.{Kind}
+use Rattle.control_word.specs.declared.handle.Kind.TheVariants.{Owner, Weak}
+use Rattle.control_word.specs.declared.place.Block.{Block}
+use Rattle.control_word.specs.declared.refusal.Refusal.TheVariants.{NotEnabled}
+use Rattle.control_word.specs.Handles.{same_place}
+use Rattle.step_table.specs.declared.ended.Ended.{Ended}
+use Rattle.step_table.specs.declared.holdings.Pointer.{Pointer}
+use Rattle.step_table.specs.declared.slot.Slot.{Slot}
+use Rattle.step_table.specs.Contents.{is_of, swapped}
+use Rattle.step_table.specs.Deeds.{as_owner, as_weak, this_as}
+use Rattle.step_table.specs.Holdings.{Slots, filled, inside, is_full, place_in, plain, slot, value, weak_slot}
+use Rattle.step_threads.specs.declared.act.Act.{Act}
+use Rattle.step_threads.specs.declared.act.Act.TheVariants.{Make, Share, Downgrade, Lock, Put, Leave, Clear, Count, Expired, Read, FromThis, Alias, Move, Ask, Offer, Swap, Exchange, Load, Compare, Drop}
+use Rattle.step_threads.specs.declared.act.Question.{Question}
+use Rattle.step_threads.specs.declared.act.Question.TheVariants as question
+use Rattle.step_threads.specs.declared.act.Task.{Task}
+use Rattle.step_threads.specs.declared.call.CellName.{CellName}
+use Rattle.step_threads.specs.declared.ending.Ending.{Ending}
+use Rattle.step_threads.specs.declared.said.Answer.{Answer}
+use Rattle.step_threads.specs.declared.said.Answer.TheVariants as answer
+use Rattle.step_threads.specs.declared.said.Said.{Said}
+use Rattle.step_threads.specs.Courses.{Walk, fitting, hand, is_there, other, passed, placed, settled}
+use Rattle.step_threads.specs.Programs.{kind_at}
+use Rattle.step_threads.specs.Scenes.{Hands, alias_in, compared, full_answer, holding, lock_answer, outside, refusal, taking}
+
+-- What an act is replied: nothing; the block of a make, if there was one; whether it is so; a number; what came out of
+-- a cell; whether a cell was swapped, and what it held; whether a pointer was the last, and what its object left
+pub data Reply : Type 0 where
+  Plain : Reply
+  Found : Option ℕ → Reply
+  Got : Bool → Reply
+  Told : ℕ → Reply
+  Came : Slot → Reply
+  Compared : Bool → Slot → Reply
+  Left : Bool → Option Ended → Reply
+
+-- what a thread has in its slots after an act, whether something is in hand, the block whose object is to end, if any;
+-- and what the act answers, and tells of an object that ends
+pub record Row : Type 0 where
+  pub slots : Slots
+  pub taken : Bool
+  pub ending : Option Block
+  pub answer : Option Answer
+  pub ended : Option Ended
+
+abbrev pub having : Hands → Option Answer → Row
+having x a = record { slots = x.0; taken = x.1; ending = None; answer = a; ended = None }
+
+-- an object is to end where its last owner left
+abbrev pub ending_as : Kind → Pointer → Option Block
+ending_as Owner x = Some x.block
+ending_as Weak x = None
+
+abbrev pub ending_by : Bool → Option Pointer → Option Block
+ending_by last None = None
+ending_by last (Some x) = cond last (ending_as x.kind x) None
+
+abbrev pub leaving : Hands → Option Pointer → Bool → Option Ended → Row
+leaving h x last e = record { slots = h.0; taken = h.1; ending = ending_by last x; answer = None; ended = e }
+
+-- what the pointers of names tell; what comes before is replied
+abbrev pub asked : Slots → Question → Bool → Answer
+asked slots (question.Place k) b = answer.Place (place_in slots k)
+asked slots (question.Same i j) b = answer.Same (same_place (place_in slots i) (place_in slots j))
+asked slots (question.Before i j) b = answer.Before b
+
+-- why an object gives no pointer to itself: it isn't enabled, or there is none to ask
+abbrev pub not_given : Slots → ℕ → Answer
+not_given slots k = cond (is_full (inside (slot slots k))) (answer.Refused NotEnabled) (outside (place_in slots k))
+
+-- the cell is there, and the value of slot k may go into it
+abbrev pub may_go : Slots → CellName → ℕ → Bool
+may_go slots c k = is_there slots c && is_of (kind_at c) (value slots k)
+
+-- each act, by its reply
+abbrev pub row : Act → Slots → Bool → Reply → Row
+row (Make form) l taken (Found b) = having (holding l form.null b) (full_answer b)
+row (Share k) l taken Plain = having (slice_set l (hand l) (value l k), true) None
+row (Put k) l taken (Left last e) = leaving (placed k (slice_set l k plain), false) (slot l k) last e
+row (Leave k) l taken (Left last e) = leaving (slice_set l k plain, taken) (slot l k) last e
+row (Clear k) l taken (Left last e) = leaving (slice_set l k plain, taken) (slot l k) last e
+row Drop l taken (Left last e) = leaving (slice_set l (other l) plain, taken) (slot l (other l)) last e
+row (Count k) l taken (Told n) = having (l, taken) (Some (answer.Count n))
+row (Downgrade k) l taken Plain = having (slice_set l (hand l) (filled (option_map as_weak (slot l k))), true) None
+row (Lock k must) l taken (Got got) =
+    having (taking l must (cond got (option_map as_owner (weak_slot (slot l k))) None)) (Some (lock_answer must got))
+row (Expired k) l taken (Got b) = having (l, taken) (Some (answer.Expired b))
+row (Read k) l taken (Told n) =
+    having (l, taken) (Some (cond (is_full (inside (slot l k))) (answer.Read n) (outside (place_in l k))))
+row (FromThis k kind) l taken (Got got) =
+    having (taking l true (option_map (this_as kind) (cond got (inside (slot l k)) None))) (cond got None (Some (not_given l k)))
+row (Alias k j field) l taken Plain = having (slice_set l (hand l) (alias_in l k j field), true) None
+row (Move k) l taken Plain = having (passed k (hand l) l, true) None
+row (Ask q) l taken (Got b) = having (l, taken) (Some (asked l q b))
+row (Offer k c) l taken Plain =
+    having (cond (is_there l c) (slice_set l (hand l) (fitting (kind_at c) (value l k)), true) (l, taken)) (refusal l c)
+row (Swap c) l taken (Came x) = having (cond (may_go l c (hand l)) (swapped (hand l) (other l) l x) l, false) None
+row (Exchange k c) l taken (Came x) = having (cond (may_go l c k) (slice_set l k x) l, taken) (refusal l c)
+row (Load c) l taken (Came x) = having (cond (is_there l c) (slice_set l (hand l) x, true) (l, taken)) (refusal l c)
+row (Compare k c weak) l taken (Compared swaps x) = having (compared l x swaps) (Some (answer.Compared swaps))
+row _ l taken _ = having (l, taken) None
+
+-- the end of an object begins before the ends that are under way
+abbrev pub with_end : ℕ → Option Block → List Ending → List Ending
+with_end k None es = es
+with_end k (Some b) es = record { block = b; stage = 0; statement = k } ∷ es
+
+-- where a thread is after an act of statement k, with these tasks after it, and what the act says
+abbrev pub gone : Walk → ℕ → List Task → Row → Walk
+gone w k ts y = settled y.slots y.taken (with_end k y.ending w.endings) ts
+
+abbrev pub said_by_row : ℕ → Row → Said
+said_by_row k y = record { statement = k; answer = y.answer; ended = y.ended }
