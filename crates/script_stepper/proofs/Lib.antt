@@ -6,6 +6,7 @@ pub mod EndLemmas
 pub mod Exact
 pub mod Following
 pub mod LineLemmas
+pub mod Once
 pub mod OneTurn
 pub mod Overs
 pub mod RunLemmas

@@ -226,6 +226,10 @@ pub fn fine_text<S: Sink>(
     ensures runs { (read : ScriptView) (listed : List ℕ) → Reads script.now read
         → list_at (length read.threads) turns.now ≡ Ok listed
         → WritesOne (IsFineText read listed) result (S.taken writer.old) (S.taken writer.new) }
+
+    // A script and its numbers have one such text only.
+    ensures one { (read : ScriptView) (listed text other : List ℕ) → IsFineText read listed text
+        → IsFineText read listed other → text ≡ other }
 {
     deliver(alloc, script, turns, Pace::Steps, writer)
 }

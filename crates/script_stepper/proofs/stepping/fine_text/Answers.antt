@@ -1,5 +1,7 @@
+use Rattle.script_stepper.specs.Beginnings.{script_sight}
 use Rattle.script_stepper.specs.Runs.{IsFineText}
 use Rattle.script_stepper.proofs.Answering.{steps_syntax, steps_turns, steps_runs}
+use Rattle.script_stepper.proofs.Once.{one_text}
 use Rattle.script_stepper.proofs.stepping.fine_text.Goals as goal
 
 pub returns-clause-syntax : goal.returns-clause-syntax
@@ -13,3 +15,6 @@ returns-clause-turns g c =
 pub returns-clause-runs : goal.returns-clause-runs
 returns-clause-runs g c =
     λ threads listed h l. steps_runs IsFineText c.args.script.now c.args.turns.now c.deliver.result _ _ threads listed c.deliver.ensures.holds h l
+
+pub returns-clause-one : goal.returns-clause-one
+returns-clause-one g c = λ threads listed text other p q. one_text listed (script_sight threads) text other p q
