@@ -30,12 +30,12 @@ use Rattle.step_threads.specs.Scenes.{Scene, Stop, Wound, clears, goes_on, next,
 use Rattle.step_threads.specs.Steps.{silent}
 use Rattle.step_core.specs.Following.{no_worth}
 use Rattle.step_core.proofs.following.Replies.{replied}
-use Rattle.script_text.specs.Drafts.{Section}
+use Rattle.script_text.specs.Drafts.{ScriptView}
 use Rattle.script_text.specs.Scripts.{program_in}
-use Rattle.script_stepper.specs.Beginnings.{script_scene, script_shape, script_sight}
+use Rattle.script_text.specs.Beginnings.{script_scene, script_shape, script_sight}
 use Rattle.script_stepper.specs.Followed.{TurnsFollow, spoken_of}
 use Rattle.script_stepper.specs.Running.{Waits}
-use Rattle.script_stepper.specs.Traces.{heard, plays, schedule, told}
+use Rattle.script_text.specs.Traces.{heard, plays, schedule, told}
 use Rattle.script_stepper.proofs.LineLemmas.{flat_map-one}
 use Rattle.script_stepper.proofs.OneTurn.{play_waits}
 use Rattle.script_stepper.proofs.StepLemmas.{first_rests}
@@ -286,10 +286,10 @@ turns_on b c (thread ∷ turns) out same waits far =
     (turns_on b p turns (out ++ flat_map spoken_of says) (extent ∙ same) (waits_on c d waits) now)
 
 -- a whole run of a script
-pub turns_follow : (script : List Section) (turns : List ℕ) → TurnsFollow turns (script_scene script)
+pub turns_follow : (script : ScriptView) (turns : List ℕ) → TurnsFollow turns (script_scene script)
 turns_follow script turns =
     let c = script_scene script in
-    let rests = first_rests (script_shape (length script)) (program_in script) (script_sight script) refl in
+    let rests = first_rests (script_shape script) (program_in script.threads) (script_sight script) refl in
     let far = turns_on c c (schedule turns c) [] refl rests.walks
     (record { doings = []; history = refl; each = λ d. refl; says = refl }) in
     record { doings = far.doings; history = far.history; each = far.each; says = far.says }

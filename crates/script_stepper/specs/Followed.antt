@@ -7,7 +7,7 @@ use Rattle.step_threads.specs.declared.said.Said.{Said}
 use Rattle.step_threads.specs.Doings.{Doing, Goes, lines, onto, spoken}
 use Rattle.step_threads.specs.Scenes.{Scene, walk_of}
 use Rattle.step_core.specs.Following.{no_worth}
-use Rattle.script_stepper.specs.Traces.{Item, outcome, trace}
+use Rattle.script_text.specs.Traces.{Item, outcome, trace}
 
 -- what was said, by its thread's desk, where there was something to say
 abbrev pub spoken_of : Item → List (ℕ × Said)
