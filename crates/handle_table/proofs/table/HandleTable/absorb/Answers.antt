@@ -1,0 +1,8 @@
+use Rattle.handle_table.proofs.Wholes.{absorb_whole}
+use Rattle.handle_table.proofs.table.HandleTable.absorb.Goals as goal
+
+pub invariant_of-self : goal.invariant_of-self
+invariant_of-self g c =
+    let j = c.join.ensures in let none = c.into_desk-desk.ensures.none in
+    absorb_whole _ c.self.inside.domain.now c.self.inside.desk c.into_desk-desk.result c.join.new.self c.self.inside.slots.items c.self.inside.pile
+    c.self.invariant none.0 none.1 j.event j.bag j.held j.endings.0 j.count

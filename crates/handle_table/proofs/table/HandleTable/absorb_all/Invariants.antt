@@ -1,0 +1,8 @@
+use Rattle.std.proofs.Common.{◌≡◌, length}
+use Rattle.handle_table.proofs.table.HandleTable.absorb_all.Given as goal
+
+abbrev pub invariant-loop-table : goal.invariant-loop-table
+invariant-loop-table g l = (l.self.slots ≡ l.initial.self.slots) × (l.self.endings ≡ l.initial.self.endings)
+
+abbrev pub decreases-loop-table : goal.decreases-loop-table
+decreases-loop-table g l = length l.tables.items

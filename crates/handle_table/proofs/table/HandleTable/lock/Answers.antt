@@ -1,0 +1,44 @@
+use Rattle.std.proofs.Common.{◌≡◌, ◌∙◌, Bool, is_some, ap, inl, inr, refl, subst, sym}
+use Rattle.control_block.specs.declared.handles.Held.TheVariants.{Owner, Weak}
+use Rattle.shared_handle.specs.Locks as locks
+use Rattle.handle_table.specs.Calls.{Locks, WhyNotLocked}
+use Rattle.handle_table.specs.Tables.{TableNow}
+use Rattle.handle_table.proofs.Filling.{fits_at}
+use Rattle.handle_table.proofs.Wholes.{kept, seen}
+use Rattle.handle_table.proofs.table.HandleTable.lock.Goals as goal
+
+pub lock-owner-requires-clause-holds : goal.lock-owner-requires-clause-holds
+lock-owner-requires-clause-holds g c κs within =
+    fits_at c.self.inside.desk c.self.inside.slots.items c.args.from (Weak c.in-Ok.weak.now) c.self.invariant.fits c.in-Ok.ensures.found
+
+pub returns-in-Err-clause-refused : goal.returns-in-Err-clause-refused
+returns-in-Err-clause-refused g c =
+    (subst (λ (t : TableNow g.row.V.Denot). WhyNotLocked t c.args.from c.args.to c.in-Err.why) c.self.view_is (inr (inl c.in-Err.ensures.fault)), refl)
+
+pub assign-requires-clause-bears : goal.assign-requires-clause-bears
+assign-requires-clause-bears g c κs within =
+    kept c.self.inside.domain.now c.self.inside.desk c.lock-owner.new.desk c.self.inside.pile c.self.invariant.bears c.in-Ok-owner.ensures.keeps
+
+pub returns-in-Ok-owner-clause-locked : goal.returns-in-Ok-owner-clause-locked
+returns-in-Ok-owner-clause-locked g c =
+    let e = c.in-Ok-owner.ensures in let h = c.in-Ok-owner.owner in let of = c.in-Ok.weak.now in
+    let told : c.is_some-got.result ≡ is_some h.block = c.is_some-got.ensures ∙ ap is_some c.block.ensures in
+    subst (λ (t : TableNow g.row.V.Denot). Locks t c.args.from c.args.to c.is_some-got.result (seen c.assign.new.desk c.assign.new.slots.items c.assign.new.pile)) c.self.view_is
+    record {
+      of = of;
+      at = c.in-Ok.ensures.found;
+      owner = record {
+        handle = Owner h;
+        between = c.lock-owner.new.desk;
+        comes = record {
+          owner = h;
+          is = refl;
+          event = (
+            told,
+            subst (λ (got : Bool). locks.IsOwnerOf of.block of.place got h) (sym told) e.handle,
+            subst (λ (got : Bool). locks.Locks c.self.inside.desk of.block of.place got c.lock-owner.new.desk) (sym told) e.lock,
+          );
+        };
+        assigns = c.assign.ensures.assigns;
+      };
+    }

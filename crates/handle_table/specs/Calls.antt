@@ -1,0 +1,190 @@
+-- What the calls of a handle table say.
+use Rattle.std.specs.Prelude.{◌≡◌, ◌⊎◌, ℕ, ◌≤◌, Bool, false, is_some, List, [], length, slice_get, slice_set, Option, None, Some, Result, Err}
+use Rattle.control_word.specs.declared.event.Cell.TheVariants.{Free}
+use Rattle.control_word.specs.declared.handle.Kind.TheVariants as kind
+use Rattle.control_word.specs.declared.place.Block.{Block}
+use Rattle.control_word.specs.declared.refusal.Refusal.{Refusal}
+use Rattle.control_word.specs.declared.refusal.Refusal.TheVariants.{Full, Limit}
+use Rattle.control_block.specs.Desks.{DeskNow, allowance_of, held_of, stock_of}
+use Rattle.control_block.specs.declared.handles.Held.{Held}
+use Rattle.control_block.specs.declared.handles.Held.TheVariants.{Owner, Weak}
+use Rattle.control_block.specs.declared.handles.Shared.{Shared}
+use Rattle.control_block.specs.declared.handles.Weak as weak_handle
+use Rattle.shared_handle.specs.Calls as inner
+use Rattle.shared_handle.specs.Endings.{IsRead}
+use Rattle.shared_handle.specs.Locks as locks
+use Rattle.shared_handle.specs.Piles.{AreRounds, Drops, EndsTop, Past}
+use Rattle.shared_handle.specs.declared.endings.Ending.{Ending}
+use Rattle.shared_handle.specs.declared.pile.Gone.{Gone}
+use Rattle.shared_handle.specs.declared.pile.Gone.TheVariants as gone
+use Rattle.atomic_cells.specs.Cells as cells
+use Rattle.handle_table.specs.declared.fault.Fault.{Fault}
+use Rattle.handle_table.specs.declared.fault.Fault.TheVariants as fault
+use Rattle.handle_table.specs.Tables.{IsAt, Slot, TableNow}
+
+-- what is told of a weak handle that left, by what it was of
+abbrev pub weak_gone : Option Block → Gone
+weak_gone None = gone.Empty
+weak_gone (Some b) = gone.Others
+
+-- why a slot gives no handle: it isn't there, or is vacant
+abbrev pub WhyNoHandle : List Slot → ℕ → Fault → Type 0
+WhyNoHandle ss i fault.Slot = length ss ≤ i
+WhyNoHandle ss i fault.Vacant = slice_get ss i ≡ Some None
+WhyNoHandle ss i why = ⊥
+
+-- and why no owner, or no weak handle: it has one of the other kind
+abbrev pub WhyNoOwner : List Slot → ℕ → Fault → Type 0
+WhyNoOwner ss i why = WhyNoHandle ss i why ⊎ ((why ≡ fault.Kind) × ((w : weak_handle.Weak) × (slice_get ss i ≡ Some (Some (Weak w)))))
+
+abbrev pub WhyNoWeak : List Slot → ℕ → Fault → Type 0
+WhyNoWeak ss i why = WhyNoHandle ss i why ⊎ ((why ≡ fault.Kind) × ((h : Shared) × (slice_get ss i ≡ Some (Some (Owner h)))))
+
+-- there is no such slot to fill
+abbrev pub IsNoSlot : List Slot → ℕ → Fault → Type 0
+IsNoSlot ss i why = (why ≡ fault.Slot) × (length ss ≤ i)
+
+module _ {V : Type 0} where
+  -- the desk is at its allowance
+  abbrev pub IsAtLimit : TableNow V → Fault → Type 0
+  IsAtLimit t why = (why ≡ fault.Call Limit) × (held_of t.desk ≡ allowance_of t.desk)
+
+  -- a handle left the desk, and what ends for it went onto the pile
+  abbrev pub LetsGo : DeskNow V → List (Ending V) → Held → Gone → DeskNow V → List (Ending V) → Type 0
+  LetsGo d xs (Owner h) gone e ys = Drops d xs h.block h.place gone e ys
+  LetsGo d xs (Weak w) gone e ys =
+      (gone ≡ weak_gone w.block) × (ys ≡ xs) × ((vacant : Bool) × inner.LeavesWeakly d w.block w.place vacant e)
+
+  -- the same of a slot that may be vacant
+  abbrev pub LeavesSlot : DeskNow V → List (Ending V) → Slot → DeskNow V → List (Ending V) → Type 0
+  LeavesSlot d xs None e ys = (e ≡ d) × (ys ≡ xs)
+  LeavesSlot d xs (Some h) e ys = (gone : Gone) × LetsGo d xs h gone e ys
+
+  -- the handle is in the slot now, and what lay there left: an assignment
+  pub record Assigns (d : DeskNow V) (ss : List Slot) (xs : List (Ending V)) (to : ℕ) (h : Held) (e : DeskNow V) (ts : List Slot)
+      (ys : List (Ending V)) : Type 0 where
+    pub old : Slot
+    pub was : slice_get ss to ≡ Some old
+    pub slots : ts ≡ slice_set ss to (Some h)
+    pub leaves : LeavesSlot d xs old e ys
+
+  -- a handle came to the desk as told, and was assigned to the slot
+  pub record Comes (came : DeskNow V → Held → DeskNow V → Type 0) (t : TableNow V) (to : ℕ) (u : TableNow V) : Type 0 where
+    pub handle : Held
+    pub between : DeskNow V
+    pub comes : came t.desk handle between
+    pub assigns : Assigns between t.slots t.endings to handle u.desk u.slots u.endings
+
+  -- an owner, or a weak handle, came by a call of the desk's
+  pub record IsOwner (by : DeskNow V → Shared → DeskNow V → Type 0) (d : DeskNow V) (h : Held) (e : DeskNow V) : Type 0 where
+    pub owner : Shared
+    pub is : h ≡ Owner owner
+    pub event : by d owner e
+
+  pub record IsWeak (by : DeskNow V → weak_handle.Weak → DeskNow V → Type 0) (d : DeskNow V) (h : Held) (e : DeskNow V) : Type 0 where
+    pub weak : weak_handle.Weak
+    pub is : h ≡ Weak weak
+    pub event : by d weak e
+
+  -- a new object's owner ([util.smartptr.shared.create])
+  abbrev pub Makes : TableNow V → ℕ → Bool → List ℕ → V → TableNow V → Type 0
+  Makes t to enabled fields x u = Comes (IsOwner (λ d h e. inner.Makes d enabled false fields x h.block h.place e)) t to u
+
+  -- there is no vacant block for it
+  abbrev pub WhyNotMade : TableNow V → ℕ → Fault → Type 0
+  WhyNotMade t to why = IsNoSlot t.slots to why ⊎ (IsAtLimit t why ⊎ ((why ≡ fault.Call Full) × (stock_of t.desk ≡ [])))
+
+  -- a copy of a handle: it is of the same object, and points where that does ([util.smartptr.shared.const], [util.smartptr.weak.const])
+  abbrev pub IsCopy : Held → DeskNow V → Held → DeskNow V → Type 0
+  IsCopy (Owner h) = IsOwner (λ d k e. (k.block ≡ h.block) × (k.place ≡ h.place) × inner.Shares d h.block h.place h.place e)
+  IsCopy (Weak w) = IsWeak (λ d k e. (k.block ≡ w.block) × (k.place ≡ inner.weak_place w.block w.place) × inner.SharesWeakly d w.block w.place e)
+
+  pub record Copies (t : TableNow V) (from to : ℕ) (u : TableNow V) : Type 0 where
+    pub of : Held
+    pub at : IsAt t from of
+    pub copy : Comes (IsCopy of) t to u
+
+  abbrev pub WhyNoCopy : TableNow V → ℕ → ℕ → Fault → Type 0
+  WhyNoCopy t from to why = IsNoSlot t.slots to why ⊎ (WhyNoHandle t.slots from why ⊎ IsAtLimit t why)
+
+  -- a weak handle of an owner's object ([util.smartptr.weak.const])
+  pub record Downgrades (t : TableNow V) (from to : ℕ) (u : TableNow V) : Type 0 where
+    pub of : Shared
+    pub at : IsAt t from (Owner of)
+    pub weak : Comes (IsWeak (λ d k e. (k.block ≡ of.block) × (k.place ≡ inner.weak_place of.block of.place) × inner.SharesWeakly d of.block of.place e)) t to u
+
+  abbrev pub WhyNotDowngraded : TableNow V → ℕ → ℕ → Fault → Type 0
+  WhyNotDowngraded t from to why = IsNoSlot t.slots to why ⊎ (WhyNoOwner t.slots from why ⊎ IsAtLimit t why)
+
+  -- a lock of a weak handle; whether it got an object's owner ([util.smartptr.weak.obs])
+  pub record Locks (t : TableNow V) (from to : ℕ) (got : Bool) (u : TableNow V) : Type 0 where
+    pub of : weak_handle.Weak
+    pub at : IsAt t from (Weak of)
+    pub owner : Comes (IsOwner (λ d k e. (got ≡ is_some k.block) × locks.IsOwnerOf of.block of.place got k × locks.Locks d of.block of.place got e)) t to u
+
+  abbrev pub WhyNotLocked : TableNow V → ℕ → ℕ → Fault → Type 0
+  WhyNotLocked t from to why = IsNoSlot t.slots to why ⊎ (WhyNoWeak t.slots from why ⊎ IsAtLimit t why)
+
+  -- a copy of what a free shared cell holds ([util.smartptr.atomic.shared])
+  abbrev pub Loads : TableNow V → ℕ → ℕ → TableNow V → Type 0
+  Loads t cell to u = Comes (IsOwner (λ d h e. cells.Loads d (Free cell) kind.Owner h.block h.place e)) t to u
+
+  abbrev pub IsNoCell : TableNow V → ℕ → Fault → Type 0
+  IsNoCell t cell why = (why ≡ fault.Cell) × (t.desk.shape.shared_cells ≤ cell)
+
+  abbrev pub WhyNotLoaded : TableNow V → ℕ → ℕ → Fault → Type 0
+  WhyNotLoaded t cell to why = IsNoSlot t.slots to why ⊎ (IsNoCell t cell why ⊎ IsAtLimit t why)
+
+  -- an owner went from its slot into a free shared cell, and what that held left
+  pub record Stores (t : TableNow V) (from cell : ℕ) (gone : Gone) (u : TableNow V) : Type 0 where
+    pub of : Shared
+    pub at : IsAt t from (Owner of)
+    pub old : Shared
+    pub between : DeskNow V
+    pub exchanges : cells.Exchanges t.desk (Free cell) kind.Owner of.block of.place old.block old.place between
+    pub leaves : Drops between t.endings old.block old.place gone u.desk u.endings
+    pub slots : u.slots ≡ slice_set t.slots from None
+
+  -- a handle left its slot and the desk
+  pub record Resets (t : TableNow V) (at : ℕ) (gone : Gone) (u : TableNow V) : Type 0 where
+    pub of : Held
+    pub was : IsAt t at of
+    pub leaves : LetsGo t.desk t.endings of gone u.desk u.endings
+    pub slots : u.slots ≡ slice_set t.slots at None
+
+  -- a handle went from its slot to another, and what lay there left; a slot that it went from is vacant
+  pub record Moves (t : TableNow V) (from to : ℕ) (u : TableNow V) : Type 0 where
+    pub of : Held
+    pub at : IsAt t from of
+    pub assigns : Assigns t.desk (slice_set t.slots from None) t.endings to of u.desk u.slots u.endings
+
+  abbrev pub WhyNotMoved : TableNow V → ℕ → ℕ → Fault → Type 0
+  WhyNotMoved t from to why = IsNoSlot t.slots to why ⊎ WhyNoHandle t.slots from why
+
+  -- a field was read, or why not
+  pub record Reads (t : TableNow V) (at : ℕ) (read : Result ℕ Refusal) (u : TableNow V) : Type 0 where
+    pub of : Shared
+    pub was : IsAt t at (Owner of)
+    pub event : IsRead t.desk of.block of.place read u.desk
+    pub rest : (u.slots ≡ t.slots) × (u.endings ≡ t.endings)
+
+  abbrev pub IsNotRead : TableNow V → ℕ → Fault → TableNow V → Type 0
+  IsNotRead t at why u = (r : Refusal) × (why ≡ fault.Call r) × Reads t at (Err r) u
+
+  -- use_count ([util.smartptr.shared.obs], [util.smartptr.weak.obs])
+  abbrev pub CountsOf : DeskNow V → Held → ℕ → DeskNow V → Type 0
+  CountsOf d (Owner h) n e = inner.IsCount d kind.Owner h.block h.place n e
+  CountsOf d (Weak w) n e = inner.IsCount d kind.Weak w.block w.place n e
+
+  pub record Counts (t : TableNow V) (at n : ℕ) (u : TableNow V) : Type 0 where
+    pub of : Held
+    pub was : IsAt t at of
+    pub event : CountsOf t.desk of n u.desk
+    pub rest : (u.slots ≡ t.slots) × (u.endings ≡ t.endings)
+
+  -- objects that were left to end did so, and nothing else happened to the table
+  abbrev pub EndsOne : TableNow V → V → TableNow V → Type 0
+  EndsOne t v u = EndsTop t.desk t.endings v u.desk u.endings × (u.slots ≡ t.slots)
+
+  abbrev pub Settles : TableNow V → List (Past V) → TableNow V → Type 0
+  Settles t rs u = AreRounds t.desk t.endings rs u.desk u.endings × (u.endings ≡ []) × (u.slots ≡ t.slots)

@@ -1,0 +1,24 @@
+//! Why a call on a handle table was not done.
+use control_word::Refusal;
+
+/// What a caller did wrong, or why the call was refused (own). A call that answers one has changed nothing, unless it says so.
+#[derive(Clone, Copy, PartialEq, Eq, Debug, Drop)]
+pub enum Fault {
+    /// The number is none of a slot.
+    Slot,
+    /// The slot is vacant.
+    Vacant,
+    /// The slot has a handle of the other kind.
+    Kind,
+    /// The number is none of a cell.
+    Cell,
+    /// The desk refused it.
+    Call(Refusal),
+}
+
+/// A fault, with what was handed in.
+#[derive(Drop)]
+pub struct Returned<T> {
+    pub why: Fault,
+    pub back: T,
+}

@@ -1,0 +1,21 @@
+//! A handle table: a thread's part of a domain with numbered slots for its handles. Its calls ask nothing of their callers.
+#![tactic(auto)]
+
+mod assigning;
+mod cells;
+mod copying;
+mod counting;
+mod fault;
+mod leaving;
+mod locking;
+mod making;
+mod parting;
+mod program;
+mod slots;
+mod table;
+mod telling;
+
+pub use fault::{Fault, Returned};
+pub use program::{Program, Ran, Team, run};
+pub use shared_handle::Gone;
+pub use table::{HandleTable, Home};
