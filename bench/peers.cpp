@@ -2,6 +2,7 @@
 // Prints lines "test|peer|threads|nanoseconds|share", so many of each as the argument says, as the program `measure` of crates/
 // and arc.rs do.
 #include <algorithm>
+#include <array>
 #include <atomic>
 #include <chrono>
 #include <cstdint>
@@ -9,6 +10,7 @@
 #include <cstdlib>
 #include <ctime>
 #include <memory>
+#include <mutex>
 #include <thread>
 #include <utility>
 #include <vector>
@@ -34,6 +36,14 @@ template <class T> void keep(T const &value) { asm volatile("" : : "r,m"(value) 
 
 struct Object {
     std::uint64_t fields[4] = {1, 2, 3, 4};
+};
+
+// An object with a value of 4 KiB, on which a thread works behind a door.
+struct PageObject {
+    std::uint64_t fields[4] = {1, 2, 3, 4};
+    std::array<std::uint64_t, 512> page;
+    std::mutex door;
+    PageObject() { page.fill(1); }
 };
 
 template <class T> struct alignas(128) Apart {
@@ -258,9 +268,25 @@ template <template <class> class Pointer, class Cell, Pointer<Node<Pointer>> (*m
     }
 };
 
+// Objects with a value of 4 KiB, by one thread alone.
+template <class Shared, Shared (*make)()> void page_rows(char const *peer) {
+    time_row("make + end, value of 4 KiB", peer, 1, [](int, std::uint64_t n) {
+        while (n--) keep(make().get());
+    });
+    Shared owner = make();
+    time_row("visit, value of 4 KiB", peer, 1, [&](int, std::uint64_t n) {
+        while (n--) {
+            std::lock_guard<std::mutex> guard(owner->door);
+            keep(++owner->page[7]);
+        }
+    });
+}
+
 std::shared_ptr<Object> make_std() { return std::make_shared<Object>(); }
 std::shared_ptr<Node<std::shared_ptr>> make_std_node() { return std::make_shared<Node<std::shared_ptr>>(); }
+std::shared_ptr<PageObject> make_std_page() { return std::make_shared<PageObject>(); }
 #ifdef WITH_BOOST
+boost::shared_ptr<PageObject> make_boost_page() { return boost::make_shared<PageObject>(); }
 boost::shared_ptr<Object> make_boost() { return boost::make_shared<Object>(); }
 boost::shared_ptr<Node<boost::shared_ptr>> make_boost_node() { return boost::make_shared<Node<boost::shared_ptr>>(); }
 #endif
@@ -274,6 +300,10 @@ int main(int count, char **words) {
     Nodes<boost::shared_ptr, boost::atomic_shared_ptr<Node<boost::shared_ptr>>, make_boost_node> boosted_nodes;
 #endif
     for (int round = 0; round < rounds; round++) {
+        page_rows<std::shared_ptr<PageObject>, make_std_page>("libstdc++ shared_ptr");
+#ifdef WITH_BOOST
+        page_rows<boost::shared_ptr<PageObject>, make_boost_page>("Boost shared_ptr");
+#endif
         for (int threads : {1, 2, 4}) {
             standard.rows("libstdc++ shared_ptr", threads);
             standard_nodes.rows("libstdc++ shared_ptr", threads);

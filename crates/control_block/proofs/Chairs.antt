@@ -43,6 +43,10 @@ module _ {V : Type 0} where
         legal = subst (IsLegal (opening_of v.shape)) (sym seen) t.legal;
       }
 
+  -- and at a look with a slot in hand, before the event
+  pub added_at : (v w : Sight V) (c : Option Block) (e : Event V) → Added (seeing v Idle c v.view.seen) Idle None e w → Added v Idle None e w
+  added_at v w c e a = record { between = a.between; now = a.now; quiet = a.quiet; legal = a.legal }
+
   -- one part of a call after another
   pub moved_both : (v w u : Sight V) (p q : Pending V) (a c : Option Block) → Moved v p a w → Moved w q c u → Moved v q c u
   moved_both v w u p q a c s t =

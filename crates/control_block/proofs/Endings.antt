@@ -68,7 +68,7 @@ fills_latest s (Member q m) h = refl
 ends_live : (d : ℕ) → ending d ≡ live → ⊥
 ends_live d e = cc
 
-ends_unmade : (d : ℕ) → ending d ≡ unmade → ⊥
+pub ends_unmade : (d : ℕ) → ending d ≡ unmade → ⊥
 ends_unmade d e = cc
 
 ends_same : (d e : ℕ) → ending d ≡ ending e → d ≡ e

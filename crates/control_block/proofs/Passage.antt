@@ -31,7 +31,7 @@ use Rattle.control_word.specs.declared.place.Block.{Block}
 use Rattle.control_word.specs.declared.place.Place.{Place}
 use Rattle.control_word.specs.declared.shape.Shape.{Shape}
 use Rattle.control_word.specs.declared.view.Pending.{Pending}
-use Rattle.control_block.specs.Rule.{opening_of, view_of, kept, while_live, IsSlotOf, IsBacked, IsOut, Ruled, seeing}
+use Rattle.control_block.specs.Rule.{opening_of, view_of, kept, until_gone, IsSlotOf, IsBacked, IsOut, Ruled, seeing}
 use Rattle.control_block.specs.Plays.{Added, At, Ends, Holding, HasRoomFor, Moved, known}
 use Rattle.control_block.specs.declared.board.Sight.{Sight}
 use Rattle.control_block.proofs.Endings.{Alike, fills_block, fills_latest, fills_phase, still_ends}
@@ -238,8 +238,8 @@ module _ {V : Type 0} where
       → kept (opening_of k) (entry d e ∷ h) b ≡ kept (opening_of k) h b
   same_kept k h d e q b =
       let z = opening_of k in let s = leads z h in let l = q.latest s d in let v = q.values s (value z h) in
-      ap (λ o. while_live ((leads z (entry d e ∷ h)).object o).phase (value z (entry d e ∷ h) o)) (ap (λ (f : ℕ → ℕ). f b) l)
-      ∙ ((λ i. while_live (q.phases s d (s.latest b) i) ((v i) (s.latest b))))
+      ap (λ o. until_gone ((leads z (entry d e ∷ h)).object o).phase (value z (entry d e ∷ h) o)) (ap (λ (f : ℕ → ℕ). f b) l)
+      ∙ ((λ i. until_gone (q.phases s d (s.latest b) i) ((v i) (s.latest b))))
 
   -- such an event with the slots left alone
   pub quiet_next : (k : Shape) (s : Table.State (Option V) (Sight V)) (r : Ruled k s) (id : ℕ) (v : Sight V) (words : List ℕ) (e : Event V)

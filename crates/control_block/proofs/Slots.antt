@@ -8,7 +8,7 @@ use Rattle.atomic_table.specs.Table as Table
 use Rattle.atomic_table.proofs.Lists.{at_map}
 use Rattle.control_word.proofs.history.Given.{names_an_object}
 use Rattle.control_word.proofs.history.Legal.{held_busy, sound}
-use Rattle.control_word.proofs.history.Moving.{live_busy}
+use Rattle.control_word.proofs.history.Moving.{counted_live, live_busy, owner_counted}
 use Rattle.control_word.proofs.lists.Tallies.{has_without, num_has, num_without, put_other, stored_self, stored_true}
 use Rattle.control_word.specs.Events.{Asks, after}
 use Rattle.control_word.specs.Histories.{entry, leads, value, valued}
@@ -25,7 +25,7 @@ use Rattle.control_word.specs.declared.place.Block.{Block}
 use Rattle.control_word.specs.declared.shape.Shape.{Shape}
 use Rattle.control_word.specs.declared.view.Pending.{Pending}
 use Rattle.control_word.specs.declared.view.Pending.TheVariants.{Idle, Making, Merging, Parting, Paying, Visiting}
-use Rattle.control_block.specs.Rule.{opening_of, view_of, kept, while_live, IsUsing, IsSlotOf, IsBacked, IsOut, Ruled}
+use Rattle.control_block.specs.Rule.{opening_of, view_of, kept, until_gone, IsUsing, IsSlotOf, IsBacked, IsOut, Ruled}
 use Rattle.control_block.specs.declared.board.Sight.{Sight}
 use Rattle.control_block.proofs.Endings.{ends_busy, ends_here, stays_after}
 use Rattle.control_block.proofs.Passage.{backed_still}
@@ -51,11 +51,14 @@ one_store d e b l once hd he = ⊎_elim (λ (q : d ≡ e). q)
     let v = num_has (λ (x : Stored). x.block == b) (stored e b) (without same_stored (stored d b) l) w one in
     absurd (omega arith)) (cases_eq d e)
 
-pub keeps_none : {V : Type 0} (p : Phase) (x : Option V) → (p ≡ live → ⊥) → while_live p x ≡ None
-keeps_none unmade x n = refl
-keeps_none live x n = absurd (n refl)
-keeps_none gone x n = refl
-keeps_none (ending d) x n = refl
+pub keeps_none : {V : Type 0} (p : Phase) (x : Option V) → (p ≡ live → ⊥) → ((d : ℕ) → p ≡ ending d → ⊥) → until_gone p x ≡ None
+keeps_none unmade x n m = refl
+keeps_none live x n m = absurd (n refl)
+keeps_none gone x n m = refl
+keeps_none (ending d) x n m = absurd (m d refl)
+
+pub same_ender : (d e : ℕ) → ending d ≡ ending e → d ≡ e
+same_ender d e q = cc
 
 module _ {V : Type 0} where
   -- a desk visits the object in the block: it has an owner of it, and shut its door
@@ -120,8 +123,8 @@ module _ {V : Type 0} where
         let t = leads (opening_of k) r.history in let fine = sound (opening_of k) r.history r.stands.legal in
         ⊎_elim
         (λ (e : get_elem? s.homes (b - 1) ≡ some (some (kept (opening_of k) r.history b))).
-        e ∙ ap (λ x. some (some x)) (ap (λ x. while_live (t.object x).phase (value (opening_of k) r.history x)) is
-        ∙ ap (λ x. while_live x (value (opening_of k) r.history o)) alive))
+        e ∙ ap (λ x. some (some x)) (ap (λ x. until_gone (t.object x).phase (value (opening_of k) r.history x)) is
+        ∙ ap (λ x. until_gone x (value (opening_of k) r.history o)) alive))
         (λ (q : IsOut s.views b). absurd (⊎_elim
         (⊎_elim (λ (m : Has (stored q.1.view.name b) t.stores). let v = (fine.stores q.1.view.name b m).0 o there in
         let w = live_busy t o alive in omega arith) (λ m. unvisited q.0 q.1 q.2 q.3 q.4 m))
@@ -138,8 +141,10 @@ module _ {V : Type 0} where
         let here : o ≢ 0 → (t.object o).block ≡ b = fine.latest_in b in
         let dead : (t.object o).phase ≡ live → ⊥ = λ q. let w = live_busy t o q in
         let u = vacant.0 o (here (λ y. live_unmade (sym q ∙ (ap (λ x. (t.object x).phase) y ∙ fine.none)))) in omega arith in
+        let unending : (d : ℕ) → (t.object o).phase ≡ ending d → ⊥ = λ d m. let w = ends_busy z t b d fine m in
+        let u = vacant.0 o (ends_here z t b d fine m) in omega arith in
         ⊎_elim (λ (e : get_elem? s.homes (b - 1) ≡ some (some (kept z r.history b))). e
-        ∙ ap (λ x. some (some x)) (keeps_none (t.object o).phase (value z r.history o) dead))
+        ∙ ap (λ x. some (some x)) (keeps_none (t.object o).phase (value z r.history o) dead unending))
         (λ (q : IsOut s.views b). absurd (⊎_elim
         (⊎_elim (λ (m : Has (stored q.1.view.name b) t.stores).
         let same = one_store v.view.name q.1.view.name b t.stores (fine.once b) mine m in
@@ -153,6 +158,35 @@ module _ {V : Type 0} where
         (λ (m : (t.object o).phase ≡ ending q.1.view.name). let w = ends_busy z t b q.1.view.name fine m in
         let u = vacant.0 o (ends_here z t b q.1.view.name fine m) in omega arith)
         (out_means b q.0 q.1 vacant.1.0 q.2 q.3 q.4))) (r.homes b vacant.1)
+
+    -- and a desk in whose hands an object ends finds the slot with its value at home
+    pub ending_home : (id : ℕ) (v : Sight V) → get_elem? s.views id ≡ some v → v.view.spent ≡ false → v.hand ≡ None → (b o : ℕ)
+        → InShape (opening_of k) b → (leads (opening_of k) r.history).latest b ≡ o
+        → ((leads (opening_of k) r.history).object o).phase ≡ ending v.view.name
+        → get_elem? s.homes (b - 1) ≡ some (some (value (opening_of k) r.history o))
+    ending_home id v at awake free b o inside is ends =
+        let z = opening_of k in let t = leads z r.history in let fine = sound z r.history r.stands.legal in
+        let here : (t.object (t.latest b)).phase ≡ ending v.view.name = ap (λ x. (t.object x).phase) is ∙ ends in
+        ⊎_elim (λ (e : get_elem? s.homes (b - 1) ≡ some (some (kept z r.history b))). e
+        ∙ ap (λ x. some (some x)) (ap (λ x. until_gone (t.object x).phase (value z r.history x)) is
+        ∙ ap (λ x. until_gone x (value z r.history o)) ends))
+        (λ (q : IsOut s.views b). absurd (⊎_elim
+        (⊎_elim (λ (m : Has (stored q.1.view.name b) t.stores).
+        let w = ends_busy z t b v.view.name fine here in
+        let u = (fine.stores q.1.view.name b m).0 (t.latest b) (ends_here z t b v.view.name fine here) in omega arith)
+        (λ (m : Visits t q.1.view.name b q.1.view.pending).
+        let n = names_an_object z r.history r.stands.legal q.1.view.name Owner (handle Owner (Some m.object) m.place) (m.has, refl, refl) in
+        let alive = counted_live z t m.object fine (owner_counted t q.1.view.name m.object m.place m.has) in
+        let same : m.object ≡ t.latest b = sym n.2 ∙ ap t.latest m.there in
+        live_ends v.view.name (sym alive ∙ (ap (λ x. (t.object x).phase) same ∙ here))))
+        (λ (m : (t.object (t.latest b)).phase ≡ ending q.1.view.name).
+        let same : v.view.name ≡ q.1.view.name = same_ender v.view.name q.1.view.name (sym here ∙ m) in
+        ⊎_elim (λ (i : q.0 ≡ id). subst (λ c. IsSlotOf c b) free (subst (λ (u : Sight V). IsSlotOf u.hand b) (some-injective q.1 v (sym q.2
+        ∙ (ap (get_elem? s.views) i ∙ at))) q.4))
+        (λ (n : q.0 ≢ id). n (r.stands.team.names q.0 id q.1.view v.view (at_map view_of s.views q.0 q.1 q.2)
+        (at_map view_of s.views id v at) q.3 awake
+        q.1.view.name (inl refl) (inl same))) (cases_eq q.0 id))
+        (out_means b q.0 q.1 inside.0 q.2 q.3 q.4))) (r.homes b inside)
 
     -- what others have in hand is backed still after an event of the seat's
     pub others_still : (id : ℕ) (v : Sight V) → get_elem? s.views id ≡ some v → v.view.spent ≡ false → (e : Event V)
@@ -177,5 +211,5 @@ module _ {V : Type 0} where
       → kept (opening_of k) (entry d e ∷ h) c ≡ kept (opening_of k) h c
   kept_else k h d e o x c objects latest values n =
       let s = leads (opening_of k) h in
-      (λ i. while_live ((objects i) ((latest i) c)).phase ((values i) ((latest i) c)))
-      ∙ ap (λ y. while_live y.phase (value (opening_of k) h (s.latest c))) (put_other s.object o x (s.latest c) n)
+      (λ i. until_gone ((objects i) ((latest i) c)).phase ((values i) ((latest i) c)))
+      ∙ ap (λ y. until_gone y.phase (value (opening_of k) h (s.latest c))) (put_other s.object o x (s.latest c) n)

@@ -1,5 +1,5 @@
 -- Which block becomes vacant.
-use Rattle.std.proofs.Common.{◌≡◌, ℕ, ◌<◌, Option, sym, ap, ◌∙◌, arith}
+use Rattle.std.proofs.Common.{◌≡◌, ℕ, ◌<◌, ◌≤◌, Option, sym, ap, ◌∙◌, arith}
 use Rattle.atomic_table.specs.Seated.{TableId}
 use Rattle.control_word.proofs.history.Legal.{sound}
 use Rattle.control_word.proofs.history.Others.{held_made}
@@ -33,3 +33,8 @@ module _ {V : Type 0} where
   ending_word d id b j h table ends low =
       let inside = (ends_inside d b h ends).1 in let words = ap (λ y. y.words) (sym table) ∙ h.sized.words in
       let l0 = inside.0 in let l1 = inside.1 in (omega arith, omega arith)
+
+  pub ending_slot : (d : Inside V) (id : TableId) (b : ℕ) → IsDesk d → d.seat.table_id ≡ id → Ends d.seat.me.0 ((known d.seat.me.0).latest b) b
+      → b ≤ id.slots
+  ending_slot d id b h table ends =
+      let inside = (ends_inside d b h ends).1 in let slots = ap (λ y. y.slots) (sym table) ∙ h.sized.slots in let l1 = inside.1 in omega arith

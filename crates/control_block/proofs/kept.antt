@@ -16,6 +16,7 @@ pub mod WeakLeave
 pub mod Look
 pub mod Leave
 pub mod Make
+pub mod Fetch
 pub mod Finish
 pub mod Clear
 pub mod Split

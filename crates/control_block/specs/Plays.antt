@@ -119,9 +119,15 @@ module _ {V : Type 0} where
   left b o p st m n m' =
       (n ≢ st.first → tells (Leave (owner o p) false) m.0 m'.0 × (m'.1 ≡ m.1))
       × (n ≡ st.first → Added m.0 Idle (Some b) (Leave (owner o p) true) m'.0
-      × ((x : V) × (value (opening_of m.0.shape) m'.0.view.seen o ≡ Some x) × (m'.1 ≡ (b.0 - 1, Some x) ∷ m.1)))
+      × ((x : V) × (value (opening_of m.0.shape) m'.0.view.seen o ≡ Some x) × (m'.1 ≡ (b.0 - 1, Some x) ∷ m.1) × Ends m'.0 o b.0))
 
-  -- the empty slot of an object that ends goes home, and the desk has seen no more
+  -- the slot of an object that ends is in hand, with the value, and the desk has seen no more
+  abbrev pub fetched : Block → ℕ → Step (Option V) → At V → ℕ → At V → Type 0
+  fetched b o st m n m' =
+      (x : V) × (value (opening_of m.0.shape) m.0.view.seen o ≡ Some x) × (m'.0 ≡ seeing m.0 Idle (Some b) m.0.view.seen)
+      × (m'.1 ≡ (b.0 - 1, Some x) ∷ [])
+
+  -- the slot of an object that ends goes home, with its value, and the desk has seen no more
   abbrev pub gave_back : Step (Option V) → At V → ℕ → At V → Type 0
   gave_back st m n m' = (m'.0 ≡ seeing m.0 Idle None m.0.view.seen) × (m'.1 ≡ [])
 
@@ -143,10 +149,10 @@ module _ {V : Type 0} where
   made b enabled null fields st m n m' =
       (x : V) × (m.1 ≡ (b.0 - 1, Some x) ∷ []) × Added m.0 Idle None (Make b enabled null fields x) m'.0 × (m'.1 ≡ [])
 
-  -- the object is gone; its value is the one that it had
+  -- the object is gone, and its slot, from which the value was taken, goes home; the value is the one that it had
   abbrev pub finished : ℕ → Step (Option V) → At V → ℕ → At V → Type 0
   finished o st m n m' =
-      (x : V) × (value (opening_of m.0.shape) m.0.view.seen o ≡ Some x) × Added m.0 Idle None (Finish o (n == 1) x) m'.0 × (m'.1 ≡ m.1)
+      (x : V) × (value (opening_of m.0.shape) m.0.view.seen o ≡ Some x) × Added m.0 Idle None (Finish o (n == 1) x) m'.0 × (m'.1 ≡ [])
 
   -- a make that has prepared so much of the block, with this in its slot
   pub record IsPrepared (v : Sight V) (b : Block) (me : At V) (l : List ℕ) (x : Option V) : Type 0 where

@@ -37,15 +37,15 @@ module _ {V : Type 0} where
   abbrev pub view_of : Sight V → View V
   view_of u = u.view
 
-  abbrev pub while_live : Phase → Option V → Option V
-  while_live unmade v = None
-  while_live live v = v
-  while_live gone v = None
-  while_live (ending d) v = None
+  abbrev pub until_gone : Phase → Option V → Option V
+  until_gone unmade v = None
+  until_gone live v = v
+  until_gone gone v = None
+  until_gone (ending d) v = v
 
-  -- what the slot of block b keeps: the value of the object last made in it, while that is live
+  -- what the slot of block b keeps: the value of the object last made in it, until that is gone
   abbrev pub kept : Opening → List (Entry V) → ℕ → Option V
-  kept z h b = let o = (leads z h).latest b in while_live ((leads z h).object o).phase (value z h o)
+  kept z h b = let o = (leads z h).latest b in until_gone ((leads z h).object o).phase (value z h o)
 
   -- the half-done call has the slot of block c: a make in it, or a visit of its object
   abbrev pub IsUsing : Pending V → ℕ → Type 0

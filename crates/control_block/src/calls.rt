@@ -16,6 +16,7 @@ ghost use Rattle.control_block.specs.Plays.{IsTold};
 use crate::desk::Desk;
 use crate::domain::Domain;
 use crate::handles::{Pointer, Shared};
+use crate::in_place::InPlace;
 use crate::{handles, steps};
 use control_word::handle::Kind;
 use control_word::layout::{ENABLED, NULL};
@@ -118,13 +119,13 @@ pub fn read<V: Drop + Send>(domain: &Domain<V>, desk: &mut Desk<V>, place: Place
     steps::read::<V, Brand>(&domain.table.shared, &mut desk.seat, place)
 }
 
-/// An owner leaves ([util.smartptr.shared.dest]). The last one's leave hands out the value, and the object ends in the
-/// desk's hands.
+/// An owner leaves ([util.smartptr.shared.dest]). After the last one's leave the object ends in the desk's hands; the answer
+/// knows its value, which stays where it is.
 pub fn leave<V: Drop + Send, A: About>(
     domain: &Domain<V>,
     desk: &mut Desk<V>,
     of: Pointer,
-) -> Option<V>
+) -> Option<InPlace<V>>
     requires domain { Belongs desk.old domain.now }
     requires meant { (A.kind ≡ of.kind) × (A.place ≡ of.place) }
     requires holds { HasHandle desk.old Owner A.place of.block.0 }
@@ -218,24 +219,25 @@ pub fn leave_weak<V: Drop + Send, A: About>(
     vacant
 }
 
-/// An object that ends in the desk's hands is gone (own). It says whether the block is vacant now, and in the desk's
-/// store.
-pub fn finish<V: Drop + Send>(domain: &Domain<V>, desk: &mut Desk<V>, block: Block) -> bool
+/// An object that ends in the desk's hands is gone, and its value comes out (own). It says whether the block is vacant now,
+/// and in the desk's store.
+pub fn finish<V: Drop + Send>(domain: &Domain<V>, desk: &mut Desk<V>, block: Block) -> (V, bool)
     requires domain { Belongs desk.old domain.now }
     requires ending { (x : V) × IsEnding desk.old block.0 x }
     requires clear { (m : ℕ) → m < 3 → IsCleared desk.old block.0 m }
-    ensures event { (x : V) → IsEnding desk.old block.0 x → Adds desk.old (Finish (latest_of desk.old block.0) result x) desk.new }
+    ensures value { (x : V) → IsEnding desk.old block.0 x → result.0 ≡ x }
+    ensures event { (x : V) → IsEnding desk.old block.0 x → Adds desk.old (Finish (latest_of desk.old block.0) result.1 x) desk.new }
     ensures bag { bag_of desk.new ≡ bag_of desk.old }
     ensures held { desk.new.held ≡ desk.old.held }
     ensures desk { IsSameDesk desk.old desk.new }
-    ensures stock { length (stock_of desk.new) ≡ length (stock_of desk.old) + cond result 1 0 }
+    ensures stock { length (stock_of desk.new) ≡ length (stock_of desk.old) + cond result.1 1 0 }
     ensures endings { KeepsOtherEndings desk.old block.0 desk.new }
     ensures count { endings_of desk.new + 1 ≡ endings_of desk.old }
 {
-    let vacant = steps::finish::<V, Brand>(&domain.table.shared, &mut desk.seat, block);
+    let (value, vacant) = steps::finish::<V, Brand>(&domain.table.shared, &mut desk.seat, block);
     desk.endings -= 1;
     put_by(&mut desk.store, block, vacant);
-    vacant
+    (value, vacant)
 }
 
 /// Where a new object's owner points: at the object, or nowhere for an owned null pointer.

@@ -9,6 +9,7 @@ use crate::cell_calls::Content;
 use crate::clears;
 use crate::desk::Desk;
 use crate::domain::Domain;
+use crate::in_place::InPlace;
 use control_word::Block;
 use control_word::handle::Kind;
 use std::marker::Brand;
@@ -21,7 +22,7 @@ pub fn clear_shared<V: Drop + Send>(
     desk: &mut Desk<V>,
     block: Block,
     member: u32,
-) -> (Content, Option<V>)
+) -> (Content, Option<InPlace<V>>)
     requires domain { Belongs desk.old domain.now }
     requires ending { (x : V) × IsEnding desk.old block.0 x }
     requires member { member < 2 }

@@ -14,6 +14,7 @@ ghost use Rattle.control_block.specs.Plays.{Ends, HasRoomFor, Rests, tells};
 
 use crate::board::{Board, Chair};
 use crate::clear_plays::{Clears, LooksClear};
+use crate::in_place::InPlace;
 use crate::leaving;
 use crate::plays::Meant;
 use control_word::cell::unpack;
@@ -70,7 +71,7 @@ pub fn clear_shared<V: Drop + Send, M: Meant>(
     chair: &mut Chair<V>,
     block: Block,
     member: u32,
-) -> (CellWord, Option<V>)
+) -> (CellWord, Option<InPlace<V>>)
     requires board { (chair.old.table_id ≡ board.now.table_id) × IsSized chair.old.table_id chair.old.me.0.shape }
     requires rests { Rests chair.old.me }
     requires word { (0 < block.0) × (member < 3) × (M.word ≡ member) × (spot block.0 (7 + member) < board.now.table_id.words) }

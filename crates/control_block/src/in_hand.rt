@@ -3,6 +3,7 @@ ghost use Rattle.std.specs.Prelude.{◌≡◌, ◌-◌, ◌<◌, [], ◌∷◌, 
 ghost use Rattle.std.specs.Fn.{FnOnceReturnsAtMut};
 
 use crate::board::{Board, Chair};
+use crate::in_place::InPlace;
 use control_word::Block;
 
 /// The value of an object that is made goes into the block's vacant cell.
@@ -15,6 +16,18 @@ pub fn fill<V: Drop + Send>(board: &Board<V>, chair: &mut Chair<V>, block: Block
 {
     let slot = chair.slot_mut(board, usize::from(block.0) - 1);
     slot.fill(value);
+}
+
+/// What is known of the value of an object that begins to end, which stays in the block's cell.
+pub fn remember<V: Drop + Send>(board: &Board<V>, chair: &mut Chair<V>, block: Block) -> InPlace<V>
+    requires board { chair.old.table_id ≡ board.now.table_id }
+    requires hand { (0 < block.0) × (x : V) × (chair.old.me.1 ≡ (block.0 - 1, Some x) ∷ []) }
+    ensures chair { (chair.new.table_id ≡ chair.old.table_id) × (chair.new.id ≡ chair.old.id) }
+    ensures same { chair.new.me ≡ chair.old.me }
+    ensures value { chair.old.me.1 ≡ (block.0 - 1, Some result) ∷ [] }
+{
+    let slot = chair.slot_mut(board, usize::from(block.0) - 1);
+    slot.remember()
 }
 
 /// The value of an object that has ended comes out of the block's cell.

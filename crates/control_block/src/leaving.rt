@@ -14,6 +14,7 @@ ghost use Rattle.control_block.specs.Rule.{opening_of};
 
 use crate::board::{Board, Chair};
 use crate::in_hand;
+use crate::in_place::InPlace;
 use crate::plays::{GivesBack, Leaves, Meant, WeakLeaves};
 use control_word::counts::ONE_FUND;
 use control_word::layout::{OWNERS, WEAKS, block_word};
@@ -21,14 +22,14 @@ use control_word::shape::CELL_FUNDS;
 use control_word::{Block, CellWord};
 
 /// Leave: one owner less ([util.smartptr.shared.dest]), and with it the funds that a half-done cell call has to give back, if
-/// it came out of a cell. Of the last one the value comes out, and its object ends in the hands of the desk: the slot is
-/// taken at the leave, emptied, and given back by a look.
+/// it came out of a cell. Of the last one the object ends in the hands of the desk, and its value stays where it is: the slot
+/// is taken at the leave, so that the value is known, and given back by a look.
 pub fn leave<V: Drop + Send, M: Meant>(
     board: &Board<V>,
     chair: &mut Chair<V>,
     block: Block,
     funds: u32,
-) -> Option<V>
+) -> Option<InPlace<V>>
     requires board { chair.old.table_id ≡ board.now.table_id }
     requires word { (0 < block.0) × (block.0 ≤ board.now.table_id.slots) × (spot block.0 0 < board.now.table_id.words) }
     requires may { (M.block ≡ block) × MayLeave chair.old.me Owner M.object M.place block.0 funds }
@@ -42,7 +43,7 @@ pub fn leave<V: Drop + Send, M: Meant>(
     if found != all {
         return None;
     }
-    let value = in_hand::take(board, chair, block);
+    let value = in_hand::remember(board, chair, block);
     board.load::<GivesBack>(chair, word);
     Some(value)
 }
@@ -70,7 +71,7 @@ pub fn let_go<V: Drop + Send, M: Meant>(
     board: &Board<V>,
     chair: &mut Chair<V>,
     out: CellWord,
-) -> Option<V>
+) -> Option<InPlace<V>>
     requires board { chair.old.table_id ≡ board.now.table_id }
     requires cell { IsCellWord out }
     requires meant { (M.place ≡ out.place) × IfSome out.owned (λ b. (M.block ≡ b) × (M.object ≡ (known chair.old.me.0).latest b.0)) }

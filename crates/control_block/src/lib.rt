@@ -21,6 +21,7 @@ mod fund_plays;
 mod funds;
 pub mod handles;
 mod in_hand;
+pub mod in_place;
 mod join;
 pub mod laws;
 mod leaving;

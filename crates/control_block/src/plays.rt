@@ -5,7 +5,7 @@ ghost use Rattle.control_word.specs.declared.handle.Kind.{Kind};
 ghost use Rattle.control_word.specs.declared.handle.Kind.TheVariants.{Owner};
 ghost use Rattle.control_word.specs.declared.place.Block.{Block};
 ghost use Rattle.control_word.specs.declared.place.Place.{Place};
-ghost use Rattle.control_block.specs.Plays.{shared, weakly_shared, weakly_left, counted, found_expired, peeked, read, left, gave_back, began, wrote, made, finished, parted, goes_on, comes_off, grown, over, joined};
+ghost use Rattle.control_block.specs.Plays.{shared, weakly_shared, weakly_left, counted, found_expired, peeked, read, left, gave_back, fetched, began, wrote, made, finished, parted, goes_on, comes_off, grown, over, joined};
 
 use crate::board::Sight;
 use crate::slot::Slot;
@@ -125,6 +125,13 @@ pub struct GivesBack;
 
 impl<V> Play<Slot<V>, Sight<V>> for GivesBack {
     ghost then = { gave_back };
+}
+
+/// A look that takes the slot of an object that ends.
+pub struct Fetches<M>(PhantomData<M>);
+
+impl<V, M: Meant> Play<Slot<V>, Sight<V>> for Fetches<M> {
+    ghost then = { fetched M.block M.object };
 }
 
 /// The first write of a make: the weak word.

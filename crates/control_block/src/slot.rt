@@ -2,6 +2,7 @@
 ghost use Rattle.std.specs.Prelude.{◌≡◌, None, Some};
 ghost use Rattle.std.specs.Fn.{FnOnceReturnsAtMut};
 
+use crate::in_place::InPlace;
 use slot_arena::{Filled, Vacant};
 use std::marker::Model;
 use std::mem::replace;
@@ -64,6 +65,17 @@ impl<V: Drop> Slot<V> {
         let (vacant, value) = filled.take();
         self.token = Token::Vacant(vacant);
         value
+    }
+
+    /// What is known of the value, which stays in its cell.
+    pub fn remember(&self) -> InPlace<V>
+        requires { (x : V) × (self.now ≡ Some x) }
+        ensures { self.now ≡ Some result }
+    {
+        match &self.token {
+            Token::Filled(filled) => InPlace::of(filled.get()),
+            _ => unreachable!(),
+        }
     }
 
     /// The value is worked on in its cell.

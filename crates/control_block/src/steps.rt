@@ -14,9 +14,10 @@ ghost use Rattle.control_block.specs.Plays.{tells, goes_on, comes_off, known, Ad
 ghost use Rattle.control_block.specs.declared.board.Sight.{Sight};
 
 use crate::board::{Board, Chair};
+use crate::in_place::InPlace;
 use crate::plays::{
-    Begins, Claims, Counts, Cut, FindsExpired, Finishes, Given, Glue, Joins, Meant, Peeks, Planned,
-    Reads, Shares, Splits, WeakShares, Writes,
+    Begins, Claims, Counts, Cut, Fetches, FindsExpired, Finishes, Given, Glue, Joins, Meant, Peeks,
+    Planned, Reads, Shares, Splits, WeakShares, Writes,
 };
 use crate::{in_hand, leaving};
 use control_word::counts::told_count;
@@ -123,7 +124,7 @@ pub fn leave<V: Drop + Send, M: Meant>(
     board: &Board<V>,
     chair: &mut Chair<V>,
     block: Block,
-) -> Option<V>
+) -> Option<InPlace<V>>
     requires board { chair.old.table_id ≡ board.now.table_id }
     requires rests { Rests chair.old.me }
     requires word { (0 < block.0) × (block.0 ≤ board.now.table_id.slots) × (spot block.0 0 < board.now.table_id.words) }
@@ -223,18 +224,28 @@ pub fn make<V: Drop + Send, M: Planned>(
     claim::<V, M>(board, chair, block);
 }
 
-/// Finish: an ending gives up the owners' common weak count (own). True where the block is vacant now.
-pub fn finish<V, M: Meant>(board: &Board<V>, chair: &mut Chair<V>, block: Block) -> bool
+/// Finish: the value of an object that has ended comes out of its cell, and the ending gives up the owners' common weak
+/// count (own). It answers the value, and whether the block is vacant now.
+pub fn finish<V: Drop + Send, M: Meant>(
+    board: &Board<V>,
+    chair: &mut Chair<V>,
+    block: Block,
+) -> (V, bool)
     requires board { chair.old.table_id ≡ board.now.table_id }
     requires rests { Rests chair.old.me }
-    requires word { (0 < block.0) × (spot block.0 1 < board.now.table_id.words) }
-    requires ends { Ends chair.old.me.0 M.object block.0 }
+    requires word { (0 < block.0) × (block.0 ≤ board.now.table_id.slots) × (spot block.0 1 < board.now.table_id.words) }
+    requires ends { (M.block ≡ block) × Ends chair.old.me.0 M.object block.0 }
     requires clear { IsClear chair.old.me.0 M.object }
     requires value { (x : V) × (value (opening_of chair.old.me.0.shape) chair.old.me.0.view.seen M.object ≡ Some x) }
-    ensures chair { (chair.new.table_id ≡ chair.old.table_id) × (chair.new.id ≡ chair.old.id) × (chair.new.me.1 ≡ chair.old.me.1) }
-    ensures event { (x : V) → value (opening_of chair.old.me.0.shape) chair.old.me.0.view.seen M.object ≡ Some x → tells (Finish M.object result x) chair.old.me.0 chair.new.me.0 }
+    ensures chair { (chair.new.table_id ≡ chair.old.table_id) × (chair.new.id ≡ chair.old.id) × (chair.new.me.1 ≡ []) }
+    ensures value { value (opening_of chair.old.me.0.shape) chair.old.me.0.view.seen M.object ≡ Some result.0 }
+    ensures event { (x : V) → value (opening_of chair.old.me.0.shape) chair.old.me.0.view.seen M.object ≡ Some x → tells (Finish M.object result.1 x) chair.old.me.0 chair.new.me.0 }
 {
-    board.fetch_sub::<Finishes<M>>(chair, block_word(block, WEAKS), 1) == 1
+    let word = block_word(block, WEAKS);
+    board.load::<Fetches<M>>(chair, word);
+    let value = in_hand::take(board, chair, block);
+    let found = board.fetch_sub::<Finishes<M>>(chair, word, 1);
+    (value, found == 1)
 }
 
 /// Split: the look at which a new desk gets its name and what it is given (own).

@@ -12,6 +12,7 @@ use crate::cell_calls::{Content, Site, word_of};
 use crate::cell_plays::Aimed;
 use crate::desk::Desk;
 use crate::domain::Domain;
+use crate::in_place::InPlace;
 use crate::store_rounds;
 use control_word::CellWord;
 use control_word::handle::Kind;
@@ -24,7 +25,7 @@ pub fn store_shared<V: Drop + Send, A: Aimed>(
     desk: &mut Desk<V>,
     site: Site,
     new: Content,
-) -> (Content, Option<V>)
+) -> (Content, Option<InPlace<V>>)
     requires domain { Belongs desk.old domain.now }
     requires cell { IsOpenAt desk.old site Owner × (A.cell ≡ cell_at desk.old site) }
     requires new { A.new ≡ handle_in desk.old Owner new.block new.place }

@@ -14,6 +14,7 @@ ghost use Rattle.control_block.specs.Plays.{HasRoomFor, Holding, Rests, known};
 use crate::board::{Board, Chair};
 use crate::cell_plays::Aimed;
 use crate::cell_rounds::swap_in;
+use crate::in_place::InPlace;
 use crate::leaving;
 use control_word::CellWord;
 use control_word::handle::Kind;
@@ -27,7 +28,7 @@ pub fn store_shared<V: Drop + Send, A: Aimed>(
     chair: &mut Chair<V>,
     word: usize,
     new: CellWord,
-) -> (CellWord, Option<V>)
+) -> (CellWord, Option<InPlace<V>>)
     requires board { (chair.old.table_id ≡ board.now.table_id) × IsSized chair.old.table_id chair.old.me.0.shape }
     requires rests { Rests chair.old.me }
     requires word { word < board.now.table_id.words }

@@ -12,6 +12,7 @@ mod cell_rounds;
 mod chain;
 mod next;
 mod observers;
+mod pages;
 mod rounds;
 mod rows;
 mod stack;
@@ -138,5 +139,6 @@ fn main(rt: HostRuntime) -> io::Result<()> {
     for _ in 0..passes {
         pass(&rt, rt.alloc())?;
     }
-    passes_alone(&rt, rt.alloc(), passes)
+    passes_alone(&rt, rt.alloc(), passes)?;
+    pages::measure(&rt, rt.alloc(), passes)
 }

@@ -18,7 +18,7 @@ use std::sync::Wait;
 pub(crate) const FIELDS: [u64; 4] = [1, 2, 3, 4];
 
 /// What is left where nothing more is to end: an object that did would end in the desk's hands for good.
-pub(crate) fn lose(left: Left<()>) {
+pub(crate) fn lose<V: Drop + Send>(left: Left<V>) {
     match left {
         Left::Empty | Left::Others => {}
         Left::Last(ending) => {
@@ -27,9 +27,9 @@ pub(crate) fn lose(left: Left<()>) {
     }
 }
 
-/// An object ends: its members are cleared, and it is finished.
+/// An object ends: its members are cleared, and it is finished. Its value comes out.
 #[inline(always)]
-pub(crate) fn bury(domain: &Domain<()>, desk: &mut Desk<()>, ending: Ending<()>)
+pub(crate) fn bury<V: Drop + Send>(domain: &Domain<V>, desk: &mut Desk<V>, ending: Ending<V>) -> V
     requires domain { Belongs desk.old domain.now }
     requires ends { Ends desk.old ending }
     ensures desk { IsSameDesk desk.old desk.new }
@@ -48,7 +48,7 @@ pub(crate) fn bury(domain: &Domain<()>, desk: &mut Desk<()>, ending: Ending<()>)
 
 /// An owner leaves, and its object ends where it was the last.
 #[inline(always)]
-pub(crate) fn end(domain: &Domain<()>, desk: &mut Desk<()>, owner: Shared)
+pub(crate) fn end<V: Drop + Send>(domain: &Domain<V>, desk: &mut Desk<V>, owner: Shared)
     requires domain { Belongs desk.old domain.now }
     requires holds { Holds desk.old Owner owner.block owner.place }
     ensures desk { IsSameDesk desk.old desk.new }
@@ -57,7 +57,7 @@ pub(crate) fn end(domain: &Domain<()>, desk: &mut Desk<()>, owner: Shared)
 {
     match release(domain, desk, owner) {
         Left::Empty | Left::Others => {}
-        Left::Last(ending) => bury(domain, desk, ending),
+        Left::Last(ending) => drop(bury(domain, desk, ending)),
     }
 }
 

@@ -1,13 +1,15 @@
 //! What comes of a release, and an object whose last owner has left ([util.smartptr.shared.dest]).
 ghost use Rattle.shared_handle.specs.Endings.{IsLeftOf};
 
+use control_block::in_place::InPlace;
 use control_word::Block;
 
 /// An object whose last owner has left: its deleter runs with whoever has this. Its members must be cleared, and it must be
 /// finished.
 pub struct Ending<V> {
     pub(crate) block: Block,
-    pub(crate) value: V,
+    /// It lies in the block until `finish` hands it out.
+    pub(crate) value: InPlace<V>,
     /// Which members are cleared.
     pub(crate) first: bool,
     pub(crate) next: bool,
@@ -33,9 +35,9 @@ pub enum Left<V> {
 }
 
 impl<V: Drop + Send> Left<V> {
-    /// What an owner was that has left, by the block of what it owned, and by the value that came out where it was the last
+    /// What an owner was that has left, by the block of what it owned, and by the value that it leaves in its block where it was the last
     /// (own). It is for the crates whose calls end handles.
-    pub fn of_parts(block: Option<Block>, value: Option<V>) -> Left<V>
+    pub fn of_parts(block: Option<Block>, value: Option<InPlace<V>>) -> Left<V>
         ensures { IsLeftOf block value result }
     {
         let Some(block) = block else {

@@ -12,6 +12,7 @@ use crate::endings::Ending;
 use control_block::desk::Desk;
 use control_block::domain::Domain;
 use control_block::handles::Shared;
+use control_block::in_place::InPlace;
 use control_block::{calls, handles};
 use control_word::{Block, Place, Refusal};
 use std::marker::Brand;
@@ -38,7 +39,7 @@ impl<V: Drop + Send> Ending<V> {
     }
 
     /// An object that begins to end: no member is cleared yet.
-    pub(crate) fn begin(block: Block, value: V) -> Self
+    pub(crate) fn begin(block: Block, value: InPlace<V>) -> Self
         ensures { (result.block ≡ block) × (result.value ≡ value) × IsUncleared result }
     {
         Self {
@@ -122,21 +123,21 @@ impl<V: Drop + Send> Ending<V> {
     {
         let Self {
             block,
-            value,
+            value: _,
             first: _,
             next: _,
             up: _,
         } = self;
-        calls::finish(domain, desk, block);
+        let (value, _) = calls::finish(domain, desk, block);
         value
     }
 
-    /// Gives the ending up (own): its block and its value come out. A clear may hand out one ending more, and how long a chain
+    /// Gives the ending up (own): its block comes out, and what clauses know of its value. A clear may hand out one ending more, and how long a chain
     /// is that ends so isn't known before, since other desks may lengthen it meanwhile: a caller whose loop is counted, so
     /// that it ends without a wait, can be left with an ending after its last round. The object stays ending in its desk's
     /// hands, and its place of the allowance taken, as a handle that is forgotten stays counted; its block isn't used again,
-    /// and the census lists it.
-    pub fn forget(self) -> (Block, V)
+    /// the census lists it, and the value is dropped with the census.
+    pub fn forget(self) -> (Block, InPlace<V>)
         ensures { (result.0 ≡ self.block) × (result.1 ≡ self.value) }
     {
         let Self {

@@ -32,7 +32,7 @@ use Rattle.control_word.specs.declared.shape.Shape.{Shape}
 use Rattle.control_word.specs.declared.view.Pending.{Pending}
 use Rattle.control_word.specs.declared.view.Pending.TheVariants.{Idle, Visiting}
 use Rattle.control_word.specs.declared.view.View.{View}
-use Rattle.control_block.specs.Rule.{IsSlotOf, Ruled, kept, opening_of, seeing, view_of, while_live}
+use Rattle.control_block.specs.Rule.{IsSlotOf, Ruled, kept, opening_of, seeing, view_of, until_gone}
 use Rattle.control_block.specs.Plays.{At, Holding, Rests}
 use Rattle.control_block.specs.DoorPlays.{opened, shut}
 use Rattle.control_block.specs.declared.board.Sight.{Sight}
@@ -135,8 +135,8 @@ module _ {V : Type 0} where
       (subst (λ y. Stands z (set s.words y (get_or s.words y 0 - 4)) (set views id (sees_as v.view Idle h)) h) (sym word) l.1) in
       let w = seeing v Idle None h in let homes = set s.homes (b.0 - 1) (some (Some becomes)) in
       let new : kept z h b.0 ≡ Some becomes =
-      ap (λ q. while_live (t.object q).phase (cond (q == o) (Some becomes) (value z r.history q))) last
-      ∙ (ap (λ y. while_live y (cond (o == o) (Some becomes) (value z r.history o))) alive ∙ put_same (value z r.history) o (Some becomes) o refl) in (
+      ap (λ q. until_gone (t.object q).phase (cond (q == o) (Some becomes) (value z r.history q))) last
+      ∙ (ap (λ y. until_gone y (cond (o == o) (Some becomes) (value z r.history o))) alive ∙ put_same (value z r.history) o (Some becomes) o refl) in (
         w,
         gives,
         tt,
@@ -149,7 +149,7 @@ module _ {V : Type 0} where
             ∙ ap (λ y. some (some y)) (sym new))))
             (λ (q : c ≢ b.0). inr (inr (
               set_else s.homes (b.0 - 1) (c - 1) (some (Some becomes)) (slots_apart b.0 c inside.0 within.0 q),
-              ap (while_live (t.object (t.latest c)).phase) (put_other (value z r.history) o (Some becomes) (t.latest c)
+              ap (until_gone (t.object (t.latest c)).phase) (put_other (value z r.history) o (Some becomes) (t.latest c)
                   (λ y. q (sym (fine.latest_in c (λ f. let l3 = n.0 in omega arith)) ∙ (ap (λ f. (t.object f).block) y ∙ here)))),
               λ y. q (sym (subst (λ g. IsSlotOf g c) hand y)),
             ))) (cases_eq c b.0))),

@@ -16,7 +16,7 @@ use Rattle.control_word.specs.declared.event.Event.{Event}
 use Rattle.control_word.specs.declared.event.Event.TheVariants.{Join}
 use Rattle.control_word.specs.declared.shape.Shape.{Shape}
 use Rattle.control_word.specs.declared.view.Pending.TheVariants.{Idle, Merging}
-use Rattle.control_block.specs.Rule.{IsBacked, IsOut, IsSlotOf, Ruled, opening_of, seeing, view_of, while_live}
+use Rattle.control_block.specs.Rule.{IsBacked, IsOut, IsSlotOf, Ruled, opening_of, seeing, view_of, until_gone}
 use Rattle.control_block.specs.Plays.{At, grown, joined, over}
 use Rattle.control_block.specs.declared.board.Sight.{Sight}
 use Rattle.control_block.proofs.Lists.{each_set, map_set}
@@ -29,7 +29,7 @@ module _ {V : Type 0} where
   tail_of [] = []
   tail_of (x ∷ l) = l
 
-  handed_keeps : (other d : ℕ) (p : Phase) (x : Option V) → while_live (handed other d p) x ≡ while_live p x
+  handed_keeps : (other d : ℕ) (p : Phase) (x : Option V) → until_gone (handed other d p) x ≡ until_gone p x
   handed_keeps other d unmade x = refl
   handed_keeps other d live x = refl
   handed_keeps other d gone x = refl

@@ -26,11 +26,11 @@ use Rattle.control_word.specs.declared.place.Place.{Place}
 use Rattle.control_word.specs.declared.shape.Shape.{Shape}
 use Rattle.control_word.specs.declared.view.Pending.{Pending}
 use Rattle.control_word.specs.declared.view.Pending.TheVariants.{Idle}
-use Rattle.control_block.specs.Rule.{IsBacked, IsSlotOf, Ruled, kept, opening_of, seeing, view_of, while_live}
-use Rattle.control_block.specs.Plays.{At, gave_back, left}
+use Rattle.control_block.specs.Rule.{IsSlotOf, Ruled, kept, opening_of, seeing, view_of, until_gone}
+use Rattle.control_block.specs.Plays.{At, Ends, gave_back, left}
 use Rattle.control_block.specs.Leaving.{MayLeave}
 use Rattle.control_block.specs.declared.board.Sight.{Sight}
-use Rattle.control_block.proofs.Passage.{adds, next, plain, quiet_next}
+use Rattle.control_block.proofs.Passage.{adds, next, plain, quiet_next, still_ending}
 use Rattle.control_block.proofs.Slots.{kept_else, live_home, live_unmade, others_still, slots_apart}
 use Rattle.control_block.proofs.LastOwners.{unvisited}
 use Rattle.control_block.proofs.kept.Look.{looked}
@@ -122,30 +122,33 @@ module _ {V : Type 0} where
                   x.0,
                   ap (λ y. value (opening_of y) h o) (r.shapes id v at awake) ∙ x.1,
                   refl,
+                  subst (λ y. ((leads y h).latest b.0 ≡ o) × (((leads y h).object o).phase ≡ ending v.view.name))
+                      (sym (ap opening_of (r.shapes id v at awake)))
+                      (n.2, ap (λ y. y.phase) (put_same (leads z r.history).object o (moved_to (ending v.view.name) ((leads z r.history).object o)) o refl)),
                 ),
               ),
             ),
           )
 
-  -- the empty slot of an ending goes home at the next look
-  pub allows_give_back : (k : Shape) (slots id i : ℕ) (b : Block) (me : At V) → me.0.view.spent ≡ false → me.0.view.pending ≡ Idle
-      → me.0.hand ≡ Some b
-      → me.1 ≡ (b.0 - 1, None) ∷ [] → (1 ≤ b.0) × (b.0 ≤ slots)
+  -- the slot of an ending goes home, with its value, at the next look
+  pub allows_give_back : (k : Shape) (slots id i o : ℕ) (b : Block) (x : V) (me : At V) → me.0.view.spent ≡ false → me.0.view.pending ≡ Idle
+      → me.0.hand ≡ Some b → me.1 ≡ (b.0 - 1, Some x) ∷ [] → (1 ≤ b.0) × (b.0 ≤ slots)
+      → Ends me.0 o b.0 → value (opening_of me.0.shape) me.0.view.seen o ≡ Some x
       → Allows (Ruled k) slots id me i (λ n. n) (gave_back (step slots i 0 0 none) me)
-  allows_give_back k slots id i b me awake idle hand carried inside s r sized at small =
+  allows_give_back k slots id i o b x me awake idle hand carried inside ends val s r sized at small =
       let v = me.0 in let z = opening_of k in let w = seeing v Idle None v.view.seen in (
         w,
         gives,
         tt,
         subst (λ c. Ruled k record { words = set s.words i (get_or s.words i 0); homes = put_back s.homes c; views = set s.views id w }) (sym carried)
-            (next k s r id v w _ (set s.homes (b.0 - 1) (some None)) r.history at awake (r.shapes id v at awake)
+            (next k s r id v w _ (set s.homes (b.0 - 1) (some (Some x))) r.history at awake (r.shapes id v at awake)
             (looked z s.words i _ r.history (subst (λ l. Stands z s.words l r.history) (sym (same_views s at)) r.stands))
-            (length-set s.homes (b.0 - 1) (some None)) tt (λ j u ne there un back. back)
+            (length-set s.homes (b.0 - 1) (some (Some x))) tt (λ j u ne there un back. back)
             (λ c within. ⊎_elim
-            (λ (q : c ≡ b.0). inl (subst (λ y. get_elem? (set s.homes (b.0 - 1) (some None)) (y - 1) ≡ some (some (kept z r.history y))) (sym q)
-            (set_here s.homes (b.0 - 1) (some None) (let l0 = inside.0 in let l1 = inside.1 in omega arith) ∙ ap (λ y. some (some y)) (sym empty_there))))
+            (λ (q : c ≡ b.0). inl (subst (λ y. get_elem? (set s.homes (b.0 - 1) (some (Some x))) (y - 1) ≡ some (some (kept z r.history y))) (sym q)
+            (set_here s.homes (b.0 - 1) (some (Some x)) (let l0 = inside.0 in let l1 = inside.1 in omega arith) ∙ ap (λ y. some (some y)) (sym full_there))))
             (λ (q : c ≢ b.0). inr (inr (
-              set_else s.homes (b.0 - 1) (c - 1) (some None) (slots_apart b.0 c inside.0 within.0 q),
+              set_else s.homes (b.0 - 1) (c - 1) (some (Some x)) (slots_apart b.0 c inside.0 within.0 q),
               refl,
               λ y. q (sym (subst (λ g. IsSlotOf g c) hand y)),
             )))
@@ -159,13 +162,8 @@ module _ {V : Type 0} where
           ap (λ (y : Pending V). set (map view_of s.views) id (sees_as me.0.view y me.0.view.seen)) (sym idle)
           ∙ set_again (map view_of s.views) id me.0.view (at_map view_of s.views id me.0 at)
 
-      -- nobody is making: so the object there is ending
-      ends : ((leads (opening_of k) r.history).object ((leads (opening_of k) r.history).latest b.0)).phase ≡ ending me.0.view.name
-      ends =
-          let t = leads (opening_of k) r.history in
-          let back : IsBacked {V = V} t me.0.view.name Idle (Some b) =
-          subst (λ (y : Pending V × Option Block). IsBacked {V = V} t me.0.view.name y.0 y.1) (λ j. (idle j, hand j)) (r.backed id me.0 at awake) in
-          ⊎_elim (λ (m : ⊥). absurd m) (λ (m : (t.object (t.latest b.0)).phase ≡ ending me.0.view.name). m) back
-
-      empty_there : kept (opening_of k) r.history b.0 ≡ None
-      empty_there = ap (λ x. while_live x (value (opening_of k) r.history ((leads (opening_of k) r.history).latest b.0))) ends
+      full_there : kept (opening_of k) r.history b.0 ≡ Some x
+      full_there =
+          let t = leads (opening_of k) r.history in let still = still_ending k s r id me.0 at awake o b.0 ends in
+          ap (λ y. until_gone (t.object y).phase (value (opening_of k) r.history y)) still.0
+          ∙ (ap (λ y. until_gone y (value (opening_of k) r.history o)) (still.1.phase ∙ ends.1) ∙ (still.2 ∙ val))

@@ -25,7 +25,7 @@ use Rattle.control_word.specs.Views.{Stands}
 use Rattle.control_word.specs.declared.shape.Shape.{Shape}
 use Rattle.control_word.specs.declared.view.Pending.{Pending}
 use Rattle.control_word.specs.declared.view.Pending.TheVariants.{Idle, Making}
-use Rattle.control_block.specs.Rule.{IsSlotOf, Ruled, kept, opening_of, seeing, view_of, while_live}
+use Rattle.control_block.specs.Rule.{IsSlotOf, Ruled, kept, opening_of, seeing, view_of, until_gone}
 use Rattle.control_block.specs.Plays.{At, HasRoomFor, Rests, began, known, made, prepared, wrote}
 use Rattle.control_block.specs.declared.board.Sight.{Sight}
 use Rattle.control_block.proofs.Passage.{adds, moves, next, point, ready, still_room, still_stored}
@@ -126,9 +126,9 @@ module _ {V : Type 0} where
           → kept z (entry d (Make b enabled null fields x) ∷ h) b.0 ≡ Some x
       fresh_kept z h d b enabled null fields x =
           let s = leads z h in let m = suc s.made in
-          ap (λ o. while_live (put s.object m (new_object b.0 enabled null fields) o).phase (valued s (Make b enabled null fields x)
+          ap (λ o. until_gone (put s.object m (new_object b.0 enabled null fields) o).phase (valued s (Make b enabled null fields x)
           (value z h) o)) (put_same s.latest b.0 m b.0 refl)
-          ∙ (ap (λ y. while_live y.phase (valued s (Make b enabled null fields x) (value z h) m)) (put_same s.object m
+          ∙ (ap (λ y. until_gone y.phase (valued s (Make b enabled null fields x) (value z h) m)) (put_same s.object m
           (new_object b.0 enabled null fields) m refl)
           ∙ put_same (value z h) m (Some x) m refl)
 
@@ -137,8 +137,8 @@ module _ {V : Type 0} where
           → (leads z h).latest c ≤ (leads z h).made → kept z (entry d (Make b enabled null fields x) ∷ h) c ≡ kept z h c
       other_kept z h d b enabled null fields x c n le =
           let s = leads z h in let m = suc s.made in let ne : s.latest c ≢ m = λ q. omega arith in
-          ap (λ o. while_live (put s.object m (new_object b.0 enabled null fields) o).phase (valued s (Make b enabled null fields x)
+          ap (λ o. until_gone (put s.object m (new_object b.0 enabled null fields) o).phase (valued s (Make b enabled null fields x)
           (value z h) o)) (put_other s.latest b.0 m c n)
-          ∙ (ap (λ y. while_live y.phase (valued s (Make b enabled null fields x) (value z h) (s.latest c))) (put_other s.object m
+          ∙ (ap (λ y. until_gone y.phase (valued s (Make b enabled null fields x) (value z h) (s.latest c))) (put_other s.object m
           (new_object b.0 enabled null fields) (s.latest c) ne)
-          ∙ ap (while_live (s.object (s.latest c)).phase) (put_other (value z h) m (Some x) (s.latest c) ne))
+          ∙ ap (until_gone (s.object (s.latest c)).phase) (put_other (value z h) m (Some x) (s.latest c) ne))

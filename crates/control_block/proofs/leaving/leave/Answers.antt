@@ -7,7 +7,7 @@ use Rattle.control_word.specs.declared.event.Event.TheVariants.{Leave}
 use Rattle.control_word.specs.declared.handle.Kind.TheVariants.{Owner}
 use Rattle.control_word.specs.declared.place.Block.{Block}
 use Rattle.control_word.specs.declared.view.Pending.TheVariants.{Idle}
-use Rattle.control_block.specs.Plays.{left}
+use Rattle.control_block.specs.Plays.{At, Ends, left}
 use Rattle.control_block.specs.Rule.{Ruled, opening_of, seeing}
 use Rattle.control_block.proofs.Chairs.{added_as, first_slot}
 use Rattle.control_block.proofs.kept.Leave.{allows_leave, allows_give_back}
@@ -27,8 +27,8 @@ fetch_sub-found-requires g c =
           r.word.0 r.may.1 e amount),
     )
 
-pub take-value-requires-clause-hand : goal.take-value-requires-clause-hand
-take-value-requires-clause-hand g c = λ _ _.
+pub remember-value-requires-clause-hand : goal.remember-value-requires-clause-hand
+remember-value-requires-clause-hand g c = λ _ _.
     let r = c.requires in let l = c.fetch_sub-found.ensures.2.1 c.if-found-all.false in
     let none = may_none c.args.chair.now.me Owner g.M.Meant.object g.M.Meant.place c.args.block.0 c.args.funds r.may.1 in
     (r.word.0, l.1.0, l.1.2 ∙ (λ j. ((r.may.0 j).0 - 1, Some l.1.0) ∷ none j))
@@ -38,26 +38,31 @@ load-requires g c =
     let r = c.requires in let i = c.block_word-word.result in let board = c.args.board.now in let m = g.M.Meant in
     let l = c.fetch_sub-found.ensures.2.1 c.if-found-all.false in
     let awake = may_awake c.args.chair.now.me Owner m.object m.place c.args.block.0 c.args.funds r.may.1 in
-    let x = c.take-value.ensures in (
+    let x = c.remember-value.ensures in let me = c.remember-value.new.chair.me in
+    let none = may_none c.args.chair.now.me Owner m.object m.place c.args.block.0 c.args.funds r.may.1 in
+    let carried = l.1.2 ∙ (λ j. ((r.may.0 j).0 - 1, Some l.1.0) ∷ none j) in
+    let ends = subst (λ (y : At g.row.V.Denot × Block). Ends y.0.0 m.object y.1.0) (λ j. (sym x.same j, r.may.0 j)) l.1.3 in
+    let now = ap (λ (y : At g.row.V.Denot). y.0) x.same in let shape = ap (λ w. w.shape) (now ∙ l.0.now) in let seen = ap (λ w. w.view.seen) now in
+    let val = (λ j. value (opening_of (shape j)) (seen j) m.object) ∙ l.1.1 in (
       x.chair.0 ∙ (c.fetch_sub-found.ensures.0 ∙ r.board),
       subst (λ y. y < board.table_id.words) (sym c.block_word-word.ensures) r.word.2,
-      allows_give_back board.key board.table_id.slots c.take-value.new.chair.id i c.args.block c.take-value.new.chair.me
-          (ap (λ m. m.0.view.spent) x.emptied ∙ (ap (λ w. w.view.spent) l.0.now ∙ awake))
-          (ap (λ m. m.0.view.pending) x.emptied ∙ ap (λ w. w.view.pending) l.0.now)
-          (ap (λ m. m.0.hand) x.emptied ∙ (ap (λ w. w.hand) l.0.now ∙ ap Some r.may.0))
-          (ap (λ m. m.1) x.emptied) (omega arith, r.word.1),
+      allows_give_back board.key board.table_id.slots c.remember-value.new.chair.id i m.object c.args.block l.1.0 me
+          (ap (λ m. m.0.view.spent) x.same ∙ (ap (λ w. w.view.spent) l.0.now ∙ awake))
+          (ap (λ m. m.0.view.pending) x.same ∙ ap (λ w. w.view.pending) l.0.now)
+          (ap (λ m. m.0.hand) x.same ∙ (ap (λ w. w.hand) l.0.now ∙ ap Some r.may.0))
+          (ap (λ m. m.1) x.same ∙ carried) (r.word.0, r.word.1) ends val,
     )
 
 pub returns-clause-event : goal.returns-clause-event
 returns-clause-event g c =
-    let v = c.args.chair.now.me.0 in let l = c.fetch_sub-found.ensures.2.1 c.if-found-all.false in let x = c.take-value.ensures in
+    let v = c.args.chair.now.me.0 in let l = c.fetch_sub-found.ensures.2.1 c.if-found-all.false in let x = c.remember-value.ensures in
     added_as v c.fetch_sub-found.new.seat.me.0 c.load.new.seat.me.0 Idle Idle (Some g.M.Meant.block) None (Leave
     (owner g.M.Meant.object g.M.Meant.place) true) l.0
-    (c.load.ensures.2.0 ∙ ap (λ m. seeing m.0 Idle None m.0.view.seen) x.emptied)
+    (c.load.ensures.2.0 ∙ ap (λ m. seeing m.0 Idle None m.0.view.seen) x.same)
 
 pub returns-clause-value : goal.returns-clause-value
 returns-clause-value g c =
-    let v = c.args.chair.now.me.0 in let l = c.fetch_sub-found.ensures.2.1 c.if-found-all.false in let x = c.take-value.ensures in
-    let seen = ap (λ w. w.view.seen) (c.load.ensures.2.0 ∙ ap (λ m. seeing m.0 Idle None m.0.view.seen) x.emptied) in
+    let v = c.args.chair.now.me.0 in let l = c.fetch_sub-found.ensures.2.1 c.if-found-all.false in let x = c.remember-value.ensures in
+    let seen = ap (λ w. w.view.seen) (c.load.ensures.2.0 ∙ ap (λ m. seeing m.0 Idle None m.0.view.seen) x.same) in
     ap (λ h. value (opening_of v.shape) h g.M.Meant.object) seen
     ∙ (l.1.1 ∙ ap first_slot (sym l.1.2 ∙ x.value))

@@ -1,19 +1,55 @@
-use Rattle.std.proofs.Common.{◌<◌, ◌==◌, sym, subst, ◌∙◌}
+use Rattle.std.proofs.Common.{◌≡◌, ◌<◌, ◌-◌, ◌==◌, ◌∷◌, [], None, Some, sym, ap, subst, ◌∙◌}
+use Rattle.atomic_table.specs.Table.{Allows, step}
+use mathlib.Core.Option.{none}
+use Rattle.control_word.specs.Histories.{value}
 use Rattle.control_word.specs.declared.event.Event.TheVariants.{Finish}
-use Rattle.control_block.specs.Plays.{tells}
-use Rattle.control_block.proofs.Chairs.{some_same}
+use Rattle.control_word.specs.declared.place.Block.{Block}
+use Rattle.control_word.specs.declared.view.Pending.TheVariants.{Idle}
+use Rattle.control_block.specs.Plays.{Added, Ends, IsClear, fetched, tells}
+use Rattle.control_block.specs.Rule.{Ruled, opening_of, seeing}
+use Rattle.control_block.specs.declared.board.Sight.{Sight}
+use Rattle.control_block.proofs.Chairs.{added_at, first_slot, some_same}
+use Rattle.control_block.proofs.kept.Fetch.{allows_fetch}
 use Rattle.control_block.proofs.kept.Finish.{allows_finish}
 use Rattle.control_block.proofs.steps.finish.Goals as goal
 
-pub fetch_sub-requires : goal.fetch_sub-requires
-fetch_sub-requires g c =
-    let r = c.requires in let e = c.block_word.ensures in let board = c.args.board.now in let chair = c.args.chair.now in (
+pub load-requires : goal.load-requires
+load-requires g c =
+    let r = c.requires in let e = c.block_word-word.ensures in let i = c.block_word-word.result in let board = c.args.board.now in
+    let chair = c.args.chair.now in let o = g.M.Meant.object in (
       r.board,
-      subst (λ x. x < board.table_id.words) (sym e) r.word.1,
-      allows_finish board.key board.table_id.slots chair.id c.args.block.0 g.M.Meant.object c.block_word.result r.value.0 chair.me r.rests r.ends r.clear r.value.1 e,
+      subst (λ x. x < board.table_id.words) (sym e) r.word.2,
+      subst (λ (b : Block). Allows (Ruled board.key) board.table_id.slots chair.id chair.me i (λ n. n)
+          (fetched b o (step board.table_id.slots i 0 0 none) chair.me)) (sym r.ends.0)
+          (allows_fetch board.key board.table_id.slots chair.id i o c.args.block r.value.0 chair.me r.rests (r.word.0, r.word.1) r.ends.1 r.value.1),
     )
 
+pub take-value-requires-clause-hand : goal.take-value-requires-clause-hand
+take-value-requires-clause-hand g c = λ _ _.
+    let f = c.load.ensures.2 in (c.requires.word.0, f.0, f.3 ∙ ap (λ (b : Block). (b.0 - 1, Some f.0) ∷ []) c.requires.ends.0)
+
+pub fetch_sub-found-requires : goal.fetch_sub-found-requires
+fetch_sub-found-requires g c =
+    let r = c.requires in let e = c.block_word-word.ensures in let i = c.block_word-word.result in let board = c.args.board.now in
+    let o = g.M.Meant.object in let f = c.load.ensures.2 in let x = c.take-value.ensures in let chair = c.take-value.new.chair in
+    let now = ap (λ m. m.0) x.emptied ∙ f.2 in (
+      x.chair.0 ∙ (c.load.ensures.0 ∙ r.board),
+      subst (λ y. y < board.table_id.words) (sym e) r.word.2,
+      allows_finish board.key board.table_id.slots chair.id o i c.args.block f.0 chair.me (ap (λ w. w.view.spent) now ∙ r.rests.awake)
+          (ap (λ w. w.view.pending) now) (ap (λ w. w.hand) now ∙ ap Some r.ends.0) (ap (λ m. m.1) x.emptied) (r.word.0, r.word.1)
+          (subst (λ (w : Sight g.row.V.Denot). Ends w o c.args.block.0) (sym now) r.ends.1)
+          (subst (λ (w : Sight g.row.V.Denot). IsClear w o) (sym now) r.clear)
+          (subst (λ (w : Sight g.row.V.Denot). value (opening_of w.shape) w.view.seen o ≡ Some f.0) (sym now) f.1) e,
+    )
+
+pub returns-clause-value : goal.returns-clause-value
+returns-clause-value g c =
+    let f = c.load.ensures.2 in f.1 ∙ ap first_slot (sym f.3 ∙ c.take-value.ensures.value)
+
 pub returns-clause-event : goal.returns-clause-event
-returns-clause-event g c =
-    λ x is. let t = c.fetch_sub.ensures.2 in
-    subst (λ y. tells (Finish g.M.Meant.object (c.fetch_sub.result == 1) y) c.args.chair.now.me.0 c.fetch_sub.new.seat.me.0) (some_same t.0 x (sym t.1 ∙ is)) t.2
+returns-clause-event g c = λ x is.
+    let v = c.args.chair.now.me.0 in let w = c.fetch_sub-found.new.seat.me.0 in let o = g.M.Meant.object in let t = c.fetch_sub-found.ensures.2 in
+    let n = c.fetch_sub-found.result in let now = ap (λ m. m.0) c.take-value.ensures.emptied ∙ c.load.ensures.2.2 in
+    let same = some_same t.0 x (sym t.1 ∙ (ap (λ (u : Sight g.row.V.Denot). value (opening_of u.shape) u.view.seen o) now ∙ is)) in
+    subst (λ y. tells (Finish o (n == 1) y) v w) same
+    (added_at v w (Some g.M.Meant.block) (Finish o (n == 1) t.0) (subst (λ u. Added u Idle None (Finish o (n == 1) t.0) w) now t.2))
