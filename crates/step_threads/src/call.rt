@@ -43,7 +43,7 @@ impl CellName {
 }
 
 /// What one statement asks for.
-#[derive(Clone, Copy, Debug, PartialEq, Eq)]
+#[derive(Clone, Copy)]
 pub enum Call {
     /// A new object with these fields; the target owns it.
     Make {
@@ -192,14 +192,14 @@ pub enum Call {
 }
 
 /// An actor: the kinds of its names, by their numbers, and its calls in order.
-#[derive(Debug, Drop)]
+#[derive(Drop)]
 pub struct Actor {
     pub kinds: Vec<Kind>,
     pub calls: Vec<Call>,
 }
 
 /// The actors, of which the first has number 1.
-#[derive(Debug, Drop)]
+#[derive(Drop)]
 pub struct Program {
     pub actors: Vec<Actor>,
 }
