@@ -1,3 +1,5 @@
+use Rattle.std.proofs.lemmas.Grind.{common_steps}
+use Rattle.std.proofs.Common.{arith}
 use Rattle.std.proofs.Common.{ℕ, false, sym, ap, subst, ◌∙◌}
 use Rattle.std.proofs.lemmas.Bool.{cond-true}
 use Rattle.step_table.specs.declared.cell_deed.Cell.{Cell}
@@ -70,3 +72,9 @@ cell-at-requires-clause-there c =
     let r = c.requires in
     let within = (saw_next c.args.desk t c.args.table.now c.args.found r.fits r.half).0 in
     (may_compare t.course c.args.name c.args.cell c.args.weak within r.fits.ready r.act r.fits.still).0
+
+pub returns-then-not-take_differing-clause-stepped : goal.returns-then-not-take_differing-clause-stepped
+returns-then-not-take_differing-clause-stepped c = grind (arith, common_steps)
+
+pub returns-then-not-take_differing-clause-fits : goal.returns-then-not-take_differing-clause-fits
+returns-then-not-take_differing-clause-fits c = grind (arith, common_steps)

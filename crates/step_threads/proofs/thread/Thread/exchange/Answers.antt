@@ -1,3 +1,5 @@
+use Rattle.std.proofs.lemmas.Grind.{common_steps}
+use Rattle.std.proofs.Common.{arith}
 use Rattle.std.proofs.Common.{sym, subst, ap, ◌∙◌}
 use Rattle.control_word.specs.declared.handle.Kind.{Kind}
 use Rattle.step_table.specs.Contents.{as_word}
@@ -23,3 +25,6 @@ returns-clause-fits c =
     (cell_of_exchange d t v c.args.name c.args.cell c.requires.fits c.requires.within c.requires.act)
     (subst (λ (u : Story). HasGoneOn d t.course after u) c.exchange-found.ensures.table c.exchange-found.ensures.on)
     (c.returning-self.ensures ∙ ap (λ (k : Kind). gives_back k n found found.owned) c.kind.ensures))
+
+pub returns-clause-stepped : goal.returns-clause-stepped
+returns-clause-stepped c = grind (arith, common_steps)

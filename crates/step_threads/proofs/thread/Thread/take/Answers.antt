@@ -1,3 +1,5 @@
+use Rattle.std.proofs.lemmas.Grind.{common_steps}
+use Rattle.std.proofs.Common.{arith}
 use Rattle.std.proofs.Common.{◌≡◌, Bool, cond, sym, ap, subst, ◌∙◌}
 use Rattle.step_threads.specs.declared.half.Half.{Half}
 use Rattle.step_threads.specs.declared.half.Half.TheVariants.{Refill}
@@ -40,3 +42,12 @@ cell-at-requires-clause-named c =
 pub cell-at-requires-clause-there : goal.cell-at-requires-clause-there
 cell-at-requires-clause-there c =
     let r = c.requires in saw_there c.args.desk c.args.self.now c.args.table.now c.args.cell c.args.found r.fits r.half r.act
+
+pub returns-then-not-take_fund-clause-stepped : goal.returns-then-not-take_fund-clause-stepped
+returns-then-not-take_fund-clause-stepped c = grind (arith, common_steps)
+
+pub returns-then-not-take_fund-clause-fits : goal.returns-then-not-take_fund-clause-fits
+returns-then-not-take_fund-clause-fits c = grind (arith, common_steps)
+
+pub returns-clause-stepped : goal.returns-clause-stepped
+returns-clause-stepped c = grind (arith, common_steps)
