@@ -5,6 +5,7 @@ pub mod ClosingLemmas
 pub mod EndLemmas
 pub mod Exact
 pub mod Following
+pub mod Interleaving
 pub mod LineLemmas
 pub mod Once
 pub mod OneTurn

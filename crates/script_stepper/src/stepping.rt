@@ -14,6 +14,7 @@ ghost use Rattle.script_stepper.specs.Lines.{shown};
 ghost use Rattle.script_stepper.specs.Running.{AllRest, IsNew, IsThread};
 ghost use Rattle.script_stepper.specs.Runs.{Delivers, IsFineText, IsRunText, IsShown, IsTextBy, Tells};
 ghost use Rattle.script_stepper.specs.Runs.{Writes, WritesOne, is_output, run_text, text_in};
+ghost use Rattle.script_stepper.specs.StepRuns.{IsInterleaving};
 ghost use Rattle.script_stepper.specs.TurnLists.{list_at};
 
 use crate::closing::put_closing;
@@ -230,6 +231,10 @@ pub fn fine_text<S: Sink>(
     // A script and its numbers have one such text only.
     ensures one { (read : ScriptView) (listed text other : List ℕ) → IsFineText read listed text
         → IsFineText read listed other → text ≡ other }
+
+    // The history that it tells of is an interleaving of the threads' statements and ends.
+    ensures interleaves { (read : ScriptView) (listed text : List ℕ) (told : IsFineText read listed text)
+        → IsInterleaving (program_in read.threads) told.steps told.last }
 {
     deliver(alloc, script, turns, Pace::Steps, writer)
 }

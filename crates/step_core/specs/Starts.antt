@@ -1,5 +1,6 @@
 -- How a world begins. All of it is own.
-use Rattle.std.specs.Prelude.{◌≡◌, ℕ, ◌+◌, ◌*◌, ◌≤◌, false, List, [], All, length, map, replicate}
+pub use Rattle.step_threads.specs.Interleavings.{first_walk, no_slots}
+use Rattle.std.specs.Prelude.{◌≡◌, ◌*◌, ◌≤◌, List, [], All, length, map, replicate}
 use Rattle.control_word.specs.declared.shape.Shape.{Shape}
 use Rattle.control_word.specs.Layout.{IsWithinLimits, table_size}
 use Rattle.control_word.specs.Views.{fresh}
@@ -8,9 +9,6 @@ use Rattle.step_threads.specs.declared.call.Call.TheVariants.{Make, MakeThis}
 use Rattle.step_table.specs.declared.extent.Extent.{Extent}
 use Rattle.step_threads.specs.declared.half.Half.{Half}
 use Rattle.step_threads.specs.declared.half.Half.TheVariants.{Rest}
-use Rattle.step_threads.specs.Acts.{tasks_from}
-use Rattle.step_threads.specs.Courses.{Walk, settled}
-use Rattle.step_table.specs.Holdings.{Slots, plain}
 use Rattle.step_threads.specs.Programs.{AllHaveCells, IsProgram, Part}
 use Rattle.step_core.specs.Worlds.{Sight}
 use Rattle.step_table.specs.Stories.{Story}
@@ -25,14 +23,6 @@ pub record CanBegin (shape : Shape) (parts : List Part) : Type 0 where
 
 abbrev pub extent_of : Shape → List Part → Extent
 extent_of shape parts = record { shape = shape; actors = length parts }
-
--- n names, what is to be dropped and the hand, all empty
-abbrev pub no_slots : ℕ → Slots
-no_slots n = replicate (n + 2) plain
-
--- a thread that holds nothing, at the first act of its calls
-abbrev pub first_walk : Part → Walk
-first_walk part = settled (no_slots (length part.kinds)) false [] (tasks_from 1 part.calls (length part.kinds))
 
 -- all words are 0, and nothing has happened
 abbrev pub first_story : Extent → Story

@@ -4,6 +4,7 @@ pub mod Courses
 pub mod Doings
 pub mod Endings
 pub mod Entries
+pub mod Interleavings
 pub mod Programs
 pub mod Rows
 pub mod Scenes

@@ -3,14 +3,16 @@ use Rattle.std.proofs.Common.{◌≡◌, ℕ, ◌==◌, Bool, true, false, cond,
 use Rattle.std.specs.Prelude.{Option, Some, None, not, option_map}
 use Rattle.std.specs.List.{filter}
 use Rattle.control_word.specs.declared.event.Event.{Event}
+use Rattle.control_word.specs.declared.event.Event.TheVariants as event
 use Rattle.control_word.specs.declared.handle.Kind.{Kind}
 use Rattle.control_word.specs.declared.handle.Kind.TheVariants.{Owner, Weak}
 use Rattle.control_word.specs.declared.place.Place.{Place}
 use Rattle.control_word.specs.declared.refusal.Refusal.TheVariants.{NotEnabled}
 use Rattle.control_word.specs.Events.{place_at}
+use Rattle.control_word.specs.Handles.{owner, weak_of}
 use Rattle.control_word.specs.State.{State, Stored}
 use Rattle.step_table.specs.declared.holdings.Pointer.{Pointer}
-use Rattle.step_table.specs.Deeds.{as_owner, field_of, give, is_enabled, is_expired, is_last, leave_as, on, share_as}
+use Rattle.step_table.specs.Deeds.{as_owner, field_of, give, handle_of, is_enabled, is_expired, is_last, leave_as, on, owned, share_as}
 use Rattle.step_table.specs.Holdings.{Slots, is_full}
 use Rattle.step_table.specs.Stories.{Nothing, event_of}
 use Rattle.step_threads.specs.declared.act.Question.{Question}
@@ -136,3 +138,28 @@ module _ (s : State) where
       On (λ x. e ≡ Some (g x n)) ((n ≡ none) × (e ≡ None)) o
   on_pointer f none g None = (refl, refl)
   on_pointer f none g (Some x) = refl
+
+  -- events of what is told of a pointer
+  abbrev pub locking : Bool → Pointer → Event Nothing
+  locking got x = event.Lock (weak_of (owned s x) x.place) got
+
+  pub lock_makes : (o : Option Pointer) → let got = is_full (found s o) in
+      let e = option_map (locking got) o in
+      On (λ x. e ≡ Some (locking got x)) ((got ≡ false) × (e ≡ None)) o
+  lock_makes None = (refl, refl)
+  lock_makes (Some x) = refl
+
+  abbrev pub reading : ℕ → Pointer → Event Nothing
+  reading m x = event.Read (owner (owned s x) x.place) m
+
+  abbrev pub counting : Pointer → ℕ → Event Nothing
+  counting x m = event.Count (handle_of s x) m
+
+  abbrev pub expiring : Pointer → Bool → Event Nothing
+  expiring x b = event.Expired (handle_of s x) b
+
+  pub read_makes : (o : Option Pointer)
+      → let e = option_map (λ (x : Pointer). reading (field_of s x) x) o in
+      On (λ x. e ≡ Some (reading (on (field_of s) 0 o) x)) (e ≡ None) o
+  read_makes None = refl
+  read_makes (Some x) = refl

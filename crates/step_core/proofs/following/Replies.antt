@@ -5,14 +5,13 @@ use Rattle.control_word.specs.declared.event.Event.{Event}
 use Rattle.control_word.specs.declared.event.Event.TheVariants as event
 use Rattle.control_word.specs.declared.handle.Kind.TheVariants.{Owner, Weak}
 use Rattle.control_word.specs.Events.{place_at}
-use Rattle.control_word.specs.Handles.{owner, weak_of}
 use Rattle.control_word.specs.Histories.{entry, leads}
 use Rattle.control_word.specs.State.{Opening, State}
 use Rattle.step_table.specs.declared.form.Form.{Form}
 use Rattle.step_table.specs.declared.holdings.Pointer.{Pointer}
 use Rattle.step_table.specs.declared.past.Deed.{Deed}
 use Rattle.step_table.specs.Contents.{compare_of, held_in, load_of, swap_of, swapped}
-use Rattle.step_table.specs.Deeds.{Telling, alias, aliased, downgrade, field_of, give, handle_of, is_expired, is_last, leave, lock, on, owned, read, share, tell_count, tell_expired, this_as}
+use Rattle.step_table.specs.Deeds.{Telling, alias, aliased, downgrade, field_of, give, is_expired, is_last, leave, lock, on, read, share, tell_count, tell_expired, this_as}
 use Rattle.step_table.specs.Holdings.{Slots, inside, is_full, owner_slot, place_in, plain, slot, value, weak_slot}
 use Rattle.step_table.specs.Stories.{Nothing, added, event_of}
 use Rattle.step_threads.specs.declared.act.Act.{Act}
@@ -22,12 +21,12 @@ use Rattle.step_threads.specs.declared.call.CellName.{CellName}
 use Rattle.step_threads.specs.declared.ending.Ending.{Ending}
 use Rattle.step_threads.specs.declared.said.Answer.{Answer}
 use Rattle.step_threads.specs.Courses.{Walk, cell_at, hand, is_there, offered, on_going, other, placed, settled}
-use Rattle.step_threads.specs.Doings.{Loads, Makes, On, Swaps, Where, comes_before, copies, copy, put_on}
+use Rattle.step_threads.specs.Doings.{Loads, Makes, Swaps, Where, comes_before, copies, copy, put_on}
 use Rattle.step_threads.specs.Entries.{History, acted, does, giving, is_expected, least, loads, makes, swaps}
 use Rattle.step_threads.specs.Rows.{Reply, Plain, Found, Got, Told, Came, Compared, Left, gone, may_go, row, said_by_row}
 use Rattle.step_threads.specs.Scenes.{came, ended_by, found, said_of, taking, went}
 use Rattle.step_core.specs.Following.{no_worth}
-use Rattle.step_core.proofs.following.Parts.{asks, gave, gives, leave_ends, leave_makes, leaving_event, left, lock_found, none_stored, on_pointer, read_says, shared, this_answers, this_found, this_makes}
+use Rattle.step_core.proofs.following.Parts.{asks, counting, expiring, gave, gives, leave_ends, leave_makes, leaving_event, left, lock_found, lock_makes, locking, none_stored, on_pointer, read_makes, read_says, reading, shared, this_answers, this_found, this_makes}
 
 -- what an act of statement n makes, with these tasks after it, by a reply
 pub record Replied (tell : Telling) (z : Opening) (d : ℕ) (h : History) (n : ℕ) (w : Walk) (ts : List Task) (a : Act) : Type 0 where
@@ -51,18 +50,9 @@ module _ (tell : Telling) (z : Opening) (d : ℕ) (h : History) (n : ℕ) (w : W
   left_at : (o : Option Pointer) → does z d h (option_map (leave now) o) ≡ put_on d (option_map (leaving_event now) o) h
   left_at o = doing (leave now) (leaving_event now) (λ x. left now x.kind (is_last now x) x) o
 
-  abbrev locking : Bool → Pointer → Event Nothing
-  locking got x = event.Lock (weak_of (owned now x) x.place) got
-
-  lock_history : (o : Option Pointer) → does z d h (option_map (lock now) o) ≡ put_on d (option_map (locking (is_full (found now o))) o) h
+  lock_history : (o : Option Pointer) → does z d h (option_map (lock now) o) ≡ put_on d (option_map (locking now (is_full (found now o))) o) h
   lock_history None = refl
-  lock_history (Some x) = ap (λ (b : Bool). entry d (locking b x) ∷ h) (sym (gave now x))
-
-  lock_makes : (o : Option Pointer) → let got = is_full (found now o) in
-      let e = option_map (locking got) o in
-      On (λ x. e ≡ Some (locking got x)) ((got ≡ false) × (e ≡ None)) o
-  lock_makes None = (refl, refl)
-  lock_makes (Some x) = refl
+  lock_history (Some x) = ap (λ (b : Bool). entry d (locking now b x) ∷ h) (sym (gave now x))
 
   abbrev made_of : Form → ℕ → Event Nothing
   made_of form b = event.Make (record { 0 = b }) form.enabled form.null form.fields tt
@@ -103,21 +93,6 @@ module _ (tell : Telling) (z : Opening) (d : ℕ) (h : History) (n : ℕ) (w : W
       → let e = cond b (Some (load_of now (cell_at now w.slots c))) None in Where b (Loads now w.slots c (came now w.slots c) e) (e ≡ None)
   load_makes c true = (held_in now (cell_at now w.slots c), refl, refl)
   load_makes c false = refl
-
-  abbrev reading : ℕ → Pointer → Event Nothing
-  reading m x = event.Read (owner (owned now x) x.place) m
-
-  abbrev counting : Pointer → ℕ → Event Nothing
-  counting x m = event.Count (handle_of now x) m
-
-  abbrev expiring : Pointer → Bool → Event Nothing
-  expiring x b = event.Expired (handle_of now x) b
-
-  read_makes : (o : Option Pointer)
-      → let e = option_map (λ (x : Pointer). reading (field_of now x) x) o in
-      On (λ x. e ≡ Some (reading (on (field_of now) 0 o) x)) (e ≡ None) o
-  read_makes None = refl
-  read_makes (Some x) = refl
 
   -- each act
   pub replied : (a : Act) → Replied tell z d h n w ts a
@@ -185,9 +160,9 @@ module _ (tell : Telling) (z : Opening) (d : ℕ) (h : History) (n : ℕ) (w : W
       let o = slot w.slots i in
       record {
         reply = Told (on (tell now) 0 o);
-        event = option_map (λ (x : Pointer). counting x (tell now x)) o;
-        makes = on_pointer now (tell now) 0 counting o;
-        history = doing (tell_count tell now) (λ x. counting x (tell now x)) (λ x. refl) o;
+        event = option_map (λ (x : Pointer). counting now x (tell now x)) o;
+        makes = on_pointer now (tell now) 0 (counting now) o;
+        history = doing (tell_count tell now) (λ x. counting now x (tell now x)) (λ x. refl) o;
         says = refl;
         goes = refl;
       }
@@ -206,8 +181,8 @@ module _ (tell : Telling) (z : Opening) (d : ℕ) (h : History) (n : ℕ) (w : W
       let o = weak_slot (slot w.slots i) in
       record {
         reply = Got (is_full (found now o));
-        event = option_map (locking (is_full (found now o))) o;
-        makes = lock_makes o;
+        event = option_map (locking now (is_full (found now o))) o;
+        makes = lock_makes now o;
         history = lock_history o;
         says = refl;
         goes = ap (λ (q : Option Pointer). let x = taking w.slots must q in settled x.0 x.1 w.endings ts) (lock_found now o);
@@ -216,19 +191,19 @@ module _ (tell : Telling) (z : Opening) (d : ℕ) (h : History) (n : ℕ) (w : W
       let o = slot w.slots i in
       record {
         reply = Got (on (is_expired now) true o);
-        event = option_map (λ (x : Pointer). expiring x (is_expired now x)) o;
-        makes = on_pointer now (is_expired now) true expiring o;
-        history = doing (tell_expired now) (λ x. expiring x (is_expired now x)) (λ x. refl) o;
+        event = option_map (λ (x : Pointer). expiring now x (is_expired now x)) o;
+        makes = on_pointer now (is_expired now) true (expiring now) o;
+        history = doing (tell_expired now) (λ x. expiring now x (is_expired now x)) (λ x. refl) o;
         says = refl;
         goes = refl;
       }
   replied (Read i) =
       let o = inside (slot w.slots i) in
-      let g : Pointer → Event Nothing = λ x. reading (field_of now x) x in
+      let g : Pointer → Event Nothing = λ x. reading now (field_of now x) x in
       record {
         reply = Told (on (field_of now) 0 o);
         event = option_map g o;
-        makes = read_makes o;
+        makes = read_makes now o;
         history = doing (read now) g (λ x. refl) o;
         says = ap (λ (a : Answer). record { statement = n; answer = Some a; ended = None }) (read_says now (place_in w.slots i) o);
         goes = refl;

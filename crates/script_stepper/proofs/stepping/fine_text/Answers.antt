@@ -1,6 +1,7 @@
 use Rattle.script_text.specs.Beginnings.{script_sight}
 use Rattle.script_stepper.specs.Runs.{IsFineText}
 use Rattle.script_stepper.proofs.Answering.{steps_syntax, steps_turns, steps_runs}
+use Rattle.script_stepper.proofs.Interleaving.{interleaves}
 use Rattle.script_stepper.proofs.Once.{one_text}
 use Rattle.script_stepper.proofs.stepping.fine_text.Goals as goal
 
@@ -18,3 +19,6 @@ returns-clause-runs g c =
 
 pub returns-clause-one : goal.returns-clause-one
 returns-clause-one g c = λ threads listed text other p q. one_text listed (script_sight threads) text other p q
+
+pub returns-clause-interleaves : goal.returns-clause-interleaves
+returns-clause-interleaves g c = λ threads listed text told. interleaves threads listed text told

@@ -1,0 +1,52 @@
+-- Histories as interleavings of threads, each with its own statements. All of it is own.
+use Rattle.std.specs.Prelude.{◌≡◌, ◌⊎◌, ℕ, ◌+◌, ◌<◌, ◌≤◌, ◌==◌, false, cond, List, [], ◌∷◌, All, length, replicate, slice_get, Some}
+use Rattle.control_word.specs.declared.event.Entry.{Entry}
+use Rattle.control_word.specs.declared.event.Event.{Event}
+use Rattle.control_word.specs.declared.event.Event.TheVariants.{Split, Join}
+use Rattle.control_word.specs.Histories.{IsLegal}
+use Rattle.control_word.specs.State.{Opening}
+use Rattle.step_table.specs.declared.form.Form.{Form}
+use Rattle.step_table.specs.Holdings.{Slots, plain}
+use Rattle.step_threads.specs.declared.said.Said.{Said}
+use Rattle.step_threads.specs.Acts.{tasks_from}
+use Rattle.step_threads.specs.Courses.{Walk, settled}
+use Rattle.step_threads.specs.Doings.{Doing, Goes, Over, ahead, lines, onto}
+use Rattle.step_threads.specs.Programs.{Part}
+
+-- n names, what is to be dropped and the hand, all empty
+abbrev pub no_slots : ℕ → Slots
+no_slots n = replicate (n + 2) plain
+
+-- a thread that holds nothing, at the first act of its calls
+abbrev pub first_walk : Part → Walk
+first_walk part = settled (no_slots (length part.kinds)) false [] (tasks_from 1 part.calls (length part.kinds))
+
+-- what this desk said
+abbrev pub said_on : ℕ → List (ℕ × Said) → List Said
+said_on d [] = []
+said_on d (x ∷ xs) = cond (x.0 == d) (x.1 ∷ said_on d xs) (said_on d xs)
+
+module _ {V : Type 0} where
+  -- with the marks of acts that are no events put in, the history has what this thread does on desk d, from its first act to its end, and
+  -- what it says
+  pub record Marked (worth : Form → V) (z : Opening) (h : List (Entry V)) (d : ℕ) (part : Part) (said : List Said) : Type 0 where
+    pub doings : List (Doing V)
+    pub events : onto [] doings ≡ h
+    pub last : Walk
+    pub goes : Goes worth z [] d (first_walk part) doings last
+    pub over : ahead last ≡ Over
+    pub says : said_on d (lines doings) ≡ said
+
+  -- splits and joins are no thread's
+  abbrev pub IsParting : Event V → Type 0
+  IsParting (Split to n hs bs) = Unit {0}
+  IsParting (Join other) = Unit {0}
+  IsParting _ = ⊥
+
+  -- the history is legal, and an interleaving of these threads, on the desks from n on, each of which says this; nobody else has an
+  -- event in it
+  pub record Interleaves (worth : Form → V) (z : Opening) (h : List (Entry V)) (n : ℕ) (parts : List Part) (said : ℕ → List Said)
+      : Type 0 where
+    pub legal : IsLegal z h
+    pub each : (i : ℕ) (part : Part) → slice_get parts i ≡ Some part → Marked worth z h (n + i) part (said (n + i))
+    pub others : All (λ (e : Entry V). ((n ≤ e.desk) × (e.desk < n + length parts)) ⊎ IsParting e.event) h
