@@ -1,12 +1,9 @@
 -- What was read of a statement on a cell, by its shape, is read again from its canonical words.
-use Rattle.std.proofs.Common.{◌≡◌, ℕ, Bool, true, false, cond, List, [], ◌∷◌, Ok, Err, refl, sym, ap, subst}
+use Rattle.std.proofs.Common.{◌≡◌, ℕ, Bool, true, false, cond, List, [], ◌∷◌, Ok, Err, refl, sym, subst}
 use Rattle.std.specs.List.{AllByRecursion}
-use Rattle.std.proofs.lemmas.Bool.{eqb-false}
-use Rattle.std.proofs.lemmas.Option.{same_Some}
 use Rattle.step_threads.specs.declared.call.Call.{Call}
 use Rattle.step_threads.specs.declared.call.Call.TheVariants as call
 use Rattle.step_threads.specs.declared.call.CellName.{CellName}
-use Rattle.step_threads.specs.declared.call.CellName.TheVariants as free
 use Rattle.step_threads.specs.declared.call.Name.{Name}
 use Rattle.step_threads.specs.Programs.{IsApart, as_in, kind_at, cells_of, is_member_of, through}
 use Rattle.script_text.specs.declared.fault.Cause.{Cause}

@@ -1,21 +1,20 @@
 -- A word, cut at its first dot, and members spelled and read again.
-use Rattle.std.proofs.Common.{◌≡◌, ℕ, zero, suc, ◌+◌, ◌-◌, ◌<◌, ◌≤◌, Bool, true, false, not, cond, ltb, eqb, List}
-use Rattle.std.proofs.Common.{[], ◌∷◌, ◌++◌, length, take, drop, Option, Some, None, Result, Ok, Err, refl, arith, lit<, ◌∙◌}
+use Rattle.std.proofs.Common.{◌≡◌, ℕ, zero, suc, ◌+◌, ◌-◌, ◌<◌, ◌≤◌, Bool, true, false, not, cond, ltb, List}
+use Rattle.std.proofs.Common.{[], ◌∷◌, ◌++◌, length, take, drop, Option, Some, None, Ok, Err, refl, arith, ◌∙◌}
 use Rattle.std.specs.List.{list_all, position, position_or_len}
 use Rattle.std.specs.Option.{option_map}
 use Rattle.std.specs.Prelude.{codes, ◌&&◌}
 use Rattle.std.specs.Str.{bytes_eq}
-use Rattle.std.proofs.lemmas.Bool.{ltb-true, ltb-false, lt-ltb}
+use Rattle.std.proofs.lemmas.Bool.{ltb-true, ltb-false}
 use Rattle.std.proofs.lemmas.Bool.Decides.{nat_tests}
 use Rattle.std.proofs.lemmas.List.{take_rest}
 use Rattle.std.proofs.lemmas.List.Folds.{list_all-append}
-use Rattle.script_text.specs.declared.fault.Cause.{Cause}
 use Rattle.script_text.specs.declared.fault.Cause.TheVariants.{BadCell}
 use Rattle.script_text.specs.Words.{is_digit, is_lower, is_name, is_name_byte}
 use Rattle.script_text.specs.Cells.{is_dot, member_number_at, member_text, split_dot}
 use Rattle.script_text.proofs.LineLemmas.{none_by, some_by}
 use Rattle.script_text.proofs.ReadNames.{same_given}
-use Rattle.script_text.proofs.TidyWords.{IsTidy, both_true, is_tidy_byte, list_weaker, name_is_tidy}
+use Rattle.script_text.proofs.TidyWords.{IsTidy, both_true, is_tidy_byte, name_is_tidy}
 use Rattle.script_text.proofs.WordLemmas.{and_both}
 
 -- ---- where the first dot is

@@ -1,5 +1,5 @@
 -- What was read of a statement on a cell is read again from its canonical words.
-use Rattle.std.proofs.Common.{◌≡◌, ℕ, ◌^◌, ◌<◌, ◌≤◌, Bool, true, false, cond, ltb, eqb, List, [], ◌∷◌, ◌++◌, length, Option, Some, None, Result, Ok, Err, refl, sym, ap, subst, ◌∙◌, arith, lit<}
+use Rattle.std.proofs.Common.{◌≡◌, ℕ, ◌^◌, ◌<◌, Bool, true, false, cond, ltb, eqb, List, [], ◌∷◌, ◌++◌, Option, Some, None, Result, Ok, Err, refl, ap, subst, arith, lit<}
 use Rattle.std.specs.Prelude.{decimal}
 use Rattle.std.specs.List.{AllByRecursion, list_all}
 use Rattle.std.proofs.lemmas.Bool.{lt-ltb, ltb-true}
@@ -7,8 +7,7 @@ use Rattle.std.proofs.lemmas.Fmt.{digits_decimal}
 use Rattle.control_word.specs.declared.shape.Shape.{Shape}
 use Rattle.step_threads.specs.declared.call.CellName.{CellName}
 use Rattle.step_threads.specs.declared.call.CellName.TheVariants as free
-use Rattle.control_word.specs.declared.handle.Kind.{Kind}
-use Rattle.control_word.specs.declared.handle.Kind.TheVariants.{Owner, Weak}
+use Rattle.control_word.specs.declared.handle.Kind.TheVariants.{Owner}
 use Rattle.step_threads.specs.declared.call.Name.{Name}
 use Rattle.step_threads.specs.Programs.{IsDeclared, IsIn, as_in, kind_at, through}
 use Rattle.script_text.specs.declared.fault.Cause.{Cause}

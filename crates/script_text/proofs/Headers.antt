@@ -11,7 +11,7 @@ use Rattle.script_text.specs.declared.version.Version.TheVariants.{One, Two}
 use Rattle.script_text.specs.Reading.{◌>>=◌}
 use Rattle.script_text.specs.Words.{number_at}
 use Rattle.script_text.specs.Versions.{most_threads, header_number, blocks_at, version_named, version_at}
-use Rattle.script_text.specs.Drafts.{Draft, draft_in, new_draft, header_line, after_words, after_line}
+use Rattle.script_text.specs.Drafts.{Draft, draft_in, new_draft, header_line, after_line}
 use Rattle.script_text.specs.Canonical.{header_words, spaced}
 use Rattle.script_text.proofs.TidyWords.{IsTidy, after_tidy_line}
 use Rattle.script_text.proofs.ReadNames.{both_give, given, same_given}

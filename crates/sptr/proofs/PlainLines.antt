@@ -6,53 +6,57 @@ use Rattle.clap.specs.Words.{Text, fault_of}
 use Rattle.clap.specs.Lexer.{long_of, short_of}
 use Rattle.clap.specs.declared.error.kind.ErrorKind.TheVariants as kind
 use Rattle.clap.proofs.OnLiterals.{clap_on_literals}
-use Rattle.sptr.specs.CommandLine.{Asks, AsksPlainly, IsLine, check_line, command_named, convert_line, fine_line, program, step_line, turns_given, turns_option}
+use Rattle.sptr.specs.CommandLine.{Asks, AsksPlainly, IsLine, check_line, command_named, convert_line, file_word, fine_line, names_file, program, step_line, turns_file_option, turns_given, turns_option}
 use Rattle.sptr.specs.declared.command.Asked.{Asked}
 use Rattle.sptr.specs.declared.command.Asked.TheVariants.{Check, Convert, Fine, Step}
 
 abbrev IsFor : Text → Text → List Text → Type 0
-IsFor command list words = (fault_of program words ≡ []) × (command_named words ≡ Some command) × (turns_given words ≡ list)
+IsFor command list words = (fault_of program words ≡ []) × (command_named words ≡ Some command) × (turns_given words ≡ list) × (names_file words ≡ false)
 
 check_alone : (name : Text) → IsFor (codes "check") [] (name ∷ codes "check" ∷ [])
-unfolding program check_line convert_line step_line fine_line turns_option clap_on_literals
-check_alone name = (refl, refl, refl)
+unfolding program check_line convert_line step_line fine_line file_word turns_option turns_file_option clap_on_literals
+check_alone name = (refl, refl, refl, refl)
 
 convert_alone : (name : Text) → IsFor (codes "convert") [] (name ∷ codes "convert" ∷ [])
-unfolding program check_line convert_line step_line fine_line turns_option clap_on_literals
-convert_alone name = (refl, refl, refl)
+unfolding program check_line convert_line step_line fine_line file_word turns_option turns_file_option clap_on_literals
+convert_alone name = (refl, refl, refl, refl)
 
 step_alone : (name : Text) → IsFor (codes "step") [] (name ∷ codes "step" ∷ [])
-unfolding program check_line convert_line step_line fine_line turns_option clap_on_literals
-step_alone name = (refl, refl, refl)
+unfolding program check_line convert_line step_line fine_line file_word turns_option turns_file_option clap_on_literals
+step_alone name = (refl, refl, refl, refl)
 
 step_joined : (name list : Text) → IsFor (codes "step") list (name ∷ codes "step" ∷ (codes "--turns=" ++ list) ∷ [])
-unfolding program check_line convert_line step_line fine_line turns_option clap_on_literals
-step_joined name list = (refl, refl, refl)
+unfolding program check_line convert_line step_line fine_line file_word turns_option turns_file_option clap_on_literals
+step_joined name list = (refl, refl, refl, refl)
 
 step_apart : (name list : Text) → bytes_eq list (45 ∷ 45 ∷ []) ≡ false → long_of list ≡ None → short_of list ≡ None
     → IsFor (codes "step") list (name ∷ codes "step" ∷ codes "--turns" ∷ list ∷ [])
-unfolding program check_line convert_line step_line fine_line turns_option clap_on_literals
-step_apart name list dashes long short = (rw (dashes, long, short) refl, refl, rw (dashes, long, short) refl)
+unfolding program check_line convert_line step_line fine_line file_word turns_option turns_file_option clap_on_literals
+step_apart name list dashes long short = (rw (dashes, long, short) refl, refl, rw (dashes, long, short) refl, rw (dashes, long, short) refl)
 
 fine_alone : (name : Text) → IsFor (codes "fine") [] (name ∷ codes "fine" ∷ [])
-unfolding program check_line convert_line step_line fine_line turns_option clap_on_literals
-fine_alone name = (refl, refl, refl)
+unfolding program check_line convert_line step_line fine_line file_word turns_option turns_file_option clap_on_literals
+fine_alone name = (refl, refl, refl, refl)
 
 fine_joined : (name list : Text) → IsFor (codes "fine") list (name ∷ codes "fine" ∷ (codes "--turns=" ++ list) ∷ [])
-unfolding program check_line convert_line step_line fine_line turns_option clap_on_literals
-fine_joined name list = (refl, refl, refl)
+unfolding program check_line convert_line step_line fine_line file_word turns_option turns_file_option clap_on_literals
+fine_joined name list = (refl, refl, refl, refl)
 
 fine_apart : (name list : Text) → bytes_eq list (45 ∷ 45 ∷ []) ≡ false → long_of list ≡ None → short_of list ≡ None
     → IsFor (codes "fine") list (name ∷ codes "fine" ∷ codes "--turns" ∷ list ∷ [])
-unfolding program check_line convert_line step_line fine_line turns_option clap_on_literals
-fine_apart name list dashes long short = (rw (dashes, long, short) refl, refl, rw (dashes, long, short) refl)
+unfolding program check_line convert_line step_line fine_line file_word turns_option turns_file_option clap_on_literals
+fine_apart name list dashes long short = (rw (dashes, long, short) refl, refl, rw (dashes, long, short) refl, rw (dashes, long, short) refl)
 
 pub help_asked : (name : Text) → fault_of program (name ∷ codes "--help" ∷ []) ≡ kind.DisplayHelp ∷ []
-unfolding program check_line convert_line step_line fine_line turns_option clap_on_literals
+unfolding program check_line convert_line step_line fine_line file_word turns_option turns_file_option clap_on_literals
 help_asked name = refl
 
+pub version_asked : (name : Text) → fault_of program (name ∷ codes "--version" ∷ []) ≡ kind.DisplayVersion ∷ []
+unfolding program check_line convert_line step_line fine_line file_word turns_option turns_file_option clap_on_literals
+version_asked name = refl
+
 pub no_command : (name : Text) → fault_of program (name ∷ []) ≡ kind.MissingSubcommand ∷ []
-unfolding program check_line convert_line step_line fine_line turns_option clap_on_literals
+unfolding program check_line convert_line step_line fine_line file_word turns_option turns_file_option clap_on_literals
 no_command name = refl
 
 no_dashes : (list : Text) → slice_get list 0 ≢ Some 45 → (bytes_eq list (45 ∷ 45 ∷ []) ≡ false) × (long_of list ≡ None) × (short_of list ≡ None)
@@ -76,16 +80,22 @@ module _ (command : Text) (alone : (name : Text) → IsFor command [] (name ∷ 
       let n = no_dashes list h.1 in
       subst (λ ws. IsFor command list ws) (sym h.0) (apart name list n.0 n.1 n.2)
 
-pub plainly_asks : (words : List Text) (asked : Asked) → AsksPlainly words asked → (fault_of program words ≡ []) × Asks words asked
+-- the words have no fault, ask for this, and name no file
+pub record IsPlain (words : List Text) (asked : Asked) : Type 0 where
+  pub faultless : fault_of program words ≡ []
+  pub asks : Asks words asked
+  pub no_file : names_file words ≡ false
+
+pub plainly_asks : (words : List Text) (asked : Asked) → AsksPlainly words asked → IsPlain words asked
 plainly_asks words Check h =
     let found : IsFor (codes "check") [] words = subst (λ ws. IsFor (codes "check") [] ws) (sym h.1) (check_alone h.0) in
-    (found.0, found.1)
+    record { faultless = found.0; asks = found.1; no_file = found.3 }
 plainly_asks words Convert h =
     let found : IsFor (codes "convert") [] words = subst (λ ws. IsFor (codes "convert") [] ws) (sym h.1) (convert_alone h.0) in
-    (found.0, found.1)
+    record { faultless = found.0; asks = found.1; no_file = found.3 }
 plainly_asks words (Step turns) h =
     let found = with_turns (codes "step") step_alone step_joined step_apart h.0 turns.now words h.1 in
-    (found.0, (found.1, sym found.2))
+    record { faultless = found.0; asks = (found.1, sym found.2); no_file = found.3 }
 plainly_asks words (Fine turns) h =
     let found = with_turns (codes "fine") fine_alone fine_joined fine_apart h.0 turns.now words h.1 in
-    (found.0, (found.1, sym found.2))
+    record { faultless = found.0; asks = (found.1, sym found.2); no_file = found.3 }

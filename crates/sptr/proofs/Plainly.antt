@@ -9,12 +9,12 @@ use Rattle.clap.specs.declared.error.kind.ErrorKind.TheVariants as kind
 use Rattle.script_text.specs.declared.fault.Fault.{Fault}
 use Rattle.script_text.specs.declared.fault.Fault.TheVariants.{Memory}
 use Rattle.script_stepper.specs.Runs.{Delivers, IsFineText, IsRunText, Tells}
-use Rattle.sptr.specs.CommandLine.{Asks, AsksHelp, AsksPlainly, NamesNoCommand, program}
-use Rattle.sptr.specs.Serving.{Answers, IsAnswered, IsMistaken, IsReason, IsShown, IsTurnedAway, UnlessInput}
+use Rattle.sptr.specs.CommandLine.{Asks, AsksHelp, AsksPlainly, AsksVersion, NamesNoCommand, names_file, program}
+use Rattle.sptr.specs.Serving.{Answers, IsAnswered, IsMistaken, IsReason, IsShown, IsTurnedAway, UnlessInput, known_unless}
 use Rattle.sptr.specs.declared.command.Asked.{Asked}
 use Rattle.sptr.specs.declared.command.Asked.TheVariants.{Check, Convert, Fine, Step}
 use Rattle.std.proofs.lemmas.Option.{same_Some}
-use Rattle.sptr.proofs.PlainLines.{help_asked, no_command, plainly_asks}
+use Rattle.sptr.proofs.PlainLines.{help_asked, no_command, plainly_asks, version_asked}
 
 check_step : codes "check" ≡ codes "step" → ⊥
 check_step e = cc
@@ -42,6 +42,9 @@ none_one one e = cc
 
 missing_help : kind.MissingSubcommand ≡ kind.DisplayHelp → ⊥
 missing_help e = cc
+
+missing_version : kind.MissingSubcommand ≡ kind.DisplayVersion → ⊥
+missing_version e = cc
 
 missing_memory : kind.MissingSubcommand ≡ kind.OutOfMemory → ⊥
 missing_memory e = cc
@@ -73,14 +76,18 @@ delivers_same words a b (Some bytes) answer old new x y h =
     subst (λ (told : Result (List ℕ) Fault → Type 0). Delivers told answer old new) (same_answers words a b bytes x y) h
 
 module _ (words : List Text) (input : Option (List ℕ)) (status : ℕ) (old new : Option (List ℕ)) (has_failed : Bool) where
-  pub answered_plainly : (a b : Asked) → Asks words a → AsksPlainly words b
-      → IsAnswered a input status old new has_failed → IsAnswered b input status old new has_failed
-  answered_plainly a b x y h = record {
-    answer = h.answer;
-    delivers = delivers_same words a b input h.answer old new x (plainly_asks words b y).1 h.delivers;
-    says = h.says;
-    fails = h.fails;
-  }
+  pub answered_plainly : (a b : Asked) (files : Bool) → files ≡ names_file words → Asks words a → AsksPlainly words b
+      → IsAnswered a (known_unless files input) status old new has_failed → IsAnswered b input status old new has_failed
+  answered_plainly a b files named x y h =
+      let plain = plainly_asks words b y in
+      let whole : IsAnswered a input status old new has_failed =
+      subst (λ (has : Bool). IsAnswered a (known_unless has input) status old new has_failed) (named ∙ plain.no_file) h in
+      record {
+        answer = whole.answer;
+        delivers = delivers_same words a b input whole.answer old new x plain.asks whole.delivers;
+        says = whole.says;
+        fails = whole.fails;
+      }
 
   nothing : (input : Option (List ℕ)) (told : List ℕ → Result (List ℕ) Fault → Type 0) → new ≡ old
       → IfSome input (λ bytes. Delivers {A = Unit {0}} (told bytes) (Err Memory) old new)
@@ -94,7 +101,7 @@ module _ (words : List Text) (input : Option (List ℕ)) (status : ℕ) (old new
   pub turned_plainly : (reason : ErrorKind) (b : Asked) → IsReason words reason → AsksPlainly words b → IsTurnedAway reason status old new has_failed
       → IsAnswered b input status old new has_failed
   turned_plainly reason b r y h =
-      let m = h.memory (no_kind reason (fault_of program words) (plainly_asks words b y).0 r) in
+      let m = h.memory (no_kind reason (fault_of program words) (plainly_asks words b y).faultless r) in
       record {
         answer = Err Memory;
         delivers = nothing input (Answers b) m.1.0;
@@ -113,11 +120,17 @@ module _ (words : List Text) where
   help_fault : AsksHelp words → fault_of program words ≡ kind.DisplayHelp ∷ []
   help_fault h = ap (fault_of program) h.1 ∙ help_asked h.0
 
+  version_fault : AsksVersion words → fault_of program words ≡ kind.DisplayVersion ∷ []
+  version_fault h = ap (fault_of program) h.1 ∙ version_asked h.0
+
   command_fault : NamesNoCommand words → fault_of program words ≡ kind.MissingSubcommand ∷ []
   command_fault h = ap (fault_of program) h.1 ∙ no_command h.0
 
   pub not_helped : {A : Type 0} → AsksHelp words → fault_of program words ≡ [] → A
   not_helped h e = absurd (none_one kind.DisplayHelp (sym (help_fault h) ∙ e))
+
+  pub not_told : {A : Type 0} → AsksVersion words → fault_of program words ≡ [] → A
+  not_told h e = absurd (none_one kind.DisplayVersion (sym (version_fault h) ∙ e))
 
   pub not_mistaken : {A : Type 0} → NamesNoCommand words → fault_of program words ≡ [] → A
   not_mistaken h e = absurd (none_one kind.MissingSubcommand (sym (command_fault h) ∙ e))
@@ -132,6 +145,15 @@ module _ (words : List Text) (status : ℕ) (old new : Option (List ℕ)) (has_f
     | inr is ↦ h.help is
   ]
 
+  pub told_plainly : (reason : ErrorKind) → IsReason words reason → AsksVersion words → IsTurnedAway reason status old new has_failed
+      → IsShown status old new has_failed
+  told_plainly reason r y h = elim (only_kind words reason kind.DisplayVersion (version_fault words y) r) [
+    | inl is ↦
+        let m = h.memory is in
+        record { text = []; answer = Err Memory; writes = m.1.0; says = m.0; fails = m.1.1 }
+    | inr is ↦ h.version is
+  ]
+
   pub mistaken_plainly : (reason : ErrorKind) → IsReason words reason → NamesNoCommand words → IsTurnedAway reason status old new has_failed
       → IsMistaken status old new has_failed
   mistaken_plainly reason r y h = elim (only_kind words reason kind.MissingSubcommand (command_fault words y) r) [
@@ -139,6 +161,6 @@ module _ (words : List Text) (status : ℕ) (old new : Option (List ℕ)) (has_f
         let m = h.memory is in
         (inr m.0, m.1)
     | inr is ↦
-        let m = h.mistake (λ e. missing_help (sym is ∙ e)) (λ e. missing_memory (sym is ∙ e)) in
+        let m = h.mistake (λ e. missing_help (sym is ∙ e)) (λ e. missing_version (sym is ∙ e)) (λ e. missing_memory (sym is ∙ e)) in
         (inl m.0, m.1)
   ]

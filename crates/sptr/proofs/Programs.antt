@@ -1,6 +1,7 @@
 -- The program's command line is one of which `clap` tells the matches.
-use Rattle.std.proofs.Common.{◌≡◌, ◌≢◌, ◌⊎◌, ◌∙◌, true, refl, sym, ap, ap₂, List, [], ◌∷◌, Option, Some, None, codes, inl, inr, option_map}
-use Rattle.std.specs.Prelude.{Box, option_and_then, unwrap_or}
+use Rattle.std.proofs.Common.{◌≡◌, ◌≢◌, ◌⊎◌, ◌∙◌, ◌||◌, true, false, refl, sym, ap, ap₂, List, [], ◌∷◌, Option, Some, None, codes, inl, inr, option_map}
+use Rattle.std.specs.Prelude.{Box, is_some, option_and_then, unwrap_or}
+use Rattle.std.specs.Borrow.{Bor}
 use Rattle.std.specs.Box.{box_value}
 use Rattle.std.proofs.lemmas.Option.{same_Some}
 use Rattle.clap.specs.Words.{Row, Shape, Text, fault_of, first_of, is_simple, is_simple_and_free, built, subcommand_name_of, subcommand_of, subcommand_rows, subcommand_rows_of}
@@ -10,14 +11,14 @@ use Rattle.clap.specs.declared.parser.matches.ArgMatches.TheViews.{out-ArgMatche
 use Rattle.clap.specs.declared.parser.matches.SubCommand.{SubCommand}
 use Rattle.clap.proofs.OnLiterals.{clap_on_literals}
 use Rattle.sptr.proofs.Walks.{enters_own}
-use Rattle.sptr.specs.CommandLine.{check_line, command_named, convert_line, fine_line, program, step_line, turns_given, turns_option}
+use Rattle.sptr.specs.CommandLine.{check_line, command_named, convert_line, file_word, fine_line, names_file_in, program, step_line, turns_file_option, turns_given, turns_option}
 
 pub program_is_simple : is_simple program ≡ true
-unfolding program check_line convert_line step_line fine_line turns_option clap_on_literals
+unfolding program check_line convert_line step_line fine_line file_word turns_option turns_file_option clap_on_literals
 program_is_simple = refl
 
 pub program_is_free : is_simple_and_free program ≡ true
-unfolding program check_line convert_line step_line fine_line turns_option clap_on_literals
+unfolding program check_line convert_line step_line fine_line file_word turns_option turns_file_option clap_on_literals
 program_is_free = refl
 
 abbrev built_line : Shape → Shape
@@ -87,3 +88,26 @@ pub asks_named : (words : List Text) (m : ArgMatches) (command name : Text) → 
     → Some name ≡ subcommand_name_of m → name ≡ command → command_named words ≡ Some command
 asks_named words m command name is n named =
     sym (ap (option_map (λ (p : Text × List Row). p.0)) is) ∙ sym (name_in_rows (out-ArgMatches m).subcommand) ∙ sym n ∙ ap Some named
+
+-- ---- files
+
+-- a command with these rows names a file just where they do
+pub names_by_rows : (o : Option (Text × List Row)) (rows : List Row) → Some rows ≡ option_map (λ p. p.1) o
+    → (is_some (first_of (codes "file") rows) || is_some (first_of (codes "turns-file") rows)) ≡ names_file_in o
+names_by_rows None rows e = absurd (some_none rows e)
+  where
+    some_none : (x : List Row) → Some x ≡ None → ⊥
+    some_none x e = cc
+names_by_rows (Some p) rows e =
+    ap (λ (rs : List Row). is_some (first_of (codes "file") rs) || is_some (first_of (codes "turns-file") rs)) (same_Some _ _ e)
+
+pub names_nothing : (o : Option (Text × List Row)) → None ≡ option_map (λ p. p.1) o → false ≡ names_file_in o
+names_nothing None e = refl
+names_nothing (Some p) e = absurd (none_some p.1 e)
+  where
+    none_some : (x : List Row) → None ≡ Some x → ⊥
+    none_some x e = cc
+
+pub is_some_text : (o : Option (Bor Text)) → is_some o ≡ is_some (option_map (λ s. s.now) o)
+is_some_text None = refl
+is_some_text (Some s) = refl

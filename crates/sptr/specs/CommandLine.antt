@@ -1,34 +1,43 @@
 -- The command line that the program takes, and what its words ask for, by what `clap` makes of such a line. All of it is own.
-use Rattle.std.specs.Prelude.{◌≡◌, ◌≢◌, ◌⊎◌, true, false, List, [], ◌∷◌, ◌++◌, slice_get, Option, Some, option_map, option_and_then, unwrap_or, codes}
-use Rattle.clap.specs.Words.{App, Rule, Shape, Text, first_of, new_rule, subcommand_of}
+use Rattle.std.specs.Prelude.{◌≡◌, ◌≢◌, ◌⊎◌, ◌||◌, Bool, true, false, List, [], ◌∷◌, ◌++◌, slice_get, Option, Some, option_map, option_and_then, unwrap_or, is_some, codes}
+use Rattle.clap.specs.Words.{App, Row, Rule, Shape, Text, first_of, new_rule, subcommand_of}
 use Rattle.clap.specs.Simple.{new_shape}
 use Rattle.sptr.specs.declared.command.Asked.{Asked}
+use Rattle.sptr.specs.declared.command.Files.{Files}
 use Rattle.sptr.specs.declared.command.Asked.TheVariants.{Check, Convert, Fine, Step}
+
+-- `FILE`, the script
+unfoldable pub file_word : Rule
+file_word = record (new_rule (codes "file")) { value_names = 1 }
 
 -- `--turns LIST`
 unfoldable pub turns_option : Rule
 turns_option = record (new_rule (codes "turns")) { long = Some (codes "turns"); value_names = 1 }
 
--- `check`, which takes no words
+-- `--turns-file FILE`
+unfoldable pub turns_file_option : Rule
+turns_file_option = record (new_rule (codes "turns-file")) { long = Some (codes "turns-file"); value_names = 1 }
+
+-- `check`, which takes a script
 unfoldable pub check_line : Shape
-check_line = new_shape (codes "check")
+check_line = record (new_shape (codes "check")) { rules = file_word ∷ [] }
 
--- `convert`, which takes no words
+-- `convert`, which takes a script
 unfoldable pub convert_line : Shape
-convert_line = new_shape (codes "convert")
+convert_line = record (new_shape (codes "convert")) { rules = file_word ∷ [] }
 
--- `step`, which takes a list of turns
+-- `step`, which takes a script and a list of turns
 unfoldable pub step_line : Shape
-step_line = record (new_shape (codes "step")) { rules = turns_option ∷ [] }
+step_line = record (new_shape (codes "step")) { rules = file_word ∷ turns_option ∷ turns_file_option ∷ [] }
 
--- `fine`, which takes a list of turns
+-- `fine`, which takes a script and a list of turns
 unfoldable pub fine_line : Shape
-fine_line = record (new_shape (codes "fine")) { rules = turns_option ∷ [] }
+fine_line = record (new_shape (codes "fine")) { rules = file_word ∷ turns_option ∷ turns_file_option ∷ [] }
 
 -- the program's name, and then one of the four
 unfoldable pub program : App
 program = record {
-  top = record (new_shape (codes "sptr")) { is_leaf = false; subcommand_required = true };
+  top = record (new_shape (codes "sptr")) { is_leaf = false; subcommand_required = true; has_version = true };
   subs = check_line ∷ convert_line ∷ step_line ∷ fine_line ∷ [];
 }
 
@@ -36,9 +45,25 @@ program = record {
 abbrev pub command_named : List Text → Option Text
 command_named words = option_map (λ found. found.0) (subcommand_of program words)
 
+-- what a command was given for this, if it was
+abbrev pub word_in : Text → Option (Text × List Row) → Option Text
+word_in id found = option_and_then (λ (command : Text × List Row). first_of id command.1) found
+
+-- whether a command was given a file, for the script or for the list of turns
+abbrev pub names_file_in : Option (Text × List Row) → Bool
+names_file_in found = is_some (word_in (codes "file") found) || is_some (word_in (codes "turns-file") found)
+
+-- whether the words name one
+abbrev pub names_file : List Text → Bool
+names_file words = names_file_in (subcommand_of program words)
+
+-- whether one of the two is there
+abbrev pub has_files : Files → Bool
+has_files files = is_some files.script || is_some files.turns
+
 -- the list that `--turns` gives, or none
 abbrev pub turns_given : List Text → Text
-turns_given words = unwrap_or (option_and_then (λ found. first_of (codes "turns") found.1) (subcommand_of program words)) []
+turns_given words = unwrap_or (word_in (codes "turns") (subcommand_of program words)) []
 
 -- the words ask for this
 abbrev pub Asks : List Text → Asked → Type 0
@@ -64,6 +89,10 @@ AsksPlainly words (Fine turns) = (name : Text) × IsLine (codes "fine") name tur
 -- the words are the program's name and `--help`
 abbrev pub AsksHelp : List Text → Type 0
 AsksHelp words = (name : Text) × (words ≡ name ∷ codes "--help" ∷ [])
+
+-- the words are the program's name and `--version`
+abbrev pub AsksVersion : List Text → Type 0
+AsksVersion words = (name : Text) × (words ≡ name ∷ codes "--version" ∷ [])
 
 -- the words are the program's name alone
 abbrev pub NamesNoCommand : List Text → Type 0

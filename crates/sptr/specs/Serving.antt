@@ -1,5 +1,5 @@
 -- What commands write, of what is on the input (own).
-use Rattle.std.specs.Prelude.{◌≡◌, ◌≢◌, ◌⊎◌, ℕ, Bool, false, List, [], length, Option, Result, Ok, Err, IfSome}
+use Rattle.std.specs.Prelude.{◌≡◌, ◌≢◌, ◌⊎◌, ℕ, Bool, false, List, [], length, Option, None, Result, Ok, Err, IfSome, if◌then◌else◌}
 use Rattle.clap.specs.Words.{IsAmong, Text, fault_of}
 use Rattle.clap.specs.declared.error.kind.ErrorKind.{ErrorKind}
 use Rattle.clap.specs.declared.error.kind.ErrorKind.TheVariants as kind
@@ -10,7 +10,7 @@ use Rattle.script_text.specs.Drafts.{ScriptView}
 use Rattle.script_text.specs.Grammar.{Reads, Refuses}
 use Rattle.script_text.specs.Scripts.{converted, statement_count}
 use Rattle.script_text.specs.Canonical.{canonical}
-use Rattle.sptr.specs.CommandLine.{Asks, program}
+use Rattle.sptr.specs.CommandLine.{Asks, names_file, program}
 use Rattle.sptr.specs.Lines.{ok_line}
 use Rattle.sptr.specs.declared.command.Asked.{Asked}
 use Rattle.sptr.specs.declared.command.Asked.TheVariants.{Check, Convert, Fine, Step}
@@ -46,12 +46,16 @@ abbrev pub status_of : {A : Type 0} → Result A Fault → ℕ
 status_of (Ok done) = 0
 status_of (Err fault) = 1
 
--- a command's answer to the bytes on the input went to the output, where the input tells its bytes
+-- a command's answer to the bytes of the script went to the output, where it is known which they are
 pub record IsAnswered (asked : Asked) (input : Option (List ℕ)) (status : ℕ) (old new : Option (List ℕ)) (has_failed : Bool) : Type 0 where
   pub answer : Result Unit Fault
   pub delivers : IfSome input (λ bytes. Delivers (Answers asked bytes) answer old new)
   pub says : status ≡ status_of answer
   pub fails : has_failed ≡ is_output answer
+
+-- nothing is known of what is in a file
+abbrev pub known_unless : Bool → Option (List ℕ) → Option (List ℕ)
+known_unless has_file input = if has_file then None else input
 
 -- a text of `clap` went to the output, but for want of memory and a failed output
 pub record IsShown (status : ℕ) (old new : Option (List ℕ)) (has_failed : Bool) : Type 0 where
@@ -69,11 +73,12 @@ IsSilent old new has_failed = (new ≡ old) × (has_failed ≡ false)
 abbrev pub IsMistaken : ℕ → Option (List ℕ) → Option (List ℕ) → Bool → Type 0
 IsMistaken status old new has_failed = ((status ≡ 2) ⊎ (status ≡ 1)) × IsSilent old new has_failed
 
--- `clap` gives no command for a reason of this kind: help goes to the output; want of memory and faults of the words do not
+-- `clap` gives no command for a reason of this kind: help and the version go to the output; want of memory and faults of the words do not
 pub record IsTurnedAway (reason : ErrorKind) (status : ℕ) (old new : Option (List ℕ)) (has_failed : Bool) : Type 0 where
   pub help : reason ≡ kind.DisplayHelp → IsShown status old new has_failed
+  pub version : reason ≡ kind.DisplayVersion → IsShown status old new has_failed
   pub memory : reason ≡ kind.OutOfMemory → (status ≡ 1) × IsSilent old new has_failed
-  pub mistake : reason ≢ kind.DisplayHelp → reason ≢ kind.OutOfMemory → (status ≡ 2) × IsSilent old new has_failed
+  pub mistake : reason ≢ kind.DisplayHelp → reason ≢ kind.DisplayVersion → reason ≢ kind.OutOfMemory → (status ≡ 2) × IsSilent old new has_failed
 
 -- the kind is one that `clap` has for the words, or want of memory
 abbrev pub IsReason : List Text → ErrorKind → Type 0
@@ -82,5 +87,5 @@ IsReason words reason = (reason ≡ kind.OutOfMemory) ⊎ IsAmong reason (fault_
 -- the words have no fault, and what they ask for is answered; or they are turned away for a reason that they give
 abbrev pub Serves : List Text → Option (List ℕ) → ℕ → Option (List ℕ) → Option (List ℕ) → Bool → Type 0
 Serves words input status old new has_failed =
-    ((asked : Asked) × Asks words asked × (fault_of program words ≡ []) × IsAnswered asked input status old new has_failed)
+    ((asked : Asked) × Asks words asked × (fault_of program words ≡ []) × IsAnswered asked (known_unless (names_file words) input) status old new has_failed)
     ⊎ ((reason : ErrorKind) × IsReason words reason × IsTurnedAway reason status old new has_failed)

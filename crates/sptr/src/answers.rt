@@ -17,8 +17,8 @@ use std::alloc::{AllocError, Global};
 use std::fmt::Write as _;
 use std::io::{ErrorKind, Read, Write};
 
-/// All that is on the input.
-fn bytes_of<I: Read>(alloc: Global, input: &mut I) -> Result<Vec<u8>, Fault>
+/// All that an input has.
+pub(crate) fn bytes_of<I: Read>(alloc: Global, input: &mut I) -> Result<Vec<u8>, Fault>
     ensures ok { IfOk result (λ v. IfSome (I.remaining input.old) (λ bytes. v.items ≡ bytes)) }
     ensures err { IfErr result (λ fault. (fault ≡ Input) ⊎ (fault ≡ Memory)) }
 {
@@ -162,7 +162,7 @@ pub(crate) fn convert<I: Read, O: Write>(
 /// Answers `step`: the lines of the run of the script on the input, with a list of turns.
 pub(crate) fn step<I: Read, O: Write>(
     alloc: Global,
-    turns: &str,
+    turns: &[u8],
     input: &mut I,
     output: &mut Output<O>,
 ) -> Result<(), Fault>
@@ -173,13 +173,13 @@ pub(crate) fn step<I: Read, O: Write>(
     ensures failed { output.new.has_failed ≡ is_output result }
 {
     let bytes = bytes_of(alloc, input)?;
-    stepped(alloc, bytes.as_slice(), turns.as_bytes(), output)
+    stepped(alloc, bytes.as_slice(), turns, output)
 }
 
 /// Answers `fine`: the same of the run by single steps, one for each number of the list.
 pub(crate) fn fine<I: Read, O: Write>(
     alloc: Global,
-    turns: &str,
+    turns: &[u8],
     input: &mut I,
     output: &mut Output<O>,
 ) -> Result<(), Fault>
@@ -190,5 +190,5 @@ pub(crate) fn fine<I: Read, O: Write>(
     ensures failed { output.new.has_failed ≡ is_output result }
 {
     let bytes = bytes_of(alloc, input)?;
-    finely_stepped(alloc, bytes.as_slice(), turns.as_bytes(), output)
+    finely_stepped(alloc, bytes.as_slice(), turns, output)
 }

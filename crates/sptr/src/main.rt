@@ -1,9 +1,10 @@
-//! `sptr`: scripts of shared and weak pointers, from standard input to standard output.
+//! `sptr`: scripts of shared and weak pointers, from standard input or a file to standard output.
 #![tactic(auto)]
 
 mod answers;
 mod command;
 mod serve;
+mod sources;
 
 use script_stepper::Output;
 use serve::serve;
@@ -26,6 +27,7 @@ fn main(rt: HostRuntime) -> ExitCode {
         }
     }
     let status = serve(
+        &rt,
         alloc,
         words.as_slice(),
         &mut rt.stdin(),

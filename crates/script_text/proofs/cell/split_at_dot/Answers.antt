@@ -1,4 +1,4 @@
-use Rattle.std.proofs.Common.{◌∙◌, sym}
+use Rattle.std.proofs.Common.{sym}
 use Rattle.script_text.proofs.CellWords.{dot_cut, no_dot}
 use Rattle.script_text.proofs.cell.split_at_dot.Goals as goal
 

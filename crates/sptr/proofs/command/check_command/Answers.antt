@@ -1,9 +1,13 @@
-use Rattle.std.proofs.Common.{◌∙◌, ap}
-use Rattle.clap.specs.Words.{App}
-use Rattle.clap.specs.Simple.{shape_of_fields}
+use Rattle.std.proofs.Common.{◌≡◌, ◌∙◌, ap, ap₂, codes}
+use Rattle.std.proofs.lemmas.Result.{IfOk-weaker}
+use Rattle.clap.specs.Words.{App, app_of, new_app, with_rule}
+use Rattle.clap.specs.Simple.{app_of_fields}
 use Rattle.sptr.specs.CommandLine.{check_line}
 use Rattle.sptr.proofs.command.check_command.Goals as goal
 
 pub returns-clause-shape : goal.returns-clause-shape
 unfolding check_line
-returns-clause-shape c = ap shape_of_fields c.about.ensures ∙ ap (λ (a : App). a.top) c.new.ensures.app
+returns-clause-shape c =
+    let bare : app_of c.about.result ≡ new_app (codes "check") = ap app_of_fields c.about.ensures ∙ c.new.ensures.app in
+    IfOk-weaker c.arg.result _ _ (λ r h.
+    ap (λ (a : App). a.top) (h.shape c.file_argument.ensures.local ∙ ap₂ with_rule bare c.file_argument.ensures.rule)) c.arg.ensures

@@ -8,16 +8,20 @@ use Rattle.sptr.proofs.command.command.Goals as goal
 abbrev wanting : App → App
 wanting = on_top (λ s. record s { subcommand_required = true })
 
+abbrev versioned : App → App
+versioned = on_top (λ s. record s { has_version = true })
+
 pub returns : goal.returns
 unfolding program
 returns c =
-    let bare : app_of c.subcommand_required.result ≡ wanting (new_app (codes "sptr")) =
-    ap app_of_fields c.subcommand_required.ensures ∙ ap wanting (ap app_of_fields c.about.ensures ∙ c.new.ensures.app) in
-    let start = wanting (new_app (codes "sptr")) in
+    let start = wanting (versioned (new_app (codes "sptr"))) in
+    let bare : app_of c.subcommand_required.result ≡ start =
+    ap app_of_fields c.subcommand_required.ensures
+    ∙ ap wanting (ap app_of_fields c.version.ensures ∙ ap versioned (ap app_of_fields c.about.ensures ∙ c.new.ensures.app)) in
     let one : app_of c.in_ok-subcommand.field-0 ≡ with_subcommand start check_line =
-    c.in_ok-subcommand.ensures.shape c.check_command.ensures.local ∙ ap₂ with_subcommand bare c.check_command.ensures.shape in
+    c.in_ok-subcommand.ensures.shape c.in_ok-check.ensures.local ∙ ap₂ with_subcommand bare c.in_ok-check.ensures.shape in
     let two : app_of c.in_ok-subcommand-2.field-0 ≡ with_subcommand (with_subcommand start check_line) convert_line =
-    c.in_ok-subcommand-2.ensures.shape c.convert_command.ensures.local ∙ ap₂ with_subcommand one c.convert_command.ensures.shape in
+    c.in_ok-subcommand-2.ensures.shape c.in_ok-convert.ensures.local ∙ ap₂ with_subcommand one c.in_ok-convert.ensures.shape in
     let three : app_of c.in_ok-subcommand-3.field-0 ≡ with_subcommand (with_subcommand (with_subcommand start check_line) convert_line) step_line =
     c.in_ok-subcommand-3.ensures.shape c.in_ok-step.ensures.local ∙ ap₂ with_subcommand two c.in_ok-step.ensures.shape in
     IfOk-weaker c.subcommand-4.result _ _ (λ r h.

@@ -11,5 +11,5 @@ unwrapped (Some s) d = refl
 
 pub returns : goal.returns
 returns c =
-    ap (λ (s : Bor Text). s.now) c.unwrap_or.ensures ∙ unwrapped c.get_str.result _
+    c.as_bytes.ensures.value ∙ ap (λ (s : Bor Text). s.now) c.unwrap_or.ensures ∙ unwrapped c.get_str.result _
     ∙ ap (λ (o : Option Text). unwrap_or o []) (c.get_str.ensures ∙ first_value-rows (found_of c.args.given.now) (codes "turns"))

@@ -1,0 +1,118 @@
+//! Answers to scripts and lists of turns, wherever these lie.
+
+ghost use Rattle.std.specs.Prelude.{◌≡◌, false, is_some, IfSome};
+ghost use Rattle.script_stepper.specs.Runs.{Delivers, is_output};
+ghost use Rattle.sptr.specs.CommandLine.{has_files};
+ghost use Rattle.sptr.specs.Serving.{Answers, known_unless};
+
+use crate::answers::{bytes_of, check, convert, fine, step};
+use crate::command::{Asked, Files, Line};
+use script_stepper::Output;
+use script_text::Fault;
+use std::alloc::Global;
+use std::io::{Read, Write};
+use std::{fs, rt};
+
+/// The answer to what a command line asks for, of the script on the input.
+fn answer<I: Read, O: Write>(
+    alloc: Global,
+    asked: Asked<'_>,
+    input: &mut I,
+    output: &mut Output<O>,
+) -> Result<(), Fault>
+    requires { output.old.has_failed ≡ false }
+    ensures delivers { IfSome (I.remaining input.old) (λ bytes.
+        Delivers (Answers asked.entry bytes) result (O.contents output.old.writer) (O.contents output.new.writer)) }
+    ensures failed { output.new.has_failed ≡ is_output result }
+{
+    match asked {
+        Asked::Check => check(alloc, input, output),
+        Asked::Convert => convert(alloc, input, output),
+        Asked::Step { turns } => step(alloc, turns, input, output),
+        Asked::Fine { turns } => fine(alloc, turns, input, output),
+    }
+}
+
+/// The same of a script in a file, if one is named.
+fn answer_script<R: rt::Files, I: Read, O: Write>(
+    rt: &R,
+    alloc: Global,
+    asked: Asked<'_>,
+    script: Option<&str>,
+    input: &mut I,
+    output: &mut Output<O>,
+) -> Result<(), Fault>
+    requires { output.old.has_failed ≡ false }
+    ensures delivers { IfSome (known_unless (is_some script.entry) (I.remaining input.old)) (λ bytes.
+        Delivers (Answers asked.entry bytes) result (O.contents output.old.writer) (O.contents output.new.writer)) }
+    ensures failed { output.new.has_failed ≡ is_output result }
+{
+    let Some(path) = script else {
+        return answer(alloc, asked, input, output);
+    };
+    match fs::open(rt, path) {
+        Ok(mut file) => answer(alloc, asked, &mut file, output),
+        Err(_) => Err(Fault::Input),
+    }
+}
+
+/// A list without the line feed at its end.
+fn line_of(list: &[u8]) -> &[u8] {
+    match list {
+        [front @ .., b'\r', b'\n'] => front,
+        [front @ .., b'\n'] => front,
+        _ => list,
+    }
+}
+
+/// What a command asks for with this list of turns.
+fn with_turns<'a>(asked: Asked<'_>, turns: &'a [u8]) -> Asked<'a> {
+    match asked {
+        Asked::Check => Asked::Check,
+        Asked::Convert => Asked::Convert,
+        Asked::Step { .. } => Asked::Step { turns },
+        Asked::Fine { .. } => Asked::Fine { turns },
+    }
+}
+
+/// The same with the list of turns in a file.
+fn answer_turns<R: rt::Files, I: Read, O: Write>(
+    rt: &R,
+    alloc: Global,
+    asked: Asked<'_>,
+    turns: &str,
+    script: Option<&str>,
+    input: &mut I,
+    output: &mut Output<O>,
+) -> Result<(), Fault>
+    requires { output.old.has_failed ≡ false }
+    ensures { output.new.has_failed ≡ is_output result }
+{
+    let Ok(mut file) = fs::open(rt, turns) else {
+        return Err(Fault::Input);
+    };
+    let list = bytes_of(alloc, &mut file)?;
+    let asked = with_turns(asked, line_of(list.as_slice()));
+    answer_script(rt, alloc, asked, script, input, output)
+}
+
+/// The answer to a command line: of the script on the input, or of files that it names, of which nothing is known.
+pub(crate) fn answer_line<R: rt::Files, I: Read, O: Write>(
+    rt: &R,
+    alloc: Global,
+    line: Line<'_>,
+    input: &mut I,
+    output: &mut Output<O>,
+) -> Result<(), Fault>
+    requires { output.old.has_failed ≡ false }
+    ensures delivers { IfSome (known_unless (has_files line.entry.files) (I.remaining input.old)) (λ bytes.
+        Delivers (Answers line.entry.asked bytes) result (O.contents output.old.writer) (O.contents output.new.writer)) }
+    ensures failed { output.new.has_failed ≡ is_output result }
+{
+    let Line { asked, files } = line;
+    let Files { script, turns } = files;
+    match turns {
+        Some(path) => answer_turns(rt, alloc, asked, path, script, input, output),
+        None => answer_script(rt, alloc, asked, script, input, output),
+    }
+}
