@@ -1,3 +1,3 @@
 pub mod Filling
 pub mod Wholes
-pub mod Vacant
+pub mod Owned

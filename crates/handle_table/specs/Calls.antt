@@ -1,8 +1,9 @@
 -- What the calls of a handle table say.
-use Rattle.std.specs.Prelude.{◌≡◌, ◌⊎◌, ℕ, ◌≤◌, Bool, false, is_some, List, [], length, slice_get, slice_set, Option, None, Some, Result, Err}
+use Rattle.std.specs.Prelude.{◌≡◌, ◌⊎◌, ℕ, ◌≤◌, Bool, false, true, is_some, List, [], ◌∷◌, length, slice_get, slice_set, Option, None, Some, Result, Err}
 use Rattle.control_word.specs.declared.event.Cell.TheVariants.{Free}
 use Rattle.control_word.specs.declared.handle.Kind.TheVariants as kind
 use Rattle.control_word.specs.declared.place.Block.{Block}
+use Rattle.control_word.specs.declared.place.Place.{Place}
 use Rattle.control_word.specs.declared.refusal.Refusal.{Refusal}
 use Rattle.control_word.specs.declared.refusal.Refusal.TheVariants.{Full, Limit}
 use Rattle.control_block.specs.Desks.{DeskNow, allowance_of, held_of, stock_of}
@@ -89,6 +90,10 @@ module _ {V : Type 0} where
   -- a new object's owner ([util.smartptr.shared.create])
   abbrev pub Makes : TableNow V → ℕ → Bool → List ℕ → V → TableNow V → Type 0
   Makes t to enabled fields x u = Comes (IsOwner (λ d h e. inner.Makes d enabled false fields x h.block h.place e)) t to u
+
+  -- a new owner of the null pointer ([util.smartptr.shared.const])
+  abbrev pub MakesNull : TableNow V → ℕ → V → TableNow V → Type 0
+  MakesNull t to x u = Comes (IsOwner (λ d h e. inner.Makes d false true (0 ∷ 0 ∷ 0 ∷ 0 ∷ []) x h.block h.place e)) t to u
 
   -- there is no vacant block for it
   abbrev pub WhyNotMade : TableNow V → ℕ → Fault → Type 0
@@ -181,6 +186,17 @@ module _ {V : Type 0} where
     pub was : IsAt t at of
     pub event : CountsOf t.desk of n u.desk
     pub rest : (u.slots ≡ t.slots) × (u.endings ≡ t.endings)
+
+  -- expired ([util.smartptr.weak.obs])
+  pub record Expires (t : TableNow V) (at : ℕ) (expired : Bool) (u : TableNow V) : Type 0 where
+    pub of : weak_handle.Weak
+    pub was : IsAt t at (Weak of)
+    pub event : inner.IsExpiry t.desk of.block of.place expired u.desk
+    pub rest : (u.slots ≡ t.slots) × (u.endings ≡ t.endings)
+
+  -- where the owner in the slot points ([util.smartptr.shared.obs])
+  abbrev pub PointsTo : TableNow V → ℕ → Option Place → Type 0
+  PointsTo t at p = (h : Shared) × IsAt t at (Owner h) × (p ≡ h.place)
 
   -- objects that were left to end did so, and nothing else happened to the table
   abbrev pub EndsOne : TableNow V → V → TableNow V → Type 0

@@ -4,17 +4,18 @@
 mod assigning;
 mod cells;
 mod copying;
-mod counting;
 mod fault;
 mod leaving;
 mod locking;
 mod making;
+mod members;
 mod parting;
 mod program;
 mod slots;
 mod table;
 mod telling;
 
+pub use atomic_cells::SharedMember;
 pub use fault::{Fault, Returned};
 pub use program::{Program, Ran, Team, run};
 pub use shared_handle::Gone;

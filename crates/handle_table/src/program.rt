@@ -1,12 +1,10 @@
 //! A program over a domain of its own, with a table for each of its threads.
-ghost use Rattle.std.specs.Prelude.{◌≡◌, IfErr, IfOk};
+ghost use Rattle.std.specs.Prelude.{◌≡◌, IfErr};
 ghost use Rattle.control_word.specs.Layout.{IsWithinLimits};
 ghost use Rattle.control_block.specs.Desks.{Begins, Belongs, DeskNow, endings_of};
 ghost use Rattle.shared_handle.specs.Piles.{Bears};
-ghost use Rattle.handle_table.specs.Census.{vacant_below};
 ghost use Rattle.handle_table.specs.Tables.{AllVacant};
 
-use crate::counting::count_vacant;
 use crate::slots::open_slots;
 use crate::table::{HandleTable, Home};
 use control_block::census::{Census, close};
@@ -33,11 +31,10 @@ pub struct Team {
     pub blocks: u32,
 }
 
-/// What a program's run left: the census of its domain, how many blocks are vacant, and how many workers had a table.
+/// What a program's run left: the census of its domain, and how many workers had a table.
 #[derive(Drop)]
 pub struct Ran<V: Drop + Send> {
     pub census: Census<V>,
-    pub vacant: u32,
     pub workers: usize,
 }
 
@@ -161,8 +158,7 @@ pub fn run<V: Drop + Send, R: Threads + Wait + Sync, P: Program<V, R> + Sync>(
     team: Team,
     program: &P,
 ) -> Result<Ran<V>, Refusal>
-    ensures vacant { IfOk result (λ ran. ran.vacant ≡ vacant_below ran.census shape.blocks) }
-    ensures shape { IfErr result (λ why. why ≡ Refusal.Shape → IsWithinLimits shape → ⊥) }
+    ensures { IfErr result (λ why. why ≡ Refusal.Shape → IsWithinLimits shape → ⊥) }
 {
     let (domain, desk) = open::<V>(alloc, shape)?;
     let Ok(mut slots) = Vec::with_capacity(alloc, team.slots) else {
@@ -182,14 +178,7 @@ pub fn run<V: Drop + Send, R: Threads + Wait + Sync, P: Program<V, R> + Sync>(
         rt, alloc, &domain, desk, slots, pile, team, program,
     );
     match close(domain, desk) {
-        Ok(census) => {
-            let vacant = count_vacant(&census, shape.blocks);
-            Ok(Ran {
-                census,
-                vacant,
-                workers,
-            })
-        }
+        Ok(census) => Ok(Ran { census, workers }),
         Err(refused) => {
             let Refused {
                 why,

@@ -2,14 +2,15 @@
 ghost use Rattle.std.specs.Prelude.{◌≡◌, ◌⊎◌, Err, IfErr, IfOk, Ok};
 ghost use Rattle.control_block.specs.Desks.{Belongs, Keeps, bag_of};
 ghost use Rattle.control_block.specs.HandleLists.{IsHeld};
-ghost use Rattle.handle_table.specs.Calls.{Counts, CountsOf, IsNotRead, Reads, WhyNoHandle, WhyNoOwner};
+ghost use Rattle.handle_table.specs.Calls.{Counts, CountsOf, Expires, IsNotRead, PointsTo, Reads, WhyNoHandle, WhyNoOwner, WhyNoWeak};
 
 use crate::fault::Fault;
-use crate::slots::{handle_at, owner_at};
+use crate::slots::{handle_at, owner_at, weak_at};
 use crate::table::{HandleTable, Home};
 use control_block::desk::Desk;
 use control_block::domain::Domain;
-use shared_handle::{Held, read, use_count, use_count_weak};
+use control_word::Place;
+use shared_handle::{Held, expired, read, use_count, use_count_weak};
 
 /// How many owners the handle's object has.
 fn count_of<V: Drop + Send>(domain: &Domain<V>, desk: &mut Desk<V>, handle: &Held) -> u32
@@ -49,6 +50,28 @@ impl<'d, V: Drop + Send, H: Home> HandleTable<'d, V, H> {
     {
         match handle_at(&self.slots, at) {
             Ok(handle) => Ok(count_of(self.domain, &mut self.desk, handle)),
+            Err(why) => Err(why),
+        }
+    }
+
+    /// `expired` ([util.smartptr.weak.obs]) of a weak handle.
+    pub fn expired(&mut self, at: usize) -> Result<bool, Fault>
+        ensures expired { IfOk result (λ expired. Expires self.old at expired self.new) }
+        ensures refused { IfErr result (λ why. WhyNoWeak self.old.slots at why × (self.new ≡ self.old)) }
+    {
+        match weak_at(&self.slots, at) {
+            Ok(weak) => Ok(expired(self.domain, &mut self.desk, weak)),
+            Err(why) => Err(why),
+        }
+    }
+
+    /// Where an owner points: the stored pointer ([util.smartptr.shared.obs]).
+    pub fn place(&self, at: usize) -> Result<Option<Place>, Fault>
+        ensures place { IfOk result (λ place. PointsTo self.now at place) }
+        ensures refused { IfErr result (WhyNoOwner self.now.slots at) }
+    {
+        match owner_at(&self.slots, at) {
+            Ok(owner) => Ok(owner.place()),
             Err(why) => Err(why),
         }
     }

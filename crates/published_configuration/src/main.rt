@@ -74,7 +74,10 @@ fn main(rt: HostRuntime) -> io::Result<()> {
         blocks: 4,
     };
     match run(&rt, rt.alloc(), shape, team, &Crowd) {
-        Ok(ran) => println!(&rt; "{} workers, {} blocks vacant", ran.workers, ran.vacant),
+        Ok(ran) => {
+            let vacant = ran.census.vacant();
+            println!(&rt; "{} workers, {vacant} blocks vacant", ran.workers)
+        }
         Err(why) => println!(&rt; "not run: {why}"),
     }
 }
