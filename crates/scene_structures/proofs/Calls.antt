@@ -1,0 +1,97 @@
+-- Whole calls on a stack.
+use Rattle.std.proofs.Common.{◌≡◌, ℕ, ◌<◌, ◌≤◌, ◌+◌, false, length, List, [], ◌∷◌, Option, None, Some, refl, sym, ap, subst, ◌∙◌, arith}
+use Rattle.std.specs.Prelude.{MatchOption, vec_capacity}
+use Rattle.control_word.specs.Events.{place_at}
+use Rattle.control_word.specs.Handles.{object_of, owner}
+use Rattle.control_word.specs.Histories.{IsLegal}
+use Rattle.control_word.specs.declared.event.Cell.{Cell}
+use Rattle.control_word.specs.declared.event.Cell.TheVariants.{Free}
+use Rattle.control_word.specs.declared.event.Event.TheVariants.{Load}
+use Rattle.control_word.specs.declared.handle.Handle.{Handle}
+use Rattle.control_word.specs.declared.handle.Kind.TheVariants.{Owner}
+use Rattle.control_word.specs.declared.place.Block.{Block}
+use Rattle.control_block.proofs.Latest.{calls_keep_latest}
+use Rattle.control_block.specs.CellCalls.{handle_in, with_handle}
+use Rattle.control_block.proofs.EndingCounts.{sum_none}
+use Rattle.control_word.specs.Histories.{leads}
+use Rattle.control_word.specs.declared.event.Entry.{Entry}
+use Rattle.control_word.specs.declared.shape.Shape.{Shape}
+use Rattle.control_block.specs.Desks.{Adds, Begins, Belongs, DeskNow, DomainNow, allowance_of, bag_of, endings_of, latest_of, many_ending}
+use Rattle.shared_handle.specs.Piles.{AllEnd, Bears}
+use Rattle.shared_handle.specs.declared.pile.Pile.{Pile}
+use Rattle.control_block.specs.Own.{IsSole}
+use Rattle.control_block.specs.Rule.{opening_of}
+use Rattle.control_block.specs.declared.handles.Shared.{Shared}
+use Rattle.shared_handle.specs.Calls.{Makes}
+use Rattle.scene_structures.specs.Hands.{HasHands, Lists, node_in}
+use Rattle.scene_structures.specs.Pops.{TakesNode}
+use Rattle.scene_structures.specs.Puts.{PutsOnly}
+use Rattle.scene_structures.specs.Stacks.{FindsNone, IsBare, IsPopped, NextOf, Pushes, Rises, Serves}
+use Rattle.scene_structures.proofs.Hands.{first_lists, lists_first}
+use Rattle.scene_structures.proofs.Pushes.{rises_later, same_node}
+use Rattle.shared_handle.proofs.Goings.{does_one}
+use Rattle.scene_structures.proofs.Sole.{bare_list, popped_list}
+
+module _ {V : Type 0} where
+  pub got_lists : (d e : DeskNow V) (h : Shared) → bag_of e ≡ with_handle Owner h.block h.place (bag_of d) → Lists h.block h.place (bag_of e)
+  got_lists d e h bag = subst (Lists h.block h.place) (sym bag) (lists_first h.block h.place (bag_of d))
+
+  -- one more in hand
+  pub hands_one : (d e : DeskNow V) (h : Shared) → length (bag_of d) ≤ d.held → bag_of e ≡ with_handle Owner h.block h.place (bag_of d)
+      → e.held ≡ d.held + 1 → HasHands (bag_of d) (h ∷ []) e
+  hands_one d e h few bag held = record { bag = bag; few = omega arith }
+
+  -- a new node, a look at the cell, and the rise
+  pub pushes : (d m l e : DeskNow V) (c k : Cell) (fields : List ℕ) (x : V) (node : Shared) (got : Handle)
+      → Makes d false false fields x node.block node.place m → bag_of m ≡ with_handle Owner node.block node.place (bag_of d) → Adds m (Load k got) l
+      → Rises l c (node_in l node) e → Pushes d c fields x e
+  pushes d m l e c k fields x node got makes bag loads rises = go node.block refl makes
+    where
+      go : (b : Option Block) → node.block ≡ b → Makes d false false fields x b node.place m → Pushes d c fields x e
+      go None is made = absurd made
+      go (Some b) is made =
+          let there = owner (latest_of m b.0) (place_at b.0) in
+          let same = same_node m l node (calls_keep_latest m _ l loads) (got_lists d m node bag) in
+          let here : node_in m node ≡ there = (λ i. handle_in m Owner (is i) (made.0 i)) in
+          record {
+            block = b;
+            made = m;
+            makes = made.1;
+            rises = rises_later m l e c there (does_one (PutsOnly (NextOf (object_of there))) m l _ loads tt)
+                (subst (λ (h : Handle). Rises l c h e) (same ∙ here) rises);
+          }
+
+  -- what a pop gave, on a sole desk
+  pub popped_or_bare : (d e : DeskNow V) (m : ℕ) (base : List Handle) (r : Option Shared)
+      → MatchOption r (FindsNone d (Free m) e) (λ h. TakesNode d (Free m) h e)
+      → MatchOption r (HasHands base [] e) (λ h. HasHands base (h ∷ []) e) → IsLegal (opening_of d.shape) d.seen → m < (opening_of d.shape).cells → IsSole d
+      → MatchOption r (IsBare d (Free m) e) (λ h. IsPopped d (Free m) h e)
+  popped_or_bare d e m base None own hands legal lt sole = bare_list d e m own legal sole lt
+  popped_or_bare d e m base (Some h) own hands legal lt sole = popped_list d e m h own legal sole lt (first_lists e base h [] hands)
+
+  -- a pile that serves any desk in whose hands nothing ends has room for all blocks
+  pub room_of : (domain : DomainNow) (p : Pile V) → ((d : DeskNow V) → Belongs d domain → endings_of d ≡ 0 → Bears domain d p)
+      → domain.shape.blocks ≤ vec_capacity p.endings
+  room_of domain p bears =
+      let d : DeskNow V = record { domain = domain.id; shape = domain.shape; name = 0; seen = []; held = 0 } in
+      (bears d record { table = refl; shape = refl } (sum_none domain.shape.blocks _ (λ j. refl))).room
+
+  -- an empty pile serves
+  pub serves_empty : (domain : DomainNow) (d : DeskNow V) (p : Pile V) → Bears domain d p → p.endings.items ≡ [] → Serves domain p
+  serves_empty domain d p bears none e belongs settled =
+      record {
+        belongs = belongs;
+        ends = subst (AllEnd e) (sym none) tt;
+        many = ap length none ∙ sym settled;
+        room = bears.room;
+      }
+
+  -- a domain's first desk
+  pub begins_settled : (domain : DomainNow) (d : DeskNow V) → Begins domain d → endings_of d ≡ 0
+  begins_settled domain d b =
+      ap (λ (l : List (Entry V)). many_ending d.shape.blocks (leads (opening_of d.shape) l) d.name) b.seen ∙ sum_none d.shape.blocks _ (λ j. refl)
+
+  pub begins_whole : (domain : DomainNow) (d : DeskNow V) → Begins domain d → allowance_of d ≡ domain.shape.allowance
+  begins_whole domain d b =
+      ap (λ (l : List (Entry V)). (leads (opening_of d.shape) l).allowance d.name) b.seen
+      ∙ (ap (λ n. (opening_of d.shape).share n) b.name ∙ ap (λ (k : Shape). k.allowance) b.shape)

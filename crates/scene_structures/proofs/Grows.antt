@@ -1,0 +1,120 @@
+-- On a sole desk a list grows by just the node that rises.
+use Rattle.std.proofs.Common.{◌≡◌, ◌≢◌, ℕ, suc, ◌<◌, ◌≤◌, ◌+◌, ◌&&◌, Bool, true, false, cond, List, [], ◌∷◌, ◌++◌, map, Option, None, Some, refl, sym}
+use Rattle.std.proofs.Common.{ap, subst, ◌∙◌, inl, inr, ⊎_elim, append_assoc, arith}
+use Rattle.std.proofs.lemmas.List.{map-append}
+use Rattle.std.proofs.lemmas.List.Elements.{All-append, All-cons, All-nil, All-head, All-tail, All-weaker}
+use Rattle.std.specs.Prelude.{All}
+use Rattle.control_word.proofs.history.Cells.{open_live}
+use Rattle.control_word.proofs.history.Given.{legal_seen}
+use Rattle.control_word.proofs.history.Kept.{block_kept, cells_led}
+use Rattle.control_word.proofs.history.Legal.{sound}
+use Rattle.control_word.proofs.lists.Tallies.{put_same, same_handle_true}
+use Rattle.control_word.specs.Events.{Asks, after, cell_of, kind_of, place_at, Holds}
+use Rattle.control_word.specs.Handles.{equivalent, object_of, owner, same_handle, same_kind}
+use Rattle.control_word.specs.Histories.{IsLegal, entry, leads}
+use Rattle.control_word.specs.State.{Opening, State, live, put}
+use Rattle.control_word.specs.declared.event.Cell.{Cell}
+use Rattle.control_word.specs.declared.event.Cell.TheVariants.{Free, Member}
+use Rattle.control_word.specs.declared.event.Entry.{Entry}
+use Rattle.control_word.specs.declared.event.Event.{Event}
+use Rattle.control_word.specs.declared.event.Event.TheVariants.{Compare, Load, Make, Swap}
+use Rattle.control_word.specs.declared.handle.Handle.{Handle}
+use Rattle.control_word.specs.declared.handle.Kind.{Kind}
+use Rattle.control_word.specs.declared.handle.Kind.TheVariants.{Owner, Weak}
+use Rattle.control_word.specs.declared.place.Place.{Place}
+use Rattle.scene_structures.specs.Chains.{Chain, IsList, Owns}
+use Rattle.shared_handle.specs.Piles.{IsParting}
+use Rattle.scene_structures.specs.Puts.{PutsOnly, nowhere}
+use Rattle.scene_structures.specs.Stacks.{NextOf}
+use Rattle.scene_structures.proofs.Frames.{AllKept, Apart, Keeps, cell_run, chain_kept, frames}
+use Rattle.scene_structures.proofs.Lives.{keeps_run}
+use Rattle.scene_structures.proofs.Rows.{parting_puts, partings_put}
+
+pub apart_nowhere : (os : List ℕ) → Apart nowhere os
+apart_nowhere [] = tt
+apart_nowhere (o ∷ os) = (λ e. e, apart_nowhere os)
+
+-- the same objects
+pub all_same : (s t : State) (os : List ℕ) → t.object ≡ s.object → AllKept s t os
+all_same s t [] e = tt
+all_same s t (o ∷ os) e = (record { block = ap (λ f. (f o).block) e; next = ap (λ f. (f o).member 1) e }, all_same s t os e)
+
+-- what is equivalent to an owner is that owner, if it is an owner
+pub same_owner : (a b : Handle) → equivalent a b ≡ true → a.kind ≡ Owner → b.kind ≡ Owner → a ≡ b
+same_owner a b same ka kb =
+    same_handle_true a b (ap (λ (k : Kind). same_kind k b.kind && equivalent a b) ka ∙ (ap (λ (k : Kind). same_kind Owner k && equivalent a b) kb ∙ same))
+
+pub none_alike : (a b : Handle) → equivalent a b ≡ true → a.object ≡ None → b.object ≡ None
+none_alike a b same none = go b.object refl
+  where
+    go : (x : Option ℕ) → b.object ≡ x → b.object ≡ None
+    go None e = e
+    go (Some o) e = absurd (let t : equivalent a b ≡ false = (λ i. Rattle.control_word.specs.Handles.same_number (none i)
+        (e i) && Rattle.control_word.specs.Handles.same_place a.place b.place) in let u : true ≡ false = sym same ∙ t in cc)
+
+-- a chain from what is equivalent
+pub chain_alike : (s : State) (a b : Handle) (os : List ℕ) → equivalent a b ≡ true → b.kind ≡ Owner → Chain s a os → Chain s b os
+chain_alike s a b [] same kind chain = none_alike a b same chain
+chain_alike s a b (o ∷ os) same kind chain =
+    let e : a ≡ b = same_owner a b same (ap (λ (h : Handle). h.kind) chain.0.1) kind in ((chain.0.0, sym e ∙ chain.0.1, chain.0.2), chain.1)
+
+-- what goes in or is expected by a compare, and has an object, is held
+pub given_holds : (s : State) (d : ℕ) (k : Kind) (o : ℕ) (p : Option Place) → Rattle.control_word.specs.Events.InHand s d k (owner o p)
+    → Holds s d Owner (owner o p)
+given_holds s d k o p in' =
+    ⊎_elim (λ t. absurd (let e : Some o ≡ None = t.0 in cc)) (λ (t : Holds s d k (owner o p)). (t.0, refl, t.2)) in'.1
+
+module _ {V : Type 0} where
+  -- events in a row, before others
+  pub in_front : (d : ℕ) (a b : List (Event V)) (seen : List (Entry V)) → (map (entry d) (a ++ b) ++ seen) ≡ (map (entry d) a ++ (map (entry d) b ++ seen))
+  in_front d a b seen = ap (λ l. l ++ seen) (map-append (entry d) a b) ∙ append_assoc (map (entry d) a) (map (entry d) b) seen
+
+  -- the state after the node rose
+  pub risen : (z : Opening) (d o m : ℕ) (q : Place) (below was old : Handle) (w : Bool) (before between late : List (Event V)) (seen : List (Entry V))
+      (os : List ℕ)
+      → IsLegal z (map (entry d) (late ++ Compare (Free m) below (owner o (Some q)) old true w ∷ (between ++ Swap (Member o 1) below was ∷ before)) ++ seen)
+      → All (PutsOnly (NextOf o)) before → All IsParting between → All IsParting late → m < z.cells → Apart (NextOf o) os → o ≤ (leads z seen).made
+      → q.block.0 ≡ ((leads z seen).object o).block → IsList (leads z seen) (Free m) os
+      → IsList (leads z (map (entry d) (late ++ Compare (Free m) below (owner o (Some q)) old true w ∷
+      (between ++ Swap (Member o 1) below was ∷ before)) ++ seen)) (Free m) (o ∷ os)
+  risen z d o m q below was old w before between late seen os legal early leaves last lt apart made block list =
+      let at = NextOf o in
+      let node = owner o (Some q) in
+      let x = Compare (Free m) below node old true w in
+      let row = between ++ Swap (Member o 1) below was ∷ before in
+      let T = map (entry d) row ++ seen in
+      let C = entry d x ∷ T in
+      let split = in_front d late (x ∷ row) seen in
+      let legal' : IsLegal z (map (entry d) late ++ C) = subst (IsLegal z) split legal in
+      let legalC : IsLegal z C = legal_seen z (map (entry d) late) C legal' in
+      let s = leads z T in
+      let n = frames z d at row seen m os legalC.0
+      (All-append (PutsOnly at) between (Swap (Member o 1) below was ∷ before) (partings_put at between leaves)
+      (All-cons (PutsOnly at) (Swap (Member o 1) below was) before refl early))
+      lt (λ e. absurd (let t : Free m ≡ Member o 1 = e in cc)) apart list in
+      let asks = legalC.1.asks in
+      let alike = ⊎_elim (λ (e : true ≡ equivalent old below). sym e) (λ t. absurd (let e : true ≡ false = t.1 in cc)) asks.4 in
+      let cell : s.cell m ≡ old = sym asks.3 in
+      let kind : below.kind ≡ Owner = asks.1.0 ∙ sym asks.2.0 in
+      let tail : Chain s below os = chain_alike s old below os alike kind (subst (λ (h : Handle). Chain s h os) cell n) in
+      let A = map (entry d) (Swap (Member o 1) below was ∷ before) ++ seen in
+      let inner = in_front d between (Swap (Member o 1) below was ∷ before) seen in
+      let holds = given_holds s d _ o (Some q) asks.2 in
+      let lives : (s.object o).phase ≡ live = open_live z s d o 1 (sound z T legalC.0) (omega arith, (node, holds, refl)) in
+      let kept = keeps_run z d o between A (subst (IsLegal z) inner legalC.0) leaves (subst (λ l. ((leads z l).object o).phase ≡ live) inner lives) in
+      let B = map (entry d) before ++ seen in
+      let put_in : ((leads z A).object o).member 1 ≡ below =
+      ap (λ (y : Rattle.control_word.specs.State.Object). y.member 1) (put_same (leads z B).object o _ o refl) ∙ put_same
+      ((leads z B).object o).member 1 below 1 refl in
+      let next : (s.object o).member 1 ≡ below = ap (λ l. ((leads z l).object o).member 1) inner ∙ (kept.next ∙ put_in) in
+      let here : q.block.0 ≡ (s.object o).block = block ∙ sym (block_kept z (map (entry d) row) seen o made).0 in
+      let u = leads z C in
+      let cell_now : u.cell m ≡ node = put_same s.cell m node m refl in
+      let chain_u : Chain u node (o ∷ os) = (
+        (q, refl, here),
+        subst (λ (h : Handle). Chain u h os) (sym next)
+            (chain_kept s u below os (all_same s u os refl) tail),
+      ) in
+      let list_u : IsList u (Free m) (o ∷ os) = subst (λ (h : Handle). Chain u h (o ∷ os)) (sym cell_now) chain_u in
+      subst (λ l. IsList (leads z l) (Free m) (o ∷ os)) (sym split)
+      (frames z d nowhere late C m (o ∷ os) legal' (partings_put nowhere late last) lt (λ e. e) (apart_nowhere (o ∷ os)) list_u)

@@ -1,0 +1,11 @@
+pub mod Hands
+pub mod Latest
+pub mod Rows
+pub mod Frames
+pub mod Lives
+pub mod Grows
+pub mod Pushes
+pub mod Looks
+pub mod Shrinks
+pub mod Sole
+pub mod Calls

@@ -1,0 +1,53 @@
+-- An object that lives still when handles have left holds in `next` what it held.
+use Rattle.std.proofs.Common.{◌≡◌, ◌≢◌, ℕ, suc, ◌<◌, ◌≤◌, ◌+◌, Bool, true, false, cond, List, [], ◌∷◌, ◌++◌, map, None, Some, refl, sym, ap, subst}
+use Rattle.std.proofs.Common.{◌∙◌, inl, inr, ⊎_elim, arith}
+use Rattle.std.proofs.lemmas.Bool.{cond_both}
+use Rattle.control_word.proofs.history.Clearing.{was_made}
+use Rattle.control_word.proofs.history.Legal.{sound}
+use Rattle.control_word.proofs.lists.Tallies.{put_cases, put_same}
+use Rattle.control_word.specs.Events.{Asks, after, moved_to}
+use Rattle.control_word.specs.Handles.{empty, object_of, owner}
+use Rattle.control_word.specs.Histories.{IsLegal, entry, leads}
+use Rattle.control_word.specs.State.{Object, Opening, State, ending, gone, kind_of_member, live, put}
+use Rattle.control_word.specs.declared.event.Event.{Event}
+use Rattle.control_word.specs.declared.event.Entry.{Entry}
+use Rattle.control_word.specs.declared.event.Event.TheVariants.{ClearMember, Finish, Leave, WeakLeave}
+use Rattle.control_word.specs.declared.event.Cell.{Cell}
+use Rattle.control_word.specs.declared.event.Cell.TheVariants.{Free, Member}
+use Rattle.shared_handle.specs.Piles.{IsParting}
+use Rattle.scene_structures.specs.Puts.{nowhere}
+use Rattle.std.specs.Prelude.{All}
+use Rattle.std.proofs.lemmas.List.Elements.{All-head, All-tail}
+use Rattle.scene_structures.proofs.Frames.{Keeps, keeps_after}
+use Rattle.scene_structures.proofs.Rows.{parting_puts}
+
+module _ {V : Type 0} where
+  -- what lives after a parting lived before it
+  pub phase_back : (s : State) (d o : ℕ) (x : Event V) → IsParting x → ((after s d x).object o).phase ≡ live → (s.object o).phase ≡ live
+  phase_back s d o (Leave h last) p =
+      let q = object_of h in let y = s.object q in
+      put_cases (λ j (u : Object). u.phase ≡ live → (s.object j).phase ≡ live) s.object q (cond last (moved_to (ending d) y) y) o
+      (λ e. cond_both last (moved_to (ending d) y) y (λ (u : Object). u.phase ≡ live → (s.object o).phase ≡ live)
+      (λ t l. absurd (let k : ending d ≡ live = l in cc)) (λ t l. ap (λ j. (s.object j).phase) e ∙ l)) (λ n l. l)
+  phase_back s d o (WeakLeave h v) p = λ l. l
+  phase_back s d o (ClearMember q m h) p =
+      let y = s.object q in
+      put_cases (λ j (u : Object). u.phase ≡ live → (s.object j).phase ≡ live) s.object q (record y { member = put y.member m (empty (kind_of_member m)) }) o
+      (λ e l. ap (λ j. (s.object j).phase) e ∙ l) (λ n l. l)
+  phase_back s d o (Finish q v x) p =
+      put_cases (λ j (u : Object). u.phase ≡ live → (s.object j).phase ≡ live) s.object q (moved_to gone (s.object q)) o
+      (λ e l. absurd (let k : gone ≡ live = l in cc)) (λ n l. l)
+  phase_back s d o x p = absurd p
+
+  -- over partings an object that lives in the end has kept its `next`, and lived all along
+  pub keeps_run : (z : Opening) (d o : ℕ) (xs : List (Event V)) (seen : List (Entry V)) → IsLegal z (map (entry d) xs ++ seen) → All IsParting xs
+      → ((leads z (map (entry d) xs ++ seen)).object o).phase ≡ live → Keeps (leads z seen) (leads z (map (entry d) xs ++ seen)) o
+  keeps_run z d o [] seen legal all lives = record { block = refl; next = refl }
+  keeps_run z d o (x ∷ xs) seen legal all lives =
+      let h = map (entry d) xs ++ seen in let s = leads z h in
+      let first = All-head IsParting x xs all in
+      let before = phase_back s d o x first lives in
+      let made = was_made z s o (sound z h legal.0) (λ e. let t = before in cc) in
+      let t = keeps_run z d o xs seen legal.0 (All-tail IsParting x xs all) before in
+      let k = keeps_after s d x nowhere o legal.1.asks (parting_puts nowhere x first) (λ n. n) before (omega arith) in
+      record { block = k.block ∙ t.block; next = k.next ∙ t.next }

@@ -1,0 +1,161 @@
+-- What tries to take the top node say, put together.
+use Rattle.std.proofs.Common.{◌≡◌, ℕ, Bool, true, false, List, [], ◌∷◌, ◌++◌, Option, None, Some, Ok, refl, sym, ap, subst, ◌∙◌, append_assoc, ◌≢◌}
+use Rattle.std.specs.Prelude.{All}
+use Rattle.std.proofs.lemmas.List.Elements.{All-append, All-cons, All-nil}
+use Rattle.control_word.specs.Handles.{handle, object_of, owner}
+use Rattle.control_word.specs.Histories.{IsLegal}
+use Rattle.control_word.specs.State.{Has}
+use Rattle.control_word.specs.declared.event.Cell.{Cell}
+use Rattle.control_word.specs.declared.event.Cell.TheVariants.{Free, Member}
+use Rattle.control_word.specs.declared.event.Event.{Event}
+use Rattle.control_word.specs.declared.event.Event.TheVariants.{Compare, Load}
+use Rattle.control_word.specs.declared.handle.Handle.{Handle}
+use Rattle.control_word.specs.declared.handle.Kind.TheVariants.{Owner}
+use Rattle.control_word.specs.declared.place.Block.{Block}
+use Rattle.control_word.specs.declared.place.Place.{Place}
+use Rattle.control_word.specs.declared.shape.Shape.{Shape}
+use Rattle.control_block.proofs.Bags.{shown_held}
+use Rattle.control_block.proofs.Own.{goes_by_call, goes_in_turn}
+use Rattle.control_block.specs.CellCalls.{handle_in}
+use Rattle.control_block.specs.Desks.{Adds, DeskNow, bag_of, latest_of, state_of}
+use Rattle.control_block.specs.Own.{Does, Goes}
+use Rattle.control_block.specs.Rule.{opening_of}
+use Rattle.control_block.specs.declared.handles.Shared.{Shared}
+use Rattle.shared_handle.specs.Endings.{IsWithin}
+use Rattle.std.proofs.Common.{Result, Err}
+use Rattle.control_word.specs.declared.refusal.Refusal.{Refusal}
+use Rattle.control_word.specs.declared.refusal.Refusal.TheVariants.{Null, Outside}
+use Rattle.atomic_cells.specs.Sites.{IsMember}
+use Rattle.scene_structures.specs.Chains.{Owns}
+use Rattle.scene_structures.specs.Hands.{Lists, SameNode, node_in}
+use Rattle.scene_structures.specs.Pops.{TakesNode}
+use Rattle.shared_handle.specs.Piles.{IsParting}
+use Rattle.scene_structures.specs.Puts.{PutsOnly, nowhere}
+use Rattle.scene_structures.specs.Stacks.{FindsNone, Looks, Sees, Takes}
+use Rattle.shared_handle.proofs.Goings.{does_both, does_one}
+use Rattle.scene_structures.proofs.Rows.{partings_put}
+
+same_block : (a b : Block) → a.0 ≡ b.0 → a ≡ b
+same_block a b e = λ i. record { 0 = e i }
+
+module _ {V : Type 0} where
+  -- what a desk holds points into the block of what it owns, if it points into what it owns
+  pub within_held : (d : DeskNow V) (h : Shared) → IsLegal (opening_of d.shape) d.seen → Lists h.block h.place (bag_of d) → (o : ℕ)
+      → Owns (state_of d) (node_in d h) o → IsWithin h.block h.place
+  within_held d h legal lists o owns = go h.block h.place lists owns
+    where
+      go : (b : Option Block) (p : Option Place) → Lists b p (bag_of d) → Owns (state_of d) (handle_in d Owner b p) o → IsWithin b p
+      go None p lists owns = absurd (let e : None ≡ Some o = ap (λ (x : Handle). x.object) owns.1 in cc)
+      go (Some c) p lists owns =
+          let q = owns.0 in
+          let place : p ≡ Some q = ap (λ (x : Handle). x.place) owns.1 in
+          let object : Some (latest_of d c.0) ≡ Some o = ap (λ (x : Handle). x.object) owns.1 in
+          let number : latest_of d c.0 ≡ o = cc in
+          let held = shown_held (opening_of d.shape) d.seen d.name Owner p c.0 legal lists in
+          let block : c.0 ≡ q.block.0 = sym held.1 ∙ (ap (λ n. ((state_of d).object n).block) number ∙ sym owns.2) in
+          (q, place, ap Some (same_block c q.block block))
+
+  legal_after : (d e : DeskNow V) (x : Event V) → Adds d x e → IsLegal (opening_of e.shape) e.seen
+  legal_after d e x adds = subst (λ (k : Shape). IsLegal (opening_of k) e.seen) (sym adds.same.1) adds.legal
+
+  -- the first look
+  pub looks_first : (d e : DeskNow V) (c : Cell) (h : Shared) → Adds d (Load c (node_in e h)) e → Lists h.block h.place (bag_of e) → Looks d c h e
+  looks_first d e c h adds lists =
+      record {
+        at = e;
+        look = Load c (node_in e h);
+        before = [];
+        after = [];
+        sees = (refl, refl);
+        looks = goes_by_call d _ e adds;
+        leaves = Rattle.control_block.proofs.Own.goes_by_none e;
+        early = All-nil (PutsOnly nowhere);
+        late = All-nil IsParting;
+        within = within_held e h (legal_after d e _ adds) lists;
+      }
+
+  pub sees_none : (c : Cell) (h : Handle) (x : Event V) → Sees c h x → PutsOnly nowhere x
+  sees_none c h (Load k got) sees = tt
+  sees_none c h (Compare k expected new got false weak) sees = tt
+  sees_none c h x sees = absurd sees
+
+  pub looks_does : (d e : DeskNow V) (c : Cell) (h : Shared) → Looks d c h e → Does (PutsOnly nowhere) d e
+  looks_does d e c h l =
+      record {
+        own = l.after ++ l.look ∷ l.before;
+        goes = goes_in_turn d (l.look ∷ l.before) l.at l.after e l.looks l.leaves;
+        all = All-append (PutsOnly nowhere) l.after (l.look ∷ l.before) (partings_put nowhere l.after l.late)
+            (All-cons (PutsOnly nowhere) l.look l.before (sees_none c (node_in l.at h) l.look l.sees) l.early);
+      }
+
+  -- the look was the last one, and found no node
+  pub finds_none : (d e f : DeskNow V) (c : Cell) (h : Shared) → Looks d c h e → (IsWithin h.block h.place → ⊥) → Does IsParting e f → FindsNone d c f
+  finds_none d e f c h l not does =
+      record {
+        found = h;
+        looks = record {
+          at = l.at;
+          look = l.look;
+          before = l.before;
+          after = does.own ++ l.after;
+          sees = l.sees;
+          looks = l.looks;
+          leaves = goes_in_turn l.at l.after e does.own f l.leaves does.goes;
+          early = l.early;
+          late = All-append IsParting does.own l.after does.all l.late;
+          within = l.within;
+        };
+        none = λ o owns. not (l.within o owns);
+      }
+
+  -- a load and a compare that differs
+  pub looks_again : (d e m u f : DeskNow V) (c : Cell) (h held : Shared) (k : Cell) (below ex new : Handle) (w : Bool) → Looks d c h e → Adds e (Load k below) m
+      → Adds m (Compare c ex new (node_in u held) false w) u → Lists held.block held.place (bag_of u) → Does IsParting u f → Looks d c held f
+  looks_again d e m u f c h held k below ex new w l loads differs lists does =
+      let a = looks_does d e c h l in
+      let x = Load k below in let y = Compare c ex new (node_in u held) false w in
+      record {
+        at = u;
+        look = y;
+        before = x ∷ a.own;
+        after = does.own;
+        sees = (refl, refl);
+        looks = goes_in_turn d (x ∷ a.own) m (y ∷ []) u (goes_in_turn d a.own e (x ∷ []) m a.goes (goes_by_call e x m loads)) (goes_by_call m y u differs);
+        leaves = does.goes;
+        early = All-cons (PutsOnly nowhere) x a.own tt a.all;
+        late = does.all;
+        within = within_held u held (legal_after m u _ differs) lists;
+      }
+
+  -- a load and a compare that swaps
+  pub takes : (d e m u f : DeskNow V) (c : Cell) (h : Shared) (o : ℕ) (q : Place) (below old : Handle) (w : Bool) → Looks d c h e
+      → Adds e (Load (Member o 1) below) m
+      → Adds m (Compare c (owner o (Some q)) below old true w) u → Does IsParting u f → Takes d c o q f
+  takes d e m u f c h o q below old w l loads swaps does =
+      let a = looks_does d e c h l in
+      let x = Load (Member o 1) below in let y = Compare c (owner o (Some q)) below old true w in
+      record {
+        below = below;
+        old = old;
+        weak = w;
+        before = a.own;
+        after = does.own;
+        goes = goes_in_turn d (y ∷ (x ∷ a.own)) u does.own f
+            (goes_in_turn d (x ∷ a.own) m (y ∷ []) u (goes_in_turn d a.own e (x ∷ []) m a.goes (goes_by_call e x m loads)) (goes_by_call m y u swaps))
+            does.goes;
+        early = a.all;
+        late = does.all;
+      }
+
+  -- an owner that points into its block, by its object
+  pub owner_within : (d : DeskNow V) (h : Shared) (q : Place) → h.place ≡ Some q → h.block ≡ Some q.block → node_in d h ≡ owner (latest_of d q.block.0) (Some q)
+  owner_within d h q place block = λ i. handle_in d Owner (block i) (place i)
+
+-- what has no member is no node
+pub no_member : {A : Type 0} (is : Block → A → Type 0) (b : Option Block) (p : Option Place) (r : Result A Refusal) → IsMember is b p r
+    → ((x : A) → r ≡ Ok x → ⊥) → IsWithin b p → ⊥
+no_member is b p (Ok at) h not within = not at refl
+no_member is b p (Err Null) h not within = absurd (let e = within.1 in let t : None ≡ Some within.0 = sym h ∙ e in cc)
+no_member is b p (Err Outside) h not within =
+    let same : h.0 ≡ within.0 = (let e : Some h.0 ≡ Some within.0 = sym h.1 ∙ within.1 in cc) in h.2 (within.2 ∙ ap (λ (q : Place). Some q.block) (sym same))
+no_member is b p (Err why) h not within = absurd h

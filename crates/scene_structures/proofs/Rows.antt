@@ -1,0 +1,57 @@
+-- What a call's own events are, put in a row.
+use Rattle.std.proofs.Common.{◌≡◌, ℕ, List, [], ◌∷◌, ◌++◌, Option, None, Some, refl, sym, ap, subst, ◌∙◌}
+use Rattle.std.proofs.lemmas.List.Elements.{All-append, All-cons, All-nil, All-weaker}
+use Rattle.std.specs.Prelude.{All}
+use Rattle.control_word.specs.declared.event.Cell.{Cell}
+use Rattle.control_word.specs.declared.event.Cell.TheVariants.{Free, Member}
+use Rattle.control_word.specs.declared.event.Event.{Event}
+use Rattle.control_word.specs.declared.event.Event.TheVariants.{ClearMember, Compare, Count, Expired, Finish, Join, Leave, Load, Lock, Make, Read}
+use Rattle.control_word.specs.declared.event.Event.TheVariants.{Share, Split, Swap, Visit, WeakLeave, WeakShare}
+use Rattle.control_word.specs.declared.place.Block.{Block}
+use Rattle.control_word.specs.declared.place.Place.{Place}
+use Rattle.control_word.specs.Histories.{IsLegal}
+use Rattle.control_block.proofs.Own.{goes_by_call, goes_by_none, goes_in_turn}
+use Rattle.control_block.specs.Desks.{Adds, DeskNow, IsSameDesk}
+use Rattle.control_block.specs.Own.{Does, Goes, KeepsDesks}
+use Rattle.shared_handle.specs.Calls.{LeavesWeakly, counting}
+use Rattle.shared_handle.specs.Endings.{IsClearing, IsLeft}
+use Rattle.shared_handle.specs.declared.endings.Ending.{Ending}
+use Rattle.shared_handle.specs.declared.endings.Left.{Left}
+use Rattle.shared_handle.specs.declared.endings.Left.TheVariants.{Empty, Last, Others}
+use Rattle.shared_handle.specs.declared.endings.Member.{Member as Part}
+use Rattle.shared_handle.specs.declared.endings.Member.TheVariants.{First, Next, Up}
+use Rattle.shared_handle.specs.Piles.{IsParting}
+use Rattle.scene_structures.specs.Puts.{PutsOnly}
+
+module _ {V : Type 0} where
+  pub parting_puts : (at : Cell → Type 0) (x : Event V) → IsParting x → PutsOnly at x
+  parting_puts at (Leave h last) p = tt
+  parting_puts at (WeakLeave h vacant) p = tt
+  parting_puts at (ClearMember o m h) p = tt
+  parting_puts at (Finish o vacant value) p = tt
+  parting_puts at x p = absurd p
+
+  pub partings_put : (at : Cell → Type 0) (xs : List (Event V)) → All IsParting xs → All (PutsOnly at) xs
+  partings_put at xs all = All-weaker IsParting (PutsOnly at) (parting_puts at) xs all
+
+  pub puts_keep : (at : Cell → Type 0) (x : Event V) → PutsOnly at x → KeepsDesks x
+  puts_keep at (Split to n hs bs) p = p
+  puts_keep at (Join other) p = p
+  puts_keep at (Swap c new old) p = tt
+  puts_keep at (Compare c ex new h b w) p = tt
+  puts_keep at (Make b enabled null fields value) p = tt
+  puts_keep at (Leave h last) p = tt
+  puts_keep at (ClearMember q m h) p = tt
+  puts_keep at (Finish q v y) p = tt
+  puts_keep at (Share h q) p = tt
+  puts_keep at (Count h k) p = tt
+  puts_keep at (Expired h y) p = tt
+  puts_keep at (Read h k) p = tt
+  puts_keep at (WeakShare q y) p = tt
+  puts_keep at (WeakLeave h v) p = tt
+  puts_keep at (Lock h got) p = tt
+  puts_keep at (Load c got) p = tt
+  puts_keep at (Visit h y w) p = tt
+
+  pub does_wider : (is like : Event V → Type 0) (d e : DeskNow V) → ((x : Event V) → is x → like x) → Does is d e → Does like d e
+  does_wider is like d e wider does = record { own = does.own; goes = does.goes; all = All-weaker is like wider does.own does.all }

@@ -1,0 +1,25 @@
+use Rattle.std.proofs.Common.{refl, ◌∙◌}
+use Rattle.shared_handle.proofs.Piles.{same_both, same_desk}
+use Rattle.scene_structures.proofs.popping.take.Goals as goal
+
+pub loop-init : goal.loop-init
+loop-init g c =
+    record { bears = c.requires.bears; none = c.requires.empty; held = refl; same = same_desk c.args.desk.now; bag = λ base has. has; own = λ d l. l }
+
+pub loop-preserved : goal.loop-preserved
+loop-preserved g c =
+    let i = c.loop.invariant in let t = c.try_pop in let e = c.in-Again.ensures in
+    record {
+      bears = e.bears;
+      none = e.none;
+      held = e.held ∙ i.held;
+      same = same_both c.args.desk.now c.loop.desk t.new.desk i.same e.desk;
+      bag = λ base has. e.bag base (i.bag base has);
+      own = λ d l. e.own d (i.own d l);
+    }
+
+pub try_pop-requires-clause-bag : goal.try_pop-requires-clause-bag
+try_pop-requires-clause-bag g c κs within = (c.requires.bag.0, c.loop.invariant.bag c.requires.bag.0 c.requires.bag.1)
+
+pub returns-in-Found-clause-own : goal.returns-in-Found-clause-own
+returns-in-Found-clause-own g c = λ d l. c.in-Found.ensures.own d (c.loop.invariant.own d l)

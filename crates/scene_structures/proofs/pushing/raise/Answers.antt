@@ -1,0 +1,47 @@
+use Rattle.std.proofs.Common.{refl, sym, ap, subst, ◌∙◌}
+use Rattle.control_word.specs.Handles.{object_of}
+use Rattle.control_word.specs.declared.event.Cell.TheVariants.{Free}
+use Rattle.control_word.specs.declared.handle.Handle.{Handle}
+use Rattle.control_block.specs.Own.{Does}
+use Rattle.control_block.specs.declared.handles.Shared.{Shared}
+use Rattle.shared_handle.specs.Endings.{IsWithin}
+use Rattle.scene_structures.specs.Hands.{SameNode, node_in}
+use Rattle.scene_structures.specs.Puts.{PutsOnly}
+use Rattle.scene_structures.specs.Stacks.{NextOf, Rises}
+use Rattle.scene_structures.proofs.Pushes.{rises_later}
+use Rattle.shared_handle.proofs.Goings.{does_both, does_none}
+use Rattle.shared_handle.proofs.Piles.{same_both, same_desk}
+use Rattle.scene_structures.proofs.pushing.raise.Goals as goal
+
+pub loop-init : goal.loop-init
+loop-init g c =
+    let d = c.args.desk.now in
+    record { bears = c.requires.bears; node = (refl, refl); held = refl; same = same_desk d; bag = λ base has. has; own = does_none _ d }
+
+pub loop-preserved : goal.loop-preserved
+loop-preserved g c =
+    let d = c.args.desk.now in let i = c.loop.invariant in let t = c.try_push in let e = c.in-Some-try_push.ensures in
+    let l = c.loop.desk in let first = c.args.first in let f = t.new.desk in
+    let here = ap (node_in l) i.node.0 ∙ i.node.1 in
+    record {
+      bears = e.bears;
+      node = (e.node.0 ∙ i.node.0, subst (λ (n : Shared). SameNode l n f) i.node.0 e.node.1 ∙ i.node.1);
+      held = e.held ∙ i.held;
+      same = same_both d l f i.same e.desk;
+      bag = λ base has. e.bag base (i.bag base has);
+      own = does_both (PutsOnly (NextOf (object_of (node_in d first.node)))) d l f i.own
+          (subst (λ (h : Handle). Does (PutsOnly (NextOf (object_of h))) l f) here e.own);
+    }
+
+pub try_push-requires-clause-node : goal.try_push-requires-clause-node
+try_push-requires-clause-node g c κs within =
+    subst (λ (n : Shared). IsWithin n.block n.place) (sym c.loop.invariant.node.0) c.requires.node
+
+pub try_push-requires-clause-bag : goal.try_push-requires-clause-bag
+try_push-requires-clause-bag g c κs within = (c.requires.bag.0, c.loop.invariant.bag c.requires.bag.0 c.requires.bag.1)
+
+pub returns-in-None-try_push-clause-own : goal.returns-in-None-try_push-clause-own
+returns-in-None-try_push-clause-own g c =
+    let i = c.loop.invariant in let l = c.loop.desk in let f = c.try_push.new.desk in let d = c.args.desk.now in
+    rises_later d l f (Free c.args.cell) (node_in d c.args.first.node) i.own
+    (subst (λ (h : Handle). Rises l (Free c.args.cell) h f) (ap (node_in l) i.node.0 ∙ i.node.1) c.in-None-try_push.ensures.own)

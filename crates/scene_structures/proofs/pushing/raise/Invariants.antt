@@ -1,0 +1,21 @@
+use Rattle.std.proofs.Common.{◌≡◌, [], ◌∷◌, List, ◌<◌, ◌+◌}
+use Rattle.control_word.specs.Handles.{object_of}
+use Rattle.control_word.specs.declared.handle.Handle.{Handle}
+use Rattle.control_block.specs.Desks.{IsSameDesk, allowance_of}
+use Rattle.control_block.specs.Own.{Does}
+use Rattle.scene_structures.specs.Hands.{HasHands, SameNode, node_in}
+use Rattle.shared_handle.specs.Piles.{Bears}
+use Rattle.scene_structures.specs.Puts.{PutsOnly}
+use Rattle.scene_structures.specs.Stacks.{NextOf}
+use Rattle.scene_structures.proofs.pushing.raise.Given as goal
+
+abbrev pub invariant-loop : goal.invariant-loop
+invariant-loop g l = record {
+  bears : Bears l.domain l.desk l.pile;
+  node : (l.attempt.node ≡ l.initial.attempt.node) × SameNode l.initial.desk l.initial.attempt.node l.desk;
+  held : l.desk.held ≡ l.initial.desk.held;
+  same : IsSameDesk l.initial.desk l.desk;
+  bag : (base : List Handle) → HasHands base (l.initial.attempt.top ∷ l.initial.attempt.node ∷ []) l.initial.desk
+      → HasHands base (l.attempt.top ∷ l.attempt.node ∷ []) l.desk;
+  own : Does (PutsOnly (NextOf (object_of (node_in l.initial.desk l.initial.attempt.node)))) l.initial.desk l.desk;
+}

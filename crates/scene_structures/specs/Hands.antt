@@ -1,0 +1,40 @@
+-- Handles that a call has in hand, above all others of its desk.
+use Rattle.std.specs.Prelude.{◌≡◌, ℕ, ◌+◌, ◌≤◌, List, [], ◌∷◌, length, Option, Some, None}
+use Rattle.control_word.specs.Handles.{handle}
+use Rattle.control_word.specs.State.{Has}
+use Rattle.control_word.specs.declared.handle.Handle.{Handle}
+use Rattle.control_word.specs.declared.handle.Kind.{Kind}
+use Rattle.control_word.specs.declared.handle.Kind.TheVariants.{Owner}
+use Rattle.control_word.specs.declared.place.Block.{Block}
+use Rattle.control_word.specs.declared.place.Place.{Place}
+use Rattle.control_block.specs.CellCalls.{handle_in, with_handle}
+use Rattle.control_block.specs.Desks.{DeskNow, HasHandle, bag_of, latest_of}
+use Rattle.control_block.specs.declared.handles.Shared.{Shared}
+
+-- these handles lie on a bag
+abbrev pub stacked : List Shared → List Handle → List Handle
+stacked [] base = base
+stacked (h ∷ hs) base = with_handle Owner h.block h.place (stacked hs base)
+
+-- the list has the owner, if that has an object
+abbrev pub Lists : Option Block → Option Place → List Handle → Type 0
+Lists None p l = Unit {0}
+Lists (Some b) p l = Has (handle Owner (Some b.0) p) l
+
+module _ {V : Type 0} where
+  -- what the handle is, by the object that it is on
+  abbrev pub node_in : DeskNow V → Shared → Handle
+  node_in d h = handle_in d Owner h.block h.place
+
+  -- the desk has just these above the others, and all are counted
+  pub record HasHands (base : List Handle) (hs : List Shared) (d : DeskNow V) : Type 0 where
+    pub bag : bag_of d ≡ stacked hs base
+    pub few : length base + length hs ≤ d.held
+
+  -- the handle is on the object that it was on
+  abbrev pub SameNode : DeskNow V → Shared → DeskNow V → Type 0
+  SameNode d h e = node_in e h ≡ node_in d h
+
+  -- what the desk has still is on the object that it was on
+  abbrev pub KeepsHeld : DeskNow V → DeskNow V → Type 0
+  KeepsHeld d e = (k : Kind) (p : Option Place) (b : ℕ) → HasHandle e k p b → latest_of e b ≡ latest_of d b

@@ -1,0 +1,5 @@
+pub mod Chains
+pub mod Puts
+pub mod Hands
+pub mod Stacks
+pub mod Pops

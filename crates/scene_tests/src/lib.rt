@@ -1,0 +1,11 @@
+//! Tests of the structures, over the public functions of their crate and of those below it alone.
+#![tactic(auto)]
+
+#[cfg(test)]
+mod crowd;
+#[cfg(test)]
+mod parts;
+#[cfg(test)]
+mod refusals;
+#[cfg(test)]
+mod stacks;

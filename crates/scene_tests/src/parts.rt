@@ -1,0 +1,127 @@
+//! What the tests have in common: domains, owners that leave, and calls on a stack.
+ghost use Rattle.std.specs.Prelude.{◌≡◌, ◌+◌, [], IfSome, MatchOption, Some};
+ghost use Rattle.control_word.specs.declared.handle.Kind.TheVariants.{Owner};
+ghost use Rattle.control_block.specs.Desks.{Belongs, IsSameDesk, allowance_of, bag_of, endings_of};
+ghost use Rattle.shared_handle.specs.Calls.{Holds, with_handle, without_handle};
+ghost use Rattle.scene_structures.specs.Stacks.{Serves, StandsIn};
+
+use control_block::census::close;
+use control_block::desk::Desk;
+use control_block::domain::{Domain, open};
+use control_word::{Refused, Shape};
+use scene_structures::Stack;
+use shared_handle::{Pile, Shared, drop_shared, read};
+use std::alloc::Global;
+use std::sync::Wait;
+
+// A domain with one free shared cell.
+fn shape(blocks: u32, allowance: u32) -> Shape
+    ensures { result ≡ record { blocks = blocks; shared_cells = 1; weak_cells = 0; allowance = allowance } }
+{
+    Shape {
+        blocks,
+        shared_cells: 1,
+        weak_cells: 0,
+        allowance,
+    }
+}
+
+// A domain and its first desk, if there is memory.
+pub(crate) fn opened(alloc: Global, blocks: u32, allowance: u32) -> Option<(Domain<u64>, Desk<u64>)>
+    ensures desk { IfSome result (λ r. Belongs r.1 r.0 × (endings_of r.1 ≡ 0) × (allowance_of r.1 ≡ r.0.shape.allowance)) }
+    ensures shape { IfSome result (λ r. r.0.shape.shared_cells ≡ 1) }
+{
+    match open::<u64>(alloc, shape(blocks, allowance)) {
+        Ok(pair) => Some(pair),
+        Err(_) => None,
+    }
+}
+
+// A sole desk closes its domain: how many vacant blocks it had.
+pub(crate) fn shut(domain: Domain<u64>, desk: Desk<u64>) -> u32
+    requires domain { Belongs desk domain }
+    requires sole { allowance_of desk ≡ domain.shape.allowance }
+{
+    let stock = desk.stock();
+    match close(domain, desk) {
+        Ok(census) => drop(census),
+        Err(_) => unreachable!(),
+    }
+    stock
+}
+
+// An owner leaves, with all that ends by that.
+pub(crate) fn spend<R: Wait>(
+    rt: &R,
+    domain: &Domain<u64>,
+    desk: &mut Desk<u64>,
+    owner: Shared,
+    pile: &mut Pile<u64>,
+)
+    requires domain { Belongs desk.old domain.now }
+    requires serves { Serves domain.now pile.old }
+    requires settled { endings_of desk.old ≡ 0 }
+    requires holds { Holds desk.old Owner owner.block owner.place }
+    ensures serves { Serves domain.now pile.new }
+    ensures empty { pile.new.endings.items ≡ [] }
+    ensures settled { endings_of desk.new ≡ 0 }
+    ensures desk { IsSameDesk desk.old desk.new }
+    ensures bag { bag_of desk.new ≡ without_handle Owner owner.block owner.place (bag_of desk.old) }
+    ensures held { desk.new.held + 1 ≡ desk.old.held }
+{
+    let _gone = drop_shared(domain, desk, pile, owner);
+    pile.settle(rt, domain, desk);
+}
+
+// A node with this field goes on top: whether it did.
+pub(crate) fn push<R: Wait>(
+    rt: &R,
+    domain: &Domain<u64>,
+    desk: &mut Desk<u64>,
+    stack: &mut Stack<u64>,
+    field: u64,
+) -> bool
+    requires domain { Belongs desk.old domain.now }
+    requires stands { StandsIn stack.old domain.now }
+    requires settled { endings_of desk.old ≡ 0 }
+    ensures stands { StandsIn stack.new domain.now }
+    ensures settled { endings_of desk.new ≡ 0 }
+    ensures desk { IsSameDesk desk.old desk.new }
+{
+    match stack.push(rt, domain, desk, [field, 0, 0, 0], field) {
+        Ok(()) => true,
+        Err(refused) => {
+            let Refused { why: _, back: _ } = refused;
+            false
+        }
+    }
+}
+
+// The top node goes out: its field.
+pub(crate) fn pop<R: Wait>(
+    rt: &R,
+    domain: &Domain<u64>,
+    desk: &mut Desk<u64>,
+    stack: &mut Stack<u64>,
+    pile: &mut Pile<u64>,
+) -> Option<u64>
+    requires domain { Belongs desk.old domain.now }
+    requires stands { StandsIn stack.old domain.now }
+    requires serves { Serves domain.now pile.old }
+    requires empty { pile.old.endings.items ≡ [] }
+    requires settled { endings_of desk.old ≡ 0 }
+    ensures stands { StandsIn stack.new domain.now }
+    ensures serves { Serves domain.now pile.new }
+    ensures empty { pile.new.endings.items ≡ [] }
+    ensures settled { endings_of desk.new ≡ 0 }
+    ensures desk { IsSameDesk desk.old desk.new }
+{
+    match stack.pop(rt, domain, desk) {
+        Ok(Some(node)) => {
+            let field = read(domain, desk, &node);
+            spend(rt, domain, desk, node, pile);
+            field.ok()
+        }
+        Ok(None) | Err(_) => None,
+    }
+}

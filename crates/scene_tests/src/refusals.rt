@@ -1,0 +1,198 @@
+//! A stack's refusals, at 6 free handles, at 5, and without a vacant block; and what a node's `next` owns.
+ghost use Rattle.std.specs.Prelude.{◌≡◌, ◌+◌, []};
+ghost use Rattle.control_word.specs.declared.handle.Kind.TheVariants.{Owner};
+ghost use Rattle.control_block.specs.Desks.{Belongs, IsSameDesk, bag_of, endings_of};
+ghost use Rattle.shared_handle.specs.Calls.{Holds};
+ghost use Rattle.scene_structures.specs.Stacks.{Serves, StandsIn};
+
+use crate::parts::{opened, pop, push, shut, spend};
+use atomic_cells::{SharedAt, SharedMember};
+use control_block::desk::Desk;
+use control_block::domain::Domain;
+use control_word::{Refusal, Refused};
+use scene_structures::Stack;
+use shared_handle::{Pile, Shared, empty, read, use_count};
+use std::sync::Wait;
+use std::test::Fail;
+
+// Why a push is refused, with the value that comes back.
+fn why_not<R: Wait>(
+    rt: &R,
+    domain: &Domain<u64>,
+    desk: &mut Desk<u64>,
+    stack: &mut Stack<u64>,
+) -> Option<(Refusal, u64)>
+    requires domain { Belongs desk.old domain.now }
+    requires stands { StandsIn stack.old domain.now }
+    requires settled { endings_of desk.old ≡ 0 }
+    ensures stands { StandsIn stack.new domain.now }
+    ensures settled { endings_of desk.new ≡ 0 }
+    ensures desk { IsSameDesk desk.old desk.new }
+    ensures bag { bag_of desk.new ≡ bag_of desk.old }
+    ensures held { desk.new.held ≡ desk.old.held }
+{
+    match stack.push(rt, domain, desk, [0; 4], 9) {
+        Ok(()) => None,
+        Err(refused) => {
+            let Refused { why, back } = refused;
+            Some((why, back))
+        }
+    }
+}
+
+// With one handle in hand: why a push is refused, and whether a pop gives a node.
+fn with_one_more<R: Wait>(
+    rt: &R,
+    domain: &Domain<u64>,
+    desk: &mut Desk<u64>,
+    stack: &mut Stack<u64>,
+    pile: &mut Pile<u64>,
+    handle: Shared,
+) -> (Option<(Refusal, u64)>, Option<u64>)
+    requires domain { Belongs desk.old domain.now }
+    requires stands { StandsIn stack.old domain.now }
+    requires serves { Serves domain.now pile.old }
+    requires empty { pile.old.endings.items ≡ [] }
+    requires settled { endings_of desk.old ≡ 0 }
+    requires holds { Holds desk.old Owner handle.block handle.place }
+    ensures stands { StandsIn stack.new domain.now }
+    ensures serves { Serves domain.now pile.new }
+    ensures empty { pile.new.endings.items ≡ [] }
+    ensures settled { endings_of desk.new ≡ 0 }
+    ensures desk { IsSameDesk desk.old desk.new }
+{
+    let why = why_not(rt, domain, desk, stack);
+    spend(rt, domain, desk, handle, pile);
+    let field = pop(rt, domain, desk, stack, pile);
+    (why, field)
+}
+
+// What a node's `next` owns: its field, and how many owners it has.
+fn below<R: Wait>(
+    rt: &R,
+    domain: &Domain<u64>,
+    desk: &mut Desk<u64>,
+    node: &Shared,
+    pile: &mut Pile<u64>,
+) -> Option<(u64, u32)>
+    requires domain { Belongs desk.old domain.now }
+    requires serves { Serves domain.now pile.old }
+    requires empty { pile.old.endings.items ≡ [] }
+    requires settled { endings_of desk.old ≡ 0 }
+    requires holds { Holds desk.old Owner node.now.block node.now.place }
+    ensures serves { Serves domain.now pile.new }
+    ensures empty { pile.new.endings.items ≡ [] }
+    ensures settled { endings_of desk.new ≡ 0 }
+    ensures desk { IsSameDesk desk.old desk.new }
+    ensures bag { bag_of desk.new ≡ bag_of desk.old }
+    ensures held { desk.new.held ≡ desk.old.held }
+{
+    let Ok(next) = SharedAt::member(node, SharedMember::Next) else {
+        return None;
+    };
+    let Ok(below) = next.load(rt, domain, desk) else {
+        return None;
+    };
+    let field = read(domain, desk, &below);
+    let owners = use_count(domain, desk, &below);
+    spend(rt, domain, desk, below, pile);
+    Some((field.ok()?, owners))
+}
+
+// Three nodes are pushed and one is popped: what `below` says of it.
+fn popped<R: Wait>(
+    rt: &R,
+    domain: &Domain<u64>,
+    desk: &mut Desk<u64>,
+    stack: &mut Stack<u64>,
+    pile: &mut Pile<u64>,
+) -> Option<(u64, u32)>
+    requires domain { Belongs desk.old domain.now }
+    requires stands { StandsIn stack.old domain.now }
+    requires serves { Serves domain.now pile.old }
+    requires empty { pile.old.endings.items ≡ [] }
+    requires settled { endings_of desk.old ≡ 0 }
+    ensures empty { pile.new.endings.items ≡ [] }
+    ensures desk { IsSameDesk desk.old desk.new }
+{
+    push(rt, domain, desk, stack, 1);
+    push(rt, domain, desk, stack, 2);
+    push(rt, domain, desk, stack, 3);
+    match stack.pop(rt, domain, desk) {
+        Ok(Some(node)) => {
+            let seen = below(rt, domain, desk, &node, pile);
+            spend(rt, domain, desk, node, pile);
+            seen
+        }
+        Ok(None) | Err(_) => None,
+    }
+}
+
+// A push without a vacant block, and what is refused with one handle in hand.
+fn refused<R: Wait>(
+    rt: &R,
+    domain: &Domain<u64>,
+    desk: &mut Desk<u64>,
+    stack: &mut Stack<u64>,
+    pile: &mut Pile<u64>,
+) -> Option<(Option<(Refusal, u64)>, Option<(Refusal, u64)>, Option<u64>)>
+    requires domain { Belongs desk.old domain.now }
+    requires stands { StandsIn stack.old domain.now }
+    requires serves { Serves domain.now pile.old }
+    requires empty { pile.old.endings.items ≡ [] }
+    requires settled { endings_of desk.old ≡ 0 }
+    ensures empty { pile.new.endings.items ≡ [] }
+    ensures desk { IsSameDesk desk.old desk.new }
+{
+    push(rt, domain, desk, stack, 7);
+    let full = why_not(rt, domain, desk, stack);
+    let Ok(handle) = empty(domain, desk) else {
+        return None;
+    };
+    let (limit, field) = with_one_more(rt, domain, desk, stack, pile, handle);
+    Some((full, limit, field))
+}
+
+#[test]
+fn the_popped_node_owns_the_next_one(rt: HostRuntime) -> Result<(), Fail> {
+    let (domain, mut desk) = opened(rt.alloc(), 3, 8).ok_or("memory")?;
+    let Ok(mut stack) = Stack::new(rt.alloc(), &domain, 0) else {
+        shut(domain, desk);
+        return Err(Fail::new("memory"));
+    };
+    let Ok(mut pile) = Pile::new(rt.alloc(), &domain) else {
+        stack.close();
+        shut(domain, desk);
+        return Err(Fail::new("memory"));
+    };
+    let seen = popped(&rt, &domain, &mut desk, &mut stack, &mut pile);
+    stack.close();
+    pile.close();
+    shut(domain, desk);
+    assert_eq!(rt; seen, Some((2, 3)));
+    Ok(())
+}
+
+#[test]
+fn six_handles_must_be_free(rt: HostRuntime) -> Result<(), Fail> {
+    let (domain, mut desk) = opened(rt.alloc(), 1, 6).ok_or("memory")?;
+    let Ok(mut stack) = Stack::new(rt.alloc(), &domain, 0) else {
+        shut(domain, desk);
+        return Err(Fail::new("memory"));
+    };
+    let Ok(mut pile) = Pile::new(rt.alloc(), &domain) else {
+        stack.close();
+        shut(domain, desk);
+        return Err(Fail::new("memory"));
+    };
+    let (full, limit, field) = refused(&rt, &domain, &mut desk, &mut stack, &mut pile).unwrap_or((
+        None, None, None,
+    ));
+    stack.close();
+    pile.close();
+    shut(domain, desk);
+    assert_eq!(rt; full, Some((Refusal::Full, 9)));
+    assert_eq!(rt; limit, Some((Refusal::Limit, 9)));
+    assert_eq!(rt; field, Some(7));
+    Ok(())
+}
