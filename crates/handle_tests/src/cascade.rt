@@ -56,7 +56,7 @@ fn leave_both(domain: &Domain<u64>, desk: &mut Desk<u64>, owner: Shared) -> Opti
 }
 
 // An object goes into the first member of another, whose only owner leaves.
-#[tactic(auto, using(shared_handle::proofs::Taken::first_out))]
+#[tactic(auto, using(shared_handle::proofs::Callers::first_out))]
 fn nest(domain: &Domain<u64>, desk: &mut Desk<u64>) -> Option<Both>
     requires domain { Belongs desk.old domain.now }
     ensures desk { IsSameDesk desk.old desk.new }

@@ -80,7 +80,7 @@ pub(crate) fn tell<R: Wait>(
 }
 
 // A copy of an owner goes into the cell: what the store found.
-#[tactic(auto, using(shared_handle::proofs::Taken::first_out))]
+#[tactic(auto, using(shared_handle::proofs::Callers::first_out))]
 pub(crate) fn put_copy(
     domain: &Domain<u64>,
     desk: &mut Desk<u64>,
@@ -102,7 +102,7 @@ pub(crate) fn put_copy(
 }
 
 // A copy of an owner goes into the cell, and what comes out leaves: what was left of it.
-#[tactic(auto, using(shared_handle::proofs::Taken::first_out))]
+#[tactic(auto, using(shared_handle::proofs::Callers::first_out))]
 pub(crate) fn exchange_copy(
     domain: &Domain<u64>,
     desk: &mut Desk<u64>,

@@ -22,7 +22,7 @@ use std::test::Fail;
 type Found = (bool, Option<Place>, bool, u32);
 
 // A compare-and-swap of the cell, after which what comes out of it leaves.
-#[tactic(auto, using(shared_handle::proofs::Taken::first_out))]
+#[tactic(auto, using(shared_handle::proofs::Callers::first_out))]
 fn compare<R: Wait>(
     rt: &R,
     domain: &Domain<u64>,
@@ -68,7 +68,7 @@ fn compare<R: Wait>(
 }
 
 // The same with a new object desired.
-#[tactic(auto, using(shared_handle::proofs::Taken::first_out))]
+#[tactic(auto, using(shared_handle::proofs::Callers::first_out))]
 fn compare_new<R: Wait>(
     rt: &R,
     domain: &Domain<u64>,
@@ -89,7 +89,7 @@ fn compare_new<R: Wait>(
 }
 
 // The same with an alias of the owner expected.
-#[tactic(auto, using(shared_handle::proofs::Taken::first_out))]
+#[tactic(auto, using(shared_handle::proofs::Callers::first_out))]
 fn compare_aside<R: Wait>(
     rt: &R,
     domain: &Domain<u64>,
@@ -128,7 +128,7 @@ type Compares = (
 );
 
 // The cell has an object's owner. Compares with an alias of it and with the owner itself, each with a new object.
-#[tactic(auto, using(shared_handle::proofs::Taken::first_out))]
+#[tactic(auto, using(shared_handle::proofs::Callers::first_out))]
 fn compare_twice<R: Wait>(
     rt: &R,
     domain: &Domain<u64>,
@@ -150,7 +150,7 @@ fn compare_twice<R: Wait>(
 }
 
 // A compare-and-swap of a weak cell, after which what comes out of it leaves: whether it swapped.
-#[tactic(auto, using(shared_handle::proofs::Taken::first_out))]
+#[tactic(auto, using(shared_handle::proofs::Callers::first_out))]
 fn compare_weakly<R: Wait>(
     rt: &R,
     domain: &Domain<u64>,
@@ -191,7 +191,7 @@ fn compare_weakly<R: Wait>(
 }
 
 // The same with a weak pointer to an object desired.
-#[tactic(auto, using(shared_handle::proofs::Taken::first_out))]
+#[tactic(auto, using(shared_handle::proofs::Callers::first_out))]
 fn compare_watcher<R: Wait>(
     rt: &R,
     domain: &Domain<u64>,
@@ -217,7 +217,7 @@ fn compare_watcher<R: Wait>(
 }
 
 // A weak pointer to an object goes into a cell.
-#[tactic(auto, using(shared_handle::proofs::Taken::first_out))]
+#[tactic(auto, using(shared_handle::proofs::Callers::first_out))]
 fn put_watcher(domain: &Domain<u64>, desk: &mut Desk<u64>, at: u32, owner: &Shared)
     requires domain { Belongs desk.old domain.now }
     requires cell { at < desk.old.shape.weak_cells }
@@ -235,7 +235,7 @@ fn put_watcher(domain: &Domain<u64>, desk: &mut Desk<u64>, at: u32, owner: &Shar
 }
 
 // Weak pointers to an object are compared with what a cell holds: nothing at first, and then such a pointer.
-#[tactic(auto, using(shared_handle::proofs::Taken::first_out))]
+#[tactic(auto, using(shared_handle::proofs::Callers::first_out))]
 fn compare_watchers<R: Wait>(
     rt: &R,
     domain: &Domain<u64>,

@@ -9,8 +9,8 @@ use std::sync::atomic::{AtomicU64, Ordering};
 use std::test::Fail;
 
 // A value that counts its drops.
-struct Counted<'a> {
-    drops: &'a AtomicU64,
+pub(crate) struct Counted<'a> {
+    pub(crate) drops: &'a AtomicU64,
 }
 
 impl Drop for Counted<'_> {

@@ -28,7 +28,7 @@ fn reset(domain: &Domain<u64>, desk: &mut Desk<u64>, handle: &mut Option<Shared>
 }
 
 // No memory for a thread's part.
-#[tactic(auto, using(shared_handle::proofs::Taken::first_out, shared_handle::proofs::Taken::second_out))]
+#[tactic(auto, using(shared_handle::proofs::Callers::first_out, shared_handle::proofs::Callers::under_out))]
 fn give_up(
     domain: &Domain<u64>,
     desk: &mut Desk<u64>,
@@ -49,7 +49,7 @@ fn give_up(
 }
 
 // How many owners there were, and whether the weak pointer saw them all leave.
-#[tactic(auto, using(shared_handle::proofs::Taken::first_out, shared_handle::proofs::Taken::second_out))]
+#[tactic(auto, using(shared_handle::proofs::Callers::first_out, shared_handle::proofs::Callers::under_out))]
 fn two_threads<R: Threads>(
     rt: &R,
     alloc: Global,

@@ -39,7 +39,7 @@ fn both_leave<R: Threads>(
 }
 
 // An object with two owners, each on a desk of its own.
-#[tactic(auto, using(shared_handle::proofs::Taken::first_out))]
+#[tactic(auto, using(shared_handle::proofs::Callers::first_out))]
 pub(crate) fn two_desks(
     domain: &Domain<u64>,
     one: &mut Desk<u64>,

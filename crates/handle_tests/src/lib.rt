@@ -18,13 +18,19 @@ mod drops;
 #[cfg(test)]
 mod example;
 #[cfg(test)]
+mod forgotten;
+#[cfg(test)]
 mod laws;
 #[cfg(test)]
 mod leaves;
 #[cfg(test)]
+mod limits;
+#[cfg(test)]
 mod locks;
 #[cfg(test)]
 mod members;
+#[cfg(test)]
+mod memory;
 #[cfg(test)]
 mod parts;
 pub mod shapes;

@@ -64,7 +64,7 @@ fn why_not<R: Wait>(
 
 // While its object lives: the owners after a lock, and why an upgrade is refused. After its end: the value, why an upgrade
 // is refused, and the owners of a lock.
-#[tactic(auto, using(shared_handle::proofs::Taken::first_out))]
+#[tactic(auto, using(shared_handle::proofs::Callers::first_out))]
 fn before_and_after_the_end<R: Wait>(
     rt: &R,
     domain: &Domain<u64>,
@@ -136,7 +136,7 @@ fn seek<R: Wait>(
 }
 
 // A lock beside the release of the only owner: whether it gave one, and whether the leave was the last.
-#[tactic(auto, using(shared_handle::proofs::Taken::first_out))]
+#[tactic(auto, using(shared_handle::proofs::Callers::first_out))]
 fn seek_beside_leave<R: Threads + Wait + Sync>(
     rt: &R,
     domain: &Domain<u64>,

@@ -66,7 +66,7 @@ fn put_up(
 }
 
 // The field and the owners of what a member of the whole holds.
-#[tactic(auto, using(atomic_cells::proofs::Members::member_open, shared_handle::proofs::Taken::first_out))]
+#[tactic(auto, using(atomic_cells::proofs::Members::member_open, shared_handle::proofs::Callers::first_out))]
 pub(crate) fn tell_in<R: Wait>(
     rt: &R,
     domain: &Domain<u64>,
@@ -107,7 +107,7 @@ fn leave_last(domain: &Domain<u64>, desk: &mut Desk<u64>, owner: Shared) -> Opti
 }
 
 // A copy of the one owner goes into the first member of the other's object: what the store found.
-#[tactic(auto, using(shared_handle::proofs::Taken::first_out))]
+#[tactic(auto, using(shared_handle::proofs::Callers::first_out))]
 fn put_copy_in(
     domain: &Domain<u64>,
     desk: &mut Desk<u64>,
@@ -129,7 +129,7 @@ fn put_copy_in(
 }
 
 // A weak pointer to the one object goes into the weak member of the other: what the store found.
-#[tactic(auto, using(shared_handle::proofs::Taken::first_out))]
+#[tactic(auto, using(shared_handle::proofs::Callers::first_out))]
 fn watch_from(
     domain: &Domain<u64>,
     desk: &mut Desk<u64>,
@@ -159,7 +159,7 @@ type Tied = (
 );
 
 // Object 1 owns object 2 by its first member, and object 2 watches object 1 by its weak member. Both end.
-#[tactic(auto, using(shared_handle::proofs::Taken::first_out))]
+#[tactic(auto, using(shared_handle::proofs::Callers::first_out))]
 fn tie<R: Wait>(rt: &R, domain: &Domain<u64>, desk: &mut Desk<u64>) -> Option<Tied>
     requires domain { Belongs desk.old domain.now }
     ensures desk { IsSameDesk desk.old desk.new }

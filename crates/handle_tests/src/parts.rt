@@ -152,7 +152,7 @@ pub(crate) fn leave(domain: &Domain<u64>, desk: &mut Desk<u64>, handle: &mut Opt
 }
 
 // A new object with two owners, or none.
-#[tactic(auto, using(shared_handle::proofs::Taken::first_out))]
+#[tactic(auto, using(shared_handle::proofs::Callers::first_out))]
 pub(crate) fn two_owners(domain: &Domain<u64>, desk: &mut Desk<u64>) -> Option<(Shared, Shared)>
     requires domain { Belongs desk.old domain.now }
     ensures desk { IsSameDesk desk.old desk.new }

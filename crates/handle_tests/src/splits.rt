@@ -11,7 +11,7 @@ use control_word::{Block, Refusal, Refused};
 use std::alloc::Global;
 use std::test::Fail;
 
-fn abandon(domain: Domain<u64>, desk: Desk<u64>) {
+pub(crate) fn abandon<V: Drop + Send>(domain: Domain<V>, desk: Desk<V>) {
     drop(domain);
     desk.give_up();
 }
@@ -35,12 +35,12 @@ fn cut(
 }
 
 // Allowance, handles, vacant blocks.
-fn numbers(desk: &Desk<u64>) -> (u32, u32, u32) {
+pub(crate) fn numbers(desk: &Desk<u64>) -> (u32, u32, u32) {
     (desk.allowance(), desk.held(), desk.stock())
 }
 
 // The number of the refusal of a split without handles; 0 where it is given, and joined again.
-fn refusal(
+pub(crate) fn refusal(
     domain: &Domain<u64>,
     desk: &mut Desk<u64>,
     alloc: Global,

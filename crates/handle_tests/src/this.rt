@@ -17,7 +17,7 @@ use shared_handle::{
 use std::test::Fail;
 
 // From-this of an owner: the count with a further owner, and what a weak handle tells.
-#[tactic(auto, using(shared_handle::proofs::Taken::first_out))]
+#[tactic(auto, using(shared_handle::proofs::Callers::first_out))]
 fn this_of(
     domain: &Domain<u64>,
     desk: &mut Desk<u64>,

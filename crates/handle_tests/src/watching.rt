@@ -33,7 +33,7 @@ pub(crate) fn tell_weak(
 }
 
 // A copy of a weak handle of one owner before it leaves, whether the two are in owner order, and the handle after it left.
-#[tactic(auto, using(shared_handle::proofs::Taken::first_out))]
+#[tactic(auto, using(shared_handle::proofs::Callers::first_out))]
 fn watch(
     domain: &Domain<u64>,
     desk: &mut Desk<u64>,

@@ -9,25 +9,10 @@ use Rattle.control_word.specs.declared.handle.Kind.{Kind}
 use Rattle.control_word.specs.declared.handle.Kind.TheVariants.{Owner, Weak}
 use Rattle.control_word.specs.declared.place.Block.{Block}
 use Rattle.control_word.specs.declared.place.Place.{Place}
-use Rattle.control_block.specs.Desks.{DeskNow, bag_of}
 use Rattle.control_block.specs.declared.handles.Shared.{Shared}
-use Rattle.shared_handle.specs.Calls.{Holds, with_handle}
+use Rattle.shared_handle.specs.Calls.{with_handle}
 use Rattle.measure.specs.Observers.{IsOfObject, IsWatched, with_observer, with_observers, with_owner}
 use Rattle.measure.specs.declared.observers.Observer.{Observer}
-
-module _ {V : Type 0} where
-  -- the handle that a bag lists is the desk's
-  pub held_by : (d : DeskNow V) (k : Kind) (b : Option Block) (p : Option Place) (l : List Handle) → bag_of d ≡ l
-      → (x : Block) × (b ≡ Some x) × Has (handle k (Some x.0) p) l → Holds d k b p
-  held_by d k (Some y) p l same (x, is, has) =
-      let e : y ≡ x = cc is in
-      subst (λ (m : List Handle). Has (handle k (Some y.0) p) m) (sym same) (subst (λ (z : Block). Has (handle k (Some z.0) p) l) (sym e) has)
-  held_by d k None p l same (x, is, has) = absurd (cc is)
-
-  pub first_held : (d : DeskNow V) (k : Kind) (b : Option Block) (p : Option Place) (l : List Handle) → bag_of d ≡ with_handle k b p l
-      → (x : Block) × (b ≡ Some x) → Holds d k b p
-  first_held d k (Some y) p l same real = subst (λ (m : List Handle). Has (handle k (Some y.0) p) m) (sym same) (inl refl)
-  first_held d k None p l same (x, is) = absurd (cc is)
 
 -- the last observer's handles are the first in the bag
 pub last_first : (xs : List Observer) (o : Observer) (l : List Handle) → with_observers (xs ++ o ∷ []) l ≡ with_observer (with_observers xs l) o

@@ -79,7 +79,7 @@ fn notifications<R: Clock + CpuClock + Wait + Print>(
 }
 
 /// Ends of chains for as long as a row runs. What makes a chain is not in it.
-#[tactic(auto, using(crate::proofs::Taken::first_out, crate::proofs::Observed::first_held))]
+#[tactic(auto, using(shared_handle::proofs::Callers::first_out, shared_handle::proofs::Callers::first_held))]
 fn time_ends<R: Clock + CpuClock + Wait>(
     rt: &R,
     domain: &Domain<()>,

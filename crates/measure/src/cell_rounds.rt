@@ -14,7 +14,7 @@ use shared_handle::{Left, Shared, share};
 use std::sync::Wait;
 
 /// Copies of an owner go into a cell, and what it held leaves.
-#[tactic(auto, using(crate::proofs::Taken::first_out))]
+#[tactic(auto, using(shared_handle::proofs::Callers::first_out))]
 pub(crate) fn store_copies(
     domain: &Domain<()>,
     desk: &mut Desk<()>,
@@ -42,7 +42,7 @@ pub(crate) fn store_copies(
 }
 
 /// Copies of what a cell holds come and leave.
-#[tactic(auto, using(crate::proofs::Taken::first_out))]
+#[tactic(auto, using(shared_handle::proofs::Callers::first_out))]
 pub(crate) fn load_and_release<R: Wait>(
     rt: &R,
     domain: &Domain<()>,
@@ -66,7 +66,7 @@ pub(crate) fn load_and_release<R: Wait>(
 }
 
 /// An owner goes into a cell, and what comes out goes in again.
-#[tactic(auto, using(crate::proofs::Taken::first_out))]
+#[tactic(auto, using(shared_handle::proofs::Callers::first_out))]
 pub(crate) fn exchange(
     domain: &Domain<()>,
     desk: &mut Desk<()>,
@@ -93,7 +93,7 @@ pub(crate) fn exchange(
 }
 
 /// A copy of an owner is for a cell that holds an equivalent one, and what came out leaves: whether no call was refused.
-#[tactic(auto, using(crate::proofs::Taken::first_out))]
+#[tactic(auto, using(shared_handle::proofs::Callers::first_out))]
 fn compare_once<R: Wait>(
     rt: &R,
     domain: &Domain<()>,

@@ -16,7 +16,7 @@ use shared_handle::{Ending, Left, Member, Shared, release};
 use std::sync::Wait;
 
 /// A copy of what the node owns.
-#[tactic(auto, using(crate::proofs::Nodes::open_next))]
+#[tactic(auto, using(atomic_cells::proofs::Members::member_open))]
 pub(crate) fn load_next<R: Wait>(
     rt: &R,
     domain: &Domain<()>,
@@ -36,7 +36,7 @@ pub(crate) fn load_next<R: Wait>(
 }
 
 /// The node owns this, and what it owned leaves.
-#[tactic(auto, using(crate::proofs::Nodes::open_next))]
+#[tactic(auto, using(atomic_cells::proofs::Members::member_open))]
 pub(crate) fn store_next(
     domain: &Domain<()>,
     desk: &mut Desk<()>,

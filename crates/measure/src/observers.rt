@@ -95,7 +95,7 @@ pub(crate) fn notify<R: Wait>(
 }
 
 /// An observer's handles leave.
-#[tactic(auto, using(crate::proofs::Taken::first_out, crate::proofs::Observed::first_held))]
+#[tactic(auto, using(shared_handle::proofs::Callers::first_out, shared_handle::proofs::Callers::first_held))]
 fn leave(domain: &Domain<()>, desk: &mut Desk<()>, observer: Observer)
     requires domain { Belongs desk.old domain.now }
     requires real { IsOfObject observer }

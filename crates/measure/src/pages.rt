@@ -50,7 +50,7 @@ impl Work {
 }
 
 /// Objects with a page that are made and end.
-#[tactic(auto, using(crate::proofs::Taken::first_out))]
+#[tactic(auto, using(shared_handle::proofs::Callers::first_out))]
 fn make_and_end(domain: &Domain<Page>, desk: &mut Desk<Page>) -> bool
     requires domain { Belongs desk.old domain.now }
     ensures desk { IsSameDesk desk.old desk.new }

@@ -62,7 +62,7 @@ pub(crate) fn end<V: Drop + Send>(domain: &Domain<V>, desk: &mut Desk<V>, owner:
 }
 
 /// Objects that are made and end.
-#[tactic(auto, using(crate::proofs::Taken::first_out))]
+#[tactic(auto, using(shared_handle::proofs::Callers::first_out))]
 pub(crate) fn make_and_end(domain: &Domain<()>, desk: &mut Desk<()>, count: u32) -> bool
     requires domain { Belongs desk.old domain.now }
     ensures desk { IsSameDesk desk.old desk.new }
@@ -79,7 +79,7 @@ pub(crate) fn make_and_end(domain: &Domain<()>, desk: &mut Desk<()>, count: u32)
 }
 
 /// Copies of an owner that come and leave.
-#[tactic(auto, using(crate::proofs::Taken::first_out))]
+#[tactic(auto, using(shared_handle::proofs::Callers::first_out))]
 pub(crate) fn share_and_release(
     domain: &Domain<()>,
     desk: &mut Desk<()>,
@@ -102,7 +102,7 @@ pub(crate) fn share_and_release(
 }
 
 /// Weak handles of an owner that come and leave.
-#[tactic(auto, using(crate::proofs::Taken::first_out))]
+#[tactic(auto, using(shared_handle::proofs::Callers::first_out))]
 pub(crate) fn downgrade_and_release(
     domain: &Domain<()>,
     desk: &mut Desk<()>,
@@ -144,7 +144,7 @@ pub(crate) fn count_owners(
 }
 
 /// Owners that come of a weak handle, and leave.
-#[tactic(auto, using(crate::proofs::Taken::first_out))]
+#[tactic(auto, using(shared_handle::proofs::Callers::first_out))]
 fn lock_weak<R: Wait>(
     rt: &R,
     domain: &Domain<()>,
@@ -170,7 +170,7 @@ fn lock_weak<R: Wait>(
 }
 
 /// The same, with a weak handle of an owner.
-#[tactic(auto, using(crate::proofs::Taken::first_out))]
+#[tactic(auto, using(shared_handle::proofs::Callers::first_out))]
 pub(crate) fn lock_and_release<R: Wait>(
     rt: &R,
     domain: &Domain<()>,

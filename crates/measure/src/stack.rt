@@ -25,7 +25,7 @@ struct Attempt {
 
 /// One try to put the node above the top one. What to try next, if it isn't done; `whole` is false where it never will be,
 /// since a call was refused.
-#[tactic(auto, using(crate::proofs::Taken::first_out, crate::proofs::Chained::second_out, crate::proofs::Observed::first_held, crate::proofs::Chained::second_held))]
+#[tactic(auto, using(shared_handle::proofs::Callers::first_out, shared_handle::proofs::Callers::under_out, shared_handle::proofs::Callers::first_held, shared_handle::proofs::Callers::under_held))]
 fn try_push<R: Wait>(
     rt: &R,
     domain: &Domain<()>,
@@ -85,7 +85,7 @@ fn try_push<R: Wait>(
 
 /// One try to take the top node from the stack. What to try next, if it isn't done; `whole` is false where it never will
 /// be, since a call was refused or only the bottom is left.
-#[tactic(auto, using(crate::proofs::Taken::first_out, crate::proofs::Chained::second_out, crate::proofs::Observed::first_held, crate::proofs::Chained::second_held))]
+#[tactic(auto, using(shared_handle::proofs::Callers::first_out, shared_handle::proofs::Callers::under_out, shared_handle::proofs::Callers::first_held, shared_handle::proofs::Callers::under_held))]
 fn try_pop<R: Wait>(
     rt: &R,
     domain: &Domain<()>,
@@ -144,7 +144,7 @@ fn try_pop<R: Wait>(
 }
 
 /// The top of the stack, or none where the cell is empty.
-#[tactic(auto, using(crate::proofs::Taken::first_out))]
+#[tactic(auto, using(shared_handle::proofs::Callers::first_out))]
 fn top_of<R: Wait>(rt: &R, domain: &Domain<()>, desk: &mut Desk<()>, head: u32) -> Option<Shared>
     requires domain { Belongs desk.old domain.now }
     requires head { head < desk.old.shape.shared_cells }
@@ -163,7 +163,7 @@ fn top_of<R: Wait>(rt: &R, domain: &Domain<()>, desk: &mut Desk<()>, head: u32) 
 }
 
 /// A new node goes to the top: whether no call was refused.
-#[tactic(auto, using(crate::proofs::Taken::first_out, crate::proofs::Chained::second_out, crate::proofs::Observed::first_held, crate::proofs::Chained::second_held))]
+#[tactic(auto, using(shared_handle::proofs::Callers::first_out, shared_handle::proofs::Callers::under_out, shared_handle::proofs::Callers::first_held, shared_handle::proofs::Callers::under_held))]
 fn push<R: Wait>(rt: &R, domain: &Domain<()>, desk: &mut Desk<()>, head: u32) -> bool
     requires domain { Belongs desk.old domain.now }
     requires head { head < desk.old.shape.shared_cells }
@@ -192,7 +192,7 @@ fn push<R: Wait>(rt: &R, domain: &Domain<()>, desk: &mut Desk<()>, head: u32) ->
 }
 
 /// The top node leaves, if it isn't the bottom: whether one did.
-#[tactic(auto, using(crate::proofs::Taken::first_out, crate::proofs::Observed::first_held))]
+#[tactic(auto, using(shared_handle::proofs::Callers::first_out, shared_handle::proofs::Callers::first_held))]
 fn pop<R: Wait>(rt: &R, domain: &Domain<()>, desk: &mut Desk<()>, head: u32) -> bool
     requires domain { Belongs desk.old domain.now }
     requires head { head < desk.old.shape.shared_cells }

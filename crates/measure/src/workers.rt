@@ -110,7 +110,7 @@ fn hand_over(
 }
 
 /// A worker, whose desk is cut from this one, or none where it has too little.
-#[tactic(auto, using(crate::proofs::Taken::first_out))]
+#[tactic(auto, using(shared_handle::proofs::Callers::first_out))]
 pub(crate) fn hire(
     domain: &Domain<()>,
     desk: &mut Desk<()>,
@@ -162,7 +162,7 @@ fn equip(domain: &Domain<()>, desk: Desk<()>, common: Shared, cell: u32) -> Work
 }
 
 /// A worker's objects leave, and its desk is joined again.
-#[tactic(auto, using(crate::proofs::Taken::first_out))]
+#[tactic(auto, using(shared_handle::proofs::Callers::first_out))]
 pub(crate) fn dismiss(domain: &Domain<()>, desk: &mut Desk<()>, worker: Worker, _common: &Shared)
     requires desk { IsManaged domain.now desk.old _common.now }
     requires ready { IsReady domain.now worker }

@@ -1,3 +1,4 @@
+pub mod Callers
 pub mod Taken
 pub mod Kept
 pub mod Beside

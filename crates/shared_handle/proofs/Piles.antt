@@ -17,7 +17,7 @@ use Rattle.control_block.specs.Desks.{Adds, DeskNow, DomainNow, IsSameDesk, Keep
 use Rattle.control_block.specs.Desks.{endings_of, latest_of, object_in, on_latest, state_of}
 use Rattle.control_block.specs.Rule.{opening_of}
 use Rattle.shared_handle.proofs.Beside.{apart, ends_beside}
-use Rattle.shared_handle.proofs.Kept.{ends_kept}
+use Rattle.shared_handle.proofs.Callers.{ends_kept}
 use Rattle.shared_handle.specs.Endings.{Clears, ClearsUp, Ends, IsAllClear, IsBeside, IsClearing, IsLeft, more_ending, with_clear}
 use Rattle.shared_handle.specs.Piles.{AllEnd, Bears, NotAmong, Stacked, is_cleared, next_member, piled}
 use Rattle.shared_handle.specs.declared.endings.Ending.{Ending}

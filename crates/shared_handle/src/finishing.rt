@@ -132,21 +132,21 @@ impl<V: Drop + Send> Ending<V> {
         value
     }
 
-    /// Gives the ending up (own): its block comes out, and what clauses know of its value. A clear may hand out one ending more, and how long a chain
-    /// is that ends so isn't known before, since other desks may lengthen it meanwhile: a caller whose loop is counted, so
-    /// that it ends without a wait, can be left with an ending after its last round. The object stays ending in its desk's
-    /// hands, and its place of the allowance taken, as a handle that is forgotten stays counted; its block isn't used again,
-    /// the census lists it, and the value is dropped with the census.
-    pub fn forget(self) -> (Block, InPlace<V>)
-        ensures { (result.0 ≡ self.block) × (result.1 ≡ self.value) }
+    /// Gives the ending up (own), and answers its block. A clear may hand out one ending more, and how long a chain is that
+    /// ends so isn't known before, since other desks may lengthen it meanwhile: a caller whose loop is counted, so that it
+    /// ends without a wait, can be left with an ending after its last round. The object stays ending in its desk's hands,
+    /// and its place of the allowance taken, as a handle that is forgotten stays counted; its block isn't used again, and its
+    /// value is dropped with the census.
+    pub fn forget(self) -> Block
+        ensures { result ≡ self.block }
     {
         let Self {
             block,
-            value,
+            value: _,
             first: _,
             next: _,
             up: _,
         } = self;
-        (block, value)
+        block
     }
 }

@@ -1,7 +1,7 @@
 use Rattle.std.proofs.Common.{ℕ, subst, sym}
 use Rattle.control_block.specs.Desks.{DeskNow}
 use Rattle.shared_handle.specs.Endings.{Ends}
-use Rattle.shared_handle.proofs.Kept.{ends_kept}
+use Rattle.shared_handle.proofs.Callers.{ends_kept}
 use Rattle.handle_tests.proofs.this.end_with_a_weak_handle.Goals as goal
 
 pub bury-value-requires-clause-ends : goal.bury-value-requires-clause-ends

@@ -2,7 +2,7 @@ use Rattle.std.proofs.Common.{subst, sym}
 use Rattle.control_word.specs.declared.handle.Kind.TheVariants.{Weak}
 use Rattle.control_block.specs.Desks.{bag_of}
 use Rattle.measure.specs.Observers.{IsWatched}
-use Rattle.measure.proofs.Observed.{held_by}
+use Rattle.shared_handle.proofs.Callers.{held_by}
 use Rattle.measure.proofs.observers.notify.Goals as goal
 
 pub lock-requires-clause-holds : goal.lock-requires-clause-holds

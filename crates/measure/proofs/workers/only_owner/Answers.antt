@@ -1,5 +1,5 @@
 use Rattle.std.proofs.Common.{sym, ◌∙◌}
-use Rattle.shared_handle.proofs.Taken.{last_of_one}
+use Rattle.shared_handle.proofs.Callers.{last_of_one}
 use Rattle.measure.proofs.workers.only_owner.Goals as goal
 
 pub owner_of-requires : goal.owner_of-requires
