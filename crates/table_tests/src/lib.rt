@@ -1,0 +1,11 @@
+//! Tests of handle tables: programs as a user writes them, without a clause or a proof file, and every fault.
+#![tactic(auto)]
+
+#[cfg(test)]
+mod calls;
+#[cfg(test)]
+mod faults;
+#[cfg(test)]
+mod observers;
+#[cfg(test)]
+mod scene;
