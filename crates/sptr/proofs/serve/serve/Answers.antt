@@ -1,6 +1,4 @@
-use Rattle.std.proofs.Common.{Bool, inl, sym, subst}
 use Rattle.clap.specs.Words.{kind_of}
-use Rattle.sptr.specs.Serving.{IsAnswered, known_unless}
 use Rattle.sptr.proofs.Plainly.{answered_plainly, helped_plainly, mistaken_plainly, not_helped, not_mistaken, not_told, told_plainly, turned_plainly}
 use Rattle.sptr.proofs.serve.serve.Goals as goal
 
