@@ -12,7 +12,7 @@ use Rattle.control_word.specs.declared.place.Place.{Place}
 use Rattle.control_block.specs.Desks.{DeskNow, bag_of}
 use Rattle.control_block.specs.declared.handles.Shared.{Shared}
 use Rattle.shared_handle.specs.Calls.{Holds, with_handle, without_handle}
-use Rattle.shared_handle.proofs.Taken.{first_out}
+use Rattle.shared_handle.proofs.Callers.{first_out}
 use Rattle.scene_structures.specs.Hands.{HasHands, Lists, stacked}
 use Rattle.shared_handle.specs.Endings.{IsWithin}
 

@@ -12,7 +12,7 @@ use Rattle.control_word.specs.declared.place.Block.{Block}
 use Rattle.control_word.specs.declared.place.Place.{Place}
 use Rattle.control_block.specs.CellCalls.{handle_in, with_handle, without_handle}
 use Rattle.control_block.specs.Desks.{Adds, DeskNow, HasHandle, bag_of, latest_of, state_of}
-use Rattle.shared_handle.proofs.Taken.{first_out}
+use Rattle.shared_handle.proofs.Callers.{first_out}
 use Rattle.control_block.specs.declared.handles.Shared.{Shared}
 use Rattle.shared_handle.specs.Calls.{Holds, Shares, counting}
 use Rattle.atomic_cells.specs.Compares.{GivesBack, bag_compared, came_out, has_swapped}
