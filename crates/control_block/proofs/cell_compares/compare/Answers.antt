@@ -1,4 +1,5 @@
-use Rattle.std.proofs.Common.{not, refl, sym, ap, subst, ◌∙◌}
+use Rattle.std.proofs.lemmas.Grind.{common_steps}
+use Rattle.std.proofs.Common.{arith, not, refl, sym, ap, subst, ◌∙◌}
 use Rattle.control_block.specs.CellPlays.{IsWordOf}
 use Rattle.control_block.specs.Plays.{At}
 use Rattle.control_block.proofs.CellRounds.{hand_at, hand_of_cell, not_none, unmoved_alike}
@@ -30,3 +31,36 @@ try_differ-requires-clause-hands g c =
     let some' = not_none c.look_differing-seen.result.owned (c.is_none.ensures ∙ ap not c.if-is_none.false) in
     let same = c.look_differing-seen.ensures.same some' ∙ c.loop.invariant.4 in
     (hand_at me me' c.args.kind a.expected same c.requires.hands.0, hand_at me me' c.args.kind a.new same c.requires.hands.1)
+
+pub returns-then-try_swap-clause-chair : goal.returns-then-try_swap-clause-chair
+returns-then-try_swap-clause-chair g c = grind (arith, common_steps)
+
+pub returns-then-try_swap-clause-cell : goal.returns-then-try_swap-clause-cell
+returns-then-try_swap-clause-cell g c = grind (arith, common_steps)
+
+pub returns-then-try_swap-clause-compared : goal.returns-then-try_swap-clause-compared
+returns-then-try_swap-clause-compared g c = grind (arith, common_steps)
+
+pub loop-preserved-then-is_alike : goal.loop-preserved-then-is_alike
+loop-preserved-then-is_alike g c = grind (arith, common_steps)
+
+pub returns-then-is_none-clause-chair : goal.returns-then-is_none-clause-chair
+returns-then-is_none-clause-chair g c = grind (arith, common_steps)
+
+pub returns-then-is_none-clause-cell : goal.returns-then-is_none-clause-cell
+returns-then-is_none-clause-cell g c = grind (arith, common_steps)
+
+pub returns-then-is_none-clause-compared : goal.returns-then-is_none-clause-compared
+returns-then-is_none-clause-compared g c = grind (arith, common_steps)
+
+pub returns-then-try_differ-clause-chair : goal.returns-then-try_differ-clause-chair
+returns-then-try_differ-clause-chair g c = grind (arith, common_steps)
+
+pub returns-then-try_differ-clause-cell : goal.returns-then-try_differ-clause-cell
+returns-then-try_differ-clause-cell g c = grind (arith, common_steps)
+
+pub returns-then-try_differ-clause-compared : goal.returns-then-try_differ-clause-compared
+returns-then-try_differ-clause-compared g c = grind (arith, common_steps)
+
+pub loop-preserved : goal.loop-preserved
+loop-preserved g c = grind (arith, common_steps)
