@@ -1,13 +1,13 @@
 -- What stays of a chain when a desk's own events put nothing into it.
-use Rattle.std.proofs.Common.{◌≡◌, ◌≢◌, ℕ, suc, ◌<◌, ◌≤◌, ◌==◌, ◌+◌, true, false, cond, List, [], ◌∷◌, ◌++◌, map, None, Some, refl, sym, ap, subst}
-use Rattle.std.proofs.Common.{◌∙◌, ⊎_elim, arith}
+use Rattle.std.proofs.Common.{◌≡◌, ℕ, suc, ◌<◌, ◌≤◌, true, false, cond, List, [], ◌∷◌, ◌++◌, map, Some, refl, sym, ap, subst}
+use Rattle.std.proofs.Common.{◌∙◌, arith}
 use Rattle.std.proofs.lemmas.Bool.{cond_both}
 use Rattle.control_word.proofs.history.Cells.{InState, cell_counted, one_of}
 use Rattle.control_word.proofs.history.Clearing.{was_made}
 use Rattle.control_word.proofs.history.Kept.{cells_led}
 use Rattle.control_word.proofs.history.Legal.{sound}
 use Rattle.control_word.proofs.history.Soundness.{OwnersFit, Sound}
-use Rattle.control_word.proofs.lists.Tallies.{put_cases, put_other, put_same}
+use Rattle.control_word.proofs.lists.Tallies.{put_cases, put_other}
 use Rattle.control_word.specs.Events.{Asks, after, cell_of, new_object, moved_to}
 use Rattle.control_word.specs.Handles.{empty, object_of}
 use Rattle.control_word.specs.Histories.{IsLegal, entry, leads}

@@ -1,34 +1,33 @@
 -- On a sole desk a list grows by just the node that rises.
-use Rattle.std.proofs.Common.{◌≡◌, ◌≢◌, ℕ, suc, ◌<◌, ◌≤◌, ◌+◌, ◌&&◌, Bool, true, false, cond, List, [], ◌∷◌, ◌++◌, map, Option, None, Some, refl, sym}
-use Rattle.std.proofs.Common.{ap, subst, ◌∙◌, inl, inr, ⊎_elim, append_assoc, arith}
+use Rattle.std.proofs.Common.{◌≡◌, ℕ, ◌<◌, ◌≤◌, ◌&&◌, Bool, true, false, List, [], ◌∷◌, ◌++◌, map, Option, None, Some, refl, sym}
+use Rattle.std.proofs.Common.{ap, subst, ◌∙◌, ⊎_elim, append_assoc, arith}
 use Rattle.std.proofs.lemmas.List.{map-append}
-use Rattle.std.proofs.lemmas.List.Elements.{All-append, All-cons, All-nil, All-head, All-tail, All-weaker}
+use Rattle.std.proofs.lemmas.List.Elements.{All-append, All-cons}
 use Rattle.std.specs.Prelude.{All}
 use Rattle.control_word.proofs.history.Cells.{open_live}
 use Rattle.control_word.proofs.history.Given.{legal_seen}
-use Rattle.control_word.proofs.history.Kept.{block_kept, cells_led}
+use Rattle.control_word.proofs.history.Kept.{block_kept}
 use Rattle.control_word.proofs.history.Legal.{sound}
 use Rattle.control_word.proofs.lists.Tallies.{put_same, same_handle_true}
 use Rattle.control_word.specs.Events.{Asks, after, cell_of, kind_of, place_at, Holds}
 use Rattle.control_word.specs.Handles.{equivalent, object_of, owner, same_handle, same_kind}
 use Rattle.control_word.specs.Histories.{IsLegal, entry, leads}
 use Rattle.control_word.specs.State.{Opening, State, live, put}
-use Rattle.control_word.specs.declared.event.Cell.{Cell}
 use Rattle.control_word.specs.declared.event.Cell.TheVariants.{Free, Member}
 use Rattle.control_word.specs.declared.event.Entry.{Entry}
 use Rattle.control_word.specs.declared.event.Event.{Event}
-use Rattle.control_word.specs.declared.event.Event.TheVariants.{Compare, Load, Make, Swap}
+use Rattle.control_word.specs.declared.event.Event.TheVariants.{Compare, Swap}
 use Rattle.control_word.specs.declared.handle.Handle.{Handle}
 use Rattle.control_word.specs.declared.handle.Kind.{Kind}
-use Rattle.control_word.specs.declared.handle.Kind.TheVariants.{Owner, Weak}
+use Rattle.control_word.specs.declared.handle.Kind.TheVariants.{Owner}
 use Rattle.control_word.specs.declared.place.Place.{Place}
-use Rattle.scene_structures.specs.Chains.{Chain, IsList, Owns}
+use Rattle.scene_structures.specs.Chains.{Chain, IsList}
 use Rattle.shared_handle.specs.Piles.{IsParting}
 use Rattle.scene_structures.specs.Puts.{PutsOnly, nowhere}
 use Rattle.scene_structures.specs.Stacks.{NextOf}
-use Rattle.scene_structures.proofs.Frames.{AllKept, Apart, Keeps, cell_run, chain_kept, frames}
+use Rattle.scene_structures.proofs.Frames.{AllKept, Apart, chain_kept, frames}
 use Rattle.scene_structures.proofs.Lives.{keeps_run}
-use Rattle.scene_structures.proofs.Rows.{parting_puts, partings_put}
+use Rattle.scene_structures.proofs.Rows.{partings_put}
 
 pub apart_nowhere : (os : List ℕ) → Apart nowhere os
 apart_nowhere [] = tt

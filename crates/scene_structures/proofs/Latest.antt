@@ -1,5 +1,5 @@
 -- What a desk has still is on the object that it was on.
-use Rattle.std.proofs.Common.{◌≡◌, ℕ, ◌++◌, ◌∷◌, [], List, map, cond, Option, None, Some, refl, sym, ap, subst, ◌∙◌, inl, inr, ⊎_elim}
+use Rattle.std.proofs.Common.{◌≡◌, ℕ, ◌++◌, ◌∷◌, [], List, map, Option, None, Some, refl, sym, ap, subst, ◌∙◌, inl, inr, ⊎_elim}
 use Rattle.std.proofs.lemmas.Bool.{cond_both}
 use Rattle.control_word.proofs.history.Given.{legal_seen, names_an_object}
 use Rattle.control_word.proofs.history.Kept.{block_kept, has_same, same_kept}
@@ -7,26 +7,22 @@ use Rattle.control_word.proofs.lists.Parts.{has_part}
 use Rattle.control_word.specs.Events.{after}
 use Rattle.control_word.specs.Handles.{handle, has_object, same_handle}
 use Rattle.control_word.specs.Histories.{IsLegal, entry, leads}
-use Rattle.control_word.specs.State.{Has, Held, State, held, without}
+use Rattle.control_word.specs.State.{Has, Held, held, without}
 use Rattle.control_word.specs.declared.event.Entry.{Entry}
-use Rattle.control_word.specs.declared.event.Event.{Event}
-use Rattle.control_word.specs.declared.event.Event.TheVariants.{ClearMember, Swap}
-use Rattle.control_word.specs.declared.event.Cell.{Cell}
+use Rattle.control_word.specs.declared.event.Event.TheVariants.{ClearMember}
 use Rattle.control_word.specs.declared.handle.Handle.{Handle}
 use Rattle.control_word.specs.declared.handle.Kind.{Kind}
-use Rattle.control_word.specs.declared.handle.Kind.TheVariants.{Owner}
 use Rattle.control_word.specs.declared.place.Block.{Block}
 use Rattle.control_word.specs.declared.place.Place.{Place}
 use Rattle.control_word.specs.declared.shape.Shape.{Shape}
 use Rattle.control_block.proofs.Bags.{seen_as, shown, shown_held}
 use Rattle.control_block.proofs.Latest.{calls_keep_latest}
 use Rattle.control_block.specs.CellCalls.{with_handle, without_handle}
-use Rattle.control_block.specs.Clearing.{TakesOut}
 use Rattle.control_block.specs.Desks.{Adds, DeskNow, HasHandle, bag_of, latest_of}
 use Rattle.control_block.specs.Own.{KeepsLatest}
 use Rattle.control_block.specs.Rule.{opening_of}
 use Rattle.shared_handle.specs.Calls.{LeavesWeakly}
-use Rattle.shared_handle.specs.Endings.{Clears, IsClearing, IsLeft}
+use Rattle.shared_handle.specs.Endings.{IsClearing, IsLeft}
 use Rattle.shared_handle.specs.declared.endings.Ending.{Ending}
 use Rattle.shared_handle.specs.declared.endings.Left.{Left}
 use Rattle.shared_handle.specs.declared.endings.Left.TheVariants.{Empty, Last, Others}

@@ -1,19 +1,17 @@
 -- An object that lives still when handles have left holds in `next` what it held.
-use Rattle.std.proofs.Common.{◌≡◌, ◌≢◌, ℕ, suc, ◌<◌, ◌≤◌, ◌+◌, Bool, true, false, cond, List, [], ◌∷◌, ◌++◌, map, None, Some, refl, sym, ap, subst}
-use Rattle.std.proofs.Common.{◌∙◌, inl, inr, ⊎_elim, arith}
+use Rattle.std.proofs.Common.{◌≡◌, ℕ, cond, List, [], ◌∷◌, ◌++◌, map, refl, ap}
+use Rattle.std.proofs.Common.{◌∙◌, arith}
 use Rattle.std.proofs.lemmas.Bool.{cond_both}
 use Rattle.control_word.proofs.history.Clearing.{was_made}
 use Rattle.control_word.proofs.history.Legal.{sound}
-use Rattle.control_word.proofs.lists.Tallies.{put_cases, put_same}
-use Rattle.control_word.specs.Events.{Asks, after, moved_to}
-use Rattle.control_word.specs.Handles.{empty, object_of, owner}
+use Rattle.control_word.proofs.lists.Tallies.{put_cases}
+use Rattle.control_word.specs.Events.{after, moved_to}
+use Rattle.control_word.specs.Handles.{empty, object_of}
 use Rattle.control_word.specs.Histories.{IsLegal, entry, leads}
 use Rattle.control_word.specs.State.{Object, Opening, State, ending, gone, kind_of_member, live, put}
 use Rattle.control_word.specs.declared.event.Event.{Event}
 use Rattle.control_word.specs.declared.event.Entry.{Entry}
 use Rattle.control_word.specs.declared.event.Event.TheVariants.{ClearMember, Finish, Leave, WeakLeave}
-use Rattle.control_word.specs.declared.event.Cell.{Cell}
-use Rattle.control_word.specs.declared.event.Cell.TheVariants.{Free, Member}
 use Rattle.shared_handle.specs.Piles.{IsParting}
 use Rattle.scene_structures.specs.Puts.{nowhere}
 use Rattle.std.specs.Prelude.{All}

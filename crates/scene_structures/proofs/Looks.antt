@@ -1,12 +1,10 @@
 -- What tries to take the top node say, put together.
-use Rattle.std.proofs.Common.{◌≡◌, ℕ, Bool, true, false, List, [], ◌∷◌, ◌++◌, Option, None, Some, Ok, refl, sym, ap, subst, ◌∙◌, append_assoc, ◌≢◌}
-use Rattle.std.specs.Prelude.{All}
+use Rattle.std.proofs.Common.{◌≡◌, ℕ, Bool, true, false, [], ◌∷◌, ◌++◌, Option, None, Some, Ok, refl, sym, ap, subst, ◌∙◌}
 use Rattle.std.proofs.lemmas.List.Elements.{All-append, All-cons, All-nil}
-use Rattle.control_word.specs.Handles.{handle, object_of, owner}
+use Rattle.control_word.specs.Handles.{owner}
 use Rattle.control_word.specs.Histories.{IsLegal}
-use Rattle.control_word.specs.State.{Has}
 use Rattle.control_word.specs.declared.event.Cell.{Cell}
-use Rattle.control_word.specs.declared.event.Cell.TheVariants.{Free, Member}
+use Rattle.control_word.specs.declared.event.Cell.TheVariants.{Member}
 use Rattle.control_word.specs.declared.event.Event.{Event}
 use Rattle.control_word.specs.declared.event.Event.TheVariants.{Compare, Load}
 use Rattle.control_word.specs.declared.handle.Handle.{Handle}
@@ -18,7 +16,7 @@ use Rattle.control_block.proofs.Bags.{shown_held}
 use Rattle.control_block.proofs.Own.{goes_by_call, goes_in_turn}
 use Rattle.control_block.specs.CellCalls.{handle_in}
 use Rattle.control_block.specs.Desks.{Adds, DeskNow, bag_of, latest_of, state_of}
-use Rattle.control_block.specs.Own.{Does, Goes}
+use Rattle.control_block.specs.Own.{Does}
 use Rattle.control_block.specs.Rule.{opening_of}
 use Rattle.control_block.specs.declared.handles.Shared.{Shared}
 use Rattle.shared_handle.specs.Endings.{IsWithin}
@@ -27,12 +25,10 @@ use Rattle.control_word.specs.declared.refusal.Refusal.{Refusal}
 use Rattle.control_word.specs.declared.refusal.Refusal.TheVariants.{Null, Outside}
 use Rattle.atomic_cells.specs.Sites.{IsMember}
 use Rattle.scene_structures.specs.Chains.{Owns}
-use Rattle.scene_structures.specs.Hands.{Lists, SameNode, node_in}
-use Rattle.scene_structures.specs.Pops.{TakesNode}
+use Rattle.scene_structures.specs.Hands.{Lists, node_in}
 use Rattle.shared_handle.specs.Piles.{IsParting}
 use Rattle.scene_structures.specs.Puts.{PutsOnly, nowhere}
 use Rattle.scene_structures.specs.Stacks.{FindsNone, Looks, Sees, Takes}
-use Rattle.shared_handle.proofs.Goings.{does_both, does_one}
 use Rattle.scene_structures.proofs.Rows.{partings_put}
 
 same_block : (a b : Block) → a.0 ≡ b.0 → a ≡ b

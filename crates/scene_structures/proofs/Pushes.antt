@@ -2,19 +2,18 @@
 use Rattle.std.proofs.Common.{◌≡◌, ℕ, ◌+◌, cond, arith, Bool, true, false, List, [], ◌∷◌, ◌++◌, Option, None, Some, Ok, refl, sym, ap, subst, ◌∙◌}
 use Rattle.control_word.specs.Handles.{handle, object_of}
 use Rattle.control_word.specs.State.{Has}
-use Rattle.control_word.specs.declared.event.Cell.TheVariants.{Free, Member}
+use Rattle.control_word.specs.declared.event.Cell.TheVariants.{Member}
 use Rattle.control_word.specs.declared.event.Cell.{Cell}
-use Rattle.control_word.specs.declared.event.Event.{Event}
 use Rattle.control_word.specs.declared.event.Event.TheVariants.{Compare, Swap}
 use Rattle.control_word.specs.declared.handle.Handle.{Handle}
 use Rattle.control_word.specs.declared.handle.Kind.TheVariants.{Owner}
 use Rattle.control_word.specs.declared.place.Block.{Block}
 use Rattle.control_word.specs.declared.place.Place.{Place}
 use Rattle.control_block.specs.CellCalls.{handle_in, with_handle, without_handle}
-use Rattle.control_block.specs.Desks.{Adds, DeskNow, HasHandle, bag_of, latest_of, state_of}
+use Rattle.control_block.specs.Desks.{Adds, DeskNow, bag_of, state_of}
 use Rattle.shared_handle.proofs.Callers.{first_out}
 use Rattle.control_block.specs.declared.handles.Shared.{Shared}
-use Rattle.shared_handle.specs.Calls.{Holds, Shares, counting}
+use Rattle.shared_handle.specs.Calls.{Shares, counting}
 use Rattle.atomic_cells.specs.Compares.{GivesBack, bag_compared, came_out, has_swapped}
 use Rattle.atomic_cells.specs.declared.compared.Compared.{Compared}
 use Rattle.atomic_cells.specs.declared.compared.Compared.TheVariants.{Differs, Swapped}
@@ -23,8 +22,7 @@ use Rattle.atomic_cells.specs.declared.shared_at.SharedAt.{SharedAt}
 use Rattle.atomic_cells.specs.declared.sites.SharedMember.TheVariants.{Next}
 use Rattle.atomic_cells.specs.declared.sites.SharedSite.TheVariants as site
 use Rattle.control_block.specs.Own.{Does, Goes, KeepsLatest}
-use Rattle.std.specs.Prelude.{All}
-use Rattle.std.proofs.lemmas.List.Elements.{All-append, All-cons, All-nil, All-weaker}
+use Rattle.std.proofs.lemmas.List.Elements.{All-append, All-cons, All-nil}
 use Rattle.std.proofs.Common.{append_assoc}
 use Rattle.shared_handle.specs.Piles.{IsParting}
 use Rattle.scene_structures.specs.Puts.{PutsOnly}
@@ -32,10 +30,9 @@ use Rattle.scene_structures.specs.Hands.{KeepsHeld, Lists, SameNode, node_in}
 use Rattle.scene_structures.specs.Stacks.{Fills, NextOf, Rises}
 use Rattle.control_block.proofs.Latest.{calls_keep_latest}
 use Rattle.control_block.proofs.Own.{goes_by_call, goes_in_turn}
-use Rattle.shared_handle.proofs.Goings.{does_both, does_one, does_none}
-use Rattle.scene_structures.proofs.Rows.{parting_puts, partings_put}
-use Rattle.scene_structures.proofs.Latest.{has_all, has_over, latest_none}
-use Rattle.scene_structures.proofs.Hands.{lists_under}
+use Rattle.shared_handle.proofs.Goings.{does_both, does_one}
+use Rattle.scene_structures.proofs.Rows.{partings_put}
+use Rattle.scene_structures.proofs.Latest.{has_all, latest_none}
 
 listed_some : (h : Shared) (l : List Handle) (b : Block) → h.block ≡ Some b → Lists h.block h.place l → Has (handle Owner (Some b.0) h.place) l
 listed_some h l b is lists = subst (λ (x : Option Block). Lists x h.place l) is lists

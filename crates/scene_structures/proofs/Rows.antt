@@ -1,25 +1,13 @@
 -- What a call's own events are, put in a row.
-use Rattle.std.proofs.Common.{◌≡◌, ℕ, List, [], ◌∷◌, ◌++◌, Option, None, Some, refl, sym, ap, subst, ◌∙◌}
-use Rattle.std.proofs.lemmas.List.Elements.{All-append, All-cons, All-nil, All-weaker}
+use Rattle.std.proofs.Common.{List}
+use Rattle.std.proofs.lemmas.List.Elements.{All-weaker}
 use Rattle.std.specs.Prelude.{All}
 use Rattle.control_word.specs.declared.event.Cell.{Cell}
-use Rattle.control_word.specs.declared.event.Cell.TheVariants.{Free, Member}
 use Rattle.control_word.specs.declared.event.Event.{Event}
 use Rattle.control_word.specs.declared.event.Event.TheVariants.{ClearMember, Compare, Count, Expired, Finish, Join, Leave, Load, Lock, Make, Read}
 use Rattle.control_word.specs.declared.event.Event.TheVariants.{Share, Split, Swap, Visit, WeakLeave, WeakShare}
-use Rattle.control_word.specs.declared.place.Block.{Block}
-use Rattle.control_word.specs.declared.place.Place.{Place}
-use Rattle.control_word.specs.Histories.{IsLegal}
-use Rattle.control_block.proofs.Own.{goes_by_call, goes_by_none, goes_in_turn}
-use Rattle.control_block.specs.Desks.{Adds, DeskNow, IsSameDesk}
-use Rattle.control_block.specs.Own.{Does, Goes, KeepsDesks}
-use Rattle.shared_handle.specs.Calls.{LeavesWeakly, counting}
-use Rattle.shared_handle.specs.Endings.{IsClearing, IsLeft}
-use Rattle.shared_handle.specs.declared.endings.Ending.{Ending}
-use Rattle.shared_handle.specs.declared.endings.Left.{Left}
-use Rattle.shared_handle.specs.declared.endings.Left.TheVariants.{Empty, Last, Others}
-use Rattle.shared_handle.specs.declared.endings.Member.{Member as Part}
-use Rattle.shared_handle.specs.declared.endings.Member.TheVariants.{First, Next, Up}
+use Rattle.control_block.specs.Desks.{DeskNow}
+use Rattle.control_block.specs.Own.{Does, KeepsDesks}
 use Rattle.shared_handle.specs.Piles.{IsParting}
 use Rattle.scene_structures.specs.Puts.{PutsOnly}
 

@@ -1,5 +1,5 @@
 -- What the own events of a push and of a pop come to on a sole desk.
-use Rattle.std.proofs.Common.{◌≡◌, ℕ, suc, ◌<◌, ◌≤◌, Bool, true, false, List, [], ◌∷◌, ◌++◌, map, Option, None, Some, refl, sym, ap, subst, ◌∙◌, arith}
+use Rattle.std.proofs.Common.{◌≡◌, ℕ, suc, ◌<◌, ◌≤◌, true, false, List, [], ◌∷◌, ◌++◌, map, Option, None, Some, refl, sym, ap, subst, ◌∙◌, arith}
 use Rattle.std.specs.Prelude.{All}
 use Rattle.std.proofs.lemmas.List.Elements.{All-append, All-cons, All-nil, All-weaker}
 use Rattle.control_word.proofs.history.Cells.{open_live}
@@ -24,16 +24,15 @@ use Rattle.control_word.specs.declared.shape.Shape.{Shape}
 use Rattle.control_block.proofs.Own.{goes_by_call, goes_in_turn}
 use Rattle.control_block.proofs.Bags.{shown_held}
 use Rattle.control_block.proofs.Sole.{come_in_a_row}
-use Rattle.control_block.specs.Desks.{Adds, DeskNow, bag_of, latest_of, state_of}
+use Rattle.control_block.specs.Desks.{DeskNow, bag_of, latest_of, state_of}
 use Rattle.control_block.specs.Own.{Goes, IsSole, KeepsDesks}
 use Rattle.control_block.specs.Rule.{opening_of}
 use Rattle.control_block.specs.declared.handles.Shared.{Shared}
 use Rattle.scene_structures.specs.Chains.{IsList, Owns}
 use Rattle.scene_structures.specs.Hands.{Lists, node_in}
 use Rattle.scene_structures.specs.Pops.{TakesNode}
-use Rattle.shared_handle.specs.Piles.{IsParting}
 use Rattle.scene_structures.specs.Puts.{PutsOnly, nowhere}
-use Rattle.scene_structures.specs.Stacks.{FindsNone, IsBare, IsPopped, IsPushed, Looks, NextOf, Pushes, Rises, Takes}
+use Rattle.scene_structures.specs.Stacks.{FindsNone, IsBare, IsPopped, IsPushed, NextOf, Pushes}
 use Rattle.scene_structures.proofs.Frames.{AllLive, Apart, chain_live, frames}
 use Rattle.scene_structures.proofs.Grows.{apart_nowhere, risen}
 use Rattle.scene_structures.proofs.Looks.{looks_does, sees_none}

@@ -1,12 +1,12 @@
 -- What came of tries to take the top node (own).
-use Rattle.std.specs.Prelude.{◌≡◌, ℕ, ◌+◌, List, [], ◌∷◌, Option, Some, None}
+use Rattle.std.specs.Prelude.{◌≡◌, ℕ, ◌+◌, List, [], ◌∷◌, Some}
 use Rattle.control_word.specs.declared.event.Cell.{Cell}
 use Rattle.control_word.specs.declared.handle.Handle.{Handle}
 use Rattle.control_word.specs.Handles.{owner}
 use Rattle.control_word.specs.declared.place.Place.{Place}
 use Rattle.control_block.specs.Desks.{DeskNow}
 use Rattle.control_block.specs.declared.handles.Shared.{Shared}
-use Rattle.scene_structures.specs.Hands.{HasHands, Lists, node_in}
+use Rattle.scene_structures.specs.Hands.{HasHands, node_in}
 use Rattle.scene_structures.specs.Stacks.{FindsNone, Looks, Takes}
 use Rattle.scene_structures.specs.declared.popping.Tried.{Tried}
 use Rattle.scene_structures.specs.declared.popping.Tried.TheVariants.{Again, Found, Took}

@@ -1,5 +1,5 @@
 -- Where an event puts something.
-use Rattle.std.specs.Prelude.{true, Option}
+use Rattle.std.specs.Prelude.{true}
 use Rattle.control_word.specs.declared.event.Cell.{Cell}
 use Rattle.control_word.specs.declared.event.Event.{Event}
 use Rattle.control_word.specs.declared.event.Event.TheVariants.{Compare, Join, Split, Swap}

@@ -1,5 +1,5 @@
 -- What the calls on a stack say, by the desk's own events (own).
-use Rattle.std.specs.Prelude.{◌≡◌, ℕ, suc, ◌+◌, ◌<◌, ◌≤◌, Bool, true, false, All, List, [], ◌∷◌, ◌++◌, Option, Some, None}
+use Rattle.std.specs.Prelude.{◌≡◌, ℕ, suc, ◌<◌, ◌≤◌, Bool, true, false, All, List, [], ◌∷◌, ◌++◌, Some}
 use Rattle.control_word.specs.Events.{cell_of, place_at}
 use Rattle.control_word.specs.Handles.{object_of, owner}
 use Rattle.control_word.specs.declared.event.Cell.{Cell}
@@ -7,7 +7,6 @@ use Rattle.control_word.specs.declared.event.Cell.TheVariants.{Member}
 use Rattle.control_word.specs.declared.event.Event.{Event}
 use Rattle.control_word.specs.declared.event.Event.TheVariants.{Compare, Load, Make, Swap}
 use Rattle.control_word.specs.declared.handle.Handle.{Handle}
-use Rattle.control_word.specs.declared.handle.Kind.TheVariants.{Owner}
 use Rattle.control_word.specs.declared.place.Block.{Block}
 use Rattle.control_word.specs.declared.place.Place.{Place}
 use Rattle.control_block.specs.Desks.{Adds, Belongs, DeskNow, DomainNow, endings_of, latest_of, state_of}
@@ -15,7 +14,7 @@ use Rattle.shared_handle.specs.declared.pile.Pile.{Pile}
 use Rattle.control_block.specs.Own.{Goes}
 use Rattle.control_block.specs.declared.handles.Shared.{Shared}
 use Rattle.shared_handle.specs.Endings.{IsWithin}
-use Rattle.scene_structures.specs.Chains.{Chain, IsList, Owns}
+use Rattle.scene_structures.specs.Chains.{IsList, Owns}
 use Rattle.scene_structures.specs.Hands.{node_in}
 use Rattle.shared_handle.specs.Piles.{Bears, IsParting}
 use Rattle.scene_structures.specs.Puts.{PutsOnly, nowhere}

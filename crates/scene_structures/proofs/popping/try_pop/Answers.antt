@@ -1,5 +1,4 @@
-use Rattle.std.proofs.Common.{◌≡◌, [], ◌∷◌, Option, Some, true, false, subst, ap, ◌∙◌}
-use Rattle.control_word.specs.Handles.{owner}
+use Rattle.std.proofs.Common.{◌≡◌, [], ◌∷◌, true, false, subst, ap, ◌∙◌}
 use Rattle.control_word.specs.declared.event.Cell.{Cell}
 use Rattle.control_word.specs.declared.event.Cell.TheVariants.{Free}
 use Rattle.control_word.specs.declared.event.Event.TheVariants.{Compare, Load}

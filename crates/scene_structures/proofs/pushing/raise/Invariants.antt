@@ -1,7 +1,7 @@
-use Rattle.std.proofs.Common.{◌≡◌, [], ◌∷◌, List, ◌<◌, ◌+◌}
+use Rattle.std.proofs.Common.{◌≡◌, [], ◌∷◌, List}
 use Rattle.control_word.specs.Handles.{object_of}
 use Rattle.control_word.specs.declared.handle.Handle.{Handle}
-use Rattle.control_block.specs.Desks.{IsSameDesk, allowance_of}
+use Rattle.control_block.specs.Desks.{IsSameDesk}
 use Rattle.control_block.specs.Own.{Does}
 use Rattle.scene_structures.specs.Hands.{HasHands, SameNode, node_in}
 use Rattle.shared_handle.specs.Piles.{Bears}

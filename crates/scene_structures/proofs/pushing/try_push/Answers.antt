@@ -1,4 +1,4 @@
-use Rattle.std.proofs.Common.{◌≡◌, ℕ, ◌+◌, List, [], ◌∷◌, true, false, subst, sym, ap, ◌∙◌, arith}
+use Rattle.std.proofs.Common.{[], ◌∷◌, true, subst, sym, ap, ◌∙◌}
 use Rattle.control_word.specs.Handles.{object_of}
 use Rattle.control_word.specs.declared.event.Cell.TheVariants.{Free}
 use Rattle.control_word.specs.declared.event.Cell.{Cell}
@@ -17,7 +17,7 @@ use Rattle.control_block.proofs.Latest.{calls_keep_latest}
 use Rattle.shared_handle.proofs.Goings.{does_both}
 use Rattle.scene_structures.proofs.Hands.{first_lists, hands_copied, hands_first, hands_got, hands_second, hands_swapped, holds_first, holds_second}
 use Rattle.scene_structures.proofs.Hands.{holds_third}
-use Rattle.scene_structures.proofs.Hands.{second_lists, third_lists}
+use Rattle.scene_structures.proofs.Hands.{second_lists}
 use Rattle.scene_structures.proofs.Pushes.{differs_back, differs_bag, differs_event, differs_held, rises, swapped_bag, swapped_event, swapped_held}
 use Rattle.scene_structures.proofs.Pushes.{same_left, same_node, shares_does, tries}
 use Rattle.scene_structures.proofs.pushing.try_push.Goals as goal
