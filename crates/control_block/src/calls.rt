@@ -1,26 +1,28 @@
 //! Calls of a desk on handles that own something, for the crates above: each is one kind of step, and keeps the desk's
 //! numbers. They know handles by their blocks. Empty handles touch no word: they are only counted.
-ghost use Rattle.std.specs.Prelude.{◌≡◌, ◌↔◌, ℕ, ◌+◌, ◌-◌, ◌<◌, true, [], ◌∷◌, ◌++◌, cond, length, slice_index, vec_capacity, vec_len, Option, None, Some, is_some, IfSome, IfOk, IfErr, OnOk, IsErr};
-ghost use Rattle.control_word.specs.Events.{origin};
+ghost use Rattle.std.specs.Prelude.{◌≡◌, ◌↔◌, ℕ, ◌+◌, ◌<◌, true, [], ◌∷◌, ◌++◌, cond, length, vec_capacity, vec_len, Option, None, Some, is_some, IfSome, IfOk, IfErr, OnOk, IsErr};
 ghost use Rattle.control_word.specs.Handles.{handle, same_handle};
-ghost use Rattle.control_word.specs.declared.event.Event.TheVariants.{Count, Expired, Finish, Leave, Make, Read, Share, WeakLeave, WeakShare};
+ghost use Rattle.control_word.specs.declared.event.Event.TheVariants.{Count, Expired, Finish, Leave, Read, Share, WeakLeave, WeakShare};
 ghost use Rattle.control_word.specs.declared.handle.Kind.TheVariants.{Owner, Weak};
 ghost use Rattle.control_word.specs.declared.place.Place.{Place};
 ghost use Rattle.control_word.specs.State.{count, without};
-ghost use Rattle.control_block.specs.Refusals.{IsFullOrLimit};
-ghost use Rattle.control_block.specs.Desks.{Belongs, Adds, HasHandle, IsCleared, IsEnding, IsNear, IsSameDesk, Keeps, KeepsEndings, KeepsOtherEndings, KeepsStock};
-ghost use Rattle.control_block.specs.Desks.{MayGiveWeak, MayPoint, allowance_of, bag_of, endings_of, held_of, latest_of, object_in, on_latest, state_of, stock_of};
+ghost use Rattle.control_block.specs.Desks.{Belongs, Adds, HasHandle, IsCleared, IsEnding, IsSameDesk, Keeps, KeepsEndings, KeepsOtherEndings, KeepsStock};
+ghost use Rattle.control_block.specs.Desks.{MayGiveWeak, MayPoint, allowance_of, bag_of, endings_of, held_of, latest_of, on_latest, state_of, stock_of};
 ghost use Rattle.control_block.specs.Leaving.{freed};
-ghost use Rattle.control_block.specs.Plays.{IsTold};
+
+mod empties;
+mod looks;
+mod making;
 
 use crate::desk::Desk;
 use crate::domain::Domain;
 use crate::handles::{Pointer, Shared};
 use crate::in_place::InPlace;
 use crate::{handles, steps};
-use control_word::handle::Kind;
-use control_word::layout::{ENABLED, NULL};
-use control_word::{Block, Place, Refusal, Refused};
+use control_word::{Block, Place, Refusal};
+pub use empties::{count_empty, spend_empty};
+pub use looks::{fields, is_enabled, is_null};
+pub use making::make;
 use std::alloc::Global;
 use std::marker::Brand;
 
@@ -238,132 +240,4 @@ pub fn finish<V: Drop + Send>(domain: &Domain<V>, desk: &mut Desk<V>, block: Blo
     desk.endings -= 1;
     put_by(&mut desk.store, block, vacant);
     (value, vacant)
-}
-
-/// Where a new object's owner points: at the object, or nowhere for an owned null pointer.
-fn origin_of(block: Block, null: bool) -> Option<Place>
-    ensures { result ≡ origin block.0 null }
-{
-    if null {
-        None
-    } else {
-        Some(Place { block, field: 0 })
-    }
-}
-
-/// A new object with one owner, in a block of the desk's store ([util.smartptr.shared.create]; for an owned null pointer
-/// [util.smartptr.shared.const]). It is refused `Limit` just where the desk is at its allowance, and else `Full` just
-/// where its store is empty; then the value comes back and nothing changes.
-#[inline(always)]
-pub fn make<V: Drop + Send>(
-    domain: &Domain<V>,
-    desk: &mut Desk<V>,
-    enabled: bool,
-    null: bool,
-    fields: [u64; 4],
-    value: V,
-) -> Result<Pointer, Refused<V>>
-    requires domain { Belongs desk.old domain.now }
-    ensures refusals { IsFullOrLimit (held_of desk.old ≡ allowance_of desk.old) (stock_of desk.old ≡ []) result }
-    ensures refused { IfErr result (λ r. (r.back ≡ value) × (desk.new ≡ desk.old)) }
-    ensures handle { IfOk result (λ h. (h.kind ≡ Owner) × (h.place ≡ origin h.block.0 null)) }
-    ensures event { IfOk result (λ h. Adds desk.old (Make h.block enabled null fields value) desk.new) }
-    ensures bag { IfOk result (λ h. bag_of desk.new ≡ handle Owner (Some h.block.0) h.place ∷ bag_of desk.old) }
-    ensures held { OnOk result (desk.new.held ≡ desk.old.held + 1) }
-    ensures desk { OnOk result (IsSameDesk desk.old desk.new) }
-    ensures stock { OnOk result (length (stock_of desk.new) + 1 ≡ length (stock_of desk.old)) }
-    ensures endings { OnOk result (KeepsEndings desk.old desk.new) }
-    ensures count { OnOk result (endings_of desk.new ≡ endings_of desk.old) }
-{
-    if desk.is_full() {
-        return Err(Refused {
-            why: Refusal::Limit,
-            back: value,
-        });
-    }
-    let Some(block) = desk.store.pop() else {
-        return Err(Refused {
-            why: Refusal::Full,
-            back: value,
-        });
-    };
-    desk.held += 1; // here, since each locked instruction that follows waits for what was stored before it
-    let board = &domain.table.shared;
-    steps::make::<V, Brand>(board, &mut desk.seat, block, enabled, null, fields, value);
-    Ok(Pointer {
-        kind: Kind::Owner,
-        block,
-        place: origin_of(block, null),
-    })
-}
-
-/// A word of the flags and fields of the object in the block: the flags are word 0, the fields words 1 to 4.
-fn peek<V: Drop + Send>(domain: &Domain<V>, desk: &mut Desk<V>, block: Block, word: usize) -> u64
-    requires domain { Belongs desk.old domain.now }
-    requires near { IsNear desk.old block.0 }
-    requires word { word < 5 }
-    ensures told { IsTold word (object_in desk.old block.0) result }
-    ensures same { desk.new ≡ desk.old }
-{
-    steps::peek::<V, Brand>(&domain.table.shared, &mut desk.seat, block, word)
-}
-
-/// Whether the object in the block gives pointers to itself ([util.smartptr.enab]). The desk has a handle of it, or it
-/// ends in its hands.
-pub fn is_enabled<V: Drop + Send>(domain: &Domain<V>, desk: &mut Desk<V>, block: Block) -> bool
-    requires domain { Belongs desk.old domain.now }
-    requires near { IsNear desk.old block.0 }
-    ensures flag { result ≡ (object_in desk.old block.0).enabled }
-    ensures same { desk.new ≡ desk.old }
-{
-    peek(domain, desk, block, 0) % 2 == ENABLED
-}
-
-/// Whether the pointer that the object in the block owns is null (own). The desk has a handle of it, or it ends in its
-/// hands.
-pub fn is_null<V: Drop + Send>(domain: &Domain<V>, desk: &mut Desk<V>, block: Block) -> bool
-    requires domain { Belongs desk.old domain.now }
-    requires near { IsNear desk.old block.0 }
-    ensures flag { result ≡ (object_in desk.old block.0).null }
-    ensures same { desk.new ≡ desk.old }
-{
-    peek(domain, desk, block, 0) % 4 >= NULL
-}
-
-/// The fields of the object in the block (own). The desk has a handle of it, or it ends in its hands.
-pub fn fields<V: Drop + Send>(domain: &Domain<V>, desk: &mut Desk<V>, block: Block) -> [u64; 4]
-    requires domain { Belongs desk.old domain.now }
-    requires near { IsNear desk.old block.0 }
-    ensures fields { (k : ℕ) → k < 4 → slice_index result k ≡ slice_index (object_in desk.old block.0).fields k }
-    ensures same { desk.new ≡ desk.old }
-{
-    [
-        peek(domain, desk, block, 1),
-        peek(domain, desk, block, 2),
-        peek(domain, desk, block, 3),
-        peek(domain, desk, block, 4),
-    ]
-}
-
-/// One empty handle more, which is only counted (own). It is refused `Limit` just where the desk is at its allowance,
-/// and then nothing changes.
-pub fn count_empty<V: Drop + Send>(desk: &mut Desk<V>) -> Result<(), Refusal>
-    ensures limit { IsErr result ↔ (held_of desk.old ≡ allowance_of desk.old) }
-    ensures refused { IfErr result (λ why. (why ≡ Refusal.Limit) × (desk.new ≡ desk.old)) }
-    ensures counted { OnOk result (desk.new ≡ record desk.old { held = desk.old.held + 1 }) }
-    ensures holds { OnOk result (length (bag_of desk.new) < desk.new.held) }
-{
-    if desk.is_full() {
-        return Err(Refusal::Limit);
-    }
-    desk.held += 1; // it has no block, and counts all the same
-    Ok(())
-}
-
-/// One empty handle less (own). Condition: the desk holds one, so that it holds more than it has in blocks.
-pub fn spend_empty<V: Drop + Send>(desk: &mut Desk<V>)
-    requires holds { length (bag_of desk.old) < desk.old.held }
-    ensures counted { desk.new ≡ record desk.old { held = desk.old.held - 1 } }
-{
-    desk.held -= 1; // no word knows of it
 }

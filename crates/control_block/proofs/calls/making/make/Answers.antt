@@ -14,7 +14,7 @@ use Rattle.control_block.proofs.DeskSteps.{came, desk_after, one_more}
 use Rattle.control_block.proofs.OwnEndings.{make_spares}
 use Rattle.control_block.proofs.DeskStores.{last_stored, popped, stock_shrinks, stored_word}
 use Rattle.control_block.proofs.OwnEndings.{made_block}
-use Rattle.control_block.proofs.calls.make.Goals as goal
+use Rattle.control_block.proofs.calls.making.make.Goals as goal
 
 pub make-requires-clause-planned : goal.make-requires-clause-planned
 make-requires-clause-planned g c = λ _ _. (refl, refl, refl, refl)

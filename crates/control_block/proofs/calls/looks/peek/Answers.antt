@@ -2,7 +2,7 @@ use Rattle.std.proofs.Common.{refl, sym, ap, subst, ◌∙◌, arith, ◌+◌}
 use Rattle.control_block.specs.Desks.{DeskNow, object_in}
 use Rattle.control_block.specs.Plays.{IsTold}
 use Rattle.control_block.proofs.Near.{near_in, near_word}
-use Rattle.control_block.proofs.calls.peek.Goals as goal
+use Rattle.control_block.proofs.calls.looks.peek.Goals as goal
 
 pub peek-requires-clause-near : goal.peek-requires-clause-near
 peek-requires-clause-near g c = near_in c.desk.inside c.args.desk.now c.args.block.0 c.desk.invariant c.desk.view_is c.requires.near

@@ -1,7 +1,7 @@
 use Rattle.std.proofs.Common.{None}
 use Rattle.control_word.specs.declared.handle.Kind.TheVariants.{Owner}
 use Rattle.control_block.specs.Plays.{known}
-use Rattle.control_block.proofs.calls.peek.Given as goal
+use Rattle.control_block.proofs.calls.looks.peek.Given as goal
 
 abbrev pub ghosts-peek : goal.ghosts-peek
 ghosts-peek g a =
