@@ -2,8 +2,7 @@
 ghost use Rattle.std.specs.Prelude.{◌≡◌, ◌<◌, Some};
 ghost use Rattle.control_word.specs.declared.place.Block.{Block};
 ghost use Rattle.control_word.specs.declared.handle.Kind.TheVariants.{Owner, Weak};
-ghost use Rattle.control_block.specs.Desks.{Belongs};
-ghost use Rattle.control_block.specs.Desks.{IsSameDesk, bag_of};
+ghost use Rattle.control_block.specs.Desks.{Belongs, IsSameDesk, bag_of};
 ghost use Rattle.shared_handle.specs.Calls.{Holds, without_handle};
 
 use crate::cell_parts::{object, put_copy, put_weak, shape_with_cells, tell};
@@ -284,10 +283,7 @@ fn are_right(seen: Option<Compares>) -> bool {
 
 // Whether the second compare swapped.
 fn is_swapped(seen: Option<Compares>) -> bool {
-    match seen {
-        Some((_, Some((swapped, _, _, _)), _, _)) => swapped,
-        _ => false,
-    }
+    matches!(seen, Some((_, Some((true, _, _, _)), _, _)))
 }
 
 #[test]
