@@ -150,6 +150,15 @@ module _ {V : Type 0} where
     pub leaves : Drops between t.endings old.block old.place gone u.desk u.endings
     pub slots : u.slots ≡ slice_set t.slots from None
 
+  -- an owner went from its slot into a free shared cell, and what that held came into the slot
+  pub record Exchanges (t : TableNow V) (i cell : ℕ) (u : TableNow V) : Type 0 where
+    pub of : Shared
+    pub at : IsAt t i (Owner of)
+    pub old : Shared
+    pub between : DeskNow V
+    pub exchanges : cells.Exchanges t.desk (Free cell) kind.Owner of.block of.place old.block old.place between
+    pub assigns : Assigns between (slice_set t.slots i None) t.endings i (Owner old) u.desk u.slots u.endings
+
   -- a handle left its slot and the desk
   pub record Resets (t : TableNow V) (at : ℕ) (gone : Gone) (u : TableNow V) : Type 0 where
     pub of : Held

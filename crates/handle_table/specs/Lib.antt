@@ -1,3 +1,4 @@
 pub mod Tables
 pub mod Calls
 pub mod Members
+pub mod This

@@ -1,6 +1,6 @@
 //! Cells that all tables of the domain share.
 ghost use Rattle.std.specs.Prelude.{◌≡◌, ◌⊎◌, IfErr, IfOk, OnOk};
-ghost use Rattle.handle_table.specs.Calls.{IsNoCell, Loads, Stores, WhyNoOwner, WhyNotLoaded};
+ghost use Rattle.handle_table.specs.Calls.{Exchanges, IsNoCell, Loads, Stores, WhyNoOwner, WhyNotLoaded};
 
 use crate::assigning::assign;
 use crate::fault::Fault;
@@ -54,5 +54,31 @@ impl<'d, V: Drop + Send, H: Home> HandleTable<'d, V, H> {
         };
         let old = SharedAt::free(cell).exchange(self.domain, &mut self.desk, new);
         Ok(drop_shared(self.domain, &mut self.desk, &mut self.pile, old))
+    }
+
+    /// An owner goes out of its slot into a free shared cell, and what the cell held comes into the slot, in one step on the
+    /// cell ([util.smartptr.atomic.shared]).
+    pub fn exchange(&mut self, at: usize, cell: u32) -> Result<(), Fault>
+        ensures exchanged { OnOk result (Exchanges self.old at cell self.new) }
+        ensures refused { IfErr result (λ why. (IsNoCell self.old cell why ⊎ WhyNoOwner self.old.slots at why) × (self.new ≡ self.old)) }
+    {
+        if cell >= self.domain.shared_cells() {
+            return Err(Fault::Cell);
+        }
+        let new = match take_owner(&mut self.slots, at) {
+            Ok(owner) => owner,
+            Err(why) => return Err(why),
+        };
+        let site = SharedAt::free(cell);
+        let old = Held::Owner(site.exchange(self.domain, &mut self.desk, new));
+        assign(
+            self.domain,
+            &mut self.desk,
+            &mut self.slots,
+            &mut self.pile,
+            at,
+            old,
+        );
+        Ok(())
     }
 }

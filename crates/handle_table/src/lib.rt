@@ -14,6 +14,7 @@ mod program;
 mod slots;
 mod table;
 mod telling;
+mod this;
 
 pub use atomic_cells::SharedMember;
 pub use fault::{Fault, Returned};

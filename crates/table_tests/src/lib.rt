@@ -8,4 +8,6 @@ mod faults;
 #[cfg(test)]
 mod observers;
 #[cfg(test)]
+mod pointers;
+#[cfg(test)]
 mod scene;

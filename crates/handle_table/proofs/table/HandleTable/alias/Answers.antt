@@ -1,0 +1,35 @@
+use Rattle.std.proofs.Common.{subst, refl, inl, inr}
+use Rattle.control_block.specs.declared.handles.Held.TheVariants.{Owner, Weak}
+use Rattle.handle_table.specs.This.{Aliases, WhyNoAlias}
+use Rattle.handle_table.specs.Tables.{TableNow}
+use Rattle.handle_table.specs.declared.fault.Fault.TheVariants as fault
+use Rattle.handle_table.proofs.Filling.{fits_at}
+use Rattle.handle_table.proofs.Wholes.{kept, seen}
+use Rattle.handle_table.proofs.table.HandleTable.alias.Goals as goal
+
+pub alias-copy-requires-clause-holds : goal.alias-copy-requires-clause-holds
+alias-copy-requires-clause-holds g c κs within =
+    fits_at c.self.inside.desk c.self.inside.slots.items c.args.of (Owner c.in-Ok.owner.now) c.self.invariant.fits c.in-Ok.ensures.found
+
+pub returns-in-Err-clause-refused : goal.returns-in-Err-clause-refused
+returns-in-Err-clause-refused g c =
+    (subst (λ (t : TableNow g.row.V.Denot). WhyNoAlias t c.args.of c.args.to c.in-Err.why) c.self.view_is (inr (inr (inl c.in-Err.ensures.fault))), refl)
+
+pub assign-requires-clause-bears : goal.assign-requires-clause-bears
+assign-requires-clause-bears g c κs within =
+    kept c.self.inside.domain.now c.self.inside.desk c.alias-copy.new.desk c.self.inside.pile c.self.invariant.bears c.in-Ok-copy.ensures.keeps
+
+pub returns-in-Ok-copy-clause-aliased : goal.returns-in-Ok-copy-clause-aliased
+returns-in-Ok-copy-clause-aliased g c =
+    let e = c.in-Ok-copy.ensures in let h = c.in-Ok-copy.copy in
+    subst (λ (t : TableNow g.row.V.Denot). Aliases t c.args.of c.args.place c.args.to (seen c.assign.new.desk c.assign.new.slots.items c.assign.new.pile)) c.self.view_is
+    record {
+      of = c.in-Ok.owner.now;
+      at = c.in-Ok.ensures.found;
+      copy = record {
+        handle = Owner h;
+        between = c.alias-copy.new.desk;
+        comes = record { owner = h; is = refl; event = (e.handle.0, e.handle.1, e.event) };
+        assigns = c.assign.ensures.assigns;
+      };
+    }
