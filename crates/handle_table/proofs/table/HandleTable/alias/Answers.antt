@@ -1,8 +1,7 @@
 use Rattle.std.proofs.Common.{subst, refl, inl, inr}
-use Rattle.control_block.specs.declared.handles.Held.TheVariants.{Owner, Weak}
+use Rattle.control_block.specs.declared.handles.Held.TheVariants.{Owner}
 use Rattle.handle_table.specs.This.{Aliases, WhyNoAlias}
 use Rattle.handle_table.specs.Tables.{TableNow}
-use Rattle.handle_table.specs.declared.fault.Fault.TheVariants as fault
 use Rattle.handle_table.proofs.Filling.{fits_at}
 use Rattle.handle_table.proofs.Wholes.{kept, seen}
 use Rattle.handle_table.proofs.table.HandleTable.alias.Goals as goal

@@ -1,5 +1,4 @@
-use Rattle.std.proofs.Common.{◌∷◌, ◌∙◌, List, Some, None, ap, inr, subst, sym}
-use Rattle.std.specs.Prelude.{slice_set}
+use Rattle.std.proofs.Common.{◌∷◌, ◌∙◌, List, Some, ap, inr, subst, sym}
 use Rattle.control_word.specs.declared.handle.Kind.TheVariants as kind
 use Rattle.control_block.specs.declared.handles.Held.TheVariants.{Owner}
 use Rattle.atomic_cells.specs.Cells as cells
