@@ -1,5 +1,5 @@
 -- How a script's run begins. All of it is own.
-use Rattle.std.specs.Prelude.{ℕ, ◌*◌, ◌/◌, length}
+use Rattle.std.specs.Prelude.{ℕ, ◌*◌, ◌/◌, List, length}
 use Rattle.control_word.specs.declared.shape.Shape.{Shape}
 use Rattle.script_text.specs.Drafts.{ScriptView}
 use Rattle.script_text.specs.Scripts.{program_in}
@@ -7,6 +7,12 @@ use Rattle.script_text.specs.Versions.{blocks_in}
 use Rattle.step_threads.specs.Scenes.{Scene}
 use Rattle.step_core.specs.Worlds.{Sight, scene}
 use Rattle.step_core.specs.Starts.{first_sight}
+use Rattle.control_word.specs.declared.event.Entry.{Entry}
+use Rattle.control_word.specs.State.{Opening}
+use Rattle.step_core.specs.Following.{no_worth}
+use Rattle.step_table.specs.Stories.{Nothing}
+use Rattle.step_threads.specs.declared.said.Said.{Said}
+use Rattle.step_threads.specs.Interleavings.{Interleaves}
 
 -- each of the threads has the same number of blocks, as many as there are for all
 abbrev pub shape_for : ℕ → ℕ → Shape
@@ -21,3 +27,8 @@ script_sight script = first_sight (script_shape script) (program_in script.threa
 
 abbrev pub script_scene : ScriptView → Scene
 script_scene script = scene (script_sight script)
+
+-- this history of a domain that began so is an interleaving of the script's threads, on the desks from n on, whoever
+-- made it, and that is what each of them says; no statement asks for an object's value
+abbrev pub IsRunOf : ScriptView → Opening → List (Entry Nothing) → ℕ → (ℕ → List Said) → Type 0
+IsRunOf script z h n said = Interleaves no_worth z h n (program_in script.threads) said
