@@ -1,9 +1,6 @@
 //! An object that ends within another's end, as the last owner of it was a member of that.
 ghost use Rattle.std.specs.Prelude.{◌≡◌, ◌+◌};
-ghost use Rattle.control_word.specs.declared.handle.Kind.TheVariants.{Owner};
-ghost use Rattle.control_block.specs.Desks.{Belongs, IsSameDesk, bag_of};
-ghost use Rattle.shared_handle.specs.Calls.{Holds, without_handle};
-ghost use Rattle.shared_handle.specs.Endings.{Ends};
+ghost use Rattle.shared_handle.specs.Prelude.{Owner, Belongs, IsSameDesk, bag_of, Holds, without_handle, Ends};
 
 use crate::cell_parts::object;
 use crate::members::put_in;

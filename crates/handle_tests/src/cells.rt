@@ -1,7 +1,6 @@
 //! Cells on a sole desk.
 ghost use Rattle.std.specs.Prelude.{◌≡◌, ◌<◌};
-ghost use Rattle.control_block.specs.Desks.{Belongs};
-ghost use Rattle.control_block.specs.Desks.{IsSameDesk, bag_of};
+ghost use Rattle.shared_handle.specs.Prelude.{Belongs, IsSameDesk, bag_of};
 
 use crate::cell_parts::{exchange_copy, object, put_copy, put_weak, shape_with_cells, tell};
 use crate::parts::{Was, drop_owner, shut};

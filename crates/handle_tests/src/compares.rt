@@ -1,9 +1,6 @@
 //! Compare-and-swap on a sole desk.
 ghost use Rattle.std.specs.Prelude.{◌≡◌, ◌<◌, Some};
-ghost use Rattle.control_word.specs.declared.place.Block.{Block};
-ghost use Rattle.control_word.specs.declared.handle.Kind.TheVariants.{Owner, Weak};
-ghost use Rattle.control_block.specs.Desks.{Belongs, IsSameDesk, bag_of};
-ghost use Rattle.shared_handle.specs.Calls.{Holds, without_handle};
+ghost use Rattle.shared_handle.specs.Prelude.{Owner, Weak, Block, Belongs, IsSameDesk, bag_of, Holds, without_handle};
 
 use crate::cell_parts::{object, put_copy, put_weak, shape_with_cells, tell};
 use crate::parts::{drop_owner, shut};

@@ -1,11 +1,7 @@
 //! Four threads that load, store and exchange one cell, and what is left then.
 ghost use Rattle.std.specs.Prelude.{◌≡◌, ◌+◌, ◌<◌, ◌≤◌, [], IfSome, MatchOption, Some, length};
 ghost use denote.Param.Send.{IsSync};
-ghost use Rattle.control_word.specs.declared.place.Block.{Block};
-ghost use Rattle.control_word.specs.declared.handle.Kind.TheVariants.{Owner};
-ghost use Rattle.control_block.specs.Desks.{Belongs};
-ghost use Rattle.control_block.specs.Desks.{IsSameDesk, allowance_of, bag_of, stock_of};
-ghost use Rattle.shared_handle.specs.Calls.{Holds};
+ghost use Rattle.shared_handle.specs.Prelude.{Owner, Block, Belongs, IsSameDesk, allowance_of, bag_of, stock_of, Holds};
 
 use crate::cell_parts::{exchange_copy, object, put_copy, shape_with_cells, tell};
 use crate::parts::drop_owner;

@@ -1,9 +1,6 @@
 //! The example of the README: an object that two threads own, watched by a weak pointer.
 ghost use Rattle.std.specs.Prelude.{◌≡◌, ◌<◌, [], IfSome, None, Some, length};
-ghost use Rattle.control_word.specs.declared.handle.Kind.TheVariants.{Owner, Weak};
-ghost use Rattle.control_word.specs.declared.place.Block.{Block};
-ghost use Rattle.control_block.specs.Desks.{Belongs, IsSameDesk, allowance_of, bag_of, stock_of};
-ghost use Rattle.shared_handle.specs.Calls.{Holds, with_handle, without_handle};
+ghost use Rattle.shared_handle.specs.Prelude.{Owner, Weak, Block, Belongs, IsSameDesk, allowance_of, bag_of, stock_of, Holds, with_handle, without_handle};
 
 use crate::parts::{end, hand_over, shape, shut, spent};
 use control_block::desk::Desk;

@@ -1,8 +1,6 @@
 //! Handles and endings that are given up: how a domain's census tells of them.
 ghost use Rattle.std.specs.Prelude.{◌≡◌};
-ghost use Rattle.control_word.specs.declared.handle.Kind.TheVariants.{Owner};
-ghost use Rattle.control_block.specs.Desks.{Belongs, IsSameDesk};
-ghost use Rattle.shared_handle.specs.Calls.{Holds};
+ghost use Rattle.shared_handle.specs.Prelude.{Owner, Belongs, IsSameDesk, Holds};
 
 use crate::drops::Counted;
 use crate::shapes::shape;

@@ -1,8 +1,6 @@
 //! Two owners of one object leave at once.
 ghost use Rattle.std.specs.Prelude.{◌≡◌, ◌+◌, IfSome, MatchOption};
-ghost use Rattle.control_word.specs.declared.handle.Kind.TheVariants.{Owner};
-ghost use Rattle.control_block.specs.Desks.{Belongs, IsSameDesk, allowance_of};
-ghost use Rattle.shared_handle.specs.Calls.{Holds};
+ghost use Rattle.shared_handle.specs.Prelude.{Owner, Belongs, IsSameDesk, allowance_of, Holds};
 
 use crate::parts::{end, hand_over, leave, shape, shut, spent, two_owners};
 use control_block::desk::Desk;

@@ -1,9 +1,6 @@
 //! Owners from weak pointers, on a sole desk and beside the last owner's leave.
 ghost use Rattle.std.specs.Prelude.{◌≡◌, ◌+◌, IfSome, MatchOption, None, Some, []};
-ghost use Rattle.control_word.specs.declared.place.Block.{Block};
-ghost use Rattle.control_word.specs.declared.handle.Kind.TheVariants.{Owner, Weak};
-ghost use Rattle.control_block.specs.Desks.{Belongs, IsSameDesk, allowance_of, bag_of};
-ghost use Rattle.shared_handle.specs.Calls.{Holds, with_handle};
+ghost use Rattle.shared_handle.specs.Prelude.{Owner, Weak, Block, Belongs, IsSameDesk, allowance_of, bag_of, Holds, with_handle};
 
 use crate::parts::{end, hand_over, leave, shape, shut, spent};
 use control_block::desk::Desk;

@@ -1,10 +1,6 @@
 //! Members of objects as cells, and what their objects' ends find in them.
 ghost use Rattle.std.specs.Prelude.{◌≡◌, ◌+◌, IfSome, Some};
-ghost use Rattle.control_word.specs.declared.place.Block.{Block};
-ghost use Rattle.control_word.specs.declared.handle.Kind.TheVariants.{Owner, Weak};
-ghost use Rattle.control_block.specs.Desks.{Belongs};
-ghost use Rattle.control_block.specs.Desks.{IsSameDesk, bag_of};
-ghost use Rattle.shared_handle.specs.Calls.{Holds, with_handle, without_handle};
+ghost use Rattle.shared_handle.specs.Prelude.{Owner, Weak, Block, Belongs, IsSameDesk, bag_of, Holds, with_handle, without_handle};
 
 use crate::cell_parts::{object, shape_with_cells};
 use crate::parts::{Found, Was, drop_owner, end_of, shut, told};

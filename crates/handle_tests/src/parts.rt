@@ -1,10 +1,7 @@
 //! What the tests have in common: shapes, ends, and handles that go from one desk to another.
 ghost use Rattle.std.specs.Prelude.{◌≡◌, ◌+◌, ◌≤◌, ◌∷◌, [], IfErr, IfOk, IfSome, None, Some, length};
-ghost use Rattle.control_word.specs.declared.place.Block.{Block};
-ghost use Rattle.control_word.specs.declared.handle.Kind.TheVariants.{Owner};
-ghost use Rattle.control_block.specs.Desks.{Belongs, IsSameDesk, KeepsOtherEndings, allowance_of, bag_of, stock_of};
-ghost use Rattle.shared_handle.specs.Calls.{Holds, with_handle, without_handle};
-ghost use Rattle.shared_handle.specs.Endings.{Ends};
+ghost use Rattle.shared_handle.specs.Prelude.{Owner, Block, Belongs, IsSameDesk, allowance_of, bag_of, stock_of, Holds, with_handle, without_handle, Ends};
+ghost use Rattle.control_block.specs.Desks.{KeepsOtherEndings};
 
 pub(crate) use crate::shapes::shape;
 use control_block::census::close;

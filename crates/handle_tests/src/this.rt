@@ -1,9 +1,6 @@
 //! Pointers that an object gives to itself, and the end of one.
 ghost use Rattle.std.specs.Prelude.{◌≡◌, []};
-ghost use Rattle.control_word.specs.declared.handle.Kind.TheVariants.{Owner};
-ghost use Rattle.control_block.specs.Desks.{Belongs, IsSameDesk, bag_of};
-ghost use Rattle.shared_handle.specs.Calls.{Holds, with_handle};
-ghost use Rattle.shared_handle.specs.Endings.{Ends};
+ghost use Rattle.shared_handle.specs.Prelude.{Owner, Belongs, IsSameDesk, bag_of, Holds, with_handle, Ends};
 
 use crate::parts::{bury, end, shape, shut};
 use crate::watching::tell_weak;

@@ -1,8 +1,6 @@
 //! Work on the value of an object.
 ghost use Rattle.std.specs.Prelude.{◌≡◌};
-ghost use Rattle.control_word.specs.declared.handle.Kind.TheVariants.{Owner};
-ghost use Rattle.control_block.specs.Desks.{Belongs, IsSameDesk, bag_of};
-ghost use Rattle.shared_handle.specs.Calls.{Holds};
+ghost use Rattle.shared_handle.specs.Prelude.{Owner, Belongs, IsSameDesk, bag_of, Holds};
 
 use crate::aliases::{Told, tell};
 use crate::leaves::two_desks;

@@ -1,8 +1,6 @@
 //! A weak pointer watches an object.
 ghost use Rattle.std.specs.Prelude.{◌≡◌, ◌+◌, []};
-ghost use Rattle.control_word.specs.declared.handle.Kind.TheVariants.{Owner, Weak};
-ghost use Rattle.control_block.specs.Desks.{Belongs, IsSameDesk, bag_of};
-ghost use Rattle.shared_handle.specs.Calls.{Holds, with_handle, without_handle};
+ghost use Rattle.shared_handle.specs.Prelude.{Owner, Weak, Belongs, IsSameDesk, bag_of, Holds, with_handle, without_handle};
 
 use crate::parts::{end, shape, shut};
 use control_block::desk::Desk;

@@ -3,3 +3,4 @@ pub mod Endings
 pub mod Locks
 pub mod Visits
 pub mod Piles
+pub mod Prelude
