@@ -1,3 +1,5 @@
 pub mod Filling
 pub mod Wholes
 pub mod Owned
+pub mod Emptied
+pub mod Visited

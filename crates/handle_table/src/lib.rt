@@ -4,17 +4,21 @@
 mod assigning;
 mod cells;
 mod copying;
+mod empties;
 mod fault;
 mod leaving;
 mod locking;
 mod making;
 mod members;
+mod pairs;
 mod parting;
 mod program;
 mod slots;
 mod table;
 mod telling;
 mod this;
+mod upgrading;
+mod visiting;
 
 pub use atomic_cells::SharedMember;
 pub use fault::{Fault, Returned};

@@ -6,6 +6,8 @@ mod calls;
 #[cfg(test)]
 mod faults;
 #[cfg(test)]
+mod looks;
+#[cfg(test)]
 mod observers;
 #[cfg(test)]
 mod pointers;

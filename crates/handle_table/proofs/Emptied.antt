@@ -1,0 +1,34 @@
+-- An empty handle came: it is only counted.
+use Rattle.std.proofs.Common.{◌≡◌, ◌+◌, List, ◌∷◌, Option, Some, None, refl, sym, ap, subst, ◌∙◌}
+use Rattle.control_word.specs.declared.handle.Kind.TheVariants as kind
+use Rattle.control_word.specs.declared.place.Block.{Block}
+use Rattle.control_block.specs.CellCalls.{with_handle}
+use Rattle.control_block.specs.Desks.{DeskNow, DomainNow, IsEnding, KeepsEndings, bag_of}
+use Rattle.control_block.specs.declared.handles.Held.TheVariants.{Owner, Weak}
+use Rattle.control_block.specs.declared.handles.Shared.{Shared}
+use Rattle.control_block.specs.declared.handles.Weak as weak_handle
+use Rattle.shared_handle.proofs.Piles.{bears_kept}
+use Rattle.shared_handle.specs.Calls.{counting}
+use Rattle.shared_handle.specs.Piles.{Bears}
+use Rattle.shared_handle.specs.declared.pile.Pile.{Pile}
+use Rattle.handle_table.proofs.Filling.{fits_more}
+use Rattle.handle_table.specs.Tables.{Fits, Slot}
+
+module _ {V : Type 0} where
+  keeps_endings : (d : DeskNow V) → KeepsEndings d (counting (d.held + 1) d)
+  keeps_endings d b x ends = record { ends = record { phase = ends.phase; kept = ends.kept }; members = λ m. refl }
+
+  pub bears_counted : (domain : DomainNow) (d e : DeskNow V) (p : Pile V) → Bears domain d p → e ≡ counting (d.held + 1) d → Bears domain e p
+  bears_counted domain d e p w is =
+      subst (λ (x : DeskNow V). Bears domain x p) (sym is) (bears_kept domain d (counting (d.held + 1) d) p w refl refl (keeps_endings d) refl)
+
+  pub fits_empty : (d e : DeskNow V) (ss : List Slot) (h : Shared) → Fits d ss → h.block ≡ None → e ≡ counting (d.held + 1) d → Fits e (Some (Owner h) ∷ ss)
+  fits_empty d e ss h fits none is =
+      subst (λ (x : DeskNow V). Fits x (Some (Owner h) ∷ ss)) (sym is)
+      (fits_more d (counting (d.held + 1) d) ss (Owner h) fits (ap (λ (b : Option Block). with_handle kind.Owner b h.place (bag_of d)) (sym none)) refl)
+
+  pub fits_empty_weak : (d e : DeskNow V) (ss : List Slot) (w : weak_handle.Weak) → Fits d ss → w.block ≡ None → e ≡ counting (d.held + 1) d
+      → Fits e (Some (Weak w) ∷ ss)
+  fits_empty_weak d e ss w fits none is =
+      subst (λ (x : DeskNow V). Fits x (Some (Weak w) ∷ ss)) (sym is)
+      (fits_more d (counting (d.held + 1) d) ss (Weak w) fits (ap (λ (b : Option Block). with_handle kind.Weak b w.place (bag_of d)) (sym none)) refl)

@@ -1,0 +1,23 @@
+use Rattle.std.proofs.Common.{inl, inr, subst}
+use Rattle.handle_table.specs.Pairs.{PointAlike, WhyNoOwners}
+use Rattle.handle_table.specs.Tables.{TableNow}
+use Rattle.handle_table.proofs.table.HandleTable.same_place.Goals as goal
+
+pub returns-in-Err-clause-refused : goal.returns-in-Err-clause-refused
+returns-in-Err-clause-refused g c =
+    subst (λ (t : TableNow g.row.V.Denot). WhyNoOwners t.slots c.args.a c.args.b c.in-Err.why) c.self.view_is (inl c.in-Err.ensures.fault)
+
+pub returns-in-Err-owner_at-clause-refused : goal.returns-in-Err-owner_at-clause-refused
+returns-in-Err-owner_at-clause-refused g c =
+    subst (λ (t : TableNow g.row.V.Denot). WhyNoOwners t.slots c.args.a c.args.b c.in-Err-owner_at.why) c.self.view_is
+    (inr c.in-Err-owner_at.ensures.fault)
+
+pub returns-clause-told : goal.returns-clause-told
+returns-clause-told g c =
+    subst (λ (t : TableNow g.row.V.Denot). PointAlike t c.args.a c.args.b c.same_place.result) c.self.view_is
+    record {
+      one = c.in-Ok.owner.now;
+      other = c.in-Ok-owner_at.owner.now;
+      at = (c.in-Ok.ensures.found, c.in-Ok-owner_at.ensures.found);
+      told = c.same_place.ensures.equal;
+    }
