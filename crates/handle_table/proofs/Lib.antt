@@ -1,3 +1,4 @@
 pub mod Filling
 pub mod Wholes
 pub mod Owned
+pub mod Handing
