@@ -50,7 +50,7 @@ bags_joined a b l same f =
     let x = total_sum f l in let y = total_sum f a in let z = total_sum f b in omega arith
 
 -- what is taken out of a bag
-total_without : (f : Handle → ℕ) (h : Handle) (l : List Handle) → Has h l → total f l ≡ f h + total f (without same_handle h l)
+pub total_without : (f : Handle → ℕ) (h : Handle) (l : List Handle) → Has h l → total f l ≡ f h + total f (without same_handle h l)
 total_without f h [] has = absurd has
 total_without f h (y ∷ l) has =
     cond_both (same_handle h y) l (y ∷ without same_handle h l) (λ (r : List Handle). total f (y ∷ l) ≡ f h + total f r)
@@ -63,7 +63,7 @@ abbrev pub one_like : Handle → Handle → ℕ
 one_like h x = cond (same_handle h x) 1 0
 
 -- what is counted in a bag is there
-counted_has : (h : Handle) (l : List Handle) → 0 < total (one_like h) l → Has h l
+pub counted_has : (h : Handle) (l : List Handle) → 0 < total (one_like h) l → Has h l
 counted_has h [] lt = absurd (omega arith)
 counted_has h (y ∷ l) lt =
     ⊎_elim (λ (e : same_handle h y ≡ true). inl (same_handle_true h y e))
@@ -75,7 +75,7 @@ counted_has h (y ∷ l) lt =
     both false = inr refl
 
 -- the number of a bag's handles
-total_one : {A : Type 0} (l : List A) → total (λ x. 1) l ≡ length l
+pub total_one : {A : Type 0} (l : List A) → total (λ x. 1) l ≡ length l
 total_one [] = refl
 total_one (x ∷ l) = let ih = total_one l in omega arith
 
@@ -84,7 +84,7 @@ worth_one None = omega arith
 worth_one (Some h) = cond_both (has_object (as_listed h)) 1 0 (λ (n : ℕ). n ≤ 1) (λ e. omega arith) (λ e. omega arith)
 
 -- slots with objects are filled
-spread_one : (ss : List Slot) → total (worth (λ h. 1)) ss ≤ total is_filled ss
+pub spread_one : (ss : List Slot) → total (worth (λ h. 1)) ss ≤ total is_filled ss
 spread_one [] = omega arith
 spread_one (s ∷ ss) = let ih = spread_one ss in let one = worth_one s in omega arith
 
@@ -225,11 +225,11 @@ module _ {V : Type 0} where
   fits_still d e ss fits bag held = record { bag = λ f. ap (total f) bag ∙ fits.bag f; held = held ∙ fits.held }
 
 -- slots that are all vacant
-vacant_filled : (l : List Slot) → AllVacant l → total is_filled l ≡ 0
+pub vacant_filled : (l : List Slot) → AllVacant l → total is_filled l ≡ 0
 vacant_filled [] all = refl
 vacant_filled (x ∷ l) all = let ih = vacant_filled l all.1 in let a : is_filled x ≡ 0 = ap is_filled all.0 in omega arith
 
-vacant_worth : (f : Handle → ℕ) (l : List Slot) → AllVacant l → total (worth f) l ≡ 0
+pub vacant_worth : (f : Handle → ℕ) (l : List Slot) → AllVacant l → total (worth f) l ≡ 0
 vacant_worth f [] all = refl
 vacant_worth f (x ∷ l) all = let ih = vacant_worth f l all.1 in let a : worth f x ≡ 0 = ap (worth f) all.0 in omega arith
 

@@ -3,3 +3,4 @@ pub mod Wholes
 pub mod Owned
 pub mod Emptied
 pub mod Visited
+pub mod Handing

@@ -6,3 +6,4 @@ pub mod Handles
 pub mod Pairs
 pub mod Parts
 pub mod Visits
+pub mod Parting

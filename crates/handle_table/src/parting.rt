@@ -1,8 +1,10 @@
 //! A second table of the domain, for another thread, and its end.
-ghost use Rattle.std.specs.Prelude.{◌≡◌, [], length, vec_capacity, IfErr, IfOk};
-ghost use Rattle.control_block.specs.Desks.{Belongs, endings_of};
-ghost use Rattle.control_block.specs.Parting.{SplitsOff};
+ghost use Rattle.std.specs.Prelude.{◌≡◌, ◌≤◌, ◌++◌, [], drop, length, take, IfErr, IfOk};
+ghost use Rattle.control_block.specs.Desks.{Belongs, DeskNow, endings_of};
+ghost use Rattle.control_block.specs.Parting.{HoldsAll, IsTooMuch, SplitsOff};
+ghost use Rattle.control_block.specs.SlotLists.{handles_in};
 ghost use Rattle.shared_handle.specs.Piles.{Bears};
+ghost use Rattle.handle_table.specs.Parting.{HandsOver, Splits, WhyNoPart, WhyNotSplit, handles_from};
 ghost use Rattle.handle_table.specs.Tables.{AllVacant, Fits};
 
 use crate::assigning::let_go;
@@ -11,7 +13,7 @@ use crate::slots::open_slots;
 use crate::table::{HandleTable, Home};
 use control_block::desk::Desk;
 use control_block::domain::Domain;
-use control_word::{Refusal, Refused};
+use control_word::Refusal;
 use shared_handle::{Held, Pile};
 use std::alloc::Global;
 use std::marker::PhantomData;
@@ -41,42 +43,111 @@ fn let_all_go<V: Drop + Send>(
     slots.destroy_empty();
 }
 
+/// What a further table is made of.
+struct Part<V: Drop + Send> {
+    desk: Desk<V>,
+    slots: Vec<Option<Held>, Global>,
+    pile: Pile<V>,
+}
+
+/// A part of a desk for a further table, with so many vacant slots; the handles in the slots that are handed over are the new
+/// desk's from then on.
+fn part_of<V: Drop + Send>(
+    domain: &Domain<V>,
+    desk: &mut Desk<V>,
+    alloc: Global,
+    count: usize,
+    allowance: u32,
+    blocks: u32,
+    handed: &[Option<Held>],
+) -> Result<Part<V>, Refusal>
+    requires domain { Belongs desk.old domain.now }
+    requires held { HoldsAll desk.old (handles_in handed.now) }
+    ensures parts { IfOk result (λ p. SplitsOff desk.old allowance blocks (handles_in handed.now) desk.new p.desk) }
+    ensures fits { IfOk result (λ _. IsTooMuch desk.old allowance (length (handles_in handed.now)) → ⊥) }
+    ensures slots { IfOk result (λ p. AllVacant p.slots.items × (length p.slots.items ≡ count)) }
+    ensures empty { IfOk result (λ p. p.pile.endings.items ≡ []) }
+    ensures bears { IfOk result (λ p. (d : DeskNow V) → Belongs d domain.now → endings_of d ≡ 0 → Bears domain.now d p.pile) }
+    ensures refused { IfErr result (λ why. WhyNoPart desk.old allowance blocks (length (handles_in handed.now)) why) }
+    ensures same { IfErr result (λ _. desk.new ≡ desk.old) }
+{
+    if desk.stock() < blocks {
+        return Err(Refusal::Full);
+    }
+    let Ok(mut slots) = Vec::with_capacity(alloc, count) else {
+        return Err(Refusal::Memory);
+    };
+    let pile = match Pile::new(alloc, domain) {
+        Ok(pile) => pile,
+        Err(why) => {
+            slots.destroy_empty();
+            return Err(why);
+        }
+    };
+    match desk.split_slots(alloc, domain, allowance, blocks, handed) {
+        Ok(desk) => {
+            open_slots(&mut slots, count);
+            Ok(Part { desk, slots, pile })
+        }
+        Err(why) => {
+            slots.destroy_empty();
+            pile.close();
+            Err(why)
+        }
+    }
+}
+
+/// The elements from a number on change places with those of another slice.
+fn exchange_from<T>(ours: &mut [T], theirs: &mut [T], from: usize)
+    requires { (from ≤ length ours.old) × (length theirs.old ≡ length ours.old) }
+    ensures { (ours.new ≡ take from ours.old ++ drop from theirs.old) × (theirs.new ≡ take from theirs.old ++ drop from ours.old) }
+{
+    ours[from..].swap_with_slice(&mut theirs[from..]);
+}
+
+/// What is in the slots from a number on goes into those of the same numbers of another table, which is vacant.
+fn hand_over(slots: &mut Vec<Option<Held>>, to: &mut Vec<Option<Held>>, from: usize)
+    requires there { from ≤ length slots.old.items }
+    requires vacant { AllVacant to.old.items × (length to.old.items ≡ length slots.old.items) }
+    ensures { HandsOver slots.old.items from slots.new.items to.new.items }
+{
+    exchange_from(slots.as_mut_slice(), to.as_mut_slice(), from);
+}
+
 impl<'d, V: Drop + Send, H: Home> HandleTable<'d, V, H> {
-    /// A second table of the domain, with as many slots, all vacant: it gets a part of the allowance, and the least `blocks`
-    /// vacant blocks (own). It is refused `Full` just where there are fewer, else `Memory` only where a growth was really
-    /// refused, and `Limit` where so much of the allowance can't be given. Then nothing changes.
+    /// A second table of the domain, with as many slots: what is in the slots from number `from` on goes into its slots of the
+    /// same numbers, and the others are vacant. It gets a part of the allowance, and the least `blocks` vacant blocks (own).
+    /// It is refused `Slot` where there are fewer slots, `Full` where there are fewer vacant blocks, `Limit` where so much
+    /// of the allowance can't be given, or less than the handles need, and `Memory` only where a growth was really
+    /// refused. Then nothing changes.
     pub fn split(
         &mut self,
         alloc: Global,
+        from: usize,
         allowance: u32,
         blocks: u32,
     ) -> Result<HandleTable<'d, V, H>, Fault>
-        ensures split { IfOk result (λ t. SplitsOff self.old.desk allowance blocks [] self.new.desk t.desk) }
-        ensures slots { IfOk result (λ t. AllVacant t.slots × (length t.slots ≡ length self.old.slots) × (self.new.slots ≡ self.old.slots)) }
-        ensures endings { IfOk result (λ t. (t.endings ≡ []) × (self.new.endings ≡ self.old.endings)) }
-        ensures refused { IfErr result (λ _. self.new ≡ self.old) }
+        ensures split { IfOk result (λ t. Splits self.old from allowance blocks self.new t) }
+        ensures fits { IfOk result (λ _. IsTooMuch self.old.desk allowance (length (handles_from from self.old.slots)) → ⊥) }
+        ensures refused { IfErr result (λ why. WhyNotSplit self.old from allowance blocks why × (self.new ≡ self.old)) }
     {
-        if self.desk.stock() < blocks {
-            return Err(Fault::Call(Refusal::Full));
-        }
         let count = self.slots.len();
-        let Ok(mut slots) = Vec::with_capacity(alloc, count) else {
-            return Err(Fault::Call(Refusal::Memory));
-        };
-        let pile = match Pile::new(alloc, self.domain) {
-            Ok(pile) => pile,
-            Err(why) => {
-                slots.destroy_empty();
-                return Err(Fault::Call(why));
-            }
-        };
-        match self
-            .desk
-            .split(alloc, self.domain, allowance, blocks, Vec::new(alloc))
-        {
-            Ok((desk, handles)) => {
-                handles.destroy_empty();
-                open_slots(&mut slots, count);
+        if from > count {
+            return Err(Fault::Slot);
+        }
+        match part_of(
+            self.domain,
+            &mut self.desk,
+            alloc,
+            count,
+            allowance,
+            blocks,
+            &self.slots.as_slice()[from..],
+        ) {
+            Ok(part) => {
+                let Part { desk, slots, pile } = part;
+                let mut slots = slots;
+                hand_over(&mut self.slots, &mut slots, from);
                 Ok(HandleTable {
                     domain: self.domain,
                     home: PhantomData,
@@ -85,13 +156,7 @@ impl<'d, V: Drop + Send, H: Home> HandleTable<'d, V, H> {
                     pile,
                 })
             }
-            Err(refused) => {
-                let Refused { why, back } = refused;
-                back.destroy_empty();
-                slots.destroy_empty();
-                pile.close();
-                Err(Fault::Call(why))
-            }
+            Err(why) => Err(Fault::Call(why)),
         }
     }
 

@@ -71,7 +71,8 @@ impl<'d, V: Drop + Send, H: Home> HandleTable<'d, V, H> {
             return None;
         };
         while tables.len() < team.workers {
-            match self.split(alloc, team.allowance, team.blocks) {
+            let from = self.slots.len();
+            match self.split(alloc, from, team.allowance, team.blocks) {
                 Ok(table) => tables.push_reserved(table),
                 Err(_) => return Some(tables),
             }

@@ -1,17 +1,41 @@
-use Rattle.handle_table.proofs.Wholes.{same_whole, split_new, split_old}
-use Rattle.handle_table.proofs.table.HandleTable.split.Goals.{in-Err-split, in-Ok-split}
+use Rattle.std.proofs.Common.{List, length, refl, subst, sym}
+use Rattle.control_block.specs.Parting.{HoldsAll, IsTooMuch, SplitsOff}
+use Rattle.control_block.specs.SlotLists.{handles_in}
+use Rattle.handle_table.specs.Parting.{Splits, handles_from}
+use Rattle.handle_table.specs.Tables.{Slot, TableNow}
+use Rattle.handle_table.proofs.Handing.{handed_from, holds_from, new_whole, old_whole}
+use Rattle.handle_table.proofs.Wholes.{seen}
 use Rattle.handle_table.proofs.table.HandleTable.split.Goals as goal
+
+pub part_of-requires-clause-held : goal.part_of-requires-clause-held
+part_of-requires-clause-held g c κs within =
+    subst (λ (l : List Slot). HoldsAll c.self.inside.desk (handles_in l)) (sym (handed_from c.as_slice.result.now c.self.inside.slots.items c.args.from c.as_slice.ensures.value))
+    (holds_from c.self.inside.desk c.self.inside.slots.items c.args.from c.self.invariant.fits)
+
+module _ (g : _) (c : goal.After-hand_over g) where
+  parts : SplitsOff c.self.inside.desk c.args.allowance c.args.blocks (handles_from c.args.from c.self.inside.slots.items) c.part_of.new.desk c.in-Ok.part.desk
+  parts =
+      subst (λ (l : List Slot). SplitsOff c.self.inside.desk c.args.allowance c.args.blocks (handles_in l) c.part_of.new.desk c.in-Ok.part.desk)
+      (handed_from c.as_slice.result.now c.self.inside.slots.items c.args.from c.as_slice.ensures.value) c.in-Ok.ensures.parts
 
 pub invariant_of-result : goal.invariant_of-result
 invariant_of-result g c =
-    split_new _ c.self.inside.domain.now c.self.inside.desk c.split.new.self c.in-Ok-split.desk _ _ c.new-2.result.items c.self.inside.slots.items c.open_slots.new.slots.items
-    c.self.inside.pile c.in-Ok-new.pile c.self.invariant c.in-Ok-split.ensures.parts c.new-2.ensures.items c.open_slots.ensures.0 c.in-Ok-new.ensures.bears
+    new_whole _ c.self.inside.domain.now c.self.inside.desk c.part_of.new.desk c.in-Ok.part.desk _ _ c.args.from c.self.inside.slots.items
+    c.hand_over.new.slots.items c.hand_over.new.to.items c.self.inside.pile c.in-Ok.part.pile c.self.invariant (parts g c) c.hand_over.ensures c.in-Ok.ensures.bears
 
 pub invariant_of-self : goal.invariant_of-self
 invariant_of-self g c =
-    elim c.match-split.branch [
-      | in-Ok-split w ↦ split_old _ c.self.inside.domain.now c.self.inside.desk c.split.new.self w.in-Ok-split.desk _ _ c.new-2.result.items c.self.inside.slots.items
-          c.self.inside.pile c.self.invariant w.in-Ok-split.ensures.parts c.new-2.ensures.items
-      | in-Err-split w ↦ same_whole _ c.self.inside.domain.now c.self.inside.desk c.split.new.self c.self.inside.slots.items c.self.inside.pile c.self.invariant
-          w.in-Err-split.ensures.same.1
-    ]
+    old_whole _ c.self.inside.domain.now c.self.inside.desk c.part_of.new.desk c.in-Ok.part.desk _ _ c.args.from c.self.inside.slots.items
+    c.hand_over.new.slots.items c.hand_over.new.to.items c.self.inside.pile c.self.invariant (parts g c) c.hand_over.ensures
+
+pub returns-in-Ok-clause-split : goal.returns-in-Ok-clause-split
+returns-in-Ok-clause-split g c =
+    subst (λ (t : TableNow g.row.V.Denot). Splits t c.args.from c.args.allowance c.args.blocks
+    (seen c.part_of.new.desk c.hand_over.new.slots.items c.self.inside.pile) (seen c.in-Ok.part.desk c.hand_over.new.to.items c.in-Ok.part.pile)) c.self.view_is
+    record { desks = parts g c; slots = c.hand_over.ensures; endings = (refl, c.in-Ok.ensures.empty) }
+
+pub returns-in-Ok-clause-fits : goal.returns-in-Ok-clause-fits
+returns-in-Ok-clause-fits g c =
+    subst (λ (t : TableNow g.row.V.Denot). IsTooMuch t.desk c.args.allowance (length (handles_from c.args.from t.slots)) → ⊥) c.self.view_is
+    (subst (λ (l : List Slot). IsTooMuch c.self.inside.desk c.args.allowance (length (handles_in l)) → ⊥)
+    (handed_from c.as_slice.result.now c.self.inside.slots.items c.args.from c.as_slice.ensures.value) c.in-Ok.ensures.fits)
