@@ -6,6 +6,9 @@ pub mod Lives
 pub mod Grows
 pub mod Pushes
 pub mod Looks
+pub mod Members
 pub mod Shrinks
 pub mod Sole
+pub mod Attached
 pub mod Calls
+pub mod Watches

@@ -40,7 +40,7 @@ use Rattle.scene_structures.proofs.Rows.{partings_put, puts_keep}
 use Rattle.scene_structures.proofs.Shrinks.{none_found, taken}
 
 -- a new object is none of a list
-fresh_apart : (s : State) (os : List ℕ) → AllLive s os → Apart (NextOf (suc s.made)) os
+pub fresh_apart : (s : State) (os : List ℕ) → AllLive s os → Apart (NextOf (suc s.made)) os
 fresh_apart s [] all = tt
 fresh_apart s (o ∷ os) all =
     (λ e. let t : Member o 1 ≡ Member (suc s.made) 1 = e in let n : o ≡ suc s.made = cc in let le = all.1 in absurd (omega arith), fresh_apart s os all.2)

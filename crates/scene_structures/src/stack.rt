@@ -24,7 +24,7 @@ use std::sync::Wait;
 const HANDLES: u32 = 6;
 
 /// Whether fewer than 6 handles are free.
-fn is_near_limit<V: Drop + Send>(desk: &Desk<V>) -> bool
+pub(crate) fn is_near_limit<V: Drop + Send>(desk: &Desk<V>) -> bool
     ensures { IsTrue result ↔ (allowance_of desk.now < held_of desk.now + 6) }
 {
     desk.stands();

@@ -1,0 +1,110 @@
+//! Observers in a free shared cell: a list of nodes, each of which watches a subject by a weak pointer (own).
+ghost use Rattle.std.specs.Prelude.{◌≡◌, ◌+◌, ◌<◌, [], IfErr, IfOk, OnOk};
+ghost use Rattle.control_word.specs.declared.event.Cell.TheVariants.{Free};
+ghost use Rattle.control_word.specs.declared.handle.Kind.TheVariants.{Owner};
+ghost use Rattle.control_block.specs.Desks.{Belongs, IsSameDesk, allowance_of, bag_of, endings_of, held_of, stock_of};
+ghost use Rattle.control_block.specs.Own.{IsSole};
+ghost use Rattle.control_block.specs.Refusals.{IsFullOrLimit};
+ghost use Rattle.shared_handle.specs.Calls.{Holds};
+ghost use Rattle.scene_structures.specs.Observers.{Attaches, IsAttached};
+ghost use Rattle.scene_structures.specs.Stacks.{StandsIn};
+
+use crate::attaching::watch;
+use crate::pushing::{Attempt, raise};
+use crate::stack::is_near_limit;
+use atomic_cells::SharedAt;
+use control_block::desk::Desk;
+use control_block::domain::Domain;
+use control_word::{Refusal, Refused};
+use shared_handle::{Pile, Shared, make};
+use std::alloc::Global;
+use std::marker::Model;
+use std::sync::Wait;
+
+/// A thread's own access to observers in a free shared cell: each node owns the one that was attached before it by its member
+/// `next`, and watches its subject by its member `up`. All that have the same cell share the observers.
+pub struct Observers<V: Drop + Send> {
+    cell: u32,
+    pile: Pile<V>,
+}
+
+impl<V: Drop + Send> Model for Observers<V> {
+    ghost use Rattle.std.specs.Prelude.{◌≡◌, [], vec_capacity};
+    ghost use Rattle.scene_structures.specs.Stacks.{StackNow};
+
+    ghost Value = { StackNow };
+
+    ghost view = { λ s. record { cell = s.cell; room = vec_capacity s.pile.endings } };
+
+    ghost invariant = { λ s. s.pile.endings.items ≡ [] };
+}
+
+impl<V: Drop + Send> Observers<V> {
+    /// The observers in a free shared cell of the domain, by its number from 0 (own). It makes room for the ends of as many
+    /// objects as there are blocks; no other call takes memory. Condition: the cell is one of the domain's. It is refused
+    /// `Memory` where a growth was really refused.
+    pub fn new(alloc: Global, domain: &Domain<V>, cell: u32) -> Result<Self, Refusal>
+        requires cell { cell < domain.now.shape.shared_cells }
+        ensures refused { IfErr result (λ why. why ≡ Refusal.Memory) }
+        ensures stands { IfOk result (λ s. (s.cell ≡ cell) × StandsIn s domain.now) }
+    {
+        let pile = Pile::new(alloc, domain)?;
+        Ok(Self { cell, pile })
+    }
+
+    /// A new node with fields 0 and an owned value, without the from-this flag, goes in front, and watches the subject (own).
+    /// It waits while others change the cell. It is refused `Limit` just where fewer than 6 handles are free, and else `Full`
+    /// just where the desk's store is empty: then the value comes back, and nothing changes. Condition: no object ends in the
+    /// desk's hands.
+    pub fn attach<R: Wait>(
+        &mut self,
+        rt: &R,
+        domain: &Domain<V>,
+        desk: &mut Desk<V>,
+        subject: &Shared,
+        value: V,
+    ) -> Result<(), Refused<V>>
+        requires domain { Belongs desk.old domain.now }
+        requires stands { StandsIn self.old domain.now }
+        requires settled { endings_of desk.old ≡ 0 }
+        requires holds { Holds desk.old Owner subject.now.block subject.now.place }
+        ensures refusals { IsFullOrLimit (allowance_of desk.old < held_of desk.old + 6) (stock_of desk.old ≡ []) result }
+        ensures refused { IfErr result (λ r. (r.back ≡ value) × (desk.new ≡ desk.old)) }
+        ensures stands { (self.new.cell ≡ self.old.cell) × StandsIn self.new domain.now }
+        ensures settled { endings_of desk.new ≡ 0 }
+        ensures desk { IsSameDesk desk.old desk.new }
+        ensures bag { bag_of desk.new ≡ bag_of desk.old }
+        ensures held { desk.new.held ≡ desk.old.held }
+        ensures own { OnOk result (Attaches desk.old (Free self.old.cell) subject.now value desk.new) }
+        ensures list { OnOk result (IsSole desk.old → IsAttached desk.old (Free self.old.cell) subject.now desk.new) }
+    {
+        if is_near_limit(desk) {
+            return Err(Refused {
+                why: Refusal::Limit,
+                back: value,
+            });
+        }
+        desk.stands();
+        let node = make(domain, desk, [0; 4], false, value)?;
+        watch(domain, desk, &node, subject);
+        let Ok(top) = SharedAt::free(self.cell).load(rt, domain, desk) else {
+            unreachable!()
+        };
+        let cell = self.cell;
+        raise(
+            rt,
+            domain,
+            desk,
+            cell,
+            &mut self.pile,
+            Attempt { node, top },
+        );
+        Ok(())
+    }
+
+    /// The access is given up (own); the observers stay as they are.
+    pub fn close(self) {
+        let Self { cell: _, pile } = self;
+        pile.close();
+    }
+}
