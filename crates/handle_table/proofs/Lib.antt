@@ -1,6 +1,7 @@
 pub mod Filling
 pub mod Wholes
-pub mod Owned
+pub mod Celled
+pub mod Compared
 pub mod Emptied
 pub mod Visited
 pub mod Handing

@@ -1,6 +1,5 @@
 -- What the calls of a handle table say.
 use Rattle.std.specs.Prelude.{◌≡◌, ◌⊎◌, ℕ, ◌≤◌, Bool, false, true, is_some, List, [], ◌∷◌, length, slice_get, slice_set, Option, None, Some, Result, Err}
-use Rattle.control_word.specs.declared.event.Cell.TheVariants.{Free}
 use Rattle.control_word.specs.declared.handle.Kind.TheVariants as kind
 use Rattle.control_word.specs.declared.place.Block.{Block}
 use Rattle.control_word.specs.declared.place.Place.{Place}
@@ -18,7 +17,6 @@ use Rattle.shared_handle.specs.Piles.{AreRounds, Drops, EndsTop, Past}
 use Rattle.shared_handle.specs.declared.endings.Ending.{Ending}
 use Rattle.shared_handle.specs.declared.pile.Gone.{Gone}
 use Rattle.shared_handle.specs.declared.pile.Gone.TheVariants as gone
-use Rattle.atomic_cells.specs.Cells as cells
 use Rattle.handle_table.specs.declared.fault.Fault.{Fault}
 use Rattle.handle_table.specs.declared.fault.Fault.TheVariants as fault
 use Rattle.handle_table.specs.Tables.{IsAt, Slot, TableNow}
@@ -129,35 +127,6 @@ module _ {V : Type 0} where
 
   abbrev pub WhyNotLocked : TableNow V → ℕ → ℕ → Fault → Type 0
   WhyNotLocked t from to why = IsNoSlot t.slots to why ⊎ (WhyNoWeak t.slots from why ⊎ IsAtLimit t why)
-
-  -- a copy of what a free shared cell holds ([util.smartptr.atomic.shared])
-  abbrev pub Loads : TableNow V → ℕ → ℕ → TableNow V → Type 0
-  Loads t cell to u = Comes (IsOwner (λ d h e. cells.Loads d (Free cell) kind.Owner h.block h.place e)) t to u
-
-  abbrev pub IsNoCell : TableNow V → ℕ → Fault → Type 0
-  IsNoCell t cell why = (why ≡ fault.Cell) × (t.desk.shape.shared_cells ≤ cell)
-
-  abbrev pub WhyNotLoaded : TableNow V → ℕ → ℕ → Fault → Type 0
-  WhyNotLoaded t cell to why = IsNoSlot t.slots to why ⊎ (IsNoCell t cell why ⊎ IsAtLimit t why)
-
-  -- an owner went from its slot into a free shared cell, and what that held left
-  pub record Stores (t : TableNow V) (from cell : ℕ) (gone : Gone) (u : TableNow V) : Type 0 where
-    pub of : Shared
-    pub at : IsAt t from (Owner of)
-    pub old : Shared
-    pub between : DeskNow V
-    pub exchanges : cells.Exchanges t.desk (Free cell) kind.Owner of.block of.place old.block old.place between
-    pub leaves : Drops between t.endings old.block old.place gone u.desk u.endings
-    pub slots : u.slots ≡ slice_set t.slots from None
-
-  -- an owner went from its slot into a free shared cell, and what that held came into the slot
-  pub record Exchanges (t : TableNow V) (i cell : ℕ) (u : TableNow V) : Type 0 where
-    pub of : Shared
-    pub at : IsAt t i (Owner of)
-    pub old : Shared
-    pub between : DeskNow V
-    pub exchanges : cells.Exchanges t.desk (Free cell) kind.Owner of.block of.place old.block old.place between
-    pub assigns : Assigns between (slice_set t.slots i None) t.endings i (Owner old) u.desk u.slots u.endings
 
   -- a handle left its slot and the desk
   pub record Resets (t : TableNow V) (at : ℕ) (gone : Gone) (u : TableNow V) : Type 0 where

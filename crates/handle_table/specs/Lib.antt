@@ -1,6 +1,7 @@
 pub mod Tables
 pub mod Calls
-pub mod Members
+pub mod Cells
+pub mod Compares
 pub mod This
 pub mod Handles
 pub mod Pairs

@@ -1,84 +1,135 @@
-//! Cells that all tables of the domain share.
-ghost use Rattle.std.specs.Prelude.{◌≡◌, ◌⊎◌, IfErr, IfOk, OnOk};
-ghost use Rattle.handle_table.specs.Calls.{Exchanges, IsNoCell, Loads, Stores, WhyNoOwner, WhyNotLoaded};
+//! Cells: where a pointer lies that any thread loads, stores and exchanges.
+ghost use Rattle.std.specs.Prelude.{◌≡◌, IfErr, IfOk};
+ghost use Rattle.atomic_cells.specs.Sites.{IsMember, number_of};
+ghost use Rattle.control_word.specs.declared.place.Block.{Block};
+ghost use Rattle.control_block.specs.CellCalls.{IsOpenAt};
+ghost use Rattle.control_block.specs.Desks.{Belongs};
+ghost use Rattle.control_block.specs.declared.cell_calls.Site.{Site};
+ghost use Rattle.control_block.specs.declared.cell_calls.Site.TheVariants as site;
+ghost use Rattle.handle_table.specs.Cells.{IsCell, OwnsInto, WhyNoCell, WhyNoObject, kind_in};
+ghost use Rattle.handle_table.specs.Tables.{Fits};
 
-use crate::assigning::assign;
 use crate::fault::Fault;
-use crate::slots::take_owner;
-use crate::table::{HandleTable, Home};
-use atomic_cells::SharedAt;
-use shared_handle::{Gone, Held, drop_shared};
-use std::sync::Wait;
+use crate::slots::owner_at;
+use atomic_cells::SharedMember;
+use control_block::cell_calls::{CellAt, Site};
+use control_block::desk::Desk;
+use control_block::domain::Domain;
+use control_word::handle::Kind;
+use control_word::{Block, Refusal};
+use shared_handle::{Held, Shared};
 
-impl<'d, V: Drop + Send, H: Home> HandleTable<'d, V, H> {
-    /// A copy of what a free shared cell holds is assigned to a slot ([util.smartptr.atomic.shared]). What lay there leaves.
-    pub fn load<R: Wait>(&mut self, rt: &R, cell: u32, to: usize) -> Result<(), Fault>
-        ensures loaded { OnOk result (Loads self.old cell to self.new) }
-        ensures refused { IfErr result (λ why. WhyNotLoaded self.old cell to why × (self.new ≡ self.old)) }
+/// A cell ([util.smartptr.atomic.shared], [util.smartptr.atomic.weak]): a free one by its number from 0 among those of its
+/// kind, or a member of the object that the owner in slot `of` owns and points into (own).
+#[derive(Clone, Copy, Drop)]
+pub enum Cell {
+    /// A free cell of owners.
+    Shared(u32),
+    /// A free cell of weak handles.
+    Weak(u32),
+    /// One of the two members that hold owners.
+    Member { of: usize, which: SharedMember },
+    /// The member `up`, which holds a weak handle.
+    Up { of: usize },
+}
+
+impl Cell {
+    /// The kind of its handles.
+    pub(crate) fn kind(self) -> Kind
+        ensures { result ≡ kind_in self }
     {
-        if to >= self.slots.len() {
-            return Err(Fault::Slot);
+        match self {
+            Cell::Shared(_) => Kind::Owner,
+            Cell::Weak(_) => Kind::Weak,
+            Cell::Member { of: _, which: _ } => Kind::Owner,
+            Cell::Up { of: _ } => Kind::Weak,
         }
-        if cell >= self.domain.shared_cells() {
-            return Err(Fault::Cell);
-        }
-        match SharedAt::free(cell).load(rt, self.domain, &mut self.desk) {
-            Ok(owner) => {
-                let owner = Held::Owner(owner);
-                assign(
-                    self.domain,
-                    &mut self.desk,
-                    &mut self.slots,
-                    &mut self.pile,
-                    to,
-                    owner,
-                );
-                Ok(())
+    }
+}
+
+/// The number of a member.
+fn number(which: SharedMember) -> u32
+    ensures { result ≡ number_of which }
+{
+    match which {
+        SharedMember::First => 0,
+        SharedMember::Next => 1,
+    }
+}
+
+/// The block of the object that the owner owns and points into.
+fn block_within(owner: &Shared) -> Result<Block, Refusal>
+    ensures { IsMember (λ b (found : Block). found ≡ b) owner.now.block owner.now.place result }
+{
+    let Some(place) = owner.place() else {
+        return Err(Refusal::Null);
+    };
+    if owner.block() != Some(place.block) {
+        return Err(Refusal::Outside);
+    }
+    Ok(place.block)
+}
+
+/// A member of the object that the owner in the slot owns and points into.
+fn member_at(slots: &Vec<Option<Held>>, of: usize, member: u32) -> Result<Site, Fault>
+    ensures found { IfOk result (λ s. (b : Block) × OwnsInto slots.now.items of b × (s ≡ site.Member b member)) }
+    ensures fault { IfErr result (WhyNoObject slots.now.items of) }
+{
+    let owner = match owner_at(slots, of) {
+        Ok(owner) => owner,
+        Err(why) => return Err(why),
+    };
+    match block_within(owner) {
+        Ok(block) => Ok(Site::Member(block, member)),
+        Err(why) => Err(Fault::Call(why)),
+    }
+}
+
+/// Where the cell is.
+fn site_of<V: Drop + Send>(
+    domain: &Domain<V>,
+    slots: &Vec<Option<Held>>,
+    cell: Cell,
+) -> Result<Site, Fault>
+    ensures found { IfOk result (IsCell domain.now.shape slots.now.items cell) }
+    ensures fault { IfErr result (WhyNoCell domain.now.shape slots.now.items cell) }
+{
+    match cell {
+        Cell::Shared(index) => {
+            if index >= domain.shared_cells() {
+                return Err(Fault::Cell);
             }
-            Err(why) => Err(Fault::Call(why)),
+            Ok(Site::Free(index))
         }
+        Cell::Weak(index) => {
+            if index >= domain.weak_cells() {
+                return Err(Fault::Cell);
+            }
+            Ok(Site::Free(domain.shared_cells() + index))
+        }
+        Cell::Member { of, which } => member_at(slots, of, number(which)),
+        Cell::Up { of } => member_at(slots, of, 2),
     }
+}
 
-    /// An owner goes out of its slot into a free shared cell, and what the cell held leaves ([util.smartptr.atomic.shared]). The
-    /// slot is vacant then.
-    pub fn store(&mut self, from: usize, cell: u32) -> Result<Gone, Fault>
-        ensures stored { IfOk result (λ gone. Stores self.old from cell gone self.new) }
-        ensures refused { IfErr result (λ why. (IsNoCell self.old cell why ⊎ WhyNoOwner self.old.slots from why) × (self.new ≡ self.old)) }
-    {
-        if cell >= self.domain.shared_cells() {
-            return Err(Fault::Cell);
-        }
-        let new = match take_owner(&mut self.slots, from) {
-            Ok(owner) => owner,
-            Err(why) => return Err(why),
-        };
-        let old = SharedAt::free(cell).exchange(self.domain, &mut self.desk, new);
-        Ok(drop_shared(self.domain, &mut self.desk, &mut self.pile, old))
-    }
-
-    /// An owner goes out of its slot into a free shared cell, and what the cell held comes into the slot, in one step on the
-    /// cell ([util.smartptr.atomic.shared]).
-    pub fn exchange(&mut self, at: usize, cell: u32) -> Result<(), Fault>
-        ensures exchanged { OnOk result (Exchanges self.old at cell self.new) }
-        ensures refused { IfErr result (λ why. (IsNoCell self.old cell why ⊎ WhyNoOwner self.old.slots at why) × (self.new ≡ self.old)) }
-    {
-        if cell >= self.domain.shared_cells() {
-            return Err(Fault::Cell);
-        }
-        let new = match take_owner(&mut self.slots, at) {
-            Ok(owner) => owner,
-            Err(why) => return Err(why),
-        };
-        let site = SharedAt::free(cell);
-        let old = Held::Owner(site.exchange(self.domain, &mut self.desk, new));
-        assign(
-            self.domain,
-            &mut self.desk,
-            &mut self.slots,
-            &mut self.pile,
-            at,
-            old,
-        );
-        Ok(())
+/// The cell, which is open to the desk.
+pub(crate) fn find<V: Drop + Send>(
+    domain: &Domain<V>,
+    desk: &Desk<V>,
+    slots: &Vec<Option<Held>>,
+    cell: Cell,
+) -> Result<CellAt, Fault>
+    requires domain { Belongs desk.now domain.now }
+    requires fits { Fits desk.now slots.now.items }
+    ensures found { IfOk result (λ at. IsCell desk.now.shape slots.now.items cell at.site × (at.kind ≡ kind_in cell)) }
+    ensures open { IfOk result (λ at. IsOpenAt desk.now at.site at.kind) }
+    ensures fault { IfErr result (WhyNoCell desk.now.shape slots.now.items cell) }
+{
+    match site_of(domain, slots, cell) {
+        Ok(site) => Ok(CellAt {
+            site,
+            kind: cell.kind(),
+        }),
+        Err(why) => Err(why),
     }
 }

@@ -2,14 +2,17 @@
 #![tactic(auto)]
 
 mod assigning;
+mod cell_calls;
+mod cell_compares;
 mod cells;
 mod copying;
 mod empties;
 mod fault;
+mod held_cells;
+mod kinds;
 mod leaving;
 mod locking;
 mod making;
-mod members;
 mod pairs;
 mod parting;
 mod program;
@@ -21,6 +24,7 @@ mod upgrading;
 mod visiting;
 
 pub use atomic_cells::SharedMember;
+pub use cells::Cell;
 pub use fault::{Fault, Returned};
 pub use program::{Program, Ran, Team, run};
 pub use shared_handle::Gone;

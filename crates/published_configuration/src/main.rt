@@ -2,13 +2,13 @@
 #![tactic(auto)]
 
 use control_word::Shape;
-use handle_table::{HandleTable, Home, Program, Team, run};
+use handle_table::{Cell, HandleTable, Home, Program, Team, run};
 use std::io;
 use std::sync::Wait;
 use std::thread::Threads;
 
 /// The cell with the current configuration.
-const CURRENT: u32 = 0;
+const CURRENT: Cell = Cell::Shared(0);
 
 /// Publishes so many versions: the last that went out.
 fn publish<H: Home, R: Wait>(

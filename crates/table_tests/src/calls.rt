@@ -1,6 +1,6 @@
 //! Each call once, where nothing is refused.
 use control_word::Shape;
-use handle_table::{Gone, HandleTable, Home, Program, Team, run};
+use handle_table::{Cell, Gone, HandleTable, Home, Program, Team, run};
 use std::process::Abort;
 use std::sync::Wait;
 use std::test::Fail;
@@ -18,12 +18,12 @@ impl<R: Abort + Threads + Wait + Sync> Program<u64, R> for Calls {
         assert!(rt; table.downgrade(0, 2).is_ok());
         assert_eq!(rt; table.expired(2), Ok(false));
         assert!(rt; table.move_to(1, 3).is_ok());
-        assert!(rt; table.store(3, 0).is_ok());
-        assert!(rt; table.load(rt, 0, 1).is_ok());
+        assert!(rt; table.store(3, Cell::Shared(0)).is_ok());
+        assert!(rt; table.load(rt, Cell::Shared(0), 1).is_ok());
         assert!(rt; matches!(table.reset(1), Ok(Gone::Others)));
         assert!(rt; table.make_null(3, 0).is_ok());
         assert!(rt; matches!(table.place(3), Ok(None)));
-        assert!(rt; table.store(3, 0).is_ok());
+        assert!(rt; table.store(3, Cell::Shared(0)).is_ok());
         assert!(rt; matches!(table.reset(0), Ok(Gone::Last)));
         assert_eq!(rt; table.end_next(), Some(7));
         assert_eq!(rt; table.expired(2), Ok(true));

@@ -1,6 +1,6 @@
 //! Each fault, at the last good value and at the next.
 use control_word::{Refusal, Shape};
-use handle_table::{Fault, HandleTable, Home, Program, Team, run};
+use handle_table::{Cell, Fault, HandleTable, Home, Program, Team, run};
 use std::process::Abort;
 use std::sync::Wait;
 use std::test::Fail;
@@ -22,8 +22,8 @@ impl<R: Abort + Threads + Wait + Sync> Program<u64, R> for Faults {
         assert_eq!(rt; table.downgrade(2, 1), Ok(()));
         assert_eq!(rt; table.downgrade(1, 0), Err(Fault::Kind));
         assert_eq!(rt; table.lock(rt, 2, 0), Err(Fault::Kind));
-        assert_eq!(rt; table.load(rt, 1, 0), Err(Fault::Cell));
-        assert_eq!(rt; table.load(rt, 0, 0), Ok(()));
+        assert_eq!(rt; table.load(rt, Cell::Shared(1), 0), Err(Fault::Cell));
+        assert_eq!(rt; table.load(rt, Cell::Shared(0), 0), Ok(()));
         assert_eq!(rt; table.copy(2, 0), Ok(()));
         match table.make(0, [0; 4], false, 8) {
             Ok(()) => assert!(rt; false),

@@ -4,6 +4,10 @@
 #[cfg(test)]
 mod calls;
 #[cfg(test)]
+mod cells;
+#[cfg(test)]
+mod compares;
+#[cfg(test)]
 mod faults;
 #[cfg(test)]
 mod looks;

@@ -1,6 +1,6 @@
 //! Pointers that an object gives to itself, owners that point elsewhere, and a cell whose owner is exchanged.
 use control_word::{Place, Refusal, Shape};
-use handle_table::{Fault, HandleTable, Home, Program, Team, run};
+use handle_table::{Cell, Fault, HandleTable, Home, Program, Team, run};
 use std::process::Abort;
 use std::sync::Wait;
 use std::test::Fail;
@@ -31,15 +31,15 @@ impl<R: Abort + Threads + Wait + Sync> Program<u64, R> for Pointers {
         assert_eq!(rt; table.read(1), Ok(3));
         assert_eq!(rt; table.alias(0, None, 1), Ok(()));
         assert_eq!(rt; table.read(1), Err(Fault::Call(Refusal::Null)));
-        assert_eq!(rt; table.exchange(1, 1), Err(Fault::Cell));
-        assert_eq!(rt; table.exchange(1, 0), Ok(()));
+        assert_eq!(rt; table.exchange(1, Cell::Shared(1)), Err(Fault::Cell));
+        assert_eq!(rt; table.exchange(1, Cell::Shared(0)), Ok(()));
         assert_eq!(rt; table.use_count(1), Ok(0));
         assert!(rt; table.make(1, [5; 4], false, 8).is_ok());
         assert_eq!(rt;
             table.shared_from_this(1, 2),
             Err(Fault::Call(Refusal::NotEnabled))
         );
-        assert_eq!(rt; table.exchange(1, 0), Ok(()));
+        assert_eq!(rt; table.exchange(1, Cell::Shared(0)), Ok(()));
     }
 }
 

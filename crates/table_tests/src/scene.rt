@@ -1,6 +1,6 @@
 //! A scene tree: a node owns its first child, and each child the next one. Dropping the root ends all.
 use control_word::Shape;
-use handle_table::{HandleTable, Home, Program, SharedMember, Team, run};
+use handle_table::{Cell, HandleTable, Home, Program, SharedMember, Team, run};
 use std::process::Abort;
 use std::sync::Wait;
 use std::test::Fail;
@@ -13,16 +13,23 @@ const CHILD: usize = 1;
 
 const NEXT: usize = 2;
 
+/// The root's first child, and the child after a new one.
+const FIRST: Cell = Cell::Member {
+    of: ROOT,
+    which: SharedMember::First,
+};
+
+const AFTER: Cell = Cell::Member {
+    of: CHILD,
+    which: SharedMember::Next,
+};
+
 /// A new child of the root, before the others; whether it is there.
 fn add_child<H: Home, R: Wait>(rt: &R, table: &mut HandleTable<'_, u64, H>, name: u64) -> bool {
     table.make(CHILD, [name, 0, 0, 0], false, name).is_ok()
-        && table
-            .load_member(rt, ROOT, SharedMember::First, NEXT)
-            .is_ok()
-        && table.store_member(NEXT, CHILD, SharedMember::Next).is_ok()
-        && table.store_member(CHILD, ROOT, SharedMember::First).is_ok()
-        && table.reset(CHILD).is_ok()
-        && table.reset(NEXT).is_ok()
+        && table.load(rt, FIRST, NEXT).is_ok()
+        && table.store(NEXT, AFTER).is_ok()
+        && table.store(CHILD, FIRST).is_ok()
 }
 
 struct Scene;

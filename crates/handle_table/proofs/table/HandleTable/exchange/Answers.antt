@@ -1,46 +1,60 @@
-use Rattle.std.proofs.Common.{◌∷◌, ◌∙◌, List, Some, ap, inr, subst, sym}
-use Rattle.control_word.specs.declared.handle.Kind.TheVariants as kind
-use Rattle.control_block.specs.declared.handles.Held.TheVariants.{Owner}
+use Rattle.std.proofs.Common.{◌∷◌, ◌∙◌, List, Some, ap, inl, inr, refl, subst, sym}
+use Rattle.control_word.specs.declared.handle.Kind.{Kind}
+use Rattle.control_block.specs.CellCalls.{cell_at}
 use Rattle.atomic_cells.specs.Cells as cells
-use Rattle.atomic_cells.specs.Sites.{shared_cell}
-use Rattle.atomic_cells.specs.declared.sites.SharedSite.{SharedSite}
-use Rattle.handle_table.specs.Calls.{Assigns, Exchanges, WhyNoOwner}
+use Rattle.handle_table.specs.Calls.{Assigns}
+use Rattle.handle_table.specs.Cells.{Exchanges, WhyNoneOf, WhyNotSwapped}
+use Rattle.handle_table.specs.Parts.{owned_by, place_of}
 use Rattle.handle_table.specs.Tables.{Fits, Slot, TableNow, on_pile}
 use Rattle.handle_table.proofs.Filling.{fits_at, fits_exchange, fits_out}
 use Rattle.handle_table.proofs.Wholes.{kept, seen}
 use Rattle.handle_table.proofs.table.HandleTable.exchange.Goals as goal
 
 pub returns-in-Err-clause-refused : goal.returns-in-Err-clause-refused
-returns-in-Err-clause-refused g c = (
-  inr (subst (λ (t : TableNow g.row.V.Denot). WhyNoOwner t.slots c.args.at c.in-Err.why) c.self.view_is c.in-Err.ensures.fault.0),
-  ap (λ (l : List Slot). seen c.self.inside.desk l c.self.inside.pile) c.in-Err.ensures.fault.1 ∙ c.self.view_is,
-)
+returns-in-Err-clause-refused g c =
+    (subst (λ (t : TableNow g.row.V.Denot). WhyNotSwapped t c.args.at c.args.cell c.in-Err.why) c.self.view_is (inl c.in-Err.ensures.fault), refl)
 
-pub exchange-requires-clause-holds : goal.exchange-requires-clause-holds
-exchange-requires-clause-holds g c κs within =
-    fits_at c.self.inside.desk c.self.inside.slots.items c.args.at (Owner c.in-Ok.owner) c.self.invariant.fits c.in-Ok.ensures.taken.0
+pub returns-in-Err-take_kind-clause-refused : goal.returns-in-Err-take_kind-clause-refused
+returns-in-Err-take_kind-clause-refused g c =
+    let why = c.in-Err-take_kind.why in let r = c.in-Err-take_kind.ensures.fault in let ss = c.self.inside.slots.items in (
+      subst (λ (t : TableNow g.row.V.Denot). WhyNotSwapped t c.args.at c.args.cell why) c.self.view_is
+          (inr (subst (λ (k : Kind). WhyNoneOf k ss c.args.at why) c.in-Ok.ensures.found.1 r.0)),
+      ap (λ (l : List Slot). seen c.self.inside.desk l c.self.inside.pile) r.1 ∙ c.self.view_is,
+    )
+
+pub exchange_held-old-requires-clause-held : goal.exchange_held-old-requires-clause-held
+exchange_held-old-requires-clause-held g c κs within =
+    let t = c.in-Ok-take_kind.ensures.taken in
+    (fits_at c.self.inside.desk c.self.inside.slots.items c.args.at c.in-Ok-take_kind.new c.self.invariant.fits t.0, t.1)
 
 pub assign-requires-clause-bears : goal.assign-requires-clause-bears
 assign-requires-clause-bears g c κs within =
-    kept c.self.inside.domain.now c.self.inside.desk c.exchange.new.desk c.self.inside.pile c.self.invariant.bears c.exchange.ensures.keeps
+    kept c.self.inside.domain.now c.self.inside.desk c.exchange_held-old.new.desk c.self.inside.pile c.self.invariant.bears c.exchange_held-old.ensures.keeps
 
 pub assign-requires-clause-fits : goal.assign-requires-clause-fits
 assign-requires-clause-fits g c κs within =
-    let t = c.in-Ok.ensures.taken in let m = c.exchange in
-    subst (λ (l : List Slot). Fits m.new.desk (Some (Owner m.result) ∷ l)) (sym t.1)
-    (fits_exchange c.self.inside.desk m.new.desk _ (Owner c.in-Ok.owner) (Owner m.result)
-    (fits_out c.self.inside.desk c.self.inside.slots.items c.args.at (Owner c.in-Ok.owner) c.self.invariant.fits t.0) m.ensures.bag m.ensures.held)
+    let t = c.in-Ok-take_kind.ensures.taken in let m = c.exchange_held-old in let x = c.in-Ok-take_kind.new in
+    subst (λ (l : List Slot). Fits m.new.desk (Some m.result ∷ l)) (sym t.2)
+    (fits_exchange c.self.inside.desk m.new.desk _ x m.result
+    (fits_out c.self.inside.desk c.self.inside.slots.items c.args.at x c.self.invariant.fits t.0) m.ensures.bag m.ensures.held)
 
 pub returns-clause-exchanged : goal.returns-clause-exchanged
 returns-clause-exchanged g c =
-    let t = c.in-Ok.ensures.taken in let m = c.exchange in let d = c.self.inside.desk in let h = c.in-Ok.owner in
+    let at = c.in-Ok.there in let k = c.in-Ok.ensures.found.1 in let t = c.in-Ok-take_kind.ensures.taken in let x = c.in-Ok-take_kind.new in
+    let m = c.exchange_held-old in let d = c.self.inside.desk in
     subst (λ (u : TableNow g.row.V.Denot). Exchanges u c.args.at c.args.cell (seen c.assign.new.desk c.assign.new.slots.items c.assign.new.pile)) c.self.view_is
     record {
-      of = h;
-      at = t.0;
       old = m.result;
       between = m.new.desk;
-      exchanges = subst (λ (s : SharedSite). cells.Exchanges d (shared_cell d s) kind.Owner h.block h.place m.result.block m.result.place m.new.desk) c.free-site.ensures m.ensures.event;
-      assigns = subst (λ (l : List Slot). Assigns m.new.desk l (on_pile c.self.inside.pile) c.args.at (Owner m.result) c.assign.new.desk
-          c.assign.new.slots.items (on_pile c.assign.new.pile)) t.1 c.assign.ensures.assigns;
+      swaps = record {
+        site = at.site;
+        is = c.in-Ok.ensures.found.0;
+        of = x;
+        at = t.0;
+        kinds = (t.1 ∙ k, m.ensures.kind ∙ k);
+        exchanges = subst (λ (z : Kind). cells.Exchanges d (cell_at d at.site) z (owned_by x) (place_of x) (owned_by m.result) (place_of m.result) m.new.desk)
+            k m.ensures.event;
+      };
+      assigns = subst (λ (l : List Slot). Assigns m.new.desk l (on_pile c.self.inside.pile) c.args.at m.result c.assign.new.desk
+          c.assign.new.slots.items (on_pile c.assign.new.pile)) t.2 c.assign.ensures.assigns;
     }

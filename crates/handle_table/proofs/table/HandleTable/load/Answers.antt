@@ -1,29 +1,48 @@
-use Rattle.std.proofs.Common.{refl, subst}
-use Rattle.control_word.specs.declared.handle.Kind.TheVariants as kind
-use Rattle.control_block.specs.declared.handles.Held.TheVariants.{Owner}
+use Rattle.std.proofs.Common.{◌∙◌, ap, inl, inr, refl, subst}
+use Rattle.control_word.specs.declared.handle.Kind.{Kind}
+use Rattle.control_block.specs.CellCalls.{cell_at}
+use Rattle.control_block.specs.Desks.{DeskNow}
 use Rattle.atomic_cells.specs.Cells as cells
-use Rattle.atomic_cells.specs.Sites.{shared_cell}
-use Rattle.atomic_cells.specs.declared.sites.SharedSite.{SharedSite}
-use Rattle.handle_table.specs.Calls.{Loads}
+use Rattle.handle_table.specs.Cells.{Loads, WhyNotLoaded}
+use Rattle.handle_table.specs.Parts.{owned_by, place_of}
 use Rattle.handle_table.specs.Tables.{TableNow}
+use Rattle.handle_table.specs.declared.fault.Fault.TheVariants as fault
+use Rattle.handle_table.proofs.Filling.{fits_more}
 use Rattle.handle_table.proofs.Wholes.{kept, seen}
 use Rattle.handle_table.proofs.table.HandleTable.load.Goals as goal
 
+pub returns-in-Err-clause-refused : goal.returns-in-Err-clause-refused
+returns-in-Err-clause-refused g c =
+    (subst (λ (t : TableNow g.row.V.Denot). WhyNotLoaded t c.args.cell c.args.to c.in-Err.why) c.self.view_is (inr (inl c.in-Err.ensures.fault)), refl)
+
 pub assign-requires-clause-bears : goal.assign-requires-clause-bears
 assign-requires-clause-bears g c κs within =
-    kept c.self.inside.domain.now c.self.inside.desk c.load.new.desk c.self.inside.pile c.self.invariant.bears c.in-Ok.ensures.keeps
+    kept c.self.inside.domain.now c.self.inside.desk c.load_held.new.desk c.self.inside.pile c.self.invariant.bears c.in-Ok-load_held.ensures.keeps
 
-pub returns-in-Ok-clause-loaded : goal.returns-in-Ok-clause-loaded
-returns-in-Ok-clause-loaded g c =
+pub assign-requires-clause-fits : goal.assign-requires-clause-fits
+assign-requires-clause-fits g c κs within =
+    let e = c.in-Ok-load_held.ensures in
+    fits_more c.self.inside.desk c.load_held.new.desk c.self.inside.slots.items c.in-Ok-load_held.found c.self.invariant.fits e.bag e.held
+
+pub returns-in-Ok-load_held-clause-loaded : goal.returns-in-Ok-load_held-clause-loaded
+returns-in-Ok-load_held-clause-loaded g c =
+    let at = c.in-Ok.at in let k = c.in-Ok.ensures.found.1 in let h = c.in-Ok-load_held.found in let e = c.in-Ok-load_held.ensures in let d = c.self.inside.desk in
     subst (λ (t : TableNow g.row.V.Denot). Loads t c.args.cell c.args.to (seen c.assign.new.desk c.assign.new.slots.items c.assign.new.pile)) c.self.view_is
     record {
-      handle = Owner c.in-Ok.owner;
-      between = c.load.new.desk;
-      comes = record {
-        owner = c.in-Ok.owner;
-        is = refl;
-        event = subst (λ (s : SharedSite). cells.Loads c.self.inside.desk (shared_cell c.self.inside.desk s) kind.Owner c.in-Ok.owner.block c.in-Ok.owner.place c.load.new.desk)
-            c.free.ensures c.in-Ok.ensures.event;
+      site = at.site;
+      is = c.in-Ok.ensures.found.0;
+      loads = record {
+        handle = h;
+        between = c.load_held.new.desk;
+        comes = (e.kind ∙ k, subst (λ (z : Kind). cells.Loads d (cell_at d at.site) z (owned_by h) (place_of h) c.load_held.new.desk) k e.event);
+        assigns = c.assign.ensures.assigns;
       };
-      assigns = c.assign.ensures.assigns;
     }
+
+pub returns-in-Err-load_held-clause-refused : goal.returns-in-Err-load_held-clause-refused
+returns-in-Err-load_held-clause-refused g c =
+    let r = c.in-Err-load_held.ensures.refused in (
+      subst (λ (t : TableNow g.row.V.Denot). WhyNotLoaded t c.args.cell c.args.to (fault.Call c.in-Err-load_held.why)) c.self.view_is
+          (inr (inr (ap fault.Call r.0, r.1))),
+      ap (λ (d : DeskNow g.row.V.Denot). seen d c.self.inside.slots.items c.self.inside.pile) r.2 ∙ c.self.view_is,
+    )

@@ -1,49 +1,69 @@
-use Rattle.std.proofs.Common.{◌∙◌, List, ap, inr, subst}
-use Rattle.control_word.specs.declared.handle.Kind.TheVariants as kind
-use Rattle.control_block.specs.declared.handles.Held.TheVariants.{Owner}
+use Rattle.std.proofs.Common.{◌∙◌, List, ap, inl, inr, refl, subst}
+use Rattle.control_word.specs.declared.handle.Kind.{Kind}
+use Rattle.control_block.specs.CellCalls.{cell_at}
 use Rattle.atomic_cells.specs.Cells as cells
-use Rattle.atomic_cells.specs.Sites.{shared_cell}
-use Rattle.atomic_cells.specs.declared.sites.SharedSite.{SharedSite}
-use Rattle.handle_table.specs.Calls.{Stores, WhyNoOwner}
+use Rattle.handle_table.specs.Cells.{Stores, WhyNoneOf, WhyNotSwapped}
+use Rattle.handle_table.specs.Parts.{owned_by, place_of}
 use Rattle.handle_table.specs.Tables.{Slot, TableNow}
-use Rattle.handle_table.proofs.Filling.{fits_at}
+use Rattle.handle_table.proofs.Filling.{fits_at, fits_exchange, fits_out}
 use Rattle.handle_table.proofs.Wholes.{fits_stored, kept, seen}
 use Rattle.handle_table.proofs.table.HandleTable.store.Goals as goal
 
 pub returns-in-Err-clause-refused : goal.returns-in-Err-clause-refused
-returns-in-Err-clause-refused g c = (
-  inr (subst (λ (t : TableNow g.row.V.Denot). WhyNoOwner t.slots c.args.from c.in-Err.why) c.self.view_is c.in-Err.ensures.fault.0),
-  ap (λ (l : List Slot). seen c.self.inside.desk l c.self.inside.pile) c.in-Err.ensures.fault.1 ∙ c.self.view_is,
-)
+returns-in-Err-clause-refused g c =
+    (subst (λ (t : TableNow g.row.V.Denot). WhyNotSwapped t c.args.from c.args.cell c.in-Err.why) c.self.view_is (inl c.in-Err.ensures.fault), refl)
 
-pub exchange-old-requires-clause-holds : goal.exchange-old-requires-clause-holds
-exchange-old-requires-clause-holds g c κs within =
-    fits_at c.self.inside.desk c.self.inside.slots.items c.args.from (Owner c.in-Ok.owner) c.self.invariant.fits c.in-Ok.ensures.taken.0
+pub returns-in-Err-take_kind-clause-refused : goal.returns-in-Err-take_kind-clause-refused
+returns-in-Err-take_kind-clause-refused g c =
+    let why = c.in-Err-take_kind.why in let r = c.in-Err-take_kind.ensures.fault in let ss = c.self.inside.slots.items in (
+      subst (λ (t : TableNow g.row.V.Denot). WhyNotSwapped t c.args.from c.args.cell why) c.self.view_is
+          (inr (subst (λ (k : Kind). WhyNoneOf k ss c.args.from why) c.in-Ok.ensures.found.1 r.0)),
+      ap (λ (l : List Slot). seen c.self.inside.desk l c.self.inside.pile) r.1 ∙ c.self.view_is,
+    )
 
-pub drop_shared-requires-clause-bears : goal.drop_shared-requires-clause-bears
-drop_shared-requires-clause-bears g c κs within =
-    kept c.self.inside.domain.now c.self.inside.desk c.exchange-old.new.desk c.self.inside.pile c.self.invariant.bears c.exchange-old.ensures.keeps
+pub exchange_held-old-requires-clause-held : goal.exchange_held-old-requires-clause-held
+exchange_held-old-requires-clause-held g c κs within =
+    let t = c.in-Ok-take_kind.ensures.taken in
+    (fits_at c.self.inside.desk c.self.inside.slots.items c.args.from c.in-Ok-take_kind.new c.self.invariant.fits t.0, t.1)
+
+pub let_go-requires-clause-bears : goal.let_go-requires-clause-bears
+let_go-requires-clause-bears g c κs within =
+    kept c.self.inside.domain.now c.self.inside.desk c.exchange_held-old.new.desk c.self.inside.pile c.self.invariant.bears c.exchange_held-old.ensures.keeps
+
+pub let_go-requires-clause-held : goal.let_go-requires-clause-held
+let_go-requires-clause-held g c κs within =
+    let x = c.in-Ok-take_kind.new in let m = c.exchange_held-old in
+    fits_at m.new.desk _ 0 m.result
+    (fits_exchange c.self.inside.desk m.new.desk _ x m.result
+    (fits_out c.self.inside.desk c.self.inside.slots.items c.args.from x c.self.invariant.fits c.in-Ok-take_kind.ensures.taken.0) m.ensures.bag m.ensures.held) refl
 
 pub invariant_of-self-2 : goal.invariant_of-self-2
 invariant_of-self-2 g c =
-    let w = c.self.invariant in let t = c.in-Ok.ensures.taken in let m = c.exchange-old in let e = c.drop_shared.ensures in
+    let w = c.self.invariant in let t = c.in-Ok-take_kind.ensures.taken in let m = c.exchange_held-old in let e = c.let_go.ensures in
     record {
       home = w.home;
       bears = e.bears;
-      fits = fits_stored c.self.inside.desk m.new.desk c.drop_shared.new.desk c.self.inside.slots.items c.take_owner.new.slots.items c.args.from (Owner c.in-Ok.owner)
-          (Owner m.result) w.fits t.0 t.1 m.ensures.bag m.ensures.held e.bag e.held;
+      fits = fits_stored c.self.inside.desk m.new.desk c.let_go.new.desk c.self.inside.slots.items c.take_kind.new.slots.items c.args.from c.in-Ok-take_kind.new
+          m.result w.fits t.0 t.2 m.ensures.bag m.ensures.held e.bag e.held;
     }
 
 pub returns-clause-stored : goal.returns-clause-stored
 returns-clause-stored g c =
-    let t = c.in-Ok.ensures.taken in let m = c.exchange-old in let d = c.self.inside.desk in let h = c.in-Ok.owner in
-    subst (λ (u : TableNow g.row.V.Denot). Stores u c.args.from c.args.cell c.drop_shared.result (seen c.drop_shared.new.desk c.take_owner.new.slots.items c.drop_shared.new.pile)) c.self.view_is
+    let at = c.in-Ok.at in let k = c.in-Ok.ensures.found.1 in let t = c.in-Ok-take_kind.ensures.taken in let x = c.in-Ok-take_kind.new in
+    let m = c.exchange_held-old in let d = c.self.inside.desk in
+    subst (λ (u : TableNow g.row.V.Denot). Stores u c.args.from c.args.cell c.let_go.result (seen c.let_go.new.desk c.take_kind.new.slots.items c.let_go.new.pile)) c.self.view_is
     record {
-      of = h;
-      at = t.0;
       old = m.result;
       between = m.new.desk;
-      exchanges = subst (λ (s : SharedSite). cells.Exchanges d (shared_cell d s) kind.Owner h.block h.place m.result.block m.result.place m.new.desk) c.free.ensures m.ensures.event;
-      leaves = c.drop_shared.ensures.left;
-      slots = t.1;
+      swaps = record {
+        site = at.site;
+        is = c.in-Ok.ensures.found.0;
+        of = x;
+        at = t.0;
+        kinds = (t.1 ∙ k, m.ensures.kind ∙ k);
+        exchanges = subst (λ (z : Kind). cells.Exchanges d (cell_at d at.site) z (owned_by x) (place_of x) (owned_by m.result) (place_of m.result) m.new.desk)
+            k m.ensures.event;
+      };
+      leaves = c.let_go.ensures.left;
+      slots = t.2;
     }

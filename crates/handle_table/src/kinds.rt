@@ -1,0 +1,103 @@
+//! Handles of a wanted kind, and what a cell sees of a handle.
+ghost use Rattle.std.specs.Prelude.{◌≡◌, slice_get, slice_set, IfErr, IfOk, None, Some};
+ghost use Rattle.control_word.specs.declared.handle.Kind.TheVariants as kind;
+ghost use Rattle.handle_table.specs.Calls.{WhyNoOwner, WhyNoWeak};
+ghost use Rattle.handle_table.specs.Cells.{IsShown, WhyNoneOf};
+ghost use Rattle.handle_table.specs.Parts.{IsContent, kind_of};
+
+use crate::fault::Fault;
+use crate::slots::{owner_at, take_handle, weak_at};
+use control_block::cell_calls::Content;
+use control_block::handles::{Shared, Weak};
+use control_word::handle::Kind;
+use shared_handle::Held;
+
+/// The handle goes into a cell: this is what the cell gets.
+pub(crate) fn into_content(handle: Held) -> Content
+    ensures { IsContent handle result }
+{
+    match handle {
+        Held::Owner(owner) => {
+            let (block, place) = owner.into_parts();
+            Content {
+                kind: Kind::Owner,
+                block,
+                place,
+            }
+        }
+        Held::Weak(weak) => {
+            let (block, place) = weak.into_parts();
+            Content {
+                kind: Kind::Weak,
+                block,
+                place,
+            }
+        }
+    }
+}
+
+/// The handle that came out of a cell.
+pub(crate) fn held_of(content: Content) -> Held
+    ensures { IsContent result content }
+{
+    match content.kind {
+        Kind::Owner => Held::Owner(Shared::of_parts(content.block, content.place)),
+        Kind::Weak => Held::Weak(Weak::of_parts(content.block, content.place)),
+    }
+}
+
+/// What a cell sees of the owner in the slot.
+fn owner_content(slots: &Vec<Option<Held>>, at: usize) -> Result<Content, Fault>
+    ensures found { IfOk result (IsShown slots.now.items at kind.Owner) }
+    ensures fault { IfErr result (WhyNoOwner slots.now.items at) }
+{
+    match owner_at(slots, at) {
+        Ok(owner) => Ok(Content {
+            kind: Kind::Owner,
+            block: owner.block(),
+            place: owner.place(),
+        }),
+        Err(why) => Err(why),
+    }
+}
+
+/// And of the weak handle.
+fn weak_content(slots: &Vec<Option<Held>>, at: usize) -> Result<Content, Fault>
+    ensures found { IfOk result (IsShown slots.now.items at kind.Weak) }
+    ensures fault { IfErr result (WhyNoWeak slots.now.items at) }
+{
+    match weak_at(slots, at) {
+        Ok(weak) => Ok(Content {
+            kind: Kind::Weak,
+            block: weak.block(),
+            place: weak.place(),
+        }),
+        Err(why) => Err(why),
+    }
+}
+
+/// What a cell sees of the handle in the slot, which is of this kind.
+pub(crate) fn content_at(slots: &Vec<Option<Held>>, at: usize, kind: Kind) -> Result<Content, Fault>
+    ensures found { IfOk result (IsShown slots.now.items at kind) }
+    ensures fault { IfErr result (WhyNoneOf kind slots.now.items at) }
+{
+    match kind {
+        Kind::Owner => owner_content(slots, at),
+        Kind::Weak => weak_content(slots, at),
+    }
+}
+
+/// The handle in the slot, which is of this kind, goes out of it.
+pub(crate) fn take_kind(slots: &mut Vec<Option<Held>>, at: usize, kind: Kind) -> Result<Held, Fault>
+    ensures taken { IfOk result (λ h. (slice_get slots.old.items at ≡ Some (Some h)) × (kind_of h ≡ kind) × (slots.new.items ≡ slice_set slots.old.items at None)) }
+    ensures fault { IfErr result (λ why. WhyNoneOf kind slots.old.items at why × (slots.new.items ≡ slots.old.items)) }
+{
+    match content_at(slots, at, kind) {
+        Ok(_) => {}
+        Err(why) => return Err(why),
+    }
+    match take_handle(slots, at) {
+        Ok(handle) => Ok(handle),
+        Err(why) => Err(why),
+    }
+}
