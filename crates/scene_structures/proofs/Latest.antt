@@ -85,7 +85,7 @@ module _ {V : Type 0} where
   left_latest d e b p Others is = calls_keep_latest d _ e is.2
   left_latest d e b p (Last x) is = calls_keep_latest d _ e is.1
 
-  weak_latest : (d e : DeskNow V) (b : Option Block) (p : Option Place) (v : _) → LeavesWeakly d b p v e → KeepsLatest d e
+  pub weak_latest : (d e : DeskNow V) (b : Option Block) (p : Option Place) (v : _) → LeavesWeakly d b p v e → KeepsLatest d e
   weak_latest d e None p v is = λ k q c has. latest_none d e (ap (λ (u : DeskNow V). u.shape) is.0) (ap (λ (u : DeskNow V). u.seen) is.0) c
   weak_latest d e (Some b) p v is = calls_keep_latest d _ e is
 

@@ -1,11 +1,17 @@
 pub mod Hands
 pub mod Latest
+pub mod Sites
 pub mod Rows
 pub mod Frames
 pub mod Lives
+pub mod Heads
 pub mod Grows
 pub mod Pushes
 pub mod Looks
 pub mod Shrinks
 pub mod Sole
 pub mod Calls
+pub mod Hangs
+pub mod Adopting
+pub mod Alone
+pub mod Adopted

@@ -3,3 +3,4 @@ pub mod Puts
 pub mod Hands
 pub mod Stacks
 pub mod Pops
+pub mod Scenes
