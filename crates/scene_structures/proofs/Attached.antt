@@ -128,8 +128,8 @@ module _ {V : Type 0} where
       sym (ap (λ l. ((leads z l).object o).block) over ∙ (kept.0 ∙ made_b)) in
       let le : o ≤ (leads z M).made = subst (λ l. o ≤ (leads z l).made) (sym over) kept.1 in
       let done : IsList (leads z E) (Free m) (o ∷ os) =
-      risen z n o m q r.below r.was r.old r.weak r.before r.between r.after M os legal_me early r.leaves r.late lt
-      (fresh_apart s os lives) le block list_f in
+      risen z n o (Free m) q r.below r.was r.old r.weak r.before r.between r.after M os legal_me early r.leaves r.late (λ j e. cc e)
+      (let t = cells_led z M in omega arith) tt (fresh_apart s os lives) le block list_f in
       let end = chain_live z (leads z E) (Free m) (o ∷ os) (sound z E legal_me) (let t = cells_led z E in omega arith) done in
       let live_f = chain_live z (leads z M) (Free m) os (sound z M legal_f) (let t = cells_led z M in omega arith) list_f in
       let mine = member_run z n NoUp row M o 2 legal_me puts_r (λ f. f o refl) le end.0 in

@@ -123,7 +123,7 @@ module _ {V : Type 0} where
   keeps_after s d (Load c got) at o asks p not lives made = record { block = refl; next = refl }
   keeps_after s d (Visit h y w) at o asks p not lives made = record { block = refl; next = refl }
 
-  cell_after : (s : State) (d : ℕ) (x : Event V) (at : Cell → Type 0) (n : ℕ) → PutsOnly at x → (at (Free n) → ⊥) → (after s d x).cell n ≡ s.cell n
+  pub cell_after : (s : State) (d : ℕ) (x : Event V) (at : Cell → Type 0) (n : ℕ) → PutsOnly at x → (at (Free n) → ⊥) → (after s d x).cell n ≡ s.cell n
   cell_after s d (Swap (Free c) new old) at n p not = put_other s.cell c new n (λ e. not (subst (λ j. at (Free j)) (sym e) p))
   cell_after s d (Compare (Free c) ex new h true w) at n p not = put_other s.cell c new n (λ e. not (subst (λ j. at (Free j)) (sym e) p))
   cell_after s d (Swap (Member q m) new old) at n p not = refl
@@ -145,7 +145,7 @@ module _ {V : Type 0} where
   cell_after s d (Load c got) at n p not = refl
   cell_after s d (Visit h y w) at n p not = refl
 
-  all_kept : (s : State) (d : ℕ) (x : Event V) (at : Cell → Type 0) (os : List ℕ) → Asks s d x → PutsOnly at x → Apart at os → AllLive s os
+  pub all_kept : (s : State) (d : ℕ) (x : Event V) (at : Cell → Type 0) (os : List ℕ) → Asks s d x → PutsOnly at x → Apart at os → AllLive s os
       → AllKept s (after s d x) os
   all_kept s d x at [] asks p apart lives = tt
   all_kept s d x at (o ∷ os) asks p apart lives = (keeps_after s d x at o asks p apart.0 lives.0 lives.1, all_kept s d x at os asks p apart.1 lives.2)

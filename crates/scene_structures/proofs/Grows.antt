@@ -1,8 +1,8 @@
 -- On a sole desk a list grows by just the node that rises.
-use Rattle.std.proofs.Common.{◌≡◌, ℕ, ◌<◌, ◌≤◌, ◌&&◌, Bool, true, false, List, [], ◌∷◌, ◌++◌, map, Option, None, Some, refl, sym}
+use Rattle.std.proofs.Common.{◌≡◌, ℕ, ◌≤◌, ◌&&◌, Bool, true, false, List, [], ◌∷◌, ◌++◌, map, Option, None, Some, refl, sym}
 use Rattle.std.proofs.Common.{ap, subst, ◌∙◌, ⊎_elim, append_assoc, arith}
 use Rattle.std.proofs.lemmas.List.{map-append}
-use Rattle.std.proofs.lemmas.List.Elements.{All-append, All-cons}
+use Rattle.std.proofs.lemmas.List.Elements.{All-append, All-cons, All-nil}
 use Rattle.std.specs.Prelude.{All}
 use Rattle.control_word.proofs.history.Cells.{open_live}
 use Rattle.control_word.proofs.history.Given.{legal_seen}
@@ -13,7 +13,7 @@ use Rattle.control_word.specs.Events.{Asks, after, cell_of, kind_of, place_at, H
 use Rattle.control_word.specs.Handles.{equivalent, object_of, owner, same_handle, same_kind}
 use Rattle.control_word.specs.Histories.{IsLegal, entry, leads}
 use Rattle.control_word.specs.State.{Opening, State, live, put}
-use Rattle.control_word.specs.declared.event.Cell.TheVariants.{Free, Member}
+use Rattle.control_word.specs.declared.event.Cell.TheVariants.{Member}
 use Rattle.control_word.specs.declared.event.Entry.{Entry}
 use Rattle.control_word.specs.declared.event.Event.{Event}
 use Rattle.control_word.specs.declared.event.Event.TheVariants.{Compare, Swap}
@@ -25,13 +25,21 @@ use Rattle.scene_structures.specs.Chains.{Chain, IsList}
 use Rattle.shared_handle.specs.Piles.{IsParting}
 use Rattle.scene_structures.specs.Puts.{PutsOnly, nowhere}
 use Rattle.scene_structures.specs.Stacks.{NextOf}
-use Rattle.scene_structures.proofs.Frames.{AllKept, Apart, chain_kept, frames}
+use Rattle.control_word.proofs.history.Cells.{InState}
+use Rattle.control_word.specs.declared.event.Cell.{Cell}
+use Rattle.scene_structures.proofs.Frames.{AllKept, Apart, all_kept, chain_kept, chain_live, keeps_after}
+use Rattle.scene_structures.proofs.Heads.{IsHead, Lives, cell_put, frames_at, in_later, lives_run}
 use Rattle.scene_structures.proofs.Lives.{keeps_run}
 use Rattle.scene_structures.proofs.Rows.{partings_put}
 
 pub apart_nowhere : (os : List ℕ) → Apart nowhere os
 apart_nowhere [] = tt
 apart_nowhere (o ∷ os) = (λ e. e, apart_nowhere os)
+
+-- nor is a cell that is nobody's `next`
+pub apart_head : (c : Cell) (os : List ℕ) → IsHead c → Apart (λ k. k ≡ c) os
+apart_head c [] head = tt
+apart_head c (o ∷ os) head = (λ e. head o (sym e), apart_head c os head)
 
 -- the same objects
 pub all_same : (s t : State) (os : List ℕ) → t.object ≡ s.object → AllKept s t os
@@ -68,18 +76,21 @@ module _ {V : Type 0} where
   pub in_front : (d : ℕ) (a b : List (Event V)) (seen : List (Entry V)) → (map (entry d) (a ++ b) ++ seen) ≡ (map (entry d) a ++ (map (entry d) b ++ seen))
   in_front d a b seen = ap (λ l. l ++ seen) (map-append (entry d) a b) ∙ append_assoc (map (entry d) a) (map (entry d) b) seen
 
-  -- the state after the node rose
-  pub risen : (z : Opening) (d o m : ℕ) (q : Place) (below was old : Handle) (w : Bool) (before between late : List (Event V)) (seen : List (Entry V))
+  -- the state after the node rose in front of the list in a cell
+  pub risen : (z : Opening) (d o : ℕ) (c : Cell) (q : Place) (below was old : Handle) (w : Bool) (before between late : List (Event V)) (seen : List (Entry V))
       (os : List ℕ)
-      → IsLegal z (map (entry d) (late ++ Compare (Free m) below (owner o (Some q)) old true w ∷ (between ++ Swap (Member o 1) below was ∷ before)) ++ seen)
-      → All (PutsOnly (NextOf o)) before → All IsParting between → All IsParting late → m < z.cells → Apart (NextOf o) os → o ≤ (leads z seen).made
-      → q.block.0 ≡ ((leads z seen).object o).block → IsList (leads z seen) (Free m) os
-      → IsList (leads z (map (entry d) (late ++ Compare (Free m) below (owner o (Some q)) old true w ∷
-      (between ++ Swap (Member o 1) below was ∷ before)) ++ seen)) (Free m) (o ∷ os)
-  risen z d o m q below was old w before between late seen os legal early leaves last lt apart made block list =
+      → IsLegal z (map (entry d) (late ++ Compare c below (owner o (Some q)) old true w ∷ (between ++ Swap (Member o 1) below was ∷ before)) ++ seen)
+      → All (PutsOnly (NextOf o)) before → All IsParting between → All IsParting late → IsHead c → InState (leads z seen) c
+      → Lives (leads z (map (entry d) (late ++ Compare c below (owner o (Some q)) old true w ∷
+      (between ++ Swap (Member o 1) below was ∷ before)) ++ seen)) c
+      → Apart (NextOf o) os → o ≤ (leads z seen).made
+      → q.block.0 ≡ ((leads z seen).object o).block → IsList (leads z seen) c os
+      → IsList (leads z (map (entry d) (late ++ Compare c below (owner o (Some q)) old true w ∷
+      (between ++ Swap (Member o 1) below was ∷ before)) ++ seen)) c (o ∷ os)
+  risen z d o c q below was old w before between late seen os legal early leaves last head there alive apart made block list =
       let at = NextOf o in
       let node = owner o (Some q) in
-      let x = Compare (Free m) below node old true w in
+      let x = Compare c below node old true w in
       let row = between ++ Swap (Member o 1) below was ∷ before in
       let T = map (entry d) row ++ seen in
       let C = entry d x ∷ T in
@@ -87,13 +98,20 @@ module _ {V : Type 0} where
       let legal' : IsLegal z (map (entry d) late ++ C) = subst (IsLegal z) split legal in
       let legalC : IsLegal z C = legal_seen z (map (entry d) late) C legal' in
       let s = leads z T in
-      let n = frames z d at row seen m os legalC.0
+      let ends = partings_put nowhere late last in
+      let there_s = in_later z (map (entry d) row) seen c there in
+      let there_u = in_later z (entry d x ∷ []) T c there_s in
+      let alive' = subst (λ l. Lives (leads z l) c) split alive in
+      let alive_u = lives_run z d nowhere late C c ends there_u alive' in
+      let only = λ (k : Cell). k ≡ c in
+      let alive_s = lives_run z d only (x ∷ []) T c (All-cons (PutsOnly only) x [] refl (All-nil (PutsOnly only))) there_s alive_u in
+      let n = frames_at z d at row seen c os legalC.0
       (All-append (PutsOnly at) between (Swap (Member o 1) below was ∷ before) (partings_put at between leaves)
       (All-cons (PutsOnly at) (Swap (Member o 1) below was) before refl early))
-      lt (λ e. absurd (let t : Free m ≡ Member o 1 = e in cc)) apart list in
+      there alive_s (head o) apart list in
       let asks = legalC.1.asks in
       let alike = ⊎_elim (λ (e : true ≡ equivalent old below). sym e) (λ t. absurd (let e : true ≡ false = t.1 in cc)) asks.4 in
-      let cell : s.cell m ≡ old = sym asks.3 in
+      let cell : cell_of s c ≡ old = sym asks.3 in
       let kind : below.kind ≡ Owner = asks.1.0 ∙ sym asks.2.0 in
       let tail : Chain s below os = chain_alike s old below os alike kind (subst (λ (h : Handle). Chain s h os) cell n) in
       let A = map (entry d) (Swap (Member o 1) below was ∷ before) ++ seen in
@@ -106,14 +124,16 @@ module _ {V : Type 0} where
       ap (λ (y : Rattle.control_word.specs.State.Object). y.member 1) (put_same (leads z B).object o _ o refl) ∙ put_same
       ((leads z B).object o).member 1 below 1 refl in
       let next : (s.object o).member 1 ≡ below = ap (λ l. ((leads z l).object o).member 1) inner ∙ (kept.next ∙ put_in) in
-      let here : q.block.0 ≡ (s.object o).block = block ∙ sym (block_kept z (map (entry d) row) seen o made).0 in
+      let later = block_kept z (map (entry d) row) seen o made in
       let u = leads z C in
-      let cell_now : u.cell m ≡ node = put_same s.cell m node m refl in
+      let stays = keeps_after s d x only o asks refl (λ e. head o (sym e)) lives later.1 in
+      let here : q.block.0 ≡ (u.object o).block = block ∙ (sym later.0 ∙ sym stays.block) in
+      let listed = chain_live z s c os (sound z T legalC.0) there_s n in
       let chain_u : Chain u node (o ∷ os) = (
         (q, refl, here),
-        subst (λ (h : Handle). Chain u h os) (sym next)
-            (chain_kept s u below os (all_same s u os refl) tail),
+        subst (λ (h : Handle). Chain u h os) (sym (stays.next ∙ next))
+            (chain_kept s u below os (all_kept s d x only os asks refl (apart_head c os head) listed) tail),
       ) in
-      let list_u : IsList u (Free m) (o ∷ os) = subst (λ (h : Handle). Chain u h (o ∷ os)) (sym cell_now) chain_u in
-      subst (λ l. IsList (leads z l) (Free m) (o ∷ os)) (sym split)
-      (frames z d nowhere late C m (o ∷ os) legal' (partings_put nowhere late last) lt (λ e. e) (apart_nowhere (o ∷ os)) list_u)
+      let list_u : IsList u c (o ∷ os) = subst (λ (h : Handle). Chain u h (o ∷ os)) (sym (cell_put s d c node old)) chain_u in
+      subst (λ l. IsList (leads z l) c (o ∷ os)) (sym split)
+      (frames_at z d nowhere late C c (o ∷ os) legal' ends there_u alive' (λ e. e) (apart_nowhere (o ∷ os)) list_u)

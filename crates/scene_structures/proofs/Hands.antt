@@ -28,7 +28,7 @@ second_out None p c q l = refl
 second_out (Some b) p None q l = first_out Owner (Some b) p l
 second_out (Some b) p (Some c) q l = below (handle Owner (Some b.0) p) (handle Owner (Some c.0) q) l _ refl
 
-most : (b : Option Block) (p : Option Place) (l : List Handle) → length (with_handle Owner b p l) ≤ length l + 1
+pub most : (b : Option Block) (p : Option Place) (l : List Handle) → length (with_handle Owner b p l) ≤ length l + 1
 most None p l = omega arith
 most (Some b) p l = omega arith
 

@@ -1,8 +1,10 @@
 pub mod Hands
 pub mod Latest
+pub mod Sites
 pub mod Rows
 pub mod Frames
 pub mod Lives
+pub mod Heads
 pub mod Grows
 pub mod Pushes
 pub mod Looks
@@ -12,3 +14,7 @@ pub mod Sole
 pub mod Attached
 pub mod Calls
 pub mod Watches
+pub mod Hangs
+pub mod Adopting
+pub mod Alone
+pub mod Adopted

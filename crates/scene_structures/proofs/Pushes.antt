@@ -34,7 +34,7 @@ use Rattle.shared_handle.proofs.Goings.{does_both, does_one}
 use Rattle.scene_structures.proofs.Rows.{partings_put}
 use Rattle.scene_structures.proofs.Latest.{has_all, latest_none}
 
-listed_some : (h : Shared) (l : List Handle) (b : Block) → h.block ≡ Some b → Lists h.block h.place l → Has (handle Owner (Some b.0) h.place) l
+pub listed_some : (h : Shared) (l : List Handle) (b : Block) → h.block ≡ Some b → Lists h.block h.place l → Has (handle Owner (Some b.0) h.place) l
 listed_some h l b is lists = subst (λ (x : Option Block). Lists x h.place l) is lists
 
 module _ {V : Type 0} where

@@ -46,7 +46,7 @@ fresh_apart s (o ∷ os) all =
     (λ e. let t : Member o 1 ≡ Member (suc s.made) 1 = e in let n : o ≡ suc s.made = cc in let le = all.1 in absurd (omega arith), fresh_apart s os all.2)
 
 module _ {V : Type 0} where
-  keep_all : (at : Cell → Type 0) (xs : List (Event V)) → All (PutsOnly at) xs → All KeepsDesks xs
+  pub keep_all : (at : Cell → Type 0) (xs : List (Event V)) → All (PutsOnly at) xs → All KeepsDesks xs
   keep_all at xs all = All-weaker (PutsOnly at) KeepsDesks (puts_keep at) xs all
 
   state_now : (d e : DeskNow V) (l : List (Entry V)) → e.shape ≡ d.shape → e.seen ≡ l → state_of e ≡ leads (opening_of d.shape) l
@@ -108,12 +108,13 @@ module _ {V : Type 0} where
       let block : q.block.0 ≡ ((leads z M).object o).block = sym (ap (λ (y : Rattle.control_word.specs.State.Object). y.block)
       (put_same s.object o _ o refl)) in
       let le : o ≤ (leads z M).made = omega arith in
-      let done = risen z n o m q r.below r.was r.old r.weak r.before r.between r.after M os legal_me early r.leaves r.late lt
-      (fresh_apart s os lives) le block list_m in
+      let cells = cells_led z M in
+      let done = risen z n o (Free m) q r.below r.was r.old r.weak r.before r.between r.after M os legal_me early r.leaves r.late (λ j e. cc e)
+      (omega arith) tt (fresh_apart s os lives) le block list_m in
       subst (λ (t : State). IsList t (Free m) (o ∷ os)) (sym state_e) (subst (λ l. IsList (leads z l) (Free m) (o ∷ os)) (sym split) done)
 
   -- what an owner in hand is on lives
-  held_live : (e : DeskNow V) (h : Shared) (o : ℕ) (q : Place) → IsLegal (opening_of e.shape) e.seen → Lists h.block h.place (bag_of e)
+  pub held_live : (e : DeskNow V) (h : Shared) (o : ℕ) (q : Place) → IsLegal (opening_of e.shape) e.seen → Lists h.block h.place (bag_of e)
       → node_in e h ≡ owner o (Some q) → ((state_of e).object o).phase ≡ live
   held_live e h o q legal lists node = go h.block h.place lists node
     where

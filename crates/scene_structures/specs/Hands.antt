@@ -1,5 +1,5 @@
 -- Handles that a call has in hand, above all others of its desk.
-use Rattle.std.specs.Prelude.{◌≡◌, ℕ, ◌+◌, ◌≤◌, List, [], ◌∷◌, length, Option, Some, None}
+use Rattle.std.specs.Prelude.{◌≡◌, ℕ, ◌+◌, ◌<◌, ◌≤◌, List, [], ◌∷◌, length, Option, Some, None}
 use Rattle.control_word.specs.Handles.{handle}
 use Rattle.control_word.specs.State.{Has}
 use Rattle.control_word.specs.declared.handle.Handle.{Handle}
@@ -7,6 +7,9 @@ use Rattle.control_word.specs.declared.handle.Kind.{Kind}
 use Rattle.control_word.specs.declared.handle.Kind.TheVariants.{Owner}
 use Rattle.control_word.specs.declared.place.Block.{Block}
 use Rattle.control_word.specs.declared.place.Place.{Place}
+use Rattle.control_word.specs.declared.shape.Shape.{Shape}
+use Rattle.atomic_cells.specs.declared.sites.SharedSite.{SharedSite}
+use Rattle.atomic_cells.specs.declared.sites.SharedSite.TheVariants.{Free, Of}
 use Rattle.control_block.specs.CellCalls.{handle_in, with_handle}
 use Rattle.control_block.specs.Desks.{DeskNow, HasHandle, bag_of, latest_of}
 use Rattle.control_block.specs.declared.handles.Shared.{Shared}
@@ -20,6 +23,11 @@ stacked (h ∷ hs) base = with_handle Owner h.block h.place (stacked hs base)
 abbrev pub Lists : Option Block → Option Place → List Handle → Type 0
 Lists None p l = Unit {0}
 Lists (Some b) p l = Has (handle Owner (Some b.0) p) l
+
+-- the cell is a free one of the shape, or a member of an object of which the list has an owner
+abbrev pub IsOpenBy : List Handle → Shape → SharedSite → Type 0
+IsOpenBy l z (Free n) = n < z.shared_cells
+IsOpenBy l z (Of b m) = (p : Option Place) × Has (handle Owner (Some b.0) p) l
 
 module _ {V : Type 0} where
   -- what the handle is, by the object that it is on
@@ -38,3 +46,7 @@ module _ {V : Type 0} where
   -- what the desk has still is on the object that it was on
   abbrev pub KeepsHeld : DeskNow V → DeskNow V → Type 0
   KeepsHeld d e = (k : Kind) (p : Option Place) (b : ℕ) → HasHandle e k p b → latest_of e b ≡ latest_of d b
+
+  -- what the list has still is on the object that it was on
+  abbrev pub KeepsThese : List Handle → DeskNow V → DeskNow V → Type 0
+  KeepsThese l d e = (k : Kind) (p : Option Place) (b : ℕ) → Has (handle k (Some b) p) l → latest_of e b ≡ latest_of d b

@@ -4,3 +4,4 @@ pub mod Hands
 pub mod Stacks
 pub mod Pops
 pub mod Observers
+pub mod Scenes

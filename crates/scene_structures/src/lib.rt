@@ -1,13 +1,17 @@
-//! Structures that programs build of shared pointers, and that threads share without a lock: a stack, and observers.
+//! Structures that programs build of shared pointers: a stack and observers that threads share without a lock, and a scene
+//! tree.
 #![tactic(auto)]
 
 mod attaching;
 mod endings;
+mod hanging;
 mod observers;
 mod pause;
 mod popping;
 mod pushing;
+mod scene;
 mod stack;
 
 pub use observers::Observers;
+pub use scene::Scene;
 pub use stack::Stack;

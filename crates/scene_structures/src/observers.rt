@@ -87,18 +87,11 @@ impl<V: Drop + Send> Observers<V> {
         desk.stands();
         let node = make(domain, desk, [0; 4], false, value)?;
         watch(domain, desk, &node, subject);
-        let Ok(top) = SharedAt::free(self.cell).load(rt, domain, desk) else {
+        let at = SharedAt::free(self.cell);
+        let Ok(top) = at.load(rt, domain, desk) else {
             unreachable!()
         };
-        let cell = self.cell;
-        raise(
-            rt,
-            domain,
-            desk,
-            cell,
-            &mut self.pile,
-            Attempt { node, top },
-        );
+        raise(rt, domain, desk, &at, &mut self.pile, Attempt { node, top });
         Ok(())
     }
 

@@ -1,7 +1,6 @@
-//! Tries to put a node above the top one.
+//! Tries to put a node in front of what a shared cell holds.
 ghost use Rattle.std.specs.Prelude.{◌≡◌, ◌<◌, ◌+◌, List, [], ◌∷◌, MatchOption, IfSome};
 ghost use Rattle.control_word.specs.Handles.{object_of};
-ghost use Rattle.control_word.specs.declared.event.Cell.TheVariants.{Free};
 ghost use Rattle.control_word.specs.declared.handle.Handle.{Handle};
 ghost use Rattle.control_word.specs.declared.handle.Kind.TheVariants.{Owner};
 ghost use Rattle.control_block.specs.CellCalls.{handle_in};
@@ -9,7 +8,8 @@ ghost use Rattle.control_block.specs.Desks.{IsSameDesk, allowance_of, bag_of};
 ghost use Rattle.control_block.specs.Own.{Does};
 ghost use Rattle.shared_handle.specs.Calls.{Holds, without_handle};
 ghost use Rattle.shared_handle.specs.Endings.{IsWithin};
-ghost use Rattle.scene_structures.specs.Hands.{HasHands, KeepsHeld, SameNode, node_in};
+ghost use Rattle.atomic_cells.specs.Sites.{shared_cell};
+ghost use Rattle.scene_structures.specs.Hands.{HasHands, IsOpenBy, KeepsHeld, KeepsThese, SameNode, node_in};
 ghost use Rattle.shared_handle.specs.Piles.{Bears};
 ghost use Rattle.scene_structures.specs.Puts.{PutsOnly};
 ghost use Rattle.scene_structures.specs.Stacks.{Fills, NextOf, Rises};
@@ -22,7 +22,7 @@ use control_block::domain::Domain;
 use shared_handle::{Pile, Shared, share};
 use std::sync::Wait;
 
-/// A new node, and what was seen at the top.
+/// A new node, and what was seen in the cell.
 pub(crate) struct Attempt {
     pub(crate) node: Shared,
     pub(crate) top: Shared,
@@ -55,19 +55,18 @@ fn store_next<V: Drop + Send, R: Wait>(
     let_go(rt, domain, desk, old, pile)
 }
 
-/// One try to put the node above the top one. What to try next, if it isn't done.
+/// One try to put the node in front of what the cell holds. What to try next, if it isn't done.
 fn try_push<V: Drop + Send, R: Wait>(
     rt: &R,
     domain: &Domain<V>,
     desk: &mut Desk<V>,
-    cell: u32,
+    at: &SharedAt,
     pile: &mut Pile<V>,
     attempt: Attempt,
 ) -> Option<Attempt>
     requires bears { Bears domain.now desk.old pile.old }
-    requires cell { cell < desk.old.shape.shared_cells }
     requires node { IsWithin attempt.node.block attempt.node.place }
-    requires bag { (base : List Handle) × HasHands base (attempt.top ∷ attempt.node ∷ []) desk.old }
+    requires bag { (base : List Handle) × HasHands base (attempt.top ∷ attempt.node ∷ []) desk.old × IsOpenBy base desk.old.shape at.now.site }
     requires room { desk.old.held + 2 < allowance_of desk.old }
     ensures bears { Bears domain.now desk.new pile.new }
     ensures none { pile.new.endings.items ≡ [] }
@@ -75,8 +74,9 @@ fn try_push<V: Drop + Send, R: Wait>(
     ensures node { IfSome result (λ a. (a.node ≡ attempt.node) × SameNode desk.old attempt.node desk.new) }
     ensures bag { (base : List Handle) → HasHands base (attempt.top ∷ attempt.node ∷ []) desk.old
         → MatchOption result (HasHands base [] desk.new) (λ a. HasHands base (a.top ∷ a.node ∷ []) desk.new) }
+    ensures latest { (base : List Handle) → HasHands base (attempt.top ∷ attempt.node ∷ []) desk.old → KeepsThese base desk.old desk.new }
     ensures held { MatchOption result (desk.new.held + 2 ≡ desk.old.held) (λ a. desk.new.held ≡ desk.old.held) }
-    ensures own { MatchOption result (Rises desk.old (Free cell) (node_in desk.old attempt.node) desk.new)
+    ensures own { MatchOption result (Rises desk.old (shared_cell desk.old at.now.site) (node_in desk.old attempt.node) desk.new)
         (λ a. Does (PutsOnly (NextOf (object_of (node_in desk.old attempt.node)))) desk.old desk.new) }
 {
     let Attempt { node, top } = attempt;
@@ -84,7 +84,6 @@ fn try_push<V: Drop + Send, R: Wait>(
         unreachable!()
     };
     store_next(rt, domain, desk, &node, copy, pile);
-    let at = SharedAt::free(cell);
     match at.compare_exchange_weak(rt, domain, desk, &top, node) {
         Ok(Compared::Swapped(old)) => {
             let_go(rt, domain, desk, old, pile);
@@ -102,31 +101,31 @@ fn try_push<V: Drop + Send, R: Wait>(
     }
 }
 
-/// The node goes above the top one, whatever others put there meanwhile.
+/// The node goes in front of what the cell holds, whatever others put there meanwhile.
 pub(crate) fn raise<V: Drop + Send, R: Wait>(
     rt: &R,
     domain: &Domain<V>,
     desk: &mut Desk<V>,
-    cell: u32,
+    at: &SharedAt,
     pile: &mut Pile<V>,
     first: Attempt,
 )
     requires bears { Bears domain.now desk.old pile.old }
-    requires cell { cell < desk.old.shape.shared_cells }
     requires node { IsWithin first.node.block first.node.place }
-    requires bag { (base : List Handle) × HasHands base (first.top ∷ first.node ∷ []) desk.old }
+    requires bag { (base : List Handle) × HasHands base (first.top ∷ first.node ∷ []) desk.old × IsOpenBy base desk.old.shape at.now.site }
     requires room { desk.old.held + 2 < allowance_of desk.old }
     ensures bears { Bears domain.now desk.new pile.new }
     ensures none { pile.new.endings.items ≡ [] }
     ensures desk { IsSameDesk desk.old desk.new }
     ensures bag { (base : List Handle) → HasHands base (first.top ∷ first.node ∷ []) desk.old → HasHands base [] desk.new }
+    ensures latest { (base : List Handle) → HasHands base (first.top ∷ first.node ∷ []) desk.old → KeepsThese base desk.old desk.new }
     ensures held { desk.new.held + 2 ≡ desk.old.held }
-    ensures own { Rises desk.old (Free cell) (node_in desk.old first.node) desk.new }
+    ensures own { Rises desk.old (shared_cell desk.old at.now.site) (node_in desk.old first.node) desk.new }
 {
     let mut attempt = first;
     let mut pause = Pause::new();
     for _ in rt.forever() {
-        match try_push(rt, domain, desk, cell, pile, attempt) {
+        match try_push(rt, domain, desk, at, pile, attempt) {
             None => return,
             Some(next) => attempt = next,
         }

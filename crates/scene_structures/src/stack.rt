@@ -94,18 +94,11 @@ impl<V: Drop + Send> Stack<V> {
         }
         desk.stands();
         let node = make(domain, desk, fields, false, value)?;
-        let Ok(top) = SharedAt::free(self.cell).load(rt, domain, desk) else {
+        let at = SharedAt::free(self.cell);
+        let Ok(top) = at.load(rt, domain, desk) else {
             unreachable!()
         };
-        let cell = self.cell;
-        raise(
-            rt,
-            domain,
-            desk,
-            cell,
-            &mut self.pile,
-            Attempt { node, top },
-        );
+        raise(rt, domain, desk, &at, &mut self.pile, Attempt { node, top });
         Ok(())
     }
 

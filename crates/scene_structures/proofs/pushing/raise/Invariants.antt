@@ -3,7 +3,7 @@ use Rattle.control_word.specs.Handles.{object_of}
 use Rattle.control_word.specs.declared.handle.Handle.{Handle}
 use Rattle.control_block.specs.Desks.{IsSameDesk}
 use Rattle.control_block.specs.Own.{Does}
-use Rattle.scene_structures.specs.Hands.{HasHands, SameNode, node_in}
+use Rattle.scene_structures.specs.Hands.{HasHands, KeepsThese, SameNode, node_in}
 use Rattle.shared_handle.specs.Piles.{Bears}
 use Rattle.scene_structures.specs.Puts.{PutsOnly}
 use Rattle.scene_structures.specs.Stacks.{NextOf}
@@ -14,6 +14,8 @@ invariant-loop g l = record {
   bears : Bears l.domain l.desk l.pile;
   node : (l.attempt.node ≡ l.initial.attempt.node) × SameNode l.initial.desk l.initial.attempt.node l.desk;
   held : l.desk.held ≡ l.initial.desk.held;
+  latest : (base : List Handle) → HasHands base (l.initial.attempt.top ∷ l.initial.attempt.node ∷ []) l.initial.desk
+      → KeepsThese base l.initial.desk l.desk;
   same : IsSameDesk l.initial.desk l.desk;
   bag : (base : List Handle) → HasHands base (l.initial.attempt.top ∷ l.initial.attempt.node ∷ []) l.initial.desk
       → HasHands base (l.attempt.top ∷ l.attempt.node ∷ []) l.desk;

@@ -2,7 +2,14 @@ use Rattle.std.proofs.Common.{◌≡◌, ◌<◌, ap, subst, arith}
 use Rattle.control_word.specs.declared.event.Cell.TheVariants.{Free}
 use Rattle.control_word.specs.declared.shape.Shape.{Shape}
 use Rattle.control_block.specs.Rule.{opening_of}
-use Rattle.scene_structures.specs.Hands.{node_in}
+use Rattle.control_word.specs.declared.event.Cell.{Cell}
+use Rattle.atomic_cells.specs.Sites.{shared_cell}
+use Rattle.atomic_cells.specs.declared.sites.SharedSite.{SharedSite}
+use Rattle.scene_structures.specs.Hands.{IsOpenBy, node_in}
+use Rattle.scene_structures.proofs.Hands.{hands_got}
+use Rattle.std.proofs.Common.{[], ◌∷◌, sym, ◌∙◌}
+use Rattle.control_block.specs.Desks.{bag_of}
+use Rattle.scene_structures.proofs.Calls.{hands_one}
 use Rattle.scene_structures.specs.Stacks.{Rises, StackNow}
 use Rattle.scene_structures.proofs.Attached.{attached_list}
 use Rattle.scene_structures.proofs.Watches.{attaches}
@@ -15,7 +22,7 @@ returns-clause-own g c =
     let same : c.self.inside.cell ≡ c.args.self.now.cell = ap (λ (s : StackNow). s.cell) c.self.view_is in
     attaches d m w.new.desk l c.raise.new.desk (Free c.args.self.now.cell) _ c.args.value node c.args.subject.now _ e.event e.bag c.requires.holds
     w.ensures.own w.ensures.latest w.ensures.bag c.in-Ok.ensures.event
-    (subst (λ n. Rises l (Free n) (node_in l node) c.raise.new.desk) same c.raise.ensures.own)
+    (subst (λ (k : Cell). Rises l k (node_in l node) c.raise.new.desk) (ap (shared_cell l) c.free-at.ensures ∙ ap Free same) c.raise.ensures.own)
 
 pub returns-clause-list : goal.returns-clause-list
 returns-clause-list g c sole =
@@ -24,3 +31,18 @@ returns-clause-list g c sole =
     let cell = c.requires.stands.cell in
     let lt : c.args.self.now.cell < (opening_of d.shape).cells = omega arith in
     attached_list d c.raise.new.desk c.args.self.now.cell c.args.subject.now c.args.value (returns-clause-own g c) c.stands.ensures.legal sole lt
+
+pub raise-requires-clause-bag : goal.raise-requires-clause-bag
+raise-requires-clause-bag g c κs within =
+    let d = c.args.desk.now in let w = c.watch in let l = c.load.new.desk in let e = c.in_ok-node.ensures in let node = c.in_ok-node.node in
+    let top = c.in-Ok.top in let t = c.in-Ok.ensures in
+    let h = hands_one d w.new.desk node c.stands.ensures.bag (w.ensures.bag ∙ e.bag) (w.ensures.held ∙ e.held) in
+    let same : c.self.inside.cell ≡ c.args.self.now.cell = ap (λ (s : StackNow). s.cell) c.self.view_is in
+    let shape : l.shape.shared_cells ≡ c.args.domain.now.shape.shared_cells =
+    ap (λ (k : Shape). k.shared_cells) (t.keeps.shape ∙ (w.ensures.desk.shape ∙ (e.desk.shape ∙ c.requires.domain.shape))) in
+    let cell = c.requires.stands.cell in
+    let lt : c.self.inside.cell < l.shape.shared_cells = omega arith in (
+      bag_of d,
+      hands_got w.new.desk l (bag_of d) top (node ∷ []) h t.bag t.held,
+      subst (λ (s : SharedSite). IsOpenBy (bag_of d) l.shape s) (sym c.free-at.ensures) lt,
+    )
