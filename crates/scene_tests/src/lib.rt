@@ -4,8 +4,12 @@
 #[cfg(test)]
 mod crowd;
 #[cfg(test)]
+mod observing;
+#[cfg(test)]
 mod parts;
 #[cfg(test)]
 mod refusals;
 #[cfg(test)]
 mod stacks;
+#[cfg(test)]
+mod trees;

@@ -1,0 +1,118 @@
+//! Observers that are attached, and refused.
+ghost use Rattle.std.specs.Prelude.{◌≡◌, ◌+◌, [], IfSome};
+ghost use Rattle.control_word.specs.declared.handle.Kind.TheVariants.{Owner};
+ghost use Rattle.control_block.specs.Desks.{Belongs, IsSameDesk, bag_of, endings_of};
+ghost use Rattle.shared_handle.specs.Calls.{Holds};
+ghost use Rattle.scene_structures.specs.Stacks.{Serves, StandsIn};
+
+use crate::parts::{opened, shut, spend};
+use control_block::desk::Desk;
+use control_block::domain::Domain;
+use control_word::{Refusal, Refused};
+use scene_structures::Observers;
+use shared_handle::{Pile, Shared, make};
+use std::alloc::Global;
+use std::sync::Wait;
+use std::test::Fail;
+
+// Why an attach is refused, with the value that comes back.
+pub(crate) fn attach<R: Wait>(
+    rt: &R,
+    domain: &Domain<u64>,
+    desk: &mut Desk<u64>,
+    observers: &mut Observers<u64>,
+    subject: &Shared,
+) -> Option<(Refusal, u64)>
+    requires domain { Belongs desk.old domain.now }
+    requires stands { StandsIn observers.old domain.now }
+    requires settled { endings_of desk.old ≡ 0 }
+    requires holds { Holds desk.old Owner subject.now.block subject.now.place }
+    ensures stands { StandsIn observers.new domain.now }
+    ensures settled { endings_of desk.new ≡ 0 }
+    ensures desk { IsSameDesk desk.old desk.new }
+    ensures bag { bag_of desk.new ≡ bag_of desk.old }
+    ensures held { desk.new.held ≡ desk.old.held }
+{
+    match observers.attach(rt, domain, desk, subject, 9) {
+        Ok(()) => None,
+        Err(refused) => {
+            let Refused { why, back } = refused;
+            Some((why, back))
+        }
+    }
+}
+
+// A subject with this field.
+pub(crate) fn subject(domain: &Domain<u64>, desk: &mut Desk<u64>, field: u64) -> Option<Shared>
+    requires domain { Belongs desk.old domain.now }
+    requires settled { endings_of desk.old ≡ 0 }
+    ensures settled { endings_of desk.new ≡ 0 }
+    ensures desk { IsSameDesk desk.old desk.new }
+    ensures holds { IfSome result (λ h. Holds desk.new Owner h.block h.place) }
+{
+    match make(domain, desk, [field, 0, 0, 0], false, field) {
+        Ok(subject) => Some(subject),
+        Err(refused) => {
+            let Refused { why: _, back: _ } = refused;
+            None
+        }
+    }
+}
+
+// Two attaches to a subject: why each is refused.
+fn twice<R: Wait>(
+    rt: &R,
+    domain: &Domain<u64>,
+    desk: &mut Desk<u64>,
+    observers: &mut Observers<u64>,
+    pile: &mut Pile<u64>,
+) -> Option<(Option<(Refusal, u64)>, Option<(Refusal, u64)>)>
+    requires domain { Belongs desk.old domain.now }
+    requires stands { StandsIn observers.old domain.now }
+    requires serves { Serves domain.now pile.old }
+    requires settled { endings_of desk.old ≡ 0 }
+    requires empty { pile.old.endings.items ≡ [] }
+    ensures empty { pile.new.endings.items ≡ [] }
+    ensures desk { IsSameDesk desk.old desk.new }
+{
+    let subject = subject(domain, desk, 10)?;
+    let first = attach(rt, domain, desk, observers, &subject);
+    let second = attach(rt, domain, desk, observers, &subject);
+    spend(rt, domain, desk, subject, pile);
+    Some((first, second))
+}
+
+// Two attaches in a domain of two blocks, with this allowance.
+fn twice_within<R: Wait>(
+    rt: &R,
+    alloc: Global,
+    allowance: u32,
+) -> Option<(Option<(Refusal, u64)>, Option<(Refusal, u64)>)> {
+    let (domain, mut desk) = opened(alloc, 2, allowance)?;
+    let Ok(mut observers) = Observers::new(alloc, &domain, 0) else {
+        shut(domain, desk);
+        return None;
+    };
+    let Ok(mut pile) = Pile::new(alloc, &domain) else {
+        observers.close();
+        shut(domain, desk);
+        return None;
+    };
+    let seen = twice(rt, &domain, &mut desk, &mut observers, &mut pile);
+    observers.close();
+    pile.close();
+    shut(domain, desk);
+    seen
+}
+
+#[test]
+fn six_handles_must_be_free_to_attach(rt: HostRuntime) -> Result<(), Fail> {
+    let full = twice_within(&rt, rt.alloc(), 7);
+    let limit = twice_within(&rt, rt.alloc(), 6);
+    assert_eq!(rt; full, Some((None, Some((Refusal::Full, 9)))));
+    assert_eq!(rt;
+        limit,
+        Some((Some((Refusal::Limit, 9)), Some((Refusal::Limit, 9))))
+    );
+    Ok(())
+}
