@@ -1,5 +1,5 @@
 -- Which calls of a desk are which acts of a thread.
-use Rattle.std.proofs.Common.{◌≡◌, ℕ, ◌==◌, Bool, true, false, cond, List, [], ◌∷◌, ◌++◌, Option, Some, None, refl, sym, ap, subst, ◌∙◌, inl, eq-eqb}
+use Rattle.std.proofs.Common.{◌≡◌, ℕ, ◌==◌, Bool, true, false, cond, Option, Some, None, refl, sym, ap, subst, ◌∙◌, inl, eq-eqb}
 use Rattle.std.proofs.lemmas.Bool.{cond-true}
 use Rattle.control_block.proofs.Bags.{shown_held}
 use Rattle.control_word.proofs.history.Endings.{stays_the_latest}
@@ -9,13 +9,11 @@ use Rattle.std.specs.Prelude.{option_map}
 use Rattle.control_word.specs.Events.{place_at}
 use Rattle.control_word.specs.Handles.{handle, owner, weak_of}
 use Rattle.control_word.specs.Histories.{IsLegal}
-use Rattle.control_word.specs.Laws.{IsInHands}
 use Rattle.control_word.specs.State.{Object, State}
 use Rattle.control_word.specs.declared.event.Event.{Event}
 use Rattle.control_word.specs.declared.event.Event.TheVariants as event
 use Rattle.control_word.specs.declared.handle.Kind.{Kind}
 use Rattle.control_word.specs.declared.handle.Kind.TheVariants.{Owner, Weak}
-use Rattle.control_word.specs.declared.place.Block.{Block}
 use Rattle.control_word.specs.declared.place.Place.{Place}
 use Rattle.control_block.specs.Desks.{Adds, DeskNow, HasHandle, latest_of, object_in, on_latest}
 use Rattle.control_block.specs.Rule.{opening_of}
@@ -27,7 +25,6 @@ use Rattle.step_table.specs.Deeds.{aliased, handle_of, is_enabled, owned, remain
 use Rattle.step_table.specs.Holdings.{Slots, inside, owner_slot, place_in, slot, weak_slot}
 use Rattle.step_threads.specs.declared.act.Act.{Act}
 use Rattle.step_threads.specs.declared.act.Act.TheVariants as act
-use Rattle.step_threads.specs.Courses.{other}
 use Rattle.step_threads.specs.Doings.{Leaves, Makes, On, copies, copy}
 use Rattle.step_threads.specs.Rows.{Left}
 use Rattle.script_runner.specs.Calls as calls
@@ -190,9 +187,10 @@ module _ {V : Type 0} where
       let same = same_object d e v adds Owner p b.0 is.has in
       let left = cond last (Some (remains (object_in d b.0))) None in
       by_slot worth s n l a i last left (Some v) at
-      (subst (λ (x : Option Pointer). Leaves s x last left (Some v)) (sym is.at)
-      (ap (λ q. Some (event.Leave (handle Owner (Some q) p) last)) (sym o),
-      ap (λ (r : Ended). cond last (Some r) None) (sym (same_remains (s.object (s.latest b.0)) (object_in d b.0) same.0 same.2))))
+      (subst (λ (x : Option Pointer). Leaves s x last left (Some v)) (sym is.at) (
+        ap (λ q. Some (event.Leave (handle Owner (Some q) p) last)) (sym o),
+        ap (λ (r : Ended). cond last (Some r) None) (sym (same_remains (s.object (s.latest b.0)) (object_in d b.0) same.0 same.2)),
+      ))
 
   pub gone_weakly : calls.GoneWeakly V
   gone_weakly worth n d e l a i vacant b p at is adds =

@@ -1,6 +1,6 @@
 -- Which calls of a desk are which acts of a thread, by what the thread has in its slots: each law by itself. The call is the act by
 -- the state in which its event stands. Events name their sections in the model; the rest is own.
-use Rattle.std.specs.Prelude.{◌≡◌, ℕ, ◌++◌, Bool, true, false, cond, List, Option, None, Some}
+use Rattle.std.specs.Prelude.{◌≡◌, ℕ, ◌++◌, Bool, true, cond, Option, None, Some}
 use Rattle.control_word.specs.declared.event.Event.{Event}
 use Rattle.control_word.specs.declared.event.Event.TheVariants as event
 use Rattle.control_word.specs.declared.handle.Kind.{Kind}
