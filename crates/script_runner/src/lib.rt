@@ -3,4 +3,4 @@
 
 mod laws;
 
-pub use laws::worker_logs;
+pub use laws::{desk_calls, worker_logs};
