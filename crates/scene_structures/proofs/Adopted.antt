@@ -11,7 +11,6 @@ use Rattle.control_word.specs.State.{Object, State}
 use Rattle.control_word.specs.declared.event.Cell.{Cell}
 use Rattle.control_word.specs.declared.event.Cell.TheVariants.{Member}
 use Rattle.control_word.specs.declared.event.Event.TheVariants.{Make}
-use Rattle.control_word.specs.declared.handle.Kind.TheVariants.{Weak}
 use Rattle.control_word.specs.declared.place.Place.{Place}
 use Rattle.control_block.specs.CellCalls.{handle_in}
 use Rattle.control_block.specs.Desks.{DeskNow, latest_of, state_of}
@@ -26,17 +25,15 @@ use Rattle.control_block.specs.Desks.{bag_of}
 use Rattle.shared_handle.specs.Endings.{IsWithin}
 use Rattle.scene_structures.specs.Hands.{Lists, node_in}
 use Rattle.scene_structures.specs.Puts.{PutsOnly, nowhere}
-use Rattle.scene_structures.specs.Scenes.{Adopts, HangsUp, IsAdopted}
+use Rattle.scene_structures.specs.Scenes.{Adopts, IsAdopted}
 use Rattle.scene_structures.specs.Stacks.{Rises}
+use Rattle.scene_structures.specs.Watches.{Watches, weak_in}
+use Rattle.scene_structures.proofs.Attached.{apart_up}
 use Rattle.scene_structures.proofs.Alone.{block_on, grown, hangs_puts, held_on, hung_up, in_on, legal_on, list_on, lives_on, rises_puts, sole_on}
-use Rattle.scene_structures.proofs.Frames.{Apart, chain_live}
+use Rattle.scene_structures.proofs.Frames.{chain_live}
 use Rattle.scene_structures.proofs.Grows.{apart_nowhere}
 use Rattle.scene_structures.proofs.Sole.{fresh_apart, held_live, state_is}
 use Rattle.scene_structures.proofs.Looks.{owner_within}
-
-apart_up : (o : ℕ) (os : List ℕ) → Apart (λ k. k ≡ Member o 2) os
-apart_up o [] = tt
-apart_up o (p ∷ os) = ((λ e. let t : Member p 1 ≡ Member o 2 = e in absurd (cc t)), apart_up o os)
 
 module _ {V : Type 0} where
   pub adopted : (d e : DeskNow V) (parent child : Shared) (fields : List ℕ) (x : V) (a : Adopts d parent fields x child e) → IsLegal (opening_of d.shape) d.seen
@@ -45,16 +42,16 @@ module _ {V : Type 0} where
   adopted d e parent child fields x a legal sole (pq, points, within) lists_d lists_e lists_c parent_e child_e =
       let m = a.made in let n = a.hung in let b = a.block in let make = Make b false false fields x in
       let p = object_of (node_in d parent) in let c = Member p 0 in let o = suc (state_of d).made in let u = Member o 2 in
-      let up = handle_in d Weak parent.block parent.place in
+      let up = weak_in d parent in
       let q : Place = record { block = record { 0 = b.0 }; field = 0 } in
       let does_m = does_one (PutsOnly nowhere) d m make a.makes tt in
       let legal_m = legal_on nowhere d m does_m legal sole in let sole_m = sole_on nowhere d m does_m legal sole in
       let state_m = state_is d m (make ∷ []) (goes_by_call d make m a.makes) (All-cons KeepsDesks make [] tt (All-nil KeepsDesks)) legal sole in
       let latest : latest_of m b.0 ≡ o = ap (λ (s : State). s.latest b.0) state_m ∙ put_same (state_of d).latest b.0 o b.0 refl in
-      let hangs : HangsUp m o up n = subst (λ k. HangsUp m k up n) latest a.hangs in
+      let watches : Watches m o up n = subst (λ k. Watches m k up n) latest a.watches in
       let rises : Rises n c (owner o (Some q)) e = subst (λ k. Rises n c (owner k (place_at b.0)) e) latest a.rises in
       let at_n = λ (k : Cell). k ≡ Member o 2 in
-      let does_n = hangs_puts m n o up hangs in
+      let does_n = hangs_puts m n o up watches in
       let legal_n = legal_on at_n m n does_n legal_m sole_m in let sole_n = sole_on at_n m n does_n legal_m sole_m in
       let does_e = rises_puts n e c (owner o (Some q)) rises in
       let legal_e = legal_on _ n e does_e legal_n sole_n in
@@ -87,5 +84,5 @@ module _ {V : Type 0} where
             (fresh_apart (state_of d) os listed) made_n block list_n,
         held_on _ n e does_e legal_n sole_n u
             (λ k. ⊎_elim (λ (t : Member o 2 ≡ Member o 1). absurd (cc t)) (λ (t : Member o 2 ≡ Member p 0). absurd (cc t)) k) u_n alive
-            ∙ hung_up m n o up hangs legal_m sole_m u_m u_lives_n,
+            ∙ hung_up m n o up watches legal_m sole_m u_m u_lives_n,
       )

@@ -6,7 +6,7 @@ use Rattle.control_word.specs.declared.event.Cell.{Cell}
 use Rattle.control_word.specs.declared.event.Cell.TheVariants.{Member}
 use Rattle.control_word.specs.declared.event.Event.TheVariants.{Load}
 use Rattle.control_word.specs.declared.handle.Handle.{Handle}
-use Rattle.control_word.specs.declared.handle.Kind.TheVariants.{Owner, Weak}
+use Rattle.control_word.specs.declared.handle.Kind.TheVariants.{Owner}
 use Rattle.control_word.specs.declared.place.Block.{Block}
 use Rattle.control_word.specs.declared.place.Place.{Place}
 use Rattle.control_block.specs.Own.{KeepsLatest}
@@ -22,8 +22,10 @@ use Rattle.atomic_cells.specs.declared.sites.SharedMember.TheVariants.{First}
 use Rattle.atomic_cells.specs.declared.sites.SharedSite.TheVariants as site
 use Rattle.scene_structures.specs.Hands.{HasHands, KeepsHeld, KeepsThese, Lists, node_in}
 use Rattle.scene_structures.specs.Puts.{PutsOnly}
-use Rattle.scene_structures.specs.Scenes.{Adopts, HangsUp}
+use Rattle.scene_structures.specs.Scenes.{Adopts}
 use Rattle.scene_structures.specs.Stacks.{NextOf, Rises}
+use Rattle.scene_structures.specs.Watches.{Watches, weak_in}
+use Rattle.scene_structures.proofs.Watches.{weak_same}
 use Rattle.scene_structures.proofs.Hands.{hands_copied, hands_got, lists_first, lists_under, most}
 use Rattle.scene_structures.proofs.Pushes.{listed_some, rises_later, same_left, same_node, shares_does}
 
@@ -32,7 +34,7 @@ module _ {V : Type 0} where
     -- the parent and the new node are on what they were on, up to the look at the parent's `first`
     pub parent_on : KeepsLatest d m → bag_of m ≡ with_handle Owner node.block node.place (bag_of d) → KeepsHeld m n → bag_of n ≡ bag_of m → KeepsLatest n s
         → bag_of s ≡ with_handle Owner node.block node.place (bag_of n) → KeepsLatest s l → Lists parent.block parent.place (bag_of d)
-        → (node_in l parent ≡ node_in d parent) × (node_in m parent ≡ node_in d parent) × Lists parent.block parent.place (bag_of n)
+        → (node_in l parent ≡ node_in d parent) × Lists parent.block parent.place (bag_of n)
     parent_on keeps_m bag_m hung bag_n keeps_s bag_s keeps_l lists =
         let p_m : Lists parent.block parent.place (bag_of m) =
         subst (Lists parent.block parent.place) (sym bag_m) (lists_under parent.block node.block parent.place node.place (bag_of d) lists) in
@@ -40,7 +42,7 @@ module _ {V : Type 0} where
         let p_s : Lists parent.block parent.place (bag_of s) =
         subst (Lists parent.block parent.place) (sym bag_s) (lists_under parent.block node.block parent.place node.place (bag_of n) p_n) in
         let parent_m = same_node d m parent keeps_m lists in
-        (same_node s l parent keeps_l p_s ∙ (same_node n s parent keeps_s p_n ∙ (same_left m n parent hung p_n ∙ parent_m)), parent_m, p_n)
+        (same_node s l parent keeps_l p_s ∙ (same_node n s parent keeps_s p_n ∙ (same_left m n parent hung p_n ∙ parent_m)), p_n)
 
     pub node_on : bag_of m ≡ with_handle Owner node.block node.place (bag_of d) → KeepsHeld m n → bag_of n ≡ bag_of m → KeepsLatest n s
         → bag_of s ≡ with_handle Owner node.block node.place (bag_of n) → KeepsLatest s l
@@ -55,13 +57,13 @@ module _ {V : Type 0} where
 
     pub adopts : (at : SharedAt) (fields : List ℕ) (x : V) (k : Cell) (got : Handle)
         → Makes d false false fields x node.block node.place m → bag_of m ≡ with_handle Owner node.block node.place (bag_of d)
-        → HangsUp m (object_of (node_in m node)) (handle_in m Weak parent.block parent.place) n → KeepsHeld m n → bag_of n ≡ bag_of m
+        → Watches m (object_of (node_in m node)) (weak_in m parent) n → KeepsHeld m n → bag_of n ≡ bag_of m
         → Shares n node.block node.place node.place s → copy.block ≡ node.block → copy.place ≡ node.place
         → bag_of s ≡ with_handle Owner node.block node.place (bag_of n) → Adds s (Load k got) l
         → Rises l (shared_cell l at.site) (node_in l copy) e → Lists parent.block parent.place (bag_of d)
         → IsMember (λ c (a : SharedAt). a.site ≡ site.Of c First) parent.block parent.place (Ok at)
         → (a : Adopts d parent fields x node e) × (a.made ≡ m)
-    adopts at fields x k got makes bag_m hangs hung bag_n shares cb cp bag_s loads rises lists (q, points, block, is) = go node.block refl makes
+    adopts at fields x k got makes bag_m watches hung bag_n shares cb cp bag_s loads rises lists (q, points, block, is) = go node.block refl makes
       where
         go : (b : Option Block) → node.block ≡ b → Makes d false false fields x b node.place m → (a : Adopts d parent fields x node e) × (a.made ≡ m)
         go None here makes' = absurd makes'
@@ -78,7 +80,7 @@ module _ {V : Type 0} where
             ap (shared_cell l) is
             ∙ (sym (ap (λ (y : Option Block). Member (object_of (handle_in l Owner y parent.place)) 0) block)
             ∙ ap (λ (h : Handle). Member (object_of h) 0) parent_l.0) in
-            let up = ap (λ (h : Handle). handle Weak h.object h.place) parent_l.1 in
+            let up = weak_same d m parent.block parent.place keeps_m lists in
             let c = Member (object_of (node_in d parent)) 0 in (
               record {
                 block = b;
@@ -86,8 +88,8 @@ module _ {V : Type 0} where
                 made = m;
                 makes = makes'.1;
                 hung = n;
-                hangs = subst (λ (h : Handle). HangsUp m (latest_of m b.0) h n) up
-                    (subst (λ (h : Handle). HangsUp m (object_of h) (handle_in m Weak parent.block parent.place) n) made hangs);
+                watches = subst (λ (h : Handle). Watches m (latest_of m b.0) h n) up
+                    (subst (λ (h : Handle). Watches m (object_of h) (weak_in m parent) n) made watches);
                 rises = rises_later n l e c there
                     (does_both (PutsOnly (NextOf (latest_of m b.0))) n s l shared.0 (does_one (PutsOnly (NextOf (latest_of m b.0))) s l _ loads tt))
                     (subst (λ (h : Handle). Rises l c h e) copied (subst (λ (y : Cell). Rises l y (node_in l copy) e) cell rises));

@@ -21,7 +21,7 @@ use Rattle.control_block.specs.Own.{Does, IsSole, KeepsDesks}
 use Rattle.control_block.specs.Rule.{opening_of}
 use Rattle.scene_structures.specs.Chains.{IsList}
 use Rattle.scene_structures.specs.Puts.{PutsOnly, nowhere}
-use Rattle.scene_structures.specs.Scenes.{HangsUp}
+use Rattle.scene_structures.specs.Watches.{Watches}
 use Rattle.scene_structures.specs.Stacks.{NextOf, Rises}
 use Rattle.scene_structures.proofs.Frames.{Apart}
 use Rattle.scene_structures.proofs.Grows.{in_front, risen}
@@ -68,7 +68,7 @@ module _ {V : Type 0} where
             (All-cons (PutsOnly at) y r.before (inl refl) (all_wider (NextOf (object_of node)) at (λ k p. inl p) r.before r.early))));
       }
 
-  pub hangs_puts : (d e : DeskNow V) (o : ℕ) (up : Handle) → HangsUp d o up e → Does (PutsOnly (λ k. k ≡ Member o 2)) d e
+  pub hangs_puts : (d e : DeskNow V) (o : ℕ) (up : Handle) → Watches d o up e → Does (PutsOnly (λ k. k ≡ Member o 2)) d e
   hangs_puts d e o up r =
       let at = λ (k : Cell). k ≡ Member o 2 in let y = Swap (Member o 2) up r.was in
       record {
@@ -134,7 +134,7 @@ module _ {V : Type 0} where
       (legal_is d e puts.own r.goes keep legal sole) r.early r.leaves r.late head there (subst (λ (t : State). Lives t c) state lives) apart made block list)
 
   -- what an object's `up` holds after it was put there
-  pub hung_up : (d e : DeskNow V) (o : ℕ) (up : Handle) → HangsUp d o up e → IsLegal (opening_of d.shape) d.seen → IsSole d
+  pub hung_up : (d e : DeskNow V) (o : ℕ) (up : Handle) → Watches d o up e → IsLegal (opening_of d.shape) d.seen → IsSole d
       → InState (state_of d) (Member o 2) → Lives (state_of e) (Member o 2) → ((state_of e).object o).member 2 ≡ up
   unfolding hangs_puts
   hung_up d e o up r legal sole there lives =

@@ -1,7 +1,7 @@
 -- What the own events of an attach come to: in a row, and on a sole desk.
 use Rattle.std.proofs.Common.{◌≡◌, ℕ, suc, ◌<◌, ◌≤◌, false, true, List, [], ◌∷◌, ◌++◌, map, Some, refl, sym, ap, subst, ◌∙◌, arith}
 use Rattle.std.specs.Prelude.{All}
-use Rattle.std.proofs.lemmas.List.Elements.{All-append, All-cons, All-nil, All-weaker}
+use Rattle.std.proofs.lemmas.List.Elements.{All-append, All-cons, All-nil}
 use Rattle.control_word.proofs.history.Kept.{block_kept, cells_led}
 use Rattle.control_word.proofs.history.Legal.{sound}
 use Rattle.control_word.proofs.lists.Tallies.{put_same}
@@ -10,9 +10,8 @@ use Rattle.control_word.specs.Histories.{IsLegal, entry, leads}
 use Rattle.control_word.specs.State.{Object, State, live}
 use Rattle.control_word.specs.declared.event.Cell.{Cell}
 use Rattle.control_word.specs.declared.event.Cell.TheVariants.{Free, Member}
-use Rattle.control_word.specs.declared.event.Event.{Event}
-use Rattle.control_word.specs.declared.event.Event.TheVariants.{ClearMember, Compare, Count, Expired, Finish, Join, Leave, Load, Lock, Make, Read}
-use Rattle.control_word.specs.declared.event.Event.TheVariants.{Share, Split, Swap, Visit, WeakLeave, WeakShare}
+use Rattle.control_word.specs.declared.event.Event.TheVariants.{Compare, Make}
+use Rattle.control_word.specs.declared.event.Event.TheVariants.{Swap}
 use Rattle.control_word.specs.declared.place.Place.{Place}
 use Rattle.control_block.proofs.Own.{goes_by_call, goes_in_turn}
 use Rattle.control_block.specs.Desks.{DeskNow, latest_of, state_of}
@@ -20,20 +19,22 @@ use Rattle.control_block.specs.Own.{Goes, IsSole, KeepsDesks}
 use Rattle.control_block.specs.Rule.{opening_of}
 use Rattle.control_block.specs.declared.handles.Shared.{Shared}
 use Rattle.scene_structures.specs.Chains.{IsList}
-use Rattle.scene_structures.specs.Observers.{Attaches, IsAttached, ups, weak_in}
+use Rattle.scene_structures.specs.Observers.{Attaches, IsAttached, ups}
 use Rattle.scene_structures.specs.Puts.{PutsOnly, nowhere}
 use Rattle.scene_structures.specs.Stacks.{NextOf}
+use Rattle.scene_structures.specs.Watches.{weak_in}
+use Rattle.scene_structures.proofs.Alone.{all_wider}
 use Rattle.scene_structures.proofs.Frames.{Apart, chain_live, frames}
 use Rattle.scene_structures.proofs.Grows.{in_front, risen}
 use Rattle.scene_structures.proofs.Members.{member_run, ups_run}
-use Rattle.scene_structures.proofs.Rows.{partings_put, puts_keep}
-use Rattle.scene_structures.proofs.Sole.{fresh_apart, legal_is, state_is}
+use Rattle.scene_structures.proofs.Rows.{partings_put}
+use Rattle.scene_structures.proofs.Sole.{fresh_apart, keep_all, legal_is, state_is}
 
 abbrev member_no : Cell → ℕ
 member_no (Free n) = 0
 member_no (Member o m) = m
 
-abbrev UpOf : ℕ → Cell → Type 0
+abbrev pub UpOf : ℕ → Cell → Type 0
 UpOf o c = c ≡ Member o 2
 
 -- the cell is no object's `up`
@@ -43,37 +44,11 @@ NoUp c = (p : ℕ) → c ≡ Member p 2 → ⊥
 next_no_up : (o p : ℕ) → Member o 1 ≡ Member p 2 → ⊥
 next_no_up o p e = let n : ◌≡◌ {A = ℕ} 1 2 = ap member_no e in absurd (omega arith)
 
-apart_up : (o : ℕ) (os : List ℕ) → Apart (UpOf o) os
+pub apart_up : (o : ℕ) (os : List ℕ) → Apart (UpOf o) os
 apart_up o [] = tt
 apart_up o (p ∷ os) = (λ e. next_no_up p o e, apart_up o os)
 
 module _ {V : Type 0} where
-  puts_wider : (at to : Cell → Type 0) → ((c : Cell) → at c → to c) → (x : Event V) → PutsOnly at x → PutsOnly to x
-  puts_wider at to wider (Swap c new old) p = wider c p
-  puts_wider at to wider (Compare c ex new h true w) p = wider c p
-  puts_wider at to wider (Compare c ex new h false w) p = tt
-  puts_wider at to wider (Split to' n hs bs) p = p
-  puts_wider at to wider (Join other) p = p
-  puts_wider at to wider (Make b enabled null fields value) p = tt
-  puts_wider at to wider (Leave h last) p = tt
-  puts_wider at to wider (ClearMember q m h) p = tt
-  puts_wider at to wider (Finish q v y) p = tt
-  puts_wider at to wider (Share h q) p = tt
-  puts_wider at to wider (Count h k) p = tt
-  puts_wider at to wider (Expired h y) p = tt
-  puts_wider at to wider (Read h k) p = tt
-  puts_wider at to wider (WeakShare q y) p = tt
-  puts_wider at to wider (WeakLeave h v) p = tt
-  puts_wider at to wider (Lock h got) p = tt
-  puts_wider at to wider (Load c got) p = tt
-  puts_wider at to wider (Visit h y w) p = tt
-
-  pub all_wider : (at to : Cell → Type 0) → ((c : Cell) → at c → to c) → (xs : List (Event V)) → All (PutsOnly at) xs → All (PutsOnly to) xs
-  all_wider at to wider xs all = All-weaker (PutsOnly at) (PutsOnly to) (puts_wider at to wider) xs all
-
-  keep_all : (at : Cell → Type 0) (xs : List (Event V)) → All (PutsOnly at) xs → All KeepsDesks xs
-  keep_all at xs all = All-weaker (PutsOnly at) KeepsDesks (puts_keep at) xs all
-
   -- what goes into the new node's `up` stays there, as do those of the others
   pub attached_list : (d e : DeskNow V) (m : ℕ) (subject : Shared) (x : V) → Attaches d (Free m) subject x e → IsLegal (opening_of d.shape) d.seen
       → IsSole d → m < (opening_of d.shape).cells → IsAttached d (Free m) subject e

@@ -71,7 +71,7 @@ module _ {V : Type 0} where
   live_before s d o (Visit h y w) at p made = λ l. l
 
   -- a member that is put nowhere stays, while its object lives
-  member_after : (s : State) (d o k : ℕ) (x : Event V) (at : Cell → Type 0) → Asks s d x → PutsOnly at x → (at (Member o k) → ⊥) → o ≤ s.made
+  pub member_after : (s : State) (d o k : ℕ) (x : Event V) (at : Cell → Type 0) → Asks s d x → PutsOnly at x → (at (Member o k) → ⊥) → o ≤ s.made
       → (s.object o).phase ≡ live → ((after s d x).object o).member k ≡ (s.object o).member k
   member_after s d o k (Make b enabled null fields value) at asks p not made lives =
       ap (λ (u : Object). u.member k) (put_other s.object (suc s.made) (new_object b.0 enabled null fields) o (λ e. omega arith))

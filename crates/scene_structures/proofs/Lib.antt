@@ -14,7 +14,6 @@ pub mod Sole
 pub mod Attached
 pub mod Calls
 pub mod Watches
-pub mod Hangs
 pub mod Adopting
 pub mod Alone
 pub mod Adopted

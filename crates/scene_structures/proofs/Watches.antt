@@ -14,7 +14,7 @@ use Rattle.control_word.specs.declared.place.Place.{Place}
 use Rattle.control_block.proofs.Latest.{calls_keep_latest}
 use Rattle.control_block.proofs.Own.{goes_by_call, goes_in_turn}
 use Rattle.control_block.specs.CellCalls.{handle_in, with_handle, without_handle}
-use Rattle.control_block.specs.Desks.{Adds, DeskNow, bag_of, latest_of}
+use Rattle.control_block.specs.Desks.{Adds, DeskNow, KeepsEndings, bag_of, latest_of}
 use Rattle.control_block.specs.Own.{Does, KeepsLatest}
 use Rattle.control_block.specs.declared.handles.Shared.{Shared}
 use Rattle.shared_handle.proofs.Callers.{first_out}
@@ -24,9 +24,10 @@ use Rattle.atomic_cells.specs.Sites.{IsMember, weak_cell}
 use Rattle.atomic_cells.specs.declared.sites.WeakSite.TheVariants as site
 use Rattle.atomic_cells.specs.declared.weak_at.WeakAt.{WeakAt}
 use Rattle.scene_structures.specs.Hands.{KeepsHeld, Lists, node_in}
-use Rattle.scene_structures.specs.Observers.{Attaches, Watches, weak_in}
+use Rattle.scene_structures.specs.Observers.{Attaches}
 use Rattle.scene_structures.specs.Puts.{PutsOnly, nowhere}
 use Rattle.scene_structures.specs.Stacks.{NextOf, Rises}
+use Rattle.scene_structures.specs.Watches.{Watches, weak_in}
 use Rattle.scene_structures.proofs.Calls.{got_lists}
 use Rattle.scene_structures.proofs.Latest.{has_over, latest_none, weak_latest}
 use Rattle.scene_structures.proofs.Pushes.{rises_later, same_left, same_node}
@@ -37,6 +38,10 @@ weak_out None p l = refl
 weak_out (Some b) p l = first_out Weak (Some b) p l
 
 module _ {V : Type 0} where
+  pub endings_both : (d e f : DeskNow V) → KeepsEndings d e → KeepsEndings e f → KeepsEndings d f
+  endings_both d e f one two b x ends =
+      let s = one b x ends in let t = two b x s.ends in record { ends = t.ends; members = λ m. t.members m ∙ s.members m }
+
   pub lists_of : (d : DeskNow V) (b : Option Block) (p : Option Place) → Holds d Owner b p → Lists b p (bag_of d)
   lists_of d None p holds = tt
   lists_of d (Some b) p holds = holds

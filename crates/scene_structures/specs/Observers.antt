@@ -1,43 +1,23 @@
 -- What the calls on observers say: by the desk's own events, and for a sole desk by the list of nodes (own).
-use Rattle.std.specs.Prelude.{◌≡◌, ℕ, suc, false, All, List, [], ◌∷◌, ◌++◌, map}
+use Rattle.std.specs.Prelude.{◌≡◌, ℕ, suc, false, List, [], ◌∷◌, map}
 use Rattle.control_word.specs.Events.{place_at}
 use Rattle.control_word.specs.Handles.{owner}
 use Rattle.control_word.specs.State.{State}
 use Rattle.control_word.specs.declared.event.Cell.{Cell}
-use Rattle.control_word.specs.declared.event.Cell.TheVariants.{Member}
-use Rattle.control_word.specs.declared.event.Event.{Event}
-use Rattle.control_word.specs.declared.event.Event.TheVariants.{Make, Swap}
+use Rattle.control_word.specs.declared.event.Event.TheVariants.{Make}
 use Rattle.control_word.specs.declared.handle.Handle.{Handle}
-use Rattle.control_word.specs.declared.handle.Kind.TheVariants.{Weak}
 use Rattle.control_word.specs.declared.place.Block.{Block}
-use Rattle.control_block.specs.CellCalls.{handle_in}
 use Rattle.control_block.specs.Desks.{Adds, DeskNow, latest_of, state_of}
-use Rattle.control_block.specs.Own.{Goes}
 use Rattle.control_block.specs.declared.handles.Shared.{Shared}
-use Rattle.shared_handle.specs.Calls.{weak_place}
-use Rattle.shared_handle.specs.Piles.{IsParting}
 use Rattle.scene_structures.specs.Chains.{IsList}
-use Rattle.scene_structures.specs.Puts.{PutsOnly, nowhere}
 use Rattle.scene_structures.specs.Stacks.{Rises}
+use Rattle.scene_structures.specs.Watches.{Watches, weak_in}
 
 -- what the objects' `up` hold
 abbrev pub ups : State → List ℕ → List Handle
 ups s os = map (λ o. (s.object o).member 2) os
 
 module _ {V : Type 0} where
-  -- a weak handle of what this owns, which points where it does
-  abbrev pub weak_in : DeskNow V → Shared → Handle
-  weak_in d h = handle_in d Weak h.block (weak_place h.block h.place)
-
-  -- this went into the object's `up`; before it nothing was put anywhere, and after it handles left
-  pub record Watches (d : DeskNow V) (o : ℕ) (up : Handle) (e : DeskNow V) : Type 0 where
-    pub was : Handle
-    pub before : List (Event V)
-    pub after : List (Event V)
-    pub goes : Goes d (after ++ Swap (Member o 2) up was ∷ before) e
-    pub early : All (PutsOnly nowhere) before
-    pub late : All IsParting after
-
   -- attach: a new object with fields 0 and this value was made, a weak handle of the subject went into its `up`, and its
   -- owner, which points at it, rises
   pub record Attaches (d : DeskNow V) (c : Cell) (subject : Shared) (x : V) (e : DeskNow V) : Type 0 where

@@ -1,27 +1,21 @@
 -- What the calls on a scene tree say (own). An object's children are the list in its `first`.
-use Rattle.std.specs.Prelude.{◌≡◌, ◌≢◌, ℕ, suc, ◌+◌, ◌<◌, false, All, List, [], ◌∷◌, ◌++◌, Option, None, Some}
+use Rattle.std.specs.Prelude.{◌≡◌, ◌≢◌, ℕ, suc, ◌+◌, ◌<◌, false, List, [], ◌∷◌, Option, None, Some}
 use Rattle.control_word.specs.Events.{place_at}
 use Rattle.control_word.specs.Handles.{object_of, owner}
 use Rattle.control_word.specs.State.{State}
 use Rattle.control_word.specs.declared.event.Cell.TheVariants.{Member}
-use Rattle.control_word.specs.declared.event.Event.{Event}
-use Rattle.control_word.specs.declared.event.Event.TheVariants.{Make, Swap}
-use Rattle.control_word.specs.declared.handle.Handle.{Handle}
-use Rattle.control_word.specs.declared.handle.Kind.TheVariants.{Weak}
+use Rattle.control_word.specs.declared.event.Event.TheVariants.{Make}
 use Rattle.control_word.specs.declared.place.Block.{Block}
 use Rattle.control_word.specs.declared.place.Place.{Place}
 use Rattle.control_word.specs.declared.refusal.Refusal.{Refusal}
 use Rattle.control_word.specs.declared.refusal.Refusal.TheVariants.{Full, Limit, Null, Outside}
-use Rattle.control_block.specs.CellCalls.{handle_in}
 use Rattle.control_block.specs.Desks.{Adds, DeskNow, allowance_of, held_of, latest_of, state_of, stock_of}
-use Rattle.control_block.specs.Own.{Goes}
 use Rattle.control_block.specs.declared.handles.Shared.{Shared}
 use Rattle.shared_handle.specs.Endings.{IsOutside, IsWithin}
-use Rattle.shared_handle.specs.Piles.{IsParting}
 use Rattle.scene_structures.specs.Chains.{IsList}
 use Rattle.scene_structures.specs.Hands.{node_in}
-use Rattle.scene_structures.specs.Puts.{PutsOnly, nowhere}
 use Rattle.scene_structures.specs.Stacks.{Rises}
+use Rattle.scene_structures.specs.Watches.{Watches, weak_in}
 
 -- the object's children, the one that was added last in front
 abbrev pub AreChildren : State → ℕ → List ℕ → Type 0
@@ -44,15 +38,6 @@ module _ {V : Type 0} where
   abbrev pub MayHaveChild : DeskNow V → Option Block → Option Place → Type 0
   MayHaveChild d b p = (IsNearLimit d → ⊥) × (stock_of d ≢ []) × IsWithin b p
 
-  -- this went into the object's `up`, and after it handles left; nothing else was put anywhere
-  pub record HangsUp (d : DeskNow V) (o : ℕ) (up : Handle) (e : DeskNow V) : Type 0 where
-    pub was : Handle
-    pub before : List (Event V)
-    pub after : List (Event V)
-    pub goes : Goes d (after ++ Swap (Member o 2) up was ∷ before) e
-    pub early : All (PutsOnly nowhere) before
-    pub late : All IsParting after
-
   -- a new object with these fields and this value was made; a weak handle of the parent went into its `up`; and its owner,
   -- which points at it, rises in the parent's `first`
   pub record Adopts (d : DeskNow V) (parent : Shared) (fields : List ℕ) (x : V) (child : Shared) (e : DeskNow V) : Type 0 where
@@ -61,7 +46,7 @@ module _ {V : Type 0} where
     pub made : DeskNow V
     pub makes : Adds d (Make block false false fields x) made
     pub hung : DeskNow V
-    pub hangs : HangsUp made (latest_of made block.0) (handle_in d Weak parent.block parent.place) hung
+    pub watches : Watches made (latest_of made block.0) (weak_in d parent) hung
     pub rises : Rises hung (Member (object_of (node_in d parent)) 0) (owner (latest_of made block.0) (place_at block.0)) e
 
   -- the new object is the first of the parent's children, and its `up` is the parent
@@ -69,4 +54,4 @@ module _ {V : Type 0} where
   IsAdopted d parent e =
       let p = object_of (node_in d parent) in let o = suc (state_of d).made in
       ((os : List ℕ) → AreChildren (state_of d) p os → AreChildren (state_of e) p (o ∷ os))
-      × (((state_of e).object o).member 2 ≡ handle_in d Weak parent.block parent.place)
+      × (((state_of e).object o).member 2 ≡ weak_in d parent)

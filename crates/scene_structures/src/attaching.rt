@@ -1,19 +1,19 @@
-//! The subject of a node.
+//! The subject of a node, or its parent.
 ghost use Rattle.std.specs.Prelude.{◌≡◌, ◌<◌};
 ghost use Rattle.control_word.specs.Handles.{object_of};
 ghost use Rattle.control_word.specs.declared.handle.Kind.TheVariants.{Owner};
-ghost use Rattle.control_block.specs.Desks.{Belongs, IsSameDesk, allowance_of, bag_of, endings_of};
+ghost use Rattle.control_block.specs.Desks.{Belongs, IsSameDesk, KeepsEndings, allowance_of, bag_of, endings_of, held_of};
 ghost use Rattle.shared_handle.specs.Calls.{Holds};
 ghost use Rattle.shared_handle.specs.Endings.{IsWithin};
 ghost use Rattle.scene_structures.specs.Hands.{KeepsHeld, node_in};
-ghost use Rattle.scene_structures.specs.Observers.{Watches, weak_in};
+ghost use Rattle.scene_structures.specs.Watches.{Watches, weak_in};
 
 use atomic_cells::WeakAt;
 use control_block::desk::Desk;
 use control_block::domain::Domain;
 use shared_handle::{Shared, downgrade, release_weak};
 
-/// The node's member `up` is a weak handle of the subject.
+/// A weak handle of the subject goes into the node's member `up`, and what was there leaves.
 pub(crate) fn watch<V: Drop + Send>(
     domain: &Domain<V>,
     desk: &mut Desk<V>,
@@ -23,12 +23,12 @@ pub(crate) fn watch<V: Drop + Send>(
     requires domain { Belongs desk.old domain.now }
     requires node { IsWithin node.now.block node.now.place }
     requires holds { Holds desk.old Owner node.now.block node.now.place × Holds desk.old Owner subject.now.block subject.now.place }
-    requires room { desk.old.held < allowance_of desk.old }
-    requires settled { endings_of desk.old ≡ 0 }
-    ensures settled { endings_of desk.new ≡ 0 }
+    requires room { held_of desk.old < allowance_of desk.old }
     ensures bag { bag_of desk.new ≡ bag_of desk.old }
     ensures held { desk.new.held ≡ desk.old.held }
     ensures desk { IsSameDesk desk.old desk.new }
+    ensures endings { KeepsEndings desk.old desk.new }
+    ensures count { endings_of desk.new ≡ endings_of desk.old }
     ensures own { Watches desk.old (object_of (node_in desk.old node.now)) (weak_in desk.old subject.now) desk.new }
     ensures latest { KeepsHeld desk.old desk.new }
 {

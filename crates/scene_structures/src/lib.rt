@@ -4,7 +4,6 @@
 
 mod attaching;
 mod endings;
-mod hanging;
 mod observers;
 mod pause;
 mod popping;

@@ -9,7 +9,7 @@ ghost use Rattle.shared_handle.specs.Piles.{Bears};
 ghost use Rattle.scene_structures.specs.Scenes.{Adopts, IsAdopted, MayHaveChild, WhyNoChild};
 ghost use Rattle.scene_structures.specs.Stacks.{Serves};
 
-use crate::hanging::hang;
+use crate::attaching::watch;
 use crate::pushing::{Attempt, raise};
 use crate::stack::is_near_limit;
 use atomic_cells::{SharedAt, SharedMember};
@@ -98,7 +98,7 @@ impl<V: Drop + Send> Scene<V> {
         let Ok(node) = make(domain, desk, fields, false, value) else {
             unreachable!()
         };
-        hang(domain, desk, &node, parent);
+        watch(domain, desk, &node, parent);
         let Ok(copy) = share(domain, desk, &node) else {
             unreachable!()
         };
