@@ -1,93 +1,81 @@
--- What a desk has when a shared member of an object that ends in its hands was emptied.
-use Rattle.std.proofs.Common.{◌≡◌, ◌≢◌, ℕ, ◌+◌, cond, [], length, Option, refl, ap, ◌∙◌, arith}
-use Rattle.std.specs.Prelude.{IfSome, is_some}
-use mir.Val.{bool_byte}
+-- What a desk has when a member of an object that ends in its hands was emptied, and what that held has left, of either kind.
+use Rattle.std.proofs.Common.{◌≡◌, ◌≢◌, ℕ, ◌+◌, ◌≤◌, min, [], length, refl, ap, ◌∙◌, arith}
+use Rattle.std.specs.Prelude.{IfSome}
 use Rattle.control_word.specs.Handles.{empty}
+use Rattle.control_word.specs.State.{bag_size}
 use Rattle.control_word.specs.declared.cell.CellWord.{CellWord}
 use Rattle.control_word.specs.declared.event.Event.TheVariants.{ClearMember}
-use Rattle.control_word.specs.declared.handle.Kind.TheVariants.{Owner}
-use Rattle.control_block.specs.Clearing.{Empties}
-use Rattle.control_block.specs.Desks.{EndsStill, IsCleared, IsEnding, IsSameDesk, bag_of, endings_of, member_in, stock_of}
+use Rattle.control_word.specs.declared.handle.Kind.{Kind}
+use Rattle.control_block.specs.CellRounds.{CameOut}
+use Rattle.control_block.specs.Clearing.{TakesOut}
+use Rattle.control_block.specs.Desks.{DeskNow, EndsStill, IsCleared, IsEnding, IsSameDesk, KeepsOtherEndings, bag_of, endings_of, member_in, stock_of}
 use Rattle.control_block.specs.Handles.{IsProper}
 use Rattle.control_block.specs.Inside.{IsDesk, IsDeskWith, desk_now}
-use Rattle.control_block.specs.Leaving.{OutAndGone}
 use Rattle.control_block.specs.Plays.{Ends, Holding, known}
+use Rattle.control_block.specs.declared.board.Sight.{Sight}
 use Rattle.control_block.specs.declared.desk.Desk.TheInside.{Inside}
-use Rattle.control_block.proofs.CellDesks.{one_few}
+use Rattle.control_block.proofs.CellDesks.{one, one_few}
 use Rattle.control_block.proofs.CellRounds.{came_holding}
 use Rattle.control_block.proofs.CellTrades.{clear_trades}
 use Rattle.control_block.proofs.ClearDesks as clear
-use Rattle.control_block.proofs.GoneDesks as gone
+use Rattle.control_block.proofs.GoneDesks.{HasGone}
 
-module _ {V : Type 0} (d f : Inside V) (h : IsDesk d) (b m : ℕ) (ends : Ends d.seat.me.0 ((known d.seat.me.0).latest b) b) (x : CellWord) (r : Option V)
-    (o : OutAndGone (λ y. ClearMember ((known d.seat.me.0).latest b) m y) d.seat.me.0 x r f.seat.me.0) (table : f.seat.table_id ≡ d.seat.table_id)
-    (held : f.held ≡ d.held) where
+module _ {V : Type 0} where
+  -- what is so once a member is empty: s blocks more are vacant, and n objects more end with the desk
+  pub record IsEmptied (d : DeskNow V) (b m s n : ℕ) (e : DeskNow V) : Type 0 where
+    pub bag : bag_of e ≡ bag_of d
+    pub cleared : (y : V) → IsEnding d b y → IsCleared e b m
+    pub kept : (y : V) → IsEnding d b y → (q : ℕ) → q ≢ m → member_in e b q ≡ member_in d b q
+    pub ending : (y : V) → IsEnding d b y → IsEnding e b y
+    pub endings : KeepsOtherEndings d b e
+    pub desk : IsSameDesk d e
+    pub stock : length (stock_of e) ≡ length (stock_of d) + s
+    pub count : endings_of e ≡ endings_of d + n
+
+module _ {V : Type 0} (k : Kind) (d f : Inside V) (h : IsDesk d) (b m : ℕ) (ends : Ends d.seat.me.0 ((known d.seat.me.0).latest b) b) (x : CellWord)
+    (between : Sight V) (out : CameOut (λ y. ClearMember ((known d.seat.me.0).latest b) m y) k d.seat.me.0 x between)
+    (table : f.seat.table_id ≡ d.seat.table_id) where
   -- the desk between the two events
-  abbrev t : Inside V
-  t = record { seat = record f.seat { me = (o.between, []) }; allowance = d.allowance; held = d.held + 1; endings = d.endings; store = d.store }
+  abbrev pub t : Inside V
+  t = record { seat = record f.seat { me = (between, []) }; allowance = d.allowance; held = d.held + 1; endings = d.endings; store = d.store }
 
-  mid : IsDeskWith 1 t
+  pub mid : IsDeskWith 1 t
   mid =
       let few = one_few x.owned in
-      clear.desk_out d h b m ends Owner t x o.out table 1 refl refl refl refl (omega (arith, h.holding, few)) (omega (arith, h.within))
+      clear.desk_out d h b m ends k t x out table 1 refl refl refl refl (omega (arith, h.holding, few)) (omega (arith, h.within))
 
-  holds : IfSome x.owned (λ a. Holding o.between Owner ((known o.between).latest a.0) x.place a.0)
-  holds = came_holding (λ y. ClearMember ((known d.seat.me.0).latest b) m y) Owner d.seat.me.0 o.between x (empty Owner)
-      (clear_trades V ((known d.seat.me.0).latest b) m Owner) o.out
+  pub holds : IfSome x.owned (λ a. Holding between k ((known between).latest a.0) x.place a.0)
+  holds = came_holding (λ y. ClearMember ((known d.seat.me.0).latest b) m y) k d.seat.me.0 between x (empty k)
+      (clear_trades V ((known d.seat.me.0).latest b) m k) out
 
-  less : f.held + 1 ≡ t.held
-  less = omega arith
+  pub takes : TakesOut (desk_now d) b m k x.owned x.place (desk_now t)
+  takes = record { event = clear.adds_out d h b m ends k t x out table; held = refl }
 
-  pub empties : Empties (desk_now d) b m x.owned x.place r (desk_now f)
-  empties =
-      record {
-        between = desk_now t;
-        takes = record { event = clear.adds_out d h b m ends Owner t x o.out table; held = refl };
-        lets = gone.lets_go t f mid x.owned x.place r o.gone holds refl less;
-      }
+  pub room : bag_size (known between) between.view.name + 1 ≤ t.held + one x.owned
+  room = let s = clear.size_out d h b m ends k t x out table in let u = h.holding in omega arith
 
-  pub desk_is : f.seat.me.1 ≡ [] → f.store ≡ d.store → f.allowance ≡ d.allowance → (n : ℕ) → n ≡ bool_byte (is_some r) → f.endings ≡ d.endings + n
-      → IsDesk f
-  desk_is none store allowance n byte endings =
-      let s = clear.size_out d h b m ends Owner t x o.out table in let one' = clear.one_ends d h b m ends Owner t x o.out table in
-      gone.desk_gone t f mid x.owned x.place r o.gone holds refl less none store allowance n byte endings
-      (let u = h.holding in omega arith) (let w = h.within in omega arith)
+  pub within : f.held ≡ d.held → d.endings ≤ f.endings → f.allowance ≡ d.allowance → f.held + min 1 f.endings ≤ f.allowance
+  within held more same = let w = h.within in let one' = clear.one_ends d h b m ends k t x out table in omega arith
 
-  pub bag_is : bag_of (desk_now f) ≡ bag_of (desk_now d)
-  bag_is = gone.bag_gone t f mid x.owned x.place r o.gone holds refl less (bag_of (desk_now d)) (clear.bag_out d h b m ends Owner t x o.out table)
+  pub proper_is : IsProper k x.owned x.place
+  proper_is = clear.proper_out d h b m ends k t x out table
 
-  pub same_is : IsSameDesk (desk_now d) (desk_now f)
-  same_is =
-      let a = clear.same_out d h b m ends Owner t x o.out table in let c = gone.same_gone t f mid x.owned x.place r o.gone holds refl less in
-      record { domain = c.domain ∙ a.domain; shape = c.shape ∙ a.shape; name = c.name ∙ a.name; allowance = c.allowance ∙ a.allowance }
+  module _ {s n : ℕ} (gone : HasGone k x.owned x.place s n (desk_now t) (desk_now f)) where
+    still : (y : V) → IsEnding (desk_now d) b y → EndsStill (desk_now t) (desk_now f) b y
+    still y was = gone.still b y (clear.ends_out d h b m ends k t x out table y was)
 
-  pub stock_is : length (stock_of (desk_now f)) ≡ length (stock_of (desk_now d))
-  stock_is = gone.stock_gone t f mid x.owned x.place r o.gone holds refl less ∙ clear.stock_out d h b m ends Owner t x o.out table
-
-  pub count_is : endings_of (desk_now f) ≡ endings_of (desk_now d) + cond (is_some r) 1 0
-  count_is = gone.count_gone t f mid x.owned x.place r o.gone holds refl less
-      ∙ ap (λ (n : ℕ). n + cond (is_some r) 1 0) (clear.count_out d h b m ends Owner t x o.out table)
-
-  after : (a : ℕ) (y : V) → IsEnding (desk_now t) a y → EndsStill (desk_now t) (desk_now f) a y
-  after a y was = gone.still_gone t f mid x.owned x.place r o.gone holds refl less a y was
-
-  pub others_are : (a : ℕ) (y : V) → a ≢ b → IsEnding (desk_now d) a y → EndsStill (desk_now d) (desk_now f) a y
-  others_are a y apart was =
-      let s = clear.others_out d h b m ends Owner t x o.out table a y apart was in let u = after a y s.ends in
-      record { ends = u.ends; members = λ q. u.members q ∙ s.members q }
-
-  module _ (y : V) (was : IsEnding (desk_now d) b y) where
-    still : EndsStill (desk_now t) (desk_now f) b y
-    still = after b y (clear.ends_out d h b m ends Owner t x o.out table y was)
-
-    pub ends_is : IsEnding (desk_now f) b y
-    ends_is = still.ends
-
-    pub cleared_is : IsCleared (desk_now f) b m
-    cleared_is = still.members m ∙ clear.cleared_out d h b m ends Owner t x o.out table y was
-
-    pub kept_is : (q : ℕ) → q ≢ m → member_in (desk_now f) b q ≡ member_in (desk_now d) b q
-    kept_is q ne = still.members q ∙ clear.kept_out d h b m ends Owner t x o.out table y was q ne
-
-  pub proper_is : IsProper Owner x.owned x.place
-  proper_is = clear.proper_out d h b m ends Owner t x o.out table
+    pub emptied : IsEmptied (desk_now d) b m s n (desk_now f)
+    emptied =
+        let a = clear.same_out d h b m ends k t x out table in let c = gone.same in
+        record {
+          bag = gone.bag (bag_of (desk_now d)) (clear.bag_out d h b m ends k t x out table);
+          cleared = λ y was. (still y was).members m ∙ clear.cleared_out d h b m ends k t x out table y was;
+          kept = λ y was q ne. (still y was).members q ∙ clear.kept_out d h b m ends k t x out table y was q ne;
+          ending = λ y was. (still y was).ends;
+          endings = λ i y apart was.
+              let u = clear.others_out d h b m ends k t x out table i y apart was in let w = gone.still i y u.ends in
+              record { ends = w.ends; members = λ q. w.members q ∙ u.members q };
+          desk = record { domain = c.domain ∙ a.domain; shape = c.shape ∙ a.shape; name = c.name ∙ a.name; allowance = c.allowance ∙ a.allowance };
+          stock = gone.stock ∙ ap (λ z. z + s) (clear.stock_out d h b m ends k t x out table);
+          count = gone.count ∙ ap (λ z. z + n) (clear.count_out d h b m ends k t x out table);
+        }

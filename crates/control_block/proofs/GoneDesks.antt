@@ -8,12 +8,13 @@ use Rattle.control_word.specs.Histories.{IsLegal, value}
 use Rattle.control_word.specs.Layout.{IsWithinLimits}
 use Rattle.control_word.specs.State.{bag_size, ending, same_stored, stock, stored}
 use Rattle.control_word.specs.declared.handle.Handle.{Handle}
+use Rattle.control_word.specs.declared.handle.Kind.{Kind}
 use Rattle.control_word.specs.declared.handle.Kind.TheVariants.{Owner}
 use Rattle.control_word.specs.declared.place.Block.{Block}
 use Rattle.control_word.specs.declared.place.Place.{Place}
 use Rattle.control_block.specs.CellCalls.{with_handle}
 use Rattle.control_block.specs.Clearing.{Lets}
-use Rattle.control_block.specs.Desks.{EndsStill, IsEnding, IsSameDesk, bag_of, endings_of, many_ending, stock_of}
+use Rattle.control_block.specs.Desks.{DeskNow, EndsStill, IsEnding, IsSameDesk, KeepsEndings, bag_of, endings_of, many_ending, stock_of}
 use Rattle.control_block.specs.Inside.{IsDesk, IsDeskWith, IsSized, desk_now}
 use Rattle.control_block.specs.Leaving.{LetGo}
 use Rattle.control_block.specs.Plays.{Holding, known}
@@ -23,6 +24,15 @@ use Rattle.control_block.specs.declared.desk.Desk.TheInside.{Inside}
 use Rattle.control_block.proofs.Bags.{shown}
 use Rattle.control_block.proofs.CellDesks.{one}
 use Rattle.control_block.proofs.ClearLeaves as leave
+
+module _ {V : Type 0} where
+  -- a handle that had come into the desk's hands has left: s blocks more are vacant, and n objects more end with the desk
+  pub record HasGone (k : Kind) (q : Option Block) (p : Option Place) (s n : ℕ) (t f : DeskNow V) : Type 0 where
+    pub same : IsSameDesk t f
+    pub still : KeepsEndings t f
+    pub stock : length (stock_of f) ≡ length (stock_of t) + s
+    pub count : endings_of f ≡ endings_of t + n
+    pub bag : (l : List Handle) → bag_of t ≡ with_handle k q p l → bag_of f ≡ l
 
 -- a desk that has seen no more has what it had
 module _ {V : Type 0} (t f : Inside V) (e : f.seat.me.0 ≡ t.seat.me.0) (table : f.seat.table_id ≡ t.seat.table_id) where
@@ -94,42 +104,29 @@ module _ {V : Type 0} (t f : Inside V) (g : IsDeskWith 1 t) (q : Option Block) (
           (it.0.0, λ i. record { domain = table i; shape = (e i).shape; name = (e i).view.name; seen = (e i).view.seen; held = less i })
       go (Some c) it = (leave.adds_left t f g c p r it.0.0 it.1 table, leave.ended_left t f g c p r it.0.0 it.1 table it.0.1)
 
-  pub same_gone : IsSameDesk (desk_now t) (desk_now f)
-  same_gone = go q (gone, holds)
+  pub has_gone : HasGone Owner q p 0 (cond (is_some r) 1 0) (desk_now t) (desk_now f)
+  has_gone = go q (gone, holds)
     where
-      go : (q : Option Block) → IsIt q → IsSameDesk (desk_now t) (desk_now f)
-      go None it = unseen_same t f it.0.1 table
-      go (Some c) it = leave.same_left t f g c p r it.0.0 it.1 table
-
-  pub still_gone : (b : ℕ) (y : V) → IsEnding (desk_now t) b y → EndsStill (desk_now t) (desk_now f) b y
-  still_gone b y was = go q (gone, holds)
-    where
-      go : (q : Option Block) → IsIt q → EndsStill (desk_now t) (desk_now f) b y
-      go None it = unseen_still t f it.0.1 table b y was
-      go (Some c) it = leave.still_left t f g c p r it.0.0 it.1 table b y was
-
-  pub stock_gone : length (stock_of (desk_now f)) ≡ length (stock_of (desk_now t))
-  stock_gone = go q (gone, holds)
-    where
-      go : (q : Option Block) → IsIt q → length (stock_of (desk_now f)) ≡ length (stock_of (desk_now t))
-      go None it = unseen_stock t f it.0.1 table
-      go (Some c) it = leave.stock_gone t f g c p r it.0.0 it.1 table
-
-  pub count_gone : endings_of (desk_now f) ≡ endings_of (desk_now t) + cond (is_some r) 1 0
-  count_gone = go q (gone, holds)
-    where
-      go : (q : Option Block) → IsIt q → endings_of (desk_now f) ≡ endings_of (desk_now t) + cond (is_some r) 1 0
+      go : (q : Option Block) → IsIt q → HasGone Owner q p 0 (cond (is_some r) 1 0) (desk_now t) (desk_now f)
       go None it =
           let none : ◌≡◌ {A = ℕ} (cond (is_some r) 1 0) 0 = ap (λ (y : Option V). cond (is_some y) 1 0) it.0.0 in
-          let s = unseen_count t f it.0.1 table in omega arith
-      go (Some c) it = leave.count_left t f g c p r it.0.0 it.1 table
-
-  pub bag_gone : (l : List Handle) → bag_of (desk_now t) ≡ with_handle Owner q p l → bag_of (desk_now f) ≡ l
-  bag_gone l e = go q (gone, holds) e
-    where
-      go : (q : Option Block) → IsIt q → bag_of (desk_now t) ≡ with_handle Owner q p l → bag_of (desk_now f) ≡ l
-      go None it e = unseen_bag t f it.0.1 table ∙ e
-      go (Some c) it e = leave.bag_left t f g c p r it.0.0 it.1 table (Some c) l refl e
+          let stock = unseen_stock t f it.0.1 table in let count = unseen_count t f it.0.1 table in
+          record {
+            same = unseen_same t f it.0.1 table;
+            still = unseen_still t f it.0.1 table;
+            stock = omega arith;
+            count = omega arith;
+            bag = λ l e. unseen_bag t f it.0.1 table ∙ e;
+          }
+      go (Some c) it =
+          let stock = leave.stock_gone t f g c p r it.0.0 it.1 table in
+          record {
+            same = leave.same_left t f g c p r it.0.0 it.1 table;
+            still = leave.still_left t f g c p r it.0.0 it.1 table;
+            stock = omega arith;
+            count = leave.count_left t f g c p r it.0.0 it.1 table;
+            bag = λ l e. leave.bag_left t f g c p r it.0.0 it.1 table (Some c) l refl e;
+          }
 
   pub desk_gone : f.seat.me.1 ≡ [] → f.store ≡ t.store → f.allowance ≡ t.allowance → (n : ℕ) → n ≡ bool_byte (is_some r) → f.endings ≡ t.endings + n
       → bag_size (known t.seat.me.0) t.seat.me.0.view.name + 1 ≤ t.held + one q → f.held + min 1 f.endings ≤ f.allowance → IsDesk f

@@ -1,23 +1,20 @@
 -- What a desk has when what came out of a weak cell has left: nothing, or a weak handle.
-use Rattle.std.proofs.Common.{◌≡◌, ℕ, ◌+◌, ◌-◌, ◌<◌, ◌≤◌, min, cond, Bool, true, [], ◌++◌, List, length, Option, Some, None, refl, ap}
+use Rattle.std.proofs.Common.{◌≡◌, ℕ, ◌+◌, ◌-◌, ◌<◌, ◌≤◌, min, cond, Bool, true, [], ◌++◌, Option, Some, None, refl, ap}
 use Rattle.std.proofs.Common.{◌∙◌, arith}
 use Rattle.std.proofs.lemmas.List.{append-nil}
 use Rattle.std.specs.Prelude.{IfSome, vec_capacity, vec_len}
 use Rattle.control_word.specs.State.{bag_size}
-use Rattle.control_word.specs.declared.handle.Handle.{Handle}
 use Rattle.control_word.specs.declared.handle.Kind.TheVariants.{Weak}
 use Rattle.control_word.specs.declared.place.Block.{Block}
 use Rattle.control_word.specs.declared.place.Place.{Place}
-use Rattle.control_block.specs.CellCalls.{with_handle}
 use Rattle.control_block.specs.Clearing.{LetsWeakly}
-use Rattle.control_block.specs.Desks.{EndsStill, IsEnding, IsSameDesk, bag_of, endings_of, stock_of}
 use Rattle.control_block.specs.Inside.{IsDesk, IsDeskWith, desk_now}
 use Rattle.control_block.specs.Leaving.{LetGoWeakly, freed}
 use Rattle.control_block.specs.Plays.{Holding, known}
 use Rattle.control_block.specs.declared.desk.Desk.TheInside.{Inside}
 use Rattle.control_block.proofs.CellDesks.{one}
 use Rattle.control_block.proofs.ClearWeakLeaves as leave
-use Rattle.control_block.proofs.GoneDesks.{unseen_bag, unseen_count, unseen_desk, unseen_same, unseen_still, unseen_stock}
+use Rattle.control_block.proofs.GoneDesks.{HasGone, unseen_bag, unseen_count, unseen_desk, unseen_same, unseen_still, unseen_stock}
 
 module _ {V : Type 0} (t f : Inside V) (g : IsDeskWith 1 t) (q : Option Block) (p : Option Place) (vacant : Bool)
     (gone : LetGoWeakly t.seat.me.0 q p vacant f.seat.me.0) (holds : IfSome q (λ c. Holding t.seat.me.0 Weak ((known t.seat.me.0).latest c.0) p c.0))
@@ -34,42 +31,29 @@ module _ {V : Type 0} (t f : Inside V) (g : IsDeskWith 1 t) (q : Option Block) (
           (it.0.0, λ i. record { domain = table i; shape = (e i).shape; name = (e i).view.name; seen = (e i).view.seen; held = less i })
       go (Some c) it = leave.adds_left t f g c p vacant it.0 it.1 table
 
-  pub same_gone : IsSameDesk (desk_now t) (desk_now f)
-  same_gone = go q (gone, holds)
+  pub has_gone : HasGone Weak q p (cond vacant 1 0) 0 (desk_now t) (desk_now f)
+  has_gone = go q (gone, holds)
     where
-      go : (q : Option Block) → IsIt q → IsSameDesk (desk_now t) (desk_now f)
-      go None it = unseen_same t f it.0.1 table
-      go (Some c) it = leave.same_left t f g c p vacant it.0 it.1 table
-
-  pub still_gone : (b : ℕ) (y : V) → IsEnding (desk_now t) b y → EndsStill (desk_now t) (desk_now f) b y
-  still_gone b y was = go q (gone, holds)
-    where
-      go : (q : Option Block) → IsIt q → EndsStill (desk_now t) (desk_now f) b y
-      go None it = unseen_still t f it.0.1 table b y was
-      go (Some c) it = leave.still_left t f g c p vacant it.0 it.1 table b y was
-
-  pub stock_gone : length (stock_of (desk_now f)) ≡ length (stock_of (desk_now t)) + cond vacant 1 0
-  stock_gone = go q (gone, holds)
-    where
-      go : (q : Option Block) → IsIt q → length (stock_of (desk_now f)) ≡ length (stock_of (desk_now t)) + cond vacant 1 0
+      go : (q : Option Block) → IsIt q → HasGone Weak q p (cond vacant 1 0) 0 (desk_now t) (desk_now f)
       go None it =
           let none : ◌≡◌ {A = ℕ} (cond vacant 1 0) 0 = ap (λ (y : Bool). cond y 1 0) it.0.0 in
-          let s = unseen_stock t f it.0.1 table in omega arith
-      go (Some c) it = leave.stock_gone t f g c p vacant it.0 it.1 table
-
-  pub count_gone : endings_of (desk_now f) ≡ endings_of (desk_now t)
-  count_gone = go q (gone, holds)
-    where
-      go : (q : Option Block) → IsIt q → endings_of (desk_now f) ≡ endings_of (desk_now t)
-      go None it = unseen_count t f it.0.1 table
-      go (Some c) it = leave.count_left t f g c p vacant it.0 it.1 table
-
-  pub bag_gone : (l : List Handle) → bag_of (desk_now t) ≡ with_handle Weak q p l → bag_of (desk_now f) ≡ l
-  bag_gone l e = go q (gone, holds) e
-    where
-      go : (q : Option Block) → IsIt q → bag_of (desk_now t) ≡ with_handle Weak q p l → bag_of (desk_now f) ≡ l
-      go None it e = unseen_bag t f it.0.1 table ∙ e
-      go (Some c) it e = leave.bag_left t f g c p vacant it.0 it.1 table (Some c) l refl e
+          let stock = unseen_stock t f it.0.1 table in let count = unseen_count t f it.0.1 table in
+          record {
+            same = unseen_same t f it.0.1 table;
+            still = unseen_still t f it.0.1 table;
+            stock = omega arith;
+            count = omega arith;
+            bag = λ l e. unseen_bag t f it.0.1 table ∙ e;
+          }
+      go (Some c) it =
+          let count = leave.count_left t f g c p vacant it.0 it.1 table in
+          record {
+            same = leave.same_left t f g c p vacant it.0 it.1 table;
+            still = leave.still_left t f g c p vacant it.0 it.1 table;
+            stock = leave.stock_gone t f g c p vacant it.0 it.1 table;
+            count = omega arith;
+            bag = λ l e. leave.bag_left t f g c p vacant it.0 it.1 table (Some c) l refl e;
+          }
 
   -- a block that becomes vacant has room in the store
   pub room_gone : vacant ≡ true → IfSome q (λ _. vec_len t.store < vec_capacity t.store)

@@ -7,9 +7,7 @@ pub mod ClearWeakLeaves
 pub mod GoneDesks
 pub mod GoneWeakDesks
 pub mod ClearGone
-pub mod ClearGoneWeakly
 pub mod StoreGone
-pub mod StoreGoneWeakly
 pub mod Closing
 pub mod EndingCounts
 pub mod EndingNames

@@ -10,7 +10,7 @@ use Rattle.control_word.proofs.history.Legal.{sound}
 use Rattle.control_word.proofs.lists.Tallies.{put_same}
 use Rattle.control_word.proofs.steps.WeakLeave as law
 use Rattle.control_word.specs.Events.{moved_to}
-use Rattle.control_word.specs.State.{ending, gone, put}
+use Rattle.control_word.specs.State.{gone, put}
 use Rattle.control_word.specs.declared.place.Block.{Block}
 use Rattle.control_word.specs.declared.event.Entry.{Entry}
 use Rattle.control_word.specs.declared.event.Event.{Event}

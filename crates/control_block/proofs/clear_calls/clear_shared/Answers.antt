@@ -1,16 +1,22 @@
-use Rattle.std.proofs.Common.{◌+◌, cond, refl, sym, ap, subst, ◌∙◌, arith, length, ne_eqb}
+use Rattle.std.proofs.Common.{◌≡◌, ◌+◌, cond, Option, refl, sym, ap, subst, ◌∙◌, arith, ne_eqb}
 use Rattle.std.proofs.lemmas.Bool.{cond-false}
 use Rattle.std.specs.Prelude.{is_some}
 use mir.Val.{bool_byte}
+use Rattle.control_word.specs.declared.event.Event.TheVariants.{ClearMember}
 use Rattle.control_word.specs.declared.handle.Kind.TheVariants.{Owner, Weak}
+use Rattle.control_word.specs.declared.cell.CellWord.{CellWord}
 use Rattle.control_block.specs.Clearing.{Empties}
-use Rattle.control_block.specs.Desks.{DeskNow, EndsStill, IsEnding, IsSameDesk, bag_of, endings_of, member_in, stock_of}
+use Rattle.control_block.specs.Desks.{DeskNow}
 use Rattle.control_block.specs.Inside.{desk_now}
-use Rattle.control_block.specs.Plays.{known}
+use Rattle.control_block.specs.Leaving.{OutAndGone}
+use Rattle.control_block.specs.Plays.{Ends, known}
 use Rattle.control_block.specs.declared.desk.Desk.TheInside.{Inside}
 use Rattle.control_block.proofs.ClearDesks.{room_out}
-use Rattle.control_block.proofs.ClearGone as gone
+use Rattle.control_block.proofs.ClearGone as clear
+use Rattle.control_block.proofs.ClearGone.{IsEmptied}
 use Rattle.control_block.proofs.EndingCounts.{few_ending}
+use Rattle.control_block.proofs.GoneDesks as gone
+use Rattle.control_block.proofs.GoneDesks.{HasGone}
 use Rattle.control_block.proofs.OwnCounts.{byte_few}
 use Rattle.control_block.proofs.OwnEndings.{ends_in}
 use Rattle.control_block.proofs.StoreBlocks.{ending_word}
@@ -38,92 +44,88 @@ overflow_add-desk g c =
     let d = c.desk.inside in let h = c.desk.invariant in let v = d.seat.me.0 in let few = few_ending v.shape.blocks (known v) v.view.name in
     let most = h.limits.blocks in let one = byte_few c.is_some.result in omega (arith, h.ended, c.from.ensures)
 
+module _ (g : _) (c : goal.After-content-1 g) where
+  abbrev d : Inside g.row.V.Denot
+  d = c.desk.inside
+
+  abbrev f : Inside g.row.V.Denot
+  f = record { seat = c.clear_shared-value.new.chair; allowance = d.allowance; held = d.held; endings = d.endings + c.from.result; store = d.store }
+
+  abbrev x : CellWord
+  x = c.clear_shared-value.result.0
+
+  abbrev r : Option g.row.V.Denot
+  r = c.clear_shared-value.result.1
+
+  ends : Ends d.seat.me.0 ((known d.seat.me.0).latest c.args.block.0) c.args.block.0
+  ends = ends_in d c.args.desk.now c.args.block.0 c.requires.ending.0 c.desk.view_is c.requires.ending.1
+
+  table : f.seat.table_id ≡ d.seat.table_id
+  table = c.clear_shared-value.ensures.chair.0
+
+  o : OutAndGone (λ y. ClearMember ((known d.seat.me.0).latest c.args.block.0) c.args.member y) d.seat.me.0 x r f.seat.me.0
+  o = c.clear_shared-value.ensures.cleared
+
+  -- the desk between the two events
+  abbrev t : Inside g.row.V.Denot
+  t = clear.t Owner d f c.desk.invariant c.args.block.0 c.args.member ends x o.between o.out table
+
+  has_gone : HasGone Owner x.owned x.place 0 (cond (is_some r) 1 0) (desk_now t) (desk_now f)
+  has_gone =
+      gone.has_gone t f (clear.mid Owner d f c.desk.invariant c.args.block.0 c.args.member ends x o.between o.out table) x.owned x.place r o.gone
+      (clear.holds Owner d f c.desk.invariant c.args.block.0 c.args.member ends x o.between o.out table) refl refl
+
+  emptied : IsEmptied c.args.desk.now c.args.block.0 c.args.member 0 (cond (is_some r) 1 0) (desk_now f)
+  emptied =
+      subst (λ (z : DeskNow g.row.V.Denot). IsEmptied z c.args.block.0 c.args.member 0 (cond (is_some r) 1 0) (desk_now f)) c.desk.view_is
+      (clear.emptied Owner d f c.desk.invariant c.args.block.0 c.args.member ends x o.between o.out table has_gone)
+
 pub invariant_of-desk : goal.invariant_of-desk
 invariant_of-desk g c =
-    let d = c.desk.inside in let h = c.desk.invariant in let b = c.args.block.0 in let m = c.args.member in
-    let n = c.clear_shared-value.ensures in let x = c.clear_shared-value.result.0 in let r = c.clear_shared-value.result.1 in
-    let ends = ends_in d c.args.desk.now b c.requires.ending.0 c.desk.view_is c.requires.ending.1 in
-    let f : Inside g.row.V.Denot = record { seat = c.clear_shared-value.new.chair; allowance = d.allowance; held = d.held; endings = d.endings + c.from.result; store = d.store } in
-    gone.desk_is d f h b m ends x r n.cleared n.chair.0 refl n.chair.2.none refl refl c.from.result (c.from.ensures ∙ ap bool_byte c.is_some.ensures) refl
+    let h = c.desk.invariant in let b = c.args.block.0 in let m = c.args.member in let u = o g c in let e = ends g c in let same = table g c in
+    gone.desk_gone (t g c) (f g c) (clear.mid Owner (d g c) (f g c) h b m e (x g c) u.between u.out same) (x g c).owned (x g c).place (r g c) u.gone
+    (clear.holds Owner (d g c) (f g c) h b m e (x g c) u.between u.out same) refl refl c.clear_shared-value.ensures.chair.2.none refl refl
+    c.from.result (c.from.ensures ∙ ap bool_byte c.is_some.ensures) refl (clear.room Owner (d g c) (f g c) h b m e (x g c) u.between u.out same)
+    (clear.within Owner (d g c) (f g c) h b m e (x g c) u.between u.out same refl (omega arith) refl)
 
 pub returns-clause-emptied : goal.returns-clause-emptied
 returns-clause-emptied g c =
-    let d = c.desk.inside in let h = c.desk.invariant in let b = c.args.block.0 in let m = c.args.member in
-    let n = c.clear_shared-value.ensures in let x = c.clear_shared-value.result.0 in let r = c.clear_shared-value.result.1 in
-    let ends = ends_in d c.args.desk.now b c.requires.ending.0 c.desk.view_is c.requires.ending.1 in
-    let f : Inside g.row.V.Denot = record { seat = c.clear_shared-value.new.chair; allowance = d.allowance; held = d.held; endings = d.endings + c.from.result; store = d.store } in
-    subst (λ (z : DeskNow g.row.V.Denot). Empties z b m x.owned x.place r (desk_now f)) c.desk.view_is (gone.empties d f h b m ends x r n.cleared n.chair.0 refl)
+    let h = c.desk.invariant in let b = c.args.block.0 in let m = c.args.member in let u = o g c in let e = ends g c in let same = table g c in
+    subst (λ (z : DeskNow g.row.V.Denot). Empties z b m (x g c).owned (x g c).place (r g c) (desk_now (f g c))) c.desk.view_is
+    record {
+      between = desk_now (t g c);
+      takes = clear.takes Owner (d g c) (f g c) h b m e (x g c) u.between u.out same;
+      lets = gone.lets_go (t g c) (f g c) (clear.mid Owner (d g c) (f g c) h b m e (x g c) u.between u.out same) (x g c).owned (x g c).place (r g c) u.gone
+          (clear.holds Owner (d g c) (f g c) h b m e (x g c) u.between u.out same) refl refl;
+    }
 
 pub returns-clause-bag : goal.returns-clause-bag
-returns-clause-bag g c =
-    let d = c.desk.inside in let h = c.desk.invariant in let b = c.args.block.0 in let m = c.args.member in
-    let n = c.clear_shared-value.ensures in let x = c.clear_shared-value.result.0 in let r = c.clear_shared-value.result.1 in
-    let ends = ends_in d c.args.desk.now b c.requires.ending.0 c.desk.view_is c.requires.ending.1 in
-    let f : Inside g.row.V.Denot = record { seat = c.clear_shared-value.new.chair; allowance = d.allowance; held = d.held; endings = d.endings + c.from.result; store = d.store } in
-    gone.bag_is d f h b m ends x r n.cleared n.chair.0 refl ∙ ap bag_of c.desk.view_is
+returns-clause-bag g c = (emptied g c).bag
 
 pub returns-clause-cleared : goal.returns-clause-cleared
-returns-clause-cleared g c =
-    let d = c.desk.inside in let h = c.desk.invariant in let b = c.args.block.0 in let m = c.args.member in
-    let n = c.clear_shared-value.ensures in let x = c.clear_shared-value.result.0 in let r = c.clear_shared-value.result.1 in
-    let ends = ends_in d c.args.desk.now b c.requires.ending.0 c.desk.view_is c.requires.ending.1 in
-    let f : Inside g.row.V.Denot = record { seat = c.clear_shared-value.new.chair; allowance = d.allowance; held = d.held; endings = d.endings + c.from.result; store = d.store } in
-    gone.cleared_is d f h b m ends x r n.cleared n.chair.0 refl c.requires.ending.0 (subst (λ (z : DeskNow g.row.V.Denot). IsEnding z b c.requires.ending.0) (sym c.desk.view_is) c.requires.ending.1)
+returns-clause-cleared g c = (emptied g c).cleared c.requires.ending.0 c.requires.ending.1
 
 pub returns-clause-kept : goal.returns-clause-kept
-returns-clause-kept g c =
-    let d = c.desk.inside in let h = c.desk.invariant in let b = c.args.block.0 in let m = c.args.member in
-    let n = c.clear_shared-value.ensures in let x = c.clear_shared-value.result.0 in let r = c.clear_shared-value.result.1 in
-    let ends = ends_in d c.args.desk.now b c.requires.ending.0 c.desk.view_is c.requires.ending.1 in
-    let f : Inside g.row.V.Denot = record { seat = c.clear_shared-value.new.chair; allowance = d.allowance; held = d.held; endings = d.endings + c.from.result; store = d.store } in
-    λ q ne. gone.kept_is d f h b m ends x r n.cleared n.chair.0 refl c.requires.ending.0 (subst (λ (z : DeskNow g.row.V.Denot). IsEnding z b c.requires.ending.0) (sym c.desk.view_is) c.requires.ending.1) q ne
-    ∙ ap (λ (z : DeskNow g.row.V.Denot). member_in z b q) c.desk.view_is
+returns-clause-kept g c = (emptied g c).kept c.requires.ending.0 c.requires.ending.1
 
 pub returns-clause-ending : goal.returns-clause-ending
-returns-clause-ending g c =
-    let d = c.desk.inside in let h = c.desk.invariant in let b = c.args.block.0 in let m = c.args.member in
-    let n = c.clear_shared-value.ensures in let x = c.clear_shared-value.result.0 in let r = c.clear_shared-value.result.1 in
-    let ends = ends_in d c.args.desk.now b c.requires.ending.0 c.desk.view_is c.requires.ending.1 in
-    let f : Inside g.row.V.Denot = record { seat = c.clear_shared-value.new.chair; allowance = d.allowance; held = d.held; endings = d.endings + c.from.result; store = d.store } in
-    λ y was. gone.ends_is d f h b m ends x r n.cleared n.chair.0 refl y (subst (λ (z : DeskNow g.row.V.Denot). IsEnding z b y) (sym c.desk.view_is) was)
+returns-clause-ending g c = (emptied g c).ending
 
 pub returns-clause-endings : goal.returns-clause-endings
-returns-clause-endings g c =
-    let d = c.desk.inside in let h = c.desk.invariant in let b = c.args.block.0 in let m = c.args.member in
-    let n = c.clear_shared-value.ensures in let x = c.clear_shared-value.result.0 in let r = c.clear_shared-value.result.1 in
-    let ends = ends_in d c.args.desk.now b c.requires.ending.0 c.desk.view_is c.requires.ending.1 in
-    let f : Inside g.row.V.Denot = record { seat = c.clear_shared-value.new.chair; allowance = d.allowance; held = d.held; endings = d.endings + c.from.result; store = d.store } in
-    λ i y ne was. subst (λ (z : DeskNow g.row.V.Denot). EndsStill z (desk_now f) i y) c.desk.view_is
-    (gone.others_are d f h b m ends x r n.cleared n.chair.0 refl i y ne (subst (λ (z : DeskNow g.row.V.Denot). IsEnding z i y) (sym c.desk.view_is) was))
+returns-clause-endings g c = (emptied g c).endings
 
 pub returns-clause-desk : goal.returns-clause-desk
-returns-clause-desk g c =
-    let d = c.desk.inside in let h = c.desk.invariant in let b = c.args.block.0 in let m = c.args.member in
-    let n = c.clear_shared-value.ensures in let x = c.clear_shared-value.result.0 in let r = c.clear_shared-value.result.1 in
-    let ends = ends_in d c.args.desk.now b c.requires.ending.0 c.desk.view_is c.requires.ending.1 in
-    let f : Inside g.row.V.Denot = record { seat = c.clear_shared-value.new.chair; allowance = d.allowance; held = d.held; endings = d.endings + c.from.result; store = d.store } in
-    subst (λ (z : DeskNow g.row.V.Denot). IsSameDesk z (desk_now f)) c.desk.view_is (gone.same_is d f h b m ends x r n.cleared n.chair.0 refl)
+returns-clause-desk g c = (emptied g c).desk
 
 pub returns-clause-stock : goal.returns-clause-stock
-returns-clause-stock g c =
-    let d = c.desk.inside in let h = c.desk.invariant in let b = c.args.block.0 in let m = c.args.member in
-    let n = c.clear_shared-value.ensures in let x = c.clear_shared-value.result.0 in let r = c.clear_shared-value.result.1 in
-    let ends = ends_in d c.args.desk.now b c.requires.ending.0 c.desk.view_is c.requires.ending.1 in
-    let f : Inside g.row.V.Denot = record { seat = c.clear_shared-value.new.chair; allowance = d.allowance; held = d.held; endings = d.endings + c.from.result; store = d.store } in
-    gone.stock_is d f h b m ends x r n.cleared n.chair.0 refl ∙ ap (λ z. length (stock_of z)) c.desk.view_is
+returns-clause-stock g c = let s = (emptied g c).stock in omega arith
 
 pub returns-clause-count : goal.returns-clause-count
-returns-clause-count g c =
-    let d = c.desk.inside in let h = c.desk.invariant in let b = c.args.block.0 in let m = c.args.member in
-    let n = c.clear_shared-value.ensures in let x = c.clear_shared-value.result.0 in let r = c.clear_shared-value.result.1 in
-    let ends = ends_in d c.args.desk.now b c.requires.ending.0 c.desk.view_is c.requires.ending.1 in
-    let f : Inside g.row.V.Denot = record { seat = c.clear_shared-value.new.chair; allowance = d.allowance; held = d.held; endings = d.endings + c.from.result; store = d.store } in
-    gone.count_is d f h b m ends x r n.cleared n.chair.0 refl ∙ ap (λ z. endings_of z + cond (is_some r) 1 0) c.desk.view_is
+returns-clause-count g c = (emptied g c).count
 
 pub invariant_of-content : goal.invariant_of-content
 invariant_of-content g c =
-    let d = c.desk.inside in let h = c.desk.invariant in let b = c.args.block.0 in let m = c.args.member in
-    let n = c.clear_shared-value.ensures in let x = c.clear_shared-value.result.0 in let r = c.clear_shared-value.result.1 in
-    let ends = ends_in d c.args.desk.now b c.requires.ending.0 c.desk.view_is c.requires.ending.1 in
-    let f : Inside g.row.V.Denot = record { seat = c.clear_shared-value.new.chair; allowance = d.allowance; held = d.held; endings = d.endings + c.from.result; store = d.store } in
-    record { proper = gone.proper_is d f h b m ends x r n.cleared n.chair.0 refl }
+    let d = c.desk.inside in let u = c.clear_shared-value.ensures.cleared in
+    let f : Inside g.row.V.Denot = record { seat = c.clear_shared-value.new.chair; allowance = d.allowance; held = d.held; endings = d.endings; store = d.store } in
+    let ends' = ends_in d c.args.desk.now c.args.block.0 c.requires.ending.0 c.desk.view_is c.requires.ending.1 in
+    record { proper = clear.proper_is Owner d f c.desk.invariant c.args.block.0 c.args.member ends' c.clear_shared-value.result.0 u.between u.out c.clear_shared-value.ensures.chair.0 }

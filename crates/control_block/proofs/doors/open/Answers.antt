@@ -1,5 +1,5 @@
-use Rattle.std.proofs.Common.{◌≡◌, ◌+◌, ◌-◌, ◌<◌, ◌%◌, ◌^◌, ◌∙◌, ◌∷◌, ℕ, [], Some, None, sym, ap, subst}
-use Rattle.atomic_table.specs.Table.{Allows, rest, step}
+use Rattle.std.proofs.Common.{◌+◌, ◌-◌, ◌<◌, ◌%◌, ◌^◌, ◌∙◌, Some, None, sym, ap, subst}
+use Rattle.atomic_table.specs.Table.{Allows, step}
 use mathlib.Core.Option.{none}
 use Rattle.control_word.specs.Handles.{owner}
 use Rattle.control_word.specs.declared.event.Event.TheVariants.{Visit}
@@ -8,7 +8,7 @@ use Rattle.control_word.specs.declared.view.Pending.TheVariants.{Idle, Visiting}
 use Rattle.control_block.specs.DoorPlays.{opened}
 use Rattle.control_block.specs.Plays.{Added}
 use Rattle.control_block.specs.Rule.{Ruled}
-use Rattle.control_block.proofs.Chairs.{in_hand, moved_added}
+use Rattle.control_block.proofs.Chairs.{moved_added}
 use Rattle.control_block.proofs.Visiting.{same_first, same_found}
 use Rattle.control_block.proofs.kept.Door.{allows_open}
 use Rattle.control_block.proofs.doors.open.Goals as goal

@@ -1,5 +1,5 @@
-use Rattle.std.proofs.Common.{◌==◌, ◌+◌, ◌-◌, ◌<◌, ◌∙◌, ◌∷◌, ℕ, Some, None, sym, ap, subst, inl, arith}
-use Rattle.atomic_table.specs.Table.{Allows, rest, step}
+use Rattle.std.proofs.Common.{◌==◌, ◌+◌, ◌-◌, ◌<◌, ◌∙◌, ◌∷◌, ℕ, Some, sym, ap, subst, inl, arith}
+use Rattle.atomic_table.specs.Table.{Allows, step}
 use mathlib.Core.Option.{none}
 use prog.Atomic.{either}
 use Rattle.control_word.specs.declared.handle.Kind.TheVariants.{Owner}
@@ -7,7 +7,6 @@ use Rattle.control_word.specs.declared.place.Block.{Block}
 use Rattle.control_block.specs.DoorPlays.{shut}
 use Rattle.control_block.specs.Plays.{At, peeked}
 use Rattle.control_block.specs.Rule.{Ruled}
-use Rattle.control_block.proofs.Chairs.{in_hand, same_value}
 use Rattle.control_block.proofs.Visiting.{visits_now}
 use Rattle.control_block.proofs.kept.Door.{allows_shut}
 use Rattle.control_block.proofs.kept.Peek.{allows_peek}

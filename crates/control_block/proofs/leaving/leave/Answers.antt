@@ -1,5 +1,5 @@
-use Rattle.std.proofs.Common.{◌≡◌, ℕ, ◌+◌, ◌-◌, ◌*◌, ◌%◌, ◌^◌, ◌<◌, arith, true, Some, None, sym, ap, subst, ◌∙◌, ◌∷◌}
-use Rattle.atomic_table.specs.Table.{Allows, rest, step}
+use Rattle.std.proofs.Common.{◌≡◌, ℕ, ◌+◌, ◌-◌, ◌*◌, ◌%◌, ◌^◌, ◌<◌, true, Some, None, sym, ap, subst, ◌∙◌, ◌∷◌}
+use Rattle.atomic_table.specs.Table.{Allows, step}
 use mathlib.Core.Option.{none}
 use Rattle.control_word.specs.Handles.{owner}
 use Rattle.control_word.specs.Histories.{value}

@@ -6,7 +6,7 @@ use Rattle.control_word.specs.declared.event.Event.TheVariants.{Finish}
 use Rattle.control_word.specs.declared.place.Block.{Block}
 use Rattle.control_word.specs.declared.view.Pending.TheVariants.{Idle}
 use Rattle.control_block.specs.Plays.{Added, Ends, IsClear, fetched, tells}
-use Rattle.control_block.specs.Rule.{Ruled, opening_of, seeing}
+use Rattle.control_block.specs.Rule.{Ruled, opening_of}
 use Rattle.control_block.specs.declared.board.Sight.{Sight}
 use Rattle.control_block.proofs.Chairs.{added_at, first_slot, some_same}
 use Rattle.control_block.proofs.kept.Fetch.{allows_fetch}

@@ -1,5 +1,4 @@
-use Rattle.std.proofs.Common.{◌-◌, ◌∷◌, List, ℕ, Bool, None, Some, length, sym, ap, subst, ◌∙◌, arith}
-use Rattle.atomic_table.specs.Table.{rest}
+use Rattle.std.proofs.Common.{◌∷◌, List, ℕ, Bool, None, Some, length, sym, ap, subst, ◌∙◌, arith}
 use Rattle.control_word.specs.Words.{flags_of}
 use Rattle.control_word.specs.declared.event.Event.TheVariants.{Make}
 use Rattle.control_block.specs.Plays.{IsPrepared, tells}
