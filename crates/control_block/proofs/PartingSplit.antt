@@ -1,6 +1,7 @@
 -- What the two desks of a split have.
-use Rattle.std.proofs.Common.{◌≡◌, ◌≢◌, ℕ, ◌+◌, ◌-◌, ◌<◌, ◌≤◌, ◌==◌, List, [], ◌∷◌, ◌++◌, map, length}
+use Rattle.std.proofs.Common.{◌≡◌, ◌≢◌, ℕ, ◌+◌, ◌-◌, ◌<◌, ◌≤◌, ◌==◌, max, min, List, [], ◌∷◌, ◌++◌, map, length}
 use Rattle.std.proofs.Common.{refl, sym, ap, subst, ◌∙◌, arith}
+use Rattle.std.proofs.Math.Nat.{le-max_left, le-max_right}
 use Rattle.std.proofs.lemmas.List.{length-map}
 use Rattle.std.specs.List.{filter}
 use Rattle.control_word.proofs.lists.Sums.{num_length}
@@ -14,9 +15,9 @@ use Rattle.control_word.specs.declared.event.Entry.{Entry}
 use Rattle.control_word.specs.declared.event.Event.TheVariants.{Split}
 use Rattle.control_word.specs.declared.handle.Handle.{Handle}
 use Rattle.control_word.specs.declared.place.Block.{Block}
-use Rattle.control_block.specs.Desks.{bag_of, by_block, many_ending}
+use Rattle.control_block.specs.Desks.{bag_of, by_block, held_of, many_ending}
 use Rattle.control_block.specs.Inside.{IsDesk, desk_now}
-use Rattle.control_block.specs.Parting.{HoldsAll, Parted, as_listed, in_history, listed, times, without_all}
+use Rattle.control_block.specs.Parting.{HoldsAll, Parted, as_listed, free_of, in_history, listed, times, without_all}
 use Rattle.control_block.specs.Plays.{MaySplit, known}
 use Rattle.control_block.specs.Rule.{opening_of}
 use Rattle.control_block.specs.declared.board.Sight.{Sight}
@@ -202,3 +203,20 @@ module _ {V : Type 0} (d : Inside V) (h : IsDesk d) (hs : List HeldValue) (holds
         let t = (tallies_split n p.to b bs then.stores apart legal.1.asks.5).1 in
         let e = ap (λ (s : State). num (same_stored (stored p.to b)) s.stores) now in
         let x = own_tally p.to b then.stores in let q = ap (num (same_stored (stored p.to b))) stock_new in omega arith
+
+-- what the handles that stay need of the allowance
+pub record Keeps {V : Type 0} (d : Inside V) (a n : ℕ) : Type 0 where
+  pub kept : ℕ
+  pub some : 1 ≤ kept
+  pub handles : d.held - n ≤ kept
+  pub given : a ≤ d.allowance - kept
+  pub within : d.held - n + min 1 d.endings ≤ d.allowance - a
+
+pub keeps : {V : Type 0} (d : Inside V) → IsDesk d → (a n : ℕ) → 0 < a → n ≤ d.held → a ≤ free_of (desk_now d) n → Keeps d a n
+keeps d h a n some few free =
+    let e = h.ended in let w = h.allowed in
+    let k = max 1 (d.held + min 1 d.endings - n) in
+    let same : max 1 (held_of (desk_now d) - n) ≡ k = ap (λ x. max 1 (d.held + min 1 x - n)) (sym e) in
+    let l = le-max_left 1 (d.held + min 1 d.endings - n) in let r = le-max_right 1 (d.held + min 1 d.endings - n) in
+    let f : a ≤ d.allowance - k = omega (arith, free, w, same) in
+    record { kept = k; some = l; handles = omega (arith, r); given = f; within = omega (arith, r, l, f, some, few) }

@@ -39,11 +39,18 @@ impl<V: Drop + Send> Domain<V> {
         self.shape.blocks
     }
 
-    /// How many free shared cells there are (own). The free weak cells stand behind them.
+    /// How many free shared cells there are (own).
     pub fn shared_cells(&self) -> u32
         ensures { (result ≡ self.now.shape.shared_cells) × (result + self.now.shape.weak_cells ≤ 256) }
     {
         self.shape.shared_cells
+    }
+
+    /// How many free weak cells there are (own). They stand behind the free shared ones.
+    pub fn weak_cells(&self) -> u32
+        ensures { result ≡ self.now.shape.weak_cells }
+    {
+        self.shape.weak_cells
     }
 }
 

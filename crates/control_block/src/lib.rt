@@ -37,5 +37,4 @@ mod steps;
 pub mod store_calls;
 mod store_rounds;
 pub mod visits;
-mod weak_cells;
 mod weak_parts;

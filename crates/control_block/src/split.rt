@@ -1,10 +1,10 @@
 //! A desk is cut in two.
-ghost use Rattle.std.specs.Prelude.{◌≡◌, ◌⊎◌, ◌↔◌, ℕ, ◌+◌, ◌≤◌, ◌<◌, ◌==◌, [], ◌++◌, length, vec_capacity, List, Option, IfOk, IfErr};
+ghost use Rattle.std.specs.Prelude.{◌≡◌, ◌⊎◌, ◌↔◌, ℕ, ◌+◌, ◌≤◌, ◌<◌, ◌==◌, [], ◌++◌, length, vec_capacity, List, Option, IfOk, IfErr, IsTrue};
 ghost use Rattle.std.specs.List.{filter};
 ghost use Rattle.control_word.specs.State.{Has};
 ghost use Rattle.control_word.specs.declared.place.Block.{Block};
 ghost use Rattle.control_block.specs.Desks.{Belongs, stock_of};
-ghost use Rattle.control_block.specs.Parting.{HoldsAll, IsTooMuch, Parted, SplitsOff, in_history, times};
+ghost use Rattle.control_block.specs.Parting.{HoldsAll, IsTooMuch, Parted, SplitsOff, free_of, in_history, times};
 ghost use Rattle.control_block.specs.Plays.{MaySplit, Rests, known};
 ghost use Rattle.control_block.specs.SlotLists.{handles_in};
 
@@ -95,6 +95,25 @@ fn part<V, T: Lent, G: Given>(
 }
 
 impl<V: Drop + Send> Desk<V> {
+    /// Whether so much of the allowance can be given with so many handles: it keeps what the others need, 1 at least.
+    fn gives(&self, allowance: u32, handles: usize) -> bool
+        ensures gives { IsTrue result → (0 < allowance) × (handles ≤ allowance) × (allowance ≤ free_of self.now handles) }
+        ensures fits { IsTrue result ↔ (IsTooMuch self.now allowance handles → ⊥) }
+    {
+        let stay = (self.held() as usize).saturating_sub(handles);
+        let keep = stay.max(1);
+        let free = (self.allowance as usize).saturating_sub(keep);
+        let wanted = allowance as usize;
+        0 < wanted && handles <= wanted && wanted <= free
+    }
+
+    /// Whether a second desk can get so much of the allowance with the handles in these slots (own).
+    pub fn may_give(&self, allowance: u32, slots: &[Option<Held>]) -> bool
+        ensures { IsTrue result ↔ (IsTooMuch self.now allowance (length (handles_in slots.now)) → ⊥) }
+    {
+        self.gives(allowance, count_filled(slots))
+    }
+
     /// A second desk gets a part of the allowance, the `blocks` least vacant blocks and these handles, `count` of them.
     fn cut_off<T: Lent>(
         &mut self,
@@ -114,13 +133,10 @@ impl<V: Drop + Send> Desk<V> {
         ensures refused { IfErr result (λ why. (why ≡ Refusal.Limit) ⊎ (why ≡ Refusal.Memory)) }
         ensures same { IfErr result (λ _. self.new ≡ self.old) }
     {
-        let held = self.held + self.endings.min(1);
-        let given = count as u32;
-        let stay = held - given;
-        let keep = stay.max(1);
-        if allowance == 0 || allowance < given || self.allowance.saturating_sub(keep) < allowance {
+        if !self.gives(allowance, count) {
             return Err(Refusal::Limit);
         }
+        let given = count as u32;
         let Ok(mut store) = Vec::with_capacity(alloc, domain.shape.blocks as usize) else {
             return Err(Refusal::Memory);
         };

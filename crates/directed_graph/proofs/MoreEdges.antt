@@ -5,30 +5,30 @@ use Rattle.std.proofs.lemmas.Bool.{cases_eq, cond-true, cond-false}
 use Rattle.std.proofs.lemmas.List.Elements.{All-head, All-tail}
 use Rattle.std.specs.Prelude.{All}
 use Rattle.std.specs.Global.{Vec}
-use Rattle.directed_graph.specs.declared.rows.Edge.{Edge}
-use Rattle.directed_graph.specs.Paths.{Graph, Has, IsGraph, leading, targets}
+use Rattle.directed_graph.specs.declared.graph.Edge.{Edge}
+use Rattle.directed_graph.specs.Paths.{AreWithin, Has, HasRows, IsGraph, IsWithin, Rows, leading, targets}
 
-pub none_more : (g : Graph) (row : Vec ℕ) → row.items ≡ [] → ((v : ℕ) → targets g v ≡ []) → (v : ℕ) → targets (g ++ row ∷ []) v ≡ []
+pub none_more : (g : Rows) (row : Vec ℕ) → row.items ≡ [] → ((v : ℕ) → targets g v ≡ []) → (v : ℕ) → targets (g ++ row ∷ []) v ≡ []
 none_more [] row e none zero = e
 none_more [] row e none (suc v) = refl
 none_more (r ∷ rs) row e none zero = none 0
 none_more (r ∷ rs) row e none (suc v) = none_more rs row e (λ w. none (suc w)) v
 
 -- the row of vertex k goes on by one
-pushed_same : (g : Graph) (k x : ℕ) (row row' : Vec ℕ) → k < length g → row ≡ get_or g k row → row'.items ≡ row.items ++ x ∷ []
+pushed_same : (g : Rows) (k x : ℕ) (row row' : Vec ℕ) → k < length g → row ≡ get_or g k row → row'.items ≡ row.items ++ x ∷ []
     → targets (set g k row') k ≡ targets g k ++ x ∷ []
 pushed_same [] k x row row' lt e new = absurd (omega arith)
 pushed_same (r ∷ rs) zero x row row' lt e new = new ∙ ap (λ (z : Vec ℕ). z.items ++ x ∷ []) e
 pushed_same (r ∷ rs) (suc k) x row row' lt e new = pushed_same rs k x row row' (omega arith) e new
 
-pushed_other : (g : Graph) (k v : ℕ) (row' : Vec ℕ) → k ≢ v → targets (set g k row') v ≡ targets g v
+pushed_other : (g : Rows) (k v : ℕ) (row' : Vec ℕ) → k ≢ v → targets (set g k row') v ≡ targets g v
 pushed_other [] k v row' ne = refl
 pushed_other (r ∷ rs) zero zero row' ne = absurd (ne refl)
 pushed_other (r ∷ rs) zero (suc v) row' ne = refl
 pushed_other (r ∷ rs) (suc k) zero row' ne = refl
 pushed_other (r ∷ rs) (suc k) (suc v) row' ne = pushed_other rs k v row' (λ e. ne (ap suc e))
 
-pushed : (g : Graph) (k x v : ℕ) (row row' : Vec ℕ) → k < length g → row ≡ get_or g k row → row'.items ≡ row.items ++ x ∷ []
+pushed : (g : Rows) (k x v : ℕ) (row row' : Vec ℕ) → k < length g → row ≡ get_or g k row → row'.items ≡ row.items ++ x ∷ []
     → targets (set g k row') v ≡ cond (k == v) (targets g v ++ x ∷ []) (targets g v)
 pushed g k x v row row' lt e new =
     ⊎_elim
@@ -57,7 +57,7 @@ leading_next (e ∷ es) (suc i) v lt =
     (leading_next es i v (omega arith))
 
 -- an edge more
-pub edge_more : (g : Graph) (es : List Edge) (n i : ℕ) (row row' : Vec ℕ) → i < length es → length g ≡ n
+pub edge_more : (g : Rows) (es : List Edge) (n i : ℕ) (row row' : Vec ℕ) → i < length es → length g ≡ n
     → ((v : ℕ) → targets g v ≡ leading (take i es) v) → (get_or es i no_edge).from < length g → row ≡ get_or g (get_or es i no_edge).from row
     → row'.items ≡ row.items ++ (get_or es i no_edge).to ∷ []
     → (length (set g (get_or es i no_edge).from row') ≡ n)
@@ -73,25 +73,24 @@ edge_more g es n i row row' lt size rows inside e new =
           ∙ sym (leading_next es i v lt) ∙ ap (λ (j : ℕ). leading (take j es) v) (sym one),
     )
 
-led : (es : List Edge) (n v w : ℕ) → All (λ (e : Edge). e.to < n) es → Has w (leading es v) → w < n
+led : (es : List Edge) (n v w : ℕ) → AreWithin n es → Has w (leading es v) → w < n
 led [] n v w all h = absurd h
 led (e ∷ es) n v w all h =
-    go (e.from == v) (λ p. led es n v w (All-tail (λ (x : Edge). x.to < n) e es all) p) h
+    go (e.from == v) (λ p. led es n v w (All-tail (IsWithin n) e es all) p) h
   where
     go : (b : Bool) → (Has w (leading es v) → w < n) → Has w (cond b (e.to ∷ leading es v) (leading es v)) → w < n
-    go true rest (inl same) = subst (λ (i : ℕ). i < n) (sym same) (All-head (λ (x : Edge). x.to < n) e es all)
+    go true rest (inl same) = subst (λ (i : ℕ). i < n) (sym same) (All-head (IsWithin n) e es all).1
     go true rest (inr p) = rest p
     go false rest p = rest p
 
 -- each edge leads to a vertex
-pub is_graph : (g : Graph) (es : List Edge) (n : ℕ) → length g ≡ n → ((v : ℕ) → targets g v ≡ leading es v) → All (λ (e : Edge). e.to < n) es
-    → IsGraph g
-is_graph g es n size rows all v w h = subst (λ (i : ℕ). w < i) (sym size) (led es n v w all (subst (Has w) (rows v) h))
+pub is_graph : (g : Rows) (es : List Edge) (n : ℕ) → HasRows n es g → AreWithin n es → IsGraph g
+is_graph g es n has all v w h = subst (λ (i : ℕ). w < i) (sym has.size) (led es n v w all (subst (Has w) (has.rows v) h))
 
 -- a vertex more, without edges
-pub vertex_more : (g g' : Graph) (row : Vec ℕ) (i : ℕ) → g' ≡ g ++ row ∷ [] → row.items ≡ [] → length g ≡ i → ((v : ℕ) → targets g v ≡ [])
+pub vertex_more : (g g' : Rows) (row : Vec ℕ) (i : ℕ) → g' ≡ g ++ row ∷ [] → row.items ≡ [] → length g ≡ i → ((v : ℕ) → targets g v ≡ [])
     → (length g' ≡ i + 1) × ((v : ℕ) → targets g' v ≡ [])
 vertex_more g g' row i e none size all =
     let n = ap (length {A = Vec ℕ}) e in
     let a = length-append g (row ∷ []) in
-    (omega (arith, n, a, size), λ v. subst (λ (x : Graph). targets x v ≡ []) (sym e) (none_more g row none all v))
+    (omega (arith, n, a, size), λ v. subst (λ (x : Rows). targets x v ≡ []) (sym e) (none_more g row none all v))

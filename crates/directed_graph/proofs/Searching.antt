@@ -1,31 +1,31 @@
 -- What a search keeps, and what it has found at its end.
-use Rattle.std.proofs.Common.{◌≡◌, ◌⊎◌, inl, inr, ℕ, zero, suc, ◌<◌, Bool, true, false, List, [], ◌∷◌, ◌++◌, length, get_or, set, replicate}
+use Rattle.std.proofs.Common.{◌≡◌, ◌⊎◌, inl, inr, ℕ, zero, suc, ◌<◌, ◌≤◌, Bool, true, false, List, [], ◌∷◌, ◌++◌, length, get_or, set, replicate}
 use Rattle.std.proofs.Common.{refl, sym, ap, subst, ◌∙◌, ⊎_elim, arith, get_or-set_same, length-set, length-append}
 use Rattle.std.proofs.lemmas.List.{length-replicate}
-use Rattle.std.proofs.lemmas.Bool.{cond-false, false≢true}
+use Rattle.std.proofs.lemmas.Bool.{cases_lt, cond-false, false≢true}
 use Rattle.std.specs.Global.{Vec}
 use Rattle.std.specs.Prelude.{All}
-use Rattle.directed_graph.specs.Paths.{Graph, Has, IsEdge, IsGraph, IsPath, MarksReached, Reaches, targets}
+use Rattle.directed_graph.specs.Paths.{Rows, Has, IsEdge, IsGraph, IsPath, MarksReached, Reaches, targets}
 use Rattle.directed_graph.specs.Searches.{Marks, is_marked, mark, mark_all}
 use Rattle.directed_graph.proofs.Marking.{all_left, all_listed, all_lists, all_marks, all_new, all_size, all_stays, from_set, has_either, has_last, left}
 
-longer : (g : Graph) (v w x : ℕ) (path : List ℕ) → IsPath g v path w → IsEdge g w x → IsPath g v (path ++ x ∷ []) x
+longer : (g : Rows) (v w x : ℕ) (path : List ℕ) → IsPath g v path w → IsEdge g w x → IsPath g v (path ++ x ∷ []) x
 longer g v w x [] e edge = (subst (λ (i : ℕ). IsEdge g i x) (sym e) edge, refl)
 longer g v w x (y ∷ ys) p edge = (p.0, longer g y w x ys p.1 edge)
 
-further : (g : Graph) (v w x : ℕ) → Reaches g v w → IsEdge g w x → Reaches g v x
+further : (g : Rows) (v w x : ℕ) → Reaches g v w → IsEdge g w x → Reaches g v x
 further g v w x r edge = (r.0 ++ x ∷ [], longer g v w x r.0 r.1 edge)
 
 -- what is marked is reached, and its edges were followed, or it is listed
-pub record Searched (g : Graph) (root : ℕ) (m : Marks) : Type 0 where
+pub record Searched (g : Rows) (root : ℕ) (m : Marks) : Type 0 where
   pub size : length m.marked ≡ length g
   pub sound : (v : ℕ) → is_marked m v ≡ true → Reaches g root v
   pub listed : (v : ℕ) → Has v m.pending → is_marked m v ≡ true
   pub closed : (v w : ℕ) → is_marked m v ≡ true → IsEdge g v w → (is_marked m w ≡ true) ⊎ Has v m.pending
-  pub begun : is_marked m root ≡ true
+  pub begun : root < length g → is_marked m root ≡ true
 
 -- the edges of the vertex that was listed last are followed
-pub followed : (g : Graph) (root v : ℕ) (marked : List Bool) (pending : List ℕ) → Searched g root (record { marked = marked; pending = pending ++ v ∷ [] })
+pub followed : (g : Rows) (root v : ℕ) (marked : List Bool) (pending : List ℕ) → Searched g root (record { marked = marked; pending = pending ++ v ∷ [] })
     → All (λ w. w < length marked) (targets g v)
     → Searched g root (mark_all (targets g v) (record { marked = marked; pending = pending }))
 followed g root v marked pending s lt =
@@ -43,7 +43,7 @@ followed g root v marked pending s lt =
       closed = λ u w is edge.
           ⊎_elim (λ (p : is_marked m u ≡ true). old u w p edge)
           (λ (p : Has u (targets g v) × Has u n.pending). inr p.1) (all_new (targets g v) m u is);
-      begun = all_stays (targets g v) m root s.begun;
+      begun = λ i. all_stays (targets g v) m root (s.begun i);
     }
   where
     listed_left : (w : ℕ) → Has w pending → Has w (pending ++ v ∷ [])
@@ -65,15 +65,30 @@ followed g root v marked pending s lt =
         (λ (e : u ≡ v). inl (all_marks (targets g v) m lt w (subst (λ (i : ℕ). IsEdge g i w) e edge))) (has_either u v pending p))
         (s.closed u w is edge)
 
+no_row : (g : Rows) (v : ℕ) → length g ≤ v → targets g v ≡ []
+no_row [] v le = refl
+no_row (r ∷ rs) zero le = absurd (omega arith)
+no_row (r ∷ rs) (suc v) le = no_row rs v (omega arith)
+
+-- no path leads from outside to a vertex
+nowhere : (g : Rows) (root v : ℕ) (path : List ℕ) → length g ≤ root → v < length g → IsPath g root path v → ⊥
+nowhere g root v [] le lt e = omega (arith, e)
+nowhere g root v (x ∷ xs) le lt p = subst (Has x) (no_row g root le) p.0
+
 -- nothing is listed any more
-pub over : (g : Graph) (root : ℕ) (marked : List Bool) → Searched g root (record { marked = marked; pending = [] }) → MarksReached g root marked
+pub over : (g : Rows) (root : ℕ) (marked : List Bool) → Searched g root (record { marked = marked; pending = [] }) → MarksReached g root marked
 over g root marked s =
-    record { size = s.size; reached = λ v. (s.sound v, λ r. along root v r.0 r.1 s.begun) }
+    record { size = s.size; reached = λ v lt. (s.sound v, λ r. from_root v lt r.0 r.1) }
   where
     along : (v w : ℕ) (path : List ℕ) → IsPath g v path w → get_or marked v false ≡ true → get_or marked w false ≡ true
     along v w [] e is = subst (λ (i : ℕ). get_or marked i false ≡ true) e is
     along v w (x ∷ xs) p is =
         ⊎_elim (λ (q : get_or marked x false ≡ true). along x w xs p.1 q) (λ (q : ⊥). absurd q) (s.closed v x is p.0)
+
+    from_root : (v : ℕ) → v < length g → (path : List ℕ) → IsPath g root path v → get_or marked v false ≡ true
+    from_root v lt path p =
+        ⊎_elim (λ (i : root < length g). along root v path p (s.begun i)) (λ (le : length g ≤ root). absurd (nowhere g root v path le lt p))
+        (cases_lt root (length g))
 
 none_marked : (n v : ℕ) → get_or (replicate n false) v false ≡ false
 none_marked zero v = refl
@@ -81,7 +96,7 @@ none_marked (suc n) zero = refl
 none_marked (suc n) (suc v) = none_marked n v
 
 -- the root alone is marked
-pub root_alone : (g : Graph) (root n : ℕ) → n ≡ length g → root < length g
+pub root_alone : (g : Rows) (root n : ℕ) → n ≡ length g → root < length g
     → Searched g root (mark (record { marked = replicate n false; pending = [] }) root)
 root_alone g root n size lt =
     let l : length (replicate n false) ≡ n = length-replicate n false in
@@ -92,7 +107,7 @@ root_alone g root n size lt =
       sound = λ v is. ([], sym (only v is));
       listed = λ v h. ⊎_elim (λ (e : v ≡ root). here inside v e) (λ (q : ⊥). absurd q) h;
       closed = λ v w is edge. inr (inl (only v is));
-      begun = here inside root refl;
+      begun = λ i. here inside root refl;
     })
   where
     only : (v : ℕ) → get_or (set (replicate n false) root true) v false ≡ true → v ≡ root
@@ -104,19 +119,32 @@ root_alone g root n size lt =
     here inside v e = subst (λ (i : ℕ). get_or (set (replicate n false) root true) i false ≡ true) (sym e)
         (get_or-set_same (replicate n false) root true false inside)
 
+-- from outside nothing is found
+pub none_begun : (g : Rows) (root n : ℕ) → n ≡ length g → length g ≤ root
+    → Searched g root (record { marked = replicate n false; pending = [] })
+none_begun g root n size le =
+    let l : length (replicate n false) ≡ n = length-replicate n false in
+    record {
+      size = l ∙ size;
+      sound = λ v is. absurd (false≢true (sym (none_marked n v) ∙ is));
+      listed = λ v h. absurd h;
+      closed = λ v w is edge. absurd (false≢true (sym (none_marked n v) ∙ is));
+      begun = λ i. absurd (omega (arith, i, le));
+    }
+
 inside_list : (bs : List Bool) (i : ℕ) → get_or bs i false ≡ true → i < length bs
 inside_list [] i h = absurd (false≢true h)
 inside_list (c ∷ cs) zero h = omega arith
 inside_list (c ∷ cs) (suc i) h = let l = inside_list cs i h in omega arith
 
 -- what is listed is a vertex
-pub listed_in : (g : Graph) (root v : ℕ) (marked : List Bool) (pending rest : List ℕ) → pending ≡ rest ++ v ∷ []
+pub listed_in : (g : Rows) (root v : ℕ) (marked : List Bool) (pending rest : List ℕ) → pending ≡ rest ++ v ∷ []
     → Searched g root (record { marked = marked; pending = pending }) → v < length g
 listed_in g root v marked pending rest e s =
     let i = inside_list marked v (s.listed v (subst (Has v) (sym e) (has_last v rest))) in
     let l = s.size in omega (arith, i, l)
 
-got : (g : Graph) (v : ℕ) (row : Vec ℕ) → v < length g → row ≡ get_or g v row → targets g v ≡ row.items
+got : (g : Rows) (v : ℕ) (row : Vec ℕ) → v < length g → row ≡ get_or g v row → targets g v ≡ row.items
 got [] v row lt e = absurd (omega arith)
 got (r ∷ rs) zero row lt e = ap (λ (x : Vec ℕ). x.items) (sym e)
 got (r ∷ rs) (suc v) row lt e = got rs v row (omega arith) e
@@ -127,14 +155,14 @@ all_has P (x ∷ xs) h zero d lt = h x (inl refl)
 all_has P (x ∷ xs) h (suc k) d lt = all_has P xs (λ y p. h y (inr p)) k d (omega arith)
 
 -- the edges of a vertex that was found lead to vertices
-pub row_inside : (g : Graph) (v n : ℕ) (row : Vec ℕ) → IsGraph g → v < length g → row ≡ get_or g v row → n ≡ length g
+pub row_inside : (g : Rows) (v n : ℕ) (row : Vec ℕ) → IsGraph g → v < length g → row ≡ get_or g v row → n ≡ length g
     → All (λ w. w < n) row.items
 row_inside g v n row graph lt e same =
     subst (λ (l : List ℕ). All (λ w. w < n) l) (got g v row lt e)
     (all_has (λ w. w < n) (targets g v) (λ w h. let i = graph v w h in omega (arith, i, same)))
 
 -- a round of the search
-pub round : (g : Graph) (root v : ℕ) (row : Vec ℕ) (marked : List Bool) (pending rest vs : List ℕ) (after : Marks) → IsGraph g
+pub round : (g : Rows) (root v : ℕ) (row : Vec ℕ) (marked : List Bool) (pending rest vs : List ℕ) (after : Marks) → IsGraph g
     → Searched g root (record { marked = marked; pending = pending }) → pending ≡ rest ++ v ∷ [] → row ≡ get_or g v row
     → vs ≡ row.items → after ≡ mark_all vs (record { marked = marked; pending = rest })
     → Searched g root after × (left after < left (record { marked = marked; pending = pending }))

@@ -1,17 +1,17 @@
 -- Graphs, and the paths in them. All of it is own.
-use Rattle.std.specs.Prelude.{◌≡◌, ◌↔◌, ◌⊎◌, ℕ, ◌==◌, ◌<◌, cond, Bool, true, false, List, [], ◌∷◌, length, slice_get, slice_index_or, Option, Some, None}
+use Rattle.std.specs.Prelude.{◌≡◌, ◌↔◌, ◌⊎◌, ℕ, All, ◌==◌, ◌<◌, cond, Bool, true, false, List, [], ◌∷◌, length, slice_get, slice_index_or, Option, Some, None}
 use Rattle.std.specs.Global.{Vec}
-use Rattle.directed_graph.specs.declared.rows.Edge.{Edge}
+use Rattle.directed_graph.specs.declared.graph.Edge.{Edge}
 
 -- of each vertex, from 0, those that its edges lead to
-abbrev pub Graph : Type 0
-Graph = List (Vec ℕ)
+abbrev pub Rows : Type 0
+Rows = List (Vec ℕ)
 
 abbrev pub targets_in : Option (Vec ℕ) → List ℕ
 targets_in None = []
 targets_in (Some targets) = targets.items
 
-abbrev pub targets : Graph → ℕ → List ℕ
+abbrev pub targets : Rows → ℕ → List ℕ
 targets g v = targets_in (slice_get g v)
 
 abbrev pub Has : ℕ → List ℕ → Type 0
@@ -19,28 +19,40 @@ Has x [] = ⊥
 Has x (y ∷ ys) = (x ≡ y) ⊎ Has x ys
 
 -- an edge leads from v to w
-abbrev pub IsEdge : Graph → ℕ → ℕ → Type 0
+abbrev pub IsEdge : Rows → ℕ → ℕ → Type 0
 IsEdge g v w = Has w (targets g v)
 
 -- each edge leads to a vertex
-abbrev pub IsGraph : Graph → Type 0
+abbrev pub IsGraph : Rows → Type 0
 IsGraph g = (v w : ℕ) → IsEdge g v w → w < length g
 
 -- from v by these vertices, one after another, to w, which is the last of them
-abbrev pub IsPath : Graph → ℕ → List ℕ → ℕ → Type 0
+abbrev pub IsPath : Rows → ℕ → List ℕ → ℕ → Type 0
 IsPath g v [] w = v ≡ w
 IsPath g v (x ∷ xs) w = IsEdge g v x × IsPath g x xs w
 
 -- a path leads from v to w
-abbrev pub Reaches : Graph → ℕ → ℕ → Type 0
+abbrev pub Reaches : Rows → ℕ → ℕ → Type 0
 Reaches g v w = (path : List ℕ) × IsPath g v path w
 
 -- just the vertices are marked to which a path leads from the root
-pub record MarksReached (g : Graph) (root : ℕ) (marked : List Bool) : Type 0 where
+pub record MarksReached (g : Rows) (root : ℕ) (marked : List Bool) : Type 0 where
   pub size : length marked ≡ length g
-  pub reached : (v : ℕ) → slice_index_or marked v false ≡ true ↔ Reaches g root v
+  pub reached : (v : ℕ) → v < length g → slice_index_or marked v false ≡ true ↔ Reaches g root v
 
 -- those to which the edges from v lead, in their order
 abbrev pub leading : List Edge → ℕ → List ℕ
 leading [] v = []
 leading (e ∷ es) v = cond (e.from == v) (e.to ∷ leading es v) (leading es v)
+
+-- the vertices have numbers below n, and the edge leads from one to one
+abbrev pub IsWithin : ℕ → Edge → Type 0
+IsWithin n e = (e.from < n) × (e.to < n)
+
+abbrev pub AreWithin : ℕ → List Edge → Type 0
+AreWithin n es = All (IsWithin n) es
+
+-- the graph with n vertices and these edges
+pub record HasRows (n : ℕ) (es : List Edge) (g : Rows) : Type 0 where
+  pub size : length g ≡ n
+  pub rows : (v : ℕ) → targets g v ≡ leading es v

@@ -1,11 +1,10 @@
 //! Directed graphs: which vertices are reached from one.
 #![tactic(auto)]
 
-mod reach;
-mod rows;
+mod graph;
+mod reached;
 mod search;
 #[cfg(test)]
 mod tests;
 
-pub use reach::reachable;
-pub use rows::{Edge, graph_of};
+pub use graph::{Edge, Graph, GraphError};

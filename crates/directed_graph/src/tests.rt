@@ -1,8 +1,8 @@
 //! What is reached in a small graph.
-use crate::{Edge, graph_of, reachable};
+use crate::{Edge, Graph, GraphError};
 use std::test::Fail;
 
-/// Of four vertices, 1 and 2 lead to each other, and 0 to 3: from 0 only 3 is reached, and from 1 only 2.
+/// Of four vertices, 1 and 2 lead to each other, and 0 to 3: from 0 only 3 is reached, and from 1 only 2. There is no vertex 4.
 #[test]
 fn a_circle_is_reached_from_within(rt: HostRuntime) -> Result<(), Fail> {
     let edges = [
@@ -10,10 +10,15 @@ fn a_circle_is_reached_from_within(rt: HostRuntime) -> Result<(), Fail> {
         Edge { from: 0, to: 3 },
         Edge { from: 2, to: 1 },
     ];
-    let graph = graph_of(rt.alloc(), 4, &edges)?;
-    let first = reachable(rt.alloc(), graph.as_slice(), 0)?;
+    assert!(rt; matches!(Graph::new(rt.alloc(), 3, &edges), Err(GraphError::Outside)));
+    let Ok(graph) = Graph::new(rt.alloc(), 4, &edges) else {
+        return Err(Fail);
+    };
+    let first = graph.reached(rt.alloc(), 0)?;
     assert!(rt; first.as_slice() == [true, false, false, true].as_slice());
-    let second = reachable(rt.alloc(), graph.as_slice(), 1)?;
+    let second = graph.reached(rt.alloc(), 1)?;
     assert!(rt; second.as_slice() == [false, true, true, false].as_slice());
+    let outside = graph.reached(rt.alloc(), 4)?;
+    assert!(rt; outside.as_slice() == [false, false, false, false].as_slice());
     Ok(())
 }

@@ -1,5 +1,5 @@
 -- What the calls say by which tables part and come together.
-use Rattle.std.specs.Prelude.{◌≡◌, ◌⊎◌, ℕ, ◌-◌, ◌<◌, List, [], ◌++◌, drop, length, replicate, take, None}
+use Rattle.std.specs.Prelude.{◌≡◌, ◌⊎◌, ◌↔◌, ℕ, ◌-◌, ◌<◌, List, [], ◌++◌, drop, length, replicate, take, None}
 use Rattle.control_word.specs.declared.refusal.Refusal.{Refusal}
 use Rattle.control_word.specs.declared.refusal.Refusal.TheVariants.{Full, Limit, Memory}
 use Rattle.control_block.specs.Desks.{DeskNow, stock_of}
@@ -19,10 +19,11 @@ abbrev pub HandsOver : List Slot → ℕ → List Slot → List Slot → Type 0
 HandsOver ss n kept given = (kept ≡ take n ss ++ replicate (length ss - n) None) × (given ≡ replicate n None ++ drop n ss)
 
 module _ {V : Type 0} where
-  -- why a desk gives no part of allowance a, with k blocks and n handles
-  abbrev pub WhyNoPart : DeskNow V → ℕ → ℕ → ℕ → Refusal → Type 0
-  WhyNoPart d a k n why =
-      ((why ≡ Full) × (length (stock_of d) < k)) ⊎ (((why ≡ Limit) × IsTooMuch d a n) ⊎ (why ≡ Memory))
+  -- why a desk gives no part of allowance a, with k blocks and n handles: each refusal just where none before it comes
+  pub record WhyNoPart (d : DeskNow V) (a k n : ℕ) (why : Refusal) : Type 0 where
+    pub limit : why ≡ Limit ↔ IsTooMuch d a n
+    pub full : why ≡ Full ↔ ((IsTooMuch d a n → ⊥) × (length (stock_of d) < k))
+    pub named : (why ≡ Limit) ⊎ ((why ≡ Full) ⊎ (why ≡ Memory))
 
   -- a second table has the slots from a number on, an allowance and the least vacant blocks
   pub record Splits (t : TableNow V) (from allowance blocks : ℕ) (u new : TableNow V) : Type 0 where
@@ -30,8 +31,7 @@ module _ {V : Type 0} where
     pub slots : HandsOver t.slots from u.slots new.slots
     pub endings : (u.endings ≡ t.endings) × (new.endings ≡ [])
 
-  -- there are no such slots, or the desk gives no such part
-  abbrev pub WhyNotSplit : TableNow V → ℕ → ℕ → ℕ → Fault → Type 0
-  WhyNotSplit t from a k why =
-      ((why ≡ fault.Slot) × (length t.slots < from))
-      ⊎ ((r : Refusal) × (why ≡ fault.Call r) × WhyNoPart t.desk a k (length (handles_from from t.slots)) r)
+  -- there are no such slots, or else the desk gives no such part
+  pub record WhyNotSplit (t : TableNow V) (from a k : ℕ) (why : Fault) : Type 0 where
+    pub slots : why ≡ fault.Slot ↔ (length t.slots < from)
+    pub part : (why ≡ fault.Slot) ⊎ ((r : Refusal) × (why ≡ fault.Call r) × WhyNoPart t.desk a k (length (handles_from from t.slots)) r)

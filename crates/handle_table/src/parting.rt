@@ -71,6 +71,9 @@ fn part_of<V: Drop + Send>(
     ensures refused { IfErr result (λ why. WhyNoPart desk.old allowance blocks (length (handles_in handed.now)) why) }
     ensures same { IfErr result (λ _. desk.new ≡ desk.old) }
 {
+    if !desk.may_give(allowance, handed) {
+        return Err(Refusal::Limit);
+    }
     if desk.stock() < blocks {
         return Err(Refusal::Full);
     }
@@ -117,9 +120,9 @@ fn hand_over(slots: &mut Vec<Option<Held>>, to: &mut Vec<Option<Held>>, from: us
 impl<'d, V: Drop + Send, H: Home> HandleTable<'d, V, H> {
     /// A second table of the domain, with as many slots: what is in the slots from number `from` on goes into its slots of the
     /// same numbers, and the others are vacant. It gets a part of the allowance, and the least `blocks` vacant blocks (own).
-    /// It is refused `Slot` where there are fewer slots, `Full` where there are fewer vacant blocks, `Limit` where so much
-    /// of the allowance can't be given, or less than the handles need, and `Memory` only where a growth was really
-    /// refused. Then nothing changes.
+    /// It is refused `Slot` where there are fewer slots; else `Limit` just where the allowance is 0, less than the handles
+    /// need or more than is free here; else `Full` just where there are fewer vacant blocks; else `Memory` only where a
+    /// growth was really refused. Then nothing changes.
     pub fn split(
         &mut self,
         alloc: Global,

@@ -1,17 +1,24 @@
-use Rattle.std.proofs.Common.{◌≡◌, ◌≤◌, ◌-◌, List, sym, ap, subst, arith, ◌∙◌, length, refl}
+use Rattle.std.proofs.Common.{◌≡◌, ◌≤◌, ◌-◌, ◌<◌, ℕ, List, sym, ap, subst, arith, ◌∙◌, length, refl}
 use Rattle.control_word.proofs.history.Legal.{sound}
 use Rattle.control_word.specs.declared.place.Block.{Block}
 use Rattle.control_block.specs.Desks.{DeskNow, stock_of}
-use Rattle.control_block.specs.Inside.{desk_now}
-use Rattle.control_block.specs.Parting.{HoldsAll, Parted, SplitsOff, in_history}
+use Rattle.control_block.specs.Inside.{IsDesk, desk_now}
+use Rattle.control_block.specs.Parting.{HoldsAll, Parted, SplitsOff, free_of, in_history}
 use Rattle.control_block.specs.Plays.{MaySplit, known}
 use Rattle.control_block.specs.Rule.{opening_of}
 use Rattle.control_block.specs.declared.desk.Desk.TheInside.{Inside}
+use Rattle.control_block.specs.declared.handles.Held.{Held}
 use Rattle.control_block.proofs.PartingDesks.{allowance_most}
-use Rattle.control_block.proofs.PartingSplit.{may_split, sizes}
+use Rattle.control_block.proofs.PartingSplit.{Keeps, keeps, may_split, sizes}
 use Rattle.control_block.proofs.PartingSplitDesks.{new_desk, old_desk, splits}
 use Rattle.control_block.proofs.Stores.{stock_few}
 use Rattle.control_block.proofs.desk.Desk.cut_off.Goals as goal
+
+kept : (V : Type 0) (d : Inside V) → IsDesk d → (now : DeskNow V) (a n : ℕ) (hs : List Held) → HoldsAll (desk_now d) hs → length hs ≡ n
+    → desk_now d ≡ now → (0 < a) × (n ≤ a) × (a ≤ free_of now n) → Keeps d a n
+kept V d h now a n hs holds size is g =
+    let s = sizes d h hs holds in
+    keeps d h a n g.0 (omega (arith, s.1, size)) (subst (λ (z : DeskNow V). a ≤ free_of z n) (sym is) g.2)
 
 pub overflow_cast-given : goal.overflow_cast-given
 overflow_cast-given g c =
@@ -19,13 +26,6 @@ overflow_cast-given g c =
     let hs = g.T.Lent.handles c.args.handles.now in let size : length hs ≡ c.args.count = c.requires.held.1 in
     let s = sizes d c.self.invariant hs (subst (λ z. HoldsAll z hs) (sym c.self.view_is) c.requires.held.0) in
     let m = allowance_most d c.self.invariant in omega (arith, s.1, size, c.self.invariant.within)
-
-pub overflow_sub-stay : goal.overflow_sub-stay
-overflow_sub-stay g c =
-    let d = c.self.inside in
-    let hs = g.T.Lent.handles c.args.handles.now in let size : length hs ≡ c.args.count = c.requires.held.1 in
-    let s = sizes d c.self.invariant hs (subst (λ z. HoldsAll z hs) (sym c.self.view_is) c.requires.held.0) in
-    omega (arith, s.1, size)
 
 pub overflow_sub-self : goal.overflow_sub-self
 overflow_sub-self g c =
@@ -54,9 +54,9 @@ part-seat-requires-clause-may g c =
     let d = c.self.inside in let hs = g.T.Lent.handles c.args.handles.now in
     let holds = subst (λ z. HoldsAll z hs) (sym c.self.view_is) c.requires.held.0 in
     let size : length hs ≡ c.args.count = c.requires.held.1 in
-    let m = may_split d c.self.invariant hs holds c.args.allowance c.max-keep.result c.pass_least.new.to.items (omega arith) (omega arith)
-    (omega (arith, c.saturating_sub.ensures)) (omega (arith, c.max-keep.ensures))
-    (omega (arith, c.max-keep.ensures, c.min.ensures))
+    let k = kept g.row.V.Denot d c.self.invariant c.args.self.now c.args.allowance c.args.count hs holds size c.self.view_is (c.gives.ensures.gives c.if-not-gives.false) in
+    let m = may_split d c.self.invariant hs holds c.args.allowance k.kept c.pass_least.new.to.items (c.gives.ensures.gives c.if-not-gives.false).0
+    (omega (arith, size, (c.gives.ensures.gives c.if-not-gives.false).1)) k.given k.some (omega (arith, size, k.handles))
     (λ b. let t = c.pass_least.ensures.same b in omega arith) in
     subst (λ (y : List Block). MaySplit d.seat.me.0 c.args.allowance (in_history (known d.seat.me.0) hs) y) (sym c.as_slice.ensures.value) m
 
@@ -86,7 +86,8 @@ invariant_of-self g c =
     c.part-seat.ensures.event in
     old_desk d c.self.invariant hs holds c.args.allowance bs w u p _ c.part-seat.ensures.chair.0
     (λ i. (w, c.part-seat.ensures.chair.1 i)) refl (ap (λ x. d.held - x) (sym size)) refl
-    (omega (arith, c.saturating_sub.ensures, c.max-keep.ensures, c.min.ensures))
+    (let k = kept g.row.V.Denot d c.self.invariant c.args.self.now c.args.allowance c.args.count hs holds size c.self.view_is (c.gives.ensures.gives c.if-not-gives.false) in
+    k.within)
     c.pass_least.ensures.same (omega (arith, c.pass_least.ensures.count.0, c.pass_least.ensures.count.1)) c.pass_least.ensures.room.0
 
 pub returns-clause-parts : goal.returns-clause-parts

@@ -2,14 +2,23 @@ use Rattle.std.proofs.Common.{◌≡◌, ◌<◌, ◌+◌, ℕ, List, [], ◌∷
 use Rattle.std.specs.Prelude.{All, MatchOption, Option, Some, None, vec_len}
 use Rattle.std.specs.Global.{Vec}
 use Rattle.directed_graph.specs.Searches.{Marks, mark, marks_of}
-use Rattle.directed_graph.proofs.Searching.{Searched, listed_in, over, root_alone, round, row_inside}
-use Rattle.directed_graph.proofs.reach.reachable.Goals as goal
+use Rattle.directed_graph.proofs.Searching.{Searched, listed_in, none_begun, over, root_alone, round, row_inside}
+use Rattle.directed_graph.proofs.reached.mark_reached.Goals as goal
+use Rattle.directed_graph.proofs.reached.mark_reached.Goals.{then-root-graph+in_ok-mark, else-root-graph}
 
 pub loop-vertex-init : goal.loop-vertex-init
 loop-vertex-init c =
-    subst (Searched c.args.graph.now c.args.root) (sym c.in_ok-mark.ensures)
-    (subst (λ (m : Marks). Searched c.args.graph.now c.args.root (mark m c.args.root)) (sym c.in_ok-search.ensures)
-    (root_alone c.args.graph.now c.args.root (length c.args.graph.now) (λ i. length c.args.graph.now) c.requires.root))
+    elim c.if-root-graph.branch [
+      then-root-graph+in_ok-mark w ↦
+          subst (λ x. Searched c.args.graph.now c.args.root (marks_of x)) (sym w.search-is)
+          (subst (Searched c.args.graph.now c.args.root) (sym w.in_ok-mark.ensures)
+          (subst (λ (m : Marks). Searched c.args.graph.now c.args.root (mark m c.args.root)) (sym c.in_ok-search.ensures)
+          (root_alone c.args.graph.now c.args.root (length c.args.graph.now) refl w.if-root-graph.true)))
+      | else-root-graph w ↦
+          subst (λ x. Searched c.args.graph.now c.args.root (marks_of x)) (sym w.search-is)
+          (subst (Searched c.args.graph.now c.args.root) (sym c.in_ok-search.ensures)
+          (none_begun c.args.graph.now c.args.root (length c.args.graph.now) refl w.if-root-graph.false))
+    ]
 
 pub bounds-graph-vertex : goal.bounds-graph-vertex
 bounds-graph-vertex c =
@@ -27,7 +36,7 @@ mark_all-requires c =
     let i = listed_in c.args.graph.now c.args.root c.in-Some.vertex c.loop-vertex.search.marked.items c.loop-vertex.search.pending.items _
     c.in-Some.ensures.items c.loop-vertex.invariant in
     let n = c.loop-vertex.invariant.size in
-    let r = row_inside c.args.graph.now c.in-Some.vertex (length c.loop-vertex.search.marked.items) c.index-graph-vertex.result c.requires.graph i
+    let r = row_inside c.args.graph.now c.in-Some.vertex (length c.loop-vertex.search.marked.items) c.index-graph-vertex.result c.requires i
     c.index-graph-vertex.is n in
     λ k d lt.
     let e = c.as_slice.ensures.value in
@@ -37,13 +46,13 @@ mark_all-requires c =
 pub loop-vertex-smaller : goal.loop-vertex-smaller
 loop-vertex-smaller c =
     (round c.args.graph.now c.args.root c.in-Some.vertex c.index-graph-vertex.result c.loop-vertex.search.marked.items
-    c.loop-vertex.search.pending.items c.pop.new.self.items c.as_slice.result.now (marks_of c.mark_all.new.self) c.requires.graph
+    c.loop-vertex.search.pending.items c.pop.new.self.items c.as_slice.result.now (marks_of c.mark_all.new.self) c.requires
     c.loop-vertex.invariant c.in-Some.ensures.items c.index-graph-vertex.is c.as_slice.ensures.value c.in_ok-mark_all.ensures).1
 
 pub loop-vertex-preserved : goal.loop-vertex-preserved
 loop-vertex-preserved c =
     (round c.args.graph.now c.args.root c.in-Some.vertex c.index-graph-vertex.result c.loop-vertex.search.marked.items
-    c.loop-vertex.search.pending.items c.pop.new.self.items c.as_slice.result.now (marks_of c.mark_all.new.self) c.requires.graph
+    c.loop-vertex.search.pending.items c.pop.new.self.items c.as_slice.result.now (marks_of c.mark_all.new.self) c.requires
     c.loop-vertex.invariant c.in-Some.ensures.items c.index-graph-vertex.is c.as_slice.ensures.value c.in_ok-mark_all.ensures).0
 
 pub returns : goal.returns
