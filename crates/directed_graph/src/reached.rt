@@ -7,11 +7,7 @@ use crate::search::Search;
 use std::alloc::{AllocError, Global};
 
 /// Marks what is reached from the root.
-fn mark_reached(
-    alloc: Global,
-    graph: &[Vec<usize>],
-    root: usize,
-) -> Result<Vec<bool>, AllocError>
+fn mark_reached(alloc: Global, graph: &[Vec<usize>], root: usize) -> Result<Vec<bool>, AllocError>
     requires { IsGraph graph.now }
     ensures { IfOk result (λ marked. MarksReached graph.now root marked.items) }
 {

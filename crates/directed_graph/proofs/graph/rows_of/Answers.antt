@@ -2,7 +2,7 @@ use Rattle.std.proofs.Common.{ap, arith, List, ◌∙◌}
 use Rattle.directed_graph.specs.declared.graph.Edge.{Edge}
 use Rattle.std.proofs.lemmas.List.{take_all}
 use Rattle.directed_graph.specs.Paths.{leading}
-use Rattle.directed_graph.proofs.MoreEdges.{edge_more, is_graph}
+use Rattle.directed_graph.proofs.MoreEdges.{edge_more}
 use Rattle.directed_graph.proofs.graph.rows_of.Goals as goal
 
 pub loop-edge-preserved : goal.loop-edge-preserved
@@ -14,6 +14,6 @@ loop-edge-preserved c =
 
 pub returns : goal.returns
 returns c = record {
-      size = c.loop-edge.invariant.0;
-      rows = λ v. c.loop-edge.invariant.1 v ∙ ap (λ (l : List Edge). leading l v) (take_all c.loop-edge.edge-index c.args.edges.now c.loop-edge-test.false);
-    }
+  size = c.loop-edge.invariant.0;
+  rows = λ v. c.loop-edge.invariant.1 v ∙ ap (λ (l : List Edge). leading l v) (take_all c.loop-edge.edge-index c.args.edges.now c.loop-edge-test.false);
+}

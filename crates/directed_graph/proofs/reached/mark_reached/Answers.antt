@@ -9,7 +9,7 @@ use Rattle.directed_graph.proofs.reached.mark_reached.Goals.{then-root-graph+in_
 pub loop-vertex-init : goal.loop-vertex-init
 loop-vertex-init c =
     elim c.if-root-graph.branch [
-      then-root-graph+in_ok-mark w ↦
+      | then-root-graph+in_ok-mark w ↦
           subst (λ x. Searched c.args.graph.now c.args.root (marks_of x)) (sym w.search-is)
           (subst (Searched c.args.graph.now c.args.root) (sym w.in_ok-mark.ensures)
           (subst (λ (m : Marks). Searched c.args.graph.now c.args.root (mark m c.args.root)) (sym c.in_ok-search.ensures)
