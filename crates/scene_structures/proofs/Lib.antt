@@ -17,3 +17,4 @@ pub mod Watches
 pub mod Adopting
 pub mod Alone
 pub mod Adopted
+pub mod Parents

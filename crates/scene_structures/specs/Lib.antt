@@ -6,3 +6,4 @@ pub mod Pops
 pub mod Watches
 pub mod Observers
 pub mod Scenes
+pub mod Parents

@@ -3,6 +3,7 @@
 #![tactic(auto)]
 
 mod attaching;
+mod climbing;
 mod endings;
 mod observers;
 mod pause;

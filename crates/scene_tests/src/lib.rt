@@ -6,6 +6,8 @@ mod crowd;
 #[cfg(test)]
 mod observing;
 #[cfg(test)]
+mod parents;
+#[cfg(test)]
 mod parts;
 #[cfg(test)]
 mod refusals;

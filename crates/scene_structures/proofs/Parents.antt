@@ -1,0 +1,124 @@
+-- A look for a node's parent.
+use Rattle.std.proofs.Common.{◌≡◌, ℕ, ◌==◌, Bool, true, false, not, cond, is_some, [], ◌∷◌, Option, None, Some, Ok, refl, sym, ap, subst, ◌∙◌, arith}
+use Rattle.std.proofs.lemmas.Bool.{cond-true, cond-false}
+use Rattle.control_word.proofs.history.Clearing.{gets_tally}
+use Rattle.control_word.specs.Events.{cell_of, gets}
+use Rattle.control_word.specs.Handles.{empty, handle, object_of, owner}
+use Rattle.control_word.specs.Histories.{IsLegal, leads}
+use Rattle.control_word.specs.State.{State, count, in_cells, tally}
+use Rattle.control_word.specs.declared.event.Cell.{Cell}
+use Rattle.control_word.specs.declared.event.Cell.TheVariants.{Member}
+use Rattle.control_word.specs.declared.event.Event.TheVariants.{Load}
+use Rattle.control_word.specs.declared.handle.Handle.{Handle}
+use Rattle.control_word.specs.declared.handle.Kind.TheVariants.{Owner, Weak}
+use Rattle.control_word.specs.declared.place.Block.{Block}
+use Rattle.control_word.specs.declared.place.Place.{Place}
+use Rattle.control_block.proofs.Latest.{calls_keep_latest}
+use Rattle.control_block.proofs.Sole.{comes_next}
+use Rattle.control_block.specs.CellCalls.{handle_in, with_handle}
+use Rattle.control_block.specs.Desks.{Adds, DeskNow, bag_of, latest_of, state_of}
+use Rattle.control_block.specs.LockCalls.{state_before}
+use Rattle.control_block.specs.LockPlays.{earlier}
+use Rattle.control_block.specs.Own.{IsSole}
+use Rattle.control_block.specs.Rule.{opening_of}
+use Rattle.control_block.specs.declared.handles.Shared.{Shared}
+use Rattle.shared_handle.proofs.Goings.{does_one}
+use Rattle.shared_handle.specs.Calls.{Holds, LeavesWeakly}
+use Rattle.shared_handle.specs.Locks.{IsOwnerOf, Locks}
+use Rattle.atomic_cells.specs.Cells.{Loads}
+use Rattle.atomic_cells.specs.Sites.{IsMember, weak_cell}
+use Rattle.atomic_cells.specs.declared.sites.WeakSite.TheVariants as site
+use Rattle.atomic_cells.specs.declared.weak_at.WeakAt.{WeakAt}
+use Rattle.scene_structures.specs.Hands.{node_in}
+use Rattle.scene_structures.specs.Parents.{IsParent, LocksUp, owner_of}
+use Rattle.scene_structures.specs.Puts.{PutsOnly, nowhere}
+use Rattle.scene_structures.proofs.Alone.{sole_on}
+use Rattle.scene_structures.proofs.Calls.{got_lists}
+use Rattle.scene_structures.proofs.Latest.{weak_latest}
+use Rattle.scene_structures.proofs.Pushes.{same_node}
+
+-- a weak handle that a desk gets changes no count of owners
+weak_counts : (s : State) (d q : ℕ) (n : Option ℕ) (p : Option Place) → count (gets d (handle Weak n p) s) q ≡ count s q
+unfolding count
+weak_counts s d q n p =
+    let none : tally Owner q (handle Weak n p ∷ []) ≡ 0 = refl in
+    omega (arith, gets_tally Owner q d (handle Weak n p) s.hands (in_cells s))
+
+module _ {V : Type 0} where
+  -- what a sole desk loads is what it has seen there
+  pub looked_up : (d m : DeskNow V) (c : Cell) (h : Handle) → Adds d (Load c h) m → IsLegal (opening_of d.shape) d.seen → IsSole d
+      → (h ≡ cell_of (state_of d) c) × (state_of m ≡ gets d.name h (state_of d))
+  looked_up d m c h loads legal sole =
+      let z = opening_of d.shape in
+      let next = comes_next d (Load c h) m loads sole in
+      ((subst (IsLegal z) next loads.legal).1.asks.1, (λ i. leads (opening_of (loads.same.1 i)) (next i)))
+
+  pub locks_up : (d m n e : DeskNow V) (node h : Shared) (at : WeakAt) (b : Option Block) (p : Option Place) (v : Bool)
+      → IsMember (λ c (x : WeakAt). x.site ≡ site.Up c) node.block node.place (Ok at) → Loads d (weak_cell d at.site) Weak b p m
+      → Locks m b p (is_some h.block) n → IsOwnerOf b p (is_some h.block) h → bag_of n ≡ with_handle Owner h.block h.place (bag_of m)
+      → LeavesWeakly n b p v e → LocksUp d (object_of (node_in d node)) h e
+  locks_up d m n e node h at b p v (q, place, block, is) loads locks owned bag leaves =
+      let cell : weak_cell d at.site ≡ Member (object_of (node_in d node)) 2 =
+      ap (weak_cell d) is ∙ ap (λ (k : Option Block). Member (object_of (handle_in d Owner k node.place)) 2) (sym block) in
+      record {
+        block = b;
+        place = p;
+        loaded = m;
+        loads = subst (λ (c : Cell). Loads d c Weak b p m) cell loads;
+        locked = n;
+        locks = locks;
+        is = owned;
+        same = same_node n e h (weak_latest n e b p v leaves) (got_lists m n h bag);
+        vacant = v;
+        leaves = leaves;
+      }
+
+  -- on a sole desk
+  parent_is : (d e : DeskNow V) (o : ℕ) (h : Shared) (a : LocksUp d o h e) → IsLegal (opening_of d.shape) d.seen → IsSole d
+      → Holds a.loaded Weak a.block a.place → IsParent d o h e
+  parent_is d e o h a legal sole holds = go a.block a.place holds a.loads a.locks a.is
+    where
+      s : State
+      s = state_of d
+
+      up : Handle
+      up = (s.object o).member 2
+
+      none : h.block ≡ None → h.place ≡ None → node_in e h ≡ empty Owner
+      none block place = λ i. handle_in e Owner (block i) (place i)
+
+      go : (b : Option Block) (p : Option Place) → Holds a.loaded Weak b p → Loads d (Member o 2) Weak b p a.loaded
+          → Locks a.loaded b p (is_some h.block) a.locked → IsOwnerOf b p (is_some h.block) h → node_in e h ≡ owner_of s up
+      go None p held loads locks is =
+          let look = (looked_up d a.loaded (Member o 2) _ loads legal sole).0 in
+          let gone = subst (λ g. IsOwnerOf None p g h) locks.0 is in
+          none gone.0 gone.1 ∙ ap (owner_of s) look
+      go (Some b) p held loads locks is =
+          let m = a.loaded in let n = a.locked in let q = latest_of m b.0 in
+          let look = looked_up d m (Member o 2) _ loads legal sole in
+          let sole_m = sole_on nowhere d m (does_one (PutsOnly nowhere) d m _ loads tt) legal sole in
+          let next = comes_next m _ n locks.0 sole_m in
+          let before : state_before n ≡ state_of m = λ i. leads (opening_of (locks.0.same.1 i)) (earlier (next i)) in
+          let owners : count (state_before n) q ≡ count s q =
+          ap (λ (t : State). count t q) (before ∙ look.1) ∙ weak_counts s d.name q (Some q) p in
+          let told : is_some h.block ≡ not (count s q == 0) = locks.1 ∙ ap (λ k. not (k == 0)) owners in
+          let kept : latest_of n b.0 ≡ q = calls_keep_latest m _ n locks.0 Weak p b.0 held in
+          last b p q kept (is_some h.block) (count s q == 0) told refl is ∙ ap (owner_of s) look.0
+        where
+          last : (b : Block) (p : Option Place) (q : ℕ) → latest_of a.locked b.0 ≡ q → (got x : Bool) → got ≡ not x → (count s q == 0) ≡ x
+              → IsOwnerOf (Some b) p got h → node_in e h ≡ cond (count s q == 0) (empty Owner) (owner q p)
+          last b p q kept true false told is' (block, place) =
+              a.same ∙ ((λ i. handle_in a.locked Owner (block i) (place i)) ∙ (ap (λ k. owner k p) kept
+              ∙ sym (cond-false (count s q == 0) (empty Owner) (owner q p) is')))
+          last b p q kept false true told is' (block, place) =
+              none block place ∙ sym (cond-true (count s q == 0) (empty Owner) (owner q p) is')
+          last b p q kept true true told is' owned = absurd (cc told)
+          last b p q kept false false told is' owned = absurd (cc told)
+
+  pub parent_found : (d m n e : DeskNow V) (node h : Shared) (at : WeakAt) (b : Option Block) (p : Option Place) (v : Bool)
+      → IsMember (λ c (x : WeakAt). x.site ≡ site.Up c) node.block node.place (Ok at) → Loads d (weak_cell d at.site) Weak b p m
+      → Locks m b p (is_some h.block) n → IsOwnerOf b p (is_some h.block) h → bag_of n ≡ with_handle Owner h.block h.place (bag_of m)
+      → LeavesWeakly n b p v e → IsLegal (opening_of d.shape) d.seen → IsSole d → Holds m Weak b p → IsParent d (object_of (node_in d node)) h e
+  unfolding locks_up
+  parent_found d m n e node h at b p v member loads locks owned bag leaves legal sole holds =
+      parent_is d e (object_of (node_in d node)) h (locks_up d m n e node h at b p v member loads locks owned bag leaves) legal sole holds
