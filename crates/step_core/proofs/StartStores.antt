@@ -139,12 +139,6 @@ pub share_fits : (n a d : ℕ) → d < a → n / a * d + n / a ≤ n
 share_fits n a d lt =
     let m = mul-suc (n / a) d in let l = mul-le-mul_left {m = suc d} {n = a} (n / a) lt in let t = div-mul-le_self n a in omega (arith, m, l, t)
 
-pub first_fits : (n a d : ℕ) → d < a → n ≤ 65535 → n / a * d + 1 ≤ 65535
-first_fits n a d lt le =
-    let s = share_fits n a d lt in
-    ⊎_elim (λ (z : n / a ≡ 0). let t : n / a * d ≡ 0 = ap (λ (k : ℕ). k * d) z ∙ zero-mul d in omega (arith, t)) (λ (z : n / a ≢ 0). omega (arith, s))
-    (cases_eq (n / a) 0)
-
 here : (n a d count b : ℕ) → d < a → IsShare n a d count → 0 < b → b ≤ n → n / a * d < b → b ≤ n / a * d + count → holder (n / a) a b ≡ d
 here n a d count b lt share some le low high =
     ⊎_elim

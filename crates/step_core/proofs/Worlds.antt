@@ -33,7 +33,8 @@ use Rattle.step_threads.specs.declared.thread.Thread.{Thread}
 use Rattle.step_threads.specs.Actors.{HalfFits}
 use Rattle.step_threads.specs.Courses.{CourseStill, HasCell, Walk, new_of, task_at, todo, walk}
 use Rattle.step_threads.specs.Scenes.{nowhere, walk_of}
-use Rattle.step_threads.specs.Steps.{Step, answered, half_by, step_at, story_after, story_by, walk_by}
+use Rattle.step_threads.specs.NextSteps.{answered, half_by, step_at, story_after, story_by, walk_by}
+use Rattle.step_threads.specs.Steps.{Step}
 use Rattle.step_table.specs.Stories.{Kept, Nothing, Story, after, pending, state}
 use Rattle.step_threads.specs.Endings.{EndsAll}
 use Rattle.step_threads.specs.Threads.{Fits, HasStepped, IsNext}

@@ -13,7 +13,8 @@ use Rattle.step_threads.specs.Courses.{Walk, walk}
 use Rattle.step_table.specs.Deeds.{Telling, Tells, exact}
 use Rattle.step_table.specs.Holdings.{slot}
 use Rattle.step_threads.specs.Scenes.{Scene, next, play_with, rested, said_with, state_in, walk_of}
-use Rattle.step_threads.specs.Steps.{Step, answered, half_by, step_at, story_by, walk_by}
+use Rattle.step_threads.specs.NextSteps.{answered, half_by, step_at, story_by, walk_by}
+use Rattle.step_threads.specs.Steps.{Step}
 use Rattle.step_table.specs.Stories.{Kept, Story}
 use Rattle.step_threads.specs.Threads.{Fits}
 use Rattle.step_core.specs.Following.{Performs}

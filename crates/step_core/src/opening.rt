@@ -16,11 +16,11 @@ use std::alloc::{AllocError, Global};
 use step_table::extent::Extent;
 use step_table::holdings::Holdings;
 use step_table::table::Table;
-use step_threads::act::tasks;
 use step_threads::call::{Actor, Program};
 use step_threads::course::Course;
 use step_threads::ending::Endings;
 use step_threads::half::Half;
+use step_threads::statement::tasks;
 use step_threads::stock::Stock;
 use step_threads::thread::Thread;
 

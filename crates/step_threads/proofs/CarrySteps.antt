@@ -16,7 +16,8 @@ use Rattle.step_threads.specs.Courses.{hand, settled, todo, walk}
 use Rattle.step_table.specs.Deeds.{is_last, leave, on}
 use Rattle.step_table.specs.Holdings.{Slots, is_full, plain, slot}
 use Rattle.step_threads.specs.Scenes.{begins_end, begins_end_as, ended_by, remains_as, went}
-use Rattle.step_threads.specs.Steps.{acts, is_event}
+use Rattle.step_threads.specs.NextSteps.{is_event}
+use Rattle.step_threads.specs.Steps.{acts}
 use Rattle.step_table.specs.Stories.{Story, after, object_in, state}
 use Rattle.step_threads.specs.Threads.{Fits, HasStepped}
 use Rattle.step_threads.proofs.Carrying.{none_taken}

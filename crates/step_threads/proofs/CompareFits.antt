@@ -8,7 +8,7 @@ use Rattle.step_threads.specs.declared.act.Act.{Act}
 use Rattle.step_threads.specs.declared.act.Act.TheVariants.{Compare}
 use Rattle.step_threads.specs.declared.call.CellName.{CellName}
 use Rattle.step_threads.specs.declared.call.CellName.TheVariants as name
-use Rattle.step_table.specs.declared.cell_deed.CellDeed.TheVariants.{Bring, CompareSwap, Look, Take}
+use Rattle.step_table.specs.declared.cell_deed.CellDeed.TheVariants.{Bring, CompareSwap, Take}
 use Rattle.step_table.specs.declared.cell_deed.Compared.{Compared}
 use Rattle.step_threads.specs.declared.course.Course.{Course}
 use Rattle.step_threads.specs.declared.half.Half.{Half}
@@ -34,7 +34,7 @@ use Rattle.step_threads.proofs.LoadFits.{owned_some, saw_next}
 use Rattle.step_threads.proofs.LookFits.{ClaimsNone, fits_gone, fits_half, fits_quiet}
 use Rattle.step_threads.proofs.RefillFits.{At}
 use Rattle.step_threads.proofs.StoreFits.{claims_none, half_back, half_here, next_back}
-use Rattle.step_threads.proofs.Threads.{cell_here, own_pending}
+use Rattle.step_threads.proofs.Threads.{cell_here}
 use Rattle.step_table.proofs.contained.Refilling.{begins_refill, owes_after}
 use Rattle.step_table.proofs.contained.Told.{kind_stays}
 
@@ -72,13 +72,6 @@ module _ (d : ℕ) (t : Thread) (v : Story) (k : ℕ) (c : CellName) (weak : Boo
       ⊎_elim (λ (q : same_value x (as_word (value t.course.holdings.slots.items k)) ≡ true). absurd cc) (λ (q : IsLoaded x). q) (saw_compares e)
 
   module _ (c' : Course) (y : Compared) (kept : Kept v) where
-    -- a value without an object was found to differ
-    pub compare_looked : t.half ≡ Rest → t.course.endings.list ≡ [] → HasGoneOn d t.course c' (after v d (OnCell (Look (cell_at (state v) t.course.holdings.slots.items c) x (Some y))))
-        → Fits d (record { course = c'; stock = t.stock; half = Rest }) (after v d (OnCell (Look (cell_at (state v) t.course.holdings.slots.items c) x (Some y))))
-    compare_looked e none on =
-        let z = OnCell (Look (cell_at (state v) t.course.holdings.slots.items c) x (Some y)) in
-        fits_gone d t v Rest Rest fits e (λ b. refl) (λ b. refl) z c' none refl on (own_pending v d z kept fits.seat) tt
-
     -- one with an object was, and a fund of it is taken
     pub compare_taken : (n : ℕ) → t.half ≡ Saw x → IsLoaded x → HasGoneOn d t.course c' (after v d (OnCell (Take (cell_at (state v) t.course.holdings.slots.items c) x (Some y))))
         → Fits d (record { course = c'; stock = t.stock; half = Refill Turning (cell_at (state v) t.course.holdings.slots.items c) (more_taken x) n })

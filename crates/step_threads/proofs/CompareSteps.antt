@@ -9,7 +9,7 @@ use Rattle.step_threads.specs.declared.act.Act.TheVariants.{Compare}
 use Rattle.step_threads.specs.declared.act.Task.{Task}
 use Rattle.step_threads.specs.declared.call.CellName.{CellName}
 use Rattle.step_table.specs.declared.cell_deed.Cell.{Cell}
-use Rattle.step_table.specs.declared.cell_deed.CellDeed.TheVariants.{CompareSwap, Look, Take}
+use Rattle.step_table.specs.declared.cell_deed.CellDeed.TheVariants.{CompareSwap, Take}
 use Rattle.step_table.specs.declared.cell_deed.Compared.{Compared}
 use Rattle.step_threads.specs.declared.half.Half.{Half}
 use Rattle.step_threads.specs.declared.half.Half.TheVariants.{Rest, Saw, Matched, Refill}
@@ -20,7 +20,7 @@ use Rattle.step_table.specs.declared.refill.Stage.TheVariants.{Turning}
 use Rattle.step_threads.specs.declared.said.Answer.TheVariants.{Compared as Answered}
 use Rattle.step_threads.specs.declared.said.Said.{Said}
 use Rattle.step_threads.specs.declared.said.Stepped.{Stepped}
-use Rattle.step_threads.specs.declared.said.Stepped.TheVariants.{Event, Quiet, Waited}
+use Rattle.step_threads.specs.declared.said.Stepped.TheVariants.{Event, Quiet}
 use Rattle.step_threads.specs.declared.thread.Thread.{Thread}
 use Rattle.step_table.specs.CellDeeds.{kind_in}
 use Rattle.step_table.specs.Cells.{word_at}
@@ -33,11 +33,12 @@ use Rattle.step_threads.specs.Courses.{Walk, cell_at, comparing, hand, is_there,
 use Rattle.step_threads.specs.Entries.{is_expected}
 use Rattle.step_threads.specs.Programs.{IsIn, kind_at}
 use Rattle.step_threads.specs.Scenes.{came, compared}
-use Rattle.step_threads.specs.Steps.{Step, acts, compares, fetches, gives_back, matched, matched_on, matches, missed, saw, saw_on, sees, settles, silent, step_at, takes, waits, within}
+use Rattle.step_threads.specs.NextSteps.{matched, matched_on, saw, saw_on, step_at, waits}
+use Rattle.step_threads.specs.Steps.{Step, acts, compares, fetches, gives_back, matches, missed, settles, silent, takes, within}
 use Rattle.step_threads.specs.Threads.{HasStepped}
 use Rattle.step_threads.proofs.CellNames.{cell_open, goes_in}
 use Rattle.step_threads.proofs.Courses.{todo_at}
-use Rattle.step_threads.proofs.LookSteps.{sees_bare, sees_full, sees_spent, spent_bare, stepped_waiting, takes_it, takes_none}
+use Rattle.step_threads.proofs.LookSteps.{takes_it}
 use Rattle.step_threads.proofs.Steps.{at_act, stepped_as, waits_act}
 use Rattle.step_table.proofs.contained.Coming.{open_found, seen_found}
 use Rattle.step_table.proofs.contained.Told.{alike_seen, shows_seen}
@@ -105,49 +106,9 @@ module _ (d : ℕ) (t : Thread) (v : Story) (k : ℕ) (c : CellName) (weak : Boo
     waiting =
         waits_act t v (Compare k c weak) rests none lt act ∙ ap (λ (z : CellWord). not (same_value z (as_word (value slots k))) && is_spent z) (sym is)
 
-    -- the cell holds what is expected: it is tried next
-    pub compares_alike : (r : Stepped) (t' : Thread) (v' : Story) → same_value x (as_word (value slots k)) ≡ true → r ≡ Quiet (silent number) → v' ≡ v
-        → walk t'.course ≡ walk t.course → t'.half ≡ Saw x → HasStepped d t v r t' v'
-    compares_alike r t' v' same answer story walked half =
-        let w = walk t.course in
-        stepped_as d t v (within w number None (Saw x)) r t' v' (waiting ∙ ap (λ (b : Bool). not b && is_spent x) same)
-        (looks_at ∙ ap (λ (s : Step). Some s) (cond-true (same_value x wanted.expected) (within w number None (Saw x))
-        (sees v d w number (rest t.course) (Compare k c weak) place (Some wanted) x) same)) answer story walked half
-
     module _ (differs : same_value x (as_word (value slots k)) ≡ false) where
-      unlike_at : step_at v d t.half (walk t.course) ≡ Some (sees v d (walk t.course) number (rest t.course) (Compare k c weak) place (Some wanted) x)
-      unlike_at =
-          let w = walk t.course in
-          looks_at ∙ ap (λ (s : Step). Some s) (cond-false (same_value x wanted.expected) (within w number None (Saw x))
-          (sees v d w number (rest t.course) (Compare k c weak) place (Some wanted) x) differs)
-
       spends : waits v t.half (walk t.course) ≡ is_spent x
       spends = waiting ∙ ap (λ (b : Bool). not b && is_spent x) differs
-
-      -- one without an object was found to differ
-      pub compares_bare : (r : Stepped) (t' : Thread) (v' : Story) → x.owned ≡ None → is_expected (state v) slots k c ≡ false
-          → r ≡ Event (answers number false) → v' ≡ after v d (OnCell (Look place x (Some wanted))) → walk t'.course ≡ compared_walk t v c false
-          → t'.half ≡ Rest → HasStepped d t v r t' v'
-      compares_bare r t' v' bare tells answer story walked half =
-          done false (OnCell (Look place x (Some wanted))) Rest r t' v' (spends ∙ spent_bare x bare) refl
-          (unlike_at ∙ ap (λ (s : Step). Some s) (sees_bare v d (walk t.course) number (rest t.course) (Compare k c weak) place (Some wanted) x bare))
-          tells answer story walked half
-
-      -- one of which all funds were taken waits
-      pub compares_spent : (r : Stepped) (t' : Thread) (v' : Story) → is_spent x ≡ true → r ≡ Waited → v' ≡ v → walk t'.course ≡ walk t.course
-          → t'.half ≡ Rest → HasStepped d t v r t' v'
-      compares_spent r t' v' spent answer story walked half =
-          stepped_waiting d t v number r t' v' (spends ∙ spent)
-          (unlike_at ∙ ap (λ (s : Step). Some s) (sees_spent v d (walk t.course) number (rest t.course) (Compare k c weak) place (Some wanted) x spent))
-          rests answer story walked half
-
-      -- a fund of another is taken next
-      pub compares_full : (r : Stepped) (t' : Thread) (v' : Story) → is_spent x ≡ false → is_some x.owned ≡ true → r ≡ Quiet (silent number) → v' ≡ v
-          → walk t'.course ≡ walk t.course → t'.half ≡ Saw x → HasStepped d t v r t' v'
-      compares_full r t' v' left full answer story walked half =
-          stepped_as d t v (within (walk t.course) number None (Saw x)) r t' v' (spends ∙ left)
-          (unlike_at ∙ ap (λ (s : Step). Some s) (sees_full v d (walk t.course) number (rest t.course) (Compare k c weak) place (Some wanted) x left full))
-          answer story walked half
 
   -- the next step of a compare that has seen its cell
   module _ (saws : t.half ≡ Saw x) where
@@ -177,14 +138,6 @@ module _ (d : ℕ) (t : Thread) (v : Story) (k : ℕ) (c : CellName) (weak : Boo
           done false (OnCell (Take place x (Some wanted))) (Refill Turning place (more_taken x) number) r t' v' still_on refl
           (takes_on ∙ ap (λ (s : Step). Some s) (takes_it v d (walk t.course) number (rest t.course) (Compare k c weak) place (Some wanted) x same))
           tells answer story walked half
-
-      -- the cell shows something else: the compare begins again
-      pub differs_not : (r : Stepped) (t' : Thread) (v' : Story) → (word_at v place == cell_bits x) ≡ false → r ≡ Quiet (silent number) → v' ≡ v
-          → walk t'.course ≡ walk t.course → t'.half ≡ Rest → HasStepped d t v r t' v'
-      differs_not r t' v' same answer story walked half =
-          stepped_as d t v (within (walk t.course) number None Rest) r t' v' still_on
-          (takes_on ∙ ap (λ (s : Step). Some s) (takes_none v d (walk t.course) number (rest t.course) (Compare k c weak) place (Some wanted) x same))
-          answer story walked half
 
     module _ (same : same_value x (as_word (value slots k)) ≡ true) where
       alike_on : step_at v d t.half (walk t.course)

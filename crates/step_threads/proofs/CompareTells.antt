@@ -19,7 +19,8 @@ use Rattle.step_table.specs.Holdings.{pointer_of, value}
 use Rattle.step_table.specs.Stories.{Kept, Nothing, Story, pending, state}
 use Rattle.step_threads.specs.Courses.{cell_at, comparing, hand, rest, task_at, walk}
 use Rattle.step_threads.specs.Entries.{is_expected}
-use Rattle.step_threads.specs.Steps.{matches, step_at, waits}
+use Rattle.step_threads.specs.NextSteps.{step_at, waits}
+use Rattle.step_threads.specs.Steps.{matches}
 use Rattle.step_threads.specs.Threads.{Fits, IsNext}
 use Rattle.step_threads.proofs.CompareFits.{cell_of_compare}
 use Rattle.step_threads.proofs.CompareSteps.{expected_told, fetches_none, matched_at, shown_still}

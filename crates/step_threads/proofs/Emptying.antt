@@ -40,11 +40,6 @@ pub none_full : (o : Option Pointer) → is_full o ≡ false → o ≡ None
 none_full None e = refl
 none_full (Some x) e = cc
 
--- an object ends, where one of its members is taken out
-pub clearing_first : (slots : Slots) (es : List Ending) → IsClearing slots es → first_of es ≡ None → ⊥
-clearing_first slots [] clear e = clear
-clearing_first slots (x ∷ xs) clear e = cc
-
 pub clearing_here : (slots : Slots) (es : List Ending) (e : Ending) → IsClearing slots es → first_of es ≡ Some e
     → (e.stage < 3) × (is_full (slot slots (hand slots)) ≡ false)
 clearing_here slots [] e clear is = absurd clear

@@ -1,11 +1,10 @@
 -- The steps of an object's end keep a thread fitting the table.
 use Rattle.std.proofs.Common.{◌≡◌, ◌≢◌, ℕ, ◌<◌, ◌≤◌, ◌==◌, ◌⊎◌, Bool, true, false, cond, List, [], ◌∷◌, refl, sym, ap, subst, ◌∙◌}
-use Rattle.std.proofs.Common.{⊎_elim, inl, inr, arith, eq-eqb, ne_eqb}
-use Rattle.std.proofs.lemmas.Bool.{cases_eq, cond-true, cond-false, false≢true}
+use Rattle.std.proofs.Common.{⊎_elim, inl, inr, arith}
+use Rattle.std.proofs.lemmas.Bool.{cases_eq, false≢true}
 use Rattle.std.proofs.lemmas.List.Elements.{All-tail, All-cons}
 use Rattle.std.proofs.lemmas.List.Sorted.{sum_by_pushed}
 use Rattle.std.specs.List.Sorted.{IsPermutation}
-use Rattle.std.specs.Prelude.{Some, None}
 use Rattle.control_word.proofs.lists.Tallies.{put_cases}
 use Rattle.control_word.specs.declared.event.Event.TheVariants.{ClearMember}
 use Rattle.control_word.specs.declared.handle.Handle.{Handle}
@@ -14,23 +13,20 @@ use Rattle.control_word.specs.declared.view.Pending.TheVariants.{Idle}
 use Rattle.control_word.specs.declared.view.View.{View}
 use Rattle.control_word.specs.Handles.{empty}
 use Rattle.control_word.specs.Histories.{entry}
-use Rattle.control_word.specs.State.{Object, ending, kind_of_member, weak}
+use Rattle.control_word.specs.State.{Object, ending, kind_of_member}
 use Rattle.step_threads.specs.declared.course.Course.{Course}
 use Rattle.step_threads.specs.declared.ending.Ending.{Ending}
 use Rattle.step_threads.specs.declared.half.Half.{Half}
-use Rattle.step_threads.specs.declared.half.Half.TheVariants.{Rest, Clearing}
-use Rattle.step_table.specs.declared.cell_deed.Cell.TheVariants.{Member}
+use Rattle.step_threads.specs.declared.half.Half.TheVariants.{Rest}
 use Rattle.step_table.specs.declared.past.Deed.TheVariants.{Clear, Finish}
 use Rattle.step_threads.specs.declared.thread.Thread.{Thread}
 use Rattle.step_threads.specs.Actors.{HalfFits}
-use Rattle.step_threads.specs.Courses.{CourseReady, IsCarried, IsReady, Walk, hand, task_at, todo}
+use Rattle.step_threads.specs.Courses.{CourseReady, IsCarried, IsReady, hand, task_at, todo}
 use Rattle.step_threads.specs.Endings.{EndsAll, IsEnding, Stack, staged, staged_first}
-use Rattle.step_threads.specs.Steps.{ends_on, silent, with_endings, within}
 use Rattle.step_threads.specs.Stocks.{Stored}
-use Rattle.step_table.specs.Cells.{word_at}
 use Rattle.step_table.specs.Holdings.{is_full, plain, slot, value}
 use Rattle.step_table.specs.Stories.{Kept, Nothing, Story, after, object_in, pending, state}
-use Rattle.step_threads.specs.Threads.{EndsFit, Fits, IsClearing}
+use Rattle.step_threads.specs.Threads.{EndsFit, Fits}
 use Rattle.step_threads.proofs.Endings.{finished_store}
 use Rattle.step_threads.proofs.Threads.{own_pending, resting}
 use Rattle.step_threads.proofs.holding.Ends.{each_end, once_first, once_rest, once_staged, others_end}
@@ -211,42 +207,3 @@ fits_clear d t v e r es kept fits rests list new room is lt bare =
           };
       cells = fits.cells;
     })
-
--- a member was seen to hold something
-pub fits_look_member : (d : ℕ) (t : Thread) (v : Story) (e : Ending) (es : List Ending) → Fits d t v → t.half ≡ Rest → t.course.endings.list ≡ e ∷ es → e.stage < 3
-    → is_full (slot t.course.holdings.slots.items (hand t.course.holdings.slots.items)) ≡ false
-    → Fits d (record { course = t.course; stock = t.stock; half = Clearing }) v
-fits_look_member d t v e es fits rests list lt bare =
-    let x = resting d t v fits rests in
-    record {
-      seat = fits.seat;
-      holds = fits.holds;
-      within = fits.within;
-      ready = fits.ready;
-      still = fits.still;
-      half = idle_here d t v fits rests;
-      next = subst (λ (l : List Ending). IsClearing t.course.holdings.slots.items l) (sym list) (lt, bare);
-      stocks = record { stocked = x.stocked; roomy = x.roomy };
-      endings = fits.endings;
-      cells = fits.cells;
-    }
-
--- how an ending goes on, by its stage and by what the member's word is
-module _ (v : Story) (w : Walk) (e : Ending) (es : List Ending) where
-  pub ends_finish : e.stage ≡ 3
-      → ends_on v w e es
-      ≡ record { deed = Some (Finish e.block (weak (state v) (object_in v e.block) == 0)); half = Rest; walk = with_endings w es; said = silent e.statement }
-  ends_finish is = cond-true (e.stage == 3) _ _ (eq-eqb e.stage 3 is)
-
-  ends_member : e.stage < 3
-      → ends_on v w e es
-      ≡ cond (word_at v (Member e.block e.stage) == 0) (within (with_endings w (staged e ∷ es)) e.statement (Some (Clear e.block e.stage)) Rest)
-      (within w e.statement None Clearing)
-  ends_member lt = cond-false (e.stage == 3) _ _ (ne_eqb e.stage 3 (λ q. omega (arith, q, lt)))
-
-  pub ends_clear : e.stage < 3 → (word_at v (Member e.block e.stage) == 0) ≡ true
-      → ends_on v w e es ≡ within (with_endings w (staged e ∷ es)) e.statement (Some (Clear e.block e.stage)) Rest
-  ends_clear lt z = ends_member lt ∙ cond-true (word_at v (Member e.block e.stage) == 0) _ _ z
-
-  pub ends_look : e.stage < 3 → (word_at v (Member e.block e.stage) == 0) ≡ false → ends_on v w e es ≡ within w e.statement None Clearing
-  ends_look lt z = ends_member lt ∙ cond-false (word_at v (Member e.block e.stage) == 0) _ _ z

@@ -23,11 +23,6 @@ settled_at c slots es still =
     Same : List Task → Type 0
     Same ts = settled slots c.taken es ts ≡ record { slots = slots; taken = c.taken; endings = es; todo = ts }
 
-pub settled_same : (c : Course) (es : List Ending) → c.at ≤ length c.tasks.items → CourseStill c
-    → settled c.holdings.slots.items c.taken es (todo c)
-    ≡ record { slots = c.holdings.slots.items; taken = c.taken; endings = es; todo = todo c }
-settled_same c es within still = settled_at c c.holdings.slots.items es still
-
 module _ (slots : Slots) (x : Slot) where
   pub held_length : length (set slots (hand slots) x) ≡ length slots
   held_length = length-set slots (hand slots) x

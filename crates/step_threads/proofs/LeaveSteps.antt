@@ -21,7 +21,8 @@ use Rattle.step_table.specs.Deeds.{by_word, is_last, leave, leave_as, owned, on,
 use Rattle.step_threads.specs.Endings.{Stack}
 use Rattle.step_table.specs.Holdings.{is_full}
 use Rattle.step_threads.specs.Scenes.{answer_of, begins_end, begins_end_as, ended_by, ended_of, hands, left, remains_as, went}
-use Rattle.step_threads.specs.Steps.{Step, acts, first, waits_on, with_endings}
+use Rattle.step_threads.specs.NextSteps.{first, waits_on}
+use Rattle.step_threads.specs.Steps.{Step, acts, with_endings}
 use Rattle.step_table.specs.Stories.{Story, after, event_of, object_in, state}
 use Rattle.step_threads.specs.Threads.{HasStepped}
 use Rattle.step_threads.proofs.Courses.{settled_with}

@@ -1,7 +1,7 @@
 -- What the steps of threads are that look at cells, and of those that took a fund of one.
 use Rattle.std.proofs.Common.{◌≡◌, ℕ, ◌<◌, ◌==◌, ◌&&◌, Bool, true, false, cond, List, [], length, sym, ap, subst, ◌∙◌}
 use Rattle.std.proofs.lemmas.Bool.{cond-false, cond-true}
-use Rattle.std.specs.Prelude.{Option, Some, None, option_map, is_some, slice_set}
+use Rattle.std.specs.Prelude.{Option, Some, None, option_map, is_some}
 use Rattle.control_word.specs.declared.cell.CellWord.{CellWord}
 use Rattle.control_word.specs.declared.place.Block.{Block}
 use Rattle.control_word.specs.Packing.{cell_bits}
@@ -18,19 +18,17 @@ use Rattle.step_table.specs.declared.past.Deed.TheVariants.{OnCell}
 use Rattle.step_table.specs.declared.refill.Stage.{Stage}
 use Rattle.step_table.specs.declared.refill.Stage.TheVariants.{Turning}
 use Rattle.step_threads.specs.declared.said.Stepped.{Stepped}
-use Rattle.step_threads.specs.declared.said.Stepped.TheVariants.{Event, Quiet, Waited}
+use Rattle.step_threads.specs.declared.said.Stepped.TheVariants.{Waited}
 use Rattle.step_threads.specs.declared.thread.Thread.{Thread}
 use Rattle.step_table.specs.Cells.{word_at}
 use Rattle.step_table.specs.Contents.{is_spent, seen}
 use Rattle.step_table.specs.Refills.{more_taken}
-use Rattle.step_threads.specs.Courses.{Walk, cell_at, hand, is_there, rest, settled, task_at, walk}
-use Rattle.step_threads.specs.Scenes.{came}
-use Rattle.step_threads.specs.Steps.{Step, acts, half_by, refills_on, saw, saw_on, sees, silent, step_at, stepped, story_after, story_by, takes, waits, walk_by, within}
-use Rattle.step_table.specs.Stories.{Story, after, state}
+use Rattle.step_threads.specs.Courses.{Walk, cell_at, is_there, rest, task_at, walk}
+use Rattle.step_threads.specs.NextSteps.{half_by, saw, saw_on, step_at, stepped, story_after, story_by, waits, walk_by}
+use Rattle.step_threads.specs.Steps.{Step, acts, refills_on, sees, takes, within}
+use Rattle.step_table.specs.Stories.{Story, state}
 use Rattle.step_threads.specs.Threads.{HasStepped}
-use Rattle.step_threads.specs.declared.said.Answer.{Answer}
 use Rattle.step_threads.proofs.Courses.{todo_at}
-use Rattle.step_threads.proofs.Named.{refusal_none, told_as, walked_by}
 use Rattle.step_threads.proofs.Steps.{at_act, stepped_as, waits_act}
 
 -- a thread that waits does nothing
@@ -103,38 +101,6 @@ module _ (d : ℕ) (t : Thread) (v : Story) (c : CellName) (x : CellWord) (is : 
       waits_act t v (Load c) rests none lt act
       ∙ ap (λ (b : Bool). b && is_spent (seen v (cell_at (state v) t.course.holdings.slots.items c))) there ∙ ap is_spent (sym is)
 
-  -- a value without an object is loaded
-  pub loads_bare : (r : Stepped) (t' : Thread) (v' : Story) → x.owned ≡ None → r ≡ Event (silent (task_at t.course).statement)
-      → v' ≡ after v d (OnCell (Look (cell_at (state v) t.course.holdings.slots.items c) x None))
-      → walk t'.course ≡ settled (slice_set t.course.holdings.slots.items (hand t.course.holdings.slots.items) (came (state v) t.course.holdings.slots.items c)) true t.course.endings.list (rest t.course)
-      → t'.half ≡ Rest → HasStepped d t v r t' v'
-  loads_bare r t' v' bare answer story walked half =
-      let w = walk t.course in
-      let n = (task_at t.course).statement in
-      let ts = rest t.course in
-      let at = cell_at (state v) t.course.holdings.slots.items c in
-      stepped_as d t v (acts v d w n ts (Load c) (Some (OnCell (Look at x None))) Rest) r t' v' (waiting ∙ spent_bare x bare)
-      (looks_at ∙ ap (λ (s : Step). Some s) (sees_bare v d w n ts (Load c) at None x bare))
-      (answer ∙ ap (λ (o : Option Answer). Event (told_as n o)) (sym (refusal_none t.course.holdings.slots.items c there)))
-      story (walked ∙ sym (ap (λ (b : Bool). walked_by w ts (cond b (slice_set w.slots (hand w.slots) (came (state v) w.slots c), true) (w.slots, w.taken))) there)) half
-
-  -- one of which all funds were taken waits
-  pub loads_spent : (r : Stepped) (t' : Thread) (v' : Story) → is_spent x ≡ true → r ≡ Waited → v' ≡ v → walk t'.course ≡ walk t.course → t'.half ≡ Rest
-      → HasStepped d t v r t' v'
-  loads_spent r t' v' spent answer story walked half =
-      let n = (task_at t.course).statement in
-      stepped_waiting d t v n r t' v' (waiting ∙ spent)
-      (looks_at ∙ ap (λ (s : Step). Some s) (sees_spent v d (walk t.course) n (rest t.course) (Load c) (cell_at (state v) t.course.holdings.slots.items c) None x spent)) rests answer story walked half
-
-  -- another is loaded next
-  pub loads_full : (r : Stepped) (t' : Thread) (v' : Story) → is_spent x ≡ false → is_some x.owned ≡ true
-      → r ≡ Quiet (silent (task_at t.course).statement) → v' ≡ v → walk t'.course ≡ walk t.course → t'.half ≡ Saw x → HasStepped d t v r t' v'
-  loads_full r t' v' left full answer story walked half =
-      let n = (task_at t.course).statement in
-      let w = walk t.course in
-      stepped_as d t v (within w n None (Saw x)) r t' v' (waiting ∙ left)
-      (looks_at ∙ ap (λ (s : Step). Some s) (sees_full v d w n (rest t.course) (Load c) (cell_at (state v) t.course.holdings.slots.items c) None x left full)) answer story walked half
-
 -- the next step of a load that has seen its cell
 module _ (d : ℕ) (t : Thread) (v : Story) (c : CellName) (x : CellWord) (saws : t.half ≡ Saw x) (lt : t.course.at < length t.course.tasks.items)
     (act : (task_at t.course).act ≡ Load c) where
@@ -147,27 +113,3 @@ module _ (d : ℕ) (t : Thread) (v : Story) (c : CellName) (x : CellWord) (saws 
 
   still_on : waits v t.half (walk t.course) ≡ false
   still_on = let w = walk t.course in ap (λ (h : Half). waits v h w) saws
-
-  -- a fund is taken
-  pub takes_fund : (r : Stepped) (t' : Thread) (v' : Story) → is_there t.course.holdings.slots.items c ≡ true → (word_at v (cell_at (state v) t.course.holdings.slots.items c) == cell_bits x) ≡ true
-      → r ≡ Event (silent (task_at t.course).statement) → v' ≡ after v d (OnCell (Take (cell_at (state v) t.course.holdings.slots.items c) x None))
-      → walk t'.course ≡ settled (slice_set t.course.holdings.slots.items (hand t.course.holdings.slots.items) (came (state v) t.course.holdings.slots.items c)) true t.course.endings.list (rest t.course)
-      → t'.half ≡ Refill Turning (cell_at (state v) t.course.holdings.slots.items c) (more_taken x) (task_at t.course).statement → HasStepped d t v r t' v'
-  takes_fund r t' v' there same answer story walked half =
-      let w = walk t.course in
-      let n = (task_at t.course).statement in
-      let ts = rest t.course in
-      let at = cell_at (state v) t.course.holdings.slots.items c in
-      stepped_as d t v (acts v d w n ts (Load c) (Some (OnCell (Take at x None))) (Refill Turning at (more_taken x) n)) r t' v' still_on
-      (seen_on ∙ ap (λ (s : Step). Some s) (takes_it v d w n ts (Load c) at None x same))
-      (answer ∙ ap (λ (o : Option Answer). Event (told_as n o)) (sym (refusal_none t.course.holdings.slots.items c there)))
-      story (walked ∙ sym (ap (λ (b : Bool). walked_by w ts (cond b (slice_set w.slots (hand w.slots) (came (state v) w.slots c), true) (w.slots, w.taken))) there)) half
-
-  -- the cell shows something else: the load begins again
-  pub takes_nothing : (r : Stepped) (t' : Thread) (v' : Story) → (word_at v (cell_at (state v) t.course.holdings.slots.items c) == cell_bits x) ≡ false
-      → r ≡ Quiet (silent (task_at t.course).statement) → v' ≡ v → walk t'.course ≡ walk t.course → t'.half ≡ Rest → HasStepped d t v r t' v'
-  takes_nothing r t' v' same answer story walked half =
-      let w = walk t.course in
-      let n = (task_at t.course).statement in
-      stepped_as d t v (within w n None Rest) r t' v' still_on
-      (seen_on ∙ ap (λ (s : Step). Some s) (takes_none v d w n (rest t.course) (Load c) (cell_at (state v) t.course.holdings.slots.items c) None x same)) answer story walked half

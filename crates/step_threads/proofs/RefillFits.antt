@@ -1,6 +1,5 @@
 -- A thread that refills a cell fits the table.
 use Rattle.std.proofs.Common.{◌≡◌, ℕ, Bool, true, false, cond, refl, sym, subst}
-use Rattle.std.proofs.lemmas.Bool.{and_parts}
 use Rattle.std.specs.Prelude.{Some}
 use Rattle.control_word.specs.declared.cell.CellWord.{CellWord}
 use Rattle.control_word.specs.declared.place.Block.{Block}
@@ -12,16 +11,14 @@ use Rattle.step_table.specs.declared.past.Deed.TheVariants.{OnCell}
 use Rattle.step_table.specs.declared.refill.Stage.{Stage}
 use Rattle.step_table.specs.declared.refill.Stage.TheVariants.{Turning, Checking, Lacking, Refilling, Failing}
 use Rattle.step_threads.specs.declared.thread.Thread.{Thread}
-use Rattle.control_word.specs.Packing.{IsCellWord}
 use Rattle.step_table.specs.CellDeeds.{kind_in}
-use Rattle.step_table.specs.Contents.{same_value}
-use Rattle.step_table.specs.Refills.{RefillFits, is_drained, is_low}
+use Rattle.step_table.specs.Refills.{RefillFits, is_low}
 use Rattle.step_table.specs.Stories.{Kept, Story, after, state}
 use Rattle.step_threads.specs.Threads.{Fits}
 use Rattle.step_threads.proofs.LookFits.{fits_half, fits_quiet}
 use Rattle.step_threads.proofs.StoreFits.{half_here}
 use Rattle.step_threads.proofs.Threads.{own_pending}
-use Rattle.step_table.proofs.contained.Refilling.{brings_funds, finds_same, gives_back, misses_cell, turns_fund}
+use Rattle.step_table.proofs.contained.Refilling.{brings_funds, gives_back, misses_cell, turns_fund}
 
 pub refill_here : (d : ℕ) (t : Thread) (v : Story) (stage : Stage) (c : Cell) (x : CellWord) (k : ℕ) → Fits d t v → t.half ≡ Refill stage c x k
     → RefillFits d stage c x v
@@ -47,18 +44,6 @@ module _ (d : ℕ) (t : Thread) (v : Story) (c : Cell) (x : CellWord) (k : ℕ) 
       go false =
           fits_quiet d t v (Refill Turning c x k) Rest fits e (λ q. refl) (λ q. refl) (OnCell (Turn (kind_in (state v) c) b)) refl
           (own_pending v d (OnCell (Turn (kind_in (state v) c) b)) kept fits.seat) tt
-
-  -- the cell was looked at
-  pub fits_checked : (y : CellWord) → t.half ≡ Refill Checking c x k → IsCellWord y → Fits d (At t (cond (is_drained x y) (Refill Lacking c y k) Rest)) v
-  fits_checked y e valid = go (is_drained x y) refl
-    where
-      go : (b : Bool) → is_drained x y ≡ b → Fits d (At t (cond b (Refill Lacking c y k) Rest)) v
-      go true same =
-          fits_half d t v (Refill Checking c x k) (Refill Lacking c y k) fits e (λ q. refl) (λ q. refl)
-          (finds_same d v c x y (refill_here d t v Checking c x k fits e) valid (and_parts (same_value x y) (is_low y) same).0) tt
-      go false same =
-          let r = refill_here d t v Checking c x k fits e in
-          fits_half d t v (Refill Checking c x k) Rest fits e (λ q. refl) (λ q. refl) r.pays tt
 
   -- funds are brought
   pub fits_refunded : (b : Block) → Kept v → t.half ≡ Refill Lacking c x k → x.owned ≡ Some b

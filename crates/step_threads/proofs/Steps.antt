@@ -1,6 +1,6 @@
 -- What a step of a thread was, by what the thread had begun.
 use Rattle.std.proofs.Common.{◌≡◌, ℕ, ◌<◌, Bool, true, false, cond, List, [], ◌∷◌, length, refl, sym, ap, subst, ◌∙◌}
-use Rattle.std.proofs.lemmas.Bool.{cond-true, cond-false}
+use Rattle.std.proofs.lemmas.Bool.{cond-true}
 use Rattle.std.specs.Prelude.{Option, Some, None, is_some, option_map}
 use Rattle.step_threads.specs.declared.act.Act.{Act}
 use Rattle.step_threads.specs.declared.act.Act.TheVariants.{Leave}
@@ -16,7 +16,8 @@ use Rattle.step_threads.specs.declared.said.Stepped.TheVariants.{Event, Quiet, W
 use Rattle.step_threads.specs.declared.thread.Thread.{Thread}
 use Rattle.step_threads.specs.Courses.{done_on, hand, rest, task_at, todo, walk}
 use Rattle.step_table.specs.Holdings.{is_full, slot}
-use Rattle.step_threads.specs.Steps.{Step, at_rest, begun, emptied, empties, ends_on, first, half_by, is_event, step_at, stepped, story_after, story_by, waits, waits_at, waits_on, walk_by}
+use Rattle.step_threads.specs.NextSteps.{at_rest, begun, emptied, first, half_by, is_event, step_at, stepped, story_after, story_by, waits, waits_at, waits_on, walk_by}
+use Rattle.step_threads.specs.Steps.{Step, empties, ends_on}
 use Rattle.step_table.specs.Stories.{Story, event_of, state}
 use Rattle.step_threads.specs.Threads.{HasStepped}
 use Rattle.step_threads.proofs.Courses.{todo_at}
@@ -56,12 +57,6 @@ waits_act t v a e none lt act =
 module _ (d : ℕ) (t : Thread) (v : Story) (e : Ending) (es : List Ending) (is : t.course.endings.list ≡ e ∷ es) where
   at_rest_here : t.half ≡ Rest → step_at v d t.half (walk t.course) ≡ at_rest v d (walk t.course) (e ∷ es)
   at_rest_here r = ap (λ (h : Half). step_at v d h (walk t.course)) r ∙ ap (λ (l : List Ending). at_rest v d (walk t.course) l) is
-
-  pub at_ending : t.half ≡ Rest → is_full (slot t.course.holdings.slots.items (hand t.course.holdings.slots.items)) ≡ false
-      → step_at v d t.half (walk t.course) ≡ Some (ends_on v (walk t.course) e es)
-  at_ending r empty =
-      let w = walk t.course in
-      at_rest_here r ∙ ap (λ (x : Step). Some x) (cond-false _ (first v d w e.statement w.todo (Leave (hand w.slots))) (ends_on v w e es) empty)
 
   pub at_carried : t.half ≡ Rest → is_full (slot t.course.holdings.slots.items (hand t.course.holdings.slots.items)) ≡ true
       → step_at v d t.half (walk t.course)

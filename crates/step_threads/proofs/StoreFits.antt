@@ -1,6 +1,6 @@
 -- A thread that puts values into cells fits the table, and its steps are as they are said.
 use Rattle.std.proofs.Common.{◌≡◌, ℕ, ◌-◌, ◌<◌, ◌⊎◌, Bool, true, false, cond, not, ◌&&◌, [], length, refl, sym, ap, subst, ◌∙◌, ⊎_elim, arith}
-use Rattle.std.specs.Prelude.{Option, Some, None, is_some}
+use Rattle.std.specs.Prelude.{Option, Some, None}
 use Rattle.control_word.specs.declared.cell.CellWord.{CellWord}
 use Rattle.control_word.specs.declared.handle.Kind.{Kind}
 use Rattle.control_word.specs.declared.handle.Kind.TheVariants.{Owner, Weak}
@@ -72,16 +72,6 @@ pub going_is : (slots : Slots) (c : CellName) (i : ℕ) → is_there slots c ≡
 going_is slots c i there is =
     ap (λ (b : Bool). cond {A = Option Going} (b && is_of (kind_at c) (value slots i)) (Some (c, i)) None) there
     ∙ ap (λ (b : Bool). cond {A = Option Going} b (Some (c, i)) None) is
-
--- what goes is there, and may go in
-pub going_there : (slots : Slots) (c : CellName) (i : ℕ) → is_some (going_from slots c i) ≡ true
-    → (is_there slots c ≡ true) × (is_of (kind_at c) (value slots i) ≡ true)
-going_there slots c i = go (is_there slots c) (is_of (kind_at c) (value slots i))
-  where
-    go : (a b : Bool) → is_some (cond {A = Option Going} (a && b) (Some (c, i)) None) ≡ true → (a ≡ true) × (b ≡ true)
-    go true true e = (refl, refl)
-    go true false e = cc
-    go false b e = cc
 
 pub drop_empty : (c : Course) → c.at < length c.tasks.items → CourseReady c → (task_at c).act ≡ Drop → c.taken ≡ false
 drop_empty c lt ready act =

@@ -16,7 +16,8 @@ use Rattle.step_threads.specs.Courses.{Going, done_on, fitting, going, hand, is_
 use Rattle.step_table.specs.Deeds.{on, share, share_as}
 use Rattle.step_table.specs.Holdings.{is_full, slot, value}
 use Rattle.step_threads.specs.Scenes.{refusal}
-use Rattle.step_threads.specs.Steps.{Step, acts, brings, first, sends, silent, step_at, swaps}
+use Rattle.step_threads.specs.NextSteps.{first, step_at}
+use Rattle.step_threads.specs.Steps.{Step, acts, brings, sends, silent, swaps}
 use Rattle.step_table.specs.Stories.{Story, event_of, state}
 use Rattle.step_threads.specs.Threads.{HasStepped}
 use Rattle.step_threads.proofs.Named.{refusal_none, told_as, walked_by}

@@ -5,7 +5,7 @@ use Rattle.std.proofs.Common.{⊎_elim, inl, arith, eq-eqb, get_or-set_same, get
 use Rattle.std.specs.List.{All}
 use Rattle.std.specs.Prelude.{Some, None}
 use Rattle.std.proofs.lemmas.List.Sorted.{sum_by_popped}
-use Rattle.std.proofs.lemmas.Bool.{cases_eq, cond_both, cond-true}
+use Rattle.std.proofs.lemmas.Bool.{cases_eq, cond-true}
 use Rattle.std.specs.List.Sorted.{IsPermutation}
 use Rattle.control_word.specs.declared.place.Block.{Block}
 use Rattle.control_word.specs.declared.view.Pending.{Pending}
@@ -64,12 +64,6 @@ lost_ready c k must lt ready act =
     go : (m : Bool) → Ready (other c.holdings.slots.items) true (rest c) → Ready (other c.holdings.slots.items) (not m) (rest c)
     go true r = ready_any (other c.holdings.slots.items) (rest c) r
     go false r = r
-
--- a lock that gives an owner takes it
-pub won_ready : (c : Course) (k : ℕ) (must : Bool) → c.at < length c.tasks.items → CourseReady c → (task_at c).act ≡ Lock k must
-    → Ready (other c.holdings.slots.items) true (rest c)
-won_ready c k must lt ready act =
-    let h = ready_head c lt ready in subst (λ (a : Act). Ready (other c.holdings.slots.items) (taken_after a c.taken) (rest c)) act h.2
 
 -- a name is left with nothing in hand
 pub leave_empty : (c : Course) (k : ℕ) → c.at < length c.tasks.items → CourseReady c → ((task_at c).act ≡ Leave k) ⊎ ((task_at c).act ≡ Clear k)
@@ -159,38 +153,6 @@ fits_prepare d t v b s form kept fits e none lt act p all room =
       next = (lt, next_here t.course form act, none);
       stocks = record { stocked = x.stocked; roomy = (let q = x.roomy in omega (arith, q, room)) };
       endings = ends_none d t.course (after v d (deed.Prepare b)) none fits.endings.roomy;
-      cells = fits.cells;
-    }
-
-pub fits_look : (d : ℕ) (t : Thread) (v : Story) (b : Block) (i n : ℕ) (same : Bool) → Fits d t v → t.half ≡ Making b i false → i < 5
-    → n ≡ cond same (i + 1) i → (same ≡ true → get_or (known (pending v d)) i 0 ≡ get_or (wanted (form_at t.course)) i 0)
-    → Fits d (record { course = t.course; stock = t.stock; half = Making b n (not same) }) v
-fits_look d t v b i n same fits e lt is here =
-    let p = prepared d t v b i false fits e in
-    let x : Stocks d t.stock.blocks t.stock.room (Making b i false) v = subst
-    (λ (h : Half). Stocks d t.stock.blocks t.stock.room h v) e fits.stocks in
-    let y : IsNext (Making b i false) t.course = subst (λ (h : Half). IsNext h t.course) e fits.next in
-    record {
-      seat = fits.seat;
-      holds = fits.holds;
-      within = fits.within;
-      ready = fits.ready;
-      still = fits.still;
-      half =
-          record {
-            making = p.making;
-            least = p.least;
-            within = subst (λ (k : ℕ). k ≤ 5) (sym is) (cond_both same (i + 1) i (λ (k : ℕ). k ≤ 5) (λ q. omega arith) (λ q. omega arith));
-            done = λ j l.
-                cond_both same (i + 1) i (λ (k : ℕ). n ≡ k → get_or (known (pending v d)) j 0 ≡ get_or (wanted (form_at t.course)) j 0)
-                (λ q r. ⊎_elim (λ (u : j ≡ i). subst
-                (λ (k : ℕ). get_or (known (pending v d)) k 0 ≡ get_or (wanted (form_at t.course)) k 0) (sym u) (here q))
-                (λ (u : j ≢ i). p.done j (omega (arith, l, r, u))) (cases_eq j i))
-                (λ q r. p.done j (omega (arith, l, r))) is;
-          };
-      next = y;
-      stocks = record { stocked = x.stocked; roomy = x.roomy };
-      endings = fits.endings;
       cells = fits.cells;
     }
 

@@ -4,8 +4,8 @@ use Rattle.control_word.specs.declared.handle.Kind.TheVariants as handle
 use Rattle.step_threads.specs.declared.act.Act.{Act}
 use Rattle.step_threads.specs.declared.act.Act.TheVariants as act
 use Rattle.step_threads.specs.declared.act.Question.TheVariants as question
-use Rattle.step_threads.specs.declared.act.Tail.{Tail}
-use Rattle.step_threads.specs.declared.act.Tail.TheVariants.{Nothing, Named, Into, IntoAs}
+use Rattle.step_threads.specs.declared.statement.Tail.{Tail}
+use Rattle.step_threads.specs.declared.statement.Tail.TheVariants.{Nothing, Named, Into, IntoAs}
 use Rattle.step_threads.specs.declared.act.Task.{Task}
 use Rattle.step_threads.specs.declared.call.Call.{Call}
 use Rattle.step_threads.specs.declared.call.Call.TheVariants.{Make, Empty, Reset, Copy, Count}

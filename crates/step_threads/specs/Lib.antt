@@ -5,6 +5,7 @@ pub mod Doings
 pub mod Endings
 pub mod Entries
 pub mod Interleavings
+pub mod NextSteps
 pub mod Programs
 pub mod Rows
 pub mod Scenes

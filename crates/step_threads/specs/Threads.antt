@@ -21,7 +21,7 @@ use Rattle.step_threads.specs.Endings.{EndsAll}
 use Rattle.step_table.specs.Contents.{as_word, same_value}
 use Rattle.step_table.specs.Holdings.{Holds, Slots, inside, is_full, slot, value}
 use Rattle.step_threads.specs.Stocks.{Stored}
-use Rattle.step_threads.specs.Steps.{answered, half_by, step_at, story_by, walk_by}
+use Rattle.step_threads.specs.NextSteps.{answered, half_by, step_at, story_by, walk_by}
 use Rattle.step_table.specs.Stories.{Story}
 
 -- what the next act makes, where it makes an object

@@ -232,52 +232,6 @@ impl Course {
         }
     }
 
-    /// How many owners the object has that a name holds, as its word tells; 0 where it is empty.
-    pub(crate) fn count(&mut self, desk: usize, table: &mut Table, name: u8) -> u32
-        requires can { CanAct desk self.old table.old }
-        requires act { (task_at self.old).act ≡ Act.Count name }
-        ensures told { result ≡ on (by_word table.old (state table.old)) 0 (slot self.old.holdings.slots.items name) }
-        ensures table { table.new ≡ done_on (tell table.old) table.old desk (slot self.old.holdings.slots.items name) }
-        ensures walk { walk self.new ≡ settled self.old.holdings.slots.items self.old.taken self.old.endings.list (rest self.old) }
-        ensures on { HasGoneOn desk self.old self.new table.new }
-    {
-        let from = usize::from(name);
-        match self.holdings.get(from) {
-            None => {
-                self.go_on();
-                0
-            }
-            Some(pointer) => {
-                let owners = self.holdings.count(desk, table, from, pointer);
-                self.go_on();
-                owners
-            }
-        }
-    }
-
-    /// Whether no owner is left of the object of what a name holds; also where it is empty.
-    pub(crate) fn is_expired(&mut self, desk: usize, table: &mut Table, name: u8) -> bool
-        requires can { CanAct desk self.old table.old }
-        requires act { (task_at self.old).act ≡ Act.Expired name }
-        ensures exact { result ≡ on (is_expired (state table.old)) true (slot self.old.holdings.slots.items name) }
-        ensures table { table.new ≡ done_on (tell_expired (state table.old)) table.old desk (slot self.old.holdings.slots.items name) }
-        ensures walk { walk self.new ≡ settled self.old.holdings.slots.items self.old.taken self.old.endings.list (rest self.old) }
-        ensures on { HasGoneOn desk self.old self.new table.new }
-    {
-        let from = usize::from(name);
-        match self.holdings.get(from) {
-            None => {
-                self.go_on();
-                true
-            }
-            Some(pointer) => {
-                let expired = self.holdings.is_expired(desk, table, from, pointer);
-                self.go_on();
-                expired
-            }
-        }
-    }
-
     /// The prepared object is made; its owner comes into the hand.
     pub(crate) fn claim(&mut self, desk: usize, table: &mut Table, block: Block, form: Form)
         requires seat { desk < table.old.extent.actors }

@@ -2,6 +2,7 @@
 #![tactic(auto)]
 
 pub mod act;
+mod asking;
 pub mod call;
 pub mod course;
 pub mod ending;
@@ -15,6 +16,7 @@ pub mod reading;
 pub mod refilling;
 pub mod refusing;
 pub mod said;
+pub mod statement;
 pub mod stock;
 pub mod storing;
 pub mod this;

@@ -22,7 +22,8 @@ use Rattle.step_threads.specs.Courses.{Walk, hand}
 use Rattle.step_threads.specs.Doings.{Ahead, AnEnd, Does, DoesAhead, Doing, ahead, ahead_of, put_on, spoken}
 use Rattle.step_threads.specs.Endings.{IsEnding, staged}
 use Rattle.step_threads.specs.Scenes.{walk_of}
-use Rattle.step_threads.specs.Steps.{Step, empties, ends_on, is_event, silent, stepped, story_after, with_endings, within}
+use Rattle.step_threads.specs.NextSteps.{is_event, stepped, story_after}
+use Rattle.step_threads.specs.Steps.{Step, empties, ends_on, silent, with_endings, within}
 use Rattle.step_core.specs.Following.{Performs, no_worth, said_by, spoken_by}
 use Rattle.step_core.specs.Worlds.{Sight, scene, sight_by}
 use Rattle.step_core.proofs.turning.Ending.{same_walks, scene_as, walk_after}

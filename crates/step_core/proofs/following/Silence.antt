@@ -26,7 +26,8 @@ use Rattle.step_threads.specs.declared.half.Half.TheVariants.{Rest, Giving, Refi
 use Rattle.step_threads.specs.Courses.{Going, Walk, cell_at, comparing, going, is_there, locked, on_going}
 use Rattle.step_threads.specs.Entries.{least}
 use Rattle.step_threads.specs.Programs.{kind_at}
-use Rattle.step_threads.specs.Steps.{Step, acts, asks, begins, brings, first, looks, refills_on, sees, sends, silent, swaps, trying, within}
+use Rattle.step_threads.specs.NextSteps.{first}
+use Rattle.step_threads.specs.Steps.{Step, acts, asks, begins, brings, looks, refills_on, sees, sends, silent, swaps, trying, within}
 use Rattle.step_core.specs.Turning.{is_acting}
 use Rattle.step_core.proofs.turning.Swapping.{no_more}
 

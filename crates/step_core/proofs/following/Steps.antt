@@ -18,7 +18,8 @@ use Rattle.step_threads.specs.Courses.{hand}
 use Rattle.step_threads.specs.Doings.{Ahead, AnAct, DoesAhead, ahead, ahead_of}
 use Rattle.step_threads.specs.Endings.{EndsAll}
 use Rattle.step_threads.specs.Scenes.{Scene, nowhere, walk_of, went}
-use Rattle.step_threads.specs.Steps.{Step, at_rest, emptied, empties, ends_on, first, refills_on, returns, silent as silently, step_at, stepped, story_after, waits}
+use Rattle.step_threads.specs.NextSteps.{at_rest, emptied, first, step_at, stepped, story_after, waits}
+use Rattle.step_threads.specs.Steps.{Step, empties, ends_on, refills_on, returns, silent as silently}
 use Rattle.step_threads.specs.Threads.{IsClearing}
 use Rattle.step_core.specs.Following.{Performs, no_worth}
 use Rattle.step_core.specs.Turning.{HasBegun, IsOut, IsTried, is_acting}

@@ -7,21 +7,18 @@ use Rattle.control_word.specs.declared.handle.Kind.TheVariants.{Owner, Weak}
 use Rattle.step_threads.specs.declared.act.Act.{Act}
 use Rattle.step_threads.specs.declared.act.Task.{Task}
 use Rattle.step_threads.specs.declared.half.Half.{Half}
-use Rattle.step_threads.specs.declared.half.Half.TheVariants.{Rest, Making, Locking, Giving, Brought, Saw, Matched, Refill, Returning, Clearing}
+use Rattle.step_threads.specs.declared.half.Half.TheVariants.{Rest, Locking, Saw, Matched}
 use Rattle.step_table.specs.declared.holdings.Pointer.{Pointer}
 use Rattle.step_table.specs.declared.past.Deed.{Deed}
 use Rattle.step_threads.specs.declared.said.Stepped.{Stepped}
 use Rattle.step_threads.specs.declared.said.Stepped.TheVariants as stepped
 use Rattle.control_word.specs.declared.cell.CellWord.{CellWord}
-use Rattle.control_word.specs.Packing.{cell_bits}
-use Rattle.step_table.specs.declared.refill.Stage.{Stage}
-use Rattle.step_table.specs.declared.refill.Stage.TheVariants.{Turning, Checking, Lacking, Refilling, Failing}
-use Rattle.step_table.specs.Cells.{word_at}
-use Rattle.step_core.specs.Bounds.{alone, lock_word, refill_steps, shows_next, spare, walk_steps}
+use Rattle.step_core.specs.Bounds.{alone, lock_word, shows_next, spare, walk_steps}
 use Rattle.step_threads.specs.Courses.{Walk}
 use Rattle.step_table.specs.Deeds.{is_last, leave, leave_as, owned}
 use Rattle.step_threads.specs.Scenes.{ended_by, left as leaves_by, remains_as}
-use Rattle.step_threads.specs.Steps.{Step, acts, stepped as stepped_by, story_after}
+use Rattle.step_threads.specs.NextSteps.{stepped as stepped_by, story_after}
+use Rattle.step_threads.specs.Steps.{Step, acts}
 use Rattle.step_table.specs.Stories.{Story, state}
 use Rattle.step_core.specs.Told.{ends_by, is_prepared, makes}
 use Rattle.step_core.proofs.telling.Walking.{ends_at, went_plain}
@@ -45,35 +42,6 @@ alone_saw v w x b is = ap {B = ℕ} (λ (t : Bool). cond t 14 18) is
 
 pub alone_matched : (v : Story) (w : Walk) (x : CellWord) (b : Bool) → shows_next v w.slots x w.todo ≡ b → alone v w (Matched x) ≡ cond b 13 17
 alone_matched v w x b is = ap {B = ℕ} (λ (t : Bool). cond t 13 17) is
-
-saw_most : (b : Bool) → cond b 14 18 ≤ 18
-saw_most true = omega arith
-saw_most false = omega arith
-
-matched_most : (b : Bool) → cond b 13 17 ≤ 17
-matched_most true = omega arith
-matched_most false = omega arith
-
-refill_most : (b : Bool) (s : Stage) → refill_steps b s ≤ 21
-refill_most b Turning = omega arith
-refill_most b Checking = omega arith
-refill_most true Lacking = omega arith
-refill_most false Lacking = omega arith
-refill_most true Refilling = omega arith
-refill_most false Refilling = omega arith
-refill_most b Failing = omega arith
-
-pub alone_most : (v : Story) (w : Walk) (h : Half) → alone v w h ≤ spare h + 3
-alone_most v w Rest = omega arith
-alone_most v w (Making b i differs) = omega arith
-alone_most v w (Locking word) = let l = (alone_of_lock v w word).1 in omega (arith, l)
-alone_most v w (Giving i kind x) = omega arith
-alone_most v w Brought = omega arith
-alone_most v w (Saw x) = let m = saw_most (shows_next v w.slots x w.todo) in omega (arith, m)
-alone_most v w (Matched x) = let m = matched_most (shows_next v w.slots x w.todo) in omega (arith, m)
-alone_most v w (Refill s c x k) = let m = refill_most (word_at v c == cell_bits x) s in omega (arith, m)
-alone_most v w (Returning kind b funds k) = omega arith
-alone_most v w Clearing = omega arith
 
 -- A step leaves the thread with fewer steps, where it runs alone, and never with more. An object that is made has the steps of
 -- its end, and one whose last owner left gives them to its ending

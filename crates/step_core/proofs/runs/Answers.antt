@@ -24,8 +24,10 @@ use Rattle.step_core.specs.Headline.{LocksNext}
 use Rattle.step_table.specs.Holdings.{inside, is_full, slot, owner_slot, place_in}
 use Rattle.step_threads.specs.Entries.{least}
 use Rattle.step_threads.specs.Scenes.{found, lock_answer}
-use Rattle.step_threads.specs.Steps.{asks, at_rest, brings, emptied, given as given_by, Step, acts, begins, begun, claims, ends_on, first, looks, made_on}
-use Rattle.step_threads.specs.Steps.{prepares, sends, sent, silent, step_at, swaps, tried, tries, trying, with_endings, within}
+use Rattle.step_threads.specs.NextSteps.{at_rest, emptied, given as given_by, begun, first, made_on}
+use Rattle.step_threads.specs.Steps.{asks, brings, Step, acts, begins, claims, ends_on, looks}
+use Rattle.step_threads.specs.NextSteps.{sent, step_at, tried}
+use Rattle.step_threads.specs.Steps.{prepares, sends, silent, swaps, tries, trying, with_endings, within}
 use Rattle.step_table.specs.Stories.{Story, known, object_in, pending, state}
 use Rattle.step_table.specs.declared.cell_deed.Cell.{Cell}
 use Rattle.step_table.specs.declared.cell_deed.Cell.TheVariants.{Member}

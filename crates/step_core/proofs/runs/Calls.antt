@@ -11,12 +11,11 @@ use Rattle.step_threads.specs.declared.said.Stepped.{Stepped}
 use Rattle.step_threads.specs.declared.said.Stepped.TheVariants.{Waited, Done}
 use Rattle.step_core.specs.declared.trace.TraceStep.{TraceStep}
 use Rattle.step_threads.specs.Scenes.{walk_of}
-use Rattle.step_core.specs.Bounds.{alone, spare}
 use Rattle.step_core.specs.Runs.{Adds, CallsOn, FinishesCall, IsRun, Moves, Settles, compares_next, goes_on, is_calling, is_owing}
 use Rattle.step_core.specs.Turning.{HasBegun}
 use Rattle.step_core.specs.Worlds.{Advances, Sight, Steps, half_of, scene}
 use Rattle.step_core.proofs.runs.Chains.{moves_more}
-use Rattle.step_core.proofs.runs.Measures.{alone_of, at_end, spare_of}
+use Rattle.step_core.proofs.runs.Measures.{at_end}
 
 same_number : (d n : ℕ) → n ≡ d + 1 → n - 1 ≡ d
 same_number d n e = omega (arith, e)
@@ -52,10 +51,6 @@ pub record IsGoing (d : ℕ) (u : Sight) (xs : List TraceStep) (m : Sight) (ys :
   pub moves : All Moves added
   pub actors : length m.walks ≡ length u.walks
 
-pub going_start : (d : ℕ) (u : Sight) (xs : List TraceStep) → IsGoing d u xs u xs
-going_start d u xs =
-    record { added = []; items = sym (append-nil xs); calls = refl; moves = All-nil Moves; actors = refl }
-
 pub going_more : (d : ℕ) (u m w : Sight) (xs ys zs : List TraceStep) (r : Stepped) → IsGoing d u xs m ys
     → is_calling m d ≡ true → Advances d m r w
     → length w.walks ≡ length m.walks → r ≢ Waited → zs ≡ ys ++ record { actor = d + 1; stepped = r } ∷ []
@@ -69,11 +64,6 @@ going_more d u m w xs ys zs r on goes advances actors never is =
       moves = moves_more on.added (on.added ++ x ∷ []) (d + 1) r on.moves never refl;
       actors = actors ∙ on.actors;
     }
-
-pub going_end : (d : ℕ) (u m : Sight) (xs ys : List TraceStep) → IsGoing d u xs m ys → is_calling m d ≡ false
-    → Adds (FinishesCall d) u xs m ys
-going_end d u m xs ys on done =
-    record { added = on.added; items = on.items; run = record { calls = on.calls; done = done }; moves = on.moves }
 
 -- a call that goes on isn't at the thread's end
 pub calling_on : (d : ℕ) (u u' : Sight) (r : Stepped) → HasBegun d u → Steps d u r u' → is_calling u d ≡ true → r ≢ Done
@@ -96,11 +86,6 @@ rests (Matched x) ts e = absurd (false≢true (sym e))
 rests (Refill stage c x k) ts e = absurd (false≢true (sym e))
 rests (Returning kind b funds k) ts e = absurd (false≢true (sym e))
 rests Clearing ts e = absurd (false≢true (sym e))
-
-pub done_spares : (d : ℕ) (u : Sight) → is_calling u d ≡ false → alone_of d u ≡ spare_of d u
-done_spares d u done =
-    let e = rests (half_of u d) (walk_of (scene u) d).todo done in
-    ap (λ (h : Half). alone u.story (walk_of (scene u) d) h) e ∙ sym (ap spare e)
 
 -- one thread more, which had a call to finish or none
 pub settled_one : (d : ℕ) (u u' : Sight) (xs ys : List TraceStep) → is_owing (half_of u d) ≡ true

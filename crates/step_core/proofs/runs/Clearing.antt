@@ -12,7 +12,8 @@ use Rattle.step_threads.specs.declared.ending.Ending.{Ending}
 use Rattle.step_threads.specs.declared.half.Half.TheVariants.{Rest, Clearing}
 use Rattle.step_threads.specs.Courses.{Walk}
 use Rattle.step_threads.specs.Endings.{staged}
-use Rattle.step_threads.specs.Steps.{Step, emptied, empties, ends_on, silent, story_after, with_endings, within}
+use Rattle.step_threads.specs.NextSteps.{emptied, story_after}
+use Rattle.step_threads.specs.Steps.{Step, empties, ends_on, silent, with_endings, within}
 use Rattle.step_threads.specs.Threads.{IsClearing}
 use Rattle.step_core.proofs.runs.Alone.{IsLess}
 use Rattle.step_core.proofs.runs.Trying.{alone_back}

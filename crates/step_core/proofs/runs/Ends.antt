@@ -13,7 +13,7 @@ use Rattle.step_threads.specs.Courses.{Walk, other}
 use Rattle.step_core.specs.Runs.{IsRun, IsStepOf, RunInOrder}
 use Rattle.step_core.specs.Sights.{IsOver}
 use Rattle.step_threads.specs.Scenes.{nowhere, walk_of}
-use Rattle.step_threads.specs.Steps.{half_by, walk_by}
+use Rattle.step_threads.specs.NextSteps.{half_by, walk_by}
 use Rattle.step_core.specs.Totals.{IsAtEnd}
 use Rattle.step_core.specs.Worlds.{Sight, Steps, half_of, scene, step_of}
 

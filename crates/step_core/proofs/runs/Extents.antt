@@ -3,7 +3,8 @@ use Rattle.std.proofs.Common.{◌≡◌, ℕ, ◌-◌, [], ◌∷◌, List, Opti
 use Rattle.step_table.specs.declared.past.Deed.{Deed}
 use Rattle.step_table.specs.Stories.{Story}
 use Rattle.step_threads.specs.declared.said.Stepped.{Stepped}
-use Rattle.step_threads.specs.Steps.{Step, story_after, story_by}
+use Rattle.step_threads.specs.NextSteps.{story_after, story_by}
+use Rattle.step_threads.specs.Steps.{Step}
 use Rattle.step_core.specs.declared.trace.TraceStep.{TraceStep}
 use Rattle.step_core.specs.Runs.{IsRun}
 use Rattle.step_core.specs.Worlds.{GoesTo, IsAsLarge, Sight, Steps, StepsBy, step_of}

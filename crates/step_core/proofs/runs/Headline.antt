@@ -18,7 +18,8 @@ use Rattle.step_table.specs.declared.past.Deed.{Deed}
 use Rattle.step_core.specs.declared.trace.TraceStep.{TraceStep}
 use Rattle.step_core.specs.Headline.{CameOut, CountsAtRest, LastLeft, LocksWhereOwned, ValuesAtLastLeave, ValuesOnce, Was}
 use Rattle.step_table.specs.Openings.{opening}
-use Rattle.step_threads.specs.Steps.{Step, story_after, story_by}
+use Rattle.step_threads.specs.NextSteps.{story_after, story_by}
+use Rattle.step_threads.specs.Steps.{Step}
 use Rattle.step_table.specs.Stories.{Kept, Nothing, Story, added, event_of, state}
 use Rattle.step_core.specs.Totals.{is_last}
 use Rattle.step_core.specs.Worlds.{Sight, Steps, step_of}

@@ -24,7 +24,8 @@ use Rattle.step_threads.specs.Endings.{staged}
 use Rattle.step_table.specs.Holdings.{inside, is_full, slot, owner_slot, place_in}
 use Rattle.step_threads.specs.Entries.{least}
 use Rattle.step_threads.specs.Scenes.{ended_by as ended_of, ended_of as ends_of, remains_as}
-use Rattle.step_threads.specs.Steps.{Step, acts, asks, at_rest, begins, begun, brings, claims, emptied, ends_on, first, given, looks, made_on, prepares, sends, sent, silent, step_at, swaps, tried, tries, trying, with_endings, within}
+use Rattle.step_threads.specs.NextSteps.{at_rest, begun, emptied, first, given, made_on, sent, step_at, tried}
+use Rattle.step_threads.specs.Steps.{Step, acts, asks, begins, brings, claims, ends_on, looks, prepares, sends, silent, swaps, tries, trying, with_endings, within}
 use Rattle.step_table.specs.Stories.{Story, known, object_in, pending, state}
 use Rattle.step_table.specs.declared.cell_deed.Cell.{Cell}
 use Rattle.step_table.specs.declared.cell_deed.Cell.TheVariants.{Member}

@@ -23,8 +23,10 @@ use Rattle.step_threads.specs.Endings.{EndsAll, IsEnding}
 use Rattle.step_table.specs.Holdings.{Holds, inside, is_full, owner_slot, place_in, slot}
 use Rattle.step_threads.specs.Entries.{least}
 use Rattle.step_threads.specs.Scenes.{holding, left as leaves_by, went}
-use Rattle.step_threads.specs.Steps.{Step, acts, asks, at_rest, begins, begun, brings, claims, ends_on, first, given, looks, made_on, prepares}
-use Rattle.step_threads.specs.Steps.{sends, sent, silent, step_at, stepped as stepped_by, story_after, swaps, tried, tries, trying, waits, waits_at, waits_on}
+use Rattle.step_threads.specs.NextSteps.{at_rest, begun, first, given, made_on}
+use Rattle.step_threads.specs.Steps.{Step, acts, asks, begins, brings, claims, ends_on, looks, prepares}
+use Rattle.step_threads.specs.NextSteps.{sent, step_at, stepped as stepped_by, story_after, tried, waits, waits_at, waits_on}
+use Rattle.step_threads.specs.Steps.{sends, silent, swaps, tries, trying}
 use Rattle.step_table.specs.Stories.{Kept, Story, known, pending, state}
 use Rattle.step_core.specs.Told.{is_prepared}
 use Rattle.step_core.specs.Turning.{IsAlone, IsInShape, IsLock, IsOut, IsStill, IsSwap, IsTried, IsUnderWay}

@@ -14,8 +14,9 @@ use Rattle.step_threads.specs.declared.said.Stepped.TheVariants as stepped
 use Rattle.step_core.specs.declared.trace.TraceStep.{TraceStep}
 use Rattle.step_core.specs.Headline.{LocksNext, TellsLocks, Was, answer_by, statement_by}
 use Rattle.step_threads.specs.Scenes.{lock_answer, walk_of}
-use Rattle.step_threads.specs.Steps.{Step, is_event}
-use Rattle.step_threads.specs.Steps.{stepped as stepped_by, story_after, story_by}
+use Rattle.step_threads.specs.NextSteps.{is_event}
+use Rattle.step_threads.specs.Steps.{Step}
+use Rattle.step_threads.specs.NextSteps.{stepped as stepped_by, story_after, story_by}
 use Rattle.step_table.specs.Stories.{Nothing, Story, added, event_of, state}
 use Rattle.step_core.specs.Worlds.{Sight, half_of, scene, step_of}
 use Rattle.step_table.proofs.tables.CellDeeds.{by_event}

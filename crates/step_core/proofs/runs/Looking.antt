@@ -25,7 +25,8 @@ use Rattle.step_table.specs.Refills.{RefillFits}
 use Rattle.step_table.specs.Stories.{Kept, Story, state}
 use Rattle.step_threads.specs.Courses.{HasCell, Walk, cell_at, comparing, hand, idle, is_there}
 use Rattle.step_threads.specs.Programs.{IsIn, kind_at}
-use Rattle.step_threads.specs.Steps.{Step, acts, fetches, first, matched, matched_on, refills_on, saw, saw_on, sees, story_after, waits_on}
+use Rattle.step_threads.specs.NextSteps.{first, matched, matched_on, saw, saw_on, story_after, waits_on}
+use Rattle.step_threads.specs.Steps.{Step, acts, fetches, refills_on, sees}
 use Rattle.step_threads.proofs.CellNames.{cell_open}
 use Rattle.step_table.proofs.tables.Shown.{kept_cell, somewhere}
 use Rattle.step_core.specs.Bounds.{shows_next, shows_on}

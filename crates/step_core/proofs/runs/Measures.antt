@@ -16,7 +16,8 @@ use Rattle.step_threads.specs.Courses.{Walk, other}
 use Rattle.step_table.specs.Openings.{opening}
 use Rattle.step_core.specs.Sights.{IsOver}
 use Rattle.step_threads.specs.Scenes.{nowhere, walk_of}
-use Rattle.step_threads.specs.Steps.{Step, is_event, story_after, story_by, stepped, waits}
+use Rattle.step_threads.specs.NextSteps.{is_event, story_after, story_by, stepped, waits}
+use Rattle.step_threads.specs.Steps.{Step}
 use Rattle.step_table.specs.Stories.{Kept, Story}
 use Rattle.step_core.specs.Told.{IsTidy, Leaves, ends_by, makes}
 use Rattle.step_core.specs.Turning.{HasBegun}

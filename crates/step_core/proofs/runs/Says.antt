@@ -16,7 +16,8 @@ use Rattle.step_core.specs.declared.trace.TraceStep.{TraceStep}
 use Rattle.step_table.specs.Deeds.{remains}
 use Rattle.step_core.specs.Headline.{LastLeft, TellsWhatIsLeft, ended_by}
 use Rattle.step_threads.specs.Scenes.{walk_of}
-use Rattle.step_threads.specs.Steps.{Step, is_event, stepped as stepped_by, story_after, story_by}
+use Rattle.step_threads.specs.NextSteps.{is_event, stepped as stepped_by, story_after, story_by}
+use Rattle.step_threads.specs.Steps.{Step}
 use Rattle.step_table.specs.Stories.{Nothing, Story, added, event_of, object_in, owner_in, state}
 use Rattle.step_core.specs.Totals.{is_last}
 use Rattle.step_core.specs.Worlds.{Sight, half_of, scene, step_of}

@@ -21,7 +21,8 @@ use Rattle.step_threads.specs.declared.said.Stepped.TheVariants.{Event as Happen
 use Rattle.step_threads.specs.declared.thread.Thread.{Thread}
 use Rattle.step_threads.specs.Courses.{Walk, walk}
 use Rattle.step_threads.specs.Scenes.{nowhere, walk_of}
-use Rattle.step_threads.specs.Steps.{Step, answered, at_rest, begun, half_by, is_event as is_done, stepped, story_after, story_by, waits_at, walk_by}
+use Rattle.step_threads.specs.NextSteps.{answered, at_rest, begun, half_by, is_event as is_done, stepped, story_after, story_by, waits_at, walk_by}
+use Rattle.step_threads.specs.Steps.{Step}
 use Rattle.step_core.specs.Sights.{AllHold, Sight, Takes, half_of, is_event, scene}
 use Rattle.step_core.specs.Turning.{HasBegun}
 use Rattle.step_core.specs.Worlds.{Advances, AllFit, Steps, step_of, thread_walk}

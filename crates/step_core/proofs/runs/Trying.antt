@@ -27,7 +27,8 @@ use Rattle.step_table.specs.Refills.{is_drained, is_low, more_taken}
 use Rattle.step_table.specs.Stories.{Kept, Story, state}
 use Rattle.step_threads.specs.Courses.{Walk, hand}
 use Rattle.step_threads.specs.Scenes.{left as leaves_by, went}
-use Rattle.step_threads.specs.Steps.{Step, acts, compares, fetches, gives_back, matches, missed, refills_on, sees, settles, stepped as stepped_by, story_after, takes, within}
+use Rattle.step_threads.specs.NextSteps.{stepped as stepped_by, story_after}
+use Rattle.step_threads.specs.Steps.{Step, acts, compares, fetches, gives_back, matches, missed, refills_on, sees, settles, takes, within}
 use Rattle.step_table.proofs.contained.Coming.{seen_found}
 use Rattle.step_core.specs.Bounds.{alone, refill_steps, shows_next, shows_on, spare, walk_steps, weight}
 use Rattle.step_core.proofs.runs.Alone.{IsLess, Lessens, alone_matched, alone_saw, none_made, plain_less}

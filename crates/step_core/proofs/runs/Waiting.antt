@@ -17,7 +17,8 @@ use Rattle.step_table.specs.Holdings.{value}
 use Rattle.step_table.specs.Stories.{Story, state}
 use Rattle.step_threads.specs.Courses.{Walk, cell_at, comparing, is_there}
 use Rattle.step_threads.specs.Scenes.{walk_of}
-use Rattle.step_threads.specs.Steps.{Step, acts, at_rest, begun, first, step_at, stepped, story_after, story_by, waits, waits_at, waits_on, within}
+use Rattle.step_threads.specs.NextSteps.{at_rest, begun, first, step_at, stepped, story_after, story_by, waits, waits_at, waits_on}
+use Rattle.step_threads.specs.Steps.{Step, acts, within}
 use Rattle.step_core.specs.Worlds.{Sight, Steps, half_of, scene, step_of}
 
 -- a thread that waits does nothing

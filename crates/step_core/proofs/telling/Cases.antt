@@ -28,7 +28,8 @@ use Rattle.step_table.specs.Holdings.{slot}
 use Rattle.step_table.specs.Refills.{is_drained, is_low, more_taken}
 use Rattle.step_table.specs.Stories.{Story, state}
 use Rattle.step_threads.specs.Courses.{Walk, cell_at, comparing, hand, is_there}
-use Rattle.step_threads.specs.Steps.{Step, acts, compares, fetches, first, gives_back, matched, matched_on, matches, missed, refills_on, saw, saw_on, sees, settles, takes, within}
+use Rattle.step_threads.specs.NextSteps.{first, matched, matched_on, saw, saw_on}
+use Rattle.step_threads.specs.Steps.{Step, acts, compares, fetches, gives_back, matches, missed, refills_on, sees, settles, takes, within}
 
 -- steps of a thread that rests or is within an act, so that nothing is done; that look at a cell, take a fund of it, or swap it; and
 -- those on funds

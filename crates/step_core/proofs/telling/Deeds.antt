@@ -12,7 +12,8 @@ use Rattle.step_core.specs.Bounds.{walk_steps}
 use Rattle.step_threads.specs.Courses.{Walk}
 use Rattle.step_threads.specs.Scenes.{ended_by, remains_as}
 use Rattle.step_table.specs.Deeds.{remains, read, downgrade, is_last as is_last_of, leave, leave_as, lock, owned, share, share_as, tell, tell_expired, alias}
-use Rattle.step_threads.specs.Steps.{Step, silent, stepped, story_by, walk_by}
+use Rattle.step_threads.specs.NextSteps.{stepped, story_by, walk_by}
+use Rattle.step_threads.specs.Steps.{Step, silent}
 use Rattle.control_word.specs.declared.handle.Kind.{Kind}
 use Rattle.control_word.specs.declared.handle.Kind.TheVariants.{Owner, Weak}
 use Rattle.step_table.specs.Stories.{Story, owner_in, state}

@@ -33,7 +33,8 @@ use Rattle.step_table.specs.Holdings.{inside, is_full, owner_slot, place_in, slo
 use Rattle.step_table.specs.Openings.{opening}
 use Rattle.step_threads.specs.Entries.{least}
 use Rattle.step_threads.specs.Scenes.{begins_end, begins_end_as, endings_by, hands, holding, went}
-use Rattle.step_threads.specs.Steps.{Step, at_rest, begins, begun, claims, emptied, empties, ends_on, first, made_on, prepares, silent, step_at, story_by, with_endings, within}
+use Rattle.step_threads.specs.NextSteps.{at_rest, begun, emptied, first, made_on, step_at, story_by}
+use Rattle.step_threads.specs.Steps.{Step, begins, claims, empties, ends_on, prepares, silent, with_endings, within}
 use Rattle.step_table.specs.Stories.{Kept, Story, after, known, object_in, pending, state}
 use Rattle.step_core.specs.Told.{AllEnd}
 use Rattle.step_table.proofs.tables.Places.{owner_busy, there}

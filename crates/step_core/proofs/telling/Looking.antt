@@ -20,7 +20,8 @@ use Rattle.step_core.specs.Told.{is_prepared}
 use Rattle.step_table.specs.Stories.{Story, state}
 use Rattle.step_threads.specs.Courses.{Walk, cell_at}
 use Rattle.step_threads.specs.Scenes.{answer_of, ended_of, left, went}
-use Rattle.step_threads.specs.Steps.{Step, acts, compares, first, matched, saw, step_at}
+use Rattle.step_threads.specs.NextSteps.{first, matched, saw, step_at}
+use Rattle.step_threads.specs.Steps.{Step, acts, compares}
 use Rattle.step_core.proofs.telling.Cases.{IsEach, IsEachAct, each_compares, each_load, each_matched, each_refill, each_saw}
 use Rattle.step_core.proofs.telling.Deeds.{IsCounted, plus_none, quiet}
 use Rattle.step_core.proofs.telling.Walking.{went_plain}

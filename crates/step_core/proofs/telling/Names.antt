@@ -28,7 +28,8 @@ use Rattle.step_threads.specs.Courses.{Going, Walk, cell_at, comparing, form_of,
 use Rattle.step_threads.specs.Endings.{staged}
 use Rattle.step_threads.specs.Entries.{least}
 use Rattle.step_threads.specs.Scenes.{holding, nowhere, walk_of, went}
-use Rattle.step_threads.specs.Steps.{Step, acts, asks, at_rest, begins, begun, brings, claims, emptied, ends_on, first, given, looks, made_on, matched, matched_on, prepares, saw, saw_on, sends, sent, silent, step_at, swaps, tried, tries, trying, walk_by, with_endings, within}
+use Rattle.step_threads.specs.NextSteps.{at_rest, begun, emptied, first, given, made_on, matched, matched_on, saw, saw_on, sent, step_at, tried, walk_by}
+use Rattle.step_threads.specs.Steps.{Step, acts, asks, begins, brings, claims, ends_on, looks, prepares, sends, silent, swaps, tries, trying, with_endings, within}
 use Rattle.step_core.specs.Told.{IsTidy, Leaves, LeavesAll}
 use Rattle.step_core.specs.Turning.{IsUnderWay}
 use Rattle.step_core.specs.Worlds.{Sight, half_of, scene, sight_by, step_of}

@@ -77,10 +77,6 @@ abbrev all_given : ℕ → List (Entry Nothing) → ℕ
 all_given zero h = 0
 all_given (suc n) h = given (suc n) h + all_given n h
 
-none_given : (n : ℕ) → all_given n [] ≡ 0
-none_given zero = refl
-none_given (suc n) = let i = none_given n in omega (arith, i)
-
 more_given : (n : ℕ) (e : Entry Nothing) (h : List (Entry Nothing)) → all_given n (e ∷ h) ≡ all_ends n e.event + all_given n h
 more_given zero e h = refl
 more_given (suc n) e h = let i = more_given n e h in omega (arith, i)

@@ -9,7 +9,8 @@ use Rattle.step_core.specs.Bounds.{walk_steps}
 use Rattle.step_threads.specs.Courses.{Walk}
 use Rattle.step_table.specs.Openings.{opening}
 use Rattle.step_threads.specs.Scenes.{nowhere, walk_of}
-use Rattle.step_threads.specs.Steps.{Step, half_by, story_after, story_by, stepped, walk_by}
+use Rattle.step_threads.specs.NextSteps.{half_by, story_after, story_by, stepped, walk_by}
+use Rattle.step_threads.specs.Steps.{Step}
 use Rattle.step_table.specs.Stories.{Kept, Story}
 use Rattle.step_core.specs.Told.{IsTold, ends_by, makes}
 use Rattle.step_core.specs.Turning.{HasBegun}

@@ -28,7 +28,8 @@ use Rattle.step_table.specs.Deeds.{give, is_enabled, lock, owner_word, share_as,
 use Rattle.step_threads.specs.Endings.{endings_of}
 use Rattle.step_table.specs.Holdings.{slot, value}
 use Rattle.step_threads.specs.Scenes.{begins_end, endings_by, hands, left as leaves_by, went}
-use Rattle.step_threads.specs.Steps.{Step, acts, asks, brings, given, gives_back, looks, sends, sent, silent, swaps, story_after, story_by, tried, tries, trying, walk_by}
+use Rattle.step_threads.specs.NextSteps.{given, sent, story_after, story_by, tried, walk_by}
+use Rattle.step_threads.specs.Steps.{Step, acts, asks, brings, gives_back, looks, sends, silent, swaps, tries, trying}
 use Rattle.step_table.specs.Stories.{Kept, Story, state}
 use Rattle.step_core.specs.Told.{AllEnd}
 use Rattle.step_core.proofs.telling.Walking.{settled_endings}

@@ -16,7 +16,8 @@ use Rattle.step_table.specs.CellDeeds.{cell_in, handle_told}
 use Rattle.step_table.specs.Stories.{Story, state}
 use Rattle.step_threads.specs.Courses.{Walk, cell_at}
 use Rattle.step_threads.specs.Scenes.{left}
-use Rattle.step_threads.specs.Steps.{Step, compares, first, matched, saw, step_at, story_after}
+use Rattle.step_threads.specs.NextSteps.{first, matched, saw, step_at, story_after}
+use Rattle.step_threads.specs.Steps.{Step, compares}
 use Rattle.step_core.specs.Told.{AllEnd}
 use Rattle.step_core.proofs.telling.Cases.{IsEach, IsEachAct, each_compares, each_load, each_matched, each_refill, each_saw}
 use Rattle.step_core.proofs.telling.Still.{Lists, Right, fills_alike, plain, plain_alike, same, within}

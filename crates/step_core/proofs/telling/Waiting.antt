@@ -15,7 +15,8 @@ use Rattle.step_table.specs.Contents.{as_word, compared_in, is_spent, same_value
 use Rattle.step_table.specs.Holdings.{value}
 use Rattle.step_table.specs.Stories.{Story, state}
 use Rattle.step_threads.specs.Courses.{Walk, cell_at, comparing, is_there}
-use Rattle.step_threads.specs.Steps.{Step, acts, answered, at_rest, begun, first, is_event, step_at, stepped, waits, waits_at, waits_on, within}
+use Rattle.step_threads.specs.NextSteps.{answered, at_rest, begun, first, is_event, step_at, stepped, waits, waits_at, waits_on}
+use Rattle.step_threads.specs.Steps.{Step, acts, within}
 use Rattle.step_core.specs.Told.{ends_by, makes}
 
 -- two answers of a step of a thread at rest that add as much

@@ -1,5 +1,5 @@
 -- What a world keeps, after a step of one of its threads.
-use Rattle.std.proofs.Common.{◌≡◌, ◌≢◌, ℕ, ◌+◌, ◌<◌, ◌≤◌, List, length, set, get_or, sym, ap, subst, ◌∙◌, arith}
+use Rattle.std.proofs.Common.{◌≡◌, ◌≢◌, ℕ, ◌+◌, ◌<◌, List, length, set, get_or, sym, ap, subst, ◌∙◌, arith}
 use Rattle.std.proofs.lemmas.List.{get_or-map, length-map}
 use Rattle.step_threads.specs.declared.half.Half.{Half}
 use Rattle.step_threads.specs.declared.half.Half.TheVariants.{Rest}
@@ -25,10 +25,6 @@ told_after v w threads n t t' r m e kept after begun lt read moved told =
     let h : half_of (sight v threads) n ≡ t.half = get_or-map thread_half threads n t Rest lt ∙ ap thread_half (sym read) in
     subst (λ (x : Half). IsTold (sight w (set threads n t')) (m + makes x r) (e + ends_by r)) h
     (told_by n (sight v threads) (sight w (set threads n t')) r m e kept after begun (omega (arith, l)) told (steps v w threads n t t' r lt read moved))
-
--- the totals have room for a step
-pub few_told : (v : Story) (threads : List Thread) (m e : ℕ) → IsTold (sight v threads) m e → (m ≤ 131345) × (e ≤ m)
-few_told v threads m e told = let f = told.few in let o = told.order in (omega (arith, f, o), o)
 
 -- the same, with the totals as they were computed
 pub told_now : (v w : Story) (threads : List Thread) (n : ℕ) (t t' : Thread) (r : Stepped) (m e x y : ℕ) → Kept v → Kept w

@@ -1,5 +1,5 @@
 -- The endings of a thread, step by step.
-use Rattle.std.proofs.Common.{◌≡◌, ◌⊎◌, inl, inr, ℕ, ◌+◌, ◌-◌, ◌*◌, ◌<◌, ◌==◌, true, false, cond, List, [], ◌∷◌, ⊎_elim}
+use Rattle.std.proofs.Common.{◌≡◌, ◌⊎◌, inl, ℕ, ◌+◌, ◌-◌, ◌*◌, ◌<◌, ◌==◌, true, false, cond, List, [], ◌∷◌, ⊎_elim}
 use Rattle.std.proofs.Common.{length, set, refl, sym, ap, ◌∙◌, arith}
 use Rattle.std.proofs.Common.{get_or-set_same}
 use Rattle.std.specs.Prelude.{Option, Some, None, is_some}
@@ -27,7 +27,8 @@ use Rattle.step_table.specs.Holdings.{is_full, slot}
 use Rattle.step_table.specs.Openings.{opening}
 use Rattle.step_threads.specs.Entries.{History}
 use Rattle.step_threads.specs.Scenes.{Scene, Wound, nowhere, put_walk, rested, rested_walk, unwound, walk_of}
-use Rattle.step_threads.specs.Steps.{Step, empties, ends_on, gives_back, half_by, silent, walk_by, with_endings, within}
+use Rattle.step_threads.specs.NextSteps.{half_by, walk_by}
+use Rattle.step_threads.specs.Steps.{Step, empties, ends_on, gives_back, silent, with_endings, within}
 use Rattle.step_table.specs.Stories.{Kept, Story, object_in, state}
 use Rattle.step_core.specs.Turning.{returned}
 use Rattle.step_core.specs.Worlds.{Sight, half_of, scene, sight_by}
@@ -106,9 +107,6 @@ rested_same c d is =
 
 pub rested_none : (c : Scene) (d : ℕ) → (walk_of c d).endings ≡ [] → rested d c ≡ c
 rested_none c d none = rested_same c d (inl none)
-
-pub rested_full : (c : Scene) (d : ℕ) → let w = walk_of c d in is_full (slot w.slots (hand w.slots)) ≡ true → rested d c ≡ c
-rested_full c d full = rested_same c d (inr full)
 
 -- the scene that the endings come to is the same after a step of the first, and less is left
 abbrev pub Same : ℕ → ℕ → Sight → Step → Type 0

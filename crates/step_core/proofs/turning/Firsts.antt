@@ -13,7 +13,8 @@ use Rattle.step_table.specs.Deeds.{is_enabled, lock, owner_word, on}
 use Rattle.step_table.specs.Holdings.{inside, slot}
 use Rattle.step_threads.specs.Entries.{least}
 use Rattle.step_threads.specs.Scenes.{walk_of}
-use Rattle.step_threads.specs.Steps.{Step, acts, asks, begins, first, looks, silent, trying, waits_on}
+use Rattle.step_threads.specs.NextSteps.{first, waits_on}
+use Rattle.step_threads.specs.Steps.{Step, acts, asks, begins, looks, silent, trying}
 use Rattle.step_table.specs.Stories.{state}
 use Rattle.step_core.specs.Turning.{is_acting}
 use Rattle.step_core.specs.Worlds.{Sight, scene, sight_by}

@@ -14,7 +14,8 @@ use Rattle.step_table.specs.Holdings.{inside, slot}
 use Rattle.step_table.specs.Openings.{opening}
 use Rattle.step_threads.specs.Entries.{does, giving}
 use Rattle.step_threads.specs.Scenes.{walk_of, went}
-use Rattle.step_threads.specs.Steps.{acts, given, is_event as is_done}
+use Rattle.step_threads.specs.NextSteps.{given, is_event as is_done}
+use Rattle.step_threads.specs.Steps.{acts}
 use Rattle.step_table.specs.Stories.{state}
 use Rattle.step_core.specs.Turning.{IsUnderWay}
 use Rattle.step_core.specs.Worlds.{Sight, scene}

@@ -29,7 +29,8 @@ use Rattle.step_threads.specs.Programs.{kind_at}
 use Rattle.step_threads.specs.Courses.{HasCell, cell_at, comparing, hand, idle, is_offered, is_there}
 use Rattle.step_threads.specs.Entries.{loads}
 use Rattle.step_threads.specs.Scenes.{Scene, walk_of, went}
-use Rattle.step_threads.specs.Steps.{Step, acts, first, sees, waits, waits_at, waits_on, within}
+use Rattle.step_threads.specs.NextSteps.{first, waits, waits_at, waits_on}
+use Rattle.step_threads.specs.Steps.{Step, acts, sees, within}
 use Rattle.step_core.specs.Turning.{HasBegun, IsInShape, IsStill, is_acting}
 use Rattle.step_core.specs.Worlds.{Sight, half_of, scene, sight_by}
 use Rattle.step_threads.proofs.CellNames.{cell_open, goes_in}

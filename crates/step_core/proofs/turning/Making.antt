@@ -13,7 +13,8 @@ use Rattle.step_threads.specs.Actors.{wanted}
 use Rattle.step_threads.specs.Courses.{form_of, settled}
 use Rattle.step_threads.specs.Entries.{does, least, makes}
 use Rattle.step_threads.specs.Scenes.{full_answer, holding, walk_of}
-use Rattle.step_threads.specs.Steps.{claims, made_on, prepares}
+use Rattle.step_threads.specs.NextSteps.{made_on}
+use Rattle.step_threads.specs.Steps.{claims, prepares}
 use Rattle.step_table.specs.Stories.{known, pending, state}
 use Rattle.step_core.specs.Turning.{IsUnderWay}
 use Rattle.step_core.specs.Worlds.{Sight, scene}

@@ -26,7 +26,8 @@ use Rattle.step_threads.specs.declared.call.CellName.{CellName}
 use Rattle.step_threads.specs.declared.half.Half.TheVariants.{Rest, Saw, Matched, Refill}
 use Rattle.step_threads.specs.Courses.{cell_at, comparing, hand, is_there, locked}
 use Rattle.step_threads.specs.Scenes.{walk_of}
-use Rattle.step_threads.specs.Steps.{acts, fetches, first, gives_back, matched_on, matches, saw_on, sees, settles, takes, waits_on, within}
+use Rattle.step_threads.specs.NextSteps.{first, matched_on, saw_on, waits_on}
+use Rattle.step_threads.specs.Steps.{acts, fetches, gives_back, matches, sees, settles, takes, within}
 use Rattle.step_threads.specs.Threads.{IsMatchedBy, IsSeenBy}
 use Rattle.step_core.specs.Bounds.{shows_on}
 use Rattle.step_core.specs.Worlds.{Sight, scene}

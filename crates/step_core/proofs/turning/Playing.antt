@@ -13,7 +13,8 @@ use Rattle.step_threads.specs.Courses.{hand}
 use Rattle.step_table.specs.Deeds.{exact}
 use Rattle.step_table.specs.Holdings.{is_full, slot}
 use Rattle.step_threads.specs.Scenes.{next, next_of, play_from, rest_of, rested, said_from, walk_of}
-use Rattle.step_threads.specs.Steps.{Step, acts, at_rest, begun, ends_on, first, step_at, stepped, waits}
+use Rattle.step_threads.specs.NextSteps.{at_rest, begun, first, step_at, stepped, waits}
+use Rattle.step_threads.specs.Steps.{Step, acts, ends_on}
 use Rattle.step_core.specs.Turning.{HasBegun, Plays, has_rest, is_acting, is_clearing, is_ending, is_refilling, is_returning, returned, turned, turned_by}
 use Rattle.step_core.specs.Worlds.{Sight, Steps, half_of, scene, sight_by, step_of}
 use Rattle.step_core.proofs.turning.Ending.{half_after, halves_after, rested_none, same_walks, scene_as}

@@ -5,7 +5,8 @@ use Rattle.step_threads.specs.declared.act.Task.{Task}
 use Rattle.step_threads.specs.declared.half.Half.TheVariants.{Brought}
 use Rattle.step_threads.specs.Courses.{Going, going}
 use Rattle.step_threads.specs.Scenes.{walk_of}
-use Rattle.step_threads.specs.Steps.{sent, swaps}
+use Rattle.step_threads.specs.NextSteps.{sent}
+use Rattle.step_threads.specs.Steps.{swaps}
 use Rattle.step_core.specs.Worlds.{Sight, scene}
 use Rattle.step_core.proofs.turning.Swapping.{CanPut, some_of, swap_over, swaps_so}
 use Rattle.step_core.proofs.turning.Trials.{Next}

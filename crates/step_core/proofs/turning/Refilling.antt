@@ -28,7 +28,8 @@ use Rattle.step_table.proofs.tables.Places.{handle_busy, there}
 use Rattle.step_threads.specs.declared.half.Half.{Half}
 use Rattle.step_threads.specs.declared.half.Half.TheVariants.{Rest, Refill, Returning}
 use Rattle.step_threads.specs.Courses.{Walk}
-use Rattle.step_threads.specs.Steps.{Step, refills_on, returns, story_after, within}
+use Rattle.step_threads.specs.NextSteps.{story_after}
+use Rattle.step_threads.specs.Steps.{Step, refills_on, returns, within}
 use Rattle.step_core.specs.Bounds.{refill_steps}
 use Rattle.step_core.specs.Turning.{returned}
 

@@ -15,7 +15,8 @@ use Rattle.step_threads.specs.Courses.{Walk, hand}
 use Rattle.step_threads.specs.Endings.{EndsAll, IsEnding, first_of}
 use Rattle.step_table.specs.Holdings.{is_full, slot}
 use Rattle.step_threads.specs.Scenes.{Scene, rested, walk_of}
-use Rattle.step_threads.specs.Steps.{Step, at_rest, emptied, empties, ends_on, refills_on, returns, step_at, story_after}
+use Rattle.step_threads.specs.NextSteps.{at_rest, emptied, step_at, story_after}
+use Rattle.step_threads.specs.Steps.{Step, empties, ends_on, refills_on, returns}
 use Rattle.step_threads.specs.Threads.{IsClearing}
 use Rattle.control_word.specs.declared.cell.CellWord.{CellWord}
 use Rattle.step_table.specs.declared.cell_deed.Cell.{Cell}

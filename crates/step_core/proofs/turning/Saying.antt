@@ -21,7 +21,8 @@ use Rattle.step_table.specs.Holdings.{inside, slot}
 use Rattle.step_table.specs.Openings.{opening}
 use Rattle.step_threads.specs.Entries.{acted, does, giving, least, makes}
 use Rattle.step_threads.specs.Scenes.{Scene, full_answer, holding, next, next_of, play_from, play_with, put_walk, rest_of, rested, rested_walk, said_from, said_of, walk_of, went}
-use Rattle.step_threads.specs.Steps.{Step, acts, asks, begins, is_event, looks, silent, stepped, story_after, trying}
+use Rattle.step_threads.specs.NextSteps.{is_event, stepped, story_after}
+use Rattle.step_threads.specs.Steps.{Step, acts, asks, begins, looks, silent, trying}
 use Rattle.step_table.specs.Stories.{Story, state}
 use Rattle.step_core.specs.Turning.{Plays, is_acting, turned, turned_by}
 use Rattle.step_core.specs.Worlds.{Sight, TellsAll, scene, sight_by, step_of}

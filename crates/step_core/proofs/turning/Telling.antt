@@ -22,7 +22,8 @@ use Rattle.step_threads.specs.declared.half.Half.TheVariants.{Rest}
 use Rattle.step_threads.specs.declared.said.Stepped.{Stepped}
 use Rattle.step_threads.specs.declared.said.Stepped.TheVariants.{Waited}
 use Rattle.step_threads.specs.Scenes.{Scene, answer_of, walk_of}
-use Rattle.step_threads.specs.Steps.{Step, stepped, story_after, story_by, waits}
+use Rattle.step_threads.specs.NextSteps.{stepped, story_after, story_by, waits}
+use Rattle.step_threads.specs.Steps.{Step}
 use Rattle.step_core.specs.Turning.{HasBegun, IsProper}
 use Rattle.step_core.specs.Worlds.{GoesTo, Sight, Steps, StepsBy, TellsAll, half_of, is_loading, scene, step_of}
 

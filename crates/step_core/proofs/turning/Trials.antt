@@ -24,7 +24,8 @@ use Rattle.step_threads.specs.declared.half.Half.TheVariants.{Rest, Making, Lock
 use Rattle.step_table.specs.Deeds.{on, owner_word}
 use Rattle.step_threads.specs.Courses.{Walk, hand, is_there, locked}
 use Rattle.step_threads.specs.Scenes.{walk_of}
-use Rattle.step_threads.specs.Steps.{Step, acts, gives_back, is_event as is_done, matches, missed, sees, silent, story_after, takes, within}
+use Rattle.step_threads.specs.NextSteps.{is_event as is_done, story_after}
+use Rattle.step_threads.specs.Steps.{Step, acts, gives_back, matches, missed, sees, silent, takes, within}
 use Rattle.step_core.specs.Bounds.{shows_on}
 use Rattle.step_core.specs.Turning.{is_acting}
 use Rattle.step_core.specs.Worlds.{Sight, scene}

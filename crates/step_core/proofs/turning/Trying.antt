@@ -2,7 +2,7 @@
 use Rattle.std.proofs.Common.{◌≡◌, ◌≢◌, ℕ, ◌<◌, Bool, true, false, cond, List, [], ◌∷◌, length, set, refl, sym, ap, subst, ◌∙◌, ⊎_elim, arith}
 use Rattle.std.specs.Prelude.{Some}
 use Rattle.std.proofs.lemmas.Bool.{false≢true}
-use Rattle.std.proofs.lemmas.List.{set-get_or, set-set}
+use Rattle.std.proofs.lemmas.List.{set-set}
 use Rattle.step_threads.specs.declared.act.Act.{Act}
 use Rattle.step_threads.specs.declared.act.Task.{Task}
 use Rattle.step_threads.specs.declared.half.Half.{Half}
@@ -12,11 +12,11 @@ use Rattle.step_threads.specs.declared.said.Stepped.{Stepped}
 use Rattle.step_threads.specs.declared.said.Stepped.TheVariants.{Event, Quiet, Waited}
 use Rattle.step_threads.specs.Courses.{Walk}
 use Rattle.step_threads.specs.Scenes.{Scene, walk_of}
-use Rattle.step_threads.specs.Steps.{is_event as is_done, stepped, story_after}
+use Rattle.step_threads.specs.NextSteps.{is_event as is_done, stepped, story_after}
 use Rattle.step_core.specs.Sights.{is_event}
-use Rattle.step_core.specs.Turning.{HasBegun, Plays, is_acting, turned_by}
+use Rattle.step_core.specs.Turning.{HasBegun, Plays, turned_by}
 use Rattle.step_core.specs.Worlds.{Advances, GoesTo, Sight, Steps, half_of, scene, sight_by, step_of}
-use Rattle.step_core.proofs.turning.Chains.{more_steps, no_step, one_step}
+use Rattle.step_core.proofs.turning.Chains.{more_steps, one_step}
 use Rattle.step_core.proofs.turning.Ending.{half_after, halves_after, same_walks, walk_after}
 use Rattle.step_core.proofs.turning.Resting.{scene_stays}
 use Rattle.step_core.proofs.turning.Saying.{plays_as}
@@ -32,28 +32,6 @@ pub record IsTrying (d : ℕ) (u u' : Sight) : Type 0 where
   pub actors : length u'.walks ≡ length u.walks
   pub goes : GoesTo d u u'
   pub scene : scene u' ≡ scene u
-
-tries_start : (h : Half) (w : Walk) → is_acting h ≡ true → Tries h w
-tries_start Rest w is = absurd (false≢true is)
-tries_start (Making b i f) w is = tt
-tries_start (Locking word) w is = tt
-tries_start (Giving i kind x) w is = tt
-tries_start Brought w is = tt
-tries_start (Saw x) w is = tt
-tries_start (Matched x) w is = tt
-tries_start (Refill stage c x k) w is = absurd (false≢true is)
-tries_start (Returning kind b f k) w is = absurd (false≢true is)
-tries_start Clearing w is = absurd (false≢true is)
-
-pub trying_start : (d : ℕ) (u : Sight) → is_acting (half_of u d) ≡ true → IsTrying d u u
-trying_start d u is =
-    record {
-      scene = refl;
-      tries = tries_start (half_of u d) (walk_of (scene u) d) is;
-      halves = sym (set-get_or u.halves d Rest);
-      actors = refl;
-      goes = no_step d u;
-    }
 
 tries_by : (h : Half) (w : Walk) (t : Task) (ts : List Task) → w.todo ≡ t ∷ ts → w.endings ≡ []
     → is_on w.slots t.act h ≡ true → Tries h w

@@ -15,7 +15,8 @@ use Rattle.step_threads.specs.declared.half.Half.{Half}
 use Rattle.step_threads.specs.declared.half.Half.TheVariants.{Rest, Making, Locking, Giving, Brought, Saw, Matched, Refill, Returning, Clearing}
 use Rattle.step_threads.specs.Courses.{Walk, locked}
 use Rattle.step_threads.specs.Scenes.{walk_of}
-use Rattle.step_threads.specs.Steps.{Step, at_rest, begun as begun_at, first, given, made_on, matched, matched_on, returns, saw, saw_on, sent, step_at, tried, tries, waits}
+use Rattle.step_threads.specs.NextSteps.{at_rest, begun as begun_at, first, given, made_on, matched, matched_on, saw, saw_on, sent, step_at, tried, waits}
+use Rattle.step_threads.specs.Steps.{Step, returns, tries}
 use Rattle.step_core.specs.Turning.{HasBegun, IsAlone, IsInShape, IsLock, IsMatched, IsProper, IsSeen, IsSwap, IsTried, IsUnderWay}
 use Rattle.step_core.specs.Worlds.{Sight, half_of, scene, step_of}
 use Rattle.step_core.proofs.turning.Giving.{giving_out}

@@ -30,7 +30,7 @@ use Rattle.step_threads.specs.declared.call.CellName.{CellName}
 use Rattle.step_threads.specs.Programs.{kind_at}
 use Rattle.step_threads.specs.Courses.{is_there, offered}
 use Rattle.step_threads.specs.Entries.{least, lesser}
-use Rattle.step_threads.specs.Steps.{story_after}
+use Rattle.step_threads.specs.NextSteps.{story_after}
 use Rattle.step_core.proofs.watching.Words.{block_off}
 
 -- the deed leaves the words of cells

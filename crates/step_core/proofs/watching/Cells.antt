@@ -25,7 +25,8 @@ use Rattle.step_table.specs.Stories.{Kept, Story, state}
 use Rattle.step_table.proofs.contained.Coming.{seen_found}
 use Rattle.step_table.proofs.tables.Places.{handle_busy, there}
 use Rattle.step_threads.specs.Courses.{Walk}
-use Rattle.step_threads.specs.Steps.{Step, refills_on, story_after, within}
+use Rattle.step_threads.specs.NextSteps.{story_after}
+use Rattle.step_threads.specs.Steps.{Step, refills_on, within}
 use Rattle.step_core.specs.Watching.{IsCellOf, content, is_watching}
 use Rattle.step_core.proofs.watching.Blocks.{IsThere, StaysOff, bring_off, give_back_off, turn_off}
 use Rattle.step_core.proofs.watching.Words.{Watch, bit, flag, more_told, same_told, taken_told}

@@ -33,8 +33,10 @@ use Rattle.step_table.specs.Deeds.{give}
 use Rattle.step_threads.specs.Endings.{staged}
 use Rattle.step_table.specs.Holdings.{Holds, inside, is_full, slot}
 use Rattle.step_table.specs.Openings.{opening}
-use Rattle.step_threads.specs.Steps.{Step, at_rest, begun, claims, emptied, ends_on, first, given, gives_back}
-use Rattle.step_threads.specs.Steps.{made_on, matched, matched_on, prepares, refills_on, saw, saw_on, sent, silent, step_at, story_after, story_by, tried, with_endings, within}
+use Rattle.step_threads.specs.NextSteps.{at_rest, begun, emptied, first, given}
+use Rattle.step_threads.specs.Steps.{Step, claims, ends_on, gives_back}
+use Rattle.step_threads.specs.NextSteps.{made_on, matched, matched_on, saw, saw_on, sent, step_at, story_after, story_by, tried}
+use Rattle.step_threads.specs.Steps.{prepares, refills_on, silent, with_endings, within}
 use Rattle.step_table.specs.Stories.{Kept, Nothing, Story, known, object_in, pending, state, view_in}
 use Rattle.step_table.proofs.tables.Places.{ending_busy, handle_busy, there}
 use Rattle.step_table.proofs.tables.Standing.{point, ready}

@@ -29,7 +29,8 @@ use Rattle.step_threads.specs.Courses.{Going, Walk, cell_at, comparing, going, h
 use Rattle.step_table.specs.Deeds.{alias, aliased, downgrade, is_enabled, is_last, leave, lock, owner_word, read, share, tell, tell_expired, on}
 use Rattle.step_threads.specs.Entries.{least}
 use Rattle.step_table.specs.Holdings.{Holds, inside, owner_slot, place_in, slot, value, weak_slot}
-use Rattle.step_threads.specs.Steps.{Step, acts, asks, begins, brings, compares, fetches, first, gives_back, looks, matches, missed, sees, sends, settles, silent, swaps, takes, tries, trying, within}
+use Rattle.step_threads.specs.NextSteps.{first}
+use Rattle.step_threads.specs.Steps.{Step, acts, asks, begins, brings, compares, fetches, gives_back, looks, matches, missed, sees, sends, settles, silent, swaps, takes, tries, trying, within}
 use Rattle.step_table.specs.Stories.{Kept, Story, state}
 use Rattle.step_table.proofs.contained.Told.{word_valid}
 use Rattle.step_core.proofs.watching.Blocks.{IsThere, alias_off, bring_off, downgrade_off, each_off, leave_off, least_there, lock_off, offered_there, owner_there, prepare_off, share_off, slot_there, weak_there}

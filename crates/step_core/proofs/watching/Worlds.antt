@@ -27,7 +27,8 @@ use Rattle.step_table.proofs.contained.Told.{shared_is}
 use Rattle.step_threads.specs.Courses.{HasCell, Walk, cell_at, hand, idle, is_compared, is_offered, is_there}
 use Rattle.step_threads.specs.Programs.{IsIn, kind_at}
 use Rattle.step_threads.specs.Scenes.{walk_of}
-use Rattle.step_threads.specs.Steps.{Step, half_by, story_after, story_by, waits, waits_at, waits_on}
+use Rattle.step_threads.specs.NextSteps.{half_by, story_after, story_by, waits, waits_at, waits_on}
+use Rattle.step_threads.specs.Steps.{Step}
 use Rattle.step_core.specs.Turning.{HasBegun, IsInShape, IsStill}
 use Rattle.step_core.specs.Watching.{IsCellOf, IsWatched, is_watching}
 use Rattle.step_core.specs.Worlds.{Sight, half_of, scene, sight_by, step_of}

@@ -1,18 +1,13 @@
 -- Which cells a desk may reach.
-use Rattle.std.proofs.Common.{◌≡◌, ℕ, ◌+◌, ◌<◌, Some, refl, subst, arith}
-use Rattle.control_word.proofs.history.Kept.{cells_led}
+use Rattle.std.proofs.Common.{◌≡◌, ℕ, ◌<◌, Some, refl, subst}
 use Rattle.control_word.specs.declared.handle.Kind.{Kind}
 use Rattle.control_word.specs.State.{Has, held}
-use Rattle.step_table.specs.declared.cell_deed.Cell.TheVariants.{Free, Member}
+use Rattle.step_table.specs.declared.cell_deed.Cell.TheVariants.{Member}
 use Rattle.step_table.specs.declared.holdings.Pointer.{Pointer}
 use Rattle.step_table.specs.Cells.{IsOpenTo}
 use Rattle.step_table.specs.Holdings.{Holds, Slots, inside, slot}
-use Rattle.step_table.specs.Openings.{opening}
 use Rattle.step_table.specs.Stories.{Story, handle_in, owner_in, state}
 use Rattle.step_table.proofs.holding.Inside.{inside_held, inside_is}
-
-pub free_open : (v : Story) (d n : ℕ) → n < v.extent.shape.shared_cells + v.extent.shape.weak_cells → IsOpenTo v d (Free n)
-free_open v d n lt = let a = cells_led (opening v.extent) v.history in omega (arith, a, lt)
 
 pub member_open : (d : ℕ) (slots : Slots) (v : Story) (i : ℕ) (x : Pointer) (m : ℕ) → Holds d slots v → inside (slot slots i) ≡ Some x → m < 3
     → IsOpenTo v d (Member x.block m)

@@ -4,15 +4,14 @@ use Rattle.std.proofs.lemmas.Option.{same_Some}
 use Rattle.std.specs.Prelude.{nat_lt}
 use Rattle.control_word.specs.declared.handle.Kind.{Kind}
 use Rattle.control_word.specs.declared.handle.Kind.TheVariants.{Owner, Weak}
-use Rattle.control_word.specs.declared.place.Place.{Place}
-use Rattle.control_word.specs.Handles.{IsPointer, empty, rank}
+use Rattle.control_word.specs.Handles.{empty, rank}
 use Rattle.control_word.specs.State.{Has, held}
 use Rattle.control_word.specs.Words.{blocks_of}
 use Rattle.step_table.specs.declared.field.Field.{Field}
 use Rattle.step_table.specs.declared.field.Field.TheVariants.{Zero, One, Two, Three}
 use Rattle.step_table.specs.declared.holdings.Pointer.{Pointer}
-use Rattle.step_table.specs.Deeds.{aliased, field_number, handle_of, on, before}
-use Rattle.step_table.specs.Holdings.{Holds, Slots, owner_as, owner_slot, place_in, slot}
+use Rattle.step_table.specs.Deeds.{field_number, handle_of, on, before}
+use Rattle.step_table.specs.Holdings.{Holds, Slots, owner_as, owner_slot, slot}
 use Rattle.step_table.specs.Stories.{Kept, Story, handle_in, owner_in, state}
 use Rattle.step_table.proofs.holding.Owning.{slot_held}
 use Rattle.step_table.proofs.tables.Places.{handle_busy, there}
@@ -22,15 +21,6 @@ field_few Zero = omega arith
 field_few One = omega arith
 field_few Two = omega arith
 field_few Three = omega arith
-
--- a place that is well formed, with another field
-pub aliased_formed : (d : ℕ) (slots : Slots) (v : Story) (j : ℕ) (field : Option Field) → Holds d slots v → IsPointer (aliased field (place_in slots j))
-aliased_formed d slots v j field holds = go field (place_in slots j) (holds.formed j)
-  where
-    go : (f : Option Field) (p : Option Place) → IsPointer p → IsPointer (aliased f p)
-    go None p e = tt
-    go (Some f) None e = tt
-    go (Some f) (Some p) e = (e.0, e.1, field_few f)
 
 -- an owner in a slot
 pub owner_held : (d : ℕ) (slots : Slots) (v : Story) (i : ℕ) (x : Pointer) → Holds d slots v → owner_slot (slot slots i) ≡ Some x

@@ -110,11 +110,6 @@ kept_look_differing v d c x y kept lt idle way wanted hand shows e other =
     (entry d (event.Compare n w h q false y.weak) ∷ v.history)) (sym told)
     (event_by v d v.words Idle (event.Compare n w h (handle k None x.place) false y.weak) kept lt law))
 
--- a look that finds an object, or what is expected, does nothing
-pub left_full : {A : Type 0} (full same : Bool) (x y : A) → full ≡ true → x ≡ cond (full || same) x y
-left_full true same x y e = refl
-left_full false same x y e = absurd (false≢true e)
-
 pub left_same : {A : Type 0} (full same : Bool) (x y : A) → same ≡ true → x ≡ cond (full || same) x y
 left_same true same x y e = refl
 left_same false true x y e = refl

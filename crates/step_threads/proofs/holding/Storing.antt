@@ -8,10 +8,8 @@ use Rattle.control_word.proofs.lists.Tallies.{num, num_without, stored_self, sto
 use Rattle.control_word.specs.declared.place.Block.{Block}
 use Rattle.control_word.specs.State.{Has, Stored, same_stored, stored}
 use Rattle.step_table.specs.declared.form.Form.{Form}
-use Rattle.step_threads.specs.declared.half.Half.{Half}
 use Rattle.step_threads.specs.declared.half.Half.TheVariants.{Rest, Making}
-use Rattle.step_table.specs.declared.past.Deed.{Deed}
-use Rattle.step_table.specs.declared.past.Deed.TheVariants.{Prepare, Write, Claim}
+use Rattle.step_table.specs.declared.past.Deed.TheVariants.{Claim}
 use Rattle.step_threads.specs.Actors.{Stocks}
 use Rattle.step_table.specs.Stories.{Story, after, state}
 
@@ -47,16 +45,6 @@ taken_stored d old new room v b stocks p =
     let c = cond-true {A = ℕ} (b.0 == b.0) 1 0 (eq-eqb b.0 b.0 refl) in
     counted_stored (stored d b.0) (state v).stores (omega (arith, a, s, c))
 
--- no store of a block changes
-pub stocks_write : (d : ℕ) (blocks : List ℕ) (room : ℕ) (half : Half) (v : Story) (b : Block) (j n : ℕ) → Stocks d blocks room half v → Stocks d blocks room half (after v d (Write b j n))
-stocks_write d blocks room half v b j n stocks = record { stocked = stocks.stocked; roomy = stocks.roomy }
-
-pub stocks_prepare : (d : ℕ) (blocks : List ℕ) (room : ℕ) (half : Half) (v : Story) (b : Block) → Stocks d blocks room half v → Stocks d blocks room half (after v d (Prepare b))
-stocks_prepare d blocks room half v b stocks = record { stocked = stocks.stocked; roomy = stocks.roomy }
-
-pub stocks_stage : (d : ℕ) (blocks : List ℕ) (room i j : ℕ) (f g : Bool) (v : Story) (b : Block) → Stocks d blocks room (Making b i f) v → Stocks d blocks room (Making b j g) v
-stocks_stage d blocks room i j f g v b stocks = record { stocked = stocks.stocked; roomy = stocks.roomy }
-
 -- the block is made
 pub stocks_claim : (d : ℕ) (blocks : List ℕ) (room i : ℕ) (f : Bool) (v : Story) (b : Block) (form : Form) → Stocks d blocks room (Making b i f) v
     → Has (stored d b.0) (state v).stores → Stocks d blocks room Rest (after v d (Claim b form.enabled form.null form.fields))
@@ -68,9 +56,3 @@ stocks_claim d blocks room i f v b form stocks has =
           let s = stocks.stocked c in omega (arith, a, o, s);
       roomy = stocks.roomy;
     }
-
--- a handle of the desk's comes or goes
-pub stocks_share : (d : ℕ) (blocks : List ℕ) (room : ℕ) (v : Story) (x : Deed) → (state (after v d x)).stores ≡ (state v).stores → Stocks d blocks room Rest v
-    → Stocks d blocks room Rest (after v d x)
-stocks_share d blocks room v x same stocks =
-    record { stocked = λ c. ap (λ (l : List Stored). num (same_stored (stored d c)) l) same ∙ stocks.stocked c; roomy = stocks.roomy }

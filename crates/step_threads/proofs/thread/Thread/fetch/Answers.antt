@@ -7,7 +7,8 @@ use Rattle.step_threads.specs.declared.half.Half.TheVariants.{Matched}
 use Rattle.step_threads.specs.declared.said.Said.{Said}
 use Rattle.step_threads.specs.declared.said.Stepped.TheVariants.{Quiet}
 use Rattle.step_threads.specs.Courses.{hand, task_at, walk}
-use Rattle.step_threads.specs.Steps.{fetches, silent, waits}
+use Rattle.step_threads.specs.NextSteps.{waits}
+use Rattle.step_threads.specs.Steps.{fetches, silent}
 use Rattle.step_threads.specs.Threads.{Fits}
 use Rattle.step_threads.proofs.CompareFits.{compare_brought}
 use Rattle.step_threads.proofs.CompareSteps.{fetches_funds}

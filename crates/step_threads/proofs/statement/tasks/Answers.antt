@@ -2,7 +2,7 @@ use Rattle.std.proofs.Common.{◌≡◌, ℕ, ◌-◌, ◌∙◌, ◌<◌, suc, 
 use Rattle.step_threads.specs.declared.act.Act.TheVariants as act
 use Rattle.step_threads.specs.declared.act.Task.{Task}
 use Rattle.step_threads.specs.Acts.{clearing}
-use Rattle.step_threads.proofs.act.tasks.Goals as goal
+use Rattle.step_threads.proofs.statement.tasks.Goals as goal
 
 clearing_step : (n : ℕ) → 0 < n → clearing n ≡ record { statement = 0; act = act.Clear (n - 1) } ∷ clearing (n - 1)
 clearing_step zero lt = absurd (omega arith)

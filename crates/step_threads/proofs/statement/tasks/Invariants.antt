@@ -1,6 +1,6 @@
 use Rattle.std.proofs.Common.{◌≡◌, ◌+◌, ◌++◌, drop}
 use Rattle.step_threads.specs.Acts.{clearing, tasks_from}
-use Rattle.step_threads.proofs.act.tasks.Given as goal
+use Rattle.step_threads.proofs.statement.tasks.Given as goal
 
 abbrev pub invariant-loop-i : goal.invariant-loop-i
 invariant-loop-i l = l.tasks.items ++ tasks_from (l.i + 1) (drop l.i l.calls) l.names ≡ tasks_from 1 l.calls l.names

@@ -1,0 +1,167 @@
+-- What one step of a thread does, by what it has begun and by its next act. All of it is own.
+use Rattle.std.specs.Prelude.{ℕ, ◌==◌, Bool, false, not, ◌&&◌, cond, List, [], ◌∷◌, get_or, is_some, Option, Some, None, option_map}
+use Rattle.control_word.specs.declared.cell.CellWord.{CellWord}
+use Rattle.control_word.specs.declared.place.Block.{Block}
+use Rattle.control_word.specs.State.{weak}
+use Rattle.control_word.specs.declared.handle.Kind.{Kind}
+use Rattle.step_threads.specs.declared.act.Act.{Act}
+use Rattle.step_threads.specs.declared.act.Act.TheVariants.{Make, Share, Downgrade, Lock, Put, Leave, Clear, Count, Expired, Read, FromThis, Alias, Move, Ask, Offer, Swap, Exchange, Load, Compare, Drop}
+use Rattle.step_threads.specs.declared.act.Task.{Task}
+use Rattle.step_threads.specs.declared.ending.Ending.{Ending}
+use Rattle.step_threads.specs.declared.half.Half.{Half}
+use Rattle.step_threads.specs.declared.half.Half.TheVariants.{Rest, Making, Locking, Giving, Brought, Saw, Matched, Refill, Returning, Clearing}
+use Rattle.step_table.specs.declared.holdings.Pointer.{Pointer}
+use Rattle.step_table.specs.declared.past.Deed.{Deed}
+use Rattle.step_threads.specs.declared.said.Stepped.{Stepped}
+use Rattle.step_threads.specs.declared.said.Stepped.TheVariants.{Event, Quiet, Waited, Done}
+use Rattle.step_threads.specs.Actors.{wanted}
+use Rattle.step_threads.specs.Courses.{Going, Walk, cell_at, comparing, form_of, going, hand, is_there, locked, offered, on_going, other}
+use Rattle.step_table.specs.Contents.{as_word, compared_in, is_spent, same_value, seen}
+use Rattle.step_table.specs.Deeds.{downgrade, give, leave, read, share, tell, tell_expired, alias, aliased, on}
+use Rattle.step_table.specs.Holdings.{inside, is_full, slot, owner_slot, place_in, value}
+use Rattle.step_threads.specs.Entries.{least}
+use Rattle.step_table.specs.Stories.{Story, after, event_of, known, pending, state}
+use Rattle.step_threads.specs.Steps.{Step, acts, begins, looks, tries, asks, swaps, sends, sees, takes, compares, matches, settles, refills_on, returns, prepares, claims, ends_on, empties}
+
+-- the first step of the next act, or the whole of it
+abbrev pub first : Story → ℕ → Walk → ℕ → List Task → Act → Step
+first v d w k ts (Make form) = begins w k ts (least d (state v).stores)
+first v d w k ts (Share i) = acts v d w k ts (Share i) (option_map share (slot w.slots i)) Rest
+first v d w k ts (Put i) = acts v d w k ts (Put i) (option_map (leave (state v)) (slot w.slots i)) Rest
+first v d w k ts (Leave i) = acts v d w k ts (Leave i) (option_map (leave (state v)) (slot w.slots i)) Rest
+first v d w k ts (Clear i) = acts v d w k ts (Clear i) (option_map (leave (state v)) (slot w.slots i)) Rest
+first v d w k ts (Count i) = acts v d w k ts (Count i) (option_map (tell v) (slot w.slots i)) Rest
+first v d w k ts (Downgrade i) = acts v d w k ts (Downgrade i) (option_map downgrade (slot w.slots i)) Rest
+first v d w k ts (Lock i must) = let a = Lock i must in on (looks v d w k ts a) (acts v d w k ts a None Rest) (locked w.slots a)
+first v d w k ts (Expired i) = acts v d w k ts (Expired i) (option_map (tell_expired (state v)) (slot w.slots i)) Rest
+first v d w k ts (Read i) = acts v d w k ts (Read i) (option_map (read (state v)) (inside (slot w.slots i))) Rest
+first v d w k ts (FromThis i kind) = on (asks v d w k ts i kind) (acts v d w k ts (FromThis i kind) None Rest) (inside (slot w.slots i))
+first v d w k ts (Alias i j field) =
+    acts v d w k ts (Alias i j field) (option_map (alias (aliased field (place_in w.slots j))) (owner_slot (slot w.slots i))) Rest
+first v d w k ts (Move i) = acts v d w k ts (Move i) None Rest
+first v d w k ts (Ask q) = acts v d w k ts (Ask q) None Rest
+first v d w k ts (Offer i c) = acts v d w k ts (Offer i c) (option_map share (offered w.slots i c)) Rest
+first v d w k ts (Swap c) = let a = Swap c in on_going (sends v d w k ts a) (acts v d w k ts a None Rest) (going w.slots a)
+first v d w k ts (Exchange i c) = let a = Exchange i c in on_going (sends v d w k ts a) (acts v d w k ts a None Rest) (going w.slots a)
+first v d w k ts (Load c) =
+    let x = cell_at (state v) w.slots c in
+    cond (is_there w.slots c) (sees v d w k ts (Load c) x None (seen v x)) (acts v d w k ts (Load c) None Rest)
+first v d w k ts (Compare i c weak) =
+    let x = cell_at (state v) w.slots c in
+    compares v d w k ts (Compare i c weak) x (compared_in w.slots (comparing w.slots i weak)) (seen v x)
+first v d w k ts Drop = acts v d w k ts Drop (option_map (leave (state v)) (slot w.slots (other w.slots))) Rest
+
+abbrev pub begun : Story → ℕ → Walk → List Task → Option Step
+begun v d w [] = None
+begun v d w (t ∷ ts) = Some (first v d w t.statement ts t.act)
+
+abbrev pub tried : Story → ℕ → Walk → ℕ → List Task → Option Step
+tried v d w word [] = None
+tried v d w word (t ∷ ts) = option_map (tries v d w t.statement ts t.act word) (locked w.slots t.act)
+
+-- the object gives pointers to itself: one is taken
+abbrev pub given : Story → ℕ → Walk → ℕ → Kind → Pointer → List Task → Option Step
+given v d w i kind x [] = None
+given v d w i kind x (t ∷ ts) = Some (acts v d w t.statement ts (FromThis i kind) (Some (give kind x)) Rest)
+
+-- the funds are brought: the swap
+abbrev pub sent : Story → ℕ → Walk → List Task → Option Step
+sent v d w [] = None
+sent v d w (t ∷ ts) = option_map (λ (x : Going). swaps v d w t.statement ts t.act x.0 x.1) (going w.slots t.act)
+
+-- the next step of an act on a cell that was seen to hold this
+abbrev pub saw_on : Story → ℕ → Walk → ℕ → List Task → CellWord → Act → Option Step
+saw_on v d w k ts x (Load c) = Some (takes v d w k ts (Load c) (cell_at (state v) w.slots c) None x)
+saw_on v d w k ts x (Compare i c weak) =
+    Some (settles v d w k ts (Compare i c weak) (cell_at (state v) w.slots c) (compared_in w.slots (comparing w.slots i weak)) x)
+saw_on v d w k ts x _ = None
+
+abbrev pub saw : Story → ℕ → Walk → CellWord → List Task → Option Step
+saw v d w x [] = None
+saw v d w x (t ∷ ts) = saw_on v d w t.statement ts x t.act
+
+-- the next step of a compare whose cell was seen to hold what is expected, and which has brought the funds of what is to go in
+abbrev pub matched_on : Story → ℕ → Walk → ℕ → List Task → CellWord → Act → Option Step
+matched_on v d w k ts x (Compare i c weak) =
+    Some (matches v d w k ts (Compare i c weak) (cell_at (state v) w.slots c) (compared_in w.slots (comparing w.slots i weak)) x)
+matched_on v d w k ts x _ = None
+
+abbrev pub matched : Story → ℕ → Walk → CellWord → List Task → Option Step
+matched v d w x [] = None
+matched v d w x (t ∷ ts) = matched_on v d w t.statement ts x t.act
+
+abbrev pub made_on : Story → ℕ → Walk → Block → ℕ → Bool → List Task → Option Step
+made_on v d w b i differs [] = None
+made_on v d w b i differs (t ∷ ts) =
+    Some (cond (i == 5) (claims w t.statement ts b (form_of t.act))
+    (prepares (get_or (known (pending v d)) i 0) (get_or (wanted (form_of t.act)) i 0) w t.statement b i differs))
+
+abbrev pub emptied : Story → Walk → List Ending → Option Step
+emptied v w [] = None
+emptied v w (e ∷ es) = Some (empties v w e es)
+
+-- within no act: what came out of a member leaves, or else the ending begun last goes on; without endings the next task comes
+abbrev pub at_rest : Story → ℕ → Walk → List Ending → Option Step
+at_rest v d w [] = begun v d w w.todo
+at_rest v d w (e ∷ es) =
+    Some (cond (is_full (slot w.slots (hand w.slots))) (first v d w e.statement w.todo (Leave (hand w.slots))) (ends_on v w e es))
+
+-- the step of desk d's thread that has begun this and is here; none at its end
+abbrev pub step_at : Story → ℕ → Half → Walk → Option Step
+step_at v d Rest w = at_rest v d w w.endings
+step_at v d (Making b i differs) w = made_on v d w b i differs w.todo
+step_at v d (Locking word) w = tried v d w word w.todo
+step_at v d (Giving i kind x) w = given v d w i kind x w.todo
+step_at v d Brought w = sent v d w w.todo
+step_at v d (Saw x) w = saw v d w x w.todo
+step_at v d (Matched x) w = matched v d w x w.todo
+step_at v d (Refill stage c x k) w = option_map (refills_on v w stage c x k) x.owned
+step_at v d (Returning kind b funds k) w = Some (returns w kind b funds k)
+step_at v d Clearing w = emptied v w w.endings
+
+-- what it makes of the table
+abbrev pub story_after : Story → ℕ → Option Deed → Story
+story_after v d None = v
+story_after v d (Some x) = after v d x
+
+abbrev pub story_by : Story → ℕ → Option Step → Story
+story_by v d None = v
+story_by v d (Some x) = story_after v d x.deed
+
+abbrev pub walk_by : Walk → Option Step → Walk
+walk_by w None = w
+walk_by w (Some x) = x.walk
+
+abbrev pub half_by : Half → Option Step → Half
+half_by h None = h
+half_by h (Some x) = x.half
+
+abbrev pub is_event : Story → Option Deed → Bool
+is_event v None = false
+is_event v (Some x) = is_some (event_of (state v) x)
+
+-- the next act looks at a cell of whose value all funds were taken, and which it loads, or finds to differ: it waits until some are put
+-- back
+abbrev pub waits_on : Story → Walk → Act → Bool
+waits_on v w (Load c) = is_there w.slots c && is_spent (seen v (cell_at (state v) w.slots c))
+waits_on v w (Compare i c weak) =
+    let x = seen v (cell_at (state v) w.slots c) in not (same_value x (as_word (value w.slots i))) && is_spent x
+waits_on v w _ = false
+
+abbrev pub waits_at : Story → Walk → List Ending → List Task → Bool
+waits_at v w [] [] = false
+waits_at v w [] (t ∷ ts) = waits_on v w t.act
+waits_at v w (e ∷ es) ts = false
+
+abbrev pub waits : Story → Half → Walk → Bool
+waits v Rest w = waits_at v w w.endings w.todo
+waits v _ w = false
+
+-- what the step answers, where it doesn't wait: an event says so
+abbrev pub stepped : Story → Option Step → Stepped
+stepped v None = Done
+stepped v (Some x) = cond (is_event v x.deed) (Event x.said) (Quiet x.said)
+
+-- and a step that waits says so
+abbrev pub answered : Story → ℕ → Half → Walk → Stepped
+answered v d h w = cond (waits v h w) Waited (stepped v (step_at v d h w))
