@@ -154,3 +154,7 @@ module _ {V : Type 0} where
             (stacked hs base));
         few = omega arith;
       }
+
+  -- over a call by which none came and none went
+  pub hands_kept : (d e : DeskNow V) (base : List Handle) (hs : List Shared) → HasHands base hs d → bag_of e ≡ bag_of d → e.held ≡ d.held → HasHands base hs e
+  hands_kept d e base hs has bag held = let a = has.few in record { bag = bag ∙ has.bag; few = omega arith }

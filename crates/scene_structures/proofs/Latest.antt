@@ -33,7 +33,7 @@ use Rattle.shared_handle.specs.declared.pile.Round.{Round}
 use Rattle.shared_handle.specs.declared.pile.Round.TheVariants.{Cleared, Ended, Settled}
 use Rattle.scene_structures.specs.Hands.{KeepsHeld}
 
-has_mapped : {A B : Type 0} (f : A → B) (x : A) (l : List A) → Has x l → Has (f x) (map f l)
+pub has_mapped : {A B : Type 0} (f : A → B) (x : A) (l : List A) → Has x l → Has (f x) (map f l)
 has_mapped f x [] h = absurd h
 has_mapped f x (y ∷ l) h = ⊎_elim (λ e. inl (ap f e)) (λ t. inr (has_mapped f x l t)) h
 

@@ -18,3 +18,6 @@ pub mod Adopting
 pub mod Alone
 pub mod Adopted
 pub mod Parents
+pub mod Walks
+pub mod Still
+pub mod Told

@@ -7,3 +7,4 @@ pub mod Watches
 pub mod Observers
 pub mod Scenes
 pub mod Parents
+pub mod Walks

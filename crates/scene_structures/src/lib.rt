@@ -11,6 +11,7 @@ mod popping;
 mod pushing;
 mod scene;
 mod stack;
+mod walking;
 
 pub use observers::Observers;
 pub use scene::Scene;

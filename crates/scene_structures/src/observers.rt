@@ -1,17 +1,20 @@
 //! Observers in a free shared cell: a list of nodes, each of which watches a subject by a weak pointer (own).
-ghost use Rattle.std.specs.Prelude.{◌≡◌, ◌+◌, ◌<◌, [], IfErr, IfOk, OnOk};
+ghost use Rattle.std.specs.Prelude.{◌≡◌, ◌↔◌, ◌+◌, ◌<◌, ℕ, List, [], IfErr, IfOk, IsErr, OnOk};
 ghost use Rattle.control_word.specs.declared.event.Cell.TheVariants.{Free};
 ghost use Rattle.control_word.specs.declared.handle.Kind.TheVariants.{Owner};
 ghost use Rattle.control_block.specs.Desks.{Belongs, IsSameDesk, allowance_of, bag_of, endings_of, held_of, stock_of};
 ghost use Rattle.control_block.specs.Own.{IsSole};
 ghost use Rattle.control_block.specs.Refusals.{IsFullOrLimit};
 ghost use Rattle.shared_handle.specs.Calls.{Holds};
+ghost use Rattle.shared_handle.specs.Piles.{FoldsBack};
 ghost use Rattle.scene_structures.specs.Observers.{Attaches, IsAttached};
 ghost use Rattle.scene_structures.specs.Stacks.{StandsIn};
+ghost use Rattle.scene_structures.specs.Walks.{IsTold, WalksOver};
 
 use crate::attaching::watch;
 use crate::pushing::{Attempt, raise};
 use crate::stack::is_near_limit;
+use crate::walking::walk;
 use atomic_cells::SharedAt;
 use control_block::desk::Desk;
 use control_block::domain::Domain;
@@ -92,6 +95,41 @@ impl<V: Drop + Send> Observers<V> {
             unreachable!()
         };
         raise(rt, domain, desk, &at, &mut self.pile, Attempt { node, top });
+        Ok(())
+    }
+
+    /// `tell` gets field 0 of the subject of each node, the one that was attached last first, where the subject has an owner
+    /// when the call comes to it (own). It waits while others change what it looks at. It is refused `Limit` just where fewer
+    /// than 6 handles are free, and then nothing changes, and `tell` gets nothing. Condition: no object ends in the desk's
+    /// hands.
+    pub fn each<R: Wait, F: FnMut(u64)>(
+        &mut self,
+        rt: &R,
+        domain: &Domain<V>,
+        desk: &mut Desk<V>,
+        tell: F,
+    ) -> Result<(), Refusal>
+        requires domain { Belongs desk.old domain.now }
+        requires stands { StandsIn self.old domain.now }
+        requires settled { endings_of desk.old ≡ 0 }
+        requires callable { F.IsAlwaysCallable tell }
+        ensures limit { IsErr result ↔ (allowance_of desk.old < held_of desk.old + 6) }
+        ensures refused { IfErr result (λ why. (why ≡ Refusal.Limit) × (desk.new ≡ desk.old)) }
+        ensures stands { (self.new.cell ≡ self.old.cell) × StandsIn self.new domain.now }
+        ensures settled { endings_of desk.new ≡ 0 }
+        ensures desk { IsSameDesk desk.old desk.new }
+        ensures bag { bag_of desk.new ≡ bag_of desk.old }
+        ensures held { desk.new.held ≡ desk.old.held }
+        ensures own { OnOk result ((told : List ℕ) × WalksOver desk.old (Free self.old.cell) told desk.new × ((last : F) × FoldsBack (λ p x q. F.step p x tt q) tell told last) × (IsSole desk.old → IsTold desk.old (Free self.old.cell) told desk.new)) }
+    {
+        if is_near_limit(desk) {
+            return Err(Refusal::Limit);
+        }
+        desk.stands();
+        let Ok(top) = SharedAt::free(self.cell).load(rt, domain, desk) else {
+            unreachable!()
+        };
+        walk(rt, domain, desk, top, &mut self.pile, tell);
         Ok(())
     }
 

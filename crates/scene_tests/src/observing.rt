@@ -1,4 +1,4 @@
-//! Observers that are attached, and refused.
+//! Observers that are attached and told of, and refused.
 ghost use Rattle.std.specs.Prelude.{◌≡◌, ◌+◌, [], IfSome};
 ghost use Rattle.control_word.specs.declared.handle.Kind.TheVariants.{Owner};
 ghost use Rattle.control_block.specs.Desks.{Belongs, IsSameDesk, bag_of, endings_of};
@@ -42,6 +42,32 @@ pub(crate) fn attach<R: Wait>(
     }
 }
 
+// The fields that `each` tells, as digits by twos; none where it is refused.
+pub(crate) fn told<R: Wait>(
+    rt: &R,
+    domain: &Domain<u64>,
+    desk: &mut Desk<u64>,
+    observers: &mut Observers<u64>,
+) -> Option<u64>
+    requires domain { Belongs desk.old domain.now }
+    requires stands { StandsIn observers.old domain.now }
+    requires settled { endings_of desk.old ≡ 0 }
+    ensures stands { StandsIn observers.new domain.now }
+    ensures settled { endings_of desk.new ≡ 0 }
+    ensures desk { IsSameDesk desk.old desk.new }
+    ensures bag { bag_of desk.new ≡ bag_of desk.old }
+    ensures held { desk.new.held ≡ desk.old.held }
+{
+    let mut all = 0u64;
+    let each = observers.each(rt, domain, desk, |field: u64| {
+        all = all.wrapping_mul(100).wrapping_add(field)
+    });
+    match each {
+        Ok(()) => Some(all),
+        Err(_) => None,
+    }
+}
+
 // A subject with this field.
 pub(crate) fn subject(domain: &Domain<u64>, desk: &mut Desk<u64>, field: u64) -> Option<Shared>
     requires domain { Belongs desk.old domain.now }
@@ -59,14 +85,22 @@ pub(crate) fn subject(domain: &Domain<u64>, desk: &mut Desk<u64>, field: u64) ->
     }
 }
 
-// Two attaches to a subject: why each is refused.
+// Why two attaches to a subject are refused, and what `each` tells then, and when the subject has ended.
+type Seen = (
+    Option<(Refusal, u64)>,
+    Option<(Refusal, u64)>,
+    Option<u64>,
+    Option<u64>,
+);
+
+// Two attaches to a subject, which ends then.
 fn twice<R: Wait>(
     rt: &R,
     domain: &Domain<u64>,
     desk: &mut Desk<u64>,
     observers: &mut Observers<u64>,
     pile: &mut Pile<u64>,
-) -> Option<(Option<(Refusal, u64)>, Option<(Refusal, u64)>)>
+) -> Option<Seen>
     requires domain { Belongs desk.old domain.now }
     requires stands { StandsIn observers.old domain.now }
     requires serves { Serves domain.now pile.old }
@@ -78,16 +112,14 @@ fn twice<R: Wait>(
     let subject = subject(domain, desk, 10)?;
     let first = attach(rt, domain, desk, observers, &subject);
     let second = attach(rt, domain, desk, observers, &subject);
+    let living = told(rt, domain, desk, observers);
     spend(rt, domain, desk, subject, pile);
-    Some((first, second))
+    let ended = told(rt, domain, desk, observers);
+    Some((first, second, living, ended))
 }
 
 // Two attaches in a domain of two blocks, with this allowance.
-fn twice_within<R: Wait>(
-    rt: &R,
-    alloc: Global,
-    allowance: u32,
-) -> Option<(Option<(Refusal, u64)>, Option<(Refusal, u64)>)> {
+fn twice_within<R: Wait>(rt: &R, alloc: Global, allowance: u32) -> Option<Seen> {
     let (domain, mut desk) = opened(alloc, 2, allowance)?;
     let Ok(mut observers) = Observers::new(alloc, &domain, 0) else {
         shut(domain, desk);
@@ -106,13 +138,21 @@ fn twice_within<R: Wait>(
 }
 
 #[test]
-fn six_handles_must_be_free_to_attach(rt: HostRuntime) -> Result<(), Fail> {
+fn six_handles_must_be_free_to_attach_and_to_tell(rt: HostRuntime) -> Result<(), Fail> {
     let full = twice_within(&rt, rt.alloc(), 7);
     let limit = twice_within(&rt, rt.alloc(), 6);
-    assert_eq!(rt; full, Some((None, Some((Refusal::Full, 9)))));
+    assert_eq!(rt;
+        full,
+        Some((None, Some((Refusal::Full, 9)), Some(10), Some(0)))
+    );
     assert_eq!(rt;
         limit,
-        Some((Some((Refusal::Limit, 9)), Some((Refusal::Limit, 9))))
+        Some((
+            Some((Refusal::Limit, 9)),
+            Some((Refusal::Limit, 9)),
+            None,
+            Some(0)
+        ))
     );
     Ok(())
 }
