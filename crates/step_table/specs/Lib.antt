@@ -4,5 +4,6 @@ pub mod Contents
 pub mod Deeds
 pub mod Holdings
 pub mod Openings
+pub mod Pages
 pub mod Refills
 pub mod Stories

@@ -55,7 +55,7 @@ impl Table {
         requires open { IsOpenTo self.now desk cell }
         ensures { Shows self.now cell result }
     {
-        unpack(self.words[place_of(cell, self.extent.shape.blocks)])
+        unpack(self.words.get(place_of(cell, self.extent.shape.blocks)))
     }
 
     /// Whether a cell's word is still that of a value.
@@ -65,7 +65,7 @@ impl Table {
         requires seen { IsCellWord seen }
         ensures { result ≡ (word_at self.now cell == cell_bits seen) }
     {
-        self.words[place_of(cell, self.extent.shape.blocks)] == pack(seen)
+        self.words.get(place_of(cell, self.extent.shape.blocks)) == pack(seen)
     }
 
     /// Swaps a cell: the new value goes in, for which 256 funds were brought if it has an object, and what the cell held comes out.
@@ -83,7 +83,8 @@ impl Table {
         let found = self.shown(desk, cell);
         let deed = CellDeed::Swap { cell, new, found };
         let past = self.then(desk, Deed::OnCell { deed });
-        self.words[place_of(cell, self.extent.shape.blocks)] = pack(new);
+        self.words
+            .set(place_of(cell, self.extent.shape.blocks), pack(new));
         self.past = past;
         found
     }
@@ -108,7 +109,10 @@ impl Table {
             compared: None,
         };
         let past = self.then(desk, Deed::OnCell { deed });
-        self.words[place_of(cell, self.extent.shape.blocks)] = pack(seen) + ONE_TAKEN;
+        self.words.set(
+            place_of(cell, self.extent.shape.blocks),
+            pack(seen) + ONE_TAKEN,
+        );
         self.past = past;
         true
     }
@@ -152,7 +156,10 @@ impl Table {
             taken: seen.taken,
         };
         let past = self.then(desk, Deed::OnCell { deed });
-        self.words[place_of(cell, self.extent.shape.blocks)] = pack(CellWord { taken: 0, ..seen });
+        self.words.set(
+            place_of(cell, self.extent.shape.blocks),
+            pack(CellWord { taken: 0, ..seen }),
+        );
         self.past = past;
         true
     }
@@ -187,7 +194,7 @@ impl Table {
             compared,
         };
         let past = self.then(desk, Deed::OnCell { deed });
-        self.words[place_of(cell, self.extent.shape.blocks)] = pack(compared.new);
+        self.words.set(place_of(cell, self.extent.shape.blocks), pack(compared.new));
         self.past = past;
         true
     }
@@ -249,7 +256,10 @@ impl Table {
             compared: Some(compared),
         };
         let past = self.then(desk, Deed::OnCell { deed });
-        self.words[place_of(cell, self.extent.shape.blocks)] = pack(seen) + ONE_TAKEN;
+        self.words.set(
+            place_of(cell, self.extent.shape.blocks),
+            pack(seen) + ONE_TAKEN,
+        );
         self.past = past;
         true
     }

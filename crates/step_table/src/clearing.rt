@@ -27,7 +27,9 @@ impl Table {
         ensures empty { (result ≡ 0) ↔ (((state self.old).object (object_in self.old block)).member member ≡ empty (kind_of_member member)) }
         ensures after { self.new ≡ cond (result == 0) (after self.old desk (Deed.Clear block member)) self.old }
     {
-        let found = self.words[block_word(block, MEMBERS + usize::from(member))];
+        let found = self
+            .words
+            .get(block_word(block, MEMBERS + usize::from(member)));
         if found > 0 {
             return found;
         }
@@ -55,7 +57,10 @@ impl Table {
         requires inside { member < 3 }
         ensures { Shows self.now (Cell.Member block member) result }
     {
-        unpack(self.words[block_word(block, MEMBERS + usize::from(member))])
+        unpack(
+            self.words
+                .get(block_word(block, MEMBERS + usize::from(member))),
+        )
     }
 
     /// Takes out what a member of an ending object holds: the member is swapped for nothing. The funds of what came out that were
@@ -76,7 +81,8 @@ impl Table {
             found,
         };
         let past = self.then(desk, Deed::OnCell { deed });
-        self.words[block_word(block, MEMBERS + usize::from(member))] = 0;
+        self.words
+            .set(block_word(block, MEMBERS + usize::from(member)), 0);
         self.past = past;
         found
     }

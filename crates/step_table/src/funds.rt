@@ -40,7 +40,7 @@ impl Table {
         ensures { self.new ≡ after self.old desk (Deed.OnCell (CellDeed.Bring pointer.kind pointer.block pointer.place funds)) }
     {
         let Pointer { kind, block, place } = pointer;
-        let found = self.words[count_word(block, kind)];
+        let found = self.words.get(count_word(block, kind));
         let deed = CellDeed::Bring {
             kind,
             block,
@@ -48,7 +48,8 @@ impl Table {
             funds,
         };
         let past = self.then(desk, Deed::OnCell { deed });
-        self.words[count_word(block, kind)] = with_funds(found, funds);
+        self.words
+            .set(count_word(block, kind), with_funds(found, funds));
         self.past = past;
     }
 
@@ -58,10 +59,11 @@ impl Table {
         requires owes { (p : Option Place) × (pending self.old desk ≡ owing (state self.old) kind (Some block) p funds 0) }
         ensures { self.new ≡ after self.old desk (Deed.OnCell (CellDeed.GiveBack kind block funds)) }
     {
-        let found = self.words[count_word(block, kind)];
+        let found = self.words.get(count_word(block, kind));
         let deed = CellDeed::GiveBack { kind, block, funds };
         let past = self.then(desk, Deed::OnCell { deed });
-        self.words[count_word(block, kind)] = without_funds(found, funds);
+        self.words
+            .set(count_word(block, kind), without_funds(found, funds));
         self.past = past;
     }
 
@@ -71,10 +73,11 @@ impl Table {
         requires owes { (p : Option Place) × (pending self.old desk ≡ owing (state self.old) kind (Some block) p 1 1) }
         ensures { self.new ≡ after self.old desk (Deed.OnCell (CellDeed.Turn kind block)) }
     {
-        let found = self.words[count_word(block, kind)];
+        let found = self.words.get(count_word(block, kind));
         let deed = CellDeed::Turn { kind, block };
         let past = self.then(desk, Deed::OnCell { deed });
-        self.words[count_word(block, kind)] = with_fund_turned(found);
+        self.words
+            .set(count_word(block, kind), with_fund_turned(found));
         self.past = past;
     }
 }

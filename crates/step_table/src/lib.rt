@@ -24,3 +24,4 @@ pub mod taking;
 pub mod this;
 pub mod values;
 pub mod weak;
+pub(crate) mod words;

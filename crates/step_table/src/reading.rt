@@ -23,7 +23,9 @@ impl Table {
         ensures value { result ≡ slice_index ((state self.old).object (object_in self.old block)).fields place.field }
         ensures after { self.new ≡ after self.old desk (Deed.Read block (Some place) result) }
     {
-        let value = self.words[block_word(block, FIELDS + usize::from(place.field))];
+        let value = self
+            .words
+            .get(block_word(block, FIELDS + usize::from(place.field)));
         self.past = self.then(
             desk,
             Deed::Read {

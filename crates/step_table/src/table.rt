@@ -14,6 +14,7 @@ use crate::ended::Ended;
 use crate::extent::Extent;
 use crate::holdings::Pointer;
 use crate::past::{Deed, Done, Past};
+use crate::words::Words;
 use control_word::counts::{is_last, told_count};
 use control_word::layout::{FIELDS, FLAGS, NULL, OWNERS, WEAKS, block_word, table_words};
 use control_word::place::{Block, Place};
@@ -23,7 +24,7 @@ use std::marker::Model;
 /// The words of a world. They show the state that its history leads to.
 #[derive(Drop)]
 pub struct Table {
-    pub(crate) words: Vec<u64>,
+    pub(crate) words: Words,
     pub(crate) extent: Extent,
     pub(crate) past: Past,
 }
@@ -33,9 +34,9 @@ impl Model for Table {
 
     ghost Value = { Story };
 
-    ghost view = { λ t. record { extent = t.extent; words = t.words.items; views = t.past.views; history = t.past.history } };
+    ghost view = { λ t. record { extent = t.extent; words = t.words; views = t.past.views; history = t.past.history } };
 
-    ghost invariant = { λ t. Kept (record { extent = t.extent; words = t.words.items; views = t.past.views; history = t.past.history }) };
+    ghost invariant = { λ t. Kept (record { extent = t.extent; words = t.words; views = t.past.views; history = t.past.history }) };
 }
 
 impl Table {
@@ -45,7 +46,7 @@ impl Table {
         ensures { IfOk result
             (λ t. t ≡ record { extent = extent.now; words = replicate (table_size extent.now.shape) 0; views = fresh 0 extent.now.actors; history = [] }) }
     {
-        let words = vec![in alloc; 0; table_words(&extent.shape)]?;
+        let words = Words::new(alloc, table_words(&extent.shape))?;
         Ok(Table {
             words,
             extent: *extent,
@@ -76,7 +77,7 @@ impl Table {
         requires inside { word < 10 }
         ensures { result ≡ slice_index self.now.words (spot block.0 word) }
     {
-        self.words[block_word(block, word)]
+        self.words.get(block_word(block, word))
     }
 
     /// What the table knows after a deed.
@@ -94,7 +95,7 @@ impl Table {
         ensures { self.new ≡ after self.old desk (Deed.Prepare block) }
     {
         let past = self.then(desk, Deed::Prepare { block });
-        self.words[block_word(block, WEAKS)] = 1;
+        self.words.set(block_word(block, WEAKS), 1);
         self.past = past;
     }
 
@@ -105,7 +106,8 @@ impl Table {
         requires inside { index < 5 }
         ensures { result ≡ slice_index (known (pending self.now desk)) index }
     {
-        self.words[block_word(block, FLAGS + usize::from(index))]
+        self.words
+            .get(block_word(block, FLAGS + usize::from(index)))
     }
 
     /// Writes the flags (0) or a field (1 to 4) of a block that a make has prepared.
@@ -124,7 +126,7 @@ impl Table {
             },
         );
         let word = FLAGS + usize::from(index);
-        self.words[block_word(block, word)] = value;
+        self.words.set(block_word(block, word), value);
         self.past = past;
     }
 
@@ -145,7 +147,7 @@ impl Table {
                 fields,
             },
         );
-        self.words[block_word(block, OWNERS)] = 1;
+        self.words.set(block_word(block, OWNERS), 1);
         self.past = past;
     }
 
@@ -158,8 +160,9 @@ impl Table {
         requires room { bag_size (state self.old) desk < (state self.old).allowance desk }
         ensures { self.new ≡ after self.old desk (Deed.Share block of place) }
     {
+        let found = self.words.get(block_word(block, OWNERS));
         let past = self.then(desk, Deed::Share { block, of, place });
-        self.words[block_word(block, OWNERS)] += 1;
+        self.words.set(block_word(block, OWNERS), found + 1);
         self.past = past;
     }
 
@@ -171,10 +174,10 @@ impl Table {
         ensures last { result ≡ (count (state self.old) (object_in self.old block) == 1) }
         ensures after { self.new ≡ after self.old desk (Deed.Leave block place result) }
     {
-        let found = self.words[block_word(block, OWNERS)];
+        let found = self.words.get(block_word(block, OWNERS));
         let last = is_last(found);
         let past = self.then(desk, Deed::Leave { block, place, last });
-        self.words[block_word(block, OWNERS)] = found - 1;
+        self.words.set(block_word(block, OWNERS), found - 1);
         self.past = past;
         last
     }
@@ -191,7 +194,7 @@ impl Table {
         ensures exact { owed self.old.views (spot pointer.block.0 0) ≡ 0 → result ≡ count (state self.old) (object_in self.old pointer.block) }
         ensures after { self.new ≡ after self.old desk (Deed.Count pointer.kind pointer.block pointer.place result) }
     {
-        let owners = told_count(self.words[block_word(pointer.block, OWNERS)]);
+        let owners = told_count(self.words.get(block_word(pointer.block, OWNERS)));
         self.past = self.then(
             desk,
             Deed::Count {
@@ -214,10 +217,10 @@ impl Table {
         ensures vacant { result ≡ (weak (state self.old) (object_in self.old block) == 0) }
         ensures after { self.new ≡ after self.old desk (Deed.Finish block result) }
     {
-        let found = self.words[block_word(block, WEAKS)];
+        let found = self.words.get(block_word(block, WEAKS));
         let vacant = is_last(found);
         let past = self.then(desk, Deed::Finish { block, vacant });
-        self.words[block_word(block, WEAKS)] = found - 1;
+        self.words.set(block_word(block, WEAKS), found - 1);
         self.past = past;
         vacant
     }
@@ -228,7 +231,7 @@ impl Table {
         requires inside { word < 7 }
         ensures { result ≡ slice_index self.now.words (spot block.0 word) }
     {
-        self.words[block_word(block, word)]
+        self.words.get(block_word(block, word))
     }
 
     /// What an ending object leaves: its fields, or that it was null.

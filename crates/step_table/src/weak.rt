@@ -25,8 +25,9 @@ impl Table {
         ensures { self.new ≡ after self.old desk (Deed.WeakShare pointer.block place) }
     {
         let block = pointer.block;
+        let found = self.words.get(block_word(block, WEAKS));
         let past = self.then(desk, Deed::WeakShare { block, place });
-        self.words[block_word(block, WEAKS)] += 1;
+        self.words.set(block_word(block, WEAKS), found + 1);
         self.past = past;
     }
 
@@ -39,7 +40,7 @@ impl Table {
         ensures vacant { result ≡ (weak (state self.old) (object_in self.old block) == 1 && is_gone ((state self.old).object (object_in self.old block)).phase) }
         ensures after { self.new ≡ after self.old desk (Deed.WeakLeave block place result) }
     {
-        let found = self.words[block_word(block, WEAKS)];
+        let found = self.words.get(block_word(block, WEAKS));
         let vacant = is_last(found);
         let past = self.then(
             desk,
@@ -49,7 +50,7 @@ impl Table {
                 vacant,
             },
         );
-        self.words[block_word(block, WEAKS)] = found - 1;
+        self.words.set(block_word(block, WEAKS), found - 1);
         self.past = past;
         vacant
     }
@@ -63,7 +64,7 @@ impl Table {
         ensures after { self.new ≡ after self.old desk (Deed.Expired pointer.kind pointer.block pointer.place result) }
     {
         let Pointer { kind, block, place } = pointer;
-        let expired = self.words[block_word(block, OWNERS)] == 0;
+        let expired = self.words.get(block_word(block, OWNERS)) == 0;
         self.past = self.then(
             desk,
             Deed::Expired {
@@ -86,7 +87,7 @@ impl Table {
         ensures left { (result == 0) ≡ (count (state self.old) (object_in self.old block) == 0) }
         ensures after { self.new ≡ cond (result == 0) (after self.old desk (Deed.Lock block place false)) self.old }
     {
-        let found = self.words[block_word(block, OWNERS)];
+        let found = self.words.get(block_word(block, OWNERS));
         if found > 0 {
             return found;
         }
@@ -113,7 +114,7 @@ impl Table {
         ensures left { (result == 0) ≡ (count (state self.old) (object_in self.old block) == 0) }
         ensures after { self.new ≡ cond (result == found) (after self.old desk (Deed.Lock block place true)) self.old }
     {
-        let now = self.words[block_word(block, OWNERS)];
+        let now = self.words.get(block_word(block, OWNERS));
         if now != found {
             return now;
         }
@@ -125,7 +126,7 @@ impl Table {
                 got: true,
             },
         );
-        self.words[block_word(block, OWNERS)] = now + 1;
+        self.words.set(block_word(block, OWNERS), now + 1);
         self.past = past;
         now
     }

@@ -1,5 +1,5 @@
 -- Stores of vacant blocks, by the blocks' numbers. All of it is own.
-use Rattle.std.specs.Prelude.{ℕ, zero, suc, List, [], ◌∷◌, map}
+use Rattle.std.specs.Prelude.{ℕ, zero, suc, ◌≤◌, List, [], ◌∷◌, map}
 use Rattle.std.specs.BinaryHeap.{IsHeap}
 use Rattle.std.specs.Ordering.{nat_cmp}
 use Rattle.std.specs.declared.cmp.Reverse.{Reverse}
@@ -20,3 +20,9 @@ IsOrdered items = IsHeap (λ (x y : Reverse ℕ). nat_cmp y.0 x.0) items
 abbrev pub from : ℕ → ℕ → List ℕ
 from b zero = []
 from b (suc n) = b ∷ from (suc b) n
+
+-- blocks that came in, the least first, and those from `next` on below `end`
+pub record IsRange (returned : List (Reverse ℕ)) (next end : ℕ) : Type 0 where
+  pub ordered : IsOrdered returned
+  pub within : next ≤ end
+  pub few : end ≤ 65536

@@ -1,7 +1,8 @@
 //! An actor's vacant blocks.
-ghost use Rattle.std.specs.Prelude.{◌≡◌, ◌<◌, ◌≤◌, ℕ, [], ◌∷◌, ◌+◌, length, All, IfOk, MatchOption};
+ghost use Rattle.std.specs.Prelude.{◌≡◌, ◌⊎◌, ◌<◌, ◌≤◌, ℕ, true, false, [], ◌∷◌, ◌+◌, length, All, IfOk, MatchOption};
+ghost use Rattle.std.specs.BinaryHeap.{heap_items};
 ghost use Rattle.std.specs.List.Sorted.{IsPermutation};
-ghost use Rattle.step_threads.specs.Stocks.{from};
+ghost use Rattle.step_threads.specs.Stocks.{IsRange, from, numbers};
 
 use control_word::place::Block;
 use std::alloc::{AllocError, Global};
@@ -9,21 +10,28 @@ use std::cmp::Reverse;
 use std::collections::BinaryHeap;
 use std::marker::Model;
 
-/// A store of vacant blocks that gives the least one, in logarithmic time. It takes its memory at the start.
+/// A store of vacant blocks that gives the least one, in logarithmic time. Those that were never taken are a range, which costs
+/// nothing by its size. It takes its memory at the start.
 #[derive(Drop)]
 pub struct Stock {
-    heap: BinaryHeap<Reverse<u16>>,
+    /// The least block that was never taken.
+    next: u32,
+    /// The block behind the last of them.
+    end: u32,
+    /// Those that came in.
+    returned: BinaryHeap<Reverse<u16>>,
 }
 
 impl Model for Stock {
-    ghost use Rattle.step_threads.specs.Stocks.{Stored, IsOrdered, numbers};
+    ghost use Rattle.std.specs.Prelude.{◌++◌, ◌-◌};
+    ghost use Rattle.step_threads.specs.Stocks.{IsRange, Stored, from, numbers};
     ghost use Rattle.std.specs.BinaryHeap.{heap_items, heap_capacity};
 
     ghost Value = { Stored };
 
-    ghost view = { λ s. record { blocks = numbers (heap_items s.heap); room = heap_capacity s.heap } };
+    ghost view = { λ s. record { blocks = numbers (heap_items s.returned) ++ from s.next (s.end - s.next); room = heap_capacity s.returned } };
 
-    ghost invariant = { λ s. IsOrdered (heap_items s.heap) };
+    ghost invariant = { λ s. IsRange (heap_items s.returned) s.next s.end };
 }
 
 impl Stock {
@@ -33,11 +41,13 @@ impl Stock {
         ensures blocks { IfOk result (λ s. IsPermutation (from first count) s.blocks) }
         ensures room { IfOk result (λ s. room ≤ s.room) }
     {
-        let mut heap = BinaryHeap::with_capacity(alloc, room)?;
-        for index in 0..count {
-            heap.push(Reverse(first + index))?;
-        }
-        Ok(Stock { heap })
+        let returned = BinaryHeap::with_capacity(alloc, room)?;
+        let next = u32::from(first);
+        Ok(Stock {
+            next,
+            end: next + u32::from(count),
+            returned,
+        })
     }
 
     /// A block comes in.
@@ -46,7 +56,7 @@ impl Stock {
         ensures blocks { IsPermutation (block.0 ∷ self.old.blocks) self.new.blocks }
         ensures room { self.old.room ≤ self.new.room }
     {
-        if self.heap.push(Reverse(block.0)).is_err() {
+        if self.returned.push(Reverse(block.0)).is_err() {
             unreachable!()
         }
     }
@@ -58,9 +68,29 @@ impl Stock {
         ensures none { MatchOption result (self.new.blocks ≡ self.old.blocks) (λ _. Unit {0}) }
         ensures room { self.new.room ≡ self.old.room }
     {
-        match self.heap.pop() {
+        if takes_next(&self.returned, self.next, self.end) {
+            let block = Block(self.next as u16);
+            self.next += 1;
+            return Some(block);
+        }
+        match self.returned.pop() {
             None => None,
             Some(Reverse(block)) => Some(Block(block)),
         }
+    }
+}
+
+/// Whether there are blocks from `next` on, and none that was returned is less.
+fn takes_next(returned: &BinaryHeap<Reverse<u16>>, next: u32, end: u32) -> bool
+    requires { IsRange (heap_items returned.now) next end }
+    ensures next { result ≡ true → (next < end) × All (λ c. next ≤ c) (numbers (heap_items returned.now)) }
+    ensures returned { result ≡ false → (next ≡ end) ⊎ ((b : ℕ) → All (λ c. b ≤ c) (numbers (heap_items returned.now)) → b ≤ next) }
+{
+    if next == end {
+        return false;
+    }
+    match returned.peek() {
+        None => true,
+        Some(Reverse(block)) => next < u32::from(*block),
     }
 }

@@ -2,7 +2,6 @@
 use Rattle.std.proofs.Common.{◌≡◌, ◌≢◌, ℕ, zero, suc, ◌<◌, false, List, [], ◌∷◌, length, set, get_or, refl, sym, ap, subst, ◌∙◌, ⊎_elim, arith}
 use Rattle.std.proofs.Common.{length-set, get_or-set_same, get_or-set_other}
 use Rattle.std.proofs.lemmas.Bool.{cases_eq}
-use Rattle.std.proofs.lemmas.Grind.{get_or_default_zero}
 use mathlib.Core.Option.{some}
 use lib.ListN.{get_elem?}
 use Rattle.control_word.specs.declared.event.Entry.{Entry}
@@ -110,6 +109,5 @@ pub kept_now : (extent : Extent) (words : List ℕ) (history : List (Entry Nothi
 kept_now extent words history views v kept is = subst (λ (w : Story). Kept w) is kept
 
 -- a word that the code reads
-pub found : (items words : List ℕ) (i j x : ℕ) → items ≡ words → i ≡ j → j < length words → x ≡ get_or items i x → x ≡ get_or words j 0
-found items words i j x same is lt read =
-    read ∙ ap (λ (l : List ℕ). get_or l i x) same ∙ ap (λ (k : ℕ). get_or words k x) is ∙ get_or_default_zero words j x lt
+pub found : (items words : List ℕ) (i j x : ℕ) → items ≡ words → i ≡ j → x ≡ get_or items i 0 → x ≡ get_or words j 0
+found items words i j x same is read = read ∙ ap (λ (l : List ℕ). get_or l i 0) same ∙ ap (λ (k : ℕ). get_or words k 0) is

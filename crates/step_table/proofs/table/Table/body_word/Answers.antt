@@ -9,19 +9,17 @@ block_word-requires-clause-block c =
     let k : Kept c.args.self.now = kept_now _ _ _ _ c.args.self.now c.self.invariant c.self.view_is in
     (there c.args.self.now c.args.block k (ending_busy c.args.self.now c.args.desk c.args.block c.requires.ending)).1.0
 
-pub index-requires : goal.index-requires
-index-requires c =
+pub get-requires : goal.get-requires
+get-requires c =
     let k : Kept c.args.self.now = kept_now _ _ _ _ c.args.self.now c.self.invariant c.self.view_is in
     let i = inside c.args.self.now c.args.block c.args.word k (there c.args.self.now c.args.block k
     (ending_busy c.args.self.now c.args.desk c.args.block c.requires.ending)).1 (let q = c.requires in omega arith) in
-    let w : c.self.inside.words.items ≡ c.args.self.now.words = ap (λ (s : Story). s.words) c.self.view_is in
+    let w : c.self.inside.words ≡ c.args.self.now.words = ap (λ (s : Story). s.words) c.self.view_is in
     let b = c.block_word.ensures in
-    omega (arith, i, b, ap (length {A = ℕ}) w, c.self.inside.words.ok.0)
+    omega (arith, i, b, ap (length {A = ℕ}) w)
 
 pub returns : goal.returns
 returns c =
     let k : Kept c.args.self.now = kept_now _ _ _ _ c.args.self.now c.self.invariant c.self.view_is in
-    let w : c.self.inside.words.items ≡ c.args.self.now.words = ap (λ (s : Story). s.words) c.self.view_is in
-    let i = inside c.args.self.now c.args.block c.args.word k (there c.args.self.now c.args.block k
-    (ending_busy c.args.self.now c.args.desk c.args.block c.requires.ending)).1 (let q = c.requires in omega arith) in
-    found c.self.inside.words.items c.args.self.now.words c.block_word.result _ _ w c.block_word.ensures i c.index.ensures
+    let w : c.self.inside.words ≡ c.args.self.now.words = ap (λ (s : Story). s.words) c.self.view_is in
+    found c.self.inside.words c.args.self.now.words c.block_word.result _ _ w c.block_word.ensures c.get.ensures

@@ -15,49 +15,41 @@ block_word-requires-clause-block c =
     (there c.args.self.now c.args.block k
     (handle_busy c.args.self.now c.args.desk Weak c.args.block c.args.place k c.requires.held)).1.0
 
-pub index-found-requires : goal.index-found-requires
-index-found-requires c =
+pub get-found-requires : goal.get-found-requires
+get-found-requires c =
     let k : Kept c.args.self.now = kept_now _ _ _ _ c.args.self.now c.self.invariant c.self.view_is in
     let i = inside c.args.self.now c.args.block 0 k (there c.args.self.now c.args.block k
     (handle_busy c.args.self.now c.args.desk Weak c.args.block c.args.place k c.requires.held)).1 (let q = c.requires in omega arith) in
-    let w : c.self.inside.words.items ≡ c.args.self.now.words = ap (λ (s : Story). s.words) c.self.view_is in
+    let w : c.self.inside.words ≡ c.args.self.now.words = ap (λ (s : Story). s.words) c.self.view_is in
     let b = c.block_word.ensures in
-    omega (arith, i, b, ap (length {A = ℕ}) w, c.self.inside.words.ok.0)
+    omega (arith, i, b, ap (length {A = ℕ}) w)
 
 pub returns-then-found-gt0-clause-found : goal.returns-then-found-gt0-clause-found
 returns-then-found-gt0-clause-found c =
     let k : Kept c.args.self.now = kept_now _ _ _ _ c.args.self.now c.self.invariant c.self.view_is in
-    let w : c.self.inside.words.items ≡ c.args.self.now.words = ap (λ (s : Story). s.words) c.self.view_is in
-    let i = inside c.args.self.now c.args.block 0 k (there c.args.self.now c.args.block k
-    (handle_busy c.args.self.now c.args.desk Weak c.args.block c.args.place k c.requires.held)).1 (let q = c.requires in omega arith) in
-    let f = found c.self.inside.words.items c.args.self.now.words c.block_word.result _ _ w c.block_word.ensures i c.index-found.ensures in
+    let w : c.self.inside.words ≡ c.args.self.now.words = ap (λ (s : Story). s.words) c.self.view_is in
+    let f = found c.self.inside.words c.args.self.now.words c.block_word.result _ _ w c.block_word.ensures c.get-found.ensures in
     f
 
 pub returns-then-found-gt0-clause-left : goal.returns-then-found-gt0-clause-left
 returns-then-found-gt0-clause-left c =
     let k : Kept c.args.self.now = kept_now _ _ _ _ c.args.self.now c.self.invariant c.self.view_is in
-    let w : c.self.inside.words.items ≡ c.args.self.now.words = ap (λ (s : Story). s.words) c.self.view_is in
-    let i = inside c.args.self.now c.args.block 0 k (there c.args.self.now c.args.block k
-    (handle_busy c.args.self.now c.args.desk Weak c.args.block c.args.place k c.requires.held)).1 (let q = c.requires in omega arith) in
-    let f = found c.self.inside.words.items c.args.self.now.words c.block_word.result _ _ w c.block_word.ensures i c.index-found.ensures in
+    let w : c.self.inside.words ≡ c.args.self.now.words = ap (λ (s : Story). s.words) c.self.view_is in
+    let f = found c.self.inside.words c.args.self.now.words c.block_word.result _ _ w c.block_word.ensures c.get-found.ensures in
     ap (λ (n : ℕ). n == 0) f ∙ none_left c.args.self.now c.args.desk Weak c.args.block c.args.place k c.requires.seat c.requires.idle c.requires.held
 
 pub returns-clause-left : goal.returns-clause-left
 returns-clause-left c =
     let k : Kept c.args.self.now = kept_now _ _ _ _ c.args.self.now c.self.invariant c.self.view_is in
-    let w : c.self.inside.words.items ≡ c.args.self.now.words = ap (λ (s : Story). s.words) c.self.view_is in
-    let i = inside c.args.self.now c.args.block 0 k (there c.args.self.now c.args.block k
-    (handle_busy c.args.self.now c.args.desk Weak c.args.block c.args.place k c.requires.held)).1 (let q = c.requires in omega arith) in
-    let f = found c.self.inside.words.items c.args.self.now.words c.block_word.result _ _ w c.block_word.ensures i c.index-found.ensures in
+    let w : c.self.inside.words ≡ c.args.self.now.words = ap (λ (s : Story). s.words) c.self.view_is in
+    let f = found c.self.inside.words c.args.self.now.words c.block_word.result _ _ w c.block_word.ensures c.get-found.ensures in
     ap (λ (n : ℕ). n == 0) f ∙ none_left c.args.self.now c.args.desk Weak c.args.block c.args.place k c.requires.seat c.requires.idle c.requires.held
 
 pub invariant_of-self : goal.invariant_of-self
 invariant_of-self c =
     let k : Kept c.args.self.now = kept_now _ _ _ _ c.args.self.now c.self.invariant c.self.view_is in
-    let w : c.self.inside.words.items ≡ c.args.self.now.words = ap (λ (s : Story). s.words) c.self.view_is in
-    let i = inside c.args.self.now c.args.block 0 k (there c.args.self.now c.args.block k
-    (handle_busy c.args.self.now c.args.desk Weak c.args.block c.args.place k c.requires.held)).1 (let q = c.requires in omega arith) in
-    let f = found c.self.inside.words.items c.args.self.now.words c.block_word.result _ _ w c.block_word.ensures i c.index-found.ensures in
+    let w : c.self.inside.words ≡ c.args.self.now.words = ap (λ (s : Story). s.words) c.self.view_is in
+    let f = found c.self.inside.words c.args.self.now.words c.block_word.result _ _ w c.block_word.ensures c.get-found.ensures in
     let z = c.if-found-gt0.false in
     kept_as c.args.self.now c.args.desk (Lock c.args.block c.args.place false) _ _ _ _
     (kept_lock_empty c.args.self.now c.args.desk c.args.block c.args.place k c.requires.seat c.requires.idle c.requires.held (omega (arith, f, z)))

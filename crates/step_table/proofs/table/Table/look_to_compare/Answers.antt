@@ -15,7 +15,7 @@ is_same_empty-requires c = is_bare c.shown-found.result (sym c.is_some.ensures �
 pub invariant_of-self : goal.invariant_of-self
 invariant_of-self c =
     let k : Kept c.args.self.now = kept_now _ _ _ _ c.args.self.now c.self.invariant c.self.view_is in
-    let w : c.self.inside.words.items ≡ c.args.self.now.words = ap (λ (s : Story). s.words) c.self.view_is in
+    let w : c.self.inside.words ≡ c.args.self.now.words = ap (λ (s : Story). s.words) c.self.view_is in
     let x : c.self.inside.extent ≡ c.args.self.now.extent = ap (λ (s : Story). s.extent) c.self.view_is in
     let e = is_bare c.shown-found.result (sym c.is_some.ensures ∙ c.if-is_some.false) in
     kept_as c.args.self.now c.args.desk (OnCell (Look c.args.cell c.shown-found.result (Some c.args.compared))) _ _ _ _
@@ -31,7 +31,7 @@ returns-then-is_same_empty-clause-after c =
 
 pub returns-clause-after : goal.returns-clause-after
 returns-clause-after c =
-    let w : c.self.inside.words.items ≡ c.args.self.now.words = ap (λ (s : Story). s.words) c.self.view_is in
+    let w : c.self.inside.words ≡ c.args.self.now.words = ap (λ (s : Story). s.words) c.self.view_is in
     let x : c.self.inside.extent ≡ c.args.self.now.extent = ap (λ (s : Story). s.extent) c.self.view_is in
     story_here c.args.self.now c.args.desk (OnCell (Look c.args.cell c.shown-found.result (Some c.args.compared))) _ _ _ _ x w c.then-self-inside.ensures
     ∙ left_none (is_some c.shown-found.result.owned)

@@ -10,18 +10,18 @@ pub block_word-requires-clause-block : goal.block_word-requires-clause-block
 block_word-requires-clause-block c =
     (vacant_place _ c.args.desk c.args.block (kept_now _ _ _ _ c.args.self.now c.self.invariant c.self.view_is) c.requires.stored).0
 
-pub index_mut-requires : goal.index_mut-requires
-index_mut-requires c =
+pub set-requires : goal.set-requires
+set-requires c =
     let k = kept_now _ _ _ _ c.args.self.now c.self.invariant c.self.view_is in
     let i = inside c.args.self.now c.args.block 1 k (vacant_place _ c.args.desk c.args.block k c.requires.stored) (omega arith) in
-    let w : c.self.inside.words.items ≡ c.args.self.now.words = ap (λ (s : Story). s.words) c.self.view_is in
-    omega (arith, i, ap (length {A = ℕ}) w, c.block_word.ensures, c.self.inside.words.ok.0)
+    let w : c.self.inside.words ≡ c.args.self.now.words = ap (λ (s : Story). s.words) c.self.view_is in
+    omega (arith, i, ap (length {A = ℕ}) w, c.block_word.ensures)
 
 pub invariant_of-self : goal.invariant_of-self
 invariant_of-self c =
     let k = kept_now _ _ _ _ c.args.self.now c.self.invariant c.self.view_is in
-    let w : c.self.inside.words.items ≡ c.args.self.now.words = ap (λ (s : Story). s.words) c.self.view_is in
+    let w : c.self.inside.words ≡ c.args.self.now.words = ap (λ (s : Story). s.words) c.self.view_is in
     kept_as c.args.self.now c.args.desk (Prepare c.args.block) _ _ _ _ (kept_prepare _ _ _ k c.requires.seat c.requires.idle c.requires.stored)
     (ap (λ (s : Story). s.extent) c.self.view_is)
-    (let e = c.block_word.ensures in cc)
+    (let e = c.block_word.ensures in let s = c.set.ensures in cc)
     c.then-past.ensures

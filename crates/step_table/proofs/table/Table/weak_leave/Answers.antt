@@ -13,60 +13,54 @@ block_word-requires-clause-block c =
     let k : Kept c.args.self.now = kept_now _ _ _ _ c.args.self.now c.self.invariant c.self.view_is in
     (there c.args.self.now c.args.block k (handle_busy c.args.self.now c.args.desk Weak c.args.block _ k c.requires.held)).1.0
 
-pub index-found-requires : goal.index-found-requires
-index-found-requires c =
+pub get-found-requires : goal.get-found-requires
+get-found-requires c =
     let k : Kept c.args.self.now = kept_now _ _ _ _ c.args.self.now c.self.invariant c.self.view_is in
     let i = inside c.args.self.now c.args.block 1 k (there c.args.self.now c.args.block k
     (handle_busy c.args.self.now c.args.desk Weak c.args.block _ k c.requires.held)).1 (let q = c.requires in omega arith) in
-    let w : c.self.inside.words.items ≡ c.args.self.now.words = ap (λ (s : Story). s.words) c.self.view_is in
+    let w : c.self.inside.words ≡ c.args.self.now.words = ap (λ (s : Story). s.words) c.self.view_is in
     let b = c.block_word.ensures in
-    omega (arith, i, b, ap (length {A = ℕ}) w, c.self.inside.words.ok.0)
+    omega (arith, i, b, ap (length {A = ℕ}) w)
 
 pub block_word-requires-2-clause-block : goal.block_word-requires-2-clause-block
 block_word-requires-2-clause-block c =
     let k : Kept c.args.self.now = kept_now _ _ _ _ c.args.self.now c.self.invariant c.self.view_is in
     (there c.args.self.now c.args.block k (handle_busy c.args.self.now c.args.desk Weak c.args.block _ k c.requires.held)).1.0
 
-pub index_mut-requires : goal.index_mut-requires
-index_mut-requires c =
+pub set-requires : goal.set-requires
+set-requires c =
     let k : Kept c.args.self.now = kept_now _ _ _ _ c.args.self.now c.self.invariant c.self.view_is in
     let i = inside c.args.self.now c.args.block 1 k (there c.args.self.now c.args.block k
     (handle_busy c.args.self.now c.args.desk Weak c.args.block _ k c.requires.held)).1 (let q = c.requires in omega arith) in
-    let w : c.self.inside.words.items ≡ c.args.self.now.words = ap (λ (s : Story). s.words) c.self.view_is in
+    let w : c.self.inside.words ≡ c.args.self.now.words = ap (λ (s : Story). s.words) c.self.view_is in
     let b = c.block_word-2.ensures in
-    omega (arith, i, b, ap (length {A = ℕ}) w, c.self.inside.words.ok.0)
+    omega (arith, i, b, ap (length {A = ℕ}) w)
 
 pub overflow_sub-found : goal.overflow_sub-found
 overflow_sub-found c =
     let k : Kept c.args.self.now = kept_now _ _ _ _ c.args.self.now c.self.invariant c.self.view_is in
-    let w : c.self.inside.words.items ≡ c.args.self.now.words = ap (λ (s : Story). s.words) c.self.view_is in
-    let i = inside c.args.self.now c.args.block 1 k (there c.args.self.now c.args.block k
-    (handle_busy c.args.self.now c.args.desk Weak c.args.block _ k c.requires.held)).1 (let q = c.requires in omega arith) in
-    let f = found c.self.inside.words.items c.args.self.now.words c.block_word.result _ _ w c.block_word.ensures i c.index-found.ensures in
+    let w : c.self.inside.words ≡ c.args.self.now.words = ap (λ (s : Story). s.words) c.self.view_is in
+    let f = found c.self.inside.words c.args.self.now.words c.block_word.result _ _ w c.block_word.ensures c.get-found.ensures in
     let s = some_handle c.args.self.now c.args.desk c.args.block c.args.place k c.requires.seat c.requires.idle c.requires.held in
     omega arith
 
 pub invariant_of-self : goal.invariant_of-self
 invariant_of-self c =
     let k : Kept c.args.self.now = kept_now _ _ _ _ c.args.self.now c.self.invariant c.self.view_is in
-    let w : c.self.inside.words.items ≡ c.args.self.now.words = ap (λ (s : Story). s.words) c.self.view_is in
-    let i = inside c.args.self.now c.args.block 1 k (there c.args.self.now c.args.block k
-    (handle_busy c.args.self.now c.args.desk Weak c.args.block _ k c.requires.held)).1 (let q = c.requires in omega arith) in
-    let f = found c.self.inside.words.items c.args.self.now.words c.block_word.result _ _ w c.block_word.ensures i c.index-found.ensures in
+    let w : c.self.inside.words ≡ c.args.self.now.words = ap (λ (s : Story). s.words) c.self.view_is in
+    let f = found c.self.inside.words c.args.self.now.words c.block_word.result _ _ w c.block_word.ensures c.get-found.ensures in
     kept_as c.args.self.now c.args.desk (WeakLeave c.args.block c.args.place c.is_last-vacant.result) _ _ _ _
     (kept_weak_leave c.args.self.now c.args.desk c.args.block c.args.place c.is_last-vacant.result k c.requires.seat c.requires.idle
-    c.requires.held (whole_one c.is_last-vacant.result c.index-found.result.now c.is_last-vacant.ensures ∙ ap (λ (n : ℕ). n == 1) f))
+    c.requires.held (whole_one c.is_last-vacant.result c.get-found.result c.is_last-vacant.ensures ∙ ap (λ (n : ℕ). n == 1) f))
     (ap (λ (s : Story). s.extent) c.self.view_is)
-    (let e = c.block_word-2.ensures in cc)
+    (let e = c.block_word-2.ensures in let s = c.set.ensures in cc)
     c.then-past.ensures
 
 pub returns-clause-vacant : goal.returns-clause-vacant
 returns-clause-vacant c =
     let k : Kept c.args.self.now = kept_now _ _ _ _ c.args.self.now c.self.invariant c.self.view_is in
-    let w : c.self.inside.words.items ≡ c.args.self.now.words = ap (λ (s : Story). s.words) c.self.view_is in
-    let i = inside c.args.self.now c.args.block 1 k (there c.args.self.now c.args.block k
-    (handle_busy c.args.self.now c.args.desk Weak c.args.block _ k c.requires.held)).1 (let q = c.requires in omega arith) in
-    let f = found c.self.inside.words.items c.args.self.now.words c.block_word.result _ _ w c.block_word.ensures i c.index-found.ensures in
+    let w : c.self.inside.words ≡ c.args.self.now.words = ap (λ (s : Story). s.words) c.self.view_is in
+    let f = found c.self.inside.words c.args.self.now.words c.block_word.result _ _ w c.block_word.ensures c.get-found.ensures in
     left_vacant c.args.self.now c.args.desk c.args.block c.args.place _
     (kept_weak_leave c.args.self.now c.args.desk c.args.block c.args.place c.is_last-vacant.result k c.requires.seat c.requires.idle
-    c.requires.held (whole_one c.is_last-vacant.result c.index-found.result.now c.is_last-vacant.ensures ∙ ap (λ (n : ℕ). n == 1) f))
+    c.requires.held (whole_one c.is_last-vacant.result c.get-found.result c.is_last-vacant.ensures ∙ ap (λ (n : ℕ). n == 1) f))

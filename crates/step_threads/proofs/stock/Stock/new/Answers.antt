@@ -1,20 +1,9 @@
-use Rattle.std.proofs.Common.{◌≡◌, ℕ, arith, subst}
+use Rattle.std.proofs.Common.{arith}
 use Rattle.std.specs.BinaryHeap.{heap_items}
-use Rattle.std.specs.List.Sorted.{IsPermutation}
-use Rattle.step_threads.specs.Stocks.{from, numbers}
-use Rattle.step_threads.proofs.Stocks.{from_more}
+use Rattle.step_threads.proofs.Stocks.{all_new}
 use Rattle.step_threads.proofs.stock.Stock.new.Goals as goal
-
-pub loop-index-preserved : goal.loop-index-preserved
-loop-index-preserved c =
-    record {
-      ordered = c.in_ok-push.ensures.heap_order c.loop-index.invariant.ordered;
-      blocks = from_more c.args.first c.loop-index.index (heap_items c.loop-index.heap) (heap_items c.push.new.self)
-          c.loop-index.invariant.blocks c.in_ok-push.ensures.permutation;
-      room = omega (arith, c.push.ensures.capacity);
-    }
 
 pub returns-clause-blocks : goal.returns-clause-blocks
 returns-clause-blocks c =
-    let e : c.loop-index.index ≡ c.args.count = omega arith in
-    subst (λ (k : ℕ). IsPermutation (from c.args.first k) (numbers (heap_items c.loop-index.heap))) e c.loop-index.invariant.blocks
+    all_new c.args.first c.args.count (heap_items c.in_ok-returned.returned) _ _ c.in_ok-returned.ensures.items (let f = c.from-next.ensures in f)
+    (let f = c.from-next.ensures in let g = c.from.ensures in omega (arith, f, g))
