@@ -9,9 +9,9 @@ ghost use Rattle.control_block.specs.Desks.{Adds, Keeps, allowance_of, bag_of, h
 ghost use Rattle.control_block.specs.Handles.{IsProper, IsProper-prop};
 
 use crate::cell_plays::Aimed;
-use crate::cell_rounds;
 use crate::desk::Desk;
 use crate::domain::Domain;
+use crate::rounds;
 use control_word::handle::Kind;
 use control_word::layout::{MEMBERS, block_word, cell_word};
 use control_word::{Block, CellWord, Place, Refusal};
@@ -79,7 +79,7 @@ pub fn load<V: Drop + Send, A: Aimed, R: Wait>(
     let board = &domain.table.shared;
     let word = word_of(domain.shape.blocks, cell.site);
     desk.held += 1; // here, since each locked instruction that follows waits for what was stored before it
-    let seen = cell_rounds::load::<V, A, R>(rt, board, &mut desk.seat, word, cell.kind);
+    let seen = rounds::cells::load::<V, A, R>(rt, board, &mut desk.seat, word, cell.kind);
     Ok(Content {
         kind: cell.kind,
         block: seen.owned,
@@ -116,7 +116,7 @@ pub fn exchange<V: Drop + Send, A: Aimed>(
         place: new.place,
         taken: 0,
     };
-    let old = cell_rounds::swap::<V, A>(board, seat, word, cell.kind, full);
+    let old = rounds::cells::swap::<V, A>(board, seat, word, cell.kind, full);
     Content {
         kind: cell.kind,
         block: old.owned,

@@ -6,10 +6,10 @@ ghost use Rattle.control_block.specs.CellCalls.{Holds, IsOpenAt, cell_at, handle
 ghost use Rattle.control_block.specs.Desks.{Adds, Keeps, allowance_of, bag_of, held_of};
 
 use crate::cell_calls::{CellAt, Content, word_of};
-use crate::cell_compares;
 use crate::cell_plays::Aimed;
 use crate::desk::Desk;
 use crate::domain::Domain;
+use crate::rounds;
 use control_word::{CellWord, Refusal};
 use std::sync::Wait;
 
@@ -55,7 +55,7 @@ pub fn compare<V: Drop + Send, A: Aimed, R: Wait>(
         taken: 0,
     };
     let seat = &mut desk.seat;
-    let (swapped, seen) = cell_compares::compare::<V, A, R>(
+    let (swapped, seen) = rounds::compares::compare::<V, A, R>(
         rt, board, seat, word, cell.kind, there, full,
     );
     desk.held += u32::from(!swapped);

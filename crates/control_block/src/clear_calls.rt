@@ -6,10 +6,10 @@ ghost use Rattle.control_block.specs.Desks.{Belongs, IsCleared, IsEnding, IsSame
 
 use crate::calls::put_by_out;
 use crate::cell_calls::Content;
-use crate::clears;
 use crate::desk::Desk;
 use crate::domain::Domain;
 use crate::in_place::InPlace;
+use crate::steps::clears;
 use control_word::Block;
 use control_word::handle::Kind;
 use std::marker::Brand;

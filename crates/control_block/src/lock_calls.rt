@@ -11,7 +11,7 @@ use crate::calls::About;
 use crate::desk::Desk;
 use crate::domain::Domain;
 use crate::handles::{Pointer, Shared};
-use crate::locks;
+use crate::steps::locks;
 use control_word::Refusal;
 use std::marker::Brand;
 use std::sync::Wait;

@@ -7,6 +7,11 @@ ghost use Rattle.control_word.specs.declared.place.Block.{Block};
 ghost use Rattle.control_word.specs.declared.place.Place.{Place};
 ghost use Rattle.control_block.specs.Plays.{shared, weakly_shared, weakly_left, counted, found_expired, peeked, read, left, gave_back, fetched, began, wrote, made, finished, parted, goes_on, comes_off, grown, over, joined};
 
+pub mod clears;
+pub mod doors;
+pub mod funds;
+pub mod locks;
+
 use crate::board::Sight;
 use crate::slot::Slot;
 use atomic_table::{Join, Play, Split};
@@ -14,7 +19,7 @@ use std::marker::{Brand, PhantomData};
 
 /// Which handle a step is about, by the number of its object, and which place it wants. The proof of each call
 /// picks them.
-pub trait Meant {
+pub trait StepArgs {
     ghost kind: { Kind };
 
     ghost object: { ℕ };
@@ -29,7 +34,7 @@ pub trait Meant {
     ghost word: { ℕ };
 }
 
-impl Meant for Brand {
+impl StepArgs for Brand {
     ghost kind = { Owner };
 
     ghost object = { 0 };
@@ -44,7 +49,7 @@ impl Meant for Brand {
 }
 
 /// Which object a claim makes.
-pub trait Planned {
+pub trait MakeArgs {
     ghost block: { Block };
 
     ghost enabled: { Bool };
@@ -54,7 +59,7 @@ pub trait Planned {
     ghost fields: { List ℕ };
 }
 
-impl Planned for Brand {
+impl MakeArgs for Brand {
     ghost block = { record { 0 = 0 } };
 
     ghost enabled = { false };
@@ -67,56 +72,56 @@ impl Planned for Brand {
 /// One owner more.
 pub struct Shares<M>(PhantomData<M>);
 
-impl<V, M: Meant> Play<Slot<V>, Sight<V>> for Shares<M> {
+impl<V, M: StepArgs> Play<Slot<V>, Sight<V>> for Shares<M> {
     ghost then = { shared M.object M.place M.wanted };
 }
 
 /// One weak handle more.
 pub struct WeakShares<M>(PhantomData<M>);
 
-impl<V, M: Meant> Play<Slot<V>, Sight<V>> for WeakShares<M> {
+impl<V, M: StepArgs> Play<Slot<V>, Sight<V>> for WeakShares<M> {
     ghost then = { weakly_shared M.object M.wanted };
 }
 
 /// One weak handle less.
 pub struct WeakLeaves<M>(PhantomData<M>);
 
-impl<V, M: Meant> Play<Slot<V>, Sight<V>> for WeakLeaves<M> {
+impl<V, M: StepArgs> Play<Slot<V>, Sight<V>> for WeakLeaves<M> {
     ghost then = { weakly_left M.object M.place };
 }
 
 /// A look at the owners, for `use_count`.
 pub struct Counts<M>(PhantomData<M>);
 
-impl<V, M: Meant> Play<Slot<V>, Sight<V>> for Counts<M> {
+impl<V, M: StepArgs> Play<Slot<V>, Sight<V>> for Counts<M> {
     ghost then = { counted M.kind M.object M.place };
 }
 
 /// A look at the owners, for `expired`.
 pub struct FindsExpired<M>(PhantomData<M>);
 
-impl<V, M: Meant> Play<Slot<V>, Sight<V>> for FindsExpired<M> {
+impl<V, M: StepArgs> Play<Slot<V>, Sight<V>> for FindsExpired<M> {
     ghost then = { found_expired M.object M.place };
 }
 
 /// A look at a field.
 pub struct Reads<M>(PhantomData<M>);
 
-impl<V, M: Meant> Play<Slot<V>, Sight<V>> for Reads<M> {
+impl<V, M: StepArgs> Play<Slot<V>, Sight<V>> for Reads<M> {
     ghost then = { read M.object M.place };
 }
 
 /// A look at what is fixed of an object, which is no event.
 pub struct Peeks<M>(PhantomData<M>);
 
-impl<V, M: Meant> Play<Slot<V>, Sight<V>> for Peeks<M> {
+impl<V, M: StepArgs> Play<Slot<V>, Sight<V>> for Peeks<M> {
     ghost then = { peeked M.object M.word };
 }
 
 /// One owner less.
 pub struct Leaves<M>(PhantomData<M>);
 
-impl<V, M: Meant> Play<Slot<V>, Sight<V>> for Leaves<M> {
+impl<V, M: StepArgs> Play<Slot<V>, Sight<V>> for Leaves<M> {
     ghost then = { left M.block M.object M.place };
 }
 
@@ -130,35 +135,35 @@ impl<V> Play<Slot<V>, Sight<V>> for GivesBack {
 /// A look that takes the slot of an object that ends.
 pub struct Fetches<M>(PhantomData<M>);
 
-impl<V, M: Meant> Play<Slot<V>, Sight<V>> for Fetches<M> {
+impl<V, M: StepArgs> Play<Slot<V>, Sight<V>> for Fetches<M> {
     ghost then = { fetched M.block M.object };
 }
 
 /// The first write of a make: the weak word.
 pub struct Begins<M>(PhantomData<M>);
 
-impl<V, M: Meant> Play<Slot<V>, Sight<V>> for Begins<M> {
+impl<V, M: StepArgs> Play<Slot<V>, Sight<V>> for Begins<M> {
     ghost then = { began M.block };
 }
 
 /// A further write of a make, or a look at a word that need not be written.
 pub struct Writes<M>(PhantomData<M>);
 
-impl<V, M: Meant> Play<Slot<V>, Sight<V>> for Writes<M> {
+impl<V, M: StepArgs> Play<Slot<V>, Sight<V>> for Writes<M> {
     ghost then = { wrote M.block M.word };
 }
 
 /// The claim of a prepared block.
 pub struct Claims<M>(PhantomData<M>);
 
-impl<V, M: Planned> Play<Slot<V>, Sight<V>> for Claims<M> {
+impl<V, M: MakeArgs> Play<Slot<V>, Sight<V>> for Claims<M> {
     ghost then = { made M.block M.enabled M.null M.fields };
 }
 
 /// The weak leave that ends an ending.
 pub struct Finishes<M>(PhantomData<M>);
 
-impl<V, M: Meant> Play<Slot<V>, Sight<V>> for Finishes<M> {
+impl<V, M: StepArgs> Play<Slot<V>, Sight<V>> for Finishes<M> {
     ghost then = { finished M.object };
 }
 

@@ -13,20 +13,27 @@ ghost use Rattle.control_word.specs.declared.handle.Kind.TheVariants.{Owner, Wea
 ghost use Rattle.control_block.specs.Plays.{tells, goes_on, comes_off, known, Added, JoinsUp, MaySplit, Ends, Rests, Holding, HasRoomFor, IsClear, IsNear, IsPrepared, IsTold, MayShareWeakly};
 ghost use Rattle.control_block.specs.declared.board.Sight.{Sight};
 
+pub mod cells;
+pub mod clears;
+pub mod doors;
+pub mod funds;
+pub mod in_hand;
+pub mod leaving;
+pub mod locks;
+
 use crate::board::{Board, Chair};
 use crate::in_place::InPlace;
 use crate::plays::{
-    Begins, Claims, Counts, Cut, Fetches, FindsExpired, Finishes, Given, Glue, Joins, Meant, Peeks,
-    Planned, Reads, Shares, Splits, WeakShares, Writes,
+    Begins, Claims, Counts, Cut, Fetches, FindsExpired, Finishes, Given, Glue, Joins, MakeArgs,
+    Peeks, Reads, Shares, Splits, StepArgs, WeakShares, Writes,
 };
-use crate::{in_hand, leaving};
 use control_word::counts::told_count;
 use control_word::layout::{ENABLED, FIELDS, FLAGS, NULL, OWNERS, WEAKS, block_word};
 use control_word::{Block, Place};
 use std::marker::Brand;
 
 /// Share: one owner more, under an owner that the desk holds ([util.smartptr.shared.const]).
-pub fn share<V, M: Meant>(board: &Board<V>, chair: &mut Chair<V>, block: Block)
+pub fn share<V, M: StepArgs>(board: &Board<V>, chair: &mut Chair<V>, block: Block)
     requires board { chair.old.table_id ≡ board.now.table_id }
     requires rests { Rests chair.old.me }
     requires word { (0 < block.0) × (spot block.0 0 < board.now.table_id.words) }
@@ -41,7 +48,7 @@ pub fn share<V, M: Meant>(board: &Board<V>, chair: &mut Chair<V>, block: Block)
 
 /// Weak share: one weak handle more, under a handle that the desk holds or an ending of its
 /// ([util.smartptr.weak.const], [util.smartptr.enab]).
-pub fn share_weak<V, M: Meant>(board: &Board<V>, chair: &mut Chair<V>, block: Block)
+pub fn share_weak<V, M: StepArgs>(board: &Board<V>, chair: &mut Chair<V>, block: Block)
     requires board { chair.old.table_id ≡ board.now.table_id }
     requires rests { Rests chair.old.me }
     requires word { (0 < block.0) × (spot block.0 1 < board.now.table_id.words) }
@@ -54,7 +61,7 @@ pub fn share_weak<V, M: Meant>(board: &Board<V>, chair: &mut Chair<V>, block: Bl
 }
 
 /// Weak leave: one weak handle less ([util.smartptr.weak.dest]). True where the block is vacant now.
-pub fn leave_weak<V, M: Meant>(board: &Board<V>, chair: &mut Chair<V>, block: Block) -> bool
+pub fn leave_weak<V, M: StepArgs>(board: &Board<V>, chair: &mut Chair<V>, block: Block) -> bool
     requires board { chair.old.table_id ≡ board.now.table_id }
     requires rests { Rests chair.old.me }
     requires word { (0 < block.0) × (spot block.0 1 < board.now.table_id.words) }
@@ -67,7 +74,7 @@ pub fn leave_weak<V, M: Meant>(board: &Board<V>, chair: &mut Chair<V>, block: Bl
 
 /// Look: `use_count` ([util.smartptr.shared.obs]). A desk that has the whole allowance is told the count itself; else
 /// it is 0 just where there is no owner, and at most the count.
-pub fn count<V, M: Meant>(board: &Board<V>, chair: &mut Chair<V>, block: Block) -> u32
+pub fn count<V, M: StepArgs>(board: &Board<V>, chair: &mut Chair<V>, block: Block) -> u32
     requires board { chair.old.table_id ≡ board.now.table_id }
     requires rests { Rests chair.old.me }
     requires word { (0 < block.0) × (spot block.0 0 < board.now.table_id.words) }
@@ -80,7 +87,7 @@ pub fn count<V, M: Meant>(board: &Board<V>, chair: &mut Chair<V>, block: Block) 
 }
 
 /// Look: whether no owner is left ([util.smartptr.weak.obs]).
-pub fn is_expired<V, M: Meant>(board: &Board<V>, chair: &mut Chair<V>, block: Block) -> bool
+pub fn is_expired<V, M: StepArgs>(board: &Board<V>, chair: &mut Chair<V>, block: Block) -> bool
     requires board { chair.old.table_id ≡ board.now.table_id }
     requires rests { Rests chair.old.me }
     requires word { (0 < block.0) × (spot block.0 0 < board.now.table_id.words) }
@@ -92,7 +99,7 @@ pub fn is_expired<V, M: Meant>(board: &Board<V>, chair: &mut Chair<V>, block: Bl
 }
 
 /// Look: the field at a place in the object that an owner owns (own).
-pub fn read<V, M: Meant>(board: &Board<V>, chair: &mut Chair<V>, place: Place) -> u64
+pub fn read<V, M: StepArgs>(board: &Board<V>, chair: &mut Chair<V>, place: Place) -> u64
     requires board { chair.old.table_id ≡ board.now.table_id }
     requires rests { Rests chair.old.me }
     requires word { (0 < place.block.0) × (place.field < 4) × (spot place.block.0 (3 + place.field) < board.now.table_id.words) }
@@ -107,7 +114,12 @@ pub fn read<V, M: Meant>(board: &Board<V>, chair: &mut Chair<V>, place: Place) -
 
 /// Look, which is no event (own): the flags, as word 0, or a field, as words 1 to 4, of an object that the desk has a
 /// handle of, or that ends in its hands. They never change, so the desk learns nothing else.
-pub fn peek<V, M: Meant>(board: &Board<V>, chair: &mut Chair<V>, block: Block, word: usize) -> u64
+pub fn peek<V, M: StepArgs>(
+    board: &Board<V>,
+    chair: &mut Chair<V>,
+    block: Block,
+    word: usize,
+) -> u64
     requires board { chair.old.table_id ≡ board.now.table_id }
     requires rests { Rests chair.old.me }
     requires word { (0 < block.0) × (word < 5) × (M.word ≡ word) × (spot block.0 (2 + word) < board.now.table_id.words) }
@@ -120,7 +132,7 @@ pub fn peek<V, M: Meant>(board: &Board<V>, chair: &mut Chair<V>, block: Block, w
 
 /// Leave: one owner less. Of the last one ([util.smartptr.shared.dest]) the value comes out, and its object ends in the
 /// hands of the desk: the slot is taken at the leave, emptied, and given back by a look.
-pub fn leave<V: Drop + Send, M: Meant>(
+pub fn leave<V: Drop + Send, M: StepArgs>(
     board: &Board<V>,
     chair: &mut Chair<V>,
     block: Block,
@@ -138,7 +150,7 @@ pub fn leave<V: Drop + Send, M: Meant>(
 
 /// The first write of a make: the weak word of an own vacant block becomes 1, and its empty slot is in hand.
 #[inline(always)]
-fn begin<V, M: Meant>(board: &Board<V>, chair: &mut Chair<V>, block: Block)
+fn begin<V, M: StepArgs>(board: &Board<V>, chair: &mut Chair<V>, block: Block)
     requires board { chair.old.table_id ≡ board.now.table_id }
     requires rests { Rests chair.old.me }
     requires word { (0 < block.0) × (spot block.0 1 < board.now.table_id.words) }
@@ -151,7 +163,13 @@ fn begin<V, M: Meant>(board: &Board<V>, chair: &mut Chair<V>, block: Block)
 
 /// A further write of a make: flags are word 0, fields words 1 to 4. A word that has its value is only looked at.
 #[inline(always)]
-fn write<V, M: Meant>(board: &Board<V>, chair: &mut Chair<V>, block: Block, word: usize, value: u64)
+fn write<V, M: StepArgs>(
+    board: &Board<V>,
+    chair: &mut Chair<V>,
+    block: Block,
+    word: usize,
+    value: u64,
+)
     requires board { chair.old.table_id ≡ board.now.table_id }
     requires word { (0 < block.0) × (spot block.0 9 < board.now.table_id.words) × (word < 5) }
     requires meant { (M.block ≡ block) × (M.word ≡ word) }
@@ -186,7 +204,7 @@ fn prepare<V>(board: &Board<V>, chair: &mut Chair<V>, block: Block, flags: u64, 
 
 /// The claim: a prepared block with a value in its slot becomes an object with one owner.
 #[inline(always)]
-fn claim<V, M: Planned>(board: &Board<V>, chair: &mut Chair<V>, block: Block)
+fn claim<V, M: MakeArgs>(board: &Board<V>, chair: &mut Chair<V>, block: Block)
     requires board { chair.old.table_id ≡ board.now.table_id }
     requires word { (0 < block.0) × (spot block.0 0 < board.now.table_id.words) }
     requires planned { (M.block ≡ block) × (length M.fields ≡ 4) }
@@ -200,7 +218,7 @@ fn claim<V, M: Planned>(board: &Board<V>, chair: &mut Chair<V>, block: Block)
 /// Make: an object in an own vacant block, with one owner ([util.smartptr.shared.create]; for an owned null pointer
 /// [util.smartptr.shared.const]).
 #[inline(always)]
-pub fn make<V: Drop + Send, M: Planned>(
+pub fn make<V: Drop + Send, M: MakeArgs>(
     board: &Board<V>,
     chair: &mut Chair<V>,
     block: Block,
@@ -226,7 +244,7 @@ pub fn make<V: Drop + Send, M: Planned>(
 
 /// Finish: the value of an object that has ended comes out of its cell, and the ending gives up the owners' common weak
 /// count (own). It answers the value, and whether the block is vacant now.
-pub fn finish<V: Drop + Send, M: Meant>(
+pub fn finish<V: Drop + Send, M: StepArgs>(
     board: &Board<V>,
     chair: &mut Chair<V>,
     block: Block,

@@ -13,7 +13,7 @@ use crate::cell_plays::Aimed;
 use crate::desk::Desk;
 use crate::domain::Domain;
 use crate::in_place::InPlace;
-use crate::store_rounds;
+use crate::rounds;
 use control_word::CellWord;
 use control_word::handle::Kind;
 
@@ -45,7 +45,7 @@ pub fn store_shared<V: Drop + Send, A: Aimed>(
         place: new.place,
         taken: 0,
     };
-    let (out, value) = store_rounds::store_shared::<V, A>(board, &mut desk.seat, word, full);
+    let (out, value) = rounds::stores::store_shared::<V, A>(board, &mut desk.seat, word, full);
     desk.endings += u32::from(value.is_some());
     let content = Content {
         kind: Kind::Owner,
@@ -85,7 +85,7 @@ pub fn store_weak<V: Drop + Send, A: Aimed>(
         place: new.place,
         taken: 0,
     };
-    let (out, vacant) = store_rounds::store_weak::<V, A>(board, &mut desk.seat, word, full);
+    let (out, vacant) = rounds::stores::store_weak::<V, A>(board, &mut desk.seat, word, full);
     put_by_out(&mut desk.store, out.owned, vacant);
     let content = Content {
         kind: Kind::Weak,

@@ -9,7 +9,7 @@ use crate::calls::About;
 use crate::desk::Desk;
 use crate::domain::Domain;
 use crate::handles::Pointer;
-use crate::{doors, in_hand};
+use crate::steps::{doors, in_hand};
 use std::marker::Brand;
 use std::sync::Wait;
 

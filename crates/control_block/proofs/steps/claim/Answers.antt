@@ -14,7 +14,7 @@ use Rattle.control_block.proofs.steps.claim.Goals as goal
 pub swap-requires : goal.swap-requires
 swap-requires g c =
     let r = c.requires in let q = r.prepared in let i = c.block_word.result in let e = c.block_word.ensures in let board = c.args.board.now in let chair = c.args.chair.now in
-    let b = c.args.block in let m = g.M.Planned in let l = flags_of m.enabled m.null ∷ m.fields in let t = q.4 in let x = Some q.1 in (
+    let b = c.args.block in let m = g.M.MakeArgs in let l = flags_of m.enabled m.null ∷ m.fields in let t = q.4 in let x = Some q.1 in (
       r.board,
       subst (λ y. y < board.table_id.words) (sym e) r.word.1,
       subst (λ (y : Block). Allows (Ruled board.key) board.table_id.slots chair.id chair.me i (λ _. 1) (made y m.enabled m.null m.fields (step board.table_id.slots i 1 0 none) chair.me))
@@ -25,7 +25,7 @@ swap-requires g c =
 
 pub returns-clause-event : goal.returns-clause-event
 returns-clause-event g c =
-    λ v x t. let b = c.args.block in let m = g.M.Planned in let p = c.requires.planned in let n = c.swap.ensures.2 in let me = c.args.chair.now.me in
+    λ v x t. let b = c.args.block in let m = g.M.MakeArgs in let p = c.requires.planned in let n = c.swap.ensures.2 in let me = c.args.chair.now.me in
     moved_added v me.0 c.swap.new.seat.me.0 (Making b (flags_of m.enabled m.null ∷ m.fields)) Idle (Some b) None (Make b m.enabled m.null m.fields x) t.moved
     (subst (λ (y : Block). tells (Make y m.enabled m.null m.fields x) me.0 c.swap.new.seat.me.0) p.0
     (subst (λ y. tells (Make m.block m.enabled m.null m.fields y) me.0 c.swap.new.seat.me.0) (some_same n.0 x (ap first_slot (sym n.1 ∙ t.carried))) n.2))

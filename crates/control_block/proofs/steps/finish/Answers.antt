@@ -16,7 +16,7 @@ use Rattle.control_block.proofs.steps.finish.Goals as goal
 pub load-requires : goal.load-requires
 load-requires g c =
     let r = c.requires in let e = c.block_word-word.ensures in let i = c.block_word-word.result in let board = c.args.board.now in
-    let chair = c.args.chair.now in let o = g.M.Meant.object in (
+    let chair = c.args.chair.now in let o = g.M.StepArgs.object in (
       r.board,
       subst (λ x. x < board.table_id.words) (sym e) r.word.2,
       subst (λ (b : Block). Allows (Ruled board.key) board.table_id.slots chair.id chair.me i (λ n. n)
@@ -31,7 +31,7 @@ take-value-requires-clause-hand g c = λ _ _.
 pub fetch_sub-found-requires : goal.fetch_sub-found-requires
 fetch_sub-found-requires g c =
     let r = c.requires in let e = c.block_word-word.ensures in let i = c.block_word-word.result in let board = c.args.board.now in
-    let o = g.M.Meant.object in let f = c.load.ensures.2 in let x = c.take-value.ensures in let chair = c.take-value.new.chair in
+    let o = g.M.StepArgs.object in let f = c.load.ensures.2 in let x = c.take-value.ensures in let chair = c.take-value.new.chair in
     let now = ap (λ m. m.0) x.emptied ∙ f.2 in (
       x.chair.0 ∙ (c.load.ensures.0 ∙ r.board),
       subst (λ y. y < board.table_id.words) (sym e) r.word.2,
@@ -48,8 +48,8 @@ returns-clause-value g c =
 
 pub returns-clause-event : goal.returns-clause-event
 returns-clause-event g c = λ x is.
-    let v = c.args.chair.now.me.0 in let w = c.fetch_sub-found.new.seat.me.0 in let o = g.M.Meant.object in let t = c.fetch_sub-found.ensures.2 in
+    let v = c.args.chair.now.me.0 in let w = c.fetch_sub-found.new.seat.me.0 in let o = g.M.StepArgs.object in let t = c.fetch_sub-found.ensures.2 in
     let n = c.fetch_sub-found.result in let now = ap (λ m. m.0) c.take-value.ensures.emptied ∙ c.load.ensures.2.2 in
     let same = some_same t.0 x (sym t.1 ∙ (ap (λ (u : Sight g.row.V.Denot). value (opening_of u.shape) u.view.seen o) now ∙ is)) in
     subst (λ y. tells (Finish o (n == 1) y) v w) same
-    (added_at v w (Some g.M.Meant.block) (Finish o (n == 1) t.0) (subst (λ u. Added u Idle None (Finish o (n == 1) t.0) w) now t.2))
+    (added_at v w (Some g.M.StepArgs.block) (Finish o (n == 1) t.0) (subst (λ u. Added u Idle None (Finish o (n == 1) t.0) w) now t.2))

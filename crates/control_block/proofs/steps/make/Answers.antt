@@ -26,7 +26,7 @@ claim-requires-clause-prepared g c =
 pub returns-clause-event : goal.returns-clause-event
 returns-clause-event g c =
     let p = c.requires.planned in let t = c.prepare.ensures.prepared in let v = c.args.chair.now.me.0 in let b = c.args.block in
-    let m = g.M.Planned in let f = fills v b c.prepare.new.chair.me _ None t c.fill.new.chair.me (Some c.args.value) c.fill.ensures.filled in
+    let m = g.M.MakeArgs in let f = fills v b c.prepare.new.chair.me _ None t c.fill.new.chair.me (Some c.args.value) c.fill.ensures.filled in
     subst (λ (y : Bool × Bool × List ℕ). tells (Make b y.0 y.1 y.2 c.args.value) v c.claim.new.chair.me.0) (λ i. (p.1 i, p.2 i, p.3 i))
     (c.claim.ensures.event v c.args.value
     (subst (λ l. IsPrepared v b c.fill.new.chair.me l (Some c.args.value))

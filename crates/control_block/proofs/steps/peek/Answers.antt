@@ -13,11 +13,11 @@ load-requires g c =
       r.board,
       subst (λ x. x < board.table_id.words) (sym e) r.word.3,
       subst (λ (j : ℕ). Allows (Ruled board.key) board.table_id.slots chair.id chair.me c.block_word.result (λ n. n)
-          (peeked g.M.Meant.object j (step board.table_id.slots c.block_word.result 0 0 none) chair.me)) (sym r.word.2)
-          (allows_peek board.key board.table_id.slots chair.id b g.M.Meant.object c.block_word.result c.args.word chair.me r.rests.awake r.near
+          (peeked g.M.StepArgs.object j (step board.table_id.slots c.block_word.result 0 0 none) chair.me)) (sym r.word.2)
+          (allows_peek board.key board.table_id.slots chair.id b g.M.StepArgs.object c.block_word.result c.args.word chair.me r.rests.awake r.near
           r.word.1 e),
     )
 
 pub returns-clause-told : goal.returns-clause-told
 returns-clause-told g c =
-    subst (λ (j : ℕ). IsTold j ((known c.args.chair.now.me.0).object g.M.Meant.object) c.load.result) c.requires.word.2 c.load.ensures.2.1
+    subst (λ (j : ℕ). IsTold j ((known c.args.chair.now.me.0).object g.M.StepArgs.object) c.load.result) c.requires.word.2 c.load.ensures.2.1

@@ -29,7 +29,7 @@ store-requires g c =
     let board = c.args.board.now in
     let b = c.args.block in let l = slice_set q.1 c.args.word c.load.result in let seat = c.load.new.seat in let n : ℕ = c.args.value in
     let t = told_written q.0 b c.args.chair.now.me q.1 q.2 q.4
-    (step board.table_id.slots i 0 0 none) seat.me g.M.Meant.block g.M.Meant.word c.args.word c.load.result r.meant.0 r.meant.1
+    (step board.table_id.slots i 0 0 none) seat.me g.M.StepArgs.block g.M.StepArgs.word c.args.word c.load.result r.meant.0 r.meant.1
     c.load.ensures.2 in (
       c.load.ensures.0 ∙ r.board,
       subst (λ x. x < board.table_id.words) (sym e) (omega (arith, r.word)),
@@ -45,10 +45,10 @@ returns-then-load-value-clause-wrote g c =
     λ v l x awake t.
     let b = c.args.block in let m = c.requires.meant in let i = c.block_word-place.result in let slots = c.args.board.now.table_id.slots in
     let s = told_written v b c.args.chair.now.me l x t
-    (step slots i 0 0 none) c.load.new.seat.me g.M.Meant.block g.M.Meant.word c.args.word c.load.result m.0 m.1 c.load.ensures.2 in
+    (step slots i 0 0 none) c.load.new.seat.me g.M.StepArgs.block g.M.StepArgs.word c.args.word c.load.result m.0 m.1 c.load.ensures.2 in
     subst (λ y. IsPrepared v b c.store.new.seat.me y x) (set_twice l c.args.word c.load.result c.args.value)
     (told_written v b c.load.new.seat.me (slice_set l c.args.word c.load.result) x s
-    (step slots i c.args.value 0 none) c.store.new.seat.me g.M.Meant.block g.M.Meant.word c.args.word c.args.value m.0 m.1 c.store.ensures.2)
+    (step slots i c.args.value 0 none) c.store.new.seat.me g.M.StepArgs.block g.M.StepArgs.word c.args.word c.args.value m.0 m.1 c.store.ensures.2)
 
 pub returns-else-load-value-clause-wrote : goal.returns-else-load-value-clause-wrote
 returns-else-load-value-clause-wrote g c =
@@ -56,4 +56,4 @@ returns-else-load-value-clause-wrote g c =
     let b = c.args.block in let m = c.requires.meant in let i = c.block_word-place.result in let slots = c.args.board.now.table_id.slots in
     subst (λ y. IsPrepared v b c.load.new.seat.me (slice_set l c.args.word y) x) c.if-load-value.false
     (told_written v b c.args.chair.now.me l x t
-    (step slots i 0 0 none) c.load.new.seat.me g.M.Meant.block g.M.Meant.word c.args.word c.load.result m.0 m.1 c.load.ensures.2)
+    (step slots i 0 0 none) c.load.new.seat.me g.M.StepArgs.block g.M.StepArgs.word c.args.word c.load.result m.0 m.1 c.load.ensures.2)

@@ -1,0 +1,14 @@
+use Rattle.std.proofs.Common.{None}
+use Rattle.control_block.specs.Plays.{known}
+use Rattle.control_block.proofs.rounds.cells.top_up.Given as goal
+
+abbrev pub ghosts-refill : goal.ghosts-refill
+ghosts-refill g a =
+    record {
+      kind = a.kind;
+      object = (known a.chair.now.me.0).latest a.block.0;
+      place = a.place;
+      wanted = None;
+      block = a.block;
+      word = 0;
+    }

@@ -1,0 +1,27 @@
+use Rattle.std.proofs.Common.{◌∙◌, sym}
+use Rattle.control_block.proofs.kept.CellLook.{allows_load_empty, slots_kept}
+use Rattle.control_block.proofs.steps.cells.look.Goals as goal
+
+pub load-requires : goal.load-requires
+load-requires g c =
+    let r = c.requires in let board = c.args.board.now in let chair = c.args.chair.now in
+    (r.board, r.word, allows_load_empty board.key board.table_id.slots chair.id c.args.word g.A.Aimed.cell chair.me r.rests r.cell)
+
+pub unpack-requires : goal.unpack-requires
+unpack-requires g c = c.load.ensures.2.0
+
+pub returns-clause-chair : goal.returns-clause-chair
+returns-clause-chair g c =
+    let t = c.load.ensures in let u = c.unpack.ensures in let q = t.2.1 c.unpack.result u.valid (sym u.bits) in
+    (t.0, t.1, slots_kept g.A.Aimed.cell c.unpack.result c.args.chair.now.me c.load.new.seat.me _ q.1 q.2 ∙ c.requires.rests.none)
+
+pub returns-clause-event : goal.returns-clause-event
+returns-clause-event g c =
+    λ none. let u = c.unpack.ensures in ((c.load.ensures.2.1 c.unpack.result u.valid (sym u.bits)).1 none).0
+
+pub returns-clause-held : goal.returns-clause-held
+returns-clause-held g c = let u = c.unpack.ensures in (c.load.ensures.2.1 c.unpack.result u.valid (sym u.bits)).0
+
+pub returns-clause-same : goal.returns-clause-same
+returns-clause-same g c =
+    λ some'. let u = c.unpack.ensures in (c.load.ensures.2.1 c.unpack.result u.valid (sym u.bits)).2 some'

@@ -1,0 +1,34 @@
+use Rattle.std.proofs.Common.{None, ◌∙◌, sym}
+use Rattle.control_word.specs.Handles.{equivalent, handle}
+use Rattle.control_block.specs.CellPlays.{kind_in}
+use Rattle.control_block.proofs.kept.CellDiffer.{allows_differ_empty, slots_differed}
+use Rattle.control_block.proofs.steps.cells.look_differing.Goals as goal
+
+pub load-requires : goal.load-requires
+load-requires g c =
+    let r = c.requires in let board = c.args.board.now in let chair = c.args.chair.now in let a = g.A.Aimed in
+    (r.board, r.word, allows_differ_empty board.key board.table_id.slots chair.id c.args.word a.cell a.expected a.new a.weak chair.me r.rests r.cell r.expected r.hand)
+
+pub unpack-requires : goal.unpack-requires
+unpack-requires g c = c.load.ensures.2.0
+
+pub returns-clause-chair : goal.returns-clause-chair
+returns-clause-chair g c =
+    let t = c.load.ensures in let u = c.unpack.ensures in let x = c.unpack.result in let q = t.2.1 x u.valid (sym u.bits) in let me = c.args.chair.now.me in
+    let b = equivalent (handle (kind_in me.0.shape g.A.Aimed.cell) None x.place) g.A.Aimed.expected in
+    (t.0, t.1, slots_differed x me c.load.new.seat.me _ b q.1 q.2 q.3 ∙ c.requires.rests.none)
+
+pub returns-clause-event : goal.returns-clause-event
+returns-clause-event g c =
+    λ bare differs. let u = c.unpack.ensures in ((c.load.ensures.2.1 c.unpack.result u.valid (sym u.bits)).1 bare differs).0
+
+pub returns-clause-alike : goal.returns-clause-alike
+returns-clause-alike g c =
+    λ bare same. let u = c.unpack.ensures in (c.load.ensures.2.1 c.unpack.result u.valid (sym u.bits)).2 bare same
+
+pub returns-clause-held : goal.returns-clause-held
+returns-clause-held g c = let u = c.unpack.ensures in (c.load.ensures.2.1 c.unpack.result u.valid (sym u.bits)).0
+
+pub returns-clause-same : goal.returns-clause-same
+returns-clause-same g c =
+    λ some'. let u = c.unpack.ensures in (c.load.ensures.2.1 c.unpack.result u.valid (sym u.bits)).3 some'

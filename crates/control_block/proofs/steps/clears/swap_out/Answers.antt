@@ -1,0 +1,23 @@
+use Rattle.std.proofs.Common.{◌+◌, ◌<◌, sym, ap, subst, ◌∙◌}
+use Rattle.control_word.specs.Layout.{spot}
+use Rattle.control_block.proofs.kept.Clear.{allows_clear}
+use Rattle.control_block.proofs.steps.clears.swap_out.Goals as goal
+
+pub swap-requires : goal.swap-requires
+swap-requires g c =
+    let r = c.requires in let e = c.block_word.ensures in let board = c.args.board.now in let chair = c.args.chair.now in (
+      r.board,
+      subst (λ x. x < board.table_id.words) (sym e) r.word.3,
+      allows_clear board.key board.table_id.slots chair.id c.args.block.0 g.M.StepArgs.object g.M.StepArgs.word c.block_word.result chair.me r.rests r.ends
+          (subst (λ x. x < 3) (sym r.word.2) r.word.1) (e ∙ ap (λ x. spot c.args.block.0 (7 + x)) (sym r.word.2)) r.room,
+    )
+
+pub unpack-requires : goal.unpack-requires
+unpack-requires g c = c.swap.ensures.2.0
+
+pub returns-clause-chair : goal.returns-clause-chair
+returns-clause-chair g c =
+    let t = c.swap.ensures in let u = c.unpack.ensures in (t.0, t.1, (t.2.1 c.unpack.result u.valid (sym u.bits)).1 ∙ c.requires.rests.none)
+
+pub returns-clause-gave : goal.returns-clause-gave
+returns-clause-gave g c = let t = c.swap.ensures in let u = c.unpack.ensures in (t.2.1 c.unpack.result u.valid (sym u.bits)).0

@@ -1,0 +1,11 @@
+use Rattle.std.proofs.Common.{◌<◌, sym, subst}
+use Rattle.control_block.proofs.kept.Turn.{allows_turn}
+use Rattle.control_block.proofs.steps.funds.turn.Goals as goal
+
+pub fetch_sub-requires : goal.fetch_sub-requires
+fetch_sub-requires g c =
+    let r = c.requires in let e = c.count_word.ensures in let board = c.args.board.now in let chair = c.args.chair.now in let q = r.owes in (
+      r.board,
+      subst (λ x. x < board.table_id.words) (sym e) r.word.1,
+      allows_turn board.key board.table_id.slots chair.id c.args.block.0 q.0 c.count_word.result c.args.kind q.1 chair.me q.2 e,
+    )

@@ -1,0 +1,71 @@
+//! Funds: handles that are paid for ahead, on the count of an object's owners or of its weak handles.
+ghost use Rattle.std.specs.Prelude.{◌≡◌, ℕ, ◌<◌, ◌≤◌, [], Option};
+ghost use Rattle.control_word.specs.Layout.{spot};
+ghost use Rattle.control_word.specs.Words.{slot};
+ghost use Rattle.control_word.specs.declared.place.Place.{Place};
+ghost use Rattle.control_block.specs.Plays.{Holding, Rests, goes_on, in_call};
+ghost use Rattle.control_block.specs.FundPlays.{Owes, owing};
+
+use crate::board::{Board, Chair};
+use crate::plays::StepArgs;
+use crate::plays::funds::{Brings, Settles};
+use control_word::Block;
+use control_word::counts::{FUND_TURNED, ONE_FUND};
+use control_word::handle::Kind;
+use control_word::layout::{OWNERS, WEAKS, block_word};
+
+/// Where handles of this kind on the block's object are counted.
+#[inline]
+fn count_word(block: Block, kind: Kind) -> usize
+    requires { 0 < block.0 }
+    ensures { result ≡ spot block.0 (slot kind) }
+{
+    match kind {
+        Kind::Owner => block_word(block, OWNERS),
+        Kind::Weak => block_word(block, WEAKS),
+    }
+}
+
+/// Bring: up to 256 funds are put on the count of a handle that the desk holds (own). The call is half done until they
+/// are in a cell or given back. The desk has seen no more.
+pub fn bring<V, M: StepArgs>(
+    board: &Board<V>,
+    chair: &mut Chair<V>,
+    kind: Kind,
+    block: Block,
+    funds: u32,
+)
+    requires board { chair.old.table_id ≡ board.now.table_id }
+    requires rests { Rests chair.old.me }
+    requires word { (0 < block.0) × (spot block.0 (slot kind) < board.now.table_id.words) }
+    requires holds { (M.kind ≡ kind) × Holding chair.old.me.0 M.kind M.object M.place block.0 }
+    requires few { funds ≤ 256 }
+    ensures chair { (chair.new.table_id ≡ chair.old.table_id) × (chair.new.id ≡ chair.old.id) × (chair.new.me.1 ≡ []) }
+    ensures brought { chair.new.me.0 ≡ in_call chair.old.me.0 (owing M.kind M.object M.place block.0 funds 0) }
+{
+    board.fetch_add::<Brings<M>>(chair, count_word(block, kind), u64::from(funds) * ONE_FUND);
+}
+
+/// Give back: the funds that a half-done cell call owes leave the count (own). The call is over, and the desk has
+/// seen no more.
+pub fn give_back<V>(board: &Board<V>, chair: &mut Chair<V>, kind: Kind, block: Block, funds: u32)
+    requires board { chair.old.table_id ≡ board.now.table_id }
+    requires word { (0 < block.0) × (spot block.0 (slot kind) < board.now.table_id.words) }
+    requires owes { (o : ℕ) × (p : Option Place) × Owes (owing kind o p block.0 funds 0) chair.old.me }
+    ensures chair { (chair.new.table_id ≡ chair.old.table_id) × (chair.new.id ≡ chair.old.id) × (chair.new.me.1 ≡ []) }
+    ensures settled { chair.new.me.0 ≡ goes_on chair.old.me.0 }
+{
+    board.fetch_sub::<Settles>(chair, count_word(block, kind), u64::from(funds) * ONE_FUND);
+}
+
+/// Turn: the fund that a load took becomes a handle in the number (own). The load is over, and the desk has seen
+/// no more.
+pub fn turn<V>(board: &Board<V>, chair: &mut Chair<V>, kind: Kind, block: Block)
+    requires board { chair.old.table_id ≡ board.now.table_id }
+    requires word { (0 < block.0) × (spot block.0 (slot kind) < board.now.table_id.words) }
+    requires owes { (o : ℕ) × (p : Option Place) × Owes (owing kind o p block.0 1 1) chair.old.me }
+    ensures chair { (chair.new.table_id ≡ chair.old.table_id) × (chair.new.id ≡ chair.old.id) × (chair.new.me.1 ≡ []) }
+    ensures settled { chair.new.me.0 ≡ goes_on chair.old.me.0 }
+{
+    board.fetch_sub::<Settles>(chair, count_word(block, kind), FUND_TURNED);
+}
