@@ -44,7 +44,7 @@ total_sum : {A : Type 0} (f : A → ℕ) (l : List A) → total f l ≡ sum_by f
 total_sum f [] = refl
 total_sum f (x ∷ l) = let ih = total_sum f l in let a = sum_by-cons f x l in omega arith
 
-bags_joined : (a b l : List Handle) → IsPermutation (a ++ b) l → (f : Handle → ℕ) → total f l ≡ total f a + total f b
+pub bags_joined : (a b l : List Handle) → IsPermutation (a ++ b) l → (f : Handle → ℕ) → total f l ≡ total f a + total f b
 bags_joined a b l same f =
     let p = sum_by-IsPermutation f (a ++ b) l same in let q = sum_by-append f a b in
     let x = total_sum f l in let y = total_sum f a in let z = total_sum f b in omega arith

@@ -5,3 +5,6 @@ pub mod Compared
 pub mod Emptied
 pub mod Visited
 pub mod Handing
+pub mod Merging
+pub mod Letting
+pub mod Absorbing

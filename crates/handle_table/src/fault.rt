@@ -12,6 +12,8 @@ pub enum Fault {
     Kind,
     /// The number is none of a cell.
     Cell,
+    /// The slot has a handle already.
+    Taken,
     /// The place is none of a block's fields.
     Place,
     /// The desk refused it.

@@ -9,6 +9,7 @@ mod copying;
 mod empties;
 mod fault;
 mod held_cells;
+mod joining;
 mod kinds;
 mod leaving;
 mod locking;

@@ -4,8 +4,8 @@ ghost use Rattle.control_block.specs.Desks.{Belongs, DeskNow, endings_of};
 ghost use Rattle.control_block.specs.Parting.{HoldsAll, IsTooMuch, SplitsOff};
 ghost use Rattle.control_block.specs.SlotLists.{handles_in};
 ghost use Rattle.shared_handle.specs.Piles.{Bears};
-ghost use Rattle.handle_table.specs.Parting.{HandsOver, Splits, WhyNoPart, WhyNotSplit, handles_from};
-ghost use Rattle.handle_table.specs.Tables.{AllVacant, Fits};
+ghost use Rattle.handle_table.specs.Parting.{Absorbs, HandsOver, LeaveSlots, Splits, WhyNoPart, WhyNotSplit, WindsUp, handles_from};
+ghost use Rattle.handle_table.specs.Tables.{AllVacant, Fits, on_pile};
 
 use crate::assigning::let_go;
 use crate::fault::Fault;
@@ -19,7 +19,7 @@ use std::alloc::Global;
 use std::marker::PhantomData;
 use std::sync::Wait;
 
-/// All handles leave.
+/// All handles leave their slots, the last one first.
 fn let_all_go<V: Drop + Send>(
     domain: &Domain<V>,
     desk: &mut Desk<V>,
@@ -30,6 +30,7 @@ fn let_all_go<V: Drop + Send>(
     requires fits { Fits desk.old slots.items }
     ensures bears { Bears domain.now desk.new pile.new }
     ensures none { Fits desk.new [] }
+    ensures left { LeaveSlots desk.old (on_pile pile.old) slots.items desk.new (on_pile pile.new) }
 {
     let mut slots = slots;
     while let Some(slot) = slots.pop() {
@@ -163,10 +164,11 @@ impl<'d, V: Drop + Send, H: Home> HandleTable<'d, V, H> {
         }
     }
 
-    /// All handles leave, and all that ends does so.
+    /// All handles leave, the last slot's first, and then all that is left to end does so.
     pub(crate) fn into_desk<R: Wait>(self, rt: &R) -> Desk<V>
         ensures here { Belongs result H.domain }
         ensures none { Fits result [] × (endings_of result ≡ 0) }
+        ensures wound { WindsUp self.entry result }
     {
         let HandleTable {
             domain,
@@ -183,11 +185,10 @@ impl<'d, V: Drop + Send, H: Home> HandleTable<'d, V, H> {
         desk
     }
 
-    /// The other table's handles leave, what is left to end with it does so, and its part comes to this one (own). It
-    /// refuses nothing.
+    /// The other table's handles leave, the last slot's first, and then all that is left to end with it does so; what it had of
+    /// the domain comes to this table (own). It refuses nothing.
     pub fn absorb<R: Wait>(&mut self, rt: &R, other: HandleTable<'d, V, H>)
-        ensures slots { self.new.slots ≡ self.old.slots }
-        ensures endings { self.new.endings ≡ self.old.endings }
+        ensures { Absorbs self.old other.entry self.new }
     {
         let desk = other.into_desk(rt);
         self.desk.join(self.domain, desk);

@@ -3,6 +3,7 @@ ghost use Rattle.std.specs.Prelude.{◌≡◌, IfErr};
 ghost use Rattle.control_word.specs.Layout.{IsWithinLimits};
 ghost use Rattle.control_block.specs.Desks.{Begins, Belongs, DeskNow, endings_of};
 ghost use Rattle.shared_handle.specs.Piles.{Bears};
+ghost use Rattle.handle_table.specs.Parting.{AbsorbsAll};
 ghost use Rattle.handle_table.specs.Tables.{AllVacant};
 
 use crate::slots::open_slots;
@@ -80,10 +81,9 @@ impl<'d, V: Drop + Send, H: Home> HandleTable<'d, V, H> {
         Some(tables)
     }
 
-    /// All of these tables are absorbed (own).
+    /// All of these tables are absorbed, the last one first (own).
     pub fn absorb_all<R: Wait>(&mut self, rt: &R, tables: Vec<HandleTable<'d, V, H>>)
-        ensures slots { self.new.slots ≡ self.old.slots }
-        ensures endings { self.new.endings ≡ self.old.endings }
+        ensures { AbsorbsAll self.old tables.entry.items self.new }
     {
         let mut tables = tables;
         while let Some(table) = tables.pop() {

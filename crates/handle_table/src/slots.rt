@@ -102,7 +102,7 @@ pub(crate) fn take_owner(slots: &mut Vec<Option<Held>>, at: usize) -> Result<Sha
 }
 
 /// None is left of it.
-fn spent(slot: Option<Held>)
+pub(crate) fn spent(slot: Option<Held>)
     requires { slot ≡ None }
 {
     match slot {

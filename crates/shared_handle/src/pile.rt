@@ -1,5 +1,5 @@
 //! A desk's pile of objects that end, with room for all blocks of its domain.
-ghost use Rattle.std.specs.Prelude.{◌≡◌, ◌↔◌, ◌+◌, ◌≤◌, [], length, vec_capacity, IfErr, IfOk, IsTrue};
+ghost use Rattle.std.specs.Prelude.{◌≡◌, ◌↔◌, ◌+◌, ◌≤◌, [], ◌++◌, length, vec_capacity, IfErr, IfOk, IsTrue};
 ghost use Rattle.control_block.specs.Desks.{Belongs, DeskNow, endings_of};
 ghost use Rattle.shared_handle.specs.Endings.{more_ending};
 ghost use Rattle.shared_handle.specs.Piles.{Bears, gone_of, piled};
@@ -80,6 +80,20 @@ impl<V: Drop + Send> Pile<V> {
         match left {
             Left::Empty | Left::Others => {}
             Left::Last(ending) => self.endings.push_reserved(ending),
+        }
+    }
+
+    /// What is left to end with another pile goes on top of this one, in its order (own). It takes no memory. Condition: there
+    /// is room, as there is for all that ends with one desk.
+    pub fn join(&mut self, other: Self)
+        requires room { length self.old.endings.items + length other.endings.items ≤ vec_capacity self.old.endings }
+        ensures endings { self.new.endings.items ≡ self.old.endings.items ++ other.endings.items }
+        ensures room { vec_capacity self.old.endings ≤ vec_capacity self.new.endings }
+    {
+        let Self { mut endings } = other;
+        match self.endings.append(&mut endings) {
+            Ok(()) => endings.destroy_empty(),
+            Err(_) => unreachable!(),
         }
     }
 

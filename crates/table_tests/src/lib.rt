@@ -10,6 +10,8 @@ mod compares;
 #[cfg(test)]
 mod faults;
 #[cfg(test)]
+mod joins;
+#[cfg(test)]
 mod looks;
 #[cfg(test)]
 mod observers;

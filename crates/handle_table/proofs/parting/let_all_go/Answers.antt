@@ -1,27 +1,23 @@
-use Rattle.std.proofs.Common.{None, Some, refl}
-use Rattle.handle_table.proofs.Filling.{fits_at, fits_less, fits_none}
-use Rattle.handle_table.proofs.Wholes.{last_out}
+use Rattle.std.proofs.Common.{arith}
+use Rattle.std.proofs.lemmas.List.{nil_from_length}
+use Rattle.handle_table.proofs.Letting.{all_gone, begins, goes, held_last, passes}
 use Rattle.handle_table.proofs.parting.let_all_go.Goals as goal
 
+pub loop-slot-init : goal.loop-slot-init
+loop-slot-init g c = begins c.args.domain.now c.args.desk.now c.args.pile.now c.args.slots.items c.requires.bears c.requires.fits
+
 pub loop-slot-preserved-in-None : goal.loop-slot-preserved-in-None
-loop-slot-preserved-in-None g c =
-    let i = c.loop-slot.invariant in (
-      i.0,
-      fits_none c.loop-slot.desk c.pop.new.self.items
-          (last_out c.loop-slot.desk c.loop-slot.slots.items c.pop.new.self.items c.in-Some.slot None c.in-Some.ensures.items c.in-None.is i.1),
-    )
+loop-slot-preserved-in-None g c = passes _ _ _ _ _ _ _ _ _ c.loop-slot.invariant c.in-Some.ensures.items c.in-None.is
 
 pub let_go-requires-clause-held : goal.let_go-requires-clause-held
-let_go-requires-clause-held g c κs within =
-    fits_at c.loop-slot.desk _ 0 c.in-Some-slot.handle
-    (last_out c.loop-slot.desk c.loop-slot.slots.items c.pop.new.self.items c.in-Some.slot (Some c.in-Some-slot.handle) c.in-Some.ensures.items c.in-Some-slot.is
-    c.loop-slot.invariant.1) refl
+let_go-requires-clause-held g c κs within = held_last _ _ _ _ _ _ _ _ _ c.in-Some-slot.handle c.loop-slot.invariant c.in-Some.ensures.items c.in-Some-slot.is
 
 pub loop-slot-preserved : goal.loop-slot-preserved
 loop-slot-preserved g c =
-    let e = c.let_go.ensures in (
-      e.bears,
-      fits_less c.loop-slot.desk c.let_go.new.desk c.pop.new.self.items c.in-Some-slot.handle
-          (last_out c.loop-slot.desk c.loop-slot.slots.items c.pop.new.self.items c.in-Some.slot (Some c.in-Some-slot.handle) c.in-Some.ensures.items c.in-Some-slot.is
-          c.loop-slot.invariant.1) e.bag e.held,
-    )
+    let e = c.let_go.ensures in
+    goes _ _ _ _ _ _ _ _ _ _ _ c.in-Some-slot.handle c.let_go.result c.loop-slot.invariant c.in-Some.ensures.items c.in-Some-slot.is e.bears e.left e.bag e.held
+
+pub returns-clause-left : goal.returns-clause-left
+returns-clause-left g c =
+    all_gone c.args.domain.now c.args.desk.now c.loop-slot.desk c.args.pile.now c.loop-slot.pile c.args.slots.items c.loop-slot.slots.items c.loop-slot.invariant
+    (nil_from_length c.loop-slot.slots.items (let n = c.loop-slot.slots.ok.0 in let m = c.in_default.ensures.cases.0 in omega arith))

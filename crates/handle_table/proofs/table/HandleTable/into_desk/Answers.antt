@@ -1,0 +1,18 @@
+use Rattle.std.proofs.Common.{subst, List}
+use Rattle.shared_handle.specs.Piles.{AreRounds}
+use Rattle.shared_handle.specs.declared.endings.Ending.{Ending}
+use Rattle.handle_table.specs.Parting.{WindsUp}
+use Rattle.handle_table.specs.Tables.{TableNow, on_pile}
+use Rattle.handle_table.proofs.table.HandleTable.into_desk.Goals as goal
+
+pub returns-clause-wound : goal.returns-clause-wound
+returns-clause-wound g c =
+    let s = c.settle.ensures in
+    subst (λ (t : TableNow g.row.V.Denot). WindsUp t c.settle.new.desk) c.self.view_is
+    record {
+      between = c.let_all_go.new.desk;
+      pile = on_pile c.let_all_go.new.pile;
+      handles = c.let_all_go.ensures.left;
+      rounds = s.rounds.0;
+      ends = subst (λ (xs : List (Ending g.row.V.Denot)). AreRounds c.let_all_go.new.desk (on_pile c.let_all_go.new.pile) s.rounds.0 c.settle.new.desk xs) s.none s.rounds.1;
+    }
