@@ -1,6 +1,6 @@
 //! Two tables of a domain become one: all that comes over, and handles that can't.
 use control_word::{Refusal, Shape};
-use handle_table::{Fault, Gone, HandleTable, Home, Program, Team, run};
+use handle_table::{Fault, Gone, HandleTable, Home, Program, Returned, Team, run};
 use std::alloc::Global;
 use std::process::Abort;
 use std::sync::Wait;
@@ -33,10 +33,10 @@ fn has_all<R: Abort + Wait, H: Home>(rt: &R, table: &mut HandleTable<'_, u64, H>
 }
 
 /// The other table is joined, which can't be refused.
-fn come_together<R: Abort + Wait, H: Home>(
+fn come_together<'d, R: Abort + Wait, H: Home>(
     rt: &R,
-    table: &mut HandleTable<'_, u64, H>,
-    other: HandleTable<'_, u64, H>,
+    table: &mut HandleTable<'d, u64, H>,
+    other: HandleTable<'d, u64, H>,
 ) {
     match table.join(other) {
         Ok(()) => {}
@@ -48,23 +48,25 @@ fn come_together<R: Abort + Wait, H: Home>(
 }
 
 /// Both have an owner in slot 2, so that the join is refused; it isn't once the one here lies in slot 3, which is vacant there.
-fn clash_and_join<R: Abort + Wait, H: Home>(
+fn clash_and_join<'d, R: Abort + Wait, H: Home>(
     rt: &R,
-    table: &mut HandleTable<'_, u64, H>,
-    other: HandleTable<'_, u64, H>,
+    table: &mut HandleTable<'d, u64, H>,
+    other: HandleTable<'d, u64, H>,
 ) {
     match table.join(other) {
         Ok(()) => assert!(rt; false),
         Err(returned) => {
-            assert_eq!(rt; returned.why, Fault::Taken);
+            let Returned { why, mut back } = returned;
+            assert_eq!(rt; why, Fault::Taken);
             assert_eq!(rt; table.read(2), Ok(1));
-            assert_eq!(rt; returned.back.read(2), Ok(2));
+            assert_eq!(rt; back.read(2), Ok(2));
             assert_eq!(rt; table.move_to(2, 3), Ok(()));
-            come_together(rt, table, returned.back);
+            come_together(rt, table, back);
         }
     }
 }
 
+#[derive(Drop)]
 struct Joins {
     alloc: Global,
 }
