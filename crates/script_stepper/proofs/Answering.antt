@@ -1,15 +1,13 @@
 -- One script and one list have one answer.
 use Rattle.std.proofs.Common.{◌≡◌, ℕ, List, inl, inr, length, Option, Result, Ok, Err, refl, sym, subst, ap, ◌∙◌}
 use Rattle.std.specs.Prelude.{IfErr, IfOk, String, string_bytes}
-use Rattle.std.specs.Io.KnownBytes.{Appends}
 use Rattle.script_text.specs.declared.fault.Cause.{Cause}
 use Rattle.script_text.specs.declared.fault.Fault.{Fault}
 use Rattle.script_text.specs.declared.fault.Fault.TheVariants.{Memory, Syntax, BadTurn, Output, Input}
 use Rattle.script_text.specs.Drafts.{ScriptView}
 use Rattle.script_text.specs.Grammar.{Faulty, IsUnlessMemory, Reads}
 use Rattle.script_text.proofs.OneReading.{faulty_answer, reads_answer}
-use Rattle.script_stepper.specs.Runs.{Delivers, IsRun, IsRunText, Tells, Writes, WritesOne, run_text, text_in}
-use Rattle.script_stepper.specs.Sinks.{AppendsBeginning}
+use Rattle.script_stepper.specs.Runs.{Delivers, IsRun, Tells, WritesOne, text_in}
 use Rattle.script_stepper.specs.TurnLists.{list_at}
 
 same_script : (bytes : List ℕ) (s t : ScriptView) → Reads bytes s → Reads bytes t → s ≡ t
@@ -91,13 +89,3 @@ module _ (IsText : ScriptView → List ℕ → List ℕ → Type 0) where
         says = subst (λ (us : List ℕ). IsText s us (string_bytes text)) g ok;
       }
   tells_run bytes list s turns given threads (Err f) h n g e ok err = subst (λ (x : Fault). Tells IsText bytes list (Err x)) (sym err) tt
-
--- the one text that a run turn by turn has
-pub writes_run : {A : Type 0} (r : Result A Fault) (old new : Option (List ℕ)) (t : ScriptView) (turns : List ℕ)
-    → WritesOne (IsRunText t turns) r old new → Writes (run_text t turns) r old new
-writes_run (Ok x) old new t turns h = subst (Appends old new) h.1 h.2
-writes_run (Err Memory) old new t turns h = h
-writes_run (Err (Syntax l c)) old new t turns h = h
-writes_run (Err (BadTurn p)) old new t turns h = h
-writes_run (Err Output) old new t turns h = subst (AppendsBeginning old new) h.1 h.2
-writes_run (Err Input) old new t turns h = h

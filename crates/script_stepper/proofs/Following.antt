@@ -35,11 +35,11 @@ use Rattle.script_text.specs.Scripts.{program_in}
 use Rattle.script_text.specs.Beginnings.{script_scene, script_shape, script_sight}
 use Rattle.script_stepper.specs.Followed.{TurnsFollow, spoken_of}
 use Rattle.script_stepper.specs.Running.{Waits}
-use Rattle.script_text.specs.Traces.{heard, plays, schedule, told}
+use Rattle.script_text.specs.Traces.{IsTrace, Item, heard, in_order, plays, told}
 use Rattle.script_stepper.proofs.LineLemmas.{flat_map-one}
 use Rattle.script_stepper.proofs.OneTurn.{play_waits}
 use Rattle.script_stepper.proofs.StepLemmas.{first_rests}
-use Rattle.script_stepper.proofs.TraceLemmas.{play_done, play_size, plays_extent, said_done}
+use Rattle.script_stepper.proofs.TraceLemmas.{over_of, play_done, play_size, plays_extent, said_done, there}
 use Rattle.script_stepper.proofs.Unwinding.{still}
 
 -- how far threads have come from where they were: the history, where each is, and what they said
@@ -213,17 +213,6 @@ act_on b c d out t lt waits is far =
     (more z b d c.walks lt c.history w u out q.event x begun does) in
     wound z b d c.walks lt h u (out ++ spoken d x) made
 
--- what a thread that is there has to do next
-there : (c : Scene) (d : ℕ) (t : Task) → next (walk_of c d) ≡ Some t → d < length c.walks
-there c d t e =
-    elim (cases_lt d (length c.walks)) [
-      | inl lt ↦ lt
-      | inr le ↦ absurd (let n : next (walk_of c d) ≡ None = ap next (get_or_past c.walks d nowhere le) in some_none t (sym e ∙ n))
-    ]
-  where
-    some_none : (t : Task) → Some t ≡ None → ⊥
-    some_none t q = cc
-
 abbrev AllWait : Scene → Type 0
 AllWait c = (i : ℕ) → i < length c.walks → Waits (walk_of c i)
 
@@ -286,10 +275,18 @@ turns_on b c (thread ∷ turns) out same waits far =
     (turns_on b p turns (out ++ flat_map spoken_of says) (extent ∙ same) (waits_on c d waits) now)
 
 -- a whole run of a script
-pub turns_follow : (script : ScriptView) (turns : List ℕ) → TurnsFollow turns (script_scene script)
-turns_follow script turns =
+pub turns_follow : (script : ScriptView) (turns : List ℕ) (items : List Item) (last : Scene) → IsTrace turns (script_scene script) items last
+    → TurnsFollow (script_scene script) items last
+turns_follow script turns items last trace =
     let c = script_scene script in
+    let all = turns ++ in_order 1 trace.more in
     let rests = first_rests (script_shape script) (program_in script.threads) (script_sight script) refl in
-    let far = turns_on c c (schedule turns c) [] refl rests.walks
+    let far = turns_on c c all [] refl rests.walks
     (record { doings = []; history = refl; each = λ d. refl; says = refl }) in
-    record { doings = far.doings; history = far.history; each = far.each; says = far.says }
+    record {
+      doings = far.doings;
+      history = ap (λ (s : Scene). s.history) trace.ends ∙ far.history;
+      each = λ d. subst (λ (s : Scene). Goes no_worth (opening c.extent) c.history d (walk_of c d) far.doings (walk_of s d)) (sym trace.ends) (far.each d);
+      over = λ d. let w = walk_of last d in over_of w.slots w.endings w.todo (trace.over d);
+      says = far.says ∙ ap (λ (l : List Item). flat_map spoken_of l) (sym trace.says);
+    }

@@ -8,6 +8,7 @@ pub mod Following
 pub mod Interleaving
 pub mod LineLemmas
 pub mod Once
+pub mod OneTrace
 pub mod OneTurn
 pub mod Overs
 pub mod RunLemmas

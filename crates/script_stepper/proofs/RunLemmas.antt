@@ -1,21 +1,18 @@
 -- Turns of a world, one after the other.
-use Rattle.std.proofs.Common.{◌≡◌, ℕ, zero, suc, ◌+◌, ◌-◌, ◌<◌, ◌≤◌, List, [], ◌∷◌, ◌++◌, replicate, length, get_or, refl, sym, ◌∙◌, ap}
-use Rattle.std.proofs.Common.{subst, arith, append_assoc, take, false}
-use Rattle.std.specs.Prelude.{Option, Some, None, is_some}
+use Rattle.std.proofs.Common.{◌≡◌, ℕ, ◌+◌, ◌-◌, ◌<◌, ◌≤◌, List, [], ◌∷◌, ◌++◌, replicate, length, get_or, sym, ◌∙◌, ap}
+use Rattle.std.proofs.Common.{subst, arith, append_assoc, take}
 use Rattle.std.specs.List.{flat_map}
 use Rattle.std.proofs.lemmas.Grind.{flat_map-append}
 use Rattle.std.proofs.lemmas.List.{replicate_more, take_more}
 use Rattle.script_text.specs.Grammar.{ended}
-use Rattle.std.proofs.lemmas.List.{append-nil}
 use Rattle.script_text.proofs.PrintLemmas.{ended-append}
-use Rattle.step_threads.specs.declared.said.Said.{Said}
-use Rattle.step_threads.specs.Scenes.{Scene, next, said, walk_of}
+use Rattle.step_threads.specs.Scenes.{Scene}
 use Rattle.step_core.specs.Worlds.{Sight, scene}
 use Rattle.script_stepper.specs.Lines.{item_lines}
-use Rattle.script_stepper.specs.Running.{AllRest, HasRun, IsThread, turns_left}
+use Rattle.script_stepper.specs.Running.{HasRun, IsThread, RunsAlone, turns_left}
 use Rattle.script_text.specs.Traces.{Item, plays, told}
-use Rattle.script_stepper.proofs.TraceLemmas.{idle_plays, idle_told, plays-append, plays_size}
-use Rattle.script_stepper.proofs.TraceLemmas.{said_none, told-append}
+use Rattle.script_stepper.proofs.TraceLemmas.{plays-append, plays_size}
+use Rattle.script_stepper.proofs.TraceLemmas.{told-append}
 
 pub run_then : (xs ys : List ℕ) (u v w : Sight) (a b e : List ℕ) → HasRun xs u v a b → HasRun ys v w b e → HasRun (xs ++ ys) u w a e
 run_then xs ys u v w a b e p q =
@@ -51,11 +48,6 @@ run_thread xs u v a b thread h t = let e = run_size xs u v a b h in (t.0, omega 
 
 -- ---- a thread that runs alone
 
-replicate_then : (k j t : ℕ) → replicate (k + j) t ≡ replicate k t ++ replicate j t
-replicate_then zero j t = let e : zero + j ≡ j = omega arith in ap (λ (n : ℕ). replicate n t) e
-replicate_then (suc k) j t =
-    let e : suc k + j ≡ suc (k + j) = omega arith in ap (λ (n : ℕ). replicate n t) e ∙ ap (λ (l : List ℕ). t ∷ l) (replicate_then k j t)
-
 -- so far a thread took turns alone, each of which left it fewer
 pub record Alone (thread : ℕ) (u v : Sight) (a b : List ℕ) : Type 0 where
   pub turns : ℕ
@@ -72,40 +64,7 @@ alone_more thread u v w a b e p q k =
       less = omega (arith, k, l);
     }
 
-is_over : (thread : ℕ) (v : Sight) (x : Option Said) → x ≡ said (thread - 1) (scene v) → false ≡ is_some x
-    → next (walk_of (scene v) (thread - 1)) ≡ None
-is_over thread v None q s = said_none (thread - 1) (scene v) (sym q)
-is_over thread v (Some x) q s = absurd cc
-
-idle_run : (j thread : ℕ) (v : Sight) (b : List ℕ) → AllRest v → next (walk_of (scene v) (thread - 1)) ≡ None → HasRun (replicate j thread) v v b b
-idle_run j thread v b h over =
-    record {
-      rests = h;
-      scene_is = sym (idle_plays j thread (scene v) over);
-      text_is = sym (append-nil b) ∙ ap (λ (l : List Item). b ++ ended (flat_map item_lines l)) (sym (idle_told j thread (scene v) over));
-      most = λ d. omega arith;
-    }
-
-still_run : (thread : ℕ) (v w : Sight) (b e : List ℕ) → HasRun (thread ∷ []) v w b e → next (walk_of (scene v) (thread - 1)) ≡ None → HasRun [] v w b e
-still_run thread v w b e h over =
-    record {
-      rests = h.rests;
-      scene_is = h.scene_is ∙ idle_plays 1 thread (scene v) over;
-      text_is = h.text_is ∙ ap (λ (l : List Item). b ++ ended (flat_map item_lines l)) (idle_told 1 thread (scene v) over);
-      most = h.most;
-    }
-
--- and then further turns are as good as none
-pub alone_ends : (thread : ℕ) (u v w : Sight) (a b e : List ℕ) → Alone thread u v a b → HasRun (thread ∷ []) v w b e
-    → false ≡ is_some (said (thread - 1) (scene v))
-    → (n : ℕ) → turns_left (thread - 1) (scene u) ≤ n → HasRun (replicate n thread) u w a e
-alone_ends thread u v w a b e p q s n le =
-    let over = is_over thread v (said (thread - 1) (scene v)) refl s in
-    let l = p.less in
-    let split : replicate p.turns thread ++ replicate (n - p.turns) thread ≡ replicate n thread =
-    let e : p.turns + (n - p.turns) ≡ n = omega (arith, l, le) in
-    sym (replicate_then p.turns (n - p.turns) thread) ∙ ap (λ (m : ℕ). replicate m thread) e in
-    let rest : HasRun (replicate (n - p.turns) thread ++ []) v w b e =
-    run_then (replicate (n - p.turns) thread) [] v v w b b e (idle_run (n - p.turns) thread v b p.run.rests over) (still_run thread v w b e q over) in
-    let tail : HasRun (replicate (n - p.turns) thread) v w b e = run_same _ _ v w b e (append-nil (replicate (n - p.turns) thread)) rest in
-    run_same _ _ u w a e split (run_then (replicate p.turns thread) (replicate (n - p.turns) thread) u v w a b e p.run tail)
+-- and then one more, at its end
+pub alone_ends : (thread : ℕ) (u v w : Sight) (a b e : List ℕ) → Alone thread u v a b → HasRun (thread ∷ []) v w b e → RunsAlone thread u w a e
+alone_ends thread u v w a b e p q =
+    (p.turns + 1, run_same _ _ u w a e (replicate_more p.turns thread) (run_then (replicate p.turns thread) (thread ∷ []) u v w a b e p.run q))

@@ -19,10 +19,10 @@ use Rattle.step_core.specs.Worlds.{Sight, scene}
 use Rattle.script_text.specs.Beginnings.{shape_for}
 use Rattle.script_text.specs.Versions.{blocks_in}
 use Rattle.script_stepper.specs.declared.stepping.Pace.{Pace}
-use Rattle.script_stepper.specs.Runs.{IsShown, IsTextBy}
-use Rattle.script_stepper.specs.Lines.{closing_lines, item_lines, shown}
-use Rattle.script_stepper.specs.Running.{AllRest, HasRun, IsNew, Waits}
-use Rattle.script_text.specs.Traces.{outcome, schedule, trace}
+use Rattle.script_stepper.specs.Runs.{IsShown, IsTextBy, IsTurnText}
+use Rattle.script_stepper.specs.Lines.{closing_lines, item_lines}
+use Rattle.script_stepper.specs.Running.{AllOver, AllRest, HasRun, RunsOut, Waits}
+use Rattle.script_text.specs.Traces.{in_order, told}
 use Rattle.script_stepper.proofs.Acting.{settled_endings, settled_size}
 use Rattle.script_stepper.proofs.TraceLemmas.{plays_extent}
 
@@ -31,14 +31,21 @@ pub same_blocks : (turns : List ℕ) (u v : Sight) (a b : List ℕ) → HasRun t
 same_blocks turns u v a b h =
     ap (λ (c : Scene). c.extent.shape.blocks) h.scene_is ∙ ap (λ (x : Extent). x.shape.blocks) (plays_extent turns (scene u))
 
-pub shown_text : (turns : List ℕ) (u v : Sight) (a b c : List ℕ) → a ≡ [] → HasRun (schedule turns (scene u)) u v a b
-    → c ≡ b ++ ended (closing_lines (scene v)) → c ≡ ended (shown turns (scene u))
-shown_text turns u v a b c none h close =
-    let told_text = ended (flat_map item_lines (trace turns (scene u))) in
-    close
-    ∙ ap (λ (t : List ℕ). t ++ ended (closing_lines (scene v))) (h.text_is ∙ ap (λ (t : List ℕ). t ++ told_text) none)
-    ∙ ap (λ (d : Scene). told_text ++ ended (closing_lines d)) h.scene_is
-    ∙ sym (ended-append (flat_map item_lines (trace turns (scene u))) (closing_lines (outcome turns (scene u))))
+pub shown_text : (turns : List ℕ) (u v : Sight) (a b c : List ℕ) → a ≡ [] → RunsOut turns u v a b → AllOver v
+    → c ≡ b ++ ended (closing_lines (scene v)) → IsTurnText turns (scene u) c
+shown_text turns u v a b c none h over close =
+    let all = turns ++ in_order 1 h.more in
+    let items = told all (scene u) in
+    record {
+      items = items;
+      last = scene v;
+      trace = record { more = h.more; each = h.each; ends = h.run.scene_is; over = over; says = refl };
+      says =
+          close
+          ∙ ap (λ (t : List ℕ). t ++ ended (closing_lines (scene v)))
+          (h.run.text_is ∙ ap (λ (t : List ℕ). t ++ ended (flat_map item_lines items)) none)
+          ∙ sym (ended-append (flat_map item_lines items) (closing_lines (scene v)));
+    }
 
 all_rest : (parts : List Part) (d : ℕ) → get_or (map {B = Half} (λ (part : Part). Rest) parts) d Rest ≡ Rest
 all_rest [] d = refl
@@ -56,19 +63,10 @@ first_waits (part ∷ parts) zero lt =
     }
 first_waits (part ∷ parts) (suc d) lt = first_waits parts d (omega (arith, lt))
 
-first_endings : (parts : List Part) (d : ℕ) → (get_or (map first_walk parts) d nowhere).endings ≡ []
-first_endings [] d = refl
-first_endings (part ∷ parts) zero = settled_endings (tasks_from 1 part.calls (length part.kinds)) (no_slots (length part.kinds)) false []
-first_endings (part ∷ parts) (suc d) = first_endings parts d
-
 -- a world begins at rest
 pub first_rests : (shape : Shape) (parts : List Part) (u : Sight) → u ≡ first_sight shape parts → AllRest u
 first_rests shape parts u e =
     subst AllRest (sym e) (record { halves = all_rest parts; walks = first_waits parts })
-
--- and with no object
-pub first_new : (shape : Shape) (parts : List Part) (u : Sight) → u ≡ first_sight shape parts → IsNew u
-first_new shape parts u e = subst IsNew (sym e) (record { history = refl; endings = first_endings parts })
 
 pub run_is : (pace : Pace) (script : ScriptView) (turns text : List ℕ) (blocks threads : ℕ) (shape : Shape) (u : Sight)
     → blocks ≡ blocks_in script.version → threads ≡ length script.threads → shape ≡ shape_for blocks threads

@@ -1,13 +1,14 @@
 -- Laws of turns.
-use Rattle.std.proofs.Common.{◌≡◌, ◌≢◌, ℕ, zero, suc, ◌-◌, ◌≤◌, List, [], ◌∷◌, ◌++◌, replicate, inl, inr}
+use Rattle.std.proofs.Common.{◌≡◌, ◌≢◌, ℕ, zero, suc, ◌-◌, ◌<◌, ◌≤◌, List, [], ◌∷◌, ◌++◌, replicate, inl, inr}
 use Rattle.std.proofs.Common.{length, refl, sym, ◌∙◌, ap, subst, append_assoc, get_or-set_other}
 use Rattle.std.specs.Prelude.{Option, Some, None}
-use Rattle.std.proofs.lemmas.Bool.{cases_eq}
+use Rattle.std.proofs.lemmas.Bool.{cases_eq, cases_lt}
 use Rattle.std.proofs.lemmas.List.{get_or_past, length-set}
 use Rattle.step_threads.specs.declared.act.Task.{Task}
 use Rattle.step_threads.specs.declared.ending.Ending.{Ending}
 use Rattle.step_threads.specs.declared.said.Said.{Said}
 use Rattle.step_threads.specs.Courses.{Walk}
+use Rattle.step_threads.specs.Doings.{Over, ahead_of}
 use Rattle.step_table.specs.Deeds.{exact}
 use Rattle.step_table.specs.Holdings.{Slots}
 use Rattle.step_threads.specs.Scenes.{Scene, next, next_of, nowhere, play, play_from, said, said_from, walk_of}
@@ -107,3 +108,20 @@ play_over d e c over =
 pub plays_over : (ts : List ℕ) (e : ℕ) (c : Scene) → next (walk_of c e) ≡ None → next (walk_of (plays ts c) e) ≡ None
 plays_over [] e c over = over
 plays_over (t ∷ ts) e c over = plays_over ts e (play (t - 1) c) (play_over (t - 1) e c over)
+
+-- what a thread that is there has to do next
+pub there : (c : Scene) (d : ℕ) (t : Task) → next (walk_of c d) ≡ Some t → d < length c.walks
+there c d t e =
+    elim (cases_lt d (length c.walks)) [
+      | inl lt ↦ lt
+      | inr le ↦ absurd (let n : next (walk_of c d) ≡ None = ap next (get_or_past c.walks d nowhere le) in some_none t (sym e ∙ n))
+    ]
+  where
+    some_none : (t : Task) → Some t ≡ None → ⊥
+    some_none t q = cc
+
+-- a thread with nothing left to do is at its end
+pub over_of : (slots : Slots) (es : List Ending) (ts : List Task) → next_of slots es ts ≡ None → ahead_of slots es ts ≡ Over
+over_of slots [] [] e = refl
+over_of slots [] (t ∷ ts) e = absurd cc
+over_of slots (f ∷ es) ts e = absurd cc

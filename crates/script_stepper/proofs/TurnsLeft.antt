@@ -17,8 +17,7 @@ use Rattle.step_threads.specs.Entries.{acted}
 use Rattle.step_threads.specs.Scenes.{Scene, Wound, next, next_of, nowhere, play, play_from, rest_of, rested_walk, said, said_from}
 use Rattle.step_threads.specs.Scenes.{state_in, walk_of, went}
 use Rattle.step_core.specs.Totals.{ended_in, made_in}
-use Rattle.script_stepper.specs.Running.{parts_left, turns_left}
-use Rattle.script_text.specs.Traces.{tasks_in}
+use Rattle.script_stepper.specs.Running.{parts_left, turns_left, tasks_in}
 use Rattle.script_stepper.proofs.Acting.{went_endings, went_free, went_less}
 use Rattle.script_stepper.proofs.Tallies.{Tally, may_make, tally}
 use Rattle.script_stepper.proofs.Unwinding.{rested_less, rested_parts, rested_totals}

@@ -15,7 +15,7 @@ use Rattle.step_threads.specs.Scenes.{Scene, state_in}
 use Rattle.step_threads.specs.Stocks.{from}
 use Rattle.step_core.specs.Totals.{census_of, ended_in, made_in}
 use Rattle.script_text.specs.Canonical.{number_after}
-use Rattle.script_text.specs.Traces.{Item, outcome, trace}
+use Rattle.script_text.specs.Traces.{Item}
 
 -- the number of a statement, from 1; a thread's end has none
 abbrev pub statement_text : ℕ → List ℕ
@@ -86,6 +86,6 @@ totals_text made over = codes "made " ++ decimal made ++ codes " ended " ++ deci
 abbrev pub closing_lines : Scene → List (List ℕ)
 closing_lines c = census_lines c.extent.shape.blocks (state_in c) ++ totals_text (made_in c.history) (ended_in c.history) ∷ []
 
--- all lines of a run with these turns
-abbrev pub shown : List ℕ → Scene → List (List ℕ)
-shown turns c = flat_map item_lines (trace turns c) ++ closing_lines (outcome turns c)
+-- all lines of a run that says this and ends so
+abbrev pub shown : List Item → Scene → List (List ℕ)
+shown items last = flat_map item_lines items ++ closing_lines last

@@ -1,5 +1,5 @@
 -- What turns do to a world, and to the text that tells of them. All of it is own.
-use Rattle.std.specs.Prelude.{◌≡◌, ◌⊎◌, ℕ, suc, ◌+◌, ◌-◌, ◌*◌, ◌<◌, ◌≤◌, ◌++◌, true, List, [], ◌∷◌, length, None}
+use Rattle.std.specs.Prelude.{◌≡◌, ◌⊎◌, ℕ, suc, ◌+◌, ◌-◌, ◌*◌, ◌<◌, ◌≤◌, ◌++◌, true, List, [], ◌∷◌, length, replicate, sum_by, None}
 use Rattle.std.specs.List.{flat_map}
 use Rattle.script_text.specs.Grammar.{ended}
 use Rattle.step_threads.specs.declared.ending.Ending.{Ending}
@@ -10,7 +10,7 @@ use Rattle.step_threads.specs.Scenes.{Scene, next, walk_of}
 use Rattle.step_core.specs.Totals.{ended_in, made_in}
 use Rattle.step_core.specs.Worlds.{Sight, half_of, scene}
 use Rattle.script_stepper.specs.Lines.{item_lines}
-use Rattle.script_text.specs.Traces.{plays, tasks_in, told}
+use Rattle.script_text.specs.Traces.{in_order, plays, told}
 
 -- no object ends in the thread's hands, or what came out of a member of one is in hand and has to leave first
 pub record Waits (w : Walk) : Type 0 where
@@ -26,11 +26,6 @@ pub record AllRest (u : Sight) : Type 0 where
 abbrev pub AllOver : Sight → Type 0
 AllOver u = (d : ℕ) → next (walk_of (scene u) d) ≡ None
 
--- no object was made yet
-pub record IsNew (u : Sight) : Type 0 where
-  pub history : u.story.history ≡ []
-  pub endings : (d : ℕ) → (walk_of (scene u) d).endings ≡ []
-
 -- the number of a thread of the world, from 1
 abbrev pub IsThread : Sight → ℕ → Type 0
 IsThread u thread = (1 ≤ thread) × (thread ≤ length u.walks)
@@ -39,6 +34,10 @@ IsThread u thread = (1 ≤ thread) × (thread ≤ length u.walks)
 abbrev pub parts_left : List Ending → ℕ
 parts_left [] = 0
 parts_left (e ∷ es) = suc (3 - e.stage) + parts_left es
+
+-- how many tasks all threads have left
+abbrev pub tasks_in : List Walk → ℕ
+tasks_in walks = sum_by (λ (w : Walk). length w.todo) walks
 
 -- the objects whose last owner hasn't left, and those that may still be made, have four parts each
 abbrev pub parts_to_come : Scene → ℕ
@@ -54,3 +53,13 @@ pub record HasRun (turns : List ℕ) (u u' : Sight) (old new : List ℕ) : Type 
   pub scene_is : scene u' ≡ plays turns (scene u)
   pub text_is : new ≡ old ++ ended (flat_map item_lines (told turns (scene u)))
   pub most : (d : ℕ) → turns_left d (scene u') ≤ turns_left d (scene u)
+
+-- so it did by some turns of one thread
+abbrev pub RunsAlone : ℕ → Sight → Sight → List ℕ → List ℕ → Type 0
+RunsAlone thread u u' old new = (n : ℕ) × HasRun (replicate n thread) u u' old new
+
+-- and by these turns, and some more of each thread, in number order, to its end
+pub record RunsOut (turns : List ℕ) (u u' : Sight) (old new : List ℕ) : Type 0 where
+  pub more : List ℕ
+  pub each : length more ≡ length u.walks
+  pub run : HasRun (turns ++ in_order 1 more) u u' old new

@@ -13,6 +13,8 @@ use Rattle.script_stepper.specs.Lines.{shown}
 use Rattle.script_stepper.specs.Sinks.{AppendsBeginning}
 use Rattle.script_stepper.specs.StepRuns.{IsStepText}
 use Rattle.script_stepper.specs.TurnLists.{list_at}
+use Rattle.script_text.specs.Traces.{IsTrace, Item}
+use Rattle.step_threads.specs.Scenes.{Scene}
 
 -- whether the output is what failed
 abbrev pub is_output : {A : Type 0} → Result A Fault → Bool
@@ -41,12 +43,16 @@ WritesOne P (Err (BadTurn position)) old new = ⊥
 WritesOne P (Err Output) old new = (text : List ℕ) × P text × AppendsBeginning old new text
 WritesOne P (Err Input) old new = ⊥
 
--- what a script's run with these turns writes
-abbrev pub run_text : ScriptView → List ℕ → List ℕ
-run_text script turns = ended (shown turns (script_scene script))
+-- the text of a run from this scene, turn by turn
+pub record IsTurnText (turns : List ℕ) (c : Scene) (text : List ℕ) : Type 0 where
+  pub items : List Item
+  pub last : Scene
+  pub trace : IsTrace turns c items last
+  pub says : text ≡ ended (shown items last)
 
+-- what a script's run with these turns writes
 abbrev pub IsRunText : ScriptView → List ℕ → List ℕ → Type 0
-IsRunText script turns text = text ≡ run_text script turns
+IsRunText script turns text = IsTurnText turns (script_scene script) text
 
 -- what its run by single steps writes
 abbrev pub IsFineText : ScriptView → List ℕ → List ℕ → Type 0
@@ -54,7 +60,7 @@ IsFineText script turns text = IsStepText turns (script_sight script) text
 
 -- the text of a run from u, by turns or by single steps
 abbrev pub IsShown : Pace → List ℕ → Sight → List ℕ → Type 0
-IsShown pace.Turns turns u text = text ≡ ended (shown turns (scene u))
+IsShown pace.Turns turns u text = IsTurnText turns (scene u) text
 IsShown pace.Steps turns u text = IsStepText turns u text
 
 -- the same of a script's run

@@ -3,8 +3,7 @@ ghost use Rattle.std.specs.Prelude.{◌≡◌, ℕ, ◌-◌, ◌<◌, ◌≤◌,
 ghost use Rattle.std.specs.Prelude.{is_some, length, replicate, string_bytes};
 ghost use Rattle.step_threads.specs.Scenes.{next, said, walk_of};
 ghost use Rattle.step_core.specs.Worlds.{scene};
-ghost use Rattle.script_stepper.specs.Running.{AllOver, AllRest, HasRun, IsNew, IsThread, turns_left};
-ghost use Rattle.script_text.specs.Traces.{schedule};
+ghost use Rattle.script_stepper.specs.Running.{AllOver, AllRest, HasRun, IsThread, RunsAlone, RunsOut, turns_left};
 
 use crate::lines::put_said;
 use std::alloc::AllocError;
@@ -43,19 +42,19 @@ fn take_turns(world: &mut World, turns: &[u8], text: &mut String) -> Result<(), 
     Ok(())
 }
 
-/// Runs a thread alone to its end, for which as many turns are enough as it has left.
+/// Runs a thread alone to its end.
 fn finish(world: &mut World, thread: u8, text: &mut String) -> Result<(), AllocError>
     requires rests { AllRest world.old }
     requires thread { IsThread world.old thread }
-    ensures run { OnOk result ((n : ℕ) → turns_left (thread - 1) (scene world.old) ≤ n
-        → HasRun (replicate n thread) world.old world.new (string_bytes text.old) (string_bytes text.new)) }
+    ensures run { OnOk result
+        (RunsAlone thread world.old world.new (string_bytes text.old) (string_bytes text.new)) }
     ensures over { OnOk result (next (walk_of (scene world.new) (thread - 1)) ≡ None) }
 {
     while take_turn(world, thread, text)? {}
     Ok(())
 }
 
-/// One turn for each number; then each of the threads runs alone to its end, in number order. No object was made yet.
+/// One turn for each number; then each of the threads runs alone to its end, in number order.
 pub(crate) fn run_turns(
     world: &mut World,
     threads: u8,
@@ -63,12 +62,10 @@ pub(crate) fn run_turns(
     text: &mut String,
 ) -> Result<(), AllocError>
     requires rests { AllRest world.old }
-    requires new { IsNew world.old }
     requires all { threads ≡ length world.old.walks }
     requires threads { All (IsThread world.old) turns.now }
     ensures run { OnOk result
-        (HasRun (schedule turns.now (scene world.old)) world.old world.new
-        (string_bytes text.old) (string_bytes text.new)) }
+        (RunsOut turns.now world.old world.new (string_bytes text.old) (string_bytes text.new)) }
     ensures over { OnOk result (AllOver world.new) }
 {
     take_turns(world, turns, text)?;

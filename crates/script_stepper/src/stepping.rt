@@ -10,10 +10,9 @@ ghost use Rattle.step_core.specs.Worlds.{scene};
 ghost use Rattle.step_core.specs.Starts.{first_sight};
 ghost use Rattle.script_text.specs.Beginnings.{script_scene, script_shape, shape_for};
 ghost use Rattle.script_stepper.specs.Followed.{TurnsFollow};
-ghost use Rattle.script_stepper.specs.Lines.{shown};
-ghost use Rattle.script_stepper.specs.Running.{AllRest, IsNew, IsThread};
-ghost use Rattle.script_stepper.specs.Runs.{Delivers, IsFineText, IsRunText, IsShown, IsTextBy, Tells};
-ghost use Rattle.script_stepper.specs.Runs.{Writes, WritesOne, is_output, run_text, text_in};
+ghost use Rattle.script_stepper.specs.Running.{AllRest, IsThread};
+ghost use Rattle.script_stepper.specs.Runs.{Delivers, IsFineText, IsRunText, IsShown, IsTextBy, IsTurnText, Tells};
+ghost use Rattle.script_stepper.specs.Runs.{WritesOne, is_output, text_in};
 ghost use Rattle.script_stepper.specs.StepRuns.{IsInterleaving};
 ghost use Rattle.script_stepper.specs.TurnLists.{list_at};
 
@@ -83,11 +82,10 @@ fn turns_text(
     turns: &[u8],
 ) -> Result<String, AllocError>
     requires rests { AllRest world.old }
-    requires new { IsNew world.old }
     requires all { threads ≡ length world.old.walks }
     requires blocks { blocks ≡ world.old.story.extent.shape.blocks }
     requires threads { All (IsThread world.old) turns.now }
-    ensures { IfOk result (λ text. string_bytes text ≡ ended (shown turns.now (scene world.old))) }
+    ensures { IfOk result (λ text. IsTurnText turns.now (scene world.old) (string_bytes text)) }
 {
     let mut text = String::new(alloc);
     run_turns(world, threads, turns, &mut text)?;
@@ -105,7 +103,6 @@ fn text_of(
     pace: Pace,
 ) -> Result<String, AllocError>
     requires rests { AllRest world.old }
-    requires new { IsNew world.old }
     requires all { threads ≡ length world.old.walks }
     requires blocks { blocks ≡ world.old.story.extent.shape.blocks }
     requires threads { All (IsThread world.old) turns.now }
@@ -191,11 +188,15 @@ pub fn step_text<S: Sink>(
         → IsUnlessMemory result (Err (BadTurn position)) }
     ensures runs { (read : ScriptView) (listed : List ℕ) → Reads script.now read
         → list_at (length read.threads) turns.now ≡ Ok listed
-        → Writes (run_text read listed) result (S.taken writer.old) (S.taken writer.new) }
+        → WritesOne (IsRunText read listed) result (S.taken writer.old) (S.taken writer.new) }
 
-    // What this text tells is what the threads' statements and their ends ask for, act by act.
-    ensures acts { (read : ScriptView) (listed : List ℕ) → Reads script.now read
-        → list_at (length read.threads) turns.now ≡ Ok listed → TurnsFollow listed (script_scene read) }
+    // A script and its turns have one such text only.
+    ensures one { (read : ScriptView) (listed text other : List ℕ) → IsRunText read listed text
+        → IsRunText read listed other → text ≡ other }
+
+    // What it tells is what the threads' statements and their ends ask for, act by act.
+    ensures acts { (read : ScriptView) (listed text : List ℕ) (told : IsRunText read listed text)
+        → TurnsFollow (script_scene read) told.items told.last }
 {
     deliver(alloc, script, turns, Pace::Turns, writer)
 }

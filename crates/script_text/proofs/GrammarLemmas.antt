@@ -4,10 +4,6 @@ use Rattle.std.specs.List.{AllByRecursion}
 use Rattle.script_text.specs.Drafts.{Draft, new_draft, after_line}
 use Rattle.script_text.specs.Grammar.{HasNoFeed, IsCut, ended, Leads, Begins}
 
--- before the first line
-pub begins_at_first : (bytes : List ℕ) → Begins bytes new_draft 1 bytes
-begins_at_first bytes = record { lines = []; text = refl; clean = tt; leads = refl; next = omega arith }
-
 ended-last : (lines : List (List ℕ)) (line more : List ℕ)
     → ended lines ++ (line ++ 10 ∷ more) ≡ ended (lines ++ line ∷ []) ++ more
 ended-last [] line more = sym (append_assoc line (10 ∷ []) more)

@@ -88,15 +88,3 @@ threads_done (t ∷ threads) first text mid out some is one all =
     (one ∙ ap (λ (u : Thread). text ++ ended (section_lines (section_of u))) is)
     ∙ append_assoc text (ended (section_lines (section_of t))) (ended others)
     ∙ ap (λ (u : List ℕ). text ++ u) (sym (ended-append (section_lines (section_of t)) others))
-
--- no line is added
-pub none_added : (text : List ℕ) (lines : List (List ℕ)) → lines ≡ [] → text ≡ text ++ ended lines
-none_added text lines none = rw none (sym (append-nil text))
-
--- the header and then the threads
-pub script_done : (text head all : List ℕ) (header threads : List (List ℕ)) → text ≡ []
-    → head ≡ text ++ ended header → all ≡ head ++ ended threads → all ≡ ended (header ++ threads)
-script_done text head all header threads none first rest =
-    rest
-    ∙ ap (λ (t : List ℕ). t ++ ended threads) (first ∙ ap (λ (t : List ℕ). t ++ ended header) none)
-    ∙ sym (ended-append header threads)

@@ -69,9 +69,6 @@ name_is_tidy (b ∷ bs) h =
 abbrev joined : List (List ℕ) → List ℕ
 joined ws = join_with_byte 32 ws
 
-nonempty : List ℕ → Bool
-nonempty w = ltb 0 (length w)
-
 kept : (w : List ℕ) (ps : List (List ℕ)) → 0 < length w
     → filter (λ u. nat_lt 0 (length u)) (w ∷ ps) ≡ w ∷ filter (λ u. nat_lt 0 (length u)) ps
 kept w ps h = let t : ltb 0 (length w) ≡ true = lt-ltb 0 (length w) h in rw t refl

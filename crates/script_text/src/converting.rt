@@ -4,12 +4,13 @@ ghost use Rattle.std.specs.Prelude.{◌≡◌, ◌↔◌, ℕ, List, map, IfOk, 
 ghost use Rattle.control_word.specs.declared.event.Entry.{Entry};
 ghost use Rattle.control_word.specs.State.{Opening};
 ghost use Rattle.step_table.specs.Stories.{Nothing};
+ghost use Rattle.step_threads.specs.Scenes.{Scene};
 ghost use Rattle.step_threads.specs.declared.said.Said.{Said};
 ghost use Rattle.control_word.specs.declared.refusal.Refusal.TheVariants.{Memory};
 ghost use Rattle.script_text.specs.Drafts.{section_of};
 ghost use Rattle.script_text.specs.Scripts.{converted};
 ghost use Rattle.script_text.specs.Beginnings.{IsRunOf, script_scene, script_sight};
-ghost use Rattle.script_text.specs.Traces.{outcome, trace};
+ghost use Rattle.script_text.specs.Traces.{IsTrace, Item};
 
 use crate::script::Script;
 use crate::thread::{Thread, copy_of};
@@ -35,8 +36,8 @@ fn copies_of(alloc: Global, threads: &[Thread]) -> Result<Vec<Thread>, AllocErro
 /// Refused by 1 alone, where a growth is refused.
 pub fn convert(alloc: Global, script: &Script) -> Result<Script, Refusal>
     ensures converted { IfOk result (λ s. s ≡ converted script.now) }
-    ensures trace { IfOk result (λ s. (turns : List ℕ) → trace turns (script_scene s) ≡ trace turns (script_scene script.now)) }
-    ensures outcome { IfOk result (λ s. (turns : List ℕ) → outcome turns (script_scene s) ≡ outcome turns (script_scene script.now)) }
+    ensures trace { IfOk result (λ s. (turns : List ℕ) (items : List Item) (last : Scene)
+        → IsTrace turns (script_scene s) items last ↔ IsTrace turns (script_scene script.now) items last) }
     ensures begins { IfOk result (λ s. script_sight s ≡ script_sight script.now) }
     ensures runs { IfOk result (λ s. (z : Opening) (h : List (Entry Nothing)) (n : ℕ) (said : ℕ → List Said) → IsRunOf s z h n said ↔ IsRunOf script.now z h n said) }
     ensures memory { IsOkUnless result Memory }

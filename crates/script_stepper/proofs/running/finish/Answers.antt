@@ -1,4 +1,3 @@
-use Rattle.std.proofs.Common.{sym, ◌∙◌}
 use Rattle.std.specs.Prelude.{string_bytes}
 use Rattle.script_stepper.proofs.RunLemmas.{alone_ends, alone_more, run_thread}
 use Rattle.script_stepper.proofs.running.finish.Goals as goal
@@ -17,7 +16,7 @@ loop-preserved c =
     (string_bytes c.take_turn.new.text) c.loop.invariant c.in_ok-take_turn.ensures.run (c.in_ok-take_turn.ensures.less c.if-branch.true)
 
 pub returns-clause-run : goal.returns-clause-run
-returns-clause-run c n le =
+returns-clause-run c =
     alone_ends c.args.thread c.args.world.now c.loop.world c.take_turn.new.world (string_bytes c.args.text.now) (string_bytes c.loop.text)
     (string_bytes c.take_turn.new.text)
-    c.loop.invariant c.in_ok-take_turn.ensures.run (sym c.if-branch.false ∙ c.in_ok-take_turn.ensures.acted) n le
+    c.loop.invariant c.in_ok-take_turn.ensures.run

@@ -1,13 +1,10 @@
 use Rattle.std.specs.Prelude.{string_bytes}
 use Rattle.script_text.specs.Scripts.{program_in}
-use Rattle.script_stepper.proofs.StepLemmas.{first_new, first_rests, run_is}
+use Rattle.script_stepper.proofs.StepLemmas.{first_rests, run_is}
 use Rattle.script_stepper.proofs.stepping.run.Goals as goal
 
 pub text_of-requires-clause-rests : goal.text_of-requires-clause-rests
 text_of-requires-clause-rests c = first_rests c.shape_of-shape.result (program_in c.args.script.now.threads) c.in_ok-world.world c.in_ok-world.ensures.ok
-
-pub text_of-requires-clause-new : goal.text_of-requires-clause-new
-text_of-requires-clause-new c = first_new c.shape_of-shape.result (program_in c.args.script.now.threads) c.in_ok-world.world c.in_ok-world.ensures.ok
 
 pub returns-in-Ok-clause-ok : goal.returns-in-Ok-clause-ok
 returns-in-Ok-clause-ok c =
