@@ -252,8 +252,7 @@ module _ {V : Type 0} where
       let s = leads z h in let a = allowed z h legal in
       let some' = some_length x (bag s x.desk) (has_part (λ (y : Held). y.desk) x.desk x s.hands refl has) in
       let room = a.rooms x.desk in
-      let has_room : 0 < s.allowance x.desk = omega arith in
-      (
+      let has_room : 0 < s.allowance x.desk = omega arith in (
         ⊎_elim (λ (lt : x.desk < s.names). lt) (λ le. let none = a.beyond x.desk le in absurd (omega arith)) (cases_lt x.desk s.names),
         go (s.joined x.desk) refl has_room,
         has_room,

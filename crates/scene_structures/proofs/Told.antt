@@ -107,8 +107,7 @@ module _ {V : Type 0} where
             let on : end ≡ (s.object o).member 1 = goes_on ∙ (loaded ∙ ap (λ j. (s.object j).member 1) (sym same_o)) in
             let told : told_at s ((s.object o).member 2).object (told_of stops) ≡ onto t.told (told_of stops) =
             ap (λ (k : Handle). told_at s k.object (told_of stops)) (sym held')
-            ∙ asked_told t.up.kind t.up.object t.up.place t.told is.asked is.asks parts.0 (told_of stops) in
-            (
+            ∙ asked_told t.up.kind t.up.object t.up.place t.told is.asked is.asks parts.0 (told_of stops) in (
               rest,
               subst (λ k. Chain s k rest) (sym on) chain'.1,
               lives'.2,

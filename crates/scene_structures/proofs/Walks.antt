@@ -137,8 +137,7 @@ module _ {V : Type 0} where
       → (h : Handle) × (asked : List (Event V)) × IsAsked h told asked × HasLooked d (asked ++ Load c h ∷ []) e
   asks d m n t u e c wb wp o told v loads bag locks is tells' does leaves =
       let h = handle_in m Weak wb wp in
-      let r = go o.block refl wb told bag locks is tells' in
-      (
+      let r = go o.block refl wb told bag locks is tells' in (
         h,
         r.0,
         r.1,
@@ -163,8 +162,7 @@ module _ {V : Type 0} where
           let latest : latest_of n b.0 ≡ latest_of m w.0 =
           ap (λ (k : Block). latest_of n k.0) same ∙ lock_latest m n (Some w) wp true locks Weak wp w.0 has in
           let read : HasLooked n (Read (owner (latest_of m w.0) (place_at b.0)) x ∷ []) t =
-          subst (λ j. HasLooked n (Read (owner j (place_at b.0)) x ∷ []) t) latest tells' in
-          (
+          subst (λ j. HasLooked n (Read (owner j (place_at b.0)) x ∷ []) t) latest tells' in (
             Read (owner (latest_of m w.0) (place_at b.0)) x ∷ Lock h true ∷ [],
             (b.0, refl),
             looked_both m n t (Lock h true ∷ []) (Read (owner (latest_of m w.0) (place_at b.0)) x ∷ []) (lock_looks m n (Some w) wp true locks) read,

@@ -10,7 +10,7 @@ returns-in_default-clause-own g c =
     let d = c.args.desk.now in let node = c.args.node in let bag = c.requires.bag in (
       c.let_go.ensures.own,
       λ o owns. no_member _ node.block node.place c.member.result c.member.ensures c.in_default.not-Ok
-      (within_held d node c.stands.ensures.legal (first_lists d bag.0 node [] bag.1) o owns),
+          (within_held d node c.stands.ensures.legal (first_lists d bag.0 node [] bag.1) o owns),
     )
 
 pub returns-in-None-clause-own : goal.returns-in-None-clause-own

@@ -27,8 +27,7 @@ returns-clause-own g c =
     let shape : d.shape.shared_cells ≡ c.args.domain.now.shape.shared_cells = ap (λ (k : Shape). k.shared_cells) c.requires.domain.shape in
     let cell = c.requires.stands.cell in
     let lt : c.args.self.now.cell < (opening_of d.shape).cells = omega arith in
-    let bag = (w.bag (bag_of d) (hands_one d m top c.stands.ensures.bag e.bag e.held)).bag in
-    (
+    let bag = (w.bag (bag_of d) (hands_one d m top c.stands.ensures.bag e.bag e.held)).bag in (
       w.own.0,
       over,
       w.own.2,
