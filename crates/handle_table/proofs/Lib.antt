@@ -8,3 +8,4 @@ pub mod Handing
 pub mod Merging
 pub mod Letting
 pub mod Absorbing
+pub mod Crews

@@ -1,5 +1,5 @@
 -- What is true of a whole table stays true.
-use Rattle.std.proofs.Common.{◌≡◌, ℕ, zero, suc, ◌+◌, List, [], ◌∷◌, ◌++◌, set, Option, Some, None, refl, sym, ap, subst, arith}
+use Rattle.std.proofs.Common.{◌≡◌, ℕ, zero, suc, ◌+◌, List, [], ◌∷◌, ◌++◌, set, Option, Some, None, refl, sym, ap, subst, arith, length, ◌∙◌}
 use Rattle.std.specs.Prelude.{slice_get, Err}
 use Rattle.std.specs.List.Sorted.{IsPermutation}
 use Rattle.control_word.specs.Histories.{leads}
@@ -8,7 +8,7 @@ use Rattle.control_word.specs.declared.place.Place.{Place}
 use Rattle.control_word.specs.declared.refusal.Refusal.{Refusal}
 use Rattle.control_word.specs.declared.refusal.Refusal.TheVariants.{Null, Outside}
 use Rattle.control_block.specs.HandleLists.{with_held, without_held}
-use Rattle.control_block.specs.Parting.{JoinsWith}
+use Rattle.control_block.specs.Parting.{JoinsWith, SplitsOff, listed, without_all}
 use Rattle.control_block.specs.declared.handles.Held.{Held}
 use Rattle.shared_handle.specs.Endings.{IsRead}
 use Rattle.control_word.specs.declared.event.Entry.{Entry}
@@ -92,6 +92,28 @@ module _ {V : Type 0} where
         home = w.home;
         bears = bears_kept domain d e p w.bears joins.same.0 joins.same.1 keeps (omega arith);
         fits = fits_joined d other e ss w.fits bare bags held;
+      }
+
+  -- a split without handles: the new table, and what is left of the old one
+  pub split_new : (named domain : DomainNow) (d e new : DeskNow V) (a k : ℕ) (hs : List Held) (ss rs : List Slot) (p q : Pile V) → IsWhole named domain d ss p
+      → SplitsOff d a k hs e new → hs ≡ [] → AllVacant rs → ((x : DeskNow V) → Belongs x domain → endings_of x ≡ 0 → Bears domain x q)
+      → IsWhole named domain new rs q
+  split_new named domain d e new a k hs ss rs p q w parts none all bears =
+      let at = w.bears.belongs in
+      record {
+        home = w.home;
+        bears = bears new (record { table = parts.beside.0 ∙ at.table; shape = parts.beside.1 ∙ at.shape }) parts.count.1;
+        fits = fits_vacant new rs all (parts.bag.0 ∙ ap listed none) (parts.held.0 ∙ ap length none);
+      }
+
+  pub split_old : (named domain : DomainNow) (d e new : DeskNow V) (a k : ℕ) (hs : List Held) (ss : List Slot) (p : Pile V) → IsWhole named domain d ss p
+      → SplitsOff d a k hs e new → hs ≡ [] → IsWhole named domain e ss p
+  split_old named domain d e new a k hs ss p w parts none =
+      record {
+        home = w.home;
+        bears = bears_kept domain d e p w.bears parts.event.same.0 parts.event.same.1 parts.endings parts.count.0;
+        fits = fits_still d e ss w.fits (parts.bag.1 ∙ ap (λ (l : List Held). without_all (listed l) (bag_of d)) none)
+            (let h = parts.held.1 in let z : length hs ≡ 0 = ap length none in omega arith);
       }
 
   pub same_whole : (named domain : DomainNow) (d e : DeskNow V) (ss : List Slot) (p : Pile V) → IsWhole named domain d ss p → e ≡ d → IsWhole named domain e ss p

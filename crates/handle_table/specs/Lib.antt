@@ -8,3 +8,4 @@ pub mod Pairs
 pub mod Parts
 pub mod Visits
 pub mod Parting
+pub mod Programs

@@ -11,7 +11,7 @@ use Rattle.shared_handle.specs.declared.endings.Ending.{Ending}
 use Rattle.handle_table.specs.Calls.{LeavesSlot}
 use Rattle.handle_table.specs.declared.fault.Fault.{Fault}
 use Rattle.handle_table.specs.declared.fault.Fault.TheVariants as fault
-use Rattle.handle_table.specs.Tables.{Slot, TableNow}
+use Rattle.handle_table.specs.Tables.{AllVacant, Slot, TableNow}
 
 -- the handles in the slots from number n on
 abbrev pub handles_from : ℕ → List Slot → List Held
@@ -52,6 +52,10 @@ module _ {V : Type 0} where
     pub full : why ≡ Full ↔ ((IsTooMuch d a n → ⊥) × (length (stock_of d) < k))
     pub named : (why ≡ Limit) ⊎ ((why ≡ Full) ⊎ (why ≡ Memory))
 
+  -- why a team is smaller: there was no memory for all, or the desk gave no such part
+  abbrev pub WhyFewer : DeskNow V → ℕ → ℕ → Refusal → Type 0
+  WhyFewer d a k why = (why ≡ Memory) ⊎ WhyNoPart d a k 0 why
+
   -- a second table has the slots from a number on, an allowance and the least vacant blocks
   pub record Splits (t : TableNow V) (from allowance blocks : ℕ) (u new : TableNow V) : Type 0 where
     pub desks : SplitsOff t.desk allowance blocks (handles_from from t.slots) u.desk new.desk
@@ -90,6 +94,15 @@ module _ {V : Type 0} where
     pub winds_up : WindsUp other bare
     pub desks : JoinsWith t.desk bare u.desk
     pub rest : (u.slots ≡ t.slots) × (u.endings ≡ t.endings)
+
+  -- a desk gave parts to new tables, one after the other, none with a handle
+  abbrev pub IsPartedInto : DeskNow V → ℕ → ℕ → List (TableNow V) → DeskNow V → Type 0
+  IsPartedInto d a k [] e = e ≡ d
+  IsPartedInto d a k (t ∷ ts) e = (m : DeskNow V) × SplitsOff d a k [] m t.desk × IsPartedInto m a k ts e
+
+  -- a new table with so many slots
+  abbrev pub IsNew : ℕ → TableNow V → Type 0
+  IsNew n t = AllVacant t.slots × (length t.slots ≡ n) × (t.endings ≡ [])
 
   -- tables were absorbed, the last one first
   abbrev pub AbsorbsAll : TableNow V → List (TableNow V) → TableNow V → Type 0

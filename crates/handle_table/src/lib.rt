@@ -27,6 +27,6 @@ mod visiting;
 pub use atomic_cells::SharedMember;
 pub use cells::Cell;
 pub use fault::{Fault, Returned};
-pub use program::{Program, Ran, Team, run};
+pub use program::{Crew, Manned, Program, Ran, Team, run};
 pub use shared_handle::Gone;
 pub use table::{HandleTable, Home};

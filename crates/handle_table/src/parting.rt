@@ -4,7 +4,7 @@ ghost use Rattle.control_block.specs.Desks.{Belongs, DeskNow, endings_of};
 ghost use Rattle.control_block.specs.Parting.{HoldsAll, IsTooMuch, SplitsOff};
 ghost use Rattle.control_block.specs.SlotLists.{handles_in};
 ghost use Rattle.shared_handle.specs.Piles.{Bears};
-ghost use Rattle.handle_table.specs.Parting.{Absorbs, HandsOver, LeaveSlots, Splits, WhyNoPart, WhyNotSplit, WindsUp, handles_from};
+ghost use Rattle.handle_table.specs.Parting.{Absorbs, HandsOver, IsNew, LeaveSlots, Splits, WhyNoPart, WhyNotSplit, WindsUp, handles_from};
 ghost use Rattle.handle_table.specs.Tables.{AllVacant, Fits, on_pile};
 
 use crate::assigning::let_go;
@@ -161,6 +161,42 @@ impl<'d, V: Drop + Send, H: Home> HandleTable<'d, V, H> {
                 })
             }
             Err(why) => Err(Fault::Call(why)),
+        }
+    }
+
+    /// A further table with so many vacant slots. It is refused as a split is.
+    pub(crate) fn recruit(
+        &mut self,
+        alloc: Global,
+        slots: usize,
+        allowance: u32,
+        blocks: u32,
+    ) -> Result<HandleTable<'d, V, H>, Refusal>
+        ensures parts { IfOk result (λ t. SplitsOff self.old.desk allowance blocks [] self.new.desk t.desk) }
+        ensures new { IfOk result (λ t. IsNew slots t) }
+        ensures rest { (self.new.slots ≡ self.old.slots) × (self.new.endings ≡ self.old.endings) }
+        ensures refused { IfErr result (λ why. WhyNoPart self.old.desk allowance blocks 0 why × (self.new ≡ self.old)) }
+    {
+        match part_of(
+            self.domain,
+            &mut self.desk,
+            alloc,
+            slots,
+            allowance,
+            blocks,
+            &[],
+        ) {
+            Ok(part) => {
+                let Part { desk, slots, pile } = part;
+                Ok(HandleTable {
+                    domain: self.domain,
+                    home: PhantomData,
+                    desk,
+                    slots,
+                    pile,
+                })
+            }
+            Err(why) => Err(why),
         }
     }
 

@@ -1,10 +1,11 @@
 //! A program over a domain of its own, with a table for each of its threads.
-ghost use Rattle.std.specs.Prelude.{◌≡◌, IfErr};
+ghost use Rattle.std.specs.Prelude.{◌≡◌, ◌⊎◌, ◌↔◌, [], All, length, IfErr, IfOk, IfSome};
 ghost use Rattle.control_word.specs.Layout.{IsWithinLimits};
 ghost use Rattle.control_block.specs.Desks.{Begins, Belongs, DeskNow, endings_of};
 ghost use Rattle.shared_handle.specs.Piles.{Bears};
-ghost use Rattle.handle_table.specs.Parting.{AbsorbsAll};
-ghost use Rattle.handle_table.specs.Tables.{AllVacant};
+ghost use Rattle.handle_table.specs.Parting.{AbsorbsAll, IsNew, IsPartedInto, WhyFewer};
+ghost use Rattle.handle_table.specs.Programs.{IsClosed, IsManned, Works};
+ghost use Rattle.handle_table.specs.Tables.{AllVacant, Fits};
 
 use crate::slots::open_slots;
 use crate::table::{HandleTable, Home};
@@ -32,11 +33,26 @@ pub struct Team {
     pub blocks: u32,
 }
 
-/// What a program's run left: the census of its domain, and how many workers had a table.
+/// Tables for a team, and why they are fewer than its workers, where they are.
+pub struct Crew<'d, V: Drop + Send, H: Home> {
+    pub tables: Vec<HandleTable<'d, V, H>, Global>,
+    pub fewer: Option<Refusal>,
+}
+
+/// How many workers of a team had a table, and why they are fewer than were asked for, where they are.
+#[derive(Clone, Copy, Drop)]
+pub struct Manned {
+    pub workers: usize,
+    pub fewer: Option<Refusal>,
+}
+
+/// What a program's run left: the census of its domain, how many workers had a table, and why they are fewer than were asked
+/// for, where they are.
 #[derive(Drop)]
 pub struct Ran<V: Drop + Send> {
     pub census: Census<V>,
     pub workers: usize,
+    pub fewer: Option<Refusal>,
 }
 
 /// The table of a domain's first desk.
@@ -62,23 +78,42 @@ fn first_table<'d, V: Drop + Send, H: Home>(
 }
 
 impl<'d, V: Drop + Send, H: Home> HandleTable<'d, V, H> {
-    /// So many further tables of the domain, each with its part of the allowance and of the vacant blocks; fewer where there
-    /// isn't enough for all of them (own). `None` only where a growth was really refused.
-    pub fn team(&mut self, alloc: Global, team: Team) -> Option<Vec<HandleTable<'d, V, H>>>
-        ensures slots { self.new.slots ≡ self.old.slots }
-        ensures endings { self.new.endings ≡ self.old.endings }
+    /// A table for each worker of a team, with its part of the allowance and of the vacant blocks (own). Where one is refused,
+    /// as a split is, the tables are fewer, and `fewer` says why.
+    pub fn team(&mut self, alloc: Global, team: Team) -> Crew<'d, V, H>
+        ensures parts { IsPartedInto self.old.desk team.allowance team.blocks result.tables.items self.new.desk }
+        ensures new { All (IsNew team.slots) result.tables.items }
+        ensures rest { (self.new.slots ≡ self.old.slots) × (self.new.endings ≡ self.old.endings) }
+        ensures manned { IsManned team.workers (length result.tables.items) result.fewer }
+        ensures fewer { IfSome result.fewer (WhyFewer self.new.desk team.allowance team.blocks) }
     {
+        if team.workers == 0 {
+            return Crew {
+                tables: Vec::new(alloc),
+                fewer: None,
+            };
+        }
         let Ok(mut tables) = Vec::with_capacity(alloc, team.workers) else {
-            return None;
+            return Crew {
+                tables: Vec::new(alloc),
+                fewer: Some(Refusal::Memory),
+            };
         };
         while tables.len() < team.workers {
-            let from = self.slots.len();
-            match self.split(alloc, from, team.allowance, team.blocks) {
+            match self.recruit(alloc, team.slots, team.allowance, team.blocks) {
                 Ok(table) => tables.push_reserved(table),
-                Err(_) => return Some(tables),
+                Err(why) => {
+                    return Crew {
+                        tables,
+                        fewer: Some(why),
+                    };
+                }
             }
         }
-        Some(tables)
+        Crew {
+            tables,
+            fewer: None,
+        }
     }
 
     /// All of these tables are absorbed, the last one first (own).
@@ -93,29 +128,62 @@ impl<'d, V: Drop + Send, H: Home> HandleTable<'d, V, H> {
     }
 }
 
-/// The workers of a team work, each in a thread, and all they leave comes back; how many had a table.
+/// Each worker of a team works, in a thread with a table of its own.
+fn lend_all<'d, V: Drop + Send, H: Home + Send + Sync, R: Threads + Wait + Sync, P: Program<V, R> + Sync>(
+    rt: &R,
+    tables: &mut Vec<HandleTable<'d, V, H>>,
+    threads: usize,
+    program: &P,
+)
+    ensures { length tables.new.items ≡ length tables.old.items }
+{
+    for_each_mut(
+        rt,
+        tables.as_mut_slice(),
+        threads.max(1),
+        &|i, t| { program.work::<H>(rt, i, t) },
+    );
+}
+
+impl<'d, V: Drop + Send, H: Home + Send + Sync> HandleTable<'d, V, H> {
+    /// The workers of a team work, each in a thread with a table of its own, and all they leave comes back: the handles in their
+    /// slots leave, and what is left to end does so (own). It says how many had a table, and why they are fewer than were
+    /// asked for, where they are.
+    pub(crate) fn scope<R: Threads + Wait + Sync, P: Program<V, R> + Sync>(
+        &mut self,
+        rt: &R,
+        alloc: Global,
+        team: Team,
+        program: &P,
+    ) -> Manned
+        ensures works { Works self.old team result self.new }
+        ensures manned { IsManned team.workers result.workers result.fewer }
+    {
+        let crew = self.team(alloc, team);
+        let Crew { tables, fewer } = crew;
+        let mut tables = tables;
+        let workers = tables.len();
+        lend_all(rt, &mut tables, team.workers, program);
+        self.absorb_all(rt, tables);
+        Manned { workers, fewer }
+    }
+}
+
+/// The workers of a team work, and the desk that has all they leave closes the domain.
 fn run_at<V: Drop + Send, H: Home + Send + Sync, R: Threads + Wait + Sync, P: Program<V, R> + Sync>(
     rt: &R,
     alloc: Global,
     table: HandleTable<'_, V, H>,
     team: Team,
     program: &P,
-) -> (Desk<V>, usize)
-    ensures { Belongs result.0 H.domain }
+) -> (Desk<V>, Manned)
+    ensures here { Belongs result.0 H.domain }
+    ensures none { Fits result.0 [] × (endings_of result.0 ≡ 0) }
+    ensures manned { IsManned team.workers result.1.workers result.1.fewer }
 {
     let mut table = table;
-    let mut workers = 0;
-    if let Some(mut tables) = table.team(alloc, team) {
-        workers = tables.len();
-        for_each_mut(
-            rt,
-            tables.as_mut_slice(),
-            team.workers.max(1),
-            &|i, t| { program.work::<H>(rt, i, t) },
-        );
-        table.absorb_all(rt, tables);
-    }
-    (table.into_desk(rt), workers)
+    let manned = table.scope(rt, alloc, team, program);
+    (table.into_desk(rt), manned)
 }
 
 /// The program in a domain with its first desk.
@@ -128,12 +196,14 @@ fn run_in<V: Drop + Send, H: Home + Send + Sync, R: Threads + Wait + Sync, P: Pr
     pile: Pile<V>,
     team: Team,
     program: &P,
-) -> (Desk<V>, usize)
+) -> (Desk<V>, Manned)
     requires home { domain.now ≡ H.domain }
     requires desk { Begins domain.now desk }
     requires slots { AllVacant slots.items }
     requires pile { (d : DeskNow V) → Belongs d domain.now → endings_of d ≡ 0 → Bears domain.now d pile }
-    ensures { Belongs result.0 domain.now }
+    ensures here { Belongs result.0 domain.now }
+    ensures none { Fits result.0 [] × (endings_of result.0 ≡ 0) }
+    ensures manned { IsManned team.workers result.1.workers result.1.fewer }
 {
     let table = first_table::<V, H>(domain, desk, slots, pile);
     run_at(rt, alloc, table, team, program)
@@ -149,9 +219,32 @@ fn shut<V: Drop + Send>(domain: Domain<V>, desk: Desk<V>)
     }
 }
 
+/// A desk without handles closes its domain. Where it has not the whole allowance it is given up.
+fn close_bare<V: Drop + Send>(domain: Domain<V>, desk: Desk<V>) -> Result<Census<V>, Refusal>
+    requires here { Belongs desk domain }
+    requires none { Fits desk [] × (endings_of desk ≡ 0) }
+    ensures closed { IfOk result (IsClosed V domain.shape) }
+    ensures refused { IfErr result (λ why. why ≡ Refusal.NotSole) }
+{
+    desk.stands();
+    match close(domain, desk) {
+        Ok(census) => Ok(census),
+        Err(refused) => {
+            let Refused {
+                why,
+                back: (domain, desk),
+            } = refused;
+            desk.give_up();
+            drop(domain);
+            Err(why)
+        }
+    }
+}
+
 /// A domain is opened, each worker of the team does its part of the program in a thread with a table of its own, and the domain
-/// is closed (own). The handles that a worker leaves in its slots leave, and what is left to end does so. It is refused as
-/// `open` is.
+/// is closed (own). The handles that a worker leaves in its slots leave, and what is left to end does so. It is refused
+/// `Shape` just where the shape is outside the limits, `Memory` only where a growth was really refused, and `NotSole`
+/// where a worker kept a table for itself.
 pub fn run<V: Drop + Send, R: Threads + Wait + Sync, P: Program<V, R> + Sync>(
     rt: &R,
     alloc: Global,
@@ -159,7 +252,11 @@ pub fn run<V: Drop + Send, R: Threads + Wait + Sync, P: Program<V, R> + Sync>(
     team: Team,
     program: &P,
 ) -> Result<Ran<V>, Refusal>
-    ensures { IfErr result (λ why. why ≡ Refusal.Shape → IsWithinLimits shape → ⊥) }
+    ensures closed { IfOk result (λ r. IsClosed V shape r.census) }
+    ensures manned { IfOk result (λ r. IsManned team.workers r.workers r.fewer) }
+    ensures within { IfOk result (λ _. IsWithinLimits shape) }
+    ensures shape { IfErr result (λ why. why ≡ Refusal.Shape ↔ (IsWithinLimits shape → ⊥)) }
+    ensures refused { IfErr result (λ why. (why ≡ Refusal.Shape) ⊎ ((why ≡ Refusal.Memory) ⊎ (why ≡ Refusal.NotSole))) }
 {
     let (domain, desk) = open::<V>(alloc, shape)?;
     let Ok(mut slots) = Vec::with_capacity(alloc, team.slots) else {
@@ -175,19 +272,15 @@ pub fn run<V: Drop + Send, R: Threads + Wait + Sync, P: Program<V, R> + Sync>(
         }
     };
     open_slots(&mut slots, team.slots);
-    let (desk, workers) = run_in::<V, Brand, R, P>(
+    let (desk, manned) = run_in::<V, Brand, R, P>(
         rt, alloc, &domain, desk, slots, pile, team, program,
     );
-    match close(domain, desk) {
-        Ok(census) => Ok(Ran { census, workers }),
-        Err(refused) => {
-            let Refused {
-                why,
-                back: (domain, desk),
-            } = refused;
-            desk.give_up();
-            drop(domain);
-            Err(why)
-        }
+    match close_bare(domain, desk) {
+        Ok(census) => Ok(Ran {
+            census,
+            workers: manned.workers,
+            fewer: manned.fewer,
+        }),
+        Err(why) => Err(why),
     }
 }

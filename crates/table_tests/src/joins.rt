@@ -33,7 +33,7 @@ fn has_all<R: Abort + Wait, H: Home>(rt: &R, table: &mut HandleTable<'_, u64, H>
 }
 
 /// The other table is joined, which can't be refused.
-fn come_together<'d, R: Abort + Wait, H: Home>(
+pub(crate) fn come_together<'d, R: Abort + Wait, H: Home>(
     rt: &R,
     table: &mut HandleTable<'d, u64, H>,
     other: HandleTable<'d, u64, H>,

@@ -14,8 +14,14 @@ mod joins;
 #[cfg(test)]
 mod looks;
 #[cfg(test)]
+mod memory;
+#[cfg(test)]
 mod observers;
 #[cfg(test)]
 mod pointers;
 #[cfg(test)]
 mod scene;
+#[cfg(test)]
+mod splits;
+#[cfg(test)]
+mod teams;

@@ -1,0 +1,55 @@
+-- Tables for a team, and how the desk that has all they leave closes its domain.
+use Rattle.std.proofs.Common.{◌≡◌, ℕ, List, [], ◌∷◌, ◌++◌, ap, length, refl, subst, sym, ◌∙◌}
+use Rattle.std.proofs.lemmas.List.{nil_from_length}
+use Rattle.control_word.specs.declared.shape.Shape.{Shape}
+use Rattle.control_word.specs.Histories.{IsLegal}
+use Rattle.control_block.specs.Census.{CensusNow, TellsAll}
+use Rattle.control_block.specs.Desks.{Belongs, DeskNow, DomainNow, allowance_of, bag_of, endings_of, state_of}
+use Rattle.control_block.specs.Parting.{SplitsOff}
+use Rattle.control_block.specs.Rule.{opening_of}
+use Rattle.control_block.specs.Standing.{Standing}
+use Rattle.handle_table.proofs.Filling.{total_one}
+use Rattle.handle_table.specs.Parting.{AbsorbsAll, IsNew, IsPartedInto, WhyFewer}
+use Rattle.handle_table.specs.Programs.{IsClosed, Works}
+use Rattle.handle_table.specs.Tables.{Fits, TableNow}
+use Rattle.handle_table.specs.declared.program.Manned.{Manned}
+use Rattle.handle_table.specs.declared.program.Team.{Team}
+use Rattle.std.specs.Prelude.{All, IfSome}
+
+module _ {V : Type 0} where
+  -- one table more
+  pub parted_more : (d m e : DeskNow V) (a k : ℕ) (ts : List (TableNow V)) (t : TableNow V) → IsPartedInto d a k ts m → SplitsOff m a k [] e t.desk
+      → IsPartedInto d a k (ts ++ t ∷ []) e
+  parted_more d m e a k [] t is parts = (e, subst (λ (x : DeskNow V). SplitsOff x a k [] e t.desk) is parts, refl)
+  parted_more d m e a k (s ∷ ts) t is parts = (is.0, is.1, parted_more is.0 m e a k ts t is.2 parts)
+
+  -- the tables that were lent came back, and were absorbed
+  pub works : (t x u : TableNow V) (team : Team) (manned : Manned) (lent left : List (TableNow V)) → IsPartedInto t.desk team.allowance team.blocks lent x.desk
+      → All (IsNew team.slots) lent → (x.slots ≡ t.slots) × (x.endings ≡ t.endings) → IfSome manned.fewer (WhyFewer x.desk team.allowance team.blocks)
+      → length lent ≡ manned.workers → length left ≡ length lent → AbsorbsAll x left u → Works t team manned u
+  works t x u team manned lent left parts new rest fewer many same absorbs =
+      let is : x ≡ record t { desk = x.desk } = λ i. record { desk = x.desk; slots = rest.0 i; endings = rest.1 i } in
+      record {
+        lent = lent;
+        between = x.desk;
+        parts = parts;
+        new = new;
+        fewer = fewer;
+        left = left;
+        many = (many, same ∙ many);
+        absorbs = subst (λ (y : TableNow V). AbsorbsAll y left u) is absorbs;
+      }
+
+  -- a sole desk without handles closed its domain
+  pub closed : (domain : DomainNow) (d : DeskNow V) (c : CensusNow) → Belongs d domain → Standing d → Fits d [] → endings_of d ≡ 0
+      → allowance_of d ≡ domain.shape.allowance → c.blocks ≡ domain.shape.blocks → TellsAll (state_of d) domain.shape.blocks c → IsClosed V domain.shape c
+  closed domain d c here stands fits none sole blocks tells =
+      record {
+        last = d;
+        of = here.shape;
+        sole = sole ∙ sym (ap (λ (s : Shape). s.allowance) here.shape);
+        legal = subst (λ (s : Shape). IsLegal (opening_of s) d.seen) here.shape stands.legal;
+        bare = (nil_from_length (bag_of d) (sym (total_one (bag_of d)) ∙ fits.bag (λ h. 1)), fits.held, none);
+        blocks = blocks;
+        tells = tells;
+      }

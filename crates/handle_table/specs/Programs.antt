@@ -1,0 +1,42 @@
+-- What is said of programs whose workers have tables.
+use Rattle.std.specs.Prelude.{◌≡◌, ℕ, ◌<◌, All, List, [], length, Option, None, Some, IfSome}
+use Rattle.control_word.specs.declared.refusal.Refusal.{Refusal}
+use Rattle.control_word.specs.declared.shape.Shape.{Shape}
+use Rattle.control_word.specs.Histories.{IsLegal}
+use Rattle.control_block.specs.Census.{CensusNow, TellsAll}
+use Rattle.control_block.specs.Desks.{DeskNow, bag_of, endings_of, state_of}
+use Rattle.control_block.specs.Own.{IsSole}
+use Rattle.control_block.specs.Rule.{opening_of}
+use Rattle.handle_table.specs.Parting.{AbsorbsAll, IsNew, IsPartedInto, WhyFewer}
+use Rattle.handle_table.specs.Tables.{TableNow}
+use Rattle.handle_table.specs.declared.program.Manned.{Manned}
+use Rattle.handle_table.specs.declared.program.Team.{Team}
+
+-- so many workers had a table: all that were asked for, or fewer and why
+abbrev pub IsManned : ℕ → ℕ → Option Refusal → Type 0
+IsManned asked had None = had ≡ asked
+IsManned asked had (Some why) = had < asked
+
+module _ {V : Type 0} where
+  -- tables of a desk's parts were lent to workers, so many as had one, and absorbed as these left them
+  pub record Works (t : TableNow V) (team : Team) (manned : Manned) (u : TableNow V) : Type 0 where
+    pub lent : List (TableNow V)
+    pub between : DeskNow V
+    pub parts : IsPartedInto t.desk team.allowance team.blocks lent between
+    pub new : All (IsNew team.slots) lent
+    pub fewer : IfSome manned.fewer (WhyFewer between team.allowance team.blocks)
+    pub left : List (TableNow V)
+    pub many : (length lent ≡ manned.workers) × (length left ≡ manned.workers)
+    pub absorbs : AbsorbsAll (record t { desk = between }) left u
+
+module _ (V : Type 0) where
+  -- A domain was closed by a desk that had the whole allowance, so that every other one was joined and it has seen all. No
+  -- handle was left with it and nothing to end; and the census tells of all blocks
+  pub record IsClosed (shape : Shape) (c : CensusNow) : Type 0 where
+    pub last : DeskNow V
+    pub of : last.shape ≡ shape
+    pub sole : IsSole last
+    pub legal : IsLegal (opening_of shape) last.seen
+    pub bare : (bag_of last ≡ []) × (last.held ≡ 0) × (endings_of last ≡ 0)
+    pub blocks : c.blocks ≡ shape.blocks
+    pub tells : TellsAll (state_of last) shape.blocks c

@@ -1,0 +1,58 @@
+//! Growths that are refused. `tests/refuse_allocations` runs these with each allocation refused in turn.
+use crate::joins::come_together;
+use control_word::{Refusal, Shape};
+use handle_table::{Fault, HandleTable, Home, Program, Team, run};
+use std::alloc::Global;
+use std::process::Abort;
+use std::sync::Wait;
+use std::test::Fail;
+use std::thread::Threads;
+
+/// The table has its handles, its whole allowance and its vacant block.
+fn has_all<R: Abort, H: Home>(rt: &R, table: &mut HandleTable<'_, u64, H>) {
+    assert_eq!(rt; table.read(0), Ok(1));
+    assert_eq!(rt; table.use_count(2), Ok(2));
+    assert!(rt; table.make(1, [3; 4], false, 3).is_ok());
+    assert_eq!(rt; table.copy(0, 3), Ok(()));
+    assert_eq!(rt; table.copy(0, 4), Err(Fault::Call(Refusal::Limit)));
+}
+
+#[derive(Drop)]
+struct Splits {
+    alloc: Global,
+}
+
+impl<R: Abort + Threads + Wait + Sync> Program<u64, R> for Splits {
+    fn work<H: Home>(&self, rt: &R, _number: usize, table: &mut HandleTable<'_, u64, H>) {
+        assert!(rt; table.make(0, [1; 4], false, 1).is_ok());
+        assert_eq!(rt; table.copy(0, 2), Ok(()));
+        match table.split(self.alloc, 2, 2, 1) {
+            Ok(other) => come_together(rt, table, other),
+            Err(why) => assert_eq!(rt; why, Fault::Call(Refusal::Memory)),
+        }
+        has_all(rt, table);
+    }
+}
+
+#[test]
+fn a_refused_split_changes_nothing(rt: HostRuntime) -> Result<(), Fail> {
+    let shape = Shape {
+        blocks: 3,
+        shared_cells: 0,
+        weak_cells: 0,
+        allowance: 6,
+    };
+    let team = Team {
+        workers: 1,
+        slots: 5,
+        allowance: 4,
+        blocks: 2,
+    };
+    let program = Splits { alloc: rt.alloc() };
+    let ran = run(&rt, rt.alloc(), shape, team, &program)?;
+    if let Some(why) = ran.fewer {
+        return Err(why.into());
+    }
+    assert_eq!(rt; ran.census.vacant(), 3);
+    Ok(())
+}
