@@ -129,12 +129,13 @@ impl<'d, V: Drop + Send, H: Home> HandleTable<'d, V, H> {
 }
 
 /// Each worker of a team works, in a thread with a table of its own.
-fn lend_all<'d, V: Drop + Send, H: Home + Send + Sync, R: Threads + Wait + Sync, P: Program<V, R> + Sync>(
-    rt: &R,
-    tables: &mut Vec<HandleTable<'d, V, H>>,
-    threads: usize,
-    program: &P,
-)
+fn lend_all<
+    'd,
+    V: Drop + Send,
+    H: Home + Send + Sync,
+    R: Threads + Wait + Sync,
+    P: Program<V, R> + Sync,
+>(rt: &R, tables: &mut Vec<HandleTable<'d, V, H>>, threads: usize, program: &P)
     ensures { length tables.new.items ≡ length tables.old.items }
 {
     for_each_mut(
