@@ -15,7 +15,7 @@ use Rattle.control_word.proofs.history.Soundness.{IsBusy, OwnersFit, Sound}
 use Rattle.control_word.proofs.lists.Parts.{has_part}
 use Rattle.control_word.proofs.lists.Tallies.{put_again, put_same, same_kind_true, same_number_true, tally_append, tally_here, tally_without}
 use Rattle.control_word.specs.Events.{Asks, after, cell_of, moved_to}
-use Rattle.control_word.specs.Handles.{handle, is_on, object_of, owner, same_kind, same_number}
+use Rattle.control_word.specs.Handles.{handle, is_on, object_of, same_kind, same_number}
 use Rattle.control_word.specs.Histories.{IsLegal, entry, leads}
 use Rattle.control_word.specs.State.{Has, Held, IsActing, Opening, Phase, State, bag, common, count, ending, gone, held, in_cells, live, members, same_held}
 use Rattle.control_word.specs.State.{tally, unmade, upto, without}

@@ -1,8 +1,7 @@
-use Rattle.std.proofs.Common.{◌≡◌, Option, Some, sym, ap, subst, ◌∙◌}
+use Rattle.std.proofs.Common.{◌≡◌, Option, Some, sym, subst, ◌∙◌}
 use Rattle.control_word.specs.Events.{place_at}
 use Rattle.control_word.specs.declared.handle.Kind.TheVariants.{Owner}
 use Rattle.control_word.specs.declared.place.Block.{Block}
-use Rattle.control_word.specs.declared.place.Place.{Place}
 use Rattle.control_block.specs.CellCalls.{with_handle}
 use Rattle.control_block.specs.Desks.{bag_of}
 use Rattle.shared_handle.specs.Calls.{Holds, Shares}
