@@ -21,3 +21,5 @@ pub mod Parents
 pub mod Walks
 pub mod Still
 pub mod Told
+pub mod Slots
+pub mod RunsDown

@@ -8,3 +8,4 @@ pub mod Observers
 pub mod Scenes
 pub mod Parents
 pub mod Walks
+pub mod Teardowns

@@ -4,13 +4,16 @@
 
 mod attaching;
 mod climbing;
+mod ended;
 mod endings;
 mod observers;
 mod pause;
 mod popping;
 mod pushing;
+mod rounds;
 mod scene;
 mod stack;
+mod teardown;
 mod walking;
 
 pub use observers::Observers;

@@ -14,4 +14,6 @@ mod refusals;
 #[cfg(test)]
 mod stacks;
 #[cfg(test)]
+mod teardowns;
+#[cfg(test)]
 mod trees;

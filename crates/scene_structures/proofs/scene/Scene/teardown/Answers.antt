@@ -1,0 +1,47 @@
+use Rattle.std.proofs.Common.{◌+◌, ◌∙◌, ap, sym, subst}
+use Rattle.shared_handle.specs.Piles.{Drops}
+use Rattle.shared_handle.specs.declared.pile.Gone.{Gone}
+use Rattle.shared_handle.specs.declared.pile.Gone.TheVariants.{Empty, Others}
+use Rattle.shared_handle.specs.declared.pile.Pile.{Pile}
+use Rattle.scene_structures.specs.Teardowns.{HasRoom, TearsDown}
+use Rattle.scene_structures.specs.declared.ended.Ended.{Ended}
+use Rattle.scene_structures.proofs.RunsDown.{out_rest, out_root, tears_down}
+use Rattle.scene_structures.proofs.scene.Scene.teardown.Goals as goal
+use Rattle.scene_structures.proofs.scene.Scene.teardown.Goals.{in-Last, in-Empty, in-Others}
+
+pub run_down-requires-clause-room : goal.run_down-requires-clause-room
+run_down-requires-clause-room g c κs within =
+    let n = c.args.domain.now.shape.blocks + 1 in
+    let first : HasRoom n c.in-Ok.ended = subst (λ k. HasRoom (k + 1) c.in-Ok.ended) c.blocks-2.ensures c.in-Ok.ensures.room in
+    elim c.match-drop_shared.branch [
+      | in-Last w ↦ subst (HasRoom n) (sym w.ended-is) (w.begin.ensures.room n first)
+      | in-Empty w ↦ subst (HasRoom n) (sym w.ended-is) first
+      | in-Others w ↦ subst (HasRoom n) (sym w.ended-is) first
+    ]
+
+pub returns-clause-ends : goal.returns-clause-ends
+returns-clause-ends g c =
+    let V = g.row.V.Denot in
+    let d = c.args.desk.now in let m = c.drop_shared.new.desk in let e = c.run_down.new.desk in let root = c.args.root in
+    let xs = c.self.inside.pile.endings.items in let ps = c.drop_shared.new.pile.endings.items in let ys = c.run_down.new.pile.endings.items in
+    let ss = c.match-drop_shared.ended.slots.items in let ts = c.run_down.new.ended.slots.items in let values = c.into_values.result.items in
+    let blocks = c.args.domain.now.shape.blocks in let none = c.in-Ok.ensures.none.0 in let left = c.drop_shared.ensures.left in
+    let runs = c.run_down.ensures.rounds in
+    subst (λ (p : Pile V). TearsDown blocks d p.endings.items root values e ys) c.self.view_is (elim c.match-drop_shared.branch [
+      | in-Last w ↦ (
+          let drops = subst (λ (k : Gone). Drops d xs root.block root.place k m ps) w.in-Last.is left in
+          let more = ap (λ (x : Ended V). x.slots.items) w.ended-is ∙ w.begin.ensures.slots in
+          let z = out_root d m xs ps root.block root.place c.in-Ok.ended.slots.items ss drops none more in
+          tears_down blocks d m e xs ps ys root _ ss ts values drops z.0 z.1 z.2 runs c.into_values.ensures
+          )
+      | in-Empty w ↦ (
+          let drops = subst (λ (k : Gone). Drops d xs root.block root.place k m ps) w.in-Empty.is left in
+          let z = out_rest d m xs ps root.block root.place Empty ss (λ same. cc same) drops (ap (λ (x : Ended V). x.slots.items) w.ended-is ∙ none) in
+          tears_down blocks d m e xs ps ys root _ ss ts values drops z.0 z.1 z.2 runs c.into_values.ensures
+          )
+      | in-Others w ↦ (
+          let drops = subst (λ (k : Gone). Drops d xs root.block root.place k m ps) w.in-Others.is left in
+          let z = out_rest d m xs ps root.block root.place Others ss (λ same. cc same) drops (ap (λ (x : Ended V). x.slots.items) w.ended-is ∙ none) in
+          tears_down blocks d m e xs ps ys root _ ss ts values drops z.0 z.1 z.2 runs c.into_values.ensures
+          )
+    ])

@@ -1,0 +1,139 @@
+//! Trees that end.
+ghost use Rattle.std.specs.Prelude.{◌≡◌, []};
+ghost use Rattle.control_word.specs.declared.handle.Kind.TheVariants.{Owner};
+ghost use Rattle.control_block.specs.Desks.{Belongs, IsSameDesk, bag_of, endings_of};
+ghost use Rattle.shared_handle.specs.Calls.{Holds};
+ghost use Rattle.scene_structures.specs.Stacks.{Serves};
+
+use crate::observing::subject;
+use crate::parts::{opened, shut, spend};
+use control_block::desk::Desk;
+use control_block::domain::Domain;
+use control_word::Refused;
+use scene_structures::Scene;
+use shared_handle::{Pile, Shared};
+use std::alloc::Global;
+use std::sync::Wait;
+use std::test::Fail;
+
+// A child with this value is left to its parent: whether there is one.
+fn grow<R: Wait>(
+    rt: &R,
+    domain: &Domain<u64>,
+    desk: &mut Desk<u64>,
+    scene: &mut Scene<u64>,
+    parent: &Shared,
+    value: u64,
+    pile: &mut Pile<u64>,
+) -> bool
+    requires domain { Belongs desk.old domain.now }
+    requires scene { Serves domain.now scene.old × (scene.old.endings.items ≡ []) }
+    requires pile { Serves domain.now pile.old × (pile.old.endings.items ≡ []) }
+    requires settled { endings_of desk.old ≡ 0 }
+    requires holds { Holds desk.old Owner parent.now.block parent.now.place }
+    ensures scene { Serves domain.now scene.new × (scene.new.endings.items ≡ []) }
+    ensures pile { Serves domain.now pile.new × (pile.new.endings.items ≡ []) }
+    ensures settled { endings_of desk.new ≡ 0 }
+    ensures desk { IsSameDesk desk.old desk.new }
+    ensures bag { bag_of desk.new ≡ bag_of desk.old }
+    ensures held { desk.new.held ≡ desk.old.held }
+{
+    match scene.add_child(rt, domain, desk, parent, [value, 0, 0, 0], value) {
+        Ok(child) => {
+            spend(rt, domain, desk, child, pile);
+            true
+        }
+        Err(refused) => {
+            let Refused { why: _, back: _ } = refused;
+            false
+        }
+    }
+}
+
+// Waits until nothing is left on the scene's pile.
+fn settled<R: Wait>(rt: &R, scene: &Scene<u64>)
+    ensures { scene.now.endings.items ≡ [] }
+{
+    for _ in rt.forever() {
+        if scene.is_settled() {
+            return;
+        }
+    }
+    unreachable!()
+}
+
+// A root 1 with the children 3 and 2, and 4 below 3, ends: the values of what ends by that.
+fn fell<R: Wait>(
+    rt: &R,
+    alloc: Global,
+    domain: &Domain<u64>,
+    desk: &mut Desk<u64>,
+    scene: &mut Scene<u64>,
+    pile: &mut Pile<u64>,
+) -> Option<Vec<u64>>
+    requires domain { Belongs desk.old domain.now }
+    requires scene { Serves domain.now scene.old × (scene.old.endings.items ≡ []) }
+    requires pile { Serves domain.now pile.old × (pile.old.endings.items ≡ []) }
+    requires settled { endings_of desk.old ≡ 0 }
+    ensures scene { scene.new.endings.items ≡ [] }
+    ensures pile { pile.new.endings.items ≡ [] }
+    ensures desk { IsSameDesk desk.old desk.new }
+{
+    let root = subject(domain, desk, 1)?;
+    let second = grow(rt, domain, desk, scene, &root, 2, pile);
+    match scene.add_child(rt, domain, desk, &root, [3, 0, 0, 0], 3) {
+        Ok(third) => {
+            let fourth = grow(rt, domain, desk, scene, &third, 4, pile);
+            spend(rt, domain, desk, third, pile);
+            match scene.teardown(alloc, domain, desk, root) {
+                Ok(values) => {
+                    settled(rt, scene);
+                    if second && fourth { Some(values) } else { None }
+                }
+                Err(refused) => {
+                    let Refused { why: _, back } = refused;
+                    spend(rt, domain, desk, back, pile);
+                    None
+                }
+            }
+        }
+        Err(refused) => {
+            let Refused { why: _, back: _ } = refused;
+            spend(rt, domain, desk, root, pile);
+            None
+        }
+    }
+}
+
+// The same in a domain of its own, and how many blocks are vacant in the end.
+fn fell_alone<R: Wait>(rt: &R, alloc: Global) -> Option<(Option<Vec<u64>>, u32)> {
+    let (domain, mut desk) = opened(alloc, 4, 16)?;
+    let Ok(mut scene) = Scene::new(alloc, &domain) else {
+        shut(domain, desk);
+        return None;
+    };
+    let Ok(mut pile) = Pile::new(alloc, &domain) else {
+        scene.close();
+        shut(domain, desk);
+        return None;
+    };
+    let values = fell(rt, alloc, &domain, &mut desk, &mut scene, &mut pile);
+    scene.close();
+    pile.close();
+    Some((values, shut(domain, desk)))
+}
+
+#[test]
+fn values_come_in_the_order_of_the_ends(rt: HostRuntime) -> Result<(), Fail> {
+    let (felled, vacant) = match fell_alone(&rt, rt.alloc()) {
+        Some(told) => told,
+        None => (None, 0),
+    };
+    let values = match felled {
+        Some(values) => values,
+        None => Vec::new(rt.alloc()),
+    };
+    assert_eq!(rt; values.as_slice(), [1, 3, 4, 2].as_slice());
+    assert_eq!(rt; vacant, 4);
+    Ok(())
+}
