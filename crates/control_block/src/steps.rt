@@ -1,5 +1,4 @@
-//! Each kind of step, as a function. Objects go by their numbers, which the proof of a call picks; words are those
-//! of the object's block.
+//! Each kind of step, as a function. Objects go by numbers, which the proof of a call picks; words are their blocks'.
 ghost use Rattle.std.specs.Prelude.{◌≡◌, ℕ, ◌+◌, ◌<◌, ◌≤◌, ◌==◌, false, List, [], ◌∷◌, length, slice_set, Option, None, Some, is_some, IfSome};
 ghost use Rattle.control_word.specs.Histories.{value};
 ghost use Rattle.control_block.specs.Rule.{opening_of};
@@ -46,8 +45,7 @@ pub fn share<V, M: StepArgs>(board: &Board<V>, chair: &mut Chair<V>, block: Bloc
     board.fetch_add::<Shares<M>>(chair, block_word(block, OWNERS), 1);
 }
 
-/// Weak share: one weak handle more, under a handle that the desk holds or an ending of its
-/// ([util.smartptr.weak.const], [util.smartptr.enab]).
+/// Weak share: one weak handle more, under a handle of the desk or an ending ([util.smartptr.weak.const], [util.smartptr.enab]).
 pub fn share_weak<V, M: StepArgs>(board: &Board<V>, chair: &mut Chair<V>, block: Block)
     requires board { chair.old.table_id ≡ board.now.table_id }
     requires rests { Rests chair.old.me }

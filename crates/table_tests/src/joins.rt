@@ -74,7 +74,7 @@ struct Joins {
 impl<R: Abort + Threads + Wait + Sync> Program<u64, R> for Joins {
     fn work<H: Home>(&self, rt: &R, _number: usize, table: &mut HandleTable<'_, u64, H>) {
         assert!(rt; table.make(2, [2; 4], false, 2).is_ok());
-        match table.split(self.alloc, 2, 2, 2) {
+        match table.split(self.alloc, 2, 2, 1) {
             Ok(mut other) => {
                 fill(rt, table, &mut other);
                 assert_eq!(rt; table.copy(1, 2), Ok(()));
