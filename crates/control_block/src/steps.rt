@@ -70,8 +70,7 @@ pub fn leave_weak<V, M: StepArgs>(board: &Board<V>, chair: &mut Chair<V>, block:
     leaving::leave_weak::<V, M>(board, chair, block, 0)
 }
 
-/// Look: `use_count` ([util.smartptr.shared.obs]). A desk that has the whole allowance is told the count itself; else
-/// it is 0 just where there is no owner, and at most the count.
+/// Look: `use_count` ([util.smartptr.shared.obs]): the count, for a desk with the whole allowance; else 0 just at none, or less.
 pub fn count<V, M: StepArgs>(board: &Board<V>, chair: &mut Chair<V>, block: Block) -> u32
     requires board { chair.old.table_id ≡ board.now.table_id }
     requires rests { Rests chair.old.me }
