@@ -1,9 +1,10 @@
-//! Four threads that push on one stack, and then pop from it till it is empty.
+//! Four threads, each with a desk of its own, that share a stack or observers.
 ghost use Rattle.std.specs.Prelude.{◌≡◌, ◌+◌, ◌<◌, ◌≤◌, [], IfSome, MatchOption, length};
 ghost use denote.Param.Send.{IsSync};
 ghost use Rattle.control_block.specs.Desks.{Belongs, IsSameDesk, allowance_of, endings_of, stock_of};
 ghost use Rattle.scene_structures.specs.Stacks.{Serves, StandsIn};
 
+use crate::attached::attach_all;
 use crate::parts::{opened, pop, push, shut};
 use control_block::desk::Desk;
 use control_block::domain::Domain;
@@ -15,23 +16,30 @@ use std::sync::Wait;
 use std::test::Fail;
 use std::thread::{Threads, join_mut};
 
-// How many nodes came out, and the sum of their fields.
+// What each thread does: it pushes 250 nodes and pops till none is found, or it attaches 250 nodes to the subject aside.
 #[derive(Clone, Copy, Drop)]
-struct Popped {
-    nodes: u64,
-    sum: u64,
+pub(crate) enum Task {
+    PushAndPop,
+    Attach,
 }
 
-impl Popped {
-    fn and(self, other: Popped) -> Popped {
-        Popped {
+// How many nodes came out or were attached, and the sum of the fields of those that came out.
+#[derive(Clone, Copy, Drop)]
+pub(crate) struct Tally {
+    pub(crate) nodes: u64,
+    pub(crate) sum: u64,
+}
+
+impl Tally {
+    pub(crate) fn and(self, other: Tally) -> Tally {
+        Tally {
             nodes: self.nodes.wrapping_add(other.nodes),
             sum: self.sum.wrapping_add(other.sum),
         }
     }
 }
 
-const NONE: Popped = Popped { nodes: 0, sum: 0 };
+pub(crate) const NONE: Tally = Tally { nodes: 0, sum: 0 };
 
 // 250 nodes go on top, with fields from the first on.
 fn push_all<R: Wait>(
@@ -60,7 +68,7 @@ fn pop_all<R: Wait>(
     desk: &mut Desk<u64>,
     stack: &mut Stack<u64>,
     pile: &mut Pile<u64>,
-) -> Popped
+) -> Tally
     requires domain { Belongs desk.old domain.now }
     requires stands { StandsIn stack.old domain.now }
     requires serves { Serves domain.now pile.old }
@@ -75,7 +83,7 @@ fn pop_all<R: Wait>(
         let Some(field) = pop(rt, domain, desk, stack, pile) else {
             return all;
         };
-        all = all.and(Popped {
+        all = all.and(Tally {
             nodes: 1,
             sum: field,
         });
@@ -83,14 +91,14 @@ fn pop_all<R: Wait>(
     unreachable!()
 }
 
-// A thread's work: 250 pushes, and pops till none is found.
-fn work<R: Wait>(
+// 250 pushes, and pops till none is found.
+fn push_and_pop<R: Wait>(
     rt: &R,
     alloc: Global,
     domain: &Domain<u64>,
     desk: &mut Desk<u64>,
     first: u64,
-) -> Popped
+) -> Tally
     requires domain { Belongs desk.old domain.now }
     requires cell { 0 < domain.now.shape.shared_cells }
     requires settled { endings_of desk.old ≡ 0 }
@@ -111,17 +119,39 @@ fn work<R: Wait>(
     all
 }
 
+// A thread's work.
+fn work<R: Wait>(
+    rt: &R,
+    alloc: Global,
+    domain: &Domain<u64>,
+    desk: &mut Desk<u64>,
+    task: Task,
+    first: u64,
+) -> Tally
+    requires domain { Belongs desk.old domain.now }
+    requires cells { domain.now.shape.shared_cells ≡ 2 }
+    requires settled { endings_of desk.old ≡ 0 }
+    ensures settled { endings_of desk.new ≡ 0 }
+    ensures desk { IsSameDesk desk.old desk.new }
+{
+    match task {
+        Task::PushAndPop => push_and_pop(rt, alloc, domain, desk, first),
+        Task::Attach => attach_all(rt, alloc, domain, desk),
+    }
+}
+
 // Two desks, in a thread each.
 fn both<R: Threads + Wait + Sync>(
     rt: &R,
     alloc: Global,
     domain: &Domain<u64>,
+    task: Task,
     first: u64,
     one: &mut Desk<u64>,
     two: &mut Desk<u64>,
-) -> Popped
+) -> Tally
     requires domain { Belongs one.old domain.now × Belongs two.old domain.now }
-    requires cell { 0 < domain.now.shape.shared_cells }
+    requires cells { domain.now.shape.shared_cells ≡ 2 }
     requires settled { (endings_of one.old ≡ 0) × (endings_of two.old ≡ 0) }
     ensures settled { (endings_of one.new ≡ 0) × (endings_of two.new ≡ 0) }
     ensures one { IsSameDesk one.old one.new }
@@ -129,8 +159,8 @@ fn both<R: Threads + Wait + Sync>(
 {
     let (a, b) = join_mut(
         rt,
-        &mut || work(rt, alloc, domain, one, first),
-        &mut || work(rt, alloc, domain, two, first.wrapping_add(250)),
+        &mut || work(rt, alloc, domain, one, task, first),
+        &mut || work(rt, alloc, domain, two, task, first.wrapping_add(250)),
     );
     a.and(b)
 }
@@ -169,11 +199,12 @@ fn pair<R: Threads + Wait + Sync>(
     rt: &R,
     alloc: Global,
     domain: &Domain<u64>,
+    task: Task,
     first: u64,
     one: &mut Desk<u64>,
-) -> Popped
+) -> Tally
     requires domain { Belongs one.old domain.now }
-    requires cell { 0 < domain.now.shape.shared_cells }
+    requires cells { domain.now.shape.shared_cells ≡ 2 }
     requires settled { endings_of one.old ≡ 0 }
     requires stock { 250 ≤ length (stock_of one.old) }
     ensures settled { endings_of one.new ≡ 0 }
@@ -182,7 +213,7 @@ fn pair<R: Threads + Wait + Sync>(
     let Some(mut two) = part(alloc, domain, one, 8, 250) else {
         return NONE;
     };
-    let all = both(rt, alloc, domain, first, one, &mut two);
+    let all = both(rt, alloc, domain, task, first, one, &mut two);
     one.join(domain, two);
     all
 }
@@ -192,11 +223,12 @@ fn both_pairs<R: Threads + Wait + Sync>(
     rt: &R,
     alloc: Global,
     domain: &Domain<u64>,
+    task: Task,
     one: &mut Desk<u64>,
     two: &mut Desk<u64>,
-) -> Popped
+) -> Tally
     requires domain { Belongs one.old domain.now × Belongs two.old domain.now }
-    requires cell { 0 < domain.now.shape.shared_cells }
+    requires cells { domain.now.shape.shared_cells ≡ 2 }
     requires settled { (endings_of one.old ≡ 0) × (endings_of two.old ≡ 0) }
     requires stock { (250 ≤ length (stock_of one.old)) × (250 ≤ length (stock_of two.old)) }
     ensures settled { (endings_of one.new ≡ 0) × (endings_of two.new ≡ 0) }
@@ -205,27 +237,28 @@ fn both_pairs<R: Threads + Wait + Sync>(
 {
     let (a, b) = join_mut(
         rt,
-        &mut || -> Popped
-            requires { IsSync R.row × Belongs one.now domain.now × (0 < domain.now.shape.shared_cells) × (endings_of one.now ≡ 0) × (250 ≤ length (stock_of one.now)) }
+        &mut || -> Tally
+            requires { IsSync R.row × Belongs one.now domain.now × (domain.now.shape.shared_cells ≡ 2) × (endings_of one.now ≡ 0) × (250 ≤ length (stock_of one.now)) }
             ensures { IsSameDesk one.entry.now one.exit.now × (endings_of one.exit.now ≡ 0) }
-        { pair(rt, alloc, domain, 0, one) },
-        &mut || -> Popped
-            requires { IsSync R.row × Belongs two.now domain.now × (0 < domain.now.shape.shared_cells) × (endings_of two.now ≡ 0) × (250 ≤ length (stock_of two.now)) }
+        { pair(rt, alloc, domain, task, 0, one) },
+        &mut || -> Tally
+            requires { IsSync R.row × Belongs two.now domain.now × (domain.now.shape.shared_cells ≡ 2) × (endings_of two.now ≡ 0) × (250 ≤ length (stock_of two.now)) }
             ensures { IsSameDesk two.entry.now two.exit.now × (endings_of two.exit.now ≡ 0) }
-        { pair(rt, alloc, domain, 500, two) },
+        { pair(rt, alloc, domain, task, 500, two) },
     );
     a.and(b)
 }
 
 // The same, with the second pair a part of the desk; and what the desk finds in the end.
-fn four<R: Threads + Wait + Sync>(
+pub(crate) fn four<R: Threads + Wait + Sync>(
     rt: &R,
     alloc: Global,
     domain: &Domain<u64>,
+    task: Task,
     one: &mut Desk<u64>,
-) -> Popped
+) -> Tally
     requires domain { Belongs one.old domain.now }
-    requires cell { 0 < domain.now.shape.shared_cells }
+    requires cells { domain.now.shape.shared_cells ≡ 2 }
     requires settled { endings_of one.old ≡ 0 }
     ensures settled { endings_of one.new ≡ 0 }
     ensures one { IsSameDesk one.old one.new }
@@ -236,7 +269,7 @@ fn four<R: Threads + Wait + Sync>(
     let Some(mut two) = part(alloc, domain, one, 16, 500) else {
         return NONE;
     };
-    let all = both_pairs(rt, alloc, domain, one, &mut two);
+    let all = both_pairs(rt, alloc, domain, task, one, &mut two);
     one.join(domain, two);
     all
 }
@@ -244,7 +277,7 @@ fn four<R: Threads + Wait + Sync>(
 #[test]
 fn four_threads_pop_each_node_once(rt: HostRuntime) -> Result<(), Fail> {
     let (domain, mut desk) = opened(rt.alloc(), 1000, 32).ok_or("memory")?;
-    let all = four(&rt, rt.alloc(), &domain, &mut desk);
+    let all = four(&rt, rt.alloc(), &domain, Task::PushAndPop, &mut desk);
     let stock = shut(domain, desk);
     assert_eq!(rt; all.nodes, 1000);
     assert_eq!(rt; all.sum, 499_500);

@@ -2,7 +2,17 @@
 #![tactic(auto)]
 
 #[cfg(test)]
+mod attached;
+#[cfg(test)]
 mod crowd;
+#[cfg(test)]
+mod families;
+#[cfg(test)]
+mod large;
+#[cfg(test)]
+mod memory;
+#[cfg(test)]
+mod misplaced;
 #[cfg(test)]
 mod observing;
 #[cfg(test)]

@@ -18,14 +18,14 @@ use std::test::Fail;
 
 // What the parent of a node is told by: why there is no answer, no parent, or the parent's field.
 #[derive(Debug, Drop, PartialEq)]
-enum Told {
+pub(crate) enum Told {
     Refused(Refusal),
     Nobody,
     Field(u64),
 }
 
 // The parent of a node, which is let go.
-fn parent_of<R: Wait>(
+pub(crate) fn parent_of<R: Wait>(
     rt: &R,
     domain: &Domain<u64>,
     desk: &mut Desk<u64>,

@@ -1,10 +1,11 @@
 //! What the tests have in common: domains, owners that leave, and calls on a stack.
-ghost use Rattle.std.specs.Prelude.{◌≡◌, ◌+◌, [], IfSome, MatchOption, Some};
+ghost use Rattle.std.specs.Prelude.{◌≡◌, ◌+◌, [], IfSome, MatchOption, Some, length};
 ghost use Rattle.control_word.specs.declared.handle.Kind.TheVariants.{Owner};
-ghost use Rattle.control_block.specs.Desks.{Belongs, IsSameDesk, allowance_of, bag_of, endings_of};
+ghost use Rattle.control_block.specs.Desks.{Belongs, IsSameDesk, allowance_of, bag_of, endings_of, stock_of};
 ghost use Rattle.shared_handle.specs.Calls.{Holds, with_handle, without_handle};
 ghost use Rattle.scene_structures.specs.Stacks.{Serves, StandsIn};
 
+use atomic_cells::SharedAt;
 use control_block::census::close;
 use control_block::desk::Desk;
 use control_block::domain::{Domain, open};
@@ -14,13 +15,13 @@ use shared_handle::{Pile, Shared, drop_shared, read};
 use std::alloc::Global;
 use std::sync::Wait;
 
-// A domain with one free shared cell.
+// A domain with two free shared cells: 0 is for a structure, and 1 for a handle that is put aside.
 fn shape(blocks: u32, allowance: u32) -> Shape
-    ensures { result ≡ record { blocks = blocks; shared_cells = 1; weak_cells = 0; allowance = allowance } }
+    ensures { result ≡ record { blocks = blocks; shared_cells = 2; weak_cells = 0; allowance = allowance } }
 {
     Shape {
         blocks,
-        shared_cells: 1,
+        shared_cells: 2,
         weak_cells: 0,
         allowance,
     }
@@ -29,7 +30,7 @@ fn shape(blocks: u32, allowance: u32) -> Shape
 // A domain and its first desk, if there is memory.
 pub(crate) fn opened(alloc: Global, blocks: u32, allowance: u32) -> Option<(Domain<u64>, Desk<u64>)>
     ensures desk { IfSome result (λ r. Belongs r.1 r.0 × (endings_of r.1 ≡ 0) × (allowance_of r.1 ≡ r.0.shape.allowance)) }
-    ensures shape { IfSome result (λ r. r.0.shape.shared_cells ≡ 1) }
+    ensures shape { IfSome result (λ r. r.0.shape.shared_cells ≡ 2) }
 {
     match open::<u64>(alloc, shape(blocks, allowance)) {
         Ok(pair) => Some(pair),
@@ -71,6 +72,20 @@ pub(crate) fn spend<R: Wait>(
 {
     let _gone = drop_shared(domain, desk, pile, owner);
     pile.settle(rt, domain, desk);
+}
+
+// A handle is put aside, and the one that was there comes out.
+pub(crate) fn put_aside(domain: &Domain<u64>, desk: &mut Desk<u64>, handle: Shared) -> Shared
+    requires domain { Belongs desk.old domain.now }
+    requires cell { domain.now.shape.shared_cells ≡ 2 }
+    requires settled { endings_of desk.old ≡ 0 }
+    requires holds { Holds desk.old Owner handle.block handle.place }
+    ensures settled { endings_of desk.new ≡ 0 }
+    ensures desk { IsSameDesk desk.old desk.new }
+    ensures holds { Holds desk.new Owner result.block result.place }
+    ensures stock { length (stock_of desk.new) ≡ length (stock_of desk.old) }
+{
+    SharedAt::free(1).exchange(domain, desk, handle)
 }
 
 // A node with this field goes on top: whether it did.

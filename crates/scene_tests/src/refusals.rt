@@ -40,7 +40,41 @@ fn why_not<R: Wait>(
     }
 }
 
-// With one handle in hand: why a push is refused, and whether a pop gives a node.
+// Why a pop is refused; a node that it gives is let go.
+fn why_no_pop<R: Wait>(
+    rt: &R,
+    domain: &Domain<u64>,
+    desk: &mut Desk<u64>,
+    stack: &mut Stack<u64>,
+    pile: &mut Pile<u64>,
+) -> Option<Refusal>
+    requires domain { Belongs desk.old domain.now }
+    requires stands { StandsIn stack.old domain.now }
+    requires serves { Serves domain.now pile.old }
+    requires empty { pile.old.endings.items ≡ [] }
+    requires settled { endings_of desk.old ≡ 0 }
+    ensures stands { StandsIn stack.new domain.now }
+    ensures serves { Serves domain.now pile.new }
+    ensures empty { pile.new.endings.items ≡ [] }
+    ensures settled { endings_of desk.new ≡ 0 }
+    ensures desk { IsSameDesk desk.old desk.new }
+    ensures bag { bag_of desk.new ≡ bag_of desk.old }
+    ensures held { desk.new.held ≡ desk.old.held }
+{
+    match stack.pop(rt, domain, desk) {
+        Ok(Some(node)) => {
+            spend(rt, domain, desk, node, pile);
+            None
+        }
+        Ok(None) => None,
+        Err(why) => Some(why),
+    }
+}
+
+// What is refused with one handle in hand, and the field that a pop gives without it.
+type Refusals = (Option<(Refusal, u64)>, Option<Refusal>, Option<u64>);
+
+// With one handle in hand: why a push is refused and a pop; and what a pop gives without it.
 fn with_one_more<R: Wait>(
     rt: &R,
     domain: &Domain<u64>,
@@ -48,7 +82,7 @@ fn with_one_more<R: Wait>(
     stack: &mut Stack<u64>,
     pile: &mut Pile<u64>,
     handle: Shared,
-) -> (Option<(Refusal, u64)>, Option<u64>)
+) -> Refusals
     requires domain { Belongs desk.old domain.now }
     requires stands { StandsIn stack.old domain.now }
     requires serves { Serves domain.now pile.old }
@@ -62,9 +96,10 @@ fn with_one_more<R: Wait>(
     ensures desk { IsSameDesk desk.old desk.new }
 {
     let why = why_not(rt, domain, desk, stack);
+    let why_none = why_no_pop(rt, domain, desk, stack, pile);
     spend(rt, domain, desk, handle, pile);
     let field = pop(rt, domain, desk, stack, pile);
-    (why, field)
+    (why, why_none, field)
 }
 
 // What a node's `next` owns: its field, and how many owners it has.
@@ -135,7 +170,7 @@ fn refused<R: Wait>(
     desk: &mut Desk<u64>,
     stack: &mut Stack<u64>,
     pile: &mut Pile<u64>,
-) -> Option<(Option<(Refusal, u64)>, Option<(Refusal, u64)>, Option<u64>)>
+) -> Option<(Option<(Refusal, u64)>, Refusals)>
     requires domain { Belongs desk.old domain.now }
     requires stands { StandsIn stack.old domain.now }
     requires serves { Serves domain.now pile.old }
@@ -149,8 +184,7 @@ fn refused<R: Wait>(
     let Ok(handle) = empty(domain, desk) else {
         return None;
     };
-    let (limit, field) = with_one_more(rt, domain, desk, stack, pile, handle);
-    Some((full, limit, field))
+    Some((full, with_one_more(rt, domain, desk, stack, pile, handle)))
 }
 
 #[test]
@@ -185,14 +219,11 @@ fn six_handles_must_be_free(rt: HostRuntime) -> Result<(), Fail> {
         shut(domain, desk);
         return Err(Fail::new("memory"));
     };
-    let (full, limit, field) = refused(&rt, &domain, &mut desk, &mut stack, &mut pile).unwrap_or((
-        None, None, None,
-    ));
+    let seen = refused(&rt, &domain, &mut desk, &mut stack, &mut pile);
     stack.close();
     pile.close();
     shut(domain, desk);
-    assert_eq!(rt; full, Some((Refusal::Full, 9)));
-    assert_eq!(rt; limit, Some((Refusal::Limit, 9)));
-    assert_eq!(rt; field, Some(7));
+    let limits = (Some((Refusal::Limit, 9)), Some(Refusal::Limit), Some(7));
+    assert_eq!(rt; seen, Some((Some((Refusal::Full, 9)), limits)));
     Ok(())
 }

@@ -1,8 +1,8 @@
 //! Trees that end.
-ghost use Rattle.std.specs.Prelude.{◌≡◌, []};
+ghost use Rattle.std.specs.Prelude.{◌≡◌, ◌+◌, []};
 ghost use Rattle.control_word.specs.declared.handle.Kind.TheVariants.{Owner};
 ghost use Rattle.control_block.specs.Desks.{Belongs, IsSameDesk, bag_of, endings_of};
-ghost use Rattle.shared_handle.specs.Calls.{Holds};
+ghost use Rattle.shared_handle.specs.Calls.{Holds, without_handle};
 ghost use Rattle.scene_structures.specs.Stacks.{Serves};
 
 use crate::observing::subject;
@@ -17,7 +17,7 @@ use std::sync::Wait;
 use std::test::Fail;
 
 // A child with this value is left to its parent: whether there is one.
-fn grow<R: Wait>(
+pub(crate) fn grow<R: Wait>(
     rt: &R,
     domain: &Domain<u64>,
     desk: &mut Desk<u64>,
@@ -51,7 +51,7 @@ fn grow<R: Wait>(
 }
 
 // Waits until nothing is left on the scene's pile.
-fn settled<R: Wait>(rt: &R, scene: &Scene<u64>)
+pub(crate) fn settled<R: Wait>(rt: &R, scene: &Scene<u64>)
     ensures { scene.now.endings.items ≡ [] }
 {
     for _ in rt.forever() {
@@ -60,6 +60,41 @@ fn settled<R: Wait>(rt: &R, scene: &Scene<u64>)
         }
     }
     unreachable!()
+}
+
+// A root ends: the values of what ends by that, or none where memory is refused, and then the root leaves all the same.
+pub(crate) fn tear_down<R: Wait>(
+    rt: &R,
+    alloc: Global,
+    domain: &Domain<u64>,
+    desk: &mut Desk<u64>,
+    scene: &mut Scene<u64>,
+    root: Shared,
+    pile: &mut Pile<u64>,
+) -> Option<Vec<u64>>
+    requires domain { Belongs desk.old domain.now }
+    requires scene { Serves domain.now scene.old × (scene.old.endings.items ≡ []) }
+    requires pile { Serves domain.now pile.old × (pile.old.endings.items ≡ []) }
+    requires settled { endings_of desk.old ≡ 0 }
+    requires holds { Holds desk.old Owner root.block root.place }
+    ensures scene { scene.new.endings.items ≡ [] }
+    ensures pile { Serves domain.now pile.new × (pile.new.endings.items ≡ []) }
+    ensures settled { endings_of desk.new ≡ 0 }
+    ensures desk { IsSameDesk desk.old desk.new }
+    ensures bag { bag_of desk.new ≡ without_handle Owner root.block root.place (bag_of desk.old) }
+    ensures held { desk.new.held + 1 ≡ desk.old.held }
+{
+    match scene.teardown(alloc, domain, desk, root) {
+        Ok(values) => {
+            settled(rt, scene);
+            Some(values)
+        }
+        Err(refused) => {
+            let Refused { why: _, back } = refused;
+            spend(rt, domain, desk, back, pile);
+            None
+        }
+    }
 }
 
 // A root 1 with the children 3 and 2, and 4 below 3, ends: the values of what ends by that.
@@ -85,17 +120,8 @@ fn fell<R: Wait>(
         Ok(third) => {
             let fourth = grow(rt, domain, desk, scene, &third, 4, pile);
             spend(rt, domain, desk, third, pile);
-            match scene.teardown(alloc, domain, desk, root) {
-                Ok(values) => {
-                    settled(rt, scene);
-                    if second && fourth { Some(values) } else { None }
-                }
-                Err(refused) => {
-                    let Refused { why: _, back } = refused;
-                    spend(rt, domain, desk, back, pile);
-                    None
-                }
-            }
+            let values = tear_down(rt, alloc, domain, desk, scene, root, pile);
+            if second && fourth { values } else { None }
         }
         Err(refused) => {
             let Refused { why: _, back: _ } = refused;

@@ -17,7 +17,7 @@ use std::sync::Wait;
 use std::test::Fail;
 
 // Why a child is refused, with the value that comes back; one that came is left to its parent.
-fn adopt<R: Wait>(
+pub(crate) fn adopt<R: Wait>(
     rt: &R,
     domain: &Domain<u64>,
     desk: &mut Desk<u64>,
