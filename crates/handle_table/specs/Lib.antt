@@ -3,6 +3,7 @@ pub mod Calls
 pub mod Cells
 pub mod Compares
 pub mod This
+pub mod Ends
 pub mod Handles
 pub mod Pairs
 pub mod Parts

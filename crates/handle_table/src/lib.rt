@@ -7,6 +7,7 @@ mod cell_compares;
 mod cells;
 mod copying;
 mod empties;
+mod ends;
 mod fault;
 mod held_cells;
 mod joining;
@@ -26,7 +27,8 @@ mod visiting;
 
 pub use atomic_cells::SharedMember;
 pub use cells::Cell;
+pub use ends::Remains;
 pub use fault::{Fault, Returned};
 pub use program::{Crew, Manned, Program, Ran, Team, run};
-pub use shared_handle::Gone;
+pub use shared_handle::{Gone, Round};
 pub use table::{HandleTable, Home};

@@ -1,6 +1,13 @@
 //! Scripts on real workers.
 #![tactic(auto)]
 
+mod gate;
 mod laws;
+mod running;
+#[cfg(test)]
+mod tests;
+mod worker;
 
+pub use gate::{Gate, Open};
 pub use laws::{desk_calls, worker_logs};
+pub use running::{Report, run_script};

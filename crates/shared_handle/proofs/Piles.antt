@@ -1,6 +1,7 @@
 -- Objects that end in the desk's hands, one upon another.
 use Rattle.std.proofs.Common.{◌≡◌, ◌≢◌, ℕ, ◌+◌, ◌≤◌, Bool, true, false, cond, List, [], ◌∷◌, ◌++◌, length, Option, None, Some, vec_capacity}
-use Rattle.std.proofs.Common.{refl, sym, ap, subst, ◌∙◌, arith, length-append}
+use Rattle.std.proofs.Common.{zero, suc, refl, sym, ap, subst, ◌∙◌, arith, length-append}
+use Rattle.std.specs.Prelude.{slice_get, unwrap_or}
 use Rattle.control_word.proofs.lists.Tallies.{put_cases}
 use Rattle.control_word.specs.Handles.{empty}
 use Rattle.control_word.specs.Histories.{IsLegal, entry, leads}
@@ -68,6 +69,12 @@ module _ {V : Type 0} where
   all_last d (x ∷ xs) y all =
       let t = all_last d xs y all.2 in let n = among_before x.block.0 xs y all.1 in
       ((all.0, n.0, t.0), t.1, ((λ e. n.1 (sym e)), t.2))
+
+  -- each of them ends in the desk's hands
+  pub one_ends : (d : DeskNow V) (xs : List (Ending V)) (i : ℕ) (x : Ending V) → AllEnd d xs → slice_get xs i ≡ Some x → Ends d x
+  one_ends d [] i x all at = absurd (cc at)
+  one_ends d (y ∷ xs) zero x all at = subst (Ends d) (ap (λ o. unwrap_or o y) at) all.0
+  one_ends d (y ∷ xs) (suc i) x all at = one_ends d xs i x all.2 at
 
   few : (d : DeskNow V) → endings_of d ≤ d.shape.blocks
   few d = few_ending d.shape.blocks (state_of d) d.name

@@ -1,7 +1,7 @@
 //! A desk's pile of objects that end, with room for all blocks of its domain.
-ghost use Rattle.std.specs.Prelude.{◌≡◌, ◌↔◌, ◌+◌, ◌≤◌, [], ◌++◌, length, vec_capacity, IfErr, IfOk, IsTrue};
-ghost use Rattle.control_block.specs.Desks.{Belongs, DeskNow, endings_of};
-ghost use Rattle.shared_handle.specs.Endings.{more_ending};
+ghost use Rattle.std.specs.Prelude.{◌≡◌, ◌↔◌, ◌+◌, ◌-◌, ◌≤◌, [], ◌++◌, length, slice_get, vec_capacity, Some, IfErr, IfNone, IfOk, IfSome, IsTrue};
+ghost use Rattle.control_block.specs.Desks.{Belongs, DeskNow, DomainNow, endings_of};
+ghost use Rattle.shared_handle.specs.Endings.{Ends, more_ending};
 ghost use Rattle.shared_handle.specs.Piles.{Bears, gone_of, piled};
 
 use crate::endings::{Ending, Left, Member};
@@ -68,6 +68,16 @@ impl<V: Drop + Send> Pile<V> {
         ensures { IsTrue result ↔ (self.now.endings.items ≡ []) }
     {
         self.endings.is_empty()
+    }
+
+    /// The object that was last left to end (own). `None` just where nothing is left.
+    pub fn top(&self) -> Option<&Ending<V>>
+        ensures none { IfNone result (self.now.endings.items ≡ []) }
+        ensures some { IfSome result (λ x. slice_get self.now.endings.items (length self.now.endings.items - 1) ≡ Some x.now) }
+        ensures ends { IfSome result (λ x. (domain : DomainNow) (d : DeskNow V) → Bears domain d self.now → Ends d x.now) }
+    {
+        let top = self.endings.last()?;
+        Some(top)
     }
 
     /// What came of an owner that left goes onto the pile, where an object ends for it (own). Condition: there is room, as

@@ -1,0 +1,35 @@
+use Rattle.std.proofs.Common.{◌≡◌, ℕ, ◌<◌, subst, sym}
+use Rattle.std.specs.Prelude.{slice_index}
+use Rattle.shared_handle.specs.Endings.{Ends}
+use Rattle.control_block.specs.Desks.{DeskNow, object_in}
+use Rattle.handle_table.specs.Ends.{IsToEnd}
+use Rattle.handle_table.specs.declared.ends.Remains.TheVariants.{Fields, Null}
+use Rattle.handle_table.proofs.table.HandleTable.remains.Goals as goal
+
+pub is_null-requires-clause-ends : goal.is_null-requires-clause-ends
+is_null-requires-clause-ends g c κs within =
+    c.in_ok-top.ensures.ends c.self.inside.domain.now c.self.inside.desk c.self.invariant.bears
+
+pub fields-fields-requires-clause-ends : goal.fields-fields-requires-clause-ends
+fields-fields-requires-clause-ends g c κs within =
+    subst (λ d. Ends d c.in_ok-top.top.now) (sym c.is_null.ensures.same)
+    (c.in_ok-top.ensures.ends c.self.inside.domain.now c.self.inside.desk c.self.invariant.bears)
+
+pub returns-then-is_null-clause-told : goal.returns-then-is_null-clause-told
+returns-then-is_null-clause-told g c =
+    subst (λ t. IsToEnd t Null) c.self.view_is
+    record { top = c.in_ok-top.top.now; last = c.in_ok-top.ensures.some; made = sym c.if-is_null.ensures.null }
+
+pub returns-clause-told : goal.returns-clause-told
+returns-clause-told g c =
+    subst (λ t. IsToEnd t (Fields c.fields-fields.result)) c.self.view_is
+    record {
+      top = c.in_ok-top.top.now;
+      last = c.in_ok-top.ensures.some;
+      made = (
+        sym c.if-is_null.ensures.null,
+        subst (λ (d : DeskNow g.row.V.Denot). (k : ℕ) → k < 4
+            → slice_index c.fields-fields.result k ≡ slice_index (object_in d c.in_ok-top.top.now.block.0).fields k)
+            c.is_null.ensures.same c.fields-fields.ensures.fields,
+      );
+    }
