@@ -4,13 +4,13 @@ use Rattle.std.proofs.lemmas.List.{nil_from_length}
 use Rattle.control_word.specs.declared.shape.Shape.{Shape}
 use Rattle.control_word.specs.Histories.{IsLegal}
 use Rattle.control_block.specs.Census.{CensusNow, TellsAll}
-use Rattle.control_block.specs.Desks.{Belongs, DeskNow, DomainNow, allowance_of, bag_of, endings_of, state_of}
+use Rattle.control_block.specs.Desks.{Begins, Belongs, DeskNow, DomainNow, allowance_of, bag_of, endings_of, state_of}
 use Rattle.control_block.specs.Parting.{SplitsOff}
 use Rattle.control_block.specs.Rule.{opening_of}
 use Rattle.control_block.specs.Standing.{Standing}
 use Rattle.handle_table.proofs.Filling.{total_one}
-use Rattle.handle_table.specs.Parting.{AbsorbsAll, IsNew, IsPartedInto, WhyFewer}
-use Rattle.handle_table.specs.Programs.{IsClosed, Works}
+use Rattle.handle_table.specs.Parting.{AbsorbsAll, IsNew, IsPartedInto, WhyFewer, WindsUp}
+use Rattle.handle_table.specs.Programs.{IsClosed, Runs, Works, WorksIn, WorksOut}
 use Rattle.handle_table.specs.Tables.{Fits, TableNow}
 use Rattle.handle_table.specs.declared.program.Manned.{Manned}
 use Rattle.handle_table.specs.declared.program.Team.{Team}
@@ -42,10 +42,9 @@ module _ {V : Type 0} where
 
   -- a sole desk without handles closed its domain
   pub closed : (domain : DomainNow) (d : DeskNow V) (c : CensusNow) → Belongs d domain → Standing d → Fits d [] → endings_of d ≡ 0
-      → allowance_of d ≡ domain.shape.allowance → c.blocks ≡ domain.shape.blocks → TellsAll (state_of d) domain.shape.blocks c → IsClosed V domain.shape c
+      → allowance_of d ≡ domain.shape.allowance → c.blocks ≡ domain.shape.blocks → TellsAll (state_of d) domain.shape.blocks c → IsClosed d domain.shape c
   closed domain d c here stands fits none sole blocks tells =
       record {
-        last = d;
         of = here.shape;
         sole = sole ∙ sym (ap (λ (s : Shape). s.allowance) here.shape);
         legal = subst (λ (s : Shape). IsLegal (opening_of s) d.seen) here.shape stands.legal;
@@ -53,3 +52,20 @@ module _ {V : Type 0} where
         blocks = blocks;
         tells = tells;
       }
+
+  -- the table was wound up after its team's work
+  pub works_out : (t u : TableNow V) (team : Team) (manned : Manned) (last : DeskNow V) → Works t team manned u → WindsUp u last
+      → WorksOut t team manned last
+  works_out t u team manned last works winds = record { after = u; works = works; winds_up = winds }
+
+  -- the table was the domain's first one
+  pub works_in : (domain : DomainNow) (d : DeskNow V) (t : TableNow V) (team : Team) (manned : Manned) (last : DeskNow V) → Begins domain d → t.desk ≡ d
+      → IsNew team.slots t → WorksOut t team manned last → WorksIn domain team manned last
+  works_in domain d t team manned last begins is new out =
+      record { first = t; begins = subst (λ (x : DeskNow V). Begins domain x) (sym is) begins; new = new; out = out }
+
+  -- and its desk closed the domain
+  pub runs : (domain : DomainNow) (shape : Shape) (team : Team) (manned : Manned) (last : DeskNow V) (c : CensusNow) → domain.shape ≡ shape
+      → WorksIn domain team manned last → IsClosed last domain.shape c → Runs V shape team manned c
+  runs domain shape team manned last c of works is =
+      record { domain = domain; of = of; last = last; works = works; closed = subst (λ (s : Shape). IsClosed last s c) of is }

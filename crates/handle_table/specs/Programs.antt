@@ -4,10 +4,10 @@ use Rattle.control_word.specs.declared.refusal.Refusal.{Refusal}
 use Rattle.control_word.specs.declared.shape.Shape.{Shape}
 use Rattle.control_word.specs.Histories.{IsLegal}
 use Rattle.control_block.specs.Census.{CensusNow, TellsAll}
-use Rattle.control_block.specs.Desks.{DeskNow, bag_of, endings_of, state_of}
+use Rattle.control_block.specs.Desks.{Begins, DeskNow, DomainNow, bag_of, endings_of, state_of}
 use Rattle.control_block.specs.Own.{IsSole}
 use Rattle.control_block.specs.Rule.{opening_of}
-use Rattle.handle_table.specs.Parting.{AbsorbsAll, IsNew, IsPartedInto, WhyFewer}
+use Rattle.handle_table.specs.Parting.{AbsorbsAll, IsNew, IsPartedInto, WhyFewer, WindsUp}
 use Rattle.handle_table.specs.Tables.{TableNow}
 use Rattle.handle_table.specs.declared.program.Manned.{Manned}
 use Rattle.handle_table.specs.declared.program.Team.{Team}
@@ -29,14 +29,34 @@ module _ {V : Type 0} where
     pub many : (length lent ≡ manned.workers) × (length left ≡ manned.workers)
     pub absorbs : AbsorbsAll (record t { desk = between }) left u
 
-module _ (V : Type 0) where
+  -- a team worked with what a table lent it, and then all handles left the table and what was left to end did so
+  pub record WorksOut (t : TableNow V) (team : Team) (manned : Manned) (last : DeskNow V) : Type 0 where
+    pub after : TableNow V
+    pub works : Works t team manned after
+    pub winds_up : WindsUp after last
+
+  -- the same from a domain's first table on, which has as many slots as a worker's
+  pub record WorksIn (domain : DomainNow) (team : Team) (manned : Manned) (last : DeskNow V) : Type 0 where
+    pub first : TableNow V
+    pub begins : Begins domain first.desk
+    pub new : IsNew team.slots first
+    pub out : WorksOut first team manned last
+
   -- A domain was closed by a desk that had the whole allowance, so that every other one was joined and it has seen all. No
   -- handle was left with it and nothing to end; and the census tells of all blocks
-  pub record IsClosed (shape : Shape) (c : CensusNow) : Type 0 where
-    pub last : DeskNow V
+  pub record IsClosed (last : DeskNow V) (shape : Shape) (c : CensusNow) : Type 0 where
     pub of : last.shape ≡ shape
     pub sole : IsSole last
     pub legal : IsLegal (opening_of shape) last.seen
     pub bare : (bag_of last ≡ []) × (last.held ≡ 0) × (endings_of last ≡ 0)
     pub blocks : c.blocks ≡ shape.blocks
     pub tells : TellsAll (state_of last) shape.blocks c
+
+module _ (V : Type 0) where
+  -- a team worked in a new domain, and the desk that had all that its workers left closed it
+  pub record Runs (shape : Shape) (team : Team) (manned : Manned) (c : CensusNow) : Type 0 where
+    pub domain : DomainNow
+    pub of : domain.shape ≡ shape
+    pub last : DeskNow V
+    pub works : WorksIn domain team manned last
+    pub closed : IsClosed last shape c

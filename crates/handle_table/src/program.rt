@@ -4,8 +4,8 @@ ghost use Rattle.control_word.specs.Layout.{IsWithinLimits};
 ghost use Rattle.control_block.specs.Desks.{Begins, Belongs, DeskNow, endings_of};
 ghost use Rattle.shared_handle.specs.Piles.{Bears};
 ghost use Rattle.handle_table.specs.Parting.{AbsorbsAll, IsNew, IsPartedInto, WhyFewer};
-ghost use Rattle.handle_table.specs.Programs.{IsClosed, IsManned, Works};
-ghost use Rattle.handle_table.specs.Tables.{AllVacant, Fits};
+ghost use Rattle.handle_table.specs.Programs.{IsClosed, IsManned, Runs, Works, WorksIn, WorksOut};
+ghost use Rattle.handle_table.specs.Tables.{AllVacant, Fits, on_pile};
 
 use crate::slots::open_slots;
 use crate::table::{HandleTable, Home};
@@ -66,7 +66,8 @@ fn first_table<'d, V: Drop + Send, H: Home>(
     requires desk { Begins domain.now desk }
     requires slots { AllVacant slots.items }
     requires pile { (d : DeskNow V) → Belongs d domain.now → endings_of d ≡ 0 → Bears domain.now d pile }
-    ensures { result.desk ≡ desk }
+    ensures desk { result.desk ≡ desk }
+    ensures rest { (result.slots ≡ slots.items) × (result.endings ≡ on_pile pile) }
 {
     HandleTable {
         domain,
@@ -180,6 +181,7 @@ fn run_at<V: Drop + Send, H: Home + Send + Sync, R: Threads + Wait + Sync, P: Pr
 ) -> (Desk<V>, Manned)
     ensures here { Belongs result.0 H.domain }
     ensures none { Fits result.0 [] × (endings_of result.0 ≡ 0) }
+    ensures works { WorksOut table.entry team result.1 result.0 }
     ensures manned { IsManned team.workers result.1.workers result.1.fewer }
 {
     let mut table = table;
@@ -200,10 +202,12 @@ fn run_in<V: Drop + Send, H: Home + Send + Sync, R: Threads + Wait + Sync, P: Pr
 ) -> (Desk<V>, Manned)
     requires home { domain.now ≡ H.domain }
     requires desk { Begins domain.now desk }
-    requires slots { AllVacant slots.items }
+    requires slots { AllVacant slots.items × (length slots.items ≡ team.slots) }
     requires pile { (d : DeskNow V) → Belongs d domain.now → endings_of d ≡ 0 → Bears domain.now d pile }
+    requires empty { on_pile pile ≡ [] }
     ensures here { Belongs result.0 domain.now }
     ensures none { Fits result.0 [] × (endings_of result.0 ≡ 0) }
+    ensures works { WorksIn domain.now team result.1 result.0 }
     ensures manned { IsManned team.workers result.1.workers result.1.fewer }
 {
     let table = first_table::<V, H>(domain, desk, slots, pile);
@@ -224,7 +228,7 @@ fn shut<V: Drop + Send>(domain: Domain<V>, desk: Desk<V>)
 fn close_bare<V: Drop + Send>(domain: Domain<V>, desk: Desk<V>) -> Result<Census<V>, Refusal>
     requires here { Belongs desk domain }
     requires none { Fits desk [] × (endings_of desk ≡ 0) }
-    ensures closed { IfOk result (IsClosed V domain.shape) }
+    ensures closed { IfOk result (IsClosed desk domain.shape) }
     ensures refused { IfErr result (λ why. why ≡ Refusal.NotSole) }
 {
     desk.stands();
@@ -243,7 +247,8 @@ fn close_bare<V: Drop + Send>(domain: Domain<V>, desk: Desk<V>) -> Result<Census
 }
 
 /// A domain is opened, each worker of the team does its part of the program in a thread with a table of its own, and the domain
-/// is closed (own). The handles that a worker leaves in its slots leave, and what is left to end does so. It is refused
+/// is closed (own). The handles that a worker leaves in its slots leave, and what is left to end does so. The workers' tables
+/// are parts of a first one, which has all again at the end: what each had and what it left is in `runs`. It is refused
 /// `Shape` just where the shape is outside the limits, `Memory` only where a growth was really refused, and `NotSole`
 /// where a worker kept a table for itself.
 pub fn run<V: Drop + Send, R: Threads + Wait + Sync, P: Program<V, R> + Sync>(
@@ -253,7 +258,7 @@ pub fn run<V: Drop + Send, R: Threads + Wait + Sync, P: Program<V, R> + Sync>(
     team: Team,
     program: &P,
 ) -> Result<Ran<V>, Refusal>
-    ensures closed { IfOk result (λ r. IsClosed V shape r.census) }
+    ensures runs { IfOk result (λ r. Runs V shape team (record { workers = r.workers; fewer = r.fewer }) r.census) }
     ensures manned { IfOk result (λ r. IsManned team.workers r.workers r.fewer) }
     ensures within { IfOk result (λ _. IsWithinLimits shape) }
     ensures shape { IfErr result (λ why. why ≡ Refusal.Shape ↔ (IsWithinLimits shape → ⊥)) }
