@@ -77,7 +77,9 @@ impl<'d, V: Drop + Send, H: Home> HandleTable<'d, V, H> {
         } = other;
         self.desk.join(self.domain, desk);
         take_in(&mut self.slots, slots);
-        self.pile.join(pile);
-        Ok(())
+        match self.pile.join(pile) {
+            Ok(()) => Ok(()),
+            Err(_) => unreachable!(),
+        }
     }
 }

@@ -14,7 +14,7 @@ use std::sync::atomic::{AtomicU64, Ordering};
 use std::test::Fail;
 
 // The domain is closed: the counts of the block, and how many blocks are taken.
-fn counted<V: Drop + Send>(
+pub(crate) fn counted<V: Drop + Send>(
     domain: Domain<V>,
     desk: Desk<V>,
     block: Option<Block>,

@@ -33,6 +33,8 @@ mod members;
 mod memory;
 #[cfg(test)]
 mod parts;
+#[cfg(test)]
+mod piles;
 pub mod shapes;
 #[cfg(test)]
 mod splits;

@@ -2,19 +2,15 @@
 //! values that must be spent.
 #![tactic(auto)]
 
-mod clearing;
 mod downgrading;
 mod dropping;
 mod endings;
-mod finishing;
 mod locking;
 mod looks;
 mod making;
 mod ordering;
 mod pile;
-mod pile_rounds;
 mod pointers;
-mod settling;
 mod sharing;
 mod this;
 mod visiting;

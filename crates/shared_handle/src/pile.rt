@@ -1,5 +1,6 @@
 //! A desk's pile of objects that end, with room for all blocks of its domain.
-ghost use Rattle.std.specs.Prelude.{◌≡◌, ◌↔◌, ◌+◌, ◌-◌, ◌≤◌, [], ◌++◌, length, slice_get, vec_capacity, Some, IfErr, IfNone, IfOk, IfSome, IsTrue};
+ghost use Rattle.std.specs.Prelude.{◌≡◌, ◌↔◌, ◌+◌, ◌-◌, ◌<◌, ◌≤◌, [], ◌++◌, length, slice_get};
+ghost use Rattle.std.specs.Prelude.{vec_capacity, Some, IfErr, IfNone, IfOk, IfSome, IsTrue};
 ghost use Rattle.control_block.specs.Desks.{Belongs, DeskNow, DomainNow, endings_of};
 ghost use Rattle.shared_handle.specs.Endings.{Ends, more_ending};
 ghost use Rattle.shared_handle.specs.Piles.{Bears, gone_of, piled};
@@ -8,6 +9,9 @@ use crate::endings::{Ending, Left, Member};
 use control_block::domain::Domain;
 use control_word::Refusal;
 use std::alloc::Global;
+
+mod rounds;
+mod settling;
 
 /// What is told of an owner that left ([util.smartptr.shared.dest]).
 #[derive(Clone, Copy, Drop)]
@@ -31,7 +35,7 @@ pub enum Round<V> {
     Ended(V),
 }
 
-/// Objects that end in one desk's hands, one upon the other. It must be empty at its own end.
+/// Objects that end in one desk's hands, one upon the other.
 pub struct Pile<V> {
     pub(crate) endings: Vec<Ending<V>, Global>,
 }
@@ -82,7 +86,7 @@ impl<V: Drop + Send> Pile<V> {
 
     /// What came of an owner that left goes onto the pile, where an object ends for it (own). Condition: there is room, as
     /// there is for what ends with the pile's own desk.
-    pub fn put(&mut self, left: Left<V>)
+    pub(crate) fn put(&mut self, left: Left<V>)
         requires room { length self.old.endings.items + more_ending left ≤ vec_capacity self.old.endings }
         ensures endings { self.new.endings.items ≡ piled self.old.endings.items left }
         ensures room { vec_capacity self.new.endings ≡ vec_capacity self.old.endings }
@@ -93,25 +97,38 @@ impl<V: Drop + Send> Pile<V> {
         }
     }
 
-    /// What is left to end with another pile goes on top of this one, in its order (own). It takes no memory. Condition: there
-    /// is room, as there is for all that ends with one desk.
-    pub fn join(&mut self, other: Self)
-        requires room { length self.old.endings.items + length other.endings.items ≤ vec_capacity self.old.endings }
-        ensures endings { self.new.endings.items ≡ self.old.endings.items ++ other.endings.items }
+    /// What is left to end with another pile goes on top of this one, in its order (own). There is room for all that ends
+    /// with one desk, so that it takes memory at most where this pile has no room for both. Where that is refused, the
+    /// other pile comes back, and nothing changes.
+    pub fn join(&mut self, other: Self) -> Result<(), Self>
+        ensures joined { IfOk result (λ _. self.new.endings.items ≡ self.old.endings.items ++ other.endings.items) }
         ensures room { vec_capacity self.old.endings ≤ vec_capacity self.new.endings }
+        ensures full { IfErr result (λ _. vec_capacity self.old.endings
+            < length self.old.endings.items + length other.endings.items) }
+        ensures back { IfErr result (λ p. (p.endings.items ≡ other.endings.items)
+            × (vec_capacity p.endings ≡ vec_capacity other.endings)) }
+        ensures same { IfErr result (λ _. self.new.endings.items ≡ self.old.endings.items) }
     {
         let Self { mut endings } = other;
         match self.endings.append(&mut endings) {
-            Ok(()) => endings.destroy_empty(),
-            Err(_) => unreachable!(),
+            Ok(()) => {
+                endings.destroy_empty();
+                Ok(())
+            }
+            Err(_) => Err(Self { endings }),
         }
     }
 
-    /// The end of the pile (own). Condition: nothing is left to end.
-    pub fn close(self)
-        requires { self.endings.items ≡ [] }
+    /// The end of the pile: how many are left on it, and are given up, each as by `Ending::forget` (own).
+    pub fn close(self) -> usize
+        ensures left { result ≡ length self.endings.items }
     {
-        let Self { endings } = self;
+        let Self { mut endings } = self;
+        let left = endings.len();
+        while let Some(ending) = endings.pop() {
+            let _block = ending.forget();
+        }
         endings.destroy_empty();
+        left
     }
 }

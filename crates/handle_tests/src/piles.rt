@@ -1,0 +1,86 @@
+//! A pile that becomes another's, and what is left on a pile at its end.
+ghost use Rattle.std.specs.Prelude.{◌≡◌};
+ghost use Rattle.control_block.specs.Desks.{endings_of};
+ghost use Rattle.shared_handle.specs.Prelude.{Belongs, IsSameDesk};
+ghost use Rattle.shared_handle.specs.Piles.{Bears};
+
+use crate::drops::Counted;
+use crate::forgotten::counted;
+use crate::shapes::shape;
+use crate::splits::abandon;
+use control_block::desk::Desk;
+use control_block::domain::{Domain, open};
+use control_word::{Block, Refusal};
+use shared_handle::{Pile, drop_shared, make};
+use std::alloc::Global;
+use std::sync::atomic::{AtomicU64, Ordering};
+use std::test::Fail;
+
+// An object whose only owner leaves, so that its end is left to the pile: its block.
+fn leave_one<'a>(
+    domain: &Domain<Counted<'a>>,
+    desk: &mut Desk<Counted<'a>>,
+    pile: &mut Pile<Counted<'a>>,
+    drops: &'a AtomicU64,
+) -> Option<Block>
+    requires domain { Belongs desk.old domain.now }
+    requires bears { Bears domain.now desk.old pile.old }
+    ensures bears { Bears domain.now desk.new pile.new }
+    ensures desk { IsSameDesk desk.old desk.new }
+{
+    let Ok(owner) = make(domain, desk, [0; 4], false, Counted { drops }) else {
+        return None;
+    };
+    let block = owner.block();
+    let _gone = drop_shared(domain, desk, pile, owner);
+    block
+}
+
+// Two objects are left to one pile, and that joins another: how many are left on it at its end, and the block of one.
+fn leave_two<'a>(
+    alloc: Global,
+    domain: &Domain<Counted<'a>>,
+    desk: &mut Desk<Counted<'a>>,
+    drops: &'a AtomicU64,
+) -> Result<(usize, Option<Block>), Refusal>
+    requires domain { Belongs desk.old domain.now }
+    requires settled { endings_of desk.old ≡ 0 }
+    ensures desk { IsSameDesk desk.old desk.new }
+{
+    let mut pile = Pile::new(alloc, domain)?;
+    leave_one(domain, desk, &mut pile, drops);
+    let block = leave_one(domain, desk, &mut pile, drops);
+    let mut all = match Pile::new(alloc, domain) {
+        Ok(all) => all,
+        Err(why) => {
+            pile.close();
+            return Err(why);
+        }
+    };
+    let kept = match all.join(pile) {
+        Ok(()) => 0,
+        Err(back) => back.close(),
+    };
+    let left = all.close();
+    Ok((left.saturating_sub(kept), block))
+}
+
+#[test]
+fn a_pile_gives_up_at_its_end_what_is_left(rt: HostRuntime) -> Result<(), Fail> {
+    let drops = AtomicU64::new(0);
+    let (domain, mut desk) = open::<Counted>(rt.alloc(), shape(2, 8))?;
+    let Ok((left, block)) = leave_two(rt.alloc(), &domain, &mut desk, &drops) else {
+        abandon(domain, desk);
+        return Err("no pile".into());
+    };
+    let before = drops.load(Ordering::SeqCst);
+    let Some((counts, taken)) = counted(domain, desk, block) else {
+        return Err("no census".into());
+    };
+    assert_eq!(rt; left, 2);
+    assert_eq!(rt; before, 0);
+    assert_eq!(rt; counts.owners, 0);
+    assert_eq!(rt; taken, 2);
+    assert_eq!(rt; drops.load(Ordering::SeqCst), 2);
+    Ok(())
+}
