@@ -4,6 +4,7 @@ pub mod Answering
 pub mod ClosingLemmas
 pub mod EndLemmas
 pub mod Exact
+pub mod FaultLines
 pub mod Following
 pub mod Interleaving
 pub mod LineLemmas

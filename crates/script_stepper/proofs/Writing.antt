@@ -1,9 +1,9 @@
 -- Writes one after the other.
-use Rattle.std.proofs.Common.{◌≡◌, ℕ, ◌-◌, List, [], ◌++◌, length, take, drop, Option, Some, None, Result, Ok, Err, sym, ap, ◌∙◌, append_assoc}
+use Rattle.std.proofs.Common.{◌≡◌, ℕ, ◌-◌, List, [], ◌++◌, length, take, drop, Option, Some, None, Result, Ok, Err, refl, sym, ap, ◌∙◌, append_assoc}
 use Rattle.std.specs.Io.KnownBytes.{Appends, Keeps}
-use Rattle.std.specs.Prelude.{OnErr}
+use Rattle.std.specs.Prelude.{OnErr, OnOk}
 use Rattle.std.proofs.lemmas.List.{append-nil, take-append-drop, take_rest}
-use Rattle.script_stepper.specs.Sinks.{AppendsBeginning}
+use Rattle.script_stepper.specs.Sinks.{AppendsBeginning, IsWritten}
 
 -- what was taken so far, and what is left
 pub record Progress (old new : Option (List ℕ)) (bs rest : List ℕ) : Type 0 where
@@ -45,28 +45,34 @@ cut_off a b c bs rest p h = record {
     by_kept : Appends a c (p.front ++ []) → Appends a c p.front
     by_kept k = rw append-nil at k
 
--- a part that was written in full, and then one of which a beginning was
-pub beginning_then : (a b c : Option (List ℕ)) (xs ys : List ℕ) → Appends a b xs → AppendsBeginning b c ys → AppendsBeginning a c (xs ++ ys)
-beginning_then a b c xs ys h k = record {
-  front = xs ++ k.front;
-  rest = k.rest;
-  text = ap (λ (l : List ℕ). xs ++ l) k.text ∙ sym (append_assoc xs k.front k.rest);
-  took = Appends-then a b c xs k.front h k.took;
-}
+pub more_rest : (a b c : Option (List ℕ)) (bs rest : List ℕ) (n : ℕ) → Progress a b bs rest → Appends b c (take n rest)
+    → Progress a c bs (take (length rest - n) (drop n rest))
+more_rest a b c bs rest n p h = rw (take_rest rest n) (more a b c bs rest n p h)
 
 -- a beginning of the first part is one of the whole
-pub beginning_of_more : (a b : Option (List ℕ)) (xs ys : List ℕ) → AppendsBeginning a b xs → AppendsBeginning a b (xs ++ ys)
-beginning_of_more a b xs ys k = record {
+pub begun : (a b : Option (List ℕ)) (xs ys : List ℕ) → AppendsBeginning a b xs → AppendsBeginning a b (xs ++ ys)
+begun a b xs ys k = record {
   front = k.front;
   rest = k.rest ++ ys;
   text = ap (λ (l : List ℕ). l ++ ys) k.text ∙ append_assoc k.front k.rest ys;
   took = k.took;
 }
 
-pub more_rest : (a b c : Option (List ℕ)) (bs rest : List ℕ) (n : ℕ) → Progress a b bs rest → Appends b c (take n rest)
-    → Progress a c bs (take (length rest - n) (drop n rest))
-more_rest a b c bs rest n p h = rw (take_rest rest n) (more a b c bs rest n p h)
+-- a part that was written in full, and then another
+pub written_then : {A E : Type 0} (a b c : Option (List ℕ)) (xs ys : List ℕ) (r : Result A E) → Appends a b xs → IsWritten ys r b c → IsWritten (xs ++ ys) r a c
+written_then a b c xs ys (Ok x) h k = Appends-then a b c xs ys h k
+written_then a b c xs ys (Err e) h k = record {
+  front = xs ++ k.front;
+  rest = k.rest;
+  text = ap (λ (l : List ℕ). xs ++ l) k.text ∙ sym (append_assoc xs k.front k.rest);
+  took = Appends-then a b c xs k.front h k.took;
+}
 
-pub on_err_from : {T E P : Type 0} (r : Result T E) → P → OnErr r P
-on_err_from (Ok x) p = tt
-on_err_from (Err e) p = p
+pub written_by : {A E : Type 0} (r : Result A E) (a b : Option (List ℕ)) (xs : List ℕ) → OnOk r (Appends a b xs) → OnErr r (AppendsBeginning a b xs)
+    → IsWritten xs r a b
+written_by (Ok x) a b xs h k = h
+written_by (Err e) a b xs h k = k
+
+-- nothing was written
+pub unwritten : (a : Option (List ℕ)) (xs : List ℕ) → AppendsBeginning a a xs
+unwritten a xs = record { front = []; rest = xs; text = refl; took = Appends-none a }

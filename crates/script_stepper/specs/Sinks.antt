@@ -13,3 +13,8 @@ pub record AppendsBeginning (old new : Option (List ℕ)) (bs : List ℕ) : Type
   pub rest : List ℕ
   pub text : bs ≡ front ++ rest
   pub took : Appends old new front
+
+-- the text was taken, or a beginning of it where a write failed
+abbrev pub IsWritten : {A E : Type 0} → List ℕ → Result A E → Option (List ℕ) → Option (List ℕ) → Type 0
+IsWritten text (Ok x) old new = Appends old new text
+IsWritten text (Err e) old new = AppendsBeginning old new text

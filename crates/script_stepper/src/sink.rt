@@ -4,7 +4,7 @@ ghost use Rattle.std.specs.Prelude.{◌≡◌, ◌≤◌, ◌||◌, ℕ, List, B
 ghost use Rattle.std.specs.Io.KnownBytes.{Appends, Keeps, WriteAppends};
 ghost use Rattle.script_stepper.specs.Sinks.{write_fails, AppendsBeginning};
 
-use std::io;
+use std::{fmt, io};
 use thiserror::Error;
 
 /// The writer took no more bytes (own).
@@ -96,6 +96,21 @@ impl<W: io::Write> Sink for Output<W> {
 
     fn failed(&self) -> bool {
         self.has_failed
+    }
+}
+
+/// Text goes to the writer, until a write fails.
+impl<W: io::Write> fmt::Write for Output<W> {
+    ghost write_str_gives = { λ s bs t. Appends (W.contents s.writer) (W.contents t.writer) bs };
+
+    fn write_str(&mut self, text: &str) -> fmt::Result {
+        if self.has_failed {
+            return Err(fmt::Error);
+        }
+        match write_all(self, text.as_bytes()) {
+            Ok(()) => Ok(()),
+            Err(_) => Err(fmt::Error),
+        }
     }
 }
 

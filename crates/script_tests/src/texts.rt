@@ -1,4 +1,5 @@
 //! What no script that runs says: texts that are written, and what faults print.
+use script_stepper::{Output, write_fault};
 use script_text::{Cause, Fault, convert, parse, print};
 use std::test::Fail;
 
@@ -71,14 +72,15 @@ fn messages(rt: HostRuntime) -> Result<(), Fail> {
         cause: Cause::UnknownName,
     };
     for (fault, message) in [
-        (Fault::Memory, "refused 1: memory"),
-        (unknown, "refused 10: line 3: unknown name"),
-        (Fault::BadTurn { position: 2 }, "refused 11: turn 2"),
-        (Fault::Output, "refused 12: output"),
-        (Fault::Input, "refused 13: input"),
+        (Fault::Memory, "refused 1: memory\n"),
+        (unknown, "refused 10: line 3: unknown name\n"),
+        (Fault::BadTurn { position: 2 }, "refused 11: turn 2\n"),
+        (Fault::Output, "refused 12: output\n"),
+        (Fault::Input, "refused 13: input\n"),
     ] {
-        let text = format!(in rt.alloc(); "{fault}")?;
-        assert_eq!(rt; text.as_str(), message);
+        let mut line = Output::new(Vec::new(rt.alloc()));
+        assert_eq!(rt; write_fault(fault, &mut line), Ok(()));
+        assert_eq!(rt; line.into_inner().as_slice(), message.as_bytes());
     }
     Ok(())
 }

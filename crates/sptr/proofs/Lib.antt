@@ -2,4 +2,5 @@ pub mod Flushing
 pub mod PlainLines
 pub mod Plainly
 pub mod Programs
+pub mod Reporting
 pub mod Walks

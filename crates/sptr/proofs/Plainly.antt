@@ -10,7 +10,7 @@ use Rattle.script_text.specs.declared.fault.Fault.{Fault}
 use Rattle.script_text.specs.declared.fault.Fault.TheVariants.{Memory}
 use Rattle.script_stepper.specs.Runs.{Delivers, IsFineText, IsRunText, Tells}
 use Rattle.sptr.specs.CommandLine.{Asks, AsksHelp, AsksPlainly, AsksVersion, NamesNoCommand, names_file, program}
-use Rattle.sptr.specs.Serving.{Answers, IsAnswered, IsMistaken, IsReason, IsShown, IsTurnedAway, UnlessInput, known_unless}
+use Rattle.sptr.specs.Serving.{Answers, IsAnswered, IsMistaken, IsReason, IsShown, IsTurnedAway, Report, UnlessInput, known_unless}
 use Rattle.sptr.specs.declared.command.Asked.{Asked}
 use Rattle.sptr.specs.declared.command.Asked.TheVariants.{Check, Convert, Fine, Step}
 use Rattle.std.proofs.lemmas.Option.{same_Some}
@@ -75,18 +75,19 @@ delivers_same words a b None answer old new x y h = tt
 delivers_same words a b (Some bytes) answer old new x y h =
     subst (λ (told : Result (List ℕ) Fault → Type 0). Delivers told answer old new) (same_answers words a b bytes x y) h
 
-module _ (words : List Text) (input : Option (List ℕ)) (status : ℕ) (old new : Option (List ℕ)) (has_failed : Bool) where
+module _ (words : List Text) (input : Option (List ℕ)) (status : ℕ) (old new : Option (List ℕ)) (has_failed : Bool) (faults : Report) where
   pub answered_plainly : (a b : Asked) (files : Bool) → files ≡ names_file words → Asks words a → AsksPlainly words b
-      → IsAnswered a (known_unless files input) status old new has_failed → IsAnswered b input status old new has_failed
+      → IsAnswered a (known_unless files input) status old new has_failed faults → IsAnswered b input status old new has_failed faults
   answered_plainly a b files named x y h =
       let plain = plainly_asks words b y in
-      let whole : IsAnswered a input status old new has_failed =
-      subst (λ (has : Bool). IsAnswered a (known_unless has input) status old new has_failed) (named ∙ plain.no_file) h in
+      let whole : IsAnswered a input status old new has_failed faults =
+      subst (λ (has : Bool). IsAnswered a (known_unless has input) status old new has_failed faults) (named ∙ plain.no_file) h in
       record {
         answer = whole.answer;
         delivers = delivers_same words a b input whole.answer old new x plain.asks whole.delivers;
         says = whole.says;
         fails = whole.fails;
+        reports = whole.reports;
       }
 
   nothing : (input : Option (List ℕ)) (told : List ℕ → Result (List ℕ) Fault → Type 0) → new ≡ old
@@ -98,8 +99,8 @@ module _ (words : List Text) (input : Option (List ℕ)) (status : ℕ) (old new
   no_kind reason kinds none (inl is) = is
   no_kind reason kinds none (inr among) = absurd (subst (IsAmong reason) none among)
 
-  pub turned_plainly : (reason : ErrorKind) (b : Asked) → IsReason words reason → AsksPlainly words b → IsTurnedAway reason status old new has_failed
-      → IsAnswered b input status old new has_failed
+  pub turned_plainly : (reason : ErrorKind) (b : Asked) → IsReason words reason → AsksPlainly words b → IsTurnedAway reason status old new has_failed faults
+      → IsAnswered b input status old new has_failed faults
   turned_plainly reason b r y h =
       let m = h.memory (no_kind reason (fault_of program words) (plainly_asks words b y).faultless r) in
       record {
@@ -107,6 +108,7 @@ module _ (words : List Text) (input : Option (List ℕ)) (status : ℕ) (old new
         delivers = nothing input (Answers b) m.1.0;
         says = m.0;
         fails = m.1.1;
+        reports = m.2;
       }
 
 module _ (words : List Text) where
@@ -135,31 +137,31 @@ module _ (words : List Text) where
   pub not_mistaken : {A : Type 0} → NamesNoCommand words → fault_of program words ≡ [] → A
   not_mistaken h e = absurd (none_one kind.MissingSubcommand (sym (command_fault h) ∙ e))
 
-module _ (words : List Text) (status : ℕ) (old new : Option (List ℕ)) (has_failed : Bool) where
-  pub helped_plainly : (reason : ErrorKind) → IsReason words reason → AsksHelp words → IsTurnedAway reason status old new has_failed
-      → IsShown status old new has_failed
+module _ (words : List Text) (status : ℕ) (old new : Option (List ℕ)) (has_failed : Bool) (faults : Report) where
+  pub helped_plainly : (reason : ErrorKind) → IsReason words reason → AsksHelp words → IsTurnedAway reason status old new has_failed faults
+      → IsShown status old new has_failed faults
   helped_plainly reason r y h = elim (only_kind words reason kind.DisplayHelp (help_fault words y) r) [
     | inl is ↦
         let m = h.memory is in
-        record { text = []; answer = Err Memory; writes = m.1.0; says = m.0; fails = m.1.1 }
+        record { text = []; answer = Err Memory; writes = m.1.0; says = m.0; fails = m.1.1; reports = m.2 }
     | inr is ↦ h.help is
   ]
 
-  pub told_plainly : (reason : ErrorKind) → IsReason words reason → AsksVersion words → IsTurnedAway reason status old new has_failed
-      → IsShown status old new has_failed
+  pub told_plainly : (reason : ErrorKind) → IsReason words reason → AsksVersion words → IsTurnedAway reason status old new has_failed faults
+      → IsShown status old new has_failed faults
   told_plainly reason r y h = elim (only_kind words reason kind.DisplayVersion (version_fault words y) r) [
     | inl is ↦
         let m = h.memory is in
-        record { text = []; answer = Err Memory; writes = m.1.0; says = m.0; fails = m.1.1 }
+        record { text = []; answer = Err Memory; writes = m.1.0; says = m.0; fails = m.1.1; reports = m.2 }
     | inr is ↦ h.version is
   ]
 
-  pub mistaken_plainly : (reason : ErrorKind) → IsReason words reason → NamesNoCommand words → IsTurnedAway reason status old new has_failed
-      → IsMistaken status old new has_failed
+  pub mistaken_plainly : (reason : ErrorKind) → IsReason words reason → NamesNoCommand words → IsTurnedAway reason status old new has_failed faults
+      → IsMistaken status old new has_failed faults
   mistaken_plainly reason r y h = elim (only_kind words reason kind.MissingSubcommand (command_fault words y) r) [
     | inl is ↦
         let m = h.memory is in
-        (inr m.0, m.1)
+        (inr (m.0, m.2), m.1)
     | inr is ↦
         let m = h.mistake (λ e. missing_help (sym is ∙ e)) (λ e. missing_version (sym is ∙ e)) (λ e. missing_memory (sym is ∙ e)) in
         (inl m.0, m.1)

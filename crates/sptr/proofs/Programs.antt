@@ -91,23 +91,6 @@ asks_named words m command name is n named =
 
 -- ---- files
 
--- a command with these rows names a file just where they do
-pub names_by_rows : (o : Option (Text × List Row)) (rows : List Row) → Some rows ≡ option_map (λ p. p.1) o
-    → (is_some (first_of (codes "file") rows) || is_some (first_of (codes "turns-file") rows)) ≡ names_file_in o
-names_by_rows None rows e = absurd (some_none rows e)
-  where
-    some_none : (x : List Row) → Some x ≡ None → ⊥
-    some_none x e = cc
-names_by_rows (Some p) rows e =
-    ap (λ (rs : List Row). is_some (first_of (codes "file") rs) || is_some (first_of (codes "turns-file") rs)) (same_Some _ _ e)
-
-pub names_nothing : (o : Option (Text × List Row)) → None ≡ option_map (λ p. p.1) o → false ≡ names_file_in o
-names_nothing None e = refl
-names_nothing (Some p) e = absurd (none_some p.1 e)
-  where
-    none_some : (x : List Row) → None ≡ Some x → ⊥
-    none_some x e = cc
-
 pub is_some_text : (o : Option (Bor Text)) → is_some o ≡ is_some (option_map (λ s. s.now) o)
 is_some_text None = refl
 is_some_text (Some s) = refl

@@ -1,8 +1,11 @@
 -- What commands write, of what is on the input (own).
-use Rattle.std.specs.Prelude.{◌≡◌, ◌≢◌, ◌⊎◌, ℕ, Bool, false, List, [], length, Option, None, Result, Ok, Err, IfSome, if◌then◌else◌}
+use Rattle.std.specs.Prelude.{◌≡◌, ◌≢◌, ◌⊎◌, ℕ, Bool, true, false, List, [], length, Option, None, Result, Ok, Err, IfSome, if◌then◌else◌}
 use Rattle.clap.specs.Words.{IsAmong, Text, fault_of}
 use Rattle.clap.specs.declared.error.kind.ErrorKind.{ErrorKind}
 use Rattle.clap.specs.declared.error.kind.ErrorKind.TheVariants as kind
+use Rattle.std.specs.Io.KnownBytes.{Appends}
+use Rattle.script_stepper.specs.Sinks.{AppendsBeginning}
+use Rattle.script_text.specs.Faults.{fault_line}
 use Rattle.script_stepper.specs.Runs.{Delivers, IsFineText, IsRunText, Tells, Writes, is_output}
 use Rattle.script_text.specs.declared.fault.Fault.{Fault}
 use Rattle.script_text.specs.declared.fault.Fault.TheVariants.{Memory, Syntax, BadTurn, Output, Input}
@@ -46,46 +49,86 @@ abbrev pub status_of : {A : Type 0} → Result A Fault → ℕ
 status_of (Ok done) = 0
 status_of (Err fault) = 1
 
--- a command's answer to the bytes of the script went to the output, where it is known which they are
-pub record IsAnswered (asked : Asked) (input : Option (List ℕ)) (status : ℕ) (old new : Option (List ℕ)) (has_failed : Bool) : Type 0 where
+-- what a sink took, where that is known, and whether it has failed, before and after
+pub record Report : Type 0 where
+  pub old : Option (List ℕ)
+  pub had_failed : Bool
+  pub new : Option (List ℕ)
+  pub has_failed : Bool
+
+abbrev pub report : Option (List ℕ) → Bool → Option (List ℕ) → Bool → Report
+report old had_failed new has_failed = record { old = old; had_failed = had_failed; new = new; has_failed = has_failed }
+
+-- nothing came in
+abbrev pub IsUntouched : Report → Type 0
+IsUntouched r = (r.new ≡ r.old) × (r.has_failed ≡ r.had_failed)
+
+-- the text did, or a beginning of it where a write failed
+abbrev pub IsTaken : Bool → List ℕ → Option (List ℕ) → Option (List ℕ) → Type 0
+IsTaken true text old new = AppendsBeginning old new text
+IsTaken false text old new = Appends old new text
+
+-- the line of a fault did, or a beginning of it, or nothing where it had failed before
+pub record IsReported (fault : Fault) (r : Report) : Type 0 where
+  pub takes : IsTaken r.has_failed (fault_line fault) r.old r.new
+  pub nothing : r.had_failed ≡ true → IsUntouched r
+
+-- the line of a refusal, and else nothing
+abbrev pub Reports : {A : Type 0} → Result A Fault → Report → Type 0
+Reports (Ok done) r = IsUntouched r
+Reports (Err fault) r = IsReported fault r
+
+-- a command's answer to the bytes of the script went to the output, where it is known which they are, and the line of
+-- a refusal to the faults
+pub record IsAnswered (asked : Asked) (input : Option (List ℕ))
+    (status : ℕ) (old new : Option (List ℕ)) (has_failed : Bool) (faults : Report) : Type 0 where
   pub answer : Result Unit Fault
   pub delivers : IfSome input (λ bytes. Delivers (Answers asked bytes) answer old new)
   pub says : status ≡ status_of answer
   pub fails : has_failed ≡ is_output answer
+  pub reports : Reports answer faults
 
 -- nothing is known of what is in a file
 abbrev pub known_unless : Bool → Option (List ℕ) → Option (List ℕ)
 known_unless has_file input = if has_file then None else input
 
--- a text of `clap` went to the output, but for want of memory and a failed output
-pub record IsShown (status : ℕ) (old new : Option (List ℕ)) (has_failed : Bool) : Type 0 where
+-- a text of `clap` went to the output, but for want of memory and a failed output, whose line went to the faults
+pub record IsShown (status : ℕ) (old new : Option (List ℕ)) (has_failed : Bool) (faults : Report)
+    : Type 0 where
   pub text : List ℕ
   pub answer : Result Unit Fault
   pub writes : Writes text answer old new
   pub says : status ≡ status_of answer
   pub fails : has_failed ≡ is_output answer
+  pub reports : Reports answer faults
 
 -- nothing went to the output
 abbrev pub IsSilent : Option (List ℕ) → Option (List ℕ) → Bool → Type 0
 IsSilent old new has_failed = (new ≡ old) × (has_failed ≡ false)
 
--- nothing went to the output, and the status is that of a fault of the words, or of want of memory
-abbrev pub IsMistaken : ℕ → Option (List ℕ) → Option (List ℕ) → Bool → Type 0
-IsMistaken status old new has_failed = ((status ≡ 2) ⊎ (status ≡ 1)) × IsSilent old new has_failed
+-- nothing went to the output, and the status is that of a fault of the words, or of want of memory, whose line went to
+-- the faults
+abbrev pub IsMistaken : ℕ → Option (List ℕ) → Option (List ℕ) → Bool → Report → Type 0
+IsMistaken status old new has_failed faults =
+    ((status ≡ 2) ⊎ ((status ≡ 1) × IsReported Memory faults)) × IsSilent old new has_failed
 
--- `clap` gives no command for a reason of this kind: help and the version go to the output; want of memory and faults of the words do not
-pub record IsTurnedAway (reason : ErrorKind) (status : ℕ) (old new : Option (List ℕ)) (has_failed : Bool) : Type 0 where
-  pub help : reason ≡ kind.DisplayHelp → IsShown status old new has_failed
-  pub version : reason ≡ kind.DisplayVersion → IsShown status old new has_failed
-  pub memory : reason ≡ kind.OutOfMemory → (status ≡ 1) × IsSilent old new has_failed
-  pub mistake : reason ≢ kind.DisplayHelp → reason ≢ kind.DisplayVersion → reason ≢ kind.OutOfMemory → (status ≡ 2) × IsSilent old new has_failed
+-- `clap` gives no command for a reason of this kind: help and the version go to the output; want of memory and faults
+-- of the words do not
+pub record IsTurnedAway (reason : ErrorKind)
+    (status : ℕ) (old new : Option (List ℕ)) (has_failed : Bool) (faults : Report) : Type 0 where
+  pub help : reason ≡ kind.DisplayHelp → IsShown status old new has_failed faults
+  pub version : reason ≡ kind.DisplayVersion → IsShown status old new has_failed faults
+  pub memory : reason ≡ kind.OutOfMemory → (status ≡ 1) × IsSilent old new has_failed × IsReported Memory faults
+  pub mistake : reason ≢ kind.DisplayHelp → reason ≢ kind.DisplayVersion → reason ≢ kind.OutOfMemory
+      → (status ≡ 2) × IsSilent old new has_failed
 
 -- the kind is one that `clap` has for the words, or want of memory
 abbrev pub IsReason : List Text → ErrorKind → Type 0
 IsReason words reason = (reason ≡ kind.OutOfMemory) ⊎ IsAmong reason (fault_of program words)
 
 -- the words have no fault, and what they ask for is answered; or they are turned away for a reason that they give
-abbrev pub Serves : List Text → Option (List ℕ) → ℕ → Option (List ℕ) → Option (List ℕ) → Bool → Type 0
-Serves words input status old new has_failed =
-    ((asked : Asked) × Asks words asked × (fault_of program words ≡ []) × IsAnswered asked (known_unless (names_file words) input) status old new has_failed)
-    ⊎ ((reason : ErrorKind) × IsReason words reason × IsTurnedAway reason status old new has_failed)
+abbrev pub Serves : List Text → Option (List ℕ) → ℕ → Option (List ℕ) → Option (List ℕ) → Bool → Report → Type 0
+Serves words input status old new has_failed faults =
+    ((asked : Asked) × Asks words asked × (fault_of program words ≡ [])
+    × IsAnswered asked (known_unless (names_file words) input) status old new has_failed faults)
+    ⊎ ((reason : ErrorKind) × IsReason words reason × IsTurnedAway reason status old new has_failed faults)

@@ -6,23 +6,23 @@ mod command;
 mod serve;
 mod sources;
 
-use script_stepper::Output;
+use script_stepper::{Output, write_fault};
+use script_text::Fault;
 use serve::serve;
 use std::env;
-use std::io::Write;
 use std::process::ExitCode;
 
 fn main(rt: HostRuntime) -> ExitCode {
     let alloc = rt.alloc();
     let mut words = Vec::new(alloc);
-    let mut faults = rt.stderr();
+    let mut faults = Output::new(rt.stderr());
     let Ok(given) = env::args(&rt) else {
-        let _ = writeln!(faults, "refused 1: memory");
+        let _ = write_fault(Fault::Memory, &mut faults);
         return ExitCode::from(1);
     };
     for word in given {
         if words.push(word).is_err() {
-            let _ = writeln!(faults, "refused 1: memory");
+            let _ = write_fault(Fault::Memory, &mut faults);
             return ExitCode::from(1);
         }
     }

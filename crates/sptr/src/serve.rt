@@ -4,32 +4,38 @@ ghost use Rattle.std.specs.Prelude.{◌≡◌, ◌≤◌, false, map};
 ghost use Rattle.clap.specs.Words.{kind_of};
 ghost use Rattle.sptr.specs.declared.command.Asked.{Asked};
 ghost use Rattle.sptr.specs.CommandLine.{AsksHelp, AsksPlainly, AsksVersion, NamesNoCommand, has_files};
-ghost use Rattle.sptr.specs.Serving.{IsAnswered, IsMistaken, IsShown, IsTurnedAway, Serves, known_unless};
+ghost use Rattle.sptr.specs.Serving.{IsAnswered, IsMistaken, IsReported, IsShown, IsTurnedAway, Serves, known_unless, report};
 
 use crate::answers::written;
 use crate::command::{Line, asked_of};
 use crate::sources::answer_line;
 use clap::error::ErrorKind;
-use script_stepper::Output;
+use script_stepper::{Output, write_fault};
 use script_text::Fault;
 use std::alloc::Global;
 use std::convert::AsStr;
+use std::fmt::Write as _;
 use std::io::{Read, Write};
 use std::rt;
 
 /// Writes the line of a refusal, and answers the exit status 1. A line that can't be written changes nothing.
-fn refuse<F: Write>(fault: Fault, faults: &mut F) -> u8
-    ensures { result ≡ 1 }
+fn refuse<F: Write>(fault: Fault, faults: &mut Output<F>) -> u8
+    ensures status { result ≡ 1 }
+    ensures line { IsReported fault
+        (report (F.contents faults.old.writer) faults.old.has_failed
+        (F.contents faults.new.writer) faults.new.has_failed) }
 {
-    let _ = writeln!(faults, "{fault}");
+    let _ = write_fault(fault, faults);
     1
 }
 
 /// Writes help, or the version, and answers the exit status.
-fn show<O: Write, F: Write>(text: &[u8], output: &mut Output<O>, faults: &mut F) -> u8
+fn show<O: Write, F: Write>(text: &[u8], output: &mut Output<O>, faults: &mut Output<F>) -> u8
     requires { output.old.has_failed ≡ false }
-    ensures shows { IsShown result (O.contents output.old.writer) (O.contents output.new.writer) output.new.has_failed }
-    ensures quiet { result ≡ 0 → F.contents faults.new ≡ F.contents faults.old }
+    ensures shows { IsShown result (O.contents output.old.writer) (O.contents output.new.writer) output.new.has_failed
+        (report (F.contents faults.old.writer) faults.old.has_failed
+        (F.contents faults.new.writer) faults.new.has_failed) }
+    ensures quiet { result ≡ 0 → F.contents faults.new.writer ≡ F.contents faults.old.writer }
 {
     match written(text, output) {
         Ok(()) => 0,
@@ -42,11 +48,13 @@ fn show_error<O: Write, F: Write>(
     alloc: Global,
     error: &clap::Error,
     output: &mut Output<O>,
-    faults: &mut F,
+    faults: &mut Output<F>,
 ) -> u8
     requires { output.old.has_failed ≡ false }
-    ensures shows { IsShown result (O.contents output.old.writer) (O.contents output.new.writer) output.new.has_failed }
-    ensures quiet { result ≡ 0 → F.contents faults.new ≡ F.contents faults.old }
+    ensures shows { IsShown result (O.contents output.old.writer) (O.contents output.new.writer) output.new.has_failed
+        (report (F.contents faults.old.writer) faults.old.has_failed
+        (F.contents faults.new.writer) faults.new.has_failed) }
+    ensures quiet { result ≡ 0 → F.contents faults.new.writer ≡ F.contents faults.old.writer }
     ensures status { result ≤ 1 }
 {
     match format!(in alloc; "{error}") {
@@ -60,12 +68,14 @@ fn refuse_words<O: Write, F: Write>(
     alloc: Global,
     error: &clap::Error,
     output: &mut Output<O>,
-    faults: &mut F,
+    faults: &mut Output<F>,
 ) -> u8
     requires { output.old.has_failed ≡ false }
     ensures away { IsTurnedAway (kind_of error.now) result (O.contents output.old.writer) (O.contents output.new.writer)
-        output.new.has_failed }
-    ensures quiet { result ≡ 0 → F.contents faults.new ≡ F.contents faults.old }
+        output.new.has_failed
+        (report (F.contents faults.old.writer) faults.old.has_failed
+        (F.contents faults.new.writer) faults.new.has_failed) }
+    ensures quiet { result ≡ 0 → F.contents faults.new.writer ≡ F.contents faults.old.writer }
     ensures status { result ≤ 2 }
 {
     match error.kind() {
@@ -86,12 +96,14 @@ fn carry_out<R: rt::Files, I: Read, O: Write, F: Write>(
     line: Line<'_>,
     input: &mut I,
     output: &mut Output<O>,
-    faults: &mut F,
+    faults: &mut Output<F>,
 ) -> u8
     requires { output.old.has_failed ≡ false }
-    ensures answered { IsAnswered line.entry.asked (known_unless (has_files line.entry.files) (I.remaining input.old)) result (O.contents output.old.writer)
-        (O.contents output.new.writer) output.new.has_failed }
-    ensures quiet { result ≡ 0 → F.contents faults.new ≡ F.contents faults.old }
+    ensures answered { IsAnswered line.entry.asked (known_unless (has_files line.entry.files) (I.remaining input.old)) result
+        (O.contents output.old.writer) (O.contents output.new.writer) output.new.has_failed
+        (report (F.contents faults.old.writer) faults.old.has_failed
+        (F.contents faults.new.writer) faults.new.has_failed) }
+    ensures quiet { result ≡ 0 → F.contents faults.new.writer ≡ F.contents faults.old.writer }
     ensures status { result ≤ 2 }
 {
     match answer_line(rt, alloc, line, input, output) {
@@ -101,31 +113,42 @@ fn carry_out<R: rt::Files, I: Read, O: Write, F: Write>(
 }
 
 /// Serves one command line, whose first word is the program's name: reads a script from `input`, or from the file that
-/// the words name, and writes the answer on
-/// `output`, which hasn't failed before. Answers the exit status: 0; 1 for a refusal, with its line on `faults`; 2 for a
-/// fault of the command line, with the text of `clap` on `faults`. The words are looked at first; then come a failed
-/// input, or a file that can't be read (13), a fault of the script (10) and one of the turns (11), each with nothing on `output`, and a failed output
-/// (12). A fault line that can't be written changes no status (own).
+/// the words name, and writes the answer on `output`, which hasn't failed before. Answers the exit status: 0; 1 for a
+/// refusal, with its line on `faults`; 2 for a fault of the command line, with the text of `clap` on `faults`.
+///
+/// The words are looked at first; then come a failed input, or a file that can't be read (13), a fault of the script
+/// (10) and one of the turns (11), each with nothing on `output`, and a failed output (12). A fault line that can't be written changes no status: `faults` then took a beginning of it, or nothing where
+/// it had failed before (own).
 pub fn serve<R: rt::Files, S: AsStr, I: Read, O: Write, F: Write>(
     rt: &R,
     alloc: Global,
     words: &[S],
     input: &mut I,
     output: &mut Output<O>,
-    faults: &mut F,
+    faults: &mut Output<F>,
 ) -> u8
     requires { output.old.has_failed ≡ false }
     ensures serves { Serves (map S.text words.now) (I.remaining input.old) result (O.contents output.old.writer)
-        (O.contents output.new.writer) output.new.has_failed }
-    ensures answers { (asked : Asked) → AsksPlainly (map S.text words.now) asked → IsAnswered asked (I.remaining input.old)
-        result (O.contents output.old.writer) (O.contents output.new.writer) output.new.has_failed }
-    ensures help { AsksHelp (map S.text words.now) → IsShown result (O.contents output.old.writer) (O.contents output.new.writer)
-        output.new.has_failed }
+        (O.contents output.new.writer) output.new.has_failed
+        (report (F.contents faults.old.writer) faults.old.has_failed
+        (F.contents faults.new.writer) faults.new.has_failed) }
+    ensures answers { (asked : Asked) → AsksPlainly (map S.text words.now) asked
+        → IsAnswered asked (I.remaining input.old) result (O.contents output.old.writer) (O.contents output.new.writer) output.new.has_failed
+        (report (F.contents faults.old.writer) faults.old.has_failed
+        (F.contents faults.new.writer) faults.new.has_failed) }
+    ensures help { AsksHelp (map S.text words.now) → IsShown result (O.contents output.old.writer)
+        (O.contents output.new.writer) output.new.has_failed
+        (report (F.contents faults.old.writer) faults.old.has_failed
+        (F.contents faults.new.writer) faults.new.has_failed) }
     ensures version { AsksVersion (map S.text words.now) → IsShown result (O.contents output.old.writer)
-        (O.contents output.new.writer) output.new.has_failed }
+        (O.contents output.new.writer) output.new.has_failed
+        (report (F.contents faults.old.writer) faults.old.has_failed
+        (F.contents faults.new.writer) faults.new.has_failed) }
     ensures missing { NamesNoCommand (map S.text words.now) → IsMistaken result (O.contents output.old.writer)
-        (O.contents output.new.writer) output.new.has_failed }
-    ensures quiet { result ≡ 0 → F.contents faults.new ≡ F.contents faults.old }
+        (O.contents output.new.writer) output.new.has_failed
+        (report (F.contents faults.old.writer) faults.old.has_failed
+        (F.contents faults.new.writer) faults.new.has_failed) }
+    ensures quiet { result ≡ 0 → F.contents faults.new.writer ≡ F.contents faults.old.writer }
     ensures status { result ≤ 2 }
 {
     match asked_of(alloc, words) {

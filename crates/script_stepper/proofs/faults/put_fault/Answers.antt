@@ -1,0 +1,27 @@
+use Rattle.std.proofs.Common.{refl, ◌∙◌}
+use Rattle.script_text.specs.declared.fault.Fault.TheVariants.{Syntax, BadTurn, Output, Input}
+use Rattle.script_stepper.proofs.FaultLines.{same_line, syntax_line, turn_line}
+use Rattle.script_stepper.proofs.faults.put_fault.Goals as goal
+
+pub returns-in-Syntax-clause-written : goal.returns-in-Syntax-clause-written
+returns-in-Syntax-clause-written g c =
+    let digits = c.as_bytes.ensures.value ∙ c.format.ensures.text in
+    let words = c.as_bytes-in-Syntax.ensures.value ∙ c.words.ensures in
+    same_line c.put_five.result (g.S.Sink.taken c.args.sink.now) (g.S.Sink.taken c.put_five.new.sink) c.args.fault
+    (Syntax c.in-Syntax.line c.in-Syntax.cause) _ c.in-Syntax.is (syntax_line _ c.in-Syntax.cause _ _ digits words) c.put_five.ensures.written
+
+pub returns-in-BadTurn-clause-written : goal.returns-in-BadTurn-clause-written
+returns-in-BadTurn-clause-written g c =
+    let digits = c.as_bytes-in-BadTurn.ensures.value ∙ c.format-in-BadTurn.ensures.text in
+    same_line c.put_three.result (g.S.Sink.taken c.args.sink.now) (g.S.Sink.taken c.put_three.new.sink) c.args.fault
+    (BadTurn c.in-BadTurn.position) _ c.in-BadTurn.is (turn_line _ _ digits) c.put_three.ensures.written
+
+pub returns-in-Output-clause-written : goal.returns-in-Output-clause-written
+returns-in-Output-clause-written g c =
+    same_line c.put-in-Output.result (g.S.Sink.taken c.args.sink.now) (g.S.Sink.taken c.put-in-Output.new.sink) c.args.fault
+    Output _ c.in-Output.is refl c.put-in-Output.ensures.written
+
+pub returns-in-Input-clause-written : goal.returns-in-Input-clause-written
+returns-in-Input-clause-written g c =
+    same_line c.put-in-Input.result (g.S.Sink.taken c.args.sink.now) (g.S.Sink.taken c.put-in-Input.new.sink) c.args.fault
+    Input _ c.in-Input.is refl c.put-in-Input.ensures.written
