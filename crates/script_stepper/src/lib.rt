@@ -2,6 +2,7 @@
 #![tactic(auto)]
 
 mod closing;
+mod ending;
 mod lines;
 pub mod listing;
 mod running;
@@ -10,6 +11,7 @@ pub mod stepping;
 mod steps;
 pub mod turns;
 
+pub use ending::{End, end_of};
 pub use listing::{write_lines, write_text};
 pub use sink::{Output, Sink, WriteFailed, write_all};
 pub use stepping::{fine_text, step_text};
