@@ -27,9 +27,12 @@ use Rattle.script_stepper.proofs.Acting.{settled_endings, settled_size}
 use Rattle.script_stepper.proofs.TraceLemmas.{plays_extent}
 
 -- a run leaves the table as large as it was
+pub same_shape : (turns : List ℕ) (u v : Sight) (a b : List ℕ) → HasRun turns u v a b → v.story.extent.shape ≡ u.story.extent.shape
+same_shape turns u v a b h =
+    ap (λ (c : Scene). c.extent.shape) h.scene_is ∙ ap (λ (x : Extent). x.shape) (plays_extent turns (scene u))
+
 pub same_blocks : (turns : List ℕ) (u v : Sight) (a b : List ℕ) → HasRun turns u v a b → v.story.extent.shape.blocks ≡ u.story.extent.shape.blocks
-same_blocks turns u v a b h =
-    ap (λ (c : Scene). c.extent.shape.blocks) h.scene_is ∙ ap (λ (x : Extent). x.shape.blocks) (plays_extent turns (scene u))
+same_blocks turns u v a b h = ap (λ (x : Shape). x.blocks) (same_shape turns u v a b h)
 
 pub shown_text : (turns : List ℕ) (u v : Sight) (a b c : List ℕ) → a ≡ [] → RunsOut turns u v a b → AllOver v
     → c ≡ b ++ ended (closing_lines (scene v)) → IsTurnText turns (scene u) c

@@ -1,3 +1,4 @@
+pub mod Ends
 pub mod Followed
 pub mod Lines
 pub mod Running

@@ -2,6 +2,7 @@
 #![tactic(auto)]
 
 mod closing;
+mod ending;
 pub mod faults;
 mod lines;
 pub mod listing;
@@ -11,6 +12,7 @@ pub mod stepping;
 mod steps;
 pub mod turns;
 
+pub use ending::{End, end_of};
 pub use faults::write_fault;
 pub use listing::{write_lines, write_text};
 pub use sink::{Output, Sink, WriteFailed, write_all};

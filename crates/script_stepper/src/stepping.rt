@@ -38,7 +38,7 @@ pub(crate) enum Pace {
 }
 
 /// The shape of a script's world: each thread has the same number of blocks.
-fn shape_of(blocks: u32, threads: u32) -> Shape
+pub(crate) fn shape_of(blocks: u32, threads: u32) -> Shape
     requires least { 64 ≤ blocks }
     requires most { blocks ≤ 65535 }
     requires some { 1 ≤ threads }
@@ -55,7 +55,7 @@ fn shape_of(blocks: u32, threads: u32) -> Shape
 }
 
 /// The world in which a script's run begins. It is within the limits, so that only memory may be wanting.
-fn world_of(alloc: Global, script: &Script, shape: Shape) -> Result<World, Fault>
+pub(crate) fn world_of(alloc: Global, script: &Script, shape: Shape) -> Result<World, Fault>
     requires shape { shape ≡ script_shape script.now }
     requires within { IsWithinLimits shape }
     ensures ok { IfOk result (λ w. w ≡ first_sight shape (program_in script.now.threads)) }

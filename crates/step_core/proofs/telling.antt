@@ -16,3 +16,4 @@ pub mod Stepping
 pub mod Worlds
 pub mod Starting
 pub mod Census
+pub mod Targets

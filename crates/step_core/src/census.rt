@@ -1,7 +1,8 @@
 //! What a world tells of its state.
-ghost use Rattle.std.specs.Prelude.{◌≡◌, ◌↔◌, ◌<◌, ◌≤◌, None};
+ghost use Rattle.std.specs.Prelude.{◌≡◌, ◌↔◌, ◌<◌, ◌≤◌, None, IfSome};
 ghost use Rattle.control_word.specs.Packing.{number_of};
 ghost use Rattle.control_word.specs.State.{IsVacant};
+ghost use Rattle.step_table.specs.Cells.{IsThere, target_of};
 ghost use Rattle.step_table.specs.Stories.{state};
 ghost use Rattle.step_core.specs.Totals.{IsAtEnd, census_of, counts_in, ended_in, made_in};
 
@@ -9,6 +10,7 @@ use crate::world::World;
 use control_word::counts::unpack_count;
 use control_word::layout::{OWNERS, WEAKS};
 use control_word::{Block, Counts};
+use step_table::cell_deed::Cell;
 
 impl World {
     /// How many owners and weak handles the object in a block has ([util.smartptr.shared.obs], and own); none where the block
@@ -26,6 +28,17 @@ impl World {
             self.table.word(block, OWNERS),
             self.table.word(block, WEAKS),
         )
+    }
+
+    /// The block of the object that the handle in a cell is on; none where it is on none (own). Condition: the cell is free, or
+    /// a member of what is in a block that isn't vacant.
+    pub fn target(&self, cell: Cell) -> Option<Block>
+        requires { IsThere self.now.story cell }
+        ensures target { result ≡ target_of (state self.now.story) cell }
+        ensures within { IfSome result (λ b. (0 < b.0) × (b.0 ≤ self.now.story.extent.shape.blocks)) }
+    {
+        self.table.known();
+        self.table.target(cell)
     }
 
     /// How many objects were made (own).

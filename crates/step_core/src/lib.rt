@@ -9,6 +9,7 @@ mod told;
 mod trace;
 mod world;
 
+pub use step_table::cell_deed::Cell;
 pub use step_table::ended::Ended;
 pub use step_table::field::Field;
 pub use step_threads::call::{Actor, Call, CellName, Kind, Name, Program};

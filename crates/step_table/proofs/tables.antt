@@ -10,6 +10,7 @@ pub mod Owners
 pub mod Places
 pub mod Reading
 pub mod Shown
+pub mod Targets
 pub mod Standing
 pub mod Start
 pub mod Swaps

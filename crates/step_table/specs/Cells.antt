@@ -1,8 +1,11 @@
 -- What a step finds in a cell. All of it is own.
-use Rattle.std.specs.Prelude.{◌≡◌, ℕ, ◌<◌, slice_index}
+use Rattle.std.specs.Prelude.{◌≡◌, ℕ, ◌<◌, slice_index, Option}
 use Rattle.control_word.specs.declared.cell.CellWord.{CellWord}
 use Rattle.control_word.specs.Events.{InHand, IsOpen, cell_of}
+use Rattle.control_word.specs.declared.place.Block.{Block}
 use Rattle.control_word.specs.Packing.{IsCellWord, cell_bits}
+use Rattle.control_word.specs.State.{State, weak_number}
+use Rattle.control_word.specs.Words.{block_of, blocks_of}
 use Rattle.step_table.specs.declared.cell_deed.Cell.{Cell}
 use Rattle.step_table.specs.declared.cell_deed.Cell.TheVariants.{Free, Member}
 use Rattle.step_table.specs.CellDeeds.{cell_in, handle_told, kind_in, word_of}
@@ -30,3 +33,12 @@ pub record Shows (v : Story) (c : Cell) (x : CellWord) : Type 0 where
 -- the value is of the cell's kind, and the desk has it or it has no object
 abbrev pub HasInHand : Story → ℕ → Cell → CellWord → Type 0
 HasInHand v d c x = InHand (state v) d (kind_in (state v) c) (handle_told (state v) c x)
+
+-- the cell is free, or a member of what is in a block that isn't vacant
+abbrev pub IsThere : Story → Cell → Type 0
+IsThere v (Free n) = n < (state v).cells
+IsThere v (Member b m) = (m < 3) × (0 < weak_number (state v) ((state v).latest b.0))
+
+-- the block of the object that the handle in a cell is on, if it is on one
+abbrev pub target_of : State → Cell → Option Block
+target_of s c = block_of (blocks_of s) (cell_of s (cell_in s c)).object

@@ -7,7 +7,7 @@ ghost use Rattle.control_word.specs.Packing.{IsCellWord, cell_bits};
 ghost use Rattle.control_word.specs.State.{State, bag_size};
 ghost use Rattle.step_table.specs.CellDeeds.{handle_told, kind_in, owing, word_of};
 ghost use Rattle.step_table.specs.declared.cell_deed.Cell.{Cell as At};
-ghost use Rattle.step_table.specs.Cells.{HasInHand, IsOpenTo, IsSomewhere, Shows, word_at};
+ghost use Rattle.step_table.specs.Cells.{HasInHand, IsOpenTo, IsSomewhere, IsThere, Shows, target_of, word_at};
 ghost use Rattle.step_table.specs.Stories.{after, pending, state};
 
 use crate::cell_deed::{Cell, CellDeed, Compared};
@@ -16,7 +16,7 @@ use crate::table::Table;
 use control_word::CellWord;
 use control_word::cell::{ONE_TAKEN, pack, unpack};
 use control_word::layout::{MEMBERS, block_word, cell_word};
-use control_word::place::Place;
+use control_word::place::{Block, Place};
 
 /// Where a cell's word lies, in a table of so many blocks.
 fn place_of(cell: Cell, blocks: u32) -> usize
@@ -49,6 +49,15 @@ fn is_same_empty(found: CellWord, expected: CellWord) -> bool
 }
 
 impl Table {
+    /// The block of the object that the handle in a cell is on; none where it is on none (own). Condition: the cell is free, or a
+    /// member of what is in a block that isn't vacant.
+    pub fn target(&self, cell: Cell) -> Option<Block>
+        requires { IsThere self.now cell }
+        ensures { result ≡ target_of (state self.now) cell }
+    {
+        unpack(self.words.get(place_of(cell, self.extent.shape.blocks))).owned
+    }
+
     /// What a cell holds, and how many of its funds were taken.
     pub fn shown(&self, desk: usize, cell: Cell) -> CellWord
         requires seat { desk < self.now.extent.actors }

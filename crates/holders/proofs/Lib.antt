@@ -1,0 +1,4 @@
+pub mod Adding
+pub mod Backwards
+pub mod Marking
+pub mod Owning

@@ -1,0 +1,24 @@
+use Rattle.std.proofs.Common.{◌≡◌, ◌∙◌, ◌++◌, ◌+◌, ℕ, List, ap, sym}
+use Rattle.std.specs.List.{flat_map}
+use Rattle.control_word.proofs.history.Kept.{cells_led}
+use Rattle.step_table.specs.Openings.{opening}
+use Rattle.step_table.specs.Stories.{state}
+use Rattle.step_threads.specs.Stocks.{from}
+use Rattle.holders.specs.declared.held.Holding.{Holding}
+use Rattle.holders.specs.Holdings.{held_by_block, held_by_free}
+use Rattle.holders.proofs.held.holdings.Goals as goal
+
+pub add_free-requires : goal.add_free-requires
+add_free-requires c =
+    let v = c.args.world.now.story in c.requires.cells ∙ sym (cells_led (opening v.extent) v.history)
+
+pub returns-clause-held : goal.returns-clause-held
+returns-clause-held c =
+    let v = c.args.world.now.story in
+    let s = state v in
+    let cells : c.args.cells ≡ s.cells = c.requires.cells ∙ sym (cells_led (opening v.extent) v.history) in
+    c.in_ok-add_blocks.ensures.held
+    ∙ ap (λ (l : List Holding). l ++ flat_map (held_by_block s) (from 1 c.args.blocks))
+    (c.in_ok-add_free.ensures.held
+    ∙ ap (λ (l : List Holding). l ++ flat_map (held_by_free s) (from 0 c.args.cells)) c.new-holdings.ensures.items
+    ∙ ap (λ (n : ℕ). flat_map (held_by_free s) (from 0 n)) cells)
