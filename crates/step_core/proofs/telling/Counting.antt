@@ -26,10 +26,9 @@ use Rattle.step_table.specs.Holdings.{inside, is_full, owner_slot, place_in, slo
 use Rattle.step_threads.specs.Entries.{least}
 use Rattle.step_table.specs.Deeds.{by_word, on, give, is_enabled, lock, owner_word, aliased}
 use Rattle.step_threads.specs.Scenes.{answer_of, ended_of, holding, left as leaves_by, went}
-use Rattle.step_threads.specs.NextSteps.{at_rest, begun, emptied, first}
-use Rattle.step_threads.specs.Steps.{Step, acts, asks, begins, brings, claims, empties, ends_on}
-use Rattle.step_threads.specs.NextSteps.{given, made_on, sent, step_at, tried}
-use Rattle.step_threads.specs.Steps.{looks, prepares, sends, silent, swaps, tries, trying, with_endings, within}
+use Rattle.step_threads.specs.NextSteps.{at_rest, begun, emptied, first, given, made_on, sent, step_at, tried}
+use Rattle.step_threads.specs.Steps.{Step, acts, asks, begins, brings, claims, empties, ends_on, looks, prepares, sends, silent, swaps}
+use Rattle.step_threads.specs.Steps.{tries, trying, with_endings, within}
 use Rattle.control_word.specs.declared.handle.Kind.{Kind}
 use Rattle.control_word.specs.declared.handle.Kind.TheVariants.{Owner, Weak}
 use Rattle.step_table.specs.Stories.{Story, known, object_in, pending, state}
