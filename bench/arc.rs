@@ -101,8 +101,8 @@ fn run(threads: usize, chunk: u64, work: impl Fn(usize) + Sync) -> Vec<Spent> {
     })
 }
 
-/// A line: the time of some of the threads by their operations, and the least part of its time, of 100, that a thread had
-/// a processor, or that it shared with the others.
+/// A line: the time of some of the threads by their operations, and the least part of its time, of 100, that a thread
+/// had a processor, or that it shared with the others.
 fn tell(test: &str, peer: &str, spent: &[Spent], told: &[Spent]) {
     let wall: f64 = told.iter().map(|s| s.wall).sum();
     let operations: f64 = told.iter().map(|s| s.operations).sum();

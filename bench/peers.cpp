@@ -1,6 +1,6 @@
 // What a caller waits for shared_ptr, weak_ptr and atomic shared_ptr of libstdc++ and of Boost, by thread count.
-// Prints lines "test|peer|threads|nanoseconds|share", so many of each as the argument says, as the program `measure` of crates/
-// and arc.rs do.
+// Prints lines "test|peer|threads|nanoseconds|share", so many of each as the argument says, as the program `measure` of
+// crates/ and arc.rs do.
 #include <algorithm>
 #include <array>
 #include <atomic>
@@ -101,7 +101,8 @@ void tell(char const *test, char const *peer, std::vector<Spent> const &spent, i
     std::printf("%s|%s|%d|%.2f|%.0f\n", test, peer, int(spent.size()), wall / operations, share_of(spent));
 }
 
-template <class Work> void time_row(char const *test, char const *peer, int threads, Work work, std::uint64_t count = chunk) {
+template <class Work>
+void time_row(char const *test, char const *peer, int threads, Work work, std::uint64_t count = chunk) {
     tell(test, peer, run(threads, count, work), 0, threads);
 }
 

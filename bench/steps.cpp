@@ -1,5 +1,5 @@
-// What single steps on a word cost on this machine, with 1, 2 and 4 threads on one word. A thread stores into words of its
-// own, as a call keeps its desk's numbers.
+// What single steps on a word cost on this machine, with 1, 2 and 4 threads on one word. A thread stores into words of
+// its own, as a call keeps its desk's numbers.
 #include <algorithm>
 #include <atomic>
 #include <chrono>
@@ -85,7 +85,8 @@ double sample(int threads) {
     return sum.load() / threads;
 }
 
-// The least of one thread's samples; of several threads the middle one, since two that are apart for a while don't contend.
+// The least of one thread's samples; of several threads the middle one, since two that are apart for a while don't
+// contend.
 template <void step(Own&)>
 void tell(const char* name) {
     std::printf("%-52s", name);

@@ -1,5 +1,5 @@
-/* Preloaded before a program: refuses the allocation with the number REFUSE_AT, or that with the number REFUSE_FROM and all later
-   ones, and counts in the file ALLOCATIONS, which has room for one number, how many were asked for. */
+/* Preloaded before a program: refuses the allocation with the number REFUSE_AT, or that with the number REFUSE_FROM and
+   all later ones, and counts in the file ALLOCATIONS, which has room for one number, how many were asked for. */
 #include <errno.h>
 #include <fcntl.h>
 #include <stdlib.h>

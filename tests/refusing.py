@@ -20,7 +20,8 @@ class Refusing:
 
     def run(self, words, script=b'', **refused):
         """A run with `REFUSE_AT` or `REFUSE_FROM` as given: its result, and how many allocations it asked for."""
-        settings = {'LD_PRELOAD': self.library, 'ALLOCATIONS': self.told, **{name: str(it) for name, it in refused.items()}}
+        told = {name: str(it) for name, it in refused.items()}
+        settings = {'LD_PRELOAD': self.library, 'ALLOCATIONS': self.told, **told}
         ran = subprocess.run(words, input=script, capture_output=True, timeout=120, env={**os.environ, **settings})
         return ran, int.from_bytes(self.told.read_bytes(), sys.byteorder)
 

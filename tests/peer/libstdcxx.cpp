@@ -1,6 +1,6 @@
-// Runs a script of the repository's language over libstdc++'s own shared_ptr, weak_ptr and atomic of both, and prints the lines
-// that the language wants. Statements are whole here: the order in which threads take theirs is drawn by a seed. On
-// standard error it tells how that order reads as a list of turns, each of one act.
+// Runs a script of the repository's language over libstdc++'s own shared_ptr, weak_ptr and atomic of both, and prints
+// the lines that the language wants. Statements are whole here: the order in which threads take theirs is drawn by a
+// seed. On standard error it tells how that order reads as a list of turns, each of one act.
 //
 // usage: libstdcxx SEED < SCRIPT
 #include <algorithm>
@@ -193,7 +193,8 @@ struct Machine {
     to.watcher = std::move(value);
   }
 
-  template <class P> void on_cell(Thread &t, const vector<string> &s, std::atomic<P> &cell, P Name::*value, bool is_weak) {
+  template <class P>
+  void on_cell(Thread &t, const vector<string> &s, std::atomic<P> &cell, P Name::*value, bool is_weak) {
     if (s[0] == "load")
       return assign(t.target(s[1], is_weak), cell.load());
     P &x = t.name(s[2]).*value;
@@ -209,7 +210,8 @@ struct Machine {
     }
     P desired = t.name(s[3]).*value, held = cell.load(), expected = x;
     ++acts; // (the copy, then the compare)
-    bool yes = s[0] == "compare" ? cell.compare_exchange_strong(expected, desired) : cell.compare_exchange_weak(expected, desired);
+    bool yes = s[0] == "compare" ? cell.compare_exchange_strong(expected, desired)
+                                 : cell.compare_exchange_weak(expected, desired);
     tell(yes ? "compare yes" : "compare no");
     if (yes) {
       acts += !is_empty(held);
@@ -337,7 +339,8 @@ struct Machine {
       return tell(x.watcher.expired() ? "expired yes" : "expired no");
     if (w == "place") {
       auto place = x.owner.get();
-      return tell(place ? "place " + std::to_string(pool.block_at(place)) + "." + std::to_string(number_of(place)) : "place null");
+      return tell(place ? "place " + std::to_string(pool.block_at(place)) + "." + std::to_string(number_of(place))
+                        : "place null");
     }
     if (w == "same")
       return tell(x.owner == t.name(s[2]).owner ? "same yes" : "same no");

@@ -8,7 +8,7 @@ ghost use Rattle.control_block.specs.Parting.{AreIn, JoinsWith};
 use crate::desk::Desk;
 use crate::domain::Domain;
 use crate::split::append_all;
-use crate::steps;
+use crate::steps::chairs;
 
 impl<V: Drop + Send> Desk<V> {
     /// The other desk's blocks, allowance, handles and endings become this one's, which has then seen all that either
@@ -31,7 +31,7 @@ impl<V: Drop + Send> Desk<V> {
             endings,
             store,
         } = other;
-        steps::join(&domain.table.shared, &mut self.seat, seat);
+        chairs::join(&domain.table.shared, &mut self.seat, seat);
         append_all(&mut self.store, store.as_slice());
         self.allowance += allowance;
         self.held += held;

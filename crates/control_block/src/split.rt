@@ -13,7 +13,7 @@ use crate::desk::Desk;
 use crate::domain::Domain;
 use crate::handles::Held;
 use crate::plays::Given;
-use crate::steps;
+use crate::steps::chairs;
 use control_word::{Block, Refusal, Refused};
 use std::alloc::Global;
 use std::marker::Brand;
@@ -90,8 +90,8 @@ fn part<V, T: Lent, G: Given>(
     ensures other { (result.table_id ≡ chair.old.table_id) × (result.me.1 ≡ []) }
     ensures event { Parted chair.old.me.0 allowance (in_history (known chair.old.me.0) (T.handles handles.now)) blocks.now chair.new.me.0 result.me.0 }
 {
-    steps::note_split::<V, G>(board, chair);
-    steps::cut(board, chair)
+    chairs::note_split::<V, G>(board, chair);
+    chairs::cut(board, chair)
 }
 
 impl<V: Drop + Send> Desk<V> {

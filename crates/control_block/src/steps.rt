@@ -6,13 +6,13 @@ ghost use Rattle.control_word.specs.Handles.{IsPointer, handle, owner, weak_of};
 ghost use Rattle.control_word.specs.Layout.{spot};
 ghost use Rattle.control_word.specs.State.{Has, count, stored};
 ghost use Rattle.control_word.specs.Words.{flags_of};
-ghost use Rattle.control_word.specs.declared.event.Event.TheVariants.{Count, Expired, Finish, Leave, Make, Read, Share, Split, WeakLeave, WeakShare};
-ghost use Rattle.control_word.specs.declared.view.Pending.TheVariants.{Parting};
+ghost use Rattle.control_word.specs.declared.event.Event.TheVariants.{Count, Expired, Finish, Leave, Make, Read, Share, WeakLeave, WeakShare};
 ghost use Rattle.control_word.specs.declared.handle.Kind.TheVariants.{Owner, Weak};
-ghost use Rattle.control_block.specs.Plays.{tells, goes_on, comes_off, known, Added, JoinsUp, MaySplit, Ends, Rests, Holding, HasRoomFor, IsClear, IsNear, IsPrepared, IsTold, MayShareWeakly};
+ghost use Rattle.control_block.specs.Plays.{tells, known, Ends, Rests, Holding, HasRoomFor, IsClear, IsNear, IsPrepared, IsTold, MayShareWeakly};
 ghost use Rattle.control_block.specs.declared.board.Sight.{Sight};
 
 pub mod cells;
+pub mod chairs;
 pub mod clears;
 pub mod doors;
 pub mod funds;
@@ -23,8 +23,8 @@ pub mod locks;
 use crate::board::{Board, Chair};
 use crate::in_place::InPlace;
 use crate::plays::{
-    Begins, Claims, Counts, Cut, Fetches, FindsExpired, Finishes, Given, Glue, Joins, MakeArgs,
-    Peeks, Reads, Shares, Splits, StepArgs, WeakShares, Writes,
+    Begins, Claims, Counts, Fetches, FindsExpired, Finishes, MakeArgs, Peeks, Reads, Shares,
+    StepArgs, WeakShares, Writes,
 };
 use control_word::counts::told_count;
 use control_word::layout::{ENABLED, FIELDS, FLAGS, NULL, OWNERS, WEAKS, block_word};
@@ -261,40 +261,4 @@ pub fn finish<V: Drop + Send, M: StepArgs>(
     let value = in_hand::take(board, chair, block);
     let found = board.fetch_sub::<Finishes<M>>(chair, word, 1);
     (value, found == 1)
-}
-
-/// Split: the look at which a new desk gets its name and what it is given (own).
-pub fn note_split<V, G: Given>(board: &Board<V>, chair: &mut Chair<V>)
-    requires board { chair.old.table_id ≡ board.now.table_id }
-    requires rests { Rests chair.old.me }
-    requires word { 0 < board.now.table_id.words }
-    requires may { MaySplit chair.old.me.0 G.allowance G.handles G.blocks }
-    ensures chair { (chair.new.table_id ≡ chair.old.table_id) × (chair.new.id ≡ chair.old.id) × (chair.new.me.1 ≡ []) }
-    ensures event { (to : ℕ) × Added chair.old.me.0 (Parting to) None (Split to G.allowance G.handles G.blocks) chair.new.me.0 }
-{
-    board.load::<Splits<G>>(chair, 0);
-}
-
-/// The cut that follows: the new desk's chair. Both have seen the same.
-pub fn cut<V>(board: &Board<V>, chair: &mut Chair<V>) -> Chair<V>
-    requires board { chair.old.table_id ≡ board.now.table_id }
-    requires word { 0 < board.now.table_id.words }
-    requires parts { (chair.old.me.0.view.spent ≡ false) × (chair.old.me.0.hand ≡ None) × (chair.old.me.1 ≡ []) }
-    requires named { (to : ℕ) × (chair.old.me.0.view.pending ≡ Parting to) }
-    ensures chair { (chair.new.table_id ≡ chair.old.table_id) × (chair.new.id ≡ chair.old.id) × (chair.new.me ≡ (goes_on chair.old.me.0, [])) }
-    ensures other { (result.table_id ≡ chair.old.table_id) × (result.me ≡ (comes_off chair.old.me.0, [])) }
-{
-    board.split_seat::<Cut>(chair)
-}
-
-/// Join: two chairs at rest become one, and a look makes the event (own). The chair has then seen all that either had.
-pub fn join<V>(board: &Board<V>, chair: &mut Chair<V>, other: Chair<V>)
-    requires board { (chair.old.table_id ≡ board.now.table_id) × (other.table_id ≡ board.now.table_id) }
-    requires rests { Rests chair.old.me × Rests other.me }
-    requires word { 0 < board.now.table_id.words }
-    ensures chair { (chair.new.table_id ≡ chair.old.table_id) × (chair.new.id ≡ chair.old.id) × (chair.new.me.1 ≡ []) }
-    ensures event { JoinsUp chair.old.me.0 other.me.0 chair.new.me.0 }
-{
-    board.join_seat::<Glue>(chair, other);
-    board.load::<Joins>(chair, 0);
 }

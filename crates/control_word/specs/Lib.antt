@@ -8,5 +8,6 @@ pub mod Histories
 pub mod Words
 pub mod Views
 pub mod Steps
+pub mod CellSteps
 pub mod Laws
 pub mod Worked

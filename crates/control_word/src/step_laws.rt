@@ -5,11 +5,14 @@
 //! makes of the state restates ISO/IEC 14882:2020 as the definitions of events say.
 ghost use Rattle.control_word.specs.Steps.{WritesWeakWord, WritesWord, Claims, Shares, Leaves};
 ghost use Rattle.control_word.specs.Steps.{WeakShares, WeakLeaves, Finishes, Locks, TellsCount};
-ghost use Rattle.control_word.specs.Steps.{TellsExpired, Reads, LooksOn, LoadsEmpty, DiffersEmpty};
-ghost use Rattle.control_word.specs.Steps.{Brings, GivesBack, LeavesWithFunds};
-ghost use Rattle.control_word.specs.Steps.{WeakLeavesWithFunds, Takes, Turns, Refills, Swaps};
-ghost use Rattle.control_word.specs.Steps.{CompareSwaps, Clears, Shuts, Opens, Splits, CutsView};
-ghost use Rattle.control_word.specs.Steps.{MergesViews, Joins, Begins, CellsShow, HasHeadroom};
+ghost use Rattle.control_word.specs.Steps.{TellsExpired, Reads, LooksOn};
+ghost use Rattle.control_word.specs.CellSteps.{LoadsEmpty, DiffersEmpty};
+ghost use Rattle.control_word.specs.CellSteps.{Brings, GivesBack, LeavesWithFunds};
+ghost use Rattle.control_word.specs.CellSteps.{WeakLeavesWithFunds, Takes, Turns, Refills, Swaps};
+ghost use Rattle.control_word.specs.Steps.{Shuts, Opens, Splits, CutsView};
+ghost use Rattle.control_word.specs.CellSteps.{CompareSwaps, Clears};
+ghost use Rattle.control_word.specs.Steps.{MergesViews, Joins, Begins, HasHeadroom};
+ghost use Rattle.control_word.specs.CellSteps.{CellsShow};
 
 /// How a block is made: what is written into it, and the claim.
 pub fn making<V>()

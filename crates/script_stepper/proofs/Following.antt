@@ -26,7 +26,8 @@ use Rattle.step_threads.specs.Courses.{Walk, hand}
 use Rattle.step_threads.specs.Doings.{Ahead, AnAct, AnEnd, Does, DoesAhead, Doing, Goes, ahead, ahead_of, lines, onto, put_on, spoken}
 use Rattle.step_threads.specs.Endings.{staged}
 use Rattle.step_threads.specs.Entries.{History, acted}
-use Rattle.step_threads.specs.Scenes.{Scene, Stop, Wound, clears, goes_on, next, next_of, nowhere, play, play_from, rest_of, rested_walk, said, said_from, said_of, state_in, stops, unwound, walk_of, went}
+use Rattle.step_threads.specs.Scenes.{Scene, next, next_of, nowhere, play, play_from, rest_of, rested_walk, said, said_from, said_of, state_in, walk_of, went}
+use Rattle.step_threads.specs.Unwinding.{Stop, Wound, clears, goes_on, stops, unwound}
 use Rattle.step_threads.specs.Steps.{silent}
 use Rattle.step_core.specs.Following.{no_worth}
 use Rattle.step_core.proofs.following.Replies.{replied}

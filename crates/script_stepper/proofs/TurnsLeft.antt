@@ -14,7 +14,8 @@ use Rattle.step_threads.specs.Courses.{Walk, hand}
 use Rattle.step_table.specs.Deeds.{exact}
 use Rattle.step_table.specs.Openings.{opening}
 use Rattle.step_threads.specs.Entries.{acted}
-use Rattle.step_threads.specs.Scenes.{Scene, Wound, next, next_of, nowhere, play, play_from, rest_of, rested_walk, said, said_from}
+use Rattle.step_threads.specs.Scenes.{Scene, next, next_of, nowhere, play, play_from, rest_of, rested_walk, said, said_from}
+use Rattle.step_threads.specs.Unwinding.{Wound}
 use Rattle.step_threads.specs.Scenes.{state_in, walk_of, went}
 use Rattle.step_core.specs.Totals.{ended_in, made_in}
 use Rattle.script_stepper.specs.Running.{parts_left, turns_left, tasks_in}

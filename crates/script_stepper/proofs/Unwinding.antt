@@ -13,7 +13,8 @@ use Rattle.step_threads.specs.Courses.{Walk, hand}
 use Rattle.step_table.specs.Holdings.{Slots, is_full, plain, pointer_of, slot}
 use Rattle.step_threads.specs.Entries.{History}
 use Rattle.step_table.specs.Contents.{slot_as, slot_of}
-use Rattle.step_threads.specs.Scenes.{Wound, clears, goes_on, rested_walk, stops, unwound}
+use Rattle.step_threads.specs.Scenes.{rested_walk}
+use Rattle.step_threads.specs.Unwinding.{Wound, clears, goes_on, stops, unwound}
 use Rattle.step_core.specs.Totals.{ended_in, made_in}
 use Rattle.script_stepper.specs.Running.{parts_left}
 use Rattle.script_stepper.proofs.Acting.{IsFree}

@@ -8,7 +8,8 @@ use Rattle.step_threads.specs.declared.act.Act.TheVariants.{Make, Share, Downgra
 use Rattle.step_threads.specs.declared.act.Task.{Task}
 use Rattle.step_threads.specs.declared.course.Course.{Course}
 use Rattle.step_threads.specs.declared.ending.Ending.{Ending}
-use Rattle.step_threads.specs.Courses.{Begins, CourseReady, Drops, Follows, IsCarried, IsPassed, IsReady, Ready, Walk, dropping, hand, idle, no_task, other, placed, rest, settled, slots_idle, taken_after}
+use Rattle.step_threads.specs.Courses.{Begins, CourseReady, Drops, Follows, IsCarried, IsReady, Ready, Walk, dropping, hand, idle, no_task, other, placed, rest, settled, slots_idle, taken_after}
+use Rattle.step_threads.specs.Passing.{IsPassed}
 use Rattle.step_threads.specs.Courses.{taken_idle, task_at, todo}
 use Rattle.step_threads.specs.Endings.{Stack}
 use Rattle.step_table.specs.declared.slot.Slot.{Slot}

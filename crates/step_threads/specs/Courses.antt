@@ -257,15 +257,6 @@ walk c = record { slots = c.holdings.slots.items; taken = c.taken; endings = c.e
 abbrev pub CourseReady : Course → Type 0
 CourseReady c = IsReady c.holdings.slots.items c.taken c.endings.list (todo c)
 
--- past an idle task
-pub record IsPassed (a b : Course) : Type 0 where
-  pub slots : b.holdings.slots.items ≡ slots_idle (task_at a).act a.holdings.slots.items a.taken
-  pub taken : b.taken ≡ taken_idle (task_at a).act a.taken
-  pub at : b.at ≡ a.at + 1
-  pub tasks : b.tasks ≡ a.tasks
-  pub endings : b.endings ≡ a.endings
-  pub holds : (d : ℕ) (v : Story) → Holds d a.holdings.slots.items v → Holds d b.holdings.slots.items v
-
 abbrev pub CourseStill : Course → Type 0
 CourseStill c = c.at < length c.tasks.items → idle (task_at c).act c.holdings.slots.items c.taken ≡ false
 

@@ -6,9 +6,11 @@ pub mod Endings
 pub mod Entries
 pub mod Interleavings
 pub mod NextSteps
+pub mod Passing
 pub mod Programs
 pub mod Rows
 pub mod Scenes
 pub mod Steps
 pub mod Stocks
 pub mod Threads
+pub mod Unwinding

@@ -1,13 +1,12 @@
 -- What the acts of threads make of the history, act by act. All of it is own but the events, which name their sections.
-use Rattle.std.specs.Prelude.{ℕ, zero, suc, ◌-◌, ◌==◌, Bool, true, false, not, cond, List, [], ◌∷◌, get_or, slice_set, Option, Some, None, option_map}
-use Rattle.control_word.specs.declared.event.Event.TheVariants as event
+use Rattle.std.specs.Prelude.{ℕ, Bool, true, false, not, cond, List, [], ◌∷◌, get_or, slice_set, Option, Some, None, option_map}
 use Rattle.control_word.specs.declared.handle.Kind.{Kind}
 use Rattle.control_word.specs.declared.handle.Kind.TheVariants.{Owner, Weak}
 use Rattle.control_word.specs.declared.place.Place.{Place}
 use Rattle.control_word.specs.declared.refusal.Refusal.TheVariants.{BadWeak, Full, NotEnabled, Null, Outside}
 use Rattle.control_word.specs.Events.{origin}
-use Rattle.control_word.specs.Handles.{has_object, same_place}
-use Rattle.control_word.specs.Histories.{entry, leads}
+use Rattle.control_word.specs.Handles.{same_place}
+use Rattle.control_word.specs.Histories.{leads}
 use Rattle.control_word.specs.State.{Object, Opening, State, weak}
 use Rattle.step_threads.specs.declared.act.Act.{Act}
 use Rattle.step_threads.specs.declared.act.Act.TheVariants.{Make, Share, Downgrade, Lock, Put, Leave, Clear, Count, Expired, Read, FromThis, Alias, Move, Ask, Offer, Swap, Exchange, Load, Compare, Drop}
@@ -33,6 +32,7 @@ use Rattle.step_table.specs.Holdings.{Slots, filled, inside, is_full, place_in, 
 use Rattle.step_table.specs.declared.slot.Slot.{Slot}
 use Rattle.step_table.specs.Openings.{opening}
 use Rattle.step_threads.specs.Entries.{History, least, is_expected, giving, acted}
+use Rattle.step_threads.specs.Unwinding.{Wound, unwound}
 
 -- the history so far, and where each thread is
 pub record Scene : Type 0 where
@@ -120,46 +120,6 @@ endings_by s k slots es a = on (λ x. begins_end s k x es) es (left slots a)
 -- where the thread is by an act of statement k alone, with these tasks after it
 abbrev pub went : State → ℕ → Walk → ℕ → List Task → Act → Walk
 went s d w k ts a = let x = hands s d w.slots w.taken a in settled x.0 x.1 (endings_by s k w.slots w.endings a) ts
-
--- how far the end of an object comes by itself: to a member that held an object, with so many members behind it, or to its end
-pub record Stop : Type 0 where
-  pub history : History
-  pub out : Option (ℕ × Slot)
-
--- a member of an ending object is cleared
-abbrev pub clears : Opening → ℕ → ℕ → ℕ → History → History
-clears z d o m h = entry d (event.ClearMember o m (((leads z h).object o).member m)) ∷ h
-
--- an object ends: its members that are left are cleared in order, up to one that held an object; with none left it is finished
-abbrev pub stops : Opening → ℕ → ℕ → ℕ → History → Stop
-stops z d o zero h = record { history = entry d (event.Finish o (weak (leads z h) o == 0) tt) ∷ h; out = None }
-stops z d o (suc k) h =
-    let s = leads z h in
-    let x = (s.object o).member (2 - k) in
-    cond (has_object x) (record { history = clears z d o (2 - k) h; out = Some (k, slot_of s x) }) (stops z d o k (clears z d o (2 - k) h))
-
--- how far a thread's endings come by themselves
-pub record Wound : Type 0 where
-  pub history : History
-  pub slots : Slots
-  pub endings : List Ending
-
--- the first ending came to its end, and the others went on, or a member's handle is in hand
-abbrev pub goes_on : Ending → List Ending → History → Slots → Wound → Option (ℕ × Slot) → Wound
-goes_on e es h slots others None = others
-goes_on e es h slots others (Some p) =
-    record {
-      history = h;
-      slots = slice_set slots (hand slots) p.1;
-      endings = record { block = e.block; stage = 3 - p.0; statement = e.statement } ∷ es;
-    }
-
--- the endings go on, the last begun first, until a member's handle is in hand or none is left
-abbrev pub unwound : Opening → ℕ → Slots → List Ending → History → Wound
-unwound z d slots [] h = record { history = h; slots = slots; endings = [] }
-unwound z d slots (e ∷ es) h =
-    let c = stops z d ((leads z h).latest e.block.0) (3 - e.stage) h in
-    goes_on e es c.history slots (unwound z d slots es c.history) c.out
 
 -- what came out of a member of an ending object leaves before all else
 abbrev pub next_of : Slots → List Ending → List Task → Option Task

@@ -32,7 +32,8 @@ pub struct Course {
 
 impl Course {
     ghost use Rattle.step_table.specs.Deeds.{on};
-    ghost use Rattle.step_threads.specs.Courses.{CanAct, CourseReady, HasGoneOn, IsPassed, IsReady, done_on, hand, idle, passed, placed, rest, settled, task_at, todo, walk};
+    ghost use Rattle.step_threads.specs.Courses.{CanAct, CourseReady, HasGoneOn, IsReady, done_on, hand, idle, passed, placed, rest, settled, task_at, todo, walk};
+    ghost use Rattle.step_threads.specs.Passing.{IsPassed};
 
     /// Whether the next task is no act where it comes.
     fn is_idle(&self) -> bool

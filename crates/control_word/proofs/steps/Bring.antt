@@ -7,7 +7,7 @@ use Rattle.control_word.proofs.words.Payments.{cond_one, pay_step}
 use Rattle.control_word.specs.Handles.{handle}
 use Rattle.control_word.specs.Histories.{leads}
 use Rattle.control_word.specs.State.{Has, Opening, held}
-use Rattle.control_word.specs.Steps.{Brings}
+use Rattle.control_word.specs.CellSteps.{Brings}
 use Rattle.control_word.specs.Views.{Stands, adds, owes, pays}
 use Rattle.control_word.specs.Words.{blocks_of, counts_at}
 use Rattle.control_word.specs.declared.event.Entry.{Entry}

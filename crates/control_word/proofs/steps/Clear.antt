@@ -10,7 +10,8 @@ use Rattle.control_word.specs.Handles.{empty}
 use Rattle.control_word.specs.Histories.{entry, leads}
 use Rattle.control_word.specs.Layout.{spot}
 use Rattle.control_word.specs.State.{HasRoom, Opening, common, ending, kind_of_member}
-use Rattle.control_word.specs.Steps.{Adds, Clears, cell_word, purse, state}
+use Rattle.control_word.specs.Steps.{Adds, cell_word, purse, state}
+use Rattle.control_word.specs.CellSteps.{Clears}
 use Rattle.control_word.specs.Views.{Stands}
 use Rattle.control_word.specs.Words.{blocks_of, packed}
 use Rattle.control_word.specs.declared.event.Cell.TheVariants.{Member}

@@ -10,7 +10,8 @@ use Rattle.control_word.specs.Events.{InHand, IsOpen, after, cell_of, kind_of}
 use Rattle.control_word.specs.Handles.{equivalent}
 use Rattle.control_word.specs.Histories.{entry, leads}
 use Rattle.control_word.specs.State.{HasRoom, Opening}
-use Rattle.control_word.specs.Steps.{Adds, CompareSwaps, cell_word, me, purse, state}
+use Rattle.control_word.specs.Steps.{Adds, cell_word, me, purse, state}
+use Rattle.control_word.specs.CellSteps.{CompareSwaps}
 use Rattle.control_word.specs.Views.{Stands}
 use Rattle.control_word.specs.Words.{blocks_of, cell_at, packed}
 use Rattle.control_word.specs.declared.event.Cell.{Cell}

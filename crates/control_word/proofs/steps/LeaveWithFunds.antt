@@ -6,7 +6,8 @@ use Rattle.control_word.proofs.words.Debts.{paying_out}
 use Rattle.control_word.specs.Handles.{handle}
 use Rattle.control_word.specs.Histories.{value}
 use Rattle.control_word.specs.State.{Has, held}
-use Rattle.control_word.specs.Steps.{LeavesWithFunds, Point, Ready, WeakLeavesWithFunds, counts, me, state}
+use Rattle.control_word.specs.Steps.{Point, Ready, counts, me, state}
+use Rattle.control_word.specs.CellSteps.{LeavesWithFunds, WeakLeavesWithFunds}
 use Rattle.control_word.specs.Views.{Fits}
 use Rattle.control_word.specs.declared.handle.Kind.{Kind}
 use Rattle.control_word.specs.declared.handle.Kind.TheVariants.{Owner, Weak}

@@ -24,7 +24,8 @@ use Rattle.control_word.specs.Laws.{CountsExactly}
 use Rattle.control_word.specs.Layout.{spot}
 use Rattle.control_word.specs.Packing.{funds_of, number_of}
 use Rattle.control_word.specs.State.{Has, HasWhole, Opening, bag_size, count, held}
-use Rattle.control_word.specs.Steps.{DiffersEmpty, LoadsEmpty, LooksOn, Reads, Tells, TellsCount, TellsExpired}
+use Rattle.control_word.specs.Steps.{LooksOn, Reads, Tells, TellsCount, TellsExpired}
+use Rattle.control_word.specs.CellSteps.{DiffersEmpty, LoadsEmpty}
 use Rattle.control_word.specs.Steps.{me, state, word}
 use Rattle.control_word.specs.Views.{Bare, Fits, Stands, more, owed, paid, sees}
 use Rattle.control_word.specs.Words.{Shows, bank, blocks_of, counts_at, object_words, slot}

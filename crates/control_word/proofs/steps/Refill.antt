@@ -18,7 +18,8 @@ use Rattle.control_word.specs.Handles.{handle}
 use Rattle.control_word.specs.Histories.{leads, value}
 use Rattle.control_word.specs.Layout.{spot}
 use Rattle.control_word.specs.State.{Opening, State, put}
-use Rattle.control_word.specs.Steps.{Refills, me, state}
+use Rattle.control_word.specs.Steps.{me, state}
+use Rattle.control_word.specs.CellSteps.{Refills}
 use Rattle.control_word.specs.Views.{Fits, Stands, adds, more, owed, owes, pays}
 use Rattle.control_word.specs.Words.{bank, blocks_of, cell_at, cell_spot, counts_at, packed, worth}
 use Rattle.control_word.specs.declared.event.Cell.{Cell}

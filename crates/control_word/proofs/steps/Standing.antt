@@ -9,7 +9,8 @@ use Rattle.control_word.proofs.words.Opening.{opens}
 use Rattle.control_word.proofs.words.Rooms.{funds_room, halves}
 use Rattle.control_word.specs.Events.{cell_of}
 use Rattle.control_word.specs.Packing.{IsCellWord, cell_bits}
-use Rattle.control_word.specs.Steps.{Begins, CellsShow, HasHeadroom, Point, Ready, cell_word, me, state, word}
+use Rattle.control_word.specs.Steps.{Begins, HasHeadroom, Point, Ready, cell_word, me, state, word}
+use Rattle.control_word.specs.CellSteps.{CellsShow}
 use Rattle.control_word.specs.Words.{blocks_of, shown}
 use Rattle.control_word.specs.declared.event.Cell.{Cell}
 use Rattle.control_word.specs.declared.event.Cell.TheVariants.{Free, Member}

@@ -19,7 +19,8 @@ use Rattle.control_word.specs.Events.{Asks, InHand, IsOpen, after, cell_of, fill
 use Rattle.control_word.specs.Histories.{Values, entry, leads, value, valued}
 use Rattle.control_word.specs.Layout.{spot}
 use Rattle.control_word.specs.State.{HasRoom, Object, Opening, put}
-use Rattle.control_word.specs.Steps.{Adds, Swaps, cell_word, me, purse, state}
+use Rattle.control_word.specs.Steps.{Adds, cell_word, me, purse, state}
+use Rattle.control_word.specs.CellSteps.{Swaps}
 use Rattle.control_word.specs.Views.{Bare, Fits, Stands, adds, more, owed, owes, pays}
 use Rattle.control_word.specs.Words.{Shows, block_words, blocks_of, cell_at, cell_spot, packed}
 use Rattle.control_word.specs.declared.event.Cell.{Cell}

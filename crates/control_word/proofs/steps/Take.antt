@@ -23,7 +23,8 @@ use Rattle.control_word.specs.Handles.{equivalent, handle}
 use Rattle.control_word.specs.Histories.{Values, entry, leads, value, valued}
 use Rattle.control_word.specs.Layout.{spot}
 use Rattle.control_word.specs.State.{Held, Opening, State, bag_size, held, put, tally}
-use Rattle.control_word.specs.Steps.{Takes, me, state}
+use Rattle.control_word.specs.Steps.{me, state}
+use Rattle.control_word.specs.CellSteps.{Takes}
 use Rattle.control_word.specs.Views.{Bare, Fits, Stands, adds, more, owed, owes, pays}
 use Rattle.control_word.specs.Words.{Shows, bank, blocks_of, cell_at, cell_spot, counts_at, worth}
 use Rattle.control_word.specs.declared.event.Cell.{Cell}

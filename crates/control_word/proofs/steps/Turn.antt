@@ -6,7 +6,7 @@ use Rattle.control_word.proofs.history.Legal.{held_busy, sound}
 use Rattle.control_word.proofs.words.Payments.{cond_one, own_funds, pay_step}
 use Rattle.control_word.specs.Histories.{leads, value}
 use Rattle.control_word.specs.State.{Opening}
-use Rattle.control_word.specs.Steps.{Turns}
+use Rattle.control_word.specs.CellSteps.{Turns}
 use Rattle.control_word.specs.Views.{Fits, Stands, adds, owes, pays}
 use Rattle.control_word.specs.Words.{blocks_of, counts_at}
 use Rattle.control_word.specs.declared.event.Entry.{Entry}

@@ -26,10 +26,9 @@ use Rattle.step_table.specs.Holdings.{inside, is_full, owner_slot, place_in, slo
 use Rattle.step_threads.specs.Entries.{least}
 use Rattle.step_table.specs.Deeds.{by_word, on, give, is_enabled, lock, owner_word, aliased}
 use Rattle.step_threads.specs.Scenes.{answer_of, ended_of, holding, left as leaves_by, went}
-use Rattle.step_threads.specs.NextSteps.{at_rest, begun, emptied, first}
-use Rattle.step_threads.specs.Steps.{Step, acts, asks, begins, brings, claims, empties, ends_on}
-use Rattle.step_threads.specs.NextSteps.{given, made_on, sent, step_at, tried}
-use Rattle.step_threads.specs.Steps.{looks, prepares, sends, silent, swaps, tries, trying, with_endings, within}
+use Rattle.step_threads.specs.NextSteps.{at_rest, begun, emptied, first, given, made_on, sent, step_at, tried}
+use Rattle.step_threads.specs.Steps.{Step, acts, asks, begins, brings, claims, empties, ends_on, looks, prepares, sends, silent, swaps}
+use Rattle.step_threads.specs.Steps.{tries, trying, with_endings, within}
 use Rattle.control_word.specs.declared.handle.Kind.{Kind}
 use Rattle.control_word.specs.declared.handle.Kind.TheVariants.{Owner, Weak}
 use Rattle.step_table.specs.Stories.{Story, known, object_in, pending, state}
@@ -64,8 +63,7 @@ counted_make : (v : Story) (d i : ℕ) (w : Walk) (b : Block) (f : Bool) (ts : L
     → IsUnderWay d v (Making b i f) ts → IsCounted v d (Making b i f) w (made_on v d w b i f ts)
 counted_make v d i w b f [] is none way = absurd way
 counted_make v d i w b f (t ∷ ts) is none way =
-    let found = get_or (known (pending v d)) i 0 in
-    let want = get_or (wanted (form_of t.act)) i 0 in
+    let found = get_or (known (pending v d)) i 0 in let want = get_or (wanted (form_of t.act)) i 0 in
     cond_both (i == 5) (claims w t.statement ts b (form_of t.act)) (prepares found want w t.statement b i f)
     (λ (x : Step). IsCounted v d (Making b i f) w (Some x)) (λ e. made_one v d i t.statement w t ts b f (form_of t.act) e way.2 none is)
     (λ e. prepared_one v d t.statement found want i w b f)
@@ -125,8 +123,7 @@ tried_or v d k h w t ts word i must y true e none is =
 tried_or v d k h w t ts word i must y false e none is = quiet v d k h (cond (word == 0) Rest (Locking word)) w w None (omega arith)
 
 looked : (v : Story) (d k : ℕ) (w : Walk) (t : Task) (ts : List Task) (i : ℕ) (must : Bool) (o : Option Pointer) → w.endings ≡ []
-    → w.todo ≡ t ∷ ts
-    → IsCounted v d Rest w (Some (on (looks v d w k ts (Lock i must)) (acts v d w k ts (Lock i must) None Rest) o))
+    → w.todo ≡ t ∷ ts → IsCounted v d Rest w (Some (on (looks v d w k ts (Lock i must)) (acts v d w k ts (Lock i must) None Rest) o))
 looked v d k w t ts i must None none is =
     quiet v d k Rest Rest w (went (state v) d w k ts (Lock i must)) (answer_of (by_word v) (state v) d w.slots (Lock i must))
     (plain v d k w t ts (Lock i must) none is refl)

@@ -26,7 +26,8 @@ use Rattle.step_table.specs.Contents.{held_in, seen, slot_of}
 use Rattle.step_table.specs.Holdings.{is_full, slot}
 use Rattle.step_table.specs.Openings.{opening}
 use Rattle.step_threads.specs.Entries.{History}
-use Rattle.step_threads.specs.Scenes.{Scene, Wound, nowhere, put_walk, rested, rested_walk, unwound, walk_of}
+use Rattle.step_threads.specs.Scenes.{Scene, nowhere, put_walk, rested, rested_walk, walk_of}
+use Rattle.step_threads.specs.Unwinding.{Wound, unwound}
 use Rattle.step_threads.specs.NextSteps.{half_by, walk_by}
 use Rattle.step_threads.specs.Steps.{Step, empties, ends_on, gives_back, silent, with_endings, within}
 use Rattle.step_table.specs.Stories.{Kept, Story, object_in, state}

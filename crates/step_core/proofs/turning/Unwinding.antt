@@ -17,7 +17,7 @@ use Rattle.step_threads.specs.Endings.{staged}
 use Rattle.step_table.specs.Contents.{slot_as, slot_of}
 use Rattle.step_table.specs.Holdings.{Slots, is_full, plain, pointer_of, slot}
 use Rattle.step_threads.specs.Entries.{History}
-use Rattle.step_threads.specs.Scenes.{Stop, Wound, clears, goes_on, stops, unwound}
+use Rattle.step_threads.specs.Unwinding.{Stop, Wound, clears, goes_on, stops, unwound}
 
 -- how the endings go on, by how far the first comes
 abbrev goes : Opening → ℕ → Slots → Ending → List Ending → Stop → Wound

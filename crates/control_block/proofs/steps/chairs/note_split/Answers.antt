@@ -1,5 +1,5 @@
 use Rattle.control_block.proofs.kept.Split.{allows_split}
-use Rattle.control_block.proofs.steps.note_split.Goals as goal
+use Rattle.control_block.proofs.steps.chairs.note_split.Goals as goal
 
 pub load-requires : goal.load-requires
 load-requires g c =

@@ -4,7 +4,7 @@ use mathlib.Core.Option.{none}
 use Rattle.control_block.specs.Plays.{joined}
 use Rattle.control_block.proofs.Chairs.{joins_up}
 use Rattle.control_block.proofs.kept.Join.{allows_glue, allows_join}
-use Rattle.control_block.proofs.steps.join.Goals as goal
+use Rattle.control_block.proofs.steps.chairs.join.Goals as goal
 
 pub join_seat-requires : goal.join_seat-requires
 join_seat-requires g c =

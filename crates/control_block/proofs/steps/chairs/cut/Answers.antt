@@ -1,5 +1,5 @@
 use Rattle.control_block.proofs.kept.Split.{allows_cut}
-use Rattle.control_block.proofs.steps.cut.Goals as goal
+use Rattle.control_block.proofs.steps.chairs.cut.Goals as goal
 
 pub split_seat-requires : goal.split_seat-requires
 split_seat-requires g c =
