@@ -89,7 +89,8 @@ module _ {V : Type 0} where
   downgraded worth n d e l i b p is adds =
       let s = calls.before V adds in
       let o = held_latest d e _ adds Owner p b.0 is.has in
-      subst (λ (x : Option Pointer). Some (event.WeakShare (latest_of d b.0) p) ≡ option_map (λ (y : Pointer). copies {V = V} s Weak y.place y) x) (sym is.at)
+      subst (λ (x : Option Pointer). Some (event.WeakShare (latest_of d b.0) p) ≡ option_map (λ (y : Pointer). copies {V = V} s Weak y.place y) x)
+      (sym is.at)
       (ap (λ q. Some (event.WeakShare q p)) (sym o))
 
   pub aliased_to : calls.Aliased V
@@ -105,7 +106,8 @@ module _ {V : Type 0} where
       let s = calls.before V adds in
       let v : Event V = event.Lock (on_latest d Weak p b.0) got in
       let o = held_latest d e v adds Weak p b.0 is.has in
-      subst (λ (x : Option Pointer). On (λ y. Some v ≡ Some (event.Lock (weak_of (owned s y) y.place) got)) ((got ≡ false) × (Some v ≡ None)) (weak_slot x))
+      subst (λ (x : Option Pointer). On (λ y. Some v ≡ Some (event.Lock (weak_of (owned s y) y.place) got))
+      ((got ≡ false) × (Some v ≡ None)) (weak_slot x))
       (sym is.at) (ap (λ q. Some (event.Lock (handle Weak (Some q) p) got)) (sym o))
 
   pub counted : calls.Counted V

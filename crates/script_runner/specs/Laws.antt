@@ -1,5 +1,5 @@
--- How a worker's lines go on with its desk's history, from the split that made its desk to the end of the run: each law by itself.
--- All of it is own.
+-- How a worker's lines go on with its desk's history, from the split that made its desk to the end of the run: each law
+-- by itself. All of it is own.
 use Rattle.std.specs.Prelude.{◌≡◌, ℕ, true, List, [], ◌++◌, None, Some}
 use Rattle.control_word.specs.declared.event.Event.{Event}
 use Rattle.control_word.specs.Histories.{IsLegal, leads}
@@ -20,28 +20,34 @@ module _ (V : Type 0) where
   -- a worker whose desk was just split off is at its thread's first act, and has no line
   abbrev pub Begins : Type 0
   Begins =
-      (worth : Form → V) (part : Part) (d : DeskNow V) (a k : ℕ) (hs : List Held) (e new : DeskNow V) → SplitsOff d a k hs e new
+      (worth : Form → V) (part : Part) (d : DeskNow V) (a k : ℕ) (hs : List Held) (e new : DeskNow V)
+      → SplitsOff d a k hs e new
       → Tells worth part new.name new (first_walk part) []
 
   -- it goes on by an act that is no event of its desk's
   abbrev pub GoesOnByMark : Type 0
   GoesOnByMark =
       (worth : Form → V) (part : Part) (n : ℕ) (d : DeskNow V) (w u : Walk) (log : List Said) (x : Said)
-      → Tells worth part n d w log → Does worth (state_of d) w (doing n None x) u → Tells worth part n d u (log ++ told x)
+      → Tells worth part n d w log → Does worth (state_of d) w (doing n None x) u
+      → Tells worth part n d u (log ++ told x)
 
   -- or by a call of its desk's, in the state in which the event stands: other desks may have made events since
   abbrev pub GoesOnByCall : Type 0
   GoesOnByCall =
-      (worth : Form → V) (part : Part) (n : ℕ) (d e : DeskNow V) (v : Event V) (w u : Walk) (log : List Said) (x : Said)
+      (worth : Form → V) (part : Part) (n : ℕ) (d e : DeskNow V) (v : Event V) (w u : Walk)
+      (log : List Said) (x : Said)
       → Tells worth part n d w log → (adds : Adds d v e)
-      → Does worth (leads (opening_of d.shape) (adds.between ++ d.seen)) w (doing n (Some v) x) u → Tells worth part n e u (log ++ told x)
+      → Does worth (leads (opening_of d.shape) (adds.between ++ d.seen)) w (doing n (Some v) x) u
+      → Tells worth part n e u (log ++ told x)
 
-  -- where its thread is over and its desk is joined, the history that both have seen has what the thread does from its first act to
-  -- its end, with these lines
+  -- where its thread is over and its desk is joined, the history that both have seen has what the thread does from its
+  -- first act to its end, with these lines
   abbrev pub IsJoined : Type 0
   IsJoined =
-      (worth : Form → V) (part : Part) (n : ℕ) (d other e : DeskNow V) (w : Walk) (log : List Said) → Tells worth part n other w log
-      → ahead w ≡ Over → other.shape ≡ d.shape → JoinsWith d other e → Marked worth (opening_of d.shape) e.seen n part log
+      (worth : Form → V) (part : Part) (n : ℕ) (d other e : DeskNow V) (w : Walk) (log : List Said)
+      → Tells worth part n other w log
+      → ahead w ≡ Over → other.shape ≡ d.shape → JoinsWith d other e
+      → Marked worth (opening_of d.shape) e.seen n part log
 
   -- and so has the history later, however it goes on
   abbrev pub StaysJoined : Type 0

@@ -1,4 +1,5 @@
--- What a worker keeps of its thread while it runs: its lines, beside the history that its desk has seen. All of it is own.
+-- What a worker keeps of its thread while it runs: its lines, beside the history that its desk has seen. All of it is
+-- own.
 use Rattle.std.specs.Prelude.{◌≡◌, ℕ, cond, ◌||◌, is_some, List, [], ◌∷◌, Option}
 use Rattle.control_word.specs.declared.event.Event.{Event}
 use Rattle.control_block.specs.Desks.{DeskNow}
@@ -19,9 +20,10 @@ abbrev pub doing : {V : Type 0} → ℕ → Option (Event V) → Said → Doing 
 doing n e x = record { desk = n; event = e; said = x }
 
 module _ {V : Type 0} where
-  -- with the marks of its acts put in, what the desk has seen takes its thread from its first act to here, and the lines are what
-  -- its own events and marks say
-  pub record Tells (worth : Form → V) (part : Part) (n : ℕ) (d : DeskNow V) (w : Walk) (log : List Said) : Type 0 where
+  -- with the marks of its acts put in, what the desk has seen takes its thread from its first act to here, and the
+  -- lines are what its own events and marks say
+  pub record Tells (worth : Form → V) (part : Part) (n : ℕ) (d : DeskNow V) (w : Walk)
+      (log : List Said) : Type 0 where
     pub name : d.name ≡ n
     pub doings : List (Doing V)
     pub events : onto [] doings ≡ d.seen

@@ -1,9 +1,12 @@
 //! Scripts on real workers.
 #![tactic(auto)]
 
+mod asking;
+mod cells;
 mod gate;
 mod laws;
 mod running;
+mod taking;
 #[cfg(test)]
 mod tests;
 mod worker;

@@ -1,5 +1,6 @@
 //! A script on real workers, one a thread.
-ghost use Rattle.std.specs.Prelude.{◌≡◌, ◌⊎◌, ◌*◌, ◌^◌, ◌<◌, ◌≤◌, [], length, map, IfErr, IfOk, OnOk};
+ghost use Rattle.std.specs.Prelude.{◌≡◌, ◌⊎◌, ◌*◌, ◌^◌, ◌<◌, ◌≤◌, [], length, map, IfErr};
+ghost use Rattle.std.specs.Prelude.{IfOk, OnOk};
 ghost use Rattle.control_word.specs.Layout.{IsWithinLimits};
 ghost use Rattle.step_threads.specs.Programs.{IsProgram, part_of};
 ghost use Rattle.script_text.specs.Beginnings.{shape_for};
@@ -57,8 +58,8 @@ fn makes(calls: &[Call]) -> usize {
     makes
 }
 
-/// A worker for a thread, with room for all that it may say: each act answers once at most, and no more objects end than
-/// all threads make.
+/// A worker for a thread, with room for all that it may say: each act answers once at most, and no more objects end
+/// than all threads make.
 fn worker_of(alloc: Global, actor: &Actor, objects: usize) -> Result<Worker, AllocError>
     requires { length actor.now.calls.items < 2 ^ 31 }
 {
@@ -155,10 +156,10 @@ fn gathered(
     Ok(totals)
 }
 
-/// Runs a script on real workers, one a thread, each with a table of its own: `gate` is told of each statement in its thread.
-/// An object's value is its field 0. Answers what each thread said, in thread order, the totals, and the census of the
-/// domain. It is refused `Memory` alone, where a growth was refused, all of which come before the first worker starts, or
-/// where a worker had no table.
+/// Runs a script on real workers, one a thread, each with a table of its own: `gate` is told of each statement in its
+/// thread. An object's value is its field 0. Answers what each thread said, in thread order, the totals, and the census
+/// of the domain. It is refused `Memory` alone, where a growth was refused, all of which come before the first worker
+/// starts, or where a worker had no table.
 pub fn run_script<R: Threads + Wait + Sync, G: Gate + Sync>(
     rt: &R,
     alloc: Global,

@@ -12,15 +12,15 @@ use step_threads::act::{Act, Question, Task};
 pub(crate) const NAMES: usize = 32;
 
 /// The slots behind them: for what is to be dropped at the end of a statement, and for what is in hand.
-const OTHER: usize = NAMES;
+pub(crate) const OTHER: usize = NAMES;
 
-const HAND: usize = NAMES + 1;
+pub(crate) const HAND: usize = NAMES + 1;
 
 /// All slots of a worker's table.
 pub(crate) const SLOTS: usize = NAMES + 2;
 
-/// A thread of a script: the kinds of its names, its tasks, and whether an act has taken a value into the hand; and what it
-/// said, how many objects it made, and of how many it was the last owner.
+/// A thread of a script: the kinds of its names, its tasks, and whether an act has taken a value into the hand; and
+/// what it said, how many objects it made, and of how many it was the last owner.
 #[derive(Drop)]
 pub(crate) struct Worker {
     pub kinds: Vec<Kind>,
@@ -29,40 +29,6 @@ pub(crate) struct Worker {
     pub said: Vec<Said>,
     pub made: u32,
     pub ended: u32,
-}
-
-/// The cell of a table that a script's cell is.
-fn cell_of(cell: CellName) -> Cell {
-    match cell {
-        CellName::Shared(number) => Cell::Shared(u32::from(number)),
-        CellName::Weak(number) => Cell::Weak(u32::from(number)),
-        CellName::Member { name, member } => member_of(usize::from(name.0), member),
-    }
-}
-
-fn member_of(of: usize, member: u8) -> Cell {
-    match member {
-        0 => Cell::Member {
-            of,
-            which: SharedMember::First,
-        },
-        1 => Cell::Member {
-            of,
-            which: SharedMember::Next,
-        },
-        _ => Cell::Up { of },
-    }
-}
-
-/// The place of a field in the block into which a pointer points; null where it does, or no field is named.
-fn aliased(place: Option<Place>, field: Option<Field>) -> Option<Place> {
-    match (place, field) {
-        (Some(place), Some(field)) => Some(Place {
-            block: place.block,
-            field: field.number(),
-        }),
-        _ => None,
-    }
 }
 
 impl Worker {
@@ -101,7 +67,7 @@ impl Worker {
     }
 
     /// A name becomes empty, and what it held leaves.
-    fn empty<H: Home>(&mut self, table: &mut HandleTable<'_, u64, H>, name: usize) {
+    pub(crate) fn empty<H: Home>(&mut self, table: &mut HandleTable<'_, u64, H>, name: usize) {
         let _ = match self.kinds.get(name) {
             Some(Kind::Weak) => table.empty_weak(name),
             _ => table.empty(name),
@@ -109,7 +75,7 @@ impl Worker {
     }
 
     /// An act answers.
-    fn say(&mut self, statement: u32, answer: Answer) {
+    pub(crate) fn say(&mut self, statement: u32, answer: Answer) {
         let _ = self.said.push(Said {
             statement,
             answer: Some(answer),
@@ -118,7 +84,7 @@ impl Worker {
     }
 
     /// An act is refused, as a call is.
-    fn refuse(&mut self, statement: u32, why: Fault) {
+    pub(crate) fn refuse(&mut self, statement: u32, why: Fault) {
         if let Fault::Call(why) = why {
             self.say(statement, Answer::Refused(why));
         }
@@ -158,13 +124,14 @@ impl Worker {
     }
 
     /// Something was taken into the hand, or the act is refused.
-    fn takes(&mut self, statement: u32, took: Result<(), Fault>) {
+    pub(crate) fn takes(&mut self, statement: u32, took: Result<(), Fault>) {
         match took {
             Ok(()) => self.taken = true,
             Err(why) => self.refuse(statement, why),
         }
     }
 
+    /// One act.
     fn act<H: Home, R: Wait>(&mut self, rt: &R, table: &mut HandleTable<'_, u64, H>, task: Task) {
         let Task { statement, act } = task;
         match act {
@@ -202,173 +169,6 @@ impl Worker {
                 let _ = table.reset(OTHER);
             }
             act => self.act_on_cells(rt, table, statement, act),
-        }
-    }
-
-    fn act_on_cells<H: Home, R: Wait>(
-        &mut self,
-        rt: &R,
-        table: &mut HandleTable<'_, u64, H>,
-        statement: u32,
-        act: Act,
-    ) {
-        match act {
-            Act::Offer { name, cell } => {
-                let took = match table.reaches(cell_of(cell)) {
-                    Ok(()) => table.copy(usize::from(name), HAND),
-                    Err(why) => Err(why),
-                };
-                self.takes(statement, took);
-            }
-            Act::Load { cell } => {
-                let took = table.load(rt, cell_of(cell), HAND);
-                self.takes(statement, took);
-            }
-            Act::Exchange { name, cell } => {
-                if let Err(why) = table.exchange(usize::from(name), cell_of(cell)) {
-                    self.refuse(statement, why);
-                }
-            }
-            Act::Swap { cell } => {
-                if self.taken {
-                    self.taken = false;
-                    let _ = table.exchange(HAND, cell_of(cell));
-                    let _ = table.move_to(HAND, OTHER);
-                }
-            }
-            Act::Compare { name, cell, weak } => {
-                self.compare(rt, table, statement, usize::from(name), cell, weak)
-            }
-            act => self.ask(table, statement, act),
-        }
-    }
-
-    /// Acts that only tell something.
-    fn ask<H: Home>(&mut self, table: &mut HandleTable<'_, u64, H>, statement: u32, act: Act) {
-        let answer = match act {
-            Act::Count { name } => match table.use_count(usize::from(name)) {
-                Ok(owners) => Ok(Answer::Count(owners)),
-                Err(why) => Err(why),
-            },
-            Act::Expired { name } => match table.expired(usize::from(name)) {
-                Ok(expired) => Ok(Answer::Expired(expired)),
-                Err(why) => Err(why),
-            },
-            Act::Read { name } => match table.read(usize::from(name)) {
-                Ok(field) => Ok(Answer::Read(field)),
-                Err(why) => Err(why),
-            },
-            Act::Ask { question } => told(table, question),
-            _ => return,
-        };
-        match answer {
-            Ok(answer) => self.say(statement, answer),
-            Err(why) => self.refuse(statement, why),
-        }
-    }
-
-    fn make<H: Home>(&mut self, table: &mut HandleTable<'_, u64, H>, statement: u32, form: Form) {
-        let value = form.fields[0];
-        let made = if form.null {
-            table.make_null(HAND, value)
-        } else {
-            table.make(HAND, form.fields, form.enabled, value)
-        };
-        match made {
-            Ok(()) => {
-                self.made = self.made.saturating_add(1);
-                self.taken = true;
-            }
-            Err(returned) => self.refuse(statement, returned.why),
-        }
-    }
-
-    fn alias<H: Home>(
-        &mut self,
-        table: &mut HandleTable<'_, u64, H>,
-        statement: u32,
-        name: u8,
-        of: u8,
-        field: Option<Field>,
-    ) {
-        let took = match table.place(usize::from(of)) {
-            Ok(place) => table.alias(usize::from(name), aliased(place, field), HAND),
-            Err(why) => Err(why),
-        };
-        self.takes(statement, took);
-    }
-
-    fn lock<H: Home, R: Wait>(
-        &mut self,
-        rt: &R,
-        table: &mut HandleTable<'_, u64, H>,
-        statement: u32,
-        name: usize,
-        must: bool,
-    ) {
-        if must {
-            match table.upgrade(rt, name, HAND) {
-                Ok(()) => {
-                    self.taken = true;
-                    self.say(statement, Answer::Upgraded);
-                }
-                Err(why) => self.refuse(statement, why),
-            }
-            return;
-        }
-        if let Ok(got) = table.lock(rt, name, HAND) {
-            self.taken = true;
-            self.say(statement, Answer::Locked(got));
-        }
-    }
-
-    fn compare<H: Home, R: Wait>(
-        &mut self,
-        rt: &R,
-        table: &mut HandleTable<'_, u64, H>,
-        statement: u32,
-        name: usize,
-        cell: CellName,
-        weak: bool,
-    ) {
-        if !self.taken {
-            return;
-        }
-        self.taken = false;
-        let cell = cell_of(cell);
-        let compared = if weak {
-            table.compare_exchange_weak(rt, cell, name, HAND)
-        } else {
-            table.compare_exchange_strong(rt, cell, name, HAND)
-        };
-        let Ok(swapped) = compared else {
-            return;
-        };
-        self.say(statement, Answer::Compared(swapped));
-        if !swapped {
-            let _ = table.move_to(HAND, OTHER);
-        }
-    }
-}
-
-/// What the pointers of names tell.
-fn told<H: Home>(table: &mut HandleTable<'_, u64, H>, question: Question) -> Result<Answer, Fault> {
-    match question {
-        Question::Place { name } => match table.place(usize::from(name)) {
-            Ok(place) => Ok(Answer::Place(place)),
-            Err(why) => Err(why),
-        },
-        Question::Same { first, second } => {
-            match table.same_place(usize::from(first), usize::from(second)) {
-                Ok(same) => Ok(Answer::Same(same)),
-                Err(why) => Err(why),
-            }
-        }
-        Question::Before { first, second } => {
-            match table.owner_before(usize::from(first), usize::from(second)) {
-                Ok(before) => Ok(Answer::Before(before)),
-                Err(why) => Err(why),
-            }
         }
     }
 }
