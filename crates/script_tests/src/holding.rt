@@ -1,0 +1,61 @@
+//! Who holds what at a script's end.
+use holders::{holdings, kept, knot};
+use script_stepper::end_of;
+use std::test::Fail;
+use step_core::Cell;
+
+/// Two objects that own each other, the second of which owns a third; and one in a cell, that the third watches.
+const SCRIPT: &str = "make a 1\nmake b 2\nmake c 3\nmake d 4\nstore a.first b\nstore b.first a\n\
+store b.next c\nstore s5 d\nweak w d\nstore c.up w\n";
+
+/// The circle is leaked with what it owns, and what the cell owns is kept. The circle's two keep each other, and the third, which owns
+/// nothing, is a knot of its own.
+#[test]
+fn a_circle_is_leaked_with_what_it_owns(rt: HostRuntime) -> Result<(), Fail> {
+    let alloc = rt.alloc();
+    let Ok(end) = end_of(alloc, SCRIPT.as_bytes(), b"".as_slice()) else {
+        return Err("no end")?;
+    };
+    let held = holdings(alloc, &end.world, 256, end.blocks)?;
+    let mut blocks = Vec::new(alloc);
+    for holding in held.as_slice() {
+        blocks.push(holding.block.0)?;
+    }
+    assert!(rt; blocks.as_slice() == [4u16, 2, 1, 3, 4].as_slice());
+    assert!(rt;
+        matches!(held.as_slice(), [first, ..] if matches!(first.cell, Cell::Free { number: 5 }))
+    );
+    let Ok(marks) = kept(alloc, 128, end.blocks, held.as_slice()) else {
+        return Err("not marked")?;
+    };
+    assert!(rt;
+        matches!(
+            marks.as_slice(),
+            [true, false, false, false, true, false, ..]
+        )
+    );
+    let Ok(circle) = knot(alloc, 128, end.blocks, held.as_slice(), 1) else {
+        return Err("not marked")?;
+    };
+    assert!(rt; matches!(circle.as_slice(), [false, true, true, false, false, ..]));
+    let Ok(alone) = knot(alloc, 128, end.blocks, held.as_slice(), 3) else {
+        return Err("not marked")?;
+    };
+    assert!(rt; matches!(alone.as_slice(), [false, false, false, true, false, ..]));
+    Ok(())
+}
+
+/// A faulty script, a list that names no thread of it, and an owner on a block that is not among so many.
+#[test]
+fn refused_ends_and_blocks_outside(rt: HostRuntime) -> Result<(), Fail> {
+    let alloc = rt.alloc();
+    assert!(rt; end_of(alloc, b"make\n".as_slice(), b"".as_slice()).is_err());
+    assert!(rt; end_of(alloc, b"make a\n".as_slice(), b"2".as_slice()).is_err());
+    let Ok(end) = end_of(alloc, SCRIPT.as_bytes(), b"1,1".as_slice()) else {
+        return Err("no end")?;
+    };
+    let held = holdings(alloc, &end.world, 256, end.blocks)?;
+    assert!(rt; kept(alloc, 128, 2, held.as_slice()).is_err());
+    assert!(rt; knot(alloc, 128, 2, held.as_slice(), 1).is_err());
+    Ok(())
+}
