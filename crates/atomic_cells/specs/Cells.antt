@@ -18,11 +18,13 @@ module _ {V : Type 0} where
   Loads d c k b p e = Adds d (Load c (handle_in e k b p)) e
 
   -- the desk's handle (b, p) went into cell c, and the cell's, (a, q), came out
-  abbrev pub Exchanges : DeskNow V → Cell → Kind → Option Block → Option Place → Option Block → Option Place → DeskNow V → Type 0
+  abbrev pub Exchanges : DeskNow V → Cell → Kind → Option Block → Option Place → Option Block → Option Place
+      → DeskNow V → Type 0
   Exchanges d c k b p a q e = Adds d (Swap c (handle_in d k b p) (handle_in e k a q)) e
 
   -- the same, and then what came out, (block, place), left
-  pub record Stores (d : DeskNow V) (c : Cell) (b : Option Block) (p : Option Place) (left : Left V) (e : DeskNow V) : Type 0 where
+  pub record Stores (d : DeskNow V) (c : Cell) (b : Option Block) (p : Option Place) (left : Left V)
+      (e : DeskNow V) : Type 0 where
     pub block : Option Block
     pub place : Option Place
     pub between : DeskNow V
@@ -30,7 +32,8 @@ module _ {V : Type 0} where
     pub leaves : IsLeft between block place left e
 
   -- the same of a weak one; whether the block of what came out is vacant now, and in the desk's store
-  pub record StoresWeakly (d : DeskNow V) (c : Cell) (b : Option Block) (p : Option Place) (left : Left V) (e : DeskNow V) : Type 0 where
+  pub record StoresWeakly (d : DeskNow V) (c : Cell) (b : Option Block) (p : Option Place) (left : Left V)
+      (e : DeskNow V) : Type 0 where
     pub block : Option Block
     pub place : Option Place
     pub between : DeskNow V

@@ -26,12 +26,15 @@ GivesBack d (Swapped old) = Unit {0}
 GivesBack d (Differs held desired) = desired ≡ d
 
 -- a bag after a compare: where it swapped, (b, p) went out of it; and what the cell held, (c, q), is in it
-abbrev pub bag_compared : Bool → Kind → Option Block → Option Place → Option Block → Option Place → List Handle → List Handle
+abbrev pub bag_compared : Bool → Kind → Option Block → Option Place → Option Block → Option Place
+    → List Handle → List Handle
 bag_compared swapped k b p c q l = with_handle k c q (cond swapped (without_handle k b p l) l)
 
 module _ {V : Type 0} where
-  -- cell at was compared with (eb, ep): where it held an equivalent pointer, (b, p) went in, and (c, q) is what it held. The
-  -- weak form may differ on an equivalent one
-  abbrev pub Compares : DeskNow V → Cell → Kind → Option Block → Option Place → Option Block → Option Place → Bool → Option Block → Option Place → Bool
+  -- cell at was compared with (eb, ep): where it held an equivalent pointer, (b, p) went in, and (c, q) is what it
+  -- held. The weak form may differ on an equivalent one
+  abbrev pub Compares : DeskNow V → Cell → Kind → Option Block → Option Place → Option Block → Option Place
+      → Bool → Option Block → Option Place → Bool
       → DeskNow V → Type 0
-  Compares d at k eb ep b p swapped c q weak e = Adds d (Compare at (handle_in d k eb ep) (handle_in d k b p) (handle_in e k c q) swapped weak) e
+  Compares d at k eb ep b p swapped c q weak e =
+      Adds d (Compare at (handle_in d k eb ep) (handle_in d k b p) (handle_in e k c q) swapped weak) e

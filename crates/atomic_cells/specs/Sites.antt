@@ -38,7 +38,8 @@ IsFewWeak k (weak.Free n) = n < k
 IsFewWeak k (weak.Up b) = Unit {0}
 
 -- the member of the object that the handle owns and points into, or why there is none (own)
-abbrev pub IsMember : {A : Type 0} → (Block → A → Type 0) → Option Block → Option Place → Result A Refusal → Type 0
+abbrev pub IsMember : {A : Type 0} → (Block → A → Type 0) → Option Block → Option Place
+    → Result A Refusal → Type 0
 IsMember is b p (Ok at) = (q : Place) × (p ≡ Some q) × (b ≡ Some q.block) × is q.block at
 IsMember is b p (Err Null) = p ≡ None
 IsMember is b p (Err Outside) = IsOutside b p

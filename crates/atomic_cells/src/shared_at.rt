@@ -21,9 +21,9 @@ use shared_handle::{Left, Shared};
 use std::marker::{Brand, PhantomData};
 use std::sync::Wait;
 
-/// A cell that holds a shared pointer: a free one, or a member of an object, which keeps the borrow of a handle that owns
-/// the object. It begins with an empty one. Condition of its calls: a free one is of the domain's shape, and the handle of a
-/// member is the desk's.
+/// A cell that holds a shared pointer: a free one, or a member of an object, which keeps the borrow of a handle that
+/// owns the object. It begins with an empty one. Condition of its calls: a free one is of the domain's shape, and the
+/// handle of a member is the desk's.
 #[derive(Clone, Copy, Drop)]
 pub struct SharedAt<'a> {
     pub(crate) site: SharedSite,
@@ -41,10 +41,11 @@ impl<'a> SharedAt<'a> {
         }
     }
 
-    /// A member of the object that the handle owns and points into (own). It is refused `Null` just where the handle's place
-    /// is null, and `Outside` just where that isn't in the object that it owns.
+    /// A member of the object that the handle owns and points into (own). It is refused `Null` just where the handle's
+    /// place is null, and `Outside` just where that isn't in the object that it owns.
     pub fn member(handle: &'a Shared, which: SharedMember) -> Result<SharedAt<'a>, Refusal>
-        ensures { IsMember (λ c (at : SharedAt). at.site ≡ site.Of c which) handle.now.block handle.now.place result }
+        ensures { IsMember (λ c (at : SharedAt). at.site ≡ site.Of c which) handle.now.block
+            handle.now.place result }
     {
         let block = sites::block_within(handle)?;
         Ok(SharedAt {
@@ -59,8 +60,9 @@ impl<'a> SharedAt<'a> {
         sites::shared_cell(self.site)
     }
 
-    /// A copy of what the cell holds ([util.smartptr.atomic.shared]), from its one step on the cell. It tries again while
-    /// others change the cell. It is refused `Limit` just where the desk is at its allowance, and then nothing changes.
+    /// A copy of what the cell holds ([util.smartptr.atomic.shared]), from its one step on the cell. It tries again
+    /// while others change the cell. It is refused `Limit` just where the desk is at its allowance, and then nothing
+    /// changes.
     #[inline(always)]
     pub fn load<V: Drop + Send, R: Wait>(
         &self,
@@ -72,7 +74,8 @@ impl<'a> SharedAt<'a> {
         requires cell { IsOpen desk.old self.now.site }
         ensures limit { IsErr result ↔ (held_of desk.old ≡ allowance_of desk.old) }
         ensures refused { IfErr result (λ why. (why ≡ Refusal.Limit) × (desk.new ≡ desk.old)) }
-        ensures event { IfOk result (λ h. Loads desk.old (shared_cell desk.old self.now.site) Owner h.block h.place desk.new) }
+        ensures event { IfOk result
+            (λ h. Loads desk.old (shared_cell desk.old self.now.site) Owner h.block h.place desk.new) }
         ensures bag { IfOk result (λ h. bag_of desk.new ≡ with_handle Owner h.block h.place (bag_of desk.old)) }
         ensures held { OnOk result (desk.new.held ≡ desk.old.held + 1) }
         ensures holds { IfOk result (λ h. Holds desk.new Owner h.block h.place) }
@@ -82,8 +85,8 @@ impl<'a> SharedAt<'a> {
         Ok(Shared::of_parts(found.block, found.place))
     }
 
-    /// The pointer goes into the cell, and what the cell held comes out ([util.smartptr.atomic.shared]), in one step on the
-    /// cell. It waits for nobody, and refuses nothing.
+    /// The pointer goes into the cell, and what the cell held comes out ([util.smartptr.atomic.shared]), in one step on
+    /// the cell. It waits for nobody, and refuses nothing.
     #[inline]
     pub fn exchange<V: Drop + Send>(
         &self,
@@ -94,8 +97,10 @@ impl<'a> SharedAt<'a> {
         requires domain { Belongs desk.old domain.now }
         requires cell { IsOpen desk.old self.now.site }
         requires holds { Holds desk.old Owner handle.block handle.place }
-        ensures event { Exchanges desk.old (shared_cell desk.old self.now.site) Owner handle.block handle.place result.block result.place desk.new }
-        ensures bag { bag_of desk.new ≡ with_handle Owner result.block result.place (without_handle Owner handle.block handle.place (bag_of desk.old)) }
+        ensures event { Exchanges desk.old (shared_cell desk.old self.now.site) Owner handle.block handle.place
+            result.block result.place desk.new }
+        ensures bag { bag_of desk.new ≡ with_handle Owner result.block result.place
+            (without_handle Owner handle.block handle.place (bag_of desk.old)) }
         ensures held { desk.new.held ≡ desk.old.held }
         ensures holds { Holds desk.new Owner result.block result.place }
         ensures keeps { Keeps desk.old desk.new }
@@ -111,8 +116,8 @@ impl<'a> SharedAt<'a> {
     }
 
     /// The pointer goes into the cell, and what the cell held leaves ([util.smartptr.atomic.shared]); where that was an
-    /// object's last owner, the object ends in the desk's hands, in another block than all that ended there before. It waits
-    /// for nobody, and refuses nothing.
+    /// object's last owner, the object ends in the desk's hands, in another block than all that ended there before. It
+    /// waits for nobody, and refuses nothing.
     #[inline]
     pub fn store<V: Drop + Send>(
         &self,
@@ -123,7 +128,8 @@ impl<'a> SharedAt<'a> {
         requires domain { Belongs desk.old domain.now }
         requires cell { IsOpen desk.old self.now.site }
         requires holds { Holds desk.old Owner handle.block handle.place }
-        ensures stored { Stores desk.old (shared_cell desk.old self.now.site) handle.block handle.place result desk.new }
+        ensures stored { Stores desk.old (shared_cell desk.old self.now.site) handle.block
+            handle.place result desk.new }
         ensures bag { bag_of desk.new ≡ without_handle Owner handle.block handle.place (bag_of desk.old) }
         ensures held { desk.new.held + 1 ≡ desk.old.held }
         ensures keeps { KeepsStock desk.old desk.new }

@@ -30,8 +30,8 @@ pub(crate) enum WeakSite {
     Up(Block),
 }
 
-/// The block of the object that the handle owns and points into: `Null` where its place is null, and `Outside` where that
-/// isn't in the object that it owns.
+/// The block of the object that the handle owns and points into: `Null` where its place is null, and `Outside` where
+/// that isn't in the object that it owns.
 pub(crate) fn block_within(handle: &Shared) -> Result<Block, Refusal>
     ensures { IsMember (λ c (b : Block). b ≡ c) handle.now.block handle.now.place result }
 {

@@ -20,9 +20,9 @@ use shared_handle::{Left, Shared};
 use std::marker::{Brand, PhantomData};
 use std::sync::Wait;
 
-/// A cell that holds a weak pointer: a free one, or the member `up` of an object, which keeps the borrow of a handle that
-/// owns the object. It begins with an empty one. Condition of its calls: a free one is of the domain's shape, and the handle
-/// of a member is the desk's.
+/// A cell that holds a weak pointer: a free one, or the member `up` of an object, which keeps the borrow of a handle
+/// that owns the object. It begins with an empty one. Condition of its calls: a free one is of the domain's shape, and
+/// the handle of a member is the desk's.
 #[derive(Clone, Copy, Drop)]
 pub struct WeakAt<'a> {
     pub(crate) site: WeakSite,
@@ -40,8 +40,8 @@ impl<'a> WeakAt<'a> {
         }
     }
 
-    /// The member `up` of the object that the handle owns and points into (own). It is refused `Null` just where the handle's
-    /// place is null, and `Outside` just where that isn't in the object that it owns.
+    /// The member `up` of the object that the handle owns and points into (own). It is refused `Null` just where the
+    /// handle's place is null, and `Outside` just where that isn't in the object that it owns.
     pub fn member(handle: &'a Shared) -> Result<WeakAt<'a>, Refusal>
         ensures { IsMember (λ c (at : WeakAt). at.site ≡ site.Up c) handle.now.block handle.now.place result }
     {
@@ -79,7 +79,8 @@ impl<'a> WeakAt<'a> {
         requires cell { IsOpenWeakly desk.old self.now.site }
         ensures limit { IsErr result ↔ (held_of desk.old ≡ allowance_of desk.old) }
         ensures refused { IfErr result (λ why. (why ≡ Refusal.Limit) × (desk.new ≡ desk.old)) }
-        ensures event { IfOk result (λ h. Loads desk.old (weak_cell desk.old self.now.site) Weak h.block h.place desk.new) }
+        ensures event { IfOk result
+            (λ h. Loads desk.old (weak_cell desk.old self.now.site) Weak h.block h.place desk.new) }
         ensures bag { IfOk result (λ h. bag_of desk.new ≡ with_handle Weak h.block h.place (bag_of desk.old)) }
         ensures held { OnOk result (desk.new.held ≡ desk.old.held + 1) }
         ensures holds { IfOk result (λ h. Holds desk.new Weak h.block h.place) }
@@ -89,8 +90,8 @@ impl<'a> WeakAt<'a> {
         Ok(handles::Weak::of_parts(found.block, found.place))
     }
 
-    /// The pointer goes into the cell, and what the cell held comes out ([util.smartptr.atomic.weak]), in one step on the
-    /// cell. It waits for nobody, and refuses nothing.
+    /// The pointer goes into the cell, and what the cell held comes out ([util.smartptr.atomic.weak]), in one step on
+    /// the cell. It waits for nobody, and refuses nothing.
     #[inline]
     pub fn exchange<V: Drop + Send>(
         &self,
@@ -101,8 +102,10 @@ impl<'a> WeakAt<'a> {
         requires domain { Belongs desk.old domain.now }
         requires cell { IsOpenWeakly desk.old self.now.site }
         requires holds { Holds desk.old Weak handle.block handle.place }
-        ensures event { Exchanges desk.old (weak_cell desk.old self.now.site) Weak handle.block handle.place result.block result.place desk.new }
-        ensures bag { bag_of desk.new ≡ with_handle Weak result.block result.place (without_handle Weak handle.block handle.place (bag_of desk.old)) }
+        ensures event { Exchanges desk.old (weak_cell desk.old self.now.site) Weak handle.block handle.place
+            result.block result.place desk.new }
+        ensures bag { bag_of desk.new ≡ with_handle Weak result.block result.place
+            (without_handle Weak handle.block handle.place (bag_of desk.old)) }
         ensures held { desk.new.held ≡ desk.old.held }
         ensures holds { Holds desk.new Weak result.block result.place }
         ensures keeps { Keeps desk.old desk.new }
@@ -117,9 +120,9 @@ impl<'a> WeakAt<'a> {
         handles::Weak::of_parts(old.block, old.place)
     }
 
-    /// The pointer goes into the cell, and what the cell held leaves ([util.smartptr.atomic.weak]): it answers `Empty` where
-    /// that was an empty one, and else `Others` (own). Where that was the last handle of an object that is gone, its block is
-    /// vacant, and in the desk's store. It waits for nobody, and refuses nothing.
+    /// The pointer goes into the cell, and what the cell held leaves ([util.smartptr.atomic.weak]): it answers `Empty`
+    /// where that was an empty one, and else `Others` (own). Where that was the last handle of an object that is gone,
+    /// its block is vacant, and in the desk's store. It waits for nobody, and refuses nothing.
     #[inline]
     pub fn store<V: Drop + Send>(
         &self,
@@ -130,7 +133,8 @@ impl<'a> WeakAt<'a> {
         requires domain { Belongs desk.old domain.now }
         requires cell { IsOpenWeakly desk.old self.now.site }
         requires holds { Holds desk.old Weak handle.block handle.place }
-        ensures stored { StoresWeakly desk.old (weak_cell desk.old self.now.site) handle.block handle.place result desk.new }
+        ensures stored { StoresWeakly desk.old (weak_cell desk.old self.now.site) handle.block
+            handle.place result desk.new }
         ensures bag { bag_of desk.new ≡ without_handle Weak handle.block handle.place (bag_of desk.old) }
         ensures held { desk.new.held + 1 ≡ desk.old.held }
         ensures desk { IsSameDesk desk.old desk.new }

@@ -31,16 +31,21 @@ impl<'a> WeakAt<'a> {
     ) -> Result<Compared<handles::Weak>, Refused<handles::Weak>>
         requires domain { Belongs desk.old domain.now }
         requires cell { IsOpenWeakly desk.old self.now.site }
-        requires holds { Holds desk.old Weak expected.now.block expected.now.place × Holds desk.old Weak desired.block desired.place }
-        requires meant { (A.cell ≡ weak_cell desk.old self.now.site) × (A.expected ≡ handle_in desk.old Weak expected.now.block expected.now.place)
+        requires holds { Holds desk.old Weak expected.now.block expected.now.place
+            × Holds desk.old Weak desired.block desired.place }
+        requires meant { (A.cell ≡ weak_cell desk.old self.now.site)
+            × (A.expected ≡ handle_in desk.old Weak expected.now.block expected.now.place)
             × (A.new ≡ handle_in desk.old Weak desired.block desired.place) }
         ensures limit { IsErr result ↔ (held_of desk.old ≡ allowance_of desk.old) }
-        ensures refused { IfErr result (λ r. (r.why ≡ Refusal.Limit) × (r.back ≡ desired) × (desk.new ≡ desk.old)) }
+        ensures refused { IfErr result
+            (λ r. (r.why ≡ Refusal.Limit) × (r.back ≡ desired) × (desk.new ≡ desk.old)) }
         ensures compared { IfOk result (λ c. let h = came_out c in
-            Compares desk.old (weak_cell desk.old self.now.site) Weak expected.now.block expected.now.place desired.block desired.place (has_swapped c) h.block h.place A.weak desk.new) }
+            Compares desk.old (weak_cell desk.old self.now.site) Weak expected.now.block expected.now.place
+            desired.block desired.place (has_swapped c) h.block h.place A.weak desk.new) }
         ensures back { IfOk result (λ c. GivesBack desired c) }
         ensures bag { IfOk result (λ c. let h = came_out c in
-            bag_of desk.new ≡ bag_compared (has_swapped c) Weak desired.block desired.place h.block h.place (bag_of desk.old)) }
+            bag_of desk.new ≡ bag_compared (has_swapped c) Weak desired.block desired.place h.block
+            h.place (bag_of desk.old)) }
         ensures held { IfOk result (λ c. desk.new.held ≡ desk.old.held + cond (has_swapped c) 0 1) }
         ensures holds { IfOk result (λ c. Holds desk.new Weak (came_out c).block (came_out c).place) }
         ensures keeps { OnOk result (Keeps desk.old desk.new) }
@@ -76,9 +81,9 @@ impl<'a> WeakAt<'a> {
     }
 
     /// Where the cell holds a pointer equivalent to the expected one (the same place, and the same object or none), the
-    /// desired one goes in, and the cell's comes out; else a copy of what it holds ([util.smartptr.atomic.weak]). It tries
-    /// again while others change the cell. It is refused `Limit` just where the desk is at its allowance, before any step;
-    /// then nothing changes, and the desired pointer comes back.
+    /// desired one goes in, and the cell's comes out; else a copy of what it holds ([util.smartptr.atomic.weak]). It
+    /// tries again while others change the cell. It is refused `Limit` just where the desk is at its allowance, before
+    /// any step; then nothing changes, and the desired pointer comes back.
     pub fn compare_exchange_strong<V: Drop + Send, R: Wait>(
         &self,
         rt: &R,
@@ -89,14 +94,18 @@ impl<'a> WeakAt<'a> {
     ) -> Result<Compared<handles::Weak>, Refused<handles::Weak>>
         requires domain { Belongs desk.old domain.now }
         requires cell { IsOpenWeakly desk.old self.now.site }
-        requires holds { Holds desk.old Weak expected.now.block expected.now.place × Holds desk.old Weak desired.block desired.place }
+        requires holds { Holds desk.old Weak expected.now.block expected.now.place
+            × Holds desk.old Weak desired.block desired.place }
         ensures limit { IsErr result ↔ (held_of desk.old ≡ allowance_of desk.old) }
-        ensures refused { IfErr result (λ r. (r.why ≡ Refusal.Limit) × (r.back ≡ desired) × (desk.new ≡ desk.old)) }
+        ensures refused { IfErr result
+            (λ r. (r.why ≡ Refusal.Limit) × (r.back ≡ desired) × (desk.new ≡ desk.old)) }
         ensures compared { IfOk result (λ c. let h = came_out c in
-            Compares desk.old (weak_cell desk.old self.now.site) Weak expected.now.block expected.now.place desired.block desired.place (has_swapped c) h.block h.place false desk.new) }
+            Compares desk.old (weak_cell desk.old self.now.site) Weak expected.now.block expected.now.place
+            desired.block desired.place (has_swapped c) h.block h.place false desk.new) }
         ensures back { IfOk result (λ c. GivesBack desired c) }
         ensures bag { IfOk result (λ c. let h = came_out c in
-            bag_of desk.new ≡ bag_compared (has_swapped c) Weak desired.block desired.place h.block h.place (bag_of desk.old)) }
+            bag_of desk.new ≡ bag_compared (has_swapped c) Weak desired.block desired.place h.block
+            h.place (bag_of desk.old)) }
         ensures held { IfOk result (λ c. desk.new.held ≡ desk.old.held + cond (has_swapped c) 0 1) }
         ensures holds { IfOk result (λ c. Holds desk.new Weak (came_out c).block (came_out c).place) }
         ensures keeps { OnOk result (Keeps desk.old desk.new) }
@@ -115,14 +124,18 @@ impl<'a> WeakAt<'a> {
     ) -> Result<Compared<handles::Weak>, Refused<handles::Weak>>
         requires domain { Belongs desk.old domain.now }
         requires cell { IsOpenWeakly desk.old self.now.site }
-        requires holds { Holds desk.old Weak expected.now.block expected.now.place × Holds desk.old Weak desired.block desired.place }
+        requires holds { Holds desk.old Weak expected.now.block expected.now.place
+            × Holds desk.old Weak desired.block desired.place }
         ensures limit { IsErr result ↔ (held_of desk.old ≡ allowance_of desk.old) }
-        ensures refused { IfErr result (λ r. (r.why ≡ Refusal.Limit) × (r.back ≡ desired) × (desk.new ≡ desk.old)) }
+        ensures refused { IfErr result
+            (λ r. (r.why ≡ Refusal.Limit) × (r.back ≡ desired) × (desk.new ≡ desk.old)) }
         ensures compared { IfOk result (λ c. let h = came_out c in
-            Compares desk.old (weak_cell desk.old self.now.site) Weak expected.now.block expected.now.place desired.block desired.place (has_swapped c) h.block h.place true desk.new) }
+            Compares desk.old (weak_cell desk.old self.now.site) Weak expected.now.block expected.now.place
+            desired.block desired.place (has_swapped c) h.block h.place true desk.new) }
         ensures back { IfOk result (λ c. GivesBack desired c) }
         ensures bag { IfOk result (λ c. let h = came_out c in
-            bag_of desk.new ≡ bag_compared (has_swapped c) Weak desired.block desired.place h.block h.place (bag_of desk.old)) }
+            bag_of desk.new ≡ bag_compared (has_swapped c) Weak desired.block desired.place h.block
+            h.place (bag_of desk.old)) }
         ensures held { IfOk result (λ c. desk.new.held ≡ desk.old.held + cond (has_swapped c) 0 1) }
         ensures holds { IfOk result (λ c. Holds desk.new Weak (came_out c).block (came_out c).place) }
         ensures keeps { OnOk result (Keeps desk.old desk.new) }

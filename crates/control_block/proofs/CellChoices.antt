@@ -1,5 +1,6 @@
 -- What a compare leaves, where it swapped and where it differed.
-use Rattle.std.proofs.Common.{◌≡◌, ◌≢◌, ◌⊎◌, ℕ, ◌+◌, ◌<◌, ◌≤◌, Bool, true, false, not, cond, List, Option, None, refl, subst, inl, inr, arith}
+use Rattle.std.proofs.Common.{◌≡◌, ◌≢◌, ◌⊎◌, ℕ, ◌+◌, ◌<◌, ◌≤◌, Bool, true, false, not, cond, List, Option, None, refl, subst}
+use Rattle.std.proofs.Common.{inl, inr, arith}
 use Rattle.std.specs.Prelude.{IfSome}
 use mir.Val.{bool_byte}
 use Rattle.control_word.specs.Events.{after, loses}
@@ -23,12 +24,14 @@ pub counted_of : (s : Bool) (n : ℕ) → n ≡ bool_byte (not s) → n ≡ cond
 counted_of true n e = e
 counted_of false n e = e
 
-pub fits_of : (s : Bool) (b c : Option Block) (n m held : ℕ) → n + one (cond s b None) ≡ m + one c → m + 1 ≤ held + one b → m ≤ held → one c ≤ 1
+pub fits_of : (s : Bool) (b c : Option Block) (n m held : ℕ) → n + one (cond s b None) ≡ m + one c → m + 1 ≤ held + one b
+    → m ≤ held → one c ≤ 1
     → n ≤ held + cond s 0 1
 fits_of true b c n m held size fit most few = omega arith
 fits_of false b c n m held size fit most few = omega arith
 
-pub few_of : (s : Bool) (b c : Option Block) (n m held : ℕ) → n + one (cond s b None) ≡ m + one c → m + 1 ≤ held + one b → m ≤ held → one c ≡ 0
+pub few_of : (s : Bool) (b c : Option Block) (n m held : ℕ) → n + one (cond s b None) ≡ m + one c → m + 1 ≤ held + one b
+    → m ≤ held → one c ≡ 0
     → n < held + cond s 0 1
 few_of true b c n m held size fit most few = omega arith
 few_of false b c n m held size fit most few = omega arith

@@ -1,5 +1,6 @@
 -- What a desk has after a call on a cell.
-use Rattle.std.proofs.Common.{◌≡◌, ℕ, suc, ◌+◌, ◌==◌, ◌<◌, ◌≤◌, List, [], ◌∷◌, ◌++◌, map, length, cond, false, Option, Some, None, refl, sym, ap, subst, ◌∙◌}
+use Rattle.std.proofs.Common.{◌≡◌, ℕ, suc, ◌+◌, ◌==◌, ◌<◌, ◌≤◌, List, [], ◌∷◌, ◌++◌, map, length, cond, false, Option, Some}
+use Rattle.std.proofs.Common.{None, refl, sym, ap, subst, ◌∙◌}
 use Rattle.std.proofs.Common.{◌⊎◌, arith, inl, inr, ⊎_elim}
 use Rattle.std.specs.List.{filter}
 use Rattle.std.specs.Prelude.{IfSome}
@@ -82,7 +83,8 @@ module _ {V : Type 0} where
 
     pub lost_counted : (b : Option Block) (id : TableId) → d.seat.table_id ≡ id → Holds y k b p → IfSome b (λ c. IsCounted k c id)
     lost_counted None id table has = tt
-    lost_counted (Some b) id table has = word_inside d id k _ p b.0 (Rattle.control_word.specs.Words.slot k) h table (holding_in d y k p b.0 h is has) (slot_low k)
+    lost_counted (Some b) id table has = word_inside d id k _ p b.0 (Rattle.control_word.specs.Words.slot k) h table
+        (holding_in d y k p b.0 h is has) (slot_low k)
 
     pub lost_hand : (b : Option Block) → Holds y k b p → IsProper k b p
         → InHand (known d.seat.me.0) d.seat.me.0.view.name k (in_seat d.seat.me.0 k b p)

@@ -202,7 +202,8 @@ module _ {V : Type 0} where
       )
 
   -- all funds were given back, and nothing has changed
-  pub back_again : (me me₁ me₂ : At V) (p : Pending V) → Rests me → me₁.0 ≡ in_call me.0 p → me₂.0 ≡ goes_on me₁.0 → me₂.1 ≡ [] → me₂ ≡ me
+  pub back_again : (me me₁ me₂ : At V) (p : Pending V) → Rests me → me₁.0 ≡ in_call me.0 p → me₂.0 ≡ goes_on me₁.0
+      → me₂.1 ≡ [] → me₂ ≡ me
   back_again me me₁ me₂ p rests brought settled none =
       let first : me₂.0 ≡ me.0 = settled ∙ (ap goes_on brought ∙ rested me rests) in λ i. (first i, (none ∙ sym rests.none) i)
 
@@ -211,7 +212,8 @@ module _ {V : Type 0} where
   word_alike v h x y is owned place =
       λ i. record { owned = (owned ∙ ap (λ z. z.owned) is) i; place = (place ∙ ap (λ z. z.place) is) i; taken = x.taken }
 
-  pub word_differs : (v : Sight V) (h : Handle) (x y : CellWord) → IsWordOf v h y → (x.owned ≡ y.owned → x.place ≡ y.place → ⊥) → IsWordOf v h x → ⊥
+  pub word_differs : (v : Sight V) (h : Handle) (x y : CellWord) → IsWordOf v h y → (x.owned ≡ y.owned → x.place ≡ y.place → ⊥)
+      → IsWordOf v h x → ⊥
   word_differs v h x y is differs other =
       differs (ap (λ z. z.owned) other ∙ sym (ap (λ z. z.owned) is)) (ap (λ z. z.place) other ∙ sym (ap (λ z. z.place) is))
 

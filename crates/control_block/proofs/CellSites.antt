@@ -18,7 +18,8 @@ use Rattle.control_block.proofs.DeskSteps.{word_inside}
 
 module _ {V : Type 0} where
   module _ (d : Inside V) (h : IsDesk d) (k : Kind) (i : ℕ) where
-    own_word : (id : TableId) (z : Shape) (s : Site) → d.seat.table_id ≡ id → d.seat.me.0.shape ≡ z → IsOpenAt (desk_now d) s k → i ≡ word_at z.blocks s
+    own_word : (id : TableId) (z : Shape) (s : Site) → d.seat.table_id ≡ id → d.seat.me.0.shape ≡ z → IsOpenAt (desk_now d) s k
+        → i ≡ word_at z.blocks s
         → IsSite s × (i < id.words)
     own_word id z (Free n) table shape cell at =
         let words = ap (λ (y : TableId). y.words) (sym table) ∙ h.sized.words in let blocks = ap (λ (y : Shape). y.blocks) shape in let low = cell.0 in

@@ -52,7 +52,8 @@ module _ {V : Type 0} where
 
   -- so its block is one of the shape
   pub came_in_shape : (v w : Sight V) (p : Pending V) (e : Handle → Event V) (lost h : Handle) (k : Kind) (o : ℕ) (b : Block)
-      → Trades e lost → Added v p None (e h) w → h.kind ≡ k → h.object ≡ Some o → ((known w).object o).block ≡ b.0 → InShape (opening_of v.shape) b.0
+      → Trades e lost → Added v p None (e h) w → h.kind ≡ k → h.object ≡ Some o → ((known w).object o).block ≡ b.0
+      → InShape (opening_of v.shape) b.0
   came_in_shape v w p e lost h k o b trades a kind is there =
       let has = in_bag v w p e lost h o trades a is in
       let shape : w.shape ≡ v.shape = ap (λ (u : Sight V). u.shape) a.now in
@@ -72,7 +73,8 @@ module _ {V : Type 0} where
 
   -- an event by which the desk loses no handle leaves it those that it has, in their blocks
   still_holding : (v w : Sight V) (e : Event V) (k : Kind) (o : ℕ) (p : Option Place) (b : ℕ)
-      → ((t : State) (n : ℕ) (x : Held) → Has x t.hands → Has x (after t n e).hands) → Added v Idle None e w → Holding v k o p b → Holding w k o p b
+      → ((t : State) (n : ℕ) (x : Held) → Has x t.hands → Has x (after t n e).hands) → Added v Idle None e w
+      → Holding v k o p b → Holding w k o p b
   still_holding v w e k o p b keeps a mine =
       let z = opening_of v.shape in let n = v.view.name in let l = a.between ++ v.view.seen in let t = leads z l in
       let legal = subst (IsLegal z) (ap (λ (u : Sight V). u.view.seen) a.now) a.legal in
@@ -87,7 +89,8 @@ module _ {V : Type 0} where
       }
 
   -- so a cell that is open to it stays so
-  pub cell_still : (v w : Sight V) (e : Event V) (c : Cell) (i : ℕ) (k : Kind) → ((t : State) (n : ℕ) (x : Held) → Has x t.hands → Has x (after t n e).hands)
+  pub cell_still : (v w : Sight V) (e : Event V) (c : Cell) (i : ℕ) (k : Kind)
+      → ((t : State) (n : ℕ) (x : Held) → Has x t.hands → Has x (after t n e).hands)
       → Added v Idle None e w → IsCellAt v c i × (k ≡ kind_in v.shape c) → IsCellAt w c i × (k ≡ kind_in w.shape c)
   cell_still v w e c i k keeps a t = (there c t.0, t.1 ∙ ap (λ y. kind_in y c) (sym shape))
     where

@@ -93,7 +93,8 @@ module _ {V : Type 0} where
         let z = opening_of k in let shape = r.shapes id v at awake in let n = cells_led z r.history in
         let low : c < k.shared_cells + k.weak_cells = subst (λ y. c < y.shared_cells + y.weak_cells) shape cell.0 in
         record {
-          kept = open_kept (opening_of k) (leads (opening_of k) r.history) v.view.name (Free c) (sound (opening_of k) r.history r.stands.legal) (is_open (Free c) i cell);
+          kept = open_kept (opening_of k) (leads (opening_of k) r.history) v.view.name (Free c) (sound (opening_of k) r.history r.stands.legal)
+              (is_open (Free c) i cell);
           there = sym (cell.1 ∙ ap (λ y. Rattle.control_word.specs.Layout.cell_place y.blocks c) shape);
           kind = ap (λ n. kind_of_free n c) (shared_led z r.history ∙ ap (λ y. y.shared_cells) (sym shape));
         }

@@ -1,5 +1,6 @@
 -- What a desk has when a member of an object that ends in its hands was emptied.
-use Rattle.std.proofs.Common.{◌≡◌, ◌≢◌, ℕ, ◌+◌, ◌<◌, ◌≤◌, ◌==◌, min, cond, [], ◌∷◌, List, length, Some, None, refl, sym, ap, subst, ◌∙◌, inr, eq-eqb, ne_eqb, arith}
+use Rattle.std.proofs.Common.{◌≡◌, ◌≢◌, ℕ, ◌+◌, ◌<◌, ◌≤◌, ◌==◌, min, cond, [], ◌∷◌, List, length, Some, None, refl, sym}
+use Rattle.std.proofs.Common.{ap, subst, ◌∙◌, inr, eq-eqb, ne_eqb, arith}
 use Rattle.std.proofs.lemmas.Bool.{cond-true, cond-false}
 use Rattle.control_word.proofs.history.Legal.{sound}
 use Rattle.control_word.proofs.lists.Tallies.{put_same}
@@ -125,7 +126,8 @@ module _ {V : Type 0} (d : Inside V) (h : IsDesk d) (b m : ℕ) (ends : Ends d.s
 
     pub ends_out : IsEnding (desk_now t) b y
     ends_out = record {
-      phase = ap (λ (u : Object). u.phase) object_is ∙ (still.object.phase ∙ (was.phase ∙ ap ending (sym (ap (λ (u : Sight V). u.view.name) event.now))));
+      phase = ap (λ (u : Object). u.phase) object_is
+          ∙ (still.object.phase ∙ (was.phase ∙ ap ending (sym (ap (λ (u : Sight V). u.view.name) event.now))));
       kept = subst (λ (u : Sight V). value (opening_of u.shape) u.view.seen ((known u).latest b) ≡ Some y) (sym event.now)
           (ap (value (opening_of v.shape) hist) last ∙ (still.value ∙ was.kept));
     }

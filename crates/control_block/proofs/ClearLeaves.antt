@@ -53,11 +53,13 @@ module _ {V : Type 0} (t f : Inside V) (g : IsDeskWith 1 t) (c : Block) (p : Opt
   abbrev ev : Event V
   ev = Leave x (is_some r)
 
-  pub desk_left : f.seat.me.1 ≡ [] → f.store ≡ t.store → f.allowance ≡ t.allowance → (n : ℕ) → n ≡ bool_byte (is_some r) → f.endings ≡ t.endings + n
+  pub desk_left : f.seat.me.1 ≡ [] → f.store ≡ t.store → f.allowance ≡ t.allowance → (n : ℕ) → n ≡ bool_byte (is_some r)
+      → f.endings ≡ t.endings + n
       → f.held + 1 ≡ t.held → f.held + min 1 f.endings ≤ f.allowance → IsDesk f
   desk_left none store allowance n byte endings held within =
       let s = came w u Idle None ev a in let size = one_fewer w u ev s x s.asks.0.0 refl in let b = g.holding in
-      quiet_desk t f ev g a table none (λ y i. refl) (λ y i. refl) store allowance (omega arith) (omega arith) (endings ∙ grown t u x (is_some r) n g a byte)
+      quiet_desk t f ev g a table none (λ y i. refl) (λ y i. refl) store allowance (omega arith) (omega arith)
+      (endings ∙ grown t u x (is_some r) n g a byte)
 
   pub adds_left : Adds (desk_now t) (Leave (on_latest (desk_now t) Owner p c.0) (is_some r)) (desk_now f)
   adds_left = adds_of t (desk_now t) u f.seat.table_id f.held (λ z. ev) refl table a

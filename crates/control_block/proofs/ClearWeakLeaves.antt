@@ -1,5 +1,6 @@
 -- What a desk has when a weak handle that came out of a member has left.
-use Rattle.std.proofs.Common.{◌≡◌, ℕ, ◌+◌, ◌<◌, min, cond, Bool, true, [], ◌∷◌, ◌++◌, List, length, Option, Some, None, refl, sym, ap, subst, ◌∙◌, arith}
+use Rattle.std.proofs.Common.{◌≡◌, ℕ, ◌+◌, ◌<◌, min, cond, Bool, true, [], ◌∷◌, ◌++◌, List, length, Option, Some, None, refl, sym, ap}
+use Rattle.std.proofs.Common.{subst, ◌∙◌, arith}
 use Rattle.std.specs.Prelude.{vec_capacity}
 use Rattle.std.proofs.lemmas.Bool.{cond-true}
 use Rattle.control_word.proofs.history.Legal.{sound}

@@ -1,5 +1,6 @@
 -- What the words are once a sole desk closes its domain.
-use Rattle.std.proofs.Common.{◌≡◌, ◌≢◌, ℕ, zero, suc, ◌+◌, ◌-◌, ◌==◌, Bool, true, false, List, [], ◌∷◌, map, refl, sym, ap, subst, ◌∙◌, ⊎_elim, arith}
+use Rattle.std.proofs.Common.{◌≡◌, ◌≢◌, ℕ, zero, suc, ◌+◌, ◌-◌, ◌==◌, Bool, true, false, List, [], ◌∷◌, map, refl, sym, ap}
+use Rattle.std.proofs.Common.{subst, ◌∙◌, ⊎_elim, arith}
 use Rattle.std.proofs.Common.{cond, eq-eqb, ne_eqb}
 use Rattle.std.proofs.lemmas.Bool.{cases_eq, cond-true, cond-false}
 use Rattle.std.specs.Prelude.{slice_index}
@@ -72,7 +73,8 @@ module _ {V : Type 0} where
             subst (λ p. NamesBlock (leads (opening_of k) r.history) p b) (ap (λ (y : View V). y.pending) e ∙ idle) names
 
     -- the counts of a block of which no object is ending
-    pub exact_counts : (b : ℕ) → InShape (opening_of k) b → ((o d : ℕ) → ((known v).object o).block ≡ b → ((known v).object o).phase ≡ ending d → ⊥)
+    pub exact_counts : (b : ℕ) → InShape (opening_of k) b
+        → ((o d : ℕ) → ((known v).object o).block ≡ b → ((known v).object o).phase ≡ ending d → ⊥)
         → (number_of (slice_index s.words (spot b 0)) ≡ count (known v) ((known v).latest b))
         × (number_of (slice_index s.words (spot b 1)) ≡ weak (known v) ((known v).latest b) + common ((known v).object ((known v).latest b)).phase)
     exact_counts b inside still =

@@ -39,7 +39,8 @@ use Rattle.control_block.proofs.Parts.{part_without_mine}
 use Rattle.control_block.proofs.Passage.{IsQuiet, plain, quiet_compare, quiet_swap}
 
 -- what goes into a cell goes into no ending object's
-filled : (c : Cell) (new : Handle) (z : Opening) (t : State) (n b : ℕ) → Sound z t → IsOpen t n c → (t.object (t.latest b)).phase ≡ ending n → (m : ℕ)
+filled : (c : Cell) (new : Handle) (z : Opening) (t : State) (n b : ℕ) → Sound z t → IsOpen t n c
+    → (t.object (t.latest b)).phase ≡ ending n → (m : ℕ)
     → ((fills c new (loses n new t)).object (t.latest b)).member m ≡ (t.object (t.latest b)).member m
 filled (Free c) new z t n b fine open' ends m = refl
 filled (Member q c) new z t n b fine open' ends m = (not_filled z t b n fine ends n q c new open').member m
@@ -50,14 +51,16 @@ module _ {V : Type 0} where
   now_of id w m = record { domain = id; shape = w.shape; name = w.view.name; seen = w.view.seen; held = m }
 
   -- what a desk has in a block, by what its seat knows
-  pub holding_in : {n' : ℕ} (d : Inside V) (e : DeskNow V) (k : Kind) (p : Option Place) (b : ℕ) → IsDeskWith n' d → desk_now d ≡ e → HasHandle e k p b
+  pub holding_in : {n' : ℕ} (d : Inside V) (e : DeskNow V) (k : Kind) (p : Option Place) (b : ℕ) → IsDeskWith n' d
+      → desk_now d ≡ e → HasHandle e k p b
       → Holding d.seat.me.0 k ((known d.seat.me.0).latest b) p b
   holding_in d e k p b h is has =
       let v = d.seat.me.0 in
       let t = shown_held (opening_of v.shape) v.view.seen v.view.name k p b h.legal (subst (λ (z : DeskNow V). HasHandle z k p b) (sym is) has) in
       record { has = t.0; there = t.1 }
 
-  pub adds_of : (d : Inside V) (e : DeskNow V) (w : Sight V) (id : TableId) (m : ℕ) (x : DeskNow V → Event V) → desk_now d ≡ e → id ≡ d.seat.table_id
+  pub adds_of : (d : Inside V) (e : DeskNow V) (w : Sight V) (id : TableId) (m : ℕ) (x : DeskNow V → Event V) → desk_now d ≡ e
+      → id ≡ d.seat.table_id
       → Added d.seat.me.0 Idle None (x (desk_now d)) w → Adds e (x e) (now_of id w m)
   adds_of d e w id m x is table a =
       subst (λ (z : DeskNow V). Adds z (x z) (now_of id w m)) is
@@ -213,7 +216,8 @@ module _ {V : Type 0} where
             allowance = same.allowance;
             stock = ap length (stock_left v w e c stores);
             count = ending_same v w e c quiet.quiet;
-            endings = λ b x ends. ends_still b x (desk_now d) refl (λ p. quiet_spares z (leads z before) (value z before) n e b quiet (sound z before legal_now.0) legal_now.1.asks p) ends;
+            endings = λ b x ends. ends_still b x (desk_now d) refl
+                (λ p. quiet_spares z (leads z before) (value z before) n e b quiet (sound z before legal_now.0) legal_now.1.asks p) ends;
           } in
           subst (λ (q : DeskNow V). Keeps q (now_of id w m)) is keeps
 

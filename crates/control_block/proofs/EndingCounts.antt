@@ -1,5 +1,6 @@
 -- How many objects end in a desk's hands.
-use Rattle.std.proofs.Common.{◌≡◌, ◌≢◌, ℕ, zero, suc, ◌+◌, ◌-◌, ◌<◌, ◌≤◌, ◌==◌, Bool, true, false, cond, List, [], ◌∷◌, ◌++◌, refl, sym, ap, ◌∙◌}
+use Rattle.std.proofs.Common.{◌≡◌, ◌≢◌, ℕ, zero, suc, ◌+◌, ◌-◌, ◌<◌, ◌≤◌, ◌==◌, Bool, true, false, cond, List, []}
+use Rattle.std.proofs.Common.{◌∷◌, ◌++◌, refl, sym, ap, ◌∙◌}
 use Rattle.std.proofs.Common.{⊎_elim, arith, eq-eqb, ne_eqb}
 use Rattle.std.proofs.lemmas.Bool.{cases_eq, cond_both, cond-false, cond-true}
 use Rattle.control_word.proofs.history.Legal.{sound}
@@ -41,7 +42,8 @@ few_ending zero s n = omega arith
 few_ending (suc j) s n = let a = few_ending j s n in let b = ends_once n (s.object (s.latest (suc j))).phase in omega arith
 
 -- what ends with a desk is counted
-pub some_ending : (blocks : ℕ) (s : State) (n b : ℕ) → 1 ≤ b → b ≤ blocks → (s.object (s.latest b)).phase ≡ ending n → 0 < many_ending blocks s n
+pub some_ending : (blocks : ℕ) (s : State) (n b : ℕ) → 1 ≤ b → b ≤ blocks → (s.object (s.latest b)).phase ≡ ending n
+    → 0 < many_ending blocks s n
 some_ending zero s n b low high is = absurd (omega arith)
 some_ending (suc j) s n b low high is =
     ⊎_elim
@@ -164,7 +166,8 @@ module _ {V : Type 0} where
         → many_ending z.blocks (after s d (Finish o vacant v)) n + cond (d == n) 1 0 ≡ many_ending z.blocks s n
     finish_count o vacant v asks =
         let x = s.object o in
-        let t = one_changes z s n fine o (moved_to gone x) (λ e. ends_unmade d (sym asks.0 ∙ e)) (let k = ap common asks.0 in omega arith) (after s d (Finish o vacant v)) refl refl in
+        let t = one_changes z s n fine o (moved_to gone x) (λ e. ends_unmade d (sym asks.0 ∙ e)) (let k = ap common asks.0 in omega arith)
+        (after s d (Finish o vacant v)) refl refl in
         let a : ends_with n x.phase ≡ cond (d == n) 1 0 = ap (ends_with n) asks.0 in
         omega arith
 
@@ -216,7 +219,8 @@ module _ {V : Type 0} where
         quiet_count z.blocks s d n (Compare c g x y true w) (Rattle.control_block.proofs.Passage.quiet_compare c g x y true w)
     others_count (Compare c g x y false w) asks m = refl
     others_count (ClearMember o c h) asks m = quiet_count z.blocks s d n (ClearMember o c h) (Rattle.control_block.proofs.Passage.quiet_clear o c h)
-    others_count (Finish o c val) asks m = let t = finish_count z s d n fine o c val asks in let q : ◌≡◌ {A = ℕ} (cond (d == n) 1 0) 0 = cond-false (d == n) 1 0 (ne_eqb d n ne) in omega arith
+    others_count (Finish o c val) asks m = let t = finish_count z s d n fine o c val asks in
+        let q : ◌≡◌ {A = ℕ} (cond (d == n) 1 0) 0 = cond-false (d == n) 1 0 (ne_eqb d n ne) in omega arith
     others_count (Visit h c val) asks m = refl
     others_count (Split to amount hs bs) asks m = refl
     others_count (Join other) asks m =

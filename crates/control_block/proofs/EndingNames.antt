@@ -72,7 +72,8 @@ module _ {V : Type 0} where
   named_after s d (Compare (Member o m) u y w true k) acts all = λ q n is. all q n (sym (fills_phase s (Member o m) y q) ∙ is)
   named_after s d (Compare c u y w false k) acts all = all
   named_after s d (ClearMember o m y) acts all =
-      λ q n is. all q n (sym (fills_phase s (Member o m) (Rattle.control_word.specs.Handles.empty (Rattle.control_word.specs.State.kind_of_member m)) q) ∙ is)
+      λ q n is. all q n
+      (sym (fills_phase s (Member o m) (Rattle.control_word.specs.Handles.empty (Rattle.control_word.specs.State.kind_of_member m)) q) ∙ is)
   named_after s d (Finish o v val) acts all = named_put s o (moved_to gone (s.object o)) all (λ n is. absurd (gone_ends n is))
   named_after s d (Visit y c w) acts all = all
   named_after s d (Split to n hs bs) acts all = λ o i is. let a = all o i is in omega arith

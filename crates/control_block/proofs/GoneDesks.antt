@@ -1,5 +1,6 @@
 -- What a desk has when what came out of a shared cell has left: nothing, or an owner.
-use Rattle.std.proofs.Common.{◌≡◌, ℕ, ◌+◌, ◌-◌, ◌≤◌, ◌==◌, min, cond, [], List, length, Option, Some, None, refl, sym, ap, subst, ◌∙◌, arith}
+use Rattle.std.proofs.Common.{◌≡◌, ℕ, ◌+◌, ◌-◌, ◌≤◌, ◌==◌, min, cond, [], List, length, Option, Some, None, refl, sym, ap, subst}
+use Rattle.std.proofs.Common.{◌∙◌, arith}
 use Rattle.std.specs.List.{filter}
 use Rattle.std.specs.Prelude.{IfSome, is_some, vec_capacity}
 use Rattle.atomic_table.specs.Seated.{TableId}
@@ -128,7 +129,8 @@ module _ {V : Type 0} (t f : Inside V) (g : IsDeskWith 1 t) (q : Option Block) (
             bag = λ l e. leave.bag_left t f g c p r it.0.0 it.1 table (Some c) l refl e;
           }
 
-  pub desk_gone : f.seat.me.1 ≡ [] → f.store ≡ t.store → f.allowance ≡ t.allowance → (n : ℕ) → n ≡ bool_byte (is_some r) → f.endings ≡ t.endings + n
+  pub desk_gone : f.seat.me.1 ≡ [] → f.store ≡ t.store → f.allowance ≡ t.allowance → (n : ℕ) → n ≡ bool_byte (is_some r)
+      → f.endings ≡ t.endings + n
       → bag_size (known t.seat.me.0) t.seat.me.0.view.name + 1 ≤ t.held + one q → f.held + min 1 f.endings ≤ f.allowance → IsDesk f
   desk_gone none store allowance n byte endings room within = go q (gone, holds) room
     where

@@ -1,5 +1,6 @@
 -- Handles of a desk in a list, as handles come into the list and go out of it.
-use Rattle.std.proofs.Common.{◌≡◌, ℕ, suc, ◌+◌, ◌-◌, ◌<◌, ◌≤◌, Bool, true, cond, List, [], ◌∷◌, ◌++◌, map, length, Option, Some, None}
+use Rattle.std.proofs.Common.{◌≡◌, ℕ, suc, ◌+◌, ◌-◌, ◌<◌, ◌≤◌, Bool, true, cond, List, [], ◌∷◌, ◌++◌, map, length, Option}
+use Rattle.std.proofs.Common.{Some, None}
 use Rattle.std.proofs.Common.{refl, sym, ap, subst, ◌∙◌, inl, ⊎_elim, arith, length-append}
 use Rattle.std.proofs.lemmas.Bool.{cond_both, cond-false, cond-true}
 use Rattle.std.proofs.lemmas.List.{map-append}
@@ -34,7 +35,8 @@ Covers n l bag m = AreIn l bag × (n - length l ≤ m - length bag)
 abbrev listed_more : Kind → Option Block → Option Place → List Handle → List Handle
 listed_more k b p l = let h = handle k (number_of b) p in cond (has_object h) (h ∷ l) l
 
-covers_more : (k : Kind) (b : Option Block) (p : Option Place) (n : ℕ) (l bag : List Handle) (m : ℕ) → Covers n l bag m → length bag ≤ m → length l ≤ n
+covers_more : (k : Kind) (b : Option Block) (p : Option Place) (n : ℕ) (l bag : List Handle) (m : ℕ) → Covers n l bag m
+    → length bag ≤ m → length l ≤ n
     → Covers (suc n) (listed_more k b p l) (with_handle k b p bag) (m + 1)
 covers_more k None p n l bag m c few le = let x = c.1 in (c.0, omega arith)
 covers_more k (Some b) p n l bag m c few le =
@@ -98,7 +100,8 @@ num_listed p [] = refl
 num_listed p (h ∷ hs) =
     let ih = num_listed p hs in let s = sum_by-cons (one_worth p) h hs in let x = as_listed h in
     cond_both (has_object x) (x ∷ listed hs) (listed hs) (λ l. num p l ≡ sum_by (one_worth p) (h ∷ hs))
-    (λ e. let a : one_worth p h ≡ cond (p x) 1 0 = cond-true (has_object x) (cond (p x) 1 0) 0 e in let b = num_cons p x (listed hs) in let c = num_one p x in omega arith)
+    (λ e. let a : one_worth p h ≡ cond (p x) 1 0 = cond-true (has_object x) (cond (p x) 1 0) 0 e in let b = num_cons p x (listed hs) in
+    let c = num_one p x in omega arith)
     (λ e. let a : one_worth p h ≡ 0 = cond-false (has_object x) (cond (p x) 1 0) 0 e in omega arith)
 
 num_all : (l : List Handle) → num (λ h. true) l ≡ length l
@@ -113,12 +116,14 @@ module _ {V : Type 0} where
   holds_more d e (held.Owner h) hs stands all bag count =
       let few = stands.bag in let le = few_listed hs in
       let c = covers_more Owner h.block h.place (length hs) (listed hs) (bag_of d) d.held (all.objects, all.empty) few le in
-      let c' = subst (λ (y : List Handle × ℕ). Covers (suc (length hs)) (listed_more Owner h.block h.place (listed hs)) y.0 y.1) (λ i. (sym bag i, sym count i)) c in
+      let c' = subst (λ (y : List Handle × ℕ). Covers (suc (length hs)) (listed_more Owner h.block h.place (listed hs)) y.0 y.1)
+      (λ i. (sym bag i, sym count i)) c in
       record { objects = c'.0; empty = c'.1 }
   holds_more d e (held.Weak h) hs stands all bag count =
       let few = stands.bag in let le = few_listed hs in
       let c = covers_more Weak h.block h.place (length hs) (listed hs) (bag_of d) d.held (all.objects, all.empty) few le in
-      let c' = subst (λ (y : List Handle × ℕ). Covers (suc (length hs)) (listed_more Weak h.block h.place (listed hs)) y.0 y.1) (λ i. (sym bag i, sym count i)) c in
+      let c' = subst (λ (y : List Handle × ℕ). Covers (suc (length hs)) (listed_more Weak h.block h.place (listed hs)) y.0 y.1)
+      (λ i. (sym bag i, sym count i)) c in
       record { objects = c'.0; empty = c'.1 }
 
   pub holds_less : HoldsLess V

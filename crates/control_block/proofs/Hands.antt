@@ -121,7 +121,8 @@ module _ {V : Type 0} where
         go (Some x) None a b c = absurd (none_some (sym c))
         go (Some x) (Some y) a b c =
             let z = opening_of k in let t = leads z r.history in
-            let one = same_counts z t (sound z r.history r.stands.legal) m m x y (busy x a) (hand_object y b).0 (ap (λ n. spot n (slot m)) (same_number _ _ c)) in
+            let one = same_counts z t (sound z r.history r.stands.legal) m m x y (busy x a) (hand_object y b).0
+            (ap (λ n. spot n (slot m)) (same_number _ _ c)) in
             a ∙ (ap Some one.1 ∙ sym b)
 
     -- a swap keeps to the allowance
@@ -137,7 +138,8 @@ module _ {V : Type 0} where
             let f = ap (λ (g : ℕ → ℕ). g d) (fills_allowance c h (loses d h t)) in omega arith
         go (Some o) e =
             let t = leads (opening_of k) r.history in let d = v.view.name in let a = (allowed (opening_of k) r.history r.stands.legal).rooms d in
-            let b = swaps_most t d c h old in let f = ap (λ (g : ℕ → ℕ). g d) (fills_allowance c h (loses d h t)) in let p : Held → Bool = λ x. x.desk == d in
+            let b = swaps_most t d c h old in let f = ap (λ (g : ℕ → ℕ). g d) (fills_allowance c h (loses d h t)) in let p : Held
+            → Bool = λ x. x.desk == d in
             let has : Rattle.control_word.specs.State.Has (held d h) t.hands =
             ⊎_elim (λ n. absurd (no_object o h.object e n.0)) (λ n. n.0) (hand_there m refl).1 in
             let l : bag_size (loses d h t) d ≡ length (filter p (without same_held (held d h) t.hands)) =

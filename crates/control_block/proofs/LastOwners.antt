@@ -31,7 +31,8 @@ module _ {V : Type 0} where
   pub unvisited : (k : Shape) (s : Table.State (Option V) (Sight V)) (r : Ruled k s) (id : ℕ) (v : Sight V) → get_elem? s.views id ≡ some v
       → v.view.spent ≡ false → v.hand ≡ None → (o b : ℕ) (p : Option Place) → let t = leads (opening_of k) r.history in
       Has (held v.view.name (handle Owner (Some o) p)) t.hands → t.latest b ≡ o → true ≡ (count t o == 1)
-      → (j : ℕ) (u : Sight V) → get_elem? s.views j ≡ some u → u.view.spent ≡ false → IsSlotOf u.hand b → Visits t u.view.name b u.view.pending → ⊥
+      → (j : ℕ) (u : Sight V) → get_elem? s.views j ≡ some u → u.view.spent ≡ false → IsSlotOf u.hand b
+      → Visits t u.view.name b u.view.pending → ⊥
   unvisited k s r id v at awake free o b p mine last one j u there un out m =
       let z = opening_of k in let t = leads z r.history in
       let name = names_an_object z r.history r.stands.legal u.view.name Owner (handle Owner (Some m.object) m.place) (m.has, refl, refl) in

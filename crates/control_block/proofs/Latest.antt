@@ -86,7 +86,8 @@ module _ {V : Type 0} where
       → (leads z (entry d.name (Join other.name) ∷ joins.before)).latest b ≡ (leads z seen).latest b =
       λ n seen knows k p b has.
       ap (λ l. (leads z (entry d.name (Join other.name) ∷ l)).latest b) knows.1
-      ∙ latest_kept z knows.0 seen n d.name (Join other.name) k p b (subst (λ l. IsLegal z (entry d.name (Join other.name) ∷ l)) knows.1 legal) knows.2 has in (
+      ∙ latest_kept z knows.0 seen n d.name (Join other.name) k p b
+      (subst (λ l. IsLegal z (entry d.name (Join other.name) ∷ l)) knows.1 legal) knows.2 has in (
         λ k p b has. now b ∙ kept d.name d.seen joins.mine k p b has,
         λ k p b has.
             let has' = subst (λ (y : Shape). Has (handle k (Some b) p) (shown (leads (opening_of y) other.seen) other.name)) shape has in

@@ -86,7 +86,8 @@ module _ {V : Type 0} where
       (subst (λ (y : ℕ × Option Place). Added v Idle None (WeakLeave (weak_of y.0 y.1) vacant) u) (λ i. (object i, place i)) a)
 
   -- bringing funds adds nothing to what the desk has seen
-  pub gave_from : (e : Handle → Event V) (k : Kind) (v w u : Sight V) (p : Pending V) (x : CellWord) → w ≡ in_call v p → Gave e k w x u → Gave e k v x u
+  pub gave_from : (e : Handle → Event V) (k : Kind) (v w u : Sight V) (p : Pending V) (x : CellWord) → w ≡ in_call v p
+      → Gave e k w x u → Gave e k v x u
   gave_from e k v w u p x is g =
       let d = subst (λ (y : Sight V). Gave e k y x u) is g in let a = d.event in
       record {

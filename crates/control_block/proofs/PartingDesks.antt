@@ -1,6 +1,7 @@
 -- Desks by their fields, and the state at which an event of a desk came.
 use Rattle.control_block.specs.Desks.{many_ending}
-use Rattle.std.proofs.Common.{◌≡◌, ℕ, ◌+◌, ◌≤◌, min, true, false, List, [], ◌++◌, length, Option, Some, None, ◌<◌, refl, sym, ap, subst, ◌∙◌, ⊎_elim, arith}
+use Rattle.std.proofs.Common.{◌≡◌, ℕ, ◌+◌, ◌≤◌, min, true, false, List, [], ◌++◌, length, Option, Some, None, ◌<◌, refl, sym, ap}
+use Rattle.std.proofs.Common.{subst, ◌∙◌, ⊎_elim, arith}
 use Rattle.std.proofs.lemmas.Bool.{cases_lt}
 use Rattle.control_word.proofs.lists.Sums.{sum_at}
 use Rattle.std.specs.List.{filter}

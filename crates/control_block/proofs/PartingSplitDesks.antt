@@ -47,7 +47,8 @@ module _ {V : Type 0} (d : Inside V) (h : IsDesk d) (hs : List HeldValue) (holds
 
   -- the desk that goes on
   pub old_desk : (e : Inside V) → e.seat.table_id ≡ d.seat.table_id → e.seat.me ≡ (w, []) → e.allowance ≡ d.allowance - a
-      → e.held ≡ d.held - length hs → e.endings ≡ d.endings → e.held + min 1 e.endings ≤ e.allowance → ((b : ℕ) → times b bs + times b e.store.items ≡ times b d.store.items)
+      → e.held ≡ d.held - length hs → e.endings ≡ d.endings → e.held + min 1 e.endings ≤ e.allowance
+      → ((b : ℕ) → times b bs + times b e.store.items ≡ times b d.store.items)
       → length e.store.items + length bs ≡ length d.store.items → vec_capacity e.store ≡ vec_capacity d.store → IsDesk e
   old_desk e table me allowance count endings within tallies many room =
       let own = h.allowed in let l = part.allowance_left d h hs holds a bs w u p in let b = ap length (part.bag_left d h hs holds a bs w u p) in
@@ -73,7 +74,8 @@ module _ {V : Type 0} (d : Inside V) (h : IsDesk d) (hs : List HeldValue) (holds
       (endings ∙ (part.ending_left d h hs holds a bs w u p ∙ ap (many_ending w.shape.blocks (known w)) (sym name)))
 
   -- the new desk
-  pub new_desk : (e : Inside V) → e.seat.table_id ≡ d.seat.table_id → e.seat.me ≡ (u, []) → e.allowance ≡ a → e.held ≡ length hs → e.endings ≡ 0 → length hs ≤ a
+  pub new_desk : (e : Inside V) → e.seat.table_id ≡ d.seat.table_id → e.seat.me ≡ (u, []) → e.allowance ≡ a → e.held ≡ length hs
+      → e.endings ≡ 0 → length hs ≤ a
       → e.store.items ≡ bs → v.shape.blocks ≤ vec_capacity e.store → IsDesk e
   new_desk e table me allowance count endings few items room =
       let l = part.allowance_given d h hs holds a bs w u p in let b = ap length (part.bag_given d h hs holds a bs w u p) in

@@ -17,12 +17,14 @@ module _ {A : Type 0} (who : A → ℕ) (d : ℕ) (same : A → A → Bool) (tru
       ∙ (ap (λ r. y ∷ r) (part_without_mine x l e) ∙ sym (cond-false (same x y) (part who d l) (y ∷ without same x (part who d l)) s)))
       (λ q. cond-false (who y == d) (y ∷ part who d (without same x l)) (part who d (without same x l)) q ∙ part_without_mine x l e))
 
-  pub all_to : {T : Type 0} (was : T → A) (ts : List T) (l : List A) → ((t : T) → who (was t) ≡ d) → HasAll same was ts l → HasAll same was ts (part who d l)
+  pub all_to : {T : Type 0} (was : T → A) (ts : List T) (l : List A) → ((t : T) → who (was t) ≡ d) → HasAll same was ts l
+      → HasAll same was ts (part who d l)
   all_to was [] l e h = tt
   all_to was (t ∷ ts) l e h =
       (has_part who d (was t) l (e t) h.0, subst (HasAll same was ts) (part_without_mine (was t) l (e t)) (all_to was ts (without same (was t) l) e h.1))
 
-  pub all_from : {T : Type 0} (was : T → A) (ts : List T) (l : List A) → ((t : T) → who (was t) ≡ d) → HasAll same was ts (part who d l) → HasAll same was ts l
+  pub all_from : {T : Type 0} (was : T → A) (ts : List T) (l : List A) → ((t : T) → who (was t) ≡ d) → HasAll same was ts (part who d l)
+      → HasAll same was ts l
   all_from was [] l e h = tt
   all_from was (t ∷ ts) l e h =
       ((part_has who d (was t) l h.0).0, all_from was ts (without same (was t) l) e (subst (HasAll same was ts) (sym (part_without_mine (was t) l (e t))) h.1))

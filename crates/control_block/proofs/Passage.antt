@@ -1,5 +1,6 @@
 -- What a step makes of the rule.
-use Rattle.std.proofs.Common.{◌≡◌, ◌≢◌, ◌⊎◌, ℕ, ◌-◌, ◌<◌, ◌≤◌, Bool, false, true, List, ◌∷◌, ◌++◌, map, length, get_or, set, Option, Some, None}
+use Rattle.std.proofs.Common.{◌≡◌, ◌≢◌, ◌⊎◌, ℕ, ◌-◌, ◌<◌, ◌≤◌, Bool, false, true, List, ◌∷◌, ◌++◌, map, length}
+use Rattle.std.proofs.Common.{get_or, set, Option, Some, None}
 use Rattle.std.proofs.Common.{refl, sym, ap, subst, ◌∙◌, inl, inr, ⊎_elim, arith}
 use mathlib.Core.Logic.{dite}
 use mathlib.Core.Option.{some, some-injective}
@@ -50,7 +51,8 @@ module _ {V : Type 0} where
   IsPlaced k s r v w homes h b =
       let z = opening_of k in
       (get_elem? homes (b - 1) ≡ some (some (kept z h b)))
-      ⊎ (IsSlotOf w.hand b ⊎ ((get_elem? homes (b - 1) ≡ get_elem? s.homes (b - 1)) × (kept z h b ≡ kept z r.history b) × (IsSlotOf v.hand b → ⊥)))
+      ⊎ (IsSlotOf w.hand b
+      ⊎ ((get_elem? homes (b - 1) ≡ get_elem? s.homes (b - 1)) × (kept z h b ≡ kept z r.history b) × (IsSlotOf v.hand b → ⊥)))
 
   -- the rule after a step of one seat
   pub next : (k : Shape) (s : Table.State (Option V) (Sight V)) (r : Ruled k s) (id : ℕ) (v w : Sight V) (words : List ℕ)

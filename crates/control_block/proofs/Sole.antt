@@ -53,7 +53,8 @@ module _ {V : Type 0} where
   all_own z d (x ∷ later) seen legal whole keep =
       let own = events_of d later in
       let rest : All KeepsDesks own =
-      cond_both (x.desk == d) (x.event ∷ own) own (λ l. All KeepsDesks l → All KeepsDesks own) (λ e p. All-tail KeepsDesks x.event own p) (λ e p. p) keep in
+      cond_both (x.desk == d) (x.event ∷ own) own (λ l. All KeepsDesks l → All KeepsDesks own)
+      (λ e p. All-tail KeepsDesks x.event own p) (λ e p. p) keep in
       let t = all_own z d later seen legal.0 whole rest in
       let s = leads z (later ++ seen) in
       let mine = alone z (later ++ seen) legal.0 d x.desk t.1 legal.1.acting in

@@ -1,5 +1,6 @@
 -- Steps that make no event: nothing changes, or the desk's call goes on; and a compare-exchange, by its two outcomes.
-use Rattle.std.proofs.Common.{◌≡◌, ◌≢◌, ◌==◌, ℕ, ◌<◌, false, List, get_or, set, map, Option, None, refl, sym, subst, inr, ⊎_elim, eq-eqb, ne_eqb}
+use Rattle.std.proofs.Common.{◌≡◌, ◌≢◌, ◌==◌, ℕ, ◌<◌, false, List, get_or, set, map, Option, None, refl, sym, subst, inr, ⊎_elim}
+use Rattle.std.proofs.Common.{eq-eqb, ne_eqb}
 use Rattle.std.proofs.lemmas.Bool.{cases_eq}
 use mathlib.Core.Option.{some}
 use lib.ListN.{get_elem?}
@@ -36,7 +37,8 @@ module _ {V : Type 0} where
       (λ j u ne there un back. back) (λ b inside. inr (inr (refl, refl, λ y. subst (λ c. IsSlotOf c b) free y)))
 
   -- a step by which the desk's call goes on
-  pub allows_move : (k : Shape) (slots id i : ℕ) (me : At V) (f : ℕ → ℕ) (p : Pending V) → me.0.view.spent ≡ false → me.0.hand ≡ None → IsOwn p
+  pub allows_move : (k : Shape) (slots id i : ℕ) (me : At V) (f : ℕ → ℕ) (p : Pending V) → me.0.view.spent ≡ false
+      → me.0.hand ≡ None → IsOwn p
       → ((s : Table.State (Option V) (Sight V)) (r : Ruled k s) → get_elem? s.views id ≡ some me.0 → get_or s.words i 0 < 18446744073709551616
       → Stands (opening_of k) (set s.words i (f (get_or s.words i 0))) (set (map view_of s.views) id (sees_as me.0.view p r.history)) r.history)
       → Allows (Ruled k) slots id me i f (λ n after. (after.0 ≡ in_call me.0 p) × (after.1 ≡ me.1))

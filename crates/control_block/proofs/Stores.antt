@@ -1,5 +1,6 @@
 -- Stores of blocks, as tallies.
-use Rattle.std.proofs.Common.{◌≡◌, ℕ, zero, suc, ◌+◌, ◌-◌, ◌≤◌, ◌==◌, Bool, List, [], ◌∷◌, length, refl, ap, ◌∙◌, inl, inr, arith, eq-eqb}
+use Rattle.std.proofs.Common.{◌≡◌, ℕ, zero, suc, ◌+◌, ◌-◌, ◌≤◌, ◌==◌, Bool, List, [], ◌∷◌, length, refl, ap, ◌∙◌, inl}
+use Rattle.std.proofs.Common.{inr, arith, eq-eqb}
 use Rattle.std.proofs.lemmas.Bool.{cond-true, cond-false, cond_both}
 use Rattle.std.specs.List.{filter}
 use Rattle.control_word.proofs.history.Soundness.{Sound}
@@ -21,12 +22,14 @@ covered n [] inside = omega arith
 covered n (x ∷ l) inside =
     let t = covered n l (λ y h. inside y (inr h)) in
     let f : ℕ → ℕ = λ i. how_often (suc i) (x ∷ []) in let g : ℕ → ℕ = λ i. how_often (suc i) l in
-    let e : sum_below n (λ i. how_often (suc i) (x ∷ l)) ≡ sum_below n (λ i. f i + g i) = ap (sum_below n) (λ j i. num_cons (λ (y : Stored). y.block == suc i) x l j) in
+    let e : sum_below n (λ i. how_often (suc i) (x ∷ l)) ≡ sum_below n (λ i. f i + g i) =
+    ap (sum_below n) (λ j i. num_cons (λ (y : Stored). y.block == suc i) x l j) in
     let s = sum_sum n f g in
     let w = inside x (inl refl) in
     let m = sum_at n (x.block - 1) f (omega arith) in
     let b : suc (x.block - 1) ≡ x.block = omega arith in
-    let one : f (x.block - 1) ≡ 1 = ap (λ i. how_often i (x ∷ [])) b ∙ ap length (cond-true (x.block == x.block) (x ∷ []) [] (eq-eqb x.block x.block refl)) in
+    let one : f (x.block - 1) ≡ 1 =
+    ap (λ i. how_often i (x ∷ [])) b ∙ ap length (cond-true (x.block == x.block) (x ∷ []) [] (eq-eqb x.block x.block refl)) in
     omega arith
 
 ones : (n : ℕ) → sum_below n (λ i. 1) ≡ n

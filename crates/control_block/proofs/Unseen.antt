@@ -33,7 +33,8 @@ module _ {V : Type 0} where
     abbrev all : List (View V)
     all = set views i now
 
-    sums : (m : ℕ) → (owed all m ≡ owed (set views i full) m) × (paid all m ≡ paid (set views i full) m) × (added all m ≡ added (set views i full) m)
+    sums : (m : ℕ) → (owed all m ≡ owed (set views i full) m) × (paid all m ≡ paid (set views i full) m)
+        × (added all m ≡ added (set views i full) m)
     sums m =
         let a = total_set (λ (y : View V). owes y.pending m) views i v now at in
         let b = total_set (λ (y : View V). pays y.pending m) views i v now at in
@@ -61,7 +62,8 @@ module _ {V : Type 0} where
     was : (j : ℕ) (u : View V) → get_elem? all j ≡ some u → u.spent ≡ false
         → (x : View V) × (get_elem? (set views i full) j ≡ some x) × (x.spent ≡ false) × ((d : ℕ) → StandsFor u d → StandsFor x d)
     was j u e l = ⊎_elim
-        (λ (t : (j ≡ i) × (now ≡ u)). (full, ap (get_elem? (set views i full)) t.0 ∙ here, awake, λ d st. subst (λ (x : View V). StandsFor x d) (sym t.1) st))
+        (λ (t : (j ≡ i) × (now ≡ u)).
+        (full, ap (get_elem? (set views i full)) t.0 ∙ here, awake, λ d st. subst (λ (x : View V). StandsFor x d) (sym t.1) st))
         (λ (t : (j ≢ i) × (get_elem? views j ≡ some u)). (u, set_else views i j full t.0 ∙ t.1, l, λ d st. st)) (at_set views i j now u e)
 
     pub unseen : Stands z words (set views i now) h

@@ -69,7 +69,8 @@ module _ {V : Type 0} where
       let q = as_visited v b o p i was now me t in
       subst (λ (y : ℕ × Option Place). IsVisiting v b y.0 y.1 i was now me) (λ j. (sym q.0 j, sym q.1 j)) t
 
-  pub tells_visit : (v w : Sight V) (b : Block) (o : ℕ) (p : Option Place) (i : ℕ) (was becomes : V) (now : Option V) (me : At V) → IsVisiting v b o p i was now me
+  pub tells_visit : (v w : Sight V) (b : Block) (o : ℕ) (p : Option Place) (i : ℕ) (was becomes : V) (now : Option V) (me : At V)
+      → IsVisiting v b o p i was now me
       → tells (Visit (owner (visited me.0.view.pending) (visited_at me.0.view.pending)) was becomes) v w → tells (Visit (owner o p) was becomes) v w
   tells_visit v w b o p i was becomes now me t e =
       let q = as_visited v b o p i was now me t in subst (λ (y : ℕ × Option Place). tells (Visit (owner y.0 y.1) was becomes) v w) (λ j. (q.0 j, q.1 j)) e

@@ -53,10 +53,12 @@ module _ {V : Type 0} where
   cell_at d (site.Free n) = Free n
   cell_at d (site.Member b m) = Member (latest_of d b.0) m
 
-  -- the cell is open to the desk, and has handles of this kind: it is free, or a member of an object that the desk has an owner of
+  -- the cell is open to the desk, and has handles of this kind: it is free, or a member of an object that the desk has
+  -- an owner of
   abbrev pub IsOpenAt : DeskNow V → Site → Kind → Type 0
   IsOpenAt d (site.Free n) k = IsFreeCell d.shape n k
-  IsOpenAt d (site.Member b m) k = (m < 3) × (k ≡ kind_of_member m) × ((p : Option Place) × HasHandle d Owner p b.0)
+  IsOpenAt d (site.Member b m) k = (m < 3) × (k ≡ kind_of_member m)
+      × ((p : Option Place) × HasHandle d Owner p b.0)
 
   -- the desk has the handle: its bag shows it, or it is empty and among those that are counted beyond the bag
   abbrev pub Holds : DeskNow V → Kind → Option Block → Option Place → Type 0

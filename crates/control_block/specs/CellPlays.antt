@@ -1,5 +1,6 @@
 -- What the steps on a cell tell.
-use Rattle.std.specs.Prelude.{◌≡◌, ◌≢◌, ℕ, ◌+◌, ◌-◌, ◌<◌, ◌++◌, Bool, true, false, List, Option, Some, None}
+use Rattle.std.specs.Prelude.{◌≡◌, ◌≢◌, ℕ, ◌+◌, ◌-◌, ◌<◌, ◌++◌, Bool, true, false, List}
+use Rattle.std.specs.Prelude.{Option, Some, None}
 use Rattle.atomic_table.specs.Table.{Step}
 use Rattle.control_word.specs.declared.cell.CellWord.{CellWord}
 use Rattle.control_word.specs.declared.event.Cell.{Cell}
@@ -41,7 +42,8 @@ module _ {V : Type 0} where
   -- by what it has seen the cell is open to the desk, and its word is the table's word i
   abbrev pub IsCellAt : Sight V → Cell → ℕ → Type 0
   IsCellAt v (Free c) i = (c < v.shape.shared_cells + v.shape.weak_cells) × (i ≡ cell_place v.shape.blocks c)
-  IsCellAt v (Member o m) i = (m < 3) × ((p : Option Place) × (b : ℕ) × Holding v Owner o p b × (i ≡ spot b (7 + m)))
+  IsCellAt v (Member o m) i =
+      (m < 3) × ((p : Option Place) × (b : ℕ) × Holding v Owner o p b × (i ≡ spot b (7 + m)))
 
   -- the word of a cell with this handle, by the blocks that the seat knows
   abbrev pub IsWordOf : Sight V → Handle → CellWord → Type 0
@@ -52,7 +54,8 @@ module _ {V : Type 0} where
     pub between : List (Entry V)
     pub quiet : NoneBy v.view.name between
     pub legal : IsLegal (opening_of v.shape) (between ++ v.view.seen)
-    pub shows : let s = leads (opening_of v.shape) (between ++ v.view.seen) in x ≡ shown (blocks_of s) (cell_of s c) x.taken
+    pub shows : let s = leads (opening_of v.shape) (between ++ v.view.seen) in
+        x ≡ shown (blocks_of s) (cell_of s c) x.taken
 
   -- so many funds are out for a handle of which the word of a cell tells the block
   abbrev pub debt : Handle → Option Block → ℕ → Pending V
@@ -84,7 +87,8 @@ module _ {V : Type 0} where
   -- what the cell holds: the load of one that shows no object; of one that shows an object nothing
   abbrev pub as_loaded : Cell → At V → CellWord → At V → Type 0
   as_loaded c m x m' =
-      IsHeld c m.0 x × (x.owned ≡ None → tells (Load c (handle (kind_in m.0.shape c) None x.place)) m.0 m'.0 × (m'.1 ≡ m.1)) × (x.owned ≢ None → m' ≡ m)
+      IsHeld c m.0 x × (x.owned ≡ None → tells (Load c (handle (kind_in m.0.shape c) None x.place)) m.0 m'.0
+      × (m'.1 ≡ m.1)) × (x.owned ≢ None → m' ≡ m)
 
   abbrev pub loaded_empty : Cell → Step (Option V) → At V → ℕ → At V → Type 0
   loaded_empty c st m n m' = of_cell (λ x. as_loaded c m x m') n
@@ -93,16 +97,19 @@ module _ {V : Type 0} where
   abbrev pub as_differed : Cell → Handle → Handle → Bool → At V → CellWord → At V → Type 0
   as_differed c expected new weak m x m' =
       let h = handle (kind_in m.0.shape c) None x.place in
-      IsHeld c m.0 x × (x.owned ≡ None → equivalent h expected ≡ false → tells (Compare c expected new h false weak) m.0 m'.0 × (m'.1 ≡ m.1))
+      IsHeld c m.0 x × (x.owned ≡ None → equivalent h expected ≡ false
+      → tells (Compare c expected new h false weak) m.0 m'.0 × (m'.1 ≡ m.1))
       × (x.owned ≡ None → equivalent h expected ≡ true → m' ≡ m) × (x.owned ≢ None → m' ≡ m)
 
-  abbrev pub differed_empty : Cell → Handle → Handle → Bool → Step (Option V) → At V → ℕ → At V → Type 0
+  abbrev pub differed_empty : Cell → Handle → Handle → Bool → Step (Option V) → At V
+      → ℕ → At V → Type 0
   differed_empty c expected new weak st m n m' = of_cell (λ x. as_differed c expected new weak m x m') n
 
   -- a fund of the cell was taken, where its word was the one that was found; else nothing changes
   abbrev pub took : Cell → (Handle → Event V) → Step (Option V) → At V → ℕ → At V → Type 0
   took c e st m n m' =
-      (n ≡ st.first → (x : CellWord) → IsCellWord x → n ≡ cell_bits x → Took e (kind_in m.0.shape c) m.0 x m'.0 × (m'.1 ≡ m.1))
+      (n ≡ st.first → (x : CellWord) → IsCellWord x → n ≡ cell_bits x
+      → Took e (kind_in m.0.shape c) m.0 x m'.0 × (m'.1 ≡ m.1))
       × (n ≢ st.first → m' ≡ m)
 
   -- the cell was swapped
@@ -112,18 +119,21 @@ module _ {V : Type 0} where
   -- the same where its word was the one that was found; else nothing changes
   abbrev pub compare_swapped : Cell → (Handle → Event V) → Step (Option V) → At V → ℕ → At V → Type 0
   compare_swapped c e st m n m' =
-      (n ≡ st.first → (x : CellWord) → IsCellWord x → n ≡ cell_bits x → Gave e (kind_in m.0.shape c) m.0 x m'.0 × (m'.1 ≡ m.1))
+      (n ≡ st.first → (x : CellWord) → IsCellWord x → n ≡ cell_bits x
+      → Gave e (kind_in m.0.shape c) m.0 x m'.0 × (m'.1 ≡ m.1))
       × (n ≢ st.first → m' ≡ m)
 
   -- the member of an ending object holds nothing, and is cleared by the look; else nothing changes
   abbrev pub looked_clear : ℕ → ℕ → Step (Option V) → At V → ℕ → At V → Type 0
   looked_clear o q st m n m' =
-      (n ≡ 0 → tells (ClearMember o q (empty (kind_of_member q))) m.0 m'.0 × (m'.1 ≡ m.1)) × (n ≢ 0 → m' ≡ m)
+      (n ≡ 0 → tells (ClearMember o q (empty (kind_of_member q))) m.0 m'.0 × (m'.1 ≡ m.1))
+      × (n ≢ 0 → m' ≡ m)
 
   -- the member of an ending object was cleared
   abbrev pub cleared : ℕ → ℕ → Step (Option V) → At V → ℕ → At V → Type 0
   cleared o q st m n m' = swapped (Member o q) (λ h. ClearMember o q h) st m n m'
 
-  -- what was owed is in the cell, where its word was the one that was found, and the desk has seen no more; else nothing changes
+  -- what was owed is in the cell, where its word was the one that was found, and the desk has seen no more; else
+  -- nothing changes
   abbrev pub refilled : Step (Option V) → At V → ℕ → At V → Type 0
   refilled st m n m' = (n ≡ st.first → (m'.0 ≡ goes_on m.0) × (m'.1 ≡ m.1)) × (n ≢ st.first → m' ≡ m)

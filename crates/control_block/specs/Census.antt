@@ -1,5 +1,6 @@
 -- What is left of a domain.
-use Rattle.std.specs.Prelude.{◌≡◌, ℕ, suc, Bool, ◌-◌, ◌<◌, ◌≤◌, ◌↔◌, ◌==◌, cond, List, slice_index}
+use Rattle.std.specs.Prelude.{◌≡◌, ℕ, suc, Bool, ◌-◌, ◌<◌, ◌≤◌, ◌↔◌, ◌==◌, cond, List}
+use Rattle.std.specs.Prelude.{slice_index}
 use Rattle.control_word.specs.Layout.{spot}
 use Rattle.control_word.specs.Packing.{number_of}
 use Rattle.control_word.specs.State.{State, IsVacant, count, ending, sum_below, weak}

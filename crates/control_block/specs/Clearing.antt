@@ -10,11 +10,13 @@ use Rattle.control_block.specs.Desks.{Adds, DeskNow, IsEnding, latest_of, on_lat
 
 module _ {V : Type 0} where
   -- what member m of the object in block b held came out, as one handle more (own)
-  pub record TakesOut (d : DeskNow V) (b m : ℕ) (k : Kind) (c : Option Block) (p : Option Place) (e : DeskNow V) : Type 0 where
+  pub record TakesOut (d : DeskNow V) (b m : ℕ) (k : Kind) (c : Option Block) (p : Option Place)
+      (e : DeskNow V) : Type 0 where
     pub event : Adds d (ClearMember (latest_of d b) m (handle_in e k c p)) e
     pub held : e.held ≡ d.held + 1
 
-  -- an owner left, an empty one without an event; where it was the last, the object's value is this ([util.smartptr.shared.dest])
+  -- an owner left, an empty one without an event; where it was the last, the object's value is this
+  -- ([util.smartptr.shared.dest])
   abbrev pub Lets : DeskNow V → Option Block → Option Place → Option V → DeskNow V → Type 0
   Lets d None p r e = (r ≡ None) × (e ≡ record d { held = d.held - 1 })
   Lets d (Some c) p r e = Adds d (Leave (on_latest d Owner p c.0) (is_some r)) e × IfSome r (IsEnding e c.0)
@@ -25,13 +27,15 @@ module _ {V : Type 0} where
   LetsWeakly d (Some c) p vacant e = Adds d (WeakLeave (on_latest d Weak p c.0) vacant) e
 
   -- what a shared member held came out, and left
-  pub record Empties (d : DeskNow V) (b m : ℕ) (c : Option Block) (p : Option Place) (r : Option V) (e : DeskNow V) : Type 0 where
+  pub record Empties (d : DeskNow V) (b m : ℕ) (c : Option Block) (p : Option Place) (r : Option V)
+      (e : DeskNow V) : Type 0 where
     pub between : DeskNow V
     pub takes : TakesOut d b m Owner c p between
     pub lets : Lets between c p r e
 
   -- the same of the weak one
-  pub record EmptiesWeakly (d : DeskNow V) (b m : ℕ) (c : Option Block) (p : Option Place) (vacant : Bool) (e : DeskNow V) : Type 0 where
+  pub record EmptiesWeakly (d : DeskNow V) (b m : ℕ) (c : Option Block) (p : Option Place) (vacant : Bool)
+      (e : DeskNow V) : Type 0 where
     pub between : DeskNow V
     pub takes : TakesOut d b m Weak c p between
     pub lets : LetsWeakly between c p vacant e

@@ -1,5 +1,6 @@
 -- What contracts see of a domain and of a desk.
-use Rattle.std.specs.Prelude.{◌≡◌, ◌≢◌, ◌⊎◌, ℕ, zero, suc, ◌+◌, ◌==◌, min, true, cond, List, [], ◌∷◌, ◌++◌, map, length, Option, Some, None}
+use Rattle.std.specs.Prelude.{◌≡◌, ◌≢◌, ◌⊎◌, ℕ, zero, suc, ◌+◌, ◌==◌, min, true, cond, List}
+use Rattle.std.specs.Prelude.{[], ◌∷◌, ◌++◌, map, length, Option, Some, None}
 use Rattle.atomic_table.specs.Seated.{TableId}
 use Rattle.control_word.specs.declared.event.Entry.{Entry}
 use Rattle.control_word.specs.declared.event.Event.{Event}
@@ -11,7 +12,8 @@ use Rattle.control_word.specs.Handles.{IsPointer, empty, handle}
 use Rattle.control_word.specs.declared.shape.Shape.{Shape}
 use Rattle.control_word.specs.Events.{place_at}
 use Rattle.control_word.specs.Histories.{entry, leads, value, IsLegal}
-use Rattle.control_word.specs.State.{Has, Object, State, Held, Stored, Phase, bag, ending, gone, kind_of_member, live, stock, sum_below, unmade}
+use Rattle.control_word.specs.State.{Has, Object, State, Held, Stored, Phase, bag, ending, gone, kind_of_member, live}
+use Rattle.control_word.specs.State.{stock, sum_below, unmade}
 use Rattle.control_word.specs.Views.{NoneBy}
 use Rattle.control_word.specs.Words.{blocks_of}
 use Rattle.control_block.specs.Rule.{opening_of}
@@ -52,8 +54,8 @@ in_block block (Some o) = Some (block o)
 abbrev pub by_block : (ℕ → ℕ) → Handle → Handle
 by_block block h = record { kind = h.kind; object = in_block block h.object; place = h.place }
 
--- an owner of the object in block b with place p may give one with place q: p itself, the object's own, or any proper one
--- ([util.smartptr.shared.const], [util.smartptr.enab])
+-- an owner of the object in block b with place p may give one with place q: p itself, the object's own, or any proper
+-- one ([util.smartptr.shared.const], [util.smartptr.enab])
 abbrev pub MayPoint : Option Place → ℕ → Option Place → Type 0
 MayPoint p b q = (q ≡ p) ⊎ ((q ≡ place_at b) ⊎ IsPointer q)
 
@@ -72,8 +74,8 @@ module _ {V : Type 0} where
   abbrev pub endings_of : DeskNow V → ℕ
   endings_of d = many_ending d.shape.blocks (state_of d) d.name
 
-  -- what it counts of its allowance: each handle, empty ones too, and one place more while an object ends in its hands, since
-  -- what a member held comes into them
+  -- what it counts of its allowance: each handle, empty ones too, and one place more while an object ends in its hands,
+  -- since what a member held comes into them
   abbrev pub held_of : DeskNow V → ℕ
   held_of d = d.held + min 1 (endings_of d)
 
@@ -94,7 +96,8 @@ module _ {V : Type 0} where
     pub seen : d.seen ≡ []
     pub held : d.held ≡ 0
 
-  -- the desk's history after begins with all that it had seen, and ends with this call, the only one of its own that is new
+  -- the desk's history after begins with all that it had seen, and ends with this call, the only one of its own that is
+  -- new
   pub record Adds (d : DeskNow V) (x : Event V) (e : DeskNow V) : Type 0 where
     pub same : (e.domain ≡ d.domain) × (e.shape ≡ d.shape) × (e.name ≡ d.name)
     pub between : List (Entry V)

@@ -12,7 +12,8 @@ use Rattle.control_block.specs.Rule.{opening_of}
 use Rattle.control_block.specs.declared.board.Sight.{Sight}
 
 module _ {V : Type 0} where
-  -- the door was shut, where the word was the one that was found, and the slot with the object's value is in hand; else nothing changes
+  -- the door was shut, where the word was the one that was found, and the slot with the object's value is in hand; else
+  -- nothing changes
   abbrev pub shut : Block → ℕ → Option Place → Step (Option V) → At V → ℕ → At V → Type 0
   shut b o p st m n m' =
       (n ≡ st.first → (x : V) × Moved m.0 (Visiting o p st.word x) (Some b) m'.0
@@ -26,7 +27,8 @@ module _ {V : Type 0} where
       × Added m.0 Idle None (Visit (owner o p) was becomes) m'.0 × (m'.1 ≡ [])
 
   -- a visit is under way: the door of the object's block is shut, and its slot is in hand with this in it
-  pub record IsVisiting (v : Sight V) (b : Block) (o : ℕ) (p : Option Place) (word : ℕ) (was : V) (now : Option V) (me : At V) : Type 0 where
+  pub record IsVisiting (v : Sight V) (b : Block) (o : ℕ) (p : Option Place) (word : ℕ) (was : V) (now : Option V)
+      (me : At V) : Type 0 where
     pub moved : Moved v (Visiting o p word was) (Some b) me.0
     pub valued : value (opening_of v.shape) me.0.view.seen o ≡ Some was
     pub carried : me.1 ≡ (b.0 - 1, now) ∷ []

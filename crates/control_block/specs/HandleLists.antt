@@ -37,13 +37,15 @@ module _ (V : Type 0) where
   -- a handle came: into the list
   abbrev pub HoldsMore : Type 0
   HoldsMore =
-      (d e : DeskNow V) (h : Held) (hs : List Held) → Standing d → HoldsAll d hs → bag_of e ≡ with_held h (bag_of d) → e.held ≡ d.held + 1
+      (d e : DeskNow V) (h : Held) (hs : List Held) → Standing d → HoldsAll d hs
+      → bag_of e ≡ with_held h (bag_of d) → e.held ≡ d.held + 1
       → HoldsAll e (h ∷ hs)
 
   -- a handle of the list left
   abbrev pub HoldsLess : Type 0
   HoldsLess =
-      (d e : DeskNow V) (h : Held) (hs : List Held) → HoldsAll d (h ∷ hs) → bag_of e ≡ without_held h (bag_of d) → e.held + 1 ≡ d.held
+      (d e : DeskNow V) (h : Held) (hs : List Held) → HoldsAll d (h ∷ hs) → bag_of e ≡ without_held h (bag_of d)
+      → e.held + 1 ≡ d.held
       → HoldsAll e hs
 
   -- a handle of the list is taken out, and held still
@@ -57,7 +59,8 @@ module _ (V : Type 0) where
   -- what a split gave away the new desk holds, and the first one holds what it kept
   abbrev pub HoldsApart : Type 0
   HoldsApart =
-      (d : DeskNow V) (a k : ℕ) (hs ks : List Held) (e new : DeskNow V) → HoldsAll d (hs ++ ks) → SplitsOff d a k hs e new
+      (d : DeskNow V) (a k : ℕ) (hs ks : List Held) (e new : DeskNow V) → HoldsAll d (hs ++ ks)
+      → SplitsOff d a k hs e new
       → HoldsAll new hs × HoldsAll e ks
 
   -- a part of it can be given away
@@ -67,5 +70,7 @@ module _ (V : Type 0) where
   -- what two desks held, they hold once they are joined
   abbrev pub HoldsBoth : Type 0
   HoldsBoth =
-      (d other e : DeskNow V) (hs ks : List Held) → Standing d → Standing other → HoldsAll d hs → HoldsAll other ks
-      → IsPermutation (bag_of d ++ bag_of other) (bag_of e) → e.held ≡ d.held + other.held → HoldsAll e (hs ++ ks)
+      (d other e : DeskNow V) (hs ks : List Held) → Standing d → Standing other
+      → HoldsAll d hs → HoldsAll other ks
+      → IsPermutation (bag_of d ++ bag_of other) (bag_of e) → e.held ≡ d.held + other.held
+      → HoldsAll e (hs ++ ks)

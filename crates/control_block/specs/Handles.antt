@@ -21,6 +21,7 @@ IsBare-prop : (k : Kind) (p : Option Place) → IsSet (Option Place) → IsProp 
 IsBare-prop Owner p s = Unit-prop
 IsBare-prop Weak p s = s p None
 
-pub IsProper-prop : (k : Kind) (b : Option Block) (p : Option Place) → IsSet (Option Place) → IsProp (IsProper k b p)
+pub IsProper-prop : (k : Kind) (b : Option Block) (p : Option Place) → IsSet (Option Place)
+    → IsProp (IsProper k b p)
 IsProper-prop k None p s = ×_prop (IsPointer-prop p) (IsBare-prop k p s)
 IsProper-prop k (Some b) p s = Unit-prop

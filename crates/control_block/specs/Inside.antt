@@ -24,10 +24,16 @@ pub record IsDomain (key : Shape) (id : TableId) (k : Shape) : Type 0 where
 
 module _ {V : Type 0} where
   abbrev pub desk_now : Inside V → DeskNow V
-  desk_now d = record { domain = d.seat.table_id; shape = d.seat.me.0.shape; name = d.seat.me.0.view.name; seen = d.seat.me.0.view.seen; held = d.held }
+  desk_now d = record {
+    domain = d.seat.table_id;
+    shape = d.seat.me.0.shape;
+    name = d.seat.me.0.view.name;
+    seen = d.seat.me.0.view.seen;
+    held = d.held;
+  }
 
-  -- No call is half done, no slot in hand; the numbers are those of the history seen; the store lists the stock; and n handles
-  -- too many are on their way out
+  -- No call is half done, no slot in hand; the numbers are those of the history seen; the store lists the stock; and n
+  -- handles too many are on their way out
   pub record IsDeskWith (n : ℕ) (d : Inside V) : Type 0 where
     pub rests : Rests d.seat.me
     pub legal : IsLegal (opening_of d.seat.me.0.shape) d.seat.me.0.view.seen

@@ -24,13 +24,16 @@ module _ (V : Type 0) where
   abbrev pub JoinsAdd : Type 0
   JoinsAdd =
       (d other e : DeskNow V) → JoinsWith d other e
-      → (own_of e ≡ Join other.name ∷ own_of d) × (events_of other.name e.seen ≡ own_of other) × ((state_of e).joined other.name ≡ true)
+      → (own_of e ≡ Join other.name ∷ own_of d) × (events_of other.name e.seen ≡ own_of other)
+      × ((state_of e).joined other.name ≡ true)
 
   -- a name that is joined makes no event any more, and stays joined
   abbrev pub JoinedRest : Type 0
   JoinedRest =
-      (d : DeskNow V) (own : List (Event V)) (e : DeskNow V) (n : ℕ) → Goes d own e → IsLegal (opening_of d.shape) d.seen
-      → (state_of d).joined n ≡ true → (events_of n e.seen ≡ events_of n d.seen) × ((state_of e).joined n ≡ true)
+      (d : DeskNow V) (own : List (Event V)) (e : DeskNow V) (n : ℕ) → Goes d own e
+      → IsLegal (opening_of d.shape) d.seen
+      → (state_of d).joined n ≡ true → (events_of n e.seen ≡ events_of n d.seen)
+      × ((state_of e).joined n ≡ true)
 
   -- what goes on goes on by nothing, by a call, by a join, and by one after another
   abbrev pub GoesByNone : Type 0
@@ -44,7 +47,8 @@ module _ (V : Type 0) where
 
   abbrev pub GoesInTurn : Type 0
   GoesInTurn =
-      (d : DeskNow V) (xs : List (Event V)) (e : DeskNow V) (ys : List (Event V)) (f : DeskNow V) → Goes d xs e → Goes e ys f
+      (d : DeskNow V) (xs : List (Event V)) (e : DeskNow V) (ys : List (Event V)) (f : DeskNow V)
+      → Goes d xs e → Goes e ys f
       → Goes d (ys ++ xs) f
 
   -- and the own events are added to those that there were
@@ -53,12 +57,14 @@ module _ (V : Type 0) where
 
   -- on a sole desk a call's event comes next
   abbrev pub ComesNext : Type 0
-  ComesNext = (d : DeskNow V) (x : Event V) (e : DeskNow V) → Adds d x e → IsSole d → e.seen ≡ entry d.name x ∷ d.seen
+  ComesNext = (d : DeskNow V) (x : Event V) (e : DeskNow V) → Adds d x e → IsSole d
+      → e.seen ≡ entry d.name x ∷ d.seen
 
   -- its own events come one after the other, with nothing of others' between, and it is sole still
   abbrev pub ComeInARow : Type 0
   ComeInARow =
-      (d : DeskNow V) (own : List (Event V)) (e : DeskNow V) → Goes d own e → All KeepsDesks own → IsLegal (opening_of d.shape) d.seen
+      (d : DeskNow V) (own : List (Event V)) (e : DeskNow V) → Goes d own e → All KeepsDesks own
+      → IsLegal (opening_of d.shape) d.seen
       → IsSole d → (e.seen ≡ map (entry d.name) own ++ d.seen) × IsSole e
 
   -- no block in which the desk has a handle is used again
@@ -66,4 +72,5 @@ module _ (V : Type 0) where
   CallsKeepLatest = (d : DeskNow V) (x : Event V) (e : DeskNow V) → Adds d x e → KeepsLatest d e
 
   abbrev pub JoinsKeepLatest : Type 0
-  JoinsKeepLatest = (d other e : DeskNow V) → other.shape ≡ d.shape → JoinsWith d other e → KeepsLatest d e × KeepsLatest other e
+  JoinsKeepLatest = (d other e : DeskNow V) → other.shape ≡ d.shape → JoinsWith d other e
+      → KeepsLatest d e × KeepsLatest other e

@@ -1,5 +1,6 @@
 -- How handles leave: by themselves, or as they came out of a cell.
-use Rattle.std.specs.Prelude.{◌≡◌, ◌⊎◌, ℕ, ◌-◌, Bool, false, cond, List, [], ◌∷◌, is_some, IfSome, Option, None, Some}
+use Rattle.std.specs.Prelude.{◌≡◌, ◌⊎◌, ℕ, ◌-◌, Bool, false, cond, List, [], ◌∷◌, is_some}
+use Rattle.std.specs.Prelude.{IfSome, Option, None, Some}
 use Rattle.control_word.specs.Handles.{handle, owner, weak_of}
 use Rattle.control_word.specs.Histories.{value}
 use Rattle.control_word.specs.declared.cell.CellWord.{CellWord}
@@ -28,8 +29,8 @@ freed None vacant = []
 freed (Some b) vacant = cond vacant (b ∷ []) []
 
 module _ {V : Type 0} where
-  -- a handle of the object in block b may leave: no call is half done and the desk has it, or it came out of a cell, and the half-done
-  -- call has so many funds of it to give back
+  -- a handle of the object in block b may leave: no call is half done and the desk has it, or it came out of a cell,
+  -- and the half-done call has so many funds of it to give back
   abbrev pub MayLeave : At V → Kind → ℕ → Option Place → ℕ → ℕ → Type 0
   MayLeave me k o p b funds = (Rests me × Holding me.0 k o p b × (funds ≡ 0)) ⊎ Owes (owing k o p b funds 0) me
 
@@ -45,7 +46,8 @@ module _ {V : Type 0} where
   abbrev pub LetGo : Sight V → Option Block → Option Place → Option V → Sight V → Type 0
   LetGo v None p r w = (r ≡ None) × (w ≡ v)
   LetGo v (Some b) p r w =
-      let o = (known v).latest b.0 in tells (Leave (owner o p) (is_some r)) v w × IfSome r (λ x. value (opening_of v.shape) w.view.seen o ≡ Some x)
+      let o = (known v).latest b.0 in tells (Leave (owner o p) (is_some r)) v w
+      × IfSome r (λ x. value (opening_of v.shape) w.view.seen o ≡ Some x)
 
   -- a weak handle left, an empty one by no step; whether its block is vacant now
   abbrev pub LetGoWeakly : Sight V → Option Block → Option Place → Bool → Sight V → Type 0
@@ -53,13 +55,15 @@ module _ {V : Type 0} where
   LetGoWeakly v (Some b) p vacant w = tells (WeakLeave (weak_of ((known v).latest b.0) p) vacant) v w
 
   -- the handle that the word showed came out, by this event, and then it left
-  pub record OutAndGone (e : Handle → Event V) (v : Sight V) (x : CellWord) (r : Option V) (w : Sight V) : Type 0 where
+  pub record OutAndGone (e : Handle → Event V) (v : Sight V) (x : CellWord) (r : Option V)
+      (w : Sight V) : Type 0 where
     pub between : Sight V
     pub out : CameOut e Owner v x between
     pub gone : LetGo between x.owned x.place r w
 
   -- the same of a weak one
-  pub record OutAndGoneWeakly (e : Handle → Event V) (v : Sight V) (x : CellWord) (vacant : Bool) (w : Sight V) : Type 0 where
+  pub record OutAndGoneWeakly (e : Handle → Event V) (v : Sight V) (x : CellWord) (vacant : Bool)
+      (w : Sight V) : Type 0 where
     pub between : Sight V
     pub out : CameOut e Weak v x between
     pub gone : LetGoWeakly between x.owned x.place vacant w

@@ -1,5 +1,6 @@
 -- What the steps of a lock tell.
-use Rattle.std.specs.Prelude.{◌≡◌, ◌≢◌, ◌<◌, ◌==◌, ℕ, not, true, false, Bool, List, [], ◌∷◌, Option}
+use Rattle.std.specs.Prelude.{◌≡◌, ◌≢◌, ◌<◌, ◌==◌, ℕ, not, true, false, Bool, List, [], ◌∷◌}
+use Rattle.std.specs.Prelude.{Option}
 use Rattle.atomic_table.specs.Table.{Step}
 use Rattle.control_word.specs.declared.event.Entry.{Entry}
 use Rattle.control_word.specs.declared.event.Event.TheVariants.{Lock}
@@ -29,8 +30,10 @@ module _ {V : Type 0} where
   -- the lock of an object without owner; where the word isn't 0 nothing changes, and its number may grow
   abbrev pub sought_owner : ℕ → Option Place → Step (Option V) → At V → ℕ → At V → Type 0
   sought_owner o p st m n m' =
-      (n ≡ 0 → tells (Lock (weak_of o p) false) m.0 m'.0 × (m'.1 ≡ m.1)) × (n ≢ 0 → (m' ≡ m) × (number_of n < 4294967295))
+      (n ≡ 0 → tells (Lock (weak_of o p) false) m.0 m'.0 × (m'.1 ≡ m.1))
+      × (n ≢ 0 → (m' ≡ m) × (number_of n < 4294967295))
 
   -- the lock of an object with an owner, where the word was the one that was found; else nothing changes
   abbrev pub locked : ℕ → Option Place → Step (Option V) → At V → ℕ → At V → Type 0
-  locked o p st m n m' = (n ≡ st.first → tells (Lock (weak_of o p) true) m.0 m'.0 × (m'.1 ≡ m.1)) × (n ≢ st.first → m' ≡ m)
+  locked o p st m n m' = (n ≡ st.first → tells (Lock (weak_of o p) true) m.0 m'.0 × (m'.1 ≡ m.1))
+      × (n ≢ st.first → m' ≡ m)

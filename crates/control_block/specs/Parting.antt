@@ -1,5 +1,6 @@
 -- What a split and a join of desks say.
-use Rattle.std.specs.Prelude.{◌≡◌, ◌⊎◌, ℕ, ◌+◌, ◌-◌, ◌<◌, ◌≤◌, ◌==◌, max, List, [], ◌∷◌, map, length, Option, Some, None}
+use Rattle.std.specs.Prelude.{◌≡◌, ◌⊎◌, ℕ, ◌+◌, ◌-◌, ◌<◌, ◌≤◌, ◌==◌, max, List, []}
+use Rattle.std.specs.Prelude.{◌∷◌, map, length, Option, Some, None}
 use Rattle.std.specs.List.{filter}
 use Rattle.control_word.specs.declared.event.Entry.{Entry}
 use Rattle.control_word.specs.declared.event.Event.TheVariants.{Join, Split}
@@ -13,7 +14,8 @@ use Rattle.control_word.specs.Views.{Knows, comes}
 use Rattle.control_block.specs.declared.board.Sight.{Sight}
 use Rattle.control_block.specs.declared.handles.Held.{Held}
 use Rattle.control_block.specs.declared.handles.Held.TheVariants as held
-use Rattle.control_block.specs.Desks.{Adds, DeskNow, KeepsEndings, allowance_of, bag_of, endings_of, held_of, by_block, state_of, stock_of}
+use Rattle.control_block.specs.Desks.{Adds, DeskNow, KeepsEndings, allowance_of, bag_of, endings_of, held_of, by_block}
+use Rattle.control_block.specs.Desks.{state_of, stock_of}
 use Rattle.control_block.specs.Plays.{tells}
 use Rattle.control_block.specs.Rule.{opening_of}
 
@@ -75,8 +77,8 @@ module _ {V : Type 0} where
     pub endings : KeepsEndings d e
     pub count : (endings_of e ≡ endings_of d) × (endings_of new ≡ 0)
 
-  -- d and another desk have become e: one history goes on from all that either had seen, with no event of either between,
-  -- and ends with the join
+  -- d and another desk have become e: one history goes on from all that either had seen, with no event of either
+  -- between, and ends with the join
   pub record JoinsWith (d other e : DeskNow V) : Type 0 where
     pub same : (e.domain ≡ d.domain) × (e.shape ≡ d.shape) × (e.name ≡ d.name)
     pub before : List (Entry V)
@@ -85,7 +87,8 @@ module _ {V : Type 0} where
     pub others : Knows other.name before other.seen
     pub legal : IsLegal (opening_of d.shape) e.seen
 
-  -- two chairs after a split: the first has made the event, and the second stands for the new name and has seen the same
+  -- two chairs after a split: the first has made the event, and the second stands for the new name and has seen the
+  -- same
   pub record Parted (v : Sight V) (a : ℕ) (hs : List Handle) (bs : List Block) (w u : Sight V) : Type 0 where
     pub to : ℕ
     pub event : tells (Split to a hs bs) v w

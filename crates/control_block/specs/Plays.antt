@@ -1,10 +1,12 @@
 -- What each kind of step tells.
-use Rattle.std.specs.Prelude.{◌≡◌, ◌≢◌, ◌⊎◌, ◌-◌, ◌%◌, Bool, length, slice_index, slice_set, ℕ, zero, suc, ◌+◌, ◌<◌, ◌≤◌, ◌==◌}
+use Rattle.std.specs.Prelude.{◌≡◌, ◌≢◌, ◌⊎◌, ◌-◌, ◌%◌, Bool, length, slice_index, slice_set}
+use Rattle.std.specs.Prelude.{ℕ, zero, suc, ◌+◌, ◌<◌, ◌≤◌, ◌==◌}
 use Rattle.std.specs.Prelude.{true, false, List, [], ◌∷◌, ◌++◌, Option, Some, None}
 use Rattle.atomic_table.specs.Table.{Me, Step}
 use Rattle.control_word.specs.declared.event.Entry.{Entry}
 use Rattle.control_word.specs.declared.event.Event.{Event}
-use Rattle.control_word.specs.declared.event.Event.TheVariants.{Share, WeakShare, WeakLeave, Count, Expired, Read, Leave, Make, Finish, Split, Join}
+use Rattle.control_word.specs.declared.event.Event.TheVariants.{Share, WeakShare, WeakLeave, Count, Expired, Read}
+use Rattle.control_word.specs.declared.event.Event.TheVariants.{Leave, Make, Finish, Split, Join}
 use Rattle.control_word.specs.declared.handle.Handle.{Handle}
 use Rattle.control_word.specs.declared.handle.Kind.{Kind}
 use Rattle.control_word.specs.declared.place.Block.{Block}
@@ -16,7 +18,8 @@ use Rattle.control_word.specs.Handles.{empty, handle, owner, weak_of}
 use Rattle.control_word.specs.Histories.{entry, leads, value, IsLegal}
 use Rattle.control_word.specs.Packing.{told}
 use Rattle.control_word.specs.Words.{flags_of}
-use Rattle.control_word.specs.State.{Object, State, Has, HasAll, ending, kind_of_member, same_held, same_stored, stored, held, bag_size, count}
+use Rattle.control_word.specs.State.{Object, State, Has, HasAll, ending, kind_of_member, same_held, same_stored, stored}
+use Rattle.control_word.specs.State.{held, bag_size, count}
 use Rattle.control_word.specs.Views.{NoneBy, Knows, comes, together, used_up}
 use Rattle.control_block.specs.Rule.{opening_of, seeing}
 use Rattle.control_block.specs.declared.board.Sight.{Sight}
@@ -113,18 +116,20 @@ module _ {V : Type 0} where
   abbrev pub peeked : ℕ → ℕ → Step (Option V) → At V → ℕ → At V → Type 0
   peeked o j st m n m' = (m' ≡ m) × IsTold j ((known m.0).object o) n
 
-  -- the owner left; where it was the last, as the word was all that was taken from it, its object ends here, and the slot with the
-  -- value is in hand
+  -- the owner left; where it was the last, as the word was all that was taken from it, its object ends here, and the
+  -- slot with the value is in hand
   abbrev pub left : Block → ℕ → Option Place → Step (Option V) → At V → ℕ → At V → Type 0
   left b o p st m n m' =
       (n ≢ st.first → tells (Leave (owner o p) false) m.0 m'.0 × (m'.1 ≡ m.1))
       × (n ≡ st.first → Added m.0 Idle (Some b) (Leave (owner o p) true) m'.0
-      × ((x : V) × (value (opening_of m.0.shape) m'.0.view.seen o ≡ Some x) × (m'.1 ≡ (b.0 - 1, Some x) ∷ m.1) × Ends m'.0 o b.0))
+      × ((x : V) × (value (opening_of m.0.shape) m'.0.view.seen o ≡ Some x)
+      × (m'.1 ≡ (b.0 - 1, Some x) ∷ m.1) × Ends m'.0 o b.0))
 
   -- the slot of an object that ends is in hand, with the value, and the desk has seen no more
   abbrev pub fetched : Block → ℕ → Step (Option V) → At V → ℕ → At V → Type 0
   fetched b o st m n m' =
-      (x : V) × (value (opening_of m.0.shape) m.0.view.seen o ≡ Some x) × (m'.0 ≡ seeing m.0 Idle (Some b) m.0.view.seen)
+      (x : V) × (value (opening_of m.0.shape) m.0.view.seen o ≡ Some x)
+      × (m'.0 ≡ seeing m.0 Idle (Some b) m.0.view.seen)
       × (m'.1 ≡ (b.0 - 1, Some x) ∷ [])
 
   -- the slot of an object that ends goes home, with its value, and the desk has seen no more
@@ -133,7 +138,8 @@ module _ {V : Type 0} where
 
   -- the weak word of an own vacant block is written, and its slot is in hand
   abbrev pub began : Block → Step (Option V) → At V → ℕ → At V → Type 0
-  began b st m n m' = (l : List ℕ) × (length l ≡ 5) × Moved m.0 (Making b l) (Some b) m'.0 × (m'.1 ≡ (b.0 - 1, None) ∷ m.1)
+  began b st m n m' = (l : List ℕ) × (length l ≡ 5) × Moved m.0 (Making b l) (Some b) m'.0
+      × (m'.1 ≡ (b.0 - 1, None) ∷ m.1)
 
   -- what a make knows of its block's flags and fields
   abbrev pub prepared : Pending V → List ℕ
@@ -147,12 +153,14 @@ module _ {V : Type 0} where
   -- the object is made, with the value that is in the slot, which goes home
   abbrev pub made : Block → Bool → Bool → List ℕ → Step (Option V) → At V → ℕ → At V → Type 0
   made b enabled null fields st m n m' =
-      (x : V) × (m.1 ≡ (b.0 - 1, Some x) ∷ []) × Added m.0 Idle None (Make b enabled null fields x) m'.0 × (m'.1 ≡ [])
+      (x : V) × (m.1 ≡ (b.0 - 1, Some x) ∷ [])
+      × Added m.0 Idle None (Make b enabled null fields x) m'.0 × (m'.1 ≡ [])
 
   -- the object is gone, and its slot, from which the value was taken, goes home; the value is the one that it had
   abbrev pub finished : ℕ → Step (Option V) → At V → ℕ → At V → Type 0
   finished o st m n m' =
-      (x : V) × (value (opening_of m.0.shape) m.0.view.seen o ≡ Some x) × Added m.0 Idle None (Finish o (n == 1) x) m'.0 × (m'.1 ≡ [])
+      (x : V) × (value (opening_of m.0.shape) m.0.view.seen o ≡ Some x)
+      × Added m.0 Idle None (Finish o (n == 1) x) m'.0 × (m'.1 ≡ [])
 
   -- a make that has prepared so much of the block, with this in its slot
   pub record IsPrepared (v : Sight V) (b : Block) (me : At V) (l : List ℕ) (x : Option V) : Type 0 where
@@ -193,12 +201,17 @@ module _ {V : Type 0} where
   grown v w = record { shape = v.shape; view = together v.view w.view; hand = None }
 
   abbrev pub over : Sight V
-  over = record { shape = record { blocks = 0; shared_cells = 0; weak_cells = 0; allowance = 0 }; view = used_up; hand = None }
+  over = record {
+    shape = record { blocks = 0; shared_cells = 0; weak_cells = 0; allowance = 0 };
+    view = used_up;
+    hand = None;
+  }
 
   -- what the other had is the desk's
   abbrev pub joined : Step (Option V) → At V → ℕ → At V → Type 0
   joined st m n m' =
-      (other : ℕ) × (mine : List (Entry V)) × (others : List (Entry V)) × (m.0.view.pending ≡ Merging other mine others)
+      (other : ℕ) × (mine : List (Entry V)) × (others : List (Entry V))
+      × (m.0.view.pending ≡ Merging other mine others)
       × (a : Added m.0 Idle None (Join other) m'.0) × NoneBy other a.between × Knows m.0.view.name m.0.view.seen mine
       × Knows other m.0.view.seen others
       × (m'.1 ≡ m.1)

@@ -1,5 +1,6 @@
 -- The rule of the table: what holds between any two steps.
-use Rattle.std.specs.Prelude.{◌≡◌, ◌⊎◌, ℕ, ◌+◌, ◌-◌, ◌==◌, false, cond, List, [], map, length, Option, Some, None}
+use Rattle.std.specs.Prelude.{◌≡◌, ◌⊎◌, ℕ, ◌+◌, ◌-◌, ◌==◌, false, cond, List, [], map, length}
+use Rattle.std.specs.Prelude.{Option, Some, None}
 use mathlib.Core.Option.{some}
 use lib.ListN.{get_elem?}
 use Rattle.atomic_table.specs.Table as Table
@@ -60,7 +61,8 @@ module _ {V : Type 0} where
 
   -- one unspent seat has the slot of block b
   abbrev pub IsOut : List (Sight V) → ℕ → Type 0
-  IsOut sights b = (j : ℕ) × (u : Sight V) × (get_elem? sights j ≡ some u) × (u.view.spent ≡ false) × IsSlotOf u.hand b
+  IsOut sights b = (j : ℕ) × (u : Sight V) × (get_elem? sights j ≡ some u)
+      × (u.view.spent ≡ false) × IsSlotOf u.hand b
 
   pub record Ruled (k : Shape) (s : Table.State (Option V) (Sight V)) : Type 0 where
     pub history : List (Entry V)

@@ -6,8 +6,8 @@ use Rattle.control_block.specs.Desks.{DeskNow, allowance_of, bag_of, endings_of,
 use Rattle.control_block.specs.Rule.{opening_of}
 
 module _ {V : Type 0} where
-  -- its history is legal; it has as many handles as its bag lists and more empty ones, no more than its allowance; and of
-  -- each block at most one object ends with it
+  -- its history is legal; it has as many handles as its bag lists and more empty ones, no more than its allowance; and
+  -- of each block at most one object ends with it
   pub record Standing (d : DeskNow V) : Type 0 where
     pub legal : IsLegal (opening_of d.shape) d.seen
     pub limits : IsWithinLimits d.shape

@@ -12,13 +12,15 @@ use Rattle.control_block.specs.Desks.{Adds, DeskNow}
 
 module _ {V : Type 0} where
   -- a handle went into a shared cell; what the cell held came out, and left
-  pub record Replaces (d : DeskNow V) (cell : Cell) (new : Handle) (c : Option Block) (p : Option Place) (r : Option V) (e : DeskNow V) : Type 0 where
+  pub record Replaces (d : DeskNow V) (cell : Cell) (new : Handle) (c : Option Block) (p : Option Place) (r : Option V)
+      (e : DeskNow V) : Type 0 where
     pub between : DeskNow V
     pub swaps : Adds d (Swap cell new (handle_in between Owner c p)) between
     pub lets : Lets between c p r e
 
   -- the same of a weak one
-  pub record ReplacesWeakly (d : DeskNow V) (cell : Cell) (new : Handle) (c : Option Block) (p : Option Place) (vacant : Bool) (e : DeskNow V) : Type 0 where
+  pub record ReplacesWeakly (d : DeskNow V) (cell : Cell) (new : Handle) (c : Option Block) (p : Option Place)
+      (vacant : Bool) (e : DeskNow V) : Type 0 where
     pub between : DeskNow V
     pub swaps : Adds d (Swap cell new (handle_in between Weak c p)) between
     pub lets : LetsWeakly between c p vacant e

@@ -1,8 +1,8 @@
 //! The table that the desks share: its words, its slots, what a seat sees, and the rule.
 //!
-//! The words are those of `control_word::layout`. Slot `b - 1` has the token of the cell in which the value of the object
-//! in block `b` lies: it is at home but while a make fills the cell, while a visit works on the value, and while the
-//! last owner's leave takes it out.
+//! The words are those of `control_word::layout`. Slot `b - 1` has the token of the cell in which the value of the
+//! object in block `b` lies: it is at home but while a make fills the cell, while a visit works on the value, and while
+//! the last owner's leave takes it out.
 use crate::slot::Slot;
 use atomic_table::{Seat, Shared, TableRule};
 use control_word::view::View;

@@ -1,13 +1,18 @@
 //! Calls of a desk on handles that own something, for the crates above: each is one kind of step, and keeps the desk's
 //! numbers. They know handles by their blocks. Empty handles touch no word: they are only counted.
-ghost use Rattle.std.specs.Prelude.{◌≡◌, ◌↔◌, ℕ, ◌+◌, ◌<◌, true, [], ◌∷◌, ◌++◌, cond, length, vec_capacity, vec_len, Option, None, Some, is_some, IfSome, IfOk, IfErr, OnOk, IsErr};
+ghost use Rattle.std.specs.Prelude.{◌≡◌, ◌↔◌, ℕ, ◌+◌, ◌<◌, true, [], ◌∷◌, ◌++◌, cond};
+ghost use Rattle.std.specs.Prelude.{length, vec_capacity, vec_len, Option, None, Some, is_some, IfSome, IfOk, IfErr};
+ghost use Rattle.std.specs.Prelude.{OnOk, IsErr};
 ghost use Rattle.control_word.specs.Handles.{handle, same_handle};
-ghost use Rattle.control_word.specs.declared.event.Event.TheVariants.{Count, Expired, Finish, Leave, Read, Share, WeakLeave, WeakShare};
+ghost use Rattle.control_word.specs.declared.event.Event.TheVariants.{Count, Expired, Finish, Leave, Read, Share};
+ghost use Rattle.control_word.specs.declared.event.Event.TheVariants.{WeakLeave, WeakShare};
 ghost use Rattle.control_word.specs.declared.handle.Kind.TheVariants.{Owner, Weak};
 ghost use Rattle.control_word.specs.declared.place.Place.{Place};
 ghost use Rattle.control_word.specs.State.{count, without};
-ghost use Rattle.control_block.specs.Desks.{Belongs, Adds, HasHandle, IsCleared, IsEnding, IsSameDesk, Keeps, KeepsEndings, KeepsOtherEndings, KeepsStock};
-ghost use Rattle.control_block.specs.Desks.{MayGiveWeak, MayPoint, allowance_of, bag_of, endings_of, held_of, latest_of, on_latest, state_of, stock_of};
+ghost use Rattle.control_block.specs.Desks.{Belongs, Adds, HasHandle, IsCleared, IsEnding, IsSameDesk, Keeps};
+ghost use Rattle.control_block.specs.Desks.{KeepsEndings, KeepsOtherEndings, KeepsStock};
+ghost use Rattle.control_block.specs.Desks.{MayGiveWeak, MayPoint, allowance_of, bag_of, endings_of, held_of};
+ghost use Rattle.control_block.specs.Desks.{latest_of, on_latest, state_of, stock_of};
 ghost use Rattle.control_block.specs.Leaving.{freed};
 
 mod empties;
@@ -61,7 +66,8 @@ pub fn share<V: Drop + Send, A: About>(
     ensures limit { IsErr result ↔ (held_of desk.old ≡ allowance_of desk.old) }
     ensures refused { IfErr result (λ why. (why ≡ Refusal.Limit) × (desk.new ≡ desk.old)) }
     ensures handle { IfOk result (λ h. (h.block ≡ Some of.block) × (h.place ≡ wanted)) }
-    ensures event { OnOk result (Adds desk.old (Share (on_latest desk.old Owner A.place of.block.0) A.wanted) desk.new) }
+    ensures event { OnOk result
+        (Adds desk.old (Share (on_latest desk.old Owner A.place of.block.0) A.wanted) desk.new) }
     ensures bag { OnOk result (bag_of desk.new ≡ handle Owner (Some of.block.0) A.wanted ∷ bag_of desk.old) }
     ensures held { OnOk result (desk.new.held ≡ desk.old.held + 1) }
     ensures keeps { OnOk result (Keeps desk.old desk.new) }
@@ -84,7 +90,8 @@ pub fn count<V: Drop + Send, A: About>(domain: &Domain<V>, desk: &mut Desk<V>, o
     requires meant { (A.kind ≡ of.kind) × (A.place ≡ of.place) }
     requires holds { HasHandle desk.old A.kind A.place of.block.0 }
     ensures event { Adds desk.old (Count (on_latest desk.old A.kind A.place of.block.0) result) desk.new }
-    ensures sole { allowance_of desk.new ≡ desk.old.shape.allowance → result ≡ count (state_of desk.new) (latest_of desk.old of.block.0) }
+    ensures sole { allowance_of desk.new ≡ desk.old.shape.allowance
+        → result ≡ count (state_of desk.new) (latest_of desk.old of.block.0) }
     ensures bag { bag_of desk.new ≡ bag_of desk.old }
     ensures held { desk.new.held ≡ desk.old.held }
     ensures keeps { Keeps desk.old desk.new }
@@ -121,8 +128,8 @@ pub fn read<V: Drop + Send>(domain: &Domain<V>, desk: &mut Desk<V>, place: Place
     steps::read::<V, Brand>(&domain.table.shared, &mut desk.seat, place)
 }
 
-/// An owner leaves ([util.smartptr.shared.dest]). After the last one's leave the object ends in the desk's hands; the answer
-/// knows its value, which stays where it is.
+/// An owner leaves ([util.smartptr.shared.dest]). After the last one's leave the object ends in the desk's hands; the
+/// answer knows its value, which stays where it is.
 pub fn leave<V: Drop + Send, A: About>(
     domain: &Domain<V>,
     desk: &mut Desk<V>,
@@ -221,14 +228,15 @@ pub fn leave_weak<V: Drop + Send, A: About>(
     vacant
 }
 
-/// An object that ends in the desk's hands is gone, and its value comes out (own). It says whether the block is vacant now,
-/// and in the desk's store.
+/// An object that ends in the desk's hands is gone, and its value comes out (own). It says whether the block is vacant
+/// now, and in the desk's store.
 pub fn finish<V: Drop + Send>(domain: &Domain<V>, desk: &mut Desk<V>, block: Block) -> (V, bool)
     requires domain { Belongs desk.old domain.now }
     requires ending { (x : V) × IsEnding desk.old block.0 x }
     requires clear { (m : ℕ) → m < 3 → IsCleared desk.old block.0 m }
     ensures value { (x : V) → IsEnding desk.old block.0 x → result.0 ≡ x }
-    ensures event { (x : V) → IsEnding desk.old block.0 x → Adds desk.old (Finish (latest_of desk.old block.0) result.1 x) desk.new }
+    ensures event { (x : V) → IsEnding desk.old block.0 x
+        → Adds desk.old (Finish (latest_of desk.old block.0) result.1 x) desk.new }
     ensures bag { bag_of desk.new ≡ bag_of desk.old }
     ensures held { desk.new.held ≡ desk.old.held }
     ensures desk { IsSameDesk desk.old desk.new }

@@ -4,7 +4,8 @@ ghost use Rattle.std.specs.Coded.{Coded-set};
 ghost use Rattle.std.specs.Prelude.{◌≡◌, ◌↔◌, ◌+◌, IfErr, IfOk, IsErr, OnOk};
 ghost use Rattle.control_word.specs.declared.event.Event.TheVariants.{Load, Swap};
 ghost use Rattle.control_block.specs.Desks.{Belongs};
-ghost use Rattle.control_block.specs.CellCalls.{Holds, IsOpenAt, IsSite, cell_at, handle_in, with_handle, without_handle, word_at};
+ghost use Rattle.control_block.specs.CellCalls.{Holds, IsOpenAt, IsSite, cell_at, handle_in, with_handle};
+ghost use Rattle.control_block.specs.CellCalls.{without_handle, word_at};
 ghost use Rattle.control_block.specs.Desks.{Adds, Keeps, allowance_of, bag_of, held_of};
 ghost use Rattle.control_block.specs.Handles.{IsProper, IsProper-prop};
 
@@ -66,7 +67,8 @@ pub fn load<V: Drop + Send, A: Aimed, R: Wait>(
     requires cell { IsOpenAt desk.old cell.site cell.kind × (A.cell ≡ cell_at desk.old cell.site) }
     ensures limit { IsErr result ↔ (held_of desk.old ≡ allowance_of desk.old) }
     ensures refused { IfErr result (λ why. (why ≡ Refusal.Limit) × (desk.new ≡ desk.old)) }
-    ensures event { IfOk result (λ h. Adds desk.old (Load A.cell (handle_in desk.new cell.kind h.block h.place)) desk.new) }
+    ensures event { IfOk result
+        (λ h. Adds desk.old (Load A.cell (handle_in desk.new cell.kind h.block h.place)) desk.new) }
     ensures bag { IfOk result (λ h. bag_of desk.new ≡ with_handle cell.kind h.block h.place (bag_of desk.old)) }
     ensures held { OnOk result (desk.new.held ≡ desk.old.held + 1) }
     ensures holds { IfOk result (λ h. Holds desk.new cell.kind h.block h.place) }
@@ -101,8 +103,10 @@ pub fn exchange<V: Drop + Send, A: Aimed>(
     requires new { A.new ≡ handle_in desk.old cell.kind new.block new.place }
     requires holds { Holds desk.old cell.kind new.block new.place }
     requires kind { new.kind ≡ cell.kind }
-    ensures event { Adds desk.old (Swap A.cell A.new (handle_in desk.new cell.kind result.block result.place)) desk.new }
-    ensures bag { bag_of desk.new ≡ with_handle cell.kind result.block result.place (without_handle cell.kind new.block new.place (bag_of desk.old)) }
+    ensures event { Adds desk.old
+        (Swap A.cell A.new (handle_in desk.new cell.kind result.block result.place)) desk.new }
+    ensures bag { bag_of desk.new ≡ with_handle cell.kind result.block result.place
+        (without_handle cell.kind new.block new.place (bag_of desk.old)) }
     ensures held { desk.new.held ≡ desk.old.held }
     ensures holds { Holds desk.new cell.kind result.block result.place }
     ensures kind { result.kind ≡ cell.kind }

@@ -14,8 +14,8 @@ use control_word::{CellWord, Refusal};
 use std::sync::Wait;
 
 /// Where what a cell holds is equivalent to what is expected, the new handle goes in, and what the cell held comes out:
-/// true. Else a copy of what it holds: false ([util.smartptr.atomic.shared], [util.smartptr.atomic.weak]). It is refused
-/// `Limit` just where the desk is at its allowance, before any step, and then nothing changes.
+/// true. Else a copy of what it holds: false ([util.smartptr.atomic.shared], [util.smartptr.atomic.weak]). It is
+/// refused `Limit` just where the desk is at its allowance, before any step, and then nothing changes.
 pub fn compare<V: Drop + Send, A: Aimed, R: Wait>(
     rt: &R,
     domain: &Domain<V>,
@@ -28,12 +28,15 @@ pub fn compare<V: Drop + Send, A: Aimed, R: Wait>(
     requires cell { IsOpenAt desk.old cell.site cell.kind × (A.cell ≡ cell_at desk.old cell.site) }
     requires expected { A.expected ≡ handle_in desk.old cell.kind expected.block expected.place }
     requires new { A.new ≡ handle_in desk.old cell.kind new.block new.place }
-    requires holds { Holds desk.old cell.kind expected.block expected.place × Holds desk.old cell.kind new.block new.place }
+    requires holds { Holds desk.old cell.kind expected.block expected.place
+        × Holds desk.old cell.kind new.block new.place }
     requires kind { (expected.kind ≡ cell.kind) × (new.kind ≡ cell.kind) }
     ensures limit { IsErr result ↔ (held_of desk.old ≡ allowance_of desk.old) }
     ensures refused { IfErr result (λ why. (why ≡ Refusal.Limit) × (desk.new ≡ desk.old)) }
-    ensures event { IfOk result (λ r. Adds desk.old (Compare A.cell A.expected A.new (handle_in desk.new cell.kind r.1.block r.1.place) r.0 A.weak) desk.new) }
-    ensures bag { IfOk result (λ r. bag_of desk.new ≡ with_handle cell.kind r.1.block r.1.place (cond r.0 (without_handle cell.kind new.block new.place (bag_of desk.old)) (bag_of desk.old))) }
+    ensures event { IfOk result (λ r. Adds desk.old
+        (Compare A.cell A.expected A.new (handle_in desk.new cell.kind r.1.block r.1.place) r.0 A.weak) desk.new) }
+    ensures bag { IfOk result (λ r. bag_of desk.new ≡ with_handle cell.kind r.1.block r.1.place
+        (cond r.0 (without_handle cell.kind new.block new.place (bag_of desk.old)) (bag_of desk.old))) }
     ensures held { IfOk result (λ r. desk.new.held ≡ desk.old.held + cond r.0 0 1) }
     ensures holds { IfOk result (λ r. Holds desk.new cell.kind r.1.block r.1.place) }
     ensures kind { IfOk result (λ r. r.1.kind ≡ cell.kind) }

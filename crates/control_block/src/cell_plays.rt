@@ -6,7 +6,8 @@ ghost use Rattle.control_word.specs.declared.event.Event.TheVariants.{Compare, L
 ghost use Rattle.control_word.specs.declared.handle.Handle.{Handle};
 ghost use Rattle.control_word.specs.declared.handle.Kind.TheVariants.{Owner};
 ghost use Rattle.control_word.specs.Handles.{empty};
-ghost use Rattle.control_block.specs.CellPlays.{compare_swapped, differed_empty, loaded_empty, peeked, refilled, swapped, took};
+ghost use Rattle.control_block.specs.CellPlays.{compare_swapped, differed_empty, loaded_empty, peeked, refilled};
+ghost use Rattle.control_block.specs.CellPlays.{swapped, took};
 
 use crate::board::Sight;
 use crate::slot::Slot;

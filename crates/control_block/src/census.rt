@@ -1,6 +1,8 @@
 //! What is left of a domain once its sole desk closes it.
-ghost use Rattle.std.specs.Prelude.{◌≡◌, ℕ, ◌<◌, ◌≤◌, ◌↔◌, length, slice_index, IfOk, IfErr, IsOk, IsTrue};
-ghost use Rattle.control_block.specs.Census.{is_free, owners_in, vacant_in, weaks_in, HasBlock, IsFree, IsCensus, TellsAll};
+ghost use Rattle.std.specs.Prelude.{◌≡◌, ℕ, ◌<◌, ◌≤◌, ◌↔◌, length, slice_index, IfOk, IfErr};
+ghost use Rattle.std.specs.Prelude.{IsOk, IsTrue};
+ghost use Rattle.control_block.specs.Census.{is_free, owners_in, vacant_in, weaks_in, HasBlock, IsFree, IsCensus};
+ghost use Rattle.control_block.specs.Census.{TellsAll};
 ghost use Rattle.control_block.specs.Desks.{Belongs, allowance_of, endings_of, state_of};
 
 use crate::desk::Desk;
@@ -28,11 +30,12 @@ impl<V: Drop + Send> Model for Census<V> {
 
     ghost view = { λ c. record { blocks = c.blocks; words = slots_items c.closed.words } };
 
-    ghost invariant = { λ c. IsFull c.closed.words × IsFull c.closed.slots × (16 * c.blocks ≤ slots_len c.closed.words) × (c.blocks ≤ 65535) };
+    ghost invariant = { λ c. IsFull c.closed.words × IsFull c.closed.slots
+        × (16 * c.blocks ≤ slots_len c.closed.words) × (c.blocks ≤ 65535) };
 }
 
-/// A sole desk closes its domain (own). Else it is refused `NotSole`, and both come back. The census tells of each block in
-/// which no object is ending: of all where none ends with the desk.
+/// A sole desk closes its domain (own). Else it is refused `NotSole`, and both come back. The census tells of each
+/// block in which no object is ending: of all where none ends with the desk.
 pub fn close<V: Drop + Send>(
     domain: Domain<V>,
     desk: Desk<V>,
@@ -73,7 +76,8 @@ impl<V: Drop + Send> Census<V> {
 
     /// How many owners and weak handles the block's object has (own): none where the domain had no such block.
     pub fn counts(&self, block: Block) -> Counts
-        ensures there { HasBlock self.now block.0 → (result.owners ≡ owners_in self.now block.0) × (result.weaks ≡ weaks_in self.now block.0) }
+        ensures there { HasBlock self.now block.0 → (result.owners ≡ owners_in self.now block.0)
+            × (result.weaks ≡ weaks_in self.now block.0) }
         ensures none { (HasBlock self.now block.0 → ⊥) → (result.owners ≡ 0) × (result.weaks ≡ 0) }
     {
         if self.has(block) {

@@ -1,8 +1,9 @@
-//! Calls of a desk on the members of an object that ends in its hands, for the crate above. What a member holds comes out
-//! and leaves: the place that the desk keeps free while an object ends there is for it.
+//! Calls of a desk on the members of an object that ends in its hands, for the crate above. What a member holds comes
+//! out and leaves: the place that the desk keeps free while an object ends there is for it.
 ghost use Rattle.std.specs.Prelude.{◌≡◌, ◌≢◌, ℕ, ◌+◌, ◌<◌, cond, is_some, length};
 ghost use Rattle.control_block.specs.Clearing.{Empties, EmptiesWeakly};
-ghost use Rattle.control_block.specs.Desks.{Belongs, IsCleared, IsEnding, IsSameDesk, KeepsOtherEndings, bag_of, endings_of, member_in, stock_of};
+ghost use Rattle.control_block.specs.Desks.{Belongs, IsCleared, IsEnding, IsSameDesk, KeepsOtherEndings, bag_of};
+ghost use Rattle.control_block.specs.Desks.{endings_of, member_in, stock_of};
 
 use crate::calls::put_by_out;
 use crate::cell_calls::Content;
@@ -15,8 +16,8 @@ use control_word::handle::Kind;
 use std::marker::Brand;
 
 /// A shared member (0 first, 1 next) of an object that ends in the desk's hands is emptied: what it held comes out and
-/// leaves (own). Where that was an object's last owner ([util.smartptr.shared.dest]), its value comes out, and it ends in the
-/// desk's hands.
+/// leaves (own). Where that was an object's last owner ([util.smartptr.shared.dest]), its value comes out, and it ends
+/// in the desk's hands.
 pub fn clear_shared<V: Drop + Send>(
     domain: &Domain<V>,
     desk: &mut Desk<V>,
@@ -48,8 +49,8 @@ pub fn clear_shared<V: Drop + Send>(
     (content, value)
 }
 
-/// The weak member, `up`, of an object that ends in the desk's hands is emptied: what it held comes out and leaves (own). It
-/// says whether the block of that is vacant now, and in the desk's store.
+/// The weak member, `up`, of an object that ends in the desk's hands is emptied: what it held comes out and leaves
+/// (own). It says whether the block of that is vacant now, and in the desk's store.
 pub fn clear_weak<V: Drop + Send>(
     domain: &Domain<V>,
     desk: &mut Desk<V>,

@@ -47,8 +47,8 @@ impl<V: Drop + Send> Desk<V> {
         self.allowance
     }
 
-    /// How many handles it holds, empty ones too, and one more while an object ends in its hands (own): what a member held
-    /// passes through them.
+    /// How many handles it holds, empty ones too, and one more while an object ends in its hands (own): what a member
+    /// held passes through them.
     pub fn held(&self) -> u32
         ensures { result ≡ held_of self.now }
     {

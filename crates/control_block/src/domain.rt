@@ -1,5 +1,6 @@
 //! A domain: blocks and cells that desks share.
-ghost use Rattle.std.specs.Prelude.{◌≡◌, ◌⊎◌, ◌↔◌, ℕ, ◌+◌, ◌<◌, ◌≤◌, [], length, replicate, vec_capacity, vec_len, None, IfOk, IfErr, IsTrue};
+ghost use Rattle.std.specs.Prelude.{◌≡◌, ◌⊎◌, ◌↔◌, ℕ, ◌+◌, ◌<◌, ◌≤◌, [], length};
+ghost use Rattle.std.specs.Prelude.{replicate, vec_capacity, vec_len, None, IfOk, IfErr, IsTrue};
 ghost use Rattle.control_word.specs.Layout.{IsWithinLimits};
 ghost use Rattle.control_block.specs.Desks.{Begins, all_blocks};
 

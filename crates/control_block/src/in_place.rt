@@ -36,8 +36,8 @@ unsafe impl<V> Send for Known<V> {}
 
 unsafe impl<V> Sync for Known<V> {}
 
-/// The value of an object that ends, as clauses see it: it lies where it was made until the object's end hands it out. This
-/// has no bytes.
+/// The value of an object that ends, as clauses see it: it lies where it was made until the object's end hands it out.
+/// This has no bytes.
 #[derive(Drop)]
 pub struct InPlace<V> {
     known: Known<V>,

@@ -20,7 +20,8 @@ impl<V: Drop + Send> Desk<V> {
         ensures held { self.new.held ≡ self.old.held + other.held }
         ensures stock { length (stock_of self.new) ≡ length (stock_of self.old) + length (stock_of other) }
         ensures bag { IsPermutation (bag_of self.old ++ bag_of other) (bag_of self.new) }
-        ensures handles { (hs ks : List Handle) → AreIn hs (bag_of self.old) → AreIn ks (bag_of other) → AreIn (hs ++ ks) (bag_of self.new) }
+        ensures handles { (hs ks : List Handle) → AreIn hs (bag_of self.old) → AreIn ks (bag_of other)
+            → AreIn (hs ++ ks) (bag_of self.new) }
         ensures endings { KeepsEndings self.old self.new × KeepsEndings other self.new }
         ensures count { endings_of self.new ≡ endings_of self.old + endings_of other }
     {

@@ -1,7 +1,9 @@
 //! Laws of desks, each a clause of a function that has no work to do: what follows from the records of their calls.
-ghost use Rattle.control_block.specs.HandleLists.{HoldsNone, HoldsEach, HoldsMore, HoldsLess, HoldsRest, HoldsInOrder, HoldsPart, HoldsApart, HoldsBoth};
+ghost use Rattle.control_block.specs.HandleLists.{HoldsNone, HoldsEach, HoldsMore, HoldsLess, HoldsRest, HoldsInOrder};
+ghost use Rattle.control_block.specs.HandleLists.{HoldsPart, HoldsApart, HoldsBoth};
 ghost use Rattle.control_block.specs.Laws.{CallsAdd, SplitsAdd, JoinsAdd, JoinedRest, ComesNext, ComeInARow};
-ghost use Rattle.control_block.specs.Laws.{GoesByNone, GoesByCall, GoesByJoin, GoesInTurn, GoesAdd, CallsKeepLatest, JoinsKeepLatest};
+ghost use Rattle.control_block.specs.Laws.{GoesByNone, GoesByCall, GoesByJoin, GoesInTurn, GoesAdd, CallsKeepLatest};
+ghost use Rattle.control_block.specs.Laws.{JoinsKeepLatest};
 
 /// The events under a desk's name: what a call, a split and a join add to them (own).
 pub fn own_events<V>()

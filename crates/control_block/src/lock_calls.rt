@@ -1,10 +1,12 @@
 //! The call on a weak handle that may find no owner, for the crate above.
-ghost use Rattle.std.specs.Prelude.{◌≡◌, ◌↔◌, ◌+◌, ◌==◌, ◌∷◌, not, cond, true, false, is_some, Option, None, Some, IfErr, IfOk, IfSome, IsErr, OnOk};
+ghost use Rattle.std.specs.Prelude.{◌≡◌, ◌↔◌, ◌+◌, ◌==◌, ◌∷◌, not, cond, true, false};
+ghost use Rattle.std.specs.Prelude.{is_some, Option, None, Some, IfErr, IfOk, IfSome, IsErr, OnOk};
 ghost use Rattle.control_word.specs.Handles.{handle};
 ghost use Rattle.control_word.specs.State.{count};
 ghost use Rattle.control_word.specs.declared.event.Event.TheVariants.{Lock};
 ghost use Rattle.control_word.specs.declared.handle.Kind.TheVariants.{Owner, Weak};
-ghost use Rattle.control_block.specs.Desks.{Belongs, Adds, HasHandle, Keeps, allowance_of, bag_of, held_of, latest_of, on_latest, state_of};
+ghost use Rattle.control_block.specs.Desks.{Belongs, Adds, HasHandle, Keeps, allowance_of, bag_of, held_of, latest_of};
+ghost use Rattle.control_block.specs.Desks.{on_latest, state_of};
 ghost use Rattle.control_block.specs.LockCalls.{state_before};
 
 use crate::calls::About;
@@ -17,8 +19,8 @@ use std::marker::Brand;
 use std::sync::Wait;
 
 /// An owner from a weak handle that the desk holds, just where one remains at its step, and else none
-/// ([util.smartptr.weak.obs]). Where the desk had seen the object without owner there is none. It is refused `Limit` just
-/// where the desk is at its allowance, and then nothing changes.
+/// ([util.smartptr.weak.obs]). Where the desk had seen the object without owner there is none. It is refused `Limit`
+/// just where the desk is at its allowance, and then nothing changes.
 #[inline(always)]
 pub fn lock<V: Drop + Send, A: About, R: Wait>(
     rt: &R,
@@ -32,10 +34,14 @@ pub fn lock<V: Drop + Send, A: About, R: Wait>(
     ensures limit { IsErr result ↔ (held_of desk.old ≡ allowance_of desk.old) }
     ensures refused { IfErr result (λ why. (why ≡ Refusal.Limit) × (desk.new ≡ desk.old)) }
     ensures handle { IfOk result (λ r. IfSome r (λ h. (h.block ≡ Some of.block) × (h.place ≡ of.place))) }
-    ensures event { IfOk result (λ r. Adds desk.old (Lock (on_latest desk.old Weak A.place of.block.0) (is_some r)) desk.new) }
-    ensures exact { IfOk result (λ r. is_some r ≡ not (count (state_before desk.new) (latest_of desk.old of.block.0) == 0)) }
-    ensures expired { count (state_of desk.old) (latest_of desk.old of.block.0) ≡ 0 → IfOk result (λ r. is_some r ≡ false) }
-    ensures bag { IfOk result (λ r. bag_of desk.new ≡ cond (is_some r) (handle Owner (Some of.block.0) A.place ∷ bag_of desk.old) (bag_of desk.old)) }
+    ensures event { IfOk result
+        (λ r. Adds desk.old (Lock (on_latest desk.old Weak A.place of.block.0) (is_some r)) desk.new) }
+    ensures exact { IfOk result
+        (λ r. is_some r ≡ not (count (state_before desk.new) (latest_of desk.old of.block.0) == 0)) }
+    ensures expired { count (state_of desk.old) (latest_of desk.old of.block.0) ≡ 0
+        → IfOk result (λ r. is_some r ≡ false) }
+    ensures bag { IfOk result (λ r. bag_of desk.new ≡ cond (is_some r)
+        (handle Owner (Some of.block.0) A.place ∷ bag_of desk.old) (bag_of desk.old)) }
     ensures held { IfOk result (λ r. desk.new.held ≡ desk.old.held + cond (is_some r) 1 0) }
     ensures keeps { OnOk result (Keeps desk.old desk.new) }
 {

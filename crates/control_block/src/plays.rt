@@ -5,7 +5,9 @@ ghost use Rattle.control_word.specs.declared.handle.Kind.{Kind};
 ghost use Rattle.control_word.specs.declared.handle.Kind.TheVariants.{Owner};
 ghost use Rattle.control_word.specs.declared.place.Block.{Block};
 ghost use Rattle.control_word.specs.declared.place.Place.{Place};
-ghost use Rattle.control_block.specs.Plays.{shared, weakly_shared, weakly_left, counted, found_expired, peeked, read, left, gave_back, fetched, began, wrote, made, finished, parted, goes_on, comes_off, grown, over, joined};
+ghost use Rattle.control_block.specs.Plays.{shared, weakly_shared, weakly_left, counted, found_expired, peeked, read};
+ghost use Rattle.control_block.specs.Plays.{left, gave_back, fetched, began, wrote, made, finished, parted, goes_on};
+ghost use Rattle.control_block.specs.Plays.{comes_off, grown, over, joined};
 
 pub mod clears;
 pub mod doors;

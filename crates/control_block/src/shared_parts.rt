@@ -7,8 +7,8 @@ use crate::handles::Shared;
 use control_word::{Block, Place};
 
 impl Shared {
-    /// The owner with these parts (own). For the crates of calls: only a call that got it on a desk makes one. An empty one
-    /// points at one of a block's fields or nowhere.
+    /// The owner with these parts (own). For the crates of calls: only a call that got it on a desk makes one. An empty
+    /// one points at one of a block's fields or nowhere.
     pub fn of_parts(block: Option<Block>, place: Option<Place>) -> Self
         requires { IsProper Owner block place }
         ensures { (result.block ≡ block) × (result.place ≡ place) }

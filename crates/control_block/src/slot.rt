@@ -82,7 +82,8 @@ impl<V: Drop> Slot<V> {
     pub fn visit<R, F: FnOnce(&mut V) -> R>(&mut self, f: F) -> R
         requires value { (x : V) × (self.old ≡ Some x) }
         requires callable { F.IsAlwaysCallable f }
-        ensures { (was : V) × (becomes : V) × (self.old ≡ Some was) × FnOnceReturnsAtMut F.FnOnce f was result becomes × (self.new ≡ Some becomes) }
+        ensures { (was : V) × (becomes : V) × (self.old ≡ Some was)
+            × FnOnceReturnsAtMut F.FnOnce f was result becomes × (self.new ≡ Some becomes) }
     {
         let Token::Filled(mut filled) = replace(&mut self.token, Token::Moving) else {
             unreachable!()

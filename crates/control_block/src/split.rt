@@ -1,5 +1,6 @@
 //! A desk is cut in two.
-ghost use Rattle.std.specs.Prelude.{◌≡◌, ◌⊎◌, ◌↔◌, ℕ, ◌+◌, ◌≤◌, ◌<◌, ◌==◌, [], ◌++◌, length, vec_capacity, List, Option, IfOk, IfErr, IsTrue};
+ghost use Rattle.std.specs.Prelude.{◌≡◌, ◌⊎◌, ◌↔◌, ℕ, ◌+◌, ◌≤◌, ◌<◌, ◌==◌, []};
+ghost use Rattle.std.specs.Prelude.{◌++◌, length, vec_capacity, List, Option, IfOk, IfErr, IsTrue};
 ghost use Rattle.std.specs.List.{filter};
 ghost use Rattle.control_word.specs.State.{Has};
 ghost use Rattle.control_word.specs.declared.place.Block.{Block};
@@ -32,7 +33,8 @@ pub(crate) fn append_all(store: &mut Vec<Block>, more: &[Block])
 fn pass_least(store: &mut Vec<Block>, count: usize, to: &mut Vec<Block>)
     requires count { count ≤ length store.old.items }
     requires room { (to.old.items ≡ []) × (count ≤ vec_capacity to.old) }
-    ensures room { (vec_capacity store.new ≡ vec_capacity store.old) × (vec_capacity to.new ≡ vec_capacity to.old) }
+    ensures room { (vec_capacity store.new ≡ vec_capacity store.old)
+        × (vec_capacity to.new ≡ vec_capacity to.old) }
     ensures count { (length to.new.items ≡ count) × (length store.new.items + count ≡ length store.old.items) }
     ensures same { (b : ℕ) → times b to.new.items + times b store.new.items ≡ times b store.old.items }
     ensures least { (b c : Block) → Has b to.new.items → Has c store.new.items → b.0 ≤ c.0 }
@@ -84,11 +86,14 @@ fn part<V, T: Lent, G: Given>(
     requires board { chair.old.table_id ≡ board.now.table_id }
     requires rests { Rests chair.old.me }
     requires word { 0 < board.now.table_id.words }
-    requires picked { (G.allowance ≡ allowance) × (G.handles ≡ in_history (known chair.old.me.0) (T.handles handles.now)) × (G.blocks ≡ blocks.now) }
-    requires may { MaySplit chair.old.me.0 allowance (in_history (known chair.old.me.0) (T.handles handles.now)) blocks.now }
+    requires picked { (G.allowance ≡ allowance)
+        × (G.handles ≡ in_history (known chair.old.me.0) (T.handles handles.now)) × (G.blocks ≡ blocks.now) }
+    requires may { MaySplit chair.old.me.0 allowance
+        (in_history (known chair.old.me.0) (T.handles handles.now)) blocks.now }
     ensures chair { (chair.new.table_id ≡ chair.old.table_id) × (chair.new.me.1 ≡ []) }
     ensures other { (result.table_id ≡ chair.old.table_id) × (result.me.1 ≡ []) }
-    ensures event { Parted chair.old.me.0 allowance (in_history (known chair.old.me.0) (T.handles handles.now)) blocks.now chair.new.me.0 result.me.0 }
+    ensures event { Parted chair.old.me.0 allowance (in_history (known chair.old.me.0) (T.handles handles.now))
+        blocks.now chair.new.me.0 result.me.0 }
 {
     chairs::note_split::<V, G>(board, chair);
     chairs::cut(board, chair)
@@ -97,7 +102,8 @@ fn part<V, T: Lent, G: Given>(
 impl<V: Drop + Send> Desk<V> {
     /// Whether so much of the allowance can be given with so many handles: it keeps what the others need, 1 at least.
     fn gives(&self, allowance: u32, handles: usize) -> bool
-        ensures gives { IsTrue result → (0 < allowance) × (handles ≤ allowance) × (allowance ≤ free_of self.now handles) }
+        ensures gives { IsTrue result → (0 < allowance) × (handles ≤ allowance)
+            × (allowance ≤ free_of self.now handles) }
         ensures fits { IsTrue result ↔ (IsTooMuch self.now allowance handles → ⊥) }
     {
         let stay = (self.held() as usize).saturating_sub(handles);
@@ -173,7 +179,8 @@ impl<V: Drop + Send> Desk<V> {
         ensures parts { IfOk result (λ r. SplitsOff self.old allowance blocks handles.items self.new r.0) }
         ensures handles { IfOk result (λ r. r.1.items ≡ handles.items) }
         ensures fits { IfOk result (λ _. IsTooMuch self.old allowance (length handles.items) → ⊥) }
-        ensures limit { IfErr result (λ r. r.why ≡ Refusal.Limit ↔ IsTooMuch self.old allowance (length handles.items)) }
+        ensures limit { IfErr result
+            (λ r. r.why ≡ Refusal.Limit ↔ IsTooMuch self.old allowance (length handles.items)) }
         ensures refused { IfErr result (λ r. (r.why ≡ Refusal.Limit) ⊎ (r.why ≡ Refusal.Memory)) }
         ensures same { IfErr result (λ r. (r.back.items ≡ handles.items) × (self.new ≡ self.old)) }
     {
@@ -184,9 +191,9 @@ impl<V: Drop + Send> Desk<V> {
         }
     }
 
-    /// The same for the handles in slots, which stay where they lie: they are the second desk's from then on (own). It takes no
-    /// memory for them. It is refused as `split` is, and then nothing changes. Conditions: the handles are held by this desk,
-    /// and there are as many vacant blocks.
+    /// The same for the handles in slots, which stay where they lie: they are the second desk's from then on (own). It
+    /// takes no memory for them. It is refused as `split` is, and then nothing changes. Conditions: the handles are
+    /// held by this desk, and there are as many vacant blocks.
     pub fn split_slots(
         &mut self,
         alloc: Global,
@@ -200,7 +207,8 @@ impl<V: Drop + Send> Desk<V> {
         requires blocks { blocks ≤ length (stock_of self.old) }
         ensures parts { IfOk result (λ d. SplitsOff self.old allowance blocks (handles_in slots.now) self.new d) }
         ensures fits { IfOk result (λ _. IsTooMuch self.old allowance (length (handles_in slots.now)) → ⊥) }
-        ensures limit { IfErr result (λ why. why ≡ Refusal.Limit ↔ IsTooMuch self.old allowance (length (handles_in slots.now))) }
+        ensures limit { IfErr result
+            (λ why. why ≡ Refusal.Limit ↔ IsTooMuch self.old allowance (length (handles_in slots.now))) }
         ensures refused { IfErr result (λ why. (why ≡ Refusal.Limit) ⊎ (why ≡ Refusal.Memory)) }
         ensures same { IfErr result (λ _. self.new ≡ self.old) }
     {

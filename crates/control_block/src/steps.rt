@@ -1,14 +1,17 @@
 //! Each kind of step, as a function. Objects go by numbers, which the proof of a call picks; words are their blocks'.
-ghost use Rattle.std.specs.Prelude.{◌≡◌, ℕ, ◌+◌, ◌<◌, ◌≤◌, ◌==◌, false, List, [], ◌∷◌, length, slice_set, Option, None, Some, is_some, IfSome};
+ghost use Rattle.std.specs.Prelude.{◌≡◌, ℕ, ◌+◌, ◌<◌, ◌≤◌, ◌==◌, false, List, [], ◌∷◌};
+ghost use Rattle.std.specs.Prelude.{length, slice_set, Option, None, Some, is_some, IfSome};
 ghost use Rattle.control_word.specs.Histories.{value};
 ghost use Rattle.control_block.specs.Rule.{opening_of};
 ghost use Rattle.control_word.specs.Handles.{IsPointer, handle, owner, weak_of};
 ghost use Rattle.control_word.specs.Layout.{spot};
 ghost use Rattle.control_word.specs.State.{Has, count, stored};
 ghost use Rattle.control_word.specs.Words.{flags_of};
-ghost use Rattle.control_word.specs.declared.event.Event.TheVariants.{Count, Expired, Finish, Leave, Make, Read, Share, WeakLeave, WeakShare};
+ghost use Rattle.control_word.specs.declared.event.Event.TheVariants.{Count, Expired, Finish, Leave, Make, Read, Share};
+ghost use Rattle.control_word.specs.declared.event.Event.TheVariants.{WeakLeave, WeakShare};
 ghost use Rattle.control_word.specs.declared.handle.Kind.TheVariants.{Owner, Weak};
-ghost use Rattle.control_block.specs.Plays.{tells, known, Ends, Rests, Holding, HasRoomFor, IsClear, IsNear, IsPrepared, IsTold, MayShareWeakly};
+ghost use Rattle.control_block.specs.Plays.{tells, known, Ends, Rests, Holding, HasRoomFor, IsClear, IsNear};
+ghost use Rattle.control_block.specs.Plays.{IsPrepared, IsTold, MayShareWeakly};
 ghost use Rattle.control_block.specs.declared.board.Sight.{Sight};
 
 pub mod cells;
@@ -39,20 +42,23 @@ pub fn share<V, M: StepArgs>(board: &Board<V>, chair: &mut Chair<V>, block: Bloc
     requires holds { Holding chair.old.me.0 Owner M.object M.place block.0 }
     requires wanted { IsPointer M.wanted }
     requires room { HasRoomFor chair.old.me.0 }
-    ensures chair { (chair.new.table_id ≡ chair.old.table_id) × (chair.new.id ≡ chair.old.id) × (chair.new.me.1 ≡ chair.old.me.1) }
+    ensures chair { (chair.new.table_id ≡ chair.old.table_id) × (chair.new.id ≡ chair.old.id)
+        × (chair.new.me.1 ≡ chair.old.me.1) }
     ensures event { tells (Share (owner M.object M.place) M.wanted) chair.old.me.0 chair.new.me.0 }
 {
     board.fetch_add::<Shares<M>>(chair, block_word(block, OWNERS), 1);
 }
 
-/// Weak share: one weak handle more, under a handle of the desk or an ending ([util.smartptr.weak.const], [util.smartptr.enab]).
+/// Weak share: one weak handle more, under a handle of the desk or an ending ([util.smartptr.weak.const],
+/// [util.smartptr.enab]).
 pub fn share_weak<V, M: StepArgs>(board: &Board<V>, chair: &mut Chair<V>, block: Block)
     requires board { chair.old.table_id ≡ board.now.table_id }
     requires rests { Rests chair.old.me }
     requires word { (0 < block.0) × (spot block.0 1 < board.now.table_id.words) }
     requires may { MayShareWeakly chair.old.me.0 M.object block.0 M.wanted }
     requires room { HasRoomFor chair.old.me.0 }
-    ensures chair { (chair.new.table_id ≡ chair.old.table_id) × (chair.new.id ≡ chair.old.id) × (chair.new.me.1 ≡ chair.old.me.1) }
+    ensures chair { (chair.new.table_id ≡ chair.old.table_id) × (chair.new.id ≡ chair.old.id)
+        × (chair.new.me.1 ≡ chair.old.me.1) }
     ensures event { tells (WeakShare M.object M.wanted) chair.old.me.0 chair.new.me.0 }
 {
     board.fetch_add::<WeakShares<M>>(chair, block_word(block, WEAKS), 1);
@@ -64,21 +70,25 @@ pub fn leave_weak<V, M: StepArgs>(board: &Board<V>, chair: &mut Chair<V>, block:
     requires rests { Rests chair.old.me }
     requires word { (0 < block.0) × (spot block.0 1 < board.now.table_id.words) }
     requires holds { Holding chair.old.me.0 Weak M.object M.place block.0 }
-    ensures chair { (chair.new.table_id ≡ chair.old.table_id) × (chair.new.id ≡ chair.old.id) × (chair.new.me.1 ≡ chair.old.me.1) }
+    ensures chair { (chair.new.table_id ≡ chair.old.table_id) × (chair.new.id ≡ chair.old.id)
+        × (chair.new.me.1 ≡ chair.old.me.1) }
     ensures event { tells (WeakLeave (weak_of M.object M.place) result) chair.old.me.0 chair.new.me.0 }
 {
     leaving::leave_weak::<V, M>(board, chair, block, 0)
 }
 
-/// Look: `use_count` ([util.smartptr.shared.obs]): the count, for a desk with the whole allowance; else 0 just at none, or less.
+/// Look: `use_count` ([util.smartptr.shared.obs]): the count, for a desk with the whole allowance; else 0 just at none,
+/// or less.
 pub fn count<V, M: StepArgs>(board: &Board<V>, chair: &mut Chair<V>, block: Block) -> u32
     requires board { chair.old.table_id ≡ board.now.table_id }
     requires rests { Rests chair.old.me }
     requires word { (0 < block.0) × (spot block.0 0 < board.now.table_id.words) }
     requires holds { Holding chair.old.me.0 M.kind M.object M.place block.0 }
-    ensures chair { (chair.new.table_id ≡ chair.old.table_id) × (chair.new.id ≡ chair.old.id) × (chair.new.me.1 ≡ chair.old.me.1) }
+    ensures chair { (chair.new.table_id ≡ chair.old.table_id) × (chair.new.id ≡ chair.old.id)
+        × (chair.new.me.1 ≡ chair.old.me.1) }
     ensures event { tells (Count (handle M.kind (Some M.object) M.place) result) chair.old.me.0 chair.new.me.0 }
-    ensures sole { (known chair.new.me.0).allowance chair.old.me.0.view.name ≡ chair.old.me.0.shape.allowance → result ≡ count (known chair.new.me.0) M.object }
+    ensures sole { (known chair.new.me.0).allowance chair.old.me.0.view.name ≡ chair.old.me.0.shape.allowance
+        → result ≡ count (known chair.new.me.0) M.object }
 {
     told_count(board.load::<Counts<M>>(chair, block_word(block, OWNERS)))
 }
@@ -89,7 +99,8 @@ pub fn is_expired<V, M: StepArgs>(board: &Board<V>, chair: &mut Chair<V>, block:
     requires rests { Rests chair.old.me }
     requires word { (0 < block.0) × (spot block.0 0 < board.now.table_id.words) }
     requires holds { Holding chair.old.me.0 Weak M.object M.place block.0 }
-    ensures chair { (chair.new.table_id ≡ chair.old.table_id) × (chair.new.id ≡ chair.old.id) × (chair.new.me.1 ≡ chair.old.me.1) }
+    ensures chair { (chair.new.table_id ≡ chair.old.table_id) × (chair.new.id ≡ chair.old.id)
+        × (chair.new.me.1 ≡ chair.old.me.1) }
     ensures event { tells (Expired (weak_of M.object M.place) result) chair.old.me.0 chair.new.me.0 }
 {
     board.load::<FindsExpired<M>>(chair, block_word(block, OWNERS)) == 0
@@ -99,10 +110,12 @@ pub fn is_expired<V, M: StepArgs>(board: &Board<V>, chair: &mut Chair<V>, block:
 pub fn read<V, M: StepArgs>(board: &Board<V>, chair: &mut Chair<V>, place: Place) -> u64
     requires board { chair.old.table_id ≡ board.now.table_id }
     requires rests { Rests chair.old.me }
-    requires word { (0 < place.block.0) × (place.field < 4) × (spot place.block.0 (3 + place.field) < board.now.table_id.words) }
+    requires word { (0 < place.block.0) × (place.field < 4)
+        × (spot place.block.0 (3 + place.field) < board.now.table_id.words) }
     requires place { M.place ≡ Some place }
     requires holds { Holding chair.old.me.0 Owner M.object M.place place.block.0 }
-    ensures chair { (chair.new.table_id ≡ chair.old.table_id) × (chair.new.id ≡ chair.old.id) × (chair.new.me.1 ≡ chair.old.me.1) }
+    ensures chair { (chair.new.table_id ≡ chair.old.table_id) × (chair.new.id ≡ chair.old.id)
+        × (chair.new.me.1 ≡ chair.old.me.1) }
     ensures event { tells (Read (owner M.object M.place) result) chair.old.me.0 chair.new.me.0 }
 {
     let word = FIELDS + usize::from(place.field);
@@ -119,9 +132,11 @@ pub fn peek<V, M: StepArgs>(
 ) -> u64
     requires board { chair.old.table_id ≡ board.now.table_id }
     requires rests { Rests chair.old.me }
-    requires word { (0 < block.0) × (word < 5) × (M.word ≡ word) × (spot block.0 (2 + word) < board.now.table_id.words) }
+    requires word { (0 < block.0) × (word < 5) × (M.word ≡ word)
+        × (spot block.0 (2 + word) < board.now.table_id.words) }
     requires near { IsNear chair.old.me.0 M.object block.0 }
-    ensures chair { (chair.new.table_id ≡ chair.old.table_id) × (chair.new.id ≡ chair.old.id) × (chair.new.me ≡ chair.old.me) }
+    ensures chair { (chair.new.table_id ≡ chair.old.table_id) × (chair.new.id ≡ chair.old.id)
+        × (chair.new.me ≡ chair.old.me) }
     ensures told { IsTold word ((known chair.old.me.0).object M.object) result }
 {
     board.load::<Peeks<M>>(chair, block_word(block, FLAGS + word))
@@ -136,11 +151,14 @@ pub fn leave<V: Drop + Send, M: StepArgs>(
 ) -> Option<InPlace<V>>
     requires board { chair.old.table_id ≡ board.now.table_id }
     requires rests { Rests chair.old.me }
-    requires word { (0 < block.0) × (block.0 ≤ board.now.table_id.slots) × (spot block.0 0 < board.now.table_id.words) }
+    requires word { (0 < block.0) × (block.0 ≤ board.now.table_id.slots)
+        × (spot block.0 0 < board.now.table_id.words) }
     requires holds { (M.block ≡ block) × Holding chair.old.me.0 Owner M.object M.place block.0 }
-    ensures chair { (chair.new.table_id ≡ chair.old.table_id) × (chair.new.id ≡ chair.old.id) × (chair.new.me.1 ≡ []) }
+    ensures chair { (chair.new.table_id ≡ chair.old.table_id) × (chair.new.id ≡ chair.old.id)
+        × (chair.new.me.1 ≡ []) }
     ensures event { tells (Leave (owner M.object M.place) (is_some result)) chair.old.me.0 chair.new.me.0 }
-    ensures value { IfSome result (λ x. value (opening_of chair.old.me.0.shape) chair.new.me.0.view.seen M.object ≡ Some x) }
+    ensures value { IfSome result
+        (λ x. value (opening_of chair.old.me.0.shape) chair.new.me.0.view.seen M.object ≡ Some x) }
 {
     leaving::leave::<V, M>(board, chair, block, 0)
 }
@@ -151,7 +169,8 @@ fn begin<V, M: StepArgs>(board: &Board<V>, chair: &mut Chair<V>, block: Block)
     requires board { chair.old.table_id ≡ board.now.table_id }
     requires rests { Rests chair.old.me }
     requires word { (0 < block.0) × (spot block.0 1 < board.now.table_id.words) }
-    requires stored { (M.block ≡ block) × Has (stored chair.old.me.0.view.name block.0) (known chair.old.me.0).stores }
+    requires stored { (M.block ≡ block) × Has (stored chair.old.me.0.view.name block.0)
+        (known chair.old.me.0).stores }
     ensures chair { (chair.new.table_id ≡ chair.old.table_id) × (chair.new.id ≡ chair.old.id) }
     ensures prepared { (l : List ℕ) × IsPrepared chair.old.me.0 block chair.new.me l None }
 {
@@ -170,9 +189,11 @@ fn write<V, M: StepArgs>(
     requires board { chair.old.table_id ≡ board.now.table_id }
     requires word { (0 < block.0) × (spot block.0 9 < board.now.table_id.words) × (word < 5) }
     requires meant { (M.block ≡ block) × (M.word ≡ word) }
-    requires prepared { (v : Sight V) × (l : List ℕ) × (x : Option V) × (v.view.spent ≡ false) × IsPrepared v block chair.old.me l x }
+    requires prepared { (v : Sight V) × (l : List ℕ) × (x : Option V) × (v.view.spent ≡ false)
+        × IsPrepared v block chair.old.me l x }
     ensures chair { (chair.new.table_id ≡ chair.old.table_id) × (chair.new.id ≡ chair.old.id) }
-    ensures wrote { (v : Sight V) (l : List ℕ) (x : Option V) → v.view.spent ≡ false → IsPrepared v block chair.old.me l x → IsPrepared v block chair.new.me (slice_set l word value) x }
+    ensures wrote { (v : Sight V) (l : List ℕ) (x : Option V) → v.view.spent ≡ false
+        → IsPrepared v block chair.old.me l x → IsPrepared v block chair.new.me (slice_set l word value) x }
 {
     let place = block_word(block, FLAGS + word);
     if board.load::<Writes<M>>(chair, place) != value {
@@ -205,9 +226,12 @@ fn claim<V, M: MakeArgs>(board: &Board<V>, chair: &mut Chair<V>, block: Block)
     requires board { chair.old.table_id ≡ board.now.table_id }
     requires word { (0 < block.0) × (spot block.0 0 < board.now.table_id.words) }
     requires planned { (M.block ≡ block) × (length M.fields ≡ 4) }
-    requires prepared { (v : Sight V) × (x : V) × (v.view.spent ≡ false) × HasRoomFor v × IsPrepared v block chair.old.me (flags_of M.enabled M.null ∷ M.fields) (Some x) }
-    ensures chair { (chair.new.table_id ≡ chair.old.table_id) × (chair.new.id ≡ chair.old.id) × (chair.new.me.1 ≡ []) }
-    ensures event { (v : Sight V) (x : V) → IsPrepared v block chair.old.me (flags_of M.enabled M.null ∷ M.fields) (Some x) → tells (Make block M.enabled M.null M.fields x) v chair.new.me.0 }
+    requires prepared { (v : Sight V) × (x : V) × (v.view.spent ≡ false) × HasRoomFor v
+        × IsPrepared v block chair.old.me (flags_of M.enabled M.null ∷ M.fields) (Some x) }
+    ensures chair { (chair.new.table_id ≡ chair.old.table_id) × (chair.new.id ≡ chair.old.id)
+        × (chair.new.me.1 ≡ []) }
+    ensures event { (v : Sight V) (x : V) → IsPrepared v block chair.old.me (flags_of M.enabled M.null ∷ M.fields)
+        (Some x) → tells (Make block M.enabled M.null M.fields x) v chair.new.me.0 }
 {
     board.swap::<Claims<M>>(chair, block_word(block, OWNERS), 1);
 }
@@ -230,7 +254,8 @@ pub fn make<V: Drop + Send, M: MakeArgs>(
     requires word { (0 < block.0) × (spot block.0 9 < board.now.table_id.words) }
     requires stored { Has (stored chair.old.me.0.view.name block.0) (known chair.old.me.0).stores }
     requires room { HasRoomFor chair.old.me.0 }
-    ensures chair { (chair.new.table_id ≡ chair.old.table_id) × (chair.new.id ≡ chair.old.id) × (chair.new.me.1 ≡ []) }
+    ensures chair { (chair.new.table_id ≡ chair.old.table_id) × (chair.new.id ≡ chair.old.id)
+        × (chair.new.me.1 ≡ []) }
     ensures event { tells (Make block enabled null fields value) chair.old.me.0 chair.new.me.0 }
 {
     let flags = u64::from(enabled) * ENABLED + u64::from(null) * NULL;
@@ -248,13 +273,16 @@ pub fn finish<V: Drop + Send, M: StepArgs>(
 ) -> (V, bool)
     requires board { chair.old.table_id ≡ board.now.table_id }
     requires rests { Rests chair.old.me }
-    requires word { (0 < block.0) × (block.0 ≤ board.now.table_id.slots) × (spot block.0 1 < board.now.table_id.words) }
+    requires word { (0 < block.0) × (block.0 ≤ board.now.table_id.slots)
+        × (spot block.0 1 < board.now.table_id.words) }
     requires ends { (M.block ≡ block) × Ends chair.old.me.0 M.object block.0 }
     requires clear { IsClear chair.old.me.0 M.object }
     requires value { (x : V) × (value (opening_of chair.old.me.0.shape) chair.old.me.0.view.seen M.object ≡ Some x) }
-    ensures chair { (chair.new.table_id ≡ chair.old.table_id) × (chair.new.id ≡ chair.old.id) × (chair.new.me.1 ≡ []) }
+    ensures chair { (chair.new.table_id ≡ chair.old.table_id) × (chair.new.id ≡ chair.old.id)
+        × (chair.new.me.1 ≡ []) }
     ensures value { value (opening_of chair.old.me.0.shape) chair.old.me.0.view.seen M.object ≡ Some result.0 }
-    ensures event { (x : V) → value (opening_of chair.old.me.0.shape) chair.old.me.0.view.seen M.object ≡ Some x → tells (Finish M.object result.1 x) chair.old.me.0 chair.new.me.0 }
+    ensures event { (x : V) → value (opening_of chair.old.me.0.shape) chair.old.me.0.view.seen M.object ≡ Some x
+        → tells (Finish M.object result.1 x) chair.old.me.0 chair.new.me.0 }
 {
     let word = block_word(block, WEAKS);
     board.load::<Fetches<M>>(chair, word);

@@ -1,5 +1,5 @@
-//! Calls of a desk that store into a cell, for the crates above: a handle goes in, and what the cell held leaves. It leaves by
-//! the step that gives its funds back.
+//! Calls of a desk that store into a cell, for the crates above: a handle goes in, and what the cell held leaves. It
+//! leaves by the step that gives its funds back.
 ghost use Rattle.std.specs.Prelude.{◌≡◌, ◌+◌, cond, is_some, length};
 ghost use Rattle.control_word.specs.declared.handle.Kind.TheVariants.{Owner, Weak};
 ghost use Rattle.control_block.specs.Desks.{Belongs};
@@ -17,8 +17,8 @@ use crate::rounds;
 use control_word::CellWord;
 use control_word::handle::Kind;
 
-/// An owner that the desk has goes into a shared cell, and what the cell held leaves ([util.smartptr.atomic.shared]). Where
-/// that was an object's last owner, its value comes out, and it ends in the desk's hands. It waits for nobody.
+/// An owner that the desk has goes into a shared cell, and what the cell held leaves ([util.smartptr.atomic.shared]).
+/// Where that was an object's last owner, its value comes out, and it ends in the desk's hands. It waits for nobody.
 #[inline]
 pub fn store_shared<V: Drop + Send, A: Aimed>(
     domain: &Domain<V>,
@@ -55,8 +55,8 @@ pub fn store_shared<V: Drop + Send, A: Aimed>(
     (content, value)
 }
 
-/// A weak handle that the desk has goes into a weak cell, and what the cell held leaves ([util.smartptr.atomic.weak]). It
-/// says whether the block of that is vacant now, and in the desk's store. It waits for nobody.
+/// A weak handle that the desk has goes into a weak cell, and what the cell held leaves ([util.smartptr.atomic.weak]).
+/// It says whether the block of that is vacant now, and in the desk's store. It waits for nobody.
 #[inline]
 pub fn store_weak<V: Drop + Send, A: Aimed>(
     domain: &Domain<V>,

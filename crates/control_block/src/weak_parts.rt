@@ -7,8 +7,8 @@ use crate::handles::Weak;
 use control_word::{Block, Place};
 
 impl Weak {
-    /// The weak handle with these parts (own). For the crates of calls: only a call that got it on a desk makes one. An empty
-    /// one points nowhere.
+    /// The weak handle with these parts (own). For the crates of calls: only a call that got it on a desk makes one. An
+    /// empty one points nowhere.
     pub fn of_parts(block: Option<Block>, place: Option<Place>) -> Self
         requires { IsProper kind.Weak block place }
         ensures { (result.block ≡ block) × (result.place ≡ place) }

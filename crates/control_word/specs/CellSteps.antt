@@ -1,6 +1,7 @@
 -- The law of each kind of step on a cell's word, and of the funds that a cell's pointer comes with: as in Steps. All of
 -- it is own.
-use Rattle.std.specs.Prelude.{◌≡◌, ℕ, ◌+◌, ◌-◌, ◌*◌, ◌<◌, ◌≤◌, ◌==◌, Bool, true, false}
+use Rattle.std.specs.Prelude.{◌≡◌, ℕ, ◌+◌, ◌-◌, ◌*◌, ◌<◌, ◌≤◌, ◌==◌, Bool, true}
+use Rattle.std.specs.Prelude.{false}
 use Rattle.std.specs.Prelude.{Option, Some, None}
 use Rattle.control_word.specs.declared.event.Cell.{Cell}
 use Rattle.control_word.specs.declared.event.Cell.TheVariants.{Member}
@@ -17,26 +18,31 @@ use Rattle.control_word.specs.Packing.{cell_bits, IsCellWord}
 use Rattle.control_word.specs.State.{ending, HasRoom}
 use Rattle.control_word.specs.Events.{Asks, after, IsOpen, cell_of}
 use Rattle.control_word.specs.Words.{blocks_of, packed, shown}
-use Rattle.control_word.specs.Steps.{Point, Ready, state, me, word, counts, Holding, HasOneMore, Adds, Tells, Moves, purse, cell_word}
+use Rattle.control_word.specs.Steps.{Point, Ready, state, me, word, counts, Holding, HasOneMore, Adds, Tells, Moves}
+use Rattle.control_word.specs.Steps.{purse, cell_word}
 
 module _ (V : Type 0) where
-  -- a cell's word is the packing of what the cell holds and of how many funds were taken, none of a cell without an object
+  -- a cell's word is the packing of what the cell holds and of how many funds were taken, none of a cell without an
+  -- object
   abbrev pub CellsShow : Type 0
   CellsShow =
       (at : Point V) (p : Pending V) (c : Cell) → Ready at p → IsOpen (state at) (me at) c
-      → (taken : ℕ) × (let x = shown (blocks_of (state at)) (cell_of (state at) c) taken in (word at (cell_word at c) ≡ cell_bits x) × IsCellWord x)
+      → (taken : ℕ) × (let x = shown (blocks_of (state at)) (cell_of (state at) c) taken in
+      (word at (cell_word at c) ≡ cell_bits x) × IsCellWord x)
       × ((cell_of (state at) c).object ≡ None → taken ≡ 0)
 
   -- a load, or a compare that differs, of a cell without an object is a look
   abbrev pub LoadsEmpty : Type 0
   LoadsEmpty =
-      (at : Point V) (c : Cell) (k : Kind) (p : Option Place) → Ready at Idle → IsOpen (state at) (me at) c → handle k None p ≡ cell_of (state at) c
+      (at : Point V) (c : Cell) (k : Kind) (p : Option Place) → Ready at Idle → IsOpen (state at) (me at) c
+      → handle k None p ≡ cell_of (state at) c
       → Tells at (Load c (handle k None p)) Idle
 
   abbrev pub DiffersEmpty : Type 0
   DiffersEmpty =
       (at : Point V) (c : Cell) (k : Kind) (p : Option Place) (expected new : Handle) (weak : Bool) → Ready at Idle
-      → handle k None p ≡ cell_of (state at) c → Asks {V = V} (state at) (me at) (Compare c expected new (handle k None p) false weak)
+      → handle k None p ≡ cell_of (state at) c
+      → Asks {V = V} (state at) (me at) (Compare c expected new (handle k None p) false weak)
       → Tells at (Compare c expected new (handle k None p) false weak) Idle
 
   -- bring funds: up to 256, under a handle in hand
@@ -48,25 +54,31 @@ module _ (V : Type 0) where
   -- give funds back
   abbrev pub GivesBack : Type 0
   GivesBack =
-      (at : Point V) (k : Kind) (o f : ℕ) (p : Option Place) → let i = counts at k o in Ready at (Paying k o p i f 0)
+      (at : Point V) (k : Kind) (o f : ℕ) (p : Option Place) → let i = counts at k o in
+      Ready at (Paying k o p i f 0)
       → (4294967296 * f ≤ word at i) × Moves at i (word at i - 4294967296 * f) Idle
 
-  -- leave with funds: the handle that came out of a cell goes with its funds; the last, or vacant, just where the whole word was these
+  -- leave with funds: the handle that came out of a cell goes with its funds; the last, or vacant, just where the whole
+  -- word was these
   abbrev pub LeavesWithFunds : Type 0
-  LeavesWithFunds = (at : Point V) (o f : ℕ) (p : Option Place) → let i = counts at Owner o in let n = 4294967296 * f + 1 in Ready at (Paying Owner o p i f 0)
+  LeavesWithFunds = (at : Point V) (o f : ℕ) (p : Option Place) → let i = counts at Owner o in
+      let n = 4294967296 * f + 1 in Ready at (Paying Owner o p i f 0)
       → (n ≤ word at i) × Adds at i (word at i - n) (Leave (owner o p) (word at i == n)) Idle
 
   abbrev pub WeakLeavesWithFunds : Type 0
-  WeakLeavesWithFunds = (at : Point V) (o f : ℕ) (p : Option Place) → let i = counts at Weak o in let n = 4294967296 * f + 1 in Ready at (Paying Weak o p i f 0)
+  WeakLeavesWithFunds = (at : Point V) (o f : ℕ) (p : Option Place) → let i = counts at Weak o in
+      let n = 4294967296 * f + 1 in Ready at (Paying Weak o p i f 0)
       → (n ≤ word at i) × Adds at i (word at i - n) (WeakLeave (weak_of o p) (word at i == n)) Idle
 
   -- take a fund: a load, or a compare that differs, of a cell with an object of which not all funds are taken
   abbrev pub Takes : Type 0
   Takes =
-      (at : Point V) (c : Cell) (k : Kind) (o : ℕ) (p : Option Place) → Ready at Idle → handle k (Some o) p ≡ cell_of (state at) c → HasOneMore at
+      (at : Point V) (c : Cell) (k : Kind) (o : ℕ) (p : Option Place) → Ready at Idle
+      → handle k (Some o) p ≡ cell_of (state at) c → HasOneMore at
       → let i = cell_word at c in let load = Paying k o p (counts at k o) 1 1 in word at i < 4398046511104
       → (IsOpen (state at) (me at) c → Adds at i (word at i + 17179869184) (Load c (handle k (Some o) p)) load)
-      × ((expected new : Handle) (weak : Bool) → Asks {V = V} (state at) (me at) (Compare c expected new (handle k (Some o) p) false weak)
+      × ((expected new : Handle) (weak : Bool)
+      → Asks {V = V} (state at) (me at) (Compare c expected new (handle k (Some o) p) false weak)
       → Adds at i (word at i + 17179869184) (Compare c expected new (handle k (Some o) p) false weak) load)
 
   -- turn a fund: the load that was under way becomes a handle in the number
@@ -78,7 +90,8 @@ module _ (V : Type 0) where
   -- refill: the funds that were brought go into the cell in place of those taken
   abbrev pub Refills : Type 0
   Refills =
-      (at : Point V) (c : Cell) (k : Kind) (o t : ℕ) (p q : Option Place) → Ready at (Paying k o p (counts at k o) t 0)
+      (at : Point V) (c : Cell) (k : Kind) (o t : ℕ) (p q : Option Place)
+      → Ready at (Paying k o p (counts at k o) t 0)
       → IsOpen (state at) (me at) c → handle k (Some o) q ≡ cell_of (state at) c
       → let i = cell_word at c in word at i ≡ packed (blocks_of (state at)) (handle k (Some o) q) + 17179869184 * t
       → Moves at i (word at i - 17179869184 * t) Idle
@@ -87,7 +100,8 @@ module _ (V : Type 0) where
   abbrev pub Swaps : Type 0
   Swaps =
       (at : Point V) (c : Cell) (new : Handle) → let s = state at in let old = cell_of s c in
-      Ready at (purse (blocks_of s) new 256) → Asks {V = V} s (me at) (Swap c new old) → HasRoom (after {V = V} s (me at) (Swap c new old)) (me at)
+      Ready at (purse (blocks_of s) new 256) → Asks {V = V} s (me at) (Swap c new old)
+      → HasRoom (after {V = V} s (me at) (Swap c new old)) (me at)
       → (taken : ℕ) → let i = cell_word at c in word at i ≡ packed (blocks_of s) old + 17179869184 * taken
       → Adds at i (packed (blocks_of s) new) (Swap c new old) (purse (blocks_of s) old (256 - taken))
 
@@ -95,15 +109,19 @@ module _ (V : Type 0) where
   abbrev pub CompareSwaps : Type 0
   CompareSwaps =
       (at : Point V) (c : Cell) (expected new : Handle) (weak : Bool) → let s = state at in let old = cell_of s c in
-      Ready at (purse (blocks_of s) new 256) → equivalent old expected ≡ true → Asks {V = V} s (me at) (Compare c expected new old true weak)
+      Ready at (purse (blocks_of s) new 256) → equivalent old expected ≡ true
+      → Asks {V = V} s (me at) (Compare c expected new old true weak)
       → HasRoom (after {V = V} s (me at) (Compare c expected new old true weak)) (me at)
       → (taken : ℕ) → let i = cell_word at c in word at i ≡ packed (blocks_of s) old + 17179869184 * taken
-      → Adds at i (packed (blocks_of s) new) (Compare c expected new old true weak) (purse (blocks_of s) old (256 - taken))
+      → Adds at i (packed (blocks_of s) new) (Compare c expected new old true weak)
+      (purse (blocks_of s) old (256 - taken))
 
   -- a member of an ending object is swapped for nothing
   abbrev pub Clears : Type 0
   Clears =
       (at : Point V) (o m : ℕ) → let s = state at in let old = (s.object o).member m in
-      Ready at Idle → (s.object o).phase ≡ ending (me at) → m < 3 → HasRoom (after {V = V} s (me at) (ClearMember o m old)) (me at)
-      → (taken : ℕ) → let i = cell_word at (Member o m) in word at i ≡ packed (blocks_of s) old + 17179869184 * taken
+      Ready at Idle → (s.object o).phase ≡ ending (me at) → m < 3
+      → HasRoom (after {V = V} s (me at) (ClearMember o m old)) (me at)
+      → (taken : ℕ) → let i = cell_word at (Member o m) in
+      word at i ≡ packed (blocks_of s) old + 17179869184 * taken
       → Adds at i 0 (ClearMember o m old) (purse (blocks_of s) old (256 - taken))

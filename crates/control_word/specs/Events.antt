@@ -1,5 +1,6 @@
 -- What each event asks of the state, and what it makes of it.
-use Rattle.std.specs.Prelude.{◌≡◌, ℕ, suc, ◌+◌, ◌-◌, ◌<◌, ◌≤◌, ◌≢◌, Bool, true, false, cond, ◌&&◌, not, ◌==◌, ◌⊎◌}
+use Rattle.std.specs.Prelude.{◌≡◌, ℕ, suc, ◌+◌, ◌-◌, ◌<◌, ◌≤◌, ◌≢◌, Bool, true, false}
+use Rattle.std.specs.Prelude.{cond, ◌&&◌, not, ◌==◌, ◌⊎◌}
 use Rattle.std.specs.Prelude.{List, ◌∷◌, map, length, slice_index}
 use Rattle.std.specs.Prelude.{Option, Some, None}
 use Rattle.control_word.specs.declared.handle.Handle.{Handle}
@@ -76,7 +77,8 @@ module _ {V : Type 0} where
       × (field ≡ slice_index (s.object (object_of h)).fields p.field))
   -- a weak handle from a handle of the object, with its place or the object's own, or from-this in an ending object
   Asks s d (WeakShare o p) =
-      ((h : Handle) × Holds s d h.kind h × (h.object ≡ Some o) × ((p ≡ h.place) ⊎ (p ≡ place_at (s.object o).block)))
+      ((h : Handle) × Holds s d h.kind h × (h.object ≡ Some o)
+      × ((p ≡ h.place) ⊎ (p ≡ place_at (s.object o).block)))
       ⊎ (((s.object o).phase ≡ ending d) × ((s.object o).enabled ≡ true) × (p ≡ place_at (s.object o).block))
   -- ending a weak handle ([util.smartptr.weak.dest]); `vacant` where the block is free again (own)
   Asks s d (WeakLeave h vacant) =

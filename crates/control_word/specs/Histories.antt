@@ -1,5 +1,6 @@
 -- Histories have the newest event first. The state and the values are what a history leads to.
-use Rattle.std.specs.Prelude.{◌≡◌, ℕ, suc, ◌+◌, cond, ◌&&◌, ◌==◌, List, [], ◌∷◌, Option, Some, None}
+use Rattle.std.specs.Prelude.{◌≡◌, ℕ, suc, ◌+◌, cond, ◌&&◌, ◌==◌, List, [], ◌∷◌, Option, Some}
+use Rattle.std.specs.Prelude.{None}
 use Rattle.control_word.specs.declared.event.Event.{Event}
 use Rattle.control_word.specs.declared.event.Event.TheVariants.{Make, Leave, Finish, Visit}
 use Rattle.control_word.specs.declared.event.Entry.{Entry}

@@ -1,5 +1,6 @@
 -- What holds of every legal history, each said by itself.
-use Rattle.std.specs.Prelude.{◌≡◌, ◌≢◌, ℕ, suc, ◌+◌, ◌<◌, ◌≤◌, ◌↔◌, ◌⊎◌, ◌++◌, true, false, List, [], length, ◌==◌}
+use Rattle.std.specs.Prelude.{◌≡◌, ◌≢◌, ℕ, suc, ◌+◌, ◌<◌, ◌≤◌, ◌↔◌, ◌⊎◌}
+use Rattle.std.specs.Prelude.{◌++◌, true, false, List, [], length, ◌==◌}
 use Rattle.std.specs.List.{filter}
 use mathlib.Core.Option.{some}
 use lib.ListN.{get_elem?}
@@ -33,7 +34,8 @@ IsCell s (Member o m) = m < 3
 
 -- the desk has a handle of the object, or the object ends in its hands
 abbrev pub IsInHands : State → ℕ → ℕ → Type 0
-IsInHands s d o = ((k : Kind) × (x : Handle) × Holds s d k x × (object_of x ≡ o)) ⊎ ((s.object o).phase ≡ ending d)
+IsInHands s d o = ((k : Kind) × (x : Handle) × Holds s d k x × (object_of x ≡ o))
+    ⊎ ((s.object o).phase ≡ ending d)
 
 module _ (V : Type 0) where
   -- the value of an object comes out at most once, and has come out exactly when the object is no longer live
@@ -59,7 +61,8 @@ module _ (V : Type 0) where
   abbrev pub EndsStill : Type 0
   EndsStill =
       (z : Opening) (later seen : List (Entry V)) → IsLegal z (later ++ seen) → (d : ℕ) → NoneBy d later
-      → (o : ℕ) → ((leads z seen).object o).phase ≡ ending d → ((leads z (later ++ seen)).object o).phase ≡ ending d
+      → (o : ℕ) → ((leads z seen).object o).phase ≡ ending d
+      → ((leads z (later ++ seen)).object o).phase ≡ ending d
 
   -- an object that was made stays in its block, with the fields and the flags that it was made with
   abbrev pub StaysAsMade : Type 0
@@ -78,7 +81,8 @@ module _ (V : Type 0) where
   -- being vacant
   abbrev pub NamesAnObject : Type 0
   NamesAnObject =
-      (z : Opening) (h : List (Entry V)) → IsLegal z h → (d : ℕ) (k : Kind) (x : Handle) → Holds (leads z h) d k x
+      (z : Opening) (h : List (Entry V)) → IsLegal z h → (d : ℕ) (k : Kind) (x : Handle)
+      → Holds (leads z h) d k x
       → let s = leads z h in let o = object_of x in
       (1 ≤ o) × (o ≤ s.made) × (s.latest (s.object o).block ≡ o) × InShape z (s.object o).block
       × (IsVacant s (s.object o).block → ⊥)
@@ -156,7 +160,8 @@ module _ (V : Type 0) where
 
   -- a name that isn't given yet has made no event, and none names it
   abbrev pub UnnamedIsQuiet : Type 0
-  UnnamedIsQuiet = (z : Opening) (h : List (Entry V)) → IsLegal z h → (d : ℕ) → (leads z h).names ≤ d → NoneBy d h
+  UnnamedIsQuiet = (z : Opening) (h : List (Entry V)) → IsLegal z h → (d : ℕ)
+      → (leads z h).names ≤ d → NoneBy d h
 
   -- wherever no load of an object is under way, its owner word tells exactly how many owners it has
   abbrev pub CountsExactly : Type 0

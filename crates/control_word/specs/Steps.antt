@@ -1,12 +1,14 @@
 -- The law of each kind of step: where the words stand for a history, and one desk changes one word as the kind says,
 -- they stand for a longer history, or for the same one with a further step of the desk's call. All of it is own.
-use Rattle.std.specs.Prelude.{◌≡◌, ◌≢◌, ℕ, suc, ◌+◌, ◌-◌, ◌*◌, ◌<◌, ◌≤◌, ◌==◌, Bool, true, false, cond, List, [], ◌∷◌, ◌++◌, length, slice_index}
+use Rattle.std.specs.Prelude.{◌≡◌, ◌≢◌, ℕ, suc, ◌+◌, ◌-◌, ◌*◌, ◌<◌, ◌≤◌, ◌==◌}
+use Rattle.std.specs.Prelude.{Bool, true, false, cond, List, [], ◌∷◌, ◌++◌, length, slice_index}
 use Rattle.std.specs.Prelude.{slice_set, replicate, Option, Some, None}
 use mathlib.Core.Option.{some}
 use lib.ListN.{get_elem?}
 use Rattle.control_word.specs.declared.event.Cell.{Cell}
 use Rattle.control_word.specs.declared.event.Event.{Event}
-use Rattle.control_word.specs.declared.event.Event.TheVariants.{Make, Share, Leave, Count, Expired, Read, WeakShare, WeakLeave, Lock}
+use Rattle.control_word.specs.declared.event.Event.TheVariants.{Make, Share, Leave, Count, Expired, Read, WeakShare}
+use Rattle.control_word.specs.declared.event.Event.TheVariants.{WeakLeave, Lock}
 use Rattle.control_word.specs.declared.event.Event.TheVariants.{Finish, Visit, Split, Join}
 use Rattle.control_word.specs.declared.event.Entry.{Entry}
 use Rattle.control_word.specs.declared.handle.Handle.{Handle}
@@ -19,7 +21,8 @@ use Rattle.control_word.specs.declared.view.Pending.{Pending}
 use Rattle.control_word.specs.declared.view.Pending.TheVariants.{Idle, Making, Paying, Visiting, Parting, Merging}
 use Rattle.control_word.specs.Handles.{handle, owner, weak_of, empty, IsPointer}
 use Rattle.control_word.specs.Layout.{spot}
-use Rattle.control_word.specs.State.{Opening, IsOpening, State, Has, held, stored, ending, kind_of_member, count, bag_size, weak_number, HasRoom}
+use Rattle.control_word.specs.State.{Opening, IsOpening, State, Has, held, stored, ending, kind_of_member, count}
+use Rattle.control_word.specs.State.{bag_size, weak_number, HasRoom}
 use Rattle.control_word.specs.Events.{Asks, after}
 use Rattle.control_word.specs.Histories.{entry, leads, value}
 use Rattle.control_word.specs.Words.{cell_at, blocks_of, counts_at, flags_of}
@@ -28,7 +31,8 @@ use Rattle.control_word.specs.Views.{Stands, sees_as, stays, comes, together, us
 -- the flags and fields of a block, as its words are
 abbrev pub known_of : List ℕ → ℕ → List ℕ
 known_of words b =
-    slice_index words (spot b 2) ∷ slice_index words (spot b 3) ∷ slice_index words (spot b 4) ∷ slice_index words (spot b 5)
+    slice_index words (spot b 2) ∷ slice_index words (spot b 3) ∷ slice_index words
+    (spot b 4) ∷ slice_index words (spot b 5)
     ∷ slice_index words (spot b 6) ∷ []
 
 -- a point between two steps, and the desk that makes the next one
@@ -76,7 +80,8 @@ module _ {V : Type 0} where
 
   -- the same by a look, which changes no word
   abbrev pub Tells : Point V → Event V → Pending V → Type 0
-  Tells at e p = let h = entry (me at) e ∷ at.history in Stands at.opening at.words (slice_set at.views at.seat (sees_as at.view p h)) h
+  Tells at e p = let h = entry (me at) e ∷ at.history in
+      Stands at.opening at.words (slice_set at.views at.seat (sees_as at.view p h)) h
 
   -- no event: word k becomes n, and the desk's half-done call p
   abbrev pub Moves : Point V → ℕ → ℕ → Pending V → Type 0
@@ -85,7 +90,8 @@ module _ {V : Type 0} where
 
   -- the handle that goes in or came out has so many funds out on its count
   abbrev pub purse : (ℕ → ℕ) → Handle → ℕ → Pending V
-  purse block h f = elim (h.object) [ None ↦ Idle | Some o ↦ Paying h.kind o h.place (counts_at block h.kind o) f 0 ]
+  purse block h f = elim (h.object)
+      [ None ↦ Idle | Some o ↦ Paying h.kind o h.place (counts_at block h.kind o) f 0 ]
 
   -- the cell is open to the desk, or a member of an object that ends in its hands
   abbrev pub cell_word : Point V → Cell → ℕ
@@ -100,8 +106,10 @@ module _ (V : Type 0) where
 
   abbrev pub WritesWord : Type 0
   WritesWord =
-      (at : Point V) (b : Block) (known : List ℕ) → Ready at (Making b known) → length known ≡ 5 → (j n : ℕ) → j < 5
-      → (word at (spot b.0 (2 + j)) ≡ slice_index known j) × Moves at (spot b.0 (2 + j)) n (Making b (slice_set known j n))
+      (at : Point V) (b : Block) (known : List ℕ) → Ready at (Making b known) → length known ≡ 5
+      → (j n : ℕ) → j < 5
+      → (word at (spot b.0 (2 + j)) ≡ slice_index known j)
+      × Moves at (spot b.0 (2 + j)) n (Making b (slice_set known j n))
 
   -- claim: the owner word of a prepared block becomes 1, which is the Make
   abbrev pub Claims : Type 0
@@ -113,28 +121,33 @@ module _ (V : Type 0) where
   -- share: an owner or weak word gets one more
   abbrev pub Shares : Type 0
   Shares =
-      (at : Point V) (o : ℕ) (p q : Option Place) → Ready at Idle → Holding at Owner o p → IsPointer q → HasOneMore at
+      (at : Point V) (o : ℕ) (p q : Option Place) → Ready at Idle → Holding at Owner o p
+      → IsPointer q → HasOneMore at
       → let k = counts at Owner o in Adds at k (suc (word at k)) (Share (owner o p) q) Idle
 
   abbrev pub WeakShares : Type 0
   WeakShares =
-      (at : Point V) (o : ℕ) (p : Option Place) → Ready at Idle → 0 < weak_number (state at) o → Asks {V = V} (state at) (me at) (WeakShare o p) → HasOneMore at
+      (at : Point V) (o : ℕ) (p : Option Place) → Ready at Idle → 0 < weak_number (state at) o
+      → Asks {V = V} (state at) (me at) (WeakShare o p) → HasOneMore at
       → let k = counts at Weak o in Adds at k (suc (word at k)) (WeakShare o p) Idle
 
   -- leave: one less; the last, or vacant, just where the whole word was 1
   abbrev pub Leaves : Type 0
   Leaves =
       (at : Point V) (o : ℕ) (p : Option Place) → Ready at Idle → Holding at Owner o p
-      → let k = counts at Owner o in (0 < word at k) × Adds at k (word at k - 1) (Leave (owner o p) (word at k == 1)) Idle
+      → let k = counts at Owner o in (0 < word at k)
+      × Adds at k (word at k - 1) (Leave (owner o p) (word at k == 1)) Idle
 
   abbrev pub WeakLeaves : Type 0
   WeakLeaves =
       (at : Point V) (o : ℕ) (p : Option Place) → Ready at Idle → Holding at Weak o p
-      → let k = counts at Weak o in (0 < word at k) × Adds at k (word at k - 1) (WeakLeave (weak_of o p) (word at k == 1)) Idle
+      → let k = counts at Weak o in (0 < word at k)
+      × Adds at k (word at k - 1) (WeakLeave (weak_of o p) (word at k == 1)) Idle
 
   abbrev pub Finishes : Type 0
   Finishes =
-      (at : Point V) (o : ℕ) (v : V) → Ready at Idle → value at.opening at.history o ≡ Some v → ((state at).object o).phase ≡ ending (me at)
+      (at : Point V) (o : ℕ) (v : V) → Ready at Idle → value at.opening at.history o ≡ Some v
+      → ((state at).object o).phase ≡ ending (me at)
       → ((m : ℕ) → m < 3 → ((state at).object o).member m ≡ empty (kind_of_member m))
       → let k = counts at Weak o in (0 < word at k) × Adds at k (word at k - 1) (Finish o (word at k == 1) v) Idle
 
@@ -146,42 +159,50 @@ module _ (V : Type 0) where
       (word at k ≡ 0 → Tells at (Lock (weak_of o p) false) Idle)
       × (0 < word at k → HasOneMore at → Adds at k (suc (word at k)) (Lock (weak_of o p) true) Idle)
 
-  -- look: use_count tells the number, or 1 where it is 0 and funds are there; exactly the count where no load is under way
+  -- look: use_count tells the number, or 1 where it is 0 and funds are there; exactly the count where no load is under
+  -- way
   abbrev pub TellsCount : Type 0
   TellsCount =
       (at : Point V) (k : Kind) (o : ℕ) (p : Option Place) (low high : ℕ) → Ready at Idle → Holding at k o p
       → word at (counts at Owner o) ≡ low + 4294967296 * high → low < 4294967296
       → let n = cond (low == 0) (cond (high == 0) 0 1) low in
-      Tells at (Count (handle k (Some o) p) n) Idle × (owed at.views (counts at Owner o) ≡ 0 → n ≡ count (state at) o)
+      Tells at (Count (handle k (Some o) p) n) Idle
+      × (owed at.views (counts at Owner o) ≡ 0 → n ≡ count (state at) o)
 
   abbrev pub TellsExpired : Type 0
   TellsExpired = (at : Point V) (o : ℕ) (p : Option Place) → Ready at Idle → Holding at Weak o p
       → Tells at (Expired (weak_of o p) (word at (counts at Owner o) == 0)) Idle
 
   abbrev pub Reads : Type 0
-  Reads = (at : Point V) (o : ℕ) (p : Place) → Ready at Idle → Holding at Owner o (Some p) → p.block.0 ≡ ((state at).object o).block → p.field < 4
+  Reads = (at : Point V) (o : ℕ) (p : Place) → Ready at Idle → Holding at Owner o (Some p)
+      → p.block.0 ≡ ((state at).object o).block → p.field < 4
       → Tells at (Read (owner o (Some p)) (word at (spot p.block.0 (3 + p.field)))) Idle
 
   abbrev pub LooksOn : Type 0
-  LooksOn = (at : Point V) → Ready at Idle → Stands at.opening at.words (slice_set at.views at.seat (sees_as at.view Idle at.history)) at.history
+  LooksOn = (at : Point V) → Ready at Idle
+      → Stands at.opening at.words (slice_set at.views at.seat (sees_as at.view Idle at.history)) at.history
 
   -- shut a door that is found open, and open it: the visit
   abbrev pub Shuts : Type 0
   Shuts =
-      (at : Point V) (o : ℕ) (p : Option Place) (v : V) → Ready at Idle → Holding at Owner o p → value at.opening at.history o ≡ Some v
+      (at : Point V) (o : ℕ) (p : Option Place) (v : V) → Ready at Idle → Holding at Owner o p
+      → value at.opening at.history o ≡ Some v
       → let k = spot (blocks_of (state at) o) 2 in
       (word at k < 8) × (word at k < 4 → Moves at k (word at k + 4) (Visiting o p k v))
 
   abbrev pub Opens : Type 0
   Opens =
-      (at : Point V) (o : ℕ) (p : Option Place) (was becomes : V) → let k = spot (blocks_of (state at) o) 2 in Ready at (Visiting o p k was)
+      (at : Point V) (o : ℕ) (p : Option Place) (was becomes : V) → let k = spot (blocks_of (state at) o) 2 in
+      Ready at (Visiting o p k was)
       → (4 ≤ word at k) × Adds at k (word at k - 4) (Visit (owner o p) was becomes) Idle
 
   -- the look of a split, and the cut of the view that follows it
   abbrev pub Splits : Type 0
   Splits =
-      (at : Point V) (to n : ℕ) (hs : List Handle) (bs : List Block) → Ready at Idle → Asks {V = V} (state at) (me at) (Split to n hs bs)
-      → HasRoom (after {V = V} (state at) (me at) (Split to n hs bs)) (me at) → Tells at (Split to n hs bs) (Parting to)
+      (at : Point V) (to n : ℕ) (hs : List Handle) (bs : List Block) → Ready at Idle
+      → Asks {V = V} (state at) (me at) (Split to n hs bs)
+      → HasRoom (after {V = V} (state at) (me at) (Split to n hs bs)) (me at)
+      → Tells at (Split to n hs bs) (Parting to)
 
   abbrev pub CutsView : Type 0
   CutsView = (at : Point V) (to : ℕ) → Ready at (Parting to)
@@ -190,20 +211,24 @@ module _ (V : Type 0) where
   -- two views become one, and the look of a join that follows
   abbrev pub MergesViews : Type 0
   MergesViews =
-      (at : Point V) (j : ℕ) (w : View V) → Ready at Idle → get_elem? at.views j ≡ some w → at.seat ≢ j → w.spent ≡ false → w.pending ≡ Idle
+      (at : Point V) (j : ℕ) (w : View V) → Ready at Idle → get_elem? at.views j ≡ some w → at.seat ≢ j
+      → w.spent ≡ false → w.pending ≡ Idle
       → Stands at.opening at.words (slice_set (slice_set at.views at.seat (together at.view w)) j used_up) at.history
 
   abbrev pub Joins : Type 0
-  Joins = (at : Point V) (other : ℕ) (mine others : List (Entry V)) → Ready at (Merging other mine others) → Tells at (Join other) Idle
+  Joins = (at : Point V) (other : ℕ) (mine others : List (Entry V)) → Ready at (Merging other mine others)
+      → Tells at (Join other) Idle
 
   -- at the start all words are 0
   abbrev pub Begins : Type 0
-  Begins = (z : Opening) → IsOpening z → Stands z (replicate (16 * z.blocks + 8 * z.cells) 0) (fresh {V = V} 0 z.desks) []
+  Begins = (z : Opening) → IsOpening z
+      → Stands z (replicate (16 * z.blocks + 8 * z.cells) 0) (fresh {V = V} 0 z.desks) []
 
-  -- No carry and no wrap: on the counts of an object that is there, is ending or has weak handles, the number may grow by one
-  -- and the funds by 256, within their halves and the word
+  -- No carry and no wrap: on the counts of an object that is there, is ending or has weak handles, the number may grow
+  -- by one and the funds by 256, within their halves and the word
   abbrev pub HasHeadroom : Type 0
   HasHeadroom =
       (at : Point V) (p : Pending V) → Ready at p → (k : Kind) (o : ℕ) → 0 < weak_number (state at) o
       → let i = counts at k o in (word at i + 1099511627776 < 18446744073709551616)
-      × ((low high : ℕ) → word at i ≡ low + 4294967296 * high → low < 4294967296 → (low + 1 < 4294967296) × (high + 256 < 4294967296))
+      × ((low high : ℕ) → word at i ≡ low + 4294967296 * high → low < 4294967296
+      → (low + 1 < 4294967296) × (high + 256 < 4294967296))

@@ -1,5 +1,6 @@
 -- What the desks know, and what holds between any two steps. All of it is own.
-use Rattle.std.specs.Prelude.{◌≡◌, ℕ, zero, suc, ◌+◌, ◌*◌, ◌<◌, ◌≤◌, true, false, cond, ◌==◌, ◌⊎◌, List, [], ◌∷◌, ◌++◌, length, nat_lt, slice_index}
+use Rattle.std.specs.Prelude.{◌≡◌, ℕ, zero, suc, ◌+◌, ◌*◌, ◌<◌, ◌≤◌, true, false, cond}
+use Rattle.std.specs.Prelude.{◌==◌, ◌⊎◌, List, [], ◌∷◌, ◌++◌, length, nat_lt, slice_index}
 use Rattle.std.specs.Prelude.{Option, Some, None}
 use mathlib.Core.Option.{some}
 use lib.ListN.{get_elem?}
@@ -46,15 +47,18 @@ module _ {V : Type 0} where
   abbrev pub owed : List (View V) → ℕ → ℕ
   owed views i = total (λ v. owes v.pending i) views
 
-  -- what is on a word besides the state's number: what half-done calls added, the funds, and in a cell's word how many were taken
+  -- what is on a word besides the state's number: what half-done calls added, the funds, and in a cell's word how many
+  -- were taken
   abbrev pub more : Opening → State → List (View V) → (ℕ → ℕ) → ℕ → ℕ
   more z s views taken i = added views i + 4294967296 * (paid views i + bank z s taken i) + 17179869184 * taken i
 
   -- What a half-done call of desk d knows. One that has funds out or shut a door holds a handle of their block
   abbrev pub Fits : List ℕ → State → (ℕ → Option V) → ℕ → Pending V → Type 0
-  Fits words s values d (Making b known) = Has (stored d b.0) s.stores × ((j : ℕ) → j < 5 → slice_index words (spot b.0 (2 + j)) ≡ slice_index known j)
+  Fits words s values d (Making b known) = Has (stored d b.0) s.stores
+      × ((j : ℕ) → j < 5 → slice_index words (spot b.0 (2 + j)) ≡ slice_index known j)
   Fits words s values d (Paying k o p word funds loads) =
-      Has (held d (handle k (Some o) p)) s.hands × (word ≡ counts_at (blocks_of s) k o) × (loads ≤ funds) × (loads ≤ 1) × (funds ≤ 256)
+      Has (held d (handle k (Some o) p)) s.hands × (word ≡ counts_at (blocks_of s) k o) × (loads ≤ funds)
+      × (loads ≤ 1) × (funds ≤ 256)
   Fits words s values d (Visiting o p word v) =
       Has (held d (handle Owner (Some o) p)) s.hands × (word ≡ spot (blocks_of s o) 2) × (values o ≡ Some v)
   Fits words s values d _ = Unit {0}
@@ -98,15 +102,19 @@ module _ {V : Type 0} where
 
   -- what is so of all views: unspent ones stand for different desks, and one has seen all
   pub record Team (z : Opening) (words : List ℕ) (views : List (View V)) (history : List (Entry V)) : Type 0 where
-    pub seated : (i : ℕ) (v : View V) → get_elem? views i ≡ some v → v.spent ≡ false → Seated words z history v
+    pub seated : (i : ℕ) (v : View V) → get_elem? views i ≡ some v → v.spent ≡ false
+        → Seated words z history v
     pub rests : (i : ℕ) (v : View V) → get_elem? views i ≡ some v → v.spent ≡ true → v.pending ≡ Idle
-    pub names : (i j : ℕ) (v w : View V) → get_elem? views i ≡ some v → get_elem? views j ≡ some w → v.spent ≡ false → w.spent ≡ false
+    pub names : (i j : ℕ) (v w : View V) → get_elem? views i ≡ some v → get_elem? views j ≡ some w
+        → v.spent ≡ false → w.spent ≡ false
         → (d : ℕ) → StandsFor v d → StandsFor w d → i ≡ j
-    pub whole : (i : ℕ) × (v : View V) × (get_elem? views i ≡ some v) × (v.spent ≡ false) × (v.seen ≡ history)
+    pub whole : (i : ℕ) × (v : View V) × (get_elem? views i ≡ some v)
+        × (v.spent ≡ false) × (v.seen ≡ history)
 
 -- of a cell that holds no object nothing was taken
 pub record Bare (z : Opening) (s : State) (taken : ℕ → ℕ) : Type 0 where
-  pub members : (b m : ℕ) → InShape z b → m < 3 → ((s.object (s.latest b)).member m).object ≡ None → taken (spot b (7 + m)) ≡ 0
+  pub members : (b m : ℕ) → InShape z b → m < 3 → ((s.object (s.latest b)).member m).object ≡ None
+      → taken (spot b (7 + m)) ≡ 0
   pub frees : (c : ℕ) → c < z.cells → (s.cell c).object ≡ None → taken (cell_spot z c) ≡ 0
 
 module _ {V : Type 0} where

@@ -1,5 +1,6 @@
 -- How the words show a state. All of it is own.
-use Rattle.std.specs.Prelude.{◌≡◌, ℕ, suc, ◌+◌, ◌-◌, ◌*◌, ◌<◌, ◌≤◌, ◌==◌, Bool, cond, ◌⊎◌, List, [], ◌∷◌, length, slice_index, Option, Some, None}
+use Rattle.std.specs.Prelude.{◌≡◌, ℕ, suc, ◌+◌, ◌-◌, ◌*◌, ◌<◌, ◌≤◌, ◌==◌, Bool, cond}
+use Rattle.std.specs.Prelude.{◌⊎◌, List, [], ◌∷◌, length, slice_index, Option, Some, None}
 use Rattle.control_word.specs.declared.handle.Kind.{Kind}
 use Rattle.control_word.specs.declared.handle.Kind.TheVariants.{Owner, Weak}
 use Rattle.control_word.specs.declared.handle.Handle.{Handle}
@@ -75,7 +76,8 @@ worth block h t i = elim (h.object) [ None ↦ 0 | Some o ↦ cond (i == counts_
 
 abbrev pub member_funds : (ℕ → ℕ) → (ℕ → ℕ) → Object → ℕ → ℕ
 member_funds block taken x i =
-    worth block (x.member 0) (taken (spot x.block 7)) i + worth block (x.member 1) (taken (spot x.block 8)) i + worth block (x.member 2) (taken (spot x.block 9)) i
+    worth block (x.member 0) (taken (spot x.block 7)) i + worth block (x.member 1)
+    (taken (spot x.block 8)) i + worth block (x.member 2) (taken (spot x.block 9)) i
 
 -- the funds that all cells keep on word i; taken j is how many were taken of the cell whose word is j
 unfoldable pub bank : Opening → State → (ℕ → ℕ) → ℕ → ℕ
@@ -91,4 +93,5 @@ Says s owed more b k n = IsLoose s b k ⊎ (n + owed (spot b k) ≡ slice_index 
 pub record Shows (z : Opening) (words : List ℕ) (owed more : ℕ → ℕ) (s : State) : Type 0 where
   pub sized : length words ≡ 16 * z.blocks + 8 * z.cells
   pub blocks : (b k : ℕ) → InShape z b → k < 10 → Says s owed more b k (slice_index words (spot b k))
-  pub free : (c : ℕ) → c < z.cells → slice_index words (cell_spot z c) ≡ packed (blocks_of s) (s.cell c) + more (cell_spot z c)
+  pub free : (c : ℕ) → c < z.cells → slice_index words (cell_spot z c)
+      ≡ packed (blocks_of s) (s.cell c) + more (cell_spot z c)

@@ -70,7 +70,8 @@ CountAfterCopy =
     let s = reached copy_ended in
     IsLegal four_blocks copy_ended
     × Counts copy_held 1 2 0 × OnlyReply copy_held (Count (owner_at 1 1)) 2
-    × (s.made ≡ 1) × ((s.object 1).phase ≡ gone) × ((s.object 1).fields ≡ 1 ∷ 2 ∷ 0 ∷ 0 ∷ []) × IsVacant s 1
+    × (s.made ≡ 1) × ((s.object 1).phase ≡ gone)
+    × ((s.object 1).fields ≡ 1 ∷ 2 ∷ 0 ∷ 0 ∷ []) × IsVacant s 1
 
 -- A lock is an owner more, and keeps the object while the first owner goes. The block waits for the weak handle
 abbrev pub lock_watched : List (Entry ℕ)

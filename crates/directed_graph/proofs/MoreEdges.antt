@@ -1,5 +1,6 @@
 -- A graph gets an edge more.
-use Rattle.std.proofs.Common.{◌≡◌, ◌≢◌, inl, inr, ℕ, zero, suc, ◌+◌, ◌<◌, ◌==◌, Bool, true, false, cond, List, [], ◌∷◌, ◌++◌, length, take, get_or, set}
+use Rattle.std.proofs.Common.{◌≡◌, ◌≢◌, inl, inr, ℕ, zero, suc, ◌+◌, ◌<◌, ◌==◌, Bool, true, false, cond, List, [], ◌∷◌}
+use Rattle.std.proofs.Common.{◌++◌, length, take, get_or, set}
 use Rattle.std.proofs.Common.{refl, sym, ap, subst, ◌∙◌, ⊎_elim, arith, eq-eqb, ne_eqb, length-set, length-append}
 use Rattle.std.proofs.lemmas.Bool.{cases_eq, cond-true, cond-false}
 use Rattle.std.proofs.lemmas.List.Elements.{All-head, All-tail}
@@ -87,7 +88,8 @@ pub is_graph : (g : Rows) (es : List Edge) (n : ℕ) → HasRows n es g → AreW
 is_graph g es n has all v w h = subst (λ (i : ℕ). w < i) (sym has.size) (led es n v w all (subst (Has w) (has.rows v) h))
 
 -- a vertex more, without edges
-pub vertex_more : (g g' : Rows) (row : Vec ℕ) (i : ℕ) → g' ≡ g ++ row ∷ [] → row.items ≡ [] → length g ≡ i → ((v : ℕ) → targets g v ≡ [])
+pub vertex_more : (g g' : Rows) (row : Vec ℕ) (i : ℕ) → g' ≡ g ++ row ∷ [] → row.items ≡ [] → length g ≡ i
+    → ((v : ℕ) → targets g v ≡ [])
     → (length g' ≡ i + 1) × ((v : ℕ) → targets g' v ≡ [])
 vertex_more g g' row i e none size all =
     let n = ap (length {A = Vec ℕ}) e in

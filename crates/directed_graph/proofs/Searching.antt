@@ -1,5 +1,6 @@
 -- What a search keeps, and what it has found at its end.
-use Rattle.std.proofs.Common.{◌≡◌, ◌⊎◌, inl, inr, ℕ, zero, suc, ◌<◌, ◌≤◌, Bool, true, false, List, [], ◌∷◌, ◌++◌, length, get_or, set, replicate}
+use Rattle.std.proofs.Common.{◌≡◌, ◌⊎◌, inl, inr, ℕ, zero, suc, ◌<◌, ◌≤◌, Bool, true, false, List, [], ◌∷◌, ◌++◌, length}
+use Rattle.std.proofs.Common.{get_or, set, replicate}
 use Rattle.std.proofs.Common.{refl, sym, ap, subst, ◌∙◌, ⊎_elim, arith, get_or-set_same, length-set, length-append}
 use Rattle.std.proofs.lemmas.List.{length-replicate}
 use Rattle.std.proofs.lemmas.Bool.{cases_lt, cond-false, false≢true}
@@ -25,7 +26,8 @@ pub record Searched (g : Rows) (root : ℕ) (m : Marks) : Type 0 where
   pub begun : root < length g → is_marked m root ≡ true
 
 -- the edges of the vertex that was listed last are followed
-pub followed : (g : Rows) (root v : ℕ) (marked : List Bool) (pending : List ℕ) → Searched g root (record { marked = marked; pending = pending ++ v ∷ [] })
+pub followed : (g : Rows) (root v : ℕ) (marked : List Bool) (pending : List ℕ)
+    → Searched g root (record { marked = marked; pending = pending ++ v ∷ [] })
     → All (λ w. w < length marked) (targets g v)
     → Searched g root (mark_all (targets g v) (record { marked = marked; pending = pending }))
 followed g root v marked pending s lt =
@@ -172,7 +174,8 @@ round g root v row marked pending rest vs after graph s e is value goes =
     let lt = listed_in g root v marked pending rest e s in
     let all : All (λ w. w < length marked) row.items = row_inside g v (length marked) row graph lt is s.size in
     let same = got g v row lt is in
-    let s' : Searched g root (record { marked = marked; pending = rest ++ v ∷ [] }) = subst (λ (l : List ℕ). Searched g root (record { marked = marked; pending = l })) e s in
+    let s' : Searched g root (record { marked = marked; pending = rest ++ v ∷ [] }) =
+    subst (λ (l : List ℕ). Searched g root (record { marked = marked; pending = l })) e s in
     let f = followed g root v marked rest s' (subst (λ (l : List ℕ). All (λ w. w < length marked) l) (sym same) all) in
     let f' = subst (λ (l : List ℕ). Searched g root (mark_all l (record { marked = marked; pending = rest }))) same f in
     let n = all_left row.items (record { marked = marked; pending = rest }) all in

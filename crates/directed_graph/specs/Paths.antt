@@ -1,5 +1,6 @@
 -- Graphs, and the paths in them. All of it is own.
-use Rattle.std.specs.Prelude.{◌≡◌, ◌↔◌, ◌⊎◌, ℕ, All, ◌==◌, ◌<◌, cond, Bool, true, false, List, [], ◌∷◌, length, slice_get, slice_index_or, Option, Some, None}
+use Rattle.std.specs.Prelude.{◌≡◌, ◌↔◌, ◌⊎◌, ℕ, All, ◌==◌, ◌<◌, cond, Bool, true, false}
+use Rattle.std.specs.Prelude.{List, [], ◌∷◌, length, slice_get, slice_index_or, Option, Some, None}
 use Rattle.std.specs.Global.{Vec}
 use Rattle.directed_graph.specs.declared.graph.Edge.{Edge}
 

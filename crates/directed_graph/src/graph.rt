@@ -81,9 +81,9 @@ fn rows_of(alloc: Global, vertices: usize, edges: &[Edge]) -> Result<Vec<Vec<usi
 }
 
 impl Graph {
-    /// The graph with so many vertices, from 0, and these edges: of each vertex, those to which its edges lead, in the order
-    /// of the edges (own). It is refused `Outside` just where an edge leads from or to another number, and else `Memory` only
-    /// where a growth was really refused.
+    /// The graph with so many vertices, from 0, and these edges: of each vertex, those to which its edges lead, in the
+    /// order of the edges (own). It is refused `Outside` just where an edge leads from or to another number, and else
+    /// `Memory` only where a growth was really refused.
     pub fn new(alloc: Global, vertices: usize, edges: &[Edge]) -> Result<Graph, GraphError>
         ensures rows { IfOk result (λ g. HasRows vertices edges.now g) }
         ensures within { IfOk result (λ _. AreWithin vertices edges.now) }

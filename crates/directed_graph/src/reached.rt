@@ -24,9 +24,9 @@ fn mark_reached(alloc: Global, graph: &[Vec<usize>], root: usize) -> Result<Vec<
 }
 
 impl Graph {
-    /// Marks just the vertices to which a path leads from the root (own): it, those to which its edges lead, and so on. From a
-    /// number that is none of a vertex none is reached. It takes time linear in vertices and edges, and is refused only where a
-    /// growth of memory was.
+    /// Marks just the vertices to which a path leads from the root (own): it, those to which its edges lead, and so on.
+    /// From a number that is none of a vertex none is reached. It takes time linear in vertices and edges, and is
+    /// refused only where a growth of memory was.
     pub fn reached(&self, alloc: Global, root: usize) -> Result<Vec<bool>, AllocError>
         ensures { IfOk result (λ marked. MarksReached self.now root marked.items) }
     {

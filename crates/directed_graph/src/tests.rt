@@ -2,7 +2,8 @@
 use crate::{Edge, Graph, GraphError};
 use std::test::Fail;
 
-/// Of four vertices, 1 and 2 lead to each other, and 0 to 3: from 0 only 3 is reached, and from 1 only 2. There is no vertex 4.
+/// Of four vertices, 1 and 2 lead to each other, and 0 to 3: from 0 only 3 is reached, and from 1 only 2. There is no
+/// vertex 4.
 #[test]
 fn a_circle_is_reached_from_within(rt: HostRuntime) -> Result<(), Fail> {
     let edges = [

@@ -14,7 +14,8 @@ module _ {V : Type 0} where
   pub begins : (t : TableNow V) (all : List (TableNow V)) → Absorbing t t all all
   begins t all = record { out = []; parts = sym (append-nil all); gone = refl }
 
-  pub goes : (before t u : TableNow V) (all now rest : List (TableNow V)) (x : TableNow V) → Absorbing before t all now → now ≡ rest ++ x ∷ [] → Absorbs t x u
+  pub goes : (before t u : TableNow V) (all now rest : List (TableNow V)) (x : TableNow V) → Absorbing before t all now
+      → now ≡ rest ++ x ∷ [] → Absorbs t x u
       → Absorbing before u all rest
   goes before t u all now rest x a is absorbs =
       record {

@@ -30,7 +30,8 @@ use Rattle.handle_table.specs.declared.fault.Fault.TheVariants as fault
 use Rattle.handle_table.proofs.Filling.{fits_at}
 
 -- the same of other names of the parts
-pub by_parts : (P : Kind → Option Block → Option Place → Type 0) (k l : Kind) (b c : Option Block) (p q : Option Place) → k ≡ l → b ≡ c → p ≡ q → P l c q → P k b p
+pub by_parts : (P : Kind → Option Block → Option Place → Type 0) (k l : Kind) (b c : Option Block) (p q : Option Place) → k ≡ l → b ≡ c
+    → p ≡ q → P l c q → P k b p
 by_parts P k l b c p q e f g x = subst (λ z. P z b p) (sym e) (subst (λ z. P l z p) (sym f) (subst (λ z. P l c z) (sym g) x))
 
 -- a list of handles with this one more, and with it less, by its parts
@@ -65,8 +66,11 @@ module _ {V : Type 0} where
   member_open : (d : DeskNow V) (ss : List Slot) (of m : ℕ) (k : Kind) (b : Block) (s : Site) → Fits d ss → OwnsInto ss of b → s ≡ site.Member b m
       → m < 3 → k ≡ kind_of_member m → IsOpenAt d s k
   member_open d ss of m k b s fits owns is low same =
-      subst (λ (x : Site). IsOpenAt d x k) (sym is)
-      (low, same, (owns.owner.place, subst (λ (c : Option Block). Holds d kind.Owner c owns.owner.place) owns.owns (fits_at d ss of (Owner owns.owner) fits owns.at)))
+      subst (λ (x : Site). IsOpenAt d x k) (sym is) (
+        low,
+        same,
+        (owns.owner.place, subst (λ (c : Option Block). Holds d kind.Owner c owns.owner.place) owns.owns (fits_at d ss of (Owner owns.owner) fits owns.at)),
+      )
 
   -- a cell is open to a desk that has just the handles in the slots
   pub is_open : (d : DeskNow V) (ss : List Slot) (c : Cell) (s : Site) → Fits d ss → IsCell d.shape ss c s → IsOpenAt d s (kind_in c)

@@ -1,5 +1,6 @@
 -- What a compare does to the handles that a desk has.
-use Rattle.std.proofs.Common.{◌≡◌, ℕ, zero, suc, ◌+◌, ◌<◌, Bool, true, false, cond, List, [], ◌∷◌, length, set, Some, None, sym, ap, ◌∙◌, arith}
+use Rattle.std.proofs.Common.{◌≡◌, ℕ, zero, suc, ◌+◌, ◌<◌, Bool, true, false, cond, List, [], ◌∷◌, length, set, Some, None, sym, ap}
+use Rattle.std.proofs.Common.{◌∙◌, arith}
 use Rattle.std.proofs.lemmas.Bool.{cond-true, cond-false}
 use Rattle.std.specs.Prelude.{slice_get}
 use Rattle.control_word.specs.declared.handle.Kind.{Kind}
@@ -24,16 +25,20 @@ module _ {V : Type 0} where
   pub content_held : (d : DeskNow V) (ss : List Slot) (i : ℕ) (h : Held) (x : Content) (k : Kind) → Fits d ss → slice_get ss i ≡ Some (Some h)
       → IsContent h x → x.kind ≡ k → Holds d k x.block x.place
   content_held d ss i h x k fits at is same =
-      by_parts (Holds d) k (kind_of h) x.block (owned_by h) x.place (place_of h) (sym (is.0 ∙ same)) (sym is.1) (sym is.2) (held_parts d h (fits_at d ss i h fits at))
+      by_parts (Holds d) k (kind_of h) x.block (owned_by h) x.place (place_of h) (sym (is.0 ∙ same)) (sym is.1) (sym is.2)
+      (held_parts d h (fits_at d ss i h fits at))
 
   -- it went into the cell, and what that held is in hand
-  pub fits_swapped : (d m : DeskNow V) (ss : List Slot) (i : ℕ) (h y : Held) (x : Content) (k : Kind) (s : Bool) → Fits d ss → slice_get ss i ≡ Some (Some h)
-      → IsContent h x → x.kind ≡ k → bag_of m ≡ with_held y (cond s (without_handle k x.block x.place (bag_of d)) (bag_of d)) → m.held ≡ d.held + cond s 0 1
+  pub fits_swapped : (d m : DeskNow V) (ss : List Slot) (i : ℕ) (h y : Held) (x : Content) (k : Kind) (s : Bool) → Fits d ss
+      → slice_get ss i ≡ Some (Some h)
+      → IsContent h x → x.kind ≡ k → bag_of m ≡ with_held y (cond s (without_handle k x.block x.place (bag_of d)) (bag_of d))
+      → m.held ≡ d.held + cond s 0 1
       → s ≡ true → Fits m (Some y ∷ set ss i None)
   fits_swapped d m ss i h y x k s fits at is same bag held hit =
       let l = bag_of d in
       fits_exchange d m (set ss i None) h y (fits_out d ss i h fits at)
-      (bag ∙ ap (with_held y) (cond-true s (without_handle k x.block x.place l) l hit ∙ sym (without_named h k x.block x.place l (is.0 ∙ same) is.1 is.2)))
+      (bag ∙ ap (with_held y)
+      (cond-true s (without_handle k x.block x.place l) l hit ∙ sym (without_named h k x.block x.place l (is.0 ∙ same) is.1 is.2)))
       (let z : ◌≡◌ {A = ℕ} (cond s 0 1) 0 = cond-true s 0 1 hit in omega arith)
 
   -- or it didn't, and a copy of what the cell holds is in hand

@@ -24,8 +24,10 @@ module _ {V : Type 0} where
   parted_more d m e a k (s ∷ ts) t is parts = (is.0, is.1, parted_more is.0 m e a k ts t is.2 parts)
 
   -- the tables that were lent came back, and were absorbed
-  pub works : (t x u : TableNow V) (team : Team) (manned : Manned) (lent left : List (TableNow V)) → IsPartedInto t.desk team.allowance team.blocks lent x.desk
-      → All (IsNew team.slots) lent → (x.slots ≡ t.slots) × (x.endings ≡ t.endings) → IfSome manned.fewer (WhyFewer x.desk team.allowance team.blocks)
+  pub works : (t x u : TableNow V) (team : Team) (manned : Manned) (lent left : List (TableNow V))
+      → IsPartedInto t.desk team.allowance team.blocks lent x.desk
+      → All (IsNew team.slots) lent → (x.slots ≡ t.slots) × (x.endings ≡ t.endings)
+      → IfSome manned.fewer (WhyFewer x.desk team.allowance team.blocks)
       → length lent ≡ manned.workers → length left ≡ length lent → AbsorbsAll x left u → Works t team manned u
   works t x u team manned lent left parts new rest fewer many same absorbs =
       let is : x ≡ record t { desk = x.desk } = λ i. record { desk = x.desk; slots = rest.0 i; endings = rest.1 i } in
@@ -42,7 +44,8 @@ module _ {V : Type 0} where
 
   -- a sole desk without handles closed its domain
   pub closed : (domain : DomainNow) (d : DeskNow V) (c : CensusNow) → Belongs d domain → Standing d → Fits d [] → endings_of d ≡ 0
-      → allowance_of d ≡ domain.shape.allowance → c.blocks ≡ domain.shape.blocks → TellsAll (state_of d) domain.shape.blocks c → IsClosed d domain.shape c
+      → allowance_of d ≡ domain.shape.allowance → c.blocks ≡ domain.shape.blocks → TellsAll (state_of d) domain.shape.blocks c
+      → IsClosed d domain.shape c
   closed domain d c here stands fits none sole blocks tells =
       record {
         of = here.shape;

@@ -22,7 +22,8 @@ module _ {V : Type 0} where
   bears_counted domain d e p w is =
       subst (λ (x : DeskNow V). Bears domain x p) (sym is) (bears_kept domain d (counting (d.held + 1) d) p w refl refl (keeps_endings d) refl)
 
-  pub fits_empty : (d e : DeskNow V) (ss : List Slot) (h : Shared) → Fits d ss → h.block ≡ None → e ≡ counting (d.held + 1) d → Fits e (Some (Owner h) ∷ ss)
+  pub fits_empty : (d e : DeskNow V) (ss : List Slot) (h : Shared) → Fits d ss → h.block ≡ None → e ≡ counting (d.held + 1) d
+      → Fits e (Some (Owner h) ∷ ss)
   fits_empty d e ss h fits none is =
       subst (λ (x : DeskNow V). Fits x (Some (Owner h) ∷ ss)) (sym is)
       (fits_more d (counting (d.held + 1) d) ss (Owner h) fits (ap (λ (b : Option Block). with_handle kind.Owner b h.place (bag_of d)) (sym none)) refl)

@@ -1,5 +1,6 @@
 -- Handles go into slots and out of them, and the desk holds just those that are there.
-use Rattle.std.proofs.Common.{◌≡◌, ℕ, zero, suc, ◌+◌, ◌<◌, ◌≤◌, Bool, true, false, cond, List, [], ◌∷◌, ◌++◌, length, set, Option, Some, None}
+use Rattle.std.proofs.Common.{◌≡◌, ℕ, zero, suc, ◌+◌, ◌<◌, ◌≤◌, Bool, true, false, cond, List, [], ◌∷◌, ◌++◌, length, set}
+use Rattle.std.proofs.Common.{Option, Some, None}
 use Rattle.std.proofs.Common.{refl, sym, ap, ◌∙◌, ⊎_elim, ◌⊎◌, inl, inr, arith}
 use Rattle.std.specs.Prelude.{slice_get}
 use Rattle.std.specs.List.{sum_by}
@@ -118,7 +119,8 @@ module _ {V : Type 0} where
   pub fits_at : (d : DeskNow V) (ss : List Slot) (i : ℕ) (h : Held) → Fits d ss → slice_get ss i ≡ Some (Some h) → IsHeld d h
   fits_at d ss i (Owner h) fits at = go kind.Owner h.block h.place (Owner h) at refl
     where
-      go : (k : Kind) (b : Option Block) (p : Option Place) (x : Held) → slice_get ss i ≡ Some (Some x) → as_listed x ≡ handle k (number_of b) p → Holds d k b p
+      go : (k : Kind) (b : Option Block) (p : Option Place) (x : Held) → slice_get ss i ≡ Some (Some x)
+          → as_listed x ≡ handle k (number_of b) p → Holds d k b p
       go k None p x at is =
           let less = spread_less ss i x at (ap has_object is) in
           let a = fits.bag (λ h. 1) in let b = total_one (bag_of d) in let c = fits.held in omega arith
@@ -131,7 +133,8 @@ module _ {V : Type 0} where
           counted_has h (bag_of d) (omega arith)
   fits_at d ss i (Weak h) fits at = go kind.Weak h.block h.place (Weak h) at refl
     where
-      go : (k : Kind) (b : Option Block) (p : Option Place) (x : Held) → slice_get ss i ≡ Some (Some x) → as_listed x ≡ handle k (number_of b) p → Holds d k b p
+      go : (k : Kind) (b : Option Block) (p : Option Place) (x : Held) → slice_get ss i ≡ Some (Some x)
+          → as_listed x ≡ handle k (number_of b) p → Holds d k b p
       go k None p x at is =
           let less = spread_less ss i x at (ap has_object is) in
           let a = fits.bag (λ h. 1) in let b = total_one (bag_of d) in let c = fits.held in omega arith
@@ -158,7 +161,8 @@ module _ {V : Type 0} where
       go k (Some b) p holds = total_without f (handle k (Some b.0) p) (bag_of d) holds
 
   -- a handle came, and is in hand
-  pub fits_more : (d e : DeskNow V) (ss : List Slot) (h : Held) → Fits d ss → bag_of e ≡ with_held h (bag_of d) → e.held ≡ d.held + 1 → Fits e (Some h ∷ ss)
+  pub fits_more : (d e : DeskNow V) (ss : List Slot) (h : Held) → Fits d ss → bag_of e ≡ with_held h (bag_of d) → e.held ≡ d.held + 1
+      → Fits e (Some h ∷ ss)
   fits_more d e ss h fits bag held =
       record {
         bag = λ f. let a = fits.bag f in let b = ap (total f) bag in let c = came f h (bag_of d) in omega arith;
@@ -166,7 +170,8 @@ module _ {V : Type 0} where
       }
 
   -- it went into a slot, and what lay there is in hand
-  pub fits_swap : (d : DeskNow V) (ss : List Slot) (i : ℕ) (x old : Slot) → Fits d (x ∷ ss) → slice_get ss i ≡ Some old → Fits d (old ∷ set ss i x)
+  pub fits_swap : (d : DeskNow V) (ss : List Slot) (i : ℕ) (x old : Slot) → Fits d (x ∷ ss) → slice_get ss i ≡ Some old
+      → Fits d (old ∷ set ss i x)
   fits_swap d ss i x old fits at =
       record {
         bag = λ f. let a = fits.bag f in let b = total_set (worth f) ss i old x at in omega arith;
@@ -185,7 +190,8 @@ module _ {V : Type 0} where
   fits_out d ss i h fits at = fits_swap d ss i None (Some h) (fits_hand d ss fits) at
 
   -- what is in hand left the desk
-  pub fits_less : (d e : DeskNow V) (ss : List Slot) (h : Held) → Fits d (Some h ∷ ss) → bag_of e ≡ without_held h (bag_of d) → e.held + 1 ≡ d.held → Fits e ss
+  pub fits_less : (d e : DeskNow V) (ss : List Slot) (h : Held) → Fits d (Some h ∷ ss) → bag_of e ≡ without_held h (bag_of d)
+      → e.held + 1 ≡ d.held → Fits e ss
   fits_less d e ss h fits bag held =
       let is : IsHeld d h = fits_at d (Some h ∷ ss) 0 h fits refl in
       record {
@@ -194,7 +200,8 @@ module _ {V : Type 0} where
       }
 
   -- what is in hand was exchanged for another
-  pub fits_exchange : (d e : DeskNow V) (ss : List Slot) (x y : Held) → Fits d (Some x ∷ ss) → bag_of e ≡ with_held y (without_held x (bag_of d)) → e.held ≡ d.held
+  pub fits_exchange : (d e : DeskNow V) (ss : List Slot) (x y : Held) → Fits d (Some x ∷ ss)
+      → bag_of e ≡ with_held y (without_held x (bag_of d)) → e.held ≡ d.held
       → Fits e (Some y ∷ ss)
   fits_exchange d e ss x y fits bag held =
       let is : IsHeld d x = fits_at d (Some x ∷ ss) 0 x fits refl in

@@ -68,7 +68,8 @@ get_below (s ∷ ss) (suc k) (suc n) x y lt e = get_below ss k n x y (omega arit
 free_front : (ss ts : List Slot) (x : Slot) → AreFree ss (ts ++ x ∷ []) → AreFree ss ts
 free_front ss ts x free k h e = free k h (get_front ts (x ∷ []) k (Some h) e)
 
-pub free_here : (ss all ts : List Slot) (h : Held) (x : Slot) → AreFree ss all → all ≡ ts ++ x ∷ [] → x ≡ Some h → slice_get ss (length ts) ≡ Some None
+pub free_here : (ss all ts : List Slot) (h : Held) (x : Slot) → AreFree ss all → all ≡ ts ++ x ∷ [] → x ≡ Some h
+    → slice_get ss (length ts) ≡ Some None
 free_here ss all ts h x free is same =
     free (length ts) h ((λ i. slice_get (is i) (length ts)) ∙ (get_last ts x ∙ ap Some same))
 
@@ -81,14 +82,16 @@ next_none ss all ts goal x free e is same = (
 )
 
 -- there is such a slot, and nothing was in it
-pub room : (ss all ts : List Slot) (h : Held) (x : Slot) (n : ℕ) → AreFree ss all → all ≡ ts ++ x ∷ [] → x ≡ Some h → n ≡ length ts → n < length ss
+pub room : (ss all ts : List Slot) (h : Held) (x : Slot) (n : ℕ) → AreFree ss all → all ≡ ts ++ x ∷ [] → x ≡ Some h
+    → n ≡ length ts → n < length ss
 room ss all ts h x n free is same at = let low = get_low ss (length ts) None (free_here ss all ts h x free is same) in omega arith
 
 pub nothing : (ss all ts : List Slot) (h : Held) (x y : Slot) (n : ℕ) → AreFree ss all → all ≡ ts ++ x ∷ [] → x ≡ Some h → n ≡ length ts
     → slice_get ss n ≡ Some y → y ≡ None
 nothing ss all ts h x y n free is same at e = let here = free_here ss all ts h x free is same in cc (ap (slice_get ss) at)
 
-pub next_some : (ss all ts new goal : List Slot) (h : Held) (x : Slot) → AreFree ss all → together ss all ≡ goal → all ≡ ts ++ x ∷ [] → x ≡ Some h
+pub next_some : (ss all ts new goal : List Slot) (h : Held) (x : Slot) → AreFree ss all → together ss all ≡ goal
+    → all ≡ ts ++ x ∷ [] → x ≡ Some h
     → (n : ℕ) → n ≡ length ts → new ≡ set ss n (Some h) → AreFree new ts × (together new ts ≡ goal)
 next_some ss all ts new goal h x free e is same n at set_there =
     let put : new ≡ set ss (length ts) (Some h) = set_there ∙ ap (λ (k : ℕ). set ss k (Some h)) at in
@@ -182,7 +185,8 @@ module _ {V : Type 0} where
 
   -- both tables are whole, and so is the one that they become
   pub joined_whole : (named here there : DomainNow) (d other e : DeskNow V) (ss ts now : List Slot) (p q r : Pile V) → IsWhole named here d ss p
-      → IsWhole named there other ts q → AreFree ss ts → now ≡ together ss ts → JoinsWith d other e → IsPermutation (bag_of d ++ bag_of other) (bag_of e)
+      → IsWhole named there other ts q → AreFree ss ts → now ≡ together ss ts → JoinsWith d other e
+      → IsPermutation (bag_of d ++ bag_of other) (bag_of e)
       → e.held ≡ d.held + other.held → KeepsEndings d e × KeepsEndings other e → endings_of e ≡ endings_of d + endings_of other
       → r.endings.items ≡ p.endings.items ++ q.endings.items → vec_capacity p.endings ≤ vec_capacity r.endings → IsWhole named here e now r
   joined_whole named here there d other e ss ts now p q r w v free are joins bags held keeps count piles room =
@@ -193,7 +197,8 @@ module _ {V : Type 0} where
           belongs = record { table = joins.same.0 ∙ w.bears.belongs.table; shape = joins.same.1 ∙ w.bears.belongs.shape };
           ends = subst (AllEnd e) (sym piles) (all_both d other e p.endings.items q.endings.items shape joins keeps.0 w.bears.ends v.bears.ends
               (all_kept other e q.endings.items keeps.1 v.bears.ends));
-          many = let a = ap length piles in let b = length-append p.endings.items q.endings.items in let x = w.bears.many in let y = v.bears.many in omega arith;
+          many = let a = ap length piles in let b = length-append p.endings.items q.endings.items in let x = w.bears.many in
+              let y = v.bears.many in omega arith;
           room = let a = w.bears.room in omega arith;
         };
         fits = subst (Fits e) (sym are) record {

@@ -20,6 +20,7 @@ module _ {V R F : Type 0} (changes : V → R → V → Type 0) (f : F) where
   not_visited d e (Some b) p r is = absurd is
 
   pub visited : (s t u : TableNow V) (i : ℕ) (of : Shared) (answer : R) → IsAt s i (Owner of)
-      → IsVisit changes f s.desk of.block of.place (Ok answer) u.desk → u.slots ≡ s.slots → u.endings ≡ s.endings → s ≡ t → Visits changes f t i answer u
+      → IsVisit changes f s.desk of.block of.place (Ok answer) u.desk → u.slots ≡ s.slots → u.endings ≡ s.endings → s ≡ t
+      → Visits changes f t i answer u
   visited s t u i of answer at event slots endings same =
       subst (λ (x : TableNow V). Visits changes f x i answer u) same record { of = of; at = at; event = event; rest = (slots, endings) }

@@ -1,5 +1,6 @@
 -- What is true of a whole table stays true.
-use Rattle.std.proofs.Common.{◌≡◌, ℕ, zero, suc, ◌+◌, List, [], ◌∷◌, ◌++◌, set, Option, Some, None, refl, sym, ap, subst, arith, length, ◌∙◌}
+use Rattle.std.proofs.Common.{◌≡◌, ℕ, zero, suc, ◌+◌, List, [], ◌∷◌, ◌++◌, set, Option, Some, None, refl, sym, ap, subst, arith, length}
+use Rattle.std.proofs.Common.{◌∙◌}
 use Rattle.std.specs.Prelude.{slice_get, Err}
 use Rattle.std.specs.List.Sorted.{IsPermutation}
 use Rattle.control_word.specs.Histories.{leads}
@@ -95,7 +96,8 @@ module _ {V : Type 0} where
       }
 
   -- a split without handles: the new table, and what is left of the old one
-  pub split_new : (named domain : DomainNow) (d e new : DeskNow V) (a k : ℕ) (hs : List Held) (ss rs : List Slot) (p q : Pile V) → IsWhole named domain d ss p
+  pub split_new : (named domain : DomainNow) (d e new : DeskNow V) (a k : ℕ) (hs : List Held) (ss rs : List Slot) (p q : Pile V)
+      → IsWhole named domain d ss p
       → SplitsOff d a k hs e new → hs ≡ [] → AllVacant rs → ((x : DeskNow V) → Belongs x domain → endings_of x ≡ 0 → Bears domain x q)
       → IsWhole named domain new rs q
   split_new named domain d e new a k hs ss rs p q w parts none all bears =
@@ -116,5 +118,6 @@ module _ {V : Type 0} where
             (let h = parts.held.1 in let z : length hs ≡ 0 = ap length none in omega arith);
       }
 
-  pub same_whole : (named domain : DomainNow) (d e : DeskNow V) (ss : List Slot) (p : Pile V) → IsWhole named domain d ss p → e ≡ d → IsWhole named domain e ss p
+  pub same_whole : (named domain : DomainNow) (d e : DeskNow V) (ss : List Slot) (p : Pile V) → IsWhole named domain d ss p → e ≡ d
+      → IsWhole named domain e ss p
   same_whole named domain d e ss p w same = subst (λ (x : DeskNow V). IsWhole named domain x ss p) (sym same) w

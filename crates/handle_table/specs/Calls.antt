@@ -1,5 +1,6 @@
 -- What the calls of a handle table say.
-use Rattle.std.specs.Prelude.{◌≡◌, ◌⊎◌, ℕ, ◌≤◌, Bool, false, true, is_some, List, [], ◌∷◌, length, slice_get, slice_set, Option, None, Some, Result, Err}
+use Rattle.std.specs.Prelude.{◌≡◌, ◌⊎◌, ℕ, ◌≤◌, Bool, false, true, is_some, List, [], ◌∷◌}
+use Rattle.std.specs.Prelude.{length, slice_get, slice_set, Option, None, Some, Result, Err}
 use Rattle.control_word.specs.declared.handle.Kind.TheVariants as kind
 use Rattle.control_word.specs.declared.place.Block.{Block}
 use Rattle.control_word.specs.declared.place.Place.{Place}
@@ -34,10 +35,12 @@ WhyNoHandle ss i why = ⊥
 
 -- and why no owner, or no weak handle: it has one of the other kind
 abbrev pub WhyNoOwner : List Slot → ℕ → Fault → Type 0
-WhyNoOwner ss i why = WhyNoHandle ss i why ⊎ ((why ≡ fault.Kind) × ((w : weak_handle.Weak) × (slice_get ss i ≡ Some (Some (Weak w)))))
+WhyNoOwner ss i why = WhyNoHandle ss i why
+    ⊎ ((why ≡ fault.Kind) × ((w : weak_handle.Weak) × (slice_get ss i ≡ Some (Some (Weak w)))))
 
 abbrev pub WhyNoWeak : List Slot → ℕ → Fault → Type 0
-WhyNoWeak ss i why = WhyNoHandle ss i why ⊎ ((why ≡ fault.Kind) × ((h : Shared) × (slice_get ss i ≡ Some (Some (Owner h)))))
+WhyNoWeak ss i why = WhyNoHandle ss i why
+    ⊎ ((why ≡ fault.Kind) × ((h : Shared) × (slice_get ss i ≡ Some (Some (Owner h)))))
 
 -- there is no such slot to fill
 abbrev pub IsNoSlot : List Slot → ℕ → Fault → Type 0
@@ -60,7 +63,8 @@ module _ {V : Type 0} where
   LeavesSlot d xs (Some h) e ys = (gone : Gone) × LetsGo d xs h gone e ys
 
   -- the handle is in the slot now, and what lay there left: an assignment
-  pub record Assigns (d : DeskNow V) (ss : List Slot) (xs : List (Ending V)) (to : ℕ) (h : Held) (e : DeskNow V) (ts : List Slot)
+  pub record Assigns (d : DeskNow V) (ss : List Slot) (xs : List (Ending V)) (to : ℕ) (h : Held)
+      (e : DeskNow V) (ts : List Slot)
       (ys : List (Ending V)) : Type 0 where
     pub old : Slot
     pub was : slice_get ss to ≡ Some old
@@ -68,39 +72,48 @@ module _ {V : Type 0} where
     pub leaves : LeavesSlot d xs old e ys
 
   -- a handle came to the desk as told, and was assigned to the slot
-  pub record Comes (came : DeskNow V → Held → DeskNow V → Type 0) (t : TableNow V) (to : ℕ) (u : TableNow V) : Type 0 where
+  pub record Comes (came : DeskNow V → Held → DeskNow V → Type 0) (t : TableNow V) (to : ℕ)
+      (u : TableNow V) : Type 0 where
     pub handle : Held
     pub between : DeskNow V
     pub comes : came t.desk handle between
     pub assigns : Assigns between t.slots t.endings to handle u.desk u.slots u.endings
 
   -- an owner, or a weak handle, came by a call of the desk's
-  pub record IsOwner (by : DeskNow V → Shared → DeskNow V → Type 0) (d : DeskNow V) (h : Held) (e : DeskNow V) : Type 0 where
+  pub record IsOwner (by : DeskNow V → Shared → DeskNow V → Type 0) (d : DeskNow V) (h : Held)
+      (e : DeskNow V) : Type 0 where
     pub owner : Shared
     pub is : h ≡ Owner owner
     pub event : by d owner e
 
-  pub record IsWeak (by : DeskNow V → weak_handle.Weak → DeskNow V → Type 0) (d : DeskNow V) (h : Held) (e : DeskNow V) : Type 0 where
+  pub record IsWeak (by : DeskNow V → weak_handle.Weak → DeskNow V → Type 0) (d : DeskNow V) (h : Held)
+      (e : DeskNow V) : Type 0 where
     pub weak : weak_handle.Weak
     pub is : h ≡ Weak weak
     pub event : by d weak e
 
   -- a new object's owner ([util.smartptr.shared.create])
   abbrev pub Makes : TableNow V → ℕ → Bool → List ℕ → V → TableNow V → Type 0
-  Makes t to enabled fields x u = Comes (IsOwner (λ d h e. inner.Makes d enabled false fields x h.block h.place e)) t to u
+  Makes t to enabled fields x u =
+      Comes (IsOwner (λ d h e. inner.Makes d enabled false fields x h.block h.place e)) t to u
 
   -- a new owner of the null pointer ([util.smartptr.shared.const])
   abbrev pub MakesNull : TableNow V → ℕ → V → TableNow V → Type 0
-  MakesNull t to x u = Comes (IsOwner (λ d h e. inner.Makes d false true (0 ∷ 0 ∷ 0 ∷ 0 ∷ []) x h.block h.place e)) t to u
+  MakesNull t to x u = Comes
+      (IsOwner (λ d h e. inner.Makes d false true (0 ∷ 0 ∷ 0 ∷ 0 ∷ []) x h.block h.place e)) t to u
 
   -- there is no vacant block for it
   abbrev pub WhyNotMade : TableNow V → ℕ → Fault → Type 0
-  WhyNotMade t to why = IsNoSlot t.slots to why ⊎ (IsAtLimit t why ⊎ ((why ≡ fault.Call Full) × (stock_of t.desk ≡ [])))
+  WhyNotMade t to why = IsNoSlot t.slots to why
+      ⊎ (IsAtLimit t why ⊎ ((why ≡ fault.Call Full) × (stock_of t.desk ≡ [])))
 
-  -- a copy of a handle: it is of the same object, and points where that does ([util.smartptr.shared.const], [util.smartptr.weak.const])
+  -- a copy of a handle: it is of the same object, and points where that does ([util.smartptr.shared.const],
+  -- [util.smartptr.weak.const])
   abbrev pub IsCopy : Held → DeskNow V → Held → DeskNow V → Type 0
-  IsCopy (Owner h) = IsOwner (λ d k e. (k.block ≡ h.block) × (k.place ≡ h.place) × inner.Shares d h.block h.place h.place e)
-  IsCopy (Weak w) = IsWeak (λ d k e. (k.block ≡ w.block) × (k.place ≡ inner.weak_place w.block w.place) × inner.SharesWeakly d w.block w.place e)
+  IsCopy (Owner h) = IsOwner
+      (λ d k e. (k.block ≡ h.block) × (k.place ≡ h.place) × inner.Shares d h.block h.place h.place e)
+  IsCopy (Weak w) = IsWeak (λ d k e. (k.block ≡ w.block) × (k.place ≡ inner.weak_place w.block w.place)
+      × inner.SharesWeakly d w.block w.place e)
 
   pub record Copies (t : TableNow V) (from to : ℕ) (u : TableNow V) : Type 0 where
     pub of : Held
@@ -114,7 +127,8 @@ module _ {V : Type 0} where
   pub record Downgrades (t : TableNow V) (from to : ℕ) (u : TableNow V) : Type 0 where
     pub of : Shared
     pub at : IsAt t from (Owner of)
-    pub weak : Comes (IsWeak (λ d k e. (k.block ≡ of.block) × (k.place ≡ inner.weak_place of.block of.place) × inner.SharesWeakly d of.block of.place e)) t to u
+    pub weak : Comes (IsWeak (λ d k e. (k.block ≡ of.block) × (k.place ≡ inner.weak_place of.block of.place)
+        × inner.SharesWeakly d of.block of.place e)) t to u
 
   abbrev pub WhyNotDowngraded : TableNow V → ℕ → ℕ → Fault → Type 0
   WhyNotDowngraded t from to why = IsNoSlot t.slots to why ⊎ (WhyNoOwner t.slots from why ⊎ IsAtLimit t why)
@@ -123,7 +137,8 @@ module _ {V : Type 0} where
   pub record Locks (t : TableNow V) (from to : ℕ) (got : Bool) (u : TableNow V) : Type 0 where
     pub of : weak_handle.Weak
     pub at : IsAt t from (Weak of)
-    pub owner : Comes (IsOwner (λ d k e. (got ≡ is_some k.block) × locks.IsOwnerOf of.block of.place got k × locks.Locks d of.block of.place got e)) t to u
+    pub owner : Comes (IsOwner (λ d k e. (got ≡ is_some k.block) × locks.IsOwnerOf of.block of.place got k
+        × locks.Locks d of.block of.place got e)) t to u
 
   abbrev pub WhyNotLocked : TableNow V → ℕ → ℕ → Fault → Type 0
   WhyNotLocked t from to why = IsNoSlot t.slots to why ⊎ (WhyNoWeak t.slots from why ⊎ IsAtLimit t why)

@@ -1,6 +1,7 @@
--- What the calls on cells say: on free ones, and on members of objects that owners in slots own ([util.smartptr.atomic.shared],
--- [util.smartptr.atomic.weak]; members: own).
-use Rattle.std.specs.Prelude.{◌≡◌, ◌⊎◌, ℕ, ◌+◌, ◌<◌, ◌≤◌, List, slice_get, slice_set, None, Some}
+-- What the calls on cells say: on free ones, and on members of objects that owners in slots own
+-- ([util.smartptr.atomic.shared], [util.smartptr.atomic.weak]; members: own).
+use Rattle.std.specs.Prelude.{◌≡◌, ◌⊎◌, ℕ, ◌+◌, ◌<◌, ◌≤◌, List, slice_get, slice_set, None}
+use Rattle.std.specs.Prelude.{Some}
 use Rattle.control_word.specs.declared.handle.Kind.{Kind}
 use Rattle.control_word.specs.declared.handle.Kind.TheVariants as kind
 use Rattle.control_word.specs.declared.place.Block.{Block}
@@ -44,10 +45,12 @@ pub record OwnsInto (ss : List Slot) (i : ℕ) (b : Block) : Type 0 where
 
 -- or not: it has no owner, or one that doesn't point into what it owns
 abbrev pub PointsAway : Shared → Fault → Type 0
-PointsAway h why = ((why ≡ fault.Call Null) × (h.place ≡ None)) ⊎ ((why ≡ fault.Call Outside) × IsOutside h.block h.place)
+PointsAway h why = ((why ≡ fault.Call Null) × (h.place ≡ None))
+    ⊎ ((why ≡ fault.Call Outside) × IsOutside h.block h.place)
 
 abbrev pub WhyNoObject : List Slot → ℕ → Fault → Type 0
-WhyNoObject ss i why = WhyNoOwner ss i why ⊎ ((h : Shared) × (slice_get ss i ≡ Some (Some (Owner h))) × PointsAway h why)
+WhyNoObject ss i why = WhyNoOwner ss i why
+    ⊎ ((h : Shared) × (slice_get ss i ≡ Some (Some (Owner h))) × PointsAway h why)
 
 -- where the cell is: the free weak ones stand behind the free shared ones
 abbrev pub IsCell : Shape → List Slot → Cell → Site → Type 0
@@ -76,7 +79,8 @@ module _ {V : Type 0} where
   pub record Loads (t : TableNow V) (c : Cell) (to : ℕ) (u : TableNow V) : Type 0 where
     pub site : Site
     pub is : IsCell t.desk.shape t.slots c site
-    pub loads : Comes (λ d h e. (kind_of h ≡ kind_in c) × cells.Loads d (cell_at d site) (kind_in c) (owned_by h) (place_of h) e) t to u
+    pub loads : Comes (λ d h e. (kind_of h ≡ kind_in c)
+        × cells.Loads d (cell_at d site) (kind_in c) (owned_by h) (place_of h) e) t to u
 
   abbrev pub WhyNotLoaded : TableNow V → Cell → ℕ → Fault → Type 0
   WhyNotLoaded t c to why = IsNoSlot t.slots to why ⊎ (WhyNoCell t.desk.shape t.slots c why ⊎ IsAtLimit t why)
@@ -88,7 +92,8 @@ module _ {V : Type 0} where
     pub of : Held
     pub at : IsAt t from of
     pub kinds : (kind_of of ≡ kind_in c) × (kind_of old ≡ kind_in c)
-    pub exchanges : cells.Exchanges t.desk (cell_at t.desk site) (kind_in c) (owned_by of) (place_of of) (owned_by old) (place_of old) e
+    pub exchanges : cells.Exchanges t.desk (cell_at t.desk site) (kind_in c) (owned_by of) (place_of of)
+        (owned_by old) (place_of old) e
 
   -- and left; the slot is vacant
   pub record Stores (t : TableNow V) (from : ℕ) (c : Cell) (gone : Gone) (u : TableNow V) : Type 0 where

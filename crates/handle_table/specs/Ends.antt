@@ -13,7 +13,8 @@ use Rattle.handle_table.specs.declared.ends.Remains.TheVariants.{Fields, Null}
 -- what an object was made as
 abbrev pub IsMadeAs : Object → Remains → Type 0
 IsMadeAs o Null = o.null ≡ true
-IsMadeAs o (Fields fields) = (o.null ≡ false) × ((k : ℕ) → k < 4 → slice_index fields k ≡ slice_index o.fields k)
+IsMadeAs o (Fields fields) = (o.null ≡ false)
+    × ((k : ℕ) → k < 4 → slice_index fields k ≡ slice_index o.fields k)
 
 module _ {V : Type 0} where
   -- the object that was last left to end was made as that

@@ -13,11 +13,13 @@ use Rattle.handle_table.specs.declared.fault.Fault.TheVariants as fault
 module _ {V : Type 0} where
   -- an owner of nothing was assigned to a slot; it is only counted ([util.smartptr.shared.const])
   abbrev pub Empties : TableNow V → ℕ → TableNow V → Type 0
-  Empties t to u = Comes (IsOwner (λ d h e. (h.block ≡ None) × (h.place ≡ None) × (e ≡ counting (d.held + 1) d))) t to u
+  Empties t to u =
+      Comes (IsOwner (λ d h e. (h.block ≡ None) × (h.place ≡ None) × (e ≡ counting (d.held + 1) d))) t to u
 
   -- and a weak handle on nothing ([util.smartptr.weak.const])
   abbrev pub EmptiesWeakly : TableNow V → ℕ → TableNow V → Type 0
-  EmptiesWeakly t to u = Comes (IsWeak (λ d h e. (h.block ≡ None) × (h.place ≡ None) × (e ≡ counting (d.held + 1) d))) t to u
+  EmptiesWeakly t to u = Comes
+      (IsWeak (λ d h e. (h.block ≡ None) × (h.place ≡ None) × (e ≡ counting (d.held + 1) d))) t to u
 
   abbrev pub WhyNotEmptied : TableNow V → ℕ → Fault → Type 0
   WhyNotEmptied t to why = IsNoSlot t.slots to why ⊎ IsAtLimit t why
@@ -38,4 +40,5 @@ module _ {V : Type 0} where
     pub rest : (u.slots ≡ t.slots) × (u.endings ≡ t.endings)
 
   abbrev pub WhyNotUpgraded : TableNow V → ℕ → ℕ → Fault → TableNow V → Type 0
-  WhyNotUpgraded t from to why u = ((IsNoSlot t.slots to why ⊎ WhyNoWeak t.slots from why) × (u ≡ t)) ⊎ GivesNoOwner t from why u
+  WhyNotUpgraded t from to why u = ((IsNoSlot t.slots to why ⊎ WhyNoWeak t.slots from why) × (u ≡ t))
+      ⊎ GivesNoOwner t from why u

@@ -1,5 +1,6 @@
 -- What the calls say by which tables part and come together.
-use Rattle.std.specs.Prelude.{◌≡◌, ◌⊎◌, ◌↔◌, ℕ, ◌+◌, ◌-◌, ◌<◌, ◌≤◌, List, [], ◌∷◌, ◌++◌, drop, length, replicate, slice_get, take, None, Some}
+use Rattle.std.specs.Prelude.{◌≡◌, ◌⊎◌, ◌↔◌, ℕ, ◌+◌, ◌-◌, ◌<◌, ◌≤◌, List, []}
+use Rattle.std.specs.Prelude.{◌∷◌, ◌++◌, drop, length, replicate, slice_get, take, None, Some}
 use Rattle.control_word.specs.declared.refusal.Refusal.{Refusal}
 use Rattle.control_word.specs.declared.refusal.Refusal.TheVariants.{Full, Limit, Memory}
 use Rattle.control_block.specs.Desks.{DeskNow, allowance_of, stock_of}
@@ -19,7 +20,8 @@ handles_from n ss = handles_in (drop n ss)
 
 -- what is in the slots from number n on went into the slots of the same numbers of another table, which was vacant
 abbrev pub HandsOver : List Slot → ℕ → List Slot → List Slot → Type 0
-HandsOver ss n kept given = (kept ≡ take n ss ++ replicate (length ss - n) None) × (given ≡ replicate n None ++ drop n ss)
+HandsOver ss n kept given = (kept ≡ take n ss ++ replicate (length ss - n) None)
+    × (given ≡ replicate n None ++ drop n ss)
 
 -- where the second table has a handle, the first has a vacant slot
 abbrev pub IsFree : List Slot → List Slot → ℕ → Type 0
@@ -65,7 +67,8 @@ module _ {V : Type 0} where
   -- there are no such slots, or else the desk gives no such part
   pub record WhyNotSplit (t : TableNow V) (from a k : ℕ) (why : Fault) : Type 0 where
     pub slots : why ≡ fault.Slot ↔ (length t.slots < from)
-    pub part : (why ≡ fault.Slot) ⊎ ((r : Refusal) × (why ≡ fault.Call r) × WhyNoPart t.desk a k (length (handles_from from t.slots)) r)
+    pub part : (why ≡ fault.Slot)
+        ⊎ ((r : Refusal) × (why ≡ fault.Call r) × WhyNoPart t.desk a k (length (handles_from from t.slots)) r)
 
   -- another table's part came, its handles into the slots of their numbers, and what is left to end with it on top
   pub record Joins (t other u : TableNow V) : Type 0 where
@@ -78,7 +81,8 @@ module _ {V : Type 0} where
   -- the handles left their slots, the last one first, and what ended for them went onto the pile
   abbrev pub LeaveSlots : DeskNow V → List (Ending V) → List Slot → DeskNow V → List (Ending V) → Type 0
   LeaveSlots d xs [] e ys = (e ≡ d) × (ys ≡ xs)
-  LeaveSlots d xs (s ∷ ss) e ys = (m : DeskNow V) × (zs : List (Ending V)) × LeaveSlots d xs ss m zs × LeavesSlot m zs s e ys
+  LeaveSlots d xs (s ∷ ss) e ys = (m : DeskNow V) × (zs : List (Ending V)) × LeaveSlots d xs ss m zs
+      × LeavesSlot m zs s e ys
 
   -- all handles left, and then all that was left to end did so
   pub record WindsUp (t : TableNow V) (e : DeskNow V) : Type 0 where

@@ -42,8 +42,8 @@ module _ {V : Type 0} where
     pub new : IsNew team.slots first
     pub out : WorksOut first team manned last
 
-  -- A domain was closed by a desk that had the whole allowance, so that every other one was joined and it has seen all. No
-  -- handle was left with it and nothing to end; and the census tells of all blocks
+  -- A domain was closed by a desk that had the whole allowance, so that every other one was joined and it has seen all.
+  -- No handle was left with it and nothing to end; and the census tells of all blocks
   pub record IsClosed (last : DeskNow V) (shape : Shape) (c : CensusNow) : Type 0 where
     pub of : last.shape ≡ shape
     pub sole : IsSole last

@@ -17,18 +17,21 @@ module _ {V : Type 0} where
     pub of : Shared
     pub at : IsAt t from (Owner of)
     pub may : MayGiveThis t.desk of.block of.place
-    pub this : Comes (IsOwner (λ d k e. (k.block ≡ of.block) × inner.IsOfThis k.block k.place × inner.Shares d of.block of.place k.place e)) t to u
+    pub this : Comes (IsOwner (λ d k e. (k.block ≡ of.block) × inner.IsOfThis k.block k.place
+        × inner.Shares d of.block of.place k.place e)) t to u
 
   -- and a weak handle
   pub record SharesThisWeakly (t : TableNow V) (from to : ℕ) (u : TableNow V) : Type 0 where
     pub of : Shared
     pub at : IsAt t from (Owner of)
     pub may : MayGiveThis t.desk of.block of.place
-    pub this : Comes (IsWeak (λ d k e. (k.block ≡ of.block) × inner.IsOfThis k.block k.place × inner.SharesWeakly d k.block k.place e)) t to u
+    pub this : Comes (IsWeak (λ d k e. (k.block ≡ of.block) × inner.IsOfThis k.block k.place
+        × inner.SharesWeakly d k.block k.place e)) t to u
 
   -- the owner gives none
   abbrev pub IsNoThis : TableNow V → ℕ → Fault → Type 0
-  IsNoThis t of why = (h : Shared) × IsAt t of (Owner h) × ((r : Refusal) × (why ≡ fault.Call r) × WhyNotThis t.desk h.block h.place r)
+  IsNoThis t of why = (h : Shared) × IsAt t of
+      (Owner h) × ((r : Refusal) × (why ≡ fault.Call r) × WhyNotThis t.desk h.block h.place r)
 
   abbrev pub WhyNoThis : TableNow V → ℕ → ℕ → Fault → Type 0
   WhyNoThis t of to why = IsNoSlot t.slots to why ⊎ (WhyNoOwner t.slots of why ⊎ IsNoThis t of why)
@@ -37,7 +40,9 @@ module _ {V : Type 0} where
   pub record Aliases (t : TableNow V) (from : ℕ) (p : Option Place) (to : ℕ) (u : TableNow V) : Type 0 where
     pub of : Shared
     pub at : IsAt t from (Owner of)
-    pub copy : Comes (IsOwner (λ d k e. (k.block ≡ of.block) × (k.place ≡ p) × inner.Shares d of.block of.place p e)) t to u
+    pub copy : Comes
+        (IsOwner (λ d k e. (k.block ≡ of.block) × (k.place ≡ p) × inner.Shares d of.block of.place p e)) t to u
 
   abbrev pub WhyNoAlias : TableNow V → ℕ → ℕ → Fault → Type 0
-  WhyNoAlias t of to why = IsNoSlot t.slots to why ⊎ ((why ≡ fault.Place) ⊎ (WhyNoOwner t.slots of why ⊎ IsAtLimit t why))
+  WhyNoAlias t of to why = IsNoSlot t.slots to why
+      ⊎ ((why ≡ fault.Place) ⊎ (WhyNoOwner t.slots of why ⊎ IsAtLimit t why))

@@ -20,4 +20,5 @@ module _ {V R F : Type 0} (changes : V → R → V → Type 0) (f : F) where
 module _ {V : Type 0} where
   -- there is no owner, or it owns nothing
   abbrev pub WhyNotVisited : TableNow V → ℕ → Fault → Type 0
-  WhyNotVisited t i why = WhyNoOwner t.slots i why ⊎ ((why ≡ fault.Call Null) × ((h : Shared) × IsAt t i (Owner h) × (h.block ≡ None)))
+  WhyNotVisited t i why = WhyNoOwner t.slots i why
+      ⊎ ((why ≡ fault.Call Null) × ((h : Shared) × IsAt t i (Owner h) × (h.block ≡ None)))

@@ -52,7 +52,8 @@ pub(crate) fn assign<V: Drop + Send>(
     requires there { to < length slots.old.items }
     ensures bears { Bears domain.now desk.new pile.new }
     ensures fits { Fits desk.new slots.new.items }
-    ensures assigns { Assigns desk.old slots.old.items (on_pile pile.old) to handle desk.new slots.new.items (on_pile pile.new) }
+    ensures assigns { Assigns desk.old slots.old.items
+        (on_pile pile.old) to handle desk.new slots.new.items (on_pile pile.new) }
     ensures many { length slots.new.items ≡ length slots.old.items }
 {
     match put(slots, to, handle) {

@@ -1,5 +1,6 @@
 //! Compare-and-swap of cells.
-ghost use Rattle.std.specs.Prelude.{◌≡◌, ◌<◌, ◌∷◌, true, false, length, slice_set, IfErr, IfOk, None, Some};
+ghost use Rattle.std.specs.Prelude.{◌≡◌, ◌<◌, ◌∷◌, true, false, length, slice_set, IfErr, IfOk, None};
+ghost use Rattle.std.specs.Prelude.{Some};
 ghost use Rattle.shared_handle.specs.Piles.{Bears};
 ghost use Rattle.handle_table.specs.Compares.{Compares, Follows, WhyNotCompared};
 ghost use Rattle.handle_table.specs.Tables.{Fits, on_pile};
@@ -45,7 +46,8 @@ fn follow<V: Drop + Send>(
     requires differs { swapped ≡ false → Fits desk.old (Some found ∷ slots.old.items) }
     ensures bears { Bears domain.now desk.new pile.new }
     ensures fits { Fits desk.new slots.new.items }
-    ensures follows { Follows swapped desk.old slots.old.items (on_pile pile.old) found expected desired desk.new slots.new.items (on_pile pile.new) }
+    ensures follows { Follows swapped desk.old slots.old.items
+        (on_pile pile.old) found expected desired desk.new slots.new.items (on_pile pile.new) }
 {
     if swapped {
         vacate(slots, desired);
@@ -65,7 +67,8 @@ impl<'d, V: Drop + Send, H: Home> HandleTable<'d, V, H> {
         desired: usize,
     ) -> Result<bool, Fault>
         ensures compared { IfOk result (λ swapped. Compares F.weak self.old cell expected desired swapped self.new) }
-        ensures refused { IfErr result (λ why. WhyNotCompared self.old cell expected desired why × (self.new ≡ self.old)) }
+        ensures refused { IfErr result
+            (λ why. WhyNotCompared self.old cell expected desired why × (self.new ≡ self.old)) }
     {
         let at = match find(self.domain, &self.desk, &self.slots, cell) {
             Ok(at) => at,
@@ -98,9 +101,9 @@ impl<'d, V: Drop + Send, H: Home> HandleTable<'d, V, H> {
         }
     }
 
-    /// Where the cell holds a pointer equivalent to that in the slot `expected` (the same place, and the same object or none),
-    /// the one in the slot `desired` goes in, and what the cell held leaves: true, and the slot is vacant then. Else a copy of
-    /// what the cell holds is assigned to the slot `expected`, as in C++ ([util.smartptr.atomic.shared],
+    /// Where the cell holds a pointer equivalent to that in the slot `expected` (the same place, and the same object or
+    /// none), the one in the slot `desired` goes in, and what the cell held leaves: true, and the slot is vacant then.
+    /// Else a copy of what the cell holds is assigned to the slot `expected`, as in C++ ([util.smartptr.atomic.shared],
     /// [util.smartptr.atomic.weak]): false, and what was desired stays where it is.
     pub fn compare_exchange_strong<R: Wait>(
         &mut self,
@@ -110,12 +113,14 @@ impl<'d, V: Drop + Send, H: Home> HandleTable<'d, V, H> {
         desired: usize,
     ) -> Result<bool, Fault>
         ensures compared { IfOk result (λ swapped. Compares false self.old cell expected desired swapped self.new) }
-        ensures refused { IfErr result (λ why. WhyNotCompared self.old cell expected desired why × (self.new ≡ self.old)) }
+        ensures refused { IfErr result
+            (λ why. WhyNotCompared self.old cell expected desired why × (self.new ≡ self.old)) }
     {
         self.compare::<Strong, R>(rt, cell, expected, desired)
     }
 
-    /// The same, and it may differ on an equivalent pointer ([util.smartptr.atomic.shared], [util.smartptr.atomic.weak]).
+    /// The same, and it may differ on an equivalent pointer ([util.smartptr.atomic.shared],
+    /// [util.smartptr.atomic.weak]).
     pub fn compare_exchange_weak<R: Wait>(
         &mut self,
         rt: &R,
@@ -124,7 +129,8 @@ impl<'d, V: Drop + Send, H: Home> HandleTable<'d, V, H> {
         desired: usize,
     ) -> Result<bool, Fault>
         ensures compared { IfOk result (λ swapped. Compares true self.old cell expected desired swapped self.new) }
-        ensures refused { IfErr result (λ why. WhyNotCompared self.old cell expected desired why × (self.new ≡ self.old)) }
+        ensures refused { IfErr result
+            (λ why. WhyNotCompared self.old cell expected desired why × (self.new ≡ self.old)) }
     {
         self.compare::<Spurious, R>(rt, cell, expected, desired)
     }

@@ -19,8 +19,8 @@ use control_word::handle::Kind;
 use control_word::{Block, Refusal};
 use shared_handle::{Held, Shared};
 
-/// A cell ([util.smartptr.atomic.shared], [util.smartptr.atomic.weak]): a free one by its number from 0 among those of its
-/// kind, or a member of the object that the owner in slot `of` owns and points into (own).
+/// A cell ([util.smartptr.atomic.shared], [util.smartptr.atomic.weak]): a free one by its number from 0 among those of
+/// its kind, or a member of the object that the owner in slot `of` owns and points into (own).
 #[derive(Clone, Copy, Drop)]
 pub enum Cell {
     /// A free cell of owners.
@@ -121,7 +121,8 @@ pub(crate) fn find<V: Drop + Send>(
 ) -> Result<CellAt, Fault>
     requires domain { Belongs desk.now domain.now }
     requires fits { Fits desk.now slots.now.items }
-    ensures found { IfOk result (λ at. IsCell desk.now.shape slots.now.items cell at.site × (at.kind ≡ kind_in cell)) }
+    ensures found { IfOk result
+        (λ at. IsCell desk.now.shape slots.now.items cell at.site × (at.kind ≡ kind_in cell)) }
     ensures open { IfOk result (λ at. IsOpenAt desk.now at.site at.kind) }
     ensures fault { IfErr result (WhyNoCell desk.now.shape slots.now.items cell) }
 {

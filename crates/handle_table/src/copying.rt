@@ -27,7 +27,8 @@ fn copy_of<V: Drop + Send>(
     ensures bag { IfOk result (λ h. bag_of desk.new ≡ with_held h (bag_of desk.old)) }
     ensures held { OnOk result (desk.new.held ≡ desk.old.held + 1) }
     ensures keeps { OnOk result (Keeps desk.old desk.new) }
-    ensures refused { IfErr result (λ why. (why ≡ Limit) × (held_of desk.old ≡ allowance_of desk.old) × (desk.new ≡ desk.old)) }
+    ensures refused { IfErr result
+        (λ why. (why ≡ Limit) × (held_of desk.old ≡ allowance_of desk.old) × (desk.new ≡ desk.old)) }
 {
     match handle {
         Held::Owner(owner) => match share(domain, desk, owner) {
@@ -42,8 +43,8 @@ fn copy_of<V: Drop + Send>(
 }
 
 impl<'d, V: Drop + Send, H: Home> HandleTable<'d, V, H> {
-    /// A copy of a handle is assigned to a slot ([util.smartptr.shared.assign], [util.smartptr.weak.assign]), which may be the
-    /// handle's own: then the slot has the copy. What lay there leaves.
+    /// A copy of a handle is assigned to a slot ([util.smartptr.shared.assign], [util.smartptr.weak.assign]), which may
+    /// be the handle's own: then the slot has the copy. What lay there leaves.
     pub fn copy(&mut self, from: usize, to: usize) -> Result<(), Fault>
         ensures copied { OnOk result (Copies self.old from to self.new) }
         ensures refused { IfErr result (λ why. WhyNoCopy self.old from to why × (self.new ≡ self.old)) }
@@ -100,8 +101,8 @@ impl<'d, V: Drop + Send, H: Home> HandleTable<'d, V, H> {
         }
     }
 
-    /// A handle goes to another slot ([util.smartptr.shared.assign]), and its own is vacant then. What lay there leaves. A
-    /// handle that is moved to its own slot stays there.
+    /// A handle goes to another slot ([util.smartptr.shared.assign]), and its own is vacant then. What lay there
+    /// leaves. A handle that is moved to its own slot stays there.
     pub fn move_to(&mut self, from: usize, to: usize) -> Result<(), Fault>
         ensures moved { OnOk result (Moves self.old from to self.new) }
         ensures refused { IfErr result (λ why. WhyNotMoved self.old from to why × (self.new ≡ self.old)) }

@@ -8,7 +8,8 @@ use crate::table::{HandleTable, Home};
 use shared_handle::{Held, empty, empty_weak};
 
 impl<'d, V: Drop + Send, H: Home> HandleTable<'d, V, H> {
-    /// An owner of nothing, whose place is null, is assigned to a slot ([util.smartptr.shared.const]). What lay there leaves.
+    /// An owner of nothing, whose place is null, is assigned to a slot ([util.smartptr.shared.const]). What lay there
+    /// leaves.
     pub fn empty(&mut self, to: usize) -> Result<(), Fault>
         ensures emptied { OnOk result (Empties self.old to self.new) }
         ensures refused { IfErr result (λ why. WhyNotEmptied self.old to why × (self.new ≡ self.old)) }

@@ -1,7 +1,8 @@
 //! Why a call on a handle table was not done.
 use control_word::Refusal;
 
-/// What a caller did wrong, or why the call was refused (own). A call that answers one has changed nothing, unless it says so.
+/// What a caller did wrong, or why the call was refused (own). A call that answers one has changed nothing, unless it
+/// says so.
 #[derive(Clone, Copy, PartialEq, Eq, Debug, Drop)]
 pub enum Fault {
     /// The number is none of a slot.

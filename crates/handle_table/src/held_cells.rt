@@ -54,11 +54,13 @@ pub(crate) fn load_held<V: Drop + Send, R: Wait>(
     requires domain { Belongs desk.old domain.now }
     requires cell { IsOpenAt desk.old cell.site cell.kind }
     ensures kind { IfOk result (λ h. kind_of h ≡ cell.kind) }
-    ensures event { IfOk result (λ h. Loads desk.old (cell_at desk.old cell.site) cell.kind (owned_by h) (place_of h) desk.new) }
+    ensures event { IfOk result
+        (λ h. Loads desk.old (cell_at desk.old cell.site) cell.kind (owned_by h) (place_of h) desk.new) }
     ensures bag { IfOk result (λ h. bag_of desk.new ≡ with_held h (bag_of desk.old)) }
     ensures held { OnOk result (desk.new.held ≡ desk.old.held + 1) }
     ensures keeps { OnOk result (Keeps desk.old desk.new) }
-    ensures refused { IfErr result (λ why. (why ≡ Limit) × (held_of desk.old ≡ allowance_of desk.old) × (desk.new ≡ desk.old)) }
+    ensures refused { IfErr result
+        (λ why. (why ≡ Limit) × (held_of desk.old ≡ allowance_of desk.old) × (desk.new ≡ desk.old)) }
 {
     match cell_calls::load::<V, Brand, R>(rt, domain, desk, cell) {
         Ok(found) => Ok(held_of(found)),
@@ -78,7 +80,8 @@ pub(crate) fn exchange_held<V: Drop + Send>(
     requires cell { IsOpenAt desk.old cell.site cell.kind }
     requires held { IsHeld desk.old handle × (kind_of handle ≡ cell.kind) }
     ensures kind { kind_of result ≡ cell.kind }
-    ensures event { Exchanges desk.old (cell_at desk.old cell.site) cell.kind (owned_by handle) (place_of handle) (owned_by result) (place_of result) desk.new }
+    ensures event { Exchanges desk.old (cell_at desk.old cell.site) cell.kind (owned_by handle) (place_of handle)
+        (owned_by result) (place_of result) desk.new }
     ensures bag { bag_of desk.new ≡ with_held result (without_held handle (bag_of desk.old)) }
     ensures held { desk.new.held ≡ desk.old.held }
     ensures keeps { Keeps desk.old desk.new }
@@ -88,8 +91,8 @@ pub(crate) fn exchange_held<V: Drop + Send>(
     held_of(old)
 }
 
-/// Where the cell holds what is expected, the new handle goes in, and what the cell held comes out: true. Else a copy of what
-/// it holds: false. A weak compare may differ all the same.
+/// Where the cell holds what is expected, the new handle goes in, and what the cell held comes out: true. Else a copy
+/// of what it holds: false. A weak compare may differ all the same.
 pub(crate) fn compare_held<V: Drop + Send, F: Form, R: Wait>(
     rt: &R,
     domain: &Domain<V>,
@@ -100,14 +103,18 @@ pub(crate) fn compare_held<V: Drop + Send, F: Form, R: Wait>(
 ) -> Result<(bool, Held), Refusal>
     requires domain { Belongs desk.old domain.now }
     requires cell { IsOpenAt desk.old cell.site cell.kind }
-    requires holds { Holds desk.old cell.kind expected.block expected.place × Holds desk.old cell.kind new.block new.place }
+    requires holds { Holds desk.old cell.kind expected.block expected.place
+        × Holds desk.old cell.kind new.block new.place }
     requires kinds { (expected.kind ≡ cell.kind) × (new.kind ≡ cell.kind) }
     ensures kind { IfOk result (λ r. kind_of r.1 ≡ cell.kind) }
-    ensures event { IfOk result (λ r. Compares desk.old (cell_at desk.old cell.site) cell.kind expected.block expected.place new.block new.place r.0 (owned_by r.1) (place_of r.1) F.weak desk.new) }
-    ensures bag { IfOk result (λ r. bag_of desk.new ≡ with_held r.1 (cond r.0 (without_handle cell.kind new.block new.place (bag_of desk.old)) (bag_of desk.old))) }
+    ensures event { IfOk result (λ r. Compares desk.old (cell_at desk.old cell.site) cell.kind expected.block
+        expected.place new.block new.place r.0 (owned_by r.1) (place_of r.1) F.weak desk.new) }
+    ensures bag { IfOk result (λ r. bag_of desk.new ≡ with_held r.1
+        (cond r.0 (without_handle cell.kind new.block new.place (bag_of desk.old)) (bag_of desk.old))) }
     ensures held { IfOk result (λ r. desk.new.held ≡ desk.old.held + cond r.0 0 1) }
     ensures keeps { OnOk result (Keeps desk.old desk.new) }
-    ensures refused { IfErr result (λ why. (why ≡ Limit) × (held_of desk.old ≡ allowance_of desk.old) × (desk.new ≡ desk.old)) }
+    ensures refused { IfErr result
+        (λ why. (why ≡ Limit) × (held_of desk.old ≡ allowance_of desk.old) × (desk.new ≡ desk.old)) }
 {
     match cell_compare_calls::compare::<V, Brand, R>(rt, domain, desk, cell, expected, new) {
         Ok((swapped, found)) => Ok((swapped, held_of(found))),

@@ -54,16 +54,17 @@ fn take_in(slots: &mut Vec<Option<Held>>, others: Vec<Option<Held>>)
 }
 
 impl<'d, V: Drop + Send, H: Home> HandleTable<'d, V, H> {
-    /// Another table of the domain becomes part of this one: its handles come into the slots of their numbers, its blocks and
-    /// its allowance are this table's, and what is left to end with it is left to end with this one, before what was (own).
-    /// The first slot of the other whose handle can't come says why: `Taken` where the slot of that number here has one too,
-    /// `Slot` where there is none here. Then nothing changes, and the other comes back.
+    /// Another table of the domain becomes part of this one: its handles come into the slots of their numbers, its
+    /// blocks and its allowance are this table's, and what is left to end with it is left to end with this one, before
+    /// what was (own). The first slot of the other whose handle can't come says why: `Taken` where the slot of that
+    /// number here has one too, `Slot` where there is none here. Then nothing changes, and the other comes back.
     pub fn join(
         &mut self,
         other: HandleTable<'d, V, H>,
     ) -> Result<(), Returned<HandleTable<'d, V, H>>>
         ensures joined { OnOk result (Joins self.old other.entry self.new) }
-        ensures refused { IfErr result (λ r. WhyNotJoined self.old.slots other.entry.slots r.why × (r.back ≡ other.entry) × (self.new ≡ self.old)) }
+        ensures refused { IfErr result (λ r. WhyNotJoined self.old.slots other.entry.slots r.why
+            × (r.back ≡ other.entry) × (self.new ≡ self.old)) }
     {
         if let Some(why) = first_clash(&self.slots, &other.slots) {
             return Err(Returned { why, back: other });

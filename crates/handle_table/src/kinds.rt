@@ -89,8 +89,10 @@ pub(crate) fn content_at(slots: &Vec<Option<Held>>, at: usize, kind: Kind) -> Re
 
 /// The handle in the slot, which is of this kind, goes out of it.
 pub(crate) fn take_kind(slots: &mut Vec<Option<Held>>, at: usize, kind: Kind) -> Result<Held, Fault>
-    ensures taken { IfOk result (λ h. (slice_get slots.old.items at ≡ Some (Some h)) × (kind_of h ≡ kind) × (slots.new.items ≡ slice_set slots.old.items at None)) }
-    ensures fault { IfErr result (λ why. WhyNoneOf kind slots.old.items at why × (slots.new.items ≡ slots.old.items)) }
+    ensures taken { IfOk result (λ h. (slice_get slots.old.items at ≡ Some (Some h)) × (kind_of h ≡ kind)
+        × (slots.new.items ≡ slice_set slots.old.items at None)) }
+    ensures fault { IfErr result
+        (λ why. WhyNoneOf kind slots.old.items at why × (slots.new.items ≡ slots.old.items)) }
 {
     match content_at(slots, at, kind) {
         Ok(_) => {}

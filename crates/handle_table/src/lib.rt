@@ -1,4 +1,5 @@
-//! A handle table: a thread's part of a domain with numbered slots for its handles. Its calls ask nothing of their callers.
+//! A handle table: a thread's part of a domain with numbered slots for its handles. Its calls ask nothing of their
+//! callers.
 #![tactic(auto)]
 
 mod assigning;

@@ -9,9 +9,9 @@ use control_word::Refused;
 use shared_handle::{Held, make, make_null};
 
 impl<'d, V: Drop + Send, H: Home> HandleTable<'d, V, H> {
-    /// A new object with four fields and an owned value; its owner is assigned to a slot ([util.smartptr.shared.create],
-    /// [util.smartptr.shared.assign]). What lay there leaves. Where `enabled`, the object gives pointers to itself
-    /// ([util.smartptr.enab]). At a fault the value comes back.
+    /// A new object with four fields and an owned value; its owner is assigned to a slot
+    /// ([util.smartptr.shared.create], [util.smartptr.shared.assign]). What lay there leaves. Where `enabled`, the
+    /// object gives pointers to itself ([util.smartptr.enab]). At a fault the value comes back.
     pub fn make(
         &mut self,
         to: usize,
@@ -20,7 +20,8 @@ impl<'d, V: Drop + Send, H: Home> HandleTable<'d, V, H> {
         value: V,
     ) -> Result<(), Returned<V>>
         ensures made { OnOk result (Makes self.old to enabled fields value self.new) }
-        ensures refused { IfErr result (λ r. WhyNotMade self.old to r.why × (r.back ≡ value) × (self.new ≡ self.old)) }
+        ensures refused { IfErr result
+            (λ r. WhyNotMade self.old to r.why × (r.back ≡ value) × (self.new ≡ self.old)) }
     {
         if to >= self.slots.len() {
             return Err(Returned {
@@ -51,11 +52,12 @@ impl<'d, V: Drop + Send, H: Home> HandleTable<'d, V, H> {
         }
     }
 
-    /// A new owner of the null pointer, with a deleter's value, is assigned to a slot ([util.smartptr.shared.const]). What lay
-    /// there leaves. At a fault the value comes back.
+    /// A new owner of the null pointer, with a deleter's value, is assigned to a slot ([util.smartptr.shared.const]).
+    /// What lay there leaves. At a fault the value comes back.
     pub fn make_null(&mut self, to: usize, value: V) -> Result<(), Returned<V>>
         ensures made { OnOk result (MakesNull self.old to value self.new) }
-        ensures refused { IfErr result (λ r. WhyNotMade self.old to r.why × (r.back ≡ value) × (self.new ≡ self.old)) }
+        ensures refused { IfErr result
+            (λ r. WhyNotMade self.old to r.why × (r.back ≡ value) × (self.new ≡ self.old)) }
     {
         if to >= self.slots.len() {
             return Err(Returned {

@@ -61,8 +61,9 @@ impl<'d, V: Drop + Send, H: Home> HandleTable<'d, V, H> {
         Ok(same_place(self.domain, &mut self.desk, one, other))
     }
 
-    /// `owner_before` ([util.smartptr.shared.obs], [util.smartptr.weak.obs]) of two handles, each of either kind: whether the
-    /// first comes before the second in owner order, which goes by blocks, empty first (own). It touches no word.
+    /// `owner_before` ([util.smartptr.shared.obs], [util.smartptr.weak.obs]) of two handles, each of either kind:
+    /// whether the first comes before the second in owner order, which goes by blocks, empty first (own). It touches no
+    /// word.
     pub fn owner_before(&mut self, a: usize, b: usize) -> Result<bool, Fault>
         ensures told { IfOk result (λ before. AreInOrder self.old a b before) }
         ensures refused { IfErr result (WhyNoHandles self.old.slots a b) }

@@ -4,7 +4,8 @@ ghost use Rattle.control_block.specs.Desks.{Belongs, DeskNow, endings_of};
 ghost use Rattle.control_block.specs.Parting.{HoldsAll, IsTooMuch, SplitsOff};
 ghost use Rattle.control_block.specs.SlotLists.{handles_in};
 ghost use Rattle.shared_handle.specs.Piles.{Bears};
-ghost use Rattle.handle_table.specs.Parting.{Absorbs, HandsOver, IsNew, LeaveSlots, Splits, WhyNoPart, WhyNotSplit, WindsUp, handles_from};
+ghost use Rattle.handle_table.specs.Parting.{Absorbs, HandsOver, IsNew, LeaveSlots, Splits, WhyNoPart, WhyNotSplit};
+ghost use Rattle.handle_table.specs.Parting.{WindsUp, handles_from};
 ghost use Rattle.handle_table.specs.Tables.{AllVacant, Fits, on_pile};
 
 use crate::assigning::let_go;
@@ -51,8 +52,8 @@ struct Part<V: Drop + Send> {
     pile: Pile<V>,
 }
 
-/// A part of a desk for a further table, with so many vacant slots; the handles in the slots that are handed over are the new
-/// desk's from then on.
+/// A part of a desk for a further table, with so many vacant slots; the handles in the slots that are handed over are
+/// the new desk's from then on.
 fn part_of<V: Drop + Send>(
     domain: &Domain<V>,
     desk: &mut Desk<V>,
@@ -68,7 +69,8 @@ fn part_of<V: Drop + Send>(
     ensures fits { IfOk result (λ _. IsTooMuch desk.old allowance (length (handles_in handed.now)) → ⊥) }
     ensures slots { IfOk result (λ p. AllVacant p.slots.items × (length p.slots.items ≡ count)) }
     ensures empty { IfOk result (λ p. p.pile.endings.items ≡ []) }
-    ensures bears { IfOk result (λ p. (d : DeskNow V) → Belongs d domain.now → endings_of d ≡ 0 → Bears domain.now d p.pile) }
+    ensures bears { IfOk result
+        (λ p. (d : DeskNow V) → Belongs d domain.now → endings_of d ≡ 0 → Bears domain.now d p.pile) }
     ensures refused { IfErr result (λ why. WhyNoPart desk.old allowance blocks (length (handles_in handed.now)) why) }
     ensures same { IfErr result (λ _. desk.new ≡ desk.old) }
 {
@@ -104,7 +106,8 @@ fn part_of<V: Drop + Send>(
 /// The elements from a number on change places with those of another slice.
 fn exchange_from<T>(ours: &mut [T], theirs: &mut [T], from: usize)
     requires { (from ≤ length ours.old) × (length theirs.old ≡ length ours.old) }
-    ensures { (ours.new ≡ take from ours.old ++ drop from theirs.old) × (theirs.new ≡ take from theirs.old ++ drop from ours.old) }
+    ensures { (ours.new ≡ take from ours.old ++ drop from theirs.old)
+        × (theirs.new ≡ take from theirs.old ++ drop from ours.old) }
 {
     ours[from..].swap_with_slice(&mut theirs[from..]);
 }
@@ -119,11 +122,11 @@ fn hand_over(slots: &mut Vec<Option<Held>>, to: &mut Vec<Option<Held>>, from: us
 }
 
 impl<'d, V: Drop + Send, H: Home> HandleTable<'d, V, H> {
-    /// A second table of the domain, with as many slots: what is in the slots from number `from` on goes into its slots of the
-    /// same numbers, and the others are vacant. It gets a part of the allowance, and the least `blocks` vacant blocks (own).
-    /// It is refused `Slot` where there are fewer slots; else `Limit` just where the allowance is 0, less than the handles
-    /// need or more than is free here; else `Full` just where there are fewer vacant blocks; else `Memory` only where a
-    /// growth was really refused. Then nothing changes.
+    /// A second table of the domain, with as many slots: what is in the slots from number `from` on goes into its slots
+    /// of the same numbers, and the others are vacant. It gets a part of the allowance, and the least `blocks` vacant
+    /// blocks (own). It is refused `Slot` where there are fewer slots; else `Limit` just where the allowance is 0, less
+    /// than the handles need or more than is free here; else `Full` just where there are fewer vacant blocks; else
+    /// `Memory` only where a growth was really refused. Then nothing changes.
     pub fn split(
         &mut self,
         alloc: Global,
@@ -132,8 +135,10 @@ impl<'d, V: Drop + Send, H: Home> HandleTable<'d, V, H> {
         blocks: u32,
     ) -> Result<HandleTable<'d, V, H>, Fault>
         ensures split { IfOk result (λ t. Splits self.old from allowance blocks self.new t) }
-        ensures fits { IfOk result (λ _. IsTooMuch self.old.desk allowance (length (handles_from from self.old.slots)) → ⊥) }
-        ensures refused { IfErr result (λ why. WhyNotSplit self.old from allowance blocks why × (self.new ≡ self.old)) }
+        ensures fits { IfOk result
+            (λ _. IsTooMuch self.old.desk allowance (length (handles_from from self.old.slots)) → ⊥) }
+        ensures refused { IfErr result
+            (λ why. WhyNotSplit self.old from allowance blocks why × (self.new ≡ self.old)) }
     {
         let count = self.slots.len();
         if from > count {
@@ -175,7 +180,8 @@ impl<'d, V: Drop + Send, H: Home> HandleTable<'d, V, H> {
         ensures parts { IfOk result (λ t. SplitsOff self.old.desk allowance blocks [] self.new.desk t.desk) }
         ensures new { IfOk result (λ t. IsNew slots t) }
         ensures rest { (self.new.slots ≡ self.old.slots) × (self.new.endings ≡ self.old.endings) }
-        ensures refused { IfErr result (λ why. WhyNoPart self.old.desk allowance blocks 0 why × (self.new ≡ self.old)) }
+        ensures refused { IfErr result
+            (λ why. WhyNoPart self.old.desk allowance blocks 0 why × (self.new ≡ self.old)) }
     {
         match part_of(
             self.domain,
@@ -221,8 +227,8 @@ impl<'d, V: Drop + Send, H: Home> HandleTable<'d, V, H> {
         desk
     }
 
-    /// The other table's handles leave, the last slot's first, and then all that is left to end with it does so; what it had of
-    /// the domain comes to this table (own). It refuses nothing.
+    /// The other table's handles leave, the last slot's first, and then all that is left to end with it does so; what
+    /// it had of the domain comes to this table (own). It refuses nothing.
     pub fn absorb<R: Wait>(&mut self, rt: &R, other: HandleTable<'d, V, H>)
         ensures { Absorbs self.old other.entry self.new }
     {

@@ -46,8 +46,8 @@ pub struct Manned {
     pub fewer: Option<Refusal>,
 }
 
-/// What a program's run left: the census of its domain, how many workers had a table, and why they are fewer than were asked
-/// for, where they are.
+/// What a program's run left: the census of its domain, how many workers had a table, and why they are fewer than were
+/// asked for, where they are.
 #[derive(Drop)]
 pub struct Ran<V: Drop + Send> {
     pub census: Census<V>,
@@ -79,8 +79,8 @@ fn first_table<'d, V: Drop + Send, H: Home>(
 }
 
 impl<'d, V: Drop + Send, H: Home> HandleTable<'d, V, H> {
-    /// A table for each worker of a team, with its part of the allowance and of the vacant blocks (own). Where one is refused,
-    /// as a split is, the tables are fewer, and `fewer` says why.
+    /// A table for each worker of a team, with its part of the allowance and of the vacant blocks (own). Where one is
+    /// refused, as a split is, the tables are fewer, and `fewer` says why.
     pub fn team(&mut self, alloc: Global, team: Team) -> Crew<'d, V, H>
         ensures parts { IsPartedInto self.old.desk team.allowance team.blocks result.tables.items self.new.desk }
         ensures new { All (IsNew team.slots) result.tables.items }
@@ -148,9 +148,9 @@ fn lend_all<
 }
 
 impl<'d, V: Drop + Send, H: Home + Send + Sync> HandleTable<'d, V, H> {
-    /// The workers of a team work, each in a thread with a table of its own, and all they leave comes back: the handles in their
-    /// slots leave, and what is left to end does so (own). It says how many had a table, and why they are fewer than were
-    /// asked for, where they are.
+    /// The workers of a team work, each in a thread with a table of its own, and all they leave comes back: the handles
+    /// in their slots leave, and what is left to end does so (own). It says how many had a table, and why they are
+    /// fewer than were asked for, where they are.
     pub(crate) fn scope<R: Threads + Wait + Sync, P: Program<V, R> + Sync>(
         &mut self,
         rt: &R,
@@ -246,11 +246,11 @@ fn close_bare<V: Drop + Send>(domain: Domain<V>, desk: Desk<V>) -> Result<Census
     }
 }
 
-/// A domain is opened, each worker of the team does its part of the program in a thread with a table of its own, and the domain
-/// is closed (own). The handles that a worker leaves in its slots leave, and what is left to end does so. The workers' tables
-/// are parts of a first one, which has all again at the end: what each had and what it left is in `runs`. It is refused
-/// `Shape` just where the shape is outside the limits, `Memory` only where a growth was really refused, and `NotSole`
-/// where a worker kept a table for itself.
+/// A domain is opened, each worker of the team does its part of the program in a thread with a table of its own, and
+/// the domain is closed (own). The handles that a worker leaves in its slots leave, and what is left to end does so.
+/// The workers' tables are parts of a first one, which has all again at the end: what each had and what it left is in
+/// `runs`. It is refused `Shape` just where the shape is outside the limits, `Memory` only where a growth was really
+/// refused, and `NotSole` where a worker kept a table for itself.
 pub fn run<V: Drop + Send, R: Threads + Wait + Sync, P: Program<V, R> + Sync>(
     rt: &R,
     alloc: Global,
@@ -262,7 +262,8 @@ pub fn run<V: Drop + Send, R: Threads + Wait + Sync, P: Program<V, R> + Sync>(
     ensures manned { IfOk result (λ r. IsManned team.workers r.workers r.fewer) }
     ensures within { IfOk result (λ _. IsWithinLimits shape) }
     ensures shape { IfErr result (λ why. why ≡ Refusal.Shape ↔ (IsWithinLimits shape → ⊥)) }
-    ensures refused { IfErr result (λ why. (why ≡ Refusal.Shape) ⊎ ((why ≡ Refusal.Memory) ⊎ (why ≡ Refusal.NotSole))) }
+    ensures refused { IfErr result
+        (λ why. (why ≡ Refusal.Shape) ⊎ ((why ≡ Refusal.Memory) ⊎ (why ≡ Refusal.NotSole))) }
 {
     let (domain, desk) = open::<V>(alloc, shape)?;
     let Ok(mut slots) = Vec::with_capacity(alloc, team.slots) else {

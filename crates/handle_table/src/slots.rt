@@ -1,5 +1,6 @@
 //! Slots, and what is in them.
-ghost use Rattle.std.specs.Prelude.{◌≡◌, ◌≤◌, ◌<◌, [], length, slice_get, slice_set, vec_capacity, IfErr, IfOk};
+ghost use Rattle.std.specs.Prelude.{◌≡◌, ◌≤◌, ◌<◌, [], length, slice_get, slice_set, vec_capacity};
+ghost use Rattle.std.specs.Prelude.{IfErr, IfOk};
 ghost use Rattle.control_word.specs.Views.{total};
 ghost use Rattle.control_block.specs.declared.handles.Held.TheVariants as held;
 ghost use Rattle.handle_table.specs.Calls.{WhyNoHandle, WhyNoOwner, WhyNoWeak};
@@ -67,14 +68,16 @@ pub(crate) fn weak_at(slots: &Vec<Option<Held>>, at: usize) -> Result<&Weak, Fau
 /// A handle goes into a slot, and what lay there comes out.
 pub(crate) fn put(slots: &mut Vec<Option<Held>>, at: usize, handle: Held) -> Option<Held>
     requires { at < length slots.old.items }
-    ensures { (slice_get slots.old.items at ≡ Some result) × (slots.new.items ≡ slice_set slots.old.items at (Some handle)) }
+    ensures { (slice_get slots.old.items at ≡ Some result)
+        × (slots.new.items ≡ slice_set slots.old.items at (Some handle)) }
 {
     std::mem::replace(&mut slots[at], Some(handle))
 }
 
 /// What is in the slot goes out of it.
 pub(crate) fn take_handle(slots: &mut Vec<Option<Held>>, at: usize) -> Result<Held, Fault>
-    ensures taken { IfOk result (λ h. (slice_get slots.old.items at ≡ Some (Some h)) × (slots.new.items ≡ slice_set slots.old.items at None)) }
+    ensures taken { IfOk result (λ h. (slice_get slots.old.items at ≡ Some (Some h))
+        × (slots.new.items ≡ slice_set slots.old.items at None)) }
     ensures fault { IfErr result (λ why. WhyNoHandle slots.old.items at why × (slots.new.items ≡ slots.old.items)) }
 {
     handle_at(slots, at)?;
@@ -86,7 +89,8 @@ pub(crate) fn take_handle(slots: &mut Vec<Option<Held>>, at: usize) -> Result<He
 
 /// The owner in the slot goes out of it.
 pub(crate) fn take_owner(slots: &mut Vec<Option<Held>>, at: usize) -> Result<Shared, Fault>
-    ensures taken { IfOk result (λ h. (slice_get slots.old.items at ≡ Some (Some (held.Owner h))) × (slots.new.items ≡ slice_set slots.old.items at None)) }
+    ensures taken { IfOk result (λ h. (slice_get slots.old.items at ≡ Some (Some (held.Owner h)))
+        × (slots.new.items ≡ slice_set slots.old.items at None)) }
     ensures fault { IfErr result (λ why. WhyNoOwner slots.old.items at why × (slots.new.items ≡ slots.old.items)) }
 {
     if let Err(why) = owner_at(slots, at) {

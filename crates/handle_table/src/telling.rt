@@ -2,7 +2,8 @@
 ghost use Rattle.std.specs.Prelude.{◌≡◌, ◌⊎◌, Err, IfErr, IfOk, Ok};
 ghost use Rattle.control_block.specs.Desks.{Belongs, Keeps, bag_of};
 ghost use Rattle.control_block.specs.HandleLists.{IsHeld};
-ghost use Rattle.handle_table.specs.Calls.{Counts, CountsOf, Expires, IsNotRead, PointsTo, Reads, WhyNoHandle, WhyNoOwner, WhyNoWeak};
+ghost use Rattle.handle_table.specs.Calls.{Counts, CountsOf, Expires, IsNotRead, PointsTo, Reads, WhyNoHandle};
+ghost use Rattle.handle_table.specs.Calls.{WhyNoOwner, WhyNoWeak};
 
 use crate::fault::Fault;
 use crate::slots::{handle_at, owner_at, weak_at};
@@ -28,10 +29,12 @@ fn count_of<V: Drop + Send>(domain: &Domain<V>, desk: &mut Desk<V>, handle: &Hel
 }
 
 impl<'d, V: Drop + Send, H: Home> HandleTable<'d, V, H> {
-    /// The field that an owner points at (own). It is refused where the place is null, or isn't in the object that it owns.
+    /// The field that an owner points at (own). It is refused where the place is null, or isn't in the object that it
+    /// owns.
     pub fn read(&mut self, at: usize) -> Result<u64, Fault>
         ensures read { IfOk result (λ field. Reads self.old at (Ok field) self.new) }
-        ensures refused { IfErr result (λ why. (WhyNoOwner self.old.slots at why ⊎ IsNotRead self.old at why self.new) × (self.new ≡ self.old)) }
+        ensures refused { IfErr result (λ why.
+            (WhyNoOwner self.old.slots at why ⊎ IsNotRead self.old at why self.new) × (self.new ≡ self.old)) }
     {
         let field = match owner_at(&self.slots, at) {
             Ok(owner) => read(self.domain, &mut self.desk, owner),

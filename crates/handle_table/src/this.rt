@@ -21,8 +21,9 @@ fn is_pointer(place: Option<Place>) -> bool
 }
 
 impl<'d, V: Drop + Send, H: Home> HandleTable<'d, V, H> {
-    /// `shared_from_this` ([util.smartptr.enab]): one owner more of the object, which points at its field 0, is assigned to a
-    /// slot. What lay there leaves. It is refused `Limit`, and else `Null`, `Outside` or `NotEnabled`, as of a bare handle.
+    /// `shared_from_this` ([util.smartptr.enab]): one owner more of the object, which points at its field 0, is
+    /// assigned to a slot. What lay there leaves. It is refused `Limit`, and else `Null`, `Outside` or `NotEnabled`, as
+    /// of a bare handle.
     pub fn shared_from_this(&mut self, of: usize, to: usize) -> Result<(), Fault>
         ensures shared { OnOk result (SharesThis self.old of to self.new) }
         ensures refused { IfErr result (λ why. WhyNoThis self.old of to why × (self.new ≡ self.old)) }
@@ -80,8 +81,9 @@ impl<'d, V: Drop + Send, H: Home> HandleTable<'d, V, H> {
         }
     }
 
-    /// The aliasing constructor ([util.smartptr.shared.const]): one owner more of what the owner owns, which points at a
-    /// place, is assigned to a slot. What lay there leaves. The fault is `Place` where that is none of a block's fields.
+    /// The aliasing constructor ([util.smartptr.shared.const]): one owner more of what the owner owns, which points at
+    /// a place, is assigned to a slot. What lay there leaves. The fault is `Place` where that is none of a block's
+    /// fields.
     pub fn alias(&mut self, of: usize, place: Option<Place>, to: usize) -> Result<(), Fault>
         ensures aliased { OnOk result (Aliases self.old of place to self.new) }
         ensures refused { IfErr result (λ why. WhyNoAlias self.old of to why × (self.new ≡ self.old)) }

@@ -10,9 +10,9 @@ use shared_handle::{Held, upgrade};
 use std::sync::Wait;
 
 impl<'d, V: Drop + Send, H: Home> HandleTable<'d, V, H> {
-    /// The constructor from a weak pointer ([util.smartptr.shared.const]): an owner of the weak handle's object is assigned to
-    /// a slot. What lay there leaves. Where no owner remains at its step it is refused `BadWeak` ([util.smartptr.weak.bad]):
-    /// then the slots are as they were.
+    /// The constructor from a weak pointer ([util.smartptr.shared.const]): an owner of the weak handle's object is
+    /// assigned to a slot. What lay there leaves. Where no owner remains at its step it is refused `BadWeak`
+    /// ([util.smartptr.weak.bad]): then the slots are as they were.
     pub fn upgrade<R: Wait>(&mut self, rt: &R, from: usize, to: usize) -> Result<(), Fault>
         ensures upgraded { OnOk result (Upgrades self.old from to self.new) }
         ensures refused { IfErr result (λ why. WhyNotUpgraded self.old from to why self.new) }

@@ -11,8 +11,9 @@ use shared_handle::visit;
 use std::sync::Wait;
 
 impl<'d, V: Drop + Send, H: Home> HandleTable<'d, V, H> {
-    /// The value of the object that an owner owns is worked on (own): while this call has it, another visit of it waits. An
-    /// owner of null has a value too. It is refused `Null` where the owner is empty; at a fault `f` comes back.
+    /// The value of the object that an owner owns is worked on (own): while this call has it, another visit of it
+    /// waits. An owner of null has a value too. It is refused `Null` where the owner is empty; at a fault `f` comes
+    /// back.
     pub fn visit<R, F: FnOnce(&mut V) -> R, W: Wait>(
         &mut self,
         rt: &W,
@@ -20,8 +21,10 @@ impl<'d, V: Drop + Send, H: Home> HandleTable<'d, V, H> {
         f: F,
     ) -> Result<R, Returned<F>>
         requires { F.IsAlwaysCallable f }
-        ensures visited { IfOk result (λ answer. Visits (λ was r becomes. FnOnceReturnsAtMut F.FnOnce f was r becomes) f self.old at answer self.new) }
-        ensures refused { IfErr result (λ r. WhyNotVisited self.old at r.why × (r.back ≡ f) × (self.new ≡ self.old)) }
+        ensures visited { IfOk result (λ answer. Visits
+            (λ was r becomes. FnOnceReturnsAtMut F.FnOnce f was r becomes) f self.old at answer self.new) }
+        ensures refused { IfErr result
+            (λ r. WhyNotVisited self.old at r.why × (r.back ≡ f) × (self.new ≡ self.old)) }
     {
         let owner = match owner_at(&self.slots, at) {
             Ok(owner) => owner,

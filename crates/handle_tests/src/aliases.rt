@@ -30,7 +30,8 @@ pub(crate) fn tell(domain: &Domain<u64>, desk: &mut Desk<u64>, owner: &Shared) -
     (count, at, field)
 }
 
-// An alias of the handle: its count beside it, whether it points where the handle does, and what it tells when it is alone.
+// An alias of the handle: its count beside it, whether it points where the handle does, and what it tells when it is
+// alone.
 #[tactic(auto, using(shared_handle::proofs::Callers::first_out))]
 fn alias_alone(
     domain: &Domain<u64>,

@@ -14,7 +14,8 @@ use std::test::Fail;
 // What two ends find: that within and that around it.
 type Both = (Found, Found);
 
-// The end of an object whose first member is the last owner of another. That ends first, while this one has a member left.
+// The end of an object whose first member is the last owner of another. That ends first, while this one has a member
+// left.
 fn end_both(domain: &Domain<u64>, desk: &mut Desk<u64>, around: Ending<u64>) -> Option<Both>
     requires domain { Belongs desk.old domain.now }
     requires ends { Ends desk.old around }

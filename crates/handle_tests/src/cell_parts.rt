@@ -1,6 +1,7 @@
 //! What the tests of cells have in common: handles that go in and come out.
 ghost use Rattle.std.specs.Prelude.{◌≡◌, ◌+◌, ◌<◌, IfSome, MatchOption, Some};
-ghost use Rattle.shared_handle.specs.Prelude.{Owner, Weak, Block, Belongs, IsSameDesk, bag_of, Holds, with_handle, without_handle};
+ghost use Rattle.shared_handle.specs.Prelude.{Owner, Weak, Block, Belongs, IsSameDesk, bag_of, Holds, with_handle};
+ghost use Rattle.shared_handle.specs.Prelude.{without_handle};
 
 use crate::parts::{Was, drop_owner, end_of};
 pub(crate) use crate::shapes::shape_with_cells;
@@ -127,7 +128,8 @@ pub(crate) fn object(domain: &Domain<u64>, desk: &mut Desk<u64>, field: u64) -> 
     requires domain { Belongs desk.old domain.now }
     ensures desk { IsSameDesk desk.old desk.new }
     ensures real { IfSome result (λ h. (b : Block) × (h.block ≡ Some b)) }
-    ensures bag { MatchOption result (bag_of desk.new ≡ bag_of desk.old) (λ h. bag_of desk.new ≡ with_handle Owner h.block h.place (bag_of desk.old)) }
+    ensures bag { MatchOption result (bag_of desk.new ≡ bag_of desk.old)
+        (λ h. bag_of desk.new ≡ with_handle Owner h.block h.place (bag_of desk.old)) }
     ensures held { MatchOption result (desk.new.held ≡ desk.old.held) (λ _. desk.new.held ≡ desk.old.held + 1) }
     ensures holds { IfSome result (λ h. Holds desk.new Owner h.block h.place) }
 {

@@ -11,8 +11,8 @@ use shared_handle::{downgrade, expired, release_weak, use_count};
 use std::sync::Wait;
 use std::test::Fail;
 
-// An object in the cell, on a sole desk: what the first store found, what a load tells 1,000 times, what a second store and
-// an exchange find, and the owners that are left.
+// An object in the cell, on a sole desk: what the first store found, what a load tells 1,000 times, what a second store
+// and an exchange find, and the owners that are left.
 #[tactic(auto, using(shared_handle::proofs::Callers::first_out))]
 fn store_and_load<R: Wait>(
     rt: &R,
@@ -54,8 +54,8 @@ fn a_thousand_loads_tell_three_owners(rt: HostRuntime) -> Result<(), Fail> {
     Ok(())
 }
 
-// A weak pointer goes into the cell and comes out again: what the stores found, and whether what was loaded and what came
-// out are expired, before and after the object's end.
+// A weak pointer goes into the cell and comes out again: what the stores found, and whether what was loaded and what
+// came out are expired, before and after the object's end.
 #[tactic(auto, using(shared_handle::proofs::Callers::first_out))]
 fn watch<R: Wait>(
     rt: &R,

@@ -13,8 +13,8 @@ use shared_handle::{Shared, alias, downgrade, release_weak, use_count};
 use std::sync::Wait;
 use std::test::Fail;
 
-// What a compare found: whether it swapped, the place of what the cell held, whether what was desired came back, and how
-// many owners the expected pointer's object has then.
+// What a compare found: whether it swapped, the place of what the cell held, whether what was desired came back, and
+// how many owners the expected pointer's object has then.
 type Found = (bool, Option<Place>, bool, u32);
 
 // A compare-and-swap of the cell, after which what comes out of it leaves.
@@ -115,7 +115,8 @@ fn compare_aside<R: Wait>(
     }
 }
 
-// What two compares found, the place of the owner that the cell had before, and the field and owners of what it holds then.
+// What two compares found, the place of the owner that the cell had before, and the field and owners of what it holds
+// then.
 type Compares = (
     Option<Found>,
     Option<Found>,
@@ -268,7 +269,8 @@ fn a_weak_cell_is_compared(rt: HostRuntime) -> Result<(), Fail> {
     Ok(())
 }
 
-// Whether the first compare differed and handed out what the cell held, of 4 owners, and the second swapped the new object in.
+// Whether the first compare differed and handed out what the cell held, of 4 owners, and the second swapped the new
+// object in.
 fn are_right(seen: Option<Compares>) -> bool {
     match seen {
         Some(

@@ -113,11 +113,14 @@ pub(crate) fn part(
 ) -> Option<Desk<u64>>
     requires domain { Belongs desk.old domain.now }
     requires blocks { blocks ≤ length (stock_of desk.old) }
-    ensures one { (desk.new.domain ≡ desk.old.domain) × (desk.new.shape ≡ desk.old.shape) × (desk.new.name ≡ desk.old.name) }
+    ensures one { (desk.new.domain ≡ desk.old.domain) × (desk.new.shape ≡ desk.old.shape)
+        × (desk.new.name ≡ desk.old.name) }
     ensures two { IfSome result (λ r. (r.domain ≡ desk.old.domain) × (r.shape ≡ desk.old.shape)) }
-    ensures sum { MatchOption result (allowance_of desk.new ≡ allowance_of desk.old) (λ r. allowance_of desk.new + allowance_of r ≡ allowance_of desk.old) }
+    ensures sum { MatchOption result (allowance_of desk.new ≡ allowance_of desk.old)
+        (λ r. allowance_of desk.new + allowance_of r ≡ allowance_of desk.old) }
     ensures bag { bag_of desk.new ≡ bag_of desk.old }
-    ensures stock { IfSome result (λ r. (length (stock_of r) ≡ blocks) × (length (stock_of desk.new) + blocks ≡ length (stock_of desk.old))) }
+    ensures stock { IfSome result (λ r. (length (stock_of r) ≡ blocks)
+        × (length (stock_of desk.new) + blocks ≡ length (stock_of desk.old))) }
 {
     match desk.split(alloc, domain, allowance, blocks, Vec::new(alloc)) {
         Ok((two, handles)) => {
@@ -171,11 +174,13 @@ fn both_pairs<R: Threads + Wait + Sync>(
     let (a, b) = join_mut(
         rt,
         &mut || -> u32
-            requires { IsSync R.row × Belongs one.now domain.now × (at < domain.now.shape.shared_cells) × (1 ≤ length (stock_of one.now)) }
+            requires { IsSync R.row × Belongs one.now domain.now × (at < domain.now.shape.shared_cells)
+                × (1 ≤ length (stock_of one.now)) }
             ensures { IsSameDesk one.entry.now one.exit.now }
         { pair(rt, alloc, domain, at, one) },
         &mut || -> u32
-            requires { IsSync R.row × Belongs two.now domain.now × (at < domain.now.shape.shared_cells) × (1 ≤ length (stock_of two.now)) }
+            requires { IsSync R.row × Belongs two.now domain.now × (at < domain.now.shape.shared_cells)
+                × (1 ≤ length (stock_of two.now)) }
             ensures { IsSameDesk two.entry.now two.exit.now }
         { pair(rt, alloc, domain, at, two) },
     );

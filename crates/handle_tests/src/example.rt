@@ -1,6 +1,7 @@
 //! The example of the README: an object that two threads own, watched by a weak pointer.
 ghost use Rattle.std.specs.Prelude.{◌≡◌, ◌<◌, [], IfSome, None, Some, length};
-ghost use Rattle.shared_handle.specs.Prelude.{Owner, Weak, Block, Belongs, IsSameDesk, allowance_of, bag_of, stock_of, Holds, with_handle, without_handle};
+ghost use Rattle.shared_handle.specs.Prelude.{Owner, Weak, Block, Belongs, IsSameDesk, allowance_of, bag_of, stock_of};
+ghost use Rattle.shared_handle.specs.Prelude.{Holds, with_handle, without_handle};
 
 use crate::parts::{end, hand_over, shape, shut, spent};
 use control_block::desk::Desk;
@@ -34,9 +35,12 @@ fn give_up(
     w: handles::Weak,
 ) -> Option<(u32, bool)>
     requires domain { Belongs desk.old domain.now }
-    requires same { (b.block ≡ a.block) × (b.place ≡ a.place) × (w.block ≡ a.block) × (x : Block) × (a.block ≡ Some x) }
-    requires bag { bag_of desk.old ≡ with_handle Owner b.block b.place (with_handle Weak w.block w.place (with_handle Owner a.block a.place [])) }
-    ensures desk { (desk.new.domain ≡ desk.old.domain) × (desk.new.shape ≡ desk.old.shape) × (allowance_of desk.new ≡ allowance_of desk.old) }
+    requires same { (b.block ≡ a.block) × (b.place ≡ a.place) × (w.block ≡ a.block) × (x : Block)
+        × (a.block ≡ Some x) }
+    requires bag { bag_of desk.old ≡ with_handle Owner b.block b.place
+        (with_handle Weak w.block w.place (with_handle Owner a.block a.place [])) }
+    ensures desk { (desk.new.domain ≡ desk.old.domain) × (desk.new.shape ≡ desk.old.shape)
+        × (allowance_of desk.new ≡ allowance_of desk.old) }
     ensures none { result ≡ None }
 {
     end(domain, desk, b);
@@ -54,8 +58,10 @@ fn two_threads<R: Threads>(
     desk: &mut Desk<u64>,
 ) -> Option<(u32, bool)>
     requires domain { Belongs desk.old domain.now }
-    requires fresh { (bag_of desk.old ≡ []) × (desk.old.held ≡ 0) × (allowance_of desk.old ≡ 8) × (0 < length (stock_of desk.old)) }
-    ensures desk { (desk.new.domain ≡ desk.old.domain) × (desk.new.shape ≡ desk.old.shape) × (allowance_of desk.new ≡ allowance_of desk.old) }
+    requires fresh { (bag_of desk.old ≡ []) × (desk.old.held ≡ 0) × (allowance_of desk.old ≡ 8)
+        × (0 < length (stock_of desk.old)) }
+    ensures desk { (desk.new.domain ≡ desk.old.domain) × (desk.new.shape ≡ desk.old.shape)
+        × (allowance_of desk.new ≡ allowance_of desk.old) }
 {
     // auto a = std::make_shared<Node>(1, 2, 3, 4);
     let a = make(domain, desk, [1, 2, 3, 4], false, 7).unwrap();

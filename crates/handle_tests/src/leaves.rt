@@ -44,10 +44,13 @@ pub(crate) fn two_desks(
     alloc: Global,
 ) -> Option<(Desk<u64>, Shared, Shared)>
     requires domain { Belongs one.old domain.now }
-    ensures one { (one.new.domain ≡ one.old.domain) × (one.new.shape ≡ one.old.shape) × (one.new.name ≡ one.old.name) }
+    ensures one { (one.new.domain ≡ one.old.domain) × (one.new.shape ≡ one.old.shape)
+        × (one.new.name ≡ one.old.name) }
     ensures two { IfSome result (λ r. (r.0.domain ≡ one.old.domain) × (r.0.shape ≡ one.old.shape)) }
-    ensures sum { MatchOption result (allowance_of one.new ≡ allowance_of one.old) (λ r. allowance_of one.new + allowance_of r.0 ≡ allowance_of one.old) }
-    ensures held { IfSome result (λ r. Holds one.new Owner r.1.block r.1.place × Holds r.0 Owner r.2.block r.2.place) }
+    ensures sum { MatchOption result (allowance_of one.new ≡ allowance_of one.old)
+        (λ r. allowance_of one.new + allowance_of r.0 ≡ allowance_of one.old) }
+    ensures held { IfSome result
+        (λ r. Holds one.new Owner r.1.block r.1.place × Holds r.0 Owner r.2.block r.2.place) }
 {
     let (x, y) = two_owners(domain, one)?;
     match hand_over(domain, one, alloc, 1, 0, y) {

@@ -1,6 +1,7 @@
 //! Owners from weak pointers, on a sole desk and beside the last owner's leave.
 ghost use Rattle.std.specs.Prelude.{◌≡◌, ◌+◌, IfSome, MatchOption, None, Some, []};
-ghost use Rattle.shared_handle.specs.Prelude.{Owner, Weak, Block, Belongs, IsSameDesk, allowance_of, bag_of, Holds, with_handle};
+ghost use Rattle.shared_handle.specs.Prelude.{Owner, Weak, Block, Belongs, IsSameDesk, allowance_of, bag_of, Holds};
+ghost use Rattle.shared_handle.specs.Prelude.{with_handle};
 
 use crate::parts::{end, hand_over, leave, shape, shut, spent};
 use control_block::desk::Desk;
@@ -59,8 +60,8 @@ fn why_not<R: Wait>(
     }
 }
 
-// While its object lives: the owners after a lock, and why an upgrade is refused. After its end: the value, why an upgrade
-// is refused, and the owners of a lock.
+// While its object lives: the owners after a lock, and why an upgrade is refused. After its end: the value, why an
+// upgrade is refused, and the owners of a lock.
 #[tactic(auto, using(shared_handle::proofs::Callers::first_out))]
 fn before_and_after_the_end<R: Wait>(
     rt: &R,
@@ -121,7 +122,8 @@ fn seek<R: Wait>(
     requires holds { Holds desk.old Weak weak.now.block weak.now.place }
     requires nothing { found.old ≡ None }
     ensures desk { IsSameDesk desk.old desk.new }
-    ensures bag { MatchOption found.new (bag_of desk.new ≡ bag_of desk.old) (λ h. bag_of desk.new ≡ with_handle Owner h.block h.place (bag_of desk.old)) }
+    ensures bag { MatchOption found.new (bag_of desk.new ≡ bag_of desk.old)
+        (λ h. bag_of desk.new ≡ with_handle Owner h.block h.place (bag_of desk.old)) }
     ensures found { IfSome found.new (λ h. Holds desk.new Owner h.block h.place) }
 {
     let Ok(owner) = lock(rt, domain, desk, weak) else {
@@ -173,9 +175,11 @@ fn owner_apart(
     alloc: Global,
 ) -> Option<(Desk<u64>, handles::Weak, Shared)>
     requires domain { Belongs one.old domain.now }
-    ensures one { (one.new.domain ≡ one.old.domain) × (one.new.shape ≡ one.old.shape) × (one.new.name ≡ one.old.name) }
+    ensures one { (one.new.domain ≡ one.old.domain) × (one.new.shape ≡ one.old.shape)
+        × (one.new.name ≡ one.old.name) }
     ensures two { IfSome result (λ r. (r.0.domain ≡ one.old.domain) × (r.0.shape ≡ one.old.shape)) }
-    ensures sum { MatchOption result (allowance_of one.new ≡ allowance_of one.old) (λ r. allowance_of one.new + allowance_of r.0 ≡ allowance_of one.old) }
+    ensures sum { MatchOption result (allowance_of one.new ≡ allowance_of one.old)
+        (λ r. allowance_of one.new + allowance_of r.0 ≡ allowance_of one.old) }
     ensures real { IfSome result (λ r. (b : Block) × (r.1.block ≡ Some b)) }
     ensures held { IfSome result (λ r. Holds one.new Weak r.1.block r.1.place × Holds r.0 Owner r.2.block r.2.place) }
 {
@@ -211,8 +215,8 @@ fn round<R: Threads + Wait + Sync>(
     Some(counts)
 }
 
-// Either the lock gave an owner and the leave answered that others are left, or the lock gave none and the leave was the
-// last.
+// Either the lock gave an owner and the leave answered that others are left, or the lock gave none and the leave was
+// the last.
 #[test]
 fn a_lock_beside_the_last_leave(rt: HostRuntime) -> Result<(), Fail> {
     let (domain, mut desk) = open::<u64>(rt.alloc(), shape(1, 4)).ok().ok_or("memory")?;

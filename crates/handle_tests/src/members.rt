@@ -1,6 +1,7 @@
 //! Members of objects as cells, and what their objects' ends find in them.
 ghost use Rattle.std.specs.Prelude.{◌≡◌, ◌+◌, IfSome, Some};
-ghost use Rattle.shared_handle.specs.Prelude.{Owner, Weak, Block, Belongs, IsSameDesk, bag_of, Holds, with_handle, without_handle};
+ghost use Rattle.shared_handle.specs.Prelude.{Owner, Weak, Block, Belongs, IsSameDesk, bag_of, Holds, with_handle};
+ghost use Rattle.shared_handle.specs.Prelude.{without_handle};
 
 use crate::cell_parts::{object, shape_with_cells};
 use crate::parts::{Found, Was, drop_owner, end_of, shut, told};
@@ -112,7 +113,8 @@ fn put_copy_in(
     owner: &Shared,
 ) -> Option<Was>
     requires domain { Belongs desk.old domain.now }
-    requires holds { Holds desk.old Owner whole.now.block whole.now.place × Holds desk.old Owner owner.now.block owner.now.place }
+    requires holds { Holds desk.old Owner whole.now.block whole.now.place
+        × Holds desk.old Owner owner.now.block owner.now.place }
     requires real { ((b : Block) × (whole.now.block ≡ Some b)) × ((b : Block) × (owner.now.block ≡ Some b)) }
     ensures desk { IsSameDesk desk.old desk.new }
     ensures bag { bag_of desk.new ≡ bag_of desk.old }
@@ -133,7 +135,8 @@ fn watch_from(
     owner: &Shared,
 ) -> Option<Was>
     requires domain { Belongs desk.old domain.now }
-    requires holds { Holds desk.old Owner whole.now.block whole.now.place × Holds desk.old Owner owner.now.block owner.now.place }
+    requires holds { Holds desk.old Owner whole.now.block whole.now.place
+        × Holds desk.old Owner owner.now.block owner.now.place }
     requires real { ((b : Block) × (whole.now.block ≡ Some b)) × ((b : Block) × (owner.now.block ≡ Some b)) }
     ensures desk { IsSameDesk desk.old desk.new }
     ensures bag { bag_of desk.new ≡ bag_of desk.old }

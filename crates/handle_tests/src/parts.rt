@@ -1,6 +1,8 @@
 //! What the tests have in common: shapes, ends, and handles that go from one desk to another.
-ghost use Rattle.std.specs.Prelude.{◌≡◌, ◌+◌, ◌≤◌, ◌∷◌, [], IfErr, IfOk, IfSome, None, Some, length};
-ghost use Rattle.shared_handle.specs.Prelude.{Owner, Block, Belongs, IsSameDesk, allowance_of, bag_of, stock_of, Holds, with_handle, without_handle, Ends};
+ghost use Rattle.std.specs.Prelude.{◌≡◌, ◌+◌, ◌≤◌, ◌∷◌, [], IfErr, IfOk, IfSome, None, Some};
+ghost use Rattle.std.specs.Prelude.{length};
+ghost use Rattle.shared_handle.specs.Prelude.{Owner, Block, Belongs, IsSameDesk, allowance_of, bag_of, stock_of, Holds};
+ghost use Rattle.shared_handle.specs.Prelude.{with_handle, without_handle, Ends};
 ghost use Rattle.control_block.specs.Desks.{KeepsOtherEndings};
 
 pub(crate) use crate::shapes::shape;
@@ -153,9 +155,11 @@ pub(crate) fn leave(domain: &Domain<u64>, desk: &mut Desk<u64>, handle: &mut Opt
 pub(crate) fn two_owners(domain: &Domain<u64>, desk: &mut Desk<u64>) -> Option<(Shared, Shared)>
     requires domain { Belongs desk.old domain.now }
     ensures desk { IsSameDesk desk.old desk.new }
-    ensures bag { IfSome result (λ r. bag_of desk.new ≡ with_handle Owner r.1.block r.1.place (with_handle Owner r.0.block r.0.place (bag_of desk.old))) }
+    ensures bag { IfSome result (λ r. bag_of desk.new ≡ with_handle Owner r.1.block r.1.place
+        (with_handle Owner r.0.block r.0.place (bag_of desk.old))) }
     ensures real { IfSome result (λ r. (b : Block) × (r.0.block ≡ Some b)) }
-    ensures owners { IfSome result (λ r. (r.1.block ≡ r.0.block) × (r.1.place ≡ r.0.place) × Holds desk.new Owner r.0.block r.0.place × Holds desk.new Owner r.1.block r.1.place) }
+    ensures owners { IfSome result (λ r. (r.1.block ≡ r.0.block) × (r.1.place ≡ r.0.place)
+        × Holds desk.new Owner r.0.block r.0.place × Holds desk.new Owner r.1.block r.1.place) }
     ensures held { IfSome result (λ _. desk.new.held ≡ desk.old.held + 2) }
     ensures stock { IfSome result (λ _. length (stock_of desk.new) + 1 ≡ length (stock_of desk.old)) }
 {
@@ -183,10 +187,13 @@ pub(crate) fn hand_over(
     requires domain { Belongs desk.old domain.now }
     requires held { Holds desk.old Owner handle.block handle.place }
     requires blocks { blocks ≤ length (stock_of desk.old) }
-    ensures one { (desk.new.domain ≡ desk.old.domain) × (desk.new.shape ≡ desk.old.shape) × (desk.new.name ≡ desk.old.name) }
+    ensures one { (desk.new.domain ≡ desk.old.domain) × (desk.new.shape ≡ desk.old.shape)
+        × (desk.new.name ≡ desk.old.name) }
     ensures two { IfOk result (λ r. (r.0.domain ≡ desk.old.domain) × (r.0.shape ≡ desk.old.shape)) }
-    ensures sum { IfOk result (λ r. (allowance_of r.0 ≡ allowance) × (allowance_of desk.new + allowance ≡ allowance_of desk.old)) }
-    ensures bag { IfOk result (λ r. bag_of desk.new ≡ without_handle Owner handle.block handle.place (bag_of desk.old)) }
+    ensures sum { IfOk result
+        (λ r. (allowance_of r.0 ≡ allowance) × (allowance_of desk.new + allowance ≡ allowance_of desk.old)) }
+    ensures bag { IfOk result
+        (λ r. bag_of desk.new ≡ without_handle Owner handle.block handle.place (bag_of desk.old)) }
     ensures other { IfOk result (λ r. (r.1.block ≡ handle.block) × (r.1.place ≡ handle.place)) }
     ensures given { IfOk result (λ r. bag_of r.0 ≡ with_handle Owner r.1.block r.1.place []) }
     ensures held { IfOk result (λ r. Holds r.0 Owner r.1.block r.1.place) }

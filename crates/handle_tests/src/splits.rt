@@ -1,5 +1,6 @@
 //! What a split gives and keeps.
-ghost use Rattle.std.specs.Prelude.{◌≡◌, ◌+◌, ◌-◌, ◌<◌, ◌≤◌, [], ◌∷◌, length, IfOk, IfErr, IfSome, IsTrue, None, Some};
+ghost use Rattle.std.specs.Prelude.{◌≡◌, ◌+◌, ◌-◌, ◌<◌, ◌≤◌, [], ◌∷◌, length, IfOk};
+ghost use Rattle.std.specs.Prelude.{IfErr, IfSome, IsTrue, None, Some};
 ghost use Rattle.control_block.specs.Desks.{Belongs, allowance_of, bag_of, stock_of};
 ghost use Rattle.control_block.specs.Parting.{listed};
 
@@ -27,7 +28,8 @@ fn cut(
     requires domain { Belongs desk.old domain.now }
     requires blocks { blocks ≤ length (stock_of desk.old) }
     ensures desk { (desk.new.domain ≡ desk.old.domain) × (desk.new.shape ≡ desk.old.shape) }
-    ensures stock { IfOk result (λ d. length (stock_of desk.new) + length (stock_of d) ≡ length (stock_of desk.old)) }
+    ensures stock { IfOk result
+        (λ d. length (stock_of desk.new) + length (stock_of d) ≡ length (stock_of desk.old)) }
     ensures same { IfErr result (λ _. desk.new ≡ desk.old) }
     ensures other { IfOk result (λ d. (d.domain ≡ desk.old.domain) × (d.shape ≡ desk.old.shape)) }
 {

@@ -42,7 +42,8 @@ fn this_of(
     (strong, weak)
 }
 
-// What an object that ends says of itself: its fields, whether it is null, and clear before its clears, and why it gives no owner.
+// What an object that ends says of itself: its fields, whether it is null, and clear before its clears, and why it
+// gives no owner.
 fn last_words(
     domain: &Domain<u64>,
     desk: &mut Desk<u64>,
@@ -63,8 +64,8 @@ fn last_words(
 
 type Words = ([u64; 4], bool, Option<Refusal>, bool, u64, u32, u32);
 
-// An object with one owner ends: its last words, whether a weak handle that it gave is expired, its value, and the stock
-// after its end and after the weak handle's.
+// An object with one owner ends: its last words, whether a weak handle that it gave is expired, its value, and the
+// stock after its end and after the weak handle's.
 fn end_with_a_weak_handle(
     domain: &Domain<u64>,
     desk: &mut Desk<u64>,

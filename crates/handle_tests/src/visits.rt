@@ -79,7 +79,8 @@ fn both_visit<R: Threads + Wait + Sync>(
     )
 }
 
-// How many visits the threads made, whether an owner was left when the first one left, and the value at the object's end.
+// How many visits the threads made, whether an owner was left when the first one left, and the value at the object's
+// end.
 fn round<R: Threads + Wait + Sync>(
     rt: &R,
     alloc: Global,

@@ -1,6 +1,7 @@
 //! A weak pointer watches an object.
 ghost use Rattle.std.specs.Prelude.{◌≡◌, ◌+◌, []};
-ghost use Rattle.shared_handle.specs.Prelude.{Owner, Weak, Belongs, IsSameDesk, bag_of, Holds, with_handle, without_handle};
+ghost use Rattle.shared_handle.specs.Prelude.{Owner, Weak, Belongs, IsSameDesk, bag_of, Holds, with_handle};
+ghost use Rattle.shared_handle.specs.Prelude.{without_handle};
 
 use crate::parts::{end, shape, shut};
 use control_block::desk::Desk;
@@ -30,7 +31,8 @@ pub(crate) fn tell_weak(
     (gone, count)
 }
 
-// A copy of a weak handle of one owner before it leaves, whether the two are in owner order, and the handle after it left.
+// A copy of a weak handle of one owner before it leaves, whether the two are in owner order, and the handle after it
+// left.
 #[tactic(auto, using(shared_handle::proofs::Callers::first_out))]
 fn watch(
     domain: &Domain<u64>,

@@ -28,4 +28,5 @@ one_more f b n k start so_far next is p q =
     ∙ ap (λ l. start ++ l) (last ∙ ap (λ i. flat_map f (from b i)) e)
   where
     last : flat_map f (from b n) ++ f (b + n) ≡ flat_map f (from b (suc n))
-    last = sym (ap (flat_map f) (from-suc b n) ∙ flat_map-append f (from b n) ((b + n) ∷ []) ∙ ap (λ l. flat_map f (from b n) ++ l) (nil_right (f (b + n))))
+    last =
+        sym (ap (flat_map f) (from-suc b n) ∙ flat_map-append f (from b n) ((b + n) ∷ []) ∙ ap (λ l. flat_map f (from b n) ++ l) (nil_right (f (b + n))))

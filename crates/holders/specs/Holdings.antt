@@ -1,5 +1,6 @@
 -- Which cells hold handles on which blocks, and which blocks a free cell keeps. All of it is own.
-use Rattle.std.specs.Prelude.{All, ◌≡◌, ◌⊎◌, ℕ, ◌+◌, ◌≤◌, Bool, true, List, [], ◌∷◌, ◌++◌, Option, Some, None, nat_lt}
+use Rattle.std.specs.Prelude.{All, ◌≡◌, ◌⊎◌, ℕ, ◌+◌, ◌≤◌, Bool, true, List, [], ◌∷◌}
+use Rattle.std.specs.Prelude.{◌++◌, Option, Some, None, nat_lt}
 use Rattle.std.specs.List.{flat_map}
 use Rattle.control_word.specs.declared.counts.Counts.{Counts}
 use Rattle.control_word.specs.declared.place.Block.{Block}
@@ -55,7 +56,8 @@ source (Member b m) = b.0
 -- an owner in a is on b
 abbrev pub Owns : ℕ → List Holding → ℕ → ℕ → Type 0
 Owns shared [] a b = ⊥
-Owns shared (h ∷ hs) a b = ((is_owner shared h.cell ≡ true) × (source h.cell ≡ a) × (h.block.0 ≡ b)) ⊎ Owns shared hs a b
+Owns shared (h ∷ hs) a b =
+    ((is_owner shared h.cell ≡ true) × (source h.cell ≡ a) × (h.block.0 ≡ b)) ⊎ Owns shared hs a b
 
 -- owners lead from a by these blocks, one after another, to b, which is the last of them
 abbrev pub IsOwnerPath : ℕ → List Holding → ℕ → List ℕ → ℕ → Type 0

@@ -8,7 +8,8 @@ use directed_graph::Edge;
 use std::alloc::{AllocError, Global};
 use step_core::Cell;
 
-/// Whether a cell holds an owner: one of the first free cells, of which so many are shared, or `first` or `next` of an object.
+/// Whether a cell holds an owner: one of the first free cells, of which so many are shared, or `first` or `next` of an
+/// object.
 fn is_owner(shared: u32, cell: Cell) -> bool
     ensures { result ≡ is_owner shared cell }
 {

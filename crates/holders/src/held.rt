@@ -5,7 +5,8 @@ ghost use Rattle.step_core.specs.Totals.{IsAtEnd};
 ghost use Rattle.step_table.specs.Cells.{IsThere};
 ghost use Rattle.step_table.specs.Stories.{state};
 ghost use Rattle.step_threads.specs.Stocks.{from};
-ghost use Rattle.holders.specs.Holdings.{AddsAmong, IsAmong, all_held, cells_of, held_by_block, held_by_free, held_in, source};
+ghost use Rattle.holders.specs.Holdings.{AddsAmong, IsAmong, all_held, cells_of, held_by_block, held_by_free, held_in};
+ghost use Rattle.holders.specs.Holdings.{source};
 
 use control_word::Block;
 use std::alloc::{AllocError, Global};
@@ -76,9 +77,9 @@ fn add_blocks(world: &World, blocks: u16, holdings: &mut Vec<Holding>) -> Result
     Ok(())
 }
 
-/// What all cells hold (own), in the order of the cells: the free ones, the shared before the weak, and then the members
-/// by block; the blocks of all of them are the world's. Conditions: each thread is at its end, and cells and blocks are as
-/// many as the world has.
+/// What all cells hold (own), in the order of the cells: the free ones, the shared before the weak, and then the
+/// members by block; the blocks of all of them are the world's. Conditions: each thread is at its end, and cells and
+/// blocks are as many as the world has.
 pub fn holdings(
     alloc: Global,
     world: &World,

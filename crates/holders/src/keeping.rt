@@ -1,5 +1,6 @@
 //! Which blocks owners keep from the free cells, and which keep each other.
-ghost use Rattle.std.specs.Prelude.{◌≡◌, ◌↔◌, ◌+◌, ◌<◌, ◌≤◌, ◌&&◌, ℕ, IfErr, IfOk, false, true, length, slice_index_or};
+ghost use Rattle.std.specs.Prelude.{◌≡◌, ◌↔◌, ◌+◌, ◌<◌, ◌≤◌, ◌&&◌, ℕ, IfErr, IfOk};
+ghost use Rattle.std.specs.Prelude.{false, true, length, slice_index_or};
 ghost use Rattle.directed_graph.specs.Paths.{AreWithin};
 ghost use Rattle.holders.specs.Holdings.{IsKept, Leads};
 ghost use Rattle.holders.specs.Edges.{owner_edges};
@@ -52,10 +53,10 @@ pub(crate) fn reaching(
     Ok(marked)
 }
 
-/// Which blocks are kept (own): those to which a path of owners leads from a free cell. What is in any other block that isn't
-/// vacant is leaked, or only weak handles are on it. It takes time linear in blocks and handles. Of the free cells so many are
-/// shared. Refused `Outside` only where an owner is in or on a block that isn't among so many, and else `Memory` only where
-/// a growth was really refused.
+/// Which blocks are kept (own): those to which a path of owners leads from a free cell. What is in any other block that
+/// isn't vacant is leaked, or only weak handles are on it. It takes time linear in blocks and handles. Of the free
+/// cells so many are shared. Refused `Outside` only where an owner is in or on a block that isn't among so many, and
+/// else `Memory` only where a growth was really refused.
 pub fn kept(
     alloc: Global,
     shared: u32,
@@ -85,8 +86,9 @@ fn marked_twice(alloc: Global, one: &[bool], other: &[bool]) -> Result<Vec<bool>
     Ok(both)
 }
 
-/// The knot that a block is in (own): just the blocks to which owners lead from it, and from which they lead back. So they
-/// keep each other, and no further one could be added. It takes time linear in blocks and handles. Refused as [`kept`] is.
+/// The knot that a block is in (own): just the blocks to which owners lead from it, and from which they lead back. So
+/// they keep each other, and no further one could be added. It takes time linear in blocks and handles. Refused as
+/// [`kept`] is.
 pub fn knot(
     alloc: Global,
     shared: u32,

@@ -33,7 +33,8 @@ listed_still h (o ∷ os) l has =
     listed_still h os (with_observer l o) (more_listed h Weak o.weak.block o.weak.place (with_owner o.owner l) (with_owner_listed h o.owner l has))
 
 newest : (o : Observer) (l : List Handle) (b : Block) → o.weak.block ≡ Some b → Has (handle Weak (Some b.0) o.weak.place) (with_observer l o)
-newest o l b is = subst (λ (x : Option Block). Has (handle Weak (Some b.0) o.weak.place) (with_handle Weak x o.weak.place (with_owner o.owner l))) (sym is) (inl refl)
+newest o l b is = subst (λ (x : Option Block). Has (handle Weak (Some b.0) o.weak.place) (with_handle Weak x o.weak.place (with_owner o.owner l))) (sym is)
+    (inl refl)
 
 -- the bag lists the weak handles of all
 watched : (os : List Observer) (l : List Handle) → All IsOfObject os → All (IsWatched (with_observers os l)) os

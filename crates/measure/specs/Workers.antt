@@ -17,15 +17,16 @@ IsReal h = (b : Block) × (h.block ≡ Some b)
 abbrev pub IsManaged : DomainNow → DeskNow (Unit {0}) → Shared → Type 0
 IsManaged d e h = Belongs e d × IsReal h × Holds e Owner h.block h.place
 
--- a worker's desk is the domain's, may hold 8 handles, and holds an owner of its own object and one of the common one; it
--- has a cell of the domain's
+-- a worker's desk is the domain's, may hold 8 handles, and holds an owner of its own object and one of the common one;
+-- it has a cell of the domain's
 pub record IsReady (d : DomainNow) (w : Worker) : Type 0 where
   pub domain : Belongs w.desk d
   pub allowance : allowance_of w.desk ≡ 8
   pub cell : w.cell < d.shape.shared_cells
   pub own : IsReal w.own
   pub common : IsReal w.common
-  pub bag : bag_of w.desk ≡ with_handle Owner w.own.block w.own.place (with_handle Owner w.common.block w.common.place [])
+  pub bag : bag_of w.desk ≡ with_handle Owner w.own.block w.own.place
+      (with_handle Owner w.common.block w.common.place [])
 
 pub record IsPairReady (d : DomainNow) (p : Pair) : Type 0 where
   pub left : IsReady d p.left

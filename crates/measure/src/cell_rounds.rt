@@ -92,7 +92,8 @@ pub(crate) fn exchange(
     true
 }
 
-/// A copy of an owner is for a cell that holds an equivalent one, and what came out leaves: whether no call was refused.
+/// A copy of an owner is for a cell that holds an equivalent one, and what came out leaves: whether no call was
+/// refused.
 #[tactic(auto, using(shared_handle::proofs::Callers::first_out))]
 fn compare_once<R: Wait>(
     rt: &R,

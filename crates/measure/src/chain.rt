@@ -17,8 +17,9 @@ use shared_handle::{Left, Shared, make, release};
 /// How long a chain is.
 pub(crate) const CHAIN: u32 = 4_095;
 
-/// Where an owner was the last, its object ends, and with it the chain of those that it alone owned, one after the other. It
-/// ends as many objects at most as there are blocks, so that it waits for nobody; what ends after them would stay ending.
+/// Where an owner was the last, its object ends, and with it the chain of those that it alone owned, one after the
+/// other. It ends as many objects at most as there are blocks, so that it waits for nobody; what ends after them would
+/// stay ending.
 pub(crate) fn end_left(domain: &Domain<()>, desk: &mut Desk<()>, left: Left<()>)
     requires domain { Belongs desk.old domain.now }
     requires left { CanEnd desk.old left }
@@ -54,7 +55,8 @@ pub(crate) fn build(domain: &Domain<()>, desk: &mut Desk<()>) -> Option<Shared>
     requires domain { Belongs desk.old domain.now }
     ensures desk { IsSameDesk desk.old desk.new }
     ensures real { IfSome result IsReal }
-    ensures bag { MatchOption result (bag_of desk.new ≡ bag_of desk.old) (λ h. bag_of desk.new ≡ with_handle Owner h.block h.place (bag_of desk.old)) }
+    ensures bag { MatchOption result (bag_of desk.new ≡ bag_of desk.old)
+        (λ h. bag_of desk.new ≡ with_handle Owner h.block h.place (bag_of desk.old)) }
     ensures held { MatchOption result (desk.new.held ≡ desk.old.held) (λ h. desk.new.held ≡ desk.old.held + 1) }
 {
     let Ok(mut first) = make(domain, desk, FIELDS, false, ()) else {

@@ -26,7 +26,8 @@ pub(crate) struct Observer {
 fn observe(domain: &Domain<()>, desk: &mut Desk<()>, lives: bool) -> Option<Observer>
     requires domain { Belongs desk.old domain.now }
     ensures desk { IsSameDesk desk.old desk.new }
-    ensures bag { MatchOption result (bag_of desk.new ≡ bag_of desk.old) (λ o. bag_of desk.new ≡ with_observer (bag_of desk.old) o) }
+    ensures bag { MatchOption result (bag_of desk.new ≡ bag_of desk.old)
+        (λ o. bag_of desk.new ≡ with_observer (bag_of desk.old) o) }
     ensures real { IfSome result IsOfObject }
 {
     let Ok(owner) = make(domain, desk, FIELDS, false, ()) else {

@@ -101,8 +101,8 @@ impl Row {
     }
 }
 
-/// A line: nanoseconds of some of the threads by their rounds, and the least part of its time, of 100, that a thread had a
-/// processor, or that it shared with the others; 0 where a call was refused, since then the rounds weren't done.
+/// A line: nanoseconds of some of the threads by their rounds, and the least part of its time, of 100, that a thread
+/// had a processor, or that it shared with the others; 0 where a call was refused, since then the rounds weren't done.
 pub(crate) fn line<R: Print>(
     rt: &R,
     name: &str,

@@ -1,4 +1,5 @@
-//! A stack of nodes, each the owner of the one below it, with the top one in a cell; at the bottom is an object that stays.
+//! A stack of nodes, each the owner of the one below it, with the top one in a cell; at the bottom is an object that
+//! stays.
 ghost use Rattle.std.specs.Prelude.{◌≡◌, ◌<◌, ◌+◌, List, MatchOption, IfSome};
 ghost use Rattle.control_word.specs.declared.handle.Handle.{Handle};
 ghost use Rattle.control_word.specs.declared.handle.Kind.TheVariants.{Owner};
@@ -23,8 +24,8 @@ struct Attempt {
     top: Shared,
 }
 
-/// One try to put the node above the top one. What to try next, if it isn't done; `whole` is false where it never will be,
-/// since a call was refused.
+/// One try to put the node above the top one. What to try next, if it isn't done; `whole` is false where it never will
+/// be, since a call was refused.
 #[tactic(auto, using(shared_handle::proofs::Callers::first_out, shared_handle::proofs::Callers::under_out, shared_handle::proofs::Callers::first_held, shared_handle::proofs::Callers::under_held))]
 fn try_push<R: Wait>(
     rt: &R,
@@ -36,12 +37,15 @@ fn try_push<R: Wait>(
 ) -> Option<Attempt>
     requires domain { Belongs desk.old domain.now }
     requires head { head < desk.old.shape.shared_cells }
-    requires bag { (l : List Handle) × (bag_of desk.old ≡ with_handle Owner attempt.top.block attempt.top.place (with_handle Owner attempt.node.block attempt.node.place l)) }
+    requires bag { (l : List Handle) × (bag_of desk.old ≡ with_handle Owner attempt.top.block attempt.top.place
+        (with_handle Owner attempt.node.block attempt.node.place l)) }
     requires real { IsReal attempt.top × IsReal attempt.node }
     ensures desk { IsSameDesk desk.old desk.new }
     ensures real { IfSome result (λ a. IsReal a.top × IsReal a.node) }
-    ensures bag { (l : List Handle) → bag_of desk.old ≡ with_handle Owner attempt.top.block attempt.top.place (with_handle Owner attempt.node.block attempt.node.place l)
-        → MatchOption result (bag_of desk.new ≡ l) (λ a. bag_of desk.new ≡ with_handle Owner a.top.block a.top.place (with_handle Owner a.node.block a.node.place l)) }
+    ensures bag { (l : List Handle) → bag_of desk.old ≡ with_handle Owner attempt.top.block attempt.top.place
+        (with_handle Owner attempt.node.block attempt.node.place l)
+        → MatchOption result (bag_of desk.new ≡ l) (λ a. bag_of desk.new
+        ≡ with_handle Owner a.top.block a.top.place (with_handle Owner a.node.block a.node.place l)) }
 {
     let Attempt { node, top } = attempt;
     let Ok(copy) = share(domain, desk, &top) else {
@@ -83,8 +87,8 @@ fn try_push<R: Wait>(
     }
 }
 
-/// One try to take the top node from the stack. What to try next, if it isn't done; `whole` is false where it never will
-/// be, since a call was refused or only the bottom is left.
+/// One try to take the top node from the stack. What to try next, if it isn't done; `whole` is false where it never
+/// will be, since a call was refused or only the bottom is left.
 #[tactic(auto, using(shared_handle::proofs::Callers::first_out, shared_handle::proofs::Callers::under_out, shared_handle::proofs::Callers::first_held, shared_handle::proofs::Callers::under_held))]
 fn try_pop<R: Wait>(
     rt: &R,
@@ -150,7 +154,8 @@ fn top_of<R: Wait>(rt: &R, domain: &Domain<()>, desk: &mut Desk<()>, head: u32) 
     requires head { head < desk.old.shape.shared_cells }
     ensures desk { IsSameDesk desk.old desk.new }
     ensures real { IfSome result IsReal }
-    ensures bag { MatchOption result (bag_of desk.new ≡ bag_of desk.old) (λ t. bag_of desk.new ≡ with_handle Owner t.block t.place (bag_of desk.old)) }
+    ensures bag { MatchOption result (bag_of desk.new ≡ bag_of desk.old)
+        (λ t. bag_of desk.new ≡ with_handle Owner t.block t.place (bag_of desk.old)) }
 {
     let Ok(top) = SharedAt::free(head).load(rt, domain, desk) else {
         return None;

@@ -1,5 +1,6 @@
 //! Workers: desks that are cut from one desk, each with an object of its own and an owner of a common one.
-ghost use Rattle.std.specs.Prelude.{◌≡◌, ◌+◌, ◌∷◌, ◌≤◌, ◌<◌, [], IfErr, IfOk, IfSome, MatchOption, Some, length};
+ghost use Rattle.std.specs.Prelude.{◌≡◌, ◌+◌, ◌∷◌, ◌≤◌, ◌<◌, [], IfErr, IfOk, IfSome};
+ghost use Rattle.std.specs.Prelude.{MatchOption, Some, length};
 ghost use Rattle.control_word.specs.declared.handle.Kind.TheVariants.{Owner};
 ghost use Rattle.control_word.specs.declared.place.Block.{Block};
 ghost use Rattle.control_block.specs.Desks.{Belongs, allowance_of, bag_of, stock_of};
@@ -16,12 +17,12 @@ use std::alloc::{AllocFailed, Global};
 /// How many handles a worker's desk may hold.
 pub(crate) const ALLOWANCE: u32 = 8;
 
-/// How many blocks it has: more than a thread pushes nodes in a row of the stack, since it may be that others get the block
-/// of each. What lies a byte apart for neighbouring blocks shares no cache line between desks.
+/// How many blocks it has: more than a thread pushes nodes in a row of the stack, since it may be that others get the
+/// block of each. What lies a byte apart for neighbouring blocks shares no cache line between desks.
 pub(crate) const BLOCKS: u32 = 16_000;
 
-/// The cell that all workers have in common. Each has one more of its own, with an unused one between any two: 128 bytes
-/// apart, as the peers' are.
+/// The cell that all workers have in common. Each has one more of its own, with an unused one between any two: 128
+/// bytes apart, as the peers' are.
 pub(crate) const COMMON_CELL: u32 = 0;
 
 /// What a thread is lent.
@@ -84,8 +85,10 @@ fn hand_over(
     requires blocks { BLOCKS ≤ length (stock_of desk.old) }
     ensures desk { (desk.new.domain ≡ desk.old.domain) × (desk.new.shape ≡ desk.old.shape) }
     ensures other { IfOk result (λ r. Belongs r.0 domain.now) }
-    ensures sum { IfOk result (λ r. (allowance_of r.0 ≡ ALLOWANCE) × (allowance_of desk.new + ALLOWANCE ≡ allowance_of desk.old)) }
-    ensures bag { IfOk result (λ r. bag_of desk.new ≡ without_handle Owner owner.block owner.place (bag_of desk.old)) }
+    ensures sum { IfOk result
+        (λ r. (allowance_of r.0 ≡ ALLOWANCE) × (allowance_of desk.new + ALLOWANCE ≡ allowance_of desk.old)) }
+    ensures bag { IfOk result
+        (λ r. bag_of desk.new ≡ without_handle Owner owner.block owner.place (bag_of desk.old)) }
     ensures owner { IfOk result (λ r. (r.1.block ≡ owner.block) × (r.1.place ≡ owner.place)) }
     ensures free { IfOk result (λ r. (r.0.held ≡ 1) × (length (stock_of r.0) ≡ BLOCKS)) }
     ensures given { IfOk result (λ r. bag_of r.0 ≡ with_handle Owner r.1.block r.1.place []) }
@@ -121,7 +124,8 @@ pub(crate) fn hire(
     requires cell { cell < domain.now.shape.shared_cells }
     requires desk { IsManaged domain.now desk.old common.now }
     ensures desk { IsManaged domain.now desk.new common.now }
-    ensures sum { MatchOption result (allowance_of desk.new ≡ allowance_of desk.old) (λ _. allowance_of desk.new + 8 ≡ allowance_of desk.old) }
+    ensures sum { MatchOption result (allowance_of desk.new ≡ allowance_of desk.old)
+        (λ _. allowance_of desk.new + 8 ≡ allowance_of desk.old) }
     ensures ready { IfSome result (λ w. IsReady domain.now w) }
 {
     if desk.stock() < BLOCKS {
@@ -192,7 +196,8 @@ pub(crate) fn hire_pair(
     requires cells { (left_cell < domain.now.shape.shared_cells) × (right_cell < domain.now.shape.shared_cells) }
     requires desk { IsManaged domain.now desk.old common.now }
     ensures desk { IsManaged domain.now desk.new common.now }
-    ensures sum { MatchOption result (allowance_of desk.new ≡ allowance_of desk.old) (λ _. allowance_of desk.new + 16 ≡ allowance_of desk.old) }
+    ensures sum { MatchOption result (allowance_of desk.new ≡ allowance_of desk.old)
+        (λ _. allowance_of desk.new + 16 ≡ allowance_of desk.old) }
     ensures ready { IfSome result (λ p. IsPairReady domain.now p) }
 {
     let left = hire(domain, desk, alloc, common, left_cell)?;
@@ -225,7 +230,8 @@ pub(crate) fn hire_team(
     requires cells { 8 < domain.now.shape.shared_cells }
     requires desk { IsManaged domain.now desk.old common.now }
     ensures desk { IsManaged domain.now desk.new common.now }
-    ensures sum { MatchOption result (allowance_of desk.new ≡ allowance_of desk.old) (λ _. allowance_of desk.new + 32 ≡ allowance_of desk.old) }
+    ensures sum { MatchOption result (allowance_of desk.new ≡ allowance_of desk.old)
+        (λ _. allowance_of desk.new + 32 ≡ allowance_of desk.old) }
     ensures ready { IfSome result (λ t. IsTeamReady domain.now t) }
 {
     let front = hire_pair(domain, desk, alloc, common, 2, 4)?;

@@ -36,9 +36,11 @@ use Rattle.scene_structures.proofs.Sole.{fresh_apart, held_live, state_is}
 use Rattle.scene_structures.proofs.Looks.{owner_within}
 
 module _ {V : Type 0} where
-  pub adopted : (d e : DeskNow V) (parent child : Shared) (fields : List ℕ) (x : V) (a : Adopts d parent fields x child e) → IsLegal (opening_of d.shape) d.seen
+  pub adopted : (d e : DeskNow V) (parent child : Shared) (fields : List ℕ) (x : V) (a : Adopts d parent fields x child e)
+      → IsLegal (opening_of d.shape) d.seen
       → IsSole d → IsWithin parent.block parent.place → Lists parent.block parent.place (bag_of d) → Lists parent.block parent.place (bag_of e)
-      → Lists child.block child.place (bag_of e) → node_in e parent ≡ node_in d parent → node_in e child ≡ node_in a.made child → IsAdopted d parent e
+      → Lists child.block child.place (bag_of e) → node_in e parent ≡ node_in d parent → node_in e child ≡ node_in a.made child
+      → IsAdopted d parent e
   adopted d e parent child fields x a legal sole (pq, points, within) lists_d lists_e lists_c parent_e child_e =
       let m = a.made in let n = a.hung in let b = a.block in let make = Make b false false fields x in
       let p = object_of (node_in d parent) in let c = Member p 0 in let o = suc (state_of d).made in let u = Member o 2 in
@@ -79,7 +81,8 @@ module _ {V : Type 0} where
         λ os list.
             let listed = chain_live (opening_of d.shape) (state_of d) c os (sound (opening_of d.shape) d.seen legal) there list in
             let list_m = list_on nowhere d m does_m legal sole c os (λ k. k) (apart_nowhere os) there c_lives_m list in
-            let list_n = list_on at_n m n does_n legal_m sole_m c os (λ k. let t : Member p 0 ≡ Member o 2 = k in absurd (cc t)) (apart_up o os) c_m c_lives_n list_m in
+            let list_n = list_on at_n m n does_n legal_m sole_m c os (λ k. let t : Member p 0 ≡ Member o 2 = k in absurd (cc t))
+            (apart_up o os) c_m c_lives_n list_m in
             grown n e c o q os rises legal_n sole_n (λ j k. let t : Member p 0 ≡ Member j 1 = k in absurd (cc t)) c_n lives
             (fresh_apart (state_of d) os listed) made_n block list_n,
         held_on _ n e does_e legal_n sole_n u

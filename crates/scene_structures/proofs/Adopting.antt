@@ -1,5 +1,6 @@
 -- The steps by which a child is added, put together.
-use Rattle.std.proofs.Common.{◌≡◌, ℕ, ◌+◌, ◌≤◌, List, [], ◌∷◌, length, false, Option, None, Some, Ok, refl, sym, ap, subst, ◌∙◌, arith}
+use Rattle.std.proofs.Common.{◌≡◌, ℕ, ◌+◌, ◌≤◌, List, [], ◌∷◌, length, false, Option, None, Some, Ok, refl, sym, ap, subst, ◌∙◌}
+use Rattle.std.proofs.Common.{arith}
 use Rattle.control_word.specs.Events.{place_at}
 use Rattle.control_word.specs.Handles.{handle, object_of, owner}
 use Rattle.control_word.specs.declared.event.Cell.{Cell}
@@ -32,7 +33,8 @@ use Rattle.scene_structures.proofs.Pushes.{listed_some, rises_later, same_left, 
 module _ {V : Type 0} where
   module _ (d m n s l e : DeskNow V) (parent node copy : Shared) where
     -- the parent and the new node are on what they were on, up to the look at the parent's `first`
-    pub parent_on : KeepsLatest d m → bag_of m ≡ with_handle Owner node.block node.place (bag_of d) → KeepsHeld m n → bag_of n ≡ bag_of m → KeepsLatest n s
+    pub parent_on : KeepsLatest d m → bag_of m ≡ with_handle Owner node.block node.place (bag_of d) → KeepsHeld m n
+        → bag_of n ≡ bag_of m → KeepsLatest n s
         → bag_of s ≡ with_handle Owner node.block node.place (bag_of n) → KeepsLatest s l → Lists parent.block parent.place (bag_of d)
         → (node_in l parent ≡ node_in d parent) × Lists parent.block parent.place (bag_of n)
     parent_on keeps_m bag_m hung bag_n keeps_s bag_s keeps_l lists =
@@ -97,7 +99,8 @@ module _ {V : Type 0} where
               refl,
             )
 
-  pub makes_latest : (d m : DeskNow V) (fields : List ℕ) (x : V) (b : Option Block) (p : Option Place) → Makes d false false fields x b p m → KeepsLatest d m
+  pub makes_latest : (d m : DeskNow V) (fields : List ℕ) (x : V) (b : Option Block) (p : Option Place)
+      → Makes d false false fields x b p m → KeepsLatest d m
   makes_latest d m fields x None p makes = absurd makes
   makes_latest d m fields x (Some b) p makes = calls_keep_latest d _ m makes.1
 

@@ -1,5 +1,6 @@
 -- What stays on a sole desk over a call that puts little anywhere.
-use Rattle.std.proofs.Common.{◌≡◌, ℕ, ◌≤◌, true, false, List, ◌∷◌, ◌++◌, map, Some, refl, sym, ap, subst, ◌∙◌, inl, inr, ◌⊎◌}
+use Rattle.std.proofs.Common.{◌≡◌, ℕ, ◌≤◌, true, false, List, ◌∷◌, ◌++◌, map, Some, refl, sym, ap, subst, ◌∙◌, inl, inr}
+use Rattle.std.proofs.Common.{◌⊎◌}
 use Rattle.std.specs.Prelude.{All}
 use Rattle.std.proofs.lemmas.List.Elements.{All-append, All-cons, All-weaker}
 use Rattle.control_word.proofs.history.Cells.{InState}
@@ -55,7 +56,8 @@ module _ {V : Type 0} where
   all_wider at bt f xs all = All-weaker (PutsOnly at) (PutsOnly bt) (puts_wider at bt f) xs all
 
   -- where a node that rises is put
-  pub rises_puts : (d e : DeskNow V) (c : Cell) (node : Handle) → Rises d c node e → Does (PutsOnly (λ k. (k ≡ Member (object_of node) 1) ⊎ (k ≡ c))) d e
+  pub rises_puts : (d e : DeskNow V) (c : Cell) (node : Handle) → Rises d c node e
+      → Does (PutsOnly (λ k. (k ≡ Member (object_of node) 1) ⊎ (k ≡ c))) d e
   rises_puts d e c node r =
       let at = λ (k : Cell). (k ≡ Member (object_of node) 1) ⊎ (k ≡ c) in
       let x = Compare c r.below node r.old true r.weak in let y = Swap (Member (object_of node) 1) r.below r.was in
@@ -120,7 +122,8 @@ module _ {V : Type 0} where
         ap (λ (t : State). (t.object o).block) state ∙ (block_kept (opening_of d.shape) (map (entry d.name) does.own) d.seen o made).0
 
   -- a node that rose in front of a list
-  pub grown : (d e : DeskNow V) (c : Cell) (o : ℕ) (q : Place) (os : List ℕ) → Rises d c (owner o (Some q)) e → IsLegal (opening_of d.shape) d.seen → IsSole d
+  pub grown : (d e : DeskNow V) (c : Cell) (o : ℕ) (q : Place) (os : List ℕ) → Rises d c (owner o (Some q)) e
+      → IsLegal (opening_of d.shape) d.seen → IsSole d
       → IsHead c → InState (state_of d) c → Lives (state_of e) c → Apart (NextOf o) os → o ≤ (state_of d).made
       → q.block.0 ≡ ((state_of d).object o).block → IsList (state_of d) c os → IsList (state_of e) c (o ∷ os)
   unfolding rises_puts
@@ -149,5 +152,6 @@ module _ {V : Type 0} where
       let lives' = subst (λ l. Lives (leads z l) c) split (subst (λ (t : State). Lives t c) state lives) in
       ap (λ (t : State). cell_of t c) state
       ∙ (ap (λ l. cell_of (leads z l) c) split
-      ∙ (cell_held z n nowhere r.after A c legal' (partings_put nowhere r.after r.late) (λ e. e) (in_later z (map (entry n) (y ∷ r.before)) d.seen c there) lives'
+      ∙ (cell_held z n nowhere r.after A c legal' (partings_put nowhere r.after r.late) (λ e. e)
+      (in_later z (map (entry n) (y ∷ r.before)) d.seen c there) lives'
       ∙ cell_put (leads z (map (entry n) r.before ++ d.seen)) n c up r.was))

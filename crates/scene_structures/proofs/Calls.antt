@@ -1,5 +1,6 @@
 -- Whole calls on a stack.
-use Rattle.std.proofs.Common.{◌≡◌, ℕ, ◌<◌, ◌≤◌, ◌+◌, false, length, List, [], ◌∷◌, Option, None, Some, refl, sym, ap, subst, ◌∙◌, arith}
+use Rattle.std.proofs.Common.{◌≡◌, ℕ, ◌<◌, ◌≤◌, ◌+◌, false, length, List, [], ◌∷◌, Option, None, Some, refl, sym, ap, subst}
+use Rattle.std.proofs.Common.{◌∙◌, arith}
 use Rattle.std.specs.Prelude.{MatchOption, vec_capacity}
 use Rattle.control_word.specs.Events.{place_at}
 use Rattle.control_word.specs.Handles.{object_of, owner}
@@ -64,7 +65,8 @@ module _ {V : Type 0} where
   -- what a pop gave, on a sole desk
   pub popped_or_bare : (d e : DeskNow V) (m : ℕ) (base : List Handle) (r : Option Shared)
       → MatchOption r (FindsNone d (Free m) e) (λ h. TakesNode d (Free m) h e)
-      → MatchOption r (HasHands base [] e) (λ h. HasHands base (h ∷ []) e) → IsLegal (opening_of d.shape) d.seen → m < (opening_of d.shape).cells → IsSole d
+      → MatchOption r (HasHands base [] e) (λ h. HasHands base (h ∷ []) e) → IsLegal (opening_of d.shape) d.seen
+      → m < (opening_of d.shape).cells → IsSole d
       → MatchOption r (IsBare d (Free m) e) (λ h. IsPopped d (Free m) h e)
   popped_or_bare d e m base None own hands legal lt sole = bare_list d e m own legal sole lt
   popped_or_bare d e m base (Some h) own hands legal lt sole = popped_list d e m h own legal sole lt (first_lists e base h [] hands)

@@ -86,7 +86,8 @@ Stays x y = (y.block ≡ x.block) × (y.member 1 ≡ x.member 1)
 kept_at : (s t : State) (o : ℕ) → Stays (s.object o) (t.object o) → Keeps s t o
 kept_at s t o x = record { block = x.0; next = x.1 }
 
-put_in : (at : Cell → Type 0) (q m o : ℕ) (h : Handle) (f : ℕ → Handle) → at (Member q m) → (at (Member o 1) → ⊥) → o ≡ q → put f m h 1 ≡ f 1
+put_in : (at : Cell → Type 0) (q m o : ℕ) (h : Handle) (f : ℕ → Handle) → at (Member q m) → (at (Member o 1) → ⊥)
+    → o ≡ q → put f m h 1 ≡ f 1
 put_in at q m o h f p not e = put_other f m h 1 (λ k. not (subst (λ j. at (Member j 1)) (sym e) (subst (λ j. at (Member q j)) (sym k) p)))
 
 module _ {V : Type 0} where
@@ -123,7 +124,8 @@ module _ {V : Type 0} where
   keeps_after s d (Load c got) at o asks p not lives made = record { block = refl; next = refl }
   keeps_after s d (Visit h y w) at o asks p not lives made = record { block = refl; next = refl }
 
-  pub cell_after : (s : State) (d : ℕ) (x : Event V) (at : Cell → Type 0) (n : ℕ) → PutsOnly at x → (at (Free n) → ⊥) → (after s d x).cell n ≡ s.cell n
+  pub cell_after : (s : State) (d : ℕ) (x : Event V) (at : Cell → Type 0) (n : ℕ) → PutsOnly at x → (at (Free n) → ⊥)
+      → (after s d x).cell n ≡ s.cell n
   cell_after s d (Swap (Free c) new old) at n p not = put_other s.cell c new n (λ e. not (subst (λ j. at (Free j)) (sym e) p))
   cell_after s d (Compare (Free c) ex new h true w) at n p not = put_other s.cell c new n (λ e. not (subst (λ j. at (Free j)) (sym e) p))
   cell_after s d (Swap (Member q m) new old) at n p not = refl

@@ -73,11 +73,13 @@ given_holds s d k o p in' =
 
 module _ {V : Type 0} where
   -- events in a row, before others
-  pub in_front : (d : ℕ) (a b : List (Event V)) (seen : List (Entry V)) → (map (entry d) (a ++ b) ++ seen) ≡ (map (entry d) a ++ (map (entry d) b ++ seen))
+  pub in_front : (d : ℕ) (a b : List (Event V)) (seen : List (Entry V))
+      → (map (entry d) (a ++ b) ++ seen) ≡ (map (entry d) a ++ (map (entry d) b ++ seen))
   in_front d a b seen = ap (λ l. l ++ seen) (map-append (entry d) a b) ∙ append_assoc (map (entry d) a) (map (entry d) b) seen
 
   -- the state after the node rose in front of the list in a cell
-  pub risen : (z : Opening) (d o : ℕ) (c : Cell) (q : Place) (below was old : Handle) (w : Bool) (before between late : List (Event V)) (seen : List (Entry V))
+  pub risen : (z : Opening) (d o : ℕ) (c : Cell) (q : Place) (below was old : Handle) (w : Bool)
+      (before between late : List (Event V)) (seen : List (Entry V))
       (os : List ℕ)
       → IsLegal z (map (entry d) (late ++ Compare c below (owner o (Some q)) old true w ∷ (between ++ Swap (Member o 1) below was ∷ before)) ++ seen)
       → All (PutsOnly (NextOf o)) before → All IsParting between → All IsParting late → IsHead c → InState (leads z seen) c

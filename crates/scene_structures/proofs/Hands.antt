@@ -1,5 +1,6 @@
 -- Handles that lie on a desk's bag.
-use Rattle.std.proofs.Common.{◌≡◌, ℕ, ◌+◌, ◌<◌, ◌≤◌, Bool, true, false, List, [], ◌∷◌, length, Option, None, Some, refl, sym, ap, subst}
+use Rattle.std.proofs.Common.{◌≡◌, ℕ, ◌+◌, ◌<◌, ◌≤◌, Bool, true, false, List, [], ◌∷◌, length, Option, None, Some, refl, sym, ap}
+use Rattle.std.proofs.Common.{subst}
 use Rattle.std.proofs.Common.{◌∙◌, inl, inr, arith}
 use Rattle.std.proofs.lemmas.Bool.{cond-true, cond-false}
 use Rattle.control_word.proofs.lists.Tallies.{handle_self, same_handle_true}
@@ -72,7 +73,8 @@ module _ {V : Type 0} where
       let a = stacked_most hs base in let b = has.few in
       holds_listed d h.block h.place _ has.bag (listed h.block h.place (stacked hs base) d.held (omega arith))
 
-  pub holds_second : (d : DeskNow V) (base : List Handle) (f h : Shared) (hs : List Shared) → HasHands base (f ∷ h ∷ hs) d → Holds d Owner h.block h.place
+  pub holds_second : (d : DeskNow V) (base : List Handle) (f h : Shared) (hs : List Shared) → HasHands base (f ∷ h ∷ hs) d
+      → Holds d Owner h.block h.place
   holds_second d base f h hs has =
       let a = stacked_most hs base in let b = has.few in
       holds_listed d h.block h.place _ has.bag (listed_second h.block f.block h.place f.place (stacked hs base) d.held (omega arith))
@@ -92,7 +94,8 @@ module _ {V : Type 0} where
           (subst (λ (y : Option Place). Has (handle Owner (Some b.0) p) (handle Owner (Some b.0) y ∷ base)) (sym e2) (inl refl)))))
 
   -- a copy
-  pub hands_copied : (d e : DeskNow V) (base : List Handle) (c h : Shared) (hs : List Shared) → HasHands base hs d → c.block ≡ h.block → c.place ≡ h.place
+  pub hands_copied : (d e : DeskNow V) (base : List Handle) (c h : Shared) (hs : List Shared) → HasHands base hs d
+      → c.block ≡ h.block → c.place ≡ h.place
       → bag_of e ≡ with_handle Owner h.block h.place (bag_of d) → e.held ≡ d.held + 1 → HasHands base (c ∷ hs) e
   hands_copied d e base c h hs has block place bag held =
       let a = has.few in
@@ -103,7 +106,8 @@ module _ {V : Type 0} where
 
   -- the second went, and another came
   pub hands_swapped : (d e : DeskNow V) (base : List Handle) (f h g : Shared) → HasHands base (f ∷ h ∷ []) d
-      → bag_of e ≡ with_handle Owner g.block g.place (without_handle Owner h.block h.place (bag_of d)) → e.held ≡ d.held → HasHands base (g ∷ f ∷ []) e
+      → bag_of e ≡ with_handle Owner g.block g.place (without_handle Owner h.block h.place (bag_of d)) → e.held ≡ d.held
+      → HasHands base (g ∷ f ∷ []) e
   hands_swapped d e base f h g has bag held =
       let a = has.few in
       record {
@@ -135,7 +139,8 @@ module _ {V : Type 0} where
   pub first_lists : (d : DeskNow V) (base : List Handle) (a : Shared) (hs : List Shared) → HasHands base (a ∷ hs) d → Lists a.block a.place (bag_of d)
   first_lists d base a hs has = subst (Lists a.block a.place) (sym has.bag) (lists_first a.block a.place (stacked hs base))
 
-  pub second_lists : (d : DeskNow V) (base : List Handle) (c a : Shared) (hs : List Shared) → HasHands base (c ∷ a ∷ hs) d → Lists a.block a.place (bag_of d)
+  pub second_lists : (d : DeskNow V) (base : List Handle) (c a : Shared) (hs : List Shared) → HasHands base (c ∷ a ∷ hs) d
+      → Lists a.block a.place (bag_of d)
   second_lists d base c a hs has =
       subst (Lists a.block a.place) (sym has.bag) (lists_under a.block c.block a.place c.place _ (lists_first a.block a.place (stacked hs base)))
 
@@ -156,5 +161,6 @@ module _ {V : Type 0} where
       }
 
   -- over a call by which none came and none went
-  pub hands_kept : (d e : DeskNow V) (base : List Handle) (hs : List Shared) → HasHands base hs d → bag_of e ≡ bag_of d → e.held ≡ d.held → HasHands base hs e
+  pub hands_kept : (d e : DeskNow V) (base : List Handle) (hs : List Shared) → HasHands base hs d → bag_of e ≡ bag_of d
+      → e.held ≡ d.held → HasHands base hs e
   hands_kept d e base hs has bag held = let a = has.few in record { bag = bag ∙ has.bag; few = omega arith }

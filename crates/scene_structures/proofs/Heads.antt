@@ -71,7 +71,8 @@ module _ {V : Type 0} where
   live_before s d o (Visit h y w) at p made = λ l. l
 
   -- a member that is put nowhere stays, while its object lives
-  pub member_after : (s : State) (d o k : ℕ) (x : Event V) (at : Cell → Type 0) → Asks s d x → PutsOnly at x → (at (Member o k) → ⊥) → o ≤ s.made
+  pub member_after : (s : State) (d o k : ℕ) (x : Event V) (at : Cell → Type 0) → Asks s d x → PutsOnly at x
+      → (at (Member o k) → ⊥) → o ≤ s.made
       → (s.object o).phase ≡ live → ((after s d x).object o).member k ≡ (s.object o).member k
   member_after s d o k (Make b enabled null fields value) at asks p not made lives =
       ap (λ (u : Object). u.member k) (put_other s.object (suc s.made) (new_object b.0 enabled null fields) o (λ e. omega arith))
@@ -111,7 +112,8 @@ module _ {V : Type 0} where
   member_after s d o k (Load c got) at asks p not made lives = refl
   member_after s d o k (Visit h y w) at asks p not made lives = refl
 
-  pub cell_stays : (s : State) (d : ℕ) (x : Event V) (at : Cell → Type 0) (c : Cell) → Asks s d x → PutsOnly at x → (at c → ⊥) → InState s c → Lives s c
+  pub cell_stays : (s : State) (d : ℕ) (x : Event V) (at : Cell → Type 0) (c : Cell) → Asks s d x → PutsOnly at x → (at c → ⊥)
+      → InState s c → Lives s c
       → cell_of (after s d x) c ≡ cell_of s c
   cell_stays s d x at (Free n) asks p not there lives = cell_after s d x at n p not
   cell_stays s d x at (Member o k) asks p not there lives = member_after s d o k x at asks p not (let t = there.1 in omega arith) lives

@@ -108,7 +108,8 @@ module _ {V : Type 0} where
   round_latest d e ys zs (Ended v) is = calls_keep_latest d _ e is.finish.event
 
   -- what it has in the end, it had
-  pub keeps_held : (d e : DeskNow V) → ((k : Kind) (p : Option Place) (b : ℕ) → HasHandle e k p b → HasHandle d k p b) → KeepsLatest d e → KeepsHeld d e
+  pub keeps_held : (d e : DeskNow V) → ((k : Kind) (p : Option Place) (b : ℕ) → HasHandle e k p b → HasHandle d k p b)
+      → KeepsLatest d e → KeepsHeld d e
   keeps_held d e had keeps k p b has = keeps k p b (had k p b has)
 
   pub keeps_same : (d e : DeskNow V) → bag_of e ≡ bag_of d → KeepsLatest d e → KeepsHeld d e

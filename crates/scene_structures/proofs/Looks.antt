@@ -85,7 +85,8 @@ module _ {V : Type 0} where
       }
 
   -- the look was the last one, and found no node
-  pub finds_none : (d e f : DeskNow V) (c : Cell) (h : Shared) → Looks d c h e → (IsWithin h.block h.place → ⊥) → Does IsParting e f → FindsNone d c f
+  pub finds_none : (d e f : DeskNow V) (c : Cell) (h : Shared) → Looks d c h e → (IsWithin h.block h.place → ⊥)
+      → Does IsParting e f → FindsNone d c f
   finds_none d e f c h l not does =
       record {
         found = h;
@@ -105,7 +106,8 @@ module _ {V : Type 0} where
       }
 
   -- a load and a compare that differs
-  pub looks_again : (d e m u f : DeskNow V) (c : Cell) (h held : Shared) (k : Cell) (below ex new : Handle) (w : Bool) → Looks d c h e → Adds e (Load k below) m
+  pub looks_again : (d e m u f : DeskNow V) (c : Cell) (h held : Shared) (k : Cell) (below ex new : Handle) (w : Bool) → Looks d c h e
+      → Adds e (Load k below) m
       → Adds m (Compare c ex new (node_in u held) false w) u → Lists held.block held.place (bag_of u) → Does IsParting u f → Looks d c held f
   looks_again d e m u f c h held k below ex new w l loads differs lists does =
       let a = looks_does d e c h l in
@@ -116,7 +118,8 @@ module _ {V : Type 0} where
         before = x ∷ a.own;
         after = does.own;
         sees = (refl, refl);
-        looks = goes_in_turn d (x ∷ a.own) m (y ∷ []) u (goes_in_turn d a.own e (x ∷ []) m a.goes (goes_by_call e x m loads)) (goes_by_call m y u differs);
+        looks = goes_in_turn d (x ∷ a.own) m (y ∷ []) u (goes_in_turn d a.own e (x ∷ []) m a.goes (goes_by_call e x m loads))
+            (goes_by_call m y u differs);
         leaves = does.goes;
         early = All-cons (PutsOnly nowhere) x a.own tt a.all;
         late = does.all;
@@ -144,7 +147,8 @@ module _ {V : Type 0} where
       }
 
   -- an owner that points into its block, by its object
-  pub owner_within : (d : DeskNow V) (h : Shared) (q : Place) → h.place ≡ Some q → h.block ≡ Some q.block → node_in d h ≡ owner (latest_of d q.block.0) (Some q)
+  pub owner_within : (d : DeskNow V) (h : Shared) (q : Place) → h.place ≡ Some q → h.block ≡ Some q.block
+      → node_in d h ≡ owner (latest_of d q.block.0) (Some q)
   owner_within d h q place block = λ i. handle_in d Owner (block i) (place i)
 
 -- what has no member is no node
@@ -153,5 +157,6 @@ pub no_member : {A : Type 0} (is : Block → A → Type 0) (b : Option Block) (p
 no_member is b p (Ok at) h not within = not at refl
 no_member is b p (Err Null) h not within = absurd (let e = within.1 in let t : None ≡ Some within.0 = sym h ∙ e in cc)
 no_member is b p (Err Outside) h not within =
-    let same : h.0 ≡ within.0 = (let e : Some h.0 ≡ Some within.0 = sym h.1 ∙ within.1 in cc) in h.2 (within.2 ∙ ap (λ (q : Place). Some q.block) (sym same))
+    let same : h.0 ≡ within.0 = (let e : Some h.0 ≡ Some within.0 = sym h.1 ∙ within.1 in cc) in
+    h.2 (within.2 ∙ ap (λ (q : Place). Some q.block) (sym same))
 no_member is b p (Err why) h not within = absurd h

@@ -1,5 +1,6 @@
 -- A look for a node's parent.
-use Rattle.std.proofs.Common.{◌≡◌, ℕ, ◌==◌, Bool, true, false, not, cond, is_some, [], ◌∷◌, Option, None, Some, Ok, refl, sym, ap, subst, ◌∙◌, arith}
+use Rattle.std.proofs.Common.{◌≡◌, ℕ, ◌==◌, Bool, true, false, not, cond, is_some, [], ◌∷◌, Option, None, Some, Ok, refl, sym, ap, subst}
+use Rattle.std.proofs.Common.{◌∙◌, arith}
 use Rattle.std.proofs.lemmas.Bool.{cond-true, cond-false}
 use Rattle.control_word.proofs.history.Clearing.{gets_tally}
 use Rattle.control_word.specs.Events.{cell_of, gets}

@@ -1,5 +1,6 @@
 -- The steps of a push, put together.
-use Rattle.std.proofs.Common.{◌≡◌, ℕ, ◌+◌, cond, arith, Bool, true, false, List, [], ◌∷◌, ◌++◌, Option, None, Some, Ok, refl, sym, ap, subst, ◌∙◌}
+use Rattle.std.proofs.Common.{◌≡◌, ℕ, ◌+◌, cond, arith, Bool, true, false, List, [], ◌∷◌, ◌++◌, Option, None, Some, Ok, refl, sym, ap}
+use Rattle.std.proofs.Common.{subst, ◌∙◌}
 use Rattle.control_word.specs.Handles.{handle, object_of}
 use Rattle.control_word.specs.State.{Has}
 use Rattle.control_word.specs.declared.event.Cell.TheVariants.{Member}
@@ -53,7 +54,8 @@ module _ {V : Type 0} where
       }
 
   -- a handle that is held is on the object that it was on
-  same_listed : (d e : DeskNow V) (h : Shared) → ((b : Block) → h.block ≡ Some b → (state_of e).latest b.0 ≡ (state_of d).latest b.0) → SameNode d h e
+  same_listed : (d e : DeskNow V) (h : Shared)
+      → ((b : Block) → h.block ≡ Some b → (state_of e).latest b.0 ≡ (state_of d).latest b.0) → SameNode d h e
   same_listed d e h keeps = go h.block refl
     where
       go : (b : Option Block) → h.block ≡ b → handle_in e Owner h.block h.place ≡ handle_in d Owner h.block h.place
@@ -81,7 +83,8 @@ module _ {V : Type 0} where
       keeps k q n has ∙ calls_keep_latest d _ m adds k q n (has_all Owner b p _ (bag_of d) rest)
 
   -- a share is an event or, of an empty handle, none
-  pub shares_does : (at : Cell → Type 0) (d e : DeskNow V) (b : Option Block) (p q : Option Place) → Shares d b p q e → Does (PutsOnly at) d e × KeepsLatest d e
+  pub shares_does : (at : Cell → Type 0) (d e : DeskNow V) (b : Option Block) (p q : Option Place) → Shares d b p q e
+      → Does (PutsOnly at) d e × KeepsLatest d e
   shares_does at d e None p q is =
       let none : Does (PutsOnly at) d (counting (d.held + 1) d) =
       record { own = []; goes = record { same = (refl, refl, refl); later = []; seen = refl; mine = refl; legal = λ l. l }; all = All-nil (PutsOnly at) } in (
@@ -117,7 +120,8 @@ module _ {V : Type 0} where
 
   -- and of one that differed
   pub tries : (d s t u v : DeskNow V) (c : Cell) (o : ℕ) (ex new below got : Handle) (w : Bool)
-      → Does (PutsOnly (NextOf o)) d s → Fills s o below t → Adds t (Compare c ex new got false w) u → Does IsParting u v → Does (PutsOnly (NextOf o)) d v
+      → Does (PutsOnly (NextOf o)) d s → Fills s o below t → Adds t (Compare c ex new got false w) u → Does IsParting u v
+      → Does (PutsOnly (NextOf o)) d v
   tries d s t u v c o ex new below got w a f adds b =
       let p = PutsOnly (NextOf o) in
       let fill : Does p s t = record {

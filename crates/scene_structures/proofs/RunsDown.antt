@@ -1,5 +1,6 @@
 -- Rounds of a pile, with the slots of what ends in them.
-use Rattle.std.proofs.Common.{◌≡◌, ◌≢◌, ◌⊎◌, ℕ, ◌+◌, ◌*◌, ◌<◌, ◌≤◌, arith, length, List, [], ◌∷◌, ◌++◌, Option, None, refl, sym, ap, subst, ◌∙◌, inl, inr, append_assoc}
+use Rattle.std.proofs.Common.{◌≡◌, ◌≢◌, ◌⊎◌, ℕ, ◌+◌, ◌*◌, ◌<◌, ◌≤◌, arith, length, List, [], ◌∷◌, ◌++◌, Option}
+use Rattle.std.proofs.Common.{None, refl, sym, ap, subst, ◌∙◌, inl, inr, append_assoc}
 use Rattle.std.proofs.lemmas.List.{append-nil}
 use Rattle.control_block.specs.Desks.{DeskNow}
 use Rattle.shared_handle.specs.Endings.{with_clear}
@@ -44,7 +45,8 @@ module _ {V : Type 0} where
   parts ys base zs below x ss vs is vacant some are out were =
       let one = not_none is some in
       let t = top_there ss zs vs one.0 one.1 (sym vacant ∙ one.2) out in
-      let whole : (base ++ t.0) ++ t.1 ∷ [] ≡ below ++ x ∷ [] = append_assoc base t.0 (t.1 ∷ []) ∙ (ap (λ l. base ++ l) (sym t.2) ∙ (sym are ∙ were)) in
+      let whole : (base ++ t.0) ++ t.1 ∷ [] ≡ below ++ x ∷ [] =
+      append_assoc base t.0 (t.1 ∷ []) ∙ (ap (λ l. base ++ l) (sym t.2) ∙ (sym are ∙ were)) in
       let same = last_same (base ++ t.0) below t.1 x whole in
       (t.0, t.2 ∙ ap (λ (y : Ending V). t.0 ++ y ∷ []) same.1, sym same.0)
 
@@ -98,7 +100,8 @@ module _ {V : Type 0} where
           let value : top_value qs ≡ x.value ∷ [] = ap top_value is' ∙ top_of (base ++ l) x in (
             l ++ x ∷ [],
             is' ∙ append_assoc base l (x ∷ []),
-            subst (λ u. AreOut ts (l ++ x ∷ []) (vs ++ u)) (sym value) (subst (λ u. AreOut u (l ++ x ∷ []) (vs ++ x.value ∷ [])) (sym grown) (out_more ss l vs x o)),
+            subst (λ u. AreOut ts (l ++ x ∷ []) (vs ++ u)) (sym value)
+                (subst (λ u. AreOut u (l ++ x ∷ []) (vs ++ x.value ∷ [])) (sym grown) (out_more ss l vs x o)),
           )
 
   -- the top was finished
@@ -118,7 +121,8 @@ module _ {V : Type 0} where
       let e : [] ≡ (base ++ t.0) ++ t.1 ∷ [] = sym nil ∙ (are ∙ (ap (λ l. base ++ l) t.2 ∙ sym (append_assoc base t.0 (t.1 ∷ [])))) in
       no_last (base ++ t.0) t.1 e
 
-  pub round_out : (d e : DeskNow V) (ys qs : List (Ending V)) (r : Round V) (ss ts : List (Option V)) (is : List ℕ) → IsRound d ys r e qs → StepsBy r ss ts
+  pub round_out : (d e : DeskNow V) (ys qs : List (Ending V)) (r : Round V) (ss ts : List (Option V)) (is : List ℕ)
+      → IsRound d ys r e qs → StepsBy r ss ts
       → is ≡ empty_slots 0 ss → is ≢ [] → (base zs : List (Ending V)) (vs : List V) → ys ≡ base ++ zs → AreOut ss zs vs
       → (ws : List (Ending V)) × (qs ≡ base ++ ws) × AreOut ts ws (vs ++ ended_in r qs)
   round_out d e ys qs Settled ss ts is r steps vacant some base zs vs are out = absurd (never_settled ys base zs ss vs is r.0 vacant some are out)
@@ -204,7 +208,8 @@ module _ {V : Type 0} where
   runs_none d ys ss = record { rounds = []; are = (refl, refl); many = refl; out = λ base zs vs same out. (zs, same, out) }
 
   pub runs_over : (blocks b : ℕ) (d e : DeskNow V) (ys qs : List (Ending V)) (ss ts : List (Option V)) (is : List ℕ) (n : ℕ) → b ≡ blocks
-      → Runs d ys ss n e qs ts → n ≤ 4 * blocks → is ≡ empty_slots 0 ts → (is ≡ []) ⊎ ((4 * b ≤ n) ⊎ (b < length ts)) → RunsDown blocks d ys ss e qs ts
+      → Runs d ys ss n e qs ts → n ≤ 4 * blocks → is ≡ empty_slots 0 ts → (is ≡ []) ⊎ ((4 * b ≤ n) ⊎ (b < length ts))
+      → RunsDown blocks d ys ss e qs ts
   runs_over blocks b d e ys qs ss ts is n same runs most vacant over =
       record {
         rounds = runs.rounds;
@@ -212,7 +217,8 @@ module _ {V : Type 0} where
         out = λ base zs vs are out. let t = runs.out base zs vs are out in (t.0, t.1, t.2, stop t.0 _ t.2 over);
       }
     where
-      stop : (ws : List (Ending V)) (vs : List V) → AreOut ts ws vs → (is ≡ []) ⊎ ((4 * b ≤ n) ⊎ (b < length ts)) → MayStop blocks runs.rounds ws ts
+      stop : (ws : List (Ending V)) (vs : List V) → AreOut ts ws vs → (is ≡ []) ⊎ ((4 * b ≤ n) ⊎ (b < length ts))
+          → MayStop blocks runs.rounds ws ts
       stop ws vs out (inl none) = inl (out_all ts ws vs (sym vacant ∙ none) out)
       stop ws vs out (inr (inl all)) = let many = runs.many in inr (inl (omega arith))
       stop ws vs out (inr (inr lt)) = inr (inr (omega arith))

@@ -1,5 +1,6 @@
 -- On a sole desk a list loses just the node that is taken, and one in which no node was found is empty.
-use Rattle.std.proofs.Common.{◌≡◌, ℕ, ◌<◌, Bool, true, false, List, [], ◌∷◌, ◌++◌, map, None, Some, refl, sym, ap, subst, ◌∙◌, ⊎_elim}
+use Rattle.std.proofs.Common.{◌≡◌, ℕ, ◌<◌, Bool, true, false, List, [], ◌∷◌, ◌++◌, map, None, Some, refl, sym, ap, subst, ◌∙◌}
+use Rattle.std.proofs.Common.{⊎_elim}
 use Rattle.std.specs.Prelude.{All}
 use Rattle.std.proofs.lemmas.List.Elements.{All-cons}
 use Rattle.control_word.proofs.history.Given.{legal_seen}
@@ -61,7 +62,8 @@ module _ {V : Type 0} where
       let s = leads z L in let u = leads z C in
       let n = frames z d nowhere (y ∷ before) seen m os legalC.0 (All-cons (PutsOnly nowhere) y before tt early) lt (λ e. e) (apart_nowhere os) list in
       let asks = legalC.1.asks in
-      let alike : equivalent old node ≡ true = ⊎_elim (λ (e : true ≡ equivalent old node). sym e) (λ t. absurd (let e : true ≡ false = t.1 in cc)) asks.4 in
+      let alike : equivalent old node ≡ true =
+      ⊎_elim (λ (e : true ≡ equivalent old node). sym e) (λ t. absurd (let e : true ≡ false = t.1 in cc)) asks.4 in
       let cell : s.cell m ≡ old = sym asks.3 in
       let f = front s old o q os (subst (λ (h : Handle). Chain s h os) cell n) alike in
       let rest = f.0 in

@@ -24,7 +24,8 @@ module _ {V : Type 0} where
   pub in_bag : (d : DeskNow V) (base : List Handle) (hs : List Shared) (x : Handle) → HasHands base hs d → Has x base → Has x (bag_of d)
   in_bag d base hs x has in' = subst (Has x) (sym has.bag) (below_all hs base x in')
 
-  pub open_now : (d : DeskNow V) (z : Shape) (base : List Handle) (hs : List Shared) (s : SharedSite) → d.shape ≡ z → HasHands base hs d → IsOpenBy base z s
+  pub open_now : (d : DeskNow V) (z : Shape) (base : List Handle) (hs : List Shared) (s : SharedSite) → d.shape ≡ z
+      → HasHands base hs d → IsOpenBy base z s
       → IsOpen d s
   open_now d z base hs (Free n) shape has is = subst (λ (k : Shape). n < k.shared_cells) (sym shape) is
   open_now d z base hs (Of b m) shape has is = (is.0, in_bag d base hs (handle Owner (Some b.0) is.0) has is.1)

@@ -1,5 +1,6 @@
 -- Slots for the values of objects that end, beside the pile.
-use Rattle.std.proofs.Common.{◌≡◌, ◌⊎◌, ℕ, suc, ◌+◌, ◌<◌, length, List, [], ◌∷◌, ◌++◌, Option, None, Some, refl, sym, ap, subst, ◌∙◌, inl, inr, arith}
+use Rattle.std.proofs.Common.{◌≡◌, ◌⊎◌, ℕ, suc, ◌+◌, ◌<◌, length, List, [], ◌∷◌, ◌++◌, Option, None, Some, refl, sym, ap, subst}
+use Rattle.std.proofs.Common.{◌∙◌, inl, inr, arith}
 use Rattle.std.proofs.Common.{◌≢◌, ◌≤◌, append_assoc, reverse, slice_set}
 use Rattle.std.proofs.Math.Seq.{set-append_seam}
 use Rattle.std.proofs.lemmas.List.{append-nil, length-append, reverse-append}
@@ -19,7 +20,8 @@ pub last_of : {B : Type 0} (zs : List B) → (zs ≡ []) ⊎ ((ws : List B) × (
 last_of [] = inl refl
 last_of {B} (x ∷ zs) = go (last_of zs)
   where
-    go : (zs ≡ []) ⊎ ((ws : List B) × (z : B) × (zs ≡ ws ++ z ∷ [])) → (x ∷ zs ≡ []) ⊎ ((ws : List B) × (z : B) × (x ∷ zs ≡ ws ++ z ∷ []))
+    go : (zs ≡ []) ⊎ ((ws : List B) × (z : B) × (zs ≡ ws ++ z ∷ []))
+        → (x ∷ zs ≡ []) ⊎ ((ws : List B) × (z : B) × (x ∷ zs ≡ ws ++ z ∷ []))
     go (inl e) = inr ([], x, ap (λ l. x ∷ l) e)
     go (inr (ws, z, e)) = inr (x ∷ ws, z, ap (λ l. x ∷ l) e)
 
@@ -93,10 +95,12 @@ module _ {A : Type 0} where
       → js ≡ empty_slots 0 ts
   empty_more ss ts is js was grown more =
       let z : 0 + length ss ≡ length ss = omega arith in
-      grown ∙ (ap (λ l. l ++ length ss ∷ []) was ∙ (ap (λ k. empty_slots 0 ss ++ k ∷ []) (sym z) ∙ (sym (empty_both 0 ss (None ∷ [])) ∙ ap (empty_slots 0) (sym more))))
+      grown ∙ (ap (λ l. l ++ length ss ∷ []) was
+      ∙ (ap (λ k. empty_slots 0 ss ++ k ∷ []) (sym z) ∙ (sym (empty_both 0 ss (None ∷ [])) ∙ ap (empty_slots 0) (sym more))))
 
   -- the last one is filled
-  pub empty_less : (ss : List (Option A)) (is : List ℕ) (i : ℕ) (x : A) → empty_slots 0 ss ≡ is ++ i ∷ [] → is ≡ empty_slots 0 (slice_set ss i (Some x))
+  pub empty_less : (ss : List (Option A)) (is : List ℕ) (i : ℕ) (x : A) → empty_slots 0 ss ≡ is ++ i ∷ []
+      → is ≡ empty_slots 0 (slice_set ss i (Some x))
   empty_less ss is i x e =
       let t = last_empty 0 ss is i e in
       let at : i ≡ length t.before = (let a = t.at in omega arith) in
@@ -157,8 +161,14 @@ module _ {V : Type 0} where
   out_same [] zs x y vs same (none, nil) = absurd (no_last zs x (sym none))
   out_same (Some v ∷ ss) zs x y vs same (us, e, o) = (us, e, out_same ss zs x y us same o)
   out_same (None ∷ ss) [] x y vs same (z, ws, us, a, b, o) =
-      let head : x ≡ z = cc a in
-      (y, ws, us, (let tail : [] ≡ ws = cc a in ap (λ l. y ∷ l) tail), b ∙ ap (λ v. v ∷ us) (ap (λ (k : Ending V). k.value) (sym head) ∙ sym same), o)
+      let head : x ≡ z = cc a in (
+        y,
+        ws,
+        us,
+        (let tail : [] ≡ ws = cc a in ap (λ l. y ∷ l) tail),
+        b ∙ ap (λ v. v ∷ us) (ap (λ (k : Ending V). k.value) (sym head) ∙ sym same),
+        o,
+      )
   out_same (None ∷ ss) (w ∷ zs) x y vs same (z, ws, us, a, b, o) =
       let head : w ≡ z = cc a in let tail : zs ++ x ∷ [] ≡ ws = cc a in
       let t = out_same ss zs x y us same (subst (λ l. AreOut ss l us) (sym tail) o) in
@@ -171,7 +181,8 @@ module _ {V : Type 0} where
   out_some (None ∷ xs) ys zs vs e (z, ws, us, a, b, o) = let t : [] ≡ z ∷ ws = sym e ∙ a in cc t
 
   -- so where one is empty, something lies on top
-  pub top_there : (ss : List (Option V)) (zs : List (Ending V)) (vs : List V) (is : List ℕ) (i : ℕ) → empty_slots 0 ss ≡ is ++ i ∷ [] → AreOut ss zs vs
+  pub top_there : (ss : List (Option V)) (zs : List (Ending V)) (vs : List V) (is : List ℕ) (i : ℕ)
+      → empty_slots 0 ss ≡ is ++ i ∷ [] → AreOut ss zs vs
       → (ws : List (Ending V)) × (z : Ending V) × (zs ≡ ws ++ z ∷ [])
   top_there ss zs vs is i vacant out =
       let t = last_empty 0 ss is i vacant in
@@ -194,10 +205,17 @@ module _ {V : Type 0} where
   out_filled (Some w ∷ xs) ys zs x vs v none same (us, e, o) = (us, e, out_filled xs ys zs x us v none same o)
   out_filled (None ∷ xs) ys [] x vs v none same (z, ws, us, a, b, o) = absurd (let tail : [] ≡ ws = cc a in out_some xs ys ws us (sym tail) o)
   out_filled (None ∷ xs) ys (w ∷ zs) x vs v none same (z, ws, us, a, b, o) =
-      let head : w ≡ z = cc a in let tail : zs ++ x ∷ [] ≡ ws = cc a in
-      (w, zs, us, refl, b ∙ ap (λ (k : Ending V). k.value ∷ us) (sym head), out_filled xs ys zs x us v none same (subst (λ l. AreOut (xs ++ None ∷ ys) l us) (sym tail) o))
+      let head : w ≡ z = cc a in let tail : zs ++ x ∷ [] ≡ ws = cc a in (
+        w,
+        zs,
+        us,
+        refl,
+        b ∙ ap (λ (k : Ending V). k.value ∷ us) (sym head),
+        out_filled xs ys zs x us v none same (subst (λ l. AreOut (xs ++ None ∷ ys) l us) (sym tail) o),
+      )
 
-  pub out_less : (ss : List (Option V)) (is : List ℕ) (i : ℕ) (v : V) (zs : List (Ending V)) (x : Ending V) (vs : List V) → empty_slots 0 ss ≡ is ++ i ∷ []
+  pub out_less : (ss : List (Option V)) (is : List ℕ) (i : ℕ) (v : V) (zs : List (Ending V)) (x : Ending V) (vs : List V)
+      → empty_slots 0 ss ≡ is ++ i ∷ []
       → v ≡ x.value → AreOut ss (zs ++ x ∷ []) vs → AreOut (slice_set ss i (Some v)) zs vs
   out_less ss is i v zs x vs e same out =
       let t = last_empty 0 ss is i e in

@@ -1,5 +1,6 @@
 -- What the own events of a push and of a pop come to on a sole desk.
-use Rattle.std.proofs.Common.{◌≡◌, ℕ, suc, ◌<◌, ◌≤◌, true, false, List, [], ◌∷◌, ◌++◌, map, Option, None, Some, refl, sym, ap, subst, ◌∙◌, arith}
+use Rattle.std.proofs.Common.{◌≡◌, ℕ, suc, ◌<◌, ◌≤◌, true, false, List, [], ◌∷◌, ◌++◌, map, Option, None, Some, refl, sym, ap}
+use Rattle.std.proofs.Common.{subst, ◌∙◌, arith}
 use Rattle.std.specs.Prelude.{All}
 use Rattle.std.proofs.lemmas.List.Elements.{All-append, All-cons, All-nil, All-weaker}
 use Rattle.control_word.proofs.history.Cells.{open_live}
@@ -68,7 +69,8 @@ module _ {V : Type 0} where
     sole_is = (come_in_a_row d own e goes keep legal sole).1
 
   -- push
-  pub pushed_list : (d e : DeskNow V) (m : ℕ) (fields : List ℕ) (x : V) → Pushes d (Free m) fields x e → IsLegal (opening_of d.shape) d.seen → IsSole d
+  pub pushed_list : (d e : DeskNow V) (m : ℕ) (fields : List ℕ) (x : V) → Pushes d (Free m) fields x e
+      → IsLegal (opening_of d.shape) d.seen → IsSole d
       → m < (opening_of d.shape).cells → IsPushed d (Free m) e
   pushed_list d e m fields x pushes legal sole lt os list =
       let z = opening_of d.shape in let n = d.name in
@@ -118,7 +120,8 @@ module _ {V : Type 0} where
       → node_in e h ≡ owner o (Some q) → ((state_of e).object o).phase ≡ live
   held_live e h o q legal lists node = go h.block h.place lists node
     where
-      go : (b : Option Block) (p : Option Place) → Lists b p (bag_of e) → handle_in e Owner b p ≡ owner o (Some q) → ((state_of e).object o).phase ≡ live
+      go : (b : Option Block) (p : Option Place) → Lists b p (bag_of e) → handle_in e Owner b p ≡ owner o (Some q)
+          → ((state_of e).object o).phase ≡ live
       go None p lists same = absurd (let t : None ≡ Some o = ap (λ (k : Handle). k.object) same in cc)
       go (Some b) p lists same =
           let z = opening_of e.shape in let k = handle Owner (Some (latest_of e b.0)) p in

@@ -1,6 +1,7 @@
 -- A call on a sole desk that puts nothing anywhere and gives back just what it took: no object ends in it, so what it saw is
 -- what there was before.
-use Rattle.std.proofs.Common.{◌≡◌, ◌⊎◌, ℕ, suc, ◌==◌, ◌<◌, ◌≤◌, Bool, true, false, not, filter, length, List, [], ◌∷◌, ◌++◌, map}
+use Rattle.std.proofs.Common.{◌≡◌, ◌⊎◌, ℕ, suc, ◌==◌, ◌<◌, ◌≤◌, Bool, true, false, not, filter, length, List, [], ◌∷◌}
+use Rattle.std.proofs.Common.{◌++◌, map}
 use Rattle.std.proofs.Common.{Some, refl, sym, ap, subst, ◌∙◌, inl, inr, ⊎_elim, arith}
 use Rattle.std.specs.Prelude.{All, slice_index}
 use Rattle.std.proofs.lemmas.Bool.{and_parts, cases_lt, cond-false, eqb-true}
@@ -62,7 +63,8 @@ same_cells : (s t : State) → Still s t → in_cells t ≡ in_cells s
 same_cells s t st = λ i. upto (st.cells i) (λ c. st.cell i c ∷ []) ++ upto (suc (st.made i)) (λ o. members (st.objects i o))
 
 -- an owner that is the only one is in no cell
-last_alone : (t : State) (d : ℕ) (h : Handle) → Has (held d h) t.hands → h.kind ≡ Owner → h.object ≡ Some (object_of h) → count t (object_of h) ≡ 1
+last_alone : (t : State) (d : ℕ) (h : Handle) → Has (held d h) t.hands → h.kind ≡ Owner → h.object ≡ Some (object_of h)
+    → count t (object_of h) ≡ 1
     → tally Owner (object_of h) (in_cells t) ≡ 0
 unfolding count
 last_alone t d h has kind object one =

@@ -1,5 +1,6 @@
 -- Looks of a desk, one call after the other.
-use Rattle.std.proofs.Common.{◌≡◌, ℕ, Bool, true, false, cond, filter, List, [], ◌∷◌, ◌++◌, Option, None, Some, Ok, refl, sym, ap, subst, ◌∙◌, inl}
+use Rattle.std.proofs.Common.{◌≡◌, ℕ, Bool, true, false, cond, filter, List, [], ◌∷◌, ◌++◌, Option, None, Some, Ok, refl, sym, ap, subst}
+use Rattle.std.proofs.Common.{◌∙◌, inl}
 use Rattle.std.specs.Prelude.{All, is_some}
 use Rattle.std.proofs.lemmas.Option.{same_Some}
 use Rattle.std.proofs.lemmas.List.Elements.{All-append, All-cons, All-head, All-nil, All-tail, All-weaker, filter-append}
@@ -37,7 +38,8 @@ use Rattle.scene_structures.proofs.Looks.{owner_within}
 use Rattle.scene_structures.proofs.Latest.{has_over, latest_none, weak_latest}
 
 -- what was told above the rest, by another name
-pub folded : {F : Type 0} (step : F → ℕ → F → Type 0) (f last : F) (o p : Option ℕ) (told : List ℕ) → o ≡ p → FoldsBack step f (onto p told) last
+pub folded : {F : Type 0} (step : F → ℕ → F → Type 0) (f last : F) (o p : Option ℕ) (told : List ℕ) → o ≡ p
+    → FoldsBack step f (onto p told) last
     → FoldsBack step f (onto o told) last
 folded step f last o p told same folds = subst (λ (k : Option ℕ). FoldsBack step f (onto k told) last) (sym same) folds
 
@@ -67,7 +69,12 @@ module _ {V : Type 0} where
   pub looked_counted : (d e : DeskNow V) (n : ℕ) → e ≡ counting n d → HasLooked d [] e
   looked_counted d e n same =
       subst (HasLooked d []) (sym same)
-      record { own = []; goes = record { same = (refl, refl, refl); later = []; seen = refl; mine = refl; legal = λ l. l }; quiet = All-nil IsLooking; are = refl }
+      record {
+        own = [];
+        goes = record { same = (refl, refl, refl); later = []; seen = refl; mine = refl; legal = λ l. l };
+        quiet = All-nil IsLooking;
+        are = refl;
+      }
 
   pub looked_call : (d e : DeskNow V) (x : Event V) → Adds d x e → IsLooking x → HasLooked d (filter is_look (x ∷ [])) e
   looked_call d e x adds p = record { own = x ∷ []; goes = goes_by_call d x e adds; quiet = All-cons IsLooking x [] p (All-nil IsLooking); are = refl }
@@ -95,7 +102,8 @@ module _ {V : Type 0} where
   looked_then d m e xs a does = looked_both d m e xs [] a (looked_left m e does)
 
   -- field 0 was read through an alias, which left
-  pub tells : (d m n e : DeskNow V) (b : Block) (p : Option Place) (x : ℕ) (q : Place) → Adds d (Share (handle Owner (Some (latest_of d b.0)) p) (place_at b.0)) m
+  pub tells : (d m n e : DeskNow V) (b : Block) (p : Option Place) (x : ℕ) (q : Place)
+      → Adds d (Share (handle Owner (Some (latest_of d b.0)) p) (place_at b.0)) m
       → Has (handle Owner (Some b.0) p) (bag_of d) → place_at b.0 ≡ Some q → Some b ≡ Some q.block
       → Adds m (Read (handle Owner (Some (latest_of m q.block.0)) (Some q)) x) n → Does IsParting n e
       → HasLooked d (Read (owner (latest_of d b.0) (place_at b.0)) x ∷ []) e

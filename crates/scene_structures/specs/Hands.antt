@@ -1,5 +1,6 @@
 -- Handles that a call has in hand, above all others of its desk.
-use Rattle.std.specs.Prelude.{◌≡◌, ℕ, ◌+◌, ◌<◌, ◌≤◌, List, [], ◌∷◌, length, Option, Some, None}
+use Rattle.std.specs.Prelude.{◌≡◌, ℕ, ◌+◌, ◌<◌, ◌≤◌, List, [], ◌∷◌, length, Option, Some}
+use Rattle.std.specs.Prelude.{None}
 use Rattle.control_word.specs.Handles.{handle}
 use Rattle.control_word.specs.State.{Has}
 use Rattle.control_word.specs.declared.handle.Handle.{Handle}
@@ -49,4 +50,5 @@ module _ {V : Type 0} where
 
   -- what the list has still is on the object that it was on
   abbrev pub KeepsThese : List Handle → DeskNow V → DeskNow V → Type 0
-  KeepsThese l d e = (k : Kind) (p : Option Place) (b : ℕ) → Has (handle k (Some b) p) l → latest_of e b ≡ latest_of d b
+  KeepsThese l d e = (k : Kind) (p : Option Place) (b : ℕ) → Has (handle k (Some b) p) l
+      → latest_of e b ≡ latest_of d b

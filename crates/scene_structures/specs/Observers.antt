@@ -18,8 +18,8 @@ abbrev pub ups : State → List ℕ → List Handle
 ups s os = map (λ o. (s.object o).member 2) os
 
 module _ {V : Type 0} where
-  -- attach: a new object with fields 0 and this value was made, a weak handle of the subject went into its `up`, and its
-  -- owner, which points at it, rises
+  -- attach: a new object with fields 0 and this value was made, a weak handle of the subject went into its `up`, and
+  -- its owner, which points at it, rises
   pub record Attaches (d : DeskNow V) (c : Cell) (subject : Shared) (x : V) (e : DeskNow V) : Type 0 where
     pub block : Block
     pub made : DeskNow V
@@ -28,8 +28,8 @@ module _ {V : Type 0} where
     pub watches : Watches made (latest_of made block.0) (weak_in d subject) hung
     pub rises : Rises hung c (owner (latest_of made block.0) (place_at block.0)) e
 
-  -- the list in the cell has the object that was made next in front, whose `up` is weak on the subject; the others' hold
-  -- what they held
+  -- the list in the cell has the object that was made next in front, whose `up` is weak on the subject; the others'
+  -- hold what they held
   abbrev pub IsAttached : DeskNow V → Cell → Shared → DeskNow V → Type 0
   IsAttached d c subject e =
       (os : List ℕ) → IsList (state_of d) c os

@@ -1,5 +1,6 @@
 -- What the calls on a scene tree say (own). An object's children are the list in its `first`.
-use Rattle.std.specs.Prelude.{◌≡◌, ◌≢◌, ℕ, suc, ◌+◌, ◌<◌, false, List, [], ◌∷◌, Option, None, Some}
+use Rattle.std.specs.Prelude.{◌≡◌, ◌≢◌, ℕ, suc, ◌+◌, ◌<◌, false, List, [], ◌∷◌, Option}
+use Rattle.std.specs.Prelude.{None, Some}
 use Rattle.control_word.specs.Events.{place_at}
 use Rattle.control_word.specs.Handles.{object_of, owner}
 use Rattle.control_word.specs.State.{State}
@@ -38,16 +39,18 @@ module _ {V : Type 0} where
   abbrev pub MayHaveChild : DeskNow V → Option Block → Option Place → Type 0
   MayHaveChild d b p = (IsNearLimit d → ⊥) × (stock_of d ≢ []) × IsWithin b p
 
-  -- a new object with these fields and this value was made; a weak handle of the parent went into its `up`; and its owner,
-  -- which points at it, rises in the parent's `first`
-  pub record Adopts (d : DeskNow V) (parent : Shared) (fields : List ℕ) (x : V) (child : Shared) (e : DeskNow V) : Type 0 where
+  -- a new object with these fields and this value was made; a weak handle of the parent went into its `up`; and its
+  -- owner, which points at it, rises in the parent's `first`
+  pub record Adopts (d : DeskNow V) (parent : Shared) (fields : List ℕ) (x : V) (child : Shared)
+      (e : DeskNow V) : Type 0 where
     pub block : Block
     pub is : (child.block ≡ Some block) × (child.place ≡ place_at block.0)
     pub made : DeskNow V
     pub makes : Adds d (Make block false false fields x) made
     pub hung : DeskNow V
     pub watches : Watches made (latest_of made block.0) (weak_in d parent) hung
-    pub rises : Rises hung (Member (object_of (node_in d parent)) 0) (owner (latest_of made block.0) (place_at block.0)) e
+    pub rises : Rises hung (Member (object_of (node_in d parent)) 0)
+        (owner (latest_of made block.0) (place_at block.0)) e
 
   -- the new object is the first of the parent's children, and its `up` is the parent
   abbrev pub IsAdopted : DeskNow V → Shared → DeskNow V → Type 0

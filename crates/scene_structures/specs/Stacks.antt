@@ -1,5 +1,6 @@
 -- What the calls on a stack say, by the desk's own events (own).
-use Rattle.std.specs.Prelude.{◌≡◌, ℕ, suc, ◌<◌, ◌≤◌, Bool, true, false, All, List, [], ◌∷◌, ◌++◌, Some}
+use Rattle.std.specs.Prelude.{◌≡◌, ℕ, suc, ◌<◌, ◌≤◌, Bool, true, false, All, List, [], ◌∷◌}
+use Rattle.std.specs.Prelude.{◌++◌, Some}
 use Rattle.control_word.specs.Events.{cell_of, place_at}
 use Rattle.control_word.specs.Handles.{object_of, owner}
 use Rattle.control_word.specs.declared.event.Cell.{Cell}
@@ -41,8 +42,8 @@ module _ {V : Type 0} where
     pub goes : Goes d (between ++ Swap (Member o 1) below was ∷ []) e
     pub leaves : All IsParting between
 
-  -- the node went into the cell by a compare, for what had gone into its `next` before; nothing else was put anywhere, but
-  -- into that `next`, and after it handles left
+  -- the node went into the cell by a compare, for what had gone into its `next` before; nothing else was put anywhere,
+  -- but into that `next`, and after it handles left
   pub record Rises (d : DeskNow V) (c : Cell) (node : Handle) (e : DeskNow V) : Type 0 where
     pub below : Handle
     pub was : Handle
@@ -51,7 +52,8 @@ module _ {V : Type 0} where
     pub before : List (Event V)
     pub between : List (Event V)
     pub after : List (Event V)
-    pub goes : Goes d (after ++ Compare c below node old true weak ∷ (between ++ Swap (Member (object_of node) 1) below was ∷ before)) e
+    pub goes : Goes d (after ++ Compare c below node old true weak
+        ∷ (between ++ Swap (Member (object_of node) 1) below was ∷ before)) e
     pub early : All (PutsOnly (NextOf (object_of node))) before
     pub leaves : All IsParting between
     pub late : All IsParting after
@@ -70,7 +72,8 @@ module _ {V : Type 0} where
     pub weak : Bool
     pub before : List (Event V)
     pub after : List (Event V)
-    pub goes : Goes d (after ++ Compare c (owner o (Some q)) below old true weak ∷ (Load (Member o 1) below ∷ before)) e
+    pub goes : Goes d
+        (after ++ Compare c (owner o (Some q)) below old true weak ∷ (Load (Member o 1) below ∷ before)) e
     pub early : All (PutsOnly nowhere) before
     pub late : All IsParting after
 
@@ -80,8 +83,8 @@ module _ {V : Type 0} where
   Sees c h (Compare k expected new got false weak) = (k ≡ c) × (got ≡ h)
   Sees c h _ = ⊥
 
-  -- the last look at the cell found this there, of which the desk has a copy; nothing was put anywhere, and after the look
-  -- handles left. Where the copy owns an object that it points into, its place is in that object's block
+  -- the last look at the cell found this there, of which the desk has a copy; nothing was put anywhere, and after the
+  -- look handles left. Where the copy owns an object that it points into, its place is in that object's block
   pub record Looks (d : DeskNow V) (c : Cell) (found : Shared) (e : DeskNow V) : Type 0 where
     pub at : DeskNow V
     pub look : Event V
@@ -108,7 +111,8 @@ module _ {V : Type 0} where
   abbrev pub IsPopped : DeskNow V → Cell → Shared → DeskNow V → Type 0
   IsPopped d c h e =
       (os : List ℕ) → IsList (state_of d) c os
-      → (o : ℕ) × (rest : List ℕ) × (os ≡ o ∷ rest) × IsList (state_of e) c rest × Owns (state_of e) (node_in e h) o
+      → (o : ℕ) × (rest : List ℕ) × (os ≡ o ∷ rest) × IsList (state_of e) c rest
+      × Owns (state_of e) (node_in e h) o
       × (((state_of e).object o).member 1 ≡ cell_of (state_of e) c)
 
   -- there was no list but the one of nothing, and there is that one still

@@ -1,5 +1,6 @@
 -- What a teardown says (own): which objects end, in which order, and what comes out of them.
-use Rattle.std.specs.Prelude.{◌≡◌, ◌⊎◌, ℕ, suc, ◌*◌, ◌<◌, length, List, [], ◌∷◌, ◌++◌, Option, None, Some, vec_capacity}
+use Rattle.std.specs.Prelude.{◌≡◌, ◌⊎◌, ℕ, suc, ◌*◌, ◌<◌, length, List, [], ◌∷◌, ◌++◌}
+use Rattle.std.specs.Prelude.{Option, None, Some, vec_capacity}
 use Rattle.control_block.specs.Desks.{DeskNow}
 use Rattle.control_block.specs.declared.handles.Shared.{Shared}
 use Rattle.shared_handle.specs.Piles.{AreRounds, Drops, Past}
@@ -52,28 +53,33 @@ module _ {V : Type 0} where
   ended [] zs us = us
   ended (r ∷ rs) zs us = ended rs r.pile us ++ ended_in r.round zs
 
-  -- of objects that ended in this order, those have come out that have a value in their slot, and the others lie on the pile
+  -- of objects that ended in this order, those have come out that have a value in their slot, and the others lie on the
+  -- pile
   abbrev pub AreOut : List (Option V) → List (Ending V) → List V → Type 0
   AreOut [] zs vs = (zs ≡ []) × (vs ≡ [])
   AreOut (Some v ∷ ss) zs vs = (us : List V) × (vs ≡ v ∷ us) × AreOut ss zs us
   AreOut (None ∷ ss) zs vs =
-      (z : Ending V) × (ws : List (Ending V)) × (us : List V) × (zs ≡ z ∷ ws) × (vs ≡ z.value ∷ us) × AreOut ss ws us
+      (z : Ending V) × (ws : List (Ending V)) × (us : List V) × (zs ≡ z ∷ ws)
+      × (vs ≡ z.value ∷ us) × AreOut ss ws us
 
-  -- rounds go on till all has come out; but no more are made than four a block, and none when more objects have ended than
-  -- there are blocks
+  -- rounds go on till all has come out; but no more are made than four a block, and none when more objects have ended
+  -- than there are blocks
   abbrev pub MayStop : ℕ → List (Past V) → List (Ending V) → List (Option V) → Type 0
   MayStop blocks rs rest slots = (rest ≡ []) ⊎ ((length rs ≡ 4 * blocks) ⊎ (blocks < length slots))
 
-  -- what a round makes of the slots: one more where an object ended, and the last empty one has a value where that came out
+  -- what a round makes of the slots: one more where an object ended, and the last empty one has a value where that came
+  -- out
   abbrev pub StepsBy : Round V → List (Option V) → List (Option V) → Type 0
   StepsBy round.Settled ss ts = ts ≡ ss
   StepsBy (round.Cleared m gone.Last) ss ts = ts ≡ ss ++ None ∷ []
   StepsBy (round.Cleared m gone.Empty) ss ts = ts ≡ ss
   StepsBy (round.Cleared m gone.Others) ss ts = ts ≡ ss
-  StepsBy (round.Ended v) ss ts = (zs : List (Ending V)) (x : Ending V) (vs : List V) → v ≡ x.value → AreOut ss (zs ++ x ∷ []) vs → AreOut ts zs vs
+  StepsBy (round.Ended v) ss ts = (zs : List (Ending V)) (x : Ending V) (vs : List V) → v ≡ x.value
+      → AreOut ss (zs ++ x ∷ []) vs → AreOut ts zs vs
 
   -- so many rounds were made; and what lay above any lower part of the pile has come out, or lies there still
-  pub record Runs (d : DeskNow V) (ys : List (Ending V)) (ss : List (Option V)) (n : ℕ) (e : DeskNow V) (qs : List (Ending V)) (ts : List (Option V))
+  pub record Runs (d : DeskNow V) (ys : List (Ending V)) (ss : List (Option V)) (n : ℕ) (e : DeskNow V)
+      (qs : List (Ending V)) (ts : List (Option V))
       : Type 0 where
     pub rounds : List (Past V)
     pub are : AreRounds d ys rounds e qs
@@ -82,16 +88,19 @@ module _ {V : Type 0} where
         → (ws : List (Ending V)) × (qs ≡ base ++ ws) × AreOut ts ws (ended rounds qs vs)
 
   -- and they may stop
-  pub record RunsDown (blocks : ℕ) (d : DeskNow V) (ys : List (Ending V)) (ss : List (Option V)) (e : DeskNow V) (qs : List (Ending V))
+  pub record RunsDown (blocks : ℕ) (d : DeskNow V) (ys : List (Ending V)) (ss : List (Option V))
+      (e : DeskNow V) (qs : List (Ending V))
       (ts : List (Option V)) : Type 0 where
     pub rounds : List (Past V)
     pub are : AreRounds d ys rounds e qs
     pub out : (base zs : List (Ending V)) (vs : List V) → ys ≡ base ++ zs → AreOut ss zs vs
-        → (ws : List (Ending V)) × (qs ≡ base ++ ws) × AreOut ts ws (ended rounds qs vs) × MayStop blocks rounds ws ts
+        → (ws : List (Ending V)) × (qs ≡ base ++ ws) × AreOut ts ws (ended rounds qs vs)
+        × MayStop blocks rounds ws ts
 
-  -- The root left, and in rounds of the pile ended what ends by that. The values came out in the order in which their objects
-  -- ended; what has not come out lies above what lay on the pile
-  pub record TearsDown (blocks : ℕ) (d : DeskNow V) (xs : List (Ending V)) (root : Shared) (values : List V) (e : DeskNow V)
+  -- The root left, and in rounds of the pile ended what ends by that. The values came out in the order in which their
+  -- objects ended; what has not come out lies above what lay on the pile
+  pub record TearsDown (blocks : ℕ) (d : DeskNow V) (xs : List (Ending V)) (root : Shared)
+      (values : List V) (e : DeskNow V)
       (ys : List (Ending V)) : Type 0 where
     pub gone : Gone
     pub released : DeskNow V

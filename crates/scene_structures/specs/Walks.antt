@@ -1,12 +1,14 @@
 -- What a walk over the nodes of a cell says: by the desk's own looks, and for a sole desk by the list of nodes (own).
-use Rattle.std.specs.Prelude.{◌≡◌, ℕ, ◌==◌, ◌+◌, Bool, true, false, cond, filter, slice_index, All, List, [], ◌∷◌, ◌++◌, Option, None, Some}
+use Rattle.std.specs.Prelude.{◌≡◌, ℕ, ◌==◌, ◌+◌, Bool, true, false, cond, filter, slice_index, All}
+use Rattle.std.specs.Prelude.{List, [], ◌∷◌, ◌++◌, Option, None, Some}
 use Rattle.control_word.specs.Events.{place_at}
 use Rattle.control_word.specs.Handles.{has_object, object_of, owner}
 use Rattle.control_word.specs.State.{State, count}
 use Rattle.control_word.specs.declared.event.Cell.{Cell}
 use Rattle.control_word.specs.declared.event.Cell.TheVariants.{Member}
 use Rattle.control_word.specs.declared.event.Event.{Event}
-use Rattle.control_word.specs.declared.event.Event.TheVariants.{ClearMember, Finish, Leave, Load, Lock, Read, Share, WeakLeave}
+use Rattle.control_word.specs.declared.event.Event.TheVariants.{ClearMember, Finish, Leave, Load, Lock, Read, Share}
+use Rattle.control_word.specs.declared.event.Event.TheVariants.{WeakLeave}
 use Rattle.control_word.specs.declared.handle.Handle.{Handle}
 use Rattle.control_word.specs.declared.place.Block.{Block}
 use Rattle.control_block.specs.Desks.{Adds, DeskNow, latest_of, state_of}
@@ -18,7 +20,8 @@ use Rattle.scene_structures.specs.Hands.{HasHands, node_in}
 use Rattle.scene_structures.specs.declared.walking.Visited.{Visited}
 use Rattle.scene_structures.specs.declared.walking.Visited.TheVariants.{End, Passed, Told}
 
--- what a visit to a node saw: what its `up` held, field 0 of the subject, if that has an owner, and what its `next` held
+-- what a visit to a node saw: what its `up` held, field 0 of the subject, if that has an owner, and what its `next`
+-- held
 pub record Stop : Type 0 where
   pub object : ℕ
   pub up : Handle
@@ -80,7 +83,8 @@ module _ {V : Type 0} where
   -- the looks for a subject: none where `up` is empty, else a lock, and where that gave an owner, a look at its field 0
   abbrev pub IsAsked : Handle → Option ℕ → List (Event V) → Type 0
   IsAsked up None looks = looks ≡ cond (has_object up) (Lock up false ∷ []) []
-  IsAsked up (Some x) looks = (b : ℕ) × (looks ≡ Read (owner (object_of up) (place_at b)) x ∷ Lock up true ∷ [])
+  IsAsked up (Some x) looks =
+      (b : ℕ) × (looks ≡ Read (owner (object_of up) (place_at b)) x ∷ Lock up true ∷ [])
 
   -- a node is visited: its `up` is loaded, the subject asked, and its `next` loaded
   pub record IsStop (s : Stop) (looks : List (Event V)) : Type 0 where
@@ -92,7 +96,8 @@ module _ {V : Type 0} where
   abbrev pub Walks : Handle → List Stop → Handle → List (Event V) → Type 0
   Walks h [] end looks = (end ≡ h) × (looks ≡ [])
   Walks h (s ∷ stops) end looks =
-      (at : Handle) × (before here : List (Event V)) × Walks h stops at before × (at.object ≡ Some s.object) × IsStop s here × (end ≡ s.next)
+      (at : Handle) × (before here : List (Event V)) × Walks h stops at before × (at.object ≡ Some s.object)
+      × IsStop s here × (end ≡ s.next)
       × (looks ≡ here ++ before)
 
   -- one visit to what a handle owns, which tells this and goes on to that
@@ -119,7 +124,8 @@ module _ {V : Type 0} where
   HeldVisited d End e = e.held + 1 ≡ d.held
   HeldVisited d _ e = e.held ≡ d.held
 
-  -- from a handle on all nodes were visited, down to what owns no object that it points into; what they told, the newest first
+  -- from a handle on all nodes were visited, down to what owns no object that it points into; what they told, the
+  -- newest first
   pub record WalksFrom (d : DeskNow V) (first : Handle) (told : List ℕ) (e : DeskNow V) : Type 0 where
     pub stops : List Stop
     pub looks : List (Event V)
@@ -140,4 +146,5 @@ module _ {V : Type 0} where
 
   -- the list in the cell is there still, and its living subjects told, the first node's at first
   abbrev pub IsTold : DeskNow V → Cell → List ℕ → DeskNow V → Type 0
-  IsTold d c told e = (os : List ℕ) → IsList (state_of d) c os → IsList (state_of e) c os × (told ≡ told_by (state_of d) [] os)
+  IsTold d c told e = (os : List ℕ) → IsList (state_of d) c os → IsList (state_of e) c os
+      × (told ≡ told_by (state_of d) [] os)

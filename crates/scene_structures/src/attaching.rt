@@ -2,7 +2,8 @@
 ghost use Rattle.std.specs.Prelude.{◌≡◌, ◌<◌};
 ghost use Rattle.control_word.specs.Handles.{object_of};
 ghost use Rattle.control_word.specs.declared.handle.Kind.TheVariants.{Owner};
-ghost use Rattle.control_block.specs.Desks.{Belongs, IsSameDesk, KeepsEndings, allowance_of, bag_of, endings_of, held_of};
+ghost use Rattle.control_block.specs.Desks.{Belongs, IsSameDesk, KeepsEndings, allowance_of, bag_of, endings_of};
+ghost use Rattle.control_block.specs.Desks.{held_of};
 ghost use Rattle.shared_handle.specs.Calls.{Holds};
 ghost use Rattle.shared_handle.specs.Endings.{IsWithin};
 ghost use Rattle.scene_structures.specs.Hands.{KeepsHeld, node_in};
@@ -22,7 +23,8 @@ pub(crate) fn watch<V: Drop + Send>(
 )
     requires domain { Belongs desk.old domain.now }
     requires node { IsWithin node.now.block node.now.place }
-    requires holds { Holds desk.old Owner node.now.block node.now.place × Holds desk.old Owner subject.now.block subject.now.place }
+    requires holds { Holds desk.old Owner node.now.block node.now.place
+        × Holds desk.old Owner subject.now.block subject.now.place }
     requires room { held_of desk.old < allowance_of desk.old }
     ensures bag { bag_of desk.new ≡ bag_of desk.old }
     ensures held { desk.new.held ≡ desk.old.held }

@@ -18,10 +18,10 @@ use shared_handle::{Shared, lock, release_weak};
 use std::sync::Wait;
 
 impl<V: Drop + Send> Scene<V> {
-    /// The node's parent (own): an owner of what its `up` is on, which points where that does, or an empty handle where that
-    /// has no owner, or there is none. It tries again while others change `up` or the parent's count. It is refused `Limit`
-    /// just where fewer than 6 handles are free, else `Null` just where the handle's place is null, and `Outside` just where
-    /// that isn't in the object that it owns: then nothing changes.
+    /// The node's parent (own): an owner of what its `up` is on, which points where that does, or an empty handle where
+    /// that has no owner, or there is none. It tries again while others change `up` or the parent's count. It is
+    /// refused `Limit` just where fewer than 6 handles are free, else `Null` just where the handle's place is null, and
+    /// `Outside` just where that isn't in the object that it owns: then nothing changes.
     pub fn parent<R: Wait>(
         &self,
         rt: &R,
@@ -41,7 +41,8 @@ impl<V: Drop + Send> Scene<V> {
         ensures held { OnOk result (desk.new.held ≡ desk.old.held + 1) }
         ensures holds { IfOk result (λ h. Holds desk.new Owner h.block h.place) }
         ensures own { IfOk result (λ h. LocksUp desk.old (object_of (node_in desk.old node.now)) h desk.new) }
-        ensures parent { IfOk result (λ h. IsSole desk.old → IsParent desk.old (object_of (node_in desk.old node.now)) h desk.new) }
+        ensures parent { IfOk result
+            (λ h. IsSole desk.old → IsParent desk.old (object_of (node_in desk.old node.now)) h desk.new) }
     {
         if is_near_limit(desk) {
             return Err(Refusal::Limit);

@@ -1,13 +1,15 @@
 //! The values of objects that end, in the order in which these do.
-ghost use Rattle.std.specs.Prelude.{◌≡◌, ◌≢◌, ◌⊎◌, ◌↔◌, ℕ, ◌<◌, ◌≤◌, ◌+◌, ◌*◌, List, [], ◌∷◌, ◌++◌, None, length, vec_capacity, IfOk, IsTrue, IsFalse};
+ghost use Rattle.std.specs.Prelude.{◌≡◌, ◌≢◌, ◌⊎◌, ◌↔◌, ℕ, ◌<◌, ◌≤◌, ◌+◌};
+ghost use Rattle.std.specs.Prelude.{◌*◌, List, [], ◌∷◌, ◌++◌, None, length, vec_capacity, IfOk, IsTrue};
+ghost use Rattle.std.specs.Prelude.{IsFalse};
 ghost use Rattle.shared_handle.specs.declared.endings.Ending.{Ending};
 ghost use Rattle.scene_structures.specs.Teardowns.{AreOut, HasRoom, StepsBy, empty_slots, filled};
 
 use shared_handle::{Gone, Round};
 use std::alloc::{AllocError, Global};
 
-/// A slot for the value of each object that ended, in the order in which they did, which slots are empty still, and room for
-/// the values.
+/// A slot for the value of each object that ended, in the order in which they did, which slots are empty still, and
+/// room for the values.
 pub(crate) struct Ended<V> {
     slots: Vec<Option<V>>,
     vacant: Vec<usize>,
@@ -30,11 +32,13 @@ impl<V: Drop> Ended<V> {
         })
     }
 
-    /// Whether no more rounds are to be made: no slot is empty, or it was four rounds a block, or more objects have ended than
-    /// there are blocks.
+    /// Whether no more rounds are to be made: no slot is empty, or it was four rounds a block, or more objects have
+    /// ended than there are blocks.
     pub(crate) fn is_over(&self, rounds: usize, blocks: u32) -> bool
-        ensures over { IsTrue result → (self.now.vacant.items ≡ []) ⊎ ((4 * blocks ≤ rounds) ⊎ (blocks < length self.now.slots.items)) }
-        ensures not { IsFalse result → (self.now.vacant.items ≢ []) × (rounds < 4 * blocks) × (length self.now.slots.items ≤ blocks) }
+        ensures over { IsTrue result → (self.now.vacant.items ≡ [])
+            ⊎ ((4 * blocks ≤ rounds) ⊎ (blocks < length self.now.slots.items)) }
+        ensures not { IsFalse result → (self.now.vacant.items ≢ []) × (rounds < 4 * blocks)
+            × (length self.now.slots.items ≤ blocks) }
     {
         self.vacant.is_empty()
             || 4 * blocks as usize <= rounds
@@ -60,7 +64,8 @@ impl<V: Drop> Ended<V> {
         requires vacant { self.old.vacant.items ≡ empty_slots 0 self.old.slots.items }
         requires some { self.old.vacant.items ≢ [] }
         ensures vacant { self.new.vacant.items ≡ empty_slots 0 self.new.slots.items }
-        ensures out { (zs : List (Ending V)) (x : Ending V) (vs : List V) → value ≡ x.value → AreOut self.old.slots.items (zs ++ x ∷ []) vs → AreOut self.new.slots.items zs vs }
+        ensures out { (zs : List (Ending V)) (x : Ending V) (vs : List V) → value ≡ x.value
+            → AreOut self.old.slots.items (zs ++ x ∷ []) vs → AreOut self.new.slots.items zs vs }
         ensures room { (n : ℕ) → HasRoom n self.old → HasRoom n self.new }
         ensures many { length self.new.slots.items ≡ length self.old.slots.items }
     {

@@ -1,5 +1,5 @@
-//! Structures that programs build of shared pointers: a stack and observers that threads share without a lock, and a scene
-//! tree.
+//! Structures that programs build of shared pointers: a stack and observers that threads share without a lock, and a
+//! scene tree.
 #![tactic(auto)]
 
 mod attaching;

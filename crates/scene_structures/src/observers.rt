@@ -24,8 +24,8 @@ use std::alloc::Global;
 use std::marker::Model;
 use std::sync::Wait;
 
-/// A thread's own access to observers in a free shared cell: each node owns the one that was attached before it by its member
-/// `next`, and watches its subject by its member `up`. All that have the same cell share the observers.
+/// A thread's own access to observers in a free shared cell: each node owns the one that was attached before it by its
+/// member `next`, and watches its subject by its member `up`. All that have the same cell share the observers.
 pub struct Observers<V: Drop + Send> {
     cell: u32,
     pile: Pile<V>,
@@ -43,9 +43,9 @@ impl<V: Drop + Send> Model for Observers<V> {
 }
 
 impl<V: Drop + Send> Observers<V> {
-    /// The observers in a free shared cell of the domain, by its number from 0 (own). It makes room for the ends of as many
-    /// objects as there are blocks; no other call takes memory. Condition: the cell is one of the domain's. It is refused
-    /// `Memory` where a growth was really refused.
+    /// The observers in a free shared cell of the domain, by its number from 0 (own). It makes room for the ends of as
+    /// many objects as there are blocks; no other call takes memory. Condition: the cell is one of the domain's. It is
+    /// refused `Memory` where a growth was really refused.
     pub fn new(alloc: Global, domain: &Domain<V>, cell: u32) -> Result<Self, Refusal>
         requires cell { cell < domain.now.shape.shared_cells }
         ensures refused { IfErr result (λ why. why ≡ Refusal.Memory) }
@@ -55,10 +55,10 @@ impl<V: Drop + Send> Observers<V> {
         Ok(Self { cell, pile })
     }
 
-    /// A new node with fields 0 and an owned value, without the from-this flag, goes in front, and watches the subject (own).
-    /// It waits while others change the cell. It is refused `Limit` just where fewer than 6 handles are free, and else `Full`
-    /// just where the desk's store is empty: then the value comes back, and nothing changes. Condition: no object ends in the
-    /// desk's hands.
+    /// A new node with fields 0 and an owned value, without the from-this flag, goes in front, and watches the subject
+    /// (own). It waits while others change the cell. It is refused `Limit` just where fewer than 6 handles are free,
+    /// and else `Full` just where the desk's store is empty: then the value comes back, and nothing changes. Condition:
+    /// no object ends in the desk's hands.
     pub fn attach<R: Wait>(
         &mut self,
         rt: &R,
@@ -71,7 +71,8 @@ impl<V: Drop + Send> Observers<V> {
         requires stands { StandsIn self.old domain.now }
         requires settled { endings_of desk.old ≡ 0 }
         requires holds { Holds desk.old Owner subject.now.block subject.now.place }
-        ensures refusals { IsFullOrLimit (allowance_of desk.old < held_of desk.old + 6) (stock_of desk.old ≡ []) result }
+        ensures refusals { IsFullOrLimit (allowance_of desk.old < held_of desk.old + 6)
+            (stock_of desk.old ≡ []) result }
         ensures refused { IfErr result (λ r. (r.back ≡ value) × (desk.new ≡ desk.old)) }
         ensures stands { (self.new.cell ≡ self.old.cell) × StandsIn self.new domain.now }
         ensures settled { endings_of desk.new ≡ 0 }
@@ -98,10 +99,10 @@ impl<V: Drop + Send> Observers<V> {
         Ok(())
     }
 
-    /// `tell` gets field 0 of the subject of each node, the one that was attached last first, where the subject has an owner
-    /// when the call comes to it (own). It waits while others change what it looks at. It is refused `Limit` just where fewer
-    /// than 6 handles are free, and then nothing changes, and `tell` gets nothing. Condition: no object ends in the desk's
-    /// hands.
+    /// `tell` gets field 0 of the subject of each node, the one that was attached last first, where the subject has an
+    /// owner when the call comes to it (own). It waits while others change what it looks at. It is refused `Limit` just
+    /// where fewer than 6 handles are free, and then nothing changes, and `tell` gets nothing. Condition: no object
+    /// ends in the desk's hands.
     pub fn each<R: Wait, F: FnMut(u64)>(
         &mut self,
         rt: &R,
@@ -120,7 +121,9 @@ impl<V: Drop + Send> Observers<V> {
         ensures desk { IsSameDesk desk.old desk.new }
         ensures bag { bag_of desk.new ≡ bag_of desk.old }
         ensures held { desk.new.held ≡ desk.old.held }
-        ensures own { OnOk result ((told : List ℕ) × WalksOver desk.old (Free self.old.cell) told desk.new × ((last : F) × FoldsBack (λ p x q. F.step p x tt q) tell told last) × (IsSole desk.old → IsTold desk.old (Free self.old.cell) told desk.new)) }
+        ensures own { OnOk result ((told : List ℕ) × WalksOver desk.old (Free self.old.cell) told desk.new
+            × ((last : F) × FoldsBack (λ p x q. F.step p x tt q) tell told last)
+            × (IsSole desk.old → IsTold desk.old (Free self.old.cell) told desk.new)) }
     {
         if is_near_limit(desk) {
             return Err(Refusal::Limit);

@@ -86,9 +86,11 @@ pub(crate) fn take<V: Drop + Send, R: Wait>(
     ensures bears { Bears domain.now desk.new pile.new }
     ensures none { pile.new.endings.items ≡ [] }
     ensures desk { IsSameDesk desk.old desk.new }
-    ensures bag { (base : List Handle) → HasHands base (first ∷ []) desk.old → MatchOption result (HasHands base [] desk.new) (λ h. HasHands base (h ∷ []) desk.new) }
+    ensures bag { (base : List Handle) → HasHands base (first ∷ []) desk.old
+        → MatchOption result (HasHands base [] desk.new) (λ h. HasHands base (h ∷ []) desk.new) }
     ensures held { MatchOption result (desk.new.held + 1 ≡ desk.old.held) (λ h. desk.new.held ≡ desk.old.held) }
-    ensures own { (d : DeskNow V) → Looks d (Free cell) first desk.old → MatchOption result (FindsNone d (Free cell) desk.new) (λ h. TakesNode d (Free cell) h desk.new) }
+    ensures own { (d : DeskNow V) → Looks d (Free cell) first desk.old
+        → MatchOption result (FindsNone d (Free cell) desk.new) (λ h. TakesNode d (Free cell) h desk.new) }
 {
     let mut top = first;
     let mut pause = Pause::new();

@@ -39,13 +39,15 @@ fn store_next<V: Drop + Send, R: Wait>(
 )
     requires bears { Bears domain.now desk.old pile.old }
     requires node { IsWithin node.now.block node.now.place }
-    requires holds { Holds desk.old Owner node.now.block node.now.place × Holds desk.old Owner below.block below.place }
+    requires holds { Holds desk.old Owner node.now.block node.now.place
+        × Holds desk.old Owner below.block below.place }
     ensures bears { Bears domain.now desk.new pile.new }
     ensures none { pile.new.endings.items ≡ [] }
     ensures bag { bag_of desk.new ≡ without_handle Owner below.block below.place (bag_of desk.old) }
     ensures held { desk.new.held + 1 ≡ desk.old.held }
     ensures desk { IsSameDesk desk.old desk.new }
-    ensures own { Fills desk.old (object_of (node_in desk.old node.now)) (handle_in desk.old Owner below.block below.place) desk.new }
+    ensures own { Fills desk.old (object_of (node_in desk.old node.now))
+        (handle_in desk.old Owner below.block below.place) desk.new }
     ensures latest { KeepsHeld desk.old desk.new }
 {
     let Ok(next) = SharedAt::member(node, SharedMember::Next) else {
@@ -66,7 +68,8 @@ fn try_push<V: Drop + Send, R: Wait>(
 ) -> Option<Attempt>
     requires bears { Bears domain.now desk.old pile.old }
     requires node { IsWithin attempt.node.block attempt.node.place }
-    requires bag { (base : List Handle) × HasHands base (attempt.top ∷ attempt.node ∷ []) desk.old × IsOpenBy base desk.old.shape at.now.site }
+    requires bag { (base : List Handle) × HasHands base (attempt.top ∷ attempt.node ∷ []) desk.old
+        × IsOpenBy base desk.old.shape at.now.site }
     requires room { desk.old.held + 2 < allowance_of desk.old }
     ensures bears { Bears domain.now desk.new pile.new }
     ensures none { pile.new.endings.items ≡ [] }
@@ -74,9 +77,11 @@ fn try_push<V: Drop + Send, R: Wait>(
     ensures node { IfSome result (λ a. (a.node ≡ attempt.node) × SameNode desk.old attempt.node desk.new) }
     ensures bag { (base : List Handle) → HasHands base (attempt.top ∷ attempt.node ∷ []) desk.old
         → MatchOption result (HasHands base [] desk.new) (λ a. HasHands base (a.top ∷ a.node ∷ []) desk.new) }
-    ensures latest { (base : List Handle) → HasHands base (attempt.top ∷ attempt.node ∷ []) desk.old → KeepsThese base desk.old desk.new }
+    ensures latest { (base : List Handle) → HasHands base (attempt.top ∷ attempt.node ∷ []) desk.old
+        → KeepsThese base desk.old desk.new }
     ensures held { MatchOption result (desk.new.held + 2 ≡ desk.old.held) (λ a. desk.new.held ≡ desk.old.held) }
-    ensures own { MatchOption result (Rises desk.old (shared_cell desk.old at.now.site) (node_in desk.old attempt.node) desk.new)
+    ensures own { MatchOption result
+        (Rises desk.old (shared_cell desk.old at.now.site) (node_in desk.old attempt.node) desk.new)
         (λ a. Does (PutsOnly (NextOf (object_of (node_in desk.old attempt.node)))) desk.old desk.new) }
 {
     let Attempt { node, top } = attempt;
@@ -112,13 +117,16 @@ pub(crate) fn raise<V: Drop + Send, R: Wait>(
 )
     requires bears { Bears domain.now desk.old pile.old }
     requires node { IsWithin first.node.block first.node.place }
-    requires bag { (base : List Handle) × HasHands base (first.top ∷ first.node ∷ []) desk.old × IsOpenBy base desk.old.shape at.now.site }
+    requires bag { (base : List Handle) × HasHands base (first.top ∷ first.node ∷ []) desk.old
+        × IsOpenBy base desk.old.shape at.now.site }
     requires room { desk.old.held + 2 < allowance_of desk.old }
     ensures bears { Bears domain.now desk.new pile.new }
     ensures none { pile.new.endings.items ≡ [] }
     ensures desk { IsSameDesk desk.old desk.new }
-    ensures bag { (base : List Handle) → HasHands base (first.top ∷ first.node ∷ []) desk.old → HasHands base [] desk.new }
-    ensures latest { (base : List Handle) → HasHands base (first.top ∷ first.node ∷ []) desk.old → KeepsThese base desk.old desk.new }
+    ensures bag { (base : List Handle) → HasHands base (first.top ∷ first.node ∷ []) desk.old
+        → HasHands base [] desk.new }
+    ensures latest { (base : List Handle) → HasHands base (first.top ∷ first.node ∷ []) desk.old
+        → KeepsThese base desk.old desk.new }
     ensures held { desk.new.held + 2 ≡ desk.old.held }
     ensures own { Rises desk.old (shared_cell desk.old at.now.site) (node_in desk.old first.node) desk.new }
 {

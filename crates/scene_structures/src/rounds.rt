@@ -9,8 +9,8 @@ use control_block::desk::Desk;
 use control_block::domain::Domain;
 use shared_handle::Pile;
 
-/// Rounds of the pile, until no slot is empty; but at most four a block, and none when more objects have ended than there are
-/// blocks.
+/// Rounds of the pile, until no slot is empty; but at most four a block, and none when more objects have ended than
+/// there are blocks.
 pub(crate) fn run_down<V: Drop + Send>(
     domain: &Domain<V>,
     desk: &mut Desk<V>,
@@ -27,7 +27,8 @@ pub(crate) fn run_down<V: Drop + Send>(
     ensures desk { IsSameDesk desk.old desk.new }
     ensures room { HasRoom (domain.now.shape.blocks + 1) ended.new }
     ensures few { length ended.new.slots.items ≤ domain.now.shape.blocks + 1 }
-    ensures rounds { RunsDown domain.now.shape.blocks desk.old pile.old.endings.items ended.old.slots.items desk.new pile.new.endings.items ended.new.slots.items }
+    ensures rounds { RunsDown domain.now.shape.blocks desk.old pile.old.endings.items ended.old.slots.items desk.new
+        pile.new.endings.items ended.new.slots.items }
 {
     let blocks = domain.blocks();
     let mut rounds = 0;

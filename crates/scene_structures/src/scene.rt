@@ -38,8 +38,9 @@ impl<V: Drop + Send> Model for Scene<V> {
 }
 
 impl<V: Drop + Send> Scene<V> {
-    /// An access to the trees of the domain (own). It makes room for the ends of as many objects as there are blocks. It
-    /// serves any desk of the domain in whose hands nothing ends. It is refused `Memory` where a growth was really refused.
+    /// An access to the trees of the domain (own). It makes room for the ends of as many objects as there are blocks.
+    /// It serves any desk of the domain in whose hands nothing ends. It is refused `Memory` where a growth was really
+    /// refused.
     pub fn new(alloc: Global, domain: &Domain<V>) -> Result<Self, Refusal>
         ensures refused { IfErr result (λ why. why ≡ Refusal.Memory) }
         ensures empty { IfOk result (λ s. s.endings.items ≡ []) }
@@ -50,11 +51,11 @@ impl<V: Drop + Send> Scene<V> {
     }
 
     /// A new node with four fields and an owned value, without the from-this flag, becomes the first of the parent's
-    /// children, and this is its owner (own): it has the one that was first as its next sibling, and its `up` points where
-    /// the parent's handle does. It waits while others change the parent's `first`. It is refused `Limit` just where fewer
-    /// than 6 handles are free, else `Full` just where the desk's store is empty, else `Null` just where the handle's place
-    /// is null, and `Outside` just where that isn't in the object that it owns: then the value comes back, and nothing
-    /// changes. Condition: what ends in the desk's hands is just what lies on the scene's pile.
+    /// children, and this is its owner (own): it has the one that was first as its next sibling, and its `up` points
+    /// where the parent's handle does. It waits while others change the parent's `first`. It is refused `Limit` just
+    /// where fewer than 6 handles are free, else `Full` just where the desk's store is empty, else `Null` just where
+    /// the handle's place is null, and `Outside` just where that isn't in the object that it owns: then the value comes
+    /// back, and nothing changes. Condition: what ends in the desk's hands is just what lies on the scene's pile.
     pub fn add_child<R: Wait>(
         &mut self,
         rt: &R,
@@ -68,7 +69,8 @@ impl<V: Drop + Send> Scene<V> {
         requires holds { Holds desk.old Owner parent.now.block parent.now.place }
         ensures refusals { IfErr result (λ r. WhyNoChild desk.old parent.now.block parent.now.place r.why) }
         ensures may { OnOk result (MayHaveChild desk.old parent.now.block parent.now.place) }
-        ensures refused { IfErr result (λ r. (r.back ≡ value) × (desk.new ≡ desk.old) × (self.new ≡ self.old)) }
+        ensures refused { IfErr result
+            (λ r. (r.back ≡ value) × (desk.new ≡ desk.old) × (self.new ≡ self.old)) }
         ensures bears { Bears domain.now desk.new self.new }
         ensures none { OnOk result (self.new.endings.items ≡ []) }
         ensures desk { IsSameDesk desk.old desk.new }

@@ -1,5 +1,6 @@
 //! A stack in a free shared cell, which threads push on and pop from without a lock (own).
-ghost use Rattle.std.specs.Prelude.{◌≡◌, ◌↔◌, ◌+◌, ◌<◌, [], MatchOption, IfErr, IfOk, IfSome, IsErr, IsTrue, OnOk};
+ghost use Rattle.std.specs.Prelude.{◌≡◌, ◌↔◌, ◌+◌, ◌<◌, [], MatchOption, IfErr, IfOk, IfSome};
+ghost use Rattle.std.specs.Prelude.{IsErr, IsTrue, OnOk};
 ghost use Rattle.control_word.specs.declared.event.Cell.TheVariants.{Free};
 ghost use Rattle.control_word.specs.declared.handle.Kind.TheVariants.{Owner};
 ghost use Rattle.control_block.specs.Desks.{Belongs, IsSameDesk, allowance_of, bag_of, endings_of, held_of, stock_of};
@@ -31,8 +32,8 @@ pub(crate) fn is_near_limit<V: Drop + Send>(desk: &Desk<V>) -> bool
     desk.allowance() - desk.held() < HANDLES
 }
 
-/// A thread's own access to a stack of nodes in a free shared cell: each node owns the one below it by its member `next`.
-/// All that have the same cell share the stack.
+/// A thread's own access to a stack of nodes in a free shared cell: each node owns the one below it by its member
+/// `next`. All that have the same cell share the stack.
 pub struct Stack<V: Drop + Send> {
     cell: u32,
     pile: Pile<V>,
@@ -51,8 +52,8 @@ impl<V: Drop + Send> Model for Stack<V> {
 
 impl<V: Drop + Send> Stack<V> {
     /// The stack in a free shared cell of the domain, by its number from 0 (own). It makes room for the ends of as many
-    /// objects as there are blocks; no other call takes memory. Condition: the cell is one of the domain's. It is refused
-    /// `Memory` where a growth was really refused.
+    /// objects as there are blocks; no other call takes memory. Condition: the cell is one of the domain's. It is
+    /// refused `Memory` where a growth was really refused.
     pub fn new(alloc: Global, domain: &Domain<V>, cell: u32) -> Result<Self, Refusal>
         requires cell { cell < domain.now.shape.shared_cells }
         ensures refused { IfErr result (λ why. why ≡ Refusal.Memory) }
@@ -62,9 +63,10 @@ impl<V: Drop + Send> Stack<V> {
         Ok(Self { cell, pile })
     }
 
-    /// A new node with four fields and an owned value, without the from-this flag, goes on top (own). It waits while others
-    /// change the cell. It is refused `Limit` just where fewer than 6 handles are free, and else `Full` just where the
-    /// desk's store is empty: then the value comes back, and nothing changes. Condition: no object ends in the desk's hands.
+    /// A new node with four fields and an owned value, without the from-this flag, goes on top (own). It waits while
+    /// others change the cell. It is refused `Limit` just where fewer than 6 handles are free, and else `Full` just
+    /// where the desk's store is empty: then the value comes back, and nothing changes. Condition: no object ends in
+    /// the desk's hands.
     pub fn push<R: Wait>(
         &mut self,
         rt: &R,
@@ -76,7 +78,8 @@ impl<V: Drop + Send> Stack<V> {
         requires domain { Belongs desk.old domain.now }
         requires stands { StandsIn self.old domain.now }
         requires settled { endings_of desk.old ≡ 0 }
-        ensures refusals { IsFullOrLimit (allowance_of desk.old < held_of desk.old + 6) (stock_of desk.old ≡ []) result }
+        ensures refusals { IsFullOrLimit (allowance_of desk.old < held_of desk.old + 6)
+            (stock_of desk.old ≡ []) result }
         ensures refused { IfErr result (λ r. (r.back ≡ value) × (desk.new ≡ desk.old)) }
         ensures stands { (self.new.cell ≡ self.old.cell) × StandsIn self.new domain.now }
         ensures settled { endings_of desk.new ≡ 0 }
@@ -102,9 +105,9 @@ impl<V: Drop + Send> Stack<V> {
         Ok(())
     }
 
-    /// The top node goes out of the stack, and this is its owner, or none where there was no node (own). It keeps what its
-    /// `next` owns. It waits while others change the cell. It is refused `Limit` just where fewer than 6 handles are free,
-    /// and then nothing changes. Condition: no object ends in the desk's hands.
+    /// The top node goes out of the stack, and this is its owner, or none where there was no node (own). It keeps what
+    /// its `next` owns. It waits while others change the cell. It is refused `Limit` just where fewer than 6 handles
+    /// are free, and then nothing changes. Condition: no object ends in the desk's hands.
     pub fn pop<R: Wait>(
         &mut self,
         rt: &R,
@@ -119,11 +122,15 @@ impl<V: Drop + Send> Stack<V> {
         ensures stands { (self.new.cell ≡ self.old.cell) × StandsIn self.new domain.now }
         ensures settled { endings_of desk.new ≡ 0 }
         ensures desk { IsSameDesk desk.old desk.new }
-        ensures bag { IfOk result (λ r. MatchOption r (bag_of desk.new ≡ bag_of desk.old) (λ h. bag_of desk.new ≡ with_handle Owner h.block h.place (bag_of desk.old))) }
-        ensures held { IfOk result (λ r. MatchOption r (desk.new.held ≡ desk.old.held) (λ h. desk.new.held ≡ desk.old.held + 1)) }
+        ensures bag { IfOk result (λ r. MatchOption r (bag_of desk.new ≡ bag_of desk.old)
+            (λ h. bag_of desk.new ≡ with_handle Owner h.block h.place (bag_of desk.old))) }
+        ensures held { IfOk result
+            (λ r. MatchOption r (desk.new.held ≡ desk.old.held) (λ h. desk.new.held ≡ desk.old.held + 1)) }
         ensures holds { IfOk result (λ r. IfSome r (λ h. Holds desk.new Owner h.block h.place)) }
-        ensures own { IfOk result (λ r. MatchOption r (FindsNone desk.old (Free self.old.cell) desk.new) (λ h. TakesNode desk.old (Free self.old.cell) h desk.new)) }
-        ensures list { IfOk result (λ r. IsSole desk.old → MatchOption r (IsBare desk.old (Free self.old.cell) desk.new) (λ h. IsPopped desk.old (Free self.old.cell) h desk.new)) }
+        ensures own { IfOk result (λ r. MatchOption r (FindsNone desk.old (Free self.old.cell) desk.new)
+            (λ h. TakesNode desk.old (Free self.old.cell) h desk.new)) }
+        ensures list { IfOk result (λ r. IsSole desk.old → MatchOption r
+            (IsBare desk.old (Free self.old.cell) desk.new) (λ h. IsPopped desk.old (Free self.old.cell) h desk.new)) }
     {
         if is_near_limit(desk) {
             return Err(Refusal::Limit);

@@ -17,11 +17,11 @@ use std::alloc::Global;
 
 impl<V: Drop + Send> Scene<V> {
     /// The root leaves, and what ends by that does so (own): for an object first what its `first` alone owned, then its
-    /// `next`. The answer has the value of each object that ended, in the order in which they did. It waits for nobody: where
-    /// other desks lengthen meanwhile what ends, it makes four rounds a block, or stops when more objects have ended than
-    /// there are blocks; then the rest stays on the scene's pile. All memory is reserved before the root leaves. It is
-    /// refused `Memory` where a growth was really refused: then the root comes back, and nothing changes. Condition: what
-    /// ends in the desk's hands is just what lies on the scene's pile.
+    /// `next`. The answer has the value of each object that ended, in the order in which they did. It waits for nobody:
+    /// where other desks lengthen meanwhile what ends, it makes four rounds a block, or stops when more objects have
+    /// ended than there are blocks; then the rest stays on the scene's pile. All memory is reserved before the root
+    /// leaves. It is refused `Memory` where a growth was really refused: then the root comes back, and nothing changes.
+    /// Condition: what ends in the desk's hands is just what lies on the scene's pile.
     pub fn teardown(
         &mut self,
         alloc: Global,
@@ -31,12 +31,14 @@ impl<V: Drop + Send> Scene<V> {
     ) -> Result<Vec<V>, Refused<Shared>>
         requires bears { Bears domain.now desk.old self.old }
         requires holds { Holds desk.old Owner root.block root.place }
-        ensures refused { IfErr result (λ r. (r.why ≡ Refusal.Memory) × (r.back ≡ root) × (desk.new ≡ desk.old) × (self.new ≡ self.old)) }
+        ensures refused { IfErr result (λ r. (r.why ≡ Refusal.Memory) × (r.back ≡ root) × (desk.new ≡ desk.old)
+            × (self.new ≡ self.old)) }
         ensures bears { Bears domain.now desk.new self.new }
         ensures desk { IsSameDesk desk.old desk.new }
         ensures bag { OnOk result (bag_of desk.new ≡ without_handle Owner root.block root.place (bag_of desk.old)) }
         ensures held { OnOk result (desk.new.held + 1 ≡ desk.old.held) }
-        ensures ends { IfOk result (λ values. TearsDown domain.now.shape.blocks desk.old self.old.endings.items root values.items desk.new self.new.endings.items) }
+        ensures ends { IfOk result (λ values. TearsDown domain.now.shape.blocks desk.old self.old.endings.items root
+            values.items desk.new self.new.endings.items) }
     {
         let Ok(mut ended) = Ended::new(alloc, domain.blocks() as usize + 1) else {
             return Err(Refused {

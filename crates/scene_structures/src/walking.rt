@@ -9,7 +9,8 @@ ghost use Rattle.shared_handle.specs.Calls.{Holds};
 ghost use Rattle.shared_handle.specs.Piles.{Bears, FoldsBack};
 ghost use Rattle.atomic_cells.specs.Sites.{IsOpenWeakly, weak_cell};
 ghost use Rattle.scene_structures.specs.Hands.{HasHands, KeepsHeld, node_in};
-ghost use Rattle.scene_structures.specs.Walks.{HandsVisited, HasLooked, HeldVisited, IsAsked, IsVisit, TellsField, WalksFrom};
+ghost use Rattle.scene_structures.specs.Walks.{HandsVisited, HasLooked, HeldVisited, IsAsked, IsVisit, TellsField};
+ghost use Rattle.scene_structures.specs.Walks.{WalksFrom};
 
 use crate::endings::let_go;
 use atomic_cells::{SharedAt, SharedMember, WeakAt};
@@ -70,7 +71,8 @@ fn ask<V: Drop + Send, R: Wait>(
     ensures held { desk.new.held ≡ desk.old.held }
     ensures desk { IsSameDesk desk.old desk.new }
     ensures latest { KeepsHeld desk.old desk.new }
-    ensures own { (h : Handle) × (asked : List (Event V)) × IsAsked h result asked × HasLooked desk.old (asked ++ Load (weak_cell desk.old up.now.site) h ∷ []) desk.new }
+    ensures own { (h : Handle) × (asked : List (Event V)) × IsAsked h result asked
+        × HasLooked desk.old (asked ++ Load (weak_cell desk.old up.now.site) h ∷ []) desk.new }
 {
     let Ok(weak) = up.load(rt, domain, desk) else {
         unreachable!()
@@ -152,7 +154,8 @@ pub(crate) fn walk<V: Drop + Send, R: Wait, F: FnMut(u64)>(
     ensures desk { IsSameDesk desk.old desk.new }
     ensures bag { (base : List Handle) → HasHands base (first ∷ []) desk.old → HasHands base [] desk.new }
     ensures held { desk.new.held + 1 ≡ desk.old.held }
-    ensures own { (told : List ℕ) × WalksFrom desk.old (node_in desk.old first) told desk.new × ((last : F) × FoldsBack (λ p x q. F.step p x tt q) tell told last) }
+    ensures own { (told : List ℕ) × WalksFrom desk.old (node_in desk.old first) told desk.new
+        × ((last : F) × FoldsBack (λ p x q. F.step p x tt q) tell told last) }
 {
     let mut node = first;
     for _ in rt.forever() {

@@ -16,7 +16,8 @@ use std::sync::Wait;
 use std::test::Fail;
 use std::thread::{Threads, join_mut};
 
-// What each thread does: it pushes 250 nodes and pops till none is found, or it attaches 250 nodes to the subject aside.
+// What each thread does: it pushes 250 nodes and pops till none is found, or it attaches 250 nodes to the subject
+// aside.
 #[derive(Clone, Copy, Drop)]
 pub(crate) enum Task {
     PushAndPop,
@@ -176,10 +177,13 @@ fn part(
     requires domain { Belongs desk.old domain.now }
     requires blocks { blocks ≤ length (stock_of desk.old) }
     requires settled { endings_of desk.old ≡ 0 }
-    ensures one { (desk.new.domain ≡ desk.old.domain) × (desk.new.shape ≡ desk.old.shape) × (desk.new.name ≡ desk.old.name) × (endings_of desk.new ≡ 0) }
+    ensures one { (desk.new.domain ≡ desk.old.domain) × (desk.new.shape ≡ desk.old.shape)
+        × (desk.new.name ≡ desk.old.name) × (endings_of desk.new ≡ 0) }
     ensures two { IfSome result (λ r. Belongs r domain.now × (endings_of r ≡ 0)) }
-    ensures sum { MatchOption result (allowance_of desk.new ≡ allowance_of desk.old) (λ r. allowance_of desk.new + allowance_of r ≡ allowance_of desk.old) }
-    ensures stock { IfSome result (λ r. (length (stock_of r) ≡ blocks) × (length (stock_of desk.new) + blocks ≡ length (stock_of desk.old))) }
+    ensures sum { MatchOption result (allowance_of desk.new ≡ allowance_of desk.old)
+        (λ r. allowance_of desk.new + allowance_of r ≡ allowance_of desk.old) }
+    ensures stock { IfSome result (λ r. (length (stock_of r) ≡ blocks)
+        × (length (stock_of desk.new) + blocks ≡ length (stock_of desk.old))) }
 {
     match desk.split(alloc, domain, allowance, blocks, Vec::new(alloc)) {
         Ok((two, handles)) => {
@@ -238,11 +242,13 @@ fn both_pairs<R: Threads + Wait + Sync>(
     let (a, b) = join_mut(
         rt,
         &mut || -> Tally
-            requires { IsSync R.row × Belongs one.now domain.now × (domain.now.shape.shared_cells ≡ 2) × (endings_of one.now ≡ 0) × (250 ≤ length (stock_of one.now)) }
+            requires { IsSync R.row × Belongs one.now domain.now × (domain.now.shape.shared_cells ≡ 2)
+                × (endings_of one.now ≡ 0) × (250 ≤ length (stock_of one.now)) }
             ensures { IsSameDesk one.entry.now one.exit.now × (endings_of one.exit.now ≡ 0) }
         { pair(rt, alloc, domain, task, 0, one) },
         &mut || -> Tally
-            requires { IsSync R.row × Belongs two.now domain.now × (domain.now.shape.shared_cells ≡ 2) × (endings_of two.now ≡ 0) × (250 ≤ length (stock_of two.now)) }
+            requires { IsSync R.row × Belongs two.now domain.now × (domain.now.shape.shared_cells ≡ 2)
+                × (endings_of two.now ≡ 0) × (250 ≤ length (stock_of two.now)) }
             ensures { IsSameDesk two.entry.now two.exit.now × (endings_of two.exit.now ≡ 0) }
         { pair(rt, alloc, domain, task, 500, two) },
     );

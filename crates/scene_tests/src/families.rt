@@ -18,8 +18,8 @@ use std::alloc::Global;
 use std::sync::Wait;
 use std::test::Fail;
 
-// The parents that the children tell of while the root lives, the values of what ends by the root, how many blocks are vacant
-// then, and the parent of a child that is left.
+// The parents that the children tell of while the root lives, the values of what ends by the root, how many blocks are
+// vacant then, and the parent of a child that is left.
 type Seen = ((Told, Told, Told), Option<Vec<u64>>, u32, Option<Told>);
 
 // A child with this value is left to its parent: the parent that it tells of.

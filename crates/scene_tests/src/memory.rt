@@ -17,8 +17,8 @@ use std::alloc::Global;
 use std::sync::Wait;
 use std::test::Fail;
 
-// What came of a teardown: the values, or why there are none, what the root reads and how many owners it has, and how many
-// blocks are vacant before it leaves.
+// What came of a teardown: the values, or why there are none, what the root reads and how many owners it has, and how
+// many blocks are vacant before it leaves.
 #[derive(Debug, Drop, PartialEq)]
 enum Came {
     Values(u64),

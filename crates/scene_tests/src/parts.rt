@@ -29,7 +29,8 @@ fn shape(blocks: u32, allowance: u32) -> Shape
 
 // A domain and its first desk, if there is memory.
 pub(crate) fn opened(alloc: Global, blocks: u32, allowance: u32) -> Option<(Domain<u64>, Desk<u64>)>
-    ensures desk { IfSome result (λ r. Belongs r.1 r.0 × (endings_of r.1 ≡ 0) × (allowance_of r.1 ≡ r.0.shape.allowance)) }
+    ensures desk { IfSome result
+        (λ r. Belongs r.1 r.0 × (endings_of r.1 ≡ 0) × (allowance_of r.1 ≡ r.0.shape.allowance)) }
     ensures shape { IfSome result (λ r. r.0.shape.shared_cells ≡ 2) }
 {
     match open::<u64>(alloc, shape(blocks, allowance)) {

@@ -19,7 +19,8 @@ not_both bytes s line cause h f = elim (faulty_answer (Ok s) bytes line cause h 
 same_fault : (bytes : List ℕ) (l line : ℕ) (c cause : Cause) → Faulty bytes l c → Faulty bytes line cause → Syntax l c ≡ Syntax line cause
 same_fault bytes l line c cause h f = elim (faulty_answer (Err (Syntax l c)) bytes line cause h f) [ inl e ↦ cc | inr e ↦ absurd cc ]
 
-read_list : (bytes list : List ℕ) (s t : ScriptView) (x y : Result (List ℕ) ℕ) → Reads bytes s → Reads bytes t → list_at (length s.threads) list ≡ x
+read_list : (bytes list : List ℕ) (s t : ScriptView) (x y : Result (List ℕ) ℕ) → Reads bytes s → Reads bytes t
+    → list_at (length s.threads) list ≡ x
     → list_at (length t.threads) list ≡ y → x ≡ y
 read_list bytes list s t x y h k p q = sym p ∙ ap (λ (u : ScriptView). list_at (length u.threads) list) (same_script bytes s t h k) ∙ q
 

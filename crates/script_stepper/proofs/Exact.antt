@@ -5,7 +5,8 @@ use Rattle.control_word.specs.declared.event.Event.TheVariants as event
 use Rattle.control_word.specs.Histories.{entry, leads}
 use Rattle.control_word.specs.State.{Opening, State}
 use Rattle.step_threads.specs.declared.act.Act.{Act}
-use Rattle.step_threads.specs.declared.act.Act.TheVariants.{Make, Share, Downgrade, Alias, Move, FromThis, Lock, Put, Leave, Clear, Count, Expired, Read, Ask, Offer, Swap, Exchange, Load, Compare, Drop}
+use Rattle.step_threads.specs.declared.act.Act.TheVariants.{Make, Share, Downgrade, Alias, Move, FromThis, Lock, Put, Leave, Clear, Count, Expired, Read, Ask}
+use Rattle.step_threads.specs.declared.act.Act.TheVariants.{Offer, Swap, Exchange, Load, Compare, Drop}
 use Rattle.step_threads.specs.declared.act.Task.{Task}
 use Rattle.step_threads.specs.declared.said.Answer.{Answer}
 use Rattle.step_threads.specs.declared.said.Answer.TheVariants as answer
@@ -15,7 +16,8 @@ use Rattle.step_table.specs.Deeds.{Telling, exact, handle_of, on, tell_count}
 use Rattle.step_table.specs.Holdings.{Slots, slot}
 use Rattle.step_table.specs.Openings.{opening}
 use Rattle.step_threads.specs.Entries.{History, acted, does}
-use Rattle.step_threads.specs.Scenes.{Scene, answer_of, ended_of, next, play, play_from, play_with, put_walk, rest_of, rested_walk, said, said_from, said_with, state_in, walk_of, went}
+use Rattle.step_threads.specs.Scenes.{Scene, answer_of, ended_of, next, play, play_from, play_with, put_walk, rest_of, rested_walk, said, said_from, said_with}
+use Rattle.step_threads.specs.Scenes.{state_in, walk_of, went}
 use Rattle.step_core.specs.Worlds.{NoneLoads, Sight, TellsAll, is_loading}
 use Rattle.script_stepper.specs.Running.{AllRest}
 

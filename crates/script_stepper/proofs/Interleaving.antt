@@ -1,5 +1,6 @@
 -- The history of a run by single steps is an interleaving of its threads.
-use Rattle.std.proofs.Common.{◌≡◌, ◌≢◌, ℕ, ◌+◌, ◌<◌, ◌≤◌, List, [], ◌∷◌, length, get_or, map, refl, sym, ap, subst, ◌∙◌, inl, inr, arith, ⊎_elim}
+use Rattle.std.proofs.Common.{◌≡◌, ◌≢◌, ℕ, ◌+◌, ◌<◌, ◌≤◌, List, [], ◌∷◌, length, get_or, map, refl, sym, ap, subst, ◌∙◌}
+use Rattle.std.proofs.Common.{inl, inr, arith, ⊎_elim}
 use Rattle.std.specs.Prelude.{◌⊎◌, All, Option, Some, None, slice_get}
 use Rattle.std.proofs.lemmas.Bool.{cases_lt}
 use Rattle.std.proofs.lemmas.List.{get_or-map, get_or_past, length-map}
@@ -41,7 +42,8 @@ module _ (z : Opening) (h : List (Entry Nothing)) (d : ℕ) where
       absurd (subst (λ (k : Walk). Does no_worth (leads z (onto h l)) k x w) rest.0 own.1.2)
 
 -- so all that is done is some thread's
-all_below : (n : ℕ) (l : List (Doing Nothing)) → ((d : ℕ) → n ≤ d → All (λ (x : Doing Nothing). x.desk ≢ d) l) → All (λ (x : Doing Nothing). x.desk < n) l
+all_below : (n : ℕ) (l : List (Doing Nothing)) → ((d : ℕ) → n ≤ d → All (λ (x : Doing Nothing). x.desk ≢ d) l)
+    → All (λ (x : Doing Nothing). x.desk < n) l
 all_below n [] none = All-nil (λ (x : Doing Nothing). x.desk < n)
 all_below n (x ∷ l) none =
     All-cons (λ (y : Doing Nothing). y.desk < n) x l

@@ -1,5 +1,6 @@
 -- A script and its turns have one trace.
-use Rattle.std.proofs.Common.{◌≡◌, ◌≢◌, ℕ, zero, suc, ◌+◌, ◌-◌, ◌<◌, ◌≤◌, List, [], ◌∷◌, ◌++◌, replicate, length, refl, sym, ◌∙◌, ap, subst, arith}
+use Rattle.std.proofs.Common.{◌≡◌, ◌≢◌, ℕ, zero, suc, ◌+◌, ◌-◌, ◌<◌, ◌≤◌, List, [], ◌∷◌, ◌++◌, replicate, length}
+use Rattle.std.proofs.Common.{refl, sym, ◌∙◌, ap, subst, arith}
 use Rattle.std.specs.Prelude.{None}
 use Rattle.script_text.specs.Grammar.{ended}
 use Rattle.step_threads.specs.Scenes.{Scene, next, play, said, walk_of}
@@ -12,7 +13,8 @@ abbrev AllDone : Scene → Type 0
 AllDone c = (d : ℕ) → next (walk_of c d) ≡ None
 
 -- a thread that runs alone to its end comes to one end only
-alone_once : (n m t : ℕ) (c : Scene) → next (walk_of (plays (replicate n t) c) (t - 1)) ≡ None → next (walk_of (plays (replicate m t) c) (t - 1)) ≡ None
+alone_once : (n m t : ℕ) (c : Scene) → next (walk_of (plays (replicate n t) c) (t - 1)) ≡ None
+    → next (walk_of (plays (replicate m t) c) (t - 1)) ≡ None
     → (plays (replicate n t) c ≡ plays (replicate m t) c) × (told (replicate n t) c ≡ told (replicate m t) c)
 alone_once zero m t c p q = (sym (idle_plays m t c p), sym (idle_told m t c p))
 alone_once (suc n) zero t c p q = (idle_plays (suc n) t c q, idle_told (suc n) t c q)
@@ -39,7 +41,8 @@ done_before ns t a some done = ap next (sym (earlier_stay ns (t + 1) (t - 1) a (
 none_cons : (n : ℕ) (ns : List ℕ) → length (n ∷ ns) ≡ 0 → ⊥
 none_cons n ns e = omega (arith, e)
 
-one_order : (ns ms : List ℕ) (t : ℕ) (c : Scene) → 1 ≤ t → length ns ≡ length ms → AllDone (plays (in_order t ns) c) → AllDone (plays (in_order t ms) c)
+one_order : (ns ms : List ℕ) (t : ℕ) (c : Scene) → 1 ≤ t → length ns ≡ length ms → AllDone (plays (in_order t ns) c)
+    → AllDone (plays (in_order t ms) c)
     → (plays (in_order t ns) c ≡ plays (in_order t ms) c) × (told (in_order t ns) c ≡ told (in_order t ms) c)
 one_order [] [] t c some same p q = (refl, refl)
 one_order [] (m ∷ ms) t c some same p q = absurd (none_cons m ms (sym same))

@@ -1,5 +1,6 @@
 -- One turn of a world at rest.
-use Rattle.std.proofs.Common.{◌≡◌, ℕ, ◌-◌, ◌<◌, ◌≤◌, List, [], ◌∷◌, ◌++◌, inl, inr, length, sym, ◌∙◌, ap, subst, arith, get_or, get_or-set_same, get_or-set_other}
+use Rattle.std.proofs.Common.{◌≡◌, ℕ, ◌-◌, ◌<◌, ◌≤◌, List, [], ◌∷◌, ◌++◌, inl, inr, length, sym, ◌∙◌, ap, subst, arith}
+use Rattle.std.proofs.Common.{get_or, get_or-set_same, get_or-set_other}
 use Rattle.std.specs.Prelude.{Option, Some, None, slice_set}
 use Rattle.std.specs.List.{flat_map}
 use Rattle.std.proofs.lemmas.Bool.{cases_eq, cases_lt}
@@ -70,7 +71,8 @@ still_rest halves d e h =
       | inr ne ↦ get_or-set_other halves d e Rest Rest ne ∙ h
     ]
 
-rests_on : (u u' : Sight) (d : ℕ) → AllRest u → d < length u.walks → scene u' ≡ play d (scene u) → u'.halves ≡ slice_set u.halves d Rest → AllRest u'
+rests_on : (u u' : Sight) (d : ℕ) → AllRest u → d < length u.walks → scene u' ≡ play d (scene u)
+    → u'.halves ≡ slice_set u.halves d Rest → AllRest u'
 rests_on u u' d rests lt is halves =
     record {
       halves = λ e. ap (λ (l : List Half). get_or l e Rest) halves ∙ still_rest u.halves d e (rests.halves e);

@@ -71,6 +71,7 @@ unfolding list_at
 listed_named threads [] turns e = let same : [] ≡ turns = cc in subst (All (Names threads)) same (All-nil (Names threads))
 listed_named threads (b ∷ bs) turns e = turns_named threads 1 (slice_split is_comma (b ∷ bs)) turns e
 
-pub items_named : (threads n : ℕ) (text turns items : List ℕ) → threads ≡ n → items ≡ turns → list_at threads text ≡ Ok turns → All (Names n) items
+pub items_named : (threads n : ℕ) (text turns items : List ℕ) → threads ≡ n → items ≡ turns
+    → list_at threads text ≡ Ok turns → All (Names n) items
 items_named threads n text turns items e same h =
     subst (λ (k : ℕ). All (Names k) items) e (subst (All (Names threads)) (sym same) (listed_named threads text turns h))

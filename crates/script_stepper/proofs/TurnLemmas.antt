@@ -15,7 +15,8 @@ use Rattle.std.proofs.lemmas.Str.Parse.{IsNumeralModel, numerals_by_value, parse
 use Rattle.script_stepper.specs.TurnLists.{is_digit, is_comma, is_turn, turn_at, with_first, turns_from, list_at}
 
 -- where nothing passes, the list is the one part
-one_by : (b : Bool) (x : ℕ) (xs : List ℕ) (m : ℕ) → suc (length xs) ≤ cond (not b) (1 + m) 0 → (length xs ≤ m → slice_split is_comma xs ≡ xs ∷ [])
+one_by : (b : Bool) (x : ℕ) (xs : List ℕ) (m : ℕ) → suc (length xs) ≤ cond (not b) (1 + m) 0
+    → (length xs ≤ m → slice_split is_comma xs ≡ xs ∷ [])
     → cond b ([] ∷ slice_split is_comma xs) (onto_first x (slice_split is_comma xs)) ≡ (x ∷ xs) ∷ []
 one_by true x xs m h rest = absurd (omega arith)
 one_by false x xs m h rest = rw (rest (omega arith)) refl
@@ -111,7 +112,8 @@ list_none threads [] h = refl
 list_none threads (b ∷ bs) h = absurd (omega arith)
 
 -- where `parse` fails at digits, they name no thread
-pub no_turn : (threads : ℕ) (w t : List ℕ) → threads < 2 ^ 8 → t ≡ w → AreDigits w → ParsesUnsigned {E = ℕ} 8 10 t (Err 0) → None ≡ turn_at threads w
+pub no_turn : (threads : ℕ) (w t : List ℕ) → threads < 2 ^ 8 → t ≡ w → AreDigits w → ParsesUnsigned {E = ℕ} 8 10 t (Err 0)
+    → None ≡ turn_at threads w
 no_turn threads w t low same h failed =
     let parsed : ParsesUnsigned {E = ℕ} 8 10 w (Err 0) = subst (λ (u : List ℕ). ParsesUnsigned {E = ℕ} 8 10 u (Err 0)) same failed in
     let none : is_turn threads w ≡ false = false_from_ne_true (is_turn threads w) (λ e.

@@ -1,5 +1,6 @@
 -- What endings do that go on by themselves.
-use Rattle.std.proofs.Common.{◌≡◌, ℕ, zero, suc, ◌-◌, ◌<◌, ◌≤◌, true, false, List, [], ◌∷◌, inl, inr, length, refl, sym, ◌∙◌, ap, subst, arith, get_or-set_same}
+use Rattle.std.proofs.Common.{◌≡◌, ℕ, zero, suc, ◌-◌, ◌<◌, ◌≤◌, true, false, List, [], ◌∷◌, inl, inr, length, refl, sym, ◌∙◌}
+use Rattle.std.proofs.Common.{ap, subst, arith, get_or-set_same}
 use Rattle.std.specs.Prelude.{◌⊎◌, Option, Some, None, slice_set}
 use Rattle.std.proofs.lemmas.Bool.{cond_both}
 use Rattle.std.proofs.lemmas.List.{length-set}

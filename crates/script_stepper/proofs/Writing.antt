@@ -1,5 +1,6 @@
 -- Writes one after the other.
-use Rattle.std.proofs.Common.{◌≡◌, ℕ, ◌-◌, List, [], ◌++◌, length, take, drop, Option, Some, None, Result, Ok, Err, refl, sym, ap, ◌∙◌, append_assoc}
+use Rattle.std.proofs.Common.{◌≡◌, ℕ, ◌-◌, List, [], ◌++◌, length, take, drop, Option, Some, None, Result, Ok, Err, refl, sym, ap, ◌∙◌}
+use Rattle.std.proofs.Common.{append_assoc}
 use Rattle.std.specs.Io.KnownBytes.{Appends, Keeps}
 use Rattle.std.specs.Prelude.{OnErr, OnOk}
 use Rattle.std.proofs.lemmas.List.{append-nil, take-append-drop, take_rest}
@@ -59,7 +60,8 @@ begun a b xs ys k = record {
 }
 
 -- a part that was written in full, and then another
-pub written_then : {A E : Type 0} (a b c : Option (List ℕ)) (xs ys : List ℕ) (r : Result A E) → Appends a b xs → IsWritten ys r b c → IsWritten (xs ++ ys) r a c
+pub written_then : {A E : Type 0} (a b c : Option (List ℕ)) (xs ys : List ℕ) (r : Result A E) → Appends a b xs → IsWritten ys r b c
+    → IsWritten (xs ++ ys) r a c
 written_then a b c xs ys (Ok x) h k = Appends-then a b c xs ys h k
 written_then a b c xs ys (Err e) h k = record {
   front = xs ++ k.front;

@@ -13,8 +13,8 @@ use Rattle.script_text.specs.Traces.{Item}
 abbrev pub spoken_of : Item → List (ℕ × Said)
 spoken_of x = spoken (x.0 - 1) x.1
 
--- Turns that lead from c to the last scene make some acts: their events come on top of the history; each thread's are what its
--- statements and its end ask for, from where it was to its end; and what the turns say is what the acts say
+-- Turns that lead from c to the last scene make some acts: their events come on top of the history; each thread's are
+-- what its statements and its end ask for, from where it was to its end; and what the turns say is what the acts say
 pub record TurnsFollow (c : Scene) (items : List Item) (last : Scene) : Type 0 where
   pub doings : List (Doing Nothing)
   pub history : last.history ≡ onto c.history doings

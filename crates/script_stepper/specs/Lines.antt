@@ -1,12 +1,14 @@
 -- The lines that a run writes, each without its line feed. All of it is own.
-use Rattle.std.specs.Prelude.{ℕ, ◌-◌, ◌==◌, ◌++◌, Bool, true, cond, List, [], ◌∷◌, codes, decimal, Option, Some, None}
+use Rattle.std.specs.Prelude.{ℕ, ◌-◌, ◌==◌, ◌++◌, Bool, true, cond, List, [], ◌∷◌, codes, decimal}
+use Rattle.std.specs.Prelude.{Option, Some, None}
 use Rattle.std.specs.List.{flat_map}
 use Rattle.control_word.specs.declared.counts.Counts.{Counts}
 use Rattle.control_word.specs.declared.place.Place.{Place}
 use Rattle.control_word.specs.Refusal.{refusal_number}
 use Rattle.control_word.specs.State.{State}
 use Rattle.step_threads.specs.declared.said.Answer.{Answer}
-use Rattle.step_threads.specs.declared.said.Answer.TheVariants.{Count, Expired, Locked, Upgraded, Read, Same, Before, Compared, Refused}
+use Rattle.step_threads.specs.declared.said.Answer.TheVariants.{Count, Expired, Locked, Upgraded, Read, Same, Before}
+use Rattle.step_threads.specs.declared.said.Answer.TheVariants.{Compared, Refused}
 use Rattle.step_threads.specs.declared.said.Answer.TheVariants as answer
 use Rattle.step_table.specs.declared.ended.Ended.{Ended}
 use Rattle.step_table.specs.declared.ended.Ended.TheVariants.{Fields, Null}
@@ -62,14 +64,16 @@ line_of text (Some x) = text x ∷ []
 -- the lines of an act: its answer, and then the object that ended by it
 abbrev pub said_lines : ℕ → Said → List (List ℕ)
 said_lines thread x =
-    line_of (λ a. line_start thread x.statement ++ answer_text a) x.answer ++ line_of (λ e. line_start thread x.statement ++ ended_text e) x.ended
+    line_of (λ a. line_start thread x.statement ++ answer_text a) x.answer ++ line_of
+    (λ e. line_start thread x.statement ++ ended_text e) x.ended
 
 abbrev pub item_lines : Item → List (List ℕ)
 item_lines item = said_lines item.0 item.1
 
 -- owners and weak handles of a block, without the one that the owners have in common
 abbrev pub block_text : ℕ → Counts → List ℕ
-block_text block counts = codes "block " ++ decimal block ++ codes " owners " ++ decimal counts.owners ++ codes " weaks " ++ decimal counts.weaks
+block_text block counts = codes "block " ++ decimal block ++ codes " owners " ++ decimal counts.owners
+    ++ codes " weaks " ++ decimal counts.weaks
 
 -- the line of a block that isn't vacant
 abbrev pub block_lines : State → ℕ → List (List ℕ)
@@ -80,11 +84,13 @@ abbrev pub census_lines : ℕ → State → List (List ℕ)
 census_lines blocks s = flat_map (block_lines s) (from 1 blocks)
 
 abbrev pub totals_text : ℕ → ℕ → List ℕ
-totals_text made over = codes "made " ++ decimal made ++ codes " ended " ++ decimal over ++ codes " left " ++ decimal (made - over)
+totals_text made over = codes "made " ++ decimal made ++ codes " ended " ++ decimal over ++ codes " left "
+    ++ decimal (made - over)
 
 -- the census of a scene, and the totals of its history
 abbrev pub closing_lines : Scene → List (List ℕ)
-closing_lines c = census_lines c.extent.shape.blocks (state_in c) ++ totals_text (made_in c.history) (ended_in c.history) ∷ []
+closing_lines c = census_lines c.extent.shape.blocks (state_in c) ++ totals_text (made_in c.history)
+    (ended_in c.history) ∷ []
 
 -- all lines of a run that says this and ends so
 abbrev pub shown : List Item → Scene → List (List ℕ)

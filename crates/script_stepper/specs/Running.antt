@@ -1,5 +1,6 @@
 -- What turns do to a world, and to the text that tells of them. All of it is own.
-use Rattle.std.specs.Prelude.{◌≡◌, ◌⊎◌, ℕ, suc, ◌+◌, ◌-◌, ◌*◌, ◌<◌, ◌≤◌, ◌++◌, true, List, [], ◌∷◌, length, replicate, sum_by, None}
+use Rattle.std.specs.Prelude.{◌≡◌, ◌⊎◌, ℕ, suc, ◌+◌, ◌-◌, ◌*◌, ◌<◌, ◌≤◌, ◌++◌}
+use Rattle.std.specs.Prelude.{true, List, [], ◌∷◌, length, replicate, sum_by, None}
 use Rattle.std.specs.List.{flat_map}
 use Rattle.script_text.specs.Grammar.{ended}
 use Rattle.step_threads.specs.declared.ending.Ending.{Ending}
@@ -47,7 +48,8 @@ parts_to_come c = 4 * ((made_in c.history - ended_in c.history) + tasks_in c.wal
 abbrev pub turns_left : ℕ → Scene → ℕ
 turns_left d c = length (walk_of c d).todo + parts_left (walk_of c d).endings + parts_to_come c
 
--- the world took these turns, and the text goes on with the lines of what they said. No thread has more left than before
+-- the world took these turns, and the text goes on with the lines of what they said. No thread has more left than
+-- before
 pub record HasRun (turns : List ℕ) (u u' : Sight) (old new : List ℕ) : Type 0 where
   pub rests : AllRest u'
   pub scene_is : scene u' ≡ plays turns (scene u)

@@ -1,5 +1,6 @@
 -- What a run of a script writes. All of it is own.
-use Rattle.std.specs.Prelude.{◌≡◌, ℕ, Bool, true, false, List, length, Option, Result, Ok, Err, String, string_bytes}
+use Rattle.std.specs.Prelude.{◌≡◌, ℕ, Bool, true, false, List, length, Option, Result, Ok, Err, String}
+use Rattle.std.specs.Prelude.{string_bytes}
 use Rattle.std.specs.Io.KnownBytes.{Appends}
 use Rattle.script_text.specs.declared.fault.Fault.{Fault}
 use Rattle.script_text.specs.declared.fault.Fault.TheVariants.{Memory, Syntax, BadTurn, Output, Input}
@@ -35,7 +36,8 @@ Writes text (Err Output) old new = AppendsBeginning old new text
 Writes text (Err Input) old new = ⊥
 
 -- the same of one of the texts that P holds of
-abbrev pub WritesOne : {A : Type 0} → (List ℕ → Type 0) → Result A Fault → Option (List ℕ) → Option (List ℕ) → Type 0
+abbrev pub WritesOne : {A : Type 0} → (List ℕ → Type 0) → Result A Fault → Option (List ℕ)
+    → Option (List ℕ) → Type 0
 WritesOne P (Ok x) old new = (text : List ℕ) × P text × Appends old new text
 WritesOne P (Err Memory) old new = new ≡ old
 WritesOne P (Err (Syntax line cause)) old new = ⊥
@@ -87,7 +89,8 @@ text_in (Ok text) = Ok (string_bytes text)
 text_in (Err fault) = Err fault
 
 -- the text of the run, or the refusal that script and list have; a fault of the script comes first
-abbrev pub Tells : (ScriptView → List ℕ → List ℕ → Type 0) → List ℕ → List ℕ → Result (List ℕ) Fault → Type 0
+abbrev pub Tells : (ScriptView → List ℕ → List ℕ → Type 0) → List ℕ → List ℕ
+    → Result (List ℕ) Fault → Type 0
 Tells IsText bytes list (Ok text) = IsRun IsText bytes list text
 Tells IsText bytes list (Err Memory) = Unit {0}
 Tells IsText bytes list (Err (Syntax line cause)) = Faulty bytes line cause
@@ -96,7 +99,8 @@ Tells IsText bytes list (Err Output) = ⊥
 Tells IsText bytes list (Err Input) = ⊥
 
 -- the text that is to be told was taken, or a beginning of it where the output failed; at any other refusal nothing was
-abbrev pub Delivers : {A : Type 0} → (Result (List ℕ) Fault → Type 0) → Result A Fault → Option (List ℕ) → Option (List ℕ) → Type 0
+abbrev pub Delivers : {A : Type 0} → (Result (List ℕ) Fault → Type 0) → Result A Fault → Option (List ℕ)
+    → Option (List ℕ) → Type 0
 Delivers told (Ok x) old new = (text : List ℕ) × told (Ok text) × Appends old new text
 Delivers told (Err Memory) old new = new ≡ old
 Delivers told (Err (Syntax line cause)) old new = told (Err (Syntax line cause)) × (new ≡ old)

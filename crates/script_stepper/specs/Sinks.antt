@@ -1,5 +1,6 @@
 -- What a sink takes.
-use Rattle.std.specs.Prelude.{◌≡◌, ℕ, ◌++◌, ◌==◌, ◌&&◌, Bool, true, List, length, Option, Result, Ok, Err, nat_lt}
+use Rattle.std.specs.Prelude.{◌≡◌, ℕ, ◌++◌, ◌==◌, ◌&&◌, Bool, true, List, length, Option, Result}
+use Rattle.std.specs.Prelude.{Ok, Err, nat_lt}
 use Rattle.std.specs.Io.KnownBytes.{Appends}
 
 -- an error, or 0 bytes taken of some

@@ -28,8 +28,8 @@ pub record IsStepRun (turns : List ℕ) (u : Sight) (steps : List TraceStep) (u'
   pub kept : Kept u'.story
   pub over : IsAtEnd u'
 
--- the history that these steps lead to is an interleaving of these threads, from their first acts to their ends, each of
--- which says what its steps say
+-- the history that these steps lead to is an interleaving of these threads, from their first acts to their ends, each
+-- of which says what its steps say
 abbrev pub IsInterleaving : List Part → List TraceStep → Sight → Type 0
 IsInterleaving parts steps u =
     Interleaves no_worth (opening u.story.extent) u.story.history 0 parts (λ d. said_on d (lines_of steps))

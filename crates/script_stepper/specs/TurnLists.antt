@@ -1,5 +1,6 @@
 -- Lists of turns.
-use Rattle.std.specs.Prelude.{◌≡◌, ℕ, ◌+◌, ◌==◌, ◌&&◌, Bool, not, List, [], ◌∷◌, length, Option, Some, None, Result, Ok, Err, nat_lt, nat_le}
+use Rattle.std.specs.Prelude.{◌≡◌, ℕ, ◌+◌, ◌==◌, ◌&&◌, Bool, not, List, [], ◌∷◌, length}
+use Rattle.std.specs.Prelude.{Option, Some, None, Result, Ok, Err, nat_lt, nat_le}
 use Rattle.std.specs.Prelude.{if◌then◌else◌, slice_index}
 use Rattle.std.specs.List.{list_all, slice_split}
 use Rattle.std.specs.Global.{Vec}
@@ -15,7 +16,8 @@ is_comma b = b == 44
 
 -- digits, of which the first is not 0, of a number up to that of the threads
 abbrev pub is_turn : ℕ → List ℕ → Bool
-is_turn threads word = nat_lt 0 (length word) && not (slice_index word 0 == 48) && list_all is_digit word && nat_le (digits_value 10 word) threads
+is_turn threads word = nat_lt 0 (length word) && not (slice_index word 0 == 48) && list_all is_digit word
+    && nat_le (digits_value 10 word) threads
 
 abbrev pub turn_at : ℕ → List ℕ → Option ℕ
 turn_at threads word = if is_turn threads word then Some (digits_value 10 word) else None
@@ -28,7 +30,8 @@ with_first (Some turn) place (Err later) = Err later
 -- the turns from a place on, or the place of the first that is none
 abbrev pub turns_from : ℕ → ℕ → List (List ℕ) → Result (List ℕ) ℕ
 turns_from threads place [] = Ok []
-turns_from threads place (word ∷ words) = with_first (turn_at threads word) place (turns_from threads (place + 1) words)
+turns_from threads place (word ∷ words) =
+    with_first (turn_at threads word) place (turns_from threads (place + 1) words)
 
 -- the turns of a list, or the place of the first faulty one, from 1. Empty bytes are no turns
 unfoldable pub list_at : ℕ → List ℕ → Result (List ℕ) ℕ

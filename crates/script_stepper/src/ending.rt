@@ -13,8 +13,8 @@ use script_text::{Fault, Script, parse};
 use std::alloc::Global;
 use step_core::World;
 
-/// A world in which each thread is at its end, and how many blocks it has. It has the 256 free cells of scripts, of which the
-/// first 128 are shared.
+/// A world in which each thread is at its end, and how many blocks it has. It has the 256 free cells of scripts, of
+/// which the first 128 are shared.
 #[derive(Drop)]
 pub struct End {
     pub world: World,
@@ -42,9 +42,9 @@ fn run_out(alloc: Global, script: &Script, turns: &[u8]) -> Result<End, Fault>
     }
 }
 
-/// Runs a script with a list of turns, as [`crate::step_text`] does, and gives the world at its end (own): one turn for each
-/// number of the list, then each thread to its end in number order. Refused by 1 where a growth was refused, by 10 just
-/// where a line of the script is faulty, and then by 11 just where a number of the list is.
+/// Runs a script with a list of turns, as [`crate::step_text`] does, and gives the world at its end (own): one turn for
+/// each number of the list, then each thread to its end in number order. Refused by 1 where a growth was refused, by 10
+/// just where a line of the script is faulty, and then by 11 just where a number of the list is.
 pub fn end_of(alloc: Global, script: &[u8], turns: &[u8]) -> Result<End, Fault>
     ensures end { IfOk result (λ end. IsEnd script.now turns.now (scene end.world)) }
     ensures refused { IfErr result (λ fault. IsRefused script.now turns.now fault) }

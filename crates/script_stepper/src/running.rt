@@ -1,5 +1,6 @@
 //! Turns of a world, and the text that tells of them (own).
-ghost use Rattle.std.specs.Prelude.{◌≡◌, ℕ, ◌-◌, ◌<◌, ◌≤◌, ◌∷◌, [], true, None, All, IfOk, OnOk};
+ghost use Rattle.std.specs.Prelude.{◌≡◌, ℕ, ◌-◌, ◌<◌, ◌≤◌, ◌∷◌, [], true, None, All, IfOk};
+ghost use Rattle.std.specs.Prelude.{OnOk};
 ghost use Rattle.std.specs.Prelude.{is_some, length, replicate, string_bytes};
 ghost use Rattle.step_threads.specs.Scenes.{next, said, walk_of};
 ghost use Rattle.step_core.specs.Worlds.{scene};

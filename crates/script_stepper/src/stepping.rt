@@ -160,8 +160,8 @@ fn deliver<S: Sink>(
 /// Runs a script, and writes the lines of the run (own): one turn for each number of the list `turns`, then each thread
 /// to its end in number order; then the census and the totals.
 ///
-/// Of each act come the lines that [`crate::write_lines`] writes, of thread T at its statement S, or at its end, where S
-/// is `end`. Of each block B that isn't vacant the census tells `block B owners N weaks K`. The last line is
+/// Of each act come the lines that [`crate::write_lines`] writes, of thread T at its statement S, or at its end, where
+/// S is `end`. Of each block B that isn't vacant the census tells `block B owners N weaks K`. The last line is
 /// `made M ended E left L`.
 ///
 /// Refused, in this order: by 1 where a growth was refused, by 10 just where a line of the script is faulty, by 11 just

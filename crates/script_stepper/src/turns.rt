@@ -1,5 +1,6 @@
 //! Lists of turns: numbers of threads, with single commas between them (own).
-ghost use Rattle.std.specs.Prelude.{◌≡◌, ◌∷◌, ◌++◌, ◌<◌, ◌≤◌, [], length, position, MatchOption, OnOk, IfErr};
+ghost use Rattle.std.specs.Prelude.{◌≡◌, ◌∷◌, ◌++◌, ◌<◌, ◌≤◌, [], length, position};
+ghost use Rattle.std.specs.Prelude.{MatchOption, OnOk, IfErr};
 ghost use Rattle.std.specs.List.{slice_split, list_all};
 ghost use Rattle.script_stepper.specs.TurnLists.{is_digit, is_comma, turn_at, list_at, AnswersTurns};
 

@@ -8,8 +8,8 @@ use step_core::Cell;
 const SCRIPT: &str = "make a 1\nmake b 2\nmake c 3\nmake d 4\nstore a.first b\nstore b.first a\n\
 store b.next c\nstore s5 d\nweak w d\nstore c.up w\n";
 
-/// The circle is leaked with what it owns, and what the cell owns is kept. The circle's two keep each other, and the third, which owns
-/// nothing, is a knot of its own.
+/// The circle is leaked with what it owns, and what the cell owns is kept. The circle's two keep each other, and the
+/// third, which owns nothing, is a knot of its own.
 #[test]
 fn a_circle_is_leaked_with_what_it_owns(rt: HostRuntime) -> Result<(), Fail> {
     let alloc = rt.alloc();

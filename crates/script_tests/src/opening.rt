@@ -113,8 +113,8 @@ fn shapes_have_limits(rt: HostRuntime) -> Result<(), Fail> {
     Ok(())
 }
 
-// `rt try --test --fail-alloc N` refuses the Nth allocation. Where that is one of a world's, the program comes back as it was,
-// and the next try begins.
+// `rt try --test --fail-alloc N` refuses the Nth allocation. Where that is one of a world's, the program comes back as
+// it was, and the next try begins.
 #[test]
 fn a_refused_world_gives_its_program_back(rt: HostRuntime) -> Result<(), Fail> {
     let alloc = rt.alloc();

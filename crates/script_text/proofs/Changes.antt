@@ -1,5 +1,6 @@
 -- What a good line changes: nothing, or the version by a header, or a thread begins, or a statement is added.
-use Rattle.std.proofs.Common.{◌≡◌, ℕ, ◌+◌, ◌<◌, Bool, true, false, cond, ltb, eqb, List, [], ◌∷◌, ◌++◌, length, Option, Some, None, Ok, Err, find, refl, subst}
+use Rattle.std.proofs.Common.{◌≡◌, ℕ, ◌+◌, ◌<◌, Bool, true, false, cond, ltb, eqb, List, [], ◌∷◌, ◌++◌, length, Option, Some, None}
+use Rattle.std.proofs.Common.{Ok, Err, find, refl, subst}
 use Rattle.std.specs.Prelude.{codes, nat_eq, ◌&&◌}
 use Rattle.std.specs.List.{list_all, starts_with, AllByRecursion}
 use Rattle.std.specs.Str.{bytes_eq}
@@ -14,7 +15,8 @@ use Rattle.script_text.specs.Names.{NameList}
 use Rattle.script_text.specs.Keywords.{spelling_of, keywords, find_keyword, known, keyword_at, takes_words}
 use Rattle.script_text.specs.Calls.{call_at}
 use Rattle.script_text.specs.Versions.{most_threads}
-use Rattle.script_text.specs.Drafts.{Draft, no_section, next_thread, with_call, next_call, is_new, header_line, thread_line, statement_line, other_line, after_words, after_line}
+use Rattle.script_text.specs.Drafts.{Draft, no_section, next_thread, with_call, next_call, is_new, header_line, thread_line, statement_line, other_line}
+use Rattle.script_text.specs.Drafts.{after_words, after_line}
 use Rattle.script_text.proofs.TidyWords.{IsTidy, words_tidy}
 use Rattle.script_text.proofs.ReadNames.{both_give, given, same_given, if_given}
 use Rattle.script_text.proofs.Rewrites.{Rewrites, rewrites}

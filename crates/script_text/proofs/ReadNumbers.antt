@@ -1,5 +1,6 @@
 -- What was read of numbers is read again from its decimal text.
-use Rattle.std.proofs.Common.{◌≡◌, ℕ, ◌^◌, ◌<◌, true, ltb, List, [], ◌∷◌, length, map, Option, Some, None, Result, Ok, refl, sym, subst, lit<}
+use Rattle.std.proofs.Common.{◌≡◌, ℕ, ◌^◌, ◌<◌, true, ltb, List, [], ◌∷◌, length, map, Option, Some, None, Result, Ok, refl, sym, subst}
+use Rattle.std.proofs.Common.{lit<}
 use Rattle.std.specs.Prelude.{decimal, slice_get, ◌&&◌}
 use Rattle.std.specs.List.{AllByRecursion, list_all}
 use Rattle.std.specs.Str.Parse.{digits_value}

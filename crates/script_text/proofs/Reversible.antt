@@ -13,7 +13,8 @@ use Rattle.script_text.specs.Names.{NameList, asked_source_at, source_at, target
 use Rattle.script_text.specs.Shapes.{one_target, one_source, target_and_source, two_sources, fields_at, target_and_fields}
 use Rattle.script_text.specs.Scripts.{kinds_in}
 use Rattle.script_text.proofs.TidyWords.{IsTidy, name_is_tidy}
-use Rattle.script_text.proofs.ReadNames.{both_give, given, same_given, with_names, Entry, name_text-Entry, Entry-more, IsDeclared-Entry, source_is, asked_is, Grows, grows_by_none, target_is}
+use Rattle.script_text.proofs.ReadNames.{both_give, given, same_given, with_names, Entry, name_text-Entry, Entry-more, IsDeclared-Entry, source_is, asked_is}
+use Rattle.script_text.proofs.ReadNames.{Grows, grows_by_none, target_is}
 use Rattle.script_text.proofs.ReadNumbers.{are_fields, fields_again, fields_tidy, fields_size}
 
 -- how the words of a shape are read

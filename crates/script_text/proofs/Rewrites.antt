@@ -16,7 +16,8 @@ use Rattle.script_text.specs.declared.keyword.WeakKeyword.{WeakKeyword}
 use Rattle.script_text.specs.declared.keyword.WeakKeyword.TheVariants as weak
 use Rattle.script_text.specs.Names.{NameList}
 use Rattle.script_text.specs.Keywords.{spelling_of, takes_words}
-use Rattle.script_text.specs.Shapes.{alias_at, cell_and_other, cell_and_source, cell_and_sources, target_and_cell, one_target, one_source, target_and_source, two_sources, target_and_fields}
+use Rattle.script_text.specs.Shapes.{alias_at, cell_and_other, cell_and_source, cell_and_sources, target_and_cell, one_target, one_source, target_and_source}
+use Rattle.script_text.specs.Shapes.{two_sources, target_and_fields}
 use Rattle.script_text.specs.Calls.{alias_call, as_call, call_at, cell_call_at, place_call_at, weak_call_at}
 use Rattle.script_text.specs.Canonical.{call_words}
 use Rattle.script_text.specs.Scripts.{kinds_in}
@@ -25,7 +26,8 @@ use Rattle.script_text.proofs.ReadNames.{both_give, given, same_given, with_name
 use Rattle.script_text.proofs.Reversible.{Reader, Writer, Asker, Sizer, IsReversible, always, write_one, asks_one, target_reversible}
 use Rattle.script_text.proofs.Reversible.{source_reversible, write_two, asks_two, target_and_source_reversible, asks_both, two_sources_reversible}
 use Rattle.script_text.proofs.Aliases.{Parts, write_alias, asks_alias, alias_size, alias_reversible}
-use Rattle.script_text.proofs.CellShapes.{Fits, asks_cell, cell_reversible, store_fits, other_reversible, exchange_fits, write_cell, asks_load, load_reversible, load_fits, write_load}
+use Rattle.script_text.proofs.CellShapes.{Fits, asks_cell, cell_reversible, store_fits, other_reversible, exchange_fits, write_cell, asks_load, load_reversible}
+use Rattle.script_text.proofs.CellShapes.{load_fits, write_load}
 use Rattle.script_text.proofs.CellCompares.{asks_compare, compare_reversible, compare_fits, write_compare}
 use Rattle.script_text.proofs.Reversible.{write_fields, asks_first, target_and_fields_reversible}
 

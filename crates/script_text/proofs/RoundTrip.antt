@@ -1,5 +1,6 @@
 -- The canonical text of a script that was read is read as the same script.
-use Rattle.std.proofs.Common.{◌≡◌, ℕ, ◌+◌, ◌<◌, ◌≤◌, true, List, [], ◌∷◌, ◌++◌, length, map, Ok, refl, sym, ap, subst, ◌∙◌, lit<, lt-ltb, append_assoc, arith}
+use Rattle.std.proofs.Common.{◌≡◌, ℕ, ◌+◌, ◌<◌, ◌≤◌, true, List, [], ◌∷◌, ◌++◌, length, map, Ok, refl, sym, ap, subst}
+use Rattle.std.proofs.Common.{◌∙◌, lit<, lt-ltb, append_assoc, arith}
 use Rattle.std.specs.Prelude.{codes, ltb}
 use Rattle.std.specs.List.{flat_map, AllByRecursion}
 use Rattle.std.proofs.lemmas.List.{append-nil}
@@ -11,7 +12,8 @@ use Rattle.script_text.specs.Keywords.{takes_words}
 use Rattle.script_text.specs.Calls.{call_at}
 use Rattle.script_text.specs.Drafts.{Section, ScriptView, Draft, draft_in, new_draft, sections, script_of, no_section, with_call, next_call, after_line}
 use Rattle.script_text.specs.Grammar.{HasNoFeed, ended, Leads, Begins, Reads}
-use Rattle.script_text.specs.Canonical.{call_words, spaced, call_line, section_lines, begun_lines, thread_lines, header_words, header_lines, script_lines, canonical}
+use Rattle.script_text.specs.Canonical.{call_words, spaced, call_line, section_lines, begun_lines, thread_lines, header_words, header_lines, script_lines}
+use Rattle.script_text.specs.Canonical.{canonical}
 use Rattle.script_text.proofs.TidyWords.{IsTidy, after_tidy_line, no_feed_in}
 use Rattle.script_text.proofs.GrammarLemmas.{clean-last, Leads-last}
 use Rattle.script_text.proofs.Rewrites.{IsSettled, Rewrites}

@@ -16,7 +16,8 @@ use Rattle.step_threads.specs.Interleavings.{Interleaves}
 
 -- each of the threads has the same number of blocks, as many as there are for all
 abbrev pub shape_for : ℕ → ℕ → Shape
-shape_for blocks threads = record { blocks = blocks / threads * threads; shared_cells = 128; weak_cells = 128; allowance = 1048576 }
+shape_for blocks threads =
+    record { blocks = blocks / threads * threads; shared_cells = 128; weak_cells = 128; allowance = 1048576 }
 
 abbrev pub script_shape : ScriptView → Shape
 script_shape script = shape_for (blocks_in script.version) (length script.threads)

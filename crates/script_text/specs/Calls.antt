@@ -15,7 +15,8 @@ use Rattle.script_text.specs.declared.keyword.WeakKeyword.{WeakKeyword}
 use Rattle.script_text.specs.declared.keyword.WeakKeyword.TheVariants as weak
 use Rattle.script_text.specs.Reading.{◌>>=◌}
 use Rattle.script_text.specs.Names.{NameList}
-use Rattle.script_text.specs.Shapes.{Aim, alias_at, cell_and_other, cell_and_source, cell_and_sources, target_and_cell, one_target, one_source, target_and_source, two_sources, target_and_fields}
+use Rattle.script_text.specs.Shapes.{Aim, alias_at, cell_and_other, cell_and_source, cell_and_sources, target_and_cell}
+use Rattle.script_text.specs.Shapes.{one_target, one_source, target_and_source, two_sources, target_and_fields}
 
 -- what was read, as a call
 abbrev pub as_call : {A : Type 0} → (A → Call) → Result (A × NameList) Cause → Result (Call × NameList) Cause
@@ -31,7 +32,8 @@ unfoldable pub place_call_at : NameList → PlaceKeyword → List (List ℕ) →
 place_call_at names place.Move words = as_call (λ p. call.Move p.0 p.1) (target_and_source names Owner Owner words)
 place_call_at names place.Alias words = as_call alias_call (alias_at names words)
 place_call_at names place.This words = as_call (λ p. call.This p.0 p.1) (target_and_source names Owner Owner words)
-place_call_at names place.WeakThis words = as_call (λ p. call.WeakThis p.0 p.1) (target_and_source names Weak Owner words)
+place_call_at names place.WeakThis words =
+    as_call (λ p. call.WeakThis p.0 p.1) (target_and_source names Weak Owner words)
 place_call_at names place.Read words = as_call call.Read (one_source names Owner words)
 place_call_at names place.Place words = as_call call.Place (one_source names Owner words)
 place_call_at names place.Same words = as_call (λ p. call.Same p.0 p.1) (two_sources names (Some Owner) words)

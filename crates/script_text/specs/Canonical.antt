@@ -1,5 +1,6 @@
 -- Canonical text: single spaces, numbers without leading zeros, and no line that is skipped.
-use Rattle.std.specs.Prelude.{◌≡◌, ℕ, ◌++◌, true, false, String, List, [], ◌∷◌, map, codes, decimal, string_bytes}
+use Rattle.std.specs.Prelude.{◌≡◌, ℕ, ◌++◌, true, false, String, List, [], ◌∷◌, map, codes, decimal}
+use Rattle.std.specs.Prelude.{string_bytes}
 use Rattle.std.specs.List.{flat_map, join_with_byte}
 use Rattle.step_threads.specs.declared.call.Call.{Call}
 use Rattle.step_threads.specs.declared.call.Call.TheVariants as call
@@ -23,11 +24,13 @@ call_words names (call.Reset name) = codes "reset" ∷ name_text names name ∷ 
 call_words names (call.Copy target source) = codes "copy" ∷ name_text names target ∷ name_text names source ∷ []
 call_words names (call.Move target source) = codes "move" ∷ name_text names target ∷ name_text names source ∷ []
 call_words names (call.Alias target source of field) =
-    codes "alias" ∷ name_text names target ∷ name_text names source ∷ name_text names of ∷ decimal (field_number field) ∷ []
+    codes "alias" ∷ name_text names target ∷ name_text names source ∷ name_text names of ∷ decimal
+    (field_number field) ∷ []
 call_words names (call.AliasNull target source) =
     codes "alias" ∷ name_text names target ∷ name_text names source ∷ codes "null" ∷ []
 call_words names (call.This target source) = codes "this" ∷ name_text names target ∷ name_text names source ∷ []
-call_words names (call.WeakThis target source) = codes "wthis" ∷ name_text names target ∷ name_text names source ∷ []
+call_words names (call.WeakThis target source) =
+    codes "wthis" ∷ name_text names target ∷ name_text names source ∷ []
 call_words names (call.Read name) = codes "read" ∷ name_text names name ∷ []
 call_words names (call.Place name) = codes "place" ∷ name_text names name ∷ []
 call_words names (call.Same first second) = codes "same" ∷ name_text names first ∷ name_text names second ∷ []
@@ -41,11 +44,13 @@ call_words names (call.Compare cell expected desired true) =
     codes "compare_weak" ∷ cell_text names cell ∷ name_text names expected ∷ name_text names desired ∷ []
 call_words names (call.Count name) = codes "count" ∷ name_text names name ∷ []
 call_words names (call.Weak target source) = codes "weak" ∷ name_text names target ∷ name_text names source ∷ []
-call_words names (call.WeakCopy target source) = codes "wcopy" ∷ name_text names target ∷ name_text names source ∷ []
+call_words names (call.WeakCopy target source) =
+    codes "wcopy" ∷ name_text names target ∷ name_text names source ∷ []
 call_words names (call.WeakEmpty target) = codes "wempty" ∷ name_text names target ∷ []
 call_words names (call.WeakReset name) = codes "wreset" ∷ name_text names name ∷ []
 call_words names (call.Lock target source) = codes "lock" ∷ name_text names target ∷ name_text names source ∷ []
-call_words names (call.Upgrade target source) = codes "upgrade" ∷ name_text names target ∷ name_text names source ∷ []
+call_words names (call.Upgrade target source) =
+    codes "upgrade" ∷ name_text names target ∷ name_text names source ∷ []
 call_words names (call.WeakCount name) = codes "wcount" ∷ name_text names name ∷ []
 call_words names (call.Expired name) = codes "expired" ∷ name_text names name ∷ []
 
@@ -55,7 +60,8 @@ line_words names (line.One word name) = word.now ∷ name_text names name ∷ []
 line_words names (line.Two word first second) = word.now ∷ name_text names first ∷ name_text names second ∷ []
 line_words names (line.Fields word name fields) = word.now ∷ name_text names name ∷ map decimal fields
 line_words names (line.Alias target source of field) =
-    codes "alias" ∷ name_text names target ∷ name_text names source ∷ name_text names of ∷ decimal (field_number field) ∷ []
+    codes "alias" ∷ name_text names target ∷ name_text names source ∷ name_text names of ∷ decimal
+    (field_number field) ∷ []
 line_words names (line.AliasNull target source) =
     codes "alias" ∷ name_text names target ∷ name_text names source ∷ codes "null" ∷ []
 line_words names (line.Cell word cell name) = word.now ∷ cell_text names cell ∷ name_text names name ∷ []

@@ -1,11 +1,13 @@
 -- A script so far, and what each line adds to it.
-use Rattle.std.specs.Prelude.{ℕ, ◌+◌, ◌++◌, ◌==◌, ◌&&◌, Bool, true, false, List, [], ◌∷◌, length, map, Result, Ok, Err, nat_eq, nat_lt, if◌then◌else◌, codes}
+use Rattle.std.specs.Prelude.{ℕ, ◌+◌, ◌++◌, ◌==◌, ◌&&◌, Bool, true, false, List, [], ◌∷◌}
+use Rattle.std.specs.Prelude.{length, map, Result, Ok, Err, nat_eq, nat_lt, if◌then◌else◌, codes}
 use Rattle.std.specs.List.{list_all, starts_with}
 use Rattle.std.specs.Str.{bytes_eq}
 use Rattle.step_threads.specs.declared.call.Call.{Call}
 use Rattle.script_text.specs.declared.draft.Draft as rust
 use Rattle.script_text.specs.declared.fault.Cause.{Cause}
-use Rattle.script_text.specs.declared.fault.Cause.TheVariants.{BadByte, WrongNumberOfWords, TooManyThreads, TooManyStatements}
+use Rattle.script_text.specs.declared.fault.Cause.TheVariants.{BadByte, WrongNumberOfWords, TooManyThreads}
+use Rattle.script_text.specs.declared.fault.Cause.TheVariants.{TooManyStatements}
 use Rattle.script_text.specs.declared.keyword.Keyword.{Keyword}
 use Rattle.script_text.specs.declared.thread.Thread.{Thread}
 use Rattle.script_text.specs.declared.version.Version.{Version}
@@ -44,7 +46,8 @@ pub record Draft : Type 0 where
 
 -- what a clause sees of a draft
 abbrev pub draft_of : rust.Draft → Draft
-draft_of d = record { version = d.version; done = map section_of d.done.items; current = section_of d.current; count = d.count }
+draft_of d =
+    record { version = d.version; done = map section_of d.done.items; current = section_of d.current; count = d.count }
 
 -- the draft of a version before the first line of its threads
 abbrev pub draft_in : Version → Draft

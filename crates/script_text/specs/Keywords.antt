@@ -1,10 +1,12 @@
 -- The first words of statements, and how many words may follow each.
-use Rattle.std.specs.Prelude.{ℕ, ◌&&◌, Bool, List, [], ◌∷◌, Option, Some, None, Result, Ok, Err, find, codes, nat_le}
+use Rattle.std.specs.Prelude.{ℕ, ◌&&◌, Bool, List, [], ◌∷◌, Option, Some, None, Result, Ok, Err, find}
+use Rattle.std.specs.Prelude.{codes, nat_le}
 use Rattle.std.specs.Str.{bytes_eq}
 use Rattle.script_text.specs.declared.fault.Cause.{Cause}
 use Rattle.script_text.specs.declared.fault.Cause.TheVariants.{UnknownStatement}
 use Rattle.script_text.specs.declared.keyword.Keyword.{Keyword}
-use Rattle.script_text.specs.declared.keyword.Keyword.TheVariants.{Make, MakeThis, Null, Empty, Reset, Copy, Count, Place, Cell, Weak}
+use Rattle.script_text.specs.declared.keyword.Keyword.TheVariants.{Make, MakeThis, Null, Empty, Reset, Copy, Count}
+use Rattle.script_text.specs.declared.keyword.Keyword.TheVariants.{Place, Cell, Weak}
 use Rattle.script_text.specs.declared.keyword.PlaceKeyword.TheVariants as place
 use Rattle.script_text.specs.declared.keyword.CellKeyword.TheVariants as cell
 use Rattle.script_text.specs.declared.keyword.WeakKeyword.TheVariants as weak

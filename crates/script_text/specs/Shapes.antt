@@ -1,7 +1,9 @@
 -- The words after the first one: a definition for each shape of statement.
--- `T` is a target, `O` a source, `Y` a source of either kind, `n` a number, `F` a field, `C` a cell and `X` a source of its kind. Words are looked at from left to right, but a cell that gives its
--- kind to a target before it comes first, and a target is declared after all other checks.
-use Rattle.std.specs.Prelude.{ℕ, List, [], ◌∷◌, map, Option, Some, None, Result, Ok, Err, codes, if◌then◌else◌, slice_get}
+-- `T` is a target, `O` a source, `Y` a source of either kind, `n` a number, `F` a field, `C` a cell and `X` a source of
+-- its kind. Words are looked at from left to right, but a cell that gives its kind to a target before it comes first,
+-- and a target is declared after all other checks.
+use Rattle.std.specs.Prelude.{ℕ, List, [], ◌∷◌, map, Option, Some, None, Result, Ok, Err, codes}
+use Rattle.std.specs.Prelude.{if◌then◌else◌, slice_get}
 use Rattle.std.specs.Str.{bytes_eq}
 use Rattle.std.specs.Borrow.{Bor}
 use Rattle.step_threads.specs.declared.call.CellName.{CellName}

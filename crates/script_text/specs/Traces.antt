@@ -1,5 +1,6 @@
 -- Whole runs, turn by turn: whose acts come in which order, and what they say. All of it is own.
-use Rattle.std.specs.Prelude.{◌≡◌, ℕ, ◌+◌, ◌-◌, List, [], ◌∷◌, ◌++◌, length, replicate, Option, Some, None}
+use Rattle.std.specs.Prelude.{◌≡◌, ℕ, ◌+◌, ◌-◌, List, [], ◌∷◌, ◌++◌, length, replicate}
+use Rattle.std.specs.Prelude.{Option, Some, None}
 use Rattle.step_threads.specs.declared.said.Said.{Said}
 use Rattle.step_threads.specs.Scenes.{Scene, next, play, said, walk_of}
 
@@ -27,8 +28,8 @@ abbrev pub in_order : ℕ → List ℕ → List ℕ
 in_order thread [] = []
 in_order thread (n ∷ ns) = replicate n thread ++ in_order (thread + 1) ns
 
--- The given turns; then each thread runs alone to its end, in number order: in some number of turns, after which nothing is left for it
--- to do. This is what all of these turns say, and the last scene
+-- The given turns; then each thread runs alone to its end, in number order: in some number of turns, after which
+-- nothing is left for it to do. This is what all of these turns say, and the last scene
 pub record IsTrace (turns : List ℕ) (c : Scene) (items : List Item) (last : Scene) : Type 0 where
   pub more : List ℕ
   pub each : length more ≡ length c.walks

@@ -1,4 +1,5 @@
--- The versions of the language: a script without a header is of version 1, and `version 2 blocks N` is the header of version 2. A version decides numbers alone.
+-- The versions of the language: a script without a header is of version 1, and `version 2 blocks N` is the header of
+-- version 2. A version decides numbers alone.
 use Rattle.std.specs.Prelude.{ℕ, List, [], ◌∷◌, Result, Ok, Err, codes, nat_lt, if◌then◌else◌}
 use Rattle.std.specs.Str.{bytes_eq}
 use Rattle.script_text.specs.declared.fault.Cause.{Cause}

@@ -39,7 +39,8 @@ pub fn convert(alloc: Global, script: &Script) -> Result<Script, Refusal>
     ensures trace { IfOk result (λ s. (turns : List ℕ) (items : List Item) (last : Scene)
         → IsTrace turns (script_scene s) items last ↔ IsTrace turns (script_scene script.now) items last) }
     ensures begins { IfOk result (λ s. script_sight s ≡ script_sight script.now) }
-    ensures runs { IfOk result (λ s. (z : Opening) (h : List (Entry Nothing)) (n : ℕ) (said : ℕ → List Said) → IsRunOf s z h n said ↔ IsRunOf script.now z h n said) }
+    ensures runs { IfOk result (λ s. (z : Opening) (h : List (Entry Nothing)) (n : ℕ) (said : ℕ → List Said)
+        → IsRunOf s z h n said ↔ IsRunOf script.now z h n said) }
     ensures memory { IsOkUnless result Memory }
 {
     let blocks = script.version.blocks();

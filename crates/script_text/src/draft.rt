@@ -4,7 +4,8 @@ ghost use Rattle.std.specs.Prelude.{◌≡◌, ◌&&◌, codes};
 ghost use Rattle.std.specs.Str.{bytes_eq};
 ghost use Rattle.script_text.specs.Reading.{Gives};
 ghost use Rattle.script_text.specs.Shapes.{texts};
-ghost use Rattle.script_text.specs.Drafts.{draft_of, draft_in, is_new, next_thread, next_call, header_line, thread_line, statement_line, after_words, after_line};
+ghost use Rattle.script_text.specs.Drafts.{draft_of, draft_in, is_new, next_thread, next_call, header_line};
+ghost use Rattle.script_text.specs.Drafts.{thread_line, statement_line, after_words, after_line};
 
 use crate::fault::{Cause, Stop};
 use crate::keyword::{Keyword, keyword_of, takes};

@@ -5,7 +5,8 @@ ghost use Rattle.std.specs.List.{flat_map};
 ghost use Rattle.control_word.specs.declared.refusal.Refusal.TheVariants.{Memory};
 ghost use Rattle.script_text.specs.Drafts.{section_of};
 ghost use Rattle.script_text.specs.Grammar.{Reads};
-ghost use Rattle.script_text.specs.Canonical.{AddsLines, section_lines, begun_lines, thread_lines, header_lines, canonical};
+ghost use Rattle.script_text.specs.Canonical.{AddsLines, section_lines, begun_lines, thread_lines, header_lines};
+ghost use Rattle.script_text.specs.Canonical.{canonical};
 
 use crate::line::put_call;
 use crate::script::Script;

@@ -8,7 +8,8 @@ use std::alloc::Global;
 use std::marker::Model;
 use step_core::Program;
 
-/// A script that some text spells. A clause sees its version, and its threads in order, each with its names and its calls.
+/// A script that some text spells. A clause sees its version, and its threads in order, each with its names and its
+/// calls.
 #[derive(Drop)]
 pub struct Script {
     pub(crate) version: Version,
@@ -25,7 +26,8 @@ impl Model for Script {
 
     ghost view = { λ s. record { version = s.version; threads = map section_of s.threads.items } };
 
-    ghost invariant = { λ s. IsScript (record { version = s.version; threads = map section_of s.threads.items }) s.statements };
+    ghost invariant = { λ s. IsScript
+        (record { version = s.version; threads = map section_of s.threads.items }) s.statements };
 }
 
 impl Script {
@@ -64,14 +66,15 @@ impl Script {
     }
 
     /// The program of the script (own): for each thread, in order, an actor with the kinds of its names
-    /// and its calls in order. It is within the limits of a program, its calls are well named and exchange no name with a
-    /// member of its own object, and a shape with 128 cells of each kind has their cells.
+    /// and its calls in order. It is within the limits of a program, its calls are well named and exchange no name with
+    /// a member of its own object, and a shape with 128 cells of each kind has their cells.
     ///
     /// Refused by 1 alone, where a growth is refused; the script is as it was.
     pub fn program(&self, alloc: Global) -> Result<Program, Refusal>
         ensures calls { IfOk result (λ p. parts_of p ≡ program_in self.now.threads) }
         ensures sound { IfOk result (λ p. IsProgram (parts_of p)) }
-        ensures cells { IfOk result (λ p. (shape : Shape) → HasTextCells shape → All (AllHaveCells shape) (parts_of p)) }
+        ensures cells { IfOk result
+            (λ p. (shape : Shape) → HasTextCells shape → All (AllHaveCells shape) (parts_of p)) }
         ensures memory { IsOkUnless result Memory }
     {
         match program_of(alloc, self.threads.as_slice()) {

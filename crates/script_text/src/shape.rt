@@ -2,7 +2,8 @@
 
 ghost use Rattle.std.specs.Prelude.{◌≡◌};
 ghost use Rattle.script_text.specs.Reading.{Gives};
-ghost use Rattle.script_text.specs.Shapes.{texts, number_or_zero, fields_at, one_target, one_source, target_and_source, two_sources, target_and_fields};
+ghost use Rattle.script_text.specs.Shapes.{texts, number_or_zero, fields_at, one_target, one_source, target_and_source};
+ghost use Rattle.script_text.specs.Shapes.{two_sources, target_and_fields};
 
 use crate::fault::{Cause, Stop};
 use crate::names::Names;

@@ -67,7 +67,8 @@ fn threads_of(draft: Draft) -> Result<Vec<Thread>, AllocError>
     Ok(done)
 }
 
-/// The script that a text spells (own): lines of statements, of version 1 or, after its header, of version 2, as the crate's page says.
+/// The script that a text spells (own): lines of statements, of version 1 or, after its header, of version 2, as the
+/// crate's page says.
 ///
 /// Refused by 10, with the number of the first faulty line, from 1, and its cause, just where a line is
 /// faulty; by 1 where a growth is refused. Linear in the text.

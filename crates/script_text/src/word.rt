@@ -3,7 +3,8 @@
 ghost use Rattle.std.specs.Prelude.{◌≡◌, ◌||◌, map, IfOk};
 ghost use Rattle.std.specs.List.{list_all};
 ghost use Rattle.script_text.specs.Reading.{Gives};
-ghost use Rattle.script_text.specs.Words.{is_space, is_clean_byte, is_name_byte, is_digit, words_of, line_content, is_name, name_at, number_at, cell_number_at, free_cell_at, field_at};
+ghost use Rattle.script_text.specs.Words.{is_space, is_clean_byte, is_name_byte, is_digit, words_of, line_content};
+ghost use Rattle.script_text.specs.Words.{is_name, name_at, number_at, cell_number_at, free_cell_at, field_at};
 
 use crate::fault::{Cause, Stop};
 use control_word::limits::{NAME_BYTES, SCRIPT_SHARED_CELLS};

@@ -28,7 +28,8 @@ module _ {V : Type 0} where
   -- only the count of handles changed
   counted : (is : Event V → Type 0) (d e : DeskNow V) (n : ℕ) → e ≡ record d { held = n } → Does is d e
   counted is d e n same =
-      subst (Does is d) (sym same) record { own = []; goes = record { same = (refl, refl, refl); later = []; seen = refl; mine = refl; legal = λ l. l }; all = All-nil is }
+      subst (Does is d) (sym same)
+      record { own = []; goes = record { same = (refl, refl, refl); later = []; seen = refl; mine = refl; legal = λ l. l }; all = All-nil is }
 
   pub does_none : (is : Event V → Type 0) (d : DeskNow V) → Does is d d
   does_none is d = counted is d d d.held refl

@@ -1,5 +1,6 @@
 -- Objects that end in the desk's hands, one upon another.
-use Rattle.std.proofs.Common.{◌≡◌, ◌≢◌, ℕ, ◌+◌, ◌≤◌, Bool, true, false, cond, List, [], ◌∷◌, ◌++◌, length, Option, None, Some, vec_capacity}
+use Rattle.std.proofs.Common.{◌≡◌, ◌≢◌, ℕ, ◌+◌, ◌≤◌, Bool, true, false, cond, List, [], ◌∷◌, ◌++◌, length, Option, None, Some}
+use Rattle.std.proofs.Common.{vec_capacity}
 use Rattle.std.proofs.Common.{zero, suc, refl, sym, ap, subst, ◌∙◌, arith, length-append}
 use Rattle.std.specs.Prelude.{slice_get, unwrap_or}
 use Rattle.control_word.proofs.lists.Tallies.{put_cases}
@@ -141,7 +142,8 @@ module _ {V : Type 0} where
   up_comes d e x xs Others clears = tt
   up_comes d e x xs (Last y) clears = absurd clears.told
 
-  clearing_comes : (d e : DeskNow V) (x : Ending V) (m : Member) (xs : List (Ending V)) (left : Left V) → AllEnd d xs → IsClearing d x m left e → Comes e xs left
+  clearing_comes : (d e : DeskNow V) (x : Ending V) (m : Member) (xs : List (Ending V)) (left : Left V) → AllEnd d xs
+      → IsClearing d x m left e → Comes e xs left
   clearing_comes d e x First xs left all is = clears_comes d e x 0 xs left all is.0
   clearing_comes d e x Next xs left all is = clears_comes d e x 1 xs left all is.0
   clearing_comes d e x Up xs left all is = up_comes d e x xs left is
@@ -165,7 +167,8 @@ module _ {V : Type 0} where
   -- a member of the one in hand was cleared
   pub stacked_on : (domain : DomainNow) (d e : DeskNow V) (p q : Pile V) (x y : Ending V) (m : Member) (left : Left V) → Stacked domain d p x
       → IsClearing d x m left e → KeepsOtherEndings d x.block.0 e → endings_of e ≡ endings_of d + more_ending left → IsBeside x.block.0 left
-      → y.block ≡ x.block → Ends e y → IsSameDesk d e → q.endings.items ≡ piled p.endings.items left → vec_capacity q.endings ≡ vec_capacity p.endings
+      → y.block ≡ x.block → Ends e y → IsSameDesk d e → q.endings.items ≡ piled p.endings.items left
+      → vec_capacity q.endings ≡ vec_capacity p.endings
       → Stacked domain e q y
   stacked_on domain d e p q x y m left s clears keeps count beside same ends desk are room =
       let xs = p.endings.items in
@@ -174,7 +177,8 @@ module _ {V : Type 0} where
       record {
         belongs = record { table = desk.domain ∙ s.belongs.table; shape = desk.shape ∙ s.belongs.shape };
         ends = ends;
-        apart = subst (NotAmong y.block.0) (sym are) (subst (λ (b : ℕ). NotAmong b (piled xs left)) (sym block) (piled_apart x.block.0 xs left s.apart beside));
+        apart = subst (NotAmong y.block.0) (sym are)
+            (subst (λ (b : ℕ). NotAmong b (piled xs left)) (sym block) (piled_apart x.block.0 xs left s.apart beside));
         others = subst (AllEnd e) (sym are)
             (piled_all e xs left (all_beside d e x.block.0 xs keeps s.apart s.others) (clearing_comes d e x m xs left s.others clears));
         many = omega arith;
@@ -195,7 +199,8 @@ module _ {V : Type 0} where
       let a = few d in let b : d.shape.blocks ≡ domain.shape.blocks = ap (λ (k : Shape). k.blocks) s.belongs.shape in
       let c = s.many in let r = s.room in omega arith
 
-  pub room_above : (domain : DomainNow) (d e : DeskNow V) (p : Pile V) (ys : List (Ending V)) (x y : Ending V) (left : Left V) (n : ℕ) → Stacked domain d p x
+  pub room_above : (domain : DomainNow) (d e : DeskNow V) (p : Pile V) (ys : List (Ending V)) (x y : Ending V) (left : Left V) (n : ℕ)
+      → Stacked domain d p x
       → endings_of e ≡ endings_of d + more_ending left → e.shape ≡ d.shape → ys ≡ p.endings.items ++ y ∷ [] → n ≡ vec_capacity p.endings
       → length ys + more_ending left ≤ n
   room_above domain d e p ys x y left n s count shape are same =
@@ -288,4 +293,5 @@ module _ {V : Type 0} where
   same_desk d = record { domain = refl; shape = refl; name = refl; allowance = refl }
 
   pub same_both : (d e f : DeskNow V) → IsSameDesk d e → IsSameDesk e f → IsSameDesk d f
-  same_both d e f a b = record { domain = b.domain ∙ a.domain; shape = b.shape ∙ a.shape; name = b.name ∙ a.name; allowance = b.allowance ∙ a.allowance }
+  same_both d e f a b =
+      record { domain = b.domain ∙ a.domain; shape = b.shape ∙ a.shape; name = b.name ∙ a.name; allowance = b.allowance ∙ a.allowance }

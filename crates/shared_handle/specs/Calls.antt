@@ -1,4 +1,5 @@
--- What the calls on handles say. An empty handle has no object: it touches no word and makes no event, and is only counted.
+-- What the calls on handles say. An empty handle has no object: it touches no word and makes no event, and is only
+-- counted.
 use Rattle.std.specs.Prelude.{◌≡◌, ◌⊎◌, ℕ, ◌+◌, ◌-◌, Bool, true, false, List, Option, None, Some}
 use Rattle.control_word.specs.Events.{origin, place_at}
 use Rattle.control_word.specs.Handles.{IsPointer, handle, owner_before}
@@ -35,8 +36,8 @@ abbrev pub IsOfThis : Option Block → Option Place → Type 0
 IsOfThis None q = ⊥
 IsOfThis (Some b) q = q ≡ place_at b.0
 
--- an owner with this block and place may give one with place q: its own place, the first field of its object, or any proper
--- place ([util.smartptr.shared.const])
+-- an owner with this block and place may give one with place q: its own place, the first field of its object, or any
+-- proper place ([util.smartptr.shared.const])
 abbrev pub MayGive : Option Block → Option Place → Option Place → Type 0
 MayGive b p q = (q ≡ p) ⊎ (IsOfThis b q ⊎ IsPointer q)
 
@@ -72,11 +73,13 @@ module _ {V : Type 0} where
   LeavesWeakly d None p vacant e = (e ≡ counting (d.held - 1) d) × (vacant ≡ false)
   LeavesWeakly d (Some b) p vacant e = Adds d (WeakLeave (on_latest d Weak p b.0) vacant) e
 
-  -- use_count ([util.smartptr.shared.obs], [util.smartptr.weak.obs]): for a desk that has the whole allowance the count itself
+  -- use_count ([util.smartptr.shared.obs], [util.smartptr.weak.obs]): for a desk that has the whole allowance the count
+  -- itself
   abbrev pub IsCount : DeskNow V → Kind → Option Block → Option Place → ℕ → DeskNow V → Type 0
   IsCount d k None p n e = (n ≡ 0) × (e ≡ d)
   IsCount d k (Some b) p n e =
-      Adds d (Count (on_latest d k p b.0) n) e × (allowance_of e ≡ d.shape.allowance → n ≡ count (state_of e) (latest_of d b.0))
+      Adds d (Count (on_latest d k p b.0) n) e
+      × (allowance_of e ≡ d.shape.allowance → n ≡ count (state_of e) (latest_of d b.0))
 
   -- expired ([util.smartptr.weak.obs])
   abbrev pub IsExpiry : DeskNow V → Option Block → Option Place → Bool → DeskNow V → Type 0
@@ -84,6 +87,7 @@ module _ {V : Type 0} where
   IsExpiry d (Some b) p expired e = Adds d (Expired (on_latest d Weak p b.0) expired) e
 
   -- a new object, and its owner ([util.smartptr.shared.create], [util.smartptr.shared.const])
-  abbrev pub Makes : DeskNow V → Bool → Bool → List ℕ → V → Option Block → Option Place → DeskNow V → Type 0
+  abbrev pub Makes : DeskNow V → Bool → Bool → List ℕ → V → Option Block → Option Place
+      → DeskNow V → Type 0
   Makes d enabled null fields x None p e = ⊥
   Makes d enabled null fields x (Some b) p e = (p ≡ origin b.0 null) × Adds d (Make b enabled null fields x) e

@@ -1,5 +1,6 @@
 -- What a release says, and which calls are refused.
-use Rattle.std.specs.Prelude.{◌≡◌, ◌≢◌, ℕ, ◌+◌, ◌-◌, Bool, true, false, cond, length, Option, None, Some, Result, Ok, Err}
+use Rattle.std.specs.Prelude.{◌≡◌, ◌≢◌, ℕ, ◌+◌, ◌-◌, Bool, true, false, cond, length, Option}
+use Rattle.std.specs.Prelude.{None, Some, Result, Ok, Err}
 use Rattle.control_word.specs.State.{ending}
 use Rattle.control_word.specs.declared.event.Event.TheVariants.{Leave, Read}
 use Rattle.control_word.specs.declared.handle.Kind.TheVariants.{Owner, Weak}
@@ -7,7 +8,8 @@ use Rattle.control_word.specs.declared.place.Block.{Block}
 use Rattle.control_word.specs.declared.place.Place.{Place}
 use Rattle.control_word.specs.declared.refusal.Refusal.{Refusal}
 use Rattle.control_word.specs.declared.refusal.Refusal.TheVariants.{Limit, NotEnabled, Null, Outside}
-use Rattle.control_block.specs.Desks.{Adds, DeskNow, IsCleared, IsEnding, allowance_of, held_of, object_in, on_latest, stock_of}
+use Rattle.control_block.specs.Desks.{Adds, DeskNow, IsCleared, IsEnding, allowance_of, held_of, object_in, on_latest}
+use Rattle.control_block.specs.Desks.{stock_of}
 use Rattle.control_block.specs.Clearing.{TakesOut}
 use Rattle.shared_handle.specs.Calls.{LeavesWeakly, counting}
 use Rattle.shared_handle.specs.declared.endings.Ending.{Ending}
@@ -45,13 +47,16 @@ module _ {V : Type 0} where
   abbrev pub IsAllClear : Ending V → Type 0
   IsAllClear x = (x.first ≡ true) × (x.next ≡ true) × (x.up ≡ true)
 
-  -- an owner left: an empty one, one of several, or the last, whose object ends in the desk's hands ([util.smartptr.shared.dest])
+  -- an owner left: an empty one, one of several, or the last, whose object ends in the desk's hands
+  -- ([util.smartptr.shared.dest])
   abbrev pub IsLeft : DeskNow V → Option Block → Option Place → Left V → DeskNow V → Type 0
   IsLeft d b p Empty e = (b ≡ None) × (e ≡ counting (d.held - 1) d)
   IsLeft d b p Others e = (c : Block) × (b ≡ Some c) × Adds d (Leave (on_latest d Owner p c.0) false) e
-  IsLeft d b p (Last x) e = (b ≡ Some x.block) × Adds d (Leave (on_latest d Owner p x.block.0) true) e × Ends e x × IsUncleared x
+  IsLeft d b p (Last x) e = (b ≡ Some x.block) × Adds d (Leave (on_latest d Owner p x.block.0) true) e
+      × Ends e x × IsUncleared x
 
-  -- what it says of an owner that left, by the block of what it owned, and by the value that came out where it was the last
+  -- what it says of an owner that left, by the block of what it owned, and by the value that came out where it was the
+  -- last
   abbrev pub IsLeftOf : Option Block → Option V → Left V → Type 0
   IsLeftOf b r Empty = b ≡ None
   IsLeftOf b r Others = (c : Block) × (b ≡ Some c) × (r ≡ None)
@@ -111,7 +116,8 @@ module _ {V : Type 0} where
 
   -- a field was read, or why not (own)
   abbrev pub IsRead : DeskNow V → Option Block → Option Place → Result ℕ Refusal → DeskNow V → Type 0
-  IsRead d b p (Ok n) e = (q : Place) × (p ≡ Some q) × (b ≡ Some q.block) × Adds d (Read (on_latest d Owner (Some q) q.block.0) n) e
+  IsRead d b p (Ok n) e = (q : Place) × (p ≡ Some q) × (b ≡ Some q.block)
+      × Adds d (Read (on_latest d Owner (Some q) q.block.0) n) e
   IsRead d b p (Err Null) e = (p ≡ None) × (e ≡ d)
   IsRead d b p (Err Outside) e = IsOutside b p × (e ≡ d)
   IsRead d b p (Err why) e = ⊥
@@ -121,7 +127,8 @@ module _ {V : Type 0} where
   IsNotEnabled d None = ⊥
   IsNotEnabled d (Some c) = (object_in d c.0).enabled ≡ false
 
-  -- why an owner gives no pointer to its object: at the allowance, and else the first of these ([util.smartptr.enab]; refusals: own)
+  -- why an owner gives no pointer to its object: at the allowance, and else the first of these ([util.smartptr.enab];
+  -- refusals: own)
   abbrev pub WhyNotThis : DeskNow V → Option Block → Option Place → Refusal → Type 0
   WhyNotThis d b p Limit = held_of d ≡ allowance_of d
   WhyNotThis d b p Null = (held_of d ≢ allowance_of d) × (p ≡ None)
@@ -132,7 +139,8 @@ module _ {V : Type 0} where
   -- and when it gives one
   abbrev pub MayGiveThis : DeskNow V → Option Block → Option Place → Type 0
   MayGiveThis d None p = ⊥
-  MayGiveThis d (Some c) p = (held_of d ≢ allowance_of d) × IsWithin (Some c) p × ((object_in d c.0).enabled ≡ true)
+  MayGiveThis d (Some c) p = (held_of d ≢ allowance_of d) × IsWithin (Some c) p
+      × ((object_in d c.0).enabled ≡ true)
 
   abbrev pub IsThis : DeskNow V → Option Block → Option Place → Result Block Refusal → Type 0
   IsThis d b p (Ok c) = (b ≡ Some c) × MayGiveThis d b p

@@ -1,5 +1,6 @@
 -- What a lock says. It is one atomic operation, and exact at its step.
-use Rattle.std.specs.Prelude.{◌≡◌, ◌≢◌, ◌+◌, ◌==◌, Bool, true, false, not, Option, None, Some, Result, Ok, Err}
+use Rattle.std.specs.Prelude.{◌≡◌, ◌≢◌, ◌+◌, ◌==◌, Bool, true, false, not, Option, None, Some}
+use Rattle.std.specs.Prelude.{Result, Ok, Err}
 use Rattle.control_word.specs.State.{count}
 use Rattle.control_word.specs.declared.event.Event.TheVariants.{Lock}
 use Rattle.control_word.specs.declared.handle.Kind.TheVariants.{Owner, Weak}
@@ -12,7 +13,8 @@ use Rattle.control_block.specs.LockCalls.{state_before}
 use Rattle.control_block.specs.declared.handles.Shared.{Shared}
 use Rattle.shared_handle.specs.Calls.{counting}
 
--- the owner that a lock got points where the weak handle does, and else it is empty with a null place ([util.smartptr.weak.obs])
+-- the owner that a lock got points where the weak handle does, and else it is empty with a null place
+-- ([util.smartptr.weak.obs])
 abbrev pub IsOwnerOf : Option Block → Option Place → Bool → Shared → Type 0
 IsOwnerOf b p true h = (h.block ≡ b) × (h.place ≡ p)
 IsOwnerOf b p false h = (h.block ≡ None) × (h.place ≡ None)
@@ -20,7 +22,8 @@ IsOwnerOf b p false h = (h.block ≡ None) × (h.place ≡ None)
 module _ {V : Type 0} where
   -- a lock of an object got an owner just where one remained at its step ([util.smartptr.weak.obs])
   abbrev pub IsLock : DeskNow V → Block → Option Place → Bool → DeskNow V → Type 0
-  IsLock d b p got e = Adds d (Lock (on_latest d Weak p b.0) got) e × (got ≡ not (count (state_before e) (latest_of d b.0) == 0))
+  IsLock d b p got e = Adds d (Lock (on_latest d Weak p b.0) got) e
+      × (got ≡ not (count (state_before e) (latest_of d b.0) == 0))
 
   -- the same of any weak handle: of an empty one there is no owner, and no event
   abbrev pub Locks : DeskNow V → Option Block → Option Place → Bool → DeskNow V → Type 0

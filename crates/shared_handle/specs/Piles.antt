@@ -1,5 +1,6 @@
 -- A desk's pile of objects that end: the last of the list is the top, and what ends for it lies above it (own).
-use Rattle.std.specs.Prelude.{◌≡◌, ◌≢◌, ℕ, ◌+◌, ◌≤◌, Bool, cond, length, List, [], ◌∷◌, ◌++◌, Option, None, Some, vec_capacity}
+use Rattle.std.specs.Prelude.{◌≡◌, ◌≢◌, ℕ, ◌+◌, ◌≤◌, Bool, cond, length, List, [], ◌∷◌}
+use Rattle.std.specs.Prelude.{◌++◌, Option, None, Some, vec_capacity}
 use Rattle.control_word.specs.declared.event.Event.{Event}
 use Rattle.control_word.specs.declared.event.Event.TheVariants.{ClearMember, Finish, Leave, WeakLeave}
 use Rattle.control_word.specs.declared.place.Block.{Block}
@@ -62,7 +63,8 @@ module _ {V : Type 0} where
     pub room : domain.shape.blocks ≤ vec_capacity p.endings
 
   -- an owner left the desk, and what ends for it went onto the pile ([util.smartptr.shared.dest])
-  pub record Drops (d : DeskNow V) (xs : List (Ending V)) (b : Option Block) (p : Option Place) (gone : Gone) (e : DeskNow V)
+  pub record Drops (d : DeskNow V) (xs : List (Ending V)) (b : Option Block) (p : Option Place)
+      (gone : Gone) (e : DeskNow V)
       (ys : List (Ending V)) : Type 0 where
     pub left : Left V
     pub leaves : IsLeft d b p left e
@@ -97,7 +99,8 @@ module _ {V : Type 0} where
     pub stock : length (stock_of e) ≡ length (stock_of d) + cond vacant 1 0
 
   -- the first member of the top that isn't cleared is emptied, and what ends for it lies above the top
-  pub record ClearsTop (d : DeskNow V) (ys : List (Ending V)) (m : Member) (gone : Gone) (e : DeskNow V) (zs : List (Ending V)) : Type 0 where
+  pub record ClearsTop (d : DeskNow V) (ys : List (Ending V)) (m : Member) (gone : Gone) (e : DeskNow V)
+      (zs : List (Ending V)) : Type 0 where
     pub below : List (Ending V)
     pub top : Ending V
     pub were : ys ≡ below ++ top ∷ []
@@ -108,7 +111,8 @@ module _ {V : Type 0} where
     pub are : zs ≡ piled (below ++ with_clear m top ∷ []) left
 
   -- the top is finished
-  pub record FinishesTop (d : DeskNow V) (ys : List (Ending V)) (v : V) (e : DeskNow V) (zs : List (Ending V)) : Type 0 where
+  pub record FinishesTop (d : DeskNow V) (ys : List (Ending V)) (v : V) (e : DeskNow V)
+      (zs : List (Ending V)) : Type 0 where
     pub top : Ending V
     pub were : ys ≡ zs ++ top ∷ []
     pub finish : IsFinish d top v e
@@ -143,9 +147,10 @@ module _ {V : Type 0} where
   abbrev pub ClearsOnce : DeskNow V → Ending V → Member → Left V → DeskNow V → Type 0
   ClearsOnce d x m out e = cond (is_cleared x m) ((out ≡ left.Empty) × (e ≡ d)) (IsClearing d x m out e)
 
-  -- the top ends: the members that weren't cleared yet are emptied one after the other, what ends for it goes on the pile,
-  -- and then it is finished
-  pub record EndsTop (d : DeskNow V) (ys : List (Ending V)) (v : V) (e : DeskNow V) (zs : List (Ending V)) : Type 0 where
+  -- the top ends: the members that weren't cleared yet are emptied one after the other, what ends for it goes on the
+  -- pile, and then it is finished
+  pub record EndsTop (d : DeskNow V) (ys : List (Ending V)) (v : V) (e : DeskNow V)
+      (zs : List (Ending V)) : Type 0 where
     pub below : List (Ending V)
     pub top : Ending V
     pub were : ys ≡ below ++ top ∷ []

@@ -12,5 +12,6 @@ module _ {V R F : Type 0} (changes : V → R → V → Type 0) (f : F) where
   -- an owner's object was visited, and its value changed as this says; an empty handle has none (own)
   abbrev pub IsVisit : DeskNow V → Option Block → Option Place → Result R (Refused F) → DeskNow V → Type 0
   IsVisit d None p (Err r) e = (r.why ≡ Null) × (r.back ≡ f) × (e ≡ d)
-  IsVisit d (Some b) p (Ok r) e = (was : V) × (becomes : V) × changes was r becomes × Adds d (Visit (on_latest d Owner p b.0) was becomes) e
+  IsVisit d (Some b) p (Ok r) e = (was : V) × (becomes : V) × changes was r becomes
+      × Adds d (Visit (on_latest d Owner p b.0) was becomes) e
   IsVisit d b p r e = ⊥

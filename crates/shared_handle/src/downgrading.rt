@@ -11,8 +11,8 @@ use control_block::{calls, handles};
 use control_word::Refusal;
 use std::marker::Brand;
 
-/// A weak pointer from a shared one ([util.smartptr.weak.const]): it shares ownership and points at the same place. Of an
-/// empty one it is empty with a null place, and touches no word. It is refused `Limit` just where the desk is at its
+/// A weak pointer from a shared one ([util.smartptr.weak.const]): it shares ownership and points at the same place. Of
+/// an empty one it is empty with a null place, and touches no word. It is refused `Limit` just where the desk is at its
 /// allowance, and then nothing changes.
 pub fn downgrade<V: Drop + Send>(
     domain: &Domain<V>,
@@ -23,9 +23,11 @@ pub fn downgrade<V: Drop + Send>(
     requires holds { Holds desk.old Owner handle.now.block handle.now.place }
     ensures limit { IsErr result ↔ (held_of desk.old ≡ allowance_of desk.old) }
     ensures refused { IfErr result (λ why. (why ≡ Refusal.Limit) × (desk.new ≡ desk.old)) }
-    ensures handle { IfOk result (λ h. (h.block ≡ handle.now.block) × (h.place ≡ weak_place handle.now.block handle.now.place)) }
+    ensures handle { IfOk result
+        (λ h. (h.block ≡ handle.now.block) × (h.place ≡ weak_place handle.now.block handle.now.place)) }
     ensures event { OnOk result (SharesWeakly desk.old handle.now.block handle.now.place desk.new) }
-    ensures bag { OnOk result (bag_of desk.new ≡ with_handle Weak handle.now.block handle.now.place (bag_of desk.old)) }
+    ensures bag { OnOk result
+        (bag_of desk.new ≡ with_handle Weak handle.now.block handle.now.place (bag_of desk.old)) }
     ensures held { OnOk result (desk.new.held ≡ desk.old.held + 1) }
     ensures holds { IfOk result (λ h. Holds desk.new Weak h.block h.place) }
     ensures keeps { OnOk result (Keeps desk.old desk.new) }

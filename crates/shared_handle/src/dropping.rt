@@ -14,8 +14,8 @@ use control_block::desk::Desk;
 use control_block::domain::Domain;
 use control_block::handles::Shared;
 
-/// The destructor of a shared pointer ([util.smartptr.shared.dest]): the owner leaves, and where it was the last, its object
-/// goes onto the pile, to be ended by it. It refuses nothing, and waits for nobody.
+/// The destructor of a shared pointer ([util.smartptr.shared.dest]): the owner leaves, and where it was the last, its
+/// object goes onto the pile, to be ended by it. It refuses nothing, and waits for nobody.
 pub fn drop_shared<V: Drop + Send>(
     domain: &Domain<V>,
     desk: &mut Desk<V>,
@@ -25,7 +25,8 @@ pub fn drop_shared<V: Drop + Send>(
     requires bears { Bears domain.now desk.old pile.old }
     requires holds { Holds desk.old Owner handle.block handle.place }
     ensures bears { Bears domain.now desk.new pile.new }
-    ensures left { Drops desk.old pile.old.endings.items handle.block handle.place result desk.new pile.new.endings.items }
+    ensures left { Drops desk.old pile.old.endings.items handle.block handle.place result desk.new
+        pile.new.endings.items }
     ensures parting { Does IsParting desk.old desk.new }
     ensures bag { bag_of desk.new ≡ without_handle Owner handle.block handle.place (bag_of desk.old) }
     ensures held { desk.new.held + 1 ≡ desk.old.held }
@@ -37,8 +38,8 @@ pub fn drop_shared<V: Drop + Send>(
     gone
 }
 
-/// `reset` of a shared pointer that may have left already ([util.smartptr.shared.mod]): what it answers and does is that of
-/// `drop_shared`, and `Empty` and nothing where there is none.
+/// `reset` of a shared pointer that may have left already ([util.smartptr.shared.mod]): what it answers and does is
+/// that of `drop_shared`, and `Empty` and nothing where there is none.
 pub fn reset<V: Drop + Send>(
     domain: &Domain<V>,
     desk: &mut Desk<V>,
@@ -49,10 +50,14 @@ pub fn reset<V: Drop + Send>(
     requires holds { IfSome handle.old (λ h. Holds desk.old Owner h.block h.place) }
     ensures bears { Bears domain.now desk.new pile.new }
     ensures spent { handle.new ≡ None }
-    ensures left { MatchOption handle.old ((result ≡ Gone.Empty) × (desk.new ≡ desk.old) × (pile.new ≡ pile.old)) (λ h. Drops desk.old pile.old.endings.items h.block h.place result desk.new pile.new.endings.items) }
+    ensures left { MatchOption handle.old
+        ((result ≡ Gone.Empty) × (desk.new ≡ desk.old) × (pile.new ≡ pile.old))
+        (λ h. Drops desk.old pile.old.endings.items h.block h.place result desk.new pile.new.endings.items) }
     ensures parting { Does IsParting desk.old desk.new }
-    ensures bag { MatchOption handle.old (bag_of desk.new ≡ bag_of desk.old) (λ h. bag_of desk.new ≡ without_handle Owner h.block h.place (bag_of desk.old)) }
-    ensures held { MatchOption handle.old (desk.new.held ≡ desk.old.held) (λ _. desk.new.held + 1 ≡ desk.old.held) }
+    ensures bag { MatchOption handle.old (bag_of desk.new ≡ bag_of desk.old)
+        (λ h. bag_of desk.new ≡ without_handle Owner h.block h.place (bag_of desk.old)) }
+    ensures held { MatchOption handle.old (desk.new.held ≡ desk.old.held)
+        (λ _. desk.new.held + 1 ≡ desk.old.held) }
     ensures keeps { IfSome handle.old (λ _. KeepsStock desk.old desk.new) }
 {
     match handle.take() {

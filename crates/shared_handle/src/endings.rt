@@ -7,8 +7,8 @@ use control_word::Block;
 mod clearing;
 mod finishing;
 
-/// An object whose last owner has left: its deleter runs with whoever has this. Its members must be cleared, and it must be
-/// finished.
+/// An object whose last owner has left: its deleter runs with whoever has this. Its members must be cleared, and it
+/// must be finished.
 pub struct Ending<V> {
     pub(crate) block: Block,
     /// It lies in the block until `finish` hands it out.
@@ -38,8 +38,8 @@ pub enum Left<V> {
 }
 
 impl<V: Drop + Send> Left<V> {
-    /// What an owner was that has left, by the block of what it owned, and by the value that it leaves in its block where it was the last
-    /// (own). It is for the crates whose calls end handles.
+    /// What an owner was that has left, by the block of what it owned, and by the value that it leaves in its block
+    /// where it was the last (own). It is for the crates whose calls end handles.
     pub fn of_parts(block: Option<Block>, value: Option<InPlace<V>>) -> Left<V>
         ensures { IsLeftOf block value result }
     {

@@ -15,9 +15,10 @@ use std::marker::Brand;
 use std::sync::Wait;
 
 /// `lock` ([util.smartptr.weak.obs]): a shared pointer that owns, just where an owner remains at its step, and points
-/// where the handle does; else an empty one. Of an empty handle it is empty, and touches no word. Once the desk has seen
-/// the object without owner, every later lock of its is empty, and while the desk has an owner of it none is. It tries again while others change the count. It is refused
-/// `Limit` just where the desk is at its allowance, and then nothing changes.
+/// where the handle does; else an empty one. Of an empty handle it is empty, and touches no word. Once the desk has
+/// seen the object without owner, every later lock of its is empty, and while the desk has an owner of it none is. It
+/// tries again while others change the count. It is refused `Limit` just where the desk is at its allowance, and then
+/// nothing changes.
 #[inline(always)]
 pub fn lock<V: Drop + Send, R: Wait>(
     rt: &R,
@@ -52,8 +53,9 @@ pub fn lock<V: Drop + Send, R: Wait>(
 }
 
 /// The constructor from a weak pointer ([util.smartptr.shared.const]): a shared pointer that owns, and points where the
-/// handle does. It is refused `Limit` just where the desk is at its allowance, and else `BadWeak` just where the handle is
-/// empty or no owner remains at its step ([util.smartptr.weak.bad]); then bag and number of handles are as they were.
+/// handle does. It is refused `Limit` just where the desk is at its allowance, and else `BadWeak` just where the handle
+/// is empty or no owner remains at its step ([util.smartptr.weak.bad]); then bag and number of handles are as they
+/// were.
 pub fn upgrade<V: Drop + Send, R: Wait>(
     rt: &R,
     domain: &Domain<V>,

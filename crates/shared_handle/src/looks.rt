@@ -16,8 +16,8 @@ use control_word::{Place, Refusal};
 use std::marker::Brand;
 
 /// How many owners share the handle's object, this one included, or 0 where it is empty
-/// ([util.smartptr.shared.obs]). For a desk that has the whole allowance it is the count itself; else it is 0 just where
-/// there is no owner, and at most the count. An empty handle touches no word.
+/// ([util.smartptr.shared.obs]). For a desk that has the whole allowance it is the count itself; else it is 0 just
+/// where there is no owner, and at most the count. An empty handle touches no word.
 pub fn use_count<V: Drop + Send>(domain: &Domain<V>, desk: &mut Desk<V>, handle: &Shared) -> u32
     requires domain { Belongs desk.old domain.now }
     requires holds { Holds desk.old Owner handle.now.block handle.now.place }
@@ -32,8 +32,8 @@ pub fn use_count<V: Drop + Send>(domain: &Domain<V>, desk: &mut Desk<V>, handle:
     calls::count::<V, Brand>(domain, desk, of)
 }
 
-/// The place that the handle points at, which is in the object that it owns: `Null` where there is none, and `Outside` where it
-/// isn't there.
+/// The place that the handle points at, which is in the object that it owns: `Null` where there is none, and `Outside`
+/// where it isn't there.
 pub(crate) fn place_within(handle: &Shared) -> Result<Place, Refusal>
     ensures { IsPlaced handle.now.block handle.now.place result }
 {
@@ -46,8 +46,8 @@ pub(crate) fn place_within(handle: &Shared) -> Result<Place, Refusal>
     Ok(place)
 }
 
-/// The field that the handle points at (own). It is refused `Null` just where its place is null, and `Outside` just where
-/// that isn't in the object that it owns; then nothing changes.
+/// The field that the handle points at (own). It is refused `Null` just where its place is null, and `Outside` just
+/// where that isn't in the object that it owns; then nothing changes.
 pub fn read<V: Drop + Send>(
     domain: &Domain<V>,
     desk: &mut Desk<V>,
@@ -64,8 +64,8 @@ pub fn read<V: Drop + Send>(
     Ok(calls::read(domain, desk, place))
 }
 
-/// Where the handle points: the stored pointer ([util.smartptr.shared.obs]). It is null, or one of the four fields of a block,
-/// whatever became of the object there. It touches no word.
+/// Where the handle points: the stored pointer ([util.smartptr.shared.obs]). It is null, or one of the four fields of a
+/// block, whatever became of the object there. It touches no word.
 pub fn place<V: Drop + Send>(
     _domain: &Domain<V>,
     _desk: &mut Desk<V>,

@@ -1,8 +1,10 @@
 //! Empty handles, and owners of new objects.
-ghost use Rattle.std.specs.Prelude.{◌≡◌, ◌↔◌, ◌+◌, [], ◌∷◌, false, length, true, IfErr, IfOk, IsErr, OnOk, None};
+ghost use Rattle.std.specs.Prelude.{◌≡◌, ◌↔◌, ◌+◌, [], ◌∷◌, false, length, true, IfErr, IfOk};
+ghost use Rattle.std.specs.Prelude.{IsErr, OnOk, None};
 ghost use Rattle.control_word.specs.declared.handle.Kind.TheVariants.{Owner};
 ghost use Rattle.control_word.specs.declared.handle.Kind.TheVariants as kind;
-ghost use Rattle.control_block.specs.Desks.{Belongs, IsSameDesk, KeepsEndings, allowance_of, bag_of, endings_of, held_of, stock_of};
+ghost use Rattle.control_block.specs.Desks.{Belongs, IsSameDesk, KeepsEndings, allowance_of, bag_of, endings_of};
+ghost use Rattle.control_block.specs.Desks.{held_of, stock_of};
 ghost use Rattle.control_block.specs.Refusals.{IsFullOrLimit};
 ghost use Rattle.shared_handle.specs.Calls.{Holds, Makes, counting, with_handle};
 
@@ -95,8 +97,8 @@ pub fn make<V: Drop + Send>(
     make_as(domain, desk, false, fields, enabled, value)
 }
 
-/// An owner of the null pointer ([util.smartptr.shared.const]): its place is null, its fields are 0, and its value is the
-/// deleter's. Refusals are those of `make`.
+/// An owner of the null pointer ([util.smartptr.shared.const]): its place is null, its fields are 0, and its value is
+/// the deleter's. Refusals are those of `make`.
 pub fn make_null<V: Drop + Send>(
     domain: &Domain<V>,
     desk: &mut Desk<V>,
@@ -105,7 +107,8 @@ pub fn make_null<V: Drop + Send>(
     requires domain { Belongs desk.old domain.now }
     ensures refusals { IsFullOrLimit (held_of desk.old ≡ allowance_of desk.old) (stock_of desk.old ≡ []) result }
     ensures refused { IfErr result (λ r. (r.back ≡ value) × (desk.new ≡ desk.old)) }
-    ensures event { IfOk result (λ h. Makes desk.old false true (0 ∷ 0 ∷ 0 ∷ 0 ∷ []) value h.block h.place desk.new) }
+    ensures event { IfOk result
+        (λ h. Makes desk.old false true (0 ∷ 0 ∷ 0 ∷ 0 ∷ []) value h.block h.place desk.new) }
     ensures bag { IfOk result (λ h. bag_of desk.new ≡ with_handle Owner h.block h.place (bag_of desk.old)) }
     ensures held { OnOk result (desk.new.held ≡ desk.old.held + 1) }
     ensures holds { IfOk result (λ h. Holds desk.new Owner h.block h.place) }

@@ -1,5 +1,6 @@
 //! A desk's pile of objects that end, with room for all blocks of its domain.
-ghost use Rattle.std.specs.Prelude.{◌≡◌, ◌↔◌, ◌+◌, ◌-◌, ◌<◌, ◌≤◌, [], ◌++◌, length, slice_get};
+ghost use Rattle.std.specs.Prelude.{◌≡◌, ◌↔◌, ◌+◌, ◌-◌, ◌<◌, ◌≤◌, [], ◌++◌, length};
+ghost use Rattle.std.specs.Prelude.{slice_get};
 ghost use Rattle.std.specs.Prelude.{vec_capacity, Some, IfErr, IfNone, IfOk, IfSome, IsTrue};
 ghost use Rattle.control_block.specs.Desks.{Belongs, DeskNow, DomainNow, endings_of};
 ghost use Rattle.shared_handle.specs.Endings.{Ends, more_ending};
@@ -54,12 +55,13 @@ impl Gone {
 }
 
 impl<V: Drop + Send> Pile<V> {
-    /// An empty pile, with room for all blocks of the domain (own). It serves any desk of the domain in whose hands nothing
-    /// ends. It is refused `Memory` where a growth was really refused.
+    /// An empty pile, with room for all blocks of the domain (own). It serves any desk of the domain in whose hands
+    /// nothing ends. It is refused `Memory` where a growth was really refused.
     pub fn new(alloc: Global, domain: &Domain<V>) -> Result<Self, Refusal>
         ensures refused { IfErr result (λ why. why ≡ Refusal.Memory) }
         ensures empty { IfOk result (λ p. p.endings.items ≡ []) }
-        ensures bears { IfOk result (λ p. (d : DeskNow V) → Belongs d domain.now → endings_of d ≡ 0 → Bears domain.now d p) }
+        ensures bears { IfOk result
+            (λ p. (d : DeskNow V) → Belongs d domain.now → endings_of d ≡ 0 → Bears domain.now d p) }
     {
         match Vec::with_capacity(alloc, domain.blocks() as usize) {
             Ok(endings) => Ok(Self { endings }),
@@ -77,15 +79,17 @@ impl<V: Drop + Send> Pile<V> {
     /// The object that was last left to end (own). `None` just where nothing is left.
     pub fn top(&self) -> Option<&Ending<V>>
         ensures none { IfNone result (self.now.endings.items ≡ []) }
-        ensures some { IfSome result (λ x. slice_get self.now.endings.items (length self.now.endings.items - 1) ≡ Some x.now) }
-        ensures ends { IfSome result (λ x. (domain : DomainNow) (d : DeskNow V) → Bears domain d self.now → Ends d x.now) }
+        ensures some { IfSome result
+            (λ x. slice_get self.now.endings.items (length self.now.endings.items - 1) ≡ Some x.now) }
+        ensures ends { IfSome result
+            (λ x. (domain : DomainNow) (d : DeskNow V) → Bears domain d self.now → Ends d x.now) }
     {
         let top = self.endings.last()?;
         Some(top)
     }
 
-    /// What came of an owner that left goes onto the pile, where an object ends for it (own). Condition: there is room, as
-    /// there is for what ends with the pile's own desk.
+    /// What came of an owner that left goes onto the pile, where an object ends for it (own). Condition: there is room,
+    /// as there is for what ends with the pile's own desk.
     pub(crate) fn put(&mut self, left: Left<V>)
         requires room { length self.old.endings.items + more_ending left ≤ vec_capacity self.old.endings }
         ensures endings { self.new.endings.items ≡ piled self.old.endings.items left }
@@ -97,9 +101,9 @@ impl<V: Drop + Send> Pile<V> {
         }
     }
 
-    /// What is left to end with another pile goes on top of this one, in its order (own). There is room for all that ends
-    /// with one desk, so that it takes memory at most where this pile has no room for both. Where that is refused, the
-    /// other pile comes back, and nothing changes.
+    /// What is left to end with another pile goes on top of this one, in its order (own). There is room for all that
+    /// ends with one desk, so that it takes memory at most where this pile has no room for both. Where that is refused,
+    /// the other pile comes back, and nothing changes.
     pub fn join(&mut self, other: Self) -> Result<(), Self>
         ensures joined { IfOk result (λ _. self.new.endings.items ≡ self.old.endings.items ++ other.endings.items) }
         ensures room { vec_capacity self.old.endings ≤ vec_capacity self.new.endings }

@@ -41,9 +41,9 @@ pub(crate) fn share_to<V: Drop + Send>(
     calls::share::<V, Brand>(domain, desk, of, place)
 }
 
-/// A copy: one owner more, which points where the handle does ([util.smartptr.shared.const]). A copy of an empty pointer
-/// is empty, points there too, and touches no word. It is refused `Limit` just where the desk is at its allowance, and
-/// then nothing changes.
+/// A copy: one owner more, which points where the handle does ([util.smartptr.shared.const]). A copy of an empty
+/// pointer is empty, points there too, and touches no word. It is refused `Limit` just where the desk is at its
+/// allowance, and then nothing changes.
 pub fn share<V: Drop + Send>(
     domain: &Domain<V>,
     desk: &mut Desk<V>,
@@ -55,7 +55,8 @@ pub fn share<V: Drop + Send>(
     ensures refused { IfErr result (λ why. (why ≡ Refusal.Limit) × (desk.new ≡ desk.old)) }
     ensures handle { IfOk result (λ h. (h.block ≡ handle.now.block) × (h.place ≡ handle.now.place)) }
     ensures event { OnOk result (Shares desk.old handle.now.block handle.now.place handle.now.place desk.new) }
-    ensures bag { OnOk result (bag_of desk.new ≡ with_handle Owner handle.now.block handle.now.place (bag_of desk.old)) }
+    ensures bag { OnOk result
+        (bag_of desk.new ≡ with_handle Owner handle.now.block handle.now.place (bag_of desk.old)) }
     ensures held { OnOk result (desk.new.held ≡ desk.old.held + 1) }
     ensures holds { IfOk result (λ h. Holds desk.new Owner h.block h.place) }
     ensures keeps { OnOk result (Keeps desk.old desk.new) }
@@ -64,8 +65,9 @@ pub fn share<V: Drop + Send>(
 }
 
 /// The aliasing constructor ([util.smartptr.shared.const]): one owner more of what the handle owns, which points at a
-/// place. Of an empty handle it is empty, and points there all the same. Condition: the place is the handle's own, field 0 of
-/// its object, what `place` told of a handle, or else in a block from 1 on, at one of its four fields. It is refused `Limit` just where the desk is at its allowance, and then nothing changes.
+/// place. Of an empty handle it is empty, and points there all the same. Condition: the place is the handle's own,
+/// field 0 of its object, what `place` told of a handle, or else in a block from 1 on, at one of its four fields. It is
+/// refused `Limit` just where the desk is at its allowance, and then nothing changes.
 pub fn alias<V: Drop + Send>(
     domain: &Domain<V>,
     desk: &mut Desk<V>,
@@ -87,8 +89,8 @@ pub fn alias<V: Drop + Send>(
     share_to(domain, desk, handle, place)
 }
 
-/// An owner leaves ([util.smartptr.shared.dest]): it was `Empty`, `Others` own the object still, or it was the `Last`, and
-/// the object ends in the desk's hands, in another block than all that ended there before.
+/// An owner leaves ([util.smartptr.shared.dest]): it was `Empty`, `Others` own the object still, or it was the `Last`,
+/// and the object ends in the desk's hands, in another block than all that ended there before.
 pub fn release<V: Drop + Send>(domain: &Domain<V>, desk: &mut Desk<V>, handle: Shared) -> Left<V>
     requires domain { Belongs desk.old domain.now }
     requires holds { Holds desk.old Owner handle.block handle.place }

@@ -47,7 +47,8 @@ pub fn shared_from_this<V: Drop + Send>(
 ) -> Result<Shared, Refusal>
     requires domain { Belongs desk.old domain.now }
     requires holds { Holds desk.old Owner handle.now.block handle.now.place }
-    ensures refused { IfErr result (λ why. WhyNotThis desk.old handle.now.block handle.now.place why × (desk.new ≡ desk.old)) }
+    ensures refused { IfErr result
+        (λ why. WhyNotThis desk.old handle.now.block handle.now.place why × (desk.new ≡ desk.old)) }
     ensures may { OnOk result (MayGiveThis desk.old handle.now.block handle.now.place) }
     ensures handle { IfOk result (λ h. (h.block ≡ handle.now.block) × IsOfThis h.block h.place) }
     ensures event { IfOk result (λ h. Shares desk.old handle.now.block handle.now.place h.place desk.new) }
@@ -69,7 +70,8 @@ pub fn weak_from_this<V: Drop + Send>(
 ) -> Result<handles::Weak, Refusal>
     requires domain { Belongs desk.old domain.now }
     requires holds { Holds desk.old Owner handle.now.block handle.now.place }
-    ensures refused { IfErr result (λ why. WhyNotThis desk.old handle.now.block handle.now.place why × (desk.new ≡ desk.old)) }
+    ensures refused { IfErr result
+        (λ why. WhyNotThis desk.old handle.now.block handle.now.place why × (desk.new ≡ desk.old)) }
     ensures may { OnOk result (MayGiveThis desk.old handle.now.block handle.now.place) }
     ensures handle { IfOk result (λ h. (h.block ≡ handle.now.block) × IsOfThis h.block h.place) }
     ensures event { IfOk result (λ h. SharesWeakly desk.old h.block h.place desk.new) }

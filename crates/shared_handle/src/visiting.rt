@@ -15,9 +15,9 @@ use control_word::{Refusal, Refused};
 use std::marker::Brand;
 use std::sync::Wait;
 
-/// The value of the object that the handle owns is worked on (own): while this call has it, another visit of it waits. An
-/// owner of null has a value too. It is refused `Null` just where the handle is empty; then `f` comes back and nothing
-/// changes.
+/// The value of the object that the handle owns is worked on (own): while this call has it, another visit of it waits.
+/// An owner of null has a value too. It is refused `Null` just where the handle is empty; then `f` comes back and
+/// nothing changes.
 pub fn visit<V: Drop + Send, R, F: FnOnce(&mut V) -> R, W: Wait>(
     rt: &W,
     domain: &Domain<V>,
@@ -28,7 +28,8 @@ pub fn visit<V: Drop + Send, R, F: FnOnce(&mut V) -> R, W: Wait>(
     requires domain { Belongs desk.old domain.now }
     requires holds { Holds desk.old Owner handle.now.block handle.now.place }
     requires callable { F.IsAlwaysCallable f }
-    ensures visit { IsVisit (λ was r becomes. FnOnceReturnsAtMut F.FnOnce f was r becomes) f desk.old handle.now.block handle.now.place result desk.new }
+    ensures visit { IsVisit (λ was r becomes. FnOnceReturnsAtMut F.FnOnce f was r becomes) f desk.old handle.now.block
+        handle.now.place result desk.new }
     ensures bag { bag_of desk.new ≡ bag_of desk.old }
     ensures held { desk.new.held ≡ desk.old.held }
     ensures keeps { Keeps desk.old desk.new }

@@ -39,8 +39,8 @@ pub fn use_count_weak<V: Drop + Send>(
     calls::count::<V, Brand>(domain, desk, of)
 }
 
-/// Whether the weak handle's object has no owner left, or the handle is empty ([util.smartptr.weak.obs]). An empty handle
-/// touches no word.
+/// Whether the weak handle's object has no owner left, or the handle is empty ([util.smartptr.weak.obs]). An empty
+/// handle touches no word.
 pub fn expired<V: Drop + Send>(
     domain: &Domain<V>,
     desk: &mut Desk<V>,

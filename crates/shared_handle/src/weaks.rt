@@ -1,7 +1,8 @@
 //! Weak pointers ([util.smartptr.weak]).
 ghost use Rattle.std.specs.Prelude.{◌≡◌, ◌↔◌, ◌+◌, Bool, cond, length, IfErr, IfOk, IsErr, OnOk};
 ghost use Rattle.control_word.specs.declared.handle.Kind.TheVariants.{Weak};
-ghost use Rattle.control_block.specs.Desks.{Belongs, IsSameDesk, Keeps, KeepsEndings, allowance_of, bag_of, endings_of, held_of, stock_of};
+ghost use Rattle.control_block.specs.Desks.{Belongs, IsSameDesk, Keeps, KeepsEndings, allowance_of, bag_of, endings_of};
+ghost use Rattle.control_block.specs.Desks.{held_of, stock_of};
 ghost use Rattle.shared_handle.specs.Calls.{Holds, LeavesWeakly, SharesWeakly, weak_place, with_handle, without_handle};
 
 use control_block::desk::Desk;
@@ -12,8 +13,8 @@ use control_word::Refusal;
 use control_word::handle::Kind;
 use std::marker::Brand;
 
-/// A copy of a weak pointer ([util.smartptr.weak.const]): one weak handle more, which points where the handle does. Of an
-/// empty one it is empty with a null place, and touches no word. It is refused `Limit` just where the desk is at its
+/// A copy of a weak pointer ([util.smartptr.weak.const]): one weak handle more, which points where the handle does. Of
+/// an empty one it is empty with a null place, and touches no word. It is refused `Limit` just where the desk is at its
 /// allowance, and then nothing changes.
 pub fn share_weak<V: Drop + Send>(
     domain: &Domain<V>,
@@ -24,9 +25,11 @@ pub fn share_weak<V: Drop + Send>(
     requires holds { Holds desk.old Weak handle.now.block handle.now.place }
     ensures limit { IsErr result ↔ (held_of desk.old ≡ allowance_of desk.old) }
     ensures refused { IfErr result (λ why. (why ≡ Refusal.Limit) × (desk.new ≡ desk.old)) }
-    ensures handle { IfOk result (λ h. (h.block ≡ handle.now.block) × (h.place ≡ weak_place handle.now.block handle.now.place)) }
+    ensures handle { IfOk result
+        (λ h. (h.block ≡ handle.now.block) × (h.place ≡ weak_place handle.now.block handle.now.place)) }
     ensures event { OnOk result (SharesWeakly desk.old handle.now.block handle.now.place desk.new) }
-    ensures bag { OnOk result (bag_of desk.new ≡ with_handle Weak handle.now.block handle.now.place (bag_of desk.old)) }
+    ensures bag { OnOk result
+        (bag_of desk.new ≡ with_handle Weak handle.now.block handle.now.place (bag_of desk.old)) }
     ensures held { OnOk result (desk.new.held ≡ desk.old.held + 1) }
     ensures holds { IfOk result (λ h. Holds desk.new Weak h.block h.place) }
     ensures keeps { OnOk result (Keeps desk.old desk.new) }
@@ -43,7 +46,8 @@ pub fn share_weak<V: Drop + Send>(
 pub fn release_weak<V: Drop + Send>(domain: &Domain<V>, desk: &mut Desk<V>, handle: handles::Weak)
     requires domain { Belongs desk.old domain.now }
     requires holds { Holds desk.old Weak handle.block handle.place }
-    ensures event { (vacant : Bool) × LeavesWeakly desk.old handle.block handle.place vacant desk.new × (length (stock_of desk.new) ≡ length (stock_of desk.old) + cond vacant 1 0) }
+    ensures event { (vacant : Bool) × LeavesWeakly desk.old handle.block handle.place vacant desk.new
+        × (length (stock_of desk.new) ≡ length (stock_of desk.old) + cond vacant 1 0) }
     ensures bag { bag_of desk.new ≡ without_handle Weak handle.block handle.place (bag_of desk.old) }
     ensures held { desk.new.held + 1 ≡ desk.old.held }
     ensures desk { IsSameDesk desk.old desk.new }

@@ -15,7 +15,8 @@ kept_after a b c text h k = subst (Appends a c) (append-nil text) (Appends-then 
 all_of : (a c : Option (List ℕ)) (text : List ℕ) → Appends a c text → AppendsBeginning a c text
 all_of a c text h = record { front = text; rest = []; text = sym (append-nil text); took = h }
 
-pub delivers_flushed : {A : Type 0} (told : Result (List ℕ) Fault → Type 0) (r : Result A Fault) (a b c : Option (List ℕ)) → (text : List ℕ) × told (Ok text) × Appends a b text
+pub delivers_flushed : {A : Type 0} (told : Result (List ℕ) Fault → Type 0) (r : Result A Fault) (a b c : Option (List ℕ))
+    → (text : List ℕ) × told (Ok text) × Appends a b text
     → Keeps b c → IfErr r (λ fault. fault ≡ Output) → Delivers told r a c
 delivers_flushed told (Ok x) a b c h k e = (h.0, h.1, kept_after a b c h.0 h.2 k)
 delivers_flushed {A} told (Err f) a b c h k e =

@@ -1,17 +1,20 @@
 -- Lines in the manner of the program's page ask for what they say, and have no fault.
-use Rattle.std.proofs.Common.{◌≡◌, ◌≢◌, ◌==◌, Bool, true, false, refl, sym, ap, List, [], ◌∷◌, ◌++◌, Some, None, codes, inl, inr, subst, eqb-true}
+use Rattle.std.proofs.Common.{◌≡◌, ◌≢◌, ◌==◌, Bool, true, false, refl, sym, ap, List, [], ◌∷◌, ◌++◌, Some, None, codes, inl, inr}
+use Rattle.std.proofs.Common.{subst, eqb-true}
 use Rattle.std.specs.Prelude.{slice_get}
 use Rattle.std.specs.Str.{bytes_eq}
 use Rattle.clap.specs.Words.{Text, fault_of}
 use Rattle.clap.specs.Lexer.{long_of, short_of}
 use Rattle.clap.specs.declared.error.kind.ErrorKind.TheVariants as kind
 use Rattle.clap.proofs.OnLiterals.{clap_on_literals}
-use Rattle.sptr.specs.CommandLine.{Asks, AsksPlainly, IsLine, check_line, command_named, convert_line, file_word, fine_line, names_file, program, step_line, turns_file_option, turns_given, turns_option}
+use Rattle.sptr.specs.CommandLine.{Asks, AsksPlainly, IsLine, check_line, command_named, convert_line, file_word, fine_line, names_file, program, step_line}
+use Rattle.sptr.specs.CommandLine.{turns_file_option, turns_given, turns_option}
 use Rattle.sptr.specs.declared.command.Asked.{Asked}
 use Rattle.sptr.specs.declared.command.Asked.TheVariants.{Check, Convert, Fine, Step}
 
 abbrev IsFor : Text → Text → List Text → Type 0
-IsFor command list words = (fault_of program words ≡ []) × (command_named words ≡ Some command) × (turns_given words ≡ list) × (names_file words ≡ false)
+IsFor command list words = (fault_of program words ≡ []) × (command_named words ≡ Some command) × (turns_given words ≡ list)
+    × (names_file words ≡ false)
 
 check_alone : (name : Text) → IsFor (codes "check") [] (name ∷ codes "check" ∷ [])
 unfolding program check_line convert_line step_line fine_line file_word turns_option turns_file_option clap_on_literals
@@ -59,11 +62,13 @@ pub no_command : (name : Text) → fault_of program (name ∷ []) ≡ kind.Missi
 unfolding program check_line convert_line step_line fine_line file_word turns_option turns_file_option clap_on_literals
 no_command name = refl
 
-no_dashes : (list : Text) → slice_get list 0 ≢ Some 45 → (bytes_eq list (45 ∷ 45 ∷ []) ≡ false) × (long_of list ≡ None) × (short_of list ≡ None)
+no_dashes : (list : Text) → slice_get list 0 ≢ Some 45 → (bytes_eq list (45 ∷ 45 ∷ []) ≡ false) × (long_of list ≡ None)
+    × (short_of list ≡ None)
 no_dashes [] h = (refl, refl, refl)
 no_dashes (b ∷ bs) h = go (b == 45) refl
   where
-    go : (t : Bool) → (b == 45) ≡ t → (bytes_eq (b ∷ bs) (45 ∷ 45 ∷ []) ≡ false) × (long_of (b ∷ bs) ≡ None) × (short_of (b ∷ bs) ≡ None)
+    go : (t : Bool) → (b == 45) ≡ t → (bytes_eq (b ∷ bs) (45 ∷ 45 ∷ []) ≡ false) × (long_of (b ∷ bs) ≡ None)
+        × (short_of (b ∷ bs) ≡ None)
     go true e = absurd (h (ap Some (eqb-true b 45 e)))
     go false e = (rw e refl, rw e refl, rw e refl)
 

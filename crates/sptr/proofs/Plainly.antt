@@ -1,5 +1,6 @@
 -- What is asked for plainly is answered.
-use Rattle.std.proofs.Common.{◌≡◌, ◌⊎◌, ◌∙◌, ℕ, Bool, false, true≢false, refl, sym, ap, subst, List, [], ◌∷◌, Option, Some, None, Err, Result, codes, inl, inr}
+use Rattle.std.proofs.Common.{◌≡◌, ◌⊎◌, ◌∙◌, ℕ, Bool, false, true≢false, refl, sym, ap, subst, List, [], ◌∷◌, Option, Some, None}
+use Rattle.std.proofs.Common.{Err, Result, codes, inl, inr}
 use Rattle.std.specs.Prelude.{IfSome}
 use Rattle.std.specs.Str.{bytes_eq}
 use Rattle.std.proofs.lemmas.Slice.Eq.{bytes_eq-Decides}
@@ -99,7 +100,8 @@ module _ (words : List Text) (input : Option (List ℕ)) (status : ℕ) (old new
   no_kind reason kinds none (inl is) = is
   no_kind reason kinds none (inr among) = absurd (subst (IsAmong reason) none among)
 
-  pub turned_plainly : (reason : ErrorKind) (b : Asked) → IsReason words reason → AsksPlainly words b → IsTurnedAway reason status old new has_failed faults
+  pub turned_plainly : (reason : ErrorKind) (b : Asked) → IsReason words reason → AsksPlainly words b
+      → IsTurnedAway reason status old new has_failed faults
       → IsAnswered b input status old new has_failed faults
   turned_plainly reason b r y h =
       let m = h.memory (no_kind reason (fault_of program words) (plainly_asks words b y).faultless r) in
@@ -112,7 +114,8 @@ module _ (words : List Text) (input : Option (List ℕ)) (status : ℕ) (old new
       }
 
 module _ (words : List Text) where
-  only_kind : (reason one : ErrorKind) → fault_of program words ≡ one ∷ [] → IsReason words reason → (reason ≡ kind.OutOfMemory) ⊎ (reason ≡ one)
+  only_kind : (reason one : ErrorKind) → fault_of program words ≡ one ∷ [] → IsReason words reason
+      → (reason ≡ kind.OutOfMemory) ⊎ (reason ≡ one)
   only_kind reason one e (inl is) = inl is
   only_kind reason one e (inr among) = elim (subst (IsAmong reason) e among) [
     | inl is ↦ inr is

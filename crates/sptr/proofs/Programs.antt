@@ -1,17 +1,20 @@
 -- The program's command line is one of which `clap` tells the matches.
-use Rattle.std.proofs.Common.{◌≡◌, ◌≢◌, ◌⊎◌, ◌∙◌, ◌||◌, true, false, refl, sym, ap, ap₂, List, [], ◌∷◌, Option, Some, None, codes, inl, inr, option_map}
+use Rattle.std.proofs.Common.{◌≡◌, ◌≢◌, ◌⊎◌, ◌∙◌, ◌||◌, true, false, refl, sym, ap, ap₂, List, [], ◌∷◌, Option, Some, None}
+use Rattle.std.proofs.Common.{codes, inl, inr, option_map}
 use Rattle.std.specs.Prelude.{Box, is_some, option_and_then, unwrap_or}
 use Rattle.std.specs.Borrow.{Bor}
 use Rattle.std.specs.Box.{box_value}
 use Rattle.std.proofs.lemmas.Option.{same_Some}
-use Rattle.clap.specs.Words.{Row, Shape, Text, fault_of, first_of, is_simple, is_simple_and_free, built, subcommand_name_of, subcommand_of, subcommand_rows, subcommand_rows_of}
+use Rattle.clap.specs.Words.{Row, Shape, Text, fault_of, first_of, is_simple, is_simple_and_free, built, subcommand_name_of, subcommand_of, subcommand_rows}
+use Rattle.clap.specs.Words.{subcommand_rows_of}
 use Rattle.clap.specs.Simple.{argument_words, built_leaf, help_shape, inherited, marked_built, with_leaf_noted}
 use Rattle.clap.specs.declared.parser.matches.ArgMatches.{ArgMatches}
 use Rattle.clap.specs.declared.parser.matches.ArgMatches.TheViews.{out-ArgMatches, out-SubCommand}
 use Rattle.clap.specs.declared.parser.matches.SubCommand.{SubCommand}
 use Rattle.clap.proofs.OnLiterals.{clap_on_literals}
 use Rattle.sptr.proofs.Walks.{enters_own}
-use Rattle.sptr.specs.CommandLine.{check_line, command_named, convert_line, file_word, fine_line, names_file_in, program, step_line, turns_file_option, turns_given, turns_option}
+use Rattle.sptr.specs.CommandLine.{check_line, command_named, convert_line, file_word, fine_line, names_file_in, program, step_line, turns_file_option}
+use Rattle.sptr.specs.CommandLine.{turns_given, turns_option}
 
 pub program_is_simple : is_simple program ≡ true
 unfolding program check_line convert_line step_line fine_line file_word turns_option turns_file_option clap_on_literals
@@ -26,10 +29,12 @@ built_line line = built_leaf (inherited (with_leaf_noted (marked_built program.t
 
 -- words with no fault name one of the four commands
 one_of_all : (words : List Text) → fault_of program words ≡ []
-    → (command_named words ≡ Some (codes "check")) ⊎ ((command_named words ≡ Some (codes "convert")) ⊎ ((command_named words ≡ Some (codes "step")) ⊎ (command_named words ≡ Some (codes "fine"))))
+    → (command_named words ≡ Some (codes "check")) ⊎ ((command_named words ≡ Some (codes "convert"))
+    ⊎ ((command_named words ≡ Some (codes "step")) ⊎ (command_named words ≡ Some (codes "fine"))))
 unfolding program check_line convert_line step_line fine_line
 one_of_all words e =
-    let found = enters_own (built program) (argument_words program words) (built_line check_line ∷ built_line convert_line ∷ built_line step_line ∷ built_line fine_line ∷ [])
+    let found = enters_own (built program) (argument_words program words)
+    (built_line check_line ∷ built_line convert_line ∷ built_line step_line ∷ built_line fine_line ∷ [])
     (built_leaf help_shape) refl refl refl refl refl e in
     elim found.2 [
       | inl is ↦ inl (found.1 ∙ ap Some is)
@@ -74,7 +79,8 @@ both_parts (Some p) name rows n r = ap₂ (λ x y. Some (x, y)) (same_Some _ _ (
 
 -- a subcommand that was met, with its rows, is the command that the words name, with its list
 pub asks_with_turns : (words : List Text) (m : ArgMatches) (command list name : Text) (rows : List Row)
-    → subcommand_rows_of m ≡ subcommand_of program words → Some name ≡ subcommand_name_of m → Some rows ≡ option_map (λ p. p.1) (subcommand_rows_of m) → name ≡ command
+    → subcommand_rows_of m ≡ subcommand_of program words → Some name ≡ subcommand_name_of m
+    → Some rows ≡ option_map (λ p. p.1) (subcommand_rows_of m) → name ≡ command
     → list ≡ unwrap_or (first_of (codes "turns") rows) [] → (command_named words ≡ Some command) × (list ≡ turns_given words)
 asks_with_turns words m command list name rows is n r named given =
     let found : subcommand_of program words ≡ Some (name, rows) =

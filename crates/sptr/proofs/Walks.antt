@@ -1,5 +1,6 @@
 -- A walk over words with no fault enters one of the commands that the program names itself.
-use Rattle.std.proofs.Common.{◌≡◌, ◌≢◌, ◌∙◌, ◌⊎◌, ◌&&◌, ◌||◌, ℕ, Bool, true, false, not, refl, sym, ap, subst, List, [], ◌∷◌, ◌++◌, Option, Some, None, codes, inl, inr, option_map, true≢false}
+use Rattle.std.proofs.Common.{◌≡◌, ◌≢◌, ◌∙◌, ◌⊎◌, ◌&&◌, ◌||◌, ℕ, Bool, true, false, not, refl, sym, ap, subst, List, []}
+use Rattle.std.proofs.Common.{◌∷◌, ◌++◌, Option, Some, None, codes, inl, inr, option_map, true≢false}
 use Rattle.std.specs.Prelude.{if◌then◌else◌, find, fold, is_some, option_and_then}
 use Rattle.std.specs.List.{list_any}
 use Rattle.std.specs.Str.{bytes_eq}
@@ -94,7 +95,8 @@ own_value : (c : List Rule) (a : Option Rule) (word : Text) (w : Walk) (h : Held
 own_value c None word w h own = own
 own_value c (Some a) word w h own = tt
 
-own_after : (c : List Rule) (word : Text) (w : Walk) (h : Held) (step : Step) → IsOwnStep step → IsOwn w.stopped → IsOwn (after_step c word w h step).stopped
+own_after : (c : List Rule) (word : Text) (w : Walk) (h : Held) (step : Step) → IsOwnStep step → IsOwn w.stopped
+    → IsOwn (after_step c word w h step).stopped
 own_after c word w h (next waiting) here own = own
 own_after c word w h (trailing position) here own = own
 own_after c word w h (subcommand name) here own = here
@@ -177,7 +179,8 @@ abbrev entered_in : Option (Text × List Text) → List Shape → Option (Text �
 entered_in stop shapes = option_and_then (λ (p : Text × List Text). rows_found shapes p.0 p.1) stop
 
 -- a built command that wants one of these commands, and has `help` beside them, enters one of them where there is no fault
-pub enters_own : (a : App) (words : List Text) (shapes : List Shape) (h : Shape) → a.top.disable_help_subcommand ≡ false → a.top.subcommand_required ≡ true
+pub enters_own : (a : App) (words : List Text) (shapes : List Shape) (h : Shape) → a.top.disable_help_subcommand ≡ false
+    → a.top.subcommand_required ≡ true
     → a.subs ≡ shapes ++ h ∷ [] → h.name ≡ codes "help" → h.aliases ≡ [] → built_fault a nothing_held words ≡ []
     → Enters (entered a (stop_after a.top.rules (names_of a) words)) shapes
 enters_own a words shapes h d wants subs is none e =

@@ -1,5 +1,7 @@
--- The command line that the program takes, and what its words ask for, by what `clap` makes of such a line. All of it is own.
-use Rattle.std.specs.Prelude.{◌≡◌, ◌≢◌, ◌⊎◌, ◌||◌, Bool, true, false, List, [], ◌∷◌, ◌++◌, slice_get, Option, Some, option_map, option_and_then, unwrap_or, is_some, codes}
+-- The command line that the program takes, and what its words ask for, by what `clap` makes of such a line. All of it
+-- is own.
+use Rattle.std.specs.Prelude.{◌≡◌, ◌≢◌, ◌⊎◌, ◌||◌, Bool, true, false, List, [], ◌∷◌}
+use Rattle.std.specs.Prelude.{◌++◌, slice_get, Option, Some, option_map, option_and_then, unwrap_or, is_some, codes}
 use Rattle.clap.specs.Words.{App, Row, Rule, Shape, Text, first_of, new_rule, subcommand_of}
 use Rattle.clap.specs.Simple.{new_shape}
 use Rattle.sptr.specs.declared.command.Asked.{Asked}
@@ -72,8 +74,8 @@ Asks words Convert = command_named words ≡ Some (codes "convert")
 Asks words (Step turns) = (command_named words ≡ Some (codes "step")) × (turns.now ≡ turns_given words)
 Asks words (Fine turns) = (command_named words ≡ Some (codes "fine")) × (turns.now ≡ turns_given words)
 
--- the words are the program's name and this command, and then no list, `--turns=LIST`, or `--turns LIST` with a list that begins with no
--- `-` (45)
+-- the words are the program's name and this command, and then no list, `--turns=LIST`, or `--turns LIST` with a list
+-- that begins with no `-` (45)
 abbrev pub IsLine : Text → Text → Text → List Text → Type 0
 IsLine command name list words = ((words ≡ name ∷ command ∷ []) × (list ≡ []))
     ⊎ ((words ≡ name ∷ command ∷ (codes "--turns=" ++ list) ∷ [])

@@ -1,5 +1,6 @@
 -- What commands write, of what is on the input (own).
-use Rattle.std.specs.Prelude.{◌≡◌, ◌≢◌, ◌⊎◌, ℕ, Bool, true, false, List, [], length, Option, None, Result, Ok, Err, IfSome, if◌then◌else◌}
+use Rattle.std.specs.Prelude.{◌≡◌, ◌≢◌, ◌⊎◌, ℕ, Bool, true, false, List, [], length, Option, None}
+use Rattle.std.specs.Prelude.{Result, Ok, Err, IfSome, if◌then◌else◌}
 use Rattle.clap.specs.Words.{IsAmong, Text, fault_of}
 use Rattle.clap.specs.declared.error.kind.ErrorKind.{ErrorKind}
 use Rattle.clap.specs.declared.error.kind.ErrorKind.TheVariants as kind
@@ -20,12 +21,14 @@ use Rattle.sptr.specs.declared.command.Asked.TheVariants.{Check, Convert, Fine, 
 
 -- the line that counts the script which the text reads as, or the refusal that the text has
 abbrev pub Counts : List ℕ → Result (List ℕ) Fault → Type 0
-Counts bytes (Ok text) = (script : ScriptView) × Reads bytes script × (text ≡ ok_line (length script.threads) (statement_count script.threads))
+Counts bytes (Ok text) = (script : ScriptView) × Reads bytes script
+    × (text ≡ ok_line (length script.threads) (statement_count script.threads))
 Counts bytes (Err fault) = Refuses fault bytes
 
 -- the canonical text in version 2 of the script which the text reads as, or the refusal that the text has
 abbrev pub Converts : List ℕ → Result (List ℕ) Fault → Type 0
-Converts bytes (Ok text) = (script : ScriptView) × Reads bytes script × (text ≡ canonical (converted script)) × Reads text (converted script)
+Converts bytes (Ok text) = (script : ScriptView) × Reads bytes script × (text ≡ canonical (converted script))
+    × Reads text (converted script)
 Converts bytes (Err fault) = Refuses fault bytes
 
 -- the same where the input may have failed
@@ -127,7 +130,8 @@ abbrev pub IsReason : List Text → ErrorKind → Type 0
 IsReason words reason = (reason ≡ kind.OutOfMemory) ⊎ IsAmong reason (fault_of program words)
 
 -- the words have no fault, and what they ask for is answered; or they are turned away for a reason that they give
-abbrev pub Serves : List Text → Option (List ℕ) → ℕ → Option (List ℕ) → Option (List ℕ) → Bool → Report → Type 0
+abbrev pub Serves : List Text → Option (List ℕ) → ℕ → Option (List ℕ) → Option (List ℕ)
+    → Bool → Report → Type 0
 Serves words input status old new has_failed faults =
     ((asked : Asked) × Asks words asked × (fault_of program words ≡ [])
     × IsAnswered asked (known_unless (names_file words) input) status old new has_failed faults)

@@ -1,6 +1,7 @@
 //! What the commands answer to the script on the input.
 
-ghost use Rattle.std.specs.Prelude.{◌≡◌, ◌⊎◌, ◌||◌, false, List, IfOk, IfErr, IfSome, OnOk, string_bytes};
+ghost use Rattle.std.specs.Prelude.{◌≡◌, ◌⊎◌, ◌||◌, false, List, IfOk, IfErr, IfSome, OnOk};
+ghost use Rattle.std.specs.Prelude.{string_bytes};
 ghost use Rattle.script_text.specs.declared.fault.Fault.TheVariants.{Input, Memory};
 ghost use Rattle.script_stepper.specs.Runs.{Delivers, IsFineText, IsRunText, Tells, Writes, is_output, text_in};
 ghost use Rattle.std.specs.Io.KnownBytes.{Keeps};

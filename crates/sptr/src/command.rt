@@ -1,10 +1,12 @@
 //! The command line, as `clap` reads it.
 
 ghost use Rattle.std.specs.Prelude.{◌≡◌, IfOk, [], codes, false, is_some, map, unwrap_or};
-ghost use Rattle.clap.specs.Words.{FailsBy, app_of, fault_of, first_of, found_of, rows_of, rule_of, shape_of, subcommand_rows_of, subcommand_of};
+ghost use Rattle.clap.specs.Words.{FailsBy, app_of, fault_of, first_of, found_of, rows_of, rule_of, shape_of};
+ghost use Rattle.clap.specs.Words.{subcommand_rows_of, subcommand_of};
 ghost use Rattle.clap.specs.declared.builder.command.Command.TheViews.{out-Command};
 ghost use Rattle.sptr.specs.CommandLine.{Asks, check_line, convert_line, fine_line, program, step_line};
-ghost use Rattle.sptr.specs.CommandLine.{file_word, turns_option, turns_file_option, has_files, names_file, names_file_in};
+ghost use Rattle.sptr.specs.CommandLine.{file_word, turns_option, turns_file_option, has_files, names_file};
+ghost use Rattle.sptr.specs.CommandLine.{names_file_in};
 
 use clap::{Arg, ArgMatches, Command, Error};
 use std::alloc::{AllocError, Global};

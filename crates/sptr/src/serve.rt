@@ -4,7 +4,8 @@ ghost use Rattle.std.specs.Prelude.{◌≡◌, ◌≤◌, false, map};
 ghost use Rattle.clap.specs.Words.{kind_of};
 ghost use Rattle.sptr.specs.declared.command.Asked.{Asked};
 ghost use Rattle.sptr.specs.CommandLine.{AsksHelp, AsksPlainly, AsksVersion, NamesNoCommand, has_files};
-ghost use Rattle.sptr.specs.Serving.{IsAnswered, IsMistaken, IsReported, IsShown, IsTurnedAway, Serves, known_unless, report};
+ghost use Rattle.sptr.specs.Serving.{IsAnswered, IsMistaken, IsReported, IsShown, IsTurnedAway, Serves, known_unless};
+ghost use Rattle.sptr.specs.Serving.{report};
 
 use crate::answers::written;
 use crate::command::{Line, asked_of};
@@ -99,7 +100,8 @@ fn carry_out<R: rt::Files, I: Read, O: Write, F: Write>(
     faults: &mut Output<F>,
 ) -> u8
     requires { output.old.has_failed ≡ false }
-    ensures answered { IsAnswered line.entry.asked (known_unless (has_files line.entry.files) (I.remaining input.old)) result
+    ensures answered { IsAnswered line.entry.asked
+        (known_unless (has_files line.entry.files) (I.remaining input.old)) result
         (O.contents output.old.writer) (O.contents output.new.writer) output.new.has_failed
         (report (F.contents faults.old.writer) faults.old.has_failed
         (F.contents faults.new.writer) faults.new.has_failed) }
@@ -117,8 +119,8 @@ fn carry_out<R: rt::Files, I: Read, O: Write, F: Write>(
 /// refusal, with its line on `faults`; 2 for a fault of the command line, with the text of `clap` on `faults`.
 ///
 /// The words are looked at first; then come a failed input, or a file that can't be read (13), a fault of the script
-/// (10) and one of the turns (11), each with nothing on `output`, and a failed output (12). A fault line that can't be written changes no status: `faults` then took a beginning of it, or nothing where
-/// it had failed before (own).
+/// (10) and one of the turns (11), each with nothing on `output`, and a failed output (12). A fault line that can't be
+/// written changes no status: `faults` then took a beginning of it, or nothing where it had failed before (own).
 pub fn serve<R: rt::Files, S: AsStr, I: Read, O: Write, F: Write>(
     rt: &R,
     alloc: Global,
@@ -133,7 +135,8 @@ pub fn serve<R: rt::Files, S: AsStr, I: Read, O: Write, F: Write>(
         (report (F.contents faults.old.writer) faults.old.has_failed
         (F.contents faults.new.writer) faults.new.has_failed) }
     ensures answers { (asked : Asked) → AsksPlainly (map S.text words.now) asked
-        → IsAnswered asked (I.remaining input.old) result (O.contents output.old.writer) (O.contents output.new.writer) output.new.has_failed
+        → IsAnswered asked (I.remaining input.old) result (O.contents output.old.writer)
+        (O.contents output.new.writer) output.new.has_failed
         (report (F.contents faults.old.writer) faults.old.has_failed
         (F.contents faults.new.writer) faults.new.has_failed) }
     ensures help { AsksHelp (map S.text words.now) → IsShown result (O.contents output.old.writer)

@@ -106,7 +106,8 @@ pub(crate) fn answer_line<R: rt::Files, I: Read, O: Write>(
 ) -> Result<(), Fault>
     requires { output.old.has_failed ≡ false }
     ensures delivers { IfSome (known_unless (has_files line.entry.files) (I.remaining input.old)) (λ bytes.
-        Delivers (Answers line.entry.asked bytes) result (O.contents output.old.writer) (O.contents output.new.writer)) }
+        Delivers (Answers line.entry.asked bytes) result (O.contents output.old.writer)
+        (O.contents output.new.writer)) }
     ensures failed { output.new.has_failed ≡ is_output result }
 {
     let Line { asked, files } = line;

@@ -50,7 +50,8 @@ pub record AreStarted (v : Story) (threads : List Thread) (actors : List Actor) 
   pub fit : AllFit v threads
 
 pub push_started : (v : Story) (threads new : List Thread) (t : Thread) (actors : List Actor) (n : ℕ) (a : Actor) → n < length actors
-    → a ≡ get_or actors n a → AreStarted v threads actors n → new ≡ threads ++ t ∷ [] → walk t.course ≡ first_walk (part_of a) → t.half ≡ Rest
+    → a ≡ get_or actors n a → AreStarted v threads actors n → new ≡ threads ++ t ∷ []
+    → walk t.course ≡ first_walk (part_of a) → t.half ≡ Rest
     → Fits n t v → AreStarted v new actors (n + 1)
 push_started v threads new t actors n a lt is started more w h fits =
     subst (λ (l : List Thread). AreStarted v l actors (n + 1)) (sym more)

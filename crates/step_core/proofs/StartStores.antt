@@ -1,5 +1,6 @@
 -- At the start each block is in the store of the desk that it is given to.
-use Rattle.std.proofs.Common.{◌≡◌, ◌≢◌, ℕ, zero, suc, ◌+◌, ◌-◌, ◌*◌, ◌/◌, ◌<◌, ◌≤◌, ◌==◌, ◌⊎◌, Bool, false, cond, List, [], ◌∷◌, length, refl}
+use Rattle.std.proofs.Common.{◌≡◌, ◌≢◌, ℕ, zero, suc, ◌+◌, ◌-◌, ◌*◌, ◌/◌, ◌<◌, ◌≤◌, ◌==◌, ◌⊎◌, Bool, false}
+use Rattle.std.proofs.Common.{cond, List, [], ◌∷◌, length, refl}
 use Rattle.std.proofs.Common.{sym, ap, ◌∙◌, inl, inr, ⊎_elim, arith, eq-eqb, ne_eqb}
 use Rattle.std.specs.Prelude.{nat_lt, IfOk, Result, Ok, Err}
 use Rattle.std.proofs.lemmas.Bool.{and_from, cases_eq, cases_lt, cond_both, cond-true, cond-false, le-ltb, lt-ltb}
@@ -54,7 +55,8 @@ not_same : (d b e c : ℕ) → (e ≡ d → c ≡ b → ⊥) → same_stored (st
 not_same d b e c never =
     ⊎_elim (λ (q : d ≡ e). rw (eq-eqb d e q, ne_eqb b c (λ r. never (sym q) (sym r))) refl) (λ (q : d ≢ e). rw (ne_eqb d e q) refl) (cases_eq d e)
 
-stored_not : (h : ℕ → ℕ) (d b n : ℕ) → ((k : ℕ) → k < n → h (suc k) ≡ d → suc k ≡ b → ⊥) → num (same_stored (stored d b)) (all_stored h n) ≡ 0
+stored_not : (h : ℕ → ℕ) (d b n : ℕ) → ((k : ℕ) → k < n → h (suc k) ≡ d → suc k ≡ b → ⊥)
+    → num (same_stored (stored d b)) (all_stored h n) ≡ 0
 stored_not h d b zero never = refl
 stored_not h d b (suc n) never =
     let s = num_cons (same_stored (stored d b)) (stored (h (suc n)) (suc n)) (all_stored h n) in
@@ -149,7 +151,8 @@ here n a d count b lt share some le low high =
     let l : suc d < a = omega arith in let c = share.other l in holder_other (n / a) a b d l low (omega (arith, c)))
     (cases_eq (suc d) a)
 
-away : (n a d count b : ℕ) → d < a → IsShare n a d count → 0 < b → b ≤ n → (b ≤ n / a * d) ⊎ (n / a * d + count < b) → holder (n / a) a b ≢ d
+away : (n a d count b : ℕ) → d < a → IsShare n a d count → 0 < b → b ≤ n → (b ≤ n / a * d) ⊎ (n / a * d + count < b)
+    → holder (n / a) a b ≢ d
 away n a d count b lt share some le out is =
     ⊎_elim
     (λ (e : suc d ≡ a).

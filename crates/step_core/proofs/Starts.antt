@@ -94,12 +94,20 @@ call_ready kinds k (call.Move t s) ts named four r = (
   (name_within kinds (call.Move t s) 0 (owner t) (omega arith) refl named, tt, r),
 )
 call_ready kinds k (call.Alias t s o f) ts named four r = (
-  (name_within kinds (call.Alias t s o f) 1 (owner s) (omega arith) refl named, name_within kinds (call.Alias t s o f) 2 (owner o) (omega arith) refl named, refl),
+  (
+    name_within kinds (call.Alias t s o f) 1 (owner s) (omega arith) refl named,
+    name_within kinds (call.Alias t s o f) 2 (owner o) (omega arith) refl named,
+    refl,
+  ),
   tt,
   (name_within kinds (call.Alias t s o f) 0 (owner t) (omega arith) refl named, tt, r),
 )
 call_ready kinds k (call.AliasNull t s) ts named four r = (
-  (name_within kinds (call.AliasNull t s) 1 (owner s) (omega arith) refl named, name_within kinds (call.AliasNull t s) 1 (owner s) (omega arith) refl named, refl),
+  (
+    name_within kinds (call.AliasNull t s) 1 (owner s) (omega arith) refl named,
+    name_within kinds (call.AliasNull t s) 1 (owner s) (omega arith) refl named,
+    refl,
+  ),
   tt,
   (name_within kinds (call.AliasNull t s) 0 (owner t) (omega arith) refl named, tt, r),
 )
@@ -115,8 +123,16 @@ call_ready kinds k (call.WeakThis t s) ts named four r = (
 )
 call_ready kinds k (call.Read t) ts named four r = (name_within kinds (call.Read t) 0 (owner t) (omega arith) refl named, tt, r)
 call_ready kinds k (call.Place t) ts named four r = (name_within kinds (call.Place t) 0 (owner t) (omega arith) refl named, tt, r)
-call_ready kinds k (call.Same t s) ts named four r = ((name_within kinds (call.Same t s) 0 (owner t) (omega arith) refl named, name_within kinds (call.Same t s) 1 (owner s) (omega arith) refl named), tt, r)
-call_ready kinds k (call.Before t s) ts named four r = ((name_within kinds (call.Before t s) 0 (either t) (omega arith) refl named, name_within kinds (call.Before t s) 1 (either s) (omega arith) refl named), tt, r)
+call_ready kinds k (call.Same t s) ts named four r =
+    ((name_within kinds (call.Same t s) 0 (owner t) (omega arith) refl named, name_within kinds (call.Same t s) 1 (owner s) (omega arith) refl named), tt, r)
+call_ready kinds k (call.Before t s) ts named four r = (
+  (
+    name_within kinds (call.Before t s) 0 (either t) (omega arith) refl named,
+    name_within kinds (call.Before t s) 1 (either s) (omega arith) refl named,
+  ),
+  tt,
+  r,
+)
 call_ready kinds k (call.Copy t s) ts named four r = (
   (name_within kinds (call.Copy t s) 1 (owner s) (omega arith) refl named, refl),
   tt,
@@ -197,7 +213,8 @@ two z t u h i = All-cons (HasTask z) t (u ∷ []) h (one z u i)
 three : (z : Shape) (t u w : Task) → HasCell z t.act → HasCell z u.act → HasCell z w.act → All (HasTask z) (t ∷ u ∷ w ∷ [])
 three z t u w h i j = All-cons (HasTask z) t (u ∷ w ∷ []) h (two z u w i j)
 
-four : (z : Shape) (t u w x : Task) → HasCell z t.act → HasCell z u.act → HasCell z w.act → HasCell z x.act → All (HasTask z) (t ∷ u ∷ w ∷ x ∷ [])
+four : (z : Shape) (t u w x : Task) → HasCell z t.act → HasCell z u.act → HasCell z w.act → HasCell z x.act
+    → All (HasTask z) (t ∷ u ∷ w ∷ x ∷ [])
 four z t u w x h i j k = All-cons (HasTask z) t (u ∷ w ∷ x ∷ []) h (three z u w x i j k)
 
 first_cell : (z : Shape) (c : CellName) → All (IsIn z) (c ∷ []) → IsIn z c

@@ -1,5 +1,6 @@
 -- A step of one thread keeps all of them fitting the table.
-use Rattle.std.proofs.Common.{◌≡◌, ◌≢◌, ◌==◌, false, All, ◌≤◌, ℕ, zero, suc, ◌<◌, List, [], ◌∷◌, length, set, get_or, refl, sym, ap, subst, ◌∙◌, ⊎_elim, arith}
+use Rattle.std.proofs.Common.{◌≡◌, ◌≢◌, ◌==◌, false, All, ◌≤◌, ℕ, zero, suc, ◌<◌, List, [], ◌∷◌, length, set, get_or, refl}
+use Rattle.std.proofs.Common.{sym, ap, subst, ◌∙◌, ⊎_elim, arith}
 use Rattle.std.specs.Prelude.{Option, None, Some, is_some, slice_get, map}
 use Rattle.std.proofs.Math.ListN.{drop_of_length-le}
 use Rattle.std.proofs.lemmas.List.{get_or-map, get_or_past, length-map, map-set}
@@ -82,7 +83,8 @@ fits_deed : (d : ℕ) (u : Thread) (v v' : Story) (n : ℕ) (x : Deed) → n ≢
 fits_deed d u v v' n x ne kept kept' is fits =
     subst (λ (w : Story). Fits d u w) (sym is) (fits_others d u v n x ne kept (subst (λ (w : Story). Kept w) is kept') fits)
 
-fits_by : (d : ℕ) (u : Thread) (v v' : Story) (n : ℕ) (x : Option Step) → n ≢ d → Kept v → Kept v' → v' ≡ story_by v n x → Fits d u v → Fits d u v'
+fits_by : (d : ℕ) (u : Thread) (v v' : Story) (n : ℕ) (x : Option Step) → n ≢ d → Kept v → Kept v' → v' ≡ story_by v n x
+    → Fits d u v → Fits d u v'
 fits_by d u v v' n None ne kept kept' is fits = subst (λ (w : Story). Fits d u w) (sym is) fits
 fits_by d u v v' n (Some x) ne kept kept' is fits = done x.deed is
   where
@@ -227,7 +229,8 @@ none_brought v d i (Empty p) is = none_idle v d i is
 none_brought v d i (Full x) is = none_paying v d i x.kind x.block x.place 256 is
 
 -- what a half owes that is no load
-pub half_owes : (d : ℕ) (h : Half) (slots : Slots) (a : Act) (v : Story) (i : ℕ) → HalfFits d h slots a v → is_loading h ≡ false → owes (pending v d) i ≡ 0
+pub half_owes : (d : ℕ) (h : Half) (slots : Slots) (a : Act) (v : Story) (i : ℕ) → HalfFits d h slots a v → is_loading h ≡ false
+    → owes (pending v d) i ≡ 0
 half_owes d Rest slots a v i fits none = none_idle v d i fits
 half_owes d (Making b at differs) slots a v i fits none = ap (λ (p : Pending Nothing). owes p i) fits.making.making
 half_owes d (Locking word) slots a v i fits none = none_idle v d i fits.0
@@ -259,7 +262,8 @@ others_owe v threads n all many kept e ne quiet i =
     (get_or_past v.views e used_up (let s = kept.seats.size in let m = length-map threads thread_walk in omega (arith, s, le, many, m)))))
     (slice_get_cases threads e).1
 
-pub has_begun : (v : Story) (threads : List Thread) (n : ℕ) (t : Thread) → n < length threads → t ≡ get_or threads n t → Fits n t v → Kept v → AllFit v threads → length (map thread_walk threads) ≡ v.extent.actors
+pub has_begun : (v : Story) (threads : List Thread) (n : ℕ) (t : Thread) → n < length threads → t ≡ get_or threads n t → Fits n t v → Kept v
+    → AllFit v threads → length (map thread_walk threads) ≡ v.extent.actors
     → IsTidy (walk_of (scene (sight v threads)) n) → HasBegun n (sight v threads)
 has_begun v threads n t lt read fits kept all many tidy =
     let h : get_or (map thread_half threads) n Rest ≡ t.half = get_or-map thread_half threads n t Rest lt ∙ ap thread_half (sym read) in

@@ -5,7 +5,8 @@ use Rattle.step_threads.specs.declared.act.Act.TheVariants.{Make, Swap, Exchange
 use Rattle.step_threads.specs.declared.act.Task.{Task}
 use Rattle.step_threads.specs.declared.ending.Ending.{Ending}
 use Rattle.step_threads.specs.declared.half.Half.{Half}
-use Rattle.step_threads.specs.declared.half.Half.TheVariants.{Rest, Making, Locking, Giving, Brought, Saw, Matched, Refill, Returning, Clearing}
+use Rattle.step_threads.specs.declared.half.Half.TheVariants.{Rest, Making, Locking, Giving, Brought, Saw, Matched}
+use Rattle.step_threads.specs.declared.half.Half.TheVariants.{Refill, Returning, Clearing}
 use Rattle.step_table.specs.declared.refill.Stage.{Stage}
 use Rattle.step_table.specs.declared.refill.Stage.TheVariants.{Turning, Checking, Lacking, Refilling, Failing}
 use Rattle.step_threads.specs.declared.thread.Thread.{Thread}
@@ -20,9 +21,9 @@ use Rattle.step_core.specs.Totals.{ended_in, made_in}
 use Rattle.step_core.specs.Worlds.{Sight}
 use Rattle.step_threads.specs.Endings.{ending_steps}
 
--- What a task has for its steps. A make prepares its block, looks at five words and writes them, and claims; and its object
--- may end, which takes 13 steps. A swap brings funds, swaps, and gives funds back. A load takes a fund, turns it, and may put back
--- those that were taken, and so does a compare that differs. Any other act takes two at most
+-- What a task has for its steps. A make prepares its block, looks at five words and writes them, and claims; and its
+-- object may end, which takes 13 steps. A swap brings funds, swaps, and gives funds back. A load takes a fund, turns
+-- it, and may put back those that were taken, and so does a compare that differs. Any other act takes two at most
 abbrev pub weight : Act → ℕ
 weight (Make form) = 28
 weight (Swap c) = 3
@@ -31,9 +32,9 @@ weight (Load c) = 7
 weight (Compare k c weak) = 7
 weight _ = 2
 
--- What a half has to spare, whatever others do: a thread at rest has 15, which what it begins uses up. A lock that is tried
--- keeps them all: where others changed its word it may have to begin again, and so may a cell that is tried. One that was loaded has
--- the steps of its act beside
+-- What a half has to spare, whatever others do: a thread at rest has 15, which what it begins uses up. A lock that is
+-- tried keeps them all: where others changed its word it may have to begin again, and so may a cell that is tried. One
+-- that was loaded has the steps of its act beside
 abbrev pub spare : Half → ℕ
 spare Rest = 15
 spare (Making b i differs) = 2 * (5 - i) + cond differs 1 2
@@ -88,8 +89,8 @@ refill_steps shows Lacking = cond shows 17 21
 refill_steps shows Refilling = cond shows 16 20
 refill_steps shows Failing = 19
 
--- What a half-done act has to spare where its thread runs alone. What was looked at and is still so is done next, and else the act
--- begins again first. A swap and a load take the steps of their funds from their task
+-- What a half-done act has to spare where its thread runs alone. What was looked at and is still so is done next, and
+-- else the act begins again first. A swap and a load take the steps of their funds from their task
 abbrev pub alone : Story → Walk → Half → ℕ
 alone v w Rest = spare Rest
 alone v w (Making b i differs) = spare (Making b i differs)

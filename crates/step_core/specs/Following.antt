@@ -48,8 +48,8 @@ abbrev pub lines_of : List TraceStep → List (ℕ × Said)
 lines_of [] = []
 lines_of (x ∷ xs) = spoken_by (x.actor - 1) (said_by x.stepped) ++ lines_of xs
 
--- These steps lead from u to u', and make some acts: their events come on top of u's history; each thread's are what its
--- statements and its end ask for, act by act, from where it was to where it is; and the steps say what the acts say
+-- These steps lead from u to u', and make some acts: their events come on top of u's history; each thread's are what
+-- its statements and its end ask for, act by act, from where it was to where it is; and the steps say what the acts say
 pub record Follows (u : Sight) (xs : List TraceStep) (u' : Sight) : Type 0 where
   pub doings : List (Doing Nothing)
   pub history : u'.story.history ≡ onto u.story.history doings

@@ -1,5 +1,6 @@
 -- What holds after each step of a run, and of each of its steps.
-use Rattle.std.specs.Prelude.{◌≡◌, ◌≢◌, ◌↔◌, ◌⊎◌, ℕ, ◌+◌, ◌-◌, ◌<◌, ◌≤◌, Bool, true, List, [], ◌∷◌, slice_index, Option, Some, None, MatchOption}
+use Rattle.std.specs.Prelude.{◌≡◌, ◌≢◌, ◌↔◌, ◌⊎◌, ℕ, ◌+◌, ◌-◌, ◌<◌, ◌≤◌}
+use Rattle.std.specs.Prelude.{Bool, true, List, [], ◌∷◌, slice_index, Option, Some, None, MatchOption}
 use Rattle.control_word.specs.declared.event.Event.{Event}
 use Rattle.control_word.specs.declared.event.Event.TheVariants.{Leave, Lock}
 use Rattle.control_word.specs.declared.handle.Handle.{Handle}
@@ -41,7 +42,8 @@ Was e u x u' = u'.story.history ≡ entry (x.actor - 1) e ∷ u.story.history
 -- a lock gave an owner exactly where one remained at its step ([util.smartptr.weak.obs])
 abbrev pub LocksWhereOwned : Sight → TraceStep → Sight → Type 0
 LocksWhereOwned u x u' =
-    (w : Handle) (gave : Bool) → Was (Lock w gave) u x u' → (gave ≡ true) ↔ (0 < count (state u.story) (object_of w))
+    (w : Handle) (gave : Bool) → Was (Lock w gave) u x u'
+    → (gave ≡ true) ↔ (0 < count (state u.story) (object_of w))
 
 -- each object's value came out at most once, and exactly when the object is no longer live
 -- ([util.smartptr.shared.dest])

@@ -1,5 +1,6 @@
 -- Runs of a world: steps of any actors, one after another. All of it is own.
-use Rattle.std.specs.Prelude.{◌≡◌, ◌≢◌, ℕ, zero, suc, ◌+◌, ◌-◌, ◌<◌, ◌≤◌, Bool, true, false, List, [], ◌∷◌, ◌++◌, All, length, map, slice_index}
+use Rattle.std.specs.Prelude.{◌≡◌, ◌≢◌, ℕ, zero, suc, ◌+◌, ◌-◌, ◌<◌, ◌≤◌, Bool, true}
+use Rattle.std.specs.Prelude.{false, List, [], ◌∷◌, ◌++◌, All, length, map, slice_index}
 use Rattle.control_word.specs.declared.refusal.Refusal.{Refusal}
 use Rattle.control_word.specs.declared.refusal.Refusal.TheVariants as refusal
 use Rattle.control_word.specs.declared.view.Pending.{Pending}
@@ -87,7 +88,8 @@ pub record Settles (d : ℕ) (u : Sight) (xs : List TraceStep) (u' : Sight) : Ty
   pub none : is_owing (half_of u d) ≡ false → (xs ≡ []) × (u' ≡ u)
 
 -- the first n threads ran, in number order, each in this way
-abbrev pub InOrder : (ℕ → Sight → List TraceStep → Sight → Type 0) → ℕ → Sight → List TraceStep → Sight → Type 0
+abbrev pub InOrder : (ℕ → Sight → List TraceStep → Sight → Type 0) → ℕ → Sight
+    → List TraceStep → Sight → Type 0
 InOrder R zero u xs u' = (xs ≡ []) × (u' ≡ u)
 InOrder R (suc n) u xs u' =
     (before : List TraceStep) × (mine : List TraceStep) × (m : Sight)

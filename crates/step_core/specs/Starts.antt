@@ -13,8 +13,8 @@ use Rattle.step_threads.specs.Programs.{AllHaveCells, IsProgram, Part}
 use Rattle.step_core.specs.Worlds.{Sight}
 use Rattle.step_table.specs.Stories.{Story}
 
--- a world of this shape may run the program: both are within the limits, with 40 handles or more for each actor, and the shape
--- has the cells of all calls
+-- a world of this shape may run the program: both are within the limits, with 40 handles or more for each actor, and
+-- the shape has the cells of all calls
 pub record CanBegin (shape : Shape) (parts : List Part) : Type 0 where
   pub limits : IsWithinLimits shape
   pub program : IsProgram parts
@@ -31,7 +31,11 @@ first_story x = record { extent = x; words = replicate (table_size x.shape) 0; v
 -- nothing has happened and nothing has begun
 abbrev pub first_sight : Shape → List Part → Sight
 first_sight shape parts =
-    record { story = first_story (extent_of shape parts); walks = map first_walk parts; halves = map {B = Half} (λ (part : Part). Rest) parts }
+    record {
+      story = first_story (extent_of shape parts);
+      walks = map first_walk parts;
+      halves = map {B = Half} (λ (part : Part). Rest) parts;
+    }
 
 -- an object has four fields
 abbrev pub HasFields : Call → Type 0

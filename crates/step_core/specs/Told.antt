@@ -1,11 +1,13 @@
 -- What a world keeps beside its threads, so that it can tell its totals and its census. All of it is own.
-use Rattle.std.specs.Prelude.{◌≡◌, ◌⊎◌, ℕ, ◌+◌, ◌*◌, ◌<◌, ◌≤◌, ◌==◌, Bool, true, false, cond, List, [], ◌∷◌, length, map, is_some}
+use Rattle.std.specs.Prelude.{◌≡◌, ◌⊎◌, ℕ, ◌+◌, ◌*◌, ◌<◌, ◌≤◌, ◌==◌, Bool, true}
+use Rattle.std.specs.Prelude.{false, cond, List, [], ◌∷◌, length, map, is_some}
 use Rattle.control_word.specs.State.{State, ending}
 use Rattle.step_threads.specs.declared.act.Act.TheVariants.{Clear}
 use Rattle.step_threads.specs.declared.act.Task.{Task}
 use Rattle.step_threads.specs.declared.ending.Ending.{Ending}
 use Rattle.step_threads.specs.declared.half.Half.{Half}
-use Rattle.step_threads.specs.declared.half.Half.TheVariants.{Rest, Making, Locking, Giving, Brought, Saw, Matched, Refill, Returning, Clearing}
+use Rattle.step_threads.specs.declared.half.Half.TheVariants.{Rest, Making, Locking, Giving, Brought, Saw, Matched}
+use Rattle.step_threads.specs.declared.half.Half.TheVariants.{Refill, Returning, Clearing}
 use Rattle.step_threads.specs.declared.said.Stepped.{Stepped}
 use Rattle.step_threads.specs.declared.said.Stepped.TheVariants.{Event, Quiet, Waited, Done}
 use Rattle.step_threads.specs.declared.thread.Thread.{Thread}
@@ -34,7 +36,8 @@ Leaves i (t ∷ ts) = (t.act ≡ Clear i) ⊎ Leaves i ts
 -- each task leaves a name at the thread's end, or has tasks behind it that leave all n names
 abbrev pub LeavesAll : ℕ → List Task → Type 0
 LeavesAll n [] = Unit {0}
-LeavesAll n (t ∷ ts) = (((j : ℕ) × (t.act ≡ Clear j)) ⊎ ((i : ℕ) → i < n → Leaves i ts)) × LeavesAll n ts
+LeavesAll n (t ∷ ts) =
+    (((j : ℕ) × (t.act ≡ Clear j)) ⊎ ((i : ℕ) → i < n → Leaves i ts)) × LeavesAll n ts
 
 -- each name that holds something is left by a task to come
 pub record IsTidy (w : Walk) : Type 0 where

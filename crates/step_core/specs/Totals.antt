@@ -1,5 +1,6 @@
 -- What a world tells of its state.
-use Rattle.std.specs.Prelude.{◌≡◌, ℕ, ◌-◌, Bool, true, false, cond, List, [], All, length, ◌==◌, Option, Some, None}
+use Rattle.std.specs.Prelude.{◌≡◌, ℕ, ◌-◌, Bool, true, false, cond, List, [], All, length, ◌==◌, Option}
+use Rattle.std.specs.Prelude.{Some, None}
 use Rattle.std.specs.List.{filter}
 use Rattle.control_word.specs.declared.counts.Counts.{Counts}
 use Rattle.control_word.specs.declared.event.Entry.{Entry}
@@ -29,11 +30,13 @@ ended_in h = length (filter (λ (e : Entry Nothing). is_last e.event) h)
 
 -- the owners and weak handles of what is in a block; none where it is vacant ([util.smartptr.shared.obs], and own)
 abbrev pub census_of : State → ℕ → Option Counts
-census_of s b = let o = s.latest b in cond (weak_number s o == 0) None (Some (record { owners = count s o; weaks = weak s o }))
+census_of s b = let o = s.latest b in
+    cond (weak_number s o == 0) None (Some (record { owners = count s o; weaks = weak s o }))
 
 -- what a block's two numbers say: its owners have one weak handle in common (own)
 abbrev pub counts_in : ℕ → ℕ → Option Counts
-counts_in owners number = cond (number == 0) None (Some (record { owners = owners; weaks = number - cond (owners == 0) 0 1 }))
+counts_in owners number =
+    cond (number == 0) None (Some (record { owners = owners; weaks = number - cond (owners == 0) 0 1 }))
 
 -- each thread has made its last act and ended its last object
 pub record IsAtEnd (u : Sight) : Type 0 where

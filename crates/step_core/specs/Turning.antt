@@ -1,10 +1,12 @@
 -- The parts of a turn. All of it is own.
-use Rattle.std.specs.Prelude.{◌≡◌, ◌≢◌, ℕ, ◌<◌, ◌≤◌, Bool, true, false, not, ◌&&◌, ◌||◌, List, [], ◌∷◌, length, slice_set, is_some, Option, Some, None}
+use Rattle.std.specs.Prelude.{◌≡◌, ◌≢◌, ℕ, ◌<◌, ◌≤◌, Bool, true, false, not, ◌&&◌, ◌||◌}
+use Rattle.std.specs.Prelude.{List, [], ◌∷◌, length, slice_set, is_some, Option, Some, None}
 use Rattle.step_threads.specs.declared.act.Act.TheVariants.{Make, FromThis}
 use Rattle.step_threads.specs.declared.act.Task.{Task}
 use Rattle.step_threads.specs.declared.ending.Ending.{Ending}
 use Rattle.step_threads.specs.declared.half.Half.{Half}
-use Rattle.step_threads.specs.declared.half.Half.TheVariants.{Rest, Making, Locking, Giving, Brought, Saw, Matched, Refill, Returning, Clearing}
+use Rattle.step_threads.specs.declared.half.Half.TheVariants.{Rest, Making, Locking, Giving, Brought, Saw, Matched}
+use Rattle.step_threads.specs.declared.half.Half.TheVariants.{Refill, Returning, Clearing}
 use Rattle.step_threads.specs.declared.said.Said.{Said}
 use Rattle.step_threads.specs.declared.said.Stepped.{Stepped}
 use Rattle.step_threads.specs.declared.said.Stepped.TheVariants as stepped
@@ -33,7 +35,8 @@ use Rattle.step_core.specs.Worlds.{Sight, TellsAll, half_of, is_loading, scene}
 abbrev pub IsUnderWay : ℕ → Story → Half → List Task → Type 0
 IsUnderWay d v Rest ts = Unit {0}
 IsUnderWay d v (Making b i differs) [] = ⊥
-IsUnderWay d v (Making b i differs) (t ∷ ts) = (i ≤ 5) × (least d (state v).stores ≡ Some b.0) × (t.act ≡ Make (form_of t.act))
+IsUnderWay d v (Making b i differs) (t ∷ ts) = (i ≤ 5) × (least d (state v).stores ≡ Some b.0)
+    × (t.act ≡ Make (form_of t.act))
 IsUnderWay d v (Locking word) ts = Unit {0}
 IsUnderWay d v (Giving i kind x) [] = ⊥
 IsUnderWay d v (Giving i kind x) (t ∷ ts) = (t.act ≡ FromThis i kind) × (is_enabled (state v) x ≡ true)
@@ -113,7 +116,8 @@ IsOut d v _ = Unit {0}
 
 -- what another thread has half done is a load only where its half says so
 abbrev pub OthersOwe : ℕ → Sight → Type 0
-OthersOwe d u = (e : ℕ) → e ≢ d → is_loading (half_of u e) ≡ false → (i : ℕ) → owes (pending u.story e) i ≡ 0
+OthersOwe d u = (e : ℕ) → e ≢ d → is_loading (half_of u e) ≡ false → (i : ℕ)
+    → owes (pending u.story e) i ≡ 0
 
 -- between two steps of thread d
 pub record HasBegun (d : ℕ) (u : Sight) : Type 0 where
@@ -136,7 +140,8 @@ pub record HasBegun (d : ℕ) (u : Sight) : Type 0 where
 
 -- the thread's endings go on by themselves: what came out of a member isn't in hand
 abbrev pub is_ending : Sight → ℕ → Bool
-is_ending u d = let w = walk_of (scene u) d in is_some (first_of w.endings) && not (is_full (slot w.slots (hand w.slots)))
+is_ending u d = let w = walk_of (scene u) d in is_some (first_of w.endings)
+    && not (is_full (slot w.slots (hand w.slots)))
 
 abbrev pub is_refilling : Half → Bool
 is_refilling (Refill stage c x k) = true
@@ -151,7 +156,8 @@ abbrev pub is_clearing : Half → Bool
 is_clearing Clearing = true
 is_clearing _ = false
 
--- the rest of an act goes on by itself: funds are given back, a fund is turned and others are put back, or an object ends
+-- the rest of an act goes on by itself: funds are given back, a fund is turned and others are put back, or an object
+-- ends
 abbrev pub has_rest : Sight → ℕ → Bool
 has_rest u d = is_returning (half_of u d) || is_refilling (half_of u d) || is_clearing (half_of u d) || is_ending u d
 

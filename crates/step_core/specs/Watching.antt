@@ -1,5 +1,6 @@
 -- How many funds of a cell may be taken. All of it is own.
-use Rattle.std.specs.Prelude.{ℕ, ◌+◌, ◌/◌, ◌%◌, ◌<◌, ◌≤◌, ◌==◌, ◌&&◌, Bool, false, List, length}
+use Rattle.std.specs.Prelude.{ℕ, ◌+◌, ◌/◌, ◌%◌, ◌<◌, ◌≤◌, ◌==◌, ◌&&◌, Bool, false, List}
+use Rattle.std.specs.Prelude.{length}
 use Rattle.std.specs.List.{filter}
 use Rattle.control_word.specs.Packing.{cell_bits}
 use Rattle.control_word.specs.declared.shape.Shape.{Shape}
@@ -16,9 +17,11 @@ use Rattle.step_table.specs.Stories.{Story}
 abbrev pub content : ℕ → ℕ
 content word = word % 17179869184
 
--- the thread has many funds to put back into the cell whose word lies there, and the word tells the value that they are of
+-- the thread has many funds to put back into the cell whose word lies there, and the word tells the value that they are
+-- of
 abbrev pub is_watching : ℕ → ℕ → ℕ → Half → Bool
-is_watching blocks place word (Refill stage c x k) = word_of blocks c == place && is_low x && content (cell_bits x) == content word
+is_watching blocks place word (Refill stage c x k) = word_of blocks c == place && is_low x
+    && content (cell_bits x) == content word
 is_watching blocks place word _ = false
 
 abbrev pub watchers : ℕ → ℕ → ℕ → List Half → ℕ
@@ -33,4 +36,5 @@ IsCellOf z (Member b m) = (0 < b.0) × (b.0 ≤ z.blocks) × (m < 3)
 abbrev pub IsWatched : Story → List Half → Type 0
 IsWatched v halves =
     let z = v.extent.shape in
-    (c : Cell) → IsCellOf z c → word_at v c / 17179869184 ≤ 127 + watchers z.blocks (word_of z.blocks c) (word_at v c) halves
+    (c : Cell) → IsCellOf z c → word_at v c / 17179869184 ≤ 127 + watchers z.blocks
+    (word_of z.blocks c) (word_at v c) halves

@@ -1,6 +1,7 @@
 -- What steps and turns of a thread do to a world, by the table. All of it is own.
 pub use Rattle.step_core.specs.Sights.{IsAsLarge, Sight, half_of, scene}
-use Rattle.std.specs.Prelude.{◌≡◌, ◌≢◌, ℕ, Bool, true, false, List, [], ◌∷◌, slice_get, slice_set, Option, Some, None}
+use Rattle.std.specs.Prelude.{◌≡◌, ◌≢◌, ℕ, Bool, true, false, List, [], ◌∷◌, slice_get, slice_set}
+use Rattle.std.specs.Prelude.{Option, Some, None}
 use Rattle.step_threads.specs.declared.half.Half.{Half}
 use Rattle.step_threads.specs.declared.half.Half.TheVariants.{Rest, Refill}
 use Rattle.step_table.specs.declared.refill.Stage.TheVariants.{Turning}
@@ -91,4 +92,5 @@ Turns d u (Acted x) u' =
     × (u'.halves ≡ slice_set u.halves d Rest)
 Turns d u Waited u' = ⊥
 Turns d u Done u' =
-    let c = rested d (scene u) in (next (walk_of c d) ≡ None) × (scene u' ≡ c) × (u'.halves ≡ slice_set u.halves d Rest)
+    let c = rested d (scene u) in (next (walk_of c d) ≡ None) × (scene u' ≡ c)
+    × (u'.halves ≡ slice_set u.halves d Rest)

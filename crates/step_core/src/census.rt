@@ -13,9 +13,9 @@ use control_word::{Block, Counts};
 use step_table::cell_deed::Cell;
 
 impl World {
-    /// How many owners and weak handles the object in a block has ([util.smartptr.shared.obs], and own); none where the block
-    /// is vacant. The weak handle that its owners have in common is not counted. Conditions: each actor is at its end, and
-    /// the block is one of the shape's, from 1.
+    /// How many owners and weak handles the object in a block has ([util.smartptr.shared.obs], and own); none where the
+    /// block is vacant. The weak handle that its owners have in common is not counted. Conditions: each actor is at its
+    /// end, and the block is one of the shape's, from 1.
     pub fn census(&self, block: Block) -> Option<Counts>
         requires end { IsAtEnd self.now }
         requires some { 0 < block.0 }
@@ -30,8 +30,8 @@ impl World {
         )
     }
 
-    /// The block of the object that the handle in a cell is on; none where it is on none (own). Condition: the cell is free, or
-    /// a member of what is in a block that isn't vacant.
+    /// The block of the object that the handle in a cell is on; none where it is on none (own). Condition: the cell is
+    /// free, or a member of what is in a block that isn't vacant.
     pub fn target(&self, cell: Cell) -> Option<Block>
         requires { IsThere self.now.story cell }
         ensures target { result ≡ target_of (state self.now.story) cell }

@@ -1,6 +1,9 @@
 //! Which programs a world may run.
-ghost use Rattle.std.specs.Prelude.{◌≡◌, ◌↔◌, ◌&&◌, ◌≤◌, ◌∷◌, ◌++◌, Some, None, All, IsTrue, map};
-ghost use Rattle.step_threads.specs.Programs.{AllHaveCells, HasCells, IsApart, IsDeclared, IsIn, IsPart, IsProgram, IsWellNamed, as_in, call_count, listed, names_of, owner, part_of, through, weak};
+ghost use Rattle.std.specs.Prelude.{◌≡◌, ◌↔◌, ◌&&◌, ◌≤◌, ◌∷◌, ◌++◌, Some, None, All};
+ghost use Rattle.std.specs.Prelude.{IsTrue, map};
+ghost use Rattle.step_threads.specs.Programs.{AllHaveCells, HasCells, IsApart, IsDeclared, IsIn, IsPart, IsProgram};
+ghost use Rattle.step_threads.specs.Programs.{IsWellNamed, as_in, call_count, listed, names_of, owner, part_of};
+ghost use Rattle.step_threads.specs.Programs.{through, weak};
 ghost use Rattle.step_core.specs.Starts.{AllHaveFields, CanBegin, HasFields};
 
 use control_word::Shape;

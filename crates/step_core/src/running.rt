@@ -1,10 +1,15 @@
-//! Runs: one step for each number of a list; then each actor finishes a call that owes funds, and then runs alone to its end.
-ghost use Rattle.std.specs.Prelude.{◌≡◌, ◌≢◌, ◌+◌, ◌-◌, ◌*◌, ◌<◌, ◌≤◌, ◌∷◌, ◌++◌, ℕ, [], All, IfErr, IfOk, MatchOption, length, map, slice_get, sum_by, vec_capacity, vec_len};
+//! Runs: one step for each number of a list; then each actor finishes a call that owes funds, and then runs alone to
+//! its end.
+ghost use Rattle.std.specs.Prelude.{◌≡◌, ◌≢◌, ◌+◌, ◌-◌, ◌*◌, ◌<◌, ◌≤◌, ◌∷◌};
+ghost use Rattle.std.specs.Prelude.{◌++◌, ℕ, [], All, IfErr, IfOk, MatchOption, length, map, slice_get, sum_by};
+ghost use Rattle.std.specs.Prelude.{vec_capacity, vec_len};
 ghost use Rattle.step_core.specs.Bounds.{most_steps, steps_of, task_steps, weight};
 ghost use Rattle.step_core.specs.Chains.{Through};
 ghost use Rattle.step_core.specs.Following.{Follows};
 ghost use Rattle.step_core.specs.Headline.{AfterEach, AllAtRest, OfEach};
-ghost use Rattle.step_core.specs.Runs.{Adds, FinishesCall, IsFirstBad, IsRefusedFor, IsRun, IsScheduled, Moves, Names, RunInOrder, RunsToEnd, SettleInOrder, Settles, compares_next, is_calling, is_compare, is_out, is_owing};
+ghost use Rattle.step_core.specs.Runs.{Adds, FinishesCall, IsFirstBad, IsRefusedFor, IsRun, IsScheduled, Moves, Names};
+ghost use Rattle.step_core.specs.Runs.{RunInOrder, RunsToEnd, SettleInOrder, Settles, compares_next, is_calling};
+ghost use Rattle.step_core.specs.Runs.{is_compare, is_out, is_owing};
 ghost use Rattle.step_table.specs.Stories.{Kept};
 ghost use Rattle.step_core.specs.Totals.{IsAtEnd};
 ghost use Rattle.step_core.specs.Sights.{IsAsLarge, half_of};
@@ -21,14 +26,14 @@ use step_threads::said::Stepped;
 use step_threads::thread::Thread;
 
 impl World {
-    /// Runs the world to its end: one step for each number; then each actor that has a load under way, or funds that it brought or is
-    /// to give back, finishes that call, in number order, so that no call owes anything; and then each runs alone to its end, in
-    /// number order. The trace has all
-    /// these steps in order; a number for an actor at its end is a step, `Done`, and no other step of the trace is. None waits. All
-    /// memory is asked for before the first step.
+    /// Runs the world to its end: one step for each number; then each actor that has a load under way, or funds that it
+    /// brought or is to give back, finishes that call, in number order, so that no call owes anything; and then each
+    /// runs alone to its end, in number order. The trace has all
+    /// these steps in order; a number for an actor at its end is a step, `Done`, and no other step of the trace is.
+    /// None waits. All memory is asked for before the first step.
     ///
-    /// Refused `BadTurn` just where some number names no actor, with the position of the first one, from 1. Refused `Memory`
-    /// where a growth was really refused. The world is then as it was (own).
+    /// Refused `BadTurn` just where some number names no actor, with the position of the first one, from 1. Refused
+    /// `Memory` where a growth was really refused. The world is then as it was (own).
     pub fn run(&mut self, alloc: Global, turns: &[u8]) -> Result<Trace, RunRefusal>
         ensures named { IfOk result (λ t. All (Names (length self.old.walks)) turns.now) }
         ensures refused { IfErr result (λ why. IsRefusedFor (length self.old.walks) turns.now why) }
@@ -87,7 +92,8 @@ impl World {
         }
     }
 
-    /// Each actor that has a load under way, or funds that it brought or is to give back, finishes that call, in number order.
+    /// Each actor that has a load under way, or funds that it brought or is to give back, finishes that call, in number
+    /// order.
     fn settle(&mut self, steps: &mut Vec<TraceStep>)
         requires room { vec_len steps.old + most_steps self.old + 6 * length self.old.walks ≤ vec_capacity steps.old }
         ensures adds { Adds (SettleInOrder (length self.old.walks)) self.old steps.old.items self.new steps.new.items }
@@ -142,7 +148,8 @@ impl World {
         }
     }
 
-    /// Whether an actor's call, which owed funds, isn't done: it has begun something, or is a compare that begins again.
+    /// Whether an actor's call, which owed funds, isn't done: it has begun something, or is a compare that begins
+    /// again.
     fn is_calling(&self, number: usize) -> bool
         requires { number < length self.now.walks }
         ensures { result ≡ is_calling self.now number }
@@ -215,7 +222,8 @@ fn is_compare(act: Act) -> bool
 
 /// The steps that threads' tasks and endings have left.
 fn steps_left(threads: &[Thread]) -> usize
-    requires within { (d : ℕ) (t : Thread) → slice_get threads.now d ≡ Some t → t.course.at ≤ length t.course.tasks.items }
+    requires within { (d : ℕ) (t : Thread) → slice_get threads.now d ≡ Some t
+        → t.course.at ≤ length t.course.tasks.items }
     requires few { sum_by steps_of threads.now ≤ 2000000 }
     ensures { result ≡ sum_by steps_of threads.now }
 {

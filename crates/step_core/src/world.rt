@@ -3,7 +3,8 @@ ghost use Rattle.std.specs.Prelude.{◌≡◌, ◌≢◌, ◌<◌, ◌≤◌, �
 ghost use Rattle.step_core.specs.Sights.{AllHold, IsAsLarge, Takes, half_of, is_event};
 ghost use Rattle.step_core.specs.Following.{Performs};
 ghost use Rattle.step_table.specs.Stories.{Kept};
-ghost use Rattle.step_core.specs.Turning.{HasBegun, Plays, Rests, has_rest, is_acting, is_clearing, is_ending, is_refilling, is_returning, turned_by};
+ghost use Rattle.step_core.specs.Turning.{HasBegun, Plays, Rests, has_rest, is_acting, is_clearing, is_ending};
+ghost use Rattle.step_core.specs.Turning.{is_refilling, is_returning, turned_by};
 ghost use Rattle.step_core.specs.Worlds.{Advances, GoesTo, Steps, Turns};
 
 use crate::told::{ends, makes};
@@ -32,19 +33,23 @@ impl Model for World {
 
     ghost Value = { Sight };
 
-    ghost view = { λ w. record { story = w.table; walks = map thread_walk w.threads.items; halves = map thread_half w.threads.items } };
+    ghost view = { λ w. record {
+      story = w.table;
+      walks = map thread_walk w.threads.items;
+      halves = map thread_half w.threads.items;
+    } };
 
     ghost invariant = { λ w. AllFit w.table w.threads.items × IsTold (sight w.table w.threads.items) w.made w.ended };
 }
 
 impl World {
-    /// One step of an actor: one atomic step on one word, or one act that touches none. It answers `Event` just where the
-    /// step is an event, which is then one more in the history, with what that says; no other step changes the history. It
-    /// answers `Done` just at the actor's end, and then nothing changes. The step is the actor's next act, or on the way of it: by what the
-    /// act was replied follows what the actor has then, says, and does next. After it what each actor's slots hold is just what the
-    /// history says. It would answer `Waited` just where all 256 funds of
-    /// a cell's value were taken, which so few actors never leave: each that finds half of them taken puts them back. Condition: the
-    /// actor is one of the world's, from 1 (own).
+    /// One step of an actor: one atomic step on one word, or one act that touches none. It answers `Event` just where
+    /// the step is an event, which is then one more in the history, with what that says; no other step changes the
+    /// history. It answers `Done` just at the actor's end, and then nothing changes. The step is the actor's next act,
+    /// or on the way of it: by what the act was replied follows what the actor has then, says, and does next. After it
+    /// what each actor's slots hold is just what the history says. It would answer `Waited` just where all 256 funds of
+    /// a cell's value were taken, which so few actors never leave: each that finds half of them taken puts them back.
+    /// Condition: the actor is one of the world's, from 1 (own).
     pub fn step(&mut self, actor: u8) -> Stepped
         requires some { 0 < actor }
         requires within { actor ≤ length self.old.walks }
@@ -59,11 +64,11 @@ impl World {
         self.advance(usize::from(actor) - 1)
     }
 
-    /// One act of an actor, with all of its steps: first the rest of what its last step began, and at the end what its last
-    /// owner's leave, its swap or its load began, so that no load is left under way, no funds are out, and an object's end has come to
-    /// its last step, or to a member's pointer, whose leave is the actor's next act. It answers what the act says, and `Done` just at
-    /// the actor's end, but never `Waited`. A count leaves out at most the loads that other actors have under way. Condition: the
-    /// actor is one of the world's, from 1 (own).
+    /// One act of an actor, with all of its steps: first the rest of what its last step began, and at the end what its
+    /// last owner's leave, its swap or its load began, so that no load is left under way, no funds are out, and an
+    /// object's end has come to its last step, or to a member's pointer, whose leave is the actor's next act. It
+    /// answers what the act says, and `Done` just at the actor's end, but never `Waited`. A count leaves out at most
+    /// the loads that other actors have under way. Condition: the actor is one of the world's, from 1 (own).
     pub fn turn(&mut self, actor: u8) -> Turned
         requires some { 0 < actor }
         requires within { actor ≤ length self.old.walks }
@@ -112,8 +117,8 @@ impl World {
         turned(stepped)
     }
 
-    /// The rest of an act that is under way, through its event. Nobody steps between, so what is looked at again is as it was
-    /// left, and the act is made.
+    /// The rest of an act that is under way, through its event. Nobody steps between, so what is looked at again is as
+    /// it was left, and the act is made.
     fn go_on(&mut self, number: usize) -> Turned
         requires within { number < length self.old.walks }
         requires acting { is_acting (half_of self.old number) ≡ true }

@@ -1,5 +1,6 @@
 -- Lists of words in pages.
-use Rattle.std.proofs.Common.{◌≡◌, ◌≢◌, ℕ, zero, suc, ◌*◌, ◌/◌, ◌%◌, ◌<◌, ◌≤◌, List, [], ◌∷◌, length, set, get_or, replicate, refl, sym, ap, subst, ◌∙◌, ⊎_elim, inl, arith}
+use Rattle.std.proofs.Common.{◌≡◌, ◌≢◌, ℕ, zero, suc, ◌*◌, ◌/◌, ◌%◌, ◌<◌, ◌≤◌, List, [], ◌∷◌, length, set, get_or}
+use Rattle.std.proofs.Common.{replicate, refl, sym, ap, subst, ◌∙◌, ⊎_elim, inl, arith}
 use Rattle.std.proofs.Common.{length-set, get_or-set_same, get_or-set_other}
 use Rattle.std.proofs.lemmas.Bool.{cases_eq}
 use Rattle.std.proofs.lemmas.Grind.{same_number_lists}
@@ -22,7 +23,8 @@ words_none n pages none =
     same_number_lists _ _ (words_long n pages ∙ sym (length-replicate n 0))
     (λ k lt.
     let l = words_long n pages in
-    words_at n pages k (omega (arith, l)) ∙ ap (λ (p : List ℕ). get_or p (k % 8192) 0) (none (k / 8192)) ∙ sym (get_or-replicate n k 0 0 (omega (arith, l))))
+    words_at n pages k (omega (arith, l)) ∙ ap (λ (p : List ℕ). get_or p (k % 8192) 0) (none (k / 8192)) ∙ sym
+    (get_or-replicate n k 0 0 (omega (arith, l))))
 
 -- a word was written
 pub words_set : (n : ℕ) (pages : List (List ℕ)) (i x : ℕ) (page : List ℕ) → i < n → n ≤ 8192 * length pages → length page ≡ 8192
@@ -64,7 +66,8 @@ short (x ∷ xs) k e = absurd (omega (arith, e))
 
 module _ {Z : Type 0} where
   -- the page that the code reads
-  pub page_at : (pages : List (Vec ℕ Z)) (j : ℕ) (p : Vec ℕ Z) → j < length pages → p ≡ get_or pages j p → get_or (contents pages) j [] ≡ p.items
+  pub page_at : (pages : List (Vec ℕ Z)) (j : ℕ) (p : Vec ℕ Z) → j < length pages → p ≡ get_or pages j p
+      → get_or (contents pages) j [] ≡ p.items
   page_at [] j p lt is = absurd (omega arith)
   page_at (x ∷ xs) zero p lt is = ap (λ (q : Vec ℕ Z). q.items) (sym is)
   page_at (x ∷ xs) (suc j) p lt is = page_at xs j p (omega arith) is
@@ -82,7 +85,8 @@ module _ {Z : Type 0} where
       (omega (arith, l, m, lt), omega (arith, l, m, lt, e))
 
   -- a word by its page
-  pub read : (pages : List (Vec ℕ Z)) (n i : ℕ) (words : List ℕ) (p : Vec ℕ Z) → AreApt n pages → words_in n (contents pages) ≡ words → i < length words
+  pub read : (pages : List (Vec ℕ Z)) (n i : ℕ) (words : List ℕ) (p : Vec ℕ Z) → AreApt n pages
+      → words_in n (contents pages) ≡ words → i < length words
       → p ≡ get_or pages (i / 8192) p → get_or p.items (i % 8192) 0 ≡ get_or words i 0
   read pages n i words p apt is lt at =
       let t = page_there pages n i words apt is lt in
@@ -104,7 +108,8 @@ module _ {Z : Type 0} where
       one ∙ get_or_default_zero p.items (i % 8192) x (omega (arith, full)) ∙ read pages n i words p apt is lt at
 
   -- the words after a write
-  pub written : (pages : List (Vec ℕ Z)) (n i x : ℕ) (words : List ℕ) (was page new : Vec ℕ Z) → AreApt n pages → words_in n (contents pages) ≡ words
+  pub written : (pages : List (Vec ℕ Z)) (n i x : ℕ) (words : List ℕ) (was page new : Vec ℕ Z) → AreApt n pages
+      → words_in n (contents pages) ≡ words
       → i < length words → was ≡ get_or pages (i / 8192) was → length page.items ≡ 8192
       → ((k : ℕ) → get_or page.items k 0 ≡ get_or was.items k 0) → new.items ≡ set page.items (i % 8192) x
       → words_in n (contents (set pages (i / 8192) new)) ≡ set words i x

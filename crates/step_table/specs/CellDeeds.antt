@@ -1,5 +1,6 @@
 -- What steps on cells and on funds do. All of it is own but the events, which name their sections.
-use Rattle.std.specs.Prelude.{ℕ, ◌+◌, ◌-◌, ◌*◌, true, false, List, slice_index, slice_set, Option, Some, None}
+use Rattle.std.specs.Prelude.{ℕ, ◌+◌, ◌-◌, ◌*◌, true, false, List, slice_index, slice_set, Option, Some}
+use Rattle.std.specs.Prelude.{None}
 use Rattle.control_word.specs.declared.cell.CellWord.{CellWord}
 use Rattle.control_word.specs.declared.event.Cell.{Cell as Named}
 use Rattle.control_word.specs.declared.event.Cell.TheVariants as named
@@ -20,7 +21,8 @@ use Rattle.control_word.specs.Words.{slot}
 use Rattle.step_table.specs.declared.cell_deed.Cell.{Cell}
 use Rattle.step_table.specs.declared.cell_deed.Cell.TheVariants.{Free, Member}
 use Rattle.step_table.specs.declared.cell_deed.CellDeed.{CellDeed}
-use Rattle.step_table.specs.declared.cell_deed.CellDeed.TheVariants.{Look, Bring, GiveBack, Take, Turn, Refill, Swap, CompareSwap, TakeOut}
+use Rattle.step_table.specs.declared.cell_deed.CellDeed.TheVariants.{Look, Bring, GiveBack, Take, Turn, Refill, Swap}
+use Rattle.step_table.specs.declared.cell_deed.CellDeed.TheVariants.{CompareSwap, TakeOut}
 use Rattle.step_table.specs.declared.cell_deed.Compared.{Compared}
 
 -- the cell as histories name it: a member by its object
@@ -58,7 +60,8 @@ module _ {V : Type 0} where
   -- what a cell held was loaded, or compared and found to differ
   abbrev pub looked : State → Cell → CellWord → Option Compared → Event V
   looked s c x None = event.Load (cell_in s c) (handle_told s c x)
-  looked s c x (Some y) = event.Compare (cell_in s c) (handle_told s c y.expected) (handle_told s c y.new) (handle_told s c x) false y.weak
+  looked s c x (Some y) = event.Compare (cell_in s c) (handle_told s c y.expected) (handle_told s c y.new)
+      (handle_told s c x) false y.weak
 
   -- the event of a step; funds and refills are none
   abbrev pub cell_event : State → CellDeed → Option (Event V)
@@ -70,7 +73,8 @@ module _ {V : Type 0} where
   cell_event s (Refill c t) = None
   cell_event s (Swap c new x) = Some (event.Swap (cell_in s c) (handle_told s c new) (handle_told s c x))
   cell_event s (CompareSwap c x y) =
-      Some (event.Compare (cell_in s c) (handle_told s c y.expected) (handle_told s c y.new) (handle_told s c x) true y.weak)
+      Some (event.Compare (cell_in s c) (handle_told s c y.expected) (handle_told s c y.new)
+      (handle_told s c x) true y.weak)
   cell_event s (TakeOut b m x) = Some (event.ClearMember (s.latest b.0) m (handle_as s (kind_of_member m) x))
 
   -- what is half done after it: the funds that are out
@@ -88,8 +92,10 @@ module _ {V : Type 0} where
 -- the words after it, in a table of so many blocks
 abbrev pub cell_words : ℕ → List ℕ → CellDeed → List ℕ
 cell_words blocks w (Look c x y) = w
-cell_words blocks w (Bring k b p f) = slice_set w (spot b.0 (slot k)) (slice_index w (spot b.0 (slot k)) + 4294967296 * f)
-cell_words blocks w (GiveBack k b f) = slice_set w (spot b.0 (slot k)) (slice_index w (spot b.0 (slot k)) - 4294967296 * f)
+cell_words blocks w (Bring k b p f) =
+    slice_set w (spot b.0 (slot k)) (slice_index w (spot b.0 (slot k)) + 4294967296 * f)
+cell_words blocks w (GiveBack k b f) =
+    slice_set w (spot b.0 (slot k)) (slice_index w (spot b.0 (slot k)) - 4294967296 * f)
 cell_words blocks w (Take c x y) = slice_set w (word_of blocks c) (slice_index w (word_of blocks c) + 17179869184)
 cell_words blocks w (Turn k b) = slice_set w (spot b.0 (slot k)) (slice_index w (spot b.0 (slot k)) - 4294967295)
 cell_words blocks w (Refill c t) = slice_set w (word_of blocks c) (slice_index w (word_of blocks c) - 17179869184 * t)

@@ -1,5 +1,6 @@
 -- What cells hold, and how slots and the words of cells tell it. All of it is own.
-use Rattle.std.specs.Prelude.{◌≡◌, ◌≢◌, ℕ, ◌<◌, ◌/◌, ◌==◌, ◌&&◌, length, Bool, true, false, slice_set, is_some, Option, Some, None}
+use Rattle.std.specs.Prelude.{◌≡◌, ◌≢◌, ℕ, ◌<◌, ◌/◌, ◌==◌, ◌&&◌, length, Bool, true}
+use Rattle.std.specs.Prelude.{false, slice_set, is_some, Option, Some, None}
 use Rattle.control_word.specs.declared.cell.CellWord.{CellWord}
 use Rattle.control_word.specs.declared.event.Event.{Event}
 use Rattle.control_word.specs.declared.event.Event.TheVariants as event
@@ -29,7 +30,8 @@ use Rattle.step_table.specs.Stories.{Nothing, Story, state}
 abbrev pub held_in : State → Cell → Handle
 held_in s c = cell_of s (cell_in s c)
 
--- a slot's value as histories name it; one without an object is of the kind of the cell that it is compared with or goes into
+-- a slot's value as histories name it; one without an object is of the kind of the cell that it is compared with or
+-- goes into
 abbrev pub told : State → Kind → Slot → Handle
 told s k (Empty p) = handle k None p
 told s k (Full x) = handle x.kind (Some (owned s x)) x.place
@@ -75,7 +77,8 @@ as_word x = record { owned = owned_by x; place = place_of x; taken = 0 }
 
 -- what a compare expects, and what it wants to put there
 abbrev pub compared_in : Slots → Comparing → Compared
-compared_in slots y = record { expected = as_word (value slots y.expected); new = as_word (value slots y.new); weak = y.weak }
+compared_in slots y =
+    record { expected = as_word (value slots y.expected); new = as_word (value slots y.new); weak = y.weak }
 
 -- the same value, however many funds were taken
 abbrev pub same_block : Option Block → Option Block → Bool
@@ -104,7 +107,8 @@ swapped i k slots x = slice_set (slice_set slots k x) i plain
 abbrev pub differed : ℕ → ℕ → Slots → Slot → Slots
 differed i k slots x = slice_set (slice_set slots k (value slots i)) i x
 
--- the slots are there: what is expected and what is to go in may go into a cell of this kind, and the other slot has no object
+-- the slots are there: what is expected and what is to go in may go into a cell of this kind, and the other slot has no
+-- object
 pub record CanCompare (k : Kind) (slots : Slots) (y : Comparing) : Type 0 where
   pub expected : y.expected < length slots
   pub new : y.new < length slots

@@ -1,5 +1,6 @@
 -- What acts do to the object of a pointer. All of it is own but the events, which name their sections.
-use Rattle.std.specs.Prelude.{◌≡◌, ◌≢◌, ℕ, ◌≤◌, ◌==◌, Bool, cond, ◌&&◌, not, Option, Some, None, slice_index}
+use Rattle.std.specs.Prelude.{◌≡◌, ◌≢◌, ℕ, ◌≤◌, ◌==◌, Bool, cond, ◌&&◌, not, Option, Some}
+use Rattle.std.specs.Prelude.{None, slice_index}
 use Rattle.control_word.specs.declared.handle.Kind.{Kind}
 use Rattle.control_word.specs.declared.handle.Kind.TheVariants.{Owner, Weak}
 use Rattle.control_word.specs.declared.place.Place.{Place}
@@ -94,7 +95,8 @@ Telling = State → Pointer → ℕ
 abbrev pub exact : Telling
 exact s x = count s (owned s x)
 
--- what a look at the word tells: the owners that it numbers, and 1 where it numbers none but has funds, as a load is under way then
+-- what a look at the word tells: the owners that it numbers, and 1 where it numbers none but has funds, as a load is
+-- under way then
 abbrev pub told_number : ℕ → ℕ
 told_number word = cond (number_of word == 0) (cond (word == 0) 0 1) (number_of word)
 
@@ -105,7 +107,8 @@ by_word v s x = told_number (owner_word v x)
 abbrev pub IsSettled : Story → ℕ → Pointer → Type 0
 IsSettled v d x = (e : ℕ) → e ≢ d → owes (pending v e) (spot x.block.0 0) ≡ 0
 
--- none are told just where there are none, never more than there are, and all that there are where no such load is under way
+-- none are told just where there are none, never more than there are, and all that there are where no such load is
+-- under way
 pub record Tells (v : Story) (d : ℕ) (s : State) (tell : Telling) (x : Pointer) : Type 0 where
   pub none : (tell s x == 0) ≡ (exact s x == 0)
   pub most : tell s x ≤ exact s x
@@ -158,8 +161,8 @@ abbrev pub on : {A : Type 0} → (Pointer → A) → A → Option Pointer → A
 on f none None = none
 on f none (Some x) = f x
 
--- what owns nothing comes before all that owns something, and else the lesser block first ([util.smartptr.shared.obs]; by
--- block: own)
+-- what owns nothing comes before all that owns something, and else the lesser block first ([util.smartptr.shared.obs];
+-- by block: own)
 abbrev pub before : State → Option Pointer → Option Pointer → Bool
 before s x y = owner_before (blocks_of s) (on (handle_of s) (empty Owner) x) (on (handle_of s) (empty Owner) y)
 

@@ -1,5 +1,6 @@
 -- What an actor's slots hold is its desk's bag. All of it is own.
-use Rattle.std.specs.Prelude.{◌≡◌, ℕ, ◌==◌, Bool, true, false, cond, List, length, get_or, Option, Some, None}
+use Rattle.std.specs.Prelude.{◌≡◌, ℕ, ◌==◌, Bool, true, false, cond, List, length, get_or, Option, Some}
+use Rattle.std.specs.Prelude.{None}
 use Rattle.std.specs.List.{filter}
 use Rattle.control_word.specs.declared.handle.Handle.{Handle}
 use Rattle.control_word.specs.declared.handle.Kind.{Kind}

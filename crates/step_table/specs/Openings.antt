@@ -12,7 +12,8 @@ holder_of x b = cond (nat_lt (each_stock x * (x.actors - 1)) b) (x.actors - 1) (
 
 -- each actor may hold the same number of handles; the rest goes to the first
 abbrev pub share_of : Extent → ℕ → ℕ
-share_of x d = cond (nat_lt d x.actors) (x.shape.allowance / x.actors + cond (d == 0) (x.shape.allowance % x.actors) 0) 0
+share_of x d = cond (nat_lt d x.actors)
+    (x.shape.allowance / x.actors + cond (d == 0) (x.shape.allowance % x.actors) 0) 0
 
 abbrev pub opening : Extent → Opening
 opening x =

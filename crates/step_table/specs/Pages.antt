@@ -1,5 +1,6 @@
 -- How pages make up a list of words. All of it is own.
-use Rattle.std.specs.Prelude.{◌≡◌, ◌⊎◌, ℕ, ◌*◌, ◌/◌, ◌%◌, ◌≤◌, List, [], All, Vec, get_or, length, map, vec_capacity}
+use Rattle.std.specs.Prelude.{◌≡◌, ◌⊎◌, ℕ, ◌*◌, ◌/◌, ◌%◌, ◌≤◌, List, [], All, Vec}
+use Rattle.std.specs.Prelude.{get_or, length, map, vec_capacity}
 use Rattle.std.specs.List.{range_with_len}
 
 -- a word of a page that was never written is 0

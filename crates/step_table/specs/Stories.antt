@@ -1,5 +1,6 @@
 -- What clauses see of a table: its words, what has happened, and what each desk knows of it. All of it is own.
-use Rattle.std.specs.Prelude.{◌≡◌, ℕ, suc, ◌+◌, ◌-◌, ◌<◌, ◌≤◌, false, cond, List, [], ◌∷◌, length, get_or, slice_index, slice_set, Option, Some, None}
+use Rattle.std.specs.Prelude.{◌≡◌, ℕ, suc, ◌+◌, ◌-◌, ◌<◌, ◌≤◌, false, cond, List, []}
+use Rattle.std.specs.Prelude.{◌∷◌, length, get_or, slice_index, slice_set, Option, Some, None}
 use Rattle.control_word.specs.declared.event.Entry.{Entry}
 use Rattle.control_word.specs.declared.event.Event.{Event}
 use Rattle.control_word.specs.declared.event.Event.TheVariants as event
@@ -18,7 +19,8 @@ use Rattle.control_word.specs.Steps.{known_of}
 use Rattle.control_word.specs.Views.{Stands, sees_as, used_up}
 use Rattle.step_table.specs.declared.extent.Extent.{Extent}
 use Rattle.step_table.specs.declared.past.Deed.{Deed}
-use Rattle.step_table.specs.declared.past.Deed.TheVariants.{Prepare, Write, Claim, Share, WeakShare, Leave, WeakLeave, Lock, Count, Expired, Read, Clear, Finish, OnCell}
+use Rattle.step_table.specs.declared.past.Deed.TheVariants.{Prepare, Write, Claim, Share, WeakShare, Leave, WeakLeave}
+use Rattle.step_table.specs.declared.past.Deed.TheVariants.{Lock, Count, Expired, Read, Clear, Finish, OnCell}
 use Rattle.step_table.specs.CellDeeds.{cell_event, cell_pending, cell_words}
 use Rattle.step_table.specs.Openings.{IsExtent, opening, share_of}
 
@@ -82,7 +84,8 @@ words_after v (Share b p q) = slice_set v.words (spot b.0 0) (suc (slice_index v
 words_after v (WeakShare b p) = slice_set v.words (spot b.0 1) (suc (slice_index v.words (spot b.0 1)))
 words_after v (Leave b p last) = slice_set v.words (spot b.0 0) (slice_index v.words (spot b.0 0) - 1)
 words_after v (WeakLeave b p vacant) = slice_set v.words (spot b.0 1) (slice_index v.words (spot b.0 1) - 1)
-words_after v (Lock b p got) = cond got (slice_set v.words (spot b.0 0) (suc (slice_index v.words (spot b.0 0)))) v.words
+words_after v (Lock b p got) =
+    cond got (slice_set v.words (spot b.0 0) (suc (slice_index v.words (spot b.0 0)))) v.words
 words_after v (Count k b p n) = v.words
 words_after v (Expired k b p expired) = v.words
 words_after v (Read b p n) = v.words
@@ -119,7 +122,8 @@ views_after v d x = slice_set v.views d (sees_as (view_in v.views d) (pending_af
 
 -- the story after a deed of desk d
 abbrev pub after : Story → ℕ → Deed → Story
-after v d x = record { extent = v.extent; words = words_after v x; views = views_after v d x; history = history_after v d x }
+after v d x =
+    record { extent = v.extent; words = words_after v x; views = views_after v d x; history = history_after v d x }
 
 -- each actor has a view of its own
 pub record Seats (views : List (View Nothing)) (actors : ℕ) : Type 0 where

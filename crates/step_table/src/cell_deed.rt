@@ -11,7 +11,8 @@ pub enum Cell {
     Member { block: Block, member: u8 },
 }
 
-/// What a compare expects a cell to hold, and what it wants to put there. The weak one may differ on an equivalent value.
+/// What a compare expects a cell to hold, and what it wants to put there. The weak one may differ on an equivalent
+/// value.
 #[derive(Clone, Copy)]
 pub struct Compared {
     pub expected: CellWord,

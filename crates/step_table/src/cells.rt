@@ -1,6 +1,8 @@
-//! Steps on cells: what `atomic<shared_ptr>` and `atomic<weak_ptr>` are made of. Each function is one atomic step on one word.
-//! A value in a cell that has an object has 256 funds on the object's count, of which the cell's word tells how many were taken.
-ghost use Rattle.std.specs.Prelude.{◌≡◌, ◌≢◌, ◌<◌, ◌==◌, ◌||◌, Option, None, Some, cond, is_some, true, false};
+//! Steps on cells: what `atomic<shared_ptr>` and `atomic<weak_ptr>` are made of. Each function is one atomic step on
+//! one word. A value in a cell that has an object has 256 funds on the object's count, of which the cell's word tells
+//! how many were taken.
+ghost use Rattle.std.specs.Prelude.{◌≡◌, ◌≢◌, ◌<◌, ◌==◌, ◌||◌, Option, None, Some, cond};
+ghost use Rattle.std.specs.Prelude.{is_some, true, false};
 ghost use Rattle.control_word.specs.declared.view.Pending.TheVariants.{Idle};
 ghost use Rattle.control_word.specs.Handles.{equivalent, same_place};
 ghost use Rattle.control_word.specs.Packing.{IsCellWord, cell_bits};
@@ -49,8 +51,8 @@ fn is_same_empty(found: CellWord, expected: CellWord) -> bool
 }
 
 impl Table {
-    /// The block of the object that the handle in a cell is on; none where it is on none (own). Condition: the cell is free, or a
-    /// member of what is in a block that isn't vacant.
+    /// The block of the object that the handle in a cell is on; none where it is on none (own). Condition: the cell is
+    /// free, or a member of what is in a block that isn't vacant.
     pub fn target(&self, cell: Cell) -> Option<Block>
         requires { IsThere self.now cell }
         ensures { result ≡ target_of (state self.now) cell }
@@ -77,14 +79,15 @@ impl Table {
         self.words.get(place_of(cell, self.extent.shape.blocks)) == pack(seen)
     }
 
-    /// Swaps a cell: the new value goes in, for which 256 funds were brought if it has an object, and what the cell held comes out.
-    /// The funds of that which were not taken are out then, to be given back.
+    /// Swaps a cell: the new value goes in, for which 256 funds were brought if it has an object, and what the cell
+    /// held comes out. The funds of that which were not taken are out then, to be given back.
     pub(crate) fn swap_cell(&mut self, desk: usize, cell: Cell, new: CellWord) -> CellWord
         requires seat { desk < self.old.extent.actors }
         requires open { IsOpenTo self.old desk cell }
         requires new { IsCellWord new × (new.taken ≡ 0) }
         requires hand { HasInHand self.old desk cell new }
-        requires owes { pending self.old desk ≡ owing (state self.old) (kind_in (state self.old) cell) new.owned new.place 256 0 }
+        requires owes { pending self.old desk ≡ owing (state self.old)
+            (kind_in (state self.old) cell) new.owned new.place 256 0 }
         requires room { new.owned ≡ None → bag_size (state self.old) desk < (state self.old).allowance desk }
         ensures found { Shows self.old cell result }
         ensures after { self.new ≡ after self.old desk (Deed.OnCell (CellDeed.Swap cell new result)) }
@@ -98,8 +101,8 @@ impl Table {
         found
     }
 
-    /// Takes a fund of a cell by a `compare_exchange`: where its word is still that of a value with an object, the word tells one
-    /// more taken. That is the load of the value, which is under way until the fund is turned.
+    /// Takes a fund of a cell by a `compare_exchange`: where its word is still that of a value with an object, the word
+    /// tells one more taken. That is the load of the value, which is under way until the fund is turned.
     pub fn take_fund(&mut self, desk: usize, cell: Cell, seen: CellWord) -> bool
         requires seat { desk < self.old.extent.actors }
         requires idle { pending self.old desk ≡ Idle }
@@ -107,7 +110,8 @@ impl Table {
         requires seen { IsCellWord seen × (seen.owned ≢ None) × (seen.taken < 256) }
         requires room { bag_size (state self.old) desk < (state self.old).allowance desk }
         ensures same { result ≡ (word_at self.old cell == cell_bits seen) }
-        ensures after { self.new ≡ cond result (after self.old desk (Deed.OnCell (CellDeed.Take cell seen None))) self.old }
+        ensures after { self.new ≡ cond result
+            (after self.old desk (Deed.OnCell (CellDeed.Take cell seen None))) self.old }
     {
         if !self.shows(desk, cell, seen) {
             return false;
@@ -126,13 +130,15 @@ impl Table {
         true
     }
 
-    /// The look of a load, which answers what the cell holds. Where that has no object it is the load; else nothing is done.
+    /// The look of a load, which answers what the cell holds. Where that has no object it is the load; else nothing is
+    /// done.
     pub(crate) fn look_cell(&mut self, desk: usize, cell: Cell) -> CellWord
         requires seat { desk < self.old.extent.actors }
         requires idle { pending self.old desk ≡ Idle }
         requires open { IsOpenTo self.old desk cell }
         ensures found { Shows self.old cell result }
-        ensures after { self.new ≡ cond (is_some result.owned) self.old (after self.old desk (Deed.OnCell (CellDeed.Look cell result None))) }
+        ensures after { self.new ≡ cond (is_some result.owned) self.old
+            (after self.old desk (Deed.OnCell (CellDeed.Look cell result None))) }
     {
         let found = self.shown(desk, cell);
         if found.owned.is_some() {
@@ -147,15 +153,18 @@ impl Table {
         found
     }
 
-    /// Refills a cell by a `compare_exchange`: where its word is still that of a value with an object, for which as many funds were
-    /// brought as were taken, these funds go in and none is told to be taken any more. Else nothing is done.
+    /// Refills a cell by a `compare_exchange`: where its word is still that of a value with an object, for which as
+    /// many funds were brought as were taken, these funds go in and none is told to be taken any more. Else nothing is
+    /// done.
     pub fn refill_cell(&mut self, desk: usize, cell: Cell, seen: CellWord) -> bool
         requires seat { desk < self.old.extent.actors }
         requires open { IsOpenTo self.old desk cell }
         requires seen { IsCellWord seen × (seen.owned ≢ None) }
-        requires owes { (p : Option Place) × (pending self.old desk ≡ owing (state self.old) (kind_in (state self.old) cell) seen.owned p seen.taken 0) }
+        requires owes { (p : Option Place) × (pending self.old desk ≡ owing (state self.old)
+            (kind_in (state self.old) cell) seen.owned p seen.taken 0) }
         ensures same { result ≡ (word_at self.old cell == cell_bits seen) }
-        ensures after { self.new ≡ cond result (after self.old desk (Deed.OnCell (CellDeed.Refill cell seen.taken))) self.old }
+        ensures after { self.new ≡ cond result
+            (after self.old desk (Deed.OnCell (CellDeed.Refill cell seen.taken))) self.old }
     {
         if !self.shows(desk, cell, seen) {
             return false;
@@ -173,8 +182,8 @@ impl Table {
         true
     }
 
-    /// Compares and swaps a cell by a `compare_exchange`: where its word is still that of a value that is what is expected, this is
-    /// a swap. Else nothing is done.
+    /// Compares and swaps a cell by a `compare_exchange`: where its word is still that of a value that is what is
+    /// expected, this is a swap. Else nothing is done.
     pub fn compare_and_swap(
         &mut self,
         desk: usize,
@@ -185,14 +194,18 @@ impl Table {
         requires seat { desk < self.old.extent.actors }
         requires open { IsOpenTo self.old desk cell }
         requires seen { IsCellWord seen }
-        requires alike { equivalent (handle_told (state self.old) cell seen) (handle_told (state self.old) cell compared.expected) ≡ true }
+        requires alike { equivalent (handle_told (state self.old) cell seen)
+            (handle_told (state self.old) cell compared.expected) ≡ true }
         requires expected { HasInHand self.old desk cell compared.expected }
         requires new { IsCellWord compared.new × (compared.new.taken ≡ 0) }
         requires hand { HasInHand self.old desk cell compared.new }
-        requires owes { pending self.old desk ≡ owing (state self.old) (kind_in (state self.old) cell) compared.new.owned compared.new.place 256 0 }
-        requires room { compared.new.owned ≡ None → bag_size (state self.old) desk < (state self.old).allowance desk }
+        requires owes { pending self.old desk ≡ owing (state self.old)
+            (kind_in (state self.old) cell) compared.new.owned compared.new.place 256 0 }
+        requires room { compared.new.owned ≡ None
+            → bag_size (state self.old) desk < (state self.old).allowance desk }
         ensures same { result ≡ (word_at self.old cell == cell_bits seen) }
-        ensures after { self.new ≡ cond result (after self.old desk (Deed.OnCell (CellDeed.CompareSwap cell seen compared))) self.old }
+        ensures after { self.new ≡ cond result
+            (after self.old desk (Deed.OnCell (CellDeed.CompareSwap cell seen compared))) self.old }
     {
         if !self.shows(desk, cell, seen) {
             return false;
@@ -208,8 +221,8 @@ impl Table {
         true
     }
 
-    /// The look of a compare, which answers what the cell holds. Where that has no object and isn't what is expected it is a compare
-    /// that differs; else nothing is done.
+    /// The look of a compare, which answers what the cell holds. Where that has no object and isn't what is expected it
+    /// is a compare that differs; else nothing is done.
     pub fn look_to_compare(&mut self, desk: usize, cell: Cell, compared: Compared) -> CellWord
         requires seat { desk < self.old.extent.actors }
         requires idle { pending self.old desk ≡ Idle }
@@ -218,7 +231,8 @@ impl Table {
         requires hand { HasInHand self.old desk cell compared.new }
         ensures found { Shows self.old cell result }
         ensures after { self.new
-            ≡ cond (is_some result.owned || equivalent (handle_told (state self.old) cell result) (handle_told (state self.old) cell compared.expected)) self.old
+            ≡ cond (is_some result.owned || equivalent (handle_told (state self.old) cell result)
+            (handle_told (state self.old) cell compared.expected)) self.old
             (after self.old desk (Deed.OnCell (CellDeed.Look cell result (Some compared)))) }
     {
         let found = self.shown(desk, cell);
@@ -249,12 +263,14 @@ impl Table {
         requires idle { pending self.old desk ≡ Idle }
         requires open { IsOpenTo self.old desk cell }
         requires seen { IsCellWord seen × (seen.owned ≢ None) × (seen.taken < 256) }
-        requires differs { equivalent (handle_told (state self.old) cell seen) (handle_told (state self.old) cell compared.expected) ≡ false }
+        requires differs { equivalent (handle_told (state self.old) cell seen)
+            (handle_told (state self.old) cell compared.expected) ≡ false }
         requires expected { HasInHand self.old desk cell compared.expected }
         requires hand { HasInHand self.old desk cell compared.new }
         requires room { bag_size (state self.old) desk < (state self.old).allowance desk }
         ensures same { result ≡ (word_at self.old cell == cell_bits seen) }
-        ensures after { self.new ≡ cond result (after self.old desk (Deed.OnCell (CellDeed.Take cell seen (Some compared)))) self.old }
+        ensures after { self.new ≡ cond result
+            (after self.old desk (Deed.OnCell (CellDeed.Take cell seen (Some compared)))) self.old }
     {
         if !self.shows(desk, cell, seen) {
             return false;

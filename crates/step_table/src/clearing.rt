@@ -16,15 +16,16 @@ use control_word::layout::{MEMBERS, block_word};
 use control_word::place::Block;
 
 impl Table {
-    /// Looks at a member of an ending object, and answers its word. Where that is 0 the member is empty, and cleared by this
-    /// look.
+    /// Looks at a member of an ending object, and answers its word. Where that is 0 the member is empty, and cleared by
+    /// this look.
     pub fn look_member(&mut self, desk: usize, block: Block, member: u8) -> u64
         requires seat { desk < self.old.extent.actors }
         requires idle { pending self.old desk ≡ Idle }
         requires ending { ((state self.old).object (object_in self.old block)).phase ≡ ending desk }
         requires inside { member < 3 }
         ensures found { result ≡ slice_index self.old.words (spot block.0 (7 + member)) }
-        ensures empty { (result ≡ 0) ↔ (((state self.old).object (object_in self.old block)).member member ≡ empty (kind_of_member member)) }
+        ensures empty { (result ≡ 0)
+            ↔ (((state self.old).object (object_in self.old block)).member member ≡ empty (kind_of_member member)) }
         ensures after { self.new ≡ cond (result == 0) (after self.old desk (Deed.Clear block member)) self.old }
     {
         let found = self
@@ -43,7 +44,8 @@ impl Table {
         requires idle { pending self.old desk ≡ Idle }
         requires ending { ((state self.old).object (object_in self.old block)).phase ≡ ending desk }
         requires inside { member < 3 }
-        requires empty { ((state self.old).object (object_in self.old block)).member member ≡ empty (kind_of_member member) }
+        requires empty { ((state self.old).object (object_in self.old block)).member member
+            ≡ empty (kind_of_member member) }
         ensures { self.new ≡ after self.old desk (Deed.Clear block member) }
     {
         let found = self.look_member(desk, block, member);
@@ -63,8 +65,8 @@ impl Table {
         )
     }
 
-    /// Takes out what a member of an ending object holds: the member is swapped for nothing. The funds of what came out that were
-    /// not taken are out then, to be given back.
+    /// Takes out what a member of an ending object holds: the member is swapped for nothing. The funds of what came out
+    /// that were not taken are out then, to be given back.
     pub fn take_out(&mut self, desk: usize, block: Block, member: u8) -> CellWord
         requires seat { desk < self.old.extent.actors }
         requires idle { pending self.old desk ≡ Idle }

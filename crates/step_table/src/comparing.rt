@@ -1,11 +1,13 @@
-//! Compares of what cells hold with the values of an actor's slots. Each function is one atomic step, or none where the cell shows
-//! another word by then.
-ghost use Rattle.std.specs.Prelude.{◌≡◌, ◌≢◌, ◌<◌, ◌==◌, ◌||◌, cond, is_some, true, false, length, None};
+//! Compares of what cells hold with the values of an actor's slots. Each function is one atomic step, or none where the
+//! cell shows another word by then.
+ghost use Rattle.std.specs.Prelude.{◌≡◌, ◌≢◌, ◌<◌, ◌==◌, ◌||◌, cond, is_some, true, false};
+ghost use Rattle.std.specs.Prelude.{length, None};
 ghost use Rattle.control_word.specs.declared.view.Pending.TheVariants.{Idle};
 ghost use Rattle.control_word.specs.Packing.{IsCellWord, cell_bits};
 ghost use Rattle.step_table.specs.CellDeeds.{kind_in};
 ghost use Rattle.step_table.specs.Cells.{IsOpenTo, word_at};
-ghost use Rattle.step_table.specs.Contents.{CanCompare, as_word, compared_in, differed, held_in, owing_for, same_block, same_value, seen, slot_of, swapped};
+ghost use Rattle.step_table.specs.Contents.{CanCompare, as_word, compared_in, differed, held_in, owing_for, same_block};
+ghost use Rattle.step_table.specs.Contents.{same_value, seen, slot_of, swapped};
 ghost use Rattle.step_table.specs.Holdings.{Holds, Slots, value};
 ghost use Rattle.step_table.specs.Stories.{after, pending, state};
 
@@ -18,8 +20,9 @@ use crate::slot::Slot;
 use crate::table::Table;
 use control_word::CellWord;
 
-/// A compare between slots: what is expected, and what is to go in. Where the cell holds what is expected, what comes out of it
-/// comes into another slot, which has no object. Else this one gets what was to go in, and its slot gets what the cell holds.
+/// A compare between slots: what is expected, and what is to go in. Where the cell holds what is expected, what comes
+/// out of it comes into another slot, which has no object. Else this one gets what was to go in, and its slot gets what
+/// the cell holds.
 #[derive(Clone, Copy)]
 pub struct Comparing {
     pub expected: usize,
@@ -60,8 +63,8 @@ impl Holdings {
         self.slots[comparing.new] = held;
     }
 
-    /// The look of a compare, as `Table::look_to_compare` says: where the cell has no object and isn't what is expected, what it
-    /// holds comes into a slot.
+    /// The look of a compare, as `Table::look_to_compare` says: where the cell has no object and isn't what is
+    /// expected, what it holds comes into a slot.
     pub fn look_to_compare(
         &mut self,
         desk: usize,
@@ -77,12 +80,17 @@ impl Holdings {
         ensures valid { IsCellWord result }
         ensures found { result ≡ seen table.old cell }
         ensures slots { self.new.slots.items
-            ≡ cond (is_some result.owned || same_value result (as_word (value self.old.slots.items comparing.expected))) self.old.slots.items
-            (differed comparing.new comparing.other self.old.slots.items (slot_of (state table.old) (held_in (state table.old) cell))) }
+            ≡ cond (is_some result.owned
+            || same_value result (as_word (value self.old.slots.items comparing.expected))) self.old.slots.items
+            (differed comparing.new comparing.other self.old.slots.items
+            (slot_of (state table.old) (held_in (state table.old) cell))) }
         ensures table { table.new
-            ≡ cond (is_some result.owned || same_value result (as_word (value self.old.slots.items comparing.expected))) table.old
-            (after table.old desk (Deed.OnCell (CellDeed.Look cell result (Some (compared_in self.old.slots.items comparing))))) }
-        ensures stays { (is_some result.owned || same_value result (as_word (value self.old.slots.items comparing.expected))) ≡ true → self.new ≡ self.old }
+            ≡ cond (is_some result.owned
+            || same_value result (as_word (value self.old.slots.items comparing.expected))) table.old
+            (after table.old desk
+            (Deed.OnCell (CellDeed.Look cell result (Some (compared_in self.old.slots.items comparing))))) }
+        ensures stays { (is_some result.owned || same_value result
+            (as_word (value self.old.slots.items comparing.expected))) ≡ true → self.new ≡ self.old }
         ensures holds { Holds desk self.new.slots.items table.new }
     {
         table.known();
@@ -99,7 +107,8 @@ impl Holdings {
         found
     }
 
-    /// Takes a fund of a cell where the value isn't what is expected, as `Table::take_differing` says: it comes into a slot.
+    /// Takes a fund of a cell where the value isn't what is expected, as `Table::take_differing` says: it comes into a
+    /// slot.
     pub fn take_differing(
         &mut self,
         desk: usize,
@@ -117,10 +126,12 @@ impl Holdings {
         requires differs { same_value seen (as_word (value self.old.slots.items comparing.expected)) ≡ false }
         ensures same { result ≡ (word_at table.old cell == cell_bits seen) }
         ensures slots { self.new.slots.items
-            ≡ cond result (differed comparing.new comparing.other self.old.slots.items (slot_of (state table.old) (held_in (state table.old) cell)))
+            ≡ cond result (differed comparing.new comparing.other self.old.slots.items
+            (slot_of (state table.old) (held_in (state table.old) cell)))
             self.old.slots.items }
         ensures table { table.new
-            ≡ cond result (after table.old desk (Deed.OnCell (CellDeed.Take cell seen (Some (compared_in self.old.slots.items comparing))))) table.old }
+            ≡ cond result (after table.old desk
+            (Deed.OnCell (CellDeed.Take cell seen (Some (compared_in self.old.slots.items comparing))))) table.old }
         ensures stays { result ≡ false → self.new ≡ self.old }
         ensures holds { Holds desk self.new.slots.items table.new }
     {
@@ -134,8 +145,8 @@ impl Holdings {
         true
     }
 
-    /// Compares and swaps a cell, as `Table::compare_and_swap` says: the new value goes in, and what the cell held comes into the
-    /// other slot.
+    /// Compares and swaps a cell, as `Table::compare_and_swap` says: the new value goes in, and what the cell held
+    /// comes into the other slot.
     pub fn compare_and_swap(
         &mut self,
         desk: usize,
@@ -150,13 +161,16 @@ impl Holdings {
         requires seen { IsCellWord seen }
         requires compare { CanCompare (kind_in (state table.old) cell) self.old.slots.items comparing }
         requires alike { same_value seen (as_word (value self.old.slots.items comparing.expected)) ≡ true }
-        requires owes { pending table.old desk ≡ owing_for (state table.old) (value self.old.slots.items comparing.new) 256 }
+        requires owes { pending table.old desk ≡ owing_for (state table.old)
+            (value self.old.slots.items comparing.new) 256 }
         ensures same { result ≡ (word_at table.old cell == cell_bits seen) }
         ensures slots { self.new.slots.items
-            ≡ cond result (swapped comparing.new comparing.other self.old.slots.items (slot_of (state table.old) (held_in (state table.old) cell)))
+            ≡ cond result (swapped comparing.new comparing.other self.old.slots.items
+            (slot_of (state table.old) (held_in (state table.old) cell)))
             self.old.slots.items }
         ensures table { table.new
-            ≡ cond result (after table.old desk (Deed.OnCell (CellDeed.CompareSwap cell seen (compared_in self.old.slots.items comparing)))) table.old }
+            ≡ cond result (after table.old desk
+            (Deed.OnCell (CellDeed.CompareSwap cell seen (compared_in self.old.slots.items comparing)))) table.old }
         ensures stays { result ≡ false → self.new ≡ self.old }
         ensures holds { Holds desk self.new.slots.items table.new }
     {

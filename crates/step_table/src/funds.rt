@@ -1,5 +1,5 @@
-//! Funds: handles that are paid for ahead, on the count of an object's owners or of its weak handles. Each function is one
-//! atomic step on one word.
+//! Funds: handles that are paid for ahead, on the count of an object's owners or of its weak handles. Each function is
+//! one atomic step on one word.
 ghost use Rattle.std.specs.Prelude.{◌≡◌, ◌<◌, ◌≤◌, Option, Some};
 ghost use Rattle.control_word.specs.declared.place.Place.{Place};
 ghost use Rattle.control_word.specs.declared.view.Pending.TheVariants.{Idle};
@@ -30,14 +30,16 @@ pub(crate) fn count_word(block: Block, kind: Kind) -> usize
 }
 
 impl Table {
-    /// Brings up to 256 funds to the count of a handle in hand: for that handle, which goes into a cell, or for one like it that
-    /// is there. They are out until they are in the cell or given back.
+    /// Brings up to 256 funds to the count of a handle in hand: for that handle, which goes into a cell, or for one
+    /// like it that is there. They are out until they are in the cell or given back.
     pub fn bring(&mut self, desk: usize, pointer: Pointer, funds: u32)
         requires seat { desk < self.old.extent.actors }
         requires idle { pending self.old desk ≡ Idle }
-        requires held { Has (held desk (handle_in self.old pointer.kind pointer.block pointer.place)) (state self.old).hands }
+        requires held { Has (held desk (handle_in self.old pointer.kind pointer.block pointer.place))
+            (state self.old).hands }
         requires few { funds ≤ 256 }
-        ensures { self.new ≡ after self.old desk (Deed.OnCell (CellDeed.Bring pointer.kind pointer.block pointer.place funds)) }
+        ensures { self.new ≡ after self.old desk
+            (Deed.OnCell (CellDeed.Bring pointer.kind pointer.block pointer.place funds)) }
     {
         let Pointer { kind, block, place } = pointer;
         let found = self.words.get(count_word(block, kind));
@@ -56,7 +58,8 @@ impl Table {
     /// Gives back the funds that are out, all of them: nothing is half done any more.
     pub fn give_back(&mut self, desk: usize, kind: Kind, block: Block, funds: u32)
         requires seat { desk < self.old.extent.actors }
-        requires owes { (p : Option Place) × (pending self.old desk ≡ owing (state self.old) kind (Some block) p funds 0) }
+        requires owes { (p : Option Place)
+            × (pending self.old desk ≡ owing (state self.old) kind (Some block) p funds 0) }
         ensures { self.new ≡ after self.old desk (Deed.OnCell (CellDeed.GiveBack kind block funds)) }
     {
         let found = self.words.get(count_word(block, kind));
@@ -70,7 +73,8 @@ impl Table {
     /// Turns the fund that a load took into a handle in the number: the load is over.
     pub fn turn_fund(&mut self, desk: usize, kind: Kind, block: Block)
         requires seat { desk < self.old.extent.actors }
-        requires owes { (p : Option Place) × (pending self.old desk ≡ owing (state self.old) kind (Some block) p 1 1) }
+        requires owes { (p : Option Place)
+            × (pending self.old desk ≡ owing (state self.old) kind (Some block) p 1 1) }
         ensures { self.new ≡ after self.old desk (Deed.OnCell (CellDeed.Turn kind block)) }
     {
         let found = self.words.get(count_word(block, kind));

@@ -1,5 +1,6 @@
 //! What an actor holds.
-ghost use Rattle.std.specs.Prelude.{◌≡◌, ◌≢◌, ◌+◌, ◌<◌, ◌≤◌, IfOk, replicate, ◌-◌, ◌==◌, ℕ, false, cond, ◌∷◌, length, get_or, slice_set, Some, None};
+ghost use Rattle.std.specs.Prelude.{◌≡◌, ◌≢◌, ◌+◌, ◌<◌, ◌≤◌, IfOk, replicate, ◌-◌};
+ghost use Rattle.std.specs.Prelude.{◌==◌, ℕ, false, cond, ◌∷◌, length, get_or, slice_set, Some, None};
 ghost use Rattle.control_word.specs.declared.handle.Kind.TheVariants.{Owner};
 ghost use Rattle.control_word.specs.Events.{origin};
 ghost use Rattle.control_word.specs.Handles.{IsPointer};
@@ -7,7 +8,8 @@ ghost use Rattle.control_word.specs.Views.{owed};
 ghost use Rattle.control_word.specs.Layout.{spot};
 ghost use Rattle.control_word.specs.declared.view.Pending.TheVariants.{Idle};
 ghost use Rattle.control_word.specs.Words.{flags_of};
-ghost use Rattle.step_table.specs.Deeds.{as_owner, as_weak, by_word, downgrade, is_expired, is_last, leave, lock, owned, owner_word, share, tell, tell_expired};
+ghost use Rattle.step_table.specs.Deeds.{as_owner, as_weak, by_word, downgrade, is_expired, is_last, leave, lock};
+ghost use Rattle.step_table.specs.Deeds.{owned, owner_word, share, tell, tell_expired};
 ghost use Rattle.step_table.specs.Contents.{is_of};
 ghost use Rattle.step_table.specs.Holdings.{Holds, is_full, place_in, plain, slot, value, weak_as, weak_slot};
 ghost use Rattle.step_table.specs.declared.slot.Slot.TheVariants.{Empty, Full};
@@ -20,7 +22,8 @@ use control_word::handle::Kind;
 use control_word::place::{Block, Place};
 use std::alloc::{AllocError, Global};
 
-/// A shared or weak pointer that has an object, which its block tells: no other object is in the block while it is there.
+/// A shared or weak pointer that has an object, which its block tells: no other object is in the block while it is
+/// there.
 #[derive(Clone, Copy, Debug, PartialEq, Eq, Drop)]
 pub struct Pointer {
     pub kind: Kind,
@@ -28,8 +31,8 @@ pub struct Pointer {
     pub place: Option<Place>,
 }
 
-/// The values of an actor's names, then what is to be dropped at the end of a statement, and last the value that it has in hand
-/// between two acts.
+/// The values of an actor's names, then what is to be dropped at the end of a statement, and last the value that it has
+/// in hand between two acts.
 #[derive(Drop)]
 pub struct Holdings {
     pub(crate) slots: Vec<Slot>,
@@ -167,7 +170,8 @@ impl Holdings {
         requires from { weak_slot (slot self.now.slots.items from) ≡ Some pointer }
         ensures word { result ≡ owner_word table.old pointer }
         ensures left { (result == 0) ≡ is_expired (state table.old) pointer }
-        ensures table { table.new ≡ cond (result == 0) (after table.old desk (lock (state table.old) pointer)) table.old }
+        ensures table { table.new ≡ cond (result == 0)
+            (after table.old desk (lock (state table.old) pointer)) table.old }
         ensures holds { Holds desk self.now.slots.items table.new }
     {
         table.known();
@@ -191,7 +195,8 @@ impl Holdings {
         requires inside { to < length self.old.slots.items }
         requires apart { from ≢ to }
         requires empty { slot self.old.slots.items to ≡ None }
-        ensures slots { self.new.slots.items ≡ slice_set (slice_set self.old.slots.items to (value self.old.slots.items from)) from plain }
+        ensures slots { self.new.slots.items
+            ≡ slice_set (slice_set self.old.slots.items to (value self.old.slots.items from)) from plain }
         ensures holds { (d : ℕ) (v : Story) → Holds d self.old.slots.items v → Holds d self.new.slots.items v }
     {
         self.slots[to] = self.slots[from];

@@ -1,5 +1,6 @@
 //! How what cells hold comes into the slots of an actor. Each function is one atomic step.
-ghost use Rattle.std.specs.Prelude.{◌≡◌, ◌≢◌, ◌<◌, ◌==◌, cond, is_some, true, false, length, slice_set, Some, None};
+ghost use Rattle.std.specs.Prelude.{◌≡◌, ◌≢◌, ◌<◌, ◌==◌, cond, is_some, true, false, length};
+ghost use Rattle.std.specs.Prelude.{slice_set, Some, None};
 ghost use Rattle.control_word.specs.declared.view.Pending.TheVariants.{Idle};
 ghost use Rattle.control_word.specs.Packing.{IsCellWord, cell_bits};
 ghost use Rattle.control_word.specs.State.{ending};
@@ -35,8 +36,10 @@ impl Holdings {
         requires empty { slot self.old.slots.items to ≡ None }
         ensures same { result ≡ (word_at table.old cell == cell_bits seen) }
         ensures slots { self.new.slots.items
-            ≡ cond result (slice_set self.old.slots.items to (slot_of (state table.old) (held_in (state table.old) cell))) self.old.slots.items }
-        ensures table { table.new ≡ cond result (after table.old desk (Deed.OnCell (CellDeed.Take cell seen None))) table.old }
+            ≡ cond result (slice_set self.old.slots.items to
+            (slot_of (state table.old) (held_in (state table.old) cell))) self.old.slots.items }
+        ensures table { table.new ≡ cond result
+            (after table.old desk (Deed.OnCell (CellDeed.Take cell seen None))) table.old }
         ensures stays { result ≡ false → self.new ≡ self.old }
         ensures holds { Holds desk self.new.slots.items table.new }
     {
@@ -49,7 +52,8 @@ impl Holdings {
         true
     }
 
-    /// The look of a load, as `Table::look_cell` says: where the cell has no object, its value comes into a slot that has none.
+    /// The look of a load, as `Table::look_cell` says: where the cell has no object, its value comes into a slot that
+    /// has none.
     pub fn look_to_load(
         &mut self,
         desk: usize,
@@ -68,7 +72,8 @@ impl Holdings {
         ensures slots { self.new.slots.items
             ≡ cond (is_some result.owned) self.old.slots.items
             (slice_set self.old.slots.items to (slot_of (state table.old) (held_in (state table.old) cell))) }
-        ensures table { table.new ≡ cond (is_some result.owned) table.old (after table.old desk (Deed.OnCell (CellDeed.Look cell result None))) }
+        ensures table { table.new ≡ cond (is_some result.owned) table.old
+            (after table.old desk (Deed.OnCell (CellDeed.Look cell result None))) }
         ensures stays { is_some result.owned ≡ true → self.new ≡ self.old }
         ensures holds { Holds desk self.new.slots.items table.new }
     {
@@ -82,8 +87,8 @@ impl Holdings {
         found
     }
 
-    /// Takes out what a member of an ending object holds, as `Table::take_out` says: where that has an object, it comes into a
-    /// slot that has none.
+    /// Takes out what a member of an ending object holds, as `Table::take_out` says: where that has an object, it comes
+    /// into a slot that has none.
     pub fn take_out(
         &mut self,
         desk: usize,
@@ -103,7 +108,8 @@ impl Holdings {
         ensures found { result ≡ seen table.old (Cell.Member block member) }
         ensures slots { self.new.slots.items
             ≡ cond (is_some result.owned)
-            (slice_set self.old.slots.items to (slot_of (state table.old) (held_in (state table.old) (Cell.Member block member))))
+            (slice_set self.old.slots.items to
+            (slot_of (state table.old) (held_in (state table.old) (Cell.Member block member))))
             self.old.slots.items }
         ensures table { table.new ≡ after table.old desk (Deed.OnCell (CellDeed.TakeOut block member result)) }
         ensures holds { Holds desk self.new.slots.items table.new }

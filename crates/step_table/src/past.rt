@@ -126,7 +126,8 @@ impl Past {
 
     /// What is known after one more deed.
     pub(crate) fn next(_table: &Table, _done: &Done) -> Past
-        ensures { (result.history ≡ history_after _table.now _done.now.desk _done.now.deed) × (result.views ≡ views_after _table.now _done.now.desk _done.now.deed) }
+        ensures { (result.history ≡ history_after _table.now _done.now.desk _done.now.deed)
+            × (result.views ≡ views_after _table.now _done.now.desk _done.now.deed) }
     {
         Past {}
     }

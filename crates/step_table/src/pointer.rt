@@ -15,7 +15,8 @@ impl Table {
     pub(crate) fn copy_pointer(&mut self, desk: usize, pointer: Pointer)
         requires seat { desk < self.old.extent.actors }
         requires idle { pending self.old desk ≡ Idle }
-        requires held { Has (held desk (handle_in self.old pointer.kind pointer.block pointer.place)) (state self.old).hands }
+        requires held { Has (held desk (handle_in self.old pointer.kind pointer.block pointer.place))
+            (state self.old).hands }
         requires place { IsPointer pointer.place }
         requires room { bag_size (state self.old) desk < (state self.old).allowance desk }
         ensures { self.new ≡ after self.old desk (share pointer) }
@@ -26,12 +27,13 @@ impl Table {
         }
     }
 
-    /// Ends a pointer. Answers whether it was the last: of an owner, that no other owner is left; of a weak pointer, that its
-    /// block is vacant.
+    /// Ends a pointer. Answers whether it was the last: of an owner, that no other owner is left; of a weak pointer,
+    /// that its block is vacant.
     pub(crate) fn leave_pointer(&mut self, desk: usize, pointer: Pointer) -> bool
         requires seat { desk < self.old.extent.actors }
         requires idle { pending self.old desk ≡ Idle }
-        requires held { Has (held desk (handle_in self.old pointer.kind pointer.block pointer.place)) (state self.old).hands }
+        requires held { Has (held desk (handle_in self.old pointer.kind pointer.block pointer.place))
+            (state self.old).hands }
         ensures last { result ≡ is_last (state self.old) pointer }
         ensures after { self.new ≡ after self.old desk (leave (state self.old) pointer) }
     {

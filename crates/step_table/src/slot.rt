@@ -10,8 +10,8 @@ use control_word::place::Place;
 /// The value of a name, or the one that is in hand.
 #[derive(Clone, Copy, Drop)]
 pub enum Slot {
-    /// A pointer without an object. A shared one may store a place all the same ([util.smartptr.shared.const], the aliasing
-    /// constructor).
+    /// A pointer without an object. A shared one may store a place all the same ([util.smartptr.shared.const], the
+    /// aliasing constructor).
     Empty { place: Option<Place> },
     /// A pointer that has an object.
     Full(Pointer),

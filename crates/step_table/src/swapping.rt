@@ -24,7 +24,8 @@ impl Holdings {
         requires holds { Holds desk self.now.slots.items table.old }
         requires from { slot self.now.slots.items from ≡ Some pointer }
         ensures owes { pending table.new desk ≡ owing_for (state table.new) (value self.now.slots.items from) 256 }
-        ensures table { table.new ≡ after table.old desk (Deed.OnCell (CellDeed.Bring pointer.kind pointer.block pointer.place 256)) }
+        ensures table { table.new ≡ after table.old desk
+            (Deed.OnCell (CellDeed.Bring pointer.kind pointer.block pointer.place 256)) }
         ensures holds { Holds desk self.now.slots.items table.new }
     {
         table.known();
@@ -41,8 +42,10 @@ impl Holdings {
         requires owes { pending table.old desk ≡ owing_for (state table.old) (value self.old.slots.items at) 256 }
         ensures found { result ≡ seen table.old cell }
         ensures few { result.taken ≤ 256 }
-        ensures slots { self.new.slots.items ≡ slice_set self.old.slots.items at (slot_of (state table.old) (held_in (state table.old) cell)) }
-        ensures table { table.new ≡ after table.old desk (Deed.OnCell (CellDeed.Swap cell (as_word (value self.old.slots.items at)) result)) }
+        ensures slots { self.new.slots.items ≡ slice_set self.old.slots.items at
+            (slot_of (state table.old) (held_in (state table.old) cell)) }
+        ensures table { table.new ≡ after table.old desk
+            (Deed.OnCell (CellDeed.Swap cell (as_word (value self.old.slots.items at)) result)) }
         ensures holds { Holds desk self.new.slots.items table.new }
     {
         table.known();
@@ -73,8 +76,10 @@ impl Holdings {
         requires owes { pending table.old desk ≡ owing_for (state table.old) (value self.old.slots.items from) 256 }
         ensures found { result ≡ seen table.old cell }
         ensures few { result.taken ≤ 256 }
-        ensures slots { self.new.slots.items ≡ swapped from to self.old.slots.items (slot_of (state table.old) (held_in (state table.old) cell)) }
-        ensures table { table.new ≡ after table.old desk (Deed.OnCell (CellDeed.Swap cell (as_word (value self.old.slots.items from)) result)) }
+        ensures slots { self.new.slots.items ≡ swapped from to self.old.slots.items
+            (slot_of (state table.old) (held_in (state table.old) cell)) }
+        ensures table { table.new ≡ after table.old desk
+            (Deed.OnCell (CellDeed.Swap cell (as_word (value self.old.slots.items from)) result)) }
         ensures holds { Holds desk self.new.slots.items table.new }
     {
         table.known();

@@ -1,5 +1,6 @@
 //! The words of all blocks, and what has happened to them. Each function is one atomic step on one word.
-ghost use Rattle.std.specs.Prelude.{◌≡◌, ℕ, ◌<◌, ◌≤◌, ◌==◌, Bool, [], ◌∷◌, IfOk, replicate, slice_index};
+ghost use Rattle.std.specs.Prelude.{◌≡◌, ℕ, ◌<◌, ◌≤◌, ◌==◌, Bool, [], ◌∷◌, IfOk, replicate};
+ghost use Rattle.std.specs.Prelude.{slice_index};
 ghost use Rattle.control_word.specs.declared.view.Pending.TheVariants.{Idle};
 ghost use Rattle.control_word.specs.Handles.{IsPointer, empty};
 ghost use Rattle.control_word.specs.Layout.{spot, table_size};
@@ -8,7 +9,8 @@ ghost use Rattle.control_word.specs.Views.{fresh, owed};
 ghost use Rattle.step_table.specs.Deeds.{told_number, remains};
 ghost use Rattle.control_word.specs.Words.{flags_of};
 ghost use Rattle.step_table.specs.Openings.{IsExtent};
-ghost use Rattle.step_table.specs.Stories.{IsMaking, Kept, after, handle_in, history_after, known, object_in, owner_in, pending, state, views_after};
+ghost use Rattle.step_table.specs.Stories.{IsMaking, Kept, after, handle_in, history_after, known, object_in, owner_in};
+ghost use Rattle.step_table.specs.Stories.{pending, state, views_after};
 
 use crate::ended::Ended;
 use crate::extent::Extent;
@@ -34,9 +36,15 @@ impl Model for Table {
 
     ghost Value = { Story };
 
-    ghost view = { λ t. record { extent = t.extent; words = t.words; views = t.past.views; history = t.past.history } };
+    ghost view = { λ t. record {
+      extent = t.extent;
+      words = t.words;
+      views = t.past.views;
+      history = t.past.history;
+    } };
 
-    ghost invariant = { λ t. Kept (record { extent = t.extent; words = t.words; views = t.past.views; history = t.past.history }) };
+    ghost invariant = { λ t. Kept
+        (record { extent = t.extent; words = t.words; views = t.past.views; history = t.past.history }) };
 }
 
 impl Table {
@@ -44,7 +52,12 @@ impl Table {
     pub fn new(alloc: Global, extent: &Extent) -> Result<Table, AllocError>
         requires { IsExtent extent.now }
         ensures { IfOk result
-            (λ t. t ≡ record { extent = extent.now; words = replicate (table_size extent.now.shape) 0; views = fresh 0 extent.now.actors; history = [] }) }
+            (λ t. t ≡ record {
+              extent = extent.now;
+              words = replicate (table_size extent.now.shape) 0;
+              views = fresh 0 extent.now.actors;
+              history = [];
+            }) }
     {
         let words = Words::new(alloc, table_words(&extent.shape))?;
         Ok(Table {
@@ -82,7 +95,8 @@ impl Table {
 
     /// What the table knows after a deed.
     pub(crate) fn then(&self, desk: usize, deed: Deed) -> Past
-        ensures { (result.history ≡ history_after self.now desk deed) × (result.views ≡ views_after self.now desk deed) }
+        ensures { (result.history ≡ history_after self.now desk deed)
+            × (result.views ≡ views_after self.now desk deed) }
     {
         Past::next(self, &Done { desk, deed })
     }
@@ -182,16 +196,18 @@ impl Table {
         last
     }
 
-    /// How many owners there are, by a handle: those that the word numbers, and where it numbers none 1 if it has funds, as
-    /// then a load is under way. A load that is under way may be left out.
+    /// How many owners there are, by a handle: those that the word numbers, and where it numbers none 1 if it has
+    /// funds, as then a load is under way. A load that is under way may be left out.
     pub fn count(&mut self, desk: usize, pointer: Pointer) -> u32
         requires seat { desk < self.old.extent.actors }
         requires idle { pending self.old desk ≡ Idle }
-        requires held { Has (held desk (handle_in self.old pointer.kind pointer.block pointer.place)) (state self.old).hands }
+        requires held { Has (held desk (handle_in self.old pointer.kind pointer.block pointer.place))
+            (state self.old).hands }
         ensures told { result ≡ told_number (slice_index self.old.words (spot pointer.block.0 0)) }
         ensures none { (result == 0) ≡ (count (state self.old) (object_in self.old pointer.block) == 0) }
         ensures most { result ≤ count (state self.old) (object_in self.old pointer.block) }
-        ensures exact { owed self.old.views (spot pointer.block.0 0) ≡ 0 → result ≡ count (state self.old) (object_in self.old pointer.block) }
+        ensures exact { owed self.old.views (spot pointer.block.0 0) ≡ 0
+            → result ≡ count (state self.old) (object_in self.old pointer.block) }
         ensures after { self.new ≡ after self.old desk (Deed.Count pointer.kind pointer.block pointer.place result) }
     {
         let owners = told_count(self.words.get(block_word(pointer.block, OWNERS)));
@@ -207,13 +223,14 @@ impl Table {
         owners
     }
 
-    /// Ends the owners' common count of an ending object whose members are empty. Answers whether the block is vacant: just where the whole word
-    /// was 1.
+    /// Ends the owners' common count of an ending object whose members are empty. Answers whether the block is vacant:
+    /// just where the whole word was 1.
     pub fn finish(&mut self, desk: usize, block: Block) -> bool
         requires seat { desk < self.old.extent.actors }
         requires idle { pending self.old desk ≡ Idle }
         requires ending { ((state self.old).object (object_in self.old block)).phase ≡ ending desk }
-        requires cleared { (m : ℕ) → m < 3 → ((state self.old).object (object_in self.old block)).member m ≡ empty (kind_of_member m) }
+        requires cleared { (m : ℕ) → m < 3 → ((state self.old).object (object_in self.old block)).member m
+            ≡ empty (kind_of_member m) }
         ensures vacant { result ≡ (weak (state self.old) (object_in self.old block) == 0) }
         ensures after { self.new ≡ after self.old desk (Deed.Finish block result) }
     {

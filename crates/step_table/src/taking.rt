@@ -1,5 +1,6 @@
 //! How pointers come into the slots of an actor.
-ghost use Rattle.std.specs.Prelude.{◌≡◌, false, ◌<◌, ◌==◌, cond, ◌∷◌, length, slice_set, Some, None};
+ghost use Rattle.std.specs.Prelude.{◌≡◌, false, ◌<◌, ◌==◌, cond, ◌∷◌, length, slice_set, Some};
+ghost use Rattle.std.specs.Prelude.{None};
 ghost use Rattle.control_word.specs.declared.handle.Kind.TheVariants.{Owner};
 ghost use Rattle.control_word.specs.Events.{origin};
 ghost use Rattle.control_word.specs.Words.{flags_of};
@@ -71,8 +72,8 @@ impl Holdings {
         });
     }
 
-    /// Tries a lock of a weak pointer in one slot, as `Table::try_lock` says: the owner comes into another slot, which is
-    /// empty.
+    /// Tries a lock of a weak pointer in one slot, as `Table::try_lock` says: the owner comes into another slot, which
+    /// is empty.
     pub fn try_lock(
         &mut self,
         desk: usize,
@@ -91,8 +92,10 @@ impl Holdings {
         requires some { 0 < found }
         ensures word { result ≡ owner_word table.old pointer }
         ensures left { (result == 0) ≡ is_expired (state table.old) pointer }
-        ensures slots { self.new.slots.items ≡ cond (result == found) (slice_set self.old.slots.items to (Full (as_owner pointer))) self.old.slots.items }
-        ensures table { table.new ≡ cond (result == found) (after table.old desk (lock (state table.old) pointer)) table.old }
+        ensures slots { self.new.slots.items ≡ cond (result == found)
+            (slice_set self.old.slots.items to (Full (as_owner pointer))) self.old.slots.items }
+        ensures table { table.new ≡ cond (result == found)
+            (after table.old desk (lock (state table.old) pointer)) table.old }
         ensures holds { Holds desk self.new.slots.items table.new }
     {
         table.known();
@@ -116,7 +119,8 @@ impl Holdings {
         requires holds { Holds desk self.old.slots.items table.old }
         requires inside { to < length self.old.slots.items }
         requires empty { slot self.old.slots.items to ≡ None }
-        ensures slots { self.new.slots.items ≡ slice_set self.old.slots.items to (Full (record { kind = Owner; block = block; place = origin block.0 form.null })) }
+        ensures slots { self.new.slots.items ≡ slice_set self.old.slots.items to
+            (Full (record { kind = Owner; block = block; place = origin block.0 form.null })) }
         ensures table { table.new ≡ after table.old desk (Deed.Claim block form.enabled form.null form.fields) }
         ensures holds { Holds desk self.new.slots.items table.new }
     {

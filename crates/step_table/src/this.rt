@@ -18,7 +18,8 @@ use control_word::place::{Block, Place};
 impl Table {
     /// Whether an object gives pointers to itself, by a handle of it: its flag doesn't change.
     pub fn is_enabled(&self, desk: usize, pointer: Pointer) -> bool
-        requires { Has (held desk (handle_in self.now pointer.kind pointer.block pointer.place)) (state self.now).hands }
+        requires { Has (held desk (handle_in self.now pointer.kind pointer.block pointer.place))
+            (state self.now).hands }
         ensures { result ≡ is_enabled (state self.now) pointer }
     {
         self.known();
@@ -29,7 +30,8 @@ impl Table {
     pub fn give(&mut self, desk: usize, kind: Kind, pointer: Pointer)
         requires seat { desk < self.old.extent.actors }
         requires idle { pending self.old desk ≡ Idle }
-        requires held { Has (held desk (handle_in self.old pointer.kind pointer.block pointer.place)) (state self.old).hands }
+        requires held { Has (held desk (handle_in self.old pointer.kind pointer.block pointer.place))
+            (state self.old).hands }
         requires owner { pointer.kind ≡ Owner }
         requires room { bag_size (state self.old) desk < (state self.old).allowance desk }
         ensures { self.new ≡ after self.old desk (give kind pointer) }

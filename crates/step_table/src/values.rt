@@ -60,7 +60,8 @@ impl Holdings {
         requires holds { Holds _desk self.now.slots.items table.now }
         requires first { first < length self.now.slots.items }
         requires second { second < length self.now.slots.items }
-        ensures { result ≡ before (state table.now) (slot self.now.slots.items first) (slot self.now.slots.items second) }
+        ensures { result ≡ before (state table.now) (slot self.now.slots.items first)
+            (slot self.now.slots.items second) }
     {
         table.known();
         rank(self.get(usize::from(first))) < rank(self.get(usize::from(second)))

@@ -14,12 +14,13 @@ use control_word::layout::{OWNERS, WEAKS, block_word};
 use control_word::place::{Block, Place};
 
 impl Table {
-    /// A weak handle more, with the place of a handle or of its object itself. That handle keeps the block while the word goes
-    /// up.
+    /// A weak handle more, with the place of a handle or of its object itself. That handle keeps the block while the
+    /// word goes up.
     pub(crate) fn weak_share(&mut self, desk: usize, pointer: Pointer, place: Option<Place>)
         requires seat { desk < self.old.extent.actors }
         requires idle { pending self.old desk ≡ Idle }
-        requires held { Has (held desk (handle_in self.old pointer.kind pointer.block pointer.place)) (state self.old).hands }
+        requires held { Has (held desk (handle_in self.old pointer.kind pointer.block pointer.place))
+            (state self.old).hands }
         requires place { (place ≡ pointer.place) ⊎ (place ≡ place_at pointer.block.0) }
         requires room { bag_size (state self.old) desk < (state self.old).allowance desk }
         ensures { self.new ≡ after self.old desk (Deed.WeakShare pointer.block place) }
@@ -31,13 +32,14 @@ impl Table {
         self.past = past;
     }
 
-    /// Ends a weak handle. Answers whether the block is vacant: just where the whole word was 1, as the owners of an object
-    /// that isn't gone count as one more.
+    /// Ends a weak handle. Answers whether the block is vacant: just where the whole word was 1, as the owners of an
+    /// object that isn't gone count as one more.
     pub(crate) fn weak_leave(&mut self, desk: usize, block: Block, place: Option<Place>) -> bool
         requires seat { desk < self.old.extent.actors }
         requires idle { pending self.old desk ≡ Idle }
         requires held { Has (held desk (weak_in self.old block place)) (state self.old).hands }
-        ensures vacant { result ≡ (weak (state self.old) (object_in self.old block) == 1 && is_gone ((state self.old).object (object_in self.old block)).phase) }
+        ensures vacant { result ≡ (weak (state self.old) (object_in self.old block) == 1
+            && is_gone ((state self.old).object (object_in self.old block)).phase) }
         ensures after { self.new ≡ after self.old desk (Deed.WeakLeave block place result) }
     {
         let found = self.words.get(block_word(block, WEAKS));
@@ -59,9 +61,11 @@ impl Table {
     pub fn is_expired(&mut self, desk: usize, pointer: Pointer) -> bool
         requires seat { desk < self.old.extent.actors }
         requires idle { pending self.old desk ≡ Idle }
-        requires held { Has (held desk (handle_in self.old pointer.kind pointer.block pointer.place)) (state self.old).hands }
+        requires held { Has (held desk (handle_in self.old pointer.kind pointer.block pointer.place))
+            (state self.old).hands }
         ensures exact { result ≡ (count (state self.old) (object_in self.old pointer.block) == 0) }
-        ensures after { self.new ≡ after self.old desk (Deed.Expired pointer.kind pointer.block pointer.place result) }
+        ensures after { self.new ≡ after self.old desk
+            (Deed.Expired pointer.kind pointer.block pointer.place result) }
     {
         let Pointer { kind, block, place } = pointer;
         let expired = self.words.get(block_word(block, OWNERS)) == 0;
@@ -77,8 +81,8 @@ impl Table {
         expired
     }
 
-    /// The first look of a lock, which answers the owner word. Where that is 0 no owner is left: the lock is empty by this
-    /// look.
+    /// The first look of a lock, which answers the owner word. Where that is 0 no owner is left: the lock is empty by
+    /// this look.
     pub fn look_lock(&mut self, desk: usize, block: Block, place: Option<Place>) -> u64
         requires seat { desk < self.old.extent.actors }
         requires idle { pending self.old desk ≡ Idle }
@@ -102,8 +106,8 @@ impl Table {
         found
     }
 
-    /// Tries a lock by a `compare_exchange`: where the owner word is still the one that was found, which isn't 0, it goes up
-    /// by one. Answers the word as it was.
+    /// Tries a lock by a `compare_exchange`: where the owner word is still the one that was found, which isn't 0, it
+    /// goes up by one. Answers the word as it was.
     pub fn try_lock(&mut self, desk: usize, block: Block, place: Option<Place>, found: u64) -> u64
         requires seat { desk < self.old.extent.actors }
         requires idle { pending self.old desk ≡ Idle }
@@ -112,7 +116,8 @@ impl Table {
         requires some { 0 < found }
         ensures word { result ≡ slice_index self.old.words (spot block.0 0) }
         ensures left { (result == 0) ≡ (count (state self.old) (object_in self.old block) == 0) }
-        ensures after { self.new ≡ cond (result == found) (after self.old desk (Deed.Lock block place true)) self.old }
+        ensures after { self.new ≡ cond (result == found)
+            (after self.old desk (Deed.Lock block place true)) self.old }
     {
         let now = self.words.get(block_word(block, OWNERS));
         if now != found {

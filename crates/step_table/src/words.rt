@@ -8,8 +8,8 @@ use std::marker::Model;
 /// Words of a page.
 const PAGE: usize = 8192;
 
-/// Words that are all 0 at first. A page takes its room at the start and is filled at its first write, so that no write needs
-/// memory, and a page without one costs no time.
+/// Words that are all 0 at first. A page takes its room at the start and is filled at its first write, so that no write
+/// needs memory, and a page without one costs no time.
 #[derive(Drop)]
 pub(crate) struct Words {
     pages: Vec<Vec<u64>>,

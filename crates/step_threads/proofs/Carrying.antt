@@ -1,5 +1,6 @@
 -- What came out of a member of an ending object leaves.
-use Rattle.std.proofs.Common.{◌≡◌, ◌≢◌, ℕ, suc, ◌<◌, ◌≤◌, ◌==◌, Bool, true, false, cond, List, [], ◌∷◌, length, set, refl, sym, ap, subst, ◌∙◌}
+use Rattle.std.proofs.Common.{◌≡◌, ◌≢◌, ℕ, suc, ◌<◌, ◌≤◌, ◌==◌, Bool, true, false, cond, List, [], ◌∷◌, length, set, refl}
+use Rattle.std.proofs.Common.{sym, ap, subst, ◌∙◌}
 use Rattle.std.proofs.Common.{⊎_elim, inl, inr, arith, eq-eqb, ne_eqb}
 use Rattle.std.proofs.lemmas.Bool.{cases_eq, cond_both, cond-true, cond-false}
 use Rattle.std.proofs.lemmas.List.Elements.{All-head, All-tail, All-cons}
@@ -58,7 +59,8 @@ left_each d v x Owner b y is =
     }
 
 -- an object that is live is in no ending
-live_apart : (d : ℕ) (v : Story) (b : Block) (es : List Ending) → ((state v).object (object_in v b)).phase ≡ live → All (λ (e : Ending). IsEnding d e v) es
+live_apart : (d : ℕ) (v : Story) (b : Block) (es : List Ending) → ((state v).object (object_in v b)).phase ≡ live
+    → All (λ (e : Ending). IsEnding d e v) es
     → endings_of b.0 es ≡ 0
 live_apart d v b [] alive all = refl
 live_apart d v b (y ∷ ys) alive all =
@@ -70,14 +72,16 @@ live_apart d v b (y ∷ ys) alive all =
     omega (arith, i, o, z)
 
 -- what leaves has a live object, if it is an owner
-owner_live : (d : ℕ) (v : Story) (x : Pointer) (b : Bool) → Kept v → Kept (after v d (leave_as Owner x b)) → ((state v).object (object_in v x.block)).phase ≡ live
+owner_live : (d : ℕ) (v : Story) (x : Pointer) (b : Bool) → Kept v → Kept (after v d (leave_as Owner x b))
+    → ((state v).object (object_in v x.block)).phase ≡ live
 owner_live d v x b kept kept' =
     let fine = sound (opening v.extent) v.history kept.stands.legal in
     counted_live (opening v.extent) (state v) (object_in v x.block) fine
     (owner_counted (state v) d (object_in v x.block) x.place kept'.stands.legal.1.asks.0.0)
 
 -- the endings after it: the last owner's object is in one more
-pub ends_leaving : (d : ℕ) (v : Story) (x : Pointer) (k : Kind) (b : Bool) (n : ℕ) (es : List Ending) → Kept v → Kept (after v d (leave_as k x b)) → EndsAll d es v
+pub ends_leaving : (d : ℕ) (v : Story) (x : Pointer) (k : Kind) (b : Bool) (n : ℕ) (es : List Ending) → Kept v
+    → Kept (after v d (leave_as k x b)) → EndsAll d es v
     → EndsAll d (cond b (begins_end_as k n x es) es) (after v d (leave_as k x b))
 ends_leaving d v x Owner true n es kept kept' ends =
     let w = after v d (leave_as Owner x true) in
@@ -103,7 +107,8 @@ ends_leaving d v x Weak false n es kept kept' ends =
     record { each = each_end d v (after v d (leave_as Weak x false)) es (λ y is. left_each d v x Weak false y is) ends.each; once = ends.once }
 
 -- there is room for one more
-pub carried_room : (d : ℕ) (c : Course) (v w : Story) (x : Pointer) (last : Bool) → Kept v → Kept w → EndsFit d c v → w ≡ after v d (leave (state v) x)
+pub carried_room : (d : ℕ) (c : Course) (v w : Story) (x : Pointer) (last : Bool) → Kept v → Kept w → EndsFit d c v
+    → w ≡ after v d (leave (state v) x)
     → last ≡ is_last (state v) x → x.kind ≡ Owner → last ≡ true → length c.endings.list < c.endings.room
 carried_room d c v w x last kept kept' fit is said at ended =
     go x.kind at (is_last (state v) x) (sym said ∙ ended) (subst Kept is kept')
@@ -113,10 +118,12 @@ carried_room d c v w x last kept kept' fit is said at ended =
     go Owner e false q kept' = cc
     go Owner e true q kept' =
         let f : suc (length c.endings.list) ≤ v.extent.shape.blocks =
-        ends_few d (after v d (leave_as Owner x true)) (begins_end_as Owner 0 x c.endings.list) kept' (ends_leaving d v x Owner true 0 c.endings.list kept kept' fit.all) in
+        ends_few d (after v d (leave_as Owner x true)) (begins_end_as Owner 0 x c.endings.list) kept'
+        (ends_leaving d v x Owner true 0 c.endings.list kept kept' fit.all) in
         let r = fit.roomy in omega (arith, f, r)
 
-carried_on : (d : ℕ) (t : Thread) (v : Story) (h : Holdings) (r : Stack) (s : Stored) (n : ℕ) (x : Pointer) (k : Kind) (b : Bool) (e : Ending) (es : List Ending)
+carried_on : (d : ℕ) (t : Thread) (v : Story) (h : Holdings) (r : Stack) (s : Stored) (n : ℕ) (x : Pointer) (k : Kind) (b : Bool)
+    (e : Ending) (es : List Ending)
     → Kept v → Fits d t v → t.half ≡ Rest → t.course.endings.list ≡ e ∷ es → Kept (after v d (leave_as k x b))
     → Holds d h.slots.items (after v d (leave_as k x b))
     → h.slots.items ≡ set t.course.holdings.slots.items (hand t.course.holdings.slots.items) plain
@@ -148,7 +155,8 @@ carried_on d t v h r s n x k b e es kept fits rests is kept' holds slots list ro
 
 -- a thread after what it had in hand left
 pub fits_carried : (d : ℕ) (t t' : Thread) (v w : Story) (h : Holdings) (n : ℕ) (x : Pointer) (last : Bool) (e : Ending) (es : List Ending)
-    → Kept v → Kept w → Fits d t v → t.half ≡ Rest → t.course.endings.list ≡ e ∷ es → w ≡ after v d (leave (state v) x) → last ≡ is_last (state v) x
+    → Kept v → Kept w → Fits d t v → t.half ≡ Rest → t.course.endings.list ≡ e ∷ es → w ≡ after v d (leave (state v) x)
+    → last ≡ is_last (state v) x
     → Holds d h.slots.items w → h.slots.items ≡ set t.course.holdings.slots.items (hand t.course.holdings.slots.items) plain
     → t'.course ≡ record t.course { holdings = h; endings = t'.course.endings }
     → t'.course.endings.list ≡ cond last (begins_end_as x.kind n x t.course.endings.list) t.course.endings.list

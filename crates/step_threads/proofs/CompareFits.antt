@@ -50,7 +50,8 @@ pub looking_claims : (t : Thread) (x : CellWord) → (t.half ≡ Saw x) ⊎ (t.h
 looking_claims t x e =
     ⊎_elim (λ (q : t.half ≡ Saw x). subst ClaimsNone (sym q) (λ b. refl)) (λ (q : t.half ≡ Matched x). subst ClaimsNone (sym q) (λ b. refl)) e
 
-module _ (d : ℕ) (t : Thread) (v : Story) (k : ℕ) (c : CellName) (weak : Bool) (x : CellWord) (fits : Fits d t v) (act : (task_at t.course).act ≡ Compare k c weak) where
+module _ (d : ℕ) (t : Thread) (v : Story) (k : ℕ) (c : CellName) (weak : Bool) (x : CellWord) (fits : Fits d t v)
+    (act : (task_at t.course).act ≡ Compare k c weak) where
   -- the shape has its cell
   pub cell_of_compare : t.course.at < length t.course.tasks.items → IsIn v.extent.shape c
   cell_of_compare lt = subst (λ (a : Act). HasCell v.extent.shape a) act (cell_here t.course v lt fits.cells)
@@ -59,7 +60,8 @@ module _ (d : ℕ) (t : Thread) (v : Story) (k : ℕ) (c : CellName) (weak : Boo
   pub compare_saw : t.half ≡ Rest → t.course.endings.list ≡ [] → t.course.at < length t.course.tasks.items → IsCellWord x
       → (same_value x (as_word (value t.course.holdings.slots.items k)) ≡ true) ⊎ IsLoaded x → Fits d (At t (Saw x)) v
   compare_saw e none lt valid is =
-      let seen : IsSeenBy t.course.holdings.slots.items x (task_at t.course).act = subst (λ (a : Act). IsSeenBy t.course.holdings.slots.items x a) (sym act) is in
+      let seen : IsSeenBy t.course.holdings.slots.items x (task_at t.course).act =
+      subst (λ (a : Act). IsSeenBy t.course.holdings.slots.items x a) (sym act) is in
       fits_half d t v Rest (Saw x) fits e (λ b. refl) (λ b. refl) (half_here d t v Rest fits e, valid) (lt, seen, none)
 
   -- what it has seen
@@ -73,7 +75,8 @@ module _ (d : ℕ) (t : Thread) (v : Story) (k : ℕ) (c : CellName) (weak : Boo
 
   module _ (c' : Course) (y : Compared) (kept : Kept v) where
     -- one with an object was, and a fund of it is taken
-    pub compare_taken : (n : ℕ) → t.half ≡ Saw x → IsLoaded x → HasGoneOn d t.course c' (after v d (OnCell (Take (cell_at (state v) t.course.holdings.slots.items c) x (Some y))))
+    pub compare_taken : (n : ℕ) → t.half ≡ Saw x → IsLoaded x
+        → HasGoneOn d t.course c' (after v d (OnCell (Take (cell_at (state v) t.course.holdings.slots.items c) x (Some y))))
         → Fits d (record { course = c'; stock = t.stock; half = Refill Turning (cell_at (state v) t.course.holdings.slots.items c) (more_taken x) n })
         (after v d (OnCell (Take (cell_at (state v) t.course.holdings.slots.items c) x (Some y))))
     compare_taken n e loaded on =
@@ -82,11 +85,14 @@ module _ (d : ℕ) (t : Thread) (v : Story) (k : ℕ) (c : CellName) (weak : Boo
         let b = owned_some x.owned loaded.0 in
         let valid = (half_here d t v (Saw x) fits e).1 in
         fits_gone d t v (Saw x) (Refill Turning at (more_taken x) n) fits e (λ b. refl) (λ b. refl) (OnCell (Take at x (Some y))) c' next.2 refl on
-        (begins_refill d v kept fits.seat at x (Some y) b.0 (cell_open v d t.course.holdings.slots.items c (cell_of_compare next.0) fits.holds (may_compare t.course k c weak next.0 fits.ready act fits.still).0) valid b.1 loaded.1) tt
+        (begins_refill d v kept fits.seat at x (Some y) b.0 (cell_open v d t.course.holdings.slots.items c (cell_of_compare next.0) fits.holds
+        (may_compare t.course k c weak next.0 fits.ready act fits.still).0) valid b.1 loaded.1) tt
 
     -- the cell is swapped
-    pub compare_swapped : (n : ℕ) → ClaimsNone t.half → t.course.endings.list ≡ [] → HasGoneOn d t.course c' (after v d (OnCell (CompareSwap (cell_at (state v) t.course.holdings.slots.items c) x y)))
-        → Fits d (record { course = c'; stock = t.stock; half = gives_back (kind_in (state v) (cell_at (state v) t.course.holdings.slots.items c)) n x x.owned })
+    pub compare_swapped : (n : ℕ) → ClaimsNone t.half → t.course.endings.list ≡ []
+        → HasGoneOn d t.course c' (after v d (OnCell (CompareSwap (cell_at (state v) t.course.holdings.slots.items c) x y)))
+        → Fits d
+        (record { course = c'; stock = t.stock; half = gives_back (kind_in (state v) (cell_at (state v) t.course.holdings.slots.items c)) n x x.owned })
         (after v d (OnCell (CompareSwap (cell_at (state v) t.course.holdings.slots.items c) x y)))
     compare_swapped n claims none on =
         let at = cell_at (state v) t.course.holdings.slots.items c in
@@ -94,11 +100,13 @@ module _ (d : ℕ) (t : Thread) (v : Story) (k : ℕ) (c : CellName) (weak : Boo
         let w = after v d z in
         let kind = kind_in (state v) at in
         let owes : pending w d ≡ owing (state w) kind x.owned x.place (256 - x.taken) 0 =
-        owes_after v d (CompareSwap at x y) kept fits.seat ∙ ap (λ (q : Kind). owing (state w) q x.owned x.place (256 - x.taken) 0) (kind_stays v w at refl) in
+        owes_after v d (CompareSwap at x y) kept fits.seat ∙ ap (λ (q : Kind). owing (state w) q x.owned x.place (256 - x.taken) 0)
+        (kind_stays v w at refl) in
         fits_gone d t v t.half (gives_back kind n x x.owned) fits refl claims (claims_none kind n x x.owned) z c' none (same_stores c) on
         (half_back d c'.holdings.slots.items (task_at c').act w kind n x x.owned refl owes) (next_back kind n x x.owned c')
       where
-        same_stores : (c : CellName) → (state (after v d (OnCell (CompareSwap (cell_at (state v) t.course.holdings.slots.items c) x y)))).stores ≡ (state v).stores
+        same_stores : (c : CellName)
+            → (state (after v d (OnCell (CompareSwap (cell_at (state v) t.course.holdings.slots.items c) x y)))).stores ≡ (state v).stores
         same_stores (name.Shared m) = refl
         same_stores (name.Weak m) = refl
         same_stores (name.Member i m) = refl

@@ -53,7 +53,8 @@ compared_walk t v c b =
     let x = compared t.course.holdings.slots.items (came (state v) t.course.holdings.slots.items c) b in settled x.0 x.1 t.course.endings.list (rest t.course)
 
 -- words tell whether a cell holds what is expected
-pub expected_told : (d : ℕ) (slots : Slots) (v : Story) (k : ℕ) (c : CellName) → Kept v → d < v.extent.actors → Holds d slots v → IsIn v.extent.shape c
+pub expected_told : (d : ℕ) (slots : Slots) (v : Story) (k : ℕ) (c : CellName) → Kept v → d < v.extent.actors → Holds d slots v
+    → IsIn v.extent.shape c
     → is_there slots c ≡ true → is_of (kind_at c) (value slots k) ≡ true
     → same_value (seen v (cell_at (state v) slots c)) (as_word (value slots k)) ≡ is_expected (state v) slots k c
 expected_told d slots v k c kept lt holds inside there is =
@@ -84,15 +85,18 @@ module _ (d : ℕ) (t : Thread) (v : Story) (k : ℕ) (c : CellName) (weak : Boo
   number = (task_at t.course).statement
 
   -- a compare that is done, by an event that tells it
-  done : (b : Bool) (y : Deed) (h : Half) (r : Stepped) (t' : Thread) (v' : Story) → waits v t.half (walk t.course) ≡ false → is_some (event_of (state v) y) ≡ true
+  done : (b : Bool) (y : Deed) (h : Half) (r : Stepped) (t' : Thread) (v' : Story) → waits v t.half (walk t.course) ≡ false
+      → is_some (event_of (state v) y) ≡ true
       → step_at v d t.half (walk t.course) ≡ Some (acts v d (walk t.course) number (rest t.course) (Compare k c weak) (Some y) h)
-      → is_expected (state v) slots k c ≡ b → r ≡ Event (answers number b) → v' ≡ after v d y → walk t'.course ≡ compared_walk t v c b → t'.half ≡ h
+      → is_expected (state v) slots k c ≡ b → r ≡ Event (answers number b) → v' ≡ after v d y
+      → walk t'.course ≡ compared_walk t v c b → t'.half ≡ h
       → HasStepped d t v r t' v'
   done b y h r t' v' goes event is tells answer story walked half =
       let w = walk t.course in
       stepped_as d t v (acts v d w number (rest t.course) (Compare k c weak) (Some y) h) r t' v' goes is
       (answer ∙ ap (λ (q : Bool). Event (answers number q)) (sym tells)
-      ∙ sym (cond-true (is_some (event_of (state v) y)) (Event (answers number (is_expected (state v) slots k c))) (Quiet (answers number (is_expected (state v) slots k c))) event))
+      ∙ sym (cond-true (is_some (event_of (state v) y)) (Event (answers number (is_expected (state v) slots k c)))
+      (Quiet (answers number (is_expected (state v) slots k c))) event))
       story (walked ∙ ap (λ (q : Bool). compared_walk t v c q) (sym tells)) half
 
   -- the first step of a compare
@@ -128,7 +132,8 @@ module _ (d : ℕ) (t : Thread) (v : Story) (k : ℕ) (c : CellName) (weak : Boo
           let ts = rest t.course in
           let a = Compare k c weak in
           seen_on ∙ ap (λ (s : Step). Some s) (cond-false (same_value x wanted.expected)
-          (on (fetches w number x) (matches v d w number ts a place wanted x) (slot slots (hand slots))) (takes v d w number ts a place (Some wanted) x) differs)
+          (on (fetches w number x) (matches v d w number ts a place wanted x) (slot slots (hand slots)))
+          (takes v d w number ts a place (Some wanted) x) differs)
 
       -- a fund is taken
       pub differs_taken : (r : Stepped) (t' : Thread) (v' : Story) → (word_at v place == cell_bits x) ≡ true → is_expected (state v) slots k c ≡ false
@@ -141,7 +146,8 @@ module _ (d : ℕ) (t : Thread) (v : Story) (k : ℕ) (c : CellName) (weak : Boo
 
     module _ (same : same_value x (as_word (value slots k)) ≡ true) where
       alike_on : step_at v d t.half (walk t.course)
-          ≡ Some (on (fetches (walk t.course) number x) (matches v d (walk t.course) number (rest t.course) (Compare k c weak) place wanted x) (slot slots (hand slots)))
+          ≡ Some (on (fetches (walk t.course) number x) (matches v d (walk t.course) number (rest t.course) (Compare k c weak) place wanted x)
+          (slot slots (hand slots)))
       alike_on =
           let w = walk t.course in
           let ts = rest t.course in
@@ -150,7 +156,8 @@ module _ (d : ℕ) (t : Thread) (v : Story) (k : ℕ) (c : CellName) (weak : Boo
           (on (fetches w number x) (matches v d w number ts a place wanted x) (slot slots (hand slots))) (takes v d w number ts a place (Some wanted) x) same)
 
       -- the funds of what is to go in are brought
-      pub fetches_funds : (p : Pointer) → slot slots (hand slots) ≡ Some p → step_at v d t.half (walk t.course) ≡ Some (fetches (walk t.course) number x p)
+      pub fetches_funds : (p : Pointer) → slot slots (hand slots) ≡ Some p
+          → step_at v d t.half (walk t.course) ≡ Some (fetches (walk t.course) number x p)
       fetches_funds p at =
           let w = walk t.course in
           alike_on

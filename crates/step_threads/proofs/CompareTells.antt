@@ -28,9 +28,11 @@ use Rattle.step_threads.proofs.Compares.{may_compare}
 use Rattle.step_threads.proofs.LoadFits.{saw_next}
 use Rattle.step_threads.proofs.StoreFits.{half_here}
 
-module _ (d : ℕ) (t : Thread) (v : Story) (k : ℕ) (c : CellName) (weak : Bool) (x : CellWord) (fits : Fits d t v) (act : (task_at t.course).act ≡ Compare k c weak) where
+module _ (d : ℕ) (t : Thread) (v : Story) (k : ℕ) (c : CellName) (weak : Bool) (x : CellWord) (fits : Fits d t v)
+    (act : (task_at t.course).act ≡ Compare k c weak) where
   -- where a cell shows still what was seen, that tells whether it holds what is expected
-  pub tells_still : (b : Bool) → Kept v → t.course.at < length t.course.tasks.items → IsCellWord x → (word_at v (cell_at (state v) t.course.holdings.slots.items c) == cell_bits x) ≡ true
+  pub tells_still : (b : Bool) → Kept v → t.course.at < length t.course.tasks.items → IsCellWord x
+      → (word_at v (cell_at (state v) t.course.holdings.slots.items c) == cell_bits x) ≡ true
       → same_value x (as_word (value t.course.holdings.slots.items k)) ≡ b → is_expected (state v) t.course.holdings.slots.items k c ≡ b
   tells_still b kept lt valid same is =
       let slots = t.course.holdings.slots.items in
@@ -65,7 +67,8 @@ module _ (d : ℕ) (t : Thread) (v : Story) (k : ℕ) (c : CellName) (weak : Boo
     pub match_at : same_value x (as_word (value t.course.holdings.slots.items k)) ≡ true
         → pending v d ≡ owing_for (state v) (value t.course.holdings.slots.items (hand t.course.holdings.slots.items)) 256
         → step_at v d t.half (walk t.course)
-        ≡ Some (matches v d (walk t.course) (task_at t.course).statement (rest t.course) (Compare k c weak) (cell_at (state v) t.course.holdings.slots.items c)
+        ≡ Some
+        (matches v d (walk t.course) (task_at t.course).statement (rest t.course) (Compare k c weak) (cell_at (state v) t.course.holdings.slots.items c)
         (compared_in t.course.holdings.slots.items (comparing t.course.holdings.slots.items k weak)) x)
     match_at same owes =
         let slots = t.course.holdings.slots.items in

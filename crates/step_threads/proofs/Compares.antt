@@ -1,5 +1,6 @@
 -- What a thread relies on that is at a compare.
-use Rattle.std.proofs.Common.{◌≡◌, ℕ, ◌-◌, ◌<◌, ◌⊎◌, Bool, true, false, not, ◌&&◌, List, length, set, refl, sym, ap, subst, ◌∙◌, ⊎_elim, inl, inr, arith}
+use Rattle.std.proofs.Common.{◌≡◌, ℕ, ◌-◌, ◌<◌, ◌⊎◌, Bool, true, false, not, ◌&&◌, List, length, set, refl, sym, ap, subst, ◌∙◌}
+use Rattle.std.proofs.Common.{⊎_elim, inl, inr, arith}
 use Rattle.std.proofs.Common.{get_or-set_same, length-set}
 use Rattle.step_threads.specs.declared.act.Act.{Act}
 use Rattle.step_threads.specs.declared.act.Act.TheVariants.{Compare}
@@ -11,7 +12,8 @@ use Rattle.step_table.specs.CellDeeds.{kind_in}
 use Rattle.step_table.specs.Contents.{CanCompare, is_of, swapped}
 use Rattle.step_table.specs.Holdings.{plain, pointer_of, value}
 use Rattle.step_table.specs.Stories.{Story, state}
-use Rattle.step_threads.specs.Courses.{Begins, CourseReady, CourseStill, Drops, Follows, HasCell, IsReady, Ready, cell_at, comparing, dropping, hand, idle, is_there, other, rest, taken_after, task_at}
+use Rattle.step_threads.specs.Courses.{Begins, CourseReady, CourseStill, Drops, Follows, HasCell, IsReady, Ready, cell_at, comparing, dropping, hand, idle}
+use Rattle.step_threads.specs.Courses.{is_there, other, rest, taken_after, task_at}
 use Rattle.step_threads.specs.Programs.{IsIn, kind_at}
 use Rattle.step_threads.proofs.CellNames.{goes_in}
 use Rattle.step_threads.proofs.Courses.{ready_any, ready_head, todo_at}
@@ -23,7 +25,8 @@ four true true false d e = cc
 four true false c d e = cc
 four false b c d e = cc
 
-module _ (c : Course) (k : ℕ) (x : CellName) (weak : Bool) (lt : c.at < length c.tasks.items) (ready : CourseReady c) (act : (task_at c).act ≡ Compare k x weak) where
+module _ (c : Course) (k : ℕ) (x : CellName) (weak : Bool) (lt : c.at < length c.tasks.items) (ready : CourseReady c)
+    (act : (task_at c).act ≡ Compare k x weak) where
   -- what is expected is a name's
   pub expects_name : k < other c.holdings.slots.items
   expects_name =
@@ -40,7 +43,8 @@ module _ (c : Course) (k : ℕ) (x : CellName) (weak : Bool) (lt : c.at < length
       let slots = c.holdings.slots.items in
       let P = λ (ts : List Task). (value slots (other slots) ≡ plain) ⊎ Drops ts in
       ⊎_elim (λ (e : value slots (other slots) ≡ plain). e)
-      (λ (q : dropping (Drops (rest c)) (task_at c).act). let z : dropping (Drops (rest c)) (Compare k x weak) = subst (dropping (Drops (rest c))) act q in absurd z)
+      (λ (q : dropping (Drops (rest c)) (task_at c).act). let z : dropping (Drops (rest c)) (Compare k x weak) = subst
+      (dropping (Drops (rest c))) act q in absurd z)
       (subst P (todo_at c lt) ready.owes)
 
   -- the cell is there, and what goes in, and what is expected, may be in it

@@ -1,14 +1,17 @@
 -- Going past idle tasks changes nothing that a thread means.
-use Rattle.std.proofs.Common.{◌≡◌, ℕ, ◌+◌, ◌-◌, ◌<◌, ◌≤◌, Bool, true, false, cond, List, [], ◌∷◌, length, set, drop, refl, sym, ap, subst, ◌∙◌, arith, length-set}
+use Rattle.std.proofs.Common.{◌≡◌, ℕ, ◌+◌, ◌-◌, ◌<◌, ◌≤◌, Bool, true, false, cond, List, [], ◌∷◌, length, set, drop, refl, sym}
+use Rattle.std.proofs.Common.{ap, subst, ◌∙◌, arith, length-set}
 use Rattle.std.proofs.Common.{◌⊎◌, ⊎_elim, inl, inr, get_or-set_same, get_or-set_other}
 use Rattle.std.proofs.lemmas.Bool.{cond-true, cond-false, false≢true}
 use Rattle.std.proofs.lemmas.List.{drop_more}
 use Rattle.step_threads.specs.declared.act.Act.{Act}
-use Rattle.step_threads.specs.declared.act.Act.TheVariants.{Make, Share, Downgrade, Lock, Put, Leave, Clear, Count, Expired, Read, FromThis, Alias, Move, Ask, Offer, Swap, Exchange, Load, Compare, Drop}
+use Rattle.step_threads.specs.declared.act.Act.TheVariants.{Make, Share, Downgrade, Lock, Put, Leave, Clear, Count, Expired, Read, FromThis, Alias, Move, Ask}
+use Rattle.step_threads.specs.declared.act.Act.TheVariants.{Offer, Swap, Exchange, Load, Compare, Drop}
 use Rattle.step_threads.specs.declared.act.Task.{Task}
 use Rattle.step_threads.specs.declared.course.Course.{Course}
 use Rattle.step_threads.specs.declared.ending.Ending.{Ending}
-use Rattle.step_threads.specs.Courses.{Begins, CourseReady, Drops, Follows, IsCarried, IsReady, Ready, Walk, dropping, hand, idle, no_task, other, placed, rest, settled, slots_idle, taken_after}
+use Rattle.step_threads.specs.Courses.{Begins, CourseReady, Drops, Follows, IsCarried, IsReady, Ready, Walk, dropping, hand, idle, no_task, other, placed, rest}
+use Rattle.step_threads.specs.Courses.{settled, slots_idle, taken_after}
 use Rattle.step_threads.specs.Passing.{IsPassed}
 use Rattle.step_threads.specs.Courses.{taken_idle, task_at, todo}
 use Rattle.step_threads.specs.Endings.{Stack}
@@ -119,7 +122,8 @@ ready_same slots slots' taken ts e r = subst (λ (n : ℕ). Ready n taken ts) (s
 abbrev pub IsFree : Slots → List Ending → Type 0
 IsFree slots es = (value slots (hand slots) ≡ plain) ⊎ IsCarried slots es
 
-carried_same : (slots slots' : Slots) (es : List Ending) → value slots' (hand slots') ≡ value slots (hand slots) → IsCarried slots es → IsCarried slots' es
+carried_same : (slots slots' : Slots) (es : List Ending) → value slots' (hand slots') ≡ value slots (hand slots)
+    → IsCarried slots es → IsCarried slots' es
 carried_same slots slots' [] e c = c
 carried_same slots slots' (x ∷ es) e c = ap (λ (y : Slot). is_full (pointer_of y)) e ∙ c
 
@@ -128,7 +132,8 @@ free_same slots slots' es e (inl f) = inl (e ∙ f)
 free_same slots slots' es e (inr c) = inr (carried_same slots slots' es e c)
 
 -- where no object ends nothing is carried
-pub free_plain : (slots : Slots) (taken : Bool) (es : List Ending) → (taken ≡ false → (value slots (hand slots) ≡ plain) ⊎ IsCarried slots es) → es ≡ []
+pub free_plain : (slots : Slots) (taken : Bool) (es : List Ending)
+    → (taken ≡ false → (value slots (hand slots) ≡ plain) ⊎ IsCarried slots es) → es ≡ []
     → taken ≡ false → value slots (hand slots) ≡ plain
 free_plain slots taken es free none e =
     ⊎_elim (λ (f : value slots (hand slots) ≡ plain). f) (λ (c : IsCarried slots es). absurd (subst (IsCarried slots) none c)) (free e)

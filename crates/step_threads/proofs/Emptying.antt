@@ -52,7 +52,8 @@ pub idle_clearing : (d : ℕ) (t : Thread) (v : Story) → Fits d t v → t.half
 idle_clearing d t v fits half = subst (λ (h : Half). HalfFits d h t.course.holdings.slots.items (task_at t.course).act v) half fits.half
 
 -- what has an object fills a slot
-full_as : (s : State) (block : ℕ → ℕ) (h : Handle) (o : Option ℕ) → is_some (block_of block o) ≡ true → is_full (pointer_of (slot_as s h o)) ≡ true
+full_as : (s : State) (block : ℕ → ℕ) (h : Handle) (o : Option ℕ) → is_some (block_of block o) ≡ true
+    → is_full (pointer_of (slot_as s h o)) ≡ true
 full_as s block h None e = cc
 full_as s block h (Some o) e = refl
 
@@ -115,7 +116,8 @@ fits_emptied d t v e es h r q n x kept fits was list is found slots holds new ro
       endings =
           record {
             all = subst (λ (l : List Ending). EndsAll d l w) (sym staged_list)
-                (cleared_ends d v e es (handle_as (state v) k x) w.words w.views (subst (λ (l : List Ending). EndsAll d l v) list fits.endings.all) is clear.0);
+                (cleared_ends d v e es (handle_as (state v) k x) w.words w.views
+                (subst (λ (l : List Ending). EndsAll d l v) list fits.endings.all) is clear.0);
             roomy = (let q = fits.endings.roomy in omega (arith, q, room));
             empty = inr none;
           };
@@ -141,6 +143,7 @@ stepped_emptied d t v w e es h r q x was list found slots story new back =
     (at_clearing d t v e es list was) refl (story ∙ ap (λ (z : CellWord). after v d (OnCell (TakeOut e.block e.stage z))) found)
     (ap (λ (z : Slots). record { slots = z; taken = c.taken; endings = r.list; todo = todo c })
     (slots ∙ ap (λ (z : CellWord). cond (is_some z.owned) full old) found)
-    ∙ ap (λ (l : List Ending). record { slots = cond (is_some (seen v (Member e.block e.stage)).owned) full old; taken = c.taken; endings = l; todo = todo c })
+    ∙ ap
+    (λ (l : List Ending). record { slots = cond (is_some (seen v (Member e.block e.stage)).owned) full old; taken = c.taken; endings = l; todo = todo c })
     (new ∙ ap staged_first list))
     (back ∙ ap (λ (z : CellWord). gives_back (kind_of_member e.stage) e.statement z z.owned) found)

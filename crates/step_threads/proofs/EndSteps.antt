@@ -1,5 +1,6 @@
 -- The steps of an object's end keep a thread fitting the table.
-use Rattle.std.proofs.Common.{◌≡◌, ◌≢◌, ℕ, ◌<◌, ◌≤◌, ◌==◌, ◌⊎◌, Bool, true, false, cond, List, [], ◌∷◌, refl, sym, ap, subst, ◌∙◌}
+use Rattle.std.proofs.Common.{◌≡◌, ◌≢◌, ℕ, ◌<◌, ◌≤◌, ◌==◌, ◌⊎◌, Bool, true, false, cond, List, [], ◌∷◌, refl, sym, ap}
+use Rattle.std.proofs.Common.{subst, ◌∙◌}
 use Rattle.std.proofs.Common.{⊎_elim, inl, inr, arith}
 use Rattle.std.proofs.lemmas.Bool.{cases_eq, false≢true}
 use Rattle.std.proofs.lemmas.List.Elements.{All-tail, All-cons}
@@ -181,7 +182,8 @@ cleared_ends d v e es h words views ends is lt =
 
 -- a member was cleared
 pub fits_clear : (d : ℕ) (t : Thread) (v : Story) (e : Ending) (r : Stack) (es : List Ending) → Kept v → Fits d t v → t.half ≡ Rest
-    → t.course.endings.list ≡ e ∷ es → r.list ≡ staged_first t.course.endings.list → t.course.endings.room ≤ r.room → IsEnding d e v → e.stage < 3
+    → t.course.endings.list ≡ e ∷ es → r.list ≡ staged_first t.course.endings.list → t.course.endings.room ≤ r.room
+    → IsEnding d e v → e.stage < 3
     → is_full (slot t.course.holdings.slots.items (hand t.course.holdings.slots.items)) ≡ false
     → Fits d (record { course = record t.course { endings = r }; stock = t.stock; half = t.half }) (after v d (Clear e.block e.stage))
 fits_clear d t v e r es kept fits rests list new room is lt bare =

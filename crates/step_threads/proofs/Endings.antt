@@ -1,5 +1,6 @@
 -- What a leave makes of a thread's store and endings, so that it fits the table.
-use Rattle.std.proofs.Common.{◌≡◌, ℕ, ◌+◌, ◌<◌, ◌≤◌, ◌==◌, Bool, true, false, cond, List, [], ◌∷◌, length, refl, sym, ap, subst, ◌∙◌, inl, inr, arith}
+use Rattle.std.proofs.Common.{◌≡◌, ℕ, ◌+◌, ◌<◌, ◌≤◌, ◌==◌, Bool, true, false, cond, List, [], ◌∷◌, length, refl, sym, ap, subst}
+use Rattle.std.proofs.Common.{◌∙◌, inl, inr, arith}
 use Rattle.std.proofs.lemmas.Bool.{cond-true}
 use Rattle.std.proofs.lemmas.List.Sorted.{sum_by_pushed}
 use Rattle.std.proofs.lemmas.List.Sums.{sum_by-cons}
@@ -67,12 +68,14 @@ left_ending v d x last is =
 
 -- where a pointer leaves that was the last owner, its object is ending in the desk's hands
 pub ending_left : (v w : Story) (d : ℕ) (o : Option Pointer) (last : Bool) (x : Pointer) → w ≡ done_on (leave (state v)) v d o
-    → last ≡ on (is_last (state v)) false o → o ≡ Some x → x.kind ≡ Owner → last ≡ true → ((state w).object (object_in w x.block)).phase ≡ ending d
+    → last ≡ on (is_last (state v)) false o → o ≡ Some x → x.kind ≡ Owner → last ≡ true
+    → ((state w).object (object_in w x.block)).phase ≡ ending d
 ending_left v w d o last x is said at kind t =
     subst (λ (u : Story). ((state u).object (object_in u x.block)).phase ≡ ending d) (sym (is ∙ ap (done_on (leave (state v)) v d) at))
     (go x.kind kind (is_last (state v) x) (sym (said ∙ ap (on (is_last (state v)) false) at) ∙ t))
   where
-    go : (k : Kind) → k ≡ Owner → (b : Bool) → b ≡ true → let u = after v d (leave_as k x b) in ((state u).object (object_in u x.block)).phase ≡ ending d
+    go : (k : Kind) → k ≡ Owner → (b : Bool) → b ≡ true → let u = after v d (leave_as k x b) in
+        ((state u).object (object_in u x.block)).phase ≡ ending d
     go Owner e b t = left_ending v d x b t
     go Weak e b t = cc
 
@@ -145,7 +148,8 @@ stocks_left d t v x s Weak false kept fits e kept' is =
     let y = resting d t v fits e in subst (λ (z : Stored). Stocks d z.blocks z.room Rest (after v d (leave_as Weak x false))) (sym is)
     (record { stocked = y.stocked; roomy = y.roomy })
 
-pub idle_left : (d : ℕ) (t : Thread) (v : Story) (x : Pointer) (k : Kind) (b : Bool) → Kept v → Fits d t v → pending (after v d (leave_as k x b)) d ≡ Idle
+pub idle_left : (d : ℕ) (t : Thread) (v : Story) (x : Pointer) (k : Kind) (b : Bool) → Kept v → Fits d t v
+    → pending (after v d (leave_as k x b)) d ≡ Idle
 idle_left d t v x Owner b kept fits = own_pending v d (Leave x.block x.place b) kept fits.seat
 idle_left d t v x Weak b kept fits = own_pending v d (WeakLeave x.block x.place b) kept fits.seat
 
@@ -189,22 +193,27 @@ fits_leaving d t v c r s n x k b kept fits e none kept' on empty list room is =
       stocks = stocks_left d t v x s k b kept fits e kept' is;
       endings =
           record {
-            all = subst (λ (l : List Ending). EndsAll d l w) (sym (list ∙ ap (λ (l : List Ending). cond b (begins_end_as k n x l) l) nothing)) (ends_left d v x k b n);
-            roomy = (let q = fits.endings.roomy in let z : c.endings.room ≡ t.course.endings.room = ap (λ (y : Stack). y.room) on.endings in omega (arith, q, z, room));
+            all = subst (λ (l : List Ending). EndsAll d l w) (sym (list ∙ ap (λ (l : List Ending). cond b (begins_end_as k n x l) l) nothing))
+                (ends_left d v x k b n);
+            roomy = (let q = fits.endings.roomy in let z : c.endings.room ≡ t.course.endings.room = ap (λ (y : Stack). y.room) on.endings in
+                omega (arith, q, z, room));
             empty = inr empty;
           };
       cells = cells_on d t.course c (after v d (leave_as k x b)) on fits.cells;
     }
 
 -- a thread after it left what a slot held
-pub fits_left : (d : ℕ) (t t' : Thread) (v w : Story) (c : Course) (n : ℕ) (o : Option Pointer) (last : Bool) → Kept v → Kept w → Fits d t v → t.half ≡ Rest
+pub fits_left : (d : ℕ) (t t' : Thread) (v w : Story) (c : Course) (n : ℕ) (o : Option Pointer) (last : Bool) → Kept v → Kept w
+    → Fits d t v → t.half ≡ Rest
     → t.course.endings.list ≡ [] → w ≡ done_on (leave (state v)) v d o → last ≡ on (is_last (state v)) false o
     → HasLeft d t.course c t'.course w n o last → t'.half ≡ t.half → IsStockedBy o last t.stock t'.stock → Fits d t' w
 fits_left d t t' v w c n None last kept kept' fits e none is said left half stock =
-    let idle : HalfFits d Rest t.course.holdings.slots.items (task_at t.course).act v = subst (λ (h : Half). HalfFits d h t.course.holdings.slots.items (task_at t.course).act v) e fits.half in
+    let idle : HalfFits d Rest t.course.holdings.slots.items (task_at t.course).act v =
+    subst (λ (h : Half). HalfFits d h t.course.holdings.slots.items (task_at t.course).act v) e fits.half in
     let r = t'.course.endings in
     let nothing : r.list ≡ [] = left.list ∙ ap (λ (z : Stack). z.list) left.gone.endings ∙ none in
-    let room : t.course.endings.room ≤ r.room = let z : c.endings.room ≡ t.course.endings.room = ap (λ (y : Stack). y.room) left.gone.endings in let q = left.roomy in omega (arith, z, q) in
+    let room : t.course.endings.room ≤ r.room = let z : c.endings.room ≡ t.course.endings.room = ap (λ (y : Stack). y.room) left.gone.endings in
+    let q = left.roomy in omega (arith, z, q) in
     subst (λ (k : Course). Fits d (record { course = k; stock = t'.stock; half = t'.half }) w) (sym left.same)
     (subst (λ (h : Half). Fits d (record { course = record c { endings = r }; stock = t'.stock; half = h }) w) (sym (half ∙ e))
     (subst (λ (u : Story). Fits d (record { course = record c { endings = r }; stock = t'.stock; half = Rest }) u) (sym is)

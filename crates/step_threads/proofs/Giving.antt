@@ -35,7 +35,8 @@ refused_this c k q lt ready act =
     }
 
 -- the object was asked, and gives pointers to itself
-pub fits_asked : (d : ℕ) (t : Thread) (v : Story) (i : ℕ) (q : Kind) (x : Pointer) → Fits d t v → t.half ≡ Rest → t.course.endings.list ≡ [] → t.course.at < length t.course.tasks.items
+pub fits_asked : (d : ℕ) (t : Thread) (v : Story) (i : ℕ) (q : Kind) (x : Pointer) → Fits d t v → t.half ≡ Rest → t.course.endings.list ≡ []
+    → t.course.at < length t.course.tasks.items
     → (task_at t.course).act ≡ FromThis i q → inside (slot t.course.holdings.slots.items i) ≡ Some x → is_enabled (state v) x ≡ true
     → Fits d (record { course = t.course; stock = t.stock; half = Giving i q x }) v
 fits_asked d t v i q x fits e none lt act at enabled =

@@ -1,10 +1,12 @@
 -- What is in hand has no part in the next task, where nothing was taken.
-use Rattle.std.proofs.Common.{◌≡◌, ℕ, ◌+◌, ◌-◌, ◌<◌, ◌≤◌, ◌⊎◌, Bool, false, not, List, length, set, drop, refl, sym, ap, subst, ◌∙◌, arith}
+use Rattle.std.proofs.Common.{◌≡◌, ℕ, ◌+◌, ◌-◌, ◌<◌, ◌≤◌, ◌⊎◌, Bool, false, not, List, length, set, drop, refl, sym, ap, subst}
+use Rattle.std.proofs.Common.{◌∙◌, arith}
 use Rattle.std.proofs.Common.{⊎_elim, inl, inr, get_or-set_same, get_or-set_other, length-set}
 use Rattle.std.proofs.lemmas.Bool.{cases_lt}
 use Rattle.std.proofs.lemmas.List.{drop_all}
 use Rattle.step_threads.specs.declared.act.Act.{Act}
-use Rattle.step_threads.specs.declared.act.Act.TheVariants.{Make, Share, Downgrade, Lock, Put, Leave, Clear, Count, Expired, Read, FromThis, Alias, Move, Ask, Offer, Swap, Exchange, Load, Compare, Drop}
+use Rattle.step_threads.specs.declared.act.Act.TheVariants.{Make, Share, Downgrade, Lock, Put, Leave, Clear, Count, Expired, Read, FromThis, Alias, Move, Ask}
+use Rattle.step_threads.specs.declared.act.Act.TheVariants.{Offer, Swap, Exchange, Load, Compare, Drop}
 use Rattle.step_threads.specs.declared.act.Task.{Task}
 use Rattle.step_threads.specs.declared.course.Course.{Course}
 use Rattle.step_threads.specs.declared.ending.Ending.{Ending}
@@ -17,7 +19,8 @@ use Rattle.step_threads.proofs.Courses.{ready_head, settled_still, todo_at}
 settled_at : (c : Course) (slots : Slots) (es : List Ending) → (c.at < length c.tasks.items → idle (task_at c).act slots c.taken ≡ false)
     → settled slots c.taken es (todo c) ≡ record { slots = slots; taken = c.taken; endings = es; todo = todo c }
 settled_at c slots es still =
-    ⊎_elim (λ (lt : c.at < length c.tasks.items). subst Same (sym (todo_at c lt)) (settled_still slots c.taken es (task_at c) (drop (c.at + 1) c.tasks.items) (still lt)))
+    ⊎_elim (λ (lt : c.at < length c.tasks.items). subst Same (sym (todo_at c lt))
+    (settled_still slots c.taken es (task_at c) (drop (c.at + 1) c.tasks.items) (still lt)))
     (λ (le : length c.tasks.items ≤ c.at). subst Same (sym (drop_all c.at c.tasks.items le)) refl) (cases_lt c.at (length c.tasks.items))
   where
     Same : List Task → Type 0

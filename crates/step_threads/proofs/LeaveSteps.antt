@@ -36,7 +36,8 @@ same_remains : (v : Story) (d : ℕ) (x : Pointer) (k : Kind) (b : Bool)
 same_remains v d x Owner true =
     let o = object_in v x.block in
     let y = (state v).object o in
-    ap (λ (r : Ended). Some r) (put_cases (λ j (z : Object). remains z ≡ remains y) (state v).object o (moved_to (ending d) y) o (λ e. refl) (λ n. absurd (n refl)))
+    ap (λ (r : Ended). Some r)
+    (put_cases (λ j (z : Object). remains z ≡ remains y) (state v).object o (moved_to (ending d) y) o (λ e. refl) (λ n. absurd (n refl)))
 same_remains v d x Owner false = refl
 same_remains v d x Weak true = refl
 same_remains v d x Weak false = refl
@@ -49,7 +50,8 @@ some_full : (o : Option Pointer) → is_some o ≡ is_full o
 some_full None = refl
 some_full (Some x) = refl
 
-pub ended_left : (v w : Story) (d : ℕ) (o : Option Pointer) (last : Bool) → w ≡ done_on (leave (state v)) v d o → last ≡ on (is_last (state v)) false o
+pub ended_left : (v w : Story) (d : ℕ) (o : Option Pointer) (last : Bool) → w ≡ done_on (leave (state v)) v d o
+    → last ≡ on (is_last (state v)) false o
     → on (λ x. cond last (remains_as x.kind ((state w).object (object_in w x.block))) None) None o ≡ ended_by (state v) o
 ended_left v w d None last is said = refl
 ended_left v w d (Some x) last is said =
@@ -75,15 +77,18 @@ went_left d c c' c'' v w a o last k has leaves said walked =
     let list : l ≡ on (λ y. begins_end (state v) k y es) es (left c.holdings.slots.items a) =
     has.list ∙ ap (λ (r : List Ending). on (λ y. cond last (begins_end_as y.kind k y r) r) r o) e ∙ begun_left (state v) k es o last said
     ∙ ap (λ (q : Option Pointer). on (λ y. begins_end (state v) k y es) es q) (sym leaves) in
-    ap walk has.same ∙ ap (λ (z : Walk). with_endings z l) walked ∙ settled_with x.0 x.1 es l (rest c) ∙ ap (λ (r : List Ending). settled x.0 x.1 r (rest c)) list
+    ap walk has.same ∙ ap (λ (z : Walk). with_endings z l) walked ∙ settled_with x.0 x.1 es l (rest c) ∙ ap
+    (λ (r : List Ending). settled x.0 x.1 r (rest c)) list
 
 -- a step that left what a slot held, and what is said of it
 pub stepped_left : (d : ℕ) (t t' : Thread) (v w : Story) (r : Stepped) (a : Act) (o : Option Pointer) (last : Bool) (ended : Option Ended) (k : ℕ)
-    → k ≡ (task_at t.course).statement → t.half ≡ Rest → t.course.endings.list ≡ [] → t.course.at < length t.course.tasks.items → (task_at t.course).act ≡ a
+    → k ≡ (task_at t.course).statement → t.half ≡ Rest → t.course.endings.list ≡ [] → t.course.at < length t.course.tasks.items
+    → (task_at t.course).act ≡ a
     → waits_on v (walk t.course) a ≡ false
     → first v d (walk t.course) (task_at t.course).statement (rest t.course) a
     ≡ acts v d (walk t.course) (task_at t.course).statement (rest t.course) a (option_map (leave (state v)) o) Rest
-    → answer_of (by_word v) (state v) d t.course.holdings.slots.items a ≡ None → ended_of (state v) t.course.holdings.slots.items a ≡ ended_by (state v) o
+    → answer_of (by_word v) (state v) d t.course.holdings.slots.items a ≡ None
+    → ended_of (state v) t.course.holdings.slots.items a ≡ ended_by (state v) o
     → w ≡ done_on (leave (state v)) v d o → last ≡ on (is_last (state v)) false o
     → ended ≡ on (λ x. cond last (remains_as x.kind ((state w).object (object_in w x.block))) None) None o
     → t'.half ≡ t.half → walk t'.course ≡ went (state v) d (walk t.course) k (rest t.course) a
@@ -91,7 +96,11 @@ pub stepped_left : (d : ℕ) (t t' : Thread) (v w : Story) (r : Stepped) (a : Ac
     → HasStepped d t v r t' w
 stepped_left d t t' v w r a o last ended k number rests none lt act goes one silent ends is said left half walked says =
     let n = (task_at t.course).statement in
-    let y : Said = record { statement = n; answer = answer_of (by_word v) (state v) d t.course.holdings.slots.items a; ended = ended_of (state v) t.course.holdings.slots.items a } in
+    let y : Said = record {
+      statement = n;
+      answer = answer_of (by_word v) (state v) d t.course.holdings.slots.items a;
+      ended = ended_of (state v) t.course.holdings.slots.items a;
+    } in
     let e : ended ≡ ended_of (state v) t.course.holdings.slots.items a = left ∙ ended_left v w d o last is said ∙ sym ends in
     let same : ◌≡◌ {A = Said} (record { statement = k; answer = None; ended = ended }) y =
     ap (λ (m : ℕ). record { statement = m; answer = None; ended = ended }) number

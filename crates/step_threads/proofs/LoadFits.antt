@@ -28,7 +28,8 @@ pub owned_some : (o : Option Block) → o ≢ None → (b : Block) × (o ≡ Som
 owned_some None n = absurd (n refl)
 owned_some (Some b) n = (b, refl)
 
-pub cell_of_load : (d : ℕ) (t : Thread) (v : Story) (c : CellName) → Fits d t v → t.course.at < length t.course.tasks.items → (task_at t.course).act ≡ Load c
+pub cell_of_load : (d : ℕ) (t : Thread) (v : Story) (c : CellName) → Fits d t v → t.course.at < length t.course.tasks.items
+    → (task_at t.course).act ≡ Load c
     → IsIn v.extent.shape c
 cell_of_load d t v c fits lt act = subst (λ (a : Act). HasCell v.extent.shape a) act (cell_here t.course v lt fits.cells)
 
@@ -58,4 +59,5 @@ module _ (d : ℕ) (t : Thread) (v : Story) (c : CellName) (x : CellWord) (fits 
       let b = owned_some x.owned loaded.0 in
       let valid = (half_here d t v (Saw x) fits e).1 in
       fits_gone d t v (Saw x) (Refill Turning at (more_taken x) k) fits e (λ b. refl) (λ b. refl) (OnCell (Take at x None)) c' next.2 refl on
-      (begins_refill d v kept fits.seat at x None b.0 (cell_open v d t.course.holdings.slots.items c (cell_of_load d t v c fits next.0 act) fits.holds saw.0) valid b.1 loaded.1) tt
+      (begins_refill d v kept fits.seat at x None b.0
+      (cell_open v d t.course.holdings.slots.items c (cell_of_load d t v c fits next.0 act) fits.holds saw.0) valid b.1 loaded.1) tt

@@ -54,7 +54,8 @@ module _ (d : ℕ) (t : Thread) (v : Story) (h h' : Half) (fits : Fits d t v) (w
       }
 
   -- a step that is no event was made, and the thread is at the same act
-  pub fits_quiet : (x : Deed) → event_of (state v) x ≡ None → HalfFits d h' t.course.holdings.slots.items (task_at t.course).act (after v d x) → IsNext h' t.course
+  pub fits_quiet : (x : Deed) → event_of (state v) x ≡ None
+      → HalfFits d h' t.course.holdings.slots.items (task_at t.course).act (after v d x) → IsNext h' t.course
       → Fits d (record { course = t.course; stock = t.stock; half = h' }) (after v d x)
   fits_quiet x quiet half next =
       let w = after v d x in
@@ -75,7 +76,8 @@ module _ (d : ℕ) (t : Thread) (v : Story) (h h' : Half) (fits : Fits d t v) (w
                     each = each_end d v w t.course.endings.list (λ e is. record {
                       ending = subst (λ (s : State). (s.object (s.latest e.block.0)).phase ≡ ending d) (sym same) is.ending;
                       within = is.within;
-                      cleared = λ m l. subst (λ (s : State). (s.object (s.latest e.block.0)).member m ≡ empty (kind_of_member m)) (sym same) (is.cleared m l);
+                      cleared = λ m l. subst (λ (s : State). (s.object (s.latest e.block.0)).member m ≡ empty (kind_of_member m))
+                          (sym same) (is.cleared m l);
                     }) fits.endings.all.each;
                     once = fits.endings.all.once;
                   };

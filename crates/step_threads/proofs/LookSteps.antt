@@ -61,28 +61,34 @@ spent_bare x bare = ap (λ (o : Option Block). is_some o && (x.taken == 256)) ba
 module _ (v : Story) (d : ℕ) (w : Walk) (k : ℕ) (ts : List Task) (a : Act) (c : Cell) (y : Option Compared) (x : CellWord) where
   pub sees_bare : x.owned ≡ None → sees v d w k ts a c y x ≡ acts v d w k ts a (Some (OnCell (Look c x y))) Rest
   sees_bare bare =
-      cond-false (is_spent x) (within w k None Rest) (cond (is_some x.owned) (within w k None (Saw x)) (acts v d w k ts a (Some (OnCell (Look c x y))) Rest)) (spent_bare x bare)
+      cond-false (is_spent x) (within w k None Rest)
+      (cond (is_some x.owned) (within w k None (Saw x)) (acts v d w k ts a (Some (OnCell (Look c x y))) Rest)) (spent_bare x bare)
       ∙ cond-false (is_some x.owned) (within w k None (Saw x)) (acts v d w k ts a (Some (OnCell (Look c x y))) Rest) (ap is_some bare)
 
   pub sees_spent : is_spent x ≡ true → sees v d w k ts a c y x ≡ within w k None Rest
   sees_spent spent =
-      cond-true (is_spent x) (within w k None Rest) (cond (is_some x.owned) (within w k None (Saw x)) (acts v d w k ts a (Some (OnCell (Look c x y))) Rest)) spent
+      cond-true (is_spent x) (within w k None Rest)
+      (cond (is_some x.owned) (within w k None (Saw x)) (acts v d w k ts a (Some (OnCell (Look c x y))) Rest)) spent
 
   pub sees_full : is_spent x ≡ false → is_some x.owned ≡ true → sees v d w k ts a c y x ≡ within w k None (Saw x)
   sees_full left full =
-      cond-false (is_spent x) (within w k None Rest) (cond (is_some x.owned) (within w k None (Saw x)) (acts v d w k ts a (Some (OnCell (Look c x y))) Rest)) left
+      cond-false (is_spent x) (within w k None Rest)
+      (cond (is_some x.owned) (within w k None (Saw x)) (acts v d w k ts a (Some (OnCell (Look c x y))) Rest)) left
       ∙ cond-true (is_some x.owned) (within w k None (Saw x)) (acts v d w k ts a (Some (OnCell (Look c x y))) Rest) full
 
   -- what a fund is taken of shows the same still, or not
   pub takes_it : (word_at v c == cell_bits x) ≡ true
       → takes v d w k ts a c y x ≡ acts v d w k ts a (Some (OnCell (Take c x y))) (Refill Turning c (more_taken x) k)
-  takes_it same = cond-true (word_at v c == cell_bits x) (acts v d w k ts a (Some (OnCell (Take c x y))) (Refill Turning c (more_taken x) k)) (within w k None Rest) same
+  takes_it same = cond-true (word_at v c == cell_bits x) (acts v d w k ts a (Some (OnCell (Take c x y))) (Refill Turning c (more_taken x) k))
+      (within w k None Rest) same
 
   pub takes_none : (word_at v c == cell_bits x) ≡ false → takes v d w k ts a c y x ≡ within w k None Rest
-  takes_none same = cond-false (word_at v c == cell_bits x) (acts v d w k ts a (Some (OnCell (Take c x y))) (Refill Turning c (more_taken x) k)) (within w k None Rest) same
+  takes_none same = cond-false (word_at v c == cell_bits x) (acts v d w k ts a (Some (OnCell (Take c x y))) (Refill Turning c (more_taken x) k))
+      (within w k None Rest) same
 
 -- the first step of a load
-module _ (d : ℕ) (t : Thread) (v : Story) (c : CellName) (x : CellWord) (is : x ≡ seen v (cell_at (state v) t.course.holdings.slots.items c)) (rests : t.half ≡ Rest)
+module _ (d : ℕ) (t : Thread) (v : Story) (c : CellName) (x : CellWord) (is : x ≡ seen v (cell_at (state v) t.course.holdings.slots.items c))
+    (rests : t.half ≡ Rest)
     (none : t.course.endings.list ≡ []) (lt : t.course.at < length t.course.tasks.items) (act : (task_at t.course).act ≡ Load c)
     (there : is_there t.course.holdings.slots.items c ≡ true) where
   looks_at : step_at v d t.half (walk t.course)
@@ -93,7 +99,8 @@ module _ (d : ℕ) (t : Thread) (v : Story) (c : CellName) (x : CellWord) (is : 
       let ts = rest t.course in
       let at = cell_at (state v) t.course.holdings.slots.items c in
       at_act d t v (Load c) rests none lt act
-      ∙ ap (λ (s : Step). Some s) (cond-true (is_there t.course.holdings.slots.items c) (sees v d w n ts (Load c) at None (seen v at)) (acts v d w n ts (Load c) None Rest) there)
+      ∙ ap (λ (s : Step). Some s)
+      (cond-true (is_there t.course.holdings.slots.items c) (sees v d w n ts (Load c) at None (seen v at)) (acts v d w n ts (Load c) None Rest) there)
       ∙ ap (λ (z : CellWord). Some (sees v d w n ts (Load c) at None z)) (sym is)
 
   waiting : waits v t.half (walk t.course) ≡ is_spent x

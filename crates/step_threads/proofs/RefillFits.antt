@@ -49,7 +49,8 @@ module _ (d : ℕ) (t : Thread) (v : Story) (c : Cell) (x : CellWord) (k : ℕ) 
   pub fits_refunded : (b : Block) → Kept v → t.half ≡ Refill Lacking c x k → x.owned ≡ Some b
       → Fits d (At t (Refill Refilling c x k)) (after v d (OnCell (Bring (kind_in (state v) c) b x.place x.taken)))
   fits_refunded b kept e owned =
-      fits_quiet d t v (Refill Lacking c x k) (Refill Refilling c x k) fits e (λ q. refl) (λ q. refl) (OnCell (Bring (kind_in (state v) c) b x.place x.taken)) refl
+      fits_quiet d t v (Refill Lacking c x k) (Refill Refilling c x k) fits e (λ q. refl) (λ q. refl)
+      (OnCell (Bring (kind_in (state v) c) b x.place x.taken)) refl
       (brings_funds d v kept fits.seat c x b (refill_here d t v Lacking c x k fits e) owned) tt
 
   -- they go into the cell

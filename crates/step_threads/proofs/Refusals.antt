@@ -38,8 +38,10 @@ module _ (c : Course) (x : CellName) (lt : c.at < length c.tasks.items) (ready :
       → Ready (other c.holdings.slots.items) c.taken (rest c))
   on_ready a on =
       let n = other c.holdings.slots.items in
-      let P : Act → Type 0 = λ (b : Act). (dropping (Drops (rest c)) b → ⊥) × (Begins n c.taken b → Ready n (taken_after b c.taken) (rest c) → Ready n c.taken (rest c)) in
-      let none : c.taken ≡ false → Ready n true (rest c) → Ready n c.taken (rest c) = λ e r. subst (λ (b : Bool). Ready n b (rest c)) (sym e) (ready_any n (rest c) r) in
+      let P : Act → Type 0 = λ (b : Act). (dropping (Drops (rest c)) b → ⊥)
+      × (Begins n c.taken b → Ready n (taken_after b c.taken) (rest c) → Ready n c.taken (rest c)) in
+      let none : c.taken ≡ false → Ready n true (rest c) → Ready n c.taken (rest c) =
+      λ e r. subst (λ (b : Bool). Ready n b (rest c)) (sym e) (ready_any n (rest c) r) in
       ⊎_elim (λ (e : a ≡ Load x). subst P (sym e) ((λ z. z), (λ b r. none b.1 r)))
       (λ (q : (k : ℕ) × ((a ≡ Offer k x) ⊎ (a ≡ Exchange k x))).
       ⊎_elim (λ (e : a ≡ Offer q.0 x). subst P (sym e) ((λ z. z), (λ b r. none b.2 r)))

@@ -16,7 +16,8 @@ use Rattle.step_threads.specs.declared.said.Stepped.TheVariants.{Event, Quiet, W
 use Rattle.step_threads.specs.declared.thread.Thread.{Thread}
 use Rattle.step_threads.specs.Courses.{done_on, hand, rest, task_at, todo, walk}
 use Rattle.step_table.specs.Holdings.{is_full, slot}
-use Rattle.step_threads.specs.NextSteps.{at_rest, begun, emptied, first, half_by, is_event, step_at, stepped, story_after, story_by, waits, waits_at, waits_on, walk_by}
+use Rattle.step_threads.specs.NextSteps.{at_rest, begun, emptied, first, half_by, is_event, step_at, stepped, story_after, story_by, waits, waits_at, waits_on}
+use Rattle.step_threads.specs.NextSteps.{walk_by}
 use Rattle.step_threads.specs.Steps.{Step, empties, ends_on}
 use Rattle.step_table.specs.Stories.{Story, event_of, state}
 use Rattle.step_threads.specs.Threads.{HasStepped}
@@ -24,7 +25,8 @@ use Rattle.step_threads.proofs.Courses.{todo_at}
 
 -- a step that is known, and doesn't wait
 pub stepped_as : (d : ℕ) (t : Thread) (v : Story) (x : Step) (r : Stepped) (t' : Thread) (v' : Story) → waits v t.half (walk t.course) ≡ false
-    → step_at v d t.half (walk t.course) ≡ Some x → r ≡ stepped v (Some x) → v' ≡ story_after v d x.deed → walk t'.course ≡ x.walk → t'.half ≡ x.half
+    → step_at v d t.half (walk t.course) ≡ Some x → r ≡ stepped v (Some x) → v' ≡ story_after v d x.deed
+    → walk t'.course ≡ x.walk → t'.half ≡ x.half
     → HasStepped d t v r t' v'
 stepped_as d t v x r t' v' goes is answer story walked half =
     record {
@@ -42,7 +44,8 @@ pub at_act : (d : ℕ) (t : Thread) (v : Story) (a : Act) → t.half ≡ Rest �
     → step_at v d t.half (walk t.course) ≡ Some (first v d (walk t.course) (task_at t.course).statement (rest t.course) a)
 at_act d t v a e none lt act =
     let w = walk t.course in
-    ap (λ (h : Half). step_at v d h w) e ∙ ap (λ (es : List Ending). at_rest v d w es) none ∙ ap (λ (ts : List Task). begun v d w ts) (todo_at t.course lt)
+    ap (λ (h : Half). step_at v d h w) e ∙ ap (λ (es : List Ending). at_rest v d w es) none ∙ ap
+    (λ (ts : List Task). begun v d w ts) (todo_at t.course lt)
     ∙ ap (λ (b : Act). Some (first v d w (task_at t.course).statement (rest t.course) b)) act
 
 -- then it is the act that waits, if any
@@ -50,7 +53,8 @@ pub waits_act : (t : Thread) (v : Story) (a : Act) → t.half ≡ Rest → t.cou
     → (task_at t.course).act ≡ a → waits v t.half (walk t.course) ≡ waits_on v (walk t.course) a
 waits_act t v a e none lt act =
     let w = walk t.course in
-    ap (λ (h : Half). waits v h w) e ∙ ap (λ (es : List Ending). waits_at v w es w.todo) none ∙ ap (λ (ts : List Task). waits_at v w [] ts) (todo_at t.course lt)
+    ap (λ (h : Half). waits v h w) e ∙ ap (λ (es : List Ending). waits_at v w es w.todo) none ∙ ap
+    (λ (ts : List Task). waits_at v w [] ts) (todo_at t.course lt)
     ∙ ap (λ (b : Act). waits_on v w b) act
 
 -- within no act, what came out of a member leaves, and with nothing in hand the ending begun last goes on

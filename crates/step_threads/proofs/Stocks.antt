@@ -1,5 +1,6 @@
 -- Stores as lists of numbers.
-use Rattle.std.proofs.Common.{◌≡◌, ℕ, zero, suc, ◌+◌, ◌-◌, ◌<◌, ◌≤◌, ◌⊎◌, false, List, [], ◌∷◌, ◌++◌, length, get_or, refl, sym, ap, subst, ◌∙◌, ⊎_elim, arith}
+use Rattle.std.proofs.Common.{◌≡◌, ℕ, zero, suc, ◌+◌, ◌-◌, ◌<◌, ◌≤◌, ◌⊎◌, false, List, [], ◌∷◌, ◌++◌, length, get_or}
+use Rattle.std.proofs.Common.{refl, sym, ap, subst, ◌∙◌, ⊎_elim, arith}
 use Rattle.std.specs.List.{AllByRecursion, All}
 use Rattle.std.specs.List.Sorted.{IsPermutation}
 use Rattle.std.specs.BinaryHeap.{IsUpperBound, PopsGreatest}
@@ -26,7 +27,8 @@ pub record WentOut (b : ℕ) (old new : List ℕ) : Type 0 where
   pub rest : IsPermutation old (b ∷ new)
   pub least : All (λ c. b ≤ c) old
 
-least_of : (b : ℕ) (items : List (Reverse ℕ)) → IsUpperBound (λ (x y : Reverse ℕ). nat_cmp y.0 x.0) (record { 0 = b }) items → AllByRecursion (λ c. b ≤ c) (numbers items)
+least_of : (b : ℕ) (items : List (Reverse ℕ)) → IsUpperBound (λ (x y : Reverse ℕ). nat_cmp y.0 x.0) (record { 0 = b }) items
+    → AllByRecursion (λ c. b ≤ c) (numbers items)
 least_of b [] all = tt
 least_of b (x ∷ xs) all = (ge_from_not_lt x.0 b all.0, least_of b xs all.1)
 
@@ -77,7 +79,8 @@ returned_out b old new next end out few =
       least =
           All-append (λ c. b ≤ c) (numbers old) (from next (end - next)) out.least
           (⊎_elim
-          (λ (e : next ≡ end). subst (λ (n : ℕ). All (λ c. b ≤ c) (from next n)) (let z : 0 ≡ end - next = omega (arith, e) in z) (all_from b b 0 (omega arith)))
+          (λ (e : next ≡ end). subst (λ (n : ℕ). All (λ c. b ≤ c) (from next n)) (let z : 0 ≡ end - next = omega (arith, e) in z)
+          (all_from b b 0 (omega arith)))
           (λ (low : (b : ℕ) → All (λ c. b ≤ c) (numbers old) → b ≤ next). all_from b next (end - next) (low b out.least))
           few);
     }
@@ -88,11 +91,13 @@ pub none_out : (items : List (Reverse ℕ)) (next end : ℕ) → length items �
 none_out [] next end e few =
     ap (from next)
     (⊎_elim (λ (s : next ≡ end). let z : end - next ≡ 0 = omega (arith, s) in z)
-    (λ (low : (b : ℕ) → All (λ c. b ≤ c) [] → b ≤ next). let l = low (suc next) (λ k d lt. absurd (omega (arith, lt))) in absurd (omega (arith, l))) few)
+    (λ (low : (b : ℕ) → All (λ c. b ≤ c) [] → b ≤ next). let l = low (suc next) (λ k d lt. absurd (omega (arith, lt))) in
+    absurd (omega (arith, l))) few)
 none_out (x ∷ xs) next end e few = absurd (omega arith)
 
 -- all of those that came in are above, or one is not
-pub peeked_above : (x : Reverse ℕ) (items : List (Reverse ℕ)) (next : ℕ) → IsUpperBound (λ (x y : Reverse ℕ). nat_cmp y.0 x.0) x items → next ≤ x.0
+pub peeked_above : (x : Reverse ℕ) (items : List (Reverse ℕ)) (next : ℕ)
+    → IsUpperBound (λ (x y : Reverse ℕ). nat_cmp y.0 x.0) x items → next ≤ x.0
     → All (λ c. next ≤ c) (numbers items)
 peeked_above x items next top le =
     let l = All-from_recursion (λ c. x.0 ≤ c) (numbers items) (least_of x.0 items top) in

@@ -1,5 +1,6 @@
 -- A thread that puts values into cells fits the table, and its steps are as they are said.
-use Rattle.std.proofs.Common.{◌≡◌, ℕ, ◌-◌, ◌<◌, ◌⊎◌, Bool, true, false, cond, not, ◌&&◌, [], length, refl, sym, ap, subst, ◌∙◌, ⊎_elim, arith}
+use Rattle.std.proofs.Common.{◌≡◌, ℕ, ◌-◌, ◌<◌, ◌⊎◌, Bool, true, false, cond, not, ◌&&◌, [], length, refl, sym, ap, subst, ◌∙◌}
+use Rattle.std.proofs.Common.{⊎_elim, arith}
 use Rattle.std.specs.Prelude.{Option, Some, None}
 use Rattle.control_word.specs.declared.cell.CellWord.{CellWord}
 use Rattle.control_word.specs.declared.handle.Kind.{Kind}
@@ -45,7 +46,8 @@ pub half_here : (d : ℕ) (t : Thread) (v : Story) (h : Half) → Fits d t v →
 half_here d t v h fits e = subst (λ (x : Half). HalfFits d x t.course.holdings.slots.items (task_at t.course).act v) e fits.half
 
 -- the cell of the next act is in the shape
-pub cell_of_swap : (d : ℕ) (t : Thread) (v : Story) (c : CellName) → Fits d t v → t.course.at < length t.course.tasks.items → (task_at t.course).act ≡ Swap c
+pub cell_of_swap : (d : ℕ) (t : Thread) (v : Story) (c : CellName) → Fits d t v → t.course.at < length t.course.tasks.items
+    → (task_at t.course).act ≡ Swap c
     → IsIn v.extent.shape c
 cell_of_swap d t v c fits lt act = subst (λ (a : Act). HasCell v.extent.shape a) act (cell_here t.course v lt fits.cells)
 
@@ -68,7 +70,8 @@ swap_goes c x lt still act =
     go false b c e = cc
 
 -- where it goes
-pub going_is : (slots : Slots) (c : CellName) (i : ℕ) → is_there slots c ≡ true → is_of (kind_at c) (value slots i) ≡ true → going_from slots c i ≡ Some (c, i)
+pub going_is : (slots : Slots) (c : CellName) (i : ℕ) → is_there slots c ≡ true → is_of (kind_at c) (value slots i) ≡ true
+    → going_from slots c i ≡ Some (c, i)
 going_is slots c i there is =
     ap (λ (b : Bool). cond {A = Option Going} (b && is_of (kind_at c) (value slots i)) (Some (c, i)) None) there
     ∙ ap (λ (b : Bool). cond {A = Option Going} b (Some (c, i)) None) is
@@ -104,14 +107,16 @@ pub fits_swapped : (d : ℕ) (t : Thread) (v : Story) (c : CellName) (new x : Ce
     → (t.half ≡ Rest) ⊎ (t.half ≡ Brought) → t.course.endings.list ≡ [] → IsIn v.extent.shape c
     → HasGoneOn d t.course c' (after v d (OnCell (cell_deed.Swap (cell_at (state v) t.course.holdings.slots.items c) new x)))
     → h ≡ gives_back (kind_at c) n x x.owned
-    → Fits d (record { course = c'; stock = t.stock; half = h }) (after v d (OnCell (cell_deed.Swap (cell_at (state v) t.course.holdings.slots.items c) new x)))
+    → Fits d (record { course = c'; stock = t.stock; half = h })
+    (after v d (OnCell (cell_deed.Swap (cell_at (state v) t.course.holdings.slots.items c) new x)))
 fits_swapped d t v c new x n h c' kept fits was none lt on e =
     let at = cell_at (state v) t.course.holdings.slots.items c in
     let w = after v d (OnCell (cell_deed.Swap at new x)) in
     let k = cell_kind v t.course.holdings.slots.items c lt in
     let s = fits.stocks in
     let owes : pending w d ≡ owing (state w) (kind_at c) x.owned x.place (256 - x.taken) 0 =
-    owes_after v d (cell_deed.Swap at new x) kept fits.seat ∙ ap (λ (q : Kind). owing (state w) q x.owned x.place (256 - x.taken) 0) (kind_stays v w at refl ∙ k) in
+    owes_after v d (cell_deed.Swap at new x) kept fits.seat ∙ ap (λ (q : Kind). owing (state w) q x.owned x.place (256 - x.taken) 0)
+    (kind_stays v w at refl ∙ k) in
     subst (λ (q : Half). Fits d (record { course = c'; stock = t.stock; half = q }) w) (sym e)
     (record {
       seat = fits.seat;
@@ -125,7 +130,8 @@ fits_swapped d t v c new x n h c' kept fits was none lt on e =
           record {
             stocked = λ b.
                 let a = s.stocked b in
-                let same : in_store (state w) d b ≡ in_store (state v) d b = ap (λ l. length (filter (same_stored (stored d b)) l)) (same_stores v d at new x) in
+                let same : in_store (state w) d b ≡ in_store (state v) d b =
+                ap (λ l. length (filter (same_stored (stored d b)) l)) (same_stores v d at new x) in
                 let before = claimed_none t.half b was in
                 let behind = claims_none (kind_at c) n x x.owned b in omega (arith, a, same, before, behind);
             roomy = s.roomy;
@@ -154,7 +160,8 @@ fits_returned d t v k b f n kept fits e =
           record {
             all =
                 record {
-                  each = each_end d v w t.course.endings.list (λ y is. record { ending = is.ending; within = is.within; cleared = is.cleared }) fits.endings.all.each;
+                  each = each_end d v w t.course.endings.list
+                      (λ y is. record { ending = is.ending; within = is.within; cleared = is.cleared }) fits.endings.all.each;
                   once = fits.endings.all.once;
                 };
             roomy = fits.endings.roomy;
@@ -169,7 +176,8 @@ pub fits_done : (f : Pointer → Deed) (d : ℕ) (t : Thread) (v w : Story) (o :
     → ((x : Pointer) → (state (after v d (f x))).stores ≡ (state v).stores) → w ≡ done_on f v d o → HasGoneOn d t.course c w
     → Fits d (record { course = c; stock = t.stock; half = Rest }) w
 fits_done f d t v w o c kept fits e none calm stores is on =
-    subst (λ (u : Story). Fits d (record { course = c; stock = t.stock; half = Rest }) u) (sym is) (go o (subst (λ (u : Story). HasGoneOn d t.course c u) is on))
+    subst (λ (u : Story). Fits d (record { course = c; stock = t.stock; half = Rest }) u) (sym is)
+    (go o (subst (λ (u : Story). HasGoneOn d t.course c u) is on))
   where
     go : (o : Option Pointer) → HasGoneOn d t.course c (done_on f v d o) → Fits d (record { course = c; stock = t.stock; half = Rest }) (done_on f v d o)
     go None on =

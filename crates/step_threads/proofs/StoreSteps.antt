@@ -38,7 +38,8 @@ module _ (d : ℕ) (t : Thread) (v : Story) (a : Act) (c : CellName) (i : ℕ) (
       at_act d t v a e none lt act
       ∙ ap (λ (x : Step). Some x) (one ∙ ap (λ (g : Option Going). on_going (sends v d w n ts a) (acts v d w n ts a None Rest) g) goes)
 
-  pub step_brings : (x : Pointer) → t.half ≡ Rest → going t.course.holdings.slots.items a ≡ Some (c, i) → slot t.course.holdings.slots.items i ≡ Some x
+  pub step_brings : (x : Pointer) → t.half ≡ Rest → going t.course.holdings.slots.items a ≡ Some (c, i)
+      → slot t.course.holdings.slots.items i ≡ Some x
       → step_at v d t.half (walk t.course) ≡ Some (brings (walk t.course) (task_at t.course).statement x)
   step_brings x e goes at =
       let w = walk t.course in
@@ -56,7 +57,8 @@ pub step_offers : (d : ℕ) (t : Thread) (v : Story) (k : ℕ) (c : CellName) �
     → (b : Bool) (r : Stepped) (t' : Thread) (v' : Story)
     → r ≡ cond b (Event (silent (task_at t.course).statement)) (Quiet (silent (task_at t.course).statement))
     → b ≡ is_full (offered t.course.holdings.slots.items k c) → v' ≡ done_on share v d (offered t.course.holdings.slots.items k c)
-    → walk t'.course ≡ settled (slice_set t.course.holdings.slots.items (hand t.course.holdings.slots.items) (fitting (kind_at c) (value t.course.holdings.slots.items k)))
+    → walk t'.course ≡ settled
+    (slice_set t.course.holdings.slots.items (hand t.course.holdings.slots.items) (fitting (kind_at c) (value t.course.holdings.slots.items k)))
     true t.course.endings.list (rest t.course)
     → t'.half ≡ Rest → HasStepped d t v r t' v'
 step_offers d t v k c rests none lt act there b r t' v' answer is story walked half =
@@ -66,6 +68,8 @@ step_offers d t v k c rests none lt act there b r t' v' answer is story walked h
     let o = offered w.slots k c in
     stepped_as d t v (acts v d w n ts (Offer k c) (option_map share o) Rest) r t' v' (waits_act t v (Offer k c) rests none lt act)
     (at_act d t v (Offer k c) rests none lt act)
-    (says_on share v o r (silent n) (told_as n (refusal w.slots c)) b (λ p. share_event v p p.kind) answer is (ap (told_as n) (sym (refusal_none w.slots c there))))
+    (says_on share v o r (silent n) (told_as n (refusal w.slots c)) b (λ p. share_event v p p.kind) answer is
+    (ap (told_as n) (sym (refusal_none w.slots c there))))
     (story ∙ on_slot share v d o)
-    (walked ∙ sym (ap (λ (q : Bool). walked_by w ts (cond q (slice_set w.slots (hand w.slots) (fitting (kind_at c) (value w.slots k)), true) (w.slots, w.taken))) there)) half
+    (walked ∙ sym (ap (λ (q : Bool). walked_by w ts
+    (cond q (slice_set w.slots (hand w.slots) (fitting (kind_at c) (value w.slots k)), true) (w.slots, w.taken))) there)) half

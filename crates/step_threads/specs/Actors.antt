@@ -1,5 +1,6 @@
 -- What a thread of the machine has, and how it fits the table. All of it is own.
-use Rattle.std.specs.Prelude.{◌≡◌, ℕ, ◌+◌, ◌<◌, ◌≤◌, ◌==◌, true, cond, List, ◌∷◌, length, get_or, sum_by, Option, Some}
+use Rattle.std.specs.Prelude.{◌≡◌, ℕ, ◌+◌, ◌<◌, ◌≤◌, ◌==◌, true, cond, List, ◌∷◌}
+use Rattle.std.specs.Prelude.{length, get_or, sum_by, Option, Some}
 use Rattle.std.specs.List.{filter}
 use Rattle.control_word.specs.declared.place.Block.{Block}
 use Rattle.control_word.specs.declared.view.Pending.TheVariants.{Idle}
@@ -9,7 +10,8 @@ use Rattle.step_threads.specs.declared.act.Act.{Act}
 use Rattle.step_table.specs.declared.form.Form.{Form}
 use Rattle.control_word.specs.Words.{flags_of}
 use Rattle.step_threads.specs.declared.half.Half.{Half}
-use Rattle.step_threads.specs.declared.half.Half.TheVariants.{Rest, Making, Locking, Giving, Brought, Saw, Matched, Refill, Returning, Clearing}
+use Rattle.step_threads.specs.declared.half.Half.TheVariants.{Rest, Making, Locking, Giving, Brought, Saw, Matched}
+use Rattle.step_threads.specs.declared.half.Half.TheVariants.{Refill, Returning, Clearing}
 use Rattle.step_table.specs.declared.holdings.Pointer.{Pointer}
 use Rattle.step_table.specs.CellDeeds.{owing}
 use Rattle.step_table.specs.Contents.{owing_for}
@@ -74,4 +76,5 @@ HalfFits d (Saw x) slots a v = (pending v d ≡ Idle) × IsCellWord x
 HalfFits d (Matched x) slots a v = (pending v d ≡ owing_for (state v) (new_of slots a) 256) × IsCellWord x
 HalfFits d (Refill stage c x k) slots a v = RefillFits d stage c x v
 HalfFits d Clearing slots a v = pending v d ≡ Idle
-HalfFits d (Returning kind b funds k) slots a v = (p : Option Place) × (pending v d ≡ owing (state v) kind (Some b) p funds 0)
+HalfFits d (Returning kind b funds k) slots a v = (p : Option Place)
+    × (pending v d ≡ owing (state v) kind (Some b) p funds 0)

@@ -9,12 +9,15 @@ use Rattle.step_threads.specs.declared.statement.Tail.TheVariants.{Nothing, Name
 use Rattle.step_threads.specs.declared.act.Task.{Task}
 use Rattle.step_threads.specs.declared.call.Call.{Call}
 use Rattle.step_threads.specs.declared.call.Call.TheVariants.{Make, Empty, Reset, Copy, Count}
-use Rattle.step_threads.specs.declared.call.Call.TheVariants.{MakeThis, Null, Move, Alias, AliasNull, This, WeakThis, Read, Place, Same, Before}
-use Rattle.step_threads.specs.declared.call.Call.TheVariants.{Store, Exchange, Load, Compare, Weak, WeakCopy, WeakEmpty, WeakReset, Lock, Upgrade, WeakCount, Expired}
+use Rattle.step_threads.specs.declared.call.Call.TheVariants.{MakeThis, Null, Move, Alias, AliasNull, This, WeakThis}
+use Rattle.step_threads.specs.declared.call.Call.TheVariants.{Read, Place, Same, Before}
+use Rattle.step_threads.specs.declared.call.Call.TheVariants.{Store, Exchange, Load, Compare, Weak, WeakCopy, WeakEmpty}
+use Rattle.step_threads.specs.declared.call.Call.TheVariants.{WeakReset, Lock, Upgrade, WeakCount, Expired}
 
 -- the acts of a statement, in order
 abbrev pub acts : Call → List Act
-acts (Make target fields) = act.Make (record { fields = fields; enabled = false; null = false }) ∷ act.Put target.0 ∷ []
+acts (Make target fields) =
+    act.Make (record { fields = fields; enabled = false; null = false }) ∷ act.Put target.0 ∷ []
 acts (Empty target) = act.Leave target.0 ∷ []
 acts (Reset name) = act.Leave name.0 ∷ []
 acts (Copy target source) = act.Share source.0 ∷ act.Put target.0 ∷ []
@@ -27,8 +30,10 @@ acts (Lock target source) = act.Lock source.0 false ∷ act.Put target.0 ∷ []
 acts (Upgrade target source) = act.Lock source.0 true ∷ act.Put target.0 ∷ []
 acts (WeakCount name) = act.Count name.0 ∷ []
 acts (Expired name) = act.Expired name.0 ∷ []
-acts (MakeThis target fields) = act.Make (record { fields = fields; enabled = true; null = false }) ∷ act.Put target.0 ∷ []
-acts (Null target) = act.Make (record { fields = 0 ∷ 0 ∷ 0 ∷ 0 ∷ []; enabled = false; null = true }) ∷ act.Put target.0 ∷ []
+acts (MakeThis target fields) =
+    act.Make (record { fields = fields; enabled = true; null = false }) ∷ act.Put target.0 ∷ []
+acts (Null target) = act.Make (record { fields = 0 ∷ 0 ∷ 0 ∷ 0 ∷ []; enabled = false; null = true })
+    ∷ act.Put target.0 ∷ []
 acts (Move target source) = act.Move source.0 ∷ act.Put target.0 ∷ []
 acts (Alias target source of field) = act.Alias source.0 of.0 (Some field) ∷ act.Put target.0 ∷ []
 acts (AliasNull target source) = act.Alias source.0 source.0 None ∷ act.Put target.0 ∷ []
@@ -41,7 +46,8 @@ acts (Before first second) = act.Ask (question.Before first.0 second.0) ∷ []
 acts (Store cell source) = act.Offer source.0 cell ∷ act.Swap cell ∷ act.Drop ∷ []
 acts (Exchange cell name) = act.Exchange name.0 cell ∷ []
 acts (Load target cell) = act.Load cell ∷ act.Put target.0 ∷ []
-acts (Compare cell expected desired weak) = act.Offer desired.0 cell ∷ act.Compare expected.0 cell weak ∷ act.Put expected.0 ∷ act.Drop ∷ []
+acts (Compare cell expected desired weak) =
+    act.Offer desired.0 cell ∷ act.Compare expected.0 cell weak ∷ act.Put expected.0 ∷ act.Drop ∷ []
 
 -- how a call goes on after its first act: what was taken goes to its name or into a cell, where there is one
 abbrev pub tail : Tail → List Act

@@ -1,12 +1,15 @@
 -- How a thread goes on from act to act. All of it is own.
-use Rattle.std.specs.Prelude.{◌≡◌, ℕ, ◌+◌, ◌-◌, ◌<◌, ◌≤◌, ◌⊎◌, Bool, true, false, cond, not, ◌&&◌, List, [], ◌∷◌, length, drop, get_or, slice_set, Option, Some, None}
+use Rattle.std.specs.Prelude.{◌≡◌, ℕ, ◌+◌, ◌-◌, ◌<◌, ◌≤◌, ◌⊎◌, Bool, true, false, cond}
+use Rattle.std.specs.Prelude.{not, ◌&&◌, List, [], ◌∷◌, length, drop, get_or, slice_set, Option, Some, None}
 use Rattle.control_word.specs.declared.handle.Kind.{Kind}
 use Rattle.control_word.specs.declared.shape.Shape.{Shape}
 use Rattle.control_word.specs.declared.place.Block.{Block}
 use Rattle.control_word.specs.State.{State}
 use Rattle.step_threads.specs.declared.act.Act.{Act}
 use Rattle.step_table.specs.declared.form.Form.{Form}
-use Rattle.step_threads.specs.declared.act.Act.TheVariants.{Make, Share, Downgrade, Lock, Put, Leave, Clear, Count, Expired, Read, FromThis, Alias, Move, Ask, Offer, Swap, Exchange, Load, Compare, Drop}
+use Rattle.step_threads.specs.declared.act.Act.TheVariants.{Make, Share, Downgrade, Lock, Put, Leave, Clear, Count}
+use Rattle.step_threads.specs.declared.act.Act.TheVariants.{Expired, Read, FromThis, Alias, Move, Ask, Offer, Swap}
+use Rattle.step_threads.specs.declared.act.Act.TheVariants.{Exchange, Load, Compare, Drop}
 use Rattle.step_threads.specs.declared.act.Question.{Question}
 use Rattle.step_threads.specs.declared.act.Question.TheVariants as question
 use Rattle.step_threads.specs.declared.act.Task.{Task}
@@ -82,7 +85,8 @@ new_of slots (Exchange k c) = value slots k
 new_of slots (Compare k c weak) = value slots (hand slots)
 new_of slots _ = plain
 
--- what is in hand goes into a cell that is equivalent to slot k, and what the cell held is to be dropped; else what is in hand is
+-- what is in hand goes into a cell that is equivalent to slot k, and what the cell held is to be dropped; else what is
+-- in hand is
 abbrev pub comparing : Slots → ℕ → Bool → Comparing
 comparing slots k weak = record { expected = k; new = hand slots; other = other slots; weak = weak }
 

@@ -1,6 +1,8 @@
 -- Which event an act is by its reply, or that it is none; and what a thread's acts are, one after another. Events name
 -- their sections in the model; the rest is own.
-use Rattle.std.specs.Prelude.{◌≡◌, ◌≢◌, ◌⊎◌, ℕ, ◌<◌, ◌≤◌, Bool, true, false, cond, ◌++◌, ◌||◌, is_some, List, [], ◌∷◌, slice_set, Option, Some, None, option_map}
+use Rattle.std.specs.Prelude.{◌≡◌, ◌≢◌, ◌⊎◌, ℕ, ◌<◌, ◌≤◌, Bool, true, false, cond}
+use Rattle.std.specs.Prelude.{◌++◌, ◌||◌, is_some, List, [], ◌∷◌, slice_set, Option, Some, None}
+use Rattle.std.specs.Prelude.{option_map}
 use Rattle.control_word.specs.declared.event.Entry.{Entry}
 use Rattle.control_word.specs.declared.event.Event.{Event}
 use Rattle.control_word.specs.declared.event.Event.TheVariants as event
@@ -21,7 +23,9 @@ use Rattle.step_table.specs.Contents.{slot_of, told}
 use Rattle.step_table.specs.Deeds.{aliased, before, handle_of, is_enabled, owned}
 use Rattle.step_table.specs.Holdings.{Slots, inside, is_full, owner_slot, place_in, slot, value, weak_slot}
 use Rattle.step_threads.specs.declared.act.Act.{Act}
-use Rattle.step_threads.specs.declared.act.Act.TheVariants.{Make, Share, Downgrade, Lock, Put, Leave, Clear, Count, Expired, Read, FromThis, Alias, Move, Ask, Offer, Swap, Exchange, Load, Compare, Drop}
+use Rattle.step_threads.specs.declared.act.Act.TheVariants.{Make, Share, Downgrade, Lock, Put, Leave, Clear, Count}
+use Rattle.step_threads.specs.declared.act.Act.TheVariants.{Expired, Read, FromThis, Alias, Move, Ask, Offer, Swap}
+use Rattle.step_threads.specs.declared.act.Act.TheVariants.{Exchange, Load, Compare, Drop}
 use Rattle.step_threads.specs.declared.act.Question.{Question}
 use Rattle.step_threads.specs.declared.act.Question.TheVariants as question
 use Rattle.step_threads.specs.declared.act.Task.{Task}
@@ -30,7 +34,8 @@ use Rattle.step_threads.specs.declared.ending.Ending.{Ending}
 use Rattle.step_threads.specs.declared.said.Said.{Said}
 use Rattle.step_threads.specs.Courses.{Walk, cell_at, hand, is_there, offered, other}
 use Rattle.step_threads.specs.Endings.{staged}
-use Rattle.step_threads.specs.Rows.{Reply, Plain, Found, Got, Told, Came, Compared, Left, gone, may_go, row, said_by_row}
+use Rattle.step_threads.specs.Rows.{Reply, Plain, Found, Got, Told, Came, Compared, Left, gone, may_go, row}
+use Rattle.step_threads.specs.Rows.{said_by_row}
 use Rattle.step_threads.specs.Scenes.{remains_as}
 use Rattle.step_threads.specs.Steps.{silent}
 
@@ -100,7 +105,8 @@ module _ {V : Type 0} where
   abbrev pub Swaps : State → Slots → CellName → ℕ → Slot → Option (Event V) → Type 0
   Swaps s l c i x e =
       let y = cell_at s l c in
-      (h : Handle) × (e ≡ Some (event.Swap (cell_in s y) (told s (kind_in s y) (value l i)) h)) × (x ≡ slot_of s h)
+      (h : Handle) × (e ≡ Some (event.Swap (cell_in s y) (told s (kind_in s y) (value l i)) h))
+      × (x ≡ slot_of s h)
 
   abbrev pub Compares : State → Slots → CellName → ℕ → Bool → Bool → Slot → Option (Event V) → Type 0
   Compares s l c k weak swaps x e =
@@ -110,8 +116,9 @@ module _ {V : Type 0} where
       × (e ≡ Some (event.Compare (cell_in s y) (told s q (value l k)) (told s q (value l (hand l))) h swaps weak))
       × (x ≡ slot_of s h)
 
-  -- The act of desk d with this reply, with these slots, in state s, is event e, or none. Whether the reply of an event is
-  -- right is asked by the history; of an act that is none it is said here. An object's value is what its form is worth
+  -- The act of desk d with this reply, with these slots, in state s, is event e, or none. Whether the reply of an event
+  -- is right is asked by the history; of an act that is none it is said here. An object's value is what its form is
+  -- worth
   abbrev pub Makes : (Form → V) → State → ℕ → Slots → Act → Reply → Option (Event V) → Type 0
   Makes worth s d l (Make form) (Found None) e = (stock s d ≡ []) × (e ≡ None)
   Makes worth s d l (Make form) (Found (Some b)) e =
@@ -125,7 +132,8 @@ module _ {V : Type 0} where
       On (λ x. e ≡ Some (event.Count (handle_of s x) n)) ((n ≡ 0) × (e ≡ None)) (slot l k)
   Makes worth s d l (Downgrade k) Plain e = e ≡ option_map (λ (x : Pointer). copies s Weak x.place x) (slot l k)
   Makes worth s d l (Lock k must) (Got got) e =
-      On (λ x. e ≡ Some (event.Lock (weak_of (owned s x) x.place) got)) ((got ≡ false) × (e ≡ None)) (weak_slot (slot l k))
+      On (λ x. e ≡ Some (event.Lock (weak_of (owned s x) x.place) got))
+      ((got ≡ false) × (e ≡ None)) (weak_slot (slot l k))
   Makes worth s d l (Expired k) (Got b) e =
       On (λ x. e ≡ Some (event.Expired (handle_of s x) b)) ((b ≡ true) × (e ≡ None)) (slot l k)
   Makes worth s d l (Read k) (Told n) e =
@@ -145,7 +153,8 @@ module _ {V : Type 0} where
   Makes worth s d l _ _ e = ⊥
 
   -- an act is made, with some reply: what is done, what it says, and where the thread is then
-  pub record MakesAct (worth : Form → V) (s : State) (w : Walk) (t : Task) (ts : List Task) (x : Doing V) (u : Walk) : Type 0 where
+  pub record MakesAct (worth : Form → V) (s : State) (w : Walk) (t : Task) (ts : List Task) (x : Doing V)
+      (u : Walk) : Type 0 where
     pub reply : Reply
     pub makes : Makes worth s x.desk w.slots t.act reply x.event
     pub says : x.said ≡ said_by_row t.statement (row t.act w.slots w.taken reply)
@@ -191,7 +200,8 @@ module _ {V : Type 0} where
   onto h [] = h
   onto h (x ∷ l) = put_on x.desk x.event (onto h l)
 
-  -- what desk d did since h takes its thread from w to u, each in the state in which it stands; others' doings are passed
+  -- what desk d did since h takes its thread from w to u, each in the state in which it stands; others' doings are
+  -- passed
   abbrev pub Goes : (Form → V) → Opening → List (Entry V) → ℕ → Walk → List (Doing V) → Walk → Type 0
   Goes worth z h d w [] u = u ≡ w
   Goes worth z h d w (x ∷ l) u =

@@ -1,5 +1,6 @@
 -- The objects that end in a thread's hands. All of it is own.
-use Rattle.std.specs.Prelude.{◌≡◌, ℕ, ◌+◌, ◌<◌, ◌≤◌, ◌==◌, cond, List, [], ◌∷◌, All, Option, Some, None, sum_by, ◌*◌, ◌-◌}
+use Rattle.std.specs.Prelude.{◌≡◌, ℕ, ◌+◌, ◌<◌, ◌≤◌, ◌==◌, cond, List, [], ◌∷◌, All}
+use Rattle.std.specs.Prelude.{Option, Some, None, sum_by, ◌*◌, ◌-◌}
 use Rattle.control_word.specs.Handles.{empty}
 use Rattle.control_word.specs.State.{ending, kind_of_member}
 use Rattle.step_threads.specs.declared.ending.Ending.{Ending}
@@ -30,13 +31,15 @@ endings_of b es = sum_by (λ (e : Ending). cond (e.block.0 == b) 1 0) es
 pub record IsEnding (d : ℕ) (e : Ending) (v : Story) : Type 0 where
   pub ending : ((state v).object (object_in v e.block)).phase ≡ ending d
   pub within : e.stage ≤ 3
-  pub cleared : (m : ℕ) → m < e.stage → ((state v).object (object_in v e.block)).member m ≡ empty (kind_of_member m)
+  pub cleared : (m : ℕ) → m < e.stage → ((state v).object (object_in v e.block)).member m
+      ≡ empty (kind_of_member m)
 
 -- each object is in one ending at most
 pub record EndsAll (d : ℕ) (es : List Ending) (v : Story) : Type 0 where
   pub each : All (λ (e : Ending). IsEnding d e v) es
   pub once : (b : ℕ) → endings_of b es ≤ 1
 
--- the steps that the end of an object has left: four for each member, as what comes out of it has to leave, and the last
+-- the steps that the end of an object has left: four for each member, as what comes out of it has to leave, and the
+-- last
 abbrev pub ending_steps : Ending → ℕ
 ending_steps e = 4 * (3 - e.stage) + 1

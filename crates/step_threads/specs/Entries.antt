@@ -5,7 +5,9 @@ use Rattle.control_word.specs.Handles.{equivalent}
 use Rattle.control_word.specs.Histories.{entry, leads}
 use Rattle.control_word.specs.State.{Opening, State, Stored}
 use Rattle.step_threads.specs.declared.act.Act.{Act}
-use Rattle.step_threads.specs.declared.act.Act.TheVariants.{Make, Share, Downgrade, Lock, Put, Leave, Clear, Count, Expired, Read, FromThis, Alias, Move, Ask, Offer, Swap, Exchange, Load, Compare, Drop}
+use Rattle.step_threads.specs.declared.act.Act.TheVariants.{Make, Share, Downgrade, Lock, Put, Leave, Clear, Count}
+use Rattle.step_threads.specs.declared.act.Act.TheVariants.{Expired, Read, FromThis, Alias, Move, Ask, Offer, Swap}
+use Rattle.step_threads.specs.declared.act.Act.TheVariants.{Exchange, Load, Compare, Drop}
 use Rattle.step_table.specs.declared.form.Form.{Form}
 use Rattle.step_threads.specs.declared.call.CellName.{CellName}
 use Rattle.step_table.specs.declared.holdings.Pointer.{Pointer}
@@ -13,7 +15,8 @@ use Rattle.step_table.specs.declared.past.Deed.{Deed}
 use Rattle.step_table.specs.declared.past.Deed.TheVariants as deed
 use Rattle.step_table.specs.CellDeeds.{kind_in}
 use Rattle.step_table.specs.Contents.{compare_of, held_in, load_of, swap_of, told}
-use Rattle.step_table.specs.Deeds.{Telling, alias, aliased, downgrade, give, is_enabled, leave, lock, read, share, tell_count, tell_expired}
+use Rattle.step_table.specs.Deeds.{Telling, alias, aliased, downgrade, give, is_enabled, leave, lock, read, share}
+use Rattle.step_table.specs.Deeds.{tell_count, tell_expired}
 use Rattle.step_table.specs.Holdings.{Slots, inside, owner_slot, place_in, slot, value}
 use Rattle.step_table.specs.Stories.{Nothing, added, event_of}
 use Rattle.step_threads.specs.Courses.{cell_at, going, hand, is_there, locked, offered, on_going, other}
@@ -44,8 +47,8 @@ abbrev pub giving : State → Option Pointer → Option Pointer
 giving s None = None
 giving s (Some x) = cond (is_enabled s x) (Some x) None
 
--- a slot's value goes into a cell, and what that held comes out ([util.smartptr.atomic.shared], [util.smartptr.atomic.weak],
--- `exchange`)
+-- a slot's value goes into a cell, and what that held comes out ([util.smartptr.atomic.shared],
+-- [util.smartptr.atomic.weak], `exchange`)
 abbrev pub swaps : Opening → ℕ → Slots → History → CellName → ℕ → History
 swaps z d slots h c k = let s = leads z h in entry d (swap_of s (cell_at s slots c) (value slots k)) ∷ h
 
@@ -62,7 +65,8 @@ is_expected s slots k c = let x = cell_at s slots c in equivalent (held_in s x) 
 -- [util.smartptr.atomic.weak], `compare_exchange_strong`, `compare_exchange_weak`)
 abbrev pub compares : Opening → ℕ → Slots → History → ℕ → CellName → Bool → History
 compares z d slots h k c weak =
-    let s = leads z h in entry d (compare_of s (cell_at s slots c) (value slots k) (value slots (hand slots)) weak) ∷ h
+    let s = leads z h in entry d
+    (compare_of s (cell_at s slots c) (value slots k) (value slots (hand slots)) weak) ∷ h
 
 -- the history after an act of a desk whose thread has this in its slots, where counts are told so
 abbrev pub acted : Telling → Opening → ℕ → Slots → History → Act → History
@@ -76,8 +80,10 @@ acted tell z d slots h (Downgrade k) = does z d h (option_map downgrade (slot sl
 acted tell z d slots h (Lock k must) = does z d h (option_map (lock (leads z h)) (locked slots (Lock k must)))
 acted tell z d slots h (Expired k) = does z d h (option_map (tell_expired (leads z h)) (slot slots k))
 acted tell z d slots h (Read k) = does z d h (option_map (read (leads z h)) (inside (slot slots k)))
-acted tell z d slots h (FromThis k kind) = does z d h (option_map (give kind) (giving (leads z h) (inside (slot slots k))))
-acted tell z d slots h (Alias k j field) = does z d h (option_map (alias (aliased field (place_in slots j))) (owner_slot (slot slots k)))
+acted tell z d slots h (FromThis k kind) =
+    does z d h (option_map (give kind) (giving (leads z h) (inside (slot slots k))))
+acted tell z d slots h (Alias k j field) =
+    does z d h (option_map (alias (aliased field (place_in slots j))) (owner_slot (slot slots k)))
 acted tell z d slots h (Move k) = h
 acted tell z d slots h (Ask q) = h
 acted tell z d slots h (Offer k c) = does z d h (option_map share (offered slots k c))

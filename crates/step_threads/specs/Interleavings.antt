@@ -1,5 +1,6 @@
 -- Histories as interleavings of threads, each with its own statements. All of it is own.
-use Rattle.std.specs.Prelude.{◌≡◌, ◌⊎◌, ℕ, ◌+◌, ◌<◌, ◌≤◌, ◌==◌, false, cond, List, [], ◌∷◌, All, length, replicate, slice_get, Some}
+use Rattle.std.specs.Prelude.{◌≡◌, ◌⊎◌, ℕ, ◌+◌, ◌<◌, ◌≤◌, ◌==◌, false, cond, List, []}
+use Rattle.std.specs.Prelude.{◌∷◌, All, length, replicate, slice_get, Some}
 use Rattle.control_word.specs.declared.event.Entry.{Entry}
 use Rattle.control_word.specs.declared.event.Event.{Event}
 use Rattle.control_word.specs.declared.event.Event.TheVariants.{Split, Join}
@@ -27,9 +28,10 @@ said_on d [] = []
 said_on d (x ∷ xs) = cond (x.0 == d) (x.1 ∷ said_on d xs) (said_on d xs)
 
 module _ {V : Type 0} where
-  -- with the marks of acts that are no events put in, the history has what this thread does on desk d, from its first act to its end, and
-  -- what it says
-  pub record Marked (worth : Form → V) (z : Opening) (h : List (Entry V)) (d : ℕ) (part : Part) (said : List Said) : Type 0 where
+  -- with the marks of acts that are no events put in, the history has what this thread does on desk d, from its first
+  -- act to its end, and what it says
+  pub record Marked (worth : Form → V) (z : Opening) (h : List (Entry V)) (d : ℕ) (part : Part)
+      (said : List Said) : Type 0 where
     pub doings : List (Doing V)
     pub events : onto [] doings ≡ h
     pub last : Walk
@@ -43,10 +45,12 @@ module _ {V : Type 0} where
   IsParting (Join other) = Unit {0}
   IsParting _ = ⊥
 
-  -- the history is legal, and an interleaving of these threads, on the desks from n on, each of which says this; nobody else has an
-  -- event in it
-  pub record Interleaves (worth : Form → V) (z : Opening) (h : List (Entry V)) (n : ℕ) (parts : List Part) (said : ℕ → List Said)
+  -- the history is legal, and an interleaving of these threads, on the desks from n on, each of which says this; nobody
+  -- else has an event in it
+  pub record Interleaves (worth : Form → V) (z : Opening) (h : List (Entry V)) (n : ℕ) (parts : List Part)
+      (said : ℕ → List Said)
       : Type 0 where
     pub legal : IsLegal z h
-    pub each : (i : ℕ) (part : Part) → slice_get parts i ≡ Some part → Marked worth z h (n + i) part (said (n + i))
+    pub each : (i : ℕ) (part : Part) → slice_get parts i ≡ Some part
+        → Marked worth z h (n + i) part (said (n + i))
     pub others : All (λ (e : Entry V). ((n ≤ e.desk) × (e.desk < n + length parts)) ⊎ IsParting e.event) h

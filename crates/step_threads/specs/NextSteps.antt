@@ -1,27 +1,33 @@
 -- What one step of a thread does, by what it has begun and by its next act. All of it is own.
-use Rattle.std.specs.Prelude.{ℕ, ◌==◌, Bool, false, not, ◌&&◌, cond, List, [], ◌∷◌, get_or, is_some, Option, Some, None, option_map}
+use Rattle.std.specs.Prelude.{ℕ, ◌==◌, Bool, false, not, ◌&&◌, cond, List, [], ◌∷◌, get_or, is_some}
+use Rattle.std.specs.Prelude.{Option, Some, None, option_map}
 use Rattle.control_word.specs.declared.cell.CellWord.{CellWord}
 use Rattle.control_word.specs.declared.place.Block.{Block}
 use Rattle.control_word.specs.State.{weak}
 use Rattle.control_word.specs.declared.handle.Kind.{Kind}
 use Rattle.step_threads.specs.declared.act.Act.{Act}
-use Rattle.step_threads.specs.declared.act.Act.TheVariants.{Make, Share, Downgrade, Lock, Put, Leave, Clear, Count, Expired, Read, FromThis, Alias, Move, Ask, Offer, Swap, Exchange, Load, Compare, Drop}
+use Rattle.step_threads.specs.declared.act.Act.TheVariants.{Make, Share, Downgrade, Lock, Put, Leave, Clear, Count}
+use Rattle.step_threads.specs.declared.act.Act.TheVariants.{Expired, Read, FromThis, Alias, Move, Ask, Offer, Swap}
+use Rattle.step_threads.specs.declared.act.Act.TheVariants.{Exchange, Load, Compare, Drop}
 use Rattle.step_threads.specs.declared.act.Task.{Task}
 use Rattle.step_threads.specs.declared.ending.Ending.{Ending}
 use Rattle.step_threads.specs.declared.half.Half.{Half}
-use Rattle.step_threads.specs.declared.half.Half.TheVariants.{Rest, Making, Locking, Giving, Brought, Saw, Matched, Refill, Returning, Clearing}
+use Rattle.step_threads.specs.declared.half.Half.TheVariants.{Rest, Making, Locking, Giving, Brought, Saw, Matched}
+use Rattle.step_threads.specs.declared.half.Half.TheVariants.{Refill, Returning, Clearing}
 use Rattle.step_table.specs.declared.holdings.Pointer.{Pointer}
 use Rattle.step_table.specs.declared.past.Deed.{Deed}
 use Rattle.step_threads.specs.declared.said.Stepped.{Stepped}
 use Rattle.step_threads.specs.declared.said.Stepped.TheVariants.{Event, Quiet, Waited, Done}
 use Rattle.step_threads.specs.Actors.{wanted}
-use Rattle.step_threads.specs.Courses.{Going, Walk, cell_at, comparing, form_of, going, hand, is_there, locked, offered, on_going, other}
+use Rattle.step_threads.specs.Courses.{Going, Walk, cell_at, comparing, form_of, going, hand, is_there, locked, offered}
+use Rattle.step_threads.specs.Courses.{on_going, other}
 use Rattle.step_table.specs.Contents.{as_word, compared_in, is_spent, same_value, seen}
 use Rattle.step_table.specs.Deeds.{downgrade, give, leave, read, share, tell, tell_expired, alias, aliased, on}
 use Rattle.step_table.specs.Holdings.{inside, is_full, slot, owner_slot, place_in, value}
 use Rattle.step_threads.specs.Entries.{least}
 use Rattle.step_table.specs.Stories.{Story, after, event_of, known, pending, state}
-use Rattle.step_threads.specs.Steps.{Step, acts, begins, looks, tries, asks, swaps, sends, sees, takes, compares, matches, settles, refills_on, returns, prepares, claims, ends_on, empties}
+use Rattle.step_threads.specs.Steps.{Step, acts, begins, looks, tries, asks, swaps, sends, sees, takes, compares}
+use Rattle.step_threads.specs.Steps.{matches, settles, refills_on, returns, prepares, claims, ends_on, empties}
 
 -- the first step of the next act, or the whole of it
 abbrev pub first : Story → ℕ → Walk → ℕ → List Task → Act → Step
@@ -32,17 +38,22 @@ first v d w k ts (Leave i) = acts v d w k ts (Leave i) (option_map (leave (state
 first v d w k ts (Clear i) = acts v d w k ts (Clear i) (option_map (leave (state v)) (slot w.slots i)) Rest
 first v d w k ts (Count i) = acts v d w k ts (Count i) (option_map (tell v) (slot w.slots i)) Rest
 first v d w k ts (Downgrade i) = acts v d w k ts (Downgrade i) (option_map downgrade (slot w.slots i)) Rest
-first v d w k ts (Lock i must) = let a = Lock i must in on (looks v d w k ts a) (acts v d w k ts a None Rest) (locked w.slots a)
+first v d w k ts (Lock i must) = let a = Lock i must in
+    on (looks v d w k ts a) (acts v d w k ts a None Rest) (locked w.slots a)
 first v d w k ts (Expired i) = acts v d w k ts (Expired i) (option_map (tell_expired (state v)) (slot w.slots i)) Rest
 first v d w k ts (Read i) = acts v d w k ts (Read i) (option_map (read (state v)) (inside (slot w.slots i))) Rest
-first v d w k ts (FromThis i kind) = on (asks v d w k ts i kind) (acts v d w k ts (FromThis i kind) None Rest) (inside (slot w.slots i))
+first v d w k ts (FromThis i kind) = on (asks v d w k ts i kind) (acts v d w k ts (FromThis i kind) None Rest)
+    (inside (slot w.slots i))
 first v d w k ts (Alias i j field) =
-    acts v d w k ts (Alias i j field) (option_map (alias (aliased field (place_in w.slots j))) (owner_slot (slot w.slots i))) Rest
+    acts v d w k ts (Alias i j field)
+    (option_map (alias (aliased field (place_in w.slots j))) (owner_slot (slot w.slots i))) Rest
 first v d w k ts (Move i) = acts v d w k ts (Move i) None Rest
 first v d w k ts (Ask q) = acts v d w k ts (Ask q) None Rest
 first v d w k ts (Offer i c) = acts v d w k ts (Offer i c) (option_map share (offered w.slots i c)) Rest
-first v d w k ts (Swap c) = let a = Swap c in on_going (sends v d w k ts a) (acts v d w k ts a None Rest) (going w.slots a)
-first v d w k ts (Exchange i c) = let a = Exchange i c in on_going (sends v d w k ts a) (acts v d w k ts a None Rest) (going w.slots a)
+first v d w k ts (Swap c) = let a = Swap c in
+    on_going (sends v d w k ts a) (acts v d w k ts a None Rest) (going w.slots a)
+first v d w k ts (Exchange i c) = let a = Exchange i c in
+    on_going (sends v d w k ts a) (acts v d w k ts a None Rest) (going w.slots a)
 first v d w k ts (Load c) =
     let x = cell_at (state v) w.slots c in
     cond (is_there w.slots c) (sees v d w k ts (Load c) x None (seen v x)) (acts v d w k ts (Load c) None Rest)
@@ -73,17 +84,20 @@ sent v d w (t ∷ ts) = option_map (λ (x : Going). swaps v d w t.statement ts t
 abbrev pub saw_on : Story → ℕ → Walk → ℕ → List Task → CellWord → Act → Option Step
 saw_on v d w k ts x (Load c) = Some (takes v d w k ts (Load c) (cell_at (state v) w.slots c) None x)
 saw_on v d w k ts x (Compare i c weak) =
-    Some (settles v d w k ts (Compare i c weak) (cell_at (state v) w.slots c) (compared_in w.slots (comparing w.slots i weak)) x)
+    Some (settles v d w k ts (Compare i c weak) (cell_at (state v) w.slots c)
+    (compared_in w.slots (comparing w.slots i weak)) x)
 saw_on v d w k ts x _ = None
 
 abbrev pub saw : Story → ℕ → Walk → CellWord → List Task → Option Step
 saw v d w x [] = None
 saw v d w x (t ∷ ts) = saw_on v d w t.statement ts x t.act
 
--- the next step of a compare whose cell was seen to hold what is expected, and which has brought the funds of what is to go in
+-- the next step of a compare whose cell was seen to hold what is expected, and which has brought the funds of what is
+-- to go in
 abbrev pub matched_on : Story → ℕ → Walk → ℕ → List Task → CellWord → Act → Option Step
 matched_on v d w k ts x (Compare i c weak) =
-    Some (matches v d w k ts (Compare i c weak) (cell_at (state v) w.slots c) (compared_in w.slots (comparing w.slots i weak)) x)
+    Some (matches v d w k ts (Compare i c weak) (cell_at (state v) w.slots c)
+    (compared_in w.slots (comparing w.slots i weak)) x)
 matched_on v d w k ts x _ = None
 
 abbrev pub matched : Story → ℕ → Walk → CellWord → List Task → Option Step
@@ -100,11 +114,13 @@ abbrev pub emptied : Story → Walk → List Ending → Option Step
 emptied v w [] = None
 emptied v w (e ∷ es) = Some (empties v w e es)
 
--- within no act: what came out of a member leaves, or else the ending begun last goes on; without endings the next task comes
+-- within no act: what came out of a member leaves, or else the ending begun last goes on; without endings the next task
+-- comes
 abbrev pub at_rest : Story → ℕ → Walk → List Ending → Option Step
 at_rest v d w [] = begun v d w w.todo
 at_rest v d w (e ∷ es) =
-    Some (cond (is_full (slot w.slots (hand w.slots))) (first v d w e.statement w.todo (Leave (hand w.slots))) (ends_on v w e es))
+    Some (cond (is_full (slot w.slots (hand w.slots)))
+    (first v d w e.statement w.todo (Leave (hand w.slots))) (ends_on v w e es))
 
 -- the step of desk d's thread that has begun this and is here; none at its end
 abbrev pub step_at : Story → ℕ → Half → Walk → Option Step
@@ -140,8 +156,8 @@ abbrev pub is_event : Story → Option Deed → Bool
 is_event v None = false
 is_event v (Some x) = is_some (event_of (state v) x)
 
--- the next act looks at a cell of whose value all funds were taken, and which it loads, or finds to differ: it waits until some are put
--- back
+-- the next act looks at a cell of whose value all funds were taken, and which it loads, or finds to differ: it waits
+-- until some are put back
 abbrev pub waits_on : Story → Walk → Act → Bool
 waits_on v w (Load c) = is_there w.slots c && is_spent (seen v (cell_at (state v) w.slots c))
 waits_on v w (Compare i c weak) =

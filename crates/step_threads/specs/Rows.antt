@@ -1,5 +1,6 @@
 -- What a thread has, says and ends by an act, from what the act is replied. All of it is own.
-use Rattle.std.specs.Prelude.{ℕ, Bool, true, false, cond, ◌&&◌, List, ◌∷◌, slice_set, Option, Some, None, option_map}
+use Rattle.std.specs.Prelude.{ℕ, Bool, true, false, cond, ◌&&◌, List, ◌∷◌, slice_set, Option, Some, None}
+use Rattle.std.specs.Prelude.{option_map}
 use Rattle.control_word.specs.declared.handle.Kind.{Kind}
 use Rattle.control_word.specs.declared.handle.Kind.TheVariants.{Owner, Weak}
 use Rattle.control_word.specs.declared.place.Block.{Block}
@@ -12,7 +13,9 @@ use Rattle.step_table.specs.Contents.{is_of, swapped}
 use Rattle.step_table.specs.Deeds.{as_owner, as_weak, this_as}
 use Rattle.step_table.specs.Holdings.{Slots, filled, inside, is_full, place_in, plain, slot, value, weak_slot}
 use Rattle.step_threads.specs.declared.act.Act.{Act}
-use Rattle.step_threads.specs.declared.act.Act.TheVariants.{Make, Share, Downgrade, Lock, Put, Leave, Clear, Count, Expired, Read, FromThis, Alias, Move, Ask, Offer, Swap, Exchange, Load, Compare, Drop}
+use Rattle.step_threads.specs.declared.act.Act.TheVariants.{Make, Share, Downgrade, Lock, Put, Leave, Clear, Count}
+use Rattle.step_threads.specs.declared.act.Act.TheVariants.{Expired, Read, FromThis, Alias, Move, Ask, Offer, Swap}
+use Rattle.step_threads.specs.declared.act.Act.TheVariants.{Exchange, Load, Compare, Drop}
 use Rattle.step_threads.specs.declared.act.Question.{Question}
 use Rattle.step_threads.specs.declared.act.Question.TheVariants as question
 use Rattle.step_threads.specs.declared.act.Task.{Task}
@@ -23,7 +26,8 @@ use Rattle.step_threads.specs.declared.said.Answer.TheVariants as answer
 use Rattle.step_threads.specs.declared.said.Said.{Said}
 use Rattle.step_threads.specs.Courses.{Walk, fitting, hand, is_there, other, passed, placed, settled}
 use Rattle.step_threads.specs.Programs.{kind_at}
-use Rattle.step_threads.specs.Scenes.{Hands, alias_in, compared, full_answer, holding, lock_answer, outside, refusal, taking}
+use Rattle.step_threads.specs.Scenes.{Hands, alias_in, compared, full_answer, holding, lock_answer, outside, refusal}
+use Rattle.step_threads.specs.Scenes.{taking}
 
 -- What an act is replied: nothing; the block of a make, if there was one; whether it is so; a number; what came out of
 -- a cell; whether a cell was swapped, and what it held; whether a pointer was the last, and what its object left
@@ -90,7 +94,8 @@ row (Expired k) l taken (Got b) = having (l, taken) (Some (answer.Expired b))
 row (Read k) l taken (Told n) =
     having (l, taken) (Some (cond (is_full (inside (slot l k))) (answer.Read n) (outside (place_in l k))))
 row (FromThis k kind) l taken (Got got) =
-    having (taking l true (option_map (this_as kind) (cond got (inside (slot l k)) None))) (cond got None (Some (not_given l k)))
+    having (taking l true (option_map (this_as kind) (cond got (inside (slot l k)) None)))
+    (cond got None (Some (not_given l k)))
 row (Alias k j field) l taken Plain = having (slice_set l (hand l) (alias_in l k j field), true) None
 row (Move k) l taken Plain = having (passed k (hand l) l, true) None
 row (Ask q) l taken (Got b) = having (l, taken) (Some (asked l q b))

@@ -1,5 +1,6 @@
 -- What the acts of threads make of the history, act by act. All of it is own but the events, which name their sections.
-use Rattle.std.specs.Prelude.{ℕ, Bool, true, false, not, cond, List, [], ◌∷◌, get_or, slice_set, Option, Some, None, option_map}
+use Rattle.std.specs.Prelude.{ℕ, Bool, true, false, not, cond, List, [], ◌∷◌, get_or, slice_set, Option, Some}
+use Rattle.std.specs.Prelude.{None, option_map}
 use Rattle.control_word.specs.declared.handle.Kind.{Kind}
 use Rattle.control_word.specs.declared.handle.Kind.TheVariants.{Owner, Weak}
 use Rattle.control_word.specs.declared.place.Place.{Place}
@@ -9,7 +10,9 @@ use Rattle.control_word.specs.Handles.{same_place}
 use Rattle.control_word.specs.Histories.{leads}
 use Rattle.control_word.specs.State.{Object, Opening, State, weak}
 use Rattle.step_threads.specs.declared.act.Act.{Act}
-use Rattle.step_threads.specs.declared.act.Act.TheVariants.{Make, Share, Downgrade, Lock, Put, Leave, Clear, Count, Expired, Read, FromThis, Alias, Move, Ask, Offer, Swap, Exchange, Load, Compare, Drop}
+use Rattle.step_threads.specs.declared.act.Act.TheVariants.{Make, Share, Downgrade, Lock, Put, Leave, Clear, Count}
+use Rattle.step_threads.specs.declared.act.Act.TheVariants.{Expired, Read, FromThis, Alias, Move, Ask, Offer, Swap}
+use Rattle.step_threads.specs.declared.act.Act.TheVariants.{Exchange, Load, Compare, Drop}
 use Rattle.step_threads.specs.declared.act.Question.{Question}
 use Rattle.step_threads.specs.declared.act.Question.TheVariants as question
 use Rattle.step_threads.specs.declared.act.Task.{Task}
@@ -26,8 +29,10 @@ use Rattle.step_table.specs.declared.ended.Ended.{Ended}
 use Rattle.step_threads.specs.declared.said.Said.{Said}
 use Rattle.step_table.specs.declared.slot.Slot.TheVariants.{Full, Empty}
 use Rattle.step_threads.specs.Programs.{kind_at}
-use Rattle.step_threads.specs.Courses.{Walk, cell_at, fitting, going, hand, is_there, locked, on_going, other, placed, settled, passed}
-use Rattle.step_table.specs.Deeds.{Telling, exact, as_weak, field_of, is_enabled, is_expired, is_last, owned, owner_left, this_as, aliased, at_place, on, remains, before}
+use Rattle.step_threads.specs.Courses.{Walk, cell_at, fitting, going, hand, is_there, locked, on_going, other, placed}
+use Rattle.step_threads.specs.Courses.{settled, passed}
+use Rattle.step_table.specs.Deeds.{Telling, exact, as_weak, field_of, is_enabled, is_expired, is_last, owned}
+use Rattle.step_table.specs.Deeds.{owner_left, this_as, aliased, at_place, on, remains, before}
 use Rattle.step_table.specs.Holdings.{Slots, filled, inside, is_full, place_in, plain, slot, value, owner_slot}
 use Rattle.step_table.specs.declared.slot.Slot.{Slot}
 use Rattle.step_table.specs.Openings.{opening}
@@ -47,7 +52,11 @@ Hands = Slots × Bool
 -- a new object's owner is in hand, or the rest of the statement is passed over
 abbrev pub holding : Slots → Bool → Option ℕ → Hands
 holding slots null None = (slots, false)
-holding slots null (Some b) = (slice_set slots (hand slots) (Full (record { kind = Owner; block = record { 0 = b }; place = origin b null })), true)
+holding slots null (Some b) = (
+  slice_set slots (hand slots)
+      (Full (record { kind = Owner; block = record { 0 = b }; place = origin b null })),
+  true,
+)
 
 -- what a lock finds: an owner, where there is a weak pointer and an owner is left
 abbrev pub found : State → Option Pointer → Option Pointer
@@ -70,7 +79,8 @@ alias_in slots k j field = alias_of (aliased field (place_in slots j)) (owner_sl
 abbrev pub came : State → Slots → CellName → Slot
 came s slots c = slot_of s (held_in s (cell_at s slots c))
 
--- what was in hand is in the cell, and what comes out is to be dropped; or what was in hand is, and what the cell holds is taken
+-- what was in hand is in the cell, and what comes out is to be dropped; or what was in hand is, and what the cell holds
+-- is taken
 abbrev pub compared : Slots → Slot → Bool → Hands
 compared slots x true = (swapped (hand slots) (other slots) slots x, false)
 compared slots x false = (differed (hand slots) (other slots) slots x, true)
@@ -87,14 +97,19 @@ hands s d slots taken (Downgrade k) = (slice_set slots (hand slots) (filled (opt
 hands s d slots taken (Lock k must) = taking slots must (found s (locked slots (Lock k must)))
 hands s d slots taken (Expired k) = (slots, taken)
 hands s d slots taken (Read k) = (slots, taken)
-hands s d slots taken (FromThis k kind) = taking slots true (option_map (this_as kind) (giving s (inside (slot slots k))))
+hands s d slots taken (FromThis k kind) =
+    taking slots true (option_map (this_as kind) (giving s (inside (slot slots k))))
 hands s d slots taken (Alias k j field) = (slice_set slots (hand slots) (alias_in slots k j field), true)
 hands s d slots taken (Move k) = (passed k (hand slots) slots, true)
 hands s d slots taken (Ask q) = (slots, taken)
-hands s d slots taken (Offer k c) = cond (is_there slots c) (slice_set slots (hand slots) (fitting (kind_at c) (value slots k)), true) (slots, taken)
-hands s d slots taken (Swap c) = (on_going (λ x k. swapped k (other slots) slots (came s slots x)) slots (going slots (Swap c)), false)
-hands s d slots taken (Exchange k c) = (on_going (λ x i. slice_set slots i (came s slots x)) slots (going slots (Exchange k c)), taken)
-hands s d slots taken (Load c) = cond (is_there slots c) (slice_set slots (hand slots) (came s slots c), true) (slots, taken)
+hands s d slots taken (Offer k c) =
+    cond (is_there slots c) (slice_set slots (hand slots) (fitting (kind_at c) (value slots k)), true) (slots, taken)
+hands s d slots taken (Swap c) =
+    (on_going (λ x k. swapped k (other slots) slots (came s slots x)) slots (going slots (Swap c)), false)
+hands s d slots taken (Exchange k c) =
+    (on_going (λ x i. slice_set slots i (came s slots x)) slots (going slots (Exchange k c)), taken)
+hands s d slots taken (Load c) =
+    cond (is_there slots c) (slice_set slots (hand slots) (came s slots c), true) (slots, taken)
 hands s d slots taken (Compare k c weak) = compared slots (came s slots c) (is_expected s slots k c)
 hands s d slots taken Drop = (slice_set slots (other slots) plain, taken)
 
@@ -141,7 +156,8 @@ abbrev pub full_answer : Option ℕ → Option Answer
 full_answer None = Some (answer.Refused Full)
 full_answer (Some b) = None
 
--- a lock says whether it gave an owner; one that must is refused where it did not ([util.smartptr.shared.const], bad_weak_ptr)
+-- a lock says whether it gave an owner; one that must is refused where it did not ([util.smartptr.shared.const],
+-- bad_weak_ptr)
 abbrev pub lock_answer : Bool → Bool → Answer
 lock_answer false got = answer.Locked got
 lock_answer true true = answer.Upgraded
@@ -202,7 +218,8 @@ ended_of s slots Drop = ended_by s (slot slots (other slots))
 ended_of s slots _ = None
 
 abbrev pub said_of : Telling → State → ℕ → Slots → Task → Said
-said_of tell s d slots t = record { statement = t.statement; answer = answer_of tell s d slots t.act; ended = ended_of s slots t.act }
+said_of tell s d slots t =
+    record { statement = t.statement; answer = answer_of tell s d slots t.act; ended = ended_of s slots t.act }
 
 abbrev pub nowhere : Walk
 nowhere = record { slots = []; taken = false; endings = []; todo = [] }
@@ -216,7 +233,8 @@ state_in c = leads (opening c.extent) c.history
 -- a thread's endings go on by themselves, unless what came out of a member is in hand
 abbrev pub rested_walk : Opening → ℕ → History → Walk → Wound
 rested_walk z d h w =
-    cond (is_full (slot w.slots (hand w.slots))) (record { history = h; slots = w.slots; endings = w.endings }) (unwound z d w.slots w.endings h)
+    cond (is_full (slot w.slots (hand w.slots))) (record { history = h; slots = w.slots; endings = w.endings })
+    (unwound z d w.slots w.endings h)
 
 abbrev pub put_walk : Scene → ℕ → Walk → Wound → Scene
 put_walk c d w x =
@@ -236,7 +254,8 @@ play_from tell c d w (Some t) =
     let w' = went (state_in c) d w t.statement (rest_of w.endings w.todo) t.act in
     put_walk c d w' (rested_walk (opening c.extent) d (acted tell (opening c.extent) d w.slots c.history t.act) w')
 
--- thread d makes its next act, where counts are told so, and its endings go on by themselves; a thread at its end does nothing
+-- thread d makes its next act, where counts are told so, and its endings go on by themselves; a thread at its end does
+-- nothing
 abbrev pub play_with : Telling → ℕ → Scene → Scene
 play_with tell d c = play_from tell c d (walk_of c d) (next (walk_of c d))
 

@@ -1,5 +1,6 @@
 -- The steps that acts are made of, each by itself. All of it is own.
-use Rattle.std.specs.Prelude.{ℕ, ◌+◌, ◌-◌, ◌==◌, Bool, true, false, cond, List, ◌∷◌, slice_set, is_some, Option, Some, None}
+use Rattle.std.specs.Prelude.{ℕ, ◌+◌, ◌-◌, ◌==◌, Bool, true, false, cond, List, ◌∷◌, slice_set}
+use Rattle.std.specs.Prelude.{is_some, Option, Some, None}
 use Rattle.control_word.specs.declared.cell.CellWord.{CellWord}
 use Rattle.control_word.specs.declared.place.Block.{Block}
 use Rattle.control_word.specs.State.{kind_of_member, weak}
@@ -12,7 +13,8 @@ use Rattle.step_threads.specs.declared.call.CellName.{CellName}
 use Rattle.step_table.specs.declared.cell_deed.CellDeed.TheVariants as cell_deed
 use Rattle.step_threads.specs.declared.ending.Ending.{Ending}
 use Rattle.step_threads.specs.declared.half.Half.{Half}
-use Rattle.step_threads.specs.declared.half.Half.TheVariants.{Rest, Making, Locking, Giving, Brought, Saw, Matched, Refill, Returning, Clearing}
+use Rattle.step_threads.specs.declared.half.Half.TheVariants.{Rest, Making, Locking, Giving, Brought, Saw, Matched}
+use Rattle.step_threads.specs.declared.half.Half.TheVariants.{Refill, Returning, Clearing}
 use Rattle.step_table.specs.declared.holdings.Pointer.{Pointer}
 use Rattle.step_table.specs.declared.past.Deed.{Deed}
 use Rattle.step_table.specs.declared.past.Deed.TheVariants as deed
@@ -35,7 +37,8 @@ use Rattle.step_table.specs.Holdings.{slot, value}
 use Rattle.step_threads.specs.Scenes.{answer_of, ended_of, full_answer, holding, went}
 use Rattle.step_table.specs.Stories.{Story, object_in, state}
 
--- what a step does to the table, if anything; what the thread has begun and not ended after it; where it is then; what it says
+-- what a step does to the table, if anything; what the thread has begun and not ended after it; where it is then; what
+-- it says
 pub record Step : Type 0 where
   pub deed : Option Deed
   pub half : Half
@@ -52,7 +55,11 @@ acts v d w k ts a x h =
       deed = x;
       half = h;
       walk = went (state v) d w k ts a;
-      said = record { statement = k; answer = answer_of (by_word v) (state v) d w.slots a; ended = ended_of (state v) w.slots a };
+      said = record {
+        statement = k;
+        answer = answer_of (by_word v) (state v) d w.slots a;
+        ended = ended_of (state v) w.slots a;
+      };
     }
 
 -- a step on the way of statement k, which says nothing: what it does, and what is begun after it
@@ -62,9 +69,15 @@ within w k x h = record { deed = x; half = h; walk = w; said = silent k }
 -- a make begins in the least block of the store; it is refused where there is none
 abbrev pub begins : Walk → ℕ → List Task → Option ℕ → Step
 begins w k ts None =
-    record { deed = None; half = Rest; walk = settled w.slots false w.endings ts; said = record { statement = k; answer = full_answer None; ended = None } }
+    record {
+      deed = None;
+      half = Rest;
+      walk = settled w.slots false w.endings ts;
+      said = record { statement = k; answer = full_answer None; ended = None };
+    }
 begins w k ts (Some b) =
-    let block : Block = record { 0 = b } in record { deed = Some (deed.Prepare block); half = Making block 0 false; walk = w; said = silent k }
+    let block : Block = record { 0 = b } in
+    record { deed = Some (deed.Prepare block); half = Making block 0 false; walk = w; said = silent k }
 
 -- a lock is tried, where the word that it found isn't 0: nothing is done yet
 abbrev pub trying : Walk → ℕ → ℕ → Step
@@ -72,11 +85,13 @@ trying w k word = record { deed = None; half = cond (word == 0) Rest (Locking wo
 
 -- a lock looks first. Where it finds 0 no owner is left, and that is the whole of it
 abbrev pub looks : Story → ℕ → Walk → ℕ → List Task → Act → Pointer → Step
-looks v d w k ts a x = cond (owner_word v x == 0) (acts v d w k ts a (Some (lock (state v) x)) Rest) (trying w k (owner_word v x))
+looks v d w k ts a x = cond (owner_word v x == 0) (acts v d w k ts a (Some (lock (state v) x)) Rest)
+    (trying w k (owner_word v x))
 
 -- then it is tried with the word that it found, and goes on with the word that it finds where that is another
 abbrev pub tries : Story → ℕ → Walk → ℕ → List Task → Act → ℕ → Pointer → Step
-tries v d w k ts a word x = cond (owner_word v x == word) (acts v d w k ts a (Some (lock (state v) x)) Rest) (trying w k (owner_word v x))
+tries v d w k ts a word x = cond (owner_word v x == word) (acts v d w k ts a (Some (lock (state v) x)) Rest)
+    (trying w k (owner_word v x))
 
 -- an owner's object is asked for a pointer: a look tells whether it gives any, and then the pointer is taken
 abbrev pub asks : Story → ℕ → Walk → ℕ → List Task → ℕ → Kind → Pointer → Step
@@ -86,7 +101,12 @@ asks v d w k ts i kind x =
 
 -- a pointer's funds are brought for a cell, and the swap is next
 abbrev pub brings : Walk → ℕ → Pointer → Step
-brings w k x = record { deed = Some (deed.OnCell (cell_deed.Bring x.kind x.block x.place 256)); half = Brought; walk = w; said = silent k }
+brings w k x = record {
+  deed = Some (deed.OnCell (cell_deed.Bring x.kind x.block x.place 256));
+  half = Brought;
+  walk = w;
+  said = silent k;
+}
 
 -- of what came out of a cell the funds that were not taken are given back, where it has an object
 abbrev pub gives_back : Kind → ℕ → CellWord → Option Block → Half
@@ -98,26 +118,32 @@ abbrev pub swaps : Story → ℕ → Walk → ℕ → List Task → Act → Cell
 swaps v d w k ts a c i =
     let x = cell_at (state v) w.slots c in
     let found = seen v x in
-    acts v d w k ts a (Some (deed.OnCell (cell_deed.Swap x (as_word (value w.slots i)) found))) (gives_back (kind_at c) k found found.owned)
+    acts v d w k ts a (Some (deed.OnCell (cell_deed.Swap x (as_word (value w.slots i)) found)))
+    (gives_back (kind_at c) k found found.owned)
 
 -- where the value has an object its funds are brought first
 abbrev pub sends : Story → ℕ → Walk → ℕ → List Task → Act → CellName → ℕ → Step
 sends v d w k ts a c i = on (brings w k) (swaps v d w k ts a c i) (slot w.slots i)
 
--- a cell was looked at: it is tried next with what it was seen to hold, which has an object. Where all of its funds were taken
--- nothing is done, and without an object that is the whole of it
-abbrev pub sees : Story → ℕ → Walk → ℕ → List Task → Act → Cell → Option Compared → CellWord → Step
+-- a cell was looked at: it is tried next with what it was seen to hold, which has an object. Where all of its funds
+-- were taken nothing is done, and without an object that is the whole of it
+abbrev pub sees : Story → ℕ → Walk → ℕ → List Task → Act → Cell
+    → Option Compared → CellWord → Step
 sees v d w k ts a c y x =
     cond (is_spent x) (within w k None Rest)
-    (cond (is_some x.owned) (within w k None (Saw x)) (acts v d w k ts a (Some (deed.OnCell (cell_deed.Look c x y))) Rest))
+    (cond (is_some x.owned) (within w k None (Saw x))
+    (acts v d w k ts a (Some (deed.OnCell (cell_deed.Look c x y))) Rest))
 
 -- a fund of a cell is taken, where it shows the same still; else the act begins again
-abbrev pub takes : Story → ℕ → Walk → ℕ → List Task → Act → Cell → Option Compared → CellWord → Step
+abbrev pub takes : Story → ℕ → Walk → ℕ → List Task → Act → Cell
+    → Option Compared → CellWord → Step
 takes v d w k ts a c y x =
-    cond (word_at v c == cell_bits x) (acts v d w k ts a (Some (deed.OnCell (cell_deed.Take c x y))) (Refill Turning c (more_taken x) k))
+    cond (word_at v c == cell_bits x)
+    (acts v d w k ts a (Some (deed.OnCell (cell_deed.Take c x y))) (Refill Turning c (more_taken x) k))
     (within w k None Rest)
 
--- a compare looks at its cell: one that holds what is expected is tried next, and one that differs is as one that is loaded
+-- a compare looks at its cell: one that holds what is expected is tried next, and one that differs is as one that is
+-- loaded
 abbrev pub compares : Story → ℕ → Walk → ℕ → List Task → Act → Cell → Compared → CellWord → Step
 compares v d w k ts a c y x = cond (same_value x y.expected) (within w k None (Saw x)) (sees v d w k ts a c (Some y) x)
 
@@ -126,12 +152,13 @@ abbrev pub missed : ℕ → Option Pointer → Half
 missed k None = Rest
 missed k (Some x) = Returning x.kind x.block 256 k
 
--- a cell that holds what is expected is swapped, where it shows the same still; else what was brought is given back, and the act
--- begins again
+-- a cell that holds what is expected is swapped, where it shows the same still; else what was brought is given back,
+-- and the act begins again
 abbrev pub matches : Story → ℕ → Walk → ℕ → List Task → Act → Cell → Compared → CellWord → Step
 matches v d w k ts a c y x =
     cond (word_at v c == cell_bits x)
-    (acts v d w k ts a (Some (deed.OnCell (cell_deed.CompareSwap c x y))) (gives_back (kind_in (state v) c) k x x.owned))
+    (acts v d w k ts a (Some (deed.OnCell (cell_deed.CompareSwap c x y)))
+    (gives_back (kind_in (state v) c) k x x.owned))
     (within w k None (missed k (slot w.slots (hand w.slots))))
 
 -- the funds of what is to go in are brought, where it has an object, and then the cell is swapped
@@ -144,45 +171,66 @@ settles v d w k ts a c y x =
     cond (same_value x y.expected) (on (fetches w k x) (matches v d w k ts a c y x) (slot w.slots (hand w.slots)))
     (takes v d w k ts a c (Some y) x)
 
--- the next step of a thread that took a fund of a cell, whose value had an object in this block. The fund becomes a handle. Where
--- many were taken, as many are brought while the cell holds the value, and put in their place; where the cell shows something else by
--- then they are given back, and it is looked at again
+-- the next step of a thread that took a fund of a cell, whose value had an object in this block. The fund becomes a
+-- handle. Where many were taken, as many are brought while the cell holds the value, and put in their place; where the
+-- cell shows something else by then they are given back, and it is looked at again
 abbrev pub refills_on : Story → Walk → Stage → Cell → CellWord → ℕ → Block → Step
 refills_on v w Turning c x k b =
-    within w k (Some (deed.OnCell (cell_deed.Turn (kind_in (state v) c) b))) (cond (is_low x) (Refill Checking c x k) Rest)
+    within w k (Some (deed.OnCell (cell_deed.Turn (kind_in (state v) c) b)))
+    (cond (is_low x) (Refill Checking c x k) Rest)
 refills_on v w Checking c x k b = within w k None (cond (is_drained x (seen v c)) (Refill Lacking c (seen v c) k) Rest)
-refills_on v w Lacking c x k b = within w k (Some (deed.OnCell (cell_deed.Bring (kind_in (state v) c) b x.place x.taken))) (Refill Refilling c x k)
+refills_on v w Lacking c x k b =
+    within w k (Some (deed.OnCell (cell_deed.Bring (kind_in (state v) c) b x.place x.taken))) (Refill Refilling c x k)
 refills_on v w Refilling c x k b =
-    cond (word_at v c == cell_bits x) (within w k (Some (deed.OnCell (cell_deed.Refill c x.taken))) Rest) (within w k None (Refill Failing c x k))
+    cond (word_at v c == cell_bits x) (within w k (Some (deed.OnCell (cell_deed.Refill c x.taken))) Rest)
+    (within w k None (Refill Failing c x k))
 refills_on v w Failing c x k b =
     within w k (Some (deed.OnCell (cell_deed.GiveBack (kind_in (state v) c) b x.taken))) (Refill Checking c x k)
 
 -- funds are given back
 abbrev pub returns : Walk → Kind → Block → ℕ → ℕ → Step
-returns w kind b funds k = record { deed = Some (deed.OnCell (cell_deed.GiveBack kind b funds)); half = Rest; walk = w; said = silent k }
+returns w kind b funds k =
+    record { deed = Some (deed.OnCell (cell_deed.GiveBack kind b funds)); half = Rest; walk = w; said = silent k }
 
 -- a make looks at a word of its block, and passes on where it is as wanted; a word that differs is written
 abbrev pub prepares : ℕ → ℕ → Walk → ℕ → Block → ℕ → Bool → Step
-prepares found want w k b i true = record { deed = Some (deed.Write b i want); half = Making b (i + 1) false; walk = w; said = silent k }
+prepares found want w k b i true =
+    record { deed = Some (deed.Write b i want); half = Making b (i + 1) false; walk = w; said = silent k }
 prepares found want w k b i false =
-    record { deed = None; half = cond (found == want) (Making b (i + 1) false) (Making b i true); walk = w; said = silent k }
+    record {
+      deed = None;
+      half = cond (found == want) (Making b (i + 1) false) (Making b i true);
+      walk = w;
+      said = silent k;
+    }
 
 -- the object is made: its owner comes into the hand
 abbrev pub claims : Walk → ℕ → List Task → Block → Form → Step
 claims w k ts b form =
     let x = holding w.slots form.null (Some b.0) in
-    record { deed = Some (deed.Claim b form.enabled form.null form.fields); half = Rest; walk = settled x.0 x.1 w.endings ts; said = silent k }
+    record {
+      deed = Some (deed.Claim b form.enabled form.null form.fields);
+      half = Rest;
+      walk = settled x.0 x.1 w.endings ts;
+      said = silent k;
+    }
 
 abbrev pub with_endings : Walk → List Ending → Walk
 with_endings w es = record { slots = w.slots; taken = w.taken; endings = es; todo = w.todo }
 
--- an object ends: its members are cleared in order, and then it is finished. A member is looked at: a word of 0 is empty, and
--- cleared by that look; one that holds something is taken out next
+-- an object ends: its members are cleared in order, and then it is finished. A member is looked at: a word of 0 is
+-- empty, and cleared by that look; one that holds something is taken out next
 abbrev pub ends_on : Story → Walk → Ending → List Ending → Step
 ends_on v w e es =
     cond (e.stage == 3)
-    (record { deed = Some (deed.Finish e.block (weak (state v) (object_in v e.block) == 0)); half = Rest; walk = with_endings w es; said = silent e.statement })
-    (cond (word_at v (Member e.block e.stage) == 0) (within (with_endings w (staged e ∷ es)) e.statement (Some (deed.Clear e.block e.stage)) Rest)
+    (record {
+      deed = Some (deed.Finish e.block (weak (state v) (object_in v e.block) == 0));
+      half = Rest;
+      walk = with_endings w es;
+      said = silent e.statement;
+    })
+    (cond (word_at v (Member e.block e.stage) == 0)
+    (within (with_endings w (staged e ∷ es)) e.statement (Some (deed.Clear e.block e.stage)) Rest)
     (within w e.statement None Clearing))
 
 -- what a member holds comes out, into the hand if it has an object, and its funds that were not taken are given back
@@ -190,6 +238,8 @@ abbrev pub empties : Story → Walk → Ending → List Ending → Step
 empties v w e es =
     let c = Member e.block e.stage in
     let x = seen v c in
-    let slots = cond (is_some x.owned) (slice_set w.slots (hand w.slots) (slot_of (state v) (held_in (state v) c))) w.slots in
+    let slots = cond (is_some x.owned)
+    (slice_set w.slots (hand w.slots) (slot_of (state v) (held_in (state v) c))) w.slots in
     within (record { slots = slots; taken = w.taken; endings = staged e ∷ es; todo = w.todo }) e.statement
-    (Some (deed.OnCell (cell_deed.TakeOut e.block e.stage x))) (gives_back (kind_of_member e.stage) e.statement x x.owned)
+    (Some (deed.OnCell (cell_deed.TakeOut e.block e.stage x)))
+    (gives_back (kind_of_member e.stage) e.statement x x.owned)

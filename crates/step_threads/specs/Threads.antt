@@ -1,5 +1,6 @@
 -- A thread of the machine, and how it fits the table. All of it is own.
-use Rattle.std.specs.Prelude.{◌≡◌, ◌≢◌, ℕ, ◌<◌, ◌≤◌, ◌⊎◌, List, [], ◌∷◌, Bool, true, false, length, is_some, All, Option, Some, None}
+use Rattle.std.specs.Prelude.{◌≡◌, ◌≢◌, ℕ, ◌<◌, ◌≤◌, ◌⊎◌, List, [], ◌∷◌, Bool, true}
+use Rattle.std.specs.Prelude.{false, length, is_some, All, Option, Some, None}
 use Rattle.std.specs.List.Sorted.{IsPermutation}
 use Rattle.control_word.specs.declared.handle.Kind.{Kind}
 use Rattle.control_word.specs.declared.handle.Kind.TheVariants.{Weak}
@@ -10,11 +11,13 @@ use Rattle.step_threads.specs.declared.act.Act.TheVariants.{Make, FromThis, Load
 use Rattle.step_threads.specs.declared.act.Task.{Task}
 use Rattle.step_threads.specs.declared.course.Course.{Course}
 use Rattle.step_threads.specs.declared.half.Half.{Half}
-use Rattle.step_threads.specs.declared.half.Half.TheVariants.{Rest, Making, Locking, Giving, Brought, Saw, Matched, Refill, Returning, Clearing}
+use Rattle.step_threads.specs.declared.half.Half.TheVariants.{Rest, Making, Locking, Giving, Brought, Saw, Matched}
+use Rattle.step_threads.specs.declared.half.Half.TheVariants.{Refill, Returning, Clearing}
 use Rattle.step_threads.specs.declared.said.Stepped.{Stepped}
 use Rattle.step_threads.specs.declared.thread.Thread.{Thread}
 use Rattle.step_threads.specs.Actors.{HalfFits, Stocks}
-use Rattle.step_threads.specs.Courses.{CourseReady, CourseStill, HasCell, form_of, going, hand, is_there, locked, task_at, walk}
+use Rattle.step_threads.specs.Courses.{CourseReady, CourseStill, HasCell, form_of, going, hand, is_there, locked}
+use Rattle.step_threads.specs.Courses.{task_at, walk}
 use Rattle.step_table.specs.declared.holdings.Pointer.{Pointer}
 use Rattle.step_threads.specs.declared.ending.Ending.{Ending}
 use Rattle.step_threads.specs.Endings.{EndsAll}
@@ -51,18 +54,25 @@ IsClearing slots (e ∷ es) = (e.stage < 3) × (is_full (slot slots (hand slots)
 -- a make, a lock, a pointer from this or an act on a cell that is under way is the next act, and no object ends
 abbrev pub IsNext : Half → Course → Type 0
 IsNext Rest c = Unit {0}
-IsNext (Making b i differs) c = (c.at < length c.tasks.items) × ((task_at c).act ≡ Make (form_at c)) × (c.endings.list ≡ [])
-IsNext (Locking word) c = (c.at < length c.tasks.items) × (is_full (locked c.holdings.slots.items (task_at c).act) ≡ true) × (c.endings.list ≡ [])
+IsNext (Making b i differs) c = (c.at < length c.tasks.items) × ((task_at c).act ≡ Make (form_at c))
+    × (c.endings.list ≡ [])
+IsNext (Locking word) c = (c.at < length c.tasks.items)
+    × (is_full (locked c.holdings.slots.items (task_at c).act) ≡ true) × (c.endings.list ≡ [])
 IsNext (Giving i kind x) c =
-    (c.at < length c.tasks.items) × ((task_at c).act ≡ FromThis i kind) × (inside (slot c.holdings.slots.items i) ≡ Some x) × (c.endings.list ≡ [])
-IsNext Brought c = (c.at < length c.tasks.items) × (is_some (going c.holdings.slots.items (task_at c).act) ≡ true) × (c.endings.list ≡ [])
-IsNext (Saw x) c = (c.at < length c.tasks.items) × IsSeenBy c.holdings.slots.items x (task_at c).act × (c.endings.list ≡ [])
-IsNext (Matched x) c = (c.at < length c.tasks.items) × IsMatchedBy c.holdings.slots.items x (task_at c).act × (c.endings.list ≡ [])
+    (c.at < length c.tasks.items) × ((task_at c).act ≡ FromThis i kind)
+    × (inside (slot c.holdings.slots.items i) ≡ Some x) × (c.endings.list ≡ [])
+IsNext Brought c = (c.at < length c.tasks.items) × (is_some (going c.holdings.slots.items (task_at c).act) ≡ true)
+    × (c.endings.list ≡ [])
+IsNext (Saw x) c = (c.at < length c.tasks.items) × IsSeenBy c.holdings.slots.items x (task_at c).act
+    × (c.endings.list ≡ [])
+IsNext (Matched x) c = (c.at < length c.tasks.items) × IsMatchedBy c.holdings.slots.items x (task_at c).act
+    × (c.endings.list ≡ [])
 IsNext (Refill stage cell x k) c = Unit {0}
 IsNext (Returning kind b funds k) c = Unit {0}
 IsNext Clearing c = IsClearing c.holdings.slots.items c.endings.list
 
--- the objects that end in a thread's hands are those of its endings; there is room for more, and nothing was taken meanwhile
+-- the objects that end in a thread's hands are those of its endings; there is room for more, and nothing was taken
+-- meanwhile
 pub record EndsFit (d : ℕ) (c : Course) (v : Story) : Type 0 where
   pub all : EndsAll d c.endings.list v
   pub roomy : v.extent.shape.blocks ≤ c.endings.room

@@ -1,5 +1,6 @@
 -- How far the ends of objects come by themselves. All of it is own but the events.
-use Rattle.std.specs.Prelude.{ℕ, zero, suc, ◌-◌, ◌==◌, cond, List, [], ◌∷◌, slice_set, Option, Some, None}
+use Rattle.std.specs.Prelude.{ℕ, zero, suc, ◌-◌, ◌==◌, cond, List, [], ◌∷◌, slice_set, Option, Some}
+use Rattle.std.specs.Prelude.{None}
 use Rattle.control_word.specs.declared.event.Event.TheVariants as event
 use Rattle.control_word.specs.Handles.{has_object}
 use Rattle.control_word.specs.Histories.{entry, leads}
@@ -11,7 +12,8 @@ use Rattle.step_table.specs.Holdings.{Slots}
 use Rattle.step_table.specs.declared.slot.Slot.{Slot}
 use Rattle.step_threads.specs.Entries.{History}
 
--- how far the end of an object comes by itself: to a member that held an object, with so many members behind it, or to its end
+-- how far the end of an object comes by itself: to a member that held an object, with so many members behind it, or to
+-- its end
 pub record Stop : Type 0 where
   pub history : History
   pub out : Option (ℕ × Slot)
@@ -20,13 +22,15 @@ pub record Stop : Type 0 where
 abbrev pub clears : Opening → ℕ → ℕ → ℕ → History → History
 clears z d o m h = entry d (event.ClearMember o m (((leads z h).object o).member m)) ∷ h
 
--- an object ends: its members that are left are cleared in order, up to one that held an object; with none left it is finished
+-- an object ends: its members that are left are cleared in order, up to one that held an object; with none left it is
+-- finished
 abbrev pub stops : Opening → ℕ → ℕ → ℕ → History → Stop
 stops z d o zero h = record { history = entry d (event.Finish o (weak (leads z h) o == 0) tt) ∷ h; out = None }
 stops z d o (suc k) h =
     let s = leads z h in
     let x = (s.object o).member (2 - k) in
-    cond (has_object x) (record { history = clears z d o (2 - k) h; out = Some (k, slot_of s x) }) (stops z d o k (clears z d o (2 - k) h))
+    cond (has_object x) (record { history = clears z d o (2 - k) h; out = Some (k, slot_of s x) })
+    (stops z d o k (clears z d o (2 - k) h))
 
 -- how far a thread's endings come by themselves
 pub record Wound : Type 0 where

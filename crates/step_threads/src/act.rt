@@ -16,8 +16,8 @@ pub enum Act {
     Share {
         name: u8,
     },
-    /// Takes a shared pointer that shares ownership with what a name holds. It points at this field of what `of` points into,
-    /// and at null where `of` does or no field is named.
+    /// Takes a shared pointer that shares ownership with what a name holds. It points at this field of what `of` points
+    /// into, and at null where `of` does or no field is named.
     Alias {
         name: u8,
         of: u8,
@@ -36,7 +36,8 @@ pub enum Act {
         name: u8,
         must: bool,
     },
-    /// Leaves what a name holds, and puts there what was taken. It is no act where nothing was taken, or the name is empty.
+    /// Leaves what a name holds, and puts there what was taken. It is no act where nothing was taken, or the name is
+    /// empty.
     Put {
         name: u8,
     },
@@ -60,8 +61,8 @@ pub enum Act {
     Read {
         name: u8,
     },
-    /// Takes a pointer of this kind from the object that a name owns and points into. It is refused where the name points
-    /// elsewhere, or the object gives none.
+    /// Takes a pointer of this kind from the object that a name owns and points into. It is refused where the name
+    /// points elsewhere, or the object gives none.
     FromThis {
         name: u8,
         kind: Kind,
@@ -70,14 +71,14 @@ pub enum Act {
     Ask {
         question: Question,
     },
-    /// Takes a copy of what a name holds, which is to go into a cell. It is refused where the cell is a member, and its name owns
-    /// no object that it points into, as `Exchange` and `Load` are.
+    /// Takes a copy of what a name holds, which is to go into a cell. It is refused where the cell is a member, and its
+    /// name owns no object that it points into, as `Exchange` and `Load` are.
     Offer {
         name: u8,
         cell: CellName,
     },
-    /// Puts what was taken into a cell; what the cell held is to be dropped. It is no act where nothing was taken that may go
-    /// into the cell.
+    /// Puts what was taken into a cell; what the cell held is to be dropped. It is no act where nothing was taken that
+    /// may go into the cell.
     Swap {
         cell: CellName,
     },
@@ -90,9 +91,9 @@ pub enum Act {
     Load {
         cell: CellName,
     },
-    /// Compares what a cell holds with what a name holds. Where it is equivalent, what was taken goes into the cell, and what the
-    /// cell held is to be dropped. Else what was taken is to be dropped, and what the cell holds is taken. It is no act where nothing
-    /// was taken that may go into the cell, or the name holds nothing that may.
+    /// Compares what a cell holds with what a name holds. Where it is equivalent, what was taken goes into the cell,
+    /// and what the cell held is to be dropped. Else what was taken is to be dropped, and what the cell holds is taken.
+    /// It is no act where nothing was taken that may go into the cell, or the name holds nothing that may.
     Compare {
         name: u8,
         cell: CellName,

@@ -16,8 +16,10 @@ impl Course {
         requires can { CanAct desk self.old table.old }
         requires act { (task_at self.old).act ≡ Act.Count name }
         ensures told { result ≡ on (by_word table.old (state table.old)) 0 (slot self.old.holdings.slots.items name) }
-        ensures table { table.new ≡ done_on (tell table.old) table.old desk (slot self.old.holdings.slots.items name) }
-        ensures walk { walk self.new ≡ settled self.old.holdings.slots.items self.old.taken self.old.endings.list (rest self.old) }
+        ensures table { table.new ≡ done_on (tell table.old) table.old desk
+            (slot self.old.holdings.slots.items name) }
+        ensures walk { walk self.new ≡ settled self.old.holdings.slots.items self.old.taken
+            self.old.endings.list (rest self.old) }
         ensures on { HasGoneOn desk self.old self.new table.new }
     {
         let from = usize::from(name);
@@ -39,8 +41,10 @@ impl Course {
         requires can { CanAct desk self.old table.old }
         requires act { (task_at self.old).act ≡ Act.Expired name }
         ensures exact { result ≡ on (is_expired (state table.old)) true (slot self.old.holdings.slots.items name) }
-        ensures table { table.new ≡ done_on (tell_expired (state table.old)) table.old desk (slot self.old.holdings.slots.items name) }
-        ensures walk { walk self.new ≡ settled self.old.holdings.slots.items self.old.taken self.old.endings.list (rest self.old) }
+        ensures table { table.new ≡ done_on (tell_expired (state table.old)) table.old desk
+            (slot self.old.holdings.slots.items name) }
+        ensures walk { walk self.new ≡ settled self.old.holdings.slots.items self.old.taken
+            self.old.endings.list (rest self.old) }
         ensures on { HasGoneOn desk self.old self.new table.new }
     {
         let from = usize::from(name);

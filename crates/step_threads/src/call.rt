@@ -9,8 +9,8 @@ use step_table::field::Field;
 #[derive(Clone, Copy, Debug, PartialEq, Eq)]
 pub struct Name(pub u8);
 
-/// A cell: an `atomic<shared_ptr>` or an `atomic<weak_ptr>`. A free one has its number, from 0, among those of its kind; a member is
-/// one of the object that a name owns and points into: 0 and 1 are shared, 2 is weak.
+/// A cell: an `atomic<shared_ptr>` or an `atomic<weak_ptr>`. A free one has its number, from 0, among those of its
+/// kind; a member is one of the object that a name owns and points into: 0 and 1 are shared, 2 is weak.
 #[derive(Clone, Copy, Debug, PartialEq, Eq)]
 pub enum CellName {
     Shared(u8),
@@ -78,8 +78,8 @@ pub enum Call {
         target: Name,
         source: Name,
     },
-    /// The target shares what the source owns, and points at this field of what `of` points into; at null where `of` does
-    /// ([util.smartptr.shared.const], the aliasing constructor).
+    /// The target shares what the source owns, and points at this field of what `of` points into; at null where `of`
+    /// does ([util.smartptr.shared.const], the aliasing constructor).
     Alias {
         target: Name,
         source: Name,
@@ -161,8 +161,8 @@ pub enum Call {
         first: Name,
         second: Name,
     },
-    /// The cell becomes what the source is; what it was is left ([util.smartptr.atomic.shared], [util.smartptr.atomic.weak],
-    /// `store`).
+    /// The cell becomes what the source is; what it was is left ([util.smartptr.atomic.shared],
+    /// [util.smartptr.atomic.weak], `store`).
     Store {
         cell: CellName,
         source: Name,
@@ -173,16 +173,17 @@ pub enum Call {
         cell: CellName,
         name: Name,
     },
-    /// The target becomes what the cell is, which stays as it is ([util.smartptr.atomic.shared], [util.smartptr.atomic.weak],
-    /// `load`).
+    /// The target becomes what the cell is, which stays as it is ([util.smartptr.atomic.shared],
+    /// [util.smartptr.atomic.weak], `load`).
     Load {
         target: Name,
         cell: CellName,
     },
-    /// Where the cell is equivalent to `expected`, that is, where it stores the same place and shares the same ownership or both own
-    /// nothing, it becomes what `desired` is, and what it was is left. Else `expected` becomes what the cell is. It answers which
-    /// ([util.smartptr.atomic.shared], [util.smartptr.atomic.weak], `compare_exchange_strong`, and `compare_exchange_weak` where it is
-    /// `weak`: that might also answer no on an equivalent value, but doesn't here).
+    /// Where the cell is equivalent to `expected`, that is, where it stores the same place and shares the same
+    /// ownership or both own nothing, it becomes what `desired` is, and what it was is left. Else `expected` becomes
+    /// what the cell is. It answers which ([util.smartptr.atomic.shared], [util.smartptr.atomic.weak],
+    /// `compare_exchange_strong`, and `compare_exchange_weak` where it is `weak`: that might also answer no on an
+    /// equivalent value, but doesn't here).
     Compare {
         cell: CellName,
         expected: Name,

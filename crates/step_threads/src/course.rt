@@ -1,8 +1,10 @@
 //! How a thread goes on from act to act.
-ghost use Rattle.std.specs.Prelude.{◌≡◌, ◌⊎◌, ◌+◌, ◌<◌, ◌≤◌, ◌==◌, ◌∷◌, [], ℕ, length, drop, true, false, cond, slice_set, Option, Some, None, option_map};
+ghost use Rattle.std.specs.Prelude.{◌≡◌, ◌⊎◌, ◌+◌, ◌<◌, ◌≤◌, ◌==◌, ◌∷◌, [], ℕ};
+ghost use Rattle.std.specs.Prelude.{length, drop, true, false, cond, slice_set, Option, Some, None, option_map};
 ghost use Rattle.control_word.specs.declared.handle.Kind.TheVariants.{Owner};
 ghost use Rattle.control_word.specs.Words.{flags_of};
-ghost use Rattle.step_table.specs.Deeds.{as_weak, by_word, downgrade, is_expired, is_last, leave, share, tell, tell_expired};
+ghost use Rattle.step_table.specs.Deeds.{as_weak, by_word, downgrade, is_expired, is_last, leave, share, tell};
+ghost use Rattle.step_table.specs.Deeds.{tell_expired};
 ghost use Rattle.step_table.specs.Holdings.{Holds, filled, is_full, plain, slot, value};
 ghost use Rattle.step_table.specs.Stories.{IsMaking, Story, after, known, object_in, pending, state};
 ghost use Rattle.step_table.specs.declared.holdings.Pointer.{Pointer};
@@ -19,8 +21,8 @@ use step_table::holdings::Holdings;
 use step_table::past::Deed;
 use step_table::table::Table;
 
-/// The tasks of a thread, of which those before `at` are done, what it holds, and the objects that end in its hands. Where
-/// `taken`, an act has taken a value into the hand, an empty one perhaps.
+/// The tasks of a thread, of which those before `at` are done, what it holds, and the objects that end in its hands.
+/// Where `taken`, an act has taken a value into the hand, an empty one perhaps.
 #[derive(Drop)]
 pub struct Course {
     pub tasks: Vec<Task>,
@@ -32,7 +34,8 @@ pub struct Course {
 
 impl Course {
     ghost use Rattle.step_table.specs.Deeds.{on};
-    ghost use Rattle.step_threads.specs.Courses.{CanAct, CourseReady, HasGoneOn, IsReady, done_on, hand, idle, passed, placed, rest, settled, task_at, todo, walk};
+    ghost use Rattle.step_threads.specs.Courses.{CanAct, CourseReady, HasGoneOn, IsReady, done_on, hand, idle, passed};
+    ghost use Rattle.step_threads.specs.Courses.{placed, rest, settled, task_at, todo, walk};
     ghost use Rattle.step_threads.specs.Passing.{IsPassed};
 
     /// Whether the next task is no act where it comes.
@@ -73,9 +76,11 @@ impl Course {
     fn put_down(&mut self, to: usize)
         requires inside { to < hand self.old.holdings.slots.items }
         requires empty { self.old.taken ≡ true → slot self.old.holdings.slots.items to ≡ None }
-        ensures slots { self.new.holdings.slots.items ≡ cond self.old.taken (passed (hand self.old.holdings.slots.items) to self.old.holdings.slots.items) self.old.holdings.slots.items }
+        ensures slots { self.new.holdings.slots.items ≡ cond self.old.taken (passed
+            (hand self.old.holdings.slots.items) to self.old.holdings.slots.items) self.old.holdings.slots.items }
         ensures course { self.new ≡ record self.old { holdings = self.new.holdings; taken = false } }
-        ensures holds { (d : ℕ) (v : Story) → Holds d self.old.holdings.slots.items v → Holds d self.new.holdings.slots.items v }
+        ensures holds { (d : ℕ) (v : Story) → Holds d self.old.holdings.slots.items v
+            → Holds d self.new.holdings.slots.items v }
     {
         if self.taken {
             let hand = self.holdings.hand();
@@ -88,14 +93,17 @@ impl Course {
     pub fn settle(&mut self)
         requires within { self.old.at ≤ length self.old.tasks.items }
         requires ready { CourseReady self.old }
-        ensures walk { walk self.new ≡ settled self.old.holdings.slots.items self.old.taken self.old.endings.list (todo self.old) }
+        ensures walk { walk self.new ≡ settled self.old.holdings.slots.items self.old.taken
+            self.old.endings.list (todo self.old) }
         ensures tasks { self.new.tasks ≡ self.old.tasks }
         ensures endings { self.new.endings ≡ self.old.endings }
         ensures within { self.new.at ≤ length self.new.tasks.items }
         ensures onward { self.old.at ≤ self.new.at }
         ensures ready { CourseReady self.new }
-        ensures still { self.new.at < length self.new.tasks.items → idle (task_at self.new).act self.new.holdings.slots.items self.new.taken ≡ false }
-        ensures holds { (d : ℕ) (v : Story) → Holds d self.old.holdings.slots.items v → Holds d self.new.holdings.slots.items v }
+        ensures still { self.new.at < length self.new.tasks.items
+            → idle (task_at self.new).act self.new.holdings.slots.items self.new.taken ≡ false }
+        ensures holds { (d : ℕ) (v : Story) → Holds d self.old.holdings.slots.items v
+            → Holds d self.new.holdings.slots.items v }
     {
         while self.at < self.tasks.len() && self.is_idle() {
             self.pass();
@@ -114,8 +122,10 @@ impl Course {
     pub(crate) fn go_on(&mut self)
         requires within { self.old.at < length self.old.tasks.items }
         requires ready { IsReady self.old.holdings.slots.items self.old.taken self.old.endings.list (rest self.old) }
-        ensures walk { walk self.new ≡ settled self.old.holdings.slots.items self.old.taken self.old.endings.list (rest self.old) }
-        ensures on { (d : ℕ) (v : Story) → Holds d self.old.holdings.slots.items v → HasGoneOn d self.old self.new v }
+        ensures walk { walk self.new ≡ settled self.old.holdings.slots.items self.old.taken
+            self.old.endings.list (rest self.old) }
+        ensures on { (d : ℕ) (v : Story) → Holds d self.old.holdings.slots.items v
+            → HasGoneOn d self.old self.new v }
     {
         self.at += 1;
         self.settle();
@@ -125,8 +135,10 @@ impl Course {
     pub(crate) fn take(&mut self, taken: bool)
         requires within { self.old.at < length self.old.tasks.items }
         requires ready { IsReady self.old.holdings.slots.items taken self.old.endings.list (rest self.old) }
-        ensures walk { walk self.new ≡ settled self.old.holdings.slots.items taken self.old.endings.list (rest self.old) }
-        ensures on { (d : ℕ) (v : Story) → Holds d self.old.holdings.slots.items v → HasGoneOn d self.old self.new v }
+        ensures walk { walk self.new
+            ≡ settled self.old.holdings.slots.items taken self.old.endings.list (rest self.old) }
+        ensures on { (d : ℕ) (v : Story) → Holds d self.old.holdings.slots.items v
+            → HasGoneOn d self.old self.new v }
     {
         self.taken = taken;
         self.go_on();
@@ -138,7 +150,9 @@ impl Course {
         requires act { (task_at self.old).act ≡ Act.Share name }
         ensures event { result ≡ is_full (slot self.old.holdings.slots.items name) }
         ensures table { table.new ≡ done_on share table.old desk (slot self.old.holdings.slots.items name) }
-        ensures walk { walk self.new ≡ settled (slice_set self.old.holdings.slots.items (hand self.old.holdings.slots.items) (value self.old.holdings.slots.items name)) true self.old.endings.list (rest self.old) }
+        ensures walk { walk self.new
+            ≡ settled (slice_set self.old.holdings.slots.items (hand self.old.holdings.slots.items)
+            (value self.old.holdings.slots.items name)) true self.old.endings.list (rest self.old) }
         ensures on { HasGoneOn desk self.old self.new table.new }
     {
         let from = usize::from(name);
@@ -166,7 +180,9 @@ impl Course {
         ensures event { result ≡ is_full (slot self.old.holdings.slots.items name) }
         ensures table { table.new ≡ done_on downgrade table.old desk (slot self.old.holdings.slots.items name) }
         ensures walk { walk self.new
-            ≡ settled (slice_set self.old.holdings.slots.items (hand self.old.holdings.slots.items) (filled (option_map as_weak (slot self.old.holdings.slots.items name)))) true self.old.endings.list (rest self.old) }
+            ≡ settled (slice_set self.old.holdings.slots.items (hand self.old.holdings.slots.items)
+            (filled (option_map as_weak (slot self.old.holdings.slots.items name)))) true
+            self.old.endings.list (rest self.old) }
         ensures on { HasGoneOn desk self.old self.new table.new }
     {
         let from = usize::from(name);
@@ -190,8 +206,10 @@ impl Course {
         requires can { CanAct desk self.old table.old }
         requires act { ((task_at self.old).act ≡ Act.Leave name) ⊎ ((task_at self.old).act ≡ Act.Clear name) }
         ensures last { result ≡ on (is_last (state table.old)) false (slot self.old.holdings.slots.items name) }
-        ensures table { table.new ≡ done_on (leave (state table.old)) table.old desk (slot self.old.holdings.slots.items name) }
-        ensures walk { walk self.new ≡ settled (slice_set self.old.holdings.slots.items name plain) self.old.taken self.old.endings.list (rest self.old) }
+        ensures table { table.new ≡ done_on (leave (state table.old)) table.old desk
+            (slot self.old.holdings.slots.items name) }
+        ensures walk { walk self.new ≡ settled (slice_set self.old.holdings.slots.items name plain) self.old.taken
+            self.old.endings.list (rest self.old) }
         ensures on { HasGoneOn desk self.old self.new table.new }
     {
         let from = usize::from(name);
@@ -215,8 +233,10 @@ impl Course {
         requires act { (task_at self.old).act ≡ Act.Put name }
         ensures full { is_full (slot self.old.holdings.slots.items name) ≡ true }
         ensures last { result ≡ on (is_last (state table.old)) false (slot self.old.holdings.slots.items name) }
-        ensures table { table.new ≡ done_on (leave (state table.old)) table.old desk (slot self.old.holdings.slots.items name) }
-        ensures walk { walk self.new ≡ settled (placed name (slice_set self.old.holdings.slots.items name plain)) false self.old.endings.list (rest self.old) }
+        ensures table { table.new ≡ done_on (leave (state table.old)) table.old desk
+            (slot self.old.holdings.slots.items name) }
+        ensures walk { walk self.new ≡ settled (placed name (slice_set self.old.holdings.slots.items name plain))
+            false self.old.endings.list (rest self.old) }
         ensures on { HasGoneOn desk self.old self.new table.new }
     {
         let to = usize::from(name);
@@ -245,7 +265,9 @@ impl Course {
         requires act { (task_at self.old).act ≡ Act.Make form }
         ensures table { table.new ≡ after table.old desk (Deed.Claim block form.enabled form.null form.fields) }
         ensures walk { walk self.new
-            ≡ settled (slice_set self.old.holdings.slots.items (hand self.old.holdings.slots.items) (Full (record { kind = Owner; block = block; place = origin block.0 form.null }))) true self.old.endings.list (rest self.old) }
+            ≡ settled (slice_set self.old.holdings.slots.items (hand self.old.holdings.slots.items)
+            (Full (record { kind = Owner; block = block; place = origin block.0 form.null }))) true
+            self.old.endings.list (rest self.old) }
         ensures on { HasGoneOn desk self.old self.new table.new }
     {
         let hand = self.holdings.hand();

@@ -6,8 +6,8 @@ use control_word::place::Block;
 use std::alloc::{AllocError, Global};
 use std::marker::Model;
 
-/// An object that ends: its members before `stage` are cleared, and behind the last it is finished. Its last owner left by
-/// this statement.
+/// An object that ends: its members before `stage` are cleared, and behind the last it is finished. Its last owner left
+/// by this statement.
 #[derive(Clone, Copy)]
 pub struct Ending {
     pub block: Block,

@@ -23,8 +23,8 @@ pub enum Half {
     Locking {
         word: u64,
     },
-    /// A pointer from this: the object that a name owns was found to give pointers to itself, and one of this kind is taken
-    /// next.
+    /// A pointer from this: the object that a name owns was found to give pointers to itself, and one of this kind is
+    /// taken next.
     Giving {
         name: u8,
         kind: Kind,
@@ -32,26 +32,27 @@ pub enum Half {
     },
     /// The funds of what goes into a cell are brought: the swap is next.
     Brought,
-    /// A cell that is loaded or compared was seen to hold this: where it shows that still, it is loaded next, or found to differ; where
-    /// it is what is expected, the funds of what is to go in are brought, or it is swapped where that has no object.
+    /// A cell that is loaded or compared was seen to hold this: where it shows that still, it is loaded next, or found
+    /// to differ; where it is what is expected, the funds of what is to go in are brought, or it is swapped where that
+    /// has no object.
     Saw {
         found: CellWord,
     },
-    /// A cell was seen to hold this, which is what is expected, and the funds of what is to go in are brought: where the cell shows
-    /// that still, it is swapped next.
+    /// A cell was seen to hold this, which is what is expected, and the funds of what is to go in are brought: where
+    /// the cell shows that still, it is swapped next.
     Matched {
         found: CellWord,
     },
-    /// A fund of a cell, which showed this since, was taken by this statement: how far it is turned, and many that were taken are put
-    /// back.
+    /// A fund of a cell, which showed this since, was taken by this statement: how far it is turned, and many that were
+    /// taken are put back.
     Refill {
         stage: Stage,
         cell: Cell,
         found: CellWord,
         statement: u32,
     },
-    /// Funds are given back next by this statement: those of what came out of a cell that were not taken, or those that a compare
-    /// had brought in vain.
+    /// Funds are given back next by this statement: those of what came out of a cell that were not taken, or those that
+    /// a compare had brought in vain.
     Returning {
         kind: Kind,
         block: Block,

@@ -30,7 +30,8 @@ impl Thread {
         requires rest { self.old.half ≡ Half.Rest }
         requires none { self.old.course.endings.list ≡ [] }
         requires within { self.old.course.at < length self.old.course.tasks.items }
-        requires act { ((task_at self.old.course).act ≡ Act.Leave name) ⊎ ((task_at self.old.course).act ≡ Act.Clear name) }
+        requires act { ((task_at self.old.course).act ≡ Act.Leave name)
+            ⊎ ((task_at self.old.course).act ≡ Act.Clear name) }
         ensures stepped { HasStepped desk self.old table.old result self.new table.new }
         ensures fits { Fits desk self.new table.new }
     {
@@ -87,7 +88,8 @@ impl Thread {
         requires fits { Fits desk self.old table.old }
         requires rest { self.old.half ≡ Half.Rest }
         requires first { first_of self.old.course.endings.list ≡ Some ending }
-        requires carried { is_full (slot self.old.course.holdings.slots.items (hand self.old.course.holdings.slots.items)) ≡ true }
+        requires carried { is_full
+            (slot self.old.course.holdings.slots.items (hand self.old.course.holdings.slots.items)) ≡ true }
         ensures stepped { HasStepped desk self.old table.old result self.new table.new }
         ensures fits { Fits desk self.new table.new }
     {
@@ -107,8 +109,8 @@ impl Thread {
         })
     }
 
-    /// After a leave that was the last: of an owner, the end of its object begins; of a weak pointer, its block comes into the
-    /// store. Answers what an object leaves that ends.
+    /// After a leave that was the last: of an owner, the end of its object begins; of a weak pointer, its block comes
+    /// into the store. Answers what an object leaves that ends.
     pub(crate) fn left(
         &mut self,
         desk: usize,
@@ -117,15 +119,21 @@ impl Thread {
         last: bool,
         statement: u32,
     ) -> Option<Ended>
-        requires ending { (x : Pointer) → held ≡ Some x → x.kind ≡ Owner → last ≡ true → ((state table.now).object (object_in table.now x.block)).phase ≡ ending desk }
-        requires begins { (x : Pointer) → held ≡ Some x → x.kind ≡ Owner → last ≡ true → length self.old.course.endings.list < self.old.course.endings.room }
-        requires room { (x : Pointer) → held ≡ Some x → x.kind ≡ Weak → last ≡ true → length self.old.stock.blocks < self.old.stock.room }
+        requires ending { (x : Pointer) → held ≡ Some x → x.kind ≡ Owner → last ≡ true
+            → ((state table.now).object (object_in table.now x.block)).phase ≡ ending desk }
+        requires begins { (x : Pointer) → held ≡ Some x → x.kind ≡ Owner → last ≡ true
+            → length self.old.course.endings.list < self.old.course.endings.room }
+        requires room { (x : Pointer) → held ≡ Some x → x.kind ≡ Weak → last ≡ true
+            → length self.old.stock.blocks < self.old.stock.room }
         ensures course { self.new.course ≡ record self.old.course { endings = self.new.course.endings } }
-        ensures endings { self.new.course.endings.list ≡ on (λ x. cond last (begins_end_as x.kind statement x self.old.course.endings.list) self.old.course.endings.list) self.old.course.endings.list held }
+        ensures endings { self.new.course.endings.list ≡ on (λ x. cond last
+            (begins_end_as x.kind statement x self.old.course.endings.list) self.old.course.endings.list)
+            self.old.course.endings.list held }
         ensures roomy { self.old.course.endings.room ≤ self.new.course.endings.room }
         ensures stock { IsStockedBy held last self.old.stock self.new.stock }
         ensures half { self.new.half ≡ self.old.half }
-        ensures ended { result ≡ on (λ x. cond last (remains_as x.kind ((state table.now).object (object_in table.now x.block))) None) None held }
+        ensures ended { result ≡ on (λ x. cond last
+            (remains_as x.kind ((state table.now).object (object_in table.now x.block))) None) None held }
     {
         match held {
             Some(pointer) if last => self.close(desk, table, pointer, statement),
@@ -141,15 +149,19 @@ impl Thread {
         pointer: Pointer,
         statement: u32,
     ) -> Option<Ended>
-        requires ending { pointer.kind ≡ Owner → ((state table.now).object (object_in table.now pointer.block)).phase ≡ ending desk }
-        requires begins { pointer.kind ≡ Owner → length self.old.course.endings.list < self.old.course.endings.room }
+        requires ending { pointer.kind ≡ Owner
+            → ((state table.now).object (object_in table.now pointer.block)).phase ≡ ending desk }
+        requires begins { pointer.kind ≡ Owner → length self.old.course.endings.list
+            < self.old.course.endings.room }
         requires room { pointer.kind ≡ Weak → length self.old.stock.blocks < self.old.stock.room }
         ensures course { self.new.course ≡ record self.old.course { endings = self.new.course.endings } }
-        ensures endings { self.new.course.endings.list ≡ begins_end_as pointer.kind statement pointer self.old.course.endings.list }
+        ensures endings { self.new.course.endings.list
+            ≡ begins_end_as pointer.kind statement pointer self.old.course.endings.list }
         ensures roomy { self.old.course.endings.room ≤ self.new.course.endings.room }
         ensures stock { IsStocked pointer.kind pointer.block.0 true self.old.stock self.new.stock }
         ensures half { self.new.half ≡ self.old.half }
-        ensures ended { result ≡ remains_as pointer.kind ((state table.now).object (object_in table.now pointer.block)) }
+        ensures ended { result ≡ remains_as pointer.kind
+            ((state table.now).object (object_in table.now pointer.block)) }
     {
         match pointer.kind {
             Kind::Owner => {

@@ -52,8 +52,8 @@ impl Thread {
         self.try_lock(desk, table, name, must, word)
     }
 
-    /// Tries a lock with the word that it found: where that is still there the owner comes into the hand. Else it goes on
-    /// with the word that is there, and where that is 0 it looks anew.
+    /// Tries a lock with the word that it found: where that is still there the owner comes into the hand. Else it goes
+    /// on with the word that is there, and where that is 0 it looks anew.
     fn try_lock(
         &mut self,
         desk: usize,

@@ -27,8 +27,8 @@ impl Thread {
     ghost use Rattle.step_threads.specs.Courses.{task_at};
     ghost use Rattle.step_threads.specs.Threads.{Fits, HasStepped};
 
-    /// The first step of a load: a look at the cell, where it is there; else it is refused. A value without an object is loaded at
-    /// once, and one of which all funds were taken has to wait.
+    /// The first step of a load: a look at the cell, where it is there; else it is refused. A value without an object
+    /// is loaded at once, and one of which all funds were taken has to wait.
     pub(crate) fn load(&mut self, desk: usize, table: &mut Table, cell: CellName) -> Stepped
         requires fits { Fits desk self.old table.old }
         requires rest { self.old.half ≡ Half.Rest }
@@ -54,8 +54,8 @@ impl Thread {
         Stepped::Quiet(silent(statement))
     }
 
-    /// The first step of a compare: a look at the cell. A value without an object that isn't what is expected is found to differ at
-    /// once, and one that differs and of which all funds were taken has to wait.
+    /// The first step of a compare: a look at the cell. A value without an object that isn't what is expected is found
+    /// to differ at once, and one that differs and of which all funds were taken has to wait.
     pub fn compare(
         &mut self,
         desk: usize,
@@ -127,7 +127,8 @@ impl Thread {
         Stepped::Event(silent(statement))
     }
 
-    /// Takes a fund of a cell that isn't what is expected, where it shows the same still; else the compare begins again.
+    /// Takes a fund of a cell that isn't what is expected, where it shows the same still; else the compare begins
+    /// again.
     fn differ(
         &mut self,
         desk: usize,
@@ -158,7 +159,8 @@ impl Thread {
         Stepped::Event(compared(statement, false))
     }
 
-    /// The cell was seen to hold what is expected: the funds of what is in hand are brought. A value without an object goes in at once.
+    /// The cell was seen to hold what is expected: the funds of what is in hand are brought. A value without an object
+    /// goes in at once.
     fn fetch(
         &mut self,
         desk: usize,
@@ -199,8 +201,9 @@ impl Thread {
         self.match_cell(desk, table, name, cell, weak, found)
     }
 
-    /// Swaps a cell that was seen to hold what is expected, where it shows the same still: what comes out is to be dropped, once its
-    /// funds are given back. Else those that were brought are given back, and the compare begins again.
+    /// Swaps a cell that was seen to hold what is expected, where it shows the same still: what comes out is to be
+    /// dropped, once its funds are given back. Else those that were brought are given back, and the compare begins
+    /// again.
     fn match_cell(
         &mut self,
         desk: usize,
@@ -214,7 +217,8 @@ impl Thread {
         requires half { (self.old.half ≡ Half.Saw found) ⊎ (self.old.half ≡ Half.Matched found) }
         requires act { (task_at self.old.course).act ≡ Act.Compare name cell weak }
         requires alike { same_value found (as_word (value self.old.course.holdings.slots.items name)) ≡ true }
-        requires owes { pending table.old desk ≡ owing_for (state table.old) (value self.old.course.holdings.slots.items (hand self.old.course.holdings.slots.items)) 256 }
+        requires owes { pending table.old desk ≡ owing_for (state table.old)
+            (value self.old.course.holdings.slots.items (hand self.old.course.holdings.slots.items)) 256 }
         ensures stepped { HasStepped desk self.old table.old result self.new table.new }
         ensures fits { Fits desk self.new table.new }
     {

@@ -2,7 +2,9 @@
 ghost use Rattle.std.specs.Prelude.{◌≡◌, ◌<◌, ◌≤◌, true, false, length, slice_set};
 ghost use Rattle.step_table.specs.Contents.{as_word, is_of, owing_for, seen, swapped};
 ghost use Rattle.step_threads.specs.Programs.{kind_at};
-ghost use Rattle.step_threads.specs.Courses.{CanAct, CourseReady, HasCell, HasGoneOn, IsNamed, cell_at, done_on, fitting, hand, is_offered, is_there, offered, other, rest, settled, task_at, walk};
+ghost use Rattle.step_threads.specs.Courses.{CanAct, CourseReady, HasCell, HasGoneOn, IsNamed, cell_at, done_on};
+ghost use Rattle.step_threads.specs.Courses.{fitting, hand, is_offered, is_there, offered, other, rest, settled};
+ghost use Rattle.step_threads.specs.Courses.{task_at, walk};
 ghost use Rattle.step_table.specs.Deeds.{is_last, leave, share, on};
 ghost use Rattle.step_table.specs.Holdings.{Holds, is_full, plain, slot, value};
 ghost use Rattle.step_threads.specs.Scenes.{came};
@@ -78,7 +80,9 @@ impl Course {
         requires there { is_there self.old.holdings.slots.items cell ≡ true }
         ensures event { result ≡ is_full (offered self.old.holdings.slots.items name cell) }
         ensures table { table.new ≡ done_on share table.old desk (offered self.old.holdings.slots.items name cell) }
-        ensures walk { walk self.new ≡ settled (slice_set self.old.holdings.slots.items (hand self.old.holdings.slots.items) (fitting (kind_at cell) (value self.old.holdings.slots.items name))) true self.old.endings.list (rest self.old) }
+        ensures walk { walk self.new ≡ settled (slice_set self.old.holdings.slots.items
+            (hand self.old.holdings.slots.items) (fitting (kind_at cell) (value self.old.holdings.slots.items name)))
+            true self.old.endings.list (rest self.old) }
         ensures on { HasGoneOn desk self.old self.new table.new }
     {
         let from = usize::from(name);
@@ -112,15 +116,19 @@ impl Course {
         requires act { (task_at self.old).act ≡ Act.Swap cell }
         requires there { is_there self.old.holdings.slots.items cell ≡ true }
         requires cell { HasCell table.old.extent.shape (task_at self.old).act }
-        requires kind { is_of (kind_at cell) (value self.old.holdings.slots.items (hand self.old.holdings.slots.items)) ≡ true }
-        requires owes { pending table.old desk ≡ owing_for (state table.old) (value self.old.holdings.slots.items (hand self.old.holdings.slots.items)) 256 }
+        requires kind { is_of (kind_at cell)
+            (value self.old.holdings.slots.items (hand self.old.holdings.slots.items)) ≡ true }
+        requires owes { pending table.old desk ≡ owing_for (state table.old)
+            (value self.old.holdings.slots.items (hand self.old.holdings.slots.items)) 256 }
         ensures found { result ≡ seen table.old (cell_at (state table.old) self.old.holdings.slots.items cell) }
         ensures few { result.taken ≤ 256 }
         ensures table { table.new
-            ≡ after table.old desk (Deed.OnCell (CellDeed.Swap (cell_at (state table.old) self.old.holdings.slots.items cell)
+            ≡ after table.old desk
+            (Deed.OnCell (CellDeed.Swap (cell_at (state table.old) self.old.holdings.slots.items cell)
             (as_word (value self.old.holdings.slots.items (hand self.old.holdings.slots.items))) result)) }
         ensures walk { walk self.new
-            ≡ settled (swapped (hand self.old.holdings.slots.items) (other self.old.holdings.slots.items) self.old.holdings.slots.items
+            ≡ settled (swapped (hand self.old.holdings.slots.items)
+            (other self.old.holdings.slots.items) self.old.holdings.slots.items
             (came (state table.old) self.old.holdings.slots.items cell)) false self.old.endings.list (rest self.old) }
         ensures on { HasGoneOn desk self.old self.new table.new }
     {
@@ -148,12 +156,17 @@ impl Course {
         requires there { is_there self.old.holdings.slots.items cell ≡ true }
         requires cell { HasCell table.old.extent.shape (task_at self.old).act }
         requires kind { is_of (kind_at cell) (value self.old.holdings.slots.items name) ≡ true }
-        requires owes { pending table.old desk ≡ owing_for (state table.old) (value self.old.holdings.slots.items name) 256 }
+        requires owes { pending table.old desk ≡ owing_for (state table.old)
+            (value self.old.holdings.slots.items name) 256 }
         ensures found { result ≡ seen table.old (cell_at (state table.old) self.old.holdings.slots.items cell) }
         ensures few { result.taken ≤ 256 }
-        ensures table { table.new ≡ after table.old desk (Deed.OnCell (CellDeed.Swap (cell_at (state table.old) self.old.holdings.slots.items cell) (as_word (value self.old.holdings.slots.items name)) result)) }
+        ensures table { table.new ≡ after table.old desk
+            (Deed.OnCell (CellDeed.Swap (cell_at (state table.old) self.old.holdings.slots.items cell)
+            (as_word (value self.old.holdings.slots.items name)) result)) }
         ensures walk { walk self.new
-            ≡ settled (slice_set self.old.holdings.slots.items name (came (state table.old) self.old.holdings.slots.items cell)) self.old.taken self.old.endings.list (rest self.old) }
+            ≡ settled (slice_set self.old.holdings.slots.items name
+            (came (state table.old) self.old.holdings.slots.items cell)) self.old.taken
+            self.old.endings.list (rest self.old) }
         ensures on { HasGoneOn desk self.old self.new table.new }
     {
         let cell = self.cell(table, cell);
@@ -167,9 +180,12 @@ impl Course {
         requires can { CanAct desk self.old table.old }
         requires act { (task_at self.old).act ≡ Act.Drop }
         ensures full { is_full (slot self.old.holdings.slots.items (other self.old.holdings.slots.items)) ≡ true }
-        ensures last { result ≡ on (is_last (state table.old)) false (slot self.old.holdings.slots.items (other self.old.holdings.slots.items)) }
-        ensures table { table.new ≡ done_on (leave (state table.old)) table.old desk (slot self.old.holdings.slots.items (other self.old.holdings.slots.items)) }
-        ensures walk { walk self.new ≡ settled (slice_set self.old.holdings.slots.items (other self.old.holdings.slots.items) plain) self.old.taken self.old.endings.list (rest self.old) }
+        ensures last { result ≡ on (is_last (state table.old)) false
+            (slot self.old.holdings.slots.items (other self.old.holdings.slots.items)) }
+        ensures table { table.new ≡ done_on (leave (state table.old)) table.old desk
+            (slot self.old.holdings.slots.items (other self.old.holdings.slots.items)) }
+        ensures walk { walk self.new ≡ settled (slice_set self.old.holdings.slots.items
+            (other self.old.holdings.slots.items) plain) self.old.taken self.old.endings.list (rest self.old) }
         ensures on { HasGoneOn desk self.old self.new table.new }
     {
         let other = self.holdings.other();

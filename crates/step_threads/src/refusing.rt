@@ -21,7 +21,8 @@ impl Thread {
         requires none { self.old.course.endings.list ≡ [] }
         requires within { self.old.course.at < length self.old.course.tasks.items }
         requires act { ((task_at self.old.course).act ≡ Act.Load cell)
-            ⊎ ((k : ℕ) × (((task_at self.old.course).act ≡ Act.Offer k cell) ⊎ ((task_at self.old.course).act ≡ Act.Exchange k cell))) }
+            ⊎ ((k : ℕ) × (((task_at self.old.course).act ≡ Act.Offer k cell)
+            ⊎ ((task_at self.old.course).act ≡ Act.Exchange k cell))) }
         requires there { is_there self.old.course.holdings.slots.items cell ≡ false }
         ensures stepped { HasStepped desk self.old table.now result self.new table.now }
         ensures fits { Fits desk self.new table.now }

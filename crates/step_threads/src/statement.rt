@@ -38,7 +38,8 @@ pub enum Tail {
     Named(Name),
     /// It goes into a cell, and what the cell held is dropped.
     Into(CellName),
-    /// It goes into a cell that is equivalent to a name, and what the cell held is dropped; else the name gets what the cell holds.
+    /// It goes into a cell that is equivalent to a name, and what the cell held is dropped; else the name gets what the
+    /// cell holds.
     IntoAs {
         cell: CellName,
         name: Name,

@@ -1,5 +1,6 @@
 //! An actor's vacant blocks.
-ghost use Rattle.std.specs.Prelude.{◌≡◌, ◌⊎◌, ◌<◌, ◌≤◌, ℕ, true, false, [], ◌∷◌, ◌+◌, length, All, IfOk, MatchOption};
+ghost use Rattle.std.specs.Prelude.{◌≡◌, ◌⊎◌, ◌<◌, ◌≤◌, ℕ, true, false, [], ◌∷◌, ◌+◌};
+ghost use Rattle.std.specs.Prelude.{length, All, IfOk, MatchOption};
 ghost use Rattle.std.specs.BinaryHeap.{heap_items};
 ghost use Rattle.std.specs.List.Sorted.{IsPermutation};
 ghost use Rattle.step_threads.specs.Stocks.{IsRange, from, numbers};
@@ -10,8 +11,8 @@ use std::cmp::Reverse;
 use std::collections::BinaryHeap;
 use std::marker::Model;
 
-/// A store of vacant blocks that gives the least one, in logarithmic time. Those that were never taken are a range, which costs
-/// nothing by its size. It takes its memory at the start.
+/// A store of vacant blocks that gives the least one, in logarithmic time. Those that were never taken are a range,
+/// which costs nothing by its size. It takes its memory at the start.
 #[derive(Drop)]
 pub struct Stock {
     /// The least block that was never taken.
@@ -29,7 +30,10 @@ impl Model for Stock {
 
     ghost Value = { Stored };
 
-    ghost view = { λ s. record { blocks = numbers (heap_items s.returned) ++ from s.next (s.end - s.next); room = heap_capacity s.returned } };
+    ghost view = { λ s. record {
+      blocks = numbers (heap_items s.returned) ++ from s.next (s.end - s.next);
+      room = heap_capacity s.returned;
+    } };
 
     ghost invariant = { λ s. IsRange (heap_items s.returned) s.next s.end };
 }
@@ -84,7 +88,8 @@ impl Stock {
 fn takes_next(returned: &BinaryHeap<Reverse<u16>>, next: u32, end: u32) -> bool
     requires { IsRange (heap_items returned.now) next end }
     ensures next { result ≡ true → (next < end) × All (λ c. next ≤ c) (numbers (heap_items returned.now)) }
-    ensures returned { result ≡ false → (next ≡ end) ⊎ ((b : ℕ) → All (λ c. b ≤ c) (numbers (heap_items returned.now)) → b ≤ next) }
+    ensures returned { result ≡ false → (next ≡ end)
+        ⊎ ((b : ℕ) → All (λ c. b ≤ c) (numbers (heap_items returned.now)) → b ≤ next) }
 {
     if next == end {
         return false;

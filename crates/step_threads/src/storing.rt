@@ -50,7 +50,8 @@ impl Thread {
         says(event, silent(statement))
     }
 
-    /// The first step of a store: the funds of what is in hand are brought. A value without an object goes into the cell at once.
+    /// The first step of a store: the funds of what is in hand are brought. A value without an object goes into the
+    /// cell at once.
     pub fn store(&mut self, desk: usize, table: &mut Table, cell: CellName) -> Stepped
         requires fits { Fits desk self.old table.old }
         requires rest { self.old.half ≡ Half.Rest }
@@ -71,8 +72,8 @@ impl Thread {
         Stepped::Quiet(silent(statement))
     }
 
-    /// The first step of an exchange: the funds of what a name holds are brought. A name without an object is exchanged at once,
-    /// and one that may not go into the cell not at all. Where the cell isn't there it is refused.
+    /// The first step of an exchange: the funds of what a name holds are brought. A name without an object is exchanged
+    /// at once, and one that may not go into the cell not at all. Where the cell isn't there it is refused.
     #[tactic(auto, using(crate::proofs::Named::refusal_none))]
     pub(crate) fn send(
         &mut self,
@@ -129,8 +130,10 @@ impl Thread {
         requires within { self.old.course.at < length self.old.course.tasks.items }
         requires act { (task_at self.old.course).act ≡ Act.Swap cell }
         requires there { is_there self.old.course.holdings.slots.items cell ≡ true }
-        requires kind { is_of (kind_at cell) (value self.old.course.holdings.slots.items (hand self.old.course.holdings.slots.items)) ≡ true }
-        requires owes { pending table.old desk ≡ owing_for (state table.old) (value self.old.course.holdings.slots.items (hand self.old.course.holdings.slots.items)) 256 }
+        requires kind { is_of (kind_at cell)
+            (value self.old.course.holdings.slots.items (hand self.old.course.holdings.slots.items)) ≡ true }
+        requires owes { pending table.old desk ≡ owing_for (state table.old)
+            (value self.old.course.holdings.slots.items (hand self.old.course.holdings.slots.items)) 256 }
         ensures stepped { HasStepped desk self.old table.old result self.new table.new }
         ensures fits { Fits desk self.new table.new }
     {
@@ -151,7 +154,8 @@ impl Thread {
         requires act { (task_at self.old.course).act ≡ Act.Exchange name cell }
         requires there { is_there self.old.course.holdings.slots.items cell ≡ true }
         requires kind { is_of (kind_at cell) (value self.old.course.holdings.slots.items name) ≡ true }
-        requires owes { pending table.old desk ≡ owing_for (state table.old) (value self.old.course.holdings.slots.items name) 256 }
+        requires owes { pending table.old desk ≡ owing_for (state table.old)
+            (value self.old.course.holdings.slots.items name) 256 }
         ensures stepped { HasStepped desk self.old table.old result self.new table.new }
         ensures fits { Fits desk self.new table.new }
     {

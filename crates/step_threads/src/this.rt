@@ -47,8 +47,8 @@ impl Thread {
         Stepped::Quiet(silent(statement))
     }
 
-    /// The last step: the object gives a pointer, which comes into the hand. It has the same object since the look, as the
-    /// name's owner kept that there.
+    /// The last step: the object gives a pointer, which comes into the hand. It has the same object since the look, as
+    /// the name's owner kept that there.
     pub fn give(
         &mut self,
         desk: usize,

@@ -1,9 +1,11 @@
 //! How a thread loads and compares what cells hold, act by act.
-ghost use Rattle.std.specs.Prelude.{◌≡◌, ◌≢◌, ◌<◌, ◌==◌, ◌||◌, cond, is_some, true, false, length, slice_set, Some, None};
+ghost use Rattle.std.specs.Prelude.{◌≡◌, ◌≢◌, ◌<◌, ◌==◌, ◌||◌, cond, is_some, true, false};
+ghost use Rattle.std.specs.Prelude.{length, slice_set, Some, None};
 ghost use Rattle.control_word.specs.Packing.{IsCellWord, cell_bits};
 ghost use Rattle.step_table.specs.Cells.{word_at};
 ghost use Rattle.step_table.specs.Contents.{as_word, compared_in, owing_for, same_value, seen};
-ghost use Rattle.step_threads.specs.Courses.{CanAct, CourseReady, CourseStill, HasCell, HasGoneOn, IsNamed, cell_at, comparing, hand, is_compared, is_there, rest, settled, task_at, walk};
+ghost use Rattle.step_threads.specs.Courses.{CanAct, CourseReady, CourseStill, HasCell, HasGoneOn, IsNamed, cell_at};
+ghost use Rattle.step_threads.specs.Courses.{comparing, hand, is_compared, is_there, rest, settled, task_at, walk};
 ghost use Rattle.step_table.specs.Holdings.{Holds, value};
 ghost use Rattle.step_threads.specs.Scenes.{came, compared};
 ghost use Rattle.step_table.specs.Stories.{after, pending, state};
@@ -18,7 +20,8 @@ use step_table::past::Deed;
 use step_table::table::Table;
 
 impl Course {
-    /// A compare of a cell with a name: what is in hand is to go in, and what comes out, or what was in hand, is to be dropped.
+    /// A compare of a cell with a name: what is in hand is to go in, and what comes out, or what was in hand, is to be
+    /// dropped.
     fn comparing(&self, name: u8, weak: bool) -> Comparing
         requires { 1 < length self.now.holdings.slots.items }
         ensures { result ≡ comparing self.now.holdings.slots.items name weak }
@@ -69,10 +72,12 @@ impl Course {
         requires there { is_there self.old.holdings.slots.items cell ≡ true }
         ensures valid { IsCellWord result }
         ensures found { result ≡ seen table.old (cell_at (state table.old) self.old.holdings.slots.items cell) }
-        ensures table { table.new ≡ cond (is_some result.owned) table.old (after table.old desk (Deed.OnCell (CellDeed.Look (cell_at (state table.old) self.old.holdings.slots.items cell) result None))) }
+        ensures table { table.new ≡ cond (is_some result.owned) table.old (after table.old desk
+            (Deed.OnCell (CellDeed.Look (cell_at (state table.old) self.old.holdings.slots.items cell) result None))) }
         ensures stays { is_some result.owned ≡ true → self.new ≡ self.old }
         ensures walk { is_some result.owned ≡ false → walk self.new
-            ≡ settled (slice_set self.old.holdings.slots.items (hand self.old.holdings.slots.items) (came (state table.old) self.old.holdings.slots.items cell)) true self.old.endings.list (rest self.old) }
+            ≡ settled (slice_set self.old.holdings.slots.items (hand self.old.holdings.slots.items) (came
+            (state table.old) self.old.holdings.slots.items cell)) true self.old.endings.list (rest self.old) }
         ensures on { is_some result.owned ≡ false → HasGoneOn desk self.old self.new table.new }
     {
         let hand = self.holdings.hand();
@@ -84,8 +89,8 @@ impl Course {
         found
     }
 
-    /// Takes a fund of a cell, where it shows what was seen: its value comes into the hand, and the thread goes on. Else nothing is
-    /// done.
+    /// Takes a fund of a cell, where it shows what was seen: its value comes into the hand, and the thread goes on.
+    /// Else nothing is done.
     pub(crate) fn take_fund(
         &mut self,
         desk: usize,
@@ -97,11 +102,14 @@ impl Course {
         requires act { (task_at self.old).act ≡ Act.Load cell }
         requires there { is_there self.old.holdings.slots.items cell ≡ true }
         requires seen { IsCellWord seen × (seen.owned ≢ None) × (seen.taken < 256) }
-        ensures same { result ≡ (word_at table.old (cell_at (state table.old) self.old.holdings.slots.items cell) == cell_bits seen) }
-        ensures table { table.new ≡ cond result (after table.old desk (Deed.OnCell (CellDeed.Take (cell_at (state table.old) self.old.holdings.slots.items cell) seen None))) table.old }
+        ensures same { result
+            ≡ (word_at table.old (cell_at (state table.old) self.old.holdings.slots.items cell) == cell_bits seen) }
+        ensures table { table.new ≡ cond result (after table.old desk (Deed.OnCell
+            (CellDeed.Take (cell_at (state table.old) self.old.holdings.slots.items cell) seen None))) table.old }
         ensures stays { result ≡ false → self.new ≡ self.old }
         ensures walk { result ≡ true → walk self.new
-            ≡ settled (slice_set self.old.holdings.slots.items (hand self.old.holdings.slots.items) (came (state table.old) self.old.holdings.slots.items cell)) true self.old.endings.list (rest self.old) }
+            ≡ settled (slice_set self.old.holdings.slots.items (hand self.old.holdings.slots.items) (came
+            (state table.old) self.old.holdings.slots.items cell)) true self.old.endings.list (rest self.old) }
         ensures on { result ≡ true → HasGoneOn desk self.old self.new table.new }
     {
         let hand = self.holdings.hand();
@@ -113,8 +121,8 @@ impl Course {
         took
     }
 
-    /// The look of a compare: where the cell has no object and isn't what is expected, its value comes into the hand, what was there
-    /// is to be dropped, and the thread goes on. Else nothing is done.
+    /// The look of a compare: where the cell has no object and isn't what is expected, its value comes into the hand,
+    /// what was there is to be dropped, and the thread goes on. Else nothing is done.
     pub(crate) fn look_to_compare(
         &mut self,
         desk: usize,
@@ -128,12 +136,19 @@ impl Course {
         ensures valid { IsCellWord result }
         ensures found { result ≡ seen table.old (cell_at (state table.old) self.old.holdings.slots.items cell) }
         ensures table { table.new
-            ≡ cond (is_some result.owned || same_value result (as_word (value self.old.holdings.slots.items name))) table.old
-            (after table.old desk (Deed.OnCell (CellDeed.Look (cell_at (state table.old) self.old.holdings.slots.items cell) result (Some (compared_in self.old.holdings.slots.items (comparing self.old.holdings.slots.items name weak)))))) }
-        ensures stays { (is_some result.owned || same_value result (as_word (value self.old.holdings.slots.items name))) ≡ true → self.new ≡ self.old }
-        ensures walk { (is_some result.owned || same_value result (as_word (value self.old.holdings.slots.items name))) ≡ false → walk self.new
-            ≡ settled (compared self.old.holdings.slots.items (came (state table.old) self.old.holdings.slots.items cell) false).0 true self.old.endings.list (rest self.old) }
-        ensures on { (is_some result.owned || same_value result (as_word (value self.old.holdings.slots.items name))) ≡ false → HasGoneOn desk self.old self.new table.new }
+            ≡ cond (is_some result.owned || same_value result (as_word (value self.old.holdings.slots.items name)))
+            table.old
+            (after table.old desk
+            (Deed.OnCell (CellDeed.Look (cell_at (state table.old) self.old.holdings.slots.items cell) result (Some
+            (compared_in self.old.holdings.slots.items (comparing self.old.holdings.slots.items name weak)))))) }
+        ensures stays { (is_some result.owned || same_value result (as_word (value self.old.holdings.slots.items name)))
+            ≡ true → self.new ≡ self.old }
+        ensures walk { (is_some result.owned || same_value result (as_word (value self.old.holdings.slots.items name)))
+            ≡ false → walk self.new
+            ≡ settled (compared self.old.holdings.slots.items (came (state table.old) self.old.holdings.slots.items
+            cell) false).0 true self.old.endings.list (rest self.old) }
+        ensures on { (is_some result.owned || same_value result (as_word (value self.old.holdings.slots.items name)))
+            ≡ false → HasGoneOn desk self.old self.new table.new }
     {
         let comparing = self.comparing(name, weak);
         let cell = self.cell(table, cell);
@@ -145,8 +160,8 @@ impl Course {
         found
     }
 
-    /// Takes a fund of a cell that isn't what is expected, where it shows what was seen: its value comes into the hand, what was there
-    /// is to be dropped, and the thread goes on. Else nothing is done.
+    /// Takes a fund of a cell that isn't what is expected, where it shows what was seen: its value comes into the hand,
+    /// what was there is to be dropped, and the thread goes on. Else nothing is done.
     pub(crate) fn take_differing(
         &mut self,
         desk: usize,
@@ -160,12 +175,17 @@ impl Course {
         requires act { (task_at self.old).act ≡ Act.Compare name cell weak }
         requires seen { IsCellWord seen × (seen.owned ≢ None) × (seen.taken < 256) }
         requires differs { same_value seen (as_word (value self.old.holdings.slots.items name)) ≡ false }
-        ensures same { result ≡ (word_at table.old (cell_at (state table.old) self.old.holdings.slots.items cell) == cell_bits seen) }
+        ensures same { result
+            ≡ (word_at table.old (cell_at (state table.old) self.old.holdings.slots.items cell) == cell_bits seen) }
         ensures table { table.new
-            ≡ cond result (after table.old desk (Deed.OnCell (CellDeed.Take (cell_at (state table.old) self.old.holdings.slots.items cell) seen
-            (Some (compared_in self.old.holdings.slots.items (comparing self.old.holdings.slots.items name weak)))))) table.old }
+            ≡ cond result (after table.old desk
+            (Deed.OnCell (CellDeed.Take (cell_at (state table.old) self.old.holdings.slots.items cell) seen
+            (Some (compared_in self.old.holdings.slots.items (comparing self.old.holdings.slots.items name weak))))))
+            table.old }
         ensures stays { result ≡ false → self.new ≡ self.old }
-        ensures walk { result ≡ true → walk self.new ≡ settled (compared self.old.holdings.slots.items (came (state table.old) self.old.holdings.slots.items cell) false).0 true self.old.endings.list (rest self.old) }
+        ensures walk { result ≡ true → walk self.new ≡ settled
+            (compared self.old.holdings.slots.items (came (state table.old) self.old.holdings.slots.items cell) false).0
+            true self.old.endings.list (rest self.old) }
         ensures on { result ≡ true → HasGoneOn desk self.old self.new table.new }
     {
         let comparing = self.comparing(name, weak);
@@ -179,8 +199,8 @@ impl Course {
         took
     }
 
-    /// Compares and swaps a cell, where it shows what was seen, which is what is expected: what is in hand goes in, what comes out is
-    /// to be dropped, and the thread goes on. Else nothing is done.
+    /// Compares and swaps a cell, where it shows what was seen, which is what is expected: what is in hand goes in,
+    /// what comes out is to be dropped, and the thread goes on. Else nothing is done.
     pub(crate) fn compare_and_swap(
         &mut self,
         desk: usize,
@@ -199,13 +219,19 @@ impl Course {
         requires cell { HasCell table.old.extent.shape (task_at self.old).act }
         requires seen { IsCellWord seen }
         requires alike { same_value seen (as_word (value self.old.holdings.slots.items name)) ≡ true }
-        requires owes { pending table.old desk ≡ owing_for (state table.old) (value self.old.holdings.slots.items (hand self.old.holdings.slots.items)) 256 }
-        ensures same { result ≡ (word_at table.old (cell_at (state table.old) self.old.holdings.slots.items cell) == cell_bits seen) }
+        requires owes { pending table.old desk ≡ owing_for (state table.old)
+            (value self.old.holdings.slots.items (hand self.old.holdings.slots.items)) 256 }
+        ensures same { result
+            ≡ (word_at table.old (cell_at (state table.old) self.old.holdings.slots.items cell) == cell_bits seen) }
         ensures table { table.new
-            ≡ cond result (after table.old desk (Deed.OnCell (CellDeed.CompareSwap (cell_at (state table.old) self.old.holdings.slots.items cell) seen
-            (compared_in self.old.holdings.slots.items (comparing self.old.holdings.slots.items name weak))))) table.old }
+            ≡ cond result (after table.old desk
+            (Deed.OnCell (CellDeed.CompareSwap (cell_at (state table.old) self.old.holdings.slots.items cell) seen
+            (compared_in self.old.holdings.slots.items (comparing self.old.holdings.slots.items name weak)))))
+            table.old }
         ensures stays { result ≡ false → self.new ≡ self.old }
-        ensures walk { result ≡ true → walk self.new ≡ settled (compared self.old.holdings.slots.items (came (state table.old) self.old.holdings.slots.items cell) true).0 false self.old.endings.list (rest self.old) }
+        ensures walk { result ≡ true → walk self.new ≡ settled
+            (compared self.old.holdings.slots.items (came (state table.old) self.old.holdings.slots.items cell) true).0
+            false self.old.endings.list (rest self.old) }
         ensures on { result ≡ true → HasGoneOn desk self.old self.new table.new }
     {
         let comparing = self.comparing(name, weak);

@@ -21,7 +21,8 @@ impl Thread {
         requires fits { Fits desk self.old table.old }
         requires rest { self.old.half ≡ Half.Rest }
         requires first { first_of self.old.course.endings.list ≡ Some ending }
-        requires empty { is_full (slot self.old.course.holdings.slots.items (hand self.old.course.holdings.slots.items)) ≡ false }
+        requires empty { is_full (slot self.old.course.holdings.slots.items (hand self.old.course.holdings.slots.items))
+            ≡ false }
         ensures stepped { HasStepped desk self.old table.old result self.new table.new }
         ensures fits { Fits desk self.new table.new }
     {
@@ -32,13 +33,15 @@ impl Thread {
         }
     }
 
-    /// Looks at a member of the object that ends. An empty one is cleared by that; what another holds is taken out next.
+    /// Looks at a member of the object that ends. An empty one is cleared by that; what another holds is taken out
+    /// next.
     fn look_at_member(&mut self, desk: usize, table: &mut Table, ending: Ending) -> Stepped
         requires fits { Fits desk self.old table.old }
         requires rest { self.old.half ≡ Half.Rest }
         requires first { first_of self.old.course.endings.list ≡ Some ending }
         requires inside { ending.stage < 3 }
-        requires empty { is_full (slot self.old.course.holdings.slots.items (hand self.old.course.holdings.slots.items)) ≡ false }
+        requires empty { is_full (slot self.old.course.holdings.slots.items (hand self.old.course.holdings.slots.items))
+            ≡ false }
         ensures stepped { HasStepped desk self.old table.old result self.new table.new }
         ensures fits { Fits desk self.new table.new }
     {
@@ -51,8 +54,8 @@ impl Thread {
         Stepped::Event(silent(ending.statement))
     }
 
-    /// What a member of the object that ends holds comes out, into the hand if it has an object. Its funds that were not taken are
-    /// given back next.
+    /// What a member of the object that ends holds comes out, into the hand if it has an object. Its funds that were
+    /// not taken are given back next.
     pub(crate) fn empty_on(&mut self, desk: usize, table: &mut Table) -> Stepped
         requires fits { Fits desk self.old table.old }
         requires half { self.old.half ≡ Half.Clearing }
@@ -81,7 +84,8 @@ impl Thread {
         requires rest { self.old.half ≡ Half.Rest }
         requires first { first_of self.old.course.endings.list ≡ Some ending }
         requires behind { ending.stage ≡ 3 }
-        requires empty { is_full (slot self.old.course.holdings.slots.items (hand self.old.course.holdings.slots.items)) ≡ false }
+        requires empty { is_full (slot self.old.course.holdings.slots.items (hand self.old.course.holdings.slots.items))
+            ≡ false }
         ensures stepped { HasStepped desk self.old table.old result self.new table.new }
         ensures fits { Fits desk self.new table.new }
     {

@@ -38,7 +38,8 @@ impl Question {
 }
 
 impl Course {
-    ghost use Rattle.step_threads.specs.Courses.{CanAct, CourseReady, HasGoneOn, done_on, hand, passed, rest, settled, task_at, walk};
+    ghost use Rattle.step_threads.specs.Courses.{CanAct, CourseReady, HasGoneOn, done_on, hand, passed, rest, settled};
+    ghost use Rattle.step_threads.specs.Courses.{task_at, walk};
 
     /// Takes an alias of what a name holds, as the act says. Answers whether that touched a block.
     pub fn alias(
@@ -53,9 +54,11 @@ impl Course {
         requires act { (task_at self.old).act ≡ Act.Alias name of field }
         ensures event { result ≡ is_full (owner_slot (slot self.old.holdings.slots.items name)) }
         ensures table { table.new
-            ≡ done_on (alias (aliased field (place_in self.old.holdings.slots.items of))) table.old desk (owner_slot (slot self.old.holdings.slots.items name)) }
+            ≡ done_on (alias (aliased field (place_in self.old.holdings.slots.items of))) table.old desk
+            (owner_slot (slot self.old.holdings.slots.items name)) }
         ensures walk { walk self.new
-            ≡ settled (slice_set self.old.holdings.slots.items (hand self.old.holdings.slots.items) (alias_in self.old.holdings.slots.items name of field)) true self.old.endings.list (rest self.old) }
+            ≡ settled (slice_set self.old.holdings.slots.items (hand self.old.holdings.slots.items)
+            (alias_in self.old.holdings.slots.items name of field)) true self.old.endings.list (rest self.old) }
         ensures on { HasGoneOn desk self.old self.new table.new }
     {
         let from = usize::from(name);
@@ -82,8 +85,10 @@ impl Course {
         requires ready { CourseReady self.old }
         requires none { self.old.endings.list ≡ [] }
         requires act { (task_at self.old).act ≡ Act.Move name }
-        ensures walk { walk self.new ≡ settled (passed name (hand self.old.holdings.slots.items) self.old.holdings.slots.items) true self.old.endings.list (rest self.old) }
-        ensures on { (d : ℕ) (v : Story) → Holds d self.old.holdings.slots.items v → HasGoneOn d self.old self.new v }
+        ensures walk { walk self.new ≡ settled (passed name (hand self.old.holdings.slots.items)
+            self.old.holdings.slots.items) true self.old.endings.list (rest self.old) }
+        ensures on { (d : ℕ) (v : Story) → Holds d self.old.holdings.slots.items v
+            → HasGoneOn d self.old self.new v }
     {
         let hand = self.holdings.hand();
         self.holdings.pass_on(usize::from(name), hand);
@@ -95,7 +100,8 @@ impl Course {
         requires can { CanAct desk self.old table.now }
         requires act { (task_at self.old).act ≡ Act.Ask question }
         ensures answer { result ≡ reply (state table.now) self.old.holdings.slots.items question }
-        ensures walk { walk self.new ≡ settled self.old.holdings.slots.items self.old.taken self.old.endings.list (rest self.old) }
+        ensures walk { walk self.new ≡ settled self.old.holdings.slots.items self.old.taken
+            self.old.endings.list (rest self.old) }
         ensures on { HasGoneOn desk self.old self.new table.now }
     {
         let answer = question.reply(desk, table, &self.holdings);

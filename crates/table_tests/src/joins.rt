@@ -20,7 +20,8 @@ fn fill<R: Abort, H: Home>(
     assert!(rt; matches!(other.reset(3), Ok(Gone::Last)));
 }
 
-/// What was the other's is this table's: its handle, its allowance, its vacant block, and what is left to end, which comes first.
+/// What was the other's is this table's: its handle, its allowance, its vacant block, and what is left to end, which
+/// comes first.
 fn has_all<R: Abort + Wait, H: Home>(rt: &R, table: &mut HandleTable<'_, u64, H>) {
     assert_eq!(rt; table.read(2), Ok(2));
     assert_eq!(rt; table.read(3), Ok(1));
@@ -47,7 +48,8 @@ pub(crate) fn come_together<'d, R: Abort + Wait, H: Home>(
     }
 }
 
-/// Both have an owner in slot 2, so that the join is refused; it isn't once the one here lies in slot 3, which is vacant there.
+/// Both have an owner in slot 2, so that the join is refused; it isn't once the one here lies in slot 3, which is
+/// vacant there.
 fn clash_and_join<'d, R: Abort + Wait, H: Home>(
     rt: &R,
     table: &mut HandleTable<'d, u64, H>,

@@ -1,5 +1,6 @@
 -- Bring: funds are put on a count, under a handle in hand.
-use Rattle.std.proofs.Common.{◌≡◌, ℕ, ◌+◌, ◌*◌, ◌/◌, ◌%◌, ◌^◌, ◌<◌, ◌≤◌, get_or, set, map, Option, sym, ap, subst, ◌∙◌, arith}
+use Rattle.std.proofs.Common.{◌≡◌, ℕ, ◌+◌, ◌*◌, ◌/◌, ◌%◌, ◌^◌, ◌<◌, ◌≤◌, get_or, set, map, Option, sym, ap, subst}
+use Rattle.std.proofs.Common.{◌∙◌, arith}
 use Rattle.atomic_table.specs.Table.{Allows, step}
 use mathlib.Core.Option.{none}
 use Rattle.control_word.proofs.history.Legal.{held_busy, sound}
@@ -31,7 +32,8 @@ module _ {V : Type 0} where
       → i ≡ spot b (slot m)
       → Allows (Ruled k) slots id me i (λ n. (n + f * 4294967296) % 2 ^ 64) (brought m o p (step slots i (f * 4294967296) 0 none) me)
   allows_bring k slots id b o i f m p me rests holds few e =
-      allows_move k slots id i me (λ n. (n + f * 4294967296) % 2 ^ 64) (Paying m o p i (f * 4294967296 / 4294967296) 0) rests.awake rests.empty record { single = λ d q. q; both = λ d seen. tt }
+      allows_move k slots id i me (λ n. (n + f * 4294967296) % 2 ^ 64) (Paying m o p i (f * 4294967296 / 4294967296) 0) rests.awake rests.empty
+      record { single = λ d q. q; both = λ d seen. tt }
       (λ s r at small.
       let v = me.0 in let z = opening_of k in let views = map view_of s.views in let h = r.history in
       let now = ready k s r id v at rests.awake Idle rests.idle in

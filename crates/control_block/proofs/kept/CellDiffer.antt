@@ -51,15 +51,28 @@ module _ {V : Type 0} where
           let t = leads (opening_of k) r.history in let no = shows_one (blocks_of t) (cell_of t c) o d.taken e in
           (me.0, unmoved k s id i me.0 r at, (is_held k s r id me.0 at rests.awake c d.taken, λ n f. absurd (no n), λ n f. absurd (no n), λ _. refl))
       go s r at is d None e true same =
-          let t = leads (opening_of k) r.history in
-          (me.0, unmoved k s id i me.0 r at, (is_held k s r id me.0 at rests.awake c d.taken, λ n f. absurd (not_both _ same f), λ n f. refl, λ n. absurd (n (ap (block_of (blocks_of t)) e))))
+          let t = leads (opening_of k) r.history in (
+            me.0,
+            unmoved k s id i me.0 r at,
+            (
+              is_held k s r id me.0 at rests.awake c d.taken,
+              λ n f. absurd (not_both _ same f),
+              λ n f. refl,
+              λ n. absurd (n (ap (block_of (blocks_of t)) e)),
+            ),
+          )
       go s r at is d None e false same =
           let v = me.0 in let z = opening_of k in let t = leads z r.history in let old = cell_of t c in let kk = kind_in v.shape c in
           let h = handle kk None old.place in
           let it : h ≡ old = λ j. record { kind = sym d.kind j; object = sym e j; place = old.place } in
           let ev : Event V = Compare c expected new h false weak' in let hist = entry v.view.name ev ∷ r.history in
-          let told = law.differs_empty (point k s r id v) c kk old.place expected new weak' (ready k s r id v at rests.awake Idle rests.idle) it
-          (is_open k s r id v at rests.awake c i cell, hand_there k s r id v at rests.awake kk expected he _ is.kind, hand_there k s r id v at rests.awake kk new hn _ is.kind, it, inl (sym same)) in (
+          let told = law.differs_empty (point k s r id v) c kk old.place expected new weak' (ready k s r id v at rests.awake Idle rests.idle) it (
+            is_open k s r id v at rests.awake c i cell,
+            hand_there k s r id v at rests.awake kk expected he _ is.kind,
+            hand_there k s r id v at rests.awake kk new hn _ is.kind,
+            it,
+            inl (sym same),
+          ) in (
             seeing v Idle None hist,
             quiet_next k s r id v (set s.words i (get_or s.words i 0)) ev Idle at rests.awake rests.empty
                 (plain (λ u q. refl) (λ u q. refl) (λ u f. refl)) (looked z s.words i _ hist told),
@@ -72,7 +85,8 @@ module _ {V : Type 0} where
           )
 
   -- the slots in hand stay as they are
-  pub slots_differed : (x : CellWord) (m m' : At V) (A : Type 0) (b : Bool) → (x.owned ≡ None → b ≡ false → A × (m'.1 ≡ m.1)) → (x.owned ≡ None → b ≡ true → m' ≡ m)
+  pub slots_differed : (x : CellWord) (m m' : At V) (A : Type 0) (b : Bool) → (x.owned ≡ None → b ≡ false → A × (m'.1 ≡ m.1))
+      → (x.owned ≡ None → b ≡ true → m' ≡ m)
       → (x.owned ≢ None → m' ≡ m) → m'.1 ≡ m.1
   slots_differed x m m' A b bare alike some' = go x.owned b refl refl
     where

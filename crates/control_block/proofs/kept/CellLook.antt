@@ -36,7 +36,8 @@ shows_one block h o t e n = some_none (ap (block_of block) (sym e) ∙ n)
 module _ {V : Type 0} where
   -- what a cell shows is what it holds, in the state that the history leads to
   pub is_held : (k : Shape) (s : Table.State (Option V) (Sight V)) (r : Ruled k s) (id : ℕ) (v : Sight V) (at : get_elem? s.views id ≡ some v)
-      (awake : v.view.spent ≡ false) (c : Cell) (taken : ℕ) → let t = leads (opening_of k) r.history in IsHeld c v (shown (blocks_of t) (cell_of t c) taken)
+      (awake : v.view.spent ≡ false) (c : Cell) (taken : ℕ) → let t = leads (opening_of k) r.history in
+      IsHeld c v (shown (blocks_of t) (cell_of t c) taken)
   is_held k s r id v at awake c taken =
       let m = knows k s r id v at awake in let shape = sym (r.shapes id v at awake) in
       let same : leads (opening_of k) r.history ≡ leads (opening_of v.shape) (m.0 ++ v.view.seen) =
@@ -85,21 +86,30 @@ module _ {V : Type 0} where
           (w : Sight V) × Ruled k record { words = set s.words i (get_or s.words i 0); homes = s.homes; views = set s.views id w }
           × as_loaded c me (shown (blocks_of t) (cell_of t c) d.taken) (w, me.1)
       go s r at is d (Some o) e =
-          let t = leads (opening_of k) r.history in
-          (me.0, unmoved k s id i me.0 r at, (is_held k s r id me.0 at rests.awake c d.taken, λ n. absurd (shows_one (blocks_of t) (cell_of t c) o d.taken e n), λ _. refl))
+          let t = leads (opening_of k) r.history in (
+            me.0,
+            unmoved k s id i me.0 r at,
+            (is_held k s r id me.0 at rests.awake c d.taken, λ n. absurd (shows_one (blocks_of t) (cell_of t c) o d.taken e n), λ _. refl),
+          )
       go s r at is d None e =
           let v = me.0 in let z = opening_of k in let t = leads z r.history in let h = cell_of t c in let kk = kind_in v.shape c in
           let same : handle kk None h.place ≡ h = λ j. record { kind = sym d.kind j; object = sym e j; place = h.place } in
           let ev : Event V = Load c (handle kk None h.place) in let hist = entry v.view.name ev ∷ r.history in
-          let told = law.loads_empty (point k s r id v) c kk h.place (ready k s r id v at rests.awake Idle rests.idle) (is_open k s r id v at rests.awake c i cell) same in (
+          let told = law.loads_empty (point k s r id v) c kk h.place (ready k s r id v at rests.awake Idle rests.idle)
+          (is_open k s r id v at rests.awake c i cell) same in (
             seeing v Idle None hist,
             quiet_next k s r id v (set s.words i (get_or s.words i 0)) ev Idle at rests.awake rests.empty
                 (plain (λ u q. refl) (λ u q. refl) (λ u f. refl)) (looked z s.words i _ hist told),
-            (is_held k s r id v at rests.awake c d.taken, λ _. (adds k s r id v at rests.awake Idle None ev told.legal, refl), λ n. absurd (n (ap (block_of (blocks_of t)) e))),
+            (
+              is_held k s r id v at rests.awake c d.taken,
+              λ _. (adds k s r id v at rests.awake Idle None ev told.legal, refl),
+              λ n. absurd (n (ap (block_of (blocks_of t)) e)),
+            ),
           )
 
   -- the slots in hand stay as they are
-  pub slots_kept : (c : Cell) (x : CellWord) (m m' : At V) (A : Type 0) → (x.owned ≡ None → A × (m'.1 ≡ m.1)) → (x.owned ≢ None → m' ≡ m) → m'.1 ≡ m.1
+  pub slots_kept : (c : Cell) (x : CellWord) (m m' : At V) (A : Type 0) → (x.owned ≡ None → A × (m'.1 ≡ m.1))
+      → (x.owned ≢ None → m' ≡ m) → m'.1 ≡ m.1
   slots_kept c x m m' A bare some' = go x.owned refl
     where
       go : (o : Option Block) → x.owned ≡ o → m'.1 ≡ m.1

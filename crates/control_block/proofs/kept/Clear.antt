@@ -1,5 +1,6 @@
 -- Clear: a member of an object that ends is emptied, by a look where it holds nothing.
-use Rattle.std.proofs.Common.{◌≡◌, ◌≢◌, ℕ, ◌+◌, ◌-◌, ◌*◌, ◌<◌, false, [], ◌∷◌, get_or, set, map, Option, None, refl, sym, ap, subst, ◌∙◌, ⊎_elim, arith}
+use Rattle.std.proofs.Common.{◌≡◌, ◌≢◌, ℕ, ◌+◌, ◌-◌, ◌*◌, ◌<◌, false, [], ◌∷◌, get_or, set, map, Option, None, refl, sym}
+use Rattle.std.proofs.Common.{ap, subst, ◌∙◌, ⊎_elim, arith}
 use Rattle.std.proofs.lemmas.Bool.{cases_eq}
 use Rattle.atomic_table.specs.Table as Table
 use Rattle.atomic_table.specs.Table.{Allows, keeps, step}
@@ -49,7 +50,8 @@ module _ {V : Type 0} where
     in_block : ((leads (opening_of k) r.history).object o).block ≡ b
     in_block =
         let z = opening_of k in let t = leads z r.history in let still = still_ending k s r id v at awake o b ends in
-        ap (λ y. (t.object y).block) (sym still.0) ∙ ends_here z t b v.view.name (sound z r.history r.stands.legal) (ap (λ y. (t.object y).phase) still.0 ∙ phase)
+        ap (λ y. (t.object y).block) (sym still.0) ∙ ends_here z t b v.view.name (sound z r.history r.stands.legal)
+        (ap (λ y. (t.object y).phase) still.0 ∙ phase)
 
     -- so its member is a cell with this word
     there : Opened k s r id v at awake (Member o m) i
@@ -61,7 +63,8 @@ module _ {V : Type 0} where
     room more h =
         let a = still_room k s r id v at awake more in let t = leads (opening_of k) r.history in
         let x = t.object o in
-        let g = gets_most (Rattle.control_word.specs.Events.changes o (record x { member = Rattle.control_word.specs.State.put x.member m (empty (kind_of_member m)) }) t) v.view.name h in
+        let g = gets_most (Rattle.control_word.specs.Events.changes o
+        (record x { member = Rattle.control_word.specs.State.put x.member m (empty (kind_of_member m)) }) t) v.view.name h in
         omega arith
 
     told : (taken : ℕ) → Rests (v, []) → HasRoomFor v → (let t = leads (opening_of k) r.history in let old = (t.object o).member m in

@@ -66,18 +66,28 @@ module _ {V : Type 0} where
       let own : InHand (known v) v.view.name new.kind new = subst (λ m. InHand (known v) v.view.name m new) (sym hand.0) hand in
       let mine : InHand (known v) v.view.name expected.kind expected = subst (λ m. InHand (known v) v.view.name m expected) (sym he.0) he in
       let alike = is_expected k s r id v at owes.awake c i is expected mine x d.taken same shows in
-      let told = law.compare_swaps (point k s r id v) c expected new weak' (ready_new k s r id v at owes.awake new y is_new full own owes.pending) alike
-      (is_open k s r id v at owes.awake c i cell, hand_there k s r id v at owes.awake (kind_in v.shape c) expected he _ is.kind, hand_there k s r id v at owes.awake (kind_in v.shape c) new hand _ is.kind, refl, inl (sym alike))
+      let told = law.compare_swaps (point k s r id v) c expected new weak' (ready_new k s r id v at owes.awake new y is_new full own owes.pending) alike (
+        is_open k s r id v at owes.awake c i cell,
+        hand_there k s r id v at owes.awake (kind_in v.shape c) expected he _ is.kind,
+        hand_there k s r id v at owes.awake (kind_in v.shape c) new hand _ is.kind,
+        refl,
+        inl (sym alike),
+      )
       (room_swapped k s r id v at owes.awake (kind_in v.shape c) new hand old c more) d.taken
       (ap (λ j. get_or s.words j 0) is.there ∙ (d.bits ∙ sym (cell_shown (blocks_of t) old d.taken))) in
       let g = gives k s r id i c v at owes.awake owes.empty (λ h. Compare c expected new h true weak')
       (λ h. quiet_compare c expected new h true weak') is d n x same
-      (subst (λ m. Adds (point k s r id v) (cell_word (point k s r id v) c) m (Compare c expected new old true weak') (purse (blocks_of t) old (256 - d.taken)))
+      (subst (λ m. Adds (point k s r id v) (cell_word (point k s r id v) c) m (Compare c expected new old true weak')
+      (purse (blocks_of t) old (256 - d.taken)))
       (sym (bits ∙ packs_new k s r id v at owes.awake new y is_new full own)) told) in (
         g.0,
         g.1,
         (
-          λ _ b well is_b. (subst (λ a. Gave (λ h. Compare c expected new h true weak') (kind_in v.shape c) v a g.0) (one_cell x b valid well (sym is_found ∙ is_b)) g.2, refl),
+          λ _ b well is_b. (
+            subst (λ a. Gave (λ h. Compare c expected new h true weak') (kind_in v.shape c) v a g.0)
+                (one_cell x b valid well (sym is_found ∙ is_b)) g.2,
+            refl,
+          ),
           λ m. absurd (m refl),
         ),
       ))

@@ -1,5 +1,6 @@
 -- The door of a visit: it is shut and the slot with the value taken, and it is opened and the slot given home.
-use Rattle.std.proofs.Common.{◌≡◌, ◌≢◌, ℕ, ◌+◌, ◌-◌, ◌%◌, ◌^◌, ◌<◌, ◌≤◌, ◌==◌, cond, false, [], ◌∷◌, get_or, set, map, length-set, Option, Some, None}
+use Rattle.std.proofs.Common.{◌≡◌, ◌≢◌, ℕ, ◌+◌, ◌-◌, ◌%◌, ◌^◌, ◌<◌, ◌≤◌, ◌==◌, cond, false, [], ◌∷◌, get_or}
+use Rattle.std.proofs.Common.{set, map, length-set, Option, Some, None}
 use Rattle.std.proofs.Common.{refl, sym, ap, subst, ◌∙◌, inl, inr, ⊎_elim, arith, eq-eqb, ne_eqb}
 use Rattle.std.proofs.lemmas.Bool.{cases_eq}
 use mathlib.Core.Option.{none, some}
@@ -70,7 +71,8 @@ module _ {V : Type 0} where
             × Ruled k (Table.stepped s i (either (get_or s.words i 0 == found) (found + 4) (get_or s.words i 0)) id me.1 w a)
             × T (get_or s.words i 0) (w, Table.carried_after me.1 a)
         hit q =
-            let v = me.0 in let z = opening_of k in let views = map view_of s.views in let t = leads z r.history in let fine = sound z r.history r.stands.legal in
+            let v = me.0 in let z = opening_of k in let views = map view_of s.views in let t = leads z r.history in
+            let fine = sound z r.history r.stands.legal in
             let mine = held_there k s r id v at rests.awake Owner o p b.0 holds in
             let n = names_an_object z r.history r.stands.legal v.view.name Owner (owner o p) (mine.0, refl, refl) in
             let alive = counted_live z t o fine (owner_counted t v.view.name o p mine.0) in
@@ -94,7 +96,11 @@ module _ {V : Type 0} where
                   let none' = ap (λ c. Rattle.control_word.specs.Views.added views (spot c 2)) (sym mine.1) ∙ nobody in
                   let door = m.door in omega arith)
                   ∙ ap (λ y. some (some y)) x.1,
-              subst (λ c. Ruled k record { words = set s.words i (either c (found + 4) (get_or s.words i 0)); homes = set s.homes (b.0 - 1) none; views = set s.views id w })
+              subst (λ c. Ruled k record {
+                words = set s.words i (either c (found + 4) (get_or s.words i 0));
+                homes = set s.homes (b.0 - 1) none;
+                views = set s.views id w;
+              })
                   (sym (eq-eqb (get_or s.words i 0) found q))
                   (next k s r id v w (set s.words i (found + 4)) (set s.homes (b.0 - 1) none) r.history at rests.awake (r.shapes id v at rests.awake) stands
                   (length-set s.homes (b.0 - 1) none) (inl e) (λ y u ne there un back. back)
@@ -128,7 +134,8 @@ module _ {V : Type 0} where
       let last : t.latest b.0 ≡ o = ap t.latest (sym here) ∙ n.2 in let inside = subst (InShape z) here n.3 in
       let alive = counted_live z t o fine (owner_counted t v.view.name o p fits.0) in
       let j = spot (t.object o).block 2 in
-      let l = opening.opens' (point k s r id v) o p was becomes (ready k s r id v at awake (Visiting o p j was) (pending ∙ ap (λ y. Visiting o p y was) word)) in
+      let l = opening.opens' (point k s r id v) o p was becomes
+      (ready k s r id v at awake (Visiting o p j was) (pending ∙ ap (λ y. Visiting o p y was) word)) in
       let ev : Event V = Visit (owner o p) was becomes in let h = entry v.view.name ev ∷ r.history in
       let enough : 4 ≤ get_or s.words i 0 = subst (λ y. 4 ≤ get_or s.words y 0) (sym word) l.0 in
       let now = subst (λ c. Stands z (set s.words i c) (set views id (sees_as v.view Idle h)) h) (sym (drops_four (get_or s.words i 0) enough small))
@@ -140,7 +147,11 @@ module _ {V : Type 0} where
         w,
         gives,
         tt,
-        subst (λ c. Ruled k record { words = set s.words i ((get_or s.words i 0 + (2 ^ 64 - 4)) % 2 ^ 64); homes = put_back s.homes c; views = set s.views id w }) (sym carried)
+        subst (λ c. Ruled k record {
+          words = set s.words i ((get_or s.words i 0 + (2 ^ 64 - 4)) % 2 ^ 64);
+          homes = put_back s.homes c;
+          views = set s.views id w;
+        }) (sym carried)
             (next k s r id v w _ homes h at awake (r.shapes id v at awake) now (length-set s.homes (b.0 - 1) (some (Some becomes))) tt
             (λ y u ne there un back. back)
             (λ c within. ⊎_elim

@@ -1,5 +1,6 @@
 -- Finish: the owners' common weak count is taken from an ending, and its emptied slot goes home.
-use Rattle.std.proofs.Common.{◌≡◌, ◌≢◌, ℕ, ◌+◌, ◌-◌, ◌%◌, ◌^◌, ◌<◌, ◌==◌, ◌≤◌, false, List, [], ◌∷◌, get_or, set, map, length-set, Some, None, refl, sym, ap, subst, ◌∙◌}
+use Rattle.std.proofs.Common.{◌≡◌, ◌≢◌, ℕ, ◌+◌, ◌-◌, ◌%◌, ◌^◌, ◌<◌, ◌==◌, ◌≤◌, false, List, [], ◌∷◌, get_or}
+use Rattle.std.proofs.Common.{set, map, length-set, Some, None, refl, sym, ap, subst, ◌∙◌}
 use Rattle.std.proofs.Common.{inl, inr, ⊎_elim, arith}
 use Rattle.std.proofs.lemmas.Bool.{cases_eq}
 use Rattle.atomic_table.specs.Table.{Allows, gives, put_back, rest, step}

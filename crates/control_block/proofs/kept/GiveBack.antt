@@ -1,5 +1,6 @@
 -- Give back: the funds that a half-done call owes leave their count.
-use Rattle.std.proofs.Common.{◌≡◌, ℕ, ◌+◌, ◌-◌, ◌*◌, ◌%◌, ◌^◌, ◌<◌, ◌≤◌, false, get_or, set, map, Option, Some, sym, ap, subst, ◌∙◌, arith}
+use Rattle.std.proofs.Common.{◌≡◌, ℕ, ◌+◌, ◌-◌, ◌*◌, ◌%◌, ◌^◌, ◌<◌, ◌≤◌, false, get_or, set, map, Option, Some, sym, ap}
+use Rattle.std.proofs.Common.{subst, ◌∙◌, arith}
 use Rattle.atomic_table.specs.Table as Table
 use Rattle.atomic_table.specs.Table.{Allows, step}
 use Rattle.atomic_table.proofs.Lists.{at_map}
@@ -24,7 +25,8 @@ use Rattle.control_block.specs.declared.board.Sight.{Sight}
 use Rattle.control_block.proofs.Passage.{point, ready}
 use Rattle.control_block.proofs.Still.{allows_move}
 
-takes_funds : (n f : ℕ) → f ≤ 256 → 4294967296 * f ≤ n → n < 18446744073709551616 → (n + (2 ^ 64 - f * 4294967296)) % 2 ^ 64 ≡ n - 4294967296 * f
+takes_funds : (n f : ℕ) → f ≤ 256 → 4294967296 * f ≤ n → n < 18446744073709551616
+    → (n + (2 ^ 64 - f * 4294967296)) % 2 ^ 64 ≡ n - 4294967296 * f
 takes_funds n f few enough lt = omega arith
 
 module _ {V : Type 0} where
@@ -43,7 +45,8 @@ module _ {V : Type 0} where
   pub allows_give : (k : Shape) (slots id b o i f : ℕ) (m : Kind) (p : Option Place) (me : At V) → Owes (owing m o p b f 0) me → i ≡ spot b (slot m)
       → Allows (Ruled k) slots id me i (λ n. (n + (2 ^ 64 - f * 4294967296)) % 2 ^ 64) (settled (step slots i (f * 4294967296) 0 none) me)
   allows_give k slots id b o i f m p me owes e =
-      allows_move k slots id i me (λ n. (n + (2 ^ 64 - f * 4294967296)) % 2 ^ 64) Idle owes.awake owes.empty record { single = λ d q. q; both = λ d seen. tt }
+      allows_move k slots id i me (λ n. (n + (2 ^ 64 - f * 4294967296)) % 2 ^ 64) Idle owes.awake owes.empty
+      record { single = λ d q. q; both = λ d seen. tt }
       (λ s r at small.
       let v = me.0 in let z = opening_of k in let views = map view_of s.views in let h = r.history in
       let mine = owed_there k s r id v at owes.awake m o p (spot b (slot m)) f 0 owes.pending in

@@ -1,5 +1,6 @@
 -- Join: two seats become one, and the look that makes the event follows.
-use Rattle.std.proofs.Common.{◌≡◌, ◌≢◌, ℕ, false, List, [], ◌∷◌, ◌++◌, get_or, set, map, Option, None, refl, sym, ap, subst, ◌∙◌, inl, inr, ⊎_elim}
+use Rattle.std.proofs.Common.{◌≡◌, ◌≢◌, ℕ, false, List, [], ◌∷◌, ◌++◌, get_or, set, map, Option, None, refl, sym, ap, subst, ◌∙◌}
+use Rattle.std.proofs.Common.{inl, inr, ⊎_elim}
 use Rattle.std.proofs.lemmas.List.{append_cancel_right}
 use mathlib.Core.Option.{none, some, some-injective}
 use lib.ListN.{get_elem?}
@@ -40,7 +41,8 @@ module _ {V : Type 0} where
       → w.view.spent ≡ false → w.view.pending ≡ Idle → w.hand ≡ None → Joins (Ruled k) id v j w (grown v w) over
   allows_glue k id j v w awake idle free awake' idle' free' s r at ne there₀ =
       let z = opening_of k in let both = grown v w in let there : get_elem? s.views j ≡ some w = sym (set_else s.views id j both ne) ∙ there₀ in
-      let now = law.merges_views (point k s r id v) j w.view (ready k s r id v at awake Idle idle) (at_map view_of s.views j w there) (λ q. ne (sym q)) awake' idle' in
+      let now = law.merges_views (point k s r id v) j w.view (ready k s r id v at awake Idle idle) (at_map view_of s.views j w there)
+      (λ q. ne (sym q)) awake' idle' in
       let views : map view_of (set (set s.views id both) j over) ≡ set (set (map view_of s.views) id (together v.view w.view)) j used_up =
       map_set view_of (set s.views id both) j over ∙ ap (λ l. set l j used_up) (map_set view_of s.views id both) in
       let all : (P : ℕ → Sight V → Type 0) → P id both → P j over → ((x : ℕ) (u : Sight V) → get_elem? s.views x ≡ some u → P x u)
@@ -59,15 +61,18 @@ module _ {V : Type 0} where
       out : (b : ℕ) → get_elem? s.views j ≡ some w → IsOut s.views b → IsOut (set (set s.views id (grown v w)) j over) b
       out b there o =
           let empty : (i : ℕ) (u : Sight V) → get_elem? s.views i ≡ some u → u.hand ≡ None → o.0 ≢ i =
-          λ i u e none q. subst (λ h. IsSlotOf h b) none (subst (λ (y : Sight V). IsSlotOf y.hand b) (some-injective o.1 u (sym o.2 ∙ (ap (get_elem? s.views) q ∙ e))) o.4) in
+          λ i u e none q. subst (λ h. IsSlotOf h b) none
+          (subst (λ (y : Sight V). IsSlotOf y.hand b) (some-injective o.1 u (sym o.2 ∙ (ap (get_elem? s.views) q ∙ e))) o.4) in
           let m = empty id v at free in let n = empty j w there free' in
           (o.0, o.1, set_else (set s.views id (grown v w)) j o.0 over n ∙ (set_else s.views id o.0 (grown v w) m ∙ o.2), o.3, o.4)
 
   -- the event of a join
   pub allows_join : (k : Shape) (slots id i other : ℕ) (mine others : List (Entry V)) (me : At V) → me.0.view.spent ≡ false
-      → me.0.view.pending ≡ Merging other mine others → me.0.hand ≡ None → Allows (Ruled k) slots id me i (λ x. x) (joined (step slots i 0 0 none) me)
+      → me.0.view.pending ≡ Merging other mine others → me.0.hand ≡ None
+      → Allows (Ruled k) slots id me i (λ x. x) (joined (step slots i 0 0 none) me)
   allows_join k slots id i other mine others me awake pending free s r sized at small =
-      let v = me.0 in let z = opening_of k in let t = leads z r.history in let d = v.view.name in let e : Event V = Join other in let h = entry d e ∷ r.history in
+      let v = me.0 in let z = opening_of k in let t = leads z r.history in let d = v.view.name in let e : Event V = Join other in
+      let h = entry d e ∷ r.history in
       let now = ready k s r id v at awake (Merging other mine others) pending in
       let told = law.joins (point k s r id v) other mine others now in
       let seated = r.stands.team.seated id v.view now.seated awake in
@@ -78,10 +83,12 @@ module _ {V : Type 0} where
         seeing v Idle None h,
         keeps,
         tt,
-        next k s r id v (seeing v Idle None h) (set s.words i (get_or s.words i 0)) s.homes h at awake (r.shapes id v at awake) (looked z s.words i _ h told) refl
+        next k s r id v (seeing v Idle None h) (set s.words i (get_or s.words i 0)) s.homes h at awake (r.shapes id v at awake)
+            (looked z s.words i _ h told) refl
             tt
             (others_still k s r id v at awake e told.legal.1.asks
-            (λ j u n there un names. n (sym (r.stands.team.names id j v.view u.view now.seated (at_map view_of s.views j u there) awake un other (inr second) (inl (sym names))))))
+            (λ j u n there un names. n
+            (sym (r.stands.team.names id j v.view u.view now.seated (at_map view_of s.views j u there) awake un other (inr second) (inl (sym names))))))
             (λ b inside. inr (inr (
               refl,
               handed_keeps other d (t.object (t.latest b)).phase (value z r.history (t.latest b)),

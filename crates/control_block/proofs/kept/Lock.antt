@@ -1,5 +1,6 @@
 -- Lock: the look for an owner and the compare-exchange are allowed.
-use Rattle.std.proofs.Common.{◌≡◌, ◌≢◌, ◌==◌, ℕ, suc, ◌+◌, ◌*◌, ◌/◌, ◌++◌, ◌%◌, not, true, false, Bool, ◌∷◌, get_or, set, map, Option, None, refl, sym, ap, subst}
+use Rattle.std.proofs.Common.{◌≡◌, ◌≢◌, ◌==◌, ℕ, suc, ◌+◌, ◌*◌, ◌/◌, ◌++◌, ◌%◌, not, true, false, Bool, ◌∷◌, get_or}
+use Rattle.std.proofs.Common.{set, map, Option, None, refl, sym, ap, subst}
 use Rattle.std.proofs.Common.{◌∙◌, ⊎_elim, arith}
 use Rattle.std.proofs.lemmas.Bool.{cases_eq}
 use Rattle.atomic_table.specs.Table.{Allows, keeps, step}

@@ -35,7 +35,8 @@ low_half n = omega arith
 module _ {V : Type 0} where
   -- where a desk has the whole allowance, no other is left
   pub alone : (z : Opening) (words : List ℕ) (views : List (View V)) (h : List (Entry V)) → Stands z words views h → (i : ℕ) (v : View V)
-      → get_elem? views i ≡ some v → v.spent ≡ false → (leads z h).allowance v.name ≡ z.allowance → (j : ℕ) (u : View V) → get_elem? views j ≡ some u
+      → get_elem? views i ≡ some v → v.spent ≡ false → (leads z h).allowance v.name ≡ z.allowance → (j : ℕ) (u : View V)
+      → get_elem? views j ≡ some u
       → u.spent ≡ false → j ≡ i
   alone z words views h stands i v at awake whole j u there un =
       let acts = (stands.team.seated j u there un).acts u.name (inl refl) in

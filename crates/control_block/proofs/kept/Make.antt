@@ -1,5 +1,6 @@
 -- The writes of a make and its claim are allowed.
-use Rattle.std.proofs.Common.{◌≡◌, ◌≢◌, ℕ, suc, ◌+◌, ◌-◌, ◌<◌, ◌≤◌, Bool, false, List, [], ◌∷◌, get_or, set, map, length, length-set, Option, Some}
+use Rattle.std.proofs.Common.{◌≡◌, ◌≢◌, ℕ, suc, ◌+◌, ◌-◌, ◌<◌, ◌≤◌, Bool, false, List, [], ◌∷◌, get_or, set, map, length}
+use Rattle.std.proofs.Common.{length-set, Option, Some}
 use Rattle.std.proofs.Common.{None, refl, sym, ap, subst, ◌∙◌, inl, inr, ⊎_elim, arith}
 use Rattle.std.proofs.lemmas.Bool.{cases_eq}
 use Rattle.atomic_table.specs.Table as Table
@@ -87,7 +88,8 @@ module _ {V : Type 0} where
     allows_write n s r sized at small = writes n s r at
 
   pub allows_claim : (k : Shape) (slots id i : ℕ) (b : Block) (enabled null : Bool) (fields : List ℕ) (me : At V) (x : V) → me.0.view.spent ≡ false
-      → me.0.view.pending ≡ Making b (flags_of enabled null ∷ fields) → me.0.hand ≡ Some b → me.1 ≡ (b.0 - 1, Some x) ∷ [] → length fields ≡ 4
+      → me.0.view.pending ≡ Making b (flags_of enabled null ∷ fields) → me.0.hand ≡ Some b
+      → me.1 ≡ (b.0 - 1, Some x) ∷ [] → length fields ≡ 4
       → HasRoomFor me.0
       → i ≡ spot b.0 0
       → Allows (Ruled k) slots id me i (λ _. 1) (made b enabled null fields (step slots i 1 0 none) me)

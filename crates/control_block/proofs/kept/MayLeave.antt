@@ -1,5 +1,6 @@
 -- A desk that may leave, and what the laws say of its leave.
-use Rattle.std.proofs.Common.{◌≡◌, ℕ, ◌+◌, ◌-◌, ◌*◌, ◌%◌, ◌^◌, ◌<◌, ◌≤◌, ◌==◌, Bool, false, [], ◌∷◌, get_or, set, map, Option, None, Some, refl, sym, subst}
+use Rattle.std.proofs.Common.{◌≡◌, ℕ, ◌+◌, ◌-◌, ◌*◌, ◌%◌, ◌^◌, ◌<◌, ◌≤◌, ◌==◌, Bool, false, [], ◌∷◌, get_or}
+use Rattle.std.proofs.Common.{set, map, Option, None, Some, refl, sym, subst}
 use Rattle.std.proofs.Common.{inl, inr, arith}
 use Rattle.atomic_table.specs.Table as Table
 use mathlib.Core.Option.{some}
@@ -76,7 +77,8 @@ module _ {V : Type 0} where
     may_law : 0 < b → MayLeave me m o p b f → IsLaw f
     may_law pos (inl t) =
         let mine = may_have pos (inl t) in
-        subst IsLaw (sym t.2) (subst (λ c. let i = spot c (slot m) in let n = get_or s.words i 0 in let h = entry me.0.view.name (going m o p (n == 1)) ∷ r.history in
+        subst IsLaw (sym t.2)
+        (subst (λ c. let i = spot c (slot m) in let n = get_or s.words i 0 in let h = entry me.0.view.name (going m o p (n == 1)) ∷ r.history in
         (1 ≤ n) × Stands (opening_of k) (set s.words i (n - 1)) (set (map view_of s.views) id (sees_as me.0.view Idle h)) h) mine.1
         (alone m (ready k s r id me.0 at t.0.awake Idle t.0.idle) mine.0))
       where

@@ -1,5 +1,6 @@
 -- A look at what is fixed of an object changes nothing, and tells it.
-use Rattle.std.proofs.Common.{◌≡◌, ◌≢◌, ◌⊎◌, ℕ, zero, suc, ◌+◌, ◌-◌, ◌*◌, ◌%◌, ◌<◌, ◌≤◌, ◌==◌, cond, true, false, List, [], ◌∷◌, get_or, slice_index, set, map, Option, Some}
+use Rattle.std.proofs.Common.{◌≡◌, ◌≢◌, ◌⊎◌, ℕ, zero, suc, ◌+◌, ◌-◌, ◌*◌, ◌%◌, ◌<◌, ◌≤◌, ◌==◌, cond, true}
+use Rattle.std.proofs.Common.{false, List, [], ◌∷◌, get_or, slice_index, set, map, Option, Some}
 use Rattle.std.proofs.Common.{refl, sym, ap, subst, ◌∙◌, ⊎_elim, arith, ne_eqb, ◌++◌}
 use Rattle.std.proofs.lemmas.Bool.{cond-false, cond_both}
 use Rattle.std.proofs.lemmas.List.{set-get_or}
@@ -32,7 +33,8 @@ use Rattle.control_block.proofs.Lists.{set_same}
 use Rattle.control_block.proofs.Passage.{held_there, known_as, knows, legal_known, still_ending}
 use Rattle.control_word.proofs.history.Others.{held_made}
 
-times_four : {A : Type 0} (f g : A → ℕ) (l : List A) → ((i : ℕ) (a : A) → get_elem? l i ≡ some a → f a ≡ 4 * g a) → total f l ≡ 4 * total g l
+times_four : {A : Type 0} (f g : A → ℕ) (l : List A) → ((i : ℕ) (a : A) → get_elem? l i ≡ some a → f a ≡ 4 * g a)
+    → total f l ≡ 4 * total g l
 times_four f g [] h = omega arith
 times_four f g (x ∷ xs) h = let t = h 0 x refl in let u = times_four f g xs (λ i a e. h (suc i) a e) in omega arith
 

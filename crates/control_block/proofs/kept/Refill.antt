@@ -59,8 +59,10 @@ module _ {V : Type 0} where
         let bits : get_or s.words i 0 ≡ packed (blocks_of t) (handle kk (Some o) x.place) + 17179869184 * x.taken =
         d.bits ∙ (sym (cell_shown (blocks_of t) old d.taken)
         ∙ (λ j. packed (blocks_of t) (sym it j) + 17179869184 * sym (ap (λ y. y.taken) same) j)) in
-        let told = law.refills (point k s r id v) c kk o x.taken p x.place mine.3 (is_open k s r id v at owes.awake c i cell) it (ap (λ y. get_or s.words y 0) is.there ∙ bits) in
-        let stands = subst (λ y. Stands z (set s.words y (get_or s.words y 0 - 17179869184 * x.taken)) (set (map view_of s.views) id (sees_as v.view Idle r.history)) r.history) is.there told in
+        let told = law.refills (point k s r id v) c kk o x.taken p x.place mine.3 (is_open k s r id v at owes.awake c i cell) it
+        (ap (λ y. get_or s.words y 0) is.there ∙ bits) in
+        let stands = subst (λ y. Stands z (set s.words y (get_or s.words y 0 - 17179869184 * x.taken))
+        (set (map view_of s.views) id (sees_as v.view Idle r.history)) r.history) is.there told in
         let value : get_or s.words i 0 - 17179869184 * x.taken ≡ new = omega arith in
         moved_on k s r id v (set s.words i new) Idle at owes.awake owes.empty record { single = λ d q. q; both = λ d seen. tt }
         (subst (λ n. Stands z (set s.words i n) (set (map view_of s.views) id (sees_as v.view Idle r.history)) r.history) value stands)

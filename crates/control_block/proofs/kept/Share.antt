@@ -1,5 +1,6 @@
 -- Share: one owner more is allowed.
-use Rattle.std.proofs.Common.{◌≡◌, ℕ, suc, ◌+◌, ◌%◌, ◌^◌, ◌<◌, ◌∷◌, get_or, set, map, Option, refl, sym, ap, subst, ◌∙◌, arith}
+use Rattle.std.proofs.Common.{◌≡◌, ℕ, suc, ◌+◌, ◌%◌, ◌^◌, ◌<◌, ◌∷◌, get_or, set, map, Option, refl, sym, ap, subst, ◌∙◌}
+use Rattle.std.proofs.Common.{arith}
 use Rattle.atomic_table.specs.Table.{Allows, step}
 use mathlib.Core.Option.{none}
 use Rattle.control_word.proofs.history.Legal.{held_busy, sound}
@@ -22,7 +23,8 @@ pub wraps : (n : ℕ) → n + 1099511627776 < 18446744073709551616 → (n + 1) %
 wraps n lt = omega arith
 
 module _ {V : Type 0} where
-  pub allows_share : (k : Shape) (slots id b o i : ℕ) (p q : Option Place) (me : At V) → Rests me → Holding me.0 Owner o p b → IsPointer q → HasRoomFor me.0 → i ≡ spot b 0
+  pub allows_share : (k : Shape) (slots id b o i : ℕ) (p q : Option Place) (me : At V) → Rests me → Holding me.0 Owner o p b → IsPointer q
+      → HasRoomFor me.0 → i ≡ spot b 0
       → Allows (Ruled k) slots id me i (λ n. (n + 1) % 2 ^ 64) (shared o p q (step slots i 1 0 none) me)
   allows_share k slots id b o i p q me rests holds fine more e =
       allows_event k slots id i me (λ n. (n + 1) % 2 ^ 64) (λ n. Share (owner o p) q) Idle rests.awake rests.empty

@@ -1,5 +1,6 @@
 -- Take: one more fund of a cell's is taken, by a load or by a compare that differs.
-use Rattle.std.proofs.Common.{◌≡◌, ◌≢◌, ◌⊎◌, ℕ, ◌+◌, ◌<◌, ◌==◌, true, false, Bool, ◌∷◌, get_or, set, map, Option, Some, None, refl, sym, ap, subst, ◌∙◌, inl, inr}
+use Rattle.std.proofs.Common.{◌≡◌, ◌≢◌, ◌⊎◌, ℕ, ◌+◌, ◌<◌, ◌==◌, true, false, Bool, ◌∷◌, get_or, set, map, Option, Some}
+use Rattle.std.proofs.Common.{None, refl, sym, ap, subst, ◌∙◌, inl, inr}
 use Rattle.std.proofs.Common.{⊎_elim, arith}
 use Rattle.std.proofs.lemmas.Bool.{and_parts}
 use Rattle.atomic_table.specs.Table as Table
@@ -54,7 +55,8 @@ module _ {V : Type 0} where
       (cell : IsCellAt me.0 c i) (valid : IsCellWord x) (is_found : found ≡ cell_bits x) (holds : x.owned ≢ None)
       (quiet : (h : Handle) → IsQuiet (e h))
       (law : (s : Table.State (Option V) (Sight V)) (r : Ruled k s) (at : get_elem? s.views id ≡ some me.0)
-      (is : Opened k s r id me.0 at rests.awake c i) (o : ℕ) → let t = leads (opening_of k) r.history in let h = handle (kind_in me.0.shape c) (Some o) x.place in
+      (is : Opened k s r id me.0 at rests.awake c i) (o : ℕ) → let t = leads (opening_of k) r.history in
+      let h = handle (kind_in me.0.shape c) (Some o) x.place in
       h ≡ cell_of t c → get_or s.words i 0 ≡ cell_bits x
       → Adds (point k s r id me.0) (cell_word (point k s r id me.0) c) (get_or s.words (cell_word (point k s r id me.0) c) 0 + 17179869184) (e h)
       (Paying (kind_in me.0.shape c) o x.place (counts_at (blocks_of t) (kind_in me.0.shape c) o) 1 1)) where
@@ -74,7 +76,8 @@ module _ {V : Type 0} where
         let p : Pending V = Paying kk o x.place (counts_at (blocks_of t) kk o) 1 1 in let hist = entry v.view.name (e h) ∷ r.history in
         let told = law s r at is o it (q ∙ is_found) in
         let stands = subst (λ n. Stands z (set s.words i (n + 17179869184)) (set (map view_of s.views) id (sees_as v.view p hist)) hist) q
-        (subst (λ y. Stands z (set s.words y (get_or s.words y 0 + 17179869184)) (set (map view_of s.views) id (sees_as v.view p hist)) hist) is.there told) in (
+        (subst (λ y. Stands z (set s.words y (get_or s.words y 0 + 17179869184)) (set (map view_of s.views) id (sees_as v.view p hist)) hist) is.there
+        told) in (
           seeing v p None hist,
           quiet_next k s r id v (set s.words i (found + 17179869184)) (e h) p at rests.awake rests.empty (quiet h) stands,
           record {
@@ -87,7 +90,8 @@ module _ {V : Type 0} where
           },
         )
 
-    pub allows_take : Allows (Ruled k) slots id me i (λ n. either (n == found) (found + 17179869184) n) (took c e (step slots i found (found + 17179869184) none) me)
+    pub allows_take : Allows (Ruled k) slots id me i (λ n. either (n == found) (found + 17179869184) n)
+        (took c e (step slots i found (found + 17179869184) none) me)
     allows_take =
         allows_exchange k slots id i found (found + 17179869184) me (took c e (step slots i found (found + 17179869184) none) me)
         (λ n q. (λ m. absurd (q m), λ _. refl))
@@ -102,7 +106,8 @@ module _ {V : Type 0} where
           ),
         ))
 
-  pub allows_load : (k : Shape) (slots id i found : ℕ) (c : Cell) (x : CellWord) (me : At V) → Rests me → IsCellAt me.0 c i → IsCellWord x → found ≡ cell_bits x
+  pub allows_load : (k : Shape) (slots id i found : ℕ) (c : Cell) (x : CellWord) (me : At V) → Rests me → IsCellAt me.0 c i → IsCellWord x
+      → found ≡ cell_bits x
       → x.owned ≢ None → x.taken < 256 → HasRoomFor me.0
       → Allows (Ruled k) slots id me i (λ n. either (n == found) (found + 17179869184) n)
       (took c (λ h. Load c h) (step slots i found (found + 17179869184) none) me)

@@ -1,5 +1,6 @@
 -- Weak share: one weak handle more is allowed.
-use Rattle.std.proofs.Common.{◌≡◌, ◌⊎◌, ℕ, ◌+◌, ◌%◌, ◌^◌, ◌<◌, ◌∷◌, true, get_or, set, map, Option, Some, refl, sym, ap, subst, ◌∙◌, inl, inr, ⊎_elim}
+use Rattle.std.proofs.Common.{◌≡◌, ◌⊎◌, ℕ, ◌+◌, ◌%◌, ◌^◌, ◌<◌, ◌∷◌, true, get_or, set, map, Option, Some, refl, sym, ap}
+use Rattle.std.proofs.Common.{subst, ◌∙◌, inl, inr, ⊎_elim}
 use Rattle.atomic_table.specs.Table as Table
 use Rattle.atomic_table.specs.Table.{Allows, step}
 use mathlib.Core.Option.{none, some}
@@ -50,7 +51,8 @@ module _ {V : Type 0} where
           inr (ends, e.1.enabled ∙ t.1, t.2 ∙ ap place_at (sym place)),
         )) may
 
-  pub allows_weak_share : (k : Shape) (slots id b o i : ℕ) (q : Option Place) (me : At V) → Rests me → MayShareWeakly me.0 o b q → HasRoomFor me.0 → i ≡ spot b 1
+  pub allows_weak_share : (k : Shape) (slots id b o i : ℕ) (q : Option Place) (me : At V) → Rests me → MayShareWeakly me.0 o b q
+      → HasRoomFor me.0 → i ≡ spot b 1
       → Allows (Ruled k) slots id me i (λ n. (n + 1) % 2 ^ 64) (weakly_shared o q (step slots i 1 0 none) me)
   allows_weak_share k slots id b o i q me rests may more e =
       allows_event k slots id i me (λ n. (n + 1) % 2 ^ 64) (λ n. WeakShare o q) Idle rests.awake rests.empty

@@ -47,7 +47,8 @@ pub fn is_null<V: Drop + Send>(domain: &Domain<V>, desk: &mut Desk<V>, block: Bl
 pub fn fields<V: Drop + Send>(domain: &Domain<V>, desk: &mut Desk<V>, block: Block) -> [u64; 4]
     requires domain { Belongs desk.old domain.now }
     requires near { IsNear desk.old block.0 }
-    ensures fields { (k : ℕ) → k < 4 → slice_index result k ≡ slice_index (object_in desk.old block.0).fields k }
+    ensures fields { (k : ℕ) → k < 4
+        → slice_index result k ≡ slice_index (object_in desk.old block.0).fields k }
     ensures same { desk.new ≡ desk.old }
 {
     [

@@ -5,7 +5,8 @@ ghost use Rattle.control_word.specs.Handles.{handle};
 ghost use Rattle.control_word.specs.declared.event.Event.TheVariants.{Make};
 ghost use Rattle.control_word.specs.declared.handle.Kind.TheVariants.{Owner};
 ghost use Rattle.control_block.specs.Refusals.{IsFullOrLimit};
-ghost use Rattle.control_block.specs.Desks.{Belongs, Adds, IsSameDesk, KeepsEndings, allowance_of, bag_of, endings_of, held_of, stock_of};
+ghost use Rattle.control_block.specs.Desks.{Belongs, Adds, IsSameDesk, KeepsEndings, allowance_of, bag_of, endings_of};
+ghost use Rattle.control_block.specs.Desks.{held_of, stock_of};
 
 use crate::desk::Desk;
 use crate::domain::Domain;
@@ -26,9 +27,9 @@ fn origin_of(block: Block, null: bool) -> Option<Place>
     }
 }
 
-/// A new object with one owner, in a block of the desk's store ([util.smartptr.shared.create]; for an owned null pointer
-/// [util.smartptr.shared.const]). It is refused `Limit` just where the desk is at its allowance, and else `Full` just
-/// where its store is empty; then the value comes back and nothing changes.
+/// A new object with one owner, in a block of the desk's store ([util.smartptr.shared.create]; for an owned null
+/// pointer [util.smartptr.shared.const]). It is refused `Limit` just where the desk is at its allowance, and else
+/// `Full` just where its store is empty; then the value comes back and nothing changes.
 #[inline(always)]
 pub fn make<V: Drop + Send>(
     domain: &Domain<V>,

@@ -1,6 +1,7 @@
 //! The steps of one call on a cell. A call brings the funds of what goes in before its step on the cell, and gives back
 //! all that did not go in; when it is over nothing is under way.
-ghost use Rattle.std.specs.Prelude.{◌≡◌, ◌≢◌, ◌⊎◌, ℕ, ◌<◌, ◌≤◌, true, false, [], Option, None, Some, IfSome};
+ghost use Rattle.std.specs.Prelude.{◌≡◌, ◌≢◌, ◌⊎◌, ℕ, ◌<◌, ◌≤◌, true, false, [], Option};
+ghost use Rattle.std.specs.Prelude.{None, Some, IfSome};
 ghost use Rattle.control_word.specs.Handles.{object_of};
 ghost use Rattle.control_word.specs.declared.handle.Handle.{Handle};
 ghost use Rattle.control_word.specs.Events.{InHand};
@@ -50,7 +51,8 @@ pub fn refill<V, A: Aimed, M: StepArgs, R: Wait>(
     requires cell { IsCellAt chair.old.me.0 A.cell word × (kind ≡ kind_in chair.old.me.0.shape A.cell) }
     requires holds { (M.kind ≡ kind) × Holding chair.old.me.0 M.kind M.object M.place block.0 }
     requires count { IsCounted kind block board.now.table_id }
-    ensures chair { (chair.new.table_id ≡ chair.old.table_id) × (chair.new.id ≡ chair.old.id) × (chair.new.me ≡ chair.old.me) }
+    ensures chair { (chair.new.table_id ≡ chair.old.table_id) × (chair.new.id ≡ chair.old.id)
+        × (chair.new.me ≡ chair.old.me) }
 {
     for _ in rt.forever() {
         let seen = cells::peek::<V, A>(board, chair, word);
@@ -82,9 +84,11 @@ pub(crate) fn top_up<V, A: Aimed, R: Wait>(
     requires word { word < board.now.table_id.words }
     requires cell { IsCellAt chair.old.me.0 A.cell word × (kind ≡ kind_in chair.old.me.0.shape A.cell) }
     requires seen { seen.taken < 256 }
-    requires holds { IfSome seen.owned (λ b. Holding chair.old.me.0 kind ((known chair.old.me.0).latest b.0) seen.place b.0) }
+    requires holds { IfSome seen.owned
+        (λ b. Holding chair.old.me.0 kind ((known chair.old.me.0).latest b.0) seen.place b.0) }
     requires count { IfSome seen.owned (λ b. IsCounted kind b board.now.table_id) }
-    ensures chair { (chair.new.table_id ≡ chair.old.table_id) × (chair.new.id ≡ chair.old.id) × (chair.new.me ≡ chair.old.me) }
+    ensures chair { (chair.new.table_id ≡ chair.old.table_id) × (chair.new.id ≡ chair.old.id)
+        × (chair.new.me ≡ chair.old.me) }
 {
     if seen.taken + 1 < MANY_TAKEN {
         return;
@@ -111,7 +115,8 @@ fn try_load<V, A: Aimed, R: Wait>(
     requires cell { IsCellAt chair.old.me.0 A.cell word × (kind ≡ kind_in chair.old.me.0.shape A.cell) }
     requires seen { IsCellWord seen × (seen.owned ≢ None) × (seen.taken < 256) }
     requires room { HasRoomFor chair.old.me.0 }
-    ensures chair { (chair.new.table_id ≡ chair.old.table_id) × (chair.new.id ≡ chair.old.id) × Rests chair.new.me }
+    ensures chair { (chair.new.table_id ≡ chair.old.table_id)
+        × (chair.new.id ≡ chair.old.id) × Rests chair.new.me }
     ensures loaded { result ≡ true → CameOut (λ h. Load A.cell h) kind chair.old.me.0 seen chair.new.me.0 }
     ensures missed { result ≡ false → chair.new.me ≡ chair.old.me }
 {
@@ -141,7 +146,8 @@ pub fn load<V, A: Aimed, R: Wait>(
     requires word { word < board.now.table_id.words }
     requires cell { IsCellAt chair.old.me.0 A.cell word × (kind ≡ kind_in chair.old.me.0.shape A.cell) }
     requires room { HasRoomFor chair.old.me.0 }
-    ensures chair { (chair.new.table_id ≡ chair.old.table_id) × (chair.new.id ≡ chair.old.id) × Rests chair.new.me }
+    ensures chair { (chair.new.table_id ≡ chair.old.table_id)
+        × (chair.new.id ≡ chair.old.id) × Rests chair.new.me }
     ensures cell { IsCellWord result }
     ensures loaded { CameOut (λ h. Load A.cell h) kind chair.old.me.0 result chair.new.me.0 }
 {
@@ -169,7 +175,8 @@ pub(crate) fn bring_for<V, A: Aimed>(
     requires board { chair.old.table_id ≡ board.now.table_id }
     requires rests { Rests chair.old.me }
     requires count { IfSome block (λ b. IsCounted kind b board.now.table_id) }
-    requires holds { (A.new.kind ≡ kind) × IfSome block (λ b. Holding chair.old.me.0 A.new.kind (object_of A.new) A.new.place b.0) }
+    requires holds { (A.new.kind ≡ kind)
+        × IfSome block (λ b. Holding chair.old.me.0 A.new.kind (object_of A.new) A.new.place b.0) }
     ensures chair { (chair.new.table_id ≡ chair.old.table_id) × (chair.new.id ≡ chair.old.id) }
     ensures brought { chair.new.me.0 ≡ in_call chair.old.me.0 (debt A.new block 256) }
     ensures owes { Owes (debt A.new block 256) chair.new.me }
@@ -179,8 +186,8 @@ pub(crate) fn bring_for<V, A: Aimed>(
     }
 }
 
-/// The funds of a handle that did not go into a cell, or came out of it, are given back, where it has an object. The call
-/// is over.
+/// The funds of a handle that did not go into a cell, or came out of it, are given back, where it has an object. The
+/// call is over.
 pub(crate) fn settle<V>(
     board: &Board<V>,
     chair: &mut Chair<V>,
@@ -191,7 +198,8 @@ pub(crate) fn settle<V>(
     requires board { chair.old.table_id ≡ board.now.table_id }
     requires count { IfSome block (λ b. IsCounted kind b board.now.table_id) }
     requires owes { (h : Handle) × (h.kind ≡ kind) × Owes (debt h block funds) chair.old.me }
-    ensures chair { (chair.new.table_id ≡ chair.old.table_id) × (chair.new.id ≡ chair.old.id) × Rests chair.new.me }
+    ensures chair { (chair.new.table_id ≡ chair.old.table_id)
+        × (chair.new.id ≡ chair.old.id) × Rests chair.new.me }
     ensures settled { chair.new.me.0 ≡ goes_on chair.old.me.0 }
 {
     if let Some(block) = block {
@@ -217,7 +225,8 @@ pub(crate) fn swap_in<V, A: Aimed>(
     requires holds { IfSome new.owned (λ b. Holding chair.old.me.0 A.new.kind (object_of A.new) A.new.place b.0) }
     requires count { IfSome new.owned (λ b. IsCounted kind b board.now.table_id) }
     requires room { A.new.object ≡ None → HasRoomFor chair.old.me.0 }
-    ensures chair { (chair.new.table_id ≡ chair.old.table_id) × (chair.new.id ≡ chair.old.id) × (chair.new.me.1 ≡ []) }
+    ensures chair { (chair.new.table_id ≡ chair.old.table_id) × (chair.new.id ≡ chair.old.id)
+        × (chair.new.me.1 ≡ []) }
     ensures cell { IsCellWord result }
     ensures gave { Gave (λ h. Swap A.cell A.new h) kind chair.old.me.0 result chair.new.me.0 }
 {
@@ -243,7 +252,8 @@ pub fn swap<V, A: Aimed>(
     requires holds { IfSome new.owned (λ b. Holding chair.old.me.0 A.new.kind (object_of A.new) A.new.place b.0) }
     requires count { IfSome new.owned (λ b. IsCounted kind b board.now.table_id) }
     requires room { A.new.object ≡ None → HasRoomFor chair.old.me.0 }
-    ensures chair { (chair.new.table_id ≡ chair.old.table_id) × (chair.new.id ≡ chair.old.id) × Rests chair.new.me }
+    ensures chair { (chair.new.table_id ≡ chair.old.table_id)
+        × (chair.new.id ≡ chair.old.id) × Rests chair.new.me }
     ensures cell { IsCellWord result }
     ensures swapped { CameOut (λ h. Swap A.cell A.new h) kind chair.old.me.0 result chair.new.me.0 }
 {

@@ -1,6 +1,7 @@
 //! The steps of one compare-and-swap of a cell. It looks first, and brings funds only where what it sees is what it
 //! expects.
-ghost use Rattle.std.specs.Prelude.{◌≡◌, ◌≢◌, ◌⊎◌, ℕ, ◌<◌, true, false, Option, None, Some, IfSome};
+ghost use Rattle.std.specs.Prelude.{◌≡◌, ◌≢◌, ◌⊎◌, ℕ, ◌<◌, true, false, Option, None, Some};
+ghost use Rattle.std.specs.Prelude.{IfSome};
 ghost use Rattle.control_word.specs.Events.{InHand};
 ghost use Rattle.control_word.specs.Handles.{object_of};
 ghost use Rattle.control_word.specs.Packing.{IsCellWord};
@@ -20,8 +21,8 @@ use control_word::handle::Kind;
 use control_word::shape::CELL_FUNDS;
 use std::sync::Wait;
 
-/// Whether two words of cells show equivalent handles ([util.smartptr.atomic.shared]): the same place, and the same block
-/// or none.
+/// Whether two words of cells show equivalent handles ([util.smartptr.atomic.shared]): the same place, and the same
+/// block or none.
 fn is_alike(seen: CellWord, expected: CellWord) -> bool
     ensures alike { result ≡ true → (seen.owned ≡ expected.owned) × (seen.place ≡ expected.place) }
     ensures differs { result ≡ false → seen.owned ≡ expected.owned → seen.place ≡ expected.place → ⊥ }
@@ -45,10 +46,13 @@ fn try_differ<V, A: Aimed, R: Wait>(
     requires cell { IsCellAt chair.old.me.0 A.cell word × (kind ≡ kind_in chair.old.me.0.shape A.cell) }
     requires seen { IsCellWord seen × (seen.owned ≢ None) × (seen.taken < 256) }
     requires room { HasRoomFor chair.old.me.0 }
-    requires hands { InHand (known chair.old.me.0) chair.old.me.0.view.name kind A.expected × InHand (known chair.old.me.0) chair.old.me.0.view.name kind A.new }
+    requires hands { InHand (known chair.old.me.0) chair.old.me.0.view.name kind A.expected
+        × InHand (known chair.old.me.0) chair.old.me.0.view.name kind A.new }
     requires differs { IsWordOf chair.old.me.0 A.expected seen → ⊥ }
-    ensures chair { (chair.new.table_id ≡ chair.old.table_id) × (chair.new.id ≡ chair.old.id) × Rests chair.new.me }
-    ensures differed { result ≡ true → CameOut (λ h. Compare A.cell A.expected A.new h false A.weak) kind chair.old.me.0 seen chair.new.me.0 }
+    ensures chair { (chair.new.table_id ≡ chair.old.table_id)
+        × (chair.new.id ≡ chair.old.id) × Rests chair.new.me }
+    ensures differed { result ≡ true
+        → CameOut (λ h. Compare A.cell A.expected A.new h false A.weak) kind chair.old.me.0 seen chair.new.me.0 }
     ensures missed { result ≡ false → chair.new.me ≡ chair.old.me }
 {
     let Some(block) = seen.owned else {
@@ -78,12 +82,15 @@ fn try_swap<V, A: Aimed>(
     requires cell { IsCellAt chair.old.me.0 A.cell word × (kind ≡ kind_in chair.old.me.0.shape A.cell) }
     requires seen { IsCellWord seen × IsWordOf chair.old.me.0 A.expected seen }
     requires new { IsCellWord new × (new.taken ≡ 0) × IsWordOf chair.old.me.0 A.new new }
-    requires hands { InHand (known chair.old.me.0) chair.old.me.0.view.name kind A.expected × InHand (known chair.old.me.0) chair.old.me.0.view.name kind A.new }
+    requires hands { InHand (known chair.old.me.0) chair.old.me.0.view.name kind A.expected
+        × InHand (known chair.old.me.0) chair.old.me.0.view.name kind A.new }
     requires holds { IfSome new.owned (λ b. Holding chair.old.me.0 A.new.kind (object_of A.new) A.new.place b.0) }
     requires count { IfSome new.owned (λ b. IsCounted kind b board.now.table_id) }
     requires room { HasRoomFor chair.old.me.0 }
-    ensures chair { (chair.new.table_id ≡ chair.old.table_id) × (chair.new.id ≡ chair.old.id) × Rests chair.new.me }
-    ensures swapped { result ≡ true → CameOut (λ h. Compare A.cell A.expected A.new h true A.weak) kind chair.old.me.0 seen chair.new.me.0 }
+    ensures chair { (chair.new.table_id ≡ chair.old.table_id)
+        × (chair.new.id ≡ chair.old.id) × Rests chair.new.me }
+    ensures swapped { result ≡ true
+        → CameOut (λ h. Compare A.cell A.expected A.new h true A.weak) kind chair.old.me.0 seen chair.new.me.0 }
     ensures missed { result ≡ false → chair.new.me ≡ chair.old.me }
 {
     bring_for::<V, A>(board, chair, kind, new.owned);
@@ -96,9 +103,9 @@ fn try_swap<V, A: Aimed>(
     false
 }
 
-/// Compare and swap: where what a cell holds is equivalent to what is expected, the new handle goes in, and what the cell
-/// held comes out; else a copy of what it holds ([util.smartptr.atomic.shared], [util.smartptr.atomic.weak]). True where
-/// it was swapped. It tries again while others change the cell, and while all its funds are taken.
+/// Compare and swap: where what a cell holds is equivalent to what is expected, the new handle goes in, and what the
+/// cell held comes out; else a copy of what it holds ([util.smartptr.atomic.shared], [util.smartptr.atomic.weak]). True
+/// where it was swapped. It tries again while others change the cell, and while all its funds are taken.
 pub fn compare<V, A: Aimed, R: Wait>(
     rt: &R,
     board: &Board<V>,
@@ -114,13 +121,16 @@ pub fn compare<V, A: Aimed, R: Wait>(
     requires cell { IsCellAt chair.old.me.0 A.cell word × (kind ≡ kind_in chair.old.me.0.shape A.cell) }
     requires expected { IsWordOf chair.old.me.0 A.expected expected }
     requires new { IsCellWord new × (new.taken ≡ 0) × IsWordOf chair.old.me.0 A.new new }
-    requires hands { InHand (known chair.old.me.0) chair.old.me.0.view.name kind A.expected × InHand (known chair.old.me.0) chair.old.me.0.view.name kind A.new }
+    requires hands { InHand (known chair.old.me.0) chair.old.me.0.view.name kind A.expected
+        × InHand (known chair.old.me.0) chair.old.me.0.view.name kind A.new }
     requires holds { IfSome new.owned (λ b. Holding chair.old.me.0 A.new.kind (object_of A.new) A.new.place b.0) }
     requires count { IfSome new.owned (λ b. IsCounted kind b board.now.table_id) }
     requires room { HasRoomFor chair.old.me.0 }
-    ensures chair { (chair.new.table_id ≡ chair.old.table_id) × (chair.new.id ≡ chair.old.id) × Rests chair.new.me }
+    ensures chair { (chair.new.table_id ≡ chair.old.table_id)
+        × (chair.new.id ≡ chair.old.id) × Rests chair.new.me }
     ensures cell { IsCellWord result.1 }
-    ensures compared { CameOut (λ h. Compare A.cell A.expected A.new h result.0 A.weak) kind chair.old.me.0 result.1 chair.new.me.0 }
+    ensures compared { CameOut (λ h. Compare A.cell A.expected A.new h result.0 A.weak) kind chair.old.me.0
+        result.1 chair.new.me.0 }
 {
     let mut pause = Pause::new();
     for _ in rt.forever() {

@@ -38,7 +38,8 @@ pub fn store_shared<V: Drop + Send, A: Aimed>(
     requires holds { IfSome new.owned (λ b. Holding chair.old.me.0 A.new.kind (object_of A.new) A.new.place b.0) }
     requires count { IfSome new.owned (λ b. IsCounted Owner b board.now.table_id) }
     requires room { A.new.object ≡ None → HasRoomFor chair.old.me.0 }
-    ensures chair { (chair.new.table_id ≡ chair.old.table_id) × (chair.new.id ≡ chair.old.id) × Rests chair.new.me }
+    ensures chair { (chair.new.table_id ≡ chair.old.table_id)
+        × (chair.new.id ≡ chair.old.id) × Rests chair.new.me }
     ensures stored { OutAndGone (λ h. Swap A.cell A.new h) chair.old.me.0 result.0 result.1 chair.new.me.0 }
 {
     let old = swap_in::<V, A>(board, chair, word, Kind::Owner, new);
@@ -64,7 +65,8 @@ pub fn store_weak<V, A: Aimed>(
     requires holds { IfSome new.owned (λ b. Holding chair.old.me.0 A.new.kind (object_of A.new) A.new.place b.0) }
     requires count { IfSome new.owned (λ b. IsCounted Weak b board.now.table_id) }
     requires room { A.new.object ≡ None → HasRoomFor chair.old.me.0 }
-    ensures chair { (chair.new.table_id ≡ chair.old.table_id) × (chair.new.id ≡ chair.old.id) × Rests chair.new.me }
+    ensures chair { (chair.new.table_id ≡ chair.old.table_id)
+        × (chair.new.id ≡ chair.old.id) × Rests chair.new.me }
     ensures stored { OutAndGoneWeakly (λ h. Swap A.cell A.new h) chair.old.me.0 result.0 result.1 chair.new.me.0 }
 {
     let old = swap_in::<V, A>(board, chair, word, Kind::Weak, new);

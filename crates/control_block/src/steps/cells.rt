@@ -25,7 +25,8 @@ pub fn peek<V, A: Aimed>(board: &Board<V>, chair: &mut Chair<V>, word: usize) ->
     requires awake { chair.old.me.0.view.spent ≡ false }
     requires word { word < board.now.table_id.words }
     requires cell { IsCellAt chair.old.me.0 A.cell word }
-    ensures chair { (chair.new.table_id ≡ chair.old.table_id) × (chair.new.id ≡ chair.old.id) × (chair.new.me ≡ chair.old.me) }
+    ensures chair { (chair.new.table_id ≡ chair.old.table_id) × (chair.new.id ≡ chair.old.id)
+        × (chair.new.me ≡ chair.old.me) }
     ensures cell { IsCellWord result }
     ensures held { IsHeld A.cell chair.old.me.0 result }
 {
@@ -39,38 +40,45 @@ pub fn look<V, A: Aimed>(board: &Board<V>, chair: &mut Chair<V>, word: usize) ->
     requires rests { Rests chair.old.me }
     requires word { word < board.now.table_id.words }
     requires cell { IsCellAt chair.old.me.0 A.cell word }
-    ensures chair { (chair.new.table_id ≡ chair.old.table_id) × (chair.new.id ≡ chair.old.id) × (chair.new.me.1 ≡ []) }
+    ensures chair { (chair.new.table_id ≡ chair.old.table_id) × (chair.new.id ≡ chair.old.id)
+        × (chair.new.me.1 ≡ []) }
     ensures cell { IsCellWord result }
     ensures held { IsHeld A.cell chair.old.me.0 result }
-    ensures event { result.owned ≡ None → tells (Load A.cell (handle (kind_in chair.old.me.0.shape A.cell) None result.place)) chair.old.me.0 chair.new.me.0 }
+    ensures event { result.owned ≡ None → tells
+        (Load A.cell (handle (kind_in chair.old.me.0.shape A.cell) None result.place)) chair.old.me.0 chair.new.me.0 }
     ensures same { result.owned ≢ None → chair.new.me ≡ chair.old.me }
 {
     unpack(board.load::<LoadsEmpty<A>>(chair, word))
 }
 
-/// Look: what a cell holds at this step. Where it shows no object and isn't equivalent to what is expected, this is a compare that
-/// differs ([util.smartptr.atomic.shared], [util.smartptr.atomic.weak]); else nothing changes.
+/// Look: what a cell holds at this step. Where it shows no object and isn't equivalent to what is expected, this is a
+/// compare that differs ([util.smartptr.atomic.shared], [util.smartptr.atomic.weak]); else nothing changes.
 pub fn look_differing<V, A: Aimed>(board: &Board<V>, chair: &mut Chair<V>, word: usize) -> CellWord
     requires board { chair.old.table_id ≡ board.now.table_id }
     requires rests { Rests chair.old.me }
     requires word { word < board.now.table_id.words }
     requires cell { IsCellAt chair.old.me.0 A.cell word }
-    requires expected { InHand (known chair.old.me.0) chair.old.me.0.view.name (kind_in chair.old.me.0.shape A.cell) A.expected }
+    requires expected { InHand (known chair.old.me.0) chair.old.me.0.view.name
+        (kind_in chair.old.me.0.shape A.cell) A.expected }
     requires hand { InHand (known chair.old.me.0) chair.old.me.0.view.name (kind_in chair.old.me.0.shape A.cell) A.new }
-    ensures chair { (chair.new.table_id ≡ chair.old.table_id) × (chair.new.id ≡ chair.old.id) × (chair.new.me.1 ≡ []) }
+    ensures chair { (chair.new.table_id ≡ chair.old.table_id) × (chair.new.id ≡ chair.old.id)
+        × (chair.new.me.1 ≡ []) }
     ensures cell { IsCellWord result }
     ensures held { IsHeld A.cell chair.old.me.0 result }
     ensures event { let h = handle (kind_in chair.old.me.0.shape A.cell) None result.place in
-        result.owned ≡ None → equivalent h A.expected ≡ false → tells (Compare A.cell A.expected A.new h false A.weak) chair.old.me.0 chair.new.me.0 }
-    ensures alike { result.owned ≡ None → equivalent (handle (kind_in chair.old.me.0.shape A.cell) None result.place) A.expected ≡ true → chair.new.me ≡ chair.old.me }
+        result.owned ≡ None → equivalent h A.expected ≡ false
+        → tells (Compare A.cell A.expected A.new h false A.weak) chair.old.me.0 chair.new.me.0 }
+    ensures alike { result.owned ≡ None
+        → equivalent (handle (kind_in chair.old.me.0.shape A.cell) None result.place) A.expected ≡ true
+        → chair.new.me ≡ chair.old.me }
     ensures same { result.owned ≢ None → chair.new.me ≡ chair.old.me }
 {
     unpack(board.load::<DiffersEmpty<A>>(chair, word))
 }
 
 /// Take a fund, where the cell still shows what was seen: the load of a cell with an object
-/// ([util.smartptr.atomic.shared], [util.smartptr.atomic.weak]). It is under way until its fund is turned into a handle.
-/// Else nothing changes.
+/// ([util.smartptr.atomic.shared], [util.smartptr.atomic.weak]). It is under way until its fund is turned into a
+/// handle. Else nothing changes.
 pub fn take<V, A: Aimed>(
     board: &Board<V>,
     chair: &mut Chair<V>,
@@ -83,8 +91,10 @@ pub fn take<V, A: Aimed>(
     requires cell { IsCellAt chair.old.me.0 A.cell word }
     requires seen { IsCellWord seen × (seen.owned ≢ None) × (seen.taken < 256) }
     requires room { HasRoomFor chair.old.me.0 }
-    ensures chair { (chair.new.table_id ≡ chair.old.table_id) × (chair.new.id ≡ chair.old.id) × (chair.new.me.1 ≡ []) }
-    ensures took { result ≡ true → Took (λ h. Load A.cell h) (kind_in chair.old.me.0.shape A.cell) chair.old.me.0 seen chair.new.me.0 }
+    ensures chair { (chair.new.table_id ≡ chair.old.table_id) × (chair.new.id ≡ chair.old.id)
+        × (chair.new.me.1 ≡ []) }
+    ensures took { result ≡ true
+        → Took (λ h. Load A.cell h) (kind_in chair.old.me.0.shape A.cell) chair.old.me.0 seen chair.new.me.0 }
     ensures missed { result ≡ false → chair.new.me ≡ chair.old.me }
 {
     let found = pack(seen);
@@ -106,11 +116,14 @@ pub fn take_differing<V, A: Aimed>(
     requires cell { IsCellAt chair.old.me.0 A.cell word }
     requires seen { IsCellWord seen × (seen.owned ≢ None) × (seen.taken < 256) }
     requires room { HasRoomFor chair.old.me.0 }
-    requires expected { InHand (known chair.old.me.0) chair.old.me.0.view.name (kind_in chair.old.me.0.shape A.cell) A.expected }
+    requires expected { InHand (known chair.old.me.0) chair.old.me.0.view.name
+        (kind_in chair.old.me.0.shape A.cell) A.expected }
     requires hand { InHand (known chair.old.me.0) chair.old.me.0.view.name (kind_in chair.old.me.0.shape A.cell) A.new }
     requires differs { (IsWordOf chair.old.me.0 A.expected seen → ⊥) ⊎ (A.weak ≡ true) }
-    ensures chair { (chair.new.table_id ≡ chair.old.table_id) × (chair.new.id ≡ chair.old.id) × (chair.new.me.1 ≡ []) }
-    ensures took { result ≡ true → Took (λ h. Compare A.cell A.expected A.new h false A.weak) (kind_in chair.old.me.0.shape A.cell) chair.old.me.0 seen chair.new.me.0 }
+    ensures chair { (chair.new.table_id ≡ chair.old.table_id) × (chair.new.id ≡ chair.old.id)
+        × (chair.new.me.1 ≡ []) }
+    ensures took { result ≡ true → Took (λ h. Compare A.cell A.expected A.new h false A.weak)
+        (kind_in chair.old.me.0.shape A.cell) chair.old.me.0 seen chair.new.me.0 }
     ensures missed { result ≡ false → chair.new.me ≡ chair.old.me }
 {
     let found = pack(seen);
@@ -129,8 +142,10 @@ pub fn refill<V, A: Aimed>(
     requires word { word < board.now.table_id.words }
     requires cell { IsCellAt chair.old.me.0 A.cell word }
     requires seen { IsCellWord seen }
-    requires owes { (o : ℕ) × (p : Option Place) × (b : Block) × (seen.owned ≡ Some b) × Owes (owing (kind_in chair.old.me.0.shape A.cell) o p b.0 seen.taken 0) chair.old.me }
-    ensures chair { (chair.new.table_id ≡ chair.old.table_id) × (chair.new.id ≡ chair.old.id) × (chair.new.me.1 ≡ []) }
+    requires owes { (o : ℕ) × (p : Option Place) × (b : Block) × (seen.owned ≡ Some b)
+        × Owes (owing (kind_in chair.old.me.0.shape A.cell) o p b.0 seen.taken 0) chair.old.me }
+    ensures chair { (chair.new.table_id ≡ chair.old.table_id) × (chair.new.id ≡ chair.old.id)
+        × (chair.new.me.1 ≡ []) }
     ensures refilled { result ≡ true → chair.new.me.0 ≡ goes_on chair.old.me.0 }
     ensures missed { result ≡ false → chair.new.me ≡ chair.old.me }
 {
@@ -155,9 +170,11 @@ pub fn swap<V, A: Aimed>(
     requires hand { InHand (known chair.old.me.0) chair.old.me.0.view.name (kind_in chair.old.me.0.shape A.cell) A.new }
     requires owes { Owes (debt A.new new.owned 256) chair.old.me }
     requires room { A.new.object ≡ None → HasRoomFor chair.old.me.0 }
-    ensures chair { (chair.new.table_id ≡ chair.old.table_id) × (chair.new.id ≡ chair.old.id) × (chair.new.me.1 ≡ []) }
+    ensures chair { (chair.new.table_id ≡ chair.old.table_id) × (chair.new.id ≡ chair.old.id)
+        × (chair.new.me.1 ≡ []) }
     ensures cell { IsCellWord result }
-    ensures gave { Gave (λ h. Swap A.cell A.new h) (kind_in chair.old.me.0.shape A.cell) chair.old.me.0 result chair.new.me.0 }
+    ensures gave { Gave (λ h. Swap A.cell A.new h)
+        (kind_in chair.old.me.0.shape A.cell) chair.old.me.0 result chair.new.me.0 }
 {
     unpack(board.swap::<Swaps<A>>(chair, word, pack(new)))
 }
@@ -175,13 +192,16 @@ pub fn compare_and_swap<V, A: Aimed>(
     requires word { word < board.now.table_id.words }
     requires cell { IsCellAt chair.old.me.0 A.cell word }
     requires seen { IsCellWord seen × IsWordOf chair.old.me.0 A.expected seen }
-    requires expected { InHand (known chair.old.me.0) chair.old.me.0.view.name (kind_in chair.old.me.0.shape A.cell) A.expected }
+    requires expected { InHand (known chair.old.me.0) chair.old.me.0.view.name
+        (kind_in chair.old.me.0.shape A.cell) A.expected }
     requires new { IsCellWord new × (new.taken ≡ 0) × IsWordOf chair.old.me.0 A.new new }
     requires hand { InHand (known chair.old.me.0) chair.old.me.0.view.name (kind_in chair.old.me.0.shape A.cell) A.new }
     requires owes { Owes (debt A.new new.owned 256) chair.old.me }
     requires room { A.new.object ≡ None → HasRoomFor chair.old.me.0 }
-    ensures chair { (chair.new.table_id ≡ chair.old.table_id) × (chair.new.id ≡ chair.old.id) × (chair.new.me.1 ≡ []) }
-    ensures gave { result ≡ true → Gave (λ h. Compare A.cell A.expected A.new h true A.weak) (kind_in chair.old.me.0.shape A.cell) chair.old.me.0 seen chair.new.me.0 }
+    ensures chair { (chair.new.table_id ≡ chair.old.table_id) × (chair.new.id ≡ chair.old.id)
+        × (chair.new.me.1 ≡ []) }
+    ensures gave { result ≡ true → Gave (λ h. Compare A.cell A.expected A.new h true A.weak)
+        (kind_in chair.old.me.0.shape A.cell) chair.old.me.0 seen chair.new.me.0 }
     ensures missed { result ≡ false → chair.new.me ≡ chair.old.me }
 {
     let found = pack(seen);

@@ -14,8 +14,10 @@ pub fn note_split<V, G: Given>(board: &Board<V>, chair: &mut Chair<V>)
     requires rests { Rests chair.old.me }
     requires word { 0 < board.now.table_id.words }
     requires may { MaySplit chair.old.me.0 G.allowance G.handles G.blocks }
-    ensures chair { (chair.new.table_id ≡ chair.old.table_id) × (chair.new.id ≡ chair.old.id) × (chair.new.me.1 ≡ []) }
-    ensures event { (to : ℕ) × Added chair.old.me.0 (Parting to) None (Split to G.allowance G.handles G.blocks) chair.new.me.0 }
+    ensures chair { (chair.new.table_id ≡ chair.old.table_id) × (chair.new.id ≡ chair.old.id)
+        × (chair.new.me.1 ≡ []) }
+    ensures event { (to : ℕ) × Added chair.old.me.0 (Parting to) None
+        (Split to G.allowance G.handles G.blocks) chair.new.me.0 }
 {
     board.load::<Splits<G>>(chair, 0);
 }
@@ -24,9 +26,11 @@ pub fn note_split<V, G: Given>(board: &Board<V>, chair: &mut Chair<V>)
 pub fn cut<V>(board: &Board<V>, chair: &mut Chair<V>) -> Chair<V>
     requires board { chair.old.table_id ≡ board.now.table_id }
     requires word { 0 < board.now.table_id.words }
-    requires parts { (chair.old.me.0.view.spent ≡ false) × (chair.old.me.0.hand ≡ None) × (chair.old.me.1 ≡ []) }
+    requires parts { (chair.old.me.0.view.spent ≡ false) × (chair.old.me.0.hand ≡ None)
+        × (chair.old.me.1 ≡ []) }
     requires named { (to : ℕ) × (chair.old.me.0.view.pending ≡ Parting to) }
-    ensures chair { (chair.new.table_id ≡ chair.old.table_id) × (chair.new.id ≡ chair.old.id) × (chair.new.me ≡ (goes_on chair.old.me.0, [])) }
+    ensures chair { (chair.new.table_id ≡ chair.old.table_id) × (chair.new.id ≡ chair.old.id)
+        × (chair.new.me ≡ (goes_on chair.old.me.0, [])) }
     ensures other { (result.table_id ≡ chair.old.table_id) × (result.me ≡ (comes_off chair.old.me.0, [])) }
 {
     board.split_seat::<Cut>(chair)
@@ -37,7 +41,8 @@ pub fn join<V>(board: &Board<V>, chair: &mut Chair<V>, other: Chair<V>)
     requires board { (chair.old.table_id ≡ board.now.table_id) × (other.table_id ≡ board.now.table_id) }
     requires rests { Rests chair.old.me × Rests other.me }
     requires word { 0 < board.now.table_id.words }
-    ensures chair { (chair.new.table_id ≡ chair.old.table_id) × (chair.new.id ≡ chair.old.id) × (chair.new.me.1 ≡ []) }
+    ensures chair { (chair.new.table_id ≡ chair.old.table_id) × (chair.new.id ≡ chair.old.id)
+        × (chair.new.me.1 ≡ []) }
     ensures event { JoinsUp chair.old.me.0 other.me.0 chair.new.me.0 }
 {
     board.join_seat::<Glue>(chair, other);

@@ -1,5 +1,5 @@
-//! The members of an object that ends: each is emptied by the desk in whose hands it ends. A member that holds nothing is
-//! cleared by a look, so an object that never used its members ends without a further locked step.
+//! The members of an object that ends: each is emptied by the desk in whose hands it ends. A member that holds nothing
+//! is cleared by a look, so an object that never used its members ends without a further locked step.
 ghost use Rattle.std.specs.Prelude.{◌≡◌, ◌+◌, ◌<◌, true, false, []};
 ghost use Rattle.control_word.specs.Handles.{empty};
 ghost use Rattle.control_word.specs.Layout.{spot};
@@ -29,8 +29,8 @@ const EMPTY: CellWord = CellWord {
     taken: 0,
 };
 
-/// Look: whether a member of an object that ends in the desk's hands holds nothing (own). Then this look clears it; else
-/// nothing changes.
+/// Look: whether a member of an object that ends in the desk's hands holds nothing (own). Then this look clears it;
+/// else nothing changes.
 fn is_empty<V, M: StepArgs>(
     board: &Board<V>,
     chair: &mut Chair<V>,
@@ -39,18 +39,20 @@ fn is_empty<V, M: StepArgs>(
 ) -> bool
     requires board { chair.old.table_id ≡ board.now.table_id }
     requires rests { Rests chair.old.me }
-    requires word { (0 < block.0) × (member < 3) × (M.word ≡ member) × (spot block.0 (7 + member) < board.now.table_id.words) }
+    requires word { (0 < block.0) × (member < 3) × (M.word ≡ member)
+        × (spot block.0 (7 + member) < board.now.table_id.words) }
     requires ends { Ends chair.old.me.0 M.object block.0 }
     requires room { HasRoomFor chair.old.me.0 }
     ensures chair { (chair.new.table_id ≡ chair.old.table_id) × (chair.new.id ≡ chair.old.id) }
-    ensures cleared { result ≡ true → tells (ClearMember M.object M.word (empty (kind_of_member M.word))) chair.old.me.0 chair.new.me.0 × (chair.new.me.1 ≡ chair.old.me.1) }
+    ensures cleared { result ≡ true → tells (ClearMember M.object M.word (empty (kind_of_member M.word)))
+        chair.old.me.0 chair.new.me.0 × (chair.new.me.1 ≡ chair.old.me.1) }
     ensures same { result ≡ false → chair.new.me ≡ chair.old.me }
 {
     board.load::<LooksClear<M>>(chair, block_word(block, MEMBERS + member as usize)) == 0
 }
 
-/// Clear: what a member of an object that ends in the desk's hands holds comes out, and its funds that were not taken are
-/// to be given back (own).
+/// Clear: what a member of an object that ends in the desk's hands holds comes out, and its funds that were not taken
+/// are to be given back (own).
 fn swap_out<V, M: StepArgs>(
     board: &Board<V>,
     chair: &mut Chair<V>,
@@ -59,18 +61,21 @@ fn swap_out<V, M: StepArgs>(
 ) -> CellWord
     requires board { chair.old.table_id ≡ board.now.table_id }
     requires rests { Rests chair.old.me }
-    requires word { (0 < block.0) × (member < 3) × (M.word ≡ member) × (spot block.0 (7 + member) < board.now.table_id.words) }
+    requires word { (0 < block.0) × (member < 3) × (M.word ≡ member)
+        × (spot block.0 (7 + member) < board.now.table_id.words) }
     requires ends { Ends chair.old.me.0 M.object block.0 }
     requires room { HasRoomFor chair.old.me.0 }
-    ensures chair { (chair.new.table_id ≡ chair.old.table_id) × (chair.new.id ≡ chair.old.id) × (chair.new.me.1 ≡ []) }
+    ensures chair { (chair.new.table_id ≡ chair.old.table_id) × (chair.new.id ≡ chair.old.id)
+        × (chair.new.me.1 ≡ []) }
     ensures cell { IsCellWord result }
-    ensures gave { Gave (λ h. ClearMember M.object M.word h) (kind_of_member M.word) chair.old.me.0 result chair.new.me.0 }
+    ensures gave { Gave (λ h. ClearMember M.object M.word h)
+        (kind_of_member M.word) chair.old.me.0 result chair.new.me.0 }
 {
     unpack(board.swap::<Clears<M>>(chair, block_word(block, MEMBERS + member as usize), 0))
 }
 
-/// Clear: a shared member of an object that ends in the desk's hands holds nothing afterwards, and what it held comes out
-/// and leaves (own).
+/// Clear: a shared member of an object that ends in the desk's hands holds nothing afterwards, and what it held comes
+/// out and leaves (own).
 pub fn clear_shared<V: Drop + Send, M: StepArgs>(
     board: &Board<V>,
     chair: &mut Chair<V>,
@@ -79,11 +84,13 @@ pub fn clear_shared<V: Drop + Send, M: StepArgs>(
 ) -> (CellWord, Option<InPlace<V>>)
     requires board { (chair.old.table_id ≡ board.now.table_id) × IsSized chair.old.table_id chair.old.me.0.shape }
     requires rests { Rests chair.old.me }
-    requires word { (0 < block.0) × (member < 3) × (M.word ≡ member) × (spot block.0 (7 + member) < board.now.table_id.words) }
+    requires word { (0 < block.0) × (member < 3) × (M.word ≡ member)
+        × (spot block.0 (7 + member) < board.now.table_id.words) }
     requires kind { kind_of_member member ≡ Owner }
     requires ends { Ends chair.old.me.0 M.object block.0 }
     requires room { HasRoomFor chair.old.me.0 }
-    ensures chair { (chair.new.table_id ≡ chair.old.table_id) × (chair.new.id ≡ chair.old.id) × Rests chair.new.me }
+    ensures chair { (chair.new.table_id ≡ chair.old.table_id)
+        × (chair.new.id ≡ chair.old.id) × Rests chair.new.me }
     ensures cleared { OutAndGone (λ h. ClearMember M.object member h) chair.old.me.0 result.0 result.1 chair.new.me.0 }
 {
     if is_empty::<V, M>(board, chair, block, member) {
@@ -94,8 +101,8 @@ pub fn clear_shared<V: Drop + Send, M: StepArgs>(
     (out, value)
 }
 
-/// Clear: the weak member of an object that ends in the desk's hands holds nothing afterwards, and what it held comes out
-/// and leaves (own). True where the block of that is vacant now.
+/// Clear: the weak member of an object that ends in the desk's hands holds nothing afterwards, and what it held comes
+/// out and leaves (own). True where the block of that is vacant now.
 pub fn clear_weak<V, M: StepArgs>(
     board: &Board<V>,
     chair: &mut Chair<V>,
@@ -104,12 +111,15 @@ pub fn clear_weak<V, M: StepArgs>(
 ) -> (CellWord, bool)
     requires board { (chair.old.table_id ≡ board.now.table_id) × IsSized chair.old.table_id chair.old.me.0.shape }
     requires rests { Rests chair.old.me }
-    requires word { (0 < block.0) × (member < 3) × (M.word ≡ member) × (spot block.0 (7 + member) < board.now.table_id.words) }
+    requires word { (0 < block.0) × (member < 3) × (M.word ≡ member)
+        × (spot block.0 (7 + member) < board.now.table_id.words) }
     requires kind { kind_of_member member ≡ Weak }
     requires ends { Ends chair.old.me.0 M.object block.0 }
     requires room { HasRoomFor chair.old.me.0 }
-    ensures chair { (chair.new.table_id ≡ chair.old.table_id) × (chair.new.id ≡ chair.old.id) × Rests chair.new.me }
-    ensures cleared { OutAndGoneWeakly (λ h. ClearMember M.object member h) chair.old.me.0 result.0 result.1 chair.new.me.0 }
+    ensures chair { (chair.new.table_id ≡ chair.old.table_id)
+        × (chair.new.id ≡ chair.old.id) × Rests chair.new.me }
+    ensures cleared { OutAndGoneWeakly (λ h. ClearMember M.object member h) chair.old.me.0 result.0
+        result.1 chair.new.me.0 }
 {
     if is_empty::<V, M>(board, chair, block, member) {
         return (EMPTY, false);

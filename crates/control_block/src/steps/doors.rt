@@ -16,8 +16,8 @@ use control_word::Block;
 use control_word::layout::{DOOR, FLAGS, block_word};
 use std::sync::Wait;
 
-/// Shut: the door of an object that the desk has an owner of is shut, and the slot with its value is in hand (own). It tries
-/// again while the door is another's.
+/// Shut: the door of an object that the desk has an owner of is shut, and the slot with its value is in hand (own). It
+/// tries again while the door is another's.
 pub fn shut<V: Drop + Send, M: StepArgs, R: Wait>(
     rt: &R,
     board: &Board<V>,
@@ -29,7 +29,8 @@ pub fn shut<V: Drop + Send, M: StepArgs, R: Wait>(
     requires word { (0 < block.0) × (spot block.0 2 < board.now.table_id.words) }
     requires holds { (M.block ≡ block) × (M.word ≡ 0) × Holding chair.old.me.0 Owner M.object M.place block.0 }
     ensures chair { (chair.new.table_id ≡ chair.old.table_id) × (chair.new.id ≡ chair.old.id) }
-    ensures visiting { (x : V) × IsVisiting chair.old.me.0 block M.object M.place (spot block.0 2) x (Some x) chair.new.me }
+    ensures visiting { (x : V) × IsVisiting chair.old.me.0 block M.object M.place
+        (spot block.0 2) x (Some x) chair.new.me }
 {
     let word = block_word(block, FLAGS);
     let mut pause = Pause::new();
@@ -50,9 +51,12 @@ pub fn shut<V: Drop + Send, M: StepArgs, R: Wait>(
 pub fn open<V: Drop + Send, M: StepArgs>(board: &Board<V>, chair: &mut Chair<V>, block: Block)
     requires board { chair.old.table_id ≡ board.now.table_id }
     requires word { (0 < block.0) × (M.block ≡ block) × (spot block.0 2 < board.now.table_id.words) }
-    requires visiting { (v : Sight V) × (was : V) × (becomes : V) × (v.view.spent ≡ false) × IsVisiting v block M.object M.place (spot block.0 2) was (Some becomes) chair.old.me }
-    ensures chair { (chair.new.table_id ≡ chair.old.table_id) × (chair.new.id ≡ chair.old.id) × (chair.new.me.1 ≡ []) }
-    ensures event { (v : Sight V) (was becomes : V) → IsVisiting v block M.object M.place (spot block.0 2) was (Some becomes) chair.old.me → tells (Visit (owner M.object M.place) was becomes) v chair.new.me.0 }
+    requires visiting { (v : Sight V) × (was : V) × (becomes : V) × (v.view.spent ≡ false)
+        × IsVisiting v block M.object M.place (spot block.0 2) was (Some becomes) chair.old.me }
+    ensures chair { (chair.new.table_id ≡ chair.old.table_id) × (chair.new.id ≡ chair.old.id)
+        × (chair.new.me.1 ≡ []) }
+    ensures event { (v : Sight V) (was becomes : V) → IsVisiting v block M.object M.place (spot block.0 2) was
+        (Some becomes) chair.old.me → tells (Visit (owner M.object M.place) was becomes) v chair.new.me.0 }
 {
     board.fetch_sub::<Opens<M>>(chair, block_word(block, FLAGS), DOOR);
 }

@@ -40,7 +40,8 @@ pub fn bring<V, M: StepArgs>(
     requires word { (0 < block.0) × (spot block.0 (slot kind) < board.now.table_id.words) }
     requires holds { (M.kind ≡ kind) × Holding chair.old.me.0 M.kind M.object M.place block.0 }
     requires few { funds ≤ 256 }
-    ensures chair { (chair.new.table_id ≡ chair.old.table_id) × (chair.new.id ≡ chair.old.id) × (chair.new.me.1 ≡ []) }
+    ensures chair { (chair.new.table_id ≡ chair.old.table_id) × (chair.new.id ≡ chair.old.id)
+        × (chair.new.me.1 ≡ []) }
     ensures brought { chair.new.me.0 ≡ in_call chair.old.me.0 (owing M.kind M.object M.place block.0 funds 0) }
 {
     board.fetch_add::<Brings<M>>(chair, count_word(block, kind), u64::from(funds) * ONE_FUND);
@@ -52,7 +53,8 @@ pub fn give_back<V>(board: &Board<V>, chair: &mut Chair<V>, kind: Kind, block: B
     requires board { chair.old.table_id ≡ board.now.table_id }
     requires word { (0 < block.0) × (spot block.0 (slot kind) < board.now.table_id.words) }
     requires owes { (o : ℕ) × (p : Option Place) × Owes (owing kind o p block.0 funds 0) chair.old.me }
-    ensures chair { (chair.new.table_id ≡ chair.old.table_id) × (chair.new.id ≡ chair.old.id) × (chair.new.me.1 ≡ []) }
+    ensures chair { (chair.new.table_id ≡ chair.old.table_id) × (chair.new.id ≡ chair.old.id)
+        × (chair.new.me.1 ≡ []) }
     ensures settled { chair.new.me.0 ≡ goes_on chair.old.me.0 }
 {
     board.fetch_sub::<Settles>(chair, count_word(block, kind), u64::from(funds) * ONE_FUND);
@@ -64,7 +66,8 @@ pub fn turn<V>(board: &Board<V>, chair: &mut Chair<V>, kind: Kind, block: Block)
     requires board { chair.old.table_id ≡ board.now.table_id }
     requires word { (0 < block.0) × (spot block.0 (slot kind) < board.now.table_id.words) }
     requires owes { (o : ℕ) × (p : Option Place) × Owes (owing kind o p block.0 1 1) chair.old.me }
-    ensures chair { (chair.new.table_id ≡ chair.old.table_id) × (chair.new.id ≡ chair.old.id) × (chair.new.me.1 ≡ []) }
+    ensures chair { (chair.new.table_id ≡ chair.old.table_id) × (chair.new.id ≡ chair.old.id)
+        × (chair.new.me.1 ≡ []) }
     ensures settled { chair.new.me.0 ≡ goes_on chair.old.me.0 }
 {
     board.fetch_sub::<Settles>(chair, count_word(block, kind), FUND_TURNED);

@@ -1,5 +1,5 @@
-//! Handles that leave: by themselves, or as they came out of a cell. What came out brings its funds with it, and one step
-//! gives them back and ends the handle.
+//! Handles that leave: by themselves, or as they came out of a cell. What came out brings its funds with it, and one
+//! step gives them back and ends the handle.
 ghost use Rattle.std.specs.Prelude.{◌≡◌, ◌<◌, ◌≤◌, [], is_some, IfSome, Some};
 ghost use Rattle.control_word.specs.Handles.{owner, weak_of};
 ghost use Rattle.control_word.specs.Histories.{value};
@@ -21,9 +21,9 @@ use control_word::layout::{OWNERS, WEAKS, block_word};
 use control_word::shape::CELL_FUNDS;
 use control_word::{Block, CellWord};
 
-/// Leave: one owner less ([util.smartptr.shared.dest]), and with it the funds that a half-done cell call has to give back, if
-/// it came out of a cell. Of the last one the object ends in the hands of the desk, and its value stays where it is: the slot
-/// is taken at the leave, so that the value is known, and given back by a look.
+/// Leave: one owner less ([util.smartptr.shared.dest]), and with it the funds that a half-done cell call has to give
+/// back, if it came out of a cell. Of the last one the object ends in the hands of the desk, and its value stays where
+/// it is: the slot is taken at the leave, so that the value is known, and given back by a look.
 pub fn leave<V: Drop + Send, M: StepArgs>(
     board: &Board<V>,
     chair: &mut Chair<V>,
@@ -31,11 +31,14 @@ pub fn leave<V: Drop + Send, M: StepArgs>(
     funds: u32,
 ) -> Option<InPlace<V>>
     requires board { chair.old.table_id ≡ board.now.table_id }
-    requires word { (0 < block.0) × (block.0 ≤ board.now.table_id.slots) × (spot block.0 0 < board.now.table_id.words) }
+    requires word { (0 < block.0) × (block.0 ≤ board.now.table_id.slots)
+        × (spot block.0 0 < board.now.table_id.words) }
     requires may { (M.block ≡ block) × MayLeave chair.old.me Owner M.object M.place block.0 funds }
-    ensures chair { (chair.new.table_id ≡ chair.old.table_id) × (chair.new.id ≡ chair.old.id) × (chair.new.me.1 ≡ []) }
+    ensures chair { (chair.new.table_id ≡ chair.old.table_id) × (chair.new.id ≡ chair.old.id)
+        × (chair.new.me.1 ≡ []) }
     ensures event { tells (Leave (owner M.object M.place) (is_some result)) chair.old.me.0 chair.new.me.0 }
-    ensures value { IfSome result (λ x. value (opening_of chair.old.me.0.shape) chair.new.me.0.view.seen M.object ≡ Some x) }
+    ensures value { IfSome result
+        (λ x. value (opening_of chair.old.me.0.shape) chair.new.me.0.view.seen M.object ≡ Some x) }
 {
     let word = block_word(block, OWNERS);
     let all = u64::from(funds) * ONE_FUND + 1;
@@ -48,8 +51,8 @@ pub fn leave<V: Drop + Send, M: StepArgs>(
     Some(value)
 }
 
-/// Weak leave: one weak handle less ([util.smartptr.weak.dest]), and with it the funds that a half-done cell call has to give
-/// back, if it came out of a cell. True where the block is vacant now.
+/// Weak leave: one weak handle less ([util.smartptr.weak.dest]), and with it the funds that a half-done cell call has
+/// to give back, if it came out of a cell. True where the block is vacant now.
 pub fn leave_weak<V, M: StepArgs>(
     board: &Board<V>,
     chair: &mut Chair<V>,
@@ -59,7 +62,8 @@ pub fn leave_weak<V, M: StepArgs>(
     requires board { chair.old.table_id ≡ board.now.table_id }
     requires word { (0 < block.0) × (spot block.0 1 < board.now.table_id.words) }
     requires may { MayLeave chair.old.me Weak M.object M.place block.0 funds }
-    ensures chair { (chair.new.table_id ≡ chair.old.table_id) × (chair.new.id ≡ chair.old.id) × (chair.new.me.1 ≡ chair.old.me.1) }
+    ensures chair { (chair.new.table_id ≡ chair.old.table_id) × (chair.new.id ≡ chair.old.id)
+        × (chair.new.me.1 ≡ chair.old.me.1) }
     ensures event { tells (WeakLeave (weak_of M.object M.place) result) chair.old.me.0 chair.new.me.0 }
 {
     let all = u64::from(funds) * ONE_FUND + 1;
@@ -74,10 +78,13 @@ pub fn let_go<V: Drop + Send, M: StepArgs>(
 ) -> Option<InPlace<V>>
     requires board { chair.old.table_id ≡ board.now.table_id }
     requires cell { IsCellWord out }
-    requires meant { (M.place ≡ out.place) × IfSome out.owned (λ b. (M.block ≡ b) × (M.object ≡ (known chair.old.me.0).latest b.0)) }
-    requires count { IfSome out.owned (λ b. IsCounted Owner b board.now.table_id × (b.0 ≤ board.now.table_id.slots)) }
+    requires meant { (M.place ≡ out.place)
+        × IfSome out.owned (λ b. (M.block ≡ b) × (M.object ≡ (known chair.old.me.0).latest b.0)) }
+    requires count { IfSome out.owned
+        (λ b. IsCounted Owner b board.now.table_id × (b.0 ≤ board.now.table_id.slots)) }
     requires owes { OwesFor Owner out chair.old.me }
-    ensures chair { (chair.new.table_id ≡ chair.old.table_id) × (chair.new.id ≡ chair.old.id) × Rests chair.new.me }
+    ensures chair { (chair.new.table_id ≡ chair.old.table_id)
+        × (chair.new.id ≡ chair.old.id) × Rests chair.new.me }
     ensures gone { LetGo chair.old.me.0 out.owned out.place result chair.new.me.0 }
 {
     let Some(block) = out.owned else {
@@ -91,10 +98,12 @@ pub fn let_go<V: Drop + Send, M: StepArgs>(
 pub fn let_go_weakly<V, M: StepArgs>(board: &Board<V>, chair: &mut Chair<V>, out: CellWord) -> bool
     requires board { chair.old.table_id ≡ board.now.table_id }
     requires cell { IsCellWord out }
-    requires meant { (M.place ≡ out.place) × IfSome out.owned (λ b. M.object ≡ (known chair.old.me.0).latest b.0) }
+    requires meant { (M.place ≡ out.place)
+        × IfSome out.owned (λ b. M.object ≡ (known chair.old.me.0).latest b.0) }
     requires count { IfSome out.owned (λ b. IsCounted Weak b board.now.table_id) }
     requires owes { OwesFor Weak out chair.old.me }
-    ensures chair { (chair.new.table_id ≡ chair.old.table_id) × (chair.new.id ≡ chair.old.id) × Rests chair.new.me }
+    ensures chair { (chair.new.table_id ≡ chair.old.table_id)
+        × (chair.new.id ≡ chair.old.id) × Rests chair.new.me }
     ensures gone { LetGoWeakly chair.old.me.0 out.owned out.place result chair.new.me.0 }
 {
     let Some(block) = out.owned else {

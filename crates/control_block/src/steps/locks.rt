@@ -30,7 +30,8 @@ pub fn lock<V, M: StepArgs, R: Wait>(
     requires word { (0 < block.0) × (spot block.0 0 < board.now.table_id.words) }
     requires holds { Holding chair.old.me.0 Weak M.object M.place block.0 }
     requires room { HasRoomFor chair.old.me.0 }
-    ensures chair { (chair.new.table_id ≡ chair.old.table_id) × (chair.new.id ≡ chair.old.id) × (chair.new.me.1 ≡ chair.old.me.1) }
+    ensures chair { (chair.new.table_id ≡ chair.old.table_id) × (chair.new.id ≡ chair.old.id)
+        × (chair.new.me.1 ≡ chair.old.me.1) }
     ensures event { tells (Lock (weak_of M.object M.place) result) chair.old.me.0 chair.new.me.0 }
     ensures owner { GotOwner M.object result chair.new.me.0 }
 {

@@ -1,5 +1,6 @@
 -- Handles in cells, and what a change of a cell does to the counts.
-use Rattle.std.proofs.Common.{◌≡◌, ◌≢◌, ℕ, zero, suc, ◌+◌, ◌<◌, ◌≤◌, true, false, List, [], ◌∷◌, ◌++◌, map, Option, Some, None, refl, sym, ap, subst}
+use Rattle.std.proofs.Common.{◌≡◌, ◌≢◌, ℕ, zero, suc, ◌+◌, ◌<◌, ◌≤◌, true, false, List, [], ◌∷◌, ◌++◌, map, Option, Some}
+use Rattle.std.proofs.Common.{None, refl, sym, ap, subst}
 use Rattle.std.proofs.Common.{◌∙◌, ⊎_elim, arith}
 use Rattle.std.proofs.lemmas.Bool.{cases_eq, cond_both}
 use Rattle.control_word.proofs.history.Clearing.{gets_tally, no_object, was_made}
@@ -20,7 +21,8 @@ use Rattle.control_word.specs.declared.place.Place.{Place}
 -- the handles in cells are counted, so their objects were made
 pub member_counted : (k : Kind) (r : ℕ) (x : Object) (m : ℕ) → m < 3 → tally k r (x.member m ∷ []) ≤ tally k r (members x)
 member_counted k r x zero lt = omega (arith, tally_cons k r (x.member 0) (x.member 1 ∷ x.member 2 ∷ []))
-member_counted k r x (suc zero) lt = omega (arith, tally_cons k r (x.member 0) (x.member 1 ∷ x.member 2 ∷ []), tally_cons k r (x.member 1) (x.member 2 ∷ []))
+member_counted k r x (suc zero) lt =
+    omega (arith, tally_cons k r (x.member 0) (x.member 1 ∷ x.member 2 ∷ []), tally_cons k r (x.member 1) (x.member 2 ∷ []))
 member_counted k r x (suc (suc zero)) lt = omega (
   arith,
   tally_cons k r (x.member 0) (x.member 1 ∷ x.member 2 ∷ []),

@@ -1,5 +1,6 @@
 -- A member goes out of an ending object.
-use Rattle.std.proofs.Common.{◌≡◌, ◌≢◌, ℕ, zero, suc, ◌+◌, ◌<◌, false, cond, List, [], ◌∷◌, ◌++◌, map, Option, Some, None, refl, sym, ap, subst, ◌∙◌}
+use Rattle.std.proofs.Common.{◌≡◌, ◌≢◌, ℕ, zero, suc, ◌+◌, ◌<◌, false, cond, List, [], ◌∷◌, ◌++◌, map, Option, Some, None, refl}
+use Rattle.std.proofs.Common.{sym, ap, subst, ◌∙◌}
 use Rattle.std.proofs.Common.{⊎_elim, arith}
 use Rattle.std.proofs.lemmas.Bool.{cases_eq, cases_lt, cond_both}
 use Rattle.control_word.proofs.history.Making.{empty_counts}
@@ -48,13 +49,20 @@ tally_put k q (suc n) o f x lt =
 abbrev pub emptied : Object → ℕ → Object
 emptied x m = record x { member = put x.member m (empty (kind_of_member m)) }
 
-emptied_tally : (x : Object) (m : ℕ) → m < 3 → (k : Kind) (q : ℕ) → tally k q (members (emptied x m)) + tally k q (x.member m ∷ []) ≡ tally k q (members x)
+emptied_tally : (x : Object) (m : ℕ) → m < 3 → (k : Kind) (q : ℕ)
+    → tally k q (members (emptied x m)) + tally k q (x.member m ∷ []) ≡ tally k q (members x)
 emptied_tally x zero lt k q =
     let a = x.member 0 in let b = x.member 1 in let c = x.member 2 in
     omega (arith, empty_counts k Owner q (b ∷ c ∷ []), tally_cons k q a (b ∷ c ∷ []))
 emptied_tally x (suc zero) lt k q =
     let a = x.member 0 in let b = x.member 1 in let c = x.member 2 in
-    omega (arith, tally_cons k q a (empty Owner ∷ c ∷ []), empty_counts k Owner q (c ∷ []), tally_cons k q a (b ∷ c ∷ []), tally_cons k q b (c ∷ []))
+    omega (
+      arith,
+      tally_cons k q a (empty Owner ∷ c ∷ []),
+      empty_counts k Owner q (c ∷ []),
+      tally_cons k q a (b ∷ c ∷ []),
+      tally_cons k q b (c ∷ []),
+    )
 emptied_tally x (suc (suc zero)) lt k q =
     let a = x.member 0 in let b = x.member 1 in let c = x.member 2 in
     omega (
@@ -77,7 +85,8 @@ no_object k m q (Some n) p e = cc
 pub gets_tally : (k : Kind) (q d : ℕ) (h : Handle) (l : List Held) (r : List Handle)
     → tally k q (map (λ x. x.handle) (cond (has_object h) (held d h ∷ l) l) ++ r) ≡ tally k q (h ∷ []) + tally k q (map (λ x. x.handle) l ++ r)
 gets_tally k q d h l r =
-    cond_both (has_object h) (held d h ∷ l) l (λ u. tally k q (map (λ x. x.handle) u ++ r) ≡ tally k q (h ∷ []) + tally k q (map (λ x. x.handle) l ++ r))
+    cond_both (has_object h) (held d h ∷ l) l
+    (λ u. tally k q (map (λ x. x.handle) u ++ r) ≡ tally k q (h ∷ []) + tally k q (map (λ x. x.handle) l ++ r))
     (λ e. tally_cons k q h (map (λ x. x.handle) l ++ r)) (λ e. let t = no_object k h.kind q h.object h.place e in omega arith)
 
 -- a member goes from its object to a bag, and the counts stay
@@ -114,7 +123,8 @@ clear_weak s d o m lt made q = clear_tally s d o m lt made Weak q
 pub was_made : (z : Opening) (s : State) (o : ℕ) → Sound z s → (s.object o).phase ≢ unmade → o < suc s.made
 was_made z s o sound n = ⊎_elim (λ lt. absurd (n (sound.fresh o lt))) (λ le. omega arith) (cases_lt s.made o)
 
-pub sound_clear : (z : Opening) (s : State) (d o m : ℕ) → Sound z s → (s.object o).phase ≡ ending d → m < 3 → Sound z (clears d o m ((s.object o).member m) s)
+pub sound_clear : (z : Opening) (s : State) (d o m : ℕ) → Sound z s → (s.object o).phase ≡ ending d → m < 3
+    → Sound z (clears d o m ((s.object o).member m) s)
 sound_clear z s d o m sound end lt =
     let x = emptied (s.object o) m in
     let f = put s.object o x in

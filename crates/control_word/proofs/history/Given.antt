@@ -1,5 +1,6 @@
 -- An object's last owner leaves once, and what is held names an object.
-use Rattle.std.proofs.Common.{List, ◌≡◌, ◌≢◌, ℕ, suc, ◌+◌, ◌<◌, true, false, cond, ◌==◌, [], ◌∷◌, refl, sym, ap, ◌∙◌, eq-eqb, ne_eqb, arith, ◌++◌, ◌≤◌}
+use Rattle.std.proofs.Common.{List, ◌≡◌, ◌≢◌, ℕ, suc, ◌+◌, ◌<◌, true, false, cond, ◌==◌, [], ◌∷◌, refl, sym, ap, ◌∙◌}
+use Rattle.std.proofs.Common.{eq-eqb, ne_eqb, arith, ◌++◌, ◌≤◌}
 use Rattle.std.proofs.lemmas.Bool.{cond-true, cond-false}
 use Rattle.control_word.proofs.history.Clearing.{emptied, was_made}
 use Rattle.control_word.proofs.history.Legal.{held_busy, sound, written}

@@ -1,5 +1,6 @@
 -- Handles leave, and objects end.
-use Rattle.std.proofs.Common.{◌≡◌, ◌≢◌, ℕ, zero, suc, ◌+◌, ◌<◌, Bool, true, false, ◌&&◌, ◌==◌, List, Option, Some, refl, sym, ap, subst, ◌∙◌, ⊎_elim, arith}
+use Rattle.std.proofs.Common.{◌≡◌, ◌≢◌, ℕ, zero, suc, ◌+◌, ◌<◌, Bool, true, false, ◌&&◌, ◌==◌, List, Option, Some, refl, sym, ap}
+use Rattle.std.proofs.Common.{subst, ◌∙◌, ⊎_elim, arith}
 use Rattle.std.proofs.lemmas.Bool.{eqb-true, eqb-false, and_parts, cases_eq}
 use Rattle.control_word.proofs.history.Moving.{count_same, counted_live, fits_from_live, fits_same, less_owners, less_weaks, live_busy, owner_counted}
 use Rattle.control_word.proofs.history.Moving.{sound_hands, sound_moves, sound_vacates, weak_same}
@@ -15,7 +16,8 @@ use Rattle.control_word.specs.declared.place.Place.{Place}
 
 -- o was busy and is not, and so its block is vacant
 pub becomes_vacant : (z : Opening) (s s' : State) (o : ℕ) → Sound z s → IsBusy s o → weak_number s' o ≡ 0
-    → ((q : ℕ) → 0 < weak_number s' q → 0 < weak_number s q) → ((q : ℕ) → (s'.object q).block ≡ (s.object q).block) → IsVacant s' (s.object o).block
+    → ((q : ℕ) → 0 < weak_number s' q → 0 < weak_number s q) → ((q : ℕ) → (s'.object q).block ≡ (s.object q).block)
+    → IsVacant s' (s.object o).block
 becomes_vacant z s s' o sound busy none less block q e = go (weak_number s' q) refl
   where
     go : (n : ℕ) → weak_number s' q ≡ n → n ≡ 0
@@ -48,7 +50,8 @@ last_owner z s d o p sound h one = sound_moves z s hs f s.cell sound (record {
       put_cases (λ j y. j ≡ q → 0 < weak (record s { hands = hs; object = f }) q + common y.phase → 0 < weak_number s q) s.object o x q
       (λ e e2 w. subst (IsBusy s) (sym e) busy) (λ n e2 w. omega arith) refl;
   block = λ q. put_cases (λ j y. y.block ≡ (s.object j).block) s.object o x q (λ e. ap (λ n. (s.object n).block) (sym e)) (λ n. refl);
-  made = λ q. put_cases (λ j y. ((s.object j).phase ≡ unmade → y.phase ≡ unmade) × (y.phase ≡ unmade → (s.object j).phase ≡ unmade)) s.object o x q
+  made = λ q. put_cases (λ j y. ((s.object j).phase ≡ unmade → y.phase ≡ unmade) × (y.phase ≡ unmade → (s.object j).phase ≡ unmade)) s.object o x
+      q
       (λ e. ((λ u. let v : (s.object q).phase ≡ live = ap (λ n. (s.object n).phase) e ∙ alive in cc), λ u. cc)) (λ n. ((λ u. u), λ u. u));
   cleared = λ q m lt. put_cases (λ j y. common y.phase ≡ 0
       → y.member m ≡ empty (kind_of_member m)) s.object o x q (λ e u. absurd (omega arith)) (λ n. sound.cleared q m lt);
@@ -122,7 +125,8 @@ sound_weak_leave z s d o p true sound h e =
 
 pub finish_phase : (z : Opening) (s : State) (d o : ℕ) → Sound z s → (s.object o).phase ≡ ending d → ((m : ℕ) → m < 3
     → (s.object o).member m ≡ empty (kind_of_member m))
-    → Sound z (changes o (moved_to gone (s.object o)) s) × ((q : ℕ) → 0 < weak_number (changes o (moved_to gone (s.object o)) s) q → 0 < weak_number s q)
+    → Sound z (changes o (moved_to gone (s.object o)) s)
+    × ((q : ℕ) → 0 < weak_number (changes o (moved_to gone (s.object o)) s) q → 0 < weak_number s q)
     × (weak_number (changes o (moved_to gone (s.object o)) s) o ≡ weak s o)
 finish_phase z s d o sound end cleared' = (
   sound_moves z s s.hands f s.cell sound (record {
@@ -131,7 +135,8 @@ finish_phase z s d o sound end cleared' = (
         (λ n. sound.owners q)) (count_same s s.hands f members' q);
     weaks = fall;
     block = λ q. put_cases (λ j y. y.block ≡ (s.object j).block) s.object o x q (λ e. ap (λ n. (s.object n).block) (sym e)) (λ n. refl);
-    made = λ q. put_cases (λ j y. ((s.object j).phase ≡ unmade → y.phase ≡ unmade) × (y.phase ≡ unmade → (s.object j).phase ≡ unmade)) s.object o x q
+    made = λ q. put_cases (λ j y. ((s.object j).phase ≡ unmade → y.phase ≡ unmade) × (y.phase ≡ unmade → (s.object j).phase ≡ unmade)) s.object o
+        x q
         (λ e. ((λ u. let v : (s.object q).phase ≡ ending d = ap (λ n. (s.object n).phase) e ∙ end in cc), λ u. cc)) (λ n. ((λ u. u), λ u. u));
     cleared = λ q m lt. put_cases (λ j y. common y.phase ≡ 0
         → y.member m ≡ empty (kind_of_member m)) s.object o x q (λ e u. cleared' m lt) (λ n. sound.cleared q m lt);

@@ -1,5 +1,6 @@
 -- Every state that a legal history leads to is sound.
-use Rattle.std.proofs.Common.{◌≡◌, ◌≢◌, ℕ, zero, suc, ◌<◌, ◌≤◌, true, false, ◌==◌, List, [], ◌∷◌, length, Option, Some, refl, sym, ap, subst, ◌∙◌}
+use Rattle.std.proofs.Common.{◌≡◌, ◌≢◌, ℕ, zero, suc, ◌<◌, ◌≤◌, true, false, ◌==◌, List, [], ◌∷◌, length, Option, Some, refl}
+use Rattle.std.proofs.Common.{sym, ap, subst, ◌∙◌}
 use Rattle.std.proofs.Common.{⊎_elim, arith}
 use Rattle.std.specs.List.{filter}
 use Rattle.std.proofs.lemmas.Bool.{eqb-true, eqb-false, cond_both, not-true}
@@ -38,7 +39,8 @@ held_busy z s d o Owner p sound h = live_busy s o (counted_live z s o sound (own
 held_busy z s d o Weak p sound h = let t = weak_counted s d o p h in omega arith
 
 -- an event on a handle may be read with the handle written out
-rebuilt : (P : Handle → Type 0) (k : Kind) (h : Handle) → h.kind ≡ k → h.object ≡ Some (object_of h) → P (handle k (Some (object_of h)) h.place) → P h
+rebuilt : (P : Handle → Type 0) (k : Kind) (h : Handle) → h.kind ≡ k → h.object ≡ Some (object_of h)
+    → P (handle k (Some (object_of h)) h.place) → P h
 rebuilt P k h kind object p = subst (λ j. P (handle j h.object h.place)) (sym kind) (subst (λ n. P (handle k n h.place)) (sym object) p)
 
 module _ {V : Type 0} where
@@ -47,7 +49,8 @@ module _ {V : Type 0} where
   sound_after z s d (Share h p) sound asks =
       let hold = asks.0 in
       let alive = counted_live z s (object_of h) sound (owner_counted s d (object_of h) h.place (written s.hands d Owner h hold.0 hold.1 hold.2)) in
-      subst (λ (n : Option ℕ). Sound z (record s { hands = held d (handle Owner n p) ∷ s.hands })) (sym hold.2) (sound_owner z s d (object_of h) p sound alive)
+      subst (λ (n : Option ℕ). Sound z (record s { hands = held d (handle Owner n p) ∷ s.hands })) (sym hold.2)
+      (sound_owner z s d (object_of h) p sound alive)
   sound_after z s d (Leave h last) sound asks =
       let hold = asks.0 in
       rebuilt (λ u. Sound z (leaves d u last s)) Owner h hold.1 hold.2 (sound_leave z s d (object_of h) h.place last sound

@@ -1,5 +1,6 @@
 -- Objects that were made stay made, and each one's value comes out once.
-use Rattle.std.proofs.Common.{List, ◌≡◌, ◌≢◌, ℕ, suc, ◌<◌, true, false, [], ◌∷◌, refl, sym, ap, arith, ◌≤◌, ◌⊎◌, ◌↔◌, subst, inl, inr, ⊎_elim}
+use Rattle.std.proofs.Common.{List, ◌≡◌, ◌≢◌, ℕ, suc, ◌<◌, true, false, [], ◌∷◌, refl, sym, ap, arith, ◌≤◌, ◌⊎◌, ◌↔◌}
+use Rattle.std.proofs.Common.{subst, inl, inr, ⊎_elim}
 use Rattle.std.proofs.lemmas.Bool.{cases_eq}
 use Rattle.control_word.proofs.history.Clearing.{emptied}
 use Rattle.control_word.proofs.history.Given.{given_over, over}
@@ -22,7 +23,8 @@ is_made live = 1
 is_made gone = 1
 is_made (ending d) = 1
 
-made_put : (s : State) (o q : ℕ) (x : Object) → (q ≡ o → 0 < is_made x.phase) → 0 < is_made (s.object q).phase → 0 < is_made (put s.object o x q).phase
+made_put : (s : State) (o q : ℕ) (x : Object) → (q ≡ o → 0 < is_made x.phase) → 0 < is_made (s.object q).phase
+    → 0 < is_made (put s.object o x q).phase
 made_put s o q x here was = put_cases (λ j y. j ≡ q → 0 < is_made y.phase) s.object o x q (λ e u. here e) (λ n u. was) refl
 
 made_handed : (e d : ℕ) (p : Phase) → is_made (handed e d p) ≡ is_made p

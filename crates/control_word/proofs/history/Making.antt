@@ -1,5 +1,6 @@
 -- A new object comes into a vacant block.
-use Rattle.std.proofs.Common.{◌≡◌, ◌≢◌, ℕ, suc, ◌+◌, ◌<◌, ◌≤◌, Bool, true, ◌==◌, List, [], ◌∷◌, ◌++◌, map, Some, refl, sym, ap, subst, ◌∙◌, inl, eq-eqb, arith}
+use Rattle.std.proofs.Common.{◌≡◌, ◌≢◌, ℕ, suc, ◌+◌, ◌<◌, ◌≤◌, Bool, true, ◌==◌, List, [], ◌∷◌, ◌++◌, map, Some, refl}
+use Rattle.std.proofs.Common.{sym, ap, subst, ◌∙◌, inl, eq-eqb, arith}
 use Rattle.control_word.proofs.history.Moving.{fits_same}
 use Rattle.control_word.proofs.history.Soundness.{IsBusy, OwnersFit, Sound}
 use Rattle.control_word.proofs.lists.Tallies.{has_before, num_has, num_without, put_cases, put_other, put_same, stored_self, stored_true, tally_append}
@@ -106,7 +107,8 @@ module _ (z : Opening) (s : State) (d b : ℕ) (enabled null : Bool) (fields : L
             (λ ne. fits_same _ _ _ (sound.owners q) (made_count q ne));
         unmade_free = λ q. put_cases (λ j y. y.phase ≡ unmade → weak made_state j + common y.phase ≡ 0) s.object n x q (λ e u. cc)
             (λ ne u. let t = made_weak q in let v = sound.unmade_free q u in omega arith);
-        fresh = λ q lt. put_cases (λ j y. n < j → y.phase ≡ unmade) s.object n x q (λ e l. absurd (omega arith)) (λ ne l. sound.fresh q (omega arith)) lt;
+        fresh = λ q lt. put_cases (λ j y. n < j → y.phase ≡ unmade) s.object n x q (λ e l. absurd (omega arith))
+            (λ ne l. sound.fresh q (omega arith)) lt;
         none = put_cases (λ j y. j ≡ 0 → y.phase ≡ unmade) s.object n x 0 (λ e l. absurd (omega arith)) (λ ne l. sound.none) refl;
         placed = λ q. put_cases (λ j y. 0 < weak made_state j + common y.phase → (put s.latest b n y.block ≡ j) × InShape z y.block) s.object n x q
             (λ e busy. (put_same s.latest b n b refl ∙ sym e, vacant.1))
@@ -127,7 +129,8 @@ module _ (z : Opening) (s : State) (d b : ℕ) (enabled null : Bool) (fields : L
                   (λ ne u. let t = made_weak q in let v = p.0 q u in omega arith)),
               p.1,
             );
-        once = λ c. let t = num_without same_stored stored_true stored_self (λ x. x.block == c) (stored d b) s.stores h in let u = sound.once c in omega arith;
+        once = λ c. let t = num_without same_stored stored_true stored_self (λ x. x.block == c) (stored d b) s.stores h in
+            let u = sound.once c in omega arith;
         cleared = λ q m lt. put_cases (λ j y. common y.phase ≡ 0
             → y.member m ≡ empty (kind_of_member m)) s.object n x q (λ e u. absurd (omega arith)) (λ ne u. sound.cleared q m lt u);
       }

@@ -1,5 +1,6 @@
 -- A change of hands and objects, in their blocks, keeps a state sound.
-use Rattle.std.proofs.Common.{◌≡◌, ◌≢◌, ℕ, zero, suc, ◌<◌, ◌≤◌, ◌==◌, List, [], ◌∷◌, ◌++◌, map, length, Option, Some, refl, sym, ap, subst, ◌∙◌, ⊎_elim, arith}
+use Rattle.std.proofs.Common.{◌≡◌, ◌≢◌, ℕ, zero, suc, ◌<◌, ◌≤◌, ◌==◌, List, [], ◌∷◌, ◌++◌, map, length, Option, Some}
+use Rattle.std.proofs.Common.{refl, sym, ap, subst, ◌∙◌, ⊎_elim, arith}
 use Rattle.std.specs.List.{filter}
 use Rattle.std.proofs.lemmas.Bool.{eqb-true, cases_eq, cond_both}
 use Rattle.control_word.proofs.history.Soundness.{IsBusy, OwnersFit, Sound}
@@ -127,7 +128,8 @@ more_weaks s d o p q = (
   (λ n. tally_other Weak Weak q o p (handles s) n),
 )
 
-pub owner_no_weak : (s : State) (d : ℕ) (n : Option ℕ) (p : Option Place) (q : ℕ) → weak (record s { hands = held d (handle Owner n p) ∷ s.hands }) q ≡ weak s q
+pub owner_no_weak : (s : State) (d : ℕ) (n : Option ℕ) (p : Option Place) (q : ℕ)
+    → weak (record s { hands = held d (handle Owner n p) ∷ s.hands }) q ≡ weak s q
 unfolding weak
 owner_no_weak s d n p q = refl
 

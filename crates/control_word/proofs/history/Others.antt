@@ -1,5 +1,6 @@
 -- What a desk's half-done call knows, where another desk's event comes.
-use Rattle.std.proofs.Common.{◌≡◌, ◌≢◌, ℕ, suc, ◌+◌, ◌-◌, ◌<◌, ◌≤◌, Bool, true, false, List, get_or, Option, Some, refl, sym, ap, ◌∙◌, arith}
+use Rattle.std.proofs.Common.{◌≡◌, ◌≢◌, ℕ, suc, ◌+◌, ◌-◌, ◌<◌, ◌≤◌, Bool, true, false, List, get_or, Option, Some, refl, sym}
+use Rattle.std.proofs.Common.{ap, ◌∙◌, arith}
 use Rattle.control_word.proofs.history.Clearing.{was_made}
 use Rattle.control_word.proofs.history.Kept.{block_after, has_same, same_after, stored_same}
 use Rattle.control_word.proofs.history.Legal.{held_busy, sound}
@@ -24,7 +25,8 @@ use Rattle.control_word.specs.declared.view.Pending.{Pending}
 use Rattle.control_word.specs.declared.view.Pending.TheVariants.{Idle, Making, Merging, Parting, Paying, Visiting}
 
 -- what is held names an object that was made
-pub held_made : (z : Opening) (s : State) (d o : ℕ) (k : Kind) (p : Option Place) → Sound z s → Has (held d (handle k (Some o) p)) s.hands → o ≤ s.made
+pub held_made : (z : Opening) (s : State) (d o : ℕ) (k : Kind) (p : Option Place) → Sound z s
+    → Has (held d (handle k (Some o) p)) s.hands → o ≤ s.made
 held_made z s d o k p sound has =
     let busy = held_busy z s d o k p sound has in
     let t = was_made z s o sound (λ e. let u = sound.unmade_free o e in omega arith) in omega arith
@@ -93,7 +95,8 @@ module _ {V : Type 0} where
   plain_visits (Split to amount hs bs) plain o n = n
   plain_visits (Join other) plain o n = n
 
-  pub plain_values : (a : Event V) (values : ℕ → Option V) → IsPlain a → ((o : ℕ) (b : Bool) (v : V) → a ≡ Finish o b v → values o ≡ Some v) → Values values a
+  pub plain_values : (a : Event V) (values : ℕ → Option V) → IsPlain a
+      → ((o : ℕ) (b : Bool) (v : V) → a ≡ Finish o b v → values o ≡ Some v) → Values values a
   plain_values (Make b enabled null fields val) values plain f = tt
   plain_values (Share h p) values plain f = tt
   plain_values (Leave h last) values plain f = tt
@@ -113,7 +116,8 @@ module _ {V : Type 0} where
   plain_values (Join other) values plain f = tt
 
   -- an object that was made keeps its value, but for visits of it
-  pub valued_else : (s : State) (a : Event V) (values : ℕ → Option V) (o : ℕ) → o ≤ s.made → (Visits a o → ⊥) → valued s a values o ≡ values o
+  pub valued_else : (s : State) (a : Event V) (values : ℕ → Option V) (o : ℕ) → o ≤ s.made → (Visits a o → ⊥)
+      → valued s a values o ≡ values o
   valued_else s (Make b enabled null fields val) values o le n = put_other values (suc s.made) (Some val) o (λ e. omega arith)
   valued_else s (Share h p) values o le n = refl
   valued_else s (Leave h last) values o le n = refl

@@ -1,5 +1,6 @@
 -- Handing things from desk to desk keeps the counts.
-use Rattle.std.proofs.Common.{◌≡◌, ℕ, suc, ◌-◌, Bool, true, cond, ◌==◌, List, [], ◌∷◌, ◌++◌, map, length, refl, sym, ap, ◌∙◌, eq-eqb, arith}
+use Rattle.std.proofs.Common.{◌≡◌, ℕ, suc, ◌-◌, Bool, true, cond, ◌==◌, List, [], ◌∷◌, ◌++◌, map, length, refl, sym, ap, ◌∙◌}
+use Rattle.std.proofs.Common.{eq-eqb, arith}
 use Rattle.control_word.proofs.history.Moving.{count_same, fits_same, sound_hands, sound_moves, weak_same}
 use Rattle.control_word.proofs.history.Soundness.{OwnersFit, Sound}
 use Rattle.control_word.proofs.lists.Tallies.{held_self, held_true, num, num_cons, num_has, num_map, num_without, one_cond, store_found, stored_self}
@@ -31,7 +32,8 @@ num_passed same truth self was is p e (t ∷ ts) l h =
     )
 
 -- the stores may be told anew, with each block as often
-pub sound_stores : (z : Opening) (s : State) (r : List Stored) (n : ℕ) (j : ℕ → Bool) (a : ℕ → ℕ) → Sound z s → ((c : ℕ) → how_often c r ≡ how_often c s.stores)
+pub sound_stores : (z : Opening) (s : State) (r : List Stored) (n : ℕ) (j : ℕ → Bool) (a : ℕ → ℕ) → Sound z s
+    → ((c : ℕ) → how_often c r ≡ how_often c s.stores)
     → Sound z (record s { stores = r; names = n; joined = j; allowance = a })
 unfolding count weak
 sound_stores z s r n j a sound same = record {
@@ -49,7 +51,8 @@ sound_stores z s r n j a sound same = record {
   cleared = sound.cleared;
 }
 
-hands_tally : (k : Kind) (q : ℕ) (l m : List Held) (r : List Handle) → num (λ (x : Held). is_on k q x.handle) l ≡ num (λ (x : Held). is_on k q x.handle) m
+hands_tally : (k : Kind) (q : ℕ) (l m : List Held) (r : List Handle)
+    → num (λ (x : Held). is_on k q x.handle) l ≡ num (λ (x : Held). is_on k q x.handle) m
     → tally k q (map (λ x. x.handle) l ++ r) ≡ tally k q (map (λ x. x.handle) m ++ r)
 hands_tally k q l m r e =
     omega (
@@ -79,7 +82,8 @@ sound_split z s d e amount hs bs sound hh hb =
     let r = passed same_stored (λ (b : Block). stored d b.0) (λ b. stored e b.0) bs s.stores in
     let t : State = record s { hands = l } in
     let same : (k : Kind) (q : ℕ) → num (λ (x : Held). is_on k q x.handle) l ≡ num (λ (x : Held). is_on k q x.handle) s.hands =
-    λ k q. num_passed same_held held_true held_self (λ (h : Handle). held d h) (λ h. held e h) (λ (x : Held). is_on k q x.handle) (λ u. refl) hs s.hands hh in
+    λ k q. num_passed same_held held_true held_self (λ (h : Handle). held d h) (λ h. held e h) (λ (x : Held). is_on k q x.handle)
+    (λ u. refl) hs s.hands hh in
     sound_stores z t r (suc s.names) s.joined (put (put s.allowance d (s.allowance d - amount)) e amount)
     (sound_hands z s l sound (λ q. fits_same _ _ _ (sound.owners q) (hands_count s l q (same Owner q)))
     (λ q busy. let u = hands_weak s l q (same Weak q) in omega arith))
@@ -113,7 +117,8 @@ sound_join z s d e sound =
     let t : State = record s { hands = l; object = f } in
     sound_stores z t (map (λ (x : Stored). stored (renamed e d x.desk) x.block) s.stores) s.names _ _
     (sound_moves z s l f s.cell sound (record {
-      owners = λ q. handed_fits e d (s.object q).phase _ (fits_same _ _ _ (sound.owners q) (count_same s l f (λ q. refl) q ∙ hands_count s l q (same Owner q)));
+      owners = λ q. handed_fits e d (s.object q).phase _
+          (fits_same _ _ _ (sound.owners q) (count_same s l f (λ q. refl) q ∙ hands_count s l q (same Owner q)));
       weaks = λ q busy. let u = weak_same s l f (λ q. refl) q in let w = hands_weak s l q (same Weak q) in
           let c = handed_common e d (s.object q).phase in omega arith;
       block = λ q. refl;

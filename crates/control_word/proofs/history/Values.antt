@@ -14,7 +14,8 @@ use Rattle.control_word.specs.declared.event.Event.TheVariants.{Share, Split, Sw
 
 module _ {V : Type 0} where
   -- what has a value has one after an event, and a new object has one
-  has_value_after : (s : State) (d : ℕ) (a : Event V) (f : ℕ → Option V) (o : ℕ) → (o ≤ s.made → (x : V) × (f o ≡ Some x)) → o ≤ (after s d a).made
+  has_value_after : (s : State) (d : ℕ) (a : Event V) (f : ℕ → Option V) (o : ℕ) → (o ≤ s.made → (x : V) × (f o ≡ Some x))
+      → o ≤ (after s d a).made
       → (x : V) × (valued s a f o ≡ Some x)
   has_value_after s d (Make b enabled null fields val) f o before le = ⊎_elim
       (λ (q : o ≡ suc s.made). (val, put_same f (suc s.made) (Some val) o q))

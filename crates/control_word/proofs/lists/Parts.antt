@@ -1,5 +1,6 @@
 -- The part of a list that is one desk's, and what changes of others' parts leave of it.
-use Rattle.std.proofs.Common.{◌≡◌, ◌≢◌, ℕ, Bool, true, ◌==◌, List, [], ◌∷◌, map, refl, sym, ap, ◌∙◌, inl, inr, ⊎_elim, eq-eqb, ne_eqb}
+use Rattle.std.proofs.Common.{◌≡◌, ◌≢◌, ℕ, Bool, true, ◌==◌, List, [], ◌∷◌, map, refl, sym, ap, ◌∙◌, inl, inr, ⊎_elim, eq-eqb}
+use Rattle.std.proofs.Common.{ne_eqb}
 use Rattle.std.proofs.lemmas.Bool.{cases_eq, cond_both, cond-true, cond-false, eqb-true}
 use Rattle.std.specs.List.{filter}
 use Rattle.control_word.specs.State.{Has, passed, without}
@@ -46,7 +47,8 @@ module _ {A : Type 0} (who : A → ℕ) (d : ℕ) where
         part_other (is t) (passed same was is ts (without same (was t) l)) (m t)
         ∙ (part_passed was is ts (without same (was t) l) n m ∙ part_without (was t) l (n t))
 
-  pub part_map : (f : A → A) (l : List A) → ((x : A) → who x ≡ d → f x ≡ x) → ((x : A) → who x ≢ d → who (f x) ≢ d) → part (map f l) ≡ part l
+  pub part_map : (f : A → A) (l : List A) → ((x : A) → who x ≡ d → f x ≡ x) → ((x : A) → who x ≢ d → who (f x) ≢ d)
+      → part (map f l) ≡ part l
   part_map f [] mine other = refl
   part_map f (x ∷ l) mine other =
       ⊎_elim

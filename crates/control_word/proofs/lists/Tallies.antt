@@ -1,5 +1,6 @@
 -- How a change of the hands or of an object changes the counts.
-use Rattle.std.proofs.Common.{◌≡◌, ◌≢◌, ℕ, zero, suc, ◌+◌, ◌<◌, Bool, true, false, cond, ◌&&◌, ◌==◌, List, [], ◌∷◌, ◌++◌, map, length, Option, Some}
+use Rattle.std.proofs.Common.{◌≡◌, ◌≢◌, ℕ, zero, suc, ◌+◌, ◌<◌, Bool, true, false, cond, ◌&&◌, ◌==◌, List, [], ◌∷◌}
+use Rattle.std.proofs.Common.{◌++◌, map, length, Option, Some}
 use Rattle.std.proofs.Common.{None, refl, sym, ap, subst, ◌∙◌, inl, inr, ⊎_elim, eq-eqb, ne_eqb, length-append, arith}
 use Rattle.std.specs.List.{filter}
 use Rattle.std.proofs.lemmas.List.Elements.{filter-append}
@@ -21,7 +22,8 @@ module _ {A : Type 0} where
   put_other f i x j n = cond-false _ x (f j) (ne_eqb j i n)
 
   -- what holds of x at i, and of f elsewhere, holds of the changed function
-  pub put_cases : (P : ℕ → A → Type 0) (f : ℕ → A) (i : ℕ) (x : A) (j : ℕ) → (j ≡ i → P j x) → (j ≢ i → P j (f j)) → P j (put f i x j)
+  pub put_cases : (P : ℕ → A → Type 0) (f : ℕ → A) (i : ℕ) (x : A) (j : ℕ) → (j ≡ i → P j x)
+      → (j ≢ i → P j (f j)) → P j (put f i x j)
   put_cases P f i x j here else = ⊎_elim (λ e. subst (P j) (sym (put_same f i x j e)) (here e))
       (λ n. subst (P j) (sym (put_other f i x j n)) (else n)) (cases_eq j i)
 
@@ -180,6 +182,7 @@ tally_upto_empty k o (suc n) f e = omega (arith, tally_append k o (f n) (upto n 
 pub store_found : (b : ℕ) (l : List Stored) → 0 < how_often b l → (d : ℕ) × Has (stored d b) l
 store_found b [] h = absurd (omega arith)
 store_found b (x ∷ xs) h =
-    cond_both (x.block == b) (x ∷ filter (λ y. y.block == b) xs) (filter (λ y. y.block == b) xs) (λ l. 0 < length l → (d : ℕ) × Has (stored d b) (x ∷ xs))
+    cond_both (x.block == b) (x ∷ filter (λ y. y.block == b) xs) (filter (λ y. y.block == b) xs)
+    (λ l. 0 < length l → (d : ℕ) × Has (stored d b) (x ∷ xs))
     (λ e p. (x.desk, inl (let q = eqb-true x.block b e in λ i. record { desk = x.desk; block = sym q i })))
     (λ e p. let t = store_found b xs p in (t.0, inr t.1)) h

@@ -20,7 +20,8 @@ module _ {V : Type 0} where
   module _ (z : Opening) (words : List ℕ) (views : List (View V)) (h : List (Entry V)) (stands : Stands z words views h)
       (i : ℕ) (v : View V) (at : get_elem? views i ≡ some v) (awake : v.spent ≡ false) where
     -- funds are brought, under a handle in hand
-    pub bring_step : (k : Kind) (o f : ℕ) (p : Option Place) → v.pending ≡ Idle → Has (held v.name (handle k (Some o) p)) (leads z h).hands → f ≤ 256
+    pub bring_step : (k : Kind) (o f : ℕ) (p : Option Place) → v.pending ≡ Idle
+        → Has (held v.name (handle k (Some o) p)) (leads z h).hands → f ≤ 256
         → let w = counts_at (blocks_of (leads z h)) k o in
         Stands z (set words w (get_or words w 0 + 4294967296 * f)) (set views i (record v { pending = Paying k o p w f 0; seen = h })) h
     bring_step k o f p idle has few =

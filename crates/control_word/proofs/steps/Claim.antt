@@ -1,5 +1,6 @@
 -- The claim: a new object in the prepared block.
-use Rattle.std.proofs.Common.{◌≡◌, ◌≢◌, ℕ, zero, suc, ◌+◌, ◌-◌, cond, ◌<◌, ◌≤◌, ◌⊎◌, Bool, false, ◌==◌, List, [], ◌∷◌, length, get_or, slice_index, set}
+use Rattle.std.proofs.Common.{◌≡◌, ◌≢◌, ℕ, zero, suc, ◌+◌, ◌-◌, cond, ◌<◌, ◌≤◌, ◌⊎◌, Bool, false, ◌==◌, List, []}
+use Rattle.std.proofs.Common.{◌∷◌, length, get_or, slice_index, set}
 use Rattle.std.proofs.Common.{Option, Some, None, refl, sym, ap, subst, ◌∙◌, inl, inr, ⊎_elim, eq-eqb, ne_eqb, arith}
 use Rattle.std.proofs.lemmas.Bool.{cases_eq, cases_lt, cond-true, cond-false}
 use mathlib.Core.Option.{some}
@@ -45,16 +46,19 @@ packed_put : (f g : ℕ → ℕ) (x : Handle) → ((r : ℕ) → x.object ≡ So
 unfolding packed
 packed_put f g x e = ap (λ n. n + place_bits x.place) (owned_put f g x.object e)
 
-words_put : (f g : ℕ → ℕ) (x : Object) → ((m r : ℕ) → m < 3 → (x.member m).object ≡ Some r → f r ≡ g r) → object_words f x ≡ object_words g x
+words_put : (f g : ℕ → ℕ) (x : Object) → ((m r : ℕ) → m < 3 → (x.member m).object ≡ Some r → f r ≡ g r)
+    → object_words f x ≡ object_words g x
 unfolding object_words
 words_put f g x e =
     let a = packed_put f g (x.member 0) (λ r t. e 0 r (omega arith) t) in
     let b = packed_put f g (x.member 1) (λ r t. e 1 r (omega arith) t) in
     let c = packed_put f g (x.member 2) (λ r t. e 2 r (omega arith) t) in
-    λ i. flags_of x.enabled x.null ∷ slice_index x.fields 0 ∷ slice_index x.fields 1 ∷ slice_index x.fields 2 ∷ slice_index x.fields 3 ∷ a i ∷ b i ∷ c i ∷ []
+    λ i. flags_of x.enabled x.null ∷ slice_index x.fields 0 ∷ slice_index x.fields 1 ∷ slice_index x.fields 2 ∷ slice_index x.fields 3
+    ∷ a i ∷ b i ∷ c i ∷ []
 
 -- the words of an object with empty members
-words_plain : (f : ℕ → ℕ) (x : Object) (j : ℕ) → 5 ≤ j → j < 8 → ((m : ℕ) → m < 3 → x.member m ≡ empty (kind_of_member m)) → get_or (object_words f x) j 0 ≡ 0
+words_plain : (f : ℕ → ℕ) (x : Object) (j : ℕ) → 5 ≤ j → j < 8 → ((m : ℕ) → m < 3 → x.member m ≡ empty (kind_of_member m))
+    → get_or (object_words f x) j 0 ≡ 0
 unfolding object_words
 words_plain f x zero le lt e = absurd (omega arith)
 words_plain f x (suc zero) le lt e = absurd (omega arith)
@@ -156,12 +160,14 @@ module _ (z : Opening) (s : State) (sound : Sound z s) (d b : ℕ) (mine : Has (
       (7 + m))) i (λ r e. block_put r (member_made z s sound q m r lt le e)) in
       let w0 = w 0 (omega arith) in let w1 = w 1 (omega arith) in let w2 = w 2 (omega arith) in
       ap (λ u. member_funds (blocks_of t) taken u i) (put_other s.object n x q (λ e. omega arith)) ∙ omega arith) in
-      let none : member_funds (blocks_of t) taken (put s.object n x n) i ≡ 0 = ap (λ u. member_funds (blocks_of t) taken u i) (put_same s.object n x n refl) in
+      let none : member_funds (blocks_of t) taken (put s.object n x n) i ≡ 0 =
+      ap (λ u. member_funds (blocks_of t) taken u i) (put_same s.object n x n refl) in
       omega arith
 
   own_words : (words : List ℕ) (u f v g : ℕ → ℕ) (known : List ℕ) → ((j : ℕ) → j < 5 → get_or words (spot b (2 + j)) 0 ≡ get_or known j 0)
       → known ≡ flags_of enabled null ∷ fields
-      → ((k : ℕ) → k < 10 → (u (spot b k) ≡ 0) × (v (spot b k) ≡ 0)) → f (spot b 1) ≡ 1 → g (spot b 1) ≡ 0 → ((k : ℕ) → k < 10 → k ≢ 1
+      → ((k : ℕ) → k < 10 → (u (spot b k) ≡ 0) × (v (spot b k) ≡ 0)) → f (spot b 1) ≡ 1 → g (spot b 1) ≡ 0
+      → ((k : ℕ) → k < 10 → k ≢ 1
       → (f (spot b k) ≡ 0) × (g (spot b k) ≡ 0))
       → (j : ℕ) → j < 10 → j ≢ 0 → Says s u f b j (get_or words (spot b j) 0)
       → Says (made_state z s d b enabled null fields) v g b j (get_or words (spot b j) 0)
@@ -249,7 +255,8 @@ module _ {V : Type 0} where
         j lt (λ k. ne (u, k)) (subst (λ y. Says s (owed views) (more z s views stands.taken) y j (get_or words (spot y j) 0)) u says)))
         (λ (n : c ≢ b.0). ⊎_elim (λ l. inl (l.0, l.1, made_vacant z s fine v.name b.0 mine enabled null fields c n l.2))
         (λ u. inr (let mw = made_words z s fine v.name b.0 mine enabled null fields c j n in
-        let sa = same (spot c j) (λ e. n ((spot_apart c j b.0 1 hc.0 hb.0 lt (omega arith) e).0)) in let x = moved (spot c j) in let x0 = x.0 in let x1 = x.1 in
+        let sa = same (spot c j) (λ e. n ((spot_apart c j b.0 1 hc.0 hb.0 lt (omega arith) e).0)) in let x = moved (spot c j) in
+        let x0 = x.0 in let x1 = x.1 in
         let y = bank' (spot c j) in omega arith)) says)
         (cases_eq c b.0))
         (inr (let f = free 0 (omega arith) in let f1 = f.1 in let f3 = f.3 in
@@ -261,12 +268,14 @@ module _ {V : Type 0} where
         stands.most stands.blank
         (record {
           members = λ c m hc lt q. ⊎_elim
-              (λ (u : c ≡ b.0). ap (λ y. stands.taken (spot y (7 + m))) u ∙ (vacant_free z words views h stands i v at awake b.0 (7 + m) mine (omega arith)).2)
+              (λ (u : c ≡ b.0). ap (λ y. stands.taken (spot y (7 + m))) u
+              ∙ (vacant_free z words views h stands i v at awake b.0 (7 + m) mine (omega arith)).2)
               (λ (n : c ≢ b.0).
               let la : put s.latest b.0 (suc s.made) c ≡ s.latest c = put_other s.latest b.0 (suc s.made) c n in
               let low = fine.latest_made c in
               let ob = put_other s.object (suc s.made) x (s.latest c) (λ u. omega arith) in
-              stands.bare.members c m hc lt (ap (λ (y : Object). (y.member m).object) (sym (ap (put s.object (suc s.made) x) la ∙ ob)) ∙ q)) (cases_eq c b.0);
+              stands.bare.members c m hc lt
+              (ap (λ (y : Object). (y.member m).object) (sym (ap (put s.object (suc s.made) x) la ∙ ob)) ∙ q)) (cases_eq c b.0);
           frees = stands.bare.frees;
         })
         tt

@@ -23,7 +23,8 @@ use Rattle.control_word.specs.declared.view.View.{View}
 module _ {V : Type 0} where
   -- the desk that ends the object takes a member's value out
   pub clear_step : (z : Opening) (words : List ℕ) (views : List (View V)) (h : List (Entry V)) (stands : Stands z words views h)
-      (i : ℕ) (v : View V) (at : get_elem? views i ≡ some v) (awake : v.spent ≡ false) (o m : ℕ) → ((leads z h).object o).phase ≡ ending v.name → m < 3
+      (i : ℕ) (v : View V) (at : get_elem? views i ≡ some v) (awake : v.spent ≡ false) (o m : ℕ)
+      → ((leads z h).object o).phase ≡ ending v.name → m < 3
       → v.pending ≡ Idle
       → let s = leads z h in let k = spot (s.object o).block (7 + m) in let old = (s.object o).member m in
       HasRoom (after {V = V} s v.name (ClearMember o m old)) v.name

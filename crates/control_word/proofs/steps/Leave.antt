@@ -1,5 +1,6 @@
 -- Leave: one owner less, the last where the whole word was 1.
-use Rattle.std.proofs.Common.{◌-◌, ◌*◌, ◌≤◌, ◌≡◌, ℕ, ◌+◌, false, cond, ◌==◌, List, ◌∷◌, get_or, set, Option, refl, sym, ap, ◌∙◌, ⊎_elim, arith}
+use Rattle.std.proofs.Common.{◌-◌, ◌*◌, ◌≤◌, ◌≡◌, ℕ, ◌+◌, false, cond, ◌==◌, List, ◌∷◌, get_or, set, Option, refl, sym, ap}
+use Rattle.std.proofs.Common.{◌∙◌, ⊎_elim, arith}
 use Rattle.std.proofs.lemmas.Bool.{cond_both}
 use mathlib.Core.Option.{some}
 use lib.ListN.{get_elem?}
@@ -50,7 +51,8 @@ module _ {V : Type 0} where
       let enough = test.0 in
       let members' : (q : ℕ) → members (f q) ≡ members (s.object q) =
       λ q. put_cases (λ j t. members t ≡ members (s.object j)) s.object o y q (λ e. cond_both last (moved_to (ending d) x) x
-      (λ t. members t ≡ members (s.object q)) (λ t. ap (λ n. members (s.object n)) (sym e)) (λ t. ap (λ n. members (s.object n)) (sym e))) (λ n. refl) in
+      (λ t. members t ≡ members (s.object q)) (λ t. ap (λ n. members (s.object n)) (sym e))
+      (λ t. ap (λ n. members (s.object n)) (sym e))) (λ n. refl) in
       let still : (q : ℕ) → moved_to unmade (f q) ≡ moved_to unmade (s.object q) =
       λ q. put_cases (λ j t. moved_to unmade t ≡ moved_to unmade (s.object j)) s.object o y q
       (λ e. cond_both last (moved_to (ending d) x) x (λ t. moved_to unmade t ≡ moved_to unmade (s.object q)) (λ t. ap

@@ -52,7 +52,8 @@ module _ {V : Type 0} where
         let w = sees v (entry v.name a ∷ h) in
         let quiet = calm z words views h stands i v at awake idle (entry v.name a ∷ h) in
         let u : owed views ≡ owed (set views i w) = fun_ext (λ m. (quiet m).0) in
-        let g : ◌≡◌ {A = ℕ → ℕ} (more z s views stands.taken) (more z s (set views i w) stands.taken) = fun_ext (λ m. let q = quiet m in let x = q.0 in
+        let g : ◌≡◌ {A = ℕ → ℕ} (more z s views stands.taken) (more z s (set views i w) stands.taken) =
+        fun_ext (λ m. let q = quiet m in let x = q.0 in
         let y = q.1 in let c = q.2 in omega arith) in
         plain_step z words words views h i v a Idle stands.taken stands at awake plain tt (λ c. omega arith) asks vals
         (subst (λ t. bag_size t v.name ≤ t.allowance v.name) (sym same) ((allowed z h stands.legal).rooms v.name))
@@ -89,7 +90,8 @@ module _ {V : Type 0} where
 
     -- a number that fits what the count may be told as
     pub count_as_step : (k : Kind) (n : ℕ) → Has (held v.name (handle k (Some o) p)) (leads z h).hands
-        → (n ≡ 0 → get_or words (spot ((leads z h).object o).block 0) 0 ≡ 0) → (get_or words (spot ((leads z h).object o).block 0) 0 ≡ 0 → n ≡ 0)
+        → (n ≡ 0 → get_or words (spot ((leads z h).object o).block 0) 0 ≡ 0)
+        → (get_or words (spot ((leads z h).object o).block 0) 0 ≡ 0 → n ≡ 0)
         → n ≤ count (leads z h) o → (HasWhole (leads z h) v.name → n ≡ count (leads z h) o)
         → let e = entry v.name (Count (handle k (Some o) p) n) in Stands z words (set views i (sees v (e ∷ h))) (e ∷ h)
     count_as_step k n holds to from low whole =
@@ -108,7 +110,8 @@ module _ {V : Type 0} where
       let w = sees v h in
       let quiet = calm z words views h stands i v at awake idle h in
       let u : owed views ≡ owed (set views i w) = fun_ext (λ m. (quiet m).0) in
-      let g : ◌≡◌ {A = ℕ → ℕ} (more z s views stands.taken) (more z s (set views i w) stands.taken) = fun_ext (λ m. let q = quiet m in let x = q.0 in
+      let g : ◌≡◌ {A = ℕ → ℕ} (more z s views stands.taken) (more z s (set views i w) stands.taken) =
+      fun_ext (λ m. let q = quiet m in let x = q.0 in
       let y = q.1 in let c = q.2 in omega arith) in
       still_step z words words views h i v Idle stands.taken stands at awake tt (λ c. omega arith)
       (subst (λ (y : ℕ → ℕ). Shows z words y (more z s (set views i w) stands.taken) s) u (subst (λ (y : ℕ
@@ -186,7 +189,8 @@ module _ {V : Type 0} where
   module _ (z : Opening) (words : List ℕ) (views : List (View V)) (h : List (Entry V)) (stands : Stands z words views h)
       (i : ℕ) (v : View V) (at : get_elem? views i ≡ some v) (awake : v.spent ≡ false) (idle : v.pending ≡ Idle) where
     -- Read: a field of the owned object
-    pub read_step : (o : ℕ) (p : Place) → Has (held v.name (owner o (Some p))) (leads z h).hands → p.block.0 ≡ ((leads z h).object o).block → p.field < 4
+    pub read_step : (o : ℕ) (p : Place) → Has (held v.name (owner o (Some p))) (leads z h).hands
+        → p.block.0 ≡ ((leads z h).object o).block → p.field < 4
         → let e = entry v.name (Read (owner o (Some p)) (get_or words (spot ((leads z h).object o).block (3 + p.field)) 0)) in
         Stands z words (set views i (sees v (e ∷ h))) (e ∷ h)
     read_step o p holds inside low =

@@ -1,5 +1,6 @@
 -- A cell gets funds in place of those taken.
-use Rattle.std.proofs.Common.{◌≡◌, ◌≢◌, ℕ, ◌+◌, ◌-◌, ◌*◌, ◌≤◌, false, List, get_or, set, Option, Some, refl, sym, ap, ◌∙◌, inl, ⊎_elim, arith}
+use Rattle.std.proofs.Common.{◌≡◌, ◌≢◌, ℕ, ◌+◌, ◌-◌, ◌*◌, ◌≤◌, false, List, get_or, set, Option, Some, refl, sym, ap, ◌∙◌}
+use Rattle.std.proofs.Common.{inl, ⊎_elim, arith}
 use Rattle.std.proofs.lemmas.Bool.{cases_eq}
 use Rattle.std.proofs.lemmas.List.{get_or-set_same, get_or-set_other, length-set}
 use mathlib.Core.Option.{some}
@@ -57,9 +58,11 @@ module _ {V : Type 0} where
           let a0 = ap (λ y. worth (blocks_of s) y (stands.taken j) m) (sym is) ∙ cond_one w m (256 - stands.taken j) in
           let a1 = ap (λ y. worth (blocks_of s) y 0 m) (sym is) ∙ cond_one w m 256 in
           let a2 : 256 * one_at w m ≡ (256 - stands.taken j) * one_at w m + t * one_at w m = ⊎_elim
-          (λ q. let y = one_here w m q in let y0 : (256 - stands.taken j) * one_at w m ≡ (256 - stands.taken j) * 1 = ap (λ n. (256 - stands.taken j) * n) y in
+          (λ q. let y = one_here w m q in let y0 : (256 - stands.taken j) * one_at w m ≡ (256 - stands.taken j) * 1 = ap
+          (λ n. (256 - stands.taken j) * n) y in
           let y1 : t * one_at w m ≡ t * 1 = ap (λ n. t * n) y in omega arith)
-          (λ q. let y = one_else w m q in let y0 : (256 - stands.taken j) * one_at w m ≡ (256 - stands.taken j) * 0 = ap (λ n. (256 - stands.taken j) * n) y in
+          (λ q. let y = one_else w m q in let y0 : (256 - stands.taken j) * one_at w m ≡ (256 - stands.taken j) * 0 = ap
+          (λ n. (256 - stands.taken j) * n) y in
           let y1 : t * one_at w m ≡ t * 0 = ap (λ n. t * n) y in omega arith) (cases_eq m w) in
           omega arith in
           let enough : 17179869184 * t ≤ get_or words j 0 = full in
@@ -73,7 +76,8 @@ module _ {V : Type 0} where
             ⊎_elim
                 (λ (q : m ≡ j).
                 let y = put_same stands.taken j 0 m q in let y0 = ap stands.taken q in
-                let r : get_or (set words j n) m 0 ≡ n = ap (λ i. get_or (set words j n) i 0) q ∙ get_or-set_same words j n 0 (cell_inside z words views h stands i v at awake c kept) in
+                let r : get_or (set words j n) m 0 ≡ n =
+                ap (λ i. get_or (set words j n) i 0) q ∙ get_or-set_same words j n 0 (cell_inside z words views h stands i v at awake c kept) in
                 let r0 = ap (λ i. get_or words i 0) q in omega arith)
                 (λ (q : m ≢ j). let y = put_other stands.taken j 0 m q in let r = get_or-set_other words j m n 0 q in omega arith) (cases_eq m j),
             omega arith,
@@ -109,7 +113,8 @@ module _ {V : Type 0} where
           full : 17179869184 * t ≤ get_or words (cell_at z (leads z h) c) 0
           full = go c kept was
             where
-              go : (d : Cell) → IsKept (leads z h) d → stands.taken (cell_at z (leads z h) d) ≡ t → 17179869184 * t ≤ get_or words (cell_at z (leads z h) d) 0
+              go : (d : Cell) → IsKept (leads z h) d → stands.taken (cell_at z (leads z h) d) ≡ t
+                  → 17179869184 * t ≤ get_or words (cell_at z (leads z h) d) 0
               go (Free d) op e = let a = stands.shows.free d (let t = cells_led z h in omega arith) in omega arith
               go (Member o m) op e =
                   let a = owed_paid z words views h stands (cell_at z (leads z h) (Member o m)) in

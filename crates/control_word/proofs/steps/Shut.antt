@@ -1,5 +1,6 @@
 -- The door of a visit is shut.
-use Rattle.std.proofs.Common.{◌≡◌, ◌≢◌, ℕ, ◌+◌, ◌<◌, ◌==◌, false, cond, List, get_or, set, Option, Some, refl, ap, ◌∙◌, ⊎_elim, eq-eqb, ne_eqb, arith}
+use Rattle.std.proofs.Common.{◌≡◌, ◌≢◌, ℕ, ◌+◌, ◌<◌, ◌==◌, false, cond, List, get_or, set, Option, Some, refl, ap, ◌∙◌}
+use Rattle.std.proofs.Common.{⊎_elim, eq-eqb, ne_eqb, arith}
 use Rattle.std.proofs.lemmas.Bool.{cases_eq, cond-true, cond-false}
 use mathlib.Core.Option.{some}
 use lib.ListN.{get_elem?}

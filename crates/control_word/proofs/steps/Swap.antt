@@ -1,5 +1,6 @@
 -- A cell gets a new value, and the old one comes out.
-use Rattle.std.proofs.Common.{◌≡◌, ◌≢◌, ℕ, ◌+◌, ◌-◌, ◌*◌, false, List, ◌∷◌, get_or, set, refl, sym, ap, subst, ◌∙◌, inl, ⊎_elim, arith}
+use Rattle.std.proofs.Common.{◌≡◌, ◌≢◌, ℕ, ◌+◌, ◌-◌, ◌*◌, false, List, ◌∷◌, get_or, set, refl, sym, ap, subst, ◌∙◌, inl}
+use Rattle.std.proofs.Common.{⊎_elim, arith}
 use Rattle.std.proofs.lemmas.Bool.{cases_eq}
 use mathlib.Core.Option.{some}
 use lib.ListN.{get_elem?}
@@ -105,7 +106,8 @@ module _ {V : Type 0} where
               members = λ c m hc lt e. ⊎_elim
                   (λ (q : spot c (7 + m) ≡ spot (s.object o).block (7 + l)). put_same stands.taken (spot (s.object o).block (7 + l)) 0 (spot c (7 + m)) q)
                   (λ (q : spot c (7 + m) ≢ spot (s.object o).block (7 + l)).
-                  b.members c m hc lt (sym (put_cases (λ j y. j ≡ s.latest c → (y.member m).object ≡ ((s.object j).member m).object) s.object o x (s.latest c)
+                  b.members c m hc lt
+                  (sym (put_cases (λ j y. j ≡ s.latest c → (y.member m).object ≡ ((s.object j).member m).object) s.object o x (s.latest c)
                   (λ r r2. let bl = latest_is z s c o (sound z h stands.legal) op.1 (r) in
                   ap (λ (y : Handle). y.object) (put_other (s.object o).member l new m (λ w. q (λ i. spot (bl i) (7 + w i))))
                   ∙ ap (λ n. ((s.object n).member m).object) (sym r)) (λ r r2. refl) refl)
@@ -114,10 +116,12 @@ module _ {V : Type 0} where
             }
 
         -- where two functions of a word differ by what was taken
-        shows_swap : (d : Cell) (op : IsKept (leads z h) d) (new : Handle) (n : ℕ) (u g : ℕ → ℕ) → InHand (leads z h) v.name (kind_of (leads z h) d) new
+        shows_swap : (d : Cell) (op : IsKept (leads z h) d) (new : Handle) (n : ℕ) (u g : ℕ → ℕ)
+            → InHand (leads z h) v.name (kind_of (leads z h) d) new
             → let s = leads z h in let k = cell_at z s d in n ≡ packed (blocks_of s) new
             → get_or words k 0 ≡ packed (blocks_of s) (cell_of s d) + 17179869184 * stands.taken k
-            → ((m : ℕ) → (u m ≡ owed views m) × (g m + 17179869184 * stands.taken m ≡ more z s views stands.taken m + 17179869184 * put stands.taken k 0 m))
+            → ((m : ℕ) → (u m ≡ owed views m)
+            × (g m + 17179869184 * stands.taken m ≡ more z s views stands.taken m + 17179869184 * put stands.taken k 0 m))
             → Shows z (set words k n) u g (swaps v.name d new (cell_of s d) s)
         shows_swap (Free d) op new n u g hand is read same =
             let s = leads z h in

@@ -1,5 +1,6 @@
 -- One weak handle less, or the owners' common count; the block is vacant where the whole word was 1.
-use Rattle.std.proofs.Common.{None, ◌&&◌, ◌-◌, ◌≡◌, ◌≢◌, ℕ, suc, ◌+◌, ◌*◌, ◌<◌, ◌≤◌, true, false, cond, ◌==◌, List, ◌∷◌, get_or, set, Option, Some, refl, sym, ap}
+use Rattle.std.proofs.Common.{None, ◌&&◌, ◌-◌, ◌≡◌, ◌≢◌, ℕ, suc, ◌+◌, ◌*◌, ◌<◌, ◌≤◌, true, false, cond, ◌==◌, List}
+use Rattle.std.proofs.Common.{◌∷◌, get_or, set, Option, Some, refl, sym, ap}
 use Rattle.std.proofs.Common.{◌∙◌, ⊎_elim, ne_eqb, arith, eq-eqb}
 use Rattle.std.proofs.lemmas.Bool.{cases_eq}
 use mathlib.Core.Option.{some}
@@ -83,7 +84,8 @@ module _ {V : Type 0} where
         settled_stores z words views h stands i v at awake (WeakLeave (weak_of o p) vacant) hs s.object rest Weak o (get_or words k 0 - a) f tt out
             ((holds, refl, refl), test.1 ∙ vacant_test (s.object o).phase (weak s o) made there) tt busy refl
             (λ q t. sym ((less_weaks s d o p holds q).2))
-            (λ q t. ap (λ m. m + common (s.object q).phase) (sym ((less_weaks s d o p holds q).1 (⊎_elim (λ n. absurd (n refl)) (λ n. n) t)))) (λ q. refl)
+            (λ q t. ap (λ m. m + common (s.object q).phase) (sym ((less_weaks s d o p holds q).1 (⊎_elim (λ n. absurd (n refl)) (λ n. n) t))))
+            (λ q. refl)
             (let u = (less_weaks s d o p holds o).0 refl in omega arith)
             (let t = bag_fewer d (weak_of o p) s.hands holds in let u = (allowed z h stands.legal).rooms v.name in omega arith),
       )

@@ -25,7 +25,8 @@ module _ {V : Type 0} where
   module _ (z : Opening) (words : List ℕ) (views : List (View V)) (h : List (Entry V)) (stands : Stands z words views h)
       (i : ℕ) (v : View V) (at : get_elem? views i ≡ some v) (awake : v.spent ≡ false) (idle : v.pending ≡ Idle) (o : ℕ) (p : Option Place) where
     -- one more weak handle of a busy object
-    pub weak_share_step : bag_size (leads z h) v.name < (leads z h).allowance v.name → IsBusy (leads z h) o → Asks {V = V} (leads z h) v.name (WeakShare o p)
+    pub weak_share_step : bag_size (leads z h) v.name < (leads z h).allowance v.name → IsBusy (leads z h) o
+        → Asks {V = V} (leads z h) v.name (WeakShare o p)
         → let k = spot ((leads z h).object o).block 1 in let e = entry v.name (WeakShare o p) in
         Stands z (set words k (suc (get_or words k 0))) (set views i (sees v (e ∷ h))) (e ∷ h)
     weak_share_step more busy asks =

@@ -1,5 +1,6 @@
 -- The words of an own vacant block are written: the weak word, the flags and the fields.
-use Rattle.std.proofs.Common.{◌≡◌, ◌≢◌, ℕ, zero, suc, ◌+◌, ◌-◌, cond, ◌<◌, ◌≤◌, Bool, true, false, ◌==◌, List, [], ◌∷◌, length, get_or, slice_index}
+use Rattle.std.proofs.Common.{◌≡◌, ◌≢◌, ℕ, zero, suc, ◌+◌, ◌-◌, cond, ◌<◌, ◌≤◌, Bool, true, false, ◌==◌, List, []}
+use Rattle.std.proofs.Common.{◌∷◌, length, get_or, slice_index}
 use Rattle.std.proofs.Common.{set, refl, sym, ap, subst, ◌∙◌, inl, inr, ⊎_elim, eq-eqb, ne_eqb, arith}
 use Rattle.std.proofs.lemmas.Bool.{cases_eq, cases_lt, cond-false}
 use Rattle.std.proofs.lemmas.List.{get_or-set_same, get_or-set_other, length-set}
@@ -68,7 +69,8 @@ module _ {V : Type 0} where
     adds_mine e b (Visiting o p w x) mine n fits = cond-false _ 4 0 (ne_eqb (spot b 1) w (λ q. let t = q ∙ fits.1 in omega arith))
 
     -- what the others have added to the weak word of an own vacant block
-    pub others_none : (b : ℕ) (w : View V) → Has (stored v.name b) (leads z h).stores → adds w.pending (spot b 1) ≡ 0 → added (set views i w) (spot b 1) ≡ 0
+    pub others_none : (b : ℕ) (w : View V) → Has (stored v.name b) (leads z h).stores → adds w.pending (spot b 1) ≡ 0
+        → added (set views i w) (spot b 1) ≡ 0
     others_none b w mine none =
         total_none (λ u. adds u.pending (spot b 1)) (set views i w)
         (λ j u e. ⊎_elim (λ (t : (j ≡ i) × (w ≡ u)). subst (λ (x : View V). adds x.pending (spot b 1) ≡ 0) t.1 none) (λ (t : (j ≢ i)
@@ -102,7 +104,8 @@ module _ {V : Type 0} where
 
     -- what other half-done calls know of is not at a block that the desk has
     pub words_mine : (b k n d : ℕ) → Has (stored v.name b) (leads z h).stores → k < 10 → d ≢ v.name
-        → (c : ℕ) → Has (stored d c) (leads z h).stores → (j : ℕ) → j < 5 → get_or (set words (spot b k) n) (spot c (2 + j)) 0 ≡ get_or words (spot c (2 + j)) 0
+        → (c : ℕ) → Has (stored d c) (leads z h).stores → (j : ℕ) → j < 5
+        → get_or (set words (spot b k) n) (spot c (2 + j)) 0 ≡ get_or words (spot c (2 + j)) 0
     words_mine b k n d mine lt other c theirs j l =
         let fine = sound z h stands.legal in
         let hb = (fine.stores v.name b mine).1 in let hc = (fine.stores d c theirs).1 in
@@ -163,7 +166,8 @@ module _ {V : Type 0} where
             (λ e. counts m o (held_busy z (leads z h) d o m p (sound z h stands.legal) f.0) (e ∙ f.1)))
 
     -- a change between half-done Makes and none moves no funds
-    pub made_more : (p : Pending V) (seen : List (Entry V)) (m : ℕ) → ((x : ℕ) → owes v.pending x ≡ 0) → ((x : ℕ) → pays v.pending x ≡ 0) → ((x : ℕ)
+    pub made_more : (p : Pending V) (seen : List (Entry V)) (m : ℕ) → ((x : ℕ) → owes v.pending x ≡ 0)
+        → ((x : ℕ) → pays v.pending x ≡ 0) → ((x : ℕ)
         → owes p x ≡ 0) → ((x : ℕ) → pays p x ≡ 0)
         → let w : View V = record v { pending = p; seen = seen } in (owed (set views i w) m ≡ owed views m) × (paid (set views i w) m ≡ paid views m)
         × (added (set views i w) m + adds v.pending m ≡ added views m + adds p m)
@@ -198,7 +202,8 @@ module _ {V : Type 0} where
         let read = λ (m : ℕ). read_set words k 1 m (let l = spot_fits z b.0 1 hb (omega arith) in
         let t = stands.shows.sized in omega arith) 0 1 (omega arith) in
         still_step z words (set words k 1) views h i v p stands.taken stands at awake tt
-        (λ c. let q : ◌≡◌ {A = ℕ} (cond (spot c 2 == spot b.0 1) 1 0) 0 = cond-false _ 1 0 (ne_eqb (spot c 2) (spot b.0 1) (λ e. omega arith)) in omega arith)
+        (λ c. let q : ◌≡◌ {A = ℕ} (cond (spot c 2 == spot b.0 1) 1 0) 0 = cond-false _ 1 0 (ne_eqb (spot c 2) (spot b.0 1) (λ e. omega arith)) in
+        omega arith)
         (shows_all z words (set words k 1) (owed views) (more z s views stands.taken) (owed (set views i w)) (more z s (set views i w) stands.taken) s s
         (length-set words k 1) stands.shows (λ c y. y)
         (λ c j hc hj. let m = spot c j in let r = read m in let x = moved m in let x0 = x.0 in let x1 = x.1 in let x2 = x.2 in

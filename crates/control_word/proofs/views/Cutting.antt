@@ -1,5 +1,6 @@
 -- A view is cut in two after a split; no word changes.
-use Rattle.std.proofs.Common.{◌≡◌, ◌≢◌, ℕ, zero, suc, ◌+◌, ◌⊎◌, false, List, [], ◌∷◌, ◌++◌, length, set, refl, sym, ap, subst, ◌∙◌, inl, inr, ⊎_elim, arith}
+use Rattle.std.proofs.Common.{◌≡◌, ◌≢◌, ℕ, zero, suc, ◌+◌, ◌⊎◌, false, List, [], ◌∷◌, ◌++◌, length, set, refl, sym, ap, subst}
+use Rattle.std.proofs.Common.{◌∙◌, inl, inr, ⊎_elim, arith}
 use Rattle.std.proofs.lemmas.Bool.{cases_eq}
 use mathlib.Core.Path.{fun_ext}
 use mathlib.Core.Option.{some, some-injective, some-ne-none}
@@ -16,7 +17,8 @@ use Rattle.control_word.specs.declared.view.Pending.TheVariants.{Parting}
 use Rattle.control_word.specs.declared.view.View.{View}
 
 -- an element behind a list
-at_end : {A : Type 0} (l : List A) (a : A) (i : ℕ) (x : A) → get_elem? (l ++ a ∷ []) i ≡ some x → (get_elem? l i ≡ some x) ⊎ ((i ≡ length l) × (a ≡ x))
+at_end : {A : Type 0} (l : List A) (a : A) (i : ℕ) (x : A) → get_elem? (l ++ a ∷ []) i ≡ some x
+    → (get_elem? l i ≡ some x) ⊎ ((i ≡ length l) × (a ≡ x))
 at_end [] a zero x e = inr (refl, some-injective a x e)
 at_end [] a (suc i) x e = absurd (some-ne-none x (sym e))
 at_end (y ∷ l) a zero x e = inl e
@@ -39,7 +41,8 @@ module _ {V : Type 0} where
     part_step to busy = record {
       taken = stands.taken;
       legal = stands.legal;
-      shows = subst (λ (u : ℕ → ℕ). Shows z words u (more z s (set views i (stays v) ++ comes v to ∷ []) stands.taken) s) (fun_ext (λ m. sym (sums m).0))
+      shows = subst (λ (u : ℕ → ℕ). Shows z words u (more z s (set views i (stays v) ++ comes v to ∷ []) stands.taken) s)
+          (fun_ext (λ m. sym (sums m).0))
           (subst (λ (g : ℕ → ℕ). Shows z words (owed views) g s)
           (fun_ext (λ m. let x = sums m in let x1 = x.1 in let x2 = x.2 in
           let e : more z s views stands.taken m ≡ more z s (set views i (stays v) ++ comes v to ∷ []) stands.taken m = omega arith in e)) stands.shows);
@@ -48,7 +51,8 @@ module _ {V : Type 0} where
       bare = stands.bare;
       doors = λ b hb. let x = (sums (spot b 2)).2 in let d = stands.doors b hb in omega arith;
       team = record {
-        seated = λ j u e l. ⊎_elim (λ o. ⊎_elim (λ (t : (j ≡ i) × (stays v ≡ u)). subst (λ (x : View V). Seated words z h x) t.1 mine) (λ (t : (j ≢ i)
+        seated = λ j u e l. ⊎_elim
+            (λ o. ⊎_elim (λ (t : (j ≡ i) × (stays v ≡ u)). subst (λ (x : View V). Seated words z h x) t.1 mine) (λ (t : (j ≢ i)
             × (get_elem? views j ≡ some u)). stands.team.seated j u t.1 l) (at_set views i j (stays v) u o))
             (λ n. subst (λ (x : View V). Seated words z h x) n.1 theirs) (at_end (set views i (stays v)) (comes v to) j u e);
         rests = λ j u e l. ⊎_elim (λ o. ⊎_elim (λ (t : (j ≡ i) × (stays v ≡ u)). sym (ap (λ (x : View V). x.pending) t.1)) (λ (t : (j ≢ i)
@@ -82,7 +86,8 @@ module _ {V : Type 0} where
         second = subst (λ p. IsSecond p to) (sym busy) refl
 
         sums : (m : ℕ) → (owed (set views i (stays v) ++ comes v to ∷ []) m ≡ owed views m)
-            × (paid (set views i (stays v) ++ comes v to ∷ []) m ≡ paid views m) × (added (set views i (stays v) ++ comes v to ∷ []) m ≡ added views m)
+            × (paid (set views i (stays v) ++ comes v to ∷ []) m ≡ paid views m)
+            × (added (set views i (stays v) ++ comes v to ∷ []) m ≡ added views m)
         sums m =
             let a = total_set (λ (y : View V). owes y.pending m) views i v (stays v) at in
             let b = total_set (λ (y : View V). pays y.pending m) views i v (stays v) at in

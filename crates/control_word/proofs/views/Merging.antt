@@ -1,5 +1,6 @@
 -- One view takes in another before a join; no word changes.
-use Rattle.std.proofs.Common.{◌≡◌, ◌≢◌, ℕ, ◌+◌, ◌≤◌, ◌⊎◌, nat_lt, Bool, true, false, true≢false, cond, List, [], ◌∷◌, ◌++◌, length, set, refl, sym, ap}
+use Rattle.std.proofs.Common.{◌≡◌, ◌≢◌, ℕ, ◌+◌, ◌≤◌, ◌⊎◌, nat_lt, Bool, true, false, true≢false, cond, List, [], ◌∷◌}
+use Rattle.std.proofs.Common.{◌++◌, length, set, refl, sym, ap}
 use Rattle.std.proofs.Common.{subst, ◌∙◌, inl, inr, ⊎_elim, ltb-true, ltb-false, length-append, arith}
 use Rattle.std.proofs.lemmas.Bool.{cases_eq}
 use mathlib.Core.Path.{fun_ext}
@@ -113,7 +114,8 @@ module _ {V : Type 0} where
               stands.team.whole.3,
               stands.team.whole.4,
             ))
-            (⊎_elim (λ e. inl (inl e)) (λ n. ⊎_elim (λ e. inl (inr e)) (λ m. inr (n, m)) (cases_eq stands.team.whole.0 j)) (cases_eq stands.team.whole.0 i));
+            (⊎_elim (λ e. inl (inl e)) (λ n. ⊎_elim (λ e. inl (inr e)) (λ m. inr (n, m)) (cases_eq stands.team.whole.0 j))
+            (cases_eq stands.team.whole.0 i));
       };
     }
       where
@@ -169,7 +171,8 @@ module _ {V : Type 0} where
             (λ (t : (k ≢ j) × (get_elem? (set views i (together v w)) k ≡ some u)). ⊎_elim inl
             (λ r. inr (r.0, t.0, r.1)) (at_set views i k (together v w) u t.1)) (at_set (set views i (together v w)) j k used_up u e)
 
-        apart : (k : ℕ) (u : View V) → k ≢ i → k ≢ j → get_elem? views k ≡ some u → u.spent ≡ false → (d : ℕ) → StandsFor (together v w) d → StandsFor u d → ⊥
+        apart : (k : ℕ) (u : View V) → k ≢ i → k ≢ j → get_elem? views k ≡ some u → u.spent ≡ false → (d : ℕ)
+            → StandsFor (together v w) d → StandsFor u d → ⊥
         apart k u n m e l d st su = ⊎_elim (λ (q : v.name ≡ d). n (stands.team.names k i u v e at l awake d su (inl q)))
             (λ (q : w.name ≡ d). m (stands.team.names k j u w e there l up d su (inl q))) st
 
@@ -180,9 +183,11 @@ module _ {V : Type 0} where
             let k = known.0 in
             let lens : length h ≡ length k.0 + length (longer v.seen w.seen) = ap length k.1 ∙ length-append k.0 (longer v.seen w.seen) in
             let seen : length h ≤ length (longer v.seen w.seen) = ⊎_elim
-            (λ q. let x = some-injective t.1 v (sym t.2 ∙ (ap (get_elem? views) q ∙ at)) in let y = ap length (ap (λ (y : View V). y.seen) (sym x) ∙ t.4) in
+            (λ q. let x = some-injective t.1 v (sym t.2 ∙ (ap (get_elem? views) q ∙ at)) in
+            let y = ap length (ap (λ (y : View V). y.seen) (sym x) ∙ t.4) in
             let l0 = l.0 in omega arith)
-            (λ q. let x = some-injective t.1 w (sym t.2 ∙ (ap (get_elem? views) q ∙ there)) in let y = ap length (ap (λ (y : View V). y.seen) (sym x) ∙ t.4) in
+            (λ q. let x = some-injective t.1 w (sym t.2 ∙ (ap (get_elem? views) q ∙ there)) in
+            let y = ap length (ap (λ (y : View V). y.seen) (sym x) ∙ t.4) in
             let l1 = l.1 in omega arith) e in
             let none = empty_list k.0 (omega arith) in
             sym (k.1 ∙ ap (λ x. x ++ longer v.seen w.seen) none)

@@ -1,5 +1,6 @@
 -- Sums over views with different names.
-use Rattle.std.proofs.Common.{◌≡◌, ◌≢◌, ℕ, zero, suc, ◌+◌, ◌<◌, ◌≤◌, ◌&&◌, Bool, true, false, cond, ◌==◌, nat_lt, lt-ltb, le-ltb, List, [], ◌∷◌, map}
+use Rattle.std.proofs.Common.{◌≡◌, ◌≢◌, ℕ, zero, suc, ◌+◌, ◌<◌, ◌≤◌, ◌&&◌, Bool, true, false, cond, ◌==◌, nat_lt, lt-ltb}
+use Rattle.std.proofs.Common.{le-ltb, List, [], ◌∷◌, map}
 use Rattle.std.proofs.Common.{length, refl, sym, ap, ◌∙◌, ⊎_elim, eq-eqb, ne_eqb, arith}
 use Rattle.std.proofs.lemmas.Bool.{cases_eq, cond-true, cond-false, eqb-true, cases_lt}
 use mathlib.Core.Option.{some}
@@ -84,7 +85,8 @@ module _ {V : Type 0} (f : ℕ → ℕ) where
   named_awake n v e lt = cond-false v.spent 0 _ e ∙ cond-true (nat_lt v.name n) (f v.name) 0 (lt-ltb v.name n lt)
 
   pub names_sum : (n : ℕ) (views : List (View V))
-      → ((i j : ℕ) (v w : View V) → get_elem? views i ≡ some v → get_elem? views j ≡ some w → v.spent ≡ false → w.spent ≡ false → v.name ≡ w.name → i ≡ j)
+      → ((i j : ℕ) (v w : View V) → get_elem? views i ≡ some v → get_elem? views j ≡ some w → v.spent ≡ false → w.spent ≡ false
+      → v.name ≡ w.name → i ≡ j)
       → total (named n) views ≤ sum_below n f
   names_sum zero views names = let t = total_none (named 0) views (λ i v e. named_none v) in omega arith
   names_sum (suc n) views names =
@@ -99,7 +101,8 @@ module _ {V : Type 0} where
   pub own : Kind → ℕ → List Held → View V → ℕ
   own k o l v = cond v.spent 0 (num (λ x. x.desk == v.name && is_on k o x.handle) l)
 
-  pub own_awake : (k : Kind) (o : ℕ) (l : List Held) (v : View V) → v.spent ≡ false → own k o l v ≡ num (λ x. x.desk == v.name && is_on k o x.handle) l
+  pub own_awake : (k : Kind) (o : ℕ) (l : List Held) (v : View V) → v.spent ≡ false
+      → own k o l v ≡ num (λ x. x.desk == v.name && is_on k o x.handle) l
   unfolding own
   own_awake k o l v e = cond-false v.spent 0 _ e
 
@@ -134,7 +137,8 @@ module _ {V : Type 0} where
       go false true false = (omega arith, λ t. absurd (omega arith))
 
   pub own_sum : (k : Kind) (o : ℕ) (l : List Held) (views : List (View V))
-      → ((i j : ℕ) (v w : View V) → get_elem? views i ≡ some v → get_elem? views j ≡ some w → v.spent ≡ false → w.spent ≡ false → v.name ≡ w.name → i ≡ j)
+      → ((i j : ℕ) (v w : View V) → get_elem? views i ≡ some v → get_elem? views j ≡ some w → v.spent ≡ false → w.spent ≡ false
+      → v.name ≡ w.name → i ≡ j)
       → total (own k o l) views ≤ tally k o (map (λ (x : Held). x.handle) l)
   own_sum k o [] views names = let t = total_none (own k o []) views (λ i v e. own_none k o v) in omega arith
   own_sum k o (x ∷ l) views names =
@@ -142,7 +146,8 @@ module _ {V : Type 0} where
       let few = tally_length k o (x.handle ∷ []) in
       let one : total (own k o (x ∷ [])) views ≤ tally k o (x.handle ∷ []) =
       ⊎_elim
-      (λ (e : tally k o (x.handle ∷ []) ≡ 0). let t = total_none (own k o (x ∷ [])) views (λ i v q. let u = (own_one k o x v).0 in omega arith) in omega arith)
+      (λ (e : tally k o (x.handle ∷ []) ≡ 0). let t = total_none (own k o (x ∷ [])) views (λ i v q. let u = (own_one k o x v).0 in omega arith) in
+      omega arith)
       (λ (ne : tally k o (x.handle ∷ []) ≢ 0).
       let t = total_once 1 (own k o (x ∷ [])) views (λ i v q. let u = (own_one k o x v).0 in omega arith)
       (λ i j a b p q m n. let u = (own_one k o x a).1 m in

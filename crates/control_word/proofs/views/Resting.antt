@@ -122,7 +122,8 @@ module _ {V : Type 0} where
     )
 
     -- the funds on a word of a block, of whatever object, are a whole number of funds; its number is the state's
-    rest_word : (k : ℕ) → k < 2 → get_or words (spot b k) 0 ≡ get_or (block_words (leads z h) b) k 0 + 4294967296 * bank z (leads z h) stands.taken (spot b k)
+    rest_word : (k : ℕ) → k < 2 → get_or words (spot b k) 0 ≡ get_or (block_words (leads z h) b) k 0 + 4294967296 * bank z
+        (leads z h) stands.taken (spot b k)
     rest_word k low =
         let t = rest_sums k low in
         let t0 = t.0 in let t1 = t.1 in let t2 = t.2 in

@@ -1,5 +1,6 @@
 -- One desk's step changes its own view, and leaves what is so of the others.
-use Rattle.std.proofs.Common.{◌≡◌, ◌≢◌, ℕ, ◌<◌, ◌≤◌, ◌⊎◌, false, true≢false, List, [], ◌∷◌, set, refl, sym, ap, subst, ◌∙◌, inl, ⊎_elim, arith}
+use Rattle.std.proofs.Common.{◌≡◌, ◌≢◌, ℕ, ◌<◌, ◌≤◌, ◌⊎◌, false, true≢false, List, [], ◌∷◌, set, refl, sym, ap, subst}
+use Rattle.std.proofs.Common.{◌∙◌, inl, ⊎_elim, arith}
 use mathlib.Core.Option.{some}
 use lib.ListN.{get_elem?}
 use Rattle.atomic_table.proofs.Lists.{at_set, set_here}
@@ -46,14 +47,17 @@ module _ {V : Type 0} where
             (λ (y : View V). StandsFor y d) (sym a.1) s1) s2)) (at_set views i k w x e2))
             (λ (a : (j ≢ i) × (get_elem? views j ≡ some u)). ⊎_elim
             (λ (b : (k ≡ i) × (w ≡ x)). absurd (clash j u a.0 a.1 l1 d (subst (λ (y : View V). StandsFor y d) (sym b.1) s2) s1))
-            (λ (b : (k ≢ i) × (get_elem? views k ≡ some x)). team.names j k u x a.1 b.1 l1 l2 d s1 s2) (at_set views i k w x e2)) (at_set views i j w u e1);
+            (λ (b : (k ≢ i) × (get_elem? views k ≡ some x)). team.names j k u x a.1 b.1 l1 l2 d s1 s2) (at_set views i k w x e2))
+            (at_set views i j w u e1);
         whole = (i, w, set_here views i w (at_inside views i v at), awake, refl);
       }
     where
-      apart : (j : ℕ) (u : View V) → j ≢ i → get_elem? views j ≡ some u → u.spent ≡ false → (d : ℕ) → StandsFor u d → StandsFor v d → ⊥
+      apart : (j : ℕ) (u : View V) → j ≢ i → get_elem? views j ≡ some u → u.spent ≡ false → (d : ℕ) → StandsFor u d
+          → StandsFor v d → ⊥
       apart j u n e l d su sv = n (team.names j i u v e at l awake d su sv)
 
-      clash : (j : ℕ) (u : View V) → j ≢ i → get_elem? views j ≡ some u → u.spent ≡ false → (d : ℕ) → StandsFor (sees_as v p h') d → StandsFor u d → ⊥
+      clash : (j : ℕ) (u : View V) → j ≢ i → get_elem? views j ≡ some u → u.spent ≡ false → (d : ℕ) → StandsFor (sees_as v p h') d
+          → StandsFor u d → ⊥
       clash j u n e l d sw su = ⊎_elim (λ q. apart j u n e l d su (inl q))
           (λ s. ⊎_elim (λ q. apart j u n e l d su q) (λ fresh. fresh ((team.seated j u e l).acts d su)) ((seconds d s).2)) sw
 
@@ -152,7 +156,8 @@ module _ {V : Type 0} where
       (λ d s. absurd (lone_second p lone d s)) (lone_both p lone v.name (entry v.name a ∷ h)) (λ j u n e l m f. others u.name u.pending m f)
 
   -- a step without an event
-  pub quiet_step : (z : Opening) (words words' : List ℕ) (views : List (View V)) (h : List (Entry V)) (i : ℕ) (v : View V) (p : Pending V) (taken : ℕ → ℕ)
+  pub quiet_step : (z : Opening) (words words' : List ℕ) (views : List (View V)) (h : List (Entry V)) (i : ℕ) (v : View V)
+      (p : Pending V) (taken : ℕ → ℕ)
       → Stands z words views h → get_elem? views i ≡ some v → v.spent ≡ false → IsLone p
       → let w : View V = sees_as v p h in
       let s = leads z h in
@@ -176,7 +181,8 @@ module _ {V : Type 0} where
   }
 
   -- the same where the doors stay as they are
-  pub still_step : (z : Opening) (words words' : List ℕ) (views : List (View V)) (h : List (Entry V)) (i : ℕ) (v : View V) (p : Pending V) (taken : ℕ → ℕ)
+  pub still_step : (z : Opening) (words words' : List ℕ) (views : List (View V)) (h : List (Entry V)) (i : ℕ) (v : View V)
+      (p : Pending V) (taken : ℕ → ℕ)
       → Stands z words views h → get_elem? views i ≡ some v → v.spent ≡ false → IsLone p
       → ((b : ℕ) → adds p (spot b 2) ≤ adds v.pending (spot b 2))
       → let w : View V = sees_as v p h in

@@ -1,5 +1,6 @@
 -- How a change of one cell changes the funds of the cells.
-use Rattle.std.proofs.Common.{◌≡◌, ◌≢◌, ℕ, zero, suc, ◌+◌, ◌-◌, ◌<◌, ◌≤◌, Option, Some, None, refl, sym, ap, ◌∙◌, ⊎_elim, ne_eqb, arith, List}
+use Rattle.std.proofs.Common.{◌≡◌, ◌≢◌, ℕ, zero, suc, ◌+◌, ◌-◌, ◌<◌, ◌≤◌, Option, Some, None, refl, sym, ap, ◌∙◌}
+use Rattle.std.proofs.Common.{⊎_elim, ne_eqb, arith, List}
 use Rattle.std.proofs.lemmas.Bool.{cases_eq, cond-false}
 use mathlib.Core.Path.{fun_ext}
 use Rattle.control_word.proofs.history.Cells.{open_live}
@@ -26,7 +27,8 @@ sum_set zero p f g lt same = absurd (omega arith)
 sum_set (suc n) p f g lt same =
     ⊎_elim
     (λ (e : n ≡ p). let t = sum_equal n f g (λ j l. same j (omega arith) (λ u. omega arith)) in let a = ap f e in let b = ap g e in omega arith)
-    (λ (ne : n ≢ p). let t = sum_set n p f g (omega arith) (λ j l u. same j (omega arith) u) in let a = same n (omega arith) ne in omega arith) (cases_eq n p)
+    (λ (ne : n ≢ p). let t = sum_set n p f g (omega arith) (λ j l u. same j (omega arith) u) in let a = same n (omega arith) ne in omega arith)
+    (cases_eq n p)
   where
     sum_equal : (n : ℕ) (f g : ℕ → ℕ) → ((j : ℕ) → j < n → g j ≡ f j) → sum_below n g ≡ sum_below n f
     sum_equal zero f g h = refl
@@ -97,8 +99,10 @@ module _ (z : Opening) (s : State) (fine : Sound z s) (taken : ℕ → ℕ) (i :
       λ j n y. worth b (put_other x.member m new j n y) (put_other taken k t (spot x.block (7 + j)) (λ e. n (omega arith)) y) i in
       let old : (j : ℕ) → j ≡ m → worth b (x.member m) (taken k) i ≡ worth b (x.member j) (taken (spot x.block (7 + j))) i =
       λ j e. ap (λ n. worth b (x.member n) (taken (spot x.block (7 + n))) i) (sym e) in
-      ⊎_elim (λ (e : 0 ≡ m). let p = same 0 e in let q = else' 1 (λ u. omega arith) in let r = else' 2 (λ u. omega arith) in let o = old 0 e in omega arith)
-      (λ (n : 0 ≢ m). ⊎_elim (λ (e : 1 ≡ m). let p = same 1 e in let q = else' 0 n in let r = else' 2 (λ u. omega arith) in let o = old 1 e in omega arith)
+      ⊎_elim (λ (e : 0 ≡ m). let p = same 0 e in let q = else' 1 (λ u. omega arith) in let r = else' 2 (λ u. omega arith) in
+      let o = old 0 e in omega arith)
+      (λ (n : 0 ≢ m). ⊎_elim
+      (λ (e : 1 ≡ m). let p = same 1 e in let q = else' 0 n in let r = else' 2 (λ u. omega arith) in let o = old 1 e in omega arith)
       (λ (n' : 1 ≢ m). let e : 2 ≡ m = omega arith in let p = same 2 e in let q = else' 0 n in let r = else' 1 n' in
       let o = old 2 e in omega arith) (cases_eq 1 m)) (cases_eq 0 m)
 
@@ -133,7 +137,8 @@ module _ (z : Opening) (s : State) (fine : Sound z s) (taken : ℕ → ℕ) (i :
       let p = fine.placed q (omega arith) in
       let u = spot_apart (s.object q).block j b (7 + m) p.1.0 place.1.0 hi (omega arith) e in
       ne (sym p.0 ∙ (ap s.latest u.0 ∙ place.0)))) in
-      let d : g o ≡ member_funds (blocks_of s) (put taken k t) y i = ap (λ w. member_funds (blocks_of s) (put taken k t) w i) (put_same s.object o y o refl) in
+      let d : g o ≡ member_funds (blocks_of s) (put taken k t) y i =
+      ap (λ w. member_funds (blocks_of s) (put taken k t) w i) (put_same s.object o y o refl) in
       let e = own_funds x m t new lt place.1.0 in
       let blocks = ap (λ (n : ℕ
       → ℕ). sum_below s.cells (λ j. worth n (s.cell j) (put taken k t (cell_spot z j)) i) + sum_below (suc s.made)
@@ -152,7 +157,8 @@ unfolding bank
 bank_hands z s hs taken i = refl
 
 -- the funds of the cells are on the words that count handles of busy objects
-pub bank_none : (z : Opening) (s : State) → Sound z s → (taken : ℕ → ℕ) (i : ℕ) → ((m : Kind) (o : ℕ) → IsBusy s o → i ≢ counts_at (blocks_of s) m o)
+pub bank_none : (z : Opening) (s : State) → Sound z s → (taken : ℕ → ℕ) (i : ℕ)
+    → ((m : Kind) (o : ℕ) → IsBusy s o → i ≢ counts_at (blocks_of s) m o)
     → bank z s taken i ≡ 0
 unfolding bank
 bank_none z s fine taken i none =
@@ -170,6 +176,7 @@ bank_none z s fine taken i none =
     sum_zero zero f h = refl
     sum_zero (suc n) f h = let a = h n (omega arith) in let b = sum_zero n f (λ j l. h j (omega arith)) in omega arith
 
-    worth_none : (m : Kind) (n : Option ℕ) (p : Option Place) (t : ℕ) → ((r : ℕ) → n ≡ Some r → IsBusy s r) → worth (blocks_of s) (handle m n p) t i ≡ 0
+    worth_none : (m : Kind) (n : Option ℕ) (p : Option Place) (t : ℕ) → ((r : ℕ) → n ≡ Some r → IsBusy s r)
+        → worth (blocks_of s) (handle m n p) t i ≡ 0
     worth_none m None p t busy = refl
     worth_none m (Some o) p t busy = cond-false _ (256 - t) 0 (ne_eqb i (counts_at (blocks_of s) m o) (none m o (busy o refl)))

@@ -1,5 +1,6 @@
 -- The flags and fields of a block.
-use Rattle.std.proofs.Common.{◌≡◌, ◌≢◌, ℕ, zero, suc, ◌+◌, ◌-◌, ◌<◌, ◌≤◌, List, ◌∷◌, get_or, slice_index, refl, ap, ◌∙◌, ⊎_elim, ne_eqb, arith}
+use Rattle.std.proofs.Common.{◌≡◌, ◌≢◌, ℕ, zero, suc, ◌+◌, ◌-◌, ◌<◌, ◌≤◌, List, ◌∷◌, get_or, slice_index, refl, ap}
+use Rattle.std.proofs.Common.{◌∙◌, ⊎_elim, ne_eqb, arith}
 use Rattle.std.proofs.lemmas.Bool.{cond-false}
 use Rattle.control_word.proofs.history.Legal.{held_busy, sound}
 use Rattle.control_word.proofs.history.Soundness.{IsBusy}
@@ -44,10 +45,12 @@ module _ {V : Type 0} where
         let fine = sound z h stands.legal in
         let place = (fine.placed o (held_busy z s d o m p fine f.0)).1 in
         let low = slot_low m in
-        let apart : spot b k ≢ w = λ e. let t = spot_apart b k (s.object o).block (slot m) hb.0 place.0 (omega arith) (omega arith) (e ∙ f.1) in omega arith in
+        let apart : spot b k ≢ w = λ e. let t = spot_apart b k (s.object o).block (slot m) hb.0 place.0 (omega arith) (omega arith)
+        (e ∙ f.1) in omega arith in
         (cond-false _ loads 0 (ne_eqb (spot b k) w apart), cond-false _ funds 0 (ne_eqb (spot b k) w apart))
 
-    field_adds : (b k : ℕ) → InShape z b → 2 < k → k < 7 → (d : ℕ) (p : Pending V) → Fits words (leads z h) (value z h) d p → adds p (spot b k) ≡ 0
+    field_adds : (b k : ℕ) → InShape z b → 2 < k → k < 7 → (d : ℕ) (p : Pending V) → Fits words (leads z h) (value z h) d p
+        → adds p (spot b k) ≡ 0
     field_adds b k hb lo hi d Idle f = refl
     field_adds b k hb lo hi d (Paying m o p w funds loads) f = refl
     field_adds b k hb lo hi d (Parting to) f = refl
@@ -57,7 +60,8 @@ module _ {V : Type 0} where
 
     -- nothing is owed to the flags and fields of a block, and nothing but a shut door is on them besides
     pub body_more : (b k : ℕ) → InShape z b → 2 ≤ k → k < 7
-        → (owed views (spot b k) ≡ 0) × (more z (leads z h) views stands.taken (spot b k) ≡ added views (spot b k)) × (2 < k → added views (spot b k) ≡ 0)
+        → (owed views (spot b k) ≡ 0) × (more z (leads z h) views stands.taken (spot b k) ≡ added views (spot b k))
+        × (2 < k → added views (spot b k) ≡ 0)
     body_more b k hb lo hi =
         let s = leads z h in
         let fine = sound z h stands.legal in

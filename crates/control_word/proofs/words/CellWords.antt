@@ -1,6 +1,8 @@
 -- The word of a cell that is open, or a member of a busy object.
-use Rattle.std.proofs.Common.{ne_eqb, ◌≡◌, ◌≢◌, ℕ, ◌+◌, ◌*◌, Option, Some, None, ◌<◌, false, List, get_or, set, refl, sym, ap, ◌∙◌, ⊎_elim, arith}
-use Rattle.std.proofs.Common.{◌⊎◌, ◌≡◌, ◌≢◌, ℕ, ◌+◌, ◌*◌, ◌<◌, false, List, length, get_or, set, Option, Some, None, refl, sym, ap, ◌∙◌, ⊎_elim, ne_eqb, arith}
+use Rattle.std.proofs.Common.{ne_eqb, ◌≡◌, ◌≢◌, ℕ, ◌+◌, ◌*◌, Option, Some, None, ◌<◌, false, List, get_or, set, refl, sym, ap}
+use Rattle.std.proofs.Common.{◌∙◌, ⊎_elim, arith}
+use Rattle.std.proofs.Common.{◌⊎◌, ◌≡◌, ◌≢◌, ℕ, ◌+◌, ◌*◌, ◌<◌, false, List, length, get_or, set, Option, Some, None, refl, sym}
+use Rattle.std.proofs.Common.{ap, ◌∙◌, ⊎_elim, ne_eqb, arith}
 use Rattle.std.proofs.lemmas.Bool.{cases_eq, cond-false}
 use Rattle.std.proofs.lemmas.Bool.{cond-false, cases_eq}
 use Rattle.std.proofs.lemmas.List.{get_or-set_other}
@@ -57,7 +59,8 @@ module _ {V : Type 0} where
               let l = spot_fits z (s.object o).block (7 + m) p.1 (let y = op.0 in omega arith) in let u = stands.shows.sized in omega arith
 
       -- a write of a cell's word leaves what half-done calls know of blocks
-      pub same_known : (n b j : ℕ) → InShape z b → j < 5 → get_or (set words (cell_at z (leads z h) c) n) (spot b (2 + j)) 0 ≡ get_or words (spot b (2 + j)) 0
+      pub same_known : (n b j : ℕ) → InShape z b → j < 5 → get_or (set words (cell_at z (leads z h) c) n) (spot b (2 + j)) 0
+          ≡ get_or words (spot b (2 + j)) 0
       same_known n b j hb lt = get_or-set_other words (cell_at z (leads z h) c) (spot b (2 + j)) n 0 (cell_apart b (2 + j) hb (omega arith))
 
       -- what was taken changes at one cell, which holds an object or of which then nothing was taken
@@ -77,7 +80,8 @@ module _ {V : Type 0} where
             frees = λ x hx e. ⊎_elim
                 (λ (q : x ≡ d). put_same stands.taken (cell_spot z d) n (cell_spot z x) (ap (cell_spot z) q)
                 ∙ ⊎_elim (λ r. r) (λ r. absurd (no r.0 _ (ap (λ i. ((leads z h).cell i).object) q ∙ r.1) e)) why)
-                (λ (q : x ≢ d). put_other stands.taken (cell_spot z d) n (cell_spot z x) (λ r. q (omega arith)) ∙ stands.bare.frees x hx e) (cases_eq x d);
+                (λ (q : x ≢ d). put_other stands.taken (cell_spot z d) n (cell_spot z x) (λ r. q (omega arith)) ∙ stands.bare.frees x hx e)
+                (cases_eq x d);
           }
           go (Member o l) op why =
               let s = leads z h in
@@ -91,7 +95,8 @@ module _ {V : Type 0} where
                     let w : m ≡ l = let y = t.1 in omega arith in
                     put_same stands.taken k n (spot b (7 + m)) q ∙ ⊎_elim (λ r. r) (λ r. absurd (no r.0 _ ((λ i. ((s.object (u i)).member (w i)).object)
                     ∙ r.1) e)) why)
-                    (λ (q : spot b (7 + m) ≢ k). put_other stands.taken k n (spot b (7 + m)) q ∙ stands.bare.members b m hb lt e) (cases_eq (spot b (7 + m)) k);
+                    (λ (q : spot b (7 + m) ≢ k). put_other stands.taken k n (spot b (7 + m)) q ∙ stands.bare.members b m hb lt e)
+                    (cases_eq (spot b (7 + m)) k);
                 frees = λ x hx e. put_other stands.taken k n (cell_spot z x)
                     (λ q. let f = spot_fits z (s.object o).block (7 + l) place.1 (let y = op.0 in omega arith) in omega arith) ∙ stands.bare.frees x hx e;
               }
@@ -149,7 +154,8 @@ module _ {V : Type 0} where
             (λ e. cell_apart z words views h stands i v at awake c kept b.0 1 ((sound z h stands.legal).stores d b.0 f.0).1 (omega arith) (sym e)))
 
     -- the word of an open cell
-    pub cell_read : let k = cell_at z (leads z h) c in get_or words k 0 ≡ packed (blocks_of (leads z h)) (cell_of (leads z h) c) + 17179869184 * stands.taken k
+    pub cell_read : let k = cell_at z (leads z h) c in
+        get_or words k 0 ≡ packed (blocks_of (leads z h)) (cell_of (leads z h) c) + 17179869184 * stands.taken k
     cell_read = go c kept cell_more
       where
         go : (d : Cell) → IsKept (leads z h) d

@@ -1,5 +1,6 @@
 -- Events that change one number, after which their desk rests.
-use Rattle.std.proofs.Common.{◌≡◌, ◌≢◌, ℕ, suc, ◌+◌, ◌*◌, ◌<◌, false, List, ◌∷◌, get_or, set, Option, Some, refl, sym, ap, subst, ◌∙◌, ⊎_elim, arith, ◌≤◌, ◌⊎◌}
+use Rattle.std.proofs.Common.{◌≡◌, ◌≢◌, ℕ, suc, ◌+◌, ◌*◌, ◌<◌, false, List, ◌∷◌, get_or, set, Option, Some, refl, sym, ap}
+use Rattle.std.proofs.Common.{subst, ◌∙◌, ⊎_elim, arith, ◌≤◌, ◌⊎◌}
 use mathlib.Core.Option.{some}
 use lib.ListN.{get_elem?}
 use Rattle.control_word.proofs.history.Kept.{still}
@@ -30,7 +31,8 @@ use Rattle.control_word.specs.declared.view.Pending.TheVariants.{Idle}
 use Rattle.control_word.specs.declared.view.View.{View}
 
 module _ {V : Type 0} where
-  stores_shows : (z : Opening) (ws : List ℕ) (us taken : ℕ → ℕ) (vs : List (View V)) (t : State) (r : List Stored) → Shows z ws us (more z t vs taken) t
+  stores_shows : (z : Opening) (ws : List ℕ) (us taken : ℕ → ℕ) (vs : List (View V)) (t : State) (r : List Stored)
+      → Shows z ws us (more z t vs taken) t
       → Shows z ws us (more z (record t { stores = r }) vs taken) (record t { stores = r })
   unfolding bank
   stores_shows z ws us taken vs t r shows = shows_stores z ws us (more z t vs taken) t r shows
@@ -107,7 +109,8 @@ module _ {V : Type 0} where
   module _ (z : Opening) (words : List ℕ) (views : List (View V)) (h : List (Entry V)) (stands : Stands z words views h)
       (i : ℕ) (v : View V) (at : get_elem? views i ≡ some v) (awake : v.spent ≡ false) (idle : v.pending ≡ Idle) (o : ℕ) (p : Option Place) where
     -- one more owner of a live object
-    pub gain_step : (q : Option Place) (a : Event V) → IsPlain a → ((leads z h).object o).phase ≡ live → Asks (leads z h) v.name a → Values (value z h) a
+    pub gain_step : (q : Option Place) (a : Event V) → IsPlain a → ((leads z h).object o).phase ≡ live → Asks (leads z h) v.name a
+        → Values (value z h) a
         → bag_size (leads z h) v.name < (leads z h).allowance v.name
         → after (leads z h) v.name a ≡ record (leads z h) { hands = held v.name (owner o q) ∷ (leads z h).hands }
         → let k = spot ((leads z h).object o).block 0 in Stands z (set words k (suc (get_or words k 0))) (set views i (sees v (entry v.name a ∷ h)))

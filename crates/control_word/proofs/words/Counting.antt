@@ -1,4 +1,5 @@
-use Rattle.std.proofs.Common.{◌≡◌, ◌≢◌, ℕ, suc, ◌+◌, ◌*◌, ◌<◌, Bool, true, false, cond, ◌==◌, List, ◌∷◌, map, get_or, set, Option, Some, refl, sym, ap}
+use Rattle.std.proofs.Common.{◌≡◌, ◌≢◌, ℕ, suc, ◌+◌, ◌*◌, ◌<◌, Bool, true, false, cond, ◌==◌, List, ◌∷◌, map, get_or, set}
+use Rattle.std.proofs.Common.{Option, Some, refl, sym, ap}
 use Rattle.std.proofs.Common.{subst, ◌∙◌, ⊎_elim, inl, ne_eqb, arith, ◌≤◌, length, eq-eqb}
 use Rattle.std.proofs.lemmas.Bool.{cases_eq, cond-false, cond-true}
 use Rattle.std.proofs.lemmas.List.{get_or-set_other}
@@ -32,7 +33,8 @@ use Rattle.control_word.specs.declared.view.View.{View}
 
 module _ {V : Type 0} where
   -- a write of an owner or a weak word leaves what the other desks' half-done calls know
-  pub fits_low : (z : Opening) (s : State) (words : List ℕ) (values : ℕ → Option V) (b k n me : ℕ) (a : Event V) → Sound z s → InShape z b → k < 2 → IsPlain a
+  pub fits_low : (z : Opening) (s : State) (words : List ℕ) (values : ℕ → Option V) (b k n me : ℕ) (a : Event V) → Sound z s
+      → InShape z b → k < 2 → IsPlain a
       → (d : ℕ) (q : Pending V) → d ≢ me → Fits words s values d q → Fits (set words (spot b k) n) (after s me a) (valued s a values) d q
   fits_low z s words values b k n me a sound hb low plain d q other fits =
       fits_after z s words (set words (spot b k) n) values me a sound d q (λ e. other (sym e)) (plain_names a plain d)
@@ -150,7 +152,8 @@ module _ {V : Type 0} where
         let s = leads z h in
         let i = counts_at (blocks_of s) k o in
         let a : added views i ≡ 0 = none_of (λ p. adds p i) refl (adds_counts k o busy) in
-        let b : stands.taken i ≡ 0 = stands.blank (s.object o).block (slot k) ((sound z h stands.legal).placed o busy).1 (let t = slot_low k in omega arith) in
+        let b : stands.taken i ≡ 0 = stands.blank (s.object o).block (slot k) ((sound z h stands.legal).placed o busy).1
+        (let t = slot_low k in omega arith) in
         omega arith
 
     pub number_read : (k : Kind) (o : ℕ) → IsBusy (leads z h) o → let i = counts_at (blocks_of (leads z h)) k o in
@@ -180,7 +183,8 @@ module _ {V : Type 0} where
         (λ (e : i ≡ word).
         let t = same_counts z s fine k m o q busy (held_busy z s d q m p fine fits.0) (e ∙ fits.1) in
         (p, subst (λ x. Has (held d (handle x (Some o) p)) s.hands) (sym t.0) (subst (λ x. Has (held d (handle m (Some x) p)) s.hands) (sym t.1) fits.0)))
-        (λ (n : i ≢ word). let c : ◌≡◌ {A = ℕ} (cond (i == word) funds 0) 0 = cond-false _ funds 0 (ne_eqb i word n) in absurd (omega arith)) (cases_eq i word)
+        (λ (n : i ≢ word). let c : ◌≡◌ {A = ℕ} (cond (i == word) funds 0) 0 = cond-false _ funds 0 (ne_eqb i word n) in absurd (omega arith))
+        (cases_eq i word)
 
     -- whoever has funds out on the word has such a handle
     pub paid_held : (k : Kind) (o : ℕ) → IsBusy (leads z h) o → 0 < paid views (counts_at (blocks_of (leads z h)) k o)
@@ -193,7 +197,8 @@ module _ {V : Type 0} where
         let p = pays_handle k o busy t.1.name t.1.pending (stands.team.seated t.0 t.1 t.2 awake).fits t.3 in
         (t.0, t.1, p.0, t.2, awake, p.1, t.3)
       where
-        go : (j : ℕ) (v : View V) → get_elem? views j ≡ some v → 0 < pays v.pending (counts_at (blocks_of (leads z h)) k o) → (b : Bool) → v.spent ≡ b
+        go : (j : ℕ) (v : View V) → get_elem? views j ≡ some v → 0 < pays v.pending (counts_at (blocks_of (leads z h)) k o)
+            → (b : Bool) → v.spent ≡ b
             → v.spent ≡ false
         go j v e m true t = absurd (let a = ap (λ p. pays p (counts_at (blocks_of (leads z h)) k o)) (stands.team.rests j v e t) in omega arith)
         go j v e m false t = t

@@ -39,7 +39,8 @@ shown_parts block k (Some o) (Some p) t = omega arith
 pub cell_shown : (block : ℕ → ℕ) (h : Handle) (t : ℕ) → packed block h + 17179869184 * t ≡ cell_bits (shown block h t)
 cell_shown block h t = shown_parts block h.kind h.object h.place t
 
-owned_fits : (block : ℕ → ℕ) (o : Option ℕ) → ((r : ℕ) → o ≡ Some r → (1 ≤ block r) × (block r ≤ 65535)) → IfSome (block_of block o) IsBlock
+owned_fits : (block : ℕ → ℕ) (o : Option ℕ) → ((r : ℕ) → o ≡ Some r → (1 ≤ block r) × (block r ≤ 65535))
+    → IfSome (block_of block o) IsBlock
 owned_fits block None f = tt
 owned_fits block (Some o) f = let t = f o refl in (omega arith, t.1)
 
@@ -47,7 +48,8 @@ place_fits : (p : Option Place) → IsPointer p → IfSome p IsPlace
 place_fits None f = tt
 place_fits (Some p) f = let a = f.0 in let b = f.2 in ((omega arith, f.1), omega arith)
 
-pub shown_fits : (block : ℕ → ℕ) (h : Handle) (t : ℕ) → IsFormed h → ((r : ℕ) → h.object ≡ Some r → (1 ≤ block r) × (block r ≤ 65535)) → t ≤ 256
+pub shown_fits : (block : ℕ → ℕ) (h : Handle) (t : ℕ) → IsFormed h
+    → ((r : ℕ) → h.object ≡ Some r → (1 ≤ block r) × (block r ≤ 65535)) → t ≤ 256
     → IsCellWord (shown block h t)
 shown_fits block h t formed blocks few = record { owned = owned_fits block h.object blocks; place = place_fits h.place formed.0; taken = few }
 

@@ -1,5 +1,6 @@
 -- The door bit of a flag word.
-use Rattle.std.proofs.Common.{◌≡◌, ◌≢◌, ℕ, zero, suc, ◌+◌, ◌-◌, ◌*◌, ◌<◌, ◌≤◌, ◌==◌, Bool, true, false, cond, List, [], ◌∷◌, length, get_or, set}
+use Rattle.std.proofs.Common.{◌≡◌, ◌≢◌, ℕ, zero, suc, ◌+◌, ◌-◌, ◌*◌, ◌<◌, ◌≤◌, ◌==◌, Bool, true, false, cond, List, []}
+use Rattle.std.proofs.Common.{◌∷◌, length, get_or, set}
 use Rattle.std.proofs.Common.{Option, refl, sym, ap, ◌∙◌, ⊎_elim, ne_eqb, arith}
 use Rattle.std.proofs.lemmas.Bool.{cases_eq, cond_both, cond-false}
 use Rattle.std.proofs.lemmas.List.{get_or-set_other, length-set}
@@ -28,7 +29,8 @@ total_at f (x ∷ xs) zero a e = let t = ap f (some-injective x a e) in omega ar
 total_at f (x ∷ xs) (suc i) a e = let t = total_at f xs i a e in omega arith
 
 -- two places of a list
-pub total_two : {A : Type 0} (f : A → ℕ) (l : List A) (i j : ℕ) (a b : A) → get_elem? l i ≡ some a → get_elem? l j ≡ some b → i ≢ j → f a + f b ≤ total f l
+pub total_two : {A : Type 0} (f : A → ℕ) (l : List A) (i j : ℕ) (a b : A) → get_elem? l i ≡ some a → get_elem? l j ≡ some b → i ≢ j
+    → f a + f b ≤ total f l
 total_two f [] i j a b e g n = absurd (some-ne-none a (sym e))
 total_two f (x ∷ xs) zero zero a b e g n = absurd (n refl)
 total_two f (x ∷ xs) zero (suc j) a b e g n = let t = ap f (some-injective x a e) in let u = total_at f xs j b g in omega arith
@@ -93,7 +95,8 @@ module _ {V : Type 0} where
     -- the words, where only the adds of one view and one flag word change
     pub shows_door : (q : Pending V) (w : View V) (a c : ℕ) → IsBusy (leads z h) o → w.pending ≡ q
         → let k = spot ((leads z h).object o).block 2 in
-        ((m : ℕ) → owes v.pending m ≡ owes q m) → ((m : ℕ) → pays v.pending m ≡ pays q m) → ((m : ℕ) → adds v.pending m ≡ a * one_at k m) → ((m : ℕ)
+        ((m : ℕ) → owes v.pending m ≡ owes q m) → ((m : ℕ) → pays v.pending m ≡ pays q m)
+        → ((m : ℕ) → adds v.pending m ≡ a * one_at k m) → ((m : ℕ)
         → adds q m ≡ c * one_at k m)
         → (n : ℕ) → n + a ≡ get_or words k 0 + c
         → Shows z (set words k n) (owed (set views i w)) (more z (leads z h) (set views i w) stands.taken) (leads z h)

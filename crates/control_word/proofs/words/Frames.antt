@@ -1,5 +1,6 @@
 -- What one write of a word, and one change of a view, leave as they were.
-use Rattle.std.proofs.Common.{◌≡◌, ◌≢◌, ℕ, zero, suc, ◌+◌, ◌*◌, ◌<◌, ◌≤◌, ◌⊎◌, List, [], ◌∷◌, length, get_or, set, refl, sym, ap, subst, ◌∙◌, inl, inr}
+use Rattle.std.proofs.Common.{◌≡◌, ◌≢◌, ℕ, zero, suc, ◌+◌, ◌*◌, ◌<◌, ◌≤◌, ◌⊎◌, List, [], ◌∷◌, length, get_or, set}
+use Rattle.std.proofs.Common.{refl, sym, ap, subst, ◌∙◌, inl, inr}
 use Rattle.std.proofs.Common.{⊎_elim, arith}
 use Rattle.std.proofs.lemmas.Bool.{cases_eq}
 use Rattle.std.proofs.lemmas.List.{get_or-set_same, get_or-set_other, length-set}
@@ -22,16 +23,19 @@ spot_fits z b k h hk = omega arith
 
 -- the other words are as they were
 pub shows_write : (z : Opening) (words : List ℕ) (u f v g : ℕ → ℕ) (s t : State) (b k n : ℕ) → InShape z b → k < 10 → Shows z words u f s
-    → ((c j : ℕ) → InShape z c → j < 10 → ((c ≡ b) × (j ≡ k) → ⊥) → Says s u f c j (get_or words (spot c j) 0) → Says t v g c j (get_or words (spot c j) 0))
+    → ((c j : ℕ) → InShape z c → j < 10 → ((c ≡ b) × (j ≡ k) → ⊥) → Says s u f c j (get_or words (spot c j) 0)
+    → Says t v g c j (get_or words (spot c j) 0))
     → Says t v g b k n
-    → ((c w : ℕ) → c < z.cells → w ≡ packed (blocks_of s) (s.cell c) + f (cell_spot z c) → w ≡ packed (blocks_of t) (t.cell c) + g (cell_spot z c))
+    → ((c w : ℕ) → c < z.cells → w ≡ packed (blocks_of s) (s.cell c) + f (cell_spot z c)
+    → w ≡ packed (blocks_of t) (t.cell c) + g (cell_spot z c))
     → Shows z (set words (spot b k) n) v g t
 shows_write z words u f v g s t b k n hb hk shows others here free = record {
   sized = length-set words (spot b k) n ∙ shows.sized;
   blocks = λ c j hc hj. ⊎_elim
       (λ (e : spot c j ≡ spot b k).
       let p = spot_apart c j b k hc.0 hb.0 hj hk e in
-      let q : get_or (set words (spot b k) n) (spot c j) 0 ≡ n = ap (λ i. get_or (set words (spot b k) n) i 0) e ∙ get_or-set_same words (spot b k) n 0 (let l = spot_fits z b k hb hk in
+      let q : get_or (set words (spot b k) n) (spot c j) 0 ≡ n =
+      ap (λ i. get_or (set words (spot b k) n) i 0) e ∙ get_or-set_same words (spot b k) n 0 (let l = spot_fits z b k hb hk in
       let m = shows.sized in omega arith) in
       subst (λ w. Says t v g c j w) (sym q) (subst (λ x. Says t v g x j n) (sym p.0) (subst (λ x. Says t v g b x n) (sym p.1) here)))
       (λ (ne : spot c j ≢ spot b k).
@@ -48,7 +52,8 @@ words_phase : (block : ℕ → ℕ) (x : Object) → object_words block (moved_t
 unfolding object_words
 words_phase block x = refl
 
-blocks_still : (f g : ℕ → Object) → ((j : ℕ) → moved_to unmade (f j) ≡ moved_to unmade (g j)) → ◌≡◌ {A = ℕ → ℕ} (λ j. (f j).block) (λ j. (g j).block)
+blocks_still : (f g : ℕ → Object) → ((j : ℕ) → moved_to unmade (f j) ≡ moved_to unmade (g j))
+    → ◌≡◌ {A = ℕ → ℕ} (λ j. (f j).block) (λ j. (g j).block)
 blocks_still f g e = fun_ext (λ j. ap (λ (x : Object). x.block) (e j))
 
 pub words_still : (f g : ℕ → Object) (q : ℕ) → ((j : ℕ) → moved_to unmade (f j) ≡ moved_to unmade (g j))
@@ -68,26 +73,31 @@ module _ (z : Opening) (s : State) (hs : List Held) (f' : ℕ → Object) (o k :
     (still : (q : ℕ) → moved_to unmade (f' q) ≡ moved_to unmade (s.object q)) where
   latest_other : (c : ℕ) → c ≢ (s.object o).block → s.latest c ≢ o
   latest_other c n e =
-      ⊎_elim (λ (zero' : o ≡ 0). let u = sound.unmade_free 0 sound.none in let v : weak_number s o ≡ weak_number s 0 = ap (weak_number s) zero' in omega arith)
+      ⊎_elim (λ (zero' : o ≡ 0). let u = sound.unmade_free 0 sound.none in
+      let v : weak_number s o ≡ weak_number s 0 = ap (weak_number s) zero' in omega arith)
       (λ (pos : o ≢ 0). n (sym (sound.latest_in c (λ t. pos (sym e ∙ t))) ∙ ap (λ q. (s.object q).block) e)) (cases_eq o 0)
 
   pub word_same : (c j : ℕ) → ((c ≡ (s.object o).block) × (j ≡ k) → ⊥)
       → get_or (block_words (record s { hands = hs; object = f' }) c) j 0 ≡ get_or (block_words s c) j 0
   word_same c zero n =
-      counts (s.latest c) (⊎_elim (λ (e : c ≡ (s.object o).block). inl (λ t. n (e, sym t))) (λ ne. inr (latest_other c ne)) (cases_eq c (s.object o).block))
+      counts (s.latest c)
+      (⊎_elim (λ (e : c ≡ (s.object o).block). inl (λ t. n (e, sym t))) (λ ne. inr (latest_other c ne)) (cases_eq c (s.object o).block))
   word_same c (suc zero) n =
-      weaks (s.latest c) (⊎_elim (λ (e : c ≡ (s.object o).block). inl (λ t. n (e, sym t))) (λ ne. inr (latest_other c ne)) (cases_eq c (s.object o).block))
+      weaks (s.latest c)
+      (⊎_elim (λ (e : c ≡ (s.object o).block). inl (λ t. n (e, sym t))) (λ ne. inr (latest_other c ne)) (cases_eq c (s.object o).block))
   word_same c (suc (suc j)) n = ap (λ l. get_or l j 0) (words_still f' s.object (s.latest c) still)
 
   pub vacant_same : (c : ℕ) → IsVacant s c → IsVacant (record s { hands = hs; object = f' }) c
   vacant_same c v q e =
       let e' : (s.object q).block ≡ c = sym (ap (λ (x : Object). x.block) (still q)) ∙ e in
-      ⊎_elim (λ (t : q ≡ o). let u : weak_number s o ≡ 0 = sym (ap (weak_number s) t) ∙ v q e' in absurd (omega arith)) (λ (n : q ≢ o). weaks q (inr n)
+      ⊎_elim (λ (t : q ≡ o). let u : weak_number s o ≡ 0 = sym (ap (weak_number s) t) ∙ v q e' in absurd (omega arith))
+      (λ (n : q ≢ o). weaks q (inr n)
       ∙ v q e') (cases_eq q o)
 
   pub shows_number : (words : List ℕ) (u f v g : ℕ → ℕ) (n : ℕ) → k < 2 → Shows z words u f s
       → ((i : ℕ) → i ≢ spot (s.object o).block k → u i ≡ v i) → ((i : ℕ) → i ≢ spot (s.object o).block k → f i ≡ g i)
-      → n + v (spot (s.object o).block k) ≡ get_or (block_words (record s { hands = hs; object = f' }) (s.object o).block) k 0 + g (spot (s.object o).block k)
+      → n + v (spot (s.object o).block k) ≡ get_or (block_words (record s { hands = hs; object = f' }) (s.object o).block) k 0 + g
+      (spot (s.object o).block k)
       → Shows z (set words (spot (s.object o).block k) n) v g (record s { hands = hs; object = f' })
   shows_number words u f v g n low shows same_u same_f e =
       let b = (s.object o).block in
@@ -122,5 +132,6 @@ at_inside (x ∷ xs) zero a e = omega arith
 at_inside (x ∷ xs) (suc i) a e = let t = at_inside xs i a e in omega arith
 
 -- a sum over views of which one changed
-pub total_same : {A : Type 0} (f : A → ℕ) (l : List A) (i : ℕ) (a b : A) → get_elem? l i ≡ some a → f b ≡ f a → total f (set l i b) ≡ total f l
+pub total_same : {A : Type 0} (f : A → ℕ) (l : List A) (i : ℕ) (a b : A) → get_elem? l i ≡ some a → f b ≡ f a
+    → total f (set l i b) ≡ total f l
 total_same f l i a b at e = let t = total_set f l i a b at in omega arith

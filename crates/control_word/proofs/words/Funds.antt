@@ -1,5 +1,6 @@
 -- The funds of cells and of half-done calls, and the words that count.
-use Rattle.std.proofs.Common.{◌≡◌, ◌≢◌, ℕ, zero, suc, ◌+◌, ◌-◌, ◌*◌, ◌<◌, ◌≤◌, ◌==◌, cond, List, [], ◌∷◌, map, Option, Some, None, refl, sym, ap, ◌∙◌}
+use Rattle.std.proofs.Common.{◌≡◌, ◌≢◌, ℕ, zero, suc, ◌+◌, ◌-◌, ◌*◌, ◌<◌, ◌≤◌, ◌==◌, cond, List, [], ◌∷◌, map}
+use Rattle.std.proofs.Common.{Option, Some, None, refl, sym, ap, ◌∙◌}
 use Rattle.std.proofs.Common.{⊎_elim, eq-eqb, ne_eqb, arith}
 use Rattle.std.proofs.lemmas.Bool.{cases_eq, cond-true, cond-false}
 use mathlib.Core.Path.{fun_ext}
@@ -57,7 +58,8 @@ counted_busy z s sound Weak r h = omega arith
 
 module _ (z : Opening) (s : State) (fine : Sound z s) where
   -- one word counts one kind of handles of one busy object
-  pub same_counts : (k m : Kind) (o q : ℕ) → IsBusy s o → IsBusy s q → counts_at (blocks_of s) k o ≡ counts_at (blocks_of s) m q → (k ≡ m) × (o ≡ q)
+  pub same_counts : (k m : Kind) (o q : ℕ) → IsBusy s o → IsBusy s q → counts_at (blocks_of s) k o ≡ counts_at (blocks_of s) m q
+      → (k ≡ m) × (o ≡ q)
   same_counts k m o q bo bq e =
       let a = fine.placed o bo in let b = fine.placed q bq in
       let t = kinds_same k m (blocks_of s) o q a.1.0 b.1.0 e in
@@ -93,7 +95,8 @@ module _ (z : Opening) (s : State) (fine : Sound z s) where
         (λ (e : counts_at (blocks_of s) k o ≡ counts_at (blocks_of s) m q).
         let x = same_counts k m o q busy (b q refl) e in
         let one = one_of k o (handle m (Some q) p) (sym x.0) (ap Some (sym x.1)) in
-        let c : cond (counts_at (blocks_of s) k o == counts_at (blocks_of s) m q) (256 - t) 0 ≡ 256 - t = cond-true _ (256 - t) 0 (eq-eqb _ _ e) in omega arith)
+        let c : cond (counts_at (blocks_of s) k o == counts_at (blocks_of s) m q) (256 - t) 0 ≡ 256 - t =
+        cond-true _ (256 - t) 0 (eq-eqb _ _ e) in omega arith)
         (λ (ne : counts_at (blocks_of s) k o ≢ counts_at (blocks_of s) m q).
         let c : ◌≡◌ {A = ℕ} (cond (counts_at (blocks_of s) k o == counts_at (blocks_of s) m q) (256 - t) 0) 0 = cond-false _ (256 - t) 0
         (ne_eqb _ _ ne) in omega arith)
@@ -120,7 +123,8 @@ module _ (z : Opening) (s : State) (fine : Sound z s) where
         omega (arith, tally_append k o (x ∷ []) (upto n (λ c. s.cell c ∷ [])))
 
     objects_few : (taken : ℕ → ℕ) (n : ℕ) → n ≤ suc s.made
-        → sum_below n (λ q. member_funds (blocks_of s) taken (s.object q) (counts_at (blocks_of s) k o)) ≤ 256 * tally k o (upto n (λ q. members (s.object q)))
+        → sum_below n (λ q. member_funds (blocks_of s) taken (s.object q) (counts_at (blocks_of s) k o))
+        ≤ 256 * tally k o (upto n (λ q. members (s.object q)))
     objects_few taken zero le = omega arith
     objects_few taken (suc n) le =
         let a = members_few taken n (omega arith) in

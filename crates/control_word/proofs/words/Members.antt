@@ -21,7 +21,8 @@ unfolding packed
 packed_empty f k = refl
 
 -- the word of a member among the words of its block
-pub member_word : (s : State) (b o m : ℕ) → m < 3 → s.latest b ≡ o → get_or (block_words s b) (7 + m) 0 ≡ packed (blocks_of s) ((s.object o).member m)
+pub member_word : (s : State) (b o m : ℕ) → m < 3 → s.latest b ≡ o
+    → get_or (block_words s b) (7 + m) 0 ≡ packed (blocks_of s) ((s.object o).member m)
 unfolding object_words
 member_word s b o zero lt e = ap (λ n. packed (blocks_of s) ((s.object n).member 0)) e
 member_word s b o (suc zero) lt e = ap (λ n. packed (blocks_of s) ((s.object n).member 1)) e

@@ -1,5 +1,6 @@
 -- At the start all words are 0, and one desk has the whole allowance.
-use Rattle.std.proofs.Common.{◌≡◌, ℕ, zero, suc, ◌+◌, ◌*◌, ◌<◌, [], length, get_or, replicate, refl, sym, ap, subst, ◌∙◌, inr, ⊎_elim, false, arith}
+use Rattle.std.proofs.Common.{◌≡◌, ℕ, zero, suc, ◌+◌, ◌*◌, ◌<◌, [], length, get_or, replicate, refl, sym, ap, subst, ◌∙◌, inr}
+use Rattle.std.proofs.Common.{⊎_elim, false, arith}
 use mathlib.Core.Option.{some, some-ne-none, some-injective}
 use lib.ListN.{get_elem?}
 use Rattle.control_word.proofs.history.Legal.{sound_start}
@@ -45,7 +46,8 @@ bank_start z i = bank_none z (start z) (sound_start z) (λ j. 0) i (λ m o busy 
 
 module _ {V : Type 0} where
   -- what a view of a desk that was there from the start is
-  fresh_at : (d n i : ℕ) (v : View V) → get_elem? (fresh d n) i ≡ some v → (i < n) × (v ≡ record { name = d + i; spent = false; pending = Idle; seen = [] })
+  fresh_at : (d n i : ℕ) (v : View V) → get_elem? (fresh d n) i ≡ some v
+      → (i < n) × (v ≡ record { name = d + i; spent = false; pending = Idle; seen = [] })
   fresh_at d zero i v e = absurd (some-ne-none v (sym e))
   fresh_at d (suc n) zero v e = (
     omega arith,
@@ -53,8 +55,10 @@ module _ {V : Type 0} where
         ∙ (let f : d ≡ d + 0 = omega arith in λ i. record { name = f i; spent = false; pending = Idle; seen = [] }),
   )
   fresh_at d (suc n) (suc i) v e =
-      let t = fresh_at (suc d) n i v e in
-      (let l = t.0 in omega arith, t.1 ∙ (let f : suc d + i ≡ d + suc i = omega arith in λ j. record { name = f j; spent = false; pending = Idle; seen = [] }))
+      let t = fresh_at (suc d) n i v e in (
+        let l = t.0 in omega arith,
+        t.1 ∙ (let f : suc d + i ≡ d + suc i = omega arith in λ j. record { name = f j; spent = false; pending = Idle; seen = [] }),
+      )
 
   fresh_none : (f : Pending V → ℕ) → f Idle ≡ 0 → (d n : ℕ) → total (λ (v : View V). f v.pending) (fresh d n) ≡ 0
   fresh_none f idle d zero = refl
@@ -92,7 +96,8 @@ module _ {V : Type 0} where
           seated = λ i v e l. let t = fresh_at 0 z.desks i v e in
               subst (λ (u : View V). Seated (replicate (16 * z.blocks + 8 * z.cells) 0) z [] u) (sym t.1) (record {
                 knows = λ d s. ([], refl, tt);
-                acts = λ d s. ⊎_elim (λ q. let lt = t.0 in let e : 0 + i ≡ d = q in (omega arith, refl, proper.positive d (omega arith))) (λ q. absurd q) s;
+                acts = λ d s. ⊎_elim (λ q. let lt = t.0 in let e : 0 + i ≡ d = q in (omega arith, refl, proper.positive d (omega arith)))
+                    (λ q. absurd q) s;
                 apart = λ d s q. s;
                 both = tt;
                 fits = tt;

@@ -36,7 +36,8 @@ module _ (s : State) where
   split_weak d to n hs bs has q = hands_weak s (passed same_held (λ (h : Handle). held d h) (λ h. held to h) hs s.hands) q (split_held d to hs has Weak q)
 
   join_held : (d e : ℕ) (k : Kind) (q : ℕ)
-      → num (λ (x : Held). is_on k q x.handle) (map (λ (x : Held). held (renamed e d x.desk) x.handle) s.hands) ≡ num (λ (x : Held). is_on k q x.handle) s.hands
+      → num (λ (x : Held). is_on k q x.handle) (map (λ (x : Held). held (renamed e d x.desk) x.handle) s.hands)
+      ≡ num (λ (x : Held). is_on k q x.handle) s.hands
   join_held d e k q = num_map (λ (x : Held). is_on k q x.handle) (λ (x : Held). held (renamed e d x.desk) x.handle) s.hands
 
   join_count : (d e q : ℕ) → count (joins_up d e s) q ≡ count s q
@@ -60,7 +61,8 @@ module _ (s : State) where
   join_words d e b (suc zero) = let t = join_weak d e (s.latest b) in let u = handed_common e d (s.object (s.latest b)).phase in omega arith
   join_words d e b (suc (suc j)) = refl
 
-  pub split_vacant : (d to n : ℕ) (hs : List Handle) (bs : List Block) → HasAll same_held (λ (h : Handle). held d h) hs s.hands → (b : ℕ) → IsVacant s b
+  pub split_vacant : (d to n : ℕ) (hs : List Handle) (bs : List Block) → HasAll same_held (λ (h : Handle). held d h) hs s.hands
+      → (b : ℕ) → IsVacant s b
       → IsVacant (splits_off d to n hs bs s) b
   split_vacant d to n hs bs has b v q e = ap (λ m. m + common (s.object q).phase) (split_weak d to n hs bs has q) ∙ v q e
 
@@ -80,7 +82,8 @@ module _ {V : Type 0} where
   module _ (z : Opening) (words : List ℕ) (views : List (View V)) (h : List (Entry V)) (stands : Stands z words views h)
       (i : ℕ) (v : View V) (at : get_elem? views i ≡ some v) (awake : v.spent ≡ false) where
     -- a change of one view that adds, pays and owes as before
-    pub same_sums : (w : View V) → ((m : ℕ) → owes v.pending m ≡ owes w.pending m) → ((m : ℕ) → pays v.pending m ≡ pays w.pending m) → ((m : ℕ)
+    pub same_sums : (w : View V) → ((m : ℕ) → owes v.pending m ≡ owes w.pending m)
+        → ((m : ℕ) → pays v.pending m ≡ pays w.pending m) → ((m : ℕ)
         → adds v.pending m ≡ adds w.pending m)
         → (m : ℕ) → (owed (set views i w) m ≡ owed views m) × (paid (set views i w) m ≡ paid views m) × (added (set views i w) m ≡ added views m)
     same_sums w a b c m =

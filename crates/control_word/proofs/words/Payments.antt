@@ -1,5 +1,6 @@
 -- A step on a count's word without an event: funds come, go, or one of them becomes a handle.
-use Rattle.std.proofs.Common.{◌≡◌, ◌≢◌, ℕ, zero, suc, ◌+◌, ◌*◌, ◌<◌, ◌≤◌, ◌==◌, false, cond, List, ◌∷◌, length, get_or, set, Option, Some, refl, sym}
+use Rattle.std.proofs.Common.{◌≡◌, ◌≢◌, ℕ, zero, suc, ◌+◌, ◌*◌, ◌<◌, ◌≤◌, ◌==◌, false, cond, List, ◌∷◌, length}
+use Rattle.std.proofs.Common.{get_or, set, Option, Some, refl, sym}
 use Rattle.std.proofs.Common.{ap, subst, ◌∙◌, inl, inr, ⊎_elim, eq-eqb, ne_eqb, arith}
 use Rattle.std.proofs.lemmas.Bool.{cases_eq, cond-true, cond-false}
 use Rattle.std.proofs.lemmas.List.{get_or-set_same, get_or-set_other, length-set}
@@ -66,7 +67,8 @@ one_else i m n = cond-false _ 1 0 (ne_eqb m i n)
 
 pub cond_one : (i m n : ℕ) → ◌≡◌ {A = ℕ} (cond (m == i) n 0) (n * one_at i m)
 cond_one i m n =
-    ⊎_elim (λ e. let a = one_here i m e in let b = cond-true (m == i) n 0 (eq-eqb m i e) in let c : n * one_at i m ≡ n * 1 = ap (λ x. n * x) a in omega arith)
+    ⊎_elim (λ e. let a = one_here i m e in let b = cond-true (m == i) n 0 (eq-eqb m i e) in
+    let c : n * one_at i m ≡ n * 1 = ap (λ x. n * x) a in omega arith)
     (λ ne. let a = one_else i m ne in let b : ◌≡◌ {A = ℕ} (cond (m == i) n 0) 0 = cond-false _ n 0 (ne_eqb m i ne) in
     let c : n * one_at i m ≡ n * 0 = ap (λ x. n * x) a in omega arith) (cases_eq m i)
 
@@ -133,7 +135,8 @@ module _ {V : Type 0} where
       (i : ℕ) (v : View V) (at : get_elem? views i ≡ some v) (awake : v.spent ≡ false) where
     -- the word of a number is one of the table's, and no flag or field, nor a cell's
     pub counts_inside : (k : Kind) (o : ℕ) → IsBusy (leads z h) o → counts_at (blocks_of (leads z h)) k o < length words
-    counts_inside k o busy = let t = spot_fits z ((leads z h).object o).block (slot k) ((sound z h stands.legal).placed o busy).1 (let u = slot_low k in omega arith) in
+    counts_inside k o busy = let t = spot_fits z ((leads z h).object o).block (slot k) ((sound z h stands.legal).placed o busy).1
+        (let u = slot_low k in omega arith) in
         let u = stands.shows.sized in omega arith
 
     -- a write of a number leaves what half-done calls know
@@ -143,7 +146,8 @@ module _ {V : Type 0} where
     stays_low k o n d (Making b known) busy f = (
       f.0,
       λ j lt. get_or-set_other words (counts_at (blocks_of (leads z h)) k o) (spot b.0 (2 + j)) n 0
-          (λ e. let t = spot_apart b.0 (2 + j) ((leads z h).object o).block (slot k) ((sound z h stands.legal).stores d b.0 f.0).1.0 ((sound z h stands.legal).placed o busy).1.0 (omega arith) (let u = slot_low k in omega arith) e in
+          (λ e. let t = spot_apart b.0 (2 + j) ((leads z h).object o).block (slot k) ((sound z h stands.legal).stores d b.0 f.0).1.0
+          ((sound z h stands.legal).placed o busy).1.0 (omega arith) (let u = slot_low k in omega arith) e in
           let u = slot_low k in omega arith) ∙ f.1 j lt,
     )
     stays_low k o n d (Paying m q p w x y) busy f = f
@@ -208,7 +212,8 @@ module _ {V : Type 0} where
         (λ x q ne y. stays_low k o n x q busy y)
 
     -- the funds of a half-done call are on the word, whatever is owed to it
-    pub own_funds : (k : Kind) (o f l : ℕ) (p : Option Place) → v.pending ≡ Paying k o p (counts_at (blocks_of (leads z h)) k o) f l → IsBusy (leads z h) o
+    pub own_funds : (k : Kind) (o f l : ℕ) (p : Option Place) → v.pending ≡ Paying k o p (counts_at (blocks_of (leads z h)) k o) f l
+        → IsBusy (leads z h) o
         → 4294967296 * f ≤ get_or words (counts_at (blocks_of (leads z h)) k o) 0 + l
     own_funds k o f l p mine busy =
         let s = leads z h in

@@ -1,5 +1,6 @@
 -- The funds and the number of a word stay in their halves.
-use Rattle.std.proofs.Common.{◌≡◌, ◌≢◌, ℕ, ◌+◌, ◌-◌, ◌*◌, ◌<◌, ◌≤◌, ◌&&◌, Bool, true, false, ◌==◌, List, [], ◌∷◌, map, get_or, Option, Some, refl, sym}
+use Rattle.std.proofs.Common.{◌≡◌, ◌≢◌, ℕ, ◌+◌, ◌-◌, ◌*◌, ◌<◌, ◌≤◌, ◌&&◌, Bool, true, false, ◌==◌, List, []}
+use Rattle.std.proofs.Common.{◌∷◌, map, get_or, Option, Some, refl, sym}
 use Rattle.std.proofs.Common.{ap, ◌∙◌, inl, ⊎_elim, eq-eqb, arith}
 use Rattle.std.proofs.lemmas.Bool.{cases_eq, cond_both, and_from, cases_lt}
 use mathlib.Core.Option.{some, some-injective}
@@ -155,14 +156,16 @@ module _ {V : Type 0} where
     -- where every other desk is joined, the low half is the number
     pub sole_exact : (i : ℕ) (v : View V) → get_elem? views i ≡ some v → v.pending ≡ Idle → ((j : ℕ) (u : View V) → get_elem? views j ≡ some u
         → u.spent ≡ false → j ≡ i)
-        → (k : Kind) (o : ℕ) → IsBusy (leads z h) o → (low high : ℕ) → get_or words (counts_at (blocks_of (leads z h)) k o) 0 ≡ low + 4294967296 * high
+        → (k : Kind) (o : ℕ) → IsBusy (leads z h) o → (low high : ℕ)
+        → get_or words (counts_at (blocks_of (leads z h)) k o) 0 ≡ low + 4294967296 * high
         → low < 4294967296 → low ≡ number (leads z h) k o
     sole_exact i v at idle only k o busy low high is small =
         let w = counts_at (blocks_of (leads z h)) k o in
         let none = total_none (λ (u : View V). owes u.pending w) views (λ j u e. go j u e u.spent refl) in
         let t = (halves k o busy low high is small).0 in omega arith
       where
-        go : (j : ℕ) (u : View V) → get_elem? views j ≡ some u → (t : Bool) → u.spent ≡ t → owes u.pending (counts_at (blocks_of (leads z h)) k o) ≡ 0
+        go : (j : ℕ) (u : View V) → get_elem? views j ≡ some u → (t : Bool) → u.spent ≡ t
+            → owes u.pending (counts_at (blocks_of (leads z h)) k o) ≡ 0
         go j u e true t = ap (λ p. owes p (counts_at (blocks_of (leads z h)) k o)) (stands.team.rests j u e t)
         go j u e false t =
             let q : some u ≡ some v = sym e ∙ (ap (get_elem? views) (only j u e t) ∙ at) in

@@ -1,7 +1,9 @@
 //! The members of an object that ends are emptied before its end.
 ghost use Rattle.std.specs.Prelude.{◌≡◌, ℕ, ◌+◌, ◌<◌, Bool, cond, length};
-ghost use Rattle.control_block.specs.Desks.{Belongs, IsCleared, IsSameDesk, KeepsOtherEndings, bag_of, endings_of, stock_of};
-ghost use Rattle.shared_handle.specs.Endings.{Clears, ClearsUp, Ends, IsApart, IsBeside, IsClearing, more_ending, with_clear};
+ghost use Rattle.control_block.specs.Desks.{Belongs, IsCleared, IsSameDesk, KeepsOtherEndings, bag_of, endings_of};
+ghost use Rattle.control_block.specs.Desks.{stock_of};
+ghost use Rattle.shared_handle.specs.Endings.{Clears, ClearsUp, Ends, IsApart, IsBeside, IsClearing, more_ending};
+ghost use Rattle.shared_handle.specs.Endings.{with_clear};
 
 use crate::endings::{Ending, Left, Member};
 use control_block::clear_calls;
@@ -59,9 +61,9 @@ impl<V: Drop + Send> Ending<V> {
         }
     }
 
-    /// A member is emptied, and what it held leaves (own): it answers what a release of that answers, and for `up` never
-    /// `Last`. An object that ends for it is another than this one and than all that end in the desk's hands, and they may
-    /// be finished in any order. It refuses
+    /// A member is emptied, and what it held leaves (own): it answers what a release of that answers, and for `up`
+    /// never `Last`. An object that ends for it is another than this one and than all that end in the desk's hands, and
+    /// they may be finished in any order. It refuses
     /// nothing, at the allowance too: the desk keeps one place of its allowance free while an object ends in its hands.
     pub fn clear_member(
         &mut self,

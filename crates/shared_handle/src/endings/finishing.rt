@@ -1,10 +1,12 @@
 //! What an object that ends still gives, and its end.
-ghost use Rattle.std.specs.Prelude.{◌≡◌, ◌≢◌, ℕ, ◌+◌, ◌<◌, Bool, cond, ◌&&◌, true, false, length, slice_index, Err, IfErr, IfOk, OnOk, Some};
+ghost use Rattle.std.specs.Prelude.{◌≡◌, ◌≢◌, ℕ, ◌+◌, ◌<◌, Bool, cond, ◌&&◌, true, false};
+ghost use Rattle.std.specs.Prelude.{length, slice_index, Err, IfErr, IfOk, OnOk, Some};
 ghost use Rattle.control_word.specs.declared.event.Event.TheVariants.{Finish};
 ghost use Rattle.control_word.specs.declared.handle.Kind.TheVariants.{Weak};
 ghost use Rattle.control_word.specs.Histories.{value};
 ghost use Rattle.control_block.specs.Rule.{opening_of};
-ghost use Rattle.control_block.specs.Desks.{Belongs, Adds, IsEnding, IsSameDesk, Keeps, KeepsOtherEndings, allowance_of, bag_of, endings_of, held_of, latest_of, object_in, stock_of};
+ghost use Rattle.control_block.specs.Desks.{Belongs, Adds, IsEnding, IsSameDesk, Keeps, KeepsOtherEndings};
+ghost use Rattle.control_block.specs.Desks.{allowance_of, bag_of, endings_of, held_of, latest_of, object_in, stock_of};
 ghost use Rattle.shared_handle.specs.Calls.{Holds, IsOfThis, SharesWeakly, with_handle};
 ghost use Rattle.shared_handle.specs.Endings.{Ends, IsAllClear, IsUncleared, WhyNoWeakThis};
 
@@ -22,7 +24,8 @@ impl<V: Drop + Send> Ending<V> {
     pub fn fields(&self, domain: &Domain<V>, desk: &mut Desk<V>) -> [u64; 4]
         requires domain { Belongs desk.old domain.now }
         requires ends { Ends desk.old self.now }
-        ensures fields { (k : ℕ) → k < 4 → slice_index result k ≡ slice_index (object_in desk.old self.now.block.0).fields k }
+        ensures fields { (k : ℕ) → k < 4
+            → slice_index result k ≡ slice_index (object_in desk.old self.now.block.0).fields k }
         ensures same { desk.new ≡ desk.old }
     {
         calls::fields(domain, desk, self.block)
@@ -58,8 +61,8 @@ impl<V: Drop + Send> Ending<V> {
         self.first && self.next && self.up
     }
 
-    /// No owner comes of an object that ends ([util.smartptr.enab], [util.smartptr.weak.bad]): it is refused `NotEnabled`
-    /// where the object has no from-this flag, and else `BadWeak`. Nothing changes.
+    /// No owner comes of an object that ends ([util.smartptr.enab], [util.smartptr.weak.bad]): it is refused
+    /// `NotEnabled` where the object has no from-this flag, and else `BadWeak`. Nothing changes.
     pub fn shared_from_this(
         &self,
         domain: &Domain<V>,
@@ -67,7 +70,8 @@ impl<V: Drop + Send> Ending<V> {
     ) -> Result<Shared, Refusal>
         requires domain { Belongs desk.old domain.now }
         requires ends { Ends desk.old self.now }
-        ensures refused { result ≡ Err (cond (object_in desk.old self.now.block.0).enabled Refusal.BadWeak Refusal.NotEnabled) }
+        ensures refused { result
+            ≡ Err (cond (object_in desk.old self.now.block.0).enabled Refusal.BadWeak Refusal.NotEnabled) }
         ensures same { desk.new ≡ desk.old }
     {
         if calls::is_enabled(domain, desk, self.block) {
@@ -88,7 +92,8 @@ impl<V: Drop + Send> Ending<V> {
         requires domain { Belongs desk.old domain.now }
         requires ends { Ends desk.old self.now }
         ensures refused { IfErr result (λ why. WhyNoWeakThis desk.old self.now.block why × (desk.new ≡ desk.old)) }
-        ensures may { OnOk result ((held_of desk.old ≢ allowance_of desk.old) × ((object_in desk.old self.now.block.0).enabled ≡ true)) }
+        ensures may { OnOk result
+            ((held_of desk.old ≢ allowance_of desk.old) × ((object_in desk.old self.now.block.0).enabled ≡ true)) }
         ensures handle { IfOk result (λ h. (h.block ≡ Some self.now.block) × IsOfThis h.block h.place) }
         ensures event { IfOk result (λ h. SharesWeakly desk.old h.block h.place desk.new) }
         ensures bag { IfOk result (λ h. bag_of desk.new ≡ with_handle Weak h.block h.place (bag_of desk.old)) }
@@ -106,15 +111,17 @@ impl<V: Drop + Send> Ending<V> {
         calls::share_weak::<V, Brand>(domain, desk, block, Some(Place { block, field: 0 }))
     }
 
-    /// The end ([util.smartptr.shared.dest]). Condition: all three members were cleared. The value comes out, which is the one
-    /// that the object was made with, as the visits left it, and dropping it is the deleter's call. Where no weak handle is
-    /// left, the block is vacant, and in the desk's store. It refuses nothing.
+    /// The end ([util.smartptr.shared.dest]). Condition: all three members were cleared. The value comes out, which is
+    /// the one that the object was made with, as the visits left it, and dropping it is the deleter's call. Where no
+    /// weak handle is left, the block is vacant, and in the desk's store. It refuses nothing.
     pub fn finish(self, domain: &Domain<V>, desk: &mut Desk<V>) -> V
         requires domain { Belongs desk.old domain.now }
         requires ends { Ends desk.old self }
         requires clear { IsAllClear self }
-        ensures value { (result ≡ self.value) × (value (opening_of desk.old.shape) desk.old.seen (latest_of desk.old self.block.0) ≡ Some result) }
-        ensures event { (vacant : Bool) × Adds desk.old (Finish (latest_of desk.old self.block.0) vacant result) desk.new × (length (stock_of desk.new) ≡ length (stock_of desk.old) + cond vacant 1 0) }
+        ensures value { (result ≡ self.value)
+            × (value (opening_of desk.old.shape) desk.old.seen (latest_of desk.old self.block.0) ≡ Some result) }
+        ensures event { (vacant : Bool) × Adds desk.old (Finish (latest_of desk.old self.block.0) vacant result)
+            desk.new × (length (stock_of desk.new) ≡ length (stock_of desk.old) + cond vacant 1 0) }
         ensures bag { bag_of desk.new ≡ bag_of desk.old }
         ensures held { desk.new.held ≡ desk.old.held }
         ensures desk { IsSameDesk desk.old desk.new }
@@ -132,11 +139,11 @@ impl<V: Drop + Send> Ending<V> {
         value
     }
 
-    /// Gives the ending up (own), and answers its block. A clear may hand out one ending more, and how long a chain is that
-    /// ends so isn't known before, since other desks may lengthen it meanwhile: a caller whose loop is counted, so that it
-    /// ends without a wait, can be left with an ending after its last round. The object stays ending in its desk's hands,
-    /// and its place of the allowance taken, as a handle that is forgotten stays counted; its block isn't used again, and its
-    /// value is dropped with the census.
+    /// Gives the ending up (own), and answers its block. A clear may hand out one ending more, and how long a chain is
+    /// that ends so isn't known before, since other desks may lengthen it meanwhile: a caller whose loop is counted, so
+    /// that it ends without a wait, can be left with an ending after its last round. The object stays ending in its
+    /// desk's hands, and its place of the allowance taken, as a handle that is forgotten stays counted; its block isn't
+    /// used again, and its value is dropped with the census.
     pub fn forget(self) -> Block
         ensures { result ≡ self.block }
     {

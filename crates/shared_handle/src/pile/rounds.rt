@@ -3,7 +3,8 @@ ghost use Rattle.std.specs.Prelude.{◌≡◌, [], IfNone, IfSome};
 ghost use Rattle.control_block.specs.Desks.{IsSameDesk, bag_of};
 ghost use Rattle.control_block.specs.Own.{Does};
 ghost use Rattle.shared_handle.specs.Endings.{with_clear};
-ghost use Rattle.shared_handle.specs.Piles.{Bears, ClearsOnce, EndsTop, IsParting, IsRound, Stacked, is_cleared, next_member, piled};
+ghost use Rattle.shared_handle.specs.Piles.{Bears, ClearsOnce, EndsTop, IsParting, IsRound, Stacked, is_cleared};
+ghost use Rattle.shared_handle.specs.Piles.{next_member, piled};
 
 use crate::endings::{Ending, Left, Member};
 use crate::pile::{Gone, Pile, Round};
@@ -39,9 +40,9 @@ impl<V: Drop + Send> Ending<V> {
 }
 
 impl<V: Drop + Send> Pile<V> {
-    /// One round (own): the first member of the top that isn't cleared is emptied, and what ends for it lies above the top; or
-    /// the top is finished, where all three are clear, and its value comes out. So an object is finished after what its
-    /// members alone owned.
+    /// One round (own): the first member of the top that isn't cleared is emptied, and what ends for it lies above the
+    /// top; or the top is finished, where all three are clear, and its value comes out. So an object is finished after
+    /// what its members alone owned.
     pub fn round(&mut self, domain: &Domain<V>, desk: &mut Desk<V>) -> Round<V>
         requires bears { Bears domain.now desk.old self.old }
         ensures bears { Bears domain.now desk.new self.new }
@@ -76,7 +77,8 @@ impl<V: Drop + Send> Pile<V> {
         requires stacked { Stacked domain.now desk.old self.old ending.old }
         ensures stacked { Stacked domain.now desk.new self.new ending.new }
         ensures noted { ending.new ≡ with_clear member ending.old }
-        ensures once { (left : Left V) × ClearsOnce desk.old ending.old member left desk.new × (self.new.endings.items ≡ piled self.old.endings.items left) }
+        ensures once { (left : Left V) × ClearsOnce desk.old ending.old member left desk.new
+            × (self.new.endings.items ≡ piled self.old.endings.items left) }
         ensures parting { Does IsParting desk.old desk.new }
         ensures bag { bag_of desk.new ≡ bag_of desk.old }
         ensures held { desk.new.held ≡ desk.old.held }
@@ -89,13 +91,15 @@ impl<V: Drop + Send> Pile<V> {
         self.put(left);
     }
 
-    /// The object on top ends (own): its members are emptied, what ends for it goes onto the pile, and its value comes out.
-    /// `None` just where the pile was empty. It waits for nobody: what goes onto the pile is left there.
+    /// The object on top ends (own): its members are emptied, what ends for it goes onto the pile, and its value comes
+    /// out. `None` just where the pile was empty. It waits for nobody: what goes onto the pile is left there.
     pub fn end_next(&mut self, domain: &Domain<V>, desk: &mut Desk<V>) -> Option<V>
         requires bears { Bears domain.now desk.old self.old }
         ensures bears { Bears domain.now desk.new self.new }
-        ensures none { IfNone result ((self.old.endings.items ≡ []) × (self.new.endings.items ≡ []) × (desk.new ≡ desk.old)) }
-        ensures ended { IfSome result (λ v. EndsTop desk.old self.old.endings.items v desk.new self.new.endings.items) }
+        ensures none { IfNone result
+            ((self.old.endings.items ≡ []) × (self.new.endings.items ≡ []) × (desk.new ≡ desk.old)) }
+        ensures ended { IfSome result
+            (λ v. EndsTop desk.old self.old.endings.items v desk.new self.new.endings.items) }
         ensures parting { Does IsParting desk.old desk.new }
         ensures bag { bag_of desk.new ≡ bag_of desk.old }
         ensures held { desk.new.held ≡ desk.old.held }

@@ -10,13 +10,14 @@ use control_block::domain::Domain;
 use std::sync::Wait;
 
 impl<V: Drop + Send> Pile<V> {
-    /// Rounds until nothing is left to end (own); the values are dropped as they come out, which is the deleters' calls. It
-    /// waits, since other desks may lengthen a chain that ends meanwhile.
+    /// Rounds until nothing is left to end (own); the values are dropped as they come out, which is the deleters'
+    /// calls. It waits, since other desks may lengthen a chain that ends meanwhile.
     pub fn settle<R: Wait>(&mut self, rt: &R, domain: &Domain<V>, desk: &mut Desk<V>)
         requires bears { Bears domain.now desk.old self.old }
         ensures bears { Bears domain.now desk.new self.new }
         ensures none { self.new.endings.items ≡ [] }
-        ensures rounds { (rs : List (Past V)) × AreRounds desk.old self.old.endings.items rs desk.new self.new.endings.items }
+        ensures rounds { (rs : List (Past V))
+            × AreRounds desk.old self.old.endings.items rs desk.new self.new.endings.items }
         ensures parting { Does IsParting desk.old desk.new }
         ensures bag { bag_of desk.new ≡ bag_of desk.old }
         ensures held { desk.new.held ≡ desk.old.held }
@@ -44,7 +45,8 @@ impl<V: Drop + Send> Pile<V> {
         requires callable { F.IsAlwaysCallable take }
         ensures bears { Bears domain.now desk.new self.new }
         ensures none { self.new.endings.items ≡ [] }
-        ensures rounds { (rs : List (Past V)) × AreRounds desk.old self.old.endings.items rs desk.new self.new.endings.items × ((last : F) × FoldsBack (λ p x q. F.step p x tt q) take (values_of rs) last) }
+        ensures rounds { (rs : List (Past V)) × AreRounds desk.old self.old.endings.items rs desk.new
+            self.new.endings.items × ((last : F) × FoldsBack (λ p x q. F.step p x tt q) take (values_of rs) last) }
         ensures parting { Does IsParting desk.old desk.new }
         ensures bag { bag_of desk.new ≡ bag_of desk.old }
         ensures held { desk.new.held ≡ desk.old.held }

@@ -32,7 +32,8 @@ lesser_some : (b : ℕ) (o : Option ℕ) → lesser b o ≡ None → ⊥
 lesser_some b None e = cc
 lesser_some b (Some c) e = cc
 
-none_of : (b : Bool) (x : Stored) (o : Option ℕ) (l : List Stored) → (o ≡ None → l ≡ []) → cond b (lesser x.block o) o ≡ None → cond b (x ∷ l) l ≡ []
+none_of : (b : Bool) (x : Stored) (o : Option ℕ) (l : List Stored) → (o ≡ None → l ≡ []) → cond b (lesser x.block o) o ≡ None
+    → cond b (x ∷ l) l ≡ []
 none_of true x o l rest e = absurd (lesser_some x.block o e)
 none_of false x o l rest e = rest e
 

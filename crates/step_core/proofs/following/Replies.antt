@@ -11,11 +11,13 @@ use Rattle.step_table.specs.declared.form.Form.{Form}
 use Rattle.step_table.specs.declared.holdings.Pointer.{Pointer}
 use Rattle.step_table.specs.declared.past.Deed.{Deed}
 use Rattle.step_table.specs.Contents.{compare_of, held_in, load_of, swap_of, swapped}
-use Rattle.step_table.specs.Deeds.{Telling, alias, aliased, downgrade, field_of, give, is_expired, is_last, leave, lock, on, read, share, tell_count, tell_expired, this_as}
+use Rattle.step_table.specs.Deeds.{Telling, alias, aliased, downgrade, field_of, give, is_expired, is_last, leave, lock, on, read, share, tell_count}
+use Rattle.step_table.specs.Deeds.{tell_expired, this_as}
 use Rattle.step_table.specs.Holdings.{Slots, inside, is_full, owner_slot, place_in, plain, slot, value, weak_slot}
 use Rattle.step_table.specs.Stories.{Nothing, added, event_of}
 use Rattle.step_threads.specs.declared.act.Act.{Act}
-use Rattle.step_threads.specs.declared.act.Act.TheVariants.{Make, Share, Downgrade, Lock, Put, Leave, Clear, Count, Expired, Read, FromThis, Alias, Move, Ask, Offer, Swap, Exchange, Load, Compare, Drop}
+use Rattle.step_threads.specs.declared.act.Act.TheVariants.{Make, Share, Downgrade, Lock, Put, Leave, Clear, Count, Expired, Read, FromThis, Alias, Move, Ask}
+use Rattle.step_threads.specs.declared.act.Act.TheVariants.{Offer, Swap, Exchange, Load, Compare, Drop}
 use Rattle.step_threads.specs.declared.act.Task.{Task}
 use Rattle.step_threads.specs.declared.call.CellName.{CellName}
 use Rattle.step_threads.specs.declared.ending.Ending.{Ending}
@@ -26,7 +28,8 @@ use Rattle.step_threads.specs.Entries.{History, acted, does, giving, is_expected
 use Rattle.step_threads.specs.Rows.{Reply, Plain, Found, Got, Told, Came, Compared, Left, gone, may_go, row, said_by_row}
 use Rattle.step_threads.specs.Scenes.{came, ended_by, found, said_of, taking, went}
 use Rattle.step_core.specs.Following.{no_worth}
-use Rattle.step_core.proofs.following.Parts.{asks, counting, expiring, gave, gives, leave_ends, leave_makes, leaving_event, left, lock_found, lock_makes, locking, none_stored, on_pointer, read_makes, read_says, reading, shared, this_answers, this_found, this_makes}
+use Rattle.step_core.proofs.following.Parts.{asks, counting, expiring, gave, gives, leave_ends, leave_makes, leaving_event, left, lock_found, lock_makes}
+use Rattle.step_core.proofs.following.Parts.{locking, none_stored, on_pointer, read_makes, read_says, reading, shared, this_answers, this_found, this_makes}
 
 -- what an act of statement n makes, with these tasks after it, by a reply
 pub record Replied (tell : Telling) (z : Opening) (d : ℕ) (h : History) (n : ℕ) (w : Walk) (ts : List Task) (a : Act) : Type 0 where

@@ -1,5 +1,6 @@
 -- Each step is an act, or on the way of one.
-use Rattle.std.proofs.Common.{◌≡◌, ◌≢◌, ℕ, ◌<◌, Bool, true, false, List, [], ◌∷◌, length, set, refl, sym, ap, subst, ◌∙◌, ⊎_elim, inl}
+use Rattle.std.proofs.Common.{◌≡◌, ◌≢◌, ℕ, ◌<◌, Bool, true, false, List, [], ◌∷◌, length, set, refl, sym, ap, subst, ◌∙◌}
+use Rattle.std.proofs.Common.{⊎_elim, inl}
 use Rattle.std.proofs.Common.{get_or-set_same}
 use Rattle.std.specs.Prelude.{Option, Some, option_map}
 use Rattle.std.proofs.lemmas.Bool.{cond-false, cond-true}
@@ -74,7 +75,8 @@ module _ (d : ℕ) (u : Sight) where
       → x.said ≡ silently x.said.statement → Now (step_of d u)
   pays_now h x is q said =
       subst Now (sym is)
-      (passed d u x said (scene_stays u (story_after u.story d x.deed) (set u.walks d x.walk) q.extent q.history (ap (set u.walks d) q.walk ∙ same_walks d u)))
+      (passed d u x said
+      (scene_stays u (story_after u.story d x.deed) (set u.walks d x.walk) q.extent q.history (ap (set u.walks d) q.walk ∙ same_walks d u)))
 
   module _ (begun : HasBegun d u) where
     -- a thread at rest whose next act begins

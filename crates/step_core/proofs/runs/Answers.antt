@@ -7,7 +7,8 @@ use Rattle.control_word.specs.declared.handle.Kind.TheVariants.{Owner, Weak}
 use Rattle.control_word.specs.declared.place.Block.{Block}
 use Rattle.control_word.specs.State.{State, weak}
 use Rattle.step_threads.specs.declared.act.Act.{Act}
-use Rattle.step_threads.specs.declared.act.Act.TheVariants.{Make, Share, Downgrade, Lock, Put, Leave, Clear, Count, Expired, Read, FromThis, Alias, Move, Ask, Offer, Swap, Exchange, Load, Compare, Drop}
+use Rattle.step_threads.specs.declared.act.Act.TheVariants.{Make, Share, Downgrade, Lock, Put, Leave, Clear, Count, Expired, Read, FromThis, Alias, Move, Ask}
+use Rattle.step_threads.specs.declared.act.Act.TheVariants.{Offer, Swap, Exchange, Load, Compare, Drop}
 use Rattle.step_threads.specs.declared.act.Task.{Task}
 use Rattle.step_threads.specs.declared.half.Half.{Half}
 use Rattle.step_threads.specs.declared.half.Half.TheVariants.{Rest, Making, Locking, Giving, Brought, Saw, Matched, Refill, Returning, Clearing}
@@ -18,7 +19,8 @@ use Rattle.step_threads.specs.declared.said.Said.{Said}
 use Rattle.step_threads.specs.Actors.{wanted}
 use Rattle.step_threads.specs.declared.ending.Ending.{Ending}
 use Rattle.step_threads.specs.Courses.{Going, Walk, cell_at, comparing, form_of, going, hand, locked, offered, on_going, other}
-use Rattle.step_table.specs.Deeds.{is_enabled, read, as_owner, downgrade, is_expired, is_last, leave, leave_as, lock, owner_word, share, share_as, tell, tell_expired, alias, aliased, on}
+use Rattle.step_table.specs.Deeds.{is_enabled, read, as_owner, downgrade, is_expired, is_last, leave, leave_as, lock, owner_word, share, share_as, tell}
+use Rattle.step_table.specs.Deeds.{tell_expired, alias, aliased, on}
 use Rattle.step_threads.specs.Endings.{staged}
 use Rattle.step_core.specs.Headline.{LocksNext}
 use Rattle.step_table.specs.Holdings.{inside, is_full, slot, owner_slot, place_in}

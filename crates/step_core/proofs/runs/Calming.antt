@@ -1,5 +1,6 @@
 -- Once each thread has finished the call that owed funds, nobody owes any.
-use Rattle.std.proofs.Common.{◌≡◌, ◌≢◌, ℕ, zero, suc, ◌<◌, ◌≤◌, Bool, true, false, List, [], ◌∷◌, length, get_or, map, refl, sym, ap, subst, ◌∙◌, ⊎_elim, arith}
+use Rattle.std.proofs.Common.{◌≡◌, ◌≢◌, ℕ, zero, suc, ◌<◌, ◌≤◌, Bool, true, false, List, [], ◌∷◌, length, get_or, map, refl, sym}
+use Rattle.std.proofs.Common.{ap, subst, ◌∙◌, ⊎_elim, arith}
 use Rattle.std.specs.Prelude.{None, Some, slice_get}
 use Rattle.std.proofs.lemmas.Bool.{cases_eq, false≢true}
 use Rattle.std.proofs.lemmas.List.{get_or-map, get_or_past, length-map}

@@ -1,5 +1,6 @@
 -- What holds after each step of a run, and of each of its steps.
-use Rattle.std.proofs.Common.{◌≡◌, ℕ, ◌-◌, ◌<◌, ◌==◌, Bool, true, false, cond, List, [], ◌∷◌, length, refl, sym, ap, subst, ◌∙◌, inl, inr, arith}
+use Rattle.std.proofs.Common.{◌≡◌, ℕ, ◌-◌, ◌<◌, ◌==◌, Bool, true, false, cond, List, [], ◌∷◌, length, refl, sym, ap, subst, ◌∙◌}
+use Rattle.std.proofs.Common.{inl, inr, arith}
 use Rattle.std.specs.Prelude.{Option, Some, None, not, ◌&&◌, ◌⊎◌, ◌↔◌}
 use Rattle.std.proofs.lemmas.Bool.{eqb-true, eqb-false, false≢true}
 use Rattle.control_word.specs.declared.event.Entry.{Entry}
@@ -77,7 +78,8 @@ told v d (Some x) = go x.deed
     one None = inl refl
     one (Some e) = inr (e, refl)
 
-    go : (y : Option Deed) → ((story_after v d y).history ≡ v.history) ⊎ ((e : Event Nothing) × ((story_after v d y).history ≡ entry d e ∷ v.history))
+    go : (y : Option Deed) → ((story_after v d y).history ≡ v.history)
+        ⊎ ((e : Event Nothing) × ((story_after v d y).history ≡ entry d e ∷ v.history))
     go None = inl refl
     go (Some y) = one (event_of (state v) y)
 

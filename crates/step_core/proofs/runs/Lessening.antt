@@ -1,5 +1,6 @@
 -- How many steps a thread has left, step by step.
-use Rattle.std.proofs.Common.{◌≡◌, ℕ, ◌+◌, ◌<◌, ◌≤◌, ◌==◌, Bool, true, false, cond, List, [], ◌∷◌, get_or, refl, sym, ap, ◌∙◌, arith}
+use Rattle.std.proofs.Common.{◌≡◌, ℕ, ◌+◌, ◌<◌, ◌≤◌, ◌==◌, Bool, true, false, cond, List, [], ◌∷◌, get_or, refl, sym, ap}
+use Rattle.std.proofs.Common.{◌∙◌, arith}
 use Rattle.std.specs.Prelude.{Option, Some, None, is_some, option_map}
 use Rattle.std.proofs.lemmas.Bool.{cond_both, eqb-false, false≢true}
 use Rattle.std.proofs.lemmas.List.Elements.{All-head}
@@ -7,7 +8,8 @@ use Rattle.control_word.specs.declared.handle.Kind.{Kind}
 use Rattle.control_word.specs.declared.place.Block.{Block}
 use Rattle.step_threads.specs.declared.act.Act.{Act}
 use Rattle.step_table.specs.declared.form.Form.{Form}
-use Rattle.step_threads.specs.declared.act.Act.TheVariants.{Make, Share, Downgrade, Lock, Put, Leave, Clear, Count, Expired, Read, FromThis, Alias, Move, Ask, Offer, Swap, Exchange, Load, Compare, Drop}
+use Rattle.step_threads.specs.declared.act.Act.TheVariants.{Make, Share, Downgrade, Lock, Put, Leave, Clear, Count, Expired, Read, FromThis, Alias, Move, Ask}
+use Rattle.step_threads.specs.declared.act.Act.TheVariants.{Offer, Swap, Exchange, Load, Compare, Drop}
 use Rattle.step_threads.specs.declared.act.Task.{Task}
 use Rattle.step_threads.specs.declared.ending.Ending.{Ending}
 use Rattle.step_threads.specs.declared.half.Half.{Half}
@@ -71,7 +73,8 @@ looked_less v d k w t ts i must (Some x) none is a e =
     (λ z. absurd (false≢true (sym ne ∙ z))) (omega arith))
 
 -- an object that is asked has one step more: it gives a pointer then
-asked_less : (v : Story) (d k : ℕ) (w : Walk) (t : Task) (ts : List Task) (i : ℕ) (q : Kind) (o : Option Pointer) → w.endings ≡ [] → w.todo ≡ t ∷ ts
+asked_less : (v : Story) (d k : ℕ) (w : Walk) (t : Task) (ts : List Task) (i : ℕ) (q : Kind) (o : Option Pointer)
+    → w.endings ≡ [] → w.todo ≡ t ∷ ts
     → IsLess v d Rest w (Some (on (asks v d w k ts i q) (acts v d w k ts (FromThis i q) None Rest) o))
 asked_less v d k w t ts i q None none is = plain_less v d k Rest w t ts (FromThis i q) None refl refl none is (omega arith) (omega arith)
 asked_less v d k w t ts i q (Some x) none is =
@@ -113,7 +116,8 @@ going_less : (v : Story) (d k : ℕ) (w : Walk) (t : Task) (ts : List Task) (a :
 going_less v d k w t ts a None none is same goes stays = plain_less v d k Rest w t ts a None refl stays none is (omega arith) (omega arith)
 going_less v d k w t ts a (Some x) none is same goes stays = brought_less v d k w t ts a x none is same goes (slot w.slots x.1)
 
-sent_less : (v : Story) (d : ℕ) (w : Walk) (ts : List Task) → w.endings ≡ [] → w.todo ≡ ts → IsSwap w.slots ts → IsLess v d Brought w (sent v d w ts)
+sent_less : (v : Story) (d : ℕ) (w : Walk) (ts : List Task) → w.endings ≡ [] → w.todo ≡ ts → IsSwap w.slots ts
+    → IsLess v d Brought w (sent v d w ts)
 sent_less v d w [] none is held = absurd held
 sent_less v d w (t ∷ ts) none is held = go (going w.slots t.act) refl held
   where
@@ -132,7 +136,8 @@ first_less v d k w t ts (Leave i) kept seat holds none is same has still calm =
     left_less v d k w (went (state v) d w k ts (Leave i)) (slot w.slots i) (went_less (state v) d k w t ts (Leave i) none is)
 first_less v d k w t ts (Clear i) kept seat holds none is same has still calm =
     left_less v d k w (went (state v) d w k ts (Clear i)) (slot w.slots i) (went_less (state v) d k w t ts (Clear i) none is)
-first_less v d k w t ts (Lock i must) kept seat holds none is same has still calm = looked_less v d k w t ts i must (locked w.slots (Lock i must)) none is same refl
+first_less v d k w t ts (Lock i must) kept seat holds none is same has still calm =
+    looked_less v d k w t ts i must (locked w.slots (Lock i must)) none is same refl
 first_less v d k w t ts (FromThis i kind) kept seat holds none is same has still calm = asked_less v d k w t ts i kind (inside (slot w.slots i)) none is
 first_less v d k w t ts (Share i) kept seat holds none is same has still calm =
     plain_less v d k Rest w t ts (Share i) (option_map share (slot w.slots i)) refl refl none is (omega arith) (omega arith)
@@ -145,7 +150,8 @@ first_less v d k w t ts (Expired i) kept seat holds none is same has still calm 
 first_less v d k w t ts (Read i) kept seat holds none is same has still calm =
     plain_less v d k Rest w t ts (Read i) (option_map (read (state v)) (inside (slot w.slots i))) refl refl none is (omega arith) (omega arith)
 first_less v d k w t ts (Alias i j field) kept seat holds none is same has still calm =
-    plain_less v d k Rest w t ts (Alias i j field) (option_map (alias (aliased field (place_in w.slots j))) (owner_slot (slot w.slots i))) refl refl none is (omega arith) (omega arith)
+    plain_less v d k Rest w t ts (Alias i j field) (option_map (alias (aliased field (place_in w.slots j))) (owner_slot (slot w.slots i))) refl refl none is
+    (omega arith) (omega arith)
 first_less v d k w t ts (Move i) kept seat holds none is same has still calm =
     plain_less v d k Rest w t ts (Move i) None refl refl none is (omega arith) (omega arith)
 first_less v d k w t ts (Ask q) kept seat holds none is same has still calm =
@@ -153,7 +159,8 @@ first_less v d k w t ts (Ask q) kept seat holds none is same has still calm =
 first_less v d k w t ts (Offer i c) kept seat holds none is same has still calm =
     plain_less v d k Rest w t ts (Offer i c) (option_map share (offered w.slots i c)) refl refl none is (omega arith) (omega arith)
 first_less v d k w t ts (Swap c) kept seat holds none is same has still calm = going_less v d k w t ts (Swap c) (going w.slots (Swap c)) none is same refl refl
-first_less v d k w t ts (Exchange i c) kept seat holds none is same has still calm = going_less v d k w t ts (Exchange i c) (going w.slots (Exchange i c)) none is same refl refl
+first_less v d k w t ts (Exchange i c) kept seat holds none is same has still calm =
+    going_less v d k w t ts (Exchange i c) (going w.slots (Exchange i c)) none is same refl refl
 first_less v d k w t ts (Load c) kept seat holds none is same has still calm = load_less v d w kept seat holds k t ts c none is same has calm
 first_less v d k w t ts (Compare i c weak) kept seat holds none is same has still calm =
     compare_less v d w kept seat holds k t ts i c weak none is same has still calm

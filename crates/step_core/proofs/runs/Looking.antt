@@ -8,7 +8,8 @@ use Rattle.control_word.specs.declared.place.Block.{Block}
 use Rattle.control_word.specs.declared.place.Place.{Place}
 use Rattle.control_word.specs.Packing.{cell_bits}
 use Rattle.step_threads.specs.declared.act.Act.{Act}
-use Rattle.step_threads.specs.declared.act.Act.TheVariants.{Make, Share, Downgrade, Lock, Put, Leave, Clear, Count, Expired, Read, FromThis, Alias, Move, Ask, Offer, Swap, Exchange, Load, Compare, Drop}
+use Rattle.step_threads.specs.declared.act.Act.TheVariants.{Make, Share, Downgrade, Lock, Put, Leave, Clear, Count, Expired, Read, FromThis, Alias, Move, Ask}
+use Rattle.step_threads.specs.declared.act.Act.TheVariants.{Offer, Swap, Exchange, Load, Compare, Drop}
 use Rattle.step_threads.specs.declared.act.Task.{Task}
 use Rattle.step_threads.specs.declared.call.CellName.{CellName}
 use Rattle.step_threads.specs.declared.half.Half.TheVariants.{Rest, Saw, Matched, Refill}
@@ -71,7 +72,8 @@ module _ (v : Story) (d : ℕ) (w : Walk) (kept : Kept v) (seat : d < v.extent.a
       compared_there w.taken (is_there w.slots c) (is_of (kind_at c) (value w.slots (hand w.slots))) (is_of (kind_at c) (value w.slots i)) still
 
   pub compare_less : (k : ℕ) (t : Task) (ts : List Task) (i : ℕ) (c : CellName) (weak : Bool) → w.endings ≡ [] → w.todo ≡ t ∷ ts
-      → t.act ≡ Compare i c weak → IsIn v.extent.shape c → idle (Compare i c weak) w.slots w.taken ≡ false → waits_on v w (Compare i c weak) ≡ false
+      → t.act ≡ Compare i c weak → IsIn v.extent.shape c → idle (Compare i c weak) w.slots w.taken ≡ false
+      → waits_on v w (Compare i c weak) ≡ false
       → IsLess v d Rest w (Some (first v d w k ts (Compare i c weak)))
   compare_less k t ts i c weak none is same has still left =
       let x = cell_at (state v) w.slots c in
@@ -79,7 +81,8 @@ module _ (v : Story) (d : ℕ) (w : Walk) (kept : Kept v) (seat : d < v.extent.a
       (shows_seen v d x kept seat (cell_open v d w.slots c has holds (there_still i c weak still)))
 
   -- what the cell showed is shown still, once funds are brought
-  shows_still : (k : ℕ) (t : Task) (ts : List Task) (i : ℕ) (c : CellName) (weak : Bool) (x : CellWord) → w.todo ≡ t ∷ ts → t.act ≡ Compare i c weak
+  shows_still : (k : ℕ) (t : Task) (ts : List Task) (i : ℕ) (c : CellName) (weak : Bool) (x : CellWord) → w.todo ≡ t ∷ ts
+      → t.act ≡ Compare i c weak
       → IsIn v.extent.shape c → is_there w.slots c ≡ true → (p : Pointer) → slot w.slots (hand w.slots) ≡ Some p
       → shows_next (story_after v d (fetches w k x p).deed) w.slots x w.todo ≡ shows_next v w.slots x w.todo
   shows_still k t ts i c weak x is same has there p e =
@@ -92,7 +95,8 @@ module _ (v : Story) (d : ℕ) (w : Walk) (kept : Kept v) (seat : d < v.extent.a
   -- a cell that was looked at is tried
   saw_less : (t : Task) (ts : List Task) (x : CellWord) (a : Act) → w.endings ≡ [] → w.todo ≡ t ∷ ts → t.act ≡ a → HasCell v.extent.shape a
       → idle a w.slots w.taken ≡ false → IsSeen w.slots x (t ∷ ts) → IsLess v d (Saw x) w (saw_on v d w t.statement ts x a)
-  saw_less t ts x (Load c) none is same has still held = takes_less v d t.statement w t ts (Load c) none is same refl refl (cell_at (state v) w.slots c) None x refl
+  saw_less t ts x (Load c) none is same has still held =
+      takes_less v d t.statement w t ts (Load c) none is same refl refl (cell_at (state v) w.slots c) None x refl
   saw_less t ts x (Compare i c weak) none is same has still held =
       settles_less v d t.statement w t ts (Compare i c weak) none is same refl refl (cell_at (state v) w.slots c)
       (compared_in w.slots (comparing w.slots i weak)) x refl (shows_still t.statement t ts i c weak x is same has (there_still i c weak still))
@@ -115,13 +119,15 @@ module _ (v : Story) (d : ℕ) (w : Walk) (kept : Kept v) (seat : d < v.extent.a
   saw_less t ts x (Exchange i c) none is same has still held = absurd (subst (λ (b : Act). IsSeenBy w.slots x b) same held)
   saw_less t ts x Drop none is same has still held = absurd (subst (λ (b : Act). IsSeenBy w.slots x b) same held)
 
-  pub seen_less : (x : CellWord) (ts : List Task) → w.endings ≡ [] → w.todo ≡ ts → IsInShape v.extent.shape ts → IsStill w ts → IsSeen w.slots x ts
+  pub seen_less : (x : CellWord) (ts : List Task) → w.endings ≡ [] → w.todo ≡ ts → IsInShape v.extent.shape ts
+      → IsStill w ts → IsSeen w.slots x ts
       → IsLess v d (Saw x) w (saw v d w x ts)
   seen_less x [] none is has still held = absurd held
   seen_less x (t ∷ ts) none is has still held = saw_less t ts x t.act none is refl has still held
 
   -- a cell that holds what is expected is swapped
-  swap_less : (t : Task) (ts : List Task) (x : CellWord) (a : Act) → w.endings ≡ [] → w.todo ≡ t ∷ ts → t.act ≡ a → IsMatched w.slots x (t ∷ ts)
+  swap_less : (t : Task) (ts : List Task) (x : CellWord) (a : Act) → w.endings ≡ [] → w.todo ≡ t ∷ ts → t.act ≡ a
+      → IsMatched w.slots x (t ∷ ts)
       → IsLess v d (Matched x) w (matched_on v d w t.statement ts x a)
   swap_less t ts x (Compare i c weak) none is same held =
       matched_less v d t.statement w t ts (Compare i c weak) none is same refl refl (cell_at (state v) w.slots c)

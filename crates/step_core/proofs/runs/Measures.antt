@@ -1,5 +1,6 @@
 -- Each step that isn't `Done` takes one from the steps that are left.
-use Rattle.std.proofs.Common.{◌≡◌, ◌≢◌, ℕ, ◌+◌, ◌*◌, ◌<◌, ◌≤◌, Bool, true, false, cond, List, [], length, refl, sym, ap, subst, ◌∙◌, arith}
+use Rattle.std.proofs.Common.{◌≡◌, ◌≢◌, ℕ, ◌+◌, ◌*◌, ◌<◌, ◌≤◌, Bool, true, false, cond, List, [], length, refl, sym, ap, subst}
+use Rattle.std.proofs.Common.{◌∙◌, arith}
 use Rattle.std.proofs.Common.{get_or-set_same, length-set}
 use Rattle.std.specs.Prelude.{Option, Some, None, slice_set}
 use Rattle.std.proofs.lemmas.Bool.{cond_both}
@@ -131,8 +132,10 @@ at_end d u u' begun steps =
 
     go : (o : Option Step) → Done ≡ stepped u.story o → u' ≡ sight_by d u o
         → IsLess u.story d (half_of u d) (walk_of (scene u) d) o → (u' ≡ u) × IsOver d u
-    go None r e l =
-        (e ∙ same_sight u _ _ (set-get_or u.walks d nowhere) (set-get_or u.halves d Rest), record { walk = l.0; endings = l.1; half = l.2; names = empty_names (walk_of (scene u) d) begun.tidy l.0 })
+    go None r e l = (
+      e ∙ same_sight u _ _ (set-get_or u.walks d nowhere) (set-get_or u.halves d Rest),
+      record { walk = l.0; endings = l.1; half = l.2; names = empty_names (walk_of (scene u) d) begun.tidy l.0 },
+    )
     go (Some x) r e l = absurd (never_done u.story x (sym r))
 
 -- any other step is one less

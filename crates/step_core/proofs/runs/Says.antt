@@ -69,7 +69,8 @@ module _ (u : Sight) (x : TraceStep) (u' : Sight) (step : IsStep u x u') where
   by_deed (Some (deed.Leave b p false)) now says = none_left (event_of (state u.story) (deed.Leave b p false)) refl now says
   by_deed (Some (deed.OnCell z)) now says =
       none_left (cell_event (state u.story) z)
-      (by_event (λ (a : Option (Event Nothing)). is_last_in a ≡ false) refl (λ c h. refl) (λ c e n h b f. refl) (λ c n h. refl) (λ o m h. refl) (state u.story) z)
+      (by_event (λ (a : Option (Event Nothing)). is_last_in a ≡ false) refl (λ c h. refl) (λ c e n h b f. refl) (λ c n h. refl)
+      (λ o m h. refl) (state u.story) z)
       now says
   by_deed (Some y) now says = none_left (event_of (state u.story) y) refl now says
 

@@ -13,7 +13,8 @@ use Rattle.step_core.specs.Worlds.{AllFit, thread_half, thread_walk}
 use Rattle.step_core.proofs.telling.Walking.{carried_most}
 
 pub all_steps : (threads : List Thread)
-    → (left_to_do (map thread_walk threads) ≤ sum_by steps_of threads + length threads) × (sum_by steps_of threads ≤ left_to_do (map thread_walk threads))
+    → (left_to_do (map thread_walk threads) ≤ sum_by steps_of threads + length threads)
+    × (sum_by steps_of threads ≤ left_to_do (map thread_walk threads))
 all_steps [] = (omega arith, omega arith)
 all_steps (t ∷ ts) =
     let a = sum_by-cons walk_steps (thread_walk t) (map thread_walk ts) in

@@ -1,5 +1,6 @@
 -- How many steps a load and a compare have left, step by step.
-use Rattle.std.proofs.Common.{◌≡◌, ℕ, ◌+◌, ◌<◌, ◌≤◌, ◌==◌, Bool, true, false, cond, List, [], ◌∷◌, refl, sym, ap, ◌∙◌, arith}
+use Rattle.std.proofs.Common.{◌≡◌, ℕ, ◌+◌, ◌<◌, ◌≤◌, ◌==◌, Bool, true, false, cond, List, [], ◌∷◌, refl, sym, ap, ◌∙◌}
+use Rattle.std.proofs.Common.{arith}
 use Rattle.std.proofs.Common.{eq-eqb}
 use Rattle.std.specs.Prelude.{◌&&◌, not, Option, Some, None, is_some}
 use Rattle.std.proofs.lemmas.Bool.{cond_both, false≢true}
@@ -43,7 +44,8 @@ alone_missed : (v : Story) (w : Walk) (k : ℕ) (o : Option Pointer) → (alone 
 alone_missed v w k None = (omega arith, omega arith)
 alone_missed v w k (Some x) = (omega arith, omega arith)
 
-pub alone_back : (v : Story) (w : Walk) (q : Kind) (k : ℕ) (x : CellWord) (o : Option Block) → (alone v w (gives_back q k x o) ≤ 16) × (spare (gives_back q k x o) ≤ 15)
+pub alone_back : (v : Story) (w : Walk) (q : Kind) (k : ℕ) (x : CellWord) (o : Option Block) → (alone v w (gives_back q k x o) ≤ 16)
+    × (spare (gives_back q k x o) ≤ 15)
 alone_back v w q k x None = (omega arith, omega arith)
 alone_back v w q k x (Some b) = (omega arith, omega arith)
 
@@ -56,7 +58,8 @@ module _ (v : Story) (d k : ℕ) (w : Walk) (t : Task) (ts : List Task) (a : Act
       let j : weight t.act ≡ 7 = ap weight same ∙ heavy in
       omega (arith, l, j)
 
-  shown : (x : CellWord) (c : Cell) → shows_on v w.slots x a ≡ (word_at v c == cell_bits x) → shows_next v w.slots x w.todo ≡ (word_at v c == cell_bits x)
+  shown : (x : CellWord) (c : Cell) → shows_on v w.slots x a ≡ (word_at v c == cell_bits x)
+      → shows_next v w.slots x w.todo ≡ (word_at v c == cell_bits x)
   shown x c e = ap (shows_next v w.slots x) is ∙ ap (shows_on v w.slots x) same ∙ e
 
   -- a cell is looked at, and what it shows is tried next

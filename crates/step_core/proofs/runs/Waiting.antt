@@ -3,7 +3,8 @@ use Rattle.std.proofs.Common.{◌≡◌, ◌⊎◌, ℕ, Bool, true, false, cond
 use Rattle.std.specs.Prelude.{◌&&◌, Some, None, not, is_some}
 use Rattle.std.proofs.lemmas.Bool.{false≢true}
 use Rattle.step_threads.specs.declared.act.Act.{Act}
-use Rattle.step_threads.specs.declared.act.Act.TheVariants.{Make, Share, Downgrade, Lock, Put, Leave, Clear, Count, Expired, Read, FromThis, Alias, Move, Ask, Offer, Swap, Exchange, Load, Compare, Drop}
+use Rattle.step_threads.specs.declared.act.Act.TheVariants.{Make, Share, Downgrade, Lock, Put, Leave, Clear, Count, Expired, Read, FromThis, Alias, Move, Ask}
+use Rattle.step_threads.specs.declared.act.Act.TheVariants.{Offer, Swap, Exchange, Load, Compare, Drop}
 use Rattle.step_threads.specs.declared.act.Task.{Task}
 use Rattle.step_threads.specs.declared.ending.Ending.{Ending}
 use Rattle.step_threads.specs.declared.half.Half.{Half}
@@ -71,7 +72,8 @@ act_quiet v d k w ts (Swap c) e = absurd (false≢true e)
 act_quiet v d k w ts (Exchange i c) e = absurd (false≢true e)
 act_quiet v d k w ts Drop e = absurd (false≢true e)
 
-rest_quiet : (v : Story) (d : ℕ) (w : Walk) (es : List Ending) (ts : List Task) → w.todo ≡ ts → Quiet v d (waits_at v w es ts) (story_by v d (at_rest v d w es))
+rest_quiet : (v : Story) (d : ℕ) (w : Walk) (es : List Ending) (ts : List Task) → w.todo ≡ ts
+    → Quiet v d (waits_at v w es ts) (story_by v d (at_rest v d w es))
 rest_quiet v d w [] [] is e = absurd (false≢true e)
 rest_quiet v d w [] (t ∷ ts) is e =
     subst (λ (l : List Task). story_by v d (begun v d w l) ≡ v) (sym is) (act_quiet v d t.statement w ts t.act e)

@@ -1,5 +1,6 @@
 -- Where nothing is half done, the counts of a block are exactly the handles on what is in it.
-use Rattle.std.proofs.Common.{◌≡◌, ◌≢◌, ℕ, zero, suc, ◌+◌, ◌-◌, ◌<◌, ◌≤◌, ◌==◌, cond, List, [], ◌∷◌, length, map, get_or, refl, sym, ap, subst, ◌∙◌}
+use Rattle.std.proofs.Common.{◌≡◌, ◌≢◌, ℕ, zero, suc, ◌+◌, ◌-◌, ◌<◌, ◌≤◌, ◌==◌, cond, List, [], ◌∷◌, length, map}
+use Rattle.std.proofs.Common.{get_or, refl, sym, ap, subst, ◌∙◌}
 use Rattle.std.proofs.Common.{⊎_elim, arith, eq-eqb, ne_eqb}
 use Rattle.std.specs.Prelude.{All, Option, Some, None, slice_get, slice_index}
 use Rattle.std.proofs.lemmas.Bool.{cases_eq, cond-true, cond-false}

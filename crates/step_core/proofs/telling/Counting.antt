@@ -6,7 +6,8 @@ use Rattle.control_word.specs.declared.place.Block.{Block}
 use Rattle.control_word.specs.State.{weak}
 use Rattle.step_threads.specs.declared.act.Act.{Act}
 use Rattle.step_table.specs.declared.form.Form.{Form}
-use Rattle.step_threads.specs.declared.act.Act.TheVariants.{Make, Share, Downgrade, Lock, Put, Leave, Clear, Count, Expired, Read, FromThis, Alias, Move, Ask, Offer, Swap, Exchange, Load, Compare, Drop}
+use Rattle.step_threads.specs.declared.act.Act.TheVariants.{Make, Share, Downgrade, Lock, Put, Leave, Clear, Count, Expired, Read, FromThis, Alias, Move, Ask}
+use Rattle.step_threads.specs.declared.act.Act.TheVariants.{Offer, Swap, Exchange, Load, Compare, Drop}
 use Rattle.step_threads.specs.declared.act.Task.{Task}
 use Rattle.step_threads.specs.declared.half.Half.{Half}
 use Rattle.step_threads.specs.declared.half.Half.TheVariants.{Rest, Making, Locking, Giving, Brought, Saw, Matched, Refill, Returning, Clearing}
@@ -36,7 +37,8 @@ use Rattle.step_threads.specs.Threads.{IsClearing}
 use Rattle.step_core.specs.Told.{is_prepared}
 use Rattle.step_core.specs.Totals.{made_in}
 use Rattle.step_core.specs.Turning.{IsAlone, IsTried, IsUnderWay}
-use Rattle.step_core.proofs.telling.Walking.{IsFree, carried_leaves, carried_most, over_less, settled_alone, staged_most, taken_out, walk_alone, went_less, went_plain}
+use Rattle.step_core.proofs.telling.Walking.{IsFree, carried_leaves, carried_most, over_less, settled_alone, staged_most, taken_out, walk_alone, went_less}
+use Rattle.step_core.proofs.telling.Walking.{went_plain}
 use Rattle.step_core.proofs.telling.Swapping.{swapping, went_swap}
 use Rattle.step_core.proofs.telling.Looking.{compares_one, counted_match, counted_refill, counted_saw, load_one}
 use Rattle.step_core.proofs.telling.Deeds.{IsCounted, aliased_by, downgraded, expired, left, locked_by, plus_none, quiet, read_one, shared, told}
@@ -204,7 +206,8 @@ counted_act v d k w t ts (Exchange i c) none is same =
     (plain v d k w t ts (Exchange i c) none is refl))
 counted_act v d k w t ts (Load c) none is same = load_one v d k w t ts c none is
 counted_act v d k w t ts (Compare i c weak) none is same =
-    compares_one v d k w t ts (Compare i c weak) (cell_at (state v) w.slots c) (compared_in w.slots (comparing w.slots i weak)) (seen v (cell_at (state v) w.slots c))
+    compares_one v d k w t ts (Compare i c weak) (cell_at (state v) w.slots c) (compared_in w.slots (comparing w.slots i weak))
+    (seen v (cell_at (state v) w.slots c))
     none is refl refl
 counted_act v d k w t ts Drop none is same =
     left v d k w (went (state v) d w k ts Drop) (slot w.slots (other w.slots)) (went_less (state v) d k w t ts Drop none is)

@@ -1,5 +1,6 @@
 -- Which objects end in whose hands, after a step.
-use Rattle.std.proofs.Common.{◌≡◌, ◌≢◌, ℕ, suc, ◌+◌, ◌<◌, ◌==◌, Bool, true, false, cond, List, [], ◌∷◌, get_or, refl, sym, ap, subst, ◌∙◌, ⊎_elim, eq-eqb, ne_eqb, arith}
+use Rattle.std.proofs.Common.{◌≡◌, ◌≢◌, ℕ, suc, ◌+◌, ◌<◌, ◌==◌, Bool, true, false, cond, List, [], ◌∷◌, get_or, refl, sym, ap}
+use Rattle.std.proofs.Common.{subst, ◌∙◌, ⊎_elim, eq-eqb, ne_eqb, arith}
 use Rattle.std.specs.Prelude.{Option, Some, None, option_map}
 use Rattle.std.proofs.lemmas.Bool.{cases_eq, cond_both}
 use Rattle.std.proofs.lemmas.List.Sums.{sum_by-cons}
@@ -12,7 +13,8 @@ use Rattle.control_word.specs.Handles.{empty}
 use Rattle.control_word.specs.State.{Object, common, ending, gone, kind_of_member, live, put, weak}
 use Rattle.step_threads.specs.declared.act.Act.{Act}
 use Rattle.step_table.specs.declared.form.Form.{Form}
-use Rattle.step_threads.specs.declared.act.Act.TheVariants.{Make, Share, Downgrade, Lock, Put, Leave, Clear, Count, Expired, Read, FromThis, Alias, Move, Ask, Offer, Swap, Exchange, Load, Compare, Drop}
+use Rattle.step_threads.specs.declared.act.Act.TheVariants.{Make, Share, Downgrade, Lock, Put, Leave, Clear, Count, Expired, Read, FromThis, Alias, Move, Ask}
+use Rattle.step_threads.specs.declared.act.Act.TheVariants.{Offer, Swap, Exchange, Load, Compare, Drop}
 use Rattle.step_threads.specs.declared.act.Task.{Task}
 use Rattle.step_threads.specs.declared.ending.Ending.{Ending}
 use Rattle.step_threads.specs.declared.half.Half.{Half}
@@ -40,7 +42,8 @@ use Rattle.step_core.specs.Told.{AllEnd}
 use Rattle.step_table.proofs.tables.Places.{owner_busy, there}
 use Rattle.step_core.proofs.telling.Trying.{compares_on, load_on, matched_on, refill_on, saw_on}
 use Rattle.step_core.proofs.telling.Walking.{settled_endings}
-use Rattle.step_core.proofs.telling.Still.{IsAlike, Lists, Right, alike, asked, done_on, end_put, given_on, going_in, looked, passes, plain, put_alike, same, sent_on, shared, tried_on}
+use Rattle.step_core.proofs.telling.Still.{IsAlike, Lists, Right, alike, asked, done_on, end_put, given_on, going_in, looked, passes, plain, put_alike, same}
+use Rattle.step_core.proofs.telling.Still.{sent_on, shared, tried_on}
 use Rattle.step_core.proofs.telling.Still.{within as on_the_way}
 
 -- an owner leaves
@@ -75,7 +78,8 @@ left_by v d k w x a f at all kept y false is = record {
       (s.object o) refl (λ e p. keep (s.object o).block e (all o e p)) (λ r e n p. keep (s.object r).block e (all r e p));
 }
 
-left_as : (v : Story) (d k : ℕ) (w x : Walk) (a : Said) (f : Lists) → f d ≡ w.endings → AllEnd (state v) f → Kept v → (y : Pointer) (q : Kind) (last : Bool)
+left_as : (v : Story) (d k : ℕ) (w x : Walk) (a : Said) (f : Lists) → f d ≡ w.endings → AllEnd (state v) f → Kept v
+    → (y : Pointer) (q : Kind) (last : Bool)
     → x.endings ≡ cond last (begins_end_as q k y w.endings) w.endings
     → Right v d w f (Some (record { deed = Some (leave_as q y last); half = Rest; walk = x; said = a }))
 left_as v d k w x a f at all kept y Owner last is = left_by v d k w x a f at all kept y last is
@@ -89,7 +93,8 @@ left v d k w x a f at all kept None is = same v d w f _ refl is at all
 left v d k w x a f at all kept (Some y) is = left_as v d k w x a f at all kept y y.kind (is_last (state v) y) is
 
 -- where the thread's endings are after an act
-act_endings : (v : Story) (d k : ℕ) (w : Walk) (ts : List Task) (a : Act) → (went (state v) d w k ts a).endings ≡ endings_by (state v) k w.slots w.endings a
+act_endings : (v : Story) (d k : ℕ) (w : Walk) (ts : List Task) (a : Act)
+    → (went (state v) d w k ts a).endings ≡ endings_by (state v) k w.slots w.endings a
 act_endings v d k w ts a =
     let y = hands (state v) d w.slots w.taken a in settled_endings y.0 y.1 (endings_by (state v) k w.slots w.endings a) ts
 
@@ -195,7 +200,8 @@ ended v d w e es f at was all kept =
     cond_both (e.stage == 3) done (cond (word_at v (Member e.block e.stage) == 0) cleared looked) P
     (λ c. finished v d w e es vacant f (at ∙ was) all kept)
     (λ c. cond_both (word_at v (Member e.block e.stage) == 0) cleared looked P
-    (λ z. staged_right v d e.stage w (with_endings w (staged e ∷ es)) e es (deed.Clear e.block e.stage) Rest (empty (kind_of_member e.stage)) f was refl refl at
+    (λ z. staged_right v d e.stage w (with_endings w (staged e ∷ es)) e es (deed.Clear e.block e.stage) Rest
+    (empty (kind_of_member e.stage)) f was refl refl at
     all)
     (λ z. on_the_way v d e.statement w None Clearing f refl at all))
 
@@ -247,7 +253,8 @@ making v d i w b c f at all (t ∷ ts) =
     (λ e. claimed v d t.statement w ts b (form_of t.act) f at all) (λ e. prepared v d t.statement found want i w b c f at all)
 
 -- after each step
-pub ends_right : (v : Story) (d : ℕ) (h : Half) (w : Walk) (f : Lists) → f d ≡ w.endings → AllEnd (state v) f → Kept v → Right v d w f (step_at v d h w)
+pub ends_right : (v : Story) (d : ℕ) (h : Half) (w : Walk) (f : Lists) → f d ≡ w.endings → AllEnd (state v) f → Kept v
+    → Right v d w f (step_at v d h w)
 ends_right v d Rest w f at all kept = rested v d w f at all kept w.endings refl
 ends_right v d (Making b i c) w f at all kept = making v d i w b c f at all w.todo
 ends_right v d (Locking word) w f at all kept = tried_on v d word w f at all w.todo

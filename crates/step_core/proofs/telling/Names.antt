@@ -1,5 +1,6 @@
 -- Names that hold something are left by a task to come, after each step.
-use Rattle.std.proofs.Common.{◌≡◌, ◌≢◌, ◌⊎◌, inl, inr, ℕ, ◌<◌, ◌==◌, Bool, true, false, cond, List, [], ◌∷◌, length, get_or, refl, sym, subst, ⊎_elim}
+use Rattle.std.proofs.Common.{◌≡◌, ◌≢◌, ◌⊎◌, inl, inr, ℕ, ◌<◌, ◌==◌, Bool, true, false, cond, List, [], ◌∷◌, length, get_or}
+use Rattle.std.proofs.Common.{refl, sym, subst, ⊎_elim}
 use Rattle.std.proofs.Common.{get_or-set_other, get_or-set_same, length-set}
 use Rattle.std.specs.Prelude.{Option, Some, None, is_some, option_map, slice_set}
 use Rattle.std.proofs.lemmas.Bool.{cases_eq, cond_both}
@@ -29,7 +30,8 @@ use Rattle.step_threads.specs.Endings.{staged}
 use Rattle.step_threads.specs.Entries.{least}
 use Rattle.step_threads.specs.Scenes.{holding, nowhere, walk_of, went}
 use Rattle.step_threads.specs.NextSteps.{at_rest, begun, emptied, first, given, made_on, matched, matched_on, saw, saw_on, sent, step_at, tried, walk_by}
-use Rattle.step_threads.specs.Steps.{Step, acts, asks, begins, brings, claims, ends_on, looks, prepares, sends, silent, swaps, tries, trying, with_endings, within}
+use Rattle.step_threads.specs.Steps.{Step, acts, asks, begins, brings, claims, ends_on, looks, prepares, sends, silent, swaps, tries, trying, with_endings}
+use Rattle.step_threads.specs.Steps.{within}
 use Rattle.step_core.specs.Told.{IsTidy, Leaves, LeavesAll}
 use Rattle.step_core.specs.Turning.{IsUnderWay}
 use Rattle.step_core.specs.Worlds.{Sight, half_of, scene, sight_by, step_of}

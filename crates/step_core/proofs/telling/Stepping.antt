@@ -30,7 +30,8 @@ same_extent v d (Some x) = go x.deed
     go None = refl
     go (Some y) = refl
 
-told_step : (d : ℕ) (u : Sight) (m e : ℕ) → Kept u.story → Kept (story_by u.story d (step_of d u)) → HasBegun d u → d < length u.walks → IsTold u m e
+told_step : (d : ℕ) (u : Sight) (m e : ℕ) → Kept u.story → Kept (story_by u.story d (step_of d u)) → HasBegun d u
+    → d < length u.walks → IsTold u m e
     → IsTold (sight_by d u (step_of d u)) (m + makes (half_of u d) (stepped u.story (step_of d u))) (e + ends_by (stepped u.story (step_of d u)))
 told_step d u m e kept after begun lt told =
     let x = step_of d u in

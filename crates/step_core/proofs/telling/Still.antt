@@ -1,5 +1,6 @@
 -- Steps by which no object begins to end, or comes to its end.
-use Rattle.std.proofs.Common.{◌≡◌, ◌≢◌, ℕ, ◌<◌, ◌==◌, Bool, true, false, cond, List, [], ◌∷◌, refl, sym, ap, subst, ◌∙◌, ⊎_elim}
+use Rattle.std.proofs.Common.{◌≡◌, ◌≢◌, ℕ, ◌<◌, ◌==◌, Bool, true, false, cond, List, [], ◌∷◌, refl, sym, ap, subst, ◌∙◌}
+use Rattle.std.proofs.Common.{⊎_elim}
 use Rattle.std.specs.Prelude.{Option, Some, None, option_map}
 use Rattle.std.proofs.lemmas.Bool.{cases_eq, cond_both}
 use Rattle.control_word.proofs.lists.Tallies.{put_cases}
@@ -12,7 +13,8 @@ use Rattle.control_word.specs.Events.{swaps as event_swaps}
 use Rattle.control_word.specs.State.{Object, State, ending, put}
 use Rattle.step_table.specs.CellDeeds.{cell_in, handle_told}
 use Rattle.step_threads.specs.declared.act.Act.{Act}
-use Rattle.step_threads.specs.declared.act.Act.TheVariants.{Make, Share, Downgrade, Lock, Put, Leave, Clear, Count, Expired, Read, FromThis, Alias, Move, Ask, Offer, Swap, Exchange, Load, Compare, Drop}
+use Rattle.step_threads.specs.declared.act.Act.TheVariants.{Make, Share, Downgrade, Lock, Put, Leave, Clear, Count, Expired, Read, FromThis, Alias, Move, Ask}
+use Rattle.step_threads.specs.declared.act.Act.TheVariants.{Offer, Swap, Exchange, Load, Compare, Drop}
 use Rattle.step_threads.specs.declared.act.Task.{Task}
 use Rattle.step_threads.specs.declared.ending.Ending.{Ending}
 use Rattle.step_threads.specs.declared.half.Half.{Half}
@@ -141,7 +143,8 @@ pub within : (v : Story) (d k : ℕ) (w : Walk) (x : Option Deed) (h : Half) (f 
 within v d k w x h f is at all = same v d w f _ is refl at all
 
 -- an object is asked for a pointer, or gives one
-pub asked : (v : Story) (d k : ℕ) (w : Walk) (ts : List Task) (i : ℕ) (q : Kind) (f : Lists) → f d ≡ w.endings → AllEnd (state v) f → (o : Option Pointer)
+pub asked : (v : Story) (d k : ℕ) (w : Walk) (ts : List Task) (i : ℕ) (q : Kind) (f : Lists) → f d ≡ w.endings → AllEnd (state v) f
+    → (o : Option Pointer)
     → Right v d w f (Some (on (asks v d w k ts i q) (acts v d w k ts (FromThis i q) None Rest) o))
 asked v d k w ts i q f at all None = plain v d k w ts (FromThis i q) None Rest f refl refl at all
 asked v d k w ts i q f at all (Some y) =

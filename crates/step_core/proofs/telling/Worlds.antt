@@ -17,7 +17,8 @@ use Rattle.step_core.proofs.telling.Waiting.{never_waits}
 use Rattle.step_core.proofs.watching.Worlds.{unwatched}
 use Rattle.step_core.proofs.Worlds.{steps}
 
-pub told_after : (v w : Story) (threads : List Thread) (n : ℕ) (t t' : Thread) (r : Stepped) (m e : ℕ) → Kept v → Kept w → HasBegun n (sight v threads)
+pub told_after : (v w : Story) (threads : List Thread) (n : ℕ) (t t' : Thread) (r : Stepped) (m e : ℕ) → Kept v → Kept w
+    → HasBegun n (sight v threads)
     → n < length threads → t ≡ get_or threads n t → HasStepped n t v r t' w → IsTold (sight v threads) m e
     → IsTold (sight w (set threads n t')) (m + makes t.half r) (e + ends_by r)
 told_after v w threads n t t' r m e kept after begun lt read moved told =

@@ -210,7 +210,8 @@ module _ (d : ℕ) (u : Sight) (e : Ending) (es : List Ending) (lt : d < length 
       where
         go : (o : Option Block) → (seen u.story (Member e.block e.stage)).owned ≡ o → Same 0 d u (taken (seen u.story (Member e.block e.stage)) o)
         go None q =
-            taken_bare (seen u.story (Member e.block e.stage)) (told_member u.story d e.block e.stage kept seat end.ending less) (seen_object u.story e.block e.stage ∙ ap is_some q)
+            taken_bare (seen u.story (Member e.block e.stage)) (told_member u.story d e.block e.stage kept seat end.ending less)
+            (seen_object u.story e.block e.stage ∙ ap is_some q)
         go (Some b) q =
             taken_full (seen u.story (Member e.block e.stage)) (told_member u.story d e.block e.stage kept seat end.ending less) b some
             (seen_object u.story e.block e.stage ∙ ap is_some q)

@@ -3,7 +3,8 @@ use Rattle.std.proofs.Common.{◌≡◌, ℕ, ◌==◌, true, false, List, refl}
 use Rattle.std.specs.Prelude.{Option, Some, None}
 use Rattle.std.proofs.lemmas.Bool.{cond_both, false≢true}
 use Rattle.step_threads.specs.declared.act.Act.{Act}
-use Rattle.step_threads.specs.declared.act.Act.TheVariants.{Make, Share, Downgrade, Lock, Put, Leave, Clear, Count, Expired, Read, FromThis, Alias, Move, Ask, Offer, Swap, Exchange, Load, Compare, Drop}
+use Rattle.step_threads.specs.declared.act.Act.TheVariants.{Make, Share, Downgrade, Lock, Put, Leave, Clear, Count, Expired, Read, FromThis, Alias, Move, Ask}
+use Rattle.step_threads.specs.declared.act.Act.TheVariants.{Offer, Swap, Exchange, Load, Compare, Drop}
 use Rattle.step_threads.specs.declared.act.Task.{Task}
 use Rattle.step_threads.specs.declared.half.Half.TheVariants.{Rest, Giving}
 use Rattle.step_table.specs.declared.holdings.Pointer.{Pointer}
@@ -41,8 +42,10 @@ acts_so d u k ts (Alias i j field) can none is = (refl, does_so d u.story _ _)
 acts_so d u k ts (Move i) can none is = (refl, refl)
 acts_so d u k ts (Ask q) can none is = (refl, refl)
 acts_so d u k ts (Offer i c) can none is = (refl, does_so d u.story _ _)
-acts_so d u k ts (Swap c) can none is = goes_so d u k ts (Swap c) (going (walk_of (scene u) d).slots (Swap c)) (can.seat, can.kept, can.cell, can.holds) refl refl is
-acts_so d u k ts (Exchange i c) can none is = goes_so d u k ts (Exchange i c) (going (walk_of (scene u) d).slots (Exchange i c)) (can.seat, can.kept, can.cell, can.holds) refl refl is
+acts_so d u k ts (Swap c) can none is = goes_so d u k ts (Swap c) (going (walk_of (scene u) d).slots (Swap c))
+    (can.seat, can.kept, can.cell, can.holds) refl refl is
+acts_so d u k ts (Exchange i c) can none is = goes_so d u k ts (Exchange i c) (going (walk_of (scene u) d).slots (Exchange i c))
+    (can.seat, can.kept, can.cell, can.holds) refl refl is
 acts_so d u k ts (Load c) can none is = load_first d u k ts c can none is
 acts_so d u k ts (Compare i c weak) can none is = compare_first d u k ts i c weak can none is
 acts_so d u k ts Drop can none is = (refl, does_so d u.story _ _)

@@ -77,7 +77,8 @@ load_scene d u k ts c is =
 
 -- the event of a load
 pub load_so : (d : ℕ) (u : Sight) (k : ℕ) (ts : List Task) (c : CellName) (y : Deed) (h : Half) → is_there (walk_of (scene u) d).slots c ≡ true
-    → ◌≡◌ {A = Option (Event Nothing)} (event_of (state u.story) y) (Some (load_of (state u.story) (cell_at (state u.story) (walk_of (scene u) d).slots c)))
+    → ◌≡◌ {A = Option (Event Nothing)} (event_of (state u.story) y)
+    (Some (load_of (state u.story) (cell_at (state u.story) (walk_of (scene u) d).slots c)))
     → Acts d u k ts (Load c) (acts u.story d (walk_of (scene u) d) k ts (Load c) (Some y) h)
 load_so d u k ts c y h there e =
     let w = walk_of (scene u) d in
@@ -169,7 +170,8 @@ sees_same d u k ts a c y x =
     (λ f. cond_both (is_some x.owned) (within w k None (Saw x)) look (λ (s : Step). is_acting s.half ≡ true → scene (sight_by d u (Some s)) ≡ scene u)
     (λ t q. scene_as u _ _ _ _ refl (same_walks d u)) (λ f q. absurd (false≢true q)))
 
-pub load_first : (d : ℕ) (u : Sight) (k : ℕ) (ts : List Task) (c : CellName) → CanLook d u (Load c) → waits_on u.story (walk_of (scene u) d) (Load c) ≡ false
+pub load_first : (d : ℕ) (u : Sight) (k : ℕ) (ts : List Task) (c : CellName) → CanLook d u (Load c)
+    → waits_on u.story (walk_of (scene u) d) (Load c) ≡ false
     → let x = first u.story d (walk_of (scene u) d) k ts (Load c) in is_acting x.half ≡ false → Acts d u k ts (Load c) x
 load_first d u k ts c can none =
     let v = u.story in

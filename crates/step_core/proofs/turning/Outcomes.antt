@@ -20,7 +20,8 @@ use Rattle.step_table.proofs.contained.Coming.{open_found}
 use Rattle.step_table.proofs.contained.Telling.{compare_swap_tells, differing_tells, look_tells, take_tells}
 use Rattle.step_table.proofs.holding.Owning.{slot_held}
 use Rattle.step_threads.specs.declared.act.Act.{Act}
-use Rattle.step_threads.specs.declared.act.Act.TheVariants.{Make, Share, Downgrade, Lock, Put, Leave, Clear, Count, Expired, Read, FromThis, Alias, Move, Ask, Offer, Swap, Exchange, Load, Compare, Drop}
+use Rattle.step_threads.specs.declared.act.Act.TheVariants.{Make, Share, Downgrade, Lock, Put, Leave, Clear, Count, Expired, Read, FromThis, Alias, Move, Ask}
+use Rattle.step_threads.specs.declared.act.Act.TheVariants.{Offer, Swap, Exchange, Load, Compare, Drop}
 use Rattle.step_threads.specs.declared.act.Task.{Task}
 use Rattle.step_threads.specs.declared.call.CellName.{CellName}
 use Rattle.step_threads.specs.declared.half.Half.TheVariants.{Rest, Saw, Matched, Refill}
@@ -120,7 +121,8 @@ module _ (d : ℕ) (u : Sight) (k : ℕ) (ts : List Task) (c : CellName) where
         let w = walk_of (scene u) d in
         let y = cell_at (state v) w.slots c in
         let b = kept_block d v p.kind p.block p.place can.kept (slot_held d w.slots v (hand w.slots) p can.holds e) in
-        let same = brought_word d v y p.kind p.block p.place 256 (cell_now d u c (Compare i c weak) can can.cell (may_compare d u i c weak can).there) b.0 b.1 in
+        let same = brought_word d v y p.kind p.block p.place 256
+        (cell_now d u c (Compare i c weak) can can.cell (may_compare d u i c weak can).there) b.0 b.1 in
         record {
           quiet = refl;
           said = refl;
@@ -172,7 +174,8 @@ module _ (d : ℕ) (u : Sight) (k : ℕ) (ts : List Task) (c : CellName) where
         (λ f. let n : left_on v w.slots a (Matched x) ≡ 6 = ap (λ (b : Bool). cond b 2 6) f in omega (arith, n)) (swapped_so x valid same)
 
 -- the first step of an act that looks
-pub rest_out : (d : ℕ) (u : Sight) (k : ℕ) (ts : List Task) (a : Act) → is_looking (walk_of (scene u) d).slots a ≡ true → CanLook d u a → waits_on u.story (walk_of (scene u) d) a ≡ false
+pub rest_out : (d : ℕ) (u : Sight) (k : ℕ) (ts : List Task) (a : Act) → is_looking (walk_of (scene u) d).slots a ≡ true → CanLook d u a
+    → waits_on u.story (walk_of (scene u) d) a ≡ false
     → Outcome d u k ts a Rest (first u.story d (walk_of (scene u) d) k ts a)
 rest_out d u k ts (Load c) is can none =
     let v = u.story in
@@ -201,14 +204,19 @@ rest_out d u k ts (Swap c) is can none = absurd (false≢true is)
 rest_out d u k ts (Exchange j c) is can none = absurd (false≢true is)
 rest_out d u k ts Drop is can none = absurd (false≢true is)
 
-pub saw_out : (d : ℕ) (u : Sight) (k : ℕ) (ts : List Task) (x : CellWord) (a : Act) → IsSeenBy (walk_of (scene u) d).slots x a → IsCellWord x → CanLook d u a
+pub saw_out : (d : ℕ) (u : Sight) (k : ℕ) (ts : List Task) (x : CellWord) (a : Act) → IsSeenBy (walk_of (scene u) d).slots x a
+    → IsCellWord x → CanLook d u a
     → Next d u k ts a (Saw x) (saw_on u.story d (walk_of (scene u) d) k ts x a)
 saw_out d u k ts x (Load c) is valid can =
     let v = u.story in let w = walk_of (scene u) d in
     (takes v d w k ts (Load c) (cell_at (state v) w.slots c) None x, refl, load_saw d u k ts c x valid can is.0, λ j e. cc)
 saw_out d u k ts x (Compare i c weak) is valid can =
-    let v = u.story in let w = walk_of (scene u) d in
-    (settles v d w k ts (Compare i c weak) (cell_at (state v) w.slots c) (compared_in w.slots (comparing w.slots i weak)) x, refl, compare_saw d u k ts c i weak can x valid, λ j e. cc)
+    let v = u.story in let w = walk_of (scene u) d in (
+      settles v d w k ts (Compare i c weak) (cell_at (state v) w.slots c) (compared_in w.slots (comparing w.slots i weak)) x,
+      refl,
+      compare_saw d u k ts c i weak can x valid,
+      λ j e. cc,
+    )
 saw_out d u k ts x (Make form) is valid can = absurd is
 saw_out d u k ts x (Share j) is valid can = absurd is
 saw_out d u k ts x (Downgrade j) is valid can = absurd is
@@ -231,8 +239,12 @@ saw_out d u k ts x Drop is valid can = absurd is
 pub matched_out : (d : ℕ) (u : Sight) (k : ℕ) (ts : List Task) (x : CellWord) (a : Act) → IsMatchedBy (walk_of (scene u) d).slots x a → IsCellWord x
     → CanLook d u a → Next d u k ts a (Matched x) (matched_on u.story d (walk_of (scene u) d) k ts x a)
 matched_out d u k ts x (Compare i c weak) is valid can =
-    let v = u.story in let w = walk_of (scene u) d in
-    (matches v d w k ts (Compare i c weak) (cell_at (state v) w.slots c) (compared_in w.slots (comparing w.slots i weak)) x, refl, compare_matched d u k ts c i weak can x valid is, λ j e. cc)
+    let v = u.story in let w = walk_of (scene u) d in (
+      matches v d w k ts (Compare i c weak) (cell_at (state v) w.slots c) (compared_in w.slots (comparing w.slots i weak)) x,
+      refl,
+      compare_matched d u k ts c i weak can x valid is,
+      λ j e. cc,
+    )
 matched_out d u k ts x (Load c) is valid can = absurd is
 matched_out d u k ts x (Make form) is valid can = absurd is
 matched_out d u k ts x (Share j) is valid can = absurd is

@@ -59,7 +59,8 @@ plays_first d u r [] rest none todo awake answer begun over = plays_none d u r n
 plays_first d u r (t ∷ ts) rest none todo awake answer now over =
     let x = first u.story d (walk_of (scene u) d) t.statement ts t.act in
     let is = begun_step d u (t ∷ ts) rest none todo in
-    let h : half_of (sight_by d u (step_of d u)) d ≡ x.half = ap (λ (o : Option Step). half_of (sight_by d u o) d) is ∙ half_after d u (Some x) now.within in
+    let h : half_of (sight_by d u (step_of d u)) d ≡ x.half =
+    ap (λ (o : Option Step). half_of (sight_by d u o) d) is ∙ half_after d u (Some x) now.within in
     let n : is_acting x.half ≡ false = ap is_acting (sym h) ∙ over in
     let can = can_look d u t ts todo now in
     let q = awake_on d u t ts rest none todo awake in
@@ -125,7 +126,8 @@ plays_carried d u r e es rest is full answer begun =
     (refl, does_so d u.story _ _) (tells_rest d u t.act begun rest) refl begun.within begun.walks
 
 -- a thread at rest, whose endings have gone on as far as they go by themselves
-plays_rest : (d : ℕ) (u : Sight) (r : Stepped) (es : List Ending) → half_of u d ≡ Rest → (walk_of (scene u) d).endings ≡ es → is_ending u d ≡ false
+plays_rest : (d : ℕ) (u : Sight) (r : Stepped) (es : List Ending) → half_of u d ≡ Rest → (walk_of (scene u) d).endings ≡ es
+    → is_ending u d ≡ false
     → waits u.story (half_of u d) (walk_of (scene u) d) ≡ false → r ≡ stepped u.story (step_of d u) → HasBegun d u
     → is_acting (half_of (sight_by d u (step_of d u)) d) ≡ false → Plays d u (turned_by r) (sight_by d u (step_of d u))
 plays_rest d u r [] rest is ended awake answer begun over = plays_first d u r (walk_of (scene u) d).todo rest is refl awake answer begun over

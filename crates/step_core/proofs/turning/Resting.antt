@@ -27,7 +27,8 @@ use Rattle.step_core.specs.Turning.{HasBegun, IsAlone, IsOut, IsTried, Rests, ha
 use Rattle.step_core.specs.Worlds.{Advances, GoesTo, Sight, Steps, half_of, scene, sight_by, step_of}
 use Rattle.step_core.proofs.turning.Refilling.{Pays, funds_left, refills_so, returns_so}
 use Rattle.step_core.proofs.turning.Chains.{more_steps, no_step, one_step}
-use Rattle.step_core.proofs.turning.Ending.{IsRested, Same, end_step, half_after, halves_after, left, look_left, rested_same, same_walks, steps_left, take_step, walk_after}
+use Rattle.step_core.proofs.turning.Ending.{IsRested, Same, end_step, half_after, halves_after, left, look_left, rested_same, same_walks, steps_left, take_step}
+use Rattle.step_core.proofs.turning.Ending.{walk_after}
 
 abbrev pub rest_left : ℕ → Sight → ℕ
 rest_left d u = steps_left u.story (half_of u d) (walk_of (scene u) d).endings
@@ -122,7 +123,8 @@ stepped_back : (d : ℕ) (u : Sight) (kind : Kind) (b : Block) (f k : ℕ) → h
     → Onward d u (sight_by d u (step_of d u))
 stepped_back d u kind b f k e begun =
     let w = walk_of (scene u) d in
-    stepped_pay d u (Returning kind b f k) (returns w kind b f k) e refl refl (ap (λ (h : Half). step_at u.story d h w) e) (returns_so d u.story w kind b f k) begun
+    stepped_pay d u (Returning kind b f k) (returns w kind b f k) e refl refl (ap (λ (h : Half). step_at u.story d h w) e)
+    (returns_so d u.story w kind b f k) begun
 
 -- a fund is turned, and others are put back
 stepped_refill : (d : ℕ) (u : Sight) (stage : Stage) (c : Cell) (x : CellWord) (k : ℕ) → half_of u d ≡ Refill stage c x k → HasBegun d u
@@ -228,7 +230,8 @@ pub carried : (d : ℕ) (v : Sight) (e : Ending) (es : List Ending) → is_endin
     → let w = walk_of (scene v) d in is_full (slot w.slots (hand w.slots)) ≡ true
 carried d v e es is at =
     let w = walk_of (scene v) d in
-    ⊎_elim (λ (none : w.endings ≡ []). absurd (some_none (sym at ∙ none))) (λ (full : is_full (slot w.slots (hand w.slots)) ≡ true). full) (ended d v is)
+    ⊎_elim (λ (none : w.endings ≡ []). absurd (some_none (sym at ∙ none)))
+    (λ (full : is_full (slot w.slots (hand w.slots)) ≡ true). full) (ended d v is)
   where
     some_none : (e ∷ es) ≡ [] → ⊥
     some_none q = cc

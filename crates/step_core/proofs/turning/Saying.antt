@@ -4,7 +4,8 @@ use Rattle.std.specs.Prelude.{Option, Some, None, option_map}
 use Rattle.std.proofs.lemmas.Bool.{cond_both, cond-false, false≢true}
 use Rattle.step_threads.specs.declared.act.Act.{Act}
 use Rattle.step_table.specs.declared.form.Form.{Form}
-use Rattle.step_threads.specs.declared.act.Act.TheVariants.{Make, Share, Downgrade, Lock, Put, Leave, Clear, Count, Expired, Read, FromThis, Alias, Move, Ask, Offer, Swap, Exchange, Load, Compare, Drop}
+use Rattle.step_threads.specs.declared.act.Act.TheVariants.{Make, Share, Downgrade, Lock, Put, Leave, Clear, Count, Expired, Read, FromThis, Alias, Move, Ask}
+use Rattle.step_threads.specs.declared.act.Act.TheVariants.{Offer, Swap, Exchange, Load, Compare, Drop}
 use Rattle.step_threads.specs.declared.act.Task.{Task}
 use Rattle.step_threads.specs.declared.ending.Ending.{Ending}
 use Rattle.step_threads.specs.declared.half.Half.TheVariants.{Rest, Locking, Giving}
@@ -20,7 +21,8 @@ use Rattle.step_table.specs.Deeds.{give, is_enabled, lock, on, owner_word}
 use Rattle.step_table.specs.Holdings.{inside, slot}
 use Rattle.step_table.specs.Openings.{opening}
 use Rattle.step_threads.specs.Entries.{acted, does, giving, least, makes}
-use Rattle.step_threads.specs.Scenes.{Scene, full_answer, holding, next, next_of, play_from, play_with, put_walk, rest_of, rested, rested_walk, said_from, said_of, walk_of, went}
+use Rattle.step_threads.specs.Scenes.{Scene, full_answer, holding, next, next_of, play_from, play_with, put_walk, rest_of, rested, rested_walk, said_from}
+use Rattle.step_threads.specs.Scenes.{said_of, walk_of, went}
 use Rattle.step_threads.specs.NextSteps.{is_event, stepped, story_after}
 use Rattle.step_threads.specs.Steps.{Step, acts, asks, begins, looks, silent, trying}
 use Rattle.step_table.specs.Stories.{Story, state}
@@ -112,7 +114,8 @@ lose_so d u k ts i must e =
       }) (sym e),
     )
 
-pub looks_so : (d : ℕ) (u : Sight) (k : ℕ) (ts : List Task) (i : ℕ) (must : Bool) (o : Option Pointer) → locked (walk_of (scene u) d).slots (Lock i must) ≡ o
+pub looks_so : (d : ℕ) (u : Sight) (k : ℕ) (ts : List Task) (i : ℕ) (must : Bool) (o : Option Pointer)
+    → locked (walk_of (scene u) d).slots (Lock i must) ≡ o
     → let w = walk_of (scene u) d in
     let a = Lock i must in
     let x = on (looks u.story d w k ts a) (acts u.story d w k ts a None Rest) o in is_acting x.half ≡ false → Acts d u k ts a x
@@ -126,7 +129,8 @@ looks_so d u k ts i must (Some y) e is =
     (λ t q. absurd (false≢true (sym q ∙ ap (λ (b : Bool). is_acting (cond b Rest (Locking n))) t))) is
 
 -- an object that gives no pointers to itself, or none to ask
-unasked_so : (d : ℕ) (u : Sight) (k : ℕ) (ts : List Task) (i : ℕ) (q : Kind) → giving (state u.story) (inside (slot (walk_of (scene u) d).slots i)) ≡ None
+unasked_so : (d : ℕ) (u : Sight) (k : ℕ) (ts : List Task) (i : ℕ) (q : Kind)
+    → giving (state u.story) (inside (slot (walk_of (scene u) d).slots i)) ≡ None
     → Acts d u k ts (FromThis i q) (acts u.story d (walk_of (scene u) d) k ts (FromThis i q) None Rest)
 unasked_so d u k ts i q e =
     let w = walk_of (scene u) d in (

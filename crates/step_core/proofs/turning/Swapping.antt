@@ -10,7 +10,8 @@ use Rattle.control_word.specs.declared.place.Block.{Block}
 use Rattle.control_word.specs.declared.shape.Shape.{Shape}
 use Rattle.control_word.specs.State.{Opening}
 use Rattle.step_threads.specs.declared.act.Act.{Act}
-use Rattle.step_threads.specs.declared.act.Act.TheVariants.{Make, Share, Downgrade, Lock, Put, Leave, Clear, Count, Expired, Read, FromThis, Alias, Move, Ask, Offer, Swap, Exchange, Load, Compare, Drop}
+use Rattle.step_threads.specs.declared.act.Act.TheVariants.{Make, Share, Downgrade, Lock, Put, Leave, Clear, Count, Expired, Read, FromThis, Alias, Move, Ask}
+use Rattle.step_threads.specs.declared.act.Act.TheVariants.{Offer, Swap, Exchange, Load, Compare, Drop}
 use Rattle.step_threads.specs.declared.act.Task.{Task}
 use Rattle.step_threads.specs.declared.call.CellName.{CellName}
 use Rattle.step_table.specs.declared.cell_deed.CellDeed.TheVariants as cell_deed
@@ -42,7 +43,8 @@ abbrev Goes : Shape → Slots → CellName → ℕ → Type 0
 Goes z slots c i = IsIn z c × (is_there slots c ≡ true) × (is_of (kind_at c) (value slots i) ≡ true)
 
 -- the event of a swap tells what goes in and what comes out
-swap_told : (v : Story) (d : ℕ) (slots : Slots) (c : CellName) (i : ℕ) → Kept v → d < v.extent.actors → Holds d slots v → Goes v.extent.shape slots c i
+swap_told : (v : Story) (d : ℕ) (slots : Slots) (c : CellName) (i : ℕ) → Kept v → d < v.extent.actors → Holds d slots v
+    → Goes v.extent.shape slots c i
     → let x = cell_at (state v) slots c in
     history_after v d (deed.OnCell (cell_deed.Swap x (as_word (value slots i)) (seen v x))) ≡ swaps_in (opening v.extent) d slots v.history c i
 swap_told v d slots c i kept lt holds goes =
@@ -52,7 +54,8 @@ swap_told v d slots c i kept lt holds goes =
     ap (λ (o : Option (Event Nothing)). added d o v.history)
     (swap_tells v x (seen v x) found (value slots i) (goes_in v slots c (value slots i) goes.0 goes.2))
 
-goes_from : (z : Shape) (slots : Slots) (x : CellName) (k : ℕ) (c : CellName) (i : ℕ) → going_from slots x k ≡ Some (c, i) → IsIn z x → Goes z slots c i
+goes_from : (z : Shape) (slots : Slots) (x : CellName) (k : ℕ) (c : CellName) (i : ℕ) → going_from slots x k ≡ Some (c, i)
+    → IsIn z x → Goes z slots c i
 goes_from z slots x k c i e is = go (is_there slots x && is_of (kind_at x) (value slots k)) refl
   where
     go : (b : Bool) → (is_there slots x && is_of (kind_at x) (value slots k)) ≡ b → Goes z slots c i
@@ -69,7 +72,8 @@ goes_from z slots x k c i e is = go (is_there slots x && is_of (kind_at x) (valu
 abbrev Puts : Telling → Opening → ℕ → Slots → History → Shape → Act → CellName → ℕ → Type 0
 Puts tell o d slots h z a c i = (acted tell o d slots h a ≡ swaps_in o d slots h c i) × Goes z slots c i
 
-puts_as : (tell : Telling) (o : Opening) (d : ℕ) (slots : Slots) (h : History) (z : Shape) (a : Act) (c : CellName) (i : ℕ) → going slots a ≡ Some (c, i) → HasCell z a
+puts_as : (tell : Telling) (o : Opening) (d : ℕ) (slots : Slots) (h : History) (z : Shape) (a : Act) (c : CellName) (i : ℕ)
+    → going slots a ≡ Some (c, i) → HasCell z a
     → Puts tell o d slots h z a c i
 puts_as tell o d slots h z (Swap x) c i e is =
     (ap (on_going (swaps_in o d slots h) h) e, goes_from z slots x (hand slots) c i e is)

@@ -1,5 +1,6 @@
 -- How counts are told in a turn.
-use Rattle.std.proofs.Common.{◌≡◌, ◌≢◌, ◌⊎◌, inl, inr, ℕ, Bool, true, false, List, [], ◌∷◌, get_or, set, refl, sym, ap, subst, ◌∙◌, ⊎_elim, arith}
+use Rattle.std.proofs.Common.{◌≡◌, ◌≢◌, ◌⊎◌, inl, inr, ℕ, Bool, true, false, List, [], ◌∷◌, get_or, set, refl, sym, ap, subst}
+use Rattle.std.proofs.Common.{◌∙◌, ⊎_elim, arith}
 use Rattle.std.proofs.Common.{get_or-set_other}
 use Rattle.std.specs.Prelude.{Option, Some, None}
 use Rattle.std.proofs.lemmas.Bool.{cond-false, cond-true}
@@ -16,7 +17,8 @@ use Rattle.step_table.specs.Stories.{Nothing, Story, pending}
 use Rattle.step_table.proofs.holding.Counting.{tells}
 use Rattle.step_table.proofs.holding.Keeping.{same_pending}
 use Rattle.step_threads.specs.declared.act.Act.{Act}
-use Rattle.step_threads.specs.declared.act.Act.TheVariants.{Make, Share, Downgrade, Lock, Put, Leave, Clear, Count, Expired, Read, FromThis, Alias, Move, Ask, Offer, Swap, Exchange, Load, Compare, Drop}
+use Rattle.step_threads.specs.declared.act.Act.TheVariants.{Make, Share, Downgrade, Lock, Put, Leave, Clear, Count, Expired, Read, FromThis, Alias, Move, Ask}
+use Rattle.step_threads.specs.declared.act.Act.TheVariants.{Offer, Swap, Exchange, Load, Compare, Drop}
 use Rattle.step_threads.specs.declared.half.Half.{Half}
 use Rattle.step_threads.specs.declared.half.Half.TheVariants.{Rest}
 use Rattle.step_threads.specs.declared.said.Stepped.{Stepped}
@@ -103,7 +105,8 @@ tells_rest d u a begun rest =
     (count_or u.story a)
 
 -- an act that is no count, as this tells
-pub tells_unless : (d : ℕ) (u : Sight) (P : Act → Type 0) (a : Act) → ((i : ℕ) → P (Count i) → ⊥) → P a → TellsAll d u (scene u) (tell_of u.story a)
+pub tells_unless : (d : ℕ) (u : Sight) (P : Act → Type 0) (a : Act) → ((i : ℕ) → P (Count i) → ⊥) → P a
+    → TellsAll d u (scene u) (tell_of u.story a)
 tells_unless d u P a never is =
     ⊎_elim
     (λ (p : (i : ℕ) × (a ≡ Count i)). absurd (never p.0 (subst P p.1 is)))

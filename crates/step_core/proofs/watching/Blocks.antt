@@ -1,5 +1,6 @@
 -- Steps on the first words of blocks leave the words of cells.
-use Rattle.std.proofs.Common.{◌≡◌, ◌⊎◌, ℕ, suc, ◌+◌, ◌-◌, ◌*◌, ◌<◌, ◌≤◌, ◌==◌, Bool, true, false, cond, List, [], ◌∷◌, refl, sym, subst, inl, inr, arith}
+use Rattle.std.proofs.Common.{◌≡◌, ◌⊎◌, ℕ, suc, ◌+◌, ◌-◌, ◌*◌, ◌<◌, ◌≤◌, ◌==◌, Bool, true, false, cond, List, []}
+use Rattle.std.proofs.Common.{◌∷◌, refl, sym, subst, inl, inr, arith}
 use Rattle.std.proofs.Math.Nat.{min-eq_left, min-eq_right}
 use Rattle.std.specs.Prelude.{Option, Some, None, option_map, min, not, slice_index, slice_set}
 use Rattle.std.proofs.lemmas.Bool.{cases_lt, cond_both}
@@ -163,6 +164,7 @@ module _ (v : Story) (d : ℕ) where
       block_off v b.0 (slot_of_kind k) (slice_index v.words (spot b.0 (slot_of_kind k)) - 4294967295) is (slot_few k)
 
   -- a step on what a slot holds
-  pub each_off : (f : Pointer → Deed) (o : Option Pointer) → ((x : Pointer) → o ≡ Some x → StaysOff v d (Some (f x))) → StaysOff v d (option_map f o)
+  pub each_off : (f : Pointer → Deed) (o : Option Pointer) → ((x : Pointer) → o ≡ Some x → StaysOff v d (Some (f x)))
+      → StaysOff v d (option_map f o)
   each_off f None off = λ c valid. refl
   each_off f (Some x) off = off x refl

@@ -1,5 +1,6 @@
 -- Steps on cells: where half of a cell's funds or more are taken, threads count that put them back.
-use Rattle.std.proofs.Common.{◌≡◌, ◌≢◌, ℕ, suc, ◌+◌, ◌-◌, ◌*◌, ◌<◌, ◌≤◌, ◌==◌, Bool, true, false, cond, List, length, refl, sym, ap, subst, ◌∙◌, ⊎_elim, inl, inr, arith}
+use Rattle.std.proofs.Common.{◌≡◌, ◌≢◌, ℕ, suc, ◌+◌, ◌-◌, ◌*◌, ◌<◌, ◌≤◌, ◌==◌, Bool, true, false, cond, List, length}
+use Rattle.std.proofs.Common.{refl, sym, ap, subst, ◌∙◌, ⊎_elim, inl, inr, arith}
 use Rattle.std.proofs.Common.{get_or-set_other, get_or-set_same, eq-eqb, ne_eqb, eqb-true}
 use Rattle.std.specs.Prelude.{◌&&◌, Option, Some, None, slice_index, slice_set}
 use Rattle.std.proofs.lemmas.Bool.{and_from, and_parts, cases_eq, cond_both, false≢true, ltb-false}
@@ -137,7 +138,8 @@ few_quiet v s c x k few p a =
     ∙ ap (λ (t : Bool). cond t 1 0) (middle_false (word_of v.extent.shape.blocks c == p) (content (cell_bits x) == content a))
 
 -- the block of what is put back is one of the table
-pub block_there : (v : Story) (d : ℕ) (s : Stage) (c : Cell) (x : CellWord) → Kept v → RefillFits d s c x v → (b : Block) → x.owned ≡ Some b → IsThere v b
+pub block_there : (v : Story) (d : ℕ) (s : Stage) (c : Cell) (x : CellWord) → Kept v → RefillFits d s c x v → (b : Block)
+    → x.owned ≡ Some b → IsThere v b
 block_there v d s c x kept fits b own =
     subst (IsThere v) (same_Some _ _ (sym fits.owned ∙ own))
     (there v fits.block kept (handle_busy v d (kind_in (state v) c) fits.block x.place kept fits.has)).1
@@ -203,7 +205,8 @@ module _ (v : Story) (d : ℕ) (c : Cell) (x : CellWord) (k : ℕ) (w : Walk) (k
       → Watches v d (Refill s c x k) (refills_on v w s c x k b).deed (refills_on v w s c x k b).half
   refilled Turning fits b own =
       let t = turn_off v d (kind_in (state v) c) b (block_there v d Turning c x kept fits b own) in
-      cond_both (is_low x) (Refill Checking c x k) Rest (λ (g : Half). Watches v d (Refill Turning c x k) (Some (deed.OnCell (cell_deed.Turn (kind_in (state v) c) b))) g)
+      cond_both (is_low x) (Refill Checking c x k) Rest
+      (λ (g : Half). Watches v d (Refill Turning c x k) (Some (deed.OnCell (cell_deed.Turn (kind_in (state v) c) b))) g)
       (λ low. going_on v d Turning Checking c x k (Some (deed.OnCell (cell_deed.Turn (kind_in (state v) c) b))) t)
       (λ few. still v d (Refill Turning c x k) (Some (deed.OnCell (cell_deed.Turn (kind_in (state v) c) b))) Rest (few_quiet v Turning c x k few) t)
   refilled Checking fits b own = checked fits

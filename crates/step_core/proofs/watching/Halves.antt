@@ -13,7 +13,8 @@ use Rattle.control_word.specs.State.{kind_of_member, weak}
 use Rattle.control_word.specs.Steps.{me}
 use Rattle.control_word.specs.Views.{Fits}
 use Rattle.step_threads.specs.declared.act.Act.{Act}
-use Rattle.step_threads.specs.declared.act.Act.TheVariants.{Make, Share, Downgrade, Lock, Put, Leave, Clear, Count, Expired, Read, FromThis, Alias, Move, Ask, Offer, Swap, Exchange, Load, Compare, Drop}
+use Rattle.step_threads.specs.declared.act.Act.TheVariants.{Make, Share, Downgrade, Lock, Put, Leave, Clear, Count, Expired, Read, FromThis, Alias, Move, Ask}
+use Rattle.step_threads.specs.declared.act.Act.TheVariants.{Offer, Swap, Exchange, Load, Compare, Drop}
 use Rattle.step_threads.specs.declared.act.Task.{Task}
 use Rattle.step_threads.specs.declared.ending.Ending.{Ending}
 use Rattle.step_threads.specs.declared.half.Half.{Half}
@@ -61,7 +62,8 @@ module _ (v : Story) (d : ℕ) (w : Walk) (kept : Kept v) (seat : d < v.extent.a
 
   prepares_watch : (found want k : ℕ) (b : Block) (i : ℕ) (f : Bool) → i < 5 → IsThere v b
       → IsWatch v d (Making b i f) (Some (prepares found want w k b i f))
-  prepares_watch found want k b i true lt is = still v d (Making b i true) (Some (deed.Write b i want)) (Making b (i + 1) false) (λ p a. refl) (write_off v d b i want lt is)
+  prepares_watch found want k b i true lt is = still v d (Making b i true) (Some (deed.Write b i want)) (Making b (i + 1) false) (λ p a. refl)
+      (write_off v d b i want lt is)
   prepares_watch found want k b i false lt is =
       still v d (Making b i false) None (cond (found == want) (Making b (i + 1) false) (Making b i true)) (λ p a. refl) (λ n valid. refl)
 
@@ -73,7 +75,8 @@ module _ (v : Story) (d : ℕ) (w : Walk) (kept : Kept v) (seat : d < v.extent.a
       let want = get_or (wanted form) i 0 in
       let is = least_there v d b kept way.1 in
       cond_both (i == 5) (claims w t.statement ts b form) (prepares found want w t.statement b i f) (λ (y : Step). IsWatch v d (Making b i f) (Some y))
-      (λ t. still v d (Making b i f) (Some (deed.Claim b form.enabled form.null form.fields)) Rest (λ p a. refl) (claim_off v d b form.enabled form.null form.fields is))
+      (λ t. still v d (Making b i f) (Some (deed.Claim b form.enabled form.null form.fields)) Rest (λ p a. refl)
+      (claim_off v d b form.enabled form.null form.fields is))
       (λ ne. prepares_watch found want t.statement b i f (let l = way.0 in let n = eqb-false i 5 ne in omega (arith, l, n)) is)
 
   saw_watch : (k : ℕ) (ts : List Task) (x : CellWord) (a : Act) → IsCellWord x → IsWatch v d (Saw x) (saw_on v d w k ts x a)

@@ -9,7 +9,8 @@ use Rattle.control_word.specs.declared.place.Block.{Block}
 use Rattle.control_word.specs.Packing.{IsCellWord, cell_bits}
 use Rattle.control_word.specs.State.{weak}
 use Rattle.step_threads.specs.declared.act.Act.{Act}
-use Rattle.step_threads.specs.declared.act.Act.TheVariants.{Make, Share, Downgrade, Lock, Put, Leave, Clear, Count, Expired, Read, FromThis, Alias, Move, Ask, Offer, Swap, Exchange, Load, Compare, Drop}
+use Rattle.step_threads.specs.declared.act.Act.TheVariants.{Make, Share, Downgrade, Lock, Put, Leave, Clear, Count, Expired, Read, FromThis, Alias, Move, Ask}
+use Rattle.step_threads.specs.declared.act.Act.TheVariants.{Offer, Swap, Exchange, Load, Compare, Drop}
 use Rattle.step_threads.specs.declared.act.Task.{Task}
 use Rattle.step_threads.specs.declared.call.CellName.{CellName}
 use Rattle.step_threads.specs.declared.half.Half.{Half}
@@ -30,10 +31,12 @@ use Rattle.step_table.specs.Deeds.{alias, aliased, downgrade, is_enabled, is_las
 use Rattle.step_threads.specs.Entries.{least}
 use Rattle.step_table.specs.Holdings.{Holds, inside, owner_slot, place_in, slot, value, weak_slot}
 use Rattle.step_threads.specs.NextSteps.{first}
-use Rattle.step_threads.specs.Steps.{Step, acts, asks, begins, brings, compares, fetches, gives_back, looks, matches, missed, sees, sends, settles, silent, swaps, takes, tries, trying, within}
+use Rattle.step_threads.specs.Steps.{Step, acts, asks, begins, brings, compares, fetches, gives_back, looks, matches, missed, sees, sends, settles, silent}
+use Rattle.step_threads.specs.Steps.{swaps, takes, tries, trying, within}
 use Rattle.step_table.specs.Stories.{Kept, Story, state}
 use Rattle.step_table.proofs.contained.Told.{word_valid}
-use Rattle.step_core.proofs.watching.Blocks.{IsThere, alias_off, bring_off, downgrade_off, each_off, leave_off, least_there, lock_off, offered_there, owner_there, prepare_off, share_off, slot_there, weak_there}
+use Rattle.step_core.proofs.watching.Blocks.{IsThere, alias_off, bring_off, downgrade_off, each_off, leave_off, least_there, lock_off, offered_there}
+use Rattle.step_core.proofs.watching.Blocks.{owner_there, prepare_off, share_off, slot_there, weak_there}
 use Rattle.step_core.proofs.watching.Cells.{IsQuiet, Watches, put_in, still, taken}
 
 -- so it is with a thread that has begun h
@@ -73,7 +76,8 @@ module _ (v : Story) (d : ℕ) (w : Walk) (kept : Kept v) (seat : d < v.extent.a
       still v d Rest (option_map (leave (state v)) (slot w.slots i)) Rest (λ p a. refl)
       (each_off v d (leave (state v)) (slot w.slots i) (λ x e. leave_off v d x.kind x (is_last (state v) x) (in_slot i x e)))
 
-  begins_watch : (k : ℕ) (ts : List Task) (o : Option ℕ) → least d (state v).stores ≡ o → Watches v d Rest (begins w k ts o).deed (begins w k ts o).half
+  begins_watch : (k : ℕ) (ts : List Task) (o : Option ℕ) → least d (state v).stores ≡ o
+      → Watches v d Rest (begins w k ts o).deed (begins w k ts o).half
   begins_watch k ts None e = still v d Rest None Rest (λ p a. refl) (λ n valid. refl)
   begins_watch k ts (Some b) e =
       let block : Block = record { 0 = b } in
@@ -224,5 +228,6 @@ module _ (v : Story) (d : ℕ) (w : Walk) (kept : Kept v) (seat : d < v.extent.a
       (λ (s : Step). IsWatch v d Rest (Some s)) (λ t. sees_watch k ts (Load c) x None (seen v x))
       (λ t. still v d Rest None Rest (λ p q. refl) (λ n valid. refl))
   first_watch k ts (Compare i c weak) =
-      compares_watch k ts (Compare i c weak) (cell_at (state v) w.slots c) (compared_in w.slots (comparing w.slots i weak)) (seen v (cell_at (state v) w.slots c))
+      compares_watch k ts (Compare i c weak) (cell_at (state v) w.slots c) (compared_in w.slots (comparing w.slots i weak))
+      (seen v (cell_at (state v) w.slots c))
   first_watch k ts Drop = leaves (other w.slots)

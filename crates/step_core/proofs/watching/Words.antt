@@ -1,5 +1,6 @@
 -- Words of cells, and the threads that have funds to put back into them.
-use Rattle.std.proofs.Common.{◌≡◌, ◌≢◌, ◌⊎◌, ℕ, zero, suc, ◌+◌, ◌*◌, ◌/◌, ◌<◌, ◌≤◌, ◌==◌, Bool, true, false, cond, List, [], ◌∷◌, length, set}
+use Rattle.std.proofs.Common.{◌≡◌, ◌≢◌, ◌⊎◌, ℕ, zero, suc, ◌+◌, ◌*◌, ◌/◌, ◌<◌, ◌≤◌, ◌==◌, Bool, true, false, cond}
+use Rattle.std.proofs.Common.{List, [], ◌∷◌, length, set}
 use Rattle.std.proofs.Common.{get_or, refl, sym, ap, subst, ◌∙◌, ⊎_elim, arith}
 use Rattle.std.proofs.Common.{get_or-set_other, eq-eqb}
 use Rattle.std.specs.List.{filter}
@@ -43,7 +44,8 @@ one_of p h = go (p h)
     go false = refl
 
 -- one thread has another half
-num_set : (p : Half → Bool) (l : List Half) (d : ℕ) (h : Half) → d < length l → num p (set l d h) + num p (get_or l d Rest ∷ []) ≡ num p l + num p (h ∷ [])
+num_set : (p : Half → Bool) (l : List Half) (d : ℕ) (h : Half) → d < length l
+    → num p (set l d h) + num p (get_or l d Rest ∷ []) ≡ num p l + num p (h ∷ [])
 num_set p [] d h lt = absurd (omega arith)
 num_set p (x ∷ xs) zero h lt = let a = num_cons p h xs in let b = num_cons p x xs in omega (arith, a, b)
 num_set p (x ∷ xs) (suc d) h lt =
@@ -90,7 +92,8 @@ watch blocks place a b d h g l lt at w was = ⊎_elim same (λ r. ⊎_elim (λ f
         subst (λ (n : ℕ). n / 17179869184 ≤ 127 + watchers blocks place n (set l d g)) (sym s.0)
         (let c = counts a in let m = s.1 in omega (arith, was, c, m))
 
-    more : (b ≡ a + 17179869184) × (bit blocks place a h ≡ 0) × (bit blocks place b g ≡ 1) → b / 17179869184 ≤ 127 + watchers blocks place b (set l d g)
+    more : (b ≡ a + 17179869184) × (bit blocks place a h ≡ 0) × (bit blocks place b g ≡ 1)
+        → b / 17179869184 ≤ 127 + watchers blocks place b (set l d g)
     more s =
         let e = s.0 in
         let alike : content b ≡ content a = omega (arith, e) in

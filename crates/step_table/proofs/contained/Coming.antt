@@ -63,7 +63,8 @@ module _ (d : ℕ) (slots : Slots) (v : Story) (i : ℕ) (c : Cell) (x : CellWor
   holds_seen (Some y) = came (after v d (OnCell (Look c x (Some y)))) refl refl
 
   -- what was in a member
-  pub holds_came : (b : Block) (m : ℕ) → c ≡ Member b m → Holds d (set slots i (slot_of (state v) (held_in (state v) c))) (after v d (OnCell (TakeOut b m x)))
+  pub holds_came : (b : Block) (m : ℕ) → c ≡ Member b m
+      → Holds d (set slots i (slot_of (state v) (held_in (state v) c))) (after v d (OnCell (TakeOut b m x)))
   holds_came b m is =
       came (after v d (OnCell (TakeOut b m x)))
       (ap (λ (k : Kind). (gets d (handle_as (state v) k x) (state v)).hands) (sym (ap (kind_in (state v)) is))) refl

@@ -42,7 +42,8 @@ module _ (d : ℕ) (slots : Slots) (v : Story) (c : Cell) (x : CellWord) (y : Co
       ap (λ (p : Compared). equivalent (handle_told (state v) c x) (handle_told (state v) c p.expected)) is
       ∙ alike v c x (as_word (value slots y.expected)) kept (slot_busy d slots v y.expected kept holds)
 
-  pub looked_in : cond (is_some x.owned || equivalent (handle_told (state v) c x) (handle_told (state v) c q.expected)) v (after v d (OnCell (Look c x (Some q))))
+  pub looked_in : cond (is_some x.owned || equivalent (handle_told (state v) c x) (handle_told (state v) c q.expected)) v
+      (after v d (OnCell (Look c x (Some q))))
       ≡ cond (is_some x.owned || same_value x (as_word (value slots y.expected))) v (after v d (OnCell (Look c x (Some (compared_in slots y)))))
   looked_in =
       ap (λ (b : Bool). cond (is_some x.owned || b) v (after v d (OnCell (Look c x (Some q))))) alike_in

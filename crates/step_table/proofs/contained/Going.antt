@@ -1,5 +1,6 @@
 -- What goes into a cell from a slot, in place of what comes out.
-use Rattle.std.proofs.Common.{◌≡◌, ◌≢◌, ℕ, ◌<◌, ◌∷◌, true, false, cond, List, length, set, Option, Some, None, refl, sym, ap, subst, ◌∙◌, arith}
+use Rattle.std.proofs.Common.{◌≡◌, ◌≢◌, ℕ, ◌<◌, ◌∷◌, true, false, cond, List, length, set, Option, Some, None, refl, sym, ap, subst}
+use Rattle.std.proofs.Common.{◌∙◌, arith}
 use Rattle.std.proofs.Common.{get_or-set_same, get_or-set_other, length-set}
 use Rattle.std.proofs.lemmas.List.{set-set, set_comm}
 use Rattle.control_word.specs.declared.cell.CellWord.{CellWord}
@@ -43,7 +44,8 @@ record Left (d : ℕ) (slots : Slots) (v : Story) (i : ℕ) (k : Kind) : Type 0 
   hands : (state story).hands ≡ gone d (handle_as (state v) k (as_word (value slots i))) (state v).hands
   latest : (state story).latest ≡ (state v).latest
 
-left : (d : ℕ) (slots : Slots) (v : Story) (i : ℕ) (k : Kind) → Holds d slots v → i < length slots → is_of k (value slots i) ≡ true → Left d slots v i k
+left : (d : ℕ) (slots : Slots) (v : Story) (i : ℕ) (k : Kind) → Holds d slots v → i < length slots
+    → is_of k (value slots i) ≡ true → Left d slots v i k
 left d slots v i k holds lt is = go (value slots i) refl is
   where
     full : (x : Pointer) (q : Kind) → value slots i ≡ Full x → x.kind ≡ q → q ≡ k → Left d slots v i k
@@ -97,7 +99,8 @@ module _ (d : ℕ) (slots : Slots) (v : Story) (i j : ℕ) (c : Cell) (x : CellW
     (is : is_of (kind_in (state v) c) (value slots i) ≡ true) (li : i < length slots) (lj : j < length slots)
     (e : slot (set slots i plain) j ≡ None) where
   -- the value of slot i went, and what the cell held came into slot j
-  went : (w : Story) → (state w).hands ≡ (swaps d (cell_in (state v) c) (handle_told (state v) c (as_word (value slots i))) (handle_told (state v) c x) (state v)).hands
+  went : (w : Story) → (state w).hands
+      ≡ (swaps d (cell_in (state v) c) (handle_told (state v) c (as_word (value slots i))) (handle_told (state v) c x) (state v)).hands
       → (state w).latest ≡ (swaps d (cell_in (state v) c) (handle_told (state v) c (as_word (value slots i))) (handle_told (state v) c x) (state v)).latest
       → Holds d (set (set slots i plain) j (slot_of (state v) (held_in (state v) c))) w
   went w hands latest =
@@ -127,7 +130,8 @@ module _ (d : ℕ) (slots : Slots) (v : Story) (i : ℕ) (c : Cell) (x : CellWor
   module _ (j : ℕ) (lj : j < length slots) (apart : i ≢ j) (e : slot slots j ≡ None) where
     swapped_by : (w : Story)
         → (state w).hands ≡ (swaps d (cell_in (state v) c) (handle_told (state v) c (as_word (value slots i))) (handle_told (state v) c x) (state v)).hands
-        → (state w).latest ≡ (swaps d (cell_in (state v) c) (handle_told (state v) c (as_word (value slots i))) (handle_told (state v) c x) (state v)).latest
+        → (state w).latest
+        ≡ (swaps d (cell_in (state v) c) (handle_told (state v) c (as_word (value slots i))) (handle_told (state v) c x) (state v)).latest
         → Holds d (swapped i j slots (slot_of (state v) (held_in (state v) c))) w
     swapped_by w hands latest =
         let y = slot_of (state v) (held_in (state v) c) in

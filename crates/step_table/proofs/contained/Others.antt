@@ -98,7 +98,8 @@ module _ (d e : ℕ) (v : Story) (x : Deed) (n : e ≢ d) (kept : Kept v) (kept'
       let o = kept_object v e b x kept kept' (subst (IsBusy s) here busy) (subst (IsBusy t) here busy') in
       (way.0, (h, (has_same s t d h same hold.0, hold.1, hold.2), here ∙ sym o))
 
-  stage_others : (stage : Stage) (k : Kind) (b : Block) (y : CellWord) → d < v.extent.actors → StageFits d stage k b y v → StageFits d stage k b y (after v e x)
+  stage_others : (stage : Stage) (k : Kind) (b : Block) (y : CellWord) → d < v.extent.actors → StageFits d stage k b y v
+      → StageFits d stage k b y (after v e x)
   stage_others Turning k b y lt is = funds_others k (Some b) y.place 1 1 lt is
   stage_others Checking k b y lt is = same_pending v e d x n ∙ is
   stage_others Lacking k b y lt is = same_pending v e d x n ∙ is

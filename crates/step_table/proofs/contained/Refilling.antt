@@ -96,8 +96,18 @@ same_block_true (Some a) (Some b) e = ap (λ (n : ℕ). Some (record { 0 = n }))
 open_got : (s : State) (d : ℕ) (h : Handle) (c : Cell) → IsOpen s d (cell_in s c) → IsOpen (gets d h s) d (cell_in (gets d h s) c)
 open_got s d h (Free n) way = way
 open_got s d h (Member b m) way =
-    let y = way.1.0 in let hold = way.1.1 in
-    (way.0, (y, (cond_both (has_object h) (held d h ∷ s.hands) s.hands (λ (l : List Held). Has (held d y) l) (λ t. inr hold.0) (λ t. hold.0), hold.1, hold.2), way.1.2))
+    let y = way.1.0 in let hold = way.1.1 in (
+      way.0,
+      (
+        y,
+        (
+          cond_both (has_object h) (held d h ∷ s.hands) s.hands (λ (l : List Held). Has (held d y) l) (λ t. inr hold.0) (λ t. hold.0),
+          hold.1,
+          hold.2,
+        ),
+        way.1.2,
+      ),
+    )
 
 module _ (d : ℕ) (v : Story) (kept : Kept v) (lt : d < v.extent.actors) where
   -- a fund is taken
@@ -126,7 +136,8 @@ module _ (d : ℕ) (v : Story) (kept : Kept v) (lt : d < v.extent.actors) where
       go (Some q) = got (after v d (OnCell (Take c x (Some q)))) refl refl (owes_after v d (Take c x (Some q)) kept lt)
 
   -- the fund is turned
-  pub turns_fund : (c : Cell) (x : CellWord) (b : Block) → RefillFits d Turning c x v → RefillFits d Checking c x (after v d (OnCell (Turn (kind_in (state v) c) b)))
+  pub turns_fund : (c : Cell) (x : CellWord) (b : Block) → RefillFits d Turning c x v
+      → RefillFits d Checking c x (after v d (OnCell (Turn (kind_in (state v) c) b)))
   turns_fund c x b fits =
       record {
         valid = fits.valid;
@@ -146,7 +157,8 @@ module _ (d : ℕ) (v : Story) (kept : Kept v) (lt : d < v.extent.actors) where
         block = b;
         owned = some;
         opens = fits.opens;
-        has = subst (λ (q : Block). Has (held d (handle_in v (kind_in (state v) c) q x.place)) (state v).hands) (same_Some _ _ (sym fits.owned ∙ some)) fits.has;
+        has = subst (λ (q : Block). Has (held d (handle_in v (kind_in (state v) c) q x.place)) (state v).hands)
+            (same_Some _ _ (sym fits.owned ∙ some)) fits.has;
         pays = owes_after v d (Bring (kind_in (state v) c) b x.place x.taken) kept lt;
       }
 

@@ -1,5 +1,6 @@
 -- What the word of a cell tells of a slot's value.
-use Rattle.std.proofs.Common.{◌≡◌, ◌≢◌, ℕ, ◌/◌, ◌<◌, ◌≤◌, ◌&&◌, Bool, true, false, List, [], ◌∷◌, Option, Some, None, refl, sym, ap, subst, ◌∙◌}
+use Rattle.std.proofs.Common.{◌≡◌, ◌≢◌, ℕ, ◌/◌, ◌<◌, ◌≤◌, ◌&&◌, Bool, true, false, List, [], ◌∷◌, Option, Some, None}
+use Rattle.std.proofs.Common.{refl, sym, ap, subst, ◌∙◌}
 use Rattle.std.proofs.Common.{inl, inr, ⊎_elim, arith, eq-eqb, ne_eqb}
 use Rattle.std.proofs.lemmas.Bool.{cases_eq}
 use Rattle.std.proofs.lemmas.Option.{same_Some}
@@ -58,7 +59,8 @@ taken_told x valid =
     field_few (Some q) is = is.1
 
 -- the block of the object that a word tells is the word's
-block_told : (s : State) (o : Option Block) → ((b : Block) → o ≡ Some b → blocks_of s (s.latest b.0) ≡ b.0) → block_of (blocks_of s) (object_at s o) ≡ o
+block_told : (s : State) (o : Option Block) → ((b : Block) → o ≡ Some b → blocks_of s (s.latest b.0) ≡ b.0)
+    → block_of (blocks_of s) (object_at s o) ≡ o
 block_told s None is = refl
 block_told s (Some b) is = ap (λ (n : ℕ). Some (record { 0 = n })) (is b refl)
 

@@ -17,7 +17,8 @@ use Rattle.step_table.proofs.tables.Owners.{exact_count, told_most, told_none, t
 settled_owes : (v : Story) (d : ℕ) (x : Pointer) → pending v d ≡ Idle → IsSettled v d x → owed v.views (spot x.block.0 0) ≡ 0
 settled_owes v d x idle settled =
     none_in (λ p. owes p (spot x.block.0 0)) v.views
-    (λ e. ⊎_elim (λ (is : e ≡ d). ap (λ (p : Pending Nothing). owes p (spot x.block.0 0)) (ap (pending v) is ∙ idle)) (λ (ne : e ≢ d). settled e ne) (cases_eq e d))
+    (λ e. ⊎_elim (λ (is : e ≡ d). ap (λ (p : Pending Nothing). owes p (spot x.block.0 0)) (ap (pending v) is ∙ idle))
+    (λ (ne : e ≢ d). settled e ne) (cases_eq e d))
 
 pub tells : (d i : ℕ) (slots : Slots) (x : Pointer) (v : Story) → Kept v → d < v.extent.actors → pending v d ≡ Idle → Holds d slots v
     → slot slots i ≡ Some x → Tells v d (state v) (by_word v) x

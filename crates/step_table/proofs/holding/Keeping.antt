@@ -17,7 +17,8 @@ use Rattle.control_word.specs.State.{weak_number}
 use Rattle.control_word.specs.Views.{used_up}
 use Rattle.step_table.specs.declared.holdings.Pointer.{Pointer}
 use Rattle.step_table.specs.declared.past.Deed.{Deed}
-use Rattle.step_table.specs.declared.past.Deed.TheVariants.{Prepare, Write, Claim, Share, WeakShare, Leave, WeakLeave, Lock, Count, Expired, Read, Clear, Finish, OnCell}
+use Rattle.step_table.specs.declared.past.Deed.TheVariants.{Prepare, Write, Claim, Share, WeakShare, Leave, WeakLeave, Lock, Count, Expired, Read, Clear}
+use Rattle.step_table.specs.declared.past.Deed.TheVariants.{Finish, OnCell}
 use Rattle.step_table.specs.Holdings.{Holds, Slots, slot, times}
 use Rattle.step_table.specs.Openings.{opening}
 use Rattle.step_table.specs.Stories.{Kept, Nothing, Story, after, handle_in, object_in, owner_in, pending, state, weak_in}
@@ -26,7 +27,8 @@ use Rattle.step_table.proofs.tables.CellDeeds.{framed, same_cell}
 use Rattle.step_table.proofs.tables.Places.{handle_busy, there}
 
 -- what is counted of a desk's part
-pub num_part : {A : Type 0} (who : A → ℕ) (d : ℕ) (p : A → Bool) (l : List A) → ((x : A) → p x ≡ true → who x ≡ d) → num p l ≡ num p (part who d l)
+pub num_part : {A : Type 0} (who : A → ℕ) (d : ℕ) (p : A → Bool) (l : List A) → ((x : A) → p x ≡ true → who x ≡ d)
+    → num p l ≡ num p (part who d l)
 num_part who d p [] mine = refl
 num_part who d p (x ∷ xs) mine =
     let i = num_part who d p xs mine in
@@ -114,7 +116,8 @@ still_held : (d : ℕ) (slots : Slots) (v : Story) (e : ℕ) (x : Deed) (i : ℕ
     → Has (held d (handle_in v y.kind y.block y.place)) (state (after v e x)).hands
 still_held d slots v e x i y n holds at = has_same (state v) (state (after v e x)) d _ (same_deed v e d x n) (slot_held d slots v i y holds at)
 
-slot_object : (d : ℕ) (slots : Slots) (v : Story) (e : ℕ) (x : Deed) (i : ℕ) (y : Pointer) → e ≢ d → Kept v → Kept (after v e x) → Holds d slots v
+slot_object : (d : ℕ) (slots : Slots) (v : Story) (e : ℕ) (x : Deed) (i : ℕ) (y : Pointer) → e ≢ d → Kept v
+    → Kept (after v e x) → Holds d slots v
     → slot slots i ≡ Some y → object_in (after v e x) y.block ≡ object_in v y.block
 slot_object d slots v e x i y n kept kept' holds at =
     kept_object v e y.block x kept kept' (handle_busy v d y.kind y.block y.place kept (slot_held d slots v i y holds at))

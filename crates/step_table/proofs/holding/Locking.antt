@@ -1,5 +1,6 @@
 -- What a lock does to a desk's bag and to its slots.
-use Rattle.std.proofs.Common.{◌≡◌, ℕ, ◌<◌, ◌==◌, Bool, true, false, cond, not, length, set, None, refl, sym, ap, subst, ◌∙◌, arith, ne_eqb}
+use Rattle.std.proofs.Common.{◌≡◌, ℕ, ◌<◌, ◌==◌, Bool, true, false, cond, not, length, set, None, refl, sym, ap, subst, ◌∙◌, arith}
+use Rattle.std.proofs.Common.{ne_eqb}
 use Rattle.std.proofs.lemmas.Bool.{eqb-true}
 use Rattle.control_word.specs.Handles.{IsPointer}
 use Rattle.step_table.specs.declared.holdings.Pointer.{Pointer}
@@ -19,7 +20,8 @@ looked v d x t e is = subst (λ (q : Bool). cond t (after v d (Lock x.block x.pl
     go true = refl
     go false = refl
 
-pub holds_looked : (d : ℕ) (slots : Slots) (v : Story) (x : Pointer) (t : Bool) → Holds d slots v → Holds d slots (cond t (after v d (Lock x.block x.place false)) v)
+pub holds_looked : (d : ℕ) (slots : Slots) (v : Story) (x : Pointer) (t : Bool) → Holds d slots v
+    → Holds d slots (cond t (after v d (Lock x.block x.place false)) v)
 holds_looked d slots v x true holds = holds_look d slots v (after v d (Lock x.block x.place false)) refl refl holds
 holds_looked d slots v x false holds = holds
 
@@ -34,6 +36,7 @@ tried v d x now found e some is = go (now == found) refl
         ap (λ (b : Bool). after v d (Lock x.block x.place b)) (ap not (sym n ∙ is))
     go false q = refl
 
-pub holds_tried : (d : ℕ) (slots : Slots) (v : Story) (i : ℕ) (x : Pointer) → Holds d slots v → IsPointer x.place → i < length slots → slot slots i ≡ None
+pub holds_tried : (d : ℕ) (slots : Slots) (v : Story) (i : ℕ) (x : Pointer) → Holds d slots v → IsPointer x.place → i < length slots
+    → slot slots i ≡ None
     → Holds d (set slots i (Full (as_owner x))) (after v d (Lock x.block x.place true))
 holds_tried d slots v i x holds fine lt e = holds_more d slots v (after v d (Lock x.block x.place true)) i (as_owner x) holds refl refl fine lt e

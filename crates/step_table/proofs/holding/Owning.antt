@@ -1,5 +1,6 @@
 -- What a share and a leave do to a desk's bag and to its slots.
-use Rattle.std.proofs.Common.{◌≡◌, ◌≢◌, ℕ, suc, ◌<◌, ◌≤◌, ◌==◌, Bool, true, false, cond, List, [], ◌∷◌, length, set, Option, Some, None, refl, sym, ap, subst}
+use Rattle.std.proofs.Common.{◌≡◌, ◌≢◌, ℕ, suc, ◌<◌, ◌≤◌, ◌==◌, Bool, true, false, cond, List, [], ◌∷◌, length, set, Option}
+use Rattle.std.proofs.Common.{Some, None, refl, sym, ap, subst}
 use Rattle.std.proofs.Common.{◌∙◌, ⊎_elim, arith, get_or-set_same, get_or-set_other, length-set}
 use Rattle.std.proofs.lemmas.Bool.{cases_eq}
 use Rattle.std.proofs.lemmas.Option.{same_Some}
@@ -60,7 +61,8 @@ same_is : (v w : Story) (h : Handle) (y : Slot) → ((p : Pointer) → pointer_o
 same_is v w h (Empty q) f = refl
 same_is v w h (Full p) f = ap (λ (o : ℕ). same_handle h (handle p.kind (Some o) p.place)) (f p refl)
 
-pub same_owns : (v w : Story) (h : Handle) (slots : Slots) → ((i : ℕ) (p : Pointer) → slot slots i ≡ Some p → object_in w p.block ≡ object_in v p.block)
+pub same_owns : (v w : Story) (h : Handle) (slots : Slots)
+    → ((i : ℕ) (p : Pointer) → slot slots i ≡ Some p → object_in w p.block ≡ object_in v p.block)
     → owns w slots h ≡ owns v slots h
 same_owns v w h [] f = refl
 same_owns v w h (y ∷ ys) f =
@@ -86,13 +88,15 @@ holds_more d slots v w i x holds hands latest fine lt e =
           let z = num_none (is_it v h) (value slots i) (λ q. refl) e in
           let t = one_slot (is_it v h) (Full x) in
           let o = holds.owned h in
-          let m : times (state w) d h ≡ num (same_held (held d h)) (held d y ∷ (state v).hands) = ap (λ (l : List Held). num (same_held (held d h)) l) hands in
+          let m : times (state w) d h ≡ num (same_held (held d h)) (held d y ∷ (state v).hands) =
+          ap (λ (l : List Held). num (same_held (held d h)) l) hands in
           let k = same_owns v w h new (λ j p q. ap (λ (f : ℕ → ℕ). f p.block.0) latest) in omega (arith, a, b, s, z, t, o, m, k);
       size =
           (let a = bag_one d y (state v).hands in
           let s = num_set has_object slots i (Full x) lt in
           let z = num_none has_object (value slots i) (λ q. refl) e in
-          let m : bag_size (state w) d ≡ num (λ (q : Held). q.desk == d) (held d y ∷ (state v).hands) = ap (λ (l : List Held). num (λ (q : Held). q.desk == d) l) hands in
+          let m : bag_size (state w) d ≡ num (λ (q : Held). q.desk == d) (held d y ∷ (state v).hands) =
+          ap (λ (l : List Held). num (λ (q : Held). q.desk == d) l) hands in
           let o = holds.size in omega (arith, a, s, z, o, m));
       formed = formed_set slots i (Full x) holds.formed lt fine;
     }
@@ -154,7 +158,8 @@ weak_held d slots v i x holds e =
         go Weak is e = (e, ap (λ (p : Pointer). p.kind) (sym (same_Some y x e)) ∙ is)
 
 -- the place of a weak pointer in a slot is well formed
-pub weak_formed : (d : ℕ) (slots : Slots) (v : Story) (i : ℕ) (x : Pointer) → Holds d slots v → weak_slot (slot slots i) ≡ Some x → IsPointer x.place
+pub weak_formed : (d : ℕ) (slots : Slots) (v : Story) (i : ℕ) (x : Pointer) → Holds d slots v
+    → weak_slot (slot slots i) ≡ Some x → IsPointer x.place
 weak_formed d slots v i x holds e = go (value slots i) (holds.formed i) e
   where
     go : (o : Slot) → IsSlot o → weak_slot (pointer_of o) ≡ Some x → IsPointer x.place
@@ -171,8 +176,10 @@ pub holds_share : (d : ℕ) (slots : Slots) (v : Story) (i : ℕ) (x : Pointer) 
 holds_share d slots v i x holds fine lt e = go x.kind refl
   where
     go : (k : Kind) → x.kind ≡ k → Holds d (set slots i (Full x)) (after v d (share_as k x))
-    go Owner is = holds_more d slots v (after v d (share_as Owner x)) i x holds (ap (λ (k : Kind). held d (handle_in v k x.block x.place) ∷ (state v).hands) (sym is)) refl fine lt e
-    go Weak is = holds_more d slots v (after v d (share_as Weak x)) i x holds (ap (λ (k : Kind). held d (handle_in v k x.block x.place) ∷ (state v).hands) (sym is)) refl fine lt e
+    go Owner is = holds_more d slots v (after v d (share_as Owner x)) i x holds
+        (ap (λ (k : Kind). held d (handle_in v k x.block x.place) ∷ (state v).hands) (sym is)) refl fine lt e
+    go Weak is = holds_more d slots v (after v d (share_as Weak x)) i x holds
+        (ap (λ (k : Kind). held d (handle_in v k x.block x.place) ∷ (state v).hands) (sym is)) refl fine lt e
 
 -- a pointer leaves
 pub holds_leave : (d : ℕ) (slots : Slots) (v : Story) (i : ℕ) (x : Pointer) (last : Bool) → Holds d slots v → slot slots i ≡ Some x
@@ -186,7 +193,8 @@ holds_leave d slots v i x last holds e = go x.kind refl
         (ap (λ (k : Kind). without same_held (held d (handle_in v k x.block x.place)) (state v).hands) (sym is)) refl
 
 -- a slot without an object gets a place
-pub holds_empty : (d : ℕ) (slots : Slots) (v : Story) (i : ℕ) (p : Option Place) → Holds d slots v → i < length slots → slot slots i ≡ None → IsPointer p
+pub holds_empty : (d : ℕ) (slots : Slots) (v : Story) (i : ℕ) (p : Option Place) → Holds d slots v → i < length slots
+    → slot slots i ≡ None → IsPointer p
     → Holds d (set slots i (Empty p)) v
 holds_empty d slots v i p holds lt e fine =
     let same : (q : Slot → Bool) → ((r : Option Place) → q (Empty r) ≡ false) → num q (set slots i (Empty p)) ≡ num q slots =
@@ -202,7 +210,8 @@ holds_empty d slots v i p holds lt e fine =
     }
 
 -- a value goes from one slot to another
-pub holds_move : (d : ℕ) (slots : Slots) (v : Story) (i j : ℕ) → Holds d slots v → i < length slots → j < length slots → i ≢ j → slot slots j ≡ None
+pub holds_move : (d : ℕ) (slots : Slots) (v : Story) (i j : ℕ) → Holds d slots v → i < length slots → j < length slots → i ≢ j
+    → slot slots j ≡ None
     → Holds d (set (set slots j (value slots i)) i plain) v
 holds_move d slots v i j holds li lj n e =
     let mid = set slots j (value slots i) in
@@ -240,7 +249,8 @@ claimed_is v d b enabled null fields h (Full p) f =
     ap (λ (o : ℕ). same_handle h (handle p.kind (Some o) p.place)) (put_other (state v).latest b.0 (suc (state v).made) p.block.0 (f p refl))
 
 claimed_owns : (v : Story) (d : ℕ) (b : Block) (enabled null : Bool) (fields : List ℕ) (h : Handle) (slots : Slots)
-    → ((i : ℕ) (p : Pointer) → slot slots i ≡ Some p → p.block.0 ≢ b.0) → owns (after v d (Claim b enabled null fields)) slots h ≡ owns v slots h
+    → ((i : ℕ) (p : Pointer) → slot slots i ≡ Some p → p.block.0 ≢ b.0)
+    → owns (after v d (Claim b enabled null fields)) slots h ≡ owns v slots h
 claimed_owns v d b enabled null fields h [] f = refl
 claimed_owns v d b enabled null fields h (y ∷ ys) f =
     let w = after v d (Claim b enabled null fields) in

@@ -13,7 +13,8 @@ use Rattle.control_word.specs.Layout.{spot}
 use Rattle.control_word.specs.State.{Object, ending}
 use Rattle.control_word.specs.Views.{added, adds, total, used_up}
 use Rattle.step_table.specs.declared.past.Deed.{Deed}
-use Rattle.step_table.specs.declared.past.Deed.TheVariants.{Prepare, Write, Claim, Share, WeakShare, Leave, WeakLeave, Lock, Count, Expired, Read, Clear, Finish, OnCell}
+use Rattle.step_table.specs.declared.past.Deed.TheVariants.{Prepare, Write, Claim, Share, WeakShare, Leave, WeakLeave, Lock, Count, Expired, Read, Clear}
+use Rattle.step_table.specs.declared.past.Deed.TheVariants.{Finish, OnCell}
 use Rattle.step_table.proofs.tables.CellDeeds.{shuts_cell, whole_framed}
 use Rattle.step_table.specs.Openings.{opening}
 use Rattle.step_table.specs.Stories.{AllWhole, ShutsNoDoor, Kept, Nothing, Story, after, history_after, object_in, pending, pending_after, state, view_in}
@@ -47,7 +48,8 @@ pub doors_after : (v : Story) (d : ℕ) (x : Deed) → d < length v.views → ((
 doors_after v d x lt none e = pending_all (λ p. ShutsNoDoor p) v d x lt (shuts_none v d x) none e
 
 -- an object goes to another phase
-moved_whole : (v : Story) (i : ℕ) (y : Object) (o : ℕ) → AllWhole (state v) → y.fields ≡ ((state v).object i).fields → 0 < o → o ≤ (state v).made
+moved_whole : (v : Story) (i : ℕ) (y : Object) (o : ℕ) → AllWhole (state v) → y.fields ≡ ((state v).object i).fields → 0 < o
+    → o ≤ (state v).made
     → (o ≡ i) → length y.fields ≡ 4
 moved_whole v i y o whole same some le is =
     subst (λ (l : List ℕ). length l ≡ 4) (sym same) (subst (λ (j : ℕ). length ((state v).object j).fields ≡ 4) is (whole o some le))

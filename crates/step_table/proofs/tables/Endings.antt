@@ -36,7 +36,8 @@ ends : (v : Story) (d : ℕ) (b : Block) → Kept v → d < v.extent.actors → 
 ends v d b kept lt e = e ∙ ap ending (sym (named v d kept lt))
 
 -- a member of an ending object is empty just where its word is 0
-pub member_shows : (v : Story) (d : ℕ) (b : Block) (m : ℕ) → Kept v → d < v.extent.actors → ((state v).object (object_in v b)).phase ≡ ending d → m < 3
+pub member_shows : (v : Story) (d : ℕ) (b : Block) (m : ℕ) → Kept v → d < v.extent.actors
+    → ((state v).object (object_in v b)).phase ≡ ending d → m < 3
     → (get_or v.words (spot b.0 (7 + m)) 0 ≡ 0) ↔ (((state v).object (object_in v b)).member m ≡ empty (kind_of_member m))
 member_shows v d b m kept lt end few =
     let busy = ending_busy v d b end in
@@ -57,7 +58,8 @@ member_zero v d b m kept lt idle end few bare =
     let none = kept.stands.bare.members b.0 m h.1 few (ap (λ (x : Handle). x.object) bare) in
     let zero = ap (packed (blocks_of (state v))) bare ∙ packed_empty (blocks_of (state v)) m in
     subst (λ (c : ℕ). get_or v.words (spot c (7 + m)) 0 ≡ 0) h.0
-    (let taken : kept.stands.taken (spot ((state v).object o).block (7 + m)) ≡ 0 = subst (λ (c : ℕ). kept.stands.taken (spot c (7 + m)) ≡ 0) (sym h.0) none in
+    (let taken : kept.stands.taken (spot ((state v).object o).block (7 + m))
+    ≡ 0 = subst (λ (c : ℕ). kept.stands.taken (spot c (7 + m)) ≡ 0) (sym h.0) none in
     omega arith)
 
 pub kept_clear : (v : Story) (d : ℕ) (b : Block) (m : ℕ) → Kept v → d < v.extent.actors → pending v d ≡ Idle
@@ -89,7 +91,8 @@ kept_clear v d b m kept lt idle end few bare =
     (set v.views d (sees_as (view_in v.views d) Idle (entry (me (point v d)) (event.ClearMember o m (empty (kind_of_member m))) ∷ v.history)))
     (entry (me (point v d)) (event.ClearMember o m (empty (kind_of_member m))) ∷ v.history)) same law))
 
-finishing : (v : Story) (d : ℕ) (b : Block) → Kept v → d < v.extent.actors → pending v d ≡ Idle → ((state v).object (object_in v b)).phase ≡ ending d
+finishing : (v : Story) (d : ℕ) (b : Block) → Kept v → d < v.extent.actors → pending v d ≡ Idle
+    → ((state v).object (object_in v b)).phase ≡ ending d
     → ((m : ℕ) → m < 3 → ((state v).object (object_in v b)).member m ≡ empty (kind_of_member m))
     → (0 < get_or v.words (spot b.0 1) 0)
     × (let e = event.Finish (object_in v b) (get_or v.words (spot b.0 1) 0 == 1) tt in
@@ -104,12 +107,14 @@ finishing v d b kept lt idle end bare =
     (finishes' (point v d) (object_in v b) tt (ready v d Idle kept lt idle) (ending_value (opening v.extent) v.history kept.stands.legal (object_in v b) d end)
     (ends v d b kept lt end) bare)
 
-pub some_weak : (v : Story) (d : ℕ) (b : Block) → Kept v → d < v.extent.actors → pending v d ≡ Idle → ((state v).object (object_in v b)).phase ≡ ending d
+pub some_weak : (v : Story) (d : ℕ) (b : Block) → Kept v → d < v.extent.actors → pending v d ≡ Idle
+    → ((state v).object (object_in v b)).phase ≡ ending d
     → ((m : ℕ) → m < 3 → ((state v).object (object_in v b)).member m ≡ empty (kind_of_member m)) → 0 < get_or v.words (spot b.0 1) 0
 some_weak v d b kept lt idle end bare = (finishing v d b kept lt idle end bare).0
 
 pub kept_finish : (v : Story) (d : ℕ) (b : Block) (vacant : Bool) → Kept v → d < v.extent.actors → pending v d ≡ Idle
-    → ((state v).object (object_in v b)).phase ≡ ending d → ((m : ℕ) → m < 3 → ((state v).object (object_in v b)).member m ≡ empty (kind_of_member m))
+    → ((state v).object (object_in v b)).phase ≡ ending d
+    → ((m : ℕ) → m < 3 → ((state v).object (object_in v b)).member m ≡ empty (kind_of_member m))
     → vacant ≡ (get_or v.words (spot b.0 1) 0 == 1) → Kept (after v d (Finish b vacant))
 kept_finish v d b vacant kept lt idle end bare is =
     let o = object_in v b in
@@ -121,5 +126,6 @@ kept_finish v d b vacant kept lt idle end bare is =
     (finishing v d b kept lt idle end bare).1))
 
 -- the event of a finish says whether the block is vacant
-pub finished_vacant : (v : Story) (d : ℕ) (b : Block) (vacant : Bool) → Kept (after v d (Finish b vacant)) → vacant ≡ (weak (state v) (object_in v b) == 0)
+pub finished_vacant : (v : Story) (d : ℕ) (b : Block) (vacant : Bool) → Kept (after v d (Finish b vacant))
+    → vacant ≡ (weak (state v) (object_in v b) == 0)
 finished_vacant v d b vacant kept = kept.stands.legal.1.asks.2

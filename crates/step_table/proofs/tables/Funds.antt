@@ -1,5 +1,6 @@
 -- Funds that are brought, given back, and turned into handles.
-use Rattle.std.proofs.Common.{◌≡◌, ℕ, ◌+◌, ◌-◌, ◌*◌, ◌<◌, ◌≤◌, set, get_or, Option, Some, refl, sym, ap, subst, ◌∙◌, arith, eq-eqb}
+use Rattle.std.proofs.Common.{◌≡◌, ℕ, ◌+◌, ◌-◌, ◌*◌, ◌<◌, ◌≤◌, set, get_or, Option, Some, refl, sym, ap, subst, ◌∙◌, arith}
+use Rattle.std.proofs.Common.{eq-eqb}
 use Rattle.std.proofs.lemmas.Bool.{cond-true}
 use Rattle.control_word.proofs.history.Legal.{held_busy, sound}
 use Rattle.control_word.proofs.history.Soundness.{IsBusy}

@@ -1,5 +1,6 @@
 -- Loads of cells without an object, and refills.
-use Rattle.std.proofs.Common.{◌≡◌, ◌≢◌, ℕ, ◌+◌, ◌-◌, ◌*◌, ◌<◌, Bool, true, false, List, ◌∷◌, set, get_or, Option, Some, None, refl, sym, ap, subst, ◌∙◌, inl, arith}
+use Rattle.std.proofs.Common.{◌≡◌, ◌≢◌, ℕ, ◌+◌, ◌-◌, ◌*◌, ◌<◌, Bool, true, false, List, ◌∷◌, set, get_or, Option, Some}
+use Rattle.std.proofs.Common.{None, refl, sym, ap, subst, ◌∙◌, inl, arith}
 use Rattle.std.specs.Prelude.{cond, is_some, ◌||◌}
 use Rattle.std.proofs.lemmas.Bool.{false≢true}
 use Rattle.control_word.specs.declared.handle.Handle.{Handle}
@@ -48,7 +49,8 @@ kept_look v d c x kept lt idle way shows none = go x.owned refl
         let k = kind_in s c in
         let m = own v d kept lt in
         let told : handle_told s c x ≡ handle k None x.place = ap (λ (q : Option Block). handle k (object_at s q) x.place) e in
-        let law = loads_empty (point v d) n k x.place (ready v d Idle kept lt idle) (subst (λ (i : ℕ). IsOpen s i n) (sym m) way) (sym told ∙ shows.holds) in
+        let law = loads_empty (point v d) n k x.place (ready v d Idle kept lt idle) (subst (λ (i : ℕ). IsOpen s i n) (sym m) way)
+        (sym told ∙ shows.holds) in
         kept_after v d (OnCell (Look c x None)) kept lt
         (subst (λ y. Stands (opening v.extent) v.words (set v.views d (sees_as (view_in v.views d) Idle (entry d (event.Load n y) ∷ v.history)))
         (entry d (event.Load n y) ∷ v.history)) (sym told)
@@ -85,7 +87,8 @@ kept_refill v d c x p kept lt way some valid bits owes = go x.owned refl
 pub refilled : (x : CellWord) (n w : ℕ) → n ≡ cell_bits (record x { taken = 0 }) → w ≡ cell_bits x → n ≡ w - 17179869184 * x.taken
 refilled x n w e f = omega (arith, e, f)
 
-pub kept_look_differing : (v : Story) (d : ℕ) (c : Cell) (x : CellWord) (y : Compared) → Kept v → d < v.extent.actors → pending v d ≡ Idle → IsOpenTo v d c
+pub kept_look_differing : (v : Story) (d : ℕ) (c : Cell) (x : CellWord) (y : Compared) → Kept v → d < v.extent.actors
+    → pending v d ≡ Idle → IsOpenTo v d c
     → HasInHand v d c y.expected → HasInHand v d c y.new → Shows v c x → x.owned ≡ None
     → equivalent (handle_told (state v) c x) (handle_told (state v) c y.expected) ≡ false → Kept (after v d (OnCell (Look c x (Some y))))
 kept_look_differing v d c x y kept lt idle way wanted hand shows e other =
@@ -106,7 +109,8 @@ kept_look_differing v d c x y kept lt idle way wanted hand shows e other =
       inl (sym differs),
     ) in
     kept_after v d (OnCell (Look c x (Some y))) kept lt
-    (subst (λ q. Stands (opening v.extent) v.words (set v.views d (sees_as (view_in v.views d) Idle (entry d (event.Compare n w h q false y.weak) ∷ v.history)))
+    (subst (λ q. Stands (opening v.extent) v.words
+    (set v.views d (sees_as (view_in v.views d) Idle (entry d (event.Compare n w h q false y.weak) ∷ v.history)))
     (entry d (event.Compare n w h q false y.weak) ∷ v.history)) (sym told)
     (event_by v d v.words Idle (event.Compare n w h (handle k None x.place) false y.weak) kept lt law))
 

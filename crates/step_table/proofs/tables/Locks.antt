@@ -18,16 +18,21 @@ use Rattle.step_table.proofs.tables.Owners.{mine_as}
 use Rattle.step_table.proofs.tables.Places.{event_by, handle_busy, named, there}
 use Rattle.step_table.proofs.tables.Standing.{point, ready, kept_after}
 
-locking : (v : Story) (d : ℕ) (b : Block) (p : Option Place) → Kept v → d < v.extent.actors → pending v d ≡ Idle → Has (held d (weak_in v b p)) (state v).hands
+locking : (v : Story) (d : ℕ) (b : Block) (p : Option Place) → Kept v → d < v.extent.actors → pending v d ≡ Idle
+    → Has (held d (weak_in v b p)) (state v).hands
     → (get_or v.words (spot b.0 0) 0 ≡ 0 → let e = event.Lock (weak_in v b p) false in
-    Stands (opening v.extent) v.words (set v.views d (sees_as (view_in v.views d) Idle (entry (me (point v d)) e ∷ v.history))) (entry (me (point v d)) e ∷ v.history))
-    × (0 < get_or v.words (spot b.0 0) 0 → bag_size (state v) (me (point v d)) < (state v).allowance (me (point v d)) → let e = event.Lock (weak_in v b p) true in
+    Stands (opening v.extent) v.words (set v.views d (sees_as (view_in v.views d) Idle (entry (me (point v d)) e ∷ v.history)))
+    (entry (me (point v d)) e ∷ v.history))
+    × (0 < get_or v.words (spot b.0 0) 0 → bag_size (state v) (me (point v d)) < (state v).allowance (me (point v d))
+    → let e = event.Lock (weak_in v b p) true in
     Stands (opening v.extent) (set v.words (spot b.0 0) (suc (get_or v.words (spot b.0 0) 0)))
     (set v.views d (sees_as (view_in v.views d) Idle (entry (me (point v d)) e ∷ v.history))) (entry (me (point v d)) e ∷ v.history))
 locking v d b p kept lt idle has =
     subst (λ (c : ℕ). (get_or v.words (spot c 0) 0 ≡ 0 → let e = event.Lock (weak_in v b p) false in
-    Stands (opening v.extent) v.words (set v.views d (sees_as (view_in v.views d) Idle (entry (me (point v d)) e ∷ v.history))) (entry (me (point v d)) e ∷ v.history))
-    × (0 < get_or v.words (spot c 0) 0 → bag_size (state v) (me (point v d)) < (state v).allowance (me (point v d)) → let e = event.Lock (weak_in v b p) true in
+    Stands (opening v.extent) v.words (set v.views d (sees_as (view_in v.views d) Idle (entry (me (point v d)) e ∷ v.history)))
+    (entry (me (point v d)) e ∷ v.history))
+    × (0 < get_or v.words (spot c 0) 0 → bag_size (state v) (me (point v d)) < (state v).allowance (me (point v d))
+    → let e = event.Lock (weak_in v b p) true in
     Stands (opening v.extent) (set v.words (spot c 0) (suc (get_or v.words (spot c 0) 0)))
     (set v.views d (sees_as (view_in v.views d) Idle (entry (me (point v d)) e ∷ v.history))) (entry (me (point v d)) e ∷ v.history)))
     (there v b kept (handle_busy v d Weak b p kept has)).0

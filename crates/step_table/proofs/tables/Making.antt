@@ -29,7 +29,8 @@ known_word v d b j kept lt making few =
     subst (λ (p : Pending Nothing). get_or v.words (spot b.0 (2 + j)) 0 ≡ get_or (known p) j 0) (sym making.making)
     (writes_word (point v d) b making.words (ready v d _ kept lt making.making) making.size j 0 few).0
 
-pub kept_write : (v : Story) (d : ℕ) (b : Block) (j n : ℕ) → Kept v → d < v.extent.actors → IsMaking v d b → j < 5 → Kept (after v d (Write b j n))
+pub kept_write : (v : Story) (d : ℕ) (b : Block) (j n : ℕ) → Kept v → d < v.extent.actors → IsMaking v d b → j < 5
+    → Kept (after v d (Write b j n))
 kept_write v d b j n kept lt making few =
     kept_after v d (Write b j n) kept lt
     (subst (λ (p : Pending Nothing). Stands (opening v.extent) (set v.words (spot b.0 (2 + j)) n)
@@ -37,14 +38,17 @@ kept_write v d b j n kept lt making few =
     (writes_word (point v d) b making.words (ready v d _ kept lt making.making) making.size j n few).1)
 
 -- what the desk knows of the block that it prepared
-known_now : (v : Story) (d : ℕ) (b : Block) (flags : ℕ) (fields : List ℕ) (making : IsMaking v d b) → known (pending v d) ≡ flags ∷ fields → making.words ≡ flags ∷ fields
+known_now : (v : Story) (d : ℕ) (b : Block) (flags : ℕ) (fields : List ℕ) (making : IsMaking v d b) → known (pending v d) ≡ flags ∷ fields
+    → making.words ≡ flags ∷ fields
 known_now v d b flags fields making is = sym (ap known making.making) ∙ is
 
 pub kept_claim : (v : Story) (d : ℕ) (b : Block) (enabled null : Bool) (fields : List ℕ) → Kept v → d < v.extent.actors → IsMaking v d b
-    → known (pending v d) ≡ flags_of enabled null ∷ fields → bag_size (state v) d < (state v).allowance d → Kept (after v d (Claim b enabled null fields))
+    → known (pending v d) ≡ flags_of enabled null ∷ fields → bag_size (state v) d < (state v).allowance d
+    → Kept (after v d (Claim b enabled null fields))
 kept_claim v d b enabled null fields kept lt making is room =
     let words = known_now v d b (flags_of enabled null) fields making is in
     kept_after v d (Claim b enabled null fields) kept lt
     (event_by v d (set v.words (spot b.0 0) 1) Idle (event.Make b enabled null fields tt) kept lt
-    (claims (point v d) b enabled null fields tt (ready v d _ kept lt (making.making ∙ ap (Making b) words)) (let e = sym (ap (length {A = ℕ}) words) ∙ making.size in omega arith)
+    (claims (point v d) b enabled null fields tt (ready v d _ kept lt (making.making ∙ ap (Making b) words))
+    (let e = sym (ap (length {A = ℕ}) words) ∙ making.size in omega arith)
     (subst (λ (n : ℕ). bag_size (state v) n < (state v).allowance n) (sym (named v d kept lt)) room)))

@@ -1,5 +1,6 @@
 -- Steps on the word of the owners.
-use Rattle.std.proofs.Common.{◌≡◌, ℕ, suc, ◌+◌, ◌-◌, ◌*◌, ◌<◌, ◌≤◌, ◌==◌, Bool, true, false, cond, ◌∷◌, set, get_or, Option, refl, sym, subst, ◌∙◌, arith, eq-eqb, ne_eqb}
+use Rattle.std.proofs.Common.{◌≡◌, ℕ, suc, ◌+◌, ◌-◌, ◌*◌, ◌<◌, ◌≤◌, ◌==◌, Bool, true, false, cond, ◌∷◌, set, get_or}
+use Rattle.std.proofs.Common.{Option, refl, sym, subst, ◌∙◌, arith, eq-eqb, ne_eqb}
 use Rattle.std.proofs.lemmas.Bool.{cond_both, cond-false, cond-true, eqb-true, eqb-false, false≢true}
 use Rattle.std.specs.Prelude.{◌↔◌, IsTrue}
 use Rattle.control_word.proofs.steps.Leave.{leaves'}
@@ -39,7 +40,8 @@ pub mine : (v : Story) (d : ℕ) (b : Block) (p : Option Place) → Kept v → d
     → Has (held (me (point v d)) (owner_in v b p)) (state v).hands
 mine v d b p kept lt has = subst (λ (n : ℕ). Has (held n (owner_in v b p)) (state v).hands) (sym (named v d kept lt)) has
 
-pub mine_as : (v : Story) (d : ℕ) (k : Kind) (b : Block) (p : Option Place) → Kept v → d < v.extent.actors → Has (held d (handle_in v k b p)) (state v).hands
+pub mine_as : (v : Story) (d : ℕ) (k : Kind) (b : Block) (p : Option Place) → Kept v → d < v.extent.actors
+    → Has (held d (handle_in v k b p)) (state v).hands
     → Has (held (me (point v d)) (handle_in v k b p)) (state v).hands
 mine_as v d k b p kept lt has = subst (λ (n : ℕ). Has (held n (handle_in v k b p)) (state v).hands) (sym (named v d kept lt)) has
 
@@ -63,7 +65,8 @@ kept_share v d b p q kept lt idle has fine room =
     (shares (point v d) (object_in v b) p q (ready v d Idle kept lt idle) (mine v d b p kept lt has) fine
     (subst (λ (n : ℕ). bag_size (state v) n < (state v).allowance n) (sym (named v d kept lt)) room))))
 
-leaving : (v : Story) (d : ℕ) (b : Block) (p : Option Place) → Kept v → d < v.extent.actors → pending v d ≡ Idle → Has (held d (owner_in v b p)) (state v).hands
+leaving : (v : Story) (d : ℕ) (b : Block) (p : Option Place) → Kept v → d < v.extent.actors → pending v d ≡ Idle
+    → Has (held d (owner_in v b p)) (state v).hands
     → (0 < get_or v.words (spot b.0 0) 0)
     × (let e = event.Leave (owner_in v b p) (get_or v.words (spot b.0 0) 0 == 1) in
     Stands (opening v.extent) (set v.words (spot b.0 0) (get_or v.words (spot b.0 0) 0 - 1))
@@ -91,7 +94,8 @@ kept_leave v d b p last kept lt idle has is =
     (leaving v d b p kept lt idle has).1))
 
 -- the event of a leave says whether it was the last
-pub left_last : (v : Story) (d : ℕ) (b : Block) (p : Option Place) (last : Bool) → Kept (after v d (Leave b p last)) → last ≡ (count (state v) (object_in v b) == 1)
+pub left_last : (v : Story) (d : ℕ) (b : Block) (p : Option Place) (last : Bool) → Kept (after v d (Leave b p last))
+    → last ≡ (count (state v) (object_in v b) == 1)
 left_last v d b p last kept = kept.stands.legal.1.asks.1
 
 -- a word is 1 just where its number is 1 and it has no funds
@@ -100,7 +104,8 @@ whole_one true w iff = let t = iff.0 refl in let a = t.0 in let f = t.1 in sym (
 whole_one false w iff = sym (ne_eqb w 1 (λ e. false≢true (iff.1 (omega arith, omega arith))))
 
 -- what a count tells: a word whose number is 0 has funds where it isn't 0
-pub told : (w n : ℕ) → (0 < number_of w → n ≡ number_of w) → (number_of w ≡ 0 → 0 < funds_of w → n ≡ 1) → (number_of w ≡ 0 → funds_of w ≡ 0 → n ≡ 0)
+pub told : (w n : ℕ) → (0 < number_of w → n ≡ number_of w) → (number_of w ≡ 0 → 0 < funds_of w → n ≡ 1)
+    → (number_of w ≡ 0 → funds_of w ≡ 0 → n ≡ 0)
     → n ≡ cond (number_of w == 0) (cond (funds_of w == 0) 0 1) (number_of w)
 told w n some way none =
     cond_both (number_of w == 0) (cond (funds_of w == 0) 0 1) (number_of w) (λ (x : ℕ). n ≡ x)
@@ -118,7 +123,8 @@ telling : (v : Story) (d : ℕ) (k : Kind) (b : Block) (p : Option Place) (n : �
     → Has (held d (handle_in v k b p)) (state v).hands
     → let w = get_or v.words (spot b.0 0) 0 in n ≡ cond (number_of w == 0) (cond (funds_of w == 0) 0 1) (number_of w)
     → (let e = event.Count (handle_in v k b p) n in
-    Stands (opening v.extent) v.words (set v.views d (sees_as (view_in v.views d) Idle (entry (me (point v d)) e ∷ v.history))) (entry (me (point v d)) e ∷ v.history))
+    Stands (opening v.extent) v.words (set v.views d (sees_as (view_in v.views d) Idle (entry (me (point v d)) e ∷ v.history)))
+    (entry (me (point v d)) e ∷ v.history))
     × (owed v.views (spot b.0 0) ≡ 0 → n ≡ count (state v) (object_in v b))
 telling v d k b p n kept lt idle has is =
     let h = there v b kept (handle_busy v d k b p kept has) in
@@ -126,11 +132,13 @@ telling v d k b p n kept lt idle has is =
     let low = number_of w in
     let high = funds_of w in
     subst (λ (m : ℕ). (let e = event.Count (handle_in v k b p) m in
-    Stands (opening v.extent) v.words (set v.views d (sees_as (view_in v.views d) Idle (entry (me (point v d)) e ∷ v.history))) (entry (me (point v d)) e ∷ v.history))
+    Stands (opening v.extent) v.words (set v.views d (sees_as (view_in v.views d) Idle (entry (me (point v d)) e ∷ v.history)))
+    (entry (me (point v d)) e ∷ v.history))
     × (owed v.views (spot b.0 0) ≡ 0 → m ≡ count (state v) (object_in v b))) (sym is)
     (subst (λ (c : ℕ). get_or v.words (spot c 0) 0 ≡ low + 4294967296 * high → low < 4294967296
     → (let e = event.Count (handle_in v k b p) (cond (low == 0) (cond (high == 0) 0 1) low) in
-    Stands (opening v.extent) v.words (set v.views d (sees_as (view_in v.views d) Idle (entry (me (point v d)) e ∷ v.history))) (entry (me (point v d)) e ∷ v.history))
+    Stands (opening v.extent) v.words (set v.views d (sees_as (view_in v.views d) Idle (entry (me (point v d)) e ∷ v.history)))
+    (entry (me (point v d)) e ∷ v.history))
     × (owed v.views (spot c 0) ≡ 0 → cond (low == 0) (cond (high == 0) 0 1) low ≡ count (state v) (object_in v b))) h.0
     (tells_count (point v d) k (object_in v b) p low high (ready v d Idle kept lt idle) (mine_as v d k b p kept lt has)) (omega arith) (omega arith))
 

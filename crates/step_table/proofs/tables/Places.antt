@@ -38,18 +38,22 @@ making_stored v d b l kept lt is =
     (kept.stands.team.seated d (view_in v.views d) r.seated r.awake).fits in
     f.0
 
-pub making_place : (v : Story) (d : ℕ) (b : Block) (l : List ℕ) → Kept v → d < v.extent.actors → pending v d ≡ Making b l → InShape (opening v.extent) b.0
+pub making_place : (v : Story) (d : ℕ) (b : Block) (l : List ℕ) → Kept v → d < v.extent.actors → pending v d ≡ Making b l
+    → InShape (opening v.extent) b.0
 making_place v d b l kept lt is = vacant_place v (me (point v d)) b kept (making_stored v d b l kept lt is)
 
 -- the object that a desk keeps, or ends, lies in its block
-pub there : (v : Story) (b : Block) → Kept v → IsBusy (state v) (object_in v b) → (((state v).object (object_in v b)).block ≡ b.0) × InShape (opening v.extent) b.0
+pub there : (v : Story) (b : Block) → Kept v → IsBusy (state v) (object_in v b) → (((state v).object (object_in v b)).block ≡ b.0)
+    × InShape (opening v.extent) b.0
 there v b kept busy =
     let fine = sound (opening v.extent) v.history kept.stands.legal in
-    let some : object_in v b ≢ 0 = λ e. let z = fine.unmade_free 0 fine.none in let t : 0 < 0 = subst (λ n. 0 < n) z (subst (IsBusy (state v)) e busy) in omega arith in
+    let some : object_in v b ≢ 0 = λ e. let z = fine.unmade_free 0 fine.none in
+    let t : 0 < 0 = subst (λ n. 0 < n) z (subst (IsBusy (state v)) e busy) in omega arith in
     let here = fine.latest_in b.0 some in
     (here, subst (InShape (opening v.extent)) here (fine.placed (object_in v b) busy).1)
 
-pub owner_busy : (v : Story) (d : ℕ) (b : Block) (p : Option Place) → Kept v → Has (held d (owner_in v b p)) (state v).hands → IsBusy (state v) (object_in v b)
+pub owner_busy : (v : Story) (d : ℕ) (b : Block) (p : Option Place) → Kept v → Has (held d (owner_in v b p)) (state v).hands
+    → IsBusy (state v) (object_in v b)
 owner_busy v d b p kept has = held_busy (opening v.extent) (state v) d (object_in v b) Owner p (sound (opening v.extent) v.history kept.stands.legal) has
 
 pub handle_busy : (v : Story) (d : ℕ) (k : Kind) (b : Block) (p : Option Place) → Kept v → Has (held d (handle_in v k b p)) (state v).hands
@@ -61,7 +65,8 @@ ending_busy v d b e = let c : common ((state v).object (object_in v b)).phase �
 
 -- an event of the desk, by its number
 pub event_by : (v : Story) (d : ℕ) (words : List ℕ) (p : Pending Nothing) (e : Event Nothing) → Kept v → d < v.extent.actors
-    → Stands (opening v.extent) words (set v.views d (sees_as (view_in v.views d) p (entry (me (point v d)) e ∷ v.history))) (entry (me (point v d)) e ∷ v.history)
+    → Stands (opening v.extent) words (set v.views d (sees_as (view_in v.views d) p (entry (me (point v d)) e ∷ v.history)))
+    (entry (me (point v d)) e ∷ v.history)
     → Stands (opening v.extent) words (set v.views d (sees_as (view_in v.views d) p (entry d e ∷ v.history))) (entry d e ∷ v.history)
 event_by v d words p e kept lt stands =
     subst (λ (n : ℕ). Stands (opening v.extent) words (set v.views d (sees_as (view_in v.views d) p (entry n e ∷ v.history))) (entry n e ∷ v.history))

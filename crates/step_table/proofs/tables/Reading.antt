@@ -1,5 +1,6 @@
 -- What the flags and fields of a block say of the object in it.
-use Rattle.std.proofs.Common.{◌≡◌, ◌≢◌, ℕ, zero, suc, ◌+◌, ◌-◌, ◌<◌, true, false, List, [], ◌∷◌, length, get_or, Some, refl, sym, ap, subst, ◌∙◌, arith}
+use Rattle.std.proofs.Common.{◌≡◌, ◌≢◌, ℕ, zero, suc, ◌+◌, ◌-◌, ◌<◌, true, false, List, [], ◌∷◌, length, get_or, Some, refl}
+use Rattle.std.proofs.Common.{sym, ap, subst, ◌∙◌, arith}
 use Rattle.std.proofs.lemmas.Bool.{cond-true, cond-false}
 use Rattle.control_word.proofs.history.Legal.{sound}
 use Rattle.control_word.proofs.history.Soundness.{IsBusy}
@@ -91,7 +92,8 @@ remains_null x is = cond-true x.null Null (Fields x.fields) is
 
 pub remains_fields : (v : Story) (b : Block) (l : List ℕ) → Kept v → IsBusy (state v) (object_in v b)
     → ((state v).object (object_in v b)).null ≡ false
-    → length l ≡ 4 → ((j : ℕ) → j < 4 → get_or l j 0 ≡ get_or v.words (spot b.0 (3 + j)) 0) → remains ((state v).object (object_in v b)) ≡ Fields l
+    → length l ≡ 4 → ((j : ℕ) → j < 4 → get_or l j 0 ≡ get_or v.words (spot b.0 (3 + j)) 0)
+    → remains ((state v).object (object_in v b)) ≡ Fields l
 remains_fields v b l kept busy null size same =
     let x = (state v).object (object_in v b) in
     let at : (j : ℕ) → j < 4 → get_or x.fields j 0 ≡ get_or l j 0 = λ j lt. sym (field_read v b j kept busy lt) ∙ sym (same j lt) in

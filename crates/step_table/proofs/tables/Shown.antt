@@ -1,5 +1,6 @@
 -- What a word that was found tells of its cell.
-use Rattle.std.proofs.Common.{◌≡◌, ℕ, ◌+◌, ◌*◌, ◌<◌, ◌∷◌, set, get_or, length, Option, Some, None, refl, sym, ap, subst, ◌∙◌, arith}
+use Rattle.std.proofs.Common.{◌≡◌, ℕ, ◌+◌, ◌*◌, ◌<◌, ◌∷◌, set, get_or, length, Option, Some, None, refl, sym, ap, subst, ◌∙◌}
+use Rattle.std.proofs.Common.{arith}
 use Rattle.std.proofs.lemmas.Option.{same_Some}
 use Rattle.control_word.proofs.history.Clearing.{was_made}
 use Rattle.control_word.proofs.history.Legal.{sound}
@@ -41,7 +42,8 @@ pub kept_cell : (v : Story) (d : ℕ) (c : Cell) → Kept v → IsOpenTo v d c �
 kept_cell v d c kept shut = open_kept (opening v.extent) (state v) d (cell_in (state v) c) (sound (opening v.extent) v.history kept.stands.legal) shut
 
 -- where a cell's word lies
-pub cell_there : (v : Story) (c : Cell) → Kept v → IsKept (state v) (cell_in (state v) c) → at_cell v (cell_in (state v) c) ≡ word_of v.extent.shape.blocks c
+pub cell_there : (v : Story) (c : Cell) → Kept v → IsKept (state v) (cell_in (state v) c)
+    → at_cell v (cell_in (state v) c) ≡ word_of v.extent.shape.blocks c
 cell_there v (Free n) kept is = refl
 cell_there v (Member b m) kept is = ap (λ (i : ℕ). spot i (7 + m)) (there v b kept is.1).0
 
@@ -85,7 +87,8 @@ handle_shown v k (Some o) p t last = ap (λ (i : ℕ). handle k (Some i) p) (las
 
 purse_shown : (v : Story) (k : Kind) (o : Option ℕ) (p : Option Place) (t f : ℕ)
     → ((i : ℕ) → o ≡ Some i → (state v).latest (blocks_of (state v) i) ≡ i)
-    → ◌≡◌ {A = Pending Nothing} (purse (blocks_of (state v)) (handle k o p) f) (let x = shown (blocks_of (state v)) (handle k o p) t in owing (state v) k x.owned x.place f 0)
+    → ◌≡◌ {A = Pending Nothing} (purse (blocks_of (state v)) (handle k o p) f)
+    (let x = shown (blocks_of (state v)) (handle k o p) t in owing (state v) k x.owned x.place f 0)
 purse_shown v k None p t f last = refl
 purse_shown v k (Some o) p t f last =
     ap (λ (i : ℕ). Paying k i p (spot (blocks_of (state v) o) (slot k)) f 0) (sym (last o refl))
@@ -107,7 +110,8 @@ shown_there v k (Some o) p t last b e =
 -- the value that a word tells, and what is owed for it when it comes out
 pub record Found (v : Story) (c : Cell) (x : CellWord) : Type 0 where
   pub shows : Shows v c x
-  pub bits : get_or v.words (at_cell v (cell_in (state v) c)) 0 ≡ packed (blocks_of (state v)) (cell_of (state v) (cell_in (state v) c)) + 17179869184 * x.taken
+  pub bits : get_or v.words (at_cell v (cell_in (state v) c)) 0 ≡ packed (blocks_of (state v))
+      (cell_of (state v) (cell_in (state v) c)) + 17179869184 * x.taken
   pub owed : (f : ℕ) → ◌≡◌ {A = Pending Nothing} (purse (blocks_of (state v)) (cell_of (state v) (cell_in (state v) c)) f)
       (owing (state v) (kind_in (state v) c) x.owned x.place f 0)
   pub there : (b : Block) → x.owned ≡ Some b → blocks_of (state v) (object_in v b) ≡ b.0
@@ -140,7 +144,8 @@ found_in v d c x kept lt is valid bits =
     }
 
 -- an event on a cell, as the deed says it
-pub adds_by : (v : Story) (d i j n m : ℕ) (e f : Event Nothing) (p q : Pending Nothing) → Kept v → d < v.extent.actors → i ≡ j → n ≡ m → e ≡ f → p ≡ q
+pub adds_by : (v : Story) (d i j n m : ℕ) (e f : Event Nothing) (p q : Pending Nothing) → Kept v → d < v.extent.actors → i ≡ j
+    → n ≡ m → e ≡ f → p ≡ q
     → Adds (point v d) i n e p
     → Stands (opening v.extent) (set v.words j m) (set v.views d (sees_as (view_in v.views d) q (entry d f ∷ v.history))) (entry d f ∷ v.history)
 adds_by v d i j n m e f p q kept lt at to is owed adds =

@@ -1,5 +1,6 @@
 -- A new table.
-use Rattle.std.proofs.Common.{◌≡◌, ℕ, zero, suc, ◌+◌, ◌-◌, ◌*◌, ◌/◌, ◌%◌, ◌<◌, ◌≤◌, ◌==◌, false, cond, List, [], length, get_or, replicate, refl, sym}
+use Rattle.std.proofs.Common.{◌≡◌, ℕ, zero, suc, ◌+◌, ◌-◌, ◌*◌, ◌/◌, ◌%◌, ◌<◌, ◌≤◌, ◌==◌, false, cond, List, []}
+use Rattle.std.proofs.Common.{length, get_or, replicate, refl, sym}
 use Rattle.std.proofs.Common.{ap, subst, ◌∙◌, arith, ne_eqb, inl, inr}
 use Rattle.std.specs.Prelude.{nat_lt}
 use Rattle.std.proofs.lemmas.Bool.{cases_eq, cond_both, cond-true, cond-false, le-ltb, lt-ltb, ltb-false}

@@ -1,5 +1,6 @@
 -- Values that go into a cell, and come out of it.
-use Rattle.std.proofs.Common.{◌≡◌, ◌≢◌, ℕ, suc, true, false, ◌+◌, ◌-◌, ◌<◌, ◌≤◌, ◌==◌, [], ◌∷◌, get_or, length, Option, Some, None, refl, sym, ap, subst, ◌∙◌, ⊎_elim, inl, arith}
+use Rattle.std.proofs.Common.{◌≡◌, ◌≢◌, ℕ, suc, true, false, ◌+◌, ◌-◌, ◌<◌, ◌≤◌, ◌==◌, [], ◌∷◌, get_or, length}
+use Rattle.std.proofs.Common.{Option, Some, None, refl, sym, ap, subst, ◌∙◌, ⊎_elim, inl, arith}
 use Rattle.std.specs.List.{filter}
 use Rattle.std.proofs.lemmas.Bool.{cond_both}
 use Rattle.control_word.proofs.history.Allowances.{allowed}
@@ -62,7 +63,8 @@ hand_packed v d k (Some b) p kept hand =
     let t = ap (λ (i : ℕ). cell_bits (record { owned = Some (record { 0 = i }); place = p; taken = 0 })) (hand_there v d k b p kept hand) in
     omega (arith, e, t)
 
-hand_purse : (v : Story) (d : ℕ) (k : Kind) (o : Option Block) (p : Option Place) (f : ℕ) → Kept v → InHand (state v) d k (handle k (object_at (state v) o) p)
+hand_purse : (v : Story) (d : ℕ) (k : Kind) (o : Option Block) (p : Option Place) (f : ℕ) → Kept v
+    → InHand (state v) d k (handle k (object_at (state v) o) p)
     → ◌≡◌ {A = Pending Nothing} (owing (state v) k o p f 0) (purse (blocks_of (state v)) (handle k (object_at (state v) o) p) f)
 hand_purse v d k None p f kept hand = refl
 hand_purse v d k (Some b) p f kept hand =
@@ -110,7 +112,8 @@ kept_swap v d c new x kept lt way full hand owes more shows =
     let law =
     swaps' (point v d) e h (ready v d _ kept lt (owes ∙ hand_purse v d k new.owned new.place 256 kept hand))
     (subst (λ (n : ℕ). IsOpen s n e) (sym m) way, subst (λ (n : ℕ). InHand s n k h) (sym m) hand, refl)
-    (subst (λ (n : ℕ). HasRoom (swaps n e h (cell_of s e) s) n) (sym m) (swap_room v d e k new.owned new.place (cell_of s e) kept hand more)) x.taken f.bits in
+    (subst (λ (n : ℕ). HasRoom (swaps n e h (cell_of s e) s) n) (sym m) (swap_room v d e k new.owned new.place (cell_of s e) kept hand more)) x.taken
+    f.bits in
     kept_after v d (OnCell (Swap c new x)) kept lt
     (adds_by v d _ (word_of v.extent.shape.blocks c) _ (cell_bits new) _ _ _ _ kept lt (cell_there v c kept is)
     (hand_packed v d k new.owned new.place kept hand ∙ ap (λ (t : ℕ). cell_bits (record { owned = new.owned; place = new.place; taken = t })) (sym full))
@@ -125,7 +128,8 @@ left_over x valid few =
 
 -- a load under way, of a cell that told this value
 load_owing : (v : Story) (c : Cell) (x : CellWord) (b : Block) (f : Found v c x) → x.owned ≡ Some b
-    → ◌≡◌ {A = Pending Nothing} (Paying (kind_in (state v) c) (object_in v b) x.place (counts_at (blocks_of (state v)) (kind_in (state v) c) (object_in v b)) 1 1)
+    → ◌≡◌ {A = Pending Nothing}
+    (Paying (kind_in (state v) c) (object_in v b) x.place (counts_at (blocks_of (state v)) (kind_in (state v) c) (object_in v b)) 1 1)
     (owing (state v) (kind_in (state v) c) x.owned x.place 1 1)
 load_owing v c x b f e =
     let k = kind_in (state v) c in
@@ -183,10 +187,12 @@ kept_compare v d c x y kept lt way full alike wanted hand owes more valid bits =
       refl,
       inl (sym same),
     )
-    (subst (λ (n : ℕ). HasRoom (swaps n e h (cell_of s e) s) n) (sym m) (swap_room v d e k y.new.owned y.new.place (cell_of s e) kept hand more)) x.taken f.bits in
+    (subst (λ (n : ℕ). HasRoom (swaps n e h (cell_of s e) s) n) (sym m) (swap_room v d e k y.new.owned y.new.place (cell_of s e) kept hand more)) x.taken
+    f.bits in
     kept_after v d (OnCell (CompareSwap c x y)) kept lt
     (adds_by v d _ (word_of v.extent.shape.blocks c) _ (cell_bits y.new) _ _ _ _ kept lt (cell_there v c kept is)
-    (hand_packed v d k y.new.owned y.new.place kept hand ∙ ap (λ (t : ℕ). cell_bits (record { owned = y.new.owned; place = y.new.place; taken = t })) (sym full))
+    (hand_packed v d k y.new.owned y.new.place kept hand ∙ ap
+    (λ (t : ℕ). cell_bits (record { owned = y.new.owned; place = y.new.place; taken = t })) (sym full))
     (ap (λ (q : Handle). event.Compare e w h q true y.weak) (sym f.shows.holds)) (f.owed (256 - x.taken)) law)
 
 -- an ending object's member is one that words are kept for
@@ -210,7 +216,8 @@ kept_take_out v d b m x kept lt idle end few room shows =
     clears' (point v d) o m (ready v d Idle kept lt idle) (end ∙ ap ending (sym q)) few
     (subst (λ (n : ℕ). HasRoom (clears n o m old s) n) (sym q) (omega (arith, g, room))) x.taken f.bits in
     kept_after v d (OnCell (TakeOut b m x)) kept lt
-    (adds_by v d _ (spot b.0 (7 + m)) _ 0 _ _ _ _ kept lt (cell_there v c kept is) refl (ap (event.ClearMember o m) (sym shows.holds)) (f.owed (256 - x.taken)) law)
+    (adds_by v d _ (spot b.0 (7 + m)) _ 0 _ _ _ _ kept lt (cell_there v c kept is) refl (ap (event.ClearMember o m) (sym shows.holds))
+    (f.owed (256 - x.taken)) law)
 
 pub kept_take_differing : (v : Story) (d : ℕ) (c : Cell) (x : CellWord) (y : Compared) → Kept v → d < v.extent.actors → pending v d ≡ Idle
     → IsOpenTo v d c → x.owned ≢ None → x.taken < 256 → equivalent (handle_told (state v) c x) (handle_told (state v) c y.expected) ≡ false
@@ -246,4 +253,5 @@ kept_take_differing v d c x y kept lt idle way some few other wanted hand room v
         ) in
         kept_after v d (OnCell (Take c x (Some y))) kept lt
         (adds_by v d _ (word_of v.extent.shape.blocks c) _ (word_at v c + 17179869184) _ _ _ _ kept lt there
-        (ap (λ (i : ℕ). get_or v.words i 0 + 17179869184) there) (ap (λ (q : Handle). event.Compare n w h q false y.weak) (sym told)) (load_owing v c x b f e) law)
+        (ap (λ (i : ℕ). get_or v.words i 0 + 17179869184) there) (ap (λ (q : Handle). event.Compare n w h q false y.weak) (sym told))
+        (load_owing v c x b f e) law)

@@ -1,5 +1,6 @@
 -- Each object that was made has a value, which is nothing.
-use Rattle.std.proofs.Common.{◌≡◌, ◌≢◌, ℕ, suc, ◌<◌, ◌≤◌, true, false, List, [], ◌∷◌, Option, Some, refl, ap, ◌∙◌, ⊎_elim, arith}
+use Rattle.std.proofs.Common.{◌≡◌, ◌≢◌, ℕ, suc, ◌<◌, ◌≤◌, true, false, List, [], ◌∷◌, Option, Some, refl, ap, ◌∙◌, ⊎_elim}
+use Rattle.std.proofs.Common.{arith}
 use Rattle.std.proofs.lemmas.Bool.{cases_eq, cases_lt}
 use Rattle.control_word.proofs.lists.Tallies.{put_cases}
 use Rattle.control_word.proofs.history.Legal.{sound}
@@ -56,10 +57,12 @@ ended_some : (p : Phase) (d : ℕ) → p ≡ ending d → p ≡ unmade → ⊥
 ended_some p d e u = cc
 
 -- an object that is ending has its value
-pub ending_value : (z : Opening) (h : List (Entry Nothing)) → IsLegal z h → (o d : ℕ) → ((leads z h).object o).phase ≡ ending d → value z h o ≡ Some tt
+pub ending_value : (z : Opening) (h : List (Entry Nothing)) → IsLegal z h → (o d : ℕ) → ((leads z h).object o).phase ≡ ending d
+    → value z h o ≡ Some tt
 ending_value z h legal o d e =
     let s = leads z h in
     let fine = sound z h legal in
     made_value z h o
-    (⊎_elim (λ (is : o ≡ 0). absurd (ended_some (s.object o).phase d e (ap (λ (n : ℕ). (s.object n).phase) is ∙ fine.none))) (λ (ne : o ≢ 0). omega arith) (cases_eq o 0))
+    (⊎_elim (λ (is : o ≡ 0). absurd (ended_some (s.object o).phase d e (ap (λ (n : ℕ). (s.object n).phase) is ∙ fine.none)))
+    (λ (ne : o ≢ 0). omega arith) (cases_eq o 0))
     (⊎_elim (λ (lt : s.made < o). absurd (ended_some (s.object o).phase d e (fine.fresh o lt))) (λ (ge : o ≤ s.made). ge) (cases_lt s.made o))

@@ -1,5 +1,6 @@
 -- Steps of weak handles on the words.
-use Rattle.std.proofs.Common.{◌⊎◌, ⊎_elim, inr, ap, ◌≡◌, ℕ, suc, ◌-◌, ◌<◌, ◌==◌, ◌&&◌, Bool, ◌∷◌, set, get_or, Option, refl, sym, subst, ◌∙◌, inl, arith, ne_eqb}
+use Rattle.std.proofs.Common.{◌⊎◌, ⊎_elim, inr, ap, ◌≡◌, ℕ, suc, ◌-◌, ◌<◌, ◌==◌, ◌&&◌, Bool, ◌∷◌, set, get_or, Option}
+use Rattle.std.proofs.Common.{refl, sym, subst, ◌∙◌, inl, arith, ne_eqb}
 use Rattle.control_word.proofs.history.Moving.{owner_counted}
 use Rattle.control_word.proofs.steps.Look.{look_event, tells_expired}
 use Rattle.control_word.proofs.steps.WeakLeave.{weak_leaves'}
@@ -49,7 +50,8 @@ module _ (v : Story) (d : ℕ) (k : Kind) (b : Block) (p q : Option Place) (kept
       (weak_shares (point v d) (object_in v b) q (ready v d Idle kept lt idle) busy (may_share is)
       (subst (λ (n : ℕ). bag_size (state v) n < (state v).allowance n) (sym (named v d kept lt)) room))))
 
-leaving : (v : Story) (d : ℕ) (b : Block) (p : Option Place) → Kept v → d < v.extent.actors → pending v d ≡ Idle → Has (held d (weak_in v b p)) (state v).hands
+leaving : (v : Story) (d : ℕ) (b : Block) (p : Option Place) → Kept v → d < v.extent.actors → pending v d ≡ Idle
+    → Has (held d (weak_in v b p)) (state v).hands
     → (0 < get_or v.words (spot b.0 1) 0)
     × (let e = event.WeakLeave (weak_in v b p) (get_or v.words (spot b.0 1) 0 == 1) in
     Stands (opening v.extent) (set v.words (spot b.0 1) (get_or v.words (spot b.0 1) 0 - 1))

@@ -1,5 +1,6 @@
 -- Lists of endings.
-use Rattle.std.proofs.Common.{◌≡◌, ◌≢◌, ℕ, ◌+◌, ◌≤◌, ◌==◌, cond, List, [], ◌∷◌, drop, sym, ap, subst, ◌∙◌, arith, eq-eqb, inl, refl}
+use Rattle.std.proofs.Common.{◌≡◌, ◌≢◌, ℕ, ◌+◌, ◌≤◌, ◌==◌, cond, List, [], ◌∷◌, drop, sym, ap, subst, ◌∙◌, arith}
+use Rattle.std.proofs.Common.{eq-eqb, inl, refl}
 use Rattle.std.specs.Prelude.{All, Some}
 use Rattle.std.proofs.lemmas.Bool.{cond_both, cond-true}
 use Rattle.std.proofs.lemmas.List.Elements.{All-nil, All-head, All-tail, All-cons}
@@ -30,7 +31,8 @@ others_end d v w b [] keep none all = All-nil (λ e. IsEnding d e w)
 others_end d v w b (x ∷ xs) keep none all =
     let a = one_more b x xs in
     All-cons (λ e. IsEnding d e w) x xs
-    (keep x (λ q. absurd (let z = cond-true {A = ℕ} (x.block.0 == b) 1 0 (eq-eqb x.block.0 b q) in omega (arith, a, none, z))) (All-head (λ e. IsEnding d e v) x xs all))
+    (keep x (λ q. absurd (let z = cond-true {A = ℕ} (x.block.0 == b) 1 0 (eq-eqb x.block.0 b q) in omega (arith, a, none, z)))
+    (All-head (λ e. IsEnding d e v) x xs all))
     (others_end d v w b xs keep (omega (arith, a, none)) (All-tail (λ e. IsEnding d e v) x xs all))
 
 -- the others are of other blocks than the first
@@ -44,7 +46,8 @@ pub once_rest : (d : ℕ) (v : Story) (e : Ending) (es : List Ending) (b : ℕ) 
 once_rest d v e es b ends = let a = one_more b e es in let o = ends.once b in omega (arith, a, o)
 
 -- an ending that stands in another's place is of the same block
-pub once_staged : (d : ℕ) (v : Story) (e e' : Ending) (es : List Ending) (b : ℕ) → e'.block ≡ e.block → EndsAll d (e ∷ es) v → endings_of b (e' ∷ es) ≤ 1
+pub once_staged : (d : ℕ) (v : Story) (e e' : Ending) (es : List Ending) (b : ℕ) → e'.block ≡ e.block → EndsAll d (e ∷ es) v
+    → endings_of b (e' ∷ es) ≤ 1
 once_staged d v e e' es b same ends =
     let a = one_more b e es in
     let c = one_more b e' es in
@@ -72,7 +75,8 @@ ends_none d c w none room =
       empty = inl none;
     }
 
-pub ends_gone : (d : ℕ) (c c' : Course) (v w : Story) → EndsFit d c v → c.endings.list ≡ [] → c'.endings ≡ c.endings → w.extent ≡ v.extent → EndsFit d c' w
+pub ends_gone : (d : ℕ) (c c' : Course) (v w : Story) → EndsFit d c v → c.endings.list ≡ [] → c'.endings ≡ c.endings
+    → w.extent ≡ v.extent → EndsFit d c' w
 ends_gone d c c' v w fit none same is =
     let r = fit.roomy in
     let e : c'.endings.room ≡ c.endings.room = ap (λ (x : Stack). x.room) same in

@@ -1,5 +1,6 @@
 -- A desk's store and its endings name each block of the shape once at most, so there is room for all of them.
-use Rattle.std.proofs.Common.{◌≡◌, ◌≢◌, ℕ, zero, suc, ◌+◌, ◌<◌, ◌≤◌, ◌==◌, true, false, cond, not, List, [], ◌∷◌, length, refl, sym, ap, subst, ◌∙◌, ⊎_elim, arith, eq-eqb, ne_eqb}
+use Rattle.std.proofs.Common.{◌≡◌, ◌≢◌, ℕ, zero, suc, ◌+◌, ◌<◌, ◌≤◌, ◌==◌, true, false, cond, not, List, [], ◌∷◌, length}
+use Rattle.std.proofs.Common.{refl, sym, ap, subst, ◌∙◌, ⊎_elim, arith, eq-eqb, ne_eqb}
 use Rattle.std.proofs.lemmas.Bool.{cases_eq, cond_both, cond-true, cond-false, eqb-true, and_parts}
 use Rattle.std.proofs.lemmas.List.Elements.{All-head, All-tail}
 use Rattle.std.proofs.lemmas.List.Sums.{sum_by-cons}
@@ -77,7 +78,8 @@ most_once d b s =
     (λ x t. eq-eqb x.block b (sym (eqb-true _ _ (and_parts _ _ t).1)))
 
 -- the store of a desk has each block of the shape once at most
-pub store_few : (d : ℕ) (v : Story) (l : List ℕ) → Kept v → ((b : ℕ) → in_store (state v) d b ≡ in_list b l) → length l ≤ v.extent.shape.blocks
+pub store_few : (d : ℕ) (v : Story) (l : List ℕ) → Kept v → ((b : ℕ) → in_store (state v) d b ≡ in_list b l)
+    → length l ≤ v.extent.shape.blocks
 store_few d v l kept same =
     let fine = sound (opening v.extent) v.history kept.stands.legal in
     few v.extent.shape.blocks l

@@ -1,5 +1,6 @@
 -- What other desks do leaves what a desk has half done.
-use Rattle.std.proofs.Common.{◌≡◌, ◌≢◌, ℕ, ◌<◌, ◌≤◌, ◌==◌, ◌⊎◌, get_or, Option, Some, inl, inr, refl, sym, eq-eqb, ap, subst, ◌∙◌, ⊎_elim, arith}
+use Rattle.std.proofs.Common.{◌≡◌, ◌≢◌, ℕ, ◌<◌, ◌≤◌, ◌==◌, ◌⊎◌, get_or, Option, Some, inl, inr, refl, sym, eq-eqb, ap, subst}
+use Rattle.std.proofs.Common.{◌∙◌, ⊎_elim, arith}
 use Rattle.std.proofs.lemmas.List.{get_or_past}
 use Rattle.std.proofs.lemmas.Bool.{cases_lt, cond-false, le-ltb}
 use Rattle.std.specs.Prelude.{nat_lt}
@@ -52,7 +53,8 @@ held_seat v d h kept has =
     absurd (omega (arith, none, all, room, one))) (cases_lt d v.extent.actors)
 
 module _ (d e : ℕ) (v : Story) (x : Deed) (n : e ≢ d) (kept : Kept v) (kept' : Kept (after v e x)) where
-  brought_idle : (a : Slot) → pending v d ≡ Idle → pending v d ≡ owing_for (state v) a 256 → pending (after v e x) d ≡ owing_for (state (after v e x)) a 256
+  brought_idle : (a : Slot) → pending v d ≡ Idle → pending v d ≡ owing_for (state v) a 256
+      → pending (after v e x) d ≡ owing_for (state (after v e x)) a 256
   brought_idle (Empty p) none is = same_pending v e d x n ∙ is
   brought_idle (Full y) none is =
       absurd (let k : ◌≡◌ {A = Pending Nothing} Idle (owing (state v) y.kind (Some y.block) y.place 256 0) = sym none ∙ is in cc)

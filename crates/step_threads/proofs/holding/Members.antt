@@ -10,7 +10,8 @@ use Rattle.step_table.specs.declared.cell_deed.Cell.TheVariants.{Free, Member}
 use Rattle.step_table.specs.declared.cell_deed.CellDeed.{CellDeed}
 use Rattle.step_table.specs.declared.cell_deed.CellDeed.TheVariants.{Look, Bring, GiveBack, Take, Turn, Refill, Swap, CompareSwap, TakeOut}
 use Rattle.step_table.specs.declared.past.Deed.{Deed}
-use Rattle.step_table.specs.declared.past.Deed.TheVariants.{Prepare, Write, Claim, Share, WeakShare, Leave, WeakLeave, Lock, Count, Expired, Read, Clear, Finish, OnCell}
+use Rattle.step_table.specs.declared.past.Deed.TheVariants.{Prepare, Write, Claim, Share, WeakShare, Leave, WeakLeave, Lock, Count, Expired, Read, Clear}
+use Rattle.step_table.specs.declared.past.Deed.TheVariants.{Finish, OnCell}
 use Rattle.step_table.specs.Openings.{opening}
 use Rattle.step_table.specs.Stories.{Kept, Story, after, object_in, state}
 
@@ -18,7 +19,8 @@ pub phase_differs : (d e : ℕ) (p : Phase) → p ≡ ending d → p ≡ ending 
 phase_differs d e p a b = let k : ending e ≡ ending d = sym b ∙ a in cc
 
 -- where an object changes that isn't this one, or keeps its members
-other_put : (s : State) (i o m : ℕ) (x : Object) → (o ≡ i → x.member m ≡ (s.object o).member m) → (put s.object i x o).member m ≡ (s.object o).member m
+other_put : (s : State) (i o m : ℕ) (x : Object) → (o ≡ i → x.member m ≡ (s.object o).member m)
+    → (put s.object i x o).member m ≡ (s.object o).member m
 other_put s i o m x here = put_cases (λ j (y : Object). y.member m ≡ (s.object j).member m) s.object i x o here (λ q. refl)
 
 -- the object that another desk has an owner of, or ends, is another one

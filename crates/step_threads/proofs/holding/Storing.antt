@@ -1,5 +1,6 @@
 -- What a thread's own deeds do to its store.
-use Rattle.std.proofs.Common.{◌≡◌, ◌≢◌, ℕ, ◌<◌, ◌==◌, Bool, true, false, cond, List, [], ◌∷◌, length, refl, sym, ap, ◌∙◌, inl, inr, ⊎_elim, arith, eq-eqb, ne_eqb}
+use Rattle.std.proofs.Common.{◌≡◌, ◌≢◌, ℕ, ◌<◌, ◌==◌, Bool, true, false, cond, List, [], ◌∷◌, length, refl, sym, ap, ◌∙◌, inl}
+use Rattle.std.proofs.Common.{inr, ⊎_elim, arith, eq-eqb, ne_eqb}
 use Rattle.std.proofs.lemmas.Bool.{cases_eq, cond_both, cond-true, cond-false, and_from}
 use Rattle.std.proofs.lemmas.List.Sorted.{sum_by_popped}
 use Rattle.std.specs.List.{filter}
@@ -30,7 +31,8 @@ one_stored d b c =
     ap length (cond-false (same_stored (stored d c) (stored d b)) (stored d b ∷ []) [] k) ∙ sym (cond-false (b == c) 1 0 (ne_eqb b c n))) (cases_eq b c)
 
 -- the least block goes out, for a making
-pub stocks_take : (d : ℕ) (old new : List ℕ) (room i : ℕ) (f : Bool) (v : Story) (b : Block) → Stocks d old room Rest v → IsPermutation old (b.0 ∷ new)
+pub stocks_take : (d : ℕ) (old new : List ℕ) (room i : ℕ) (f : Bool) (v : Story) (b : Block) → Stocks d old room Rest v
+    → IsPermutation old (b.0 ∷ new)
     → Stocks d new room (Making b i f) v
 stocks_take d old new room i f v b stocks p =
     record {
@@ -38,7 +40,8 @@ stocks_take d old new room i f v b stocks p =
       roomy = stocks.roomy;
     }
 
-pub taken_stored : (d : ℕ) (old new : List ℕ) (room : ℕ) (v : Story) (b : Block) → Stocks d old room Rest v → IsPermutation old (b.0 ∷ new) → Has (stored d b.0) (state v).stores
+pub taken_stored : (d : ℕ) (old new : List ℕ) (room : ℕ) (v : Story) (b : Block) → Stocks d old room Rest v → IsPermutation old (b.0 ∷ new)
+    → Has (stored d b.0) (state v).stores
 taken_stored d old new room v b stocks p =
     let a = sum_by_popped (λ (x : ℕ). cond (x == b.0) 1 0) b.0 old new p in
     let s = stocks.stocked b.0 in

@@ -60,7 +60,8 @@ invariant_of-desk g c =
     let size = as_many v w e t refl in
     desk_after d _ e h a s.chair.0 s.chair.2 (λ y x. refl) refl
     (put_back d h t.state _ c.args.block c.finish-value.result.1 t.same c.put_by.ensures.items _ stores) c.put_by.ensures.capacity
-    (omega (arith, size, h.holding)) (let f = shrunk_count d w _ _ _ a in omega (arith, h.within, h.ended)) (let f = shrunk_count d w _ _ _ a in omega (arith, h.ended))
+    (omega (arith, size, h.holding)) (let f = shrunk_count d w _ _ _ a in omega (arith, h.within, h.ended))
+    (let f = shrunk_count d w _ _ _ a in omega (arith, h.ended))
 
 pub returns-clause-value : goal.returns-clause-value
 returns-clause-value g c = λ x ends.
@@ -93,13 +94,15 @@ returns-clause-desk g c =
 pub overflow_sub-desk : goal.overflow_sub-desk
 overflow_sub-desk g c =
     let d = c.desk.inside in let h = c.desk.invariant in let w = c.finish-value.new.chair.me.0 in
-    let a = c.finish-value.ensures.event c.requires.ending.0 (ends_value d c.args.desk.now c.args.block.0 c.requires.ending.0 c.desk.view_is c.requires.ending.1) in
+    let a = c.finish-value.ensures.event c.requires.ending.0
+    (ends_value d c.args.desk.now c.args.block.0 c.requires.ending.0 c.desk.view_is c.requires.ending.1) in
     let f = shrunk_count d w _ _ _ a in omega (arith, h.ended)
 
 pub returns-clause-count : goal.returns-clause-count
 returns-clause-count g c =
     let d = c.desk.inside in let w = c.finish-value.new.chair.me.0 in
-    let a = c.finish-value.ensures.event c.requires.ending.0 (ends_value d c.args.desk.now c.args.block.0 c.requires.ending.0 c.desk.view_is c.requires.ending.1) in
+    let a = c.finish-value.ensures.event c.requires.ending.0
+    (ends_value d c.args.desk.now c.args.block.0 c.requires.ending.0 c.desk.view_is c.requires.ending.1) in
     shrunk_count d w _ _ _ a ∙ ap endings_of c.desk.view_is
 
 pub returns-clause-stock : goal.returns-clause-stock

@@ -24,7 +24,8 @@ invariant_of-desk g c =
     let d = c.desk.inside in let h = c.desk.invariant in let v = d.seat.me.0 in let w = c.is_expired.new.chair.me.0 in let s = c.is_expired.ensures in
     let e = Expired (on_latest (desk_now d) Weak g.A.About.place c.args.of.block.0) c.is_expired.result in let t = came v w Idle None e s.event in
     let size = as_many v w e t refl in
-    quiet_desk d _ e h s.event s.chair.0 (s.chair.2 ∙ h.rests.none) (λ y x. refl) (λ y x. refl) refl refl (omega (arith, size, h.holding)) (omega (arith, h.within))
+    quiet_desk d _ e h s.event s.chair.0 (s.chair.2 ∙ h.rests.none) (λ y x. refl) (λ y x. refl) refl refl (omega (arith, size, h.holding))
+    (omega (arith, h.within))
     (h.ended ∙ sym (ending_same v w e t (plain (λ y x. refl) (λ y x. refl) (λ y f. refl))))
 
 pub returns-clause-event : goal.returns-clause-event

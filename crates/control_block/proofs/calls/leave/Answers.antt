@@ -52,7 +52,8 @@ invariant_of-desk g c =
     let e = Leave (on_latest (desk_now d) Owner g.A.About.place c.args.of.block.0) (is_some c.leave-value.result) in
     let t = came v w Idle None e s.event in
     let size = one_fewer v w e t (on_latest (desk_now d) Owner g.A.About.place c.args.of.block.0) t.asks.0.0 refl in
-    let more = grown d w (on_latest (desk_now d) Owner g.A.About.place c.args.of.block.0) (is_some c.leave-value.result) c.from.result h s.event (c.from.ensures ∙ ap bool_byte c.is_some.ensures) in
+    let more = grown d w (on_latest (desk_now d) Owner g.A.About.place c.args.of.block.0) (is_some c.leave-value.result) c.from.result h s.event
+    (c.from.ensures ∙ ap bool_byte c.is_some.ensures) in
     quiet_desk d _ e h s.event s.chair.0 s.chair.2 (λ y x. refl) (λ y x. refl) refl refl (omega (arith, size, h.holding))
     (let some' = holds_some d Owner _ g.A.About.place c.args.of.block.0 h
     (holding_in d c.args.desk.now Owner g.A.About.place c.args.of.block.0 h c.desk.view_is c.requires.holds) in omega (arith, h.within)) more

@@ -22,13 +22,15 @@ share_weak-requires-clause-word g c =
     (may_in c.desk.inside c.args.desk.now c.args.block.0 g.A.About.wanted c.desk.invariant c.desk.view_is c.requires.may)
 
 pub share_weak-requires-clause-room : goal.share_weak-requires-clause-room
-share_weak-requires-clause-room g c = room_left c.desk.inside c.desk.invariant (not_full c.desk.inside c.args.desk.now _ c.desk.invariant c.desk.view_is c.if-is_full.ensures refl)
+share_weak-requires-clause-room g c =
+    room_left c.desk.inside c.desk.invariant (not_full c.desk.inside c.args.desk.now _ c.desk.invariant c.desk.view_is c.if-is_full.ensures refl)
 
 pub invariant_of-desk : goal.invariant_of-desk
 invariant_of-desk g c =
     let d = c.desk.inside in let h = c.desk.invariant in let v = d.seat.me.0 in let w = c.share_weak.new.chair.me.0 in let s = c.share_weak.ensures in
     let e = WeakShare (latest_of (desk_now d) c.args.block.0) g.A.About.wanted in let t = came v w Idle None e s.event in
-    let size = one_more v w e t (on_latest (desk_now d) Weak g.A.About.wanted c.args.block.0) refl in let ne = (not_full c.desk.inside c.args.desk.now _ c.desk.invariant c.desk.view_is c.if-is_full.ensures refl) in
+    let size = one_more v w e t (on_latest (desk_now d) Weak g.A.About.wanted c.args.block.0) refl in
+    let ne = (not_full c.desk.inside c.args.desk.now _ c.desk.invariant c.desk.view_is c.if-is_full.ensures refl) in
     quiet_desk d _ e h s.event s.chair.0 (s.chair.2 ∙ h.rests.none) (λ y x. refl) (λ y x. refl) refl refl (omega (arith, size, h.holding))
     (omega (arith, h.within, ne)) (h.ended ∙ sym (ending_same v w e t (plain (λ y x. refl) (λ y x. refl) (λ y f. refl))))
 

@@ -28,14 +28,16 @@ pub word_of-word-requires : goal.word_of-word-requires
 word_of-word-requires g c =
     let r = c.requires in
     (word_there c.desk.inside c.desk.invariant c.args.cell.kind (word_at c.domain.inside.shape.blocks c.args.cell.site) c.args.desk.now
-    c.domain.inside.table.shared.table_id c.domain.inside.shape c.args.cell.site c.desk.view_is (ap (λ z. z.domain) c.desk.view_is ∙ (r.domain.table ∙ sym (ap (λ z. z.id) c.domain.view_is)))
+    c.domain.inside.table.shared.table_id c.domain.inside.shape c.args.cell.site c.desk.view_is
+    (ap (λ z. z.domain) c.desk.view_is ∙ (r.domain.table ∙ sym (ap (λ z. z.id) c.domain.view_is)))
     (ap (λ z. z.shape) c.desk.view_is ∙ (r.domain.shape ∙ sym (ap (λ z. z.shape) c.domain.view_is))) r.cell.0 refl).0
 
 pub swap-old-requires-clause-word : goal.swap-old-requires-clause-word
 swap-old-requires-clause-word g c =
     let r = c.requires in
     (word_there c.desk.inside c.desk.invariant c.args.cell.kind c.word_of-word.result c.args.desk.now
-    c.domain.inside.table.shared.table_id c.domain.inside.shape c.args.cell.site c.desk.view_is (ap (λ z. z.domain) c.desk.view_is ∙ (r.domain.table ∙ sym (ap (λ z. z.id) c.domain.view_is)))
+    c.domain.inside.table.shared.table_id c.domain.inside.shape c.args.cell.site c.desk.view_is
+    (ap (λ z. z.domain) c.desk.view_is ∙ (r.domain.table ∙ sym (ap (λ z. z.id) c.domain.view_is)))
     (ap (λ z. z.shape) c.desk.view_is ∙ (r.domain.shape ∙ sym (ap (λ z. z.shape) c.domain.view_is))) r.cell.0 c.word_of-word.ensures).1
 
 pub swap-old-requires-clause-cell : goal.swap-old-requires-clause-cell
@@ -60,7 +62,8 @@ swap-old-requires-clause-hand g c =
     let r = c.requires in let d = c.desk.inside in let h = c.desk.invariant in let v = d.seat.me.0 in let k = c.args.cell.kind in
     let b = c.args.new.block in let p = c.args.new.place in let y = c.args.desk.now in let lost = g.A.Aimed.new in
     let new_is : lost ≡ in_seat v k b p = r.new ∙ ap (λ (z : DeskNow g.row.V.Denot). handle_in z k b p) (sym c.desk.view_is) in
-    subst (λ (z : Handle). InHand (known v) v.view.name k z) (sym new_is) (lost_hand d y k p h c.desk.view_is b r.holds (subst (λ z. IsProper z b p) r.kind c.args.new.proper))
+    subst (λ (z : Handle). InHand (known v) v.view.name k z) (sym new_is)
+    (lost_hand d y k p h c.desk.view_is b r.holds (subst (λ z. IsProper z b p) r.kind c.args.new.proper))
 
 pub swap-old-requires-clause-holds : goal.swap-old-requires-clause-holds
 swap-old-requires-clause-holds g c =
@@ -97,8 +100,10 @@ invariant_of-desk g c =
     let t = c.swap-old.ensures in let size = size_is d h w e k x b p trades came mine (inl has) in let few = one_few x.owned in
     let fit = fits d k p b h has in
     quiet_desk d _ (e (in_seat w k x.owned x.place)) h (event_is d h w e k x b p trades came mine) t.chair.0 t.chair.2.none
-    (λ q m. swap_stores g.row.V.Denot cl lost (in_seat w k x.owned x.place) q m) (λ q m. swap_allowances g.row.V.Denot cl lost (in_seat w k x.owned x.place) q m) refl refl (omega (arith, size, few, fit)) (omega (arith, h.within))
-    (let f = came_at v w _ _ _ (event_is d h w e k x b p trades came mine) in h.ended ∙ sym (ending_same v w (e (in_seat w k x.owned x.place)) f (quiet_swap cl lost (in_seat w k x.owned x.place))))
+    (λ q m. swap_stores g.row.V.Denot cl lost (in_seat w k x.owned x.place) q m)
+    (λ q m. swap_allowances g.row.V.Denot cl lost (in_seat w k x.owned x.place) q m) refl refl (omega (arith, size, few, fit)) (omega (arith, h.within))
+    (let f = came_at v w _ _ _ (event_is d h w e k x b p trades came mine) in
+    h.ended ∙ sym (ending_same v w (e (in_seat w k x.owned x.place)) f (quiet_swap cl lost (in_seat w k x.owned x.place))))
 
 pub returns-clause-event : goal.returns-clause-event
 returns-clause-event g c =
@@ -168,4 +173,5 @@ returns-clause-keeps g c =
     let mine = lost_mine v k p b (lost_holding d y k p h c.desk.view_is b r.holds) in
     let came = c.swap-old.ensures.swapped in
     keeps_quietly d w (e (in_seat w k x.owned x.place)) h (event_is d h w e k x b p trades came mine) _ _ y c.desk.view_is
-    c.swap-old.ensures.chair.0 (calm_swap cl lost (in_seat w k x.owned x.place)) (λ q m. swap_stores g.row.V.Denot cl lost (in_seat w k x.owned x.place) q m) (λ q m. swap_allowances g.row.V.Denot cl lost (in_seat w k x.owned x.place) q m)
+    c.swap-old.ensures.chair.0 (calm_swap cl lost (in_seat w k x.owned x.place)) (λ q m. swap_stores g.row.V.Denot cl lost (in_seat w k x.owned x.place) q m)
+    (λ q m. swap_allowances g.row.V.Denot cl lost (in_seat w k x.owned x.place) q m)

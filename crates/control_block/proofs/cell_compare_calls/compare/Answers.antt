@@ -27,14 +27,16 @@ pub word_of-word-requires : goal.word_of-word-requires
 word_of-word-requires g c =
     let r = c.requires in
     (word_there c.desk.inside c.desk.invariant c.args.cell.kind (word_at c.domain.inside.shape.blocks c.args.cell.site) c.args.desk.now
-    c.domain.inside.table.shared.table_id c.domain.inside.shape c.args.cell.site c.desk.view_is (ap (λ z. z.domain) c.desk.view_is ∙ (r.domain.table ∙ sym (ap (λ z. z.id) c.domain.view_is)))
+    c.domain.inside.table.shared.table_id c.domain.inside.shape c.args.cell.site c.desk.view_is
+    (ap (λ z. z.domain) c.desk.view_is ∙ (r.domain.table ∙ sym (ap (λ z. z.id) c.domain.view_is)))
     (ap (λ z. z.shape) c.desk.view_is ∙ (r.domain.shape ∙ sym (ap (λ z. z.shape) c.domain.view_is))) r.cell.0 refl).0
 
 pub compare-swapped-requires-clause-word : goal.compare-swapped-requires-clause-word
 compare-swapped-requires-clause-word g c =
     let r = c.requires in
     (word_there c.desk.inside c.desk.invariant c.args.cell.kind c.word_of-word.result c.args.desk.now
-    c.domain.inside.table.shared.table_id c.domain.inside.shape c.args.cell.site c.desk.view_is (ap (λ z. z.domain) c.desk.view_is ∙ (r.domain.table ∙ sym (ap (λ z. z.id) c.domain.view_is)))
+    c.domain.inside.table.shared.table_id c.domain.inside.shape c.args.cell.site c.desk.view_is
+    (ap (λ z. z.domain) c.desk.view_is ∙ (r.domain.table ∙ sym (ap (λ z. z.id) c.domain.view_is)))
     (ap (λ z. z.shape) c.desk.view_is ∙ (r.domain.shape ∙ sym (ap (λ z. z.shape) c.domain.view_is))) r.cell.0 c.word_of-word.ensures).1
 
 pub compare-swapped-requires-clause-cell : goal.compare-swapped-requires-clause-cell
@@ -70,8 +72,10 @@ compare-swapped-requires-clause-hands g c =
     let new_is : lost ≡ in_seat v k b p = r.new ∙ ap (λ (z : DeskNow g.row.V.Denot). handle_in z k b p) (sym c.desk.view_is) in
     let there = g.A.Aimed.expected in let q = c.args.expected.block in let o = c.args.expected.place in
     let there_is : there ≡ in_seat v k q o = r.expected ∙ ap (λ (z : DeskNow g.row.V.Denot). handle_in z k q o) (sym c.desk.view_is) in (
-      subst (λ (z : Handle). InHand (known v) v.view.name k z) (sym there_is) (lost_hand d y k o h c.desk.view_is q r.holds.0 (subst (λ z. IsProper z q o) r.kind.0 c.args.expected.proper)),
-      subst (λ (z : Handle). InHand (known v) v.view.name k z) (sym new_is) (lost_hand d y k p h c.desk.view_is b r.holds.1 (subst (λ z. IsProper z b p) r.kind.1 c.args.new.proper)),
+      subst (λ (z : Handle). InHand (known v) v.view.name k z) (sym there_is)
+          (lost_hand d y k o h c.desk.view_is q r.holds.0 (subst (λ z. IsProper z q o) r.kind.0 c.args.expected.proper)),
+      subst (λ (z : Handle). InHand (known v) v.view.name k z) (sym new_is)
+          (lost_hand d y k p h c.desk.view_is b r.holds.1 (subst (λ z. IsProper z b p) r.kind.1 c.args.new.proper)),
     )
 
 pub compare-swapped-requires-clause-holds : goal.compare-swapped-requires-clause-holds
@@ -89,7 +93,8 @@ compare-swapped-requires-clause-count g c =
     c.domain.inside.table.shared.table_id (ap (λ z. z.domain) c.desk.view_is ∙ (r.domain.table ∙ sym (ap (λ z. z.id) c.domain.view_is))) r.holds.1
 
 pub compare-swapped-requires-clause-room : goal.compare-swapped-requires-clause-room
-compare-swapped-requires-clause-room g c = room_left c.desk.inside c.desk.invariant (not_full c.desk.inside c.args.desk.now _ c.desk.invariant c.desk.view_is c.if-is_full.ensures refl)
+compare-swapped-requires-clause-room g c =
+    room_left c.desk.inside c.desk.invariant (not_full c.desk.inside c.args.desk.now _ c.desk.invariant c.desk.view_is c.if-is_full.ensures refl)
 
 pub invariant_of-desk : goal.invariant_of-desk
 invariant_of-desk g c =
@@ -105,12 +110,15 @@ invariant_of-desk g c =
     let size = size_is d h w e k x (cond s b None) (cond s p None) trades came mine (has_of (desk_now d) k b p s has) in
     let fit = fits d k p b h has in let more = counted_of s c.from.result c.from.ensures in
     let t = c.compare-swapped.ensures in let few = one_few x.owned in let z = in_seat w k x.owned x.place in
-    quiet_desk d _ (e z) h (event_is d h w e k x (cond s b None) (cond s p None) trades came mine) t.chair.0 t.chair.2.none (λ q m. stores_of g.row.V.Denot cl a.expected a.new z a.weak s q m)
+    quiet_desk d _ (e z) h (event_is d h w e k x (cond s b None) (cond s p None) trades came mine) t.chair.0 t.chair.2.none
+    (λ q m. stores_of g.row.V.Denot cl a.expected a.new z a.weak s q m)
     (λ q m. allowances_of g.row.V.Denot cl a.expected a.new z a.weak s q m) refl refl
     (subst (λ (q : ℕ). bag_size (known w) w.view.name ≤ (d.held + q)) (sym more)
     (fits_of s b x.owned _ _ d.held size fit h.holding few))
-    (let l = within_of s d.held (min 1 d.endings) d.allowance (omega (arith, h.within)) (not_full c.desk.inside c.args.desk.now _ c.desk.invariant c.desk.view_is c.if-is_full.ensures refl) in omega (arith, more))
-    (let f = came_at v w _ _ _ (event_is d h w e k x (cond s b None) (cond s p None) trades came mine) in h.ended ∙ sym (ending_same v w (e z) f (quiet_compare cl a.expected a.new z s a.weak)))
+    (let l = within_of s d.held (min 1 d.endings) d.allowance (omega (arith, h.within))
+    (not_full c.desk.inside c.args.desk.now _ c.desk.invariant c.desk.view_is c.if-is_full.ensures refl) in omega (arith, more))
+    (let f = came_at v w _ _ _ (event_is d h w e k x (cond s b None) (cond s p None) trades came mine) in
+    h.ended ∙ sym (ending_same v w (e z) f (quiet_compare cl a.expected a.new z s a.weak)))
 
 pub returns-clause-event : goal.returns-clause-event
 returns-clause-event g c =

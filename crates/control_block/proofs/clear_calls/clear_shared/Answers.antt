@@ -30,7 +30,8 @@ clear_shared-value-requires-clause-word g c = λ _ _.
     (w.0, (let lt = c.requires.member in omega arith), refl, w.1)
 
 pub clear_shared-value-requires-clause-ends : goal.clear_shared-value-requires-clause-ends
-clear_shared-value-requires-clause-ends g c = λ _ _. ends_in c.desk.inside c.args.desk.now c.args.block.0 c.requires.ending.0 c.desk.view_is c.requires.ending.1
+clear_shared-value-requires-clause-ends g c =
+    λ _ _. ends_in c.desk.inside c.args.desk.now c.args.block.0 c.requires.ending.0 c.desk.view_is c.requires.ending.1
 
 pub clear_shared-value-requires-clause-room : goal.clear_shared-value-requires-clause-room
 clear_shared-value-requires-clause-room g c = λ _ _. room_out c.desk.inside c.args.block.0 c.desk.invariant
@@ -126,6 +127,10 @@ returns-clause-count g c = (emptied g c).count
 pub invariant_of-content : goal.invariant_of-content
 invariant_of-content g c =
     let d = c.desk.inside in let u = c.clear_shared-value.ensures.cleared in
-    let f : Inside g.row.V.Denot = record { seat = c.clear_shared-value.new.chair; allowance = d.allowance; held = d.held; endings = d.endings; store = d.store } in
+    let f : Inside g.row.V.Denot =
+    record { seat = c.clear_shared-value.new.chair; allowance = d.allowance; held = d.held; endings = d.endings; store = d.store } in
     let ends' = ends_in d c.args.desk.now c.args.block.0 c.requires.ending.0 c.desk.view_is c.requires.ending.1 in
-    record { proper = clear.proper_is Owner d f c.desk.invariant c.args.block.0 c.args.member ends' c.clear_shared-value.result.0 u.between u.out c.clear_shared-value.ensures.chair.0 }
+    record {
+      proper = clear.proper_is Owner d f c.desk.invariant c.args.block.0 c.args.member ends' c.clear_shared-value.result.0 u.between u.out
+          c.clear_shared-value.ensures.chair.0;
+    }

@@ -35,7 +35,8 @@ pub put_by_out-requires : goal.put_by_out-requires
 put_by_out-requires g c =
     let d = c.desk.inside in let h = c.desk.invariant in let b = c.args.block.0 in let x = c.clear_weak-vacant.result.0 in
     let u = c.clear_weak-vacant.ensures.cleared in let same = c.clear_weak-vacant.ensures.chair.0 in
-    let f : Inside g.row.V.Denot = record { seat = c.clear_weak-vacant.new.chair; allowance = d.allowance; held = d.held; endings = d.endings; store = d.store } in
+    let f : Inside g.row.V.Denot =
+    record { seat = c.clear_weak-vacant.new.chair; allowance = d.allowance; held = d.held; endings = d.endings; store = d.store } in
     let ends' = ends_in d c.args.desk.now b c.requires.ending.0 c.desk.view_is c.requires.ending.1 in
     record {
       room = gone.room_gone (clear.t Weak d f h b 2 ends' x u.between u.out same) f (clear.mid Weak d f h b 2 ends' x u.between u.out same) x.owned x.place
@@ -124,6 +125,10 @@ returns-clause-count g c = let s = (emptied g c).count in omega arith
 pub invariant_of-content : goal.invariant_of-content
 invariant_of-content g c =
     let d = c.desk.inside in let u = c.clear_weak-vacant.ensures.cleared in
-    let f : Inside g.row.V.Denot = record { seat = c.clear_weak-vacant.new.chair; allowance = d.allowance; held = d.held; endings = d.endings; store = d.store } in
+    let f : Inside g.row.V.Denot =
+    record { seat = c.clear_weak-vacant.new.chair; allowance = d.allowance; held = d.held; endings = d.endings; store = d.store } in
     let ends' = ends_in d c.args.desk.now c.args.block.0 c.requires.ending.0 c.desk.view_is c.requires.ending.1 in
-    record { proper = clear.proper_is Weak d f c.desk.invariant c.args.block.0 2 ends' c.clear_weak-vacant.result.0 u.between u.out c.clear_weak-vacant.ensures.chair.0 }
+    record {
+      proper = clear.proper_is Weak d f c.desk.invariant c.args.block.0 2 ends' c.clear_weak-vacant.result.0 u.between u.out
+          c.clear_weak-vacant.ensures.chair.0;
+    }

@@ -27,7 +27,8 @@ invariant_of-desk g c =
     let s = c.if-not-lock.ensures in
     let e = Lock (on_latest (desk_now d) Weak g.A.About.place c.args.of.block.0) false in let t = came v w Idle None e s.event in
     let size = as_many v w e t refl in
-    quiet_desk d _ e h s.event s.chair.0 (s.chair.2 ∙ h.rests.none) (λ y x. refl) (λ y x. refl) refl refl (omega (arith, size, h.holding)) (omega (arith, h.within))
+    quiet_desk d _ e h s.event s.chair.0 (s.chair.2 ∙ h.rests.none) (λ y x. refl) (λ y x. refl) refl refl (omega (arith, size, h.holding))
+    (omega (arith, h.within))
     (h.ended ∙ sym (ending_same v w e t (plain (λ y x. refl) (λ y x. refl) (λ y f. refl))))
 
 pub returns-then-not-lock-clause-bag : goal.returns-then-not-lock-clause-bag
@@ -48,7 +49,8 @@ invariant_of-desk-else-not-lock g c =
     let d = c.desk.inside in let h = c.desk.invariant in let v = d.seat.me.0 in let w = c.lock.new.chair.me.0 in
     let s = c.if-not-lock.ensures in
     let e = Lock (on_latest (desk_now d) Weak g.A.About.place c.args.of.block.0) true in let t = came v w Idle None e s.event in
-    let size = one_more v w e t (on_latest (desk_now d) Owner g.A.About.place c.args.of.block.0) refl in let ne = (not_full c.desk.inside c.args.desk.now _ c.desk.invariant c.desk.view_is c.if-is_full.ensures refl) in
+    let size = one_more v w e t (on_latest (desk_now d) Owner g.A.About.place c.args.of.block.0) refl in
+    let ne = (not_full c.desk.inside c.args.desk.now _ c.desk.invariant c.desk.view_is c.if-is_full.ensures refl) in
     quiet_desk d _ e h s.event s.chair.0 (s.chair.2 ∙ h.rests.none) (λ y x. refl) (λ y x. refl) refl refl (omega (arith, size, h.holding))
     (omega (arith, h.within, ne)) (h.ended ∙ sym (ending_same v w e t (plain (λ y x. refl) (λ y x. refl) (λ y f. refl))))
 

@@ -13,6 +13,8 @@ pub loop-slot-preserved : goal.loop-slot-preserved
 loop-slot-preserved c =
     let i = c.loop-slot.slot-index in let l = c.args.slots.now in let x = c.slot-item.result in
     elim c.if-is_some.branch [
-      | then-is_some w ↦ w.count-is ∙ (let a = next_filled l i x c.loop-slot-test.true c.slot-item.is (sym c.is_some.ensures ∙ w.if-is_some.true) in let b = c.loop-slot.invariant in omega arith)
-      | else-is_some w ↦ w.count-is ∙ (let a = next_vacant l i x c.loop-slot-test.true c.slot-item.is (sym c.is_some.ensures ∙ w.if-is_some.false) in let b = c.loop-slot.invariant in omega arith)
+      | then-is_some w ↦ w.count-is ∙ (let a = next_filled l i x c.loop-slot-test.true c.slot-item.is (sym c.is_some.ensures ∙ w.if-is_some.true) in
+          let b = c.loop-slot.invariant in omega arith)
+      | else-is_some w ↦ w.count-is ∙ (let a = next_vacant l i x c.loop-slot-test.true c.slot-item.is (sym c.is_some.ensures ∙ w.if-is_some.false) in
+          let b = c.loop-slot.invariant in omega arith)
     ]

@@ -32,7 +32,8 @@ pub word_of-word-requires : goal.word_of-word-requires
 word_of-word-requires g c =
     let r = c.requires in
     (word_there c.desk.inside c.desk.invariant Owner (word_at c.domain.inside.shape.blocks c.args.site) c.args.desk.now
-    c.domain.inside.table.shared.table_id c.domain.inside.shape c.args.site c.desk.view_is (ap (λ z. z.domain) c.desk.view_is ∙ (r.domain.table ∙ sym (ap (λ z. z.id) c.domain.view_is)))
+    c.domain.inside.table.shared.table_id c.domain.inside.shape c.args.site c.desk.view_is
+    (ap (λ z. z.domain) c.desk.view_is ∙ (r.domain.table ∙ sym (ap (λ z. z.id) c.domain.view_is)))
     (ap (λ z. z.shape) c.desk.view_is ∙ (r.domain.shape ∙ sym (ap (λ z. z.shape) c.domain.view_is))) r.cell.0 refl).0
 
 pub overflow_sub-desk : goal.overflow_sub-desk
@@ -44,7 +45,8 @@ pub store_shared-value-requires-clause-word : goal.store_shared-value-requires-c
 store_shared-value-requires-clause-word g c = λ _ _.
     let r = c.requires in
     (word_there c.desk.inside c.desk.invariant Owner c.word_of-word.result c.args.desk.now
-    c.domain.inside.table.shared.table_id c.domain.inside.shape c.args.site c.desk.view_is (ap (λ z. z.domain) c.desk.view_is ∙ (r.domain.table ∙ sym (ap (λ z. z.id) c.domain.view_is)))
+    c.domain.inside.table.shared.table_id c.domain.inside.shape c.args.site c.desk.view_is
+    (ap (λ z. z.domain) c.desk.view_is ∙ (r.domain.table ∙ sym (ap (λ z. z.id) c.domain.view_is)))
     (ap (λ z. z.shape) c.desk.view_is ∙ (r.domain.shape ∙ sym (ap (λ z. z.shape) c.domain.view_is))) r.cell.0 c.word_of-word.ensures).1
 
 pub store_shared-value-requires-clause-cell : goal.store_shared-value-requires-clause-cell
@@ -153,7 +155,8 @@ module _ (g : _) (c : goal.After-content-1 g) where
 
 pub invariant_of-desk : goal.invariant_of-desk
 invariant_of-desk g c =
-    gone.desk_gone (t g c) (f g c) (mid g c) (x g c).owned (x g c).place (q g c) (o g c).gone (holds g c) refl (held g c) c.store_shared-value.ensures.chair.2.none refl refl
+    gone.desk_gone (t g c) (f g c) (mid g c) (x g c).owned (x g c).place (q g c) (o g c).gone (holds g c) refl
+    (held g c) c.store_shared-value.ensures.chair.2.none refl refl
     c.from.result (c.from.ensures ∙ ap bool_byte c.is_some.ensures) refl (room g c)
     (let h = c.desk.invariant in let some' = held g c in let one' = byte_few c.is_some.result in omega (arith, h.within, c.from.ensures))
 
@@ -187,5 +190,6 @@ invariant_of-content g c =
     let is' = c.requires.new ∙ ap (λ (z : DeskNow g.row.V.Denot). handle_in z Owner b p) (sym c.desk.view_is) in
     let has' = subst (λ (z : DeskNow g.row.V.Denot). Holds z Owner b p) (sym c.desk.view_is) c.requires.holds in let some' = lost_some d Owner p b h has' in
     let u = c.store_shared-value.ensures.stored in let x = c.store_shared-value.result.0 in let same = c.store_shared-value.ensures.chair.0 in
-    let f : Inside g.row.V.Denot = record { seat = c.store_shared-value.new.chair; allowance = d.allowance; held = d.held - 1; endings = d.endings; store = d.store } in
+    let f : Inside g.row.V.Denot =
+    record { seat = c.store_shared-value.new.chair; allowance = d.allowance; held = d.held - 1; endings = d.endings; store = d.store } in
     record { proper = store.proper_is Owner d f h g.A.Aimed.cell g.A.Aimed.new b p x is' has' u.between u.out same }

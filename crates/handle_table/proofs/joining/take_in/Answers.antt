@@ -27,4 +27,5 @@ loop-other-preserved c =
 pub returns : goal.returns
 returns c =
     let i = c.loop-other.invariant in
-    all_over c.loop-other.slots.items c.loop-other.others.items _ i.1 (nil_from_length c.loop-other.others.items (let n = c.loop-other.others.ok.0 in let m = c.in_default.ensures.cases.0 in omega arith))
+    all_over c.loop-other.slots.items c.loop-other.others.items _ i.1
+    (nil_from_length c.loop-other.others.items (let n = c.loop-other.others.ok.0 in let m = c.in_default.ensures.cases.0 in omega arith))

@@ -19,5 +19,6 @@ loop-slot-preserved g c =
 
 pub returns-clause-left : goal.returns-clause-left
 returns-clause-left g c =
-    all_gone c.args.domain.now c.args.desk.now c.loop-slot.desk c.args.pile.now c.loop-slot.pile c.args.slots.items c.loop-slot.slots.items c.loop-slot.invariant
+    all_gone c.args.domain.now c.args.desk.now c.loop-slot.desk c.args.pile.now c.loop-slot.pile c.args.slots.items
+    c.loop-slot.slots.items c.loop-slot.invariant
     (nil_from_length c.loop-slot.slots.items (let n = c.loop-slot.slots.ok.0 in let m = c.in_default.ensures.cases.0 in omega arith))

@@ -15,5 +15,6 @@ clear_member-up-requires-clause-ends c κs =
     let first = c.clear_member in let next = c.clear_member-next in let x = c.in-Last.within in
     let one : c.args.around.block.0 ≡ next.new.self.block.0 =
     sym (ap (λ (y : Block). y.0) next.ensures.object.0 ∙ ap (λ (y : Block). y.0) first.ensures.object.0) in
-    ends_around next.new.desk c.end_of-inner.new.desk next.new.self x.block.0 c.end_of-inner.ensures.endings (subst (λ k. x.block.0 ≢ k) one c.in-Last.ensures.beside)
+    ends_around next.new.desk c.end_of-inner.new.desk next.new.self x.block.0 c.end_of-inner.ensures.endings
+    (subst (λ k. x.block.0 ≢ k) one c.in-Last.ensures.beside)
     next.ensures.ends

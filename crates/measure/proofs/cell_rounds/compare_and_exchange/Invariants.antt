@@ -5,4 +5,5 @@ use Rattle.shared_handle.specs.Calls.{Holds}
 use Rattle.measure.proofs.cell_rounds.compare_and_exchange.Given as goal
 
 abbrev pub invariant-loop : goal.invariant-loop
-invariant-loop g l = IsSameDesk l.initial.desk l.desk × (bag_of l.desk ≡ bag_of l.initial.desk) × (l.desk.held ≡ l.initial.desk.held) × Holds l.desk Owner l.owner.block l.owner.place
+invariant-loop g l = IsSameDesk l.initial.desk l.desk × (bag_of l.desk ≡ bag_of l.initial.desk) × (l.desk.held ≡ l.initial.desk.held)
+    × Holds l.desk Owner l.owner.block l.owner.place

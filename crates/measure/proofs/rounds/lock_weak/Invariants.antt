@@ -5,4 +5,5 @@ use Rattle.shared_handle.specs.Calls.{Holds}
 use Rattle.measure.proofs.rounds.lock_weak.Given as goal
 
 abbrev pub invariant-loop : goal.invariant-loop
-invariant-loop g l = IsSameDesk l.initial.desk l.desk × (bag_of l.desk ≡ bag_of l.initial.desk) × (l.desk.held ≡ l.initial.desk.held) × Holds l.desk Weak l.weak.block l.weak.place
+invariant-loop g l = IsSameDesk l.initial.desk l.desk × (bag_of l.desk ≡ bag_of l.initial.desk) × (l.desk.held ≡ l.initial.desk.held)
+    × Holds l.desk Weak l.weak.block l.weak.place

@@ -8,7 +8,8 @@ use Rattle.measure.proofs.stack.push.Given as goal
 abbrev pub invariant-loop : goal.invariant-loop
 invariant-loop g l = record {
   same : IsSameDesk l.fn.desk l.desk;
-  bag : bag_of l.desk ≡ with_handle Owner l.attempt.top.block l.attempt.top.place (with_handle Owner l.attempt.node.block l.attempt.node.place (bag_of l.fn.desk));
+  bag : bag_of l.desk ≡ with_handle Owner l.attempt.top.block l.attempt.top.place
+      (with_handle Owner l.attempt.node.block l.attempt.node.place (bag_of l.fn.desk));
   top : IsReal l.attempt.top;
   node : IsReal l.attempt.node;
 }

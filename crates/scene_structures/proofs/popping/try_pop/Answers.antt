@@ -43,7 +43,8 @@ returns-in-Ok-Differs-clause-bag g c base has =
     (differs_held m u b x.field-0 x.held x.desired x.field-0-is x.ensures.held) in
     let back = differs_back m u b x.field-0 x.held x.desired x.field-0-is x.ensures.back in
     let bag = subst (λ (n : Shared). bag_of e.new.desk ≡ without_handle Owner n.block n.place (bag_of u)) back e.ensures.bag in
-    hands_second e.new.desk f.new.desk base x.held top [] (hands_second u e.new.desk base x.held b (top ∷ []) i bag e.ensures.held) f.ensures.bag f.ensures.held
+    hands_second e.new.desk f.new.desk base x.held top [] (hands_second u e.new.desk base x.held b (top ∷ []) i bag e.ensures.held)
+    f.ensures.bag f.ensures.held
 
 pub returns-in-Ok-Differs-clause-own : goal.returns-in-Ok-Differs-clause-own
 returns-in-Ok-Differs-clause-own g c z l =

@@ -18,7 +18,15 @@ use Rattle.scene_structures.proofs.pushing.raise.Goals as goal
 pub loop-init : goal.loop-init
 loop-init g c =
     let d = c.args.desk.now in
-    record { bears = c.requires.bears; node = (refl, refl); held = refl; latest = λ base has k p b in'. refl; same = same_desk d; bag = λ base has. has; own = does_none _ d }
+    record {
+      bears = c.requires.bears;
+      node = (refl, refl);
+      held = refl;
+      latest = λ base has k p b in'. refl;
+      same = same_desk d;
+      bag = λ base has. has;
+      own = does_none _ d;
+    }
 
 pub loop-preserved : goal.loop-preserved
 loop-preserved g c =

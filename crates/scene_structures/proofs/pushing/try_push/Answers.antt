@@ -88,7 +88,8 @@ returns-in-Ok-Swapped-clause-bag g c base has =
 
 pub returns-in-Ok-Swapped-clause-own : goal.returns-in-Ok-Swapped-clause-own
 returns-in-Ok-Swapped-clause-own g c =
-    let a = c.args.attempt in let base = c.requires.bag.0 in let e = c.in-Ok.ensures in let d = c.args.desk.now in let s = c.share.new.desk in let t = c.store_next.new.desk in
+    let a = c.args.attempt in let base = c.requires.bag.0 in let e = c.in-Ok.ensures in let d = c.args.desk.now in let s = c.share.new.desk in
+    let t = c.store_next.new.desk in
     let x = c.in-Ok-Swapped in let u = c.compare_exchange_weak.new.desk in let l = c.let_go-in-Ok-Swapped in let copy = c.in-Ok.copy in
     let h = hands_copied d s base copy a.top (a.top ∷ a.node ∷ []) c.requires.bag.1 e.handle.0 e.handle.1 e.bag e.held in
     let node = node_in d a.node in
@@ -114,7 +115,8 @@ returns-in-Ok-Swapped-clause-own g c =
 
 pub returns-in-Ok-Differs-clause-node : goal.returns-in-Ok-Differs-clause-node
 returns-in-Ok-Differs-clause-node g c =
-    let a = c.args.attempt in let base = c.requires.bag.0 in let e = c.in-Ok.ensures in let d = c.args.desk.now in let s = c.share.new.desk in let t = c.store_next.new.desk in
+    let a = c.args.attempt in let base = c.requires.bag.0 in let e = c.in-Ok.ensures in let d = c.args.desk.now in let s = c.share.new.desk in
+    let t = c.store_next.new.desk in
     let x = c.in-Ok-Differs in let u = c.compare_exchange_weak.new.desk in let l = c.let_go-in-Ok-Differs in let copy = c.in-Ok.copy in
     let h = hands_copied d s base copy a.top (a.top ∷ a.node ∷ []) c.requires.bag.1 e.handle.0 e.handle.1 e.bag e.held in
     let h' = hands_first s t base copy (a.top ∷ a.node ∷ []) h c.store_next.ensures.bag c.store_next.ensures.held in
@@ -144,7 +146,8 @@ returns-in-Ok-Differs-clause-bag g c base has =
 
 pub returns-in-Ok-Differs-clause-own : goal.returns-in-Ok-Differs-clause-own
 returns-in-Ok-Differs-clause-own g c =
-    let a = c.args.attempt in let base = c.requires.bag.0 in let e = c.in-Ok.ensures in let d = c.args.desk.now in let s = c.share.new.desk in let t = c.store_next.new.desk in
+    let a = c.args.attempt in let base = c.requires.bag.0 in let e = c.in-Ok.ensures in let d = c.args.desk.now in let s = c.share.new.desk in
+    let t = c.store_next.new.desk in
     let x = c.in-Ok-Differs in let u = c.compare_exchange_weak.new.desk in let l = c.let_go-in-Ok-Differs in let copy = c.in-Ok.copy in
     let shared = shares_does (NextOf (object_of (node_in d a.node))) d s a.top.block a.top.place a.top.place e.event in
     let one = same_node d s a.node shared.1 (second_lists d base a.top a.node [] c.requires.bag.1) in

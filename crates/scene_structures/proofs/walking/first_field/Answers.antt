@@ -26,4 +26,5 @@ returns-clause-own g c =
     let is : c.args.owner.now.block ≡ Some b = sym c.in-Some.ensures in
     subst (λ (k : Option Block). TellsField d k (Some c.in-Ok-read.told) e) (sym is)
     (tells d m n e b p c.in-Ok-read.told r.0 (subst (λ (k : Option Block). Shares d k p (place_at b.0) m) is a.event)
-    (subst (λ (k : Option Block). Holds d Owner k p) is c.requires.holds) (sym a.handle.1 ∙ r.1) (sym is ∙ (sym a.handle.0 ∙ r.2)) r.3 c.let_go.ensures.own)
+    (subst (λ (k : Option Block). Holds d Owner k p) is c.requires.holds) (sym a.handle.1 ∙ r.1)
+    (sym is ∙ (sym a.handle.0 ∙ r.2)) r.3 c.let_go.ensures.own)

@@ -27,4 +27,5 @@ returns-in-Done-clause-run c =
 pub returns-in-Done-clause-acted : goal.returns-in-Done-clause-acted
 returns-in-Done-clause-acted c =
     let lt : c.args.thread - 1 < length c.args.world.now.walks = omega (arith, c.requires.thread.0, c.requires.thread.1) in
-    let t = done_turn (c.args.thread - 1) c.args.world.now c.turn.new.self c.requires.rests lt c.turn.ensures.kept c.in-Done.ensures.turns in ap (λ (x : Option Said). is_some x) t.says
+    let t = done_turn (c.args.thread - 1) c.args.world.now c.turn.new.self c.requires.rests lt c.turn.ensures.kept c.in-Done.ensures.turns in
+    ap (λ (x : Option Said). is_some x) t.says

@@ -11,5 +11,6 @@ run-requires c =
 
 pub returns : goal.returns
 returns c =
-    tells_run (IsTextBy c.args.pace) c.args.script.now c.args.turns.now c.in_ok-script.script c.in_ok-turns.turns.items c.as_slice.result.now c.threads.result c.run.result
+    tells_run (IsTextBy c.args.pace) c.args.script.now c.args.turns.now c.in_ok-script.script c.in_ok-turns.turns.items c.as_slice.result.now
+    c.threads.result c.run.result
     c.in_ok-script.ensures.holds c.threads.ensures.number c.as_slice.ensures.value c.in_ok-turns.ensures c.run.ensures.ok c.run.ensures.memory

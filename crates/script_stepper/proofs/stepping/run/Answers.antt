@@ -8,5 +8,6 @@ text_of-requires-clause-rests c = first_rests c.shape_of-shape.result (program_i
 
 pub returns-in-Ok-clause-ok : goal.returns-in-Ok-clause-ok
 returns-in-Ok-clause-ok c =
-    run_is c.args.pace c.args.script.now c.args.turns.now (string_bytes c.in-Ok.text) c.blocks-shared.result c.threads-threads.result c.shape_of-shape.result c.in_ok-world.world
+    run_is c.args.pace c.args.script.now c.args.turns.now (string_bytes c.in-Ok.text) c.blocks-shared.result c.threads-threads.result
+    c.shape_of-shape.result c.in_ok-world.world
     c.blocks-shared.ensures.number c.threads-threads.ensures.number c.shape_of-shape.ensures.shape c.in_ok-world.ensures.ok c.in-Ok.ensures

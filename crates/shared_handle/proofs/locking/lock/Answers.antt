@@ -18,7 +18,8 @@ returns-in_ok-count_empty-in-None-clause-keeps g c =
       allowance = k.allowance;
       stock = k.stock;
       count = k.count;
-      endings = λ b x ends. let still = k.endings b x ends in record { ends = record { phase = still.ends.phase; kept = still.ends.kept }; members = still.members };
+      endings = λ b x ends. let still = k.endings b x ends in
+          record { ends = record { phase = still.ends.phase; kept = still.ends.kept }; members = still.members };
     }
 
 pub returns-in_ok-count_empty-in-None-clause-owned : goal.returns-in_ok-count_empty-in-None-clause-owned

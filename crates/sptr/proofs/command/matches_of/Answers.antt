@@ -8,7 +8,8 @@ pub returns-clause-matches : goal.returns-clause-matches
 returns-clause-matches g c =
     let is = c.in_ok-command.ensures in
     IfOk-weaker c.try_get_matches_from.result _ _ (λ m h.
-    (h (ap is_simple is ∙ program_is_simple)).1 ∙ ap (λ (a : App). subcommand_of a (map g.S.AsStr.text c.args.words.now)) is) c.try_get_matches_from.ensures.matches
+    (h (ap is_simple is ∙ program_is_simple)).1 ∙ ap (λ (a : App). subcommand_of a (map g.S.AsStr.text c.args.words.now)) is)
+    c.try_get_matches_from.ensures.matches
 
 pub returns-clause-kinds : goal.returns-clause-kinds
 returns-clause-kinds g c =

@@ -29,13 +29,15 @@ make-requires-clause-word g c = λ _ _.
     (last_stored c.desk.inside c.desk.invariant c.pop.new.self.items c.in-Some.block c.in-Some.ensures.items)
 
 pub make-requires-clause-room : goal.make-requires-clause-room
-make-requires-clause-room g c = λ _ _. room_left c.desk.inside c.desk.invariant (not_full c.desk.inside c.args.desk.now _ c.desk.invariant c.desk.view_is c.if-is_full.ensures refl)
+make-requires-clause-room g c =
+    λ _ _. room_left c.desk.inside c.desk.invariant (not_full c.desk.inside c.args.desk.now _ c.desk.invariant c.desk.view_is c.if-is_full.ensures refl)
 
 pub invariant_of-desk-2 : goal.invariant_of-desk-2
 invariant_of-desk-2 g c =
     let d = c.desk.inside in let h = c.desk.invariant in let v = d.seat.me.0 in let w = c.make.new.chair.me.0 in let s = c.make.ensures in
     let e = Make c.in-Some.block c.args.enabled c.args.null c.args.fields c.args.value in let t = came v w Idle None e s.event in
-    let size = one_more v w e t (handle Owner _ (origin c.in-Some.block.0 c.args.null)) refl in let ne = (not_full c.desk.inside c.args.desk.now _ c.desk.invariant c.desk.view_is c.if-is_full.ensures refl) in
+    let size = one_more v w e t (handle Owner _ (origin c.in-Some.block.0 c.args.null)) refl in
+    let ne = (not_full c.desk.inside c.args.desk.now _ c.desk.invariant c.desk.view_is c.if-is_full.ensures refl) in
     desk_after d _ e h s.event s.chair.0 s.chair.2 (λ y x. refl) refl
     (popped d h t.state _ c.in-Some.block t.same c.in-Some.ensures.items t.asks.0) c.in-Some.ensures.capacity
     (omega (arith, size, h.holding)) (omega (arith, h.within, ne)) (h.ended ∙ sym (made_count d w _ _ _ _ _ s.event))

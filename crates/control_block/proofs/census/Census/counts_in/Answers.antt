@@ -12,7 +12,8 @@ returns-then-owners-eq0 g c =
     let l = slots_items c.self.inside.closed.words in let b = c.args.block.0 in
     let o : c.unpack_count-owners.result.number ≡ owners_in c.args.self.now b =
     c.unpack_count-owners.ensures.number
-    ∙ (ap number_of (index_at l _ c.word.result c.word.ensures ∙ ap (slice_index l) c.block_word.ensures) ∙ ap (λ (z : CensusNow). owners_in z b) c.self.view_is) in
+    ∙ (ap number_of (index_at l _ c.word.result c.word.ensures ∙ ap (slice_index l) c.block_word.ensures) ∙ ap
+    (λ (z : CensusNow). owners_in z b) c.self.view_is) in
     let n : c.unpack_count-number.result.number ≡ number_of (slice_index c.args.self.now.words (spot b 1)) =
     c.unpack_count-number.ensures.number
     ∙ (ap number_of (index_at l _ c.word-2.result c.word-2.ensures ∙ ap (slice_index l) c.block_word-2.ensures)
@@ -24,7 +25,8 @@ returns-else-owners-eq0 g c =
     let l = slots_items c.self.inside.closed.words in let b = c.args.block.0 in
     let o : c.unpack_count-owners.result.number ≡ owners_in c.args.self.now b =
     c.unpack_count-owners.ensures.number
-    ∙ (ap number_of (index_at l _ c.word.result c.word.ensures ∙ ap (slice_index l) c.block_word.ensures) ∙ ap (λ (z : CensusNow). owners_in z b) c.self.view_is) in
+    ∙ (ap number_of (index_at l _ c.word.result c.word.ensures ∙ ap (slice_index l) c.block_word.ensures) ∙ ap
+    (λ (z : CensusNow). owners_in z b) c.self.view_is) in
     let n : c.unpack_count-number.result.number ≡ number_of (slice_index c.args.self.now.words (spot b 1)) =
     c.unpack_count-number.ensures.number
     ∙ (ap number_of (index_at l _ c.word-2.result c.word-2.ensures ∙ ap (slice_index l) c.block_word-2.ensures)

@@ -4,7 +4,8 @@ use Rattle.std.specs.Slots.Ownership.{Filled}
 use Rattle.control_block.proofs.census.Census.drop.Given as goal
 
 abbrev pub invariant-loop-i : goal.invariant-loop-i
-invariant-loop-i g l = Filled (slots_filled l.closed.slots) l.i (slots_len l.closed.slots) × ((k : ℕ) → k < l.i → get_or (slots_filled l.closed.slots) k false ≡ false)
+invariant-loop-i g l = Filled (slots_filled l.closed.slots) l.i (slots_len l.closed.slots)
+    × ((k : ℕ) → k < l.i → get_or (slots_filled l.closed.slots) k false ≡ false)
 
 abbrev pub decreases-loop-i : goal.decreases-loop-i
 decreases-loop-i g l = slots_len l.closed.slots - l.i

@@ -54,7 +54,8 @@ part-seat-requires-clause-may g c =
     let d = c.self.inside in let hs = g.T.Lent.handles c.args.handles.now in
     let holds = subst (λ z. HoldsAll z hs) (sym c.self.view_is) c.requires.held.0 in
     let size : length hs ≡ c.args.count = c.requires.held.1 in
-    let k = kept g.row.V.Denot d c.self.invariant c.args.self.now c.args.allowance c.args.count hs holds size c.self.view_is (c.gives.ensures.gives c.if-not-gives.false) in
+    let k = kept g.row.V.Denot d c.self.invariant c.args.self.now c.args.allowance c.args.count hs holds size c.self.view_is
+    (c.gives.ensures.gives c.if-not-gives.false) in
     let m = may_split d c.self.invariant hs holds c.args.allowance k.kept c.pass_least.new.to.items (c.gives.ensures.gives c.if-not-gives.false).0
     (omega (arith, size, (c.gives.ensures.gives c.if-not-gives.false).1)) k.given k.some (omega (arith, size, k.handles))
     (λ b. let t = c.pass_least.ensures.same b in omega arith) in
@@ -86,7 +87,8 @@ invariant_of-self g c =
     c.part-seat.ensures.event in
     old_desk d c.self.invariant hs holds c.args.allowance bs w u p _ c.part-seat.ensures.chair.0
     (λ i. (w, c.part-seat.ensures.chair.1 i)) refl (ap (λ x. d.held - x) (sym size)) refl
-    (let k = kept g.row.V.Denot d c.self.invariant c.args.self.now c.args.allowance c.args.count hs holds size c.self.view_is (c.gives.ensures.gives c.if-not-gives.false) in
+    (let k = kept g.row.V.Denot d c.self.invariant c.args.self.now c.args.allowance c.args.count hs holds size c.self.view_is
+    (c.gives.ensures.gives c.if-not-gives.false) in
     k.within)
     c.pass_least.ensures.same (omega (arith, c.pass_least.ensures.count.0, c.pass_least.ensures.count.1)) c.pass_least.ensures.room.0
 

@@ -17,5 +17,11 @@ returns g c =
     subst (λ (n : ℕ). d.held + min 1 (endings_of d) ≤ n) i.allowed
     (subst (λ (n : ℕ). d.held + min 1 n ≤ c.self.inside.allowance) ended (omega (arith, i.within))) in
     let holding = i.holding in
-    let s : Standing d = record { legal = i.legal; limits = i.limits; bag = omega (arith, many, holding); held = room; endings = few_ending d.shape.blocks (state_of d) d.name } in
+    let s : Standing d = record {
+      legal = i.legal;
+      limits = i.limits;
+      bag = omega (arith, many, holding);
+      held = room;
+      endings = few_ending d.shape.blocks (state_of d) d.name;
+    } in
     subst (λ (x : DeskNow g.row.V.Denot). Standing x) c.self.view_is s

@@ -15,6 +15,7 @@ settle-requires-clause-count g c =
     let shape = ap (λ (y : Rattle.control_block.specs.declared.board.Sight.Sight g.row.V.Denot). y.shape) c.bring_for.ensures.brought in
     let kind = r.cell.1 ∙ ap (λ (y : Shape). kind_in y a.cell) (sym shape) in
     let t = subst (λ (y : Kind). Gave (λ h. Compare a.cell a.expected a.new h true a.weak) y v x w) (sym kind) (c.if-compare_and_swap.ensures.gave refl) in
-    gave_counted (λ h. Compare a.cell a.expected a.new h true a.weak) c.args.kind v w x a.new c.args.board.now.table_id (compare_trades g.row.V.Denot a.cell a.expected a.new a.weak) t
+    gave_counted (λ h. Compare a.cell a.expected a.new h true a.weak) c.args.kind v w x a.new c.args.board.now.table_id
+    (compare_trades g.row.V.Denot a.cell a.expected a.new a.weak) t
     (subst (λ (y : Shape). IsSized c.args.board.now.table_id y) (sym shape)
     (subst (λ (y : TableId). IsSized y c.args.chair.now.me.0.shape) r.board.0 r.board.1))

@@ -27,5 +27,6 @@ let_go_weakly-vacant-requires-clause-owes g c =
 pub returns-clause-stored : goal.returns-clause-stored
 returns-clause-stored g c =
     let a = g.A.Aimed in
-    out_and_gone_weakly (λ h. Swap a.cell a.new h) c.args.chair.now.me.0 c.swap_in-old.new.chair.me.0 c.let_go_weakly-vacant.new.chair.me.0 c.swap_in-old.result
+    out_and_gone_weakly (λ h. Swap a.cell a.new h) c.args.chair.now.me.0 c.swap_in-old.new.chair.me.0
+    c.let_go_weakly-vacant.new.chair.me.0 c.swap_in-old.result
     c.let_go_weakly-vacant.result c.swap_in-old.ensures.gave c.let_go_weakly-vacant.ensures.gone

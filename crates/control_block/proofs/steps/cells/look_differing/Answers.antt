@@ -6,8 +6,12 @@ use Rattle.control_block.proofs.steps.cells.look_differing.Goals as goal
 
 pub load-requires : goal.load-requires
 load-requires g c =
-    let r = c.requires in let board = c.args.board.now in let chair = c.args.chair.now in let a = g.A.Aimed in
-    (r.board, r.word, allows_differ_empty board.key board.table_id.slots chair.id c.args.word a.cell a.expected a.new a.weak chair.me r.rests r.cell r.expected r.hand)
+    let r = c.requires in let board = c.args.board.now in let chair = c.args.chair.now in let a = g.A.Aimed in (
+      r.board,
+      r.word,
+      allows_differ_empty board.key board.table_id.slots chair.id c.args.word a.cell a.expected a.new a.weak chair.me r.rests
+          r.cell r.expected r.hand,
+    )
 
 pub unpack-requires : goal.unpack-requires
 unpack-requires g c = c.load.ensures.2.0

@@ -23,7 +23,8 @@ let_go-value-requires-clause-count g c = λ _ _.
     subst (λ (y : At g.row.V.Denot). Gave (λ h. ClearMember o q h) Owner y.0 x w) (c.is_empty.ensures.same c.if-is_empty.false)
     (subst (λ (y : Kind). Gave (λ h. ClearMember o q h) y c.is_empty.new.chair.me.0 x w) r.kind
     (subst (λ y. Gave (λ h. ClearMember o y h) (kind_of_member y) c.is_empty.new.chair.me.0 x w) r.word.2 c.swap_out-out.ensures.gave)) in
-    gave_there (λ h. ClearMember o q h) Owner v x (empty Owner) (clear_trades g.row.V.Denot o q Owner) w c.args.board.now.table_id t (subst (λ (y : TableId). IsSized y v.shape) r.board.0 r.board.1)
+    gave_there (λ h. ClearMember o q h) Owner v x (empty Owner) (clear_trades g.row.V.Denot o q Owner) w c.args.board.now.table_id t
+    (subst (λ (y : TableId). IsSized y v.shape) r.board.0 r.board.1)
 
 pub let_go-value-requires-clause-owes : goal.let_go-value-requires-clause-owes
 let_go-value-requires-clause-owes g c = λ _ _.
@@ -33,7 +34,8 @@ let_go-value-requires-clause-owes g c = λ _ _.
     subst (λ (y : At g.row.V.Denot). Gave (λ h. ClearMember o q h) Owner y.0 x w) (c.is_empty.ensures.same c.if-is_empty.false)
     (subst (λ (y : Kind). Gave (λ h. ClearMember o q h) y c.is_empty.new.chair.me.0 x w) r.kind
     (subst (λ y. Gave (λ h. ClearMember o y h) (kind_of_member y) c.is_empty.new.chair.me.0 x w) r.word.2 c.swap_out-out.ensures.gave)) in
-    gave_owes (λ h. ClearMember o q h) Owner v x (empty Owner) (clear_trades g.row.V.Denot o q Owner) c.swap_out-out.new.chair.me t r.rests.awake c.swap_out-out.ensures.chair.2
+    gave_owes (λ h. ClearMember o q h) Owner v x (empty Owner) (clear_trades g.row.V.Denot o q Owner) c.swap_out-out.new.chair.me t r.rests.awake
+    c.swap_out-out.ensures.chair.2
 
 pub returns-clause-cleared : goal.returns-clause-cleared
 returns-clause-cleared g c =

@@ -24,7 +24,8 @@ let_go_weakly-vacant-requires-clause-count g c =
     subst (λ (y : At g.row.V.Denot). Gave (λ h. ClearMember o q h) Weak y.0 x w) (c.is_empty.ensures.same c.if-is_empty.false)
     (subst (λ (y : Kind). Gave (λ h. ClearMember o q h) y c.is_empty.new.chair.me.0 x w) r.kind
     (subst (λ y. Gave (λ h. ClearMember o y h) (kind_of_member y) c.is_empty.new.chair.me.0 x w) r.word.2 c.swap_out-out.ensures.gave)) in
-    gave_counted (λ h. ClearMember o q h) Weak v w x (empty Weak) c.args.board.now.table_id (clear_trades g.row.V.Denot o q Weak) t (subst (λ (y : TableId). IsSized y v.shape) r.board.0 r.board.1)
+    gave_counted (λ h. ClearMember o q h) Weak v w x (empty Weak) c.args.board.now.table_id (clear_trades g.row.V.Denot o q Weak) t
+    (subst (λ (y : TableId). IsSized y v.shape) r.board.0 r.board.1)
 
 pub let_go_weakly-vacant-requires-clause-owes : goal.let_go_weakly-vacant-requires-clause-owes
 let_go_weakly-vacant-requires-clause-owes g c =
@@ -34,7 +35,8 @@ let_go_weakly-vacant-requires-clause-owes g c =
     subst (λ (y : At g.row.V.Denot). Gave (λ h. ClearMember o q h) Weak y.0 x w) (c.is_empty.ensures.same c.if-is_empty.false)
     (subst (λ (y : Kind). Gave (λ h. ClearMember o q h) y c.is_empty.new.chair.me.0 x w) r.kind
     (subst (λ y. Gave (λ h. ClearMember o y h) (kind_of_member y) c.is_empty.new.chair.me.0 x w) r.word.2 c.swap_out-out.ensures.gave)) in
-    gave_owes (λ h. ClearMember o q h) Weak v x (empty Weak) (clear_trades g.row.V.Denot o q Weak) c.swap_out-out.new.chair.me t r.rests.awake c.swap_out-out.ensures.chair.2
+    gave_owes (λ h. ClearMember o q h) Weak v x (empty Weak) (clear_trades g.row.V.Denot o q Weak) c.swap_out-out.new.chair.me t r.rests.awake
+    c.swap_out-out.ensures.chair.2
 
 pub returns-clause-cleared : goal.returns-clause-cleared
 returns-clause-cleared g c =
@@ -44,4 +46,5 @@ returns-clause-cleared g c =
     subst (λ (y : At g.row.V.Denot). Gave (λ h. ClearMember o q h) Weak y.0 x w) (c.is_empty.ensures.same c.if-is_empty.false)
     (subst (λ (y : Kind). Gave (λ h. ClearMember o q h) y c.is_empty.new.chair.me.0 x w) r.kind
     (subst (λ y. Gave (λ h. ClearMember o y h) (kind_of_member y) c.is_empty.new.chair.me.0 x w) r.word.2 c.swap_out-out.ensures.gave)) in
-    out_and_gone_weakly (λ h. ClearMember o q h) v w c.let_go_weakly-vacant.new.chair.me.0 x c.let_go_weakly-vacant.result t c.let_go_weakly-vacant.ensures.gone
+    out_and_gone_weakly (λ h. ClearMember o q h) v w c.let_go_weakly-vacant.new.chair.me.0 x c.let_go_weakly-vacant.result t
+    c.let_go_weakly-vacant.ensures.gone

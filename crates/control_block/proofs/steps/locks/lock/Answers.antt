@@ -26,7 +26,8 @@ compare_exchange-requires g c =
     let more : c.with_handle-more.result ≡ suc found = omega (arith, c.with_handle-more.ensures.word) in (
       t.0 ∙ (l.2 ∙ r.board),
       subst (λ x. x < board.table_id.words) (sym e) r.word.1,
-      subst (λ (m : At g.row.V.Denot × ℕ). Allows (Ruled board.key) slots id m.0 i (λ n. either (n == found) m.1 n) (locked o p (step slots i found m.1 none) m.0))
+      subst (λ (m : At g.row.V.Denot × ℕ). Allows (Ruled board.key) slots id m.0 i (λ n. either (n == found) m.1 n)
+          (locked o p (step slots i found m.1 none) m.0))
           (λ j. (sym ((t.2.1 c.if-found-eq0.false).0 ∙ l.4) j, sym more j))
           (allows_lock board.key slots id c.args.block.0 o i found p c.args.chair.now.me r.rests r.holds r.room c.if-found-eq0.false e),
     )

@@ -21,7 +21,8 @@ assign-requires-clause-bears g c κs within =
 pub returns-in-Ok-copy-clause-aliased : goal.returns-in-Ok-copy-clause-aliased
 returns-in-Ok-copy-clause-aliased g c =
     let e = c.in-Ok-copy.ensures in let h = c.in-Ok-copy.copy in
-    subst (λ (t : TableNow g.row.V.Denot). Aliases t c.args.of c.args.place c.args.to (seen c.assign.new.desk c.assign.new.slots.items c.assign.new.pile)) c.self.view_is
+    subst (λ (t : TableNow g.row.V.Denot). Aliases t c.args.of c.args.place c.args.to (seen c.assign.new.desk c.assign.new.slots.items c.assign.new.pile))
+    c.self.view_is
     record {
       of = c.in-Ok.owner.now;
       at = c.in-Ok.ensures.found;

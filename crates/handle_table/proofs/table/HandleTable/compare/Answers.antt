@@ -21,7 +21,8 @@ pub returns-in-Err-content_at-clause-refused : goal.returns-in-Err-content_at-cl
 returns-in-Err-content_at-clause-refused g c =
     let why = c.in-Err-content_at.why in (
       subst (λ (t : TableNow g.row.V.Denot). WhyNotCompared t c.args.cell c.args.expected c.args.desired why) c.self.view_is
-          (inr (inl (subst (λ (k : Kind). WhyNoneOf k c.self.inside.slots.items c.args.expected why) c.in-Ok.ensures.found.1 c.in-Err-content_at.ensures.fault))),
+          (inr (inl
+          (subst (λ (k : Kind). WhyNoneOf k c.self.inside.slots.items c.args.expected why) c.in-Ok.ensures.found.1 c.in-Err-content_at.ensures.fault))),
       refl,
     )
 
@@ -62,7 +63,8 @@ returns-in-Ok-compare_held-clause-compared g c =
     let x = c.in-Ok-content_at.ensures.found in let y = c.in-Ok-content_at-2.ensures.found in
     let r = c.in-Ok-compare_held.compared in let e = c.in-Ok-compare_held.ensures in
     let there = c.in-Ok-content_at.there in let new = c.in-Ok-content_at-2.new in let site = cell_at d at.site in
-    subst (λ (t : TableNow g.row.V.Denot). Compares g.F.Form.weak t c.args.cell c.args.expected c.args.desired r.0 (seen c.follow.new.desk c.follow.new.slots.items c.follow.new.pile)) c.self.view_is
+    subst (λ (t : TableNow g.row.V.Denot). Compares g.F.Form.weak t c.args.cell c.args.expected c.args.desired r.0
+    (seen c.follow.new.desk c.follow.new.slots.items c.follow.new.pile)) c.self.view_is
     record {
       site = at.site;
       is = c.in-Ok.ensures.found.0;

@@ -21,7 +21,8 @@ assign-requires-clause-bears g c κs within =
 pub returns-in-Ok-weak-clause-downgraded : goal.returns-in-Ok-weak-clause-downgraded
 returns-in-Ok-weak-clause-downgraded g c =
     let e = c.in-Ok-weak.ensures in
-    subst (λ (t : TableNow g.row.V.Denot). Downgrades t c.args.from c.args.to (seen c.assign.new.desk c.assign.new.slots.items c.assign.new.pile)) c.self.view_is
+    subst (λ (t : TableNow g.row.V.Denot). Downgrades t c.args.from c.args.to (seen c.assign.new.desk c.assign.new.slots.items c.assign.new.pile))
+    c.self.view_is
     record {
       of = c.in-Ok.owner.now;
       at = c.in-Ok.ensures.found;

@@ -42,7 +42,8 @@ pub returns-clause-exchanged : goal.returns-clause-exchanged
 returns-clause-exchanged g c =
     let at = c.in-Ok.there in let k = c.in-Ok.ensures.found.1 in let t = c.in-Ok-take_kind.ensures.taken in let x = c.in-Ok-take_kind.new in
     let m = c.exchange_held-old in let d = c.self.inside.desk in
-    subst (λ (u : TableNow g.row.V.Denot). Exchanges u c.args.at c.args.cell (seen c.assign.new.desk c.assign.new.slots.items c.assign.new.pile)) c.self.view_is
+    subst (λ (u : TableNow g.row.V.Denot). Exchanges u c.args.at c.args.cell (seen c.assign.new.desk c.assign.new.slots.items c.assign.new.pile))
+    c.self.view_is
     record {
       old = m.result;
       between = m.new.desk;

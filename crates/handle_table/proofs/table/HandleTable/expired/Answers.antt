@@ -17,7 +17,8 @@ invariant_of-self g c =
 
 pub returns-in-Ok-clause-expired : goal.returns-in-Ok-clause-expired
 returns-in-Ok-clause-expired g c =
-    subst (λ (t : TableNow g.row.V.Denot). Expires t c.args.at c.expired.result (seen c.expired.new.desk c.self.inside.slots.items c.self.inside.pile)) c.self.view_is
+    subst (λ (t : TableNow g.row.V.Denot). Expires t c.args.at c.expired.result (seen c.expired.new.desk c.self.inside.slots.items c.self.inside.pile))
+    c.self.view_is
     record { of = c.in-Ok.weak.now; was = c.in-Ok.ensures.found; event = c.expired.ensures.expired; rest = (refl, refl) }
 
 pub returns-in-Err-clause-refused : goal.returns-in-Err-clause-refused

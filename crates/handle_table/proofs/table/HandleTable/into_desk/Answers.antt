@@ -14,5 +14,6 @@ returns-clause-wound g c =
       pile = on_pile c.let_all_go.new.pile;
       handles = c.let_all_go.ensures.left;
       rounds = s.rounds.0;
-      ends = subst (λ (xs : List (Ending g.row.V.Denot)). AreRounds c.let_all_go.new.desk (on_pile c.let_all_go.new.pile) s.rounds.0 c.settle.new.desk xs) s.none s.rounds.1;
+      ends = subst (λ (xs : List (Ending g.row.V.Denot)). AreRounds c.let_all_go.new.desk (on_pile c.let_all_go.new.pile) s.rounds.0 c.settle.new.desk xs)
+          s.none s.rounds.1;
     }

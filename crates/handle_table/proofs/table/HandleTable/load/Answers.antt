@@ -26,7 +26,8 @@ assign-requires-clause-fits g c κs within =
 
 pub returns-in-Ok-load_held-clause-loaded : goal.returns-in-Ok-load_held-clause-loaded
 returns-in-Ok-load_held-clause-loaded g c =
-    let at = c.in-Ok.at in let k = c.in-Ok.ensures.found.1 in let h = c.in-Ok-load_held.found in let e = c.in-Ok-load_held.ensures in let d = c.self.inside.desk in
+    let at = c.in-Ok.at in let k = c.in-Ok.ensures.found.1 in let h = c.in-Ok-load_held.found in let e = c.in-Ok-load_held.ensures in
+    let d = c.self.inside.desk in
     subst (λ (t : TableNow g.row.V.Denot). Loads t c.args.cell c.args.to (seen c.assign.new.desk c.assign.new.slots.items c.assign.new.pile)) c.self.view_is
     record {
       site = at.site;

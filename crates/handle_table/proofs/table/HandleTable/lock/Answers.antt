@@ -23,7 +23,8 @@ pub returns-in-Ok-owner-clause-locked : goal.returns-in-Ok-owner-clause-locked
 returns-in-Ok-owner-clause-locked g c =
     let e = c.in-Ok-owner.ensures in let h = c.in-Ok-owner.owner in let of = c.in-Ok.weak.now in
     let told : c.is_some-got.result ≡ is_some h.block = c.is_some-got.ensures ∙ ap is_some c.block.ensures in
-    subst (λ (t : TableNow g.row.V.Denot). Locks t c.args.from c.args.to c.is_some-got.result (seen c.assign.new.desk c.assign.new.slots.items c.assign.new.pile)) c.self.view_is
+    subst (λ (t : TableNow g.row.V.Denot). Locks t c.args.from c.args.to c.is_some-got.result
+    (seen c.assign.new.desk c.assign.new.slots.items c.assign.new.pile)) c.self.view_is
     record {
       of = of;
       at = c.in-Ok.ensures.found;

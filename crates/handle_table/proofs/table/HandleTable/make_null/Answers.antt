@@ -9,7 +9,8 @@ use Rattle.handle_table.proofs.table.HandleTable.make_null.Goals as goal
 pub assign-requires-clause-bears : goal.assign-requires-clause-bears
 assign-requires-clause-bears g c κs within =
     let e = c.in-Ok.ensures in
-    bears_kept c.self.inside.domain.now c.self.inside.desk c.make_null.new.desk c.self.inside.pile c.self.invariant.bears e.desk.domain e.desk.shape e.endings e.count
+    bears_kept c.self.inside.domain.now c.self.inside.desk c.make_null.new.desk c.self.inside.pile c.self.invariant.bears e.desk.domain
+    e.desk.shape e.endings e.count
 
 pub returns-in-Ok-clause-made : goal.returns-in-Ok-clause-made
 returns-in-Ok-clause-made g c =

@@ -23,7 +23,8 @@ returns-in-Err-clause-refused g c =
 
 pub returns-in-Ok-field-clause-read : goal.returns-in-Ok-field-clause-read
 returns-in-Ok-field-clause-read g c =
-    subst (λ (t : TableNow g.row.V.Denot). Reads t c.args.at (Ok c.in-Ok-field.field) (seen c.read-field.new.desk c.self.inside.slots.items c.self.inside.pile)) c.self.view_is
+    subst (λ (t : TableNow g.row.V.Denot). Reads t c.args.at (Ok c.in-Ok-field.field)
+    (seen c.read-field.new.desk c.self.inside.slots.items c.self.inside.pile)) c.self.view_is
     record { of = c.in-Ok.owner.now; was = c.in-Ok.ensures.found; event = c.in-Ok-field.ensures.read; rest = (refl, refl) }
 
 pub returns-in-Err-field-clause-refused : goal.returns-in-Err-field-clause-refused

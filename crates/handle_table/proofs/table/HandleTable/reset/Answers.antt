@@ -15,11 +15,13 @@ invariant_of-self g c =
     record {
       home = w.home;
       bears = e.bears;
-      fits = fits_left c.self.inside.desk c.let_go.new.desk c.self.inside.slots.items c.take_handle.new.slots.items c.args.at c.in-Ok.handle w.fits t.0 t.1 e.bag e.held;
+      fits = fits_left c.self.inside.desk c.let_go.new.desk c.self.inside.slots.items c.take_handle.new.slots.items c.args.at c.in-Ok.handle
+          w.fits t.0 t.1 e.bag e.held;
     }
 
 pub returns-in-Ok-clause-left : goal.returns-in-Ok-clause-left
 returns-in-Ok-clause-left g c =
     let t = c.in-Ok.ensures.taken in
-    subst (λ (u : TableNow g.row.V.Denot). Resets u c.args.at c.let_go.result (seen c.let_go.new.desk c.take_handle.new.slots.items c.let_go.new.pile)) c.self.view_is
+    subst (λ (u : TableNow g.row.V.Denot). Resets u c.args.at c.let_go.result (seen c.let_go.new.desk c.take_handle.new.slots.items c.let_go.new.pile))
+    c.self.view_is
     record { of = c.in-Ok.handle; was = t.0; leaves = c.let_go.ensures.left; slots = t.1 }

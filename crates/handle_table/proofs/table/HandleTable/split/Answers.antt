@@ -9,7 +9,8 @@ use Rattle.handle_table.proofs.table.HandleTable.split.Goals as goal
 
 pub part_of-requires-clause-held : goal.part_of-requires-clause-held
 part_of-requires-clause-held g c κs within =
-    subst (λ (l : List Slot). HoldsAll c.self.inside.desk (handles_in l)) (sym (handed_from c.as_slice.result.now c.self.inside.slots.items c.args.from c.as_slice.ensures.value))
+    subst (λ (l : List Slot). HoldsAll c.self.inside.desk (handles_in l))
+    (sym (handed_from c.as_slice.result.now c.self.inside.slots.items c.args.from c.as_slice.ensures.value))
     (holds_from c.self.inside.desk c.self.inside.slots.items c.args.from c.self.invariant.fits)
 
 module _ (g : _) (c : goal.After-hand_over g) where
@@ -21,7 +22,8 @@ module _ (g : _) (c : goal.After-hand_over g) where
 pub invariant_of-result : goal.invariant_of-result
 invariant_of-result g c =
     new_whole _ c.self.inside.domain.now c.self.inside.desk c.part_of.new.desk c.in-Ok.part.desk _ _ c.args.from c.self.inside.slots.items
-    c.hand_over.new.slots.items c.hand_over.new.to.items c.self.inside.pile c.in-Ok.part.pile c.self.invariant (parts g c) c.hand_over.ensures c.in-Ok.ensures.bears
+    c.hand_over.new.slots.items c.hand_over.new.to.items c.self.inside.pile c.in-Ok.part.pile c.self.invariant
+    (parts g c) c.hand_over.ensures c.in-Ok.ensures.bears
 
 pub invariant_of-self : goal.invariant_of-self
 invariant_of-self g c =

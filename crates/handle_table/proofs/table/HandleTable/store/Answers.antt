@@ -35,7 +35,8 @@ let_go-requires-clause-held g c κs within =
     let x = c.in-Ok-take_kind.new in let m = c.exchange_held-old in
     fits_at m.new.desk _ 0 m.result
     (fits_exchange c.self.inside.desk m.new.desk _ x m.result
-    (fits_out c.self.inside.desk c.self.inside.slots.items c.args.from x c.self.invariant.fits c.in-Ok-take_kind.ensures.taken.0) m.ensures.bag m.ensures.held) refl
+    (fits_out c.self.inside.desk c.self.inside.slots.items c.args.from x c.self.invariant.fits c.in-Ok-take_kind.ensures.taken.0)
+    m.ensures.bag m.ensures.held) refl
 
 pub invariant_of-self-2 : goal.invariant_of-self-2
 invariant_of-self-2 g c =
@@ -51,7 +52,8 @@ pub returns-clause-stored : goal.returns-clause-stored
 returns-clause-stored g c =
     let at = c.in-Ok.at in let k = c.in-Ok.ensures.found.1 in let t = c.in-Ok-take_kind.ensures.taken in let x = c.in-Ok-take_kind.new in
     let m = c.exchange_held-old in let d = c.self.inside.desk in
-    subst (λ (u : TableNow g.row.V.Denot). Stores u c.args.from c.args.cell c.let_go.result (seen c.let_go.new.desk c.take_kind.new.slots.items c.let_go.new.pile)) c.self.view_is
+    subst (λ (u : TableNow g.row.V.Denot). Stores u c.args.from c.args.cell c.let_go.result
+    (seen c.let_go.new.desk c.take_kind.new.slots.items c.let_go.new.pile)) c.self.view_is
     record {
       old = m.result;
       between = m.new.desk;

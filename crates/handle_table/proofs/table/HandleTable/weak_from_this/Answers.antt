@@ -23,7 +23,8 @@ assign-requires-clause-bears g c κs within =
 pub returns-in-Ok-this-clause-shared : goal.returns-in-Ok-this-clause-shared
 returns-in-Ok-this-clause-shared g c =
     let e = c.in-Ok-this.ensures in let h = c.in-Ok-this.this in
-    subst (λ (t : TableNow g.row.V.Denot). SharesThisWeakly t c.args.of c.args.to (seen c.assign.new.desk c.assign.new.slots.items c.assign.new.pile)) c.self.view_is
+    subst (λ (t : TableNow g.row.V.Denot). SharesThisWeakly t c.args.of c.args.to (seen c.assign.new.desk c.assign.new.slots.items c.assign.new.pile))
+    c.self.view_is
     record {
       of = c.in-Ok.owner.now;
       at = c.in-Ok.ensures.found;

@@ -53,4 +53,5 @@ returns-clause-tree g c sole =
     let bag = (c.raise.ensures.bag (bag_of n) has).bag in
     adopted d e p node c.args.fields c.args.value a'.0 c.stands.ensures.legal sole (i.0, i.1, i.2) lists
     (subst (Lists p.block p.place) (sym bag) parent_l.1) (subst (Lists node.block node.place) (sym bag) node_l.1)
-    (these_node l e (bag_of n) p these parent_l.1 ∙ parent_l.0) (these_node l e (bag_of n) node these node_l.1 ∙ (node_l.0 ∙ ap (λ x. node_in x node) (sym a'.1)))
+    (these_node l e (bag_of n) p these parent_l.1 ∙ parent_l.0)
+    (these_node l e (bag_of n) node these node_l.1 ∙ (node_l.0 ∙ ap (λ x. node_in x node) (sym a'.1)))

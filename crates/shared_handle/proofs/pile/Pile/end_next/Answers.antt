@@ -9,7 +9,8 @@ use Rattle.shared_handle.proofs.pile.Pile.end_next.Goals as goal
 
 pub clear_once-requires-clause-stacked : goal.clear_once-requires-clause-stacked
 clear_once-requires-clause-stacked g c κs within =
-    popped c.args.domain.now c.args.desk.now c.args.self.now record { endings = c.pop.new.self } c.in_ok-ending.ending c.requires.bears c.in_ok-ending.ensures.items c.pop.ensures.capacity
+    popped c.args.domain.now c.args.desk.now c.args.self.now record { endings = c.pop.new.self } c.in_ok-ending.ending c.requires.bears
+    c.in_ok-ending.ensures.items c.pop.ensures.capacity
 
 pub returns-clause-bears : goal.returns-clause-bears
 returns-clause-bears g c =

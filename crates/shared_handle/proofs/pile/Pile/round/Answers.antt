@@ -7,13 +7,15 @@ use Rattle.shared_handle.proofs.pile.Pile.round.Goals as goal
 
 pub finish-requires-clause-ends : goal.finish-requires-clause-ends
 finish-requires-clause-ends g c κs within =
-    (popped c.args.domain.now c.args.desk.now c.args.self.now record { endings = c.pop.new.self } c.in-Some.top c.requires.bears c.in-Some.ensures.items c.pop.ensures.capacity).ends
+    (popped c.args.domain.now c.args.desk.now c.args.self.now record { endings = c.pop.new.self } c.in-Some.top c.requires.bears c.in-Some.ensures.items
+    c.pop.ensures.capacity).ends
 
 pub returns-in_default-next_member-clause-bears : goal.returns-in_default-next_member-clause-bears
 returns-in_default-next_member-clause-bears g c =
     let e = c.finish.ensures in
     finished c.args.domain.now c.args.desk.now c.finish.new.desk record { endings = c.pop.new.self } c.in-Some.top
-    (popped c.args.domain.now c.args.desk.now c.args.self.now record { endings = c.pop.new.self } c.in-Some.top c.requires.bears c.in-Some.ensures.items c.pop.ensures.capacity)
+    (popped c.args.domain.now c.args.desk.now c.args.self.now record { endings = c.pop.new.self } c.in-Some.top c.requires.bears
+    c.in-Some.ensures.items c.pop.ensures.capacity)
     e.endings e.count e.desk
 
 pub returns-in_default-next_member-clause-round : goal.returns-in_default-next_member-clause-round
@@ -36,20 +38,25 @@ returns-in_default-next_member-clause-parting g c = does_one IsParting c.args.de
 
 pub clear_member-left-requires-clause-ends : goal.clear_member-left-requires-clause-ends
 clear_member-left-requires-clause-ends g c κs within =
-    (popped c.args.domain.now c.args.desk.now c.args.self.now record { endings = c.pop.new.self } c.in-Some.top c.requires.bears c.in-Some.ensures.items c.pop.ensures.capacity).ends
+    (popped c.args.domain.now c.args.desk.now c.args.self.now record { endings = c.pop.new.self } c.in-Some.top c.requires.bears c.in-Some.ensures.items
+    c.pop.ensures.capacity).ends
 
 pub put-requires-clause-room : goal.put-requires-clause-room
 put-requires-clause-room g c κs within =
     let t = c.clear_member-left in
-    room_above c.args.domain.now c.args.desk.now t.new.desk record { endings = c.pop.new.self } c.push_reserved.new.self.items c.in-Some.top t.new.self t.result _
-    (popped c.args.domain.now c.args.desk.now c.args.self.now record { endings = c.pop.new.self } c.in-Some.top c.requires.bears c.in-Some.ensures.items c.pop.ensures.capacity)
+    room_above c.args.domain.now c.args.desk.now t.new.desk record { endings = c.pop.new.self } c.push_reserved.new.self.items
+    c.in-Some.top t.new.self t.result _
+    (popped c.args.domain.now c.args.desk.now c.args.self.now record { endings = c.pop.new.self } c.in-Some.top c.requires.bears
+    c.in-Some.ensures.items c.pop.ensures.capacity)
     t.ensures.count t.ensures.desk.shape c.push_reserved.ensures.items c.push_reserved.ensures.capacity
 
 pub returns-clause-bears : goal.returns-clause-bears
 returns-clause-bears g c =
     let t = c.clear_member-left in let e = t.ensures in
-    put_back c.args.domain.now c.args.desk.now t.new.desk record { endings = c.pop.new.self } c.put.new.self c.in-Some.top t.new.self c.in-Some-next_member.member t.result
-    (popped c.args.domain.now c.args.desk.now c.args.self.now record { endings = c.pop.new.self } c.in-Some.top c.requires.bears c.in-Some.ensures.items c.pop.ensures.capacity)
+    put_back c.args.domain.now c.args.desk.now t.new.desk record { endings = c.pop.new.self } c.put.new.self c.in-Some.top t.new.self
+    c.in-Some-next_member.member t.result
+    (popped c.args.domain.now c.args.desk.now c.args.self.now record { endings = c.pop.new.self } c.in-Some.top c.requires.bears
+    c.in-Some.ensures.items c.pop.ensures.capacity)
     e.clears e.endings e.count e.beside e.object.0 e.ends e.desk
     (c.put.ensures.endings ∙ ap (λ l. piled l t.result) c.push_reserved.ensures.items)
     (c.put.ensures.room ∙ c.push_reserved.ensures.capacity)

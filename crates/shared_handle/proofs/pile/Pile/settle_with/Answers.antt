@@ -13,7 +13,11 @@ pub loop-preserved-in-Cleared : goal.loop-preserved-in-Cleared
 loop-preserved-in-Cleared g c =
     let e = c.in-Cleared.ensures in let i = c.loop.invariant in let d = c.args.desk.now in (
       e.bears,
-      (record { round = Cleared c.in-Cleared.field-0 c.in-Cleared.field-1; desk = c.loop.desk; pile = c.loop.self.endings.items } ∷ i.1.0, (i.1.1, e.round), i.1.2),
+      (
+        record { round = Cleared c.in-Cleared.field-0 c.in-Cleared.field-1; desk = c.loop.desk; pile = c.loop.self.endings.items } ∷ i.1.0,
+        (i.1.1, e.round),
+        i.1.2,
+      ),
       does_both IsParting d c.loop.desk c.round.new.desk i.2 e.parting,
       e.bag ∙ i.3,
       e.held ∙ i.4,
@@ -25,7 +29,11 @@ pub loop-preserved : goal.loop-preserved
 loop-preserved g c =
     let e = c.in-Ended.ensures in let i = c.loop.invariant in let d = c.args.desk.now in (
       e.bears,
-      (record { round = Ended c.in-Ended.value; desk = c.loop.desk; pile = c.loop.self.endings.items } ∷ i.1.0, (i.1.1, e.round), (c.loop.take, i.1.2, c.take.ensures)),
+      (
+        record { round = Ended c.in-Ended.value; desk = c.loop.desk; pile = c.loop.self.endings.items } ∷ i.1.0,
+        (i.1.1, e.round),
+        (c.loop.take, i.1.2, c.take.ensures),
+      ),
       does_both IsParting d c.loop.desk c.round.new.desk i.2 e.parting,
       e.bag ∙ i.3,
       e.held ∙ i.4,

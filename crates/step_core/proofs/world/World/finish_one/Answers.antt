@@ -23,7 +23,8 @@ add-requires c =
     let i = c.loop-stepped.invariant in
     let a = i.on.actors in
     let w = c.requires.within in
-    let f = before_end c.args.number c.loop-stepped.self c.advance.new.self c.advance.result s.was s.kept (omega (arith, a, w)) s.steps c.in_default.not-Done s.never in
+    let f = before_end c.args.number c.loop-stepped.self c.advance.new.self c.advance.result s.was s.kept
+    (omega (arith, a, w)) s.steps c.in_default.not-Done s.never in
     let first = c.requires.room in
     let before = i.room in
     let capacity = i.capacity in

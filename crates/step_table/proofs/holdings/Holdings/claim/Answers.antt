@@ -13,7 +13,8 @@ use Rattle.step_table.proofs.holdings.Holdings.claim.Goals as goal
 
 pub claim-requires-clause-room : goal.claim-requires-clause-room
 claim-requires-clause-room c =
-    has_room c.args.desk c.args.self.now.slots.items c.args.table.now c.args.to c.known.ensures c.requires.seat c.requires.holds c.args.self.now.few c.requires.inside c.requires.empty
+    has_room c.args.desk c.args.self.now.slots.items c.args.table.now c.args.to c.known.ensures c.requires.seat c.requires.holds c.args.self.now.few
+    c.requires.inside c.requires.empty
 
 pub returns-clause-holds : goal.returns-clause-holds
 returns-clause-holds c =
@@ -21,8 +22,10 @@ returns-clause-holds c =
     let m = c.requires.making in
     let slots = c.args.self.now.slots.items in
     let b = c.args.block in
-    subst (λ (p : Option Place). Holds c.args.desk (set slots c.args.to (Full (record { kind = Owner; block = b; place = p }))) c.claim.new.self) (sym c.origin-place.ensures)
-    (subst (λ (v : Story). Holds c.args.desk (set slots c.args.to (Full (record { kind = Owner; block = b; place = origin b.0 c.args.form.null }))) v) (sym c.claim.ensures)
+    subst (λ (p : Option Place). Holds c.args.desk (set slots c.args.to (Full (record { kind = Owner; block = b; place = p }))) c.claim.new.self)
+    (sym c.origin-place.ensures)
+    (subst (λ (v : Story). Holds c.args.desk (set slots c.args.to (Full (record { kind = Owner; block = b; place = origin b.0 c.args.form.null }))) v)
+    (sym c.claim.ensures)
     (holds_claim c.args.desk slots c.args.table.now c.args.to b c.args.form k c.requires.holds
     (subst (λ (n : ℕ). Has (stored n b.0) (state c.args.table.now).stores) (named c.args.table.now c.args.desk k c.requires.seat)
     (making_stored c.args.table.now c.args.desk b m.words k c.requires.seat m.making))

@@ -15,32 +15,38 @@ use Rattle.step_table.proofs.holdings.Holdings.compare_and_swap.Goals as goal
 
 pub compare_and_swap-requires-clause-expected : goal.compare_and_swap-requires-clause-expected
 compare_and_swap-requires-clause-expected c =
-    goes_in_hand c.args.desk c.args.self.now.slots.items c.args.table.now c.args.comparing.expected c.args.cell c.compared-compared.result.expected c.known.ensures c.requires.holds
+    goes_in_hand c.args.desk c.args.self.now.slots.items c.args.table.now c.args.comparing.expected c.args.cell c.compared-compared.result.expected
+    c.known.ensures c.requires.holds
     c.requires.compare.kinds.0 (ap (λ (q : Compared). q.expected) c.compared-compared.ensures)
 
 pub compare_and_swap-requires-clause-hand : goal.compare_and_swap-requires-clause-hand
 compare_and_swap-requires-clause-hand c =
-    goes_in_hand c.args.desk c.args.self.now.slots.items c.args.table.now c.args.comparing.new c.args.cell c.compared-compared.result.new c.known.ensures c.requires.holds
+    goes_in_hand c.args.desk c.args.self.now.slots.items c.args.table.now c.args.comparing.new c.args.cell c.compared-compared.result.new
+    c.known.ensures c.requires.holds
     c.requires.compare.kinds.1 (ap (λ (q : Compared). q.new) c.compared-compared.ensures)
 
 pub compare_and_swap-requires-clause-alike : goal.compare_and_swap-requires-clause-alike
 compare_and_swap-requires-clause-alike c =
-    alike_in c.args.desk c.args.self.now.slots.items c.args.table.now c.args.cell c.args.seen c.args.comparing c.compared-compared.result c.known.ensures c.requires.holds c.compared-compared.ensures
+    alike_in c.args.desk c.args.self.now.slots.items c.args.table.now c.args.cell c.args.seen c.args.comparing c.compared-compared.result c.known.ensures
+    c.requires.holds c.compared-compared.ensures
     ∙ c.requires.alike
 
 pub compare_and_swap-requires-clause-new : goal.compare_and_swap-requires-clause-new
 compare_and_swap-requires-clause-new c =
-    goes_valid c.args.desk c.args.self.now.slots.items c.args.table.now c.args.comparing.new c.args.cell c.compared-compared.result.new c.known.ensures c.requires.holds
+    goes_valid c.args.desk c.args.self.now.slots.items c.args.table.now c.args.comparing.new c.args.cell c.compared-compared.result.new
+    c.known.ensures c.requires.holds
     c.requires.compare.kinds.1 (ap (λ (q : Compared). q.new) c.compared-compared.ensures)
 
 pub compare_and_swap-requires-clause-owes : goal.compare_and_swap-requires-clause-owes
 compare_and_swap-requires-clause-owes c =
-    goes_paid c.args.desk c.args.self.now.slots.items c.args.table.now c.args.comparing.new c.args.cell c.compared-compared.result.new c.known.ensures c.requires.holds
+    goes_paid c.args.desk c.args.self.now.slots.items c.args.table.now c.args.comparing.new c.args.cell c.compared-compared.result.new
+    c.known.ensures c.requires.holds
     c.requires.compare.kinds.1 (ap (λ (q : Compared). q.new) c.compared-compared.ensures) c.requires.owes
 
 pub compare_and_swap-requires-clause-room : goal.compare_and_swap-requires-clause-room
 compare_and_swap-requires-clause-room c =
-    goes_roomy c.args.desk c.args.self.now.slots.items c.args.table.now c.args.comparing.new c.args.cell c.compared-compared.result.new c.known.ensures c.requires.holds
+    goes_roomy c.args.desk c.args.self.now.slots.items c.args.table.now c.args.comparing.new c.args.cell c.compared-compared.result.new
+    c.known.ensures c.requires.holds
     c.requires.compare.kinds.1 (ap (λ (q : Compared). q.new) c.compared-compared.ensures) c.requires.seat c.args.self.now.few c.requires.compare.new
 
 pub returns-clause-slots : goal.returns-clause-slots
@@ -65,5 +71,6 @@ returns-clause-holds c =
     let t = c.compare_and_swap.ensures.after ∙ ap (λ (b : Bool). cond b w v) c.if-not-compare_and_swap.false in
     subst (λ (z : Slot). Holds d (swapped m.new m.other l z) c.compare_and_swap.new.self) (sym y)
     (subst (λ (u : Story). Holds d (swapped m.new m.other l (slot_of (state v) (held_in (state v) c.args.cell))) u) (sym t)
-    (holds_compared d l v m.new c.args.cell c.args.seen c.requires.holds found c.requires.compare.kinds.1 c.requires.compare.new m.other c.requires.compare.other
+    (holds_compared d l v m.new c.args.cell c.args.seen c.requires.holds found c.requires.compare.kinds.1 c.requires.compare.new m.other
+    c.requires.compare.other
     c.requires.compare.apart c.requires.compare.empty c.compared-compared.result (ap (λ (q : Compared). q.new) c.compared-compared.ensures)))

@@ -11,7 +11,8 @@ count-requires-clause-held c = slot_held c.args.desk c.args.self.now.slots.items
 pub returns-clause-holds : goal.returns-clause-holds
 returns-clause-holds c =
     subst (λ (v : Story). Holds c.args.desk c.args.self.now.slots.items v) (sym c.count.ensures.after)
-    (holds_look c.args.desk c.args.self.now.slots.items c.args.table.now (after c.args.table.now c.args.desk (deed.Count c.args.pointer.kind c.args.pointer.block c.args.pointer.place c.count.result)) refl refl c.requires.holds)
+    (holds_look c.args.desk c.args.self.now.slots.items c.args.table.now (after c.args.table.now c.args.desk
+    (deed.Count c.args.pointer.kind c.args.pointer.block c.args.pointer.place c.count.result)) refl refl c.requires.holds)
 
 pub returns-clause-told : goal.returns-clause-told
 returns-clause-told c = c.count.ensures.told

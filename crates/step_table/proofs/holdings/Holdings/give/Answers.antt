@@ -13,7 +13,8 @@ give-requires-clause-held c = inside_held c.args.desk c.args.self.now.slots.item
 
 pub give-requires-clause-room : goal.give-requires-clause-room
 give-requires-clause-room c =
-    has_room c.args.desk c.args.self.now.slots.items c.args.table.now c.args.to c.known.ensures c.requires.seat c.requires.holds c.args.self.now.few c.requires.inside c.requires.empty
+    has_room c.args.desk c.args.self.now.slots.items c.args.table.now c.args.to c.known.ensures c.requires.seat c.requires.holds c.args.self.now.few
+    c.requires.inside c.requires.empty
 
 pub returns-clause-holds : goal.returns-clause-holds
 returns-clause-holds c =

@@ -6,9 +6,11 @@ use Rattle.step_table.proofs.holding.Owning.{holds_look, slot_held}
 use Rattle.step_table.proofs.holdings.Holdings.is_expired.Goals as goal
 
 pub is_expired-requires-clause-held : goal.is_expired-requires-clause-held
-is_expired-requires-clause-held c = slot_held c.args.desk c.args.self.now.slots.items c.args.table.now c.args.from c.args.pointer c.requires.holds c.requires.from
+is_expired-requires-clause-held c =
+    slot_held c.args.desk c.args.self.now.slots.items c.args.table.now c.args.from c.args.pointer c.requires.holds c.requires.from
 
 pub returns-clause-holds : goal.returns-clause-holds
 returns-clause-holds c =
     subst (λ (v : Story). Holds c.args.desk c.args.self.now.slots.items v) (sym c.is_expired.ensures.after)
-    (holds_look c.args.desk c.args.self.now.slots.items c.args.table.now (after c.args.table.now c.args.desk (deed.Expired c.args.pointer.kind c.args.pointer.block c.args.pointer.place c.is_expired.result)) refl refl c.requires.holds)
+    (holds_look c.args.desk c.args.self.now.slots.items c.args.table.now (after c.args.table.now c.args.desk
+    (deed.Expired c.args.pointer.kind c.args.pointer.block c.args.pointer.place c.is_expired.result)) refl refl c.requires.holds)

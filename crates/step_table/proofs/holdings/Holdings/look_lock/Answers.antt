@@ -7,12 +7,14 @@ use Rattle.step_table.proofs.holding.Owning.{weak_held}
 use Rattle.step_table.proofs.holdings.Holdings.look_lock.Goals as goal
 
 pub look_lock-requires-clause-held : goal.look_lock-requires-clause-held
-look_lock-requires-clause-held c = weak_held c.args.desk c.args.self.now.slots.items c.args.table.now c.args.from c.args.pointer c.requires.holds c.requires.from
+look_lock-requires-clause-held c =
+    weak_held c.args.desk c.args.self.now.slots.items c.args.table.now c.args.from c.args.pointer c.requires.holds c.requires.from
 
 pub returns-clause-table : goal.returns-clause-table
 returns-clause-table c =
     c.look_lock.ensures.after
-    ∙ looked c.args.table.now c.args.desk c.args.pointer (c.look_lock.result == 0) (is_expired (state c.args.table.now) c.args.pointer) c.look_lock.ensures.left
+    ∙ looked c.args.table.now c.args.desk c.args.pointer (c.look_lock.result == 0)
+    (is_expired (state c.args.table.now) c.args.pointer) c.look_lock.ensures.left
 
 pub returns-clause-holds : goal.returns-clause-holds
 returns-clause-holds c =

@@ -15,19 +15,22 @@ use Rattle.step_table.proofs.holdings.Holdings.look_to_compare.Goals as goal
 
 pub look_to_compare-found-requires-clause-expected : goal.look_to_compare-found-requires-clause-expected
 look_to_compare-found-requires-clause-expected c =
-    goes_in_hand c.args.desk c.args.self.now.slots.items c.args.table.now c.args.comparing.expected c.args.cell c.compared-compared.result.expected c.known.ensures c.requires.holds
+    goes_in_hand c.args.desk c.args.self.now.slots.items c.args.table.now c.args.comparing.expected c.args.cell c.compared-compared.result.expected
+    c.known.ensures c.requires.holds
     c.requires.compare.kinds.0 (ap (λ (q : Compared). q.expected) c.compared-compared.ensures)
 
 pub look_to_compare-found-requires-clause-hand : goal.look_to_compare-found-requires-clause-hand
 look_to_compare-found-requires-clause-hand c =
-    goes_in_hand c.args.desk c.args.self.now.slots.items c.args.table.now c.args.comparing.new c.args.cell c.compared-compared.result.new c.known.ensures c.requires.holds
+    goes_in_hand c.args.desk c.args.self.now.slots.items c.args.table.now c.args.comparing.new c.args.cell c.compared-compared.result.new
+    c.known.ensures c.requires.holds
     c.requires.compare.kinds.1 (ap (λ (q : Compared). q.new) c.compared-compared.ensures)
 
 pub returns-then-is_some-clause-found : goal.returns-then-is_some-clause-found
 returns-then-is_some-clause-found c =
     let v = c.args.table.now in
     let x = c.look_to_compare-found.result in
-    shows_seen v c.args.desk c.args.cell x (open_shown v c.args.desk c.args.cell x c.known.ensures c.requires.seat c.requires.open c.look_to_compare-found.ensures.found)
+    shows_seen v c.args.desk c.args.cell x
+    (open_shown v c.args.desk c.args.cell x c.known.ensures c.requires.seat c.requires.open c.look_to_compare-found.ensures.found)
 
 pub returns-then-is_some-clause-slots : goal.returns-then-is_some-clause-slots
 returns-then-is_some-clause-slots c =
@@ -46,7 +49,8 @@ returns-then-is_some-clause-table c =
     let l = c.args.self.now.slots.items in
     let m = c.args.comparing in
     let x = c.look_to_compare-found.result in
-    c.look_to_compare-found.ensures.after ∙ looked_in d l v c.args.cell x m c.compared-compared.result c.known.ensures c.requires.holds c.compared-compared.ensures
+    c.look_to_compare-found.ensures.after ∙ looked_in d l v c.args.cell x m c.compared-compared.result c.known.ensures c.requires.holds
+    c.compared-compared.ensures
 
 pub returns-then-is_some-clause-holds : goal.returns-then-is_some-clause-holds
 returns-then-is_some-clause-holds c =
@@ -57,14 +61,16 @@ returns-then-is_some-clause-holds c =
     let x = c.look_to_compare-found.result in
     let same = same_value x (as_word (value l m.expected)) in
     let w = after v d (OnCell (Look c.args.cell x (Some (compared_in l m)))) in
-    let t = c.look_to_compare-found.ensures.after ∙ looked_in d l v c.args.cell x m c.compared-compared.result c.known.ensures c.requires.holds c.compared-compared.ensures in
+    let t = c.look_to_compare-found.ensures.after ∙ looked_in d l v c.args.cell x m c.compared-compared.result c.known.ensures c.requires.holds
+    c.compared-compared.ensures in
     subst (λ (u : Story). Holds d l u) (left_first (is_some x.owned) same v w (sym c.is_some.ensures ∙ c.if-is_some.true) ∙ sym t) c.requires.holds
 
 pub returns-then-is_same_value-clause-found : goal.returns-then-is_same_value-clause-found
 returns-then-is_same_value-clause-found c =
     let v = c.args.table.now in
     let x = c.look_to_compare-found.result in
-    shows_seen v c.args.desk c.args.cell x (open_shown v c.args.desk c.args.cell x c.known.ensures c.requires.seat c.requires.open c.look_to_compare-found.ensures.found)
+    shows_seen v c.args.desk c.args.cell x
+    (open_shown v c.args.desk c.args.cell x c.known.ensures c.requires.seat c.requires.open c.look_to_compare-found.ensures.found)
 
 pub returns-then-is_same_value-clause-slots : goal.returns-then-is_same_value-clause-slots
 returns-then-is_same_value-clause-slots c =
@@ -83,7 +89,8 @@ returns-then-is_same_value-clause-table c =
     let l = c.args.self.now.slots.items in
     let m = c.args.comparing in
     let x = c.look_to_compare-found.result in
-    c.look_to_compare-found.ensures.after ∙ looked_in d l v c.args.cell x m c.compared-compared.result c.known.ensures c.requires.holds c.compared-compared.ensures
+    c.look_to_compare-found.ensures.after ∙ looked_in d l v c.args.cell x m c.compared-compared.result c.known.ensures c.requires.holds
+    c.compared-compared.ensures
 
 pub returns-then-is_same_value-clause-holds : goal.returns-then-is_same_value-clause-holds
 returns-then-is_same_value-clause-holds c =
@@ -94,7 +101,8 @@ returns-then-is_same_value-clause-holds c =
     let x = c.look_to_compare-found.result in
     let same = same_value x (as_word (value l m.expected)) in
     let w = after v d (OnCell (Look c.args.cell x (Some (compared_in l m)))) in
-    let t = c.look_to_compare-found.ensures.after ∙ looked_in d l v c.args.cell x m c.compared-compared.result c.known.ensures c.requires.holds c.compared-compared.ensures in
+    let t = c.look_to_compare-found.ensures.after ∙ looked_in d l v c.args.cell x m c.compared-compared.result c.known.ensures c.requires.holds
+    c.compared-compared.ensures in
     let alike = sym (c.is_same_value.ensures ∙ ap (λ (q : Compared). same_value x q.expected) c.compared-compared.ensures) ∙ c.if-is_same_value.true in
     subst (λ (u : Story). Holds d l u) (left_next (is_some x.owned) same v w alike ∙ sym t) c.requires.holds
 
@@ -102,7 +110,8 @@ pub returns-clause-found : goal.returns-clause-found
 returns-clause-found c =
     let v = c.args.table.now in
     let x = c.look_to_compare-found.result in
-    shows_seen v c.args.desk c.args.cell x (open_shown v c.args.desk c.args.cell x c.known.ensures c.requires.seat c.requires.open c.look_to_compare-found.ensures.found)
+    shows_seen v c.args.desk c.args.cell x
+    (open_shown v c.args.desk c.args.cell x c.known.ensures c.requires.seat c.requires.open c.look_to_compare-found.ensures.found)
 
 pub returns-clause-slots : goal.returns-clause-slots
 returns-clause-slots c =
@@ -116,7 +125,8 @@ returns-clause-slots c =
     let s = c.differ.ensures ∙ ap (λ (z : Slot). differed m.new m.other l z) y in
     let some = sym c.is_some.ensures ∙ c.if-is_some.false in
     let unlike = sym (c.is_same_value.ensures ∙ ap (λ (q : Compared). same_value x q.expected) c.compared-compared.ensures) ∙ c.if-is_same_value.false in
-    s ∙ done_if (is_some x.owned) (same_value x (as_word (value l m.expected))) l (differed m.new m.other l (slot_of (state v) (held_in (state v) c.args.cell))) some unlike
+    s ∙ done_if (is_some x.owned) (same_value x (as_word (value l m.expected))) l
+    (differed m.new m.other l (slot_of (state v) (held_in (state v) c.args.cell))) some unlike
 
 pub returns-clause-table : goal.returns-clause-table
 returns-clause-table c =
@@ -125,7 +135,8 @@ returns-clause-table c =
     let l = c.args.self.now.slots.items in
     let m = c.args.comparing in
     let x = c.look_to_compare-found.result in
-    c.look_to_compare-found.ensures.after ∙ looked_in d l v c.args.cell x m c.compared-compared.result c.known.ensures c.requires.holds c.compared-compared.ensures
+    c.look_to_compare-found.ensures.after ∙ looked_in d l v c.args.cell x m c.compared-compared.result c.known.ensures c.requires.holds
+    c.compared-compared.ensures
 
 pub returns-clause-holds : goal.returns-clause-holds
 returns-clause-holds c =
@@ -141,9 +152,11 @@ returns-clause-holds c =
     let unlike = sym (c.is_same_value.ensures ∙ ap (λ (q : Compared). same_value x q.expected) c.compared-compared.ensures) ∙ c.if-is_same_value.false in
     let same = same_value x (as_word (value l m.expected)) in
     let w = after v d (OnCell (Look c.args.cell x (Some (compared_in l m)))) in
-    let t = c.look_to_compare-found.ensures.after ∙ looked_in d l v c.args.cell x m c.compared-compared.result c.known.ensures c.requires.holds c.compared-compared.ensures in
+    let t = c.look_to_compare-found.ensures.after ∙ looked_in d l v c.args.cell x m c.compared-compared.result c.known.ensures c.requires.holds
+    c.compared-compared.ensures in
     subst (λ (k : Slots). Holds d k c.look_to_compare-found.new.self) (sym s)
     (subst (λ (u : Story). Holds d (differed m.new m.other l (slot_of (state v) (held_in (state v) c.args.cell))) u)
     (done_if (is_some x.owned) same v w some unlike ∙ sym t)
-    (holds_unlike d l v m.new m.other c.args.cell x (compared_in l m) c.requires.holds found c.requires.compare.new c.requires.compare.other c.requires.compare.apart
+    (holds_unlike d l v m.new m.other c.args.cell x (compared_in l m) c.requires.holds found c.requires.compare.new c.requires.compare.other
+    c.requires.compare.apart
     c.requires.compare.empty))

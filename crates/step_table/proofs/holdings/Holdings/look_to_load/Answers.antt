@@ -15,13 +15,15 @@ pub returns-then-is_some-clause-found : goal.returns-then-is_some-clause-found
 returns-then-is_some-clause-found c =
     let v = c.args.table.now in
     let x = c.look_cell-found.result in
-    shows_seen v c.args.desk c.args.cell x (open_shown v c.args.desk c.args.cell x c.known.ensures c.requires.seat c.requires.open c.look_cell-found.ensures.found)
+    shows_seen v c.args.desk c.args.cell x
+    (open_shown v c.args.desk c.args.cell x c.known.ensures c.requires.seat c.requires.open c.look_cell-found.ensures.found)
 
 pub returns-clause-found : goal.returns-clause-found
 returns-clause-found c =
     let v = c.args.table.now in
     let x = c.look_cell-found.result in
-    shows_seen v c.args.desk c.args.cell x (open_shown v c.args.desk c.args.cell x c.known.ensures c.requires.seat c.requires.open c.look_cell-found.ensures.found)
+    shows_seen v c.args.desk c.args.cell x
+    (open_shown v c.args.desk c.args.cell x c.known.ensures c.requires.seat c.requires.open c.look_cell-found.ensures.found)
 
 pub returns-clause-slots : goal.returns-clause-slots
 returns-clause-slots c =
@@ -29,8 +31,10 @@ returns-clause-slots c =
     let x = c.look_cell-found.result in
     let slots = c.args.self.now.slots.items in
     let found = open_shown v c.args.desk c.args.cell x c.known.ensures c.requires.seat c.requires.open c.look_cell-found.ensures.found in
-    ap (λ (z : Slot). set slots c.args.to z) (comes v c.args.desk c.args.cell x c.kind_in-kind.result c.slot_in.result found c.kind_in-kind.ensures c.slot_in.ensures)
-    ∙ sym (cond-false (is_some x.owned) slots (set slots c.args.to (slot_of (state v) (held_in (state v) c.args.cell))) (sym c.is_some.ensures ∙ c.if-is_some.false))
+    ap (λ (z : Slot). set slots c.args.to z)
+    (comes v c.args.desk c.args.cell x c.kind_in-kind.result c.slot_in.result found c.kind_in-kind.ensures c.slot_in.ensures)
+    ∙ sym (cond-false (is_some x.owned) slots (set slots c.args.to (slot_of (state v) (held_in (state v) c.args.cell)))
+    (sym c.is_some.ensures ∙ c.if-is_some.false))
 
 pub returns-clause-holds : goal.returns-clause-holds
 returns-clause-holds c =

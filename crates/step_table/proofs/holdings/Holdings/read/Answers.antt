@@ -7,7 +7,8 @@ use Rattle.step_table.proofs.holdings.Holdings.read.Goals as goal
 
 pub read-requires-clause-held : goal.read-requires-clause-held
 read-requires-clause-held c =
-    inside_owned c.args.desk c.args.self.now.slots.items c.args.table.now c.args.from c.args.pointer c.requires.holds c.requires.from c.in-Some.place c.in-Some.is
+    inside_owned c.args.desk c.args.self.now.slots.items c.args.table.now c.args.from c.args.pointer c.requires.holds c.requires.from
+    c.in-Some.place c.in-Some.is
 
 pub returns-clause-holds : goal.returns-clause-holds
 returns-clause-holds c =

@@ -17,32 +17,37 @@ pub swap_cell-found-requires-clause-new : goal.swap_cell-found-requires-clause-n
 swap_cell-found-requires-clause-new c =
     let l = c.args.self.now.slots.items in
     let e = get_or_read l c.args.from c.index.result.now c.requires.from c.index.ensures plain in
-    goes_valid c.args.desk l c.args.table.now c.args.from c.args.cell c.word-new.result c.known.ensures c.requires.holds c.requires.kind (c.word-new.ensures ∙ ap as_word e)
+    goes_valid c.args.desk l c.args.table.now c.args.from c.args.cell c.word-new.result c.known.ensures c.requires.holds c.requires.kind
+    (c.word-new.ensures ∙ ap as_word e)
 
 pub swap_cell-found-requires-clause-hand : goal.swap_cell-found-requires-clause-hand
 swap_cell-found-requires-clause-hand c =
     let l = c.args.self.now.slots.items in
     let e = get_or_read l c.args.from c.index.result.now c.requires.from c.index.ensures plain in
-    goes_in_hand c.args.desk l c.args.table.now c.args.from c.args.cell c.word-new.result c.known.ensures c.requires.holds c.requires.kind (c.word-new.ensures ∙ ap as_word e)
+    goes_in_hand c.args.desk l c.args.table.now c.args.from c.args.cell c.word-new.result c.known.ensures c.requires.holds c.requires.kind
+    (c.word-new.ensures ∙ ap as_word e)
 
 pub swap_cell-found-requires-clause-owes : goal.swap_cell-found-requires-clause-owes
 swap_cell-found-requires-clause-owes c =
     let l = c.args.self.now.slots.items in
     let e = get_or_read l c.args.from c.index.result.now c.requires.from c.index.ensures plain in
-    goes_paid c.args.desk l c.args.table.now c.args.from c.args.cell c.word-new.result c.known.ensures c.requires.holds c.requires.kind (c.word-new.ensures ∙ ap as_word e) c.requires.owes
+    goes_paid c.args.desk l c.args.table.now c.args.from c.args.cell c.word-new.result c.known.ensures c.requires.holds c.requires.kind
+    (c.word-new.ensures ∙ ap as_word e) c.requires.owes
 
 pub swap_cell-found-requires-clause-room : goal.swap_cell-found-requires-clause-room
 swap_cell-found-requires-clause-room c =
     let l = c.args.self.now.slots.items in
     let e = get_or_read l c.args.from c.index.result.now c.requires.from c.index.ensures plain in
-    goes_roomy c.args.desk l c.args.table.now c.args.from c.args.cell c.word-new.result c.known.ensures c.requires.holds c.requires.kind (c.word-new.ensures ∙ ap as_word e)
+    goes_roomy c.args.desk l c.args.table.now c.args.from c.args.cell c.word-new.result c.known.ensures c.requires.holds c.requires.kind
+    (c.word-new.ensures ∙ ap as_word e)
     c.requires.seat c.args.self.now.few c.requires.from
 
 pub returns-clause-found : goal.returns-clause-found
 returns-clause-found c =
     let v = c.args.table.now in
     let x = c.swap_cell-found.result in
-    shows_seen v c.args.desk c.args.cell x (open_shown v c.args.desk c.args.cell x c.known.ensures c.requires.seat c.requires.open c.swap_cell-found.ensures.found)
+    shows_seen v c.args.desk c.args.cell x
+    (open_shown v c.args.desk c.args.cell x c.known.ensures c.requires.seat c.requires.open c.swap_cell-found.ensures.found)
 
 pub returns-clause-few : goal.returns-clause-few
 returns-clause-few c = c.swap_cell-found.ensures.found.valid.taken
@@ -67,4 +72,5 @@ returns-clause-holds c =
     let t = c.swap_cell-found.ensures.after ∙ ap (λ (w : CellWord). after v d (OnCell (Swap c.args.cell w x))) e in
     subst (λ (z : Slot). Holds d (set (set l c.args.to z) c.args.from plain) c.swap_cell-found.new.self) (sym y)
     (subst (λ (u : Story). Holds d (swapped c.args.from c.args.to l (slot_of (state v) (held_in (state v) c.args.cell))) u) (sym t)
-    (holds_swapped d l v c.args.from c.args.cell x c.requires.holds found c.requires.kind c.requires.from c.args.to c.requires.inside c.requires.apart c.requires.empty))
+    (holds_swapped d l v c.args.from c.args.cell x c.requires.holds found c.requires.kind c.requires.from c.args.to c.requires.inside
+    c.requires.apart c.requires.empty))

@@ -16,22 +16,26 @@ use Rattle.step_table.proofs.holdings.Holdings.take_differing.Goals as goal
 
 pub take_differing-requires-clause-expected : goal.take_differing-requires-clause-expected
 take_differing-requires-clause-expected c =
-    goes_in_hand c.args.desk c.args.self.now.slots.items c.args.table.now c.args.comparing.expected c.args.cell c.compared-compared.result.expected c.known.ensures c.requires.holds
+    goes_in_hand c.args.desk c.args.self.now.slots.items c.args.table.now c.args.comparing.expected c.args.cell c.compared-compared.result.expected
+    c.known.ensures c.requires.holds
     c.requires.compare.kinds.0 (ap (λ (q : Compared). q.expected) c.compared-compared.ensures)
 
 pub take_differing-requires-clause-hand : goal.take_differing-requires-clause-hand
 take_differing-requires-clause-hand c =
-    goes_in_hand c.args.desk c.args.self.now.slots.items c.args.table.now c.args.comparing.new c.args.cell c.compared-compared.result.new c.known.ensures c.requires.holds
+    goes_in_hand c.args.desk c.args.self.now.slots.items c.args.table.now c.args.comparing.new c.args.cell c.compared-compared.result.new
+    c.known.ensures c.requires.holds
     c.requires.compare.kinds.1 (ap (λ (q : Compared). q.new) c.compared-compared.ensures)
 
 pub take_differing-requires-clause-differs : goal.take_differing-requires-clause-differs
 take_differing-requires-clause-differs c =
-    alike_in c.args.desk c.args.self.now.slots.items c.args.table.now c.args.cell c.args.seen c.args.comparing c.compared-compared.result c.known.ensures c.requires.holds c.compared-compared.ensures
+    alike_in c.args.desk c.args.self.now.slots.items c.args.table.now c.args.cell c.args.seen c.args.comparing c.compared-compared.result c.known.ensures
+    c.requires.holds c.compared-compared.ensures
     ∙ c.requires.differs
 
 pub take_differing-requires-clause-room : goal.take_differing-requires-clause-room
 take_differing-requires-clause-room c =
-    has_room c.args.desk c.args.self.now.slots.items c.args.table.now c.args.comparing.other c.known.ensures c.requires.seat c.requires.holds c.args.self.now.few
+    has_room c.args.desk c.args.self.now.slots.items c.args.table.now c.args.comparing.other c.known.ensures c.requires.seat
+    c.requires.holds c.args.self.now.few
     c.requires.compare.other c.requires.compare.empty
 
 pub returns-clause-slots : goal.returns-clause-slots
@@ -56,5 +60,6 @@ returns-clause-holds c =
     let s = c.differ.ensures ∙ ap (λ (z : Slot). differed m.new m.other l z) y in
     subst (λ (k : Slots). Holds d k c.take_differing.new.self) (sym s)
     (subst (λ (u : Story). Holds d (differed m.new m.other l (slot_of (state v) (held_in (state v) c.args.cell))) u) (sym t)
-    (holds_differed d l v m.new m.other c.args.cell c.args.seen c.compared-compared.result c.requires.holds found c.requires.compare.new c.requires.compare.other c.requires.compare.apart
+    (holds_differed d l v m.new m.other c.args.cell c.args.seen c.compared-compared.result c.requires.holds found c.requires.compare.new
+    c.requires.compare.other c.requires.compare.apart
     c.requires.compare.empty))

@@ -13,7 +13,8 @@ use Rattle.step_table.proofs.holdings.Holdings.take_fund.Goals as goal
 
 pub take_fund-requires-clause-room : goal.take_fund-requires-clause-room
 take_fund-requires-clause-room c =
-    has_room c.args.desk c.args.self.now.slots.items c.args.table.now c.args.to c.known.ensures c.requires.seat c.requires.holds c.args.self.now.few c.requires.inside c.requires.empty
+    has_room c.args.desk c.args.self.now.slots.items c.args.table.now c.args.to c.known.ensures c.requires.seat c.requires.holds c.args.self.now.few
+    c.requires.inside c.requires.empty
 
 pub returns-clause-slots : goal.returns-clause-slots
 returns-clause-slots c =

@@ -9,11 +9,13 @@ use Rattle.step_table.proofs.holding.Owning.{has_room, weak_formed, weak_held}
 use Rattle.step_table.proofs.holdings.Holdings.try_lock.Goals as goal
 
 pub try_lock-now-requires-clause-held : goal.try_lock-now-requires-clause-held
-try_lock-now-requires-clause-held c = weak_held c.args.desk c.args.self.now.slots.items c.args.table.now c.args.from c.args.pointer c.requires.holds c.requires.from
+try_lock-now-requires-clause-held c =
+    weak_held c.args.desk c.args.self.now.slots.items c.args.table.now c.args.from c.args.pointer c.requires.holds c.requires.from
 
 pub try_lock-now-requires-clause-room : goal.try_lock-now-requires-clause-room
 try_lock-now-requires-clause-room c =
-    has_room c.args.desk c.args.self.now.slots.items c.args.table.now c.args.to c.known.ensures c.requires.seat c.requires.holds c.args.self.now.few c.requires.inside c.requires.empty
+    has_room c.args.desk c.args.self.now.slots.items c.args.table.now c.args.to c.known.ensures c.requires.seat c.requires.holds c.args.self.now.few
+    c.requires.inside c.requires.empty
 
 pub returns-clause-holds : goal.returns-clause-holds
 returns-clause-holds c =

@@ -28,7 +28,8 @@ invariant_of-self c =
     let w : c.self.inside.words ≡ c.args.self.now.words = ap (λ (s : Story). s.words) c.self.view_is in
     let f = found c.self.inside.words c.args.self.now.words c.block_word.result _ _ w c.block_word.ensures c.get.ensures in
     kept_as c.args.self.now c.args.desk (Count c.args.pointer.kind c.args.pointer.block c.args.pointer.place c.told_count-owners.result) _ _ _ _
-    (kept_count c.args.self.now c.args.desk c.args.pointer.kind c.args.pointer.block c.args.pointer.place c.told_count-owners.result k c.requires.seat c.requires.idle
+    (kept_count c.args.self.now c.args.desk c.args.pointer.kind c.args.pointer.block c.args.pointer.place c.told_count-owners.result k
+    c.requires.seat c.requires.idle
     c.requires.held (subst
     (λ (x : ℕ). c.told_count-owners.result ≡ cond (number_of x == 0) (cond (funds_of x == 0) 0 1) (number_of x)) f
     (told _ _ c.told_count-owners.ensures.counted c.told_count-owners.ensures.under_way c.told_count-owners.ensures.none)))
@@ -41,7 +42,8 @@ returns-clause-none c =
     let k : Kept c.args.self.now = kept_now _ _ _ _ c.args.self.now c.self.invariant c.self.view_is in
     let w : c.self.inside.words ≡ c.args.self.now.words = ap (λ (s : Story). s.words) c.self.view_is in
     let f = found c.self.inside.words c.args.self.now.words c.block_word.result _ _ w c.block_word.ensures c.get.ensures in
-    told_none c.args.self.now c.args.desk c.args.pointer.kind c.args.pointer.block c.args.pointer.place c.told_count-owners.result k c.requires.seat c.requires.idle
+    told_none c.args.self.now c.args.desk c.args.pointer.kind c.args.pointer.block c.args.pointer.place c.told_count-owners.result k
+    c.requires.seat c.requires.idle
     c.requires.held (subst
     (λ (x : ℕ). c.told_count-owners.result ≡ cond (number_of x == 0) (cond (funds_of x == 0) 0 1) (number_of x)) f
     (told _ _ c.told_count-owners.ensures.counted c.told_count-owners.ensures.under_way c.told_count-owners.ensures.none))
@@ -51,7 +53,8 @@ returns-clause-most c =
     let k : Kept c.args.self.now = kept_now _ _ _ _ c.args.self.now c.self.invariant c.self.view_is in
     let w : c.self.inside.words ≡ c.args.self.now.words = ap (λ (s : Story). s.words) c.self.view_is in
     let f = found c.self.inside.words c.args.self.now.words c.block_word.result _ _ w c.block_word.ensures c.get.ensures in
-    told_most c.args.self.now c.args.desk c.args.pointer.kind c.args.pointer.block c.args.pointer.place c.told_count-owners.result k c.requires.seat c.requires.idle
+    told_most c.args.self.now c.args.desk c.args.pointer.kind c.args.pointer.block c.args.pointer.place c.told_count-owners.result k
+    c.requires.seat c.requires.idle
     c.requires.held (subst
     (λ (x : ℕ). c.told_count-owners.result ≡ cond (number_of x == 0) (cond (funds_of x == 0) 0 1) (number_of x)) f
     (told _ _ c.told_count-owners.ensures.counted c.told_count-owners.ensures.under_way c.told_count-owners.ensures.none))
@@ -61,7 +64,8 @@ returns-clause-exact c =
     let k : Kept c.args.self.now = kept_now _ _ _ _ c.args.self.now c.self.invariant c.self.view_is in
     let w : c.self.inside.words ≡ c.args.self.now.words = ap (λ (s : Story). s.words) c.self.view_is in
     let f = found c.self.inside.words c.args.self.now.words c.block_word.result _ _ w c.block_word.ensures c.get.ensures in
-    exact_count c.args.self.now c.args.desk c.args.pointer.kind c.args.pointer.block c.args.pointer.place c.told_count-owners.result k c.requires.seat c.requires.idle
+    exact_count c.args.self.now c.args.desk c.args.pointer.kind c.args.pointer.block c.args.pointer.place c.told_count-owners.result k
+    c.requires.seat c.requires.idle
     c.requires.held (subst
     (λ (x : ℕ). c.told_count-owners.result ≡ cond (number_of x == 0) (cond (funds_of x == 0) 0 1) (number_of x)) f
     (told _ _ c.told_count-owners.ensures.counted c.told_count-owners.ensures.under_way c.told_count-owners.ensures.none))

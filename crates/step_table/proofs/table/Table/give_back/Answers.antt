@@ -58,5 +58,6 @@ invariant_of-self c =
     (kept_give c.args.self.now c.args.desk c.args.kind c.args.block c.requires.owes.0 c.args.funds k c.requires.seat c.requires.owes.1)
     (ap (λ (s : Story). s.extent) c.self.view_is)
     (let e = c.count_word-2.ensures in
-    let g : c.without_funds.result ≡ get_or c.args.self.now.words (spot c.args.block.0 (slot c.args.kind)) 0 - 4294967296 * c.args.funds = let q = c.without_funds.ensures.word in omega (arith, f, q) in let s = c.set.ensures in cc)
+    let g : c.without_funds.result ≡ get_or c.args.self.now.words (spot c.args.block.0 (slot c.args.kind)) 0 - 4294967296 * c.args.funds =
+    let q = c.without_funds.ensures.word in omega (arith, f, q) in let s = c.set.ensures in cc)
     c.then-past.ensures

@@ -31,7 +31,8 @@ invariant_of-self c =
     ∙ none_left c.args.self.now c.args.desk c.args.pointer.kind c.args.pointer.block c.args.pointer.place k c.requires.seat
     c.requires.idle c.requires.held in
     kept_as c.args.self.now c.args.desk (Expired c.args.pointer.kind c.args.pointer.block c.args.pointer.place (c.get-expired.result == 0)) _ _ _ _
-    (kept_expired c.args.self.now c.args.desk c.args.pointer.kind c.args.pointer.block c.args.pointer.place (c.get-expired.result == 0) k c.requires.seat c.requires.idle
+    (kept_expired c.args.self.now c.args.desk c.args.pointer.kind c.args.pointer.block c.args.pointer.place
+    (c.get-expired.result == 0) k c.requires.seat c.requires.idle
     c.requires.held z)
     (ap (λ (s : Story). s.extent) c.self.view_is) (w) c.then-self-inside.ensures
 

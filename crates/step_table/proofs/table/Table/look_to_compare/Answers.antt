@@ -19,14 +19,16 @@ invariant_of-self c =
     let x : c.self.inside.extent ≡ c.args.self.now.extent = ap (λ (s : Story). s.extent) c.self.view_is in
     let e = is_bare c.shown-found.result (sym c.is_some.ensures ∙ c.if-is_some.false) in
     kept_as c.args.self.now c.args.desk (OnCell (Look c.args.cell c.shown-found.result (Some c.args.compared))) _ _ _ _
-    (kept_look_differing c.args.self.now c.args.desk c.args.cell c.shown-found.result c.args.compared k c.requires.seat c.requires.idle c.requires.open c.requires.expected
+    (kept_look_differing c.args.self.now c.args.desk c.args.cell c.shown-found.result c.args.compared k c.requires.seat c.requires.idle
+    c.requires.open c.requires.expected
     c.requires.hand c.shown-found.ensures e (sym (c.is_same_empty.ensures (state c.args.self.now) c.args.cell) ∙ c.if-is_same_empty.false))
     x w c.then-self-inside.ensures
 
 pub returns-then-is_same_empty-clause-after : goal.returns-then-is_same_empty-clause-after
 returns-then-is_same_empty-clause-after c =
     left_same (is_some c.shown-found.result.owned)
-    (equivalent (handle_told (state c.args.self.now) c.args.cell c.shown-found.result) (handle_told (state c.args.self.now) c.args.cell c.args.compared.expected)) _ _
+    (equivalent (handle_told (state c.args.self.now) c.args.cell c.shown-found.result)
+    (handle_told (state c.args.self.now) c.args.cell c.args.compared.expected)) _ _
     (sym (c.is_same_empty.ensures (state c.args.self.now) c.args.cell) ∙ c.if-is_same_empty.true)
 
 pub returns-clause-after : goal.returns-clause-after
@@ -35,5 +37,6 @@ returns-clause-after c =
     let x : c.self.inside.extent ≡ c.args.self.now.extent = ap (λ (s : Story). s.extent) c.self.view_is in
     story_here c.args.self.now c.args.desk (OnCell (Look c.args.cell c.shown-found.result (Some c.args.compared))) _ _ _ _ x w c.then-self-inside.ensures
     ∙ left_none (is_some c.shown-found.result.owned)
-    (equivalent (handle_told (state c.args.self.now) c.args.cell c.shown-found.result) (handle_told (state c.args.self.now) c.args.cell c.args.compared.expected)) _ _
+    (equivalent (handle_told (state c.args.self.now) c.args.cell c.shown-found.result)
+    (handle_told (state c.args.self.now) c.args.cell c.args.compared.expected)) _ _
     (sym c.is_some.ensures ∙ c.if-is_some.false) (sym (c.is_same_empty.ensures (state c.args.self.now) c.args.cell) ∙ c.if-is_same_empty.false)

@@ -9,6 +9,7 @@ pub invariant_of-result : goal.invariant_of-result
 invariant_of-result c =
     let x = c.args.extent.now in
     let e : c.in_ok-words.words ≡ replicate (16 * x.shape.blocks + 8 * (x.shape.shared_cells + x.shape.weak_cells)) 0 = search rules in
-    subst (λ (h : List (Entry Nothing)). Kept (record { extent = x; words = c.in_ok-words.words; views = c.start.result.views; history = h })) (sym c.start.ensures.0)
+    subst (λ (h : List (Entry Nothing)). Kept (record { extent = x; words = c.in_ok-words.words; views = c.start.result.views; history = h }))
+    (sym c.start.ensures.0)
     (subst (λ (u : List (View Nothing)). Kept (record { extent = x; words = c.in_ok-words.words; views = u; history = [] })) (sym c.start.ensures.1)
     (kept_start x c.in_ok-words.words c.requires e))

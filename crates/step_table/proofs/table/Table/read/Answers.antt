@@ -28,7 +28,8 @@ invariant_of-self c =
     let f = found c.self.inside.words c.args.self.now.words c.block_word.result _ _ w c.block_word.ensures c.get-value.ensures in
     let n = f
     ∙ ap (λ (j : ℕ). get_or c.args.self.now.words (spot c.args.block.0 (3 + j)) 0) c.from.ensures
-    ∙ field_read c.args.self.now c.args.block c.args.place.field k (owner_busy c.args.self.now c.args.desk c.args.block _ k c.requires.held) c.requires.field in
+    ∙ field_read c.args.self.now c.args.block c.args.place.field k
+    (owner_busy c.args.self.now c.args.desk c.args.block _ k c.requires.held) c.requires.field in
     kept_as c.args.self.now c.args.desk (Read c.args.block (Some c.args.place) c.get-value.result) _ _ _ _
     (kept_read c.args.self.now c.args.desk c.args.block c.args.place c.get-value.result k c.requires.seat c.requires.idle c.requires.held c.requires.inside n)
     (ap (λ (s : Story). s.extent) c.self.view_is) w c.then-self-inside.ensures

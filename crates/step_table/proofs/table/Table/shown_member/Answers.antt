@@ -19,7 +19,8 @@ get-requires c =
     let w : c.self.inside.words ≡ c.args.self.now.words = ap (λ (s : Story). s.words) c.self.view_is in
     let is = ending_cell c.args.self.now c.args.desk c.args.block c.args.member c.requires.ending c.requires.inside in
     let i = word_inside c.args.self.now c.args.desk (Member c.args.block c.args.member) k c.requires.seat is in
-    let at : c.block_word.result ≡ spot c.args.block.0 (7 + c.args.member) = c.block_word.ensures ∙ ap (λ (m : ℕ). spot c.args.block.0 (7 + m)) c.from.ensures in
+    let at : c.block_word.result ≡ spot c.args.block.0 (7 + c.args.member) =
+    c.block_word.ensures ∙ ap (λ (m : ℕ). spot c.args.block.0 (7 + m)) c.from.ensures in
     omega (arith, i, at, ap (length {A = ℕ}) w)
 
 pub unpack-requires : goal.unpack-requires
@@ -27,7 +28,8 @@ unpack-requires c =
     let k : Kept c.args.self.now = kept_now _ _ _ _ c.args.self.now c.self.invariant c.self.view_is in
     let w : c.self.inside.words ≡ c.args.self.now.words = ap (λ (s : Story). s.words) c.self.view_is in
     let is = ending_cell c.args.self.now c.args.desk c.args.block c.args.member c.requires.ending c.requires.inside in
-    let at : c.block_word.result ≡ spot c.args.block.0 (7 + c.args.member) = c.block_word.ensures ∙ ap (λ (m : ℕ). spot c.args.block.0 (7 + m)) c.from.ensures in
+    let at : c.block_word.result ≡ spot c.args.block.0 (7 + c.args.member) =
+    c.block_word.ensures ∙ ap (λ (m : ℕ). spot c.args.block.0 (7 + m)) c.from.ensures in
     let f = found c.self.inside.words c.args.self.now.words c.block_word.result _ _ w at c.get.ensures in
     cell_packed c.args.self.now c.args.desk (Member c.args.block c.args.member) c.get.result k c.requires.seat is f
 
@@ -36,6 +38,8 @@ returns c =
     let k : Kept c.args.self.now = kept_now _ _ _ _ c.args.self.now c.self.invariant c.self.view_is in
     let w : c.self.inside.words ≡ c.args.self.now.words = ap (λ (s : Story). s.words) c.self.view_is in
     let is = ending_cell c.args.self.now c.args.desk c.args.block c.args.member c.requires.ending c.requires.inside in
-    let at : c.block_word.result ≡ spot c.args.block.0 (7 + c.args.member) = c.block_word.ensures ∙ ap (λ (m : ℕ). spot c.args.block.0 (7 + m)) c.from.ensures in
+    let at : c.block_word.result ≡ spot c.args.block.0 (7 + c.args.member) =
+    c.block_word.ensures ∙ ap (λ (m : ℕ). spot c.args.block.0 (7 + m)) c.from.ensures in
     let f = found c.self.inside.words c.args.self.now.words c.block_word.result _ _ w at c.get.ensures in
-    (found_in c.args.self.now c.args.desk (Member c.args.block c.args.member) c.unpack.result k c.requires.seat is c.unpack.ensures.valid (sym f ∙ sym c.unpack.ensures.bits)).shows
+    (found_in c.args.self.now c.args.desk (Member c.args.block c.args.member) c.unpack.result k c.requires.seat is c.unpack.ensures.valid
+    (sym f ∙ sym c.unpack.ensures.bits)).shows

@@ -22,7 +22,8 @@ set-requires c =
     let x : c.self.inside.extent ≡ c.args.self.now.extent = ap (λ (s : Story). s.extent) c.self.view_is in
     let is = kept_cell c.args.self.now c.args.desk c.args.cell k c.requires.open in
     let i = word_inside c.args.self.now c.args.desk c.args.cell k c.requires.seat is in
-    let at : c.place_of.result ≡ word_of c.args.self.now.extent.shape.blocks c.args.cell = c.place_of.ensures ∙ ap (λ (y : Extent). word_of y.shape.blocks c.args.cell) x in
+    let at : c.place_of.result ≡ word_of c.args.self.now.extent.shape.blocks c.args.cell =
+    c.place_of.ensures ∙ ap (λ (y : Extent). word_of y.shape.blocks c.args.cell) x in
     omega (arith, i, at, ap (length {A = ℕ}) w)
 
 pub invariant_of-self : goal.invariant_of-self
@@ -31,8 +32,10 @@ invariant_of-self c =
     let w : c.self.inside.words ≡ c.args.self.now.words = ap (λ (s : Story). s.words) c.self.view_is in
     let x : c.self.inside.extent ≡ c.args.self.now.extent = ap (λ (s : Story). s.extent) c.self.view_is in
     let is = kept_cell c.args.self.now c.args.desk c.args.cell k c.requires.open in
-    let at : c.place_of.result ≡ word_of c.args.self.now.extent.shape.blocks c.args.cell = c.place_of.ensures ∙ ap (λ (y : Extent). word_of y.shape.blocks c.args.cell) x in
+    let at : c.place_of.result ≡ word_of c.args.self.now.extent.shape.blocks c.args.cell =
+    c.place_of.ensures ∙ ap (λ (y : Extent). word_of y.shape.blocks c.args.cell) x in
     kept_as c.args.self.now c.args.desk (OnCell (Swap c.args.cell c.args.new c.shown-found.result)) _ _ _ _
-    (kept_swap c.args.self.now c.args.desk c.args.cell c.args.new c.shown-found.result k c.requires.seat c.requires.open c.requires.new.1 c.requires.hand c.requires.owes
+    (kept_swap c.args.self.now c.args.desk c.args.cell c.args.new c.shown-found.result k c.requires.seat c.requires.open c.requires.new.1
+    c.requires.hand c.requires.owes
     c.requires.room c.shown-found.ensures)
     x (let e = c.pack.ensures in let s = c.set.ensures in cc) c.then-past.ensures

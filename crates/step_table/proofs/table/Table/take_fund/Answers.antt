@@ -28,7 +28,8 @@ set-requires c =
     let x : c.self.inside.extent ≡ c.args.self.now.extent = ap (λ (s : Story). s.extent) c.self.view_is in
     let is = kept_cell c.args.self.now c.args.desk c.args.cell k c.requires.open in
     let i = word_inside c.args.self.now c.args.desk c.args.cell k c.requires.seat is in
-    let at : c.place_of.result ≡ word_of c.args.self.now.extent.shape.blocks c.args.cell = c.place_of.ensures ∙ ap (λ (y : Extent). word_of y.shape.blocks c.args.cell) x in
+    let at : c.place_of.result ≡ word_of c.args.self.now.extent.shape.blocks c.args.cell =
+    c.place_of.ensures ∙ ap (λ (y : Extent). word_of y.shape.blocks c.args.cell) x in
     omega (arith, i, at, ap (length {A = ℕ}) w)
 
 pub invariant_of-self : goal.invariant_of-self
@@ -37,9 +38,12 @@ invariant_of-self c =
     let w : c.self.inside.words ≡ c.args.self.now.words = ap (λ (s : Story). s.words) c.self.view_is in
     let x : c.self.inside.extent ≡ c.args.self.now.extent = ap (λ (s : Story). s.extent) c.self.view_is in
     let is = kept_cell c.args.self.now c.args.desk c.args.cell k c.requires.open in
-    let at : c.place_of.result ≡ word_of c.args.self.now.extent.shape.blocks c.args.cell = c.place_of.ensures ∙ ap (λ (y : Extent). word_of y.shape.blocks c.args.cell) x in
+    let at : c.place_of.result ≡ word_of c.args.self.now.extent.shape.blocks c.args.cell =
+    c.place_of.ensures ∙ ap (λ (y : Extent). word_of y.shape.blocks c.args.cell) x in
     let z = eqb-true _ _ (sym c.shows.ensures ∙ c.if-not-shows.false) in
     kept_as c.args.self.now c.args.desk (OnCell (Take c.args.cell c.args.seen None)) _ _ _ _
-    (kept_take c.args.self.now c.args.desk c.args.cell c.args.seen k c.requires.seat c.requires.idle c.requires.open c.requires.seen.1 c.requires.seen.2 c.requires.room
+    (kept_take c.args.self.now c.args.desk c.args.cell c.args.seen k c.requires.seat c.requires.idle c.requires.open c.requires.seen.1
+    c.requires.seen.2 c.requires.room
     c.requires.seen.0 z)
-    x (let e = c.pack.ensures in let g : c.pack.result + 17179869184 ≡ get_or c.args.self.now.words (word_of c.args.self.now.extent.shape.blocks c.args.cell) 0 + 17179869184 = omega (arith, e, z) in let s = c.set.ensures in cc) c.then-past.ensures
+    x (let e = c.pack.ensures in let g : c.pack.result + 17179869184 ≡ get_or c.args.self.now.words
+    (word_of c.args.self.now.extent.shape.blocks c.args.cell) 0 + 17179869184 = omega (arith, e, z) in let s = c.set.ensures in cc) c.then-past.ensures

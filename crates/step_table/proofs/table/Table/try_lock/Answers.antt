@@ -88,4 +88,5 @@ invariant_of-self c =
     (let q = c.requires.some in omega (arith, f, z, q)) c.requires.room)
     (ap (λ (s : Story). s.extent) c.self.view_is)
     (let e = c.block_word-2.ensures in
-    let g : c.get-now.result + 1 ≡ suc (get_or c.args.self.now.words (spot c.args.block.0 0) 0) = omega (arith, f) in let s = c.set.ensures in cc) c.then-past.ensures
+    let g : c.get-now.result + 1 ≡ suc (get_or c.args.self.now.words (spot c.args.block.0 0) 0) = omega (arith, f) in
+    let s = c.set.ensures in cc) c.then-past.ensures

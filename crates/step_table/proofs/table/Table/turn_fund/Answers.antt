@@ -67,5 +67,6 @@ invariant_of-self c =
     (kept_turn c.args.self.now c.args.desk c.args.kind c.args.block c.requires.owes.0 k c.requires.seat c.requires.owes.1)
     (ap (λ (s : Story). s.extent) c.self.view_is)
     (let e = c.count_word-2.ensures in
-    let g : c.with_fund_turned.result ≡ get_or c.args.self.now.words (spot c.args.block.0 (slot c.args.kind)) 0 - 4294967295 = let q = c.with_fund_turned.ensures.word in omega (arith, f, q) in let s = c.set.ensures in cc)
+    let g : c.with_fund_turned.result ≡ get_or c.args.self.now.words (spot c.args.block.0 (slot c.args.kind)) 0 - 4294967295 =
+    let q = c.with_fund_turned.ensures.word in omega (arith, f, q) in let s = c.set.ensures in cc)
     c.then-past.ensures

@@ -42,7 +42,8 @@ overflow_add-found c =
     let k : Kept c.args.self.now = kept_now _ _ _ _ c.args.self.now c.self.invariant c.self.view_is in
     let w : c.self.inside.words ≡ c.args.self.now.words = ap (λ (s : Story). s.words) c.self.view_is in
     let f = found c.self.inside.words c.args.self.now.words c.block_word.result _ _ w c.block_word.ensures c.get-found.ensures in
-    let h = room_above c.args.self.now c.args.desk Weak c.args.pointer.kind c.args.pointer.block c.args.pointer.place k c.requires.seat c.requires.idle c.requires.held in
+    let h = room_above c.args.self.now c.args.desk Weak c.args.pointer.kind c.args.pointer.block c.args.pointer.place k c.requires.seat
+    c.requires.idle c.requires.held in
     omega arith
 
 pub invariant_of-self : goal.invariant_of-self

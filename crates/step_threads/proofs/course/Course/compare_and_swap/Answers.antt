@@ -48,4 +48,5 @@ take-requires-clause-ready c =
 pub returns-else-swapped-clause-stays : goal.returns-else-swapped-clause-stays
 returns-else-swapped-clause-stays c = λ e.
     let t = c.args.self.now in
-    ap (λ (h : Holdings). record { tasks = t.tasks; at = t.at; holdings = h; taken = t.taken; endings = t.endings }) (c.compare_and_swap-swapped.ensures.stays e)
+    ap (λ (h : Holdings). record { tasks = t.tasks; at = t.at; holdings = h; taken = t.taken; endings = t.endings })
+    (c.compare_and_swap-swapped.ensures.stays e)

@@ -39,4 +39,5 @@ returns-else-is_none-clause-stays c = λ e.
     let x = c.look_to_compare-found.result in
     let l = t.holdings.slots.items in
     ap (λ (h : Holdings). record { tasks = t.tasks; at = t.at; holdings = h; taken = t.taken; endings = t.endings })
-    (c.look_to_compare-found.ensures.stays (ap (λ (y : Comparing). is_some x.owned || same_value x (as_word (value l y.expected))) c.comparing-comparing.ensures ∙ e))
+    (c.look_to_compare-found.ensures.stays (ap (λ (y : Comparing). is_some x.owned || same_value x (as_word (value l y.expected)))
+    c.comparing-comparing.ensures ∙ e))

@@ -11,7 +11,8 @@ pub look_to_load-found-requires-clause-open : goal.look_to_load-found-requires-c
 look_to_load-found-requires-clause-open c =
     let v = c.args.table.now in
     let h : IsIn v.extent.shape c.args.cell = subst (HasCell v.extent.shape) c.requires.act c.requires.can.cell in
-    subst (λ (x : Cell). IsOpenTo v c.args.desk x) (sym c.cell-cell.ensures) (cell_open v c.args.desk c.args.self.now.holdings.slots.items c.args.cell h c.requires.can.holds c.requires.there)
+    subst (λ (x : Cell). IsOpenTo v c.args.desk x) (sym c.cell-cell.ensures)
+    (cell_open v c.args.desk c.args.self.now.holdings.slots.items c.args.cell h c.requires.can.holds c.requires.there)
 
 pub returns-else-is_none-clause-stays : goal.returns-else-is_none-clause-stays
 returns-else-is_none-clause-stays c = λ e.

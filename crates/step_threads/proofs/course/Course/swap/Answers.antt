@@ -14,7 +14,8 @@ pub swap-found-requires-clause-open : goal.swap-found-requires-clause-open
 swap-found-requires-clause-open c =
     let v = c.args.table.now in
     let h : IsIn v.extent.shape c.args.cell = subst (HasCell v.extent.shape) c.requires.act c.requires.cell in
-    subst (λ (x : Cell). IsOpenTo v c.args.desk x) (sym c.cell-cell.ensures) (cell_open v c.args.desk c.args.self.now.holdings.slots.items c.args.cell h c.requires.holds c.requires.there)
+    subst (λ (x : Cell). IsOpenTo v c.args.desk x) (sym c.cell-cell.ensures)
+    (cell_open v c.args.desk c.args.self.now.holdings.slots.items c.args.cell h c.requires.holds c.requires.there)
 
 pub swap-found-requires-clause-kind : goal.swap-found-requires-clause-kind
 swap-found-requires-clause-kind c =

@@ -11,7 +11,8 @@ pub take_fund-took-requires-clause-open : goal.take_fund-took-requires-clause-op
 take_fund-took-requires-clause-open c =
     let v = c.args.table.now in
     let h : IsIn v.extent.shape c.args.cell = subst (HasCell v.extent.shape) c.requires.act c.requires.can.cell in
-    subst (λ (x : Cell). IsOpenTo v c.args.desk x) (sym c.cell-cell.ensures) (cell_open v c.args.desk c.args.self.now.holdings.slots.items c.args.cell h c.requires.can.holds c.requires.there)
+    subst (λ (x : Cell). IsOpenTo v c.args.desk x) (sym c.cell-cell.ensures)
+    (cell_open v c.args.desk c.args.self.now.holdings.slots.items c.args.cell h c.requires.can.holds c.requires.there)
 
 pub returns-else-took-clause-stays : goal.returns-else-took-clause-stays
 returns-else-took-clause-stays c = λ e.

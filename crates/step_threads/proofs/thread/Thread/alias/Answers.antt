@@ -14,5 +14,6 @@ returns-clause-fits c =
     let slots = t.course.holdings.slots.items in
     let on = c.alias-event.ensures in
     subst (λ (h : Half). Fits d (record { course = c.alias-event.new.self; stock = t.stock; half = h }) c.alias-event.new.table) (sym c.requires.rest)
-    (fits_done (alias (aliased c.args.field (place_in slots c.args.of))) d t v c.alias-event.new.table (owner_slot (slot slots c.args.name)) c.alias-event.new.self
+    (fits_done (alias (aliased c.args.field (place_in slots c.args.of))) d t v c.alias-event.new.table
+    (owner_slot (slot slots c.args.name)) c.alias-event.new.self
     c.known.ensures c.requires.fits c.requires.rest c.requires.none (λ x. refl) (λ x. refl) on.table on.on)

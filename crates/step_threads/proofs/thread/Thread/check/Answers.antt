@@ -28,7 +28,8 @@ returns-clause-stepped c =
     let next = Refill Lacking cell y k in
     let half : c.if-is_drained.self ≡ cond (is_drained x y) next Rest =
     elim c.if-is_drained.branch [
-      | then-is_drained w ↦ w.self-is ∙ w.at_stage-self.ensures ∙ sym (cond-true (is_drained x y) next Rest (sym c.is_drained.ensures ∙ w.if-is_drained.true))
+      | then-is_drained w ↦ w.self-is ∙ w.at_stage-self.ensures ∙ sym
+          (cond-true (is_drained x y) next Rest (sym c.is_drained.ensures ∙ w.if-is_drained.true))
       | else-is_drained w ↦ w.self-is ∙ sym (cond-false (is_drained x y) next Rest (sym c.is_drained.ensures ∙ w.if-is_drained.false))
     ] in
     refilled d t v Checking cell x k r.block _ _ _ c.requires.half r.owned (ap (λ (s : Said). Quiet s) c.silent.ensures) refl refl

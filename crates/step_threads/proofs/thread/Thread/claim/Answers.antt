@@ -16,5 +16,6 @@ pub returns-clause-fits : goal.returns-clause-fits
 returns-clause-fits c =
     subst (λ (v : Story). Fits c.args.desk (record { course = c.claim.new.self; stock = c.args.self.now.stock; half = Rest }) v)
     (sym c.claim.ensures.table)
-    (fits_claim c.args.desk c.args.self.now c.args.table.now c.args.block c.args.differs c.args.form c.claim.new.self c.known.ensures c.requires.fits c.requires.half
+    (fits_claim c.args.desk c.args.self.now c.args.table.now c.args.block c.args.differs c.args.form c.claim.new.self c.known.ensures
+    c.requires.fits c.requires.half
     (subst (λ (v : Story). HasGoneOn c.args.desk c.args.self.now.course c.claim.new.self v) c.claim.ensures.table c.claim.ensures.on))

@@ -55,8 +55,13 @@ returns-clause-fits c =
     let table = took.ensures.table ∙ cond-true took.result _ _ yes in
     let half = c.turning-self.ensures ∙ ap (λ (y : Cell). Refill Turning y (more_taken x) m) c.cell-at.ensures in
     subst (λ (h : Half). Fits d (record { course = took.new.self; stock = t.stock; half = h }) took.new.table) (sym half)
-    (subst (λ (u : Story). Fits d (record { course = took.new.self; stock = t.stock; half = Refill Turning (cell_at (state v) t.course.holdings.slots.items c.args.cell) (more_taken x) m }) u) (sym table)
-    (compare_taken d t v c.args.name c.args.cell c.args.weak x r.fits r.act took.new.self (compared_in slots (comparing slots c.args.name c.args.weak)) c.known.ensures m r.half
+    (subst (λ (u : Story). Fits d (record {
+      course = took.new.self;
+      stock = t.stock;
+      half = Refill Turning (cell_at (state v) t.course.holdings.slots.items c.args.cell) (more_taken x) m;
+    }) u) (sym table)
+    (compare_taken d t v c.args.name c.args.cell c.args.weak x r.fits r.act took.new.self
+    (compared_in slots (comparing slots c.args.name c.args.weak)) c.known.ensures m r.half
     (saw_other d t v c.args.name c.args.cell c.args.weak x r.fits r.act r.half r.differs)
     (subst (λ (u : Story). HasGoneOn d t.course took.new.self u) table (took.ensures.on yes))))
 

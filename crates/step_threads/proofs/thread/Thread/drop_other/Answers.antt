@@ -21,8 +21,10 @@ left-ended-requires-clause-ending c = λ x.
     let v = c.args.table.now in
     let slots = c.args.self.now.course.holdings.slots.items in
     let h : c.get-held.result ≡ slot slots (other slots) = c.get-held.ensures ∙ ap (slot slots) c.other.ensures in
-    let is : c.drop_other-last.new.table ≡ done_on (leave (state v)) v c.args.desk c.get-held.result = c.drop_other-last.ensures.table ∙ ap (done_on (leave (state v)) v c.args.desk) (sym h) in
-    let said : c.drop_other-last.result ≡ on (is_last (state v)) false c.get-held.result = c.drop_other-last.ensures.last ∙ ap (on (is_last (state v)) false) (sym h) in
+    let is : c.drop_other-last.new.table ≡ done_on (leave (state v)) v c.args.desk c.get-held.result =
+    c.drop_other-last.ensures.table ∙ ap (done_on (leave (state v)) v c.args.desk) (sym h) in
+    let said : c.drop_other-last.result ≡ on (is_last (state v)) false c.get-held.result =
+    c.drop_other-last.ensures.last ∙ ap (on (is_last (state v)) false) (sym h) in
     ending_left v c.drop_other-last.new.table c.args.desk c.get-held.result c.drop_other-last.result x is said
 
 pub left-ended-requires-clause-begins : goal.left-ended-requires-clause-begins
@@ -30,26 +32,34 @@ left-ended-requires-clause-begins c = λ x.
     let v = c.args.table.now in
     let slots = c.args.self.now.course.holdings.slots.items in
     let h : c.get-held.result ≡ slot slots (other slots) = c.get-held.ensures ∙ ap (slot slots) c.other.ensures in
-    let is : c.drop_other-last.new.table ≡ done_on (leave (state v)) v c.args.desk c.get-held.result = c.drop_other-last.ensures.table ∙ ap (done_on (leave (state v)) v c.args.desk) (sym h) in
-    let said : c.drop_other-last.result ≡ on (is_last (state v)) false c.get-held.result = c.drop_other-last.ensures.last ∙ ap (on (is_last (state v)) false) (sym h) in
-    begins_room v c.drop_other-last.new.table c.args.desk c.args.self.now c.drop_other-last.new.self c.get-held.result c.drop_other-last.result x c.known-2.ensures c.requires.fits c.requires.none c.drop_other-last.ensures.on.endings is said
+    let is : c.drop_other-last.new.table ≡ done_on (leave (state v)) v c.args.desk c.get-held.result =
+    c.drop_other-last.ensures.table ∙ ap (done_on (leave (state v)) v c.args.desk) (sym h) in
+    let said : c.drop_other-last.result ≡ on (is_last (state v)) false c.get-held.result =
+    c.drop_other-last.ensures.last ∙ ap (on (is_last (state v)) false) (sym h) in
+    begins_room v c.drop_other-last.new.table c.args.desk c.args.self.now c.drop_other-last.new.self c.get-held.result c.drop_other-last.result x
+    c.known-2.ensures c.requires.fits c.requires.none c.drop_other-last.ensures.on.endings is said
 
 pub left-ended-requires-clause-room : goal.left-ended-requires-clause-room
 left-ended-requires-clause-room c = λ x.
     let v = c.args.table.now in
     let slots = c.args.self.now.course.holdings.slots.items in
     let h : c.get-held.result ≡ slot slots (other slots) = c.get-held.ensures ∙ ap (slot slots) c.other.ensures in
-    let is : c.drop_other-last.new.table ≡ done_on (leave (state v)) v c.args.desk c.get-held.result = c.drop_other-last.ensures.table ∙ ap (done_on (leave (state v)) v c.args.desk) (sym h) in
-    let said : c.drop_other-last.result ≡ on (is_last (state v)) false c.get-held.result = c.drop_other-last.ensures.last ∙ ap (on (is_last (state v)) false) (sym h) in
-    room_weak v c.drop_other-last.new.table c.args.desk c.args.self.now c.get-held.result c.drop_other-last.result x c.known.ensures c.known-2.ensures c.requires.fits c.requires.rest is said
+    let is : c.drop_other-last.new.table ≡ done_on (leave (state v)) v c.args.desk c.get-held.result =
+    c.drop_other-last.ensures.table ∙ ap (done_on (leave (state v)) v c.args.desk) (sym h) in
+    let said : c.drop_other-last.result ≡ on (is_last (state v)) false c.get-held.result =
+    c.drop_other-last.ensures.last ∙ ap (on (is_last (state v)) false) (sym h) in
+    room_weak v c.drop_other-last.new.table c.args.desk c.args.self.now c.get-held.result c.drop_other-last.result x c.known.ensures c.known-2.ensures
+    c.requires.fits c.requires.rest is said
 
 pub returns-clause-fits : goal.returns-clause-fits
 returns-clause-fits c =
     let v = c.args.table.now in
     let slots = c.args.self.now.course.holdings.slots.items in
     let h : c.get-held.result ≡ slot slots (other slots) = c.get-held.ensures ∙ ap (slot slots) c.other.ensures in
-    let is : c.drop_other-last.new.table ≡ done_on (leave (state v)) v c.args.desk c.get-held.result = c.drop_other-last.ensures.table ∙ ap (done_on (leave (state v)) v c.args.desk) (sym h) in
-    let said : c.drop_other-last.result ≡ on (is_last (state v)) false c.get-held.result = c.drop_other-last.ensures.last ∙ ap (on (is_last (state v)) false) (sym h) in
+    let is : c.drop_other-last.new.table ≡ done_on (leave (state v)) v c.args.desk c.get-held.result =
+    c.drop_other-last.ensures.table ∙ ap (done_on (leave (state v)) v c.args.desk) (sym h) in
+    let said : c.drop_other-last.result ≡ on (is_last (state v)) false c.get-held.result =
+    c.drop_other-last.ensures.last ∙ ap (on (is_last (state v)) false) (sym h) in
     let has : HasLeft c.args.desk c.args.self.now.course c.drop_other-last.new.self c.left-ended.new.self.course
     c.drop_other-last.new.table c.statement-statement.result c.get-held.result c.drop_other-last.result =
     record {
@@ -60,7 +70,8 @@ returns-clause-fits c =
       list = c.left-ended.ensures.endings;
       roomy = c.left-ended.ensures.roomy;
     } in
-    fits_left c.args.desk c.args.self.now c.left-ended.new.self v c.drop_other-last.new.table c.drop_other-last.new.self c.statement-statement.result c.get-held.result c.drop_other-last.result c.known.ensures c.known-2.ensures
+    fits_left c.args.desk c.args.self.now c.left-ended.new.self v c.drop_other-last.new.table c.drop_other-last.new.self c.statement-statement.result
+    c.get-held.result c.drop_other-last.result c.known.ensures c.known-2.ensures
     c.requires.fits c.requires.rest c.requires.none is said has c.left-ended.ensures.half c.left-ended.ensures.stock
 
 pub returns-clause-stepped : goal.returns-clause-stepped
@@ -68,8 +79,10 @@ returns-clause-stepped c =
     let v = c.args.table.now in
     let slots = c.args.self.now.course.holdings.slots.items in
     let h : c.get-held.result ≡ slot slots (other slots) = c.get-held.ensures ∙ ap (slot slots) c.other.ensures in
-    let is : c.drop_other-last.new.table ≡ done_on (leave (state v)) v c.args.desk c.get-held.result = c.drop_other-last.ensures.table ∙ ap (done_on (leave (state v)) v c.args.desk) (sym h) in
-    let said : c.drop_other-last.result ≡ on (is_last (state v)) false c.get-held.result = c.drop_other-last.ensures.last ∙ ap (on (is_last (state v)) false) (sym h) in
+    let is : c.drop_other-last.new.table ≡ done_on (leave (state v)) v c.args.desk c.get-held.result =
+    c.drop_other-last.ensures.table ∙ ap (done_on (leave (state v)) v c.args.desk) (sym h) in
+    let said : c.drop_other-last.result ≡ on (is_last (state v)) false c.get-held.result =
+    c.drop_other-last.ensures.last ∙ ap (on (is_last (state v)) false) (sym h) in
     let has : HasLeft c.args.desk c.args.self.now.course c.drop_other-last.new.self c.left-ended.new.self.course
     c.drop_other-last.new.table c.statement-statement.result c.get-held.result c.drop_other-last.result =
     record {
@@ -80,9 +93,11 @@ returns-clause-stepped c =
       list = c.left-ended.ensures.endings;
       roomy = c.left-ended.ensures.roomy;
     } in
-    stepped_left c.args.desk c.args.self.now c.left-ended.new.self v c.drop_other-last.new.table c.says.result act.Drop c.get-held.result c.drop_other-last.result
+    stepped_left c.args.desk c.args.self.now c.left-ended.new.self v c.drop_other-last.new.table c.says.result act.Drop c.get-held.result
+    c.drop_other-last.result
     c.left-ended.result c.statement-statement.result c.statement-statement.ensures c.requires.rest c.requires.none c.requires.within c.requires.act refl
-    (ap (λ (o : Option Pointer). acts v c.args.desk (walk c.args.self.now.course) (task_at c.args.self.now.course).statement (rest c.args.self.now.course) act.Drop (option_map (leave (state v)) o) Rest) (sym h))
+    (ap (λ (o : Option Pointer). acts v c.args.desk (walk c.args.self.now.course) (task_at c.args.self.now.course).statement
+    (rest c.args.self.now.course) act.Drop (option_map (leave (state v)) o) Rest) (sym h))
     refl (ap (λ (o : Option Pointer). ended_by (state v) o) (sym h)) is said
     c.left-ended.ensures.ended c.left-ended.ensures.half
     (went_left c.args.desk c.args.self.now.course c.drop_other-last.new.self c.left-ended.new.self.course v c.drop_other-last.new.table act.Drop

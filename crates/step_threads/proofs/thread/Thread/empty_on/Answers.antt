@@ -58,9 +58,11 @@ returns-clause-fits c =
     let first = sym c.first.ensures ∙ c.in-Some.is in
     let x = c.take_out-found.result in
     let h = c.take_out-found.new.self in
-    subst (λ (u : Story). Fits d (record { course = record t.course { holdings = h; endings = c.advance.new.self }; stock = t.stock; half = c.returning-self.result }) u)
+    subst (λ (u : Story). Fits d
+    (record { course = record t.course { holdings = h; endings = c.advance.new.self }; stock = t.stock; half = c.returning-self.result }) u)
     (sym c.take_out-found.ensures.table)
-    (fits_emptied d t v e (drop 1 t.course.endings.list) h c.advance.new.self c.returning-self.result e.statement x c.known.ensures c.requires.fits c.requires.half
+    (fits_emptied d t v e (drop 1 t.course.endings.list) h c.advance.new.self c.returning-self.result e.statement x c.known.ensures
+    c.requires.fits c.requires.half
     (first_is t.course.endings.list e first) (ending_here d v t.course.endings.list e c.requires.fits.endings.all first)
     c.take_out-found.ensures.found
     (c.take_out-found.ensures.slots

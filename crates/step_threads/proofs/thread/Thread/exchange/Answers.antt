@@ -21,7 +21,8 @@ returns-clause-fits c =
     let found = c.exchange-found.result in
     let after = c.exchange-found.new.self in
     subst (λ (u : Story). Fits d (record { course = after; stock = t.stock; half = c.returning-self.result }) u) (sym c.exchange-found.ensures.table)
-    (fits_swapped d t v c.args.cell (as_word (value slots c.args.name)) found n c.returning-self.result after c.known.ensures c.requires.fits c.requires.half c.requires.none
+    (fits_swapped d t v c.args.cell (as_word (value slots c.args.name)) found n c.returning-self.result after c.known.ensures c.requires.fits
+    c.requires.half c.requires.none
     (cell_of_exchange d t v c.args.name c.args.cell c.requires.fits c.requires.within c.requires.act)
     (subst (λ (u : Story). HasGoneOn d t.course after u) c.exchange-found.ensures.table c.exchange-found.ensures.on)
     (c.returning-self.ensures ∙ ap (λ (k : Kind). gives_back k n found found.owned) c.kind.ensures))

@@ -13,6 +13,7 @@ returns-clause-fits c =
     let t = c.args.self.now in
     let v = c.args.table.now in
     let on = c.is_expired-expired.ensures in
-    subst (λ (h : Half). Fits d (record { course = c.is_expired-expired.new.self; stock = t.stock; half = h }) c.is_expired-expired.new.table) (sym c.requires.rest)
+    subst (λ (h : Half). Fits d (record { course = c.is_expired-expired.new.self; stock = t.stock; half = h }) c.is_expired-expired.new.table)
+    (sym c.requires.rest)
     (fits_done (tell_expired (state v)) d t v c.is_expired-expired.new.table (slot t.course.holdings.slots.items c.args.name) c.is_expired-expired.new.self
     c.known.ensures c.requires.fits c.requires.rest c.requires.none (λ x. refl) (λ x. refl) on.table on.on)

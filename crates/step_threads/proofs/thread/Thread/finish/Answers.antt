@@ -23,7 +23,8 @@ put-requires c =
     let v = c.args.table.now in
     let e = c.finish-vacant.ensures.after ∙ ap (λ (r : Bool). after v c.args.desk (deed.Finish c.args.ending.block r)) c.if-not-vacant.false in
     let is = ending_here c.args.desk v c.args.self.now.course.endings.list c.args.ending c.requires.fits.endings.all c.requires.first in
-    room_left c.args.desk c.args.self.now v c.args.ending c.known.ensures (subst (λ (u : Story). Kept u) e c.known-2.ensures) c.requires.fits c.requires.rest is
+    room_left c.args.desk c.args.self.now v c.args.ending c.known.ensures
+    (subst (λ (u : Story). Kept u) e c.known-2.ensures) c.requires.fits c.requires.rest is
 
 pub returns-clause-fits : goal.returns-clause-fits
 returns-clause-fits c =
@@ -31,7 +32,8 @@ returns-clause-fits c =
     let v = c.args.table.now in
     let e = c.finish-vacant.ensures.after ∙ ap (λ (r : Bool). after v c.args.desk (deed.Finish c.args.ending.block r)) c.if-not-vacant.false in
     let is = ending_here c.args.desk v t.course.endings.list c.args.ending c.requires.fits.endings.all c.requires.first in
-    subst (λ (u : Story). Fits c.args.desk (record { course = record t.course { endings = c.finish.new.self }; stock = c.put.new.self; half = t.half }) u) (sym e)
+    subst (λ (u : Story). Fits c.args.desk (record { course = record t.course { endings = c.finish.new.self }; stock = c.put.new.self; half = t.half }) u)
+    (sym e)
     (fits_finish c.args.desk t v c.args.ending c.finish.new.self c.put.new.self c.known.ensures c.requires.fits c.requires.rest c.finish.ensures.list
     c.finish.ensures.room is c.requires.empty c.put.ensures.blocks c.put.ensures.room)
 

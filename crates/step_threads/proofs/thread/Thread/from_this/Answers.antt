@@ -13,6 +13,7 @@ take-requires-then-not-is_enabled-clause-ready c =
 pub returns-clause-fits : goal.returns-clause-fits
 returns-clause-fits c =
     let slots = c.args.self.now.course.holdings.slots.items in
-    fits_asked c.args.desk c.args.self.now c.args.table.now c.args.name c.args.kind c.in-Some.pointer c.requires.fits c.requires.rest c.requires.none c.requires.within
+    fits_asked c.args.desk c.args.self.now c.args.table.now c.args.name c.args.kind c.in-Some.pointer c.requires.fits c.requires.rest
+    c.requires.none c.requires.within
     c.requires.act (sym (c.inside.ensures ∙ ap (λ (k : ℕ). inside (slot slots k)) c.from-from.ensures) ∙ c.in-Some.is)
     (sym c.is_enabled.ensures ∙ c.if-not-is_enabled.false)

@@ -21,8 +21,10 @@ left-ended-requires-clause-ending c = λ x.
     let v = c.args.table.now in
     let slots = c.args.self.now.course.holdings.slots.items in
     let h : c.get-held.result ≡ slot slots c.args.name = c.get-held.ensures ∙ ap (slot slots) c.from.ensures in
-    let is : c.leave-last.new.table ≡ done_on (leave (state v)) v c.args.desk c.get-held.result = c.leave-last.ensures.table ∙ ap (done_on (leave (state v)) v c.args.desk) (sym h) in
-    let said : c.leave-last.result ≡ on (is_last (state v)) false c.get-held.result = c.leave-last.ensures.last ∙ ap (on (is_last (state v)) false) (sym h) in
+    let is : c.leave-last.new.table ≡ done_on (leave (state v)) v c.args.desk c.get-held.result =
+    c.leave-last.ensures.table ∙ ap (done_on (leave (state v)) v c.args.desk) (sym h) in
+    let said : c.leave-last.result ≡ on (is_last (state v)) false c.get-held.result =
+    c.leave-last.ensures.last ∙ ap (on (is_last (state v)) false) (sym h) in
     ending_left v c.leave-last.new.table c.args.desk c.get-held.result c.leave-last.result x is said
 
 pub left-ended-requires-clause-begins : goal.left-ended-requires-clause-begins
@@ -30,8 +32,10 @@ left-ended-requires-clause-begins c = λ x.
     let v = c.args.table.now in
     let slots = c.args.self.now.course.holdings.slots.items in
     let h : c.get-held.result ≡ slot slots c.args.name = c.get-held.ensures ∙ ap (slot slots) c.from.ensures in
-    let is : c.leave-last.new.table ≡ done_on (leave (state v)) v c.args.desk c.get-held.result = c.leave-last.ensures.table ∙ ap (done_on (leave (state v)) v c.args.desk) (sym h) in
-    let said : c.leave-last.result ≡ on (is_last (state v)) false c.get-held.result = c.leave-last.ensures.last ∙ ap (on (is_last (state v)) false) (sym h) in
+    let is : c.leave-last.new.table ≡ done_on (leave (state v)) v c.args.desk c.get-held.result =
+    c.leave-last.ensures.table ∙ ap (done_on (leave (state v)) v c.args.desk) (sym h) in
+    let said : c.leave-last.result ≡ on (is_last (state v)) false c.get-held.result =
+    c.leave-last.ensures.last ∙ ap (on (is_last (state v)) false) (sym h) in
     begins_room v c.leave-last.new.table c.args.desk c.args.self.now c.leave-last.new.self
     c.get-held.result c.leave-last.result x c.known-2.ensures c.requires.fits c.requires.none c.leave-last.ensures.on.endings is said
 
@@ -40,18 +44,24 @@ left-ended-requires-clause-room c = λ x.
     let v = c.args.table.now in
     let slots = c.args.self.now.course.holdings.slots.items in
     let h : c.get-held.result ≡ slot slots c.args.name = c.get-held.ensures ∙ ap (slot slots) c.from.ensures in
-    let is : c.leave-last.new.table ≡ done_on (leave (state v)) v c.args.desk c.get-held.result = c.leave-last.ensures.table ∙ ap (done_on (leave (state v)) v c.args.desk) (sym h) in
-    let said : c.leave-last.result ≡ on (is_last (state v)) false c.get-held.result = c.leave-last.ensures.last ∙ ap (on (is_last (state v)) false) (sym h) in
-    room_weak v c.leave-last.new.table c.args.desk c.args.self.now c.get-held.result c.leave-last.result x c.known.ensures c.known-2.ensures c.requires.fits c.requires.rest is said
+    let is : c.leave-last.new.table ≡ done_on (leave (state v)) v c.args.desk c.get-held.result =
+    c.leave-last.ensures.table ∙ ap (done_on (leave (state v)) v c.args.desk) (sym h) in
+    let said : c.leave-last.result ≡ on (is_last (state v)) false c.get-held.result =
+    c.leave-last.ensures.last ∙ ap (on (is_last (state v)) false) (sym h) in
+    room_weak v c.leave-last.new.table c.args.desk c.args.self.now c.get-held.result c.leave-last.result x c.known.ensures c.known-2.ensures
+    c.requires.fits c.requires.rest is said
 
 pub returns-clause-fits : goal.returns-clause-fits
 returns-clause-fits c =
     let v = c.args.table.now in
     let slots = c.args.self.now.course.holdings.slots.items in
     let h : c.get-held.result ≡ slot slots c.args.name = c.get-held.ensures ∙ ap (slot slots) c.from.ensures in
-    let is : c.leave-last.new.table ≡ done_on (leave (state v)) v c.args.desk c.get-held.result = c.leave-last.ensures.table ∙ ap (done_on (leave (state v)) v c.args.desk) (sym h) in
-    let said : c.leave-last.result ≡ on (is_last (state v)) false c.get-held.result = c.leave-last.ensures.last ∙ ap (on (is_last (state v)) false) (sym h) in
-    let has : HasLeft c.args.desk c.args.self.now.course c.leave-last.new.self c.left-ended.new.self.course c.leave-last.new.table c.statement-statement.result c.get-held.result c.leave-last.result =
+    let is : c.leave-last.new.table ≡ done_on (leave (state v)) v c.args.desk c.get-held.result =
+    c.leave-last.ensures.table ∙ ap (done_on (leave (state v)) v c.args.desk) (sym h) in
+    let said : c.leave-last.result ≡ on (is_last (state v)) false c.get-held.result =
+    c.leave-last.ensures.last ∙ ap (on (is_last (state v)) false) (sym h) in
+    let has : HasLeft c.args.desk c.args.self.now.course c.leave-last.new.self c.left-ended.new.self.course c.leave-last.new.table c.statement-statement.result
+    c.get-held.result c.leave-last.result =
     record {
       gone = c.leave-last.ensures.on;
       empty = ap (λ (w : Walk). w.taken) c.leave-last.ensures.walk ∙ left_taken c.args.self.now.course (slice_set slots c.args.name plain)
@@ -69,9 +79,12 @@ returns-clause-stepped c =
     let v = c.args.table.now in
     let slots = c.args.self.now.course.holdings.slots.items in
     let h : c.get-held.result ≡ slot slots c.args.name = c.get-held.ensures ∙ ap (slot slots) c.from.ensures in
-    let is : c.leave-last.new.table ≡ done_on (leave (state v)) v c.args.desk c.get-held.result = c.leave-last.ensures.table ∙ ap (done_on (leave (state v)) v c.args.desk) (sym h) in
-    let said : c.leave-last.result ≡ on (is_last (state v)) false c.get-held.result = c.leave-last.ensures.last ∙ ap (on (is_last (state v)) false) (sym h) in
-    let has : HasLeft c.args.desk c.args.self.now.course c.leave-last.new.self c.left-ended.new.self.course c.leave-last.new.table c.statement-statement.result c.get-held.result c.leave-last.result =
+    let is : c.leave-last.new.table ≡ done_on (leave (state v)) v c.args.desk c.get-held.result =
+    c.leave-last.ensures.table ∙ ap (done_on (leave (state v)) v c.args.desk) (sym h) in
+    let said : c.leave-last.result ≡ on (is_last (state v)) false c.get-held.result =
+    c.leave-last.ensures.last ∙ ap (on (is_last (state v)) false) (sym h) in
+    let has : HasLeft c.args.desk c.args.self.now.course c.leave-last.new.self c.left-ended.new.self.course c.leave-last.new.table c.statement-statement.result
+    c.get-held.result c.leave-last.result =
     record {
       gone = c.leave-last.ensures.on;
       empty = ap (λ (w : Walk). w.taken) c.leave-last.ensures.walk ∙ left_taken c.args.self.now.course (slice_set slots c.args.name plain)
@@ -81,7 +94,8 @@ returns-clause-stepped c =
       roomy = c.left-ended.ensures.roomy;
     } in
     ⊎_elim
-    (λ e. stepped_left c.args.desk c.args.self.now c.left-ended.new.self v c.leave-last.new.table c.says.result (act.Leave c.args.name) c.get-held.result c.leave-last.result
+    (λ e. stepped_left c.args.desk c.args.self.now c.left-ended.new.self v c.leave-last.new.table c.says.result
+    (act.Leave c.args.name) c.get-held.result c.leave-last.result
     c.left-ended.result c.statement-statement.result c.statement-statement.ensures c.requires.rest c.requires.none c.requires.within e refl
     (ap (λ (o : Option Pointer). acts v c.args.desk (walk c.args.self.now.course) (task_at c.args.self.now.course).statement (rest c.args.self.now.course)
     (act.Leave c.args.name) (option_map (leave (state v)) o) Rest) (sym h))
@@ -91,7 +105,8 @@ returns-clause-stepped c =
     (act.Leave c.args.name) c.get-held.result c.leave-last.result c.statement-statement.result has (sym h) said c.leave-last.ensures.walk)
     (c.says.ensures ∙ ap (λ (b : Bool). cond b (Event (record { statement = c.statement-statement.result; answer = None; ended = c.left-ended.result }))
     (Quiet (record { statement = c.statement-statement.result; answer = None; ended = c.left-ended.result }))) c.is_some.ensures))
-    (λ e. stepped_left c.args.desk c.args.self.now c.left-ended.new.self v c.leave-last.new.table c.says.result (act.Clear c.args.name) c.get-held.result c.leave-last.result
+    (λ e. stepped_left c.args.desk c.args.self.now c.left-ended.new.self v c.leave-last.new.table c.says.result
+    (act.Clear c.args.name) c.get-held.result c.leave-last.result
     c.left-ended.result c.statement-statement.result c.statement-statement.ensures c.requires.rest c.requires.none c.requires.within e refl
     (ap (λ (o : Option Pointer). acts v c.args.desk (walk c.args.self.now.course) (task_at c.args.self.now.course).statement (rest c.args.self.now.course)
     (act.Clear c.args.name) (option_map (leave (state v)) o) Rest) (sym h))

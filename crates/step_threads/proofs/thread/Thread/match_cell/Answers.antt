@@ -95,7 +95,11 @@ returns-clause-fits c =
     let kind = c.kind_in-kind.ensures ∙ ap (kind_in (state v)) c.cell-at.ensures in
     subst (λ (h : Half). Fits d (record { course = swap.new.self; stock = t.stock; half = h }) swap.new.table)
     (sym (c.returning-self.ensures ∙ ap (λ (q : Kind). gives_back q m x x.owned) kind))
-    (subst (λ (u : Story). Fits d (record { course = swap.new.self; stock = t.stock; half = gives_back (kind_in (state v) (cell_at (state v) t.course.holdings.slots.items n)) m x x.owned }) u) (sym table)
+    (subst (λ (u : Story). Fits d (record {
+      course = swap.new.self;
+      stock = t.stock;
+      half = gives_back (kind_in (state v) (cell_at (state v) t.course.holdings.slots.items n)) m x x.owned;
+    }) u) (sym table)
     (compare_swapped d t v k n c.args.weak x r.fits r.act swap.new.self (compared_in slots (comparing slots k c.args.weak)) c.known.ensures m
     (looking_claims t x r.half) (match_none d t v k n c.args.weak x r.fits r.act r.half)
     (subst (λ (u : Story). HasGoneOn d t.course swap.new.self u) table (swap.ensures.on hit))))

@@ -28,7 +28,8 @@ returns-clause-stepped c =
     let b = c.offer-event.result in
     let on = c.offer-event.ensures in
     step_offers c.args.desk t c.args.table.now c.args.name c.args.cell r.rest r.none r.within r.act (sym c.is_there.ensures ∙ c.if-not-is_there.false) b _ _ _
-    (c.says.ensures ∙ ap (λ (s : Said). cond {A = Stepped} b (Event s) (Quiet s)) (c.silent.ensures ∙ ap silent c.statement-statement.ensures)) on.event on.table on.walk r.rest
+    (c.says.ensures ∙ ap (λ (s : Said). cond {A = Stepped} b (Event s) (Quiet s)) (c.silent.ensures ∙ ap silent c.statement-statement.ensures))
+    on.event on.table on.walk r.rest
 
 pub refuse-requires-clause-act : goal.refuse-requires-clause-act
 refuse-requires-clause-act c = inr (c.args.name, inl c.requires.act)

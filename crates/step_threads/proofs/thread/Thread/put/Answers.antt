@@ -20,7 +20,8 @@ left-ended-requires-clause-ending c = λ x.
     let v = c.args.table.now in
     let slots = c.args.self.now.course.holdings.slots.items in
     let h : c.get-held.result ≡ slot slots c.args.name = c.get-held.ensures ∙ ap (slot slots) c.from.ensures in
-    let is : c.put-last.new.table ≡ done_on (leave (state v)) v c.args.desk c.get-held.result = c.put-last.ensures.table ∙ ap (done_on (leave (state v)) v c.args.desk) (sym h) in
+    let is : c.put-last.new.table ≡ done_on (leave (state v)) v c.args.desk c.get-held.result =
+    c.put-last.ensures.table ∙ ap (done_on (leave (state v)) v c.args.desk) (sym h) in
     let said : c.put-last.result ≡ on (is_last (state v)) false c.get-held.result = c.put-last.ensures.last ∙ ap (on (is_last (state v)) false) (sym h) in
     ending_left v c.put-last.new.table c.args.desk c.get-held.result c.put-last.result x is said
 
@@ -29,7 +30,8 @@ left-ended-requires-clause-begins c = λ x.
     let v = c.args.table.now in
     let slots = c.args.self.now.course.holdings.slots.items in
     let h : c.get-held.result ≡ slot slots c.args.name = c.get-held.ensures ∙ ap (slot slots) c.from.ensures in
-    let is : c.put-last.new.table ≡ done_on (leave (state v)) v c.args.desk c.get-held.result = c.put-last.ensures.table ∙ ap (done_on (leave (state v)) v c.args.desk) (sym h) in
+    let is : c.put-last.new.table ≡ done_on (leave (state v)) v c.args.desk c.get-held.result =
+    c.put-last.ensures.table ∙ ap (done_on (leave (state v)) v c.args.desk) (sym h) in
     let said : c.put-last.result ≡ on (is_last (state v)) false c.get-held.result = c.put-last.ensures.last ∙ ap (on (is_last (state v)) false) (sym h) in
     begins_room v c.put-last.new.table c.args.desk c.args.self.now c.put-last.new.self
     c.get-held.result c.put-last.result x c.known-2.ensures c.requires.fits c.requires.none c.put-last.ensures.on.endings is said
@@ -39,18 +41,22 @@ left-ended-requires-clause-room c = λ x.
     let v = c.args.table.now in
     let slots = c.args.self.now.course.holdings.slots.items in
     let h : c.get-held.result ≡ slot slots c.args.name = c.get-held.ensures ∙ ap (slot slots) c.from.ensures in
-    let is : c.put-last.new.table ≡ done_on (leave (state v)) v c.args.desk c.get-held.result = c.put-last.ensures.table ∙ ap (done_on (leave (state v)) v c.args.desk) (sym h) in
+    let is : c.put-last.new.table ≡ done_on (leave (state v)) v c.args.desk c.get-held.result =
+    c.put-last.ensures.table ∙ ap (done_on (leave (state v)) v c.args.desk) (sym h) in
     let said : c.put-last.result ≡ on (is_last (state v)) false c.get-held.result = c.put-last.ensures.last ∙ ap (on (is_last (state v)) false) (sym h) in
-    room_weak v c.put-last.new.table c.args.desk c.args.self.now c.get-held.result c.put-last.result x c.known.ensures c.known-2.ensures c.requires.fits c.requires.rest is said
+    room_weak v c.put-last.new.table c.args.desk c.args.self.now c.get-held.result c.put-last.result x c.known.ensures c.known-2.ensures
+    c.requires.fits c.requires.rest is said
 
 pub returns-clause-fits : goal.returns-clause-fits
 returns-clause-fits c =
     let v = c.args.table.now in
     let slots = c.args.self.now.course.holdings.slots.items in
     let h : c.get-held.result ≡ slot slots c.args.name = c.get-held.ensures ∙ ap (slot slots) c.from.ensures in
-    let is : c.put-last.new.table ≡ done_on (leave (state v)) v c.args.desk c.get-held.result = c.put-last.ensures.table ∙ ap (done_on (leave (state v)) v c.args.desk) (sym h) in
+    let is : c.put-last.new.table ≡ done_on (leave (state v)) v c.args.desk c.get-held.result =
+    c.put-last.ensures.table ∙ ap (done_on (leave (state v)) v c.args.desk) (sym h) in
     let said : c.put-last.result ≡ on (is_last (state v)) false c.get-held.result = c.put-last.ensures.last ∙ ap (on (is_last (state v)) false) (sym h) in
-    let has : HasLeft c.args.desk c.args.self.now.course c.put-last.new.self c.left-ended.new.self.course c.put-last.new.table c.statement-statement.result c.get-held.result c.put-last.result =
+    let has : HasLeft c.args.desk c.args.self.now.course c.put-last.new.self c.left-ended.new.self.course c.put-last.new.table c.statement-statement.result
+    c.get-held.result c.put-last.result =
     record {
       gone = c.put-last.ensures.on;
       empty = ap (λ (w : Walk). w.taken) c.put-last.ensures.walk
@@ -68,9 +74,11 @@ returns-clause-stepped c =
     let v = c.args.table.now in
     let slots = c.args.self.now.course.holdings.slots.items in
     let h : c.get-held.result ≡ slot slots c.args.name = c.get-held.ensures ∙ ap (slot slots) c.from.ensures in
-    let is : c.put-last.new.table ≡ done_on (leave (state v)) v c.args.desk c.get-held.result = c.put-last.ensures.table ∙ ap (done_on (leave (state v)) v c.args.desk) (sym h) in
+    let is : c.put-last.new.table ≡ done_on (leave (state v)) v c.args.desk c.get-held.result =
+    c.put-last.ensures.table ∙ ap (done_on (leave (state v)) v c.args.desk) (sym h) in
     let said : c.put-last.result ≡ on (is_last (state v)) false c.get-held.result = c.put-last.ensures.last ∙ ap (on (is_last (state v)) false) (sym h) in
-    let has : HasLeft c.args.desk c.args.self.now.course c.put-last.new.self c.left-ended.new.self.course c.put-last.new.table c.statement-statement.result c.get-held.result c.put-last.result =
+    let has : HasLeft c.args.desk c.args.self.now.course c.put-last.new.self c.left-ended.new.self.course c.put-last.new.table c.statement-statement.result
+    c.get-held.result c.put-last.result =
     record {
       gone = c.put-last.ensures.on;
       empty = ap (λ (w : Walk). w.taken) c.put-last.ensures.walk
@@ -79,7 +87,8 @@ returns-clause-stepped c =
       list = c.left-ended.ensures.endings;
       roomy = c.left-ended.ensures.roomy;
     } in
-    stepped_left c.args.desk c.args.self.now c.left-ended.new.self v c.put-last.new.table c.says.result (act.Put c.args.name) c.get-held.result c.put-last.result
+    stepped_left c.args.desk c.args.self.now c.left-ended.new.self v c.put-last.new.table c.says.result
+    (act.Put c.args.name) c.get-held.result c.put-last.result
     c.left-ended.result c.statement-statement.result c.statement-statement.ensures c.requires.rest c.requires.none c.requires.within c.requires.act refl
     (ap (λ (o : Option Pointer). acts v c.args.desk (walk c.args.self.now.course) (task_at c.args.self.now.course).statement (rest c.args.self.now.course)
     (act.Put c.args.name) (option_map (leave (state v)) o) Rest) (sym h))

@@ -29,7 +29,12 @@ returns-clause-fits c =
     let half : c.turning-self.result ≡ Refill Turning (cell_at (state v) t.course.holdings.slots.items c.args.cell) (more_taken x) n =
     c.turning-self.ensures ∙ ap (λ (y : Cell). Refill Turning y (more_taken x) n) c.cell-at.ensures in
     subst (λ (h : Half). Fits d (record { course = c'; stock = t.stock; half = h }) c.take_fund.new.table) (sym half)
-    (subst (λ (u : Story). Fits d (record { course = c'; stock = t.stock; half = Refill Turning (cell_at (state v) t.course.holdings.slots.items c.args.cell) (more_taken x) n }) u) (sym is)
+    (subst (λ (u : Story). Fits d (record {
+      course = c';
+      stock = t.stock;
+      half = Refill Turning (cell_at (state v) t.course.holdings.slots.items c.args.cell)
+          (more_taken x) n;
+    }) u) (sym is)
     (fits_taken d t v c.args.cell x c.requires.fits c' n c.known.ensures c.requires.half c.requires.act
     (subst (λ (u : Story). HasGoneOn d t.course c' u) is (c.take_fund.ensures.on c.if-not-take_fund.false))))
 
