@@ -14,8 +14,8 @@ use std::thread::Threads;
 /// What a round came to.
 #[derive(Clone, Copy, Drop)]
 pub(crate) struct Report {
-    /// Four threads had a table, each value came out once, no visit was lost, and the census has the objects whose values
-    /// weren't out.
+    /// Four threads had a table, each value came out once, no visit was lost, and the census has the objects whose
+    /// values weren't out.
     pub(crate) balances: bool,
     calls: u64,
     done: u64,
