@@ -68,7 +68,7 @@ module _ {V : Type 0} where
   shared_after s d (Split e amount x y) = refl
   shared_after s d (Join e) = refl
 
-  shared_led : (z : Opening) (h : List (Entry V)) → (leads z h).shared ≡ z.shared_cells
+  pub shared_led : (z : Opening) (h : List (Entry V)) → (leads z h).shared ≡ z.shared_cells
   shared_led z [] = refl
   shared_led z (e ∷ h) = shared_after (leads z h) e.desk e.event ∙ shared_led z h
 

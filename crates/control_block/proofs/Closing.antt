@@ -58,11 +58,12 @@ module _ {V : Type 0} where
         (at_map view_of s.views id v at) awake w in
         λ i. leads (opening_of (same_shape i)) (e i)
 
-    nobody_names : (b j : ℕ) (u : View V) → get_elem? (map view_of s.views) j ≡ some u → NamesBlock (leads (opening_of k) r.history) u.pending b → ⊥
-    nobody_names b j u there names = go u.spent refl
+    -- no call is half done
+    pub all_idle : (j : ℕ) (u : View V) → get_elem? (map view_of s.views) j ≡ some u → u.pending ≡ Idle
+    all_idle j u there = go u.spent refl
       where
-        go : (t : Bool) → u.spent ≡ t → ⊥
-        go true t = subst (λ p. NamesBlock (leads (opening_of k) r.history) p b) (r.stands.team.rests j u there t) names
+        go : (t : Bool) → u.spent ≡ t → u.pending ≡ Idle
+        go true t = r.stands.team.rests j u there t
         go false t =
             let w = subst (λ y. (leads (opening_of y) v.view.seen).allowance v.view.name ≡ y.allowance) same_shape whole in
             let whole' : (leads (opening_of k) r.history).allowance v.view.name ≡ k.allowance = ap
@@ -70,7 +71,10 @@ module _ {V : Type 0} where
             let same = looks.alone (opening_of k) s.words (map view_of s.views) r.history r.stands id v.view
             (at_map view_of s.views id v at) awake whole' j u there t in
             let e = some-injective u v.view (sym there ∙ (ap (get_elem? (map view_of s.views)) same ∙ at_map view_of s.views id v at)) in
-            subst (λ p. NamesBlock (leads (opening_of k) r.history) p b) (ap (λ (y : View V). y.pending) e ∙ idle) names
+            ap (λ (y : View V). y.pending) e ∙ idle
+
+    nobody_names : (b j : ℕ) (u : View V) → get_elem? (map view_of s.views) j ≡ some u → NamesBlock (leads (opening_of k) r.history) u.pending b → ⊥
+    nobody_names b j u there names = subst (λ p. NamesBlock (leads (opening_of k) r.history) p b) (all_idle j u there) names
 
     -- the counts of a block of which no object is ending
     pub exact_counts : (b : ℕ) → InShape (opening_of k) b

@@ -8,6 +8,7 @@ pub mod GoneDesks
 pub mod GoneWeakDesks
 pub mod ClearGone
 pub mod StoreGone
+pub mod ClosedCells
 pub mod Closing
 pub mod EndingCounts
 pub mod EndingNames
@@ -53,3 +54,5 @@ pub mod Sole
 pub mod Latest
 pub mod SlotLists
 pub mod HandleLists
+pub mod HolderLists
+pub mod Holders

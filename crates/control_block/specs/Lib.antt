@@ -14,6 +14,7 @@ pub mod Refusals
 pub mod Handles
 pub mod Inside
 pub mod Census
+pub mod Holders
 pub mod Parting
 pub mod Leaving
 pub mod Storing

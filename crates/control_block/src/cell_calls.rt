@@ -1,22 +1,13 @@
-//! Calls of a desk on cells, for the crate above. Each makes its events, and when it returns nothing is under way: no
-//! fund is out, and no load.
+//! Cells as the calls on them name them: where one is, and what goes in or comes out.
 ghost use Rattle.std.specs.Coded.{Coded-set};
-ghost use Rattle.std.specs.Prelude.{◌≡◌, ◌↔◌, ◌+◌, IfErr, IfOk, IsErr, OnOk};
-ghost use Rattle.control_word.specs.declared.event.Event.TheVariants.{Load, Swap};
-ghost use Rattle.control_block.specs.Desks.{Belongs};
-ghost use Rattle.control_block.specs.CellCalls.{Holds, IsOpenAt, IsSite, cell_at, handle_in, with_handle};
-ghost use Rattle.control_block.specs.CellCalls.{without_handle, word_at};
-ghost use Rattle.control_block.specs.Desks.{Adds, Keeps, allowance_of, bag_of, held_of};
+ghost use Rattle.std.specs.Prelude.{◌≡◌, ◌+◌};
+ghost use Rattle.control_block.specs.CellCalls.{IsSite, word_at};
 ghost use Rattle.control_block.specs.Handles.{IsProper, IsProper-prop};
 
-use crate::cell_plays::Aimed;
-use crate::desk::Desk;
-use crate::domain::Domain;
-use crate::rounds;
+pub use crate::calls::cells::{exchange, load};
 use control_word::handle::Kind;
 use control_word::layout::{MEMBERS, block_word, cell_word};
-use control_word::{Block, CellWord, Place, Refusal};
-use std::sync::Wait;
+use control_word::{Block, Place};
 
 /// Where a cell is: a free one by its number among all free cells, the shared ones first, or a member (0 first, 1 next,
 /// 2 up) of the object in a block.
@@ -51,79 +42,5 @@ pub(crate) fn word_of(blocks: u32, site: Site) -> usize
     match site {
         Site::Free(number) => cell_word(blocks, number),
         Site::Member(block, member) => block_word(block, MEMBERS + member as usize),
-    }
-}
-
-/// A copy of what a cell holds ([util.smartptr.atomic.shared], [util.smartptr.atomic.weak]). It is refused `Limit` just
-/// where the desk is at its allowance, and then nothing changes.
-#[inline(always)]
-pub fn load<V: Drop + Send, A: Aimed, R: Wait>(
-    rt: &R,
-    domain: &Domain<V>,
-    desk: &mut Desk<V>,
-    cell: CellAt,
-) -> Result<Content, Refusal>
-    requires domain { Belongs desk.old domain.now }
-    requires cell { IsOpenAt desk.old cell.site cell.kind × (A.cell ≡ cell_at desk.old cell.site) }
-    ensures limit { IsErr result ↔ (held_of desk.old ≡ allowance_of desk.old) }
-    ensures refused { IfErr result (λ why. (why ≡ Refusal.Limit) × (desk.new ≡ desk.old)) }
-    ensures event { IfOk result
-        (λ h. Adds desk.old (Load A.cell (handle_in desk.new cell.kind h.block h.place)) desk.new) }
-    ensures bag { IfOk result (λ h. bag_of desk.new ≡ with_handle cell.kind h.block h.place (bag_of desk.old)) }
-    ensures held { OnOk result (desk.new.held ≡ desk.old.held + 1) }
-    ensures holds { IfOk result (λ h. Holds desk.new cell.kind h.block h.place) }
-    ensures kind { IfOk result (λ h. h.kind ≡ cell.kind) }
-    ensures keeps { OnOk result (Keeps desk.old desk.new) }
-{
-    if desk.is_full() {
-        return Err(Refusal::Limit);
-    }
-    let board = &domain.table.shared;
-    let word = word_of(domain.shape.blocks, cell.site);
-    desk.held += 1; // here, since each locked instruction that follows waits for what was stored before it
-    let seen = rounds::cells::load::<V, A, R>(rt, board, &mut desk.seat, word, cell.kind);
-    Ok(Content {
-        kind: cell.kind,
-        block: seen.owned,
-        place: seen.place,
-    })
-}
-
-/// A handle that the desk has goes into a cell, and what the cell held comes out ([util.smartptr.atomic.shared],
-/// [util.smartptr.atomic.weak]). It waits for nobody.
-#[inline]
-pub fn exchange<V: Drop + Send, A: Aimed>(
-    domain: &Domain<V>,
-    desk: &mut Desk<V>,
-    cell: CellAt,
-    new: Content,
-) -> Content
-    requires domain { Belongs desk.old domain.now }
-    requires cell { IsOpenAt desk.old cell.site cell.kind × (A.cell ≡ cell_at desk.old cell.site) }
-    requires new { A.new ≡ handle_in desk.old cell.kind new.block new.place }
-    requires holds { Holds desk.old cell.kind new.block new.place }
-    requires kind { new.kind ≡ cell.kind }
-    ensures event { Adds desk.old
-        (Swap A.cell A.new (handle_in desk.new cell.kind result.block result.place)) desk.new }
-    ensures bag { bag_of desk.new ≡ with_handle cell.kind result.block result.place
-        (without_handle cell.kind new.block new.place (bag_of desk.old)) }
-    ensures held { desk.new.held ≡ desk.old.held }
-    ensures holds { Holds desk.new cell.kind result.block result.place }
-    ensures kind { result.kind ≡ cell.kind }
-    ensures keeps { Keeps desk.old desk.new }
-{
-    let board = &domain.table.shared;
-    let seat = &mut desk.seat;
-    let word = word_of(domain.shape.blocks, cell.site);
-    let full = CellWord {
-        owned: new.block,
-        place: new.place,
-        taken: 0,
-    };
-    let old = rounds::cells::swap::<V, A>(board, seat, word, cell.kind, full);
-    Content {
-        kind: cell.kind,
-        block: old.owned,
-        place: old.place,
     }
 }

@@ -4,6 +4,9 @@ ghost use Rattle.std.specs.Coded.{Coded-set};
 ghost use Rattle.control_word.specs.declared.handle.Kind.TheVariants.{Owner, Weak};
 ghost use Rattle.control_block.specs.Handles.{IsProper, IsProper-prop};
 
+mod shared_parts;
+mod weak_parts;
+
 use control_word::handle::Kind;
 use control_word::{Block, Place};
 

@@ -4,24 +4,21 @@
 mod board;
 pub mod calls;
 pub mod cell_calls;
-pub mod cell_compare_calls;
-pub mod cell_plays;
 pub mod census;
-pub mod clear_calls;
 pub mod desk;
 pub mod domain;
 pub mod handles;
 pub mod in_place;
-mod join;
 pub mod laws;
-pub mod lock_calls;
+mod parting;
 mod pause;
 mod plays;
 mod rounds;
-mod shared_parts;
 mod slot;
-mod split;
 mod steps;
-pub mod store_calls;
-pub mod visits;
-mod weak_parts;
+
+pub use calls::{
+    clears as clear_calls, compares as cell_compare_calls, locks as lock_calls,
+    stores as store_calls, visits,
+};
+pub use plays::cells as cell_plays;

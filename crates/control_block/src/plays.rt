@@ -9,6 +9,7 @@ ghost use Rattle.control_block.specs.Plays.{shared, weakly_shared, weakly_left, 
 ghost use Rattle.control_block.specs.Plays.{left, gave_back, fetched, began, wrote, made, finished, parted, goes_on};
 ghost use Rattle.control_block.specs.Plays.{comes_off, grown, over, joined};
 
+pub mod cells;
 pub mod clears;
 pub mod doors;
 pub mod funds;

@@ -1,18 +1,16 @@
 //! Each kind of step, as a function. Objects go by numbers, which the proof of a call picks; words are their blocks'.
-ghost use Rattle.std.specs.Prelude.{◌≡◌, ℕ, ◌+◌, ◌<◌, ◌≤◌, ◌==◌, false, List, [], ◌∷◌};
-ghost use Rattle.std.specs.Prelude.{length, slice_set, Option, None, Some, is_some, IfSome};
+ghost use Rattle.std.specs.Prelude.{◌≡◌, ◌+◌, ◌<◌, ◌≤◌, ◌==◌, [], Option, Some, is_some};
+ghost use Rattle.std.specs.Prelude.{IfSome};
 ghost use Rattle.control_word.specs.Histories.{value};
 ghost use Rattle.control_block.specs.Rule.{opening_of};
 ghost use Rattle.control_word.specs.Handles.{IsPointer, handle, owner, weak_of};
 ghost use Rattle.control_word.specs.Layout.{spot};
-ghost use Rattle.control_word.specs.State.{Has, count, stored};
-ghost use Rattle.control_word.specs.Words.{flags_of};
-ghost use Rattle.control_word.specs.declared.event.Event.TheVariants.{Count, Expired, Finish, Leave, Make, Read, Share};
+ghost use Rattle.control_word.specs.State.{count};
+ghost use Rattle.control_word.specs.declared.event.Event.TheVariants.{Count, Expired, Finish, Leave, Read, Share};
 ghost use Rattle.control_word.specs.declared.event.Event.TheVariants.{WeakLeave, WeakShare};
 ghost use Rattle.control_word.specs.declared.handle.Kind.TheVariants.{Owner, Weak};
-ghost use Rattle.control_block.specs.Plays.{tells, known, Ends, Rests, Holding, HasRoomFor, IsClear, IsNear};
-ghost use Rattle.control_block.specs.Plays.{IsPrepared, IsTold, MayShareWeakly};
-ghost use Rattle.control_block.specs.declared.board.Sight.{Sight};
+ghost use Rattle.control_block.specs.Plays.{tells, known, Ends, Rests, Holding, HasRoomFor, IsClear, IsNear, IsTold};
+ghost use Rattle.control_block.specs.Plays.{MayShareWeakly};
 
 pub mod cells;
 pub mod chairs;
@@ -22,17 +20,17 @@ pub mod funds;
 pub mod in_hand;
 pub mod leaving;
 pub mod locks;
+pub mod making;
 
 use crate::board::{Board, Chair};
 use crate::in_place::InPlace;
 use crate::plays::{
-    Begins, Claims, Counts, Fetches, FindsExpired, Finishes, MakeArgs, Peeks, Reads, Shares,
-    StepArgs, WeakShares, Writes,
+    Counts, Fetches, FindsExpired, Finishes, Peeks, Reads, Shares, StepArgs, WeakShares,
 };
 use control_word::counts::told_count;
-use control_word::layout::{ENABLED, FIELDS, FLAGS, NULL, OWNERS, WEAKS, block_word};
+use control_word::layout::{FIELDS, FLAGS, OWNERS, WEAKS, block_word};
 use control_word::{Block, Place};
-use std::marker::Brand;
+pub use making::make;
 
 /// Share: one owner more, under an owner that the desk holds ([util.smartptr.shared.const]).
 pub fn share<V, M: StepArgs>(board: &Board<V>, chair: &mut Chair<V>, block: Block)
@@ -161,107 +159,6 @@ pub fn leave<V: Drop + Send, M: StepArgs>(
         (λ x. value (opening_of chair.old.me.0.shape) chair.new.me.0.view.seen M.object ≡ Some x) }
 {
     leaving::leave::<V, M>(board, chair, block, 0)
-}
-
-/// The first write of a make: the weak word of an own vacant block becomes 1, and its empty slot is in hand.
-#[inline(always)]
-fn begin<V, M: StepArgs>(board: &Board<V>, chair: &mut Chair<V>, block: Block)
-    requires board { chair.old.table_id ≡ board.now.table_id }
-    requires rests { Rests chair.old.me }
-    requires word { (0 < block.0) × (spot block.0 1 < board.now.table_id.words) }
-    requires stored { (M.block ≡ block) × Has (stored chair.old.me.0.view.name block.0)
-        (known chair.old.me.0).stores }
-    ensures chair { (chair.new.table_id ≡ chair.old.table_id) × (chair.new.id ≡ chair.old.id) }
-    ensures prepared { (l : List ℕ) × IsPrepared chair.old.me.0 block chair.new.me l None }
-{
-    board.store::<Begins<M>>(chair, block_word(block, WEAKS), 1);
-}
-
-/// A further write of a make: flags are word 0, fields words 1 to 4. A word that has its value is only looked at.
-#[inline(always)]
-fn write<V, M: StepArgs>(
-    board: &Board<V>,
-    chair: &mut Chair<V>,
-    block: Block,
-    word: usize,
-    value: u64,
-)
-    requires board { chair.old.table_id ≡ board.now.table_id }
-    requires word { (0 < block.0) × (spot block.0 9 < board.now.table_id.words) × (word < 5) }
-    requires meant { (M.block ≡ block) × (M.word ≡ word) }
-    requires prepared { (v : Sight V) × (l : List ℕ) × (x : Option V) × (v.view.spent ≡ false)
-        × IsPrepared v block chair.old.me l x }
-    ensures chair { (chair.new.table_id ≡ chair.old.table_id) × (chair.new.id ≡ chair.old.id) }
-    ensures wrote { (v : Sight V) (l : List ℕ) (x : Option V) → v.view.spent ≡ false
-        → IsPrepared v block chair.old.me l x → IsPrepared v block chair.new.me (slice_set l word value) x }
-{
-    let place = block_word(block, FLAGS + word);
-    if board.load::<Writes<M>>(chair, place) != value {
-        board.store::<Writes<M>>(chair, place, value);
-    }
-}
-
-/// All writes of a make before its claim.
-#[inline(always)]
-fn prepare<V>(board: &Board<V>, chair: &mut Chair<V>, block: Block, flags: u64, fields: [u64; 4])
-    requires sized { length fields ≡ 4 }
-    requires board { chair.old.table_id ≡ board.now.table_id }
-    requires rests { Rests chair.old.me }
-    requires word { (0 < block.0) × (spot block.0 9 < board.now.table_id.words) }
-    requires stored { Has (stored chair.old.me.0.view.name block.0) (known chair.old.me.0).stores }
-    ensures chair { (chair.new.table_id ≡ chair.old.table_id) × (chair.new.id ≡ chair.old.id) }
-    ensures prepared { IsPrepared chair.old.me.0 block chair.new.me (flags ∷ fields) None }
-{
-    begin::<V, Brand>(board, chair, block);
-    write::<V, Brand>(board, chair, block, 0, flags);
-    write::<V, Brand>(board, chair, block, 1, fields[0]);
-    write::<V, Brand>(board, chair, block, 2, fields[1]);
-    write::<V, Brand>(board, chair, block, 3, fields[2]);
-    write::<V, Brand>(board, chair, block, 4, fields[3]);
-}
-
-/// The claim: a prepared block with a value in its slot becomes an object with one owner.
-#[inline(always)]
-fn claim<V, M: MakeArgs>(board: &Board<V>, chair: &mut Chair<V>, block: Block)
-    requires board { chair.old.table_id ≡ board.now.table_id }
-    requires word { (0 < block.0) × (spot block.0 0 < board.now.table_id.words) }
-    requires planned { (M.block ≡ block) × (length M.fields ≡ 4) }
-    requires prepared { (v : Sight V) × (x : V) × (v.view.spent ≡ false) × HasRoomFor v
-        × IsPrepared v block chair.old.me (flags_of M.enabled M.null ∷ M.fields) (Some x) }
-    ensures chair { (chair.new.table_id ≡ chair.old.table_id) × (chair.new.id ≡ chair.old.id)
-        × (chair.new.me.1 ≡ []) }
-    ensures event { (v : Sight V) (x : V) → IsPrepared v block chair.old.me (flags_of M.enabled M.null ∷ M.fields)
-        (Some x) → tells (Make block M.enabled M.null M.fields x) v chair.new.me.0 }
-{
-    board.swap::<Claims<M>>(chair, block_word(block, OWNERS), 1);
-}
-
-/// Make: an object in an own vacant block, with one owner ([util.smartptr.shared.create]; for an owned null pointer
-/// [util.smartptr.shared.const]).
-#[inline(always)]
-pub fn make<V: Drop + Send, M: MakeArgs>(
-    board: &Board<V>,
-    chair: &mut Chair<V>,
-    block: Block,
-    enabled: bool,
-    null: bool,
-    fields: [u64; 4],
-    value: V,
-)
-    requires planned { (M.block ≡ block) × (M.enabled ≡ enabled) × (M.null ≡ null) × (M.fields ≡ fields) }
-    requires board { chair.old.table_id ≡ board.now.table_id }
-    requires rests { Rests chair.old.me }
-    requires word { (0 < block.0) × (spot block.0 9 < board.now.table_id.words) }
-    requires stored { Has (stored chair.old.me.0.view.name block.0) (known chair.old.me.0).stores }
-    requires room { HasRoomFor chair.old.me.0 }
-    ensures chair { (chair.new.table_id ≡ chair.old.table_id) × (chair.new.id ≡ chair.old.id)
-        × (chair.new.me.1 ≡ []) }
-    ensures event { tells (Make block enabled null fields value) chair.old.me.0 chair.new.me.0 }
-{
-    let flags = u64::from(enabled) * ENABLED + u64::from(null) * NULL;
-    prepare(board, chair, block, flags, fields);
-    in_hand::fill(board, chair, block, value);
-    claim::<V, M>(board, chair, block);
 }
 
 /// Finish: the value of an object that has ended comes out of its cell, and the ending gives up the owners' common weak

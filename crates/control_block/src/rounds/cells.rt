@@ -14,8 +14,8 @@ ghost use Rattle.control_block.specs.Inside.{IsSized};
 ghost use Rattle.control_block.specs.Plays.{HasRoomFor, Holding, Rests, goes_on, in_call, known};
 
 use crate::board::{Board, Chair};
-use crate::cell_plays::Aimed;
 use crate::plays::StepArgs;
+use crate::plays::cells::Aimed;
 use crate::steps::{cells, funds};
 use control_word::handle::Kind;
 use control_word::shape::CELL_FUNDS;

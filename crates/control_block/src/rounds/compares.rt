@@ -12,8 +12,8 @@ ghost use Rattle.control_block.specs.Inside.{IsSized};
 ghost use Rattle.control_block.specs.Plays.{HasRoomFor, Holding, Rests, known};
 
 use crate::board::{Board, Chair};
-use crate::cell_plays::Aimed;
 use crate::pause::Pause;
+use crate::plays::cells::Aimed;
 use crate::rounds::cells::{bring_for, settle, top_up};
 use crate::steps::{cells, funds};
 use control_word::CellWord;

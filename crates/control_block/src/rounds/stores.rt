@@ -12,8 +12,8 @@ ghost use Rattle.control_block.specs.Leaving.{OutAndGone, OutAndGoneWeakly};
 ghost use Rattle.control_block.specs.Plays.{HasRoomFor, Holding, Rests, known};
 
 use crate::board::{Board, Chair};
-use crate::cell_plays::Aimed;
 use crate::in_place::InPlace;
+use crate::plays::cells::Aimed;
 use crate::rounds::cells::swap_in;
 use crate::steps::leaving;
 use control_word::CellWord;

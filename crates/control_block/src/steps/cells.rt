@@ -12,7 +12,7 @@ ghost use Rattle.control_block.specs.FundPlays.{Owes, owing};
 ghost use Rattle.control_block.specs.CellPlays.{Gave, IsCellAt, IsHeld, IsWordOf, Took, debt, kind_in};
 
 use crate::board::{Board, Chair};
-use crate::cell_plays::{
+use crate::plays::cells::{
     Aimed, CompareSwaps, DiffersEmpty, LoadsEmpty, Peeks, Refills, Swaps, TakesToCompare,
     TakesToLoad,
 };

@@ -1,0 +1,46 @@
+-- The cells that hold an object, one after another.
+use Rattle.std.proofs.Common.{◌≡◌, ◌≢◌, ℕ, suc, ◌+◌, ◌%◌, ◌==◌, List, [], ◌∷◌, ◌++◌, refl, sym, ap, ◌∙◌, arith}
+use Rattle.std.proofs.Common.{eq-eqb, ne_eqb}
+use Rattle.std.proofs.lemmas.Bool.{cond-true, cond-false}
+use Rattle.std.specs.Prelude.{slice_index}
+use Rattle.control_block.specs.CellCalls.{word_at}
+use Rattle.control_block.specs.Census.{CensusNow}
+use Rattle.control_block.specs.Holders.{block_holders, free_cell, free_holders, if_holds, member_holders, owned_at}
+use Rattle.control_block.specs.declared.cell_calls.CellAt.{CellAt}
+
+none_right : {A : Type 0} → (l : List A) → l ++ [] ≡ l
+none_right [] = refl
+none_right (x ∷ xs) = ap (λ l. x ∷ l) (none_right xs)
+
+join : {A : Type 0} → (x y z : List A) → (x ++ y) ++ z ≡ x ++ (y ++ z)
+join [] y z = refl
+join (u ∷ us) y z = ap (λ l. u ∷ l) (join us y z)
+
+module _ (c : CensusNow) (b : ℕ) where
+  pub one_more : (x : CellAt) (w : ℕ) (old next : List CellAt) → w ≡ slice_index c.words (word_at c.blocks x.site)
+      → w % 65536 ≡ b → next ≡ old ++ x ∷ [] → next ≡ old ++ if_holds c b x
+  one_more x w old next word is e =
+      let t : owned_at c x.site ≡ b = ap (λ n. n % 65536) (sym word) ∙ is in
+      e ∙ ap (λ l. old ++ l) (sym (cond-true (owned_at c x.site == b) (x ∷ []) [] (eq-eqb (owned_at c x.site) b t)))
+
+  pub none_more : (x : CellAt) (w : ℕ) (old : List CellAt) → w ≡ slice_index c.words (word_at c.blocks x.site)
+      → w % 65536 ≢ b → old ≡ old ++ if_holds c b x
+  none_more x w old word isnt =
+      let t : owned_at c x.site ≢ b = λ e. isnt (ap (λ n. n % 65536) word ∙ e) in
+      sym (none_right old)
+      ∙ ap (λ l. old ++ l) (sym (cond-false (owned_at c x.site == b) (x ∷ []) [] (ne_eqb (owned_at c x.site) b t)))
+
+  pub next_free : (n : ℕ) (start so_far next : List CellAt) → so_far ≡ start ++ free_holders c b n
+      → next ≡ so_far ++ if_holds c b (free_cell c n) → next ≡ start ++ free_holders c b (n + 1)
+  next_free n start so_far next p q =
+      let e : suc n ≡ n + 1 = omega arith in
+      q ∙ (ap (λ l. l ++ if_holds c b (free_cell c n)) p
+      ∙ (join start (free_holders c b n) (if_holds c b (free_cell c n)) ∙ ap (λ i. start ++ free_holders c b i) e))
+
+  pub next_block : (n k : ℕ) (start so_far next : List CellAt) → k ≡ n + 1 → so_far ≡ start ++ member_holders c b n
+      → next ≡ so_far ++ block_holders c b k → next ≡ start ++ member_holders c b (n + 1)
+  next_block n k start so_far next is p q =
+      let e : suc n ≡ n + 1 = omega arith in
+      q ∙ (ap (λ i. so_far ++ block_holders c b i) (is ∙ sym e)
+      ∙ (ap (λ l. l ++ block_holders c b (suc n)) p
+      ∙ (join start (member_holders c b n) (block_holders c b (suc n)) ∙ ap (λ i. start ++ member_holders c b i) e)))

@@ -1,0 +1,136 @@
+use Rattle.std.proofs.Common.{◌≡◌, ◌+◌, cond, Option, refl, sym, ap, subst, ◌∙◌, arith, ne_eqb}
+use Rattle.std.proofs.lemmas.Bool.{cond-false}
+use Rattle.std.specs.Prelude.{is_some}
+use mir.Val.{bool_byte}
+use Rattle.control_word.specs.declared.event.Event.TheVariants.{ClearMember}
+use Rattle.control_word.specs.declared.handle.Kind.TheVariants.{Owner, Weak}
+use Rattle.control_word.specs.declared.cell.CellWord.{CellWord}
+use Rattle.control_block.specs.Clearing.{Empties}
+use Rattle.control_block.specs.Desks.{DeskNow}
+use Rattle.control_block.specs.Inside.{desk_now}
+use Rattle.control_block.specs.Leaving.{OutAndGone}
+use Rattle.control_block.specs.Plays.{Ends, known}
+use Rattle.control_block.specs.declared.desk.Desk.TheInside.{Inside}
+use Rattle.control_block.proofs.ClearDesks.{room_out}
+use Rattle.control_block.proofs.ClearGone as clear
+use Rattle.control_block.proofs.ClearGone.{IsEmptied}
+use Rattle.control_block.proofs.EndingCounts.{few_ending}
+use Rattle.control_block.proofs.GoneDesks as gone
+use Rattle.control_block.proofs.GoneDesks.{HasGone}
+use Rattle.control_block.proofs.OwnCounts.{byte_few}
+use Rattle.control_block.proofs.OwnEndings.{ends_in}
+use Rattle.control_block.proofs.StoreBlocks.{ending_word}
+use Rattle.control_block.proofs.calls.clears.clear_shared.Goals as goal
+
+pub clear_shared-value-requires-clause-word : goal.clear_shared-value-requires-clause-word
+clear_shared-value-requires-clause-word g c = λ _ _.
+    let w = ending_word c.desk.inside c.domain.inside.table.shared.table_id c.args.block.0 (7 + c.args.member) c.desk.invariant
+    (ap (λ z. z.domain) c.desk.view_is ∙ (c.requires.domain.table ∙ sym (ap (λ z. z.id) c.domain.view_is)))
+    (ends_in c.desk.inside c.args.desk.now c.args.block.0 c.requires.ending.0 c.desk.view_is c.requires.ending.1) (let lt = c.requires.member in omega arith) in
+    (w.0, (let lt = c.requires.member in omega arith), refl, w.1)
+
+pub clear_shared-value-requires-clause-ends : goal.clear_shared-value-requires-clause-ends
+clear_shared-value-requires-clause-ends g c =
+    λ _ _. ends_in c.desk.inside c.args.desk.now c.args.block.0 c.requires.ending.0 c.desk.view_is c.requires.ending.1
+
+pub clear_shared-value-requires-clause-room : goal.clear_shared-value-requires-clause-room
+clear_shared-value-requires-clause-room g c = λ _ _. room_out c.desk.inside c.args.block.0 c.desk.invariant
+    (ends_in c.desk.inside c.args.desk.now c.args.block.0 c.requires.ending.0 c.desk.view_is c.requires.ending.1)
+
+pub clear_shared-value-requires-clause-kind : goal.clear_shared-value-requires-clause-kind
+clear_shared-value-requires-clause-kind g c = λ _ _. let lt = c.requires.member in cond-false _ Weak Owner (ne_eqb c.args.member 2 (λ e. omega arith))
+
+pub overflow_add-desk : goal.overflow_add-desk
+overflow_add-desk g c =
+    let d = c.desk.inside in let h = c.desk.invariant in let v = d.seat.me.0 in let few = few_ending v.shape.blocks (known v) v.view.name in
+    let most = h.limits.blocks in let one = byte_few c.is_some.result in omega (arith, h.ended, c.from.ensures)
+
+module _ (g : _) (c : goal.After-content-1 g) where
+  abbrev d : Inside g.row.V.Denot
+  d = c.desk.inside
+
+  abbrev f : Inside g.row.V.Denot
+  f = record { seat = c.clear_shared-value.new.chair; allowance = d.allowance; held = d.held; endings = d.endings + c.from.result; store = d.store }
+
+  abbrev x : CellWord
+  x = c.clear_shared-value.result.0
+
+  abbrev r : Option g.row.V.Denot
+  r = c.clear_shared-value.result.1
+
+  ends : Ends d.seat.me.0 ((known d.seat.me.0).latest c.args.block.0) c.args.block.0
+  ends = ends_in d c.args.desk.now c.args.block.0 c.requires.ending.0 c.desk.view_is c.requires.ending.1
+
+  table : f.seat.table_id ≡ d.seat.table_id
+  table = c.clear_shared-value.ensures.chair.0
+
+  o : OutAndGone (λ y. ClearMember ((known d.seat.me.0).latest c.args.block.0) c.args.member y) d.seat.me.0 x r f.seat.me.0
+  o = c.clear_shared-value.ensures.cleared
+
+  -- the desk between the two events
+  abbrev t : Inside g.row.V.Denot
+  t = clear.t Owner d f c.desk.invariant c.args.block.0 c.args.member ends x o.between o.out table
+
+  has_gone : HasGone Owner x.owned x.place 0 (cond (is_some r) 1 0) (desk_now t) (desk_now f)
+  has_gone =
+      gone.has_gone t f (clear.mid Owner d f c.desk.invariant c.args.block.0 c.args.member ends x o.between o.out table) x.owned x.place r o.gone
+      (clear.holds Owner d f c.desk.invariant c.args.block.0 c.args.member ends x o.between o.out table) refl refl
+
+  emptied : IsEmptied c.args.desk.now c.args.block.0 c.args.member 0 (cond (is_some r) 1 0) (desk_now f)
+  emptied =
+      subst (λ (z : DeskNow g.row.V.Denot). IsEmptied z c.args.block.0 c.args.member 0 (cond (is_some r) 1 0) (desk_now f)) c.desk.view_is
+      (clear.emptied Owner d f c.desk.invariant c.args.block.0 c.args.member ends x o.between o.out table has_gone)
+
+pub invariant_of-desk : goal.invariant_of-desk
+invariant_of-desk g c =
+    let h = c.desk.invariant in let b = c.args.block.0 in let m = c.args.member in let u = o g c in let e = ends g c in let same = table g c in
+    gone.desk_gone (t g c) (f g c) (clear.mid Owner (d g c) (f g c) h b m e (x g c) u.between u.out same) (x g c).owned (x g c).place (r g c) u.gone
+    (clear.holds Owner (d g c) (f g c) h b m e (x g c) u.between u.out same) refl refl c.clear_shared-value.ensures.chair.2.none refl refl
+    c.from.result (c.from.ensures ∙ ap bool_byte c.is_some.ensures) refl (clear.room Owner (d g c) (f g c) h b m e (x g c) u.between u.out same)
+    (clear.within Owner (d g c) (f g c) h b m e (x g c) u.between u.out same refl (omega arith) refl)
+
+pub returns-clause-emptied : goal.returns-clause-emptied
+returns-clause-emptied g c =
+    let h = c.desk.invariant in let b = c.args.block.0 in let m = c.args.member in let u = o g c in let e = ends g c in let same = table g c in
+    subst (λ (z : DeskNow g.row.V.Denot). Empties z b m (x g c).owned (x g c).place (r g c) (desk_now (f g c))) c.desk.view_is
+    record {
+      between = desk_now (t g c);
+      takes = clear.takes Owner (d g c) (f g c) h b m e (x g c) u.between u.out same;
+      lets = gone.lets_go (t g c) (f g c) (clear.mid Owner (d g c) (f g c) h b m e (x g c) u.between u.out same) (x g c).owned (x g c).place (r g c) u.gone
+          (clear.holds Owner (d g c) (f g c) h b m e (x g c) u.between u.out same) refl refl;
+    }
+
+pub returns-clause-bag : goal.returns-clause-bag
+returns-clause-bag g c = (emptied g c).bag
+
+pub returns-clause-cleared : goal.returns-clause-cleared
+returns-clause-cleared g c = (emptied g c).cleared c.requires.ending.0 c.requires.ending.1
+
+pub returns-clause-kept : goal.returns-clause-kept
+returns-clause-kept g c = (emptied g c).kept c.requires.ending.0 c.requires.ending.1
+
+pub returns-clause-ending : goal.returns-clause-ending
+returns-clause-ending g c = (emptied g c).ending
+
+pub returns-clause-endings : goal.returns-clause-endings
+returns-clause-endings g c = (emptied g c).endings
+
+pub returns-clause-desk : goal.returns-clause-desk
+returns-clause-desk g c = (emptied g c).desk
+
+pub returns-clause-stock : goal.returns-clause-stock
+returns-clause-stock g c = let s = (emptied g c).stock in omega arith
+
+pub returns-clause-count : goal.returns-clause-count
+returns-clause-count g c = (emptied g c).count
+
+pub invariant_of-content : goal.invariant_of-content
+invariant_of-content g c =
+    let d = c.desk.inside in let u = c.clear_shared-value.ensures.cleared in
+    let f : Inside g.row.V.Denot =
+    record { seat = c.clear_shared-value.new.chair; allowance = d.allowance; held = d.held; endings = d.endings; store = d.store } in
+    let ends' = ends_in d c.args.desk.now c.args.block.0 c.requires.ending.0 c.desk.view_is c.requires.ending.1 in
+    record {
+      proper = clear.proper_is Owner d f c.desk.invariant c.args.block.0 c.args.member ends' c.clear_shared-value.result.0 u.between u.out
+          c.clear_shared-value.ensures.chair.0;
+    }

@@ -1,0 +1,199 @@
+use Rattle.std.proofs.Common.{◌≡◌, ◌+◌, ◌<◌, ◌≤◌, ℕ, min, refl, sym, ap, ◌∙◌, arith, cond, None, subst}
+use Rattle.std.proofs.lemmas.List.{length-map}
+use Rattle.std.specs.Prelude.{IfSome}
+use Rattle.control_word.specs.Events.{InHand}
+use Rattle.control_word.specs.Handles.{object_of}
+use Rattle.control_word.specs.State.{bag, bag_size}
+use Rattle.control_word.specs.declared.event.Event.{Event}
+use Rattle.control_word.specs.declared.event.Event.TheVariants.{Compare}
+use Rattle.control_word.specs.declared.handle.Handle.{Handle}
+use Rattle.control_block.specs.CellCalls.{Holds, handle_in, with_handle, without_handle, word_at}
+use Rattle.control_block.specs.CellPlays.{IsWordOf}
+use Rattle.control_block.specs.Desks.{DeskNow, bag_of}
+use Rattle.control_block.specs.Handles.{IsProper}
+use Rattle.control_block.specs.Inside.{desk_now}
+use Rattle.control_block.specs.Plays.{Holding, known}
+use Rattle.control_block.proofs.Bags.{seen_as}
+use Rattle.control_block.proofs.CellChoices.{allowances_of, bag_of_choice, counted_of, few_of, fits_of, has_of, mine_of, stores_of, trades_of, within_of}
+use Rattle.control_block.proofs.CellDesks.{bag_is, event_is, fits, formed_out, holds_after, in_seat, lost_counted, lost_hand, lost_holding}
+use Rattle.control_block.proofs.CellDesks.{lost_mine, lost_shows, lost_word, one, one_few, size_is}
+use Rattle.control_block.proofs.CellSites.{cell_there, word_there}
+use Rattle.control_block.proofs.DeskBags.{not_full, adds_of, calm_compare, keeps_quietly, now_of, room_left}
+use Rattle.control_block.proofs.Passage.{quiet_compare}
+use Rattle.control_block.proofs.DeskSteps.{came as came_at, ending_same, quiet_desk}
+use Rattle.control_block.proofs.calls.compares.compare.Goals as goal
+
+pub word_of-word-requires : goal.word_of-word-requires
+word_of-word-requires g c =
+    let r = c.requires in
+    (word_there c.desk.inside c.desk.invariant c.args.cell.kind (word_at c.domain.inside.shape.blocks c.args.cell.site) c.args.desk.now
+    c.domain.inside.table.shared.table_id c.domain.inside.shape c.args.cell.site c.desk.view_is
+    (ap (λ z. z.domain) c.desk.view_is ∙ (r.domain.table ∙ sym (ap (λ z. z.id) c.domain.view_is)))
+    (ap (λ z. z.shape) c.desk.view_is ∙ (r.domain.shape ∙ sym (ap (λ z. z.shape) c.domain.view_is))) r.cell.0 refl).0
+
+pub compare-swapped-requires-clause-word : goal.compare-swapped-requires-clause-word
+compare-swapped-requires-clause-word g c =
+    let r = c.requires in
+    (word_there c.desk.inside c.desk.invariant c.args.cell.kind c.word_of-word.result c.args.desk.now
+    c.domain.inside.table.shared.table_id c.domain.inside.shape c.args.cell.site c.desk.view_is
+    (ap (λ z. z.domain) c.desk.view_is ∙ (r.domain.table ∙ sym (ap (λ z. z.id) c.domain.view_is)))
+    (ap (λ z. z.shape) c.desk.view_is ∙ (r.domain.shape ∙ sym (ap (λ z. z.shape) c.domain.view_is))) r.cell.0 c.word_of-word.ensures).1
+
+pub compare-swapped-requires-clause-cell : goal.compare-swapped-requires-clause-cell
+compare-swapped-requires-clause-cell g c =
+    let r = c.requires in
+    cell_there c.desk.inside c.desk.invariant c.args.cell.kind c.word_of-word.result c.args.desk.now c.domain.inside.shape c.args.cell.site
+    g.A.Aimed.cell c.desk.view_is (ap (λ z. z.shape) c.desk.view_is ∙ (r.domain.shape ∙ sym (ap (λ z. z.shape) c.domain.view_is))) r.cell.0 r.cell.1
+    c.word_of-word.ensures
+
+pub compare-swapped-requires-clause-expected : goal.compare-swapped-requires-clause-expected
+compare-swapped-requires-clause-expected g c =
+    let r = c.requires in let d = c.desk.inside in let h = c.desk.invariant in let v = d.seat.me.0 in let k = c.args.cell.kind in
+    let b = c.args.new.block in let p = c.args.new.place in let y = c.args.desk.now in let lost = g.A.Aimed.new in
+    let new_is : lost ≡ in_seat v k b p = r.new ∙ ap (λ (z : DeskNow g.row.V.Denot). handle_in z k b p) (sym c.desk.view_is) in
+    let there = g.A.Aimed.expected in let q = c.args.expected.block in let o = c.args.expected.place in
+    let there_is : there ≡ in_seat v k q o = r.expected ∙ ap (λ (z : DeskNow g.row.V.Denot). handle_in z k q o) (sym c.desk.view_is) in
+    subst (λ (z : Handle). IsWordOf v z record { owned = q; place = o; taken = 0 }) (sym there_is) (lost_shows d y k o h c.desk.view_is q r.holds.0)
+
+pub compare-swapped-requires-clause-new : goal.compare-swapped-requires-clause-new
+compare-swapped-requires-clause-new g c =
+    let r = c.requires in let d = c.desk.inside in let h = c.desk.invariant in let v = d.seat.me.0 in let k = c.args.cell.kind in
+    let b = c.args.new.block in let p = c.args.new.place in let y = c.args.desk.now in let lost = g.A.Aimed.new in
+    let new_is : lost ≡ in_seat v k b p = r.new ∙ ap (λ (z : DeskNow g.row.V.Denot). handle_in z k b p) (sym c.desk.view_is) in (
+      lost_word d y k p h c.desk.view_is b r.holds.1 (subst (λ z. IsProper z b p) r.kind.1 c.args.new.proper),
+      refl,
+      subst (λ (z : Handle). IsWordOf v z record { owned = b; place = p; taken = 0 }) (sym new_is) (lost_shows d y k p h c.desk.view_is b r.holds.1),
+    )
+
+pub compare-swapped-requires-clause-hands : goal.compare-swapped-requires-clause-hands
+compare-swapped-requires-clause-hands g c =
+    let r = c.requires in let d = c.desk.inside in let h = c.desk.invariant in let v = d.seat.me.0 in let k = c.args.cell.kind in
+    let b = c.args.new.block in let p = c.args.new.place in let y = c.args.desk.now in let lost = g.A.Aimed.new in
+    let new_is : lost ≡ in_seat v k b p = r.new ∙ ap (λ (z : DeskNow g.row.V.Denot). handle_in z k b p) (sym c.desk.view_is) in
+    let there = g.A.Aimed.expected in let q = c.args.expected.block in let o = c.args.expected.place in
+    let there_is : there ≡ in_seat v k q o = r.expected ∙ ap (λ (z : DeskNow g.row.V.Denot). handle_in z k q o) (sym c.desk.view_is) in (
+      subst (λ (z : Handle). InHand (known v) v.view.name k z) (sym there_is)
+          (lost_hand d y k o h c.desk.view_is q r.holds.0 (subst (λ z. IsProper z q o) r.kind.0 c.args.expected.proper)),
+      subst (λ (z : Handle). InHand (known v) v.view.name k z) (sym new_is)
+          (lost_hand d y k p h c.desk.view_is b r.holds.1 (subst (λ z. IsProper z b p) r.kind.1 c.args.new.proper)),
+    )
+
+pub compare-swapped-requires-clause-holds : goal.compare-swapped-requires-clause-holds
+compare-swapped-requires-clause-holds g c =
+    let r = c.requires in let d = c.desk.inside in let h = c.desk.invariant in let v = d.seat.me.0 in let k = c.args.cell.kind in
+    let b = c.args.new.block in let p = c.args.new.place in let y = c.args.desk.now in let lost = g.A.Aimed.new in
+    let new_is : lost ≡ in_seat v k b p = r.new ∙ ap (λ (z : DeskNow g.row.V.Denot). handle_in z k b p) (sym c.desk.view_is) in
+    subst (λ (z : Handle). IfSome b (λ a. Holding v z.kind (object_of z) z.place a.0)) (sym new_is)
+    (lost_holding d y k p h c.desk.view_is b r.holds.1)
+
+pub compare-swapped-requires-clause-count : goal.compare-swapped-requires-clause-count
+compare-swapped-requires-clause-count g c =
+    let r = c.requires in
+    lost_counted c.desk.inside c.args.desk.now c.args.cell.kind c.args.new.place c.desk.invariant c.desk.view_is c.args.new.block
+    c.domain.inside.table.shared.table_id (ap (λ z. z.domain) c.desk.view_is ∙ (r.domain.table ∙ sym (ap (λ z. z.id) c.domain.view_is))) r.holds.1
+
+pub compare-swapped-requires-clause-room : goal.compare-swapped-requires-clause-room
+compare-swapped-requires-clause-room g c =
+    room_left c.desk.inside c.desk.invariant (not_full c.desk.inside c.args.desk.now _ c.desk.invariant c.desk.view_is c.if-is_full.ensures refl)
+
+pub invariant_of-desk : goal.invariant_of-desk
+invariant_of-desk g c =
+    let r = c.requires in let d = c.desk.inside in let h = c.desk.invariant in let v = d.seat.me.0 in let w = c.compare-swapped.new.chair.me.0 in
+    let s = c.compare-swapped.result.0 in let x = c.compare-swapped.result.1 in let k = c.args.cell.kind in let b = c.args.new.block in
+    let p = c.args.new.place in let y = c.args.desk.now in let a = g.A.Aimed in let cl = a.cell in
+    let e : Handle → Event g.row.V.Denot = λ z. Compare cl a.expected a.new z s a.weak in
+    let new_is : a.new ≡ in_seat v k b p = r.new ∙ ap (λ (z : DeskNow g.row.V.Denot). handle_in z k b p) (sym c.desk.view_is) in
+    let trades = trades_of v k b p cl a.expected a.new a.weak new_is s in
+    let mine = mine_of v k b p s (lost_mine v k p b (lost_holding d y k p h c.desk.view_is b r.holds.1)) in
+    let came = c.compare-swapped.ensures.compared in
+    let has = subst (λ (z : DeskNow g.row.V.Denot). Holds z k b p) (sym c.desk.view_is) r.holds.1 in
+    let size = size_is d h w e k x (cond s b None) (cond s p None) trades came mine (has_of (desk_now d) k b p s has) in
+    let fit = fits d k p b h has in let more = counted_of s c.from.result c.from.ensures in
+    let t = c.compare-swapped.ensures in let few = one_few x.owned in let z = in_seat w k x.owned x.place in
+    quiet_desk d _ (e z) h (event_is d h w e k x (cond s b None) (cond s p None) trades came mine) t.chair.0 t.chair.2.none
+    (λ q m. stores_of g.row.V.Denot cl a.expected a.new z a.weak s q m)
+    (λ q m. allowances_of g.row.V.Denot cl a.expected a.new z a.weak s q m) refl refl
+    (subst (λ (q : ℕ). bag_size (known w) w.view.name ≤ (d.held + q)) (sym more)
+    (fits_of s b x.owned _ _ d.held size fit h.holding few))
+    (let l = within_of s d.held (min 1 d.endings) d.allowance (omega (arith, h.within))
+    (not_full c.desk.inside c.args.desk.now _ c.desk.invariant c.desk.view_is c.if-is_full.ensures refl) in omega (arith, more))
+    (let f = came_at v w _ _ _ (event_is d h w e k x (cond s b None) (cond s p None) trades came mine) in
+    h.ended ∙ sym (ending_same v w (e z) f (quiet_compare cl a.expected a.new z s a.weak)))
+
+pub returns-clause-event : goal.returns-clause-event
+returns-clause-event g c =
+    let r = c.requires in let d = c.desk.inside in let h = c.desk.invariant in let v = d.seat.me.0 in let w = c.compare-swapped.new.chair.me.0 in
+    let s = c.compare-swapped.result.0 in let x = c.compare-swapped.result.1 in let k = c.args.cell.kind in let b = c.args.new.block in
+    let p = c.args.new.place in let y = c.args.desk.now in let a = g.A.Aimed in let cl = a.cell in
+    let e : Handle → Event g.row.V.Denot = λ z. Compare cl a.expected a.new z s a.weak in
+    let new_is : a.new ≡ in_seat v k b p = r.new ∙ ap (λ (z : DeskNow g.row.V.Denot). handle_in z k b p) (sym c.desk.view_is) in
+    let trades = trades_of v k b p cl a.expected a.new a.weak new_is s in
+    let mine = mine_of v k b p s (lost_mine v k p b (lost_holding d y k p h c.desk.view_is b r.holds.1)) in
+    let came = c.compare-swapped.ensures.compared in
+    adds_of d y w _ _ (λ z. e (in_seat w k x.owned x.place)) c.desk.view_is c.compare-swapped.ensures.chair.0
+    (event_is d h w e k x (cond s b None) (cond s p None) trades came mine)
+
+pub returns-clause-bag : goal.returns-clause-bag
+returns-clause-bag g c =
+    let r = c.requires in let d = c.desk.inside in let h = c.desk.invariant in let v = d.seat.me.0 in let w = c.compare-swapped.new.chair.me.0 in
+    let s = c.compare-swapped.result.0 in let x = c.compare-swapped.result.1 in let k = c.args.cell.kind in let b = c.args.new.block in
+    let p = c.args.new.place in let y = c.args.desk.now in let a = g.A.Aimed in let cl = a.cell in
+    let e : Handle → Event g.row.V.Denot = λ z. Compare cl a.expected a.new z s a.weak in
+    let new_is : a.new ≡ in_seat v k b p = r.new ∙ ap (λ (z : DeskNow g.row.V.Denot). handle_in z k b p) (sym c.desk.view_is) in
+    let trades = trades_of v k b p cl a.expected a.new a.weak new_is s in
+    let mine = mine_of v k b p s (lost_mine v k p b (lost_holding d y k p h c.desk.view_is b r.holds.1)) in
+    let came = c.compare-swapped.ensures.compared in
+    bag_is d h w e k x (cond s b None) (cond s p None) trades came mine
+    ∙ (ap (with_handle k x.owned x.place) (bag_of_choice s k b p (bag_of (desk_now d)))
+    ∙ ap (λ (z : DeskNow g.row.V.Denot). with_handle k x.owned x.place (cond s (without_handle k b p (bag_of z)) (bag_of z))) c.desk.view_is)
+
+pub returns-clause-holds : goal.returns-clause-holds
+returns-clause-holds g c =
+    let r = c.requires in let d = c.desk.inside in let h = c.desk.invariant in let v = d.seat.me.0 in let w = c.compare-swapped.new.chair.me.0 in
+    let s = c.compare-swapped.result.0 in let x = c.compare-swapped.result.1 in let k = c.args.cell.kind in let b = c.args.new.block in
+    let p = c.args.new.place in let y = c.args.desk.now in let a = g.A.Aimed in let cl = a.cell in
+    let e : Handle → Event g.row.V.Denot = λ z. Compare cl a.expected a.new z s a.weak in
+    let new_is : a.new ≡ in_seat v k b p = r.new ∙ ap (λ (z : DeskNow g.row.V.Denot). handle_in z k b p) (sym c.desk.view_is) in
+    let trades = trades_of v k b p cl a.expected a.new a.weak new_is s in
+    let mine = mine_of v k b p s (lost_mine v k p b (lost_holding d y k p h c.desk.view_is b r.holds.1)) in
+    let came = c.compare-swapped.ensures.compared in
+    let has = subst (λ (z : DeskNow g.row.V.Denot). Holds z k b p) (sym c.desk.view_is) r.holds.1 in
+    let size = size_is d h w e k x (cond s b None) (cond s p None) trades came mine (has_of (desk_now d) k b p s has) in
+    let fit = fits d k p b h has in let more = counted_of s c.from.result c.from.ensures in
+    let m = length-map (bag (known w) w.view.name) (seen_as (known w)) in
+    holds_after (now_of c.compare-swapped.new.chair.table_id w (d.held + c.from.result)) k x.owned x.place
+    (without_handle k (cond s b None) (cond s p None) (bag_of (desk_now d)))
+    (bag_is d h w e k x (cond s b None) (cond s p None) trades came mine)
+    (λ none. subst (λ q. q < d.held + c.from.result) (sym m)
+    (subst (λ q. bag_size (known w) w.view.name < d.held + q) (sym more)
+    (few_of s b x.owned _ _ d.held size fit h.holding (ap one none))))
+
+pub invariant_of-result : goal.invariant_of-result
+invariant_of-result g c =
+    let r = c.requires in let d = c.desk.inside in let h = c.desk.invariant in let v = d.seat.me.0 in let w = c.compare-swapped.new.chair.me.0 in
+    let s = c.compare-swapped.result.0 in let x = c.compare-swapped.result.1 in let k = c.args.cell.kind in let b = c.args.new.block in
+    let p = c.args.new.place in let y = c.args.desk.now in let a = g.A.Aimed in let cl = a.cell in
+    let e : Handle → Event g.row.V.Denot = λ z. Compare cl a.expected a.new z s a.weak in
+    let new_is : a.new ≡ in_seat v k b p = r.new ∙ ap (λ (z : DeskNow g.row.V.Denot). handle_in z k b p) (sym c.desk.view_is) in
+    let trades = trades_of v k b p cl a.expected a.new a.weak new_is s in
+    let mine = mine_of v k b p s (lost_mine v k p b (lost_holding d y k p h c.desk.view_is b r.holds.1)) in
+    let came = c.compare-swapped.ensures.compared in
+    record {
+      proper = formed_out d w cl (e (in_seat w k x.owned x.place)) k x.owned x.place
+          (event_is d h w e k x (cond s b None) (cond s p None) trades came mine) (λ asks. (asks.0, asks.3));
+    }
+
+pub returns-clause-keeps : goal.returns-clause-keeps
+returns-clause-keeps g c =
+    let r = c.requires in let d = c.desk.inside in let h = c.desk.invariant in let v = d.seat.me.0 in let w = c.compare-swapped.new.chair.me.0 in
+    let s = c.compare-swapped.result.0 in let x = c.compare-swapped.result.1 in let k = c.args.cell.kind in let b = c.args.new.block in
+    let p = c.args.new.place in let y = c.args.desk.now in let a = g.A.Aimed in let cl = a.cell in
+    let e : Handle → Event g.row.V.Denot = λ z. Compare cl a.expected a.new z s a.weak in
+    let new_is : a.new ≡ in_seat v k b p = r.new ∙ ap (λ (z : DeskNow g.row.V.Denot). handle_in z k b p) (sym c.desk.view_is) in
+    let trades = trades_of v k b p cl a.expected a.new a.weak new_is s in
+    let mine = mine_of v k b p s (lost_mine v k p b (lost_holding d y k p h c.desk.view_is b r.holds.1)) in
+    let came = c.compare-swapped.ensures.compared in
+    let z = in_seat w k x.owned x.place in
+    keeps_quietly d w (e z) h (event_is d h w e k x (cond s b None) (cond s p None) trades came mine) _ _ y c.desk.view_is c.compare-swapped.ensures.chair.0
+    (calm_compare cl a.expected a.new z s a.weak) (λ q m. stores_of g.row.V.Denot cl a.expected a.new z a.weak s q m)
+    (λ q m. allowances_of g.row.V.Denot cl a.expected a.new z a.weak s q m)

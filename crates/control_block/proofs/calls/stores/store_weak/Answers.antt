@@ -1,0 +1,205 @@
+use Rattle.std.proofs.Common.{◌≡◌, ◌+◌, ◌-◌, cond, refl, sym, ap, subst, ◌∙◌, arith, ◌≤◌, Option, Bool}
+use Rattle.std.specs.Prelude.{IfSome}
+use Rattle.control_word.specs.Events.{InHand}
+use Rattle.control_word.specs.Handles.{object_of}
+use Rattle.control_word.specs.State.{bag_size}
+use Rattle.control_word.specs.declared.cell.CellWord.{CellWord}
+use Rattle.control_word.specs.declared.event.Event.TheVariants.{Swap}
+use Rattle.control_word.specs.declared.handle.Handle.{Handle}
+use Rattle.control_word.specs.declared.handle.Kind.TheVariants.{Weak}
+use Rattle.control_word.specs.declared.place.Block.{Block}
+use Rattle.control_word.specs.declared.place.Place.{Place}
+use Rattle.control_block.specs.CellCalls.{Holds, handle_in, word_at}
+use Rattle.control_block.specs.CellPlays.{IsWordOf}
+use Rattle.control_block.specs.Desks.{DeskNow}
+use Rattle.control_block.specs.Handles.{IsProper}
+use Rattle.control_block.specs.Inside.{IsDeskWith, desk_now}
+use Rattle.control_block.specs.Leaving.{OutAndGoneWeakly}
+use Rattle.control_block.specs.Plays.{Holding, known}
+use Rattle.control_block.specs.Storing.{ReplacesWeakly}
+use Rattle.control_block.specs.declared.desk.Desk.TheInside.{Inside}
+use Rattle.control_block.proofs.CellDesks.{in_seat, lost_counted, lost_hand, lost_holding, lost_room, lost_shows, lost_some, lost_word, one}
+use Rattle.control_block.proofs.CellSites.{cell_there, word_there}
+use Rattle.control_block.proofs.StoreGone as store
+use Rattle.control_block.proofs.StoreGone.{IsStored}
+use Rattle.control_block.proofs.GoneWeakDesks as gone
+use Rattle.control_block.proofs.calls.stores.store_weak.Goals as goal
+
+pub word_of-word-requires : goal.word_of-word-requires
+word_of-word-requires g c =
+    let r = c.requires in
+    (word_there c.desk.inside c.desk.invariant Weak (word_at c.domain.inside.shape.blocks c.args.site) c.args.desk.now
+    c.domain.inside.table.shared.table_id c.domain.inside.shape c.args.site c.desk.view_is
+    (ap (λ z. z.domain) c.desk.view_is ∙ (r.domain.table ∙ sym (ap (λ z. z.id) c.domain.view_is)))
+    (ap (λ z. z.shape) c.desk.view_is ∙ (r.domain.shape ∙ sym (ap (λ z. z.shape) c.domain.view_is))) r.cell.0 refl).0
+
+pub overflow_sub-desk : goal.overflow_sub-desk
+overflow_sub-desk g c =
+    let some' = lost_some c.desk.inside Weak c.args.new.place c.args.new.block c.desk.invariant
+    (subst (λ (z : DeskNow g.row.V.Denot). Holds z Weak c.args.new.block c.args.new.place) (sym c.desk.view_is) c.requires.holds) in omega arith
+
+pub store_weak-vacant-requires-clause-word : goal.store_weak-vacant-requires-clause-word
+store_weak-vacant-requires-clause-word g c =
+    let r = c.requires in
+    (word_there c.desk.inside c.desk.invariant Weak c.word_of-word.result c.args.desk.now
+    c.domain.inside.table.shared.table_id c.domain.inside.shape c.args.site c.desk.view_is
+    (ap (λ z. z.domain) c.desk.view_is ∙ (r.domain.table ∙ sym (ap (λ z. z.id) c.domain.view_is)))
+    (ap (λ z. z.shape) c.desk.view_is ∙ (r.domain.shape ∙ sym (ap (λ z. z.shape) c.domain.view_is))) r.cell.0 c.word_of-word.ensures).1
+
+pub store_weak-vacant-requires-clause-cell : goal.store_weak-vacant-requires-clause-cell
+store_weak-vacant-requires-clause-cell g c =
+    let r = c.requires in
+    cell_there c.desk.inside c.desk.invariant Weak c.word_of-word.result c.args.desk.now c.domain.inside.shape c.args.site
+    g.A.Aimed.cell c.desk.view_is (ap (λ z. z.shape) c.desk.view_is ∙ (r.domain.shape ∙ sym (ap (λ z. z.shape) c.domain.view_is))) r.cell.0 r.cell.1
+    c.word_of-word.ensures
+
+pub store_weak-vacant-requires-clause-new : goal.store_weak-vacant-requires-clause-new
+store_weak-vacant-requires-clause-new g c =
+    let r = c.requires in let d = c.desk.inside in let h = c.desk.invariant in let v = d.seat.me.0 in
+    let b = c.args.new.block in let p = c.args.new.place in let y = c.args.desk.now in let lost = g.A.Aimed.new in
+    let new_is : lost ≡ in_seat v Weak b p = r.new ∙ ap (λ (z : DeskNow g.row.V.Denot). handle_in z Weak b p) (sym c.desk.view_is) in (
+      lost_word d y Weak p h c.desk.view_is b r.holds (subst (λ z. IsProper z b p) r.kind c.args.new.proper),
+      refl,
+      subst (λ (z : Handle). IsWordOf v z record { owned = b; place = p; taken = 0 }) (sym new_is) (lost_shows d y Weak p h c.desk.view_is b r.holds),
+    )
+
+pub store_weak-vacant-requires-clause-hand : goal.store_weak-vacant-requires-clause-hand
+store_weak-vacant-requires-clause-hand g c =
+    let r = c.requires in let d = c.desk.inside in let h = c.desk.invariant in let v = d.seat.me.0 in
+    let b = c.args.new.block in let p = c.args.new.place in let y = c.args.desk.now in let lost = g.A.Aimed.new in
+    let new_is : lost ≡ in_seat v Weak b p = r.new ∙ ap (λ (z : DeskNow g.row.V.Denot). handle_in z Weak b p) (sym c.desk.view_is) in
+    subst (λ (z : Handle). InHand (known v) v.view.name Weak z) (sym new_is)
+    (lost_hand d y Weak p h c.desk.view_is b r.holds (subst (λ z. IsProper z b p) r.kind c.args.new.proper))
+
+pub store_weak-vacant-requires-clause-holds : goal.store_weak-vacant-requires-clause-holds
+store_weak-vacant-requires-clause-holds g c =
+    let r = c.requires in let d = c.desk.inside in let h = c.desk.invariant in let v = d.seat.me.0 in
+    let b = c.args.new.block in let p = c.args.new.place in let y = c.args.desk.now in let lost = g.A.Aimed.new in
+    let new_is : lost ≡ in_seat v Weak b p = r.new ∙ ap (λ (z : DeskNow g.row.V.Denot). handle_in z Weak b p) (sym c.desk.view_is) in
+    subst (λ (z : Handle). IfSome b (λ a. Holding v z.kind (object_of z) z.place a.0)) (sym new_is)
+    (lost_holding d y Weak p h c.desk.view_is b r.holds)
+
+pub store_weak-vacant-requires-clause-count : goal.store_weak-vacant-requires-clause-count
+store_weak-vacant-requires-clause-count g c =
+    let r = c.requires in
+    lost_counted c.desk.inside c.args.desk.now Weak c.args.new.place c.desk.invariant c.desk.view_is c.args.new.block
+    c.domain.inside.table.shared.table_id (ap (λ z. z.domain) c.desk.view_is ∙ (r.domain.table ∙ sym (ap (λ z. z.id) c.domain.view_is))) r.holds
+
+pub store_weak-vacant-requires-clause-room : goal.store_weak-vacant-requires-clause-room
+store_weak-vacant-requires-clause-room g c = λ none.
+    let r = c.requires in let d = c.desk.inside in let h = c.desk.invariant in let v = d.seat.me.0 in
+    let b = c.args.new.block in let p = c.args.new.place in let y = c.args.desk.now in let lost = g.A.Aimed.new in
+    let new_is : lost ≡ in_seat v Weak b p = r.new ∙ ap (λ (z : DeskNow g.row.V.Denot). handle_in z Weak b p) (sym c.desk.view_is) in
+    lost_room d y Weak p h c.desk.view_is b r.holds (ap (λ z. z.object) (sym new_is) ∙ none)
+
+pub put_by_out-requires : goal.put_by_out-requires
+put_by_out-requires g c =
+    let d = c.desk.inside in let h = c.desk.invariant in let b = c.args.new.block in let p = c.args.new.place in
+    let is' = c.requires.new ∙ ap (λ (z : DeskNow g.row.V.Denot). handle_in z Weak b p) (sym c.desk.view_is) in
+    let has' = subst (λ (z : DeskNow g.row.V.Denot). Holds z Weak b p) (sym c.desk.view_is) c.requires.holds in let some' = lost_some d Weak p b h has' in
+    let u = c.store_weak-vacant.ensures.stored in let x = c.store_weak-vacant.result.0 in let same = c.store_weak-vacant.ensures.chair.0 in
+    let f : Inside g.row.V.Denot =
+    record { seat = c.store_weak-vacant.new.chair; allowance = d.allowance; held = d.held - 1; endings = d.endings; store = d.store } in
+    record {
+      room = gone.room_gone (store.t Weak d f h g.A.Aimed.cell g.A.Aimed.new b p x is' has' u.between u.out same) f
+          (store.mid Weak d f h g.A.Aimed.cell g.A.Aimed.new b p x is' has' u.between u.out same) x.owned x.place c.store_weak-vacant.result.1 u.gone
+          (store.holds Weak d f h g.A.Aimed.cell g.A.Aimed.new b p x is' has' u.between u.out same) refl (omega arith);
+    }
+
+module _ (g : _) (c : goal.After-content-1 g) where
+  abbrev d : Inside g.row.V.Denot
+  d = c.desk.inside
+
+  abbrev b : Option Block
+  b = c.args.new.block
+
+  abbrev p : Option Place
+  p = c.args.new.place
+
+  abbrev f : Inside g.row.V.Denot
+  f = record { seat = c.store_weak-vacant.new.chair; allowance = d.allowance; held = d.held - 1; endings = d.endings; store = c.put_by_out.new.store }
+
+  abbrev x : CellWord
+  x = c.store_weak-vacant.result.0
+
+  abbrev q : Bool
+  q = c.store_weak-vacant.result.1
+
+  is : g.A.Aimed.new ≡ in_seat d.seat.me.0 Weak b p
+  is = c.requires.new ∙ ap (λ (z : DeskNow g.row.V.Denot). handle_in z Weak b p) (sym c.desk.view_is)
+
+  has : Holds (desk_now d) Weak b p
+  has = subst (λ (z : DeskNow g.row.V.Denot). Holds z Weak b p) (sym c.desk.view_is) c.requires.holds
+
+  table : f.seat.table_id ≡ d.seat.table_id
+  table = c.store_weak-vacant.ensures.chair.0
+
+  held : f.held + 1 ≡ d.held
+  held = let some' = lost_some d Weak p b c.desk.invariant has in omega arith
+
+  o : OutAndGoneWeakly (λ y. Swap g.A.Aimed.cell g.A.Aimed.new y) d.seat.me.0 x q f.seat.me.0
+  o = c.store_weak-vacant.ensures.stored
+
+  -- the desk between the two events
+  abbrev t : Inside g.row.V.Denot
+  t = store.t Weak d f c.desk.invariant g.A.Aimed.cell g.A.Aimed.new b p x is has o.between o.out table
+
+  mid : IsDeskWith 1 t
+  mid = store.mid Weak d f c.desk.invariant g.A.Aimed.cell g.A.Aimed.new b p x is has o.between o.out table
+
+  holds : IfSome x.owned (λ a. Holding o.between Weak ((known o.between).latest a.0) x.place a.0)
+  holds = store.holds Weak d f c.desk.invariant g.A.Aimed.cell g.A.Aimed.new b p x is has o.between o.out table
+
+  stored : IsStored Weak b p c.args.desk.now (cond q 1 0) 0 (desk_now f)
+  stored =
+      subst (λ (z : DeskNow g.row.V.Denot). IsStored Weak b p z (cond q 1 0) 0 (desk_now f)) c.desk.view_is
+      (store.stored Weak d f c.desk.invariant g.A.Aimed.cell g.A.Aimed.new b p x is has o.between o.out table
+      (gone.has_gone t f mid x.owned x.place q o.gone holds refl held))
+
+  room : bag_size (known o.between) o.between.view.name + 1 ≤ t.held + one x.owned
+  room = store.room Weak d f c.desk.invariant g.A.Aimed.cell g.A.Aimed.new b p x is has o.between o.out table
+
+pub invariant_of-desk : goal.invariant_of-desk
+invariant_of-desk g c =
+    gone.desk_gone (t g c) (f g c) (mid g c) (x g c).owned (x g c).place (q g c) (o g c).gone (holds g c) refl
+    (held g c) c.store_weak-vacant.ensures.chair.2.none
+    c.put_by_out.ensures.items c.put_by_out.ensures.capacity refl refl (room g c)
+    (let h = c.desk.invariant in let some' = held g c in omega (arith, h.within))
+
+pub returns-clause-stored : goal.returns-clause-stored
+returns-clause-stored g c =
+    subst (λ (z : DeskNow g.row.V.Denot). ReplacesWeakly z g.A.Aimed.cell g.A.Aimed.new (x g c).owned (x g c).place (q g c) (desk_now (f g c))) c.desk.view_is
+    record {
+      between = desk_now (t g c);
+      swaps = store.swaps Weak (d g c) (f g c) c.desk.invariant g.A.Aimed.cell g.A.Aimed.new (b g c) (p g c) (x g c) (is g c) (has g c) (o g c).between
+          (o g c).out (table g c);
+      lets = gone.lets_go (t g c) (f g c) (mid g c) (x g c).owned (x g c).place (q g c) (o g c).gone (holds g c) refl (held g c);
+    }
+
+pub returns-clause-bag : goal.returns-clause-bag
+returns-clause-bag g c = (stored g c).bag
+
+pub returns-clause-held : goal.returns-clause-held
+returns-clause-held g c = let less = held g c in let e = ap (λ z. z.held) c.desk.view_is in omega arith
+
+pub returns-clause-desk : goal.returns-clause-desk
+returns-clause-desk g c = (stored g c).desk
+
+pub returns-clause-stock : goal.returns-clause-stock
+returns-clause-stock g c = (stored g c).stock
+
+pub returns-clause-endings : goal.returns-clause-endings
+returns-clause-endings g c = (stored g c).endings
+
+pub returns-clause-count : goal.returns-clause-count
+returns-clause-count g c = let s = (stored g c).count in omega arith
+
+pub invariant_of-content : goal.invariant_of-content
+invariant_of-content g c =
+    let d = c.desk.inside in let h = c.desk.invariant in let b = c.args.new.block in let p = c.args.new.place in
+    let is' = c.requires.new ∙ ap (λ (z : DeskNow g.row.V.Denot). handle_in z Weak b p) (sym c.desk.view_is) in
+    let has' = subst (λ (z : DeskNow g.row.V.Denot). Holds z Weak b p) (sym c.desk.view_is) c.requires.holds in let some' = lost_some d Weak p b h has' in
+    let u = c.store_weak-vacant.ensures.stored in let x = c.store_weak-vacant.result.0 in let same = c.store_weak-vacant.ensures.chair.0 in
+    let f : Inside g.row.V.Denot =
+    record { seat = c.store_weak-vacant.new.chair; allowance = d.allowance; held = d.held - 1; endings = d.endings; store = d.store } in
+    record { proper = store.proper_is Weak d f h g.A.Aimed.cell g.A.Aimed.new b p x is' has' u.between u.out same }

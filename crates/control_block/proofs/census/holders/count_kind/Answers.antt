@@ -1,0 +1,11 @@
+use Rattle.std.proofs.Common.{take, arith}
+use Rattle.std.proofs.lemmas.List.{length-take}
+use Rattle.control_word.proofs.lists.Sums.{num_length}
+use Rattle.control_word.specs.Handles.{same_kind}
+use Rattle.control_block.specs.declared.cell_calls.CellAt.{CellAt}
+use Rattle.control_block.proofs.census.holders.count_kind.Goals as goal
+
+pub overflow_add-count : goal.overflow_add-count
+overflow_add-count c =
+    let i = c.loop-cell.cell-index in let few = num_length (λ (x : CellAt). same_kind c.args.kind x.kind) (take i c.args.cells.now) in
+    let size = length-take i c.args.cells.now in omega (arith, c.loop-cell.invariant, c.loop-cell-test.true)

@@ -1,0 +1,87 @@
+//! Calls on cells. Each makes its events, and when it returns nothing is under way: no fund is out, and no load.
+ghost use Rattle.std.specs.Prelude.{◌≡◌, ◌↔◌, ◌+◌, IfErr, IfOk, IsErr, OnOk};
+ghost use Rattle.control_word.specs.declared.event.Event.TheVariants.{Load, Swap};
+ghost use Rattle.control_block.specs.Desks.{Belongs, Adds, Keeps, allowance_of, bag_of, held_of};
+ghost use Rattle.control_block.specs.CellCalls.{Holds, IsOpenAt, cell_at, handle_in, with_handle, without_handle};
+
+use crate::cell_calls::{CellAt, Content, word_of};
+use crate::desk::Desk;
+use crate::domain::Domain;
+use crate::plays::cells::Aimed;
+use crate::rounds;
+use control_word::{CellWord, Refusal};
+use std::sync::Wait;
+
+/// A copy of what a cell holds ([util.smartptr.atomic.shared], [util.smartptr.atomic.weak]). It is refused `Limit` just
+/// where the desk is at its allowance, and then nothing changes.
+#[inline(always)]
+pub fn load<V: Drop + Send, A: Aimed, R: Wait>(
+    rt: &R,
+    domain: &Domain<V>,
+    desk: &mut Desk<V>,
+    cell: CellAt,
+) -> Result<Content, Refusal>
+    requires domain { Belongs desk.old domain.now }
+    requires cell { IsOpenAt desk.old cell.site cell.kind × (A.cell ≡ cell_at desk.old cell.site) }
+    ensures limit { IsErr result ↔ (held_of desk.old ≡ allowance_of desk.old) }
+    ensures refused { IfErr result (λ why. (why ≡ Refusal.Limit) × (desk.new ≡ desk.old)) }
+    ensures event { IfOk result
+        (λ h. Adds desk.old (Load A.cell (handle_in desk.new cell.kind h.block h.place)) desk.new) }
+    ensures bag { IfOk result (λ h. bag_of desk.new ≡ with_handle cell.kind h.block h.place (bag_of desk.old)) }
+    ensures held { OnOk result (desk.new.held ≡ desk.old.held + 1) }
+    ensures holds { IfOk result (λ h. Holds desk.new cell.kind h.block h.place) }
+    ensures kind { IfOk result (λ h. h.kind ≡ cell.kind) }
+    ensures keeps { OnOk result (Keeps desk.old desk.new) }
+{
+    if desk.is_full() {
+        return Err(Refusal::Limit);
+    }
+    let board = &domain.table.shared;
+    let word = word_of(domain.shape.blocks, cell.site);
+    desk.held += 1; // here, since each locked instruction that follows waits for what was stored before it
+    let seen = rounds::cells::load::<V, A, R>(rt, board, &mut desk.seat, word, cell.kind);
+    Ok(Content {
+        kind: cell.kind,
+        block: seen.owned,
+        place: seen.place,
+    })
+}
+
+/// A handle that the desk has goes into a cell, and what the cell held comes out ([util.smartptr.atomic.shared],
+/// [util.smartptr.atomic.weak]). It waits for nobody.
+#[inline]
+pub fn exchange<V: Drop + Send, A: Aimed>(
+    domain: &Domain<V>,
+    desk: &mut Desk<V>,
+    cell: CellAt,
+    new: Content,
+) -> Content
+    requires domain { Belongs desk.old domain.now }
+    requires cell { IsOpenAt desk.old cell.site cell.kind × (A.cell ≡ cell_at desk.old cell.site) }
+    requires new { A.new ≡ handle_in desk.old cell.kind new.block new.place }
+    requires holds { Holds desk.old cell.kind new.block new.place }
+    requires kind { new.kind ≡ cell.kind }
+    ensures event { Adds desk.old
+        (Swap A.cell A.new (handle_in desk.new cell.kind result.block result.place)) desk.new }
+    ensures bag { bag_of desk.new ≡ with_handle cell.kind result.block result.place
+        (without_handle cell.kind new.block new.place (bag_of desk.old)) }
+    ensures held { desk.new.held ≡ desk.old.held }
+    ensures holds { Holds desk.new cell.kind result.block result.place }
+    ensures kind { result.kind ≡ cell.kind }
+    ensures keeps { Keeps desk.old desk.new }
+{
+    let board = &domain.table.shared;
+    let seat = &mut desk.seat;
+    let word = word_of(domain.shape.blocks, cell.site);
+    let full = CellWord {
+        owned: new.block,
+        place: new.place,
+        taken: 0,
+    };
+    let old = rounds::cells::swap::<V, A>(board, seat, word, cell.kind, full);
+    Content {
+        kind: cell.kind,
+        block: old.owned,
+        place: old.place,
+    }
+}

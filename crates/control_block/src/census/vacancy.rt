@@ -1,0 +1,37 @@
+//! Which blocks are vacant.
+ghost use Rattle.std.specs.Prelude.{◌≡◌, ◌↔◌, IsTrue};
+ghost use Rattle.control_block.specs.Census.{is_free, vacant_in, HasBlock, IsFree};
+
+use crate::census::Census;
+use control_word::Block;
+use control_word::counts::unpack_count;
+use control_word::layout::{WEAKS, block_word};
+
+impl<V: Drop + Send> Census<V> {
+    /// Whether the domain had this block, and it is vacant (own).
+    pub fn is_vacant(&self, block: Block) -> bool
+        ensures { IsTrue result ↔ (HasBlock self.now block.0 × IsFree self.now block.0) }
+    {
+        self.has(block) && self.is_free(block)
+    }
+
+    /// How many blocks are vacant (own).
+    pub fn vacant(&self) -> u32
+        ensures { result ≡ vacant_in self.now }
+    {
+        let mut vacant = 0;
+        for number in 0..self.shape.blocks {
+            if self.is_free(Block((number + 1) as u16)) {
+                vacant += 1;
+            }
+        }
+        vacant
+    }
+
+    fn is_free(&self, block: Block) -> bool
+        requires { HasBlock self.now block.0 }
+        ensures { result ≡ is_free self.now block.0 }
+    {
+        unpack_count(self.closed.word(block_word(block, WEAKS))).number == 0
+    }
+}

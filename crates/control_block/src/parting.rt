@@ -1,0 +1,5 @@
+//! Desks part, come together, and close their domain.
+
+pub mod close;
+mod join;
+pub mod split;
