@@ -1,5 +1,7 @@
 pub mod Callers
 pub mod Beside
+pub mod PiledEndings
 pub mod Piles
+pub mod Few
 pub mod Goings
 pub mod Owned

@@ -1,12 +1,15 @@
 -- What a desk's own handles tell of what it finds.
-use Rattle.std.proofs.Common.{◌≡◌, ◌++◌, Bool, true, not, Option, None, Some, ap, subst, ◌∙◌, ne_eqb, arith, ◌<◌}
+use Rattle.std.proofs.Common.{◌≡◌, ◌⊎◌, ◌++◌, Bool, true, ◌&&◌, not, Option, None, Some, refl, sym, ap, subst, ◌∙◌}
+use Rattle.std.proofs.Common.{ne_eqb, arith, ◌<◌, nat_lt, lt-ltb, ⊎_elim}
+use Rattle.std.proofs.lemmas.Bool.{cond-true}
 use Rattle.control_word.proofs.history.Formation.{are_formed}
-use Rattle.control_word.proofs.history.Given.{legal_seen}
+use Rattle.control_word.proofs.history.Given.{legal_seen, names_an_object}
 use Rattle.control_word.proofs.history.Kept.{has_same, same_kept}
 use Rattle.control_word.proofs.history.Moving.{owner_counted}
+use Rattle.control_word.specs.Events.{place_at}
 use Rattle.control_word.specs.Handles.{IsPointer, handle}
 use Rattle.control_word.specs.Histories.{IsLegal, leads}
-use Rattle.control_word.specs.State.{count}
+use Rattle.control_word.specs.State.{InShape, count}
 use Rattle.control_word.specs.declared.event.Event.TheVariants.{Lock}
 use Rattle.control_word.specs.declared.handle.Kind.TheVariants.{Owner, Weak}
 use Rattle.control_word.specs.declared.place.Block.{Block}
@@ -16,8 +19,17 @@ use Rattle.control_block.specs.Desks.{Adds, DeskNow, latest_of, on_latest}
 use Rattle.control_block.specs.Handles.{IsProper}
 use Rattle.control_block.specs.Rule.{opening_of}
 use Rattle.control_block.specs.Standing.{Standing}
-use Rattle.shared_handle.specs.Calls.{Holds}
+use Rattle.shared_handle.specs.Calls.{Holds, IsOfThis, MayGive, pointed}
 use Rattle.shared_handle.specs.Locks.{HasOwner}
+
+-- a field of a block is taken as it is
+as_it_is : (q : Option Place) → IsPointer q → pointed q ≡ q
+as_it_is None points = refl
+as_it_is (Some q) points =
+    let low = points.0 in
+    let block : nat_lt 0 q.block.0 ≡ true = lt-ltb 0 q.block.0 (omega arith) in
+    let field : nat_lt q.field 4 ≡ true = lt-ltb q.field 4 points.2 in
+    cond-true (nat_lt 0 q.block.0 && nat_lt q.field 4) (Some q) None (ap (λ t. t && nat_lt q.field 4) block ∙ field)
 
 module _ {V : Type 0} where
   -- a lock of an object that the desk has an owner of finds one
@@ -40,3 +52,25 @@ module _ {V : Type 0} where
       let z = opening_of d.shape in
       let mine = shown_held z d.seen d.name Owner p b.0 stands.legal has in
       ((are_formed z d.seen stands.legal).0 d.name (handle Owner (Some (latest_of d b.0)) p) mine.0).0
+
+  -- it is in a block, if it owns something
+  this_low : (d : DeskNow V) (b : Block) (p : Option Place) → Standing d → Holds d Owner (Some b) p → 0 < b.0
+  this_low d b p stands has =
+      let z = opening_of d.shape in
+      let mine = shown_held z d.seen d.name Owner p b.0 stands.legal has in
+      let named = names_an_object z d.seen stands.legal d.name Owner (handle Owner (Some (latest_of d b.0)) p) (mine.0, refl, refl) in
+      let inside = subst (InShape z) mine.1 named.3 in let low = inside.0 in omega arith
+
+  this_as_it_is : (d : DeskNow V) (b : Option Block) (p q : Option Place) → Standing d → Holds d Owner b p → IsOfThis b q → pointed q ≡ q
+  this_as_it_is d None p q stands has this = absurd this
+  this_as_it_is d (Some b) p q stands has this =
+      let block : nat_lt 0 b.0 ≡ true = lt-ltb 0 b.0 (this_low d b p stands has) in
+      subst (λ (x : Option Place). pointed x ≡ x) (sym this) (cond-true (nat_lt 0 b.0 && true) (place_at b.0) None (ap (λ t. t && true) block))
+
+  -- so is each place that an owner may give
+  pub taken_as_given : (d : DeskNow V) (b : Option Block) (p q : Option Place) → Standing d → IsProper Owner b p → Holds d Owner b p
+      → MayGive b p q → pointed q ≡ q
+  taken_as_given d b p q stands proper has may =
+      ⊎_elim (λ (own : q ≡ p). as_it_is q (subst IsPointer (sym own) (points_well d b p stands proper has)))
+      (λ (s : IsOfThis b q ⊎ IsPointer q). ⊎_elim (λ (this : IsOfThis b q). this_as_it_is d b p q stands has this)
+      (λ (points : IsPointer q). as_it_is q points) s) may

@@ -55,12 +55,22 @@ module _ {V : Type 0} where
   piled xs left.Others = xs
   piled xs (left.Last y) = xs ++ y ∷ []
 
-  -- the pile has just what ends in the desk's hands, and room for all blocks
-  pub record Bears (domain : DomainNow) (d : DeskNow V) (p : Pile V) : Type 0 where
+  -- the pile is of the desk's domain, with room for all its blocks, and what lies on it ends in the desk's hands
+  pub record Carries (domain : DomainNow) (d : DeskNow V) (p : Pile V) : Type 0 where
     pub belongs : Belongs d domain
     pub ends : AllEnd d p.endings.items
-    pub many : length p.endings.items ≡ endings_of d
     pub room : domain.shape.blocks ≤ vec_capacity p.endings
+
+  -- and that is all that ends in the desk's hands
+  pub record Bears (domain : DomainNow) (d : DeskNow V) (p : Pile V) : Type 0 where
+    pub carries : Carries domain d p
+    pub many : length p.endings.items ≡ endings_of d
+
+  -- what ends in the desk's hands elsewhere than on the pile ends there still, as many as before, and beside the pile
+  pub record KeepsElsewhere (d : DeskNow V) (xs : List (Ending V)) (e : DeskNow V)
+      (ys : List (Ending V)) : Type 0 where
+    pub count : endings_of e + length xs ≡ endings_of d + length ys
+    pub beside : (x : Ending V) → AllEnd d (x ∷ xs) → AllEnd e (x ∷ ys)
 
   -- an owner left the desk, and what ends for it went onto the pile ([util.smartptr.shared.dest])
   pub record Drops (d : DeskNow V) (xs : List (Ending V)) (b : Option Block) (p : Option Place)
@@ -77,7 +87,6 @@ module _ {V : Type 0} where
     pub ends : Ends d x
     pub apart : NotAmong x.block.0 p.endings.items
     pub others : AllEnd d p.endings.items
-    pub many : length p.endings.items + 1 ≡ endings_of d
     pub room : domain.shape.blocks ≤ vec_capacity p.endings
 
   -- the first member that isn't cleared yet

@@ -5,7 +5,7 @@ ghost use Rattle.control_block.specs.Desks.{KeepsStock, bag_of};
 ghost use Rattle.control_block.specs.Own.{Does};
 ghost use Rattle.shared_handle.specs.Calls.{Holds, without_handle};
 ghost use Rattle.shared_handle.specs.Endings.{IsLeft};
-ghost use Rattle.shared_handle.specs.Piles.{Bears, Drops, IsParting};
+ghost use Rattle.shared_handle.specs.Piles.{Carries, Drops, IsParting, KeepsElsewhere};
 ghost use Rattle.shared_handle.specs.declared.endings.Left.{Left};
 
 use crate::pile::{Gone, Pile};
@@ -22,9 +22,10 @@ pub fn drop_shared<V: Drop + Send>(
     pile: &mut Pile<V>,
     handle: Shared,
 ) -> Gone
-    requires bears { Bears domain.now desk.old pile.old }
+    requires carries { Carries domain.now desk.old pile.old }
     requires holds { Holds desk.old Owner handle.block handle.place }
-    ensures bears { Bears domain.now desk.new pile.new }
+    ensures carries { Carries domain.now desk.new pile.new }
+    ensures elsewhere { KeepsElsewhere desk.old pile.old.endings.items desk.new pile.new.endings.items }
     ensures left { Drops desk.old pile.old.endings.items handle.block handle.place result desk.new
         pile.new.endings.items }
     ensures parting { Does IsParting desk.old desk.new }
@@ -33,6 +34,7 @@ pub fn drop_shared<V: Drop + Send>(
     ensures keeps { KeepsStock desk.old desk.new }
 {
     let left = release(domain, desk, handle);
+    desk.stands();
     let gone = Gone::of(&left);
     pile.put(left);
     gone
@@ -46,9 +48,10 @@ pub fn reset<V: Drop + Send>(
     pile: &mut Pile<V>,
     handle: &mut Option<Shared>,
 ) -> Gone
-    requires bears { Bears domain.now desk.old pile.old }
+    requires carries { Carries domain.now desk.old pile.old }
     requires holds { IfSome handle.old (λ h. Holds desk.old Owner h.block h.place) }
-    ensures bears { Bears domain.now desk.new pile.new }
+    ensures carries { Carries domain.now desk.new pile.new }
+    ensures elsewhere { KeepsElsewhere desk.old pile.old.endings.items desk.new pile.new.endings.items }
     ensures spent { handle.new ≡ None }
     ensures left { MatchOption handle.old
         ((result ≡ Gone.Empty) × (desk.new ≡ desk.old) × (pile.new ≡ pile.old))

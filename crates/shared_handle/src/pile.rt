@@ -4,7 +4,7 @@ ghost use Rattle.std.specs.Prelude.{slice_get};
 ghost use Rattle.std.specs.Prelude.{vec_capacity, Some, IfErr, IfNone, IfOk, IfSome, IsTrue};
 ghost use Rattle.control_block.specs.Desks.{Belongs, DeskNow, DomainNow, endings_of};
 ghost use Rattle.shared_handle.specs.Endings.{Ends, more_ending};
-ghost use Rattle.shared_handle.specs.Piles.{Bears, gone_of, piled};
+ghost use Rattle.shared_handle.specs.Piles.{Bears, Carries, gone_of, piled};
 
 use crate::endings::{Ending, Left, Member};
 use control_block::domain::Domain;
@@ -55,11 +55,12 @@ impl Gone {
 }
 
 impl<V: Drop + Send> Pile<V> {
-    /// An empty pile, with room for all blocks of the domain (own). It serves any desk of the domain in whose hands
-    /// nothing ends. It is refused `Memory` where a growth was really refused.
+    /// An empty pile, with room for all blocks of the domain (own). It serves any desk of the domain. It is refused
+    /// `Memory` where a growth was really refused.
     pub fn new(alloc: Global, domain: &Domain<V>) -> Result<Self, Refusal>
         ensures refused { IfErr result (λ why. why ≡ Refusal.Memory) }
         ensures empty { IfOk result (λ p. p.endings.items ≡ []) }
+        ensures carries { IfOk result (λ p. (d : DeskNow V) → Belongs d domain.now → Carries domain.now d p) }
         ensures bears { IfOk result
             (λ p. (d : DeskNow V) → Belongs d domain.now → endings_of d ≡ 0 → Bears domain.now d p) }
     {
@@ -82,7 +83,7 @@ impl<V: Drop + Send> Pile<V> {
         ensures some { IfSome result
             (λ x. slice_get self.now.endings.items (length self.now.endings.items - 1) ≡ Some x.now) }
         ensures ends { IfSome result
-            (λ x. (domain : DomainNow) (d : DeskNow V) → Bears domain d self.now → Ends d x.now) }
+            (λ x. (domain : DomainNow) (d : DeskNow V) → Carries domain d self.now → Ends d x.now) }
     {
         let top = self.endings.last()?;
         Some(top)

@@ -1,9 +1,11 @@
-//! What a handle that isn't empty is on: the calls of control blocks go by it.
+//! What a handle that isn't empty is on: the calls of control blocks go by it. Where one points.
 ghost use Rattle.std.specs.Prelude.{◌≡◌};
+ghost use Rattle.control_word.specs.Handles.{IsPointer};
 ghost use Rattle.control_word.specs.declared.handle.Kind.TheVariants.{Owner, Weak};
-ghost use Rattle.shared_handle.specs.Calls.{IsOn};
+ghost use Rattle.shared_handle.specs.Calls.{IsOn, pointed};
 
 use control_block::handles::{self, Pointer, Shared};
+use control_word::Place;
 use control_word::handle::Kind;
 
 /// What an owner is on, none where it is empty.
@@ -28,4 +30,15 @@ pub(crate) fn weak_pointer(handle: &handles::Weak) -> Option<Pointer>
         block,
         place: handle.place(),
     })
+}
+
+/// Where a pointer to a place points: null for what is no field of a block, which no call hands out.
+pub(crate) fn pointed(place: Option<Place>) -> Option<Place>
+    ensures place { result ≡ pointed place }
+    ensures proper { IsPointer result }
+{
+    match place {
+        Some(place) if place.block.0 > 0 && place.field < 4 => Some(place),
+        _ => None,
+    }
 }

@@ -2,11 +2,11 @@
 ghost use Rattle.std.specs.Prelude.{◌≡◌, ◌↔◌, ◌+◌, IfErr, IfOk, IsErr, OnOk};
 ghost use Rattle.control_word.specs.declared.handle.Kind.TheVariants.{Owner};
 ghost use Rattle.control_block.specs.Desks.{Belongs, Keeps, KeepsStock, allowance_of, bag_of, endings_of, held_of};
-ghost use Rattle.shared_handle.specs.Calls.{Holds, MayGive, Shares, with_handle, without_handle};
+ghost use Rattle.shared_handle.specs.Calls.{Holds, MayGive, Shares, pointed, with_handle, without_handle};
 ghost use Rattle.shared_handle.specs.Endings.{IsApart, IsLeft, more_ending};
 
 use crate::endings::{Ending, Left};
-use crate::pointers::owner_pointer;
+use crate::pointers::{owner_pointer, pointed};
 use control_block::calls;
 use control_block::desk::Desk;
 use control_block::domain::Domain;
@@ -65,9 +65,10 @@ pub fn share<V: Drop + Send>(
 }
 
 /// The aliasing constructor ([util.smartptr.shared.const]): one owner more of what the handle owns, which points at a
-/// place. Of an empty handle it is empty, and points there all the same. Condition: the place is the handle's own,
-/// field 0 of its object, what `place` told of a handle, or else in a block from 1 on, at one of its four fields. It is
-/// refused `Limit` just where the desk is at its allowance, and then nothing changes.
+/// place. Of an empty handle it is empty, and points there all the same. Every place that a handle has or `place` told,
+/// and field 0 of the handle's object, is a field of a block, and taken as it is (`given`); one that isn't, in block 0
+/// or with a field above 3, is null (own). It is refused `Limit` just where the desk is at its allowance, and then
+/// nothing changes.
 pub fn alias<V: Drop + Send>(
     domain: &Domain<V>,
     desk: &mut Desk<V>,
@@ -76,17 +77,19 @@ pub fn alias<V: Drop + Send>(
 ) -> Result<Shared, Refusal>
     requires domain { Belongs desk.old domain.now }
     requires holds { Holds desk.old Owner handle.now.block handle.now.place }
-    requires place { MayGive handle.now.block handle.now.place place }
+    ensures given { MayGive handle.now.block handle.now.place place → pointed place ≡ place }
     ensures limit { IsErr result ↔ (held_of desk.old ≡ allowance_of desk.old) }
     ensures refused { IfErr result (λ why. (why ≡ Refusal.Limit) × (desk.new ≡ desk.old)) }
-    ensures handle { IfOk result (λ h. (h.block ≡ handle.now.block) × (h.place ≡ place)) }
-    ensures event { OnOk result (Shares desk.old handle.now.block handle.now.place place desk.new) }
-    ensures bag { OnOk result (bag_of desk.new ≡ with_handle Owner handle.now.block place (bag_of desk.old)) }
+    ensures handle { IfOk result (λ h. (h.block ≡ handle.now.block) × (h.place ≡ pointed place)) }
+    ensures event { OnOk result (Shares desk.old handle.now.block handle.now.place (pointed place) desk.new) }
+    ensures bag { OnOk result
+        (bag_of desk.new ≡ with_handle Owner handle.now.block (pointed place) (bag_of desk.old)) }
     ensures held { OnOk result (desk.new.held ≡ desk.old.held + 1) }
     ensures holds { IfOk result (λ h. Holds desk.new Owner h.block h.place) }
     ensures keeps { OnOk result (Keeps desk.old desk.new) }
 {
-    share_to(domain, desk, handle, place)
+    desk.stands();
+    share_to(domain, desk, handle, pointed(place))
 }
 
 /// An owner leaves ([util.smartptr.shared.dest]): it was `Empty`, `Others` own the object still, or it was the `Last`,

@@ -1,10 +1,10 @@
 //! Objects of a pile end, the top first, and what ends for an object before it is finished.
-ghost use Rattle.std.specs.Prelude.{◌≡◌, [], IfNone, IfSome};
+ghost use Rattle.std.specs.Prelude.{◌≡◌, [], ◌∷◌, IfNone, IfSome};
 ghost use Rattle.control_block.specs.Desks.{IsSameDesk, bag_of};
 ghost use Rattle.control_block.specs.Own.{Does};
 ghost use Rattle.shared_handle.specs.Endings.{with_clear};
-ghost use Rattle.shared_handle.specs.Piles.{Bears, ClearsOnce, EndsTop, IsParting, IsRound, Stacked, is_cleared};
-ghost use Rattle.shared_handle.specs.Piles.{next_member, piled};
+ghost use Rattle.shared_handle.specs.Piles.{Carries, ClearsOnce, EndsTop, IsParting, IsRound, KeepsElsewhere};
+ghost use Rattle.shared_handle.specs.Piles.{Stacked, is_cleared, next_member, piled};
 
 use crate::endings::{Ending, Left, Member};
 use crate::pile::{Gone, Pile, Round};
@@ -42,10 +42,12 @@ impl<V: Drop + Send> Ending<V> {
 impl<V: Drop + Send> Pile<V> {
     /// One round (own): the first member of the top that isn't cleared is emptied, and what ends for it lies above the
     /// top; or the top is finished, where all three are clear, and its value comes out. So an object is finished after
-    /// what its members alone owned.
+    /// what its members alone owned. What ends in the desk's hands elsewhere stays as it is.
     pub fn round(&mut self, domain: &Domain<V>, desk: &mut Desk<V>) -> Round<V>
-        requires bears { Bears domain.now desk.old self.old }
-        ensures bears { Bears domain.now desk.new self.new }
+        requires carries { Carries domain.now desk.old self.old }
+        ensures carries { Carries domain.now desk.new self.new }
+        ensures elsewhere { KeepsElsewhere
+            desk.old self.old.endings.items desk.new self.new.endings.items }
         ensures round { IsRound desk.old self.old.endings.items result desk.new self.new.endings.items }
         ensures parting { Does IsParting desk.old desk.new }
         ensures bag { bag_of desk.new ≡ bag_of desk.old }
@@ -60,6 +62,7 @@ impl<V: Drop + Send> Pile<V> {
         };
         let mut top = top;
         let left = top.clear_member(domain, desk, member);
+        desk.stands();
         let gone = Gone::of(&left);
         self.endings.push_reserved(top);
         self.put(left);
@@ -76,6 +79,8 @@ impl<V: Drop + Send> Pile<V> {
     )
         requires stacked { Stacked domain.now desk.old self.old ending.old }
         ensures stacked { Stacked domain.now desk.new self.new ending.new }
+        ensures elsewhere { KeepsElsewhere desk.old (ending.old ∷ self.old.endings.items)
+            desk.new (ending.new ∷ self.new.endings.items) }
         ensures noted { ending.new ≡ with_clear member ending.old }
         ensures once { (left : Left V) × ClearsOnce desk.old ending.old member left desk.new
             × (self.new.endings.items ≡ piled self.old.endings.items left) }
@@ -88,14 +93,17 @@ impl<V: Drop + Send> Pile<V> {
             return;
         }
         let left = ending.clear_member(domain, desk, member);
+        desk.stands();
         self.put(left);
     }
 
     /// The object on top ends (own): its members are emptied, what ends for it goes onto the pile, and its value comes
     /// out. `None` just where the pile was empty. It waits for nobody: what goes onto the pile is left there.
     pub fn end_next(&mut self, domain: &Domain<V>, desk: &mut Desk<V>) -> Option<V>
-        requires bears { Bears domain.now desk.old self.old }
-        ensures bears { Bears domain.now desk.new self.new }
+        requires carries { Carries domain.now desk.old self.old }
+        ensures carries { Carries domain.now desk.new self.new }
+        ensures elsewhere { KeepsElsewhere
+            desk.old self.old.endings.items desk.new self.new.endings.items }
         ensures none { IfNone result
             ((self.old.endings.items ≡ []) × (self.new.endings.items ≡ []) × (desk.new ≡ desk.old)) }
         ensures ended { IfSome result

@@ -2,7 +2,8 @@
 ghost use Rattle.std.specs.Prelude.{◌≡◌, [], List};
 ghost use Rattle.control_block.specs.Desks.{DeskNow, IsSameDesk, bag_of};
 ghost use Rattle.control_block.specs.Own.{Does};
-ghost use Rattle.shared_handle.specs.Piles.{AreRounds, Bears, FoldsBack, IsParting, Past, values_of};
+ghost use Rattle.shared_handle.specs.Piles.{AreRounds, Carries, FoldsBack, IsParting, KeepsElsewhere, Past};
+ghost use Rattle.shared_handle.specs.Piles.{values_of};
 
 use crate::pile::{Pile, Round};
 use control_block::desk::Desk;
@@ -11,10 +12,13 @@ use std::sync::Wait;
 
 impl<V: Drop + Send> Pile<V> {
     /// Rounds until nothing is left to end (own); the values are dropped as they come out, which is the deleters'
-    /// calls. It waits, since other desks may lengthen a chain that ends meanwhile.
+    /// calls. What ends in the desk's hands elsewhere stays as it is. It waits, since other desks may lengthen a chain
+    /// that ends meanwhile.
     pub fn settle<R: Wait>(&mut self, rt: &R, domain: &Domain<V>, desk: &mut Desk<V>)
-        requires bears { Bears domain.now desk.old self.old }
-        ensures bears { Bears domain.now desk.new self.new }
+        requires carries { Carries domain.now desk.old self.old }
+        ensures carries { Carries domain.now desk.new self.new }
+        ensures elsewhere { KeepsElsewhere
+            desk.old self.old.endings.items desk.new self.new.endings.items }
         ensures none { self.new.endings.items ≡ [] }
         ensures rounds { (rs : List (Past V))
             × AreRounds desk.old self.old.endings.items rs desk.new self.new.endings.items }
@@ -41,9 +45,11 @@ impl<V: Drop + Send> Pile<V> {
         desk: &mut Desk<V>,
         mut take: F,
     )
-        requires bears { Bears domain.now desk.old self.old }
+        requires carries { Carries domain.now desk.old self.old }
         requires callable { F.IsAlwaysCallable take }
-        ensures bears { Bears domain.now desk.new self.new }
+        ensures carries { Carries domain.now desk.new self.new }
+        ensures elsewhere { KeepsElsewhere
+            desk.old self.old.endings.items desk.new self.new.endings.items }
         ensures none { self.new.endings.items ≡ [] }
         ensures rounds { (rs : List (Past V)) × AreRounds desk.old self.old.endings.items rs desk.new
             self.new.endings.items × ((last : F) × FoldsBack (λ p x q. F.step p x tt q) take (values_of rs) last) }

@@ -1,17 +1,24 @@
 use Rattle.shared_handle.proofs.Goings.{left_does}
-use Rattle.shared_handle.proofs.Piles.{bears_left, room_piled}
+use Rattle.shared_handle.proofs.Piles.{carries_left, left_elsewhere, room_piled}
 use Rattle.shared_handle.proofs.dropping.drop_shared.Goals as goal
 
 pub put-requires-clause-room : goal.put-requires-clause-room
 put-requires-clause-room g c κs within =
-    let t = c.release-left in
-    room_piled c.args.domain.now c.args.desk.now t.new.desk c.args.pile.now t.result c.requires.bears t.ensures.count t.ensures.keeps.shape
-
-pub returns-clause-bears : goal.returns-clause-bears
-returns-clause-bears g c =
     let t = c.release-left in let e = t.ensures in
-    bears_left c.args.domain.now c.args.desk.now t.new.desk c.args.pile.now c.put.new.self c.args.handle.block c.args.handle.place t.result
-    c.requires.bears e.keeps e.left e.count c.put.ensures.endings c.put.ensures.room
+    room_piled c.args.domain.now c.args.desk.now t.new.desk c.args.pile.now c.args.handle.block c.args.handle.place t.result c.requires.carries
+    e.keeps e.left c.stands.ensures
+
+pub returns-clause-carries : goal.returns-clause-carries
+returns-clause-carries g c =
+    let t = c.release-left in let e = t.ensures in
+    carries_left c.args.domain.now c.args.desk.now t.new.desk c.args.pile.now c.put.new.self c.args.handle.block c.args.handle.place t.result
+    c.requires.carries e.keeps e.left c.put.ensures.endings c.put.ensures.room
+
+pub returns-clause-elsewhere : goal.returns-clause-elsewhere
+returns-clause-elsewhere g c =
+    let t = c.release-left in let e = t.ensures in
+    left_elsewhere c.args.desk.now t.new.desk c.args.handle.block c.args.handle.place t.result c.args.pile.now.endings.items
+    c.put.new.self.endings.items e.keeps e.left e.count c.put.ensures.endings
 
 pub returns-clause-parting : goal.returns-clause-parting
 returns-clause-parting g c =

@@ -1,17 +1,25 @@
 use Rattle.shared_handle.proofs.Goings.{clearing_does}
-use Rattle.shared_handle.proofs.Piles.{room_left, stacked_on}
+use Rattle.shared_handle.proofs.PiledEndings.{stacked_elsewhere, stacked_on}
+use Rattle.shared_handle.proofs.Piles.{room_left}
 use Rattle.shared_handle.proofs.pile.Pile.clear_once.Goals as goal
 
 pub put-requires-clause-room : goal.put-requires-clause-room
 put-requires-clause-room g c κs within =
-    let t = c.clear_member-left in
-    room_left c.args.domain.now c.args.desk.now t.new.desk c.args.self.now c.args.ending.now t.result c.requires.stacked t.ensures.count t.ensures.desk.shape
+    let t = c.clear_member-left in let e = t.ensures in
+    room_left c.args.domain.now c.args.desk.now t.new.desk c.args.self.now c.args.ending.now t.new.self c.args.member t.result c.requires.stacked
+    e.clears e.endings e.beside e.object.0 e.ends e.desk.shape c.stands.ensures
 
 pub returns-clause-stacked : goal.returns-clause-stacked
 returns-clause-stacked g c =
     let t = c.clear_member-left in let e = t.ensures in
     stacked_on c.args.domain.now c.args.desk.now t.new.desk c.args.self.now c.put.new.self c.args.ending.now t.new.self c.args.member t.result
-    c.requires.stacked e.clears e.endings e.count e.beside e.object.0 e.ends e.desk c.put.ensures.endings c.put.ensures.room
+    c.requires.stacked e.clears e.endings e.beside e.object.0 e.ends e.desk c.put.ensures.endings c.put.ensures.room
+
+pub returns-clause-elsewhere : goal.returns-clause-elsewhere
+returns-clause-elsewhere g c =
+    let t = c.clear_member-left in let e = t.ensures in
+    stacked_elsewhere c.args.desk.now t.new.desk c.args.ending.now t.new.self c.args.member t.result c.args.self.now.endings.items
+    c.put.new.self.endings.items e.clears e.endings e.count e.beside e.object.0 e.ends c.put.ensures.endings
 
 pub returns-clause-parting : goal.returns-clause-parting
 returns-clause-parting g c =

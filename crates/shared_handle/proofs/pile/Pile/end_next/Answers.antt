@@ -1,21 +1,34 @@
-use Rattle.std.proofs.Common.{◌≡◌, ◌∙◌, ap, refl, subst, sym}
+use Rattle.std.proofs.Common.{◌≡◌, ◌∷◌, ◌∙◌, ap, refl, subst, sym}
 use Rattle.shared_handle.specs.Endings.{IsAllClear, with_clear}
 use Rattle.shared_handle.specs.Piles.{ClearsOnce, IsFinish, IsParting, piled}
 use Rattle.shared_handle.specs.declared.endings.Ending.{Ending}
 use Rattle.shared_handle.specs.declared.endings.Member.TheVariants.{First, Next, Up}
 use Rattle.shared_handle.proofs.Goings.{does_both, does_one}
-use Rattle.shared_handle.proofs.Piles.{finished, popped}
+use Rattle.shared_handle.proofs.PiledEndings.{popped}
+use Rattle.shared_handle.proofs.Piles.{elsewhere_both, finished, finished_elsewhere, from_top}
 use Rattle.shared_handle.proofs.pile.Pile.end_next.Goals as goal
 
 pub clear_once-requires-clause-stacked : goal.clear_once-requires-clause-stacked
 clear_once-requires-clause-stacked g c κs within =
-    popped c.args.domain.now c.args.desk.now c.args.self.now record { endings = c.pop.new.self } c.in_ok-ending.ending c.requires.bears
+    popped c.args.domain.now c.args.desk.now c.args.self.now record { endings = c.pop.new.self } c.in_ok-ending.ending c.requires.carries
     c.in_ok-ending.ensures.items c.pop.ensures.capacity
 
-pub returns-clause-bears : goal.returns-clause-bears
-returns-clause-bears g c =
+pub returns-clause-carries : goal.returns-clause-carries
+returns-clause-carries g c =
     let t = c.clear_once-3 in let e = c.finish.ensures in
-    finished c.args.domain.now t.new.desk c.finish.new.desk t.new.self t.new.ending t.ensures.stacked e.endings e.count e.desk
+    finished c.args.domain.now t.new.desk c.finish.new.desk t.new.self t.new.ending t.ensures.stacked e.endings e.desk
+
+pub returns-clause-elsewhere : goal.returns-clause-elsewhere
+returns-clause-elsewhere g c =
+    let a = c.clear_once in let b = c.clear_once-2 in let t = c.clear_once-3 in let e = c.finish.ensures in
+    let from = c.args.desk.now in let top = c.in_ok-ending.ending in let below = c.pop.new.self.items in
+    let zs = t.new.self.endings.items in
+    from_top from c.finish.new.desk top below c.args.self.now.endings.items zs c.in_ok-ending.ensures.items
+    (elsewhere_both from t.new.desk c.finish.new.desk (top ∷ below) (t.new.ending ∷ zs) zs
+    (elsewhere_both from b.new.desk t.new.desk (top ∷ below) (b.new.ending ∷ b.new.self.endings.items) (t.new.ending ∷ zs)
+    (elsewhere_both from a.new.desk b.new.desk (top ∷ below) (a.new.ending ∷ a.new.self.endings.items) (b.new.ending ∷ b.new.self.endings.items)
+    a.ensures.elsewhere b.ensures.elsewhere) t.ensures.elsewhere)
+    (finished_elsewhere t.new.desk c.finish.new.desk t.new.ending zs e.endings e.count))
 
 pub returns-clause-ended : goal.returns-clause-ended
 returns-clause-ended g c =

@@ -1,6 +1,6 @@
 use Rattle.std.proofs.Common.{length, ◌-◌, ap, sym, ◌∙◌}
 use Rattle.std.specs.Prelude.{slice_get}
-use Rattle.shared_handle.proofs.Piles.{one_ends}
+use Rattle.shared_handle.proofs.PiledEndings.{one_ends}
 use Rattle.shared_handle.proofs.pile.Pile.top.Goals as goal
 
 pub returns-clause-ends : goal.returns-clause-ends
