@@ -127,7 +127,7 @@ module _ {V : Type 0} where
       → ((x : DeskNow V) → Belongs x domain → endings_of x ≡ 0 → Bears domain x q) → IsWhole named domain new given q
   new_whole named domain d e new a k n ss kept given p q w parts over bears =
       let both = fits_apart d e new a k (take n ss) (drop n ss) (subst (Fits d) (sym (take-append-drop n ss)) w.fits) parts in
-      let at = w.bears.belongs in
+      let at = w.bears.carries.belongs in
       record {
         home = w.home;
         bears = bears new (record { table = parts.beside.0 ∙ at.table; shape = parts.beside.1 ∙ at.shape }) parts.count.1;

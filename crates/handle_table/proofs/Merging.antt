@@ -14,7 +14,7 @@ use Rattle.control_block.specs.Parting.{JoinsWith}
 use Rattle.control_block.specs.Rule.{opening_of}
 use Rattle.control_word.specs.declared.shape.Shape.{Shape}
 use Rattle.control_block.specs.declared.handles.Held.{Held}
-use Rattle.shared_handle.proofs.Piles.{all_kept}
+use Rattle.shared_handle.proofs.PiledEndings.{all_kept}
 use Rattle.shared_handle.specs.Piles.{AllEnd, NotAmong}
 use Rattle.shared_handle.specs.declared.endings.Ending.{Ending}
 use Rattle.shared_handle.specs.declared.pile.Pile.{Pile}
@@ -190,16 +190,18 @@ module _ {V : Type 0} where
       → e.held ≡ d.held + other.held → KeepsEndings d e × KeepsEndings other e → endings_of e ≡ endings_of d + endings_of other
       → r.endings.items ≡ p.endings.items ++ q.endings.items → vec_capacity p.endings ≤ vec_capacity r.endings → IsWhole named here e now r
   joined_whole named here there d other e ss ts now p q r w v free are joins bags held keeps count piles room =
-      let shape = v.bears.belongs.shape ∙ ap (λ (x : DomainNow). x.shape) (v.home ∙ sym w.home) ∙ sym w.bears.belongs.shape in
+      let shape = v.bears.carries.belongs.shape ∙ ap (λ (x : DomainNow). x.shape) (v.home ∙ sym w.home) ∙ sym w.bears.carries.belongs.shape in
       record {
         home = w.home;
         bears = record {
-          belongs = record { table = joins.same.0 ∙ w.bears.belongs.table; shape = joins.same.1 ∙ w.bears.belongs.shape };
-          ends = subst (AllEnd e) (sym piles) (all_both d other e p.endings.items q.endings.items shape joins keeps.0 w.bears.ends v.bears.ends
-              (all_kept other e q.endings.items keeps.1 v.bears.ends));
+          carries = record {
+            belongs = record { table = joins.same.0 ∙ w.bears.carries.belongs.table; shape = joins.same.1 ∙ w.bears.carries.belongs.shape };
+            ends = subst (AllEnd e) (sym piles) (all_both d other e p.endings.items q.endings.items shape joins keeps.0 w.bears.carries.ends
+                v.bears.carries.ends (all_kept other e q.endings.items keeps.1 v.bears.carries.ends));
+            room = let a = w.bears.carries.room in omega arith;
+          };
           many = let a = ap length piles in let b = length-append p.endings.items q.endings.items in let x = w.bears.many in
               let y = v.bears.many in omega arith;
-          room = let a = w.bears.room in omega arith;
         };
         fits = subst (Fits e) (sym are) record {
           bag = λ f. let a = w.fits.bag f in let b = v.fits.bag f in let x = bags_joined (bag_of d) (bag_of other) (bag_of e) bags f in
@@ -213,5 +215,5 @@ module _ {V : Type 0} where
       → IsWhole named there other ts q → JoinsWith d other e → endings_of e ≡ endings_of d + endings_of other
       → length p.endings.items + length q.endings.items ≤ vec_capacity p.endings
   room_both named here there d other e ss ts p q w v joins count =
-      let n = few_ending e.shape.blocks (state_of e) e.name in let x = w.bears.many in let y = v.bears.many in let r = w.bears.room in
-      let b : e.shape.blocks ≡ here.shape.blocks = ap (λ (k : Shape). k.blocks) (joins.same.1 ∙ w.bears.belongs.shape) in omega arith
+      let n = few_ending e.shape.blocks (state_of e) e.name in let x = w.bears.many in let y = v.bears.many in let r = w.bears.carries.room in
+      let b : e.shape.blocks ≡ here.shape.blocks = ap (λ (k : Shape). k.blocks) (joins.same.1 ∙ w.bears.carries.belongs.shape) in omega arith

@@ -101,7 +101,7 @@ module _ {V : Type 0} where
       → SplitsOff d a k hs e new → hs ≡ [] → AllVacant rs → ((x : DeskNow V) → Belongs x domain → endings_of x ≡ 0 → Bears domain x q)
       → IsWhole named domain new rs q
   split_new named domain d e new a k hs ss rs p q w parts none all bears =
-      let at = w.bears.belongs in
+      let at = w.bears.carries.belongs in
       record {
         home = w.home;
         bears = bears new (record { table = parts.beside.0 ∙ at.table; shape = parts.beside.1 ∙ at.shape }) parts.count.1;

@@ -19,6 +19,10 @@ use control_word::handle::Kind;
 use control_word::{Block, Refusal};
 use shared_handle::{Held, Shared};
 
+mod calls;
+mod compares;
+mod held;
+
 /// A cell ([util.smartptr.atomic.shared], [util.smartptr.atomic.weak]): a free one by its number from 0 among those of
 /// its kind, or a member of the object that the owner in slot `of` owns and points into (own).
 #[derive(Clone, Copy, Drop)]

@@ -2,29 +2,15 @@
 //! callers.
 #![tactic(auto)]
 
-mod assigning;
-mod cell_calls;
-mod cell_compares;
 mod cells;
-mod copying;
-mod empties;
 mod ends;
 mod fault;
-mod held_cells;
-mod joining;
-mod kinds;
-mod leaving;
-mod locking;
-mod making;
-mod pairs;
+mod handles;
+mod looks;
 mod parting;
 mod program;
 mod slots;
 mod table;
-mod telling;
-mod this;
-mod upgrading;
-mod visiting;
 
 pub use atomic_cells::SharedMember;
 pub use cells::Cell;

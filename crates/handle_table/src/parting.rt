@@ -8,8 +8,8 @@ ghost use Rattle.handle_table.specs.Parting.{Absorbs, HandsOver, IsNew, LeaveSlo
 ghost use Rattle.handle_table.specs.Parting.{WindsUp, handles_from};
 ghost use Rattle.handle_table.specs.Tables.{AllVacant, Fits, on_pile};
 
-use crate::assigning::let_go;
 use crate::fault::Fault;
+use crate::slots::assigning::let_go;
 use crate::slots::open_slots;
 use crate::table::{HandleTable, Home};
 use control_block::desk::Desk;
@@ -19,6 +19,8 @@ use shared_handle::{Held, Pile};
 use std::alloc::Global;
 use std::marker::PhantomData;
 use std::sync::Wait;
+
+mod joining;
 
 /// All handles leave their slots, the last one first.
 fn let_all_go<V: Drop + Send>(
@@ -207,6 +209,7 @@ impl<'d, V: Drop + Send, H: Home> HandleTable<'d, V, H> {
     }
 
     /// All handles leave, the last slot's first, and then all that is left to end does so.
+    #[tactic(auto, using(shared_handle::proofs::Piles::bears_after))]
     pub(crate) fn into_desk<R: Wait>(self, rt: &R) -> Desk<V>
         ensures here { Belongs result H.domain }
         ensures none { Fits result [] × (endings_of result ≡ 0) }

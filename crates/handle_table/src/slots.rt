@@ -10,6 +10,9 @@ use crate::fault::Fault;
 use control_block::handles::Weak;
 use shared_handle::{Held, Shared};
 
+pub(crate) mod assigning;
+pub(crate) mod kinds;
+
 /// So many vacant slots.
 #[tactic(auto, using(crate::proofs::Filling::vacant_append))]
 pub(crate) fn open_slots(slots: &mut Vec<Option<Held>>, count: usize)

@@ -1,5 +1,7 @@
-use Rattle.std.proofs.Common.{subst, refl, inl, inr}
+use Rattle.std.proofs.Common.{◌≡◌, ◌∙◌, Option, subst, refl, inl, inr}
+use Rattle.control_word.specs.declared.place.Place.{Place}
 use Rattle.control_block.specs.declared.handles.Held.TheVariants.{Owner}
+use Rattle.shared_handle.specs.Calls.{Shares, pointed}
 use Rattle.handle_table.specs.This.{Aliases, WhyNoAlias}
 use Rattle.handle_table.specs.Tables.{TableNow}
 use Rattle.handle_table.proofs.Filling.{fits_at}
@@ -21,6 +23,8 @@ assign-requires-clause-bears g c κs within =
 pub returns-in-Ok-copy-clause-aliased : goal.returns-in-Ok-copy-clause-aliased
 returns-in-Ok-copy-clause-aliased g c =
     let e = c.in-Ok-copy.ensures in let h = c.in-Ok-copy.copy in
+    let same : pointed c.args.place ≡ c.args.place = e.given (inr (inr (c.if-not-is_pointer.ensures refl))) in
+    let event = subst (λ (p : Option Place). Shares c.self.inside.desk c.in-Ok.owner.now.block c.in-Ok.owner.now.place p c.alias-copy.new.desk) same e.event in
     subst (λ (t : TableNow g.row.V.Denot). Aliases t c.args.of c.args.place c.args.to (seen c.assign.new.desk c.assign.new.slots.items c.assign.new.pile))
     c.self.view_is
     record {
@@ -29,7 +33,7 @@ returns-in-Ok-copy-clause-aliased g c =
       copy = record {
         handle = Owner h;
         between = c.alias-copy.new.desk;
-        comes = record { owner = h; is = refl; event = (e.handle.0, e.handle.1, e.event) };
+        comes = record { owner = h; is = refl; event = (e.handle.0, e.handle.1 ∙ same, event) };
         assigns = c.assign.ensures.assigns;
       };
     }

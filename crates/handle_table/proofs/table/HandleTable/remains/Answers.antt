@@ -8,12 +8,12 @@ use Rattle.handle_table.proofs.table.HandleTable.remains.Goals as goal
 
 pub is_null-requires-clause-ends : goal.is_null-requires-clause-ends
 is_null-requires-clause-ends g c κs within =
-    c.in_ok-top.ensures.ends c.self.inside.domain.now c.self.inside.desk c.self.invariant.bears
+    c.in_ok-top.ensures.ends c.self.inside.domain.now c.self.inside.desk c.self.invariant.bears.carries
 
 pub fields-fields-requires-clause-ends : goal.fields-fields-requires-clause-ends
 fields-fields-requires-clause-ends g c κs within =
     subst (λ d. Ends d c.in_ok-top.top.now) (sym c.is_null.ensures.same)
-    (c.in_ok-top.ensures.ends c.self.inside.domain.now c.self.inside.desk c.self.invariant.bears)
+    (c.in_ok-top.ensures.ends c.self.inside.domain.now c.self.inside.desk c.self.invariant.bears.carries)
 
 pub returns-then-is_null-clause-told : goal.returns-then-is_null-clause-told
 returns-then-is_null-clause-told g c =

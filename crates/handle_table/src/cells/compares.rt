@@ -1,0 +1,137 @@
+//! Compare-and-swap of cells.
+ghost use Rattle.std.specs.Prelude.{◌≡◌, ◌<◌, ◌∷◌, true, false, length, slice_set, IfErr, IfOk, None};
+ghost use Rattle.std.specs.Prelude.{Some};
+ghost use Rattle.shared_handle.specs.Piles.{Bears};
+ghost use Rattle.handle_table.specs.Compares.{Compares, Follows, WhyNotCompared};
+ghost use Rattle.handle_table.specs.Tables.{Fits, on_pile};
+
+use crate::cells::held::{Form, Spurious, Strong, compare_held};
+use crate::cells::{Cell, find};
+use crate::fault::Fault;
+use crate::slots::assigning::{assign, let_go};
+use crate::slots::kinds::{content_at, into_content};
+use crate::table::{HandleTable, Home};
+use control_block::desk::Desk;
+use control_block::domain::Domain;
+use shared_handle::{Held, Pile};
+use std::sync::Wait;
+
+/// The handle in the slot went into a cell.
+fn vacate(slots: &mut Vec<Option<Held>>, at: usize)
+    requires { at < length slots.old.items }
+    ensures { slots.new.items ≡ slice_set slots.old.items at None }
+{
+    match slots[at].take() {
+        None => {}
+        Some(handle) => {
+            into_content(handle);
+        }
+    }
+}
+
+/// What a compare does to the slots.
+fn follow<V: Drop + Send>(
+    domain: &Domain<V>,
+    desk: &mut Desk<V>,
+    slots: &mut Vec<Option<Held>>,
+    pile: &mut Pile<V>,
+    expected: usize,
+    desired: usize,
+    swapped: bool,
+    found: Held,
+)
+    requires bears { Bears domain.now desk.old pile.old }
+    requires there { (expected < length slots.old.items) × (desired < length slots.old.items) }
+    requires swapped { swapped ≡ true → Fits desk.old (Some found ∷ slice_set slots.old.items desired None) }
+    requires differs { swapped ≡ false → Fits desk.old (Some found ∷ slots.old.items) }
+    ensures bears { Bears domain.now desk.new pile.new }
+    ensures fits { Fits desk.new slots.new.items }
+    ensures follows { Follows swapped desk.old slots.old.items
+        (on_pile pile.old) found expected desired desk.new slots.new.items (on_pile pile.new) }
+{
+    if swapped {
+        vacate(slots, desired);
+        let_go(domain, desk, pile, found);
+        return;
+    }
+    assign(domain, desk, slots, pile, expected, found);
+}
+
+impl<'d, V: Drop + Send, H: Home> HandleTable<'d, V, H> {
+    /// Either of the two, whether the cell was swapped.
+    fn compare<F: Form, R: Wait>(
+        &mut self,
+        rt: &R,
+        cell: Cell,
+        expected: usize,
+        desired: usize,
+    ) -> Result<bool, Fault>
+        ensures compared { IfOk result (λ swapped. Compares F.weak self.old cell expected desired swapped self.new) }
+        ensures refused { IfErr result
+            (λ why. WhyNotCompared self.old cell expected desired why × (self.new ≡ self.old)) }
+    {
+        let at = match find(self.domain, &self.desk, &self.slots, cell) {
+            Ok(at) => at,
+            Err(why) => return Err(why),
+        };
+        let there = match content_at(&self.slots, expected, at.kind) {
+            Ok(there) => there,
+            Err(why) => return Err(why),
+        };
+        let new = match content_at(&self.slots, desired, at.kind) {
+            Ok(new) => new,
+            Err(why) => return Err(why),
+        };
+        match compare_held::<V, F, R>(rt, self.domain, &mut self.desk, at, there, new) {
+            Ok(compared) => {
+                let (swapped, found) = compared;
+                follow(
+                    self.domain,
+                    &mut self.desk,
+                    &mut self.slots,
+                    &mut self.pile,
+                    expected,
+                    desired,
+                    swapped,
+                    found,
+                );
+                Ok(swapped)
+            }
+            Err(why) => Err(Fault::Call(why)),
+        }
+    }
+
+    /// Where the cell holds a pointer equivalent to that in the slot `expected` (the same place, and the same object or
+    /// none), the one in the slot `desired` goes in, and what the cell held leaves: true, and the slot is vacant then.
+    /// Else a copy of what the cell holds is assigned to the slot `expected`, as in C++ ([util.smartptr.atomic.shared],
+    /// [util.smartptr.atomic.weak]): false, and what was desired stays where it is.
+    pub fn compare_exchange_strong<R: Wait>(
+        &mut self,
+        rt: &R,
+        cell: Cell,
+        expected: usize,
+        desired: usize,
+    ) -> Result<bool, Fault>
+        ensures compared { IfOk result (λ swapped. Compares false self.old cell expected desired swapped self.new) }
+        ensures refused { IfErr result
+            (λ why. WhyNotCompared self.old cell expected desired why × (self.new ≡ self.old)) }
+    {
+        self.compare::<Strong, R>(rt, cell, expected, desired)
+    }
+
+    /// The same, and it may differ on an equivalent pointer ([util.smartptr.atomic.shared],
+    /// [util.smartptr.atomic.weak]).
+    pub fn compare_exchange_weak<R: Wait>(
+        &mut self,
+        rt: &R,
+        cell: Cell,
+        expected: usize,
+        desired: usize,
+    ) -> Result<bool, Fault>
+        ensures compared { IfOk result (λ swapped. Compares true self.old cell expected desired swapped self.new) }
+        ensures refused { IfErr result
+            (λ why. WhyNotCompared self.old cell expected desired why × (self.new ≡ self.old)) }
+    {
+        self.compare::<Spurious, R>(rt, cell, expected, desired)
+    }
+}

@@ -1,0 +1,123 @@
+//! The calls of a desk on cells of either kind.
+ghost use Rattle.std.specs.Prelude.{◌≡◌, ◌+◌, cond, IfErr, IfOk, OnOk};
+ghost use Rattle.control_word.specs.declared.refusal.Refusal.TheVariants.{Limit};
+ghost use Rattle.control_block.specs.CellCalls.{Holds, IsOpenAt, cell_at, without_handle};
+ghost use Rattle.control_block.specs.Desks.{Belongs, Keeps, allowance_of, bag_of, held_of};
+ghost use Rattle.control_block.specs.HandleLists.{IsHeld, with_held, without_held};
+ghost use Rattle.atomic_cells.specs.Cells.{Exchanges, Loads};
+ghost use Rattle.atomic_cells.specs.Compares.{Compares};
+ghost use Rattle.handle_table.specs.Parts.{kind_of, owned_by, place_of};
+
+use crate::slots::kinds::{held_of, into_content};
+use control_block::cell_calls::{self, CellAt, Content};
+use control_block::cell_compare_calls;
+use control_block::desk::Desk;
+use control_block::domain::Domain;
+use control_word::Refusal;
+use shared_handle::Held;
+use std::marker::Brand;
+use std::sync::Wait;
+
+/// Whether a compare may differ on an equivalent handle.
+pub(crate) trait Form {
+    ghost use Rattle.std.specs.Prelude.{Bool};
+
+    ghost weak: { Bool };
+}
+
+/// It may not.
+pub(crate) struct Strong;
+
+impl Form for Strong {
+    ghost use Rattle.std.specs.Prelude.{false};
+
+    ghost weak = { false };
+}
+
+/// It may.
+pub(crate) struct Spurious;
+
+impl Form for Spurious {
+    ghost use Rattle.std.specs.Prelude.{true};
+
+    ghost weak = { true };
+}
+
+/// A copy of what the cell holds.
+#[inline(always)]
+pub(crate) fn load_held<V: Drop + Send, R: Wait>(
+    rt: &R,
+    domain: &Domain<V>,
+    desk: &mut Desk<V>,
+    cell: CellAt,
+) -> Result<Held, Refusal>
+    requires domain { Belongs desk.old domain.now }
+    requires cell { IsOpenAt desk.old cell.site cell.kind }
+    ensures kind { IfOk result (λ h. kind_of h ≡ cell.kind) }
+    ensures event { IfOk result
+        (λ h. Loads desk.old (cell_at desk.old cell.site) cell.kind (owned_by h) (place_of h) desk.new) }
+    ensures bag { IfOk result (λ h. bag_of desk.new ≡ with_held h (bag_of desk.old)) }
+    ensures held { OnOk result (desk.new.held ≡ desk.old.held + 1) }
+    ensures keeps { OnOk result (Keeps desk.old desk.new) }
+    ensures refused { IfErr result
+        (λ why. (why ≡ Limit) × (held_of desk.old ≡ allowance_of desk.old) × (desk.new ≡ desk.old)) }
+{
+    match cell_calls::load::<V, Brand, R>(rt, domain, desk, cell) {
+        Ok(found) => Ok(held_of(found)),
+        Err(why) => Err(why),
+    }
+}
+
+/// The handle goes into the cell, and what the cell held comes out.
+#[inline]
+pub(crate) fn exchange_held<V: Drop + Send>(
+    domain: &Domain<V>,
+    desk: &mut Desk<V>,
+    cell: CellAt,
+    handle: Held,
+) -> Held
+    requires domain { Belongs desk.old domain.now }
+    requires cell { IsOpenAt desk.old cell.site cell.kind }
+    requires held { IsHeld desk.old handle × (kind_of handle ≡ cell.kind) }
+    ensures kind { kind_of result ≡ cell.kind }
+    ensures event { Exchanges desk.old (cell_at desk.old cell.site) cell.kind (owned_by handle) (place_of handle)
+        (owned_by result) (place_of result) desk.new }
+    ensures bag { bag_of desk.new ≡ with_held result (without_held handle (bag_of desk.old)) }
+    ensures held { desk.new.held ≡ desk.old.held }
+    ensures keeps { Keeps desk.old desk.new }
+{
+    let new = into_content(handle);
+    let old = cell_calls::exchange::<V, Brand>(domain, desk, cell, new);
+    held_of(old)
+}
+
+/// Where the cell holds what is expected, the new handle goes in, and what the cell held comes out: true. Else a copy
+/// of what it holds: false. A weak compare may differ all the same.
+pub(crate) fn compare_held<V: Drop + Send, F: Form, R: Wait>(
+    rt: &R,
+    domain: &Domain<V>,
+    desk: &mut Desk<V>,
+    cell: CellAt,
+    expected: Content,
+    new: Content,
+) -> Result<(bool, Held), Refusal>
+    requires domain { Belongs desk.old domain.now }
+    requires cell { IsOpenAt desk.old cell.site cell.kind }
+    requires holds { Holds desk.old cell.kind expected.block expected.place
+        × Holds desk.old cell.kind new.block new.place }
+    requires kinds { (expected.kind ≡ cell.kind) × (new.kind ≡ cell.kind) }
+    ensures kind { IfOk result (λ r. kind_of r.1 ≡ cell.kind) }
+    ensures event { IfOk result (λ r. Compares desk.old (cell_at desk.old cell.site) cell.kind expected.block
+        expected.place new.block new.place r.0 (owned_by r.1) (place_of r.1) F.weak desk.new) }
+    ensures bag { IfOk result (λ r. bag_of desk.new ≡ with_held r.1
+        (cond r.0 (without_handle cell.kind new.block new.place (bag_of desk.old)) (bag_of desk.old))) }
+    ensures held { IfOk result (λ r. desk.new.held ≡ desk.old.held + cond r.0 0 1) }
+    ensures keeps { OnOk result (Keeps desk.old desk.new) }
+    ensures refused { IfErr result
+        (λ why. (why ≡ Limit) × (held_of desk.old ≡ allowance_of desk.old) × (desk.new ≡ desk.old)) }
+{
+    match cell_compare_calls::compare::<V, Brand, R>(rt, domain, desk, cell, expected, new) {
+        Ok((swapped, found)) => Ok((swapped, held_of(found))),
+        Err(why) => Err(why),
+    }
+}

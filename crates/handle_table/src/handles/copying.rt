@@ -1,0 +1,128 @@
+//! Handles that come of others, and go to other slots.
+ghost use Rattle.std.specs.Prelude.{◌≡◌, ◌+◌, IfErr, IfOk, OnOk};
+ghost use Rattle.control_word.specs.declared.refusal.Refusal.TheVariants.{Limit};
+ghost use Rattle.control_block.specs.Desks.{Belongs, Keeps, allowance_of, bag_of, held_of};
+ghost use Rattle.control_block.specs.HandleLists.{IsHeld, with_held};
+ghost use Rattle.handle_table.specs.Calls.{Copies, Downgrades, IsCopy, Moves, WhyNoCopy, WhyNotDowngraded, WhyNotMoved};
+ghost use Rattle.handle_table.specs.declared.fault.Fault.TheVariants as fault;
+
+use crate::fault::Fault;
+use crate::slots::assigning::assign;
+use crate::slots::{handle_at, owner_at, take_handle};
+use crate::table::{HandleTable, Home};
+use control_block::desk::Desk;
+use control_block::domain::Domain;
+use control_word::Refusal;
+use shared_handle::{Held, downgrade, share, share_weak};
+
+/// A copy of a handle.
+fn copy_of<V: Drop + Send>(
+    domain: &Domain<V>,
+    desk: &mut Desk<V>,
+    handle: &Held,
+) -> Result<Held, Refusal>
+    requires domain { Belongs desk.old domain.now }
+    requires held { IsHeld desk.old handle.now }
+    ensures copy { IfOk result (λ h. IsCopy handle.now desk.old h desk.new) }
+    ensures bag { IfOk result (λ h. bag_of desk.new ≡ with_held h (bag_of desk.old)) }
+    ensures held { OnOk result (desk.new.held ≡ desk.old.held + 1) }
+    ensures keeps { OnOk result (Keeps desk.old desk.new) }
+    ensures refused { IfErr result
+        (λ why. (why ≡ Limit) × (held_of desk.old ≡ allowance_of desk.old) × (desk.new ≡ desk.old)) }
+{
+    match handle {
+        Held::Owner(owner) => match share(domain, desk, owner) {
+            Ok(copy) => Ok(Held::Owner(copy)),
+            Err(why) => Err(why),
+        },
+        Held::Weak(weak) => match share_weak(domain, desk, weak) {
+            Ok(copy) => Ok(Held::Weak(copy)),
+            Err(why) => Err(why),
+        },
+    }
+}
+
+impl<'d, V: Drop + Send, H: Home> HandleTable<'d, V, H> {
+    /// A copy of a handle is assigned to a slot ([util.smartptr.shared.assign], [util.smartptr.weak.assign]), which may
+    /// be the handle's own: then the slot has the copy. What lay there leaves.
+    pub fn copy(&mut self, from: usize, to: usize) -> Result<(), Fault>
+        ensures copied { OnOk result (Copies self.old from to self.new) }
+        ensures refused { IfErr result (λ why. WhyNoCopy self.old from to why × (self.new ≡ self.old)) }
+    {
+        if to >= self.slots.len() {
+            return Err(Fault::Slot);
+        }
+        let copy = match handle_at(&self.slots, from) {
+            Ok(handle) => copy_of(self.domain, &mut self.desk, handle),
+            Err(why) => return Err(why),
+        };
+        match copy {
+            Ok(copy) => {
+                assign(
+                    self.domain,
+                    &mut self.desk,
+                    &mut self.slots,
+                    &mut self.pile,
+                    to,
+                    copy,
+                );
+                Ok(())
+            }
+            Err(why) => Err(Fault::Call(why)),
+        }
+    }
+
+    /// A weak handle of an owner's object is assigned to a slot ([util.smartptr.weak.assign]). What lay there leaves.
+    pub fn downgrade(&mut self, from: usize, to: usize) -> Result<(), Fault>
+        ensures downgraded { OnOk result (Downgrades self.old from to self.new) }
+        ensures refused { IfErr result (λ why. WhyNotDowngraded self.old from to why × (self.new ≡ self.old)) }
+    {
+        if to >= self.slots.len() {
+            return Err(Fault::Slot);
+        }
+        let weak = match owner_at(&self.slots, from) {
+            Ok(owner) => downgrade(self.domain, &mut self.desk, owner),
+            Err(why) => return Err(why),
+        };
+        match weak {
+            Ok(weak) => {
+                let weak = Held::Weak(weak);
+                assign(
+                    self.domain,
+                    &mut self.desk,
+                    &mut self.slots,
+                    &mut self.pile,
+                    to,
+                    weak,
+                );
+                Ok(())
+            }
+            Err(why) => Err(Fault::Call(why)),
+        }
+    }
+
+    /// A handle goes to another slot ([util.smartptr.shared.assign]), and its own is vacant then. What lay there
+    /// leaves. A handle that is moved to its own slot stays there.
+    pub fn move_to(&mut self, from: usize, to: usize) -> Result<(), Fault>
+        ensures moved { OnOk result (Moves self.old from to self.new) }
+        ensures refused { IfErr result (λ why. WhyNotMoved self.old from to why × (self.new ≡ self.old)) }
+    {
+        if to >= self.slots.len() {
+            return Err(Fault::Slot);
+        }
+        match take_handle(&mut self.slots, from) {
+            Ok(handle) => {
+                assign(
+                    self.domain,
+                    &mut self.desk,
+                    &mut self.slots,
+                    &mut self.pile,
+                    to,
+                    handle,
+                );
+                Ok(())
+            }
+            Err(why) => Err(why),
+        }
+    }
+}

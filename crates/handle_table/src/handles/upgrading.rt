@@ -1,0 +1,43 @@
+//! Owners from weak handles, or a refusal.
+ghost use Rattle.std.specs.Prelude.{◌≡◌, IfErr, OnOk};
+ghost use Rattle.handle_table.specs.Handles.{Upgrades, WhyNotUpgraded};
+
+use crate::fault::Fault;
+use crate::slots::assigning::assign;
+use crate::slots::weak_at;
+use crate::table::{HandleTable, Home};
+use shared_handle::{Held, upgrade};
+use std::sync::Wait;
+
+impl<'d, V: Drop + Send, H: Home> HandleTable<'d, V, H> {
+    /// The constructor from a weak pointer ([util.smartptr.shared.const]): an owner of the weak handle's object is
+    /// assigned to a slot. What lay there leaves. Where no owner remains at its step it is refused `BadWeak`
+    /// ([util.smartptr.weak.bad]): then the slots are as they were.
+    pub fn upgrade<R: Wait>(&mut self, rt: &R, from: usize, to: usize) -> Result<(), Fault>
+        ensures upgraded { OnOk result (Upgrades self.old from to self.new) }
+        ensures refused { IfErr result (λ why. WhyNotUpgraded self.old from to why self.new) }
+    {
+        if to >= self.slots.len() {
+            return Err(Fault::Slot);
+        }
+        let owner = match weak_at(&self.slots, from) {
+            Ok(weak) => upgrade(rt, self.domain, &mut self.desk, weak),
+            Err(why) => return Err(why),
+        };
+        match owner {
+            Ok(owner) => {
+                let owner = Held::Owner(owner);
+                assign(
+                    self.domain,
+                    &mut self.desk,
+                    &mut self.slots,
+                    &mut self.pile,
+                    to,
+                    owner,
+                );
+                Ok(())
+            }
+            Err(why) => Err(Fault::Call(why)),
+        }
+    }
+}
