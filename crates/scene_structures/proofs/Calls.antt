@@ -76,16 +76,14 @@ module _ {V : Type 0} where
       → domain.shape.blocks ≤ vec_capacity p.endings
   room_of domain p bears =
       let d : DeskNow V = record { domain = domain.id; shape = domain.shape; name = 0; seen = []; held = 0 } in
-      (bears d record { table = refl; shape = refl } (sum_none domain.shape.blocks _ (λ j. refl))).room
+      (bears d record { table = refl; shape = refl } (sum_none domain.shape.blocks _ (λ j. refl))).carries.room
 
   -- an empty pile serves
   pub serves_empty : (domain : DomainNow) (d : DeskNow V) (p : Pile V) → Bears domain d p → p.endings.items ≡ [] → Serves domain p
   serves_empty domain d p bears none e belongs settled =
       record {
-        belongs = belongs;
-        ends = subst (AllEnd e) (sym none) tt;
+        carries = record { belongs = belongs; ends = subst (AllEnd e) (sym none) tt; room = bears.carries.room };
         many = ap length none ∙ sym settled;
-        room = bears.room;
       }
 
   -- a domain's first desk

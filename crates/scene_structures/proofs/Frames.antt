@@ -51,7 +51,7 @@ abbrev pub AllLive : State → List ℕ → Type 0
 AllLive s [] = Unit {0}
 AllLive s (o ∷ os) = ((s.object o).phase ≡ live) × (o ≤ s.made) × AllLive s os
 
-live_if : (p : Phase) (n : ℕ) → OwnersFit p n → 0 < n → p ≡ live
+pub live_if : (p : Phase) (n : ℕ) → OwnersFit p n → 0 < n → p ≡ live
 live_if unmade n fit some' = absurd (omega arith)
 live_if live n fit some' = refl
 live_if gone n fit some' = absurd (omega arith)

@@ -51,7 +51,7 @@ module _ {V : Type 0} where
           let block : c.0 ≡ q.block.0 = sym held.1 ∙ (ap (λ n. ((state_of d).object n).block) number ∙ sym owns.2) in
           (q, place, ap Some (same_block c q.block block))
 
-  legal_after : (d e : DeskNow V) (x : Event V) → Adds d x e → IsLegal (opening_of e.shape) e.seen
+  pub legal_after : (d e : DeskNow V) (x : Event V) → Adds d x e → IsLegal (opening_of e.shape) e.seen
   legal_after d e x adds = subst (λ (k : Shape). IsLegal (opening_of k) e.seen) (sym adds.same.1) adds.legal
 
   -- the first look

@@ -6,9 +6,10 @@ use Rattle.control_word.proofs.history.Clearing.{gets_tally}
 use Rattle.control_word.specs.Events.{cell_of, gets}
 use Rattle.control_word.specs.Handles.{empty, handle, object_of, owner}
 use Rattle.control_word.specs.Histories.{IsLegal, leads}
-use Rattle.control_word.specs.State.{State, count, in_cells, tally}
+use Rattle.control_word.specs.State.{Has, State, count, in_cells, tally}
 use Rattle.control_word.specs.declared.event.Cell.{Cell}
 use Rattle.control_word.specs.declared.event.Cell.TheVariants.{Member}
+use Rattle.control_word.specs.declared.event.Event.{Event}
 use Rattle.control_word.specs.declared.event.Event.TheVariants.{Load}
 use Rattle.control_word.specs.declared.handle.Handle.{Handle}
 use Rattle.control_word.specs.declared.handle.Kind.TheVariants.{Owner, Weak}
@@ -20,7 +21,7 @@ use Rattle.control_block.specs.CellCalls.{handle_in, with_handle}
 use Rattle.control_block.specs.Desks.{Adds, DeskNow, bag_of, latest_of, state_of}
 use Rattle.control_block.specs.LockCalls.{state_before}
 use Rattle.control_block.specs.LockPlays.{earlier}
-use Rattle.control_block.specs.Own.{IsSole}
+use Rattle.control_block.specs.Own.{IsSole, KeepsLatest}
 use Rattle.control_block.specs.Rule.{opening_of}
 use Rattle.control_block.specs.declared.handles.Shared.{Shared}
 use Rattle.shared_handle.proofs.Goings.{does_one}
@@ -35,8 +36,8 @@ use Rattle.scene_structures.specs.Parents.{IsParent, LocksUp, owner_of}
 use Rattle.scene_structures.specs.Puts.{PutsOnly, nowhere}
 use Rattle.scene_structures.proofs.Alone.{sole_on}
 use Rattle.scene_structures.proofs.Calls.{got_lists}
-use Rattle.scene_structures.proofs.Latest.{weak_latest}
-use Rattle.scene_structures.proofs.Pushes.{same_node}
+use Rattle.scene_structures.proofs.Latest.{has_over, weak_latest}
+use Rattle.scene_structures.proofs.Pushes.{same_node, shares_does}
 
 -- a weak handle that a desk gets changes no count of owners
 weak_counts : (s : State) (d q : ℕ) (n : Option ℕ) (p : Option Place) → count (gets d (handle Weak n p) s) q ≡ count s q
@@ -73,6 +74,20 @@ module _ {V : Type 0} where
         vacant = v;
         leaves = leaves;
       }
+
+  -- what the desk has is on the object that it was on
+  lock_latest : (d e : DeskNow V) (b : Option Block) (p : Option Place) (got : Bool) → Locks d b p got e → KeepsLatest d e
+  lock_latest d e None p got is = (shares_does nowhere d e None p p is.1).1
+  lock_latest d e (Some b) p got is = calls_keep_latest d _ e is.0
+
+  pub climb_latest : (d m n e : DeskNow V) (x : Event V) (b hb : Option Block) (p hp : Option Place) (got v : Bool) → Adds d x m
+      → bag_of m ≡ with_handle Weak b p (bag_of d) → Locks m b p got n → bag_of n ≡ with_handle Owner hb hp (bag_of m) → LeavesWeakly n b p v e
+      → KeepsLatest d e
+  climb_latest d m n e x b hb p hp got v loads bag_m locks bag_n leaves k q c has =
+      let h = handle k (Some c) q in
+      let in_m : Has h (bag_of m) = subst (Has h) (sym bag_m) (has_over Weak b p h (bag_of d) has) in
+      let in_n : Has h (bag_of n) = subst (Has h) (sym bag_n) (has_over Owner hb hp h (bag_of m) in_m) in
+      weak_latest n e b p v leaves k q c in_n ∙ (lock_latest m n b p got locks k q c in_m ∙ calls_keep_latest d x m loads k q c has)
 
   -- on a sole desk
   parent_is : (d e : DeskNow V) (o : ℕ) (h : Shared) (a : LocksUp d o h e) → IsLegal (opening_of d.shape) d.seen → IsSole d

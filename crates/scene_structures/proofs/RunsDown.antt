@@ -185,10 +185,11 @@ module _ {V : Type 0} where
         rest = t.0;
         left = t.1;
         slots = ts;
+        above = t.3;
         order = t.2;
         out = is;
         whole = λ none. is ∙ out_whole ts t.0 _ none t.2;
-        stops = t.3;
+        stops = t.4;
       }
 
   -- one round more
@@ -201,11 +202,15 @@ module _ {V : Type 0} where
         are = (runs.are, round);
         many = omega arith;
         out = λ base zs vs same out.
-            let t = runs.out base zs vs same out in round_out m e ps qs r ts us is round steps vacant some base t.0 _ t.1 t.2;
+            let t = runs.out base zs vs same out in
+            let u = round_out m e ps qs r ts us is round steps vacant some base t.0 _ t.1 t.2 in
+            let one = not_none is some in
+            let top = top_there ts t.0 _ one.0 one.1 (sym vacant ∙ one.2) t.2 in
+            (u.0, u.1, u.2, (t.3, (top.0, top.1, t.1 ∙ ap (λ l. base ++ l) top.2)));
       }
 
   pub runs_none : (d : DeskNow V) (ys : List (Ending V)) (ss : List (Option V)) → Runs d ys ss 0 d ys ss
-  runs_none d ys ss = record { rounds = []; are = (refl, refl); many = refl; out = λ base zs vs same out. (zs, same, out) }
+  runs_none d ys ss = record { rounds = []; are = (refl, refl); many = refl; out = λ base zs vs same out. (zs, same, out, tt) }
 
   pub runs_over : (blocks b : ℕ) (d e : DeskNow V) (ys qs : List (Ending V)) (ss ts : List (Option V)) (is : List ℕ) (n : ℕ) → b ≡ blocks
       → Runs d ys ss n e qs ts → n ≤ 4 * blocks → is ≡ empty_slots 0 ts → (is ≡ []) ⊎ ((4 * b ≤ n) ⊎ (b < length ts))
@@ -214,7 +219,7 @@ module _ {V : Type 0} where
       record {
         rounds = runs.rounds;
         are = runs.are;
-        out = λ base zs vs are out. let t = runs.out base zs vs are out in (t.0, t.1, t.2, stop t.0 _ t.2 over);
+        out = λ base zs vs are out. let t = runs.out base zs vs are out in (t.0, t.1, t.2, t.3, stop t.0 _ t.2 over);
       }
     where
       stop : (ws : List (Ending V)) (vs : List V) → AreOut ts ws vs → (is ≡ []) ⊎ ((4 * b ≤ n) ⊎ (b < length ts))

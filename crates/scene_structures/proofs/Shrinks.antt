@@ -9,6 +9,7 @@ use Rattle.control_word.specs.Events.{cell_of}
 use Rattle.control_word.specs.Handles.{equivalent, owner}
 use Rattle.control_word.specs.Histories.{IsLegal, entry, leads}
 use Rattle.control_word.specs.State.{Opening, State, live}
+use Rattle.control_word.specs.declared.event.Cell.{Cell}
 use Rattle.control_word.specs.declared.event.Cell.TheVariants.{Free, Member}
 use Rattle.control_word.specs.declared.event.Entry.{Entry}
 use Rattle.control_word.specs.declared.event.Event.{Event}
@@ -85,11 +86,11 @@ module _ {V : Type 0} where
       )
 
   -- the look found what is in the cell
-  seen_there : (z : Opening) (d m : ℕ) (found : Handle) (x : Event V) (h : List (Entry V)) → IsLegal z (entry d x ∷ h) → Sees (Free m) found x
-      → ((leads z h).cell m ≡ found) × ((leads z (entry d x ∷ h)).object ≡ (leads z h).object)
-  seen_there z d m found (Load k got) h legal sees = (sym (ap (cell_of (leads z h)) sees.0) ∙ (sym legal.1.asks.1 ∙ sees.1), refl)
-  seen_there z d m found (Compare k ex new got false w) h legal sees = (sym (ap (cell_of (leads z h)) sees.0) ∙ (sym legal.1.asks.3 ∙ sees.1), refl)
-  seen_there z d m found x h legal sees = absurd sees
+  pub seen_there : (z : Opening) (d : ℕ) (c : Cell) (found : Handle) (x : Event V) (h : List (Entry V)) → IsLegal z (entry d x ∷ h) → Sees c found x
+      → (cell_of (leads z h) c ≡ found) × ((leads z (entry d x ∷ h)).object ≡ (leads z h).object)
+  seen_there z d c found (Load k got) h legal sees = (sym (ap (cell_of (leads z h)) sees.0) ∙ (sym legal.1.asks.1 ∙ sees.1), refl)
+  seen_there z d c found (Compare k ex new got false w) h legal sees = (sym (ap (cell_of (leads z h)) sees.0) ∙ (sym legal.1.asks.3 ∙ sees.1), refl)
+  seen_there z d c found x h legal sees = absurd sees
 
   -- where the last look found no node, the list is empty
   pub none_found : (z : Opening) (d m : ℕ) (found : Handle) (look : Event V) (before : List (Event V)) (seen : List (Entry V)) (os : List ℕ)
@@ -99,5 +100,5 @@ module _ {V : Type 0} where
   none_found z d m found look before seen (o ∷ os) legal sees early lt none list =
       let B = map (entry d) before ++ seen in let s = leads z B in
       let n = frames z d nowhere before seen m (o ∷ os) legal.0 early lt (λ e. e) (apart_nowhere (o ∷ os)) list in
-      let t = seen_there z d m found look B legal sees in
+      let t = seen_there z d (Free m) found look B legal sees in
       absurd (none o (n.0.0, sym t.0 ∙ n.0.1, n.0.2 ∙ ap (λ f. (f o).block) (sym t.1)))

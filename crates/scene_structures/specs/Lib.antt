@@ -8,4 +8,8 @@ pub mod Observers
 pub mod Scenes
 pub mod Parents
 pub mod Walks
+pub mod Prunes
+pub mod Detaches
+pub mod Leaves
 pub mod Teardowns
+pub mod Trees

@@ -67,6 +67,12 @@ module _ {V : Type 0} where
   abbrev pub MayStop : ℕ → List (Past V) → List (Ending V) → List (Option V) → Type 0
   MayStop blocks rs rest slots = (rest ≡ []) ⊎ ((length rs ≡ 4 * blocks) ⊎ (blocks < length slots))
 
+  -- each of the rounds was made while something lay above these
+  abbrev pub IsAbove : List (Ending V) → List (Past V) → Type 0
+  IsAbove xs [] = Unit {0}
+  IsAbove xs (r ∷ rs) =
+      IsAbove xs rs × ((zs : List (Ending V)) × (x : Ending V) × (r.pile ≡ xs ++ (zs ++ x ∷ [])))
+
   -- what a round makes of the slots: one more where an object ended, and the last empty one has a value where that came
   -- out
   abbrev pub StepsBy : Round V → List (Option V) → List (Option V) → Type 0
@@ -85,7 +91,7 @@ module _ {V : Type 0} where
     pub are : AreRounds d ys rounds e qs
     pub many : length rounds ≡ n
     pub out : (base zs : List (Ending V)) (vs : List V) → ys ≡ base ++ zs → AreOut ss zs vs
-        → (ws : List (Ending V)) × (qs ≡ base ++ ws) × AreOut ts ws (ended rounds qs vs)
+        → (ws : List (Ending V)) × (qs ≡ base ++ ws) × AreOut ts ws (ended rounds qs vs) × IsAbove base rounds
 
   -- and they may stop
   pub record RunsDown (blocks : ℕ) (d : DeskNow V) (ys : List (Ending V)) (ss : List (Option V))
@@ -95,10 +101,10 @@ module _ {V : Type 0} where
     pub are : AreRounds d ys rounds e qs
     pub out : (base zs : List (Ending V)) (vs : List V) → ys ≡ base ++ zs → AreOut ss zs vs
         → (ws : List (Ending V)) × (qs ≡ base ++ ws) × AreOut ts ws (ended rounds qs vs)
-        × MayStop blocks rounds ws ts
+        × IsAbove base rounds × MayStop blocks rounds ws ts
 
-  -- The root left, and in rounds of the pile ended what ends by that. The values came out in the order in which their
-  -- objects ended; what has not come out lies above what lay on the pile
+  -- The root left, and in rounds of the pile ended what ends by that, and nothing that lay on it before. The values
+  -- came out in the order in which their objects ended; what has not come out lies above what lay on the pile
   pub record TearsDown (blocks : ℕ) (d : DeskNow V) (xs : List (Ending V)) (root : Shared)
       (values : List V) (e : DeskNow V)
       (ys : List (Ending V)) : Type 0 where
@@ -108,6 +114,7 @@ module _ {V : Type 0} where
     pub drops : Drops d xs root.block root.place gone released pile
     pub rounds : List (Past V)
     pub are : AreRounds released pile rounds e ys
+    pub above : IsAbove xs rounds
     pub rest : List (Ending V)
     pub left : ys ≡ xs ++ rest
     pub slots : List (Option V)

@@ -3,7 +3,7 @@ ghost use Rattle.std.specs.Prelude.{◌≡◌, ◌+◌, IfErr, IfOk, OnOk};
 ghost use Rattle.control_word.specs.Handles.{object_of};
 ghost use Rattle.control_word.specs.declared.handle.Kind.TheVariants.{Owner};
 ghost use Rattle.control_block.specs.Desks.{Belongs, IsSameDesk, KeepsEndings, bag_of, endings_of};
-ghost use Rattle.control_block.specs.Own.{IsSole};
+ghost use Rattle.control_block.specs.Own.{IsSole, KeepsLatest};
 ghost use Rattle.shared_handle.specs.Calls.{Holds, with_handle};
 ghost use Rattle.scene_structures.specs.Hands.{node_in};
 ghost use Rattle.scene_structures.specs.Parents.{IsNode, IsParent, LocksUp, WhyNoNode};
@@ -40,6 +40,7 @@ impl<V: Drop + Send> Scene<V> {
         ensures bag { IfOk result (λ h. bag_of desk.new ≡ with_handle Owner h.block h.place (bag_of desk.old)) }
         ensures held { OnOk result (desk.new.held ≡ desk.old.held + 1) }
         ensures holds { IfOk result (λ h. Holds desk.new Owner h.block h.place) }
+        ensures latest { OnOk result (KeepsLatest desk.old desk.new) }
         ensures own { IfOk result (λ h. LocksUp desk.old (object_of (node_in desk.old node.now)) h desk.new) }
         ensures parent { IfOk result
             (λ h. IsSole desk.old → IsParent desk.old (object_of (node_in desk.old node.now)) h desk.new) }

@@ -13,6 +13,7 @@ use shared_handle::{Pile, Round, Shared, drop_shared};
 use std::sync::Wait;
 
 /// All of the pile ends, and what the desk holds meanwhile stays on its object.
+#[tactic(auto, using(shared_handle::proofs::Piles::bears_after))]
 fn settle<V: Drop + Send, R: Wait>(
     rt: &R,
     domain: &Domain<V>,
@@ -39,6 +40,7 @@ fn settle<V: Drop + Send, R: Wait>(
 }
 
 /// An owner leaves. Where it was the last, its object ends, and all that ends by that.
+#[tactic(auto, using(shared_handle::proofs::Piles::bears_after))]
 pub(crate) fn let_go<V: Drop + Send, R: Wait>(
     rt: &R,
     domain: &Domain<V>,

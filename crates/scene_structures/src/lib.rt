@@ -4,11 +4,14 @@
 
 mod attaching;
 mod climbing;
+mod cutting;
+mod detaching;
 mod ended;
 mod endings;
 mod observers;
 mod pause;
 mod popping;
+mod pruning;
 mod pushing;
 mod rounds;
 mod scene;

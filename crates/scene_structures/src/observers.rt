@@ -1,5 +1,6 @@
 //! Observers in a free shared cell: a list of nodes, each of which watches a subject by a weak pointer (own).
-ghost use Rattle.std.specs.Prelude.{◌≡◌, ◌↔◌, ◌+◌, ◌<◌, ℕ, List, [], IfErr, IfOk, IsErr, OnOk};
+ghost use Rattle.std.specs.Prelude.{◌≡◌, ◌↔◌, ◌+◌, ◌<◌, ◌%◌, ◌^◌, ℕ, List, [], None};
+ghost use Rattle.std.specs.Prelude.{IfErr, IfOk, IsErr, OnOk};
 ghost use Rattle.control_word.specs.declared.event.Cell.TheVariants.{Free};
 ghost use Rattle.control_word.specs.declared.handle.Kind.TheVariants.{Owner};
 ghost use Rattle.control_block.specs.Desks.{Belongs, IsSameDesk, allowance_of, bag_of, endings_of, held_of, stock_of};
@@ -8,10 +9,12 @@ ghost use Rattle.control_block.specs.Refusals.{IsFullOrLimit};
 ghost use Rattle.shared_handle.specs.Calls.{Holds};
 ghost use Rattle.shared_handle.specs.Piles.{FoldsBack};
 ghost use Rattle.scene_structures.specs.Observers.{Attaches, IsAttached};
+ghost use Rattle.scene_structures.specs.Prunes.{IsPruned, Prunes};
 ghost use Rattle.scene_structures.specs.Stacks.{StandsIn};
 ghost use Rattle.scene_structures.specs.Walks.{IsTold, WalksOver};
 
 use crate::attaching::watch;
+use crate::pruning::clear_list;
 use crate::pushing::{Attempt, raise};
 use crate::stack::is_near_limit;
 use crate::walking::walk;
@@ -134,6 +137,38 @@ impl<V: Drop + Send> Observers<V> {
         };
         walk(rt, domain, desk, top, &mut self.pile, tell);
         Ok(())
+    }
+
+    /// The nodes whose subject has no owner when the call comes to them go out of the list and end, if nobody else owns
+    /// them (own). How many: exactly so where the cell's nodes are a list, and else modulo 2^32. It is refused `Limit`
+    /// just where fewer than 6 handles are free, and then nothing changes. Conditions: the desk is sole, and no object
+    /// ends in its hands.
+    pub fn prune<R: Wait>(
+        &mut self,
+        rt: &R,
+        domain: &Domain<V>,
+        desk: &mut Desk<V>,
+    ) -> Result<u32, Refusal>
+        requires domain { Belongs desk.old domain.now }
+        requires stands { StandsIn self.old domain.now }
+        requires settled { endings_of desk.old ≡ 0 }
+        requires sole { IsSole desk.old }
+        ensures limit { IsErr result ↔ (allowance_of desk.old < held_of desk.old + 6) }
+        ensures refused { IfErr result (λ why. (why ≡ Refusal.Limit) × (desk.new ≡ desk.old)) }
+        ensures stands { (self.new.cell ≡ self.old.cell) × StandsIn self.new domain.now }
+        ensures settled { endings_of desk.new ≡ 0 }
+        ensures desk { IsSameDesk desk.old desk.new }
+        ensures bag { bag_of desk.new ≡ bag_of desk.old }
+        ensures held { desk.new.held ≡ desk.old.held }
+        ensures own { IfOk result (λ count. (n : ℕ) × (count ≡ n % 2 ^ 32)
+            × ((kept : List ℕ) × Prunes desk.old (Free self.old.cell) kept n None desk.new)
+            × IsPruned desk.old (Free self.old.cell) count desk.new) }
+    {
+        if is_near_limit(desk) {
+            return Err(Refusal::Limit);
+        }
+        desk.stands();
+        Ok(clear_list(rt, domain, desk, self.cell, &mut self.pile))
     }
 
     /// The access is given up (own); the observers stay as they are.

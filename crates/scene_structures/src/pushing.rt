@@ -29,7 +29,7 @@ pub(crate) struct Attempt {
 }
 
 /// The node owns this, and what it owned leaves.
-fn store_next<V: Drop + Send, R: Wait>(
+pub(crate) fn store_next<V: Drop + Send, R: Wait>(
     rt: &R,
     domain: &Domain<V>,
     desk: &mut Desk<V>,

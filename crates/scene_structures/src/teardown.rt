@@ -2,9 +2,11 @@
 ghost use Rattle.std.specs.Prelude.{◌≡◌, ◌+◌, IfErr, IfOk, OnOk};
 ghost use Rattle.control_word.specs.declared.handle.Kind.TheVariants.{Owner};
 ghost use Rattle.control_block.specs.Desks.{IsSameDesk, bag_of};
+ghost use Rattle.control_block.specs.Own.{IsSole};
 ghost use Rattle.shared_handle.specs.Calls.{Holds, without_handle};
 ghost use Rattle.shared_handle.specs.Piles.{Bears};
 ghost use Rattle.scene_structures.specs.Teardowns.{TearsDown};
+ghost use Rattle.scene_structures.specs.Trees.{IsTornDown};
 
 use crate::ended::Ended;
 use crate::rounds::run_down;
@@ -19,9 +21,12 @@ impl<V: Drop + Send> Scene<V> {
     /// The root leaves, and what ends by that does so (own): for an object first what its `first` alone owned, then its
     /// `next`. The answer has the value of each object that ended, in the order in which they did. It waits for nobody:
     /// where other desks lengthen meanwhile what ends, it makes four rounds a block, or stops when more objects have
-    /// ended than there are blocks; then the rest stays on the scene's pile. All memory is reserved before the root
-    /// leaves. It is refused `Memory` where a growth was really refused: then the root comes back, and nothing changes.
+    /// ended than there are blocks; then the rest stays on the scene's pile. For a desk that has the whole allowance
+    /// nothing stays there, and where nobody else owns an object of the root's tree, these are the values of all of
+    /// them. All memory is reserved before the root leaves. It is refused `Memory` where a growth was really refused:
+    /// then the root comes back, and nothing changes.
     /// Condition: what ends in the desk's hands is just what lies on the scene's pile.
+    #[tactic(auto, using(shared_handle::proofs::Piles::bears_after))]
     pub fn teardown(
         &mut self,
         alloc: Global,
@@ -39,6 +44,8 @@ impl<V: Drop + Send> Scene<V> {
         ensures held { OnOk result (desk.new.held + 1 ≡ desk.old.held) }
         ensures ends { IfOk result (λ values. TearsDown domain.now.shape.blocks desk.old self.old.endings.items root
             values.items desk.new self.new.endings.items) }
+        ensures whole { IfOk result (λ values. IsSole desk.old → IsTornDown desk.old root values.items) }
+        ensures settled { OnOk result (IsSole desk.old → self.new.endings.items ≡ self.old.endings.items) }
     {
         let Ok(mut ended) = Ended::new(alloc, domain.blocks() as usize + 1) else {
             return Err(Refused {
@@ -46,6 +53,7 @@ impl<V: Drop + Send> Scene<V> {
                 back: root,
             });
         };
+        desk.stands();
         match drop_shared(domain, desk, &mut self.pile, root) {
             Gone::Last => ended.begin(),
             Gone::Empty => {}

@@ -1,6 +1,6 @@
 use Rattle.std.proofs.Common.{refl, ◌∙◌}
 use Rattle.shared_handle.proofs.Goings.{does_both, does_none}
-use Rattle.shared_handle.proofs.Piles.{same_both, same_desk}
+use Rattle.shared_handle.proofs.Piles.{bears_after, same_both, same_desk}
 use Rattle.shared_handle.specs.Piles.{IsParting}
 use Rattle.scene_structures.proofs.Latest.{held_both, held_here, keeps_same, round_latest}
 use Rattle.scene_structures.proofs.endings.settle.Goals as goal
@@ -14,7 +14,7 @@ pub loop-preserved : goal.loop-preserved
 loop-preserved g c =
     let r = c.round in let e = r.ensures in let i = c.loop.invariant in let d = c.args.desk.now in let l = c.loop.desk in
     record {
-      bears = e.bears;
+      bears = bears_after c.args.domain.now l r.new.desk c.loop.pile r.new.self i.bears e.carries e.elsewhere;
       bag = e.bag ∙ i.bag;
       held = e.held ∙ i.held;
       same = same_both d l r.new.desk i.same e.desk;
@@ -26,7 +26,7 @@ pub loop-preserved-in-Cleared : goal.loop-preserved-in-Cleared
 loop-preserved-in-Cleared g c =
     let r = c.round in let e = r.ensures in let i = c.loop.invariant in let d = c.args.desk.now in let l = c.loop.desk in
     record {
-      bears = e.bears;
+      bears = bears_after c.args.domain.now l r.new.desk c.loop.pile r.new.self i.bears e.carries e.elsewhere;
       bag = e.bag ∙ i.bag;
       held = e.held ∙ i.held;
       same = same_both d l r.new.desk i.same e.desk;

@@ -1,5 +1,5 @@
 use Rattle.std.proofs.Common.{rules, refl, ◌∙◌, arith}
-use Rattle.shared_handle.proofs.Piles.{same_both, same_desk}
+use Rattle.shared_handle.proofs.Piles.{bears_after, same_both, same_desk}
 use Rattle.scene_structures.proofs.RunsDown.{runs_none, runs_on, runs_over}
 use Rattle.scene_structures.proofs.rounds.run_down.Goals as goal
 
@@ -25,7 +25,7 @@ loop-pile-preserved g c =
     let on = c.is_over.ensures.not (search rules) in
     let blocks = i.blocks in let more = t.few in let few = on.2 in let most = on.1 in
     record {
-      bears = r.bears;
+      bears = bears_after c.args.domain.now c.loop-pile.desk c.round-round.new.desk c.loop-pile.pile c.round-round.new.self i.bears r.carries r.elsewhere;
       bag = r.bag ∙ i.bag;
       held = r.held ∙ i.held;
       same = same_both c.args.desk.now c.loop-pile.desk c.round-round.new.desk i.same r.desk;

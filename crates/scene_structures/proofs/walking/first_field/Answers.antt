@@ -1,10 +1,11 @@
-use Rattle.std.proofs.Common.{◌≡◌, Option, Some, sym, subst, ◌∙◌}
+use Rattle.std.proofs.Common.{◌≡◌, Option, Some, refl, inl, inr, sym, subst, ◌∙◌}
 use Rattle.control_word.specs.Events.{place_at}
 use Rattle.control_word.specs.declared.handle.Kind.TheVariants.{Owner}
 use Rattle.control_word.specs.declared.place.Block.{Block}
+use Rattle.control_word.specs.declared.place.Place.{Place}
 use Rattle.control_block.specs.CellCalls.{with_handle}
 use Rattle.control_block.specs.Desks.{bag_of}
-use Rattle.shared_handle.specs.Calls.{Holds, Shares}
+use Rattle.shared_handle.specs.Calls.{Holds, IsOfThis, Shares}
 use Rattle.scene_structures.specs.Walks.{TellsField}
 use Rattle.scene_structures.proofs.Walks.{tells, told_latest}
 use Rattle.scene_structures.proofs.walking.first_field.Goals as goal
@@ -14,9 +15,11 @@ returns-clause-latest g c =
     let d = c.args.desk.now in let m = c.alias.new.desk in let n = c.read.new.desk in let e = c.let_go.new.desk in
     let b = c.in-Some.block in let p = c.args.owner.now.place in let r = c.in-Ok-read.ensures in let a = c.in-Ok.ensures in let first = c.in-Ok.first in
     let is : c.args.owner.now.block ≡ Some b = sym c.in-Some.ensures in
+    let same = a.given (inr (inl (subst (λ (k : Option Block). IsOfThis k (place_at b.0)) (sym is) refl))) in
+    let event = subst (λ (q : Option Place). Shares d c.args.owner.now.block p q m) same a.event in
     let bag : bag_of m ≡ with_handle Owner first.block first.place (bag_of d) =
     a.bag ∙ (λ i. with_handle Owner (sym a.handle.0 i) (sym a.handle.1 i) (bag_of d)) in
-    told_latest d m n e _ _ first.block first.place (subst (λ (k : Option Block). Shares d k p (place_at b.0) m) is a.event) bag r.read.3 r.bag
+    told_latest d m n e _ _ first.block first.place (subst (λ (k : Option Block). Shares d k p (place_at b.0) m) is event) bag r.read.3 r.bag
     c.let_go.ensures.latest c.let_go.ensures.bag
 
 pub returns-clause-own : goal.returns-clause-own
@@ -24,7 +27,9 @@ returns-clause-own g c =
     let d = c.args.desk.now in let m = c.alias.new.desk in let n = c.read.new.desk in let e = c.let_go.new.desk in
     let b = c.in-Some.block in let p = c.args.owner.now.place in let r = c.in-Ok-read.ensures.read in let a = c.in-Ok.ensures in
     let is : c.args.owner.now.block ≡ Some b = sym c.in-Some.ensures in
+    let same = a.given (inr (inl (subst (λ (k : Option Block). IsOfThis k (place_at b.0)) (sym is) refl))) in
+    let event = subst (λ (q : Option Place). Shares d c.args.owner.now.block p q m) same a.event in
     subst (λ (k : Option Block). TellsField d k (Some c.in-Ok-read.told) e) (sym is)
-    (tells d m n e b p c.in-Ok-read.told r.0 (subst (λ (k : Option Block). Shares d k p (place_at b.0) m) is a.event)
-    (subst (λ (k : Option Block). Holds d Owner k p) is c.requires.holds) (sym a.handle.1 ∙ r.1)
+    (tells d m n e b p c.in-Ok-read.told r.0 (subst (λ (k : Option Block). Shares d k p (place_at b.0) m) is event)
+    (subst (λ (k : Option Block). Holds d Owner k p) is c.requires.holds) (sym same ∙ (sym a.handle.1 ∙ r.1))
     (sym is ∙ (sym a.handle.0 ∙ r.2)) r.3 c.let_go.ensures.own)

@@ -1,4 +1,6 @@
-use Rattle.std.proofs.Common.{◌+◌, ◌∙◌, ap, sym, subst}
+use Rattle.std.proofs.Common.{◌≡◌, ◌+◌, ◌++◌, ◌∙◌, [], ap, refl, sym, subst}
+use Rattle.std.proofs.lemmas.List.{append-nil}
+use Rattle.control_block.specs.Own.{IsSole}
 use Rattle.shared_handle.specs.Piles.{Drops}
 use Rattle.shared_handle.specs.declared.pile.Gone.{Gone}
 use Rattle.shared_handle.specs.declared.pile.Gone.TheVariants.{Empty, Others}
@@ -6,6 +8,9 @@ use Rattle.shared_handle.specs.declared.pile.Pile.{Pile}
 use Rattle.scene_structures.specs.Teardowns.{HasRoom, TearsDown}
 use Rattle.scene_structures.specs.declared.ended.Ended.{Ended}
 use Rattle.scene_structures.proofs.RunsDown.{out_rest, out_root, tears_down}
+use Rattle.scene_structures.proofs.Settles.{none_left}
+use Rattle.scene_structures.proofs.Whole.{torn_down}
+use Rattle.scene_structures.proofs.scene.Scene.teardown.Given.{Over}
 use Rattle.scene_structures.proofs.scene.Scene.teardown.Goals as goal
 use Rattle.scene_structures.proofs.scene.Scene.teardown.Goals.{in-Last, in-Empty, in-Others}
 
@@ -45,3 +50,22 @@ returns-clause-ends g c =
           tears_down blocks d m e xs ps ys root _ ss ts values drops z.0 z.1 z.2 runs c.into_values.ensures
           )
     ])
+
+whole : (g : Over) (c : goal.After-into_values g)
+    → TearsDown c.args.domain.now.shape.blocks c.args.desk.now c.args.self.now.endings.items c.args.root c.into_values.result.items c.run_down.new.desk
+    c.run_down.new.pile.endings.items
+whole g c = returns-clause-ends g c
+
+none : (g : Over) (c : goal.After-into_values g) → IsSole c.args.desk.now → (whole g c).rest ≡ []
+none g c sole =
+    none_left c.args.domain.now c.args.desk.now c.run_down.new.desk c.args.self.now.endings.items c.run_down.new.pile.endings.items c.run_down.new.pile
+    c.args.root c.into_values.result.items (whole g c) c.stands.ensures.legal sole c.run_down.ensures.bears refl
+
+pub returns-clause-settled : goal.returns-clause-settled
+returns-clause-settled g c sole =
+    (whole g c).left ∙ (ap (λ l. c.args.self.now.endings.items ++ l) (none g c sole) ∙ append-nil c.args.self.now.endings.items)
+
+pub returns-clause-whole : goal.returns-clause-whole
+returns-clause-whole g c sole =
+    torn_down c.args.domain.now.shape.blocks c.args.desk.now c.run_down.new.desk c.args.self.now.endings.items c.run_down.new.pile.endings.items c.args.root
+    c.into_values.result.items (whole g c) c.stands.ensures.legal sole (none g c sole)

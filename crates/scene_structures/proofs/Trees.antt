@@ -1,0 +1,166 @@
+-- Trees that nobody else owns, over the events by which handles leave and objects end.
+use Rattle.std.proofs.Common.{◌≡◌, ◌≢◌, ℕ, zero, suc, ◌<◌, Bool, true, [], ◌∷◌, map, Option}
+use Rattle.std.proofs.Common.{Some, None}
+use Rattle.std.proofs.Common.{refl, sym, ap, subst, ◌∙◌, ⊎_elim, inl, arith}
+use Rattle.std.proofs.lemmas.Bool.{cases_lt}
+use Rattle.control_word.proofs.history.Cells.{member_counted, one_of, swap_count, tally_upto}
+use Rattle.control_word.proofs.history.Clearing.{was_made}
+use Rattle.control_word.proofs.history.Moving.{count_same, counted_live, less_owners, less_weaks}
+use Rattle.control_word.proofs.history.Soundness.{Formed, Sound}
+use Rattle.control_word.proofs.lists.Tallies.{put_cases, put_other, tally_append, tally_has, tally_here}
+use Rattle.control_word.specs.Events.{clears, finishes, leaves, moved_to, weak_leaves}
+use Rattle.control_word.specs.Handles.{IsFormed, empty, handle, owner}
+use Rattle.control_word.specs.State.{Has, Held, Object, Opening, State, common, count, ending, gone, handles, held, in_cells, kind_of_member, live}
+use Rattle.control_word.specs.State.{members}
+use Rattle.control_word.specs.State.{put, same_held, tally, upto, without}
+use Rattle.control_word.specs.declared.event.Cell.TheVariants.{Member}
+use Rattle.control_word.specs.declared.handle.Handle.{Handle}
+use Rattle.control_word.specs.declared.handle.Kind.{Kind}
+use Rattle.control_word.specs.declared.handle.Kind.TheVariants.{Owner, Weak}
+use Rattle.control_word.specs.declared.place.Place.{Place}
+use Rattle.scene_structures.specs.Trees.{IsTree, Tree, bare, node}
+
+-- what keeps the only owners of a tree keeps the tree
+pub tree_kept : (s t : State) (P : Handle → Type 0)
+    → ((r : ℕ) (h : Handle) → P h → h.object ≡ Some r → count s r ≡ 1
+    → (count t r ≡ 1) × ((j : ℕ) → j < 2 → ((t.object r).member j ≡ (s.object r).member j) × P ((s.object r).member j)))
+    → (h : Handle) (tree : Tree) → P h → IsTree s h tree → IsTree t h tree
+tree_kept s t P kept h bare p is = is
+tree_kept s t P kept h (node r first next) p (is, one, below, beside) =
+    let k = kept r h p is one in
+    let a = k.1 0 (omega arith) in let b = k.1 1 (omega arith) in (
+      is,
+      k.0,
+      subst (λ x. IsTree t x first) (sym a.0) (tree_kept s t P kept ((s.object r).member 0) first a.1 below),
+      subst (λ x. IsTree t x next) (sym b.0) (tree_kept s t P kept ((s.object r).member 1) next b.1 beside),
+    )
+
+abbrev Any : Handle → Type 0
+Any h = Unit {0}
+
+-- a tree's object lives
+pub one_lives : (z : Opening) (s : State) (r : ℕ) → Sound z s → count s r ≡ 1 → (s.object r).phase ≡ live
+one_lives z s r sound one = counted_live z s r sound (omega arith)
+
+pub ending_live : (d : ℕ) → ending d ≡ live → ⊥
+ending_live d e = cc
+
+not_ending : (z : Opening) (s : State) (d r o : ℕ) → Sound z s → count s r ≡ 1 → (s.object o).phase ≡ ending d → r ≢ o
+not_ending z s d r o sound one ends e =
+    ending_live d (sym ends ∙ (ap (λ i. (s.object i).phase) (sym e) ∙ one_lives z s r sound one))
+
+empty_formed : (k : Kind) → IsFormed (empty k)
+empty_formed Owner = (tt, tt)
+empty_formed Weak = (tt, refl)
+
+-- a member goes out of an object that ends
+clear_count : (s : State) (d o m : ℕ) → m < 3 → o < suc s.made → (q : ℕ) → count (clears d o m ((s.object o).member m) s) q ≡ count s q
+clear_count s d o m lt made q =
+    swap_count s d (Member o m) (empty (kind_of_member m)) (lt, made) (refl, inl (refl, empty_formed (kind_of_member m))) q
+
+pub clear_member : (s : State) (d o m : ℕ) (h : Handle) (r j : ℕ) → (r ≡ o → j ≢ m)
+    → ((clears d o m h s).object r).member j ≡ (s.object r).member j
+clear_member s d o m h r j ne =
+    let x = s.object o in
+    put_cases (λ i (y : Object). y.member j ≡ (s.object i).member j) s.object o (record x { member = put x.member m (empty (kind_of_member m)) }) r
+    (λ e. put_other x.member m (empty (kind_of_member m)) j (ne e) ∙ ap (λ i. (s.object i).member j) (sym e)) (λ n. refl)
+
+pub tree_cleared : (z : Opening) (s : State) (d o m : ℕ) → Sound z s → (s.object o).phase ≡ ending d → m < 3
+    → (h : Handle) (tree : Tree) → IsTree s h tree
+    → IsTree (clears d o m ((s.object o).member m) s) h tree
+tree_cleared z s d o m sound ends lt h tree is =
+    let made = was_made z s o sound (λ u. let t = sym ends ∙ u in cc) in
+    tree_kept s (clears d o m ((s.object o).member m) s) Any
+    (λ r x p at one. (
+      clear_count s d o m lt made r ∙ one,
+      λ j low. (clear_member s d o m ((s.object o).member m) r j (λ e. absurd (not_ending z s d r o sound one ends e)), tt),
+    )) h tree tt is
+
+weak_count : (s : State) (d o : ℕ) (p : Option Place) (vacant : Bool) → Has (held d (handle Weak (Some o) p)) s.hands → (r : ℕ)
+    → count s r ≡ count (weak_leaves d (handle Weak (Some o) p) vacant s) r
+unfolding count
+weak_count s d o p vacant has r = (less_weaks s d o p has r).2
+
+-- a weak handle goes
+pub tree_weakly : (s : State) (d o : ℕ) (p : Option Place) (vacant : Bool) → Has (held d (handle Weak (Some o) p)) s.hands → (h : Handle) (tree : Tree)
+    → IsTree s h tree → IsTree (weak_leaves d (handle Weak (Some o) p) vacant s) h tree
+tree_weakly s d o p vacant has h tree is =
+    tree_kept s (weak_leaves d (handle Weak (Some o) p) vacant s) Any
+    (λ r x q at one. (sym (weak_count s d o p vacant has r) ∙ one, λ j low. (refl, tt))) h tree tt is
+
+-- an object is finished
+finish_members : (s : State) (o r : ℕ) → members (put s.object o (moved_to gone (s.object o)) r) ≡ members (s.object r)
+finish_members s o r =
+    put_cases (λ j y. members y ≡ members (s.object j)) s.object o (moved_to gone (s.object o)) r
+    (λ e. ap (λ n. members (s.object n)) (sym e)) (λ n. refl)
+
+pub finish_member : (s : State) (d o : ℕ) (vacant : Bool) (r j : ℕ) → ((finishes d o vacant s).object r).member j ≡ (s.object r).member j
+finish_member s d o vacant r j =
+    put_cases (λ i (y : Object). y.member j ≡ (s.object i).member j) s.object o (moved_to gone (s.object o)) r
+    (λ e. ap (λ i. (s.object i).member j) (sym e)) (λ n. refl)
+
+finish_count : (s : State) (d o : ℕ) (vacant : Bool) (r : ℕ) → count (finishes d o vacant s) r ≡ count s r
+unfolding count
+finish_count s d o vacant r = count_same s s.hands (put s.object o (moved_to gone (s.object o))) (finish_members s o) r
+
+pub tree_finished : (s : State) (d o : ℕ) (vacant : Bool) (h : Handle) (tree : Tree) → IsTree s h tree → IsTree (finishes d o vacant s) h tree
+tree_finished s d o vacant h tree is =
+    tree_kept s (finishes d o vacant s) Any
+    (λ r x q at one. (finish_count s d o vacant r ∙ one, λ j low. (finish_member s d o vacant r j, tt))) h tree tt is
+
+owner_kind : (j : ℕ) → j < 2 → kind_of_member j ≡ Owner
+owner_kind zero low = refl
+owner_kind (suc zero) low = refl
+owner_kind (suc (suc j)) low = absurd (omega arith)
+
+-- the only owner of an object is in no member when it is in a bag
+pub in_no_member : (z : Opening) (s : State) (d q : ℕ) (p : Option Place) → Sound z s → Formed s → Has (held d (owner q p)) s.hands → count s q ≡ 1
+    → (r j : ℕ) → j < 2 → ((s.object r).member j).object ≢ Some q
+unfolding count
+in_no_member z s d q p sound formed has one r j low is =
+    ⊎_elim
+    (λ (gt : s.made < r).
+    let e = sound.cleared r j (omega arith) (ap common (sound.fresh r gt)) in
+    let n : Some q ≡ None = sym is ∙ (ap (λ (h : Handle). h.object) e) in cc n)
+    (λ le.
+    let kind = (formed.members r j (omega arith)).1 ∙ owner_kind j low in
+    let cells = upto s.cells (λ c. s.cell c ∷ []) in
+    let rest = upto (suc s.made) (λ o. members (s.object o)) in
+    let a = one_of Owner q ((s.object r).member j) kind is in
+    let b = member_counted Owner q (s.object r) j (omega arith) in
+    let c = tally_upto Owner q (suc s.made) r (λ o. members (s.object o)) (omega arith) in
+    let e = tally_append Owner q cells rest in
+    let f = tally_append Owner q (map (λ (x : Held). x.handle) s.hands) (in_cells s) in
+    let g = tally_has Owner q (held d (owner q p)) s.hands [] has (let t = tally_here Owner q p [] in omega arith) in
+    let k = tally_append Owner q (map (λ (x : Held). x.handle) s.hands) [] in
+    let n : tally Owner q [] ≡ 0 = refl in
+    let u : tally Owner q (handles s) ≡ 1 = one in
+    omega arith)
+    (cases_lt s.made r)
+
+-- the last owner goes
+leave_members : (s : State) (d q r : ℕ) → members (put s.object q (moved_to (ending d) (s.object q)) r) ≡ members (s.object r)
+leave_members s d q r =
+    put_cases (λ j y. members y ≡ members (s.object j)) s.object q (moved_to (ending d) (s.object q)) r
+    (λ e. ap (λ n. members (s.object n)) (sym e)) (λ n. refl)
+
+pub leave_member : (s : State) (d q : ℕ) (p : Option Place) (r j : ℕ) → ((leaves d (owner q p) true s).object r).member j ≡ (s.object r).member j
+leave_member s d q p r j =
+    put_cases (λ i (y : Object). y.member j ≡ (s.object i).member j) s.object q (moved_to (ending d) (s.object q)) r
+    (λ e. ap (λ i. (s.object i).member j) (sym e)) (λ n. refl)
+
+leave_count : (s : State) (d q : ℕ) (p : Option Place) → Has (held d (owner q p)) s.hands → (r : ℕ) → r ≢ q
+    → count (leaves d (owner q p) true s) r ≡ count s r
+unfolding count
+leave_count s d q p has r ne =
+    count_same s (without same_held (held d (owner q p)) s.hands) (put s.object q (moved_to (ending d) (s.object q))) (leave_members s d q) r
+    ∙ sym ((less_owners s d q p has r).1 ne)
+
+pub tree_left : (z : Opening) (s : State) (d q : ℕ) (p : Option Place) → Sound z s → Formed s → Has (held d (owner q p)) s.hands → count s q ≡ 1
+    → (h : Handle) (tree : Tree) → h.object ≢ Some q → IsTree s h tree → IsTree (leaves d (owner q p) true s) h tree
+tree_left z s d q p sound formed has one h tree other is =
+    tree_kept s (leaves d (owner q p) true s) (λ x. x.object ≢ Some q)
+    (λ r x apart at single. (
+      leave_count s d q p has r (λ e. apart (at ∙ ap Some e)) ∙ single,
+      λ j low. (leave_member s d q p r j, in_no_member z s d q p sound formed has one r j low),
+    )) h tree other is

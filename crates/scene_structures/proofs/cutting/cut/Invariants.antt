@@ -1,0 +1,19 @@
+use Rattle.std.proofs.Common.{◌≡◌, [], List}
+use Rattle.control_word.specs.declared.handle.Handle.{Handle}
+use Rattle.control_block.specs.Desks.{IsSameDesk}
+use Rattle.control_block.specs.Own.{Does}
+use Rattle.shared_handle.specs.Piles.{Bears}
+use Rattle.scene_structures.specs.Hands.{HasHands, KeepsThese}
+use Rattle.scene_structures.specs.Puts.{PutsOnly, nowhere}
+use Rattle.scene_structures.proofs.cutting.cut.Given as goal
+
+abbrev pub invariant-loop : goal.invariant-loop
+invariant-loop g l = record {
+  bears : Bears l.domain l.desk l.pile;
+  none : l.pile.endings.items ≡ [];
+  held : l.desk.held ≡ l.initial.desk.held;
+  same : IsSameDesk l.initial.desk l.desk;
+  bag : (base : List Handle) → HasHands base [] l.initial.desk → HasHands base [] l.desk;
+  latest : (base : List Handle) → HasHands base [] l.initial.desk → KeepsThese base l.initial.desk l.desk;
+  tried : Does (PutsOnly nowhere) l.initial.desk l.desk;
+}

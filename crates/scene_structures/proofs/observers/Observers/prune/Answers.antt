@@ -1,0 +1,22 @@
+use Rattle.std.proofs.Common.{◌≡◌, ◌<◌, None, ap, subst, arith}
+use Rattle.control_word.specs.declared.event.Cell.TheVariants.{Free}
+use Rattle.control_word.specs.declared.shape.Shape.{Shape}
+use Rattle.control_block.specs.Rule.{opening_of}
+use Rattle.scene_structures.specs.Prunes.{Prunes}
+use Rattle.scene_structures.specs.Stacks.{StackNow}
+use Rattle.scene_structures.proofs.Few.{exactly}
+use Rattle.scene_structures.proofs.Sifted.{pruned_list}
+use Rattle.scene_structures.proofs.observers.Observers.prune.Goals as goal
+
+pub returns-clause-own : goal.returns-clause-own
+returns-clause-own g c =
+    let d = c.args.desk.now in let m = c.args.self.now.cell in
+    let e = c.clear_list.new.desk in let w = c.clear_list.ensures.own in
+    let same : c.self.inside.cell ≡ m = ap (λ (s : StackNow). s.cell) c.self.view_is in
+    let prunes = subst (λ k. Prunes d (Free k) w.2.0 w.0 None e) same w.2.1 in
+    let shape : d.shape.shared_cells ≡ c.args.domain.now.shape.shared_cells = ap (λ (k : Shape). k.shared_cells) c.requires.domain.shape in
+    let cell = c.requires.stands.cell in
+    let lt : m < (opening_of d.shape).cells = omega arith in
+    let limit = c.stands.ensures.limits.blocks in
+    let pruned = pruned_list d e m w.2.0 w.0 prunes c.stands.ensures.legal c.requires.sole lt in
+    (w.0, w.1, (w.2.0, prunes), exactly d e m w.0 c.clear_list.result c.stands.ensures.legal lt limit w.1 pruned)

@@ -1,0 +1,125 @@
+use Rattle.std.proofs.Common.{◌≡◌, [], ◌∷◌, Option, Some, refl, inl, inr, sym, ap, subst, ◌∙◌}
+use Rattle.control_word.specs.Events.{place_at}
+use Rattle.control_word.specs.Handles.{object_of}
+use Rattle.control_word.specs.declared.handle.Kind.TheVariants.{Owner}
+use Rattle.control_word.specs.declared.place.Block.{Block}
+use Rattle.control_word.specs.declared.place.Place.{Place}
+use Rattle.control_block.specs.Desks.{bag_of}
+use Rattle.control_block.specs.Own.{IsSole}
+use Rattle.shared_handle.proofs.Callers.{first_out}
+use Rattle.shared_handle.proofs.Goings.{does_both}
+use Rattle.shared_handle.proofs.Piles.{bears_kept}
+use Rattle.shared_handle.specs.Calls.{IsOfThis, without_handle}
+use Rattle.shared_handle.specs.Piles.{Bears}
+use Rattle.shared_handle.specs.declared.pile.Pile.{Pile}
+use Rattle.scene_structures.specs.Detaches.{Detaches, LeavesParent}
+use Rattle.scene_structures.specs.Hands.{HasHands, Lists, node_in}
+use Rattle.scene_structures.specs.Parents.{IsParent}
+use Rattle.scene_structures.specs.Puts.{PutsOnly, nowhere}
+use Rattle.scene_structures.proofs.Adopting.{these_node}
+use Rattle.scene_structures.proofs.Detached.{puts_none}
+use Rattle.scene_structures.proofs.Unlinks.{detaches_none, detaches_some, leaves_later, parent_in_hand, same_parent}
+use Rattle.scene_structures.proofs.Hands.{first_lists, lists_first, lists_under}
+use Rattle.scene_structures.proofs.Leaving.{detached}
+use Rattle.scene_structures.proofs.Pushes.{same_left, same_node, shares_does}
+use Rattle.scene_structures.proofs.Watches.{endings_both, lists_of}
+use Rattle.scene_structures.proofs.scene.Scene.detach.Given.{Over}
+use Rattle.scene_structures.proofs.scene.Scene.detach.Goals as goal
+
+pub let_go-requires-clause-bears : goal.let_go-requires-clause-bears
+let_go-requires-clause-bears g c κs within =
+    let d = c.args.desk.now in let p = c.in_ok-owner.ensures in
+    let b = subst (λ (x : Pile g.row.V.Denot). Bears c.args.domain.now d x) (sym c.self.view_is) c.requires.bears in
+    bears_kept c.args.domain.now d c.parent.new.desk c.self.inside.pile b p.desk.domain p.desk.shape p.endings p.count
+
+none_both : (g : Over) (c : goal.After-let_go g)
+    → (a : Detaches c.args.desk.now (object_of (node_in c.args.desk.now c.args.node.now)) c.let_go.new.desk)
+    × (IsSole c.args.desk.now → IsParent c.args.desk.now (object_of (node_in c.args.desk.now c.args.node.now)) a.parent a.climbed)
+none_both g c =
+    let d = c.args.desk.now in let p = c.in_ok-owner.ensures in
+    detaches_none d c.parent.new.desk c.let_go.new.desk (object_of (node_in d c.args.node.now)) c.in_ok-owner.owner p.own
+    (sym c.block.ensures ∙ c.in_default.is) c.let_go.ensures.own p.parent
+
+pub returns-in_default-clause-own : goal.returns-in_default-clause-own
+returns-in_default-clause-own g c = (none_both g c).0
+
+pub returns-in_default-clause-tree : goal.returns-in_default-clause-tree
+returns-in_default-clause-tree g c sole =
+    let d = c.args.desk.now in let m = c.parent.new.desk in let e = c.let_go in let node = c.args.node.now in
+    let p = c.in_ok-owner.ensures in let owner = c.in_ok-owner.owner in let a = none_both g c in
+    let lists_d = lists_of d node.block node.place c.requires.holds in
+    let bag : bag_of e.new.desk ≡ bag_of d =
+    e.ensures.bag ∙ (ap (without_handle Owner owner.block owner.place) p.bag ∙ first_out Owner owner.block owner.place (bag_of d)) in
+    let lists_e = subst (Lists node.block node.place) (sym bag) lists_d in
+    detached d e.new.desk node a.0 (a.1 sole) c.stands.ensures.legal sole p.may.1 lists_d lists_e
+    (same_left m e.new.desk node e.ensures.latest lists_e ∙ same_node d m node p.latest lists_d)
+
+pub let_go-requires-2-clause-bears : goal.let_go-requires-2-clause-bears
+let_go-requires-2-clause-bears g c κs within =
+    let d = c.args.desk.now in let p = c.in_ok-owner.ensures in let k = c.in-Ok.ensures.keeps in
+    let b = subst (λ (x : Pile g.row.V.Denot). Bears c.args.domain.now d x) (sym c.self.view_is) c.requires.bears in
+    bears_kept c.args.domain.now d c.alias.new.desk c.self.inside.pile b (k.domain ∙ p.desk.domain) (k.shape ∙ p.desk.shape)
+    (endings_both d c.parent.new.desk c.alias.new.desk p.endings k.endings) (k.count ∙ p.count)
+
+hands : (g : Over) (c : goal.After-leave g) → HasHands (bag_of c.args.desk.now) (c.in-Ok.parent ∷ []) c.let_go-2.new.desk
+hands g c =
+    let d = c.args.desk.now in let m = c.parent.new.desk in let s = c.alias.new.desk in let f = c.let_go-2 in
+    let p = c.in_ok-owner.ensures in let a = c.in-Ok.ensures in
+    parent_in_hand d m s f.new.desk c.in_ok-owner.owner c.in-Ok.parent _ c.stands.ensures.bag p.bag p.held a.handle.0 a.handle.1 a.bag a.held
+    f.ensures.bag f.ensures.held
+
+pub leave-requires-clause-bag : goal.leave-requires-clause-bag
+leave-requires-clause-bag g c κs within =
+    let d = c.args.desk.now in let m = c.parent.new.desk in let s = c.alias.new.desk in let f = c.let_go-2 in
+    let p = c.in_ok-owner.ensures in let a = c.in-Ok.ensures in let node = c.args.node.now in
+    let has = parent_in_hand d m s f.new.desk c.in_ok-owner.owner c.in-Ok.parent _ c.stands.ensures.bag p.bag p.held a.handle.0 a.handle.1 a.bag
+    a.held f.ensures.bag f.ensures.held in
+    (bag_of d, has, lists_of d node.block node.place c.requires.holds)
+
+pub leave-requires-clause-parent : goal.leave-requires-clause-parent
+leave-requires-clause-parent g c κs within =
+    let a = c.in-Ok.ensures in let b = c.in-Some.block in let owner = c.in_ok-owner.owner in
+    let is : owner.block ≡ Some b = sym c.block.ensures ∙ c.in-Some.is in
+    let same = a.given (inr (inl (subst (λ (k : Option Block). IsOfThis k (place_at b.0)) (sym is) refl))) in
+    let q : Place = record { block = record { 0 = b.0 }; field = 0 } in
+    (q, a.handle.1 ∙ same, a.handle.0 ∙ is)
+
+node_same : (g : Over) (c : goal.After-leave g) → node_in c.let_go-2.new.desk c.args.node.now ≡ node_in c.args.desk.now c.args.node.now
+node_same g c =
+    let d = c.args.desk.now in let m = c.parent.new.desk in let s = c.alias.new.desk in let f = c.let_go-2 in let node = c.args.node.now in
+    let p = c.in_ok-owner.ensures in let owner = c.in_ok-owner.owner in let a = c.in-Ok.ensures in let parent = c.in-Ok.parent in
+    let lists_d = lists_of d node.block node.place c.requires.holds in
+    let lists_m = subst (Lists node.block node.place) (sym p.bag) (lists_under node.block owner.block node.place owner.place (bag_of d) lists_d) in
+    let lists_f = subst (Lists node.block node.place) (sym (hands g c).bag)
+    (lists_under node.block parent.block node.place parent.place (bag_of d) lists_d) in
+    let shared = shares_does nowhere m s owner.block owner.place _ a.event in
+    same_left s f.new.desk node f.ensures.latest lists_f ∙ (same_node m s node shared.1 lists_m ∙ same_node d m node p.latest lists_d)
+
+some_both : (g : Over) (c : goal.After-leave g)
+    → (a : Detaches c.args.desk.now (object_of (node_in c.args.desk.now c.args.node.now)) c.leave.new.desk)
+    × (IsSole c.args.desk.now → IsParent c.args.desk.now (object_of (node_in c.args.desk.now c.args.node.now)) a.parent a.climbed)
+some_both g c =
+    let d = c.args.desk.now in let m = c.parent.new.desk in let s = c.alias.new.desk in let f = c.let_go-2 in let e = c.leave.new.desk in
+    let node = c.args.node.now in let p = c.in_ok-owner.ensures in let owner = c.in_ok-owner.owner in let a = c.in-Ok.ensures in
+    let parent = c.in-Ok.parent in
+    let o = object_of (node_in d node) in let at = f.new.desk in
+    let shared = shares_does nowhere m s owner.block owner.place _ a.event in
+    let lists = subst (Lists owner.block owner.place) (sym p.bag) (lists_first owner.block owner.place (bag_of d)) in
+    let number = same_parent m s at owner parent _ a.event a.handle.0 f.ensures.latest lists (first_lists at (bag_of d) parent [] (hands g c)) in
+    let comes = does_both (PutsOnly nowhere) m s at shared.0 (puts_none s at f.ensures.own) in
+    let leaves = subst (λ j. LeavesParent at j o e) number
+    (subst (λ j. LeavesParent at (object_of (node_in at parent)) j e) (ap object_of (node_same g c)) c.leave.ensures.own) in
+    detaches_some d m e o owner c.in-Some.block p.own (sym c.block.ensures ∙ c.in-Some.is)
+    (leaves_later m at e (object_of (node_in m owner)) o comes leaves) p.parent
+
+pub returns-clause-own : goal.returns-clause-own
+returns-clause-own g c = (some_both g c).0
+
+pub returns-clause-tree : goal.returns-clause-tree
+returns-clause-tree g c sole =
+    let d = c.args.desk.now in let f = c.let_go-2.new.desk in let e = c.leave in let node = c.args.node.now in
+    let p = c.in_ok-owner.ensures in let a = some_both g c in let has = hands g c in
+    let lists_d = lists_of d node.block node.place c.requires.holds in
+    let lists_e = subst (Lists node.block node.place) (sym (e.ensures.bag (bag_of d) has).bag) lists_d in
+    detached d e.new.desk node a.0 (a.1 sole) c.stands.ensures.legal sole p.may.1 lists_d lists_e
+    (these_node f e.new.desk (bag_of d) node (e.ensures.latest (bag_of d) has) lists_d ∙ node_same g c)
