@@ -20,6 +20,8 @@ mod example;
 #[cfg(test)]
 mod forgotten;
 #[cfg(test)]
+mod holders;
+#[cfg(test)]
 mod laws;
 #[cfg(test)]
 mod leaves;

@@ -105,7 +105,7 @@ fn leave_last(domain: &Domain<u64>, desk: &mut Desk<u64>, owner: Shared) -> Opti
 
 // A copy of the one owner goes into the first member of the other's object: what the store found.
 #[tactic(auto, using(shared_handle::proofs::Callers::first_out))]
-fn put_copy_in(
+pub(crate) fn put_copy_in(
     domain: &Domain<u64>,
     desk: &mut Desk<u64>,
     whole: &Shared,
@@ -128,7 +128,7 @@ fn put_copy_in(
 
 // A weak pointer to the one object goes into the weak member of the other: what the store found.
 #[tactic(auto, using(shared_handle::proofs::Callers::first_out))]
-fn watch_from(
+pub(crate) fn watch_from(
     domain: &Domain<u64>,
     desk: &mut Desk<u64>,
     whole: &Shared,

@@ -1,17 +1,17 @@
-//! A pile that becomes another's, and what is left on a pile at its end.
-ghost use Rattle.std.specs.Prelude.{◌≡◌};
-ghost use Rattle.control_block.specs.Desks.{endings_of};
-ghost use Rattle.shared_handle.specs.Prelude.{Belongs, IsSameDesk};
-ghost use Rattle.shared_handle.specs.Piles.{Bears};
+//! A pile that becomes another's, what is left on a pile at its end, and what ends beside one.
+ghost use Rattle.std.specs.Prelude.{◌≡◌, []};
+ghost use Rattle.shared_handle.specs.Prelude.{Belongs, Ends, IsSameDesk};
+ghost use Rattle.shared_handle.specs.Piles.{Carries};
 
 use crate::drops::Counted;
 use crate::forgotten::counted;
+use crate::parts::{Found, Was, end_of, shut};
 use crate::shapes::shape;
 use crate::splits::abandon;
 use control_block::desk::Desk;
 use control_block::domain::{Domain, open};
 use control_word::{Block, Refusal};
-use shared_handle::{Pile, drop_shared, make};
+use shared_handle::{Ending, Left, Pile, drop_shared, make, release};
 use std::alloc::Global;
 use std::sync::atomic::{AtomicU64, Ordering};
 use std::test::Fail;
@@ -24,8 +24,8 @@ fn leave_one<'a>(
     drops: &'a AtomicU64,
 ) -> Option<Block>
     requires domain { Belongs desk.old domain.now }
-    requires bears { Bears domain.now desk.old pile.old }
-    ensures bears { Bears domain.now desk.new pile.new }
+    requires carries { Carries domain.now desk.old pile.old }
+    ensures carries { Carries domain.now desk.new pile.new }
     ensures desk { IsSameDesk desk.old desk.new }
 {
     let Ok(owner) = make(domain, desk, [0; 4], false, Counted { drops }) else {
@@ -44,7 +44,6 @@ fn leave_two<'a>(
     drops: &'a AtomicU64,
 ) -> Result<(usize, Option<Block>), Refusal>
     requires domain { Belongs desk.old domain.now }
-    requires settled { endings_of desk.old ≡ 0 }
     ensures desk { IsSameDesk desk.old desk.new }
 {
     let mut pile = Pile::new(alloc, domain)?;
@@ -82,5 +81,67 @@ fn a_pile_gives_up_at_its_end_what_is_left(rt: HostRuntime) -> Result<(), Fail> 
     assert_eq!(rt; counts.owners, 0);
     assert_eq!(rt; taken, 2);
     assert_eq!(rt; drops.load(Ordering::SeqCst), 2);
+    Ok(())
+}
+
+// An object is ended by a pile while another, which is in hand, waits for its end: the value of the one, and what the
+// other's end finds.
+fn end_beside(
+    domain: &Domain<u64>,
+    desk: &mut Desk<u64>,
+    pile: &mut Pile<u64>,
+    ending: Ending<u64>,
+) -> Option<(Option<u64>, Found)>
+    requires carries { Carries domain.now desk.old pile.old }
+    requires empty { pile.old.endings.items ≡ [] }
+    requires ends { Ends desk.old ending }
+    ensures desk { IsSameDesk desk.old desk.new }
+{
+    let Ok(owner) = make(domain, desk, [0; 4], false, 2) else {
+        ending.forget();
+        return None;
+    };
+    let _gone = drop_shared(domain, desk, pile, owner);
+    let value = pile.end_next(domain, desk);
+    Some((value, end_of(domain, desk, ending)))
+}
+
+// The last owner of an object leaves, and its end is in hand while a pile ends another.
+fn end_two(
+    alloc: Global,
+    domain: &Domain<u64>,
+    desk: &mut Desk<u64>,
+) -> Option<(Option<u64>, Found)>
+    requires domain { Belongs desk.old domain.now }
+    ensures desk { IsSameDesk desk.old desk.new }
+{
+    let Ok(owner) = make(domain, desk, [0; 4], false, 1) else {
+        return None;
+    };
+    match release(domain, desk, owner) {
+        Left::Empty | Left::Others => None,
+        Left::Last(ending) => {
+            let Ok(mut pile) = Pile::new(alloc, domain) else {
+                ending.forget();
+                return None;
+            };
+            let seen = end_beside(domain, desk, &mut pile, ending);
+            pile.close();
+            seen
+        }
+    }
+}
+
+#[test]
+fn a_pile_leaves_alone_what_ends_in_hand(rt: HostRuntime) -> Result<(), Fail> {
+    let (domain, mut desk) = open::<u64>(rt.alloc(), shape(2, 8))?;
+    let seen = end_two(rt.alloc(), &domain, &mut desk);
+    let vacant = shut(domain, desk);
+    let Some((by_pile, in_hand)) = seen else {
+        return Err("no pile".into());
+    };
+    assert_eq!(rt; by_pile, Some(2));
+    assert_eq!(rt; in_hand, (Was::Empty, Was::Empty, Was::Empty, 1));
+    assert_eq!(rt; vacant, 2);
     Ok(())
 }
