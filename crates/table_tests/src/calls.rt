@@ -1,6 +1,6 @@
 //! Each call once, where nothing is refused.
-use control_word::Shape;
-use handle_table::{Cell, Gone, HandleTable, Home, Program, Team, run};
+use crate::shapes::{alone, shape};
+use handle_table::{Cell, Gone, HandleTable, Home, Program, run};
 use std::process::Abort;
 use std::sync::Wait;
 use std::test::Fail;
@@ -35,18 +35,8 @@ impl<R: Abort + Threads + Wait + Sync> Program<u64, R> for Calls {
 
 #[test]
 fn each_call_works(rt: HostRuntime) -> Result<(), Fail> {
-    let shape = Shape {
-        blocks: 4,
-        shared_cells: 1,
-        weak_cells: 0,
-        allowance: 16,
-    };
-    let team = Team {
-        workers: 1,
-        slots: 4,
-        allowance: 8,
-        blocks: 3,
-    };
+    let shape = shape(4, 1, 0, 16);
+    let team = alone(4, 8, 3);
     match run(&rt, rt.alloc(), shape, team, &Calls) {
         Ok(ran) => {
             assert_eq!(rt; ran.workers, 1);

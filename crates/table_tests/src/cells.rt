@@ -1,6 +1,7 @@
 //! Cells of both kinds, free ones and members: each call, and each fault.
-use control_word::{Place, Refusal, Shape};
-use handle_table::{Cell, Fault, Gone, HandleTable, Home, Program, SharedMember, Team, run};
+use crate::shapes::{alone, shape};
+use control_word::{Place, Refusal};
+use handle_table::{Cell, Fault, Gone, HandleTable, Home, Program, SharedMember, run};
 use std::process::Abort;
 use std::sync::Wait;
 use std::test::Fail;
@@ -39,19 +40,8 @@ fn own_member<R: Abort, H: Home>(rt: &R, table: &mut HandleTable<'_, u64, H>) {
     assert_eq!(rt; table.same_place(2, 4), Ok(true));
 }
 
-/// Slot 0 has an owner, 2 and 4 owners of another object, and 3 a weak handle.
-fn no_cells<R: Abort + Wait, H: Home>(rt: &R, table: &mut HandleTable<'_, u64, H>) {
-    assert_eq!(rt; table.load(rt, Cell::Shared(1), 1), Err(Fault::Cell));
-    assert_eq!(rt; table.load(rt, Cell::Weak(1), 1), Err(Fault::Cell));
-    assert_eq!(rt; table.load(rt, Cell::Up { of: 5 }, 1), Err(Fault::Slot));
-    assert_eq!(rt; table.load(rt, first(3), 1), Err(Fault::Kind));
-    assert!(rt; matches!(table.store(3, Cell::Shared(0)), Err(Fault::Kind)));
-    assert_eq!(rt; table.exchange(0, Cell::Weak(0)), Err(Fault::Kind));
-    assert!(rt; table.reset(1).is_ok());
-    assert_eq!(rt; table.exchange(0, first(1)), Err(Fault::Vacant));
-}
-
-/// Owners that don't point into what they own name no member.
+/// Owners that don't point into what they own name no member. Slot 0 has an owner, 2 and 4 owners of another object,
+/// and 3 a weak handle.
 fn away<R: Abort + Wait, H: Home>(rt: &R, table: &mut HandleTable<'_, u64, H>) {
     assert_eq!(rt; table.alias(0, None, 1), Ok(()));
     assert_eq!(rt;
@@ -83,25 +73,15 @@ impl<R: Abort + Threads + Wait + Sync> Program<u64, R> for Cells {
         round_trip(rt, table, Cell::Weak(0));
         round_trip(rt, table, Cell::Up { of: 0 });
         own_member(rt, table);
-        no_cells(rt, table);
+        assert!(rt; table.reset(1).is_ok());
         away(rt, table);
     }
 }
 
 #[test]
 fn cells_of_both_kinds(rt: HostRuntime) -> Result<(), Fail> {
-    let shape = Shape {
-        blocks: 4,
-        shared_cells: 1,
-        weak_cells: 1,
-        allowance: 8,
-    };
-    let team = Team {
-        workers: 1,
-        slots: 5,
-        allowance: 5,
-        blocks: 3,
-    };
+    let shape = shape(4, 1, 1, 8);
+    let team = alone(5, 5, 3);
     match run(&rt, rt.alloc(), shape, team, &Cells) {
         Ok(ran) => {
             assert_eq!(rt; ran.workers, 1);

@@ -1,6 +1,7 @@
 //! Compare-and-swap of cells of both kinds: what it does to the slots, and each fault.
-use control_word::{Refusal, Shape};
-use handle_table::{Cell, Fault, HandleTable, Home, Program, Team, run};
+use crate::shapes::{alone, shape};
+use control_word::Refusal;
+use handle_table::{Cell, Fault, HandleTable, Home, Program, run};
 use std::process::Abort;
 use std::sync::Wait;
 use std::test::Fail;
@@ -30,33 +31,9 @@ fn weak<R: Abort + Wait, H: Home>(rt: &R, table: &mut HandleTable<'_, u64, H>, c
     assert!(rt; table.reset(3).is_ok());
 }
 
-/// Slots 0 to 2 have owners, and 3 and 4 are vacant; 3 gets an empty weak handle.
-fn faults<R: Abort + Wait, H: Home>(rt: &R, table: &mut HandleTable<'_, u64, H>) {
+/// Slots 0 to 2 have owners, and with empty weak handles in 3 and 4 the desk is at its allowance.
+fn at_the_limit<R: Abort + Wait, H: Home>(rt: &R, table: &mut HandleTable<'_, u64, H>) {
     let cell = Cell::Shared(0);
-    assert_eq!(rt;
-        table.compare_exchange_strong(rt, Cell::Shared(1), 0, 1),
-        Err(Fault::Cell)
-    );
-    assert_eq!(rt;
-        table.compare_exchange_strong(rt, Cell::Weak(0), 0, 1),
-        Err(Fault::Kind)
-    );
-    assert_eq!(rt;
-        table.compare_exchange_strong(rt, cell, 5, 1),
-        Err(Fault::Slot)
-    );
-    assert_eq!(rt;
-        table.compare_exchange_strong(rt, cell, 3, 1),
-        Err(Fault::Vacant)
-    );
-    assert_eq!(rt;
-        table.compare_exchange_weak(rt, cell, 0, 5),
-        Err(Fault::Slot)
-    );
-    assert_eq!(rt;
-        table.compare_exchange_weak(rt, cell, 0, 3),
-        Err(Fault::Vacant)
-    );
     assert_eq!(rt; table.empty_weak(3), Ok(()));
     assert_eq!(rt; table.empty_weak(4), Ok(()));
     assert_eq!(rt;
@@ -74,7 +51,7 @@ impl<R: Abort + Threads + Wait + Sync> Program<u64, R> for Compares {
         assert!(rt; table.make(1, [2; 4], false, 2).is_ok());
         strong(rt, table, Cell::Shared(0));
         weak(rt, table, Cell::Shared(0));
-        faults(rt, table);
+        at_the_limit(rt, table);
         assert_eq!(rt; table.downgrade(0, 2), Ok(()));
         assert!(rt; table.store(2, Cell::Weak(0)).is_ok());
         assert_eq!(rt; table.load(rt, Cell::Weak(0), 2), Ok(()));
@@ -92,18 +69,8 @@ impl<R: Abort + Threads + Wait + Sync> Program<u64, R> for Compares {
 
 #[test]
 fn a_compare_swaps_or_tells_what_is_there(rt: HostRuntime) -> Result<(), Fail> {
-    let shape = Shape {
-        blocks: 3,
-        shared_cells: 1,
-        weak_cells: 1,
-        allowance: 8,
-    };
-    let team = Team {
-        workers: 1,
-        slots: 5,
-        allowance: 5,
-        blocks: 2,
-    };
+    let shape = shape(3, 1, 1, 8);
+    let team = alone(5, 5, 2);
     match run(&rt, rt.alloc(), shape, team, &Compares) {
         Ok(ran) => {
             assert_eq!(rt; ran.workers, 1);

@@ -1,6 +1,7 @@
 //! Two tables of a domain become one: all that comes over, and handles that can't.
-use control_word::{Refusal, Shape};
-use handle_table::{Fault, Gone, HandleTable, Home, Program, Returned, Team, run};
+use crate::shapes::{alone, shape};
+use control_word::Refusal;
+use handle_table::{Fault, Gone, HandleTable, Home, Program, Returned, run};
 use std::alloc::Global;
 use std::process::Abort;
 use std::sync::Wait;
@@ -90,18 +91,8 @@ impl<R: Abort + Threads + Wait + Sync> Program<u64, R> for Joins {
 
 #[test]
 fn a_join_keeps_all_or_changes_nothing(rt: HostRuntime) -> Result<(), Fail> {
-    let shape = Shape {
-        blocks: 6,
-        shared_cells: 0,
-        weak_cells: 0,
-        allowance: 8,
-    };
-    let team = Team {
-        workers: 1,
-        slots: 6,
-        allowance: 5,
-        blocks: 4,
-    };
+    let shape = shape(6, 0, 0, 8);
+    let team = alone(6, 5, 4);
     let program = Joins { alloc: rt.alloc() };
     match run(&rt, rt.alloc(), shape, team, &program) {
         Ok(ran) => {

@@ -8,19 +8,20 @@ mod cells;
 #[cfg(test)]
 mod compares;
 #[cfg(test)]
-mod faults;
-#[cfg(test)]
 mod joins;
+#[cfg(test)]
+mod limits;
 #[cfg(test)]
 mod looks;
 #[cfg(test)]
 mod memory;
 #[cfg(test)]
-mod observers;
-#[cfg(test)]
 mod pointers;
 #[cfg(test)]
-mod scene;
+mod returned;
+pub mod shapes;
+#[cfg(test)]
+mod slots;
 #[cfg(test)]
 mod splits;
 #[cfg(test)]

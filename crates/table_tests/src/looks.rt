@@ -1,6 +1,7 @@
 //! Empty handles, owners that are refused or not, what two handles tell, and work on a value.
-use control_word::{Refusal, Shape};
-use handle_table::{Fault, HandleTable, Home, Program, Team, run};
+use crate::shapes::{alone, shape};
+use control_word::Refusal;
+use handle_table::{Fault, HandleTable, Home, Program, run};
 use std::process::Abort;
 use std::sync::Wait;
 use std::test::Fail;
@@ -73,18 +74,8 @@ impl<R: Abort + Threads + Wait + Sync> Program<u64, R> for Looks {
 
 #[test]
 fn handles_tell_of_each_other(rt: HostRuntime) -> Result<(), Fail> {
-    let shape = Shape {
-        blocks: 2,
-        shared_cells: 0,
-        weak_cells: 0,
-        allowance: 8,
-    };
-    let team = Team {
-        workers: 1,
-        slots: 3,
-        allowance: 4,
-        blocks: 1,
-    };
+    let shape = shape(2, 0, 0, 8);
+    let team = alone(3, 4, 1);
     match run(&rt, rt.alloc(), shape, team, &Looks) {
         Ok(ran) => {
             assert_eq!(rt; ran.workers, 1);

@@ -1,6 +1,7 @@
 //! Growths that are refused. `tests/refuse_allocations` runs these with each allocation refused in turn.
 use crate::joins::come_together;
-use control_word::{Refusal, Shape};
+use crate::shapes::{alone, shape};
+use control_word::Refusal;
 use handle_table::{Fault, HandleTable, Home, Program, Team, run};
 use std::alloc::Global;
 use std::process::Abort;
@@ -36,23 +37,40 @@ impl<R: Abort + Threads + Wait + Sync> Program<u64, R> for Splits {
 
 #[test]
 fn a_refused_split_changes_nothing(rt: HostRuntime) -> Result<(), Fail> {
-    let shape = Shape {
-        blocks: 3,
-        shared_cells: 0,
-        weak_cells: 0,
-        allowance: 6,
-    };
-    let team = Team {
-        workers: 1,
-        slots: 5,
-        allowance: 4,
-        blocks: 2,
-    };
+    let shape = shape(3, 0, 0, 6);
+    let team = alone(5, 4, 2);
     let program = Splits { alloc: rt.alloc() };
     let ran = run(&rt, rt.alloc(), shape, team, &program)?;
     if let Some(why) = ran.fewer {
         return Err(why.into());
     }
     assert_eq!(rt; ran.census.vacant(), 3);
+    Ok(())
+}
+
+/// Nobody works.
+struct Idle;
+
+impl<R: Threads + Wait + Sync> Program<u64, R> for Idle {
+    fn work<H: Home>(&self, _rt: &R, _number: usize, _table: &mut HandleTable<'_, u64, H>) {}
+}
+
+/// The first table has as many slots as a worker's. There is memory for no table of so many.
+#[test]
+fn a_first_table_is_refused(rt: HostRuntime) -> Result<(), Fail> {
+    let shape = shape(1, 0, 0, 1);
+    let mut team = Team {
+        workers: 0,
+        slots: usize::MAX,
+        allowance: 1,
+        blocks: 0,
+    };
+    match run(&rt, rt.alloc(), shape, team, &Idle) {
+        Ok(_) => assert!(rt; false),
+        Err(why) => assert_eq!(rt; why, Refusal::Memory),
+    }
+    team.slots = 1;
+    let ran = run(&rt, rt.alloc(), shape, team, &Idle)?;
+    assert_eq!(rt; ran.census.vacant(), 1);
     Ok(())
 }

@@ -1,6 +1,7 @@
 //! Pointers that an object gives to itself, owners that point elsewhere, and a cell whose owner is exchanged.
-use control_word::{Place, Refusal, Shape};
-use handle_table::{Cell, Fault, HandleTable, Home, Program, Team, run};
+use crate::shapes::{alone, shape};
+use control_word::{Place, Refusal};
+use handle_table::{Cell, Fault, HandleTable, Home, Program, run};
 use std::process::Abort;
 use std::sync::Wait;
 use std::test::Fail;
@@ -45,18 +46,8 @@ impl<R: Abort + Threads + Wait + Sync> Program<u64, R> for Pointers {
 
 #[test]
 fn pointers_to_an_object_itself(rt: HostRuntime) -> Result<(), Fail> {
-    let shape = Shape {
-        blocks: 4,
-        shared_cells: 1,
-        weak_cells: 0,
-        allowance: 16,
-    };
-    let team = Team {
-        workers: 1,
-        slots: 3,
-        allowance: 8,
-        blocks: 2,
-    };
+    let shape = shape(4, 1, 0, 16);
+    let team = alone(3, 8, 2);
     match run(&rt, rt.alloc(), shape, team, &Pointers) {
         Ok(ran) => {
             assert_eq!(rt; ran.workers, 1);

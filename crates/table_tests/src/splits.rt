@@ -1,7 +1,8 @@
 //! A split by itself: what each number may be, what goes over, and what the next number is refused with.
 use crate::joins::come_together;
-use control_word::{Refusal, Shape};
-use handle_table::{Fault, HandleTable, Home, Program, Team, run};
+use crate::shapes::{alone, shape};
+use control_word::Refusal;
+use handle_table::{Fault, HandleTable, Home, Program, run};
 use std::alloc::Global;
 use std::process::Abort;
 use std::sync::Wait;
@@ -75,18 +76,8 @@ impl<R: Abort + Threads + Wait + Sync> Program<u64, R> for Splits {
 
 #[test]
 fn a_split_gives_what_there_is_and_no_more(rt: HostRuntime) -> Result<(), Fail> {
-    let shape = Shape {
-        blocks: 4,
-        shared_cells: 0,
-        weak_cells: 0,
-        allowance: 8,
-    };
-    let team = Team {
-        workers: 1,
-        slots: 4,
-        allowance: 6,
-        blocks: 3,
-    };
+    let shape = shape(4, 0, 0, 8);
+    let team = alone(4, 6, 3);
     let program = Splits { alloc: rt.alloc() };
     let ran = run(&rt, rt.alloc(), shape, team, &program)?;
     assert_eq!(rt; ran.workers, 1);

@@ -1,6 +1,7 @@
 //! Teams: how many workers have a table, why they are fewer, and a team within a worker's table.
 use crate::joins::come_together;
-use control_word::{Refusal, Shape};
+use crate::shapes::{alone, shape};
+use control_word::Refusal;
 use handle_table::{Crew, Fault, Gone, HandleTable, Home, Program, Returned, Team, run};
 use std::alloc::Global;
 use std::process::Abort;
@@ -25,12 +26,7 @@ fn manned<R: Abort + Threads + Wait + Sync>(
     allowance: u32,
     blocks: u32,
 ) -> Result<(usize, Option<Refusal>), Refusal> {
-    let shape = Shape {
-        blocks: 4,
-        shared_cells: 0,
-        weak_cells: 0,
-        allowance: 8,
-    };
+    let shape = shape(4, 0, 0, 8);
     let team = Team {
         workers,
         slots: 1,
@@ -105,18 +101,8 @@ impl<R: Abort + Threads + Wait + Sync> Program<u64, R> for Within {
 
 #[test]
 fn a_workers_team_gives_all_back(rt: HostRuntime) -> Result<(), Fail> {
-    let shape = Shape {
-        blocks: 3,
-        shared_cells: 0,
-        weak_cells: 0,
-        allowance: 6,
-    };
-    let team = Team {
-        workers: 1,
-        slots: 3,
-        allowance: 4,
-        blocks: 2,
-    };
+    let shape = shape(3, 0, 0, 6);
+    let team = alone(3, 4, 2);
     let program = Within { alloc: rt.alloc() };
     let ran = run(&rt, rt.alloc(), shape, team, &program)?;
     assert_eq!(rt; ran.workers, 1);

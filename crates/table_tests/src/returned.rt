@@ -1,0 +1,31 @@
+//! Why a call was refused that gives back what it got.
+use handle_table::{Fault, HandleTable, Home};
+use std::sync::Wait;
+
+/// Why no object was made in the slot, where its value came back.
+pub(crate) fn made<H: Home>(table: &mut HandleTable<'_, u64, H>, to: usize) -> Option<Fault> {
+    match table.make(to, [0; 4], false, 1) {
+        Ok(()) => None,
+        Err(returned) => (returned.back == 1).then_some(returned.why),
+    }
+}
+
+/// Why no null was owned in the slot, where its value came back.
+pub(crate) fn made_null<H: Home>(table: &mut HandleTable<'_, u64, H>, to: usize) -> Option<Fault> {
+    match table.make_null(to, 1) {
+        Ok(()) => None,
+        Err(returned) => (returned.back == 1).then_some(returned.why),
+    }
+}
+
+/// Why no value was visited.
+pub(crate) fn visited<R: Wait, H: Home>(
+    rt: &R,
+    table: &mut HandleTable<'_, u64, H>,
+    of: usize,
+) -> Option<Fault> {
+    match table.visit(rt, of, |value: &mut u64| *value) {
+        Ok(_) => None,
+        Err(returned) => Some(returned.why),
+    }
+}
