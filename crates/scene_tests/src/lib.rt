@@ -6,6 +6,8 @@ mod attached;
 #[cfg(test)]
 mod crowd;
 #[cfg(test)]
+mod detached;
+#[cfg(test)]
 mod families;
 #[cfg(test)]
 mod large;
@@ -20,7 +22,10 @@ mod parents;
 #[cfg(test)]
 mod parts;
 #[cfg(test)]
+mod pruned;
+#[cfg(test)]
 mod refusals;
+pub mod shapes;
 #[cfg(test)]
 mod stacks;
 #[cfg(test)]

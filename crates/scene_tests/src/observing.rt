@@ -1,8 +1,8 @@
 //! Observers that are attached and told of, and refused.
-ghost use Rattle.std.specs.Prelude.{◌≡◌, ◌+◌, [], IfSome};
+ghost use Rattle.std.specs.Prelude.{◌≡◌, ◌+◌, [], IfNone, IfSome};
 ghost use Rattle.control_word.specs.declared.handle.Kind.TheVariants.{Owner};
 ghost use Rattle.control_block.specs.Desks.{Belongs, IsSameDesk, bag_of, endings_of};
-ghost use Rattle.shared_handle.specs.Calls.{Holds};
+ghost use Rattle.shared_handle.specs.Calls.{Holds, with_handle};
 ghost use Rattle.scene_structures.specs.Stacks.{Serves, StandsIn};
 
 use crate::parts::{opened, shut, spend};
@@ -74,7 +74,9 @@ pub(crate) fn subject(domain: &Domain<u64>, desk: &mut Desk<u64>, field: u64) ->
     requires settled { endings_of desk.old ≡ 0 }
     ensures settled { endings_of desk.new ≡ 0 }
     ensures desk { IsSameDesk desk.old desk.new }
+    ensures bag { IfSome result (λ h. bag_of desk.new ≡ with_handle Owner h.block h.place (bag_of desk.old)) }
     ensures holds { IfSome result (λ h. Holds desk.new Owner h.block h.place) }
+    ensures none { IfNone result (bag_of desk.new ≡ bag_of desk.old) }
 {
     match make(domain, desk, [field, 0, 0, 0], false, field) {
         Ok(subject) => Some(subject),

@@ -5,27 +5,16 @@ ghost use Rattle.control_block.specs.Desks.{Belongs, IsSameDesk, allowance_of, b
 ghost use Rattle.shared_handle.specs.Calls.{Holds, with_handle, without_handle};
 ghost use Rattle.scene_structures.specs.Stacks.{Serves, StandsIn};
 
+use crate::shapes::shape;
 use atomic_cells::SharedAt;
 use control_block::census::close;
 use control_block::desk::Desk;
 use control_block::domain::{Domain, open};
-use control_word::{Refused, Shape};
+use control_word::Refused;
 use scene_structures::Stack;
 use shared_handle::{Pile, Shared, drop_shared, read};
 use std::alloc::Global;
 use std::sync::Wait;
-
-// A domain with two free shared cells: 0 is for a structure, and 1 for a handle that is put aside.
-fn shape(blocks: u32, allowance: u32) -> Shape
-    ensures { result ≡ record { blocks = blocks; shared_cells = 2; weak_cells = 0; allowance = allowance } }
-{
-    Shape {
-        blocks,
-        shared_cells: 2,
-        weak_cells: 0,
-        allowance,
-    }
-}
 
 // A domain and its first desk, if there is memory.
 pub(crate) fn opened(alloc: Global, blocks: u32, allowance: u32) -> Option<(Domain<u64>, Desk<u64>)>

@@ -1,0 +1,199 @@
+//! Children that are taken out of a scene tree.
+ghost use Rattle.std.specs.Prelude.{◌≡◌, []};
+ghost use Rattle.control_word.specs.declared.handle.Kind.TheVariants.{Owner};
+ghost use Rattle.control_block.specs.Desks.{Belongs, IsSameDesk, bag_of, endings_of};
+ghost use Rattle.shared_handle.specs.Calls.{Holds};
+ghost use Rattle.scene_structures.specs.Stacks.{Serves};
+
+use crate::observing::subject;
+use crate::parents::{Told, parent_of};
+use crate::parts::{opened, shut, spend};
+use crate::teardowns::{grow, tear_down};
+use control_block::desk::Desk;
+use control_block::domain::Domain;
+use control_word::{Refusal, Refused};
+use scene_structures::Scene;
+use shared_handle::{Pile, Shared};
+use std::alloc::Global;
+use std::sync::Wait;
+use std::test::Fail;
+
+// Why a node isn't taken out, if that was refused.
+pub(crate) fn detach<R: Wait>(
+    rt: &R,
+    domain: &Domain<u64>,
+    desk: &mut Desk<u64>,
+    scene: &mut Scene<u64>,
+    node: &Shared,
+) -> Option<Refusal>
+    requires domain { Belongs desk.old domain.now }
+    requires scene { Serves domain.now scene.old × (scene.old.endings.items ≡ []) }
+    requires settled { endings_of desk.old ≡ 0 }
+    requires holds { Holds desk.old Owner node.now.block node.now.place }
+    ensures scene { Serves domain.now scene.new × (scene.new.endings.items ≡ []) }
+    ensures settled { endings_of desk.new ≡ 0 }
+    ensures desk { IsSameDesk desk.old desk.new }
+    ensures bag { bag_of desk.new ≡ bag_of desk.old }
+    ensures held { desk.new.held ≡ desk.old.held }
+{
+    scene.detach(rt, domain, desk, node).err()
+}
+
+// Why a child and its root aren't taken out, and the child's parent then.
+type Taken = ((Option<Refusal>, Option<Refusal>), Told);
+
+// The values of what ends by the root, how many blocks are vacant, and the child's parent then.
+type Left = (Option<Vec<u64>>, u32, Told);
+
+// The child is taken out twice and the root once, and the child is asked for its parent.
+fn take_out<R: Wait>(
+    rt: &R,
+    domain: &Domain<u64>,
+    desk: &mut Desk<u64>,
+    scene: &mut Scene<u64>,
+    root: &Shared,
+    child: &Shared,
+    pile: &mut Pile<u64>,
+) -> Taken
+    requires domain { Belongs desk.old domain.now }
+    requires scene { Serves domain.now scene.old × (scene.old.endings.items ≡ []) }
+    requires pile { Serves domain.now pile.old × (pile.old.endings.items ≡ []) }
+    requires settled { endings_of desk.old ≡ 0 }
+    requires root { Holds desk.old Owner root.now.block root.now.place }
+    requires child { Holds desk.old Owner child.now.block child.now.place }
+    ensures scene { Serves domain.now scene.new × (scene.new.endings.items ≡ []) }
+    ensures pile { Serves domain.now pile.new × (pile.new.endings.items ≡ []) }
+    ensures settled { endings_of desk.new ≡ 0 }
+    ensures desk { IsSameDesk desk.old desk.new }
+    ensures bag { bag_of desk.new ≡ bag_of desk.old }
+    ensures held { desk.new.held ≡ desk.old.held }
+{
+    detach(rt, domain, desk, scene, child);
+    let of_child = detach(rt, domain, desk, scene, child);
+    let of_root = detach(rt, domain, desk, scene, root);
+    let parent = parent_of(rt, domain, desk, scene, child, pile);
+    ((of_child, of_root), parent)
+}
+
+// A root 1 gets the children 2, 3 and 4, of which this one is taken out.
+fn family<R: Wait>(
+    rt: &R,
+    alloc: Global,
+    domain: &Domain<u64>,
+    desk: &mut Desk<u64>,
+    scene: &mut Scene<u64>,
+    value: u64,
+    pile: &mut Pile<u64>,
+) -> Option<(Taken, Left)>
+    requires domain { Belongs desk.old domain.now }
+    requires scene { Serves domain.now scene.old × (scene.old.endings.items ≡ []) }
+    requires pile { Serves domain.now pile.old × (pile.old.endings.items ≡ []) }
+    requires settled { endings_of desk.old ≡ 0 }
+    ensures scene { scene.new.endings.items ≡ [] }
+    ensures pile { pile.new.endings.items ≡ [] }
+    ensures desk { IsSameDesk desk.old desk.new }
+{
+    let root = subject(domain, desk, 1)?;
+    for older in 2..value {
+        grow(rt, domain, desk, scene, &root, older, pile);
+    }
+    match scene.add_child(rt, domain, desk, &root, [value, 0, 0, 0], value) {
+        Ok(child) => {
+            for younger in value..4 {
+                grow(
+                    rt,
+                    domain,
+                    desk,
+                    scene,
+                    &root,
+                    younger.wrapping_add(1),
+                    pile,
+                );
+            }
+            let taken = take_out(rt, domain, desk, scene, &root, &child, pile);
+            let values = tear_down(rt, alloc, domain, desk, scene, root, pile);
+            let vacant = desk.stock();
+            let orphan = parent_of(rt, domain, desk, scene, &child, pile);
+            spend(rt, domain, desk, child, pile);
+            Some((taken, (values, vacant, orphan)))
+        }
+        Err(refused) => {
+            let Refused { why: _, back: _ } = refused;
+            spend(rt, domain, desk, root, pile);
+            None
+        }
+    }
+}
+
+// The same in a domain of four blocks, with this allowance.
+fn family_alone<R: Wait>(
+    rt: &R,
+    alloc: Global,
+    allowance: u32,
+    value: u64,
+) -> Option<(Taken, Left)> {
+    let (domain, mut desk) = opened(alloc, 4, allowance)?;
+    let Ok(mut scene) = Scene::new(alloc, &domain) else {
+        shut(domain, desk);
+        return None;
+    };
+    let Ok(mut pile) = Pile::new(alloc, &domain) else {
+        scene.close();
+        shut(domain, desk);
+        return None;
+    };
+    let seen = family(rt, alloc, &domain, &mut desk, &mut scene, value, &mut pile);
+    scene.close();
+    pile.close();
+    shut(domain, desk);
+    seen
+}
+
+#[test]
+fn a_child_in_between_goes_out(rt: HostRuntime) -> Result<(), Fail> {
+    let ((why, parent), (felled, vacant, orphan)) = family_alone(&rt, rt.alloc(), 16, 3).ok_or(
+        "memory",
+    )?;
+    let values = felled.ok_or("memory")?;
+    assert_eq!(rt; why, (None, None));
+    assert_eq!(rt; parent, Told::Nobody);
+    assert_eq!(rt; values.as_slice(), [1, 4, 2].as_slice());
+    assert_eq!(rt; vacant, 3);
+    assert_eq!(rt; orphan, Told::Nobody);
+    Ok(())
+}
+
+#[test]
+fn the_last_child_goes_out(rt: HostRuntime) -> Result<(), Fail> {
+    let ((_, parent), (felled, vacant, _)) = family_alone(&rt, rt.alloc(), 16, 2).ok_or("memory")?;
+    let values = felled.ok_or("memory")?;
+    assert_eq!(rt; parent, Told::Nobody);
+    assert_eq!(rt; values.as_slice(), [1, 4, 3].as_slice());
+    assert_eq!(rt; vacant, 3);
+    Ok(())
+}
+
+#[test]
+fn the_first_child_goes_out_where_six_handles_are_free(rt: HostRuntime) -> Result<(), Fail> {
+    let ((why, parent), (felled, vacant, _)) = family_alone(&rt, rt.alloc(), 8, 4).ok_or("memory")?;
+    let values = felled.ok_or("memory")?;
+    assert_eq!(rt; why, (None, None));
+    assert_eq!(rt; parent, Told::Nobody);
+    assert_eq!(rt; values.as_slice(), [1, 3, 2].as_slice());
+    assert_eq!(rt; vacant, 3);
+    Ok(())
+}
+
+#[test]
+fn no_child_goes_out_where_five_handles_are_free(rt: HostRuntime) -> Result<(), Fail> {
+    let ((why, parent), (felled, vacant, orphan)) = family_alone(&rt, rt.alloc(), 7, 4).ok_or(
+        "memory",
+    )?;
+    let values = felled.ok_or("memory")?;
+    assert_eq!(rt; why, (Some(Refusal::Limit), Some(Refusal::Limit)));
+    assert_eq!(rt; parent, Told::Refused(Refusal::Limit));
+    assert_eq!(rt; values.as_slice(), [1].as_slice());
+    assert_eq!(rt; vacant, 0);
+    assert_eq!(rt; orphan, Told::Nobody);
+    Ok(())
+}
