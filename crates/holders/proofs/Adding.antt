@@ -3,20 +3,13 @@ use Rattle.std.proofs.Common.{◌≡◌, ℕ, zero, suc, ◌+◌, List, [], ◌�
 use Rattle.std.specs.List.{flat_map}
 use Rattle.std.proofs.lemmas.Grind.{flat_map-append}
 use Rattle.step_threads.specs.Stocks.{from}
+use Rattle.owner_graph.proofs.Joining.{join, nil_right}
 
 from-suc : (b n : ℕ) → from b (suc n) ≡ from b n ++ (b + n) ∷ []
 from-suc b zero = let e : b ≡ b + 0 = omega arith in ap (λ (k : ℕ). k ∷ []) e
 from-suc b (suc n) =
     let e : suc b + n ≡ b + suc n = omega arith in
     ap (λ (l : List ℕ). b ∷ l) (from-suc (suc b) n ∙ ap (λ (k : ℕ). from (suc b) n ++ k ∷ []) e)
-
-pub nil_right : {A : Type 0} → (l : List A) → l ++ [] ≡ l
-nil_right [] = refl
-nil_right (x ∷ xs) = ap (λ l. x ∷ l) (nil_right xs)
-
-pub join : {A : Type 0} → (x y z : List A) → (x ++ y) ++ z ≡ x ++ (y ++ z)
-join [] y z = refl
-join (u ∷ us) y z = ap (λ l. u ∷ l) (join us y z)
 
 -- one more
 pub one_more : {A : Type 0} → (f : ℕ → List A) (b n k : ℕ) (start so_far next : List A) → k ≡ b + n

@@ -1,4 +1,1 @@
 pub mod Adding
-pub mod Backwards
-pub mod Marking
-pub mod Owning

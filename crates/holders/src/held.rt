@@ -5,19 +5,13 @@ ghost use Rattle.step_core.specs.Totals.{IsAtEnd};
 ghost use Rattle.step_table.specs.Cells.{IsThere};
 ghost use Rattle.step_table.specs.Stories.{state};
 ghost use Rattle.step_threads.specs.Stocks.{from};
-ghost use Rattle.holders.specs.Holdings.{AddsAmong, IsAmong, all_held, cells_of, held_by_block, held_by_free, held_in};
-ghost use Rattle.holders.specs.Holdings.{source};
+ghost use Rattle.holders.specs.Holdings.{AddsAmong, all_held, cells_of, held_by_block, held_by_free, held_in};
+ghost use Rattle.owner_graph.specs.Owners.{IsAmong, source};
 
 use control_word::Block;
+use owner_graph::Holding;
 use std::alloc::{AllocError, Global};
 use step_core::{Cell, World};
-
-/// A cell, and the block of the object that its handle is on.
-#[derive(Clone, Copy, Drop)]
-pub struct Holding {
-    pub cell: Cell,
-    pub block: Block,
-}
 
 /// Adds what a cell holds, where it holds something.
 fn add(world: &World, cell: Cell, holdings: &mut Vec<Holding>) -> Result<(), AllocError>

@@ -4,7 +4,7 @@ use Rattle.control_word.proofs.history.Kept.{cells_led}
 use Rattle.step_table.specs.Openings.{opening}
 use Rattle.step_table.specs.Stories.{state}
 use Rattle.step_threads.specs.Stocks.{from}
-use Rattle.holders.specs.declared.held.Holding.{Holding}
+use Rattle.owner_graph.specs.declared.holding.Holding.{Holding}
 use Rattle.holders.specs.Holdings.{held_by_block, held_by_free}
 use Rattle.holders.proofs.held.holdings.Goals as goal
 

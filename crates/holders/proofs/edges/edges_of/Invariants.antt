@@ -1,6 +1,0 @@
-use Rattle.std.proofs.Common.{◌≡◌, take}
-use Rattle.holders.specs.Edges.{owner_edges}
-use Rattle.holders.proofs.edges.edges_of.Given as goal
-
-abbrev pub invariant-loop-holding : goal.invariant-loop-holding
-invariant-loop-holding l = l.edges.items ≡ owner_edges l.shared (take l.holding-index l.holdings)

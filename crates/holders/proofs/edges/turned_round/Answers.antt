@@ -1,8 +1,0 @@
-use Rattle.holders.specs.Edges.{back}
-use Rattle.holders.proofs.Owning.{take_more}
-use Rattle.holders.proofs.edges.turned_round.Goals as goal
-
-pub loop-edge-preserved : goal.loop-edge-preserved
-loop-edge-preserved c =
-    take_more back c.args.edges.now c.loop-edge.edge-index _ c.loop-edge.back.items c.push.new.self.items
-    c.loop-edge-test.true c.loop-edge.invariant c.in_ok-push.ensures.items

@@ -1,6 +1,0 @@
-use Rattle.std.proofs.Common.{◌≡◌, take}
-use Rattle.holders.specs.Edges.{back_edges}
-use Rattle.holders.proofs.edges.turned_round.Given as goal
-
-abbrev pub invariant-loop-edge : goal.invariant-loop-edge
-invariant-loop-edge l = l.back.items ≡ back_edges (take l.edge-index l.edges)

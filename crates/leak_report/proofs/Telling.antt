@@ -1,0 +1,102 @@
+-- What is told of a run's end, line after line.
+use Rattle.std.proofs.Common.{◌≡◌, ℕ, zero, suc, ◌+◌, ◌<◌, length, get_or, Bool, false, List, [], ◌∷◌, ◌++◌, Result, Ok, Err, Option}
+use Rattle.std.proofs.Common.{Some, None, refl, sym, ap}
+use Rattle.std.proofs.Common.{subst, ◌∙◌, arith}
+use Rattle.std.specs.List.{flat_map}
+use Rattle.std.specs.Prelude.{slice_index_or}
+use Rattle.std.proofs.lemmas.List.{append-nil}
+use Rattle.control_word.specs.declared.counts.Counts.{Counts}
+use Rattle.control_word.specs.State.{State}
+use Rattle.script_text.specs.Drafts.{ScriptView}
+use Rattle.script_text.specs.Grammar.{ended}
+use Rattle.script_text.specs.declared.fault.Fault.{Fault}
+use Rattle.script_stepper.specs.Runs.{IsRun}
+use Rattle.script_stepper.specs.Lines.{totals_text}
+use Rattle.script_stepper.proofs.LineLemmas.{lines_then}
+use Rattle.step_threads.specs.Scenes.{Scene, state_in}
+use Rattle.step_threads.specs.Stocks.{from}
+use Rattle.step_core.specs.Totals.{census_of, ended_in, made_in}
+use Rattle.owner_graph.specs.declared.holding.Holding.{Holding}
+use Rattle.owner_graph.specs.Rows.{held_on}
+use Rattle.holders.proofs.Adding.{one_more}
+use Rattle.script_stepper.specs.Ends.{IsEnd}
+use Rattle.owner_graph.specs.Rows.{row_at}
+use Rattle.owner_graph.proofs.Stepping.{same_at}
+use Rattle.std.specs.Global.{Vec}
+use Rattle.leak_report.specs.Left.{IsLeftText, TellsOf}
+use Rattle.leak_report.specs.Lines.{all_lines, held_at, held_lines_if, holder_lines, left_lines, left_text, listing}
+
+-- lines of one number more
+pub numbers_then : (f : ℕ → List (List ℕ)) (n : ℕ) (a b c : List ℕ) → b ≡ a ++ ended (flat_map f (from 1 n)) → c ≡ b ++ ended (f (n + 1))
+    → c ≡ a ++ ended (flat_map f (from 1 (n + 1)))
+numbers_then f n a b c p q =
+    let e = one_more f 1 n (n + 1) [] (flat_map f (from 1 n)) (flat_map f (from 1 n) ++ f (n + 1)) (omega arith) refl refl in
+    lines_then (flat_map f (from 1 n)) (f (n + 1)) a b c p q ∙ ap (λ (l : List (List ℕ)). a ++ ended l) e
+
+-- a block's line, and those of the handles on it
+pub block_then : (shared : ℕ) (hs row : List Holding) (kept : List Bool) (s : State) (number : ℕ) (counts : Counts) (is_kept : Bool)
+    (a b c : List ℕ) → Some counts ≡ census_of s number → is_kept ≡ slice_index_or kept number false → row ≡ held_on hs number
+    → b ≡ a ++ ended (left_text number counts is_kept ∷ []) → c ≡ b ++ ended (flat_map (holder_lines shared) row)
+    → c ≡ a ++ ended (left_lines shared hs kept s number)
+block_then shared hs row kept s number counts is_kept a b c some mark is p q =
+    lines_then (left_text number counts is_kept ∷ []) (flat_map (holder_lines shared) row) a b c p q
+    ∙ ap (λ (k : Bool). a ++ ended (left_text number counts k ∷ flat_map (holder_lines shared) row)) mark
+    ∙ ap (λ (l : List Holding). a ++ ended (held_line l)) is
+    ∙ ap (λ (o : Option Counts). a ++ ended (held_lines_if shared hs kept number o)) some
+  where
+    held_line : List Holding → List (List ℕ)
+    held_line l = left_text number counts (slice_index_or kept number false) ∷ flat_map (holder_lines shared) l
+
+pub none_then : (shared : ℕ) (hs : List Holding) (kept : List Bool) (s : State) (number : ℕ) (a : List ℕ) → None ≡ census_of s number
+    → a ≡ a ++ ended (left_lines shared hs kept s number)
+none_then shared hs kept s number a none =
+    sym (append-nil a) ∙ ap (λ (o : Option Counts). a ++ ended (held_lines_if shared hs kept number o)) none
+
+-- the totals come last
+pub all_then : (u : Scene) (kept : List Bool) (shared blocks made over : ℕ) (b c : List ℕ) → shared ≡ u.extent.shape.shared_cells
+    → blocks ≡ u.extent.shape.blocks → made ≡ made_in u.history → over ≡ ended_in u.history
+    → b ≡ [] ++ ended (listing shared (held_at u) kept blocks (state_in u)) → c ≡ b ++ ended (totals_text made over ∷ [])
+    → c ≡ ended (all_lines kept u)
+all_then u kept shared blocks made over b c few all one two p q =
+    lines_then (listing shared (held_at u) kept blocks (state_in u)) (totals_text made over ∷ []) [] b c p q
+    ∙ ap (λ (n : ℕ). ended (listing n (held_at u) kept blocks (state_in u) ++ totals_text made over ∷ [])) few
+    ∙ ap (λ (n : ℕ). ended (listing u.extent.shape.shared_cells (held_at u) kept n (state_in u) ++ totals_text made over ∷ [])) all
+    ∙ ap (λ (n : ℕ). ended (listing u.extent.shape.shared_cells (held_at u) kept u.extent.shape.blocks (state_in u) ++ totals_text n over ∷ [])) one
+    ∙ ap (λ (n : ℕ). ended (listing u.extent.shape.shared_cells (held_at u) kept u.extent.shape.blocks (state_in u)
+    ++ totals_text (made_in u.history) n ∷ [])) two
+
+-- what was answered may be forgotten
+pub forgotten : (leaks : Bool) (fault : Fault) (bytes list text : List ℕ) → IsRun (IsLeftText (Ok leaks)) bytes list text
+    → IsRun (IsLeftText (Err fault)) bytes list text
+forgotten leaks fault bytes list text h = record {
+  script = h.script;
+  turns = h.turns;
+  reads = h.reads;
+  listed = h.listed;
+  says = record { last = h.says.last; runs = h.says.runs; leaks = h.says.leaks; tells = h.says.tells; answers = tt };
+}
+
+-- a mark, and a row, at a block's number
+pub mark_is : (xs : List Bool) (i n : ℕ) (r : Bool) → i ≡ n → n < length xs → r ≡ get_or xs i r → r ≡ slice_index_or xs n false
+mark_is xs i n r is lt e = e ∙ ap (λ (k : ℕ). get_or xs k r) is ∙ same_at xs n r false lt
+
+row_in_range : (rows : List (Vec Holding)) (n : ℕ) (v : Vec Holding) → n < length rows → v ≡ get_or rows n v → v.items ≡ row_at rows n
+row_in_range [] n v lt e = absurd (omega arith)
+row_in_range (r ∷ rs) zero v lt e = ap (λ (x : Vec Holding). x.items) e
+row_in_range (r ∷ rs) (suc n) v lt e = row_in_range rs n v (omega arith) e
+
+pub row_is : (rows : List (Vec Holding)) (i n : ℕ) (v : Vec Holding) (items held : List Holding) → i ≡ n → n < length rows
+    → v ≡ get_or rows i v → items ≡ v.items → row_at rows n ≡ held → items ≡ held
+row_is rows i n v items held is lt e it h =
+    it ∙ row_in_range rows n v lt (subst (λ (k : ℕ). v ≡ get_or rows k v) is e) ∙ h
+
+-- a run's end, and what is told of it
+pub left_told : (bytes list : List ℕ) (c : Scene) (leaks : Bool) (text : List ℕ) → IsEnd bytes list c → TellsOf c leaks text
+    → IsRun (IsLeftText (Ok leaks)) bytes list text
+left_told bytes list c leaks text e t = record {
+  script = e.script;
+  turns = e.turns;
+  reads = e.reads;
+  listed = e.listed;
+  says = record { last = c; runs = e.runs; leaks = leaks; tells = t; answers = refl };
+}

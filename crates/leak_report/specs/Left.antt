@@ -1,0 +1,52 @@
+-- What is left at the end of a script's run. All of it is own.
+use Rattle.std.specs.Prelude.{◌≡◌, ◌≢◌, ◌↔◌, ℕ, ◌+◌, ◌≤◌, Bool, true, false, List, length}
+use Rattle.std.specs.Prelude.{None, slice_index_or}
+use Rattle.std.specs.Prelude.{Result, Ok, Err}
+use Rattle.script_text.specs.declared.fault.Fault.{Fault}
+use Rattle.script_text.specs.Beginnings.{script_scene}
+use Rattle.script_text.specs.Drafts.{ScriptView}
+use Rattle.script_text.specs.Grammar.{ended}
+use Rattle.script_stepper.specs.Ends.{IsRunOut}
+use Rattle.step_threads.specs.Scenes.{Scene, state_in}
+use Rattle.step_core.specs.Totals.{census_of}
+use Rattle.owner_graph.specs.Owners.{IsKept}
+use Rattle.leak_report.specs.Lines.{all_lines, held_at}
+
+-- a path of owners leads to the block from a free cell
+abbrev pub IsKeptAt : Scene → ℕ → Type 0
+IsKeptAt c b = IsKept c.extent.shape.shared_cells (held_at c) b
+
+-- the block isn't vacant, and no path leads to it
+abbrev pub IsLeaked : Scene → ℕ → Type 0
+IsLeaked c b = (1 ≤ b) × (b ≤ c.extent.shape.blocks) × (census_of (state_in c) b ≢ None)
+    × (IsKeptAt c b → ⊥)
+
+-- some block is leaked, or none
+abbrev pub Leaks : Bool → Scene → Type 0
+Leaks true c = (b : ℕ) × IsLeaked c b
+Leaks false c = (b : ℕ) → IsLeaked c b → ⊥
+
+-- just the blocks are marked that are kept
+pub record MarksKept (c : Scene) (kept : List Bool) : Type 0 where
+  pub size : length kept ≡ c.extent.shape.blocks + 1
+  pub marks : (b : ℕ) → b ≤ c.extent.shape.blocks → slice_index_or kept b false ≡ true ↔ IsKeptAt c b
+
+-- the text tells what is left at a scene, and whether something is leaked
+pub record TellsOf (c : Scene) (leaks : Bool) (text : List ℕ) : Type 0 where
+  pub kept : List Bool
+  pub marked : MarksKept c kept
+  pub says : text ≡ ended (all_lines kept c)
+  pub leaks_is : Leaks leaks c
+
+-- whether something is leaked, where that was answered
+abbrev pub Answers : Result Bool Fault → Bool → Type 0
+Answers (Ok answer) leaks = answer ≡ leaks
+Answers (Err fault) leaks = Unit {0}
+
+-- a script's run with these turns comes to this end, and the text tells what is left there
+pub record IsLeftText (answer : Result Bool Fault) (script : ScriptView) (turns text : List ℕ) : Type 0 where
+  pub last : Scene
+  pub runs : IsRunOut turns (script_scene script) last
+  pub leaks : Bool
+  pub tells : TellsOf last leaks text
+  pub answers : Answers answer leaks

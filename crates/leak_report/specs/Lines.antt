@@ -1,0 +1,69 @@
+-- The lines that tell what is left, each without its line feed. All of it is own.
+use Rattle.std.specs.Prelude.{ℕ, ◌-◌, ◌==◌, ◌++◌, Bool, cond, List, [], ◌∷◌, codes, decimal, nat_lt}
+use Rattle.std.specs.Prelude.{Option, Some, None, slice_index_or, false}
+use Rattle.std.specs.List.{flat_map}
+use Rattle.control_word.specs.declared.counts.Counts.{Counts}
+use Rattle.control_word.specs.State.{State}
+use Rattle.step_table.specs.declared.cell_deed.Cell.{Cell}
+use Rattle.step_table.specs.declared.cell_deed.Cell.TheVariants.{Free, Member}
+use Rattle.step_threads.specs.Scenes.{Scene, state_in}
+use Rattle.step_threads.specs.Stocks.{from}
+use Rattle.step_core.specs.Totals.{census_of, ended_in, made_in}
+use Rattle.script_stepper.specs.Lines.{block_text, totals_text}
+use Rattle.owner_graph.specs.declared.holding.Holding.{Holding}
+use Rattle.holders.specs.Holdings.{all_held}
+use Rattle.owner_graph.specs.Owners.{is_owner}
+use Rattle.owner_graph.specs.Rows.{held_on}
+
+-- a member's name
+abbrev pub member_text : ℕ → List ℕ
+member_text member = cond (member == 0) (codes "first") (cond (member == 1) (codes "next") (codes "up"))
+
+-- a cell's word in a script, but for the block in place of a name before the dot
+abbrev pub cell_text : ℕ → Cell → List ℕ
+cell_text shared (Free n) = cond (nat_lt n shared) (codes "s" ++ decimal n) (codes "w" ++ decimal (n - shared))
+cell_text shared (Member b member) = decimal b.0 ++ codes "." ++ member_text member
+
+abbrev pub kind_text : Bool → List ℕ
+kind_text is_owner = cond is_owner (codes "owner") (codes "weak")
+
+-- a handle, by where it is
+abbrev pub holder_text : ℕ → Holding → List ℕ
+holder_text shared h = codes "  " ++ kind_text (is_owner shared h.cell) ++ codes " in " ++ cell_text shared h.cell
+
+abbrev pub holder_lines : ℕ → Holding → List (List ℕ)
+holder_lines shared h = holder_text shared h ∷ []
+
+abbrev pub kept_text : Bool → List ℕ
+kept_text is_kept = cond is_kept (codes "kept") (codes "leaked")
+
+-- the line of a block in the census, and whether it is kept
+abbrev pub left_text : ℕ → Counts → Bool → List ℕ
+left_text block counts is_kept = block_text block counts ++ codes " " ++ kept_text is_kept
+
+-- under it each handle on the block, in the order of the cells
+abbrev pub held_lines : ℕ → List Holding → List Bool → ℕ → Counts → List (List ℕ)
+held_lines shared hs kept block counts =
+    left_text block counts (slice_index_or kept block false) ∷ flat_map (holder_lines shared) (held_on hs block)
+
+abbrev pub held_lines_if : ℕ → List Holding → List Bool → ℕ → Option Counts → List (List ℕ)
+held_lines_if shared hs kept block None = []
+held_lines_if shared hs kept block (Some counts) = held_lines shared hs kept block counts
+
+-- of a block that isn't vacant
+abbrev pub left_lines : ℕ → List Holding → List Bool → State → ℕ → List (List ℕ)
+left_lines shared hs kept s block = held_lines_if shared hs kept block (census_of s block)
+
+-- of all blocks, in order
+abbrev pub listing : ℕ → List Holding → List Bool → ℕ → State → List (List ℕ)
+listing shared hs kept blocks s = flat_map (left_lines shared hs kept s) (from 1 blocks)
+
+-- what all cells hold at a scene
+abbrev pub held_at : Scene → List Holding
+held_at c = all_held (state_in c) c.extent.shape.blocks
+
+-- all lines of what is left at a scene, where these blocks are marked as kept
+abbrev pub all_lines : List Bool → Scene → List (List ℕ)
+all_lines kept c =
+    listing c.extent.shape.shared_cells (held_at c) kept c.extent.shape.blocks (state_in c)
+    ++ totals_text (made_in c.history) (ended_in c.history) ∷ []

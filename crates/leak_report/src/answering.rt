@@ -1,0 +1,51 @@
+//! From a script's bytes to the text of what is left at its end.
+ghost use Rattle.std.specs.Prelude.{◌≡◌, ℕ, IfErr, IfOk, false, string_bytes};
+ghost use Rattle.script_stepper.specs.Ends.{IsEnd, IsRefused};
+ghost use Rattle.script_stepper.specs.Runs.{Delivers, Tells, is_output};
+ghost use Rattle.step_core.specs.Worlds.{scene};
+ghost use Rattle.leak_report.specs.Left.{IsLeftText, TellsOf};
+
+use crate::listing::{Left, left_at};
+use script_stepper::{Sink, end_of, write_text};
+use script_text::Fault;
+use std::alloc::Global;
+
+/// Runs a script, and tells what is left at its end.
+fn left_of(alloc: Global, script: &[u8], turns: &[u8]) -> Result<Left, Fault>
+    ensures told { IfOk result (λ left. Tells (IsLeftText (Ok left.leaks)) script.now turns.now
+        (Ok (string_bytes left.text))) }
+    ensures refused { IfErr result (λ fault. IsRefused script.now turns.now fault) }
+{
+    let end = end_of(alloc, script, turns)?;
+    match left_at(alloc, &end) {
+        Ok(left) => Ok(left),
+        Err(_) => Err(Fault::Memory),
+    }
+}
+
+/// Runs a script with a list of turns, as [`script_stepper::step_text`] does, and writes what is left at its end, in
+/// place of the lines of the run (own). Answers whether something is leaked.
+///
+/// Of each block B that isn't vacant, in order, there is `block B owners N weaks K kept`, where a path of owners leads
+/// to it from a free cell, and else the same with `leaked`; and under it a line for each handle on it, in the order of
+/// the cells: `  owner in C` or `  weak in C`, C being `s3` or `w3` for a free cell, and `2.first`, `2.next` or `2.up`
+/// for a member of the object in block 2. The last line is `made M ended E left L`.
+///
+/// Refused, in this order: by 1 where a growth was refused, by 10 just where a line of the script is faulty, by 11 just
+/// where a number of the list is, with nothing written; by 12 just where the writer has failed, which then took a
+/// beginning of the text. The writer hasn't failed before.
+pub fn left_text<S: Sink>(
+    alloc: Global,
+    script: &[u8],
+    turns: &[u8],
+    writer: &mut S,
+) -> Result<bool, Fault>
+    requires { S.has_failed writer.old ≡ false }
+    ensures holds { Delivers (Tells (IsLeftText result) script.now turns.now) result
+        (S.taken writer.old) (S.taken writer.new) }
+    ensures failed { S.has_failed writer.new ≡ is_output result }
+{
+    let left = left_of(alloc, script, turns)?;
+    write_text(left.text.as_bytes(), writer)?;
+    Ok(left.leaks)
+}

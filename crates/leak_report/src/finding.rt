@@ -1,0 +1,88 @@
+//! What is held at a run's end, and what of it is kept.
+ghost use Rattle.std.specs.Prelude.{◌≡◌, ◌≢◌, ◌↔◌, ◌+◌, ◌≤◌, ℕ, None, All, IfOk, IsTrue};
+ghost use Rattle.std.specs.Prelude.{false, true, length, slice_index_or};
+ghost use Rattle.step_core.specs.Totals.{IsAtEnd, census_of};
+ghost use Rattle.step_core.specs.Worlds.{scene};
+ghost use Rattle.step_threads.specs.Scenes.{state_in};
+ghost use Rattle.owner_graph.specs.Owners.{IsAmong, IsKept};
+ghost use Rattle.owner_graph.specs.Rows.{held_on, row_at};
+ghost use Rattle.leak_report.specs.Left.{Leaks, MarksKept};
+ghost use Rattle.leak_report.specs.Lines.{held_at};
+
+use control_word::Block;
+use control_word::limits::{SCRIPT_SHARED_CELLS, SCRIPT_WEAK_CELLS};
+use holders::holdings;
+use owner_graph::{GraphError, Holding, by_block, kept};
+use script_stepper::End;
+use std::alloc::{AllocError, Global};
+use step_core::World;
+
+/// Which blocks are kept, where all owners are in and on blocks of the world.
+fn marks_of(
+    alloc: Global,
+    shared: u32,
+    blocks: u16,
+    holdings: &[Holding],
+) -> Result<Vec<bool>, AllocError>
+    requires { All (IsAmong blocks) holdings.now }
+    ensures size { IfOk result (λ v. length v.items ≡ blocks + 1) }
+    ensures kept { IfOk result (λ v. (b : ℕ) → b ≤ blocks
+        → slice_index_or v.items b false ≡ true ↔ IsKept shared holdings.now b) }
+{
+    match kept(alloc, shared, blocks, holdings) {
+        Ok(marks) => Ok(marks),
+        Err(GraphError::Memory) => Err(AllocError),
+        Err(GraphError::Outside) => unreachable!(),
+    }
+}
+
+/// What all cells hold at a run's end, by the block that it is on, and which blocks are kept.
+#[derive(Drop)]
+pub(crate) struct Found {
+    pub rows: Vec<Vec<Holding>>,
+    pub kept: Vec<bool>,
+}
+
+/// Finds what is held at a run's end.
+pub(crate) fn find(alloc: Global, end: &End) -> Result<Found, AllocError>
+    ensures size { IfOk result (λ found. length found.rows.items ≡ end.now.blocks + 1) }
+    ensures rows { IfOk result (λ found. (block : ℕ)
+        → row_at found.rows.items block ≡ held_on (held_at (scene end.now.world)) block) }
+    ensures kept { IfOk result (λ found. MarksKept (scene end.now.world) found.kept.items) }
+{
+    let held = holdings(
+        alloc,
+        &end.world,
+        SCRIPT_SHARED_CELLS + SCRIPT_WEAK_CELLS,
+        end.blocks,
+    )?;
+    let kept = marks_of(alloc, SCRIPT_SHARED_CELLS, end.blocks, held.as_slice())?;
+    let rows = by_block(alloc, end.blocks, held.as_slice())?;
+    Ok(Found { rows, kept })
+}
+
+/// Whether a block is neither vacant nor marked.
+fn is_leaked(world: &World, number: u16, kept: &[bool]) -> bool
+    requires end { IsAtEnd world.now }
+    requires block { (1 ≤ number) × (number ≤ world.now.story.extent.shape.blocks) }
+    requires marks { number + 1 ≤ length kept.now }
+    ensures { IsTrue result ↔ ((census_of (state_in (scene world.now)) number ≢ None)
+        × (slice_index_or kept.now number false ≡ false)) }
+{
+    world.census(Block(number)).is_some() && !kept[usize::from(number)]
+}
+
+/// Whether a block is leaked.
+pub(crate) fn leaks(world: &World, blocks: u16, kept: &[bool]) -> bool
+    requires end { IsAtEnd world.now }
+    requires all { blocks ≡ world.now.story.extent.shape.blocks }
+    requires marks { MarksKept (scene world.now) kept.now }
+    ensures { Leaks result (scene world.now) }
+{
+    for before in 0..blocks {
+        if is_leaked(world, before + 1, kept) {
+            return true;
+        }
+    }
+    false
+}

@@ -1,0 +1,9 @@
+//! What is left at a script's end, and who holds it, as text.
+#![tactic(auto)]
+
+mod answering;
+mod finding;
+mod lines;
+mod listing;
+
+pub use answering::left_text;

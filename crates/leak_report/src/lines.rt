@@ -1,0 +1,108 @@
+//! The lines that tell what is left, as text.
+ghost use Rattle.std.specs.Prelude.{◌≡◌, ◌∷◌, ◌++◌, [], OnOk, string_bytes};
+ghost use Rattle.std.specs.List.{flat_map};
+ghost use Rattle.script_text.specs.Canonical.{AddsLines};
+ghost use Rattle.leak_report.specs.Lines.{cell_text, holder_lines, holder_text, kept_text, kind_text, left_text};
+ghost use Rattle.leak_report.specs.Lines.{member_text};
+
+use control_word::Counts;
+use owner_graph::{Holding, is_owner};
+use std::alloc::AllocError;
+use std::fmt::Write;
+use step_core::Cell;
+
+/// A member's name.
+fn member_word(member: u8) -> &'static str
+    ensures { result.now ≡ member_text member }
+{
+    match member {
+        0 => "first",
+        1 => "next",
+        _ => "up",
+    }
+}
+
+/// What a handle is.
+fn kind_word(is_owner: bool) -> &'static str
+    ensures { result.now ≡ kind_text is_owner }
+{
+    if is_owner { "owner" } else { "weak" }
+}
+
+/// Whether a block is kept.
+fn kept_word(is_kept: bool) -> &'static str
+    ensures { result.now ≡ kept_text is_kept }
+{
+    if is_kept { "kept" } else { "leaked" }
+}
+
+/// Adds a free cell's word.
+fn put_free(text: &mut String, shared: u32, number: u32) -> Result<(), AllocError>
+    ensures { OnOk result (string_bytes text.new ≡ string_bytes text.old ++ cell_text shared (Cell.Free number)) }
+{
+    if number < shared {
+        write!(text, "s{number}")?;
+    } else {
+        let weak = number - shared;
+        write!(text, "w{weak}")?;
+    }
+    Ok(())
+}
+
+/// Adds a cell's word.
+fn put_cell(text: &mut String, shared: u32, cell: Cell) -> Result<(), AllocError>
+    ensures { OnOk result (string_bytes text.new ≡ string_bytes text.old ++ cell_text shared cell) }
+{
+    match cell {
+        Cell::Free { number } => put_free(text, shared, number)?,
+        Cell::Member { block, member } => {
+            let number = block.0;
+            let word = member_word(member);
+            write!(text, "{number}.{word}")?;
+        }
+    }
+    Ok(())
+}
+
+/// Adds the line of a handle, by where it is.
+fn put_holder(text: &mut String, shared: u32, holding: Holding) -> Result<(), AllocError>
+    ensures { OnOk result (AddsLines text.old text.new (holder_lines shared holding)) }
+{
+    let kind = kind_word(is_owner(shared, holding.cell));
+    write!(text, "  {kind} in ")?;
+    put_cell(text, shared, holding.cell)?;
+    text.push_str("\n")?;
+    Ok(())
+}
+
+/// Adds the lines of handles, in order.
+pub(crate) fn put_holders(
+    text: &mut String,
+    shared: u32,
+    holdings: &[Holding],
+) -> Result<(), AllocError>
+    ensures { OnOk result (AddsLines text.old text.new (flat_map (holder_lines shared) holdings.now)) }
+{
+    for holding in holdings {
+        put_holder(text, shared, *holding)?;
+    }
+    Ok(())
+}
+
+/// Adds the line of a block that isn't vacant.
+pub(crate) fn put_block(
+    text: &mut String,
+    block: u16,
+    counts: Counts,
+    is_kept: bool,
+) -> Result<(), AllocError>
+    ensures { OnOk result (AddsLines text.old text.new (left_text block counts is_kept ∷ [])) }
+{
+    let Counts { owners, weaks } = counts;
+    let word = kept_word(is_kept);
+    write!(text, "block {block}")?;
+    write!(text, " owners {owners}")?;
+    write!(text, " weaks {weaks}")?;
+    writeln!(text, " {word}")?;
+    Ok(())
+}

@@ -1,0 +1,94 @@
+//! What is left, block by block.
+ghost use Rattle.std.specs.Prelude.{◌≡◌, ◌+◌, ◌≤◌, ℕ, OnOk, IfOk, length, string_bytes};
+ghost use Rattle.script_text.specs.Canonical.{AddsLines};
+ghost use Rattle.step_core.specs.Totals.{IsAtEnd};
+ghost use Rattle.step_core.specs.Worlds.{scene};
+ghost use Rattle.step_threads.specs.Scenes.{state_in};
+ghost use Rattle.owner_graph.specs.Rows.{held_on, row_at};
+ghost use Rattle.leak_report.specs.Left.{TellsOf};
+ghost use Rattle.leak_report.specs.Lines.{held_at, left_lines, listing};
+
+use crate::finding::{Found, find, leaks};
+use crate::lines::{put_block, put_holders};
+use control_word::Block;
+use control_word::limits::SCRIPT_SHARED_CELLS;
+use script_stepper::{End, put_totals};
+use std::alloc::{AllocError, Global};
+use step_core::World;
+
+/// Adds the lines of a block, where it isn't vacant.
+fn put_left(
+    world: &World,
+    number: u16,
+    shared: u32,
+    found: &Found,
+    text: &mut String,
+) -> Result<(), AllocError>
+    requires end { IsAtEnd world.now }
+    requires block { (1 ≤ number) × (number ≤ world.now.story.extent.shape.blocks) }
+    requires rows { number + 1 ≤ length found.now.rows.items }
+    requires kept { number + 1 ≤ length found.now.kept.items }
+    requires held { row_at found.now.rows.items number ≡ held_on (held_at (scene world.now)) number }
+    ensures { OnOk result (AddsLines text.old text.new
+        (left_lines shared (held_at (scene world.now)) found.now.kept.items (state_in (scene world.now)) number)) }
+{
+    let Some(counts) = world.census(Block(number)) else {
+        return Ok(());
+    };
+    let index = usize::from(number);
+    put_block(text, number, counts, found.kept[index])?;
+    put_holders(text, shared, found.rows[index].as_slice())?;
+    Ok(())
+}
+
+/// Adds the lines of all blocks, in order.
+fn put_listing(
+    world: &World,
+    blocks: u16,
+    shared: u32,
+    found: &Found,
+    text: &mut String,
+) -> Result<(), AllocError>
+    requires end { IsAtEnd world.now }
+    requires all { blocks ≡ world.now.story.extent.shape.blocks }
+    requires size { blocks + 1 ≤ length found.now.rows.items }
+    requires kept { blocks + 1 ≤ length found.now.kept.items }
+    requires held { (block : ℕ) → row_at found.now.rows.items block ≡ held_on (held_at (scene world.now)) block }
+    ensures { OnOk result (AddsLines text.old text.new
+        (listing shared (held_at (scene world.now)) found.now.kept.items blocks (state_in (scene world.now)))) }
+{
+    for before in 0..blocks {
+        put_left(world, before + 1, shared, found, text)?;
+    }
+    Ok(())
+}
+
+/// What is told of a run's end.
+#[derive(Drop)]
+pub(crate) struct Left {
+    pub text: String,
+    /// Whether a block is leaked.
+    pub leaks: bool,
+}
+
+/// Tells what is left at a run's end.
+pub(crate) fn left_at(alloc: Global, end: &End) -> Result<Left, AllocError>
+    ensures { IfOk result (λ left. TellsOf (scene end.now.world) left.leaks (string_bytes left.text)) }
+{
+    let found = find(alloc, end)?;
+    let mut text = String::new(alloc);
+    put_listing(
+        &end.world,
+        end.blocks,
+        SCRIPT_SHARED_CELLS,
+        &found,
+        &mut text,
+    )?;
+    put_totals(
+        &mut text,
+        u64::from(end.world.made()),
+        u64::from(end.world.ended()),
+    )?;
+    let leaks = leaks(&end.world, end.blocks, found.kept.as_slice());
+    Ok(Left { text, leaks })
+}

@@ -1,0 +1,10 @@
+pub mod Among
+pub mod Backwards
+pub mod Cutting
+pub mod Feeding
+pub mod Joining
+pub mod Labelling
+pub mod Marking
+pub mod Owning
+pub mod RowLemmas
+pub mod Stepping

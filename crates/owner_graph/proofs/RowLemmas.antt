@@ -1,0 +1,79 @@
+-- A row gets a handle more.
+use Rattle.std.proofs.Common.{◌≡◌, ◌≢◌, ℕ, zero, suc, ◌+◌, ◌<◌, ◌==◌, Bool, true, false, cond, List, [], ◌∷◌}
+use Rattle.std.proofs.Common.{◌++◌, length, take, get_or, set}
+use Rattle.std.proofs.Common.{refl, sym, ap, subst, ◌∙◌, ⊎_elim, arith, eq-eqb, ne_eqb, length-set, length-append}
+use Rattle.std.proofs.lemmas.Bool.{cases_eq, cond-true, cond-false}
+use Rattle.std.specs.Global.{Vec}
+use Rattle.std.specs.Prelude.{All}
+use Rattle.owner_graph.specs.Owners.{IsAmong}
+use Rattle.owner_graph.specs.declared.holding.Holding.{Holding}
+use Rattle.owner_graph.specs.Rows.{held_on, row_at}
+
+none_more : (g : List (Vec Holding)) (row : Vec Holding) → row.items ≡ [] → ((v : ℕ) → row_at g v ≡ []) → (v : ℕ)
+    → row_at (g ++ row ∷ []) v ≡ []
+none_more [] row e none zero = e
+none_more [] row e none (suc v) = refl
+none_more (r ∷ rs) row e none zero = none 0
+none_more (r ∷ rs) row e none (suc v) = none_more rs row e (λ w. none (suc w)) v
+
+-- an empty row more
+pub row_more : (g g' : List (Vec Holding)) (row : Vec Holding) (i : ℕ) → g' ≡ g ++ row ∷ [] → row.items ≡ [] → length g ≡ i
+    → ((v : ℕ) → row_at g v ≡ []) → (length g' ≡ i + 1) × ((v : ℕ) → row_at g' v ≡ [])
+row_more g g' row i e none size all =
+    let n = ap (length {A = Vec Holding}) e in
+    let a = length-append g (row ∷ []) in
+    (omega (arith, n, a, size), λ v. subst (λ (x : List (Vec Holding)). row_at x v ≡ []) (sym e) (none_more g row none all v))
+
+pushed_same : (g : List (Vec Holding)) (k : ℕ) (x : Holding) (row row' : Vec Holding) → k < length g → row ≡ get_or g k row
+    → row'.items ≡ row.items ++ x ∷ [] → row_at (set g k row') k ≡ row_at g k ++ x ∷ []
+pushed_same [] k x row row' lt e new = absurd (omega arith)
+pushed_same (r ∷ rs) zero x row row' lt e new = new ∙ ap (λ (z : Vec Holding). z.items ++ x ∷ []) e
+pushed_same (r ∷ rs) (suc k) x row row' lt e new = pushed_same rs k x row row' (omega arith) e new
+
+pushed_other : (g : List (Vec Holding)) (k v : ℕ) (row' : Vec Holding) → k ≢ v → row_at (set g k row') v ≡ row_at g v
+pushed_other [] k v row' ne = refl
+pushed_other (r ∷ rs) zero zero row' ne = absurd (ne refl)
+pushed_other (r ∷ rs) zero (suc v) row' ne = refl
+pushed_other (r ∷ rs) (suc k) zero row' ne = refl
+pushed_other (r ∷ rs) (suc k) (suc v) row' ne = pushed_other rs k v row' (λ e. ne (ap suc e))
+
+pushed : (g : List (Vec Holding)) (k : ℕ) (x : Holding) (v : ℕ) (row row' : Vec Holding) → k < length g → row ≡ get_or g k row
+    → row'.items ≡ row.items ++ x ∷ [] → row_at (set g k row') v ≡ cond (k == v) (row_at g v ++ x ∷ []) (row_at g v)
+pushed g k x v row row' lt e new =
+    ⊎_elim
+    (λ (same : k ≡ v). subst (λ (w : ℕ). row_at (set g k row') w ≡ row_at g w ++ x ∷ []) same (pushed_same g k x row row' lt e new)
+    ∙ sym (cond-true (k == v) (row_at g v ++ x ∷ []) (row_at g v) (eq-eqb k v same)))
+    (λ (ne : k ≢ v). pushed_other g k v row' ne ∙ sym (cond-false (k == v) (row_at g v ++ x ∷ []) (row_at g v) (ne_eqb k v ne)))
+    (cases_eq k v)
+
+apart : (a t : Bool) (y x : Holding) (l l' : List Holding) → l' ≡ cond t (l ++ x ∷ []) l
+    → cond a (y ∷ l') l' ≡ cond t (cond a (y ∷ l) l ++ x ∷ []) (cond a (y ∷ l) l)
+apart true true y x l l' e = ap (λ (z : List Holding). y ∷ z) e
+apart true false y x l l' e = ap (λ (z : List Holding). y ∷ z) e
+apart false true y x l l' e = e
+apart false false y x l l' e = e
+
+held_next : (hs : List Holding) (i v : ℕ) (d : Holding) → i < length hs
+    → held_on (take (suc i) hs) v ≡ cond ((get_or hs i d).block.0 == v) (held_on (take i hs) v ++ get_or hs i d ∷ []) (held_on (take i hs) v)
+held_next [] i v d lt = absurd (omega arith)
+held_next (h ∷ hs) zero v d lt = refl
+held_next (h ∷ hs) (suc i) v d lt =
+    apart (h.block.0 == v) ((get_or hs i d).block.0 == v) h (get_or hs i d) (held_on (take i hs) v) (held_on (take (suc i) hs) v)
+    (held_next hs i v d (omega arith))
+
+-- a handle more, on block k
+pub held_more : (g : List (Vec Holding)) (hs : List Holding) (blocks i k : ℕ) (d : Holding) (row row' : Vec Holding) → All (IsAmong blocks) hs
+    → i < length hs → length g ≡ blocks + 1 → ((v : ℕ) → row_at g v ≡ held_on (take i hs) v) → k ≡ (get_or hs i d).block.0
+    → row ≡ get_or g k row → row'.items ≡ row.items ++ get_or hs i d ∷ []
+    → (length (set g k row') ≡ blocks + 1) × ((v : ℕ) → row_at (set g k row') v ≡ held_on (take (i + 1) hs) v)
+held_more g hs blocks i k d row row' all lt size rows is e new =
+    let x = get_or hs i d in
+    let one : i + 1 ≡ suc i = omega arith in
+    let among = (all i d lt).1 in (
+      length-set g k row' ∙ size,
+      λ v.
+          pushed g k x v row row' (omega (arith, is, among, size)) e new
+          ∙ ap (λ (l : List Holding). cond (k == v) (l ++ x ∷ []) l) (rows v)
+          ∙ ap (λ (j : ℕ). cond (j == v) (held_on (take i hs) v ++ x ∷ []) (held_on (take i hs) v)) is
+          ∙ sym (held_next hs i v d lt) ∙ ap (λ (j : ℕ). held_on (take j hs) v) (sym one),
+    )

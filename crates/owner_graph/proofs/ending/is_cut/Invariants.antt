@@ -1,0 +1,8 @@
+use Rattle.std.proofs.Common.{◌≡◌, ℕ, false}
+use Rattle.std.specs.Prelude.{◌≤◌}
+use Rattle.owner_graph.specs.Fed.{marked}
+use Rattle.owner_graph.specs.Labels.{at}
+use Rattle.owner_graph.proofs.ending.is_cut.Given as goal
+
+abbrev pub invariant-loop-before : goal.invariant-loop-before
+invariant-loop-before l = (a : ℕ) → 1 ≤ a → a ≤ l.before → at l.knots a ≡ at l.knots l.block → marked l.stays.items a ≡ false

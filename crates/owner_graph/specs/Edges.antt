@@ -1,0 +1,23 @@
+-- Owners as edges from block to block. All of it is own.
+use Rattle.std.specs.Prelude.{ℕ, cond, List, [], ◌∷◌}
+use Rattle.std.specs.List.{flat_map}
+use Rattle.directed_graph.specs.declared.graph.Edge.{Edge}
+use Rattle.owner_graph.specs.declared.holding.Holding.{Holding}
+use Rattle.owner_graph.specs.Owners.{is_owner, source}
+
+abbrev pub edge_of : Holding → Edge
+edge_of h = record { from = source h.cell; to = h.block.0 }
+
+-- one for an owner, and none for a weak handle
+abbrev pub edges_by : ℕ → Holding → List Edge
+edges_by shared h = cond (is_owner shared h.cell) (edge_of h ∷ []) []
+
+abbrev pub owner_edges : ℕ → List Holding → List Edge
+owner_edges shared hs = flat_map (edges_by shared) hs
+
+-- each edge the other way round
+abbrev pub back : Edge → List Edge
+back e = record { from = e.to; to = e.from } ∷ []
+
+abbrev pub back_edges : List Edge → List Edge
+back_edges es = flat_map back es

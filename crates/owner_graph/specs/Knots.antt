@@ -1,0 +1,19 @@
+-- Knots: blocks that owners lead to from each other. All of it is own.
+use Rattle.std.specs.Prelude.{◌≡◌, ℕ, ◌+◌, ◌≤◌, List, length, slice_index_or}
+use Rattle.owner_graph.specs.declared.holding.Holding.{Holding}
+use Rattle.owner_graph.specs.Owners.{Leads}
+
+-- owners lead from each to the other: both are in one knot, and so is whatever could be added
+abbrev pub KeepEachOther : ℕ → List Holding → ℕ → ℕ → Type 0
+KeepEachOther shared hs a b = Leads shared hs a b × Leads shared hs b a
+
+-- the least block of the knot that b is in
+pub record IsLeast (shared : ℕ) (hs : List Holding) (b least : ℕ) : Type 0 where
+  pub some : 1 ≤ least
+  pub knotted : KeepEachOther shared hs b least
+  pub first : (a : ℕ) → 1 ≤ a → KeepEachOther shared hs b a → least ≤ a
+
+-- of each block, from 1, the least of its knot
+pub record KnotsAre (shared blocks : ℕ) (hs : List Holding) (knots : List ℕ) : Type 0 where
+  pub size : length knots ≡ blocks + 1
+  pub each : (b : ℕ) → 1 ≤ b → b ≤ blocks → IsLeast shared hs b (slice_index_or knots b 0)
