@@ -1,8 +1,7 @@
 -- A word, cut at its first dot, and members spelled and read again.
 use Rattle.std.proofs.Common.{◌≡◌, ℕ, zero, suc, ◌+◌, ◌-◌, ◌<◌, ◌≤◌, Bool, true, false, not, cond, ltb, List}
-use Rattle.std.proofs.Common.{[], ◌∷◌, ◌++◌, length, take, drop, Option, Some, None, Ok, Err, refl, arith, ◌∙◌}
+use Rattle.std.proofs.Common.{[], ◌∷◌, ◌++◌, length, take, drop, Some, None, Ok, Err, refl, arith, ◌∙◌}
 use Rattle.std.specs.List.{list_all, position, position_or_len}
-use Rattle.std.specs.Option.{option_map}
 use Rattle.std.specs.Prelude.{codes, ◌&&◌}
 use Rattle.std.specs.Str.{bytes_eq}
 use Rattle.std.proofs.lemmas.Bool.{ltb-true, ltb-false}
@@ -18,13 +17,6 @@ use Rattle.script_text.proofs.TidyWords.{IsTidy, both_true, is_tidy_byte, name_i
 use Rattle.script_text.proofs.WordLemmas.{and_both}
 
 -- ---- where the first dot is
-
-abbrev Parts : Type 0
-Parts = List ℕ × List ℕ
-
--- one byte more before the dot
-abbrev pushed : ℕ → Option Parts → Option Parts
-pushed b r = option_map (λ p. (b ∷ p.0, p.1)) r
 
 none_past : (b : Bool) (x : ℕ) (xs : List ℕ) (m : ℕ) → is_dot x ≡ b → suc (length xs) ≤ cond (not b) (1 + m) 0
     → (length xs ≤ m → split_dot xs ≡ None) → split_dot (x ∷ xs) ≡ None

@@ -3,7 +3,6 @@ pub mod Comparing
 pub mod Going
 pub mod Offered
 pub mod Others
-pub mod Reaching
 pub mod Refilling
 pub mod Telling
 pub mod Told

@@ -1,12 +1,12 @@
 -- The cells of names are there, and of their kinds.
-use Rattle.std.proofs.Common.{◌≡◌, ℕ, ◌+◌, ◌<◌, ◌≤◌, true, Option, Some, None, refl, sym, ap, subst, arith, le-ltb, lt-ltb, length}
+use Rattle.std.proofs.Common.{◌≡◌, ℕ, ◌+◌, ◌≤◌, true, Option, Some, None, refl, sym, ap, subst, arith, le-ltb, lt-ltb, length}
 use Rattle.std.proofs.lemmas.Bool.{cond-true, cond-false}
 use Rattle.std.specs.Prelude.{nat_lt}
 use Rattle.control_word.proofs.history.Kept.{cells_led}
 use Rattle.control_word.specs.declared.handle.Kind.{Kind}
 use Rattle.control_word.specs.declared.handle.Kind.TheVariants.{Owner, Weak}
 use Rattle.control_word.specs.declared.place.Block.{Block}
-use Rattle.control_word.specs.State.{Has, InShape, held}
+use Rattle.control_word.specs.State.{Has, held}
 use Rattle.step_table.specs.declared.holdings.Pointer.{Pointer}
 use Rattle.step_table.specs.declared.slot.Slot.{Slot}
 use Rattle.step_table.specs.CellDeeds.{kind_in}
@@ -15,10 +15,9 @@ use Rattle.step_table.specs.Contents.{is_of}
 use Rattle.step_table.specs.Deeds.{on}
 use Rattle.step_table.specs.Holdings.{Holds, Slots, inside, is_full, slot}
 use Rattle.step_table.specs.Openings.{opening}
-use Rattle.step_table.specs.Stories.{Kept, Story, handle_in, owner_in, state}
+use Rattle.step_table.specs.Stories.{Story, handle_in, owner_in, state}
 use Rattle.step_table.proofs.contained.Told.{shared_is}
 use Rattle.step_table.proofs.holding.Inside.{inside_held, inside_is}
-use Rattle.step_table.proofs.tables.Places.{handle_busy, there}
 use Rattle.step_threads.specs.declared.call.CellName.{CellName}
 use Rattle.step_threads.specs.declared.call.CellName.TheVariants as cell
 use Rattle.step_threads.specs.declared.call.Name.{Name}
@@ -52,14 +51,6 @@ module _ (v : Story) (d : ℕ) (slots : Slots) (k : Name) (m : ℕ) (holds : Hol
         subst (λ (b : Block). Has (held d (owner_in v b p.place)) (state v).hands) (sym t.2)
             (subst (λ (q : Kind). Has (held d (handle_in v q p.block p.place)) (state v).hands) kind (inside_held d slots v k.0 p holds t.1)),
       )
-
-  -- which is one of the table's
-  pub block_there : Kept v → (0 < (block_at slots k.0).0) × ((block_at slots k.0).0 ≤ v.extent.shape.blocks)
-  block_there kept =
-      let o = there_owned in
-      let h : InShape (opening v.extent) (block_at slots k.0).0 =
-      (there v (block_at slots k.0) kept (handle_busy v d Owner (block_at slots k.0) o.0.place kept o.1)).1 in
-      let a = h.0 in let b = h.1 in (omega (arith, a), omega (arith, b))
 
 pub cell_open : (v : Story) (d : ℕ) (slots : Slots) (c : CellName) → IsIn v.extent.shape c → Holds d slots v → is_there slots c ≡ true
     → IsOpenTo v d (cell_at (state v) slots c)

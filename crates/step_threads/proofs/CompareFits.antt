@@ -3,7 +3,6 @@ use Rattle.std.proofs.Common.{◌≡◌, ◌⊎◌, ℕ, ◌-◌, ◌<◌, Bool,
 use Rattle.std.specs.Prelude.{Some}
 use Rattle.control_word.specs.declared.cell.CellWord.{CellWord}
 use Rattle.control_word.specs.declared.handle.Kind.{Kind}
-use Rattle.control_word.specs.Packing.{IsCellWord}
 use Rattle.step_threads.specs.declared.act.Act.{Act}
 use Rattle.step_threads.specs.declared.act.Act.TheVariants.{Compare}
 use Rattle.step_threads.specs.declared.call.CellName.{CellName}
@@ -55,14 +54,6 @@ module _ (d : ℕ) (t : Thread) (v : Story) (k : ℕ) (c : CellName) (weak : Boo
   -- the shape has its cell
   pub cell_of_compare : t.course.at < length t.course.tasks.items → IsIn v.extent.shape c
   cell_of_compare lt = subst (λ (a : Act). HasCell v.extent.shape a) act (cell_here t.course v lt fits.cells)
-
-  -- the cell was seen to hold what is expected, or something else that can be loaded
-  pub compare_saw : t.half ≡ Rest → t.course.endings.list ≡ [] → t.course.at < length t.course.tasks.items → IsCellWord x
-      → (same_value x (as_word (value t.course.holdings.slots.items k)) ≡ true) ⊎ IsLoaded x → Fits d (At t (Saw x)) v
-  compare_saw e none lt valid is =
-      let seen : IsSeenBy t.course.holdings.slots.items x (task_at t.course).act =
-      subst (λ (a : Act). IsSeenBy t.course.holdings.slots.items x a) (sym act) is in
-      fits_half d t v Rest (Saw x) fits e (λ b. refl) (λ b. refl) (half_here d t v Rest fits e, valid) (lt, seen, none)
 
   -- what it has seen
   pub saw_compares : t.half ≡ Saw x → (same_value x (as_word (value t.course.holdings.slots.items k)) ≡ true) ⊎ IsLoaded x

@@ -1,5 +1,5 @@
 -- What the steps of a thread are that compares a cell.
-use Rattle.std.proofs.Common.{◌≡◌, ℕ, ◌<◌, ◌==◌, Bool, true, false, not, ◌&&◌, List, [], length, refl, sym, ap, ◌∙◌}
+use Rattle.std.proofs.Common.{◌≡◌, ℕ, ◌<◌, ◌==◌, Bool, true, false, List, length, refl, sym, ap, ◌∙◌}
 use Rattle.std.proofs.lemmas.Bool.{cond-false, cond-true}
 use Rattle.std.specs.Prelude.{Option, Some, None, is_some}
 use Rattle.control_word.specs.declared.cell.CellWord.{CellWord}
@@ -12,7 +12,7 @@ use Rattle.step_table.specs.declared.cell_deed.Cell.{Cell}
 use Rattle.step_table.specs.declared.cell_deed.CellDeed.TheVariants.{CompareSwap, Take}
 use Rattle.step_table.specs.declared.cell_deed.Compared.{Compared}
 use Rattle.step_threads.specs.declared.half.Half.{Half}
-use Rattle.step_threads.specs.declared.half.Half.TheVariants.{Rest, Saw, Matched, Refill}
+use Rattle.step_threads.specs.declared.half.Half.TheVariants.{Saw, Matched, Refill}
 use Rattle.step_table.specs.declared.holdings.Pointer.{Pointer}
 use Rattle.step_table.specs.declared.past.Deed.{Deed}
 use Rattle.step_table.specs.declared.past.Deed.TheVariants.{OnCell}
@@ -24,7 +24,7 @@ use Rattle.step_threads.specs.declared.said.Stepped.TheVariants.{Event, Quiet}
 use Rattle.step_threads.specs.declared.thread.Thread.{Thread}
 use Rattle.step_table.specs.CellDeeds.{kind_in}
 use Rattle.step_table.specs.Cells.{word_at}
-use Rattle.step_table.specs.Contents.{as_word, compared_in, is_of, is_spent, same_value, seen}
+use Rattle.step_table.specs.Contents.{as_word, compared_in, is_of, same_value, seen}
 use Rattle.step_table.specs.Deeds.{on}
 use Rattle.step_table.specs.Holdings.{Holds, Slots, slot, value}
 use Rattle.step_table.specs.Refills.{more_taken}
@@ -34,12 +34,12 @@ use Rattle.step_threads.specs.Entries.{is_expected}
 use Rattle.step_threads.specs.Programs.{IsIn, kind_at}
 use Rattle.step_threads.specs.Scenes.{came, compared}
 use Rattle.step_threads.specs.NextSteps.{matched, matched_on, saw, saw_on, step_at, waits}
-use Rattle.step_threads.specs.Steps.{Step, acts, compares, fetches, gives_back, matches, missed, settles, silent, takes, within}
+use Rattle.step_threads.specs.Steps.{Step, acts, fetches, gives_back, matches, missed, settles, silent, takes, within}
 use Rattle.step_threads.specs.Threads.{HasStepped}
 use Rattle.step_threads.proofs.CellNames.{cell_open, goes_in}
 use Rattle.step_threads.proofs.Courses.{todo_at}
 use Rattle.step_threads.proofs.LookSteps.{takes_it}
-use Rattle.step_threads.proofs.Steps.{at_act, stepped_as, waits_act}
+use Rattle.step_threads.proofs.Steps.{stepped_as}
 use Rattle.step_table.proofs.contained.Coming.{open_found, seen_found}
 use Rattle.step_table.proofs.contained.Told.{alike_seen, shows_seen}
 
@@ -98,21 +98,6 @@ module _ (d : ℕ) (t : Thread) (v : Story) (k : ℕ) (c : CellName) (weak : Boo
       ∙ sym (cond-true (is_some (event_of (state v) y)) (Event (answers number (is_expected (state v) slots k c)))
       (Quiet (answers number (is_expected (state v) slots k c))) event))
       story (walked ∙ ap (λ (q : Bool). compared_walk t v c q) (sym tells)) half
-
-  -- the first step of a compare
-  module _ (is : x ≡ seen v place) (rests : t.half ≡ Rest) (none : t.course.endings.list ≡ []) where
-    looks_at : step_at v d t.half (walk t.course) ≡ Some (compares v d (walk t.course) number (rest t.course) (Compare k c weak) place wanted x)
-    looks_at =
-        at_act d t v (Compare k c weak) rests none lt act
-        ∙ ap (λ (z : CellWord). Some (compares v d (walk t.course) number (rest t.course) (Compare k c weak) place wanted z)) (sym is)
-
-    waiting : waits v t.half (walk t.course) ≡ (not (same_value x (as_word (value slots k))) && is_spent x)
-    waiting =
-        waits_act t v (Compare k c weak) rests none lt act ∙ ap (λ (z : CellWord). not (same_value z (as_word (value slots k))) && is_spent z) (sym is)
-
-    module _ (differs : same_value x (as_word (value slots k)) ≡ false) where
-      spends : waits v t.half (walk t.course) ≡ is_spent x
-      spends = waiting ∙ ap (λ (b : Bool). not b && is_spent x) differs
 
   -- the next step of a compare that has seen its cell
   module _ (saws : t.half ≡ Saw x) where

@@ -3,7 +3,7 @@ use Rattle.std.proofs.Common.{◌≡◌, ◌<◌, ℕ, Bool, true, List, length,
 use Rattle.std.proofs.lemmas.Bool.{cond-true}
 use Rattle.std.specs.Prelude.{Option, Some, None}
 use Rattle.step_threads.specs.declared.act.Act.{Act}
-use Rattle.step_threads.specs.declared.act.Act.TheVariants.{Compare, Exchange, Load, Offer}
+use Rattle.step_threads.specs.declared.act.Act.TheVariants.{Compare, Load}
 use Rattle.step_threads.specs.declared.act.Task.{Task}
 use Rattle.step_threads.specs.declared.call.CellName.{CellName}
 use Rattle.step_threads.specs.declared.call.CellName.TheVariants.{Shared, Weak, Member}
@@ -22,12 +22,6 @@ module _ (c : Course) (x : CellName) (lt : c.at < length c.tasks.items) (ready :
 
   pub named_load : (task_at c).act ≡ Load x → IsNamed (length c.holdings.slots.items) x
   named_load act = cell_named c.holdings.slots.items x (begins (Load x) act).0
-
-  pub named_offer : (k : ℕ) → (task_at c).act ≡ Offer k x → IsNamed (length c.holdings.slots.items) x
-  named_offer k act = cell_named c.holdings.slots.items x (begins (Offer k x) act).1
-
-  pub named_exchange : (k : ℕ) → (task_at c).act ≡ Exchange k x → IsNamed (length c.holdings.slots.items) x
-  named_exchange k act = cell_named c.holdings.slots.items x (begins (Exchange k x) act).1
 
   pub named_compare : (k : ℕ) (weak : Bool) → (task_at c).act ≡ Compare k x weak → IsNamed (length c.holdings.slots.items) x
   named_compare k weak act = cell_named c.holdings.slots.items x (begins (Compare k x weak) act).1

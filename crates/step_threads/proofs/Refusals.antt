@@ -1,35 +1,15 @@
 -- A thread whose act is on a member of no object.
-use Rattle.std.proofs.Common.{◌≡◌, ◌⊎◌, ◌<◌, ℕ, Bool, true, false, List, length, refl, sym, subst, ⊎_elim, inl}
-use Rattle.std.specs.Prelude.{Option, None}
+use Rattle.std.proofs.Common.{◌≡◌, ◌⊎◌, ◌<◌, ℕ, Bool, true, false, length, refl, sym, subst, ⊎_elim, inl}
 use Rattle.step_threads.specs.declared.act.Act.{Act}
 use Rattle.step_threads.specs.declared.act.Act.TheVariants.{Offer, Exchange, Load}
-use Rattle.step_threads.specs.declared.act.Task.{Task}
 use Rattle.step_threads.specs.declared.call.CellName.{CellName}
 use Rattle.step_threads.specs.declared.course.Course.{Course}
-use Rattle.step_threads.specs.declared.half.Half.TheVariants.{Rest}
-use Rattle.step_table.specs.declared.past.Deed.{Deed}
-use Rattle.step_threads.specs.Courses.{Begins, CourseReady, Drops, IsReady, Ready, Walk, dropping, other, rest, settled, taken_after, task_at}
-use Rattle.step_threads.specs.Scenes.{Hands, refusal}
-use Rattle.step_threads.specs.Steps.{Step}
+use Rattle.step_threads.specs.Courses.{Begins, CourseReady, Drops, IsReady, Ready, dropping, other, rest, taken_after, task_at}
 use Rattle.step_threads.proofs.Courses.{owed_by, ready_any, ready_head}
 
 -- the first act of a statement on a cell
 abbrev pub IsOn : Act → CellName → Type 0
 IsOn a c = (a ≡ Load c) ⊎ ((k : ℕ) × ((a ≡ Offer k c) ⊎ (a ≡ Exchange k c)))
-
--- a step of statement n that has this in its slots then, and answers whether it is refused
-abbrev pub goes_by : Walk → ℕ → List Task → CellName → Option Deed → Hands → Step
-goes_by w n ts c x y =
-    record {
-      deed = x;
-      half = Rest;
-      walk = settled y.0 y.1 w.endings ts;
-      said = record { statement = n; answer = refusal w.slots c; ended = None };
-    }
-
--- one that is refused does nothing else
-abbrev pub refuses : Walk → ℕ → List Task → CellName → Step
-refuses w n ts c = goes_by w n ts c None (w.slots, w.taken)
 
 module _ (c : Course) (x : CellName) (lt : c.at < length c.tasks.items) (ready : CourseReady c) where
   -- nothing is to be dropped at it, and the rest is ready for what was taken

@@ -1,6 +1,6 @@
 -- Stores as lists of numbers.
-use Rattle.std.proofs.Common.{◌≡◌, ℕ, zero, suc, ◌+◌, ◌-◌, ◌<◌, ◌≤◌, ◌⊎◌, false, List, [], ◌∷◌, ◌++◌, length, get_or}
-use Rattle.std.proofs.Common.{refl, sym, ap, subst, ◌∙◌, ⊎_elim, arith}
+use Rattle.std.proofs.Common.{◌≡◌, ℕ, zero, suc, ◌+◌, ◌-◌, ◌<◌, ◌≤◌, ◌⊎◌, false, List, [], ◌∷◌, ◌++◌, length}
+use Rattle.std.proofs.Common.{sym, ap, subst, ◌∙◌, ⊎_elim, arith}
 use Rattle.std.specs.List.{AllByRecursion, All}
 use Rattle.std.specs.List.Sorted.{IsPermutation}
 use Rattle.std.specs.BinaryHeap.{IsUpperBound, PopsGreatest}
@@ -39,10 +39,6 @@ went_out b old new ordered p greatest =
       rest = IsPermutation-map (λ (r : Reverse ℕ). r.0) _ _ p;
       least = All-from_recursion (λ c. b ≤ c) (numbers old) (least_of b old (greatest ordered).1);
     }
-
-pub no_numbers : (items : List (Reverse ℕ)) → length items ≡ 0 → numbers items ≡ []
-no_numbers [] e = refl
-no_numbers (x ∷ xs) e = absurd (omega arith)
 
 -- blocks that were never taken
 from_low : (b m n : ℕ) → b ≤ m → AllByRecursion (λ c. b ≤ c) (from m n)
@@ -102,12 +98,6 @@ pub peeked_above : (x : Reverse ℕ) (items : List (Reverse ℕ)) (next : ℕ)
 peeked_above x items next top le =
     let l = All-from_recursion (λ c. x.0 ≤ c) (numbers items) (least_of x.0 items top) in
     λ k d lt. let m = l k d lt in omega (arith, m, le)
-
-pub peeked_below : (x : Reverse ℕ) (items : List (Reverse ℕ)) (next : ℕ) → 0 < length items → x ≡ get_or items 0 x → x.0 ≤ next
-    → (b : ℕ) → All (λ c. b ≤ c) (numbers items) → b ≤ next
-peeked_below x [] next some is le b low = absurd (omega arith)
-peeked_below x (y ∷ ys) next some is le b low =
-    let m = low 0 0 (omega arith) in let e : x.0 ≡ y.0 = ap (λ (r : Reverse ℕ). r.0) is in omega (arith, m, e, le)
 
 -- a store at its start
 pub all_new : (first count : ℕ) (items : List (Reverse ℕ)) (next end : ℕ) → items ≡ [] → next ≡ first → end ≡ first + count

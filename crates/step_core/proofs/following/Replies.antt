@@ -44,27 +44,27 @@ module _ (tell : Telling) (z : Opening) (d : ℕ) (h : History) (n : ℕ) (w : W
   abbrev now : State
   now = leads z h
 
-  doing : (f : Pointer → Deed) (g : Pointer → Event Nothing) → ((x : Pointer) → event_of now (f x) ≡ Some (g x)) → (o : Option Pointer)
+  pub doing : (f : Pointer → Deed) (g : Pointer → Event Nothing) → ((x : Pointer) → event_of now (f x) ≡ Some (g x)) → (o : Option Pointer)
       → does z d h (option_map f o) ≡ put_on d (option_map g o) h
   doing f g same None = refl
   doing f g same (Some x) = ap (λ (e : Option (Event Nothing)). added d e h) (same x)
 
   -- a pointer leaves
-  left_at : (o : Option Pointer) → does z d h (option_map (leave now) o) ≡ put_on d (option_map (leaving_event now) o) h
+  pub left_at : (o : Option Pointer) → does z d h (option_map (leave now) o) ≡ put_on d (option_map (leaving_event now) o) h
   left_at o = doing (leave now) (leaving_event now) (λ x. left now x.kind (is_last now x) x) o
 
-  lock_history : (o : Option Pointer) → does z d h (option_map (lock now) o) ≡ put_on d (option_map (locking now (is_full (found now o))) o) h
+  pub lock_history : (o : Option Pointer) → does z d h (option_map (lock now) o) ≡ put_on d (option_map (locking now (is_full (found now o))) o) h
   lock_history None = refl
   lock_history (Some x) = ap (λ (b : Bool). entry d (locking now b x) ∷ h) (sym (gave now x))
 
   abbrev made_of : Form → ℕ → Event Nothing
   made_of form b = event.Make (record { 0 = b }) form.enabled form.null form.fields tt
 
-  make_history : (form : Form) (o : Option ℕ) → does z d h (option_map (makes form) o) ≡ put_on d (option_map (made_of form) o) h
+  pub make_history : (form : Form) (o : Option ℕ) → does z d h (option_map (makes form) o) ≡ put_on d (option_map (made_of form) o) h
   make_history form None = refl
   make_history form (Some b) = refl
 
-  make_makes : (form : Form) (o : Option ℕ) → least d now.stores ≡ o
+  pub make_makes : (form : Form) (o : Option ℕ) → least d now.stores ≡ o
       → Makes no_worth now d w.slots (Make form) (Found o) (option_map (made_of form) o)
   make_makes form None e = (none_stored d now.stores e, refl)
   make_makes form (Some b) e = refl
@@ -72,33 +72,33 @@ module _ (tell : Telling) (z : Opening) (d : ℕ) (h : History) (n : ℕ) (w : W
   abbrev swap_event : CellName → ℕ → Event Nothing
   swap_event c i = swap_of now (cell_at now w.slots c) (value w.slots i)
 
-  swap_history : (c : CellName) (i : ℕ) (b : Bool)
+  pub swap_history : (c : CellName) (i : ℕ) (b : Bool)
       → on_going (swaps z d w.slots h) h (cond b (Some (c, i)) None) ≡ put_on d (cond b (Some (swap_event c i)) None) h
   swap_history c i true = refl
   swap_history c i false = refl
 
-  swap_makes : (c : CellName) (i : ℕ) (b : Bool)
+  pub swap_makes : (c : CellName) (i : ℕ) (b : Bool)
       → let e = cond b (Some (swap_event c i)) None in Where b (Swaps now w.slots c i (came now w.slots c) e) (e ≡ None)
   swap_makes c i true = (held_in now (cell_at now w.slots c), refl, refl)
   swap_makes c i false = refl
 
-  swap_slots : (c : CellName) (i : ℕ) (f : CellName → ℕ → Slots) (b : Bool)
+  pub swap_slots : (c : CellName) (i : ℕ) (f : CellName → ℕ → Slots) (b : Bool)
       → on_going f w.slots (cond b (Some (c, i)) None) ≡ cond b (f c i) w.slots
   swap_slots c i f true = refl
   swap_slots c i f false = refl
 
-  load_history : (c : CellName) (b : Bool)
+  pub load_history : (c : CellName) (b : Bool)
       → cond b (loads z d w.slots h c) h ≡ put_on d (cond b (Some (load_of now (cell_at now w.slots c))) None) h
   load_history c true = refl
   load_history c false = refl
 
-  load_makes : (c : CellName) (b : Bool)
+  pub load_makes : (c : CellName) (b : Bool)
       → let e = cond b (Some (load_of now (cell_at now w.slots c))) None in Where b (Loads now w.slots c (came now w.slots c) e) (e ≡ None)
   load_makes c true = (held_in now (cell_at now w.slots c), refl, refl)
   load_makes c false = refl
 
   -- each act
-  pub replied : (a : Act) → Replied tell z d h n w ts a
+  unfoldable pub replied : (a : Act) → Replied tell z d h n w ts a
   replied (Make form) =
       let o = least d now.stores in
       record {

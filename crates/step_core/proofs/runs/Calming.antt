@@ -5,7 +5,6 @@ use Rattle.std.specs.Prelude.{None, Some, slice_get}
 use Rattle.std.proofs.lemmas.Bool.{cases_eq, false≢true}
 use Rattle.std.proofs.lemmas.List.{get_or-map, get_or_past, length-map}
 use Rattle.std.proofs.lemmas.Option.{slice_get_cases}
-use Rattle.control_word.specs.declared.view.Pending.{Pending}
 use Rattle.control_word.specs.declared.view.View.{View}
 use Rattle.control_word.specs.Views.{used_up}
 use Rattle.step_table.specs.declared.refill.Stage.TheVariants.{Turning, Checking, Lacking, Refilling, Failing}
@@ -23,9 +22,6 @@ use Rattle.step_core.specs.Runs.{CallsOn, NonePays, SettleInOrder, Settles, is_o
 use Rattle.step_core.specs.Worlds.{AllFit, Sight, half_of, scene, thread_half, thread_walk}
 use Rattle.step_core.proofs.Worlds.{sight}
 use Rattle.step_core.proofs.runs.Calls.{rests}
-
-abbrev Call : Type 0
-Call = Pending Nothing
 
 -- what a half has pending that owes nothing
 half_calm : (d : ℕ) (h : Half) (slots : Slots) (a : Act) (v : Story) → HalfFits d h slots a v → is_owing h ≡ false

@@ -2,7 +2,7 @@
 use Rattle.std.proofs.Common.{◌≡◌, ◌≢◌, ℕ, zero, suc, ◌+◌, ◌-◌, ◌<◌, List, [], ◌∷◌, ◌++◌, length, map, take, get_or, refl}
 use Rattle.std.proofs.Common.{sym, ap, subst, ◌∙◌, append_assoc, arith}
 use Rattle.std.specs.Prelude.{All}
-use Rattle.std.proofs.lemmas.List.{append-nil, map_push, take_more}
+use Rattle.std.proofs.lemmas.List.{map_push, take_more}
 use Rattle.std.proofs.lemmas.List.Elements.{All-append, All-cons, All-nil}
 use Rattle.step_threads.specs.declared.said.Stepped.{Stepped}
 use Rattle.step_threads.specs.declared.said.Stepped.TheVariants.{Waited, Done}
@@ -40,17 +40,6 @@ pub record IsOn (d : ℕ) (u : Sight) (xs : List TraceStep) (m : Sight) (ys : Li
   pub alone : All (IsStepOf d) added
   pub moves : All Moves added
   pub actors : length m.walks ≡ length u.walks
-
-pub on_start : (d : ℕ) (u : Sight) (xs : List TraceStep) → IsOn d u xs u xs
-on_start d u xs =
-    record {
-      added = [];
-      items = sym (append-nil xs);
-      run = refl;
-      alone = All-nil (IsStepOf d);
-      moves = All-nil Moves;
-      actors = refl;
-    }
 
 pub on_more : (d : ℕ) (u m w : Sight) (xs ys zs : List TraceStep) (r : Stepped) → IsOn d u xs m ys → Advances d m r w
     → length w.walks ≡ length m.walks → r ≢ Done → r ≢ Waited → zs ≡ ys ++ record { actor = d + 1; stepped = r } ∷ []

@@ -3,9 +3,6 @@ use Rattle.std.proofs.Common.{ℕ, List, [], ◌∷◌, refl, subst}
 use Rattle.step_threads.specs.declared.said.Stepped.{Stepped}
 use Rattle.step_core.specs.Worlds.{Advances, GoesTo, Sight, StepsBy}
 
-pub no_step : (d : ℕ) (u : Sight) → GoesTo d u u
-no_step d u = ([], refl)
-
 pub one_step : (d : ℕ) (u v : Sight) (r : Stepped) → Advances d u r v → GoesTo d u v
 one_step d u v r advances = (r ∷ [], (v, advances, refl))
 

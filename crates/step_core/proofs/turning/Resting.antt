@@ -3,7 +3,7 @@ use Rattle.std.proofs.Common.{◌≡◌, inl, inr, ℕ, ◌+◌, ◌<◌, ◌≤
 use Rattle.std.proofs.Common.{length, set, refl, sym, ap, subst, ◌∙◌, arith, ⊎_elim}
 use Rattle.std.specs.Prelude.{Option, Some, is_some, option_map}
 use Rattle.std.proofs.lemmas.Bool.{cond-false, false≢true}
-use Rattle.std.proofs.lemmas.List.{set-get_or, set-set}
+use Rattle.std.proofs.lemmas.List.{set-set}
 use Rattle.std.proofs.lemmas.List.Elements.{All-head}
 use Rattle.step_threads.specs.declared.ending.Ending.{Ending}
 use Rattle.step_threads.specs.declared.half.Half.{Half}
@@ -23,11 +23,11 @@ use Rattle.step_table.specs.declared.cell_deed.Cell.{Cell}
 use Rattle.step_table.specs.declared.refill.Stage.{Stage}
 use Rattle.step_table.specs.Refills.{RefillFits}
 use Rattle.step_table.specs.Stories.{Story}
-use Rattle.step_core.specs.Turning.{HasBegun, IsAlone, IsOut, IsTried, Rests, has_rest, is_clearing, is_ending, is_refilling, is_returning, returned}
+use Rattle.step_core.specs.Turning.{HasBegun, IsAlone, IsOut, IsTried, has_rest, is_clearing, is_ending, is_refilling, is_returning, returned}
 use Rattle.step_core.specs.Worlds.{Advances, GoesTo, Sight, Steps, half_of, scene, sight_by, step_of}
 use Rattle.step_core.proofs.turning.Refilling.{Pays, funds_left, refills_so, returns_so}
-use Rattle.step_core.proofs.turning.Chains.{more_steps, no_step, one_step}
-use Rattle.step_core.proofs.turning.Ending.{IsRested, Same, end_step, half_after, halves_after, left, look_left, rested_same, same_walks, steps_left, take_step}
+use Rattle.step_core.proofs.turning.Chains.{more_steps, one_step}
+use Rattle.step_core.proofs.turning.Ending.{IsRested, Same, end_step, half_after, halves_after, left, look_left, same_walks, steps_left, take_step}
 use Rattle.step_core.proofs.turning.Ending.{walk_after}
 
 abbrev pub rest_left : ℕ → Sight → ℕ
@@ -40,9 +40,6 @@ pub record IsOn (d : ℕ) (u u' : Sight) : Type 0 where
   pub halves : u'.halves ≡ set u.halves d (half_of u' d)
   pub actors : length u'.walks ≡ length u.walks
   pub goes : GoesTo d u u'
-
-pub on_start : (d : ℕ) (u : Sight) → IsOn d u u
-on_start d u = record { scene = refl; half = refl; halves = sym (set-get_or u.halves d Rest); actors = refl; goes = no_step d u }
 
 -- a thread whose objects end is within no act
 pub within_none : (h : Half) (e : Ending) (es : List Ending) → IsAlone h (e ∷ es) → is_returning h ≡ false → is_refilling h ≡ false
@@ -248,24 +245,3 @@ none_left d u is =
     let p = or_none (is_returning h || is_refilling h || is_clearing h) (is_ending u d) is in
     let q = or_none (is_returning h || is_refilling h) (is_clearing h) p.0 in
     let r = or_none (is_returning h) (is_refilling h) q.0 in (r.0, r.1, q.1, p.1)
-
-pub returned_none : (h : Half) → is_returning h ≡ false → is_refilling h ≡ false → is_clearing h ≡ false → returned h ≡ h
-returned_none Rest e m c = refl
-returned_none (Making b i f) e m c = refl
-returned_none (Locking word) e m c = refl
-returned_none (Giving i kind x) e m c = refl
-returned_none Brought e m c = refl
-returned_none (Saw wd) e m c = refl
-returned_none (Matched wd) e m c = refl
-returned_none (Refill stage cell wd line) e m c = absurd (false≢true (sym m))
-returned_none (Returning kind b funds k) e m c = absurd (false≢true (sym e))
-returned_none Clearing e m c = absurd (false≢true (sym c))
-
-pub rests : (d : ℕ) (u v : Sight) → IsOn d u v → has_rest v d ≡ false → Rests d u v
-rests d u v on is =
-    let n = none_left d v is in
-    record {
-      scene = sym (rested_same (scene v) d (ended d v n.3)) ∙ on.scene;
-      over = is;
-      halves = on.halves ∙ ap (set u.halves d) (sym (returned_none (half_of v d) n.0 n.1 n.2) ∙ on.half);
-    }

@@ -1,9 +1,8 @@
 -- A desk's own steps on cells: what is out after them, and how a refill goes on.
-use Rattle.std.proofs.Common.{◌≡◌, ℕ, ◌-◌, ◌<◌, true, List, Option, Some, None, refl, sym, ap, subst, ◌∙◌, inl, inr, arith}
+use Rattle.std.proofs.Common.{◌≡◌, ℕ, ◌-◌, ◌<◌, List, Option, Some, None, refl, sym, ap, subst, ◌∙◌, inl, inr, arith}
 use Rattle.std.proofs.Common.{get_or-set_same, ◌∷◌}
-use Rattle.std.proofs.lemmas.Bool.{and_parts, cond_both, eqb-true}
+use Rattle.std.proofs.lemmas.Bool.{cond_both}
 use Rattle.std.proofs.lemmas.Option.{same_Some}
-use Rattle.control_word.proofs.lists.Tallies.{same_place_true}
 use Rattle.control_word.specs.declared.cell.CellWord.{CellWord}
 use Rattle.control_word.specs.declared.handle.Handle.{Handle}
 use Rattle.control_word.specs.declared.handle.Kind.{Kind}
@@ -28,7 +27,6 @@ use Rattle.step_table.specs.declared.past.Deed.TheVariants.{OnCell}
 use Rattle.step_table.specs.declared.refill.Stage.TheVariants.{Turning, Checking, Lacking, Refilling, Failing}
 use Rattle.step_table.specs.CellDeeds.{cell_in, cell_pending, handle_told, kind_in, object_at, owing}
 use Rattle.step_table.specs.Cells.{IsOpenTo}
-use Rattle.step_table.specs.Contents.{same_block, same_value}
 use Rattle.step_table.specs.Refills.{RefillFits, more_taken}
 use Rattle.step_table.specs.Stories.{Kept, Nothing, Story, after, handle_in, pending, state}
 use Rattle.step_table.proofs.contained.Going.{swap_latest}
@@ -85,12 +83,6 @@ has_got : (s : State) (d : ℕ) (k : Kind) (o : Option Block) (p : Option Place)
     → Has (held d (handle k (object_at s (Some b)) p)) (gets d (handle k (object_at s o) p) s).hands
 has_got s d k o p b is =
     subst (λ (q : Option Block). Has (held d (handle k (object_at s (Some b)) p)) (gets d (handle k (object_at s q) p) s).hands) (sym is) (inl refl)
-
-same_block_true : (o q : Option Block) → same_block o q ≡ true → o ≡ q
-same_block_true None None e = refl
-same_block_true None (Some b) e = cc
-same_block_true (Some a) None e = cc
-same_block_true (Some a) (Some b) e = ap (λ (n : ℕ). Some (record { 0 = n })) (eqb-true a.0 b.0 e)
 
 -- one more handle in the bag shuts no cell
 open_got : (s : State) (d : ℕ) (h : Handle) (c : Cell) → IsOpen s d (cell_in s c) → IsOpen (gets d h s) d (cell_in (gets d h s) c)
@@ -176,20 +168,6 @@ module _ (d : ℕ) (v : Story) (kept : Kept v) (lt : d < v.extent.actors) where
       }
 
 module _ (d : ℕ) (v : Story) where
-  -- the cell holds the same value still
-  pub finds_same : (c : Cell) (x y : CellWord) → RefillFits d Checking c x v → IsCellWord y → same_value x y ≡ true → RefillFits d Lacking c y v
-  finds_same c x y fits valid same =
-      let t = and_parts _ _ same in
-      let p = same_place_true x.place y.place t.1 in
-      record {
-        valid = valid;
-        block = fits.block;
-        owned = sym (same_block_true x.owned y.owned t.0) ∙ fits.owned;
-        opens = fits.opens;
-        has = subst (λ (q : Option Place). Has (held d (handle_in v (kind_in (state v) c) fits.block q)) (state v).hands) p fits.has;
-        pays = fits.pays;
-      }
-
   -- the cell shows something else
   pub misses_cell : (c : Cell) (x : CellWord) → RefillFits d Refilling c x v → RefillFits d Failing c x v
   misses_cell c x fits = record { valid = fits.valid; block = fits.block; owned = fits.owned; opens = fits.opens; has = fits.has; pays = fits.pays }

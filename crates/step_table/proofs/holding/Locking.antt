@@ -1,7 +1,5 @@
 -- What a lock does to a desk's bag and to its slots.
-use Rattle.std.proofs.Common.{◌≡◌, ℕ, ◌<◌, ◌==◌, Bool, true, false, cond, not, length, set, None, refl, sym, ap, subst, ◌∙◌, arith}
-use Rattle.std.proofs.Common.{ne_eqb}
-use Rattle.std.proofs.lemmas.Bool.{eqb-true}
+use Rattle.std.proofs.Common.{◌≡◌, ℕ, ◌<◌, Bool, true, false, cond, not, length, set, None, refl, subst}
 use Rattle.control_word.specs.Handles.{IsPointer}
 use Rattle.step_table.specs.declared.holdings.Pointer.{Pointer}
 use Rattle.step_table.specs.declared.slot.Slot.TheVariants.{Full}
@@ -24,17 +22,6 @@ pub holds_looked : (d : ℕ) (slots : Slots) (v : Story) (x : Pointer) (t : Bool
     → Holds d slots (cond t (after v d (Lock x.block x.place false)) v)
 holds_looked d slots v x true holds = holds_look d slots v (after v d (Lock x.block x.place false)) refl refl holds
 holds_looked d slots v x false holds = holds
-
--- a word that was found and isn't 0 gives an owner
-pub tried : (v : Story) (d : ℕ) (x : Pointer) (now found : ℕ) (e : Bool) → 0 < found → (now == 0) ≡ e
-    → cond (now == found) (after v d (Lock x.block x.place true)) v ≡ cond (now == found) (after v d (Lock x.block x.place (not e))) v
-tried v d x now found e some is = go (now == found) refl
-  where
-    go : (t : Bool) → (now == found) ≡ t → cond t (after v d (Lock x.block x.place true)) v ≡ cond t (after v d (Lock x.block x.place (not e))) v
-    go true q =
-        let n : (now == 0) ≡ false = ne_eqb now 0 (λ z. let f = eqb-true now found q in omega (arith, f, z, some)) in
-        ap (λ (b : Bool). after v d (Lock x.block x.place b)) (ap not (sym n ∙ is))
-    go false q = refl
 
 pub holds_tried : (d : ℕ) (slots : Slots) (v : Story) (i : ℕ) (x : Pointer) → Holds d slots v → IsPointer x.place → i < length slots
     → slot slots i ≡ None

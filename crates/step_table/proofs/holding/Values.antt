@@ -1,5 +1,5 @@
 -- What pointers tell by their values.
-use Rattle.std.proofs.Common.{◌≡◌, ℕ, ◌<◌, Option, Some, None, refl, sym, ap, subst, ◌∙◌, arith}
+use Rattle.std.proofs.Common.{◌≡◌, ℕ, Option, Some, None, refl, sym, ap, subst, ◌∙◌}
 use Rattle.std.proofs.lemmas.Option.{same_Some}
 use Rattle.std.specs.Prelude.{nat_lt}
 use Rattle.control_word.specs.declared.handle.Kind.{Kind}
@@ -7,20 +7,12 @@ use Rattle.control_word.specs.declared.handle.Kind.TheVariants.{Owner, Weak}
 use Rattle.control_word.specs.Handles.{empty, rank}
 use Rattle.control_word.specs.State.{Has, held}
 use Rattle.control_word.specs.Words.{blocks_of}
-use Rattle.step_table.specs.declared.field.Field.{Field}
-use Rattle.step_table.specs.declared.field.Field.TheVariants.{Zero, One, Two, Three}
 use Rattle.step_table.specs.declared.holdings.Pointer.{Pointer}
-use Rattle.step_table.specs.Deeds.{field_number, handle_of, on, before}
+use Rattle.step_table.specs.Deeds.{handle_of, on, before}
 use Rattle.step_table.specs.Holdings.{Holds, Slots, owner_as, owner_slot, slot}
 use Rattle.step_table.specs.Stories.{Kept, Story, handle_in, owner_in, state}
 use Rattle.step_table.proofs.holding.Owning.{slot_held}
 use Rattle.step_table.proofs.tables.Places.{handle_busy, there}
-
-field_few : (f : Field) → field_number f < 4
-field_few Zero = omega arith
-field_few One = omega arith
-field_few Two = omega arith
-field_few Three = omega arith
 
 -- an owner in a slot
 pub owner_held : (d : ℕ) (slots : Slots) (v : Story) (i : ℕ) (x : Pointer) → Holds d slots v → owner_slot (slot slots i) ≡ Some x
