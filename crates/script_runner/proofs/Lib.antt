@@ -1,2 +1,4 @@
 pub mod Calling
 pub mod Logging
+pub mod Threads
+pub mod WrittenTexts

@@ -6,7 +6,7 @@ use Rattle.handle_table.specs.declared.program.Manned.{Manned}
 use Rattle.handle_table.specs.declared.program.Team.{Team}
 use Rattle.script_text.specs.Beginnings.{script_shape}
 use Rattle.script_text.specs.Drafts.{ScriptView}
-use Rattle.script_runner.specs.declared.running.Report.{Report}
+use Rattle.script_runner.specs.declared.report.Report.{Report}
 
 -- the domain of a script's workers has as many blocks and cells as its world, and room for each worker's allowance
 abbrev pub domain_shape : ScriptView → Shape

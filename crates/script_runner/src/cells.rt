@@ -70,6 +70,7 @@ impl Worker {
     }
 
     /// What is in hand goes into a cell that is equivalent to a name, or else the name gets what the cell holds.
+    /// Where it didn't go in, it is to be dropped.
     fn compare<H: Home, R: Wait>(
         &mut self,
         rt: &R,
@@ -89,10 +90,13 @@ impl Worker {
         } else {
             table.compare_exchange_strong(rt, cell, name, HAND)
         };
-        let Ok(swapped) = compared else {
-            return;
+        let swapped = match compared {
+            Ok(swapped) => {
+                self.say(statement, Answer::Compared(swapped));
+                swapped
+            }
+            Err(_) => false,
         };
-        self.say(statement, Answer::Compared(swapped));
         if !swapped {
             let _ = table.move_to(HAND, OTHER);
         }

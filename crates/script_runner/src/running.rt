@@ -7,8 +7,8 @@ ghost use Rattle.script_text.specs.Beginnings.{shape_for};
 ghost use Rattle.script_runner.specs.Reports.{IsReport};
 
 use crate::gate::Gate;
+use crate::report::Report;
 use crate::worker::{NAMES, SLOTS, Worker};
-use control_block::census::Census;
 use control_word::limits::{SCRIPT_SHARED_CELLS, SCRIPT_WEAK_CELLS};
 use control_word::{Refusal, Shape};
 use handle_table::{HandleTable, Home, Program, Team, run};
@@ -19,15 +19,6 @@ use std::sync::{Mutex, Wait};
 use std::thread::Threads;
 use step_core::{Actor, Call, Said};
 use step_threads::statement::tasks;
-
-/// What came of a script on real workers: each thread's lines, in thread order, how many objects were made and how many
-/// ended, and the census of the domain.
-#[derive(Drop)]
-pub struct Report {
-    pub lines: Vec<Vec<Said>>,
-    pub totals: Totals,
-    pub census: Census<u64>,
-}
 
 /// The workers of a script.
 #[derive(Drop)]
@@ -78,6 +69,7 @@ fn worker_of(alloc: Global, actor: &Actor, objects: usize) -> Result<Worker, All
         tasks,
         taken: false,
         said,
+        lost: false,
         made: 0,
         ended: 0,
     })
@@ -133,7 +125,7 @@ fn shape_of(blocks: u32, threads: u32) -> Shape
     }
 }
 
-/// What each worker said goes into a list, and their totals are added up.
+/// What each worker said goes into a list, and their totals are added up. It is refused where a line was lost.
 fn gathered(
     workers: &mut [Mutex<Worker>],
     lines: &mut Vec<Vec<Said>>,
@@ -146,6 +138,9 @@ fn gathered(
     let mut totals = Totals { made: 0, ended: 0 };
     for at in 0..workers.len() {
         let worker = workers[at].get_mut();
+        if worker.lost {
+            return Err(Refusal::Memory);
+        }
         totals.made = totals.made.saturating_add(u64::from(worker.made));
         totals.ended = totals.ended.saturating_add(u64::from(worker.ended));
         let said = std::mem::replace(&mut worker.said, Vec::new(alloc));

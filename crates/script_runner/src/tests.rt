@@ -1,8 +1,10 @@
 //! Scripts on real workers.
 
-use crate::{Gate, Open, run_script};
+use crate::{Gate, Open, run_script, run_text};
+use script_stepper::Output;
 use script_text::parse;
 use std::alloc::Global;
+use std::hint::spin_loop;
 use std::sync::Wait;
 use std::sync::atomic::{AtomicU32, Ordering};
 use std::thread::Threads;
@@ -55,39 +57,71 @@ fn each_thread_says_its_own_lines(rt: HostRuntime) {
     assert!(rt; answers(*count, 3, Answer::Count(2)) && ends(*end, 0, Ended::Fields([2, 0, 0, 0])));
 }
 
-/// Counts the threads that began, and waits for the other before each statement.
+/// Two threads meet before their statements; the thread `late` begins only once the other has.
 #[derive(Drop)]
 struct Meeting {
+    late: usize,
     begun: AtomicU32,
     met: AtomicU32,
 }
 
+/// Whether so many threads have begun, within 1,000,000,000 looks.
+fn have_begun(begun: &AtomicU32, threads: u32) -> bool {
+    for _ in 0..1_000_000_000 {
+        if begun.load(Ordering::SeqCst) >= threads {
+            return true;
+        }
+        spin_loop();
+    }
+    false
+}
+
 impl Gate for Meeting {
-    fn before(&self, _thread: usize, _statement: u32) {
+    fn before(&self, thread: usize, _statement: u32) {
+        if thread == self.late && !have_begun(&self.begun, 1) {
+            return;
+        }
         self.begun.fetch_add(1, Ordering::SeqCst);
-        for _ in 0..1_000_000 {
-            if self.begun.load(Ordering::SeqCst) == 2 {
-                self.met.fetch_add(1, Ordering::SeqCst);
-                return;
-            }
+        if have_begun(&self.begun, 2) {
+            self.met.fetch_add(1, Ordering::SeqCst);
         }
     }
 
     fn after(&self, _thread: usize, _statement: u32) {}
 }
 
-#[test]
-fn threads_run_side_by_side(rt: HostRuntime) {
-    let alloc = rt.alloc();
-    let Ok(script) = parse(alloc, b"empty a\nthread\nempty a\n") else {
-        panic!(rt; "not read");
-    };
+/// How many of two threads, of which one begins late, met the other.
+fn met<R: Threads + Wait + Sync>(rt: &R, alloc: Global, late: usize) -> Option<u32> {
+    let script = parse(alloc, b"empty a\nthread\nempty a\n").ok()?;
     let gate = Meeting {
+        late,
         begun: AtomicU32::new(0),
         met: AtomicU32::new(0),
     };
-    if run_script(&rt, alloc, &script, &gate).is_err() {
+    run_script(rt, alloc, &script, &gate).ok()?;
+    Some(gate.met.load(Ordering::SeqCst))
+}
+
+#[test]
+fn threads_run_side_by_side(rt: HostRuntime) {
+    assert!(rt; met(&rt, rt.alloc(), 1) == Some(2));
+    assert!(rt; met(&rt, rt.alloc(), 2) == Some(2));
+}
+
+/// What a run of a script writes.
+fn written<R: Threads + Wait + Sync>(rt: &R, alloc: Global, text: &[u8]) -> Option<Vec<u8>> {
+    let mut output = Output::new(Vec::new(alloc));
+    run_text(rt, alloc, text, &mut output).ok()?;
+    Some(output.into_inner())
+}
+
+#[test]
+fn a_report_is_told_thread_by_thread(rt: HostRuntime) {
+    let text = b"make a 1\ncount a\nthread\nmake b 2\ncount b\n";
+    let Some(told) = written(&rt, rt.alloc(), text) else {
         panic!(rt; "not run");
-    }
-    assert!(rt; gate.met.load(Ordering::SeqCst) == 2);
+    };
+    let wanted =
+        b"1.2 count 1\n1.end end 1 0 0 0\n2.2 count 1\n2.end end 2 0 0 0\nmade 2 ended 2 left 0\n";
+    assert!(rt; told.as_slice() == wanted.as_slice());
 }

@@ -20,13 +20,15 @@ pub(crate) const HAND: usize = NAMES + 1;
 pub(crate) const SLOTS: usize = NAMES + 2;
 
 /// A thread of a script: the kinds of its names, its tasks, and whether an act has taken a value into the hand; and
-/// what it said, how many objects it made, and of how many it was the last owner.
+/// what it said, whether a line had no room and was lost, how many objects it made, and of how many it was the last
+/// owner.
 #[derive(Drop)]
 pub(crate) struct Worker {
     pub kinds: Vec<Kind>,
     pub tasks: Vec<Task>,
     pub taken: bool,
     pub said: Vec<Said>,
+    pub lost: bool,
     pub made: u32,
     pub ended: u32,
 }
@@ -74,9 +76,16 @@ impl Worker {
         };
     }
 
+    /// The next of its lines.
+    fn note(&mut self, said: Said) {
+        if self.said.push(said).is_err() {
+            self.lost = true;
+        }
+    }
+
     /// An act answers.
     pub(crate) fn say(&mut self, statement: u32, answer: Answer) {
-        let _ = self.said.push(Said {
+        self.note(Said {
             statement,
             answer: Some(answer),
             ended: None,
@@ -98,7 +107,7 @@ impl Worker {
             Some(Remains::Fields(fields)) => Ended::Fields(fields),
         };
         self.ended = self.ended.saturating_add(1);
-        let _ = self.said.push(Said {
+        self.note(Said {
             statement,
             answer: None,
             ended: Some(ended),

@@ -13,10 +13,10 @@ use Rattle.script_stepper.specs.TurnLists.{list_at}
 same_script : (bytes : List ℕ) (s t : ScriptView) → Reads bytes s → Reads bytes t → s ≡ t
 same_script bytes s t h k = elim (reads_answer (Ok s) bytes t h k) [ inl e ↦ cc | inr e ↦ absurd cc ]
 
-not_both : (bytes : List ℕ) (s : ScriptView) (line : ℕ) (cause : Cause) → Reads bytes s → Faulty bytes line cause → ⊥
+pub not_both : (bytes : List ℕ) (s : ScriptView) (line : ℕ) (cause : Cause) → Reads bytes s → Faulty bytes line cause → ⊥
 not_both bytes s line cause h f = elim (faulty_answer (Ok s) bytes line cause h f) [ inl e ↦ cc | inr e ↦ cc ]
 
-same_fault : (bytes : List ℕ) (l line : ℕ) (c cause : Cause) → Faulty bytes l c → Faulty bytes line cause → Syntax l c ≡ Syntax line cause
+pub same_fault : (bytes : List ℕ) (l line : ℕ) (c cause : Cause) → Faulty bytes l c → Faulty bytes line cause → Syntax l c ≡ Syntax line cause
 same_fault bytes l line c cause h f = elim (faulty_answer (Err (Syntax l c)) bytes line cause h f) [ inl e ↦ cc | inr e ↦ absurd cc ]
 
 read_list : (bytes list : List ℕ) (s t : ScriptView) (x y : Result (List ℕ) ℕ) → Reads bytes s → Reads bytes t

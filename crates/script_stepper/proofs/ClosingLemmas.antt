@@ -2,12 +2,11 @@
 use Rattle.std.proofs.Common.{◌≡◌, ℕ, zero, suc, ◌+◌, List, [], ◌∷◌, ◌++◌, sym, ap, ◌∙◌, arith}
 use Rattle.std.specs.List.{flat_map}
 use Rattle.std.proofs.lemmas.Grind.{flat_map-append}
-use Rattle.control_word.specs.State.{State}
 use Rattle.script_text.specs.Grammar.{ended}
 use Rattle.step_threads.specs.Stocks.{from}
 use Rattle.step_threads.specs.Scenes.{Scene, state_in}
 use Rattle.step_core.specs.Totals.{ended_in, made_in}
-use Rattle.script_stepper.specs.Lines.{block_lines, census_lines, closing_lines, totals_text}
+use Rattle.script_stepper.specs.Lines.{census_lines, closing_lines, totals_text}
 use Rattle.script_stepper.proofs.LineLemmas.{flat_map-one, lines_then}
 
 from-suc : (b n : ℕ) → from b (suc n) ≡ from b n ++ (b + n) ∷ []
@@ -19,19 +18,20 @@ from-suc b (suc n) =
 from-more : (b n : ℕ) → from b (n + 1) ≡ from b n ++ (b + n) ∷ []
 from-more b n = let e : n + 1 ≡ suc n = omega arith in ap (from b) e ∙ from-suc b n
 
--- one block more
-pub census_more : (n : ℕ) (s : State) → census_lines (n + 1) s ≡ census_lines n s ++ block_lines s (n + 1)
-census_more n s =
+-- one number more
+numbered_more : (f : ℕ → List (List ℕ)) (n : ℕ) → flat_map f (from 1 (n + 1)) ≡ flat_map f (from 1 n) ++ f (n + 1)
+numbered_more f n =
     let e : 1 + n ≡ n + 1 = omega arith in
-    ap (flat_map (block_lines s)) (from-more 1 n)
-    ∙ flat_map-append (block_lines s) (from 1 n) ((1 + n) ∷ [])
-    ∙ ap (λ (l : List (List ℕ)). census_lines n s ++ l) (flat_map-one (block_lines s) (1 + n))
-    ∙ ap (λ (k : ℕ). census_lines n s ++ block_lines s k) e
+    ap (flat_map f) (from-more 1 n)
+    ∙ flat_map-append f (from 1 n) ((1 + n) ∷ [])
+    ∙ ap (λ (l : List (List ℕ)). flat_map f (from 1 n) ++ l) (flat_map-one f (1 + n))
+    ∙ ap (λ (k : ℕ). flat_map f (from 1 n) ++ f k) e
 
-pub census_then : (n : ℕ) (s : State) (a b c : List ℕ) → b ≡ a ++ ended (census_lines n s) → c ≡ b ++ ended (block_lines s (n + 1))
-    → c ≡ a ++ ended (census_lines (n + 1) s)
-census_then n s a b c p q =
-    lines_then (census_lines n s) (block_lines s (n + 1)) a b c p q ∙ ap (λ (l : List (List ℕ)). a ++ ended l) (sym (census_more n s))
+-- a text that has the lines of the numbers from 1 to n, and then those of the next
+pub numbered_then : (f : ℕ → List (List ℕ)) (n : ℕ) (a b c : List ℕ) → b ≡ a ++ ended (flat_map f (from 1 n)) → c ≡ b ++ ended (f (n + 1))
+    → c ≡ a ++ ended (flat_map f (from 1 (n + 1)))
+numbered_then f n a b c p q =
+    lines_then (flat_map f (from 1 n)) (f (n + 1)) a b c p q ∙ ap (λ (l : List (List ℕ)). a ++ ended l) (sym (numbered_more f n))
 
 pub closing_then : (u : Scene) (blocks made over : ℕ) (a b c : List ℕ) → blocks ≡ u.extent.shape.blocks → made ≡ made_in u.history
     → over ≡ ended_in u.history

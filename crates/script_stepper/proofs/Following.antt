@@ -37,11 +37,13 @@ use Rattle.script_text.specs.Scripts.{program_in}
 use Rattle.script_text.specs.Beginnings.{script_scene, script_shape, script_sight}
 use Rattle.script_stepper.specs.Followed.{TurnsFollow, spoken_of}
 use Rattle.script_stepper.specs.Running.{Waits}
-use Rattle.script_text.specs.Traces.{IsTrace, Item, heard, in_order, plays, told}
+use Rattle.script_text.specs.Traces.{IsTrace, Item, in_order}
+use Rattle.script_stepper.specs.Running.{heard, plays, told}
 use Rattle.script_stepper.proofs.LineLemmas.{flat_map-one}
 use Rattle.script_stepper.proofs.OneTurn.{play_waits}
 use Rattle.script_stepper.proofs.StepLemmas.{first_rests}
 use Rattle.script_stepper.proofs.TraceLemmas.{over_of, play_done, play_size, plays_extent, said_done, there}
+use Rattle.script_stepper.proofs.Takings.{turns_are}
 use Rattle.script_stepper.proofs.Unwinding.{still}
 
 -- how far threads have come from where they were: the history, where each is, and what they said
@@ -283,12 +285,13 @@ turns_follow script turns items last trace =
     let c = script_scene script in
     let all = turns ++ in_order 1 trace.more in
     let rests = first_rests (script_shape script) (program_in script.threads) (script_sight script) refl in
+    let are = turns_are all c items last trace.takes in
     let far = turns_on c c all [] refl rests.walks
     (record { doings = []; history = refl; each = λ d. refl; says = refl }) in
     record {
       doings = far.doings;
-      history = ap (λ (s : Scene). s.history) trace.ends ∙ far.history;
-      each = λ d. subst (λ (s : Scene). Goes no_worth (opening c.extent) c.history d (walk_of c d) far.doings (walk_of s d)) (sym trace.ends) (far.each d);
+      history = ap (λ (s : Scene). s.history) are.1 ∙ far.history;
+      each = λ d. subst (λ (s : Scene). Goes no_worth (opening c.extent) c.history d (walk_of c d) far.doings (walk_of s d)) (sym are.1) (far.each d);
       over = λ d. let w = walk_of last d in over_of w.slots w.endings w.todo (trace.over d);
-      says = far.says ∙ ap (λ (l : List Item). flat_map spoken_of l) (sym trace.says);
+      says = far.says ∙ ap (λ (l : List Item). flat_map spoken_of l) (sym are.0);
     }

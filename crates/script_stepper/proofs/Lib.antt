@@ -9,12 +9,14 @@ pub mod Following
 pub mod Interleaving
 pub mod LineLemmas
 pub mod Once
+pub mod OneAct
 pub mod OneTrace
 pub mod OneTurn
 pub mod Overs
 pub mod RunLemmas
 pub mod StepLemmas
 pub mod StepRunLemmas
+pub mod Takings
 pub mod Tallies
 pub mod TraceLemmas
 pub mod TurnBounds

@@ -4,7 +4,9 @@ use Rattle.std.proofs.Common.{refl, sym, ◌∙◌, ap, subst, arith}
 use Rattle.std.specs.Prelude.{None}
 use Rattle.script_text.specs.Grammar.{ended}
 use Rattle.step_threads.specs.Scenes.{Scene, next, play, said, walk_of}
-use Rattle.script_text.specs.Traces.{IsTrace, Item, heard, in_order, plays, told}
+use Rattle.script_text.specs.Traces.{IsTrace, Item, in_order}
+use Rattle.script_stepper.specs.Running.{heard, plays, told}
+use Rattle.script_stepper.proofs.Takings.{turns_are}
 use Rattle.script_stepper.specs.Lines.{shown}
 use Rattle.script_stepper.specs.Runs.{IsTurnText}
 use Rattle.script_stepper.proofs.TraceLemmas.{idle_plays, idle_told, play_other, plays-append, told-append}
@@ -69,11 +71,13 @@ one_order (n ∷ ns) (m ∷ ms) t c some same p q =
 pub one_trace : (turns : List ℕ) (c : Scene) (i j : List Item) (l k : Scene) → IsTrace turns c i l → IsTrace turns c j k → (i ≡ j) × (l ≡ k)
 one_trace turns c i j l k p q =
     let m = plays turns c in
-    let pe = p.ends ∙ plays-append turns (in_order 1 p.more) c in
-    let qe = q.ends ∙ plays-append turns (in_order 1 q.more) c in
+    let ps = turns_are (turns ++ in_order 1 p.more) c i l p.takes in
+    let qs = turns_are (turns ++ in_order 1 q.more) c j k q.takes in
+    let pe = ps.1 ∙ plays-append turns (in_order 1 p.more) c in
+    let qe = qs.1 ∙ plays-append turns (in_order 1 q.more) c in
     let r = one_order p.more q.more 1 m (omega arith) (p.each ∙ sym q.each) (subst AllDone pe p.over) (subst AllDone qe q.over) in (
-      p.says ∙ told-append turns (in_order 1 p.more) c ∙ ap (λ (x : List Item). told turns c ++ x) r.1
-          ∙ sym (told-append turns (in_order 1 q.more) c) ∙ sym q.says,
+      ps.0 ∙ told-append turns (in_order 1 p.more) c ∙ ap (λ (x : List Item). told turns c ++ x) r.1
+          ∙ sym (told-append turns (in_order 1 q.more) c) ∙ sym qs.0,
       pe ∙ r.0 ∙ sym qe,
     )
 

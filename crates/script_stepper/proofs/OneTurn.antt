@@ -11,6 +11,7 @@ use Rattle.step_threads.specs.declared.half.Half.TheVariants.{Rest}
 use Rattle.step_threads.specs.declared.said.Said.{Said}
 use Rattle.step_threads.specs.declared.said.Turned.TheVariants.{Acted, Done}
 use Rattle.step_threads.specs.Courses.{Walk}
+use Rattle.control_word.specs.Histories.{IsLegal}
 use Rattle.step_table.specs.Deeds.{exact}
 use Rattle.step_table.specs.Openings.{opening}
 use Rattle.step_threads.specs.Entries.{acted}
@@ -21,7 +22,8 @@ use Rattle.step_core.proofs.telling.Order.{ended_few}
 use Rattle.script_text.specs.Grammar.{ended}
 use Rattle.script_stepper.specs.Lines.{item_lines, said_lines}
 use Rattle.script_stepper.specs.Running.{AllRest, HasRun, Waits, turns_left}
-use Rattle.script_text.specs.Traces.{Item, heard, told}
+use Rattle.script_text.specs.Traces.{Item}
+use Rattle.script_stepper.specs.Running.{heard, told}
 use Rattle.script_stepper.proofs.Acting.{went_size}
 use Rattle.script_stepper.proofs.Exact.{play_exact, said_exact}
 use Rattle.script_stepper.proofs.LineLemmas.{flat_map-one}
@@ -93,6 +95,7 @@ pub record Turn (d : ℕ) (u u' : Sight) (x : Option Said) : Type 0 where
   pub says : x ≡ said d (scene u)
   pub scene_is : scene u' ≡ play d (scene u)
   pub order : InOrder (play d (scene u))
+  pub legal : IsLegal (opening u'.story.extent) u'.story.history
 
 pub acted_turn : (d : ℕ) (u u' : Sight) (x : Said) → AllRest u → d < length u.walks → Kept u'.story → Turns d u (Acted x) u' → Turn d u u' (Some x)
 acted_turn d u u' x rests lt kept t =
@@ -104,6 +107,7 @@ acted_turn d u u' x rests lt kept t =
       says = t.2 ∙ said_exact u d c t.0 rests t.1 ∙ ap (said d) same;
       scene_is = is;
       order = in_order u' (play d (scene u)) kept is;
+      legal = kept.stands.legal;
     }
 
 pub done_turn : (d : ℕ) (u u' : Sight) → AllRest u → d < length u.walks → Kept u'.story → Turns d u Done u' → Turn d u u' None
@@ -116,6 +120,7 @@ done_turn d u u' rests lt kept t =
       says = sym (said_done d (scene u) none);
       scene_is = is;
       order = in_order u' (play d (scene u)) kept is;
+      legal = kept.stands.legal;
     }
 
 -- ---- the run that it is
@@ -131,6 +136,7 @@ turn_run thread u u' x a b t e =
       scene_is = t.scene_is;
       text_is = e ∙ ap (λ (l : List Item). a ++ ended (flat_map item_lines l)) (sym (told_one thread (scene u) x t.says));
       most = λ d. subst (λ (c : Scene). turns_left d c ≤ turns_left d (scene u)) (sym t.scene_is) (play_most (thread - 1) d (scene u) t.order);
+      legal = λ h. t.legal;
     }
 
 pub acted_text : (thread : ℕ) (x : Said) (a b : List ℕ) → b ≡ a ++ ended (said_lines thread x)

@@ -1,6 +1,6 @@
 -- Turns of a world, one after the other.
-use Rattle.std.proofs.Common.{◌≡◌, ℕ, ◌+◌, ◌-◌, ◌<◌, ◌≤◌, List, [], ◌∷◌, ◌++◌, replicate, length, get_or, sym, ◌∙◌}
-use Rattle.std.proofs.Common.{ap}
+use Rattle.std.proofs.Common.{◌≡◌, ℕ, ◌+◌, ◌-◌, ◌<◌, ◌≤◌, List, [], ◌∷◌, ◌++◌, replicate, length, get_or}
+use Rattle.std.proofs.Common.{sym, ◌∙◌, ap}
 use Rattle.std.proofs.Common.{subst, arith, append_assoc, take}
 use Rattle.std.specs.List.{flat_map}
 use Rattle.std.proofs.lemmas.Grind.{flat_map-append}
@@ -11,7 +11,8 @@ use Rattle.step_threads.specs.Scenes.{Scene}
 use Rattle.step_core.specs.Worlds.{Sight, scene}
 use Rattle.script_stepper.specs.Lines.{item_lines}
 use Rattle.script_stepper.specs.Running.{HasRun, IsThread, RunsAlone, turns_left}
-use Rattle.script_text.specs.Traces.{Item, plays, told}
+use Rattle.script_text.specs.Traces.{Item}
+use Rattle.script_stepper.specs.Running.{plays, told}
 use Rattle.script_stepper.proofs.TraceLemmas.{plays-append, plays_size}
 use Rattle.script_stepper.proofs.TraceLemmas.{told-append}
 
@@ -30,6 +31,7 @@ run_then xs ys u v w a b e p q =
           ∙ ap (λ (t : List (List ℕ)). a ++ ended t) (sym (flat_map-append item_lines (told xs (scene u)) (told ys (plays xs (scene u)))))
           ∙ ap (λ (t : List Item). a ++ ended (flat_map item_lines t)) (sym (told-append xs ys (scene u)));
       most = λ d. let l = p.most d in let m = q.most d in omega (arith, l, m);
+      legal = λ h. q.legal (p.legal h);
     }
 
 pub run_same : (xs ys : List ℕ) (u v : Sight) (a b : List ℕ) → xs ≡ ys → HasRun xs u v a b → HasRun ys u v a b

@@ -17,14 +17,19 @@ use Rattle.step_core.specs.Starts.{first_sight, first_walk, no_slots}
 use Rattle.step_table.specs.declared.extent.Extent.{Extent}
 use Rattle.step_threads.specs.Scenes.{Scene, nowhere}
 use Rattle.step_core.specs.Worlds.{Sight, scene}
-use Rattle.script_text.specs.Beginnings.{shape_for}
+use Rattle.script_text.specs.Beginnings.{script_shape, script_sight, shape_for}
 use Rattle.script_text.specs.Versions.{blocks_in}
 use Rattle.script_stepper.specs.declared.stepping.Pace.{Pace}
 use Rattle.script_stepper.specs.Runs.{IsShown, IsTextBy, IsTurnText}
 use Rattle.script_stepper.specs.Lines.{closing_lines, item_lines}
 use Rattle.script_stepper.specs.Running.{AllOver, AllRest, HasRun, RunsOut, Waits}
-use Rattle.script_text.specs.Traces.{in_order, told}
 use Rattle.script_stepper.proofs.Acting.{settled_endings, settled_size}
+use Rattle.control_word.specs.Histories.{IsLegal}
+use Rattle.step_table.specs.Openings.{opening}
+use Rattle.step_table.specs.Stories.{Kept}
+use Rattle.script_text.specs.Traces.{IsTrace, TakeTurns, in_order}
+use Rattle.script_stepper.specs.Running.{plays, told}
+use Rattle.script_stepper.proofs.Takings.{takes_turns}
 use Rattle.script_stepper.proofs.TraceLemmas.{plays_extent}
 
 -- a run leaves the table as large as it was
@@ -35,15 +40,28 @@ same_shape turns u v a b h =
 pub same_blocks : (turns : List ℕ) (u v : Sight) (a b : List ℕ) → HasRun turns u v a b → v.story.extent.shape.blocks ≡ u.story.extent.shape.blocks
 same_blocks turns u v a b h = ap (λ (x : Shape). x.blocks) (same_shape turns u v a b h)
 
-pub shown_text : (turns : List ℕ) (u v : Sight) (a b c : List ℕ) → a ≡ [] → RunsOut turns u v a b → AllOver v
-    → c ≡ b ++ ended (closing_lines (scene v)) → IsTurnText turns (scene u) c
-shown_text turns u v a b c none h over close =
+-- a run to the end is a trace
+pub traced : (turns : List ℕ) (u v : Sight) (a b : List ℕ) (h : RunsOut turns u v a b) → AllOver v → Kept u.story
+    → IsTrace turns (scene u) (told (turns ++ in_order 1 h.more) (scene u)) (scene v)
+traced turns u v a b h over kept =
     let all = turns ++ in_order 1 h.more in
-    let items = told all (scene u) in
+    let legal : IsLegal (opening (plays all (scene u)).extent) (plays all (scene u)).history =
+    subst (λ (s : Scene). IsLegal (opening s.extent) s.history) h.run.scene_is (h.run.legal kept.stands.legal) in
+    record {
+      more = h.more;
+      each = h.each;
+      takes = subst (λ (s : Scene). TakeTurns all (scene u) (told all (scene u)) s) (sym h.run.scene_is) (takes_turns all (scene u) legal);
+      over = over;
+    }
+
+pub shown_text : (turns : List ℕ) (u v : Sight) (a b c : List ℕ) → a ≡ [] → RunsOut turns u v a b → AllOver v → Kept u.story
+    → c ≡ b ++ ended (closing_lines (scene v)) → IsTurnText turns (scene u) c
+shown_text turns u v a b c none h over kept close =
+    let items = told (turns ++ in_order 1 h.more) (scene u) in
     record {
       items = items;
       last = scene v;
-      trace = record { more = h.more; each = h.each; ends = h.run.scene_is; over = over; says = refl };
+      trace = traced turns u v a b h over kept;
       says =
           close
           ∙ ap (λ (t : List ℕ). t ++ ended (closing_lines (scene v)))
@@ -72,10 +90,16 @@ pub first_rests : (shape : Shape) (parts : List Part) (u : Sight) → u ≡ firs
 first_rests shape parts u e =
     subst AllRest (sym e) (record { halves = all_rest parts; walks = first_waits parts })
 
+pub sight_is : (script : ScriptView) (blocks threads : ℕ) (shape : Shape) (u : Sight) → blocks ≡ blocks_in script.version
+    → threads ≡ length script.threads → shape ≡ shape_for blocks threads → u ≡ first_sight shape (program_in script.threads)
+    → u ≡ script_sight script
+sight_is script blocks threads shape u b n s e =
+    let same : shape ≡ script_shape script =
+    s ∙ ap (λ (k : ℕ). shape_for k threads) b ∙ ap (shape_for (blocks_in script.version)) n in
+    e ∙ ap (λ (x : Shape). first_sight x (program_in script.threads)) same
+
 pub run_is : (pace : Pace) (script : ScriptView) (turns text : List ℕ) (blocks threads : ℕ) (shape : Shape) (u : Sight)
     → blocks ≡ blocks_in script.version → threads ≡ length script.threads → shape ≡ shape_for blocks threads
     → u ≡ first_sight shape (program_in script.threads) → IsShown pace turns u text → IsTextBy pace script turns text
 run_is pace script turns text blocks threads shape u b n s e h =
-    let same : shape ≡ shape_for (blocks_in script.version) (length script.threads) =
-    s ∙ ap (λ (k : ℕ). shape_for k threads) b ∙ ap (shape_for (blocks_in script.version)) n in
-    subst (λ (v : Sight). IsShown pace turns v text) (e ∙ ap (λ (x : Shape). first_sight x (program_in script.threads)) same) h
+    subst (λ (v : Sight). IsShown pace turns v text) (sight_is script blocks threads shape u b n s e) h

@@ -12,7 +12,8 @@ use Rattle.step_threads.specs.Doings.{Over, ahead_of}
 use Rattle.step_table.specs.Deeds.{exact}
 use Rattle.step_table.specs.Holdings.{Slots}
 use Rattle.step_threads.specs.Scenes.{Scene, next, next_of, nowhere, play, play_from, said, said_from, walk_of}
-use Rattle.script_text.specs.Traces.{Item, heard, plays, told}
+use Rattle.script_text.specs.Traces.{Item}
+use Rattle.script_stepper.specs.Running.{heard, plays, told}
 
 pub plays-append : (xs ys : List ℕ) (c : Scene) → plays (xs ++ ys) c ≡ plays ys (plays xs c)
 plays-append [] ys c = refl
@@ -46,13 +47,6 @@ play_done d c e = ap (play_from exact c d (walk_of c d)) e
 
 pub said_done : (d : ℕ) (c : Scene) → next (walk_of c d) ≡ None → said d c ≡ None
 said_done d c e = ap (said_from exact c d (walk_of c d).slots) e
-
-done_at : (c : Scene) (d : ℕ) (slots : Slots) (o : Option Task) → said_from exact c d slots o ≡ None → o ≡ None
-done_at c d slots None e = refl
-done_at c d slots (Some t) e = absurd cc
-
-pub said_none : (d : ℕ) (c : Scene) → said d c ≡ None → next (walk_of c d) ≡ None
-said_none d c e = done_at c d (walk_of c d).slots (next (walk_of c d)) e
 
 pub idle_plays : (j thread : ℕ) (c : Scene) → next (walk_of c (thread - 1)) ≡ None → plays (replicate j thread) c ≡ c
 idle_plays zero thread c e = refl

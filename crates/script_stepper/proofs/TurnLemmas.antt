@@ -1,7 +1,7 @@
 -- A list, cut at its commas.
 use Rattle.std.proofs.Common.{◌≡◌, ℕ, zero, suc, ◌+◌, ◌-◌, ◌^◌, ◌<◌, ◌≤◌, Bool, true, false, not, cond, ltb, leb, eqb}
-use Rattle.std.proofs.Common.{List, [], ◌∷◌, ◌++◌, length, get_or, take, drop, Some, None, Result, Ok, Err, refl, sym}
-use Rattle.std.proofs.Common.{ap, subst, ◌∙◌, arith, rules, append_assoc}
+use Rattle.std.proofs.Common.{List, [], ◌∷◌, ◌++◌, length, get_or, take, drop, Some, None, Result, Ok, Err, refl}
+use Rattle.std.proofs.Common.{subst, ◌∙◌, arith, rules}
 use Rattle.std.specs.Prelude.{◌&&◌}
 use Rattle.std.specs.List.{position, position_or_len, slice_split, onto_first, list_all}
 use Rattle.std.specs.Str.{IsAscii, IsUtf8}
@@ -12,7 +12,7 @@ use Rattle.std.proofs.lemmas.List.Splits.{slice_split_first}
 use Rattle.std.proofs.lemmas.List.{take_rest}
 use Rattle.std.proofs.lemmas.Str.{IsUtf8-from_ascii}
 use Rattle.std.proofs.lemmas.Str.Parse.{IsNumeralModel, numerals_by_value, parse_digits}
-use Rattle.script_stepper.specs.TurnLists.{is_digit, is_comma, is_turn, turn_at, with_first, turns_from, list_at}
+use Rattle.script_stepper.specs.TurnLists.{is_digit, is_comma, is_turn, turn_at, turns_from, list_at}
 
 -- where nothing passes, the list is the one part
 one_by : (b : Bool) (x : ℕ) (xs : List ℕ) (m : ℕ) → suc (length xs) ≤ cond (not b) (1 + m) 0
@@ -66,35 +66,6 @@ numerals = numerals_by_value AreDigits (search rules)
 abbrev pub with_front : List ℕ → Result (List ℕ) ℕ → Result (List ℕ) ℕ
 with_front front (Ok turns) = Ok (front ++ turns)
 with_front front (Err place) = Err place
-
-regroup : (front : List ℕ) (t place : ℕ) (others : Result (List ℕ) ℕ)
-    → with_front front (with_first (Some t) place others) ≡ with_front (front ++ t ∷ []) others
-regroup front t place (Ok ts) = ap (λ (us : List ℕ). Ok us) (sym (append_assoc front (t ∷ []) ts))
-regroup front t place (Err k) = refl
-
-pub goes_on : (threads place t : ℕ) (front bytes word rest : List ℕ) (read : Result (List ℕ) ℕ)
-    → slice_split is_comma bytes ≡ word ∷ slice_split is_comma rest → turn_at threads word ≡ Some t
-    → with_front front (turns_from threads place (slice_split is_comma bytes)) ≡ read → with_front (front ++ t ∷ [])
-    (turns_from threads (place + 1) (slice_split is_comma rest)) ≡ read
-goes_on threads place t front bytes word rest read cut good so_far =
-    let one : with_front front (turns_from threads place (slice_split is_comma bytes)) ≡ with_front (front ++ t ∷ [])
-    (turns_from threads (place + 1) (slice_split is_comma rest)) =
-    rw (cut, good) (regroup front t place (turns_from threads (place + 1) (slice_split is_comma rest))) in
-    sym one ∙ so_far
-
-pub stops : (threads place : ℕ) (front bytes word : List ℕ) (words : List (List ℕ)) (read : Result (List ℕ) ℕ)
-    → slice_split is_comma bytes ≡ word ∷ words → turn_at threads word ≡ None
-    → with_front front (turns_from threads place (slice_split is_comma bytes)) ≡ read → read ≡ Err place
-stops threads place front bytes word words read cut bad so_far =
-    let one : with_front front (turns_from threads place (slice_split is_comma bytes)) ≡ Err place = rw (cut, bad) refl in
-    sym so_far ∙ one
-
-pub ends : (threads place t : ℕ) (front bytes : List ℕ) (read : Result (List ℕ) ℕ) → slice_split is_comma bytes ≡ bytes ∷ []
-    → turn_at threads bytes ≡ Some t
-    → with_front front (turns_from threads place (slice_split is_comma bytes)) ≡ read → read ≡ Ok (front ++ t ∷ [])
-ends threads place t front bytes read cut good so_far =
-    let one : with_front front (turns_from threads place (slice_split is_comma bytes)) ≡ Ok (front ++ t ∷ []) = rw (cut, good) refl in
-    sym so_far ∙ one
 
 pub front_none : (r : Result (List ℕ) ℕ) → with_front [] r ≡ r
 front_none (Ok ts) = refl

@@ -1,5 +1,5 @@
 -- Writes one after the other.
-use Rattle.std.proofs.Common.{◌≡◌, ℕ, ◌-◌, List, [], ◌++◌, length, take, drop, Option, Some, None, Result, Ok, Err, refl, sym, ap, ◌∙◌}
+use Rattle.std.proofs.Common.{◌≡◌, ℕ, ◌-◌, List, [], ◌++◌, length, take, drop, Option, Some, None, Result, Ok, Err, sym, ap, ◌∙◌}
 use Rattle.std.proofs.Common.{append_assoc}
 use Rattle.std.specs.Io.KnownBytes.{Appends, Keeps}
 use Rattle.std.specs.Prelude.{OnErr, OnOk}
@@ -18,10 +18,6 @@ Appends-then (Some xa) None c xs ys h k = absurd h
 Appends-then (Some xa) (Some bs) None xs ys h k = absurd k
 Appends-then (Some xa) (Some bs) (Some cs) xs ys h k = k ∙ ap (λ (l : List ℕ). l ++ ys) h ∙ append_assoc xa xs ys
 
-pub Appends-none : (a : Option (List ℕ)) → Appends a a []
-Appends-none None = tt
-Appends-none (Some xa) = sym (append-nil xa)
-
 pub Appends-kept : (a b : Option (List ℕ)) → Keeps a b → Appends a b []
 Appends-kept None b h = tt
 Appends-kept (Some xa) None h = absurd h
@@ -34,17 +30,6 @@ more a b c bs rest n p h = record {
   text = p.text ∙ ap (λ (l : List ℕ). p.front ++ l) (sym (take-append-drop n rest)) ∙ sym (append_assoc p.front (take n rest) (drop n rest));
   took = Appends-then a b c p.front (take n rest) p.took h;
 }
-
-pub cut_off : (a b c : Option (List ℕ)) (bs rest : List ℕ) → Progress a b bs rest → Keeps b c → AppendsBeginning a c bs
-cut_off a b c bs rest p h = record {
-  front = p.front;
-  rest = rest;
-  text = p.text;
-  took = by_kept (Appends-then a b c p.front [] p.took (Appends-kept b c h));
-}
-  where
-    by_kept : Appends a c (p.front ++ []) → Appends a c p.front
-    by_kept k = rw append-nil at k
 
 pub more_rest : (a b c : Option (List ℕ)) (bs rest : List ℕ) (n : ℕ) → Progress a b bs rest → Appends b c (take n rest)
     → Progress a c bs (take (length rest - n) (drop n rest))
@@ -74,7 +59,3 @@ pub written_by : {A E : Type 0} (r : Result A E) (a b : Option (List ℕ)) (xs :
     → IsWritten xs r a b
 written_by (Ok x) a b xs h k = h
 written_by (Err e) a b xs h k = k
-
--- nothing was written
-pub unwritten : (a : Option (List ℕ)) (xs : List ℕ) → AppendsBeginning a a xs
-unwritten a xs = record { front = []; rest = xs; text = refl; took = Appends-none a }

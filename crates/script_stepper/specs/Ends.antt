@@ -1,20 +1,17 @@
 -- How runs of scripts end. All of it is own.
-use Rattle.std.specs.Prelude.{◌≡◌, ℕ, ◌++◌, List, length, Ok, Err, None}
+use Rattle.std.specs.Prelude.{◌≡◌, ℕ, List, length, Ok, Err}
 use Rattle.script_text.specs.declared.fault.Fault.{Fault}
 use Rattle.script_text.specs.Beginnings.{script_scene}
 use Rattle.script_text.specs.Drafts.{ScriptView}
 use Rattle.script_text.specs.Grammar.{Reads}
-use Rattle.script_text.specs.Traces.{in_order, plays}
+use Rattle.script_text.specs.Traces.{IsTrace, Item}
 use Rattle.script_stepper.specs.Runs.{Tells}
 use Rattle.script_stepper.specs.TurnLists.{list_at}
-use Rattle.step_threads.specs.Scenes.{Scene, next, walk_of}
+use Rattle.step_threads.specs.Scenes.{Scene}
 
--- the given turns; then each thread runs alone to its end, in number order; and then nothing is left to do
-pub record IsRunOut (turns : List ℕ) (c last : Scene) : Type 0 where
-  pub more : List ℕ
-  pub each : length more ≡ length c.walks
-  pub ends : last ≡ plays (turns ++ in_order 1 more) c
-  pub over : (d : ℕ) → next (walk_of last d) ≡ None
+-- a run with these turns leads from a scene to another
+abbrev pub IsRunOut : List ℕ → Scene → Scene → Type 0
+IsRunOut turns c last = (items : List Item) × IsTrace turns c items last
 
 -- the bytes read as a script, the list names turns of it, and so its run with these ends
 pub record IsEnd (bytes list : List ℕ) (last : Scene) : Type 0 where

@@ -1,22 +1,40 @@
 -- What turns do to a world, and to the text that tells of them. All of it is own.
 use Rattle.std.specs.Prelude.{◌≡◌, ◌⊎◌, ℕ, suc, ◌+◌, ◌-◌, ◌*◌, ◌<◌, ◌≤◌, ◌++◌}
-use Rattle.std.specs.Prelude.{true, List, [], ◌∷◌, length, replicate, sum_by, None}
+use Rattle.std.specs.Prelude.{true, List, [], ◌∷◌, length, replicate, sum_by, Option, Some, None}
 use Rattle.std.specs.List.{flat_map}
+use Rattle.control_word.specs.Histories.{IsLegal}
+use Rattle.step_table.specs.Openings.{opening}
 use Rattle.script_text.specs.Grammar.{ended}
 use Rattle.step_threads.specs.declared.ending.Ending.{Ending}
 use Rattle.step_threads.specs.declared.half.Half.TheVariants.{Rest}
+use Rattle.step_threads.specs.declared.said.Said.{Said}
 use Rattle.step_threads.specs.Courses.{Walk, hand}
 use Rattle.step_table.specs.Holdings.{is_full, slot}
-use Rattle.step_threads.specs.Scenes.{Scene, next, walk_of}
+use Rattle.step_threads.specs.Scenes.{Scene, next, play, said, walk_of}
 use Rattle.step_core.specs.Totals.{ended_in, made_in}
 use Rattle.step_core.specs.Worlds.{Sight, half_of, scene}
 use Rattle.script_stepper.specs.Lines.{item_lines}
-use Rattle.script_text.specs.Traces.{in_order, plays, told}
+use Rattle.script_text.specs.Traces.{Item, in_order}
 
 -- no object ends in the thread's hands, or what came out of a member of one is in hand and has to leave first
 pub record Waits (w : Walk) : Type 0 where
   pub some : 0 < length w.slots
   pub endings : (w.endings ≡ []) ⊎ (is_full (slot w.slots (hand w.slots)) ≡ true)
+
+-- a thread at its end says nothing
+abbrev pub heard : ℕ → Option Said → List Item
+heard thread None = []
+heard thread (Some x) = (thread, x) ∷ []
+
+-- the scene after one turn of each of these threads, in order
+abbrev pub plays : List ℕ → Scene → Scene
+plays [] c = c
+plays (thread ∷ turns) c = plays turns (play (thread - 1) c)
+
+-- what these turns say
+abbrev pub told : List ℕ → Scene → List Item
+told [] c = []
+told (thread ∷ turns) c = heard thread (said (thread - 1) c) ++ told turns (play (thread - 1) c)
 
 -- no thread is within an act
 pub record AllRest (u : Sight) : Type 0 where
@@ -55,6 +73,7 @@ pub record HasRun (turns : List ℕ) (u u' : Sight) (old new : List ℕ) : Type 
   pub scene_is : scene u' ≡ plays turns (scene u)
   pub text_is : new ≡ old ++ ended (flat_map item_lines (told turns (scene u)))
   pub most : (d : ℕ) → turns_left d (scene u') ≤ turns_left d (scene u)
+  pub legal : IsLegal (opening u.story.extent) u.story.history → IsLegal (opening u'.story.extent) u'.story.history
 
 -- so it did by some turns of one thread
 abbrev pub RunsAlone : ℕ → Sight → Sight → List ℕ → List ℕ → Type 0

@@ -12,7 +12,7 @@ use Rattle.step_core.specs.Runs.{IsRun, IsScheduled}
 use Rattle.step_core.specs.Totals.{IsAtEnd}
 use Rattle.step_core.specs.Worlds.{Sight, scene}
 use Rattle.script_stepper.specs.Lines.{closing_lines, item_lines}
-use Rattle.script_text.specs.Traces.{heard}
+use Rattle.script_stepper.specs.Running.{heard}
 
 -- the lines of a step
 abbrev pub step_lines : TraceStep → List (List ℕ)

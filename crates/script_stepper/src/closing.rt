@@ -42,6 +42,6 @@ pub(crate) fn put_closing(world: &World, blocks: u16, text: &mut String) -> Resu
     ensures { OnOk result (AddsLines text.old text.new (closing_lines (scene world.now))) }
 {
     put_census(world, blocks, text)?;
-    put_totals(text, world.made(), world.ended())?;
+    put_totals(text, u64::from(world.made()), u64::from(world.ended()))?;
     Ok(())
 }

@@ -21,6 +21,7 @@ pub struct End {
     pub blocks: u16,
     ghost ended: { IsAtEnd world },
     ghost all: { blocks ≡ world.story.extent.shape.blocks },
+    ghost shared: { world.story.extent.shape.shared_cells ≡ 128 },
     ghost cells: { world.story.extent.shape.shared_cells + world.story.extent.shape.weak_cells ≡ 256 },
 }
 

@@ -143,8 +143,18 @@ pub(crate) fn put_said(text: &mut String, thread: u8, said: &Said) -> Result<(),
     Ok(())
 }
 
-/// Adds the line of a block that isn't vacant.
-pub(crate) fn put_block(text: &mut String, block: u16, counts: Counts) -> Result<(), AllocError>
+/// Adds the lines of all that a thread said (own), as [`crate::write_lines`] writes them. Refused where a growth was.
+pub fn put_lines(text: &mut String, thread: u8, said: &[Said]) -> Result<(), AllocError>
+    ensures { OnOk result (AddsLines text.old text.new (flat_map (said_lines thread) said.now)) }
+{
+    for act in said {
+        put_said(text, thread, act)?;
+    }
+    Ok(())
+}
+
+/// Adds `block B owners N weaks K`, the line of a block that isn't vacant (own). Refused where a growth was.
+pub fn put_block(text: &mut String, block: u16, counts: Counts) -> Result<(), AllocError>
     ensures { OnOk result (AddsLines text.old text.new (block_text block counts ∷ [])) }
 {
     let Counts { owners, weaks } = counts;
@@ -154,8 +164,9 @@ pub(crate) fn put_block(text: &mut String, block: u16, counts: Counts) -> Result
     Ok(())
 }
 
-/// Adds the last line: objects made, ended, and left.
-pub(crate) fn put_totals(text: &mut String, made: u32, ended: u32) -> Result<(), AllocError>
+/// Adds the last line, `made M ended E left L`: how many objects were made, have ended, and are left (own). Refused
+/// where a growth was.
+pub fn put_totals(text: &mut String, made: u64, ended: u64) -> Result<(), AllocError>
     ensures { OnOk result (AddsLines text.old text.new (totals_text made ended ∷ [])) }
 {
     let left = made.saturating_sub(ended);

@@ -7,7 +7,7 @@ ghost use Rattle.script_stepper.specs.Lines.{said_lines};
 ghost use Rattle.script_stepper.specs.Runs.{Writes, is_output};
 ghost use Rattle.script_stepper.specs.Sinks.{AppendsBeginning};
 
-use crate::lines::put_said;
+use crate::lines::put_lines;
 use crate::sink::{Sink, write_all};
 use script_text::Fault;
 use std::alloc::{AllocError, Global};
@@ -33,9 +33,7 @@ fn thread_text(alloc: Global, thread: u8, said: &[Said]) -> Result<String, Alloc
     ensures { IfOk result (λ text. string_bytes text ≡ ended (flat_map (said_lines thread) said.now)) }
 {
     let mut text = String::new(alloc);
-    for act in said {
-        put_said(&mut text, thread, act)?;
-    }
+    put_lines(&mut text, thread, said)?;
     Ok(text)
 }
 

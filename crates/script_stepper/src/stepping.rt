@@ -7,6 +7,7 @@ ghost use Rattle.script_text.specs.Drafts.{ScriptView};
 ghost use Rattle.script_text.specs.Grammar.{Faulty, IsUnlessMemory, Reads, ended};
 ghost use Rattle.script_text.specs.Scripts.{program_in};
 ghost use Rattle.step_core.specs.Worlds.{scene};
+ghost use Rattle.step_table.specs.Stories.{Kept};
 ghost use Rattle.step_core.specs.Starts.{first_sight};
 ghost use Rattle.script_text.specs.Beginnings.{script_scene, script_shape, shape_for};
 ghost use Rattle.script_stepper.specs.Followed.{TurnsFollow};
@@ -59,6 +60,7 @@ pub(crate) fn world_of(alloc: Global, script: &Script, shape: Shape) -> Result<W
     requires shape { shape ≡ script_shape script.now }
     requires within { IsWithinLimits shape }
     ensures ok { IfOk result (λ w. w ≡ first_sight shape (program_in script.now.threads)) }
+    ensures kept { IfOk result (λ w. Kept w.story) }
     ensures memory { IfErr result (λ fault. fault ≡ Memory) }
 {
     let Ok(program) = script.program(alloc) else {
@@ -82,6 +84,7 @@ fn turns_text(
     turns: &[u8],
 ) -> Result<String, AllocError>
     requires rests { AllRest world.old }
+    requires kept { Kept world.old.story }
     requires all { threads ≡ length world.old.walks }
     requires blocks { blocks ≡ world.old.story.extent.shape.blocks }
     requires threads { All (IsThread world.old) turns.now }
@@ -103,6 +106,7 @@ fn text_of(
     pace: Pace,
 ) -> Result<String, AllocError>
     requires rests { AllRest world.old }
+    requires kept { Kept world.old.story }
     requires all { threads ≡ length world.old.walks }
     requires blocks { blocks ≡ world.old.story.extent.shape.blocks }
     requires threads { All (IsThread world.old) turns.now }

@@ -1,5 +1,6 @@
 //! Who holds what at a script's end.
-use holders::{holdings, kept, knot};
+use holders::holdings;
+use owner_graph::{is_cut, kept, knot, knots};
 use script_stepper::end_of;
 use std::test::Fail;
 use step_core::Cell;
@@ -42,6 +43,39 @@ fn a_circle_is_leaked_with_what_it_owns(rt: HostRuntime) -> Result<(), Fail> {
         return Err("not marked")?;
     };
     assert!(rt; matches!(alone.as_slice(), [false, false, false, true, false, ..]));
+    Ok(())
+}
+
+/// Two objects that own each other, the first by both of its members.
+const TWICE: &str = "make a 1\nmake b 2\nstore a.first b\nstore a.next b\nstore b.first a\n";
+
+/// Neither of the two owners of one object is a cut, and the one of the other is.
+#[test]
+fn two_owners_of_one_object_are_no_cut(rt: HostRuntime) -> Result<(), Fail> {
+    let alloc = rt.alloc();
+    let Ok(end) = end_of(alloc, TWICE.as_bytes(), b"".as_slice()) else {
+        return Err("no end")?;
+    };
+    if end.blocks == 0 {
+        return Err("no blocks")?;
+    }
+    let held = holdings(alloc, &end.world, 256, end.blocks)?;
+    let found = knots(alloc, 128, end.blocks, held.as_slice())?;
+    assert!(rt; matches!(found.as_slice(), [_, 1, 1, 3, ..]));
+    let mut cuts = Vec::new(alloc);
+    for holding in held.as_slice() {
+        let knots = found.as_slice();
+        cuts.push(is_cut(
+            alloc,
+            128,
+            end.blocks,
+            held.as_slice(),
+            knots,
+            1,
+            holding.cell,
+        )?)?;
+    }
+    assert!(rt; cuts.as_slice() == [false, false, true].as_slice());
     Ok(())
 }
 

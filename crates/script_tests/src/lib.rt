@@ -6,6 +6,8 @@ pub mod calls;
 #[cfg(test)]
 mod holding;
 #[cfg(test)]
+mod memory;
+#[cfg(test)]
 mod naming;
 #[cfg(test)]
 mod opening;

@@ -36,7 +36,7 @@ const COUNTS: Said = Said {
 
 #[test]
 fn a_turn_ends_what_steps_began(rt: HostRuntime) -> Result<(), Fail> {
-    let mut world = TestWorld::new(&rt, rt.alloc(), CALLS.as_slice())?;
+    let mut world = TestWorld::new(rt.alloc(), 2, CALLS.as_slice())?;
     for _ in 0..3 {
         assert!(rt; world.step() == Stepped::Quiet(MAKES));
     }

@@ -2,8 +2,8 @@
 ghost use Rattle.std.specs.Prelude.{◌<◌, length};
 
 use control_word::Shape;
-use std::alloc::{AllocError, Global};
-use std::process::Abort;
+use std::alloc::Global;
+use std::test::Fail;
 use step_core::{Actor, Call, Kind, Program, Stepped, Turned, World};
 
 /// A world with an actor.
@@ -14,23 +14,23 @@ pub(crate) struct TestWorld {
 }
 
 impl TestWorld {
-    /// A world of one actor with one owner that makes these calls, and of two blocks.
-    pub(crate) fn new(rt: &impl Abort, alloc: Global, calls: &[Call]) -> Result<Self, AllocError> {
+    /// A world of one actor with two owners that makes these calls, and of so many blocks.
+    pub(crate) fn new(alloc: Global, blocks: u32, calls: &[Call]) -> Result<Self, Fail> {
         let actor = Actor {
-            kinds: vec![in alloc; Kind::Owner]?,
+            kinds: vec![in alloc; Kind::Owner; 2]?,
             calls: calls.to_vec(alloc)?,
         };
         let shape = Shape {
-            blocks: 2,
+            blocks,
             shared_cells: 0,
             weak_cells: 0,
             allowance: 40,
         };
         let actors = vec![in alloc; actor]?;
-        let world = World::new(alloc, shape, Program { actors })
-            .ok()
-            .expect(rt, "a world within the limits");
-        Ok(TestWorld { world })
+        match World::new(alloc, shape, Program { actors }) {
+            Ok(world) => Ok(TestWorld { world }),
+            Err(refused) => Err(refused.why.into()),
+        }
     }
 
     pub(crate) fn step(&mut self) -> Stepped {
@@ -39,5 +39,10 @@ impl TestWorld {
 
     pub(crate) fn turn(&mut self) -> Turned {
         self.world.turn(1)
+    }
+
+    /// How many objects were made, and how many ended.
+    pub(crate) fn totals(&self) -> (u32, u32) {
+        (self.world.made(), self.world.ended())
     }
 }

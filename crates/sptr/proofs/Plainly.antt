@@ -1,42 +1,24 @@
 -- What is asked for plainly is answered.
-use Rattle.std.proofs.Common.{◌≡◌, ◌⊎◌, ◌∙◌, ℕ, Bool, false, true≢false, refl, sym, ap, subst, List, [], ◌∷◌, Option, Some, None}
+use Rattle.std.proofs.Common.{◌≡◌, ◌⊎◌, ◌∙◌, ℕ, Bool, true, false, refl, sym, ap, subst, List, [], ◌∷◌, Option, Some, None}
 use Rattle.std.proofs.Common.{Err, Result, codes, inl, inr}
 use Rattle.std.specs.Prelude.{IfSome}
 use Rattle.std.specs.Str.{bytes_eq}
-use Rattle.std.proofs.lemmas.Slice.Eq.{bytes_eq-Decides}
 use Rattle.clap.specs.Words.{IsAmong, Kinds, Text, fault_of}
 use Rattle.clap.specs.declared.error.kind.ErrorKind.{ErrorKind}
 use Rattle.clap.specs.declared.error.kind.ErrorKind.TheVariants as kind
 use Rattle.script_text.specs.declared.fault.Fault.{Fault}
 use Rattle.script_text.specs.declared.fault.Fault.TheVariants.{Memory}
 use Rattle.script_stepper.specs.Runs.{Delivers, IsFineText, IsRunText, Tells}
-use Rattle.sptr.specs.CommandLine.{Asks, AsksHelp, AsksPlainly, AsksVersion, NamesNoCommand, names_file, program}
-use Rattle.sptr.specs.Serving.{Answers, IsAnswered, IsMistaken, IsReason, IsShown, IsTurnedAway, Report, UnlessInput, known_unless}
+use Rattle.sptr.specs.CommandLine.{Asks, AsksHelp, AsksPlainly, AsksVersion, NamesNoCommand, command_named, names_file, program}
+use Rattle.sptr.specs.CommandLine.{turns_given}
+use Rattle.sptr.specs.Serving.{Answers, Converts, Counts, FindsIfAsked, IsAnswered, IsMistaken, IsReason, IsShown, IsTurnedAway, Report}
+use Rattle.sptr.specs.Serving.{UnlessInput, asks_left, known_unless}
+use Rattle.leak_report.specs.Left.{IsLeftText}
+use Rattle.script_runner.specs.Telling.{TellsReport}
 use Rattle.sptr.specs.declared.command.Asked.{Asked}
-use Rattle.sptr.specs.declared.command.Asked.TheVariants.{Check, Convert, Fine, Step}
+use Rattle.sptr.specs.declared.command.Asked.TheVariants.{Check, Convert, Fine, Left, Run, Step}
 use Rattle.std.proofs.lemmas.Option.{same_Some}
 use Rattle.sptr.proofs.PlainLines.{help_asked, no_command, plainly_asks, version_asked}
-
-check_step : codes "check" ≡ codes "step" → ⊥
-check_step e = cc
-
-check_fine : codes "check" ≡ codes "fine" → ⊥
-check_fine e = cc
-
-step_fine : codes "step" ≡ codes "fine" → ⊥
-step_fine e = true≢false (sym ((bytes_eq-Decides (codes "step") (codes "fine")).1 e))
-
-differ : (a b : Text) → bytes_eq a b ≡ false → a ≡ b → ⊥
-differ a b other e = true≢false (sym ((bytes_eq-Decides a b).1 e) ∙ other)
-
-convert_check : codes "convert" ≡ codes "check" → ⊥
-convert_check e = differ (codes "convert") (codes "check") refl e
-
-convert_step : codes "convert" ≡ codes "step" → ⊥
-convert_step e = differ (codes "convert") (codes "step") refl e
-
-convert_fine : codes "convert" ≡ codes "fine" → ⊥
-convert_fine e = differ (codes "convert") (codes "fine") refl e
 
 none_one : (one : ErrorKind) → one ∷ [] ≡ [] → ⊥
 none_one one e = cc
@@ -50,31 +32,79 @@ missing_version e = cc
 missing_memory : kind.MissingSubcommand ≡ kind.OutOfMemory → ⊥
 missing_memory e = cc
 
--- words ask for one thing
-same_answers : (words : List Text) (a b : Asked) (bytes : List ℕ) → Asks words a → Asks words b → Answers a bytes ≡ Answers b bytes
-same_answers words Check Check bytes x y = refl
-same_answers words Check (Step turns) bytes x y = absurd (check_step (same_Some _ _ (sym x ∙ y.0)))
-same_answers words Check (Fine turns) bytes x y = absurd (check_fine (same_Some _ _ (sym x ∙ y.0)))
-same_answers words Check Convert bytes x y = absurd (convert_check (same_Some _ _ (sym y ∙ x)))
-same_answers words Convert Check bytes x y = absurd (convert_check (same_Some _ _ (sym x ∙ y)))
-same_answers words Convert Convert bytes x y = refl
-same_answers words Convert (Step turns) bytes x y = absurd (convert_step (same_Some _ _ (sym x ∙ y.0)))
-same_answers words Convert (Fine turns) bytes x y = absurd (convert_fine (same_Some _ _ (sym x ∙ y.0)))
-same_answers words (Step turns) Convert bytes x y = absurd (convert_step (same_Some _ _ (sym y ∙ x.0)))
-same_answers words (Fine turns) Convert bytes x y = absurd (convert_fine (same_Some _ _ (sym y ∙ x.0)))
-same_answers words (Step turns) Check bytes x y = absurd (check_step (same_Some _ _ (sym y ∙ x.0)))
-same_answers words (Step turns) (Step others) bytes x y = ap (λ list. UnlessInput (Tells IsRunText bytes list)) (x.1 ∙ sym y.1)
-same_answers words (Step turns) (Fine others) bytes x y = absurd (step_fine (same_Some _ _ (sym x.0 ∙ y.0)))
-same_answers words (Fine turns) Check bytes x y = absurd (check_fine (same_Some _ _ (sym y ∙ x.0)))
-same_answers words (Fine turns) (Step others) bytes x y = absurd (step_fine (same_Some _ _ (sym y.0 ∙ x.0)))
-same_answers words (Fine turns) (Fine others) bytes x y = ap (λ list. UnlessInput (Tells IsFineText bytes list)) (x.1 ∙ sym y.1)
+abbrev Telling : Type 1
+Telling = Result (List ℕ) Fault → Type 0
 
-delivers_same : {A : Type 0} (words : List Text) (a b : Asked) (input : Option (List ℕ)) (answer : Result A Fault) (old new : Option (List ℕ))
-    → Asks words a → Asks words b → IfSome input (λ bytes. Delivers (Answers a bytes) answer old new)
-    → IfSome input (λ bytes. Delivers (Answers b bytes) answer old new)
-delivers_same words a b None answer old new x y h = tt
-delivers_same words a b (Some bytes) answer old new x y h =
-    subst (λ (told : Result (List ℕ) Fault → Type 0). Delivers told answer old new) (same_answers words a b bytes x y) h
+pick : Bool → Telling → Telling → Telling
+pick true a b = a
+pick false a b = b
+
+-- what the command with a name tells
+told : Text → Text → Result Bool Fault → List ℕ → Telling
+told name list answer bytes =
+    pick (bytes_eq name (codes "check")) (UnlessInput (Counts bytes))
+    (pick (bytes_eq name (codes "convert")) (UnlessInput (Converts bytes))
+    (pick (bytes_eq name (codes "step")) (UnlessInput (Tells IsRunText bytes list))
+    (pick (bytes_eq name (codes "fine")) (UnlessInput (Tells IsFineText bytes list))
+    (pick (bytes_eq name (codes "run")) (UnlessInput (TellsReport bytes)) (UnlessInput (Tells (IsLeftText answer) bytes list))))))
+
+finds : Text → Bool
+finds name = bytes_eq name (codes "left")
+
+-- what words ask for goes by the name of their command
+name_of : Asked → Text
+name_of Check = codes "check"
+name_of Convert = codes "convert"
+name_of (Step turns) = codes "step"
+name_of (Fine turns) = codes "fine"
+name_of Run = codes "run"
+name_of (Left turns) = codes "left"
+
+named : (words : List Text) (a : Asked) → Asks words a → command_named words ≡ Some (name_of a)
+unfolding name_of
+named words Check x = x
+named words Convert x = x
+named words (Step turns) x = x.0
+named words (Fine turns) x = x.0
+named words Run x = x
+named words (Left turns) x = x.0
+
+by_name : (words : List Text) (a : Asked) (answer : Result Bool Fault) (bytes : List ℕ) → Asks words a
+    → Answers a answer bytes ≡ told (name_of a) (turns_given words) answer bytes
+unfolding told pick name_of
+by_name words Check answer bytes x = refl
+by_name words Convert answer bytes x = refl
+by_name words (Step turns) answer bytes x = ap (λ list. told (codes "step") list answer bytes) x.1
+by_name words (Fine turns) answer bytes x = ap (λ list. told (codes "fine") list answer bytes) x.1
+by_name words Run answer bytes x = refl
+by_name words (Left turns) answer bytes x = ap (λ list. told (codes "left") list answer bytes) x.1
+
+finds_by_name : (a : Asked) → asks_left a ≡ finds (name_of a)
+unfolding finds name_of
+finds_by_name Check = refl
+finds_by_name Convert = refl
+finds_by_name (Step turns) = refl
+finds_by_name (Fine turns) = refl
+finds_by_name Run = refl
+finds_by_name (Left turns) = refl
+
+module _ (words : List Text) (a b : Asked) (x : Asks words a) (y : Asks words b) where
+  same_name : name_of a ≡ name_of b
+  same_name = same_Some _ _ (sym (named words a x) ∙ named words b y)
+
+  -- words ask for one thing
+  same_answers : (answer : Result Bool Fault) (bytes : List ℕ) → Answers a answer bytes ≡ Answers b answer bytes
+  same_answers answer bytes =
+      by_name words a answer bytes x ∙ ap (λ name. told name (turns_given words) answer bytes) same_name ∙ sym (by_name words b answer bytes y)
+
+  finds_same : (answer : Result Bool Fault) → FindsIfAsked a answer → FindsIfAsked b answer
+  finds_same answer h none = h (finds_by_name a ∙ ap finds same_name ∙ sym (finds_by_name b) ∙ none)
+
+  delivers_same : (input : Option (List ℕ)) (answer : Result Bool Fault) (old new : Option (List ℕ))
+      → IfSome input (λ bytes. Delivers (Answers a answer bytes) answer old new)
+      → IfSome input (λ bytes. Delivers (Answers b answer bytes) answer old new)
+  delivers_same None answer old new h = tt
+  delivers_same (Some bytes) answer old new h = subst (λ (t : Telling). Delivers t answer old new) (same_answers answer bytes) h
 
 module _ (words : List Text) (input : Option (List ℕ)) (status : ℕ) (old new : Option (List ℕ)) (has_failed : Bool) (faults : Report) where
   pub answered_plainly : (a b : Asked) (files : Bool) → files ≡ names_file words → Asks words a → AsksPlainly words b
@@ -85,14 +115,15 @@ module _ (words : List Text) (input : Option (List ℕ)) (status : ℕ) (old new
       subst (λ (has : Bool). IsAnswered a (known_unless has input) status old new has_failed faults) (named ∙ plain.no_file) h in
       record {
         answer = whole.answer;
-        delivers = delivers_same words a b input whole.answer old new x plain.asks whole.delivers;
+        delivers = delivers_same words a b x plain.asks input whole.answer old new whole.delivers;
+        finds = finds_same words a b x plain.asks whole.answer whole.finds;
         says = whole.says;
         fails = whole.fails;
         reports = whole.reports;
       }
 
   nothing : (input : Option (List ℕ)) (told : List ℕ → Result (List ℕ) Fault → Type 0) → new ≡ old
-      → IfSome input (λ bytes. Delivers {A = Unit {0}} (told bytes) (Err Memory) old new)
+      → IfSome input (λ bytes. Delivers {A = Bool} (told bytes) (Err Memory) old new)
   nothing None told e = tt
   nothing (Some bytes) told e = e
 
@@ -107,7 +138,8 @@ module _ (words : List Text) (input : Option (List ℕ)) (status : ℕ) (old new
       let m = h.memory (no_kind reason (fault_of program words) (plainly_asks words b y).faultless r) in
       record {
         answer = Err Memory;
-        delivers = nothing input (Answers b) m.1.0;
+        delivers = nothing input (Answers b (Err Memory)) m.1.0;
+        finds = λ none. tt;
         says = m.0;
         fails = m.1.1;
         reports = m.2;

@@ -1,5 +1,5 @@
 -- The program's command line is one of which `clap` tells the matches.
-use Rattle.std.proofs.Common.{◌≡◌, ◌≢◌, ◌⊎◌, ◌∙◌, ◌||◌, true, false, refl, sym, ap, ap₂, List, [], ◌∷◌, Option, Some, None}
+use Rattle.std.proofs.Common.{◌≡◌, ◌≢◌, ◌⊎◌, ◌∙◌, true, refl, sym, ap, ap₂, List, [], ◌∷◌, Option, Some, None}
 use Rattle.std.proofs.Common.{codes, inl, inr, option_map}
 use Rattle.std.specs.Prelude.{Box, is_some, option_and_then, unwrap_or}
 use Rattle.std.specs.Borrow.{Bor}
@@ -13,28 +13,30 @@ use Rattle.clap.specs.declared.parser.matches.ArgMatches.TheViews.{out-ArgMatche
 use Rattle.clap.specs.declared.parser.matches.SubCommand.{SubCommand}
 use Rattle.clap.proofs.OnLiterals.{clap_on_literals}
 use Rattle.sptr.proofs.Walks.{enters_own}
-use Rattle.sptr.specs.CommandLine.{check_line, command_named, convert_line, file_word, fine_line, names_file_in, program, step_line, turns_file_option}
+use Rattle.sptr.specs.CommandLine.{check_line, command_named, convert_line, file_word, fine_line, left_line, program, run_line, step_line, turns_file_option}
 use Rattle.sptr.specs.CommandLine.{turns_given, turns_option}
 
 pub program_is_simple : is_simple program ≡ true
-unfolding program check_line convert_line step_line fine_line file_word turns_option turns_file_option clap_on_literals
+unfolding program check_line convert_line step_line fine_line run_line left_line file_word turns_option turns_file_option clap_on_literals
 program_is_simple = refl
 
 pub program_is_free : is_simple_and_free program ≡ true
-unfolding program check_line convert_line step_line fine_line file_word turns_option turns_file_option clap_on_literals
+unfolding program check_line convert_line step_line fine_line run_line left_line file_word turns_option turns_file_option clap_on_literals
 program_is_free = refl
 
 abbrev built_line : Shape → Shape
 built_line line = built_leaf (inherited (with_leaf_noted (marked_built program.top)) line)
 
--- words with no fault name one of the four commands
+-- words with no fault name one of the six commands
 one_of_all : (words : List Text) → fault_of program words ≡ []
     → (command_named words ≡ Some (codes "check")) ⊎ ((command_named words ≡ Some (codes "convert"))
-    ⊎ ((command_named words ≡ Some (codes "step")) ⊎ (command_named words ≡ Some (codes "fine"))))
-unfolding program check_line convert_line step_line fine_line
+    ⊎ ((command_named words ≡ Some (codes "step")) ⊎ ((command_named words ≡ Some (codes "fine"))
+    ⊎ ((command_named words ≡ Some (codes "run")) ⊎ (command_named words ≡ Some (codes "left"))))))
+unfolding program check_line convert_line step_line fine_line run_line left_line
 one_of_all words e =
     let found = enters_own (built program) (argument_words program words)
-    (built_line check_line ∷ built_line convert_line ∷ built_line step_line ∷ built_line fine_line ∷ [])
+    (built_line check_line ∷ built_line convert_line ∷ built_line step_line ∷ built_line fine_line ∷ built_line run_line
+    ∷ built_line left_line ∷ [])
     (built_leaf help_shape) refl refl refl refl refl e in
     elim found.2 [
       | inl is ↦ inl (found.1 ∙ ap Some is)
@@ -42,23 +44,36 @@ one_of_all words e =
         | inl is ↦ inr (inl (found.1 ∙ ap Some is))
         | inr others ↦ elim others [
           | inl is ↦ inr (inr (inl (found.1 ∙ ap Some is)))
-          | inr last ↦ elim last [
-            | inl is ↦ inr (inr (inr (found.1 ∙ ap Some is)))
-            | inr none ↦ absurd none
+          | inr more ↦ elim more [
+            | inl is ↦ inr (inr (inr (inl (found.1 ∙ ap Some is))))
+            | inr last ↦ elim last [
+              | inl is ↦ inr (inr (inr (inr (inl (found.1 ∙ ap Some is)))))
+              | inr end ↦ elim end [
+                | inl is ↦ inr (inr (inr (inr (inr (found.1 ∙ ap Some is)))))
+                | inr none ↦ absurd none
+              ]
+            ]
           ]
         ]
       ]
     ]
 
 pub only_check : (words : List Text) → fault_of program words ≡ [] → command_named words ≢ Some (codes "step")
-    → command_named words ≢ Some (codes "fine") → command_named words ≢ Some (codes "convert") → command_named words ≡ Some (codes "check")
-only_check words e not_step not_fine not_convert = elim (one_of_all words e) [
+    → command_named words ≢ Some (codes "fine") → command_named words ≢ Some (codes "left") → command_named words ≢ Some (codes "convert")
+    → command_named words ≢ Some (codes "run") → command_named words ≡ Some (codes "check")
+only_check words e not_step not_fine not_left not_convert not_run = elim (one_of_all words e) [
   | inl is ↦ is
   | inr rest ↦ elim rest [
     | inl is ↦ absurd (not_convert is)
     | inr others ↦ elim others [
       | inl is ↦ absurd (not_step is)
-      | inr is ↦ absurd (not_fine is)
+      | inr last ↦ elim last [
+        | inl is ↦ absurd (not_fine is)
+        | inr end ↦ elim end [
+          | inl is ↦ absurd (not_run is)
+          | inr is ↦ absurd (not_left is)
+        ]
+      ]
     ]
   ]
 ]

@@ -6,7 +6,7 @@ use Rattle.clap.specs.Words.{App, Row, Rule, Shape, Text, first_of, new_rule, su
 use Rattle.clap.specs.Simple.{new_shape}
 use Rattle.sptr.specs.declared.command.Asked.{Asked}
 use Rattle.sptr.specs.declared.command.Files.{Files}
-use Rattle.sptr.specs.declared.command.Asked.TheVariants.{Check, Convert, Fine, Step}
+use Rattle.sptr.specs.declared.command.Asked.TheVariants.{Check, Convert, Fine, Left, Run, Step}
 
 -- `FILE`, the script
 unfoldable pub file_word : Rule
@@ -36,11 +36,19 @@ step_line = record (new_shape (codes "step")) { rules = file_word ∷ turns_opti
 unfoldable pub fine_line : Shape
 fine_line = record (new_shape (codes "fine")) { rules = file_word ∷ turns_option ∷ turns_file_option ∷ [] }
 
--- the program's name, and then one of the four
+-- `run`, which takes a script
+unfoldable pub run_line : Shape
+run_line = record (new_shape (codes "run")) { rules = file_word ∷ [] }
+
+-- `left`, which takes a script and a list of turns
+unfoldable pub left_line : Shape
+left_line = record (new_shape (codes "left")) { rules = file_word ∷ turns_option ∷ turns_file_option ∷ [] }
+
+-- the program's name, and then one of the six
 unfoldable pub program : App
 program = record {
   top = record (new_shape (codes "sptr")) { is_leaf = false; subcommand_required = true; has_version = true };
-  subs = check_line ∷ convert_line ∷ step_line ∷ fine_line ∷ [];
+  subs = check_line ∷ convert_line ∷ step_line ∷ fine_line ∷ run_line ∷ left_line ∷ [];
 }
 
 -- the command that the words name
@@ -73,6 +81,8 @@ Asks words Check = command_named words ≡ Some (codes "check")
 Asks words Convert = command_named words ≡ Some (codes "convert")
 Asks words (Step turns) = (command_named words ≡ Some (codes "step")) × (turns.now ≡ turns_given words)
 Asks words (Fine turns) = (command_named words ≡ Some (codes "fine")) × (turns.now ≡ turns_given words)
+Asks words Run = command_named words ≡ Some (codes "run")
+Asks words (Left turns) = (command_named words ≡ Some (codes "left")) × (turns.now ≡ turns_given words)
 
 -- the words are the program's name and this command, and then no list, `--turns=LIST`, or `--turns LIST` with a list
 -- that begins with no `-` (45)
@@ -87,6 +97,8 @@ AsksPlainly words Check = (name : Text) × (words ≡ name ∷ codes "check" ∷
 AsksPlainly words Convert = (name : Text) × (words ≡ name ∷ codes "convert" ∷ [])
 AsksPlainly words (Step turns) = (name : Text) × IsLine (codes "step") name turns.now words
 AsksPlainly words (Fine turns) = (name : Text) × IsLine (codes "fine") name turns.now words
+AsksPlainly words Run = (name : Text) × (words ≡ name ∷ codes "run" ∷ [])
+AsksPlainly words (Left turns) = (name : Text) × IsLine (codes "left") name turns.now words
 
 -- the words are the program's name and `--help`
 abbrev pub AsksHelp : List Text → Type 0

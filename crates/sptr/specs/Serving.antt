@@ -1,12 +1,14 @@
 -- What commands write, of what is on the input (own).
 use Rattle.std.specs.Prelude.{◌≡◌, ◌≢◌, ◌⊎◌, ℕ, Bool, true, false, List, [], length, Option, None}
-use Rattle.std.specs.Prelude.{Result, Ok, Err, IfSome, if◌then◌else◌}
+use Rattle.std.specs.Prelude.{Result, Ok, Err, IfSome, IfOk, cond, if◌then◌else◌}
+use Rattle.leak_report.specs.Left.{IsLeftText}
 use Rattle.clap.specs.Words.{IsAmong, Text, fault_of}
 use Rattle.clap.specs.declared.error.kind.ErrorKind.{ErrorKind}
 use Rattle.clap.specs.declared.error.kind.ErrorKind.TheVariants as kind
 use Rattle.std.specs.Io.KnownBytes.{Appends}
 use Rattle.script_stepper.specs.Sinks.{AppendsBeginning}
 use Rattle.script_text.specs.Faults.{fault_line}
+use Rattle.script_runner.specs.Telling.{TellsReport}
 use Rattle.script_stepper.specs.Runs.{Delivers, IsFineText, IsRunText, Tells, Writes, is_output}
 use Rattle.script_text.specs.declared.fault.Fault.{Fault}
 use Rattle.script_text.specs.declared.fault.Fault.TheVariants.{Memory, Syntax, BadTurn, Output, Input}
@@ -17,7 +19,7 @@ use Rattle.script_text.specs.Canonical.{canonical}
 use Rattle.sptr.specs.CommandLine.{Asks, names_file, program}
 use Rattle.sptr.specs.Lines.{ok_line}
 use Rattle.sptr.specs.declared.command.Asked.{Asked}
-use Rattle.sptr.specs.declared.command.Asked.TheVariants.{Check, Convert, Fine, Step}
+use Rattle.sptr.specs.declared.command.Asked.TheVariants.{Check, Convert, Fine, Left, Run, Step}
 
 -- the line that counts the script which the text reads as, or the refusal that the text has
 abbrev pub Counts : List ℕ → Result (List ℕ) Fault → Type 0
@@ -40,17 +42,36 @@ UnlessInput told (Err (BadTurn position)) = told (Err (BadTurn position))
 UnlessInput told (Err Output) = told (Err Output)
 UnlessInput told (Err Input) = Unit {0}
 
--- what a command answers to the bytes on the input
-abbrev pub Answers : Asked → List ℕ → Result (List ℕ) Fault → Type 0
-Answers Check bytes = UnlessInput (Counts bytes)
-Answers Convert bytes = UnlessInput (Converts bytes)
-Answers (Step turns) bytes = UnlessInput (Tells IsRunText bytes turns.now)
-Answers (Fine turns) bytes = UnlessInput (Tells IsFineText bytes turns.now)
+-- what a command answers to the bytes on the input; only `left` answers more than that, whether something is leaked
+abbrev pub Answers : Asked → Result Bool Fault → List ℕ → Result (List ℕ) Fault → Type 0
+Answers Check answer bytes = UnlessInput (Counts bytes)
+Answers Convert answer bytes = UnlessInput (Converts bytes)
+Answers (Step turns) answer bytes = UnlessInput (Tells IsRunText bytes turns.now)
+Answers (Fine turns) answer bytes = UnlessInput (Tells IsFineText bytes turns.now)
+Answers Run answer bytes = UnlessInput (TellsReport bytes)
+Answers (Left turns) answer bytes = UnlessInput (Tells (IsLeftText answer) bytes turns.now)
+
+abbrev pub asks_left : Asked → Bool
+asks_left Check = false
+asks_left Convert = false
+asks_left (Step turns) = false
+asks_left (Fine turns) = false
+asks_left Run = false
+asks_left (Left turns) = true
+
+-- no other command finds something leaked
+abbrev pub FindsIfAsked : Asked → Result Bool Fault → Type 0
+FindsIfAsked asked answer = asks_left asked ≡ false → IfOk answer (λ leaks. leaks ≡ false)
 
 -- the exit status
 abbrev pub status_of : {A : Type 0} → Result A Fault → ℕ
 status_of (Ok done) = 0
 status_of (Err fault) = 1
+
+-- the same where a command was carried out: 3 where something was found to be leaked
+abbrev pub exit_status : Result Bool Fault → ℕ
+exit_status (Ok leaks) = cond leaks 3 0
+exit_status (Err fault) = 1
 
 -- what a sink took, where that is known, and whether it has failed, before and after
 pub record Report : Type 0 where
@@ -85,9 +106,10 @@ Reports (Err fault) r = IsReported fault r
 -- a refusal to the faults
 pub record IsAnswered (asked : Asked) (input : Option (List ℕ))
     (status : ℕ) (old new : Option (List ℕ)) (has_failed : Bool) (faults : Report) : Type 0 where
-  pub answer : Result Unit Fault
-  pub delivers : IfSome input (λ bytes. Delivers (Answers asked bytes) answer old new)
-  pub says : status ≡ status_of answer
+  pub answer : Result Bool Fault
+  pub delivers : IfSome input (λ bytes. Delivers (Answers asked answer bytes) answer old new)
+  pub finds : FindsIfAsked asked answer
+  pub says : status ≡ exit_status answer
   pub fails : has_failed ≡ is_output answer
   pub reports : Reports answer faults
 

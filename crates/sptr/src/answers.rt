@@ -3,8 +3,10 @@
 ghost use Rattle.std.specs.Prelude.{◌≡◌, ◌⊎◌, ◌||◌, false, List, IfOk, IfErr, IfSome, OnOk};
 ghost use Rattle.std.specs.Prelude.{string_bytes};
 ghost use Rattle.script_text.specs.declared.fault.Fault.TheVariants.{Input, Memory};
+ghost use Rattle.script_runner.specs.Telling.{TellsReport};
 ghost use Rattle.script_stepper.specs.Runs.{Delivers, IsFineText, IsRunText, Tells, Writes, is_output, text_in};
 ghost use Rattle.std.specs.Io.KnownBytes.{Keeps};
+ghost use Rattle.leak_report.specs.Left.{IsLeftText};
 ghost use Rattle.sptr.specs.Lines.{ok_line};
 ghost use Rattle.script_text.specs.Canonical.{canonical};
 ghost use Rattle.script_text.specs.Grammar.{Reads};
@@ -12,11 +14,15 @@ ghost use Rattle.script_text.specs.Scripts.{converted};
 ghost use Rattle.sptr.specs.Serving.{Converts, Counts, UnlessInput};
 
 use control_word::Refusal;
+use leak_report::left_text;
+use script_runner::run_text;
 use script_stepper::{Output, fine_text, step_text, write_text};
 use script_text::{Fault, Script, parse, print};
 use std::alloc::{AllocError, Global};
 use std::fmt::Write as _;
 use std::io::{ErrorKind, Read, Write};
+use std::sync::Wait;
+use std::thread::Threads;
 
 /// All that an input has.
 pub(crate) fn bytes_of<I: Read>(alloc: Global, input: &mut I) -> Result<Vec<u8>, Fault>
@@ -128,6 +134,41 @@ fn finely_stepped<O: Write>(
     flushed(output)
 }
 
+/// The same of a run on real workers.
+fn worked<R: Threads + Wait + Sync, O: Write>(
+    rt: &R,
+    alloc: Global,
+    script: &[u8],
+    output: &mut Output<O>,
+) -> Result<(), Fault>
+    requires { output.old.has_failed ≡ false }
+    ensures told { Delivers (TellsReport script.now) result
+        (O.contents output.old.writer) (O.contents output.new.writer) }
+    ensures failed { output.new.has_failed ≡ is_output result }
+{
+    run_text(rt, alloc, script, output)?;
+    flushed(output)
+}
+
+/// Writes what is left at a run's end, and makes sure that it has gone out. Answers whether something is leaked.
+fn left_told<O: Write>(
+    alloc: Global,
+    script: &[u8],
+    turns: &[u8],
+    output: &mut Output<O>,
+) -> Result<bool, Fault>
+    requires { output.old.has_failed ≡ false }
+    ensures told { Delivers (Tells (IsLeftText result) script.now turns.now) result
+        (O.contents output.old.writer) (O.contents output.new.writer) }
+    ensures failed { output.new.has_failed ≡ is_output result }
+{
+    let leaks = left_text(alloc, script, turns, output)?;
+    match flushed(output) {
+        Ok(()) => Ok(leaks),
+        Err(fault) => Err(fault),
+    }
+}
+
 /// Answers `check`: how many threads and statements the script on the input has.
 pub(crate) fn check<I: Read, O: Write>(
     alloc: Global,
@@ -192,4 +233,39 @@ pub(crate) fn fine<I: Read, O: Write>(
 {
     let bytes = bytes_of(alloc, input)?;
     finely_stepped(alloc, bytes.as_slice(), turns, output)
+}
+
+/// Answers `run`: what comes of the script on the input on real workers, one a thread.
+pub(crate) fn run<R: Threads + Wait + Sync, I: Read, O: Write>(
+    rt: &R,
+    alloc: Global,
+    input: &mut I,
+    output: &mut Output<O>,
+) -> Result<(), Fault>
+    requires { output.old.has_failed ≡ false }
+    ensures tells { IfSome (I.remaining input.old) (λ bytes.
+        Delivers (UnlessInput (TellsReport bytes)) result
+        (O.contents output.old.writer) (O.contents output.new.writer)) }
+    ensures failed { output.new.has_failed ≡ is_output result }
+{
+    let bytes = bytes_of(alloc, input)?;
+    worked(rt, alloc, bytes.as_slice(), output)
+}
+
+/// Answers `left`: what is left at the end of the run of the script on the input, with a list of turns, and whether
+/// something is leaked.
+pub(crate) fn left<I: Read, O: Write>(
+    alloc: Global,
+    turns: &[u8],
+    input: &mut I,
+    output: &mut Output<O>,
+) -> Result<bool, Fault>
+    requires { output.old.has_failed ≡ false }
+    ensures tells { IfSome (I.remaining input.old) (λ bytes.
+        Delivers (UnlessInput (Tells (IsLeftText result) bytes turns.now)) result
+        (O.contents output.old.writer) (O.contents output.new.writer)) }
+    ensures failed { output.new.has_failed ≡ is_output result }
+{
+    let bytes = bytes_of(alloc, input)?;
+    left_told(alloc, bytes.as_slice(), turns, output)
 }

@@ -4,7 +4,8 @@ ghost use Rattle.std.specs.Prelude.{◌≡◌, IfOk, [], codes, false, is_some, 
 ghost use Rattle.clap.specs.Words.{FailsBy, app_of, fault_of, first_of, found_of, rows_of, rule_of, shape_of};
 ghost use Rattle.clap.specs.Words.{subcommand_rows_of, subcommand_of};
 ghost use Rattle.clap.specs.declared.builder.command.Command.TheViews.{out-Command};
-ghost use Rattle.sptr.specs.CommandLine.{Asks, check_line, convert_line, fine_line, program, step_line};
+ghost use Rattle.sptr.specs.CommandLine.{Asks, check_line, convert_line, fine_line, left_line, program, run_line};
+ghost use Rattle.sptr.specs.CommandLine.{step_line};
 ghost use Rattle.sptr.specs.CommandLine.{file_word, turns_option, turns_file_option, has_files, names_file};
 ghost use Rattle.sptr.specs.CommandLine.{names_file_in};
 
@@ -26,6 +27,10 @@ pub(crate) enum Asked<'a> {
     Step { turns: &'a [u8] },
     /// The same by single atomic steps.
     Fine { turns: &'a [u8] },
+    /// The lines of a script's run on real workers, thread by thread.
+    Run,
+    /// What is left at the end of the run, and who holds it.
+    Left { turns: &'a [u8] },
 }
 
 /// The files that a command line names: the script's, and that of the list of turns.
@@ -111,6 +116,26 @@ fn fine_command<'a>(alloc: Global) -> Result<Command<'a>, AllocError>
         .arg(turns_file_argument(alloc))
 }
 
+fn run_command<'a>(alloc: Global) -> Result<Command<'a>, AllocError>
+    ensures shape { IfOk result (λ c. shape_of c ≡ run_line) }
+    ensures local { IfOk result (λ c. (out-Command c).has_globals ≡ false) }
+{
+    Command::new(alloc, "run")
+        .about("Runs a script on real workers, one a thread")
+        .arg(file_argument(alloc))
+}
+
+fn left_command<'a>(alloc: Global) -> Result<Command<'a>, AllocError>
+    ensures shape { IfOk result (λ c. shape_of c ≡ left_line) }
+    ensures local { IfOk result (λ c. (out-Command c).has_globals ≡ false) }
+{
+    Command::new(alloc, "left")
+        .about("Runs a script act by act, and tells what is left and who holds it")
+        .arg(file_argument(alloc))?
+        .arg(turns_argument(alloc))?
+        .arg(turns_file_argument(alloc))
+}
+
 fn command<'a>(alloc: Global) -> Result<Command<'a>, AllocError>
     ensures { IfOk result (λ c. app_of c ≡ program) }
 {
@@ -118,6 +143,8 @@ fn command<'a>(alloc: Global) -> Result<Command<'a>, AllocError>
     let convert = convert_command(alloc)?;
     let step = step_command(alloc)?;
     let fine = fine_command(alloc)?;
+    let run = run_command(alloc)?;
+    let left = left_command(alloc)?;
     Command::new(alloc, "sptr")
         .about("Runs scripts of shared and weak pointers")
         .version(VERSION)
@@ -125,7 +152,9 @@ fn command<'a>(alloc: Global) -> Result<Command<'a>, AllocError>
         .subcommand(check)?
         .subcommand(convert)?
         .subcommand(step)?
-        .subcommand(fine)
+        .subcommand(fine)?
+        .subcommand(run)?
+        .subcommand(left)
 }
 
 fn matches_of<'a, S: AsStr>(alloc: Global, words: &'a [S]) -> Result<ArgMatches<'a>, Error>
@@ -136,7 +165,7 @@ fn matches_of<'a, S: AsStr>(alloc: Global, words: &'a [S]) -> Result<ArgMatches<
     command.try_get_matches_from(words)
 }
 
-/// The list that `step` or `fine` was given, empty where none was.
+/// The list that a run was given, empty where none was.
 fn turns_of<'a>(given: &ArgMatches<'a>) -> &'a [u8]
     ensures { result.now ≡ unwrap_or (first_of (codes "turns") (rows_of (found_of given.now))) [] }
 {
@@ -187,8 +216,18 @@ pub(crate) fn asked_of<'a, S: AsStr>(alloc: Global, words: &'a [S]) -> Result<Li
             },
             files,
         }),
+        Some(("left", inner)) => Ok(Line {
+            asked: Asked::Left {
+                turns: turns_of(inner),
+            },
+            files,
+        }),
         Some(("convert", _)) => Ok(Line {
             asked: Asked::Convert,
+            files,
+        }),
+        Some(("run", _)) => Ok(Line {
+            asked: Asked::Run,
             files,
         }),
         _ => Ok(Line {

@@ -4,8 +4,8 @@ ghost use Rattle.std.specs.Prelude.{◌≡◌, ◌≤◌, false, map};
 ghost use Rattle.clap.specs.Words.{kind_of};
 ghost use Rattle.sptr.specs.declared.command.Asked.{Asked};
 ghost use Rattle.sptr.specs.CommandLine.{AsksHelp, AsksPlainly, AsksVersion, NamesNoCommand, has_files};
-ghost use Rattle.sptr.specs.Serving.{IsAnswered, IsMistaken, IsReported, IsShown, IsTurnedAway, Serves, known_unless};
-ghost use Rattle.sptr.specs.Serving.{report};
+ghost use Rattle.sptr.specs.Serving.{IsAnswered, IsMistaken, IsReported, IsShown, IsTurnedAway, Serves, exit_status};
+ghost use Rattle.sptr.specs.Serving.{known_unless, report};
 
 use crate::answers::written;
 use crate::command::{Line, asked_of};
@@ -18,6 +18,8 @@ use std::convert::AsStr;
 use std::fmt::Write as _;
 use std::io::{Read, Write};
 use std::rt;
+use std::sync::Wait;
+use std::thread::Threads;
 
 /// Writes the line of a refusal, and answers the exit status 1. A line that can't be written changes nothing.
 fn refuse<F: Write>(fault: Fault, faults: &mut Output<F>) -> u8
@@ -90,8 +92,15 @@ fn refuse_words<O: Write, F: Write>(
     }
 }
 
+/// The exit status where something is leaked, or nothing.
+fn found_status(leaks: bool) -> u8
+    ensures { result ≡ exit_status (Ok leaks) }
+{
+    if leaks { 3 } else { 0 }
+}
+
 /// Does what a command line asks for, and answers the exit status.
-fn carry_out<R: rt::Files, I: Read, O: Write, F: Write>(
+fn carry_out<R: rt::Files + Threads + Wait + Sync, I: Read, O: Write, F: Write>(
     rt: &R,
     alloc: Global,
     line: Line<'_>,
@@ -106,22 +115,23 @@ fn carry_out<R: rt::Files, I: Read, O: Write, F: Write>(
         (report (F.contents faults.old.writer) faults.old.has_failed
         (F.contents faults.new.writer) faults.new.has_failed) }
     ensures quiet { result ≡ 0 → F.contents faults.new.writer ≡ F.contents faults.old.writer }
-    ensures status { result ≤ 2 }
+    ensures status { result ≤ 3 }
 {
     match answer_line(rt, alloc, line, input, output) {
-        Ok(()) => 0,
+        Ok(leaks) => found_status(leaks),
         Err(fault) => refuse(fault, faults),
     }
 }
 
 /// Serves one command line, whose first word is the program's name: reads a script from `input`, or from the file that
 /// the words name, and writes the answer on `output`, which hasn't failed before. Answers the exit status: 0; 1 for a
-/// refusal, with its line on `faults`; 2 for a fault of the command line, with the text of `clap` on `faults`.
+/// refusal, with its line on `faults`; 2 for a fault of the command line, with the text of `clap` on `faults`; 3 where
+/// it was asked what is left, and something is leaked.
 ///
 /// The words are looked at first; then come a failed input, or a file that can't be read (13), a fault of the script
 /// (10) and one of the turns (11), each with nothing on `output`, and a failed output (12). A fault line that can't be
 /// written changes no status: `faults` then took a beginning of it, or nothing where it had failed before (own).
-pub fn serve<R: rt::Files, S: AsStr, I: Read, O: Write, F: Write>(
+pub fn serve<R: rt::Files + Threads + Wait + Sync, S: AsStr, I: Read, O: Write, F: Write>(
     rt: &R,
     alloc: Global,
     words: &[S],
@@ -152,7 +162,7 @@ pub fn serve<R: rt::Files, S: AsStr, I: Read, O: Write, F: Write>(
         (report (F.contents faults.old.writer) faults.old.has_failed
         (F.contents faults.new.writer) faults.new.has_failed) }
     ensures quiet { result ≡ 0 → F.contents faults.new.writer ≡ F.contents faults.old.writer }
-    ensures status { result ≤ 2 }
+    ensures status { result ≤ 3 }
 {
     match asked_of(alloc, words) {
         Ok(line) => carry_out(rt, alloc, line, input, output, faults),

@@ -3,55 +3,66 @@
 ghost use Rattle.std.specs.Prelude.{◌≡◌, false, is_some, IfSome};
 ghost use Rattle.script_stepper.specs.Runs.{Delivers, is_output};
 ghost use Rattle.sptr.specs.CommandLine.{has_files};
-ghost use Rattle.sptr.specs.Serving.{Answers, known_unless};
+ghost use Rattle.sptr.specs.Serving.{Answers, FindsIfAsked, asks_left, known_unless};
 
-use crate::answers::{bytes_of, check, convert, fine, step};
+use crate::answers::{bytes_of, check, convert, fine, left, run, step};
 use crate::command::{Asked, Files, Line};
 use script_stepper::Output;
 use script_text::Fault;
 use std::alloc::Global;
 use std::io::{Read, Write};
+use std::sync::Wait;
+use std::thread::Threads;
 use std::{fs, rt};
 
-/// The answer to what a command line asks for, of the script on the input.
-fn answer<I: Read, O: Write>(
+/// The answer to what a command line asks for, of the script on the input: whether something was found to be leaked,
+/// for which only one command looks.
+fn answer<R: Threads + Wait + Sync, I: Read, O: Write>(
+    rt: &R,
     alloc: Global,
     asked: Asked<'_>,
     input: &mut I,
     output: &mut Output<O>,
-) -> Result<(), Fault>
+) -> Result<bool, Fault>
     requires { output.old.has_failed ≡ false }
     ensures delivers { IfSome (I.remaining input.old) (λ bytes.
-        Delivers (Answers asked.entry bytes) result (O.contents output.old.writer) (O.contents output.new.writer)) }
+        Delivers (Answers asked.entry result bytes) result (O.contents output.old.writer)
+        (O.contents output.new.writer)) }
+    ensures finds { FindsIfAsked asked.entry result }
     ensures failed { output.new.has_failed ≡ is_output result }
 {
     match asked {
-        Asked::Check => check(alloc, input, output),
-        Asked::Convert => convert(alloc, input, output),
-        Asked::Step { turns } => step(alloc, turns, input, output),
-        Asked::Fine { turns } => fine(alloc, turns, input, output),
+        Asked::Check => check(alloc, input, output)?,
+        Asked::Convert => convert(alloc, input, output)?,
+        Asked::Step { turns } => step(alloc, turns, input, output)?,
+        Asked::Fine { turns } => fine(alloc, turns, input, output)?,
+        Asked::Run => run(rt, alloc, input, output)?,
+        Asked::Left { turns } => return left(alloc, turns, input, output),
     }
+    Ok(false)
 }
 
 /// The same of a script in a file, if one is named.
-fn answer_script<R: rt::Files, I: Read, O: Write>(
+fn answer_script<R: rt::Files + Threads + Wait + Sync, I: Read, O: Write>(
     rt: &R,
     alloc: Global,
     asked: Asked<'_>,
     script: Option<&str>,
     input: &mut I,
     output: &mut Output<O>,
-) -> Result<(), Fault>
+) -> Result<bool, Fault>
     requires { output.old.has_failed ≡ false }
     ensures delivers { IfSome (known_unless (is_some script.entry) (I.remaining input.old)) (λ bytes.
-        Delivers (Answers asked.entry bytes) result (O.contents output.old.writer) (O.contents output.new.writer)) }
+        Delivers (Answers asked.entry result bytes) result (O.contents output.old.writer)
+        (O.contents output.new.writer)) }
+    ensures finds { FindsIfAsked asked.entry result }
     ensures failed { output.new.has_failed ≡ is_output result }
 {
     let Some(path) = script else {
-        return answer(alloc, asked, input, output);
+        return answer(rt, alloc, asked, input, output);
     };
     match fs::open(rt, path) {
-        Ok(mut file) => answer(alloc, asked, &mut file, output),
+        Ok(mut file) => answer(rt, alloc, asked, &mut file, output),
         Err(_) => Err(Fault::Input),
     }
 }
@@ -66,17 +77,21 @@ fn line_of(list: &[u8]) -> &[u8] {
 }
 
 /// What a command asks for with this list of turns.
-fn with_turns<'a>(asked: Asked<'_>, turns: &'a [u8]) -> Asked<'a> {
+fn with_turns<'a>(asked: Asked<'_>, turns: &'a [u8]) -> Asked<'a>
+    ensures { asks_left result ≡ asks_left asked.entry }
+{
     match asked {
         Asked::Check => Asked::Check,
         Asked::Convert => Asked::Convert,
         Asked::Step { .. } => Asked::Step { turns },
         Asked::Fine { .. } => Asked::Fine { turns },
+        Asked::Run => Asked::Run,
+        Asked::Left { .. } => Asked::Left { turns },
     }
 }
 
 /// The same with the list of turns in a file.
-fn answer_turns<R: rt::Files, I: Read, O: Write>(
+fn answer_turns<R: rt::Files + Threads + Wait + Sync, I: Read, O: Write>(
     rt: &R,
     alloc: Global,
     asked: Asked<'_>,
@@ -84,9 +99,10 @@ fn answer_turns<R: rt::Files, I: Read, O: Write>(
     script: Option<&str>,
     input: &mut I,
     output: &mut Output<O>,
-) -> Result<(), Fault>
+) -> Result<bool, Fault>
     requires { output.old.has_failed ≡ false }
-    ensures { output.new.has_failed ≡ is_output result }
+    ensures finds { FindsIfAsked asked.entry result }
+    ensures failed { output.new.has_failed ≡ is_output result }
 {
     let Ok(mut file) = fs::open(rt, turns) else {
         return Err(Fault::Input);
@@ -97,17 +113,18 @@ fn answer_turns<R: rt::Files, I: Read, O: Write>(
 }
 
 /// The answer to a command line: of the script on the input, or of files that it names, of which nothing is known.
-pub(crate) fn answer_line<R: rt::Files, I: Read, O: Write>(
+pub(crate) fn answer_line<R: rt::Files + Threads + Wait + Sync, I: Read, O: Write>(
     rt: &R,
     alloc: Global,
     line: Line<'_>,
     input: &mut I,
     output: &mut Output<O>,
-) -> Result<(), Fault>
+) -> Result<bool, Fault>
     requires { output.old.has_failed ≡ false }
     ensures delivers { IfSome (known_unless (has_files line.entry.files) (I.remaining input.old)) (λ bytes.
-        Delivers (Answers line.entry.asked bytes) result (O.contents output.old.writer)
+        Delivers (Answers line.entry.asked result bytes) result (O.contents output.old.writer)
         (O.contents output.new.writer)) }
+    ensures finds { FindsIfAsked line.entry.asked result }
     ensures failed { output.new.has_failed ≡ is_output result }
 {
     let Line { asked, files } = line;

@@ -14,10 +14,22 @@ returns-in-Some-fine-default-clause-asks g c =
     asks_with_turns _ c.in_ok-matches.matches _ c.turns_of-in-Some-fine-default.result.now met.field-0-0.now _ c.in_ok-matches.ensures.matches
     met.ensures.name met.ensures.rows met.is-fine c.turns_of-in-Some-fine-default.ensures
 
+pub returns-in-Some-left-default-clause-asks : goal.returns-in-Some-left-default-clause-asks
+returns-in-Some-left-default-clause-asks g c =
+    let met = c.in-Some-left-default in
+    asks_with_turns _ c.in_ok-matches.matches _ c.turns_of-in-Some-left-default.result.now met.field-0-0.now _ c.in_ok-matches.ensures.matches
+    met.ensures.name met.ensures.rows met.is-left c.turns_of-in-Some-left-default.ensures
+
 pub returns-in-Some-convert-default-clause-asks : goal.returns-in-Some-convert-default-clause-asks
 returns-in-Some-convert-default-clause-asks g c =
     let met = c.in-Some-convert-default in
     asks_named _ c.in_ok-matches.matches _ met.field-0-0.now c.in_ok-matches.ensures.matches met.ensures.name met.is-convert
 
+pub returns-in-Some-run-default-clause-asks : goal.returns-in-Some-run-default-clause-asks
+returns-in-Some-run-default-clause-asks g c =
+    let met = c.in-Some-run-default in
+    asks_named _ c.in_ok-matches.matches _ met.field-0-0.now c.in_ok-matches.ensures.matches met.ensures.name met.is-run
+
 pub returns-clause-asks : goal.returns-clause-asks
-returns-clause-asks g c = only_check _ c.in_ok-matches.ensures.kinds (search rules) (search rules) (search rules)
+returns-clause-asks g c =
+    only_check _ c.in_ok-matches.ensures.kinds (search rules) (search rules) (search rules) (search rules) (search rules)

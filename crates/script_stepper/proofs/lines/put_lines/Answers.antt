@@ -1,0 +1,16 @@
+use Rattle.std.proofs.Common.{None, length, ◌<◌, arith}
+use Rattle.std.specs.Prelude.{string_bytes}
+use Rattle.step_threads.specs.declared.said.Said.{Said}
+use Rattle.script_stepper.specs.Lines.{said_lines}
+use Rattle.script_stepper.proofs.LineLemmas.{lines_on}
+use Rattle.script_stepper.proofs.lines.put_lines.Goals as goal
+
+nothing : Said
+nothing = record { statement = 0; answer = None; ended = None }
+
+pub loop-act-preserved : goal.loop-act-preserved
+unfolding nothing
+loop-act-preserved c =
+    let here : c.loop-act.act-index < length c.args.said.now = omega arith in
+    lines_on (said_lines c.args.thread) c.args.said.now c.loop-act.act-index nothing (string_bytes c.args.text.now) (string_bytes c.loop-act.text)
+    (string_bytes c.put_said.new.text) here c.loop-act.invariant c.in_ok-put_said.ensures
