@@ -1,3 +1,4 @@
 pub mod Workers
 pub mod Observers
 pub mod Nodes
+pub mod Scenes

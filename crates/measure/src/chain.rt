@@ -50,7 +50,7 @@ pub(crate) fn let_go(domain: &Domain<()>, desk: &mut Desk<()>, owner: Shared)
 }
 
 /// A chain: the owner of its first object. None where the desk has too few blocks.
-#[tactic(auto, using(shared_handle::proofs::Callers::first_out, shared_handle::proofs::Callers::under_out, shared_handle::proofs::Callers::first_held, shared_handle::proofs::Callers::under_held))]
+#[tactic(auto, using(shared_handle::proofs::Callers::first_out, shared_handle::proofs::Callers::under_out))]
 pub(crate) fn build(domain: &Domain<()>, desk: &mut Desk<()>) -> Option<Shared>
     requires domain { Belongs desk.old domain.now }
     ensures desk { IsSameDesk desk.old desk.new }

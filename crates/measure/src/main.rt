@@ -15,7 +15,12 @@ mod observers;
 mod pages;
 mod rounds;
 mod rows;
+mod scene_stack;
+mod scene_trees;
+mod scene_walks;
+mod scenes;
 mod stack;
+mod tables;
 mod timing;
 mod workers;
 
@@ -140,5 +145,7 @@ fn main(rt: HostRuntime) -> io::Result<()> {
         pass(&rt, rt.alloc())?;
     }
     passes_alone(&rt, rt.alloc(), passes)?;
+    tables::measure(&rt, rt.alloc(), passes)?;
+    scenes::measure(&rt, rt.alloc(), passes)?;
     pages::measure(&rt, rt.alloc(), passes)
 }

@@ -110,6 +110,18 @@ pub(crate) fn line<R: Print>(
     spent: &[Spent],
     told: &[Spent],
 ) -> io::Result<()> {
+    line_of(rt, name, "this runtime", chunk, spent, told)
+}
+
+/// The same, by another way to call this runtime, which `peer` names.
+pub(crate) fn line_of<R: Print>(
+    rt: &R,
+    name: &str,
+    peer: &str,
+    chunk: u32,
+    spent: &[Spent],
+    told: &[Spent],
+) -> io::Result<()> {
     let mut wall = 0u64;
     let mut rounds = 0u64;
     for thread in told {
@@ -118,7 +130,7 @@ pub(crate) fn line<R: Print>(
     }
     let hundredths = wall.saturating_mul(100) / rounds.max(1);
     println!(rt;
-        "{name}|this runtime|{}|{}.{:02}|{}",
+        "{name}|{peer}|{}|{}.{:02}|{}",
         spent.len(),
         hundredths / 100,
         hundredths % 100,

@@ -26,7 +26,7 @@ struct Attempt {
 
 /// One try to put the node above the top one. What to try next, if it isn't done; `whole` is false where it never will
 /// be, since a call was refused.
-#[tactic(auto, using(shared_handle::proofs::Callers::first_out, shared_handle::proofs::Callers::under_out, shared_handle::proofs::Callers::first_held, shared_handle::proofs::Callers::under_held))]
+#[tactic(auto, using(shared_handle::proofs::Callers::first_out, shared_handle::proofs::Callers::under_out))]
 fn try_push<R: Wait>(
     rt: &R,
     domain: &Domain<()>,
@@ -89,7 +89,7 @@ fn try_push<R: Wait>(
 
 /// One try to take the top node from the stack. What to try next, if it isn't done; `whole` is false where it never
 /// will be, since a call was refused or only the bottom is left.
-#[tactic(auto, using(shared_handle::proofs::Callers::first_out, shared_handle::proofs::Callers::under_out, shared_handle::proofs::Callers::first_held, shared_handle::proofs::Callers::under_held))]
+#[tactic(auto, using(shared_handle::proofs::Callers::first_out, shared_handle::proofs::Callers::under_out))]
 fn try_pop<R: Wait>(
     rt: &R,
     domain: &Domain<()>,
@@ -168,7 +168,7 @@ fn top_of<R: Wait>(rt: &R, domain: &Domain<()>, desk: &mut Desk<()>, head: u32) 
 }
 
 /// A new node goes to the top: whether no call was refused.
-#[tactic(auto, using(shared_handle::proofs::Callers::first_out, shared_handle::proofs::Callers::under_out, shared_handle::proofs::Callers::first_held, shared_handle::proofs::Callers::under_held))]
+#[tactic(auto, using(shared_handle::proofs::Callers::first_out, shared_handle::proofs::Callers::under_out))]
 fn push<R: Wait>(rt: &R, domain: &Domain<()>, desk: &mut Desk<()>, head: u32) -> bool
     requires domain { Belongs desk.old domain.now }
     requires head { head < desk.old.shape.shared_cells }

@@ -37,7 +37,7 @@ pub(crate) struct Spent {
 
 /// Where the threads of a row meet.
 #[derive(Drop)]
-struct Start {
+pub(crate) struct Start {
     base: Instant,
     threads: u64,
     come: AtomicU64,
@@ -46,7 +46,7 @@ struct Start {
 }
 
 impl Start {
-    fn of<R: Clock>(rt: &R, threads: u64) -> io::Result<Start> {
+    pub(crate) fn of<R: Clock>(rt: &R, threads: u64) -> io::Result<Start> {
         Ok(Start {
             base: Instant::now(rt)?,
             threads,
@@ -56,12 +56,12 @@ impl Start {
     }
 
     /// Nanoseconds after `base`.
-    fn now<R: Clock>(&self, rt: &R) -> io::Result<u64> {
+    pub(crate) fn now<R: Clock>(&self, rt: &R) -> io::Result<u64> {
         Ok(nanos(self.base.elapsed(rt)?))
     }
 
     /// Answers when to stop, once all have come; where they don't, the thread works alone.
-    fn meet<R: Clock>(&self, rt: &R) -> io::Result<u64> {
+    pub(crate) fn meet<R: Clock>(&self, rt: &R) -> io::Result<u64> {
         let before = self.come.fetch_add(1, Ordering::SeqCst);
         if before.wrapping_add(1) < self.threads {
             for _ in 0..PATIENCE {
