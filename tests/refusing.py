@@ -2,12 +2,21 @@
 import contextlib
 import os
 import pathlib
+import struct
 import subprocess
-import sys
 import tempfile
+from typing import NamedTuple
 
 ALONE = 'REFUSE_AT'
 SOURCE = pathlib.Path(__file__).resolve().with_name('refuse.c')
+
+
+class Run(NamedTuple):
+    """A run's result, how many allocations it asked for, and how many it was given and didn't give back."""
+
+    result: subprocess.CompletedProcess
+    asked: int
+    kept: int
 
 
 class Refusing:
@@ -16,21 +25,25 @@ class Refusing:
     def __init__(self, room):
         self.library, self.told = pathlib.Path(room) / 'refuse.so', pathlib.Path(room) / 'allocations'
         subprocess.run(['cc', '-shared', '-fPIC', '-O1', '-o', self.library, SOURCE], check=True)
-        self.told.write_bytes(bytes(8))
+        self.told.write_bytes(bytes(16))
 
     def run(self, words, script=b'', **refused):
-        """A run with `REFUSE_AT` or `REFUSE_FROM` as given: its result, and how many allocations it asked for."""
+        """A run with `REFUSE_AT` or `REFUSE_FROM` as given."""
         told = {name: str(it) for name, it in refused.items()}
         settings = {'LD_PRELOAD': self.library, 'ALLOCATIONS': self.told, **told}
         ran = subprocess.run(words, input=script, capture_output=True, timeout=120, env={**os.environ, **settings})
-        return ran, int.from_bytes(self.told.read_bytes(), sys.byteorder)
+        return Run(ran, *struct.unpack('NN', self.told.read_bytes()))
+
+    def each(self, words, script=b''):
+        """A run for each allocation of the words' own run: with that one refused, and with it and all later ones."""
+        for number in range(1, self.run(words, script).asked + 1):
+            for how in (ALONE, 'REFUSE_FROM'):
+                yield how, number, self.run(words, script, **{how: number})
 
     def runs(self, words, script=b''):
-        """A run for each allocation of the words' own run: with that one refused, and with it and all later ones."""
-        _, asked = self.run(words, script)
-        for number in range(1, asked + 1):
-            for how in (ALONE, 'REFUSE_FROM'):
-                yield how, number, self.run(words, script, **{how: number})[0]
+        """The results of these runs."""
+        for how, number, run in self.each(words, script):
+            yield how, number, run.result
 
 
 @contextlib.contextmanager
