@@ -1,39 +1,27 @@
 -- Each handle of an object is in a cell that the census tells of, or in the bag of the desk that closes.
 use Rattle.std.proofs.Common.{◌≡◌, ◌≢◌, ℕ, zero, suc, ◌+◌, ◌-◌, ◌<◌, ◌≤◌, ◌==◌, Bool, true, false, cond, Option}
-use Rattle.std.proofs.Common.{None, Some, List, [], ◌∷◌, ◌++◌, map, length, refl, sym, ap, subst, ◌∙◌, inl, inr, ⊎_elim}
+use Rattle.std.proofs.Common.{None, Some, List, [], ◌∷◌, ◌++◌, map, length, refl, sym, ap, ◌∙◌, inl, inr, ⊎_elim}
 use Rattle.std.proofs.Common.{arith, eq-eqb, ne_eqb, length-append, nat_lt, lt-ltb, le-ltb}
 use Rattle.std.proofs.lemmas.Bool.{cases_eq, cases_lt, cond-true, cond-false}
 use Rattle.std.proofs.lemmas.List.Elements.{filter-append}
 use Rattle.std.specs.List.{filter}
-use Rattle.control_word.proofs.history.Allowances.{allowed}
-use Rattle.control_word.proofs.history.Formation.{formed}
-use Rattle.control_word.proofs.history.Kept.{cells_led}
-use Rattle.control_word.proofs.history.Legal.{held_busy, sound}
-use Rattle.control_word.proofs.history.Sole.{alone}
 use Rattle.control_word.proofs.history.Soundness.{Formed, IsBusy, Sound}
 use Rattle.control_word.proofs.lists.Sums.{sum_zero}
-use Rattle.control_word.proofs.lists.Tallies.{num_has, tally_append, tally_cons}
+use Rattle.control_word.proofs.lists.Tallies.{tally_append, tally_cons}
 use Rattle.control_word.proofs.words.Banks.{sum_all, sum_set}
 use Rattle.control_word.proofs.words.Funds.{cell_busy, member_busy}
 use Rattle.control_word.specs.Handles.{empty, handle, same_kind}
-use Rattle.control_word.specs.Histories.{IsLegal, leads}
-use Rattle.control_word.specs.State.{Has, Held, InShape, Object, Opening, State, bag, common, count, handles, held, in_cells}
-use Rattle.control_word.specs.State.{kind_of_free, kind_of_member, members, sum_below, tally, upto, weak, weak_number}
+use Rattle.control_word.specs.State.{Has, Held, InShape, Object, Opening, State, bag, common, handles, in_cells}
+use Rattle.control_word.specs.State.{kind_of_free, kind_of_member, members, sum_below, tally, upto, weak_number}
 use Rattle.control_word.specs.Words.{blocks_of, owned_bits}
-use Rattle.control_word.specs.declared.event.Entry.{Entry}
 use Rattle.control_word.specs.declared.handle.Handle.{Handle}
 use Rattle.control_word.specs.declared.handle.Kind.{Kind}
 use Rattle.control_word.specs.declared.handle.Kind.TheVariants.{Owner, Weak}
 use Rattle.control_word.specs.declared.place.Place.{Place}
 use Rattle.control_block.specs.Census.{CensusNow}
 use Rattle.control_block.specs.Desks.{by_block}
-use Rattle.control_block.specs.Holders.{TellsCells, TellsHolders, block_holders, free_cell, free_holders, frees_in, holders_of, if_holds}
+use Rattle.control_block.specs.Holders.{TellsCells, block_holders, free_cell, free_holders, frees_in, holders_of, if_holds}
 use Rattle.control_block.specs.Holders.{many_of, member_cell, member_holders, owned_at}
-use Rattle.control_block.specs.Inside.{IsDesk, desk_now}
-use Rattle.control_block.specs.Plays.{known}
-use Rattle.control_block.specs.Rule.{opening_of}
-use Rattle.control_block.specs.declared.desk.Desk.TheInside.{Inside}
-use Rattle.control_block.proofs.CellWords.{shared_led}
 use Rattle.control_block.specs.declared.cell_calls.CellAt.{CellAt}
 
 -- lists of one or none
@@ -114,7 +102,7 @@ module _ (z : Opening) (s : State) (fine : Sound z s) (b : ℕ) where
       ∙ ((λ i. cond (same_kind k m) (cond (sym e i) 1 0) 0) ∙ sym (tally_one k m b (blocks_of s q) p))
 
   -- all hands are the desk's
-  in_bag : (k : Kind) (d : ℕ) (l : List Held) → ((x : Held) → Has x l → x.desk ≡ d)
+  pub in_bag : (k : Kind) (d : ℕ) (l : List Held) → ((x : Held) → Has x l → x.desk ≡ d)
       → ((x : Held) (q : ℕ) → Has x l → x.handle.object ≡ Some q → IsBusy s q)
       → tally k (s.latest b) (map (λ (x : Held). x.handle) l)
       ≡ tally k b (map (λ (x : Held). by_block (blocks_of s) x.handle) (filter (λ (x : Held). x.desk == d) l))
@@ -270,7 +258,7 @@ module _ (z : Opening) (s : State) (fine : Sound z s) (b : ℕ) where
         (λ none. let rest = sum_all z.blocks (below n) (below (suc n)) (λ j lt. same_below n j (λ e. omega arith)) in omega arith)
         (cases_lt 0 (of_object n))
 
-    in_all_cells : tally k (s.latest b) (in_cells s) ≡ many_of k (holders_of c b)
+    pub in_all_cells : tally k (s.latest b) (in_cells s) ≡ many_of k (holders_of c b)
     in_all_cells =
         let all = sum_all z.blocks (below (suc s.made)) (λ j. of_object (s.latest (suc j)))
         (λ j lt. sym (is_below (suc s.made) j (let m = fine.latest_made (suc j) in omega arith))) in
@@ -285,57 +273,3 @@ module _ (z : Opening) (s : State) (fine : Sound z s) (b : ℕ) where
           in_objects (suc s.made),
           by_block_sum (suc s.made),
         )
-
-module _ {V : Type 0} where
-  module _ (z : Opening) (h : List (Entry V)) (legal : IsLegal z h) (d : ℕ)
-      (whole : (leads z h).allowance d ≡ z.allowance) where
-    -- only the desk that has the whole allowance has handles
-    hands_mine : (x : Held) → Has x (leads z h).hands → x.desk ≡ d
-    hands_mine x has =
-        let s = leads z h in let t = allowed z h legal in
-        let some' = num_has (λ (y : Held). y.desk == x.desk) x s.hands has (eq-eqb x.desk x.desk refl) in
-        let room = t.rooms x.desk in
-        alone z h legal d x.desk whole (
-          ⊎_elim (λ lt. lt) (λ le. absurd (let n = t.beyond x.desk le in omega arith)) (cases_lt x.desk s.names),
-          go (s.joined x.desk) refl,
-          omega arith,
-        )
-      where
-        go : (t : Bool) → (leads z h).joined x.desk ≡ t → (leads z h).joined x.desk ≡ false
-        go false e = e
-        go true e =
-            absurd (let some' = num_has (λ (y : Held). y.desk == x.desk) x (leads z h).hands has (eq-eqb x.desk x.desk refl) in
-            let room = (allowed z h legal).rooms x.desk in let n = (allowed z h legal).spent x.desk e in omega arith)
-
-    hands_busy : (x : Held) (q : ℕ) → Has x (leads z h).hands → x.handle.object ≡ Some q → IsBusy (leads z h) q
-    hands_busy x q has e =
-        let s = leads z h in
-        held_busy z s x.desk q x.handle.kind x.handle.place (sound z h legal)
-        (subst (λ o. Has (held x.desk (handle x.handle.kind o x.handle.place)) s.hands) e has)
-
-    pub each_held : (k : Kind) (b : ℕ) (c : CensusNow) → 0 < b → TellsCells (leads z h) c
-        → (c.blocks ≡ z.blocks) × (c.shared_cells ≡ (leads z h).shared) × (frees_in c ≡ (leads z h).cells)
-        → tally k ((leads z h).latest b) (handles (leads z h))
-        ≡ many_of k (holders_of c b)
-        + tally k b (map (λ (x : Held). by_block (blocks_of (leads z h)) x.handle) (bag (leads z h) d))
-    each_held k b c pos tells sized =
-        let s = leads z h in let fine = sound z h legal in
-        let hands = in_bag z s fine b k d s.hands hands_mine hands_busy in
-        let cells = in_all_cells z s fine b k c (formed z h legal) tells pos sized in
-        omega (arith, tally_append k (s.latest b) (map (λ (x : Held). x.handle) s.hands) (in_cells s))
-
-  pub tells_holders : (d : Inside V) → IsDesk d
-      → (known d.seat.me.0).allowance d.seat.me.0.view.name ≡ d.seat.me.0.shape.allowance
-      → (b : ℕ) (c : CensusNow) → 0 < b → TellsCells (known d.seat.me.0) c
-      → (c.blocks ≡ d.seat.me.0.shape.blocks) × (c.shared_cells ≡ d.seat.me.0.shape.shared_cells)
-      × (frees_in c ≡ d.seat.me.0.shape.shared_cells + d.seat.me.0.shape.weak_cells)
-      → TellsHolders (desk_now d) b c
-  unfolding count weak
-  tells_holders d is whole b c pos tells sized =
-      let v = d.seat.me.0 in let z = opening_of v.shape in let h = v.view.seen in
-      let sized' : (c.blocks ≡ z.blocks) × (c.shared_cells ≡ (leads z h).shared) × (frees_in c ≡ (leads z h).cells) =
-      (sized.0, sized.1 ∙ sym (shared_led z h), sized.2 ∙ sym (cells_led z h)) in
-      record {
-        owners = each_held z h is.legal v.view.name whole Owner b c pos tells sized';
-        weaks = each_held z h is.legal v.view.name whole Weak b c pos tells sized';
-      }

@@ -56,3 +56,4 @@ pub mod SlotLists
 pub mod HandleLists
 pub mod HolderLists
 pub mod Holders
+pub mod ClosingHolders

@@ -12,7 +12,7 @@ use Rattle.control_block.specs.Plays.{known}
 use Rattle.control_block.specs.Rule.{opening_of}
 use Rattle.control_block.proofs.ClosedCells.{census_of, tells_cells}
 use Rattle.control_block.proofs.Closing.{exact_counts, nothing_ends, tells_of}
-use Rattle.control_block.proofs.Holders.{tells_holders}
+use Rattle.control_block.proofs.ClosingHolders.{tells_holders}
 use Rattle.control_block.proofs.parting.close.close.Goals as goal
 
 pub returns-clause-census : goal.returns-clause-census
