@@ -40,7 +40,7 @@ fn prune<R: Wait>(
     (all, vacant, observers.prune(rt, domain, desk))
 }
 
-// Subjects 10, 30 and 20 get observers, and 20 ends: prunes before and after that, and one more.
+// Subjects 10, 20 and 30 get observers, and 20 ends: prunes before and after that, and one more.
 fn three<R: Wait>(
     rt: &R,
     domain: &Domain<u64>,
@@ -58,18 +58,18 @@ fn three<R: Wait>(
     ensures desk { IsSameDesk desk.old desk.new }
 {
     let ten = subject(domain, desk, 10)?;
-    attach(rt, domain, desk, observers, &ten);
     let Some(thirty) = subject(domain, desk, 30) else {
         spend(rt, domain, desk, ten, pile);
         return None;
     };
-    attach(rt, domain, desk, observers, &thirty);
     let Some(twenty) = subject(domain, desk, 20) else {
         spend(rt, domain, desk, thirty, pile);
         spend(rt, domain, desk, ten, pile);
         return None;
     };
+    attach(rt, domain, desk, observers, &ten);
     attach(rt, domain, desk, observers, &twenty);
+    attach(rt, domain, desk, observers, &thirty);
     let living = prune(rt, domain, desk, observers);
     spend(rt, domain, desk, twenty, pile);
     let ended = prune(rt, domain, desk, observers);
@@ -101,17 +101,18 @@ fn three_within<R: Wait>(rt: &R, alloc: Global, allowance: u32) -> Option<(Seen,
 #[test]
 fn a_node_goes_when_its_subject_has_ended(rt: HostRuntime) -> Result<(), Fail> {
     let (living, ended, pruned) = three_within(&rt, rt.alloc(), 9).ok_or("memory")?;
-    assert_eq!(rt; living, (Some(203010), 0, Ok(0)));
+    assert_eq!(rt; living, (Some(302010), 0, Ok(0)));
     assert_eq!(rt; ended, (Some(3010), 0, Ok(1)));
     assert_eq!(rt; pruned, (Some(3010), 2, Ok(0)));
     Ok(())
 }
 
+/// With three subjects in hand five are free, so that no observer is attached either.
 #[test]
 fn six_handles_must_be_free_to_prune(rt: HostRuntime) -> Result<(), Fail> {
     let (living, ended, pruned) = three_within(&rt, rt.alloc(), 8).ok_or("memory")?;
-    assert_eq!(rt; living, (None, 1, Err(Refusal::Limit)));
-    assert_eq!(rt; ended, (Some(3010), 2, Ok(0)));
-    assert_eq!(rt; pruned, (Some(3010), 2, Ok(0)));
+    assert_eq!(rt; living, (None, 3, Err(Refusal::Limit)));
+    assert_eq!(rt; ended, (Some(0), 4, Ok(0)));
+    assert_eq!(rt; pruned, (Some(0), 4, Ok(0)));
     Ok(())
 }
