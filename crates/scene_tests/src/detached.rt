@@ -75,6 +75,34 @@ fn take_out<R: Wait>(
     ((of_child, of_root), parent)
 }
 
+// A child with this value is left to its parent, where it is wanted.
+fn grow_where<R: Wait>(
+    rt: &R,
+    domain: &Domain<u64>,
+    desk: &mut Desk<u64>,
+    scene: &mut Scene<u64>,
+    parent: &Shared,
+    value: u64,
+    is_wanted: bool,
+    pile: &mut Pile<u64>,
+)
+    requires domain { Belongs desk.old domain.now }
+    requires scene { Serves domain.now scene.old × (scene.old.endings.items ≡ []) }
+    requires pile { Serves domain.now pile.old × (pile.old.endings.items ≡ []) }
+    requires settled { endings_of desk.old ≡ 0 }
+    requires holds { Holds desk.old Owner parent.now.block parent.now.place }
+    ensures scene { Serves domain.now scene.new × (scene.new.endings.items ≡ []) }
+    ensures pile { Serves domain.now pile.new × (pile.new.endings.items ≡ []) }
+    ensures settled { endings_of desk.new ≡ 0 }
+    ensures desk { IsSameDesk desk.old desk.new }
+    ensures bag { bag_of desk.new ≡ bag_of desk.old }
+    ensures held { desk.new.held ≡ desk.old.held }
+{
+    if is_wanted {
+        grow(rt, domain, desk, scene, parent, value, pile);
+    }
+}
+
 // A root 1 gets the children 2, 3 and 4, of which this one is taken out.
 fn family<R: Wait>(
     rt: &R,
@@ -94,22 +122,12 @@ fn family<R: Wait>(
     ensures desk { IsSameDesk desk.old desk.new }
 {
     let root = subject(domain, desk, 1)?;
-    for older in 2..value {
-        grow(rt, domain, desk, scene, &root, older, pile);
-    }
+    grow_where(rt, domain, desk, scene, &root, 2, value > 2, pile);
+    grow_where(rt, domain, desk, scene, &root, 3, value > 3, pile);
     match scene.add_child(rt, domain, desk, &root, [value, 0, 0, 0], value) {
         Ok(child) => {
-            for younger in value..4 {
-                grow(
-                    rt,
-                    domain,
-                    desk,
-                    scene,
-                    &root,
-                    younger.wrapping_add(1),
-                    pile,
-                );
-            }
+            grow_where(rt, domain, desk, scene, &root, 3, value < 3, pile);
+            grow_where(rt, domain, desk, scene, &root, 4, value < 4, pile);
             let taken = take_out(rt, domain, desk, scene, &root, &child, pile);
             let values = tear_down(rt, alloc, domain, desk, scene, root, pile);
             let vacant = desk.stock();

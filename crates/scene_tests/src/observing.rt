@@ -76,7 +76,8 @@ pub(crate) fn subject(domain: &Domain<u64>, desk: &mut Desk<u64>, field: u64) ->
     ensures desk { IsSameDesk desk.old desk.new }
     ensures bag { IfSome result (λ h. bag_of desk.new ≡ with_handle Owner h.block h.place (bag_of desk.old)) }
     ensures holds { IfSome result (λ h. Holds desk.new Owner h.block h.place) }
-    ensures none { IfNone result (bag_of desk.new ≡ bag_of desk.old) }
+    ensures more { IfSome result (λ _. desk.new.held ≡ desk.old.held + 1) }
+    ensures none { IfNone result ((bag_of desk.new ≡ bag_of desk.old) × (desk.new.held ≡ desk.old.held)) }
 {
     match make(domain, desk, [field, 0, 0, 0], false, field) {
         Ok(subject) => Some(subject),

@@ -1,7 +1,9 @@
 //! Nodes whose subject has ended go out of the observers.
 ghost use Rattle.std.specs.Prelude.{◌≡◌, []};
+ghost use Rattle.control_word.specs.declared.handle.Kind.TheVariants.{Owner};
 ghost use Rattle.control_block.specs.Desks.{Belongs, IsSameDesk, bag_of, endings_of};
 ghost use Rattle.control_block.specs.Own.{IsSole};
+ghost use Rattle.shared_handle.specs.Calls.{Holds};
 ghost use Rattle.scene_structures.specs.Stacks.{Serves, StandsIn};
 
 use crate::observing::{attach, subject, told};
@@ -10,7 +12,7 @@ use control_block::desk::Desk;
 use control_block::domain::Domain;
 use control_word::Refusal;
 use scene_structures::Observers;
-use shared_handle::Pile;
+use shared_handle::{Pile, Shared};
 use std::alloc::Global;
 use std::sync::Wait;
 use std::test::Fail;
@@ -40,47 +42,96 @@ fn prune<R: Wait>(
     (all, vacant, observers.prune(rt, domain, desk))
 }
 
-// Subjects 10, 20 and 30 get observers, and 20 ends: prunes before and after that, and one more.
+// What three prunes see: while all subjects live, when 20 has ended, and once more.
+type Prunes = (Seen, Seen, Seen);
+
+// Subjects 10, 20 and 30 get observers in this order, and 20 ends.
+fn with_twenty<R: Wait>(
+    rt: &R,
+    domain: &Domain<u64>,
+    desk: &mut Desk<u64>,
+    observers: &mut Observers<u64>,
+    ten: &Shared,
+    thirty: &Shared,
+    pile: &mut Pile<u64>,
+) -> Option<Prunes>
+    requires domain { Belongs desk.old domain.now }
+    requires stands { StandsIn observers.old domain.now }
+    requires pile { Serves domain.now pile.old × (pile.old.endings.items ≡ []) }
+    requires settled { endings_of desk.old ≡ 0 }
+    requires sole { IsSole desk.old }
+    requires ten { Holds desk.old Owner ten.now.block ten.now.place }
+    requires thirty { Holds desk.old Owner thirty.now.block thirty.now.place }
+    ensures stands { StandsIn observers.new domain.now }
+    ensures pile { Serves domain.now pile.new × (pile.new.endings.items ≡ []) }
+    ensures settled { endings_of desk.new ≡ 0 }
+    ensures desk { IsSameDesk desk.old desk.new }
+    ensures bag { bag_of desk.new ≡ bag_of desk.old }
+    ensures held { desk.new.held ≡ desk.old.held }
+{
+    let twenty = subject(domain, desk, 20)?;
+    attach(rt, domain, desk, observers, ten);
+    attach(rt, domain, desk, observers, &twenty);
+    attach(rt, domain, desk, observers, thirty);
+    let living = prune(rt, domain, desk, observers);
+    spend(rt, domain, desk, twenty, pile);
+    let ended = prune(rt, domain, desk, observers);
+    let pruned = prune(rt, domain, desk, observers);
+    Some((living, ended, pruned))
+}
+
+// The same with a subject 30 of its own.
+fn with_thirty<R: Wait>(
+    rt: &R,
+    domain: &Domain<u64>,
+    desk: &mut Desk<u64>,
+    observers: &mut Observers<u64>,
+    ten: &Shared,
+    pile: &mut Pile<u64>,
+) -> Option<Prunes>
+    requires domain { Belongs desk.old domain.now }
+    requires stands { StandsIn observers.old domain.now }
+    requires pile { Serves domain.now pile.old × (pile.old.endings.items ≡ []) }
+    requires settled { endings_of desk.old ≡ 0 }
+    requires sole { IsSole desk.old }
+    requires ten { Holds desk.old Owner ten.now.block ten.now.place }
+    ensures stands { StandsIn observers.new domain.now }
+    ensures pile { Serves domain.now pile.new × (pile.new.endings.items ≡ []) }
+    ensures settled { endings_of desk.new ≡ 0 }
+    ensures desk { IsSameDesk desk.old desk.new }
+    ensures bag { bag_of desk.new ≡ bag_of desk.old }
+    ensures held { desk.new.held ≡ desk.old.held }
+{
+    let thirty = subject(domain, desk, 30)?;
+    let seen = with_twenty(rt, domain, desk, observers, ten, &thirty, pile);
+    spend(rt, domain, desk, thirty, pile);
+    seen
+}
+
+// The same with a subject 10 of its own.
 fn three<R: Wait>(
     rt: &R,
     domain: &Domain<u64>,
     desk: &mut Desk<u64>,
     observers: &mut Observers<u64>,
     pile: &mut Pile<u64>,
-) -> Option<(Seen, Seen, Seen)>
+) -> Option<Prunes>
     requires domain { Belongs desk.old domain.now }
     requires stands { StandsIn observers.old domain.now }
-    requires serves { Serves domain.now pile.old }
+    requires pile { Serves domain.now pile.old × (pile.old.endings.items ≡ []) }
     requires settled { endings_of desk.old ≡ 0 }
     requires sole { IsSole desk.old }
-    requires empty { pile.old.endings.items ≡ [] }
-    ensures empty { pile.new.endings.items ≡ [] }
+    ensures pile { pile.new.endings.items ≡ [] }
     ensures desk { IsSameDesk desk.old desk.new }
 {
     let ten = subject(domain, desk, 10)?;
-    let Some(thirty) = subject(domain, desk, 30) else {
-        spend(rt, domain, desk, ten, pile);
-        return None;
-    };
-    let Some(twenty) = subject(domain, desk, 20) else {
-        spend(rt, domain, desk, thirty, pile);
-        spend(rt, domain, desk, ten, pile);
-        return None;
-    };
-    attach(rt, domain, desk, observers, &ten);
-    attach(rt, domain, desk, observers, &twenty);
-    attach(rt, domain, desk, observers, &thirty);
-    let living = prune(rt, domain, desk, observers);
-    spend(rt, domain, desk, twenty, pile);
-    let ended = prune(rt, domain, desk, observers);
-    let pruned = prune(rt, domain, desk, observers);
-    spend(rt, domain, desk, thirty, pile);
+    let seen = with_thirty(rt, domain, desk, observers, &ten, pile);
     spend(rt, domain, desk, ten, pile);
-    Some((living, ended, pruned))
+    seen
 }
 
 // The same in a domain of six blocks, with this allowance.
-fn three_within<R: Wait>(rt: &R, alloc: Global, allowance: u32) -> Option<(Seen, Seen, Seen)> {
+fn three_within<R: Wait>(rt: &R, alloc: Global, allowance: u32) -> Option<Prunes> {
     let (domain, mut desk) = opened(alloc, 6, allowance)?;
     let Ok(mut observers) = Observers::new(alloc, &domain, 0) else {
         shut(domain, desk);
