@@ -1,5 +1,5 @@
 -- What is told of a run's end, line after line.
-use Rattle.std.proofs.Common.{◌≡◌, ℕ, zero, suc, ◌+◌, ◌<◌, length, get_or, Bool, false, List, [], ◌∷◌, ◌++◌, Result, Ok, Err, Option}
+use Rattle.std.proofs.Common.{◌≡◌, ℕ, zero, suc, ◌+◌, ◌<◌, length, get_or, Bool, false, List, [], ◌∷◌, ◌++◌, Ok, Err, Option}
 use Rattle.std.proofs.Common.{Some, None, refl, sym, ap}
 use Rattle.std.proofs.Common.{subst, ◌∙◌, arith}
 use Rattle.std.specs.List.{flat_map}
@@ -7,7 +7,6 @@ use Rattle.std.specs.Prelude.{slice_index_or}
 use Rattle.std.proofs.lemmas.List.{append-nil}
 use Rattle.control_word.specs.declared.counts.Counts.{Counts}
 use Rattle.control_word.specs.State.{State}
-use Rattle.script_text.specs.Drafts.{ScriptView}
 use Rattle.script_text.specs.Grammar.{ended}
 use Rattle.script_text.specs.declared.fault.Fault.{Fault}
 use Rattle.script_stepper.specs.Runs.{IsRun}
@@ -24,7 +23,9 @@ use Rattle.owner_graph.specs.Rows.{row_at}
 use Rattle.owner_graph.proofs.Stepping.{same_at}
 use Rattle.std.specs.Global.{Vec}
 use Rattle.leak_report.specs.Left.{IsLeftText, TellsOf}
-use Rattle.leak_report.specs.Lines.{all_lines, held_at, held_lines_if, holder_lines, left_lines, left_text, listing}
+use Rattle.leak_report.specs.Circles.{circles}
+use Rattle.leak_report.specs.Lines.{Findings, all_lines, held_at, held_lines_if, holder_lines, left_lines, left_text, listing}
+use Rattle.leak_report.specs.Lines.{ties_at}
 
 -- lines of one number more
 pub numbers_then : (f : ℕ → List (List ℕ)) (n : ℕ) (a b c : List ℕ) → b ≡ a ++ ended (flat_map f (from 1 n)) → c ≡ b ++ ended (f (n + 1))
@@ -52,18 +53,25 @@ pub none_then : (shared : ℕ) (hs : List Holding) (kept : List Bool) (s : State
 none_then shared hs kept s number a none =
     sym (append-nil a) ∙ ap (λ (o : Option Counts). a ++ ended (held_lines_if shared hs kept number o)) none
 
--- the totals come last
-pub all_then : (u : Scene) (kept : List Bool) (shared blocks made over : ℕ) (b c : List ℕ) → shared ≡ u.extent.shape.shared_cells
-    → blocks ≡ u.extent.shape.blocks → made ≡ made_in u.history → over ≡ ended_in u.history
-    → b ≡ [] ++ ended (listing shared (held_at u) kept blocks (state_in u)) → c ≡ b ++ ended (totals_text made over ∷ [])
-    → c ≡ ended (all_lines kept u)
-all_then u kept shared blocks made over b c few all one two p q =
-    lines_then (listing shared (held_at u) kept blocks (state_in u)) (totals_text made over ∷ []) [] b c p q
-    ∙ ap (λ (n : ℕ). ended (listing n (held_at u) kept blocks (state_in u) ++ totals_text made over ∷ [])) few
-    ∙ ap (λ (n : ℕ). ended (listing u.extent.shape.shared_cells (held_at u) kept n (state_in u) ++ totals_text made over ∷ [])) all
-    ∙ ap (λ (n : ℕ). ended (listing u.extent.shape.shared_cells (held_at u) kept u.extent.shape.blocks (state_in u) ++ totals_text n over ∷ [])) one
-    ∙ ap (λ (n : ℕ). ended (listing u.extent.shape.shared_cells (held_at u) kept u.extent.shape.blocks (state_in u)
-    ++ totals_text (made_in u.history) n ∷ [])) two
+-- the circles come after the blocks, and the totals last
+pub all_then : (u : Scene) (f : Findings) (found : List Holding) (shared blocks made over : ℕ) (b c d : List ℕ)
+    → shared ≡ u.extent.shape.shared_cells → blocks ≡ u.extent.shape.blocks → made ≡ made_in u.history → over ≡ ended_in u.history
+    → found ≡ ties_at f u → b ≡ [] ++ ended (listing shared (held_at u) f.kept blocks (state_in u))
+    → c ≡ b ++ ended (circles shared found f.cuts blocks) → d ≡ c ++ ended (totals_text made over ∷ []) → d ≡ ended (all_lines f u)
+all_then u f found shared blocks made over b c d few all one two ties p q r =
+    lines_then (told shared found blocks) (totals_text made over ∷ []) [] c d
+    (lines_then (listing shared (held_at u) f.kept blocks (state_in u)) (circles shared found f.cuts blocks) [] b c p q) r
+    ∙ ap (λ (n : ℕ). text n found blocks made over) few
+    ∙ ap (λ (n : ℕ). text u.extent.shape.shared_cells found n made over) all
+    ∙ ap (λ (n : ℕ). text u.extent.shape.shared_cells found u.extent.shape.blocks n over) one
+    ∙ ap (λ (n : ℕ). text u.extent.shape.shared_cells found u.extent.shape.blocks (made_in u.history) n) two
+    ∙ ap (λ (l : List Holding). text u.extent.shape.shared_cells l u.extent.shape.blocks (made_in u.history) (ended_in u.history)) ties
+  where
+    told : ℕ → List Holding → ℕ → List (List ℕ)
+    told n l m = listing n (held_at u) f.kept m (state_in u) ++ circles n l f.cuts m
+
+    text : ℕ → List Holding → ℕ → ℕ → ℕ → List ℕ
+    text n l m x y = ended (told n l m ++ totals_text x y ∷ [])
 
 -- what was answered may be forgotten
 pub forgotten : (leaks : Bool) (fault : Fault) (bytes list text : List ℕ) → IsRun (IsLeftText (Ok leaks)) bytes list text

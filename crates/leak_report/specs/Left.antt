@@ -9,8 +9,10 @@ use Rattle.script_text.specs.Grammar.{ended}
 use Rattle.script_stepper.specs.Ends.{IsRunOut}
 use Rattle.step_threads.specs.Scenes.{Scene, state_in}
 use Rattle.step_core.specs.Totals.{census_of}
+use Rattle.owner_graph.specs.Knots.{KnotsAre}
 use Rattle.owner_graph.specs.Owners.{IsKept}
-use Rattle.leak_report.specs.Lines.{all_lines, held_at}
+use Rattle.owner_graph.specs.Ties.{AreCuts}
+use Rattle.leak_report.specs.Lines.{Findings, all_lines, held_at, ties_at}
 
 -- a path of owners leads to the block from a free cell
 abbrev pub IsKeptAt : Scene → ℕ → Type 0
@@ -31,11 +33,17 @@ pub record MarksKept (c : Scene) (kept : List Bool) : Type 0 where
   pub size : length kept ≡ c.extent.shape.blocks + 1
   pub marks : (b : ℕ) → b ≤ c.extent.shape.blocks → slice_index_or kept b false ≡ true ↔ IsKeptAt c b
 
+-- what was found is so: what is kept, the knots, and which of the owners that tie one cut it
+pub record AreFound (c : Scene) (f : Findings) : Type 0 where
+  pub kept : MarksKept c f.kept
+  pub knots : KnotsAre c.extent.shape.shared_cells c.extent.shape.blocks (held_at c) f.knots
+  pub cuts : AreCuts c.extent.shape.shared_cells c.extent.shape.blocks (held_at c) (ties_at f c) f.cuts
+
 -- the text tells what is left at a scene, and whether something is leaked
 pub record TellsOf (c : Scene) (leaks : Bool) (text : List ℕ) : Type 0 where
-  pub kept : List Bool
-  pub marked : MarksKept c kept
-  pub says : text ≡ ended (all_lines kept c)
+  pub findings : Findings
+  pub found : AreFound c findings
+  pub says : text ≡ ended (all_lines findings c)
   pub leaks_is : Leaks leaks c
 
 -- whether something is leaked, where that was answered

@@ -1,2 +1,4 @@
+pub mod Cells
+pub mod Circles
 pub mod Left
 pub mod Lines

@@ -1,11 +1,9 @@
 -- The lines that tell what is left, each without its line feed. All of it is own.
-use Rattle.std.specs.Prelude.{ℕ, ◌-◌, ◌==◌, ◌++◌, Bool, cond, List, [], ◌∷◌, codes, decimal, nat_lt}
+use Rattle.std.specs.Prelude.{ℕ, ◌++◌, Bool, cond, List, [], ◌∷◌, codes}
 use Rattle.std.specs.Prelude.{Option, Some, None, slice_index_or, false}
 use Rattle.std.specs.List.{flat_map}
 use Rattle.control_word.specs.declared.counts.Counts.{Counts}
 use Rattle.control_word.specs.State.{State}
-use Rattle.step_table.specs.declared.cell_deed.Cell.{Cell}
-use Rattle.step_table.specs.declared.cell_deed.Cell.TheVariants.{Free, Member}
 use Rattle.step_threads.specs.Scenes.{Scene, state_in}
 use Rattle.step_threads.specs.Stocks.{from}
 use Rattle.step_core.specs.Totals.{census_of, ended_in, made_in}
@@ -14,15 +12,9 @@ use Rattle.owner_graph.specs.declared.holding.Holding.{Holding}
 use Rattle.holders.specs.Holdings.{all_held}
 use Rattle.owner_graph.specs.Owners.{is_owner}
 use Rattle.owner_graph.specs.Rows.{held_on}
-
--- a member's name
-abbrev pub member_text : ℕ → List ℕ
-member_text member = cond (member == 0) (codes "first") (cond (member == 1) (codes "next") (codes "up"))
-
--- a cell's word in a script, but for the block in place of a name before the dot
-abbrev pub cell_text : ℕ → Cell → List ℕ
-cell_text shared (Free n) = cond (nat_lt n shared) (codes "s" ++ decimal n) (codes "w" ++ decimal (n - shared))
-cell_text shared (Member b member) = decimal b.0 ++ codes "." ++ member_text member
+use Rattle.owner_graph.specs.Ties.{ties}
+use Rattle.leak_report.specs.Cells.{cell_text}
+use Rattle.leak_report.specs.Circles.{circles}
 
 abbrev pub kind_text : Bool → List ℕ
 kind_text is_owner = cond is_owner (codes "owner") (codes "weak")
@@ -62,8 +54,23 @@ listing shared hs kept blocks s = flat_map (left_lines shared hs kept s) (from 1
 abbrev pub held_at : Scene → List Holding
 held_at c = all_held (state_in c) c.extent.shape.blocks
 
--- all lines of what is left at a scene, where these blocks are marked as kept
-abbrev pub all_lines : List Bool → Scene → List (List ℕ)
-all_lines kept c =
-    listing c.extent.shape.shared_cells (held_at c) kept c.extent.shape.blocks (state_in c)
+-- what was found of the owners among them: which blocks are kept, the least block of each one's knot, and the owners that
+-- cut one
+pub record Findings : Type 0 where
+  pub kept : List Bool
+  pub knots : List ℕ
+  pub cuts : List Holding
+
+abbrev pub findings : List Bool → List ℕ → List Holding → Findings
+findings kept knots cuts = record { kept = kept; knots = knots; cuts = cuts }
+
+-- the owners at a scene that tie knots of leaked blocks
+abbrev pub ties_at : Findings → Scene → List Holding
+ties_at f c = ties c.extent.shape.shared_cells f.kept f.knots (held_at c)
+
+-- all lines of what is left at a scene, where this was found
+abbrev pub all_lines : Findings → Scene → List (List ℕ)
+all_lines f c =
+    listing c.extent.shape.shared_cells (held_at c) f.kept c.extent.shape.blocks (state_in c)
+    ++ circles c.extent.shape.shared_cells (ties_at f c) f.cuts c.extent.shape.blocks
     ++ totals_text (made_in c.history) (ended_in c.history) ∷ []

@@ -6,9 +6,10 @@ ghost use Rattle.step_core.specs.Worlds.{scene};
 ghost use Rattle.step_threads.specs.Scenes.{state_in};
 ghost use Rattle.owner_graph.specs.Owners.{IsAmong, IsKept};
 ghost use Rattle.owner_graph.specs.Rows.{held_on, row_at};
-ghost use Rattle.leak_report.specs.Left.{Leaks, MarksKept};
-ghost use Rattle.leak_report.specs.Lines.{held_at};
+ghost use Rattle.leak_report.specs.Left.{AreFound, Leaks, MarksKept};
+ghost use Rattle.leak_report.specs.Lines.{findings, held_at, ties_at};
 
+use crate::knotting::{Circles, find_circles};
 use control_word::Block;
 use control_word::limits::{SCRIPT_SHARED_CELLS, SCRIPT_WEAK_CELLS};
 use holders::holdings;
@@ -36,11 +37,12 @@ fn marks_of(
     }
 }
 
-/// What all cells hold at a run's end, by the block that it is on, and which blocks are kept.
+/// What all cells hold at a run's end, by the block that it is on, which blocks are kept, and the circles of the others.
 #[derive(Drop)]
 pub(crate) struct Found {
     pub rows: Vec<Vec<Holding>>,
     pub kept: Vec<bool>,
+    pub circles: Circles,
 }
 
 /// Finds what is held at a run's end.
@@ -48,7 +50,16 @@ pub(crate) fn find(alloc: Global, end: &End) -> Result<Found, AllocError>
     ensures size { IfOk result (λ found. length found.rows.items ≡ end.now.blocks + 1) }
     ensures rows { IfOk result (λ found. (block : ℕ)
         → row_at found.rows.items block ≡ held_on (held_at (scene end.now.world)) block) }
-    ensures kept { IfOk result (λ found. MarksKept (scene end.now.world) found.kept.items) }
+    ensures sizes { IfOk result (λ found. (length found.circles.tie_rows.items ≡ end.now.blocks + 1)
+        × (length found.circles.cut_rows.items ≡ end.now.blocks + 1)) }
+    ensures tie_rows { IfOk result (λ found. (block : ℕ)
+        → row_at found.circles.tie_rows.items block ≡ held_on found.circles.ties.items block) }
+    ensures cut_rows { IfOk result (λ found. (block : ℕ)
+        → row_at found.circles.cut_rows.items block ≡ held_on found.circles.cuts.items block) }
+    ensures ties { IfOk result (λ found. found.circles.ties.items ≡ ties_at (findings found.kept.items
+        found.circles.knots.items found.circles.cuts.items) (scene end.now.world)) }
+    ensures found { IfOk result (λ found. AreFound (scene end.now.world) (findings found.kept.items
+        found.circles.knots.items found.circles.cuts.items)) }
 {
     let held = holdings(
         alloc,
@@ -58,7 +69,18 @@ pub(crate) fn find(alloc: Global, end: &End) -> Result<Found, AllocError>
     )?;
     let kept = marks_of(alloc, SCRIPT_SHARED_CELLS, end.blocks, held.as_slice())?;
     let rows = by_block(alloc, end.blocks, held.as_slice())?;
-    Ok(Found { rows, kept })
+    let circles = find_circles(
+        alloc,
+        SCRIPT_SHARED_CELLS,
+        end.blocks,
+        held.as_slice(),
+        kept.as_slice(),
+    )?;
+    Ok(Found {
+        rows,
+        kept,
+        circles,
+    })
 }
 
 /// Whether a block is neither vacant nor marked.

@@ -2,7 +2,9 @@
 #![tactic(auto)]
 
 mod answering;
+mod circles;
 mod finding;
+mod knotting;
 mod lines;
 mod listing;
 

@@ -2,8 +2,8 @@
 ghost use Rattle.std.specs.Prelude.{◌≡◌, ◌∷◌, ◌++◌, [], OnOk, string_bytes};
 ghost use Rattle.std.specs.List.{flat_map};
 ghost use Rattle.script_text.specs.Canonical.{AddsLines};
-ghost use Rattle.leak_report.specs.Lines.{cell_text, holder_lines, holder_text, kept_text, kind_text, left_text};
-ghost use Rattle.leak_report.specs.Lines.{member_text};
+ghost use Rattle.leak_report.specs.Cells.{cell_text, member_text};
+ghost use Rattle.leak_report.specs.Lines.{holder_lines, holder_text, kept_text, kind_text, left_text};
 
 use control_word::Counts;
 use owner_graph::{Holding, is_owner};
@@ -50,7 +50,7 @@ fn put_free(text: &mut String, shared: u32, number: u32) -> Result<(), AllocErro
 }
 
 /// Adds a cell's word.
-fn put_cell(text: &mut String, shared: u32, cell: Cell) -> Result<(), AllocError>
+pub(crate) fn put_cell(text: &mut String, shared: u32, cell: Cell) -> Result<(), AllocError>
     ensures { OnOk result (string_bytes text.new ≡ string_bytes text.old ++ cell_text shared cell) }
 {
     match cell {

@@ -8,6 +8,7 @@ ghost use Rattle.owner_graph.specs.Rows.{held_on, row_at};
 ghost use Rattle.leak_report.specs.Left.{TellsOf};
 ghost use Rattle.leak_report.specs.Lines.{held_at, left_lines, listing};
 
+use crate::circles::put_circles;
 use crate::finding::{Found, find, leaks};
 use crate::lines::{put_block, put_holders};
 use control_word::Block;
@@ -84,6 +85,7 @@ pub(crate) fn left_at(alloc: Global, end: &End) -> Result<Left, AllocError>
         &found,
         &mut text,
     )?;
+    put_circles(SCRIPT_SHARED_CELLS, end.blocks, &found.circles, &mut text)?;
     put_totals(
         &mut text,
         u64::from(end.world.made()),

@@ -2,7 +2,6 @@
 use Rattle.std.proofs.Common.{ℕ, ◌+◌, Bool, true, false, cond, List, [], ◌∷◌, ◌++◌, arith}
 use Rattle.std.specs.Prelude.{All}
 use Rattle.std.proofs.lemmas.List.Elements.{All-cons, All-head, All-nil, All-tail}
-use Rattle.directed_graph.specs.declared.graph.Edge.{Edge}
 use Rattle.directed_graph.specs.Paths.{AreWithin, IsWithin}
 use Rattle.owner_graph.specs.declared.holding.Holding.{Holding}
 use Rattle.owner_graph.specs.Edges.{edge_of, owner_edges}

@@ -1,14 +1,14 @@
 -- Blocks of one knot, and cells that cut it.
-use Rattle.std.proofs.Common.{◌≡◌, ◌↔◌, inl, inr, ℕ, ◌+◌, ◌<◌, Bool, true, false, true≢false, List, [], ◌∷◌, ◌++◌, length}
-use Rattle.std.proofs.Common.{refl, sym, ap, subst, ◌∙◌, arith}
-use Rattle.std.specs.Prelude.{◌≤◌, IsTrue, slice_index_or}
+use Rattle.std.proofs.Common.{◌≡◌, ◌↔◌, ℕ, Bool, true, false, true≢false, List, [], ◌∷◌}
+use Rattle.std.proofs.Common.{refl, sym, subst, ◌∙◌, arith}
+use Rattle.std.specs.Prelude.{◌≤◌, IsTrue}
 use Rattle.step_table.specs.declared.cell_deed.Cell.{Cell}
 use Rattle.owner_graph.specs.declared.holding.Holding.{Holding}
 use Rattle.owner_graph.specs.Ends.{Ends, IsCut, without}
 use Rattle.owner_graph.specs.Fed.{marked}
 use Rattle.owner_graph.specs.Knots.{IsLeast, KeepEachOther, KnotsAre}
 use Rattle.owner_graph.specs.Labels.{at}
-use Rattle.owner_graph.specs.Owners.{IsOwnerPath, Leads, Owns}
+use Rattle.owner_graph.specs.Owners.{IsOwnerPath, Leads}
 
 module _ (shared : ℕ) (hs : List Holding) where
   further : (a x b : ℕ) (path : List ℕ) → IsOwnerPath shared hs a path x → Leads shared hs x b → Leads shared hs a b

@@ -1,11 +1,11 @@
 -- Labels that pass a look are the least blocks of knots.
-use Rattle.std.proofs.Common.{◌≡◌, ◌≢◌, inl, inr, ◌⊎◌, ℕ, zero, suc, ◌+◌, List, [], ◌∷◌, ◌++◌, refl, sym, ap, subst}
+use Rattle.std.proofs.Common.{◌≡◌, ◌≢◌, inl, inr, ◌⊎◌, ℕ, List, [], ◌∷◌, ◌++◌, refl, sym, subst}
 use Rattle.std.proofs.Common.{◌∙◌, arith}
 use Rattle.std.specs.Prelude.{◌≤◌, All}
 use Rattle.std.proofs.lemmas.List.Elements.{All-head, All-tail}
 use Rattle.owner_graph.specs.declared.holding.Holding.{Holding}
 use Rattle.owner_graph.specs.Owners.{IsAmong, IsOwnerPath, Leads, Owns}
-use Rattle.owner_graph.specs.Knots.{IsLeast, KeepEachOther}
+use Rattle.owner_graph.specs.Knots.{IsLeast}
 use Rattle.owner_graph.specs.Labels.{AreInner, AreRanked, InnerStep, at}
 use Rattle.owner_graph.specs.Labels.InnerStep.{Down, Up, Within}
 use Rattle.owner_graph.proofs.Backwards.{and_on}

@@ -8,3 +8,4 @@ pub mod Marking
 pub mod Owning
 pub mod RowLemmas
 pub mod Stepping
+pub mod TieLemmas

@@ -5,3 +5,4 @@ pub mod Knots
 pub mod Labels
 pub mod Owners
 pub mod Rows
+pub mod Ties

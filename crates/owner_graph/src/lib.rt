@@ -9,6 +9,7 @@ mod keeping;
 mod labels;
 mod looking;
 mod search;
+mod tying;
 
 pub use directed_graph::GraphError;
 pub use edges::is_owner;
@@ -17,3 +18,4 @@ pub use grouping::by_block;
 pub use holding::Holding;
 pub use keeping::{kept, knot};
 pub use labels::knots;
+pub use tying::{cuts, ties};

@@ -3,21 +3,23 @@ use Rattle.std.specs.Prelude.{string_bytes}
 use Rattle.script_text.specs.Grammar.{ended}
 use Rattle.step_core.specs.Worlds.{scene}
 use Rattle.step_threads.specs.Scenes.{state_in}
-use Rattle.leak_report.specs.Lines.{held_at, listing}
+use Rattle.leak_report.specs.Lines.{findings, held_at, listing}
 use Rattle.leak_report.proofs.Telling.{all_then}
 use Rattle.leak_report.proofs.listing.left_at.Goals as goal
 
 pub returns : goal.returns
 returns c =
     let u = scene c.args.end.now.world in
-    let kept = c.in_ok-found.found.kept.items in record {
-      kept = kept;
-      marked = c.in_ok-found.ensures.kept;
+    let found = c.in_ok-found.found in
+    let f = findings found.kept.items found.circles.knots.items found.circles.cuts.items in record {
+      findings = f;
+      found = c.in_ok-found.ensures.found;
       says =
-          all_then u kept 128 c.args.end.now.blocks c.from.result c.from-2.result (string_bytes c.put_listing.new.text)
-          (string_bytes c.put_totals.new.text) (sym c.args.end.now.shared) c.args.end.now.all
-          (c.from.ensures ∙ c.made.ensures) (c.from-2.ensures ∙ c.ended.ensures)
-          (c.in_ok-put_listing.ensures ∙ ap (λ (t : List ℕ). t ++ ended (listing 128 (held_at u) kept c.args.end.now.blocks (state_in u)))
-          c.new-text.ensures.bytes) c.in_ok-put_totals.ensures;
+          all_then u f found.circles.ties.items 128 c.args.end.now.blocks c.from.result c.from-2.result (string_bytes c.put_listing.new.text)
+          (string_bytes c.put_circles.new.text) (string_bytes c.put_totals.new.text) (sym c.args.end.now.shared) c.args.end.now.all
+          (c.from.ensures ∙ c.made.ensures) (c.from-2.ensures ∙ c.ended.ensures) c.in_ok-found.ensures.ties
+          (c.in_ok-put_listing.ensures
+          ∙ ap (λ (t : List ℕ). t ++ ended (listing 128 (held_at u) found.kept.items c.args.end.now.blocks (state_in u)))
+          c.new-text.ensures.bytes) c.in_ok-put_circles.ensures c.in_ok-put_totals.ensures;
       leaks_is = c.leaks-leaks.ensures;
     }

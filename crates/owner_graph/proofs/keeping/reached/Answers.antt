@@ -1,6 +1,6 @@
-use Rattle.std.proofs.Common.{rules, ◌≡◌, ◌∙◌, ◌+◌, ℕ, List, ap, subst, sym}
+use Rattle.std.proofs.Common.{rules, ◌≡◌, ◌∙◌, ◌+◌, ℕ, List, ap}
 use Rattle.directed_graph.specs.declared.graph.Edge.{Edge}
-use Rattle.directed_graph.specs.Paths.{AreWithin, leading}
+use Rattle.directed_graph.specs.Paths.{leading}
 use Rattle.owner_graph.specs.Edges.{owner_edges}
 use Rattle.owner_graph.proofs.Owning.{leads}
 use Rattle.owner_graph.proofs.keeping.reached.Goals as goal

@@ -1,4 +1,4 @@
-use Rattle.std.proofs.Common.{◌≡◌, ◌+◌, ℕ, arith, subst, sym}
+use Rattle.std.proofs.Common.{◌+◌, ℕ, arith, subst, sym}
 use Rattle.std.specs.Prelude.{◌≤◌}
 use Rattle.owner_graph.specs.Knots.{IsLeast}
 use Rattle.owner_graph.proofs.Stepping.{at_pushed}

@@ -1,4 +1,3 @@
-use Rattle.std.proofs.Common.{◌≡◌}
 use Rattle.owner_graph.proofs.Stepping.{ends_more, own_label}
 use Rattle.owner_graph.proofs.looking.add_ends.Goals as goal
 

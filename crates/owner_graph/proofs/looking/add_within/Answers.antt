@@ -1,4 +1,4 @@
-use Rattle.std.proofs.Common.{◌≡◌, ◌∙◌, ap, sym, arith}
+use Rattle.std.proofs.Common.{◌∙◌, ap, sym}
 use Rattle.owner_graph.specs.Labels.{at}
 use Rattle.owner_graph.proofs.Stepping.{not_zero, within_more}
 use Rattle.owner_graph.proofs.looking.add_within.Goals as goal

@@ -1,4 +1,3 @@
-use Rattle.std.proofs.Common.{ℕ}
 use Rattle.std.specs.Prelude.{◌≤◌}
 use Rattle.owner_graph.specs.Labels.{at}
 use Rattle.owner_graph.proofs.Stepping.{low_at, next_low}

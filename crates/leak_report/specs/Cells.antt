@@ -1,0 +1,13 @@
+-- How a cell is written. All of it is own.
+use Rattle.std.specs.Prelude.{ℕ, ◌-◌, ◌==◌, ◌++◌, cond, List, codes, decimal, nat_lt}
+use Rattle.step_table.specs.declared.cell_deed.Cell.{Cell}
+use Rattle.step_table.specs.declared.cell_deed.Cell.TheVariants.{Free, Member}
+
+-- a member's name
+abbrev pub member_text : ℕ → List ℕ
+member_text member = cond (member == 0) (codes "first") (cond (member == 1) (codes "next") (codes "up"))
+
+-- a cell's word in a script, but for the block in place of a name before the dot
+abbrev pub cell_text : ℕ → Cell → List ℕ
+cell_text shared (Free n) = cond (nat_lt n shared) (codes "s" ++ decimal n) (codes "w" ++ decimal (n - shared))
+cell_text shared (Member b member) = decimal b.0 ++ codes "." ++ member_text member

@@ -1,0 +1,60 @@
+//! Which leaked blocks own each other in a circle, and which owners cut one.
+ghost use Rattle.std.specs.Prelude.{◌≡◌, ◌+◌, ℕ, All, IfOk, length};
+ghost use Rattle.owner_graph.specs.Knots.{KnotsAre};
+ghost use Rattle.owner_graph.specs.Owners.{IsAmong};
+ghost use Rattle.owner_graph.specs.Rows.{held_on, row_at};
+ghost use Rattle.owner_graph.specs.Ties.{AreCuts, ties};
+
+use owner_graph::{Holding, by_block, cuts, knots, ties};
+use std::alloc::{AllocError, Global};
+
+/// The least block of each one's knot, the owners that tie leaked blocks and those that cut a knot, and the same by the
+/// least blocks of their knots.
+#[derive(Drop)]
+pub(crate) struct Circles {
+    pub knots: Vec<usize>,
+    pub ties: Vec<Holding>,
+    pub cuts: Vec<Holding>,
+    pub tie_rows: Vec<Vec<Holding>>,
+    pub cut_rows: Vec<Vec<Holding>>,
+}
+
+/// Finds the knots of blocks that aren't kept, and what cuts them.
+pub(crate) fn find_circles(
+    alloc: Global,
+    shared: u32,
+    blocks: u16,
+    holdings: &[Holding],
+    kept: &[bool],
+) -> Result<Circles, AllocError>
+    requires { All (IsAmong blocks) holdings.now }
+    ensures knots { IfOk result (λ c. KnotsAre shared blocks holdings.now c.knots.items) }
+    ensures ties { IfOk result (λ c. c.ties.items ≡ ties shared kept.now c.knots.items holdings.now) }
+    ensures cuts { IfOk result (λ c. AreCuts shared blocks holdings.now c.ties.items c.cuts.items) }
+    ensures sizes { IfOk result (λ c. (length c.tie_rows.items ≡ blocks + 1)
+        × (length c.cut_rows.items ≡ blocks + 1)) }
+    ensures tie_rows { IfOk result (λ c. (block : ℕ)
+        → row_at c.tie_rows.items block ≡ held_on c.ties.items block) }
+    ensures cut_rows { IfOk result (λ c. (block : ℕ)
+        → row_at c.cut_rows.items block ≡ held_on c.cuts.items block) }
+{
+    let knots = knots(alloc, shared, blocks, holdings)?;
+    let ties = ties(alloc, shared, blocks, holdings, kept, knots.as_slice())?;
+    let cuts = cuts(
+        alloc,
+        shared,
+        blocks,
+        holdings,
+        knots.as_slice(),
+        ties.as_slice(),
+    )?;
+    let tie_rows = by_block(alloc, blocks, ties.as_slice())?;
+    let cut_rows = by_block(alloc, blocks, cuts.as_slice())?;
+    Ok(Circles {
+        knots,
+        ties,
+        cuts,
+        tie_rows,
+        cut_rows,
+    })
+}

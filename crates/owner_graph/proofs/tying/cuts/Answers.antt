@@ -1,0 +1,30 @@
+use Rattle.std.proofs.Common.{◌∙◌, [], List, subst, sym, true≢false}
+use Rattle.std.specs.Prelude.{All}
+use Rattle.std.proofs.lemmas.List.Elements.{All-nil, All-push}
+use Rattle.owner_graph.specs.declared.holding.Holding.{Holding}
+use Rattle.owner_graph.specs.Owners.{IsAmong}
+use Rattle.owner_graph.specs.Ties.{AreCuts}
+use Rattle.owner_graph.specs.Ties.AreCuts.{NoTies}
+use Rattle.owner_graph.proofs.TieLemmas.{cut_more, cut_no_more}
+use Rattle.owner_graph.proofs.tying.cuts.Goals as goal
+
+pub loop-tie-init : goal.loop-tie-init
+loop-tie-init c = (
+  subst (λ (l : List Holding). AreCuts c.args.shared c.args.blocks c.args.holdings.now [] l) (sym c.new-cuts.ensures.items) NoTies,
+  subst (All (IsAmong c.args.blocks)) (sym c.new-cuts.ensures.items) (All-nil (IsAmong c.args.blocks)),
+)
+
+pub loop-tie-preserved : goal.loop-tie-preserved
+loop-tie-preserved c = (
+  cut_more c.args.shared c.args.blocks c.args.holdings.now c.args.ties.now c.loop-tie.cuts.items c.push.new.self.items c.loop-tie.tie-index _
+      c.loop-tie-test.true c.loop-tie.invariant.0 c.in_ok-push.ensures.items (c.in_ok-is_cut.ensures.0 c.if-not-branch.false),
+  subst (All (IsAmong c.args.blocks)) (sym c.in_ok-push.ensures.items) (All-push (IsAmong c.args.blocks) c.loop-tie.cuts.items _ c.loop-tie.invariant.1
+      (c.requires.ties c.loop-tie.tie-index _ c.loop-tie-test.true)),
+)
+
+pub loop-tie-preserved-then-not-branch : goal.loop-tie-preserved-then-not-branch
+loop-tie-preserved-then-not-branch c = (
+  cut_no_more c.args.shared c.args.blocks c.args.holdings.now c.args.ties.now c.loop-tie.cuts.items c.loop-tie.tie-index _
+      c.loop-tie-test.true c.loop-tie.invariant.0 (λ is. true≢false (sym (c.in_ok-is_cut.ensures.1 is) ∙ c.if-not-branch.true)),
+  c.loop-tie.invariant.1,
+)

@@ -1,0 +1,9 @@
+use Rattle.std.proofs.Common.{take}
+use Rattle.std.specs.Prelude.{All}
+use Rattle.owner_graph.specs.Owners.{IsAmong}
+use Rattle.owner_graph.specs.Ties.{AreCuts}
+use Rattle.owner_graph.proofs.tying.cuts.Given as goal
+
+abbrev pub invariant-loop-tie : goal.invariant-loop-tie
+invariant-loop-tie l =
+    AreCuts l.shared l.blocks l.holdings (take l.tie-index l.ties) l.cuts.items × All (IsAmong l.blocks) l.cuts.items
