@@ -1,5 +1,5 @@
 //! Numbers that may be no greater: of cells, of a place's block and field, of handles, and of objects.
-use crate::returned::{made, made_null};
+use crate::returned::{made, made_null, refused};
 use crate::shapes::{alone, shape};
 use crate::slots::{OWNER, TO, WEAK, cell_calls};
 use control_word::{Block, Place, Refusal};
@@ -22,11 +22,19 @@ fn places<R: Abort, H: Home>(rt: &R, table: &mut HandleTable<'_, u64, H>) {
             field,
         })
     };
-    assert_eq!(rt; table.alias(OWNER, at(1, 0), TO), Ok(()));
-    assert_eq!(rt; table.alias(OWNER, at(0, 0), TO), Err(Fault::Place));
+    refused(rt, table.alias(OWNER, at(1, 0), TO).err(), None);
+    refused(
+        rt,
+        table.alias(OWNER, at(0, 0), TO).err(),
+        Some(Fault::Place),
+    );
     assert_eq!(rt; table.place(TO), Ok(at(1, 0)));
-    assert_eq!(rt; table.alias(OWNER, at(65_535, 3), TO), Ok(()));
-    assert_eq!(rt; table.alias(OWNER, at(65_535, 4), TO), Err(Fault::Place));
+    refused(rt, table.alias(OWNER, at(65_535, 3), TO).err(), None);
+    refused(
+        rt,
+        table.alias(OWNER, at(65_535, 4), TO).err(),
+        Some(Fault::Place),
+    );
     assert_eq!(rt; table.place(TO), Ok(at(65_535, 3)));
 }
 
@@ -36,7 +44,7 @@ fn vacate<R: Abort + Wait, H: Home>(
     table: &mut HandleTable<'_, u64, H>,
     why: Option<Fault>,
 ) {
-    assert_eq!(rt; table.reset(TO).err(), why.map(|_| Fault::Vacant));
+    refused(rt, table.reset(TO).err(), why.map(|_| Fault::Vacant));
     table.settle(rt);
 }
 
@@ -46,44 +54,52 @@ fn takes<R: Abort + Wait, H: Home>(
     table: &mut HandleTable<'_, u64, H>,
     why: Option<Fault>,
 ) {
-    assert_eq!(rt; made(table, TO), why);
+    refused(rt, made(table, TO), why);
     vacate(rt, table, why);
-    assert_eq!(rt; made_null(table, TO), why);
+    refused(rt, made_null(table, TO), why);
     vacate(rt, table, why);
-    assert_eq!(rt; table.empty(TO).err(), why);
+    refused(rt, table.empty(TO).err(), why);
     vacate(rt, table, why);
-    assert_eq!(rt; table.empty_weak(TO).err(), why);
+    refused(rt, table.empty_weak(TO).err(), why);
     vacate(rt, table, why);
-    assert_eq!(rt; table.copy(OWNER, TO).err(), why);
+    refused(rt, table.copy(OWNER, TO).err(), why);
     vacate(rt, table, why);
-    assert_eq!(rt; table.downgrade(OWNER, TO).err(), why);
+    refused(rt, table.downgrade(OWNER, TO).err(), why);
     vacate(rt, table, why);
-    assert_eq!(rt; table.alias(OWNER, None, TO).err(), why);
+    refused(rt, table.alias(OWNER, None, TO).err(), why);
     vacate(rt, table, why);
-    assert_eq!(rt; table.shared_from_this(OWNER, TO).err(), why);
+    refused(rt, table.shared_from_this(OWNER, TO).err(), why);
     vacate(rt, table, why);
-    assert_eq!(rt; table.weak_from_this(OWNER, TO).err(), why);
+    refused(rt, table.weak_from_this(OWNER, TO).err(), why);
     vacate(rt, table, why);
-    assert_eq!(rt; table.lock(rt, WEAK, TO).err(), why);
+    refused(rt, table.lock(rt, WEAK, TO).err(), why);
     vacate(rt, table, why);
-    assert_eq!(rt; table.upgrade(rt, WEAK, TO).err(), why);
+    refused(rt, table.upgrade(rt, WEAK, TO).err(), why);
     vacate(rt, table, why);
-    assert_eq!(rt; table.load(rt, Cell::Shared(0), TO).err(), why);
+    refused(rt, table.load(rt, Cell::Shared(0), TO).err(), why);
     vacate(rt, table, why);
-    assert_eq!(rt; table.load(rt, Cell::Weak(0), TO).err(), why);
+    refused(rt, table.load(rt, Cell::Weak(0), TO).err(), why);
     vacate(rt, table, why);
 }
 
 /// There is one vacant block: a second object finds none.
 fn blocks<R: Abort, H: Home>(rt: &R, table: &mut HandleTable<'_, u64, H>) {
-    assert_eq!(rt; made(table, TO), None);
-    assert_eq!(rt; made(table, SPARE), Some(Fault::Call(Refusal::Full)));
-    assert_eq!(rt; made_null(table, SPARE), Some(Fault::Call(Refusal::Full)));
+    refused(rt, made(table, TO), None);
+    refused(rt, made(table, SPARE), Some(Fault::Call(Refusal::Full)));
+    refused(
+        rt,
+        made_null(table, SPARE),
+        Some(Fault::Call(Refusal::Full)),
+    );
     assert!(rt; matches!(table.reset(TO), Ok(Gone::Last)));
-    assert_eq!(rt; made_null(table, SPARE), Some(Fault::Call(Refusal::Full)));
+    refused(
+        rt,
+        made_null(table, SPARE),
+        Some(Fault::Call(Refusal::Full)),
+    );
     assert_eq!(rt; table.end_next(), Some(1));
-    assert_eq!(rt; made_null(table, SPARE), None);
-    assert_eq!(rt; made(table, TO), Some(Fault::Call(Refusal::Full)));
+    refused(rt, made_null(table, SPARE), None);
+    refused(rt, made(table, TO), Some(Fault::Call(Refusal::Full)));
     assert!(rt; matches!(table.reset(SPARE), Ok(Gone::Last)));
     assert_eq!(rt; table.end_next(), Some(1));
 }
@@ -93,7 +109,7 @@ struct Limits;
 impl<R: Abort + Threads + Wait + Sync> Program<u64, R> for Limits {
     fn work<H: Home>(&self, rt: &R, _number: usize, table: &mut HandleTable<'_, u64, H>) {
         assert!(rt; table.make(OWNER, [7; 4], true, 7).is_ok());
-        assert_eq!(rt; table.downgrade(OWNER, WEAK), Ok(()));
+        refused(rt, table.downgrade(OWNER, WEAK).err(), None);
         cell_calls(rt, table, Cell::Shared(1), OWNER, None);
         cell_calls(rt, table, Cell::Weak(2), WEAK, None);
         cell_calls(rt, table, Cell::Shared(2), OWNER, Some(Fault::Cell));
@@ -101,9 +117,9 @@ impl<R: Abort + Threads + Wait + Sync> Program<u64, R> for Limits {
         places(rt, table);
         assert!(rt; table.reset(TO).is_ok());
         blocks(rt, table);
-        assert_eq!(rt; table.copy(OWNER, SPARE), Ok(()));
+        refused(rt, table.copy(OWNER, SPARE).err(), None);
         takes(rt, table, None);
-        assert_eq!(rt; table.copy(WEAK, LAST), Ok(()));
+        refused(rt, table.copy(WEAK, LAST).err(), None);
         takes(rt, table, Some(Fault::Call(Refusal::Limit)));
         assert_eq!(rt; table.use_count(OWNER), Ok(2));
     }

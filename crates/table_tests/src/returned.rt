@@ -1,6 +1,13 @@
 //! Why a call was refused that gives back what it got.
 use handle_table::{Fault, HandleTable, Home};
+use std::process::Abort;
 use std::sync::Wait;
+
+/// A call was refused for this, or for nothing. (That this is looked at in a function of its own keeps the proofs of
+/// those with many calls short.)
+pub(crate) fn refused<R: Abort>(rt: &R, told: Option<Fault>, why: Option<Fault>) {
+    assert_eq!(rt; told, why);
+}
 
 /// Why no object was made in the slot, where its value came back.
 pub(crate) fn made<H: Home>(table: &mut HandleTable<'_, u64, H>, to: usize) -> Option<Fault> {

@@ -1,5 +1,5 @@
 //! Every call with a slot: the last number and the next, a vacant slot, and one with a handle of the other kind.
-use crate::returned::{made, made_null, visited};
+use crate::returned::{made, made_null, refused, visited};
 use crate::shapes::{alone, shape};
 use handle_table::{Cell, Fault, HandleTable, Home, Program, SharedMember, run};
 use std::process::Abort;
@@ -30,21 +30,21 @@ fn targets<R: Abort + Wait, H: Home>(
     to: usize,
     why: Option<Fault>,
 ) {
-    assert_eq!(rt; made(table, to), why);
-    assert_eq!(rt; made_null(table, to), why);
-    assert_eq!(rt; table.empty(to).err(), why);
-    assert_eq!(rt; table.empty_weak(to).err(), why);
-    assert_eq!(rt; table.copy(OWNER, to).err(), why);
-    assert_eq!(rt; table.downgrade(OWNER, to).err(), why);
-    assert_eq!(rt; table.alias(OWNER, None, to).err(), why);
-    assert_eq!(rt; table.shared_from_this(OWNER, to).err(), why);
-    assert_eq!(rt; table.weak_from_this(OWNER, to).err(), why);
-    assert_eq!(rt; table.lock(rt, WEAK, to).err(), why);
-    assert_eq!(rt; table.upgrade(rt, WEAK, to).err(), why);
-    assert_eq!(rt; table.load(rt, SHARED, to).err(), why);
-    assert_eq!(rt; table.load(rt, WATCHED, to).err(), why);
-    assert_eq!(rt; table.copy(WEAK, TO), Ok(()));
-    assert_eq!(rt; table.move_to(TO, to).err(), why);
+    refused(rt, made(table, to), why);
+    refused(rt, made_null(table, to), why);
+    refused(rt, table.empty(to).err(), why);
+    refused(rt, table.empty_weak(to).err(), why);
+    refused(rt, table.copy(OWNER, to).err(), why);
+    refused(rt, table.downgrade(OWNER, to).err(), why);
+    refused(rt, table.alias(OWNER, None, to).err(), why);
+    refused(rt, table.shared_from_this(OWNER, to).err(), why);
+    refused(rt, table.weak_from_this(OWNER, to).err(), why);
+    refused(rt, table.lock(rt, WEAK, to).err(), why);
+    refused(rt, table.upgrade(rt, WEAK, to).err(), why);
+    refused(rt, table.load(rt, SHARED, to).err(), why);
+    refused(rt, table.load(rt, WATCHED, to).err(), why);
+    refused(rt, table.copy(WEAK, TO).err(), None);
+    refused(rt, table.move_to(TO, to).err(), why);
     table.settle(rt);
 }
 
@@ -55,15 +55,15 @@ fn handles<R: Abort, H: Home>(
     at: usize,
     why: Option<Fault>,
 ) {
-    assert_eq!(rt; table.copy(at, TO).err(), why);
-    assert_eq!(rt; table.use_count(at).err(), why);
-    assert_eq!(rt; table.owner_before(at, OWNER).err(), why);
-    assert_eq!(rt; table.owner_before(OWNER, at).err(), why);
-    assert_eq!(rt; table.move_to(at, TO).err(), why);
+    refused(rt, table.copy(at, TO).err(), why);
+    refused(rt, table.use_count(at).err(), why);
+    refused(rt, table.owner_before(at, OWNER).err(), why);
+    refused(rt, table.owner_before(OWNER, at).err(), why);
+    refused(rt, table.move_to(at, TO).err(), why);
     if why.is_none() {
-        assert_eq!(rt; table.move_to(TO, at), Ok(()));
+        refused(rt, table.move_to(TO, at).err(), None);
     }
-    assert_eq!(rt; table.reset(at).err(), why);
+    refused(rt, table.reset(at).err(), why);
 }
 
 /// Calls on an owner.
@@ -73,15 +73,15 @@ fn owners<R: Abort + Wait, H: Home>(
     of: usize,
     why: Option<Fault>,
 ) {
-    assert_eq!(rt; table.downgrade(of, TO).err(), why);
-    assert_eq!(rt; table.alias(of, None, TO).err(), why);
-    assert_eq!(rt; table.shared_from_this(of, TO).err(), why);
-    assert_eq!(rt; table.weak_from_this(of, TO).err(), why);
-    assert_eq!(rt; table.read(of).err(), why);
-    assert_eq!(rt; table.place(of).err(), why);
-    assert_eq!(rt; table.same_place(of, OWNER).err(), why);
-    assert_eq!(rt; table.same_place(OWNER, of).err(), why);
-    assert_eq!(rt; visited(rt, table, of), why);
+    refused(rt, table.downgrade(of, TO).err(), why);
+    refused(rt, table.alias(of, None, TO).err(), why);
+    refused(rt, table.shared_from_this(of, TO).err(), why);
+    refused(rt, table.weak_from_this(of, TO).err(), why);
+    refused(rt, table.read(of).err(), why);
+    refused(rt, table.place(of).err(), why);
+    refused(rt, table.same_place(of, OWNER).err(), why);
+    refused(rt, table.same_place(OWNER, of).err(), why);
+    refused(rt, visited(rt, table, of), why);
     let first = Cell::Member {
         of,
         which: SharedMember::First,
@@ -103,9 +103,9 @@ fn weaks<R: Abort + Wait, H: Home>(
     at: usize,
     why: Option<Fault>,
 ) {
-    assert_eq!(rt; table.lock(rt, at, TO).err(), why);
-    assert_eq!(rt; table.upgrade(rt, at, TO).err(), why);
-    assert_eq!(rt; table.expired(at).err(), why);
+    refused(rt, table.lock(rt, at, TO).err(), why);
+    refused(rt, table.upgrade(rt, at, TO).err(), why);
+    refused(rt, table.expired(at).err(), why);
     into_cell(rt, table, WATCHED, WEAK, at, why);
 }
 
@@ -117,19 +117,23 @@ pub(crate) fn cell_calls<R: Abort + Wait, H: Home>(
     kind: usize,
     why: Option<Fault>,
 ) {
-    assert_eq!(rt; table.reaches(cell).err(), why);
-    assert_eq!(rt; table.load(rt, cell, TO).err(), why);
-    assert_eq!(rt; table.copy(kind, TO), Ok(()));
-    assert_eq!(rt; table.exchange(TO, cell).err(), why);
-    assert_eq!(rt; table.compare_exchange_strong(rt, cell, TO, TO).err(), why);
-    assert_eq!(rt; table.copy(kind, TO), Ok(()));
-    assert_eq!(rt; table.compare_exchange_weak(rt, cell, TO, TO).err(), why);
-    assert_eq!(rt; table.copy(kind, TO), Ok(()));
-    assert_eq!(rt; table.store(TO, cell).err(), why);
+    refused(rt, table.reaches(cell).err(), why);
+    refused(rt, table.load(rt, cell, TO).err(), why);
+    refused(rt, table.copy(kind, TO).err(), None);
+    refused(rt, table.exchange(TO, cell).err(), why);
+    refused(
+        rt,
+        table.compare_exchange_strong(rt, cell, TO, TO).err(),
+        why,
+    );
+    refused(rt, table.copy(kind, TO).err(), None);
+    refused(rt, table.compare_exchange_weak(rt, cell, TO, TO).err(), why);
+    refused(rt, table.copy(kind, TO).err(), None);
+    refused(rt, table.store(TO, cell).err(), why);
     if why.is_none() {
-        assert_eq!(rt; table.load(rt, cell, TO), Ok(()));
-        assert_eq!(rt; table.empty(TO), Ok(()));
-        assert_eq!(rt; emptied(rt, table, cell, kind), None);
+        refused(rt, table.load(rt, cell, TO).err(), None);
+        refused(rt, table.empty(TO).err(), None);
+        refused(rt, emptied(rt, table, cell, kind), None);
     }
 }
 
@@ -144,7 +148,7 @@ fn emptied<R: Abort + Wait, H: Home>(
         OWNER => table.empty(TO),
         _ => table.empty_weak(TO),
     };
-    assert_eq!(rt; empty, Ok(()));
+    refused(rt, empty.err(), None);
     table.store(TO, cell).err()
 }
 
@@ -157,25 +161,33 @@ fn into_cell<R: Abort + Wait, H: Home>(
     at: usize,
     why: Option<Fault>,
 ) {
-    assert_eq!(rt; table.copy(kind, TO), Ok(()));
-    assert_eq!(rt; table.compare_exchange_strong(rt, cell, at, TO).err(), why);
-    assert_eq!(rt; table.copy(kind, TO), Ok(()));
-    assert_eq!(rt; table.compare_exchange_weak(rt, cell, at, TO).err(), why);
+    refused(rt, table.copy(kind, TO).err(), None);
+    refused(
+        rt,
+        table.compare_exchange_strong(rt, cell, at, TO).err(),
+        why,
+    );
+    refused(rt, table.copy(kind, TO).err(), None);
+    refused(rt, table.compare_exchange_weak(rt, cell, at, TO).err(), why);
     if why.is_none() {
-        assert_eq!(rt; table.copy(kind, at), Ok(()));
+        refused(rt, table.copy(kind, at).err(), None);
     }
-    assert_eq!(rt; table.copy(kind, TO), Ok(()));
-    assert_eq!(rt; table.compare_exchange_strong(rt, cell, TO, at).err(), why);
+    refused(rt, table.copy(kind, TO).err(), None);
+    refused(
+        rt,
+        table.compare_exchange_strong(rt, cell, TO, at).err(),
+        why,
+    );
     if why.is_none() {
-        assert_eq!(rt; table.copy(kind, at), Ok(()));
+        refused(rt, table.copy(kind, at).err(), None);
     }
-    assert_eq!(rt; table.copy(kind, TO), Ok(()));
-    assert_eq!(rt; table.compare_exchange_weak(rt, cell, TO, at).err(), why);
+    refused(rt, table.copy(kind, TO).err(), None);
+    refused(rt, table.compare_exchange_weak(rt, cell, TO, at).err(), why);
     if why.is_none() {
-        assert_eq!(rt; table.copy(kind, at), Ok(()));
+        refused(rt, table.copy(kind, at).err(), None);
     }
-    assert_eq!(rt; table.exchange(at, cell).err(), why);
-    assert_eq!(rt; table.store(at, cell).err(), why);
+    refused(rt, table.exchange(at, cell).err(), why);
+    refused(rt, table.store(at, cell).err(), why);
 }
 
 struct Slots;
@@ -183,7 +195,7 @@ struct Slots;
 impl<R: Abort + Threads + Wait + Sync> Program<u64, R> for Slots {
     fn work<H: Home>(&self, rt: &R, _number: usize, table: &mut HandleTable<'_, u64, H>) {
         assert!(rt; table.make(OWNER, [7; 4], true, 7).is_ok());
-        assert_eq!(rt; table.downgrade(OWNER, WEAK), Ok(()));
+        refused(rt, table.downgrade(OWNER, WEAK).err(), None);
         owners(rt, table, NEXT, Some(Fault::Slot));
         owners(rt, table, LAST, Some(Fault::Vacant));
         owners(rt, table, WEAK, Some(Fault::Kind));
@@ -193,13 +205,13 @@ impl<R: Abort + Threads + Wait + Sync> Program<u64, R> for Slots {
         handles(rt, table, NEXT, Some(Fault::Slot));
         handles(rt, table, LAST, Some(Fault::Vacant));
         targets(rt, table, NEXT, Some(Fault::Slot));
-        assert_eq!(rt; table.reset(TO).err(), None);
+        refused(rt, table.reset(TO).err(), None);
         assert_eq!(rt; table.use_count(OWNER), Ok(1));
-        assert_eq!(rt; table.copy(OWNER, LAST), Ok(()));
+        refused(rt, table.copy(OWNER, LAST).err(), None);
         owners(rt, table, LAST, None);
-        assert_eq!(rt; table.copy(WEAK, LAST), Ok(()));
+        refused(rt, table.copy(WEAK, LAST).err(), None);
         weaks(rt, table, LAST, None);
-        assert_eq!(rt; table.copy(OWNER, LAST), Ok(()));
+        refused(rt, table.copy(OWNER, LAST).err(), None);
         handles(rt, table, LAST, None);
         targets(rt, table, LAST, None);
     }
