@@ -30,18 +30,18 @@ use Rattle.step_threads.specs.Rows.{Left}
 use Rattle.script_runner.specs.Calls as calls
 
 -- an owner that points into its own object is inside
-is_inside : (l : Slots) (i : ℕ) (q : Place) → slot l i ≡ Some (calls.pointer Owner q.block (Some q))
+pub is_inside : (l : Slots) (i : ℕ) (q : Place) → slot l i ≡ Some (calls.pointer Owner q.block (Some q))
     → inside (slot l i) ≡ Some (calls.pointer Owner q.block (Some q))
 is_inside l i q at =
     ap inside at
     ∙ cond-true (q.block.0 == q.block.0) (Some (calls.pointer Owner q.block (Some q))) None (eq-eqb q.block.0 q.block.0 refl)
 
-same_remains : (x y : Object) → x.fields ≡ y.fields → x.null ≡ y.null → remains x ≡ remains y
+pub same_remains : (x y : Object) → x.fields ≡ y.fields → x.null ≡ y.null → remains x ≡ remains y
 same_remains x y f m = ap (λ u. cond u ended.Null (ended.Fields x.fields)) m ∙ ap (λ u. cond y.null ended.Null (ended.Fields u)) f
 
 module _ {V : Type 0} where
   -- what is latest in a block where the desk has a handle, when its event comes
-  held_latest : (d e : DeskNow V) (v : Event V) (adds : Adds d v e) (k : Kind) (p : Option Place) (b : ℕ) → HasHandle d k p b
+  pub held_latest : (d e : DeskNow V) (v : Event V) (adds : Adds d v e) (k : Kind) (p : Option Place) (b : ℕ) → HasHandle d k p b
       → (calls.before V adds).latest b ≡ latest_of d b
   held_latest d e v adds k p b has =
       let z = opening_of d.shape in
@@ -53,7 +53,7 @@ module _ {V : Type 0} where
       ∙ (stays_the_latest z adds.between d.seen legal d.name adds.quiet o (inl (k, handle k (Some o) p, (mine.0, refl, refl), refl))).1
 
   -- what the object was made with, when the desk's event comes
-  same_object : (d e : DeskNow V) (v : Event V) (adds : Adds d v e) (k : Kind) (p : Option Place) (b : ℕ) → HasHandle d k p b
+  pub same_object : (d e : DeskNow V) (v : Event V) (adds : Adds d v e) (k : Kind) (p : Option Place) (b : ℕ) → HasHandle d k p b
       → let s = calls.before V adds in let x = s.object (s.latest b) in let y = object_in d b in
       (x.fields ≡ y.fields) × (x.enabled ≡ y.enabled) × (x.null ≡ y.null)
   same_object d e v adds k p b has =
@@ -158,7 +158,7 @@ module _ {V : Type 0} where
       (sym (same.1 ∙ on), ap (λ t. Some (event.WeakShare t (place_at q.block.0))) (sym o))
 
   -- what leaves by a slot's pointer is what the acts that leave the slot make
-  by_slot : (worth : Form → V) (s : State) (n : ℕ) (l : Slots) (a : Act) (i : ℕ) (last : Bool) (left : Option Ended) (v : Option (Event V))
+  pub by_slot : (worth : Form → V) (s : State) (n : ℕ) (l : Slots) (a : Act) (i : ℕ) (last : Bool) (left : Option Ended) (v : Option (Event V))
       → calls.LeavesSlot a l i → Leaves s (slot l i) last left v → Makes worth s n l a (Left last left) v
   by_slot worth s n l (act.Put k) i last left v at leaves = subst (λ j. Leaves s (slot l j) last left v) at leaves
   by_slot worth s n l (act.Leave k) i last left v at leaves = subst (λ j. Leaves s (slot l j) last left v) at leaves

@@ -3,3 +3,8 @@ pub mod Logs
 pub mod Laws
 pub mod Reports
 pub mod Telling
+pub mod Seats
+pub mod TableCalls
+pub mod EndCalls
+pub mod Goings
+pub mod CellCalls

@@ -2,6 +2,14 @@
 //! their desks' calls.
 ghost use Rattle.script_runner.specs.Calls.{Made, Copied, CopiedWeakly, Downgraded, Aliased, Locked, Counted};
 ghost use Rattle.script_runner.specs.Calls.{Expired, Read, GivenThis, GivenWeakThis, Gone, GoneWeakly};
+ghost use Rattle.script_runner.specs.TableCalls.{CopiesIn, DowngradesIn, AliasesIn, LocksIn, UpgradesIn};
+ghost use Rattle.script_runner.specs.TableCalls.{UpgradesNot, MakesIn, MakesNullIn, MakesNot, PutsIn, PutsIdle};
+ghost use Rattle.script_runner.specs.TableCalls.{EmptiesIn, ResetsIn, MovesIn, CountsIn, ExpiresIn, ReadsIn};
+ghost use Rattle.script_runner.specs.TableCalls.{ReadsNot, ThisIn, WeakThisIn, ThisNot, PlacesIn, AlikeIn};
+ghost use Rattle.script_runner.specs.TableCalls.{InOrder};
+ghost use Rattle.script_runner.specs.CellCalls.{ComparesIn, ExchangesIn, LoadsIn, OffersIn};
+ghost use Rattle.script_runner.specs.EndCalls.{RoundsIn};
+ghost use Rattle.script_runner.specs.Goings.{ActsOn, PassesOver};
 ghost use Rattle.script_runner.specs.Laws.{Begins, GoesOnByMark, GoesOnByCall, IsJoined, StaysJoined};
 
 /// A worker's lines and its desk's history, from the split to the end of the run: with the marks of acts that are no
@@ -31,13 +39,50 @@ pub fn desk_calls<V>()
     ensures gone_weakly { GoneWeakly V }
 {}
 
+/// Which calls of a handle table are which acts of a thread that has the table's first slots: a call makes the act's
+/// event, or none where the act is a mark, and the thread has then what the table has (own).
+pub fn table_calls<V>()
+    ensures copies { CopiesIn V }
+    ensures downgrades { DowngradesIn V }
+    ensures aliases { AliasesIn V }
+    ensures locks { LocksIn V }
+    ensures upgrades { UpgradesIn V }
+    ensures upgrades_not { UpgradesNot V }
+    ensures makes { MakesIn V }
+    ensures makes_null { MakesNullIn V }
+    ensures makes_not { MakesNot V }
+    ensures puts { PutsIn V }
+    ensures puts_idle { PutsIdle V }
+    ensures empties { EmptiesIn V }
+    ensures resets { ResetsIn V }
+    ensures moves { MovesIn V }
+    ensures counts { CountsIn V }
+    ensures expires { ExpiresIn V }
+    ensures reads { ReadsIn V }
+    ensures reads_not { ReadsNot V }
+    ensures this { ThisIn V }
+    ensures weak_this { WeakThisIn V }
+    ensures this_not { ThisNot V }
+    ensures places { PlacesIn V }
+    ensures alike { AlikeIn V }
+    ensures in_order { InOrder V }
+    ensures loads { LoadsIn V }
+    ensures exchanges { ExchangesIn V }
+    ensures offers { OffersIn V }
+    ensures compares { ComparesIn V }
+    ensures rounds { RoundsIn V }
+    ensures acts_on { ActsOn V }
+    ensures passes_over { PassesOver V }
+{}
+
 #[cfg(test)]
 mod tests {
-    use super::{desk_calls, worker_logs};
+    use super::{desk_calls, table_calls, worker_logs};
 
     #[test]
     fn laws_cost_nothing(_rt: HostRuntime) {
         worker_logs::<u64>();
         desk_calls::<u64>();
+        table_calls::<u64>();
     }
 }

@@ -1,0 +1,55 @@
+-- How a thread goes on by an act that its table made, and where an act is passed over.
+use Rattle.std.proofs.Common.{◌≡◌, ℕ, List, [], ◌∷◌, ◌++◌, Option, Some, None, refl, sym, ap, subst, ◌∙◌, inl, inr}
+use Rattle.std.proofs.lemmas.Bool.{cond-true}
+use Rattle.control_word.specs.declared.place.Block.{Block}
+use Rattle.script_runner.proofs.Ending.{by_event, by_mark, by_quiet}
+use Rattle.script_runner.specs.EndCalls.{Piled, Takes}
+use Rattle.script_runner.specs.Goings.{ActsOn, PassesOver, task}
+use Rattle.script_runner.specs.Logs.{Tells, told}
+use Rattle.script_runner.specs.Seats.{Begun, Done, shown}
+use Rattle.shared_handle.specs.declared.endings.Ending as pile
+use Rattle.step_threads.proofs.Courses.{settled_still}
+use Rattle.step_threads.specs.Courses.{Walk, idle, settled, slots_idle, taken_idle}
+use Rattle.step_threads.specs.Rows.{gone, row, said_by_row, with_end}
+use Rattle.step_threads.specs.declared.said.Said.{Said}
+
+module _ {V : Type 0} where
+  begun_piled : (k : ℕ) (xs ys : List (pile.Ending V)) (b : Option Block) → xs ≡ [] → Begun xs b ys → Piled k ys (with_end k b [])
+  begun_piled k xs ys None none same = same ∙ none
+  begun_piled k xs ys (Some b) none begun = (xs, begun.0, begun.1, sym begun.2, refl, begun.3, none)
+
+  pub acts_on : ActsOn V
+  acts_on worth m k t u taken a r todo none busy acts =
+      let l = shown m t.slots in
+      let y = row a l taken r in
+      let w : Walk = record { slots = l; taken = taken; endings = []; todo = task k a ∷ todo } in
+      let v : Walk = gone w k todo y in
+      let at : settled l taken [] (task k a ∷ todo) ≡ w = settled_still l taken [] (task k a) todo busy in
+      let goes : v ≡ settled (shown m u.slots) y.taken (with_end k y.ending []) todo =
+      ap (λ s. settled s y.taken (with_end k y.ending []) todo) (sym acts.slots) in
+      record {
+        endings = with_end k y.ending [];
+        piled = begun_piled k t.endings u.endings y.ending none acts.ends;
+        takes = λ log part n tells.
+            subst (λ q. Tells worth part n u.desk q (log ++ told (said_by_row k y))) goes
+            (did acts.done log part n (subst (λ q. Tells worth part n t.desk q log) at tells));
+      }
+    where
+      did : Done worth t.desk (shown m t.slots) a r u.desk → (log : List Said)
+          → Takes worth t.desk (record { slots = shown m t.slots; taken = taken; endings = []; todo = task k a ∷ todo }) log u.desk
+          (gone (record { slots = shown m t.slots; taken = taken; endings = []; todo = task k a ∷ todo }) k todo (row a (shown m t.slots) taken r))
+          (log ++ told (said_by_row k (row a (shown m t.slots) taken r)))
+      did (inl x) log =
+          by_mark worth t.desk u.desk x.0 _ _ log (said_by_row k (row a (shown m t.slots) taken r))
+          (record { reply = r; makes = x.1; says = refl; goes = refl })
+      did (inr x) log =
+          by_event worth t.desk u.desk x.0 x.1 _ _ log (said_by_row k (row a (shown m t.slots) taken r))
+          (record { reply = r; makes = x.2; says = refl; goes = refl })
+
+  pub passes_over : PassesOver V
+  passes_over worth m k t u taken a todo log quiet free same part n tells =
+      let l = shown m t.slots in
+      subst (λ q. Tells worth part n u.desk q log)
+      (cond-true (idle a l taken) (settled (slots_idle a l taken) (taken_idle a taken) [] todo) _ free
+      ∙ ap (λ s. settled s (taken_idle a taken) [] todo) (sym same))
+      (by_quiet worth t.desk u.desk quiet (settled l taken [] (task k a ∷ todo)) log part n tells)

@@ -1,0 +1,83 @@
+-- Which calls of a table on cells are which acts of a thread. Events name their sections in the model; the rest is own.
+use Rattle.std.specs.Prelude.{◌≡◌, ℕ, zero, suc, ◌<◌, Bool, None, Some, ◌+◌, true, false}
+use Rattle.std.specs.Prelude.{slice_get}
+use Rattle.atomic_cells.specs.declared.sites.SharedMember.TheVariants.{First, Next}
+use Rattle.control_block.specs.declared.handles.Held.{Held}
+use Rattle.handle_table.specs.Calls as calls
+use Rattle.handle_table.specs.Cells as cells
+use Rattle.handle_table.specs.Compares as compares
+use Rattle.handle_table.specs.Ends.{IsThere}
+use Rattle.handle_table.specs.Parts.{kind_of}
+use Rattle.handle_table.specs.Tables.{IsAt, TableNow}
+use Rattle.handle_table.specs.declared.cells.Cell.TheVariants as table
+use Rattle.handle_table.specs.declared.cells.Cell.{Cell}
+use Rattle.script_runner.specs.Seats.{Acts, IsHand, IsSeated, IsQuiet, Leaving, shown}
+use Rattle.step_table.specs.declared.form.Form.{Form}
+use Rattle.step_table.specs.declared.slot.Slot.{Slot}
+use Rattle.step_threads.specs.Courses.{idle, slots_idle}
+use Rattle.step_threads.specs.Programs.{IsIn, kind_at}
+use Rattle.step_threads.specs.Rows.{Came, Plain, Compared}
+use Rattle.step_threads.specs.declared.act.Act.TheVariants as act
+use Rattle.step_threads.specs.declared.call.CellName.TheVariants as cell
+use Rattle.step_threads.specs.declared.call.CellName.{CellName}
+
+-- the cell of a table that a script's cell is
+abbrev pub as_cell : CellName → Cell
+as_cell (cell.Shared n) = table.Shared n
+as_cell (cell.Weak n) = table.Weak n
+as_cell (cell.Member k zero) = table.Member k.0 First
+as_cell (cell.Member k (suc zero)) = table.Member k.0 Next
+as_cell (cell.Member k (suc (suc m))) = table.Up k.0
+
+-- the name of the object whose member the cell is, is one of so many
+abbrev pub IsOfName : ℕ → CellName → Type 0
+IsOfName n (cell.Member k m) = k.0 < n
+IsOfName n _ = Unit {0}
+
+module _ (V : Type 0) where
+  -- a copy of what a cell holds comes into the hand ([util.smartptr.atomic.shared], [util.smartptr.atomic.weak])
+  abbrev pub LoadsIn : Type 0
+  LoadsIn =
+      (worth : Form → V) (m hand : ℕ) (taken : Bool) (t u : TableNow V) (c : CellName)
+      → IsHand m hand t → IsSeated m hand u → IsIn t.desk.shape c → IsOfName m c
+      → cells.Loads t (as_cell c) hand u
+      → (x : Slot) × Acts worth m t taken (act.Load c) (Came x) u
+
+  -- what a slot has goes into a cell, and what that held comes into the slot
+  abbrev pub ExchangesIn : Type 0
+  ExchangesIn =
+      (worth : Form → V) (m i hand : ℕ) (taken : Bool) (t u : TableNow V) (c : CellName)
+      → IsSeated m hand t → IsSeated m hand u → i < hand → IsIn t.desk.shape c → IsOfName m c
+      → cells.Exchanges t i (as_cell c) u
+      → (x : Slot) × Acts worth m t taken (act.Exchange i c) (Came x) u
+
+  -- a copy of what a slot has is to go into a cell that is there
+  abbrev pub OffersIn : Type 0
+  OffersIn =
+      (worth : Form → V) (m i hand : ℕ) (taken : Bool) (t u : TableNow V) (c : CellName)
+      → IsHand m hand t → i < m → IsIn t.desk.shape c → IsOfName m c
+      → IsThere t (as_cell c) → (h : Held) → IsAt t i h → kind_of h ≡ kind_at c → calls.Copies t i hand u
+      → Acts worth m t taken (act.Offer i c) Plain u
+
+  -- What is in hand goes into a cell that is equivalent to slot k, and what the cell held leaves at once. To a thread
+  -- these are two acts: the comparison, by which it has what the cell held, and then it drops that, where it has an
+  -- object ([util.smartptr.atomic.shared], [util.smartptr.atomic.weak])
+  pub record ByCompare (worth : Form → V) (m k : ℕ) (t u : TableNow V) (c : CellName) (weak : Bool) : Type 0 where
+    pub between : TableNow V
+    pub held : Slot
+    pub compares : Acts worth m t true (act.Compare k c weak) (Compared true held) between
+    pub after : TableNow V
+    pub same : (after.desk ≡ u.desk) × (shown m after.slots ≡ shown m u.slots) × (after.endings ≡ u.endings)
+    pub drops : idle act.Drop (shown m between.slots) false ≡ false → Leaving worth m between false act.Drop after
+    pub passes : idle act.Drop (shown m between.slots) false ≡ true
+        → IsQuiet between.desk after.desk
+        × (shown m after.slots ≡ slots_idle act.Drop (shown m between.slots) false)
+        × (after.endings ≡ between.endings)
+
+  abbrev pub ComparesIn : Type 0
+  ComparesIn =
+      (worth : Form → V) (m k hand other : ℕ) (t u : TableNow V) (c : CellName) (weak : Bool)
+      → IsSeated m hand t → other + 1 ≡ hand → k < other → slice_get t.slots other ≡ Some None
+      → IsIn t.desk.shape c → IsOfName m c → compares.Compares weak t (as_cell c) k hand true u
+      → (idle (act.Compare k c weak) (shown m t.slots) true ≡ false)
+      × ByCompare worth m k t u c weak

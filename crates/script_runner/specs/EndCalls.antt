@@ -1,0 +1,65 @@
+-- How a thread goes on while objects end that its table was left to end, one on top of the other. All of it is own.
+use Rattle.std.specs.Prelude.{◌≡◌, ℕ, zero, suc, Bool, true, false, List, [], ◌∷◌, ◌++◌, Some, None}
+use Rattle.control_block.specs.Desks.{DeskNow, object_in}
+use Rattle.handle_table.specs.Tables.{TableNow}
+use Rattle.script_runner.specs.Logs.{Tells}
+use Rattle.script_runner.specs.Seats.{IsHand, shown}
+use Rattle.shared_handle.specs.Endings.{IsAllClear, IsUncleared}
+use Rattle.shared_handle.specs.Piles.{AllEnd, IsRound}
+use Rattle.shared_handle.specs.declared.endings.Ending as pile
+use Rattle.shared_handle.specs.declared.pile.Gone.TheVariants as gone
+use Rattle.shared_handle.specs.declared.pile.Round.TheVariants.{Cleared}
+use Rattle.shared_handle.specs.declared.pile.Round.{Round}
+use Rattle.step_table.specs.Deeds.{remains}
+use Rattle.step_table.specs.declared.form.Form.{Form}
+use Rattle.step_threads.specs.Courses.{Walk, settled}
+use Rattle.step_threads.specs.Programs.{Part}
+use Rattle.step_threads.specs.declared.act.Task.{Task}
+use Rattle.step_threads.specs.declared.ending.Ending.{Ending}
+use Rattle.step_threads.specs.declared.said.Said.{Said}
+
+module _ {V : Type 0} where
+  -- so many of the members of an object that ends are cleared, in their order
+  abbrev pub IsAtStage : pile.Ending V → ℕ → Type 0
+  IsAtStage x zero = IsUncleared x
+  IsAtStage x (suc zero) = (x.first ≡ true) × (x.next ≡ false) × (x.up ≡ false)
+  IsAtStage x (suc (suc zero)) = (x.first ≡ true) × (x.next ≡ true) × (x.up ≡ false)
+  IsAtStage x (suc (suc (suc zero))) = IsAllClear x
+  IsAtStage x _ = ⊥
+
+  -- what a table was left to end by statement k, as a thread has it: the last one first
+  abbrev pub Piled : ℕ → List (pile.Ending V) → List Ending → Type 0
+  Piled k xs [] = xs ≡ []
+  Piled k xs (e ∷ es) = (below : List (pile.Ending V)) × (top : pile.Ending V) × (xs ≡ below ++ top ∷ [])
+      × (e.block ≡ top.block) × (e.statement ≡ k) × IsAtStage top e.stage × Piled k below es
+
+  -- what a desk does takes its thread from one act to another, and adds lines
+  abbrev pub Takes : (Form → V) → DeskNow V → Walk → List Said → DeskNow V → Walk → List Said → Type 0
+  Takes worth d w log e u lines =
+      (part : Part) (n : ℕ) → Tells worth part n d w log → Tells worth part n e u lines
+
+  -- what is told of a round: of an object that is left to end, what it was made as
+  abbrev pub RoundSays : ℕ → DeskNow V → List (pile.Ending V) → Round V → List Said → Type 0
+  RoundSays k d xs (Cleared m gone.Last) log =
+      (below : List (pile.Ending V)) × (x : pile.Ending V) × (xs ≡ below ++ x ∷ [])
+      × (log ≡ record { statement = k; answer = None; ended = Some (remains (object_in d x.block.0)) } ∷ [])
+  RoundSays k d xs _ log = log ≡ []
+
+  -- by a round of what a table was left to end by statement k its thread goes on, with these tasks after it
+  pub record GoesByRound (worth : Form → V) (m k : ℕ) (t u : TableNow V) (round : Round V) (es : List Ending)
+      (taken : Bool) (todo : List Task) : Type 0 where
+    pub endings : List Ending
+    pub piled : Piled k u.endings endings
+    pub lines : List Said
+    pub says : RoundSays k u.desk u.endings round lines
+    pub takes : (log : List Said) → Takes worth t.desk (settled (shown m t.slots) taken es todo) log u.desk
+        (settled (shown m u.slots) taken endings todo) (log ++ lines)
+
+module _ (V : Type 0) where
+  abbrev pub RoundsIn : Type 0
+  RoundsIn =
+      (worth : Form → V) (m hand k : ℕ) (t u : TableNow V) → IsHand m hand t → u.slots ≡ t.slots
+      → AllEnd t.desk t.endings
+      → (round : Round V) → IsRound t.desk t.endings round u.desk u.endings
+      → (es : List Ending) → Piled k t.endings es
+      → (taken : Bool) (todo : List Task) → GoesByRound worth m k t u round es taken todo
