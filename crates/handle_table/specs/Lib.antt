@@ -10,3 +10,4 @@ pub mod Parts
 pub mod Visits
 pub mod Parting
 pub mod Programs
+pub mod Leading

@@ -7,11 +7,11 @@ ghost use Rattle.handle_table.specs.Parting.{AbsorbsAll, IsNew, IsPartedInto, Wh
 ghost use Rattle.handle_table.specs.Programs.{IsClosed, IsManned, Runs, Works, WorksIn, WorksOut};
 ghost use Rattle.handle_table.specs.Tables.{AllVacant, Fits, on_pile};
 
-use crate::slots::open_slots;
+use crate::opening::{Opened, open_domain};
 use crate::table::{HandleTable, Home};
 use control_block::census::{Census, close};
 use control_block::desk::Desk;
-use control_block::domain::{Domain, open};
+use control_block::domain::Domain;
 use control_word::{Refusal, Refused, Shape};
 use shared_handle::{Held, Pile};
 use std::alloc::Global;
@@ -56,7 +56,7 @@ pub struct Ran<V: Drop + Send> {
 }
 
 /// The table of a domain's first desk.
-fn first_table<'d, V: Drop + Send, H: Home>(
+pub(crate) fn first_table<'d, V: Drop + Send, H: Home>(
     domain: &'d Domain<V>,
     desk: Desk<V>,
     slots: Vec<Option<Held>>,
@@ -215,7 +215,7 @@ fn run_in<V: Drop + Send, H: Home + Send + Sync, R: Threads + Wait + Sync, P: Pr
 }
 
 /// A desk that has just begun closes its domain.
-fn shut<V: Drop + Send>(domain: Domain<V>, desk: Desk<V>)
+pub(crate) fn shut<V: Drop + Send>(domain: Domain<V>, desk: Desk<V>)
     requires { Begins domain desk }
 {
     match close(domain, desk) {
@@ -225,7 +225,10 @@ fn shut<V: Drop + Send>(domain: Domain<V>, desk: Desk<V>)
 }
 
 /// A desk without handles closes its domain. Where it has not the whole allowance it is given up.
-fn close_bare<V: Drop + Send>(domain: Domain<V>, desk: Desk<V>) -> Result<Census<V>, Refusal>
+pub(crate) fn close_bare<V: Drop + Send>(
+    domain: Domain<V>,
+    desk: Desk<V>,
+) -> Result<Census<V>, Refusal>
     requires here { Belongs desk domain }
     requires none { Fits desk [] × (endings_of desk ≡ 0) }
     ensures closed { IfOk result (IsClosed desk domain.shape) }
@@ -265,20 +268,12 @@ pub fn run<V: Drop + Send, R: Threads + Wait + Sync, P: Program<V, R> + Sync>(
     ensures refused { IfErr result
         (λ why. (why ≡ Refusal.Shape) ⊎ ((why ≡ Refusal.Memory) ⊎ (why ≡ Refusal.NotSole))) }
 {
-    let (domain, desk) = open::<V>(alloc, shape)?;
-    let Ok(mut slots) = Vec::with_capacity(alloc, team.slots) else {
-        shut(domain, desk);
-        return Err(Refusal::Memory);
-    };
-    let pile = match Pile::new(alloc, &domain) {
-        Ok(pile) => pile,
-        Err(why) => {
-            slots.destroy_empty();
-            shut(domain, desk);
-            return Err(why);
-        }
-    };
-    open_slots(&mut slots, team.slots);
+    let Opened {
+        domain,
+        desk,
+        slots,
+        pile,
+    } = open_domain::<V>(alloc, shape, team.slots)?;
     let (desk, manned) = run_in::<V, Brand, R, P>(
         rt, alloc, &domain, desk, slots, pile, team, program,
     );

@@ -10,6 +10,8 @@ mod compares;
 #[cfg(test)]
 mod joins;
 #[cfg(test)]
+mod leaders;
+#[cfg(test)]
 mod limits;
 #[cfg(test)]
 mod looks;

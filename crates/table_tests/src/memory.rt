@@ -2,7 +2,7 @@
 use crate::joins::come_together;
 use crate::shapes::{alone, shape};
 use control_word::Refusal;
-use handle_table::{Fault, HandleTable, Home, Program, Team, run};
+use handle_table::{Fault, HandleTable, Home, Leader, Manned, Program, Team, run, run_leader};
 use std::alloc::Global;
 use std::process::Abort;
 use std::sync::Wait;
@@ -72,5 +72,50 @@ fn a_first_table_is_refused(rt: HostRuntime) -> Result<(), Fail> {
     team.slots = 1;
     let ran = run(&rt, rt.alloc(), shape, team, &Idle)?;
     assert_eq!(rt; ran.census.vacant(), 1);
+    Ok(())
+}
+
+/// A leader that starts so many teams of one worker, and has its own after each.
+#[derive(Drop)]
+struct Tries {
+    left: u32,
+}
+
+impl<R: Abort + Threads + Wait + Sync> Program<u64, R> for Tries {
+    fn work<H: Home>(&self, rt: &R, _number: usize, table: &mut HandleTable<'_, u64, H>) {
+        assert!(rt; table.make(0, [2; 4], false, 2).is_ok());
+    }
+}
+
+impl<R: Abort + Threads + Wait + Sync> Leader<u64, R> for Tries {
+    fn lead<H: Home>(
+        &mut self,
+        rt: &R,
+        before: Option<Manned>,
+        table: &mut HandleTable<'_, u64, H>,
+    ) -> Option<Team> {
+        match before {
+            None => {
+                assert!(rt; table.make(0, [1; 4], false, 1).is_ok());
+                assert_eq!(rt; table.copy(0, 2), Ok(()));
+            }
+            Some(Manned { workers: 1, fewer }) => assert_eq!(rt; fewer, None),
+            Some(Manned { fewer, .. }) => assert_eq!(rt; fewer, Some(Refusal::Memory)),
+        }
+        if self.left == 0 {
+            has_all(rt, table);
+            return None;
+        }
+        self.left = self.left.wrapping_sub(1);
+        Some(alone(1, 2, 1))
+    }
+}
+
+#[test]
+fn a_leader_is_told_that_its_team_was_refused(rt: HostRuntime) -> Result<(), Fail> {
+    let mut leader = Tries { left: 2 };
+    let census = run_leader(&rt, rt.alloc(), shape(3, 0, 0, 4), 5, &mut leader)?;
+    assert_eq!(rt; leader.left, 0);
+    assert_eq!(rt; census.vacant(), 3);
     Ok(())
 }

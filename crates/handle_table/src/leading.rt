@@ -1,0 +1,129 @@
+//! A program whose first thread has a table too, and starts teams one after another.
+ghost use Rattle.std.specs.Prelude.{◌≡◌, ◌⊎◌, ◌↔◌, [], length, IfErr, IfOk};
+ghost use Rattle.control_word.specs.Layout.{IsWithinLimits};
+ghost use Rattle.control_block.specs.Desks.{Begins, Belongs, DeskNow, endings_of};
+ghost use Rattle.shared_handle.specs.Piles.{Bears};
+ghost use Rattle.handle_table.specs.Leading.{Leads, LeadsIn, LeadsOn, LeadsOut};
+ghost use Rattle.handle_table.specs.Tables.{AllVacant, Fits, on_pile};
+
+use crate::opening::{Opened, open_domain};
+use crate::program::{Manned, Program, Team, close_bare, first_table};
+use crate::table::{HandleTable, Home};
+use control_block::census::Census;
+use control_block::desk::Desk;
+use control_block::domain::Domain;
+use control_word::{Refusal, Shape};
+use shared_handle::{Held, Pile};
+use std::alloc::Global;
+use std::marker::Brand;
+use std::sync::Wait;
+use std::thread::Threads;
+
+/// A program that its first thread leads: it has a table of its own, and starts teams one after another.
+pub trait Leader<V: Drop + Send, R: Threads + Wait + Sync>: Program<V, R> {
+    ghost use Rattle.handle_table.specs.Leading.{Lead, unsaid};
+
+    // What a call of `lead` does, for who has something to say of it: to the leader and its table, told how the team
+    // before was manned, with the team that it starts.
+    ghost leads: { Lead V Self } = { unsaid };
+
+    /// What the first thread does before the first team, between two, and after the last one. It answers the next team,
+    /// or none where there is no more to do. `before` says how many workers of the team before had a table, and why
+    /// they were fewer than were asked for, where they were; at first there was no such team.
+    fn lead<H: Home>(
+        &mut self,
+        rt: &R,
+        before: Option<Manned>,
+        table: &mut HandleTable<'_, V, H>,
+    ) -> Option<Team>
+        ensures { leads self.old before table.old result self.new table.new };
+}
+
+/// The leader goes on, and the teams that it starts work, one after another, until it starts no more.
+fn lead_on<
+    'd,
+    V: Drop + Send,
+    H: Home + Send + Sync,
+    R: Threads + Wait + Sync,
+    P: Leader<V, R> + Sync,
+>(rt: &R, alloc: Global, table: &mut HandleTable<'d, V, H>, leader: &mut P)
+    ensures { LeadsOn P.leads leader.old table.old leader.new table.new }
+{
+    let mut before = None;
+    for _ in rt.forever() {
+        match leader.lead::<H>(rt, before, table) {
+            Some(team) => before = Some(table.scope(rt, alloc, team, &*leader)),
+            None => return,
+        }
+    }
+    unreachable!()
+}
+
+/// The same, and then all handles leave the leader's table and what is left to end does so.
+fn lead_out<
+    V: Drop + Send,
+    H: Home + Send + Sync,
+    R: Threads + Wait + Sync,
+    P: Leader<V, R> + Sync,
+>(rt: &R, alloc: Global, table: HandleTable<'_, V, H>, leader: &mut P) -> Desk<V>
+    ensures here { Belongs result H.domain }
+    ensures none { Fits result [] × (endings_of result ≡ 0) }
+    ensures led { LeadsOut P.leads leader.old table.entry leader.new result }
+{
+    let mut table = table;
+    lead_on(rt, alloc, &mut table, leader);
+    table.into_desk(rt)
+}
+
+/// The same in a domain with its first desk.
+fn lead_in<V: Drop + Send, H: Home + Send + Sync, R: Threads + Wait + Sync, P: Leader<V, R> + Sync>(
+    rt: &R,
+    alloc: Global,
+    domain: &Domain<V>,
+    desk: Desk<V>,
+    slots: Vec<Option<Held>>,
+    pile: Pile<V>,
+    leader: &mut P,
+) -> Desk<V>
+    requires home { domain.now ≡ H.domain }
+    requires desk { Begins domain.now desk }
+    requires slots { AllVacant slots.items }
+    requires pile { (d : DeskNow V) → Belongs d domain.now → endings_of d ≡ 0 → Bears domain.now d pile }
+    requires empty { on_pile pile ≡ [] }
+    ensures here { Belongs result domain.now }
+    ensures none { Fits result [] × (endings_of result ≡ 0) }
+    ensures led { LeadsIn P.leads domain.now (length slots.items) leader.old leader.new result }
+{
+    let table = first_table::<V, H>(domain, desk, slots, pile);
+    lead_out(rt, alloc, table, leader)
+}
+
+/// A domain is opened, and the first thread leads with the domain's first table, which has so many slots: between two
+/// calls of `lead` a team works, each worker in a thread with a table of its own, and all that it leaves comes back, as
+/// `run` has it. Where no further team is started the handles in the first table leave, what is left to end does so,
+/// and the domain is closed (own). Nothing bounds how often `lead` is called but the leader. It is refused `Shape` just
+/// where the shape is outside the limits, `Memory` only where a growth was really refused, both before the first call
+/// of `lead`, and `NotSole` where a table was kept.
+pub fn run_leader<V: Drop + Send, R: Threads + Wait + Sync, P: Leader<V, R> + Sync>(
+    rt: &R,
+    alloc: Global,
+    shape: Shape,
+    slots: usize,
+    leader: &mut P,
+) -> Result<Census<V>, Refusal>
+    ensures led { IfOk result (Leads P.leads shape slots leader.old leader.new) }
+    ensures within { IfOk result (λ _. IsWithinLimits shape) }
+    ensures shape { IfErr result (λ why. why ≡ Refusal.Shape ↔ (IsWithinLimits shape → ⊥)) }
+    ensures refused { IfErr result
+        (λ why. (why ≡ Refusal.Shape) ⊎ ((why ≡ Refusal.Memory) ⊎ (why ≡ Refusal.NotSole))) }
+    ensures same { IfErr result (λ why. (why ≡ Refusal.NotSole) ⊎ (leader.new ≡ leader.old)) }
+{
+    let Opened {
+        domain,
+        desk,
+        slots,
+        pile,
+    } = open_domain::<V>(alloc, shape, slots)?;
+    let desk = lead_in::<V, Brand, R, P>(rt, alloc, &domain, desk, slots, pile, leader);
+    close_bare(domain, desk)
+}
