@@ -117,6 +117,7 @@ fn site_of<V: Drop + Send>(
 }
 
 /// The cell, which is open to the desk.
+#[inline(always)]
 pub(crate) fn find<V: Drop + Send>(
     domain: &Domain<V>,
     desk: &Desk<V>,

@@ -25,6 +25,7 @@ pub(crate) fn open_slots(slots: &mut Vec<Option<Held>>, count: usize)
 }
 
 /// The handle in the slot.
+#[inline(always)]
 pub(crate) fn handle_at(slots: &Vec<Option<Held>>, at: usize) -> Result<&Held, Fault>
     ensures found { IfOk result (λ h. slice_get slots.now.items at ≡ Some (Some h.now)) }
     ensures fault { IfErr result (WhyNoHandle slots.now.items at) }
@@ -39,6 +40,7 @@ pub(crate) fn handle_at(slots: &Vec<Option<Held>>, at: usize) -> Result<&Held, F
 }
 
 /// The owner in the slot.
+#[inline(always)]
 pub(crate) fn owner_at(slots: &Vec<Option<Held>>, at: usize) -> Result<&Shared, Fault>
     ensures found { IfOk result (λ h. slice_get slots.now.items at ≡ Some (Some (held.Owner h.now))) }
     ensures fault { IfErr result (WhyNoOwner slots.now.items at) }
@@ -54,6 +56,7 @@ pub(crate) fn owner_at(slots: &Vec<Option<Held>>, at: usize) -> Result<&Shared, 
 }
 
 /// The weak handle in the slot.
+#[inline(always)]
 pub(crate) fn weak_at(slots: &Vec<Option<Held>>, at: usize) -> Result<&Weak, Fault>
     ensures found { IfOk result (λ h. slice_get slots.now.items at ≡ Some (Some (held.Weak h.now))) }
     ensures fault { IfErr result (WhyNoWeak slots.now.items at) }
@@ -69,6 +72,7 @@ pub(crate) fn weak_at(slots: &Vec<Option<Held>>, at: usize) -> Result<&Weak, Fau
 }
 
 /// A handle goes into a slot, and what lay there comes out.
+#[inline(always)]
 pub(crate) fn put(slots: &mut Vec<Option<Held>>, at: usize, handle: Held) -> Option<Held>
     requires { at < length slots.old.items }
     ensures { (slice_get slots.old.items at ≡ Some result)
@@ -78,6 +82,7 @@ pub(crate) fn put(slots: &mut Vec<Option<Held>>, at: usize, handle: Held) -> Opt
 }
 
 /// What is in the slot goes out of it.
+#[inline(always)]
 pub(crate) fn take_handle(slots: &mut Vec<Option<Held>>, at: usize) -> Result<Held, Fault>
     ensures taken { IfOk result (λ h. (slice_get slots.old.items at ≡ Some (Some h))
         × (slots.new.items ≡ slice_set slots.old.items at None)) }

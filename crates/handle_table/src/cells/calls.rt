@@ -14,6 +14,7 @@ use std::sync::Wait;
 impl<'d, V: Drop + Send, H: Home> HandleTable<'d, V, H> {
     /// A copy of what the cell holds is assigned to a slot ([util.smartptr.atomic.shared],
     /// [util.smartptr.atomic.weak]). What lay there leaves.
+    #[inline(always)]
     pub fn load<R: Wait>(&mut self, rt: &R, cell: Cell, to: usize) -> Result<(), Fault>
         ensures loaded { OnOk result (Loads self.old cell to self.new) }
         ensures refused { IfErr result (λ why. WhyNotLoaded self.old cell to why × (self.new ≡ self.old)) }

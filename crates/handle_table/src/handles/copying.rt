@@ -16,6 +16,7 @@ use control_word::Refusal;
 use shared_handle::{Held, downgrade, share, share_weak};
 
 /// A copy of a handle.
+#[inline(always)]
 fn copy_of<V: Drop + Send>(
     domain: &Domain<V>,
     desk: &mut Desk<V>,
@@ -45,6 +46,7 @@ fn copy_of<V: Drop + Send>(
 impl<'d, V: Drop + Send, H: Home> HandleTable<'d, V, H> {
     /// A copy of a handle is assigned to a slot ([util.smartptr.shared.assign], [util.smartptr.weak.assign]), which may
     /// be the handle's own: then the slot has the copy. What lay there leaves.
+    #[inline(always)]
     pub fn copy(&mut self, from: usize, to: usize) -> Result<(), Fault>
         ensures copied { OnOk result (Copies self.old from to self.new) }
         ensures refused { IfErr result (λ why. WhyNoCopy self.old from to why × (self.new ≡ self.old)) }

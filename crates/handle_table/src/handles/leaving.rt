@@ -13,6 +13,7 @@ use std::sync::Wait;
 impl<'d, V: Drop + Send, H: Home> HandleTable<'d, V, H> {
     /// `reset` ([util.smartptr.shared.mod], [util.smartptr.weak.mod]): the handle leaves its slot, which is vacant
     /// then. Where it was an object's last owner, the object is left to end with this table.
+    #[inline(always)]
     pub fn reset(&mut self, at: usize) -> Result<Gone, Fault>
         ensures left { IfOk result (λ gone. Resets self.old at gone self.new) }
         ensures refused { IfErr result (λ why. WhyNoHandle self.old.slots at why × (self.new ≡ self.old)) }

@@ -12,6 +12,7 @@ use std::sync::Wait;
 impl<'d, V: Drop + Send, H: Home> HandleTable<'d, V, H> {
     /// `lock` ([util.smartptr.weak.obs]): an owner of the weak handle's object, just where one remains at the lock's
     /// step, or else an empty one, is assigned to a slot; whether it owns. What lay there leaves.
+    #[inline(always)]
     pub fn lock<R: Wait>(&mut self, rt: &R, from: usize, to: usize) -> Result<bool, Fault>
         ensures locked { IfOk result (λ got. Locks self.old from to got self.new) }
         ensures refused { IfErr result (λ why. WhyNotLocked self.old from to why × (self.new ≡ self.old)) }

@@ -13,6 +13,7 @@ use shared_handle::{Gone, Held, Pile, drop_shared, release_weak};
 
 /// A handle leaves the desk.
 #[tactic(auto, using(shared_handle::proofs::Piles::bears_after))]
+#[inline(always)]
 pub(crate) fn let_go<V: Drop + Send>(
     domain: &Domain<V>,
     desk: &mut Desk<V>,
@@ -40,6 +41,7 @@ pub(crate) fn let_go<V: Drop + Send>(
 }
 
 /// The handle in hand goes into a slot, and then what lay there leaves.
+#[inline(always)]
 pub(crate) fn assign<V: Drop + Send>(
     domain: &Domain<V>,
     desk: &mut Desk<V>,
