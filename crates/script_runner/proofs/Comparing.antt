@@ -1,6 +1,6 @@
 -- A comparison of a table with a cell that swaps, as acts of a thread.
-use Rattle.std.proofs.Common.{Bool, true, false, not, ◌&&◌, ◌∷◌, ◌++◌, length, Option}
-use Rattle.std.proofs.Common.{Some, None, refl, sym, ap, subst, ◌∙◌, inl, inr, arith, ◌-◌, ◌≡◌, ◌≢◌, ℕ, ◌+◌, ◌<◌}
+use Rattle.std.proofs.Common.{Bool, true, false, not, ◌&&◌, ◌∷◌, ◌++◌, length, Option, Some, None, refl, sym, ap, subst, ◌∙◌, inl}
+use Rattle.std.proofs.Common.{inr, arith, ◌-◌, ◌≡◌, ◌≢◌, ℕ, ◌+◌, ◌<◌}
 use Rattle.std.proofs.lemmas.List.{set-get_or, set-set, set_comm, get_or-set_same, get_or-set_other, length-set}
 use Rattle.std.specs.Prelude.{slice_get, slice_set}
 use Rattle.control_block.proofs.PartingLists.{has_map}
@@ -60,11 +60,11 @@ module _ (V : Type 0) where
   compare_gets (named.Member q n) expected new k o p s d weak = inl refl
 
 module _ {V : Type 0} where
-  -- what the desk got by its event
-  got_handle : (d e : DeskNow V) (v : Event V) (adds : Adds d v e) (k : Kind) (c : Block) (p : Option Place)
-      → ((s : State) (n : ℕ) → Has (held n (handle k (Some (latest_of e c.0)) p)) (after s n v).hands)
+  -- what the desk has after its event
+  pub has_handle : (d e : DeskNow V) (v : Event V) (adds : Adds d v e) (k : Kind) (c : Block) (p : Option Place)
+      → Has (held d.name (handle k (Some (latest_of e c.0)) p)) (leads (opening_of d.shape) (entry d.name v ∷ (adds.between ++ d.seen))).hands
       → HasHandle e k p c.0
-  got_handle d e v adds k c p gets =
+  has_handle d e v adds k c p has =
       let z = opening_of d.shape in
       let h = entry d.name v ∷ (adds.between ++ d.seen) in
       let q = latest_of e c.0 in
@@ -72,13 +72,19 @@ module _ {V : Type 0} where
       let legal : IsLegal (opening_of e.shape) e.seen = subst (λ x. IsLegal (opening_of x) e.seen) (sym adds.same.1) adds.legal in
       let mine : Has (held e.name (handle k (Some q) p)) (state_of e).hands =
       subst (λ (s : State). Has (held e.name (handle k (Some q) p)) s.hands) se
-      (subst (λ n. Has (held n (handle k (Some q) p)) (leads z h).hands) (sym adds.same.2) (gets (leads z (adds.between ++ d.seen)) d.name)) in
+      (subst (λ n. Has (held n (handle k (Some q) p)) (leads z h).hands) (sym adds.same.2) has) in
       let named = names_an_object (opening_of e.shape) e.seen legal e.name k (handle k (Some q) p) (mine, refl, refl) in
       let some = named.0 in
       let block = (sound (opening_of e.shape) e.seen legal).latest_in c.0 (λ no. let bad : ⊥ = omega (arith, some, no) in bad) in
       subst (λ b. Has (handle k (Some b) p) (bag_of e)) block
       (has_map (λ (x : Held). by_block (blocks_of (state_of e)) x.handle) (held e.name (handle k (Some q) p)) (bag (state_of e) e.name)
       (has_part (λ (y : Held). y.desk) e.name (held e.name (handle k (Some q) p)) (state_of e).hands refl mine))
+
+  -- and what it got by it
+  pub got_handle : (d e : DeskNow V) (v : Event V) (adds : Adds d v e) (k : Kind) (c : Block) (p : Option Place)
+      → ((s : State) (n : ℕ) → Has (held n (handle k (Some (latest_of e c.0)) p)) (after s n v).hands)
+      → HasHandle e k p c.0
+  got_handle d e v adds k c p gets = has_handle d e v adds k c p (gets (leads (opening_of d.shape) (adds.between ++ d.seen)) d.name)
 
 module _ {V : Type 0} (worth : Form → V) (m k hand other : ℕ) (t u : TableNow V) (c : CellName) (weak : Bool) (is : IsSeated m hand t)
     (two : other + 1 ≡ hand) (lt : k < other) (none : slice_get t.slots other ≡ Some None) (x : compares.Compares weak t (as_cell c) k hand true u)

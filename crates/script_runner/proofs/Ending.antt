@@ -1,6 +1,6 @@
 -- How a thread goes on while objects end.
-use Rattle.std.proofs.Common.{◌∙◌, inl, inr, arith, ◌-◌, ◌≤◌}
-use Rattle.std.proofs.Common.{◌≡◌, ℕ, ◌<◌, Bool, cond, List, [], ◌∷◌, ◌++◌, length, Option, Some, None, refl, sym, ap, subst}
+use Rattle.std.proofs.Common.{◌≢◌, length, Option, Some, None, refl, sym, ap, subst, ◌∙◌, inl, inr, arith, ◌-◌, ◌≤◌, ◌≡◌, ℕ}
+use Rattle.std.proofs.Common.{◌<◌, Bool, cond, List, [], ◌∷◌, ◌++◌}
 use Rattle.std.proofs.lemmas.Bool.{cond-false, cond-true}
 use Rattle.std.proofs.lemmas.List.{append-nil, get_or-set_same, length-set, set-get_or, set-set}
 use Rattle.std.specs.Prelude.{slice_set}
@@ -46,16 +46,18 @@ use Rattle.step_threads.specs.declared.ending.Ending.{Ending}
 use Rattle.step_threads.specs.declared.said.Said.{Said}
 
 module _ {V : Type 0} where
-  -- an object that ends in the desk's hands is in its block
-  pub ended_in : (d : DeskNow V) (b : ℕ) (x : V) → IsLegal (opening_of d.shape) d.seen → IsEnding d b x
-      → ((state_of d).object (latest_of d b)).block ≡ b
-  ended_in d b x legal ends =
-      let z = opening_of d.shape in
-      let so = sound z d.seen legal in
-      so.latest_in b (λ e. clash (sym so.none ∙ (ap (λ o. ((state_of d).object o).phase) (sym e) ∙ ends.phase)))
+  -- an object that ends in the desk's hands was made
+  pub not_none : (d : DeskNow V) (b : ℕ) (x : V) → IsLegal (opening_of d.shape) d.seen → IsEnding d b x → latest_of d b ≢ 0
+  not_none d b x legal ends e =
+      clash (sym (sound (opening_of d.shape) d.seen legal).none ∙ (ap (λ o. ((state_of d).object o).phase) (sym e) ∙ ends.phase))
     where
       clash : unmade ≡ ending d.name → ⊥
       clash e = absurd cc
+
+  -- and is in its block
+  pub ended_in : (d : DeskNow V) (b : ℕ) (x : V) → IsLegal (opening_of d.shape) d.seen → IsEnding d b x
+      → ((state_of d).object (latest_of d b)).block ≡ b
+  ended_in d b x legal ends = (sound (opening_of d.shape) d.seen legal).latest_in b (not_none d b x legal ends)
 
   -- and is the latest there when the desk's event comes
   pub ended_latest : (d e : DeskNow V) (v : Event V) (adds : Adds d v e) (b : ℕ) (x : V) → IsEnding d b x

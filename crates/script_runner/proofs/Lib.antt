@@ -18,3 +18,7 @@ pub mod Going
 pub mod Celled
 pub mod Exchanging
 pub mod Comparing
+pub mod Teams
+pub mod Differing
+pub mod Uncelled
+pub mod Fields

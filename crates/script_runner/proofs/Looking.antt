@@ -132,7 +132,7 @@ block_of None = None
 block_of (Some p) = Some p.block
 
 -- an owner that doesn't point into what it owns
-not_inside : {V : Type 0} (m i : ℕ) (t : TableNow V) (h : Shared) → i < m → slice_get t.slots i ≡ Some (Some (Owner h))
+pub not_inside : {V : Type 0} (m i : ℕ) (t : TableNow V) (h : Shared) → i < m → slice_get t.slots i ≡ Some (Some (Owner h))
     → (h.place ≡ None) ⊎ IsOutside h.block h.place → inside (slot (shown m t.slots) i) ≡ None
 not_inside m i t h lt at away =
     ap (λ x. inside (slots.pointer_of x)) (shown_at m t.slots i (Some (Owner h)) lt at) ∙ go h.block h.place away
@@ -153,13 +153,13 @@ not_inside m i t h lt at away =
 
 module _ {V : Type 0} (worth : Form → V) (m i hand : ℕ) (taken : Bool) (t : TableNow V) (is : IsSeated m hand t) (lt : i < m) where
   -- what the refusal says, as a thread says it
-  outside_as : (h : Shared) (why : Refusal) → IsAt t i (Owner h) → IsAway h.block h.place why
+  pub outside_as : (h : Shared) (why : Refusal) → IsAt t i (Owner h) → IsAway h.block h.place why
       → outside (place_in (shown m t.slots) i) ≡ answer.Refused why
   outside_as h refusal.Null at away = ap outside (place_shown m i t (Owner h) lt at ∙ away)
   outside_as h refusal.Outside at away = ap outside (place_shown m i t (Owner h) lt at ∙ away.1)
   outside_as h why at away = absurd away
 
-  is_away : (h : Shared) (why : Refusal) → IsAt t i (Owner h) → IsAway h.block h.place why → inside (slot (shown m t.slots) i) ≡ None
+  pub is_away : (h : Shared) (why : Refusal) → IsAt t i (Owner h) → IsAway h.block h.place why → inside (slot (shown m t.slots) i) ≡ None
   is_away h refusal.Null at away = not_inside m i t h lt at (inl away)
   is_away h refusal.Outside at away = not_inside m i t h lt at (inr away)
   is_away h why at away = absurd away

@@ -123,7 +123,7 @@ module _ {V : Type 0} (worth : Form → V) (m i : ℕ) (taken : Bool) (t u : Tab
       (subst (λ (r : rows.Row). Begun t.endings r.ending u.endings) (sym (row x.last x.left)) x.ends)
 
 -- what was in hand is in another slot
-put_slots : (l : Slots) (k h : ℕ) → hand_of l ≡ h → k ≢ h → slice_set (slice_set l h plain) k (value l h) ≡ placed k (slice_set l k plain)
+pub put_slots : (l : Slots) (k h : ℕ) → hand_of l ≡ h → k ≢ h → slice_set (slice_set l h plain) k (value l h) ≡ placed k (slice_set l k plain)
 put_slots l k h is away =
     let l' = slice_set l k plain in
     let e : hand_of l' ≡ h = ap (λ n. n - 1) (length-set l k plain) ∙ is in
@@ -133,7 +133,7 @@ put_slots l k h is away =
     ∙ (ap (λ q. slice_set (slice_set l' k q) h plain) (sym v)
     ∙ ap (λ q. slice_set (slice_set l' k (value l' q)) q plain) (sym e)))
 
-idle_slots : (l : Slots) (k h : ℕ) → hand_of l ≡ h → k ≢ h → slice_set (slice_set l h plain) k (value l h) ≡ placed k l
+pub idle_slots : (l : Slots) (k h : ℕ) → hand_of l ≡ h → k ≢ h → slice_set (slice_set l h plain) k (value l h) ≡ placed k l
 idle_slots l k h is away =
     sym (set_comm l k h (value l h) plain away) ∙ ap (λ q. slice_set (slice_set l k (value l q)) q plain) (sym is)
 
@@ -150,7 +150,7 @@ module _ {V : Type 0} where
   quiet_left d e xs ys (Weak w) gone none leaves =
       (quietly d e _ (subst (λ b. LeavesWeakly d b w.place leaves.2.0 e) none leaves.2.1).0, leaves.1)
 
-  quiet_slot : (d e : DeskNow V) (xs ys : List (Ending V)) (m i : ℕ) (ss : List table.Slot) (s : table.Slot) → i < m → slice_get ss i ≡ Some s
+  pub quiet_slot : (d e : DeskNow V) (xs ys : List (Ending V)) (m i : ℕ) (ss : List table.Slot) (s : table.Slot) → i < m → slice_get ss i ≡ Some s
       → is_full (slot (shown m ss) i) ≡ false → LeavesSlot d xs s e ys → IsQuiet d e × (ys ≡ xs)
   quiet_slot d e xs ys m i ss None lt at free leaves = (quietly d e d.held leaves.0, leaves.1)
   quiet_slot d e xs ys m i ss (Some h) lt at free leaves = quiet_left d e xs ys h leaves.0 (go (owned_by h) refl) leaves.1

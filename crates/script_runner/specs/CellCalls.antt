@@ -1,8 +1,8 @@
 -- Which calls of a table on cells are which acts of a thread. Events name their sections in the model; the rest is own.
-use Rattle.std.specs.Prelude.{◌≡◌, ℕ, zero, suc, ◌<◌, Bool, None, Some, ◌+◌, true, false}
-use Rattle.std.specs.Prelude.{slice_get}
+use Rattle.std.specs.Prelude.{◌≡◌, ℕ, zero, suc, ◌<◌, Bool, None, Some, ◌+◌, true, false, slice_get}
 use Rattle.atomic_cells.specs.declared.sites.SharedMember.TheVariants.{First, Next}
 use Rattle.control_block.specs.declared.handles.Held.{Held}
+use Rattle.control_word.specs.declared.refusal.Refusal.{Refusal}
 use Rattle.handle_table.specs.Calls as calls
 use Rattle.handle_table.specs.Cells as cells
 use Rattle.handle_table.specs.Compares as compares
@@ -11,7 +11,10 @@ use Rattle.handle_table.specs.Parts.{kind_of}
 use Rattle.handle_table.specs.Tables.{IsAt, TableNow}
 use Rattle.handle_table.specs.declared.cells.Cell.TheVariants as table
 use Rattle.handle_table.specs.declared.cells.Cell.{Cell}
+use Rattle.handle_table.specs.declared.fault.Fault.TheVariants.{Call}
 use Rattle.script_runner.specs.Seats.{Acts, IsHand, IsSeated, IsQuiet, Leaving, shown}
+use Rattle.script_runner.specs.TableCalls.{Marks}
+use Rattle.step_table.specs.Holdings.{plain}
 use Rattle.step_table.specs.declared.form.Form.{Form}
 use Rattle.step_table.specs.declared.slot.Slot.{Slot}
 use Rattle.step_threads.specs.Courses.{idle, slots_idle}
@@ -20,6 +23,7 @@ use Rattle.step_threads.specs.Rows.{Came, Plain, Compared}
 use Rattle.step_threads.specs.declared.act.Act.TheVariants as act
 use Rattle.step_threads.specs.declared.call.CellName.TheVariants as cell
 use Rattle.step_threads.specs.declared.call.CellName.{CellName}
+use Rattle.step_threads.specs.declared.said.Answer.TheVariants as answer
 
 -- the cell of a table that a script's cell is
 abbrev pub as_cell : CellName → Cell
@@ -81,3 +85,39 @@ module _ (V : Type 0) where
       → IsIn t.desk.shape c → IsOfName m c → compares.Compares weak t (as_cell c) k hand true u
       → (idle (act.Compare k c weak) (shown m t.slots) true ≡ false)
       × ByCompare worth m k t u c weak
+
+  -- The cell isn't equivalent, or a weak comparison failed: what it holds is assigned to slot k, and what was in hand
+  -- goes to the slot of what is to be dropped. To a thread these are two acts as well: the comparison, by which it has
+  -- a copy of what the cell holds, and then it puts that into slot k, where slot k has an object
+  pub record ByDiffering (worth : Form → V) (m k : ℕ) (t u : TableNow V) (c : CellName) (weak : Bool) : Type 0 where
+    pub between : TableNow V
+    pub held : Slot
+    pub compares : Acts worth m t true (act.Compare k c weak) (Compared false held) between
+    pub puts : idle (act.Put k) (shown m between.slots) true ≡ false → Leaving worth m between true (act.Put k) u
+    pub passes : idle (act.Put k) (shown m between.slots) true ≡ true
+        → IsQuiet between.desk u.desk
+        × (shown m u.slots ≡ slots_idle (act.Put k) (shown m between.slots) true)
+        × (u.endings ≡ between.endings)
+
+  abbrev pub DiffersIn : Type 0
+  DiffersIn =
+      (worth : Form → V) (m k hand other : ℕ) (t after u : TableNow V) (c : CellName) (weak : Bool)
+      → IsSeated m hand t → other + 1 ≡ hand → k < other → slice_get t.slots other ≡ Some None
+      → IsIn t.desk.shape c → IsOfName m c → compares.Compares weak t (as_cell c) k hand false after
+      → calls.Moves after hand other u
+      → (idle (act.Compare k c weak) (shown m t.slots) true ≡ false)
+      × ByDiffering worth m k t u c weak
+
+  -- A cell is none of the thread's: its name owns no object that it points into. The acts that would copy a value for
+  -- it, exchange one with it or load from it are marks, with this answer
+  pub record IsRefused (worth : Form → V) (m : ℕ) (t : TableNow V) (taken : Bool) (c : CellName)
+      (r : Refusal) : Type 0 where
+    pub offer : (i : ℕ) → Marks V worth m t taken (act.Offer i c) Plain (answer.Refused r)
+    pub exchange : (i : ℕ) → Marks V worth m t taken (act.Exchange i c) (Came plain) (answer.Refused r)
+    pub load : Marks V worth m t taken (act.Load c) (Came plain) (answer.Refused r)
+
+  abbrev pub CellsNot : Type 0
+  CellsNot =
+      (worth : Form → V) (m hand : ℕ) (taken : Bool) (t : TableNow V) (c : CellName) (r : Refusal)
+      → IsSeated m hand t → IsOfName m c → cells.WhyNoCell t.desk.shape t.slots (as_cell c) (Call r)
+      → IsRefused worth m t taken c r

@@ -1,7 +1,12 @@
 -- How a thread goes on while objects end that its table was left to end, one on top of the other. All of it is own.
-use Rattle.std.specs.Prelude.{◌≡◌, ℕ, zero, suc, Bool, true, false, List, [], ◌∷◌, ◌++◌, Some, None}
-use Rattle.control_block.specs.Desks.{DeskNow, object_in}
+use Rattle.std.specs.Prelude.{length, ◌≡◌, ℕ, zero, suc, Bool, true, false, List, [], ◌∷◌, ◌++◌}
+use Rattle.std.specs.Prelude.{Some, None}
+use Rattle.control_block.specs.Desks.{IsEnding, DeskNow, object_in}
+use Rattle.control_block.specs.Standing.{Standing}
+use Rattle.handle_table.specs.Ends.{IsMadeAs}
 use Rattle.handle_table.specs.Tables.{TableNow}
+use Rattle.handle_table.specs.declared.ends.Remains.TheVariants as table
+use Rattle.handle_table.specs.declared.ends.Remains.{Remains}
 use Rattle.script_runner.specs.Logs.{Tells}
 use Rattle.script_runner.specs.Seats.{IsHand, shown}
 use Rattle.shared_handle.specs.Endings.{IsAllClear, IsUncleared}
@@ -11,12 +16,23 @@ use Rattle.shared_handle.specs.declared.pile.Gone.TheVariants as gone
 use Rattle.shared_handle.specs.declared.pile.Round.TheVariants.{Cleared}
 use Rattle.shared_handle.specs.declared.pile.Round.{Round}
 use Rattle.step_table.specs.Deeds.{remains}
+use Rattle.step_table.specs.declared.ended.Ended.TheVariants as ended
+use Rattle.step_table.specs.declared.ended.Ended.{Ended as EndedAs}
 use Rattle.step_table.specs.declared.form.Form.{Form}
 use Rattle.step_threads.specs.Courses.{Walk, settled}
 use Rattle.step_threads.specs.Programs.{Part}
 use Rattle.step_threads.specs.declared.act.Task.{Task}
 use Rattle.step_threads.specs.declared.ending.Ending.{Ending}
 use Rattle.step_threads.specs.declared.said.Said.{Said}
+
+-- what a table tells that an object was made as, as a thread says it; an object has four fields
+abbrev pub ended_of : Remains → EndedAs
+ended_of table.Null = ended.Null
+ended_of (table.Fields fields) = ended.Fields fields
+
+abbrev pub IsFour : Remains → Type 0
+IsFour table.Null = Unit {0}
+IsFour (table.Fields fields) = length fields ≡ 4
 
 module _ {V : Type 0} where
   -- so many of the members of an object that ends are cleared, in their order
@@ -63,3 +79,9 @@ module _ (V : Type 0) where
       → (round : Round V) → IsRound t.desk t.endings round u.desk u.endings
       → (es : List Ending) → Piled k t.endings es
       → (taken : Bool) (todo : List Task) → GoesByRound worth m k t u round es taken todo
+
+  -- what the table tells of an object that ends in its desk's hands is what a thread says
+  abbrev pub RemainsIn : Type 0
+  RemainsIn =
+      (d : DeskNow V) (b : ℕ) (x : V) (r : Remains) → Standing d → IsEnding d b x → IsFour r
+      → IsMadeAs (object_in d b) r → ended_of r ≡ remains (object_in d b)

@@ -8,3 +8,4 @@ pub mod TableCalls
 pub mod EndCalls
 pub mod Goings
 pub mod CellCalls
+pub mod Teams

@@ -2,13 +2,14 @@
 //! their desks' calls.
 ghost use Rattle.script_runner.specs.Calls.{Made, Copied, CopiedWeakly, Downgraded, Aliased, Locked, Counted};
 ghost use Rattle.script_runner.specs.Calls.{Expired, Read, GivenThis, GivenWeakThis, Gone, GoneWeakly};
+ghost use Rattle.script_runner.specs.Teams.{TeamsPlay};
 ghost use Rattle.script_runner.specs.TableCalls.{CopiesIn, DowngradesIn, AliasesIn, LocksIn, UpgradesIn};
 ghost use Rattle.script_runner.specs.TableCalls.{UpgradesNot, MakesIn, MakesNullIn, MakesNot, PutsIn, PutsIdle};
 ghost use Rattle.script_runner.specs.TableCalls.{EmptiesIn, ResetsIn, MovesIn, CountsIn, ExpiresIn, ReadsIn};
 ghost use Rattle.script_runner.specs.TableCalls.{ReadsNot, ThisIn, WeakThisIn, ThisNot, PlacesIn, AlikeIn};
 ghost use Rattle.script_runner.specs.TableCalls.{InOrder};
-ghost use Rattle.script_runner.specs.CellCalls.{ComparesIn, ExchangesIn, LoadsIn, OffersIn};
-ghost use Rattle.script_runner.specs.EndCalls.{RoundsIn};
+ghost use Rattle.script_runner.specs.CellCalls.{CellsNot, ComparesIn, DiffersIn, ExchangesIn, LoadsIn, OffersIn};
+ghost use Rattle.script_runner.specs.EndCalls.{RemainsIn, RoundsIn};
 ghost use Rattle.script_runner.specs.Goings.{ActsOn, PassesOver};
 ghost use Rattle.script_runner.specs.Laws.{Begins, GoesOnByMark, GoesOnByCall, IsJoined, StaysJoined};
 
@@ -70,19 +71,30 @@ pub fn table_calls<V>()
     ensures exchanges { ExchangesIn V }
     ensures offers { OffersIn V }
     ensures compares { ComparesIn V }
+    ensures differs { DiffersIn V }
+    ensures cells_not { CellsNot V }
     ensures rounds { RoundsIn V }
+    ensures remains { RemainsIn V }
     ensures acts_on { ActsOn V }
     ensures passes_over { PassesOver V }
 {}
 
+/// Where a table for each thread played it from its first act to its end, and these tables are joined and the last desk
+/// has all that they had, the history that it has seen has what each thread does, under a name of its own, with its
+/// lines (own).
+pub fn team_laws<V>()
+    ensures plays { TeamsPlay V }
+{}
+
 #[cfg(test)]
 mod tests {
-    use super::{desk_calls, table_calls, worker_logs};
+    use super::{desk_calls, table_calls, team_laws, worker_logs};
 
     #[test]
     fn laws_cost_nothing(_rt: HostRuntime) {
         worker_logs::<u64>();
         desk_calls::<u64>();
         table_calls::<u64>();
+        team_laws::<u64>();
     }
 }

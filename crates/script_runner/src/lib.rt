@@ -16,6 +16,6 @@ mod worker;
 
 pub use delivering::run_text;
 pub use gate::{Gate, Open};
-pub use laws::{desk_calls, table_calls, worker_logs};
+pub use laws::{desk_calls, table_calls, team_laws, worker_logs};
 pub use report::Report;
 pub use running::run_script;

@@ -1,10 +1,13 @@
 use Rattle.script_runner.proofs.Rounds as round
 use Rattle.script_runner.proofs.Celled as celled
 use Rattle.script_runner.proofs.Comparing as comparing
+use Rattle.script_runner.proofs.Differing as differing
 use Rattle.script_runner.proofs.Exchanging as exchanging
+use Rattle.script_runner.proofs.Fields as field
 use Rattle.script_runner.proofs.Going as going
 use Rattle.script_runner.proofs.Lockings as locking
 use Rattle.script_runner.proofs.Takings as taking
+use Rattle.script_runner.proofs.Uncelled as uncelled
 use Rattle.script_runner.proofs.TableLaws as table
 use Rattle.script_runner.proofs.laws.table_calls.Goals as goal
 
@@ -100,3 +103,12 @@ returns-clause-passes_over g c = going.passes_over
 
 pub returns-clause-compares : goal.returns-clause-compares
 returns-clause-compares g c = comparing.compares_swap
+
+pub returns-clause-differs : goal.returns-clause-differs
+returns-clause-differs g c = differing.compares_differ
+
+pub returns-clause-cells_not : goal.returns-clause-cells_not
+returns-clause-cells_not g c = uncelled.cells_not
+
+pub returns-clause-remains : goal.returns-clause-remains
+returns-clause-remains g c = field.remains_in

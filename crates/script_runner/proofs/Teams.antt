@@ -1,0 +1,230 @@
+-- What a domain's history has of each thread of a script.
+use Rattle.std.proofs.Common.{Bool, ◌≡◌, ℕ, List, [], ◌∷◌, ◌++◌, Option, Some, None, true, refl, sym, ap, subst, ◌∙◌, ◌-◌}
+use Rattle.control_block.proofs.Own.{goes_by_call, goes_by_join, goes_by_none, goes_in_turn}
+use Rattle.control_block.specs.Desks.{Adds, DeskNow, state_of}
+use Rattle.control_block.specs.Own as own
+use Rattle.control_block.specs.Rule.{opening_of}
+use Rattle.control_block.specs.declared.handles.Held.TheVariants.{Owner, Weak}
+use Rattle.control_block.specs.declared.handles.Held.{Held}
+use Rattle.control_word.proofs.lists.Tallies.{put_same}
+use Rattle.control_word.specs.Histories.{IsLegal, leads}
+use Rattle.control_word.specs.declared.event.Event.TheVariants as event
+use Rattle.control_word.specs.declared.event.Event.{Event}
+use Rattle.control_word.specs.declared.place.Block.{Block}
+use Rattle.control_word.specs.declared.place.Place.{Place}
+use Rattle.control_word.specs.declared.shape.Shape.{Shape}
+use Rattle.handle_table.specs.Calls.{LeavesSlot, LetsGo}
+use Rattle.handle_table.specs.Parting.{AbsorbsAll, IsPartedInto, LeaveSlots, WindsUp}
+use Rattle.handle_table.specs.Tables as table
+use Rattle.handle_table.specs.Tables.{TableNow}
+use Rattle.script_runner.proofs.Ending.{by_quiet}
+use Rattle.script_runner.proofs.Logging as log
+use Rattle.script_runner.proofs.Putting.{quiet_left}
+use Rattle.script_runner.proofs.Seating.{quietly}
+use Rattle.script_runner.proofs.Stages.{some_last}
+use Rattle.script_runner.specs.Logs.{Tells}
+use Rattle.script_runner.specs.Seats.{IsQuiet}
+use Rattle.script_runner.specs.Teams.{AllBare, AllMarked, AllPlay, TeamsPlay}
+use Rattle.shared_handle.specs.Calls.{LeavesWeakly, counting}
+use Rattle.shared_handle.specs.Endings.{IsClearing, IsLeft}
+use Rattle.shared_handle.specs.Piles.{AreRounds, IsRound, Past}
+use Rattle.shared_handle.specs.declared.endings.Ending as pile
+use Rattle.shared_handle.specs.declared.endings.Left.TheVariants as left
+use Rattle.shared_handle.specs.declared.endings.Left.{Left}
+use Rattle.shared_handle.specs.declared.endings.Member.TheVariants.{First, Next, Up}
+use Rattle.shared_handle.specs.declared.endings.Member.{Member}
+use Rattle.shared_handle.specs.declared.pile.Gone.{Gone}
+use Rattle.shared_handle.specs.declared.pile.Round.TheVariants.{Settled, Cleared, Ended}
+use Rattle.shared_handle.specs.declared.pile.Round.{Round}
+use Rattle.step_table.specs.declared.form.Form.{Form}
+use Rattle.step_threads.specs.Courses.{Walk}
+use Rattle.step_threads.specs.Doings.{Over, ahead}
+use Rattle.step_threads.specs.Interleavings.{Marked}
+use Rattle.step_threads.specs.Programs.{Part}
+use Rattle.step_threads.specs.declared.said.Said.{Said}
+
+module _ {V : Type 0} where
+  -- the desk's history goes on, by some events of its own
+  abbrev GoesOn : DeskNow V → DeskNow V → Type 0
+  GoesOn d e = (mine : List (Event V)) × own.Goes d mine e
+
+  turn : (d e f : DeskNow V) → GoesOn d e → GoesOn e f → GoesOn d f
+  turn d e f x y = (y.0 ++ x.0, goes_in_turn d x.0 e y.0 f x.1 y.1)
+
+  stay : (d e : DeskNow V) → e ≡ d → GoesOn d e
+  stay d e is = ([], subst (λ (x : DeskNow V). own.Goes d [] x) (sym is) (goes_by_none d))
+
+  count_on : (d e : DeskNow V) (n : ℕ) → e ≡ counting n d → GoesOn d e
+  count_on d e n is = (
+    [],
+    subst (λ (x : DeskNow V). own.Goes d [] x) (sym is)
+        (record { same = (refl, refl, refl); later = []; seen = refl; mine = refl; legal = λ l. l }),
+  )
+
+  by_call : (d e : DeskNow V) (v : Event V) → Adds d v e → GoesOn d e
+  by_call d e v adds = (v ∷ [], goes_by_call d v e adds)
+
+  left_on : (d e : DeskNow V) (b : Option Block) (p : Option Place) (y : Left V) → IsLeft d b p y e → GoesOn d e
+  left_on d e b p left.Empty leaves = count_on d e (d.held - 1) leaves.1
+  left_on d e b p left.Others leaves = by_call d e _ leaves.2
+  left_on d e b p (left.Last x) leaves = by_call d e _ leaves.1
+
+  weak_on : (d e : DeskNow V) (b : Option Block) (p : Option Place) (vacant : Bool) → LeavesWeakly d b p vacant e → GoesOn d e
+  weak_on d e None p vacant leaves = count_on d e (d.held - 1) leaves.0
+  weak_on d e (Some b) p vacant leaves = by_call d e _ leaves
+
+  let_on : (d e : DeskNow V) (xs ys : List (pile.Ending V)) (h : Held) (gone : Gone) → LetsGo d xs h gone e ys → GoesOn d e
+  let_on d e xs ys (Owner h) gone drops = left_on d e h.block h.place drops.left drops.leaves
+  let_on d e xs ys (Weak w) gone leaves = weak_on d e w.block w.place leaves.2.0 leaves.2.1
+
+  slot_on : (d e : DeskNow V) (xs ys : List (pile.Ending V)) (s : table.Slot) → LeavesSlot d xs s e ys → GoesOn d e
+  slot_on d e xs ys None leaves = stay d e leaves.0
+  slot_on d e xs ys (Some h) leaves = let_on d e xs ys h leaves.0 leaves.1
+
+  slots_on : (d e : DeskNow V) (xs ys : List (pile.Ending V)) (ss : List table.Slot) → LeaveSlots d xs ss e ys → GoesOn d e
+  slots_on d e xs ys [] leaves = stay d e leaves.0
+  slots_on d e xs ys (s ∷ ss) leaves =
+      turn d leaves.0 e (slots_on d leaves.0 xs leaves.1 ss leaves.2) (slot_on leaves.0 e leaves.1 ys s leaves.3)
+
+  clearing_on : (d e : DeskNow V) (x : pile.Ending V) (q : Member) (y : Left V) → IsClearing d x q y e → GoesOn d e
+  clearing_on d e x First y c =
+      turn d c.0.between e (by_call d c.0.between _ c.0.takes.event) (left_on c.0.between e c.0.block c.0.place y c.0.leaves)
+  clearing_on d e x Next y c =
+      turn d c.0.between e (by_call d c.0.between _ c.0.takes.event) (left_on c.0.between e c.0.block c.0.place y c.0.leaves)
+  clearing_on d e x Up y c =
+      turn d c.between e (by_call d c.between _ c.takes.event) (weak_on c.between e c.block c.place c.vacant c.leaves)
+
+  round_on : (d e : DeskNow V) (ys zs : List (pile.Ending V)) (r : Round V) → IsRound d ys r e zs → GoesOn d e
+  round_on d e ys zs Settled r = stay d e r.2
+  round_on d e ys zs (Cleared q gone) c = clearing_on d e c.top q c.left c.clears
+  round_on d e ys zs (Ended v) c = by_call d e _ c.finish.event
+
+  rounds_on : (d e : DeskNow V) (ys zs : List (pile.Ending V)) (rs : List (Past V)) → AreRounds d ys rs e zs → GoesOn d e
+  rounds_on d e ys zs [] are = stay d e are.0
+  rounds_on d e ys zs (r ∷ rs) are = turn d r.desk e (rounds_on d r.desk ys r.pile rs are.0) (round_on r.desk e r.pile zs r.round are.1)
+
+  wound_on : (t : TableNow V) (e : DeskNow V) → WindsUp t e → GoesOn t.desk e
+  wound_on t e w =
+      turn t.desk w.between e (slots_on t.desk w.between t.endings w.pile t.slots w.handles) (rounds_on w.between e w.pile [] w.rounds w.ends)
+
+  -- a table without an object's handle and with nothing left to end is wound up by no event
+  quiet_turn : (d e f : DeskNow V) → IsQuiet d e → IsQuiet e f → IsQuiet d f
+  quiet_turn d e f x y = record { shape = y.shape ∙ x.shape; name = y.name ∙ x.name; seen = y.seen ∙ x.seen }
+
+  quiet_same : (d e : DeskNow V) → e ≡ d → IsQuiet d e
+  quiet_same d e is = quietly d e d.held is
+
+  quiet_slots : (d e : DeskNow V) (xs ys : List (pile.Ending V)) (ss : List table.Slot) → AllBare ss → LeaveSlots d xs ss e ys
+      → IsQuiet d e × (ys ≡ xs)
+  quiet_slots d e xs ys [] bare leaves = (quiet_same d e leaves.0, leaves.1)
+  quiet_slots d e xs ys (None ∷ ss) bare leaves =
+      let x = quiet_slots d leaves.0 xs leaves.1 ss bare.1 leaves.2 in
+      (quiet_turn d leaves.0 e x.0 (quiet_same leaves.0 e leaves.3.0), leaves.3.1 ∙ x.1)
+  quiet_slots d e xs ys (Some h ∷ ss) bare leaves =
+      let x = quiet_slots d leaves.0 xs leaves.1 ss bare.1 leaves.2 in
+      let y = quiet_left leaves.0 e leaves.1 ys h leaves.3.0 bare.0 leaves.3.1 in
+      (quiet_turn d leaves.0 e x.0 y.0, y.1 ∙ x.1)
+
+  quiet_round : (d e : DeskNow V) (ys zs : List (pile.Ending V)) (r : Round V) → ys ≡ [] → IsRound d ys r e zs → IsQuiet d e × (zs ≡ [])
+  quiet_round d e ys zs Settled none r = (quiet_same d e r.2, r.1)
+  quiet_round d e ys zs (Cleared q gone) none c = absurd (some_last c.below c.top (sym none ∙ c.were))
+  quiet_round d e ys zs (Ended v) none c = absurd (some_last zs c.top (sym none ∙ c.were))
+
+  quiet_rounds : (d e : DeskNow V) (ys zs : List (pile.Ending V)) (rs : List (Past V)) → ys ≡ [] → AreRounds d ys rs e zs → IsQuiet d e × (zs ≡ [])
+  quiet_rounds d e ys zs [] none are = (quiet_same d e are.0, are.1 ∙ none)
+  quiet_rounds d e ys zs (r ∷ rs) none are =
+      let x = quiet_rounds d r.desk ys r.pile rs none are.0 in
+      let y = quiet_round r.desk e r.pile zs r.round x.1 are.1 in
+      (quiet_turn d r.desk e x.0 y.0, y.1)
+
+  quiet_wound : (t : TableNow V) (e : DeskNow V) → AllBare t.slots → t.endings ≡ [] → WindsUp t e → IsQuiet t.desk e
+  quiet_wound t e bare none w =
+      let x = quiet_slots t.desk w.between t.endings w.pile t.slots bare w.handles in
+      quiet_turn t.desk w.between e x.0 (quiet_rounds w.between e w.pile [] w.rounds (x.1 ∙ none) w.ends).0
+
+-- a table that is ready to be absorbed: its thread is over, and nothing is left
+record IsReady {V : Type 0} (worth : Form → V) (z : Shape) (part : Part) (u : TableNow V) (lines : List Said) : Type 0 where
+  pub name : ℕ
+  pub last : Walk
+  pub tells : Tells worth part name u.desk last lines
+  pub over : ahead last ≡ Over
+  pub bare : AllBare u.slots
+  pub settled : u.endings ≡ []
+  pub shape : u.desk.shape ≡ z
+
+module _ {V : Type 0} (worth : Form → V) (z : Shape) where
+  abbrev AllReady : List Part → List (TableNow V) → List (List Said) → Type 0
+  AllReady [] [] [] = Unit {0}
+  AllReady (p ∷ ps) (u ∷ us) (l ∷ ls) = IsReady worth z p u l × AllReady ps us ls
+  AllReady _ _ _ = ⊥
+
+  played : (d between : DeskNow V) (a k : ℕ) (parts : List Part) (lent left : List (TableNow V)) (lines : List (List Said))
+      → d.shape ≡ z → IsPartedInto d a k lent between → AllPlay worth parts lent left lines → AllReady parts left lines
+  played d between a k [] [] [] [] of parted all = tt
+  played d between a k (p ∷ ps) (t ∷ ts) (u ∷ us) (l ∷ ls) of parted all =
+      let splits = parted.1 in
+      let y = all.0 in (
+        record {
+          name = t.desk.name;
+          last = y.last;
+          tells = y.takes p t.desk.name (log.begins worth p d a k [] parted.0 t.desk splits);
+          over = y.over;
+          bare = y.bare;
+          settled = y.settled;
+          shape = y.shape ∙ (splits.beside.1 ∙ of);
+        },
+        played parted.0 between a k ps ts us ls (splits.event.same.1 ∙ of) parted.2 all.1,
+      )
+  played d between a k [] [] [] (l ∷ ls) of parted all = absurd all
+  played d between a k [] [] (u ∷ us) lines of parted all = absurd all
+  played d between a k [] (t ∷ ts) left lines of parted all = absurd all
+  played d between a k (p ∷ ps) [] left lines of parted all = absurd all
+  played d between a k (p ∷ ps) (t ∷ ts) [] lines of parted all = absurd all
+  played d between a k (p ∷ ps) (t ∷ ts) (u ∷ us) [] of parted all = absurd all
+
+  same_shape : (t u : TableNow V) (left : List (TableNow V)) → AbsorbsAll t left u → u.desk.shape ≡ t.desk.shape
+  same_shape t u [] is = ap (λ (x : TableNow V). x.desk.shape) is
+  same_shape t u (x ∷ xs) all = all.2.desks.same.1 ∙ same_shape t all.0 xs all.1
+
+  absorbed : (t u : TableNow V) (last : DeskNow V) (parts : List Part) (left : List (TableNow V)) (lines : List (List Said))
+      → t.desk.shape ≡ z → AbsorbsAll t left u → AllReady parts left lines → GoesOn u.desk last
+      → AllMarked worth (opening_of z) last.seen parts lines
+  absorbed t u last [] [] [] of all ready goes = tt
+  absorbed t u last (p ∷ ps) (x ∷ xs) (l ∷ ls) of all ready goes =
+      let m = all.0 in
+      let joins = all.2.desks in
+      let bare = all.2.bare in
+      let r = ready.0 in
+      let quiet = quiet_wound x bare r.bare r.settled all.2.winds_up in
+      let there = by_quiet worth x.desk bare quiet r.last l p r.name r.tells in
+      let shape : m.desk.shape ≡ z = same_shape t m xs all.1 ∙ of in
+      let marked : Marked worth (opening_of u.desk.shape) u.desk.seen r.name p l =
+      subst (λ k. Marked worth (opening_of k) u.desk.seen r.name p l) (sym joins.same.1)
+      (log.is_joined worth p r.name m.desk bare u.desk r.last l there r.over (quiet.shape ∙ (r.shape ∙ sym shape)) joins) in
+      let legal : IsLegal (opening_of u.desk.shape) u.desk.seen =
+      subst (λ k. IsLegal (opening_of k) u.desk.seen) (sym joins.same.1) joins.legal in
+      let joined : (state_of u.desk).joined r.name ≡ true =
+      ap (λ k. (leads (opening_of k) u.desk.seen).joined r.name) joins.same.1
+      ∙ (ap (λ h. (leads (opening_of m.desk.shape) h).joined r.name) joins.seen
+      ∙ put_same (leads (opening_of m.desk.shape) joins.before).joined bare.name true r.name (sym there.name)) in
+      let then : Marked worth (opening_of last.shape) last.seen r.name p l =
+      log.stays_joined worth p r.name u.desk last goes.0 l legal joined goes.1 marked in
+      let to : last.shape ≡ z = goes.1.same.1 ∙ (joins.same.1 ∙ shape) in (
+        (r.name, subst (λ k. Marked worth (opening_of k) last.seen r.name p l) to then),
+        absorbed t m last ps xs ls of all.1 ready.1 (turn m.desk u.desk last (event.Join bare.name ∷ [], goes_by_join m.desk bare u.desk joins) goes),
+      )
+  absorbed t u last [] [] (l ∷ ls) of all ready goes = absurd ready
+  absorbed t u last [] (x ∷ xs) lines of all ready goes = absurd ready
+  absorbed t u last (p ∷ ps) [] lines of all ready goes = absurd ready
+  absorbed t u last (p ∷ ps) (x ∷ xs) [] of all ready goes = absurd ready
+
+module _ {V : Type 0} where
+  parted_shape : (d e : DeskNow V) (a k : ℕ) (ts : List (TableNow V)) → IsPartedInto d a k ts e → e.shape ≡ d.shape
+  parted_shape d e a k [] is = ap (λ (x : DeskNow V). x.shape) is
+  parted_shape d e a k (t ∷ ts) parted = parted_shape parted.0 e a k ts parted.2 ∙ parted.1.event.same.1
+
+  pub teams_play : TeamsPlay V
+  teams_play worth parts lines t u between last lent left a k parted all absorbs winds =
+      let z = t.desk.shape in
+      absorbed worth z (record t { desk = between }) u last parts left lines (parted_shape t.desk between a k lent parted) absorbs
+      (played worth z t.desk between a k parts lent left lines refl parted all) (wound_on u last winds)

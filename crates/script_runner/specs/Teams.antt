@@ -1,0 +1,60 @@
+-- What a domain's history has of each thread of a script, once a table for each was joined and the first one wound up.
+-- All of it is own.
+use Rattle.std.specs.Prelude.{◌≡◌, ℕ, List, [], ◌∷◌, None, Some}
+use Rattle.control_block.specs.Desks.{DeskNow}
+use Rattle.control_block.specs.Rule.{opening_of}
+use Rattle.control_word.specs.State.{Opening}
+use Rattle.control_word.specs.declared.event.Entry.{Entry}
+use Rattle.handle_table.specs.Parting.{AbsorbsAll, IsPartedInto, WindsUp}
+use Rattle.handle_table.specs.Parts.{owned_by}
+use Rattle.handle_table.specs.Tables as table
+use Rattle.handle_table.specs.Tables.{TableNow}
+use Rattle.script_runner.specs.EndCalls.{Takes}
+use Rattle.step_table.specs.declared.form.Form.{Form}
+use Rattle.step_threads.specs.Courses.{Walk}
+use Rattle.step_threads.specs.Doings.{Over, ahead}
+use Rattle.step_threads.specs.Interleavings.{Marked, first_walk}
+use Rattle.step_threads.specs.Programs.{Part}
+use Rattle.step_threads.specs.declared.said.Said.{Said}
+
+-- no slot has a handle of an object
+abbrev pub IsBare : table.Slot → Type 0
+IsBare None = Unit {0}
+IsBare (Some h) = owned_by h ≡ None
+
+abbrev pub AllBare : List table.Slot → Type 0
+AllBare [] = Unit {0}
+AllBare (s ∷ ss) = IsBare s × AllBare ss
+
+module _ {V : Type 0} where
+  -- a worker's table was lent as t and left as u: what its desk did took its thread from its first act to its end, with
+  -- these lines, and nothing is left
+  pub record Plays (worth : Form → V) (part : Part) (t u : TableNow V) (lines : List Said) : Type 0 where
+    pub last : Walk
+    pub shape : u.desk.shape ≡ t.desk.shape
+    pub takes : Takes worth t.desk (first_walk part) [] u.desk last lines
+    pub over : ahead last ≡ Over
+    pub bare : AllBare u.slots
+    pub settled : u.endings ≡ []
+
+  abbrev pub AllPlay : (Form → V) → List Part → List (TableNow V) → List (TableNow V) → List (List Said)
+      → Type 0
+  AllPlay worth [] [] [] [] = Unit {0}
+  AllPlay worth (p ∷ ps) (t ∷ ts) (u ∷ us) (l ∷ ls) = Plays worth p t u l × AllPlay worth ps ts us ls
+  AllPlay worth _ _ _ _ = ⊥
+
+  -- each of these threads has its acts in the history, under a name of its own, with its lines
+  abbrev pub AllMarked : (Form → V) → Opening → List (Entry V) → List Part → List (List Said) → Type 0
+  AllMarked worth z h [] [] = Unit {0}
+  AllMarked worth z h (p ∷ ps) (l ∷ ls) = ((n : ℕ) × Marked worth z h n p l) × AllMarked worth z h ps ls
+  AllMarked worth z h _ _ = ⊥
+
+module _ (V : Type 0) where
+  -- a table gave parts to a table for each thread, which played it, and absorbed them; and then it was wound up
+  abbrev pub TeamsPlay : Type 0
+  TeamsPlay =
+      (worth : Form → V) (parts : List Part) (lines : List (List Said)) (t u : TableNow V) (between last : DeskNow V)
+      (lent left : List (TableNow V)) (allowance blocks : ℕ)
+      → IsPartedInto t.desk allowance blocks lent between → AllPlay worth parts lent left lines
+      → AbsorbsAll (record t { desk = between }) left u → WindsUp u last
+      → AllMarked worth (opening_of t.desk.shape) last.seen parts lines
