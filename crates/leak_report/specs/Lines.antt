@@ -54,8 +54,8 @@ listing shared hs kept blocks s = flat_map (left_lines shared hs kept s) (from 1
 abbrev pub held_at : Scene → List Holding
 held_at c = all_held (state_in c) c.extent.shape.blocks
 
--- what was found of the owners among them: which blocks are kept, the least block of each one's knot, and the owners that
--- cut one
+-- what was found of the owners among them: which blocks are kept, the least block of each one's knot, and the owners
+-- that cut one
 pub record Findings : Type 0 where
   pub kept : List Bool
   pub knots : List ℕ

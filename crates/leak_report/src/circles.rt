@@ -1,5 +1,6 @@
 //! The lines of leaked blocks that own each other in a circle.
-ghost use Rattle.std.specs.Prelude.{◌≡◌, ◌∷◌, ◌++◌, ◌+◌, ◌≤◌, ℕ, [], OnOk, length, string_bytes};
+ghost use Rattle.std.specs.Prelude.{◌≡◌, ◌∷◌, ◌++◌, ◌+◌, ◌≤◌, ℕ, [], OnOk, length};
+ghost use Rattle.std.specs.Prelude.{string_bytes};
 ghost use Rattle.std.specs.List.{flat_map};
 ghost use Rattle.script_text.specs.Canonical.{AddsLines};
 ghost use Rattle.owner_graph.specs.Rows.{held_on, row_at};
@@ -82,7 +83,8 @@ pub(crate) fn put_circles(
     found: &Circles,
     text: &mut String,
 ) -> Result<(), AllocError>
-    requires size { (blocks + 1 ≤ length found.now.tie_rows.items) × (blocks + 1 ≤ length found.now.cut_rows.items) }
+    requires size { (blocks + 1 ≤ length found.now.tie_rows.items)
+        × (blocks + 1 ≤ length found.now.cut_rows.items) }
     requires ties { (block : ℕ) → row_at found.now.tie_rows.items block ≡ held_on found.now.ties.items block }
     requires cuts { (block : ℕ) → row_at found.now.cut_rows.items block ≡ held_on found.now.cuts.items block }
     ensures { OnOk result (AddsLines text.old text.new

@@ -37,7 +37,8 @@ fn marks_of(
     }
 }
 
-/// What all cells hold at a run's end, by the block that it is on, which blocks are kept, and the circles of the others.
+/// What all cells hold at a run's end, by the block that it is on, which blocks are kept, and the circles of the
+/// others.
 #[derive(Drop)]
 pub(crate) struct Found {
     pub rows: Vec<Vec<Holding>>,

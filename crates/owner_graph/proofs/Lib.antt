@@ -4,8 +4,11 @@ pub mod Cutting
 pub mod Feeding
 pub mod Joining
 pub mod Labelling
+pub mod Layering
 pub mod Marking
 pub mod Owning
 pub mod RowLemmas
+pub mod Segments
+pub mod Sparing
 pub mod Stepping
 pub mod TieLemmas

@@ -3,6 +3,8 @@ pub mod Ends
 pub mod Fed
 pub mod Knots
 pub mod Labels
+pub mod Layers
 pub mod Owners
+pub mod Plans
 pub mod Rows
 pub mod Ties

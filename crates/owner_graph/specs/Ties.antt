@@ -27,7 +27,7 @@ ties shared kept knots hs = flat_map (ties_by shared kept knots) hs
 -- of ties, in order, just those that are cuts
 pub data AreCuts (shared blocks : ℕ) (hs : List Holding) : List Holding → List Holding → Type 0 where
   NoTies : AreCuts shared blocks hs [] []
-  OneCut : (t : Holding) (ts cs : List Holding) → IsCut shared blocks hs t.block.0 t.cell → AreCuts shared blocks hs ts cs
-      → AreCuts shared blocks hs (t ∷ ts) (t ∷ cs)
-  NoCut : (t : Holding) (ts cs : List Holding) → (IsCut shared blocks hs t.block.0 t.cell → ⊥) → AreCuts shared blocks hs ts cs
-      → AreCuts shared blocks hs (t ∷ ts) cs
+  OneCut : (t : Holding) (ts cs : List Holding) → IsCut shared blocks hs t.block.0 t.cell
+      → AreCuts shared blocks hs ts cs → AreCuts shared blocks hs (t ∷ ts) (t ∷ cs)
+  NoCut : (t : Holding) (ts cs : List Holding) → (IsCut shared blocks hs t.block.0 t.cell → ⊥)
+      → AreCuts shared blocks hs ts cs → AreCuts shared blocks hs (t ∷ ts) cs

@@ -8,12 +8,13 @@ ghost use Rattle.owner_graph.specs.Owners.{IsAmong};
 
 use crate::edges::{is_owner, source};
 use crate::holding::Holding;
+use crate::layers::{are_layers, guessed_layers};
 use crate::search::at;
 use std::alloc::{AllocError, Global};
 use step_table::cell_deed::Cell;
 
 /// Whether two cells are one.
-fn same_cell(one: Cell, other: Cell) -> bool
+pub(crate) fn same_cell(one: Cell, other: Cell) -> bool
     ensures { result ≡ same_cell one other }
 {
     match one {
@@ -43,7 +44,7 @@ fn feeds(shared: u32, holding: Holding, emptied: Cell, stays: &[bool]) -> bool
 }
 
 /// Marks the blocks on which an owner is that is not in the cell, and in a block that stays.
-fn fed_by(
+pub(crate) fn fed_by(
     alloc: Global,
     shared: u32,
     holdings: &[Holding],
@@ -83,8 +84,9 @@ fn starve(stays: &mut Vec<bool>, fed: &[bool]) -> bool
     found
 }
 
-/// Which blocks stay, once the cell is emptied: all but those that end.
-fn staying(
+/// Which blocks stay, once the cell is emptied: all but those that end. It takes as many rounds as the longest of the
+/// paths by which blocks end has blocks.
+fn by_rounds(
     alloc: Global,
     shared: u32,
     blocks: u16,
@@ -105,9 +107,30 @@ fn staying(
     }
 }
 
+/// The same. A search guesses them, and where a look finds the guess right, this takes time linear in blocks and
+/// handles.
+fn staying(
+    alloc: Global,
+    shared: u32,
+    blocks: u16,
+    holdings: &[Holding],
+    emptied: Cell,
+) -> Result<Vec<bool>, AllocError>
+    requires { All (IsAmong blocks) holdings.now }
+    ensures size { IfOk result (λ stays. length stays.items ≡ blocks + 1) }
+    ensures ends { IfOk result (λ stays. (b : ℕ) → b ≤ blocks
+        → slice_index_or stays.items b false ≡ false ↔ Ends shared (without emptied holdings.now) b) }
+{
+    let layers = guessed_layers(alloc, shared, blocks, holdings, emptied)?;
+    if are_layers(alloc, shared, blocks, holdings, emptied, &layers)? {
+        return Ok(layers.stays);
+    }
+    by_rounds(alloc, shared, blocks, holdings, emptied)
+}
+
 /// Whether each block of the knot of a block would end, if the cell were emptied, or what it holds made weak (own). The
-/// least block of each one's knot is what [`crate::knots`] gives. It takes as many rounds as the longest of the paths
-/// by which blocks end has blocks, and is refused only where a growth of memory was. Conditions: the blocks of all that
+/// least block of each one's knot is what [`crate::knots`] gives. It takes time linear in blocks and handles,
+/// and is refused only where a growth of memory was. Conditions: the blocks of all that
 /// is listed are among so many, and the block is one of them, from 1.
 pub fn is_cut(
     alloc: Global,

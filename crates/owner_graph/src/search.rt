@@ -15,7 +15,7 @@ pub(crate) fn at(list: &[usize], index: usize) -> usize
 }
 
 /// Puts a number at a place of a list, if it has it.
-fn put_at(list: &mut Vec<usize>, index: usize, number: usize) {
+pub(crate) fn put_at(list: &mut Vec<usize>, index: usize, number: usize) {
     if index < list.len() {
         list[index] = number;
     }

@@ -1,20 +1,26 @@
 //! Owners that tie knots of leaked blocks, and those of them that cut one.
-ghost use Rattle.std.specs.Prelude.{◌≡◌, ◌++◌, ◌≤◌, All, IfOk, OnOk};
+ghost use Rattle.std.specs.Prelude.{◌≡◌, ◌↔◌, ◌⊎◌, ◌++◌, ◌≤◌, All, IfOk, IsTrue, OnOk};
+ghost use Rattle.owner_graph.specs.Ends.{IsCut};
 ghost use Rattle.owner_graph.specs.Fed.{marked};
 ghost use Rattle.owner_graph.specs.Knots.{KnotsAre};
 ghost use Rattle.owner_graph.specs.Labels.{at};
 ghost use Rattle.owner_graph.specs.Owners.{IsAmong, source};
+ghost use Rattle.owner_graph.specs.Plans.{IsRight, IsRing, IsSpared, IsSure};
 ghost use Rattle.owner_graph.specs.Ties.{AreCuts, is_tie, ties, ties_by};
 
+use crate::checking::{is_right, is_sure};
 use crate::edges::{is_owner, source};
 use crate::ending::is_cut;
 use crate::holding::Holding;
+use crate::planning::{CutGuess, Plan, guessed_cuts};
+use crate::ringing::{Ring, Rings};
+use crate::rings::{is_ring, is_spared};
 use crate::search::at;
 use control_word::Block;
 use std::alloc::{AllocError, Global};
 
 /// Whether a place of a list is marked; past its end none is.
-fn marked(marks: &[bool], index: usize) -> bool
+pub(crate) fn marked(marks: &[bool], index: usize) -> bool
     ensures { result ≡ marked marks.now index }
 {
     index < marks.len() && marks[index]
@@ -78,6 +84,97 @@ pub fn ties(
     Ok(ties)
 }
 
+/// A plan and two rings, and which of them are found to be right.
+#[derive(Drop)]
+struct Looked {
+    plan: Plan,
+    one: Ring,
+    other: Ring,
+    is_right: bool,
+    is_one: bool,
+    is_other: bool,
+}
+
+/// Guesses at the cuts of knots, and looks whether the guess is right.
+fn look(
+    alloc: Global,
+    shared: u32,
+    blocks: u16,
+    holdings: &[Holding],
+    knots: &[usize],
+    ties: &[Holding],
+) -> Result<Looked, AllocError>
+    ensures right { IfOk result (λ l. IsTrue l.is_right → IsRight shared blocks holdings.now knots.now l.plan) }
+    ensures one { IfOk result (λ l. IsTrue l.is_one → IsRing shared blocks holdings.now l.one) }
+    ensures other { IfOk result (λ l. IsTrue l.is_other → IsRing shared blocks holdings.now l.other) }
+{
+    let CutGuess { plan, rings } = guessed_cuts(alloc, shared, blocks, holdings, knots, ties)?;
+    let Rings { one, other, .. } = rings;
+    let is_right = is_right(shared, blocks, holdings, knots, &plan);
+    let is_one = is_ring(shared, blocks, holdings, &one);
+    let is_other = is_ring(shared, blocks, holdings, &other);
+    Ok(Looked {
+        plan,
+        one,
+        other,
+        is_right,
+        is_one,
+        is_other,
+    })
+}
+
+/// Whether an owner is known to be a cut.
+fn is_known_cut(shared: u32, knots: &[usize], looked: &Looked, tie: Holding) -> bool
+    ensures { IsTrue result → IsTrue looked.now.is_right × IsSure shared knots.now looked.now.plan tie }
+{
+    looked.is_right && is_sure(shared, knots, &looked.plan, tie)
+}
+
+/// Whether an owner is known to be no cut.
+fn is_known_none(blocks: u16, knots: &[usize], looked: &Looked, tie: Holding) -> bool
+    ensures { IsTrue result → (IsTrue looked.now.is_one × IsSpared blocks knots.now looked.now.one tie)
+        ⊎ (IsTrue looked.now.is_other × IsSpared blocks knots.now looked.now.other tie) }
+{
+    (looked.is_one && is_spared(blocks, knots, &looked.one, tie))
+        || (looked.is_other && is_spared(blocks, knots, &looked.other, tie))
+}
+
+/// Whether a tie is a cut: where that isn't known, by what would end.
+fn is_cut_by(
+    alloc: Global,
+    shared: u32,
+    blocks: u16,
+    holdings: &[Holding],
+    knots: &[usize],
+    looked: &Looked,
+    tie: Holding,
+) -> Result<bool, AllocError>
+    requires among { All (IsAmong blocks) holdings.now }
+    requires knots { KnotsAre shared blocks holdings.now knots.now }
+    requires right { IsTrue looked.now.is_right → IsRight shared blocks holdings.now knots.now looked.now.plan }
+    requires one { IsTrue looked.now.is_one → IsRing shared blocks holdings.now looked.now.one }
+    requires other { IsTrue looked.now.is_other → IsRing shared blocks holdings.now looked.now.other }
+    requires block { (1 ≤ tie.block.0) × (tie.block.0 ≤ blocks) }
+    requires tie { IsAmong blocks tie }
+    ensures { IfOk result (λ is. IsTrue is ↔ IsCut shared blocks holdings.now tie.block.0 tie.cell) }
+{
+    if is_known_cut(shared, knots, looked, tie) {
+        return Ok(true);
+    }
+    if is_known_none(blocks, knots, looked, tie) {
+        return Ok(false);
+    }
+    is_cut(
+        alloc,
+        shared,
+        blocks,
+        holdings,
+        knots,
+        tie.block.0,
+        tie.cell,
+    )
+}
+
 /// Which ties are cuts (own): by [`is_cut`], just those that, emptied or made weak, would let all blocks of their knot
 /// end. They come in the order of the ties. It is refused only where a growth of memory was. Conditions: the blocks of
 /// all that is listed are among so many, and so are the least blocks of the ties' knots, from 1.
@@ -96,17 +193,10 @@ pub fn cuts(
     ensures cuts { IfOk result (λ v. AreCuts shared blocks holdings.now ties.now v.items) }
     ensures among { IfOk result (λ v. All (IsAmong blocks) v.items) }
 {
+    let looked = look(alloc, shared, blocks, holdings, knots, ties)?;
     let mut cuts = Vec::new(alloc);
     for tie in ties {
-        if !is_cut(
-            alloc,
-            shared,
-            blocks,
-            holdings,
-            knots,
-            tie.block.0,
-            tie.cell,
-        )? {
+        if !is_cut_by(alloc, shared, blocks, holdings, knots, &looked, *tie)? {
             continue;
         }
         cuts.push(*tie)?;

@@ -17,7 +17,7 @@ loop-tie-init c = (
 pub loop-tie-preserved : goal.loop-tie-preserved
 loop-tie-preserved c = (
   cut_more c.args.shared c.args.blocks c.args.holdings.now c.args.ties.now c.loop-tie.cuts.items c.push.new.self.items c.loop-tie.tie-index _
-      c.loop-tie-test.true c.loop-tie.invariant.0 c.in_ok-push.ensures.items (c.in_ok-is_cut.ensures.0 c.if-not-branch.false),
+      c.loop-tie-test.true c.loop-tie.invariant.0 c.in_ok-push.ensures.items (c.in_ok-is_cut_by.ensures.0 c.if-not-branch.false),
   subst (All (IsAmong c.args.blocks)) (sym c.in_ok-push.ensures.items) (All-push (IsAmong c.args.blocks) c.loop-tie.cuts.items _ c.loop-tie.invariant.1
       (c.requires.ties c.loop-tie.tie-index _ c.loop-tie-test.true)),
 )
@@ -25,6 +25,6 @@ loop-tie-preserved c = (
 pub loop-tie-preserved-then-not-branch : goal.loop-tie-preserved-then-not-branch
 loop-tie-preserved-then-not-branch c = (
   cut_no_more c.args.shared c.args.blocks c.args.holdings.now c.args.ties.now c.loop-tie.cuts.items c.loop-tie.tie-index _
-      c.loop-tie-test.true c.loop-tie.invariant.0 (λ is. true≢false (sym (c.in_ok-is_cut.ensures.1 is) ∙ c.if-not-branch.true)),
+      c.loop-tie-test.true c.loop-tie.invariant.0 (λ is. true≢false (sym (c.in_ok-is_cut_by.ensures.1 is) ∙ c.if-not-branch.true)),
   c.loop-tie.invariant.1,
 )

@@ -3,7 +3,7 @@ use Rattle.std.specs.Prelude.{◌≤◌}
 use Rattle.owner_graph.specs.Ends.{Ends, without}
 use Rattle.owner_graph.specs.Fed.{IsFed, marked}
 use Rattle.owner_graph.proofs.Feeding.{ended_more, stay_or_end}
-use Rattle.owner_graph.proofs.ending.staying.Goals as goal
+use Rattle.owner_graph.proofs.ending.by_rounds.Goals as goal
 
 pub loop-stays-preserved : goal.loop-stays-preserved
 loop-stays-preserved c =

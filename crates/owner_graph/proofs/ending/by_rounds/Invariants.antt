@@ -1,7 +1,7 @@
 use Rattle.std.proofs.Common.{◌≡◌, ◌+◌, length}
 use Rattle.owner_graph.specs.Ends.{without}
 use Rattle.owner_graph.specs.Fed.{HaveEnded, trues}
-use Rattle.owner_graph.proofs.ending.staying.Given as goal
+use Rattle.owner_graph.proofs.ending.by_rounds.Given as goal
 
 abbrev pub invariant-loop-stays : goal.invariant-loop-stays
 invariant-loop-stays l =
