@@ -111,7 +111,7 @@ impl<'a> SharedAt<'a> {
             block,
             place,
         };
-        let old = cell_calls::exchange::<V, Brand>(domain, desk, self.cell(), new);
+        let old = cell_calls::exchange::<V, Brand>(domain, desk, self.cell().site, new);
         Shared::of_parts(old.block, old.place)
     }
 
@@ -136,14 +136,8 @@ impl<'a> SharedAt<'a> {
         ensures count { endings_of desk.new ≡ endings_of desk.old + more_ending result }
         ensures apart { IsApart desk.old result }
     {
-        let (block, place) = handle.into_parts();
-        let new = Content {
-            kind: Kind::Owner,
-            block,
-            place,
-        };
         let site = self.cell().site;
-        let (old, value) = store_calls::store_shared::<V, Brand>(domain, desk, site, new);
+        let (old, value) = store_calls::store_shared::<V, Brand>(domain, desk, site, handle);
         Left::of_parts(old.block, value)
     }
 }

@@ -10,7 +10,7 @@ ghost use Rattle.atomic_cells.specs.Sites.{IsOpen, shared_cell};
 
 use crate::compared::Compared;
 use crate::shared_at::SharedAt;
-use control_block::cell_calls::Content;
+use control_block::cell_calls::{Content, Offer};
 use control_block::cell_compare_calls;
 use control_block::cell_plays::Aimed;
 use control_block::desk::Desk;
@@ -52,18 +52,19 @@ impl<'a> SharedAt<'a> {
         ensures keeps { OnOk result (Keeps desk.old desk.new) }
     {
         let (block, place) = desired.into_parts();
+        let expected = Content {
+            kind: Kind::Owner,
+            block: expected.block(),
+            place: expected.place(),
+        };
         let new = Content {
             kind: Kind::Owner,
             block,
             place,
         };
-        let there = Content {
-            kind: Kind::Owner,
-            block: expected.block(),
-            place: expected.place(),
-        };
-        let cell = self.cell();
-        match cell_compare_calls::compare::<V, A, R>(rt, domain, desk, cell, there, new) {
+        let site = self.cell().site;
+        let offer = Offer { expected, new };
+        match cell_compare_calls::compare::<V, A, R>(rt, domain, desk, site, offer) {
             Err(why) => Err(Refused {
                 why,
                 back: Shared::of_parts(block, place),

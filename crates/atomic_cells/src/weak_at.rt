@@ -116,7 +116,7 @@ impl<'a> WeakAt<'a> {
             block,
             place,
         };
-        let old = cell_calls::exchange::<V, Brand>(domain, desk, self.cell(domain), new);
+        let old = cell_calls::exchange::<V, Brand>(domain, desk, self.cell(domain).site, new);
         handles::Weak::of_parts(old.block, old.place)
     }
 
@@ -141,14 +141,8 @@ impl<'a> WeakAt<'a> {
         ensures endings { KeepsEndings desk.old desk.new }
         ensures count { endings_of desk.new ≡ endings_of desk.old }
     {
-        let (block, place) = handle.into_parts();
-        let new = Content {
-            kind: Kind::Weak,
-            block,
-            place,
-        };
         let site = self.cell(domain).site;
-        let (old, _) = store_calls::store_weak::<V, Brand>(domain, desk, site, new);
+        let (old, _) = store_calls::store_weak::<V, Brand>(domain, desk, site, handle);
         match old.block {
             None => Left::Empty,
             Some(_) => Left::Others,

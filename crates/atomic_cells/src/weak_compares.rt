@@ -10,7 +10,7 @@ ghost use Rattle.atomic_cells.specs.Sites.{IsOpenWeakly, weak_cell};
 
 use crate::compared::Compared;
 use crate::weak_at::WeakAt;
-use control_block::cell_calls::Content;
+use control_block::cell_calls::{Content, Offer};
 use control_block::cell_plays::Aimed;
 use control_block::desk::Desk;
 use control_block::domain::Domain;
@@ -51,18 +51,19 @@ impl<'a> WeakAt<'a> {
         ensures keeps { OnOk result (Keeps desk.old desk.new) }
     {
         let (block, place) = desired.into_parts();
+        let expected = Content {
+            kind: Kind::Weak,
+            block: expected.block(),
+            place: expected.place(),
+        };
         let new = Content {
             kind: Kind::Weak,
             block,
             place,
         };
-        let there = Content {
-            kind: Kind::Weak,
-            block: expected.block(),
-            place: expected.place(),
-        };
-        let cell = self.cell(domain);
-        match cell_compare_calls::compare::<V, A, R>(rt, domain, desk, cell, there, new) {
+        let site = self.cell(domain).site;
+        let offer = Offer { expected, new };
+        match cell_compare_calls::compare::<V, A, R>(rt, domain, desk, site, offer) {
             Err(why) => Err(Refused {
                 why,
                 back: handles::Weak::of_parts(block, place),

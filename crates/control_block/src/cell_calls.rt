@@ -1,6 +1,7 @@
 //! Cells as the calls on them name them: where one is, and what goes in or comes out.
-ghost use Rattle.std.specs.Coded.{Coded-set};
-ghost use Rattle.std.specs.Prelude.{◌≡◌, ◌+◌};
+ghost use Rattle.std.specs.Coded.{Coded-set, coded_bool};
+ghost use Rattle.std.specs.Prelude.{◌≡◌, ◌+◌, true};
+ghost use Rattle.control_word.specs.Handles.{same_kind};
 ghost use Rattle.control_block.specs.CellCalls.{IsSite, word_at};
 ghost use Rattle.control_block.specs.Handles.{IsProper, IsProper-prop};
 
@@ -32,6 +33,15 @@ pub struct Content {
     pub place: Option<Place>,
     /// An empty owner may point at a place all the same: one of a block's fields. An empty weak handle points nowhere.
     pub ghost proper: { IsProper kind block place } by { IsProper-prop kind block place (Coded-set place-code) },
+}
+
+/// What a compare-and-swap is given: the handle that the cell is expected to hold, and the one that is to go in, both
+/// of the cell's kind.
+#[derive(Clone, Copy, Drop)]
+pub struct Offer {
+    pub expected: Content,
+    pub new: Content,
+    pub ghost alike: { same_kind expected.kind new.kind ≡ true } by { Coded-set coded_bool (same_kind expected.kind new.kind) true },
 }
 
 /// Where a cell's word lies.

@@ -43,6 +43,7 @@ pub struct Pile<V> {
 
 impl Gone {
     /// What is told of an owner that left (own).
+    #[inline(always)]
     pub(crate) fn of<V>(left: &Left<V>) -> Gone
         ensures { result ≡ gone_of left.now }
     {
@@ -91,6 +92,7 @@ impl<V: Drop + Send> Pile<V> {
 
     /// What came of an owner that left goes onto the pile, where an object ends for it (own). Condition: there is room,
     /// as there is for what ends with the pile's own desk.
+    #[inline(always)]
     pub(crate) fn put(&mut self, left: Left<V>)
         requires room { length self.old.endings.items + more_ending left ≤ vec_capacity self.old.endings }
         ensures endings { self.new.endings.items ≡ piled self.old.endings.items left }

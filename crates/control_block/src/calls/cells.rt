@@ -4,7 +4,7 @@ ghost use Rattle.control_word.specs.declared.event.Event.TheVariants.{Load, Swap
 ghost use Rattle.control_block.specs.Desks.{Belongs, Adds, Keeps, allowance_of, bag_of, held_of};
 ghost use Rattle.control_block.specs.CellCalls.{Holds, IsOpenAt, cell_at, handle_in, with_handle, without_handle};
 
-use crate::cell_calls::{CellAt, Content, word_of};
+use crate::cell_calls::{CellAt, Content, Site, word_of};
 use crate::desk::Desk;
 use crate::domain::Domain;
 use crate::plays::cells::Aimed;
@@ -53,34 +53,33 @@ pub fn load<V: Drop + Send, A: Aimed, R: Wait>(
 pub fn exchange<V: Drop + Send, A: Aimed>(
     domain: &Domain<V>,
     desk: &mut Desk<V>,
-    cell: CellAt,
+    site: Site,
     new: Content,
 ) -> Content
     requires domain { Belongs desk.old domain.now }
-    requires cell { IsOpenAt desk.old cell.site cell.kind × (A.cell ≡ cell_at desk.old cell.site) }
-    requires new { A.new ≡ handle_in desk.old cell.kind new.block new.place }
-    requires holds { Holds desk.old cell.kind new.block new.place }
-    requires kind { new.kind ≡ cell.kind }
+    requires cell { IsOpenAt desk.old site new.kind × (A.cell ≡ cell_at desk.old site) }
+    requires new { A.new ≡ handle_in desk.old new.kind new.block new.place }
+    requires holds { Holds desk.old new.kind new.block new.place }
     ensures event { Adds desk.old
-        (Swap A.cell A.new (handle_in desk.new cell.kind result.block result.place)) desk.new }
-    ensures bag { bag_of desk.new ≡ with_handle cell.kind result.block result.place
-        (without_handle cell.kind new.block new.place (bag_of desk.old)) }
+        (Swap A.cell A.new (handle_in desk.new new.kind result.block result.place)) desk.new }
+    ensures bag { bag_of desk.new ≡ with_handle new.kind result.block result.place
+        (without_handle new.kind new.block new.place (bag_of desk.old)) }
     ensures held { desk.new.held ≡ desk.old.held }
-    ensures holds { Holds desk.new cell.kind result.block result.place }
-    ensures kind { result.kind ≡ cell.kind }
+    ensures holds { Holds desk.new new.kind result.block result.place }
+    ensures kind { result.kind ≡ new.kind }
     ensures keeps { Keeps desk.old desk.new }
 {
     let board = &domain.table.shared;
     let seat = &mut desk.seat;
-    let word = word_of(domain.shape.blocks, cell.site);
+    let word = word_of(domain.shape.blocks, site);
     let full = CellWord {
         owned: new.block,
         place: new.place,
         taken: 0,
     };
-    let old = rounds::cells::swap::<V, A>(board, seat, word, cell.kind, full);
+    let old = rounds::cells::swap::<V, A>(board, seat, word, new.kind, full);
     Content {
-        kind: cell.kind,
+        kind: new.kind,
         block: old.owned,
         place: old.place,
     }

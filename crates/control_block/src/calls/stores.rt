@@ -11,6 +11,7 @@ use crate::calls::put_by_out;
 use crate::cell_calls::{Content, Site, word_of};
 use crate::desk::Desk;
 use crate::domain::Domain;
+use crate::handles::{self, Shared};
 use crate::in_place::InPlace;
 use crate::plays::cells::Aimed;
 use crate::rounds;
@@ -24,13 +25,12 @@ pub fn store_shared<V: Drop + Send, A: Aimed>(
     domain: &Domain<V>,
     desk: &mut Desk<V>,
     site: Site,
-    new: Content,
+    new: Shared,
 ) -> (Content, Option<InPlace<V>>)
     requires domain { Belongs desk.old domain.now }
     requires cell { IsOpenAt desk.old site Owner × (A.cell ≡ cell_at desk.old site) }
     requires new { A.new ≡ handle_in desk.old Owner new.block new.place }
     requires holds { Holds desk.old Owner new.block new.place }
-    requires kind { new.kind ≡ Owner }
     ensures stored { Replaces desk.old A.cell A.new result.0.block result.0.place result.1 desk.new }
     ensures bag { bag_of desk.new ≡ without_handle Owner new.block new.place (bag_of desk.old) }
     ensures held { desk.new.held + 1 ≡ desk.old.held }
@@ -40,9 +40,10 @@ pub fn store_shared<V: Drop + Send, A: Aimed>(
     desk.held -= 1; // here, since each locked instruction that follows waits for what was stored before it
     let board = &domain.table.shared;
     let word = word_of(domain.shape.blocks, site);
+    let Shared { block, place } = new;
     let full = CellWord {
-        owned: new.block,
-        place: new.place,
+        owned: block,
+        place,
         taken: 0,
     };
     let (out, value) = rounds::stores::store_shared::<V, A>(board, &mut desk.seat, word, full);
@@ -62,13 +63,12 @@ pub fn store_weak<V: Drop + Send, A: Aimed>(
     domain: &Domain<V>,
     desk: &mut Desk<V>,
     site: Site,
-    new: Content,
+    new: handles::Weak,
 ) -> (Content, bool)
     requires domain { Belongs desk.old domain.now }
     requires cell { IsOpenAt desk.old site Weak × (A.cell ≡ cell_at desk.old site) }
     requires new { A.new ≡ handle_in desk.old Weak new.block new.place }
     requires holds { Holds desk.old Weak new.block new.place }
-    requires kind { new.kind ≡ Weak }
     ensures stored { ReplacesWeakly desk.old A.cell A.new result.0.block result.0.place result.1 desk.new }
     ensures bag { bag_of desk.new ≡ without_handle Weak new.block new.place (bag_of desk.old) }
     ensures held { desk.new.held + 1 ≡ desk.old.held }
@@ -80,9 +80,10 @@ pub fn store_weak<V: Drop + Send, A: Aimed>(
     desk.held -= 1; // here, since each locked instruction that follows waits for what was stored before it
     let board = &domain.table.shared;
     let word = word_of(domain.shape.blocks, site);
+    let handles::Weak { block, place } = new;
     let full = CellWord {
-        owned: new.block,
-        place: new.place,
+        owned: block,
+        place,
         taken: 0,
     };
     let (out, vacant) = rounds::stores::store_weak::<V, A>(board, &mut desk.seat, word, full);

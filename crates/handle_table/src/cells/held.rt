@@ -9,7 +9,7 @@ ghost use Rattle.atomic_cells.specs.Compares.{Compares};
 ghost use Rattle.handle_table.specs.Parts.{kind_of, owned_by, place_of};
 
 use crate::slots::kinds::{held_of, into_content};
-use control_block::cell_calls::{self, CellAt, Content};
+use control_block::cell_calls::{self, CellAt, Content, Offer};
 use control_block::cell_compare_calls;
 use control_block::desk::Desk;
 use control_block::domain::Domain;
@@ -87,7 +87,7 @@ pub(crate) fn exchange_held<V: Drop + Send>(
     ensures keeps { Keeps desk.old desk.new }
 {
     let new = into_content(handle);
-    let old = cell_calls::exchange::<V, Brand>(domain, desk, cell, new);
+    let old = cell_calls::exchange::<V, Brand>(domain, desk, cell.site, new);
     held_of(old)
 }
 
@@ -116,7 +116,8 @@ pub(crate) fn compare_held<V: Drop + Send, F: Form, R: Wait>(
     ensures refused { IfErr result
         (λ why. (why ≡ Limit) × (held_of desk.old ≡ allowance_of desk.old) × (desk.new ≡ desk.old)) }
 {
-    match cell_compare_calls::compare::<V, Brand, R>(rt, domain, desk, cell, expected, new) {
+    let offer = Offer { expected, new };
+    match cell_compare_calls::compare::<V, Brand, R>(rt, domain, desk, cell.site, offer) {
         Ok((swapped, found)) => Ok((swapped, held_of(found))),
         Err(why) => Err(why),
     }

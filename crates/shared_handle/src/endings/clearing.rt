@@ -65,6 +65,7 @@ impl<V: Drop + Send> Ending<V> {
     /// never `Last`. An object that ends for it is another than this one and than all that end in the desk's hands, and
     /// they may be finished in any order. It refuses
     /// nothing, at the allowance too: the desk keeps one place of its allowance free while an object ends in its hands.
+    #[inline]
     pub fn clear_member(
         &mut self,
         domain: &Domain<V>,

@@ -13,6 +13,7 @@ use control_block::domain::Domain;
 
 impl<V: Drop + Send> Ending<V> {
     /// The first member that isn't cleared yet (own).
+    #[inline(always)]
     fn next_member(&self) -> Option<Member>
         ensures { result ≡ next_member self.now }
     {
@@ -28,6 +29,7 @@ impl<V: Drop + Send> Ending<V> {
     }
 
     /// Whether a member is cleared (own).
+    #[inline(always)]
     fn is_cleared(&self, member: Member) -> bool
         ensures { result ≡ is_cleared self.now member }
     {
@@ -43,6 +45,7 @@ impl<V: Drop + Send> Pile<V> {
     /// One round (own): the first member of the top that isn't cleared is emptied, and what ends for it lies above the
     /// top; or the top is finished, where all three are clear, and its value comes out. So an object is finished after
     /// what its members alone owned. What ends in the desk's hands elsewhere stays as it is.
+    #[inline(always)]
     pub fn round(&mut self, domain: &Domain<V>, desk: &mut Desk<V>) -> Round<V>
         requires carries { Carries domain.now desk.old self.old }
         ensures carries { Carries domain.now desk.new self.new }

@@ -6,8 +6,8 @@ use Rattle.atomic_cells.proofs.shared_at.SharedAt.exchange.Given as goal
 abbrev pub ghosts-exchange : goal.ghosts-exchange
 ghosts-exchange g a =
     record {
-      cell = cell_at a.desk.now a.cell.site;
-      new = handle_in a.desk.now a.cell.kind a.new.block a.new.place;
-      expected = empty a.cell.kind;
+      cell = cell_at a.desk.now a.site;
+      new = handle_in a.desk.now a.new.kind a.new.block a.new.place;
+      expected = empty a.new.kind;
       weak = false;
     }

@@ -1,7 +1,5 @@
-use Rattle.std.proofs.Common.{◌+◌, Option, ap, subst, ◌∙◌}
+use Rattle.std.proofs.Common.{◌+◌, ap, subst, ◌∙◌}
 use Rattle.control_word.specs.declared.handle.Kind.TheVariants.{Owner}
-use Rattle.control_word.specs.declared.place.Block.{Block}
-use Rattle.control_word.specs.declared.place.Place.{Place}
 use Rattle.control_block.specs.CellCalls.{cell_at, handle_in}
 use Rattle.control_block.specs.Desks.{endings_of}
 use Rattle.control_block.specs.Storing.{Replaces}
@@ -15,8 +13,7 @@ returns-clause-stored g c =
     let t = c.store_shared-value in let d = c.args.desk.now in let h = c.args.handle in let x = t.result.0 in
     stores d t.new.desk (shared_cell d c.args.self.now.site) h.block h.place x.block x.place t.result.1 c.of_parts.result
     (subst (λ (y : Site). Replaces d (cell_at d y) (handle_in d Owner h.block h.place) x.block x.place t.result.1 t.new.desk) c.cell-site.ensures.0
-    (subst (λ (y : Option Block × Option Place). Replaces d (cell_at d c.cell-site.result.site) (handle_in d Owner y.0 y.1) x.block x.place
-    t.result.1 t.new.desk) c.into_parts-block.ensures t.ensures.stored)) c.of_parts.ensures
+    t.ensures.stored) c.of_parts.ensures
 
 pub returns-clause-count : goal.returns-clause-count
 returns-clause-count g c =

@@ -1,7 +1,5 @@
-use Rattle.std.proofs.Common.{Option, sym, ap, subst, ◌∙◌}
+use Rattle.std.proofs.Common.{sym, ap, subst, ◌∙◌}
 use Rattle.control_word.specs.declared.handle.Kind.TheVariants.{Weak}
-use Rattle.control_word.specs.declared.place.Block.{Block}
-use Rattle.control_word.specs.declared.place.Place.{Place}
 use Rattle.control_word.specs.declared.shape.Shape.{Shape}
 use Rattle.control_block.specs.CellCalls.{cell_at, handle_in}
 use Rattle.control_block.specs.Storing.{ReplacesWeakly}
@@ -17,8 +15,7 @@ returns-in-None-clause-stored g c =
     let there = c.cell-site.ensures.0 ∙ ap (λ (z : Shape). weak_site z.shared_cells site) (sym c.requires.domain.shape) in
     stores_weakly d t.new.desk (weak_cell d site) h.block h.place x.block x.place t.result.1 Empty
     (subst (λ (y : Site). ReplacesWeakly d (cell_at d y) (handle_in d Weak h.block h.place) x.block x.place t.result.1 t.new.desk) there
-    (subst (λ (y : Option Block × Option Place). ReplacesWeakly d (cell_at d c.cell-site.result.site) (handle_in d Weak y.0 y.1) x.block x.place
-    t.result.1 t.new.desk) c.into_parts-block.ensures t.ensures.stored)) c.in-None.is t.ensures.stock
+    t.ensures.stored) c.in-None.is t.ensures.stock
 
 pub returns-in-Some-clause-stored : goal.returns-in-Some-clause-stored
 returns-in-Some-clause-stored g c =
@@ -26,5 +23,4 @@ returns-in-Some-clause-stored g c =
     let there = c.cell-site.ensures.0 ∙ ap (λ (z : Shape). weak_site z.shared_cells site) (sym c.requires.domain.shape) in
     stores_weakly d t.new.desk (weak_cell d site) h.block h.place x.block x.place t.result.1 Others
     (subst (λ (y : Site). ReplacesWeakly d (cell_at d y) (handle_in d Weak h.block h.place) x.block x.place t.result.1 t.new.desk) there
-    (subst (λ (y : Option Block × Option Place). ReplacesWeakly d (cell_at d c.cell-site.result.site) (handle_in d Weak y.0 y.1) x.block x.place
-    t.result.1 t.new.desk) c.into_parts-block.ensures t.ensures.stored)) (c.in-Some.field-0, c.in-Some.is) t.ensures.stock
+    t.ensures.stored) (c.in-Some.field-0, c.in-Some.is) t.ensures.stock

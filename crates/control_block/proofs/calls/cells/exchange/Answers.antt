@@ -10,7 +10,6 @@ use Rattle.control_word.specs.declared.handle.Handle.{Handle}
 use Rattle.control_block.specs.CellCalls.{Holds, handle_in, with_handle, without_handle, word_at}
 use Rattle.control_block.specs.CellPlays.{IsWordOf}
 use Rattle.control_block.specs.Desks.{DeskNow, bag_of}
-use Rattle.control_block.specs.Handles.{IsProper}
 use Rattle.control_block.specs.Inside.{desk_now}
 use Rattle.control_block.specs.Plays.{Holding, known}
 use Rattle.control_block.proofs.Bags.{seen_as}
@@ -27,47 +26,47 @@ use Rattle.control_block.proofs.calls.cells.exchange.Goals as goal
 pub word_of-word-requires : goal.word_of-word-requires
 word_of-word-requires g c =
     let r = c.requires in
-    (word_there c.desk.inside c.desk.invariant c.args.cell.kind (word_at c.domain.inside.shape.blocks c.args.cell.site) c.args.desk.now
-    c.domain.inside.table.shared.table_id c.domain.inside.shape c.args.cell.site c.desk.view_is
+    (word_there c.desk.inside c.desk.invariant c.args.new.kind (word_at c.domain.inside.shape.blocks c.args.site) c.args.desk.now
+    c.domain.inside.table.shared.table_id c.domain.inside.shape c.args.site c.desk.view_is
     (ap (λ z. z.domain) c.desk.view_is ∙ (r.domain.table ∙ sym (ap (λ z. z.id) c.domain.view_is)))
     (ap (λ z. z.shape) c.desk.view_is ∙ (r.domain.shape ∙ sym (ap (λ z. z.shape) c.domain.view_is))) r.cell.0 refl).0
 
 pub swap-old-requires-clause-word : goal.swap-old-requires-clause-word
 swap-old-requires-clause-word g c =
     let r = c.requires in
-    (word_there c.desk.inside c.desk.invariant c.args.cell.kind c.word_of-word.result c.args.desk.now
-    c.domain.inside.table.shared.table_id c.domain.inside.shape c.args.cell.site c.desk.view_is
+    (word_there c.desk.inside c.desk.invariant c.args.new.kind c.word_of-word.result c.args.desk.now
+    c.domain.inside.table.shared.table_id c.domain.inside.shape c.args.site c.desk.view_is
     (ap (λ z. z.domain) c.desk.view_is ∙ (r.domain.table ∙ sym (ap (λ z. z.id) c.domain.view_is)))
     (ap (λ z. z.shape) c.desk.view_is ∙ (r.domain.shape ∙ sym (ap (λ z. z.shape) c.domain.view_is))) r.cell.0 c.word_of-word.ensures).1
 
 pub swap-old-requires-clause-cell : goal.swap-old-requires-clause-cell
 swap-old-requires-clause-cell g c =
     let r = c.requires in
-    cell_there c.desk.inside c.desk.invariant c.args.cell.kind c.word_of-word.result c.args.desk.now c.domain.inside.shape c.args.cell.site
+    cell_there c.desk.inside c.desk.invariant c.args.new.kind c.word_of-word.result c.args.desk.now c.domain.inside.shape c.args.site
     g.A.Aimed.cell c.desk.view_is (ap (λ z. z.shape) c.desk.view_is ∙ (r.domain.shape ∙ sym (ap (λ z. z.shape) c.domain.view_is))) r.cell.0 r.cell.1
     c.word_of-word.ensures
 
 pub swap-old-requires-clause-new : goal.swap-old-requires-clause-new
 swap-old-requires-clause-new g c =
-    let r = c.requires in let d = c.desk.inside in let h = c.desk.invariant in let v = d.seat.me.0 in let k = c.args.cell.kind in
+    let r = c.requires in let d = c.desk.inside in let h = c.desk.invariant in let v = d.seat.me.0 in let k = c.args.new.kind in
     let b = c.args.new.block in let p = c.args.new.place in let y = c.args.desk.now in let lost = g.A.Aimed.new in
     let new_is : lost ≡ in_seat v k b p = r.new ∙ ap (λ (z : DeskNow g.row.V.Denot). handle_in z k b p) (sym c.desk.view_is) in (
-      lost_word d y k p h c.desk.view_is b r.holds (subst (λ z. IsProper z b p) r.kind c.args.new.proper),
+      lost_word d y k p h c.desk.view_is b r.holds c.args.new.proper,
       refl,
       subst (λ (z : Handle). IsWordOf v z record { owned = b; place = p; taken = 0 }) (sym new_is) (lost_shows d y k p h c.desk.view_is b r.holds),
     )
 
 pub swap-old-requires-clause-hand : goal.swap-old-requires-clause-hand
 swap-old-requires-clause-hand g c =
-    let r = c.requires in let d = c.desk.inside in let h = c.desk.invariant in let v = d.seat.me.0 in let k = c.args.cell.kind in
+    let r = c.requires in let d = c.desk.inside in let h = c.desk.invariant in let v = d.seat.me.0 in let k = c.args.new.kind in
     let b = c.args.new.block in let p = c.args.new.place in let y = c.args.desk.now in let lost = g.A.Aimed.new in
     let new_is : lost ≡ in_seat v k b p = r.new ∙ ap (λ (z : DeskNow g.row.V.Denot). handle_in z k b p) (sym c.desk.view_is) in
     subst (λ (z : Handle). InHand (known v) v.view.name k z) (sym new_is)
-    (lost_hand d y k p h c.desk.view_is b r.holds (subst (λ z. IsProper z b p) r.kind c.args.new.proper))
+    (lost_hand d y k p h c.desk.view_is b r.holds c.args.new.proper)
 
 pub swap-old-requires-clause-holds : goal.swap-old-requires-clause-holds
 swap-old-requires-clause-holds g c =
-    let r = c.requires in let d = c.desk.inside in let h = c.desk.invariant in let v = d.seat.me.0 in let k = c.args.cell.kind in
+    let r = c.requires in let d = c.desk.inside in let h = c.desk.invariant in let v = d.seat.me.0 in let k = c.args.new.kind in
     let b = c.args.new.block in let p = c.args.new.place in let y = c.args.desk.now in let lost = g.A.Aimed.new in
     let new_is : lost ≡ in_seat v k b p = r.new ∙ ap (λ (z : DeskNow g.row.V.Denot). handle_in z k b p) (sym c.desk.view_is) in
     subst (λ (z : Handle). IfSome b (λ a. Holding v z.kind (object_of z) z.place a.0)) (sym new_is)
@@ -76,12 +75,12 @@ swap-old-requires-clause-holds g c =
 pub swap-old-requires-clause-count : goal.swap-old-requires-clause-count
 swap-old-requires-clause-count g c =
     let r = c.requires in
-    lost_counted c.desk.inside c.args.desk.now c.args.cell.kind c.args.new.place c.desk.invariant c.desk.view_is c.args.new.block
+    lost_counted c.desk.inside c.args.desk.now c.args.new.kind c.args.new.place c.desk.invariant c.desk.view_is c.args.new.block
     c.domain.inside.table.shared.table_id (ap (λ z. z.domain) c.desk.view_is ∙ (r.domain.table ∙ sym (ap (λ z. z.id) c.domain.view_is))) r.holds
 
 pub swap-old-requires-clause-room : goal.swap-old-requires-clause-room
 swap-old-requires-clause-room g c = λ none.
-    let r = c.requires in let d = c.desk.inside in let h = c.desk.invariant in let v = d.seat.me.0 in let k = c.args.cell.kind in
+    let r = c.requires in let d = c.desk.inside in let h = c.desk.invariant in let v = d.seat.me.0 in let k = c.args.new.kind in
     let b = c.args.new.block in let p = c.args.new.place in let y = c.args.desk.now in let lost = g.A.Aimed.new in
     let new_is : lost ≡ in_seat v k b p = r.new ∙ ap (λ (z : DeskNow g.row.V.Denot). handle_in z k b p) (sym c.desk.view_is) in
     lost_room d y k p h c.desk.view_is b r.holds (ap (λ z. z.object) (sym new_is) ∙ none)
@@ -89,7 +88,7 @@ swap-old-requires-clause-room g c = λ none.
 pub invariant_of-desk : goal.invariant_of-desk
 invariant_of-desk g c =
     let r = c.requires in let d = c.desk.inside in let h = c.desk.invariant in let v = d.seat.me.0 in let w = c.swap-old.new.chair.me.0 in
-    let x = c.swap-old.result in let k = c.args.cell.kind in let b = c.args.new.block in let p = c.args.new.place in let y = c.args.desk.now in
+    let x = c.swap-old.result in let k = c.args.new.kind in let b = c.args.new.block in let p = c.args.new.place in let y = c.args.desk.now in
     let cl = g.A.Aimed.cell in let lost = g.A.Aimed.new in
     let e : Handle → Event g.row.V.Denot = λ z. Swap cl lost z in
     let new_is : lost ≡ in_seat v k b p = r.new ∙ ap (λ (z : DeskNow g.row.V.Denot). handle_in z k b p) (sym c.desk.view_is) in
@@ -108,7 +107,7 @@ invariant_of-desk g c =
 pub returns-clause-event : goal.returns-clause-event
 returns-clause-event g c =
     let r = c.requires in let d = c.desk.inside in let h = c.desk.invariant in let v = d.seat.me.0 in let w = c.swap-old.new.chair.me.0 in
-    let x = c.swap-old.result in let k = c.args.cell.kind in let b = c.args.new.block in let p = c.args.new.place in let y = c.args.desk.now in
+    let x = c.swap-old.result in let k = c.args.new.kind in let b = c.args.new.block in let p = c.args.new.place in let y = c.args.desk.now in
     let cl = g.A.Aimed.cell in let lost = g.A.Aimed.new in
     let e : Handle → Event g.row.V.Denot = λ z. Swap cl lost z in
     let new_is : lost ≡ in_seat v k b p = r.new ∙ ap (λ (z : DeskNow g.row.V.Denot). handle_in z k b p) (sym c.desk.view_is) in
@@ -121,7 +120,7 @@ returns-clause-event g c =
 pub returns-clause-bag : goal.returns-clause-bag
 returns-clause-bag g c =
     let r = c.requires in let d = c.desk.inside in let h = c.desk.invariant in let v = d.seat.me.0 in let w = c.swap-old.new.chair.me.0 in
-    let x = c.swap-old.result in let k = c.args.cell.kind in let b = c.args.new.block in let p = c.args.new.place in let y = c.args.desk.now in
+    let x = c.swap-old.result in let k = c.args.new.kind in let b = c.args.new.block in let p = c.args.new.place in let y = c.args.desk.now in
     let cl = g.A.Aimed.cell in let lost = g.A.Aimed.new in
     let e : Handle → Event g.row.V.Denot = λ z. Swap cl lost z in
     let new_is : lost ≡ in_seat v k b p = r.new ∙ ap (λ (z : DeskNow g.row.V.Denot). handle_in z k b p) (sym c.desk.view_is) in
@@ -134,7 +133,7 @@ returns-clause-bag g c =
 pub returns-clause-holds : goal.returns-clause-holds
 returns-clause-holds g c =
     let r = c.requires in let d = c.desk.inside in let h = c.desk.invariant in let v = d.seat.me.0 in let w = c.swap-old.new.chair.me.0 in
-    let x = c.swap-old.result in let k = c.args.cell.kind in let b = c.args.new.block in let p = c.args.new.place in let y = c.args.desk.now in
+    let x = c.swap-old.result in let k = c.args.new.kind in let b = c.args.new.block in let p = c.args.new.place in let y = c.args.desk.now in
     let cl = g.A.Aimed.cell in let lost = g.A.Aimed.new in
     let e : Handle → Event g.row.V.Denot = λ z. Swap cl lost z in
     let new_is : lost ≡ in_seat v k b p = r.new ∙ ap (λ (z : DeskNow g.row.V.Denot). handle_in z k b p) (sym c.desk.view_is) in
@@ -150,7 +149,7 @@ returns-clause-holds g c =
 pub invariant_of-result : goal.invariant_of-result
 invariant_of-result g c =
     let r = c.requires in let d = c.desk.inside in let h = c.desk.invariant in let v = d.seat.me.0 in let w = c.swap-old.new.chair.me.0 in
-    let x = c.swap-old.result in let k = c.args.cell.kind in let b = c.args.new.block in let p = c.args.new.place in let y = c.args.desk.now in
+    let x = c.swap-old.result in let k = c.args.new.kind in let b = c.args.new.block in let p = c.args.new.place in let y = c.args.desk.now in
     let cl = g.A.Aimed.cell in let lost = g.A.Aimed.new in
     let e : Handle → Event g.row.V.Denot = λ z. Swap cl lost z in
     let new_is : lost ≡ in_seat v k b p = r.new ∙ ap (λ (z : DeskNow g.row.V.Denot). handle_in z k b p) (sym c.desk.view_is) in
@@ -165,7 +164,7 @@ invariant_of-result g c =
 pub returns-clause-keeps : goal.returns-clause-keeps
 returns-clause-keeps g c =
     let r = c.requires in let d = c.desk.inside in let h = c.desk.invariant in let v = d.seat.me.0 in let w = c.swap-old.new.chair.me.0 in
-    let x = c.swap-old.result in let k = c.args.cell.kind in let b = c.args.new.block in let p = c.args.new.place in let y = c.args.desk.now in
+    let x = c.swap-old.result in let k = c.args.new.kind in let b = c.args.new.block in let p = c.args.new.place in let y = c.args.desk.now in
     let cl = g.A.Aimed.cell in let lost = g.A.Aimed.new in
     let e : Handle → Event g.row.V.Denot = λ z. Swap cl lost z in
     let new_is : lost ≡ in_seat v k b p = r.new ∙ ap (λ (z : DeskNow g.row.V.Denot). handle_in z k b p) (sym c.desk.view_is) in

@@ -7,6 +7,7 @@ use Rattle.control_word.specs.State.{bag, bag_size}
 use Rattle.control_word.specs.declared.event.Event.{Event}
 use Rattle.control_word.specs.declared.event.Event.TheVariants.{Compare}
 use Rattle.control_word.specs.declared.handle.Handle.{Handle}
+use Rattle.control_word.proofs.lists.Tallies.{same_kind_true}
 use Rattle.control_block.specs.CellCalls.{Holds, handle_in, with_handle, without_handle, word_at}
 use Rattle.control_block.specs.CellPlays.{IsWordOf}
 use Rattle.control_block.specs.Desks.{DeskNow, bag_of}
@@ -26,62 +27,62 @@ use Rattle.control_block.proofs.calls.compares.compare.Goals as goal
 pub word_of-word-requires : goal.word_of-word-requires
 word_of-word-requires g c =
     let r = c.requires in
-    (word_there c.desk.inside c.desk.invariant c.args.cell.kind (word_at c.domain.inside.shape.blocks c.args.cell.site) c.args.desk.now
-    c.domain.inside.table.shared.table_id c.domain.inside.shape c.args.cell.site c.desk.view_is
+    (word_there c.desk.inside c.desk.invariant c.args.offer.new.kind (word_at c.domain.inside.shape.blocks c.args.site) c.args.desk.now
+    c.domain.inside.table.shared.table_id c.domain.inside.shape c.args.site c.desk.view_is
     (ap (λ z. z.domain) c.desk.view_is ∙ (r.domain.table ∙ sym (ap (λ z. z.id) c.domain.view_is)))
     (ap (λ z. z.shape) c.desk.view_is ∙ (r.domain.shape ∙ sym (ap (λ z. z.shape) c.domain.view_is))) r.cell.0 refl).0
 
 pub compare-swapped-requires-clause-word : goal.compare-swapped-requires-clause-word
 compare-swapped-requires-clause-word g c =
     let r = c.requires in
-    (word_there c.desk.inside c.desk.invariant c.args.cell.kind c.word_of-word.result c.args.desk.now
-    c.domain.inside.table.shared.table_id c.domain.inside.shape c.args.cell.site c.desk.view_is
+    (word_there c.desk.inside c.desk.invariant c.args.offer.new.kind c.word_of-word.result c.args.desk.now
+    c.domain.inside.table.shared.table_id c.domain.inside.shape c.args.site c.desk.view_is
     (ap (λ z. z.domain) c.desk.view_is ∙ (r.domain.table ∙ sym (ap (λ z. z.id) c.domain.view_is)))
     (ap (λ z. z.shape) c.desk.view_is ∙ (r.domain.shape ∙ sym (ap (λ z. z.shape) c.domain.view_is))) r.cell.0 c.word_of-word.ensures).1
 
 pub compare-swapped-requires-clause-cell : goal.compare-swapped-requires-clause-cell
 compare-swapped-requires-clause-cell g c =
     let r = c.requires in
-    cell_there c.desk.inside c.desk.invariant c.args.cell.kind c.word_of-word.result c.args.desk.now c.domain.inside.shape c.args.cell.site
+    cell_there c.desk.inside c.desk.invariant c.args.offer.new.kind c.word_of-word.result c.args.desk.now c.domain.inside.shape c.args.site
     g.A.Aimed.cell c.desk.view_is (ap (λ z. z.shape) c.desk.view_is ∙ (r.domain.shape ∙ sym (ap (λ z. z.shape) c.domain.view_is))) r.cell.0 r.cell.1
     c.word_of-word.ensures
 
 pub compare-swapped-requires-clause-expected : goal.compare-swapped-requires-clause-expected
 compare-swapped-requires-clause-expected g c =
-    let r = c.requires in let d = c.desk.inside in let h = c.desk.invariant in let v = d.seat.me.0 in let k = c.args.cell.kind in
-    let b = c.args.new.block in let p = c.args.new.place in let y = c.args.desk.now in let lost = g.A.Aimed.new in
+    let r = c.requires in let d = c.desk.inside in let h = c.desk.invariant in let v = d.seat.me.0 in let k = c.args.offer.new.kind in
+    let b = c.args.offer.new.block in let p = c.args.offer.new.place in let y = c.args.desk.now in let lost = g.A.Aimed.new in
     let new_is : lost ≡ in_seat v k b p = r.new ∙ ap (λ (z : DeskNow g.row.V.Denot). handle_in z k b p) (sym c.desk.view_is) in
-    let there = g.A.Aimed.expected in let q = c.args.expected.block in let o = c.args.expected.place in
+    let there = g.A.Aimed.expected in let q = c.args.offer.expected.block in let o = c.args.offer.expected.place in
     let there_is : there ≡ in_seat v k q o = r.expected ∙ ap (λ (z : DeskNow g.row.V.Denot). handle_in z k q o) (sym c.desk.view_is) in
     subst (λ (z : Handle). IsWordOf v z record { owned = q; place = o; taken = 0 }) (sym there_is) (lost_shows d y k o h c.desk.view_is q r.holds.0)
 
 pub compare-swapped-requires-clause-new : goal.compare-swapped-requires-clause-new
 compare-swapped-requires-clause-new g c =
-    let r = c.requires in let d = c.desk.inside in let h = c.desk.invariant in let v = d.seat.me.0 in let k = c.args.cell.kind in
-    let b = c.args.new.block in let p = c.args.new.place in let y = c.args.desk.now in let lost = g.A.Aimed.new in
+    let r = c.requires in let d = c.desk.inside in let h = c.desk.invariant in let v = d.seat.me.0 in let k = c.args.offer.new.kind in
+    let b = c.args.offer.new.block in let p = c.args.offer.new.place in let y = c.args.desk.now in let lost = g.A.Aimed.new in
     let new_is : lost ≡ in_seat v k b p = r.new ∙ ap (λ (z : DeskNow g.row.V.Denot). handle_in z k b p) (sym c.desk.view_is) in (
-      lost_word d y k p h c.desk.view_is b r.holds.1 (subst (λ z. IsProper z b p) r.kind.1 c.args.new.proper),
+      lost_word d y k p h c.desk.view_is b r.holds.1 c.args.offer.new.proper,
       refl,
       subst (λ (z : Handle). IsWordOf v z record { owned = b; place = p; taken = 0 }) (sym new_is) (lost_shows d y k p h c.desk.view_is b r.holds.1),
     )
 
 pub compare-swapped-requires-clause-hands : goal.compare-swapped-requires-clause-hands
 compare-swapped-requires-clause-hands g c =
-    let r = c.requires in let d = c.desk.inside in let h = c.desk.invariant in let v = d.seat.me.0 in let k = c.args.cell.kind in
-    let b = c.args.new.block in let p = c.args.new.place in let y = c.args.desk.now in let lost = g.A.Aimed.new in
+    let r = c.requires in let d = c.desk.inside in let h = c.desk.invariant in let v = d.seat.me.0 in let k = c.args.offer.new.kind in
+    let b = c.args.offer.new.block in let p = c.args.offer.new.place in let y = c.args.desk.now in let lost = g.A.Aimed.new in
     let new_is : lost ≡ in_seat v k b p = r.new ∙ ap (λ (z : DeskNow g.row.V.Denot). handle_in z k b p) (sym c.desk.view_is) in
-    let there = g.A.Aimed.expected in let q = c.args.expected.block in let o = c.args.expected.place in
+    let there = g.A.Aimed.expected in let q = c.args.offer.expected.block in let o = c.args.offer.expected.place in
     let there_is : there ≡ in_seat v k q o = r.expected ∙ ap (λ (z : DeskNow g.row.V.Denot). handle_in z k q o) (sym c.desk.view_is) in (
       subst (λ (z : Handle). InHand (known v) v.view.name k z) (sym there_is)
-          (lost_hand d y k o h c.desk.view_is q r.holds.0 (subst (λ z. IsProper z q o) r.kind.0 c.args.expected.proper)),
+          (lost_hand d y k o h c.desk.view_is q r.holds.0 (subst (λ z. IsProper z q o) (same_kind_true c.args.offer.expected.kind k c.args.offer.alike) c.args.offer.expected.proper)),
       subst (λ (z : Handle). InHand (known v) v.view.name k z) (sym new_is)
-          (lost_hand d y k p h c.desk.view_is b r.holds.1 (subst (λ z. IsProper z b p) r.kind.1 c.args.new.proper)),
+          (lost_hand d y k p h c.desk.view_is b r.holds.1 c.args.offer.new.proper),
     )
 
 pub compare-swapped-requires-clause-holds : goal.compare-swapped-requires-clause-holds
 compare-swapped-requires-clause-holds g c =
-    let r = c.requires in let d = c.desk.inside in let h = c.desk.invariant in let v = d.seat.me.0 in let k = c.args.cell.kind in
-    let b = c.args.new.block in let p = c.args.new.place in let y = c.args.desk.now in let lost = g.A.Aimed.new in
+    let r = c.requires in let d = c.desk.inside in let h = c.desk.invariant in let v = d.seat.me.0 in let k = c.args.offer.new.kind in
+    let b = c.args.offer.new.block in let p = c.args.offer.new.place in let y = c.args.desk.now in let lost = g.A.Aimed.new in
     let new_is : lost ≡ in_seat v k b p = r.new ∙ ap (λ (z : DeskNow g.row.V.Denot). handle_in z k b p) (sym c.desk.view_is) in
     subst (λ (z : Handle). IfSome b (λ a. Holding v z.kind (object_of z) z.place a.0)) (sym new_is)
     (lost_holding d y k p h c.desk.view_is b r.holds.1)
@@ -89,7 +90,7 @@ compare-swapped-requires-clause-holds g c =
 pub compare-swapped-requires-clause-count : goal.compare-swapped-requires-clause-count
 compare-swapped-requires-clause-count g c =
     let r = c.requires in
-    lost_counted c.desk.inside c.args.desk.now c.args.cell.kind c.args.new.place c.desk.invariant c.desk.view_is c.args.new.block
+    lost_counted c.desk.inside c.args.desk.now c.args.offer.new.kind c.args.offer.new.place c.desk.invariant c.desk.view_is c.args.offer.new.block
     c.domain.inside.table.shared.table_id (ap (λ z. z.domain) c.desk.view_is ∙ (r.domain.table ∙ sym (ap (λ z. z.id) c.domain.view_is))) r.holds.1
 
 pub compare-swapped-requires-clause-room : goal.compare-swapped-requires-clause-room
@@ -99,8 +100,8 @@ compare-swapped-requires-clause-room g c =
 pub invariant_of-desk : goal.invariant_of-desk
 invariant_of-desk g c =
     let r = c.requires in let d = c.desk.inside in let h = c.desk.invariant in let v = d.seat.me.0 in let w = c.compare-swapped.new.chair.me.0 in
-    let s = c.compare-swapped.result.0 in let x = c.compare-swapped.result.1 in let k = c.args.cell.kind in let b = c.args.new.block in
-    let p = c.args.new.place in let y = c.args.desk.now in let a = g.A.Aimed in let cl = a.cell in
+    let s = c.compare-swapped.result.0 in let x = c.compare-swapped.result.1 in let k = c.args.offer.new.kind in let b = c.args.offer.new.block in
+    let p = c.args.offer.new.place in let y = c.args.desk.now in let a = g.A.Aimed in let cl = a.cell in
     let e : Handle → Event g.row.V.Denot = λ z. Compare cl a.expected a.new z s a.weak in
     let new_is : a.new ≡ in_seat v k b p = r.new ∙ ap (λ (z : DeskNow g.row.V.Denot). handle_in z k b p) (sym c.desk.view_is) in
     let trades = trades_of v k b p cl a.expected a.new a.weak new_is s in
@@ -123,8 +124,8 @@ invariant_of-desk g c =
 pub returns-clause-event : goal.returns-clause-event
 returns-clause-event g c =
     let r = c.requires in let d = c.desk.inside in let h = c.desk.invariant in let v = d.seat.me.0 in let w = c.compare-swapped.new.chair.me.0 in
-    let s = c.compare-swapped.result.0 in let x = c.compare-swapped.result.1 in let k = c.args.cell.kind in let b = c.args.new.block in
-    let p = c.args.new.place in let y = c.args.desk.now in let a = g.A.Aimed in let cl = a.cell in
+    let s = c.compare-swapped.result.0 in let x = c.compare-swapped.result.1 in let k = c.args.offer.new.kind in let b = c.args.offer.new.block in
+    let p = c.args.offer.new.place in let y = c.args.desk.now in let a = g.A.Aimed in let cl = a.cell in
     let e : Handle → Event g.row.V.Denot = λ z. Compare cl a.expected a.new z s a.weak in
     let new_is : a.new ≡ in_seat v k b p = r.new ∙ ap (λ (z : DeskNow g.row.V.Denot). handle_in z k b p) (sym c.desk.view_is) in
     let trades = trades_of v k b p cl a.expected a.new a.weak new_is s in
@@ -136,8 +137,8 @@ returns-clause-event g c =
 pub returns-clause-bag : goal.returns-clause-bag
 returns-clause-bag g c =
     let r = c.requires in let d = c.desk.inside in let h = c.desk.invariant in let v = d.seat.me.0 in let w = c.compare-swapped.new.chair.me.0 in
-    let s = c.compare-swapped.result.0 in let x = c.compare-swapped.result.1 in let k = c.args.cell.kind in let b = c.args.new.block in
-    let p = c.args.new.place in let y = c.args.desk.now in let a = g.A.Aimed in let cl = a.cell in
+    let s = c.compare-swapped.result.0 in let x = c.compare-swapped.result.1 in let k = c.args.offer.new.kind in let b = c.args.offer.new.block in
+    let p = c.args.offer.new.place in let y = c.args.desk.now in let a = g.A.Aimed in let cl = a.cell in
     let e : Handle → Event g.row.V.Denot = λ z. Compare cl a.expected a.new z s a.weak in
     let new_is : a.new ≡ in_seat v k b p = r.new ∙ ap (λ (z : DeskNow g.row.V.Denot). handle_in z k b p) (sym c.desk.view_is) in
     let trades = trades_of v k b p cl a.expected a.new a.weak new_is s in
@@ -150,8 +151,8 @@ returns-clause-bag g c =
 pub returns-clause-holds : goal.returns-clause-holds
 returns-clause-holds g c =
     let r = c.requires in let d = c.desk.inside in let h = c.desk.invariant in let v = d.seat.me.0 in let w = c.compare-swapped.new.chair.me.0 in
-    let s = c.compare-swapped.result.0 in let x = c.compare-swapped.result.1 in let k = c.args.cell.kind in let b = c.args.new.block in
-    let p = c.args.new.place in let y = c.args.desk.now in let a = g.A.Aimed in let cl = a.cell in
+    let s = c.compare-swapped.result.0 in let x = c.compare-swapped.result.1 in let k = c.args.offer.new.kind in let b = c.args.offer.new.block in
+    let p = c.args.offer.new.place in let y = c.args.desk.now in let a = g.A.Aimed in let cl = a.cell in
     let e : Handle → Event g.row.V.Denot = λ z. Compare cl a.expected a.new z s a.weak in
     let new_is : a.new ≡ in_seat v k b p = r.new ∙ ap (λ (z : DeskNow g.row.V.Denot). handle_in z k b p) (sym c.desk.view_is) in
     let trades = trades_of v k b p cl a.expected a.new a.weak new_is s in
@@ -171,8 +172,8 @@ returns-clause-holds g c =
 pub invariant_of-result : goal.invariant_of-result
 invariant_of-result g c =
     let r = c.requires in let d = c.desk.inside in let h = c.desk.invariant in let v = d.seat.me.0 in let w = c.compare-swapped.new.chair.me.0 in
-    let s = c.compare-swapped.result.0 in let x = c.compare-swapped.result.1 in let k = c.args.cell.kind in let b = c.args.new.block in
-    let p = c.args.new.place in let y = c.args.desk.now in let a = g.A.Aimed in let cl = a.cell in
+    let s = c.compare-swapped.result.0 in let x = c.compare-swapped.result.1 in let k = c.args.offer.new.kind in let b = c.args.offer.new.block in
+    let p = c.args.offer.new.place in let y = c.args.desk.now in let a = g.A.Aimed in let cl = a.cell in
     let e : Handle → Event g.row.V.Denot = λ z. Compare cl a.expected a.new z s a.weak in
     let new_is : a.new ≡ in_seat v k b p = r.new ∙ ap (λ (z : DeskNow g.row.V.Denot). handle_in z k b p) (sym c.desk.view_is) in
     let trades = trades_of v k b p cl a.expected a.new a.weak new_is s in
@@ -186,8 +187,8 @@ invariant_of-result g c =
 pub returns-clause-keeps : goal.returns-clause-keeps
 returns-clause-keeps g c =
     let r = c.requires in let d = c.desk.inside in let h = c.desk.invariant in let v = d.seat.me.0 in let w = c.compare-swapped.new.chair.me.0 in
-    let s = c.compare-swapped.result.0 in let x = c.compare-swapped.result.1 in let k = c.args.cell.kind in let b = c.args.new.block in
-    let p = c.args.new.place in let y = c.args.desk.now in let a = g.A.Aimed in let cl = a.cell in
+    let s = c.compare-swapped.result.0 in let x = c.compare-swapped.result.1 in let k = c.args.offer.new.kind in let b = c.args.offer.new.block in
+    let p = c.args.offer.new.place in let y = c.args.desk.now in let a = g.A.Aimed in let cl = a.cell in
     let e : Handle → Event g.row.V.Denot = λ z. Compare cl a.expected a.new z s a.weak in
     let new_is : a.new ≡ in_seat v k b p = r.new ∙ ap (λ (z : DeskNow g.row.V.Denot). handle_in z k b p) (sym c.desk.view_is) in
     let trades = trades_of v k b p cl a.expected a.new a.weak new_is s in

@@ -13,7 +13,6 @@ use Rattle.control_word.specs.declared.place.Place.{Place}
 use Rattle.control_block.specs.CellCalls.{Holds, handle_in, word_at}
 use Rattle.control_block.specs.CellPlays.{IsWordOf}
 use Rattle.control_block.specs.Desks.{DeskNow}
-use Rattle.control_block.specs.Handles.{IsProper}
 use Rattle.control_block.specs.Inside.{IsDeskWith, desk_now}
 use Rattle.control_block.specs.Leaving.{OutAndGone}
 use Rattle.control_block.specs.Plays.{Holding, known}
@@ -61,7 +60,7 @@ store_shared-value-requires-clause-new g c = λ _ _.
     let r = c.requires in let d = c.desk.inside in let h = c.desk.invariant in let v = d.seat.me.0 in
     let b = c.args.new.block in let p = c.args.new.place in let y = c.args.desk.now in let lost = g.A.Aimed.new in
     let new_is : lost ≡ in_seat v Owner b p = r.new ∙ ap (λ (z : DeskNow g.row.V.Denot). handle_in z Owner b p) (sym c.desk.view_is) in (
-      lost_word d y Owner p h c.desk.view_is b r.holds (subst (λ z. IsProper z b p) r.kind c.args.new.proper),
+      lost_word d y Owner p h c.desk.view_is b r.holds c.args.new.proper,
       refl,
       subst (λ (z : Handle). IsWordOf v z record { owned = b; place = p; taken = 0 }) (sym new_is) (lost_shows d y Owner p h c.desk.view_is b r.holds),
     )
@@ -72,7 +71,7 @@ store_shared-value-requires-clause-hand g c = λ _ _.
     let b = c.args.new.block in let p = c.args.new.place in let y = c.args.desk.now in let lost = g.A.Aimed.new in
     let new_is : lost ≡ in_seat v Owner b p = r.new ∙ ap (λ (z : DeskNow g.row.V.Denot). handle_in z Owner b p) (sym c.desk.view_is) in
     subst (λ (z : Handle). InHand (known v) v.view.name Owner z) (sym new_is)
-    (lost_hand d y Owner p h c.desk.view_is b r.holds (subst (λ z. IsProper z b p) r.kind c.args.new.proper))
+    (lost_hand d y Owner p h c.desk.view_is b r.holds c.args.new.proper)
 
 pub store_shared-value-requires-clause-holds : goal.store_shared-value-requires-clause-holds
 store_shared-value-requires-clause-holds g c = λ _ _.
