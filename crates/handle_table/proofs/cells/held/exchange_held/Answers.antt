@@ -1,6 +1,7 @@
-use Rattle.std.proofs.Common.{◌∙◌, List, ap, refl, sym}
+use Rattle.std.proofs.Common.{◌≡◌, ◌∙◌, List, ap, refl, subst, sym}
 use Rattle.control_word.specs.declared.handle.Handle.{Handle}
-use Rattle.control_block.specs.CellCalls.{Holds, cell_at, with_handle}
+use Rattle.control_word.specs.declared.handle.Kind.{Kind}
+use Rattle.control_block.specs.CellCalls.{Holds, IsOpenAt, cell_at, with_handle}
 use Rattle.control_block.specs.Desks.{bag_of}
 use Rattle.control_block.specs.HandleLists.{without_held}
 use Rattle.atomic_cells.specs.Cells as cells
@@ -8,17 +9,22 @@ use Rattle.handle_table.specs.Parts.{owned_by, place_of}
 use Rattle.handle_table.proofs.Celled.{by_parts, held_parts, with_named, without_named}
 use Rattle.handle_table.proofs.cells.held.exchange_held.Goals as goal
 
+pub exchange-old-requires-clause-cell : goal.exchange-old-requires-clause-cell
+exchange-old-requires-clause-cell g c κs within =
+    let new = c.into_content-new in (
+      subst (λ (k : Kind). IsOpenAt c.args.desk.now c.args.cell.site k) (sym c.requires.held.1 ∙ new.ensures.0) c.requires.cell,
+      refl,
+    )
+
 pub exchange-old-requires-clause-holds : goal.exchange-old-requires-clause-holds
 exchange-old-requires-clause-holds g c κs within =
     let h = c.args.handle in let x = c.into_content-new in
-    by_parts (Holds c.args.desk.now) c.args.cell.kind _ x.result.block _ x.result.place _ (sym c.requires.held.1) (sym x.ensures.1) (sym x.ensures.2)
+    by_parts (Holds c.args.desk.now) x.result.kind _ x.result.block _ x.result.place _ (sym x.ensures.0) (sym x.ensures.1) (sym x.ensures.2)
     (held_parts c.args.desk.now h c.requires.held.0)
 
-pub exchange-old-requires-clause-kind : goal.exchange-old-requires-clause-kind
-exchange-old-requires-clause-kind g c κs within = sym c.into_content-new.ensures.0 ∙ c.requires.held.1
-
 pub returns-clause-kind : goal.returns-clause-kind
-returns-clause-kind g c = c.held_of.ensures.0 ∙ c.exchange-old.ensures.kind
+returns-clause-kind g c =
+    c.held_of.ensures.0 ∙ (c.exchange-old.ensures.kind ∙ (sym c.into_content-new.ensures.0 ∙ c.requires.held.1))
 
 pub returns-clause-event : goal.returns-clause-event
 returns-clause-event g c =
@@ -27,13 +33,15 @@ returns-clause-event g c =
     by_parts (λ _ b p. cells.Exchanges d at k b p (owned_by c.held_of.result) (place_of c.held_of.result) e) k k _ x.result.block _ x.result.place refl
     x.ensures.1 x.ensures.2
     (by_parts (λ _ b p. cells.Exchanges d at k x.result.block x.result.place b p e) k k _ y.result.block _ y.result.place refl
-    c.held_of.ensures.1 c.held_of.ensures.2 y.ensures.event)
+    c.held_of.ensures.1 c.held_of.ensures.2
+    (subst (λ (z : Kind). cells.Exchanges d at z x.result.block x.result.place y.result.block y.result.place e)
+    (sym x.ensures.0 ∙ c.requires.held.1) y.ensures.event))
 
 pub returns-clause-bag : goal.returns-clause-bag
 returns-clause-bag g c =
-    let x = c.into_content-new in let y = c.exchange-old in let k = c.args.cell.kind in let l = bag_of c.args.desk.now in let h = c.args.handle in
+    let x = c.into_content-new in let y = c.exchange-old in let k = x.result.kind in let l = bag_of c.args.desk.now in let h = c.args.handle in
     y.ensures.bag
     ∙ ap (λ (m : List Handle). with_handle k y.result.block y.result.place m)
-    (sym (without_named h k x.result.block x.result.place l c.requires.held.1 x.ensures.1 x.ensures.2))
+    (sym (without_named h k x.result.block x.result.place l x.ensures.0 x.ensures.1 x.ensures.2))
     ∙ sym (with_named c.held_of.result k y.result.block y.result.place (without_held h l)
     (c.held_of.ensures.0 ∙ y.ensures.kind) c.held_of.ensures.1 c.held_of.ensures.2)
