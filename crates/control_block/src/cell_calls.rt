@@ -41,7 +41,7 @@ pub struct Content {
 pub struct Offer {
     pub expected: Content,
     pub new: Content,
-    pub ghost alike: { same_kind expected.kind new.kind ≡ true } by { Coded-set coded_bool (same_kind expected.kind new.kind) true },
+    pub ghost alike: { same_kind expected.kind new.kind ≡ true } by { Coded-set coded_bool _ true },
 }
 
 /// Where a cell's word lies.

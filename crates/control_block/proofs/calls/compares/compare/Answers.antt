@@ -74,7 +74,8 @@ compare-swapped-requires-clause-hands g c =
     let there = g.A.Aimed.expected in let q = c.args.offer.expected.block in let o = c.args.offer.expected.place in
     let there_is : there ≡ in_seat v k q o = r.expected ∙ ap (λ (z : DeskNow g.row.V.Denot). handle_in z k q o) (sym c.desk.view_is) in (
       subst (λ (z : Handle). InHand (known v) v.view.name k z) (sym there_is)
-          (lost_hand d y k o h c.desk.view_is q r.holds.0 (subst (λ z. IsProper z q o) (same_kind_true c.args.offer.expected.kind k c.args.offer.alike) c.args.offer.expected.proper)),
+          (lost_hand d y k o h c.desk.view_is q r.holds.0
+          (subst (λ z. IsProper z q o) (same_kind_true c.args.offer.expected.kind k c.args.offer.alike) c.args.offer.expected.proper)),
       subst (λ (z : Handle). InHand (known v) v.view.name k z) (sym new_is)
           (lost_hand d y k p h c.desk.view_is b r.holds.1 c.args.offer.new.proper),
     )
