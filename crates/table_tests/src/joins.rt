@@ -1,38 +1,40 @@
 //! Two tables of a domain become one: all that comes over, and handles that can't.
+use crate::alone::ends;
+use crate::listed::{Answer, Call, all};
 use crate::shapes::{alone, shape};
 use control_word::Refusal;
-use handle_table::{Fault, Gone, HandleTable, Home, Program, Returned, run};
+use handle_table::{Fault, HandleTable, Home, Program, Returned};
 use std::alloc::Global;
 use std::process::Abort;
 use std::sync::Wait;
 use std::test::Fail;
 use std::thread::Threads;
 
-/// Slot 1 here and slot 2 there have owners; both tables have an object that is left to end.
-fn fill<R: Abort, H: Home>(
-    rt: &R,
-    table: &mut HandleTable<'_, u64, H>,
-    other: &mut HandleTable<'_, u64, H>,
-) {
-    assert!(rt; table.make(0, [0; 4], false, 5).is_ok());
-    assert!(rt; matches!(table.reset(0), Ok(Gone::Last)));
-    assert!(rt; table.make(1, [1; 4], false, 1).is_ok());
-    assert!(rt; other.make(3, [0; 4], false, 9).is_ok());
-    assert!(rt; matches!(other.reset(3), Ok(Gone::Last)));
-}
+/// Slot 1 gets an owner, and an object is left to end.
+const HERE: [(Call, Answer); 3] = [
+    (Call::Make(0, [0; 4], false, 5), Answer::Done),
+    (Call::Reset(0), Answer::WasLast),
+    (Call::Make(1, [1; 4], false, 1), Answer::Done),
+];
+
+/// An object is left to end.
+const THERE: [(Call, Answer); 2] = [
+    (Call::Make(3, [0; 4], false, 9), Answer::Done),
+    (Call::Reset(3), Answer::WasLast),
+];
 
 /// What was the other's is this table's: its handle, its allowance, its vacant block, and what is left to end, which
 /// comes first.
-fn has_all<R: Abort + Wait, H: Home>(rt: &R, table: &mut HandleTable<'_, u64, H>) {
-    assert_eq!(rt; table.read(2), Ok(2));
-    assert_eq!(rt; table.read(3), Ok(1));
-    assert_eq!(rt; table.end_next(), Some(9));
-    assert_eq!(rt; table.end_next(), Some(5));
-    assert_eq!(rt; table.end_next(), None);
-    assert!(rt; table.make(0, [3; 4], false, 3).is_ok());
-    assert_eq!(rt; table.copy(2, 4), Ok(()));
-    assert_eq!(rt; table.copy(2, 5), Err(Fault::Call(Refusal::Limit)));
-}
+const ALL: [(Call, Answer); 8] = [
+    (Call::Read(2), Answer::Field(2)),
+    (Call::Read(3), Answer::Field(1)),
+    (Call::EndNext, Answer::Value(Some(9))),
+    (Call::EndNext, Answer::Value(Some(5))),
+    (Call::EndNext, Answer::Value(None)),
+    (Call::Make(0, [3; 4], false, 3), Answer::Done),
+    (Call::Copy(2, 4), Answer::Done),
+    (Call::Copy(2, 5), Answer::Not(Fault::Call(Refusal::Limit))),
+];
 
 /// The other table is joined, which can't be refused.
 pub(crate) fn come_together<'d, R: Abort + Wait, H: Home>(
@@ -60,10 +62,10 @@ fn clash_and_join<'d, R: Abort + Wait, H: Home>(
         Ok(()) => assert!(rt; false),
         Err(returned) => {
             let Returned { why, mut back } = returned;
-            assert_eq!(rt; why, Fault::Taken);
-            assert_eq!(rt; table.read(2), Ok(1));
-            assert_eq!(rt; back.read(2), Ok(2));
-            assert_eq!(rt; table.move_to(2, 3), Ok(()));
+            assert!(rt; why == Fault::Taken);
+            all(rt, table, &[(Call::Read(2), Answer::Field(1))]);
+            all(rt, &mut back, &[(Call::Read(2), Answer::Field(2))]);
+            all(rt, table, &[(Call::MoveTo(2, 3), Answer::Done)]);
             come_together(rt, table, back);
         }
     }
@@ -76,13 +78,18 @@ struct Joins {
 
 impl<R: Abort + Threads + Wait + Sync> Program<u64, R> for Joins {
     fn work<H: Home>(&self, rt: &R, _number: usize, table: &mut HandleTable<'_, u64, H>) {
-        assert!(rt; table.make(2, [2; 4], false, 2).is_ok());
+        all(
+            rt,
+            table,
+            &[(Call::Make(2, [2; 4], false, 2), Answer::Done)],
+        );
         match table.split(self.alloc, 2, 2, 1) {
             Ok(mut other) => {
-                fill(rt, table, &mut other);
-                assert_eq!(rt; table.copy(1, 2), Ok(()));
+                all(rt, table, &HERE);
+                all(rt, &mut other, &THERE);
+                all(rt, table, &[(Call::Copy(1, 2), Answer::Done)]);
                 clash_and_join(rt, table, other);
-                has_all(rt, table);
+                all(rt, table, &ALL);
             }
             Err(_) => assert!(rt; false),
         }
@@ -91,15 +98,13 @@ impl<R: Abort + Threads + Wait + Sync> Program<u64, R> for Joins {
 
 #[test]
 fn a_join_keeps_all_or_changes_nothing(rt: HostRuntime) -> Result<(), Fail> {
-    let shape = shape(6, 0, 0, 8);
-    let team = alone(6, 5, 4);
     let program = Joins { alloc: rt.alloc() };
-    match run(&rt, rt.alloc(), shape, team, &program) {
-        Ok(ran) => {
-            assert_eq!(rt; ran.workers, 1);
-            assert_eq!(rt; ran.census.vacant(), 6);
-            Ok(())
-        }
-        Err(_) => Err("not run")?,
-    }
+    ends(
+        &rt,
+        rt.alloc(),
+        shape(6, 0, 0, 8),
+        alone(6, 5, 4),
+        &program,
+        6,
+    )
 }

@@ -1,7 +1,8 @@
 //! Leaders: a first thread with a table of its own, before its teams, between two, and after the last one.
+use crate::listed::{Answer, Call, all};
 use crate::shapes::shape;
 use control_word::Refusal;
-use handle_table::{Cell, Gone, HandleTable, Home, Leader, Manned, Program, Team, run_leader};
+use handle_table::{Cell, HandleTable, Home, Leader, Manned, Program, Team, run_leader};
 use std::process::Abort;
 use std::sync::Wait;
 use std::test::Fail;
@@ -29,34 +30,46 @@ fn team(allowance: u32) -> Team {
     }
 }
 
-impl Twice {
-    /// The leader's object is in slot 0 and in the cell.
-    fn begin<R: Abort, H: Home>(&self, rt: &R, table: &mut HandleTable<'_, u64, H>) {
-        assert!(rt; table.make(0, [7; 4], false, 7).is_ok());
-        assert_eq!(rt; table.copy(0, 1), Ok(()));
-        assert!(rt; matches!(table.store(1, SHARED), Ok(Gone::Empty)));
-    }
+/// The leader's object is in slot 0 and in the cell.
+const BEGIN: [(Call, Answer); 3] = [
+    (Call::Make(0, [7; 4], false, 7), Answer::Done),
+    (Call::Copy(0, 1), Answer::Done),
+    (Call::Store(1, SHARED), Answer::WasEmpty),
+];
 
+impl Twice {
     /// The team's handles have left, and its first worker's object is in the cell.
     fn go_on<R: Abort + Wait, H: Home>(&self, rt: &R, table: &mut HandleTable<'_, u64, H>) {
-        assert_eq!(rt; table.use_count(0), Ok(2));
-        assert_eq!(rt; table.empty(1), Ok(()));
-        assert_eq!(rt; table.exchange(1, MADE), Ok(()));
-        assert_eq!(rt; table.read(1), Ok(self.calls));
-        assert_eq!(rt; table.use_count(1), Ok(1));
-        assert!(rt; matches!(table.reset(1), Ok(Gone::Last)));
-        assert_eq!(rt; table.end_next(), Some(self.calls));
-        assert_eq!(rt; table.end_next(), None);
+        all(
+            rt,
+            table,
+            &[
+                (Call::UseCount(0), Answer::Count(2)),
+                (Call::Empty(1), Answer::Done),
+                (Call::Exchange(1, MADE), Answer::Done),
+                (Call::Read(1), Answer::Field(self.calls)),
+                (Call::UseCount(1), Answer::Count(1)),
+                (Call::Reset(1), Answer::WasLast),
+                (Call::EndNext, Answer::Value(Some(self.calls))),
+                (Call::EndNext, Answer::Value(None)),
+            ],
+        );
     }
 }
 
+/// What each worker begins with.
+const LOOK: [(Call, Answer); 2] = [
+    (Call::Load(SHARED, 0), Answer::Done),
+    (Call::Read(0), Answer::Field(7)),
+];
+
 impl<R: Abort + Threads + Wait + Sync> Program<u64, R> for Twice {
     fn work<H: Home>(&self, rt: &R, number: usize, table: &mut HandleTable<'_, u64, H>) {
-        assert_eq!(rt; table.load(rt, SHARED, 0), Ok(()));
-        assert_eq!(rt; table.read(0), Ok(7));
+        all(rt, table, &LOOK);
         if number == 0 {
-            assert!(rt; table.make(1, [self.calls; 4], false, self.calls).is_ok());
-            assert!(rt; matches!(table.store(1, MADE), Ok(Gone::Empty)));
+            let make = Call::Make(1, [self.calls; 4], false, self.calls);
+            let put = (Call::Store(1, MADE), Answer::WasEmpty);
+            all(rt, table, &[(make, Answer::Done), put]);
         }
     }
 }
@@ -68,18 +81,21 @@ impl<R: Abort + Threads + Wait + Sync> Leader<u64, R> for Twice {
         before: Option<Manned>,
         table: &mut HandleTable<'_, u64, H>,
     ) -> Option<Team> {
-        let manned = before.map(|m| (m.workers, m.fewer));
+        let manned = match before {
+            Some(Manned { workers, fewer }) => Some((workers, fewer)),
+            None => None,
+        };
         match self.calls {
             0 => {
-                assert_eq!(rt; manned, None);
-                self.begin(rt, table);
+                assert!(rt; manned == None);
+                all(rt, table, &BEGIN);
             }
             1 => {
-                assert_eq!(rt; manned, Some((3, None)));
+                assert!(rt; manned == Some((3, None)));
                 self.go_on(rt, table);
             }
             _ => {
-                assert_eq!(rt; manned, Some((2, Some(Refusal::Limit))));
+                assert!(rt; manned == Some((2, Some(Refusal::Limit))));
                 self.go_on(rt, table);
                 self.calls = 3;
                 return None;

@@ -2,6 +2,8 @@
 #![tactic(auto)]
 
 #[cfg(test)]
+mod alone;
+#[cfg(test)]
 mod calls;
 #[cfg(test)]
 mod cells;
@@ -14,13 +16,13 @@ mod leaders;
 #[cfg(test)]
 mod limits;
 #[cfg(test)]
+mod listed;
+#[cfg(test)]
 mod looks;
 #[cfg(test)]
 mod memory;
 #[cfg(test)]
 mod pointers;
-#[cfg(test)]
-mod returned;
 pub mod shapes;
 #[cfg(test)]
 mod slots;

@@ -1,5 +1,7 @@
 //! Growths that are refused. `tests/refuse_allocations` runs these with each allocation refused in turn.
+use crate::alone::ends;
 use crate::joins::come_together;
+use crate::listed::{Answer, Call, all};
 use crate::shapes::{alone, shape};
 use control_word::Refusal;
 use handle_table::{Fault, HandleTable, Home, Leader, Manned, Program, Team, run, run_leader};
@@ -9,14 +11,20 @@ use std::sync::Wait;
 use std::test::Fail;
 use std::thread::Threads;
 
+/// Slots 0 and 2 get owners of one object.
+const BEGIN: [(Call, Answer); 2] = [
+    (Call::Make(0, [1; 4], false, 1), Answer::Done),
+    (Call::Copy(0, 2), Answer::Done),
+];
+
 /// The table has its handles, its whole allowance and its vacant block.
-fn has_all<R: Abort, H: Home>(rt: &R, table: &mut HandleTable<'_, u64, H>) {
-    assert_eq!(rt; table.read(0), Ok(1));
-    assert_eq!(rt; table.use_count(2), Ok(2));
-    assert!(rt; table.make(1, [3; 4], false, 3).is_ok());
-    assert_eq!(rt; table.copy(0, 3), Ok(()));
-    assert_eq!(rt; table.copy(0, 4), Err(Fault::Call(Refusal::Limit)));
-}
+const HAS_ALL: [(Call, Answer); 5] = [
+    (Call::Read(0), Answer::Field(1)),
+    (Call::UseCount(2), Answer::Count(2)),
+    (Call::Make(1, [3; 4], false, 3), Answer::Done),
+    (Call::Copy(0, 3), Answer::Done),
+    (Call::Copy(0, 4), Answer::Not(Fault::Call(Refusal::Limit))),
+];
 
 #[derive(Drop)]
 struct Splits {
@@ -25,27 +33,26 @@ struct Splits {
 
 impl<R: Abort + Threads + Wait + Sync> Program<u64, R> for Splits {
     fn work<H: Home>(&self, rt: &R, _number: usize, table: &mut HandleTable<'_, u64, H>) {
-        assert!(rt; table.make(0, [1; 4], false, 1).is_ok());
-        assert_eq!(rt; table.copy(0, 2), Ok(()));
+        all(rt, table, &BEGIN);
         match table.split(self.alloc, 2, 2, 1) {
             Ok(other) => come_together(rt, table, other),
-            Err(why) => assert_eq!(rt; why, Fault::Call(Refusal::Memory)),
+            Err(why) => assert!(rt; why == Fault::Call(Refusal::Memory)),
         }
-        has_all(rt, table);
+        all(rt, table, &HAS_ALL);
     }
 }
 
 #[test]
 fn a_refused_split_changes_nothing(rt: HostRuntime) -> Result<(), Fail> {
-    let shape = shape(3, 0, 0, 6);
-    let team = alone(5, 4, 2);
     let program = Splits { alloc: rt.alloc() };
-    let ran = run(&rt, rt.alloc(), shape, team, &program)?;
-    if let Some(why) = ran.fewer {
-        return Err(why.into());
-    }
-    assert_eq!(rt; ran.census.vacant(), 3);
-    Ok(())
+    ends(
+        &rt,
+        rt.alloc(),
+        shape(3, 0, 0, 6),
+        alone(5, 4, 2),
+        &program,
+        3,
+    )
 }
 
 /// Nobody works.
@@ -83,7 +90,11 @@ struct Tries {
 
 impl<R: Abort + Threads + Wait + Sync> Program<u64, R> for Tries {
     fn work<H: Home>(&self, rt: &R, _number: usize, table: &mut HandleTable<'_, u64, H>) {
-        assert!(rt; table.make(0, [2; 4], false, 2).is_ok());
+        all(
+            rt,
+            table,
+            &[(Call::Make(0, [2; 4], false, 2), Answer::Done)],
+        );
     }
 }
 
@@ -95,15 +106,12 @@ impl<R: Abort + Threads + Wait + Sync> Leader<u64, R> for Tries {
         table: &mut HandleTable<'_, u64, H>,
     ) -> Option<Team> {
         match before {
-            None => {
-                assert!(rt; table.make(0, [1; 4], false, 1).is_ok());
-                assert_eq!(rt; table.copy(0, 2), Ok(()));
-            }
-            Some(Manned { workers: 1, fewer }) => assert_eq!(rt; fewer, None),
-            Some(Manned { fewer, .. }) => assert_eq!(rt; fewer, Some(Refusal::Memory)),
+            None => all(rt, table, &BEGIN),
+            Some(Manned { workers: 1, fewer }) => assert!(rt; fewer == None),
+            Some(Manned { fewer, .. }) => assert!(rt; fewer == Some(Refusal::Memory)),
         }
         if self.left == 0 {
-            has_all(rt, table);
+            all(rt, table, &HAS_ALL);
             return None;
         }
         self.left = self.left.wrapping_sub(1);

@@ -1,7 +1,8 @@
 //! Every call with a slot: the last number and the next, a vacant slot, and one with a handle of the other kind.
-use crate::returned::{made, made_null, refused, visited};
+use crate::alone::ends;
+use crate::listed::{Answer, Call, all, refused};
 use crate::shapes::{alone, shape};
-use handle_table::{Cell, Fault, HandleTable, Home, Program, SharedMember, run};
+use handle_table::{Cell, Fault, HandleTable, Home, Program, SharedMember};
 use std::process::Abort;
 use std::sync::Wait;
 use std::test::Fail;
@@ -30,40 +31,54 @@ fn targets<R: Abort + Wait, H: Home>(
     to: usize,
     why: Option<Fault>,
 ) {
-    refused(rt, made(table, to), why);
-    refused(rt, made_null(table, to), why);
-    refused(rt, table.empty(to).err(), why);
-    refused(rt, table.empty_weak(to).err(), why);
-    refused(rt, table.copy(OWNER, to).err(), why);
-    refused(rt, table.downgrade(OWNER, to).err(), why);
-    refused(rt, table.alias(OWNER, None, to).err(), why);
-    refused(rt, table.shared_from_this(OWNER, to).err(), why);
-    refused(rt, table.weak_from_this(OWNER, to).err(), why);
-    refused(rt, table.lock(rt, WEAK, to).err(), why);
-    refused(rt, table.upgrade(rt, WEAK, to).err(), why);
-    refused(rt, table.load(rt, SHARED, to).err(), why);
-    refused(rt, table.load(rt, WATCHED, to).err(), why);
-    refused(rt, table.copy(WEAK, TO).err(), None);
-    refused(rt, table.move_to(TO, to).err(), why);
-    table.settle(rt);
+    refused(
+        rt,
+        table,
+        why,
+        &[
+            Call::Make(to, [0; 4], false, 1),
+            Call::MakeNull(to, 1),
+            Call::Empty(to),
+            Call::EmptyWeak(to),
+            Call::Copy(OWNER, to),
+            Call::Downgrade(OWNER, to),
+            Call::Alias(OWNER, None, to),
+            Call::SharedFromThis(OWNER, to),
+            Call::WeakFromThis(OWNER, to),
+            Call::Lock(WEAK, to),
+            Call::Upgrade(WEAK, to),
+            Call::Load(SHARED, to),
+            Call::Load(WATCHED, to),
+        ],
+    );
+    refused(rt, table, None, &[Call::Copy(WEAK, TO)]);
+    refused(rt, table, why, &[Call::MoveTo(TO, to)]);
+    refused(rt, table, None, &[Call::Settle]);
 }
 
 /// Calls on a handle of either kind.
-fn handles<R: Abort, H: Home>(
+fn handles<R: Abort + Wait, H: Home>(
     rt: &R,
     table: &mut HandleTable<'_, u64, H>,
     at: usize,
     why: Option<Fault>,
 ) {
-    refused(rt, table.copy(at, TO).err(), why);
-    refused(rt, table.use_count(at).err(), why);
-    refused(rt, table.owner_before(at, OWNER).err(), why);
-    refused(rt, table.owner_before(OWNER, at).err(), why);
-    refused(rt, table.move_to(at, TO).err(), why);
+    refused(
+        rt,
+        table,
+        why,
+        &[
+            Call::Copy(at, TO),
+            Call::UseCount(at),
+            Call::OwnerBefore(at, OWNER),
+            Call::OwnerBefore(OWNER, at),
+            Call::MoveTo(at, TO),
+        ],
+    );
     if why.is_none() {
-        refused(rt, table.move_to(TO, at).err(), None);
+        refused(rt, table, None, &[Call::MoveTo(TO, at)]);
     }
-    refused(rt, table.reset(at).err(), why);
+    refused(rt, table, why, &[Call::Reset(at)]);
 }
 
 /// Calls on an owner.
@@ -73,15 +88,22 @@ fn owners<R: Abort + Wait, H: Home>(
     of: usize,
     why: Option<Fault>,
 ) {
-    refused(rt, table.downgrade(of, TO).err(), why);
-    refused(rt, table.alias(of, None, TO).err(), why);
-    refused(rt, table.shared_from_this(of, TO).err(), why);
-    refused(rt, table.weak_from_this(of, TO).err(), why);
-    refused(rt, table.read(of).err(), why);
-    refused(rt, table.place(of).err(), why);
-    refused(rt, table.same_place(of, OWNER).err(), why);
-    refused(rt, table.same_place(OWNER, of).err(), why);
-    refused(rt, visited(rt, table, of), why);
+    refused(
+        rt,
+        table,
+        why,
+        &[
+            Call::Downgrade(of, TO),
+            Call::Alias(of, None, TO),
+            Call::SharedFromThis(of, TO),
+            Call::WeakFromThis(of, TO),
+            Call::Read(of),
+            Call::PlaceOf(of),
+            Call::SamePlace(of, OWNER),
+            Call::SamePlace(OWNER, of),
+            Call::Visit(of),
+        ],
+    );
     let first = Cell::Member {
         of,
         which: SharedMember::First,
@@ -103,9 +125,12 @@ fn weaks<R: Abort + Wait, H: Home>(
     at: usize,
     why: Option<Fault>,
 ) {
-    refused(rt, table.lock(rt, at, TO).err(), why);
-    refused(rt, table.upgrade(rt, at, TO).err(), why);
-    refused(rt, table.expired(at).err(), why);
+    refused(
+        rt,
+        table,
+        why,
+        &[Call::Lock(at, TO), Call::Upgrade(at, TO), Call::Expired(at)],
+    );
     into_cell(rt, table, WATCHED, WEAK, at, why);
 }
 
@@ -117,39 +142,48 @@ pub(crate) fn cell_calls<R: Abort + Wait, H: Home>(
     kind: usize,
     why: Option<Fault>,
 ) {
-    refused(rt, table.reaches(cell).err(), why);
-    refused(rt, table.load(rt, cell, TO).err(), why);
-    refused(rt, table.copy(kind, TO).err(), None);
-    refused(rt, table.exchange(TO, cell).err(), why);
+    let comes = [Call::Copy(kind, TO)];
+    refused(rt, table, why, &[Call::Reaches(cell), Call::Load(cell, TO)]);
+    refused(rt, table, None, &comes);
     refused(
         rt,
-        table.compare_exchange_strong(rt, cell, TO, TO).err(),
+        table,
         why,
+        &[Call::Exchange(TO, cell), Call::CompareStrong(cell, TO, TO)],
     );
-    refused(rt, table.copy(kind, TO).err(), None);
-    refused(rt, table.compare_exchange_weak(rt, cell, TO, TO).err(), why);
-    refused(rt, table.copy(kind, TO).err(), None);
-    refused(rt, table.store(TO, cell).err(), why);
+    refused(rt, table, None, &comes);
+    refused(rt, table, why, &[Call::CompareWeak(cell, TO, TO)]);
+    refused(rt, table, None, &comes);
+    refused(rt, table, why, &[Call::Store(TO, cell)]);
     if why.is_none() {
-        refused(rt, table.load(rt, cell, TO).err(), None);
-        refused(rt, table.empty(TO).err(), None);
-        refused(rt, emptied(rt, table, cell, kind), None);
+        // The cell is empty again.
+        let empty = if kind == OWNER {
+            Call::Empty(TO)
+        } else {
+            Call::EmptyWeak(TO)
+        };
+        let last = [
+            Call::Load(cell, TO),
+            Call::Empty(TO),
+            empty,
+            Call::Store(TO, cell),
+        ];
+        refused(rt, table, None, &last);
     }
 }
 
-/// The cell is empty again.
-fn emptied<R: Abort + Wait, H: Home>(
+/// What an `into_cell` begins each call with: where it isn't refused, what is in the slot may have gone into the cell.
+fn refill<R: Abort + Wait, H: Home>(
     rt: &R,
     table: &mut HandleTable<'_, u64, H>,
-    cell: Cell,
     kind: usize,
-) -> Option<Fault> {
-    let empty = match kind {
-        OWNER => table.empty(TO),
-        _ => table.empty_weak(TO),
-    };
-    refused(rt, empty.err(), None);
-    table.store(TO, cell).err()
+    at: usize,
+    why: Option<Fault>,
+) {
+    if why.is_none() {
+        refused(rt, table, None, &[Call::Copy(kind, at)]);
+    }
+    refused(rt, table, None, &[Call::Copy(kind, TO)]);
 }
 
 /// Calls that bring what is in the slot to a cell; slot `kind` has a handle of the cell's kind.
@@ -161,41 +195,32 @@ fn into_cell<R: Abort + Wait, H: Home>(
     at: usize,
     why: Option<Fault>,
 ) {
-    refused(rt, table.copy(kind, TO).err(), None);
+    refused(rt, table, None, &[Call::Copy(kind, TO)]);
+    refused(rt, table, why, &[Call::CompareStrong(cell, at, TO)]);
+    refused(rt, table, None, &[Call::Copy(kind, TO)]);
+    refused(rt, table, why, &[Call::CompareWeak(cell, at, TO)]);
+    refill(rt, table, kind, at, why);
+    refused(rt, table, why, &[Call::CompareStrong(cell, TO, at)]);
+    refill(rt, table, kind, at, why);
+    refused(rt, table, why, &[Call::CompareWeak(cell, TO, at)]);
+    refill(rt, table, kind, at, why);
     refused(
         rt,
-        table.compare_exchange_strong(rt, cell, at, TO).err(),
+        table,
         why,
+        &[Call::Exchange(at, cell), Call::Store(at, cell)],
     );
-    refused(rt, table.copy(kind, TO).err(), None);
-    refused(rt, table.compare_exchange_weak(rt, cell, at, TO).err(), why);
-    if why.is_none() {
-        refused(rt, table.copy(kind, at).err(), None);
-    }
-    refused(rt, table.copy(kind, TO).err(), None);
-    refused(
-        rt,
-        table.compare_exchange_strong(rt, cell, TO, at).err(),
-        why,
-    );
-    if why.is_none() {
-        refused(rt, table.copy(kind, at).err(), None);
-    }
-    refused(rt, table.copy(kind, TO).err(), None);
-    refused(rt, table.compare_exchange_weak(rt, cell, TO, at).err(), why);
-    if why.is_none() {
-        refused(rt, table.copy(kind, at).err(), None);
-    }
-    refused(rt, table.exchange(at, cell).err(), why);
-    refused(rt, table.store(at, cell).err(), why);
 }
 
 struct Slots;
 
 impl<R: Abort + Threads + Wait + Sync> Program<u64, R> for Slots {
     fn work<H: Home>(&self, rt: &R, _number: usize, table: &mut HandleTable<'_, u64, H>) {
-        assert!(rt; table.make(OWNER, [7; 4], true, 7).is_ok());
-        refused(rt, table.downgrade(OWNER, WEAK).err(), None);
+        let begin = [
+            Call::Make(OWNER, [7; 4], true, 7),
+            Call::Downgrade(OWNER, WEAK),
+        ];
+        refused(rt, table, None, &begin);
         owners(rt, table, NEXT, Some(Fault::Slot));
         owners(rt, table, LAST, Some(Fault::Vacant));
         owners(rt, table, WEAK, Some(Fault::Kind));
@@ -205,13 +230,13 @@ impl<R: Abort + Threads + Wait + Sync> Program<u64, R> for Slots {
         handles(rt, table, NEXT, Some(Fault::Slot));
         handles(rt, table, LAST, Some(Fault::Vacant));
         targets(rt, table, NEXT, Some(Fault::Slot));
-        refused(rt, table.reset(TO).err(), None);
-        assert_eq!(rt; table.use_count(OWNER), Ok(1));
-        refused(rt, table.copy(OWNER, LAST).err(), None);
+        refused(rt, table, None, &[Call::Reset(TO)]);
+        all(rt, table, &[(Call::UseCount(OWNER), Answer::Count(1))]);
+        refused(rt, table, None, &[Call::Copy(OWNER, LAST)]);
         owners(rt, table, LAST, None);
-        refused(rt, table.copy(WEAK, LAST).err(), None);
+        refused(rt, table, None, &[Call::Copy(WEAK, LAST)]);
         weaks(rt, table, LAST, None);
-        refused(rt, table.copy(OWNER, LAST).err(), None);
+        refused(rt, table, None, &[Call::Copy(OWNER, LAST)]);
         handles(rt, table, LAST, None);
         targets(rt, table, LAST, None);
     }
@@ -219,10 +244,12 @@ impl<R: Abort + Threads + Wait + Sync> Program<u64, R> for Slots {
 
 #[test]
 fn every_slot_is_looked_at(rt: HostRuntime) -> Result<(), Fail> {
-    let shape = shape(4, 1, 1, 12);
-    let team = alone(4, 10, 3);
-    let ran = run(&rt, rt.alloc(), shape, team, &Slots)?;
-    assert_eq!(rt; ran.workers, 1);
-    assert_eq!(rt; ran.census.vacant(), 3);
-    Ok(())
+    ends(
+        &rt,
+        rt.alloc(),
+        shape(4, 1, 1, 12),
+        alone(4, 10, 3),
+        &Slots,
+        3,
+    )
 }

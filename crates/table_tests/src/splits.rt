@@ -1,8 +1,10 @@
 //! A split by itself: what each number may be, what goes over, and what the next number is refused with.
+use crate::alone::ends;
 use crate::joins::come_together;
+use crate::listed::{Answer, Call, all};
 use crate::shapes::{alone, shape};
 use control_word::Refusal;
-use handle_table::{Fault, HandleTable, Home, Program, run};
+use handle_table::{Fault, HandleTable, Home, Program};
 use std::alloc::Global;
 use std::process::Abort;
 use std::sync::Wait;
@@ -27,36 +29,46 @@ fn refusal<R: Abort + Wait, H: Home>(
     }
 }
 
-/// Slots 0 and 2 of four have handles, the allowance is 6, and 2 blocks are vacant.
+const LIMIT: Option<Fault> = Some(Fault::Call(Refusal::Limit));
+
+const FULL: Option<Fault> = Some(Fault::Call(Refusal::Full));
+
+/// Slots 0 and 2 of four have handles, the allowance is 6, and 2 blocks are vacant: the first slot, the allowance and
+/// the blocks of a split, and why it is refused.
+const LIMITS: [(usize, u32, u32, Option<Fault>); 11] = [
+    (4, 1, 0, None),
+    (5, 1, 0, Some(Fault::Slot)),
+    (4, 0, 0, LIMIT),
+    (4, 4, 0, None),
+    (4, 5, 0, LIMIT),
+    (2, 5, 0, None),
+    (2, 6, 0, LIMIT),
+    (0, 2, 0, None),
+    (0, 1, 0, LIMIT),
+    (4, 1, 2, None),
+    (4, 1, 3, FULL),
+];
+
 fn limits<R: Abort + Wait, H: Home>(rt: &R, alloc: Global, table: &mut HandleTable<'_, u64, H>) {
-    let limit = Some(Fault::Call(Refusal::Limit));
-    let full = Some(Fault::Call(Refusal::Full));
-    assert_eq!(rt; refusal(rt, alloc, table, 4, 1, 0), None);
-    assert_eq!(rt; refusal(rt, alloc, table, 5, 1, 0), Some(Fault::Slot));
-    assert_eq!(rt; refusal(rt, alloc, table, 4, 0, 0), limit);
-    assert_eq!(rt; refusal(rt, alloc, table, 4, 4, 0), None);
-    assert_eq!(rt; refusal(rt, alloc, table, 4, 5, 0), limit);
-    assert_eq!(rt; refusal(rt, alloc, table, 2, 5, 0), None);
-    assert_eq!(rt; refusal(rt, alloc, table, 2, 6, 0), limit);
-    assert_eq!(rt; refusal(rt, alloc, table, 0, 2, 0), None);
-    assert_eq!(rt; refusal(rt, alloc, table, 0, 1, 0), limit);
-    assert_eq!(rt; refusal(rt, alloc, table, 4, 1, 2), None);
-    assert_eq!(rt; refusal(rt, alloc, table, 4, 1, 3), full);
+    for (from, allowance, blocks, why) in LIMITS {
+        let told = refusal(rt, alloc, table, from, allowance, blocks);
+        assert!(rt; told == why, "{from} {allowance} {blocks}");
+    }
 }
 
 /// The handle in slot 2 goes over, and the one in slot 0 stays.
 fn goes_over<R: Abort + Wait, H: Home>(rt: &R, alloc: Global, table: &mut HandleTable<'_, u64, H>) {
+    let vacant = Answer::Not(Fault::Vacant);
     match table.split(alloc, 1, 1, 0) {
         Ok(mut other) => {
-            assert_eq!(rt; table.read(0), Ok(1));
-            assert_eq!(rt; table.read(2), Err(Fault::Vacant));
-            assert_eq!(rt; other.read(2), Ok(1));
-            assert_eq!(rt; other.read(0), Err(Fault::Vacant));
+            let here = [(Call::Read(0), Answer::Field(1)), (Call::Read(2), vacant)];
+            all(rt, table, &here);
+            let there = [(Call::Read(2), Answer::Field(1)), (Call::Read(0), vacant)];
+            all(rt, &mut other, &there);
             table.absorb(rt, other);
         }
         Err(_) => assert!(rt; false),
     }
-    assert_eq!(rt; table.use_count(0), Ok(1));
 }
 
 #[derive(Drop)]
@@ -66,21 +78,27 @@ struct Splits {
 
 impl<R: Abort + Threads + Wait + Sync> Program<u64, R> for Splits {
     fn work<H: Home>(&self, rt: &R, _number: usize, table: &mut HandleTable<'_, u64, H>) {
-        assert!(rt; table.make(0, [1; 4], false, 1).is_ok());
-        assert_eq!(rt; table.copy(0, 2), Ok(()));
+        let begin = [
+            (Call::Make(0, [1; 4], false, 1), Answer::Done),
+            (Call::Copy(0, 2), Answer::Done),
+        ];
+        all(rt, table, &begin);
         limits(rt, self.alloc, table);
-        assert_eq!(rt; table.use_count(0), Ok(2));
+        all(rt, table, &[(Call::UseCount(0), Answer::Count(2))]);
         goes_over(rt, self.alloc, table);
+        all(rt, table, &[(Call::UseCount(0), Answer::Count(1))]);
     }
 }
 
 #[test]
 fn a_split_gives_what_there_is_and_no_more(rt: HostRuntime) -> Result<(), Fail> {
-    let shape = shape(4, 0, 0, 8);
-    let team = alone(4, 6, 3);
     let program = Splits { alloc: rt.alloc() };
-    let ran = run(&rt, rt.alloc(), shape, team, &program)?;
-    assert_eq!(rt; ran.workers, 1);
-    assert_eq!(rt; ran.census.vacant(), 4);
-    Ok(())
+    ends(
+        &rt,
+        rt.alloc(),
+        shape(4, 0, 0, 8),
+        alone(4, 6, 3),
+        &program,
+        4,
+    )
 }

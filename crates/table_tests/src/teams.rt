@@ -1,8 +1,10 @@
 //! Teams: how many workers have a table, why they are fewer, and a team within a worker's table.
+use crate::alone::ends;
 use crate::joins::come_together;
+use crate::listed::{Answer, Call, all};
 use crate::shapes::{alone, shape};
 use control_word::Refusal;
-use handle_table::{Crew, Fault, Gone, HandleTable, Home, Program, Returned, Team, run};
+use handle_table::{Crew, Fault, HandleTable, Home, Program, Returned, Team, run};
 use std::alloc::Global;
 use std::process::Abort;
 use std::sync::Wait;
@@ -14,7 +16,8 @@ struct Leaves;
 
 impl<R: Abort + Threads + Wait + Sync> Program<u64, R> for Leaves {
     fn work<H: Home>(&self, rt: &R, number: usize, table: &mut HandleTable<'_, u64, H>) {
-        assert!(rt; table.make(0, [0; 4], false, number as u64).is_ok());
+        let make = Call::Make(0, [0; 4], false, number as u64);
+        all(rt, table, &[(make, Answer::Done)]);
     }
 }
 
@@ -38,14 +41,21 @@ fn manned<R: Abort + Threads + Wait + Sync>(
     Ok((ran.workers, ran.fewer))
 }
 
+/// How many workers are asked for, and what each gets; how many there are, and why they are fewer.
+const TEAMS: [(usize, u32, u32, usize, Option<Refusal>); 5] = [
+    (0, 1, 1, 0, None),
+    (2, 3, 1, 2, None),
+    (3, 3, 1, 2, Some(Refusal::Limit)),
+    (2, 1, 2, 2, None),
+    (3, 1, 2, 2, Some(Refusal::Full)),
+];
+
 #[test]
 fn a_team_says_why_it_is_smaller(rt: HostRuntime) -> Result<(), Fail> {
-    let alloc = rt.alloc();
-    assert_eq!(rt; manned(&rt, alloc, 0, 1, 1)?, (0, None));
-    assert_eq!(rt; manned(&rt, alloc, 2, 3, 1)?, (2, None));
-    assert_eq!(rt; manned(&rt, alloc, 3, 3, 1)?, (2, Some(Refusal::Limit)));
-    assert_eq!(rt; manned(&rt, alloc, 2, 1, 2)?, (2, None));
-    assert_eq!(rt; manned(&rt, alloc, 3, 1, 2)?, (2, Some(Refusal::Full)));
+    for (workers, allowance, blocks, there, fewer) in TEAMS {
+        let told = manned(&rt, rt.alloc(), workers, allowance, blocks)?;
+        assert!(rt; told == (there, fewer), "{workers} {allowance} {blocks}");
+    }
     Ok(())
 }
 
@@ -56,18 +66,31 @@ fn join_wider<'d, R: Abort + Wait, H: Home>(
     wider: HandleTable<'d, u64, H>,
 ) {
     let mut wider = wider;
-    assert!(rt; wider.make(3, [0; 4], false, 7).is_ok());
+    all(
+        rt,
+        &mut wider,
+        &[(Call::Make(3, [0; 4], false, 7), Answer::Done)],
+    );
     match table.join(wider) {
         Ok(()) => assert!(rt; false),
         Err(returned) => {
             let Returned { why, mut back } = returned;
-            assert_eq!(rt; why, Fault::Slot);
-            assert_eq!(rt; back.move_to(3, 2), Ok(()));
+            assert!(rt; why == Fault::Slot);
+            all(rt, &mut back, &[(Call::MoveTo(3, 2), Answer::Done)]);
             come_together(rt, table, back);
         }
     }
-    assert_eq!(rt; table.use_count(2), Ok(1));
+    all(rt, table, &[(Call::UseCount(2), Answer::Count(1))]);
 }
+
+/// What the team made ends, and the worker has its own object and another block.
+const LEFT: [(Call, Answer); 5] = [
+    (Call::Reset(2), Answer::WasLast),
+    (Call::EndNext, Answer::Value(Some(7))),
+    (Call::EndNext, Answer::Value(None)),
+    (Call::UseCount(0), Answer::Count(1)),
+    (Call::Make(1, [0; 4], false, 2), Answer::Done),
+];
 
 /// A worker with tables for a team of its own: it keeps its slots, and has all again that the team had.
 #[derive(Drop)]
@@ -77,7 +100,11 @@ struct Within {
 
 impl<R: Abort + Threads + Wait + Sync> Program<u64, R> for Within {
     fn work<H: Home>(&self, rt: &R, _number: usize, table: &mut HandleTable<'_, u64, H>) {
-        assert!(rt; table.make(0, [0; 4], false, 1).is_ok());
+        all(
+            rt,
+            table,
+            &[(Call::Make(0, [0; 4], false, 1), Answer::Done)],
+        );
         let team = Team {
             workers: 1,
             slots: 4,
@@ -85,27 +112,25 @@ impl<R: Abort + Threads + Wait + Sync> Program<u64, R> for Within {
             blocks: 1,
         };
         let Crew { mut tables, fewer } = table.team(self.alloc, team);
-        assert_eq!(rt; fewer, None);
+        assert!(rt; fewer == None);
         match tables.pop() {
             Some(wider) => join_wider(rt, table, wider),
             None => assert!(rt; false),
         }
         table.absorb_all(rt, tables);
-        assert!(rt; matches!(table.reset(2), Ok(Gone::Last)));
-        assert_eq!(rt; table.end_next(), Some(7));
-        assert_eq!(rt; table.end_next(), None);
-        assert_eq!(rt; table.use_count(0), Ok(1));
-        assert!(rt; table.make(1, [0; 4], false, 2).is_ok());
+        all(rt, table, &LEFT);
     }
 }
 
 #[test]
 fn a_workers_team_gives_all_back(rt: HostRuntime) -> Result<(), Fail> {
-    let shape = shape(3, 0, 0, 6);
-    let team = alone(3, 4, 2);
     let program = Within { alloc: rt.alloc() };
-    let ran = run(&rt, rt.alloc(), shape, team, &program)?;
-    assert_eq!(rt; ran.workers, 1);
-    assert_eq!(rt; ran.census.vacant(), 3);
-    Ok(())
+    ends(
+        &rt,
+        rt.alloc(),
+        shape(3, 0, 0, 6),
+        alone(3, 4, 2),
+        &program,
+        3,
+    )
 }
