@@ -59,7 +59,7 @@ within (x ∷ xs) zero k e = omega arith
 within (x ∷ xs) (suc i) k e = let r = within xs i k e in omega (arith, r)
 
 clearing_ready : (n k : ℕ) → k ≤ n → Ready n false (clearing k)
-clearing_ready n zero le = tt
+clearing_ready n zero le = refl
 clearing_ready n (suc k) le = ((omega arith, refl), tt, clearing_ready n k (omega arith))
 
 -- the i-th name of a call

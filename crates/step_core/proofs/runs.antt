@@ -6,6 +6,7 @@ pub mod Chains
 pub mod Clearing
 pub mod Ends
 pub mod Extents
+pub mod Hands
 pub mod Headline
 pub mod Leaving
 pub mod Locks

@@ -16,4 +16,5 @@ pub mod Stepping
 pub mod Worlds
 pub mod Starting
 pub mod Census
+pub mod Fields
 pub mod Targets

@@ -33,6 +33,10 @@ abbrev pub census_of : State → ℕ → Option Counts
 census_of s b = let o = s.latest b in
     cond (weak_number s o == 0) None (Some (record { owners = count s o; weaks = weak s o }))
 
+-- the fields of what is in a block; none where it is vacant (own)
+abbrev pub fields_of : State → ℕ → Option (List ℕ)
+fields_of s b = let o = s.latest b in cond (weak_number s o == 0) None (Some (s.object o).fields)
+
 -- what a block's two numbers say: its owners have one weak handle in common (own)
 abbrev pub counts_in : ℕ → ℕ → Option Counts
 counts_in owners number =

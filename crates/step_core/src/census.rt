@@ -1,14 +1,14 @@
 //! What a world tells of its state.
-ghost use Rattle.std.specs.Prelude.{◌≡◌, ◌↔◌, ◌<◌, ◌≤◌, None, IfSome};
+ghost use Rattle.std.specs.Prelude.{◌≡◌, ◌↔◌, ◌<◌, ◌≤◌, [], None, IfSome};
 ghost use Rattle.control_word.specs.Packing.{number_of};
 ghost use Rattle.control_word.specs.State.{IsVacant};
 ghost use Rattle.step_table.specs.Cells.{IsThere, target_of};
-ghost use Rattle.step_table.specs.Stories.{state};
-ghost use Rattle.step_core.specs.Totals.{IsAtEnd, census_of, counts_in, ended_in, made_in};
+ghost use Rattle.step_table.specs.Stories.{Kept, state};
+ghost use Rattle.step_core.specs.Totals.{IsAtEnd, census_of, counts_in, ended_in, fields_of, made_in};
 
 use crate::world::World;
 use control_word::counts::unpack_count;
-use control_word::layout::{OWNERS, WEAKS};
+use control_word::layout::{FIELDS, OWNERS, WEAKS};
 use control_word::{Block, Counts};
 use step_table::cell_deed::Cell;
 
@@ -28,6 +28,36 @@ impl World {
             self.table.word(block, OWNERS),
             self.table.word(block, WEAKS),
         )
+    }
+
+    /// The fields of the object in a block (own); none where the block is vacant. Conditions: each actor is at its end,
+    /// and the block is one of the shape's, from 1.
+    pub fn fields(&self, block: Block) -> Option<[u64; 4]>
+        requires end { IsAtEnd self.now }
+        requires some { 0 < block.0 }
+        requires within { block.0 ≤ self.now.story.extent.shape.blocks }
+        ensures { result ≡ fields_of (state self.now.story) block.0 }
+    {
+        self.table.known();
+        if self.census(block).is_none() {
+            return None;
+        }
+        Some([
+            self.table.word(block, FIELDS),
+            self.table.word(block, FIELDS + 1),
+            self.table.word(block, FIELDS + 2),
+            self.table.word(block, FIELDS + 3),
+        ])
+    }
+
+    /// What holds where each actor is at its end (own): the words stand for the history, and no actor has a handle, so
+    /// that each handle is in a cell.
+    pub fn known_at_end(&self)
+        requires { IsAtEnd self.now }
+        ensures kept { Kept self.now.story }
+        ensures hands { (state self.now.story).hands ≡ [] }
+    {
+        self.table.known();
     }
 
     /// The block of the object that the handle in a cell is on; none where it is on none (own). Condition: the cell is

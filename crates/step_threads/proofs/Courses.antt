@@ -229,7 +229,7 @@ ready_more n Drop ts f r = f r
 
 -- what is ready for a value in hand is ready for none
 pub ready_any : (n : ℕ) (ts : List Task) → Ready n true ts → Ready n false ts
-ready_any n [] r = r
+ready_any n [] r = refl
 ready_any n (t ∷ ts) r = (weaker n t.act r.0, r.1, ready_more n t.act ts (ready_any n ts) r.2)
 
 ready_past : (act : Act) (slots : Slots) (taken : Bool) (es : List Ending) (ts : List Task) → idle act slots taken ≡ true → 1 < length slots

@@ -221,8 +221,9 @@ Follows (Swap c) ts = Drops ts
 Follows (Compare k c weak) ts = Drops ts
 Follows _ ts = Unit {0}
 
+-- the tasks may come with n names, where something was taken or not; at the end nothing is taken
 abbrev pub Ready : ℕ → Bool → List Task → Type 0
-Ready n taken [] = Unit {0}
+Ready n taken [] = taken ≡ false
 Ready n taken (t ∷ ts) = Begins n taken t.act × Follows t.act ts × Ready n (taken_after t.act taken) ts
 
 -- the shape has the cell of an act

@@ -1,5 +1,5 @@
 -- An idle act of a course is passed over. All of it is own.
-use Rattle.std.specs.Prelude.{◌≡◌, ℕ, ◌+◌, ◌-◌}
+use Rattle.std.specs.Prelude.{◌≡◌, ℕ, ◌+◌}
 use Rattle.step_threads.specs.declared.course.Course.{Course}
 use Rattle.step_table.specs.Holdings.{Holds}
 use Rattle.step_table.specs.Stories.{Story}

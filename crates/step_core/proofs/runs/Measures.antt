@@ -115,7 +115,7 @@ left d u begun calm =
     begun.still begun.out calm
 
 -- what a name holds is left by a task to come, so that all are empty where none is
-empty_names : (w : Walk) → IsTidy w → w.todo ≡ [] → (i : ℕ) → i < other w.slots → slot w.slots i ≡ None
+pub empty_names : (w : Walk) → IsTidy w → w.todo ≡ [] → (i : ℕ) → i < other w.slots → slot w.slots i ≡ None
 empty_names w tidy none i lt = go (slot w.slots i) refl
   where
     go : (o : Option Pointer) → slot w.slots i ≡ o → o ≡ None
