@@ -19,8 +19,8 @@ pub fn is_owner(shared: u32, cell: Cell) -> bool
     }
 }
 
-/// The block in whose object a cell is; 0 for a free one.
-pub(crate) fn source(cell: Cell) -> usize
+/// The block in whose object a cell is (own); 0 for a free one.
+pub fn source(cell: Cell) -> usize
     ensures { result ≡ source cell }
 {
     match cell {

@@ -13,8 +13,8 @@ use crate::search::at;
 use std::alloc::{AllocError, Global};
 use step_table::cell_deed::Cell;
 
-/// Whether two cells are one.
-pub(crate) fn same_cell(one: Cell, other: Cell) -> bool
+/// Whether two cells are one (own).
+pub fn same_cell(one: Cell, other: Cell) -> bool
     ensures { result ≡ same_cell one other }
 {
     match one {

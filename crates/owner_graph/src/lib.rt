@@ -19,10 +19,10 @@ mod tying;
 mod web;
 
 pub use directed_graph::GraphError;
-pub use edges::is_owner;
-pub use ending::is_cut;
+pub use edges::{is_owner, source};
+pub use ending::{is_cut, same_cell};
 pub use grouping::by_block;
 pub use holding::Holding;
 pub use keeping::{kept, knot};
 pub use labels::knots;
-pub use tying::{cuts, ties};
+pub use tying::{cuts, is_tie, ties};

@@ -26,8 +26,8 @@ pub(crate) fn marked(marks: &[bool], index: usize) -> bool
     index < marks.len() && marks[index]
 }
 
-/// Whether a handle is an owner in a block that isn't kept, and on a block of the same knot.
-fn is_tie(shared: u32, holding: Holding, kept: &[bool], knots: &[usize]) -> bool
+/// Whether a handle is an owner in a block that isn't kept, and on a block of the same knot (own).
+pub fn is_tie(shared: u32, holding: Holding, kept: &[bool], knots: &[usize]) -> bool
     ensures { result ≡ is_tie shared kept.now knots.now holding }
 {
     let from = source(holding.cell);
