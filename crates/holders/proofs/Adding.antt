@@ -1,11 +1,12 @@
 -- What cells hold, one after another.
-use Rattle.std.proofs.Common.{◌≡◌, ℕ, zero, suc, ◌+◌, List, [], ◌∷◌, ◌++◌, refl, sym, ap, ◌∙◌, arith}
+use Rattle.std.proofs.Common.{◌≡◌, ℕ, zero, suc, ◌+◌, List, [], ◌∷◌, ◌++◌, sym, ap, ◌∙◌, arith}
 use Rattle.std.specs.List.{flat_map}
 use Rattle.std.proofs.lemmas.Grind.{flat_map-append}
 use Rattle.step_threads.specs.Stocks.{from}
 use Rattle.owner_graph.proofs.Joining.{join, nil_right}
 
-from-suc : (b n : ℕ) → from b (suc n) ≡ from b n ++ (b + n) ∷ []
+-- the last of some numbers comes last
+pub from-suc : (b n : ℕ) → from b (suc n) ≡ from b n ++ (b + n) ∷ []
 from-suc b zero = let e : b ≡ b + 0 = omega arith in ap (λ (k : ℕ). k ∷ []) e
 from-suc b (suc n) =
     let e : suc b + n ≡ b + suc n = omega arith in

@@ -1,1 +1,4 @@
 pub mod Adding
+pub mod Counting
+pub mod Listing
+pub mod Summing

@@ -1,6 +1,7 @@
 -- What all cells hold. All of it is own.
-use Rattle.std.specs.Prelude.{All, ℕ, ◌+◌, List, [], ◌∷◌, ◌++◌, Option, Some, None}
-use Rattle.std.specs.List.{flat_map}
+use Rattle.std.specs.Prelude.{All, ◌≡◌, ℕ, ◌+◌, ◌≤◌, not, List, [], ◌∷◌, ◌++◌, length}
+use Rattle.std.specs.Prelude.{Option, Some, None}
+use Rattle.std.specs.List.{filter, flat_map}
 use Rattle.control_word.specs.declared.counts.Counts.{Counts}
 use Rattle.control_word.specs.declared.place.Block.{Block}
 use Rattle.control_word.specs.declared.shape.Shape.{Shape}
@@ -11,7 +12,8 @@ use Rattle.step_table.specs.Cells.{target_of}
 use Rattle.step_threads.specs.Stocks.{from}
 use Rattle.step_core.specs.Totals.{census_of}
 use Rattle.owner_graph.specs.declared.holding.Holding.{Holding}
-use Rattle.owner_graph.specs.Owners.{IsAmong}
+use Rattle.owner_graph.specs.Owners.{IsAmong, is_owner}
+use Rattle.owner_graph.specs.Rows.{held_on}
 
 -- how many free cells there are, the shared before the weak
 abbrev pub cells_of : Shape → ℕ
@@ -42,6 +44,23 @@ held_by_free s n = held_in s (Free n)
 -- what all cells hold: the free ones, the shared before the weak, and then the members by block
 abbrev pub all_held : State → ℕ → List Holding
 all_held s blocks = flat_map (held_by_free s) (from 0 s.cells) ++ flat_map (held_by_block s) (from 1 blocks)
+
+-- the owners among handles, and the weak ones
+abbrev pub owners_in : ℕ → List Holding → List Holding
+owners_in shared hs = filter (λ (h : Holding). is_owner shared h.cell) hs
+
+abbrev pub weaks_in : ℕ → List Holding → List Holding
+weaks_in shared hs = filter (λ (h : Holding). not (is_owner shared h.cell)) hs
+
+-- as many are listed on a block as its census counts, and none on a vacant one
+abbrev pub AreCounted : ℕ → List Holding → Option Counts → Type 0
+AreCounted shared hs None = hs ≡ []
+AreCounted shared hs (Some c) = (length (owners_in shared hs) ≡ c.owners) × (length (weaks_in shared hs) ≡ c.weaks)
+
+-- on each of so many blocks
+abbrev pub AllCounted : ℕ → ℕ → State → List Holding → Type 0
+AllCounted shared blocks s hs =
+    (b : ℕ) → 1 ≤ b → b ≤ blocks → AreCounted shared (held_on hs b) (census_of s b)
 
 -- what was added is so, if what was there is
 abbrev pub AddsAmong : ℕ → List Holding → List Holding → Type 0

@@ -5,7 +5,8 @@ ghost use Rattle.step_core.specs.Totals.{IsAtEnd};
 ghost use Rattle.step_table.specs.Cells.{IsThere};
 ghost use Rattle.step_table.specs.Stories.{state};
 ghost use Rattle.step_threads.specs.Stocks.{from};
-ghost use Rattle.holders.specs.Holdings.{AddsAmong, all_held, cells_of, held_by_block, held_by_free, held_in};
+ghost use Rattle.holders.specs.Holdings.{AddsAmong, AllCounted, all_held, cells_of, held_by_block, held_by_free};
+ghost use Rattle.holders.specs.Holdings.{held_in};
 ghost use Rattle.owner_graph.specs.Owners.{IsAmong, source};
 
 use control_word::Block;
@@ -72,7 +73,8 @@ fn add_blocks(world: &World, blocks: u16, holdings: &mut Vec<Holding>) -> Result
 }
 
 /// What all cells hold (own), in the order of the cells: the free ones, the shared before the weak, and then the
-/// members by block; the blocks of all of them are the world's. Conditions: each thread is at its end, and cells and
+/// members by block; the blocks of all of them are the world's. On each block are just as many owners and weak handles
+/// as its census counts, and on a vacant one none. Conditions: each thread is at its end, and cells and
 /// blocks are as many as the world has.
 pub fn holdings(
     alloc: Global,
@@ -85,7 +87,10 @@ pub fn holdings(
     requires blocks { blocks ≡ world.now.story.extent.shape.blocks }
     ensures held { IfOk result (λ v. v.items ≡ all_held (state world.now.story) blocks) }
     ensures among { IfOk result (λ v. All (IsAmong blocks) v.items) }
+    ensures counted { IfOk result (λ v. AllCounted world.now.story.extent.shape.shared_cells blocks
+        (state world.now.story) v.items) }
 {
+    world.known_at_end();
     let mut holdings = Vec::new(alloc);
     add_free(world, cells, &mut holdings)?;
     add_blocks(world, blocks, &mut holdings)?;

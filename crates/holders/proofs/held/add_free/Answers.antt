@@ -1,4 +1,4 @@
-use Rattle.std.proofs.Common.{arith, ◌+◌}
+use Rattle.std.proofs.Common.{arith}
 use Rattle.step_table.specs.Stories.{state}
 use Rattle.holders.specs.Holdings.{held_by_free}
 use Rattle.holders.proofs.Adding.{one_more}

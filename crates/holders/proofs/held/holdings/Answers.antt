@@ -1,11 +1,12 @@
-use Rattle.std.proofs.Common.{◌≡◌, ◌∙◌, ◌++◌, ◌+◌, ℕ, List, ap, sym}
+use Rattle.std.proofs.Common.{◌≡◌, ◌∙◌, ◌++◌, ℕ, List, ap, subst, sym}
 use Rattle.std.specs.List.{flat_map}
 use Rattle.control_word.proofs.history.Kept.{cells_led}
 use Rattle.step_table.specs.Openings.{opening}
 use Rattle.step_table.specs.Stories.{state}
 use Rattle.step_threads.specs.Stocks.{from}
 use Rattle.owner_graph.specs.declared.holding.Holding.{Holding}
-use Rattle.holders.specs.Holdings.{held_by_block, held_by_free}
+use Rattle.holders.specs.Holdings.{AllCounted, all_held, held_by_block, held_by_free}
+use Rattle.holders.proofs.Counting.{counted}
 use Rattle.holders.proofs.held.holdings.Goals as goal
 
 pub add_free-requires : goal.add_free-requires
@@ -22,3 +23,10 @@ returns-clause-held c =
     (c.in_ok-add_free.ensures.held
     ∙ ap (λ (l : List Holding). l ++ flat_map (held_by_free s) (from 0 c.args.cells)) c.new-holdings.ensures.items
     ∙ ap (λ (n : ℕ). flat_map (held_by_free s) (from 0 n)) cells)
+
+pub returns-clause-counted : goal.returns-clause-counted
+returns-clause-counted c =
+    let v = c.args.world.now.story in
+    subst (AllCounted v.extent.shape.shared_cells c.args.blocks (state v)) (sym (returns-clause-held c))
+    (subst (λ (n : ℕ). AllCounted v.extent.shape.shared_cells n (state v) (all_held (state v) n)) (sym c.requires.blocks)
+    (counted v c.known_at_end.ensures.kept c.known_at_end.ensures.hands))

@@ -1,0 +1,90 @@
+-- How many handles of a kind a list has on a block.
+use Rattle.std.proofs.Common.{◌≡◌, ℕ, zero, suc, ◌+◌, ◌==◌, ◌&&◌, Bool, true, false, cond, not, List, [], ◌∷◌, ◌++◌, length, refl}
+use Rattle.std.proofs.Common.{ap, ◌∙◌}
+use Rattle.std.proofs.Common.{length-append, arith}
+use Rattle.std.specs.List.{filter, flat_map}
+use Rattle.std.proofs.lemmas.Bool.{cond-true, cond-false}
+use Rattle.std.proofs.lemmas.Grind.{flat_map-append}
+use Rattle.std.proofs.lemmas.List.Elements.{filter-append}
+use Rattle.control_word.proofs.lists.Tallies.{num, tally_append}
+use Rattle.control_word.specs.declared.handle.Handle.{Handle}
+use Rattle.control_word.specs.declared.handle.Kind.{Kind}
+use Rattle.control_word.specs.declared.handle.Kind.TheVariants.{Owner, Weak}
+use Rattle.control_word.specs.Handles.{same_kind}
+use Rattle.control_word.specs.State.{sum_below, tally, upto}
+use Rattle.step_threads.specs.Stocks.{from}
+use Rattle.owner_graph.specs.declared.holding.Holding.{Holding}
+use Rattle.owner_graph.specs.Owners.{is_owner}
+use Rattle.owner_graph.specs.Rows.{held_on}
+use Rattle.owner_graph.proofs.Joining.{nil_right}
+use Rattle.holders.proofs.Adding.{from-suc}
+
+abbrev pub is_of : Kind → Bool → Bool
+is_of Owner owner = owner
+is_of Weak owner = not owner
+
+abbrev pub of_kind : Kind → ℕ → Holding → Bool
+of_kind k shared h = is_of k (is_owner shared h.cell)
+
+abbrev pub hits : Kind → ℕ → ℕ → List Holding → ℕ
+hits k shared b hs = num (of_kind k shared) (held_on hs b)
+
+pub kind_by : (k : Kind) (owner : Bool) → is_of k owner ≡ same_kind k (cond owner Owner Weak)
+kind_by Owner true = refl
+kind_by Owner false = refl
+kind_by Weak true = refl
+kind_by Weak false = refl
+
+held_append : (xs ys : List Holding) (b : ℕ) → held_on (xs ++ ys) b ≡ held_on xs b ++ held_on ys b
+held_append [] ys b = refl
+held_append (x ∷ xs) ys b = go (x.block.0 == b) (held_append xs ys b)
+  where
+    go : (t : Bool) → held_on (xs ++ ys) b ≡ held_on xs b ++ held_on ys b
+        → cond t (x ∷ held_on (xs ++ ys) b) (held_on (xs ++ ys) b) ≡ cond t (x ∷ held_on xs b) (held_on xs b) ++ held_on ys b
+    go true e = ap (λ (l : List Holding). x ∷ l) e
+    go false e = e
+
+pub hits_append : (k : Kind) (shared b : ℕ) (xs ys : List Holding) → hits k shared b (xs ++ ys) ≡ hits k shared b xs + hits k shared b ys
+hits_append k shared b xs ys =
+    let p = of_kind k shared in
+    ap (num p) (held_append xs ys b) ∙ ap (length {A = Holding}) (filter-append p (held_on xs b) (held_on ys b))
+    ∙ length-append (filter p (held_on xs b)) (filter p (held_on ys b))
+
+-- lists one after another
+pub hits_sum : (k : Kind) (shared b : ℕ) (f : ℕ → List Holding) (a n : ℕ)
+    → hits k shared b (flat_map f (from a n)) ≡ sum_below n (λ i. hits k shared b (f (a + i)))
+hits_sum k shared b f a zero = refl
+hits_sum k shared b f a (suc n) =
+    let e : hits k shared b (flat_map f (from a (suc n))) ≡ hits k shared b (flat_map f (from a n) ++ f (a + n)) =
+    ap (λ (l : List ℕ). hits k shared b (flat_map f l)) (from-suc a n)
+    ∙ ap (hits k shared b) (flat_map-append f (from a n) ((a + n) ∷ [])
+    ∙ ap (λ (l : List Holding). flat_map f (from a n) ++ l) (nil_right (f (a + n)))) in
+    let p = hits_append k shared b (flat_map f (from a n)) (f (a + n)) in
+    let q = hits_sum k shared b f a n in
+    omega (arith, e, p, q)
+
+pub tally_sum : (k : Kind) (o : ℕ) (g : ℕ → List Handle) (n : ℕ) → tally k o (upto n g) ≡ sum_below n (λ i. tally k o (g i))
+tally_sum k o g zero = refl
+tally_sum k o g (suc n) = let p = tally_append k o (g n) (upto n g) in let q = tally_sum k o g n in omega (arith, p, q)
+
+-- a list with one handle, if it is on the block, of this kind
+pub one_by : {A : Type 0} → (p : Holding → Bool) (h : Holding) (x : A) (is here : Bool) → p h ≡ is
+    → num p (cond here (h ∷ []) []) ≡ length (cond (is && here) (x ∷ []) [])
+one_by p h x true true e = ap (length {A = Holding}) (cond-true (p h) (h ∷ []) [] e)
+one_by p h x true false e = refl
+one_by p h x false true e = ap (length {A = Holding}) (cond-false (p h) (h ∷ []) [] e)
+one_by p h x false false e = refl
+
+-- owners and weak handles are all
+both_kinds : (shared : ℕ) (l : List Holding) → num (of_kind Owner shared) l + num (of_kind Weak shared) l ≡ length l
+both_kinds shared [] = refl
+both_kinds shared (x ∷ xs) = go (is_owner shared x.cell) (both_kinds shared xs)
+  where
+    go : (t : Bool) → num (of_kind Owner shared) xs + num (of_kind Weak shared) xs ≡ length xs
+        → length (cond t (x ∷ filter (of_kind Owner shared) xs) (filter (of_kind Owner shared) xs))
+        + length (cond (not t) (x ∷ filter (of_kind Weak shared) xs) (filter (of_kind Weak shared) xs)) ≡ suc (length xs)
+    go true e = omega (arith, e)
+    go false e = omega (arith, e)
+
+pub all_kinds : (shared b : ℕ) (hs : List Holding) → hits Owner shared b hs + hits Weak shared b hs ≡ length (held_on hs b)
+all_kinds shared b hs = both_kinds shared (held_on hs b)
