@@ -1,10 +1,9 @@
 -- What is told of a run's end, line after line.
 use Rattle.std.proofs.Common.{◌≡◌, ℕ, zero, suc, ◌+◌, ◌<◌, length, get_or, Bool, false, List, [], ◌∷◌, ◌++◌, Ok, Err, Option}
-use Rattle.std.proofs.Common.{Some, None, refl, sym, ap}
+use Rattle.std.proofs.Common.{Some, refl, ap}
 use Rattle.std.proofs.Common.{subst, ◌∙◌, arith}
 use Rattle.std.specs.List.{flat_map}
 use Rattle.std.specs.Prelude.{slice_index_or}
-use Rattle.std.proofs.lemmas.List.{append-nil}
 use Rattle.control_word.specs.declared.counts.Counts.{Counts}
 use Rattle.control_word.specs.State.{State}
 use Rattle.script_text.specs.Grammar.{ended}
@@ -22,10 +21,11 @@ use Rattle.script_stepper.specs.Ends.{IsEnd}
 use Rattle.owner_graph.specs.Rows.{row_at}
 use Rattle.owner_graph.proofs.Stepping.{same_at}
 use Rattle.std.specs.Global.{Vec}
-use Rattle.leak_report.specs.Left.{IsLeftText, TellsOf}
+use Rattle.leak_report.specs.Findings.{Findings, held_at, ties_at}
+use Rattle.holders.specs.Holdings.{AllCounted}
+use Rattle.leak_report.specs.Left.{IsCountedAt, IsLeft, IsLeftText, TellsOf}
 use Rattle.leak_report.specs.Circles.{circles}
-use Rattle.leak_report.specs.Lines.{Findings, all_lines, held_at, held_lines_if, holder_lines, left_lines, left_text, listing}
-use Rattle.leak_report.specs.Lines.{ties_at}
+use Rattle.leak_report.specs.Lines.{all_lines, held_lines_if, holder_lines, left_lines, left_text, listing}
 
 -- lines of one number more
 pub numbers_then : (f : ℕ → List (List ℕ)) (n : ℕ) (a b c : List ℕ) → b ≡ a ++ ended (flat_map f (from 1 n)) → c ≡ b ++ ended (f (n + 1))
@@ -48,11 +48,6 @@ block_then shared hs row kept s number counts is_kept a b c some mark is p q =
     held_line : List Holding → List (List ℕ)
     held_line l = left_text number counts (slice_index_or kept number false) ∷ flat_map (holder_lines shared) l
 
-pub none_then : (shared : ℕ) (hs : List Holding) (kept : List Bool) (s : State) (number : ℕ) (a : List ℕ) → None ≡ census_of s number
-    → a ≡ a ++ ended (left_lines shared hs kept s number)
-none_then shared hs kept s number a none =
-    sym (append-nil a) ∙ ap (λ (o : Option Counts). a ++ ended (held_lines_if shared hs kept number o)) none
-
 -- the circles come after the blocks, and the totals last
 pub all_then : (u : Scene) (f : Findings) (found : List Holding) (shared blocks made over : ℕ) (b c d : List ℕ)
     → shared ≡ u.extent.shape.shared_cells → blocks ≡ u.extent.shape.blocks → made ≡ made_in u.history → over ≡ ended_in u.history
@@ -73,16 +68,27 @@ all_then u f found shared blocks made over b c d few all one two ties p q r =
     text : ℕ → List Holding → ℕ → ℕ → ℕ → List ℕ
     text n l m x y = ended (told n l m ++ totals_text x y ∷ [])
 
+-- what cells hold is counted, whatever it was found as
+pub counted_at : (c : Scene) (blocks : ℕ) (hs : List Holding) → blocks ≡ c.extent.shape.blocks → hs ≡ held_at c
+    → AllCounted c.extent.shape.shared_cells blocks (state_in c) hs → IsCountedAt c
+counted_at c blocks hs all is h =
+    subst (λ (n : ℕ). AllCounted c.extent.shape.shared_cells n (state_in c) (held_at c)) all
+    (subst (λ (l : List Holding). AllCounted c.extent.shape.shared_cells blocks (state_in c) l) is h)
+
 -- what was answered may be forgotten
-pub forgotten : (leaks : Bool) (fault : Fault) (bytes list text : List ℕ) → IsRun (IsLeftText (Ok leaks)) bytes list text
-    → IsRun (IsLeftText (Err fault)) bytes list text
-forgotten leaks fault bytes list text h = record {
+pub forgotten_as : (draws leaks : Bool) (fault : Fault) (bytes list text : List ℕ) → IsRun (IsLeft draws (Ok leaks)) bytes list text
+    → IsRun (IsLeft draws (Err fault)) bytes list text
+forgotten_as draws leaks fault bytes list text h = record {
   script = h.script;
   turns = h.turns;
   reads = h.reads;
   listed = h.listed;
   says = record { last = h.says.last; runs = h.says.runs; leaks = h.says.leaks; tells = h.says.tells; answers = tt };
 }
+
+pub forgotten : (leaks : Bool) (fault : Fault) (bytes list text : List ℕ) → IsRun (IsLeftText (Ok leaks)) bytes list text
+    → IsRun (IsLeftText (Err fault)) bytes list text
+forgotten leaks fault bytes list text h = forgotten_as false leaks fault bytes list text h
 
 -- a mark, and a row, at a block's number
 pub mark_is : (xs : List Bool) (i n : ℕ) (r : Bool) → i ≡ n → n < length xs → r ≡ get_or xs i r → r ≡ slice_index_or xs n false
@@ -99,9 +105,9 @@ row_is rows i n v items held is lt e it h =
     it ∙ row_in_range rows n v lt (subst (λ (k : ℕ). v ≡ get_or rows k v) is e) ∙ h
 
 -- a run's end, and what is told of it
-pub left_told : (bytes list : List ℕ) (c : Scene) (leaks : Bool) (text : List ℕ) → IsEnd bytes list c → TellsOf c leaks text
-    → IsRun (IsLeftText (Ok leaks)) bytes list text
-left_told bytes list c leaks text e t = record {
+pub left_told : (bytes list : List ℕ) (c : Scene) (draws leaks : Bool) (text : List ℕ) → IsEnd bytes list c → TellsOf c draws leaks text
+    → IsRun (IsLeft draws (Ok leaks)) bytes list text
+left_told bytes list c draws leaks text e t = record {
   script = e.script;
   turns = e.turns;
   reads = e.reads;

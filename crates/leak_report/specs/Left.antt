@@ -9,10 +9,13 @@ use Rattle.script_text.specs.Grammar.{ended}
 use Rattle.script_stepper.specs.Ends.{IsRunOut}
 use Rattle.step_threads.specs.Scenes.{Scene, state_in}
 use Rattle.step_core.specs.Totals.{census_of}
+use Rattle.holders.specs.Holdings.{AllCounted}
 use Rattle.owner_graph.specs.Knots.{KnotsAre}
 use Rattle.owner_graph.specs.Owners.{IsKept}
 use Rattle.owner_graph.specs.Ties.{AreCuts}
-use Rattle.leak_report.specs.Lines.{Findings, all_lines, held_at, ties_at}
+use Rattle.leak_report.specs.Findings.{Findings, held_at, ties_at}
+use Rattle.leak_report.specs.Graph.{graph_lines}
+use Rattle.leak_report.specs.Lines.{all_lines}
 
 -- a path of owners leads to the block from a free cell
 abbrev pub IsKeptAt : Scene → ℕ → Type 0
@@ -39,11 +42,21 @@ pub record AreFound (c : Scene) (f : Findings) : Type 0 where
   pub knots : KnotsAre c.extent.shape.shared_cells c.extent.shape.blocks (held_at c) f.knots
   pub cuts : AreCuts c.extent.shape.shared_cells c.extent.shape.blocks (held_at c) (ties_at f c) f.cuts
 
--- the text tells what is left at a scene, and whether something is leaked
-pub record TellsOf (c : Scene) (leaks : Bool) (text : List ℕ) : Type 0 where
+-- the lines that are told, or those of a graph
+abbrev pub lines_of : Bool → Findings → Scene → List (List ℕ)
+lines_of false f c = all_lines f c
+lines_of true f c = graph_lines f c
+
+-- what cells hold on a block, each cell once, is just what is counted there
+abbrev pub IsCountedAt : Scene → Type 0
+IsCountedAt c = AllCounted c.extent.shape.shared_cells c.extent.shape.blocks (state_in c) (held_at c)
+
+-- the text tells what is left at a scene, or draws it, and whether something is leaked
+pub record TellsOf (c : Scene) (draws leaks : Bool) (text : List ℕ) : Type 0 where
   pub findings : Findings
   pub found : AreFound c findings
-  pub says : text ≡ ended (all_lines findings c)
+  pub counted : IsCountedAt c
+  pub says : text ≡ ended (lines_of draws findings c)
   pub leaks_is : Leaks leaks c
 
 -- whether something is leaked, where that was answered
@@ -51,10 +64,19 @@ abbrev pub Answers : Result Bool Fault → Bool → Type 0
 Answers (Ok answer) leaks = answer ≡ leaks
 Answers (Err fault) leaks = Unit {0}
 
--- a script's run with these turns comes to this end, and the text tells what is left there
-pub record IsLeftText (answer : Result Bool Fault) (script : ScriptView) (turns text : List ℕ) : Type 0 where
+-- a script's run with these turns comes to this end, and the text tells what is left there, or draws it
+pub record IsLeft (draws : Bool) (answer : Result Bool Fault) (script : ScriptView) (turns text : List ℕ)
+    : Type 0 where
   pub last : Scene
   pub runs : IsRunOut turns (script_scene script) last
   pub leaks : Bool
-  pub tells : TellsOf last leaks text
+  pub tells : TellsOf last draws leaks text
   pub answers : Answers answer leaks
+
+-- the text tells it
+abbrev pub IsLeftText : Result Bool Fault → ScriptView → List ℕ → List ℕ → Type 0
+IsLeftText answer = IsLeft false answer
+
+-- the text draws it
+abbrev pub IsLeftGraph : Result Bool Fault → ScriptView → List ℕ → List ℕ → Type 0
+IsLeftGraph answer = IsLeft true answer

@@ -1,4 +1,6 @@
 pub mod Cells
 pub mod Circles
+pub mod Findings
+pub mod Graph
 pub mod Left
 pub mod Lines

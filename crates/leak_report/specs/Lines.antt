@@ -9,12 +9,11 @@ use Rattle.step_threads.specs.Stocks.{from}
 use Rattle.step_core.specs.Totals.{census_of, ended_in, made_in}
 use Rattle.script_stepper.specs.Lines.{block_text, totals_text}
 use Rattle.owner_graph.specs.declared.holding.Holding.{Holding}
-use Rattle.holders.specs.Holdings.{all_held}
 use Rattle.owner_graph.specs.Owners.{is_owner}
 use Rattle.owner_graph.specs.Rows.{held_on}
-use Rattle.owner_graph.specs.Ties.{ties}
 use Rattle.leak_report.specs.Cells.{cell_text}
 use Rattle.leak_report.specs.Circles.{circles}
+use Rattle.leak_report.specs.Findings.{Findings, held_at, ties_at}
 
 abbrev pub kind_text : Bool → List ℕ
 kind_text is_owner = cond is_owner (codes "owner") (codes "weak")
@@ -49,24 +48,6 @@ left_lines shared hs kept s block = held_lines_if shared hs kept block (census_o
 -- of all blocks, in order
 abbrev pub listing : ℕ → List Holding → List Bool → ℕ → State → List (List ℕ)
 listing shared hs kept blocks s = flat_map (left_lines shared hs kept s) (from 1 blocks)
-
--- what all cells hold at a scene
-abbrev pub held_at : Scene → List Holding
-held_at c = all_held (state_in c) c.extent.shape.blocks
-
--- what was found of the owners among them: which blocks are kept, the least block of each one's knot, and the owners
--- that cut one
-pub record Findings : Type 0 where
-  pub kept : List Bool
-  pub knots : List ℕ
-  pub cuts : List Holding
-
-abbrev pub findings : List Bool → List ℕ → List Holding → Findings
-findings kept knots cuts = record { kept = kept; knots = knots; cuts = cuts }
-
--- the owners at a scene that tie knots of leaked blocks
-abbrev pub ties_at : Findings → Scene → List Holding
-ties_at f c = ties c.extent.shape.shared_cells f.kept f.knots (held_at c)
 
 -- all lines of what is left at a scene, where this was found
 abbrev pub all_lines : Findings → Scene → List (List ℕ)

@@ -3,11 +3,12 @@ ghost use Rattle.std.specs.Prelude.{◌≡◌, ◌≢◌, ◌↔◌, ◌+◌, �
 ghost use Rattle.std.specs.Prelude.{false, true, length, slice_index_or};
 ghost use Rattle.step_core.specs.Totals.{IsAtEnd, census_of};
 ghost use Rattle.step_core.specs.Worlds.{scene};
+ghost use Rattle.holders.specs.Holdings.{AllCounted};
 ghost use Rattle.step_threads.specs.Scenes.{state_in};
 ghost use Rattle.owner_graph.specs.Owners.{IsAmong, IsKept};
 ghost use Rattle.owner_graph.specs.Rows.{held_on, row_at};
+ghost use Rattle.leak_report.specs.Findings.{findings, held_at, ties_at};
 ghost use Rattle.leak_report.specs.Left.{AreFound, Leaks, MarksKept};
-ghost use Rattle.leak_report.specs.Lines.{findings, held_at, ties_at};
 
 use crate::knotting::{Circles, find_circles};
 use control_word::Block;
@@ -37,10 +38,11 @@ fn marks_of(
     }
 }
 
-/// What all cells hold at a run's end, by the block that it is on, which blocks are kept, and the circles of the
-/// others.
+/// What all cells hold at a run's end, the same by the block that it is on, which blocks are kept, and the circles of
+/// the others.
 #[derive(Drop)]
 pub(crate) struct Found {
+    pub held: Vec<Holding>,
     pub rows: Vec<Vec<Holding>>,
     pub kept: Vec<bool>,
     pub circles: Circles,
@@ -48,6 +50,10 @@ pub(crate) struct Found {
 
 /// Finds what is held at a run's end.
 pub(crate) fn find(alloc: Global, end: &End) -> Result<Found, AllocError>
+    ensures held { IfOk result (λ found. found.held.items ≡ held_at (scene end.now.world)) }
+    ensures counted { IfOk result (λ found. AllCounted end.now.world.story.extent.shape.shared_cells end.now.blocks
+        (state_in (scene end.now.world)) found.held.items) }
+    ensures cuts { IfOk result (λ found. All (IsAmong end.now.blocks) found.circles.cuts.items) }
     ensures size { IfOk result (λ found. length found.rows.items ≡ end.now.blocks + 1) }
     ensures rows { IfOk result (λ found. (block : ℕ)
         → row_at found.rows.items block ≡ held_on (held_at (scene end.now.world)) block) }
@@ -78,6 +84,7 @@ pub(crate) fn find(alloc: Global, end: &End) -> Result<Found, AllocError>
         kept.as_slice(),
     )?;
     Ok(Found {
+        held,
         rows,
         kept,
         circles,

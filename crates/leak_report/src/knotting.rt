@@ -31,6 +31,7 @@ pub(crate) fn find_circles(
     ensures knots { IfOk result (λ c. KnotsAre shared blocks holdings.now c.knots.items) }
     ensures ties { IfOk result (λ c. c.ties.items ≡ ties shared kept.now c.knots.items holdings.now) }
     ensures cuts { IfOk result (λ c. AreCuts shared blocks holdings.now c.ties.items c.cuts.items) }
+    ensures among { IfOk result (λ c. All (IsAmong blocks) c.cuts.items) }
     ensures sizes { IfOk result (λ c. (length c.tie_rows.items ≡ blocks + 1)
         × (length c.cut_rows.items ≡ blocks + 1)) }
     ensures tie_rows { IfOk result (λ c. (block : ℕ)

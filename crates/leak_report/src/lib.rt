@@ -1,11 +1,13 @@
-//! What is left at a script's end, and who holds it, as text.
+//! What is left at a script's end, and who holds it, as text or as a graph.
 #![tactic(auto)]
 
 mod answering;
 mod circles;
+mod cutting;
 mod finding;
+mod graph;
 mod knotting;
 mod lines;
 mod listing;
 
-pub use answering::left_text;
+pub use answering::{left_graph, left_text};

@@ -12,7 +12,7 @@ use std::fmt::Write;
 use step_core::Cell;
 
 /// A member's name.
-fn member_word(member: u8) -> &'static str
+pub(crate) fn member_word(member: u8) -> &'static str
     ensures { result.now ≡ member_text member }
 {
     match member {
@@ -37,7 +37,7 @@ fn kept_word(is_kept: bool) -> &'static str
 }
 
 /// Adds a free cell's word.
-fn put_free(text: &mut String, shared: u32, number: u32) -> Result<(), AllocError>
+pub(crate) fn put_free(text: &mut String, shared: u32, number: u32) -> Result<(), AllocError>
     ensures { OnOk result (string_bytes text.new ≡ string_bytes text.old ++ cell_text shared (Cell.Free number)) }
 {
     if number < shared {

@@ -1,12 +1,13 @@
 //! What is left, block by block.
-ghost use Rattle.std.specs.Prelude.{◌≡◌, ◌+◌, ◌≤◌, ℕ, OnOk, IfOk, length, string_bytes};
+ghost use Rattle.std.specs.Prelude.{◌≡◌, ◌+◌, ◌≤◌, ℕ, OnOk, IfOk, false, length, string_bytes};
 ghost use Rattle.script_text.specs.Canonical.{AddsLines};
 ghost use Rattle.step_core.specs.Totals.{IsAtEnd};
 ghost use Rattle.step_core.specs.Worlds.{scene};
 ghost use Rattle.step_threads.specs.Scenes.{state_in};
 ghost use Rattle.owner_graph.specs.Rows.{held_on, row_at};
+ghost use Rattle.leak_report.specs.Findings.{held_at};
 ghost use Rattle.leak_report.specs.Left.{TellsOf};
-ghost use Rattle.leak_report.specs.Lines.{held_at, left_lines, listing};
+ghost use Rattle.leak_report.specs.Lines.{left_lines, listing};
 
 use crate::circles::put_circles;
 use crate::finding::{Found, find, leaks};
@@ -74,7 +75,7 @@ pub(crate) struct Left {
 
 /// Tells what is left at a run's end.
 pub(crate) fn left_at(alloc: Global, end: &End) -> Result<Left, AllocError>
-    ensures { IfOk result (λ left. TellsOf (scene end.now.world) left.leaks (string_bytes left.text)) }
+    ensures { IfOk result (λ left. TellsOf (scene end.now.world) false left.leaks (string_bytes left.text)) }
 {
     let found = find(alloc, end)?;
     let mut text = String::new(alloc);

@@ -3,8 +3,9 @@ use Rattle.std.specs.Prelude.{string_bytes}
 use Rattle.script_text.specs.Grammar.{ended}
 use Rattle.step_core.specs.Worlds.{scene}
 use Rattle.step_threads.specs.Scenes.{state_in}
-use Rattle.leak_report.specs.Lines.{findings, held_at, listing}
-use Rattle.leak_report.proofs.Telling.{all_then}
+use Rattle.leak_report.specs.Findings.{findings, held_at}
+use Rattle.leak_report.specs.Lines.{listing}
+use Rattle.leak_report.proofs.Telling.{all_then, counted_at}
 use Rattle.leak_report.proofs.listing.left_at.Goals as goal
 
 pub returns : goal.returns
@@ -14,6 +15,7 @@ returns c =
     let f = findings found.kept.items found.circles.knots.items found.circles.cuts.items in record {
       findings = f;
       found = c.in_ok-found.ensures.found;
+      counted = counted_at u c.args.end.now.blocks found.held.items c.args.end.now.all c.in_ok-found.ensures.held c.in_ok-found.ensures.counted;
       says =
           all_then u f found.circles.ties.items 128 c.args.end.now.blocks c.from.result c.from-2.result (string_bytes c.put_listing.new.text)
           (string_bytes c.put_circles.new.text) (string_bytes c.put_totals.new.text) (sym c.args.end.now.shared) c.args.end.now.all

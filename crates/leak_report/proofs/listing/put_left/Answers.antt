@@ -2,7 +2,7 @@ use Rattle.std.proofs.Common.{◌<◌, arith, length}
 use Rattle.std.specs.Prelude.{string_bytes}
 use Rattle.step_core.specs.Worlds.{scene}
 use Rattle.step_threads.specs.Scenes.{state_in}
-use Rattle.leak_report.specs.Lines.{held_at}
+use Rattle.leak_report.specs.Findings.{held_at}
 use Rattle.leak_report.proofs.Telling.{block_then, mark_is, row_is}
 use Rattle.leak_report.proofs.listing.put_left.Goals as goal
 

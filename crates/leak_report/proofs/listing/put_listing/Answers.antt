@@ -1,7 +1,8 @@
 use Rattle.std.specs.Prelude.{string_bytes}
 use Rattle.step_core.specs.Worlds.{scene}
 use Rattle.step_threads.specs.Scenes.{state_in}
-use Rattle.leak_report.specs.Lines.{held_at, left_lines}
+use Rattle.leak_report.specs.Findings.{held_at}
+use Rattle.leak_report.specs.Lines.{left_lines}
 use Rattle.leak_report.proofs.Telling.{numbers_then}
 use Rattle.leak_report.proofs.listing.put_listing.Goals as goal
 

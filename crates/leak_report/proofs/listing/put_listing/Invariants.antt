@@ -3,7 +3,8 @@ use Rattle.std.specs.Prelude.{string_bytes}
 use Rattle.script_text.specs.Grammar.{ended}
 use Rattle.step_threads.specs.Scenes.{state_in}
 use Rattle.step_core.specs.Worlds.{scene}
-use Rattle.leak_report.specs.Lines.{held_at, listing}
+use Rattle.leak_report.specs.Findings.{held_at}
+use Rattle.leak_report.specs.Lines.{listing}
 use Rattle.leak_report.proofs.listing.put_listing.Given as goal
 
 abbrev pub invariant-loop-before : goal.invariant-loop-before

@@ -1,0 +1,17 @@
+use Rattle.std.proofs.Common.{◌∙◌, subst, sym}
+use Rattle.std.specs.Prelude.{All}
+use Rattle.std.proofs.lemmas.Result.{IfOk-weaker}
+use Rattle.owner_graph.specs.Owners.{IsAmong}
+use Rattle.leak_report.proofs.Drawing.{moved_among, rows_tell}
+use Rattle.leak_report.proofs.cutting.by_source.Goals as goal
+
+pub by_block-requires : goal.by_block-requires
+by_block-requires c =
+    subst (All (IsAmong c.args.blocks)) (sym (c.as_slice.ensures.value ∙ c.in_ok-moved.ensures))
+    (moved_among c.args.blocks c.args.holdings.now c.requires)
+
+pub returns : goal.returns
+returns c =
+    IfOk-weaker c.by_block.result _ _
+    (λ rows tells. rows_tell rows.items c.as_slice.result.now c.args.holdings.now tells (c.as_slice.ensures.value ∙ c.in_ok-moved.ensures))
+    c.by_block.ensures.rows

@@ -1,0 +1,26 @@
+use Rattle.std.proofs.Common.{◌∙◌, ◌++◌, List, ℕ, ap, sym}
+use Rattle.std.specs.Prelude.{string_bytes}
+use Rattle.script_text.specs.Grammar.{ended}
+use Rattle.step_core.specs.Worlds.{scene}
+use Rattle.leak_report.specs.Findings.{findings}
+use Rattle.leak_report.specs.Graph.{head_lines}
+use Rattle.leak_report.proofs.Drawing.{graph_then}
+use Rattle.leak_report.proofs.Telling.{counted_at}
+use Rattle.leak_report.proofs.graph.drawn_at.Goals as goal
+
+pub returns : goal.returns
+returns c =
+    let u = scene c.args.end.now.world in
+    let found = c.in_ok-found.found in
+    let f = findings found.kept.items found.circles.knots.items found.circles.cuts.items in record {
+      findings = f;
+      found = c.in_ok-found.ensures.found;
+      counted = counted_at u c.args.end.now.blocks found.held.items c.args.end.now.all c.in_ok-found.ensures.held c.in_ok-found.ensures.counted;
+      says =
+          graph_then u f found.circles.ties.items c.as_slice-3.result.now 128 c.args.end.now.blocks (string_bytes c.put_head.new.text)
+          (string_bytes c.put_blocks.new.text) (string_bytes c.put_all_held.new.text) (string_bytes c.push_str.new.self) (sym c.args.end.now.shared)
+          c.args.end.now.all c.in_ok-found.ensures.ties (c.as_slice-3.ensures.value ∙ c.in_ok-found.ensures.held)
+          (c.in_ok-put_head.ensures ∙ ap (λ (t : List ℕ). t ++ ended head_lines) c.new-text.ensures.bytes) c.in_ok-put_blocks.ensures
+          c.in_ok-put_all_held.ensures c.in_ok-push_str.ensures.bytes;
+      leaks_is = c.leaks-leaks.ensures;
+    }

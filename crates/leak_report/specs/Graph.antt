@@ -1,0 +1,103 @@
+-- What is left as a graph for Graphviz, line by line, each without its line feed. All of it is own.
+use Rattle.std.specs.Prelude.{ℕ, ◌++◌, Bool, false, cond, nat_lt, List, [], ◌∷◌, length, codes, decimal}
+use Rattle.std.specs.Prelude.{slice_index}
+use Rattle.std.specs.Prelude.{Option, Some, None, slice_index_or}
+use Rattle.std.specs.List.{flat_map, list_any}
+use Rattle.control_word.specs.State.{State}
+use Rattle.step_table.specs.declared.cell_deed.Cell.{Cell}
+use Rattle.step_table.specs.declared.cell_deed.Cell.TheVariants.{Free, Member}
+use Rattle.step_threads.specs.Scenes.{Scene, state_in}
+use Rattle.step_threads.specs.Stocks.{from}
+use Rattle.step_core.specs.Totals.{fields_of}
+use Rattle.owner_graph.specs.declared.holding.Holding.{Holding}
+use Rattle.owner_graph.specs.Ends.{same_cell}
+use Rattle.owner_graph.specs.Labels.{at}
+use Rattle.owner_graph.specs.Owners.{is_owner, source}
+use Rattle.owner_graph.specs.Rows.{held_on}
+use Rattle.owner_graph.specs.Ties.{is_tie}
+use Rattle.leak_report.specs.Cells.{cell_text, member_text}
+use Rattle.leak_report.specs.Findings.{Findings, held_at, ties_at}
+
+-- the color of a block: whether it is kept, and else whether something ties its knot
+abbrev pub color_text : Bool → Bool → List ℕ
+color_text is_kept is_tied = cond is_kept (codes "white") (cond is_tied (codes "orange") (codes "lightgrey"))
+
+abbrev pub fields_text : List ℕ → List ℕ
+fields_text fields = decimal (slice_index fields 0) ++ codes " " ++ decimal (slice_index fields 1) ++ codes " "
+    ++ decimal (slice_index fields 2) ++ codes " " ++ decimal (slice_index fields 3)
+
+-- a block, with the fields of the object in it
+abbrev pub node_text : ℕ → List ℕ → List ℕ → List ℕ
+node_text block fields color =
+    codes "b" ++ decimal block ++ codes " [label=\"block " ++ decimal block ++ codes "\\n" ++ fields_text fields
+    ++ codes "\", fillcolor=" ++ color ++ codes "];"
+
+abbrev pub node_if : ℕ → List ℕ → Option (List ℕ) → List (List ℕ)
+node_if block color None = []
+node_if block color (Some fields) = node_text block fields color ∷ []
+
+abbrev pub is_tied : List Holding → Bool
+is_tied ties = nat_lt 0 (length ties)
+
+-- of a block that isn't vacant
+abbrev pub node_lines : State → List Bool → List ℕ → List Holding → ℕ → List (List ℕ)
+node_lines s kept knots ties block =
+    node_if block (color_text (slice_index_or kept block false) (is_tied (held_on ties (at knots block))))
+    (fields_of s block)
+
+-- of all blocks, in order
+abbrev pub all_nodes : State → List Bool → List ℕ → List Holding → ℕ → List (List ℕ)
+all_nodes s kept knots ties blocks = flat_map (node_lines s kept knots ties) (from 1 blocks)
+
+-- the cell is among those that are listed
+abbrev pub is_listed : Cell → List Holding → Bool
+is_listed c hs = list_any (λ (h : Holding). same_cell h.cell c) hs
+
+-- the cell of a handle, with the block in which it is
+abbrev pub at_source : Holding → Holding
+at_source h = record { cell = h.cell; block = record { 0 = source h.cell } }
+
+-- an owner is a full line, a bold one where it cuts its knot, and a weak handle a dashed one
+abbrev pub style_text : Bool → Bool → List ℕ
+style_text is_owner is_cut = cond is_owner (cond is_cut (codes "bold") (codes "solid")) (codes "dashed")
+
+-- what ties a knot is red
+abbrev pub tie_text : Bool → List ℕ
+tie_text is_tie = cond is_tie (codes ", color=red") []
+
+-- a free cell, and the line of the handle in it
+abbrev pub box_text : ℕ → ℕ → List ℕ
+box_text shared number = cell_text shared (Free number) ++ codes " [shape=box];"
+
+abbrev pub free_text : ℕ → ℕ → ℕ → List ℕ → List ℕ
+free_text shared number block style =
+    cell_text shared (Free number) ++ codes " -> b" ++ decimal block ++ codes " [style=" ++ style ++ codes "];"
+
+abbrev pub free_lines : ℕ → ℕ → ℕ → List ℕ → List (List ℕ)
+free_lines shared number block style = box_text shared number ∷ [] ++ free_text shared number block style ∷ []
+
+-- the line of a handle in a member
+abbrev pub member_lines : ℕ → ℕ → ℕ → List ℕ → List ℕ → List (List ℕ)
+member_lines from member block style color =
+    (codes "b" ++ decimal from ++ codes " -> b" ++ decimal block ++ codes " [label=\" " ++ member_text member
+    ++ codes "\", style=" ++ style ++ color ++ codes "];") ∷ []
+
+abbrev pub edge_by : ℕ → ℕ → List ℕ → List ℕ → Cell → List (List ℕ)
+edge_by shared block style color (Free number) = free_lines shared number block style
+edge_by shared block style color (Member from member) = member_lines from.0 member block style color
+
+-- a handle
+abbrev pub edge_lines : ℕ → Findings → Holding → List (List ℕ)
+edge_lines shared f h =
+    edge_by shared h.block.0 (style_text (is_owner shared h.cell) (is_listed h.cell f.cuts))
+    (tie_text (is_tie shared f.kept f.knots h)) h.cell
+
+-- how the graph begins
+abbrev pub head_lines : List (List ℕ)
+head_lines = codes "digraph left {" ∷ codes "node [style=filled, fillcolor=white];" ∷ []
+
+-- all lines of the graph of what is left at a scene, where this was found
+abbrev pub graph_lines : Findings → Scene → List (List ℕ)
+graph_lines f c =
+    head_lines ++ all_nodes (state_in c) f.kept f.knots (ties_at f c) c.extent.shape.blocks
+    ++ flat_map (edge_lines c.extent.shape.shared_cells f) (held_at c) ++ codes "}" ∷ []

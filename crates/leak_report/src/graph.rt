@@ -1,0 +1,284 @@
+//! What is left at a run's end as a graph for Graphviz.
+ghost use Rattle.std.specs.Prelude.{◌≡◌, ◌∷◌, ◌++◌, ◌+◌, ◌<◌, ◌≤◌, ℕ, [], IfOk, OnOk};
+ghost use Rattle.std.specs.Prelude.{length, nat_lt, string_bytes};
+ghost use Rattle.std.specs.Prelude.{true};
+ghost use Rattle.std.specs.List.{flat_map};
+ghost use Rattle.script_text.specs.Canonical.{AddsLines};
+ghost use Rattle.step_core.specs.Totals.{IsAtEnd};
+ghost use Rattle.step_core.specs.Worlds.{scene};
+ghost use Rattle.step_table.specs.declared.cell_deed.Cell.{Cell};
+ghost use Rattle.step_threads.specs.Scenes.{state_in};
+ghost use Rattle.owner_graph.specs.Labels.{at};
+ghost use Rattle.owner_graph.specs.Owners.{source};
+ghost use Rattle.owner_graph.specs.Rows.{held_on, row_at};
+ghost use Rattle.leak_report.specs.Findings.{findings};
+ghost use Rattle.leak_report.specs.Graph.{all_nodes, color_text, edge_by, edge_lines, free_lines};
+ghost use Rattle.leak_report.specs.Graph.{box_text, fields_text, free_text, head_lines, is_listed, is_tied};
+ghost use Rattle.leak_report.specs.Graph.{member_lines};
+ghost use Rattle.leak_report.specs.Graph.{node_lines, node_text, style_text, tie_text};
+ghost use Rattle.leak_report.specs.Left.{TellsOf};
+
+use crate::cutting::{by_source, is_listed_in};
+use crate::finding::{Found, find, leaks};
+use crate::knotting::Circles;
+use crate::lines::{member_word, put_free};
+use crate::listing::Left;
+use control_word::Block;
+use control_word::limits::SCRIPT_SHARED_CELLS;
+use owner_graph::{Holding, is_owner, is_tie};
+use script_stepper::End;
+use std::alloc::{AllocError, Global};
+use std::fmt::Write;
+use step_core::{Cell, World};
+
+/// The color of a block: whether it is kept, and else whether something ties its knot.
+fn color_word(is_kept: bool, is_tied: bool) -> &'static str
+    ensures { result.now ≡ color_text is_kept is_tied }
+{
+    if is_kept {
+        "white"
+    } else if is_tied {
+        "orange"
+    } else {
+        "lightgrey"
+    }
+}
+
+/// Adds the fields of an object, with a space between.
+fn put_fields(text: &mut String, fields: &[u64; 4]) -> Result<(), AllocError>
+    ensures { OnOk result (string_bytes text.new ≡ string_bytes text.old ++ fields_text fields.now) }
+{
+    let first = fields[0];
+    let second = fields[1];
+    let third = fields[2];
+    let fourth = fields[3];
+    write!(text, "{first} {second}")?;
+    write!(text, " {third} {fourth}")?;
+    Ok(())
+}
+
+/// Adds the node of a block.
+fn put_node(text: &mut String, block: u16, fields: &[u64; 4], color: &str) -> Result<(), AllocError>
+    ensures { OnOk result (AddsLines text.old text.new (node_text block fields.now color.now ∷ [])) }
+{
+    write!(text, "b{block} [label=\"block {block}\\n")?;
+    put_fields(text, fields)?;
+    writeln!(text, "\", fillcolor={color}];")?;
+    Ok(())
+}
+
+/// Whether something ties the knot of a block.
+fn is_tied(circles: &Circles, block: usize) -> bool
+    requires { block < length circles.now.knots.items }
+    ensures { result ≡ is_tied (row_at circles.now.tie_rows.items (at circles.now.knots.items block)) }
+{
+    let least = circles.knots[block];
+    let rows = circles.tie_rows.as_slice();
+    least < rows.len() && !rows[least].as_slice().is_empty()
+}
+
+/// Adds the node of a block, where it isn't vacant.
+fn put_block(world: &World, number: u16, found: &Found, text: &mut String) -> Result<(), AllocError>
+    requires end { IsAtEnd world.now }
+    requires block { (1 ≤ number) × (number ≤ world.now.story.extent.shape.blocks) }
+    requires kept { number + 1 ≤ length found.now.kept.items }
+    requires knots { number + 1 ≤ length found.now.circles.knots.items }
+    requires ties { (block : ℕ) → row_at found.now.circles.tie_rows.items block
+        ≡ held_on found.now.circles.ties.items block }
+    ensures { OnOk result (AddsLines text.old text.new (node_lines (state_in (scene world.now)) found.now.kept.items
+        found.now.circles.knots.items found.now.circles.ties.items number)) }
+{
+    let Some(fields) = world.fields(Block(number)) else {
+        return Ok(());
+    };
+    let index = usize::from(number);
+    let color = color_word(found.kept[index], is_tied(&found.circles, index));
+    put_node(text, number, &fields, color)?;
+    Ok(())
+}
+
+/// Adds the nodes of all blocks, in order.
+fn put_blocks(
+    world: &World,
+    blocks: u16,
+    found: &Found,
+    text: &mut String,
+) -> Result<(), AllocError>
+    requires end { IsAtEnd world.now }
+    requires all { blocks ≡ world.now.story.extent.shape.blocks }
+    requires kept { blocks + 1 ≤ length found.now.kept.items }
+    requires knots { blocks + 1 ≤ length found.now.circles.knots.items }
+    requires ties { (block : ℕ) → row_at found.now.circles.tie_rows.items block
+        ≡ held_on found.now.circles.ties.items block }
+    ensures { OnOk result (AddsLines text.old text.new (all_nodes (state_in (scene world.now)) found.now.kept.items
+        found.now.circles.knots.items found.now.circles.ties.items blocks)) }
+{
+    for before in 0..blocks {
+        put_block(world, before + 1, found, text)?;
+    }
+    Ok(())
+}
+
+/// How the line of a handle is drawn.
+fn style_word(is_owner: bool, is_cut: bool) -> &'static str
+    ensures { result.now ≡ style_text is_owner is_cut }
+{
+    if !is_owner {
+        "dashed"
+    } else if is_cut {
+        "bold"
+    } else {
+        "solid"
+    }
+}
+
+/// The color of a handle's line, where it ties a knot.
+fn tie_word(is_tie: bool) -> &'static str
+    ensures { result.now ≡ tie_text is_tie }
+{
+    if is_tie { ", color=red" } else { "" }
+}
+
+/// Adds the box of a free cell.
+fn put_box(text: &mut String, shared: u32, number: u32) -> Result<(), AllocError>
+    ensures { OnOk result (AddsLines text.old text.new (box_text shared number ∷ [])) }
+{
+    put_free(text, shared, number)?;
+    writeln!(text, " [shape=box];")?;
+    Ok(())
+}
+
+/// Adds the line of the handle in a free cell.
+fn put_from_box(
+    text: &mut String,
+    shared: u32,
+    number: u32,
+    block: u16,
+    style: &str,
+) -> Result<(), AllocError>
+    ensures { OnOk result (AddsLines text.old text.new (free_text shared number block style.now ∷ [])) }
+{
+    put_free(text, shared, number)?;
+    write!(text, " -> b{block}")?;
+    writeln!(text, " [style={style}];")?;
+    Ok(())
+}
+
+/// Adds the box of a free cell, and the line of the handle in it.
+fn put_free_edge(
+    text: &mut String,
+    shared: u32,
+    number: u32,
+    block: u16,
+    style: &str,
+) -> Result<(), AllocError>
+    ensures { OnOk result (AddsLines text.old text.new (free_lines shared number block style.now)) }
+{
+    put_box(text, shared, number)?;
+    put_from_box(text, shared, number, block, style)?;
+    Ok(())
+}
+
+/// Adds the line of a handle in a member.
+fn put_member_edge(
+    text: &mut String,
+    from: u16,
+    member: u8,
+    block: u16,
+    style: &str,
+    color: &str,
+) -> Result<(), AllocError>
+    ensures { OnOk result (AddsLines text.old text.new (member_lines from member block style.now color.now)) }
+{
+    let word = member_word(member);
+    write!(text, "b{from} -> b{block}")?;
+    write!(text, " [label=\" {word}\"")?;
+    writeln!(text, ", style={style}{color}];")?;
+    Ok(())
+}
+
+/// Adds the line of a handle.
+fn put_edge(
+    text: &mut String,
+    shared: u32,
+    block: u16,
+    style: &str,
+    color: &str,
+    cell: Cell,
+) -> Result<(), AllocError>
+    ensures { OnOk result (AddsLines text.old text.new (edge_by shared block style.now color.now cell)) }
+{
+    match cell {
+        Cell::Free { number } => put_free_edge(text, shared, number, block, style),
+        Cell::Member {
+            block: from,
+            member,
+        } => put_member_edge(text, from.0, member, block, style, color),
+    }
+}
+
+/// Adds the line of what is held in a cell, where the cells that cut a knot are listed by their blocks.
+fn put_held(
+    text: &mut String,
+    shared: u32,
+    found: &Found,
+    cuts: &[Vec<Holding>],
+    held: Holding,
+) -> Result<(), AllocError>
+    requires { (c : Cell) → is_listed c (row_at cuts.now (source c)) ≡ is_listed c found.now.circles.cuts.items }
+    ensures { OnOk result (AddsLines text.old text.new (edge_lines shared (findings found.now.kept.items
+        found.now.circles.knots.items found.now.circles.cuts.items) held)) }
+{
+    let style = style_word(is_owner(shared, held.cell), is_listed_in(held.cell, cuts));
+    let kept = found.kept.as_slice();
+    let color = tie_word(is_tie(shared, held, kept, found.circles.knots.as_slice()));
+    put_edge(text, shared, held.block.0, style, color, held.cell)?;
+    Ok(())
+}
+
+/// Adds the lines of all that is held, in order.
+fn put_all_held(
+    text: &mut String,
+    shared: u32,
+    found: &Found,
+    cuts: &[Vec<Holding>],
+    holdings: &[Holding],
+) -> Result<(), AllocError>
+    requires { (c : Cell) → is_listed c (row_at cuts.now (source c)) ≡ is_listed c found.now.circles.cuts.items }
+    ensures { OnOk result (AddsLines text.old text.new (flat_map (edge_lines shared (findings found.now.kept.items
+        found.now.circles.knots.items found.now.circles.cuts.items)) holdings.now)) }
+{
+    for held in holdings {
+        put_held(text, shared, found, cuts, *held)?;
+    }
+    Ok(())
+}
+
+/// Adds how the graph begins.
+fn put_head(text: &mut String) -> Result<(), AllocError>
+    ensures { OnOk result (AddsLines text.old text.new head_lines) }
+{
+    text.push_str("digraph left {\nnode [style=filled, fillcolor=white];\n")?;
+    Ok(())
+}
+
+/// Draws what is left at a run's end.
+pub(crate) fn drawn_at(alloc: Global, end: &End) -> Result<Left, AllocError>
+    ensures { IfOk result (λ left. TellsOf (scene end.now.world) true left.leaks (string_bytes left.text)) }
+{
+    let found = find(alloc, end)?;
+    let cuts = by_source(alloc, end.blocks, found.circles.cuts.as_slice())?;
+    let mut text = String::new(alloc);
+    put_head(&mut text)?;
+    put_blocks(&end.world, end.blocks, &found, &mut text)?;
+    put_all_held(
+        &mut text,
+        SCRIPT_SHARED_CELLS,
+        &found,
+        cuts.as_slice(),
+        found.held.as_slice(),
+    )?;
+    text.push_str("}\n")?;
+    let leaks = leaks(&end.world, end.blocks, found.kept.as_slice());
+    Ok(Left { text, leaks })
+}
