@@ -1,12 +1,12 @@
 //! The row of scene_structures' stack: four desks that push and pop, and one alone.
-ghost use Rattle.std.specs.Prelude.{◌≡◌, ◌+◌, ◌≤◌, ◌<◌, [], IfSome, MatchOption, length};
+ghost use Rattle.std.specs.Prelude.{◌≡◌, ◌+◌, ◌≤◌, ◌<◌, IfSome, MatchOption, length};
 ghost use denote.Param.Send.{IsSync};
-ghost use Rattle.control_block.specs.Desks.{Belongs, IsSameDesk, allowance_of, endings_of, stock_of};
+ghost use Rattle.control_block.specs.Desks.{Belongs, IsSameDesk, allowance_of, stock_of};
 ghost use Rattle.measure.specs.Scenes.{IsHandy};
 
 use crate::rounds::FIELDS;
 use crate::rows::line_of;
-use crate::scenes::{STRUCTURES, out_of_memory, spend};
+use crate::scenes::{STRUCTURES, out_of_memory, pile_in, spend};
 use crate::timing::{CHUNKS, SPAN, Spent, Start, nanos};
 use control_block::desk::Desk;
 use control_block::domain::Domain;
@@ -112,14 +112,12 @@ fn work<R: Clock + CpuClock + Wait>(
 ) -> io::Result<Spent>
     requires domain { Belongs desk.old domain.now }
     requires cell { 0 < domain.now.shape.shared_cells }
-    requires settled { endings_of desk.old ≡ 0 }
-    ensures settled { endings_of desk.new ≡ 0 }
     ensures desk { IsSameDesk desk.old desk.new }
 {
     let Ok(mut stack) = Stack::new(alloc, domain, 0) else {
         return Err(out_of_memory());
     };
-    let Ok(mut pile) = Pile::new(alloc, domain) else {
+    let Some(mut pile) = pile_in(alloc, domain) else {
         stack.close();
         return Err(out_of_memory());
     };
@@ -139,10 +137,9 @@ fn part(
 ) -> Option<Desk<()>>
     requires domain { Belongs desk.old domain.now }
     requires blocks { blocks ≤ length (stock_of desk.old) }
-    requires settled { endings_of desk.old ≡ 0 }
     ensures one { (desk.new.domain ≡ desk.old.domain) × (desk.new.shape ≡ desk.old.shape)
-        × (desk.new.name ≡ desk.old.name) × (endings_of desk.new ≡ 0) }
-    ensures two { IfSome result (λ r. Belongs r domain.now × (endings_of r ≡ 0)) }
+        × (desk.new.name ≡ desk.old.name) }
+    ensures two { IfSome result (λ r. Belongs r domain.now) }
     ensures sum { MatchOption result (allowance_of desk.new ≡ allowance_of desk.old)
         (λ r. allowance_of desk.new + allowance_of r ≡ allowance_of desk.old) }
     ensures stock { IfSome result (λ r. (length (stock_of r) ≡ blocks)
@@ -170,9 +167,7 @@ fn pair<R: Clock + CpuClock + Threads + Wait + Sync>(
 ) -> io::Result<(Spent, Spent)>
     requires domain { Belongs one.old domain.now }
     requires cell { 0 < domain.now.shape.shared_cells }
-    requires settled { endings_of one.old ≡ 0 }
     requires stock { BLOCKS ≤ length (stock_of one.old) }
-    ensures settled { endings_of one.new ≡ 0 }
     ensures one { IsSameDesk one.old one.new }
 {
     let Some(mut two) = part(alloc, domain, one, 8, BLOCKS) else {
@@ -194,8 +189,6 @@ fn both<R: Clock + CpuClock + Threads + Wait + Sync>(
 ) -> (io::Result<Spent>, io::Result<Spent>)
     requires domain { Belongs one.old domain.now × Belongs two.old domain.now }
     requires cell { 0 < domain.now.shape.shared_cells }
-    requires settled { (endings_of one.old ≡ 0) × (endings_of two.old ≡ 0) }
-    ensures settled { (endings_of one.new ≡ 0) × (endings_of two.new ≡ 0) }
     ensures one { IsSameDesk one.old one.new }
     ensures two { IsSameDesk two.old two.new }
 {
@@ -217,9 +210,7 @@ fn both_pairs<R: Clock + CpuClock + Threads + Wait + Sync>(
 ) -> io::Result<[Spent; 4]>
     requires domain { Belongs one.old domain.now × Belongs two.old domain.now }
     requires cell { 0 < domain.now.shape.shared_cells }
-    requires settled { (endings_of one.old ≡ 0) × (endings_of two.old ≡ 0) }
     requires stock { (BLOCKS ≤ length (stock_of one.old)) × (BLOCKS ≤ length (stock_of two.old)) }
-    ensures settled { (endings_of one.new ≡ 0) × (endings_of two.new ≡ 0) }
     ensures one { IsSameDesk one.old one.new }
     ensures two { IsSameDesk two.old two.new }
 {
@@ -227,13 +218,13 @@ fn both_pairs<R: Clock + CpuClock + Threads + Wait + Sync>(
         rt,
         &mut || -> io::Result<(Spent, Spent)>
             requires { IsSync R.row × Belongs one.now domain.now × (0 < domain.now.shape.shared_cells)
-                × (endings_of one.now ≡ 0) × (BLOCKS ≤ length (stock_of one.now)) }
-            ensures { IsSameDesk one.entry.now one.exit.now × (endings_of one.exit.now ≡ 0) }
+                × (BLOCKS ≤ length (stock_of one.now)) }
+            ensures { IsSameDesk one.entry.now one.exit.now }
         { pair(rt, alloc, domain, one, start) },
         &mut || -> io::Result<(Spent, Spent)>
             requires { IsSync R.row × Belongs two.now domain.now × (0 < domain.now.shape.shared_cells)
-                × (endings_of two.now ≡ 0) × (BLOCKS ≤ length (stock_of two.now)) }
-            ensures { IsSameDesk two.entry.now two.exit.now × (endings_of two.exit.now ≡ 0) }
+                × (BLOCKS ≤ length (stock_of two.now)) }
+            ensures { IsSameDesk two.entry.now two.exit.now }
         { pair(rt, alloc, domain, two, start) },
     );
     let (first, second) = front?;
@@ -250,8 +241,6 @@ fn four<R: Clock + CpuClock + Threads + Wait + Sync>(
 ) -> io::Result<[Spent; 4]>
     requires domain { Belongs one.old domain.now }
     requires cell { 0 < domain.now.shape.shared_cells }
-    requires settled { endings_of one.old ≡ 0 }
-    ensures settled { endings_of one.new ≡ 0 }
     ensures one { IsSameDesk one.old one.new }
 {
     if one.stock() < 4 * BLOCKS {
@@ -275,8 +264,6 @@ pub(crate) fn rows<R: Clock + CpuClock + Threads + Wait + Sync + Print>(
 ) -> io::Result<()>
     requires domain { Belongs desk.old domain.now }
     requires cell { 0 < domain.now.shape.shared_cells }
-    requires settled { endings_of desk.old ≡ 0 }
-    ensures settled { endings_of desk.new ≡ 0 }
     ensures desk { IsSameDesk desk.old desk.new }
 {
     let start = Start::of(rt, 1)?;

@@ -1,14 +1,14 @@
 //! The row of scene_structures' trees: the teardown of a root and its children, each of which owns the next.
 ghost use Rattle.std.specs.Prelude.{◌≡◌, ◌+◌, []};
 ghost use Rattle.control_word.specs.declared.handle.Kind.TheVariants.{Owner};
-ghost use Rattle.control_block.specs.Desks.{Belongs, IsSameDesk, bag_of, endings_of};
-ghost use Rattle.shared_handle.specs.Calls.{Holds, without_handle};
+ghost use Rattle.control_block.specs.Desks.{Belongs, IsSameDesk, bag_of};
+ghost use Rattle.shared_handle.specs.Calls.{Holds};
 ghost use Rattle.scene_structures.specs.Stacks.{Serves};
 
 use crate::chain::CHAIN;
 use crate::rounds::FIELDS;
 use crate::rows::line_of;
-use crate::scenes::{STRUCTURES, out_of_memory, spend};
+use crate::scenes::{STRUCTURES, out_of_memory, pile_in, spend};
 use crate::timing::{CHUNKS, SPAN, Spent, nanos};
 use control_block::desk::Desk;
 use control_block::domain::Domain;
@@ -30,13 +30,11 @@ fn grow<R: Wait>(
     pile: &mut Pile<()>,
 ) -> bool
     requires domain { Belongs desk.old domain.now }
-    requires scene { Serves domain.now scene.old × (scene.old.endings.items ≡ []) }
-    requires pile { Serves domain.now pile.old × (pile.old.endings.items ≡ []) }
-    requires settled { endings_of desk.old ≡ 0 }
+    requires scene { Serves domain.now scene.old }
+    requires pile { Serves domain.now pile.old }
     requires holds { Holds desk.old Owner root.now.block root.now.place }
-    ensures scene { Serves domain.now scene.new × (scene.new.endings.items ≡ []) }
-    ensures pile { Serves domain.now pile.new × (pile.new.endings.items ≡ []) }
-    ensures settled { endings_of desk.new ≡ 0 }
+    ensures scene { Serves domain.now scene.new }
+    ensures pile { Serves domain.now pile.new }
     ensures desk { IsSameDesk desk.old desk.new }
     ensures bag { bag_of desk.new ≡ bag_of desk.old }
     ensures held { desk.new.held ≡ desk.old.held }
@@ -60,13 +58,11 @@ fn grow_all<R: Wait>(
     pile: &mut Pile<()>,
 ) -> bool
     requires domain { Belongs desk.old domain.now }
-    requires scene { Serves domain.now scene.old × (scene.old.endings.items ≡ []) }
-    requires pile { Serves domain.now pile.old × (pile.old.endings.items ≡ []) }
-    requires settled { endings_of desk.old ≡ 0 }
+    requires scene { Serves domain.now scene.old }
+    requires pile { Serves domain.now pile.old }
     requires holds { Holds desk.old Owner root.now.block root.now.place }
-    ensures scene { Serves domain.now scene.new × (scene.new.endings.items ≡ []) }
-    ensures pile { Serves domain.now pile.new × (pile.new.endings.items ≡ []) }
-    ensures settled { endings_of desk.new ≡ 0 }
+    ensures scene { Serves domain.now scene.new }
+    ensures pile { Serves domain.now pile.new }
     ensures desk { IsSameDesk desk.old desk.new }
     ensures holds { Holds desk.new Owner root.now.block root.now.place }
 {
@@ -100,13 +96,11 @@ fn tear_down<R: Wait>(
     pile: &mut Pile<()>,
 ) -> usize
     requires domain { Belongs desk.old domain.now }
-    requires scene { Serves domain.now scene.old × (scene.old.endings.items ≡ []) }
-    requires pile { Serves domain.now pile.old × (pile.old.endings.items ≡ []) }
-    requires settled { endings_of desk.old ≡ 0 }
+    requires scene { Serves domain.now scene.old }
+    requires pile { Serves domain.now pile.old }
     requires holds { Holds desk.old Owner root.block root.place }
-    ensures scene { Serves domain.now scene.new × (scene.new.endings.items ≡ []) }
-    ensures pile { Serves domain.now pile.new × (pile.new.endings.items ≡ []) }
-    ensures settled { endings_of desk.new ≡ 0 }
+    ensures scene { Serves domain.now scene.new }
+    ensures pile { Serves domain.now pile.new }
     ensures desk { IsSameDesk desk.old desk.new }
 {
     match scene.teardown(alloc, domain, desk, root) {
@@ -132,12 +126,10 @@ fn fell<R: Clock + CpuClock + Wait>(
     spent: &mut Spent,
 ) -> io::Result<()>
     requires domain { Belongs desk.old domain.now }
-    requires scene { Serves domain.now scene.old × (scene.old.endings.items ≡ []) }
-    requires pile { Serves domain.now pile.old × (pile.old.endings.items ≡ []) }
-    requires settled { endings_of desk.old ≡ 0 }
-    ensures scene { Serves domain.now scene.new × (scene.new.endings.items ≡ []) }
-    ensures pile { Serves domain.now pile.new × (pile.new.endings.items ≡ []) }
-    ensures settled { endings_of desk.new ≡ 0 }
+    requires scene { Serves domain.now scene.old }
+    requires pile { Serves domain.now pile.old }
+    ensures scene { Serves domain.now scene.new }
+    ensures pile { Serves domain.now pile.new }
     ensures desk { IsSameDesk desk.old desk.new }
 {
     let Ok(root) = make(domain, desk, FIELDS, false, ()) else {
@@ -165,12 +157,10 @@ fn time<R: Clock + CpuClock + Wait>(
     pile: &mut Pile<()>,
 ) -> io::Result<Spent>
     requires domain { Belongs desk.old domain.now }
-    requires scene { Serves domain.now scene.old × (scene.old.endings.items ≡ []) }
-    requires pile { Serves domain.now pile.old × (pile.old.endings.items ≡ []) }
-    requires settled { endings_of desk.old ≡ 0 }
-    ensures scene { Serves domain.now scene.new × (scene.new.endings.items ≡ []) }
-    ensures pile { Serves domain.now pile.new × (pile.new.endings.items ≡ []) }
-    ensures settled { endings_of desk.new ≡ 0 }
+    requires scene { Serves domain.now scene.old }
+    requires pile { Serves domain.now pile.old }
+    ensures scene { Serves domain.now scene.new }
+    ensures pile { Serves domain.now pile.new }
     ensures desk { IsSameDesk desk.old desk.new }
 {
     let mut spent = Spent {
@@ -197,13 +187,12 @@ pub(crate) fn row<R: Clock + CpuClock + Wait + Print>(
     desk: &mut Desk<()>,
 ) -> io::Result<()>
     requires domain { Belongs desk.old domain.now }
-    requires settled { endings_of desk.old ≡ 0 }
     ensures desk { IsSameDesk desk.old desk.new }
 {
     let Ok(mut scene) = Scene::new(alloc, domain) else {
         return Err(out_of_memory());
     };
-    let Ok(mut pile) = Pile::new(alloc, domain) else {
+    let Some(mut pile) = pile_in(alloc, domain) else {
         scene.close();
         return Err(out_of_memory());
     };

@@ -1,13 +1,13 @@
 //! The row of scene_structures' observers: a walk over 1,000 that watch one subject.
-ghost use Rattle.std.specs.Prelude.{◌≡◌, ◌+◌, ◌<◌, [], IfSome};
+ghost use Rattle.std.specs.Prelude.{◌≡◌, ◌+◌, ◌<◌};
 ghost use Rattle.control_word.specs.declared.handle.Kind.TheVariants.{Owner};
-ghost use Rattle.control_block.specs.Desks.{Belongs, IsSameDesk, bag_of, endings_of};
+ghost use Rattle.control_block.specs.Desks.{Belongs, IsSameDesk, bag_of};
 ghost use Rattle.shared_handle.specs.Calls.{Holds};
 ghost use Rattle.scene_structures.specs.Stacks.{Serves, StandsIn};
 
 use crate::rounds::FIELDS;
 use crate::rows::line_of;
-use crate::scenes::{STRUCTURES, out_of_memory, spend};
+use crate::scenes::{STRUCTURES, out_of_memory, pile_in, spend};
 use crate::timing::{CHUNKS, SPAN, Spent, nanos};
 use control_block::desk::Desk;
 use control_block::domain::Domain;
@@ -33,10 +33,8 @@ fn attach_all<R: Wait>(
 ) -> bool
     requires domain { Belongs desk.old domain.now }
     requires stands { StandsIn observers.old domain.now }
-    requires settled { endings_of desk.old ≡ 0 }
     requires holds { Holds desk.old Owner subject.now.block subject.now.place }
     ensures stands { StandsIn observers.new domain.now }
-    ensures settled { endings_of desk.new ≡ 0 }
     ensures desk { IsSameDesk desk.old desk.new }
     ensures holds { Holds desk.new Owner subject.now.block subject.now.place }
 {
@@ -56,9 +54,7 @@ fn walk<R: Wait>(
 ) -> bool
     requires domain { Belongs desk.old domain.now }
     requires stands { StandsIn observers.old domain.now }
-    requires settled { endings_of desk.old ≡ 0 }
     ensures stands { StandsIn observers.new domain.now }
-    ensures settled { endings_of desk.new ≡ 0 }
     ensures desk { IsSameDesk desk.old desk.new }
     ensures bag { bag_of desk.new ≡ bag_of desk.old }
 {
@@ -79,9 +75,7 @@ fn time<R: Clock + CpuClock + Wait>(
 ) -> io::Result<Spent>
     requires domain { Belongs desk.old domain.now }
     requires stands { StandsIn observers.old domain.now }
-    requires settled { endings_of desk.old ≡ 0 }
     ensures stands { StandsIn observers.new domain.now }
-    ensures settled { endings_of desk.new ≡ 0 }
     ensures desk { IsSameDesk desk.old desk.new }
     ensures bag { bag_of desk.new ≡ bag_of desk.old }
 {
@@ -116,9 +110,7 @@ fn watched<R: Clock + CpuClock + Wait>(
 ) -> io::Result<Spent>
     requires domain { Belongs desk.old domain.now }
     requires stands { StandsIn observers.old domain.now }
-    requires pile { Serves domain.now pile.old × (pile.old.endings.items ≡ []) }
-    requires settled { endings_of desk.old ≡ 0 }
-    ensures settled { endings_of desk.new ≡ 0 }
+    requires pile { Serves domain.now pile.old }
     ensures desk { IsSameDesk desk.old desk.new }
 {
     let Ok(subject) = make(domain, desk, FIELDS, false, ()) else {
@@ -143,14 +135,12 @@ pub(crate) fn row<R: Clock + CpuClock + Wait + Print>(
 ) -> io::Result<()>
     requires domain { Belongs desk.old domain.now }
     requires cell { 1 < domain.now.shape.shared_cells }
-    requires settled { endings_of desk.old ≡ 0 }
-    ensures settled { endings_of desk.new ≡ 0 }
     ensures desk { IsSameDesk desk.old desk.new }
 {
     let Ok(mut observers) = Observers::new(alloc, domain, 1) else {
         return Err(out_of_memory());
     };
-    let Ok(mut pile) = Pile::new(alloc, domain) else {
+    let Some(mut pile) = pile_in(alloc, domain) else {
         observers.close();
         return Err(out_of_memory());
     };

@@ -1,7 +1,7 @@
 //! The rows of scene_structures: its stack, a walk over observers, and the teardown of a tree.
-ghost use Rattle.std.specs.Prelude.{◌≡◌, ◌+◌, ◌<◌, [], IfSome};
+ghost use Rattle.std.specs.Prelude.{◌≡◌, ◌+◌, ◌<◌, IfSome};
 ghost use Rattle.control_word.specs.declared.handle.Kind.TheVariants.{Owner};
-ghost use Rattle.control_block.specs.Desks.{Belongs, IsSameDesk, allowance_of, bag_of, endings_of};
+ghost use Rattle.control_block.specs.Desks.{Belongs, IsSameDesk, allowance_of, bag_of};
 ghost use Rattle.shared_handle.specs.Calls.{Holds, without_handle};
 ghost use Rattle.scene_structures.specs.Stacks.{Serves};
 
@@ -32,6 +32,16 @@ pub(crate) fn out_of_memory() -> io::Error {
     io::Error::from(io::ErrorKind::OutOfMemory)
 }
 
+/// A pile of the domain's, if there is memory.
+pub(crate) fn pile_in(alloc: Global, domain: &Domain<()>) -> Option<Pile<()>>
+    ensures { IfSome result (λ p. Serves domain.now p) }
+{
+    match Pile::new(alloc, domain) {
+        Ok(pile) => Some(pile),
+        Err(_) => None,
+    }
+}
+
 /// An owner leaves, with all that ends by that.
 pub(crate) fn spend<R: Wait>(
     rt: &R,
@@ -42,11 +52,8 @@ pub(crate) fn spend<R: Wait>(
 )
     requires domain { Belongs desk.old domain.now }
     requires serves { Serves domain.now pile.old }
-    requires settled { endings_of desk.old ≡ 0 }
     requires holds { Holds desk.old Owner owner.block owner.place }
     ensures serves { Serves domain.now pile.new }
-    ensures empty { pile.new.endings.items ≡ [] }
-    ensures settled { endings_of desk.new ≡ 0 }
     ensures desk { IsSameDesk desk.old desk.new }
     ensures bag { bag_of desk.new ≡ without_handle Owner owner.block owner.place (bag_of desk.old) }
     ensures held { desk.new.held + 1 ≡ desk.old.held }
@@ -58,7 +65,7 @@ pub(crate) fn spend<R: Wait>(
 /// A domain and its first desk, if there is memory.
 fn opened(alloc: Global) -> Option<(Domain<()>, Desk<()>)>
     ensures desk { IfSome result
-        (λ r. Belongs r.1 r.0 × (endings_of r.1 ≡ 0) × (allowance_of r.1 ≡ r.0.shape.allowance)) }
+        (λ r. Belongs r.1 r.0 × (allowance_of r.1 ≡ r.0.shape.allowance)) }
     ensures shape { IfSome result (λ r. r.0.shape.shared_cells ≡ 2) }
 {
     match open::<()>(alloc, SHAPE) {
@@ -76,7 +83,6 @@ fn tell<R: Clock + CpuClock + Threads + Wait + Sync + Print>(
 ) -> io::Result<()>
     requires domain { Belongs desk.old domain.now }
     requires cells { domain.now.shape.shared_cells ≡ 2 }
-    requires settled { endings_of desk.old ≡ 0 }
     ensures desk { IsSameDesk desk.old desk.new }
 {
     scene_stack::rows(rt, alloc, domain, desk)?;

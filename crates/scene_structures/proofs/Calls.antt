@@ -13,12 +13,11 @@ use Rattle.control_word.specs.declared.handle.Kind.TheVariants.{Owner}
 use Rattle.control_word.specs.declared.place.Block.{Block}
 use Rattle.control_block.proofs.Latest.{calls_keep_latest}
 use Rattle.control_block.specs.CellCalls.{handle_in, with_handle}
-use Rattle.control_block.proofs.EndingCounts.{sum_none}
 use Rattle.control_word.specs.Histories.{leads}
 use Rattle.control_word.specs.declared.event.Entry.{Entry}
 use Rattle.control_word.specs.declared.shape.Shape.{Shape}
-use Rattle.control_block.specs.Desks.{Adds, Begins, Belongs, DeskNow, DomainNow, allowance_of, bag_of, endings_of, latest_of, many_ending}
-use Rattle.shared_handle.specs.Piles.{AllEnd, Bears}
+use Rattle.control_block.specs.Desks.{Adds, Begins, Belongs, DeskNow, DomainNow, allowance_of, bag_of, latest_of}
+use Rattle.shared_handle.specs.Piles.{AllEnd, Carries}
 use Rattle.shared_handle.specs.declared.pile.Pile.{Pile}
 use Rattle.control_block.specs.Own.{IsSole}
 use Rattle.control_block.specs.Rule.{opening_of}
@@ -71,26 +70,22 @@ module _ {V : Type 0} where
   popped_or_bare d e m base None own hands legal lt sole = bare_list d e m own legal sole lt
   popped_or_bare d e m base (Some h) own hands legal lt sole = popped_list d e m h own legal sole lt (first_lists e base h [] hands)
 
-  -- a pile that serves any desk in whose hands nothing ends has room for all blocks
-  pub room_of : (domain : DomainNow) (p : Pile V) → ((d : DeskNow V) → Belongs d domain → endings_of d ≡ 0 → Bears domain d p)
+  -- a pile that any desk of the domain may use has room for all blocks
+  pub room_of : (domain : DomainNow) (p : Pile V) → ((d : DeskNow V) → Belongs d domain → Carries domain d p)
       → domain.shape.blocks ≤ vec_capacity p.endings
-  room_of domain p bears =
+  room_of domain p carries =
       let d : DeskNow V = record { domain = domain.id; shape = domain.shape; name = 0; seen = []; held = 0 } in
-      (bears d record { table = refl; shape = refl } (sum_none domain.shape.blocks _ (λ j. refl))).carries.room
+      (carries d record { table = refl; shape = refl }).room
 
   -- an empty pile serves
-  pub serves_empty : (domain : DomainNow) (d : DeskNow V) (p : Pile V) → Bears domain d p → p.endings.items ≡ [] → Serves domain p
-  serves_empty domain d p bears none e belongs settled =
-      record {
-        carries = record { belongs = belongs; ends = subst (AllEnd e) (sym none) tt; room = bears.carries.room };
-        many = ap length none ∙ sym settled;
-      }
+  pub serves_empty : (domain : DomainNow) (d : DeskNow V) (p : Pile V) → Carries domain d p → p.endings.items ≡ [] → Serves domain p
+  serves_empty domain d p carries none = record { none = none; room = carries.room }
+
+  -- any desk of the domain
+  pub served : (domain : DomainNow) (d : DeskNow V) (p : Pile V) → Serves domain p → Belongs d domain → Carries domain d p
+  served domain d p serves belongs = record { belongs = belongs; ends = subst (AllEnd d) (sym serves.none) tt; room = serves.room }
 
   -- a domain's first desk
-  pub begins_settled : (domain : DomainNow) (d : DeskNow V) → Begins domain d → endings_of d ≡ 0
-  begins_settled domain d b =
-      ap (λ (l : List (Entry V)). many_ending d.shape.blocks (leads (opening_of d.shape) l) d.name) b.seen ∙ sum_none d.shape.blocks _ (λ j. refl)
-
   pub begins_whole : (domain : DomainNow) (d : DeskNow V) → Begins domain d → allowance_of d ≡ domain.shape.allowance
   begins_whole domain d b =
       ap (λ (l : List (Entry V)). (leads (opening_of d.shape) l).allowance d.name) b.seen

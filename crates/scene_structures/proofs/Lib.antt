@@ -1,3 +1,4 @@
+pub mod Others
 pub mod Hands
 pub mod Latest
 pub mod Sites
@@ -25,6 +26,8 @@ pub mod Unlinks
 pub mod Pruned
 pub mod Stays
 pub mod Sifted
+pub mod Counted
+pub mod Used
 pub mod Still
 pub mod Told
 pub mod Sought

@@ -11,7 +11,8 @@ use Rattle.control_block.specs.Own.{IsSole}
 use Rattle.control_block.specs.Rule.{opening_of}
 use Rattle.control_block.specs.declared.handles.Shared.{Shared}
 use Rattle.shared_handle.specs.Endings.{IsAllClear, IsClearing, IsGone, IsLeft, IsUncleared, with_clear}
-use Rattle.shared_handle.specs.Piles.{AreRounds, Bears, IsRound, Past, gone_of, next_member, piled}
+use Rattle.shared_handle.specs.Piles.{AreRounds, Carries, IsRound, Past, gone_of, next_member, piled}
+use Rattle.shared_handle.proofs.Few.{few_listed}
 use Rattle.shared_handle.specs.declared.pile.Pile.{Pile}
 use Rattle.shared_handle.specs.declared.endings.Ending.{Ending}
 use Rattle.shared_handle.specs.declared.endings.Left.{Left}
@@ -221,8 +222,8 @@ module _ {V : Type 0} where
   -- a sole desk's teardown leaves nothing of what it began
   pub none_left : (domain : DomainNow) (d e : DeskNow V) (xs ys : List (Ending V)) (p : Pile V) (root : Shared) (values : List V)
       (t : TearsDown domain.shape.blocks d xs root values e ys)
-      → IsLegal (opening_of d.shape) d.seen → IsSole d → Bears domain e p → ys ≡ p.endings.items → t.rest ≡ []
-  none_left domain d e xs ys p root values t legal sole bears pile =
+      → IsLegal (opening_of d.shape) d.seen → IsSole d → Carries domain e p → ys ≡ p.endings.items → t.rest ≡ []
+  none_left domain d e xs ys p root values t legal sole carries pile =
       go t.stops
     where
       lost : Loses d 0 t.released
@@ -236,13 +237,15 @@ module _ {V : Type 0} where
           tops xs t.drops.left t.pile t.gone (left_fresh d t.released root.block root.place t.drops.left t.drops.leaves) t.drops.told t.drops.are
 
       blocks : t.released.shape.blocks ≡ domain.shape.blocks
-      blocks = ap (λ (k : Shape). k.blocks) (sym falls.shape ∙ bears.carries.belongs.shape)
+      blocks = ap (λ (k : Shape). k.blocks) (sym falls.shape ∙ carries.belongs.shape)
 
       few : standing t.released ≤ domain.shape.blocks
       few = let a = few_stand t.released.shape.blocks (state_of t.released) in let b = blocks in omega arith
 
       low : length ys ≤ standing e
-      low = let a = endings_stand e.shape.blocks (state_of e) e.name in let b = bears.many in let c = ap length pile in omega arith
+      low =
+          let a = endings_stand e.shape.blocks (state_of e) e.name in
+          let b = few_listed e p.endings.items falls.alone.legal carries.ends in let c = ap length pile in omega arith
 
       parts : (length ys ≡ length xs + length t.rest) × (clear_of ys ≡ clear_of xs + clear_of t.rest)
       parts = (ap length t.left ∙ length-append xs t.rest, ap clear_of t.left ∙ clear_both xs t.rest)

@@ -1,10 +1,10 @@
 -- A call on a sole desk that puts nothing anywhere and gives back just what it took: no object ends in it, so what it saw is
 -- what there was before.
-use Rattle.std.proofs.Common.{◌≡◌, ◌⊎◌, ℕ, suc, ◌==◌, ◌<◌, ◌≤◌, Bool, true, false, not, filter, length, List, [], ◌∷◌}
+use Rattle.std.proofs.Common.{◌≡◌, ◌⊎◌, ℕ, suc, ◌==◌, ◌<◌, ◌≤◌, Bool, true, false, not, length, List, [], ◌∷◌}
 use Rattle.std.proofs.Common.{◌++◌, map}
 use Rattle.std.proofs.Common.{Some, refl, sym, ap, subst, ◌∙◌, inl, inr, ⊎_elim, arith}
 use Rattle.std.specs.Prelude.{All, slice_index}
-use Rattle.std.proofs.lemmas.Bool.{and_parts, cases_lt, cond-false, eqb-true}
+use Rattle.std.proofs.lemmas.Bool.{and_parts, cases_lt, eqb-true}
 use Rattle.std.proofs.lemmas.List.Elements.{All-cons, All-head, All-nil, All-tail, All-weaker}
 use Rattle.control_word.proofs.history.Allowances.{allowed}
 use Rattle.control_word.proofs.history.Clearing.{was_made}
@@ -16,9 +16,10 @@ use Rattle.control_word.proofs.history.Soundness.{IsBusy, OwnersFit, Sound}
 use Rattle.control_word.proofs.lists.Parts.{has_part}
 use Rattle.control_word.proofs.lists.Tallies.{put_again, put_same, same_kind_true, same_number_true, tally_append, tally_here, tally_without}
 use Rattle.control_word.specs.Events.{Asks, after, cell_of, moved_to}
-use Rattle.control_word.specs.Handles.{handle, is_on, object_of, same_kind, same_number}
-use Rattle.control_word.specs.Histories.{IsLegal, entry, leads}
-use Rattle.control_word.specs.State.{Has, Held, IsActing, Opening, Phase, State, bag, common, count, ending, gone, held, in_cells, live, members, same_held}
+use Rattle.control_word.specs.Handles.{empty, handle, object_of, same_kind, same_number}
+use Rattle.control_word.specs.Histories.{IsLegal, entry, leads, value}
+use Rattle.control_word.specs.State.{Has, Held, IsActing, Opening, Phase, State, bag, common, count, ending, gone, held, in_cells, kind_of_member, live}
+use Rattle.control_word.specs.State.{members, same_held}
 use Rattle.control_word.specs.State.{tally, unmade, upto, without}
 use Rattle.control_word.specs.declared.event.Cell.{Cell}
 use Rattle.control_word.specs.declared.event.Cell.TheVariants.{Free, Member}
@@ -31,8 +32,7 @@ use Rattle.control_word.specs.Words.{blocks_of}
 use Rattle.control_word.specs.declared.place.Place.{Place}
 use Rattle.control_word.specs.declared.shape.Shape.{Shape}
 use Rattle.control_block.proofs.Bags.{seen_as, shown_held}
-use Rattle.control_block.proofs.EndingCounts.{some_ending}
-use Rattle.control_block.specs.Desks.{DeskNow, bag_of, endings_of, in_block, state_of}
+use Rattle.control_block.specs.Desks.{DeskNow, KeepsEndings, bag_of, in_block, state_of}
 use Rattle.control_block.specs.Own.{Goes, IsSole, KeepsDesks}
 use Rattle.control_block.specs.Rule.{opening_of}
 use Rattle.scene_structures.specs.Puts.{PutsOnly, nowhere}
@@ -40,6 +40,9 @@ use Rattle.scene_structures.specs.Walks.{IsLooking}
 use Rattle.scene_structures.proofs.Heads.{live_before}
 use Rattle.scene_structures.proofs.Latest.{has_mapped}
 use Rattle.scene_structures.proofs.Sole.{keep_all, state_is}
+use Rattle.scene_structures.proofs.Counted.{hand_of, in_hands}
+use Rattle.scene_structures.proofs.Used.{Used, cleared_again, is_empty, looking_puts, used_clear, used_finish, used_on}
+use Rattle.control_word.proofs.history.Values.{has_value}
 
 -- objects and cells are as they were
 pub record Still (s t : State) : Type 0 where
@@ -56,8 +59,8 @@ pub record Lost (s t : State) : Type 0 where
   pub alone : tally Owner object (in_cells s) ≡ 0
   pub ended : (t.object object).phase ≡ live → ⊥
 
-abbrev pub NoneEnds : State → ℕ → Type 0
-NoneEnds s d = (o : ℕ) → (s.object o).phase ≡ ending d → ⊥
+abbrev pub Moved : State → State → ℕ → Type 0
+Moved s t d = Lost s t ⊎ Used s t d
 
 same_cells : (s t : State) → Still s t → in_cells t ≡ in_cells s
 same_cells s t st = λ i. upto (st.cells i) (λ c. st.cell i c ∷ []) ++ upto (suc (st.made i)) (λ o. members (st.objects i o))
@@ -103,44 +106,16 @@ same_zero z s t a b o same =
     fits_zero (t.object o).phase (count t o) (b.owners o) ∙ (ap (λ p. not (is_live p)) same
     ∙ sym (fits_zero (s.object o).phase (count s o) (a.owners o)))
 
--- what is counted in hands is in one
-abbrev IsHandOf : ℕ → List Held → Held → Type 0
-IsHandOf o l x = Has x l × (is_on Owner o x.handle ≡ true)
-
-hand_first : (o : ℕ) (y : Held) (l : List Held) (b : Bool) → is_on Owner o y.handle ≡ b
-    → (0 < tally Owner o (map (λ (x : Held). x.handle) l) → (x : Held) × IsHandOf o l x) → 0 < tally Owner o (map (λ (x : Held). x.handle) (y ∷ l))
-    → (x : Held) × IsHandOf o (y ∷ l) x
-hand_first o y l true e later lt = (y, (inl refl, e))
-hand_first o y l false e later lt =
-    let rest = map (λ (x : Held). x.handle) l in
-    let less : tally Owner o (y.handle ∷ rest) ≡ tally Owner o rest =
-    ap length (cond-false (is_on Owner o y.handle) (y.handle ∷ filter (is_on Owner o) rest) (filter (is_on Owner o) rest) e) in
-    let r = later (omega arith) in (r.0, (inr r.1.0, r.1.1))
-
-hand_of : (o : ℕ) (l : List Held) → 0 < tally Owner o (map (λ (x : Held). x.handle) l) → (x : Held) × IsHandOf o l x
-hand_of o [] lt = absurd (omega arith)
-hand_of o (y ∷ l) lt = hand_first o y l (is_on Owner o y.handle) refl (λ t. hand_of o l t) lt
-
-in_hands : (s : State) (o : ℕ) → 0 < count s o → tally Owner o (in_cells s) ≡ 0 → 0 < tally Owner o (map (λ (x : Held). x.handle) s.hands)
-unfolding count
-in_hands s o some' none = omega (arith, tally_append Owner o (map (λ (x : Held). x.handle) s.hands) (in_cells s))
-
 some_length : {A : Type 0} (x : A) (l : List A) → Has x l → 0 < length l
 some_length x [] has = absurd has
 some_length x (y ∷ l) has = omega arith
 
-module _ {V : Type 0} where
-  looking_puts : (x : Event V) → IsLooking x → PutsOnly nowhere x
-  looking_puts (Load c got) p = tt
-  looking_puts (Lock h got) p = tt
-  looking_puts (Read h y) p = tt
-  looking_puts (Share h q) p = tt
-  looking_puts (Leave h last) p = tt
-  looking_puts (WeakLeave h v) p = tt
-  looking_puts (ClearMember o m h) p = tt
-  looking_puts (Finish o v y) p = tt
-  looking_puts x p = absurd p
+made_before : (z : Opening) (s t : State) (d o : ℕ) → Sound z t → (t.object o).phase ≡ ending d → Still s t → o ≤ s.made
+made_before z s t d o fine ends st =
+    let made : o < suc t.made = was_made z t o fine (λ u. let e : ending d ≡ unmade = sym ends ∙ u in absurd (cc e)) in
+    let same = st.made in omega arith
 
+module _ {V : Type 0} where
   pub all_puts : (xs : List (Event V)) → All IsLooking xs → All (PutsOnly nowhere) xs
   all_puts xs all = All-weaker IsLooking (PutsOnly nowhere) looking_puts xs all
 
@@ -161,32 +136,36 @@ module _ {V : Type 0} where
   latest_run z d (x ∷ own) seen all =
       same_latest (leads z (map (entry d) own ++ seen)) d x (All-head IsLooking x own all) ∙ latest_run z d own seen (All-tail IsLooking x own all)
 
-  one_step : (z : Opening) (s t : State) (d : ℕ) (x : Event V) → Sound z t → NoneEnds s d → IsLooking x → Asks t d x → Still s t
-      → Still s (after t d x) ⊎ Lost s (after t d x)
-  one_step z s t d (Load c got) fine none p asks st = inl record { objects = st.objects; cell = st.cell; made = st.made; cells = st.cells }
-  one_step z s t d (Lock h got) fine none p asks st = inl record { objects = st.objects; cell = st.cell; made = st.made; cells = st.cells }
-  one_step z s t d (Read h y) fine none p asks st = inl st
-  one_step z s t d (Share h q) fine none p asks st = inl record { objects = st.objects; cell = st.cell; made = st.made; cells = st.cells }
-  one_step z s t d (Leave h false) fine none p asks st =
+  one_step : (z : Opening) (s t : State) (d : ℕ) (x : Event V) → Sound z t → IsLooking x → Asks t d x → Still s t
+      → Still s (after t d x) ⊎ Moved s (after t d x) d
+  one_step z s t d (Load c got) fine p asks st = inl record { objects = st.objects; cell = st.cell; made = st.made; cells = st.cells }
+  one_step z s t d (Lock h got) fine p asks st = inl record { objects = st.objects; cell = st.cell; made = st.made; cells = st.cells }
+  one_step z s t d (Read h y) fine p asks st = inl st
+  one_step z s t d (Share h q) fine p asks st = inl record { objects = st.objects; cell = st.cell; made = st.made; cells = st.cells }
+  one_step z s t d (Leave h false) fine p asks st =
       inl record { objects = put_again t.object (object_of h) ∙ st.objects; cell = st.cell; made = st.made; cells = st.cells }
-  one_step z s t d (Leave h true) fine none p asks st =
+  one_step z s t d (Leave h true) fine p asks st =
       let o = object_of h in
       let one : count t o ≡ 1 = eqb-true (count t o) 1 (sym asks.1) in
       let lives = counted_live z t o fine (omega arith) in
       let lived = ap (λ f. (f o).phase) (sym st.objects) ∙ lives in
       let made : o < suc t.made = was_made z t o fine (λ u. let e : live ≡ unmade = sym lives ∙ u in absurd (cc e)) in
       let same = st.made in
-      inr record {
+      inr (inl record {
         object = o;
         lived = lived;
         there = omega arith;
         alone = ap (tally Owner o) (sym (same_cells s t st)) ∙ last_alone t d h asks.0.0 asks.0.1 asks.0.2 one;
         ended = λ l. let e : live ≡ ending d = sym l ∙ ap (λ y. y.phase) (put_same t.object o (moved_to (ending d) (t.object o)) o refl) in absurd (cc e);
-      }
-  one_step z s t d (WeakLeave h v) fine none p asks st = inl record { objects = st.objects; cell = st.cell; made = st.made; cells = st.cells }
-  one_step z s t d (ClearMember o m h) fine none p asks st = absurd (none o (ap (λ f. (f o).phase) (sym st.objects) ∙ asks.0))
-  one_step z s t d (Finish o v y) fine none p asks st = absurd (none o (ap (λ f. (f o).phase) (sym st.objects) ∙ asks.0))
-  one_step z s t d x fine none p asks st = absurd p
+      })
+  one_step z s t d (WeakLeave h v) fine p asks st = inl record { objects = st.objects; cell = st.cell; made = st.made; cells = st.cells }
+  one_step z s t d (ClearMember o m h) fine p asks st =
+      ⊎_elim (λ none. inl record { objects = cleared_again t o m none ∙ st.objects; cell = st.cell; made = st.made; cells = st.cells })
+      (λ full. inr (inr (used_clear V s t d o m h st.objects (made_before z s t d o fine asks.0 st) asks.0 full)))
+      (is_empty ((t.object o).member m) (empty (kind_of_member m)))
+  one_step z s t d (Finish o v y) fine p asks st =
+      inr (inr (used_finish s t d o v y st.objects (made_before z s t d o fine asks.0 st) asks.0))
+  one_step z s t d x fine p asks st = absurd p
 
   -- what ended doesn't come back
   lost_on : (s t : State) (d : ℕ) (x : Event V) → IsLooking x → s.made ≤ t.made → Lost s t → Lost s (after t d x)
@@ -200,17 +179,23 @@ module _ {V : Type 0} where
         ended = λ l. lost.ended (live_before t d lost.object x nowhere (looking_puts x p) (omega arith) l);
       }
 
-  module _ (z : Opening) (d : ℕ) (seen : List (Entry V)) (none : NoneEnds (leads z seen) d) where
+  moved_on : (z : Opening) (s t : State) (d : ℕ) (x : Event V) → Sound z t → IsLooking x → Asks t d x → s.made ≤ t.made → Moved s t d
+      → Moved s (after t d x) d
+  moved_on z s t d x fine p asks le moved =
+      ⊎_elim (λ lost. inl (lost_on s t d x p le lost)) (λ used. inr (used_on z s t d x fine p asks le used)) moved
+
+  module _ (z : Opening) (d : ℕ) (seen : List (Entry V)) where
     made_later : (own : List (Event V)) → (leads z seen).made ≤ (leads z (map (entry d) own ++ seen)).made
     made_later own = (block_kept z (map (entry d) own) seen (leads z seen).made (omega arith)).1
 
     run : (own : List (Event V)) → IsLegal z (map (entry d) own ++ seen) → All IsLooking own
-        → Still (leads z seen) (leads z (map (entry d) own ++ seen)) ⊎ Lost (leads z seen) (leads z (map (entry d) own ++ seen))
+        → Still (leads z seen) (leads z (map (entry d) own ++ seen)) ⊎ Moved (leads z seen) (leads z (map (entry d) own ++ seen)) d
     run [] legal all = inl record { objects = refl; cell = refl; made = refl; cells = refl }
     run (x ∷ own) legal all =
         let h = map (entry d) own ++ seen in let p = All-head IsLooking x own all in
-        ⊎_elim (λ st. one_step z (leads z seen) (leads z h) d x (sound z h legal.0) none p legal.1.asks st)
-        (λ lost. inr (lost_on (leads z seen) (leads z h) d x p (made_later own) lost)) (run own legal.0 (All-tail IsLooking x own all))
+        ⊎_elim (λ st. one_step z (leads z seen) (leads z h) d x (sound z h legal.0) p legal.1.asks st)
+        (λ moved. inr (moved_on z (leads z seen) (leads z h) d x (sound z h legal.0) p legal.1.asks (made_later own) moved))
+        (run own legal.0 (All-tail IsLooking x own all))
 
     -- the event told what there was before
     abbrev pub IsTrueIn : Event V → Type 0
@@ -237,12 +222,13 @@ module _ {V : Type 0} where
     one_true t x legal fine st p asks = absurd p
 
     pub all_true : (own : List (Event V)) → IsLegal z seen → IsLegal z (map (entry d) own ++ seen) → All IsLooking own
-        → (Lost (leads z seen) (leads z (map (entry d) own ++ seen)) → ⊥) → All IsTrueIn own
+        → (Moved (leads z seen) (leads z (map (entry d) own ++ seen)) d → ⊥) → All IsTrueIn own
     all_true [] legal now all not' = All-nil IsTrueIn
     all_true (x ∷ own) legal now all not' =
         let h = map (entry d) own ++ seen in let p = All-head IsLooking x own all in let rest = All-tail IsLooking x own all in
-        let never : Lost (leads z seen) (leads z h) → ⊥ = λ lost. not' (lost_on (leads z seen) (leads z h) d x p (made_later own) lost) in
-        let st = ⊎_elim (λ (k : Still (leads z seen) (leads z h)). k) (λ lost. absurd (never lost)) (run own now.0 rest) in
+        let never : Moved (leads z seen) (leads z h) d → ⊥ =
+        λ moved. not' (moved_on z (leads z seen) (leads z h) d x (sound z h now.0) p now.1.asks (made_later own) moved) in
+        let st = ⊎_elim (λ (k : Still (leads z seen) (leads z h)). k) (λ moved. absurd (never moved)) (run own now.0 rest) in
         All-cons IsTrueIn x own (one_true (leads z h) x legal (sound z h now.0) st p now.1.asks) (all_true own legal now.0 rest never)
 
   pub looking_keep : (own : List (Event V)) → All IsLooking own → All KeepsDesks own
@@ -289,12 +275,21 @@ module _ {V : Type 0} where
         ap (λ (k : State). k.latest b) state ∙ (ap (λ l. l b) (latest_run z d.name own d.seen quiet) ∙ (fine.placed o (live_busy s o lost.lived)).0) in
         lost.ended (ap (λ (k : State). (k.object o).phase) (sym state) ∙ (ap (λ j. (t.object j).phase) (sym here) ∙ alive))
 
-  -- no object ends with a desk in whose hands none does
-  pub none_ends : (d : DeskNow V) → IsLegal (opening_of d.shape) d.seen → endings_of d ≡ 0 → NoneEnds (state_of d) d.name
-  none_ends d legal settled o is =
-      let z = opening_of d.shape in let s = state_of d in
-      let one : common (s.object o).phase ≡ 1 = ap common is in
-      let busy : IsBusy s o = omega arith in
-      let placed = (sound z d.seen legal).placed o busy in
-      let some' = some_ending d.shape.blocks s d.name (s.object o).block placed.1.0 placed.1.1 (ap (λ j. (s.object j).phase) placed.0 ∙ is) in
-      absurd (omega arith)
+    -- nor did one that ended before lose anything, where what did so does so still
+    pub none_used : KeepsEndings d e → Used (state_of d) (leads (opening_of d.shape) (map (entry d.name) own ++ d.seen)) d.name → ⊥
+    none_used keeps used =
+        let z = opening_of d.shape in let s = state_of d in let o = used.object in let fine = sound z d.seen legal in let le = used.there in
+        let low : 0 < o = ⊎_elim (λ (lt : 0 < o). lt)
+        (λ le'. absurd (let k : ending d.name ≡ unmade = sym used.ends
+        ∙ (ap (λ i. (s.object i).phase) (let n : o ≡ 0 = omega arith in n) ∙ fine.none) in cc)) (cases_lt 0 o) in
+        let v = has_value z d.seen o (omega arith) le in
+        let one : common (s.object o).phase ≡ 1 = ap common used.ends in
+        let busy : IsBusy s o = omega arith in
+        let b = (s.object o).block in let there = (fine.placed o busy).0 in
+        let still = keeps b v.0 record { phase = ap (λ j. (s.object j).phase) there ∙ used.ends; kept = ap (value z d.seen) there ∙ v.1 } in
+        let state = state_is d e own goes (looking_keep own quiet) legal sole in let t = state_of e in
+        let here : t.latest b ≡ o = ap (λ (k : State). k.latest b) state ∙ (ap (λ l. l b) (latest_run z d.name own d.seen quiet) ∙ there) in
+        let r = used.spent (ap (λ (k : State). (k.object o).phase) (sym state)
+        ∙ (ap (λ j. (t.object j).phase) (sym here) ∙ (still.ends.phase ∙ ap ending goes.same.2))) in
+        r.1 (ap (λ j. (s.object j).member r.0) (sym there) ∙ (sym (still.members r.0)
+        ∙ (ap (λ j. (t.object j).member r.0) here ∙ (ap (λ (k : State). (k.object o).member r.0) state ∙ r.2))))

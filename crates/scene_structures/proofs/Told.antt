@@ -1,6 +1,6 @@
 -- What a walk tells on a sole desk.
 use Rattle.std.proofs.Common.{◌≡◌, ℕ, ◌==◌, ◌<◌, Bool, true, false, not, filter, List, [], ◌∷◌, ◌++◌, map}
-use Rattle.std.proofs.Common.{Option, None, Some, refl, sym, ap, subst, ◌∙◌, arith}
+use Rattle.std.proofs.Common.{Option, None, Some, refl, sym, ap, subst, ◌∙◌, ⊎_elim, arith}
 use Rattle.std.specs.Prelude.{All, slice_index}
 use Rattle.std.proofs.lemmas.Bool.{cond-false, cond-true, cond_both}
 use Rattle.std.proofs.lemmas.Option.{same_Some}
@@ -18,7 +18,7 @@ use Rattle.control_word.specs.declared.event.Event.TheVariants.{Load, Lock, Read
 use Rattle.control_word.specs.declared.handle.Handle.{Handle}
 use Rattle.control_word.specs.declared.handle.Kind.{Kind}
 use Rattle.control_word.specs.declared.place.Place.{Place}
-use Rattle.control_block.specs.Desks.{DeskNow, bag_of, endings_of, state_of}
+use Rattle.control_block.specs.Desks.{DeskNow, KeepsEndings, bag_of, state_of}
 use Rattle.control_block.specs.Own.{IsSole}
 use Rattle.control_block.specs.Rule.{opening_of}
 use Rattle.scene_structures.specs.Chains.{Chain, IsList}
@@ -27,7 +27,7 @@ use Rattle.scene_structures.specs.Walks.{HasLooked, IsAsked, IsTold, Stop, Walks
 use Rattle.scene_structures.proofs.Frames.{AllLive, chain_live, frames}
 use Rattle.scene_structures.proofs.Grows.{apart_nowhere}
 use Rattle.scene_structures.proofs.Sole.{legal_is, state_is}
-use Rattle.scene_structures.proofs.Still.{IsTrueIn, NoneEnds, all_puts, all_true, looking_keep, none_ends, none_lost}
+use Rattle.scene_structures.proofs.Still.{IsTrueIn, all_puts, all_true, looking_keep, none_lost, none_used}
 use Rattle.scene_structures.proofs.Walks.{looked_both, looked_call, looked_then}
 
 turned : (b : Bool) → false ≡ not b → b ≡ true
@@ -42,9 +42,9 @@ field_first : (b : ℕ) (p : Place) → place_at b ≡ Some p → p.field ≡ 0
 field_first b p e = ap (λ (q : Place). q.field) (sym (same_Some _ _ e))
 
 module _ {V : Type 0} where
-  module _ (z : Opening) (d : ℕ) (seen : List (Entry V)) (none : NoneEnds (leads z seen) d) where
+  module _ (z : Opening) (d : ℕ) (seen : List (Entry V)) where
     abbrev True : Event V → Type 0
-    True = IsTrueIn z d seen none
+    True = IsTrueIn z d seen
 
     true_looks : (own : List (Event V)) → All True own → All True (filter is_look own)
     true_looks [] all = All-nil True
@@ -116,8 +116,8 @@ module _ {V : Type 0} where
 
   -- each, on a sole desk
   pub told_list : (d e : DeskNow V) (m : ℕ) (told : List ℕ) → WalksOver d (Free m) told e → IsLegal (opening_of d.shape) d.seen → IsSole d
-      → m < (opening_of d.shape).cells → endings_of d ≡ 0 → bag_of e ≡ bag_of d → IsTold d (Free m) told e
-  told_list d e m told over legal sole lt settled bag os list =
+      → m < (opening_of d.shape).cells → KeepsEndings d e → bag_of e ≡ bag_of d → IsTold d (Free m) told e
+  told_list d e m told over legal sole lt keeps bag os list =
       let z = opening_of d.shape in let n = d.name in let s = state_of d in let w = over.walks in
       let look = Load (Free m) over.first in let looks = w.looks ++ look ∷ [] in
       let at : HasLooked d looks w.at = looked_both d over.loaded w.at (look ∷ []) w.looks (looked_call d over.loaded look over.loads tt) w.looked in
@@ -125,14 +125,13 @@ module _ {V : Type 0} where
       let keep = looking_keep end.own end.quiet in
       let state = state_is d e end.own end.goes keep legal sole in
       let legal_e = legal_is d e end.own end.goes keep legal sole in
-      let none = none_ends d legal settled in
-      let never = none_lost d e end.own end.goes end.quiet legal sole bag in
-      let truths = all_true z n d.seen none end.own legal legal_e end.quiet never in
-      let true' = subst (All (IsTrueIn z n d.seen none)) end.are (true_looks z n d.seen none end.own truths) in
-      let parts = both_true z n d.seen none w.looks (look ∷ []) true' in
-      let first : over.first ≡ cell_of s (Free m) = All-head (IsTrueIn z n d.seen none) look [] parts.1 in
+      let never = ⊎_elim (none_lost d e end.own end.goes end.quiet legal sole bag) (none_used d e end.own end.goes end.quiet legal sole bag keeps) in
+      let truths = all_true z n d.seen end.own legal legal_e end.quiet never in
+      let true' = subst (All (IsTrueIn z n d.seen)) end.are (true_looks z n d.seen end.own truths) in
+      let parts = both_true z n d.seen w.looks (look ∷ []) true' in
+      let first : over.first ≡ cell_of s (Free m) = All-head (IsTrueIn z n d.seen) look [] parts.1 in
       let lives = chain_live z s (Free m) os (sound z d.seen legal) (let t = cells_led z d.seen in omega arith) list in
-      let r = walk_told z n d.seen none over.first w.stops w.end w.looks w.walks parts.0 os (subst (λ k. Chain s k os) (sym first) list) lives in
+      let r = walk_told z n d.seen over.first w.stops w.end w.looks w.walks parts.0 os (subst (λ k. Chain s k os) (sym first) list) lives in
       let kept = frames z n nowhere end.own d.seen m os legal_e (all_puts end.own end.quiet) lt (λ k. k) (apart_nowhere os) list in
       (subst (λ (t : State). IsList t (Free m) os) (sym state) kept, w.tells ∙ done at r.0 r.1 r.2 r.3)
     where

@@ -1,5 +1,6 @@
 pub mod Chains
 pub mod Puts
+pub mod Others
 pub mod Hands
 pub mod Stacks
 pub mod Pops

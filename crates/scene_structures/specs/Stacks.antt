@@ -1,6 +1,6 @@
 -- What the calls on a stack say, by the desk's own events (own).
 use Rattle.std.specs.Prelude.{◌≡◌, ℕ, suc, ◌<◌, ◌≤◌, Bool, true, false, All, List, [], ◌∷◌}
-use Rattle.std.specs.Prelude.{◌++◌, Some}
+use Rattle.std.specs.Prelude.{◌++◌, Some, vec_capacity}
 use Rattle.control_word.specs.Events.{cell_of, place_at}
 use Rattle.control_word.specs.Handles.{object_of, owner}
 use Rattle.control_word.specs.declared.event.Cell.{Cell}
@@ -10,14 +10,14 @@ use Rattle.control_word.specs.declared.event.Event.TheVariants.{Compare, Load, M
 use Rattle.control_word.specs.declared.handle.Handle.{Handle}
 use Rattle.control_word.specs.declared.place.Block.{Block}
 use Rattle.control_word.specs.declared.place.Place.{Place}
-use Rattle.control_block.specs.Desks.{Adds, Belongs, DeskNow, DomainNow, endings_of, latest_of, state_of}
+use Rattle.control_block.specs.Desks.{Adds, DeskNow, DomainNow, latest_of, state_of}
 use Rattle.shared_handle.specs.declared.pile.Pile.{Pile}
 use Rattle.control_block.specs.Own.{Goes}
 use Rattle.control_block.specs.declared.handles.Shared.{Shared}
 use Rattle.shared_handle.specs.Endings.{IsWithin}
 use Rattle.scene_structures.specs.Chains.{IsList, Owns}
 use Rattle.scene_structures.specs.Hands.{node_in}
-use Rattle.shared_handle.specs.Piles.{Bears, IsParting}
+use Rattle.shared_handle.specs.Piles.{IsParting}
 use Rattle.scene_structures.specs.Puts.{PutsOnly, nowhere}
 
 -- the cell that a stack stands in, and for how many objects that end it has room
@@ -119,6 +119,7 @@ module _ {V : Type 0} where
   abbrev pub IsBare : DeskNow V → Cell → DeskNow V → Type 0
   IsBare d c e = (os : List ℕ) → IsList (state_of d) c os → (os ≡ []) × IsList (state_of e) c []
 
-  -- a pile that any desk of the domain may use in whose hands nothing ends
-  abbrev pub Serves : DomainNow → Pile V → Type 0
-  Serves domain p = (d : DeskNow V) → Belongs d domain → endings_of d ≡ 0 → Bears domain d p
+  -- a pile on which nothing lies, with room for an end of each block: any desk of the domain may use it
+  pub record Serves (domain : DomainNow) (p : Pile V) : Type 0 where
+    pub none : p.endings.items ≡ []
+    pub room : domain.shape.blocks ≤ vec_capacity p.endings

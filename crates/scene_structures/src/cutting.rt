@@ -8,12 +8,13 @@ ghost use Rattle.control_word.specs.declared.handle.Handle.{Handle};
 ghost use Rattle.control_block.specs.Desks.{DeskNow, IsSameDesk, allowance_of};
 ghost use Rattle.control_block.specs.Own.{Does};
 ghost use Rattle.shared_handle.specs.Endings.{IsWithin};
-ghost use Rattle.shared_handle.specs.Piles.{Bears};
+ghost use Rattle.shared_handle.specs.Piles.{Carries};
 ghost use Rattle.atomic_cells.specs.Sites.{shared_cell};
 ghost use Rattle.scene_structures.specs.Detaches.{HandsSought, HeldSought, IsFound, IsSought, MaySkip};
 ghost use Rattle.scene_structures.specs.Detaches.{Reaches, Seeks};
 ghost use Rattle.scene_structures.specs.Hands.{HasHands, IsOpenBy, KeepsThese, Lists, node_in};
 ghost use Rattle.scene_structures.specs.Puts.{PutsOnly, nowhere};
+ghost use Rattle.scene_structures.specs.Others.{KeepsOthers};
 
 use crate::endings::let_go;
 use crate::pause::Pause;
@@ -48,11 +49,12 @@ fn find<V: Drop + Send, R: Wait>(
     at: &SharedAt,
     pile: &mut Pile<V>,
 ) -> Option<Shared>
-    requires bears { Bears domain.now desk.old pile.old }
+    requires carries { Carries domain.now desk.old pile.old }
     requires empty { pile.old.endings.items ≡ [] }
     requires bag { (base : List Handle) × HasHands base [] desk.old × IsOpenBy base desk.old.shape at.now.site }
-    requires room { desk.old.held < allowance_of desk.old }
-    ensures bears { Bears domain.now desk.new pile.new }
+    requires room { desk.old.held + 1 < allowance_of desk.old }
+    ensures carries { Carries domain.now desk.new pile.new }
+    ensures others { KeepsOthers desk.old pile.old.endings.items desk.new pile.new.endings.items }
     ensures none { pile.new.endings.items ≡ [] }
     ensures desk { IsSameDesk desk.old desk.new }
     ensures bag { (base : List Handle) → HasHands base [] desk.old
@@ -81,13 +83,14 @@ fn skip<V: Drop + Send, R: Wait>(
     pile: &mut Pile<V>,
     node: Shared,
 ) -> bool
-    requires bears { Bears domain.now desk.old pile.old }
+    requires carries { Carries domain.now desk.old pile.old }
     requires empty { pile.old.endings.items ≡ [] }
     requires node { IsWithin node.block node.place }
     requires bag { (base : List Handle) × HasHands base (node ∷ []) desk.old
         × IsOpenBy base desk.old.shape at.now.site }
-    requires room { desk.old.held + 1 < allowance_of desk.old }
-    ensures bears { Bears domain.now desk.new pile.new }
+    requires room { desk.old.held + 2 < allowance_of desk.old }
+    ensures carries { Carries domain.now desk.new pile.new }
+    ensures others { KeepsOthers desk.old pile.old.endings.items desk.new pile.new.endings.items }
     ensures none { pile.new.endings.items ≡ [] }
     ensures desk { IsSameDesk desk.old desk.new }
     ensures bag { (base : List Handle) → HasHands base (node ∷ []) desk.old → HasHands base [] desk.new }
@@ -127,13 +130,14 @@ fn try_cut<V: Drop + Send, R: Wait>(
     node: &Shared,
     pile: &mut Pile<V>,
 ) -> Option<Sought>
-    requires bears { Bears domain.now desk.old pile.old }
+    requires carries { Carries domain.now desk.old pile.old }
     requires empty { pile.old.endings.items ≡ [] }
     requires node { IsWithin node.now.block node.now.place }
     requires bag { (base : List Handle) × HasHands base [] desk.old × IsOpenBy base desk.old.shape at.now.site
         × Lists node.now.block node.now.place base }
-    requires room { desk.old.held + 2 < allowance_of desk.old }
-    ensures bears { Bears domain.now desk.new pile.new }
+    requires room { desk.old.held + 3 < allowance_of desk.old }
+    ensures carries { Carries domain.now desk.new pile.new }
+    ensures others { KeepsOthers desk.old pile.old.endings.items desk.new pile.new.endings.items }
     ensures none { pile.new.endings.items ≡ [] }
     ensures desk { IsSameDesk desk.old desk.new }
     ensures bag { (base : List Handle) → HasHands base [] desk.old
@@ -167,13 +171,14 @@ fn cut<V: Drop + Send, R: Wait>(
     node: &Shared,
     pile: &mut Pile<V>,
 ) -> Sought
-    requires bears { Bears domain.now desk.old pile.old }
+    requires carries { Carries domain.now desk.old pile.old }
     requires empty { pile.old.endings.items ≡ [] }
     requires node { IsWithin node.now.block node.now.place }
     requires bag { (base : List Handle) × HasHands base [] desk.old × IsOpenBy base desk.old.shape at.now.site
         × Lists node.now.block node.now.place base }
-    requires room { desk.old.held + 2 < allowance_of desk.old }
-    ensures bears { Bears domain.now desk.new pile.new }
+    requires room { desk.old.held + 3 < allowance_of desk.old }
+    ensures carries { Carries domain.now desk.new pile.new }
+    ensures others { KeepsOthers desk.old pile.old.endings.items desk.new pile.new.endings.items }
     ensures none { pile.new.endings.items ≡ [] }
     ensures desk { IsSameDesk desk.old desk.new }
     ensures bag { (base : List Handle) → HasHands base [] desk.old → HandsSought base result desk.new }
@@ -201,14 +206,15 @@ fn cut_below<V: Drop + Send, R: Wait>(
     node: &Shared,
     pile: &mut Pile<V>,
 ) -> bool
-    requires bears { Bears domain.now desk.old pile.old }
+    requires carries { Carries domain.now desk.old pile.old }
     requires empty { pile.old.endings.items ≡ [] }
     requires first { IsWithin first.block first.place }
     requires node { IsWithin node.now.block node.now.place }
     requires bag { (base : List Handle) × HasHands base (first ∷ []) desk.old
         × Lists node.now.block node.now.place base }
-    requires room { desk.old.held + 2 < allowance_of desk.old }
-    ensures bears { Bears domain.now desk.new pile.new }
+    requires room { desk.old.held + 3 < allowance_of desk.old }
+    ensures carries { Carries domain.now desk.new pile.new }
+    ensures others { KeepsOthers desk.old pile.old.endings.items desk.new pile.new.endings.items }
     ensures none { pile.new.endings.items ≡ [] }
     ensures desk { IsSameDesk desk.old desk.new }
     ensures bag { (base : List Handle) → HasHands base (first ∷ []) desk.old → HasHands base [] desk.new }
@@ -244,14 +250,15 @@ pub(crate) fn cut_child<V: Drop + Send, R: Wait>(
     node: &Shared,
     pile: &mut Pile<V>,
 ) -> bool
-    requires bears { Bears domain.now desk.old pile.old }
+    requires carries { Carries domain.now desk.old pile.old }
     requires empty { pile.old.endings.items ≡ [] }
     requires parent { IsWithin parent.now.block parent.now.place }
     requires node { IsWithin node.now.block node.now.place }
     requires bag { (base : List Handle) × HasHands base [] desk.old × Lists parent.now.block parent.now.place base
         × Lists node.now.block node.now.place base }
-    requires room { desk.old.held + 3 < allowance_of desk.old }
-    ensures bears { Bears domain.now desk.new pile.new }
+    requires room { desk.old.held + 4 < allowance_of desk.old }
+    ensures carries { Carries domain.now desk.new pile.new }
+    ensures others { KeepsOthers desk.old pile.old.endings.items desk.new pile.new.endings.items }
     ensures none { pile.new.endings.items ≡ [] }
     ensures desk { IsSameDesk desk.old desk.new }
     ensures bag { (base : List Handle) → HasHands base [] desk.old → HasHands base [] desk.new }

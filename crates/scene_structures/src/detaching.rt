@@ -7,11 +7,12 @@ ghost use Rattle.control_block.specs.Desks.{IsSameDesk, allowance_of, bag_of};
 ghost use Rattle.control_block.specs.Own.{IsSole};
 ghost use Rattle.shared_handle.specs.Calls.{Holds};
 ghost use Rattle.shared_handle.specs.Endings.{IsWithin};
-ghost use Rattle.shared_handle.specs.Piles.{Bears};
+ghost use Rattle.shared_handle.specs.Piles.{Carries};
 ghost use Rattle.scene_structures.specs.Detaches.{Detaches, LeavesParent, UnlinksIf};
 ghost use Rattle.scene_structures.specs.Hands.{HasHands, KeepsHeld, KeepsThese, Lists, node_in};
 ghost use Rattle.scene_structures.specs.Leaves.{IsDetached};
 ghost use Rattle.scene_structures.specs.Parents.{IsNode, WhyNoNode};
+ghost use Rattle.scene_structures.specs.Others.{KeepsOthers};
 
 use crate::attaching::watch;
 use crate::cutting::cut_child;
@@ -33,12 +34,13 @@ fn unlink<V: Drop + Send, R: Wait>(
     went: bool,
     pile: &mut Pile<V>,
 )
-    requires bears { Bears domain.now desk.old pile.old }
+    requires carries { Carries domain.now desk.old pile.old }
     requires empty { pile.old.endings.items ≡ [] }
     requires node { IsWithin node.now.block node.now.place }
     requires holds { Holds desk.old Owner node.now.block node.now.place }
-    requires room { desk.old.held + 1 < allowance_of desk.old }
-    ensures bears { Bears domain.now desk.new pile.new }
+    requires room { desk.old.held + 2 < allowance_of desk.old }
+    ensures carries { Carries domain.now desk.new pile.new }
+    ensures others { KeepsOthers desk.old pile.old.endings.items desk.new pile.new.endings.items }
     ensures none { pile.new.endings.items ≡ [] }
     ensures desk { IsSameDesk desk.old desk.new }
     ensures bag { bag_of desk.new ≡ bag_of desk.old }
@@ -65,14 +67,15 @@ fn leave<V: Drop + Send, R: Wait>(
     node: &Shared,
     pile: &mut Pile<V>,
 )
-    requires bears { Bears domain.now desk.old pile.old }
+    requires carries { Carries domain.now desk.old pile.old }
     requires empty { pile.old.endings.items ≡ [] }
     requires parent { IsWithin parent.block parent.place }
     requires node { IsWithin node.now.block node.now.place }
     requires bag { (base : List Handle) × HasHands base (parent ∷ []) desk.old
         × Lists node.now.block node.now.place base }
-    requires room { desk.old.held + 3 < allowance_of desk.old }
-    ensures bears { Bears domain.now desk.new pile.new }
+    requires room { desk.old.held + 4 < allowance_of desk.old }
+    ensures carries { Carries domain.now desk.new pile.new }
+    ensures others { KeepsOthers desk.old pile.old.endings.items desk.new pile.new.endings.items }
     ensures none { pile.new.endings.items ≡ [] }
     ensures desk { IsSameDesk desk.old desk.new }
     ensures bag { (base : List Handle) → HasHands base (parent ∷ []) desk.old → HasHands base [] desk.new }
@@ -91,8 +94,9 @@ impl<V: Drop + Send> Scene<V> {
     /// The node goes out of the children of what its `up` is on, and its `next` and `up` are emptied; where that has no
     /// owner, or the node isn't among its children, nothing changes (own). It waits while others change what it looks
     /// at. It is refused `Limit` just where fewer than 6 handles are free, else `Null` just where the handle's place is
-    /// null, and `Outside` just where that isn't in the object that it owns: then nothing changes. Condition: what ends
-    /// in the desk's hands is just what lies on the scene's pile.
+    /// null, and `Outside` just where that isn't in the object that it owns: then nothing changes. What ends in the
+    /// desk's hands elsewhere than on the scene's pile stays as it is. Condition: what was left on that pile ends with
+    /// this desk.
     pub fn detach<R: Wait>(
         &mut self,
         rt: &R,
@@ -100,12 +104,13 @@ impl<V: Drop + Send> Scene<V> {
         desk: &mut Desk<V>,
         node: &Shared,
     ) -> Result<(), Refusal>
-        requires bears { Bears domain.now desk.old self.old }
+        requires carries { Carries domain.now desk.old self.old }
         requires holds { Holds desk.old Owner node.now.block node.now.place }
         ensures refusals { IfErr result (λ why. WhyNoNode desk.old node.now.block node.now.place why) }
         ensures may { OnOk result (IsNode desk.old node.now.block node.now.place) }
         ensures refused { IfErr result (λ _. (desk.new ≡ desk.old) × (self.new ≡ self.old)) }
-        ensures bears { Bears domain.now desk.new self.new }
+        ensures carries { Carries domain.now desk.new self.new }
+        ensures others { KeepsOthers desk.old self.old.endings.items desk.new self.new.endings.items }
         ensures none { OnOk result (self.new.endings.items ≡ []) }
         ensures desk { IsSameDesk desk.old desk.new }
         ensures bag { bag_of desk.new ≡ bag_of desk.old }

@@ -1,6 +1,6 @@
 //! The values of objects that end, in the order in which these do.
-ghost use Rattle.std.specs.Prelude.{◌≡◌, ◌≢◌, ◌⊎◌, ◌↔◌, ℕ, ◌<◌, ◌≤◌, ◌+◌};
-ghost use Rattle.std.specs.Prelude.{◌*◌, List, [], ◌∷◌, ◌++◌, None, length, vec_capacity, IfOk, IsTrue};
+ghost use Rattle.std.specs.Prelude.{◌≡◌, ◌≢◌, ◌⊎◌, ℕ, ◌<◌, ◌≤◌, ◌+◌};
+ghost use Rattle.std.specs.Prelude.{◌*◌, List, [], ◌∷◌, ◌++◌, None, length, IfOk, IsTrue};
 ghost use Rattle.std.specs.Prelude.{IsFalse};
 ghost use Rattle.shared_handle.specs.declared.endings.Ending.{Ending};
 ghost use Rattle.scene_structures.specs.Teardowns.{AreOut, HasRoom, StepsBy, empty_slots, filled};

@@ -4,8 +4,9 @@ ghost use Rattle.control_word.specs.declared.handle.Kind.TheVariants.{Owner};
 ghost use Rattle.control_block.specs.Desks.{IsSameDesk, bag_of};
 ghost use Rattle.control_block.specs.Own.{Does};
 ghost use Rattle.shared_handle.specs.Calls.{Holds, without_handle};
-ghost use Rattle.shared_handle.specs.Piles.{Bears, IsParting};
+ghost use Rattle.shared_handle.specs.Piles.{Carries, IsParting};
 ghost use Rattle.scene_structures.specs.Hands.{KeepsHeld};
+ghost use Rattle.scene_structures.specs.Others.{KeepsOthers};
 
 use control_block::desk::Desk;
 use control_block::domain::Domain;
@@ -13,15 +14,15 @@ use shared_handle::{Pile, Round, Shared, drop_shared};
 use std::sync::Wait;
 
 /// All of the pile ends, and what the desk holds meanwhile stays on its object.
-#[tactic(auto, using(shared_handle::proofs::Piles::bears_after))]
 fn settle<V: Drop + Send, R: Wait>(
     rt: &R,
     domain: &Domain<V>,
     desk: &mut Desk<V>,
     pile: &mut Pile<V>,
 )
-    requires bears { Bears domain.now desk.old pile.old }
-    ensures bears { Bears domain.now desk.new pile.new }
+    requires carries { Carries domain.now desk.old pile.old }
+    ensures carries { Carries domain.now desk.new pile.new }
+    ensures others { KeepsOthers desk.old pile.old.endings.items desk.new pile.new.endings.items }
     ensures none { pile.new.endings.items ≡ [] }
     ensures bag { bag_of desk.new ≡ bag_of desk.old }
     ensures held { desk.new.held ≡ desk.old.held }
@@ -40,7 +41,6 @@ fn settle<V: Drop + Send, R: Wait>(
 }
 
 /// An owner leaves. Where it was the last, its object ends, and all that ends by that.
-#[tactic(auto, using(shared_handle::proofs::Piles::bears_after))]
 pub(crate) fn let_go<V: Drop + Send, R: Wait>(
     rt: &R,
     domain: &Domain<V>,
@@ -48,9 +48,10 @@ pub(crate) fn let_go<V: Drop + Send, R: Wait>(
     owner: Shared,
     pile: &mut Pile<V>,
 )
-    requires bears { Bears domain.now desk.old pile.old }
+    requires carries { Carries domain.now desk.old pile.old }
     requires holds { Holds desk.old Owner owner.block owner.place }
-    ensures bears { Bears domain.now desk.new pile.new }
+    ensures carries { Carries domain.now desk.new pile.new }
+    ensures others { KeepsOthers desk.old pile.old.endings.items desk.new pile.new.endings.items }
     ensures none { pile.new.endings.items ≡ [] }
     ensures bag { bag_of desk.new ≡ without_handle Owner owner.block owner.place (bag_of desk.old) }
     ensures held { desk.new.held + 1 ≡ desk.old.held }

@@ -3,7 +3,8 @@ ghost use Rattle.std.specs.Prelude.{◌≡◌, ◌↔◌, ◌+◌, ◌<◌, ◌%
 ghost use Rattle.std.specs.Prelude.{IfErr, IfOk, IsErr, OnOk};
 ghost use Rattle.control_word.specs.declared.event.Cell.TheVariants.{Free};
 ghost use Rattle.control_word.specs.declared.handle.Kind.TheVariants.{Owner};
-ghost use Rattle.control_block.specs.Desks.{Belongs, IsSameDesk, allowance_of, bag_of, endings_of, held_of, stock_of};
+ghost use Rattle.control_block.specs.Desks.{Belongs, IsSameDesk, KeepsEndings, allowance_of, bag_of, endings_of};
+ghost use Rattle.control_block.specs.Desks.{held_of, stock_of};
 ghost use Rattle.control_block.specs.Own.{IsSole};
 ghost use Rattle.control_block.specs.Refusals.{IsFullOrLimit};
 ghost use Rattle.shared_handle.specs.Calls.{Holds};
@@ -60,8 +61,8 @@ impl<V: Drop + Send> Observers<V> {
 
     /// A new node with fields 0 and an owned value, without the from-this flag, goes in front, and watches the subject
     /// (own). It waits while others change the cell. It is refused `Limit` just where fewer than 6 handles are free,
-    /// and else `Full` just where the desk's store is empty: then the value comes back, and nothing changes. Condition:
-    /// no object ends in the desk's hands.
+    /// and else `Full` just where the desk's store is empty: then the value comes back, and nothing changes. What
+    /// ends in the desk's hands stays as it is.
     pub fn attach<R: Wait>(
         &mut self,
         rt: &R,
@@ -72,13 +73,13 @@ impl<V: Drop + Send> Observers<V> {
     ) -> Result<(), Refused<V>>
         requires domain { Belongs desk.old domain.now }
         requires stands { StandsIn self.old domain.now }
-        requires settled { endings_of desk.old ≡ 0 }
         requires holds { Holds desk.old Owner subject.now.block subject.now.place }
         ensures refusals { IsFullOrLimit (allowance_of desk.old < held_of desk.old + 6)
             (stock_of desk.old ≡ []) result }
         ensures refused { IfErr result (λ r. (r.back ≡ value) × (desk.new ≡ desk.old)) }
         ensures stands { (self.new.cell ≡ self.old.cell) × StandsIn self.new domain.now }
-        ensures settled { endings_of desk.new ≡ 0 }
+        ensures endings { KeepsEndings desk.old desk.new }
+        ensures count { endings_of desk.new ≡ endings_of desk.old }
         ensures desk { IsSameDesk desk.old desk.new }
         ensures bag { bag_of desk.new ≡ bag_of desk.old }
         ensures held { desk.new.held ≡ desk.old.held }
@@ -104,8 +105,8 @@ impl<V: Drop + Send> Observers<V> {
 
     /// `tell` gets field 0 of the subject of each node, the one that was attached last first, where the subject has an
     /// owner when the call comes to it (own). It waits while others change what it looks at. It is refused `Limit` just
-    /// where fewer than 6 handles are free, and then nothing changes, and `tell` gets nothing. Condition: no object
-    /// ends in the desk's hands.
+    /// where fewer than 6 handles are free, and then nothing changes, and `tell` gets nothing. What ends in
+    /// the desk's hands stays as it is.
     pub fn each<R: Wait, F: FnMut(u64)>(
         &mut self,
         rt: &R,
@@ -115,12 +116,12 @@ impl<V: Drop + Send> Observers<V> {
     ) -> Result<(), Refusal>
         requires domain { Belongs desk.old domain.now }
         requires stands { StandsIn self.old domain.now }
-        requires settled { endings_of desk.old ≡ 0 }
         requires callable { F.IsAlwaysCallable tell }
         ensures limit { IsErr result ↔ (allowance_of desk.old < held_of desk.old + 6) }
         ensures refused { IfErr result (λ why. (why ≡ Refusal.Limit) × (desk.new ≡ desk.old)) }
         ensures stands { (self.new.cell ≡ self.old.cell) × StandsIn self.new domain.now }
-        ensures settled { endings_of desk.new ≡ 0 }
+        ensures endings { KeepsEndings desk.old desk.new }
+        ensures count { endings_of desk.new ≡ endings_of desk.old }
         ensures desk { IsSameDesk desk.old desk.new }
         ensures bag { bag_of desk.new ≡ bag_of desk.old }
         ensures held { desk.new.held ≡ desk.old.held }
@@ -141,8 +142,8 @@ impl<V: Drop + Send> Observers<V> {
 
     /// The nodes whose subject has no owner when the call comes to them go out of the list and end, if nobody else owns
     /// them (own). How many: exactly so where the cell's nodes are a list, and else modulo 2^32. It is refused `Limit`
-    /// just where fewer than 6 handles are free, and then nothing changes. Conditions: the desk is sole, and no object
-    /// ends in its hands.
+    /// just where fewer than 6 handles are free, and then nothing changes. What ends in the desk's hands stays as
+    /// it is. Condition: the desk is sole.
     pub fn prune<R: Wait>(
         &mut self,
         rt: &R,
@@ -151,12 +152,12 @@ impl<V: Drop + Send> Observers<V> {
     ) -> Result<u32, Refusal>
         requires domain { Belongs desk.old domain.now }
         requires stands { StandsIn self.old domain.now }
-        requires settled { endings_of desk.old ≡ 0 }
         requires sole { IsSole desk.old }
         ensures limit { IsErr result ↔ (allowance_of desk.old < held_of desk.old + 6) }
         ensures refused { IfErr result (λ why. (why ≡ Refusal.Limit) × (desk.new ≡ desk.old)) }
         ensures stands { (self.new.cell ≡ self.old.cell) × StandsIn self.new domain.now }
-        ensures settled { endings_of desk.new ≡ 0 }
+        ensures endings { KeepsEndings desk.old desk.new }
+        ensures count { endings_of desk.new ≡ endings_of desk.old }
         ensures desk { IsSameDesk desk.old desk.new }
         ensures bag { bag_of desk.new ≡ bag_of desk.old }
         ensures held { desk.new.held ≡ desk.old.held }

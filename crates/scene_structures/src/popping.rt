@@ -4,9 +4,10 @@ ghost use Rattle.control_word.specs.declared.event.Cell.TheVariants.{Free};
 ghost use Rattle.control_word.specs.declared.handle.Handle.{Handle};
 ghost use Rattle.control_block.specs.Desks.{DeskNow, IsSameDesk, allowance_of};
 ghost use Rattle.scene_structures.specs.Hands.{HasHands};
-ghost use Rattle.shared_handle.specs.Piles.{Bears};
+ghost use Rattle.shared_handle.specs.Piles.{Carries};
 ghost use Rattle.scene_structures.specs.Pops.{HandsAfter, HeldAfter, TakesNode, Tries};
 ghost use Rattle.scene_structures.specs.Stacks.{FindsNone, Looks};
+ghost use Rattle.scene_structures.specs.Others.{KeepsOthers};
 
 use crate::endings::let_go;
 use crate::pause::Pause;
@@ -35,12 +36,13 @@ fn try_pop<V: Drop + Send, R: Wait>(
     pile: &mut Pile<V>,
     top: Shared,
 ) -> Tried
-    requires bears { Bears domain.now desk.old pile.old }
+    requires carries { Carries domain.now desk.old pile.old }
     requires cell { cell < desk.old.shape.shared_cells }
     requires bag { (base : List Handle) × HasHands base (top ∷ []) desk.old }
     requires room { desk.old.held + 2 < allowance_of desk.old }
     requires empty { pile.old.endings.items ≡ [] }
-    ensures bears { Bears domain.now desk.new pile.new }
+    ensures carries { Carries domain.now desk.new pile.new }
+    ensures others { KeepsOthers desk.old pile.old.endings.items desk.new pile.new.endings.items }
     ensures none { pile.new.endings.items ≡ [] }
     ensures desk { IsSameDesk desk.old desk.new }
     ensures bag { (base : List Handle) → HasHands base (top ∷ []) desk.old → HandsAfter base result desk.new }
@@ -78,12 +80,13 @@ pub(crate) fn take<V: Drop + Send, R: Wait>(
     pile: &mut Pile<V>,
     first: Shared,
 ) -> Option<Shared>
-    requires bears { Bears domain.now desk.old pile.old }
+    requires carries { Carries domain.now desk.old pile.old }
     requires cell { cell < desk.old.shape.shared_cells }
     requires bag { (base : List Handle) × HasHands base (first ∷ []) desk.old }
     requires room { desk.old.held + 2 < allowance_of desk.old }
     requires empty { pile.old.endings.items ≡ [] }
-    ensures bears { Bears domain.now desk.new pile.new }
+    ensures carries { Carries domain.now desk.new pile.new }
+    ensures others { KeepsOthers desk.old pile.old.endings.items desk.new pile.new.endings.items }
     ensures none { pile.new.endings.items ≡ [] }
     ensures desk { IsSameDesk desk.old desk.new }
     ensures bag { (base : List Handle) → HasHands base (first ∷ []) desk.old

@@ -5,12 +5,14 @@ ghost use Rattle.control_word.specs.Handles.{object_of};
 ghost use Rattle.control_word.specs.declared.event.Cell.{Cell};
 ghost use Rattle.control_word.specs.declared.event.Cell.TheVariants.{Free};
 ghost use Rattle.control_word.specs.declared.handle.Handle.{Handle};
-ghost use Rattle.control_block.specs.Desks.{DeskNow, IsSameDesk, allowance_of, bag_of};
+ghost use Rattle.control_block.specs.Desks.{Belongs, DeskNow, IsSameDesk, KeepsEndings, allowance_of, bag_of};
+ghost use Rattle.control_block.specs.Desks.{endings_of};
 ghost use Rattle.shared_handle.specs.Endings.{IsWithin};
-ghost use Rattle.shared_handle.specs.Piles.{Bears};
+ghost use Rattle.shared_handle.specs.Piles.{Carries};
 ghost use Rattle.atomic_cells.specs.Sites.{IsOpenWeakly, shared_cell, weak_cell};
 ghost use Rattle.scene_structures.specs.Hands.{HasHands, IsOpenBy, KeepsHeld, KeepsThese, node_in};
 ghost use Rattle.scene_structures.specs.Prunes.{Asks, Clears, HandsFront, HeldFront, IsFront, Passes, Prunes};
+ghost use Rattle.scene_structures.specs.Others.{KeepsOthers};
 
 use crate::endings::let_go;
 use atomic_cells::{SharedAt, SharedMember, WeakAt};
@@ -35,12 +37,12 @@ fn is_expired<V: Drop + Send, R: Wait>(
     domain: &Domain<V>,
     desk: &mut Desk<V>,
     up: &WeakAt,
-    pile: &Pile<V>,
 ) -> bool
-    requires bears { Bears domain.now desk.old pile.now }
+    requires domain { Belongs desk.old domain.now }
     requires cell { IsOpenWeakly desk.old up.now.site }
     requires room { desk.old.held + 2 < allowance_of desk.old }
-    ensures bears { Bears domain.now desk.new pile.now }
+    ensures endings { KeepsEndings desk.old desk.new }
+    ensures count { endings_of desk.new ≡ endings_of desk.old }
     ensures bag { bag_of desk.new ≡ bag_of desk.old }
     ensures held { desk.new.held ≡ desk.old.held }
     ensures desk { IsSameDesk desk.old desk.new }
@@ -63,11 +65,12 @@ fn look_in<V: Drop + Send, R: Wait>(
     at: &SharedAt,
     pile: &mut Pile<V>,
 ) -> Front
-    requires bears { Bears domain.now desk.old pile.old }
+    requires carries { Carries domain.now desk.old pile.old }
     requires empty { pile.old.endings.items ≡ [] }
     requires bag { (base : List Handle) × HasHands base [] desk.old × IsOpenBy base desk.old.shape at.now.site }
     requires room { desk.old.held + 3 < allowance_of desk.old }
-    ensures bears { Bears domain.now desk.new pile.new }
+    ensures carries { Carries domain.now desk.new pile.new }
+    ensures others { KeepsOthers desk.old pile.old.endings.items desk.new pile.new.endings.items }
     ensures none { pile.new.endings.items ≡ [] }
     ensures desk { IsSameDesk desk.old desk.new }
     ensures bag { (base : List Handle) → HasHands base [] desk.old → HandsFront base result desk.new }
@@ -83,7 +86,7 @@ fn look_in<V: Drop + Send, R: Wait>(
         let_go(rt, domain, desk, top, pile);
         return Front::End;
     };
-    if is_expired(rt, domain, desk, &up, pile) {
+    if is_expired(rt, domain, desk, &up) {
         return Front::Gone(top);
     }
     Front::Stays(top)
@@ -98,13 +101,14 @@ fn pass<V: Drop + Send, R: Wait>(
     pile: &mut Pile<V>,
     node: Shared,
 )
-    requires bears { Bears domain.now desk.old pile.old }
+    requires carries { Carries domain.now desk.old pile.old }
     requires empty { pile.old.endings.items ≡ [] }
     requires node { IsWithin node.block node.place }
     requires bag { (base : List Handle) × HasHands base (node ∷ []) desk.old
         × IsOpenBy base desk.old.shape at.now.site }
     requires room { desk.old.held + 2 < allowance_of desk.old }
-    ensures bears { Bears domain.now desk.new pile.new }
+    ensures carries { Carries domain.now desk.new pile.new }
+    ensures others { KeepsOthers desk.old pile.old.endings.items desk.new pile.new.endings.items }
     ensures none { pile.new.endings.items ≡ [] }
     ensures desk { IsSameDesk desk.old desk.new }
     ensures bag { (base : List Handle) → HasHands base (node ∷ []) desk.old → HasHands base [] desk.new }
@@ -133,11 +137,12 @@ fn clear_front<V: Drop + Send, R: Wait>(
     at: &SharedAt,
     pile: &mut Pile<V>,
 ) -> (u32, Option<Shared>)
-    requires bears { Bears domain.now desk.old pile.old }
+    requires carries { Carries domain.now desk.old pile.old }
     requires empty { pile.old.endings.items ≡ [] }
     requires bag { (base : List Handle) × HasHands base [] desk.old × IsOpenBy base desk.old.shape at.now.site }
     requires room { desk.old.held + 3 < allowance_of desk.old }
-    ensures bears { Bears domain.now desk.new pile.new }
+    ensures carries { Carries domain.now desk.new pile.new }
+    ensures others { KeepsOthers desk.old pile.old.endings.items desk.new pile.new.endings.items }
     ensures none { pile.new.endings.items ≡ [] }
     ensures desk { IsSameDesk desk.old desk.new }
     ensures bag { (base : List Handle) → HasHands base [] desk.old
@@ -168,12 +173,13 @@ fn clear_below<V: Drop + Send, R: Wait>(
     first: Shared,
     pile: &mut Pile<V>,
 ) -> u32
-    requires bears { Bears domain.now desk.old pile.old }
+    requires carries { Carries domain.now desk.old pile.old }
     requires empty { pile.old.endings.items ≡ [] }
     requires node { IsWithin first.block first.place }
     requires bag { (base : List Handle) × HasHands base (first ∷ []) desk.old }
     requires room { desk.old.held + 3 < allowance_of desk.old }
-    ensures bears { Bears domain.now desk.new pile.new }
+    ensures carries { Carries domain.now desk.new pile.new }
+    ensures others { KeepsOthers desk.old pile.old.endings.items desk.new pile.new.endings.items }
     ensures none { pile.new.endings.items ≡ [] }
     ensures desk { IsSameDesk desk.old desk.new }
     ensures bag { (base : List Handle) → HasHands base (first ∷ []) desk.old → HasHands base [] desk.new }
@@ -206,12 +212,13 @@ pub(crate) fn clear_list<V: Drop + Send, R: Wait>(
     cell: u32,
     pile: &mut Pile<V>,
 ) -> u32
-    requires bears { Bears domain.now desk.old pile.old }
+    requires carries { Carries domain.now desk.old pile.old }
     requires empty { pile.old.endings.items ≡ [] }
     requires cell { cell < desk.old.shape.shared_cells }
     requires bag { (base : List Handle) × HasHands base [] desk.old }
     requires room { desk.old.held + 5 < allowance_of desk.old }
-    ensures bears { Bears domain.now desk.new pile.new }
+    ensures carries { Carries domain.now desk.new pile.new }
+    ensures others { KeepsOthers desk.old pile.old.endings.items desk.new pile.new.endings.items }
     ensures none { pile.new.endings.items ≡ [] }
     ensures desk { IsSameDesk desk.old desk.new }
     ensures bag { (base : List Handle) → HasHands base [] desk.old → HasHands base [] desk.new }

@@ -10,9 +10,10 @@ ghost use Rattle.shared_handle.specs.Calls.{Holds, without_handle};
 ghost use Rattle.shared_handle.specs.Endings.{IsWithin};
 ghost use Rattle.atomic_cells.specs.Sites.{shared_cell};
 ghost use Rattle.scene_structures.specs.Hands.{HasHands, IsOpenBy, KeepsHeld, KeepsThese, SameNode, node_in};
-ghost use Rattle.shared_handle.specs.Piles.{Bears};
+ghost use Rattle.shared_handle.specs.Piles.{Carries};
 ghost use Rattle.scene_structures.specs.Puts.{PutsOnly};
 ghost use Rattle.scene_structures.specs.Stacks.{Fills, NextOf, Rises};
+ghost use Rattle.scene_structures.specs.Others.{KeepsOthers};
 
 use crate::endings::let_go;
 use crate::pause::Pause;
@@ -37,11 +38,12 @@ pub(crate) fn store_next<V: Drop + Send, R: Wait>(
     below: Shared,
     pile: &mut Pile<V>,
 )
-    requires bears { Bears domain.now desk.old pile.old }
+    requires carries { Carries domain.now desk.old pile.old }
     requires node { IsWithin node.now.block node.now.place }
     requires holds { Holds desk.old Owner node.now.block node.now.place
         × Holds desk.old Owner below.block below.place }
-    ensures bears { Bears domain.now desk.new pile.new }
+    ensures carries { Carries domain.now desk.new pile.new }
+    ensures others { KeepsOthers desk.old pile.old.endings.items desk.new pile.new.endings.items }
     ensures none { pile.new.endings.items ≡ [] }
     ensures bag { bag_of desk.new ≡ without_handle Owner below.block below.place (bag_of desk.old) }
     ensures held { desk.new.held + 1 ≡ desk.old.held }
@@ -66,12 +68,13 @@ fn try_push<V: Drop + Send, R: Wait>(
     pile: &mut Pile<V>,
     attempt: Attempt,
 ) -> Option<Attempt>
-    requires bears { Bears domain.now desk.old pile.old }
+    requires carries { Carries domain.now desk.old pile.old }
     requires node { IsWithin attempt.node.block attempt.node.place }
     requires bag { (base : List Handle) × HasHands base (attempt.top ∷ attempt.node ∷ []) desk.old
         × IsOpenBy base desk.old.shape at.now.site }
     requires room { desk.old.held + 2 < allowance_of desk.old }
-    ensures bears { Bears domain.now desk.new pile.new }
+    ensures carries { Carries domain.now desk.new pile.new }
+    ensures others { KeepsOthers desk.old pile.old.endings.items desk.new pile.new.endings.items }
     ensures none { pile.new.endings.items ≡ [] }
     ensures desk { IsSameDesk desk.old desk.new }
     ensures node { IfSome result (λ a. (a.node ≡ attempt.node) × SameNode desk.old attempt.node desk.new) }
@@ -115,12 +118,13 @@ pub(crate) fn raise<V: Drop + Send, R: Wait>(
     pile: &mut Pile<V>,
     first: Attempt,
 )
-    requires bears { Bears domain.now desk.old pile.old }
+    requires carries { Carries domain.now desk.old pile.old }
     requires node { IsWithin first.node.block first.node.place }
     requires bag { (base : List Handle) × HasHands base (first.top ∷ first.node ∷ []) desk.old
         × IsOpenBy base desk.old.shape at.now.site }
     requires room { desk.old.held + 2 < allowance_of desk.old }
-    ensures bears { Bears domain.now desk.new pile.new }
+    ensures carries { Carries domain.now desk.new pile.new }
+    ensures others { KeepsOthers desk.old pile.old.endings.items desk.new pile.new.endings.items }
     ensures none { pile.new.endings.items ≡ [] }
     ensures desk { IsSameDesk desk.old desk.new }
     ensures bag { (base : List Handle) → HasHands base (first.top ∷ first.node ∷ []) desk.old

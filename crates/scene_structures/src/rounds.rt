@@ -1,8 +1,9 @@
 //! Objects end in rounds of a pile, and their values come into slots.
 ghost use Rattle.std.specs.Prelude.{◌≡◌, ◌+◌, ◌≤◌, length};
 ghost use Rattle.control_block.specs.Desks.{IsSameDesk, bag_of};
-ghost use Rattle.shared_handle.specs.Piles.{Bears};
+ghost use Rattle.shared_handle.specs.Piles.{Carries};
 ghost use Rattle.scene_structures.specs.Teardowns.{HasRoom, RunsDown, empty_slots};
+ghost use Rattle.scene_structures.specs.Others.{KeepsOthers};
 
 use crate::ended::Ended;
 use control_block::desk::Desk;
@@ -17,11 +18,12 @@ pub(crate) fn run_down<V: Drop + Send>(
     pile: &mut Pile<V>,
     ended: &mut Ended<V>,
 )
-    requires bears { Bears domain.now desk.old pile.old }
+    requires carries { Carries domain.now desk.old pile.old }
     requires vacant { ended.old.vacant.items ≡ empty_slots 0 ended.old.slots.items }
     requires room { HasRoom (domain.now.shape.blocks + 1) ended.old }
     requires few { length ended.old.slots.items ≤ domain.now.shape.blocks + 1 }
-    ensures bears { Bears domain.now desk.new pile.new }
+    ensures carries { Carries domain.now desk.new pile.new }
+    ensures others { KeepsOthers desk.old pile.old.endings.items desk.new pile.new.endings.items }
     ensures bag { bag_of desk.new ≡ bag_of desk.old }
     ensures held { desk.new.held ≡ desk.old.held }
     ensures desk { IsSameDesk desk.old desk.new }

@@ -1,13 +1,14 @@
 //! A scene tree: each node owns its first child and its next sibling, and points back at its parent (own).
-ghost use Rattle.std.specs.Prelude.{◌≡◌, ◌+◌, [], ◌↔◌, IfErr, IfOk, IsTrue, OnOk};
+ghost use Rattle.std.specs.Prelude.{◌≡◌, ◌+◌, [], ◌↔◌, length, IfErr, IfOk, IsTrue, OnOk};
 ghost use Rattle.control_word.specs.declared.handle.Kind.TheVariants.{Owner};
 ghost use Rattle.control_block.specs.Desks.{IsSameDesk, bag_of};
 ghost use Rattle.control_block.specs.Own.{IsSole};
 ghost use Rattle.shared_handle.specs.Calls.{Holds, with_handle};
 ghost use Rattle.shared_handle.specs.Endings.{IsWithin};
-ghost use Rattle.shared_handle.specs.Piles.{Bears};
+ghost use Rattle.shared_handle.specs.Piles.{Carries};
 ghost use Rattle.scene_structures.specs.Scenes.{Adopts, IsAdopted, MayHaveChild, WhyNoChild};
 ghost use Rattle.scene_structures.specs.Stacks.{Serves};
+ghost use Rattle.scene_structures.specs.Others.{KeepsOthers};
 
 use crate::attaching::watch;
 use crate::pushing::{Attempt, raise};
@@ -39,11 +40,9 @@ impl<V: Drop + Send> Model for Scene<V> {
 
 impl<V: Drop + Send> Scene<V> {
     /// An access to the trees of the domain (own). It makes room for the ends of as many objects as there are blocks.
-    /// It serves any desk of the domain in whose hands nothing ends. It is refused `Memory` where a growth was really
-    /// refused.
+    /// It serves any desk of the domain. It is refused `Memory` where a growth was really refused.
     pub fn new(alloc: Global, domain: &Domain<V>) -> Result<Self, Refusal>
         ensures refused { IfErr result (λ why. why ≡ Refusal.Memory) }
-        ensures empty { IfOk result (λ s. s.endings.items ≡ []) }
         ensures serves { IfOk result (λ s. Serves domain.now s) }
     {
         let pile = Pile::new(alloc, domain)?;
@@ -55,7 +54,8 @@ impl<V: Drop + Send> Scene<V> {
     /// where the parent's handle does. It waits while others change the parent's `first`. It is refused `Limit` just
     /// where fewer than 6 handles are free, else `Full` just where the desk's store is empty, else `Null` just where
     /// the handle's place is null, and `Outside` just where that isn't in the object that it owns: then the value comes
-    /// back, and nothing changes. Condition: what ends in the desk's hands is just what lies on the scene's pile.
+    /// back, and nothing changes. What ends in the desk's hands elsewhere than on the scene's pile stays as it is.
+    /// Condition: what was left on that pile ends with this desk.
     pub fn add_child<R: Wait>(
         &mut self,
         rt: &R,
@@ -65,13 +65,14 @@ impl<V: Drop + Send> Scene<V> {
         fields: [u64; 4],
         value: V,
     ) -> Result<Shared, Refused<V>>
-        requires bears { Bears domain.now desk.old self.old }
+        requires carries { Carries domain.now desk.old self.old }
         requires holds { Holds desk.old Owner parent.now.block parent.now.place }
         ensures refusals { IfErr result (λ r. WhyNoChild desk.old parent.now.block parent.now.place r.why) }
         ensures may { OnOk result (MayHaveChild desk.old parent.now.block parent.now.place) }
         ensures refused { IfErr result
             (λ r. (r.back ≡ value) × (desk.new ≡ desk.old) × (self.new ≡ self.old)) }
-        ensures bears { Bears domain.now desk.new self.new }
+        ensures carries { Carries domain.now desk.new self.new }
+        ensures others { KeepsOthers desk.old self.old.endings.items desk.new self.new.endings.items }
         ensures none { OnOk result (self.new.endings.items ≡ []) }
         ensures desk { IsSameDesk desk.old desk.new }
         ensures bag { IfOk result (λ h. bag_of desk.new ≡ with_handle Owner h.block h.place (bag_of desk.old)) }
@@ -125,11 +126,12 @@ impl<V: Drop + Send> Scene<V> {
         self.pile.is_empty()
     }
 
-    /// The access is given up (own); the trees stay as they are. Condition: nothing is left on its pile to end.
-    pub fn close(self)
-        requires settled { self.endings.items ≡ [] }
+    /// The access is given up (own); the trees stay as they are. How many objects were left on its pile to end, and are
+    /// given up with it, each as by `Ending::forget`.
+    pub fn close(self) -> usize
+        ensures left { result ≡ length self.endings.items }
     {
         let Self { pile } = self;
-        pile.close();
+        pile.close()
     }
 }

@@ -3,7 +3,8 @@ ghost use Rattle.std.specs.Prelude.{◌≡◌, ◌↔◌, ◌+◌, ◌<◌, [], 
 ghost use Rattle.std.specs.Prelude.{IsErr, IsTrue, OnOk};
 ghost use Rattle.control_word.specs.declared.event.Cell.TheVariants.{Free};
 ghost use Rattle.control_word.specs.declared.handle.Kind.TheVariants.{Owner};
-ghost use Rattle.control_block.specs.Desks.{Belongs, IsSameDesk, allowance_of, bag_of, endings_of, held_of, stock_of};
+ghost use Rattle.control_block.specs.Desks.{Belongs, IsSameDesk, KeepsEndings, allowance_of, bag_of, endings_of};
+ghost use Rattle.control_block.specs.Desks.{held_of, stock_of};
 ghost use Rattle.control_block.specs.Own.{IsSole};
 ghost use Rattle.control_block.specs.Refusals.{IsFullOrLimit};
 ghost use Rattle.shared_handle.specs.Calls.{Holds, with_handle};
@@ -65,8 +66,8 @@ impl<V: Drop + Send> Stack<V> {
 
     /// A new node with four fields and an owned value, without the from-this flag, goes on top (own). It waits while
     /// others change the cell. It is refused `Limit` just where fewer than 6 handles are free, and else `Full` just
-    /// where the desk's store is empty: then the value comes back, and nothing changes. Condition: no object ends in
-    /// the desk's hands.
+    /// where the desk's store is empty: then the value comes back, and nothing changes. What ends in the desk's
+    /// hands stays as it is.
     pub fn push<R: Wait>(
         &mut self,
         rt: &R,
@@ -77,12 +78,12 @@ impl<V: Drop + Send> Stack<V> {
     ) -> Result<(), Refused<V>>
         requires domain { Belongs desk.old domain.now }
         requires stands { StandsIn self.old domain.now }
-        requires settled { endings_of desk.old ≡ 0 }
         ensures refusals { IsFullOrLimit (allowance_of desk.old < held_of desk.old + 6)
             (stock_of desk.old ≡ []) result }
         ensures refused { IfErr result (λ r. (r.back ≡ value) × (desk.new ≡ desk.old)) }
         ensures stands { (self.new.cell ≡ self.old.cell) × StandsIn self.new domain.now }
-        ensures settled { endings_of desk.new ≡ 0 }
+        ensures endings { KeepsEndings desk.old desk.new }
+        ensures count { endings_of desk.new ≡ endings_of desk.old }
         ensures desk { IsSameDesk desk.old desk.new }
         ensures bag { bag_of desk.new ≡ bag_of desk.old }
         ensures held { desk.new.held ≡ desk.old.held }
@@ -107,7 +108,7 @@ impl<V: Drop + Send> Stack<V> {
 
     /// The top node goes out of the stack, and this is its owner, or none where there was no node (own). It keeps what
     /// its `next` owns. It waits while others change the cell. It is refused `Limit` just where fewer than 6 handles
-    /// are free, and then nothing changes. Condition: no object ends in the desk's hands.
+    /// are free, and then nothing changes. What ends in the desk's hands stays as it is.
     pub fn pop<R: Wait>(
         &mut self,
         rt: &R,
@@ -116,11 +117,11 @@ impl<V: Drop + Send> Stack<V> {
     ) -> Result<Option<Shared>, Refusal>
         requires domain { Belongs desk.old domain.now }
         requires stands { StandsIn self.old domain.now }
-        requires settled { endings_of desk.old ≡ 0 }
         ensures limit { IsErr result ↔ (allowance_of desk.old < held_of desk.old + 6) }
         ensures refused { IfErr result (λ why. (why ≡ Refusal.Limit) × (desk.new ≡ desk.old)) }
         ensures stands { (self.new.cell ≡ self.old.cell) × StandsIn self.new domain.now }
-        ensures settled { endings_of desk.new ≡ 0 }
+        ensures endings { KeepsEndings desk.old desk.new }
+        ensures count { endings_of desk.new ≡ endings_of desk.old }
         ensures desk { IsSameDesk desk.old desk.new }
         ensures bag { IfOk result (λ r. MatchOption r (bag_of desk.new ≡ bag_of desk.old)
             (λ h. bag_of desk.new ≡ with_handle Owner h.block h.place (bag_of desk.old))) }

@@ -4,9 +4,10 @@ ghost use Rattle.control_word.specs.declared.handle.Kind.TheVariants.{Owner};
 ghost use Rattle.control_block.specs.Desks.{IsSameDesk, bag_of};
 ghost use Rattle.control_block.specs.Own.{IsSole};
 ghost use Rattle.shared_handle.specs.Calls.{Holds, without_handle};
-ghost use Rattle.shared_handle.specs.Piles.{Bears};
+ghost use Rattle.shared_handle.specs.Piles.{Carries};
 ghost use Rattle.scene_structures.specs.Teardowns.{TearsDown};
 ghost use Rattle.scene_structures.specs.Trees.{IsTornDown};
+ghost use Rattle.scene_structures.specs.Others.{KeepsOthers};
 
 use crate::ended::Ended;
 use crate::rounds::run_down;
@@ -25,8 +26,8 @@ impl<V: Drop + Send> Scene<V> {
     /// nothing stays there, and where nobody else owns an object of the root's tree, these are the values of all of
     /// them. All memory is reserved before the root leaves. It is refused `Memory` where a growth was really refused:
     /// then the root comes back, and nothing changes.
-    /// Condition: what ends in the desk's hands is just what lies on the scene's pile.
-    #[tactic(auto, using(shared_handle::proofs::Piles::bears_after))]
+    /// What ends in the desk's hands elsewhere than on the pile stays as it is. Condition: what was left on the pile
+    /// ends with this desk.
     pub fn teardown(
         &mut self,
         alloc: Global,
@@ -34,11 +35,12 @@ impl<V: Drop + Send> Scene<V> {
         desk: &mut Desk<V>,
         root: Shared,
     ) -> Result<Vec<V>, Refused<Shared>>
-        requires bears { Bears domain.now desk.old self.old }
+        requires carries { Carries domain.now desk.old self.old }
         requires holds { Holds desk.old Owner root.block root.place }
         ensures refused { IfErr result (λ r. (r.why ≡ Refusal.Memory) × (r.back ≡ root) × (desk.new ≡ desk.old)
             × (self.new ≡ self.old)) }
-        ensures bears { Bears domain.now desk.new self.new }
+        ensures carries { Carries domain.now desk.new self.new }
+        ensures others { KeepsOthers desk.old self.old.endings.items desk.new self.new.endings.items }
         ensures desk { IsSameDesk desk.old desk.new }
         ensures bag { OnOk result (bag_of desk.new ≡ without_handle Owner root.block root.place (bag_of desk.old)) }
         ensures held { OnOk result (desk.new.held + 1 ≡ desk.old.held) }

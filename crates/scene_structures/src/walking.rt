@@ -4,13 +4,14 @@ ghost use Rattle.control_word.specs.declared.event.Event.{Event};
 ghost use Rattle.control_word.specs.declared.event.Event.TheVariants.{Load};
 ghost use Rattle.control_word.specs.declared.handle.Handle.{Handle};
 ghost use Rattle.control_word.specs.declared.handle.Kind.TheVariants.{Owner};
-ghost use Rattle.control_block.specs.Desks.{DeskNow, IsSameDesk, allowance_of, bag_of};
+ghost use Rattle.control_block.specs.Desks.{IsSameDesk, allowance_of, bag_of};
 ghost use Rattle.shared_handle.specs.Calls.{Holds};
-ghost use Rattle.shared_handle.specs.Piles.{Bears, FoldsBack};
+ghost use Rattle.shared_handle.specs.Piles.{Carries, FoldsBack};
 ghost use Rattle.atomic_cells.specs.Sites.{IsOpenWeakly, weak_cell};
 ghost use Rattle.scene_structures.specs.Hands.{HasHands, KeepsHeld, node_in};
 ghost use Rattle.scene_structures.specs.Walks.{HandsVisited, HasLooked, HeldVisited, IsAsked, IsVisit, TellsField};
 ghost use Rattle.scene_structures.specs.Walks.{WalksFrom};
+ghost use Rattle.scene_structures.specs.Others.{KeepsOthers};
 
 use crate::endings::let_go;
 use atomic_cells::{SharedAt, SharedMember, WeakAt};
@@ -28,11 +29,12 @@ fn first_field<V: Drop + Send, R: Wait>(
     owner: &Shared,
     pile: &mut Pile<V>,
 ) -> Option<u64>
-    requires bears { Bears domain.now desk.old pile.old }
+    requires carries { Carries domain.now desk.old pile.old }
     requires empty { pile.old.endings.items ≡ [] }
     requires holds { Holds desk.old Owner owner.now.block owner.now.place }
-    requires room { desk.old.held < allowance_of desk.old }
-    ensures bears { Bears domain.now desk.new pile.new }
+    requires room { desk.old.held + 1 < allowance_of desk.old }
+    ensures carries { Carries domain.now desk.new pile.new }
+    ensures others { KeepsOthers desk.old pile.old.endings.items desk.new pile.new.endings.items }
     ensures none { pile.new.endings.items ≡ [] }
     ensures bag { bag_of desk.new ≡ bag_of desk.old }
     ensures held { desk.new.held ≡ desk.old.held }
@@ -61,11 +63,12 @@ fn ask<V: Drop + Send, R: Wait>(
     up: &WeakAt,
     pile: &mut Pile<V>,
 ) -> Option<u64>
-    requires bears { Bears domain.now desk.old pile.old }
+    requires carries { Carries domain.now desk.old pile.old }
     requires empty { pile.old.endings.items ≡ [] }
     requires cell { IsOpenWeakly desk.old up.now.site }
-    requires room { desk.old.held + 2 < allowance_of desk.old }
-    ensures bears { Bears domain.now desk.new pile.new }
+    requires room { desk.old.held + 3 < allowance_of desk.old }
+    ensures carries { Carries domain.now desk.new pile.new }
+    ensures others { KeepsOthers desk.old pile.old.endings.items desk.new pile.new.endings.items }
     ensures none { pile.new.endings.items ≡ [] }
     ensures bag { bag_of desk.new ≡ bag_of desk.old }
     ensures held { desk.new.held ≡ desk.old.held }
@@ -104,12 +107,13 @@ fn visit<V: Drop + Send, R: Wait>(
     node: Shared,
     pile: &mut Pile<V>,
 ) -> Visited
-    requires bears { Bears domain.now desk.old pile.old }
+    requires carries { Carries domain.now desk.old pile.old }
     requires empty { pile.old.endings.items ≡ [] }
     requires holds { Holds desk.old Owner node.block node.place }
     requires bag { (base : List Handle) × HasHands base (node ∷ []) desk.old }
-    requires room { desk.old.held + 2 < allowance_of desk.old }
-    ensures bears { Bears domain.now desk.new pile.new }
+    requires room { desk.old.held + 3 < allowance_of desk.old }
+    ensures carries { Carries domain.now desk.new pile.new }
+    ensures others { KeepsOthers desk.old pile.old.endings.items desk.new pile.new.endings.items }
     ensures none { pile.new.endings.items ≡ [] }
     ensures desk { IsSameDesk desk.old desk.new }
     ensures bag { (base : List Handle) → HasHands base (node ∷ []) desk.old → HandsVisited base result desk.new }
@@ -144,12 +148,13 @@ pub(crate) fn walk<V: Drop + Send, R: Wait, F: FnMut(u64)>(
     pile: &mut Pile<V>,
     mut tell: F,
 )
-    requires bears { Bears domain.now desk.old pile.old }
+    requires carries { Carries domain.now desk.old pile.old }
     requires empty { pile.old.endings.items ≡ [] }
     requires bag { (base : List Handle) × HasHands base (first ∷ []) desk.old }
-    requires room { desk.old.held + 2 < allowance_of desk.old }
+    requires room { desk.old.held + 3 < allowance_of desk.old }
     requires callable { F.IsAlwaysCallable tell }
-    ensures bears { Bears domain.now desk.new pile.new }
+    ensures carries { Carries domain.now desk.new pile.new }
+    ensures others { KeepsOthers desk.old pile.old.endings.items desk.new pile.new.endings.items }
     ensures none { pile.new.endings.items ≡ [] }
     ensures desk { IsSameDesk desk.old desk.new }
     ensures bag { (base : List Handle) → HasHands base (first ∷ []) desk.old → HasHands base [] desk.new }

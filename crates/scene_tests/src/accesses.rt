@@ -1,16 +1,14 @@
 //! Accesses whose memory is refused and which are sought once more, and what a domain with an access takes of memory.
 //! `tests/refuse_allocations` runs the first with each allocation refused in turn, and compares how many allocations
 //! other tests ask for, whose calls take no memory, with those that only open and close.
-ghost use Rattle.std.specs.Prelude.{◌≡◌, [], IfSome};
-ghost use Rattle.control_word.specs.declared.handle.Kind.TheVariants.{Owner};
-ghost use Rattle.control_block.specs.Desks.{Belongs, IsSameDesk, allowance_of, endings_of};
-ghost use Rattle.shared_handle.specs.Calls.{Holds};
+ghost use Rattle.std.specs.Prelude.{◌≡◌, IfSome};
+ghost use Rattle.control_block.specs.Desks.{Belongs, IsSameDesk, allowance_of};
 ghost use Rattle.scene_structures.specs.Stacks.{Serves, StandsIn};
 
 use crate::detached::detach;
 use crate::observing::{attach, subject, told};
 use crate::parents::{Told, parent_of};
-use crate::parts::{opened, pop, push, shut, spend};
+use crate::parts::{opened, pile_in, pop, push, shut, spend};
 use control_block::desk::Desk;
 use control_block::domain::Domain;
 use control_word::{Refusal, Refused};
@@ -23,7 +21,7 @@ use std::test::Fail;
 // A domain of two blocks with its first desk, sought twice.
 fn domain_sought(alloc: Global) -> Option<(Domain<u64>, Desk<u64>)>
     ensures desk { IfSome result
-        (λ r. Belongs r.1 r.0 × (endings_of r.1 ≡ 0) × (allowance_of r.1 ≡ r.0.shape.allowance)) }
+        (λ r. Belongs r.1 r.0 × (allowance_of r.1 ≡ r.0.shape.allowance)) }
     ensures shape { IfSome result (λ r. r.0.shape.shared_cells ≡ 2) }
 {
     match opened(alloc, 2, 8) {
@@ -34,11 +32,11 @@ fn domain_sought(alloc: Global) -> Option<(Domain<u64>, Desk<u64>)>
 
 // A pile, sought twice.
 fn pile_sought(alloc: Global, domain: &Domain<u64>) -> Option<Pile<u64>>
-    ensures serves { IfSome result (λ p. Serves domain.now p × (p.endings.items ≡ [])) }
+    ensures serves { IfSome result (λ p. Serves domain.now p) }
 {
-    match Pile::new(alloc, domain) {
-        Ok(pile) => Some(pile),
-        Err(_) => Pile::new(alloc, domain).ok(),
+    match pile_in(alloc, domain) {
+        Some(pile) => Some(pile),
+        None => pile_in(alloc, domain),
     }
 }
 
@@ -66,7 +64,7 @@ fn observers_sought(alloc: Global, domain: &Domain<u64>) -> Option<Observers<u64
 
 // A scene, sought twice.
 fn scene_sought(alloc: Global, domain: &Domain<u64>) -> Option<Scene<u64>>
-    ensures serves { IfSome result (λ s. Serves domain.now s × (s.endings.items ≡ [])) }
+    ensures serves { IfSome result (λ s. Serves domain.now s) }
 {
     match Scene::new(alloc, domain) {
         Ok(scene) => Some(scene),
@@ -83,8 +81,6 @@ fn stacked<R: Wait>(
 ) -> Option<u64>
     requires domain { Belongs desk.old domain.now }
     requires cells { domain.now.shape.shared_cells ≡ 2 }
-    requires settled { endings_of desk.old ≡ 0 }
-    ensures settled { endings_of desk.new ≡ 0 }
     ensures desk { IsSameDesk desk.old desk.new }
 {
     let mut stack = stack_sought(alloc, domain)?;
@@ -108,8 +104,6 @@ fn observed<R: Wait>(
 ) -> Option<u64>
     requires domain { Belongs desk.old domain.now }
     requires cells { domain.now.shape.shared_cells ≡ 2 }
-    requires settled { endings_of desk.old ≡ 0 }
-    ensures settled { endings_of desk.new ≡ 0 }
     ensures desk { IsSameDesk desk.old desk.new }
 {
     let mut observers = observers_sought(alloc, domain)?;
@@ -140,12 +134,8 @@ fn goes_out<R: Wait>(
     pile: &mut Pile<u64>,
 ) -> Option<(Told, Told)>
     requires domain { Belongs desk.old domain.now }
-    requires scene { Serves domain.now scene.old × (scene.old.endings.items ≡ []) }
-    requires pile { Serves domain.now pile.old × (pile.old.endings.items ≡ []) }
-    requires settled { endings_of desk.old ≡ 0 }
-    ensures scene { scene.new.endings.items ≡ [] }
-    ensures pile { pile.new.endings.items ≡ [] }
-    ensures settled { endings_of desk.new ≡ 0 }
+    requires scene { Serves domain.now scene.old }
+    requires pile { Serves domain.now pile.old }
     ensures desk { IsSameDesk desk.old desk.new }
 {
     let root = subject(domain, desk, 1)?;
@@ -174,8 +164,6 @@ fn grown<R: Wait>(
     desk: &mut Desk<u64>,
 ) -> Option<(Told, Told)>
     requires domain { Belongs desk.old domain.now }
-    requires settled { endings_of desk.old ≡ 0 }
-    ensures settled { endings_of desk.new ≡ 0 }
     ensures desk { IsSameDesk desk.old desk.new }
 {
     let mut scene = scene_sought(alloc, domain)?;

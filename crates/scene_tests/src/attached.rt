@@ -1,18 +1,18 @@
 //! Four threads that attach observers to one living subject.
-ghost use Rattle.std.specs.Prelude.{◌≡◌, ◌+◌, ◌≤◌, IfSome, length};
+ghost use Rattle.std.specs.Prelude.{◌≡◌, ◌+◌};
 ghost use Rattle.control_word.specs.declared.handle.Kind.TheVariants.{Owner};
-ghost use Rattle.control_block.specs.Desks.{Belongs, IsSameDesk, bag_of, endings_of, stock_of};
+ghost use Rattle.control_block.specs.Desks.{Belongs, IsSameDesk, bag_of};
 ghost use Rattle.shared_handle.specs.Calls.{Holds};
 ghost use Rattle.scene_structures.specs.Stacks.{StandsIn};
 
 use crate::crowd::{NONE, Tally, Task, four};
 use crate::observing::{attach, subject};
-use crate::parts::{opened, put_aside, shut, spend};
+use crate::parts::{opened, pile_in, put_aside, shut, spend};
 use atomic_cells::SharedAt;
 use control_block::desk::Desk;
 use control_block::domain::Domain;
 use scene_structures::Observers;
-use shared_handle::{Pile, Shared};
+use shared_handle::Shared;
 use std::alloc::Global;
 use std::sync::Wait;
 use std::test::Fail;
@@ -28,9 +28,7 @@ fn attach_to<R: Wait>(
 ) -> u64
     requires domain { Belongs desk.old domain.now }
     requires stands { StandsIn observers.old domain.now }
-    requires settled { endings_of desk.old ≡ 0 }
     requires holds { Holds desk.old Owner subject.now.block subject.now.place }
-    ensures settled { endings_of desk.new ≡ 0 }
     ensures desk { IsSameDesk desk.old desk.new }
     ensures bag { bag_of desk.new ≡ bag_of desk.old }
     ensures held { desk.new.held ≡ desk.old.held }
@@ -53,14 +51,12 @@ pub(crate) fn attach_all<R: Wait>(
 ) -> Tally
     requires domain { Belongs desk.old domain.now }
     requires cells { domain.now.shape.shared_cells ≡ 2 }
-    requires settled { endings_of desk.old ≡ 0 }
-    ensures settled { endings_of desk.new ≡ 0 }
     ensures desk { IsSameDesk desk.old desk.new }
 {
     let Ok(mut observers) = Observers::new(alloc, domain, 0) else {
         return NONE;
     };
-    let Ok(mut pile) = Pile::new(alloc, domain) else {
+    let Some(mut pile) = pile_in(alloc, domain) else {
         observers.close();
         return NONE;
     };
@@ -81,7 +77,6 @@ pub(crate) fn attach_all<R: Wait>(
 fn tell_all<R: Wait>(rt: &R, alloc: Global, domain: &Domain<u64>, desk: &mut Desk<u64>) -> Tally
     requires domain { Belongs desk.old domain.now }
     requires cells { domain.now.shape.shared_cells ≡ 2 }
-    requires settled { endings_of desk.old ≡ 0 }
     ensures desk { IsSameDesk desk.old desk.new }
 {
     let Ok(mut observers) = Observers::new(alloc, domain, 0) else {
@@ -110,11 +105,9 @@ fn put_subject_aside<R: Wait>(
 ) -> Option<()>
     requires domain { Belongs desk.old domain.now }
     requires cells { domain.now.shape.shared_cells ≡ 2 }
-    requires settled { endings_of desk.old ≡ 0 }
-    ensures settled { endings_of desk.new ≡ 0 }
     ensures desk { IsSameDesk desk.old desk.new }
 {
-    let Ok(mut pile) = Pile::new(alloc, domain) else {
+    let Some(mut pile) = pile_in(alloc, domain) else {
         return None;
     };
     let aside = match subject(domain, desk, 7) {

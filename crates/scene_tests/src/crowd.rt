@@ -1,11 +1,11 @@
 //! Four threads, each with a desk of its own, that share a stack or observers.
-ghost use Rattle.std.specs.Prelude.{◌≡◌, ◌+◌, ◌<◌, ◌≤◌, [], IfSome, MatchOption, length};
+ghost use Rattle.std.specs.Prelude.{◌≡◌, ◌+◌, ◌<◌, ◌≤◌, IfSome, MatchOption, length};
 ghost use denote.Param.Send.{IsSync};
-ghost use Rattle.control_block.specs.Desks.{Belongs, IsSameDesk, allowance_of, endings_of, stock_of};
+ghost use Rattle.control_block.specs.Desks.{Belongs, IsSameDesk, allowance_of, stock_of};
 ghost use Rattle.scene_structures.specs.Stacks.{Serves, StandsIn};
 
 use crate::attached::attach_all;
-use crate::parts::{opened, pop, push, shut};
+use crate::parts::{opened, pile_in, pop, push, shut};
 use control_block::desk::Desk;
 use control_block::domain::Domain;
 use control_word::Refused;
@@ -52,9 +52,7 @@ fn push_all<R: Wait>(
 )
     requires domain { Belongs desk.old domain.now }
     requires stands { StandsIn stack.old domain.now }
-    requires settled { endings_of desk.old ≡ 0 }
     ensures stands { StandsIn stack.new domain.now }
-    ensures settled { endings_of desk.new ≡ 0 }
     ensures desk { IsSameDesk desk.old desk.new }
 {
     for number in 0..250u64 {
@@ -73,10 +71,6 @@ fn pop_all<R: Wait>(
     requires domain { Belongs desk.old domain.now }
     requires stands { StandsIn stack.old domain.now }
     requires serves { Serves domain.now pile.old }
-    requires empty { pile.old.endings.items ≡ [] }
-    requires settled { endings_of desk.old ≡ 0 }
-    ensures empty { pile.new.endings.items ≡ [] }
-    ensures settled { endings_of desk.new ≡ 0 }
     ensures desk { IsSameDesk desk.old desk.new }
 {
     let mut all = NONE;
@@ -102,14 +96,12 @@ fn push_and_pop<R: Wait>(
 ) -> Tally
     requires domain { Belongs desk.old domain.now }
     requires cell { 0 < domain.now.shape.shared_cells }
-    requires settled { endings_of desk.old ≡ 0 }
-    ensures settled { endings_of desk.new ≡ 0 }
     ensures desk { IsSameDesk desk.old desk.new }
 {
     let Ok(mut stack) = Stack::new(alloc, domain, 0) else {
         return NONE;
     };
-    let Ok(mut pile) = Pile::new(alloc, domain) else {
+    let Some(mut pile) = pile_in(alloc, domain) else {
         stack.close();
         return NONE;
     };
@@ -131,8 +123,6 @@ fn work<R: Wait>(
 ) -> Tally
     requires domain { Belongs desk.old domain.now }
     requires cells { domain.now.shape.shared_cells ≡ 2 }
-    requires settled { endings_of desk.old ≡ 0 }
-    ensures settled { endings_of desk.new ≡ 0 }
     ensures desk { IsSameDesk desk.old desk.new }
 {
     match task {
@@ -153,8 +143,6 @@ fn both<R: Threads + Wait + Sync>(
 ) -> Tally
     requires domain { Belongs one.old domain.now × Belongs two.old domain.now }
     requires cells { domain.now.shape.shared_cells ≡ 2 }
-    requires settled { (endings_of one.old ≡ 0) × (endings_of two.old ≡ 0) }
-    ensures settled { (endings_of one.new ≡ 0) × (endings_of two.new ≡ 0) }
     ensures one { IsSameDesk one.old one.new }
     ensures two { IsSameDesk two.old two.new }
 {
@@ -176,10 +164,9 @@ fn part(
 ) -> Option<Desk<u64>>
     requires domain { Belongs desk.old domain.now }
     requires blocks { blocks ≤ length (stock_of desk.old) }
-    requires settled { endings_of desk.old ≡ 0 }
     ensures one { (desk.new.domain ≡ desk.old.domain) × (desk.new.shape ≡ desk.old.shape)
-        × (desk.new.name ≡ desk.old.name) × (endings_of desk.new ≡ 0) }
-    ensures two { IfSome result (λ r. Belongs r domain.now × (endings_of r ≡ 0)) }
+        × (desk.new.name ≡ desk.old.name) }
+    ensures two { IfSome result (λ r. Belongs r domain.now) }
     ensures sum { MatchOption result (allowance_of desk.new ≡ allowance_of desk.old)
         (λ r. allowance_of desk.new + allowance_of r ≡ allowance_of desk.old) }
     ensures stock { IfSome result (λ r. (length (stock_of r) ≡ blocks)
@@ -209,9 +196,7 @@ fn pair<R: Threads + Wait + Sync>(
 ) -> Tally
     requires domain { Belongs one.old domain.now }
     requires cells { domain.now.shape.shared_cells ≡ 2 }
-    requires settled { endings_of one.old ≡ 0 }
     requires stock { 250 ≤ length (stock_of one.old) }
-    ensures settled { endings_of one.new ≡ 0 }
     ensures one { IsSameDesk one.old one.new }
 {
     let Some(mut two) = part(alloc, domain, one, 8, 250) else {
@@ -233,9 +218,7 @@ fn both_pairs<R: Threads + Wait + Sync>(
 ) -> Tally
     requires domain { Belongs one.old domain.now × Belongs two.old domain.now }
     requires cells { domain.now.shape.shared_cells ≡ 2 }
-    requires settled { (endings_of one.old ≡ 0) × (endings_of two.old ≡ 0) }
     requires stock { (250 ≤ length (stock_of one.old)) × (250 ≤ length (stock_of two.old)) }
-    ensures settled { (endings_of one.new ≡ 0) × (endings_of two.new ≡ 0) }
     ensures one { IsSameDesk one.old one.new }
     ensures two { IsSameDesk two.old two.new }
 {
@@ -243,13 +226,13 @@ fn both_pairs<R: Threads + Wait + Sync>(
         rt,
         &mut || -> Tally
             requires { IsSync R.row × Belongs one.now domain.now × (domain.now.shape.shared_cells ≡ 2)
-                × (endings_of one.now ≡ 0) × (250 ≤ length (stock_of one.now)) }
-            ensures { IsSameDesk one.entry.now one.exit.now × (endings_of one.exit.now ≡ 0) }
+                × (250 ≤ length (stock_of one.now)) }
+            ensures { IsSameDesk one.entry.now one.exit.now }
         { pair(rt, alloc, domain, task, 0, one) },
         &mut || -> Tally
             requires { IsSync R.row × Belongs two.now domain.now × (domain.now.shape.shared_cells ≡ 2)
-                × (endings_of two.now ≡ 0) × (250 ≤ length (stock_of two.now)) }
-            ensures { IsSameDesk two.entry.now two.exit.now × (endings_of two.exit.now ≡ 0) }
+                × (250 ≤ length (stock_of two.now)) }
+            ensures { IsSameDesk two.entry.now two.exit.now }
         { pair(rt, alloc, domain, task, 500, two) },
     );
     a.and(b)
@@ -265,8 +248,6 @@ pub(crate) fn four<R: Threads + Wait + Sync>(
 ) -> Tally
     requires domain { Belongs one.old domain.now }
     requires cells { domain.now.shape.shared_cells ≡ 2 }
-    requires settled { endings_of one.old ≡ 0 }
-    ensures settled { endings_of one.new ≡ 0 }
     ensures one { IsSameDesk one.old one.new }
 {
     if one.stock() < 1000 {

@@ -1,13 +1,13 @@
 //! Children that are taken out of a scene tree.
-ghost use Rattle.std.specs.Prelude.{◌≡◌, []};
+ghost use Rattle.std.specs.Prelude.{◌≡◌};
 ghost use Rattle.control_word.specs.declared.handle.Kind.TheVariants.{Owner};
-ghost use Rattle.control_block.specs.Desks.{Belongs, IsSameDesk, bag_of, endings_of};
+ghost use Rattle.control_block.specs.Desks.{Belongs, IsSameDesk, bag_of};
 ghost use Rattle.shared_handle.specs.Calls.{Holds};
 ghost use Rattle.scene_structures.specs.Stacks.{Serves};
 
 use crate::observing::subject;
 use crate::parents::{Told, parent_of};
-use crate::parts::{opened, shut, spend};
+use crate::parts::{opened, pile_in, shut, spend};
 use crate::teardowns::{grow, tear_down};
 use control_block::desk::Desk;
 use control_block::domain::Domain;
@@ -27,11 +27,9 @@ pub(crate) fn detach<R: Wait>(
     node: &Shared,
 ) -> Option<Refusal>
     requires domain { Belongs desk.old domain.now }
-    requires scene { Serves domain.now scene.old × (scene.old.endings.items ≡ []) }
-    requires settled { endings_of desk.old ≡ 0 }
+    requires scene { Serves domain.now scene.old }
     requires holds { Holds desk.old Owner node.now.block node.now.place }
-    ensures scene { Serves domain.now scene.new × (scene.new.endings.items ≡ []) }
-    ensures settled { endings_of desk.new ≡ 0 }
+    ensures scene { Serves domain.now scene.new }
     ensures desk { IsSameDesk desk.old desk.new }
     ensures bag { bag_of desk.new ≡ bag_of desk.old }
     ensures held { desk.new.held ≡ desk.old.held }
@@ -56,14 +54,12 @@ fn take_out<R: Wait>(
     pile: &mut Pile<u64>,
 ) -> Taken
     requires domain { Belongs desk.old domain.now }
-    requires scene { Serves domain.now scene.old × (scene.old.endings.items ≡ []) }
-    requires pile { Serves domain.now pile.old × (pile.old.endings.items ≡ []) }
-    requires settled { endings_of desk.old ≡ 0 }
+    requires scene { Serves domain.now scene.old }
+    requires pile { Serves domain.now pile.old }
     requires root { Holds desk.old Owner root.now.block root.now.place }
     requires child { Holds desk.old Owner child.now.block child.now.place }
-    ensures scene { Serves domain.now scene.new × (scene.new.endings.items ≡ []) }
-    ensures pile { Serves domain.now pile.new × (pile.new.endings.items ≡ []) }
-    ensures settled { endings_of desk.new ≡ 0 }
+    ensures scene { Serves domain.now scene.new }
+    ensures pile { Serves domain.now pile.new }
     ensures desk { IsSameDesk desk.old desk.new }
     ensures bag { bag_of desk.new ≡ bag_of desk.old }
     ensures held { desk.new.held ≡ desk.old.held }
@@ -87,13 +83,11 @@ fn grow_where<R: Wait>(
     pile: &mut Pile<u64>,
 )
     requires domain { Belongs desk.old domain.now }
-    requires scene { Serves domain.now scene.old × (scene.old.endings.items ≡ []) }
-    requires pile { Serves domain.now pile.old × (pile.old.endings.items ≡ []) }
-    requires settled { endings_of desk.old ≡ 0 }
+    requires scene { Serves domain.now scene.old }
+    requires pile { Serves domain.now pile.old }
     requires holds { Holds desk.old Owner parent.now.block parent.now.place }
-    ensures scene { Serves domain.now scene.new × (scene.new.endings.items ≡ []) }
-    ensures pile { Serves domain.now pile.new × (pile.new.endings.items ≡ []) }
-    ensures settled { endings_of desk.new ≡ 0 }
+    ensures scene { Serves domain.now scene.new }
+    ensures pile { Serves domain.now pile.new }
     ensures desk { IsSameDesk desk.old desk.new }
     ensures bag { bag_of desk.new ≡ bag_of desk.old }
     ensures held { desk.new.held ≡ desk.old.held }
@@ -114,11 +108,8 @@ fn family<R: Wait>(
     pile: &mut Pile<u64>,
 ) -> Option<(Taken, Left)>
     requires domain { Belongs desk.old domain.now }
-    requires scene { Serves domain.now scene.old × (scene.old.endings.items ≡ []) }
-    requires pile { Serves domain.now pile.old × (pile.old.endings.items ≡ []) }
-    requires settled { endings_of desk.old ≡ 0 }
-    ensures scene { scene.new.endings.items ≡ [] }
-    ensures pile { pile.new.endings.items ≡ [] }
+    requires scene { Serves domain.now scene.old }
+    requires pile { Serves domain.now pile.old }
     ensures desk { IsSameDesk desk.old desk.new }
 {
     let root = subject(domain, desk, 1)?;
@@ -155,7 +146,7 @@ fn family_alone<R: Wait>(
         shut(domain, desk);
         return None;
     };
-    let Ok(mut pile) = Pile::new(alloc, &domain) else {
+    let Some(mut pile) = pile_in(alloc, &domain) else {
         scene.close();
         shut(domain, desk);
         return None;

@@ -1,13 +1,13 @@
 //! A root with three children, torn down with all of them, or while one of them is owned elsewhere too.
-ghost use Rattle.std.specs.Prelude.{◌≡◌, []};
+ghost use Rattle.std.specs.Prelude.{◌≡◌};
 ghost use Rattle.control_word.specs.declared.handle.Kind.TheVariants.{Owner};
-ghost use Rattle.control_block.specs.Desks.{Belongs, IsSameDesk, bag_of, endings_of};
+ghost use Rattle.control_block.specs.Desks.{Belongs, IsSameDesk, bag_of};
 ghost use Rattle.shared_handle.specs.Calls.{Holds};
 ghost use Rattle.scene_structures.specs.Stacks.{Serves};
 
 use crate::observing::subject;
 use crate::parents::{Told, parent_of};
-use crate::parts::{opened, shut, spend};
+use crate::parts::{opened, pile_in, shut, spend};
 use crate::teardowns::tear_down;
 use control_block::desk::Desk;
 use control_block::domain::Domain;
@@ -33,13 +33,11 @@ fn parent_of_new<R: Wait>(
     pile: &mut Pile<u64>,
 ) -> Told
     requires domain { Belongs desk.old domain.now }
-    requires scene { Serves domain.now scene.old × (scene.old.endings.items ≡ []) }
-    requires pile { Serves domain.now pile.old × (pile.old.endings.items ≡ []) }
-    requires settled { endings_of desk.old ≡ 0 }
+    requires scene { Serves domain.now scene.old }
+    requires pile { Serves domain.now pile.old }
     requires holds { Holds desk.old Owner parent.now.block parent.now.place }
-    ensures scene { Serves domain.now scene.new × (scene.new.endings.items ≡ []) }
-    ensures pile { Serves domain.now pile.new × (pile.new.endings.items ≡ []) }
-    ensures settled { endings_of desk.new ≡ 0 }
+    ensures scene { Serves domain.now scene.new }
+    ensures pile { Serves domain.now pile.new }
     ensures desk { IsSameDesk desk.old desk.new }
     ensures bag { bag_of desk.new ≡ bag_of desk.old }
     ensures held { desk.new.held ≡ desk.old.held }
@@ -68,11 +66,8 @@ fn family<R: Wait>(
     pile: &mut Pile<u64>,
 ) -> Option<Seen>
     requires domain { Belongs desk.old domain.now }
-    requires scene { Serves domain.now scene.old × (scene.old.endings.items ≡ []) }
-    requires pile { Serves domain.now pile.old × (pile.old.endings.items ≡ []) }
-    requires settled { endings_of desk.old ≡ 0 }
-    ensures scene { scene.new.endings.items ≡ [] }
-    ensures pile { pile.new.endings.items ≡ [] }
+    requires scene { Serves domain.now scene.old }
+    requires pile { Serves domain.now pile.old }
     ensures desk { IsSameDesk desk.old desk.new }
 {
     let root = subject(domain, desk, 1)?;
@@ -109,7 +104,7 @@ fn family_alone<R: Wait>(rt: &R, alloc: Global, keep: bool) -> Option<Seen> {
         shut(domain, desk);
         return None;
     };
-    let Ok(mut pile) = Pile::new(alloc, &domain) else {
+    let Some(mut pile) = pile_in(alloc, &domain) else {
         scene.close();
         shut(domain, desk);
         return None;

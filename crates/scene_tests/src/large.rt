@@ -1,12 +1,12 @@
 //! Trees of all blocks, torn down: one that is a single path, and one of a root and its children.
-ghost use Rattle.std.specs.Prelude.{◌≡◌, ◌+◌, []};
+ghost use Rattle.std.specs.Prelude.{◌≡◌};
 ghost use Rattle.control_word.specs.declared.handle.Kind.TheVariants.{Owner};
-ghost use Rattle.control_block.specs.Desks.{Belongs, IsSameDesk, bag_of, endings_of};
+ghost use Rattle.control_block.specs.Desks.{Belongs, IsSameDesk};
 ghost use Rattle.shared_handle.specs.Calls.{Holds};
 ghost use Rattle.scene_structures.specs.Stacks.{Serves};
 
 use crate::observing::subject;
-use crate::parts::{opened, put_aside, shut, spend};
+use crate::parts::{opened, pile_in, put_aside, shut, spend};
 use crate::teardowns::{grow, tear_down};
 use atomic_cells::SharedAt;
 use control_block::desk::Desk;
@@ -31,13 +31,11 @@ fn deepen<R: Wait>(
     pile: &mut Pile<u64>,
 ) -> Shared
     requires domain { Belongs desk.old domain.now }
-    requires scene { Serves domain.now scene.old × (scene.old.endings.items ≡ []) }
-    requires pile { Serves domain.now pile.old × (pile.old.endings.items ≡ []) }
-    requires settled { endings_of desk.old ≡ 0 }
+    requires scene { Serves domain.now scene.old }
+    requires pile { Serves domain.now pile.old }
     requires holds { Holds desk.old Owner node.block node.place }
-    ensures scene { Serves domain.now scene.new × (scene.new.endings.items ≡ []) }
-    ensures pile { Serves domain.now pile.new × (pile.new.endings.items ≡ []) }
-    ensures settled { endings_of desk.new ≡ 0 }
+    ensures scene { Serves domain.now scene.new }
+    ensures pile { Serves domain.now pile.new }
     ensures desk { IsSameDesk desk.old desk.new }
     ensures holds { Holds desk.new Owner result.block result.place }
 {
@@ -63,13 +61,11 @@ fn path<R: Wait>(
     pile: &mut Pile<u64>,
 )
     requires domain { Belongs desk.old domain.now }
-    requires scene { Serves domain.now scene.old × (scene.old.endings.items ≡ []) }
-    requires pile { Serves domain.now pile.old × (pile.old.endings.items ≡ []) }
-    requires settled { endings_of desk.old ≡ 0 }
+    requires scene { Serves domain.now scene.old }
+    requires pile { Serves domain.now pile.old }
     requires holds { Holds desk.old Owner root.block root.place }
-    ensures scene { Serves domain.now scene.new × (scene.new.endings.items ≡ []) }
-    ensures pile { Serves domain.now pile.new × (pile.new.endings.items ≡ []) }
-    ensures settled { endings_of desk.new ≡ 0 }
+    ensures scene { Serves domain.now scene.new }
+    ensures pile { Serves domain.now pile.new }
     ensures desk { IsSameDesk desk.old desk.new }
 {
     let mut node = root;
@@ -90,11 +86,8 @@ fn fell_path<R: Wait>(
 ) -> Option<Vec<u64>>
     requires domain { Belongs desk.old domain.now }
     requires cells { domain.now.shape.shared_cells ≡ 2 }
-    requires scene { Serves domain.now scene.old × (scene.old.endings.items ≡ []) }
-    requires pile { Serves domain.now pile.old × (pile.old.endings.items ≡ []) }
-    requires settled { endings_of desk.old ≡ 0 }
-    ensures scene { scene.new.endings.items ≡ [] }
-    ensures pile { pile.new.endings.items ≡ [] }
+    requires scene { Serves domain.now scene.old }
+    requires pile { Serves domain.now pile.old }
     ensures desk { IsSameDesk desk.old desk.new }
 {
     let root = subject(domain, desk, 0)?;
@@ -121,11 +114,8 @@ fn fell_children<R: Wait>(
     pile: &mut Pile<u64>,
 ) -> Option<Vec<u64>>
     requires domain { Belongs desk.old domain.now }
-    requires scene { Serves domain.now scene.old × (scene.old.endings.items ≡ []) }
-    requires pile { Serves domain.now pile.old × (pile.old.endings.items ≡ []) }
-    requires settled { endings_of desk.old ≡ 0 }
-    ensures scene { scene.new.endings.items ≡ [] }
-    ensures pile { pile.new.endings.items ≡ [] }
+    requires scene { Serves domain.now scene.old }
+    requires pile { Serves domain.now pile.old }
     ensures desk { IsSameDesk desk.old desk.new }
 {
     let root = subject(domain, desk, 0)?;
@@ -150,7 +140,7 @@ fn felled<R: Wait>(rt: &R, alloc: Global, is_path: bool) -> Option<(Option<Vec<u
         shut(domain, desk);
         return None;
     };
-    let Ok(mut pile) = Pile::new(alloc, &domain) else {
+    let Some(mut pile) = pile_in(alloc, &domain) else {
         scene.close();
         shut(domain, desk);
         return None;

@@ -1,13 +1,10 @@
 //! Growths that are refused. `tests/refuse_allocations` runs this with each allocation refused in turn.
-ghost use Rattle.std.specs.Prelude.{◌≡◌, []};
-ghost use Rattle.control_word.specs.declared.handle.Kind.TheVariants.{Owner};
-ghost use Rattle.control_block.specs.Desks.{Belongs, IsSameDesk, endings_of};
-ghost use Rattle.shared_handle.specs.Calls.{Holds};
+ghost use Rattle.control_block.specs.Desks.{Belongs, IsSameDesk};
 ghost use Rattle.scene_structures.specs.Stacks.{Serves};
 
 use crate::observing::subject;
-use crate::parts::{opened, shut, spend};
-use crate::teardowns::{grow, settled};
+use crate::parts::{opened, pile_in, shut, spend};
+use crate::teardowns::grow;
 use control_block::desk::Desk;
 use control_block::domain::Domain;
 use control_word::{Refusal, Refused};
@@ -35,18 +32,14 @@ fn fell<R: Wait>(
     pile: &mut Pile<u64>,
 ) -> Option<Came>
     requires domain { Belongs desk.old domain.now }
-    requires scene { Serves domain.now scene.old × (scene.old.endings.items ≡ []) }
-    requires pile { Serves domain.now pile.old × (pile.old.endings.items ≡ []) }
-    requires settled { endings_of desk.old ≡ 0 }
-    ensures scene { scene.new.endings.items ≡ [] }
-    ensures pile { pile.new.endings.items ≡ [] }
+    requires scene { Serves domain.now scene.old }
+    requires pile { Serves domain.now pile.old }
     ensures desk { IsSameDesk desk.old desk.new }
 {
     let root = subject(domain, desk, 1)?;
     grow(rt, domain, desk, scene, &root, 2, pile);
     match scene.teardown(alloc, domain, desk, root) {
         Ok(values) => {
-            settled(rt, scene);
             let told = values.iter().fold(
                 0u64,
                 |all, value| all.wrapping_mul(10).wrapping_add(*value),
@@ -71,7 +64,7 @@ fn fell_alone<R: Wait>(rt: &R, alloc: Global) -> Option<(Option<Came>, u32)> {
         shut(domain, desk);
         return None;
     };
-    let Ok(mut pile) = Pile::new(alloc, &domain) else {
+    let Some(mut pile) = pile_in(alloc, &domain) else {
         scene.close();
         shut(domain, desk);
         return None;

@@ -1,11 +1,11 @@
 //! Observers that are attached and told of, and refused.
-ghost use Rattle.std.specs.Prelude.{◌≡◌, ◌+◌, [], IfNone, IfSome};
+ghost use Rattle.std.specs.Prelude.{◌≡◌, ◌+◌, IfNone, IfSome};
 ghost use Rattle.control_word.specs.declared.handle.Kind.TheVariants.{Owner};
-ghost use Rattle.control_block.specs.Desks.{Belongs, IsSameDesk, bag_of, endings_of};
+ghost use Rattle.control_block.specs.Desks.{Belongs, IsSameDesk, bag_of};
 ghost use Rattle.shared_handle.specs.Calls.{Holds, with_handle};
 ghost use Rattle.scene_structures.specs.Stacks.{Serves, StandsIn};
 
-use crate::parts::{opened, shut, spend};
+use crate::parts::{opened, pile_in, shut, spend};
 use control_block::desk::Desk;
 use control_block::domain::Domain;
 use control_word::{Refusal, Refused};
@@ -25,10 +25,8 @@ pub(crate) fn attach<R: Wait>(
 ) -> Option<(Refusal, u64)>
     requires domain { Belongs desk.old domain.now }
     requires stands { StandsIn observers.old domain.now }
-    requires settled { endings_of desk.old ≡ 0 }
     requires holds { Holds desk.old Owner subject.now.block subject.now.place }
     ensures stands { StandsIn observers.new domain.now }
-    ensures settled { endings_of desk.new ≡ 0 }
     ensures desk { IsSameDesk desk.old desk.new }
     ensures bag { bag_of desk.new ≡ bag_of desk.old }
     ensures held { desk.new.held ≡ desk.old.held }
@@ -51,9 +49,7 @@ pub(crate) fn told<R: Wait>(
 ) -> Option<u64>
     requires domain { Belongs desk.old domain.now }
     requires stands { StandsIn observers.old domain.now }
-    requires settled { endings_of desk.old ≡ 0 }
     ensures stands { StandsIn observers.new domain.now }
-    ensures settled { endings_of desk.new ≡ 0 }
     ensures desk { IsSameDesk desk.old desk.new }
     ensures bag { bag_of desk.new ≡ bag_of desk.old }
     ensures held { desk.new.held ≡ desk.old.held }
@@ -71,8 +67,6 @@ pub(crate) fn told<R: Wait>(
 // A subject with this field.
 pub(crate) fn subject(domain: &Domain<u64>, desk: &mut Desk<u64>, field: u64) -> Option<Shared>
     requires domain { Belongs desk.old domain.now }
-    requires settled { endings_of desk.old ≡ 0 }
-    ensures settled { endings_of desk.new ≡ 0 }
     ensures desk { IsSameDesk desk.old desk.new }
     ensures bag { IfSome result (λ h. bag_of desk.new ≡ with_handle Owner h.block h.place (bag_of desk.old)) }
     ensures holds { IfSome result (λ h. Holds desk.new Owner h.block h.place) }
@@ -107,9 +101,6 @@ fn twice<R: Wait>(
     requires domain { Belongs desk.old domain.now }
     requires stands { StandsIn observers.old domain.now }
     requires serves { Serves domain.now pile.old }
-    requires settled { endings_of desk.old ≡ 0 }
-    requires empty { pile.old.endings.items ≡ [] }
-    ensures empty { pile.new.endings.items ≡ [] }
     ensures desk { IsSameDesk desk.old desk.new }
 {
     let subject = subject(domain, desk, 10)?;
@@ -128,7 +119,7 @@ fn twice_within<R: Wait>(rt: &R, alloc: Global, allowance: u32) -> Option<Seen> 
         shut(domain, desk);
         return None;
     };
-    let Ok(mut pile) = Pile::new(alloc, &domain) else {
+    let Some(mut pile) = pile_in(alloc, &domain) else {
         observers.close();
         shut(domain, desk);
         return None;

@@ -1,12 +1,12 @@
 //! Parents of nodes in a scene tree.
-ghost use Rattle.std.specs.Prelude.{◌≡◌, []};
+ghost use Rattle.std.specs.Prelude.{◌≡◌};
 ghost use Rattle.control_word.specs.declared.handle.Kind.TheVariants.{Owner};
-ghost use Rattle.control_block.specs.Desks.{Belongs, IsSameDesk, bag_of, endings_of};
+ghost use Rattle.control_block.specs.Desks.{Belongs, IsSameDesk, bag_of};
 ghost use Rattle.shared_handle.specs.Calls.{Holds};
 ghost use Rattle.scene_structures.specs.Stacks.{Serves};
 
 use crate::observing::subject;
-use crate::parts::{opened, shut, spend};
+use crate::parts::{opened, pile_in, shut, spend};
 use control_block::desk::Desk;
 use control_block::domain::Domain;
 use control_word::{Refusal, Refused};
@@ -34,11 +34,9 @@ pub(crate) fn parent_of<R: Wait>(
     pile: &mut Pile<u64>,
 ) -> Told
     requires domain { Belongs desk.old domain.now }
-    requires pile { Serves domain.now pile.old × (pile.old.endings.items ≡ []) }
-    requires settled { endings_of desk.old ≡ 0 }
+    requires pile { Serves domain.now pile.old }
     requires holds { Holds desk.old Owner node.now.block node.now.place }
-    ensures pile { Serves domain.now pile.new × (pile.new.endings.items ≡ []) }
-    ensures settled { endings_of desk.new ≡ 0 }
+    ensures pile { Serves domain.now pile.new }
     ensures desk { IsSameDesk desk.old desk.new }
     ensures bag { bag_of desk.new ≡ bag_of desk.old }
     ensures held { desk.new.held ≡ desk.old.held }
@@ -65,11 +63,8 @@ fn generations<R: Wait>(
     pile: &mut Pile<u64>,
 ) -> Option<(Told, Told, Told)>
     requires domain { Belongs desk.old domain.now }
-    requires scene { Serves domain.now scene.old × (scene.old.endings.items ≡ []) }
-    requires pile { Serves domain.now pile.old × (pile.old.endings.items ≡ []) }
-    requires settled { endings_of desk.old ≡ 0 }
-    ensures scene { scene.new.endings.items ≡ [] }
-    ensures pile { pile.new.endings.items ≡ [] }
+    requires scene { Serves domain.now scene.old }
+    requires pile { Serves domain.now pile.old }
     ensures desk { IsSameDesk desk.old desk.new }
 {
     let root = subject(domain, desk, 10)?;
@@ -101,7 +96,7 @@ fn generations_within<R: Wait>(
         shut(domain, desk);
         return None;
     };
-    let Ok(mut pile) = Pile::new(alloc, &domain) else {
+    let Some(mut pile) = pile_in(alloc, &domain) else {
         scene.close();
         shut(domain, desk);
         return None;

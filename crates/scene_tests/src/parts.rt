@@ -1,8 +1,8 @@
 //! What the tests have in common: domains, owners that leave, and calls on a stack.
-ghost use Rattle.std.specs.Prelude.{◌≡◌, ◌+◌, [], IfSome, MatchOption, Some, length};
+ghost use Rattle.std.specs.Prelude.{◌≡◌, ◌+◌, IfSome, Some, length};
 ghost use Rattle.control_word.specs.declared.handle.Kind.TheVariants.{Owner};
-ghost use Rattle.control_block.specs.Desks.{Belongs, IsSameDesk, allowance_of, bag_of, endings_of, stock_of};
-ghost use Rattle.shared_handle.specs.Calls.{Holds, with_handle, without_handle};
+ghost use Rattle.control_block.specs.Desks.{Belongs, IsSameDesk, allowance_of, bag_of, stock_of};
+ghost use Rattle.shared_handle.specs.Calls.{Holds, without_handle};
 ghost use Rattle.scene_structures.specs.Stacks.{Serves, StandsIn};
 
 use crate::shapes::shape;
@@ -19,7 +19,7 @@ use std::sync::Wait;
 // A domain and its first desk, if there is memory.
 pub(crate) fn opened(alloc: Global, blocks: u32, allowance: u32) -> Option<(Domain<u64>, Desk<u64>)>
     ensures desk { IfSome result
-        (λ r. Belongs r.1 r.0 × (endings_of r.1 ≡ 0) × (allowance_of r.1 ≡ r.0.shape.allowance)) }
+        (λ r. Belongs r.1 r.0 × (allowance_of r.1 ≡ r.0.shape.allowance)) }
     ensures shape { IfSome result (λ r. r.0.shape.shared_cells ≡ 2) }
 {
     match open::<u64>(alloc, shape(blocks, allowance)) {
@@ -41,6 +41,16 @@ pub(crate) fn shut(domain: Domain<u64>, desk: Desk<u64>) -> u32
     stock
 }
 
+// A pile of the domain's, if there is memory.
+pub(crate) fn pile_in(alloc: Global, domain: &Domain<u64>) -> Option<Pile<u64>>
+    ensures { IfSome result (λ p. Serves domain.now p) }
+{
+    match Pile::new(alloc, domain) {
+        Ok(pile) => Some(pile),
+        Err(_) => None,
+    }
+}
+
 // An owner leaves, with all that ends by that.
 pub(crate) fn spend<R: Wait>(
     rt: &R,
@@ -51,11 +61,8 @@ pub(crate) fn spend<R: Wait>(
 )
     requires domain { Belongs desk.old domain.now }
     requires serves { Serves domain.now pile.old }
-    requires settled { endings_of desk.old ≡ 0 }
     requires holds { Holds desk.old Owner owner.block owner.place }
     ensures serves { Serves domain.now pile.new }
-    ensures empty { pile.new.endings.items ≡ [] }
-    ensures settled { endings_of desk.new ≡ 0 }
     ensures desk { IsSameDesk desk.old desk.new }
     ensures bag { bag_of desk.new ≡ without_handle Owner owner.block owner.place (bag_of desk.old) }
     ensures held { desk.new.held + 1 ≡ desk.old.held }
@@ -68,9 +75,7 @@ pub(crate) fn spend<R: Wait>(
 pub(crate) fn put_aside(domain: &Domain<u64>, desk: &mut Desk<u64>, handle: Shared) -> Shared
     requires domain { Belongs desk.old domain.now }
     requires cell { domain.now.shape.shared_cells ≡ 2 }
-    requires settled { endings_of desk.old ≡ 0 }
     requires holds { Holds desk.old Owner handle.block handle.place }
-    ensures settled { endings_of desk.new ≡ 0 }
     ensures desk { IsSameDesk desk.old desk.new }
     ensures holds { Holds desk.new Owner result.block result.place }
     ensures stock { length (stock_of desk.new) ≡ length (stock_of desk.old) }
@@ -88,9 +93,7 @@ pub(crate) fn push<R: Wait>(
 ) -> bool
     requires domain { Belongs desk.old domain.now }
     requires stands { StandsIn stack.old domain.now }
-    requires settled { endings_of desk.old ≡ 0 }
     ensures stands { StandsIn stack.new domain.now }
-    ensures settled { endings_of desk.new ≡ 0 }
     ensures desk { IsSameDesk desk.old desk.new }
 {
     match stack.push(rt, domain, desk, [field, 0, 0, 0], field) {
@@ -113,12 +116,8 @@ pub(crate) fn pop<R: Wait>(
     requires domain { Belongs desk.old domain.now }
     requires stands { StandsIn stack.old domain.now }
     requires serves { Serves domain.now pile.old }
-    requires empty { pile.old.endings.items ≡ [] }
-    requires settled { endings_of desk.old ≡ 0 }
     ensures stands { StandsIn stack.new domain.now }
     ensures serves { Serves domain.now pile.new }
-    ensures empty { pile.new.endings.items ≡ [] }
-    ensures settled { endings_of desk.new ≡ 0 }
     ensures desk { IsSameDesk desk.old desk.new }
 {
     match stack.pop(rt, domain, desk) {

@@ -1,13 +1,13 @@
 //! Nodes whose subject has ended go out of the observers.
-ghost use Rattle.std.specs.Prelude.{◌≡◌, []};
+ghost use Rattle.std.specs.Prelude.{◌≡◌};
 ghost use Rattle.control_word.specs.declared.handle.Kind.TheVariants.{Owner};
-ghost use Rattle.control_block.specs.Desks.{Belongs, IsSameDesk, bag_of, endings_of};
+ghost use Rattle.control_block.specs.Desks.{Belongs, IsSameDesk, bag_of};
 ghost use Rattle.control_block.specs.Own.{IsSole};
 ghost use Rattle.shared_handle.specs.Calls.{Holds};
 ghost use Rattle.scene_structures.specs.Stacks.{Serves, StandsIn};
 
 use crate::observing::{attach, subject, told};
-use crate::parts::{opened, shut, spend};
+use crate::parts::{opened, pile_in, shut, spend};
 use control_block::desk::Desk;
 use control_block::domain::Domain;
 use control_word::Refusal;
@@ -29,10 +29,8 @@ fn prune<R: Wait>(
 ) -> Seen
     requires domain { Belongs desk.old domain.now }
     requires stands { StandsIn observers.old domain.now }
-    requires settled { endings_of desk.old ≡ 0 }
     requires sole { IsSole desk.old }
     ensures stands { StandsIn observers.new domain.now }
-    ensures settled { endings_of desk.new ≡ 0 }
     ensures desk { IsSameDesk desk.old desk.new }
     ensures bag { bag_of desk.new ≡ bag_of desk.old }
     ensures held { desk.new.held ≡ desk.old.held }
@@ -57,14 +55,12 @@ fn with_twenty<R: Wait>(
 ) -> Option<Prunes>
     requires domain { Belongs desk.old domain.now }
     requires stands { StandsIn observers.old domain.now }
-    requires pile { Serves domain.now pile.old × (pile.old.endings.items ≡ []) }
-    requires settled { endings_of desk.old ≡ 0 }
+    requires pile { Serves domain.now pile.old }
     requires sole { IsSole desk.old }
     requires ten { Holds desk.old Owner ten.now.block ten.now.place }
     requires thirty { Holds desk.old Owner thirty.now.block thirty.now.place }
     ensures stands { StandsIn observers.new domain.now }
-    ensures pile { Serves domain.now pile.new × (pile.new.endings.items ≡ []) }
-    ensures settled { endings_of desk.new ≡ 0 }
+    ensures pile { Serves domain.now pile.new }
     ensures desk { IsSameDesk desk.old desk.new }
     ensures bag { bag_of desk.new ≡ bag_of desk.old }
     ensures held { desk.new.held ≡ desk.old.held }
@@ -91,13 +87,11 @@ fn with_thirty<R: Wait>(
 ) -> Option<Prunes>
     requires domain { Belongs desk.old domain.now }
     requires stands { StandsIn observers.old domain.now }
-    requires pile { Serves domain.now pile.old × (pile.old.endings.items ≡ []) }
-    requires settled { endings_of desk.old ≡ 0 }
+    requires pile { Serves domain.now pile.old }
     requires sole { IsSole desk.old }
     requires ten { Holds desk.old Owner ten.now.block ten.now.place }
     ensures stands { StandsIn observers.new domain.now }
-    ensures pile { Serves domain.now pile.new × (pile.new.endings.items ≡ []) }
-    ensures settled { endings_of desk.new ≡ 0 }
+    ensures pile { Serves domain.now pile.new }
     ensures desk { IsSameDesk desk.old desk.new }
     ensures bag { bag_of desk.new ≡ bag_of desk.old }
     ensures held { desk.new.held ≡ desk.old.held }
@@ -118,10 +112,8 @@ fn three<R: Wait>(
 ) -> Option<Prunes>
     requires domain { Belongs desk.old domain.now }
     requires stands { StandsIn observers.old domain.now }
-    requires pile { Serves domain.now pile.old × (pile.old.endings.items ≡ []) }
-    requires settled { endings_of desk.old ≡ 0 }
+    requires pile { Serves domain.now pile.old }
     requires sole { IsSole desk.old }
-    ensures pile { pile.new.endings.items ≡ [] }
     ensures desk { IsSameDesk desk.old desk.new }
 {
     let ten = subject(domain, desk, 10)?;
@@ -137,7 +129,7 @@ fn three_within<R: Wait>(rt: &R, alloc: Global, allowance: u32) -> Option<Prunes
         shut(domain, desk);
         return None;
     };
-    let Ok(mut pile) = Pile::new(alloc, &domain) else {
+    let Some(mut pile) = pile_in(alloc, &domain) else {
         observers.close();
         shut(domain, desk);
         return None;

@@ -1,11 +1,11 @@
 //! A stack's refusals, at 6 free handles, at 5, and without a vacant block; and what a node's `next` owns.
-ghost use Rattle.std.specs.Prelude.{◌≡◌, ◌+◌, []};
+ghost use Rattle.std.specs.Prelude.{◌≡◌};
 ghost use Rattle.control_word.specs.declared.handle.Kind.TheVariants.{Owner};
-ghost use Rattle.control_block.specs.Desks.{Belongs, IsSameDesk, bag_of, endings_of};
+ghost use Rattle.control_block.specs.Desks.{Belongs, IsSameDesk, bag_of};
 ghost use Rattle.shared_handle.specs.Calls.{Holds};
 ghost use Rattle.scene_structures.specs.Stacks.{Serves, StandsIn};
 
-use crate::parts::{opened, pop, push, shut, spend};
+use crate::parts::{opened, pile_in, pop, push, shut, spend};
 use atomic_cells::{SharedAt, SharedMember};
 use control_block::desk::Desk;
 use control_block::domain::Domain;
@@ -24,9 +24,7 @@ fn why_not<R: Wait>(
 ) -> Option<(Refusal, u64)>
     requires domain { Belongs desk.old domain.now }
     requires stands { StandsIn stack.old domain.now }
-    requires settled { endings_of desk.old ≡ 0 }
     ensures stands { StandsIn stack.new domain.now }
-    ensures settled { endings_of desk.new ≡ 0 }
     ensures desk { IsSameDesk desk.old desk.new }
     ensures bag { bag_of desk.new ≡ bag_of desk.old }
     ensures held { desk.new.held ≡ desk.old.held }
@@ -51,12 +49,8 @@ fn why_no_pop<R: Wait>(
     requires domain { Belongs desk.old domain.now }
     requires stands { StandsIn stack.old domain.now }
     requires serves { Serves domain.now pile.old }
-    requires empty { pile.old.endings.items ≡ [] }
-    requires settled { endings_of desk.old ≡ 0 }
     ensures stands { StandsIn stack.new domain.now }
     ensures serves { Serves domain.now pile.new }
-    ensures empty { pile.new.endings.items ≡ [] }
-    ensures settled { endings_of desk.new ≡ 0 }
     ensures desk { IsSameDesk desk.old desk.new }
     ensures bag { bag_of desk.new ≡ bag_of desk.old }
     ensures held { desk.new.held ≡ desk.old.held }
@@ -86,13 +80,9 @@ fn with_one_more<R: Wait>(
     requires domain { Belongs desk.old domain.now }
     requires stands { StandsIn stack.old domain.now }
     requires serves { Serves domain.now pile.old }
-    requires empty { pile.old.endings.items ≡ [] }
-    requires settled { endings_of desk.old ≡ 0 }
     requires holds { Holds desk.old Owner handle.block handle.place }
     ensures stands { StandsIn stack.new domain.now }
     ensures serves { Serves domain.now pile.new }
-    ensures empty { pile.new.endings.items ≡ [] }
-    ensures settled { endings_of desk.new ≡ 0 }
     ensures desk { IsSameDesk desk.old desk.new }
 {
     let why = why_not(rt, domain, desk, stack);
@@ -112,12 +102,8 @@ fn below<R: Wait>(
 ) -> Option<(u64, u32)>
     requires domain { Belongs desk.old domain.now }
     requires serves { Serves domain.now pile.old }
-    requires empty { pile.old.endings.items ≡ [] }
-    requires settled { endings_of desk.old ≡ 0 }
     requires holds { Holds desk.old Owner node.now.block node.now.place }
     ensures serves { Serves domain.now pile.new }
-    ensures empty { pile.new.endings.items ≡ [] }
-    ensures settled { endings_of desk.new ≡ 0 }
     ensures desk { IsSameDesk desk.old desk.new }
     ensures bag { bag_of desk.new ≡ bag_of desk.old }
     ensures held { desk.new.held ≡ desk.old.held }
@@ -145,9 +131,6 @@ fn popped<R: Wait>(
     requires domain { Belongs desk.old domain.now }
     requires stands { StandsIn stack.old domain.now }
     requires serves { Serves domain.now pile.old }
-    requires empty { pile.old.endings.items ≡ [] }
-    requires settled { endings_of desk.old ≡ 0 }
-    ensures empty { pile.new.endings.items ≡ [] }
     ensures desk { IsSameDesk desk.old desk.new }
 {
     push(rt, domain, desk, stack, 1);
@@ -174,9 +157,6 @@ fn refused<R: Wait>(
     requires domain { Belongs desk.old domain.now }
     requires stands { StandsIn stack.old domain.now }
     requires serves { Serves domain.now pile.old }
-    requires empty { pile.old.endings.items ≡ [] }
-    requires settled { endings_of desk.old ≡ 0 }
-    ensures empty { pile.new.endings.items ≡ [] }
     ensures desk { IsSameDesk desk.old desk.new }
 {
     push(rt, domain, desk, stack, 7);
@@ -194,7 +174,7 @@ fn the_popped_node_owns_the_next_one(rt: HostRuntime) -> Result<(), Fail> {
         shut(domain, desk);
         return Err(Fail::new("memory"));
     };
-    let Ok(mut pile) = Pile::new(rt.alloc(), &domain) else {
+    let Some(mut pile) = pile_in(rt.alloc(), &domain) else {
         stack.close();
         shut(domain, desk);
         return Err(Fail::new("memory"));
@@ -214,7 +194,7 @@ fn six_handles_must_be_free(rt: HostRuntime) -> Result<(), Fail> {
         shut(domain, desk);
         return Err(Fail::new("memory"));
     };
-    let Ok(mut pile) = Pile::new(rt.alloc(), &domain) else {
+    let Some(mut pile) = pile_in(rt.alloc(), &domain) else {
         stack.close();
         shut(domain, desk);
         return Err(Fail::new("memory"));

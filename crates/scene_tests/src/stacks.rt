@@ -1,9 +1,8 @@
 //! A stack in one thread.
-ghost use Rattle.std.specs.Prelude.{◌≡◌, []};
-ghost use Rattle.control_block.specs.Desks.{Belongs, IsSameDesk, endings_of};
+ghost use Rattle.control_block.specs.Desks.{Belongs, IsSameDesk};
 ghost use Rattle.scene_structures.specs.Stacks.{Serves, StandsIn};
 
-use crate::parts::{opened, pop, push, shut};
+use crate::parts::{opened, pile_in, pop, push, shut};
 use control_block::desk::Desk;
 use control_block::domain::Domain;
 use scene_structures::Stack;
@@ -22,9 +21,6 @@ fn three<R: Wait>(
     requires domain { Belongs desk.old domain.now }
     requires stands { StandsIn stack.old domain.now }
     requires serves { Serves domain.now pile.old }
-    requires empty { pile.old.endings.items ≡ [] }
-    requires settled { endings_of desk.old ≡ 0 }
-    ensures empty { pile.new.endings.items ≡ [] }
     ensures desk { IsSameDesk desk.old desk.new }
 {
     let one = push(rt, domain, desk, stack, 1);
@@ -47,7 +43,7 @@ fn the_last_comes_first(rt: HostRuntime) -> Result<(), Fail> {
         shut(domain, desk);
         return Err(Fail::new("memory"));
     };
-    let Ok(mut pile) = Pile::new(rt.alloc(), &domain) else {
+    let Some(mut pile) = pile_in(rt.alloc(), &domain) else {
         stack.close();
         shut(domain, desk);
         return Err(Fail::new("memory"));

@@ -1,12 +1,12 @@
 //! Trees that end.
 ghost use Rattle.std.specs.Prelude.{◌≡◌, ◌+◌, []};
 ghost use Rattle.control_word.specs.declared.handle.Kind.TheVariants.{Owner};
-ghost use Rattle.control_block.specs.Desks.{Belongs, IsSameDesk, bag_of, endings_of};
+ghost use Rattle.control_block.specs.Desks.{Belongs, IsSameDesk, bag_of};
 ghost use Rattle.shared_handle.specs.Calls.{Holds, without_handle};
 ghost use Rattle.scene_structures.specs.Stacks.{Serves};
 
 use crate::observing::subject;
-use crate::parts::{opened, shut, spend};
+use crate::parts::{opened, pile_in, shut, spend};
 use control_block::desk::Desk;
 use control_block::domain::Domain;
 use control_word::Refused;
@@ -27,13 +27,11 @@ pub(crate) fn grow<R: Wait>(
     pile: &mut Pile<u64>,
 ) -> bool
     requires domain { Belongs desk.old domain.now }
-    requires scene { Serves domain.now scene.old × (scene.old.endings.items ≡ []) }
-    requires pile { Serves domain.now pile.old × (pile.old.endings.items ≡ []) }
-    requires settled { endings_of desk.old ≡ 0 }
+    requires scene { Serves domain.now scene.old }
+    requires pile { Serves domain.now pile.old }
     requires holds { Holds desk.old Owner parent.now.block parent.now.place }
-    ensures scene { Serves domain.now scene.new × (scene.new.endings.items ≡ []) }
-    ensures pile { Serves domain.now pile.new × (pile.new.endings.items ≡ []) }
-    ensures settled { endings_of desk.new ≡ 0 }
+    ensures scene { Serves domain.now scene.new }
+    ensures pile { Serves domain.now pile.new }
     ensures desk { IsSameDesk desk.old desk.new }
     ensures bag { bag_of desk.new ≡ bag_of desk.old }
     ensures held { desk.new.held ≡ desk.old.held }
@@ -73,13 +71,10 @@ pub(crate) fn tear_down<R: Wait>(
     pile: &mut Pile<u64>,
 ) -> Option<Vec<u64>>
     requires domain { Belongs desk.old domain.now }
-    requires scene { Serves domain.now scene.old × (scene.old.endings.items ≡ []) }
-    requires pile { Serves domain.now pile.old × (pile.old.endings.items ≡ []) }
-    requires settled { endings_of desk.old ≡ 0 }
+    requires scene { Serves domain.now scene.old }
+    requires pile { Serves domain.now pile.old }
     requires holds { Holds desk.old Owner root.block root.place }
-    ensures scene { scene.new.endings.items ≡ [] }
-    ensures pile { Serves domain.now pile.new × (pile.new.endings.items ≡ []) }
-    ensures settled { endings_of desk.new ≡ 0 }
+    ensures pile { Serves domain.now pile.new }
     ensures desk { IsSameDesk desk.old desk.new }
     ensures bag { bag_of desk.new ≡ without_handle Owner root.block root.place (bag_of desk.old) }
     ensures held { desk.new.held + 1 ≡ desk.old.held }
@@ -107,11 +102,8 @@ fn fell<R: Wait>(
     pile: &mut Pile<u64>,
 ) -> Option<Vec<u64>>
     requires domain { Belongs desk.old domain.now }
-    requires scene { Serves domain.now scene.old × (scene.old.endings.items ≡ []) }
-    requires pile { Serves domain.now pile.old × (pile.old.endings.items ≡ []) }
-    requires settled { endings_of desk.old ≡ 0 }
-    ensures scene { scene.new.endings.items ≡ [] }
-    ensures pile { pile.new.endings.items ≡ [] }
+    requires scene { Serves domain.now scene.old }
+    requires pile { Serves domain.now pile.old }
     ensures desk { IsSameDesk desk.old desk.new }
 {
     let root = subject(domain, desk, 1)?;
@@ -138,7 +130,7 @@ fn fell_alone<R: Wait>(rt: &R, alloc: Global) -> Option<(Option<Vec<u64>>, u32)>
         shut(domain, desk);
         return None;
     };
-    let Ok(mut pile) = Pile::new(alloc, &domain) else {
+    let Some(mut pile) = pile_in(alloc, &domain) else {
         scene.close();
         shut(domain, desk);
         return None;

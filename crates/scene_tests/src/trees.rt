@@ -1,12 +1,12 @@
 //! Children in a scene tree.
-ghost use Rattle.std.specs.Prelude.{◌≡◌, []};
+ghost use Rattle.std.specs.Prelude.{◌≡◌};
 ghost use Rattle.control_word.specs.declared.handle.Kind.TheVariants.{Owner};
-ghost use Rattle.control_block.specs.Desks.{Belongs, IsSameDesk, bag_of, endings_of};
+ghost use Rattle.control_block.specs.Desks.{Belongs, IsSameDesk, bag_of};
 ghost use Rattle.shared_handle.specs.Calls.{Holds};
 ghost use Rattle.scene_structures.specs.Stacks.{Serves};
 
 use crate::observing::subject;
-use crate::parts::{opened, shut, spend};
+use crate::parts::{opened, pile_in, shut, spend};
 use control_block::desk::Desk;
 use control_block::domain::Domain;
 use control_word::{Refusal, Refused};
@@ -26,13 +26,11 @@ pub(crate) fn adopt<R: Wait>(
     pile: &mut Pile<u64>,
 ) -> Option<(Refusal, u64)>
     requires domain { Belongs desk.old domain.now }
-    requires scene { Serves domain.now scene.old × (scene.old.endings.items ≡ []) }
-    requires pile { Serves domain.now pile.old × (pile.old.endings.items ≡ []) }
-    requires settled { endings_of desk.old ≡ 0 }
+    requires scene { Serves domain.now scene.old }
+    requires pile { Serves domain.now pile.old }
     requires holds { Holds desk.old Owner parent.now.block parent.now.place }
-    ensures scene { Serves domain.now scene.new × (scene.new.endings.items ≡ []) }
-    ensures pile { Serves domain.now pile.new × (pile.new.endings.items ≡ []) }
-    ensures settled { endings_of desk.new ≡ 0 }
+    ensures scene { Serves domain.now scene.new }
+    ensures pile { Serves domain.now pile.new }
     ensures desk { IsSameDesk desk.old desk.new }
     ensures bag { bag_of desk.new ≡ bag_of desk.old }
     ensures held { desk.new.held ≡ desk.old.held }
@@ -58,11 +56,8 @@ fn twice<R: Wait>(
     pile: &mut Pile<u64>,
 ) -> Option<(Option<(Refusal, u64)>, Option<(Refusal, u64)>)>
     requires domain { Belongs desk.old domain.now }
-    requires scene { Serves domain.now scene.old × (scene.old.endings.items ≡ []) }
-    requires pile { Serves domain.now pile.old × (pile.old.endings.items ≡ []) }
-    requires settled { endings_of desk.old ≡ 0 }
-    ensures scene { scene.new.endings.items ≡ [] }
-    ensures pile { pile.new.endings.items ≡ [] }
+    requires scene { Serves domain.now scene.old }
+    requires pile { Serves domain.now pile.old }
     ensures desk { IsSameDesk desk.old desk.new }
 {
     let parent = subject(domain, desk, 1)?;
@@ -83,7 +78,7 @@ fn twice_within<R: Wait>(
         shut(domain, desk);
         return None;
     };
-    let Ok(mut pile) = Pile::new(alloc, &domain) else {
+    let Some(mut pile) = pile_in(alloc, &domain) else {
         scene.close();
         shut(domain, desk);
         return None;

@@ -1,6 +1,5 @@
-use Rattle.std.proofs.Common.{◌≡◌}
 use Rattle.control_word.specs.declared.handle.Kind.TheVariants.{Owner}
-use Rattle.control_block.specs.Desks.{IsSameDesk, endings_of}
+use Rattle.control_block.specs.Desks.{IsSameDesk}
 use Rattle.shared_handle.specs.Calls.{Holds}
 use Rattle.scene_structures.specs.Stacks.{StandsIn}
 use Rattle.measure.proofs.scene_walks.attach_all.Given as goal
@@ -8,7 +7,6 @@ use Rattle.measure.proofs.scene_walks.attach_all.Given as goal
 abbrev pub invariant-loop : goal.invariant-loop
 invariant-loop g l = record {
   stands : StandsIn l.observers l.domain;
-  settled : endings_of l.desk ≡ 0;
   same : IsSameDesk l.initial.desk l.desk;
   holds : Holds l.desk Owner l.subject.block l.subject.place;
 }

@@ -10,12 +10,14 @@ use Rattle.scene_structures.specs.Puts.{PutsOnly, nowhere}
 use Rattle.scene_structures.proofs.Adopting.{these_node}
 use Rattle.scene_structures.proofs.Detached.{sought_later}
 use Rattle.scene_structures.proofs.Sites.{cell_these, open_same, these_both}
+use Rattle.scene_structures.proofs.Others.{others_both, others_none}
 use Rattle.scene_structures.proofs.cutting.cut.Goals as goal
 
 pub loop-init : goal.loop-init
 loop-init g c =
     record {
-      bears = c.requires.bears;
+      carries = c.requires.carries;
+      others = others_none c.args.desk.now c.args.pile.now.endings.items;
       none = c.requires.empty;
       held = refl;
       same = same_desk c.args.desk.now;
@@ -33,7 +35,8 @@ pub loop-preserved : goal.loop-preserved
 loop-preserved g c =
     let i = c.loop.invariant in let d = c.args.desk.now in let l = c.loop.desk in let t = c.try_cut.new.desk in let e = c.in-None-try_cut.ensures in
     record {
-      bears = e.bears;
+      carries = e.carries;
+      others = others_both i.others e.others;
       none = e.none;
       held = e.held ∙ i.held;
       same = same_both d l t i.same e.desk;
@@ -52,3 +55,6 @@ returns-in-Some-try_cut-clause-own g c =
     sought_later d l t (shared_cell d site) (object_of (node_in d node)) s i.tried
     (subst (λ (n : ℕ). IsSought l (shared_cell d site) n s t) number
     (subst (λ (k : Cell). IsSought l k (object_of (node_in l node)) s t) cell c.in-Some-try_cut.ensures.own))
+
+pub returns-in-Some-try_cut-clause-others : goal.returns-in-Some-try_cut-clause-others
+returns-in-Some-try_cut-clause-others g c = others_both c.loop.invariant.others c.try_cut.ensures.others

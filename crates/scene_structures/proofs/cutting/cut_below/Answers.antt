@@ -11,12 +11,14 @@ use Rattle.scene_structures.proofs.Detached.{below_left, below_these, beyond, re
 use Rattle.scene_structures.proofs.Hands.{first_lists, hands_second, lists_under}
 use Rattle.scene_structures.proofs.Pruned.{Left, hands_below, left_holds, open_next}
 use Rattle.scene_structures.proofs.Pushes.{same_left}
+use Rattle.scene_structures.proofs.Others.{others_both, others_none}
 use Rattle.scene_structures.proofs.cutting.cut_below.Goals as goal
 
 pub loop-init : goal.loop-init
 loop-init g c =
     record {
-      bears = c.requires.bears;
+      carries = c.requires.carries;
+      others = others_none c.args.desk.now c.args.pile.now.endings.items;
       none = c.requires.empty;
       held = refl;
       same = same_desk c.args.desk.now;
@@ -106,7 +108,8 @@ loop-preserved g c =
     let left = sought_left l t base before m.result has (m.ensures.bag (stacked (before ∷ []) base) (hands_below l base before has)) m.ensures.held in
     hands_second t e base after before [] (subst (λ (s : Sought). Left base before (beyond s) t) is left) c.let_go.ensures.bag c.let_go.ensures.held in
     record {
-      bears = c.let_go.ensures.bears;
+      carries = c.let_go.ensures.carries;
+      others = others_both i.others (others_both m.ensures.others c.let_go.ensures.others);
       none = c.let_go.ensures.none;
       held = let x : t.held ≡ l.held + 1 = subst (λ (s : Sought). HeldSought l s t) is m.ensures.held in let y = c.let_go.ensures.held in
           let z = i.held in omega arith;
@@ -124,3 +127,9 @@ loop-preserved g c =
                 (subst (λ (n : ℕ). Meets l cell n after t) number found) c.let_go.ensures.own same,
           );
     }
+
+pub returns-in-Cut-clause-others : goal.returns-in-Cut-clause-others
+returns-in-Cut-clause-others g c = others_both c.loop.invariant.others (others_both c.cut-sought.ensures.others c.let_go.ensures.others)
+
+pub returns-in-End-clause-others : goal.returns-in-End-clause-others
+returns-in-End-clause-others g c = others_both c.loop.invariant.others (others_both c.cut-sought.ensures.others c.let_go.ensures.others)

@@ -4,14 +4,16 @@ use Rattle.control_word.specs.declared.event.Cell.{Cell}
 use Rattle.control_word.specs.declared.handle.Handle.{Handle}
 use Rattle.control_block.specs.Desks.{DeskNow, IsSameDesk}
 use Rattle.shared_handle.specs.Endings.{IsWithin}
-use Rattle.shared_handle.specs.Piles.{Bears}
+use Rattle.shared_handle.specs.Piles.{Carries}
+use Rattle.scene_structures.specs.Others.{KeepsOthers}
 use Rattle.scene_structures.specs.Detaches.{Reaches}
 use Rattle.scene_structures.specs.Hands.{HasHands, KeepsThese, node_in}
 use Rattle.scene_structures.proofs.cutting.cut_below.Given as goal
 
 abbrev pub invariant-loop : goal.invariant-loop
 invariant-loop g l = record {
-  bears : Bears l.domain l.desk l.pile;
+  carries : Carries l.domain l.desk l.pile;
+  others : KeepsOthers l.initial.desk l.initial.pile.endings.items l.desk l.pile.endings.items;
   none : l.pile.endings.items ≡ [];
   held : l.desk.held ≡ l.initial.desk.held;
   same : IsSameDesk l.initial.desk l.desk;

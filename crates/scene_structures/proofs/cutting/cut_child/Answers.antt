@@ -6,6 +6,7 @@ use Rattle.scene_structures.specs.Detaches.{Meets, Seeks}
 use Rattle.scene_structures.specs.Hands.{node_in}
 use Rattle.scene_structures.proofs.Adopting.{these_node}
 use Rattle.scene_structures.proofs.Detached.{first_cell}
+use Rattle.scene_structures.proofs.Others.{others_both}
 use Rattle.scene_structures.proofs.cutting.cut_child.Goals as goal
 
 pub returns-in-Other-clause-own : goal.returns-in-Other-clause-own
@@ -17,3 +18,6 @@ returns-in-Other-clause-own g c =
     let meets = subst (λ (n : ℕ). Meets d k n child m) (sym number)
     (subst (λ (j : Cell). Meets d j (object_of (node_in d node)) child m) (first_cell d parent c.in-Ok.first c.in-Ok.ensures) x.own) in
     subst (λ (n : ℕ). (passed : List ℕ) × Seeks d k n passed e.result e.new.desk) number (e.ensures.own d k [] meets)
+
+pub returns-in-Other-clause-others : goal.returns-in-Other-clause-others
+returns-in-Other-clause-others g c = others_both c.cut.ensures.others c.cut_below.ensures.others

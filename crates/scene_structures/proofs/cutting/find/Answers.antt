@@ -5,6 +5,7 @@ use Rattle.scene_structures.proofs.Calls.{got_lists}
 use Rattle.scene_structures.proofs.Hands.{hands_first, hands_got}
 use Rattle.scene_structures.proofs.Looks.{finds_none, looks_first, no_member}
 use Rattle.scene_structures.proofs.Sites.{these_after, these_both, these_over}
+use Rattle.scene_structures.proofs.Others.{others_both, others_call}
 use Rattle.scene_structures.proofs.cutting.find.Goals as goal
 
 pub returns-in_default-member-clause-latest : goal.returns-in_default-member-clause-latest
@@ -23,3 +24,9 @@ returns-in_default-member-clause-own g c =
 pub returns-clause-latest : goal.returns-clause-latest
 returns-clause-latest g c base has =
     let d = c.args.desk.now in these_over d c.load.new.desk base [] (calls_keep_latest d _ c.load.new.desk c.in-Ok.ensures.event) has
+
+pub returns-in_default-member-clause-others : goal.returns-in_default-member-clause-others
+returns-in_default-member-clause-others g c = others_both (others_call _ c.in-Ok.ensures.keeps) c.let_go.ensures.others
+
+pub returns-clause-others : goal.returns-clause-others
+returns-clause-others g c = others_call _ c.in-Ok.ensures.keeps

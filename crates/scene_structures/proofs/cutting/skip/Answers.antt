@@ -14,6 +14,7 @@ use Rattle.scene_structures.proofs.Detached.{missed, skips}
 use Rattle.scene_structures.proofs.Hands.{first_lists, hands_first, hands_given, hands_got, hands_second, holds_first}
 use Rattle.scene_structures.proofs.Pushes.{differs_back, differs_bag, differs_event, differs_held, same_node, swapped_bag, swapped_event, swapped_held}
 use Rattle.scene_structures.proofs.Sites.{cell_these, open_now, these_after, these_both, these_over}
+use Rattle.scene_structures.proofs.Others.{others_both, others_call}
 use Rattle.scene_structures.proofs.cutting.skip.Goals as goal
 
 pub compare_exchange_weak-requires-clause-cell : goal.compare_exchange_weak-requires-clause-cell
@@ -103,3 +104,16 @@ returns-in-Ok-Differs-clause-own g c =
     missed d m u k.new.desk _ _ _ _ _ _ c.in-Ok-load.ensures.event
     (differs_event m u below x.field-0 _ _ _ x.held x.desired x.field-0-is x.ensures.compared)
     (does_both IsParting u f.new.desk k.new.desk (does_both IsParting u e.new.desk f.new.desk e.ensures.own f.ensures.own) k.ensures.own)
+
+pub returns-in-Ok-Swapped-clause-others : goal.returns-in-Ok-Swapped-clause-others
+returns-in-Ok-Swapped-clause-others g c =
+    others_both (others_call _ c.in-Ok-load.ensures.keeps)
+    (others_both (others_call _ c.in-Ok-Swapped.ensures.keeps)
+    (others_both c.let_go.ensures.others c.let_go-in-Ok-Swapped.ensures.others))
+
+pub returns-in-Ok-Differs-clause-others : goal.returns-in-Ok-Differs-clause-others
+returns-in-Ok-Differs-clause-others g c =
+    others_both (others_call _ c.in-Ok-load.ensures.keeps)
+    (others_both (others_call _ c.in-Ok-Differs.ensures.keeps)
+    (others_both c.let_go-in-Ok-Differs.ensures.others
+    (others_both c.let_go-in-Ok-Differs-2.ensures.others c.let_go-in-Ok-Differs-3.ensures.others)))

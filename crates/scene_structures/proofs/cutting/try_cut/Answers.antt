@@ -10,6 +10,7 @@ use Rattle.scene_structures.proofs.Detached.{cuts_node, meets_other}
 use Rattle.scene_structures.proofs.Hands.{first_lists, lists_under}
 use Rattle.scene_structures.proofs.Looks.{legal_after}
 use Rattle.scene_structures.proofs.Sites.{cell_these}
+use Rattle.scene_structures.proofs.Others.{others_both}
 use Rattle.scene_structures.proofs.cutting.try_cut.Goals as goal
 
 pub returns-then-not-is_same-clause-own : goal.returns-then-not-is_same-clause-own
@@ -38,3 +39,9 @@ returns-else-skip-clause-own g c =
     let f = c.in-Some.ensures in
     does_both (PutsOnly nowhere) d m e (does_one (PutsOnly nowhere) d m _ f.own.0 tt)
     (subst (λ (x : Bool). MaySkip m (shared_cell m c.args.at.now.site) (node_in m top) x e) c.if-skip.false c.skip.ensures.own)
+
+pub returns-then-skip-clause-others : goal.returns-then-skip-clause-others
+returns-then-skip-clause-others g c = others_both c.find.ensures.others c.skip.ensures.others
+
+pub returns-else-skip-clause-others : goal.returns-else-skip-clause-others
+returns-else-skip-clause-others g c = others_both c.find.ensures.others c.skip.ensures.others

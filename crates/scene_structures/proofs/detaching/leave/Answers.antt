@@ -9,6 +9,7 @@ use Rattle.scene_structures.proofs.Unlinks.{unlinks_same}
 use Rattle.scene_structures.proofs.Hands.{hands_first, hands_kept, holds_first, lists_first, lists_under}
 use Rattle.scene_structures.proofs.Pruned.{hands_below}
 use Rattle.scene_structures.proofs.Sites.{these_after, these_both}
+use Rattle.scene_structures.proofs.Others.{others_both}
 use Rattle.scene_structures.proofs.detaching.leave.Goals as goal
 
 pub cut_child-went-requires-clause-bag : goal.cut_child-went-requires-clause-bag
@@ -70,3 +71,6 @@ returns-clause-own g c =
           u.ensures.own;
       leaves = c.let_go.ensures.own;
     }
+
+pub returns-clause-others : goal.returns-clause-others
+returns-clause-others g c = others_both c.cut_child-went.ensures.others (others_both c.unlink.ensures.others c.let_go.ensures.others)

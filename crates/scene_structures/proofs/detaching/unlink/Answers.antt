@@ -6,6 +6,7 @@ use Rattle.scene_structures.specs.Hands.{Lists, node_in}
 use Rattle.scene_structures.proofs.Detached.{holds_kept, within_holds}
 use Rattle.scene_structures.proofs.Unlinks.{unlinked_latest, unlinks}
 use Rattle.scene_structures.proofs.Watches.{lists_of}
+use Rattle.scene_structures.proofs.Others.{others_both, others_counted, others_kept, others_none}
 use Rattle.scene_structures.proofs.detaching.unlink.Goals as goal
 
 pub store_next-requires-clause-holds : goal.store_next-requires-clause-holds
@@ -31,3 +32,12 @@ returns-clause-latest g c =
     let w = c.watch in let e = c.store_next in let nothing = c.in-Ok.nothing in
     unlinked_latest c.args.desk.now c.empty.new.desk w.new.desk e.new.desk nothing.block nothing.place c.in-Ok.ensures.counted w.ensures.latest
     e.ensures.latest e.ensures.bag
+
+pub returns-then-not-went-clause-others : goal.returns-then-not-went-clause-others
+returns-then-not-went-clause-others g c = others_none c.args.desk.now c.args.pile.now.endings.items
+
+pub returns-clause-others : goal.returns-clause-others
+returns-clause-others g c =
+    let w = c.watch in
+    others_both (others_counted c.args.desk.now c.empty.new.desk _ _ c.in-Ok.ensures.counted)
+    (others_both (others_kept c.empty.new.desk w.new.desk _ w.ensures.endings w.ensures.count) c.store_next.ensures.others)

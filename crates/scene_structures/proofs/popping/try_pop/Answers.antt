@@ -16,6 +16,7 @@ use Rattle.scene_structures.proofs.Looks.{finds_none, looks_again, no_member, ow
 use Rattle.scene_structures.proofs.Pushes.{differs_back, differs_bag, differs_event, differs_held, same_left, same_node, swapped_bag, swapped_event}
 use Rattle.scene_structures.proofs.Pushes.{swapped_held}
 use Rattle.shared_handle.proofs.Goings.{does_both}
+use Rattle.scene_structures.proofs.Others.{others_both, others_call}
 use Rattle.scene_structures.proofs.popping.try_pop.Goals as goal
 
 pub returns-in_default-clause-own : goal.returns-in_default-clause-own
@@ -82,3 +83,14 @@ returns-in-Ok-Swapped-clause-own g c z l =
       node = three ∙ (two ∙ here);
       takes = takes z d m u f.new.desk (Free c.args.cell) top o q (node_in m b) old true l loads swaps f.ensures.own;
     }
+
+pub returns-in-Ok-Swapped-clause-others : goal.returns-in-Ok-Swapped-clause-others
+returns-in-Ok-Swapped-clause-others g c =
+    others_both (others_call _ c.in-Ok-load.ensures.keeps)
+    (others_both (others_call _ c.in-Ok-Swapped.ensures.keeps) c.let_go-in-Ok-Swapped.ensures.others)
+
+pub returns-in-Ok-Differs-clause-others : goal.returns-in-Ok-Differs-clause-others
+returns-in-Ok-Differs-clause-others g c =
+    others_both (others_call _ c.in-Ok-load.ensures.keeps)
+    (others_both (others_call _ c.in-Ok-Differs.ensures.keeps)
+    (others_both c.let_go-in-Ok-Differs.ensures.others c.let_go-in-Ok-Differs-2.ensures.others))

@@ -8,12 +8,14 @@ use Rattle.scene_structures.specs.Prunes.{Prunes, SameKept}
 use Rattle.scene_structures.proofs.Hands.{first_lists, hands_first, hands_second}
 use Rattle.scene_structures.proofs.Pushes.{same_left}
 use Rattle.scene_structures.proofs.Pruned.{Left, descends, hands_below, left_holds, left_in_hand, open_next}
+use Rattle.scene_structures.proofs.Others.{others_both, others_none}
 use Rattle.scene_structures.proofs.pruning.clear_below.Goals as goal
 
 pub loop-init : goal.loop-init
 loop-init g c =
     record {
-      bears = c.requires.bears;
+      carries = c.requires.carries;
+      others = others_none c.args.desk.now c.args.pile.now.endings.items;
       none = c.requires.empty;
       held = refl;
       same = same_desk c.args.desk.now;
@@ -69,7 +71,8 @@ loop-preserved g c =
     let e = c.let_go.new.desk in
     let after = c.in-Some-last.after in let some' = c.in-Some-last.is in
     record {
-      bears = c.let_go.ensures.bears;
+      carries = c.let_go.ensures.carries;
+      others = others_both i.others (others_both m.ensures.others c.let_go.ensures.others);
       none = c.let_go.ensures.none;
       held = let x : t.held ≡ l.held + 1 = subst (λ (h : Option Shared). MatchOption h (t.held ≡ l.held) (λ k. t.held ≡ l.held + 1)) some'
           m.ensures.held in let y = c.let_go.ensures.held in let z = i.held in omega arith;
@@ -99,3 +102,6 @@ loop-preserved g c =
             ),
           );
     }
+
+pub returns-in-None-last-clause-others : goal.returns-in-None-last-clause-others
+returns-in-None-last-clause-others g c = others_both c.loop.invariant.others (others_both c.clear_front-more.ensures.others c.let_go.ensures.others)

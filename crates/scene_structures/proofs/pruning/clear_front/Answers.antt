@@ -1,10 +1,11 @@
-use Rattle.std.proofs.Common.{◌≡◌, suc, true, subst, arith}
+use Rattle.std.proofs.Common.{◌≡◌, suc, true, refl, subst, arith}
 use Rattle.control_word.specs.Handles.{object_of}
 use Rattle.control_word.specs.declared.event.Cell.{Cell}
-use Rattle.shared_handle.proofs.Piles.{same_both}
+use Rattle.shared_handle.proofs.Piles.{same_both, same_desk}
 use Rattle.scene_structures.specs.Hands.{node_in}
 use Rattle.scene_structures.specs.Prunes.{Finds, Passes}
 use Rattle.scene_structures.proofs.Sites.{cell_these, these_both}
+use Rattle.scene_structures.proofs.Others.{others_both, others_none}
 use Rattle.scene_structures.proofs.pruning.clear_front.Goals as goal
 
 pub loop-preserved : goal.loop-preserved
@@ -15,7 +16,8 @@ loop-preserved g c =
     let same_l = cell_these d l d.shape b.0 site (i.latest b.0 b.1) b.2 in
     let same_f = cell_these d f d.shape b.0 site (these_both d l f b.0 (i.latest b.0 b.1) (t.latest b.0 (i.bag b.0 b.1))) b.2 in
     record {
-      bears = p.bears;
+      carries = p.carries;
+      others = others_both i.others (others_both c.look_in.ensures.others p.others);
       none = p.none;
       held = held;
       same = same_both d l e i.same (same_both l f e t.desk p.desk);
@@ -37,4 +39,23 @@ loop-preserved g c =
           },
         ),
       );
+    }
+
+pub returns-in-End-clause-others : goal.returns-in-End-clause-others
+returns-in-End-clause-others g c = others_both c.loop.invariant.others c.look_in.ensures.others
+
+pub returns-in-Stays-clause-others : goal.returns-in-Stays-clause-others
+returns-in-Stays-clause-others g c = others_both c.loop.invariant.others c.look_in.ensures.others
+
+pub loop-init : goal.loop-init
+loop-init g c =
+    record {
+      carries = c.requires.carries;
+      others = others_none c.args.desk.now c.args.pile.now.endings.items;
+      none = c.requires.empty;
+      held = refl;
+      same = same_desk c.args.desk.now;
+      bag = λ base has. has;
+      latest = λ base has k p b in'. refl;
+      own = (0, refl, refl);
     }

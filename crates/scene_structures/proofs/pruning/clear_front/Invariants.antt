@@ -1,7 +1,8 @@
 use Rattle.std.proofs.Common.{◌≡◌, ℕ, ◌%◌, ◌^◌, [], List}
 use Rattle.control_word.specs.declared.handle.Handle.{Handle}
 use Rattle.control_block.specs.Desks.{IsSameDesk}
-use Rattle.shared_handle.specs.Piles.{Bears}
+use Rattle.shared_handle.specs.Piles.{Carries}
+use Rattle.scene_structures.specs.Others.{KeepsOthers}
 use Rattle.atomic_cells.specs.Sites.{shared_cell}
 use Rattle.scene_structures.specs.Hands.{HasHands, KeepsThese}
 use Rattle.scene_structures.specs.Prunes.{CutsAll}
@@ -9,7 +10,8 @@ use Rattle.scene_structures.proofs.pruning.clear_front.Given as goal
 
 abbrev pub invariant-loop : goal.invariant-loop
 invariant-loop g l = record {
-  bears : Bears l.domain l.desk l.pile;
+  carries : Carries l.domain l.desk l.pile;
+  others : KeepsOthers l.initial.desk l.initial.pile.endings.items l.desk l.pile.endings.items;
   none : l.pile.endings.items ≡ [];
   held : l.desk.held ≡ l.initial.desk.held;
   same : IsSameDesk l.initial.desk l.desk;

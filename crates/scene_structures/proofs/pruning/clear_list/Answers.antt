@@ -4,6 +4,7 @@ use Rattle.control_word.specs.declared.event.Cell.TheVariants.{Free}
 use Rattle.control_block.specs.declared.handles.Shared.{Shared}
 use Rattle.atomic_cells.specs.Sites.{shared_cell}
 use Rattle.scene_structures.specs.Prunes.{Clears}
+use Rattle.scene_structures.proofs.Others.{others_both}
 use Rattle.scene_structures.proofs.pruning.clear_list.Goals as goal
 
 pub returns-in-Some-clause-own : goal.returns-in-Some-clause-own
@@ -14,3 +15,6 @@ returns-in-Some-clause-own g c =
     (subst (λ (o : Option Shared). Clears d (shared_cell d c.free.result.site) a.0 o t) c.in-Some.is a.2) in
     let down = c.clear_below.ensures.own d (Free c.args.cell) [] a.0 clears in
     (a.0 + down.0, let x = a.1 in let y = down.1 in omega arith, down.2)
+
+pub returns-in-Some-clause-others : goal.returns-in-Some-clause-others
+returns-in-Some-clause-others g c = others_both c.clear_front-count.ensures.others c.clear_below.ensures.others

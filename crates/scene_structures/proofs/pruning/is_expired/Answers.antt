@@ -1,14 +1,11 @@
-use Rattle.shared_handle.proofs.Piles.{bears_kept}
+use Rattle.scene_structures.proofs.Watches.{endings_both}
 use Rattle.scene_structures.proofs.Pruned.{asks_latest}
 use Rattle.scene_structures.proofs.pruning.is_expired.Goals as goal
 
-pub returns-clause-bears : goal.returns-clause-bears
-returns-clause-bears g c =
-    let d = c.args.desk.now in let m = c.load.new.desk in let n = c.expired-gone.new.desk in let p = c.args.pile.now in
-    let a = c.in-Ok.ensures.keeps in let b = c.expired-gone.ensures.keeps in let r = c.release_weak.ensures in
-    bears_kept _ n c.release_weak.new.desk p
-    (bears_kept _ m n p (bears_kept _ d m p c.requires.bears a.domain a.shape a.endings a.count) b.domain b.shape b.endings b.count)
-    r.desk.domain r.desk.shape r.endings r.count
+pub returns-clause-endings : goal.returns-clause-endings
+returns-clause-endings g c =
+    let d = c.args.desk.now in let m = c.load.new.desk in let n = c.expired-gone.new.desk in let e = c.release_weak.new.desk in
+    endings_both d n e (endings_both d m n c.in-Ok.ensures.keeps.endings c.expired-gone.ensures.keeps.endings) c.release_weak.ensures.endings
 
 pub returns-clause-latest : goal.returns-clause-latest
 returns-clause-latest g c =

@@ -7,6 +7,7 @@ use Rattle.scene_structures.proofs.Looks.{finds_none, looks_first, no_member}
 use Rattle.scene_structures.proofs.Pruned.{finds}
 use Rattle.scene_structures.proofs.Pushes.{same_left}
 use Rattle.scene_structures.proofs.Sites.{these_after, these_both, these_over}
+use Rattle.scene_structures.proofs.Others.{others_both, others_call, others_kept}
 use Rattle.scene_structures.proofs.pruning.look_in.Goals as goal
 
 pub returns-in_default-member-clause-latest : goal.returns-in_default-member-clause-latest
@@ -51,3 +52,16 @@ returns-clause-own g c =
     let h = hands_kept m e base (top ∷ []) (hands_got d m base top [] c.requires.bag.1 t.bag t.held) x.bag x.held in
     finds d m e (shared_cell d c.args.at.now.site) top c.in-Ok-member.up false t.event c.in-Ok-member.ensures c.if-is_expired.ensures.own
     (same_left m e top x.latest (first_lists e base top [] h))
+
+pub returns-in_default-member-clause-others : goal.returns-in_default-member-clause-others
+returns-in_default-member-clause-others g c = others_both (others_call _ c.in-Ok.ensures.keeps) c.let_go.ensures.others
+
+pub returns-then-is_expired-clause-others : goal.returns-then-is_expired-clause-others
+returns-then-is_expired-clause-others g c =
+    others_both (others_call _ c.in-Ok.ensures.keeps)
+    (others_kept c.load.new.desk c.is_expired.new.desk _ c.is_expired.ensures.endings c.is_expired.ensures.count)
+
+pub returns-clause-others : goal.returns-clause-others
+returns-clause-others g c =
+    others_both (others_call _ c.in-Ok.ensures.keeps)
+    (others_kept c.load.new.desk c.is_expired.new.desk _ c.is_expired.ensures.endings c.is_expired.ensures.count)

@@ -10,6 +10,7 @@ use Rattle.scene_structures.specs.Hands.{node_in}
 use Rattle.scene_structures.proofs.Hands.{hands_first, hands_given, hands_got}
 use Rattle.scene_structures.proofs.Pruned.{passes}
 use Rattle.scene_structures.proofs.Sites.{cell_these, open_now, these_after, these_both, these_over}
+use Rattle.scene_structures.proofs.Others.{others_both, others_call}
 use Rattle.scene_structures.proofs.pruning.pass.Goals as goal
 
 pub exchange-old-requires-clause-cell : goal.exchange-old-requires-clause-cell
@@ -49,3 +50,9 @@ returns-clause-own g c =
     passes d m u e (shared_cell d site) node next old c.in-Ok.member c.in-Ok.ensures t.event
     (subst (λ (k : Cell). Adds m (Swap k (node_in m next) (node_in u old)) u) cell x.event)
     (does_both IsParting u f e c.let_go.ensures.own c.let_go-2.ensures.own)
+
+pub returns-clause-others : goal.returns-clause-others
+returns-clause-others g c =
+    others_both (others_call _ c.in-Ok-load.ensures.keeps)
+    (others_both (others_call _ c.exchange-old.ensures.keeps)
+    (others_both c.let_go.ensures.others c.let_go-2.ensures.others))

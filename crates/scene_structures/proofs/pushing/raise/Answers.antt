@@ -13,13 +13,15 @@ use Rattle.scene_structures.proofs.Pushes.{rises_later}
 use Rattle.scene_structures.proofs.Sites.{cell_these, open_same, these_both}
 use Rattle.shared_handle.proofs.Goings.{does_both, does_none}
 use Rattle.shared_handle.proofs.Piles.{same_both, same_desk}
+use Rattle.scene_structures.proofs.Others.{others_both, others_none}
 use Rattle.scene_structures.proofs.pushing.raise.Goals as goal
 
 pub loop-init : goal.loop-init
 loop-init g c =
     let d = c.args.desk.now in
     record {
-      bears = c.requires.bears;
+      carries = c.requires.carries;
+      others = others_none c.args.desk.now c.args.pile.now.endings.items;
       node = (refl, refl);
       held = refl;
       latest = λ base has k p b in'. refl;
@@ -34,7 +36,8 @@ loop-preserved g c =
     let l = c.loop.desk in let first = c.args.first in let f = t.new.desk in
     let here = ap (node_in l) i.node.0 ∙ i.node.1 in
     record {
-      bears = e.bears;
+      carries = e.carries;
+      others = others_both i.others e.others;
       node = (e.node.0 ∙ i.node.0, subst (λ (n : Shared). SameNode l n f) i.node.0 e.node.1 ∙ i.node.1);
       held = e.held ∙ i.held;
       latest = λ base has. these_both d l f base (i.latest base has) (e.latest base (i.bag base has));
@@ -67,3 +70,6 @@ pub returns-in-None-try_push-clause-latest : goal.returns-in-None-try_push-claus
 returns-in-None-try_push-clause-latest g c base has =
     let i = c.loop.invariant in
     these_both c.args.desk.now c.loop.desk c.try_push.new.desk base (i.latest base has) (c.in-None-try_push.ensures.latest base (i.bag base has))
+
+pub returns-in-None-try_push-clause-others : goal.returns-in-None-try_push-clause-others
+returns-in-None-try_push-clause-others g c = others_both c.loop.invariant.others c.try_push.ensures.others

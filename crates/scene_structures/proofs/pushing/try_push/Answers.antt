@@ -8,7 +8,7 @@ use Rattle.control_block.specs.CellCalls.{handle_in}
 use Rattle.control_block.specs.Desks.{Adds}
 use Rattle.control_block.specs.declared.handles.Shared.{Shared}
 use Rattle.atomic_cells.specs.Sites.{shared_cell}
-use Rattle.shared_handle.proofs.Piles.{bears_kept}
+use Rattle.shared_handle.proofs.Piles.{carries_kept}
 use Rattle.shared_handle.specs.Piles.{IsParting}
 use Rattle.scene_structures.specs.Hands.{HasHands, node_in}
 use Rattle.scene_structures.specs.Stacks.{Fills, NextOf}
@@ -20,15 +20,16 @@ use Rattle.scene_structures.proofs.Hands.{second_lists}
 use Rattle.scene_structures.proofs.Pushes.{differs_back, differs_bag, differs_event, differs_held, rises, swapped_bag, swapped_event, swapped_held}
 use Rattle.scene_structures.proofs.Pushes.{same_left, same_node, shares_does, tries}
 use Rattle.scene_structures.proofs.Sites.{cell_these, open_now, these_after, these_both, these_over}
+use Rattle.scene_structures.proofs.Others.{others_both, others_call}
 use Rattle.scene_structures.proofs.pushing.try_push.Goals as goal
 
 pub share-requires-clause-holds : goal.share-requires-clause-holds
 share-requires-clause-holds g c κs within = let a = c.args.attempt in holds_first c.args.desk.now c.requires.bag.0 a.top (a.node ∷ []) c.requires.bag.1
 
-pub store_next-requires-clause-bears : goal.store_next-requires-clause-bears
-store_next-requires-clause-bears g c κs within =
+pub store_next-requires-clause-carries : goal.store_next-requires-clause-carries
+store_next-requires-clause-carries g c κs within =
     let k = c.in-Ok.ensures.keeps in
-    bears_kept _ c.args.desk.now c.share.new.desk c.args.pile.now c.requires.bears k.domain k.shape k.endings k.count
+    carries_kept _ c.args.desk.now c.share.new.desk c.args.pile.now c.requires.carries k.domain k.shape k.endings
 
 pub store_next-requires-clause-holds : goal.store_next-requires-clause-holds
 store_next-requires-clause-holds g c κs within =
@@ -43,10 +44,10 @@ compare_exchange_weak-requires-clause-holds g c κs within =
     let h' = hands_first s t base c.in-Ok.copy (a.top ∷ a.node ∷ []) h c.store_next.ensures.bag c.store_next.ensures.held in
     (holds_first t base a.top (a.node ∷ []) h', holds_second t base a.top a.node [] h')
 
-pub let_go-requires-clause-bears : goal.let_go-requires-clause-bears
-let_go-requires-clause-bears g c κs within =
+pub let_go-requires-clause-carries : goal.let_go-requires-clause-carries
+let_go-requires-clause-carries g c κs within =
     let k = c.in-Ok-Swapped.ensures.keeps in
-    bears_kept _ c.store_next.new.desk c.compare_exchange_weak.new.desk c.store_next.new.pile c.store_next.ensures.bears k.domain k.shape k.endings k.count
+    carries_kept _ c.store_next.new.desk c.compare_exchange_weak.new.desk c.store_next.new.pile c.store_next.ensures.carries k.domain k.shape k.endings
 
 pub let_go-requires-in-Ok-Swapped-clause-holds : goal.let_go-requires-in-Ok-Swapped-clause-holds
 let_go-requires-in-Ok-Swapped-clause-holds g c κs within =
@@ -59,10 +60,10 @@ let_go-requires-in-Ok-Swapped-clause-holds g c κs within =
     let i = hands_swapped t u base a.top a.node x.old h' bag many in
     holds_first c.let_go.new.desk base a.top [] (hands_first u c.let_go.new.desk base x.old (a.top ∷ []) i c.let_go.ensures.bag c.let_go.ensures.held)
 
-pub let_go-requires-in-Ok-Differs-clause-bears : goal.let_go-requires-in-Ok-Differs-clause-bears
-let_go-requires-in-Ok-Differs-clause-bears g c κs within =
+pub let_go-requires-in-Ok-Differs-clause-carries : goal.let_go-requires-in-Ok-Differs-clause-carries
+let_go-requires-in-Ok-Differs-clause-carries g c κs within =
     let k = c.in-Ok-Differs.ensures.keeps in
-    bears_kept _ c.store_next.new.desk c.compare_exchange_weak.new.desk c.store_next.new.pile c.store_next.ensures.bears k.domain k.shape k.endings k.count
+    carries_kept _ c.store_next.new.desk c.compare_exchange_weak.new.desk c.store_next.new.pile c.store_next.ensures.carries k.domain k.shape k.endings
 
 pub let_go-requires-in-Ok-Differs-clause-holds : goal.let_go-requires-in-Ok-Differs-clause-holds
 let_go-requires-in-Ok-Differs-clause-holds g c κs within =
@@ -195,3 +196,16 @@ returns-in-Ok-Swapped-clause-latest g c base has =
     (calls_keep_latest t _ u (swapped_event t u a.node x.field-0 _ _ _ x.old x.field-0-is x.ensures.compared)) h'))
     (these_both u v l.new.desk base (these_after u v base (a.top ∷ []) c.let_go.ensures.latest j)
     (these_after v l.new.desk base [] l.ensures.latest k))
+
+pub returns-in-Ok-Swapped-clause-others : goal.returns-in-Ok-Swapped-clause-others
+returns-in-Ok-Swapped-clause-others g c =
+    others_both (others_call _ c.in-Ok.ensures.keeps)
+    (others_both c.store_next.ensures.others
+    (others_both (others_call _ c.in-Ok-Swapped.ensures.keeps)
+    (others_both c.let_go.ensures.others c.let_go-in-Ok-Swapped.ensures.others)))
+
+pub returns-in-Ok-Differs-clause-others : goal.returns-in-Ok-Differs-clause-others
+returns-in-Ok-Differs-clause-others g c =
+    others_both (others_call _ c.in-Ok.ensures.keeps)
+    (others_both c.store_next.ensures.others
+    (others_both (others_call _ c.in-Ok-Differs.ensures.keeps) c.let_go-in-Ok-Differs.ensures.others))

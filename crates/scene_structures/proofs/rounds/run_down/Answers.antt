@@ -1,13 +1,15 @@
 use Rattle.std.proofs.Common.{rules, refl, ◌∙◌, arith}
-use Rattle.shared_handle.proofs.Piles.{bears_after, same_both, same_desk}
+use Rattle.shared_handle.proofs.Piles.{same_both, same_desk}
 use Rattle.scene_structures.proofs.RunsDown.{runs_none, runs_on, runs_over}
+use Rattle.scene_structures.proofs.Others.{others_both, others_none, others_round}
 use Rattle.scene_structures.proofs.rounds.run_down.Goals as goal
 
 pub loop-pile-init : goal.loop-pile-init
 loop-pile-init g c =
     let r = c.requires in
     record {
-      bears = r.bears;
+      carries = r.carries;
+      others = others_none c.args.desk.now c.args.pile.now.endings.items;
       bag = refl;
       held = refl;
       same = same_desk c.args.desk.now;
@@ -25,7 +27,9 @@ loop-pile-preserved g c =
     let on = c.is_over.ensures.not (search rules) in
     let blocks = i.blocks in let more = t.few in let few = on.2 in let most = on.1 in
     record {
-      bears = bears_after c.args.domain.now c.loop-pile.desk c.round-round.new.desk c.loop-pile.pile c.round-round.new.self i.bears r.carries r.elsewhere;
+      carries = r.carries;
+      others = others_both i.others
+          (others_round c.loop-pile.desk c.round-round.new.desk _ _ c.round-round.result i.carries.ends r.elsewhere r.round);
       bag = r.bag ∙ i.bag;
       held = r.held ∙ i.held;
       same = same_both c.args.desk.now c.loop-pile.desk c.round-round.new.desk i.same r.desk;

@@ -1,12 +1,14 @@
 use Rattle.std.proofs.Common.{◌≡◌, ◌≤◌, ◌+◌, ◌*◌, ◌-◌, length}
 use Rattle.control_block.specs.Desks.{IsSameDesk, bag_of}
-use Rattle.shared_handle.specs.Piles.{Bears}
+use Rattle.shared_handle.specs.Piles.{Carries}
+use Rattle.scene_structures.specs.Others.{KeepsOthers}
 use Rattle.scene_structures.specs.Teardowns.{HasRoom, Runs, empty_slots}
 use Rattle.scene_structures.proofs.rounds.run_down.Given as goal
 
 abbrev pub invariant-loop-pile : goal.invariant-loop-pile
 invariant-loop-pile g l = record {
-  bears : Bears l.domain l.desk l.pile;
+  carries : Carries l.domain l.desk l.pile;
+  others : KeepsOthers l.initial.desk l.initial.pile.endings.items l.desk l.pile.endings.items;
   bag : bag_of l.desk ≡ bag_of l.initial.desk;
   held : l.desk.held ≡ l.initial.desk.held;
   same : IsSameDesk l.initial.desk l.desk;

@@ -8,6 +8,7 @@ use Rattle.control_block.specs.Desks.{bag_of}
 use Rattle.shared_handle.specs.Calls.{Holds, IsOfThis, Shares}
 use Rattle.scene_structures.specs.Walks.{TellsField}
 use Rattle.scene_structures.proofs.Walks.{tells, told_latest}
+use Rattle.scene_structures.proofs.Others.{others_both, others_call, others_none}
 use Rattle.scene_structures.proofs.walking.first_field.Goals as goal
 
 pub returns-clause-latest : goal.returns-clause-latest
@@ -33,3 +34,11 @@ returns-clause-own g c =
     (tells d m n e b p c.in-Ok-read.told r.0 (subst (λ (k : Option Block). Shares d k p (place_at b.0) m) is event)
     (subst (λ (k : Option Block). Holds d Owner k p) is c.requires.holds) (sym same ∙ (sym a.handle.1 ∙ r.1))
     (sym is ∙ (sym a.handle.0 ∙ r.2)) r.3 c.let_go.ensures.own)
+
+pub returns-in_default-clause-others : goal.returns-in_default-clause-others
+returns-in_default-clause-others g c = others_none c.args.desk.now c.args.pile.now.endings.items
+
+pub returns-clause-others : goal.returns-clause-others
+returns-clause-others g c =
+    others_both (others_call _ c.in-Ok.ensures.keeps)
+    (others_both (others_call _ c.in-Ok-read.ensures.keeps) c.let_go.ensures.others)

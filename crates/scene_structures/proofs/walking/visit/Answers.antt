@@ -3,6 +3,7 @@ use Rattle.scene_structures.proofs.Hands.{first_lists, hands_got, hands_kept, ha
 use Rattle.scene_structures.proofs.Looks.{no_member, within_held}
 use Rattle.scene_structures.proofs.Pushes.{same_left}
 use Rattle.scene_structures.proofs.Walks.{visits}
+use Rattle.scene_structures.proofs.Others.{others_both, others_call}
 use Rattle.scene_structures.proofs.walking.visit.Goals as goal
 
 pub returns-in_default-clause-own : goal.returns-in_default-clause-own
@@ -34,3 +35,13 @@ returns-in-Some-clause-own g c =
     visits d a.new.desk l e.new.desk node next c.in-Ok.up c.in-Ok-member.at _ c.in-Ok.ensures c.in-Ok-member.ensures c.in-Some.ensures.own
     (same_left d a.new.desk node a.ensures.latest (first_lists a.new.desk base node [] has)) t.event e.ensures.own
     (same_left l e.new.desk next e.ensures.latest (first_lists e.new.desk base next [] left))
+
+pub returns-in-None-clause-others : goal.returns-in-None-clause-others
+returns-in-None-clause-others g c =
+    others_both c.ask-told.ensures.others
+    (others_both (others_call _ c.in-Ok-load.ensures.keeps) c.let_go-2.ensures.others)
+
+pub returns-in-Some-clause-others : goal.returns-in-Some-clause-others
+returns-in-Some-clause-others g c =
+    others_both c.ask-told.ensures.others
+    (others_both (others_call _ c.in-Ok-load.ensures.keeps) c.let_go-2.ensures.others)

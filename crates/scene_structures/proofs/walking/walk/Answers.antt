@@ -4,12 +4,14 @@ use Rattle.scene_structures.specs.Hands.{node_in}
 use Rattle.scene_structures.specs.Walks.{told_of}
 use Rattle.scene_structures.proofs.Hands.{holds_first}
 use Rattle.scene_structures.proofs.Walks.{folded, looked_none, walks_on}
+use Rattle.scene_structures.proofs.Others.{others_both, others_none}
 use Rattle.scene_structures.proofs.walking.walk.Goals as goal
 
 pub loop-init : goal.loop-init
 loop-init g c =
     record {
-      bears = c.requires.bears;
+      carries = c.requires.carries;
+      others = others_none c.args.desk.now c.args.pile.now.endings.items;
       none = c.requires.empty;
       held = refl;
       same = same_desk c.args.desk.now;
@@ -31,7 +33,8 @@ loop-preserved-in-Passed g c =
     let w = i.walked in
     let on = walks_on (node_in d c.args.first) (node_in m c.loop.node) w.0 w.1 d m e None c.in-Passed.next w.2 w.3 t.own in
     record {
-      bears = t.bears;
+      carries = t.carries;
+      others = others_both i.others t.others;
       none = t.none;
       held = t.held ∙ i.held;
       same = same_both d m e i.same t.desk;
@@ -52,7 +55,8 @@ loop-preserved g c =
     let w = i.walked in
     let on = walks_on (node_in d c.args.first) (node_in m c.loop.node) w.0 w.1 d m e (Some c.in-Told.field) c.in-Told.next w.2 w.3 t.own in
     record {
-      bears = t.bears;
+      carries = t.carries;
+      others = others_both i.others t.others;
       none = t.none;
       held = t.held ∙ i.held;
       same = same_both d m e i.same t.desk;
@@ -85,3 +89,6 @@ returns-in-End-clause-own g c =
       },
       (c.loop.tell, w.4),
     )
+
+pub returns-in-End-clause-others : goal.returns-in-End-clause-others
+returns-in-End-clause-others g c = others_both c.loop.invariant.others c.visit.ensures.others

@@ -13,6 +13,9 @@ use Rattle.scene_structures.proofs.Calls.{hands_one}
 use Rattle.scene_structures.specs.Stacks.{Rises, StackNow}
 use Rattle.scene_structures.proofs.Attached.{attached_list}
 use Rattle.scene_structures.proofs.Watches.{attaches}
+use Rattle.control_block.specs.Desks.{KeepsEndings, endings_of}
+use Rattle.scene_structures.proofs.Others.{all_others, others_both, others_call, others_kept}
+use Rattle.scene_structures.proofs.observers.Observers.attach.Given.{Over}
 use Rattle.scene_structures.proofs.observers.Observers.attach.Goals as goal
 
 pub returns-clause-own : goal.returns-clause-own
@@ -46,3 +49,18 @@ raise-requires-clause-bag g c κs within =
       hands_got w.new.desk l (bag_of d) top (node ∷ []) h t.bag t.held,
       subst (λ (s : SharedSite). IsOpenBy (bag_of d) l.shape s) (sym c.free-at.ensures) lt,
     )
+
+others : (g : Over) (c : goal.After-raise g)
+    → KeepsEndings c.args.desk.now c.raise.new.desk × (endings_of c.raise.new.desk ≡ endings_of c.args.desk.now)
+others g c =
+    let d = c.args.desk.now in let m = c.in_ok-node.ensures in let w = c.watch in
+    all_others c.args.desk.now c.raise.new.desk _ _ c.self.invariant c.raise.ensures.none
+    (others_both (others_kept d c.make.new.desk _ m.endings m.count)
+    (others_both (others_kept c.make.new.desk w.new.desk _ w.ensures.endings w.ensures.count)
+    (others_both (others_call _ c.in-Ok.ensures.keeps) c.raise.ensures.others)))
+
+pub returns-clause-endings : goal.returns-clause-endings
+returns-clause-endings g c = (others g c).0
+
+pub returns-clause-count : goal.returns-clause-count
+returns-clause-count g c = (others g c).1

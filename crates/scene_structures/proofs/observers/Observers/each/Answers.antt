@@ -11,12 +11,20 @@ use Rattle.scene_structures.specs.Stacks.{StackNow}
 use Rattle.scene_structures.specs.Walks.{WalksOver}
 use Rattle.scene_structures.proofs.Calls.{hands_one}
 use Rattle.scene_structures.proofs.Told.{told_list}
+use Rattle.control_block.specs.Desks.{KeepsEndings, endings_of}
+use Rattle.scene_structures.proofs.Others.{all_others, others_both, others_call}
+use Rattle.scene_structures.proofs.observers.Observers.each.Given.{Over}
 use Rattle.scene_structures.proofs.observers.Observers.each.Goals as goal
 
 pub walk-requires-clause-bag : goal.walk-requires-clause-bag
 walk-requires-clause-bag g c κs within =
     let d = c.args.desk.now in let e = c.in-Ok.ensures in
     (bag_of d, hands_one d c.load.new.desk c.in-Ok.top c.stands.ensures.bag e.bag e.held)
+
+others : (g : Over) (c : goal.After-walk g) → KeepsEndings c.args.desk.now c.walk.new.desk × (endings_of c.walk.new.desk ≡ endings_of c.args.desk.now)
+others g c =
+    all_others c.args.desk.now c.walk.new.desk _ _ c.self.invariant c.walk.ensures.none
+    (others_both (others_call _ c.in-Ok.ensures.keeps) c.walk.ensures.others)
 
 pub returns-clause-own : goal.returns-clause-own
 returns-clause-own g c =
@@ -31,5 +39,11 @@ returns-clause-own g c =
       w.own.0,
       over,
       w.own.2,
-      λ sole. told_list d c.walk.new.desk c.args.self.now.cell w.own.0 over c.stands.ensures.legal sole lt c.requires.settled bag,
+      λ sole. told_list d c.walk.new.desk c.args.self.now.cell w.own.0 over c.stands.ensures.legal sole lt (others g c).0 bag,
     )
+
+pub returns-clause-endings : goal.returns-clause-endings
+returns-clause-endings g c = (others g c).0
+
+pub returns-clause-count : goal.returns-clause-count
+returns-clause-count g c = (others g c).1

@@ -6,6 +6,9 @@ use Rattle.scene_structures.specs.Prunes.{Prunes}
 use Rattle.scene_structures.specs.Stacks.{StackNow}
 use Rattle.scene_structures.proofs.Few.{exactly}
 use Rattle.scene_structures.proofs.Sifted.{pruned_list}
+use Rattle.control_block.specs.Desks.{KeepsEndings, endings_of}
+use Rattle.scene_structures.proofs.Others.{all_others}
+use Rattle.scene_structures.proofs.observers.Observers.prune.Given.{Over}
 use Rattle.scene_structures.proofs.observers.Observers.prune.Goals as goal
 
 pub returns-clause-own : goal.returns-clause-own
@@ -20,3 +23,15 @@ returns-clause-own g c =
     let limit = c.stands.ensures.limits.blocks in
     let pruned = pruned_list d e m w.2.0 w.0 prunes c.stands.ensures.legal c.requires.sole lt in
     (w.0, w.1, (w.2.0, prunes), exactly d e m w.0 c.clear_list.result c.stands.ensures.legal lt limit w.1 pruned)
+
+others : (g : Over) (c : goal.After-clear_list g)
+    → KeepsEndings c.args.desk.now c.clear_list.new.desk × (endings_of c.clear_list.new.desk ≡ endings_of c.args.desk.now)
+others g c =
+    all_others c.args.desk.now c.clear_list.new.desk _ _ c.self.invariant c.clear_list.ensures.none
+    (c.clear_list.ensures.others)
+
+pub returns-clause-endings : goal.returns-clause-endings
+returns-clause-endings g c = (others g c).0
+
+pub returns-clause-count : goal.returns-clause-count
+returns-clause-count g c = (others g c).1

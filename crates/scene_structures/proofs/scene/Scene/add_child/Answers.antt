@@ -1,7 +1,7 @@
 use Rattle.std.proofs.Common.{◌≡◌, sym, ap, subst, ◌∙◌}
 use Rattle.control_block.specs.Desks.{bag_of}
-use Rattle.shared_handle.proofs.Piles.{bears_kept}
-use Rattle.shared_handle.specs.Piles.{Bears}
+use Rattle.shared_handle.proofs.Piles.{carries_kept}
+use Rattle.shared_handle.specs.Piles.{Carries}
 use Rattle.shared_handle.specs.declared.pile.Pile.{Pile}
 use Rattle.scene_structures.specs.Hands.{Lists, node_in}
 use Rattle.scene_structures.specs.Scenes.{Adopts}
@@ -12,17 +12,18 @@ use Rattle.scene_structures.proofs.Adopting.{adopts, hands_over, makes_latest, n
 use Rattle.scene_structures.proofs.Watches.{endings_both, lists_of}
 use Rattle.scene_structures.proofs.Pushes.{shares_does}
 use Rattle.scene_structures.proofs.scene.Scene.add_child.Given.{Over}
+use Rattle.scene_structures.specs.Others.{KeepsOthers}
+use Rattle.scene_structures.proofs.Others.{others_both, others_call, others_kept}
 use Rattle.scene_structures.proofs.scene.Scene.add_child.Goals as goal
 
-pub raise-requires-clause-bears : goal.raise-requires-clause-bears
-raise-requires-clause-bears g c κs within =
+pub raise-requires-clause-carries : goal.raise-requires-clause-carries
+raise-requires-clause-carries g c κs within =
     let d = c.args.desk.now in let m = c.make.new.desk in let n = c.watch.new.desk in let s = c.share.new.desk in let l = c.load.new.desk in
     let a = c.in-Ok-make.ensures in let h = c.watch.ensures in let k = c.in-Ok-share.ensures.keeps in let t = c.in-Ok-load.ensures.keeps in
-    let b = subst (λ (p : Pile g.row.V.Denot). Bears c.args.domain.now d p) (sym c.self.view_is) c.requires.bears in
-    bears_kept c.args.domain.now d l c.self.inside.pile b
+    let b = subst (λ (p : Pile g.row.V.Denot). Carries c.args.domain.now d p) (sym c.self.view_is) c.requires.carries in
+    carries_kept c.args.domain.now d l c.self.inside.pile b
     (t.domain ∙ (k.domain ∙ (h.desk.domain ∙ a.desk.domain))) (t.shape ∙ (k.shape ∙ (h.desk.shape ∙ a.desk.shape)))
     (endings_both d s l (endings_both d n s (endings_both d m n a.endings h.endings) k.endings) t.endings)
-    (t.count ∙ (k.count ∙ (h.count ∙ a.count)))
 
 both : (g : Over) (c : goal.After-raise g) → (a : Adopts c.args.desk.now c.args.parent.now c.args.fields c.args.value c.in-Ok-make.node c.raise.new.desk)
     × (a.made ≡ c.make.new.desk)
@@ -55,3 +56,12 @@ returns-clause-tree g c sole =
     (subst (Lists p.block p.place) (sym bag) parent_l.1) (subst (Lists node.block node.place) (sym bag) node_l.1)
     (these_node l e (bag_of n) p these parent_l.1 ∙ parent_l.0)
     (these_node l e (bag_of n) node these node_l.1 ∙ (node_l.0 ∙ ap (λ x. node_in x node) (sym a'.1)))
+
+pub returns-clause-others : goal.returns-clause-others
+returns-clause-others g c =
+    let d = c.args.desk.now in let m = c.make.new.desk in let n = c.watch.new.desk in
+    let a = c.in-Ok-make.ensures in let h = c.watch.ensures in
+    subst (λ (p : Pile g.row.V.Denot). KeepsOthers d p.endings.items c.raise.new.desk c.raise.new.pile.endings.items) c.self.view_is
+    (others_both (others_kept d m _ a.endings a.count)
+    (others_both (others_kept m n _ h.endings h.count)
+    (others_both (others_call _ c.in-Ok-share.ensures.keeps) (others_both (others_call _ c.in-Ok-load.ensures.keeps) c.raise.ensures.others))))

@@ -8,9 +8,9 @@ use Rattle.control_block.specs.Desks.{bag_of}
 use Rattle.control_block.specs.Own.{IsSole}
 use Rattle.shared_handle.proofs.Callers.{first_out}
 use Rattle.shared_handle.proofs.Goings.{does_both}
-use Rattle.shared_handle.proofs.Piles.{bears_kept}
+use Rattle.shared_handle.proofs.Piles.{carries_kept}
 use Rattle.shared_handle.specs.Calls.{IsOfThis, without_handle}
-use Rattle.shared_handle.specs.Piles.{Bears}
+use Rattle.shared_handle.specs.Piles.{Carries}
 use Rattle.shared_handle.specs.declared.pile.Pile.{Pile}
 use Rattle.scene_structures.specs.Detaches.{Detaches, LeavesParent}
 use Rattle.scene_structures.specs.Hands.{HasHands, Lists, node_in}
@@ -24,13 +24,15 @@ use Rattle.scene_structures.proofs.Leaving.{detached}
 use Rattle.scene_structures.proofs.Pushes.{same_left, same_node, shares_does}
 use Rattle.scene_structures.proofs.Watches.{endings_both, lists_of}
 use Rattle.scene_structures.proofs.scene.Scene.detach.Given.{Over}
+use Rattle.scene_structures.specs.Others.{KeepsOthers}
+use Rattle.scene_structures.proofs.Others.{others_both, others_call, others_kept}
 use Rattle.scene_structures.proofs.scene.Scene.detach.Goals as goal
 
-pub let_go-requires-clause-bears : goal.let_go-requires-clause-bears
-let_go-requires-clause-bears g c κs within =
+pub let_go-requires-clause-carries : goal.let_go-requires-clause-carries
+let_go-requires-clause-carries g c κs within =
     let d = c.args.desk.now in let p = c.in_ok-owner.ensures in
-    let b = subst (λ (x : Pile g.row.V.Denot). Bears c.args.domain.now d x) (sym c.self.view_is) c.requires.bears in
-    bears_kept c.args.domain.now d c.parent.new.desk c.self.inside.pile b p.desk.domain p.desk.shape p.endings p.count
+    let b = subst (λ (x : Pile g.row.V.Denot). Carries c.args.domain.now d x) (sym c.self.view_is) c.requires.carries in
+    carries_kept c.args.domain.now d c.parent.new.desk c.self.inside.pile b p.desk.domain p.desk.shape p.endings
 
 none_both : (g : Over) (c : goal.After-let_go g)
     → (a : Detaches c.args.desk.now (object_of (node_in c.args.desk.now c.args.node.now)) c.let_go.new.desk)
@@ -54,12 +56,12 @@ returns-in_default-clause-tree g c sole =
     detached d e.new.desk node a.0 (a.1 sole) c.stands.ensures.legal sole p.may.1 lists_d lists_e
     (same_left m e.new.desk node e.ensures.latest lists_e ∙ same_node d m node p.latest lists_d)
 
-pub let_go-requires-2-clause-bears : goal.let_go-requires-2-clause-bears
-let_go-requires-2-clause-bears g c κs within =
+pub let_go-requires-2-clause-carries : goal.let_go-requires-2-clause-carries
+let_go-requires-2-clause-carries g c κs within =
     let d = c.args.desk.now in let p = c.in_ok-owner.ensures in let k = c.in-Ok.ensures.keeps in
-    let b = subst (λ (x : Pile g.row.V.Denot). Bears c.args.domain.now d x) (sym c.self.view_is) c.requires.bears in
-    bears_kept c.args.domain.now d c.alias.new.desk c.self.inside.pile b (k.domain ∙ p.desk.domain) (k.shape ∙ p.desk.shape)
-    (endings_both d c.parent.new.desk c.alias.new.desk p.endings k.endings) (k.count ∙ p.count)
+    let b = subst (λ (x : Pile g.row.V.Denot). Carries c.args.domain.now d x) (sym c.self.view_is) c.requires.carries in
+    carries_kept c.args.domain.now d c.alias.new.desk c.self.inside.pile b (k.domain ∙ p.desk.domain) (k.shape ∙ p.desk.shape)
+    (endings_both d c.parent.new.desk c.alias.new.desk p.endings k.endings)
 
 hands : (g : Over) (c : goal.After-leave g) → HasHands (bag_of c.args.desk.now) (c.in-Ok.parent ∷ []) c.let_go-2.new.desk
 hands g c =
@@ -123,3 +125,16 @@ returns-clause-tree g c sole =
     let lists_e = subst (Lists node.block node.place) (sym (e.ensures.bag (bag_of d) has).bag) lists_d in
     detached d e.new.desk node a.0 (a.1 sole) c.stands.ensures.legal sole p.may.1 lists_d lists_e
     (these_node f e.new.desk (bag_of d) node (e.ensures.latest (bag_of d) has) lists_d ∙ node_same g c)
+
+pub returns-in_default-clause-others : goal.returns-in_default-clause-others
+returns-in_default-clause-others g c =
+    let d = c.args.desk.now in let p = c.in_ok-owner.ensures in
+    subst (λ (x : Pile g.row.V.Denot). KeepsOthers d x.endings.items c.let_go.new.desk c.let_go.new.pile.endings.items) c.self.view_is
+    (others_both (others_kept d c.parent.new.desk _ p.endings p.count) c.let_go.ensures.others)
+
+pub returns-clause-others : goal.returns-clause-others
+returns-clause-others g c =
+    let d = c.args.desk.now in let p = c.in_ok-owner.ensures in
+    subst (λ (x : Pile g.row.V.Denot). KeepsOthers d x.endings.items c.leave.new.desk c.leave.new.pile.endings.items) c.self.view_is
+    (others_both (others_kept d c.parent.new.desk _ p.endings p.count)
+    (others_both (others_call _ c.in-Ok.ensures.keeps) (others_both c.let_go-2.ensures.others c.leave.ensures.others)))

@@ -1,7 +1,7 @@
 use Rattle.std.proofs.Common.{◌≡◌, ◌+◌, ◌++◌, ◌∙◌, [], ap, refl, sym, subst}
 use Rattle.std.proofs.lemmas.List.{append-nil}
 use Rattle.control_block.specs.Own.{IsSole}
-use Rattle.shared_handle.specs.Piles.{Drops}
+use Rattle.shared_handle.specs.Piles.{Carries, Drops}
 use Rattle.shared_handle.specs.declared.pile.Gone.{Gone}
 use Rattle.shared_handle.specs.declared.pile.Gone.TheVariants.{Empty, Others}
 use Rattle.shared_handle.specs.declared.pile.Pile.{Pile}
@@ -11,6 +11,8 @@ use Rattle.scene_structures.proofs.RunsDown.{out_rest, out_root, tears_down}
 use Rattle.scene_structures.proofs.Settles.{none_left}
 use Rattle.scene_structures.proofs.Whole.{torn_down}
 use Rattle.scene_structures.proofs.scene.Scene.teardown.Given.{Over}
+use Rattle.scene_structures.specs.Others.{KeepsOthers}
+use Rattle.scene_structures.proofs.Others.{others_both, others_left}
 use Rattle.scene_structures.proofs.scene.Scene.teardown.Goals as goal
 use Rattle.scene_structures.proofs.scene.Scene.teardown.Goals.{in-Last, in-Empty, in-Others}
 
@@ -59,7 +61,7 @@ whole g c = returns-clause-ends g c
 none : (g : Over) (c : goal.After-into_values g) → IsSole c.args.desk.now → (whole g c).rest ≡ []
 none g c sole =
     none_left c.args.domain.now c.args.desk.now c.run_down.new.desk c.args.self.now.endings.items c.run_down.new.pile.endings.items c.run_down.new.pile
-    c.args.root c.into_values.result.items (whole g c) c.stands.ensures.legal sole c.run_down.ensures.bears refl
+    c.args.root c.into_values.result.items (whole g c) c.stands.ensures.legal sole c.run_down.ensures.carries refl
 
 pub returns-clause-settled : goal.returns-clause-settled
 returns-clause-settled g c sole =
@@ -69,3 +71,10 @@ pub returns-clause-whole : goal.returns-clause-whole
 returns-clause-whole g c sole =
     torn_down c.args.domain.now.shape.blocks c.args.desk.now c.run_down.new.desk c.args.self.now.endings.items c.run_down.new.pile.endings.items c.args.root
     c.into_values.result.items (whole g c) c.stands.ensures.legal sole (none g c sole)
+
+pub returns-clause-others : goal.returns-clause-others
+returns-clause-others g c =
+    let V = g.row.V.Denot in let d = c.args.desk.now in let t = c.drop_shared in let e = t.ensures in
+    let carries = subst (λ (p : Pile V). Carries c.args.domain.now d p) (sym c.self.view_is) c.requires.carries in
+    subst (λ (p : Pile V). KeepsOthers d p.endings.items c.run_down.new.desk c.run_down.new.pile.endings.items) c.self.view_is
+    (others_both (others_left d t.new.desk _ _ carries.ends e.elsewhere e.keeps.endings) c.run_down.ensures.others)

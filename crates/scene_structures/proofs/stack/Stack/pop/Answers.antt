@@ -12,6 +12,9 @@ use Rattle.scene_structures.specs.Pops.{TakesNode}
 use Rattle.std.specs.Prelude.{MatchOption}
 use Rattle.scene_structures.proofs.Calls.{got_lists, hands_one, popped_or_bare}
 use Rattle.scene_structures.proofs.Looks.{looks_first}
+use Rattle.control_block.specs.Desks.{KeepsEndings, endings_of}
+use Rattle.scene_structures.proofs.Others.{all_others, others_both, others_call}
+use Rattle.scene_structures.proofs.stack.Stack.pop.Given.{Over}
 use Rattle.scene_structures.proofs.stack.Stack.pop.Goals as goal
 
 pub returns-clause-own : goal.returns-clause-own
@@ -32,3 +35,14 @@ returns-clause-list g c sole =
     let lt : c.args.self.now.cell < (opening_of d.shape).cells = omega arith in
     popped_or_bare d c.take.new.desk c.args.self.now.cell (bag_of d) c.take.result (returns-clause-own g c)
     (c.take.ensures.bag (bag_of d) (hands_one d m top few e.bag e.held)) s.legal lt sole
+
+others : (g : Over) (c : goal.After-take g) → KeepsEndings c.args.desk.now c.take.new.desk × (endings_of c.take.new.desk ≡ endings_of c.args.desk.now)
+others g c =
+    all_others c.args.desk.now c.take.new.desk _ _ c.self.invariant c.take.ensures.none
+    (others_both (others_call _ c.in-Ok.ensures.keeps) c.take.ensures.others)
+
+pub returns-clause-endings : goal.returns-clause-endings
+returns-clause-endings g c = (others g c).0
+
+pub returns-clause-count : goal.returns-clause-count
+returns-clause-count g c = (others g c).1
